@@ -1,9 +1,9 @@
 #!/usr/bin/env python3
 """usage: tools/believed.py
 
-Checks the section of docs/PROOFS.md that lists the definitions to believe: each file that it names is there, each definition that such a file uses stands in a
-file that it names too, and it names each file of specs/ of each crate on which it says anything (specs/inner, which holds how types keep what they keep, is not
-to be believed). Prints a line for each difference; the status is 1 if there is one.
+Checks the section of docs/PROOFS.md that lists the definitions to believe: each file that it names is there, each definition that such a file uses is in a
+file that it names too, which is one of the last group only where the first is one too, and it names each file of specs/ of each crate on which it says anything
+(specs/inner, which holds how types keep what they keep, is not to be believed). Prints a line for each difference; the status is 1 if there is one.
 
 In the section a crate's name in backticks goes before the names of its files."""
 import glob
@@ -18,17 +18,18 @@ INDEXED = {"tx_trie"}
 
 
 def named():
-    """The files that the section names, as pairs of a crate and a name, in order."""
+    """The files that the section names, in order, each as a crate and a name, with the number of its group."""
     with open(PAGE, encoding="utf-8") as it:
         section = it.read().partition(HEADING)[2].partition("\n## ")[0]
     crate = None
     for line in section.split("\n"):
-        if re.match(r"\d+\. ", line):
+        group = re.match(r"(\d+)\. ", line)
+        if group:
             for word in re.findall(r"`(\w+)`", line):
                 if os.path.isdir(f"crates/{word}"):
                     crate = word
                 else:
-                    yield crate, word
+                    yield (crate, word), int(group[1])
 
 
 def home(crate, name):
@@ -39,7 +40,9 @@ def home(crate, name):
 
 
 def main():
-    told, files = [], list(named())
+    told, groups = [], list(named())
+    files, group_of = [file for file, _ in groups], dict(groups)
+    last = max(group_of.values())
     for crate, name in files:
         path = f"crates/{crate}/specs/{name}.antt"
         if not os.path.isfile(path):
@@ -48,6 +51,7 @@ def main():
         with open(path, encoding="utf-8") as it:
             used = sorted({home(*found) for found in USED.findall(it.read())})
         told += [f"{PAGE}: {path} uses {other} of {below}, which is not named" for below, other in used if other != "declared" and (below, other) not in files]
+        told += [f"{PAGE}: {path} uses {other} of {below}, of the last group" for below, other in used if group_of.get((below, other)) == last != group_of[crate, name]]
     for crate in sorted({crate for crate, _ in files} - INDEXED):
         there = {os.path.basename(it)[:-5] for it in glob.glob(f"crates/{crate}/specs/*.antt")} - {"Lib", "inner"}
         told += [f"{PAGE}: {name} of {crate} is not named" for name in sorted(there) if (crate, name) not in files]

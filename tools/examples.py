@@ -333,10 +333,12 @@ def codes_defined():
     rows = set()
     for crate, name in [("tx_text", "Rows"), ("tx_plantext", "PlanFaults"), ("tx_lint", "LintText"), ("tx_cert", "CertFaults"), ("tx_script", "ScriptFaults"), ("tx_risk_text", "RiskFaults")]:
         rows.update(re.findall(r'\(codes "([APCSQX]\d+)", codes "(\w+)"\)', text(crate, name)))
+        for framed in re.findall(r'frame_row((?: \(codes "\w+"\))+)', text(crate, name)):
+            rows.update(zip(re.findall(r'"(\w+)"', framed), ["NoHeader", "NoEnd", "AfterEnd", "ReadFault"]))
     rows.update((b, a) for a, b in re.findall(r'refusal_text (\w+) = codes "(M\d+)"', text("tx_tickets", "Texts")))
     names = dict(row[:2] for row in codes_explained())
     rows.update((it, names.get(it)) for it in re.findall(r'(?:service|cause)_text \w+ = codes "(\w+)"', text("tx_tickets", "Texts")))
-    rows.update((b, a) for a, b in re.findall(r'fault_words p \((\w+)[ \w]*\) = codes "(K\d)"', text("tx_check", "Verdicts")))
+    rows.update((b, a) for a, b in re.findall(r'fault_words p \((\w+)[ \w]*\) =\s+codes "(K\d)"', text("tx_check", "Verdicts")))
     rows.update(re.findall(r'finding_line p \(\w+[ \w]*\) = codes "(F\d) (\w+) ', text("tx_audit", "Report")))
     rows.update(re.findall(r'codes "(F\d) (\w+) ', text("tx_mend_report", "MendText")))
     return rows

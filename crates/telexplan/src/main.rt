@@ -1,5 +1,5 @@
-//! telexplan, the program: an auditor of telex route plans, and a simulator of calls over them. It hands the words, the files and the ends of the machine to
-//! tx_program.
+//! telexplan, the program: an auditor of telex route plans, and a simulator of calls over them. It
+//! hands the words, the files and the ends of the machine to tx_program.
 #![tactic(auto)]
 
 use std::process::ExitCode;

@@ -10,18 +10,18 @@ use Rattle.tx_plan.specs.Plan.{Plan, Group}
 use Rattle.tx_plan.specs.Rules.{IsPlan, IsGroup}
 use Rattle.tx_plan.specs.Routes.{route_list}
 use Rattle.tx_plan.specs.Circuits.{is_circuit, circuits_at, count_of}
-use Rattle.tx_entries.specs.declared.circuit.Circuit.{Circuit}
-use Rattle.tx_entries.specs.declared.line.Line.{Line}
+use Rattle.tx_plan.specs.declared.ids.Circuit.{Circuit}
+use Rattle.tx_plan.specs.declared.ids.Line.{Line}
 use Rattle.tx_plan.specs.Among.{Among}
-use Rattle.tx_state.specs.declared.hop.Hop.{Hop}
-use Rattle.tx_state.specs.declared.phase.Phase.TheVariants.{Standing}
-use Rattle.tx_state.specs.InUse.{carries, is_free_at, is_down, first_free, first_in, choice}
-use Rattle.tx_state.specs.Refusals.{is_group}
-use Rattle.tx_state.proofs.Lists.{any_none, at_place}
-use Rattle.tx_state.proofs.Uses.{chosen}
-use Rattle.tx_state.proofs.Excuses.{circuit_listed}
-use Rattle.tx_state.proofs.Playing.{Groups}
-use Rattle.tx_state.proofs.OneCall.{alone, on_way, none_circuit}
+use Rattle.tx_machine.specs.declared.open_call.Hop.{Hop}
+use Rattle.tx_machine.specs.declared.open_call.Phase.TheVariants.{Standing}
+use Rattle.tx_machine.specs.InUse.{carries, is_free_at, is_down, first_free, first_in, choice}
+use Rattle.tx_machine.specs.Refusals.{is_group}
+use Rattle.tx_machine.proofs.Lists.{any_none, at_place}
+use Rattle.tx_machine.proofs.Uses.{chosen}
+use Rattle.tx_machine.proofs.Excuses.{circuit_listed}
+use Rattle.tx_machine.proofs.Playing.{Groups}
+use Rattle.tx_machine.proofs.OneCall.{alone, on_way, none_circuit}
 use Rattle.tx_audit.specs.Counter.{listed_before}
 
 -- LISTS

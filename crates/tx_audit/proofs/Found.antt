@@ -1,7 +1,8 @@
 -- From what a ranking came to, what an audit answers.
-use Rattle.std.proofs.Common.{◌≡◌, ◌≢◌, ℕ, List, [], ◌∷◌, Option, Ok, Err, refl}
+use Rattle.std.proofs.Common.{◌≡◌, ◌≢◌, ℕ, List, [], ◌∷◌, Ok, Err, refl}
 use Rattle.std.specs.Prelude.{◌↔◌}
 use Rattle.std.specs.List.{AllByRecursion}
+use Rattle.tx_text.specs.Ends.{Input, Output}
 use Rattle.tx_plan.specs.Plan.{Plan}
 use Rattle.tx_plan.specs.Rules.{IsPlan}
 use Rattle.tx_plan.specs.Certified.{Ranks, IsCertified}
@@ -17,7 +18,8 @@ use Rattle.tx_audit.specs.declared.audited.AuditFault.{AuditFault}
 use Rattle.tx_audit.specs.declared.audited.AuditFault.TheVariants.{Plan as PlanRefused, Write, NoMemory}
 use Rattle.tx_audit.specs.Audits.{IsAllFound, IsCleared, OnUnsound, AuditAnswers}
 use Rattle.tx_audit.specs.CheckedRuns.{IsAllowed}
-use Rattle.tx_audit.specs.Ranked.{audited_of, findings_of, IsRight, RankAnswers}
+use Rattle.tx_audit.specs.Report.{findings_of}
+use Rattle.tx_audit.specs.inner.Ranked.{audited_of, IsRight, RankAnswers}
 
 module _ (A : Type 0) (p : Plan) (limit spare : ℕ) where
   all_found : (findings : List (Finding A)) → findings ≢ [] → AllByRecursion (IsTrueOf p limit spare) findings → AreFindings p limit spare findings → IsAllFound p limit spare findings
@@ -51,12 +53,12 @@ module _ (A : Type 0) (p : Plan) (limit spare : ℕ) where
   cleared (Found cert) right none = (cert, right.1)
   cleared (Fails findings) right none = absurd (right.1 none)
 
-  module _ (old new taken_old taken_new : Option (List ℕ)) (broken unread silent : Type 0) (rules : IsPlan p) (read : SaysPlan old new p) where
-    pub audited : (r : Ranking A) → RankAnswers p limit spare taken_old taken_new silent (Ok r) → AuditAnswers limit spare old new taken_old taken_new broken unread silent (Ok (audited_of p r))
+  module _ (text : Input) (out : Output) (rules : IsPlan p) (read : SaysPlan text p) where
+    pub audited : (r : Ranking A) → RankAnswers p limit spare out (Ok r) → AuditAnswers limit spare text out (Ok (audited_of p r))
     audited (Found cert) h = (record { rules = rules; read = read; found = h.0.0; wrote = h.1 }, h.0.1)
     audited (Fails findings) h = (record { rules = rules; read = read; found = h.0.0; wrote = h.1 }, h.0.1, h.0.2)
 
-    pub stopped : (f : AuditFault) → RankAnswers {A = A} p limit spare taken_old taken_new silent (Err f) → AuditAnswers {A = A} limit spare old new taken_old taken_new broken unread silent (Err f)
+    pub stopped : (f : AuditFault) → RankAnswers {A = A} p limit spare out (Err f) → AuditAnswers {A = A} limit spare text out (Err f)
     stopped (PlanRefused f) h = absurd h
     stopped Write h = record { plan = p; rules = rules; read = read; findings = findings_of h.ranking; found = all_of h.ranking h.right; cleared = cleared h.ranking h.right; wrote = h.wrote }
     stopped NoMemory h = (record { plan = p; rules = rules; read = read }, h)

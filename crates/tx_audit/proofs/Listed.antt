@@ -8,13 +8,13 @@ use Rattle.tx_plan.specs.Plan.{Plan, Group, Route}
 use Rattle.tx_plan.specs.Rules.{IsPlan, IsRoute}
 use Rattle.tx_plan.specs.Routes.{route_list}
 use Rattle.tx_plan.specs.Circuits.{far_end, other_end, may_seize, is_both, direction_of}
-use Rattle.tx_entries.specs.declared.direction.Direction.TheVariants.{OneWay}
+use Rattle.tx_plan.specs.declared.ids.Direction.TheVariants.{OneWay}
 use Rattle.tx_plan.specs.Among.{Among}
 use Rattle.tx_rank.specs.Walks.{AllDiffer}
 use Rattle.tx_rank.proofs.Ways.{among_all, all_among, once_first, once_cons}
-use Rattle.tx_state.specs.Refusals.{is_group}
-use Rattle.tx_state.proofs.Lists.{find_mem}
-use Rattle.tx_state.proofs.Steps.{all_mem, row_of, listed_leads}
+use Rattle.tx_machine.specs.Refusals.{is_group}
+use Rattle.tx_machine.proofs.Lists.{find_mem}
+use Rattle.tx_machine.proofs.Steps.{all_mem, row_of, listed_leads}
 use Rattle.tx_audit.specs.Counter.{listed_before}
 
 -- what holds of the groups of each route and of no groups holds of each list

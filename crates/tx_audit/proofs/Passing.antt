@@ -7,10 +7,10 @@ use Rattle.tx_plan.specs.Circuits.{other_end}
 use Rattle.tx_plan.specs.Among.{Among}
 use Rattle.tx_rank.specs.Walks.{AllDiffer, Goes, net_of, end_of, before_end, passed}
 use Rattle.tx_rank.proofs.Ways.{once_first, end_passed}
-use Rattle.tx_state.specs.Members.{NoneTwice}
-use Rattle.tx_state.proofs.Lists.{none_any}
-use Rattle.tx_state.proofs.Uses.{two_ends}
-use Rattle.tx_state.specs.Passed.{is_transit}
+use Rattle.tx_machine.specs.Members.{NoneTwice}
+use Rattle.tx_machine.proofs.Lists.{none_any}
+use Rattle.tx_machine.proofs.Uses.{two_ends}
+use Rattle.tx_machine.specs.Passed.{is_transit}
 use Rattle.tx_audit.specs.Counter.{is_single, turns_on_one}
 
 pub passed_is : (x : ℕ) (steps : List (ℕ × ℕ)) → passed x steps ≡ x ∷ map (λ s. s.1) steps

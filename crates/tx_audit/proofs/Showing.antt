@@ -11,33 +11,33 @@ use Rattle.tx_plan.specs.Plan.{Plan, home_of, figures_of}
 use Rattle.tx_plan.specs.Rules.{IsPlan}
 use Rattle.tx_plan.specs.Codes.{code_of}
 use Rattle.tx_plan.specs.Routes.{route_list, is_barred, is_origin}
-use Rattle.tx_entries.specs.declared.line.Line.{Line}
+use Rattle.tx_plan.specs.declared.ids.Line.{Line}
 use Rattle.tx_plan.specs.Among.{Among}
 use Rattle.tx_rank.specs.declared.finding.Finding.{Finding}
 use Rattle.tx_rank.specs.declared.finding.Finding.TheVariants.{Ambiguous, Loop, Short, Long}
 use Rattle.tx_rank.specs.Walks.{Walk, AllDiffer, IsWalk, IsLoop, IsShort, IsLong, net_of, end_of, before_end, passed as walk_passed}
 use Rattle.tx_rank.specs.Findings.{IsTrueOf}
-use Rattle.tx_state.specs.declared.event.Event.{Event}
-use Rattle.tx_state.specs.declared.event.Event.TheVariants.{Key, Route, Block}
-use Rattle.tx_state.specs.declared.hop.Hop.{Hop}
-use Rattle.tx_state.specs.declared.phase.Phase.TheVariants.{Standing}
-use Rattle.tx_state.specs.declared.reply.Reply.TheVariants.{Keyed, Answered}
-use Rattle.tx_state.specs.declared.service.Service.TheVariants.{Nc}
-use Rattle.tx_state.specs.Call.{Call, place_of}
-use Rattle.tx_state.specs.State.{State, opening}
-use Rattle.tx_state.specs.InUse.{first_free, choice}
-use Rattle.tx_state.specs.Members.{NoneTwice}
-use Rattle.tx_state.specs.Runs.{Moment, moment, run, state_after}
-use Rattle.tx_state.specs.Passed.{passed, transits, is_transit}
-use Rattle.tx_state.specs.Safe.{IsSafe, IsSafeCall}
-use Rattle.tx_state.specs.Excused.{IsExcused, FoundNone}
-use Rattle.tx_state.specs.Step.{step}
-use Rattle.tx_state.specs.Sound.{IsSound}
-use Rattle.tx_state.proofs.Steps.{all_mem}
+use Rattle.tx_machine.specs.declared.event.Event.{Event}
+use Rattle.tx_machine.specs.declared.event.Event.TheVariants.{Key, Route, Block}
+use Rattle.tx_machine.specs.declared.open_call.Hop.{Hop}
+use Rattle.tx_machine.specs.declared.open_call.Phase.TheVariants.{Standing}
+use Rattle.tx_machine.specs.declared.reply.Reply.TheVariants.{Keyed, Answered}
+use Rattle.tx_machine.specs.declared.cause.Service.TheVariants.{Nc}
+use Rattle.tx_machine.specs.Call.{Call, place_of}
+use Rattle.tx_machine.specs.State.{State, opening}
+use Rattle.tx_machine.specs.InUse.{first_free, choice}
+use Rattle.tx_machine.specs.Members.{NoneTwice}
+use Rattle.tx_machine.specs.Runs.{Moment, moment, run, state_after}
+use Rattle.tx_machine.specs.Passed.{passed, transits, is_transit}
+use Rattle.tx_machine.specs.Safe.{IsSafe, IsSafeCall}
+use Rattle.tx_machine.specs.Excused.{IsExcused, FoundNone}
+use Rattle.tx_machine.specs.Step.{step}
+use Rattle.tx_machine.specs.Sound.{IsSound}
+use Rattle.tx_machine.proofs.Steps.{all_mem}
 use Rattle.tx_audit.specs.Counter.{first_line, walk_events, shut_events, walked_by, walked, turns_on_one, counter_of, has_counter}
 use Rattle.tx_audit.specs.Breaks.{PassesTwice, PassesMany, AnswersBare, Shows}
-use Rattle.tx_state.proofs.Playing.{Groups, AllUp, Plays, plays_none, plays_first, plays_one, plays_then, shut, shut_among}
-use Rattle.tx_state.proofs.OneCall.{alone, on_way, IsPlaced, routed_there, key_step, nc_step, blocks}
+use Rattle.tx_machine.proofs.Playing.{Groups, AllUp, Plays, plays_none, plays_first, plays_one, plays_then, shut, shut_among}
+use Rattle.tx_machine.proofs.OneCall.{alone, on_way, IsPlaced, routed_there, key_step, nc_step, blocks}
 use Rattle.tx_audit.proofs.Choices.{first_in_none, none_of}
 use Rattle.tx_audit.proofs.Listed.{listed_once, listed_few, listed_known}
 use Rattle.tx_audit.proofs.Walking.{IsOn, IfMore, step_of, walk_plays}

@@ -10,7 +10,7 @@ use Rattle.tx_plan.specs.Among.{Among}
 use Rattle.tx_rank.specs.Nets.{IsNet}
 use Rattle.tx_rank.specs.Walks.{AllDiffer, Goes, IsWalk, net_of, before_end}
 use Rattle.tx_rank.proofs.Nets.{is_net}
-use Rattle.tx_state.proofs.Lists.{any_mem}
+use Rattle.tx_machine.proofs.Lists.{any_mem}
 use Rattle.tx_audit.specs.Counter.{step_events, walk_events}
 use Rattle.tx_audit.proofs.Listed.{listed_few, before_few}
 use Rattle.tx_audit.proofs.Walking.{step_count}

@@ -15,13 +15,13 @@ use Rattle.tx_plan.specs.Rules.{IsPlan, IsRange}
 use Rattle.tx_plan.specs.Lines.{at_most, in_range, is_line}
 use Rattle.tx_plan.specs.Codes.{after, is_prefix, codes_before, longer, longest, code_of}
 use Rattle.tx_plan.specs.Routes.{is_origin}
-use Rattle.tx_entries.specs.declared.line.Line.{Line}
-use Rattle.tx_entries.specs.declared.range.LineRange.{LineRange}
+use Rattle.tx_plan.specs.declared.ids.Line.{Line}
+use Rattle.tx_plan.specs.declared.range.LineRange.{LineRange}
 use Rattle.tx_plan.proofs.Among.{among_places, among_filter, filter_among}
 use Rattle.tx_plan.proofs.ByPlace.{entry_at}
 use Rattle.tx_plan.specs.Among.{Among}
-use Rattle.tx_state.proofs.Lists.{any_mem, mem_any, find_mem, places_differ}
-use Rattle.tx_state.proofs.Steps.{all_mem, enumerated}
+use Rattle.tx_machine.proofs.Lists.{any_mem, mem_any, find_mem, places_differ}
+use Rattle.tx_machine.proofs.Steps.{all_mem, enumerated}
 use Rattle.tx_audit.specs.Counter.{first_range, calls_from, first_code, low_line, first_line}
 use Rattle.tx_audit.proofs.Choices.{find_some}
 

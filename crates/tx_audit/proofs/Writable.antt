@@ -1,5 +1,5 @@
 -- The events of a finding can be written.
-use Rattle.std.proofs.Common.{◌≡◌, ℕ, zero, suc, ◌+◌, ◌<◌, true, false, ◌&&◌, nat_le, List, [], ◌∷◌, ◌++◌, map, length, Option, Some, None, refl, sym, ap, subst, inl, inr, arith}
+use Rattle.std.proofs.Common.{◌≡◌, ℕ, zero, suc, ◌+◌, ◌^◌, ◌<◌, ◌==◌, true, false, ◌&&◌, nat_le, List, [], ◌∷◌, ◌++◌, map, length, Option, Some, None, refl, sym, ap, subst, inl, inr, arith}
 use Rattle.std.proofs.lemmas.Bool.{false≢true, and_parts, and_from, leb-true, le-leb}
 use Rattle.std.proofs.lemmas.Option.{slice_get_within}
 use Rattle.std.specs.Prelude.{if◌then◌else◌, slice_get, is_some, option_and_then}
@@ -7,19 +7,21 @@ use Rattle.std.specs.List.{AllByRecursion, list_all, range_with_len}
 use Rattle.std.specs.Option.{option_map, option_map_or}
 use Rattle.tx_text.specs.Words.{is_figure, are_figures, figures_of as keyed_of}
 use Rattle.tx_plan.specs.Plan.{Plan, Code, Group, figures_of}
-use Rattle.tx_plan.specs.Rules.{IsPlan, IsCode}
+use Rattle.tx_plan.specs.Rules.{IsPlan, IsCode, IsRange, is_national}
 use Rattle.tx_plan.specs.Routes.{route_list}
-use Rattle.tx_entries.specs.declared.line.Line.{Line}
-use Rattle.tx_entries.specs.declared.range.LineRange.{LineRange}
+use Rattle.tx_plan.specs.declared.ids.Line.{Line}
+use Rattle.tx_plan.specs.declared.range.LineRange.{LineRange}
 use Rattle.tx_plan.proofs.ByPlace.{entry_at}
 use Rattle.tx_plan.specs.Among.{Among}
 use Rattle.tx_rank.specs.declared.finding.Finding.{Finding}
 use Rattle.tx_rank.specs.declared.finding.Finding.TheVariants.{Ambiguous, Loop, Short, Long}
+use Rattle.tx_rank.specs.Findings.{IsTrueOf}
 use Rattle.tx_rank.specs.Walks.{Walk, end_of}
-use Rattle.tx_state.specs.declared.event.Event.{Event}
-use Rattle.tx_state.specs.declared.event.Event.TheVariants.{Route, Confirm, Block, Unblock}
-use Rattle.tx_state.specs.Refusals.{is_group}
-use Rattle.tx_state.proofs.Lists.{find_mem, at_place}
+use Rattle.tx_machine.specs.declared.event.Event.{Event}
+use Rattle.tx_machine.specs.declared.event.Event.TheVariants.{Route, Confirm, Block, Unblock}
+use Rattle.tx_machine.specs.Refusals.{is_group}
+use Rattle.tx_machine.proofs.Lists.{find_mem, at_place}
+use Rattle.tx_machine.proofs.Steps.{all_mem}
 use Rattle.tx_script.specs.Events.{IsWritable}
 use Rattle.tx_audit.specs.Counter.{first_range, first_code, calls_from, low_line, first_line, listed_before, step_events, walk_events, shut_events, walked_by, walked, turns_on_one, counter_of}
 use Rattle.tx_audit.proofs.Listed.{listed_known, before_all}
@@ -28,13 +30,13 @@ all_append : {A : Type 0} (P : A → Type 0) (xs ys : List A) → AllByRecursion
 all_append P [] ys h k = k
 all_append P (x ∷ xs) ys h k = (h.0, all_append P xs ys h.1 k)
 
--- a code's figures may be keyed
-pub code_keyed : (p : Plan) → IsPlan p → (c : ℕ) → c < length p.codes → keyed_of (figures_of p c) ≡ Some (figures_of p c)
-code_keyed p ok c within =
+-- a code's figures are as many as may be keyed
+keyed_width : (p : Plan) → IsPlan p → (c : ℕ) → c < length p.codes → are_figures 1 12 (figures_of p c) ≡ true
+keyed_width p ok c within =
     let row = entry_at p.codes c within in
     let f = (at_place (IsCode p) p.codes ok.codes c row.0 row.1).figures in
     let e : figures_of p c ≡ row.0.figures = ap (λ o. option_map_or (λ (k : Code). k.figures) o []) row.1 in
-    subst (λ (text : List ℕ). keyed_of text ≡ Some text) (sym e) (let t = wide row.0.figures f in rw t refl)
+    subst (λ (text : List ℕ). are_figures 1 12 text ≡ true) (sym e) (wide row.0.figures f)
   where
     wide : (text : List ℕ) → are_figures 2 3 text ≡ true → are_figures 1 12 text ≡ true
     wide text h =
@@ -43,6 +45,10 @@ code_keyed p ok c within =
         let low = leb-true 2 (length text) b.0 in
         let high = leb-true (length text) 3 b.1 in
         and_from (nat_le 1 (length text) && nat_le (length text) 12) (list_all is_figure text) (and_from (nat_le 1 (length text)) (nat_le (length text) 12) (le-leb 1 (length text) (omega arith)) (le-leb (length text) 12 (omega arith))) a.1
+
+-- and so they may be keyed
+pub code_keyed : (p : Plan) → IsPlan p → (c : ℕ) → c < length p.codes → keyed_of (figures_of p c) ≡ Some (figures_of p c)
+code_keyed p ok c within = let t = keyed_width p ok c within in rw t refl
 
 group_within : (p : Plan) (g : ℕ) → is_group p g ≡ true → g < length p.groups
 group_within p g h = at (slice_get p.groups g) refl h
@@ -54,11 +60,15 @@ group_within p g h = at (slice_get p.groups g) refl h
 module _ (p : Plan) (ok : IsPlan p) where
   blocks_writable : (gs : List ℕ) → AllByRecursion (λ g. is_group p g ≡ true) gs → AllByRecursion (IsWritable p) (map Block gs)
   blocks_writable [] h = tt
-  blocks_writable (g ∷ gs) h = (group_within p g h.0, blocks_writable gs h.1)
+  blocks_writable (g ∷ gs) h = ((group_within p g h.0, tt), blocks_writable gs h.1)
 
   unblocks_writable : (gs : List ℕ) → AllByRecursion (λ g. is_group p g ≡ true) gs → AllByRecursion (IsWritable p) (map Unblock gs)
   unblocks_writable [] h = tt
-  unblocks_writable (g ∷ gs) h = (group_within p g h.0, unblocks_writable gs h.1)
+  unblocks_writable (g ∷ gs) h = ((group_within p g h.0, tt), unblocks_writable gs h.1)
+
+  -- the first call of a run has number 1
+  first_call : Unit {0} × (1 < 2 ^ 32)
+  first_call = (tt, omega arith)
 
   walk_writable : (c x : ℕ) (steps : List (ℕ × ℕ)) → AllByRecursion (IsWritable p) (walk_events p c x steps)
   walk_writable c x [] = tt
@@ -68,11 +78,11 @@ module _ (p : Plan) (ok : IsPlan p) where
       let known = before_all (λ g. is_group p g ≡ true) s.0 list (listed_known p ok x c) in
       all_append (IsWritable p) (step_events list s.0) (walk_events p c s.1 steps)
       (all_append (IsWritable p) (map Block f) (Route 1 ∷ (map Unblock f ++ (Confirm 1 ∷ []))) (blocks_writable f known)
-      (tt, all_append (IsWritable p) (map Unblock f) (Confirm 1 ∷ []) (unblocks_writable f known) (tt, tt)))
+      (first_call, all_append (IsWritable p) (map Unblock f) (Confirm 1 ∷ []) (unblocks_writable f known) (first_call, tt)))
       (walk_writable c s.1 steps)
 
   shut_writable : (c x : ℕ) → AllByRecursion (IsWritable p) (shut_events p c x)
-  shut_writable c x = all_append (IsWritable p) (map Block (route_list p x c)) (Route 1 ∷ []) (blocks_writable (route_list p x c) (listed_known p ok x c)) (tt, tt)
+  shut_writable c x = all_append (IsWritable p) (map Block (route_list p x c)) (Route 1 ∷ []) (blocks_writable (route_list p x c) (listed_known p ok x c)) (first_call, tt)
 
   -- the line that calls is one of a code of the plan
   below : (a n k : ℕ) → Among k (range_with_len a n) → k < a + n
@@ -94,21 +104,36 @@ module _ (p : Plan) (ok : IsPlan p) where
           let same = by_range d (first_range p d) h in
           omega arith
 
-  from_writable : (c : ℕ) (w : Walk) (last events : List Event) → AllByRecursion (IsWritable p) last → walked p c w last ≡ Some events → AllByRecursion (IsWritable p) events
-  from_writable c w last events h e = at (first_line p w.start) refl e
+  line_national : (x : ℕ) (l : Line) → first_line p x ≡ Some l → is_national l.national ≡ true
+  line_national x l h = at (first_code p x) h
+    where
+      by_range : (d : ℕ) (o : Option LineRange) → first_range p d ≡ o → option_map (low_line d) o ≡ Some l → is_national l.national ≡ true
+      by_range d None f e = let bad : ⊥ = cc in absurd bad
+      by_range d (Some r) f e =
+          let same : low_line d r ≡ l = cc in
+          let range = all_mem (IsRange p) p.ranges r ok.ranges (find_mem (λ (q : LineRange). q.code == d) p.ranges r f).0 in
+          subst (λ (k : Line). is_national k.national ≡ true) same range.low
+
+      at : (o : Option ℕ) → option_and_then (λ code. option_map (low_line code) (first_range p code)) o ≡ Some l → is_national l.national ≡ true
+      at None e = let bad : ⊥ = cc in absurd bad
+      at (Some d) e = by_range d (first_range p d) refl e
+
+  from_writable : (c : ℕ) → c < length p.codes → (w : Walk) (last events : List Event) → AllByRecursion (IsWritable p) last → walked p c w last ≡ Some events → AllByRecursion (IsWritable p) events
+  from_writable c within w last events h e = at (first_line p w.start) refl e
     where
       at : (o : Option Line) → first_line p w.start ≡ o → option_map (walked_by p c w last) o ≡ Some events → AllByRecursion (IsWritable p) events
       at None f e = let bad : ⊥ = cc in absurd bad
       at (Some l) f e =
           let same : walked_by p c w last l ≡ events = cc in
-          subst (AllByRecursion (IsWritable p)) same (line_within w.start l f, all_append (IsWritable p) (walk_events p c w.start w.steps) last (walk_writable c w.start w.steps) h)
+          subst (AllByRecursion (IsWritable p)) same
+          ((line_within w.start l f, (line_national w.start l f, keyed_width p ok c within)), all_append (IsWritable p) (walk_events p c w.start w.steps) last (walk_writable c w.start w.steps) h)
 
-  pub counter_writable : {A : Type 0} (f : Finding A) (events : List Event) → counter_of p f ≡ Some events → AllByRecursion (IsWritable p) events
-  counter_writable (Ambiguous a b) events e = let bad : ⊥ = cc in absurd bad
-  counter_writable (Loop c w) events e =
+  pub counter_writable : {A : Type 0} (limit spare : ℕ) (f : Finding A) (events : List Event) → IsTrueOf p limit spare f → counter_of p f ≡ Some events → AllByRecursion (IsWritable p) events
+  counter_writable limit spare (Ambiguous a b) events t e = let bad : ⊥ = cc in absurd bad
+  counter_writable limit spare (Loop c w) events t e =
       elim (turns_on_one p w.steps) as (λ b. (if b then None else walked p c w []) ≡ Some events → AllByRecursion (IsWritable p) events) [
         | true ↦ λ q. let bad : ⊥ = cc in absurd bad
-        | false ↦ λ q. from_writable c w [] events tt q
+        | false ↦ λ q. from_writable c t.0 w [] events tt q
       ] e
-  counter_writable (Short c w) events e = from_writable c w (shut_events p c (end_of w.start w.steps)) events (shut_writable c (end_of w.start w.steps)) e
-  counter_writable (Long c w) events e = from_writable c w [] events tt e
+  counter_writable limit spare (Short c w) events t e = from_writable c t.0 w (shut_events p c (end_of w.start w.steps)) events (shut_writable c (end_of w.start w.steps)) e
+  counter_writable limit spare (Long c w) events t e = from_writable c t.0 w [] events tt e

@@ -1,14 +1,14 @@
 -- What an audit answers.
-use Rattle.std.specs.Prelude.{◌≡◌, ◌≢◌, ℕ, Bool, true, List, [], ◌∷◌, Option, Result, Ok, Err}
+use Rattle.std.specs.Prelude.{◌≡◌, ◌≢◌, ℕ, Bool, true, List, [], ◌∷◌, Result, Ok, Err}
 use Rattle.std.specs.List.{AllByRecursion}
 use Rattle.std.specs.Io.KnownBytes.{append_known}
-use Rattle.tx_text.specs.Ends.{StopsIn}
+use Rattle.tx_text.specs.Ends.{StopsIn, Input, Output}
 use Rattle.tx_plan.specs.Plan.{Plan}
 use Rattle.tx_plan.specs.Rules.{IsPlan}
 use Rattle.tx_plan.specs.Certified.{IsCertified}
 use Rattle.tx_plantext.specs.PlanText.{SaysPlan, ReadsPlan}
 use Rattle.tx_cert.specs.Certificate.{Certificate, IsCertificateOf, ranks_of}
-use Rattle.tx_state.specs.Sound.{IsSound, HasFewRoutes}
+use Rattle.tx_machine.specs.Sound.{IsSound, HasFewRoutes}
 use Rattle.tx_check.specs.declared.verdict.Verdict.TheVariants.{Yes}
 use Rattle.tx_check.specs.Checks.{check_faults, ranks_for, verdict_of}
 use Rattle.tx_rank.specs.declared.finding.Finding.{Finding}
@@ -21,7 +21,8 @@ use Rattle.tx_audit.specs.declared.audited.AuditFault.{AuditFault}
 use Rattle.tx_audit.specs.declared.audited.AuditFault.TheVariants.{Plan as PlanRefused, Write, NoMemory}
 use Rattle.tx_audit.specs.Report.{report}
 
--- The certificate ranks by heights and certifies the plan, the checker says Yes to it, and so the plan is sound and calls are routed a few times only.
+-- The certificate ranks by heights and certifies the plan, the checker says Yes to it, and so the
+-- plan is sound and calls are routed a few times only.
 pub record IsCleared (p : Plan) (cert : Certificate) (limit spare : ℕ) : Type 0 where
   pub fits : IsCertificateOf p cert
   pub heights : AreHeights p (ranks_of cert)
@@ -34,14 +35,16 @@ module _ {A : Type 0} where
   -- the findings that the rules list, in order, each true; none where no finding is true
   abbrev pub IsAllFound : Plan → (limit spare : ℕ) → List (Finding A) → Type 0
   IsAllFound p limit spare [] = (f : Finding A) → IsTrueOf p limit spare f → ⊥
-  IsAllFound p limit spare (f ∷ findings) = AllByRecursion (IsTrueOf p limit spare) (f ∷ findings) × AreFindings p limit spare (f ∷ findings)
+  IsAllFound p limit spare (f ∷ findings) = AllByRecursion (IsTrueOf p limit spare) (f ∷ findings)
+      × AreFindings p limit spare (f ∷ findings)
 
   -- the plan of the whole text was audited, and the report was written
-  pub record Reported (p : Plan) (limit spare : ℕ) (old new taken_old taken_new : Option (List ℕ)) (findings : List (Finding A)) : Type 0 where
+  pub record Reported (p : Plan) (limit spare : ℕ) (text : Input) (out : Output)
+      (findings : List (Finding A)) : Type 0 where
     pub rules : IsPlan p
-    pub read : SaysPlan old new p
+    pub read : SaysPlan text p
     pub found : IsAllFound p limit spare findings
-    pub wrote : taken_new ≡ append_known taken_old (report p limit spare findings)
+    pub wrote : out.new ≡ append_known out.old (report p limit spare findings)
 
 -- it holds of a plan and its findings, if something was wrong
 abbrev pub OnUnsound : {A : Type 0} → (Plan → List (Finding A) → Type 0) → Audited A → Type 0
@@ -49,35 +52,42 @@ OnUnsound Holds (Sound p cert) = Unit {0}
 OnUnsound Holds (Unsound p findings) = Holds p findings.items
 
 -- the plan was audited, but a write failed within the report
-pub record ReportedInPart (A : Type 0) (limit spare : ℕ) (old new taken_old taken_new : Option (List ℕ)) : Type 0 where
+pub record ReportedInPart (A : Type 0) (limit spare : ℕ) (text : Input) (out : Output)
+    : Type 0 where
   pub plan : Plan
   pub rules : IsPlan plan
-  pub read : SaysPlan old new plan
+  pub read : SaysPlan text plan
   pub findings : List (Finding A)
   pub found : IsAllFound plan limit spare findings
   pub cleared : findings ≡ [] → (cert : Certificate) × IsCleared plan cert limit spare
-  pub wrote : StopsIn taken_old taken_new (report plan limit spare findings)
+  pub wrote : StopsIn out.old out.new (report plan limit spare findings)
 
 -- the plan was read, and there was no memory to rank it
-pub record ReadAlone (old new : Option (List ℕ)) : Type 0 where
+pub record ReadAlone (text : Input) : Type 0 where
   pub plan : Plan
   pub rules : IsPlan plan
-  pub read : SaysPlan old new plan
+  pub read : SaysPlan text plan
 
--- WHAT AN AUDIT ANSWERS. Broken says that the source failed or met the bound on calls, unread that nothing was read, silent that nothing was written.
-abbrev pub AuditAnswers : {A : Type 0} → (limit spare : ℕ) → (old new taken_old taken_new : Option (List ℕ)) → (broken unread silent : Type 0) → Result (Audited A) AuditFault → Type 0
-AuditAnswers {A} limit spare old new taken_old taken_new broken unread silent (Ok (Sound p cert)) = Reported {A = A} p limit spare old new taken_old taken_new [] × IsCleared p cert limit spare
-AuditAnswers limit spare old new taken_old taken_new broken unread silent (Ok (Unsound p findings)) = Reported p limit spare old new taken_old taken_new findings.items × (findings.items ≢ []) × (CanBeCertified p limit spare → ⊥)
-AuditAnswers limit spare old new taken_old taken_new broken unread silent (Err (PlanRefused f)) = ReadsPlan old new broken unread (Err (f.line, f.kind)) × silent
-AuditAnswers {A} limit spare old new taken_old taken_new broken unread silent (Err Write) = ReportedInPart A limit spare old new taken_old taken_new
-AuditAnswers limit spare old new taken_old taken_new broken unread silent (Err NoMemory) = ReadAlone old new × silent
+-- What an audit answers
+abbrev pub AuditAnswers : {A : Type 0} → (limit spare : ℕ) → (text : Input) → (out : Output)
+    → Result (Audited A) AuditFault → Type 0
+AuditAnswers {A} limit spare text out (Ok (Sound p cert)) =
+    Reported {A = A} p limit spare text out [] × IsCleared p cert limit spare
+AuditAnswers limit spare text out (Ok (Unsound p findings)) =
+    Reported p limit spare text out findings.items
+    × (findings.items ≢ []) × (CanBeCertified p limit spare → ⊥)
+AuditAnswers limit spare text out (Err (PlanRefused f)) =
+    ReadsPlan text (Err (f.line, f.kind)) × out.silent
+AuditAnswers {A} limit spare text out (Err Write) = ReportedInPart A limit spare text out
+AuditAnswers limit spare text out (Err NoMemory) = ReadAlone text × out.silent
 
--- a write fault is told where the sink's mark is set, and otherwise the mark is as before
+-- the mark of the sink after such a fault: set by a write that failed, and otherwise as before
 abbrev pub mark_by : Bool → AuditFault → Bool
 mark_by old (PlanRefused f) = old
 mark_by old Write = true
 mark_by old NoMemory = old
 
+-- the mark after a call: as before where it answers Ok
 abbrev pub mark_after : {X : Type 0} → Bool → Result X AuditFault → Bool
 mark_after old (Ok x) = old
 mark_after old (Err f) = mark_by old f

@@ -2,17 +2,17 @@
 use Rattle.std.specs.Prelude.{◌≡◌, ℕ, ◌<◌, ◌==◌, List, length}
 use Rattle.tx_plan.specs.Plan.{Plan}
 use Rattle.tx_plan.specs.Among.{Among}
-use Rattle.tx_state.specs.declared.event.Event.{Event}
-use Rattle.tx_state.specs.declared.reply.Reply.TheVariants.{Answered}
-use Rattle.tx_state.specs.declared.service.Service.TheVariants.{Nc}
-use Rattle.tx_state.specs.Call.{Call}
-use Rattle.tx_state.specs.State.{State, opening}
-use Rattle.tx_state.specs.Members.{NoneTwice}
-use Rattle.tx_state.specs.Runs.{Moment, run, state_after}
-use Rattle.tx_state.specs.Passed.{passed, transits}
-use Rattle.tx_state.specs.Excused.{IsExcused}
-use Rattle.tx_state.specs.Sound.{IsSound}
-use Rattle.tx_state.specs.Unrefused.{NoneRefused}
+use Rattle.tx_machine.specs.declared.event.Event.{Event}
+use Rattle.tx_machine.specs.declared.reply.Reply.TheVariants.{Answered}
+use Rattle.tx_machine.specs.declared.cause.Service.TheVariants.{Nc}
+use Rattle.tx_machine.specs.Call.{Call}
+use Rattle.tx_machine.specs.State.{State, opening}
+use Rattle.tx_machine.specs.Members.{NoneTwice}
+use Rattle.tx_machine.specs.Runs.{Moment, run, state_after}
+use Rattle.tx_machine.specs.Passed.{passed, transits}
+use Rattle.tx_machine.specs.Excused.{IsExcused}
+use Rattle.tx_machine.specs.Sound.{IsSound}
+use Rattle.tx_machine.specs.Unrefused.{NoneRefused}
 use Rattle.tx_rank.specs.declared.finding.Finding.{Finding}
 use Rattle.tx_rank.specs.declared.finding.Finding.TheVariants.{Ambiguous, Loop, Short, Long}
 
@@ -35,21 +35,24 @@ pub record AnswersBare (p : Plan) (spare : ℕ) (s : State) (events : List Event
   pub reply : moment.reply ≡ Answered Nc
   pub bare : IsExcused p spare moment.before moment.event moment.reply → ⊥
 
--- what the run from the opening state breaks, by the kind of the finding: nothing follows from an ambiguous pair
+-- what the run from the opening state breaks, by the kind of the finding: nothing follows from an
+-- ambiguous pair
 abbrev pub Breaks : {A : Type 0} → Plan → ℕ → ℕ → Finding A → List Event → Type 0
 Breaks p limit spare (Ambiguous a b) events = ⊥
 Breaks p limit spare (Loop c w) events = PassesTwice p (state_after p (opening 0 0) events)
 Breaks p limit spare (Short c w) events = AnswersBare p spare (opening 0 0) events
 Breaks p limit spare (Long c w) events = PassesMany p limit (state_after p (opening 0 0) events)
 
--- THE EVENTS SHOW THE FINDING: none of them is refused, and their run is not that of a sound plan.
-pub record Shows {A : Type 0} (p : Plan) (limit spare : ℕ) (finding : Finding A) (events : List Event) : Type 0 where
+-- The events show the finding: none of them is refused, and their run is not that of a sound plan.
+pub record Shows {A : Type 0} (p : Plan) (limit spare : ℕ)
+    (finding : Finding A) (events : List Event) : Type 0 where
   pub unrefused : NoneRefused p (opening 0 0) events
   pub breaks : Breaks p limit spare finding events
   pub unsound : IsSound p limit spare → ⊥
 
 -- they show one of some findings
-pub record ShowsOne {A : Type 0} (p : Plan) (limit spare : ℕ) (findings : List (Finding A)) (events : List Event) : Type 0 where
+pub record ShowsOne {A : Type 0} (p : Plan) (limit spare : ℕ)
+    (findings : List (Finding A)) (events : List Event) : Type 0 where
   pub finding : Finding A
   pub listed : Among finding findings
   pub shows : Shows p limit spare finding events

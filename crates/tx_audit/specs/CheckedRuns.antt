@@ -1,54 +1,61 @@
 -- What a run over the engine answers, and one after a check.
-use Rattle.std.specs.Prelude.{◌≡◌, ◌⊎◌, ℕ, Bool, List, Option, Result, Ok, Err}
+use Rattle.std.specs.Prelude.{◌≡◌, ◌⊎◌, ℕ, Bool, Result, Ok, Err}
+use Rattle.tx_text.specs.Ends.{Input, Output}
 use Rattle.tx_plan.specs.Plan.{Plan}
 use Rattle.tx_cert.specs.Certificate.{Certificate}
-use Rattle.tx_state.specs.State.{State, opening}
-use Rattle.tx_state.specs.Sound.{IsSound, HasFewRoutes}
+use Rattle.tx_machine.specs.State.{State, opening}
+use Rattle.tx_machine.specs.Sound.{IsSound, HasFewRoutes}
 use Rattle.tx_check.specs.declared.verdict.Verdict.TheVariants.{Yes, No}
 use Rattle.tx_check.specs.Checks.{check_faults, ranks_for, verdict_of}
 use Rattle.tx_script.specs.declared.summary.Summary.{Summary}
 use Rattle.tx_script.specs.declared.run_fault.RunFault.{RunFault}
 use Rattle.tx_script.specs.declared.run_cause.RunCause.TheVariants.{NoMemory}
-use Rattle.tx_script.specs.Answers.{RunAnswers, mark_by}
+use Rattle.tx_script.specs.Answers.{States, RunAnswers, mark_by}
 use Rattle.tx_audit.specs.declared.checked.Checked.{Checked}
 use Rattle.tx_audit.specs.declared.checked.Checked.TheVariants.{Ran, Denied}
 
--- what a run moved: the script's bytes and the sink's, before and after
-pub record Bytes : Type 0 where
-  pub rest_old : Option (List ℕ)
-  pub rest_new : Option (List ℕ)
-  pub taken_old : Option (List ℕ)
-  pub taken_new : Option (List ℕ)
+-- nothing was read or written
+abbrev pub IsUntouched : (script : Input) → (out : Output) → Type 0
+IsUntouched script out = script.unread × out.silent
+
+-- a network that came from the opening state to this one
+abbrev pub from_opening : State → States
+from_opening state = record { old = opening 0 0; new = state; unchanged = state ≡ opening 0 0 }
 
 -- the script was run over a network of the plan, from the opening state
-pub record RanFromOpening (p : Plan) (x : Bytes) (broken untouched : Type 0) (answer : Result Summary RunFault) : Type 0 where
+pub record RanFromOpening (p : Plan) (script : Input) (out : Output)
+    (answer : Result Summary RunFault) : Type 0 where
   pub state : State
-  pub ran :
-      RunAnswers p (record { rest_old = x.rest_old; rest_new = x.rest_new; taken_old = x.taken_old; taken_new = x.taken_new; state_old = opening 0 0; state_new = state }) broken
-      (untouched × (state ≡ opening 0 0)) answer
+  pub ran : RunAnswers p script (from_opening state) out answer
 
--- there was no memory for the network: the first event is told, and nothing was read or written
-abbrev pub HadNoRoom : (untouched : Type 0) → RunFault → Type 0
-HadNoRoom untouched f = (f ≡ record { event = 1; cause = NoMemory }) × untouched
+-- there was no memory for the network: the first event is named, and nothing was read or written
+abbrev pub HadNoRoom : (script : Input) → (out : Output) → RunFault → Type 0
+HadNoRoom script out f = (f ≡ record { event = 1; cause = NoMemory }) × IsUntouched script out
 
--- WHAT A RUN OVER THE ENGINE ANSWERS
-abbrev pub Simulated : Plan → Bytes → (broken untouched : Type 0) → Result Summary RunFault → Type 0
-Simulated p x broken untouched (Ok summary) = RanFromOpening p x broken untouched (Ok summary)
-Simulated p x broken untouched (Err f) = RanFromOpening p x broken untouched (Err f) ⊎ HadNoRoom untouched f
+-- What a run over the engine answers
+abbrev pub Simulated : Plan → (script : Input) → (out : Output) → Result Summary RunFault → Type 0
+Simulated p script out (Ok summary) = RanFromOpening p script out (Ok summary)
+Simulated p script out (Err f) = RanFromOpening p script out (Err f) ⊎ HadNoRoom script out f
 
--- The checker said Yes. So every state of the run is safe, every NC is excused, and few Routes of one call are accepted.
+-- The checker said Yes. So every state of the run is safe, every NC is excused, and few Routes of
+-- one call are accepted.
 pub record IsAllowed (p : Plan) (cert : Certificate) (limit spare : ℕ) : Type 0 where
   pub yes : verdict_of (check_faults p (ranks_for p cert) limit spare) ≡ Yes
   pub sound : IsSound p limit spare
   pub few_routes : HasFewRoutes p limit
 
--- WHAT A CHECKED RUN ANSWERS. It ran only after a Yes; after a No it read and wrote nothing, and tells that No.
-abbrev pub CheckedAnswers : Plan → Certificate → (limit spare : ℕ) → Bytes → (broken untouched : Type 0) → Result Checked RunFault → Type 0
-CheckedAnswers p cert limit spare x broken untouched (Ok (Ran summary)) = IsAllowed p cert limit spare × Simulated p x broken untouched (Ok summary)
-CheckedAnswers p cert limit spare x broken untouched (Ok (Denied f)) = (verdict_of (check_faults p (ranks_for p cert) limit spare) ≡ No f) × untouched
-CheckedAnswers p cert limit spare x broken untouched (Err f) = IsAllowed p cert limit spare × Simulated p x broken untouched (Err f)
+-- What a checked run answers. It ran only after a Yes; after a No it read and wrote nothing, and
+-- returns that No.
+abbrev pub CheckedAnswers : Plan → Certificate → (limit spare : ℕ)
+    → (script : Input) → (out : Output) → Result Checked RunFault → Type 0
+CheckedAnswers p cert limit spare script out (Ok (Ran summary)) =
+    IsAllowed p cert limit spare × Simulated p script out (Ok summary)
+CheckedAnswers p cert limit spare script out (Ok (Denied f)) =
+    (verdict_of (check_faults p (ranks_for p cert) limit spare) ≡ No f) × IsUntouched script out
+CheckedAnswers p cert limit spare script out (Err f) =
+    IsAllowed p cert limit spare × Simulated p script out (Err f)
 
--- a write fault is told where the sink's mark is set, and otherwise the mark is as before
+-- the mark of the sink after a call: set by a write that failed, and otherwise as before
 abbrev pub mark_after : Bool → Result Checked RunFault → Bool
 mark_after old (Ok checked) = old
 mark_after old (Err f) = mark_by old f.cause

@@ -6,15 +6,13 @@ use Rattle.tx_text.specs.Words.{before}
 use Rattle.tx_plan.specs.Plan.{Plan, home_of, figures_of}
 use Rattle.tx_plan.specs.Routes.{route_list}
 use Rattle.tx_plan.specs.Circuits.{is_both, direction_of, count_of}
-use Rattle.tx_entries.specs.declared.line.Line.{Line}
-use Rattle.tx_entries.specs.declared.range.LineRange.{LineRange}
-use Rattle.tx_state.specs.declared.event.Event.{Event}
-use Rattle.tx_state.specs.declared.event.Event.TheVariants.{Key, Route, Confirm, Block, Unblock}
+use Rattle.tx_plan.specs.declared.ids.Line.{Line}
+use Rattle.tx_plan.specs.declared.range.LineRange.{LineRange}
+use Rattle.tx_machine.specs.declared.event.Event.{Event}
+use Rattle.tx_machine.specs.declared.event.Event.TheVariants.{Key, Route, Confirm, Block, Unblock}
 use Rattle.tx_rank.specs.declared.finding.Finding.{Finding}
 use Rattle.tx_rank.specs.declared.finding.Finding.TheVariants.{Ambiguous, Loop, Short, Long}
 use Rattle.tx_rank.specs.Walks.{Walk, end_of}
-
--- THE LINE THAT CALLS
 
 -- the first range of a code
 abbrev pub first_range : Plan → ℕ → Option LineRange
@@ -34,9 +32,8 @@ low_line code r = record { code = code; national = r.low }
 
 -- the low end of the first range of the first code that is at home at x and has a range
 abbrev pub first_line : Plan → ℕ → Option Line
-first_line p x = option_and_then (λ code. option_map (low_line code) (first_range p code)) (first_code p x)
-
--- THE WAY OF THE CALL
+first_line p x = option_and_then (λ code. option_map (low_line code) (first_range p code))
+    (first_code p x)
 
 -- the groups that a list has before g
 abbrev pub listed_before : ℕ → List ℕ → List ℕ
@@ -44,7 +41,8 @@ listed_before g list = before (λ h. h == g) list
 
 -- The call goes on by the group g of a list: those before it are blocked while it is routed.
 abbrev pub step_events : List ℕ → ℕ → List Event
-step_events list g = map Block (listed_before g list) ++ (Route 1 ∷ (map Unblock (listed_before g list) ++ (Confirm 1 ∷ [])))
+step_events list g = map Block (listed_before g list)
+    ++ (Route 1 ∷ (map Unblock (listed_before g list) ++ (Confirm 1 ∷ [])))
 
 -- the steps in turn, for the code c from x on
 abbrev pub walk_events : Plan → ℕ → ℕ → List (ℕ × ℕ) → List Event
@@ -63,9 +61,7 @@ walked_by p c w last line = Key line (figures_of p c) ∷ (walk_events p c w.sta
 abbrev pub walked : Plan → ℕ → Walk → List Event → Option (List Event)
 walked p c w last = option_map (walked_by p c w last) (first_line p w.start)
 
--- TURNS THAT NO CALL CAN MAKE
-
--- both are one both-way group of a single circuit
+-- Both are one both-way group of a single circuit: no call can go back by it.
 abbrev pub is_single : Plan → ℕ → ℕ → Bool
 is_single p g h = (g == h) && (is_both (direction_of p g) && (count_of p g == 1))
 
@@ -76,8 +72,7 @@ turns_on_one p (s ∷ []) = false
 turns_on_one p (s ∷ t ∷ []) = is_single p s.0 t.0
 turns_on_one p (s ∷ t ∷ u ∷ steps) = turns_on_one p (t ∷ u ∷ steps)
 
--- THE EVENTS OF A FINDING
-
+-- The events of a finding: none for an ambiguous pair, and for a loop that turns so
 abbrev pub counter_of : {A : Type 0} → Plan → Finding A → Option (List Event)
 counter_of p (Ambiguous a b) = None
 counter_of p (Loop c w) = if turns_on_one p w.steps then None else walked p c w []
@@ -91,6 +86,7 @@ has_counter p (Loop c w) = not (turns_on_one p w.steps)
 has_counter p (Short c w) = true
 has_counter p (Long c w) = true
 
+-- the first of both that there is
 abbrev pub or_else : Option (List Event) → Option (List Event) → Option (List Event)
 or_else (Some events) other = Some events
 or_else None other = other

@@ -26,7 +26,7 @@ abbrev pub why_text : {A : Type 0} → Plan → Option Bounds → List (Finding 
 why_text p (Some b) findings = []
 why_text p None findings = findings_text p findings
 
--- THE TEXT OF A GRADE: a line for the plan, one for each code, and why if the plan has none
+-- The text of a grade: a line for the plan, one for each code, and why if the plan has none
 abbrev pub grade_text : {A : Type 0} → Plan → Grade A → List ℕ
 grade_text p g = (codes "GRADE" ++ bounds_text g.plan)
     ++ (flat_map (code_line p) g.codes.items ++ why_text p g.plan g.findings.items)

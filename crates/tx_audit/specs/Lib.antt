@@ -1,8 +1,8 @@
 pub mod Report
 pub mod Audits
 pub mod CheckedRuns
-pub mod Ranked
 pub mod GradeText
 pub mod Counter
 pub mod Breaks
 pub mod Scripts
+pub mod inner

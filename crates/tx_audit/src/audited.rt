@@ -1,5 +1,6 @@
 // What an audit comes to.
 ghost use Rattle.std.specs.Prelude.{◌≡◌};
+ghost use Rattle.tx_audit.specs.declared.audited.AuditFault.TheVariants.{Plan as PlanRefused, Write as WriteFailed, NoMemory as OutOfMemory};
 
 use std::alloc::{Allocator, Global};
 use thiserror::Error;
@@ -7,9 +8,10 @@ use tx_cert::Cert;
 use tx_plan::Plan;
 use tx_plantext::PlanFault;
 use tx_rank::{Finding, Ranking};
+use tx_text::{NoMemory, WriteFault};
 
 /// The plan that was read, and what was found of it.
-#[derive(Drop)]
+#[derive(Debug, Drop)]
 pub enum Audited<A: Allocator = Global> {
     /// The plan is sound, as this certificate shows: it ranks the exchanges by their heights.
     Sound(Plan<A>, Cert<A>),
@@ -18,7 +20,7 @@ pub enum Audited<A: Allocator = Global> {
 }
 
 impl<A: Allocator> Audited<A> {
-    ghost use Rattle.tx_audit.specs.Ranked.{audited_of};
+    ghost use Rattle.tx_audit.specs.inner.Ranked.{audited_of};
 
     /// The plan, with what its ranking came to.
     pub(crate) fn of(plan: Plan<A>, ranking: Ranking<A>) -> Audited<A>
@@ -34,7 +36,8 @@ impl<A: Allocator> Audited<A> {
 /// Why an audit stopped.
 #[derive(Clone, Copy, Debug, Error)]
 pub enum AuditFault {
-    /// The plan's text is refused, its source failed, or its reader wanted memory. Nothing was written.
+    /// The plan's text is refused, its source failed, or its reader had no memory. Nothing was
+    /// written.
     #[error("plan {0}")]
     Plan(PlanFault),
     /// The sink failed: a front of the report was written.
@@ -43,4 +46,28 @@ pub enum AuditFault {
     /// No memory was left to rank the plan. Nothing was written.
     #[error("no memory")]
     NoMemory,
+}
+
+impl From<PlanFault> for AuditFault {
+    ghost from_gives = { λ plan fault. fault ≡ PlanRefused plan };
+
+    fn from(plan: PlanFault) -> AuditFault {
+        AuditFault::Plan(plan)
+    }
+}
+
+impl From<WriteFault> for AuditFault {
+    ghost from_gives = { λ _ fault. fault ≡ WriteFailed };
+
+    fn from(_: WriteFault) -> AuditFault {
+        AuditFault::Write
+    }
+}
+
+impl From<NoMemory> for AuditFault {
+    ghost from_gives = { λ _ fault. fault ≡ OutOfMemory };
+
+    fn from(_: NoMemory) -> AuditFault {
+        AuditFault::NoMemory
+    }
 }

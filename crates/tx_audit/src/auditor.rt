@@ -1,7 +1,8 @@
 // The auditor.
 ghost use Rattle.std.specs.Prelude.{◌≡◌, ◌≤◌, [], IfOk};
 ghost use Rattle.std.specs.List.{AllByRecursion};
-ghost use Rattle.tx_text.specs.Calls.{Broken, CallsAtMost, source_calls};
+ghost use Rattle.tx_text.specs.Calls.{CallsAtMost, source_calls};
+ghost use Rattle.tx_text.specs.Ends.{input, output};
 ghost use Rattle.tx_text.specs.Wrote.{Wrote};
 ghost use Rattle.tx_plan.specs.Certified.{IsCertified};
 ghost use Rattle.tx_cert.specs.Certificate.{IsCertificateOf, ranks_of};
@@ -9,8 +10,8 @@ ghost use Rattle.tx_rank.specs.Findings.{IsTrueOf};
 ghost use Rattle.tx_rank.specs.Rankings.{OnFound};
 ghost use Rattle.tx_audit.specs.Audits.{AuditAnswers, OnUnsound, mark_after};
 ghost use Rattle.tx_audit.specs.CheckedRuns.{IsAllowed};
-ghost use Rattle.tx_audit.specs.Ranked.{RankAnswers, findings_of};
-ghost use Rattle.tx_audit.specs.Report.{report};
+ghost use Rattle.tx_audit.specs.Report.{findings_of, report};
+ghost use Rattle.tx_audit.specs.inner.Ranked.{RankAnswers};
 
 use crate::audited::{AuditFault, Audited};
 use crate::report::write_report;
@@ -22,10 +23,12 @@ use tx_plantext::read_plan_from;
 use tx_rank::{Finding, Ranking, rank};
 use tx_text::{Sink, Source, WriteFault};
 
-/// Reads a plan, and writes the report on it: YES where some certificate certifies it for at most `limit` transits (0 to 62) and `spare` groups to spare (0
-/// to 15), or what is wrong with it, with walks that show it.
+/// Reads a plan, and writes the report on it: YES where some certificate certifies it for at most
+/// `limit` transits (0 to 62) and `spare` groups to spare (0 to 15), or what is wrong with it, with
+/// walks that show it.
 ///
-/// Nothing is written where the plan is refused or memory is wanting. The report says YES only where the checker says Yes to the certificate that is told.
+/// Nothing is written where the plan is refused or memory runs out. The report says YES only where
+/// the checker says Yes to the certificate that is returned.
 pub fn audit<A: Allocator + Copy, R: Source, W: Sink>(
     alloc: A,
     source: &mut R,
@@ -35,24 +38,17 @@ pub fn audit<A: Allocator + Copy, R: Source, W: Sink>(
 ) -> Result<Audited<A>, AuditFault>
     requires limit { limit ≤ 62 }
     requires spare { spare ≤ 15 }
-    ensures answers { AuditAnswers limit spare (R.rest source.old) (R.rest source.new) (W.taken out.old) (W.taken out.new) (Broken R.called (R.failed source.new) source_calls source.old source.new) (source.new ≡ source.old) (out.new ≡ out.old) result }
-    ensures each { IfOk result (OnUnsound (λ p findings. AllByRecursion (IsTrueOf p limit spare) findings)) }
+    ensures answers { AuditAnswers limit spare
+        (input R.rest R.failed R.called source.old source.new)
+        (output W.taken out.old out.new) result }
+    ensures each { IfOk result
+        (OnUnsound (λ p findings. AllByRecursion (IsTrueOf p limit spare) findings)) }
     ensures mark { W.failed out.new ≡ mark_after (W.failed out.old) result }
     ensures calls { CallsAtMost R.called source_calls source.old source.new }
 {
-    match read_plan_from(alloc, source) {
-        Ok(plan) => {
-            plan.rules();
-            match rank_and_report(alloc, &plan, limit, spare, out) {
-                Ok(ranking) => Ok(Audited::of(plan, ranking)),
-                Err(fault) => {
-                    drop(plan);
-                    Err(fault)
-                }
-            }
-        }
-        Err(fault) => Err(AuditFault::Plan(fault)),
-    }
+    let plan = read_plan_from(alloc, source)?;
+    let ranking = rank_and_report(alloc, &plan, limit, spare, out)?;
+    Ok(Audited::of(plan, ranking))
 }
 
 /// Ranks a plan, and reports what that came to.
@@ -65,16 +61,12 @@ fn rank_and_report<A: Allocator + Copy, W: Sink>(
 ) -> Result<Ranking<A>, AuditFault>
     requires limit { limit ≤ 62 }
     requires spare { spare ≤ 15 }
-    ensures answers { RankAnswers plan.now limit spare (W.taken out.old) (W.taken out.new) (out.new ≡ out.old) result }
+    ensures answers { RankAnswers plan.now limit spare (output W.taken out.old out.new) result }
     ensures mark { W.failed out.new ≡ mark_after (W.failed out.old) result }
 {
-    match rank(alloc, plan, limit, spare) {
-        Ok(ranking) => match report_ranking(plan, &ranking, limit, spare, out) {
-            Ok(()) => Ok(ranking),
-            Err(WriteFault) => Err(AuditFault::Write),
-        },
-        Err(_) => Err(AuditFault::NoMemory),
-    }
+    let ranking = rank(alloc, plan, limit, spare)?;
+    report_ranking(plan, &ranking, limit, spare, out)?;
+    Ok(ranking)
 }
 
 /// Reports what a ranking came to; a certificate after the checker said Yes to it.
@@ -88,9 +80,11 @@ fn report_ranking<A: Allocator, W: Sink>(
     requires limit { limit ≤ 62 }
     requires spare { spare ≤ 15 }
     requires fits { OnFound (IsCertificateOf plan.now) ranking.now }
-    requires certified { OnFound (λ cert. IsCertified plan.now (ranks_of cert) limit spare) ranking.now }
+    requires certified { OnFound (λ cert. IsCertified plan.now (ranks_of cert) limit spare)
+        ranking.now }
     ensures confirmed { OnFound (λ cert. IsAllowed plan.now cert limit spare) ranking.now }
-    ensures wrote { Wrote (W.taken out.old) (W.taken out.new) (W.failed out.old) (W.failed out.new) (report plan.now limit spare (findings_of ranking.now)) result }
+    ensures wrote { Wrote W.taken W.failed out.old out.new
+        (report plan.now limit spare (findings_of ranking.now)) result }
 {
     match ranking {
         Ranking::Found(cert) => confirm(plan, cert, limit, spare, out),
@@ -111,7 +105,8 @@ fn confirm<A: Allocator, W: Sink>(
     requires fits { IsCertificateOf plan.now cert.now }
     requires certified { IsCertified plan.now (ranks_of cert.now) limit spare }
     ensures confirmed { IsAllowed plan.now cert.now limit spare }
-    ensures wrote { Wrote (W.taken out.old) (W.taken out.new) (W.failed out.old) (W.failed out.new) (report {A = A} plan.now limit spare []) result }
+    ensures wrote { Wrote W.taken W.failed out.old out.new
+        (report {A = A} plan.now limit spare []) result }
 {
     match check(plan, cert, limit, spare) {
         Verdict::Yes => {

@@ -1,7 +1,8 @@
 // Runs of scripts over plans that the checker has passed.
 ghost use Rattle.std.specs.Prelude.{◌≡◌, ◌≤◌};
-ghost use Rattle.tx_text.specs.Calls.{Broken, CallsAtMost, source_calls};
-ghost use Rattle.tx_state.specs.Sound.{IsSound, HasFewRoutes};
+ghost use Rattle.tx_text.specs.Calls.{CallsAtMost, source_calls};
+ghost use Rattle.tx_text.specs.Ends.{input, output};
+ghost use Rattle.tx_machine.specs.Sound.{IsSound, HasFewRoutes};
 ghost use Rattle.tx_check.specs.declared.verdict.Verdict.TheVariants.{Yes};
 ghost use Rattle.tx_check.specs.Checks.{check_faults, ranks_for, verdict_of};
 ghost use Rattle.tx_audit.specs.CheckedRuns.{CheckedAnswers, mark_after};
@@ -15,8 +16,10 @@ use tx_plan::Plan;
 use tx_script::RunFault;
 use tx_text::{Sink, Source};
 
-/// Runs a script over the engine of the plan, if the checker says Yes to the certificate for `limit` (0 to 62) and `spare` (0 to 15): every state of the run
-/// is then safe and every NC excused. After a No nothing is read or written. Without memory for the network the fault names the first event.
+/// Runs a script over the engine of the plan, if the checker says Yes to the certificate for
+/// `limit` (0 to 62) and `spare` (0 to 15): every state of the run is then safe and every NC
+/// excused. After a No nothing is read or written. Without memory for the network the fault names
+/// the first event.
 pub fn run_checked<A: Allocator + Copy, R: Source, W: Sink>(
     alloc: A,
     plan: &Plan<A>,
@@ -28,8 +31,9 @@ pub fn run_checked<A: Allocator + Copy, R: Source, W: Sink>(
 ) -> Result<Checked, RunFault>
     requires limit { limit ≤ 62 }
     requires spare { spare ≤ 15 }
-    ensures answers { CheckedAnswers plan.now cert.now limit spare (record { rest_old = R.rest script.old; rest_new = R.rest script.new; taken_old = W.taken out.old; taken_new = W.taken out.new })
-        (Broken R.called (R.failed script.new) source_calls script.old script.new) ((script.new ≡ script.old) × (out.new ≡ out.old)) result }
+    ensures answers { CheckedAnswers plan.now cert.now limit spare
+        (input R.rest R.failed R.called script.old script.new)
+        (output W.taken out.old out.new) result }
     ensures mark { W.failed out.new ≡ mark_after (W.failed out.old) result }
     ensures calls { CallsAtMost R.called source_calls script.old script.new }
 {
@@ -49,16 +53,16 @@ fn run_allowed<A: Allocator + Copy, R: Source, W: Sink>(
     script: &mut R,
     out: &mut W,
 ) -> Result<Checked, RunFault>
-    requires yes { verdict_of (check_faults plan.now (ranks_for plan.now cert.now) limit spare) ≡ Yes }
+    requires yes { verdict_of (check_faults plan.now (ranks_for plan.now cert.now) limit spare)
+        ≡ Yes }
     requires sound { IsSound plan.now limit spare }
     requires few_routes { HasFewRoutes plan.now limit }
-    ensures answers { CheckedAnswers plan.now cert.now limit spare (record { rest_old = R.rest script.old; rest_new = R.rest script.new; taken_old = W.taken out.old; taken_new = W.taken out.new })
-        (Broken R.called (R.failed script.new) source_calls script.old script.new) ((script.new ≡ script.old) × (out.new ≡ out.old)) result }
+    ensures answers { CheckedAnswers plan.now cert.now limit spare
+        (input R.rest R.failed R.called script.old script.new)
+        (output W.taken out.old out.new) result }
     ensures mark { W.failed out.new ≡ mark_after (W.failed out.old) result }
     ensures calls { CallsAtMost R.called source_calls script.old script.new }
 {
-    match simulate(alloc, plan, script, out) {
-        Ok(summary) => Ok(Checked::Ran(summary)),
-        Err(fault) => Err(fault),
-    }
+    let summary = simulate(alloc, plan, script, out)?;
+    Ok(Checked::Ran(summary))
 }

@@ -9,12 +9,13 @@ ghost use Rattle.tx_audit.specs.Breaks.{ShowsOne};
 
 use crate::counters::counter;
 use std::alloc::Allocator;
+use tx_machine::Event;
 use tx_plan::Plan;
 use tx_rank::Finding;
-use tx_state::Event;
 use tx_text::NoMemory;
 
-/// The events that show the first of some true findings that has any, if one has. `Err` is want of memory.
+/// The events that show the first of some true findings that has any, if one has. `Err` means out
+/// of memory.
 pub fn first_counter<A: Allocator + Copy>(
     alloc: A,
     plan: &Plan<A>,
@@ -23,25 +24,13 @@ pub fn first_counter<A: Allocator + Copy>(
     spare: u8,
 ) -> Result<Option<Vec<Event, A>>, NoMemory>
     requires { AllByRecursion (IsTrueOf plan.now limit spare) findings.now }
-    ensures events { IfOk result (λ o. option_map (λ v. v.items) o ≡ first_counter_of plan.now findings.now) }
+    ensures events { IfOk result (λ o. option_map (λ v. v.items) o
+        ≡ first_counter_of plan.now findings.now) }
     ensures which { IfOk result (λ o. is_some o ≡ list_any (has_counter plan.now) findings.now) }
-    ensures shows { IfOk result (λ o. IfSome o (λ v. ShowsOne plan.now limit spare findings.now v.items)) }
-    ensures writable { IfOk result (λ o. IfSome o (λ v. AllByRecursion (IsWritable plan.now) v.items)) }
-{
-    plan.rules();
-    first_events(alloc, plan, findings, limit, spare)
-}
-
-/// The events, one finding after another.
-fn first_events<A: Allocator + Copy>(
-    alloc: A,
-    plan: &Plan<A>,
-    findings: &[Finding<A>],
-    limit: u8,
-    spare: u8,
-) -> Result<Option<Vec<Event, A>>, NoMemory>
-    requires { AllByRecursion (IsTrueOf plan.now limit spare) findings.now }
-    ensures { IfOk result (λ o. option_map (λ v. v.items) o ≡ first_counter_of plan.now findings.now) }
+    ensures shows { IfOk result
+        (λ o. IfSome o (λ v. ShowsOne plan.now limit spare findings.now v.items)) }
+    ensures writable { IfOk result
+        (λ o. IfSome o (λ v. AllByRecursion (IsWritable plan.now) v.items)) }
 {
     for finding in findings {
         match counter(alloc, plan, finding, limit, spare)? {

@@ -1,5 +1,6 @@
 // The line that calls.
 ghost use Rattle.std.specs.Prelude.{◌≡◌};
+ghost use Rattle.tx_plan.specs.Rules.{IsPlan};
 ghost use Rattle.tx_audit.specs.Counter.{first_range, first_line};
 
 use std::alloc::Allocator;
@@ -20,13 +21,14 @@ fn first_range<A: Allocator>(plan: &Plan<A>, code: CodeId) -> Option<LineRange>
     None
 }
 
-/// The low end of the first range of the first code that is at home at the exchange and has a range.
+/// The low end of the first range of the first code that is at home at the exchange and has a
+/// range.
 pub(crate) fn first_line<A: Allocator>(plan: &Plan<A>, start: ExchangeId) -> Option<Line>
-    ensures { result ≡ first_line plan.now start }
+    ensures line { result ≡ first_line plan.now start }
+    ensures rules { IsPlan plan.now }
 {
-    plan.rules();
     for place in 0..plan.codes() {
-        let code = CodeId::at(place as u16);
+        let code = CodeId::of(place);
         if plan.home(code) != start {
             continue;
         }

@@ -9,7 +9,7 @@ use itoa::Buffer;
 use std::alloc::Allocator;
 use tx_plan::{CodeId, Plan};
 use tx_rank::{Bounds, Finding, Grade};
-use tx_text::{Sink, WriteFault, write_text};
+use tx_text::{Sink, WriteFault, write_parts};
 
 /// Writes the bounds of a plan and of each of its codes, or that there are none; and why, if the
 /// plan has none.
@@ -18,7 +18,7 @@ pub fn write_grade<A: Allocator, W: Sink>(
     grade: &Grade<A>,
     sink: &mut W,
 ) -> Result<(), WriteFault>
-    ensures { Wrote (W.taken sink.old) (W.taken sink.new) (W.failed sink.old) (W.failed sink.new)
+    ensures { Wrote W.taken W.failed sink.old sink.new
         (grade_text plan.now grade.now) result }
 {
     write_bounds(b"GRADE", b"", grade.plan, sink)?;
@@ -33,7 +33,7 @@ fn write_bounds<W: Sink>(
     bounds: Option<Bounds>,
     sink: &mut W,
 ) -> Result<(), WriteFault>
-    ensures { Wrote (W.taken sink.old) (W.taken sink.new) (W.failed sink.old) (W.failed sink.new)
+    ensures { Wrote W.taken W.failed sink.old sink.new
         (head.now ++ (name.now ++ bounds_text bounds)) result }
 {
     match bounds {
@@ -42,12 +42,12 @@ fn write_bounds<W: Sink>(
             let mut groups = Buffer::new();
             let limit = transits.format(bounds.limit).as_bytes();
             let spare = groups.format(bounds.spare).as_bytes();
-            write_text(
+            write_parts(
                 &[head, name, b" LIMIT ", limit, b" SPARE ", spare, b"\n"],
                 sink,
             )
         }
-        None => write_text(&[head, name, b" NONE\n"], sink),
+        None => write_parts(&[head, name, b" NONE\n"], sink),
     }
 }
 
@@ -56,7 +56,7 @@ fn write_codes<A: Allocator, W: Sink>(
     codes: &[(CodeId, Option<Bounds>)],
     sink: &mut W,
 ) -> Result<(), WriteFault>
-    ensures { Wrote (W.taken sink.old) (W.taken sink.new) (W.failed sink.old) (W.failed sink.new)
+    ensures { Wrote W.taken W.failed sink.old sink.new
         (flat_map (code_line plan.now) codes.now) result }
 {
     for i in 0..codes.len() {
@@ -70,7 +70,7 @@ fn write_code<A: Allocator, W: Sink>(
     code: (CodeId, Option<Bounds>),
     sink: &mut W,
 ) -> Result<(), WriteFault>
-    ensures { Wrote (W.taken sink.old) (W.taken sink.new) (W.failed sink.old) (W.failed sink.new)
+    ensures { Wrote W.taken W.failed sink.old sink.new
         (code_line plan.now code) result }
 {
     write_bounds(b"CODE ", plan.code_figures(code.0), code.1, sink)
@@ -82,7 +82,7 @@ fn write_why<A: Allocator, W: Sink>(
     findings: &[Finding<A>],
     sink: &mut W,
 ) -> Result<(), WriteFault>
-    ensures { Wrote (W.taken sink.old) (W.taken sink.new) (W.failed sink.old) (W.failed sink.new)
+    ensures { Wrote W.taken W.failed sink.old sink.new
         (why_text plan.now bounds findings.now) result }
 {
     match bounds {

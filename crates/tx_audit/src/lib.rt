@@ -1,4 +1,5 @@
-//! The audit of a plan and its report, the text of a grade, the events that show what is wrong, and runs of scripts, also after a check.
+//! The audit of a plan and its report, the text of a grade, the events that show what is wrong, and
+//! runs over the engine: of a list of events, of a script, and of a script after a check.
 #![tactic(auto)]
 
 mod audited;
@@ -6,10 +7,10 @@ mod auditor;
 mod checked;
 mod checked_run;
 mod counters;
-mod event_rules;
 mod first;
 mod free_line;
 mod grade_text;
+mod playing;
 mod report;
 mod script_writer;
 mod simulating;
@@ -23,6 +24,9 @@ pub use checked_run::run_checked;
 pub use counters::counter;
 pub use first::first_counter;
 pub use grade_text::write_grade;
-pub use report::{write_findings, write_steps, write_verdict};
+pub use playing::{Played, play};
+pub use report::{
+    write_asked, write_finding, write_findings, write_no, write_steps, write_verdict,
+};
 pub use script_writer::write_counter;
 pub use simulating::simulate;

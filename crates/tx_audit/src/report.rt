@@ -1,14 +1,14 @@
 // The writer of reports.
-ghost use Rattle.std.specs.Prelude.{◌≡◌, length, ◌++◌, codes};
+ghost use Rattle.std.specs.Prelude.{◌++◌, codes};
 ghost use Rattle.std.specs.List.{flat_map};
 ghost use Rattle.tx_text.specs.Wrote.{Wrote};
-ghost use Rattle.tx_audit.specs.Report.{head_line, step_text, walk_text, finding_line, verdict_line, report};
+ghost use Rattle.tx_audit.specs.Report.{asked_line, step_text, walk_text, finding_line, no_line, verdict_line, report};
 
 use itoa::Buffer;
 use std::alloc::Allocator;
 use tx_plan::{CodeId, ExchangeId, GroupId, Plan};
 use tx_rank::{Finding, Walk};
-use tx_text::{Sink, WriteFault, write_text};
+use tx_text::{Sink, WriteFault, write_parts};
 
 /// Writes what was asked, a line for each finding, and the verdict.
 pub(crate) fn write_report<A: Allocator, W: Sink>(
@@ -18,33 +18,48 @@ pub(crate) fn write_report<A: Allocator, W: Sink>(
     spare: u8,
     sink: &mut W,
 ) -> Result<(), WriteFault>
-    ensures { Wrote (W.taken sink.old) (W.taken sink.new) (W.failed sink.old) (W.failed sink.new) (report plan.now limit spare findings.now) result }
+    ensures { Wrote W.taken W.failed sink.old sink.new
+        (report plan.now limit spare findings.now) result }
 {
-    write_head(limit, spare, sink)?;
+    write_asked(b"AUDIT", limit, spare, sink)?;
     write_findings(plan, findings, sink)?;
     write_verdict(findings.len(), sink)
 }
 
-fn write_head<W: Sink>(limit: u8, spare: u8, sink: &mut W) -> Result<(), WriteFault>
-    ensures { Wrote (W.taken sink.old) (W.taken sink.new) (W.failed sink.old) (W.failed sink.new) (head_line limit spare) result }
+/// Writes the first line of a report: its word, and the limit and the spare number that were asked.
+pub fn write_asked<W: Sink>(
+    word: &[u8],
+    limit: u8,
+    spare: u8,
+    sink: &mut W,
+) -> Result<(), WriteFault>
+    ensures { Wrote W.taken W.failed sink.old sink.new (asked_line word.now limit spare) result }
 {
     let mut transits = Buffer::new();
     let mut groups = Buffer::new();
     let limit = transits.format(limit).as_bytes();
     let spare = groups.format(spare).as_bytes();
-    write_text(&[b"AUDIT LIMIT ", limit, b" SPARE ", spare, b"\n"], sink)
+    write_parts(&[word, b" LIMIT ", limit, b" SPARE ", spare, b"\n"], sink)
 }
 
 /// Writes YES, or NO with the number of findings.
 pub fn write_verdict<W: Sink>(count: usize, sink: &mut W) -> Result<(), WriteFault>
-    ensures { Wrote (W.taken sink.old) (W.taken sink.new) (W.failed sink.old) (W.failed sink.new) (verdict_line count) result }
+    ensures { Wrote W.taken W.failed sink.old sink.new (verdict_line count) result }
 {
     if count == 0 {
-        return write_text(&[b"VERDICT YES\n"], sink);
+        write_parts(&[b"VERDICT YES\n"], sink)
+    } else {
+        write_no(count, sink)
     }
+}
+
+/// Writes NO with the number of the lines before.
+pub fn write_no<W: Sink>(count: usize, sink: &mut W) -> Result<(), WriteFault>
+    ensures { Wrote W.taken W.failed sink.old sink.new (no_line count) result }
+{
     let mut buffer = Buffer::new();
     let count = buffer.format(count).as_bytes();
-    write_text(&[b"VERDICT NO ", count, b"\n"], sink)
+    write_parts(&[b"VERDICT NO ", count, b"\n"], sink)
 }
 
 /// Writes a line for each finding.
@@ -53,7 +68,8 @@ pub fn write_findings<A: Allocator, W: Sink>(
     findings: &[Finding<A>],
     sink: &mut W,
 ) -> Result<(), WriteFault>
-    ensures { Wrote (W.taken sink.old) (W.taken sink.new) (W.failed sink.old) (W.failed sink.new) (flat_map (finding_line plan.now) findings.now) result }
+    ensures { Wrote W.taken W.failed sink.old sink.new
+        (flat_map (finding_line plan.now) findings.now) result }
 {
     for i in 0..findings.len() {
         write_finding(plan, &findings[i], sink)?;
@@ -61,18 +77,19 @@ pub fn write_findings<A: Allocator, W: Sink>(
     Ok(())
 }
 
-fn write_finding<A: Allocator, W: Sink>(
+/// Writes the line of a finding.
+pub fn write_finding<A: Allocator, W: Sink>(
     plan: &Plan<A>,
     finding: &Finding<A>,
     sink: &mut W,
 ) -> Result<(), WriteFault>
-    ensures { Wrote (W.taken sink.old) (W.taken sink.new) (W.failed sink.old) (W.failed sink.new) (finding_line plan.now finding.now) result }
+    ensures { Wrote W.taken W.failed sink.old sink.new (finding_line plan.now finding.now) result }
 {
     match finding {
         Finding::Ambiguous(shorter, longer) => {
             let shorter = plan.code_figures(*shorter);
             let longer = plan.code_figures(*longer);
-            write_text(&[b"F1 AMBIGUOUS ", shorter, b" ", longer, b"\n"], sink)
+            write_parts(&[b"F1 AMBIGUOUS ", shorter, b" ", longer, b"\n"], sink)
         }
         Finding::Loop(code, walk) => write_walk(b"F2 LOOP ", plan, *code, walk, sink),
         Finding::Short(code, walk) => write_walk(b"F3 SHORT ", plan, *code, walk, sink),
@@ -80,7 +97,8 @@ fn write_finding<A: Allocator, W: Sink>(
     }
 }
 
-/// Writes the head of a line, a code and the exchanges of a walk with the groups between them, and the end of the line.
+/// Writes the head of a line, a code and the exchanges of a walk with the groups between them, and
+/// the end of the line.
 fn write_walk<A: Allocator, W: Sink>(
     head: &[u8],
     plan: &Plan<A>,
@@ -88,10 +106,11 @@ fn write_walk<A: Allocator, W: Sink>(
     walk: &Walk<A>,
     sink: &mut W,
 ) -> Result<(), WriteFault>
-    ensures { Wrote (W.taken sink.old) (W.taken sink.new) (W.failed sink.old) (W.failed sink.new) (head.now ++ walk_text plan.now code walk.now) result }
+    ensures { Wrote W.taken W.failed sink.old sink.new
+        (head.now ++ walk_text plan.now code walk.now) result }
 {
     let code = plan.code_figures(code);
-    write_text(
+    write_parts(
         &[head, code, b" VIA ", plan.exchange_name(walk.start)],
         sink,
     )?;
@@ -104,12 +123,13 @@ pub fn write_steps<A: Allocator, W: Sink>(
     steps: &[(GroupId, ExchangeId)],
     sink: &mut W,
 ) -> Result<(), WriteFault>
-    ensures { Wrote (W.taken sink.old) (W.taken sink.new) (W.failed sink.old) (W.failed sink.new) (flat_map (step_text plan.now) steps.now ++ codes "\n") result }
+    ensures { Wrote W.taken W.failed sink.old sink.new
+        (flat_map (step_text plan.now) steps.now ++ codes "\n") result }
 {
     for i in 0..steps.len() {
         write_step(plan, steps[i], sink)?;
     }
-    write_text(&[b"\n"], sink)
+    write_parts(&[b"\n"], sink)
 }
 
 fn write_step<A: Allocator, W: Sink>(
@@ -117,8 +137,8 @@ fn write_step<A: Allocator, W: Sink>(
     step: (GroupId, ExchangeId),
     sink: &mut W,
 ) -> Result<(), WriteFault>
-    ensures { Wrote (W.taken sink.old) (W.taken sink.new) (W.failed sink.old) (W.failed sink.new) (step_text plan.now step) result }
+    ensures { Wrote W.taken W.failed sink.old sink.new (step_text plan.now step) result }
 {
     let group = plan.group_name(step.0);
-    write_text(&[b" ", group, b" ", plan.exchange_name(step.1)], sink)
+    write_parts(&[b" ", group, b" ", plan.exchange_name(step.1)], sink)
 }

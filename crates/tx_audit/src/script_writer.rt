@@ -7,36 +7,30 @@ ghost use Rattle.tx_script.specs.Events.{IsWritable, event_text};
 ghost use Rattle.tx_script.specs.Script.{script_of, whole};
 ghost use Rattle.tx_audit.specs.Scripts.{script_written};
 
-use crate::event_rules::all_event_rules;
 use std::alloc::Allocator;
+use tx_machine::Event;
 use tx_plan::Plan;
 use tx_script::write_event;
-use tx_state::Event;
 use tx_text::{Sink, WriteFault, write_bytes};
 
-/// Writes a script of the events: the header, a line for each event, and END. The plan has the events' ids, and their circuits have numbers from 1 to
-/// 240. The script says these events again. Stops where the sink fails.
+/// Writes a script of the events: the header, a line for each event, and END. The plan has the
+/// events' ids, and their circuits have numbers from 1 to 240. The script says these events again.
+/// Stops where the sink fails.
 pub fn write_counter<A: Allocator, W: Sink>(
     plan: &Plan<A>,
     events: &[Event],
     sink: &mut W,
 ) -> Result<(), WriteFault>
     requires { AllByRecursion (IsWritable plan.now) events.now }
-    ensures wrote { Wrote (W.taken sink.old) (W.taken sink.new) (W.failed sink.old) (W.failed sink.new) (script_written plan.now events.now) result }
-    ensures says { script_of plan.now AtEnd (script_written plan.now events.now) ≡ whole events.now }
+    ensures wrote { Wrote W.taken W.failed sink.old sink.new
+        (script_written plan.now events.now) result }
+    ensures says { script_of plan.now AtEnd (script_written plan.now events.now)
+        ≡ whole events.now }
 {
     plan.rules();
-    all_event_rules(events);
-    write_text(b"SCRIPT 1\n", sink)?;
+    write_bytes(b"SCRIPT 1\n", sink)?;
     write_events(plan, events, sink)?;
-    write_text(b"END\n", sink)
-}
-
-/// Writes a text.
-fn write_text<W: Sink>(text: &[u8], sink: &mut W) -> Result<(), WriteFault>
-    ensures { Wrote (W.taken sink.old) (W.taken sink.new) (W.failed sink.old) (W.failed sink.new) text.now result }
-{
-    write_bytes(text, sink)
+    write_bytes(b"END\n", sink)
 }
 
 /// Writes a line for each event.
@@ -46,7 +40,8 @@ fn write_events<A: Allocator, W: Sink>(
     sink: &mut W,
 ) -> Result<(), WriteFault>
     requires { AllByRecursion (IsWritable plan.now) events.now }
-    ensures { Wrote (W.taken sink.old) (W.taken sink.new) (W.failed sink.old) (W.failed sink.new) (flat_map (event_text plan.now) events.now) result }
+    ensures { Wrote W.taken W.failed sink.old sink.new
+        (flat_map (event_text plan.now) events.now) result }
 {
     for i in 0..events.len() {
         write_event(&events[i], plan, sink)?;

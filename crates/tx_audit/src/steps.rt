@@ -1,11 +1,11 @@
 // The events of the steps of a walk.
 ghost use Rattle.std.specs.Prelude.{◌≡◌, ◌++◌, map, IfOk};
-ghost use Rattle.tx_state.specs.declared.event.Event.TheVariants.{Block, Unblock};
+ghost use Rattle.tx_machine.specs.declared.event.Event.TheVariants.{Block, Unblock};
 ghost use Rattle.tx_audit.specs.Counter.{listed_before, step_events, walk_events, shut_events};
 
 use std::alloc::Allocator;
+use tx_machine::Event;
 use tx_plan::{CodeId, ExchangeId, GroupId, Plan};
-use tx_state::Event;
 use tx_text::NoMemory;
 
 /// The groups that a list has before one of them.
@@ -67,7 +67,8 @@ pub(crate) fn push_walk<A: Allocator>(
     steps: &[(GroupId, ExchangeId)],
     events: &mut Vec<Event, A>,
 ) -> Result<(), NoMemory>
-    ensures { IfOk result (λ _. events.new.items ≡ events.old.items ++ walk_events plan.now code start steps.now) }
+    ensures { IfOk result (λ _. events.new.items
+        ≡ events.old.items ++ walk_events plan.now code start steps.now) }
 {
     let mut at = start;
     for step in steps {
@@ -78,13 +79,14 @@ pub(crate) fn push_walk<A: Allocator>(
 }
 
 /// All groups that the exchange lists for the code are blocked, and the call is routed.
-pub(crate) fn push_shut<A: Allocator>(
+pub(crate) fn push_block_all<A: Allocator>(
     plan: &Plan<A>,
     code: CodeId,
     exchange: ExchangeId,
     events: &mut Vec<Event, A>,
 ) -> Result<(), NoMemory>
-    ensures { IfOk result (λ _. events.new.items ≡ events.old.items ++ shut_events plan.now code exchange) }
+    ensures { IfOk result (λ _. events.new.items
+        ≡ events.old.items ++ shut_events plan.now code exchange) }
 {
     push_blocks(plan.list(exchange, code), events)?;
     events.push(Event::Route(1))?;

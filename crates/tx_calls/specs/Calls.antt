@@ -1,12 +1,13 @@
--- What contracts see of the open calls: what is kept under each key, and the calls in order of their numbers.
+-- What contracts see of the open calls: what is kept under each key, and the calls in order of
+-- their numbers.
 use Rattle.std.specs.Prelude.{◌≡◌, ◌≢◌, ℕ, ◌-◌, ◌<◌, List, [], ◌∷◌, map, nat_lt, if◌then◌else◌, Option, Some, None, slice_index_or, vec_len, vec_capacity}
 use Rattle.std.specs.Option.{option_map}
 use Rattle.slab.specs.Slab.{Slab, slab_len}
 use Rattle.indexmap.specs.IndexMap as index
 use Rattle.indexmap.specs.IndexMap.{IndexMap}
-use Rattle.tx_state.specs.Call.{Call}
-use Rattle.tx_state.specs.Seen.{call_seen}
-use Rattle.tx_state.specs.declared.open_call.OpenCall.{OpenCall}
+use Rattle.tx_machine.specs.Call.{Call}
+use Rattle.tx_machine.specs.Seen.{call_seen}
+use Rattle.tx_machine.specs.declared.open_call.OpenCall.{OpenCall}
 
 -- an open call, and the room for more hops of it
 pub record Kept : Type 0 where
@@ -38,6 +39,7 @@ abbrev pub put_call : Call → List Call → List Call
 put_call c [] = c ∷ []
 put_call c (d ∷ ds) = if nat_lt c.number d.number then c ∷ d ∷ ds else d ∷ put_call c ds
 
+-- the calls that are kept, in order of their numbers
 abbrev pub sorted_calls : List (Option Kept) → List Call
 sorted_calls [] = []
 sorted_calls (None ∷ slots) = sorted_calls slots
@@ -47,13 +49,19 @@ sorted_calls (Some k ∷ slots) = put_call k.call (sorted_calls slots)
 abbrev pub calls_in : Calls → List Call
 calls_in v = sorted_calls v.slots
 
--- HOW THEY ARE KEPT
+-- a call as it is kept: what is seen of it, and how many more hops have room
 abbrev pub kept_of : {A : Type 0} → OpenCall A → Kept
 kept_of c = record { call = call_seen c; room = vec_capacity c.hops - vec_len c.hops }
 
 module _ {A : Type 0} where
+  -- what a slab of calls has under each key
   abbrev pub slots_of : Slab (OpenCall A) → List (Option Kept)
   slots_of s = map (option_map kept_of) s.slots
 
+  -- what a slab of calls and an index by number come to
   abbrev pub calls_of : {S : Type 0} → Slab (OpenCall A) → IndexMap ℕ ℕ S → Calls
-  calls_of s m = record { slots = slots_of s; call_room = s.capacity - slab_len s; number_room = index.spare m }
+  calls_of s m = record {
+    slots = slots_of s;
+    call_room = s.capacity - slab_len s;
+    number_room = index.spare m;
+  }

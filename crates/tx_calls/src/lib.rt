@@ -2,7 +2,6 @@
 #![tactic(auto)]
 
 mod circuit_keys;
-mod end_keys;
 mod open_calls;
 
 pub use circuit_keys::CircuitKeys;

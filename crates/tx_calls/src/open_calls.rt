@@ -1,25 +1,25 @@
 // The open calls, under keys and by number.
-ghost use Rattle.std.specs.Prelude.{◌≡◌, ◌<◌, ◌≤◌, ◌↔◌, ◌+◌, ◌++◌, ◌∷◌, [], ℕ, not, filter, length, IsTrue, IsOk, OnOk, IfSome, IfNone, Some, None, is_some, true, vec_len, vec_capacity};
-ghost use Rattle.tx_state.specs.Call.{Call, call_of, is_numbered};
+ghost use Rattle.std.specs.Prelude.{◌≡◌, ◌<◌, ◌≤◌, ◌+◌, ◌++◌, ◌∷◌, [], ℕ, not, filter, length, IsOk, OnOk, IfSome, IfNone, Some, None, is_some, true, vec_len, vec_capacity};
+ghost use Rattle.tx_machine.specs.Call.{Call, call_of, is_numbered};
 ghost use Rattle.tx_plan.specs.Among.{Among};
-ghost use Rattle.tx_state.specs.Routing.{in_phase, set_call};
-ghost use Rattle.tx_state.specs.Confirming.{carried_on, thrown_back};
+ghost use Rattle.tx_machine.specs.Routing.{in_phase, set_call};
+ghost use Rattle.tx_machine.specs.Confirming.{carried_on, thrown_back};
 ghost use Rattle.slab.specs.Slab.{get, HasRoomFor, Updates};
-ghost use Rattle.tx_state.specs.declared.phase.Phase.TheVariants.{Standing};
-ghost use Rattle.tx_state.specs.declared.open_call.OpenCall.{OpenCall};
+ghost use Rattle.tx_machine.specs.declared.open_call.Phase.TheVariants.{Standing};
+ghost use Rattle.tx_machine.specs.declared.open_call.OpenCall.{OpenCall};
 ghost use Rattle.tx_calls.specs.Calls.{Kept, HasRoom, kept_at, Changes, calls_in, kept_of};
-ghost use Rattle.tx_state.specs.Seen.{call_seen};
+ghost use Rattle.tx_machine.specs.Seen.{call_seen};
 
 use indexmap::IndexMap;
 use slab::Slab;
 use std::alloc::{Allocator, Global};
 use std::marker::Model;
-use tx_entries::ByWord;
-use tx_state::{Hop, OpenCall, Phase};
+use tx_machine::{Hop, OpenCall, Phase};
+use tx_plan::ByWord;
 use tx_text::NoMemory;
 
 /// The open calls. Each has a key from its opening to its end, and is found by its number.
-#[derive(Drop)]
+#[derive(Debug, Drop)]
 pub struct OpenCalls<A: Allocator = Global> {
     calls: Slab<OpenCall<A>, A>,
     by_number: IndexMap<u32, usize, ByWord, A>,
@@ -56,18 +56,12 @@ impl<A: Allocator> OpenCalls<A> {
         self.calls.len()
     }
 
-    /// Whether there is room for one more call.
-    pub fn has_room(&self) -> bool
-        ensures { IsTrue result ↔ HasRoom self.now }
-    {
-        self.calls.len() < self.calls.capacity() && self.by_number.len() < self.by_number.capacity()
-    }
-
-    /// Makes room for one more call. Where there is some, no memory is asked for. Want of memory
+    /// Makes room for one more call. Where there is some, no memory is asked for. Lack of memory
     /// changes no call.
     pub fn reserve_one(&mut self) -> Result<(), NoMemory>
         ensures ok { OnOk result (HasRoom self.new) }
-        ensures rest { self.new ≡ record self.old { call_room = self.new.call_room; number_room = self.new.number_room } }
+        ensures rest { self.new ≡ record self.old
+            { call_room = self.new.call_room; number_room = self.new.number_room } }
         ensures unasked { HasRoom self.old → IsOk result × (self.new ≡ self.old) }
     {
         self.calls.reserve(1)?;
@@ -79,7 +73,8 @@ impl<A: Allocator> OpenCalls<A> {
 
     /// The key of the call of a number.
     pub fn find(&self, number: u32) -> Option<usize>
-        ensures found { IfSome result (λ key. (k : Kept) × (kept_at self.now key ≡ Some k) × (call_of number (calls_in self.now) ≡ Some k.call) × (k.call.number ≡ number)) }
+        ensures found { IfSome result (λ key. (k : Kept) × (kept_at self.now key ≡ Some k)
+            × (call_of number (calls_in self.now) ≡ Some k.call) × (k.call.number ≡ number)) }
         ensures none { IfNone result (call_of number (calls_in self.now) ≡ None) }
     {
         match self.by_number.get(&number) {
@@ -103,7 +98,8 @@ impl<A: Allocator> OpenCalls<A> {
     pub fn open(&mut self, call: OpenCall<A>)
         requires room { HasRoom self.old }
         requires next { (d : Call) → Among d (calls_in self.old) → d.number < call.number }
-        ensures changes { (key : ℕ) × (kept_at self.old key ≡ None) × Changes self.old self.new key (Some (kept_of call)) }
+        ensures changes { (key : ℕ) × (kept_at self.old key ≡ None)
+            × Changes self.old self.new key (Some (kept_of call)) }
         ensures calls { calls_in self.new ≡ calls_in self.old ++ call_seen call ∷ [] }
     {
         let number = call.number;
@@ -114,16 +110,21 @@ impl<A: Allocator> OpenCalls<A> {
     /// The call under a key goes to another phase.
     pub fn set_phase(&mut self, key: usize, phase: Phase)
         requires { is_some (kept_at self.old key) ≡ true }
-        ensures changes { (k : Kept) → kept_at self.old key ≡ Some k → Changes self.old self.new key (Some (record k { call = in_phase phase k.call })) }
-        ensures calls { (k : Kept) → kept_at self.old key ≡ Some k → calls_in self.new ≡ set_call k.call.number (in_phase phase) (calls_in self.old) }
+        ensures changes { (k : Kept) → kept_at self.old key ≡ Some k
+            → Changes self.old self.new key (Some (record k { call = in_phase phase k.call })) }
+        ensures calls { (k : Kept) → kept_at self.old key ≡ Some k
+            → calls_in self.new ≡ set_call k.call.number (in_phase phase) (calls_in self.old) }
     {
         write_phase(&mut self.calls, key, phase);
     }
 
-    /// Makes room for one more hop of the call under a key. Where there is some, no memory is asked for.
+    /// Makes room for one more hop of the call under a key. Where there is some, no memory is asked
+    /// for.
     pub fn reserve_hop(&mut self, key: usize) -> Result<(), NoMemory>
         requires { is_some (kept_at self.old key) ≡ true }
-        ensures changes { (k : Kept) → kept_at self.old key ≡ Some k → (r : ℕ) × Changes self.old self.new key (Some (record k { room = r })) × (k.room ≤ r) × OnOk result (0 < r) × (0 < k.room → IsOk result × (r ≡ k.room)) }
+        ensures changes { (k : Kept) → kept_at self.old key ≡ Some k
+            → (r : ℕ) × Changes self.old self.new key (Some (record k { room = r }))
+            × (k.room ≤ r) × OnOk result (0 < r) × (0 < k.room → IsOk result × (r ≡ k.room)) }
         ensures calls { calls_in self.new ≡ calls_in self.old }
     {
         more_hops(&mut self.calls, key)
@@ -133,8 +134,11 @@ impl<A: Allocator> OpenCalls<A> {
     pub fn go_on(&mut self, key: usize, hop: Hop)
         requires there { is_some (kept_at self.old key) ≡ true }
         requires room { (k : Kept) → kept_at self.old key ≡ Some k → 0 < k.room }
-        ensures changes { (k : Kept) → kept_at self.old key ≡ Some k → (r : ℕ) × Changes self.old self.new key (Some (record { call = carried_on hop.circuit hop.far k.call; room = r })) }
-        ensures calls { (k : Kept) → kept_at self.old key ≡ Some k → calls_in self.new ≡ set_call k.call.number (carried_on hop.circuit hop.far) (calls_in self.old) }
+        ensures changes { (k : Kept) → kept_at self.old key ≡ Some k
+            → (r : ℕ) × Changes self.old self.new key
+            (Some (record { call = carried_on hop.circuit hop.far k.call; room = r })) }
+        ensures calls { (k : Kept) → kept_at self.old key ≡ Some k → calls_in self.new
+            ≡ set_call k.call.number (carried_on hop.circuit hop.far) (calls_in self.old) }
     {
         add_hop(&mut self.calls, key, hop);
     }
@@ -142,8 +146,10 @@ impl<A: Allocator> OpenCalls<A> {
     /// The call under a key is thrown back to where it stands.
     pub fn throw_back(&mut self, key: usize)
         requires { is_some (kept_at self.old key) ≡ true }
-        ensures changes { (k : Kept) → kept_at self.old key ≡ Some k → Changes self.old self.new key (Some (record k { call = thrown_back k.call })) }
-        ensures calls { (k : Kept) → kept_at self.old key ≡ Some k → calls_in self.new ≡ set_call k.call.number thrown_back (calls_in self.old) }
+        ensures changes { (k : Kept) → kept_at self.old key ≡ Some k
+            → Changes self.old self.new key (Some (record k { call = thrown_back k.call })) }
+        ensures calls { (k : Kept) → kept_at self.old key ≡ Some k
+            → calls_in self.new ≡ set_call k.call.number thrown_back (calls_in self.old) }
     {
         write_collision(&mut self.calls, key);
     }
@@ -153,7 +159,8 @@ impl<A: Allocator> OpenCalls<A> {
         requires { is_some (kept_at self.old key) ≡ true }
         ensures value { kept_at self.old key ≡ Some (kept_of result) }
         ensures changes { Changes self.old self.new key None }
-        ensures calls { calls_in self.new ≡ filter (λ c. not (is_numbered result.number c)) (calls_in self.old) }
+        ensures calls { calls_in self.new
+            ≡ filter (λ c. not (is_numbered result.number c)) (calls_in self.old) }
     {
         let call = self.calls.try_remove(key).unwrap();
         let _key = self.by_number.swap_remove(&call.number);
@@ -172,7 +179,8 @@ fn put_in<A: Allocator>(calls: &mut Slab<OpenCall<A>, A>, call: OpenCall<A>) -> 
 
 /// The call is in another phase.
 fn write_phase<A: Allocator>(calls: &mut Slab<OpenCall<A>, A>, key: usize, phase: Phase)
-    ensures { (c : OpenCall A) → get calls.old key ≡ Some c → Updates calls.old calls.new key (Some (record c { phase = phase })) }
+    ensures { (c : OpenCall A) → get calls.old key ≡ Some c
+        → Updates calls.old calls.new key (Some (record c { phase = phase })) }
 {
     if let Some(call) = calls.get_mut(key) {
         call.phase = phase;
@@ -181,7 +189,8 @@ fn write_phase<A: Allocator>(calls: &mut Slab<OpenCall<A>, A>, key: usize, phase
 
 /// The call stands, and has collided.
 fn write_collision<A: Allocator>(calls: &mut Slab<OpenCall<A>, A>, key: usize)
-    ensures { (c : OpenCall A) → get calls.old key ≡ Some c → Updates calls.old calls.new key (Some (record c { phase = Standing; collided = true })) }
+    ensures { (c : OpenCall A) → get calls.old key ≡ Some c
+        → Updates calls.old calls.new key (Some (record c { phase = Standing; collided = true })) }
 {
     if let Some(call) = calls.get_mut(key) {
         call.phase = Phase::Standing;
@@ -189,13 +198,15 @@ fn write_collision<A: Allocator>(calls: &mut Slab<OpenCall<A>, A>, key: usize)
     }
 }
 
-/// Makes room for one more hop: for two at first, since few calls have a third, and then for as many again.
+/// Makes room for one more hop: for two at first, since few calls have a third, and then for as
+/// many again.
 fn more_room<A: Allocator>(hops: &mut Vec<Hop, A>) -> Result<(), NoMemory>
     ensures items { hops.new.items ≡ hops.old.items }
     ensures len { vec_len hops.new ≡ vec_len hops.old }
     ensures capacity { vec_capacity hops.old ≤ vec_capacity hops.new }
     ensures ok { OnOk result (vec_len hops.new < vec_capacity hops.new) }
-    ensures unasked { vec_len hops.old < vec_capacity hops.old → IsOk result × (vec_capacity hops.new ≡ vec_capacity hops.old) }
+    ensures unasked { vec_len hops.old < vec_capacity hops.old
+        → IsOk result × (vec_capacity hops.new ≡ vec_capacity hops.old) }
 {
     let len = hops.len();
     if len < hops.capacity() {
@@ -208,7 +219,10 @@ fn more_room<A: Allocator>(hops: &mut Vec<Hop, A>) -> Result<(), NoMemory>
 
 /// There is room for one more hop of the call.
 fn more_hops<A: Allocator>(calls: &mut Slab<OpenCall<A>, A>, key: usize) -> Result<(), NoMemory>
-    ensures { (c : OpenCall A) → get calls.old key ≡ Some c → (d : OpenCall A) × Updates calls.old calls.new key (Some d) × (call_seen d ≡ call_seen c) × ((kept_of c).room ≤ (kept_of d).room) × OnOk result (0 < (kept_of d).room) × (0 < (kept_of c).room → IsOk result × ((kept_of d).room ≡ (kept_of c).room)) }
+    ensures { (c : OpenCall A) → get calls.old key ≡ Some c
+        → (d : OpenCall A) × Updates calls.old calls.new key (Some d) × (call_seen d ≡ call_seen c)
+        × ((kept_of c).room ≤ (kept_of d).room) × OnOk result (0 < (kept_of d).room)
+        × (0 < (kept_of c).room → IsOk result × ((kept_of d).room ≡ (kept_of c).room)) }
 {
     if let Some(call) = calls.get_mut(key) {
         more_room(&mut call.hops)?;
@@ -219,7 +233,8 @@ fn more_hops<A: Allocator>(calls: &mut Slab<OpenCall<A>, A>, key: usize) -> Resu
 /// The call has one hop more, and stands.
 fn add_hop<A: Allocator>(calls: &mut Slab<OpenCall<A>, A>, key: usize, hop: Hop)
     requires { (c : OpenCall A) → get calls.old key ≡ Some c → 0 < (kept_of c).room }
-    ensures { (c : OpenCall A) → get calls.old key ≡ Some c → (d : OpenCall A) × Updates calls.old calls.new key (Some d) × (call_seen d ≡ carried_on hop.circuit hop.far (call_seen c)) }
+    ensures { (c : OpenCall A) → get calls.old key ≡ Some c → (d : OpenCall A) × Updates calls.old
+        calls.new key (Some d) × (call_seen d ≡ carried_on hop.circuit hop.far (call_seen c)) }
 {
     if let Some(call) = calls.get_mut(key) {
         call.hops.push_reserved(hop);

@@ -1,3 +1,4 @@
+pub mod Counts
 pub mod Pairs
 pub mod Tables
 pub mod Ranks

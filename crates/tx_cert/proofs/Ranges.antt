@@ -1,11 +1,12 @@
 -- What is written at each place of a plan, one after another.
-use Rattle.std.proofs.Common.{◌≡◌, ℕ, zero, suc, ◌+◌, ◌-◌, ◌<◌, List, ◌∷◌, ◌++◌, Option, refl, sym, ap, ◌∙◌, subst, arith, append-nil}
-use Rattle.std.specs.Io.KnownBytes.{append_known}
+use Rattle.std.proofs.Common.{◌≡◌, ℕ, zero, suc, ◌+◌, ◌-◌, ◌<◌, Bool, List, ◌∷◌, ◌++◌, Option, Ok, Err, refl, ap, ◌∙◌, subst, arith, append-nil}
+use Rattle.std.specs.Prelude.{IsErr}
 use Rattle.std.specs.List.{flat_map, range_with_len}
 use Rattle.std.proofs.lemmas.List.Concat.{flat_map-append}
-use Rattle.tx_text.specs.Ends.{StopsIn}
+use Rattle.tx_text.specs.declared.sink.WriteFault.{WriteFault}
 use Rattle.tx_text.specs.Written.{line_written}
-use Rattle.tx_text.proofs.Writing.{append_known_twice, stops_first, stops_later}
+use Rattle.tx_text.specs.Wrote.{WroteBy}
+use Rattle.tx_text.proofs.Wrote.{Outcome, wrote_then, wrote_first, text_is}
 
 range_split : (a m n : ℕ) → range_with_len a (m + n) ≡ range_with_len a m ++ range_with_len (a + m) n
 range_split a zero n =
@@ -32,26 +33,29 @@ module _ {A : Type 0} (f : ℕ → List A) where
       ap (λ k. flat_map f (range_with_len 0 k)) e ∙ ap (flat_map f) (range_split 0 i (suc (n - (i + 1))))
       ∙ flat_map-append f (range_with_len 0 i) (range_with_len (0 + i) (suc (n - (i + 1)))) ∙ rw s refl
 
--- what follows what was written
-pub wrote_three : (a b c d : Option (List ℕ)) (s t u : List ℕ) → b ≡ append_known a s → c ≡ append_known b t → d ≡ append_known c u → d ≡ append_known a (s ++ (t ++ u))
-wrote_three a b c d s t u h k l = l ∙ ap (λ o. append_known o u) k ∙ append_known_twice b t u ∙ ap (λ o. append_known o (t ++ u)) h ∙ append_known_twice a s (t ++ u)
-
 module _ (f : ℕ → List (List (List ℕ))) where
+  -- the lines of the places before one
+  abbrev lines : ℕ → List ℕ
+  lines i = flat_map line_written (flat_map f (range_with_len 0 i))
+
   -- the lines of one place more were written
-  pub wrote_more : (i x : ℕ) (a b c : Option (List ℕ)) → x ≡ i → b ≡ append_known a (flat_map line_written (flat_map f (range_with_len 0 i))) → c ≡ append_known b (flat_map line_written (f x))
-      → c ≡ append_known a (flat_map line_written (flat_map f (range_with_len 0 (i + 1))))
-  wrote_more i x a b c e h k =
-      k ∙ ap (λ n. append_known b (flat_map line_written (f n))) e ∙ ap (λ o. append_known o (flat_map line_written (f i))) h
-      ∙ append_known_twice a (flat_map line_written (flat_map f (range_with_len 0 i))) (flat_map line_written (f i))
-      ∙ ap (append_known a) (sym (ap (flat_map line_written) (flat_map-range_more f i) ∙ flat_map-append line_written (flat_map f (range_with_len 0 i)) (f i)))
+  pub lines_more : (i x : ℕ) (a b c : Option (List ℕ)) (k m n : Bool) → x ≡ i → WroteBy a b k m (lines i) (Ok tt) → WroteBy b c m n (flat_map line_written (f x)) (Ok tt) → WroteBy a c k n (lines (i + 1)) (Ok tt)
+  lines_more i x a b c k m n e v w =
+      let more : lines (i + 1) ≡ lines i ++ flat_map line_written (f i) = ap (λ l. flat_map line_written l) (flat_map-range_more f i) ∙ flat_map-append line_written (flat_map f (range_with_len 0 i)) (f i) in
+      text_is a c k n (lines (i + 1)) (lines i ++ flat_map line_written (f i)) (Ok tt) more
+      (wrote_then a b c k m n (lines i) (flat_map line_written (f i)) (Ok tt) v (subst (λ (j : ℕ). WroteBy b c m n (flat_map line_written (f j)) (Ok tt)) e w))
 
   -- a stop in the lines of a place: those before it were written
-  pub stops_in_range : (i n x : ℕ) (a b c : Option (List ℕ)) → i < n → x ≡ i → b ≡ append_known a (flat_map line_written (flat_map f (range_with_len 0 i))) → StopsIn b c (flat_map line_written (f x))
-      → StopsIn a c (flat_map line_written (flat_map f (range_with_len 0 n)))
-  stops_in_range i n x a b c lt e h s =
+  pub lines_stopped : (i n x : ℕ) (a b c : Option (List ℕ)) (k m o : Bool) (r : Outcome) (fault : WriteFault) → i < n → x ≡ i → WroteBy a b k m (lines i) (Ok tt) → WroteBy b c m o (flat_map line_written (f x)) (Err fault) → IsErr r → WroteBy a c k o (lines n) r
+  lines_stopped i n x a b c k m o r fault lt e v w bad =
       let rest = flat_map f (range_with_len (i + 1) (n - (i + 1))) in
-      let t : flat_map line_written (flat_map f (range_with_len 0 n)) ≡ flat_map line_written (flat_map f (range_with_len 0 i)) ++ (flat_map line_written (f i) ++ flat_map line_written rest) =
-      ap (flat_map line_written) (flat_map-range_at f i n lt) ∙ flat_map-append line_written (flat_map f (range_with_len 0 i)) (f i ++ rest)
-      ∙ ap (λ l. flat_map line_written (flat_map f (range_with_len 0 i)) ++ l) (flat_map-append line_written (f i) rest) in
-      let q = subst (λ n. StopsIn b c (flat_map line_written (f n))) e s in
-      rw t (stops_later (flat_map line_written (flat_map f (range_with_len 0 i))) h (stops_first (flat_map line_written rest) q))
+      let t : lines n ≡ lines i ++ (flat_map line_written (f i) ++ flat_map line_written rest) =
+      ap (λ l. flat_map line_written l) (flat_map-range_at f i n lt) ∙ flat_map-append line_written (flat_map f (range_with_len 0 i)) (f i ++ rest)
+      ∙ ap (λ l. lines i ++ l) (flat_map-append line_written (f i) rest) in
+      text_is a c k o (lines n) (lines i ++ (flat_map line_written (f i) ++ flat_map line_written rest)) r t
+      (wrote_then a b c k m o (lines i) (flat_map line_written (f i) ++ flat_map line_written rest) r v
+      (wrote_first b c m o (flat_map line_written (f i)) (flat_map line_written rest) r fault (subst (λ (j : ℕ). WroteBy b c m o (flat_map line_written (f j)) (Err fault)) e w) bad))
+
+  -- the lines of all places were written
+  pub lines_done : (i n : ℕ) (a b : Option (List ℕ)) (k m : Bool) → i ≡ n → WroteBy a b k m (lines i) (Ok tt) → WroteBy a b k m (lines n) (Ok tt)
+  lines_done i n a b k m e v = subst (λ (j : ℕ). WroteBy a b k m (lines j) (Ok tt)) e v

@@ -1,23 +1,18 @@
 -- Reading a certificate text.
-use Rattle.std.proofs.Common.{◌≡◌, ℕ, List, [], ◌∷◌, Option, None, Result, Err, Bool, true, false, codes, refl}
-use Rattle.tx_text.specs.declared.frame.FramePart.TheVariants.{Start}
-use Rattle.tx_text.specs.declared.frame_reader.FrameReader.{FrameReader}
-use Rattle.tx_text.specs.Told.{reading_of_calls, told_at}
-use Rattle.tx_text.specs.Frame.{ReadsOn}
-use Rattle.tx_text.specs.Framing.{to_come}
-use Rattle.tx_text.specs.Said.{said, DeclaredBy}
-use Rattle.tx_text.proofs.ReadingOn.{moves-nil}
+use Rattle.std.proofs.Common.{◌≡◌, ℕ, List, [], ◌∷◌, Option, None, Some, Result, Ok, Err, IfOk, IfErr, Bool, true, false, codes, refl, ◌∙◌, subst, inl, inr}
+use Rattle.std.specs.Prelude.{if◌then◌else◌}
+use Rattle.std.specs.Str.{bytes_eq}
+use Rattle.tx_text.specs.declared.frame.FaultKind.{FaultKind}
+use Rattle.tx_text.specs.declared.frame.FaultKind.TheVariants.{Frame, Word}
+use Rattle.tx_text.specs.Ends.{Input}
+use Rattle.tx_text.specs.Told.{Ending, AtEnd}
+use Rattle.tx_text.specs.Frame.{Framed, Done, Stop, Headed, Has, Stands}
+use Rattle.tx_text.specs.Said.{said, step_on, Declared, lines_within, ReadsText, AnswersAs, RefusedBy, FaultsBy}
 use Rattle.tx_plan.specs.Plan.{Plan}
 use Rattle.tx_cert.specs.declared.fault.CertWord.{CertWord}
-use Rattle.tx_cert.specs.declared.fault.CertWord.TheVariants.{UnknownWord, WrongCount, UnknownName, BadNumber, Duplicate, NoMemory}
-use Rattle.tx_cert.specs.Certificate.{Certificate, no_ranks_for}
-use Rattle.tx_cert.specs.CertText.{declare, cert_of, is_memory}
-
--- nothing was read yet
-pub at_start : {A : Type 0} (a : Option (List ℕ)) (p : Plan) (v : FrameReader A) (t : Certificate) (left : ℕ) → v.key.now ≡ codes "CERT" → v.most ≡ 1 → v.reader ≡ reading_of_calls left → v.phase ≡ Start → v.number ≡ 1 → t ≡ no_ranks_for p
-    → ReadsOn a a (cert_of p) (λ e more. said (declare p) 1 t (to_come v e more)) × (v.reader.feed.fault ≡ None)
-unfolding told_at
-at_start a p v t left k m r ph n e = (record { read = []; moves = moves-nil a; gives = λ d more. rw (k, m, r, ph, n, e) refl }, rw r refl)
+use Rattle.tx_cert.specs.declared.fault.CertWord.TheVariants.{UnknownWord, WrongCount}
+use Rattle.tx_cert.specs.Certificate.{Certificate, no_ranks_for, rank_at}
+use Rattle.tx_cert.specs.CertText.{declare, ranked_by, rank_said, rank_line, cert_of, is_memory, ReadsCert}
 
 -- there is one version of these texts
 pub any_version : (p : Plan) (v w : ℕ) (t : Certificate) (ws : List (List ℕ)) → declare p v t ws ≡ declare p w t ws
@@ -25,19 +20,85 @@ unfolding declare
 any_version p v w t [] = refl
 any_version p v w t (x ∷ ws) = refl
 
--- a line that was refused, and not for want of memory
-pub refused_by : (r : Result Certificate CertWord) (x : CertWord) → (is_memory x ≡ true → ⊥) → r ≡ Err x → DeclaredBy r (is_memory x) x
-refused_by r x none h = by (is_memory x) none
-  where
-    by : (b : Bool) → (b ≡ true → ⊥) → DeclaredBy r b x
-    by true n = absurd (n refl)
-    by false n = h
+-- what a line declares, by the clauses of the code
+pub line_declared : (p : Plan) (v : ℕ) (t new : Certificate) (ws : List (List ℕ)) (r : Result (Unit {0}) CertWord) → IfOk r (λ _. declare p 1 t ws ≡ Ok new) → IfErr r (λ x. declare p 1 t ws ≡ Err x) → Declared (λ (x : CertWord). false) (declare p v t ws) new r
+line_declared p v t new ws (Ok x) ok err = any_version p v 1 t ws ∙ ok
+line_declared p v t new ws (Err x) ok err = any_version p v 1 t ws ∙ err
 
--- declaring takes no memory
-pub no_memory : (x : CertWord) → (x ≡ NoMemory → ⊥) → is_memory x ≡ true → ⊥
-no_memory NoMemory h i = h refl
-no_memory UnknownWord h i = cc
-no_memory WrongCount h i = cc
-no_memory UnknownName h i = cc
-no_memory BadNumber h i = cc
-no_memory Duplicate h i = cc
+-- no line takes memory
+abbrev NotMemory : Result Certificate CertWord → Type 0
+NotMemory (Ok t) = Unit {0}
+NotMemory (Err x) = is_memory x ≡ false
+
+ranked_by_none : (t : Certificate) (code exchange : ℕ) (o : Option ℕ) (rank : ℕ) → NotMemory (ranked_by t code exchange o rank)
+ranked_by_none t code exchange None rank = tt
+ranked_by_none t code exchange (Some r) rank = refl
+
+rank_said_none : (t : Certificate) (code exchange rank : Option ℕ) → NotMemory (rank_said t code exchange rank)
+rank_said_none t None exchange rank = refl
+rank_said_none t (Some code) None rank = refl
+rank_said_none t (Some code) (Some exchange) None = refl
+rank_said_none t (Some code) (Some exchange) (Some rank) = ranked_by_none t code exchange (rank_at t code exchange) rank
+
+rank_line_none : (p : Plan) (t : Certificate) (ws : List (List ℕ)) → NotMemory (rank_line p t ws)
+rank_line_none p t [] = refl
+rank_line_none p t (code ∷ []) = refl
+rank_line_none p t (code ∷ exchange ∷ []) = refl
+rank_line_none p t (code ∷ exchange ∷ rank ∷ []) = rank_said_none t _ _ _
+rank_line_none p t (code ∷ exchange ∷ rank ∷ w ∷ ws) = refl
+
+declare_none : (p : Plan) (v : ℕ) (t : Certificate) (ws : List (List ℕ)) → NotMemory (declare p v t ws)
+unfolding declare
+declare_none p v t [] = refl
+declare_none p v t (w ∷ ws) =
+    elim (bytes_eq w (codes "RANK")) as (λ b. NotMemory (if b then rank_line p t ws else if bytes_eq w (codes "END") then Err WrongCount else Err UnknownWord)) [
+      | true ↦ rank_line_none p t ws
+      | false ↦ elim (bytes_eq w (codes "END")) as (λ b. NotMemory (if b then Err WrongCount else Err UnknownWord)) [ true ↦ refl | false ↦ refl ]
+    ]
+
+-- so no text says that memory ran out
+abbrev NotMemoryAt : Result Certificate (ℕ × FaultKind CertWord) → Type 0
+NotMemoryAt (Ok t) = Unit {0}
+NotMemoryAt (Err (n, Frame k)) = Unit {0}
+NotMemoryAt (Err (n, Word x)) = is_memory x ≡ false
+
+step_none : (p : Plan) (v n : ℕ) (f : Framed) → ((r : Certificate) → NotMemoryAt (said (declare p) v r f)) → (o : Result Certificate CertWord) → NotMemory o → NotMemoryAt (step_on (declare p) n o (λ r. said (declare p) v r f))
+step_none p v n f h (Ok r) k = h r
+step_none p v n f h (Err x) k = k
+
+said_none : (p : Plan) (v : ℕ) (t : Certificate) (f : Framed) → NotMemoryAt (said (declare p) v t f)
+unfolding said
+said_none p v t Done = tt
+said_none p v t (Stop n k) = tt
+said_none p v t (Headed w f) = said_none p w t f
+said_none p v t (Has n ws f) = step_none p v n f (λ r. said_none p v r f) (declare p v t ws) (declare_none p v t ws)
+
+never_by : (b : Bool) → b ≡ true → b ≡ false → ⊥
+never_by true h k = cc
+never_by false h k = cc
+
+never : (p : Plan) (e : Ending) (text : List ℕ) (n : ℕ) (x : CertWord) → cert_of p e text ≡ Err (n, Word x) → is_memory x ≡ true → ⊥
+never p e text n x h m =
+    let k : NotMemoryAt (cert_of p e text) = said_none p 1 (no_ranks_for p) (lines_within (codes "CERT") 1 e text) in
+    never_by (is_memory x) m (subst NotMemoryAt h k)
+
+module _ (p : Plan) where
+  refused : (text : Input) (b : Bool) (n : ℕ) (x : CertWord) → is_memory x ≡ b → Stands text.old text.new (cert_of p) (Err (n, Word x)) → RefusedBy text.old text.new (cert_of p) (λ m. (m ≡ 1) × text.unread) b n x
+  refused text true n x m (inl h) = absurd (never p AtEnd _ n x (h.gives AtEnd []) m)
+  refused text true n x m (inr h) = absurd (never p AtEnd _ n x h.0.gives m)
+  refused text false n x m h = h
+
+  -- what was read, where only a line's words were told by the lines
+  pub reads_cert : (text : Input) (r : Result Certificate (ℕ × FaultKind CertWord)) → ReadsText (declare p) (λ x. false) (codes "CERT") 1 (no_ranks_for p) text r → ReadsCert p text r
+  reads_cert text (Ok t) a = a
+  reads_cert text (Err (n, Frame k)) a = a
+  reads_cert text (Err (n, Word x)) a = refused text (is_memory x) n x refl a
+
+  slice_refused : (text : List ℕ) (b : Bool) (n : ℕ) (x : CertWord) → is_memory x ≡ b → cert_of p AtEnd text ≡ Err (n, Word x) → FaultsBy (cert_of p AtEnd text) (n ≡ 1) b n (Word x)
+  slice_refused text true n x m h = absurd (never p AtEnd text n x h m)
+  slice_refused text false n x m h = h
+
+  pub slice_says : (text : List ℕ) (wanted : ℕ → Type 0) (r : Result Certificate (ℕ × FaultKind CertWord)) → AnswersAs (λ (x : CertWord). false) (cert_of p AtEnd text) wanted r → AnswersAs is_memory (cert_of p AtEnd text) (λ n. n ≡ 1) r
+  slice_says text wanted (Ok t) a = a
+  slice_says text wanted (Err (n, Frame k)) a = a
+  slice_says text wanted (Err (n, Word x)) a = slice_refused text (is_memory x) n x refl a

@@ -3,7 +3,7 @@ use Rattle.std.proofs.Common.{◌≡◌, ℕ, zero, suc, ◌+◌, ◌*◌, ◌<�
 use Rattle.std.specs.Fmt.{decimal}
 use Rattle.std.specs.List.{flat_map, range_with_len}
 use Rattle.tx_text.specs.Frame.{header_of}
-use Rattle.tx_text.specs.Written.{IsWrittenLine, LeadsTo}
+use Rattle.tx_text.specs.inner.Written.{IsWrittenLine, LeadsTo}
 use Rattle.tx_text.proofs.ReadBack.{reads_back}
 use Rattle.tx_text.proofs.WrittenWords.{name_word, figures_word, number_word, number_back, line_of_short, fixed_word}
 use Rattle.tx_plan.specs.Plan.{Plan, exchange_name, figures_of}

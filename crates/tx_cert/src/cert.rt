@@ -8,7 +8,7 @@ use tx_plan::{CodeId, ExchangeId, Plan};
 use tx_text::NoMemory;
 
 /// A certificate: for each code and exchange of a plan a rank from 0 to 65,535, or none.
-#[derive(Drop)]
+#[derive(Debug, Drop)]
 pub struct Cert<A: Allocator = Global> {
     codes: usize,
     exchanges: usize,
@@ -35,7 +35,6 @@ impl<A: Allocator> Cert<A> {
     pub fn new(alloc: A, plan: &Plan<A>) -> Result<Cert<A>, NoMemory>
         ensures { IfOk result (λ t. t ≡ no_ranks_for plan.now) }
     {
-        plan.rules();
         Cert::of_sizes(alloc, plan.codes(), plan.exchanges())
     }
 
@@ -61,7 +60,8 @@ impl<A: Allocator> Cert<A> {
         let _ = &self.ranks;
     }
 
-    /// Gives the exchange a rank for the code, in place of one that it had. Both are of the certificate's plan.
+    /// Gives the exchange a rank for the code, in place of one that it had. Both are of the
+    /// certificate's plan.
     pub fn set(&mut self, code: CodeId, exchange: ExchangeId, rank: u16)
         requires code { code < self.old.codes }
         requires exchange { exchange < self.old.exchanges }

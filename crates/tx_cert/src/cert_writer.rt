@@ -3,6 +3,7 @@ ghost use Rattle.std.specs.Prelude.{◌≡◌, length, true, OnOk, OnErr};
 ghost use Rattle.std.specs.Io.KnownBytes.{append_known};
 ghost use Rattle.std.specs.List.{flat_map, range_with_len};
 ghost use Rattle.tx_text.specs.Ends.{StopsIn};
+ghost use Rattle.tx_text.specs.Wrote.{Wrote};
 ghost use Rattle.tx_text.specs.Written.{line_written};
 ghost use Rattle.tx_cert.specs.Certificate.{rank_at};
 ghost use Rattle.tx_cert.specs.CertText.{rank_lines, code_lines, cert_lines, cert_written};
@@ -13,22 +14,18 @@ use std::alloc::Allocator;
 use tx_plan::{CodeId, ExchangeId, Plan};
 use tx_text::{Sink, WriteFault, write_bytes, write_parts};
 
-/// Writes the certificate: its header, its ranks by codes and then by exchanges, each in the plan's order, and END. Where the sink fails, a front of the text
-/// was taken.
+/// Writes the certificate: its header, its ranks by codes and then by exchanges, each in the plan's
+/// order, and END. Where the sink fails, a front of the text was taken.
 pub fn write_cert<A: Allocator, W: Sink>(
     cert: &Cert<A>,
     plan: &Plan<A>,
     sink: &mut W,
 ) -> Result<(), WriteFault>
-    ensures ok { OnOk result (W.taken sink.new ≡ append_known (W.taken sink.old) (cert_written plan.now cert.now)) }
-    ensures err { OnErr result (StopsIn (W.taken sink.old) (W.taken sink.new) (cert_written plan.now cert.now)) }
-    ensures mark { OnErr result (W.failed sink.new ≡ true) }
-    ensures unmarked { OnOk result (W.failed sink.new ≡ W.failed sink.old) }
+    ensures { Wrote W.taken W.failed sink.old sink.new (cert_written plan.now cert.now) result }
 {
     write_bytes(b"CERT 1\n", sink)?;
     write_ranks(cert, plan, sink)?;
-    write_bytes(b"END\n", sink)?;
-    Ok(())
+    write_bytes(b"END\n", sink)
 }
 
 /// Writes the lines of all ranks.
@@ -37,14 +34,11 @@ fn write_ranks<A: Allocator, W: Sink>(
     plan: &Plan<A>,
     sink: &mut W,
 ) -> Result<(), WriteFault>
-    ensures ok { OnOk result (W.taken sink.new ≡ append_known (W.taken sink.old) (flat_map line_written (cert_lines plan.now cert.now))) }
-    ensures err { OnErr result (StopsIn (W.taken sink.old) (W.taken sink.new) (flat_map line_written (cert_lines plan.now cert.now))) }
-    ensures mark { OnErr result (W.failed sink.new ≡ true) }
-    ensures unmarked { OnOk result (W.failed sink.new ≡ W.failed sink.old) }
+    ensures { Wrote W.taken W.failed sink.old sink.new
+        (flat_map line_written (cert_lines plan.now cert.now)) result }
 {
-    plan.rules();
     for place in 0..plan.codes() {
-        write_code(cert, plan, CodeId::at(place as u16), sink)?;
+        write_code(cert, plan, CodeId::of(place), sink)?;
     }
     Ok(())
 }
@@ -56,14 +50,11 @@ fn write_code<A: Allocator, W: Sink>(
     code: CodeId,
     sink: &mut W,
 ) -> Result<(), WriteFault>
-    ensures ok { OnOk result (W.taken sink.new ≡ append_known (W.taken sink.old) (flat_map line_written (code_lines plan.now cert.now code (range_with_len 0 (length plan.now.exchanges))))) }
-    ensures err { OnErr result (StopsIn (W.taken sink.old) (W.taken sink.new) (flat_map line_written (code_lines plan.now cert.now code (range_with_len 0 (length plan.now.exchanges))))) }
-    ensures mark { OnErr result (W.failed sink.new ≡ true) }
-    ensures unmarked { OnOk result (W.failed sink.new ≡ W.failed sink.old) }
+    ensures { Wrote W.taken W.failed sink.old sink.new (flat_map line_written
+        (code_lines plan.now cert.now code (range_with_len 0 (length plan.now.exchanges)))) result }
 {
-    plan.rules();
     for place in 0..plan.exchanges() {
-        write_rank(cert, plan, code, ExchangeId::at(place as u16), sink)?;
+        write_rank(cert, plan, code, ExchangeId::of(place), sink)?;
     }
     Ok(())
 }
@@ -76,10 +67,8 @@ fn write_rank<A: Allocator, W: Sink>(
     exchange: ExchangeId,
     sink: &mut W,
 ) -> Result<(), WriteFault>
-    ensures ok { OnOk result (W.taken sink.new ≡ append_known (W.taken sink.old) (flat_map line_written (rank_lines plan.now code exchange (rank_at cert.now code exchange)))) }
-    ensures err { OnErr result (StopsIn (W.taken sink.old) (W.taken sink.new) (flat_map line_written (rank_lines plan.now code exchange (rank_at cert.now code exchange)))) }
-    ensures mark { OnErr result (W.failed sink.new ≡ true) }
-    ensures unmarked { OnOk result (W.failed sink.new ≡ W.failed sink.old) }
+    ensures { Wrote W.taken W.failed sink.old sink.new (flat_map line_written
+        (rank_lines plan.now code exchange (rank_at cert.now code exchange))) result }
 {
     let Some(rank) = cert.rank(code, exchange) else {
         return Ok(());

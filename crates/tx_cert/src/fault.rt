@@ -1,14 +1,15 @@
 // What is wrong with a certificate text.
 ghost use Rattle.std.specs.Prelude.{◌≡◌};
-ghost use Rattle.tx_cert.specs.CertFaults.{word_row, frame_row, fault_row};
+ghost use Rattle.tx_cert.specs.declared.fault.CertWord.TheVariants.{NoMemory as OutOfMemory};
+ghost use Rattle.tx_cert.specs.CertFaults.{word_row, fault_row};
 
 use thiserror::Error;
-use tx_text::{FaultAt, FaultKind, FormFault, FrameFault, LineFault};
+use tx_text::{FaultAt, FaultKind, NoMemory};
 
-/// What is wrong with the words of a line. Of several the first in this order is told.
+/// What is wrong with the words of a line. Of several the first in this order is reported.
 #[derive(Clone, Copy, Debug, PartialEq, Eq, Error)]
 pub enum CertWord {
-    /// C1: the first word is none of a certificate's.
+    /// C1: the first word is not one of a certificate's.
     #[error("the first word of the line is not RANK")]
     UnknownWord,
     /// C2: too few or too many words.
@@ -28,6 +29,14 @@ pub enum CertWord {
     NoMemory,
 }
 
+impl From<NoMemory> for CertWord {
+    ghost from_gives = { λ _ word. word ≡ OutOfMemory };
+
+    fn from(_: NoMemory) -> CertWord {
+        CertWord::NoMemory
+    }
+}
+
 /// What is wrong with a certificate text, and the line of it, counted from 1.
 pub type CertFault = FaultAt<CertWord>;
 
@@ -36,20 +45,8 @@ pub fn code_and_name(kind: FaultKind<CertWord>) -> (&'static [u8], &'static [u8]
     ensures { (result.0.now, result.1.now) ≡ fault_row kind }
 {
     match kind {
-        FaultKind::Frame(fault) => frame_row(fault),
+        FaultKind::Frame(fault) => fault.code_and_name(b"C6", b"C7", b"C8", b"C10"),
         FaultKind::Word(word) => word_row(word),
-    }
-}
-
-fn frame_row(fault: FrameFault) -> (&'static [u8], &'static [u8])
-    ensures { (result.0.now, result.1.now) ≡ frame_row fault }
-{
-    match fault {
-        FrameFault::Form(FormFault::NoHeader) => (b"C6", b"NoHeader"),
-        FrameFault::Form(FormFault::NoEnd) => (b"C7", b"NoEnd"),
-        FrameFault::Form(FormFault::AfterEnd) => (b"C8", b"AfterEnd"),
-        FrameFault::Line(LineFault::Read) => (b"C10", b"ReadFault"),
-        FrameFault::Line(LineFault::Text(fault)) => fault.code_and_name(),
     }
 }
 

@@ -4,8 +4,8 @@ use Rattle.std.specs.Prelude.{slice_get}
 use Rattle.std.specs.Option.{option_map_or}
 use Rattle.std.specs.Str.{bytes_eq}
 use Rattle.std.proofs.lemmas.Slice.Eq.{bytes_eq-Decides}
-use Rattle.tx_entries.specs.declared.direction.Direction.{Direction}
-use Rattle.tx_entries.specs.declared.direction.Direction.TheVariants.{OneWay}
+use Rattle.tx_plan.specs.declared.ids.Direction.{Direction}
+use Rattle.tx_plan.specs.declared.ids.Direction.TheVariants.{OneWay}
 use Rattle.tx_plan.specs.Plan.{Plan, Code, Group, exchange_name, figures_of, home_of, group_name}
 use Rattle.tx_plan.specs.Circuits.{direction_of, count_of, ends_of}
 use Rattle.tx_plan.specs.Mixtures.{SameNetwork}
@@ -33,46 +33,46 @@ entries_alike xs ys i l m h = let a = entry_at xs i l in let b = entry_at ys i m
 part : {A B : Type 0} (f : A → B) (d : B) (o p : Option A) (x y : A) → o ≡ Some x → p ≡ Some y → option_map_or f o d ≡ option_map_or f p d → f x ≡ f y
 part f d o p x y a b e = sym (ap (λ k. option_map_or f k d) a) ∙ (e ∙ ap (λ k. option_map_or f k d) b)
 
-module _ (p q : Plan) (i x : ℕ) (at : x ≡ i) where
-  pub exchange_alike : (a b : List ℕ) (r : Bool) → i < length p.exchanges → i < length q.exchanges → a ≡ exchange_name p x → b ≡ exchange_name q x → r ≡ bytes_eq a b
+module _ (p q : Plan) (i : ℕ) where
+  pub exchange_alike : (a b : List ℕ) (r : Bool) → i < length p.exchanges → i < length q.exchanges → a ≡ exchange_name p i → b ≡ exchange_name q i → r ≡ bytes_eq a b
       → (r ≡ true → slice_get p.exchanges i ≡ slice_get q.exchanges i) × (slice_get p.exchanges i ≡ slice_get q.exchanges i → r ≡ true)
   exchange_alike a b r l m ea eb er = (
     λ t.
-        let same : exchange_name p i ≡ exchange_name q i = sym (ea ∙ ap (exchange_name p) at) ∙ ((bytes_eq-Decides a b).0 (sym er ∙ t) ∙ (eb ∙ ap (exchange_name q) at)) in
+        let same : exchange_name p i ≡ exchange_name q i = sym ea ∙ ((bytes_eq-Decides a b).0 (sym er ∙ t) ∙ eb) in
         entries_alike p.exchanges q.exchanges i l m (λ y z hy hz. part (λ name. name) [] (slice_get p.exchanges i) (slice_get q.exchanges i) y z hy hz same),
-    λ e. er ∙ (bytes_eq-Decides a b).1 (ea ∙ (ap (exchange_name p) at ∙ (ap (λ o. option_map_or (λ name. name) o []) e ∙ (ap (exchange_name q) (sym at) ∙ sym eb)))),
+    λ e. er ∙ (bytes_eq-Decides a b).1 (ea ∙ ap (λ o. option_map_or (λ name. name) o []) e ∙ sym eb),
   )
 
-  pub code_alike : (h k : ℕ) (a b : List ℕ) (r : Bool) → i < length p.codes → i < length q.codes → h ≡ home_of p x → k ≡ home_of q x → h ≡ k → a ≡ figures_of p x → b ≡ figures_of q x → r ≡ bytes_eq a b
+  pub code_alike : (h k : ℕ) (a b : List ℕ) (r : Bool) → i < length p.codes → i < length q.codes → h ≡ home_of p i → k ≡ home_of q i → h ≡ k → a ≡ figures_of p i → b ≡ figures_of q i → r ≡ bytes_eq a b
       → (r ≡ true → slice_get p.codes i ≡ slice_get q.codes i) × (slice_get p.codes i ≡ slice_get q.codes i → r ≡ true)
   code_alike h k a b r l m eh ek hk ea eb er = (
     λ t.
-        let same : figures_of p i ≡ figures_of q i = sym (ea ∙ ap (figures_of p) at) ∙ ((bytes_eq-Decides a b).0 (sym er ∙ t) ∙ (eb ∙ ap (figures_of q) at)) in
-        let home : home_of p i ≡ home_of q i = sym (eh ∙ ap (home_of p) at) ∙ (hk ∙ (ek ∙ ap (home_of q) at)) in
+        let same : figures_of p i ≡ figures_of q i = sym ea ∙ ((bytes_eq-Decides a b).0 (sym er ∙ t) ∙ eb) in
+        let home : home_of p i ≡ home_of q i = sym eh ∙ (hk ∙ ek) in
         entries_alike p.codes q.codes i l m (λ y z hy hz.
         let f = part (λ (c : Code). c.figures) [] (slice_get p.codes i) (slice_get q.codes i) y z hy hz same in
         let g = part (λ (c : Code). c.home) 0 (slice_get p.codes i) (slice_get q.codes i) y z hy hz home in
         λ j. record { figures = f j; home = g j }),
-    λ e. er ∙ (bytes_eq-Decides a b).1 (ea ∙ (ap (figures_of p) at ∙ (ap (λ o. option_map_or (λ (c : Code). c.figures) o []) e ∙ (ap (figures_of q) (sym at) ∙ sym eb)))),
+    λ e. er ∙ (bytes_eq-Decides a b).1 (ea ∙ ap (λ o. option_map_or (λ (c : Code). c.figures) o []) e ∙ sym eb),
   )
 
-  pub ends_apart : (e f : ℕ × ℕ) → e ≡ ends_of p x → f ≡ ends_of q x → slice_get p.groups i ≡ slice_get q.groups i → e ≡ f
-  ends_apart a b ea eb e = ea ∙ (ap (ends_of p) at ∙ (ap (λ o. option_map_or (λ (r : Group). (r.a, r.b)) o (0, 0)) e ∙ (ap (ends_of q) (sym at) ∙ sym eb)))
+  pub ends_apart : (e f : ℕ × ℕ) → e ≡ ends_of p i → f ≡ ends_of q i → slice_get p.groups i ≡ slice_get q.groups i → e ≡ f
+  ends_apart a b ea eb e = ea ∙ ap (λ o. option_map_or (λ (r : Group). (r.a, r.b)) o (0, 0)) e ∙ sym eb
 
-  pub group_alike : (n o : ℕ × ℕ) (d e : Direction) (h k : ℕ) (a b : List ℕ) (r : Bool) → i < length p.groups → i < length q.groups → n ≡ ends_of p x → o ≡ ends_of q x → n ≡ o → d ≡ direction_of p x → e ≡ direction_of q x → d ≡ e
-      → h ≡ count_of p x → k ≡ count_of q x → h ≡ k → a ≡ group_name p x → b ≡ group_name q x → r ≡ bytes_eq a b
+  pub group_alike : (n o : ℕ × ℕ) (d e : Direction) (h k : ℕ) (a b : List ℕ) (r : Bool) → i < length p.groups → i < length q.groups → n ≡ ends_of p i → o ≡ ends_of q i → n ≡ o → d ≡ direction_of p i → e ≡ direction_of q i → d ≡ e
+      → h ≡ count_of p i → k ≡ count_of q i → h ≡ k → a ≡ group_name p i → b ≡ group_name q i → r ≡ bytes_eq a b
       → (r ≡ true → slice_get p.groups i ≡ slice_get q.groups i) × (slice_get p.groups i ≡ slice_get q.groups i → r ≡ true)
   group_alike n o d e h k a b r l m en eo both ed ee de eh ek hk ea eb er = (
     λ t.
-        let same : group_name p i ≡ group_name q i = sym (ea ∙ ap (group_name p) at) ∙ ((bytes_eq-Decides a b).0 (sym er ∙ t) ∙ (eb ∙ ap (group_name q) at)) in
-        let ends : ends_of p i ≡ ends_of q i = sym (en ∙ ap (ends_of p) at) ∙ (both ∙ (eo ∙ ap (ends_of q) at)) in
-        let turn : direction_of p i ≡ direction_of q i = sym (ed ∙ ap (direction_of p) at) ∙ (de ∙ (ee ∙ ap (direction_of q) at)) in
-        let count : count_of p i ≡ count_of q i = sym (eh ∙ ap (count_of p) at) ∙ (hk ∙ (ek ∙ ap (count_of q) at)) in
+        let same : group_name p i ≡ group_name q i = sym ea ∙ ((bytes_eq-Decides a b).0 (sym er ∙ t) ∙ eb) in
+        let ends : ends_of p i ≡ ends_of q i = sym en ∙ (both ∙ eo) in
+        let turn : direction_of p i ≡ direction_of q i = sym ed ∙ (de ∙ ee) in
+        let count : count_of p i ≡ count_of q i = sym eh ∙ (hk ∙ ek) in
         entries_alike p.groups q.groups i l m (λ y z hy hz.
         let f = part (λ (g : Group). g.name) [] (slice_get p.groups i) (slice_get q.groups i) y z hy hz same in
         let u = part (λ (g : Group). (g.a, g.b)) (0, 0) (slice_get p.groups i) (slice_get q.groups i) y z hy hz ends in
         let v = part (λ (g : Group). g.direction) OneWay (slice_get p.groups i) (slice_get q.groups i) y z hy hz turn in
         let w = part (λ (g : Group). g.count) 0 (slice_get p.groups i) (slice_get q.groups i) y z hy hz count in
         λ j. record { name = f j; a = (u j).0; b = (u j).1; direction = v j; count = w j }),
-    λ s. er ∙ (bytes_eq-Decides a b).1 (ea ∙ (ap (group_name p) at ∙ (ap (λ k. option_map_or (λ (g : Group). g.name) k []) s ∙ (ap (group_name q) (sym at) ∙ sym eb)))),
+    λ s. er ∙ (bytes_eq-Decides a b).1 (ea ∙ ap (λ k. option_map_or (λ (g : Group). g.name) k []) s ∙ sym eb),
   )

@@ -5,7 +5,7 @@ use Rattle.std.specs.Prelude.{filter, slice_get}
 use Rattle.std.specs.Option.{option_map}
 use Rattle.std.specs.List.{list_any}
 use Rattle.std.proofs.lemmas.Bool.{ne_eqb, cases_eq, and_left, and_right, and_parts}
-use Rattle.tx_entries.specs.declared.pair.Pair.{Pair}
+use Rattle.tx_plan.specs.declared.ids.Pair.{Pair}
 use Rattle.tx_plan.specs.Plan.{Plan, Route}
 use Rattle.tx_plan.specs.Rules.{EachPair, IsRoute, IsPlan}
 use Rattle.tx_plan.specs.Routes.{route_list}
@@ -14,7 +14,7 @@ use Rattle.tx_plan.proofs.Filtered.{any_out}
 use Rattle.tx_plan.proofs.ListFound.{list_found}
 use Rattle.tx_rank.proofs.Ways.{all_among}
 use Rattle.tx_rank.proofs.Looks.{among_at}
-use Rattle.tx_state.proofs.Lists.{at_place}
+use Rattle.tx_machine.proofs.Lists.{at_place}
 use Rattle.tx_change.specs.inner.Kept.{keeps, kept_alone, has_route_as, has_bar_as}
 
 module _ {A : Type 0} (s : A → Bool) where

@@ -4,8 +4,8 @@ use Rattle.std.specs.Prelude.{is_some}
 use Rattle.std.specs.List.{AllByRecursion}
 use Rattle.std.specs.Option.{option_map, IfSome}
 use Rattle.tx_plan.specs.Plan.{Plan}
-use Rattle.tx_state.specs.declared.event.Event.{Event}
-use Rattle.tx_state.proofs.Lists.{find_mem}
+use Rattle.tx_machine.specs.declared.event.Event.{Event}
+use Rattle.tx_machine.proofs.Lists.{find_mem}
 use Rattle.tx_rank.specs.declared.finding.Finding.{Finding}
 use Rattle.tx_rank.specs.Findings.{IsTrueOf}
 use Rattle.tx_rank.proofs.Ways.{all_among}

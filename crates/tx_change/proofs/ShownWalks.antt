@@ -6,7 +6,7 @@ use Rattle.tx_plan.specs.Rules.{IsPlan}
 use Rattle.tx_plan.specs.Routes.{route_list, is_origin, is_origin_for}
 use Rattle.tx_plan.specs.Among.{Among}
 use Rattle.tx_plan.proofs.Among.{among_cases}
-use Rattle.tx_state.proofs.Lists.{any_mem, mem_any}
+use Rattle.tx_machine.proofs.Lists.{any_mem, mem_any}
 use Rattle.tx_rank.specs.declared.finding.Finding.{Finding}
 use Rattle.tx_rank.specs.declared.finding.Finding.TheVariants.{Ambiguous, Loop, Short, Long}
 use Rattle.tx_rank.specs.Walks.{AllDiffer, Goes, net_of, end_of, before_end, passed, IsWalk, IsLoop, IsShort, IsLong}

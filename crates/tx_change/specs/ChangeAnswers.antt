@@ -1,11 +1,11 @@
 -- What the report of a change answers.
-use Rattle.std.specs.Prelude.{◌≡◌, ◌≢◌, ℕ, List, [], Option, Result, Ok, Err}
+use Rattle.std.specs.Prelude.{◌≡◌, ◌≢◌, ℕ, List, [], Result, Ok, Err}
 use Rattle.std.specs.List.{AllByRecursion}
 use Rattle.std.specs.Io.KnownBytes.{append_known}
-use Rattle.tx_text.specs.Ends.{StopsIn}
+use Rattle.tx_text.specs.Ends.{StopsIn, Output}
 use Rattle.tx_plan.specs.Plan.{Plan}
 use Rattle.tx_cert.specs.Certificate.{Certificate, IsCertificateOf, ranks_of}
-use Rattle.tx_state.specs.Sound.{IsSound}
+use Rattle.tx_machine.specs.Sound.{IsSound}
 use Rattle.tx_check.specs.declared.verdict.Verdict.TheVariants.{Yes}
 use Rattle.tx_check.specs.Checks.{check_faults, ranks_for, verdict_of}
 use Rattle.tx_rank.specs.declared.finding.Finding.{Finding}
@@ -13,10 +13,10 @@ use Rattle.tx_rank.specs.declared.ranking.Ranking.{Ranking}
 use Rattle.tx_rank.specs.declared.ranking.Ranking.TheVariants.{Found, Fails}
 use Rattle.tx_rank.specs.Grades.{CanBeCertified}
 use Rattle.tx_plan.specs.Mixtures.{EachMixture, AreCommon}
-use Rattle.tx_state.specs.ChangingRuns.{IsSoundChange, HasFewRoutesMeanwhile, SufficesMeanwhile}
+use Rattle.tx_machine.specs.ChangingRuns.{IsSoundChange, HasFewRoutesMeanwhile, SufficesMeanwhile}
 use Rattle.tx_audit.specs.declared.audited.AuditFault.{AuditFault}
 use Rattle.tx_audit.specs.declared.audited.AuditFault.TheVariants.{Plan as PlanRefused, Write, NoMemory}
-use Rattle.tx_audit.specs.Ranked.{findings_of}
+use Rattle.tx_audit.specs.Report.{findings_of}
 use Rattle.tx_change.specs.ChangeFindings.{AreChangeFindings}
 use Rattle.tx_change.specs.Shown.{IsShown}
 use Rattle.tx_change.specs.ChangeReport.{change_report}
@@ -44,25 +44,24 @@ pub record IsDenied {A : Type 0} (old new : Plan) (limit spare : ℕ)
   pub uncertified : EachMixture old new (λ m. CanBeCertified m limit spare) → ⊥
 
 module _ {A : Type 0} where
+  -- YES with a certificate that clears the change, or NO with findings that deny it
   abbrev pub IsRightChange : (old new : Plan) → (limit spare : ℕ) → Ranking A → Type 0
   IsRightChange old new limit spare (Found cert) = IsCleared old new limit spare cert
   IsRightChange old new limit spare (Fails findings) = IsDenied old new limit spare findings.items
 
 -- a ranking that is right, whose report was written in part
-pub record ChangeToldInPart (A : Type 0) (old new : Plan) (limit spare : ℕ)
-    (taken_old taken_new : Option (List ℕ)) : Type 0 where
+pub record ChangeToldInPart (A : Type 0) (old new : Plan) (limit spare : ℕ) (out : Output)
+    : Type 0 where
   pub ranking : Ranking A
   pub right : IsRightChange old new limit spare ranking
-  pub wrote : StopsIn taken_old taken_new (change_report old limit spare (findings_of ranking))
+  pub wrote : StopsIn out.old out.new (change_report old limit spare (findings_of ranking))
 
--- The ranking is right, and its report was written. Silent says that nothing was written.
-abbrev pub ChangeAnswers : {A : Type 0} → (old new : Plan) → (limit spare : ℕ)
-    → (taken_old taken_new : Option (List ℕ)) → (silent : Type 0)
+-- the ranking is right, and its report was written
+abbrev pub ChangeAnswers : {A : Type 0} → (old new : Plan) → (limit spare : ℕ) → (out : Output)
     → Result (Ranking A) AuditFault → Type 0
-ChangeAnswers old new limit spare taken_old taken_new silent (Ok r) =
-    IsRightChange old new limit spare r
-    × (taken_new ≡ append_known taken_old (change_report old limit spare (findings_of r)))
-ChangeAnswers {A} old new limit spare taken_old taken_new silent (Err Write) =
-    ChangeToldInPart A old new limit spare taken_old taken_new
-ChangeAnswers old new limit spare taken_old taken_new silent (Err NoMemory) = silent
-ChangeAnswers old new limit spare taken_old taken_new silent (Err (PlanRefused f)) = ⊥
+ChangeAnswers old new limit spare out (Ok r) = IsRightChange old new limit spare r
+    × (out.new ≡ append_known out.old (change_report old limit spare (findings_of r)))
+ChangeAnswers {A} old new limit spare out (Err Write) =
+    ChangeToldInPart A old new limit spare out
+ChangeAnswers old new limit spare out (Err NoMemory) = out.silent
+ChangeAnswers old new limit spare out (Err (PlanRefused f)) = ⊥

@@ -1,4 +1,4 @@
--- The list of findings of a change: which of several walks stands in one is open, and all else is
+-- The list of findings of a change: which of several walks is in one is open, and all else is
 -- not.
 use Rattle.std.specs.Prelude.{◌≡◌, ℕ, zero, suc, ◌<◌, List, [], ◌++◌, length}
 use Rattle.tx_plan.specs.Plan.{Plan}
@@ -11,7 +11,8 @@ use Rattle.tx_change.specs.ChangeNets.{change_net}
 
 module _ {A : Type 0} where
   -- the findings of the codes before c, in order of the codes
-  abbrev pub AreChangeFindingsBelow : (old new : Plan) → (limit spare c : ℕ) → List (Finding A) → Type 0
+  abbrev pub AreChangeFindingsBelow : (old new : Plan)
+      → (limit spare c : ℕ) → List (Finding A) → Type 0
   AreChangeFindingsBelow old new limit spare zero findings = findings ≡ []
   AreChangeFindingsBelow old new limit spare (suc c) findings =
       (front : List (Finding A)) × (last : List (Finding A)) × (findings ≡ front ++ last)
@@ -19,7 +20,8 @@ module _ {A : Type 0} where
       × AreFindingsOfCode (change_net old new c) c limit spare last
 
   -- the findings of a change: the ambiguous pair, and then those of each code
-  pub record AreChangeFindings (old new : Plan) (limit spare : ℕ) (findings : List (Finding A)) : Type 0 where
+  pub record AreChangeFindings (old new : Plan)
+      (limit spare : ℕ) (findings : List (Finding A)) : Type 0 where
     pub rest : List (Finding A)
     pub joined : findings ≡ pair_findings (ambiguous_of old.codes) ++ rest
     pub codes : AreChangeFindingsBelow old new limit spare (length old.codes) rest

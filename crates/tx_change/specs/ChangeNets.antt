@@ -22,7 +22,7 @@ change_net old new c = record {
   is_origin = λ x. is_origin_for old x c || is_origin_for new x c;
 }
 
--- A FINDING IS TRUE OF A CHANGE: as of a plan, for walks each of whose steps is by a group of the
+-- A finding is true of a change: as of a plan, for walks each of whose steps is by a group of the
 -- old list or of the new one, where an exchange is short if one of both lists is.
 abbrev pub IsTrueOfChange : {A : Type 0} → (old new : Plan) → (limit spare : ℕ) → Finding A → Type 0
 IsTrueOfChange old new limit spare (Ambiguous a b) = ambiguous_of old.codes ≡ Some (a, b)

@@ -1,5 +1,5 @@
 -- The first entry in which two plans are not of one network.
-use Rattle.std.specs.Prelude.{◌≡◌, ℕ, ◌<◌, Option, Some, None, length, slice_get}
+use Rattle.std.specs.Prelude.{◌≡◌, ℕ, ◌<◌, Option, Some, None, slice_get}
 use Rattle.tx_plan.specs.Plan.{Plan}
 use Rattle.tx_plan.specs.Mixtures.{SameNetwork}
 use Rattle.tx_change.specs.declared.difference.NetworkList.{NetworkList}
@@ -12,13 +12,6 @@ SameAt Exchanges p q i = slice_get p.exchanges i ≡ slice_get q.exchanges i
 SameAt Codes p q i = slice_get p.codes i ≡ slice_get q.codes i
 SameAt Ranges p q i = slice_get p.ranges i ≡ slice_get q.ranges i
 SameAt Groups p q i = slice_get p.groups i ≡ slice_get q.groups i
-
--- how many entries a list has
-abbrev pub entries_in : NetworkList → Plan → ℕ
-entries_in Exchanges p = length p.exchanges
-entries_in Codes p = length p.codes
-entries_in Ranges p = length p.ranges
-entries_in Groups p = length p.groups
 
 -- both plans have the same list
 abbrev pub SameList : NetworkList → (p q : Plan) → Type 0

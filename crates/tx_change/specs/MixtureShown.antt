@@ -3,7 +3,7 @@ use Rattle.std.specs.Prelude.{◌≡◌, ℕ, Bool, true, false, List, Option, S
 use Rattle.std.specs.List.{AllByRecursion}
 use Rattle.std.specs.Option.{option_map, IfSome}
 use Rattle.tx_plan.specs.Plan.{Plan}
-use Rattle.tx_state.specs.declared.event.Event.{Event}
+use Rattle.tx_machine.specs.declared.event.Event.{Event}
 use Rattle.tx_rank.specs.declared.finding.Finding.{Finding}
 use Rattle.tx_rank.specs.declared.finding.Finding.TheVariants.{Ambiguous, Loop, Short, Long}
 use Rattle.tx_script.specs.Events.{IsWritable}
@@ -42,7 +42,7 @@ module _ {A : Type 0} where
       (f : Finding A) × (first_walked findings ≡ Some f)
       × ShowsMixture old new limit spare f m events
 
-  -- THE MIXTURE OF SOME FINDINGS: there is none where no finding has a walk
+  -- The mixture of some findings: there is none where no finding has a walk
   abbrev pub MixtureAnswer : (old new : Plan) → (limit spare : ℕ) → List (Finding A)
       → Option (ShownMixture A) → Type 0
   MixtureAnswer old new limit spare findings None = first_walked findings ≡ None

@@ -10,11 +10,11 @@ use Rattle.tx_rank.specs.declared.finding.Finding.{Finding}
 use Rattle.tx_rank.specs.declared.finding.Finding.TheVariants.{Ambiguous, Loop, Short, Long}
 use Rattle.tx_rank.specs.Findings.{IsTrueOf}
 
--- the group stands in the list of the exchange for the code
+-- the group is in the list of the exchange for the code
 abbrev pub is_listed : Plan → (c x g : ℕ) → Bool
 is_listed p c x g = list_any (λ h. h == g) (route_list p x c)
 
--- A walk from x takes the new list at an exchange y where the old one has not the group by which
+-- A walk from x takes the new list at an exchange y where the old one does not have the group by which
 -- the walk goes on; at its end, where the test says so; elsewhere it takes none.
 abbrev pub takes_new : Plan → ℕ → (ℕ → Bool) → ℕ → List (ℕ × ℕ) → ℕ → Bool
 takes_new old c at_end x [] y = (x == y) && at_end x
@@ -35,10 +35,11 @@ abbrev pub at_end_of : Plan → ℕ → Option ℕ → ℕ → Bool
 at_end_of old c None x = false
 at_end_of old c (Some spare) x = is_long_before old c spare x
 
--- the exchanges of which a walk takes the new list, and those of which it takes the new bar
+-- the exchanges of which a walk takes the new list
 abbrev pub listed_by : Plan → ℕ → Option ℕ → Walk → ℕ → Bool
 listed_by old c spare w = takes_new old c (at_end_of old c spare) w.start w.steps
 
+-- those of which it takes the new bar
 abbrev pub barred_by : Plan → ℕ → Walk → ℕ → Bool
 barred_by old c w = bars_new old c w.start
 
@@ -53,7 +54,7 @@ shown_by old new spare (Loop c w) = mixed_by old new c None w
 shown_by old new spare (Short c w) = mixed_by old new c (Some spare) w
 shown_by old new spare (Long c w) = mixed_by old new c None w
 
--- A FINDING SHOWS A MIXTURE: it is true of it.
+-- A finding shows a mixture: it is true of it.
 abbrev pub IsShown : {A : Type 0} → (old new : Plan) → (limit spare : ℕ) → Finding A → Type 0
 IsShown old new limit spare f =
     IsMixture old new (shown_by old new spare f) × IsTrueOf (shown_by old new spare f) limit spare f

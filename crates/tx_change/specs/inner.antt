@@ -1,4 +1,5 @@
 pub mod Joined
 pub mod Changed
 pub mod Kept
+pub mod OneNetwork
 pub mod Apart

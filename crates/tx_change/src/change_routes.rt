@@ -1,6 +1,7 @@
 // The routes of one code while a plan is changed.
-ghost use Rattle.std.specs.Prelude.{◌<◌, length};
 ghost use Rattle.tx_rank.specs.Judged.{AreOrigins};
+ghost use Rattle.tx_rank.specs.Nets.{IsNet};
+ghost use Rattle.tx_rank.specs.inner.NetLaws.{IsNet-prop};
 ghost use Rattle.tx_plan.specs.Mixtures.{SameNetwork};
 ghost use Rattle.tx_change.specs.ChangeNets.{change_net};
 ghost use Rattle.tx_change.specs.inner.Joined.{AreJoined};
@@ -18,10 +19,10 @@ pub struct ChangeRoutes<'a, A: Allocator> {
     pub origins: &'a [bool],
     pub lists: &'a [Groups<A>],
     pub code: CodeId,
-    ghost known: { code < length old.now.codes },
     ghost network: { SameNetwork old.now new.now },
     ghost right: { AreOrigins old.now origins.now },
     ghost joined: { AreJoined old.now new.now code lists.now },
+    ghost net: { IsNet (change_net old.now new.now code) } by { IsNet-prop (change_net old.now new.now code) },
 }
 
 impl<'a, A: Allocator> Routes for ChangeRoutes<'a, A> {
@@ -32,8 +33,7 @@ impl<'a, A: Allocator> Routes for ChangeRoutes<'a, A> {
     }
 
     fn exchange(&self, place: usize) -> ExchangeId {
-        self.old.rules();
-        ExchangeId::at(place as u16)
+        ExchangeId::of(place)
     }
 
     fn home(&self) -> ExchangeId {
@@ -46,8 +46,6 @@ impl<'a, A: Allocator> Routes for ChangeRoutes<'a, A> {
     }
 
     fn list(&self, exchange: ExchangeId) -> &[GroupId] {
-        self.old.rules();
-        self.new.rules();
         match self.lists.get(exchange.index()) {
             Some(groups) => groups.as_slice(),
             None => &[],
@@ -61,15 +59,11 @@ impl<'a, A: Allocator> Routes for ChangeRoutes<'a, A> {
     }
 
     fn far(&self, group: GroupId, exchange: ExchangeId) -> ExchangeId {
-        self.rules();
         match self.old.other_end(group, exchange) {
             Some(to) => to,
             None => unreachable!(),
         }
     }
 
-    fn rules(&self) {
-        self.old.rules();
-        self.new.rules();
-    }
+    ghost is_net = { λ routes. routes.net };
 }

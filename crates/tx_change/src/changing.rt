@@ -8,11 +8,12 @@ ghost use Rattle.tx_rank.specs.Grades.{CanBeCertified};
 ghost use Rattle.tx_rank.specs.Rankings.{IsFound, OnFound, OnFails};
 ghost use Rattle.tx_rank.specs.Judged.{AreOrigins};
 ghost use Rattle.tx_plan.specs.Mixtures.{SameNetwork, EachMixture, AreCommon};
-ghost use Rattle.tx_state.specs.ChangingRuns.{IsSoundChange};
+ghost use Rattle.tx_machine.specs.ChangingRuns.{IsSoundChange};
 ghost use Rattle.tx_change.specs.ChangeNets.{IsTrueOfChange};
 ghost use Rattle.tx_change.specs.ChangeFindings.{AreChangeFindings, AreChangeHeights};
 ghost use Rattle.tx_change.specs.Shown.{IsShown};
 ghost use Rattle.tx_change.specs.inner.Changed.{IsChangedBelow};
+ghost use Rattle.tx_change.specs.inner.OneNetwork.{AreOfOneNetwork};
 
 use crate::change_routes::ChangeRoutes;
 use crate::joined::joined_lists;
@@ -34,7 +35,7 @@ fn change_code<A: Allocator + Copy>(
     cert: &mut Cert<A>,
     findings: &mut Vec<Finding<A>, A>,
 ) -> Result<(), NoMemory>
-    requires network { SameNetwork old.now new.now }
+    requires network { AreOfOneNetwork old.now new.now }
     requires origins { AreOrigins old.now origins.now }
     requires code { code < length old.now.codes }
     requires below { IsChangedBelow old.now new.now limit spare code cert.old findings.old.items }
@@ -52,7 +53,7 @@ fn change_code<A: Allocator + Copy>(
     rank_code(alloc, &net, code, limit, spare, cert, findings)
 }
 
-/// The same for each code, into a certificate without ranks.
+/// Ranks the exchanges for each code, into a certificate without ranks, or adds what is wrong.
 fn change_each<A: Allocator + Copy>(
     alloc: A,
     old: &Plan<A>,
@@ -63,22 +64,21 @@ fn change_each<A: Allocator + Copy>(
     cert: &mut Cert<A>,
     findings: &mut Vec<Finding<A>, A>,
 ) -> Result<(), NoMemory>
-    requires network { SameNetwork old.now new.now }
+    requires network { AreOfOneNetwork old.now new.now }
     requires origins { AreOrigins old.now origins.now }
     requires blank { cert.old ≡ no_ranks_for old.now }
     requires pair { findings.old.items ≡ pair_findings (ambiguous_of old.now.codes) }
     ensures { IfOk result (λ _. IsChangedBelow old.now new.now limit spare (length old.now.codes)
         cert.new findings.new.items) }
 {
-    old.rules();
     for place in 0..old.codes() {
-        let code = CodeId::at(place as u16);
+        let code = CodeId::of(place);
         change_code(alloc, old, new, origins, code, limit, spare, cert, findings)?;
     }
     Ok(())
 }
 
-/// The same, into a certificate of its own.
+/// A certificate with the ranks for all codes; what is wrong is added to the findings.
 fn change_codes<A: Allocator + Copy>(
     alloc: A,
     old: &Plan<A>,
@@ -87,7 +87,7 @@ fn change_codes<A: Allocator + Copy>(
     spare: u8,
     findings: &mut Vec<Finding<A>, A>,
 ) -> Result<Cert<A>, NoMemory>
-    requires network { SameNetwork old.now new.now }
+    requires network { AreOfOneNetwork old.now new.now }
     requires pair { findings.old.items ≡ pair_findings (ambiguous_of old.now.codes) }
     ensures listed { IfOk result (λ _. AreChangeFindings old.now new.now limit spare
         findings.new.items) }
@@ -104,9 +104,9 @@ fn change_codes<A: Allocator + Copy>(
     Ok(cert)
 }
 
-/// Ranks that certify every plan that may stand while a plan is changed into another one of the
-/// same network, list by list, for at most `limit` transits (0 to 62, ITU-T F.68) and `spare`
-/// groups to spare (0 to 15); or what is wrong with some of these plans. `Err` is want of memory.
+/// Ranks that certify every plan that may be in force while a plan is changed into another one of
+/// the same network, list by list, for at most `limit` transits (0 to 62, ITU-T F.68) and `spare`
+/// groups to spare (0 to 15); or what is wrong with some of these plans. `Err` means out of memory.
 pub fn change<A: Allocator + Copy>(
     alloc: A,
     old: &Plan<A>,
@@ -118,8 +118,8 @@ pub fn change<A: Allocator + Copy>(
     requires limit { limit ≤ 62 }
     requires spare { spare ≤ 15 }
 
-    // Ranks are found exactly where each mixture is certified by some ranks, be it by others for
-    // each.
+    // Ranks are found exactly if each mixture is certified by some ranks, which may differ from
+    // mixture to mixture.
     ensures exactly { IfOk result (λ r. IsFound r
         ↔ EachMixture old.now new.now (λ m. CanBeCertified m limit spare)) }
     ensures found { IfOk result (λ r. IsFound r

@@ -1,11 +1,11 @@
 // In what two plans are not of one network.
 ghost use Rattle.std.specs.Prelude.{◌≡◌, ◌<◌, ◌↔◌, true};
-ghost use Rattle.tx_change.specs.Difference.{SameAt, entries_in, DifferenceAnswer};
-ghost use Rattle.tx_change.specs.inner.Apart.{ApartAnswer};
+ghost use Rattle.tx_change.specs.Difference.{SameAt, DifferenceAnswer};
+ghost use Rattle.tx_change.specs.inner.Apart.{entries_in, ApartAnswer};
 
 use crate::entries::{is_same_code, is_same_exchange, is_same_group, is_same_range};
 use std::alloc::Allocator;
-use tx_plan::Plan;
+use tx_plan::{CodeId, ExchangeId, GroupId, Plan};
 
 /// The lists that two plans of one network share.
 #[derive(Clone, Copy, Debug, PartialEq, Eq)]
@@ -58,44 +58,41 @@ pub fn first_difference<A: Allocator>(old: &Plan<A>, new: &Plan<A>) -> Option<Di
 fn first_apart<A: Allocator>(list: NetworkList, old: &Plan<A>, new: &Plan<A>) -> Option<u16>
     ensures { ApartAnswer list old.now new.now result }
 {
-    old.rules();
     let before = entries(list, old);
     let after = entries(list, new);
     let shorter = before.min(after);
     for place in 0..shorter {
         if !is_same_at(list, old, new, place) {
-            return Some(place as u16);
+            return Some(place);
         }
     }
-    if before == after {
-        None
-    } else {
-        Some(shorter as u16)
-    }
+    if before == after { None } else { Some(shorter) }
 }
 
 /// How many entries a list has.
-fn entries<A: Allocator>(list: NetworkList, plan: &Plan<A>) -> usize
+fn entries<A: Allocator>(list: NetworkList, plan: &Plan<A>) -> u16
     ensures { result ≡ entries_in list plan.now }
 {
-    match list {
+    let count = match list {
         NetworkList::Exchanges => plan.exchanges(),
         NetworkList::Codes => plan.codes(),
         NetworkList::Ranges => plan.ranges(),
         NetworkList::Groups => plan.groups(),
-    }
+    };
+    count as u16
 }
 
 /// Whether a list has the same entry at a place.
-fn is_same_at<A: Allocator>(list: NetworkList, old: &Plan<A>, new: &Plan<A>, place: usize) -> bool
+fn is_same_at<A: Allocator>(list: NetworkList, old: &Plan<A>, new: &Plan<A>, place: u16) -> bool
     requires old { place < entries_in list old.now }
     requires new { place < entries_in list new.now }
     ensures { result ≡ true ↔ SameAt list old.now new.now place }
 {
+    let place = usize::from(place);
     match list {
-        NetworkList::Exchanges => is_same_exchange(old, new, place),
-        NetworkList::Codes => is_same_code(old, new, place),
+        NetworkList::Exchanges => is_same_exchange(old, new, ExchangeId::of(place)),
+        NetworkList::Codes => is_same_code(old, new, CodeId::of(place)),
         NetworkList::Ranges => is_same_range(old, new, place),
-        NetworkList::Groups => is_same_group(old, new, place),
+        NetworkList::Groups => is_same_group(old, new, GroupId::of(place)),
     }
 }

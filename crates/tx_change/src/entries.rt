@@ -4,26 +4,22 @@ ghost use Rattle.std.specs.Prelude.{◌≡◌, ◌<◌, ◌↔◌, true, length,
 use std::alloc::Allocator;
 use tx_plan::{CodeId, Direction, ExchangeId, GroupId, Plan};
 
-/// Whether two plans have the same exchange at a place.
-pub fn is_same_exchange<A: Allocator>(old: &Plan<A>, new: &Plan<A>, place: usize) -> bool
-    requires old { place < length old.now.exchanges }
-    requires new { place < length new.now.exchanges }
+/// Whether an exchange is the same in two plans.
+pub fn is_same_exchange<A: Allocator>(old: &Plan<A>, new: &Plan<A>, exchange: ExchangeId) -> bool
+    requires old { exchange < length old.now.exchanges }
+    requires new { exchange < length new.now.exchanges }
     ensures { result ≡ true
-        ↔ slice_get old.now.exchanges place ≡ slice_get new.now.exchanges place }
+        ↔ slice_get old.now.exchanges exchange ≡ slice_get new.now.exchanges exchange }
 {
-    old.rules();
-    let exchange = ExchangeId::at(place as u16);
     old.exchange_name(exchange) == new.exchange_name(exchange)
 }
 
-/// Whether two plans have the same code at a place.
-pub fn is_same_code<A: Allocator>(old: &Plan<A>, new: &Plan<A>, place: usize) -> bool
-    requires old { place < length old.now.codes }
-    requires new { place < length new.now.codes }
-    ensures { result ≡ true ↔ slice_get old.now.codes place ≡ slice_get new.now.codes place }
+/// Whether a code is the same in two plans.
+pub fn is_same_code<A: Allocator>(old: &Plan<A>, new: &Plan<A>, code: CodeId) -> bool
+    requires old { code < length old.now.codes }
+    requires new { code < length new.now.codes }
+    ensures { result ≡ true ↔ slice_get old.now.codes code ≡ slice_get new.now.codes code }
 {
-    old.rules();
-    let code = CodeId::at(place as u16);
     old.home(code) == new.home(code) && old.code_figures(code) == new.code_figures(code)
 }
 
@@ -39,14 +35,12 @@ pub fn is_same_range<A: Allocator>(old: &Plan<A>, new: &Plan<A>, place: usize) -
     }
 }
 
-/// Whether two plans have the same group at a place.
-pub fn is_same_group<A: Allocator>(old: &Plan<A>, new: &Plan<A>, place: usize) -> bool
-    requires old { place < length old.now.groups }
-    requires new { place < length new.now.groups }
-    ensures { result ≡ true ↔ slice_get old.now.groups place ≡ slice_get new.now.groups place }
+/// Whether a group is the same in two plans.
+pub fn is_same_group<A: Allocator>(old: &Plan<A>, new: &Plan<A>, group: GroupId) -> bool
+    requires old { group < length old.now.groups }
+    requires new { group < length new.now.groups }
+    ensures { result ≡ true ↔ slice_get old.now.groups group ≡ slice_get new.now.groups group }
 {
-    old.rules();
-    let group = GroupId::at(place as u16);
     let (a, b) = old.ends(group);
     let (c, d) = new.ends(group);
     if a != c || b != d {
@@ -64,14 +58,5 @@ pub fn is_same_group<A: Allocator>(old: &Plan<A>, new: &Plan<A>, place: usize) -
 fn is_same_direction(a: Direction, b: Direction) -> bool
     ensures { result ≡ true ↔ a ≡ b }
 {
-    match a {
-        Direction::OneWay => match b {
-            Direction::OneWay => true,
-            Direction::BothWay => false,
-        },
-        Direction::BothWay => match b {
-            Direction::OneWay => false,
-            Direction::BothWay => true,
-        },
-    }
+    a == b
 }

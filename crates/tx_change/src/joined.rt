@@ -2,6 +2,7 @@
 ghost use Rattle.std.specs.Prelude.{◌≡◌, ◌++◌, IfOk};
 ghost use Rattle.tx_plan.specs.Routes.{route_list};
 ghost use Rattle.tx_change.specs.inner.Joined.{AreJoined};
+ghost use Rattle.tx_change.specs.inner.OneNetwork.{AreOfOneNetwork};
 
 use std::alloc::{Allocator, Global};
 use std::marker::Model;
@@ -62,12 +63,12 @@ pub fn joined_lists<A: Allocator + Copy>(
     new: &Plan<A>,
     code: CodeId,
 ) -> Result<Vec<Groups<A>, A>, NoMemory>
+    requires { AreOfOneNetwork old.now new.now }
     ensures { IfOk result (λ lists. AreJoined old.now new.now code lists.items) }
 {
-    old.rules();
     let mut lists = Vec::new(alloc);
     for place in 0..old.exchanges() {
-        let exchange = ExchangeId::at(place as u16);
+        let exchange = ExchangeId::of(place);
         lists.push(joined(alloc, old, new, code, exchange)?)?;
     }
     Ok(lists)

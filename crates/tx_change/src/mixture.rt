@@ -9,13 +9,13 @@ ghost use Rattle.tx_change.specs.MixtureShown.{has_walk, first_walked, ShowsMixt
 use crate::showing::shown;
 use std::alloc::{Allocator, Global};
 use tx_audit::counter;
+use tx_machine::Event;
 use tx_plan::Plan;
 use tx_rank::Finding;
-use tx_state::Event;
 use tx_text::NoMemory;
 
 /// A mixture, and the events that show what is wrong with it, if there are some.
-#[derive(Drop)]
+#[derive(Debug, Drop)]
 pub struct ShownMixture<A: Allocator = Global> {
     /// The mixture.
     pub plan: Plan<A>,
@@ -25,7 +25,7 @@ pub struct ShownMixture<A: Allocator = Global> {
 
 /// The mixture that the first finding with a walk shows, and the events that show this finding
 /// there: none of them is refused, and they break what a sound plan keeps. Takes the old plan
-/// apart. `None` where no finding has a walk. `Err` is want of memory.
+/// apart. `None` where no finding has a walk. `Err` means out of memory.
 pub fn first_mixture<A: Allocator + Copy>(
     alloc: A,
     old: Plan<A>,
@@ -43,10 +43,7 @@ pub fn first_mixture<A: Allocator + Copy>(
             let mixture = show_mixture(alloc, old, new, finding, limit, spare)?;
             Ok(Some(mixture))
         }
-        None => {
-            drop(old);
-            Ok(None)
-        }
+        None => Ok(None),
     }
 }
 

@@ -1,11 +1,12 @@
 // The report of a change.
 ghost use Rattle.std.specs.Prelude.{◌≡◌, ◌≤◌, []};
+ghost use Rattle.tx_text.specs.Ends.{output};
 ghost use Rattle.tx_text.specs.Wrote.{Wrote};
 ghost use Rattle.tx_plan.specs.Mixtures.{SameNetwork, AreCommon};
 ghost use Rattle.tx_cert.specs.Certificate.{IsCertificateOf, ranks_of};
 ghost use Rattle.tx_rank.specs.Rankings.{OnFound};
 ghost use Rattle.tx_audit.specs.Audits.{mark_after};
-ghost use Rattle.tx_audit.specs.Ranked.{findings_of};
+ghost use Rattle.tx_audit.specs.Report.{findings_of};
 ghost use Rattle.tx_change.specs.ChangeReport.{change_report};
 ghost use Rattle.tx_change.specs.ChangeAnswers.{IsCleared, ChangeAnswers};
 
@@ -15,9 +16,9 @@ use std::alloc::Allocator;
 use tx_audit::AuditFault;
 use tx_cert::Cert;
 use tx_check::{Verdict, check};
+use tx_machine::{common_ranks_certify, live_change_is_sound};
 use tx_plan::Plan;
 use tx_rank::{Finding, Ranking};
-use tx_state::{common_ranks_certify, live_change_is_sound};
 use tx_text::{Sink, WriteFault};
 
 /// Writes the report on a change of a plan into another one of the same network, list by list, for
@@ -35,17 +36,13 @@ pub fn report_change<A: Allocator + Copy, W: Sink>(
     requires network { SameNetwork old.now new.now }
     requires limit { limit ≤ 62 }
     requires spare { spare ≤ 15 }
-    ensures answers { ChangeAnswers old.now new.now limit spare (W.taken out.old) (W.taken out.new)
-        (out.new ≡ out.old) result }
+    ensures answers { ChangeAnswers old.now new.now limit spare
+        (output W.taken out.old out.new) result }
     ensures mark { W.failed out.new ≡ mark_after (W.failed out.old) result }
 {
-    match change(alloc, old, new, limit, spare) {
-        Ok(ranking) => match report_ranking(old, new, &ranking, limit, spare, out) {
-            Ok(()) => Ok(ranking),
-            Err(WriteFault) => Err(AuditFault::Write),
-        },
-        Err(_) => Err(AuditFault::NoMemory),
-    }
+    let ranking = change(alloc, old, new, limit, spare)?;
+    report_ranking(old, new, &ranking, limit, spare, out)?;
+    Ok(ranking)
 }
 
 /// Reports what a ranking came to; a certificate after the checker said Yes to it for both plans.
@@ -64,7 +61,7 @@ fn report_ranking<A: Allocator, W: Sink>(
     requires common { OnFound (λ cert. AreCommon old.now new.now (ranks_of cert) limit spare)
         ranking.now }
     ensures cleared { OnFound (IsCleared old.now new.now limit spare) ranking.now }
-    ensures wrote { Wrote (W.taken out.old) (W.taken out.new) (W.failed out.old) (W.failed out.new)
+    ensures wrote { Wrote W.taken W.failed out.old out.new
         (change_report old.now limit spare (findings_of ranking.now)) result }
 {
     match ranking {
@@ -88,7 +85,7 @@ fn confirm<A: Allocator, W: Sink>(
     requires fits { IsCertificateOf old.now cert.now }
     requires common { AreCommon old.now new.now (ranks_of cert.now) limit spare }
     ensures cleared { IsCleared old.now new.now limit spare cert.now }
-    ensures wrote { Wrote (W.taken out.old) (W.taken out.new) (W.failed out.old) (W.failed out.new)
+    ensures wrote { Wrote W.taken W.failed out.old out.new
         (change_report {A = A} old.now limit spare []) result }
 {
     common_ranks_certify();

@@ -1,6 +1,6 @@
 // The mixture that a finding shows.
 ghost use Rattle.std.specs.Prelude.{◌≡◌, ◌≤◌, ◌++◌, true, false, length, slice_get, Some, IfOk, filter};
-ghost use Rattle.tx_entries.specs.declared.pair.Pair.{Pair as Bar};
+ghost use Rattle.tx_plan.specs.declared.ids.Pair.{Pair as Bar};
 ghost use Rattle.tx_plan.specs.Plan.{Route};
 ghost use Rattle.tx_plan.specs.Among.{Among};
 ghost use Rattle.tx_plan.specs.Mixtures.{SameNetwork};
@@ -59,9 +59,7 @@ fn mix<A: Allocator + Copy>(
     Ok(old.rerouted(routes, bars))
 }
 
-// ROUTES
-
-/// The old routes and the new ones that stand in the mixture.
+/// The old routes and the new ones that are in the mixture.
 fn mixed_routes<A: Allocator + Copy>(
     alloc: A,
     taking: &Taking<'_, A>,
@@ -90,14 +88,13 @@ fn add_routes<A: Allocator>(
     ensures { IfOk result (λ _. routes.new
         ≡ routes.old ++ filter (keeps_route from_new taking.now) from.now.routes) }
 {
-    from.rules();
     for place in 0..from.routes() {
         add_route(from, taking, from_new, place, routes)?;
     }
     Ok(())
 }
 
-/// Adds the one at a place, if it stands in the mixture.
+/// Adds the one at a place, if it is in the mixture.
 fn add_route<A: Allocator>(
     from: &Plan<A>,
     taking: &Taking<'_, A>,
@@ -110,7 +107,6 @@ fn add_route<A: Allocator>(
     ensures { IfOk result (λ _. routes.new ≡ routes.old
         ++ kept_alone (keeps_route from_new taking.now) (slice_get from.now.routes place)) }
 {
-    from.rules();
     match from.route_at(place) {
         Some((exchange, code)) => {
             if taking.has_list(exchange, code) != from_new {
@@ -130,14 +126,12 @@ fn list_of(groups: &[GroupId]) -> GroupList
 {
     let mut list = GroupList::new();
     for i in 0..groups.len() {
-        list.keep(groups[i]);
+        list.push(groups[i]);
     }
     list
 }
 
-// BARS
-
-/// The old bars and the new ones that stand in the mixture.
+/// The old bars and the new ones that are in the mixture.
 fn mixed_bars<A: Allocator + Copy>(
     alloc: A,
     taking: &Taking<'_, A>,
@@ -166,14 +160,13 @@ fn add_bars<A: Allocator>(
     ensures { IfOk result (λ _. bars.new
         ≡ bars.old ++ filter (keeps_bar from_new taking.now) from.now.bars) }
 {
-    from.rules();
     for place in 0..from.bars() {
         add_bar(from, taking, from_new, place, bars)?;
     }
     Ok(())
 }
 
-/// Adds the one at a place, if it stands in the mixture.
+/// Adds the one at a place, if it is in the mixture.
 fn add_bar<A: Allocator>(
     from: &Plan<A>,
     taking: &Taking<'_, A>,
@@ -186,7 +179,6 @@ fn add_bar<A: Allocator>(
     ensures { IfOk result (λ _. bars.new ≡ bars.old
         ++ kept_alone (keeps_bar from_new taking.now) (slice_get from.now.bars place)) }
 {
-    from.rules();
     match from.bar_at(place) {
         Some((exchange, code)) => {
             if taking.has_bar(exchange, code) != from_new {

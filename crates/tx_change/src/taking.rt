@@ -96,7 +96,7 @@ fn takes_bar<A: Allocator>(
     walk.start == exchange && !old.is_origin_for(walk.start, code)
 }
 
-/// Whether a group stands in the list of an exchange.
+/// Whether a group is in the list of an exchange.
 fn is_listed<A: Allocator>(
     plan: &Plan<A>,
     code: CodeId,

@@ -10,7 +10,7 @@ use Rattle.tx_plan.specs.Routes.{route_list, is_origin, is_origin_for}
 use Rattle.tx_plan.specs.Circuits.{other_end}
 use Rattle.tx_plan.specs.Certified.{Ranks, IsBelow, LeadsLower, LeadsDown, IsCertified}
 use Rattle.tx_plan.specs.Rules.{IsPlan, IsCode, IsRange}
-use Rattle.tx_entries.specs.declared.range.LineRange.{LineRange}
+use Rattle.tx_plan.specs.declared.range.LineRange.{LineRange}
 use Rattle.tx_plan.proofs.Ambiguity.{none-ambiguous, ambiguous-none}
 use Rattle.tx_plan.proofs.ByPlace.{entry_at, all_at}
 use Rattle.tx_check.specs.declared.fault.CheckFault.{CheckFault}

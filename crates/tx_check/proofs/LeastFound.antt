@@ -11,7 +11,8 @@ use Rattle.std.proofs.lemmas.Bool.{ltb-true, ltb-false, and_parts}
 use Rattle.std.proofs.lemmas.Option.{slice_get_within}
 use Rattle.tx_plan.specs.Plan.{Plan, Code, figures_of, code_named}
 use Rattle.tx_plan.specs.Codes.{is_prefix, after}
-use Rattle.tx_plan.specs.Ambiguous.{ambiguous_of, IsAmbiguousAt}
+use Rattle.tx_plan.specs.Ambiguous.{ambiguous_of}
+use Rattle.tx_plan.specs.inner.AmbiguousAt.{IsAmbiguousAt}
 use Rattle.tx_plan.specs.Rules.{IsPlan}
 use Rattle.tx_plan.proofs.Absent.{short_code}
 use Rattle.tx_plan.proofs.Ambiguity.{ambiguous-none, ambiguous-some}

@@ -14,9 +14,18 @@ fault_words p (HomeNotZero c) = codes "K2" ∷ figures_of p c ∷ []
 fault_words p (OriginUnranked c x) = codes "K3" ∷ figures_of p c ∷ exchange_name p x ∷ []
 fault_words p (TooHigh c x) = codes "K4" ∷ figures_of p c ∷ exchange_name p x ∷ []
 fault_words p (Short c x) = codes "K5" ∷ figures_of p c ∷ exchange_name p x ∷ []
-fault_words p (TargetUnranked c x g) = codes "K6" ∷ figures_of p c ∷ exchange_name p x ∷ group_name p g ∷ []
-fault_words p (NotLower c x g) = codes "K7" ∷ figures_of p c ∷ exchange_name p x ∷ group_name p g ∷ []
+fault_words p (TargetUnranked c x g) =
+    codes "K6"
+    ∷ figures_of p c
+    ∷ exchange_name p x
+    ∷ group_name p g ∷ []
+fault_words p (NotLower c x g) =
+    codes "K7"
+    ∷ figures_of p c
+    ∷ exchange_name p x
+    ∷ group_name p g ∷ []
 
+-- the words of a verdict: YES, or NO with the fault
 abbrev pub verdict_words : Plan → Verdict → List (List ℕ)
 verdict_words p Yes = codes "YES" ∷ []
 verdict_words p (No fault) = codes "NO" ∷ fault_words p fault

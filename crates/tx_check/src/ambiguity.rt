@@ -1,4 +1,4 @@
-// The pair of codes that a check tells first.
+// The pair of codes that a check reports first.
 ghost use Rattle.std.specs.Prelude.{◌≡◌, ◌+◌, ◌<◌, length};
 ghost use Rattle.tx_plan.specs.Ambiguous.{ambiguous_of};
 ghost use Rattle.tx_plan.specs.Codes.{is_prefix};
@@ -8,14 +8,14 @@ use std::alloc::Allocator;
 use std::cmp::{Ord, Ordering};
 use tx_plan::{CodeId, Plan};
 
-/// The least pair of a code and a longer code that begins with it, if there is one. Takes no memory.
+/// The least pair of a code and a longer code that begins with it, if there is one. Takes no
+/// memory.
 pub(crate) fn ambiguous<A: Allocator>(plan: &Plan<A>) -> Option<(CodeId, CodeId)>
     ensures { result ≡ ambiguous_of plan.now.codes }
 {
-    plan.rules();
     let mut least = None;
     for place in 0..plan.codes() {
-        least = least_with(plan, CodeId::at(place as u16), least);
+        least = least_with(plan, CodeId::of(place), least);
     }
     least
 }
@@ -30,14 +30,14 @@ fn least_with<A: Allocator>(
     requires least { IsLeastBelow plan.now first least }
     ensures { IsLeastBelow plan.now (first + 1) result }
 {
-    plan.rules();
+    let codes = plan.codes();
     // No code is longer than three figures.
     if plan.code_figures(first).len() >= 3 {
         return least;
     }
     let mut least = least;
-    for place in 0..plan.codes() {
-        least = with_pair(plan, first, CodeId::at(place as u16), least);
+    for place in 0..codes {
+        least = with_pair(plan, first, CodeId::of(place), least);
     }
     least
 }

@@ -1,7 +1,7 @@
 // The checker.
 ghost use Rattle.std.specs.Prelude.{◌≡◌, ◌≤◌};
 ghost use Rattle.tx_plan.specs.Certified.{IsCertified};
-ghost use Rattle.tx_state.specs.Sound.{IsSound, HasFewRoutes};
+ghost use Rattle.tx_machine.specs.Sound.{IsSound, HasFewRoutes};
 ghost use Rattle.tx_check.specs.Checks.{ranks_for, check_faults, foremost, verdict_of};
 
 use crate::ambiguity::ambiguous;
@@ -13,17 +13,22 @@ use std::alloc::Allocator;
 use tx_cert::Cert;
 use tx_plan::Plan;
 
-/// Whether the plan is certified by the ranks of the certificate, for at most `limit` transits (0 to 62, ITU-T F.68) and `spare` groups to spare (0 to 15).
+/// Whether the plan is certified by the ranks of the certificate, for at most `limit` transits (0
+/// to 62, ITU-T F.68) and `spare` groups to spare (0 to 15).
 ///
-/// After a Yes the plan is sound: in every run, whatever the events, every state is safe, and NC is answered only after a second head-on collision, or where
-/// more than `spare` groups are listed and each of them is down or has no free circuit. And at most twice `limit` and three Routes of one call are accepted.
-/// A No tells the first fault. Takes no memory.
+/// After a Yes the plan is sound: in every run, whatever the events, every state is safe, and NC is
+/// answered only after a second head-on collision, or where more than `spare` groups are listed and
+/// each of them is down or has no free circuit. And at most twice `limit` and three Routes of one
+/// call are accepted. A No reports the first fault. Takes no memory.
 pub fn check<A: Allocator>(plan: &Plan<A>, cert: &Cert<A>, limit: u8, spare: u8) -> Verdict
     requires limit { limit ≤ 62 }
     requires spare { spare ≤ 15 }
-    ensures verdict { result ≡ verdict_of (check_faults plan.now (ranks_for plan.now cert.now) limit spare) }
-    ensures certified { result ≡ Verdict.Yes → IsCertified plan.now (ranks_for plan.now cert.now) limit spare }
-    ensures yes { IsCertified plan.now (ranks_for plan.now cert.now) limit spare → result ≡ Verdict.Yes }
+    ensures verdict { result ≡ verdict_of
+        (check_faults plan.now (ranks_for plan.now cert.now) limit spare) }
+    ensures certified { result ≡ Verdict.Yes
+        → IsCertified plan.now (ranks_for plan.now cert.now) limit spare }
+    ensures yes { IsCertified plan.now (ranks_for plan.now cert.now) limit spare
+        → result ≡ Verdict.Yes }
     ensures sound { result ≡ Verdict.Yes → IsSound plan.now limit spare }
     ensures few_routes { result ≡ Verdict.Yes → HasFewRoutes plan.now limit }
 {

@@ -1,5 +1,5 @@
-//! The checker of certificates: whether ranks show that a plan is safe for a transit limit and a spare number, and else why not. Its contract carries the
-//! headline.
+//! The checker of certificates: whether ranks show that a plan is safe for a transit limit and a
+//! spare number, and else why not. Its contract carries the headline.
 #![tactic(auto)]
 
 mod ambiguity;

@@ -56,26 +56,27 @@ fn earlier(first: Option<CheckFault>, later: Option<CheckFault>) -> Option<Check
 
 /// The first faults in the lists of all codes and exchanges. Looks at each list once.
 pub(crate) fn list_faults<A: Allocator>(plan: &Plan<A>, cert: &Cert<A>, spare: u8) -> Firsts
-    ensures { result ≡ firsts_of (too_short_faults plan.now (ranks_for plan.now cert.now) spare) (target_unranked_faults plan.now (ranks_for plan.now cert.now))
+    ensures { result ≡ firsts_of (too_short_faults plan.now (ranks_for plan.now cert.now) spare)
+        (target_unranked_faults plan.now (ranks_for plan.now cert.now))
         (not_lower_faults plan.now (ranks_for plan.now cert.now)) }
 {
-    plan.rules();
     let mut firsts = Firsts::none();
     for place in 0..plan.codes() {
-        firsts = firsts.or(code_faults(plan, cert, spare, CodeId::at(place as u16)));
+        firsts = firsts.or(code_faults(plan, cert, spare, CodeId::of(place)));
     }
     firsts
 }
 
 /// The first faults in the lists for a code.
 fn code_faults<A: Allocator>(plan: &Plan<A>, cert: &Cert<A>, spare: u8, code: CodeId) -> Firsts
-    ensures { result ≡ firsts_of (at_exchanges plan.now (too_short_at plan.now (ranks_for plan.now cert.now) spare code))
-        (at_exchanges plan.now (target_unranked_at plan.now (ranks_for plan.now cert.now) code)) (at_exchanges plan.now (not_lower_at plan.now (ranks_for plan.now cert.now) code)) }
+    ensures { result ≡ firsts_of
+        (at_exchanges plan.now (too_short_at plan.now (ranks_for plan.now cert.now) spare code))
+        (at_exchanges plan.now (target_unranked_at plan.now (ranks_for plan.now cert.now) code))
+        (at_exchanges plan.now (not_lower_at plan.now (ranks_for plan.now cert.now) code)) }
 {
-    plan.rules();
     let mut firsts = Firsts::none();
     for place in 0..plan.exchanges() {
-        firsts = firsts.or(pair_faults(plan, cert, spare, code, ExchangeId::at(place as u16)));
+        firsts = firsts.or(pair_faults(plan, cert, spare, code, ExchangeId::of(place)));
     }
     firsts
 }
@@ -88,7 +89,8 @@ fn pair_faults<A: Allocator>(
     code: CodeId,
     exchange: ExchangeId,
 ) -> Firsts
-    ensures { result ≡ firsts_of (too_short_at plan.now (ranks_for plan.now cert.now) spare code exchange) (target_unranked_at plan.now (ranks_for plan.now cert.now) code exchange)
+    ensures { result ≡ firsts_of (too_short_at plan.now (ranks_for plan.now cert.now) spare
+        code exchange) (target_unranked_at plan.now (ranks_for plan.now cert.now) code exchange)
         (not_lower_at plan.now (ranks_for plan.now cert.now) code exchange) }
 {
     let Some(rank) = rank_away(plan, cert, code, exchange) else {
@@ -137,7 +139,8 @@ fn not_lower_fault(code: CodeId, exchange: ExchangeId, group: Option<GroupId>) -
     }
 }
 
-/// The first group of the list that leads to an exchange without rank, and the first that leads to a rank that is not smaller.
+/// The first group of the list that leads to an exchange without rank, and the first that leads to
+/// a rank that is not smaller.
 fn first_wrong<A: Allocator>(
     plan: &Plan<A>,
     cert: &Cert<A>,
@@ -146,10 +149,12 @@ fn first_wrong<A: Allocator>(
     rank: u16,
     list: &[GroupId],
 ) -> (Option<GroupId>, Option<GroupId>)
-    ensures unranked { result.0 ≡ find (λ g. is_none (rank_beyond plan.now (ranks_for plan.now cert.now) code exchange g)) list.now }
-    ensures not_lower { result.1 ≡ find (λ g. is_at_least (rank_beyond plan.now (ranks_for plan.now cert.now) code exchange g) rank) list.now }
+    ensures unranked { result.0 ≡ find (λ g.
+        is_none (rank_beyond plan.now (ranks_for plan.now cert.now) code exchange g)) list.now }
+    ensures not_lower { result.1 ≡ find (λ g. is_at_least
+        (rank_beyond plan.now (ranks_for plan.now cert.now) code exchange g) rank) list.now }
 {
-    // Where nothing is wrong, one pass over the list tells it.
+    // Where nothing is wrong, one pass over the list shows it.
     match first_either(plan, cert, code, exchange, rank, list) {
         None => (None, None),
         Some(_) => (
@@ -159,7 +164,8 @@ fn first_wrong<A: Allocator>(
     }
 }
 
-/// The first group of the list that leads to an exchange without rank, or to a rank that is not smaller.
+/// The first group of the list that leads to an exchange without rank, or to a rank that is not
+/// smaller.
 fn first_either<A: Allocator>(
     plan: &Plan<A>,
     cert: &Cert<A>,
@@ -168,8 +174,9 @@ fn first_either<A: Allocator>(
     rank: u16,
     list: &[GroupId],
 ) -> Option<GroupId>
-    ensures { result ≡ find (λ g. is_none (rank_beyond plan.now (ranks_for plan.now cert.now) code exchange g)
-        || is_at_least (rank_beyond plan.now (ranks_for plan.now cert.now) code exchange g) rank) list.now }
+    ensures { result ≡ find (λ g. is_none
+        (rank_beyond plan.now (ranks_for plan.now cert.now) code exchange g) || is_at_least
+        (rank_beyond plan.now (ranks_for plan.now cert.now) code exchange g) rank) list.now }
 {
     list.iter().copied().find(|group| is_wrong(
         rank_beyond(plan, cert, code, exchange, *group),
@@ -191,7 +198,8 @@ fn first_unranked<A: Allocator>(
     exchange: ExchangeId,
     list: &[GroupId],
 ) -> Option<GroupId>
-    ensures { result ≡ find (λ g. is_none (rank_beyond plan.now (ranks_for plan.now cert.now) code exchange g)) list.now }
+    ensures { result ≡ find (λ g. is_none
+        (rank_beyond plan.now (ranks_for plan.now cert.now) code exchange g)) list.now }
 {
     list.iter().copied().find(|group| rank_beyond(plan, cert, code, exchange, *group).is_none())
 }
@@ -205,7 +213,8 @@ fn first_not_lower<A: Allocator>(
     rank: u16,
     list: &[GroupId],
 ) -> Option<GroupId>
-    ensures { result ≡ find (λ g. is_at_least (rank_beyond plan.now (ranks_for plan.now cert.now) code exchange g) rank) list.now }
+    ensures { result ≡ find (λ g. is_at_least
+        (rank_beyond plan.now (ranks_for plan.now cert.now) code exchange g) rank) list.now }
 {
     list.iter().copied().find(|group| is_at_least(
         rank_beyond(plan, cert, code, exchange, *group),

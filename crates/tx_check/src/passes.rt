@@ -13,9 +13,8 @@ use tx_plan::{CodeId, ExchangeId, Plan};
 pub(crate) fn home_fault<A: Allocator>(plan: &Plan<A>, cert: &Cert<A>) -> Option<CheckFault>
     ensures { result ≡ foremost (home_not_zero_faults plan.now (ranks_for plan.now cert.now)) }
 {
-    plan.rules();
     for place in 0..plan.codes() {
-        let found = home_fault_for(plan, cert, CodeId::at(place as u16));
+        let found = home_fault_for(plan, cert, CodeId::of(place));
         if found.is_some() {
             return found;
         }
@@ -42,10 +41,9 @@ fn home_fault_for<A: Allocator>(plan: &Plan<A>, cert: &Cert<A>, code: CodeId) ->
 pub(crate) fn origin_fault<A: Allocator>(plan: &Plan<A>, cert: &Cert<A>) -> Option<CheckFault>
     ensures { result ≡ foremost (origin_unranked_faults plan.now (ranks_for plan.now cert.now)) }
 {
-    plan.rules();
     let origins = origins(plan);
     for place in 0..plan.codes() {
-        let found = origin_fault_for(plan, cert, &origins, CodeId::at(place as u16));
+        let found = origin_fault_for(plan, cert, &origins, CodeId::of(place));
         if found.is_some() {
             return found;
         }
@@ -55,12 +53,12 @@ pub(crate) fn origin_fault<A: Allocator>(plan: &Plan<A>, cert: &Cert<A>) -> Opti
 
 /// Which exchanges are origins.
 fn origins<A: Allocator>(plan: &Plan<A>) -> [bool; 256]
-    ensures { (x : ℕ) → x < length plan.now.exchanges → slice_index_or result x false ≡ is_origin plan.now x }
+    ensures { (x : ℕ) → x < length plan.now.exchanges
+        → slice_index_or result x false ≡ is_origin plan.now x }
 {
-    plan.rules();
     let mut marks = [false; 256];
     for place in 0..plan.exchanges() {
-        marks[place] = plan.is_origin(ExchangeId::at(place as u16));
+        marks[place] = plan.is_origin(ExchangeId::of(place));
     }
     marks
 }
@@ -71,12 +69,13 @@ fn origin_fault_for<A: Allocator>(
     origins: &[bool; 256],
     code: CodeId,
 ) -> Option<CheckFault>
-    requires { (x : ℕ) → x < length plan.now.exchanges → slice_index_or origins.now x false ≡ is_origin plan.now x }
-    ensures { result ≡ foremost (at_exchanges plan.now (origin_unranked_at plan.now (ranks_for plan.now cert.now) code)) }
+    requires { (x : ℕ) → x < length plan.now.exchanges
+        → slice_index_or origins.now x false ≡ is_origin plan.now x }
+    ensures { result ≡ foremost
+        (at_exchanges plan.now (origin_unranked_at plan.now (ranks_for plan.now cert.now) code)) }
 {
-    plan.rules();
     for place in 0..plan.exchanges() {
-        let exchange = ExchangeId::at(place as u16);
+        let exchange = ExchangeId::of(place);
         let found = origin_fault_at(plan, cert, origins[place], code, exchange);
         if found.is_some() {
             return found;
@@ -93,7 +92,8 @@ fn origin_fault_at<A: Allocator>(
     exchange: ExchangeId,
 ) -> Option<CheckFault>
     requires { origin ≡ is_origin plan.now exchange }
-    ensures { result ≡ foremost (origin_unranked_at plan.now (ranks_for plan.now cert.now) code exchange) }
+    ensures { result
+        ≡ foremost (origin_unranked_at plan.now (ranks_for plan.now cert.now) code exchange) }
 {
     if origin && rank_of(plan, cert, code, exchange).is_none() && !plan.is_barred(exchange, code) {
         Some(CheckFault::OriginUnranked(code, exchange))
@@ -110,9 +110,8 @@ pub(crate) fn height_fault<A: Allocator>(
 ) -> Option<CheckFault>
     ensures { result ≡ foremost (too_high_faults plan.now (ranks_for plan.now cert.now) limit) }
 {
-    plan.rules();
     for place in 0..plan.codes() {
-        let found = height_fault_for(plan, cert, limit, CodeId::at(place as u16));
+        let found = height_fault_for(plan, cert, limit, CodeId::of(place));
         if found.is_some() {
             return found;
         }
@@ -126,11 +125,11 @@ fn height_fault_for<A: Allocator>(
     limit: u8,
     code: CodeId,
 ) -> Option<CheckFault>
-    ensures { result ≡ foremost (at_exchanges plan.now (too_high_at (ranks_for plan.now cert.now) limit code)) }
+    ensures { result
+        ≡ foremost (at_exchanges plan.now (too_high_at (ranks_for plan.now cert.now) limit code)) }
 {
-    plan.rules();
     for place in 0..plan.exchanges() {
-        let found = height_fault_at(plan, cert, limit, code, ExchangeId::at(place as u16));
+        let found = height_fault_at(plan, cert, limit, code, ExchangeId::of(place));
         if found.is_some() {
             return found;
         }

@@ -1,7 +1,5 @@
 // How verdicts are written.
-ghost use Rattle.std.specs.Prelude.{◌≡◌, ◌++◌, ◌∷◌, [], true, OnOk, OnErr};
-ghost use Rattle.std.specs.Io.KnownBytes.{append_known};
-ghost use Rattle.tx_text.specs.Ends.{StopsIn};
+ghost use Rattle.std.specs.Prelude.{◌++◌, ◌∷◌, []};
 ghost use Rattle.tx_text.specs.Written.{line_written};
 ghost use Rattle.tx_text.specs.Wrote.{Wrote};
 ghost use Rattle.tx_plan.specs.Plan.{figures_of, exchange_name, group_name};
@@ -12,18 +10,17 @@ use crate::fault::CheckFault;
 use crate::verdict::Verdict;
 use std::alloc::Allocator;
 use tx_plan::{CodeId, ExchangeId, GroupId, Plan};
-use tx_text::{Sink, WriteFault, write_bytes, write_text};
+use tx_text::{Sink, WriteFault, write_bytes, write_parts};
 
-/// Writes the verdict as one line, as `YES` or `NO K7 24 CENTRAL CENO1`, with its LF. Where the sink fails, a front of the line was taken.
+/// Writes the verdict as one line, as `YES` or `NO K7 24 CENTRAL CENO1`, with its LF. Where the
+/// sink fails, a front of the line was taken.
 pub fn write_verdict<A: Allocator, W: Sink>(
     verdict: &Verdict,
     plan: &Plan<A>,
     sink: &mut W,
 ) -> Result<(), WriteFault>
-    ensures ok { OnOk result (W.taken sink.new ≡ append_known (W.taken sink.old) (verdict_written plan.now verdict.now)) }
-    ensures err { OnErr result (StopsIn (W.taken sink.old) (W.taken sink.new) (verdict_written plan.now verdict.now)) }
-    ensures mark { OnErr result (W.failed sink.new ≡ true) }
-    ensures unmarked { OnOk result (W.failed sink.new ≡ W.failed sink.old) }
+    ensures { Wrote W.taken W.failed sink.old sink.new
+        (verdict_written plan.now verdict.now) result }
 {
     match *verdict {
         Verdict::Yes => write_bytes(b"YES\n", sink),
@@ -37,18 +34,19 @@ fn write_no<A: Allocator, W: Sink>(
     plan: &Plan<A>,
     sink: &mut W,
 ) -> Result<(), WriteFault>
-    ensures { Wrote (W.taken sink.old) (W.taken sink.new) (W.failed sink.old) (W.failed sink.new) (verdict_written plan.now (No fault)) result }
+    ensures { Wrote W.taken W.failed sink.old sink.new
+        (verdict_written plan.now (No fault)) result }
 {
     match fault {
         CheckFault::Ambiguous(a, b) => {
             let longer = plan.code_figures(b);
-            write_text(
+            write_parts(
                 &[b"NO K1 ", plan.code_figures(a), b" ", longer, b"\n"],
                 sink,
             )
         }
         CheckFault::HomeNotZero(code) => {
-            write_text(&[b"NO K2 ", plan.code_figures(code), b"\n"], sink)
+            write_parts(&[b"NO K2 ", plan.code_figures(code), b"\n"], sink)
         }
         CheckFault::OriginUnranked(code, exchange) => {
             write_exchange(b"NO K3 ", plan, code, exchange, sink)
@@ -76,11 +74,11 @@ fn write_exchange<A: Allocator, W: Sink>(
     exchange: ExchangeId,
     sink: &mut W,
 ) -> Result<(), WriteFault>
-    ensures { Wrote (W.taken sink.old) (W.taken sink.new) (W.failed sink.old) (W.failed sink.new)
-        (front.now ++ line_written (figures_of plan.now code ∷ exchange_name plan.now exchange ∷ [])) result }
+    ensures { Wrote W.taken W.failed sink.old sink.new (front.now
+        ++ line_written (figures_of plan.now code ∷ exchange_name plan.now exchange ∷ [])) result }
 {
     let name = plan.exchange_name(exchange);
-    write_text(&[front, plan.code_figures(code), b" ", name, b"\n"], sink)
+    write_parts(&[front, plan.code_figures(code), b" ", name, b"\n"], sink)
 }
 
 /// Writes the front of a line, and its code, exchange and group.
@@ -92,12 +90,12 @@ fn write_group<A: Allocator, W: Sink>(
     group: GroupId,
     sink: &mut W,
 ) -> Result<(), WriteFault>
-    ensures { Wrote (W.taken sink.old) (W.taken sink.new) (W.failed sink.old) (W.failed sink.new)
-        (front.now ++ line_written (figures_of plan.now code ∷ exchange_name plan.now exchange ∷ group_name plan.now group ∷ [])) result }
+    ensures { Wrote W.taken W.failed sink.old sink.new (front.now ++ line_written (figures_of
+        plan.now code ∷ exchange_name plan.now exchange ∷ group_name plan.now group ∷ [])) result }
 {
     let code = plan.code_figures(code);
     let exchange = plan.exchange_name(exchange);
-    write_text(
+    write_parts(
         &[
             front,
             code,

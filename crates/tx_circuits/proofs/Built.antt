@@ -8,13 +8,13 @@ use Rattle.std.proofs.lemmas.List.{length-replicate}
 use Rattle.std.proofs.lemmas.Map.Lookups.{exact_unsigned}
 use Rattle.tx_plan.specs.Plan.{Plan, Group}
 use Rattle.tx_plan.specs.Circuits.{direction_of, count_of, ends_of}
-use Rattle.tx_entries.specs.declared.circuit.Circuit.{Circuit}
-use Rattle.tx_entries.specs.declared.direction.Direction.TheVariants.{OneWay}
-use Rattle.tx_entries.proofs.Named.{circuits_total, exact_circuits}
-use Rattle.tx_circuits.specs.declared.free_lists.End.{End}
-use Rattle.tx_circuits.specs.declared.free_lists.End.TheVariants.{First, Other}
-use Rattle.tx_circuits.specs.declared.state.State.{State}
-use Rattle.tx_circuits.specs.declared.group_head.GroupHead.{GroupHead}
+use Rattle.tx_plan.specs.declared.ids.Circuit.{Circuit}
+use Rattle.tx_plan.specs.declared.ids.Direction.TheVariants.{OneWay}
+use Rattle.tx_plan.proofs.Named.{circuits_total, exact_circuits}
+use Rattle.tx_circuits.specs.declared.lists.End.{End}
+use Rattle.tx_circuits.specs.declared.lists.End.TheVariants.{First, Other}
+use Rattle.tx_circuits.specs.declared.slot.State.{State}
+use Rattle.tx_circuits.specs.declared.groups.GroupHead.{GroupHead}
 use Rattle.tx_circuits.specs.inner.Slots.{has_seized, rising}
 use Rattle.tx_circuits.specs.inner.Groups.{GroupState, numbered, end_at, idle}
 use Rattle.tx_circuits.specs.Table.{Seat, all_free, unnamed}

@@ -9,17 +9,17 @@ use Rattle.std.proofs.lemmas.Bool.Decides.{eqb_tells}
 use Rattle.std.proofs.lemmas.Map.Lookups.{exact_unsigned}
 use Rattle.std.proofs.Math.Bool.{and-true, and-false}
 use Rattle.tx_plan.specs.Orders.{same_circuit, circuit_cmp}
-use Rattle.tx_entries.specs.declared.circuit.Circuit.{Circuit}
-use Rattle.tx_entries.proofs.Named.{circuits_total, exact_circuits, same_circuit-is, same_circuit-itself}
-use Rattle.tx_circuits.specs.declared.free_lists.End.{End}
-use Rattle.tx_circuits.specs.declared.free_lists.End.TheVariants.{First, Other}
-use Rattle.tx_circuits.specs.declared.state.State.{State}
-use Rattle.tx_circuits.specs.declared.group_head.GroupHead.{GroupHead}
+use Rattle.tx_plan.specs.declared.ids.Circuit.{Circuit}
+use Rattle.tx_plan.proofs.Named.{circuits_total, exact_circuits, same_circuit-is, same_circuit-itself}
+use Rattle.tx_circuits.specs.declared.lists.End.{End}
+use Rattle.tx_circuits.specs.declared.lists.End.TheVariants.{First, Other}
+use Rattle.tx_circuits.specs.declared.slot.State.{State}
+use Rattle.tx_circuits.specs.declared.groups.GroupHead.{GroupHead}
 use Rattle.tx_circuits.specs.inner.Slots.{has_seized, opposite, rising}
 use Rattle.tx_circuits.specs.inner.Groups.{GroupState, state_at, numbered, set_numbered, seizing_end, end_at, with_state, change_at}
 use Rattle.tx_circuits.specs.Table.{Seat, seat_cmp}
 use Rattle.tx_circuits.specs.inner.Seen.{those, group_of, circuits_of, seats_of, gathered, is_marked, holds, sits}
-use Rattle.tx_circuits.proofs.Lists.{get-change_here, get-change_there, get-set_here, get-set_there}
+use Rattle.tx_circuits.proofs.FreeLists.{get-change_here, get-change_there, get-set_here, get-set_there}
 use Rattle.tx_circuits.proofs.Members.{Known, holds_in, sits_in, marked_in, end_is}
 use Rattle.tx_circuits.proofs.Seats.{seats_total, exact_seats}
 use Rattle.tx_circuits.proofs.Those.{those_stay, those_inserted, those_removed, those_retained}

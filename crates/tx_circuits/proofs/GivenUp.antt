@@ -3,9 +3,9 @@ use Rattle.std.proofs.Common.{◌≡◌, ◌∙◌, ℕ, zero, suc, Bool, true, 
 use Rattle.std.specs.Prelude.{is_some, if◌then◌else◌}
 use Rattle.std.specs.Option.{option_map_or}
 use Rattle.std.specs.FinSet.{contains}
-use Rattle.tx_entries.specs.declared.circuit.Circuit.{Circuit}
-use Rattle.tx_circuits.specs.declared.free_lists.End.{End}
-use Rattle.tx_circuits.specs.declared.state.State.{State}
+use Rattle.tx_plan.specs.declared.ids.Circuit.{Circuit}
+use Rattle.tx_circuits.specs.declared.lists.End.{End}
+use Rattle.tx_circuits.specs.declared.slot.State.{State}
 use Rattle.tx_circuits.specs.inner.Slots.{has_seized, with_seized}
 use Rattle.tx_circuits.specs.inner.Groups.{GroupState, state_at, end_at, set_numbered, with_state, change_at}
 use Rattle.tx_circuits.specs.Table.{Table, withdrawn, with_released, released_unless}

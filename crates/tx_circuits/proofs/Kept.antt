@@ -10,13 +10,13 @@ use Rattle.std.proofs.lemmas.Option.{slice_get-map, slice_get_within}
 use Rattle.std.proofs.lemmas.Slice.{between_is, take-put_mid_below, drop-put_mid, between-put_mid}
 use borrow.Rule.Slice.PartMut.{put_mid}
 use Rattle.tx_circuits.specs.declared.slot.Slot.{Slot}
-use Rattle.tx_circuits.specs.declared.state.State.{State}
-use Rattle.tx_circuits.specs.declared.row.Row.{Row}
-use Rattle.tx_circuits.specs.declared.group_head.GroupHead.{GroupHead}
+use Rattle.tx_circuits.specs.declared.slot.State.{State}
+use Rattle.tx_circuits.specs.declared.groups.Row.{Row}
+use Rattle.tx_circuits.specs.declared.groups.GroupHead.{GroupHead}
 use Rattle.tx_circuits.specs.inner.Slots.{state_of, IsSound}
 use Rattle.tx_circuits.specs.inner.Groups.{GroupState, group_slots, group_state, numbered, set_numbered, change_at, idle, AreKept, AreApart, IsAppended}
 use Rattle.tx_circuits.proofs.Linked.{le_or}
-use Rattle.tx_circuits.proofs.Lists.{get_is, get-set_here, get-set_there, some_is, pushed_is, map-set_change}
+use Rattle.tx_circuits.proofs.FreeLists.{get_is, get-set_here, get-set_there, some_is, pushed_is, map-set_change}
 
 -- THE SLOTS OF A GROUP
 

@@ -7,7 +7,7 @@ pub mod GivenUp
 pub mod Heads
 pub mod Kept
 pub mod Linked
-pub mod Lists
+pub mod FreeLists
 pub mod Members
 pub mod Ordered
 pub mod Places

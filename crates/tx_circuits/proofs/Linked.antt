@@ -2,8 +2,8 @@
 use Rattle.std.proofs.Common.{◌≡◌, ◌≢◌, ℕ, ◌+◌, ◌-◌, ◌<◌, ◌≤◌, ◌⊎◌, inl, inr, Bool, true, false, cond, Option, Some, None, refl, sym, ap, subst, ◌∙◌, arith, eq-eqb}
 use Rattle.std.specs.Prelude.{unwrap_or}
 use Rattle.std.proofs.lemmas.Bool.Decides.{leb_tells, eqb_tells}
-use Rattle.tx_circuits.specs.declared.free_lists.Way.{Way}
-use Rattle.tx_circuits.specs.declared.free_lists.Way.TheVariants.{Up, Down}
+use Rattle.tx_circuits.specs.declared.lists.Way.{Way}
+use Rattle.tx_circuits.specs.declared.lists.Way.TheVariants.{Up, Down}
 use Rattle.tx_circuits.specs.inner.Linked.{IsFirst, IsLast, IsLinked, with}
 use Rattle.tx_circuits.specs.inner.Slots.{rank_of, back}
 

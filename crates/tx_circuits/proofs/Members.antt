@@ -5,12 +5,12 @@ use Rattle.std.specs.Option.{option_map_or}
 use Rattle.std.proofs.lemmas.Bool.{and_parts}
 use Rattle.std.proofs.lemmas.Option.{slice_get_within}
 use Rattle.tx_plan.specs.Circuits.{upward, is_both}
-use Rattle.tx_entries.specs.declared.circuit.Circuit.{Circuit}
-use Rattle.tx_circuits.specs.declared.free_lists.End.{End}
-use Rattle.tx_circuits.specs.declared.free_lists.End.TheVariants.{First, Other}
-use Rattle.tx_circuits.specs.declared.free_lists.Way.TheVariants.{Up}
-use Rattle.tx_circuits.specs.declared.state.State.{State}
-use Rattle.tx_circuits.specs.declared.group_head.GroupHead.{GroupHead}
+use Rattle.tx_plan.specs.declared.ids.Circuit.{Circuit}
+use Rattle.tx_circuits.specs.declared.lists.End.{End}
+use Rattle.tx_circuits.specs.declared.lists.End.TheVariants.{First, Other}
+use Rattle.tx_circuits.specs.declared.lists.Way.TheVariants.{Up}
+use Rattle.tx_circuits.specs.declared.slot.State.{State}
+use Rattle.tx_circuits.specs.declared.groups.GroupHead.{GroupHead}
 use Rattle.tx_circuits.specs.inner.Slots.{has_seized, rising}
 use Rattle.tx_circuits.specs.inner.Groups.{GroupState, state_at, numbered, seizing_end, end_at}
 use Rattle.tx_circuits.specs.Table.{Seat}

@@ -2,11 +2,11 @@
 use Rattle.std.proofs.Common.{◌≡◌, ◌≢◌, ℕ, zero, suc, ◌+◌, ◌<◌, ◌≤◌, Bool, true, false, List, [], ◌∷◌, length, map, slice_index_or, Option, Some, None, refl, sym, subst, ap, ◌∙◌, arith}
 use Rattle.std.specs.Prelude.{IfSome, unwrap_or}
 use mathlib.Core.Bool.{beq}
-use Rattle.tx_circuits.specs.declared.free_lists.End.TheVariants.{First, Other}
+use Rattle.tx_circuits.specs.declared.lists.End.TheVariants.{First, Other}
 use Rattle.std.proofs.lemmas.List.{length-map}
-use Rattle.tx_circuits.specs.declared.free_lists.End.{End}
-use Rattle.tx_circuits.specs.declared.free_lists.Way.{Way}
-use Rattle.tx_circuits.specs.declared.free_lists.Way.TheVariants.{Up, Down}
+use Rattle.tx_circuits.specs.declared.lists.End.{End}
+use Rattle.tx_circuits.specs.declared.lists.Way.{Way}
+use Rattle.tx_circuits.specs.declared.lists.Way.TheVariants.{Up, Down}
 use Rattle.tx_circuits.specs.declared.slot.Slot.{Slot}
 use Rattle.tx_circuits.specs.inner.Linked.{IsFirst, IsLast, IsLinked, with}
 use Rattle.tx_circuits.specs.inner.Slots.{free_at, is_free, state_of, rank_of, back}
@@ -48,7 +48,7 @@ last_free : (free : ℕ → Bool) (rank : ℕ → ℕ) (high : ℕ) (q : Option 
 last_free free rank high None l = tt
 last_free free rank high (Some p) l = l.0
 
--- the neighbour behind a place is what follows the one before it
+-- the neighbour after a place is what follows the one before it
 module _ (free : ℕ → Bool) (inside : (k : ℕ) → free k ≡ true → k < 240) (i : ℕ) (i_in : i < 240) (taken : free i ≡ false) where
   after : (w : Way) (next : Option ℕ → Option ℕ) → IsLinked free (rank_of w) next → (q : Option ℕ) → IsLast free (rank_of w) (rank_of w i) q → IsFirst free (rank_of w) (rank_of w i + 1) (next q)
   after w next list q last =

@@ -8,8 +8,8 @@ use Rattle.std.proofs.lemmas.Bool.Decides.{same_from_decides}
 use Rattle.std.proofs.lemmas.Cmp.{on_total, then_total, tied_itself}
 use Rattle.std.proofs.lemmas.Map.Lookups.{exact_pairs, exact_unsigned}
 use Rattle.tx_plan.specs.Orders.{same_circuit, circuit_cmp}
-use Rattle.tx_entries.specs.declared.circuit.Circuit.{Circuit}
-use Rattle.tx_entries.proofs.Named.{circuits_total, exact_circuits, same_circuit-is, same_circuit-itself}
+use Rattle.tx_plan.specs.declared.ids.Circuit.{Circuit}
+use Rattle.tx_plan.proofs.Named.{circuits_total, exact_circuits, same_circuit-is, same_circuit-itself}
 use Rattle.tx_circuits.specs.Table.{Seat, seat_cmp}
 
 pub seats_total : IsTotalOrder seat_cmp

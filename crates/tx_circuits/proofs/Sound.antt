@@ -1,13 +1,13 @@
 -- The lists of a group: as they are said, and as they are linked.
 use Rattle.std.proofs.Common.{◌≡◌, ◌∙◌, ℕ, ◌+◌, ◌<◌, ◌≤◌, Bool, true, false, List, [], ◌∷◌, ◌++◌, length, map, take, drop, Option, Some, None, slice_index_or, slice_set, refl, sym, ap, subst, arith}
 use Rattle.std.specs.Prelude.{filter, nat_lt, ◌&&◌}
-use Rattle.tx_circuits.specs.declared.free_lists.End.{End}
-use Rattle.tx_circuits.specs.declared.free_lists.End.TheVariants.{First, Other}
-use Rattle.tx_circuits.specs.declared.free_lists.Way.{Way}
+use Rattle.tx_circuits.specs.declared.lists.End.{End}
+use Rattle.tx_circuits.specs.declared.lists.End.TheVariants.{First, Other}
+use Rattle.tx_circuits.specs.declared.lists.Way.{Way}
 use Rattle.tx_circuits.specs.declared.slot.Slot.{Slot}
-use Rattle.tx_circuits.specs.declared.state.State.{State}
-use Rattle.tx_circuits.specs.declared.free_lists.FreeList.{FreeList}
-use Rattle.tx_circuits.specs.declared.free_lists.FreeLists.{FreeLists}
+use Rattle.tx_circuits.specs.declared.slot.State.{State}
+use Rattle.tx_circuits.specs.declared.lists.FreeList.{FreeList}
+use Rattle.tx_circuits.specs.declared.lists.FreeLists.{FreeLists}
 use Rattle.std.proofs.lemmas.List.{length-map, map-set, get_or_default}
 use Rattle.std.proofs.lemmas.List.Edits.{map_over_more}
 use Rattle.tx_circuits.specs.inner.Linked.{IsFirst, with}

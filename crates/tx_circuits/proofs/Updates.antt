@@ -8,12 +8,12 @@ use Rattle.std.specs.Ordering.{nat_cmp}
 use Rattle.std.proofs.lemmas.Bool.Decides.{eqb_tells}
 use Rattle.std.proofs.lemmas.Map.Lookups.{exact_unsigned}
 use Rattle.tx_plan.specs.Orders.{circuit_cmp}
-use Rattle.tx_entries.specs.declared.circuit.Circuit.{Circuit}
-use Rattle.tx_entries.proofs.Named.{circuits_total, exact_circuits}
-use Rattle.tx_circuits.specs.declared.free_lists.End.{End}
-use Rattle.tx_circuits.specs.declared.free_lists.End.TheVariants.{First, Other}
-use Rattle.tx_circuits.specs.declared.state.State.{State}
-use Rattle.tx_circuits.specs.declared.group_head.GroupHead.{GroupHead}
+use Rattle.tx_plan.specs.declared.ids.Circuit.{Circuit}
+use Rattle.tx_plan.proofs.Named.{circuits_total, exact_circuits}
+use Rattle.tx_circuits.specs.declared.lists.End.{End}
+use Rattle.tx_circuits.specs.declared.lists.End.TheVariants.{First, Other}
+use Rattle.tx_circuits.specs.declared.slot.State.{State}
+use Rattle.tx_circuits.specs.declared.groups.GroupHead.{GroupHead}
 use Rattle.tx_circuits.specs.inner.Slots.{has_seized, with_seized, opposite, cleared, rising}
 use Rattle.tx_circuits.specs.inner.Groups.{GroupState, state_at, numbered, seizing_end, end_at, with_state, with_failed, with_blocked, change_at}
 use Rattle.tx_circuits.specs.Table.{Seat, seat_cmp, Table, with_held, with_released, with_failure}
@@ -21,7 +21,7 @@ use Rattle.tx_circuits.specs.inner.Seen.{those, group_of, circuits_of, seats_of,
 use Rattle.std.proofs.lemmas.Option.{slice_get-map}
 use Rattle.std.proofs.lemmas.List.{length-map}
 use Rattle.std.proofs.Math.Bool.{and-true, and-false}
-use Rattle.tx_circuits.proofs.Lists.{get-change_here, get-change_there, length-change}
+use Rattle.tx_circuits.proofs.FreeLists.{get-change_here, get-change_there, length-change}
 use Rattle.tx_circuits.proofs.Members.{Known, known, holds_in, sits_in, marked_in}
 use Rattle.tx_circuits.proofs.Those.{those_stay, those_inserted, those_removed, those_retained}
 use Rattle.tx_circuits.proofs.Seats.{seats_total, exact_seats}

@@ -7,7 +7,7 @@ use Rattle.std.specs.FinSet as set
 use Rattle.tx_plan.specs.Plan.{Plan, Group, no_plan}
 use Rattle.tx_plan.specs.Circuits.{circuits_at}
 use Rattle.tx_plan.specs.Orders.{same_circuit, circuit_cmp, coded_circuit}
-use Rattle.tx_entries.specs.declared.circuit.Circuit.{Circuit}
+use Rattle.tx_plan.specs.declared.ids.Circuit.{Circuit}
 use Rattle.tx_circuits.specs.Codes.{group_code}
 
 -- an end of a circuit: the circuit, and the exchange
@@ -18,7 +18,8 @@ Seat = Circuit × ℕ
 abbrev pub seat_cmp : Seat → Seat → Ordering
 seat_cmp s t = ordering_then (circuit_cmp s.0 t.0) (nat_cmp s.1 t.1)
 
--- The groups of a plan, without their names; the groups that have failed or are blocked; the circuits that are releasing, out of service or carried;
+-- The groups of a plan, without their names; the groups that have failed or are blocked; the
+-- circuits that are releasing, out of service or carried;
 -- and each circuit with an exchange that has seized it.
 pub record Table : Type 0 where
   pub groups : List Group
@@ -39,12 +40,21 @@ plan_of t = record no_plan { groups = t.groups }
 
 -- all circuits are free, and all groups up
 abbrev pub all_free : Plan → Table
-all_free p = record { groups = map unnamed p.groups; failed = set.empty; blocked = set.empty; releasing = set.empty; out = set.empty; carried = set.empty; seized = set.empty }
+all_free p = record {
+  groups = map unnamed p.groups;
+  failed = set.empty;
+  blocked = set.empty;
+  releasing = set.empty;
+  out = set.empty;
+  carried = set.empty;
+  seized = set.empty;
+}
 
--- Free at an exchange: no call carries the circuit, it is not releasing, it is not out of service, and the exchange has not seized it. A seizure from
--- the other end is not seen.
+-- Free at an exchange: no call carries the circuit, it is not releasing, it is not out of service,
+-- and the exchange has not seized it. A seizure from the other end is not seen.
 abbrev pub is_free_at : Table → ℕ → Circuit → Bool
-is_free_at t x c = not (set.contains t.carried c) && (not (set.contains t.releasing c) && (not (set.contains t.out c) && not (set.contains t.seized (c, x))))
+is_free_at t x c = not (set.contains t.carried c) && (not (set.contains t.releasing c)
+    && (not (set.contains t.out c) && not (set.contains t.seized (c, x))))
 
 -- a group is down if it has failed or is blocked
 abbrev pub is_down : Table → ℕ → Bool
@@ -61,11 +71,17 @@ pub record IsSeizedBy (t : Table) (c : Circuit) (x : ℕ) : Type 0 where
 
 -- the circuit is carried, and no longer seized
 abbrev pub with_held : Table → Circuit → Table
-with_held t c = record t { seized = set.retain t.seized (λ s. not (same_circuit s.0 c)); carried = set.insert t.carried c }
+with_held t c = record t {
+  seized = set.retain t.seized (λ s. not (same_circuit s.0 c));
+  carried = set.insert t.carried c;
+}
 
 -- the circuit is releasing, and no longer carried
 abbrev pub with_released : Table → Circuit → Table
-with_released t c = record t { carried = set.remove t.carried c; releasing = set.insert t.releasing c }
+with_released t c = record t {
+  carried = set.remove t.carried c;
+  releasing = set.insert t.releasing c;
+}
 
 -- an exchange gave its seizure of the circuit up
 abbrev pub withdrawn : Table → Circuit → ℕ → Table
@@ -84,15 +100,24 @@ with_failure t g = record t {
   seized = set.retain t.seized (λ s. not (s.0.group == g));
 }
 
+-- an end of a circuit is stored as a pair
 abbrev pub seat_code : Coded Seat
 seat_code = coded× coded_circuit coded_ℕ
 
+-- a table is stored as its fields
 abbrev pub table_code : Coded Table
-table_code =
-    code_by
-    (List Group × (set.FinSet nat_cmp × (set.FinSet nat_cmp × (set.FinSet circuit_cmp × (set.FinSet circuit_cmp × (set.FinSet circuit_cmp × set.FinSet seat_cmp))))))
-    (coded× (coded_list group_code)
-    (coded× (set.code coded_ℕ) (coded× (set.code coded_ℕ) (coded× (set.code coded_circuit) (coded× (set.code coded_circuit) (coded× (set.code coded_circuit) (set.code seat_code)))))))
+table_code = code_by (List Group
+    × (set.FinSet nat_cmp × (set.FinSet nat_cmp × (set.FinSet circuit_cmp × (set.FinSet circuit_cmp
+    × (set.FinSet circuit_cmp × set.FinSet seat_cmp)))))) (coded× (coded_list group_code)
+    (coded× (set.code coded_ℕ) (coded× (set.code coded_ℕ) (coded× (set.code coded_circuit)
+    (coded× (set.code coded_circuit) (coded× (set.code coded_circuit) (set.code seat_code)))))))
     (λ t. (t.groups, (t.failed, (t.blocked, (t.releasing, (t.out, (t.carried, t.seized)))))))
-    (λ p. record { groups = p.0; failed = p.1.0; blocked = p.1.1.0; releasing = p.1.1.1.0; out = p.1.1.1.1.0; carried = p.1.1.1.1.1.0; seized = p.1.1.1.1.1.1 })
-    (λ _. refl)
+    (λ p. record {
+      groups = p.0;
+      failed = p.1.0;
+      blocked = p.1.1.0;
+      releasing = p.1.1.1.0;
+      out = p.1.1.1.1.0;
+      carried = p.1.1.1.1.1.0;
+      seized = p.1.1.1.1.1.1;
+    }) (λ _. refl)

@@ -1,22 +1,168 @@
-// All circuits of a plan in one vector.
-ghost use Rattle.std.specs.Prelude.{◌≡◌, ◌≤◌, ◌<◌, ◌++◌, ◌∷◌, [], ℕ, true, false, is_some, map, length, replicate, Some, None, slice_get, OnOk, OnErr, IfOk, IfSome};
+// All circuits of a plan in one vector, group by group.
+ghost use Rattle.std.specs.Prelude.{◌≡◌, ◌≤◌, ◌<◌, ◌++◌, ◌∷◌, [], true, false, is_some, map, length, replicate, Some, None, slice_get, OnOk, OnErr, IfOk, IfSome, ◌+◌, ℕ, slice_set};
 ghost use Rattle.std.specs.Option.{option_map, option_map_or};
-ghost use Rattle.tx_circuits.specs.inner.Slots.{cleared, has_seized};
-ghost use Rattle.tx_circuits.specs.inner.Groups.{state_at, end_at, change_at, with_state, with_failed, with_blocked, first_place, idle, IsAppended};
+ghost use Rattle.tx_circuits.specs.inner.Slots.{cleared, has_seized, IsSound, IsListed, free_at, link_at, opposite, state_of, until};
+ghost use Rattle.tx_circuits.specs.inner.Groups.{state_at, end_at, change_at, with_state, with_failed, with_blocked, first_place, idle, IsAppended, seizing_end, group_slots, states_in, numbered, OthersStay};
 ghost use Rattle.tx_circuits.specs.inner.Seen.{holds};
+ghost use Rattle.tx_circuits.specs.declared.lists.Way.{Way as WayValue};
 
-use crate::free_lists::{End, FreeLists};
-use crate::group_head::GroupHead;
-use crate::row::Row;
-use crate::slot::Slot;
-use crate::state::State;
+use crate::lists::{End, FreeList, FreeLists, Links, insert, relink};
+use crate::slot::{Slot, State};
 use std::alloc::{Allocator, Global};
 use std::marker::Model;
-use tx_plan::{Circuit, ExchangeId, GroupId};
+use tx_plan::{Circuit, Direction, ExchangeId, GroupId};
 use tx_text::NoMemory;
 
-/// The groups of a plan with the states of their circuits: all circuits in one vector, group by group, linked in free lists.
-#[derive(Drop)]
+/// A group's ends and direction, and its marks.
+#[derive(Clone, Copy, Debug)]
+pub struct GroupHead {
+    pub a: ExchangeId,
+    pub b: ExchangeId,
+    pub direction: Direction,
+    pub failed: bool,
+    pub blocked: bool,
+}
+
+impl GroupHead {
+    /// The end at which an exchange seizes, if it may.
+    pub fn seizing_end(self, exchange: ExchangeId) -> Option<End>
+        ensures { result ≡ seizing_end self exchange }
+    {
+        if self.a == exchange {
+            return Some(End::First);
+        }
+        if self.direction == Direction::BothWay && self.b == exchange {
+            return Some(End::Other);
+        }
+        None
+    }
+}
+
+/// A group, where its slots begin in the vector of all, how many they are, and its free lists.
+#[derive(Clone, Copy, Debug)]
+pub struct Row {
+    pub head: GroupHead,
+    pub start: usize,
+    pub count: usize,
+    pub lists: FreeLists,
+}
+
+impl Row {
+    /// The state of the circuit of a number, if there is such a one.
+    pub fn state(&self, slots: &[Slot], number: u32) -> Option<State>
+        requires { self.now.start + self.now.count ≤ length slots.now }
+        ensures { result ≡ numbered (states_in slots.now self.now) number }
+    {
+        let number = number as usize;
+        if number == 0 || number > self.count {
+            return None;
+        }
+        Some(slots[self.start + (number - 1)].state)
+    }
+
+    /// Gives a circuit another state.
+    pub fn set_state(&mut self, slots: &mut [Slot], place: usize, to: State)
+        requires within { self.old.start + self.old.count ≤ length slots.old }
+        requires place { place < self.old.count }
+        requires sound { IsSound (group_slots slots.old self.old) self.old.lists }
+        ensures row { self.new ≡ record self.old { lists = self.new.lists } }
+        ensures sound { IsSound (group_slots slots.new self.old) self.new.lists }
+        ensures states { states_in slots.new self.old
+            ≡ slice_set (states_in slots.old self.old) place to }
+        ensures rest { OthersStay slots.old slots.new self.old }
+    {
+        let part = &mut slots[self.start..self.start + self.count];
+        set_state(part, &mut self.lists, place, to);
+    }
+
+    /// Takes all calls off the circuits.
+    pub fn clear(&mut self, slots: &mut [Slot])
+        requires within { self.old.start + self.old.count ≤ length slots.old }
+        requires short { self.old.count ≤ 240 }
+        ensures row { self.new ≡ record self.old { lists = self.new.lists } }
+        ensures sound { IsSound (group_slots slots.new self.old) self.new.lists }
+        ensures states { states_in slots.new self.old ≡ map cleared (states_in slots.old self.old) }
+        ensures rest { OthersStay slots.old slots.new self.old }
+    {
+        let part = &mut slots[self.start..self.start + self.count];
+        self.lists = clear(part);
+    }
+
+    /// Makes the lists anew.
+    pub fn relist(&mut self, slots: &mut [Slot])
+        requires within { self.old.start + self.old.count ≤ length slots.old }
+        requires short { self.old.count ≤ 240 }
+        ensures row { self.new ≡ record self.old { lists = self.new.lists } }
+        ensures sound { IsSound (group_slots slots.new self.old) self.new.lists }
+        ensures states { states_in slots.new self.old ≡ states_in slots.old self.old }
+        ensures rest { OthersStay slots.old slots.new self.old }
+    {
+        let part = &mut slots[self.start..self.start + self.count];
+        self.lists = relist(part);
+    }
+}
+
+// Gives a circuit a state. Walks a list only where the circuit comes back to it.
+fn set_state(slots: &mut [Slot], lists: &mut FreeLists, place: usize, to: State)
+    requires sound { IsSound slots.old lists.old }
+    requires place { place < length slots.old }
+    ensures sound { IsSound slots.new lists.new }
+    ensures states { map state_of slots.new ≡ slice_set (map state_of slots.old) place to }
+{
+    relink(slots, &mut lists.first, End::First, place, to);
+    relink(slots, &mut lists.other, End::Other, place, to);
+    slots[place].state = to;
+}
+
+// Puts a circuit after all others on the list of an end, if it is free there.
+fn append(slots: &mut [Slot], list: &mut FreeList, end: End, place: usize)
+    requires short { length slots.old ≤ 240 }
+    requires place { place < length slots.old }
+    requires listed { IsListed (until place (free_at end slots.old)) end slots.old list.old }
+    ensures listed { IsListed (until (place + 1) (free_at end slots.old)) end slots.new list.new }
+    ensures other { (way : WayValue) (k : ℕ)
+        → link_at (opposite end) way slots.new k ≡ link_at (opposite end) way slots.old k }
+    ensures states { map state_of slots.new ≡ map state_of slots.old }
+{
+    if !slots[place].state.is_free(end) {
+        return;
+    }
+    let links = Links {
+        above: None,
+        below: list.greatest,
+    };
+    insert(slots, list, end, place, links);
+}
+
+// Makes the lists anew, in one pass.
+fn relist(slots: &mut [Slot]) -> FreeLists
+    requires short { length slots.old ≤ 240 }
+    ensures sound { IsSound slots.new result }
+    ensures states { map state_of slots.new ≡ map state_of slots.old }
+{
+    let mut lists = FreeLists::new();
+    for place in 0..slots.len() {
+        append(slots, &mut lists.first, End::First, place);
+        append(slots, &mut lists.other, End::Other, place);
+    }
+    lists
+}
+
+// Takes all calls off the circuits, and gives the lists.
+fn clear(slots: &mut [Slot]) -> FreeLists
+    requires short { length slots.old ≤ 240 }
+    ensures sound { IsSound slots.new result }
+    ensures states { map state_of slots.new ≡ map cleared (map state_of slots.old) }
+{
+    for slot in slots.iter_mut() {
+        slot.state = slot.state.cleared();
+    }
+    relist(slots)
+}
+
+/// The groups of a plan with the states of their circuits: all circuits in one vector, group by
+/// group, linked in free lists.
+#[derive(Debug, Drop)]
 pub struct Groups<A: Allocator = Global> {
     slots: Vec<Slot, A>,
     rows: Vec<Row, A>,
@@ -45,7 +191,7 @@ impl<A: Allocator + Copy> Groups<A> {
 }
 
 // Appends the slots of a group, all idle, and gives its row.
-fn append<A: Allocator>(
+fn append_group<A: Allocator>(
     slots: &mut Vec<Slot, A>,
     head: GroupHead,
     count: usize,
@@ -69,10 +215,11 @@ impl<A: Allocator> Groups<A> {
     /// Appends a group with so many circuits, all free.
     pub fn add(&mut self, head: GroupHead, count: usize) -> Result<(), NoMemory>
         requires { count ≤ 240 }
-        ensures ok { OnOk result (self.new ≡ self.old ++ record { head = head; states = replicate count idle } ∷ []) }
+        ensures ok { OnOk result
+            (self.new ≡ self.old ++ record { head = head; states = replicate count idle } ∷ []) }
         ensures err { OnErr result (self.new ≡ self.old) }
     {
-        let row = append(&mut self.slots, head, count)?;
+        let row = append_group(&mut self.slots, head, count)?;
         self.rows.push(row)?;
         Ok(())
     }
@@ -142,7 +289,8 @@ impl<A: Allocator> Groups<A> {
 
     /// Whether an exchange has seized a circuit of a group that is in this state.
     pub fn seizes_in(&self, state: State, group: GroupId, exchange: ExchangeId) -> bool
-        ensures { result ≡ option_map_or (λ end. has_seized end state) (end_at self.now group exchange) false }
+        ensures { result ≡ option_map_or (λ end. has_seized end state)
+            (end_at self.now group exchange) false }
     {
         match self.end(group, exchange) {
             Some(end) => state.has_seized(end),
@@ -175,7 +323,8 @@ impl<A: Allocator> Groups<A> {
     /// Takes all calls off the circuits of a group.
     pub fn clear(&mut self, group: GroupId)
         requires { group < length self.old }
-        ensures { self.new ≡ change_at (λ t. record t { states = map cleared t.states }) group self.old }
+        ensures { self.new ≡ change_at
+            (λ t. record t { states = map cleared t.states }) group self.old }
     {
         let row = &mut self.rows[group.index()];
         row.clear(self.slots.as_mut_slice());

@@ -1,13 +1,89 @@
 // What is kept of a circuit.
-ghost use Rattle.std.specs.Prelude.{◌≡◌};
+ghost use Rattle.std.specs.Prelude.{◌≡◌, true, false};
 ghost use Rattle.tx_circuits.specs.inner.Groups.{idle};
-ghost use Rattle.tx_circuits.specs.inner.Slots.{links_of, ahead, back, opposite};
+ghost use Rattle.tx_circuits.specs.inner.Slots.{links_of, ahead, back, opposite, is_free, has_seized, with_seized, cleared};
 
-use crate::free_lists::{End, Links, Way};
-use crate::state::State;
+use crate::lists::{End, Links, Way};
+
+/// What holds a circuit.
+#[derive(Clone, Copy, Debug)]
+pub struct State {
+    pub seized_first: bool,
+    pub seized_other: bool,
+    pub carried: bool,
+    pub releasing: bool,
+    pub out: bool,
+}
+
+impl State {
+    /// The state of a circuit in service that no call holds.
+    pub fn idle() -> State
+        ensures { result ≡ idle }
+    {
+        State {
+            seized_first: false,
+            seized_other: false,
+            carried: false,
+            releasing: false,
+            out: false,
+        }
+    }
+
+    /// Whether the end has seized the circuit.
+    pub fn has_seized(self, end: End) -> bool
+        ensures { result ≡ has_seized end self }
+    {
+        match end {
+            End::First => self.seized_first,
+            End::Other => self.seized_other,
+        }
+    }
+
+    /// Whether the circuit is free at the end.
+    pub fn is_free(self, end: End) -> bool
+        ensures { result ≡ is_free end self }
+    {
+        !self.carried && !self.releasing && !self.out && !self.has_seized(end)
+    }
+
+    /// The state where no call holds the circuit.
+    pub fn cleared(self) -> State
+        ensures { result ≡ cleared self }
+    {
+        State {
+            out: self.out,
+            ..State::idle()
+        }
+    }
+
+    /// The state where the circuit is releasing, and no call carries it.
+    pub fn in_release(mut self) -> State
+        ensures { result ≡ record self { carried = false; releasing = true } }
+    {
+        self.carried = false;
+        self.releasing = true;
+        self
+    }
+
+    /// The state where the end has, or has not, seized the circuit.
+    pub fn with_seized(self, end: End, to: bool) -> State
+        ensures { result ≡ with_seized end to self }
+    {
+        match end {
+            End::First => State {
+                seized_first: to,
+                ..self
+            },
+            End::Other => State {
+                seized_other: to,
+                ..self
+            },
+        }
+    }
+}
 
 /// A circuit's state, and its links in the list of each end.
-#[derive(Clone, Copy)]
+#[derive(Clone, Copy, Debug)]
 pub struct Slot {
     pub state: State,
     pub first: Links,
@@ -43,7 +119,8 @@ impl Slot {
     /// The slot with another link in the list of an end.
     pub fn with_link(self, end: End, way: Way, to: Option<u8>) -> Slot
         ensures here { ahead way (links_of end result) ≡ to }
-        ensures turned { ahead (back way) (links_of end result) ≡ ahead (back way) (links_of end self) }
+        ensures turned { ahead (back way) (links_of end result)
+            ≡ ahead (back way) (links_of end self) }
         ensures other { links_of (opposite end) result ≡ links_of (opposite end) self }
         ensures state { result.state ≡ self.state }
     {

@@ -4,9 +4,8 @@ ghost use Rattle.std.specs.FinSet as set;
 ghost use Rattle.tx_plan.specs.Circuits.{is_circuit, may_seize};
 ghost use Rattle.tx_circuits.specs.Table.{Table, plan_of, all_free, is_free_at, is_down, first_free, IsSeizedBy, with_held, withdrawn, with_released, released_unless, with_failure};
 
-use crate::group_head::GroupHead;
-use crate::groups::Groups;
-use crate::state::State;
+use crate::groups::{GroupHead, Groups};
+use crate::slot::State;
 use std::alloc::{Allocator, Global};
 use std::marker::Model;
 use tx_plan::{Circuit, ExchangeId, GroupId, Plan};
@@ -16,10 +15,11 @@ use tx_text::NoMemory;
 ///
 /// From `build` on, each group has for each of its ends a list of the circuits that are free there,
 /// linked by index: rising from the least number, which the first end takes, and falling from the
-/// greatest, which the other end takes. `first_free` reads the group's marks and the head of one list.
+/// greatest, which the other end takes. `first_free` reads the group's marks and the head of one
+/// list.
 /// A call that makes a circuit free at an end may walk the list of that end, and `fail` passes over
 /// the group's circuits twice. No clause counts these steps.
-#[derive(Drop)]
+#[derive(Debug, Drop)]
 pub struct CircuitTable<A: Allocator = Global> {
     groups: Groups<A>,
 }
@@ -40,10 +40,9 @@ impl<A: Allocator + Copy> CircuitTable<A> {
     pub fn build(alloc: A, plan: &Plan<A>) -> Result<Self, NoMemory>
         ensures { IfOk result (λ t. t ≡ all_free plan.now) }
     {
-        plan.rules();
         let mut groups = Groups::with_room(alloc, plan.groups(), total(plan))?;
         for place in 0..plan.groups() {
-            let group = GroupId::at(place as u16);
+            let group = GroupId::of(place);
             let ends = plan.ends(group);
             let head = GroupHead {
                 a: ends.0,
@@ -60,10 +59,9 @@ impl<A: Allocator + Copy> CircuitTable<A> {
 
 // How many circuits a plan has.
 fn total<A: Allocator>(plan: &Plan<A>) -> usize {
-    plan.rules();
     let mut circuits = 0;
     for place in 0..plan.groups() {
-        circuits += plan.group_count(GroupId::at(place as u16)) as usize;
+        circuits += plan.group_count(GroupId::of(place)) as usize;
     }
     circuits
 }
@@ -141,7 +139,8 @@ impl<A: Allocator> CircuitTable<A> {
         }
     }
 
-    /// Whether the circuit is free at the exchange: not carried, not releasing, not out, and not seized from there. A foreign one is free.
+    /// Whether the circuit is free at the exchange: not carried, not releasing, not out, and not
+    /// seized from there. A foreign one is free.
     pub fn is_free(&self, circuit: &Circuit, exchange: ExchangeId) -> bool
         ensures { result ≡ is_free_at self.now exchange circuit.now }
     {
@@ -153,7 +152,8 @@ impl<A: Allocator> CircuitTable<A> {
 
     /// Whether no exchange has seized the circuit.
     pub fn is_unseized(&self, circuit: &Circuit) -> bool
-        ensures { IsTrue result ↔ ((exchange : ℕ) → set.contains self.now.seized (circuit.now, exchange) ≡ false) }
+        ensures { IsTrue result
+            ↔ ((exchange : ℕ) → set.contains self.now.seized (circuit.now, exchange) ≡ false) }
     {
         match self.groups.head(circuit.group) {
             Some(head) => !self.is_seized(circuit, head.a) && !self.is_seized(circuit, head.b),
@@ -164,7 +164,8 @@ impl<A: Allocator> CircuitTable<A> {
     /// The exchange that has seized the circuit, if it alone has.
     pub fn seizer(&self, circuit: &Circuit) -> Option<ExchangeId>
         ensures alone { IfSome result (IsSeizedBy self.now circuit.now) }
-        ensures none { result ≡ None → (exchange : ℕ) → IsSeizedBy self.now circuit.now exchange → ⊥ }
+        ensures none { result ≡ None → (exchange : ℕ)
+            → IsSeizedBy self.now circuit.now exchange → ⊥ }
     {
         match self.groups.head(circuit.group) {
             Some(head) => self.seizer_of(circuit, head.a, head.b),
@@ -175,9 +176,11 @@ impl<A: Allocator> CircuitTable<A> {
     // Of two exchanges, which alone may have seized the circuit, the one that has it alone.
     #[tactic(auto, using(crate::proofs::Steps::alone_far, crate::proofs::Steps::alone_near, crate::proofs::Steps::alone_one, crate::proofs::Steps::not_alone, crate::proofs::Steps::nobody))]
     fn seizer_of(&self, circuit: &Circuit, a: ExchangeId, b: ExchangeId) -> Option<ExchangeId>
-        requires { (exchange : ℕ) → set.contains self.now.seized (circuit.now, exchange) ≡ true → (exchange ≡ a) ⊎ (exchange ≡ b) }
+        requires { (exchange : ℕ) → set.contains self.now.seized (circuit.now, exchange) ≡ true
+            → (exchange ≡ a) ⊎ (exchange ≡ b) }
         ensures alone { IfSome result (IsSeizedBy self.now circuit.now) }
-        ensures none { result ≡ None → (exchange : ℕ) → IsSeizedBy self.now circuit.now exchange → ⊥ }
+        ensures none { result ≡ None → (exchange : ℕ)
+            → IsSeizedBy self.now circuit.now exchange → ⊥ }
     {
         if !self.is_seized(circuit, a) {
             if self.is_seized(circuit, b) {
@@ -204,8 +207,8 @@ impl<A: Allocator> CircuitTable<A> {
         }
     }
 
-    /// The circuit that the exchange takes next in a group: the least free number at the first end, the greatest at the other. None where the group is
-    /// down or no circuit is free there.
+    /// The circuit that the exchange takes next in a group: the least free number at the first end,
+    /// the greatest at the other. None where the group is down or no circuit is free there.
     pub fn first_free(&self, group: GroupId, exchange: ExchangeId) -> Option<Circuit>
         requires { may_seize (plan_of self.now) group exchange ≡ true }
         ensures value { result ≡ first_free self.now exchange group }
@@ -241,7 +244,8 @@ impl<A: Allocator> CircuitTable<A> {
         requires known { is_circuit (plan_of self.old) circuit.now ≡ true }
         requires may { may_seize (plan_of self.old) circuit.now.group exchange ≡ true }
         requires free { is_free_at self.old exchange circuit.now ≡ true }
-        ensures { self.new ≡ record self.old { seized = set.insert self.old.seized (circuit.now, exchange) } }
+        ensures { self.new ≡ record self.old
+            { seized = set.insert self.old.seized (circuit.now, exchange) } }
     {
         let end = self.groups.known_end(circuit.group, exchange);
         let state = self.groups.known_state(circuit);
@@ -260,10 +264,12 @@ impl<A: Allocator> CircuitTable<A> {
         self.groups.set_state(circuit, to);
     }
 
-    /// The exchange gives its seizure up, and the circuit is releasing unless the exchange at the far end has seized it too.
+    /// The exchange gives its seizure up, and the circuit is releasing unless the exchange at the
+    /// far end has seized it too.
     pub fn give_up(&mut self, circuit: &Circuit, exchange: ExchangeId, far: ExchangeId)
         requires { set.contains self.old.seized (circuit.now, exchange) ≡ true }
-        ensures { self.new ≡ released_unless far circuit.now (withdrawn self.old circuit.now exchange) }
+        ensures { self.new ≡ released_unless far circuit.now
+            (withdrawn self.old circuit.now exchange) }
     {
         let end = self.groups.known_end(circuit.group, exchange);
         let left = self.groups.known_state(circuit).with_seized(end, false);
@@ -293,7 +299,8 @@ impl<A: Allocator> CircuitTable<A> {
     /// A circuit that nobody has seized is releasing from now on, and carried no longer.
     pub fn release(&mut self, circuit: &Circuit)
         requires known { is_circuit (plan_of self.old) circuit.now ≡ true }
-        requires unseized { (exchange : ℕ) → set.contains self.old.seized (circuit.now, exchange) ≡ false }
+        requires unseized { (exchange : ℕ)
+            → set.contains self.old.seized (circuit.now, exchange) ≡ false }
         requires idle { set.contains self.old.releasing circuit.now ≡ false }
         ensures { self.new ≡ with_released self.old circuit.now }
     {
@@ -304,7 +311,8 @@ impl<A: Allocator> CircuitTable<A> {
     /// The release of a circuit is confirmed.
     pub fn released(&mut self, circuit: &Circuit)
         requires { set.contains self.old.releasing circuit.now ≡ true }
-        ensures { self.new ≡ record self.old { releasing = set.remove self.old.releasing circuit.now } }
+        ensures { self.new ≡ record self.old
+            { releasing = set.remove self.old.releasing circuit.now } }
     {
         let state = self.groups.known_state(circuit);
         let to = State {
@@ -356,7 +364,8 @@ impl<A: Allocator> CircuitTable<A> {
         self.groups.set_failed(group, false);
     }
 
-    /// A group is blocked: `first_free` gives none of its circuits. Those that are seized or carried stay so.
+    /// A group is blocked: `first_free` gives none of its circuits. Those that are seized or
+    /// carried stay so.
     pub fn block(&mut self, group: GroupId)
         requires known { group < length self.old.groups }
         requires open { set.contains self.old.blocked group ≡ false }

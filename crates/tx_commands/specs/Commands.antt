@@ -35,13 +35,13 @@ pub record Gives (found : List Row) (id : List ℕ) (n : ℕ) : Type 0 where
 abbrev pub is_set : List Row → List ℕ → Bool
 is_set found id = option_map_or (λ word. bytes_eq word (codes "true")) (first_of id found) false
 
--- they have none of those by which `run` tells more
+-- they have none of those by which `run` prints more
 pub record TellsNoMore (found : List Row) : Type 0 where
   pub strict : is_set found (codes "strict") ≡ false
   pub echo : is_set found (codes "echo") ≡ false
   pub summary : is_set found (codes "summary") ≡ false
 
--- what was found behind the name of a command asks for this
+-- what was found after the name of a command asks for this
 abbrev pub Asks : List ℕ → List Row → Command → Type 0
 Asks name found Pipe = ⊥
 Asks name found (Run plan script None) =

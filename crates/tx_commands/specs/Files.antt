@@ -16,7 +16,8 @@ files_read Pipe = []
 files_read (Run plan script checked) =
     string_bytes plan ∷ string_bytes script
     ∷ given (option_map (λ c. string_bytes c.0) checked ∷ [])
-files_read (RunTelling plan script strict echo summary) = string_bytes plan ∷ string_bytes script ∷ []
+files_read (RunTelling plan script strict echo summary) =
+    string_bytes plan ∷ string_bytes script ∷ []
 files_read (Check plan cert limit spare) = string_bytes plan ∷ string_bytes cert ∷ []
 files_read (Lint plan) = string_bytes plan ∷ []
 files_read (Codes plan) = string_bytes plan ∷ []
@@ -49,13 +50,13 @@ standard_input = codes "-"
 abbrev pub is_among : List (List ℕ) → List ℕ → Bool
 is_among files file = list_any (λ f. bytes_eq f file) files
 
--- standard input is one of these files, and one of those behind it
+-- standard input is one of these files, and one of those after it
 abbrev pub has_input_twice : List (List ℕ) → Bool
 has_input_twice [] = false
 has_input_twice (file ∷ rest) =
     (bytes_eq file standard_input && is_among rest standard_input) || has_input_twice rest
 
--- one of the files to be made is a known one, or is to be made again behind
+-- one of the files to be made is a known one, or is to be made again after
 abbrev pub has_clash : List (List ℕ) → List (List ℕ) → Bool
 has_clash known [] = false
 has_clash known (file ∷ rest) =

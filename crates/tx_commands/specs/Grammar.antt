@@ -1,5 +1,5 @@
--- The words that the program takes, as the library of command lines sees them: commands, whose files
--- go by place and whose options go by name.
+-- The words that the program takes, as the library of command lines sees them: commands, whose
+-- files go by place and whose options go by name.
 use Rattle.std.specs.Prelude.{ℕ, List, Some, true, codes, pos}
 use Rattle.clap.specs.Words.{App, Rule, new_app, new_rule, with_rule, with_subcommand}
 use Rattle.clap.specs.declared.builder.action.ArgAction.TheVariants.{Set, SetTrue}
@@ -21,12 +21,15 @@ flag id = record (new_rule id) { long = Some id; action = Some SetTrue }
 abbrev pub number_option : List ℕ → ℕ → Rule
 number_option id most = record (option id) { parser = Some (Signed (pos 0) (pos most)) }
 
+-- the option of the limit
 abbrev pub limit : Rule
 limit = number_option (codes "limit") 62
 
+-- the option of the spare number
 abbrev pub spare : Rule
 spare = number_option (codes "spare") 15
 
+-- an argument that has to be given
 abbrev pub needed : Rule → Rule
 needed r = record r { required = true }
 
@@ -34,26 +37,32 @@ needed r = record r { required = true }
 abbrev pub plan_words : List ℕ → App
 plan_words name = with_rule (new_app name) (file (codes "plan"))
 
+-- the arguments of `run`
 abbrev pub run_words : App
 run_words =
     with_rule (with_rule (with_rule (with_rule (with_rule (with_rule (with_rule
     (plan_words (codes "run")) (file (codes "script"))) (option (codes "cert"))) limit) spare)
     (flag (codes "strict"))) (flag (codes "echo"))) (flag (codes "summary"))
 
+-- the arguments of `check`
 abbrev pub check_words : App
 check_words =
     with_rule (with_rule (with_rule
     (plan_words (codes "check")) (file (codes "cert"))) (needed limit)) (needed spare)
 
+-- the arguments of `lint`
 abbrev pub lint_words : App
 lint_words = plan_words (codes "lint")
 
+-- the arguments of `grade`
 abbrev pub grade_words : App
 grade_words = plan_words (codes "grade")
 
+-- the arguments of `codes`
 abbrev pub codes_words : App
 codes_words = plan_words (codes "codes")
 
+-- the arguments of `audit`
 abbrev pub audit_words : App
 audit_words =
     with_rule (with_rule (with_rule (with_rule
@@ -67,6 +76,7 @@ mend_words =
     (new_app (codes "mend")) (file (codes "old"))) (needed limit)) (needed spare))
     (option (codes "plan"))) (option (codes "cert"))
 
+-- the arguments of `survive`
 abbrev pub survive_words : App
 survive_words = with_rule (plan_words (codes "survive")) (option (codes "risks"))
 
@@ -78,11 +88,11 @@ trace_words =
 
 -- a command whose words are two plans
 abbrev pub change_words : App
-change_words =
-    with_rule (with_rule (with_rule (with_rule (with_rule (with_rule (with_rule
-    (new_app (codes "change")) (file (codes "old"))) (file (codes "new")))
-    (needed limit)) (needed spare)) (option (codes "cert"))) (option (codes "mixture"))) (option (codes "counter"))
+change_words = with_rule (with_rule (with_rule (with_rule (with_rule (with_rule (with_rule
+    (new_app (codes "change")) (file (codes "old"))) (file (codes "new"))) (needed limit))
+    (needed spare)) (option (codes "cert"))) (option (codes "mixture"))) (option (codes "counter"))
 
+-- the arguments of `draw`
 abbrev pub draw_words : App
 draw_words =
     with_rule (with_rule (with_rule
@@ -94,7 +104,7 @@ explain_words =
     with_rule (new_app (codes "explain"))
     (record (new_rule (codes "code")) { value_names = 1; action = Some Set })
 
--- the program takes its words from the first on, tells its version, and has twelve commands
+-- the program takes its words from the first on, prints its version, and has twelve commands
 abbrev pub top_words : App
 top_words =
     let app = new_app (codes "telexplan") in
@@ -108,6 +118,7 @@ judging_words =
     top_words lint_words.top) audit_words.top) grade_words.top) mend_words.top) change_words.top)
     survive_words.top) check_words.top
 
+-- the words of the program: all its commands
 abbrev pub program_words : App
 program_words =
     with_subcommand (with_subcommand (with_subcommand (with_subcommand (with_subcommand

@@ -32,13 +32,7 @@ fn with_arg<'a>(
     ensures { (app : App) → IfOk command.entry (λ c. app_of c ≡ app)
         → IfOk result (λ c. app_of c ≡ with_rule app (rule_of arg.entry)) }
 {
-    match command {
-        Ok(made) => made.arg(arg),
-        Err(error) => {
-            drop(arg);
-            Err(error)
-        }
-    }
+    command?.arg(arg)
 }
 
 /// Adds a file, which has to be named.

@@ -67,7 +67,7 @@ fn bounds(matches: &ArgMatches<'_>) -> Option<(u8, u8)>
     }
 }
 
-/// The words of `check` behind the plan.
+/// The words of `check` after the plan.
 fn check_of(alloc: Global, plan: String, matches: &ArgMatches<'_>) -> Result<Command, Refusal>
     requires { Names (rows_of (found_of matches.now)) (codes "plan") plan }
     ensures range { IfOk result IsInRange }
@@ -87,7 +87,7 @@ fn check_of(alloc: Global, plan: String, matches: &ArgMatches<'_>) -> Result<Com
     }
 }
 
-/// The words of `audit` behind the plan.
+/// The words of `audit` after the plan.
 fn audit_of(alloc: Global, plan: String, matches: &ArgMatches<'_>) -> Result<Command, Refusal>
     requires { Names (rows_of (found_of matches.now)) (codes "plan") plan }
     ensures range { IfOk result IsInRange }
@@ -158,7 +158,7 @@ pub(crate) fn mend_of(alloc: Global, matches: &ArgMatches<'_>) -> Result<Command
     }
 }
 
-/// The words of `survive` behind the plan.
+/// The words of `survive` after the plan.
 fn survive_of(alloc: Global, plan: String, matches: &ArgMatches<'_>) -> Result<Command, Refusal>
     requires { Names (rows_of (found_of matches.now)) (codes "plan") plan }
     ensures range { IfOk result IsInRange }
@@ -170,7 +170,7 @@ fn survive_of(alloc: Global, plan: String, matches: &ArgMatches<'_>) -> Result<C
     Ok(Command::Survive { plan, risks })
 }
 
-/// The words of `trace` behind the plan.
+/// The words of `trace` after the plan.
 fn trace_of(alloc: Global, plan: String, matches: &ArgMatches<'_>) -> Result<Command, Refusal>
     requires { Names (rows_of (found_of matches.now)) (codes "plan") plan }
     ensures range { IfOk result IsInRange }
@@ -190,7 +190,7 @@ fn trace_of(alloc: Global, plan: String, matches: &ArgMatches<'_>) -> Result<Com
     }
 }
 
-/// The words of `run` behind the plan.
+/// The words of `run` after the plan.
 fn run_of(alloc: Global, plan: String, matches: &ArgMatches<'_>) -> Result<Command, Refusal>
     requires { Names (rows_of (found_of matches.now)) (codes "plan") plan }
     ensures range { IfOk result IsInRange }
@@ -231,7 +231,7 @@ fn run_of(alloc: Global, plan: String, matches: &ArgMatches<'_>) -> Result<Comma
     }
 }
 
-/// The words of `draw` behind the plan.
+/// The words of `draw` after the plan.
 fn draw_of(alloc: Global, plan: String, matches: &ArgMatches<'_>) -> Result<Command, Refusal>
     requires { Names (rows_of (found_of matches.now)) (codes "plan") plan }
     ensures range { IfOk result IsInRange }

@@ -11,8 +11,8 @@ pub enum Command {
         script: String,
         checked: Option<(String, u8, u8)>,
     },
-    /// `run PLAN SCRIPT` where more is told: by the status that an event was refused, the line of
-    /// each event before its reply, or a summary.
+    /// `run PLAN SCRIPT` where more is asked for: a status that shows whether an event was refused,
+    /// the line of each event before its reply, or a summary.
     RunTelling {
         plan: String,
         script: String,
@@ -27,7 +27,7 @@ pub enum Command {
         limit: u8,
         spare: u8,
     },
-    /// `lint PLAN`: what is to be said of its text.
+    /// `lint PLAN`: the faults or warnings of its text.
     Lint {
         plan: String,
     },

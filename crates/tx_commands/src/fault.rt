@@ -22,7 +22,8 @@ pub enum WordsFault {
 }
 
 impl WordsFault {
-    /// The exit status: 0 for a request for help or for the version, 4 for want of memory, else 64.
+    /// The exit status: 0 for a request for help or for the version, 4 when memory runs out, else
+    /// 64.
     pub fn status(&self) -> u8
         ensures { result ≡ status_of self.now }
     {
@@ -37,7 +38,7 @@ impl WordsFault {
         }
     }
 
-    /// What clap tells of the words. Its want of memory is told as such.
+    /// What clap says of the words. Its lack of memory is reported as such.
     pub(crate) fn of_clap(e: clap::Error) -> WordsFault
         ensures { result ≡ fault_of_clap e }
     {

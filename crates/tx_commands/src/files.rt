@@ -61,7 +61,17 @@ fn files_made(command: &Command) -> [Option<&str>; 3]
             counter,
             ..
         } => [cert.as_deref(), mixture.as_deref(), counter.as_deref()],
-        _ => [None, None, None],
+        Command::Pipe
+        | Command::Run { .. }
+        | Command::RunTelling { .. }
+        | Command::Check { .. }
+        | Command::Lint { .. }
+        | Command::Codes { .. }
+        | Command::Grade { .. }
+        | Command::Survive { .. }
+        | Command::Trace { .. }
+        | Command::Draw { .. }
+        | Command::Explain { .. } => [None, None, None],
     }
 }
 
@@ -72,7 +82,7 @@ fn is_among(files: &[Option<&str>], file: &str) -> bool
     files.contains(&Some(file))
 }
 
-/// Whether standard input stands among these files twice.
+/// Whether standard input is among these files twice.
 fn has_input_twice(files: &[Option<&str>]) -> bool
     ensures { result ≡ has_input_twice (names files.now) }
 {

@@ -1,6 +1,6 @@
-// The words that the program takes, with what it tells of them when asked for help.
-ghost use Rattle.std.specs.Prelude.{◌≡◌, Ok, IfOk};
-ghost use Rattle.clap.specs.Words.{AddsSubcommand, app_of};
+// The words that the program takes, with what its help says of them.
+ghost use Rattle.std.specs.Prelude.{◌≡◌, Ok, IfOk, codes};
+ghost use Rattle.clap.specs.Words.{AddsSubcommand, App, app_of, with_rule};
 ghost use Rattle.clap.specs.declared.builder.command.Command.{Command};
 ghost use Rattle.tx_commands.specs.Grammar as grammar;
 
@@ -35,7 +35,19 @@ fn run_grammar<'a>(alloc: Global) -> Result<clap::Command<'a>, AllocError>
         "Run only if this certificate shows that the plan is safe, else print
 the verdict; goes with --limit and --spare",
     );
-    let run = with_bounds(run, alloc, false);
+    with_telling(with_bounds(run, alloc, false), alloc)
+}
+
+/// Adds the options by which `run` prints more.
+fn with_telling<'a>(
+    run: Result<clap::Command<'a>, AllocError>,
+    alloc: Global,
+) -> Result<clap::Command<'a>, AllocError>
+    ensures { (app : App) → IfOk run.entry (λ c. app_of c ≡ app)
+        → IfOk result (λ c. app_of c
+        ≡ with_rule (with_rule (with_rule app (grammar.flag (codes "strict")))
+        (grammar.flag (codes "echo"))) (grammar.flag (codes "summary"))) }
+{
     let run = with_flag(
         run,
         alloc,
@@ -93,7 +105,7 @@ fn lint_grammar<'a>(alloc: Global) -> Result<clap::Command<'a>, AllocError>
     over_plan(
         alloc,
         "lint",
-        "Tell all faults of a plan's text, or else what in it is of no use or likely not meant",
+        "Report all faults of a plan's text, or else what in it is of no use or likely not meant",
         help::LINT,
     )
 }
@@ -176,7 +188,7 @@ fn trace_grammar<'a>(alloc: Global) -> Result<clap::Command<'a>, AllocError>
     let trace = over_plan(
         alloc,
         "trace",
-        "Tell how calls for a code go from an exchange: the way while all is free, and the lists",
+        "Show how calls for a code go from an exchange: the way while all is free, and the lists",
         help::TRACE,
     );
     let trace = with_file(
@@ -296,19 +308,7 @@ fn with_command<'a>(
     ensures { IfOk result (λ c. (top : Command) × (words : Command)
         × (program.entry ≡ Ok top) × (command.entry ≡ Ok words) × AddsSubcommand top words c) }
 {
-    match program {
-        Ok(top) => match command {
-            Ok(words) => top.subcommand(words),
-            Err(error) => {
-                drop(top);
-                Err(error)
-            }
-        },
-        Err(error) => {
-            drop(command);
-            Err(error)
-        }
-    }
+    program?.subcommand(command?)
 }
 
 /// The program with the commands that judge a plan.

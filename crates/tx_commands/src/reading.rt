@@ -68,7 +68,7 @@ fn in_its_words(
     Ok(WordsFault::of_clap(e))
 }
 
-/// Why the words are refused. What has no fault of its own is told in the words of the library.
+/// Why the words are refused. What has no fault of its own is reported in the words of the library.
 fn words_fault(grammar: &mut clap::Command<'_>, refusal: Refusal) -> Result<WordsFault, AllocError>
     ensures { IfOk result (λ fault. (command : Option (List ℕ × List Row))
         → IsRefused command refusal → IsRefusalIn command fault) }
@@ -109,7 +109,7 @@ fn words_fault(grammar: &mut clap::Command<'_>, refusal: Refusal) -> Result<Word
     }
 }
 
-/// The command that stands in the words, which are not none, by the grammar of the program.
+/// The command that is in the words, which are not none, by the grammar of the program.
 fn command_in<'a>(
     alloc: Global,
     grammar: &mut clap::Command<'a>,
@@ -126,16 +126,15 @@ fn command_in<'a>(
         Ok(matches) => matches,
         Err(e) => return Err(WordsFault::of_clap(e)),
     };
-    let found = found_command(alloc, &matches);
-    drop(matches);
-    match found {
-        Ok(command) => Ok(command),
-        Err(refusal) => Err(words_fault(grammar, refusal)?),
-    }
+    let refusal = match found_command(alloc, &matches) {
+        Ok(command) => return Ok(command),
+        Err(refusal) => refusal,
+    };
+    Err(words_fault(grammar, refusal)?)
 }
 
 /// Reads the words after the program's name. `Err` is refused words, a request for help or for the
-/// version, or want of memory.
+/// version, or lack of memory.
 pub fn read_command(alloc: Global, words: &[&str]) -> Result<Command, WordsFault>
     ensures in_range { IfOk result IsInRange }
     ensures pipe { words.now ≡ [] → result ≡ Ok Command.Pipe }
@@ -147,12 +146,6 @@ pub fn read_command(alloc: Global, words: &[&str]) -> Result<Command, WordsFault
     if words.is_empty() {
         return Ok(Command::Pipe);
     }
-    match grammar(alloc) {
-        Ok(mut grammar) => {
-            let command = command_in(alloc, &mut grammar, words);
-            drop(grammar);
-            command
-        }
-        Err(error) => Err(WordsFault::from(error)),
-    }
+    let mut grammar = grammar(alloc)?;
+    command_in(alloc, &mut grammar, words)
 }

@@ -11,7 +11,7 @@ pub(crate) enum Refusal {
     Incomplete,
     /// `run` has some of its three options, and not all.
     Together,
-    /// `run` has a certificate, and is to tell more.
+    /// `run` has a certificate, and is to print more.
     CheckedTelling,
     /// `draw` has one of `--limit` and `--spare` without the other, or both without `--code`.
     DrawTogether,

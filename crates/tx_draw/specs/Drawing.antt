@@ -1,20 +1,21 @@
--- The picture of a plan, as a Graphviz text. Each name is quoted, since an exchange may be called NODE or EDGE, which are words of that language.
+-- The picture of a plan, as a Graphviz text. Each name is quoted, since an exchange may be called
+-- NODE or EDGE, which are words of that language.
 use Rattle.std.specs.Prelude.{ℕ, ◌==◌, if◌then◌else◌, List, [], ◌++◌, length, codes, decimal}
 use Rattle.std.specs.List.{flat_map, range_with_len}
 use Rattle.tx_plan.specs.Plan.{Plan, exchange_name, figures_of, group_name, home_of}
 use Rattle.tx_plan.specs.Circuits.{ends_of, direction_of, count_of}
-use Rattle.tx_entries.specs.declared.direction.Direction.{Direction}
-use Rattle.tx_entries.specs.declared.direction.Direction.TheVariants.{OneWay, BothWay}
+use Rattle.tx_plan.specs.declared.ids.Direction.{Direction}
+use Rattle.tx_plan.specs.declared.ids.Direction.TheVariants.{OneWay, BothWay}
 
 -- the texts of the places before n, in order
 abbrev pub each_before : ℕ → (ℕ → List ℕ) → List ℕ
 each_before n text = flat_map text (range_with_len 0 n)
 
--- THE PARTS OF A PICTURE
-
--- the first lines: exchanges are boxes, and what stands at a line between two of them is small
+-- the first lines: exchanges are boxes, and what is written at a line between two of them is small
 abbrev pub head : List ℕ
-head = codes "digraph \"plan\" {\n" ++ (codes "graph [fontname=\"Helvetica\"];\n" ++ (codes "node [shape=\"box\", fontname=\"Helvetica\"];\n" ++ codes "edge [fontname=\"Helvetica\", fontsize=\"10\"];\n"))
+head = codes "digraph \"plan\" {\n" ++ (codes "graph [fontname=\"Helvetica\"];\n"
+    ++ (codes "node [shape=\"box\", fontname=\"Helvetica\"];\n"
+    ++ codes "edge [fontname=\"Helvetica\", fontsize=\"10\"];\n"))
 
 -- a code in a row of its own, if it is at home at x
 abbrev pub home_row : Plan → ℕ → ℕ → List ℕ
@@ -22,14 +23,15 @@ home_row p x code = if home_of p code == x then codes "\\n" ++ figures_of p code
 
 -- an exchange, as far as its label: its name, and below it the codes that are at home there
 abbrev pub box : Plan → ℕ → List ℕ
-box p x = codes "\"" ++ (exchange_name p x ++ (codes "\" [label=\"" ++ (exchange_name p x ++ each_before (length p.codes) (home_row p x))))
+box p x = codes "\"" ++ (exchange_name p x
+    ++ (codes "\" [label=\"" ++ (exchange_name p x ++ each_before (length p.codes) (home_row p x))))
 
 -- a line from x to y, as far as its label
 abbrev pub line_between : Plan → ℕ → ℕ → List ℕ
-line_between p x y = codes "\"" ++ (exchange_name p x ++ (codes "\" -> \"" ++ (exchange_name p y ++ codes "\" [label=")))
+line_between p x y = codes "\""
+    ++ (exchange_name p x ++ (codes "\" -> \"" ++ (exchange_name p y ++ codes "\" [label=")))
 
--- THE PICTURE OF A PLAN
-
+-- an exchange with the codes that are at home there
 abbrev pub exchange_line : Plan → ℕ → List ℕ
 exchange_line p x = box p x ++ codes "\"];\n"
 
@@ -40,7 +42,8 @@ arrow_text BothWay = codes ", dir=\"none\""
 
 -- the name of a group, and how many circuits it has
 abbrev pub group_label : Plan → ℕ → List ℕ
-group_label p g = codes "\"" ++ (group_name p g ++ (codes " " ++ (decimal (count_of p g) ++ (codes "\"" ++ (arrow_text (direction_of p g) ++ codes "];\n")))))
+group_label p g = codes "\"" ++ (group_name p g ++ (codes " "
+    ++ (decimal (count_of p g) ++ (codes "\"" ++ (arrow_text (direction_of p g) ++ codes "];\n")))))
 
 -- a group, from its first end to the other
 abbrev pub group_line : Plan → ℕ → List ℕ
@@ -48,4 +51,5 @@ group_line p g = line_between p (ends_of p g).0 (ends_of p g).1 ++ group_label p
 
 -- the exchanges, and then the groups, in order of declaration
 abbrev pub drawing : Plan → List ℕ
-drawing p = head ++ (each_before (length p.exchanges) (exchange_line p) ++ (each_before (length p.groups) (group_line p) ++ codes "}\n"))
+drawing p = head ++ (each_before (length p.exchanges) (exchange_line p)
+    ++ (each_before (length p.groups) (group_line p) ++ codes "}\n"))

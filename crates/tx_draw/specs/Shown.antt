@@ -12,9 +12,11 @@ pub record Shown : Type 0 where
   pub start : Option ℕ
   pub steps : List (ℕ × ℕ)
 
+-- no walk
 abbrev pub nothing : Shown
 nothing = record { word = []; start = None; steps = [] }
 
+-- a walk, with what is wrong with it
 abbrev pub walk_shown : List ℕ → Walk → Shown
 walk_shown word w = record { word = word; start = Some w.start; steps = w.steps }
 
@@ -25,6 +27,7 @@ shown_by c (Loop d w) = if d == c then Some (walk_shown (codes ": LOOP") w) else
 shown_by c (Short d w) = if d == c then Some (walk_shown (codes ": SHORT") w) else None
 shown_by c (Long d w) = if d == c then Some (walk_shown (codes ": LONG") w) else None
 
+-- the one, if it is there, and else the other
 abbrev pub or_else : Option Shown → Shown → Shown
 or_else (Some shown) other = shown
 or_else None other = other

@@ -1,7 +1,5 @@
 // The picture of the routes for a code.
-ghost use Rattle.std.specs.Prelude.{◌≡◌, ◌+◌, true, OnOk, OnErr, length, get_or};
-ghost use Rattle.std.specs.Io.KnownBytes.{append_known};
-ghost use Rattle.tx_text.specs.Ends.{StopsIn};
+ghost use Rattle.std.specs.Prelude.{◌≡◌, ◌+◌, length, get_or};
 ghost use Rattle.tx_text.specs.Wrote.{Wrote};
 ghost use Rattle.tx_draw.specs.Shown.{first_shown};
 ghost use Rattle.tx_draw.specs.Drawing.{each_before};
@@ -13,11 +11,13 @@ use itoa::Buffer;
 use std::alloc::Allocator;
 use tx_plan::{CodeId, ExchangeId, GroupId, Plan};
 use tx_rank::{Finding, is_marked};
-use tx_text::{Sink, WriteFault, write_text};
+use tx_text::{Sink, WriteFault, write_parts};
 
-/// Writes the picture of the routes for a code as a Graphviz text: the exchanges, and for each group of a list an arrow with its place in that list.
+/// Writes the picture of the routes for a code as a Graphviz text: the exchanges, and for each
+/// group of a list an arrow with its place in that list.
 ///
-/// The home has a double border, what is not marked as reached is grey, and the walk of the first finding of the code is red. What went out before a failure is a front of the text.
+/// The home has a double border, what is not marked as reached is grey, and the walk of the first
+/// finding of the code is red. What went out before a failure is a front of the text.
 pub fn write_code_drawing<A: Allocator, W: Sink>(
     plan: &Plan<A>,
     code: CodeId,
@@ -25,43 +25,29 @@ pub fn write_code_drawing<A: Allocator, W: Sink>(
     findings: &[Finding<A>],
     sink: &mut W,
 ) -> Result<(), WriteFault>
-    ensures ok { OnOk result (W.taken sink.new ≡ append_known (W.taken sink.old) (code_drawing plan.now code reached.now (first_shown code findings.now))) }
-    ensures err { OnErr result (StopsIn (W.taken sink.old) (W.taken sink.new) (code_drawing plan.now code reached.now (first_shown code findings.now))) }
-    ensures mark { OnErr result (W.failed sink.new ≡ true) }
-    ensures unmarked { OnOk result (W.failed sink.new ≡ W.failed sink.old) }
-{
-    write_first(plan, code, reached, findings, sink)
-}
-
-/// The same, said at once.
-fn write_first<A: Allocator, W: Sink>(
-    plan: &Plan<A>,
-    code: CodeId,
-    reached: &[bool],
-    findings: &[Finding<A>],
-    sink: &mut W,
-) -> Result<(), WriteFault>
-    ensures { Wrote (W.taken sink.old) (W.taken sink.new) (W.failed sink.old) (W.failed sink.new) (code_drawing plan.now code reached.now (first_shown code findings.now)) result }
+    ensures { Wrote W.taken W.failed sink.old sink.new
+        (code_drawing plan.now code reached.now (first_shown code findings.now)) result }
 {
     let shown = first_shown(code, findings);
-    write_whole(plan, code, reached, &shown, sink)
+    write_shown(plan, code, reached, &shown, sink)
 }
 
-/// The same of the walk that is shown.
-fn write_whole<A: Allocator, W: Sink>(
+/// Writes the picture with the walk that is shown in red.
+fn write_shown<A: Allocator, W: Sink>(
     plan: &Plan<A>,
     code: CodeId,
     reached: &[bool],
     shown: &Shown<'_>,
     sink: &mut W,
 ) -> Result<(), WriteFault>
-    ensures { Wrote (W.taken sink.old) (W.taken sink.new) (W.failed sink.old) (W.failed sink.new) (code_drawing plan.now code reached.now shown.now) result }
+    ensures { Wrote W.taken W.failed sink.old sink.new
+        (code_drawing plan.now code reached.now shown.now) result }
 {
     write_head(sink)?;
     write_title(plan, code, shown, sink)?;
     write_exchanges(plan, code, reached, shown, sink)?;
     write_lists(plan, code, reached, shown, sink)?;
-    write_text(&[b"}\n"], sink)
+    write_parts(&[b"}\n"], sink)
 }
 
 fn write_title<A: Allocator, W: Sink>(
@@ -70,10 +56,10 @@ fn write_title<A: Allocator, W: Sink>(
     shown: &Shown<'_>,
     sink: &mut W,
 ) -> Result<(), WriteFault>
-    ensures { Wrote (W.taken sink.old) (W.taken sink.new) (W.failed sink.old) (W.failed sink.new) (title plan.now code shown.now) result }
+    ensures { Wrote W.taken W.failed sink.old sink.new (title plan.now code shown.now) result }
 {
     let figures = plan.code_figures(code);
-    write_text(&[b"label=\"Code ", figures, shown.word, b"\";\n"], sink)
+    write_parts(&[b"label=\"Code ", figures, shown.word, b"\";\n"], sink)
 }
 
 // EXCHANGES
@@ -85,11 +71,11 @@ fn write_exchanges<A: Allocator, W: Sink>(
     shown: &Shown<'_>,
     sink: &mut W,
 ) -> Result<(), WriteFault>
-    ensures { Wrote (W.taken sink.old) (W.taken sink.new) (W.failed sink.old) (W.failed sink.new) (each_before (length plan.now.exchanges) (exchange_line plan.now code reached.now shown.now)) result }
+    ensures { Wrote W.taken W.failed sink.old sink.new (each_before
+        (length plan.now.exchanges) (exchange_line plan.now code reached.now shown.now)) result }
 {
-    plan.rules();
     for place in 0..plan.exchanges() {
-        let exchange = ExchangeId::at(place as u16);
+        let exchange = ExchangeId::of(place);
         write_exchange(plan, code, reached, shown, exchange, sink)?;
     }
     Ok(())
@@ -103,12 +89,13 @@ fn write_exchange<A: Allocator, W: Sink>(
     exchange: ExchangeId,
     sink: &mut W,
 ) -> Result<(), WriteFault>
-    ensures { Wrote (W.taken sink.old) (W.taken sink.new) (W.failed sink.old) (W.failed sink.new) (exchange_line plan.now code reached.now shown.now exchange) result }
+    ensures { Wrote W.taken W.failed sink.old sink.new
+        (exchange_line plan.now code reached.now shown.now exchange) result }
 {
     let home = home_text(plan.home(code) == exchange);
     let color = color_text(shown.passes(exchange), is_marked(reached, exchange));
     write_box(plan, exchange, sink)?;
-    write_text(&[b"\"", home, color, b"];\n"], sink)
+    write_parts(&[b"\"", home, color, b"];\n"], sink)
 }
 
 /// The home has a double border.
@@ -127,11 +114,11 @@ fn write_lists<A: Allocator, W: Sink>(
     shown: &Shown<'_>,
     sink: &mut W,
 ) -> Result<(), WriteFault>
-    ensures { Wrote (W.taken sink.old) (W.taken sink.new) (W.failed sink.old) (W.failed sink.new) (each_before (length plan.now.exchanges) (list_lines plan.now code reached.now shown.now)) result }
+    ensures { Wrote W.taken W.failed sink.old sink.new (each_before
+        (length plan.now.exchanges) (list_lines plan.now code reached.now shown.now)) result }
 {
-    plan.rules();
     for place in 0..plan.exchanges() {
-        let exchange = ExchangeId::at(place as u16);
+        let exchange = ExchangeId::of(place);
         let list = plan.list(exchange, code);
         write_list(plan, reached, shown, exchange, list, sink)?;
     }
@@ -147,7 +134,8 @@ fn write_list<A: Allocator, W: Sink>(
     list: &[GroupId],
     sink: &mut W,
 ) -> Result<(), WriteFault>
-    ensures { Wrote (W.taken sink.old) (W.taken sink.new) (W.failed sink.old) (W.failed sink.new) (each_before (length list.now) (λ i. choice_line plan.now reached.now shown.now exchange (i + 1) (get_or list.now i 0))) result }
+    ensures { Wrote W.taken W.failed sink.old sink.new (each_before (length list.now) (λ i.
+        choice_line plan.now reached.now shown.now exchange (i + 1) (get_or list.now i 0))) result }
 {
     for i in 0..list.len() {
         write_choice(plan, reached, shown, exchange, i + 1, list[i], sink)?;
@@ -155,7 +143,7 @@ fn write_list<A: Allocator, W: Sink>(
     Ok(())
 }
 
-/// Writes the line of the group that stands so many in the list of an exchange.
+/// Writes the line of the group at a place in the list of an exchange.
 fn write_choice<A: Allocator, W: Sink>(
     plan: &Plan<A>,
     reached: &[bool],
@@ -165,7 +153,8 @@ fn write_choice<A: Allocator, W: Sink>(
     group: GroupId,
     sink: &mut W,
 ) -> Result<(), WriteFault>
-    ensures { Wrote (W.taken sink.old) (W.taken sink.new) (W.failed sink.old) (W.failed sink.new) (choice_line plan.now reached.now shown.now exchange order group) result }
+    ensures { Wrote W.taken W.failed sink.old sink.new
+        (choice_line plan.now reached.now shown.now exchange order group) result }
 {
     match plan.other_end(group, exchange) {
         Some(to) => {
@@ -184,10 +173,11 @@ fn write_order<A: Allocator, W: Sink>(
     color: &[u8],
     sink: &mut W,
 ) -> Result<(), WriteFault>
-    ensures { Wrote (W.taken sink.old) (W.taken sink.new) (W.failed sink.old) (W.failed sink.new) (order_label plan.now order group color.now) result }
+    ensures { Wrote W.taken W.failed sink.old sink.new
+        (order_label plan.now order group color.now) result }
 {
     let mut buffer = Buffer::new();
     let order = buffer.format(order).as_bytes();
     let name = plan.group_name(group);
-    write_text(&[b"\"", order, b" ", name, b"\"", color, b"];\n"], sink)
+    write_parts(&[b"\"", order, b" ", name, b"\"", color, b"];\n"], sink)
 }

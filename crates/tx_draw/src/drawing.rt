@@ -1,7 +1,5 @@
 // The picture of a plan.
-ghost use Rattle.std.specs.Prelude.{◌≡◌, true, OnOk, OnErr, length};
-ghost use Rattle.std.specs.Io.KnownBytes.{append_known};
-ghost use Rattle.tx_text.specs.Ends.{StopsIn};
+ghost use Rattle.std.specs.Prelude.{◌≡◌, length};
 ghost use Rattle.tx_text.specs.Wrote.{Wrote};
 ghost use Rattle.tx_draw.specs.Drawing.{each_before, exchange_line, arrow_text, group_label, group_line, drawing};
 
@@ -9,36 +7,28 @@ use crate::parts::{write_box, write_head, write_line_between};
 use itoa::Buffer;
 use std::alloc::Allocator;
 use tx_plan::{Direction, ExchangeId, GroupId, Plan};
-use tx_text::{Sink, WriteFault, write_text};
+use tx_text::{Sink, WriteFault, write_parts};
 
-/// Writes the picture of a plan as a Graphviz text: each exchange with the codes that are at home there, and each group with its circuits.
+/// Writes the picture of a plan as a Graphviz text: each exchange with the codes that are at home
+/// there, and each group with its circuits.
 ///
-/// A one-way group is an arrow, and a both-way group a line. What went out before a failure is a front of the text.
+/// A one-way group is an arrow, and a both-way group a line. What went out before a failure is a
+/// front of the text.
 pub fn write_drawing<A: Allocator, W: Sink>(plan: &Plan<A>, sink: &mut W) -> Result<(), WriteFault>
-    ensures ok { OnOk result (W.taken sink.new ≡ append_known (W.taken sink.old) (drawing plan.now)) }
-    ensures err { OnErr result (StopsIn (W.taken sink.old) (W.taken sink.new) (drawing plan.now)) }
-    ensures mark { OnErr result (W.failed sink.new ≡ true) }
-    ensures unmarked { OnOk result (W.failed sink.new ≡ W.failed sink.old) }
-{
-    write_whole(plan, sink)
-}
-
-/// The same, said at once.
-fn write_whole<A: Allocator, W: Sink>(plan: &Plan<A>, sink: &mut W) -> Result<(), WriteFault>
-    ensures { Wrote (W.taken sink.old) (W.taken sink.new) (W.failed sink.old) (W.failed sink.new) (drawing plan.now) result }
+    ensures { Wrote W.taken W.failed sink.old sink.new (drawing plan.now) result }
 {
     write_head(sink)?;
     write_exchanges(plan, sink)?;
     write_groups(plan, sink)?;
-    write_text(&[b"}\n"], sink)
+    write_parts(&[b"}\n"], sink)
 }
 
 fn write_exchanges<A: Allocator, W: Sink>(plan: &Plan<A>, sink: &mut W) -> Result<(), WriteFault>
-    ensures { Wrote (W.taken sink.old) (W.taken sink.new) (W.failed sink.old) (W.failed sink.new) (each_before (length plan.now.exchanges) (exchange_line plan.now)) result }
+    ensures { Wrote W.taken W.failed sink.old sink.new
+        (each_before (length plan.now.exchanges) (exchange_line plan.now)) result }
 {
-    plan.rules();
     for place in 0..plan.exchanges() {
-        write_exchange(plan, ExchangeId::at(place as u16), sink)?;
+        write_exchange(plan, ExchangeId::of(place), sink)?;
     }
     Ok(())
 }
@@ -48,18 +38,18 @@ fn write_exchange<A: Allocator, W: Sink>(
     exchange: ExchangeId,
     sink: &mut W,
 ) -> Result<(), WriteFault>
-    ensures { Wrote (W.taken sink.old) (W.taken sink.new) (W.failed sink.old) (W.failed sink.new) (exchange_line plan.now exchange) result }
+    ensures { Wrote W.taken W.failed sink.old sink.new (exchange_line plan.now exchange) result }
 {
     write_box(plan, exchange, sink)?;
-    write_text(&[b"\"];\n"], sink)
+    write_parts(&[b"\"];\n"], sink)
 }
 
 fn write_groups<A: Allocator, W: Sink>(plan: &Plan<A>, sink: &mut W) -> Result<(), WriteFault>
-    ensures { Wrote (W.taken sink.old) (W.taken sink.new) (W.failed sink.old) (W.failed sink.new) (each_before (length plan.now.groups) (group_line plan.now)) result }
+    ensures { Wrote W.taken W.failed sink.old sink.new
+        (each_before (length plan.now.groups) (group_line plan.now)) result }
 {
-    plan.rules();
     for place in 0..plan.groups() {
-        write_group(plan, GroupId::at(place as u16), sink)?;
+        write_group(plan, GroupId::of(place), sink)?;
     }
     Ok(())
 }
@@ -69,7 +59,7 @@ fn write_group<A: Allocator, W: Sink>(
     group: GroupId,
     sink: &mut W,
 ) -> Result<(), WriteFault>
-    ensures { Wrote (W.taken sink.old) (W.taken sink.new) (W.failed sink.old) (W.failed sink.new) (group_line plan.now group) result }
+    ensures { Wrote W.taken W.failed sink.old sink.new (group_line plan.now group) result }
 {
     let (a, b) = plan.ends(group);
     write_line_between(plan, a, b, sink)?;
@@ -81,23 +71,13 @@ fn write_group_label<A: Allocator, W: Sink>(
     group: GroupId,
     sink: &mut W,
 ) -> Result<(), WriteFault>
-    ensures { Wrote (W.taken sink.old) (W.taken sink.new) (W.failed sink.old) (W.failed sink.new) (group_label plan.now group) result }
+    ensures { Wrote W.taken W.failed sink.old sink.new (group_label plan.now group) result }
 {
     let mut buffer = Buffer::new();
     let count = buffer.format(plan.group_count(group)).as_bytes();
     let name = plan.group_name(group);
-    write_text(
-        &[
-            b"\"",
-            name,
-            b" ",
-            count,
-            b"\"",
-            arrow_text(plan.direction(group)),
-            b"];\n",
-        ],
-        sink,
-    )
+    let arrow = arrow_text(plan.direction(group));
+    write_parts(&[b"\"", name, b" ", count, b"\"", arrow, b"];\n"], sink)
 }
 
 /// A both-way group has no arrow.

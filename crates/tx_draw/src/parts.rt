@@ -5,13 +5,13 @@ ghost use Rattle.tx_draw.specs.Drawing.{head, home_row, box, line_between, each_
 
 use std::alloc::Allocator;
 use tx_plan::{CodeId, ExchangeId, Plan};
-use tx_text::{Sink, WriteFault, write_text};
+use tx_text::{Sink, WriteFault, write_parts};
 
 /// Writes the first lines: what all exchanges and all groups look like.
 pub fn write_head<W: Sink>(sink: &mut W) -> Result<(), WriteFault>
-    ensures { Wrote (W.taken sink.old) (W.taken sink.new) (W.failed sink.old) (W.failed sink.new) head result }
+    ensures { Wrote W.taken W.failed sink.old sink.new head result }
 {
-    write_text(
+    write_parts(
         &[
             b"digraph \"plan\" {\n",
             b"graph [fontname=\"Helvetica\"];\n",
@@ -28,10 +28,10 @@ pub fn write_box<A: Allocator, W: Sink>(
     exchange: ExchangeId,
     sink: &mut W,
 ) -> Result<(), WriteFault>
-    ensures { Wrote (W.taken sink.old) (W.taken sink.new) (W.failed sink.old) (W.failed sink.new) (box plan.now exchange) result }
+    ensures { Wrote W.taken W.failed sink.old sink.new (box plan.now exchange) result }
 {
     let name = plan.exchange_name(exchange);
-    write_text(&[b"\"", name, b"\" [label=\"", name], sink)?;
+    write_parts(&[b"\"", name, b"\" [label=\"", name], sink)?;
     write_home_rows(plan, exchange, sink)
 }
 
@@ -40,11 +40,11 @@ fn write_home_rows<A: Allocator, W: Sink>(
     exchange: ExchangeId,
     sink: &mut W,
 ) -> Result<(), WriteFault>
-    ensures { Wrote (W.taken sink.old) (W.taken sink.new) (W.failed sink.old) (W.failed sink.new) (each_before (length plan.now.codes) (home_row plan.now exchange)) result }
+    ensures { Wrote W.taken W.failed sink.old sink.new
+        (each_before (length plan.now.codes) (home_row plan.now exchange)) result }
 {
-    plan.rules();
     for place in 0..plan.codes() {
-        write_home_row(plan, exchange, CodeId::at(place as u16), sink)?;
+        write_home_row(plan, exchange, CodeId::of(place), sink)?;
     }
     Ok(())
 }
@@ -55,10 +55,10 @@ fn write_home_row<A: Allocator, W: Sink>(
     code: CodeId,
     sink: &mut W,
 ) -> Result<(), WriteFault>
-    ensures { Wrote (W.taken sink.old) (W.taken sink.new) (W.failed sink.old) (W.failed sink.new) (home_row plan.now exchange code) result }
+    ensures { Wrote W.taken W.failed sink.old sink.new (home_row plan.now exchange code) result }
 {
     if plan.home(code) == exchange {
-        write_text(&[b"\\n", plan.code_figures(code)], sink)
+        write_parts(&[b"\\n", plan.code_figures(code)], sink)
     } else {
         Ok(())
     }
@@ -71,9 +71,9 @@ pub fn write_line_between<A: Allocator, W: Sink>(
     to: ExchangeId,
     sink: &mut W,
 ) -> Result<(), WriteFault>
-    ensures { Wrote (W.taken sink.old) (W.taken sink.new) (W.failed sink.old) (W.failed sink.new) (line_between plan.now from to) result }
+    ensures { Wrote W.taken W.failed sink.old sink.new (line_between plan.now from to) result }
 {
-    write_text(
+    write_parts(
         &[
             b"\"",
             plan.exchange_name(from),

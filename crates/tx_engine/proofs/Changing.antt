@@ -2,31 +2,32 @@
 use Rattle.std.proofs.Common.{◌≡◌, ◌≢◌, ℕ, suc, ◌+◌, ◌<◌, ◌≤◌, Bool, true, false, List, [], ◌∷◌, ◌++◌, length, Some, None, refl, sym, ap, subst, ◌∙◌, arith}
 use Rattle.std.specs.Prelude.{slice_index_or}
 use Rattle.std.specs.FinSet as set
+use Rattle.std.specs.Ordering.{nat_cmp}
 use Rattle.tx_plan.specs.Orders.{line_cmp, circuit_cmp}
 use Rattle.tx_plan.specs.Plan.{Plan, Code}
 use Rattle.tx_plan.specs.Rules.{IsPlan}
 use Rattle.tx_plan.specs.Lines.{is_line_at, is_line}
 use Rattle.tx_plan.specs.Circuits.{is_circuit}
 use Rattle.tx_plan.specs.Among.{Among}
-use Rattle.tx_entries.specs.declared.circuit.Circuit.{Circuit}
-use Rattle.tx_entries.specs.declared.line.Line.{Line}
-use Rattle.tx_state.specs.declared.hop.Hop.{Hop}
-use Rattle.tx_state.specs.declared.phase.Phase.TheVariants.{Standing, Calling}
-use Rattle.tx_state.specs.Call.{Call, place_of}
-use Rattle.tx_state.specs.InUse.{circuits_carried}
-use Rattle.tx_state.specs.Routing.{set_call}
-use Rattle.tx_state.specs.Step.{keyed_call}
-use Rattle.tx_state.specs.Invariant.{Inv}
-use Rattle.tx_state.proofs.Invariant.{inv_opening}
-use Rattle.tx_state.proofs.Changes.{not_standing}
+use Rattle.tx_plan.specs.declared.ids.Circuit.{Circuit}
+use Rattle.tx_plan.specs.declared.ids.Line.{Line}
+use Rattle.tx_machine.specs.declared.open_call.Hop.{Hop}
+use Rattle.tx_machine.specs.declared.open_call.Phase.TheVariants.{Standing, Calling}
+use Rattle.tx_machine.specs.Call.{Call, place_of}
+use Rattle.tx_machine.specs.InUse.{circuits_carried}
+use Rattle.tx_machine.specs.Routing.{set_call}
+use Rattle.tx_machine.specs.Step.{keyed_call}
+use Rattle.tx_machine.specs.inner.Invariant.{Inv}
+use Rattle.tx_machine.proofs.Invariant.{inv_opening}
+use Rattle.tx_machine.proofs.Changes.{not_standing}
 use Rattle.tx_lines.specs.Book.{Book, is_line_of}
 use Rattle.tx_circuits.specs.Table.{Table, all_free, seat_cmp}
 use Rattle.tx_calls.specs.Calls.{Kept, Calls, kept_at, Changes, calls_in, sorted_calls}
 use Rattle.tx_calls.specs.inner.Keys.{HasKeys, keys_of, pick}
-use Rattle.tx_calls.specs.declared.end_keys.EndKeys.{EndKeys}
+use Rattle.tx_calls.specs.declared.circuit_keys.EndKeys.{EndKeys}
 use Rattle.tx_calls.proofs.Sorted.{sorted_mem}
-use Rattle.tx_endings.specs.inner.Seen.{AreTogether}
-use Rattle.tx_endings.proofs.Going.{keyed_together}
+use Rattle.tx_engine.specs.inner.Seen.{AreTogether}
+use Rattle.tx_engine.proofs.Going.{keyed_together}
 use Rattle.tx_engine.specs.inner.Sound.{AreSound, is_first_end}
 use Rattle.tx_engine.proofs.Keyed.{keyed_updated, hop_room_updated}
 
@@ -109,6 +110,12 @@ module _ (p : Plan) (codes : List Code) (c : Calls) (ks : List (List EndKeys)) (
   -- ONLY THE TABLE CHANGES
   pub sound_table : (t' : Table) → AreTogether p (calls_in c) t' b numbers → AreSound p codes c ks b t' numbers made room
   sound_table t' k = record { rules = sound.rules; codes_are = sound.codes_are; lines = sound.lines; together = k; keyed = sound.keyed; hop_room = sound.hop_room; ticket_room = sound.ticket_room }
+
+  -- other groups are failed or blocked, or other circuits out of service
+  pub sound_marks : (failed blocked : set.FinSet nat_cmp) (out : set.FinSet circuit_cmp) → AreSound p codes c ks b (record t { failed = failed; blocked = blocked; out = out }) numbers made room
+  sound_marks failed blocked out =
+      sound_table (record t { failed = failed; blocked = blocked; out = out })
+      (record { inv = sound.together.inv; used = record { groups = sound.together.used.groups; carried = sound.together.used.carried; seized = sound.together.used.seized }; engaged = sound.together.engaged })
 
   -- ONE CALL CHANGES
   module _ (key : ℕ) (k : Kept) (was : kept_at c key ≡ Some k) where

@@ -2,8 +2,8 @@
 use Rattle.std.proofs.Common.{◌≡◌, ℕ, ◌+◌, ◌<◌, ◌≤◌, Bool, true, false, List, ◌∷◌, length, drop, get_or, Option, None, is_some, sym, ap, ◌∙◌}
 use Rattle.std.specs.Prelude.{if◌then◌else◌}
 use Rattle.std.proofs.lemmas.List.{at_drop_more, at_drop_all}
-use Rattle.tx_entries.specs.declared.circuit.Circuit.{Circuit}
-use Rattle.tx_state.specs.InUse.{first_in}
+use Rattle.tx_plan.specs.declared.ids.Circuit.{Circuit}
+use Rattle.tx_machine.specs.InUse.{first_in}
 
 module _ (look : ℕ → Option Circuit) (gs : List ℕ) (i : ℕ) where
   here : (g : ℕ) (b : Bool) → i < length gs → g ≡ get_or gs i g → is_some (look g) ≡ b → first_in look (drop i gs) ≡ (if b then look g else first_in look (drop (i + 1) gs))

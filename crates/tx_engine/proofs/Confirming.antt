@@ -6,35 +6,35 @@ use Rattle.std.specs.FinSet as set
 use Rattle.std.proofs.lemmas.Bool.{false_from_ne_true}
 use Rattle.std.proofs.lemmas.List.{map_push}
 use Rattle.tx_plan.specs.Orders.{same_circuit}
-use Rattle.tx_entries.proofs.Named.{same_circuit-is}
+use Rattle.tx_plan.proofs.Named.{same_circuit-is}
 use Rattle.tx_plan.specs.Plan.{Plan}
 use Rattle.tx_plan.specs.Circuits.{other_end}
 use Rattle.tx_plan.specs.Among.{Among}
-use Rattle.tx_entries.specs.declared.circuit.Circuit.{Circuit}
+use Rattle.tx_plan.specs.declared.ids.Circuit.{Circuit}
 use Rattle.tx_plan.proofs.Among.{among_cases}
-use Rattle.tx_state.specs.declared.hop.Hop.{Hop}
-use Rattle.tx_state.specs.declared.phase.Phase.TheVariants.{Calling}
-use Rattle.tx_state.specs.declared.event.Event.TheVariants.{Confirm}
-use Rattle.tx_state.specs.declared.reply.Reply.TheVariants.{At}
-use Rattle.tx_state.specs.Call.{Call, place_of}
-use Rattle.tx_state.specs.InUse.{circuits_carried}
-use Rattle.tx_state.specs.Confirming.{far_of, carried_on, rival, confirmed, confirmed_by}
-use Rattle.tx_state.specs.Routing.{set_call}
-use Rattle.tx_state.specs.Step.{accepted, counted, with_call}
+use Rattle.tx_machine.specs.declared.open_call.Hop.{Hop}
+use Rattle.tx_machine.specs.declared.open_call.Phase.TheVariants.{Calling}
+use Rattle.tx_machine.specs.declared.event.Event.TheVariants.{Confirm}
+use Rattle.tx_machine.specs.declared.reply.Reply.TheVariants.{At}
+use Rattle.tx_machine.specs.Call.{Call, place_of}
+use Rattle.tx_machine.specs.InUse.{circuits_carried}
+use Rattle.tx_machine.specs.Confirming.{far_of, carried_on, rival, confirmed, confirmed_by}
+use Rattle.tx_machine.specs.Routing.{set_call}
+use Rattle.tx_machine.specs.Step.{accepted, counted, with_call}
 use Rattle.tx_circuits.specs.Table.{Table, IsSeizedBy, with_held}
 use Rattle.tx_calls.specs.Calls.{Kept, Calls, kept_at, Changes, calls_in}
 use Rattle.tx_calls.specs.inner.Keys.{HasKeys, keys_at, keys_of, pick}
-use Rattle.tx_calls.specs.declared.end_keys.EndKeys.{EndKeys}
+use Rattle.tx_calls.specs.declared.circuit_keys.EndKeys.{EndKeys}
 use Rattle.tx_calls.proofs.Sorted.{sorted_mem, distinct_rising}
-use Rattle.tx_endings.specs.inner.Seen.{AreTogether, state_seen}
-use Rattle.tx_endings.proofs.HeadOn.{told_alone}
-use Rattle.tx_endings.proofs.Going.{may_hold, carried_together, nobody_else}
-use Rattle.tx_engine.specs.declared.parts.Parts.{Parts}
+use Rattle.tx_engine.specs.inner.Seen.{AreTogether, state_seen}
+use Rattle.tx_engine.proofs.Thrown.{told_alone}
+use Rattle.tx_engine.proofs.Going.{may_hold, carried_together, nobody_else}
+use Rattle.tx_engine.specs.declared.engine.EngineState.{EngineState}
 use Rattle.tx_engine.specs.inner.Sound.{AreSound, IsSound, IsUnder, is_first_end, state_of}
 use Rattle.tx_engine.proofs.Keyed.{keys_stay, keys_here, keys_else}
 use Rattle.tx_engine.proofs.Changing.{sound_after}
 
-module _ {A : Type 0} (n : Parts A) (sound : IsSound n) (number key : ℕ) (x : Circuit) (k : Kept) (at : IsUnder n.calls number key k) (calling : k.call.phase ≡ Calling x) where
+module _ {A : Type 0} (n : EngineState A) (sound : IsSound n) (number key : ℕ) (x : Circuit) (k : Kept) (at : IsUnder n.calls number key k) (calling : k.call.phase ≡ Calling x) where
   abbrev p : Plan
   p = n.plan.now
 

@@ -6,25 +6,25 @@ use Rattle.tx_plan.specs.Plan.{Plan, home_of}
 use Rattle.tx_plan.specs.Codes.{code_of}
 use Rattle.tx_plan.specs.Lines.{is_line_at}
 use Rattle.tx_plan.specs.Routes.{route_list, is_barred}
-use Rattle.tx_entries.specs.declared.circuit.Circuit.{Circuit}
-use Rattle.tx_entries.specs.declared.line.Line.{Line}
-use Rattle.tx_state.specs.declared.service.Service.TheVariants.{Np, Na}
-use Rattle.tx_state.specs.declared.event.Event.TheVariants.{Route}
-use Rattle.tx_state.specs.Call.{Call, place_of, is_first, call_of}
-use Rattle.tx_state.specs.State.{State}
-use Rattle.tx_state.specs.Ended.{Ended}
-use Rattle.tx_state.specs.InUse.{first_in, first_free, is_free_at, is_down, choice}
-use Rattle.tx_state.specs.Lines.{line_answer, is_engaged}
-use Rattle.tx_state.specs.Routing.{at_line, at_trunk, line_of, routed, routed_for}
-use Rattle.tx_state.specs.Ending.{answered}
-use Rattle.tx_state.specs.Step.{with_call, accepted}
+use Rattle.tx_plan.specs.declared.ids.Circuit.{Circuit}
+use Rattle.tx_plan.specs.declared.ids.Line.{Line}
+use Rattle.tx_machine.specs.declared.cause.Service.TheVariants.{Np, Na}
+use Rattle.tx_machine.specs.declared.event.Event.TheVariants.{Route}
+use Rattle.tx_machine.specs.Call.{Call, place_of, is_first, call_of}
+use Rattle.tx_machine.specs.State.{State}
+use Rattle.tx_machine.specs.Ended.{Ended}
+use Rattle.tx_machine.specs.InUse.{first_in, first_free, is_free_at, is_down, choice}
+use Rattle.tx_machine.specs.Lines.{line_answer, is_engaged}
+use Rattle.tx_machine.specs.Routing.{at_line, at_trunk, line_of, routed, routed_for}
+use Rattle.tx_machine.specs.Ending.{answered}
+use Rattle.tx_machine.specs.Step.{with_call, accepted}
 use Rattle.tx_lines.specs.Book.{Book, is_line_of}
 use Rattle.tx_circuits.specs.Table.{Table, is_free_at as table_frees, first_free as table_first}
 use Rattle.tx_circuits.proofs.Unnamed.{circuits_at-same}
 use Rattle.tx_engine.specs.inner.Decided.{by_line, by_trunk, decided, decided_for, service_of, carry_out}
-use Rattle.tx_engine.specs.declared.decision.Decision.{Decision}
-use Rattle.tx_engine.specs.declared.decision.Decision.TheVariants.{Answer}
-use Rattle.tx_endings.specs.inner.Seen.{state_seen, AreTogether}
+use Rattle.tx_engine.specs.declared.route.Decision.{Decision}
+use Rattle.tx_engine.specs.declared.route.Decision.TheVariants.{Answer}
+use Rattle.tx_engine.specs.inner.Seen.{state_seen, AreTogether}
 
 pub if_ok : {T E : Type 0} (r : Result T E) {P Q : T → Type 0} → ((x : T) → P x → Q x) → IfOk r P → IfOk r Q
 if_ok (Ok x) f h = f x h

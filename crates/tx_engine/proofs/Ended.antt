@@ -3,19 +3,19 @@ use Rattle.std.proofs.Common.{◌≡◌, ℕ, suc, ◌+◌, ◌<◌, Bool, true,
 use Rattle.std.specs.Prelude.{filter}
 use Rattle.tx_plan.specs.Plan.{Plan}
 use Rattle.tx_plan.specs.Among.{Among}
-use Rattle.tx_state.specs.declared.cause.Cause.{Cause}
-use Rattle.tx_state.specs.Call.{Call, is_numbered}
-use Rattle.tx_state.specs.Ended.{Ended}
-use Rattle.tx_state.specs.Ending.{end_call, ticket_of}
+use Rattle.tx_machine.specs.declared.cause.Cause.{Cause}
+use Rattle.tx_machine.specs.Call.{Call, is_numbered}
+use Rattle.tx_machine.specs.Ended.{Ended}
+use Rattle.tx_machine.specs.Ending.{end_call, ticket_of}
 use Rattle.tx_lines.specs.Book.{Book, is_line_of}
 use Rattle.tx_circuits.specs.Table.{Table}
 use Rattle.tx_calls.specs.Calls.{Kept, Calls, kept_at, Changes, calls_in}
 use Rattle.tx_calls.proofs.Sorted.{sorted_mem}
-use Rattle.tx_endings.specs.inner.GivenBack.{CanGiveBack, given_back, freed}
-use Rattle.tx_endings.specs.inner.Seen.{state_seen}
-use Rattle.tx_endings.proofs.Parts.{may_end, together_after, state_after}
-use Rattle.tx_endings.proofs.Filters.{alone}
-use Rattle.tx_engine.specs.declared.parts.Parts.{Parts}
+use Rattle.tx_engine.specs.inner.GivenBack.{CanGiveBack, given_back, freed}
+use Rattle.tx_engine.specs.inner.Seen.{state_seen}
+use Rattle.tx_engine.proofs.Together.{may_end, together_after, state_after}
+use Rattle.tx_engine.proofs.Filters.{alone}
+use Rattle.tx_engine.specs.declared.engine.EngineState.{EngineState}
 use Rattle.tx_engine.specs.inner.Sound.{AreSound, IsSound, state_of}
 use Rattle.tx_engine.proofs.Keyed.{keyed_removed, hop_room_removed}
 
@@ -27,7 +27,7 @@ length_split t (c ∷ cs) =
       | false ↦ let r = length_split t cs in omega arith
     ]
 
-module _ {A : Type 0} (n : Parts A) (sound : IsSound n) (key : ℕ) (k : Kept) (was : kept_at n.calls key ≡ Some k) where
+module _ {A : Type 0} (n : EngineState A) (sound : IsSound n) (key : ℕ) (k : Kept) (was : kept_at n.calls key ≡ Some k) where
   abbrev p : Plan
   p = n.plan.now
 

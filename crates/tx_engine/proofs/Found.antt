@@ -5,17 +5,17 @@ use Rattle.std.specs.Prelude.{if◌then◌else◌}
 use Rattle.tx_plan.specs.Plan.{Plan, home_of}
 use Rattle.tx_plan.specs.Codes.{code_of}
 use Rattle.tx_plan.specs.Routes.{route_list, is_barred}
-use Rattle.tx_entries.specs.declared.line.Line.{Line}
-use Rattle.tx_state.specs.declared.hop.Hop.{Hop}
-use Rattle.tx_state.specs.declared.service.Service.TheVariants.{Np, Na}
-use Rattle.tx_state.specs.Call.{Call, place_of, is_first}
-use Rattle.tx_state.specs.InUse.{first_in}
-use Rattle.tx_state.specs.Routing.{line_of}
+use Rattle.tx_plan.specs.declared.ids.Line.{Line}
+use Rattle.tx_machine.specs.declared.open_call.Hop.{Hop}
+use Rattle.tx_machine.specs.declared.cause.Service.TheVariants.{Np, Na}
+use Rattle.tx_machine.specs.Call.{Call, place_of, is_first}
+use Rattle.tx_machine.specs.InUse.{first_in}
+use Rattle.tx_machine.specs.Routing.{line_of}
 use Rattle.tx_lines.specs.Book.{Book, is_line_of}
 use Rattle.tx_circuits.specs.Table.{Table, first_free}
 use Rattle.tx_engine.specs.inner.Decided.{by_line, by_trunk, decided, decided_for}
-use Rattle.tx_engine.specs.declared.decision.Decision.{Decision}
-use Rattle.tx_engine.specs.declared.decision.Decision.TheVariants.{Reach, Answer}
+use Rattle.tx_engine.specs.declared.route.Decision.{Decision}
+use Rattle.tx_engine.specs.declared.route.Decision.TheVariants.{Reach, Answer}
 
 some : (n : ℕ) → false ≡ (suc n == 0)
 some n = grind (arith, nat_tests)

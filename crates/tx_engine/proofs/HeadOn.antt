@@ -4,23 +4,23 @@ use Rattle.std.specs.Prelude.{if◌then◌else◌, nat_lt}
 use Rattle.std.specs.FinSet as set
 use Rattle.tx_plan.specs.Plan.{Plan}
 use Rattle.tx_plan.specs.Among.{Among}
-use Rattle.tx_entries.specs.declared.circuit.Circuit.{Circuit}
-use Rattle.tx_state.specs.declared.cause.Cause.{Cause}
-use Rattle.tx_state.specs.declared.phase.Phase.TheVariants.{Calling}
-use Rattle.tx_state.specs.Call.{Call, place_of}
-use Rattle.tx_state.specs.State.{State}
-use Rattle.tx_state.specs.Confirming.{far_of, thrown_back, collide}
-use Rattle.tx_state.specs.Routing.{set_call}
+use Rattle.tx_plan.specs.declared.ids.Circuit.{Circuit}
+use Rattle.tx_machine.specs.declared.cause.Cause.{Cause}
+use Rattle.tx_machine.specs.declared.open_call.Phase.TheVariants.{Calling}
+use Rattle.tx_machine.specs.Call.{Call, place_of}
+use Rattle.tx_machine.specs.State.{State}
+use Rattle.tx_machine.specs.Confirming.{far_of, thrown_back, collide}
+use Rattle.tx_machine.specs.Routing.{set_call}
 use Rattle.tx_circuits.specs.Table.{Table}
 use Rattle.tx_calls.specs.Calls.{Kept, Calls, kept_at, Changes, calls_in}
 use Rattle.tx_calls.specs.inner.Keys.{keys_of, pick}
 use Rattle.tx_calls.proofs.Sorted.{sorted_mem}
-use Rattle.tx_endings.specs.inner.InTurn.{ended_if, pair_ended}
-use Rattle.tx_endings.specs.inner.Seen.{state_seen, AreTogether}
-use Rattle.tx_endings.specs.inner.GivenBack.{CanThrowOff, thrown_off}
-use Rattle.tx_endings.proofs.HeadOn.{IsRival, told_one, only_rival, rival_is, thrown_in_turn}
-use Rattle.tx_endings.proofs.Parts.{may_throw, thrown_together}
-use Rattle.tx_engine.specs.declared.parts.Parts.{Parts}
+use Rattle.tx_engine.specs.inner.InTurn.{ended_if, pair_ended}
+use Rattle.tx_engine.specs.inner.Seen.{state_seen, AreTogether}
+use Rattle.tx_engine.specs.inner.GivenBack.{CanThrowOff, thrown_off}
+use Rattle.tx_engine.proofs.Thrown.{IsRival, told_one, only_rival, rival_is, thrown_in_turn}
+use Rattle.tx_engine.proofs.Together.{may_throw, thrown_together}
+use Rattle.tx_engine.specs.declared.engine.EngineState.{EngineState}
 use Rattle.tx_engine.specs.inner.Sound.{AreSound, IsSound, IsUnder, is_first_end, state_of}
 use Rattle.tx_engine.specs.inner.Meeting.{AreMeeting, AreThrown}
 use Rattle.tx_engine.proofs.Keyed.{keyed_updated, hop_room_updated}
@@ -28,7 +28,7 @@ use Rattle.tx_engine.proofs.Changing.{length_set}
 use Rattle.tx_engine.proofs.Leading.{seizer_kept}
 
 -- the rival of a call whose circuit is seized at its far end, and where its key is found
-module _ {A : Type 0} (n : Parts A) (sound : IsSound n) (number key : ℕ) (x : Circuit) (k : Kept) (at : IsUnder n.calls number key k) (calling : k.call.phase ≡ Calling x)
+module _ {A : Type 0} (n : EngineState A) (sound : IsSound n) (number key : ℕ) (x : Circuit) (k : Kept) (at : IsUnder n.calls number key k) (calling : k.call.phase ≡ Calling x)
     (far : ℕ) (is_far : far ≡ far_of n.plan.now k.call x) (seized : set.contains n.circuits.seized (x, far) ≡ true) where
   in' : Among k.call (calls_in n.calls)
   in' = sorted_mem n.calls.slots key k at.kept
@@ -50,7 +50,7 @@ module _ {A : Type 0} (n : Parts A) (sound : IsSound n) (number key : ℕ) (x : 
         },
       )
 
-module _ {A : Type 0} (n : Parts A) (sound : IsSound n) (key other : ℕ) (x : Circuit) (k d : Kept) (m : AreMeeting n key other x k d) where
+module _ {A : Type 0} (n : EngineState A) (sound : IsSound n) (key other : ℕ) (x : Circuit) (k d : Kept) (m : AreMeeting n key other x k d) where
   abbrev p : Plan
   p = n.plan.now
 

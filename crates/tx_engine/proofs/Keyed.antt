@@ -4,18 +4,18 @@ use Rattle.std.proofs.lemmas.Bool.Decides.{eqb_tells}
 use Rattle.std.specs.Prelude.{slice_get, if◌then◌else◌, option_and_then}
 use Rattle.std.specs.Option.{option_map, option_map_or}
 use Rattle.tx_plan.specs.Orders.{same_circuit}
-use Rattle.tx_entries.proofs.Named.{same_circuit-itself}
+use Rattle.tx_plan.proofs.Named.{same_circuit-itself}
 use Rattle.tx_plan.specs.Plan.{Plan, Group}
 use Rattle.tx_plan.specs.Circuits.{is_circuit, other_end, ends_of, far_end}
 use Rattle.tx_plan.specs.Among.{Among}
-use Rattle.tx_entries.specs.declared.circuit.Circuit.{Circuit}
-use Rattle.tx_state.specs.declared.phase.Phase.TheVariants.{Calling}
-use Rattle.tx_state.specs.Call.{place_of}
-use Rattle.tx_state.specs.InUse.{circuits_carried}
-use Rattle.tx_state.proofs.Uses.{an_end}
+use Rattle.tx_plan.specs.declared.ids.Circuit.{Circuit}
+use Rattle.tx_machine.specs.declared.open_call.Phase.TheVariants.{Calling}
+use Rattle.tx_machine.specs.Call.{place_of}
+use Rattle.tx_machine.specs.InUse.{circuits_carried}
+use Rattle.tx_machine.proofs.Uses.{an_end}
 use Rattle.tx_calls.specs.Calls.{Kept, Calls, kept_at, Changes}
 use Rattle.tx_calls.specs.inner.Keys.{HasKeys, keys_at, keys_of, pick, with_key, no_keys}
-use Rattle.tx_calls.specs.declared.end_keys.EndKeys.{EndKeys}
+use Rattle.tx_calls.specs.declared.circuit_keys.EndKeys.{EndKeys}
 use Rattle.tx_engine.specs.inner.Sound.{AreKeyed, HasHopRoom, is_first_end}
 
 -- KEYS BY CIRCUIT, AFTER THOSE OF ONE WERE WRITTEN

@@ -3,16 +3,16 @@ use Rattle.std.proofs.Common.{◌≡◌, ℕ, Bool, true, List, Some, sym, ap, s
 use Rattle.std.specs.List.{list_any}
 use Rattle.tx_plan.specs.Plan.{Plan}
 use Rattle.tx_plan.specs.Among.{Among}
-use Rattle.tx_entries.specs.declared.circuit.Circuit.{Circuit}
-use Rattle.tx_state.specs.declared.phase.Phase.TheVariants.{Calling}
-use Rattle.tx_state.specs.Call.{Call, place_of}
-use Rattle.tx_state.specs.InUse.{carries, seizes_from, circuits_carried}
-use Rattle.tx_state.proofs.Lists.{any_mem}
+use Rattle.tx_plan.specs.declared.ids.Circuit.{Circuit}
+use Rattle.tx_machine.specs.declared.open_call.Phase.TheVariants.{Calling}
+use Rattle.tx_machine.specs.Call.{Call, place_of}
+use Rattle.tx_machine.specs.InUse.{carries, seizes_from, circuits_carried}
+use Rattle.tx_machine.proofs.Lists.{any_mem}
 use Rattle.tx_calls.specs.Calls.{Kept, Calls, kept_at, calls_in}
 use Rattle.tx_calls.specs.inner.Keys.{keys_of, pick}
-use Rattle.tx_calls.specs.declared.end_keys.EndKeys.{EndKeys}
+use Rattle.tx_calls.specs.declared.circuit_keys.EndKeys.{EndKeys}
 use Rattle.tx_calls.proofs.Sorted.{mem_sorted}
-use Rattle.tx_endings.proofs.After.{carried_mem, seizing_from}
+use Rattle.tx_engine.proofs.After.{carried_mem, seizing_from}
 use Rattle.tx_engine.specs.inner.Sound.{AreKeyed, is_first_end}
 
 module _ (p : Plan) (c : Calls) (ks : List (List EndKeys)) (keyed : AreKeyed p c ks) (x : Circuit) where

@@ -4,36 +4,35 @@ use Rattle.std.specs.Prelude.{if◌then◌else◌, find}
 use Rattle.std.specs.Option.{option_map}
 use Rattle.std.specs.FinSet as set
 use Rattle.tx_plan.specs.Orders.{same_circuit}
-use Rattle.tx_entries.proofs.Named.{same_circuit-is}
+use Rattle.tx_plan.proofs.Named.{same_circuit-is}
 use Rattle.tx_plan.specs.Plan.{Plan, home_of, figures_of}
 use Rattle.tx_plan.specs.Codes.{code_of}
 use Rattle.tx_plan.specs.Lines.{is_line_at}
 use Rattle.tx_plan.specs.Routes.{route_list, is_barred}
-use Rattle.tx_plan.specs.Circuits.{may_seize, other_end, circuits_at}
-use Rattle.tx_plan.specs.Circuits.{is_circuit}
+use Rattle.tx_plan.specs.Circuits.{may_seize, other_end, circuits_at, is_circuit}
 use Rattle.tx_plan.specs.Among.{Among}
-use Rattle.tx_entries.specs.declared.circuit.Circuit.{Circuit}
-use Rattle.tx_entries.specs.declared.line.Line.{Line}
-use Rattle.tx_state.specs.declared.phase.Phase.TheVariants.{Calling, Connected}
-use Rattle.tx_state.specs.declared.service.Service.TheVariants.{Na}
-use Rattle.tx_state.specs.Call.{Call, place_of, is_first}
-use Rattle.tx_state.specs.InUse.{circuits_carried, first_in}
-use Rattle.tx_state.specs.Routing.{set_call, in_phase, line_of}
-use Rattle.tx_state.specs.Safe.{IsKeyedLine}
-use Rattle.tx_state.proofs.Lists.{find_mem}
-use Rattle.tx_state.proofs.Steps.{listed_leads, listed_may, prefix-is, code_begins}
-use Rattle.tx_state.proofs.Uses.{first_in-is, chosen, IsChosen}
+use Rattle.tx_plan.specs.declared.ids.Circuit.{Circuit}
+use Rattle.tx_plan.specs.declared.ids.Line.{Line}
+use Rattle.tx_machine.specs.declared.open_call.Phase.TheVariants.{Calling, Connected}
+use Rattle.tx_machine.specs.declared.cause.Service.TheVariants.{Na}
+use Rattle.tx_machine.specs.Call.{Call, place_of, is_first}
+use Rattle.tx_machine.specs.InUse.{circuits_carried, first_in}
+use Rattle.tx_machine.specs.Routing.{set_call, in_phase, line_of}
+use Rattle.tx_machine.specs.Safe.{IsKeyedLine}
+use Rattle.tx_machine.proofs.Lists.{find_mem}
+use Rattle.tx_machine.proofs.Steps.{listed_leads, listed_may, prefix-is, code_begins}
+use Rattle.tx_machine.proofs.Uses.{first_in-is, chosen, IsChosen}
 use Rattle.tx_lines.specs.Book.{Book, is_line_of}
 use Rattle.tx_circuits.specs.Table.{Table, plan_of, is_down, is_free_at as table_frees, first_free as table_first}
 use Rattle.tx_circuits.proofs.Unnamed.{is_circuit-same, may_seize-same}
 use Rattle.tx_calls.specs.Calls.{Kept, Calls, Changes, calls_in}
 use Rattle.tx_calls.specs.inner.Keys.{HasKeys, keys_at, keys_of, pick, with_key}
-use Rattle.tx_calls.specs.declared.end_keys.EndKeys.{EndKeys}
+use Rattle.tx_calls.specs.declared.circuit_keys.EndKeys.{EndKeys}
 use Rattle.tx_calls.proofs.Sorted.{sorted_mem}
-use Rattle.tx_endings.specs.inner.Seen.{AreTogether}
-use Rattle.tx_endings.proofs.Going.{connected_together, seized_together}
-use Rattle.tx_engine.specs.declared.decision.Decision.TheVariants.{Reach, Seize, Answer}
-use Rattle.tx_engine.specs.declared.parts.Parts.{Parts}
+use Rattle.tx_engine.specs.inner.Seen.{AreTogether}
+use Rattle.tx_engine.proofs.Going.{connected_together, seized_together}
+use Rattle.tx_engine.specs.declared.route.Decision.TheVariants.{Reach, Seize, Answer}
+use Rattle.tx_engine.specs.declared.engine.EngineState.{EngineState}
 use Rattle.tx_engine.specs.inner.Decided.{decided_for, by_line, by_trunk, service_of, IsDecided}
 use Rattle.tx_engine.specs.inner.Sound.{AreSound, IsSound, is_first_end, state_of}
 use Rattle.tx_engine.proofs.Keyed.{keys_stay, keys_here, keys_else, pick_same, pick_other, ends_same}
@@ -96,7 +95,7 @@ free_by_table t place g x h = by (is_down t g) h
     by true e = absurd (let bad : ⊥ = cc in bad)
     by false e = (find_mem (table_frees t place) (circuits_at (plan_of t) g place) x e).1
 
-module _ {A : Type 0} (n : Parts A) (sound : IsSound n) (key : ℕ) (k : Kept) where
+module _ {A : Type 0} (n : EngineState A) (sound : IsSound n) (key : ℕ) (k : Kept) where
   abbrev p : Plan
   p = n.plan.now
 

@@ -1,4 +1,7 @@
 pub mod Decided
 pub mod Meeting
 pub mod Sound
-pub mod Marked
+pub mod GivenBack
+pub mod InTurn
+pub mod Seen
+pub mod Users

@@ -1,31 +1,34 @@
 // Confirming a circuit.
-ghost use Rattle.std.specs.Prelude.{◌≡◌, ◌<◌, ◌-◌, ◌^◌, false};
+ghost use Rattle.std.specs.Prelude.{◌≡◌, ◌<◌, ◌-◌, ◌^◌, None, false};
 ghost use Rattle.std.specs.FinSet as set;
-ghost use Rattle.tx_state.specs.declared.event.Event.TheVariants.{Confirm};
-ghost use Rattle.tx_state.specs.declared.phase.Phase.TheVariants.{Calling};
-ghost use Rattle.tx_state.specs.declared.reply.Reply.TheVariants.{At};
-ghost use Rattle.tx_state.specs.Confirming.{far_of};
-ghost use Rattle.tx_state.specs.Step.{step, accepted, counted};
+ghost use Rattle.tx_machine.specs.declared.event.Event.TheVariants.{Confirm};
+ghost use Rattle.tx_machine.specs.declared.open_call.Phase.TheVariants.{Calling};
+ghost use Rattle.tx_machine.specs.declared.reply.Reply.TheVariants.{At};
+ghost use Rattle.tx_machine.specs.Confirming.{far_of};
+ghost use Rattle.tx_machine.specs.Step.{accepted, counted};
+ghost use Rattle.tx_machine.specs.Refusals.{refusal};
 ghost use Rattle.tx_calls.specs.Calls.{Kept};
 ghost use Rattle.tx_engine.specs.inner.Sound.{IsSound, IsUnder, state_of};
 
-use crate::parts::Parts;
+use crate::engine::EngineState;
 use std::alloc::Allocator;
+use tx_machine::{Hop, Phase, Reply, far_of};
 use tx_plan::{Circuit, ExchangeId};
-use tx_state::{Hop, Reply, far_of};
 
-impl<'p, A: Allocator + Copy> Parts<'p, A> {
+impl<'p, A: Allocator + Copy> EngineState<'p, A> {
     /// A call is confirmed.
-    #[inline(always)]
     pub(crate) fn confirm(&mut self, number: u32) -> Reply
-        requires { IsSound self.old }
+        requires sound { IsSound self.old }
+        requires open { refusal self.old.plan.now (state_of self.old) (Confirm number) ≡ None }
         ensures sound { IsSound self.new }
         ensures plan { self.new.plan.now ≡ self.old.plan.now }
-        ensures step { step self.old.plan.now (state_of self.old) (Confirm number) ≡ (result, state_of self.new) }
+        ensures step { counted (accepted self.old.plan.now (state_of self.old) (Confirm number))
+            ≡ (result, state_of self.new) }
     {
-        let (key, circuit) = match self.calling(number) {
-            Ok(found) => found,
-            Err(refusal) => return Reply::Refused(refusal),
+        let key = self.key_of(number);
+        let circuit = match self.calls.at(key).phase {
+            Phase::Calling(circuit) => circuit,
+            Phase::Standing | Phase::Connected(_) => unreachable!(),
         };
         let far = far_of(self.plan, self.calls.at(key), &circuit);
         if self.circuits.is_seized(&circuit, far) {
@@ -39,11 +42,13 @@ impl<'p, A: Allocator + Copy> Parts<'p, A> {
     fn go_on(&mut self, number: u32, key: usize, circuit: &Circuit, far: ExchangeId)
         requires sound { IsSound self.old }
         requires events { self.old.events < 2 ^ 64 - 1 }
-        requires calls { (k : Kept) × IsUnder self.old.calls number key k × (k.call.phase ≡ Calling circuit.now) × (far ≡ far_of self.old.plan.now k.call circuit.now) }
+        requires calls { (k : Kept) × IsUnder self.old.calls number key k × (k.call.phase
+            ≡ Calling circuit.now) × (far ≡ far_of self.old.plan.now k.call circuit.now) }
         requires alone { set.contains self.old.circuits.seized (circuit.now, far) ≡ false }
         ensures sound { IsSound self.new }
         ensures plan { self.new.plan.now ≡ self.old.plan.now }
-        ensures step { counted (accepted self.old.plan.now (state_of self.old) (Confirm number)) ≡ (At far, state_of self.new) }
+        ensures step { counted (accepted self.old.plan.now (state_of self.old) (Confirm number))
+            ≡ (At far, state_of self.new) }
     {
         self.circuits.hold(circuit);
         self.keys.set_both(circuit, key);

@@ -1,33 +1,33 @@
 // Calls that end.
-ghost use Rattle.std.specs.Prelude.{◌≡◌, ◌≢◌, ℕ, ◌<◌, ◌-◌, ◌^◌, is_some, Some, true};
-ghost use Rattle.tx_state.specs.declared.event.Event.TheVariants.{Clear};
-ghost use Rattle.tx_state.specs.Ending.{end_call, ticket_of};
-ghost use Rattle.tx_state.specs.Step.{step};
+ghost use Rattle.std.specs.Prelude.{◌≡◌, ◌≢◌, ℕ, ◌<◌, ◌-◌, ◌^◌, is_some, Some, None, true};
+ghost use Rattle.tx_machine.specs.declared.event.Event.TheVariants.{Clear};
+ghost use Rattle.tx_machine.specs.Ending.{end_call, ticket_of};
+ghost use Rattle.tx_machine.specs.Step.{accepted, counted};
+ghost use Rattle.tx_machine.specs.Refusals.{refusal};
 ghost use Rattle.tx_calls.specs.Calls.{Kept, kept_at};
-ghost use Rattle.tx_state.specs.Seen.{call_seen};
-ghost use Rattle.tx_endings.specs.inner.GivenBack.{released_all, given_back, thrown_off, freed, CanReleaseAll, CanGiveBack, CanThrowOff};
+ghost use Rattle.tx_machine.specs.Seen.{call_seen};
+ghost use Rattle.tx_engine.specs.inner.GivenBack.{released_all, given_back, thrown_off, freed, CanReleaseAll, CanGiveBack, CanThrowOff};
 ghost use Rattle.tx_engine.specs.inner.Sound.{IsSound, state_of};
 
-use crate::parts::Parts;
+use crate::engine::EngineState;
 use std::alloc::Allocator;
 use tx_circuits::CircuitTable;
 use tx_lines::LineBook;
+use tx_machine::{Cause, Hop, OpenCall, Party, Path, Phase, Reply, Ticket, far_of, place_of};
 use tx_plan::{Circuit, Plan};
-use tx_state::{Cause, Hop, OpenCall, Party, Path, Phase, Reply, Ticket, far_of, place_of};
 
-impl<'p, A: Allocator + Copy> Parts<'p, A> {
+impl<'p, A: Allocator + Copy> EngineState<'p, A> {
     /// A call is cleared.
-    #[inline(always)]
     pub(crate) fn clear(&mut self, number: u32, party: Party) -> Reply
-        requires { IsSound self.old }
+        requires sound { IsSound self.old }
+        requires open { refusal self.old.plan.now
+            (state_of self.old) (Clear number party) ≡ None }
         ensures sound { IsSound self.new }
         ensures plan { self.new.plan.now ≡ self.old.plan.now }
-        ensures step { step self.old.plan.now (state_of self.old) (Clear number party) ≡ (result, state_of self.new) }
+        ensures step { counted (accepted self.old.plan.now
+            (state_of self.old) (Clear number party)) ≡ (result, state_of self.new) }
     {
-        let key = match self.clearable(number, party) {
-            Ok(key) => key,
-            Err(refusal) => return Reply::Refused(refusal),
-        };
+        let key = self.key_of(number);
         let cause = match party {
             Party::Caller => Cause::ClearedByCaller,
             Party::Called => Cause::ClearedByCalled,
@@ -37,7 +37,8 @@ impl<'p, A: Allocator + Copy> Parts<'p, A> {
         Reply::Cleared
     }
 
-    /// The call under the key ends: its lines are free, its circuits are given back, and its ticket is written.
+    /// The call under the key ends: its lines are free, its circuits are given back, and its ticket
+    /// is written.
     pub(crate) fn end_call(&mut self, key: usize, cause: Cause)
         requires sound { IsSound self.old }
         requires there { is_some (kept_at self.old.calls key) ≡ true }
@@ -45,8 +46,10 @@ impl<'p, A: Allocator + Copy> Parts<'p, A> {
         ensures sound { IsSound self.new }
         ensures plan { self.new.plan.now ≡ self.old.plan.now }
         ensures events { self.new.events ≡ self.old.events }
-        ensures others { (other : ℕ) → other ≢ key → kept_at self.new.calls other ≡ kept_at self.old.calls other }
-        ensures state { (k : Kept) → kept_at self.old.calls key ≡ Some k → state_of self.new ≡ end_call self.old.plan.now cause k.call.number (state_of self.old) }
+        ensures others { (other : ℕ) → other ≢ key
+            → kept_at self.new.calls other ≡ kept_at self.old.calls other }
+        ensures state { (k : Kept) → kept_at self.old.calls key ≡ Some k → state_of self.new
+            ≡ end_call self.old.plan.now cause k.call.number (state_of self.old) }
     {
         let call = self.calls.take_out(key);
         free_lines(&mut self.lines, &call);
@@ -74,7 +77,10 @@ fn ticket_of<A: Allocator>(plan: &Plan<A>, call: OpenCall<A>, cause: Cause, even
 
 /// The lines of a call are free.
 fn free_lines<A: Allocator>(lines: &mut LineBook<A>, call: &OpenCall<A>)
-    ensures { lines.new ≡ record lines.old { engaged = freed (call_seen call.now) lines.old.engaged; room = lines.new.room } }
+    ensures { lines.new ≡ record lines.old {
+      engaged = freed (call_seen call.now) lines.old.engaged;
+      room = lines.new.room;
+    } }
 {
     lines.free(&call.line);
     match &call.phase {
@@ -84,7 +90,8 @@ fn free_lines<A: Allocator>(lines: &mut LineBook<A>, call: &OpenCall<A>)
     }
 }
 
-/// A call gives all its circuits back: those of its hops are releasing, and so is the one that it has seized, unless its far end has seized it too.
+/// A call gives all its circuits back: those of its hops are releasing, and so is the one that it
+/// has seized, unless its far end has seized it too.
 fn give_back<A: Allocator>(circuits: &mut CircuitTable<A>, plan: &Plan<A>, call: &OpenCall<A>)
     requires { CanGiveBack plan.now (call_seen call.now) circuits.old }
     ensures { circuits.new ≡ given_back plan.now (call_seen call.now) circuits.old }
@@ -119,8 +126,10 @@ pub(crate) fn throw_off<A: Allocator>(
     other: &OpenCall<A>,
     circuit: &Circuit,
 )
-    requires { CanThrowOff plan.now (call_seen call.now) (call_seen other.now) circuit.now circuits.old }
-    ensures { circuits.new ≡ thrown_off plan.now (call_seen call.now) (call_seen other.now) circuit.now circuits.old }
+    requires { CanThrowOff plan.now (call_seen call.now)
+        (call_seen other.now) circuit.now circuits.old }
+    ensures { circuits.new ≡ thrown_off plan.now
+        (call_seen call.now) (call_seen other.now) circuit.now circuits.old }
 {
     let near = place_of(plan, call);
     let far = place_of(plan, other);

@@ -1,28 +1,34 @@
-// The indexed network.
-ghost use Rattle.std.specs.Prelude.{◌≡◌, IfOk, OnErr, None, true};
-ghost use Rattle.tx_state.specs.Step.{step, takes_memory};
-ghost use Rattle.tx_state.specs.State.{opening};
-ghost use Rattle.tx_state.specs.Refusals.{refusal};
-ghost use Rattle.tx_state.specs.declared.event.Event.TheVariants.{Key};
-ghost use Rattle.tx_engine.specs.inner.Marked.{is_other};
+// The indexed network: what it keeps, what it knows for the refusals, and what it does with an
+// event.
+ghost use Rattle.std.specs.Prelude.{◌≡◌, IfOk, OnErr, None, true, is_some};
+ghost use Rattle.tx_machine.specs.State.{opening};
+ghost use Rattle.tx_machine.specs.Step.{accepted, counted, takes_memory};
+ghost use Rattle.tx_machine.specs.Refusals.{refusal};
+ghost use Rattle.tx_engine.specs.inner.Sound.{IsSound, state_of, IsUnder};
+ghost use Rattle.tx_machine.specs.Call.{call_of};
+ghost use Rattle.tx_calls.specs.Calls.{Kept, calls_in};
 
-use crate::parts::Parts;
-use crate::tickets::take_oldest;
 use std::alloc::{Allocator, Global};
+use std::collections::VecDeque;
 use std::marker::Model;
-use tx_plan::{Line, Plan};
-use tx_state::{Event, Network, Reply, Ticket, refusal_of};
-use tx_text::{Figures, NoMemory};
+use tx_calls::{CircuitKeys, OpenCalls};
+use tx_circuits::CircuitTable;
+use tx_lines::LineBook;
+use tx_machine::{Event, Facts, Network, Phase, Reply, Ticket, refusal_of};
+use tx_plan::{Circuit, GroupId, Line, Plan};
+use tx_text::NoMemory;
+use tx_trie::CodeTrie;
 
-/// The indexed network. It finds lines and circuits by index, and a call by its number, at worst by a binary search. So the work of an event hardly grows
-/// with the open calls, but where it takes more room: then it may move what it keeps. No clause counts these steps.
-#[derive(Drop)]
+/// The indexed network. It finds lines, circuits and calls by index. So the work of an event hardly
+/// grows with the open calls, but where it takes more room: then it may move what it keeps. No
+/// clause counts these steps.
+#[derive(Debug, Drop)]
 pub struct Engine<'p, A: Allocator = Global> {
-    pub(crate) parts: Parts<'p, A>,
+    pub(crate) inner: EngineState<'p, A>,
 }
 
 impl<'p, A: Allocator> Model for Engine<'p, A> {
-    ghost use Rattle.tx_state.specs.State.{Net};
+    ghost use Rattle.tx_machine.specs.State.{Net};
 
     ghost Value = { Net };
 
@@ -31,20 +37,19 @@ impl<'p, A: Allocator> Model for Engine<'p, A> {
     ghost use Rattle.std.specs.Coded.{coded_ℕ, codes};
     ghost use Rattle.tx_plan.specs.Orders.{coded_circuit, coded_line, circuit_cmp, line_cmp};
 
-    ghost coded = { Prim.hlevel (codes, set.code {R = nat_cmp} coded_ℕ, set.code {R = circuit_cmp} coded_circuit, set.code {R = line_cmp} coded_line) };
+    ghost coded = { Prim.hlevel (
+      codes,
+      set.code {R = nat_cmp} coded_ℕ,
+      set.code
+          {R = circuit_cmp} coded_circuit,
+      set.code {R = line_cmp} coded_line,
+    ) };
 
     ghost use Rattle.tx_engine.specs.inner.Sound.{IsSound, state_of};
 
-    ghost view = { λ n. record { plan = n.parts.plan.now; state = state_of n.parts } };
+    ghost view = { λ n. record { plan = n.inner.plan.now; state = state_of n.inner } };
 
-    ghost invariant = { λ n. IsSound n.parts };
-}
-
-impl<'p, A: Allocator> Engine<'p, A> {
-    /// Lets the network go. A crate that drops a network itself proves once more how each of its parts is dropped.
-    pub fn close(self) {
-        drop(self);
-    }
+    ghost invariant = { λ n. IsSound n.inner };
 }
 
 impl<'p, A: Allocator + Copy> Engine<'p, A> {
@@ -55,50 +60,19 @@ impl<'p, A: Allocator + Copy> Engine<'p, A> {
         Engine::starting_at(alloc, plan, 0, 0)
     }
 
-    /// The network in the opening state with so many call numbers given and so many events accepted.
+    /// The network in the opening state with so many call numbers given and so many events
+    /// accepted.
     pub fn starting_at(
         alloc: A,
         plan: &'p Plan<A>,
         numbers: u32,
         events: u64,
     ) -> Result<Self, NoMemory>
-        ensures { IfOk result (λ n. n ≡ record { plan = plan.now; state = opening numbers events }) }
+        ensures { IfOk result
+            (λ n. n ≡ record { plan = plan.now; state = opening numbers events }) }
     {
-        let parts = Parts::build(alloc, plan, numbers, events)?;
-        Ok(Engine { parts })
-    }
-
-    /// A line calls. Where there is room for its call, its refusals are told on the way.
-    #[inline(always)]
-    fn key(&mut self, line: Line, keyed: Figures) -> Result<Reply, NoMemory>
-        ensures plan { self.new.plan ≡ self.old.plan }
-        ensures step { IfOk result (λ reply. step self.old.plan self.old.state (Key line keyed) ≡ (reply, self.new.state)) }
-        ensures err { OnErr result (self.new ≡ self.old) }
-        ensures open { OnErr result (refusal self.old.plan self.old.state (Key line keyed) ≡ None) }
-    {
-        if self.parts.is_ready() {
-            return self.parts.key_in_room(line, keyed);
-        }
-        self.apply_other(&Event::Key { line, keyed })
-    }
-
-    /// One event that `apply` has no look-up for: refused by `refusal_of`, or carried out.
-    #[inline(never)]
-    fn apply_other(&mut self, event: &Event) -> Result<Reply, NoMemory>
-        requires other { is_other event.now ≡ true }
-        ensures plan { self.new.plan ≡ self.old.plan }
-        ensures step { IfOk result (λ reply. step self.old.plan self.old.state event.now ≡ (reply, self.new.state)) }
-        ensures err { OnErr result (self.new ≡ self.old) }
-        ensures memory { OnErr result ((takes_memory event.now ≡ true) × (refusal self.old.plan self.old.state event.now ≡ None)) }
-    {
-        if let Some(refusal) = refusal_of(self, event) {
-            return Ok(Reply::Refused(refusal));
-        }
-        match event {
-            Event::Key { line, keyed } => self.parts.key_making_room(*line, *keyed),
-            Event::Fail(group) => Ok(self.parts.fail(*group)),
-            _ => self.mark(event),
-        }
+        let inner = EngineState::build(alloc, plan, numbers, events)?;
+        Ok(Engine { inner })
     }
 }
 
@@ -109,27 +83,185 @@ impl<'p, A: Allocator + Copy> Network for Engine<'p, A> {
 
     ghost state = { λ n. n.state };
 
-    #[inline(always)]
     fn apply(&mut self, event: Event) -> Result<Reply, NoMemory> {
-        match event {
-            Event::Key { line, keyed } => self.key(line, keyed),
-            Event::Route(number) => self.parts.route(number),
-            Event::Confirm(number) => Ok(self.parts.confirm(number)),
-            Event::Clear { call, party } => Ok(self.parts.clear(call, party)),
-            Event::Released(circuit) => Ok(self.released(&circuit)),
-            other => return self.apply_other(&other),
+        match refusal_of(self, &event) {
+            Some(refusal) => Ok(Reply::Refused(refusal)),
+            None => self.inner.accept(&event),
         }
     }
 
     fn next_ticket(&mut self) -> Option<Ticket<A>> {
-        take_oldest(&mut self.parts.tickets)
+        self.inner.tickets.pop_front()
     }
 
     fn open_calls(&self) -> u64 {
-        self.parts.calls.len() as u64
+        self.inner.calls.len() as u64
     }
 
     fn events(&self) -> u64 {
-        self.parts.events
+        self.inner.events
+    }
+}
+
+impl<'p, A: Allocator + Copy> Facts for Engine<'p, A> {
+    ghost plan = { λ n. n.plan };
+
+    ghost state = { λ n. n.state };
+
+    fn phase_of(&self, number: u32) -> Option<Phase> {
+        match self.inner.calls.find(number) {
+            Some(key) => Some(self.inner.calls.at(key).phase),
+            None => None,
+        }
+    }
+
+    fn has_line(&self, line: &Line) -> bool {
+        self.inner.lines.has(line)
+    }
+
+    fn is_engaged(&self, line: &Line) -> bool {
+        self.inner.lines.is_engaged(line)
+    }
+
+    fn is_faulty(&self, line: &Line) -> bool {
+        self.inner.lines.is_faulty(line)
+    }
+
+    fn is_away(&self, line: &Line) -> bool {
+        self.inner.lines.is_away(line)
+    }
+
+    fn has_circuit(&self, circuit: &Circuit) -> bool {
+        self.inner.circuits.has_circuit(circuit)
+    }
+
+    fn is_releasing(&self, circuit: &Circuit) -> bool {
+        self.inner.circuits.is_releasing(circuit)
+    }
+
+    fn is_out(&self, circuit: &Circuit) -> bool {
+        self.inner.circuits.is_out(circuit)
+    }
+
+    fn has_group(&self, group: GroupId) -> bool {
+        let plan = self.inner.plan;
+        let groups = plan.groups();
+        group.index() < groups
+    }
+
+    fn is_failed(&self, group: GroupId) -> bool {
+        self.inner.circuits.is_failed(group)
+    }
+
+    fn is_blocked(&self, group: GroupId) -> bool {
+        self.inner.circuits.is_blocked(group)
+    }
+
+    fn numbers_given(&self) -> u32 {
+        self.inner.numbers
+    }
+
+    fn events_accepted(&self) -> u64 {
+        self.inner.events
+    }
+}
+
+impl<'p, A: Allocator + Copy> EngineState<'p, A> {
+    /// One event that is not refused.
+    pub(crate) fn accept(&mut self, event: &Event) -> Result<Reply, NoMemory>
+        requires sound { IsSound self.old }
+        requires open { refusal self.old.plan.now (state_of self.old) event.now ≡ None }
+        ensures sound { IsSound self.new }
+        ensures plan { self.new.plan.now ≡ self.old.plan.now }
+        ensures ok { IfOk result (λ reply. counted (accepted self.old.plan.now
+            (state_of self.old) event.now) ≡ (reply, state_of self.new)) }
+        ensures err { OnErr result (state_of self.new ≡ state_of self.old) }
+        ensures memory { OnErr result (takes_memory event.now ≡ true) }
+    {
+        match event {
+            Event::Key { line, keyed } => return self.key(*line, *keyed),
+            Event::Route(number) => return self.route(*number),
+            Event::Confirm(number) => return Ok(self.confirm(*number)),
+            Event::Clear { call, party } => return Ok(self.clear(*call, *party)),
+            Event::Fail(group) => return Ok(self.fail(*group)),
+            Event::Released(circuit) => self.circuits.released(circuit),
+            Event::Restore(group) => self.circuits.restore(*group),
+            Event::Block(group) => self.circuits.block(*group),
+            Event::Unblock(group) => self.circuits.unblock(*group),
+            Event::CircuitOut(circuit) => self.circuits.put_out(circuit),
+            Event::CircuitIn(circuit) => self.circuits.put_in(circuit),
+            Event::LineFault(line) => {
+                self.lines.reserve_one()?;
+                self.lines.set_fault(line, true);
+            }
+            Event::LineMend(line) => self.lines.set_fault(line, false),
+            Event::LineAway(line) => {
+                self.lines.reserve_one()?;
+                self.lines.set_away(line, true);
+            }
+            Event::LineBack(line) => self.lines.set_away(line, false),
+        }
+        self.events += 1;
+        Ok(Reply::Done)
+    }
+}
+
+/// What the engine keeps. Its methods see keys of calls, which the network that it stands for does
+/// not show.
+#[derive(Debug, Drop)]
+pub(crate) struct EngineState<'p, A: Allocator> {
+    pub plan: &'p Plan<A>,
+    pub alloc: A,
+    pub codes: CodeTrie<A>,
+    pub calls: OpenCalls<A>,
+    pub keys: CircuitKeys<A>,
+    pub lines: LineBook<A>,
+    pub circuits: CircuitTable<A>,
+    pub numbers: u32,
+    pub events: u64,
+    pub tickets: VecDeque<Ticket<A>, A>,
+}
+
+impl<'p, A: Allocator + Copy> EngineState<'p, A> {
+    /// What the engine keeps in the opening state with so many numbers given and so many events
+    /// accepted.
+    pub(crate) fn build(
+        alloc: A,
+        plan: &'p Plan<A>,
+        numbers: u32,
+        events: u64,
+    ) -> Result<Self, NoMemory>
+        ensures sound { IfOk result (λ n. IsSound n) }
+        ensures plan { IfOk result (λ n. n.plan.now ≡ plan.now) }
+        ensures state { IfOk result (λ n. state_of n ≡ opening numbers events) }
+    {
+        plan.rules();
+        let codes = CodeTrie::build(alloc, plan)?;
+        let keys = CircuitKeys::build(alloc, plan)?;
+        let lines = LineBook::build(alloc, plan)?;
+        let circuits = CircuitTable::build(alloc, plan)?;
+        Ok(EngineState {
+            plan,
+            alloc,
+            codes,
+            calls: OpenCalls::new(alloc),
+            keys,
+            lines,
+            circuits,
+            numbers,
+            events,
+            tickets: VecDeque::new(alloc),
+        })
+    }
+
+    /// The key of the open call of a number.
+    pub(crate) fn key_of(&self, number: u32) -> usize
+        requires { is_some (call_of number (calls_in self.now.calls)) ≡ true }
+        ensures { (k : Kept) × IsUnder self.now.calls number result k }
+    {
+        match self.calls.find(number) {
+            Some(key) => key,
+            None => unreachable!(),
+        }
     }
 }

@@ -4,35 +4,36 @@ ghost use Rattle.std.specs.FinSet as set;
 ghost use Rattle.std.specs.List.Sorted.{IsSorted};
 ghost use Rattle.std.specs.Ordering.{nat_cmp};
 ghost use Rattle.arrayvec.specs.ArrayVec.{array_vec_len};
-ghost use Rattle.tx_state.specs.declared.event.Event.TheVariants.{Fail};
-ghost use Rattle.tx_state.specs.declared.cause.Cause.TheVariants.{Lost as ByLoss};
-ghost use Rattle.tx_state.specs.Call.{Call, call_of};
-ghost use Rattle.tx_state.specs.Ending.{end_call};
-ghost use Rattle.tx_state.specs.InUse.{uses_group, seizes_from};
-ghost use Rattle.tx_state.specs.Refusals.{refusal};
-ghost use Rattle.tx_state.specs.Step.{step};
+ghost use Rattle.tx_machine.specs.declared.event.Event.TheVariants.{Fail};
+ghost use Rattle.tx_machine.specs.declared.cause.Cause.TheVariants.{Lost as ByLoss};
+ghost use Rattle.tx_machine.specs.Call.{Call, call_of};
+ghost use Rattle.tx_machine.specs.Ending.{end_call};
+ghost use Rattle.tx_machine.specs.InUse.{uses_group, seizes_from};
+ghost use Rattle.tx_machine.specs.Refusals.{refusal};
+ghost use Rattle.tx_machine.specs.Step.{accepted, counted};
 ghost use Rattle.tx_calls.specs.Calls.{calls_in};
-ghost use Rattle.tx_endings.specs.inner.InTurn.{uses, IsLosing};
-ghost use Rattle.tx_endings.specs.inner.Users.{AreNumbersOf};
+ghost use Rattle.tx_engine.specs.inner.InTurn.{uses, IsLosing};
+ghost use Rattle.tx_engine.specs.inner.Users.{AreNumbersOf};
 ghost use Rattle.tx_engine.specs.inner.Sound.{IsSound, state_of};
 
-use crate::parts::Parts;
+use crate::engine::EngineState;
 use arrayvec::ArrayVec;
 use std::alloc::Allocator;
+use tx_machine::{Cause, Reply};
 use tx_plan::{Circuit, ExchangeId, GroupId};
-use tx_state::{Cause, Reply};
 
 /// Numbers of calls on a group. Each of its 240 circuits has at most two.
 type Users = ArrayVec<u32, 480>;
 
-impl<'p, A: Allocator + Copy> Parts<'p, A> {
+impl<'p, A: Allocator + Copy> EngineState<'p, A> {
     /// A group fails.
     pub(crate) fn fail(&mut self, group: GroupId) -> Reply
         requires sound { IsSound self.old }
         requires open { refusal self.old.plan.now (state_of self.old) (Fail group) ≡ None }
         ensures sound { IsSound self.new }
         ensures plan { self.new.plan.now ≡ self.old.plan.now }
-        ensures step { step self.old.plan.now (state_of self.old) (Fail group) ≡ (result, state_of self.new) }
+        ensures step { counted (accepted self.old.plan.now (state_of self.old) (Fail group))
+            ≡ (result, state_of self.new) }
     {
         let lost = self.lose_users(group);
         self.circuits.fail(group);
@@ -46,7 +47,8 @@ impl<'p, A: Allocator + Copy> Parts<'p, A> {
         requires events { self.old.events < 2 ^ 64 - 1 }
         ensures sound { IsSound self.new }
         ensures plan { self.new.plan.now ≡ self.old.plan.now }
-        ensures losing { IsLosing self.old.plan.now group (state_of self.old) (state_of self.new) result }
+        ensures losing { IsLosing self.old.plan.now group
+            (state_of self.old) (state_of self.new) result }
         ensures none { find (uses_group group) (calls_in self.new.calls) ≡ None }
         ensures failed { (state_of self.new).failed ≡ (state_of self.old).failed }
         ensures events { self.new.events ≡ self.old.events }
@@ -57,7 +59,8 @@ impl<'p, A: Allocator + Copy> Parts<'p, A> {
         self.lose(group, numbers)
     }
 
-    /// The calls of these numbers, which are those of the calls on a group in ascending order, end. How many there were.
+    /// The calls of these numbers, which are those of the calls on a group in ascending order, end.
+    /// How many there were.
     fn lose(&mut self, group: GroupId, numbers: &[u32]) -> u64
         requires sound { IsSound self.old }
         requires events { self.old.events < 2 ^ 64 - 1 }
@@ -66,7 +69,8 @@ impl<'p, A: Allocator + Copy> Parts<'p, A> {
         requires few { length numbers.now ≤ 480 }
         ensures sound { IsSound self.new }
         ensures plan { self.new.plan.now ≡ self.old.plan.now }
-        ensures losing { IsLosing self.old.plan.now group (state_of self.old) (state_of self.new) result }
+        ensures losing { IsLosing self.old.plan.now group
+            (state_of self.old) (state_of self.new) result }
         ensures none { find (uses_group group) (calls_in self.new.calls) ≡ None }
         ensures failed { (state_of self.new).failed ≡ (state_of self.old).failed }
         ensures events { self.new.events ≡ self.old.events }
@@ -87,8 +91,10 @@ impl<'p, A: Allocator + Copy> Parts<'p, A> {
         ensures events { self.new.events ≡ self.old.events }
         ensures failed { (state_of self.new).failed ≡ (state_of self.old).failed }
         ensures few { result ≤ 1 }
-        ensures lost { (c : Call) → call_of number (calls_in self.old.calls) ≡ Some c → (result ≡ 1) × (state_of self.new ≡ end_call self.old.plan.now ByLoss number (state_of self.old)) }
-        ensures none { call_of number (calls_in self.old.calls) ≡ None → (result ≡ 0) × (state_of self.new ≡ state_of self.old) }
+        ensures lost { (c : Call) → call_of number (calls_in self.old.calls) ≡ Some c → (result ≡ 1)
+            × (state_of self.new ≡ end_call self.old.plan.now ByLoss number (state_of self.old)) }
+        ensures none { call_of number (calls_in self.old.calls) ≡ None
+            → (result ≡ 0) × (state_of self.new ≡ state_of self.old) }
     {
         match self.calls.find(number) {
             None => 0,
@@ -119,7 +125,8 @@ impl<'p, A: Allocator + Copy> Parts<'p, A> {
     fn add_users(&self, circuit: &Circuit, users: &mut Users)
         requires sound { IsSound self.now }
         requires room { array_vec_len users.old + 2 ≤ 480 }
-        ensures added { (numbers : List ℕ) × (users.new.items ≡ users.old.items ++ numbers) × AreNumbersOf (λ c. uses c circuit.now) (calls_in self.now.calls) numbers }
+        ensures added { (numbers : List ℕ) × (users.new.items ≡ users.old.items ++ numbers)
+            × AreNumbersOf (λ c. uses c circuit.now) (calls_in self.now.calls) numbers }
         ensures len { array_vec_len users.new ≤ array_vec_len users.old + 2 }
     {
         if self.circuits.is_carried(circuit) {
@@ -135,7 +142,9 @@ impl<'p, A: Allocator + Copy> Parts<'p, A> {
     fn add_seizer(&self, circuit: &Circuit, exchange: ExchangeId, users: &mut Users)
         requires sound { IsSound self.now }
         requires room { array_vec_len users.old + 1 ≤ 480 }
-        ensures added { (numbers : List ℕ) × (users.new.items ≡ users.old.items ++ numbers) × AreNumbersOf (λ c. seizes_from self.now.plan.now c circuit.now exchange) (calls_in self.now.calls) numbers }
+        ensures added { (numbers : List ℕ) × (users.new.items ≡ users.old.items ++ numbers)
+            × AreNumbersOf (λ c. seizes_from self.now.plan.now c circuit.now exchange)
+            (calls_in self.now.calls) numbers }
         ensures len { array_vec_len users.new ≤ array_vec_len users.old + 1 }
     {
         if self.circuits.is_seized(circuit, exchange) {
@@ -156,7 +165,8 @@ impl<'p, A: Allocator + Copy> Parts<'p, A> {
     fn seizer(&self, circuit: &Circuit, exchange: ExchangeId) -> u32
         requires sound { IsSound self.now }
         requires seized { set.contains self.now.circuits.seized (circuit.now, exchange) ≡ true }
-        ensures { AreNumbersOf (λ c. seizes_from self.now.plan.now c circuit.now exchange) (calls_in self.now.calls) (result ∷ []) }
+        ensures { AreNumbersOf (λ c. seizes_from self.now.plan.now c circuit.now exchange)
+            (calls_in self.now.calls) (result ∷ []) }
     {
         let (first, _) = self.plan.ends(circuit.group);
         self.calls

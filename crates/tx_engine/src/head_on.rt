@@ -1,22 +1,22 @@
 // Two calls that meet on a circuit.
 ghost use Rattle.std.specs.Prelude.{◌≡◌, ◌≢◌, ℕ, ◌<◌, ◌-◌, ◌^◌, Some, true};
 ghost use Rattle.std.specs.FinSet as set;
-ghost use Rattle.tx_state.specs.declared.cause.Cause.TheVariants.{Service as ByService};
-ghost use Rattle.tx_state.specs.declared.event.Event.TheVariants.{Confirm};
-ghost use Rattle.tx_state.specs.declared.phase.Phase.TheVariants.{Calling};
-ghost use Rattle.tx_state.specs.declared.service.Service.TheVariants.{Nc};
-ghost use Rattle.tx_state.specs.Confirming.{far_of, rival, collide};
-ghost use Rattle.tx_state.specs.Step.{accepted, counted};
+ghost use Rattle.tx_machine.specs.declared.cause.Cause.TheVariants.{Service as ByService};
+ghost use Rattle.tx_machine.specs.declared.event.Event.TheVariants.{Confirm};
+ghost use Rattle.tx_machine.specs.declared.open_call.Phase.TheVariants.{Calling};
+ghost use Rattle.tx_machine.specs.declared.cause.Service.TheVariants.{Nc};
+ghost use Rattle.tx_machine.specs.Confirming.{far_of, rival, collide};
+ghost use Rattle.tx_machine.specs.Step.{accepted, counted};
 ghost use Rattle.tx_calls.specs.Calls.{Kept, kept_at};
-ghost use Rattle.tx_endings.specs.inner.InTurn.{ended_if, pair_ended};
+ghost use Rattle.tx_engine.specs.inner.InTurn.{ended_if, pair_ended};
 ghost use Rattle.tx_engine.specs.inner.Meeting.{AreMeeting, AreThrown, IsMet};
 ghost use Rattle.tx_engine.specs.inner.Sound.{IsSound, IsUnder, state_of};
 
 use crate::ending::throw_off;
-use crate::parts::Parts;
+use crate::engine::EngineState;
 use std::alloc::Allocator;
+use tx_machine::{Cause, Reply, Service};
 use tx_plan::{Circuit, ExchangeId};
-use tx_state::{Cause, Reply, Service};
 
 /// One of two calls that meet, with whether it had collided before at the exchange where it stands.
 #[derive(Clone, Copy)]
@@ -26,8 +26,9 @@ pub(crate) struct Met {
     pub collided: bool,
 }
 
-impl<'p, A: Allocator + Copy> Parts<'p, A> {
-    /// The call under the key and its rival, which has seized the circuit from its far end, meet head on.
+impl<'p, A: Allocator + Copy> EngineState<'p, A> {
+    /// The call under the key and its rival, which has seized the circuit from its far end, meet
+    /// head on.
     pub(crate) fn meet(
         &mut self,
         number: u32,
@@ -37,11 +38,13 @@ impl<'p, A: Allocator + Copy> Parts<'p, A> {
     ) -> Reply
         requires sound { IsSound self.old }
         requires events { self.old.events < 2 ^ 64 - 1 }
-        requires calls { (k : Kept) × IsUnder self.old.calls number key k × (k.call.phase ≡ Calling circuit.now) × (far ≡ far_of self.old.plan.now k.call circuit.now) }
+        requires calls { (k : Kept) × IsUnder self.old.calls number key k × (k.call.phase
+            ≡ Calling circuit.now) × (far ≡ far_of self.old.plan.now k.call circuit.now) }
         requires met { set.contains self.old.circuits.seized (circuit.now, far) ≡ true }
         ensures sound { IsSound self.new }
         ensures plan { self.new.plan.now ≡ self.old.plan.now }
-        ensures step { counted (accepted self.old.plan.now (state_of self.old) (Confirm number)) ≡ (result, state_of self.new) }
+        ensures step { counted (accepted self.old.plan.now (state_of self.old) (Confirm number))
+            ≡ (result, state_of self.new) }
     {
         let (first, _) = self.plan.ends(circuit.group);
         let other_key = self.keys.get(circuit, first == far);
@@ -61,7 +64,8 @@ impl<'p, A: Allocator + Copy> Parts<'p, A> {
     /// The call under the key, as it meets another.
     fn met(&self, key: usize) -> Met
         requires { (k : Kept) × (kept_at self.now.calls key ≡ Some k) }
-        ensures { (k : Kept) → kept_at self.now.calls key ≡ Some k → result ≡ record { key = key; number = k.call.number; collided = k.call.collided } }
+        ensures { (k : Kept) → kept_at self.now.calls key ≡ Some k
+            → result ≡ record { key = key; number = k.call.number; collided = k.call.collided } }
     {
         let call = self.calls.at(key);
         Met {
@@ -77,8 +81,10 @@ impl<'p, A: Allocator + Copy> Parts<'p, A> {
         requires meeting { (k d : Kept) × AreMeeting self.old key other_key circuit.now k d }
         ensures sound { IsSound self.new }
         ensures plan { self.new.plan.now ≡ self.old.plan.now }
-        ensures state { (k d : Kept) → AreMeeting self.old key other_key circuit.now k d → state_of self.new ≡ collide k.call.number d.call.number circuit.now (state_of self.old) }
-        ensures kept { (k d : Kept) → AreMeeting self.old key other_key circuit.now k d → AreThrown self.new.calls key other_key k d }
+        ensures state { (k d : Kept) → AreMeeting self.old key other_key circuit.now k d → state_of
+            self.new ≡ collide k.call.number d.call.number circuit.now (state_of self.old) }
+        ensures kept { (k d : Kept) → AreMeeting self.old key other_key circuit.now k d
+            → AreThrown self.new.calls key other_key k d }
     {
         throw_off(
             &mut self.circuits,
@@ -91,7 +97,8 @@ impl<'p, A: Allocator + Copy> Parts<'p, A> {
         self.calls.throw_back(other_key);
     }
 
-    /// Of two calls that met, those end that had collided before, the one of the lower number first.
+    /// Of two calls that met, those end that had collided before, the one of the lower number
+    /// first.
     fn end_collided(&mut self, one: &Met, other: &Met)
         requires sound { IsSound self.old }
         requires events { self.old.events < 2 ^ 64 - 1 }
@@ -101,7 +108,9 @@ impl<'p, A: Allocator + Copy> Parts<'p, A> {
         ensures sound { IsSound self.new }
         ensures plan { self.new.plan.now ≡ self.old.plan.now }
         ensures events { self.new.events ≡ self.old.events }
-        ensures state { state_of self.new ≡ pair_ended self.old.plan.now (ByService Nc) one.now.number one.now.collided other.now.number other.now.collided (state_of self.old) }
+        ensures state { state_of self.new ≡ pair_ended self.old.plan.now
+            (ByService Nc) one.now.number one.now.collided other.now.number other.now.collided
+            (state_of self.old) }
     {
         if one.number < other.number {
             self.end_if_collided(one);
@@ -120,8 +129,10 @@ impl<'p, A: Allocator + Copy> Parts<'p, A> {
         ensures sound { IsSound self.new }
         ensures plan { self.new.plan.now ≡ self.old.plan.now }
         ensures events { self.new.events ≡ self.old.events }
-        ensures others { (key : ℕ) → key ≢ met.now.key → kept_at self.new.calls key ≡ kept_at self.old.calls key }
-        ensures state { state_of self.new ≡ ended_if self.old.plan.now (ByService Nc) met.now.collided met.now.number (state_of self.old) }
+        ensures others { (key : ℕ) → key ≢ met.now.key
+            → kept_at self.new.calls key ≡ kept_at self.old.calls key }
+        ensures state { state_of self.new ≡ ended_if self.old.plan.now
+            (ByService Nc) met.now.collided met.now.number (state_of self.old) }
     {
         if met.collided {
             self.end_call(met.key, Cause::Service(Service::Nc));

@@ -1,58 +1,31 @@
 // A line that calls.
-ghost use Rattle.std.specs.Prelude.{◌≡◌, ◌<◌, ◌-◌, ◌^◌, ◌↔◌, IsTrue, IfOk, IsOk, OnOk, OnErr, None};
+ghost use Rattle.std.specs.Prelude.{◌≡◌, ◌<◌, ◌≤◌, ◌+◌, IfOk, IsOk, OnOk, OnErr, None};
+ghost use Rattle.std.specs.VecDeque.{deque_len, deque_capacity};
 ghost use Rattle.tx_calls.specs.Calls.{HasRoom};
-ghost use Rattle.tx_state.specs.Step.{step};
-ghost use Rattle.tx_state.specs.Refusals.{refusal};
-ghost use Rattle.tx_state.specs.declared.event.Event.TheVariants.{Key};
-ghost use Rattle.tx_engine.specs.inner.Sound.{IsSound, IsReady, HasTicketRoom, state_of};
+ghost use Rattle.tx_machine.specs.Step.{accepted, counted};
+ghost use Rattle.tx_machine.specs.Refusals.{refusal};
+ghost use Rattle.tx_machine.specs.declared.event.Event.TheVariants.{Key};
+ghost use Rattle.tx_engine.specs.inner.Sound.{IsSound, HasTicketRoom, state_of};
 
-use crate::parts::Parts;
-use crate::tickets::{has_ticket_room, reserve_tickets};
+use crate::engine::EngineState;
 use std::alloc::Allocator;
+use std::collections::VecDeque;
+use tx_machine::{OpenCall, Phase, Reply, Ticket};
 use tx_plan::Line;
-use tx_state::{OpenCall, Phase, Refusal, Reply};
 use tx_text::{Figures, NoMemory};
 
-impl<'p, A: Allocator + Copy> Parts<'p, A> {
-    /// A line that may call does so. Room for its call and for its ticket is made where there is none.
-    #[inline(never)]
-    pub(crate) fn key_making_room(&mut self, line: Line, keyed: Figures) -> Result<Reply, NoMemory>
+impl<'p, A: Allocator + Copy> EngineState<'p, A> {
+    /// A line calls.
+    pub(crate) fn key(&mut self, line: Line, keyed: Figures) -> Result<Reply, NoMemory>
         requires sound { IsSound self.old }
         requires open { refusal self.old.plan.now (state_of self.old) (Key line keyed) ≡ None }
         ensures sound { IsSound self.new }
         ensures plan { self.new.plan.now ≡ self.old.plan.now }
-        ensures step { IfOk result (λ reply. step self.old.plan.now (state_of self.old) (Key line keyed) ≡ (reply, state_of self.new)) }
+        ensures ok { IfOk result (λ reply. counted (accepted self.old.plan.now
+            (state_of self.old) (Key line keyed)) ≡ (reply, state_of self.new)) }
         ensures err { OnErr result (state_of self.new ≡ state_of self.old) }
     {
         self.reserve_call()?;
-        self.key_in_room(line, keyed)
-    }
-
-    /// A line calls, unless that is refused, where there is room for its call.
-    #[inline(always)]
-    pub(crate) fn key_in_room(&mut self, line: Line, keyed: Figures) -> Result<Reply, NoMemory>
-        requires sound { IsSound self.old }
-        requires numbers { self.old.numbers < 2 ^ 32 - 1 }
-        requires events { self.old.events < 2 ^ 64 - 1 }
-        requires calls { HasRoom self.old.calls }
-        requires tickets { HasTicketRoom self.old }
-        ensures sound { IsSound self.new }
-        ensures plan { self.new.plan.now ≡ self.old.plan.now }
-        ensures step { IfOk result (λ reply. step self.old.plan.now (state_of self.old) (Key line keyed) ≡ (reply, state_of self.new)) }
-        ensures err { OnErr result (state_of self.new ≡ state_of self.old) }
-        ensures open { OnErr result (refusal self.old.plan.now (state_of self.old) (Key line keyed) ≡ None) }
-    {
-        if !self.lines.has(&line) {
-            return Ok(Reply::Refused(Refusal::UnknownLine));
-        }
-        let status = self.lines.status(&line);
-        if status.engaged {
-            return Ok(Reply::Refused(Refusal::LineEngaged));
-        }
-        if status.faulty {
-            return Ok(Reply::Refused(Refusal::LineOutOfOrder));
-        }
-        self.lines.reserve_one()?;
         self.lines.engage(&line);
         let number = self.numbers + 1;
         let call = OpenCall {
@@ -70,18 +43,8 @@ impl<'p, A: Allocator + Copy> Parts<'p, A> {
         Ok(Reply::Keyed(number))
     }
 
-    /// Whether a call can be opened at once: neither numbers nor events are spent, and there is room for it and for its ticket.
-    #[inline(always)]
-    pub(crate) fn is_ready(&self) -> bool
-        ensures { IsTrue result ↔ IsReady self.now }
-    {
-        self.numbers < u32::MAX
-            && self.events < u64::MAX
-            && self.calls.has_room()
-            && has_ticket_room(&self.tickets, self.calls.len())
-    }
-
-    /// Makes room for one more call and for its ticket. Where there is some, no memory is asked for.
+    /// Makes room for one more call, for its ticket and for the status of its line. Where there is
+    /// some, no memory is asked for.
     fn reserve_call(&mut self) -> Result<(), NoMemory>
         requires { IsSound self.old }
         ensures sound { IsSound self.new }
@@ -91,9 +54,31 @@ impl<'p, A: Allocator + Copy> Parts<'p, A> {
         ensures state { state_of self.new ≡ state_of self.old }
         ensures calls { OnOk result (HasRoom self.new.calls) }
         ensures tickets { OnOk result (HasTicketRoom self.new) }
-        ensures unasked { HasRoom self.old.calls → HasTicketRoom self.old → IsOk result × (self.new ≡ self.old) }
+        ensures lines { OnOk result (0 < self.new.lines.room) }
+        ensures unasked { HasRoom self.old.calls → HasTicketRoom self.old → 0 < self.old.lines.room
+            → IsOk result × (self.new ≡ self.old) }
     {
         self.calls.reserve_one()?;
+        self.lines.reserve_one()?;
         reserve_tickets(&mut self.tickets, self.calls.len())
     }
+}
+
+/// Makes room for the tickets of so many open calls and of one more, where there is none. The room
+/// at least doubles, so that few calls take any.
+fn reserve_tickets<A: Allocator>(
+    tickets: &mut VecDeque<Ticket<A>, A>,
+    calls: usize,
+) -> Result<(), NoMemory>
+    requires { deque_len tickets.old + calls ≤ deque_capacity tickets.old }
+    ensures items { tickets.new.items ≡ tickets.old.items }
+    ensures room { deque_len tickets.new + calls ≤ deque_capacity tickets.new }
+    ensures ok { OnOk result (deque_len tickets.new + (calls + 1) ≤ deque_capacity tickets.new) }
+    ensures unasked { deque_len tickets.old + (calls + 1) ≤ deque_capacity tickets.old
+        → IsOk result × (tickets.new ≡ tickets.old) }
+{
+    if tickets.capacity() - tickets.len() <= calls {
+        tickets.reserve((calls + 1).saturating_add(calls))?;
+    }
+    Ok(())
 }

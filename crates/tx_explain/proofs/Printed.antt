@@ -1,9 +1,6 @@
 -- Each code that is printed is in the table.
 use Rattle.std.proofs.Common.{ℕ, Some, codes, refl}
-use Rattle.tx_text.specs.declared.text_fault.TextFault.TheVariants.{LineTooLong, BadByte, NoMemory as TextNoMemory}
-use Rattle.tx_text.specs.declared.line_fault.LineFault.TheVariants.{Text, Read}
-use Rattle.tx_text.specs.declared.frame.FormFault.TheVariants.{NoHeader, NoEnd, AfterEnd}
-use Rattle.tx_text.specs.declared.frame.FrameFault.TheVariants.{Line, Form}
+use Rattle.tx_text.specs.declared.frame.FrameFault.TheVariants.{LineTooLong, BadByte, NoMemory as TextNoMemory, Read, NoHeader, NoEnd, AfterEnd}
 use Rattle.tx_text.specs.declared.frame.FaultKind.TheVariants.{Frame, Word}
 use Rattle.tx_plan.specs.Plan.{Plan}
 use Rattle.tx_plan.specs.declared.refusal.PlanRefusal.TheVariants as plan
@@ -11,9 +8,9 @@ use Rattle.tx_plantext.specs.declared.fault.PlanWord.TheVariants as plan_word
 use Rattle.tx_lint.specs.declared.warning.Warning.TheVariants as warning
 use Rattle.tx_cert.specs.declared.fault.CertWord.TheVariants as cert
 use Rattle.tx_script.specs.declared.script_word.ScriptWord.TheVariants as script
-use Rattle.tx_state.specs.declared.refusal.Refusal.TheVariants as refusal
-use Rattle.tx_state.specs.declared.service.Service.TheVariants as service
-use Rattle.tx_state.specs.declared.cause.Cause.TheVariants as cause
+use Rattle.tx_machine.specs.declared.refusal.Refusal.TheVariants as refusal
+use Rattle.tx_machine.specs.declared.cause.Service.TheVariants as service
+use Rattle.tx_machine.specs.declared.cause.Cause.TheVariants as cause
 use Rattle.tx_check.specs.declared.fault.CheckFault.TheVariants as fault
 use Rattle.tx_rank.specs.declared.finding.Finding.TheVariants as finding
 use Rattle.tx_mend_report.specs.MendText.{pair_line, unserved_line}
@@ -27,13 +24,13 @@ once = refl
 
 pub plans : PlanFaultsAreExplained
 unfolding table
-plans (Frame (Form NoHeader)) = refl
-plans (Frame (Form NoEnd)) = refl
-plans (Frame (Form AfterEnd)) = refl
-plans (Frame (Line Read)) = refl
-plans (Frame (Line (Text LineTooLong))) = refl
-plans (Frame (Line (Text BadByte))) = refl
-plans (Frame (Line (Text TextNoMemory))) = refl
+plans (Frame NoHeader) = refl
+plans (Frame NoEnd) = refl
+plans (Frame AfterEnd) = refl
+plans (Frame Read) = refl
+plans (Frame LineTooLong) = refl
+plans (Frame BadByte) = refl
+plans (Frame TextNoMemory) = refl
 plans (Word plan_word.UnknownWord) = refl
 plans (Word (plan_word.Refused plan.WrongCount)) = refl
 plans (Word (plan_word.Refused plan.BadName)) = refl
@@ -62,13 +59,13 @@ warnings warning.UnusedBar = refl
 
 pub certificates : CertFaultsAreExplained
 unfolding table
-certificates (Frame (Form NoHeader)) = refl
-certificates (Frame (Form NoEnd)) = refl
-certificates (Frame (Form AfterEnd)) = refl
-certificates (Frame (Line Read)) = refl
-certificates (Frame (Line (Text LineTooLong))) = refl
-certificates (Frame (Line (Text BadByte))) = refl
-certificates (Frame (Line (Text TextNoMemory))) = refl
+certificates (Frame NoHeader) = refl
+certificates (Frame NoEnd) = refl
+certificates (Frame AfterEnd) = refl
+certificates (Frame Read) = refl
+certificates (Frame LineTooLong) = refl
+certificates (Frame BadByte) = refl
+certificates (Frame TextNoMemory) = refl
 certificates (Word cert.UnknownWord) = refl
 certificates (Word cert.WrongCount) = refl
 certificates (Word cert.UnknownName) = refl
@@ -78,13 +75,13 @@ certificates (Word cert.NoMemory) = refl
 
 pub scripts : ScriptFaultsAreExplained
 unfolding table
-scripts (Frame (Form NoHeader)) other = refl
-scripts (Frame (Form NoEnd)) other = refl
-scripts (Frame (Form AfterEnd)) other = refl
-scripts (Frame (Line Read)) other = absurd (other refl)
-scripts (Frame (Line (Text LineTooLong))) other = refl
-scripts (Frame (Line (Text BadByte))) other = refl
-scripts (Frame (Line (Text TextNoMemory))) other = refl
+scripts (Frame NoHeader) other = refl
+scripts (Frame NoEnd) other = refl
+scripts (Frame AfterEnd) other = refl
+scripts (Frame Read) other = absurd (other refl)
+scripts (Frame LineTooLong) other = refl
+scripts (Frame BadByte) other = refl
+scripts (Frame TextNoMemory) other = refl
 scripts (Word script.UnknownWord) other = refl
 scripts (Word script.WrongCount) other = refl
 scripts (Word script.BadNumber) other = refl
@@ -92,13 +89,13 @@ scripts (Word script.UnknownName) other = refl
 
 pub risks : RiskFaultsAreExplained
 unfolding table
-risks (Frame (Form NoHeader)) = refl
-risks (Frame (Form NoEnd)) = refl
-risks (Frame (Form AfterEnd)) = refl
-risks (Frame (Line Read)) = refl
-risks (Frame (Line (Text LineTooLong))) = refl
-risks (Frame (Line (Text BadByte))) = refl
-risks (Frame (Line (Text TextNoMemory))) = refl
+risks (Frame NoHeader) = refl
+risks (Frame NoEnd) = refl
+risks (Frame AfterEnd) = refl
+risks (Frame Read) = refl
+risks (Frame LineTooLong) = refl
+risks (Frame BadByte) = refl
+risks (Frame TextNoMemory) = refl
 risks (Word risk.UnknownWord) = refl
 risks (Word risk.WrongCount) = refl
 risks (Word risk.BadName) = refl

@@ -15,10 +15,11 @@ Texts = List ℕ × List ℕ × List ℕ × List ℕ
 abbrev pub text_at : List (Bor (List ℕ)) → ℕ → List ℕ
 text_at e i = (get_or e i (record { ref_ptr = (0, 0); now = [] })).now
 
+-- the four texts of an entry
 abbrev pub texts : List (Bor (List ℕ)) → Texts
 texts e = (text_at e 0, text_at e 1, text_at e 2, text_at e 3)
 
--- THE TABLE, as its texts: the codes of faults of texts, those that a run prints, and those of what
+-- the table, as its texts: the codes of faults of texts, those that a run prints, and those of what
 -- is wrong with a plan
 unfoldable pub table : List Texts
 table = map (λ e. let t = get_or e in (

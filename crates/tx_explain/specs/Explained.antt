@@ -1,7 +1,6 @@
 -- That the table has each code that is printed.
 use Rattle.std.specs.Prelude.{◌≡◌, ◌≢◌, ℕ, true, List, [], ◌∷◌, ◌++◌, map, Some, codes}
-use Rattle.tx_text.specs.declared.line_fault.LineFault.TheVariants.{Read}
-use Rattle.tx_text.specs.declared.frame.FrameFault.TheVariants.{Line}
+use Rattle.tx_text.specs.declared.frame.FrameFault.TheVariants.{Read}
 use Rattle.tx_text.specs.declared.frame.FaultKind.{FaultKind}
 use Rattle.tx_text.specs.declared.frame.FaultKind.TheVariants.{Frame}
 use Rattle.tx_plan.specs.Plan.{Plan}
@@ -13,8 +12,8 @@ use Rattle.tx_cert.specs.declared.fault.CertWord.{CertWord}
 use Rattle.tx_cert.specs.CertFaults.{fault_row as cert_row}
 use Rattle.tx_script.specs.declared.script_word.ScriptWord.{ScriptWord}
 use Rattle.tx_script.specs.ScriptFaults.{fault_row as script_row}
-use Rattle.tx_state.specs.declared.refusal.Refusal.{Refusal}
-use Rattle.tx_state.specs.declared.cause.Cause.{Cause}
+use Rattle.tx_machine.specs.declared.refusal.Refusal.{Refusal}
+use Rattle.tx_machine.specs.declared.cause.Cause.{Cause}
 use Rattle.tx_tickets.specs.Texts.{refusal_text, cause_text}
 use Rattle.tx_check.specs.declared.fault.CheckFault.{CheckFault}
 use Rattle.tx_check.specs.Verdicts.{fault_words}
@@ -40,23 +39,28 @@ pub record BeginsExplained (line : List ℕ) : Type 0 where
   pub explained : IsExplained row
   pub begins : line ≡ row.0 ++ (codes " " ++ (row.1 ++ (codes " " ++ rest)))
 
+-- each fault of a plan has its entry
 abbrev pub PlanFaultsAreExplained : Type 0
 PlanFaultsAreExplained = (kind : FaultKind PlanWord) → IsExplained (plan_row kind)
 
+-- each warning has its entry
 abbrev pub WarningsAreExplained : Type 0
 WarningsAreExplained = (warning : Warning) → IsExplained (warning_row warning)
 
+-- each fault of a certificate has its entry
 abbrev pub CertFaultsAreExplained : Type 0
 CertFaultsAreExplained = (kind : FaultKind CertWord) → IsExplained (cert_row kind)
 
 -- a source that failed is no fault of a script
 abbrev pub ScriptFaultsAreExplained : Type 0
 ScriptFaultsAreExplained =
-    (kind : FaultKind ScriptWord) → kind ≢ Frame (Line Read) → IsExplained (script_row kind)
+    (kind : FaultKind ScriptWord) → kind ≢ Frame Read → IsExplained (script_row kind)
 
+-- each fault of a text of risks has its entry
 abbrev pub RiskFaultsAreExplained : Type 0
 RiskFaultsAreExplained = (kind : FaultKind RiskWord) → IsExplained (risk_row kind)
 
+-- each refusal of an event is known
 abbrev pub RefusalsAreExplained : Type 0
 RefusalsAreExplained = (refusal : Refusal) → is_known (refusal_text refusal) ≡ true
 
@@ -70,10 +74,11 @@ CheckFaultsAreExplained = (p : Plan) (fault : CheckFault)
     → (code : List ℕ) × (rest : List (List ℕ)) × (is_known code ≡ true)
     × (fault_words p fault ≡ code ∷ rest)
 
+-- each line of a finding begins with the code and the name of an entry
 abbrev pub FindingsAreExplained : Type 0 → Type 0
 FindingsAreExplained A = (p : Plan) (finding : Finding A) → BeginsExplained (finding_line p finding)
 
--- what the report of a mending tells after a NO: the ambiguous pair, and whom no lists can serve
+-- what the report of a mending names after a NO: the ambiguous pair, and whom no lists can serve
 pub record MendingsAreExplained : Type 0 where
   pub pair : (p : Plan) (q : ℕ × ℕ) → BeginsExplained (pair_line p (Some q))
   pub unserved : (p : Plan) (k : ℕ × ℕ) → BeginsExplained (unserved_line p k)

@@ -7,18 +7,17 @@ use Rattle.tx_explain.specs.Entries.{Texts, table, is_asked}
 abbrev pub entry_line : Texts → List ℕ
 entry_line t = t.0 ++ (codes " " ++ (t.1 ++ (codes ": " ++ (t.2 ++ codes "\n"))))
 
--- what is told of one code
+-- all that the table has of one code
 abbrev pub entry_text : Texts → List ℕ
 entry_text t =
     t.0 ++ (codes " " ++ (t.1 ++ (codes "\n"
     ++ (t.2 ++ (codes "\nWhat to do: " ++ (t.3 ++ codes "\n"))))))
 
--- what is written of an entry: all that is told of it if the word asks for it; without a word, its
--- line
+-- what is written of an entry: all of it if the word asks for it; without a word, its line
 abbrev pub told_text : Option (List ℕ) → Texts → List ℕ
 told_text None t = entry_line t
 told_text (Some word) t = if is_asked word t then entry_text t else []
 
--- WHAT IS WRITTEN: of each entry that the word asks for, or of all
+-- what is written: of each entry that the word asks for, or of all
 abbrev pub explanation_text : Option (List ℕ) → List ℕ
 explanation_text word = flat_map (told_text word) table

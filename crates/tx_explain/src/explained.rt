@@ -1,13 +1,13 @@
-// Every code that is printed is explained, and stands once in the table.
+// Every code that is printed is explained, and is in the table once.
 ghost use Rattle.tx_explain.specs.Explained.{CodesAreDistinct, PlanFaultsAreExplained, WarningsAreExplained, CertFaultsAreExplained, ScriptFaultsAreExplained, RiskFaultsAreExplained, RefusalsAreExplained, CausesAreExplained, CheckFaultsAreExplained, FindingsAreExplained, MendingsAreExplained};
 
 use std::alloc::Allocator;
 
 /// The code of an entry asks for that entry alone; a name may be that of several, as `Short`.
 ///
-/// Each code that is printed has an entry. That of a fault of a text, of a warning, of a finding and
-/// of what no lists can serve has the name that is printed behind the code. A refusal, why a call
-/// ended and a fault of a check are printed by the code alone.
+/// Each code that is printed has an entry. That of a fault of a text, of a warning, of a finding
+/// and of what no lists can serve has the name that is printed after the code. A refusal, why a
+/// call ended and a fault of a check are printed by the code alone.
 pub fn codes_are_explained<A: Allocator>()
     ensures once { CodesAreDistinct }
     ensures plans { PlanFaultsAreExplained }

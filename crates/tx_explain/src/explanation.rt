@@ -7,12 +7,12 @@ ghost use Rattle.tx_explain.specs.Written.{entry_line, entry_text, told_text, ex
 
 use crate::asked::is_asked;
 use crate::code_table::{Entry, tables};
-use tx_text::{Sink, WriteFault, write_text};
+use tx_text::{Sink, WriteFault, write_parts};
 
 /// Writes each entry that a word asks for: its code with its name, what it means and what to do
 /// about it; without a word, a line for each code with its meaning.
 pub fn write_explanation<W: Sink>(word: Option<&str>, sink: &mut W) -> Result<(), WriteFault>
-    ensures { Wrote (W.taken sink.old) (W.taken sink.new) (W.failed sink.old) (W.failed sink.new)
+    ensures { Wrote W.taken W.failed sink.old sink.new
         (explanation_text (option_map (λ w. w.now) word.entry)) result }
 {
     write_tables(&tables(), word, sink)
@@ -23,7 +23,7 @@ fn write_tables<W: Sink>(
     word: Option<&str>,
     sink: &mut W,
 ) -> Result<(), WriteFault>
-    ensures { Wrote (W.taken sink.old) (W.taken sink.new) (W.failed sink.old) (W.failed sink.new)
+    ensures { Wrote W.taken W.failed sink.old sink.new
         (flat_map (λ t. flat_map (λ e. told_text (option_map (λ w. w.now) word.entry) (texts e))
         t.now) tables.now) result }
 {
@@ -38,7 +38,7 @@ fn write_entries<W: Sink>(
     word: Option<&str>,
     sink: &mut W,
 ) -> Result<(), WriteFault>
-    ensures { Wrote (W.taken sink.old) (W.taken sink.new) (W.failed sink.old) (W.failed sink.new)
+    ensures { Wrote W.taken W.failed sink.old sink.new
         (flat_map (λ e. told_text (option_map (λ w. w.now) word.entry) (texts e)) entries.now)
         result }
 {
@@ -49,7 +49,7 @@ fn write_entries<W: Sink>(
 }
 
 fn write_told<W: Sink>(entry: &Entry, word: Option<&str>, sink: &mut W) -> Result<(), WriteFault>
-    ensures { Wrote (W.taken sink.old) (W.taken sink.new) (W.failed sink.old) (W.failed sink.new)
+    ensures { Wrote W.taken W.failed sink.old sink.new
         (told_text (option_map (λ w. w.now) word.entry) (texts entry.now)) result }
 {
     match word {
@@ -60,11 +60,11 @@ fn write_told<W: Sink>(entry: &Entry, word: Option<&str>, sink: &mut W) -> Resul
 }
 
 fn write_entry<W: Sink>(entry: &Entry, sink: &mut W) -> Result<(), WriteFault>
-    ensures { Wrote (W.taken sink.old) (W.taken sink.new) (W.failed sink.old) (W.failed sink.new)
+    ensures { Wrote W.taken W.failed sink.old sink.new
         (entry_text (texts entry.now)) result }
 {
     let [code, name, meaning, advice] = entry;
-    write_text(
+    write_parts(
         &[
             code.as_bytes(),
             b" ",
@@ -80,11 +80,11 @@ fn write_entry<W: Sink>(entry: &Entry, sink: &mut W) -> Result<(), WriteFault>
 }
 
 fn write_line<W: Sink>(entry: &Entry, sink: &mut W) -> Result<(), WriteFault>
-    ensures { Wrote (W.taken sink.old) (W.taken sink.new) (W.failed sink.old) (W.failed sink.new)
+    ensures { Wrote W.taken W.failed sink.old sink.new
         (entry_line (texts entry.now)) result }
 {
     let [code, name, meaning, _] = entry;
-    write_text(
+    write_parts(
         &[
             code.as_bytes(),
             b" ",

@@ -1,7 +1,10 @@
 -- What is kept of a change leaves the sink's mark.
-use Rattle.std.proofs.Common.{◌≡◌, ℕ, Bool, true, false, List, Result, Ok, Err, refl, sym, ap}
+use Rattle.std.proofs.Common.{◌≡◌, ℕ, Bool, true, false, List, Option, Some, None, Result, Ok, Err, refl, sym, ap, subst}
+use Rattle.std.specs.Option.{option_map, IfSome}
 use Rattle.tx_plan.specs.Plan.{Plan}
 use Rattle.tx_rank.specs.declared.finding.Finding.{Finding}
+use Rattle.tx_change.specs.declared.mixture.ShownMixture.{ShownMixture}
+use Rattle.tx_change.specs.MixtureShown.{ShowsFirstWalk, MixtureAnswer}
 use Rattle.tx_jobs.specs.declared.change.Changed.{Changed}
 use Rattle.tx_jobs.specs.declared.change.Changed.TheVariants.{Sound as FoundSound, Unsound as FoundUnsound}
 use Rattle.tx_jobs.specs.declared.change_fault.ChangeFault.{ChangeFault}
@@ -10,6 +13,23 @@ use Rattle.tx_jobs.specs.declared.job_fault.JobFault.TheVariants.{Plan as PlanFa
 use Rattle.tx_jobs.specs.declared.mixture.ChangeEvidence.{ChangeEvidence}
 use Rattle.tx_jobs.specs.ChangeFaults.{change_mark_after}
 use Rattle.tx_jobs.specs.ChangeEvidences.{IsMixtureOf, IsChangeEvidenceOf}
+use Rattle.tx_jobs.specs.Writables.{AreWritable}
+
+if_mapped : {X Y : Type 0} (o : Option X) (g : X → Y) (P : Y → Type 0)
+    → IfSome (option_map g o) P → IfSome o (λ x. P (g x))
+if_mapped None g P h = tt
+if_mapped (Some x) g P h = h
+
+-- the events of a mixture that is shown can be written as a script
+pub shown_writable : {A : Type 0} (old new : Plan) (limit spare : ℕ) (findings : List (Finding A))
+    (o : Option (ShownMixture A)) (m : ShownMixture A) → o ≡ Some m
+    → MixtureAnswer old new limit spare findings o
+    → IfSome m.events (λ events. AreWritable m.plan events.items)
+shown_writable old new limit spare findings o m is h =
+    let shows : ShowsFirstWalk old new limit spare findings m.plan
+    (option_map (λ v. v.items) m.events) =
+    subst (MixtureAnswer old new limit spare findings) is h in
+    if_mapped m.events (λ v. v.items) (AreWritable m.plan) shows.2.writable
 
 module _ {A : Type 0} (mark : Bool) (limit spare : ℕ) where
   mixture_mark : (old new : Plan) (findings : List (Finding A)) (r : Result (ChangeEvidence A) ChangeFault) → IsMixtureOf old new limit spare findings r → mark ≡ change_mark_after mark r

@@ -1,5 +1,5 @@
 -- What a change comes to, as its job tells it.
-use Rattle.std.proofs.Common.{◌≡◌, ◌∙◌, ℕ, Bool, Ok, Err, refl, sym, ap}
+use Rattle.std.proofs.Common.{◌≡◌, ◌∙◌, ℕ, Bool, Ok, Err, refl, sym}
 use Rattle.std.specs.List.{AllByRecursion}
 use Rattle.tx_text.specs.declared.frame.FaultAt.{FaultAt}
 use Rattle.tx_plan.specs.Plan.{Plan}
@@ -13,19 +13,18 @@ use Rattle.tx_change.specs.Shown.{IsShown}
 use Rattle.tx_change.specs.ChangeAnswers.{IsRightChange, ChangeAnswers}
 use Rattle.tx_jobs.specs.declared.job_fault.JobFault.{JobFault}
 use Rattle.tx_jobs.specs.declared.job_fault.JobFault.TheVariants.{Plan as PlanFault, Cert, Script, Read, Write, NoMemory}
-use Rattle.tx_jobs.specs.declared.change_fault.ChangeFault.{ChangeFault}
 use Rattle.tx_jobs.specs.declared.change_fault.ChangeFault.TheVariants.{Job}
 use Rattle.tx_jobs.specs.JobFaults.{mark_by, plan_fault}
 use Rattle.tx_jobs.specs.AuditJobs.{audit_fault}
 use Rattle.tx_jobs.specs.ChangeFaults.{in_new_plan, new_plan_fault, change_mark_by}
-use Rattle.tx_jobs.specs.JobEnds.{Output}
+use Rattle.tx_text.specs.Ends.{Output}
 use Rattle.tx_jobs.specs.ChangeJobs.{ToldChange, OnUnsoundChange}
 use Rattle.tx_jobs.specs.inner.Changing.{changed_of}
 use Rattle.tx_jobs.proofs.RefusedTexts.{plan_mark}
 
 module _ {A : Type 0} (old new : Plan) (limit spare : ℕ) (same : SameNetwork old new) where
   -- the report was written
-  pub change_told : (out : Output) (r : Ranking A) → ChangeAnswers old new limit spare out.old out.new out.silent (Ok r) → ToldChange old new limit spare out (Ok (changed_of old new r))
+  pub change_told : (out : Output) (r : Ranking A) → ChangeAnswers old new limit spare out (Ok r) → ToldChange old new limit spare out (Ok (changed_of old new r))
   change_told out (Found cert) h = (refl, same, h.0, h.1)
   change_told out (Fails findings) h = (refl, refl, same, h.0, h.1)
 
@@ -39,7 +38,7 @@ module _ {A : Type 0} (old new : Plan) (limit spare : ℕ) (same : SameNetwork o
   change_shown (Fails findings) h = h.shown
 
 -- the report stopped
-pub change_stopped : (A : Type 0) (old new : Plan) (limit spare : ℕ) (same : SameNetwork old new) (out : Output) (f : AuditFault) → ChangeAnswers {A = A} old new limit spare out.old out.new out.silent (Err f)
+pub change_stopped : (A : Type 0) (old new : Plan) (limit spare : ℕ) (same : SameNetwork old new) (out : Output) (f : AuditFault) → ChangeAnswers {A = A} old new limit spare out (Err f)
     → ToldChange {A = A} old new limit spare out (Err (Job (audit_fault f)))
 change_stopped A old new limit spare same out (AuditPlan f) h = absurd h
 change_stopped A old new limit spare same out AuditWrite h = (same, h)
@@ -54,5 +53,5 @@ new_as old Write = refl
 new_as old NoMemory = refl
 
 -- a refused new plan leaves the mark
-pub new_plan_mark : (old : Bool) (f : FaultAt PlanWord) (told : ChangeFault) → told ≡ new_plan_fault f → old ≡ change_mark_by old told
-new_plan_mark old f told e = plan_mark old f (plan_fault f) refl ∙ (sym (new_as old (plan_fault f)) ∙ sym (ap (change_mark_by old) e))
+pub new_plan_mark : (old : Bool) (f : FaultAt PlanWord) → old ≡ change_mark_by old (new_plan_fault f)
+new_plan_mark old f = plan_mark old f ∙ sym (new_as old (plan_fault f))

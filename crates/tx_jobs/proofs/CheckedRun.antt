@@ -1,24 +1,39 @@
 -- The answer of a checked run, after its verdict was written.
-use Rattle.std.proofs.Common.{◌≡◌, ◌∙◌, ℕ, List, Option, Ok, Err, inr, refl, sym, ap, subst}
+use Rattle.std.specs.Prelude.{OnOk, OnErr}
+use Rattle.std.proofs.Common.{◌≡◌, ◌∙◌, ℕ, Bool, true, List, Option, Result, Ok, Err, inr, refl, sym, ap, subst}
 use Rattle.std.specs.Io.KnownBytes.{append_known}
 use Rattle.tx_text.specs.declared.sink.WriteFault.{WriteFault}
-use Rattle.tx_text.specs.Ends.{StopsIn}
+use Rattle.tx_text.specs.Ends.{StopsIn, Input, output}
+use Rattle.tx_text.specs.Wrote.{Wrote}
 use Rattle.tx_plan.specs.Plan.{Plan}
 use Rattle.tx_cert.specs.Certificate.{Certificate}
-use Rattle.tx_state.specs.State.{opening}
+use Rattle.tx_check.specs.declared.fault.CheckFault.{CheckFault}
 use Rattle.tx_check.specs.declared.verdict.Verdict.TheVariants.{No}
 use Rattle.tx_check.specs.Verdicts.{verdict_written}
-use Rattle.tx_script.specs.Answers.{RanWhole}
+use Rattle.tx_script.specs.Answers.{RunAnswers}
 use Rattle.tx_audit.specs.declared.checked.Checked.{Checked}
 use Rattle.tx_audit.specs.declared.checked.Checked.TheVariants.{Ran, Denied}
-use Rattle.tx_audit.specs.CheckedRuns.{CheckedAnswers}
+use Rattle.tx_audit.specs.CheckedRuns.{from_opening, CheckedAnswers}
 use Rattle.tx_jobs.specs.declared.job_fault.JobFault.TheVariants.{Write}
-use Rattle.tx_jobs.specs.JobEnds.{Input, output, bytes_moved}
 use Rattle.tx_jobs.specs.CheckedJobs.{ToldRun, ToldNo}
+
+-- the verdict after a No, as it was written
+module _ {W : Type 0} (taken : W → Option (List ℕ)) (failed : W → Bool) (p : Plan) (f : CheckFault) (a b : W) where
+  pub told_no : (r : Result (Unit {0}) WriteFault) → Wrote taken failed a b (verdict_written p (No f)) r → ToldNo p (Denied f) (output taken a b) r
+  told_no (Ok x) w = w.0
+  told_no (Err e) w = w.0
+
+  pub marked_no : (r : Result (Unit {0}) WriteFault) → Wrote taken failed a b (verdict_written p (No f)) r → OnErr r (failed b ≡ true)
+  marked_no (Ok x) w = tt
+  marked_no (Err e) w = w.1
+
+  pub unmarked_no : (r : Result (Unit {0}) WriteFault) → Wrote taken failed a b (verdict_written p (No f)) r → OnOk r (failed b ≡ failed a)
+  unmarked_no (Ok x) w = w.1
+  unmarked_no (Err e) w = tt
 
 module _ {W : Type 0} (taken : W → Option (List ℕ)) (p : Plan) (t : Certificate) (limit spare : ℕ) (script : Input) (a b c : W) where
   pub told_run_by : (checked : Checked)
-      → CheckedAnswers p t limit spare (bytes_moved script (output taken a b)) script.broken (script.unread × (b ≡ a)) (Ok checked)
+      → CheckedAnswers p t limit spare script (output taken a b) (Ok checked)
       → ToldNo p checked (output taken b c) (Ok tt) → ToldRun p t limit spare script (output taken a c) (Ok checked)
   told_run_by (Ran summary) h e = (
     h.0,
@@ -26,7 +41,7 @@ module _ {W : Type 0} (taken : W → Option (List ℕ)) (p : Plan) (t : Certific
       state = h.1.state;
       ran =
           subst
-          (λ (w : W). RanWhole p (record { rest_old = script.old; rest_new = script.new; taken_old = taken a; taken_new = taken w; state_old = opening 0 0; state_new = h.1.state }) summary)
+          (λ (w : W). RunAnswers p script (from_opening h.1.state) (output taken a w) (Ok summary))
           (sym e) h.1.ran;
     },
   )
@@ -34,7 +49,7 @@ module _ {W : Type 0} (taken : W → Option (List ℕ)) (p : Plan) (t : Certific
 
   -- the verdict was not written
   pub told_run_stopped : (checked : Checked) (e : WriteFault)
-      → CheckedAnswers p t limit spare (bytes_moved script (output taken a b)) script.broken (script.unread × (b ≡ a)) (Ok checked)
+      → CheckedAnswers p t limit spare script (output taken a b) (Ok checked)
       → ToldNo p checked (output taken b c) (Err e) → ToldRun p t limit spare script (output taken a c) (Err Write)
   told_run_stopped (Ran summary) e h n = absurd n
   told_run_stopped (Denied f) e h n =

@@ -12,9 +12,9 @@ use Rattle.tx_rank.specs.declared.finding.Finding.TheVariants.{Ambiguous, Loop, 
 use Rattle.tx_rank.specs.Findings.{IsTrueOf}
 use Rattle.tx_rank.specs.Grades.{AreBounds, IsGrade, CanBeCertified, NothingIsWrong, AreUnmended}
 use Rattle.tx_rank.proofs.Certifying.{none_true}
-use Rattle.tx_state.specs.declared.event.Event.{Event}
-use Rattle.tx_state.specs.Sound.{IsSound}
-use Rattle.tx_state.proofs.Sound.{sound}
+use Rattle.tx_machine.specs.declared.event.Event.{Event}
+use Rattle.tx_machine.specs.Sound.{IsSound}
+use Rattle.tx_machine.proofs.Sound.{sound}
 use Rattle.tx_audit.specs.Counter.{counter_of, has_counter}
 use Rattle.tx_audit.proofs.Showing.{counters_show, counter_there}
 use Rattle.tx_jobs.specs.GradeJobs.{IsGradeOfPlan}

@@ -12,3 +12,8 @@ mod MendTold
 mod LintTold
 mod Surviving
 mod DrawnCode
+mod EndLines
+mod Cutting
+mod Taking
+pub mod PartCalls
+pub mod PlanCalls

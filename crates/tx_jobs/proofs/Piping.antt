@@ -10,18 +10,18 @@ use Rattle.tx_plan.specs.Plan.{Plan}
 use Rattle.tx_plan.specs.Rules.{IsPlan}
 use Rattle.tx_plantext.specs.declared.fault.PlanWord.{PlanWord}
 use Rattle.tx_plantext.specs.PlanText.{SaysPlan, ReadsPlan}
-use Rattle.tx_pipe.specs.declared.seen.Seen.TheVariants.{Blanks}
-use Rattle.tx_pipe.specs.declared.plan_part.PlanPart.{PlanPart}
-use Rattle.tx_pipe.specs.declared.script_part.ScriptPart.{ScriptPart}
-use Rattle.tx_pipe.specs.Parts.{plan_part, script_part, left_of_plan}
-use Rattle.tx_pipe.specs.inner.Seen.{is_over}
-use Rattle.tx_pipe.specs.inner.Reading.{left, as_script, plan_of, script_of, plan_rest, script_rest, PartCall, PlanCall, ScriptCall}
-use Rattle.tx_pipe.proofs.PartCalls as calls
-use Rattle.tx_pipe.proofs.PlanCalls.{Took, calls_took, prepend_none, whole_plan, whole_script, plan_left, all_script}
+use Rattle.tx_jobs.specs.declared.seen.Seen.TheVariants.{Blanks}
+use Rattle.tx_jobs.specs.declared.plan_part.PlanPart.{PlanPart}
+use Rattle.tx_jobs.specs.declared.script_part.ScriptPart.{ScriptPart}
+use Rattle.tx_jobs.specs.Parts.{plan_part, script_part, left_of_plan}
+use Rattle.tx_jobs.specs.inner.Seen.{is_over}
+use Rattle.tx_jobs.specs.inner.Reading.{left, as_script, plan_of, script_of, plan_rest, script_rest, PartCall, PlanCall, ScriptCall}
+use Rattle.tx_jobs.proofs.PartCalls as calls
+use Rattle.tx_jobs.proofs.PlanCalls.{Took, calls_took, prepend_none, whole_plan, whole_script, plan_left, all_script}
 use Rattle.tx_script.specs.declared.summary.Summary.{Summary}
 use Rattle.tx_jobs.specs.declared.job_fault.JobFault.{JobFault}
 use Rattle.tx_jobs.specs.JobFaults.{plan_fault}
-use Rattle.tx_jobs.specs.JobEnds.{Output, input}
+use Rattle.tx_text.specs.Ends.{Output, input}
 use Rattle.tx_jobs.specs.Jobs.{ScriptRan}
 use Rattle.tx_jobs.specs.PipeJobs.{calls_behind, PipeRan, PipeRefused}
 use Rattle.tx_jobs.proofs.Breaking.{refused_with, simulated_with}
@@ -93,7 +93,8 @@ module _ {R : Type 0} (rest : R → Option (List ℕ)) (failed : R → Bool) (ca
     plan_broken (inr g) = inr (calls.gave_empty rest failed called taken_from over_of (PlanCall rest failed called) of_plan source_calls a c none g).0
 
     -- It was refused.
-    pub refused : (out : Output) (told : JobFault) (f : FaultAt PlanWord) → ReadsPlan (plan_rest rest a) (plan_rest rest c) (Broken (PlanCall rest failed called) c.ahead.now.failed source_calls a c) (c ≡ a) (Err (f.line, f.kind))
+    pub refused : (out : Output) (told : JobFault) (f : FaultAt PlanWord)
+        → ReadsPlan (input (plan_rest rest) (λ p. p.ahead.now.failed) (PlanCall rest failed called) a c) (Err (f.line, f.kind))
         → told ≡ plan_fault f → out.silent → PipeRefused rest failed called old mid out (Err told)
     refused out told f h by silent =
         record {
@@ -102,14 +103,16 @@ module _ {R : Type 0} (rest : R → Option (List ℕ)) (failed : R → Bool) (ca
               record {
                 fault = f;
                 read =
-                    subst2 (λ x y. ReadsPlan x y (Broken called (failed mid) source_calls old mid) (mid ≡ old) (Err (f.line, f.kind))) plan_is plan_new
-                    (refused_with _ _ _ _ plan_broken (λ e. ap (λ (p : PlanPart R). p.input.now) e) (plan_rest rest a) (plan_rest rest c) f.line f.kind h);
+                    subst2
+                    (λ x y. ReadsPlan (record { old = x; new = y; broken = Broken called (failed mid) source_calls old mid; unread = mid ≡ old }) (Err (f.line, f.kind)))
+                    plan_is plan_new
+                    (refused_with (input (plan_rest rest) (λ p. p.ahead.now.failed) (PlanCall rest failed called) a c) _ _ plan_broken (λ e. ap (λ (p : PlanPart R). p.input.now) e) f.line f.kind h);
                 told = ap Err by;
                 rest = silent;
               };
         }
 
-    -- It was read, and then the script behind it, from b to e: b is lent what the plan left.
+    -- It was read, and then the script after it, from b to e: b is lent what the plan left.
     module _ (b e : ScriptPart R) (same : b.input.now ≡ mid) (kept : b.ahead.now ≡ c.ahead.now) (s : CallsAtMost (ScriptCall rest failed called) source_calls b e) where
       abbrev pub from : R
       from = b.input.now
@@ -138,11 +141,12 @@ module _ {R : Type 0} (rest : R → Option (List ℕ)) (failed : R → Bool) (ca
       lent : left rest b ≡ left rest (as_script c)
       lent i = prepend_known (kept i).held (rest (same i))
 
-      pub ran : (p : Plan) → IsPlan p → (out : Output) (result : Result Summary JobFault) → SaysPlan (plan_rest rest a) (plan_rest rest c) p
+      pub ran : (p : Plan) → IsPlan p → (out : Output) (result : Result Summary JobFault)
+          → SaysPlan (input (plan_rest rest) (λ t. t.ahead.now.failed) (PlanCall rest failed called) a c) p
           → ScriptRan p (input (left rest) (λ t. t.ahead.now.failed) (ScriptCall rest failed called) b e) out result → PipeRan rest failed called old new out result
       ran p rules out result says h =
           let script : left rest b ≡ option_map script_part (rest old) = lent ∙ all_script c.seen (left rest (as_script c)) says.1 ∙ script_is in
-          let told = simulated_with _ _ _ _ script_broken (λ same. ap (λ (t : ScriptPart R). t.input.now) same) p (left rest b) (left rest e) out result h in
+          let told = simulated_with (input (left rest) (λ t. t.ahead.now.failed) (ScriptCall rest failed called) b e) _ _ script_broken (λ same. ap (λ (t : ScriptPart R). t.input.now) same) p out result h in
           record {
             mid = from;
             read = b.ahead.now.held;
@@ -155,7 +159,10 @@ module _ {R : Type 0} (rest : R → Option (List ℕ)) (failed : R → Bool) (ca
                 record {
                   plan = p;
                   rules = rules;
-                  read = subst2 (λ x y. SaysPlan x y p) plan_is (plan_new ∙ ap (λ m. left_of_plan (rest old) (rest m)) (sym same)) says;
+                  read =
+                      subst2
+                      (λ x y. SaysPlan (record { old = x; new = y; broken = Broken called (failed from) source_calls old from; unread = from ≡ old }) p)
+                      plan_is (plan_new ∙ ap (λ m. left_of_plan (rest old) (rest m)) (sym same)) says;
                   goes_on =
                       subst
                       (λ x. ScriptRan p (record { old = x; new = left rest e; broken = (failed new ≡ true) ⊎ Gave called (calls_behind b.ahead.now.held source_calls) from new; unread = new ≡ from }) out result)

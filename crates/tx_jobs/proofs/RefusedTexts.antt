@@ -1,11 +1,11 @@
 -- Refused texts and the sink's mark.
-use Rattle.std.proofs.Common.{◌≡◌, ◌∙◌, Bool, refl, sym, ap}
-use Rattle.tx_text.specs.declared.text_fault.TextFault.TheVariants.{LineTooLong, BadByte, NoMemory as TextNoMemory}
-use Rattle.tx_text.specs.declared.line_fault.LineFault.TheVariants.{Text, Read as LineRead}
-use Rattle.tx_text.specs.declared.frame.FrameFault.TheVariants.{Line, Form}
+use Rattle.std.proofs.Common.{◌≡◌, ◌∙◌, Bool, Result, Err, refl, sym, ap}
+use Rattle.std.specs.Result.{IsErrAnd}
+use Rattle.tx_text.specs.declared.frame.FrameFault.TheVariants.{LineTooLong, BadByte, NoMemory as TextNoMemory, Read as LineRead, NoHeader, NoEnd, AfterEnd}
 use Rattle.tx_text.specs.declared.frame.FaultAt.{FaultAt}
 use Rattle.tx_text.specs.declared.frame.FaultKind.{FaultKind}
 use Rattle.tx_text.specs.declared.frame.FaultKind.TheVariants.{Frame, Word}
+use Rattle.tx_text.proofs.Exits.{exits_with}
 use Rattle.tx_plan.specs.declared.refusal.PlanRefusal.TheVariants.{WrongCount, BadName, BadCode, BadNumber, Duplicate, Unknown, RangeOrder, Overlap, SameEnds, NotOutgoing, RepeatedGroup, RouteAtHome, TooMany, BarAtHome, NoMemory as PlanNoMemory}
 use Rattle.tx_plantext.specs.declared.fault.PlanWord.{PlanWord}
 use Rattle.tx_plantext.specs.declared.fault.PlanWord.TheVariants.{UnknownWord, Refused}
@@ -20,15 +20,17 @@ use Rattle.tx_audit.specs.declared.audited.AuditFault.{AuditFault}
 use Rattle.tx_audit.specs.declared.audited.AuditFault.TheVariants.{Plan as AuditPlan, Write as AuditWrite, NoMemory as AuditNoMemory}
 use Rattle.tx_audit.specs.Audits.{mark_by as audit_mark_by}
 use Rattle.tx_jobs.specs.declared.job_fault.JobFault.{JobFault}
-use Rattle.tx_jobs.specs.JobFaults.{plan_fault, plan_fault_by, cert_fault, cert_fault_by, script_fault_by, cause_fault, run_fault, mark_by}
+use Rattle.tx_jobs.specs.JobFaults.{plan_fault, plan_fault_by, cert_fault, cert_fault_by, script_fault_by, cause_fault, run_fault, mark_by, mark_after}
 use Rattle.tx_jobs.specs.AuditJobs.{audit_fault}
 
 plan_by : (old : Bool) (f : FaultAt PlanWord) (k : FaultKind PlanWord) → mark_by old (plan_fault_by f k) ≡ old
-plan_by old f (Frame (Line LineRead)) = refl
-plan_by old f (Frame (Line (Text LineTooLong))) = refl
-plan_by old f (Frame (Line (Text BadByte))) = refl
-plan_by old f (Frame (Line (Text TextNoMemory))) = refl
-plan_by old f (Frame (Form k)) = refl
+plan_by old f (Frame LineRead) = refl
+plan_by old f (Frame LineTooLong) = refl
+plan_by old f (Frame BadByte) = refl
+plan_by old f (Frame TextNoMemory) = refl
+plan_by old f (Frame NoHeader) = refl
+plan_by old f (Frame NoEnd) = refl
+plan_by old f (Frame AfterEnd) = refl
 plan_by old f (Word UnknownWord) = refl
 plan_by old f (Word (Refused r)) = elim r as (λ r. mark_by old (plan_fault_by f (Word (Refused r))) ≡ old) [
   | WrongCount ↦ refl
@@ -48,19 +50,28 @@ plan_by old f (Word (Refused r)) = elim r as (λ r. mark_by old (plan_fault_by f
   | PlanNoMemory ↦ refl
 ]
 
-plan_unmarked : (old : Bool) (f : FaultAt PlanWord) → mark_by old (plan_fault_by f f.kind) ≡ old
-plan_unmarked old f = plan_by old f f.kind
-
 -- a refused plan leaves the mark
-pub plan_mark : (old : Bool) (f : FaultAt PlanWord) (told : JobFault) → told ≡ plan_fault f → old ≡ mark_by old told
-plan_mark old f told e = sym (ap (mark_by old) e ∙ plan_unmarked old f)
+pub plan_mark : (old : Bool) (f : FaultAt PlanWord) → old ≡ mark_by old (plan_fault f)
+plan_mark old f = sym (plan_by old f f.kind)
+
+-- a job that stops at a plan's fault
+pub refused : {X : Type 0} (r : Result X JobFault) (f : FaultAt PlanWord)
+    → IsErrAnd r (λ y. y ≡ plan_fault f) → r ≡ Err (plan_fault f)
+refused r f is = exits_with r (plan_fault f) is
+
+pub refused_mark : {X : Type 0} (old : Bool) (r : Result X JobFault) (f : FaultAt PlanWord)
+    → IsErrAnd r (λ y. y ≡ plan_fault f) → old ≡ mark_after old r
+refused_mark old r f is =
+    plan_mark old f ∙ sym (ap (mark_after old) (refused r f is))
 
 cert_by : (old : Bool) (f : FaultAt CertWord) (k : FaultKind CertWord) → mark_by old (cert_fault_by f k) ≡ old
-cert_by old f (Frame (Line LineRead)) = refl
-cert_by old f (Frame (Line (Text LineTooLong))) = refl
-cert_by old f (Frame (Line (Text BadByte))) = refl
-cert_by old f (Frame (Line (Text TextNoMemory))) = refl
-cert_by old f (Frame (Form k)) = refl
+cert_by old f (Frame LineRead) = refl
+cert_by old f (Frame LineTooLong) = refl
+cert_by old f (Frame BadByte) = refl
+cert_by old f (Frame TextNoMemory) = refl
+cert_by old f (Frame NoHeader) = refl
+cert_by old f (Frame NoEnd) = refl
+cert_by old f (Frame AfterEnd) = refl
 cert_by old f (Word CertUnknownWord) = refl
 cert_by old f (Word CertWrongCount) = refl
 cert_by old f (Word UnknownName) = refl
@@ -69,15 +80,17 @@ cert_by old f (Word CertDuplicate) = refl
 cert_by old f (Word CertNoMemory) = refl
 
 -- and so does a refused certificate
-pub cert_mark : (old : Bool) (f : FaultAt CertWord) (told : JobFault) → told ≡ cert_fault f → old ≡ mark_by old told
-cert_mark old f told e = sym (ap (mark_by old) e ∙ cert_by old f f.kind)
+pub cert_mark : (old : Bool) (f : FaultAt CertWord) → old ≡ mark_by old (cert_fault f)
+cert_mark old f = sym (cert_by old f f.kind)
 
 script_by : (old : Bool) (f : FaultAt ScriptWord) (k : FaultKind ScriptWord) → mark_by old (script_fault_by f k) ≡ old
-script_by old f (Frame (Line LineRead)) = refl
-script_by old f (Frame (Line (Text LineTooLong))) = refl
-script_by old f (Frame (Line (Text BadByte))) = refl
-script_by old f (Frame (Line (Text TextNoMemory))) = refl
-script_by old f (Frame (Form k)) = refl
+script_by old f (Frame LineRead) = refl
+script_by old f (Frame LineTooLong) = refl
+script_by old f (Frame BadByte) = refl
+script_by old f (Frame TextNoMemory) = refl
+script_by old f (Frame NoHeader) = refl
+script_by old f (Frame NoEnd) = refl
+script_by old f (Frame AfterEnd) = refl
 script_by old f (Word w) = refl
 
 run_marked : (old : Bool) (c : RunCause) → mark_by old (cause_fault c) ≡ run_mark_by old c
@@ -87,10 +100,10 @@ run_marked old RunNoMemory = refl
 run_marked old (RunScript f) = script_by old f f.kind
 
 -- a run that stopped leaves the mark that its cause tells
-pub run_mark : (old now : Bool) (f : RunFault) (told : JobFault) → told ≡ run_fault f → now ≡ run_mark_by old f.cause → now ≡ mark_by old told
-run_mark old now f told e m = m ∙ sym (ap (mark_by old) e ∙ run_marked old f.cause)
+pub run_mark : (old now : Bool) (f : RunFault) → now ≡ run_mark_by old f.cause → now ≡ mark_by old (run_fault f)
+run_mark old now f m = m ∙ sym (run_marked old f.cause)
 
 pub audit_marked : (old : Bool) (f : AuditFault) → audit_mark_by old f ≡ mark_by old (audit_fault f)
-audit_marked old (AuditPlan f) = sym (plan_unmarked old f)
+audit_marked old (AuditPlan f) = plan_mark old f
 audit_marked old AuditWrite = refl
 audit_marked old AuditNoMemory = refl

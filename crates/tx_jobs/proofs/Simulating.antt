@@ -1,14 +1,16 @@
 -- The answer of a run over the engine, as a job tells it.
-use Rattle.std.proofs.Common.{◌≡◌, ◌∙◌, inl, inr, Err, ap}
+use Rattle.std.proofs.Common.{◌≡◌, ◌∙◌, Result, Ok, Err, inl, inr, ap}
 use Rattle.tx_plan.specs.Plan.{Plan}
+use Rattle.tx_script.specs.declared.summary.Summary.{Summary}
 use Rattle.tx_script.specs.declared.run_fault.RunFault.{RunFault}
 use Rattle.tx_audit.specs.CheckedRuns.{Simulated}
 use Rattle.tx_jobs.specs.declared.job_fault.JobFault.{JobFault}
 use Rattle.tx_jobs.specs.JobFaults.{run_fault}
-use Rattle.tx_jobs.specs.JobEnds.{Input, Output, bytes_moved}
-use Rattle.tx_jobs.specs.Jobs.{ScriptRan}
+use Rattle.tx_text.specs.Ends.{Input, Output}
+use Rattle.tx_jobs.specs.Jobs.{ScriptRan, told_run}
 
-module _ (p : Plan) (script : Input) (out : Output) (f : RunFault) (told : JobFault) (by : told ≡ run_fault f) where
-  pub told_stop : Simulated p (bytes_moved script out) script.broken (script.unread × out.silent) (Err f) → ScriptRan p script out (Err told)
-  told_stop (inl h) = inl (record { answer = Err f; ran = h; told = ap Err by })
-  told_stop (inr h) = inr (ap Err (by ∙ ap run_fault h.0), h.1.0, h.1.1)
+module _ (p : Plan) (script : Input) (out : Output) where
+  pub ran_as : (answer : Result Summary RunFault) (told : Result Summary JobFault) → told ≡ told_run answer → Simulated p script out answer → ScriptRan p script out told
+  ran_as (Ok summary) told by h = inl (record { answer = Ok summary; ran = h; told = by })
+  ran_as (Err f) told by (inl h) = inl (record { answer = Err f; ran = h; told = by })
+  ran_as (Err f) told by (inr h) = inr (by ∙ ap (λ (q : RunFault). Err (run_fault q)) h.0, h.1.0, h.1.1)

@@ -2,9 +2,7 @@
 use Rattle.std.proofs.Common.{◌≡◌, ◌≢◌, ◌∙◌, ℕ, Bool, List, [], ◌∷◌, length, None, refl, sym, ap}
 use Rattle.std.proofs.lemmas.List.{nil_from_length}
 use Rattle.std.specs.List.{AllByRecursion}
-use Rattle.tx_text.specs.declared.text_fault.TextFault.TheVariants.{LineTooLong, BadByte, NoMemory as TextNoMemory}
-use Rattle.tx_text.specs.declared.line_fault.LineFault.TheVariants.{Text, Read as LineRead}
-use Rattle.tx_text.specs.declared.frame.FrameFault.TheVariants.{Line, Form}
+use Rattle.tx_text.specs.declared.frame.FrameFault.TheVariants.{LineTooLong, BadByte, NoMemory as TextNoMemory, Read as LineRead, NoHeader, NoEnd, AfterEnd}
 use Rattle.tx_text.specs.declared.frame.FaultAt.{FaultAt}
 use Rattle.tx_text.specs.declared.frame.FaultKind.{FaultKind}
 use Rattle.tx_text.specs.declared.frame.FaultKind.TheVariants.{Frame, Word}
@@ -19,7 +17,6 @@ use Rattle.tx_risk.specs.declared.surviving.Survival.{Survival}
 use Rattle.tx_risk.specs.declared.surviving.Survival.TheVariants.{Tried, Ungraded}
 use Rattle.tx_risk_text.specs.declared.fault.RiskWord.{RiskWord}
 use Rattle.tx_risk_text.specs.declared.fault.RiskWord.TheVariants.{UnknownWord, WrongCount, BadName, Duplicate, UnknownName, RepeatedGroup, NoMemory as RiskNoMemory}
-use Rattle.tx_jobs.specs.declared.survive_fault.SurviveFault.{SurviveFault}
 use Rattle.tx_jobs.specs.SurviveFaults.{risks_fault, risks_fault_by, survive_mark_by}
 use Rattle.tx_jobs.specs.GradeJobs.{IsUngraded}
 use Rattle.tx_jobs.specs.SurviveJobs.{IsSurvivalOf, status_of_cuts}
@@ -45,11 +42,13 @@ survival_is A p risks (Ungraded grade) wherever all none codes some right listed
 
 risks_by : (old : Bool) (f : FaultAt RiskWord) (k : FaultKind RiskWord)
     → survive_mark_by old (risks_fault_by f k) ≡ old
-risks_by old f (Frame (Line LineRead)) = refl
-risks_by old f (Frame (Line (Text LineTooLong))) = refl
-risks_by old f (Frame (Line (Text BadByte))) = refl
-risks_by old f (Frame (Line (Text TextNoMemory))) = refl
-risks_by old f (Frame (Form k)) = refl
+risks_by old f (Frame LineRead) = refl
+risks_by old f (Frame LineTooLong) = refl
+risks_by old f (Frame BadByte) = refl
+risks_by old f (Frame TextNoMemory) = refl
+risks_by old f (Frame NoHeader) = refl
+risks_by old f (Frame NoEnd) = refl
+risks_by old f (Frame AfterEnd) = refl
 risks_by old f (Word UnknownWord) = refl
 risks_by old f (Word WrongCount) = refl
 risks_by old f (Word BadName) = refl
@@ -59,9 +58,8 @@ risks_by old f (Word RepeatedGroup) = refl
 risks_by old f (Word RiskNoMemory) = refl
 
 -- a refused text of risks leaves the mark
-pub risks_mark : (old : Bool) (f : FaultAt RiskWord) (told : SurviveFault) → told ≡ risks_fault f
-    → old ≡ survive_mark_by old told
-risks_mark old f told e = sym (ap (survive_mark_by old) e ∙ risks_by old f f.kind)
+pub risks_mark : (old : Bool) (f : FaultAt RiskWord) → old ≡ survive_mark_by old (risks_fault f)
+risks_mark old f = sym (risks_by old f f.kind)
 
 -- the status of cuts, by how many there are
 pub none_cut : {A : Type 0} (cuts : List A) → length cuts ≡ 0 → status_of_cuts cuts ≡ 0

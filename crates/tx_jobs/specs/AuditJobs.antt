@@ -7,19 +7,21 @@ use Rattle.tx_audit.specs.Audits.{AuditAnswers}
 use Rattle.tx_jobs.specs.declared.job_fault.JobFault.{JobFault}
 use Rattle.tx_jobs.specs.declared.job_fault.JobFault.TheVariants.{Write, NoMemory}
 use Rattle.tx_jobs.specs.JobFaults.{plan_fault}
-use Rattle.tx_jobs.specs.JobEnds.{Input, Output}
+use Rattle.tx_text.specs.Ends.{Input, Output}
 
--- why an audit stopped, as a job tells it
+-- why an audit stopped, as a job reports it
 abbrev pub audit_fault : AuditFault → JobFault
 audit_fault (Plan f) = plan_fault f
 audit_fault AuditWrite = Write
 audit_fault AuditNoMemory = NoMemory
 
+-- what an audit answers, as a job reports it
 abbrev pub told_audit : {A : Type 0} → Result (Audited A) AuditFault → Result (Audited A) JobFault
 told_audit (Ok audited) = Ok audited
 told_audit (Err f) = Err (audit_fault f)
 
 -- `audit PLAN --limit L --spare K`
-abbrev pub AuditJobAnswers : {A : Type 0} → (limit spare : ℕ) → Input → Output → Result (Audited A) JobFault → Type 0
-AuditJobAnswers {A} limit spare plan out result =
-    (answer : Result (Audited A) AuditFault) × AuditAnswers limit spare plan.old plan.new out.old out.new plan.broken plan.unread out.silent answer × (result ≡ told_audit answer)
+abbrev pub AuditJobAnswers : {A : Type 0} → (limit spare : ℕ)
+    → Input → Output → Result (Audited A) JobFault → Type 0
+AuditJobAnswers {A} limit spare plan out result = (answer : Result (Audited A) AuditFault)
+    × AuditAnswers limit spare plan out answer × (result ≡ told_audit answer)

@@ -1,7 +1,7 @@
 -- What shows the verdict on a change, and what is answered where it is to be kept.
 use Rattle.std.specs.Prelude.{◌≡◌, ℕ, Bool, true, false, List, Option, None, Some, Result, Ok, Err}
 use Rattle.tx_plan.specs.Plan.{Plan}
-use Rattle.tx_state.specs.declared.event.Event.{Event}
+use Rattle.tx_machine.specs.declared.event.Event.{Event}
 use Rattle.tx_rank.specs.declared.finding.Finding.{Finding}
 use Rattle.tx_change.specs.MixtureShown.{first_walked, ShowsFirstWalk}
 use Rattle.tx_jobs.specs.declared.change.Changed.{Changed}
@@ -13,7 +13,7 @@ use Rattle.tx_jobs.specs.declared.mixture.Mixture.{Mixture}
 use Rattle.tx_jobs.specs.declared.mixture.Mixture.TheVariants.{Scripted, Unscripted}
 use Rattle.tx_jobs.specs.declared.mixture.ChangeEvidence.{ChangeEvidence}
 use Rattle.tx_jobs.specs.declared.mixture.ChangeEvidence.TheVariants.{Sound, Unsound}
-use Rattle.tx_jobs.specs.JobEnds.{Input, Output}
+use Rattle.tx_text.specs.Ends.{Input, Output}
 use Rattle.tx_jobs.specs.ChangeJobs.{ChangeJobAnswers}
 
 module _ {A : Type 0} where
@@ -27,6 +27,7 @@ module _ {A : Type 0} where
   mixture_plan (Scripted script) = script.plan
   mixture_plan (Unscripted plan) = plan
 
+  -- the events of its script, if it has one
   abbrev pub mixture_events : Mixture A → Option (List Event)
   mixture_events (Scripted script) = Some script.events.items
   mixture_events (Unscripted plan) = None
@@ -64,7 +65,7 @@ module _ {A : Type 0} where
       IsChangeEvidenceOf with_mixture limit spare changed result
   TellsChangeEvidence with_mixture limit spare (Err fault) result = result ≡ Err fault
 
-  -- THE CHANGE WAS JUDGED, and then what shows the verdict was made.
+  -- The change was judged, and then what shows the verdict was made.
   abbrev pub ChangeEvidenceAnswers : (with_mixture : Bool) → (limit spare : ℕ)
       → (old new : Input) → Output → Result (ChangeEvidence A) ChangeFault → Type 0
   ChangeEvidenceAnswers with_mixture limit spare old new out result =

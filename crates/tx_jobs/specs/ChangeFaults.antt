@@ -1,4 +1,4 @@
--- Why the job of a change stops, and what is told of it.
+-- Why the job of a change stops, and what is reported of it.
 use Rattle.std.specs.Prelude.{ℕ, ◌+◌, Bool, List, ◌++◌, Result, Ok, Err, codes, decimal}
 use Rattle.tx_text.specs.declared.frame.FaultAt.{FaultAt}
 use Rattle.tx_plantext.specs.declared.fault.PlanWord.{PlanWord}
@@ -18,28 +18,29 @@ status_of_change (Job f) = status_of f
 status_of_change (NewPlan f) = 2
 status_of_change (TwoNetworks d) = 2
 
+-- a fault of the old plan is that of a job
 abbrev pub old_plan_fault : FaultAt PlanWord → ChangeFault
 old_plan_fault f = Job (plan_fault f)
 
--- A failure to read and a want of memory are told as such.
+-- A failure to read and a lack of memory are reported as such.
 abbrev pub in_new_plan : JobFault → ChangeFault
 in_new_plan (Plan f) = NewPlan f
 in_new_plan other = Job other
 
+-- a fault of the new plan
 abbrev pub new_plan_fault : FaultAt PlanWord → ChangeFault
 new_plan_fault f = in_new_plan (plan_fault f)
 
--- THE SINK'S MARK
+-- the sink's mark after a fault: set where a write fault is reported, and otherwise as before
 abbrev pub change_mark_by : Bool → ChangeFault → Bool
 change_mark_by old (Job f) = mark_by old f
 change_mark_by old (NewPlan f) = old
 change_mark_by old (TwoNetworks d) = old
 
+-- the sink's mark after the job
 abbrev pub change_mark_after : {X : Type 0} → Bool → Result X ChangeFault → Bool
 change_mark_after old (Ok x) = old
 change_mark_after old (Err f) = change_mark_by old f
-
--- THE LINE that tells a fault
 
 -- the word that begins the lines of a list
 abbrev pub list_word : NetworkList → List ℕ
@@ -59,6 +60,7 @@ abbrev pub old_fault_line : JobFault → List ℕ
 old_fault_line (Plan f) = text_fault_line (codes "old plan") f.line (fault_row f.kind)
 old_fault_line other = fault_line other
 
+-- the line that says why the job of a change stopped
 abbrev pub change_fault_line : ChangeFault → List ℕ
 change_fault_line (Job f) = old_fault_line f
 change_fault_line (NewPlan f) = text_fault_line (codes "new plan") f.line (fault_row f.kind)

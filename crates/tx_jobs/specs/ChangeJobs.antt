@@ -16,7 +16,7 @@ use Rattle.tx_jobs.specs.declared.change_fault.ChangeFault.{ChangeFault}
 use Rattle.tx_jobs.specs.declared.change_fault.ChangeFault.TheVariants.{Job, TwoNetworks}
 use Rattle.tx_jobs.specs.declared.job_fault.JobFault.TheVariants.{Write, NoMemory}
 use Rattle.tx_jobs.specs.ChangeFaults.{old_plan_fault, new_plan_fault}
-use Rattle.tx_jobs.specs.JobEnds.{Input, Output}
+use Rattle.tx_text.specs.Ends.{Input, Output}
 use Rattle.tx_jobs.specs.Jobs.{PlanRead}
 
 -- it holds of both plans and the findings, if something was wrong
@@ -25,8 +25,8 @@ abbrev pub OnUnsoundChange : {A : Type 0} → ((old new : Plan) → List (Findin
 OnUnsoundChange Holds (Sound p cert) = Unit {0}
 OnUnsoundChange Holds (Unsound p q findings) = Holds p q findings.items
 
--- TWO PLANS. They are of one network: the certificate clears the change, or the findings deny it,
--- and the report was written. Or the first entry that differs is told.
+-- What is answered of two plans. They are of one network: the certificate clears the change, or the
+-- findings deny it, and the report was written. Or the first entry that differs is answered.
 abbrev pub ToldChange : {A : Type 0} → (p q : Plan) → (limit spare : ℕ) → Output
     → Result (Changed A) ChangeFault → Type 0
 ToldChange {A} p q limit spare out (Ok (Sound m cert)) =
@@ -36,7 +36,7 @@ ToldChange p q limit spare out (Ok (Unsound m n findings)) =
     (m ≡ p) × (n ≡ q) × SameNetwork p q × IsDenied p q limit spare findings.items
     × (out.new ≡ append_known out.old (change_report p limit spare findings.items))
 ToldChange {A} p q limit spare out (Err (Job Write)) =
-    SameNetwork p q × ChangeToldInPart A p q limit spare out.old out.new
+    SameNetwork p q × ChangeToldInPart A p q limit spare out
 ToldChange p q limit spare out (Err (Job NoMemory)) = SameNetwork p q × out.silent
 ToldChange p q limit spare out (Err (TwoNetworks d)) = DifferenceAnswer p q (Some d) × out.silent
 ToldChange p q limit spare out (Err other) = ⊥
@@ -45,7 +45,7 @@ ToldChange p q limit spare out (Err other) = ⊥
 pub record RefusedAs {X : Type 0} (tell : FaultAt PlanWord → ChangeFault) (text : Input)
     (untouched : Type 0) (result : Result X ChangeFault) : Type 0 where
   pub fault : FaultAt PlanWord
-  pub read : ReadsPlan text.old text.new text.broken text.unread (Err (fault.line, fault.kind))
+  pub read : ReadsPlan text (Err (fault.line, fault.kind))
   pub told : result ≡ Err (tell fault)
   pub rest : untouched
 

@@ -2,7 +2,7 @@
 use Rattle.std.specs.Prelude.{◌≡◌, ◌⊎◌, ℕ, Result, Ok, Err}
 use Rattle.std.specs.Io.KnownBytes.{append_known}
 use Rattle.tx_text.specs.declared.sink.WriteFault.{WriteFault}
-use Rattle.tx_text.specs.Ends.{StopsIn}
+use Rattle.tx_text.specs.Ends.{StopsIn, Input, Output}
 use Rattle.tx_plan.specs.Plan.{Plan}
 use Rattle.tx_cert.specs.Certificate.{Certificate}
 use Rattle.tx_check.specs.declared.fault.CheckFault.{CheckFault}
@@ -15,19 +15,20 @@ use Rattle.tx_audit.specs.CheckedRuns.{RanFromOpening, HadNoRoom, IsAllowed}
 use Rattle.tx_jobs.specs.declared.job_fault.JobFault.{JobFault}
 use Rattle.tx_jobs.specs.declared.job_fault.JobFault.TheVariants.{Write}
 use Rattle.tx_jobs.specs.JobFaults.{run_fault}
-use Rattle.tx_jobs.specs.JobEnds.{Input, Output, bytes_moved}
 use Rattle.tx_jobs.specs.Jobs.{PlanRead, PlanRefused}
 use Rattle.tx_jobs.specs.CheckJobs.{CertRead, CertRefused, verdict_for}
 
 -- The checker said Yes, and the run stopped.
-pub record RunStopped (p : Plan) (t : Certificate) (limit spare : ℕ) (script : Input) (out : Output) (fault : JobFault) : Type 0 where
+pub record RunStopped (p : Plan) (t : Certificate)
+    (limit spare : ℕ) (script : Input) (out : Output) (fault : JobFault) : Type 0 where
   pub allowed : IsAllowed p t limit spare
   pub answer : RunFault
-  pub stopped : RanFromOpening p (bytes_moved script out) script.broken (script.unread × out.silent) (Err answer) ⊎ HadNoRoom (script.unread × out.silent) answer
+  pub stopped : RanFromOpening p script out (Err answer) ⊎ HadNoRoom script out answer
   pub told : fault ≡ run_fault answer
 
 -- The checker said No, and the verdict could not be written.
-pub record VerdictStopped (p : Plan) (t : Certificate) (limit spare : ℕ) (script : Input) (out : Output) (fault : JobFault) : Type 0 where
+pub record VerdictStopped (p : Plan) (t : Certificate)
+    (limit spare : ℕ) (script : Input) (out : Output) (fault : JobFault) : Type 0 where
   pub reason : CheckFault
   pub denied : verdict_for p t limit spare ≡ No reason
   pub front : StopsIn out.old out.new (verdict_written p (No reason))
@@ -41,29 +42,43 @@ ToldNo p (Ran summary) out (Err e) = ⊥
 ToldNo p (Denied f) out (Ok x) = out.new ≡ append_known out.old (verdict_written p (No f))
 ToldNo p (Denied f) out (Err e) = StopsIn out.old out.new (verdict_written p (No f))
 
--- After a Yes the script was run. After a No the verdict was written, and nothing of the script was read.
-abbrev pub ToldRun : Plan → Certificate → (limit spare : ℕ) → Input → Output → Result Checked JobFault → Type 0
-ToldRun p t limit spare script out (Ok (Ran summary)) = IsAllowed p t limit spare × RanFromOpening p (bytes_moved script out) script.broken (script.unread × out.silent) (Ok summary)
-ToldRun p t limit spare script out (Ok (Denied f)) = (verdict_for p t limit spare ≡ No f) × (out.new ≡ append_known out.old (verdict_written p (No f))) × script.unread
-ToldRun p t limit spare script out (Err fault) = RunStopped p t limit spare script out fault ⊎ VerdictStopped p t limit spare script out fault
+-- After a Yes the script was run. After a No the verdict was written, and nothing of the script was
+-- read.
+abbrev pub ToldRun : Plan → Certificate → (limit spare : ℕ)
+    → Input → Output → Result Checked JobFault → Type 0
+ToldRun p t limit spare script out (Ok (Ran summary)) =
+    IsAllowed p t limit spare × RanFromOpening p script out (Ok summary)
+ToldRun p t limit spare script out (Ok (Denied f)) = (verdict_for p t limit spare ≡ No f)
+    × (out.new ≡ append_known out.old (verdict_written p (No f))) × script.unread
+ToldRun p t limit spare script out (Err fault) = RunStopped p t limit spare script out fault
+    ⊎ VerdictStopped p t limit spare script out fault
 
-abbrev pub CertAnswers : Plan → (limit spare : ℕ) → (cert script : Input) → Output → Result Checked JobFault → Type 0
-CertAnswers p limit spare cert script out result = CertRead p cert (λ t. ToldRun p t limit spare script out result) ⊎ CertRefused p cert (script.unread × out.silent) result
+-- the certificate was read and the script run after a Yes, or the certificate was refused
+abbrev pub CertAnswers : Plan → (limit spare : ℕ)
+    → (cert script : Input) → Output → Result Checked JobFault → Type 0
+CertAnswers p limit spare cert script out result =
+    CertRead p cert (λ t. ToldRun p t limit spare script out result)
+    ⊎ CertRefused p cert (script.unread × out.silent) result
 
 -- `run PLAN SCRIPT --cert CERT --limit L --spare K`
-abbrev pub CheckedJobAnswers : (limit spare : ℕ) → (plan cert script : Input) → Output → Result Checked JobFault → Type 0
+abbrev pub CheckedJobAnswers : (limit spare : ℕ)
+    → (plan cert script : Input) → Output → Result Checked JobFault → Type 0
 CheckedJobAnswers limit spare plan cert script out result =
-    PlanRead plan (λ p. CertAnswers p limit spare cert script out result) ⊎ PlanRefused plan (cert.unread × script.unread × out.silent) result
+    PlanRead plan (λ p. CertAnswers p limit spare cert script out result)
+    ⊎ PlanRefused plan (cert.unread × script.unread × out.silent) result
 
 -- 0 after a Yes, 1 after a No
 abbrev pub status_of_run : Checked → ℕ
 status_of_run (Ran summary) = 0
 status_of_run (Denied fault) = 1
 
+-- what a checked run came to, as an exit status
 abbrev pub told_status : Result Checked JobFault → Result ℕ JobFault
 told_status (Ok checked) = Ok (status_of_run checked)
 told_status (Err fault) = Err fault
 
--- the same, told as an exit status
-abbrev pub CheckedStatusAnswers : (limit spare : ℕ) → (plan cert script : Input) → Output → Result ℕ JobFault → Type 0
-CheckedStatusAnswers limit spare plan cert script out result = (answer : Result Checked JobFault) × CheckedJobAnswers limit spare plan cert script out answer × (result ≡ told_status answer)
+-- the same, as an exit status
+abbrev pub CheckedStatusAnswers : (limit spare : ℕ)
+    → (plan cert script : Input) → Output → Result ℕ JobFault → Type 0
+CheckedStatusAnswers limit spare plan cert script out result = (answer : Result Checked JobFault)
+    × CheckedJobAnswers limit spare plan cert script out answer × (result ≡ told_status answer)

@@ -13,7 +13,7 @@ use Rattle.tx_jobs.specs.declared.evidence.Evidence.{Evidence}
 use Rattle.tx_jobs.specs.declared.evidence.Evidence.TheVariants.{Sound, Unsound}
 use Rattle.tx_jobs.specs.declared.job_fault.JobFault.{JobFault}
 use Rattle.tx_jobs.specs.declared.job_fault.JobFault.TheVariants.{NoMemory}
-use Rattle.tx_jobs.specs.JobEnds.{Input, Output}
+use Rattle.tx_text.specs.Ends.{Input, Output}
 use Rattle.tx_jobs.specs.AuditJobs.{AuditJobAnswers}
 
 -- 0 after a Yes, 1 after a No
@@ -21,32 +21,40 @@ abbrev pub status_of_evidence : {A : Type 0} → Evidence A → ℕ
 status_of_evidence (Sound plan cert) = 0
 status_of_evidence (Unsound script) = 1
 
--- The script has the plan and the events of the first finding that has some, and these show one of the findings, so the plan is not sound. There is none
--- exactly where no finding has events.
-pub record ShowsFirst {A : Type 0} (p : Plan) (limit spare : ℕ) (findings : List (Finding A)) (script : Option (CounterScript A)) : Type 0 where
+-- The script has the plan and the events of the first finding that has some, and these show one of
+-- the findings, so the plan is not sound. There is none exactly where no finding has events.
+pub record ShowsFirst {A : Type 0} (p : Plan) (limit spare : ℕ)
+    (findings : List (Finding A)) (script : Option (CounterScript A)) : Type 0 where
   pub plan : IfSome script (λ s. s.plan ≡ p)
   pub events : option_map (λ s. s.events.items) script ≡ first_counter_of p findings
   pub which : is_some script ≡ list_any (has_counter p) findings
   pub shows : IfSome script (λ s. ShowsOne p limit spare findings s.events.items)
 
 -- the script of some findings, or there was no memory for it
-abbrev pub IsScriptOf : {A : Type 0} → Plan → (limit spare : ℕ) → List (Finding A) → Result (Evidence A) JobFault → Type 0
+abbrev pub IsScriptOf : {A : Type 0} → Plan → (limit spare : ℕ)
+    → List (Finding A) → Result (Evidence A) JobFault → Type 0
 IsScriptOf p limit spare findings (Ok (Unsound script)) = ShowsFirst p limit spare findings script
 IsScriptOf p limit spare findings (Err NoMemory) = Unit {0}
 IsScriptOf p limit spare findings other = ⊥
 
 -- the certificate after a Yes, and the script after a No where it is asked for
-abbrev pub IsEvidenceOf : {A : Type 0} → (with_script : Bool) → (limit spare : ℕ) → Audited A → Result (Evidence A) JobFault → Type 0
+abbrev pub IsEvidenceOf : {A : Type 0} → (with_script : Bool)
+    → (limit spare : ℕ) → Audited A → Result (Evidence A) JobFault → Type 0
 IsEvidenceOf with_script limit spare (FoundSound p cert) result = result ≡ Ok (Sound p cert)
-IsEvidenceOf true limit spare (FoundUnsound p findings) result = IsScriptOf p limit spare findings.items result
+IsEvidenceOf true limit spare (FoundUnsound p findings) result =
+    IsScriptOf p limit spare findings.items result
 IsEvidenceOf false limit spare (FoundUnsound p findings) result = result ≡ Ok (Unsound None)
 
 -- what shows the verdict of an audit, or the fault that stopped it
-abbrev pub TellsEvidence : {A : Type 0} → (with_script : Bool) → (limit spare : ℕ) → Result (Audited A) JobFault → Result (Evidence A) JobFault → Type 0
-TellsEvidence with_script limit spare (Ok audited) result = IsEvidenceOf with_script limit spare audited result
+abbrev pub TellsEvidence : {A : Type 0} → (with_script : Bool)
+    → (limit spare : ℕ) → Result (Audited A) JobFault → Result (Evidence A) JobFault → Type 0
+TellsEvidence with_script limit spare (Ok audited) result =
+    IsEvidenceOf with_script limit spare audited result
 TellsEvidence with_script limit spare (Err fault) result = result ≡ Err fault
 
--- THE PLAN WAS AUDITED, and then what shows the verdict was made.
-abbrev pub EvidenceJobAnswers : {A : Type 0} → (with_script : Bool) → (limit spare : ℕ) → Input → Output → Result (Evidence A) JobFault → Type 0
+-- The plan was audited, and then what shows the verdict was made.
+abbrev pub EvidenceJobAnswers : {A : Type 0} → (with_script : Bool)
+    → (limit spare : ℕ) → Input → Output → Result (Evidence A) JobFault → Type 0
 EvidenceJobAnswers {A} with_script limit spare plan out result =
-    (answer : Result (Audited A) JobFault) × AuditJobAnswers limit spare plan out answer × TellsEvidence with_script limit spare answer result
+    (answer : Result (Audited A) JobFault) × AuditJobAnswers limit spare plan out answer
+    × TellsEvidence with_script limit spare answer result

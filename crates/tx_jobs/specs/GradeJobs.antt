@@ -2,9 +2,9 @@
 use Rattle.std.specs.Prelude.{◌≡◌, ◌≢◌, ◌⊎◌, if◌then◌else◌, ℕ, List, [], Option, Some, None, is_some, Result, Ok, Err}
 use Rattle.std.specs.Io.KnownBytes.{append_known}
 use Rattle.std.specs.List.{AllByRecursion}
-use Rattle.tx_text.specs.Ends.{StopsIn}
+use Rattle.tx_text.specs.Ends.{StopsIn, Input, Output}
 use Rattle.tx_plan.specs.Plan.{Plan}
-use Rattle.tx_state.specs.Sound.{IsSound}
+use Rattle.tx_machine.specs.Sound.{IsSound}
 use Rattle.tx_rank.specs.declared.finding.Finding.{Finding}
 use Rattle.tx_rank.specs.declared.plan_grade.Grade.{Grade}
 use Rattle.tx_rank.specs.declared.bounds.Bounds.{Bounds}
@@ -13,10 +13,10 @@ use Rattle.tx_rank.specs.Grades.{AreBounds, CanBeCertified, AreCodeGrades, AreUn
 use Rattle.tx_audit.specs.GradeText.{grade_text}
 use Rattle.tx_jobs.specs.declared.job_fault.JobFault.{JobFault}
 use Rattle.tx_jobs.specs.declared.job_fault.JobFault.TheVariants.{Write, NoMemory}
-use Rattle.tx_jobs.specs.JobEnds.{Input, Output}
 use Rattle.tx_jobs.specs.Jobs.{PlanRead, PlanRefused}
 
--- no ranks certify the plan, whatever the limit and the spare number, and the findings say why: those that the rules list, in order, each true
+-- no ranks certify the plan, whatever the limit and the spare number, and the findings say why:
+-- those that the rules list, in order, each true
 pub record IsUngraded {A : Type 0} (p : Plan) (findings : List (Finding A)) : Type 0 where
   pub nowhere : (limit spare : ℕ) → CanBeCertified p limit spare → ⊥
   pub some : findings ≢ []
@@ -30,7 +30,7 @@ IsGradeOfPlan p (Some b) findings =
     AreBounds (CanBeCertified p) b × AreBounds (IsSound p) b × (findings ≡ [])
 IsGradeOfPlan p None findings = IsUngraded p findings
 
--- THE GRADE OF A PLAN, and those of its codes
+-- the grade of a plan, and those of its codes
 abbrev pub IsGradeOf : {A : Type 0} → Plan → Grade A → Type 0
 IsGradeOf p g = IsGradeOfPlan p g.plan g.findings.items × AreCodeGrades p g.codes.items
 
@@ -40,25 +40,29 @@ pub record GradedInPart (A : Type 0) (p : Plan) (out : Output) : Type 0 where
   pub right : IsGradeOf p grade
   pub wrote : StopsIn out.old out.new (grade_text p grade)
 
--- the grade was written, and is told
+-- the grade was written, and is the answer
 abbrev pub ToldGrade : {A : Type 0} → Plan → Output → Result (Grade A) JobFault → Type 0
-ToldGrade p out (Ok grade) = IsGradeOf p grade × (out.new ≡ append_known out.old (grade_text p grade))
+ToldGrade p out (Ok grade) = IsGradeOf p grade
+    × (out.new ≡ append_known out.old (grade_text p grade))
 ToldGrade {A} p out (Err Write) = GradedInPart A p out
 ToldGrade p out (Err NoMemory) = out.silent
 ToldGrade p out (Err other) = ⊥
 
 -- `grade PLAN`
 abbrev pub GradeJobAnswers : {A : Type 0} → Input → Output → Result (Grade A) JobFault → Type 0
-GradeJobAnswers plan out result = PlanRead plan (λ p. ToldGrade p out result) ⊎ PlanRefused plan out.silent result
+GradeJobAnswers plan out result = PlanRead plan (λ p. ToldGrade p out result)
+    ⊎ PlanRefused plan out.silent result
 
 -- 0 where there is a grade, else 1
 abbrev pub status_of_grade : {A : Type 0} → Grade A → ℕ
 status_of_grade g = if is_some g.plan then 0 else 1
 
+-- a grade, as an exit status
 abbrev pub told_grade_status : {A : Type 0} → Result (Grade A) JobFault → Result ℕ JobFault
 told_grade_status (Ok grade) = Ok (status_of_grade grade)
 told_grade_status (Err fault) = Err fault
 
--- the same, told as an exit status
+-- the same, as an exit status
 abbrev pub GradeStatusAnswers : (A : Type 0) → Input → Output → Result ℕ JobFault → Type 0
-GradeStatusAnswers A plan out result = (answer : Result (Grade A) JobFault) × GradeJobAnswers plan out answer × (result ≡ told_grade_status answer)
+GradeStatusAnswers A plan out result = (answer : Result (Grade A) JobFault)
+    × GradeJobAnswers plan out answer × (result ≡ told_grade_status answer)

@@ -5,7 +5,7 @@ use Rattle.tx_plan.specs.Plan.{Plan}
 use Rattle.tx_plan.specs.Rules.{IsPlan}
 use Rattle.tx_plan.specs.Ambiguous.{ambiguous_of}
 use Rattle.tx_trie.specs.CodesText.{codes_text}
-use Rattle.tx_text.specs.Ends.{StopsIn}
+use Rattle.tx_text.specs.Ends.{StopsIn, Input, Output}
 use Rattle.std.specs.Io.KnownBytes.{append_known}
 use Rattle.tx_plantext.specs.declared.fault.PlanWord.{PlanWord}
 use Rattle.tx_plantext.specs.PlanText.{SaysPlan, ReadsPlan}
@@ -15,17 +15,17 @@ use Rattle.tx_audit.specs.CheckedRuns.{RanFromOpening}
 use Rattle.tx_jobs.specs.declared.job_fault.JobFault.{JobFault}
 use Rattle.tx_jobs.specs.declared.job_fault.JobFault.TheVariants.{Write, NoMemory}
 use Rattle.tx_jobs.specs.JobFaults.{plan_fault, run_fault}
-use Rattle.tx_jobs.specs.JobEnds.{Input, Output, bytes_moved}
 
--- what a run answers, as a job tells it
+-- what a run answers, as a job reports it
 abbrev pub told_run : Result Summary RunFault → Result Summary JobFault
 told_run (Ok summary) = Ok summary
 told_run (Err f) = Err (run_fault f)
 
 -- the script was run over a network of the plan, from the opening state
-pub record RanPlan (p : Plan) (script : Input) (out : Output) (result : Result Summary JobFault) : Type 0 where
+pub record RanPlan (p : Plan) (script : Input)
+    (out : Output) (result : Result Summary JobFault) : Type 0 where
   pub answer : Result Summary RunFault
-  pub ran : RanFromOpening p (bytes_moved script out) script.broken (script.unread × out.silent) answer
+  pub ran : RanFromOpening p script out answer
   pub told : result ≡ told_run answer
 
 -- there was no memory for the network, and nothing was read or written
@@ -40,39 +40,46 @@ ScriptRan p script out result = RanPlan p script out result ⊎ HadNoRoom script
 pub record PlanRead (text : Input) (after : Plan → Type 0) : Type 0 where
   pub plan : Plan
   pub rules : IsPlan plan
-  pub read : SaysPlan text.old text.new plan
+  pub read : SaysPlan text plan
   pub goes_on : after plan
 
 -- the plan was refused, and nothing else was read or written
-pub record PlanRefused {X : Type 0} (text : Input) (untouched : Type 0) (result : Result X JobFault) : Type 0 where
+pub record PlanRefused {X : Type 0} (text : Input)
+    (untouched : Type 0) (result : Result X JobFault) : Type 0 where
   pub fault : FaultAt PlanWord
-  pub read : ReadsPlan text.old text.new text.broken text.unread (Err (fault.line, fault.kind))
+  pub read : ReadsPlan text (Err (fault.line, fault.kind))
   pub told : result ≡ Err (plan_fault fault)
   pub rest : untouched
 
 -- `run PLAN SCRIPT`
 abbrev pub RunJobAnswers : (plan script : Input) → Output → Result Summary JobFault → Type 0
-RunJobAnswers plan script out result = PlanRead plan (λ p. ScriptRan p script out result) ⊎ PlanRefused plan (script.unread × out.silent) result
+RunJobAnswers plan script out result = PlanRead plan (λ p. ScriptRan p script out result)
+    ⊎ PlanRefused plan (script.unread × out.silent) result
 
--- `codes PLAN`: the codes and the least ambiguous pair were written, and that pair is told
+-- `codes PLAN`: the codes and the least ambiguous pair were written, and that pair is the answer
 abbrev pub ToldCodes : Plan → Output → Result (Option (ℕ × ℕ)) JobFault → Type 0
-ToldCodes p out (Ok pair) = (pair ≡ ambiguous_of p.codes) × (out.new ≡ append_known out.old (codes_text p))
+ToldCodes p out (Ok pair) = (pair ≡ ambiguous_of p.codes)
+    × (out.new ≡ append_known out.old (codes_text p))
 ToldCodes p out (Err Write) = StopsIn out.old out.new (codes_text p)
 ToldCodes p out (Err NoMemory) = out.silent
 ToldCodes p out (Err other) = ⊥
 
+-- `codes PLAN`: the plan was read and its codes were written, or it was refused
 abbrev pub CodesJobAnswers : Input → Output → Result (Option (ℕ × ℕ)) JobFault → Type 0
-CodesJobAnswers plan out result = PlanRead plan (λ p. ToldCodes p out result) ⊎ PlanRefused plan out.silent result
+CodesJobAnswers plan out result = PlanRead plan (λ p. ToldCodes p out result)
+    ⊎ PlanRefused plan out.silent result
 
 -- 1 where a code begins another, else 0
 abbrev pub status_of_codes : Option (ℕ × ℕ) → ℕ
 status_of_codes None = 0
 status_of_codes (Some pair) = 1
 
+-- a pair of codes, as an exit status
 abbrev pub told_codes_status : Result (Option (ℕ × ℕ)) JobFault → Result ℕ JobFault
 told_codes_status (Ok pair) = Ok (status_of_codes pair)
 told_codes_status (Err fault) = Err fault
 
--- the same, told as an exit status
+-- the same, as an exit status
 abbrev pub CodesStatusAnswers : Input → Output → Result ℕ JobFault → Type 0
-CodesStatusAnswers plan out result = (answer : Result (Option (ℕ × ℕ)) JobFault) × CodesJobAnswers plan out answer × (result ≡ told_codes_status answer)
+CodesStatusAnswers plan out result = (answer : Result (Option (ℕ × ℕ)) JobFault)
+    × CodesJobAnswers plan out answer × (result ≡ told_codes_status answer)

@@ -1,5 +1,4 @@
 pub mod JobFaults
-pub mod JobEnds
 pub mod Jobs
 pub mod PipeJobs
 pub mod CheckJobs
@@ -19,3 +18,4 @@ pub mod Evidences
 pub mod ChangeEvidences
 pub mod CheckedJobs
 pub mod inner
+pub mod Parts

@@ -1,20 +1,19 @@
 -- What `lint PLAN` answers.
 use Rattle.std.specs.Prelude.{◌≡◌, ◌⊎◌, ℕ, List, Result, Ok, Err}
 use Rattle.std.specs.Io.KnownBytes.{append_known}
-use Rattle.tx_text.specs.Ends.{StopsIn}
+use Rattle.tx_text.specs.Ends.{StopsIn, Input, Output}
 use Rattle.tx_lint.specs.declared.fault.LintFault.{LintFault}
 use Rattle.tx_lint.specs.declared.fault.LintFault.TheVariants.{Read as LintRead, NoMemory as LintNoMemory}
 use Rattle.tx_lint.specs.Lints.{Lint, IsLintOf, lint_text, lint_status, IsWholeText}
 use Rattle.tx_jobs.specs.declared.job_fault.JobFault.{JobFault}
 use Rattle.tx_jobs.specs.declared.job_fault.JobFault.TheVariants.{Read, Write, NoMemory}
-use Rattle.tx_jobs.specs.JobEnds.{Input, Output}
 
--- why a text was not looked through, as a job tells it
+-- why a text was not looked through, as a job reports it
 abbrev pub lint_fault : LintFault → JobFault
 lint_fault LintRead = Read
 lint_fault LintNoMemory = NoMemory
 
--- what is to be said was written, and its status is told; or a front of it before the sink failed
+-- all lines were written, and their status is the answer; or a front of them, and the sink failed
 abbrev pub ToldLint : (file : List ℕ) → Lint → Output → Result ℕ JobFault → Type 0
 ToldLint file l out (Ok status) =
     (status ≡ lint_status l) × (out.new ≡ append_known out.old (lint_text file l))

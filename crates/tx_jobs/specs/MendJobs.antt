@@ -9,10 +9,10 @@ use Rattle.tx_mend_report.specs.declared.reporting.MendFault.TheVariants.{Write 
 use Rattle.tx_mend_report.specs.MendAnswers.{IsRightMending, mend_report, MendToldInPart}
 use Rattle.tx_jobs.specs.declared.job_fault.JobFault.{JobFault}
 use Rattle.tx_jobs.specs.declared.job_fault.JobFault.TheVariants.{Write, NoMemory}
-use Rattle.tx_jobs.specs.JobEnds.{Input, Output}
+use Rattle.tx_text.specs.Ends.{Input, Output}
 use Rattle.tx_jobs.specs.Jobs.{PlanRead, PlanRefused}
 
--- why there is no whole report, as a job tells it
+-- why there is no whole report, as a job reports it
 abbrev pub mend_fault : MendFault → JobFault
 mend_fault MendWrite = Write
 mend_fault MendNoMemory = NoMemory
@@ -22,7 +22,7 @@ abbrev pub ToldMending : {A : Type 0} → Plan → (limit spare : ℕ) → Outpu
     → Result (Mending A) JobFault → Type 0
 ToldMending p limit spare out (Ok m) = IsRightMending p limit spare m
     × (out.new ≡ append_known out.old (mend_report limit spare m))
-ToldMending {A} p limit spare out (Err Write) = MendToldInPart A p limit spare out.old out.new
+ToldMending {A} p limit spare out (Err Write) = MendToldInPart A p limit spare out
 ToldMending p limit spare out (Err NoMemory) = out.silent
 ToldMending p limit spare out (Err other) = ⊥
 

@@ -1,8 +1,6 @@
--- Why the job of outages stops, and what is told of it.
+-- Why the job of outages stops, and what is reported of it.
 use Rattle.std.specs.Prelude.{ℕ, Bool, List, Result, Ok, Err, codes}
-use Rattle.tx_text.specs.declared.text_fault.TextFault.TheVariants.{NoMemory as TextNoMemory}
-use Rattle.tx_text.specs.declared.line_fault.LineFault.TheVariants.{Text, Read as LineRead}
-use Rattle.tx_text.specs.declared.frame.FrameFault.TheVariants.{Line}
+use Rattle.tx_text.specs.declared.frame.FrameFault.TheVariants.{Read as LineRead, NoMemory as TextNoMemory}
 use Rattle.tx_text.specs.declared.frame.FaultAt.{FaultAt}
 use Rattle.tx_text.specs.declared.frame.FaultKind.{FaultKind}
 use Rattle.tx_text.specs.declared.frame.FaultKind.TheVariants.{Frame, Word}
@@ -19,26 +17,28 @@ abbrev pub status_of_survive : SurviveFault → ℕ
 status_of_survive (Job f) = status_of f
 status_of_survive (Risks f) = 2
 
--- A failure to read and a want of memory are told as such.
+-- A failure to read and a lack of memory are reported as such.
 abbrev pub risks_fault_by : FaultAt RiskWord → FaultKind RiskWord → SurviveFault
-risks_fault_by f (Frame (Line LineRead)) = Job Read
-risks_fault_by f (Frame (Line (Text TextNoMemory))) = Job NoMemory
+risks_fault_by f (Frame LineRead) = Job Read
+risks_fault_by f (Frame TextNoMemory) = Job NoMemory
 risks_fault_by f (Word RiskNoMemory) = Job NoMemory
 risks_fault_by f k = Risks f
 
+-- a fault of the text of risks
 abbrev pub risks_fault : FaultAt RiskWord → SurviveFault
 risks_fault f = risks_fault_by f f.kind
 
--- THE SINK'S MARK
+-- the sink's mark after a fault: set where a write fault is reported, and otherwise as before
 abbrev pub survive_mark_by : Bool → SurviveFault → Bool
 survive_mark_by old (Job f) = mark_by old f
 survive_mark_by old (Risks f) = old
 
+-- the sink's mark after the job
 abbrev pub survive_mark_after : {X : Type 0} → Bool → Result X SurviveFault → Bool
 survive_mark_after old (Ok x) = old
 survive_mark_after old (Err f) = survive_mark_by old f
 
--- THE LINE that tells a fault
+-- the line that says why the job of outages stopped
 abbrev pub survive_fault_line : SurviveFault → List ℕ
 survive_fault_line (Job f) = fault_line f
 survive_fault_line (Risks f) = text_fault_line (codes "risks") f.line (fault_row f.kind)

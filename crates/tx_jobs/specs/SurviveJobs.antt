@@ -1,7 +1,7 @@
 -- What `survive PLAN` answers: what its calls do, one after another.
 use Rattle.std.specs.Prelude.{◌≡◌, ◌⊎◌, ℕ, List, [], ◌∷◌, None, Result, Ok, Err}
 use Rattle.std.specs.Io.KnownBytes.{append_known}
-use Rattle.tx_text.specs.Ends.{StopsIn}
+use Rattle.tx_text.specs.Ends.{StopsIn, Input, Output}
 use Rattle.tx_text.specs.declared.frame.FaultAt.{FaultAt}
 use Rattle.tx_plan.specs.Plan.{Plan}
 use Rattle.tx_plantext.specs.declared.fault.PlanWord.{PlanWord}
@@ -19,11 +19,10 @@ use Rattle.tx_jobs.specs.declared.survive_fault.SurviveFault.{SurviveFault}
 use Rattle.tx_jobs.specs.declared.survive_fault.SurviveFault.TheVariants.{Job, Risks}
 use Rattle.tx_jobs.specs.JobFaults.{plan_fault}
 use Rattle.tx_jobs.specs.SurviveFaults.{risks_fault}
-use Rattle.tx_jobs.specs.JobEnds.{Input, Output}
 use Rattle.tx_jobs.specs.Jobs.{PlanRead, PlanRefused}
 use Rattle.tx_jobs.specs.GradeJobs.{IsGradeOf}
 
--- WHAT OUTAGES COME TO: what each group, each exchange and each named risk cuts off alone; or its
+-- what outages come to: what each group, each exchange and each named risk cuts off alone; or its
 -- grade, where the plan has none
 abbrev pub IsSurvivalOf : {A : Type 0} → Plan → List NamedRisk → Survival A → Type 0
 IsSurvivalOf p risks (Tried cuts) = AreAllCuts p risks cuts.items
@@ -51,8 +50,6 @@ abbrev pub SurviveJobAnswers : {A : Type 0} → Input → Output → Result (Sur
 SurviveJobAnswers plan out result =
     PlanRead plan (λ p. ToldSurvival p [] out result) ⊎ PlanRefused plan out.silent result
 
--- WITH A TEXT OF RISKS
-
 -- the same, once the text was read
 abbrev pub ToldOfRisks : {A : Type 0} → Plan → List NamedRisk → Output
     → Result (Survival A) SurviveFault → Type 0
@@ -64,17 +61,18 @@ ToldOfRisks p risks out (Err (Risks f)) = ⊥
 pub record RisksRead (p : Plan) (text : Input) (after : List NamedRisk → Type 0) : Type 0 where
   pub risks : List NamedRisk
   pub fit : AreRisksFor p risks
-  pub read : ReadsRisks p text.old text.new text.broken text.unread (Ok risks)
+  pub read : ReadsRisks p text (Ok risks)
   pub goes_on : after risks
 
 -- the text of risks was refused, and nothing was written
 pub record RisksRefused {X : Type 0} (p : Plan) (text : Input) (untouched : Type 0)
     (result : Result X SurviveFault) : Type 0 where
   pub fault : FaultAt RiskWord
-  pub read : ReadsRisks p text.old text.new text.broken text.unread (Err (fault.line, fault.kind))
+  pub read : ReadsRisks p text (Err (fault.line, fault.kind))
   pub told : result ≡ Err (risks_fault fault)
   pub rest : untouched
 
+-- the text of risks was read and the outages tried, or the text was refused
 abbrev pub RisksAnswers : {A : Type 0} → Plan → Input → Output → Result (Survival A) SurviveFault
     → Type 0
 RisksAnswers p risks out result =
@@ -84,7 +82,7 @@ RisksAnswers p risks out result =
 pub record RefusedFirst {X : Type 0} (text : Input) (untouched : Type 0)
     (result : Result X SurviveFault) : Type 0 where
   pub fault : FaultAt PlanWord
-  pub read : ReadsPlan text.old text.new text.broken text.unread (Err (fault.line, fault.kind))
+  pub read : ReadsPlan text (Err (fault.line, fault.kind))
   pub told : result ≡ Err (Job (plan_fault fault))
   pub rest : untouched
 
@@ -95,11 +93,12 @@ SurviveRisksJobAnswers plan risks out result =
     PlanRead plan (λ p. RisksAnswers p risks out result)
     ⊎ RefusedFirst plan (risks.unread × out.silent) result
 
--- THE EXIT STATUS: 0 where nothing is cut off, else 1; 1 too where the plan has no grade
+-- the exit status: 0 where nothing is cut off, else 1; 1 too where the plan has no grade
 abbrev pub status_of_cuts : {A : Type 0} → List A → ℕ
 status_of_cuts [] = 0
 status_of_cuts (cut ∷ cuts) = 1
 
+-- the exit status of what was found
 abbrev pub status_of_survival : {A : Type 0} → Survival A → ℕ
 status_of_survival (Tried cuts) = status_of_cuts cuts.items
 status_of_survival (Ungraded grade) = 1

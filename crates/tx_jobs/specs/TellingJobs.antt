@@ -1,35 +1,23 @@
--- What a run answers where more is told: each event before its reply, a summary, or that an event
--- was refused.
+-- What a run answers where more is printed: each event before its reply, a summary, or by the exit
+-- status that an event was refused.
 use Rattle.std.specs.Prelude.{◌≡◌, ◌⊎◌, ℕ, Bool, not, ◌&&◌, ◌==◌, if◌then◌else◌, Result}
 use Rattle.tx_plan.specs.Plan.{Plan}
-use Rattle.tx_state.specs.State.{State, opening}
+use Rattle.tx_machine.specs.State.{State}
 use Rattle.tx_script.specs.declared.summary.Summary.{Summary}
 use Rattle.tx_script.specs.declared.run_fault.RunFault.{RunFault}
-use Rattle.tx_script.specs.declared.telling.Telling.{Telling}
-use Rattle.tx_script.specs.Answers.{Moved}
+use Rattle.tx_script.specs.declared.teller.Telling.{Telling}
 use Rattle.tx_script.specs.TellingAnswers.{TellingAnswers}
+use Rattle.tx_audit.specs.CheckedRuns.{from_opening}
 use Rattle.tx_jobs.specs.declared.job_fault.JobFault.{JobFault}
-use Rattle.tx_jobs.specs.JobEnds.{Input, Output}
+use Rattle.tx_text.specs.Ends.{Input, Output}
 use Rattle.tx_jobs.specs.Jobs.{PlanRead, PlanRefused, HadNoRoom, told_run}
 
--- what a run of the script moved, from the opening state to this one
-abbrev pub moved_to : State → Input → Output → Moved
-moved_to state script out = record {
-  rest_old = script.old;
-  rest_new = script.new;
-  taken_old = out.old;
-  taken_new = out.new;
-  state_old = opening 0 0;
-  state_new = state;
-}
-
--- the script was run over a network of the plan, from the opening state, and its events were told
+-- the script was run over a network of the plan, from the opening state, and its events printed
 pub record ToldPlan (p : Plan) (t : Telling) (script : Input) (out : Output)
     (result : Result Summary JobFault) : Type 0 where
   pub state : State
   pub answer : Result Summary RunFault
-  pub ran : TellingAnswers p t (moved_to state script out) script.broken
-      ((script.unread × out.silent) × (state ≡ opening 0 0)) answer
+  pub ran : TellingAnswers p t script (from_opening state) out answer
   pub told : result ≡ told_run answer
 
 -- the script was run, or there was no memory for the network

@@ -1,14 +1,13 @@
 -- What `trace PLAN EXCHANGE CODE` answers.
 use Rattle.std.specs.Prelude.{◌≡◌, ◌⊎◌, ℕ, List, Option, None, Some, Result, Ok, Err}
 use Rattle.std.specs.Io.KnownBytes.{append_known}
-use Rattle.tx_text.specs.Ends.{StopsIn}
+use Rattle.tx_text.specs.Ends.{StopsIn, Input, Output}
 use Rattle.tx_plan.specs.Plan.{Plan, exchange_named, code_named}
 use Rattle.tx_trace.specs.TraceText.{trace_text}
 use Rattle.tx_jobs.specs.declared.job_fault.JobFault.{JobFault}
 use Rattle.tx_jobs.specs.declared.job_fault.JobFault.TheVariants.{Write, NoMemory}
-use Rattle.tx_jobs.specs.declared.traced.Traced.{Traced}
-use Rattle.tx_jobs.specs.declared.traced.Traced.TheVariants.{Trace, NoSuchExchange, NoSuchCode}
-use Rattle.tx_jobs.specs.JobEnds.{Input, Output}
+use Rattle.tx_jobs.specs.declared.trace.Traced.{Traced}
+use Rattle.tx_jobs.specs.declared.trace.Traced.TheVariants.{Trace, NoSuchExchange, NoSuchCode}
 use Rattle.tx_jobs.specs.Jobs.{PlanRead, PlanRefused}
 
 -- the text was written, or a front of it before the sink failed, or there was no memory for it, and

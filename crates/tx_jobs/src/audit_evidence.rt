@@ -5,7 +5,7 @@ ghost use Rattle.tx_text.specs.Calls.{CallsAtMost, source_calls};
 ghost use Rattle.tx_rank.specs.Findings.{IsTrueOf};
 ghost use Rattle.tx_audit.specs.Audits.{OnUnsound};
 ghost use Rattle.tx_jobs.specs.JobFaults.{mark_after};
-ghost use Rattle.tx_jobs.specs.JobEnds.{input, output};
+ghost use Rattle.tx_text.specs.Ends.{input, output};
 ghost use Rattle.tx_jobs.specs.Evidences.{EvidenceJobAnswers, IsEvidenceOf, IsScriptOf};
 
 use crate::audit::audit_job;
@@ -17,9 +17,11 @@ use tx_plan::Plan;
 use tx_rank::Finding;
 use tx_text::{Sink, Source};
 
-/// Reads a plan, and writes the report of its audit for at most `limit` transits (0 to 62) and `spare` groups to spare (0 to 15). Answers what shows the
-/// verdict: after a Yes the certificate, and after a No, if it is asked for, the script of the first finding that has one. `Err` is the fault of the first
-/// call that failed. Where there is no memory for that script, the report was written.
+/// Reads a plan, and writes the report of its audit for at most `limit` transits (0 to 62) and
+/// `spare` groups to spare (0 to 15). Answers what shows the verdict: after a Yes the certificate,
+/// and after a No, if it is asked for, the script of the first finding that has one. `Err` is the
+/// fault of the first call that failed. Where there is no memory for that script, the report was
+/// written.
 pub fn evidence_job<A: Allocator + Copy, P: Source, W: Sink>(
     alloc: A,
     plan: &mut P,
@@ -30,14 +32,13 @@ pub fn evidence_job<A: Allocator + Copy, P: Source, W: Sink>(
 ) -> Result<Evidence<A>, JobFault>
     requires limit { limit ≤ 62 }
     requires spare { spare ≤ 15 }
-    ensures answers { EvidenceJobAnswers with_script limit spare (input P.rest P.failed P.called plan.old plan.new) (output W.taken out.old out.new) result }
+    ensures answers { EvidenceJobAnswers with_script limit spare
+        (input P.rest P.failed P.called plan.old plan.new) (output W.taken out.old out.new) result }
     ensures mark { W.failed out.new ≡ mark_after (W.failed out.old) result }
     ensures calls { CallsAtMost P.called source_calls plan.old plan.new }
 {
-    match audit_job(alloc, plan, limit, spare, out) {
-        Ok(audited) => evidence_of(alloc, audited, limit, spare, with_script),
-        Err(fault) => Err(fault),
-    }
+    let audited = audit_job(alloc, plan, limit, spare, out)?;
+    evidence_of(alloc, audited, limit, spare, with_script)
 }
 
 /// What shows the verdict of an audit.
@@ -57,8 +58,6 @@ fn evidence_of<A: Allocator + Copy>(
             if with_script {
                 script_of(alloc, plan, findings, limit, spare)
             } else {
-                drop(findings);
-                drop(plan);
                 Ok(Evidence::Unsound(None))
             }
         }
@@ -76,17 +75,8 @@ fn script_of<A: Allocator + Copy>(
     requires { AllByRecursion (IsTrueOf plan limit spare) findings.items }
     ensures { IsScriptOf plan limit spare findings.items result }
 {
-    let events = first_counter(alloc, &plan, findings.as_slice(), limit, spare);
-    drop(findings);
-    match events {
-        Ok(Some(events)) => Ok(Evidence::Unsound(Some(CounterScript { plan, events }))),
-        Ok(None) => {
-            drop(plan);
-            Ok(Evidence::Unsound(None))
-        }
-        Err(_) => {
-            drop(plan);
-            Err(JobFault::NoMemory)
-        }
+    match first_counter(alloc, &plan, findings.as_slice(), limit, spare)? {
+        Some(events) => Ok(Evidence::Unsound(Some(CounterScript { plan, events }))),
+        None => Ok(Evidence::Unsound(None)),
     }
 }

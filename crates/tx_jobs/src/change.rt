@@ -5,11 +5,10 @@ ghost use Rattle.tx_text.specs.Calls.{CallsAtMost, source_calls};
 ghost use Rattle.tx_plan.specs.Mixtures.{SameNetwork};
 ghost use Rattle.tx_change.specs.Shown.{IsShown};
 ghost use Rattle.tx_jobs.specs.ChangeFaults.{change_mark_after};
-ghost use Rattle.tx_jobs.specs.JobEnds.{input, output};
+ghost use Rattle.tx_text.specs.Ends.{input, output};
 ghost use Rattle.tx_jobs.specs.ChangeJobs.{ChangeJobAnswers, NewPlanAnswers, ToldChange, OnUnsoundChange};
 
 use crate::change_fault::ChangeFault;
-use crate::job_fault::JobFault;
 use std::alloc::{Allocator, Global};
 use tx_cert::Cert;
 use tx_change::{first_difference, report_change};
@@ -19,7 +18,7 @@ use tx_rank::{Finding, Ranking};
 use tx_text::{Sink, Source};
 
 /// What a change of plan comes to.
-#[derive(Drop)]
+#[derive(Debug, Drop)]
 pub enum Changed<A: Allocator = Global> {
     /// The change is sound, as this certificate of the old plan shows, which is one of the new plan
     /// too.
@@ -38,10 +37,7 @@ impl<A: Allocator> Changed<A> {
         ensures { result ≡ changed_of old new ranking }
     {
         match ranking {
-            Ranking::Found(cert) => {
-                drop(new);
-                Changed::Sound(old, cert)
-            }
+            Ranking::Found(cert) => Changed::Sound(old, cert),
             Ranking::Fails(findings) => Changed::Unsound(old, new, findings),
         }
     }
@@ -70,11 +66,8 @@ pub fn change_job<A: Allocator + Copy, P: Source, Q: Source, W: Sink>(
     ensures new_calls { CallsAtMost Q.called source_calls new.old new.new }
 {
     match read_plan_from(alloc, old) {
-        Ok(plan) => {
-            plan.rules();
-            change_from(alloc, plan, new, limit, spare, out)
-        }
-        Err(fault) => Err(ChangeFault::Job(JobFault::of_plan(fault))),
+        Ok(plan) => change_from(alloc, plan, new, limit, spare, out),
+        Err(fault) => Err(ChangeFault::of_old_plan(fault)),
     }
 }
 
@@ -98,14 +91,8 @@ fn change_from<A: Allocator + Copy, Q: Source, W: Sink>(
     ensures calls { CallsAtMost Q.called source_calls new.old new.new }
 {
     match read_plan_from(alloc, new) {
-        Ok(plan) => {
-            plan.rules();
-            change_into(alloc, old, plan, limit, spare, out)
-        }
-        Err(fault) => {
-            drop(old);
-            Err(ChangeFault::of_new_plan(fault))
-        }
+        Ok(plan) => change_into(alloc, old, plan, limit, spare, out),
+        Err(fault) => Err(ChangeFault::of_new_plan(fault)),
     }
 }
 
@@ -127,16 +114,8 @@ fn change_into<A: Allocator + Copy, W: Sink>(
     ensures mark { W.failed out.new ≡ change_mark_after (W.failed out.old) result }
 {
     if let Some(difference) = first_difference(&old, &new) {
-        drop(new);
-        drop(old);
         return Err(ChangeFault::TwoNetworks(difference));
     }
-    match report_change(alloc, &old, &new, limit, spare, out) {
-        Ok(ranking) => Ok(Changed::of(old, new, ranking)),
-        Err(fault) => {
-            drop(new);
-            drop(old);
-            Err(ChangeFault::Job(JobFault::of_audit(fault)))
-        }
-    }
+    let ranking = report_change(alloc, &old, &new, limit, spare, out)?;
+    Ok(Changed::of(old, new, ranking))
 }

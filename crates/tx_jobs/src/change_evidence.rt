@@ -5,13 +5,12 @@ ghost use Rattle.tx_text.specs.Calls.{CallsAtMost, source_calls};
 ghost use Rattle.tx_plan.specs.Mixtures.{SameNetwork};
 ghost use Rattle.tx_change.specs.Shown.{IsShown};
 ghost use Rattle.tx_jobs.specs.ChangeFaults.{change_mark_after};
-ghost use Rattle.tx_jobs.specs.JobEnds.{input, output};
+ghost use Rattle.tx_text.specs.Ends.{input, output};
 ghost use Rattle.tx_jobs.specs.ChangeJobs.{OnUnsoundChange};
 ghost use Rattle.tx_jobs.specs.ChangeEvidences.{ChangeEvidenceAnswers, IsChangeEvidenceOf, IsMixtureOf};
 
 use crate::change::{Changed, change_job};
 use crate::change_fault::ChangeFault;
-use crate::job_fault::JobFault;
 use crate::mixture::{ChangeEvidence, Mixture};
 use std::alloc::Allocator;
 use tx_change::first_mixture;
@@ -42,10 +41,8 @@ pub fn change_evidence_job<A: Allocator + Copy, P: Source, Q: Source, W: Sink>(
     ensures old_calls { CallsAtMost P.called source_calls old.old old.new }
     ensures new_calls { CallsAtMost Q.called source_calls new.old new.new }
 {
-    match change_job(alloc, old, new, limit, spare, out) {
-        Ok(changed) => change_evidence_of(alloc, changed, limit, spare, with_mixture),
-        Err(fault) => Err(fault),
-    }
+    let changed = change_job(alloc, old, new, limit, spare, out)?;
+    change_evidence_of(alloc, changed, limit, spare, with_mixture)
 }
 
 /// What shows the verdict on a change.
@@ -67,9 +64,6 @@ fn change_evidence_of<A: Allocator + Copy>(
             if with_mixture {
                 mixture_of(alloc, old, new, findings, limit, spare)
             } else {
-                drop(findings);
-                drop(new);
-                drop(old);
                 Ok(ChangeEvidence::Unsound(None))
             }
         }
@@ -89,12 +83,8 @@ fn mixture_of<A: Allocator + Copy>(
     requires each { AllByRecursion (IsShown old new limit spare) findings.items }
     ensures { IsMixtureOf old new limit spare findings.items result }
 {
-    let mixture = first_mixture(alloc, old, &new, findings.as_slice(), limit, spare);
-    drop(findings);
-    drop(new);
-    match mixture {
-        Ok(Some(shown)) => Ok(ChangeEvidence::Unsound(Some(Mixture::of(shown)))),
-        Ok(None) => Ok(ChangeEvidence::Unsound(None)),
-        Err(_) => Err(ChangeFault::Job(JobFault::NoMemory)),
+    match first_mixture(alloc, old, &new, findings.as_slice(), limit, spare)? {
+        Some(shown) => Ok(ChangeEvidence::Unsound(Some(Mixture::of(shown)))),
+        None => Ok(ChangeEvidence::Unsound(None)),
     }
 }

@@ -1,11 +1,16 @@
 // Why the job of a change stopped.
 ghost use Rattle.std.specs.Prelude.{◌≡◌};
-ghost use Rattle.tx_jobs.specs.ChangeFaults.{status_of_change, new_plan_fault};
+ghost use Rattle.tx_jobs.specs.declared.job_fault.JobFault.TheVariants.{NoMemory as OutOfMemory};
+ghost use Rattle.tx_jobs.specs.declared.change_fault.ChangeFault.TheVariants.{Job};
+ghost use Rattle.tx_jobs.specs.AuditJobs.{audit_fault};
+ghost use Rattle.tx_jobs.specs.ChangeFaults.{status_of_change, old_plan_fault, new_plan_fault};
 
 use crate::job_fault::JobFault;
 use thiserror::Error;
+use tx_audit::AuditFault;
 use tx_change::Difference;
 use tx_plantext::PlanFault;
+use tx_text::NoMemory;
 
 /// Why the job of a change stopped before its end. `write_change_fault` says it in full.
 #[derive(Clone, Copy, Debug, PartialEq, Eq, Error)]
@@ -21,6 +26,22 @@ pub enum ChangeFault {
     TwoNetworks(Difference),
 }
 
+impl From<AuditFault> for ChangeFault {
+    ghost from_gives = { λ audit fault. fault ≡ Job (audit_fault audit) };
+
+    fn from(fault: AuditFault) -> ChangeFault {
+        ChangeFault::Job(JobFault::from(fault))
+    }
+}
+
+impl From<NoMemory> for ChangeFault {
+    ghost from_gives = { λ _ fault. fault ≡ Job OutOfMemory };
+
+    fn from(_: NoMemory) -> ChangeFault {
+        ChangeFault::Job(JobFault::NoMemory)
+    }
+}
+
 impl ChangeFault {
     /// The exit status: 2 for a refused new plan and for two networks, otherwise that of the job's
     /// fault.
@@ -33,11 +54,17 @@ impl ChangeFault {
         }
     }
 
-    /// A failure to read and a want of memory are told as such.
+    pub(crate) fn of_old_plan(fault: PlanFault) -> ChangeFault
+        ensures { result ≡ old_plan_fault fault }
+    {
+        ChangeFault::Job(JobFault::from(fault))
+    }
+
+    /// A failure to read and a lack of memory are reported as such.
     pub(crate) fn of_new_plan(fault: PlanFault) -> ChangeFault
         ensures { result ≡ new_plan_fault fault }
     {
-        match JobFault::of_plan(fault) {
+        match JobFault::from(fault) {
             JobFault::Plan(fault) => ChangeFault::NewPlan(fault),
             other => ChangeFault::Job(other),
         }

@@ -1,7 +1,6 @@
-// The line that tells why the job of a change stopped.
-ghost use Rattle.std.specs.Prelude.{◌≡◌, true, OnOk, OnErr};
-ghost use Rattle.std.specs.Io.KnownBytes.{append_known};
-ghost use Rattle.tx_text.specs.Ends.{StopsIn};
+// The line that says why the job of a change stopped.
+ghost use Rattle.std.specs.Prelude.{◌≡◌};
+ghost use Rattle.tx_text.specs.Wrote.{Wrote};
 ghost use Rattle.tx_jobs.specs.ChangeFaults.{change_fault_line, old_fault_line, difference_line, list_word};
 
 use crate::change_fault::ChangeFault;
@@ -12,14 +11,9 @@ use tx_change::{Difference, NetworkList};
 use tx_plantext::code_and_name;
 use tx_text::{Sink, WriteFault, write_parts};
 
-/// Writes the line that tells a fault, as `telexplan: new plan line 5: P11 Overlap`, with its LF.
+/// Writes the line that reports a fault, as `telexplan: new plan line 5: P11 Overlap`, with its LF.
 pub fn write_change_fault<W: Sink>(fault: &ChangeFault, sink: &mut W) -> Result<(), WriteFault>
-    ensures ok { OnOk result (W.taken sink.new
-        ≡ append_known (W.taken sink.old) (change_fault_line fault.now)) }
-    ensures err { OnErr result (StopsIn (W.taken sink.old) (W.taken sink.new)
-        (change_fault_line fault.now)) }
-    ensures mark { OnErr result (W.failed sink.new ≡ true) }
-    ensures unmarked { OnOk result (W.failed sink.new ≡ W.failed sink.old) }
+    ensures { Wrote W.taken W.failed sink.old sink.new (change_fault_line fault.now) result }
 {
     match fault {
         ChangeFault::Job(fault) => write_old_fault(fault, sink),
@@ -33,30 +27,24 @@ pub fn write_change_fault<W: Sink>(fault: &ChangeFault, sink: &mut W) -> Result<
 
 /// Writes the line of a job's fault, where a plan that is refused is the old one.
 fn write_old_fault<W: Sink>(fault: &JobFault, sink: &mut W) -> Result<(), WriteFault>
-    ensures ok { OnOk result (W.taken sink.new
-        ≡ append_known (W.taken sink.old) (old_fault_line fault.now)) }
-    ensures err { OnErr result (StopsIn (W.taken sink.old) (W.taken sink.new)
-        (old_fault_line fault.now)) }
-    ensures mark { OnErr result (W.failed sink.new ≡ true) }
-    ensures unmarked { OnOk result (W.failed sink.new ≡ W.failed sink.old) }
+    ensures { Wrote W.taken W.failed sink.old sink.new (old_fault_line fault.now) result }
 {
     match fault {
         JobFault::Plan(fault) => {
             let row = code_and_name(fault.kind);
             write_text_fault(b"old plan", fault.line, row, sink)
         }
-        _ => write_fault(fault, sink),
+        JobFault::Cert(_)
+        | JobFault::Script(_)
+        | JobFault::Read
+        | JobFault::Write
+        | JobFault::NoMemory => write_fault(fault, sink),
     }
 }
 
 /// Writes the first entry in which two plans are not of one network, by its place from 1.
 fn write_difference<W: Sink>(difference: &Difference, sink: &mut W) -> Result<(), WriteFault>
-    ensures ok { OnOk result (W.taken sink.new
-        ≡ append_known (W.taken sink.old) (difference_line difference.now)) }
-    ensures err { OnErr result (StopsIn (W.taken sink.old) (W.taken sink.new)
-        (difference_line difference.now)) }
-    ensures mark { OnErr result (W.failed sink.new ≡ true) }
-    ensures unmarked { OnOk result (W.failed sink.new ≡ W.failed sink.old) }
+    ensures { Wrote W.taken W.failed sink.old sink.new (difference_line difference.now) result }
 {
     let mut number = Buffer::new();
     write_parts(

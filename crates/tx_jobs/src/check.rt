@@ -2,7 +2,7 @@
 ghost use Rattle.std.specs.Prelude.{◌≡◌, ◌≤◌};
 ghost use Rattle.tx_text.specs.Calls.{CallsAtMost, source_calls};
 ghost use Rattle.tx_jobs.specs.JobFaults.{mark_after};
-ghost use Rattle.tx_jobs.specs.JobEnds.{input, output};
+ghost use Rattle.tx_text.specs.Ends.{input, output};
 ghost use Rattle.tx_jobs.specs.CheckJobs.{CheckJobAnswers, CheckStatusAnswers, CheckAnswers, ToldVerdict, status_for};
 
 use crate::job_fault::JobFault;
@@ -11,10 +11,11 @@ use tx_cert::{Cert, read_cert_from};
 use tx_check::{Verdict, check, write_verdict};
 use tx_plan::Plan;
 use tx_plantext::read_plan_from;
-use tx_text::{Sink, Source, WriteFault};
+use tx_text::{Sink, Source};
 
-/// Reads a plan and then a certificate, and writes whether the plan is certified by its ranks for at most `limit` transits (0 to 62) and `spare` groups to
-/// spare (0 to 15). Answers the verdict. `Err` is the fault of the first call that failed.
+/// Reads a plan and then a certificate, and writes whether the plan is certified by its ranks for
+/// at most `limit` transits (0 to 62) and `spare` groups to spare (0 to 15). Answers the verdict.
+/// `Err` is the fault of the first call that failed.
 pub fn check_job<A: Allocator + Copy, P: Source, R: Source, W: Sink>(
     alloc: A,
     plan: &mut P,
@@ -25,23 +26,17 @@ pub fn check_job<A: Allocator + Copy, P: Source, R: Source, W: Sink>(
 ) -> Result<Verdict, JobFault>
     requires limit { limit ≤ 62 }
     requires spare { spare ≤ 15 }
-    ensures answers { CheckJobAnswers limit spare (input P.rest P.failed P.called plan.old plan.new) (input R.rest R.failed R.called cert.old cert.new) (output W.taken out.old out.new) result }
+    ensures answers { CheckJobAnswers limit spare (input P.rest P.failed P.called plan.old plan.new)
+        (input R.rest R.failed R.called cert.old cert.new) (output W.taken out.old out.new) result }
     ensures mark { W.failed out.new ≡ mark_after (W.failed out.old) result }
     ensures plan_calls { CallsAtMost P.called source_calls plan.old plan.new }
     ensures cert_calls { CallsAtMost R.called source_calls cert.old cert.new }
 {
-    match read_plan_from(alloc, plan) {
-        Ok(plan) => {
-            plan.rules();
-            let checked = check_cert(alloc, &plan, cert, limit, spare, out);
-            drop(plan);
-            checked
-        }
-        Err(fault) => Err(JobFault::of_plan(fault)),
-    }
+    let plan = read_plan_from(alloc, plan)?;
+    check_cert(alloc, &plan, cert, limit, spare, out)
 }
 
-/// The same, and answers the exit status: 0 after a Yes, 1 after a No.
+/// Does the job of `check_job`, and answers the exit status: 0 after a Yes, 1 after a No.
 pub fn check_status<A: Allocator + Copy, P: Source, R: Source, W: Sink>(
     alloc: A,
     plan: &mut P,
@@ -52,15 +47,15 @@ pub fn check_status<A: Allocator + Copy, P: Source, R: Source, W: Sink>(
 ) -> Result<u8, JobFault>
     requires limit { limit ≤ 62 }
     requires spare { spare ≤ 15 }
-    ensures answers { CheckStatusAnswers limit spare (input P.rest P.failed P.called plan.old plan.new) (input R.rest R.failed R.called cert.old cert.new) (output W.taken out.old out.new) result }
+    ensures answers { CheckStatusAnswers limit spare
+        (input P.rest P.failed P.called plan.old plan.new)
+        (input R.rest R.failed R.called cert.old cert.new) (output W.taken out.old out.new) result }
     ensures mark { W.failed out.new ≡ mark_after (W.failed out.old) result }
     ensures plan_calls { CallsAtMost P.called source_calls plan.old plan.new }
     ensures cert_calls { CallsAtMost R.called source_calls cert.old cert.new }
 {
-    match check_job(alloc, plan, cert, limit, spare, out) {
-        Ok(verdict) => Ok(status_of(&verdict)),
-        Err(fault) => Err(fault),
-    }
+    let verdict = check_job(alloc, plan, cert, limit, spare, out)?;
+    Ok(status_of(&verdict))
 }
 
 fn status_of(verdict: &Verdict) -> u8
@@ -83,14 +78,13 @@ fn check_cert<A: Allocator + Copy, R: Source, W: Sink>(
 ) -> Result<Verdict, JobFault>
     requires limit { limit ≤ 62 }
     requires spare { spare ≤ 15 }
-    ensures answers { CheckAnswers plan.now limit spare (input R.rest R.failed R.called cert.old cert.new) (output W.taken out.old out.new) result }
+    ensures answers { CheckAnswers plan.now limit spare
+        (input R.rest R.failed R.called cert.old cert.new) (output W.taken out.old out.new) result }
     ensures mark { W.failed out.new ≡ mark_after (W.failed out.old) result }
     ensures calls { CallsAtMost R.called source_calls cert.old cert.new }
 {
-    match read_cert_from(alloc, cert, plan) {
-        Ok(cert) => tell_verdict(plan, &cert, limit, spare, out),
-        Err(fault) => Err(JobFault::of_cert(fault)),
-    }
+    let cert = read_cert_from(alloc, cert, plan)?;
+    tell_verdict(plan, &cert, limit, spare, out)
 }
 
 /// Checks a certificate, and writes the verdict.
@@ -103,12 +97,11 @@ fn tell_verdict<A: Allocator, W: Sink>(
 ) -> Result<Verdict, JobFault>
     requires limit { limit ≤ 62 }
     requires spare { spare ≤ 15 }
-    ensures told { ToldVerdict plan.now cert.now limit spare (output W.taken out.old out.new) result }
+    ensures told { ToldVerdict plan.now cert.now limit spare
+        (output W.taken out.old out.new) result }
     ensures mark { W.failed out.new ≡ mark_after (W.failed out.old) result }
 {
     let verdict = check(plan, cert, limit, spare);
-    match write_verdict(&verdict, plan, out) {
-        Ok(()) => Ok(verdict),
-        Err(WriteFault) => Err(JobFault::Write),
-    }
+    write_verdict(&verdict, plan, out)?;
+    Ok(verdict)
 }

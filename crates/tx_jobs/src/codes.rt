@@ -2,52 +2,48 @@
 ghost use Rattle.std.specs.Prelude.{◌≡◌};
 ghost use Rattle.tx_text.specs.Calls.{CallsAtMost, source_calls};
 ghost use Rattle.tx_jobs.specs.JobFaults.{mark_after};
-ghost use Rattle.tx_jobs.specs.JobEnds.{input, output};
+ghost use Rattle.tx_text.specs.Ends.{input, output};
 ghost use Rattle.tx_jobs.specs.Jobs.{CodesJobAnswers, CodesStatusAnswers, ToldCodes};
 
 use crate::job_fault::JobFault;
 use std::alloc::Allocator;
 use tx_plan::{CodeId, Plan};
 use tx_plantext::read_plan_from;
-use tx_text::{Sink, Source, WriteFault};
+use tx_text::{Sink, Source};
 use tx_trie::{CodeTrie, write_codes};
 
-/// Reads a plan, and writes its codes and then the least pair of a code and a longer one that begins with it, or `DISTINCT`. Answers that pair, if there is
-/// one. `Err` is the fault of the first call that failed.
+/// Reads a plan, and writes its codes and then the least pair of a code and a longer one that
+/// begins with it, or `DISTINCT`. Answers that pair, if there is one. `Err` is the fault of the
+/// first call that failed.
 pub fn codes_job<A: Allocator + Copy, P: Source, W: Sink>(
     alloc: A,
     plan: &mut P,
     out: &mut W,
 ) -> Result<Option<(CodeId, CodeId)>, JobFault>
-    ensures answers { CodesJobAnswers (input P.rest P.failed P.called plan.old plan.new) (output W.taken out.old out.new) result }
+    ensures answers { CodesJobAnswers (input P.rest P.failed P.called plan.old plan.new)
+        (output W.taken out.old out.new) result }
     ensures mark { W.failed out.new ≡ mark_after (W.failed out.old) result }
     ensures calls { CallsAtMost P.called source_calls plan.old plan.new }
 {
-    match read_plan_from(alloc, plan) {
-        Ok(plan) => {
-            plan.rules();
-            let told = tell_codes(alloc, &plan, out);
-            drop(plan);
-            told
-        }
-        Err(fault) => Err(JobFault::of_plan(fault)),
-    }
+    let plan = read_plan_from(alloc, plan)?;
+    tell_codes(alloc, &plan, out)
 }
 
-/// The same, and answers the exit status: 0 where no code begins another, else 1.
+/// Does the job of `codes_job`, and answers the exit status: 0 where no code begins another, else
+/// 1.
 pub fn codes_status<A: Allocator + Copy, P: Source, W: Sink>(
     alloc: A,
     plan: &mut P,
     out: &mut W,
 ) -> Result<u8, JobFault>
-    ensures answers { CodesStatusAnswers (input P.rest P.failed P.called plan.old plan.new) (output W.taken out.old out.new) result }
+    ensures answers { CodesStatusAnswers (input P.rest P.failed P.called plan.old plan.new)
+        (output W.taken out.old out.new) result }
     ensures mark { W.failed out.new ≡ mark_after (W.failed out.old) result }
     ensures calls { CallsAtMost P.called source_calls plan.old plan.new }
 {
-    match codes_job(alloc, plan, out) {
-        Ok(None) => Ok(0),
-        Ok(Some(_)) => Ok(1),
-        Err(fault) => Err(fault),
+    match codes_job(alloc, plan, out)? {
+        None => Ok(0),
+        Some(_) => Ok(1),
     }
 }
 
@@ -59,11 +55,7 @@ fn tell_codes<A: Allocator + Copy, W: Sink>(
     ensures told { ToldCodes plan.now (output W.taken out.old out.new) result }
     ensures mark { W.failed out.new ≡ mark_after (W.failed out.old) result }
 {
-    match CodeTrie::build(alloc, plan) {
-        Err(_) => Err(JobFault::NoMemory),
-        Ok(trie) => match write_codes(plan, &trie, out) {
-            Ok(()) => Ok(trie.ambiguous()),
-            Err(WriteFault) => Err(JobFault::Write),
-        },
-    }
+    let trie = CodeTrie::build(alloc, plan)?;
+    write_codes(plan, &trie, out)?;
+    Ok(trie.ambiguous())
 }

@@ -3,22 +3,31 @@ ghost use Rattle.std.specs.Prelude.{◌≡◌, ◌≤◌, ◌<◌, length, IfOk,
 ghost use Rattle.tx_text.specs.Calls.{CallsAtMost, source_calls};
 ghost use Rattle.tx_draw.specs.Drawing.{drawing};
 ghost use Rattle.tx_jobs.specs.JobFaults.{mark_after};
-ghost use Rattle.tx_jobs.specs.JobEnds.{input, output};
+ghost use Rattle.tx_text.specs.Ends.{input, output};
 ghost use Rattle.tx_jobs.specs.DrawJobs.{AreToShow, ToldText, DrewCode, Drew, DrawJobAnswers};
 
-use crate::drawn::Drawn;
 use crate::job_fault::JobFault;
 use std::alloc::Allocator;
 use tx_draw::{write_code_drawing, write_drawing};
 use tx_plan::{CodeId, Plan};
 use tx_plantext::read_plan_from;
 use tx_rank::{Finding, Ranking, rank, reached};
-use tx_text::{NoMemory, Sink, Source, WriteFault};
+use tx_text::{NoMemory, Sink, Source};
 
-/// Reads a plan, and writes its picture; with the figures of a code that of the routes for the code, and with a limit and a spare number too that with the
-/// walk of the code's first finding.
+/// What a plan to draw came to.
+#[derive(Clone, Copy, Debug)]
+pub enum Drawn {
+    /// The picture was written.
+    Picture,
+    /// The plan has no code of the figures that were asked for.
+    NoSuchCode,
+}
+
+/// Reads a plan, and writes its picture; with the figures of a code that of the routes for the
+/// code, and with a limit and a spare number too that with the walk of the code's first finding.
 ///
-/// Answers whether the picture was written, or the plan has no such code. Nothing is written where it has none or is refused, or where memory is wanting.
+/// Answers whether the picture was written, or the plan has no such code. Nothing is written where
+/// it has none or is refused, or where memory runs out.
 /// Without a code the limit and the spare number change nothing.
 pub fn draw_job<A: Allocator + Copy, P: Source, W: Sink>(
     alloc: A,
@@ -29,19 +38,13 @@ pub fn draw_job<A: Allocator + Copy, P: Source, W: Sink>(
 ) -> Result<Drawn, JobFault>
     requires limit { IfSome bounds (λ b. b.0 ≤ 62) }
     requires spare { IfSome bounds (λ b. b.1 ≤ 15) }
-    ensures answers { DrawJobAnswers A (option_map (λ f. f.now) code.entry) bounds (input P.rest P.failed P.called plan.old plan.new) (output W.taken out.old out.new) result }
+    ensures answers { DrawJobAnswers A (option_map (λ f. f.now) code.entry) bounds
+        (input P.rest P.failed P.called plan.old plan.new) (output W.taken out.old out.new) result }
     ensures mark { W.failed out.new ≡ mark_after (W.failed out.old) result }
     ensures calls { CallsAtMost P.called source_calls plan.old plan.new }
 {
-    match read_plan_from(alloc, plan) {
-        Ok(plan) => {
-            plan.rules();
-            let drawn = draw_plan(alloc, &plan, code, bounds, out);
-            drop(plan);
-            drawn
-        }
-        Err(fault) => Err(JobFault::of_plan(fault)),
-    }
+    let plan = read_plan_from(alloc, plan)?;
+    draw_plan(alloc, &plan, code, bounds, out)
 }
 
 /// Draws a plan, or the code of some figures.
@@ -54,7 +57,8 @@ fn draw_plan<A: Allocator + Copy, W: Sink>(
 ) -> Result<Drawn, JobFault>
     requires limit { IfSome bounds (λ b. b.0 ≤ 62) }
     requires spare { IfSome bounds (λ b. b.1 ≤ 15) }
-    ensures drew { Drew A plan.now (option_map (λ f. f.now) code.entry) bounds (output W.taken out.old out.new) result }
+    ensures drew { Drew A plan.now (option_map (λ f. f.now) code.entry) bounds
+        (output W.taken out.old out.new) result }
     ensures mark { W.failed out.new ≡ mark_after (W.failed out.old) result }
 {
     match code {
@@ -70,10 +74,8 @@ fn draw_whole<A: Allocator, W: Sink>(plan: &Plan<A>, out: &mut W) -> Result<Draw
     ensures told { ToldText (drawing plan.now) (output W.taken out.old out.new) result }
     ensures mark { W.failed out.new ≡ mark_after (W.failed out.old) result }
 {
-    match write_drawing(plan, out) {
-        Ok(()) => Ok(Drawn::Picture),
-        Err(WriteFault) => Err(JobFault::Write),
-    }
+    write_drawing(plan, out)?;
+    Ok(Drawn::Picture)
 }
 
 fn draw_code<A: Allocator + Copy, W: Sink>(
@@ -89,10 +91,8 @@ fn draw_code<A: Allocator + Copy, W: Sink>(
     ensures drew { DrewCode A plan.now code bounds (output W.taken out.old out.new) result }
     ensures mark { W.failed out.new ≡ mark_after (W.failed out.old) result }
 {
-    match findings_to_show(alloc, plan, bounds) {
-        Ok(findings) => draw_finding(alloc, plan, code, bounds, &findings, out),
-        Err(_) => Err(JobFault::NoMemory),
-    }
+    let findings = findings_to_show(alloc, plan, bounds)?;
+    draw_finding(alloc, plan, code, bounds, &findings, out)
 }
 
 /// What is wrong with a plan, for a limit and a spare number; nothing without these.
@@ -107,10 +107,9 @@ fn findings_to_show<A: Allocator + Copy>(
 {
     match bounds {
         None => Ok(Vec::new(alloc)),
-        Some((limit, spare)) => match rank(alloc, plan, limit, spare) {
-            Ok(Ranking::Found(_)) => Ok(Vec::new(alloc)),
-            Ok(Ranking::Fails(findings)) => Ok(findings),
-            Err(error) => Err(error),
+        Some((limit, spare)) => match rank(alloc, plan, limit, spare)? {
+            Ranking::Found(_) => Ok(Vec::new(alloc)),
+            Ranking::Fails(findings) => Ok(findings),
         },
     }
 }
@@ -129,11 +128,7 @@ fn draw_finding<A: Allocator + Copy, W: Sink>(
     ensures drew { DrewCode A plan.now code bounds (output W.taken out.old out.new) result }
     ensures mark { W.failed out.new ≡ mark_after (W.failed out.old) result }
 {
-    match reached(alloc, plan, code) {
-        Ok(marks) => match write_code_drawing(plan, code, &marks, findings, out) {
-            Ok(()) => Ok(Drawn::Picture),
-            Err(WriteFault) => Err(JobFault::Write),
-        },
-        Err(_) => Err(JobFault::NoMemory),
-    }
+    let marks = reached(alloc, plan, code)?;
+    write_code_drawing(plan, code, &marks, findings, out)?;
+    Ok(Drawn::Picture)
 }

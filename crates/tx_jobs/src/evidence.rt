@@ -3,11 +3,12 @@ ghost use Rattle.tx_jobs.specs.Writables.{AreWritable, AreWritable-prop};
 
 use std::alloc::{Allocator, Global};
 use tx_cert::Cert;
+use tx_machine::Event;
 use tx_plan::Plan;
-use tx_state::Event;
 
-/// A plan, and events that can be written as a script for it. `evidence_job` says that they show what is wrong with the plan.
-#[derive(Drop)]
+/// A plan, and events that can be written as a script for it. `evidence_job` says that they show
+/// what is wrong with the plan.
+#[derive(Debug, Drop)]
 pub struct CounterScript<A: Allocator = Global> {
     pub plan: Plan<A>,
     pub events: Vec<Event, A>,
@@ -15,7 +16,7 @@ pub struct CounterScript<A: Allocator = Global> {
 }
 
 /// What shows the verdict of an audit.
-#[derive(Drop)]
+#[derive(Debug, Drop)]
 pub enum Evidence<A: Allocator = Global> {
     /// After a Yes, the plan and its certificate.
     Sound(Plan<A>, Cert<A>),

@@ -1,19 +1,14 @@
-// The line that tells why a job stopped.
-ghost use Rattle.std.specs.Prelude.{◌≡◌, true, OnOk, OnErr};
-ghost use Rattle.std.specs.Io.KnownBytes.{append_known};
-ghost use Rattle.tx_text.specs.Ends.{StopsIn};
+// The line that says why a job stopped.
+ghost use Rattle.tx_text.specs.Wrote.{Wrote};
 ghost use Rattle.tx_jobs.specs.JobFaults.{fault_line, text_fault_line};
 
 use crate::job_fault::JobFault;
 use itoa::Buffer;
 use tx_text::{Sink, WriteFault, write_bytes, write_parts};
 
-/// Writes the line that tells a fault, as `telexplan: plan line 5: P11 Overlap`, with its LF.
+/// Writes the line that reports a fault, as `telexplan: plan line 5: P11 Overlap`, with its LF.
 pub fn write_fault<W: Sink>(fault: &JobFault, sink: &mut W) -> Result<(), WriteFault>
-    ensures ok { OnOk result (W.taken sink.new ≡ append_known (W.taken sink.old) (fault_line fault.now)) }
-    ensures err { OnErr result (StopsIn (W.taken sink.old) (W.taken sink.new) (fault_line fault.now)) }
-    ensures mark { OnErr result (W.failed sink.new ≡ true) }
-    ensures unmarked { OnOk result (W.failed sink.new ≡ W.failed sink.old) }
+    ensures { Wrote W.taken W.failed sink.old sink.new (fault_line fault.now) result }
 {
     match fault {
         JobFault::Plan(fault) => {
@@ -41,10 +36,8 @@ pub(crate) fn write_text_fault<'a, W: Sink>(
     row: (&'a [u8], &'a [u8]),
     sink: &mut W,
 ) -> Result<(), WriteFault>
-    ensures ok { OnOk result (W.taken sink.new ≡ append_known (W.taken sink.old) (text_fault_line text.now line (row.entry.0.now, row.entry.1.now))) }
-    ensures err { OnErr result (StopsIn (W.taken sink.old) (W.taken sink.new) (text_fault_line text.now line (row.entry.0.now, row.entry.1.now))) }
-    ensures mark { OnErr result (W.failed sink.new ≡ true) }
-    ensures unmarked { OnOk result (W.failed sink.new ≡ W.failed sink.old) }
+    ensures { Wrote W.taken W.failed sink.old sink.new
+        (text_fault_line text.now line (row.entry.0.now, row.entry.1.now)) result }
 {
     let mut number = Buffer::new();
     write_parts(

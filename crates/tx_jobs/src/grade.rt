@@ -1,8 +1,9 @@
 // The job of `grade PLAN`.
 ghost use Rattle.std.specs.Prelude.{◌≡◌};
 ghost use Rattle.tx_text.specs.Calls.{CallsAtMost, source_calls};
+ghost use Rattle.tx_plan.specs.Rules.{IsPlan};
 ghost use Rattle.tx_jobs.specs.JobFaults.{mark_after};
-ghost use Rattle.tx_jobs.specs.JobEnds.{input, output};
+ghost use Rattle.tx_text.specs.Ends.{input, output};
 ghost use Rattle.tx_jobs.specs.GradeJobs.{GradeJobAnswers, GradeStatusAnswers, ToldGrade, status_of_grade};
 
 use crate::job_fault::JobFault;
@@ -11,46 +12,39 @@ use tx_audit::write_grade;
 use tx_plan::Plan;
 use tx_plantext::read_plan_from;
 use tx_rank::{Grade, grade};
-use tx_text::{Sink, Source, WriteFault};
+use tx_text::{Sink, Source};
 
 /// Reads a plan, and writes with which limits and spare numbers it is safe, and each of its codes;
 /// and if it is safe with none, what is wrong with it whatever they are. Answers the grade.
 ///
-/// Nothing is written where the plan is refused or memory is wanting.
+/// Nothing is written where the plan is refused or memory runs out.
 pub fn grade_job<A: Allocator + Copy, P: Source, W: Sink>(
     alloc: A,
     plan: &mut P,
     out: &mut W,
 ) -> Result<Grade<A>, JobFault>
-    ensures answers { GradeJobAnswers (input P.rest P.failed P.called plan.old plan.new) (output W.taken out.old out.new) result }
+    ensures answers { GradeJobAnswers (input P.rest P.failed P.called plan.old plan.new)
+        (output W.taken out.old out.new) result }
     ensures mark { W.failed out.new ≡ mark_after (W.failed out.old) result }
     ensures calls { CallsAtMost P.called source_calls plan.old plan.new }
 {
-    match read_plan_from(alloc, plan) {
-        Ok(plan) => {
-            plan.rules();
-            let told = tell_grade(alloc, &plan, out);
-            drop(plan);
-            told
-        }
-        Err(fault) => Err(JobFault::of_plan(fault)),
-    }
+    let plan = read_plan_from(alloc, plan)?;
+    tell_grade(alloc, &plan, out)
 }
 
-/// The same, and answers the exit status: 0 where there is a grade, else 1.
+/// Does the job of `grade_job`, and answers the exit status: 0 where there is a grade, else 1.
 pub fn grade_status<A: Allocator + Copy, P: Source, W: Sink>(
     alloc: A,
     plan: &mut P,
     out: &mut W,
 ) -> Result<u8, JobFault>
-    ensures answers { GradeStatusAnswers A (input P.rest P.failed P.called plan.old plan.new) (output W.taken out.old out.new) result }
+    ensures answers { GradeStatusAnswers A (input P.rest P.failed P.called plan.old plan.new)
+        (output W.taken out.old out.new) result }
     ensures mark { W.failed out.new ≡ mark_after (W.failed out.old) result }
     ensures calls { CallsAtMost P.called source_calls plan.old plan.new }
 {
-    match grade_job(alloc, plan, out) {
-        Ok(grade) => Ok(status_of(&grade)),
-        Err(fault) => Err(fault),
-    }
+    let grade = grade_job(alloc, plan, out)?;
+    Ok(status_of(&grade))
 }
 
 fn status_of<A: Allocator>(grade: &Grade<A>) -> u8
@@ -67,15 +61,11 @@ fn tell_grade<A: Allocator + Copy, W: Sink>(
     plan: &Plan<A>,
     out: &mut W,
 ) -> Result<Grade<A>, JobFault>
+    requires rules { IsPlan plan.now }
     ensures told { ToldGrade plan.now (output W.taken out.old out.new) result }
     ensures mark { W.failed out.new ≡ mark_after (W.failed out.old) result }
 {
-    plan.rules();
-    match grade(alloc, plan) {
-        Err(_) => Err(JobFault::NoMemory),
-        Ok(grade) => match write_grade(plan, &grade, out) {
-            Ok(()) => Ok(grade),
-            Err(WriteFault) => Err(JobFault::Write),
-        },
-    }
+    let grade = grade(alloc, plan)?;
+    write_grade(plan, &grade, out)?;
+    Ok(grade)
 }

@@ -1,5 +1,6 @@
 // Why a job stopped.
 ghost use Rattle.std.specs.Prelude.{◌≡◌};
+ghost use Rattle.tx_jobs.specs.declared.job_fault.JobFault.TheVariants.{NoMemory as OutOfMemory, Write as WriteFailed};
 ghost use Rattle.tx_jobs.specs.JobFaults.{status_of, plan_fault, cert_fault, script_fault, run_fault};
 ghost use Rattle.tx_jobs.specs.AuditJobs.{audit_fault};
 ghost use Rattle.tx_jobs.specs.LintJobs.{lint_fault};
@@ -13,7 +14,7 @@ use tx_mend_report::MendFault;
 use tx_plan::PlanRefusal;
 use tx_plantext::{PlanFault, PlanWord};
 use tx_script::{RunCause, RunFault, ScriptFault};
-use tx_text::{FaultKind, FrameFault, LineFault, TextFault};
+use tx_text::{FaultKind, FrameFault, NoMemory, WriteFault};
 
 /// Why a job stopped before its end. `write_fault` says it in full.
 #[derive(Clone, Copy, Debug, PartialEq, Eq, Error)]
@@ -38,8 +39,142 @@ pub enum JobFault {
     NoMemory,
 }
 
+impl From<NoMemory> for JobFault {
+    ghost from_gives = { λ _ fault. fault ≡ OutOfMemory };
+
+    fn from(_: NoMemory) -> JobFault {
+        JobFault::NoMemory
+    }
+}
+
+impl From<WriteFault> for JobFault {
+    ghost from_gives = { λ _ fault. fault ≡ WriteFailed };
+
+    fn from(_: WriteFault) -> JobFault {
+        JobFault::Write
+    }
+}
+
+/// A failure to read and a lack of memory are reported as such.
+impl From<PlanFault> for JobFault {
+    ghost from_gives = { λ plan fault. fault ≡ plan_fault plan };
+
+    fn from(fault: PlanFault) -> JobFault {
+        match fault.kind {
+            FaultKind::Frame(FrameFault::Read) => JobFault::Read,
+            FaultKind::Frame(FrameFault::NoMemory)
+            | FaultKind::Word(PlanWord::Refused(PlanRefusal::NoMemory)) => JobFault::NoMemory,
+            FaultKind::Frame(
+                FrameFault::LineTooLong
+                | FrameFault::BadByte
+                | FrameFault::NoHeader
+                | FrameFault::NoEnd
+                | FrameFault::AfterEnd,
+            )
+            | FaultKind::Word(PlanWord::UnknownWord | PlanWord::Refused(_)) => JobFault::Plan(
+                fault,
+            ),
+        }
+    }
+}
+
+/// A failure to read and a lack of memory are reported as such.
+impl From<CertFault> for JobFault {
+    ghost from_gives = { λ cert fault. fault ≡ cert_fault cert };
+
+    fn from(fault: CertFault) -> JobFault {
+        match fault.kind {
+            FaultKind::Frame(FrameFault::Read) => JobFault::Read,
+            FaultKind::Frame(FrameFault::NoMemory) | FaultKind::Word(CertWord::NoMemory) =>
+                JobFault::NoMemory,
+            FaultKind::Frame(
+                FrameFault::LineTooLong
+                | FrameFault::BadByte
+                | FrameFault::NoHeader
+                | FrameFault::NoEnd
+                | FrameFault::AfterEnd,
+            )
+            | FaultKind::Word(
+                CertWord::UnknownWord
+                | CertWord::WrongCount
+                | CertWord::UnknownName
+                | CertWord::BadNumber
+                | CertWord::Duplicate,
+            ) => JobFault::Cert(fault),
+        }
+    }
+}
+
+/// A lack of memory is reported as such.
+impl From<ScriptFault> for JobFault {
+    ghost from_gives = { λ script fault. fault ≡ script_fault script };
+
+    fn from(fault: ScriptFault) -> JobFault {
+        match fault.kind {
+            FaultKind::Frame(FrameFault::NoMemory) => JobFault::NoMemory,
+            FaultKind::Frame(
+                FrameFault::LineTooLong
+                | FrameFault::BadByte
+                | FrameFault::Read
+                | FrameFault::NoHeader
+                | FrameFault::NoEnd
+                | FrameFault::AfterEnd,
+            )
+            | FaultKind::Word(_) => JobFault::Script(fault),
+        }
+    }
+}
+
+impl From<RunFault> for JobFault {
+    ghost from_gives = { λ run fault. fault ≡ run_fault run };
+
+    fn from(fault: RunFault) -> JobFault {
+        match fault.cause {
+            RunCause::Read => JobFault::Read,
+            RunCause::Write => JobFault::Write,
+            RunCause::NoMemory => JobFault::NoMemory,
+            RunCause::Script(fault) => JobFault::from(fault),
+        }
+    }
+}
+
+impl From<AuditFault> for JobFault {
+    ghost from_gives = { λ audit fault. fault ≡ audit_fault audit };
+
+    fn from(fault: AuditFault) -> JobFault {
+        match fault {
+            AuditFault::Plan(fault) => JobFault::from(fault),
+            AuditFault::Write => JobFault::Write,
+            AuditFault::NoMemory => JobFault::NoMemory,
+        }
+    }
+}
+
+impl From<LintFault> for JobFault {
+    ghost from_gives = { λ lint fault. fault ≡ lint_fault lint };
+
+    fn from(fault: LintFault) -> JobFault {
+        match fault {
+            LintFault::Read => JobFault::Read,
+            LintFault::NoMemory => JobFault::NoMemory,
+        }
+    }
+}
+
+impl From<MendFault> for JobFault {
+    ghost from_gives = { λ mend fault. fault ≡ mend_fault mend };
+
+    fn from(fault: MendFault) -> JobFault {
+        match fault {
+            MendFault::Write => JobFault::Write,
+            MendFault::NoMemory => JobFault::NoMemory,
+        }
+    }
+}
+
 impl JobFault {
-    /// The exit status: 2 for a refused text, 3 for a read or a write fault, 4 for want of memory.
+    /// The exit status: 2 for a refused text, 3 for a read or a write fault, 4 when memory runs
+    /// out.
     pub fn status(&self) -> u8
         ensures { result ≡ status_of self.now }
     {
@@ -47,79 +182,6 @@ impl JobFault {
             JobFault::Plan(_) | JobFault::Cert(_) | JobFault::Script(_) => 2,
             JobFault::Read | JobFault::Write => 3,
             JobFault::NoMemory => 4,
-        }
-    }
-
-    /// A failure to read and a want of memory are told as such.
-    pub(crate) fn of_plan(fault: PlanFault) -> JobFault
-        ensures { result ≡ plan_fault fault }
-    {
-        match fault.kind {
-            FaultKind::Frame(FrameFault::Line(LineFault::Read)) => JobFault::Read,
-            FaultKind::Frame(FrameFault::Line(LineFault::Text(TextFault::NoMemory)))
-            | FaultKind::Word(PlanWord::Refused(PlanRefusal::NoMemory)) => JobFault::NoMemory,
-            _ => JobFault::Plan(fault),
-        }
-    }
-
-    pub(crate) fn of_cert(fault: CertFault) -> JobFault
-        ensures { result ≡ cert_fault fault }
-    {
-        match fault.kind {
-            FaultKind::Frame(FrameFault::Line(LineFault::Read)) => JobFault::Read,
-            FaultKind::Frame(FrameFault::Line(LineFault::Text(TextFault::NoMemory)))
-            | FaultKind::Word(CertWord::NoMemory) => JobFault::NoMemory,
-            _ => JobFault::Cert(fault),
-        }
-    }
-
-    pub(crate) fn of_audit(fault: AuditFault) -> JobFault
-        ensures { result ≡ audit_fault fault }
-    {
-        match fault {
-            AuditFault::Plan(fault) => JobFault::of_plan(fault),
-            AuditFault::Write => JobFault::Write,
-            AuditFault::NoMemory => JobFault::NoMemory,
-        }
-    }
-
-    pub(crate) fn of_lint(fault: LintFault) -> JobFault
-        ensures { result ≡ lint_fault fault }
-    {
-        match fault {
-            LintFault::Read => JobFault::Read,
-            LintFault::NoMemory => JobFault::NoMemory,
-        }
-    }
-
-    pub(crate) fn of_mend(fault: MendFault) -> JobFault
-        ensures { result ≡ mend_fault fault }
-    {
-        match fault {
-            MendFault::Write => JobFault::Write,
-            MendFault::NoMemory => JobFault::NoMemory,
-        }
-    }
-
-    pub(crate) fn of_run(fault: RunFault) -> JobFault
-        ensures { result ≡ run_fault fault }
-    {
-        match fault.cause {
-            RunCause::Read => JobFault::Read,
-            RunCause::Write => JobFault::Write,
-            RunCause::NoMemory => JobFault::NoMemory,
-            RunCause::Script(fault) => JobFault::of_script(fault),
-        }
-    }
-
-    fn of_script(fault: ScriptFault) -> JobFault
-        ensures { result ≡ script_fault fault }
-    {
-        match fault.kind {
-            FaultKind::Frame(FrameFault::Line(LineFault::Text(TextFault::NoMemory))) => {
-                JobFault::NoMemory
-            }
-            _ => JobFault::Script(fault),
         }
     }
 }

@@ -1,7 +1,8 @@
-//! The jobs of the commands that read a plan, over sources and a sink. `explain` reads none, and has
-//! none.
+//! The jobs of the commands that read a plan, over sources and a sink. `explain` reads none, and
+//! has none.
 #![tactic(auto)]
 
+mod ahead;
 mod audit;
 mod audit_evidence;
 mod change;
@@ -11,24 +12,25 @@ mod change_fault_line;
 mod check;
 mod codes;
 mod draw;
-mod drawn;
 mod evidence;
 mod fault_line;
 mod grade;
+mod held;
 mod job_fault;
 mod lint;
 mod mend;
 mod mixture;
 mod pipe;
+mod plan_part;
 mod run;
 mod run_checked;
-mod simulate;
+mod script_part;
+mod seen;
 mod survive;
 mod survive_fault;
 mod survive_fault_line;
 mod telling;
 mod trace;
-mod traced;
 
 pub use audit::audit_job;
 pub use audit_evidence::evidence_job;
@@ -38,8 +40,7 @@ pub use change_fault::ChangeFault;
 pub use change_fault_line::write_change_fault;
 pub use check::{check_job, check_status};
 pub use codes::{codes_job, codes_status};
-pub use draw::draw_job;
-pub use drawn::Drawn;
+pub use draw::{Drawn, draw_job};
 pub use evidence::{CounterScript, Evidence};
 pub use fault_line::write_fault;
 pub use grade::{grade_job, grade_status};
@@ -54,5 +55,4 @@ pub use survive::{survival_status, survive_job, survive_risks_job};
 pub use survive_fault::SurviveFault;
 pub use survive_fault_line::write_survive_fault;
 pub use telling::{replies_status, run_telling_job};
-pub use trace::trace_job;
-pub use traced::Traced;
+pub use trace::{Traced, trace_job};

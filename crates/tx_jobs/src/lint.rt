@@ -3,19 +3,19 @@ ghost use Rattle.std.specs.Prelude.{◌≡◌};
 ghost use Rattle.tx_text.specs.Calls.{CallsAtMost, source_calls};
 ghost use Rattle.tx_lint.specs.Lints.{lint_held};
 ghost use Rattle.tx_jobs.specs.JobFaults.{mark_after};
-ghost use Rattle.tx_jobs.specs.JobEnds.{input, output};
+ghost use Rattle.tx_text.specs.Ends.{input, output};
 ghost use Rattle.tx_jobs.specs.LintJobs.{ToldLint, LintedInRoom, LintJobAnswers};
 
 use crate::job_fault::JobFault;
 use std::alloc::Allocator;
 use tx_lint::{Lint, lint_plan, read_text, write_lint};
-use tx_text::{Sink, Source, WriteFault};
+use tx_text::{Sink, Source};
 
 /// Reads a plan's text to its end, and writes all its faults; or where it has none, the warnings of
 /// its plan. Each line begins with the words for the file of the text. Answers the exit status: 0
 /// without any line, 1 after warnings, 2 after faults.
 ///
-/// Nothing is written where the text cannot be read to its end, or where memory is wanting.
+/// Nothing is written where the text cannot be read to its end, or where memory runs out.
 pub fn lint_job<A: Allocator + Copy, P: Source, W: Sink>(
     alloc: A,
     plan: &mut P,
@@ -27,17 +27,11 @@ pub fn lint_job<A: Allocator + Copy, P: Source, W: Sink>(
     ensures mark { W.failed out.new ≡ mark_after (W.failed out.old) result }
     ensures calls { CallsAtMost P.called source_calls plan.old plan.new }
 {
-    match read_text(alloc, plan) {
-        Ok(text) => {
-            let linted = lint_text(alloc, &text, file, out);
-            drop(text);
-            linted
-        }
-        Err(fault) => Err(JobFault::of_lint(fault)),
-    }
+    let text = read_text(alloc, plan)?;
+    lint_text(alloc, &text, file, out)
 }
 
-/// Looks a text through, and writes what is to be said of it.
+/// Looks a text through, and writes its faults or warnings.
 fn lint_text<A: Allocator + Copy, W: Sink>(
     alloc: A,
     text: &[u8],
@@ -48,16 +42,12 @@ fn lint_text<A: Allocator + Copy, W: Sink>(
     ensures mark { W.failed out.new ≡ mark_after (W.failed out.old) result }
 {
     match lint_plan(alloc, text) {
-        Ok(lint) => {
-            let told = tell_lint(&lint, file, out);
-            drop(lint);
-            told
-        }
+        Ok(lint) => tell_lint(&lint, file, out),
         Err(_) => Err(JobFault::NoMemory),
     }
 }
 
-/// Writes what is to be said of a text, and answers the exit status.
+/// Writes the faults or warnings of a text, and returns the exit status.
 fn tell_lint<A: Allocator, W: Sink>(
     lint: &Lint<'_, A>,
     file: &[u8],
@@ -66,8 +56,6 @@ fn tell_lint<A: Allocator, W: Sink>(
     ensures told { ToldLint file.now (lint_held lint.now) (output W.taken out.old out.new) result }
     ensures mark { W.failed out.new ≡ mark_after (W.failed out.old) result }
 {
-    match write_lint(lint, file, out) {
-        Ok(()) => Ok(lint.status()),
-        Err(WriteFault) => Err(JobFault::Write),
-    }
+    write_lint(lint, file, out)?;
+    Ok(lint.status())
 }

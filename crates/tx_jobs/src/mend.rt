@@ -2,7 +2,7 @@
 ghost use Rattle.std.specs.Prelude.{◌≡◌, ◌≤◌};
 ghost use Rattle.tx_text.specs.Calls.{CallsAtMost, source_calls};
 ghost use Rattle.tx_jobs.specs.JobFaults.{mark_after};
-ghost use Rattle.tx_jobs.specs.JobEnds.{input, output};
+ghost use Rattle.tx_text.specs.Ends.{input, output};
 ghost use Rattle.tx_jobs.specs.MendJobs.{MendJobAnswers, ToldMending, status_of_mending};
 
 use crate::job_fault::JobFault;
@@ -17,7 +17,7 @@ use tx_text::{Sink, Source};
 /// `spare` groups to spare (0 to 15). Answers the mended plan with its certificate, or what no
 /// routes can serve.
 ///
-/// Nothing is written where the plan is refused or memory is wanting.
+/// Nothing is written where the plan is refused or memory runs out.
 pub fn mend_job<A: Allocator + Copy, P: Source, W: Sink>(
     alloc: A,
     plan: &mut P,
@@ -32,13 +32,8 @@ pub fn mend_job<A: Allocator + Copy, P: Source, W: Sink>(
     ensures mark { W.failed out.new ≡ mark_after (W.failed out.old) result }
     ensures calls { CallsAtMost P.called source_calls plan.old plan.new }
 {
-    match read_plan_from(alloc, plan) {
-        Ok(plan) => {
-            plan.rules();
-            tell_mending(alloc, plan, limit, spare, out)
-        }
-        Err(fault) => Err(JobFault::of_plan(fault)),
-    }
+    let plan = read_plan_from(alloc, plan)?;
+    tell_mending(alloc, plan, limit, spare, out)
 }
 
 /// The exit status of a mending: 0 where the plan is mended, else 1.
@@ -64,8 +59,5 @@ fn tell_mending<A: Allocator + Copy, W: Sink>(
     ensures told { ToldMending plan limit spare (output W.taken out.old out.new) result }
     ensures mark { W.failed out.new ≡ mark_after (W.failed out.old) result }
 {
-    match report_mend(alloc, plan, limit, spare, out) {
-        Ok(mending) => Ok(mending),
-        Err(fault) => Err(JobFault::of_mend(fault)),
-    }
+    Ok(report_mend(alloc, plan, limit, spare, out)?)
 }

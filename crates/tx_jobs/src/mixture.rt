@@ -6,7 +6,7 @@ use tx_change::ShownMixture;
 use tx_plan::Plan;
 
 /// A mixture of two plans that shows what is wrong with the change. `change_evidence_job` says so.
-#[derive(Drop)]
+#[derive(Debug, Drop)]
 pub enum Mixture<A: Allocator = Global> {
     /// With the script of a call that goes along the walk.
     Scripted(CounterScript<A>),
@@ -46,7 +46,7 @@ impl<A: Allocator> Mixture<A> {
 }
 
 /// What shows the verdict on a change.
-#[derive(Drop)]
+#[derive(Debug, Drop)]
 pub enum ChangeEvidence<A: Allocator = Global> {
     /// After a Yes, the old plan and its certificate, which is one of the new plan too.
     Sound(Plan<A>, Cert<A>),

@@ -1,25 +1,29 @@
 // The job of the program without words.
-ghost use Rattle.std.specs.Prelude.{◌≡◌};
-ghost use Rattle.tx_text.specs.Calls.{Broken, CallsAtMost, source_calls};
+ghost use Rattle.std.specs.Prelude.{◌≡◌, IfOk};
+ghost use Rattle.tx_text.specs.Calls.{CallsAtMost, source_calls};
 ghost use Rattle.tx_text.specs.Said.{told_fault};
+ghost use Rattle.tx_plan.specs.Rules.{IsPlan};
 ghost use Rattle.tx_plantext.specs.PlanText.{ReadsPlan};
-ghost use Rattle.tx_pipe.specs.inner.Reading.{left, plan_rest, PlanCall, ScriptCall};
+ghost use Rattle.tx_jobs.specs.inner.Reading.{left, plan_rest, PlanCall, ScriptCall};
 ghost use Rattle.tx_jobs.specs.JobFaults.{mark_after};
-ghost use Rattle.tx_jobs.specs.JobEnds.{input, output};
+ghost use Rattle.tx_text.specs.Ends.{input, output};
 ghost use Rattle.tx_jobs.specs.Jobs.{ScriptRan};
 ghost use Rattle.tx_jobs.specs.PipeJobs.{PipeJobAnswers};
 
+use crate::ahead::Ahead;
 use crate::job_fault::JobFault;
-use crate::simulate::simulate;
+use crate::plan_part::PlanPart;
+use crate::run::simulated;
+use crate::script_part::ScriptPart;
 use std::alloc::Allocator;
-use tx_pipe::{Ahead, PlanPart, ScriptPart};
 use tx_plan::Plan;
 use tx_plantext::{PlanFault, read_plan_from};
 use tx_script::Summary;
 use tx_text::{Sink, Source};
 
-/// Reads a plan from an input, up to and with the first line whose one word is END, and then runs the script that follows, whose lines count from 1. `Err` is
-/// the fault of the first call that failed.
+/// Reads a plan from an input, up to and with the first line whose one word is END, and then runs
+/// the script that follows, whose lines count from 1. `Err` is the fault of the first call that
+/// failed.
 pub fn pipe_job<A: Allocator + Copy, R: Source, W: Sink>(
     alloc: A,
     input: &mut R,
@@ -31,16 +35,9 @@ pub fn pipe_job<A: Allocator + Copy, R: Source, W: Sink>(
 {
     let mut ahead = Ahead::new();
     let mut part = PlanPart::new(input, &mut ahead);
-    match read_plan_part(alloc, &mut part) {
-        Ok(plan) => {
-            plan.rules();
-            let mut script = ScriptPart::new(input, &mut ahead);
-            let ran = run_script_part(alloc, &plan, &mut script, out);
-            drop(plan);
-            ran
-        }
-        Err(fault) => Err(JobFault::of_plan(fault)),
-    }
+    let plan = read_plan_part(alloc, &mut part)?;
+    let mut script = ScriptPart::new(input, &mut ahead);
+    run_script_part(alloc, &plan, &mut script, out)
 }
 
 /// Reads the plan. The part keeps what it is lent.
@@ -50,16 +47,17 @@ fn read_plan_part<A: Allocator + Copy, R: Source>(
 ) -> Result<Plan<A>, PlanFault>
     ensures same_input { part.new.input.ghost_name ≡ part.old.input.ghost_name }
     ensures same_ahead { part.new.ahead.ghost_name ≡ part.old.ahead.ghost_name }
-    ensures answer { ReadsPlan (plan_rest R.rest part.old) (plan_rest R.rest part.new)
-        (Broken (PlanCall R.rest R.failed R.called) part.new.ahead.now.failed source_calls
+    ensures answer { ReadsPlan
+        (input (plan_rest R.rest) (λ s. s.ahead.now.failed) (PlanCall R.rest R.failed R.called)
         part.old part.new)
-        (part.new ≡ part.old) (told_fault result) }
+        (told_fault result) }
+    ensures rules { IfOk result IsPlan }
     ensures calls { CallsAtMost (PlanCall R.rest R.failed R.called) source_calls part.old part.new }
 {
     read_plan_from(alloc, part)
 }
 
-/// Runs the script behind the plan. The part keeps what it is lent.
+/// Runs the script after the plan. The part keeps what it is lent.
 fn run_script_part<A: Allocator + Copy, R: Source, W: Sink>(
     alloc: A,
     plan: &Plan<A>,
@@ -76,5 +74,5 @@ fn run_script_part<A: Allocator + Copy, R: Source, W: Sink>(
     ensures calls { CallsAtMost (ScriptCall R.rest R.failed R.called) source_calls
         script.old script.new }
 {
-    simulate(alloc, plan, script, out)
+    simulated(alloc, plan, script, out)
 }

@@ -2,7 +2,7 @@
 ghost use Rattle.std.specs.Prelude.{◌≡◌, ◌≤◌, true, OnOk, OnErr};
 ghost use Rattle.tx_text.specs.Calls.{CallsAtMost, source_calls};
 ghost use Rattle.tx_jobs.specs.JobFaults.{mark_after};
-ghost use Rattle.tx_jobs.specs.JobEnds.{input, output};
+ghost use Rattle.tx_text.specs.Ends.{input, output};
 ghost use Rattle.tx_jobs.specs.CheckedJobs.{CheckedJobAnswers, CheckedStatusAnswers, CertAnswers, ToldRun, ToldNo};
 
 use crate::job_fault::JobFault;
@@ -14,8 +14,10 @@ use tx_plan::Plan;
 use tx_plantext::read_plan_from;
 use tx_text::{Sink, Source, WriteFault};
 
-/// Reads a plan and a certificate, and runs a script over the plan after a Yes of the checker for at most `limit` transits (0 to 62) and `spare` groups to
-/// spare (0 to 15). After a No it writes the verdict alone, and reads nothing of the script. `Err` is the fault of the first call that failed.
+/// Reads a plan and a certificate, and runs a script over the plan after a Yes of the checker for
+/// at most `limit` transits (0 to 62) and `spare` groups to spare (0 to 15). After a No it writes
+/// the verdict alone, and reads nothing of the script. `Err` is the fault of the first call that
+/// failed.
 pub fn run_checked_job<A: Allocator + Copy, P: Source, C: Source, R: Source, W: Sink>(
     alloc: A,
     plan: &mut P,
@@ -27,25 +29,21 @@ pub fn run_checked_job<A: Allocator + Copy, P: Source, C: Source, R: Source, W: 
 ) -> Result<Checked, JobFault>
     requires limit { limit ≤ 62 }
     requires spare { spare ≤ 15 }
-    ensures answers { CheckedJobAnswers limit spare (input P.rest P.failed P.called plan.old plan.new) (input C.rest C.failed C.called cert.old cert.new)
-        (input R.rest R.failed R.called script.old script.new) (output W.taken out.old out.new) result }
+    ensures answers { CheckedJobAnswers limit spare
+        (input P.rest P.failed P.called plan.old plan.new)
+        (input C.rest C.failed C.called cert.old cert.new)
+        (input R.rest R.failed R.called script.old script.new)
+        (output W.taken out.old out.new) result }
     ensures mark { W.failed out.new ≡ mark_after (W.failed out.old) result }
     ensures plan_calls { CallsAtMost P.called source_calls plan.old plan.new }
     ensures cert_calls { CallsAtMost C.called source_calls cert.old cert.new }
     ensures script_calls { CallsAtMost R.called source_calls script.old script.new }
 {
-    match read_plan_from(alloc, plan) {
-        Ok(plan) => {
-            plan.rules();
-            let ran = read_and_run(alloc, &plan, cert, limit, spare, script, out);
-            drop(plan);
-            ran
-        }
-        Err(fault) => Err(JobFault::of_plan(fault)),
-    }
+    let plan = read_plan_from(alloc, plan)?;
+    read_and_run(alloc, &plan, cert, limit, spare, script, out)
 }
 
-/// The same, and answers the exit status: 0 after a Yes, 1 after a No.
+/// Does the job of `run_checked_job`, and answers the exit status: 0 after a Yes, 1 after a No.
 pub fn run_checked_status<A: Allocator + Copy, P: Source, C: Source, R: Source, W: Sink>(
     alloc: A,
     plan: &mut P,
@@ -57,17 +55,19 @@ pub fn run_checked_status<A: Allocator + Copy, P: Source, C: Source, R: Source, 
 ) -> Result<u8, JobFault>
     requires limit { limit ≤ 62 }
     requires spare { spare ≤ 15 }
-    ensures answers { CheckedStatusAnswers limit spare (input P.rest P.failed P.called plan.old plan.new) (input C.rest C.failed C.called cert.old cert.new)
-        (input R.rest R.failed R.called script.old script.new) (output W.taken out.old out.new) result }
+    ensures answers { CheckedStatusAnswers limit spare
+        (input P.rest P.failed P.called plan.old plan.new)
+        (input C.rest C.failed C.called cert.old cert.new)
+        (input R.rest R.failed R.called script.old script.new)
+        (output W.taken out.old out.new) result }
     ensures mark { W.failed out.new ≡ mark_after (W.failed out.old) result }
     ensures plan_calls { CallsAtMost P.called source_calls plan.old plan.new }
     ensures cert_calls { CallsAtMost C.called source_calls cert.old cert.new }
     ensures script_calls { CallsAtMost R.called source_calls script.old script.new }
 {
-    match run_checked_job(alloc, plan, cert, limit, spare, script, out) {
-        Ok(Checked::Ran(_)) => Ok(0),
-        Ok(Checked::Denied(_)) => Ok(1),
-        Err(fault) => Err(fault),
+    match run_checked_job(alloc, plan, cert, limit, spare, script, out)? {
+        Checked::Ran(_) => Ok(0),
+        Checked::Denied(_) => Ok(1),
     }
 }
 
@@ -83,15 +83,16 @@ fn read_and_run<A: Allocator + Copy, C: Source, R: Source, W: Sink>(
 ) -> Result<Checked, JobFault>
     requires limit { limit ≤ 62 }
     requires spare { spare ≤ 15 }
-    ensures answers { CertAnswers plan.now limit spare (input C.rest C.failed C.called cert.old cert.new) (input R.rest R.failed R.called script.old script.new) (output W.taken out.old out.new) result }
+    ensures answers { CertAnswers plan.now limit spare
+        (input C.rest C.failed C.called cert.old cert.new)
+        (input R.rest R.failed R.called script.old script.new)
+        (output W.taken out.old out.new) result }
     ensures mark { W.failed out.new ≡ mark_after (W.failed out.old) result }
     ensures cert_calls { CallsAtMost C.called source_calls cert.old cert.new }
     ensures script_calls { CallsAtMost R.called source_calls script.old script.new }
 {
-    match read_cert_from(alloc, cert, plan) {
-        Ok(cert) => run_or_tell(alloc, plan, &cert, limit, spare, script, out),
-        Err(fault) => Err(JobFault::of_cert(fault)),
-    }
+    let cert = read_cert_from(alloc, cert, plan)?;
+    run_or_tell(alloc, plan, &cert, limit, spare, script, out)
 }
 
 /// Runs the script after a Yes, or writes the verdict.
@@ -106,17 +107,15 @@ fn run_or_tell<A: Allocator + Copy, R: Source, W: Sink>(
 ) -> Result<Checked, JobFault>
     requires limit { limit ≤ 62 }
     requires spare { spare ≤ 15 }
-    ensures told { ToldRun plan.now cert.now limit spare (input R.rest R.failed R.called script.old script.new) (output W.taken out.old out.new) result }
+    ensures told { ToldRun plan.now cert.now limit spare
+        (input R.rest R.failed R.called script.old script.new)
+        (output W.taken out.old out.new) result }
     ensures mark { W.failed out.new ≡ mark_after (W.failed out.old) result }
     ensures calls { CallsAtMost R.called source_calls script.old script.new }
 {
-    match run_checked(alloc, plan, cert, limit, spare, script, out) {
-        Ok(checked) => match tell_no(&checked, plan, out) {
-            Ok(()) => Ok(checked),
-            Err(WriteFault) => Err(JobFault::Write),
-        },
-        Err(fault) => Err(JobFault::of_run(fault)),
-    }
+    let checked = run_checked(alloc, plan, cert, limit, spare, script, out)?;
+    tell_no(&checked, plan, out)?;
+    Ok(checked)
 }
 
 /// Writes the verdict where it was a No.

@@ -4,7 +4,7 @@ ghost use Rattle.tx_text.specs.Calls.{CallsAtMost, source_calls};
 ghost use Rattle.tx_risk.specs.NamedRisks.{AreRisksFor};
 ghost use Rattle.tx_jobs.specs.JobFaults.{mark_after};
 ghost use Rattle.tx_jobs.specs.SurviveFaults.{survive_mark_after};
-ghost use Rattle.tx_jobs.specs.JobEnds.{input, output};
+ghost use Rattle.tx_text.specs.Ends.{input, output};
 ghost use Rattle.tx_jobs.specs.SurviveJobs.{SurviveJobAnswers, SurviveRisksJobAnswers, RisksAnswers, ToldSurvival, status_of_survival};
 
 use crate::job_fault::JobFault;
@@ -15,12 +15,12 @@ use tx_plantext::read_plan_from;
 use tx_risk::{NamedRisk, Survival, survive};
 use tx_risk_report::write_survival;
 use tx_risk_text::{Risks, read_risks_from};
-use tx_text::{Sink, Source, WriteFault};
+use tx_text::{Sink, Source};
 
 /// Reads a plan, and writes whom each of its groups and each of its exchanges cuts off if it fails
 /// alone; or why the plan has no grade. Answers what was found.
 ///
-/// Nothing is written where the plan is refused or memory is wanting.
+/// Nothing is written where the plan is refused or memory runs out.
 pub fn survive_job<A: Allocator + Copy, P: Source, W: Sink>(
     alloc: A,
     plan: &mut P,
@@ -31,20 +31,14 @@ pub fn survive_job<A: Allocator + Copy, P: Source, W: Sink>(
     ensures mark { W.failed out.new ≡ mark_after (W.failed out.old) result }
     ensures calls { CallsAtMost P.called source_calls plan.old plan.new }
 {
-    match read_plan_from(alloc, plan) {
-        Ok(plan) => {
-            plan.rules();
-            let told = tell_unnamed(alloc, &plan, out);
-            drop(plan);
-            told
-        }
-        Err(fault) => Err(JobFault::of_plan(fault)),
-    }
+    let plan = read_plan_from(alloc, plan)?;
+    tell_unnamed(alloc, &plan, out)
 }
 
-/// The same with the named risks of a text, which is read after the plan.
+/// Reads a plan and then a text of named risks, and writes whom each group, each exchange and each
+/// of these risks cuts off; or why the plan has no grade. Answers what was found.
 ///
-/// Nothing is written where one of the texts is refused or memory is wanting.
+/// Nothing is written where one of the texts is refused or memory runs out.
 pub fn survive_risks_job<A: Allocator + Copy, P: Source, R: Source, W: Sink>(
     alloc: A,
     plan: &mut P,
@@ -59,15 +53,8 @@ pub fn survive_risks_job<A: Allocator + Copy, P: Source, R: Source, W: Sink>(
     ensures plan_calls { CallsAtMost P.called source_calls plan.old plan.new }
     ensures risks_calls { CallsAtMost R.called source_calls risks.old risks.new }
 {
-    match read_plan_from(alloc, plan) {
-        Ok(plan) => {
-            plan.rules();
-            let told = tell_named(alloc, &plan, risks, out);
-            drop(plan);
-            told
-        }
-        Err(fault) => Err(SurviveFault::Job(JobFault::of_plan(fault))),
-    }
+    let plan = read_plan_from(alloc, plan)?;
+    tell_named(alloc, &plan, risks, out)
 }
 
 /// The exit status of what was found: 0 where nothing is cut off, else 1, and 1 where the plan has
@@ -91,9 +78,7 @@ fn tell_unnamed<A: Allocator + Copy, W: Sink>(
     ensures mark { W.failed out.new ≡ mark_after (W.failed out.old) result }
 {
     let risks = Risks::none(alloc);
-    let told = tell_survival(alloc, plan, risks.as_slice(), out);
-    drop(risks);
-    told
+    tell_survival(alloc, plan, risks.as_slice(), out)
 }
 
 /// Reads the named risks of the plan, and reports outages with them.
@@ -108,17 +93,8 @@ fn tell_named<A: Allocator + Copy, R: Source, W: Sink>(
     ensures mark { W.failed out.new ≡ survive_mark_after (W.failed out.old) result }
     ensures calls { CallsAtMost R.called source_calls risks.old risks.new }
 {
-    match read_risks_from(alloc, risks, plan) {
-        Ok(risks) => {
-            let told = tell_survival(alloc, plan, risks.as_slice(), out);
-            drop(risks);
-            match told {
-                Ok(survival) => Ok(survival),
-                Err(fault) => Err(SurviveFault::Job(fault)),
-            }
-        }
-        Err(fault) => Err(SurviveFault::of_risks(fault)),
-    }
+    let risks = read_risks_from(alloc, risks, plan)?;
+    Ok(tell_survival(alloc, plan, risks.as_slice(), out)?)
 }
 
 /// Tries all outages, and writes the report.
@@ -132,11 +108,7 @@ fn tell_survival<A: Allocator + Copy, W: Sink>(
     ensures told { ToldSurvival plan.now risks.now (output W.taken out.old out.new) result }
     ensures mark { W.failed out.new ≡ mark_after (W.failed out.old) result }
 {
-    match survive(alloc, plan, risks) {
-        Ok(survival) => match write_survival(plan, risks, &survival, out) {
-            Ok(()) => Ok(survival),
-            Err(WriteFault) => Err(JobFault::Write),
-        },
-        Err(_) => Err(JobFault::NoMemory),
-    }
+    let survival = survive(alloc, plan, risks)?;
+    write_survival(plan, risks, &survival, out)?;
+    Ok(survival)
 }

@@ -1,7 +1,5 @@
-// The line that tells why the job of outages stopped.
-ghost use Rattle.std.specs.Prelude.{◌≡◌, true, OnOk, OnErr};
-ghost use Rattle.std.specs.Io.KnownBytes.{append_known};
-ghost use Rattle.tx_text.specs.Ends.{StopsIn};
+// The line that says why the job of outages stopped.
+ghost use Rattle.tx_text.specs.Wrote.{Wrote};
 ghost use Rattle.tx_jobs.specs.SurviveFaults.{survive_fault_line};
 
 use crate::fault_line::{write_fault, write_text_fault};
@@ -9,14 +7,9 @@ use crate::survive_fault::SurviveFault;
 use tx_risk_text::code_and_name;
 use tx_text::{Sink, WriteFault};
 
-/// Writes the line that tells a fault, as `telexplan: risks line 3: Q5 UnknownName`, with its LF.
+/// Writes the line that reports a fault, as `telexplan: risks line 3: Q5 UnknownName`, with its LF.
 pub fn write_survive_fault<W: Sink>(fault: &SurviveFault, sink: &mut W) -> Result<(), WriteFault>
-    ensures ok { OnOk result (W.taken sink.new
-        ≡ append_known (W.taken sink.old) (survive_fault_line fault.now)) }
-    ensures err { OnErr result (StopsIn (W.taken sink.old) (W.taken sink.new)
-        (survive_fault_line fault.now)) }
-    ensures mark { OnErr result (W.failed sink.new ≡ true) }
-    ensures unmarked { OnOk result (W.failed sink.new ≡ W.failed sink.old) }
+    ensures { Wrote W.taken W.failed sink.old sink.new (survive_fault_line fault.now) result }
 {
     match fault {
         SurviveFault::Job(fault) => write_fault(fault, sink),

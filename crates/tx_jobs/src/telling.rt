@@ -1,9 +1,9 @@
-// The job of `run PLAN SCRIPT` where more is told, and the exit status of a run that is to tell
+// The job of `run PLAN SCRIPT` where more is printed, and the exit status of a run that is to show
 // whether an event was refused.
 ghost use Rattle.std.specs.Prelude.{◌≡◌};
 ghost use Rattle.tx_text.specs.Calls.{CallsAtMost, source_calls};
 ghost use Rattle.tx_jobs.specs.JobFaults.{mark_after};
-ghost use Rattle.tx_jobs.specs.JobEnds.{input, output};
+ghost use Rattle.tx_text.specs.Ends.{input, output};
 ghost use Rattle.tx_jobs.specs.TellingJobs.{ScriptTold, TellingJobAnswers, status_of_replies};
 
 use crate::job_fault::JobFault;
@@ -15,7 +15,7 @@ use tx_script::{Summary, Telling, run_telling};
 use tx_text::{Sink, Source};
 
 /// Reads a plan, and then runs a script over it as `run_job` does. Where they are asked for, the
-/// line of each event stands before its reply, and the summary behind the line END EVENTS.
+/// line of each event comes before its reply, and the summary after the line END EVENTS.
 pub fn run_telling_job<A: Allocator + Copy, P: Source, R: Source, W: Sink>(
     alloc: A,
     telling: Telling,
@@ -31,18 +31,11 @@ pub fn run_telling_job<A: Allocator + Copy, P: Source, R: Source, W: Sink>(
     ensures plan_calls { CallsAtMost P.called source_calls plan.old plan.new }
     ensures script_calls { CallsAtMost R.called source_calls script.old script.new }
 {
-    match read_plan_from(alloc, plan) {
-        Ok(plan) => {
-            plan.rules();
-            let told = tell_script(alloc, telling, &plan, script, out);
-            drop(plan);
-            told
-        }
-        Err(fault) => Err(JobFault::of_plan(fault)),
-    }
+    let plan = read_plan_from(alloc, plan)?;
+    tell_script(alloc, telling, &plan, script, out)
 }
 
-/// Runs a script over a network of the plan, from its opening state, and tells what is asked for.
+/// Runs a script over a network of the plan, from its opening state, and returns what is asked for.
 fn tell_script<A: Allocator + Copy, R: Source, W: Sink>(
     alloc: A,
     telling: Telling,
@@ -56,17 +49,8 @@ fn tell_script<A: Allocator + Copy, R: Source, W: Sink>(
     ensures mark { W.failed out.new ≡ mark_after (W.failed out.old) result }
     ensures calls { CallsAtMost R.called source_calls script.old script.new }
 {
-    match Engine::new(alloc, plan) {
-        Err(_) => Err(JobFault::NoMemory),
-        Ok(mut network) => {
-            let told = run_telling(alloc, telling, plan, &mut network, script, out);
-            network.close();
-            match told {
-                Ok(summary) => Ok(summary),
-                Err(fault) => Err(JobFault::of_run(fault)),
-            }
-        }
-    }
+    let mut network = Engine::new(alloc, plan)?;
+    Ok(run_telling(alloc, telling, plan, &mut network, script, out)?)
 }
 
 /// The exit status of a run: 1 where it is to be strict and an event was refused, else 0.

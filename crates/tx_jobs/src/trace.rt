@@ -4,21 +4,31 @@ ghost use Rattle.tx_text.specs.Calls.{CallsAtMost, source_calls};
 ghost use Rattle.tx_plan.specs.Plan.{exchange_named, code_named};
 ghost use Rattle.tx_trace.specs.TraceText.{trace_text};
 ghost use Rattle.tx_jobs.specs.JobFaults.{mark_after};
-ghost use Rattle.tx_jobs.specs.JobEnds.{input, output};
+ghost use Rattle.tx_text.specs.Ends.{input, output};
 ghost use Rattle.tx_jobs.specs.TraceJobs.{ToldTrace, TracedNamed, TraceJobAnswers};
 
 use crate::job_fault::JobFault;
-use crate::traced::Traced;
 use std::alloc::Allocator;
 use tx_plan::{CodeId, ExchangeId, Plan};
 use tx_plantext::read_plan_from;
-use tx_text::{Sink, Source, WriteFault};
+use tx_text::{Sink, Source};
 use tx_trace::{trace_calls, write_trace};
+
+/// What a plan to trace calls in came to.
+#[derive(Clone, Copy, Debug)]
+pub enum Traced {
+    /// The trace was written.
+    Trace,
+    /// The plan has no exchange of the name that was asked for.
+    NoSuchExchange,
+    /// The plan has no code of the figures that were asked for.
+    NoSuchCode,
+}
 
 /// Reads a plan, and writes how calls for the code of some figures go from the exchange of a name.
 ///
 /// Answers whether the trace was written, or the plan has no such exchange or no such code. Nothing
-/// is written where it has none or is refused, or where memory is wanting.
+/// is written where it has none or is refused, or where memory runs out.
 pub fn trace_job<A: Allocator + Copy, P: Source, W: Sink>(
     alloc: A,
     plan: &mut P,
@@ -31,15 +41,8 @@ pub fn trace_job<A: Allocator + Copy, P: Source, W: Sink>(
     ensures mark { W.failed out.new ≡ mark_after (W.failed out.old) result }
     ensures calls { CallsAtMost P.called source_calls plan.old plan.new }
 {
-    match read_plan_from(alloc, plan) {
-        Ok(plan) => {
-            plan.rules();
-            let traced = trace_named(alloc, &plan, exchange, code, out);
-            drop(plan);
-            traced
-        }
-        Err(fault) => Err(JobFault::of_plan(fault)),
-    }
+    let plan = read_plan_from(alloc, plan)?;
+    trace_named(alloc, &plan, exchange, code, out)
 }
 
 /// Traces the code of some figures from the exchange of a name.
@@ -76,11 +79,7 @@ fn trace_code<A: Allocator + Copy, W: Sink>(
         result }
     ensures mark { W.failed out.new ≡ mark_after (W.failed out.old) result }
 {
-    match trace_calls(alloc, plan, code, exchange) {
-        Ok(trace) => match write_trace(plan, &trace, out) {
-            Ok(()) => Ok(Traced::Trace),
-            Err(WriteFault) => Err(JobFault::Write),
-        },
-        Err(_) => Err(JobFault::NoMemory),
-    }
+    let trace = trace_calls(alloc, plan, code, exchange)?;
+    write_trace(plan, &trace, out)?;
+    Ok(Traced::Trace)
 }

@@ -3,5 +3,4 @@ pub mod Sets
 pub mod Order
 pub mod Arranged
 pub mod ByCode
-mod Texts
-mod Halves
+mod Parts

@@ -15,8 +15,8 @@ use Rattle.std.specs.declared.cmp.Ordering.TheVariants.{Less, Equal, Greater}
 use Rattle.std.specs.Cmp.Lexicographic.{slice_cmp}
 use Rattle.std.proofs.lemmas.Map.Keys.{any_passes_from_place}
 use Rattle.tx_plan.specs.Lines.{at_most, in_range}
-use Rattle.tx_entries.specs.declared.range.LineRange.{LineRange}
-use Rattle.tx_entries.proofs.Lists.{same_tests}
+use Rattle.tx_plan.specs.declared.range.LineRange.{LineRange}
+use Rattle.tx_plan.proofs.Lists.{same_tests}
 use Rattle.tx_lines.specs.inner.Ordered.{Place, place_cmp, start_of, IsInOrder}
 
 pub places_total : IsTotalOrder place_cmp

@@ -11,13 +11,13 @@ use Rattle.std.specs.FinSet as set
 use Rattle.std.specs.Map.{lookup}
 use Rattle.indexmap.specs.IndexMap as index
 use Rattle.indexmap.specs.IndexMap.{IndexMap}
-use Rattle.tx_plan.specs.Orders.{same_line, line_cmp, same_line-is, same_line_equiv}
-use Rattle.tx_entries.proofs.Named.{lines_total, exact_lines, line_tie, in_lines}
-use Rattle.tx_entries.specs.declared.line.Line.{Line}
-use Rattle.tx_entries.specs.declared.range.LineRange.{LineRange}
-use Rattle.tx_lines.specs.declared.status.Status.{Status}
-use Rattle.tx_lines.specs.declared.status.Mark.{Mark}
-use Rattle.tx_lines.specs.declared.status.Mark.TheVariants.{Faulty, Away, Engaged}
+use Rattle.tx_plan.specs.Orders.{same_line, line_cmp}
+use Rattle.tx_plan.proofs.Named.{lines_total, exact_lines, line_tie, in_lines, same_line-is, same_line_equiv}
+use Rattle.tx_plan.specs.declared.ids.Line.{Line}
+use Rattle.tx_plan.specs.declared.range.LineRange.{LineRange}
+use Rattle.tx_lines.specs.declared.book.Status.{Status}
+use Rattle.tx_lines.specs.declared.book.Mark.{Mark}
+use Rattle.tx_lines.specs.declared.book.Mark.TheVariants.{Faulty, Away, Engaged}
 use Rattle.tx_lines.specs.Status.{has, with_mark, is_unmarked, unmarked}
 use Rattle.tx_lines.specs.Book.{Book, has_status, place_taken, switched}
 use Rattle.tx_lines.specs.inner.Kept.{passes, with_status, book_of, with_mark_of, status_of, kept}

@@ -1,32 +1,90 @@
-// The book of subscribers' lines.
+// The book of subscribers' lines, and what is known of a line.
 ghost use Rattle.std.specs.Prelude.{◌≡◌, ℕ, ◌+◌, ◌<◌, ◌≤◌, true, false, if◌then◌else◌, List, Some, None, is_some, OnOk, IfOk, IsOk};
 ghost use Rattle.std.specs.FinSet as set;
 ghost use Rattle.indexmap.specs.IndexMap.{Updates, get, spare};
 ghost use Rattle.tx_plan.specs.Lines.{is_line_at};
 ghost use Rattle.tx_plan.specs.Orders.{same_line};
-ghost use Rattle.tx_entries.specs.declared.line.Line.{Line};
-ghost use Rattle.tx_lines.specs.declared.status.Status.{Status};
-ghost use Rattle.tx_lines.specs.declared.status.Mark.{Mark};
+ghost use Rattle.tx_plan.specs.declared.ids.Line.{Line};
+ghost use Rattle.tx_lines.specs.declared.book.Status.{Status};
+ghost use Rattle.tx_lines.specs.declared.book.Mark.{Mark};
 ghost use Rattle.tx_lines.specs.Book.{is_line_of, has_status, place_taken, switched, answer_of};
-ghost use Rattle.tx_lines.specs.Status.{with_mark};
+ghost use Rattle.tx_lines.specs.Status.{with_mark, is_unmarked};
 ghost use Rattle.tx_lines.specs.inner.Kept.{with_mark_of, status_of, kept};
 
-use crate::answer::LineAnswer;
 use crate::ranges::Ranges;
-use crate::status::{Mark, Status, UNMARKED};
 use indexmap::IndexMap;
 use std::alloc::{Allocator, Global};
 use std::marker::Model;
-use tx_entries::ByWord;
-use tx_plan::{CodeId, Line, National, Plan};
+use tx_plan::{ByWord, CodeId, Line, National, Plan};
 use tx_text::NoMemory;
+
+/// What a home exchange finds at the line that was called. The first that applies is answered.
+#[derive(Clone, Copy, Debug)]
+pub enum LineAnswer {
+    /// No line of the code has the number (NP).
+    NoLine,
+    /// The line is out of order (DER).
+    OutOfOrder,
+    /// The subscriber is absent (ABS).
+    Away,
+    /// The line takes part in a call (OCC).
+    Engaged,
+    /// The line may be connected.
+    Free(Line),
+}
+
+/// A mark that a line may have.
+#[derive(Clone, Copy, Debug)]
+pub enum Mark {
+    Faulty,
+    Away,
+    Engaged,
+}
+
+/// What is known of a line: the marks that it has.
+#[derive(Clone, Copy, Debug)]
+pub struct Status {
+    pub faulty: bool,
+    pub away: bool,
+    pub engaged: bool,
+}
+
+/// No mark.
+pub const UNMARKED: Status = Status {
+    faulty: false,
+    away: false,
+    engaged: false,
+};
+
+impl Status {
+    /// Whether there is no mark.
+    pub(crate) fn is_unmarked(self) -> bool
+        ensures { result ≡ is_unmarked self }
+    {
+        !self.faulty && !self.away && !self.engaged
+    }
+
+    /// The status with the mark set or taken away.
+    pub(crate) fn with_mark(self, mark: Mark, on: bool) -> Status
+        ensures { result ≡ with_mark mark on self }
+    {
+        match mark {
+            Mark::Faulty => Status { faulty: on, ..self },
+            Mark::Away => Status { away: on, ..self },
+            Mark::Engaged => Status {
+                engaged: on,
+                ..self
+            },
+        }
+    }
+}
 
 /// The lines of a plan, and which of them are faulty (out of order), away (their subscriber is
 /// absent) or engaged.
 ///
 /// A line's first status takes a place of the book's room, which `reserve_one` makes; a further
 /// one takes none. `build` and `reserve_one` alone take memory.
-#[derive(Drop)]
+#[derive(Debug, Drop)]
 pub struct LineBook<A: Allocator = Global> {
     ranges: Ranges<A>,
     statuses: IndexMap<Line, Status, ByWord, A>,
@@ -42,14 +100,15 @@ impl<A: Allocator> Model for LineBook<A> {
 
     ghost view = { λ b. book_of b.ranges b.statuses };
 
-    // A line stands in the map exactly while it has a status.
+    // A line is in the map exactly while it has a status.
     ghost invariant = { λ b. AllMarked b.statuses };
 }
 
 impl<A: Allocator + Copy> LineBook<A> {
     /// The book of a plan's lines, none of which has a status.
     pub fn build(alloc: A, plan: &Plan<A>) -> Result<Self, NoMemory>
-        ensures lines { IfOk result (λ b. (code : ℕ) (number : List ℕ) → is_line_of b.ranges code number ≡ is_line_at plan.now code number) }
+        ensures lines { IfOk result (λ b. (code : ℕ) (number : List ℕ)
+            → is_line_of b.ranges code number ≡ is_line_at plan.now code number) }
         ensures faulty { IfOk result (λ b. b.faulty ≡ set.empty) }
         ensures away { IfOk result (λ b. b.away ≡ set.empty) }
         ensures engaged { IfOk result (λ b. b.engaged ≡ set.empty) }
@@ -64,7 +123,7 @@ impl<A: Allocator + Copy> LineBook<A> {
 
 impl<A: Allocator> LineBook<A> {
     /// Makes room for one more line with a status. Where there is some, no memory is asked for.
-    /// Want of memory changes no status.
+    /// Lack of memory changes no status.
     pub fn reserve_one(&mut self) -> Result<(), NoMemory>
         ensures ok { OnOk result (0 < self.new.room) }
         ensures rest { self.new ≡ record self.old { room = self.new.room } }
@@ -79,7 +138,8 @@ impl<A: Allocator> LineBook<A> {
 
     /// The line of a code and a national number, if the number lies in a range of the code.
     pub fn find(&self, code: CodeId, national: &[u8]) -> Option<Line>
-        ensures { result ≡ (if is_line_of self.now.ranges code national.now then Some (record { code = code; national = national.now }) else None) }
+        ensures { result ≡ (if is_line_of self.now.ranges code national.now
+            then Some (record { code = code; national = national.now }) else None) }
     {
         let national = National::read(national)?;
         if self.ranges.has(code, national.bytes()) {
@@ -234,12 +294,13 @@ fn take_mark<A: Allocator>(
         else get same_line statuses.old q) }
     ensures room { spare statuses.old ≤ spare statuses.new }
 {
-    let Some(status) = statuses.get_mut(line) else {
+    let Some((place, _, status)) = statuses.get_full(line) else {
         return;
     };
     let left = status.with_mark(mark, false);
-    *status = left;
     if left.is_unmarked() {
-        let _status = statuses.swap_remove(line);
+        let _entry = statuses.swap_remove_index(place);
+    } else if let Some(status) = statuses.get_mut(line) {
+        *status = left;
     }
 }

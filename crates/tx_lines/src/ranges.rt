@@ -11,8 +11,9 @@ use std::marker::Model;
 use tx_plan::{CodeId, LineRange, Plan};
 use tx_text::NoMemory;
 
-/// Ranges in order of code, width and low end, no two of which share a number; and for each code where its own begin.
-#[derive(Drop)]
+/// Ranges in order of code, width and low end, no two of which share a number; and for each code
+/// where its own begin.
+#[derive(Debug, Drop)]
 pub struct Ranges<A: Allocator = Global> {
     ranges: Vec<LineRange, A>,
     firsts: Vec<usize, A>,
@@ -20,7 +21,7 @@ pub struct Ranges<A: Allocator = Global> {
 
 impl<A: Allocator> Model for Ranges<A> {
     ghost use Rattle.std.specs.Prelude.{List};
-    ghost use Rattle.tx_entries.specs.declared.range.LineRange.{LineRange};
+    ghost use Rattle.tx_plan.specs.declared.range.LineRange.{LineRange};
     ghost use Rattle.tx_lines.specs.inner.Ordered.{IsInOrder, AreFirsts};
 
     ghost Value = { List LineRange };
@@ -35,7 +36,6 @@ impl<A: Allocator + Copy> Ranges<A> {
     pub fn build(alloc: A, plan: &Plan<A>) -> Result<Self, NoMemory>
         ensures { IfOk result (λ r. IsPermutation plan.now.ranges r) }
     {
-        plan.rules();
         let mut ranges = Vec::with_capacity(alloc, plan.ranges())?;
         for place in 0..plan.ranges() {
             ranges.push_reserved(plan.range_at(place).unwrap());
@@ -48,7 +48,6 @@ impl<A: Allocator + Copy> Ranges<A> {
 
 impl<A: Allocator> Ranges<A> {
     /// Whether a number lies in a range of the code.
-    #[inline(always)]
     pub fn has(&self, code: CodeId, number: &[u8]) -> bool
         ensures { result ≡ list_any (λ r. (r.code == code) && in_range number.now r) self.now }
     {
@@ -61,8 +60,8 @@ impl<A: Allocator> Ranges<A> {
         reaches(range, code, number)
     }
 
-    /// From which place and up to which the ranges of the code stand; all places for a code that the plan has not.
-    #[inline(always)]
+    /// From which place and up to which the ranges of the code are; all places for a code that
+    /// the plan does not have.
     fn places(&self, code: CodeId) -> (usize, usize)
         ensures order { result.0 ≤ result.1 }
         ensures within { result.1 ≤ length self.now }
@@ -95,15 +94,12 @@ fn firsts_of<A: Allocator>(
     Ok(firsts)
 }
 
-#[inline(always)]
 fn compare(code: CodeId, low: &[u8], other: CodeId, number: &[u8]) -> Ordering
     ensures { result ≡ place_cmp (code, low.now) (other, number.now) }
 {
-    match code.index().cmp(&other.index()) {
-        Ordering::Less => Ordering::Less,
-        Ordering::Equal => low.len().cmp(&number.len()).then(low.cmp(number)),
-        Ordering::Greater => Ordering::Greater,
-    }
+    code.index()
+        .cmp(&other.index())
+        .then(low.len().cmp(&number.len()).then(low.cmp(number)))
 }
 
 fn compare_starts(a: &LineRange, b: &LineRange) -> Ordering
@@ -112,8 +108,8 @@ fn compare_starts(a: &LineRange, b: &LineRange) -> Ordering
     compare(a.code, a.low.bytes(), b.code, b.low.bytes())
 }
 
-/// How many ranges start at the number of the code or before it, where those of the code stand from one place and up to another.
-#[inline(always)]
+/// How many ranges start at the number of the code or before it, where those of the code are from
+/// one place and up to another.
 fn starting_by(ranges: &[LineRange], code: CodeId, number: &[u8], first: usize, end: usize) -> usize
     requires order { IsInOrder ranges.now }
     requires rising { first ≤ end }
@@ -122,54 +118,24 @@ fn starting_by(ranges: &[LineRange], code: CodeId, number: &[u8], first: usize, 
     requires behind { AllWithin (λ r. code < r.code) ranges.now end (length ranges.now) }
     ensures { IsStart ranges.now code number.now result }
 {
-    let mut after = first;
-    let mut rest = end;
-    while after < rest {
-        let middle = after + (rest - after) / 2;
-        if starts_by(&ranges[middle], code, number) {
-            after = middle + 1;
-        } else {
-            rest = middle;
-        }
-    }
-    after
+    let own = &ranges[first..end];
+    let after = own.partition_point(|range| starts_by(range, code, number));
+    first + after
 }
 
 /// Whether the range starts at the number of the code or before it.
-#[inline(always)]
 fn starts_by(range: &LineRange, code: CodeId, number: &[u8]) -> bool
     ensures { result ≡ is_le (place_cmp (start_of range.now) (code, number.now)) }
 {
-    if range.code != code {
-        return range.code.index() < code.index();
-    }
-    let low = range.low.bytes();
-    if low.len() != number.len() {
-        return low.len() < number.len();
-    }
-    at_most(low, number)
-}
-
-/// Whether the one text is not above the other, byte by byte.
-#[inline(always)]
-fn at_most(low: &[u8], high: &[u8]) -> bool
-    ensures { result ≡ at_most low.now high.now }
-{
-    let common = low.len().min(high.len());
-    for place in 0..common {
-        if low[place] != high[place] {
-            return low[place] < high[place];
-        }
-    }
-    low.len() <= high.len()
+    compare(range.code, range.low.bytes(), code, number).is_le()
 }
 
 /// Whether a number that does not lie before the range lies in it, and the range is of the code.
-#[inline(always)]
 fn reaches(range: &LineRange, code: CodeId, number: &[u8]) -> bool
-    ensures { result ≡ ((range.now.code == code) && ((length number.now == length range.now.low) && at_most number.now range.now.high)) }
+    ensures { result ≡ ((range.now.code == code)
+        && ((length number.now == length range.now.low) && at_most number.now range.now.high)) }
 {
     range.code == code
         && number.len() == range.low.bytes().len()
-        && at_most(number, range.high.bytes())
+        && number.cmp(range.high.bytes()).is_le()
 }

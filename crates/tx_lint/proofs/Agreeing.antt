@@ -3,16 +3,14 @@ use Rattle.std.proofs.Common.{◌≡◌, ℕ, ◌+◌, Bool, true, false, List, 
 use Rattle.std.specs.Prelude.{is_none, if◌then◌else◌}
 use Rattle.std.specs.Option.{option_map, option_to_list}
 use Rattle.tx_text.specs.declared.text_fault.TextFault.{TextFault}
-use Rattle.tx_text.specs.declared.line_fault.LineFault.TheVariants.{Text}
-use Rattle.tx_text.specs.declared.frame.FormFault.{FormFault}
-use Rattle.tx_text.specs.declared.frame.FrameFault.TheVariants.{Line as of_line}
+use Rattle.tx_text.specs.declared.frame.FrameFault.{FrameFault}
 use Rattle.tx_text.specs.declared.frame.FaultKind.{FaultKind}
 use Rattle.tx_text.specs.declared.frame.FaultKind.TheVariants.{Frame}
 use Rattle.tx_text.specs.declared.frame.LineForm.{LineForm}
 use Rattle.tx_text.specs.declared.frame.LineForm.TheVariants.{Blank, Header as HeaderLine, Plain, End, Bad}
 use Rattle.tx_text.specs.Text.{Line, lines_of_parts, lines_from, lines_of, bytes_fault}
 use Rattle.tx_text.specs.Words.{words_of}
-use Rattle.tx_text.specs.Told.{AtEnd, told, Then, or_fault}
+use Rattle.tx_text.specs.Told.{AtEnd, told, Then, frame_fault, or_fault}
 use Rattle.tx_text.specs.Frame.{header_of, framed, framed_line, as_said, ended_by, closing, last_fault, Framed}
 use Rattle.tx_text.specs.Said.{said, step_on}
 use Rattle.tx_plan.specs.Plan.{Plan}
@@ -56,14 +54,14 @@ rest_framed s n ls = framed (header_of (codes "PLAN") 2) s.part n (told AtEnd ls
 abbrev Agrees : Progress → ℕ → List Line → Type 0
 Agrees s n ls = first_fault (faults_from s n ls) ≡ told_by (tells s (rest_framed s n ls))
 
-end_agrees : (s : Progress) (n : ℕ) (x : Option FormFault)
+end_agrees : (s : Progress) (n : ℕ) (x : Option FrameFault)
     → first_fault (option_to_list (option_map (fault_at_end n) (form_told x)))
     ≡ told_by (tells s (ended_by n x))
 unfolding said
 end_agrees s n None = refl
 end_agrees s n (Some x) = refl
 
-last_agrees : (s : Progress) (m : ℕ) (ws : List (List ℕ)) (x : Option FormFault)
+last_agrees : (s : Progress) (m : ℕ) (ws : List (List ℕ)) (x : Option FrameFault)
     → first_fault (option_to_list (option_map (fault_in_line s m ws) (form_told x)) ++ [])
     ≡ told_by (tells s (ended_by m x))
 unfolding said
@@ -100,7 +98,7 @@ bytes_agree : (s : Progress) (n : ℕ) (l : Line) (ls : List Line) (b : Option T
     ++ (if l.finished then faults_from (if is_none b then form_on s l.number (words_of l.bytes) (form_of s.part (words_of l.bytes)) else s) (l.number + 1) ls else []))
     ≡ told_by (tells s (framed (header_of (codes "PLAN") 2) s.part n (or_fault b (Then l (told AtEnd ls)))))
 unfolding framed said
-bytes_agree s n l ls (Some x) e after = ap (λ k. Some (k, Frame (of_line (Text x)))) e
+bytes_agree s n l ls (Some x) e after = ap (λ k. Some (k, Frame (frame_fault x))) e
 bytes_agree s n l ls None e after = words_agree l.number ls after s (words_of l.bytes) l.finished
 
 pub agrees : (s : Progress) (n : ℕ) (ls : List Line) → AreNumbered n ls → Agrees s n ls
@@ -114,7 +112,7 @@ agrees s n (l ∷ ls) (e, h) = bytes_agree s n l ls (bytes_fault l.bytes) e (λ 
 abbrev GivesPlan : Plan → Progress → ℕ → List Line → Type 0
 GivesPlan p s n ls = tells s (rest_framed s n ls) ≡ Ok p → (progress_from s ls).plan ≡ p
 
-end_gives : (p : Plan) (s : Progress) (n : ℕ) (x : Option FormFault) → tells s (ended_by n x) ≡ Ok p → s.plan ≡ p
+end_gives : (p : Plan) (s : Progress) (n : ℕ) (x : Option FrameFault) → tells s (ended_by n x) ≡ Ok p → s.plan ≡ p
 unfolding said
 end_gives p s n None h = cc
 end_gives p s n (Some x) h = cc

@@ -1,4 +1,4 @@
--- Marking where calls come, and which groups stand in a list.
+-- Marking where calls come, and which groups are in a list.
 use Rattle.std.proofs.Common.{◌≡◌, ℕ, zero, suc, ◌+◌, ◌<◌, Bool, true, false, List, [], ◌∷◌, ◌++◌, map, length, take, get_or, inl, inr, Option, Some, None, Vec, refl, sym, ap, subst, ◌∙◌, arith}
 use Rattle.std.specs.Prelude.{◌↔◌, ◌||◌, ◌==◌, slice_get}
 use Rattle.std.specs.List.{list_any, AllByRecursion}
@@ -9,7 +9,7 @@ use Rattle.std.proofs.lemmas.Bool.{cases_lt, false≢true}
 use Rattle.std.proofs.lemmas.List.{map-append}
 use Rattle.std.proofs.lemmas.List.Folds.{list_any_more}
 use Rattle.std.proofs.lemmas.Option.{slice_get_within}
-use Rattle.tx_entries.proofs.Lists.{all_map}
+use Rattle.tx_plan.proofs.Lists.{all_map}
 use Rattle.tx_plan.specs.Plan.{Plan, Route, Group}
 use Rattle.tx_plan.specs.Circuits.{may_seize, may_seize_row}
 use Rattle.tx_plan.specs.Routes.{route_list}
@@ -66,7 +66,7 @@ coming_push {A} p i old new m so more c is r =
     subst (AreComingBefore p (i + 1)) (sym pushed)
     (coming_next p i (map marks old) m.items so (subst (λ (k : ℕ). AreReached (net_of p k) m.items) is r))
 
--- ---- which groups stand in a list
+-- ---- which groups are in a list
 
 or_false : (b : Bool) → b ≡ (b || false)
 or_false true = refl
@@ -94,7 +94,7 @@ marked_more old marks groups i y low is within so g =
     ∙ or_assoc (is_marked old g) (list_any (λ h. h == g) (take i groups)) (y == g)
     ∙ ap (λ b. is_marked old g || b) (ap (λ k. list_any (λ h. h == g) (take i groups) || (k == g)) is ∙ sym (list_any_more (λ h. h == g) groups i y low))
 
--- the group stands in one of the lists
+-- the group is in one of the lists
 abbrev pub stands_in : ℕ → List Route → Bool
 stands_in g routes = list_any (λ r. list_any (λ h. h == g) r.groups) routes
 

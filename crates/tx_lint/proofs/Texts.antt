@@ -4,7 +4,7 @@ use Rattle.std.specs.Prelude.{IsErr}
 use Rattle.std.specs.List.{flat_map}
 use Rattle.std.proofs.lemmas.List.{get_or_default}
 use Rattle.tx_text.specs.declared.sink.WriteFault.{WriteFault}
-use Rattle.tx_text.specs.Wrote.{Wrote}
+use Rattle.tx_text.specs.Wrote.{WroteBy}
 use Rattle.tx_text.proofs.Wrote.{Outcome, texts_more, texts_stopped}
 
 cut : (a b c d e f g rest : List ℕ) → a ++ (b ++ (c ++ (d ++ (e ++ (f ++ (g ++ rest))))))
@@ -24,13 +24,13 @@ told_cut file line code name rest = cut file (codes ":") line (codes ": ") code 
 -- The texts of a list, whose member at a place is read with a default.
 module _ {X : Type 0} (text : X → List ℕ) where
   pub more_read : (xs : List X) (i : ℕ) (d : X) (a b c : Option (List ℕ)) (f g h : Bool) → i < length xs
-      → Wrote a b f g (flat_map text (take i xs)) (Ok tt) → Wrote b c g h (text (get_or xs i d)) (Ok tt)
-      → Wrote a c f h (flat_map text (take (i + 1) xs)) (Ok tt)
+      → WroteBy a b f g (flat_map text (take i xs)) (Ok tt) → WroteBy b c g h (text (get_or xs i d)) (Ok tt)
+      → WroteBy a c f h (flat_map text (take (i + 1) xs)) (Ok tt)
   more_read xs i d a b c f g h low v w =
       texts_more text xs i (get_or xs i d) a b c f g h low (get_or_default xs i d (get_or xs i d) low) v w
 
   pub stopped_read : (xs : List X) (i : ℕ) (d : X) (a b c : Option (List ℕ)) (f g h : Bool) (r : Outcome) (fault : WriteFault)
-      → i < length xs → Wrote a b f g (flat_map text (take i xs)) (Ok tt)
-      → Wrote b c g h (text (get_or xs i d)) (Err fault) → IsErr r → Wrote a c f h (flat_map text xs) r
+      → i < length xs → WroteBy a b f g (flat_map text (take i xs)) (Ok tt)
+      → WroteBy b c g h (text (get_or xs i d)) (Err fault) → IsErr r → WroteBy a c f h (flat_map text xs) r
   stopped_read xs i d a b c f g h r fault low v w bad =
       texts_stopped text xs i (get_or xs i d) a b c f g h r fault low (get_or_default xs i d (get_or xs i d) low) v w bad

@@ -1,15 +1,14 @@
--- The word at fault in a line that is refused. It is told where one word is at fault by itself: of
--- a number of words, of a range's ends, of an exchange and a code that do not go together, and of
--- too many entries none is.
-use Rattle.std.specs.Prelude.{ℕ, Bool, not, List, [], ◌∷◌, length, find, slice_get, codes, if◌then◌else◌}
-use Rattle.std.specs.Prelude.{Option, Some, None}
+-- The word at fault in a line that is refused. There is one where one word is at fault by itself:
+-- of a number of words, of a range's ends, of an exchange and a code that do not go together, and
+-- of too many entries none is.
+use Rattle.std.specs.Prelude.{ℕ, Bool, not, List, [], ◌∷◌, length, find, slice_get, codes, if◌then◌else◌, Option, Some, None}
 use Rattle.std.specs.List.{list_any}
 use Rattle.std.specs.Option.{option_or}
 use Rattle.std.specs.Str.{bytes_eq}
 use Rattle.tx_text.specs.declared.frame.FaultKind.{FaultKind}
 use Rattle.tx_text.specs.declared.frame.FaultKind.TheVariants.{Frame, Word}
 use Rattle.tx_text.specs.Words.{is_name}
-use Rattle.tx_entries.specs.Numbers.{is_national}
+use Rattle.tx_plan.specs.Numbers.{is_national}
 use Rattle.tx_plan.specs.declared.refusal.PlanRefusal.{PlanRefusal}
 use Rattle.tx_plan.specs.declared.refusal.PlanRefusal.TheVariants.{BadName, BadCode, BadNumber, Duplicate, Unknown, SameEnds, NotOutgoing, RepeatedGroup}
 use Rattle.tx_plan.specs.Plan.{Plan}
@@ -19,7 +18,7 @@ use Rattle.tx_plantext.specs.declared.fault.PlanWord.TheVariants.{UnknownWord, R
 use Rattle.tx_lint.specs.declared.entry.Entry.{Entry}
 use Rattle.tx_lint.specs.declared.entry.Entry.TheVariants.{Header, Exchange, Code, Lines, Group, Route, Bar}
 
--- WHAT A LINE DECLARES, by the word that it begins with: the next entry of one list
+-- What a line declares, by the word that it begins with: the next entry of one list
 abbrev pub entry_of : Plan → List ℕ → Option Entry
 entry_of p w =
     if bytes_eq w (codes "EXCHANGE") then Some (Exchange (length p.exchanges))
@@ -34,7 +33,7 @@ entry_of p w =
 abbrev pub first_not : (List ℕ → Bool) → List (List ℕ) → Option (List ℕ)
 first_not is_right ws = find (λ w. not (is_right w)) ws
 
--- the first of some words that stands there again
+-- the first of some words that comes again
 abbrev pub first_again : List (List ℕ) → Option (List ℕ)
 first_again [] = None
 first_again (w ∷ ws) = if list_any (bytes_eq w) ws then Some w else first_again ws
@@ -44,7 +43,7 @@ abbrev pub unknown_of_pair : Plan → (exchange code : List ℕ) → Option (Lis
 unknown_of_pair p exchange code =
     option_or (first_not (has_exchange p) (exchange ∷ [])) (first_not (has_code p) (code ∷ []))
 
--- BY THE WORDS BEHIND A LINE'S FIRST, and what refuses them
+-- In what follows the words are those after the first of a line, and the refusal is theirs.
 
 -- EXCHANGE name
 abbrev pub exchange_word : List (List ℕ) → PlanRefusal → Option (List ℕ)
@@ -109,7 +108,7 @@ refused_word p (Some (Bar i)) ws r = bar_word p ws r
 abbrev pub unknown_word : List ℕ → List (List ℕ) → Option (List ℕ)
 unknown_word w ws = if bytes_eq w (codes "GROUP") then slice_get ws 3 else Some w
 
--- THE WORD AT FAULT of a line, after what the lines before it declared
+-- The word at fault of a line, after what the lines before it declared
 abbrev pub word_at_fault : Plan → List (List ℕ) → FaultKind PlanWord → Option (List ℕ)
 word_at_fault p [] kind = None
 word_at_fault p (w ∷ ws) (Frame fault) = None

@@ -12,16 +12,17 @@ use Rattle.tx_lint.specs.AllFaults.{Fault, faults_of, progress_of}
 abbrev pub first_fault : List Fault → Option (ℕ × FaultKind PlanWord)
 first_fault fs = option_map (λ f. (f.line, f.kind)) (slice_get fs 0)
 
--- the fault that a reader of the text tells, if it tells one
+-- the fault that a reader of the text answers, if it answers one
 abbrev pub told_by : Result Plan (ℕ × FaultKind PlanWord) → Option (ℕ × FaultKind PlanWord)
 told_by (Ok p) = None
 told_by (Err fault) = Some fault
 
--- The first of all faults is the fault that the reader of plan texts tells, and there is none
+-- The first of all faults is the fault that the reader of plan texts answers, and there is none
 -- exactly where that takes the text. Then the plan is the one that it answers.
 pub record AgreesWithReader (text : List ℕ) : Type 0 where
   pub first : first_fault (faults_of text) ≡ told_by (plan_of AtEnd text)
   pub plan : (p : Plan) → plan_of AtEnd text ≡ Ok p → (progress_of text).plan ≡ p
 
+-- so it is of every text
 abbrev pub FaultsAgreeWithReader : Type 0
 FaultsAgreeWithReader = (text : List ℕ) → AgreesWithReader text

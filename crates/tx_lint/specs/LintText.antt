@@ -1,4 +1,4 @@
--- The lines that tell what is to be said of a text.
+-- The lines of the faults or warnings of a text.
 use Rattle.std.specs.Prelude.{ℕ, List, [], ◌++◌, Option, Some, None, codes, decimal}
 use Rattle.tx_text.specs.Rows.{Row}
 use Rattle.tx_plan.specs.Plan.{Plan, figures_of, group_name}
@@ -30,15 +30,17 @@ abbrev pub word_text : Option (List ℕ) → List ℕ
 word_text None = []
 word_text (Some w) = codes " " ++ w
 
--- A LINE, as `PLAN.txt:5: P9 Unknown SOUTH`: the words for the file, the line, the code and the
--- name of what is told, and a word
+-- A line, as `PLAN.txt:5: P9 Unknown SOUTH`: the words for the file, the line, the code and the
+-- name of what is reported, and a word
 abbrev pub told_line : (file : List ℕ) → (line : ℕ) → Row → Option (List ℕ) → List ℕ
 told_line file line row word =
     file ++ (codes ":" ++ (decimal line ++ (codes ": "
     ++ (row.0 ++ (codes " " ++ (row.1 ++ (word_text word ++ codes "\n")))))))
 
+-- the line of a fault
 abbrev pub fault_line : (file : List ℕ) → Fault → List ℕ
 fault_line file f = told_line file f.line (fault_row f.kind) f.word
 
+-- the line of a warning
 abbrev pub warning_line : (file : List ℕ) → Plan → ℕ × Warning → List ℕ
 warning_line file p w = told_line file w.0 (warning_row w.1) (warning_word p w.1)

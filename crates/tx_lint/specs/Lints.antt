@@ -1,4 +1,4 @@
--- What is to be said of a plan's text: its faults, or where it has none its warnings.
+-- What lint_plan gives of a plan's text: its faults, or if it has none its warnings.
 use Rattle.std.specs.Prelude.{◌≡◌, ℕ, List, [], ◌∷◌, map, Option}
 use Rattle.std.specs.List.{flat_map}
 use Rattle.std.specs.Option.{option_map}
@@ -24,35 +24,35 @@ IsLintBy [] s l = (comes : Coming) × TellsWhereCallsCome s.plan comes
     × (l ≡ Warnings s.plan (warnings s.plan comes s.entries))
 IsLintBy (f ∷ fs) s l = l ≡ Faults (f ∷ fs)
 
--- THE LINT of a text
+-- The lint of a text
 abbrev pub IsLintOf : (text : List ℕ) → Lint → Type 0
 IsLintOf text l = IsLintBy (faults_of text) (progress_of text) l
 
--- WHAT IS WRITTEN: a line for each fault or each warning
+-- What is written: a line for each fault or each warning
 abbrev pub lint_text : (file : List ℕ) → Lint → List ℕ
 lint_text file (Faults fs) = flat_map (fault_line file) fs
 lint_text file (Warnings p ws) = flat_map (warning_line file p) ws
 
--- THE STATUS: 0 without any line, 1 with warnings, 2 with faults
+-- The status: 0 without any line, 1 with warnings, 2 with faults
 abbrev pub warnings_status : List (ℕ × Warning) → ℕ
 warnings_status [] = 0
 warnings_status (w ∷ ws) = 1
 
+-- the exit status
 abbrev pub lint_status : Lint → ℕ
 lint_status (Faults fs) = 2
 lint_status (Warnings p ws) = warnings_status ws
-
--- AS THEY ARE HELD
 
 -- a fault, with the word that it borrows
 abbrev pub fault_held : FaultHeld → Fault
 fault_held f = record { line = f.line; kind = f.kind; word = option_map (λ w. w.now) f.word }
 
+-- the faults or warnings, as they are held
 abbrev pub lint_held : {A : Type 0} → LintHeld A → Lint
 lint_held (HeldFaults fs) = Faults (map fault_held fs.items)
 lint_held (HeldWarnings p ws) = Warnings p ws.items
 
--- THE WHOLE TEXT of a source was read, by what the source had left to give, and has left
+-- The whole text of a source was read, by what the source had left to give, and has left
 pub record IsWholeText (old new : Option (List ℕ)) (text : List ℕ) : Type 0 where
   pub moves : old ≡ prepend_known text new
   pub ends : IsAtEnd new

@@ -15,7 +15,7 @@ use Rattle.tx_lint.specs.declared.warning.Warning.TheVariants.{NothingToJudge, N
 abbrev pub has_lines : Plan → (c : ℕ) → Bool
 has_lines p c = list_any (λ r. r.code == c) p.ranges
 
--- the group g stands in a list
+-- the group g is in a list
 abbrev pub is_listed : Plan → (g : ℕ) → Bool
 is_listed p g = list_any (λ r. list_any (λ h. h == g) r.groups) p.routes
 
@@ -24,11 +24,11 @@ abbrev pub wants_list : Plan → (x c : ℕ) → Bool
 wants_list p x c =
     (is_origin_for p x c && not (home_of p c == x)) && length (route_list p x c) == 0
 
--- where calls come: `comes c x` tells whether some call for the code c may come to x
+-- where calls come: `comes c x` says whether some call for the code c may come to x
 abbrev pub Coming : Type 0
 Coming = (c x : ℕ) → Bool
 
--- it tells so of each code: a walk for the code ends at x
+-- it says so of each code: a walk for the code ends at x
 abbrev pub TellsWhereCallsCome : Plan → Coming → Type 0
 TellsWhereCallsCome p comes =
     (c x : ℕ) → c < length p.codes → (comes c x ≡ true) ↔ IsReached (net_of p c) x
@@ -37,7 +37,7 @@ TellsWhereCallsCome p comes =
 abbrev pub warned_if : Bool → Warning → List Warning
 warned_if reason w = if reason then w ∷ [] else []
 
--- THE WARNINGS OF AN ENTRY
+-- The warnings of an entry
 abbrev pub entry_warnings : Plan → Coming → Entry → List Warning
 entry_warnings p comes Header = warned_if (length p.ranges == 0) NothingToJudge
 entry_warnings p comes (Exchange x) = flat_map (λ c. warned_if (wants_list p x c) (NoList c))
@@ -50,7 +50,7 @@ entry_warnings p comes (Route i) = option_map_or
 entry_warnings p comes (Bar i) = option_map_or
     (λ b. warned_if (not (is_origin p b.exchange)) UnusedBar) (slice_get p.bars i) []
 
--- ALL WARNINGS, each with the line of its entry, in order of the entries; those of an exchange in
+-- All warnings, each with the line of its entry, in order of the entries; those of an exchange in
 -- order of the codes
 abbrev pub warnings : Plan → Coming → List (ℕ × Entry) → List (ℕ × Warning)
 warnings p comes entries =

@@ -6,7 +6,7 @@ ghost use Rattle.tx_lint.specs.AtFault.{first_not, first_again, unknown_of_pair,
 
 use crate::entry::Entry;
 use crate::word_tests::{
-    first_again, first_closed, first_no_name, first_unknown_group, is_code, is_exchange, pair_named,
+    first_again, first_closed, first_no_name, first_unknown_group, is_code, is_exchange,
 };
 use std::alloc::Allocator;
 use tx_plan::{National, Plan, PlanRefusal};
@@ -202,7 +202,7 @@ fn route_word<'t, A: Allocator>(
             None => first_unknown_group(plan, groups),
         },
         PlanRefusal::NotOutgoing => {
-            let pair = pair_named(plan, exchange, code);
+            let pair = plan.pair_named(exchange, code);
             first_closed(plan, &pair, groups)
         }
         PlanRefusal::RepeatedGroup => first_again(groups),

@@ -5,8 +5,8 @@ ghost use Rattle.tx_lint.specs.AtFault.{entry_of};
 use std::alloc::Allocator;
 use tx_plan::{CodeId, ExchangeId, GroupId, Plan};
 
-/// What a line of a plan's text declares. Ranges, routes and bars are known by their places in their
-/// lists, from 0.
+/// What a line of a plan's text declares. Ranges, routes and bars are known by their places in
+/// their lists, from 0.
 #[derive(Clone, Copy)]
 pub(crate) enum Entry {
     Header,
@@ -23,7 +23,6 @@ impl Entry {
     pub(crate) fn next<A: Allocator>(plan: &Plan<A>, word: &[u8]) -> Option<Entry>
         ensures { result ≡ entry_of plan.now word.now }
     {
-        plan.rules();
         if word == b"EXCHANGE".as_slice() {
             Some(Entry::Exchange(ExchangeId::of(plan.exchanges())))
         } else if word == b"CODE".as_slice() {

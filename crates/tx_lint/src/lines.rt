@@ -1,7 +1,7 @@
 // The lines of a plan's text, all of them.
 ghost use Rattle.std.specs.Prelude.{◌≡◌, ◌++◌, [], true, None, IfOk, OnOk};
 ghost use Rattle.std.specs.Option.{option_to_list};
-ghost use Rattle.tx_text.specs.TextLine.{line_of};
+ghost use Rattle.tx_text.specs.inner.TextLine.{line_of};
 ghost use Rattle.tx_text.specs.Text.{bytes_fault};
 ghost use Rattle.tx_text.specs.Words.{words_of};
 ghost use Rattle.tx_lint.specs.AllFaults.{no_progress, form_of, fault_of_end};
@@ -12,15 +12,11 @@ use crate::entry::Entry;
 use crate::fault::{Fault, LintFault};
 use std::alloc::Allocator;
 use tx_plan::{PlanBuilder, PlanRefusal};
-use tx_plantext::{PlanWord, declare};
+use tx_plantext::{KEY, PlanWord, VERSIONS, declare};
 use tx_text::{
-    FaultKind, FormFault, FrameFault, FramePart, LineFault, LineForm, NoMemory, TextLine,
-    bytes_fault, closing, first_line, last_fault, look, words,
+    FaultKind, FrameFault, FramePart, LineForm, NoMemory, TextLine, bytes_fault, closing,
+    first_line, last_fault, look, words,
 };
-
-const KEY: &[u8] = b"PLAN";
-
-const VERSIONS: u8 = 2;
 
 /// What was read of a text: what its lines declare, and what is wrong with them.
 #[derive(Drop)]
@@ -49,7 +45,7 @@ impl<'t, A: Allocator + Copy> Reading<'t, A> {
 }
 
 impl<'t, A: Allocator> Reading<'t, A> {
-    /// Tells that a line is at fault, and passes over it.
+    /// Notes that a line is at fault, and passes over it.
     fn tell(&mut self, line: TextLine<'t>, kind: FaultKind<PlanWord>) -> Result<(), NoMemory>
         ensures told { OnOk result (Told self.old self.new (line_of line.entry) kind) }
         ensures same { progress_held self.new ≡ progress_held self.old }
@@ -76,8 +72,7 @@ impl<'t, A: Allocator> Reading<'t, A> {
         ensures { OnOk result (TookIn self.old self.new (line_of line.entry)) }
     {
         if let Some(fault) = bytes_fault(line.text) {
-            let fault = FrameFault::Line(LineFault::Text(fault));
-            self.tell(line, FaultKind::Frame(fault))?;
+            self.tell(line, FaultKind::Frame(FrameFault::from(fault)))?;
             return Ok(());
         }
         if line.finished {
@@ -85,7 +80,7 @@ impl<'t, A: Allocator> Reading<'t, A> {
             return self.take_form(line, form);
         }
         if let Some(fault) = last_fault(self.part, line.text) {
-            self.tell(line, FaultKind::Frame(FrameFault::Form(fault)))?;
+            self.tell(line, FaultKind::Frame(fault))?;
         }
         Ok(())
     }
@@ -107,8 +102,8 @@ impl<'t, A: Allocator> Reading<'t, A> {
             LineForm::Plain => self.declare(line)?,
             LineForm::End => self.part = FramePart::Ended,
             LineForm::Bad(fault) => {
-                self.tell(line, FaultKind::Frame(FrameFault::Form(fault)))?;
-                if matches!(fault, FormFault::NoHeader) {
+                self.tell(line, FaultKind::Frame(fault))?;
+                if matches!(fault, FrameFault::NoHeader) {
                     self.part = FramePart::Body;
                     self.version = VERSIONS;
                 }
@@ -140,7 +135,7 @@ impl<'t, A: Allocator> Reading<'t, A> {
         Ok(())
     }
 
-    /// Takes in the end of a text, behind the line before this number.
+    /// Takes in the end of a text, after the line before this number.
     fn end(&mut self, number: u64) -> Result<(), NoMemory>
         ensures faults { OnOk result (faults_held self.new
             ≡ faults_held self.old ++ option_to_list (fault_of_end number self.old.part)) }
@@ -149,7 +144,7 @@ impl<'t, A: Allocator> Reading<'t, A> {
         if let Some(fault) = closing(self.part) {
             self.faults.push(Fault {
                 line: number,
-                kind: FaultKind::Frame(FrameFault::Form(fault)),
+                kind: FaultKind::Frame(fault),
                 word: None,
             })?;
         }

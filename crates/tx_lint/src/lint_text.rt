@@ -1,4 +1,4 @@
-// The writer of what is to be said of a text.
+// The writer of the faults or warnings of a text.
 ghost use Rattle.std.specs.Prelude.{◌≡◌, ◌++◌, codes, map, option_map};
 ghost use Rattle.std.specs.List.{flat_map};
 ghost use Rattle.tx_text.specs.Wrote.{Wrote};
@@ -12,7 +12,7 @@ use itoa::Buffer;
 use std::alloc::Allocator;
 use tx_plan::Plan;
 use tx_plantext::code_and_name;
-use tx_text::{Sink, WriteFault, write_text};
+use tx_text::{Sink, WriteFault, write_parts};
 
 /// Writes a line for each fault or each warning, as `PLAN.txt:5: P9 Unknown SOUTH`, with the words
 /// for the file of the text.
@@ -21,7 +21,7 @@ pub fn write_lint<A: Allocator, W: Sink>(
     file: &[u8],
     sink: &mut W,
 ) -> Result<(), WriteFault>
-    ensures { Wrote (W.taken sink.old) (W.taken sink.new) (W.failed sink.old) (W.failed sink.new)
+    ensures { Wrote W.taken W.failed sink.old sink.new
         (lint_text file.now (lint_held lint.now)) result }
 {
     match lint {
@@ -31,7 +31,7 @@ pub fn write_lint<A: Allocator, W: Sink>(
 }
 
 fn write_faults<W: Sink>(faults: &[Fault<'_>], file: &[u8], sink: &mut W) -> Result<(), WriteFault>
-    ensures { Wrote (W.taken sink.old) (W.taken sink.new) (W.failed sink.old) (W.failed sink.new)
+    ensures { Wrote W.taken W.failed sink.old sink.new
         (flat_map (fault_line file.now) (map fault_held faults.now)) result }
 {
     for i in 0..faults.len() {
@@ -41,7 +41,7 @@ fn write_faults<W: Sink>(faults: &[Fault<'_>], file: &[u8], sink: &mut W) -> Res
 }
 
 fn write_fault<W: Sink>(fault: Fault<'_>, file: &[u8], sink: &mut W) -> Result<(), WriteFault>
-    ensures { Wrote (W.taken sink.old) (W.taken sink.new) (W.failed sink.old) (W.failed sink.new)
+    ensures { Wrote W.taken W.failed sink.old sink.new
         (fault_line file.now (fault_held fault.entry)) result }
 {
     write_line(
@@ -59,7 +59,7 @@ fn write_warnings<A: Allocator, W: Sink>(
     file: &[u8],
     sink: &mut W,
 ) -> Result<(), WriteFault>
-    ensures { Wrote (W.taken sink.old) (W.taken sink.new) (W.failed sink.old) (W.failed sink.new)
+    ensures { Wrote W.taken W.failed sink.old sink.new
         (flat_map (warning_line file.now plan.now) warnings.now) result }
 {
     for i in 0..warnings.len() {
@@ -74,7 +74,7 @@ fn write_warning<A: Allocator, W: Sink>(
     file: &[u8],
     sink: &mut W,
 ) -> Result<(), WriteFault>
-    ensures { Wrote (W.taken sink.old) (W.taken sink.new) (W.failed sink.old) (W.failed sink.new)
+    ensures { Wrote W.taken W.failed sink.old sink.new
         (warning_line file.now plan.now warning) result }
 {
     let (line, warning) = warning;
@@ -101,23 +101,23 @@ fn write_line<'a, W: Sink>(
     word: Option<&'a [u8]>,
     sink: &mut W,
 ) -> Result<(), WriteFault>
-    ensures { Wrote (W.taken sink.old) (W.taken sink.new) (W.failed sink.old) (W.failed sink.new)
+    ensures { Wrote W.taken W.failed sink.old sink.new
         (told_line file.now line (row.entry.0.now, row.entry.1.now)
         (option_map (λ w. w.now) word.entry)) result }
 {
     let mut number = Buffer::new();
     let line = number.format(line).as_bytes();
-    write_text(&[file, b":", line, b": ", row.0, b" ", row.1], sink)?;
+    write_parts(&[file, b":", line, b": ", row.0, b" ", row.1], sink)?;
     write_end(word, sink)
 }
 
 /// Writes a word, if there is one, and the end of the line.
 fn write_end<W: Sink>(word: Option<&[u8]>, sink: &mut W) -> Result<(), WriteFault>
-    ensures { Wrote (W.taken sink.old) (W.taken sink.new) (W.failed sink.old) (W.failed sink.new)
+    ensures { Wrote W.taken W.failed sink.old sink.new
         (word_text (option_map (λ w. w.now) word.entry) ++ codes "\n") result }
 {
     match word {
-        Some(word) => write_text(&[b" ", word, b"\n"], sink),
-        None => write_text(&[b"\n"], sink),
+        Some(word) => write_parts(&[b" ", word, b"\n"], sink),
+        None => write_parts(&[b"\n"], sink),
     }
 }

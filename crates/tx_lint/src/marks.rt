@@ -10,7 +10,7 @@ use tx_plan::{CodeId, ExchangeId, GroupId, Plan};
 use tx_rank::{is_marked, reached};
 use tx_text::NoMemory;
 
-/// Where calls for each code come, and which groups stand in a list.
+/// Where calls for each code come, and which groups are in a list.
 #[derive(Drop)]
 pub(crate) struct Marks<A: Allocator> {
     coming: Vec<Vec<bool, A>, A>,
@@ -39,7 +39,7 @@ impl<A: Allocator> Marks<A> {
         }
     }
 
-    /// Whether the group stands in a list.
+    /// Whether the group is in a list.
     pub(crate) fn is_listed(&self, group: GroupId) -> bool
         ensures { result ≡ is_marked self.now.listed.items group }
     {
@@ -54,7 +54,6 @@ fn coming<A: Allocator + Copy>(alloc: A, plan: &Plan<A>) -> Result<Vec<Vec<bool,
     ensures { IfOk result (λ marks.
         TellsWhereCallsCome plan.now (comes_by (map (λ m. m.items) marks.items))) }
 {
-    plan.rules();
     let mut marks = Vec::with_capacity(alloc, plan.codes())?;
     for place in 0..plan.codes() {
         let reached = reached(alloc, plan, CodeId::of(place))?;
@@ -66,7 +65,6 @@ fn coming<A: Allocator + Copy>(alloc: A, plan: &Plan<A>) -> Result<Vec<Vec<bool,
 fn listed<A: Allocator + Copy>(alloc: A, plan: &Plan<A>) -> Result<Vec<bool, A>, NoMemory>
     ensures { IfOk result (λ marks. (g : ℕ) → is_marked marks.items g ≡ is_listed plan.now g) }
 {
-    plan.rules();
     let mut marks = vec![in alloc; false; plan.groups()]?;
     for place in 0..plan.routes() {
         match plan.route_at(place) {

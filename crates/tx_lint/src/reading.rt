@@ -5,10 +5,7 @@ ghost use Rattle.tx_lint.specs.Lints.{IsWholeText};
 
 use crate::fault::LintFault;
 use std::alloc::Allocator;
-use tx_text::{NoMemory, Source};
-
-/// By how many calls a text is read at most.
-const SOURCE_CALLS: u64 = 4_294_967_295;
+use tx_text::{NoMemory, SOURCE_CALLS, Source};
 
 /// Reads a text from a source, to its end, by at most 4,294,967,295 calls, each for at most 4,096
 /// bytes. A read fault means that the source failed, or was not at its end after so many calls.

@@ -5,19 +5,19 @@ ghost use Rattle.tx_lint.specs.LintText.{warning_row};
 use tx_plan::{CodeId, GroupId};
 
 /// What keeps to the format of a plan, and is of no use or most likely not meant.
-#[derive(Clone, Copy)]
+#[derive(Clone, Copy, Debug)]
 pub enum Warning {
     /// A1: no code has lines, so no call can start, and an audit says Yes to anything.
     NothingToJudge,
     /// A2: the code has no lines.
     NoLines(CodeId),
-    /// A3: the group stands in no list.
+    /// A3: the group is in no list.
     UnusedGroup(GroupId),
     /// A4: no call for its code comes to the list.
     UnusedList,
     /// A5: calls for the code may start at the exchange, and it has neither a list nor a bar.
     NoList(CodeId),
-    /// A6: no call can start where the bar stands.
+    /// A6: no call can start where the bar is.
     UnusedBar,
 }
 

@@ -13,7 +13,8 @@ use std::alloc::Allocator;
 use tx_plan::{CodeId, ExchangeId, Plan};
 use tx_text::NoMemory;
 
-/// The warnings of a plan, in order of its entries, which are given with the numbers of their lines.
+/// The warnings of a plan, in order of its entries, which are given with the numbers of their
+/// lines.
 pub(crate) fn warnings_of<A: Allocator + Copy>(
     alloc: A,
     plan: &Plan<A>,
@@ -112,7 +113,6 @@ fn add_missing_lists<A: Allocator>(
         (flat_map (λ c. warned_if (wants_list plan.now exchange c) (NoList c))
         (range_with_len 0 (length plan.now.codes)))) }
 {
-    plan.rules();
     let origin = plan.is_origin(exchange);
     for place in 0..plan.codes() {
         let code = CodeId::of(place);
@@ -122,7 +122,8 @@ fn add_missing_lists<A: Allocator>(
     Ok(())
 }
 
-/// Whether calls for the code may start at an exchange that has no list for it, and is not its home.
+/// Whether calls for the code may start at an exchange that has no list for it, and is not its
+/// home.
 fn wants_list<A: Allocator>(
     plan: &Plan<A>,
     exchange: ExchangeId,

@@ -1,9 +1,7 @@
 // Tests of the words of a line.
 ghost use Rattle.std.specs.Prelude.{◌≡◌, find, option_map};
-ghost use Rattle.std.specs.List.{list_any};
-ghost use Rattle.std.specs.Str.{bytes_eq};
 ghost use Rattle.tx_text.specs.Words.{is_name};
-ghost use Rattle.tx_plan.specs.Declaring.{has_exchange, has_code, has_group, pair_named, is_not_outgoing};
+ghost use Rattle.tx_plan.specs.Declaring.{has_exchange, has_code, has_group, is_not_outgoing};
 ghost use Rattle.tx_lint.specs.AtFault.{first_not, first_again};
 
 use std::alloc::Allocator;
@@ -11,7 +9,7 @@ use tx_plan::{Pair, Plan};
 use tx_text::{Words, is_name};
 
 /// Whether an exchange of the name was declared.
-#[tactic(auto, using(tx_entries::proofs::Lists::found_any))]
+#[tactic(auto, using(tx_plan::proofs::Lists::found_any))]
 pub(crate) fn is_exchange<A: Allocator>(plan: &Plan<A>, name: &[u8]) -> bool
     ensures { result ≡ has_exchange plan.now name.now }
 {
@@ -19,7 +17,7 @@ pub(crate) fn is_exchange<A: Allocator>(plan: &Plan<A>, name: &[u8]) -> bool
 }
 
 /// Whether a code of the figures was declared.
-#[tactic(auto, using(tx_entries::proofs::Lists::found_any))]
+#[tactic(auto, using(tx_plan::proofs::Lists::found_any))]
 pub(crate) fn is_code<A: Allocator>(plan: &Plan<A>, figures: &[u8]) -> bool
     ensures { result ≡ has_code plan.now figures.now }
 {
@@ -27,20 +25,11 @@ pub(crate) fn is_code<A: Allocator>(plan: &Plan<A>, figures: &[u8]) -> bool
 }
 
 /// Whether a group of the name was declared.
-#[tactic(auto, using(tx_entries::proofs::Lists::found_any))]
+#[tactic(auto, using(tx_plan::proofs::Lists::found_any))]
 fn is_group<A: Allocator>(plan: &Plan<A>, name: &[u8]) -> bool
     ensures { result ≡ has_group plan.now name.now }
 {
     plan.group_named(name).is_some()
-}
-
-/// The exchange and the code of two words, where both were declared.
-pub(crate) fn pair_named<A: Allocator>(plan: &Plan<A>, exchange: &[u8], code: &[u8]) -> Option<Pair>
-    ensures { result ≡ pair_named plan.now exchange.now code.now }
-{
-    let exchange = plan.exchange_named(exchange)?;
-    let code = plan.code_named(code)?;
-    Some(Pair { exchange, code })
 }
 
 /// Whether the word is the name of a group that the pair's exchange may not seize.
@@ -54,21 +43,19 @@ fn is_not_outgoing<A: Allocator>(plan: &Plan<A>, pair: &Option<Pair>, group: &[u
 }
 
 /// The first of the words that is no name.
-pub(crate) fn first_no_name<'t>(words: Words<'t>) -> Option<&'t [u8]>
+pub(crate) fn first_no_name<'t>(mut words: Words<'t>) -> Option<&'t [u8]>
     ensures { option_map (λ w. w.now) result ≡ first_not is_name words.entry }
 {
-    let mut words = words;
     words.find(|word| !is_name(word))
 }
 
 /// The first of the words that is the name of no group.
 pub(crate) fn first_unknown_group<'t, A: Allocator>(
     plan: &Plan<A>,
-    words: Words<'t>,
+    mut words: Words<'t>,
 ) -> Option<&'t [u8]>
     ensures { option_map (λ w. w.now) result ≡ first_not (has_group plan.now) words.entry }
 {
-    let mut words = words;
     words.find(|word| !is_group(plan, word))
 }
 
@@ -76,30 +63,20 @@ pub(crate) fn first_unknown_group<'t, A: Allocator>(
 pub(crate) fn first_closed<'t, A: Allocator>(
     plan: &Plan<A>,
     pair: &Option<Pair>,
-    words: Words<'t>,
+    mut words: Words<'t>,
 ) -> Option<&'t [u8]>
     ensures { option_map (λ w. w.now) result
         ≡ find (is_not_outgoing plan.now pair.now) words.entry }
 {
-    let mut words = words;
     words.find(|word| is_not_outgoing(plan, pair, word))
 }
 
-/// Whether the word is one of the words.
-fn is_among(word: &[u8], words: Words<'_>) -> bool
-    ensures { result ≡ list_any (bytes_eq word.now) words.entry }
-{
-    let mut words = words;
-    words.any(|other| word == other)
-}
-
-/// The first of the words that stands there again.
-pub(crate) fn first_again<'t>(words: Words<'t>) -> Option<&'t [u8]>
+/// The first of the words that comes again.
+pub(crate) fn first_again<'t>(mut words: Words<'t>) -> Option<&'t [u8]>
     ensures { option_map (λ w. w.now) result ≡ first_again words.entry }
 {
-    let mut rest = words;
-    while let Some(word) = rest.next() {
-        if is_among(word, rest.again()) {
+    while let Some(word) = words.next() {
+        if words.contains(word) {
             return Some(word);
         }
     }

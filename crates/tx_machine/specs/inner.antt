@@ -1,6 +1,2 @@
-pub mod Decided
-pub mod Whole
-pub mod GivenUp
-pub mod Marks
-pub mod Marked
-pub mod Seen
+pub mod Facts
+pub mod Invariant

@@ -1,77 +1,34 @@
-// Changes of calls in a list.
-ghost use Rattle.std.specs.Prelude.{◌≡◌, ◌<◌, ◌==◌, OnOk, map, length};
-ghost use Rattle.tx_plan.specs.Among.{Among};
-ghost use Rattle.tx_state.specs.Routing.{set_call};
-ghost use Rattle.tx_state.specs.Seen.{call_seen};
-ghost use Rattle.tx_machine.specs.inner.Seen.{changed, change_at, HasRoom, IsReady, CanChange};
+// What is promised while a plan is changed.
+ghost use Rattle.std.specs.Prelude.{ℕ};
+ghost use Rattle.tx_plan.specs.Plan.{Plan};
+ghost use Rattle.tx_plan.specs.Certified.{Ranks, IsCertified};
+ghost use Rattle.tx_plan.specs.Mixtures.{SameNetwork, EachMixture, AreCommon};
+ghost use Rattle.tx_machine.specs.Sound.{IsSound};
+ghost use Rattle.tx_machine.specs.ChangingRuns.{IsSoundChange, HasFewRoutesMeanwhile, SufficesMeanwhile};
 
-use crate::change::Change;
-use std::alloc::Allocator;
-use tx_state::{OpenCall, Phase};
-use tx_text::NoMemory;
+/// Ranks that certify an old and a new plan of one network certify every mixture of them, and so
+/// each mixture is sound.
+pub fn common_ranks_certify()
+    ensures certified { (old new : Plan) (ranks : Ranks) (limit spare : ℕ)
+        → SameNetwork old new → AreCommon old new ranks limit spare
+        → EachMixture old new (λ m. IsCertified m ranks limit spare) }
+    ensures sound { (old new : Plan) (ranks : Ranks) (limit spare : ℕ)
+        → SameNetwork old new → AreCommon old new ranks limit spare
+        → EachMixture old new (λ m. IsSound m limit spare) }
+{}
 
-/// Makes room for a hop of a call with the number.
-fn reserve_one<A: Allocator>(call: &mut OpenCall<A>, number: u32) -> Result<(), NoMemory>
-    ensures seen { call_seen call.new ≡ call_seen call.old }
-    ensures room { HasRoom call.old → HasRoom call.new }
-    ensures ready { OnOk result (IsReady number call.new) }
-{
-    if call.number == number {
-        call.hops.reserve(1)?;
-    }
-    Ok(())
-}
-
-/// Makes room for one more hop of the calls with the number.
-pub(crate) fn reserve_hop<A: Allocator>(
-    calls: &mut [OpenCall<A>],
-    number: u32,
-) -> Result<(), NoMemory>
-    ensures seen { map call_seen calls.new ≡ map call_seen calls.old }
-    ensures len { length calls.new ≡ length calls.old }
-    ensures room { ((c : _) → Among c calls.old → HasRoom c) → (c : _) → Among c calls.new → HasRoom c }
-    ensures ready { OnOk result ((c : _) → Among c calls.new → IsReady number c) }
-{
-    let mut at = 0;
-    while at < calls.len() {
-        reserve_one(&mut calls[at], number)?;
-        at += 1;
-    }
-    Ok(())
-}
-
-/// Changes a call with the number.
-fn change_one<A: Allocator>(call: &mut OpenCall<A>, number: u32, change: &Change)
-    requires { CanChange change.now number call.old }
-    ensures seen { call_seen call.new ≡ change_at number (changed change.now) (call_seen call.old) }
-    ensures room { HasRoom call.old → HasRoom call.new }
-{
-    if call.number == number {
-        match change {
-            Change::To(phase) => call.phase = *phase,
-            Change::Carry(hop) => {
-                call.hops.push_reserved(*hop);
-                call.phase = Phase::Standing;
-                call.collided = false;
-            }
-            Change::ThrowBack => {
-                call.phase = Phase::Standing;
-                call.collided = true;
-            }
-        }
-    }
-}
-
-/// Changes the calls with the number.
-pub(crate) fn change_numbered<A: Allocator>(calls: &mut [OpenCall<A>], number: u32, change: &Change)
-    requires { (c : _) → Among c calls.old → CanChange change.now number c }
-    ensures seen { map call_seen calls.new ≡ set_call number (changed change.now) (map call_seen calls.old) }
-    ensures len { length calls.new ≡ length calls.old }
-    ensures room { ((c : _) → Among c calls.old → HasRoom c) → (c : _) → Among c calls.new → HasRoom c }
-{
-    let mut at = 0;
-    while at < calls.len() {
-        change_one(&mut calls[at], number, change);
-        at += 1;
-    }
-}
+/// Where ranks certify an old and a new plan of one network, the change is sound with calls up:
+/// whichever mixture is in force at each event, every state is safe and every NC is excused by the
+/// list then in force. At most twice `limit` and three Routes of one call are accepted, and spare
+/// groups suffice as without a change.
+pub fn live_change_is_sound()
+    ensures sound { (old new : Plan) (ranks : Ranks) (limit spare : ℕ)
+        → SameNetwork old new → AreCommon old new ranks limit spare
+        → IsSoundChange old new limit spare }
+    ensures few_routes { (old new : Plan) (ranks : Ranks) (limit spare : ℕ)
+        → SameNetwork old new → AreCommon old new ranks limit spare
+        → HasFewRoutesMeanwhile old new limit }
+    ensures suffice { (old new : Plan) (ranks : Ranks) (limit spare : ℕ)
+        → SameNetwork old new → AreCommon old new ranks limit spare
+        → SufficesMeanwhile old new spare }
+{}

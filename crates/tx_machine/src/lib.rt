@@ -1,32 +1,34 @@
-//! The plain network: a network of exchanges as lists and marks, which replies as the definitions of tx_state do.
+//! The network of exchanges: its events, its replies, its state and the step, what is promised of
+//! every run, and what both networks use.
 #![tactic(auto)]
 
-mod bit;
-mod calls;
-mod change;
+mod cause;
 mod changing;
-mod circuit_marks;
-mod confirm;
-mod ended_calls;
-mod ending;
-mod ends;
+mod driving;
+mod event;
 mod facts;
-mod group_marks;
-mod keying;
-mod lines;
-mod looking;
-mod marks;
-mod meeting;
-mod plain;
-mod route;
-mod routing;
-mod setting;
-mod truth;
+mod headline;
+mod network;
+mod open_call;
+mod path;
+mod refusal;
+mod refusals;
+mod reply;
+mod ticket;
 
-pub use plain::Plain;
-pub use tx_state::{
-    Cause, Event, Hop, Network, Party, Path, Phase, Refusal, Reply, Service, Ticket,
-    certified_is_sound, common_ranks_certify, drive, every_nc_is_excused, hops_join_and_carry_once,
-    lines_take_part_once, live_change_is_sound, ranks_fall, routes_are_bounded,
-    spare_groups_suffice, tickets_are_appended,
+pub use cause::{Cause, Service};
+pub use changing::{common_ranks_certify, live_change_is_sound};
+pub use driving::drive;
+pub use event::Event;
+pub use facts::Facts;
+pub use headline::{
+    certified_is_sound, every_nc_is_excused, hops_join_and_carry_once, lines_take_part_once,
+    ranks_fall, routes_are_bounded, spare_groups_suffice, tickets_are_appended,
 };
+pub use network::Network;
+pub use open_call::{Hop, OpenCall, Party, Phase, far_of, place_of};
+pub use path::Path;
+pub use refusal::Refusal;
+pub use refusals::refusal_of;
+pub use reply::Reply;
+pub use ticket::Ticket;

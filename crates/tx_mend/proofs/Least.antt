@@ -11,7 +11,7 @@ use Rattle.tx_plan.specs.Circuits.{may_seize, may_seize_row, other_end}
 use Rattle.tx_plan.specs.Certified.{Ranks, IsBelow, LeadsLower}
 use Rattle.tx_plan.specs.Among.{Among}
 use Rattle.tx_plan.proofs.Among.{among_filter}
-use Rattle.tx_plan.specs.Rerouted.{rerouted}
+use Rattle.tx_plan.specs.Mixed.{rerouted}
 use Rattle.tx_mend.specs.Routings.{IsFalling}
 use Rattle.tx_mend.specs.LeastRanks.{places, RanksOfCode, outgoing, leads_on, can_follow, least_rank, LeastRanksAreLeast}
 use Rattle.tx_mend.proofs.Distinct.{some_among, fits, among_range}

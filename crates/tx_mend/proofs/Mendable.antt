@@ -17,7 +17,7 @@ use Rattle.tx_rank.specs.Nets.{Certifies}
 use Rattle.tx_rank.proofs.Nets.{is_net}
 use Rattle.tx_rank.proofs.Looks.{among_at}
 use Rattle.tx_rank.proofs.Certifying.{distinct_none}
-use Rattle.tx_plan.specs.Rerouted.{rerouted}
+use Rattle.tx_plan.specs.Mixed.{rerouted}
 use Rattle.tx_mend.specs.Routings.{IsRouting, IsFalling, CanBeServed, CanBeKept, CanBeMended}
 use Rattle.tx_mend.specs.LeastRanks.{places, RanksOfCode, outgoing, leads_on, can_follow, does_follow, least_rank, present_rank, keeps_routes}
 use Rattle.tx_mend.specs.Mended.{routes_of, unserved_for, unserved}

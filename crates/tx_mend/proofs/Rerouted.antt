@@ -3,8 +3,8 @@ use Rattle.std.proofs.Common.{◌≡◌, ◌≢◌, List}
 use Rattle.std.specs.List.{AllByRecursion}
 use Rattle.tx_plan.specs.Plan.{Plan, Route}
 use Rattle.tx_plan.specs.Rules.{EachPair, IsCode, IsRange, IsGroup, IsRoute, IsBar, IsPlan}
-use Rattle.tx_plan.specs.Rerouted.{rerouted}
-use Rattle.tx_entries.proofs.Lists.{all_map}
+use Rattle.tx_plan.specs.Mixed.{rerouted}
+use Rattle.tx_plan.proofs.Lists.{all_map}
 
 -- routes that obey the rules of the plan
 pub record AreRoutes (p : Plan) (routes : List Route) : Type 0 where

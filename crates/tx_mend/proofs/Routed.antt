@@ -11,7 +11,7 @@ use Rattle.tx_plan.specs.Circuits.{may_seize}
 use Rattle.tx_plan.specs.Declaring.{has_route}
 use Rattle.tx_plan.specs.Among.{Among}
 use Rattle.tx_plan.proofs.Among.{among_right, among_left, among_cases, among_map, map_among, among_filter, filter_among, among_flat, flat_among}
-use Rattle.tx_plan.specs.Rerouted.{rerouted}
+use Rattle.tx_plan.specs.Mixed.{rerouted}
 use Rattle.tx_mend.specs.LeastRanks.{places}
 use Rattle.tx_mend.specs.Mended.{all_pairs, pairs_of, route_if, routes_of}
 use Rattle.tx_mend.proofs.Distinct.{among_range, range_among, range_differs, pairs_append}

@@ -11,8 +11,8 @@ use Rattle.tx_plan.specs.Declaring.{has_route}
 use Rattle.tx_plan.specs.Ambiguous.{ambiguous_of}
 use Rattle.tx_plan.specs.Certified.{Ranks, IsCertified}
 use Rattle.tx_plan.specs.Among.{Among}
-use Rattle.tx_entries.specs.declared.pair.Pair.{Pair}
-use Rattle.tx_plan.specs.Rerouted.{rerouted}
+use Rattle.tx_plan.specs.declared.ids.Pair.{Pair}
+use Rattle.tx_plan.specs.Mixed.{rerouted}
 use Rattle.tx_cert.specs.Certificate.{Certificate, IsCertificateOf, rank_at, ranks_of}
 use Rattle.tx_rank.specs.Grades.{CanBeCertified}
 use Rattle.tx_rank.specs.Walks.{Net, net_of}

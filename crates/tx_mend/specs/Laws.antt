@@ -12,7 +12,7 @@ use Rattle.tx_mend.specs.LeastRanks.{least_rank, keeps_routes}
 use Rattle.tx_mend.specs.Lists.{mended_list}
 use Rattle.tx_mend.specs.Mended.{mended, unserved}
 
--- LEAST RANKS ARE ATTAINED: along some routes of the network the least ranks fall, for all codes at
+-- Least ranks are attained: along some routes of the network the least ranks fall, for all codes at
 -- once.
 abbrev pub LeastRanksAreAttained : Type 0
 LeastRanksAreAttained = (p : Plan) → IsPlan p → (limit spare : ℕ) → spare ≤ 15
@@ -36,11 +36,12 @@ pub record IsMendedPlan (p : Plan) (limit spare : ℕ) (q : Plan) : Type 0 where
   pub lists : (x code : ℕ) → x < length p.exchanges → code < length p.codes
       → route_list q x code ≡ mended_list p limit spare code x
 
+-- so it is of the mended plan of every plan
 abbrev pub MendedIsMended : Type 0
 MendedIsMended = (p : Plan) → IsPlan p → (limit spare : ℕ) → spare ≤ 15
     → IsMendedPlan p limit spare (mended p limit spare)
 
--- EXACTNESS: the mended plan is certified by some ranks exactly where no code begins another and no
+-- Exactness: the mended plan is certified by some ranks exactly where no code begins another and no
 -- origin is unserved, and then alone any routes of the network are certified by any ranks.
 pub record MendsWhatCanBeMended (p : Plan) (limit spare : ℕ) : Type 0 where
   pub mends : unserved p limit spare ≡ [] → ambiguous_of p.codes ≡ None
@@ -48,6 +49,7 @@ pub record MendsWhatCanBeMended (p : Plan) (limit spare : ℕ) : Type 0 where
   pub can_be : CanBeMended p limit spare
       → (unserved p limit spare ≡ []) × (ambiguous_of p.codes ≡ None)
 
+-- so it is of every plan
 abbrev pub MendingIsExact : Type 0
 MendingIsExact = (p : Plan) → IsPlan p → (limit spare : ℕ) → spare ≤ 15
     → MendsWhatCanBeMended p limit spare

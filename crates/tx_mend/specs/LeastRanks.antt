@@ -27,8 +27,9 @@ rank_across p ranks x g = option_and_then ranks (other_end p g x)
 abbrev pub leads_on : Plan → RanksOfCode → ℕ → ℕ → Bool
 leads_on p ranks x g = is_some (rank_across p ranks x g)
 
--- ROUNDS, for a rule that says which exchanges may follow those that are ranked
+-- Rounds, for a rule that says which exchanges may follow those that are ranked
 
+-- a rank stays; an exchange without one gets n if it may follow
 abbrev pub kept_or : Option ℕ → Bool → ℕ → Option ℕ
 kept_or (Some r) follows n = Some r
 kept_or None follows n = if follows then Some n else None
@@ -52,7 +53,7 @@ does_follow p code spare ranks x =
     nat_lt spare (length (route_list p x code))
     && list_all (λ g. leads_on p ranks x g) (route_list p x code)
 
--- THE LEAST RANK of an exchange for a code, at most limit + 1
+-- The least rank of an exchange for a code, at most limit + 1
 abbrev pub least_rank : Plan → (code limit spare : ℕ) → RanksOfCode
 least_rank p code limit spare x =
     ranked_in (home_of p code) (can_follow p spare) (suc limit) x
@@ -68,7 +69,7 @@ keeps_routes p code limit spare = list_all
     (λ x. not (is_origin_for p x code) || is_some (present_rank p code limit spare x))
     (places (length p.exchanges))
 
--- LEAST RANKS ARE LEAST: wherever ranks that fall along any routes of the network rank an exchange,
+-- Least ranks are least: wherever ranks that fall along any routes of the network rank an exchange,
 -- it has a least rank, and that is no greater.
 abbrev pub LeastRanksAreLeast : Type 0
 LeastRanksAreLeast = (p q : Plan) → IsRouting p q → (ranks : Ranks) (code limit spare : ℕ)

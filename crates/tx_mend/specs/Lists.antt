@@ -8,9 +8,7 @@ use Rattle.tx_plan.specs.Circuits.{other_end}
 use Rattle.tx_plan.specs.Declaring.{has_route}
 use Rattle.tx_mend.specs.LeastRanks.{places, RanksOfCode, outgoing, rank_across, least_rank, keeps_routes}
 
--- BY LEAST RANKS
-
--- a group is appended, unless it stands there already or there are more than spare
+-- a group is appended, unless it is there already or there are more than spare
 abbrev pub put : (spare : ℕ) → List ℕ → ℕ → List ℕ
 put spare list g =
     if nat_lt spare (length list) then list
@@ -54,8 +52,6 @@ full_list p limit spare code x =
     if keeps_routes p code limit spare then route_list p x code
     else least_list p limit spare code x
 
--- WHERE CALLS COME
-
 -- a group leads from y to x
 abbrev pub leads_between : Plan → (y x g : ℕ) → Bool
 leads_between p y x g = option_map_or (λ z. z == x) (other_end p g y) false
@@ -72,7 +68,7 @@ comes_in p lists code (suc n) x = comes_in p lists code n x
 abbrev pub comes_to : Plan → (limit spare code x : ℕ) → Bool
 comes_to p limit spare code x = comes_in p (full_list p limit spare code) code (suc limit) x
 
--- THE MENDED LIST of an exchange for a code: none where it had none and no call comes to it
+-- The mended list of an exchange for a code: none where it had none and no call comes to it
 abbrev pub mended_list : Plan → (limit spare code x : ℕ) → List ℕ
 mended_list p limit spare code x =
     if has_route p x code || comes_to p limit spare code x then full_list p limit spare code x

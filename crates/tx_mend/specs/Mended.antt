@@ -4,7 +4,7 @@ use Rattle.std.specs.List.{flat_map}
 use Rattle.tx_plan.specs.Plan.{Plan, Route}
 use Rattle.tx_plan.specs.Routes.{is_origin_for}
 use Rattle.tx_plan.specs.Declaring.{has_route}
-use Rattle.tx_plan.specs.Rerouted.{rerouted}
+use Rattle.tx_plan.specs.Mixed.{rerouted}
 use Rattle.tx_mend.specs.LeastRanks.{places, least_rank}
 use Rattle.tx_mend.specs.Lists.{mended_list}
 
@@ -31,19 +31,21 @@ route_if k (g ∷ gs) = record { exchange = k.0; code = k.1; groups = g ∷ gs }
 abbrev pub routes_of : Plan → (lists : ℕ → ℕ → List ℕ) → List Route
 routes_of p lists = flat_map (λ k. route_if k (lists k.1 k.0)) (pairs_of p)
 
--- THE MENDED ROUTES, and the plan with them
+-- The mended routes, and the plan with them
 abbrev pub mended_routes : Plan → (limit spare : ℕ) → List Route
 mended_routes p limit spare = routes_of p (mended_list p limit spare)
 
+-- the plan with its mended routes
 abbrev pub mended : Plan → (limit spare : ℕ) → Plan
 mended p limit spare = rerouted p (mended_routes p limit spare) p.bars
 
--- WHAT CANNOT BE SERVED: each code with each origin for it that has no least rank, in order of
+-- What cannot be served: each code with each origin for it that has no least rank, in order of
 -- declaration
 abbrev pub unserved_for : Plan → (limit spare code : ℕ) → List (ℕ × ℕ)
 unserved_for p limit spare code = map (λ x. (code, x))
     (filter (λ x. is_origin_for p x code && is_none (least_rank p code limit spare x))
     (places (length p.exchanges)))
 
+-- what cannot be served, for all codes
 abbrev pub unserved : Plan → (limit spare : ℕ) → List (ℕ × ℕ)
 unserved p limit spare = flat_map (unserved_for p limit spare) (places (length p.codes))

@@ -4,9 +4,9 @@ use Rattle.tx_plan.specs.Plan.{Plan, home_of}
 use Rattle.tx_plan.specs.Rules.{IsPlan}
 use Rattle.tx_plan.specs.Routes.{is_origin_for}
 use Rattle.tx_plan.specs.Certified.{Ranks, IsCertified, LeadsDown}
-use Rattle.tx_plan.specs.Rerouted.{rerouted}
+use Rattle.tx_plan.specs.Mixed.{rerouted}
 
--- ROUTES OF A NETWORK: a plan with the same exchanges, codes, ranges, groups and bars. Its routes
+-- Routes of a network: a plan with the same exchanges, codes, ranges, groups and bars. Its routes
 -- are open.
 pub record IsRouting (p q : Plan) : Type 0 where
   pub plan : IsPlan q

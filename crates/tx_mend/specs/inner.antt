@@ -1,3 +1,4 @@
 pub mod CodeRanks
+pub mod Local
 pub mod Pairs
 pub mod Full

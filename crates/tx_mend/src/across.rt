@@ -18,7 +18,6 @@ pub fn rank_across<A: Allocator>(
     ensures { (of : ℕ → Option ℕ) → ranks.now ≡ rank_list plan.now of
         → result ≡ rank_across plan.now of exchange group }
 {
-    plan.rules();
     match plan.other_end(group, exchange) {
         Some(to) => ranks[to.index()],
         None => None,

@@ -1,6 +1,7 @@
 // What the mending of each code goes by.
 ghost use Rattle.std.specs.Prelude.{◌≡◌, ◌≤◌, map, length, option_and_then, slice_get, IfOk};
 ghost use Rattle.std.specs.Option.{option_copied};
+ghost use Rattle.tx_plan.specs.Rules.{IsPlan};
 ghost use Rattle.tx_rank.specs.Judged.{AreOrigins};
 ghost use Rattle.tx_mend.specs.LeastRanks.{places, outgoing};
 ghost use Rattle.tx_mend.specs.inner.CodeRanks.{code_ranks};
@@ -38,7 +39,7 @@ impl<A: Allocator> CodeRanks<A> {
     }
 }
 
-/// Those of the code at a place; none for a place that the table has not.
+/// Those of the code at a place; none for a place that the table does not have.
 pub fn least_at<A: Allocator>(table: &[CodeRanks<A>], place: usize) -> Option<&[Option<u8>]>
     ensures { option_copied result ≡ option_and_then (λ r. r) (slice_get table.now place) }
 {
@@ -58,6 +59,7 @@ fn ranks_for<A: Allocator + Copy>(
     limit: u8,
     spare: u8,
 ) -> Result<CodeRanks<A>, NoMemory>
+    requires rules { IsPlan plan.now }
     requires seizable { seizable.now
         ≡ map (outgoing plan.now) (places (length plan.now.exchanges)) }
     requires origins { AreOrigins plan.now origins.now }
@@ -101,7 +103,6 @@ pub fn all_code_ranks<A: Allocator + Copy>(
     ensures { IfOk result (λ table. table.items
         ≡ map (code_ranks plan.now limit spare) (places (length plan.now.codes))) }
 {
-    plan.rules();
     let mut table = Vec::new(alloc);
     for place in 0..plan.codes() {
         let code = CodeId::of(place);

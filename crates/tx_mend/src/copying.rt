@@ -12,7 +12,6 @@ use tx_text::NoMemory;
 pub fn routes_of<A: Allocator + Copy>(alloc: A, plan: &Plan<A>) -> Result<Routes<A>, NoMemory>
     ensures { IfOk result (λ routes. routes ≡ plan.now.routes) }
 {
-    plan.rules();
     let mut routes = Routes::new(alloc);
     for place in 0..plan.routes() {
         match plan.route_at(place) {
@@ -30,7 +29,6 @@ pub fn routes_of<A: Allocator + Copy>(alloc: A, plan: &Plan<A>) -> Result<Routes
 pub fn bars_of<A: Allocator + Copy>(alloc: A, plan: &Plan<A>) -> Result<Bars<A>, NoMemory>
     ensures { IfOk result (λ bars. bars ≡ plan.now.bars) }
 {
-    plan.rules();
     let mut bars = Bars::new(alloc);
     for place in 0..plan.bars() {
         match plan.bar_at(place) {
@@ -57,7 +55,8 @@ fn is_staying<A: Allocator>(
     before.has(&Pair { exchange, code }) || cert.rank(code, exchange).is_some()
 }
 
-/// The routes that stood before, and those of exchanges that a certificate ranks for their codes.
+/// The routes that were there before, and those of exchanges that a certificate ranks for their
+/// codes.
 pub fn staying_routes<A: Allocator + Copy>(
     alloc: A,
     plan: &Plan<A>,
@@ -67,7 +66,6 @@ pub fn staying_routes<A: Allocator + Copy>(
     ensures { IfOk result (λ routes. routes
         ≡ filter (stays before.now cert.now) plan.now.routes) }
 {
-    plan.rules();
     let mut routes = Routes::new(alloc);
     for place in 0..plan.routes() {
         match plan.route_at(place) {

@@ -11,10 +11,9 @@ use crate::basis::Basis;
 use crate::code_ranks::least_at;
 use crate::outgoing::groups_at;
 use std::alloc::Allocator;
-use tx_entries::GroupList;
-use tx_plan::{CodeId, ExchangeId, GroupId, Plan};
+use tx_plan::{CodeId, ExchangeId, GroupId, GroupList, Plan};
 
-/// Whether the group stands in the list.
+/// Whether the group is in the list.
 fn stands(list: &GroupList, group: GroupId) -> bool
     ensures { result ≡ list_any (λ h. h == group) list.now }
 {
@@ -27,7 +26,7 @@ fn stands(list: &GroupList, group: GroupId) -> bool
     false
 }
 
-/// Appends a group, unless it stands there already or there are more than `spare`.
+/// Appends a group, unless it is there already or there are more than `spare`.
 fn put(list: &mut GroupList, group: GroupId, spare: u8)
     requires { spare ≤ 15 }
     ensures { list.new ≡ put spare list.old group }
@@ -38,7 +37,7 @@ fn put(list: &mut GroupList, group: GroupId, spare: u8)
     if stands(list, group) {
         return;
     }
-    list.keep(group);
+    list.push(group);
 }
 
 /// Appends groups that lead to one rank, in order of declaration, until there are more than
@@ -102,12 +101,11 @@ fn kept_below<A: Allocator>(
         → result ≡ filter (λ g. leads_below plan.now of rank exchange g)
         (route_list plan.now exchange code) }
 {
-    plan.rules();
     let mut list = GroupList::new();
     let present = plan.list(exchange, code);
     for group in present {
         if leads_below(plan, ranks, exchange, rank, *group) {
-            list.keep(*group);
+            list.push(*group);
         }
     }
     list
@@ -117,11 +115,10 @@ fn kept_below<A: Allocator>(
 pub fn present_list<A: Allocator>(plan: &Plan<A>, code: CodeId, exchange: ExchangeId) -> GroupList
     ensures { result ≡ route_list plan.now exchange code }
 {
-    plan.rules();
     let mut list = GroupList::new();
     let present = plan.list(exchange, code);
     for group in present {
-        list.keep(*group);
+        list.push(*group);
     }
     list
 }
@@ -166,7 +163,7 @@ pub fn full_list<A: Allocator>(
         None => present_list(basis.plan, code, exchange),
         Some(ranks) => list_by_ranks(
             basis.plan,
-            groups_at(basis.seizable, exchange.index()),
+            groups_at(basis.seizable, exchange),
             ranks,
             code,
             exchange,

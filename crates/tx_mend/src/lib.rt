@@ -1,11 +1,11 @@
 //! Mending a plan: routes over the groups of its network that are certified for a transit limit and
 //! a spare number, wherever any are.
 //!
-//! `mend` gives a plan with the same exchanges, codes, ranges, groups and bars. A code whose present
-//! routes can be certified keeps its lists. For any other code the least ranks of the exchanges are
-//! found, and each list keeps its groups that lead to smaller ranks and gets others until it has
-//! enough; an exchange that had none gets none where no call comes. Where no routes can be
-//! certified, `mend` tells which exchanges cannot be served for which code.
+//! `mend` gives a plan with the same exchanges, codes, ranges, groups and bars. A code whose
+//! present routes can be certified keeps its lists. For any other code the least ranks of the
+//! exchanges are found, and each list keeps its groups that lead to smaller ranks and gets others
+//! until it has enough; an exchange that had none gets none where no call comes. Where no routes
+//! can be certified, `mend` says which exchanges cannot be served for which code.
 #![tactic(auto)]
 
 mod across;

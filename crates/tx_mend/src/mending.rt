@@ -25,7 +25,7 @@ use tx_text::NoMemory;
 use tx_trie::CodeTrie;
 
 /// What the mending of a plan comes to.
-#[derive(Drop)]
+#[derive(Debug, Drop)]
 pub enum Mending<A: Allocator = Global> {
     /// The plan with other routes, the routes that it had, and a certificate by which it is
     /// certified.
@@ -119,8 +119,8 @@ fn settle<A: Allocator + Copy>(
 
 /// Mends a plan: routes over its groups that are certified for at most `limit` transits (0 to 62)
 /// and `spare` groups to spare (0 to 15), wherever any are. A code whose present routes can be
-/// certified keeps them. Else it tells which exchanges cannot be served for which code. `Err` is
-/// want of memory.
+/// certified keeps them. Else it says which exchanges cannot be served for which code. `Err` is
+/// lack of memory.
 pub fn mend<A: Allocator + Copy>(
     alloc: A,
     plan: Plan<A>,

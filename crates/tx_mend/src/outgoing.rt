@@ -30,11 +30,11 @@ impl<A: Allocator> Outgoing<A> {
     }
 }
 
-/// Those of the exchange at a place; none for a place that the list has not.
-pub fn groups_at<A: Allocator>(seizable: &[Outgoing<A>], place: usize) -> &[GroupId]
-    ensures { result.now ≡ unwrap_or (slice_get seizable.now place) [] }
+/// Those of an exchange; none for one that the list does not have.
+pub fn groups_at<A: Allocator>(seizable: &[Outgoing<A>], exchange: ExchangeId) -> &[GroupId]
+    ensures { result.now ≡ unwrap_or (slice_get seizable.now exchange) [] }
 {
-    match seizable.get(place) {
+    match seizable.get(exchange.index()) {
         Some(groups) => groups.groups(),
         None => &[],
     }
@@ -48,7 +48,6 @@ fn outgoing_of<A: Allocator + Copy>(
 ) -> Result<Outgoing<A>, NoMemory>
     ensures { IfOk result (λ groups. groups ≡ outgoing plan.now exchange) }
 {
-    plan.rules();
     let mut groups = Vec::new(alloc);
     for place in 0..plan.groups() {
         let group = GroupId::of(place);
@@ -67,7 +66,6 @@ pub fn all_outgoing<A: Allocator + Copy>(
     ensures { IfOk result (λ lists. lists.items
         ≡ map (outgoing plan.now) (places (length plan.now.exchanges))) }
 {
-    plan.rules();
     let mut lists = Vec::new(alloc);
     for place in 0..plan.exchanges() {
         lists.push(outgoing_of(alloc, plan, ExchangeId::of(place))?)?;

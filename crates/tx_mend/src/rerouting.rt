@@ -8,8 +8,7 @@ ghost use Rattle.tx_mend.specs.inner.Pairs.{full_route, present_pairs, routes_be
 use crate::basis::Basis;
 use crate::filling::full_list;
 use std::alloc::Allocator;
-use tx_entries::{GroupList, Routes};
-use tx_plan::{CodeId, ExchangeId, Pair, Plan};
+use tx_plan::{CodeId, ExchangeId, GroupList, Pair, Plan, Routes};
 use tx_text::NoMemory;
 
 /// Adds a route, unless it has no groups.
@@ -37,7 +36,6 @@ fn add_present<A: Allocator>(basis: &Basis<'_, A>, routes: &mut Routes<A>) -> Re
         (present_pairs basis.now.plan.now)) }
 {
     let plan = basis.plan;
-    plan.rules();
     for place in 0..plan.routes() {
         match plan.route_at(place) {
             Some(pair) => {
@@ -63,7 +61,6 @@ fn add_absent<A: Allocator>(
         ≡ routes_below basis.now.plan.now basis.now.limit basis.now.spare (code + 1)) }
 {
     let plan = basis.plan;
-    plan.rules();
     for place in 0..plan.exchanges() {
         let exchange = ExchangeId::of(place);
         if plan.list(exchange, code).is_empty() {
@@ -83,7 +80,6 @@ pub fn full_routes<A: Allocator + Copy>(
         ≡ full_routes basis.now.plan.now basis.now.limit basis.now.spare) }
 {
     let plan = basis.plan;
-    plan.rules();
     let mut routes = Routes::new(alloc);
     add_present(basis, &mut routes)?;
     for place in 0..plan.codes() {

@@ -1,5 +1,5 @@
 // Ranks, round by round.
-ghost use Rattle.std.specs.Prelude.{◌≡◌, ◌<◌, ◌≤◌, ℕ, suc, true, Option, Some, None, ◌==◌, if◌then◌else◌, map, length, IfOk};
+ghost use Rattle.std.specs.Prelude.{◌≡◌, ◌<◌, ◌≤◌, ℕ, suc, Option, Some, None, ◌==◌, if◌then◌else◌, map, length, IfOk};
 ghost use Rattle.tx_mend.specs.LeastRanks.{places, kept_or, ranked_in};
 
 use crate::rules::Rule;
@@ -31,16 +31,16 @@ fn home_alone<A: Allocator + Copy>(
 }
 
 /// The rank that an exchange keeps, or gets in a round.
-fn rank_on<R: Rule>(rule: &R, ranks: &[Option<u8>], place: usize, round: u8) -> Option<u8>
+fn rank_on<R: Rule>(rule: &R, ranks: &[Option<u8>], exchange: ExchangeId, round: u8) -> Option<u8>
     requires long { length ranks.now ≡ R.exchanges rule.now }
-    requires place { place < R.exchanges rule.now }
+    requires exchange { exchange < R.exchanges rule.now }
     ensures { (of : ℕ → Option ℕ) → ranks.now ≡ map of (places (R.exchanges rule.now))
-        → result ≡ kept_or (of place) (R.follows rule.now of place) round }
+        → result ≡ kept_or (of exchange) (R.follows rule.now of exchange) round }
 {
-    match ranks[place] {
+    match ranks[exchange.index()] {
         Some(rank) => Some(rank),
         None => {
-            if rule.follows(ranks, place) {
+            if rule.follows(ranks, exchange) {
                 Some(round)
             } else {
                 None
@@ -64,35 +64,9 @@ fn next_ranks<A: Allocator + Copy, R: Rule>(
 {
     let mut next = Vec::new(alloc);
     for place in 0..rule.exchanges() {
-        next.push(rank_on(rule, ranks, place, round))?;
+        next.push(rank_on(rule, ranks, ExchangeId::of(place), round))?;
     }
     Ok(next)
-}
-
-/// Whether two ranks are the same.
-fn is_same(old: Option<u8>, new: Option<u8>) -> bool
-    ensures { result ≡ true → old ≡ new }
-{
-    match old {
-        Some(rank) => match new {
-            Some(other) => rank == other,
-            None => false,
-        },
-        None => new.is_none(),
-    }
-}
-
-/// Whether a round left the ranks as they were.
-fn are_same(old: &[Option<u8>], new: &[Option<u8>]) -> bool
-    requires { length old.now ≡ length new.now }
-    ensures { result ≡ true → old.now ≡ new.now }
-{
-    for place in 0..old.len() {
-        if !is_same(old[place], new[place]) {
-            return false;
-        }
-    }
-    true
 }
 
 /// The ranks after `limit + 1` rounds. A round that ranks no exchange is the last that is gone
@@ -107,11 +81,10 @@ pub fn ranks_after<A: Allocator + Copy, R: Rule>(
     ensures { IfOk result (λ ranks. ranks.items
         ≡ map (ranked_in home (R.follows rule.now) (suc limit)) (places (R.exchanges rule.now))) }
 {
-    rule.local();
     let mut ranks = home_alone(alloc, rule.exchanges(), home)?;
     for done in 0..limit + 1 {
         let next = next_ranks(alloc, rule, &ranks, done + 1)?;
-        if are_same(&ranks, &next) {
+        if ranks == next {
             return Ok(next);
         }
         ranks = next;

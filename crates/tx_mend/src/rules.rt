@@ -1,8 +1,9 @@
 // Which exchanges may follow those that are ranked.
-ghost use Rattle.std.specs.Prelude.{◌≡◌, ◌<◌, ℕ, Option, Bool, map, length, filter};
+ghost use Rattle.std.specs.Prelude.{◌≡◌, ◌<◌, ◌≤◌, ℕ, Option, Bool, map, length, filter};
 ghost use Rattle.std.specs.List.{list_all};
 ghost use Rattle.tx_mend.specs.LeastRanks.{places, outgoing, leads_on, can_follow, does_follow};
 ghost use Rattle.tx_mend.specs.inner.CodeRanks.{rank_list};
+ghost use Rattle.tx_mend.specs.inner.Local.{IsLocal};
 
 use crate::across::leads_on;
 use crate::outgoing::{Outgoing, groups_at};
@@ -17,21 +18,18 @@ pub trait Rule {
 
     /// How many exchanges there are.
     fn exchanges(&self) -> usize
-        ensures { result ≡ exchanges self.now };
+        ensures count { result ≡ exchanges self.now }
+        ensures few { result ≤ 256 };
 
-    /// Whether the exchange at a place may follow those that are ranked.
-    fn follows(&self, ranks: &[Option<u8>], place: usize) -> bool
+    /// Whether an exchange may follow those that are ranked.
+    fn follows(&self, ranks: &[Option<u8>], exchange: ExchangeId) -> bool
         requires long { length ranks.now ≡ exchanges self.now }
-        requires place { place < exchanges self.now }
+        requires exchange { exchange < exchanges self.now }
         ensures { (of : ℕ → Option ℕ) → ranks.now ≡ map of (places (exchanges self.now))
-            → result ≡ follows self.now of place };
+            → result ≡ follows self.now of exchange };
 
-    /// Which exchanges may follow hangs on the ranks of the network's exchanges alone. Does
-    /// nothing: its callers' proofs name it.
-    fn local(&self)
-        ensures { (a b : ℕ → Option ℕ) → map a (places (exchanges self.now))
-            ≡ map b (places (exchanges self.now)) → (x : ℕ) → follows self.now a x
-            ≡ follows self.now b x };
+    // Which exchanges may follow hangs on the ranks of the network's exchanges alone.
+    ghost local: { (rule : Self) → IsLocal (exchanges rule) (follows rule) };
 }
 
 /// Whatever the routes: an exchange that may seize more than `spare` groups that lead to ranked
@@ -42,6 +40,7 @@ pub struct AnyRoutes<'a, A: Allocator> {
     pub seizable: &'a [Outgoing<A>],
     pub spare: u8,
     ghost right: { seizable.now ≡ map (outgoing plan.now) (places (length plan.now.exchanges)) },
+    ghost local: { IsLocal (length plan.now.exchanges) (can_follow plan.now spare) },
 }
 
 /// How many of the groups lead to ranked exchanges.
@@ -71,15 +70,12 @@ impl<'a, A: Allocator> Rule for AnyRoutes<'a, A> {
         self.plan.exchanges()
     }
 
-    fn follows(&self, ranks: &[Option<u8>], place: usize) -> bool {
-        self.plan.rules();
-        let groups = groups_at(self.seizable, place);
-        count_on(self.plan, ranks, ExchangeId::of(place), groups) > usize::from(self.spare)
+    fn follows(&self, ranks: &[Option<u8>], exchange: ExchangeId) -> bool {
+        let groups = groups_at(self.seizable, exchange);
+        count_on(self.plan, ranks, exchange, groups) > usize::from(self.spare)
     }
 
-    fn local(&self) {
-        self.plan.rules();
-    }
+    ghost local = { λ rule. rule.local };
 }
 
 /// By the present routes for a code: an exchange whose list has more than `spare` groups, all of
@@ -89,6 +85,7 @@ pub struct PresentRoutes<'a, A: Allocator> {
     pub plan: &'a Plan<A>,
     pub code: CodeId,
     pub spare: u8,
+    ghost local: { IsLocal (length plan.now.exchanges) (does_follow plan.now code spare) },
 }
 
 /// Whether all groups lead to ranked exchanges.
@@ -119,14 +116,10 @@ impl<'a, A: Allocator> Rule for PresentRoutes<'a, A> {
         self.plan.exchanges()
     }
 
-    fn follows(&self, ranks: &[Option<u8>], place: usize) -> bool {
-        self.plan.rules();
-        let exchange = ExchangeId::of(place);
+    fn follows(&self, ranks: &[Option<u8>], exchange: ExchangeId) -> bool {
         let list = self.plan.list(exchange, self.code);
         list.len() > usize::from(self.spare) && all_on(self.plan, ranks, exchange, list)
     }
 
-    fn local(&self) {
-        self.plan.rules();
-    }
+    ghost local = { λ rule. rule.local };
 }

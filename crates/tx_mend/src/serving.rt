@@ -13,31 +13,35 @@ use std::alloc::Allocator;
 use tx_plan::{CodeId, ExchangeId, Plan};
 use tx_text::NoMemory;
 
-/// Whether calls for the code may start at a place.
-fn is_start<A: Allocator>(plan: &Plan<A>, origins: &[bool], code: CodeId, place: usize) -> bool
+/// Whether calls for the code may start at an exchange.
+fn is_start<A: Allocator>(
+    plan: &Plan<A>,
+    origins: &[bool],
+    code: CodeId,
+    exchange: ExchangeId,
+) -> bool
     requires origins { AreOrigins plan.now origins.now }
-    requires place { place < length plan.now.exchanges }
-    ensures { result ≡ is_origin_for plan.now place code }
+    requires exchange { exchange < length plan.now.exchanges }
+    ensures { result ≡ is_origin_for plan.now exchange code }
 {
-    plan.rules();
-    origins[place] && !plan.is_barred(ExchangeId::of(place), code)
+    origins[exchange.index()] && !plan.is_barred(exchange, code)
 }
 
-/// Whether it may, and the exchange there has no rank.
+/// Whether they may, and the exchange has no rank.
 fn is_unranked<A: Allocator>(
     plan: &Plan<A>,
     origins: &[bool],
     code: CodeId,
     ranks: &[Option<u8>],
-    place: usize,
+    exchange: ExchangeId,
 ) -> bool
     requires origins { AreOrigins plan.now origins.now }
     requires long { length ranks.now ≡ length plan.now.exchanges }
-    requires place { place < length plan.now.exchanges }
+    requires exchange { exchange < length plan.now.exchanges }
     ensures { (of : ℕ → Option ℕ) → ranks.now ≡ rank_list plan.now of
-        → result ≡ (is_origin_for plan.now place code && is_none (of place)) }
+        → result ≡ (is_origin_for plan.now exchange code && is_none (of exchange)) }
 {
-    is_start(plan, origins, code, place) && ranks[place].is_none()
+    is_start(plan, origins, code, exchange) && ranks[exchange.index()].is_none()
 }
 
 /// Whether each origin for the code has a rank.
@@ -54,7 +58,7 @@ pub fn all_ranked<A: Allocator>(
         (places (length plan.now.exchanges)) }
 {
     for place in 0..plan.exchanges() {
-        if is_unranked(plan, origins, code, ranks, place) {
+        if is_unranked(plan, origins, code, ranks, ExchangeId::of(place)) {
             return false;
         }
     }
@@ -77,10 +81,10 @@ pub fn add_unranked<A: Allocator>(
         (filter (λ x. is_origin_for plan.now x code && is_none (of x))
         (places (length plan.now.exchanges)))) }
 {
-    plan.rules();
     for place in 0..plan.exchanges() {
-        if is_unranked(plan, origins, code, ranks, place) {
-            unserved.push((code, ExchangeId::of(place)))?;
+        let exchange = ExchangeId::of(place);
+        if is_unranked(plan, origins, code, ranks, exchange) {
+            unserved.push((code, exchange))?;
         }
     }
     Ok(())
@@ -97,7 +101,6 @@ pub fn unserved_of<A: Allocator + Copy>(
         ≡ unserved basis.now.plan.now basis.now.limit basis.now.spare) }
 {
     let plan = basis.plan;
-    plan.rules();
     let mut pairs = Vec::new(alloc);
     for place in 0..plan.codes() {
         match least_at(basis.table, place) {

@@ -1,12 +1,12 @@
 -- What the report of a mending answers.
 use Rattle.std.specs.Prelude.{◌≡◌, ℕ, Bool, true, List, Option, Result, Ok, Err}
 use Rattle.std.specs.Io.KnownBytes.{append_known}
-use Rattle.tx_text.specs.Ends.{StopsIn}
+use Rattle.tx_text.specs.Ends.{StopsIn, Output}
 use Rattle.tx_plan.specs.Plan.{Plan, Route}
 use Rattle.tx_plan.specs.Ambiguous.{ambiguous_of}
 use Rattle.tx_plan.specs.Certified.{IsCertified}
 use Rattle.tx_cert.specs.Certificate.{Certificate, IsCertificateOf, ranks_of}
-use Rattle.tx_state.specs.Sound.{IsSound, HasFewRoutes}
+use Rattle.tx_machine.specs.Sound.{IsSound, HasFewRoutes}
 use Rattle.tx_check.specs.declared.verdict.Verdict.TheVariants.{Yes}
 use Rattle.tx_check.specs.Checks.{check_faults, ranks_for, verdict_of}
 use Rattle.tx_mend.specs.declared.mending.Mending.{Mending}
@@ -45,32 +45,31 @@ pub record HasNoRouting (p q : Plan) (pairs : List (ℕ × ℕ)) (both : Option 
   pub none : CanBeMended p limit spare → ⊥
 
 module _ {A : Type 0} where
+  -- YES with the mended plan, or NO with what cannot be served
   abbrev pub IsRightMending : Plan → (limit spare : ℕ) → Mending A → Type 0
   IsRightMending p limit spare (Mended q before cert) = IsMendedInto p q before cert limit spare
   IsRightMending p limit spare (NoRouting q pairs pair) =
       HasNoRouting p q pairs.items pair limit spare
 
-  -- THE REPORT
+  -- The report
   abbrev pub mend_report : (limit spare : ℕ) → Mending A → List ℕ
   mend_report limit spare (Mended q before cert) = mended_text before q limit spare
   mend_report limit spare (NoRouting q pairs pair) = unserved_text q limit spare pairs.items pair
 
 -- a mending that is right, whose report was written in part
-pub record MendToldInPart (A : Type 0) (p : Plan) (limit spare : ℕ)
-    (taken_old taken_new : Option (List ℕ)) : Type 0 where
+pub record MendToldInPart (A : Type 0) (p : Plan) (limit spare : ℕ) (out : Output)
+    : Type 0 where
   pub mending : Mending A
   pub right : IsRightMending p limit spare mending
-  pub wrote : StopsIn taken_old taken_new (mend_report limit spare mending)
+  pub wrote : StopsIn out.old out.new (mend_report limit spare mending)
 
--- The mending is right, and its report was written. Silent says that nothing was written.
-abbrev pub MendAnswers : {A : Type 0} → Plan → (limit spare : ℕ)
-    → (taken_old taken_new : Option (List ℕ)) → (silent : Type 0)
+-- the mending is right, and its report was written
+abbrev pub MendAnswers : {A : Type 0} → Plan → (limit spare : ℕ) → (out : Output)
     → Result (Mending A) MendFault → Type 0
-MendAnswers p limit spare taken_old taken_new silent (Ok m) = IsRightMending p limit spare m
-    × (taken_new ≡ append_known taken_old (mend_report limit spare m))
-MendAnswers {A} p limit spare taken_old taken_new silent (Err Write) =
-    MendToldInPart A p limit spare taken_old taken_new
-MendAnswers p limit spare taken_old taken_new silent (Err NoMemory) = silent
+MendAnswers p limit spare out (Ok m) = IsRightMending p limit spare m
+    × (out.new ≡ append_known out.old (mend_report limit spare m))
+MendAnswers {A} p limit spare out (Err Write) = MendToldInPart A p limit spare out
+MendAnswers p limit spare out (Err NoMemory) = out.silent
 
 -- the mark of the sink: it is set where a write failed, and else as before
 abbrev pub mark_after : {X : Type 0} → Bool → Result X MendFault → Bool

@@ -1,26 +1,14 @@
 // The report of a plan that was mended.
-ghost use Rattle.std.specs.Prelude.{◌≡◌, ◌<◌, codes, length};
+ghost use Rattle.std.specs.Prelude.{◌<◌, codes};
 ghost use Rattle.tx_text.specs.Wrote.{Wrote};
 ghost use Rattle.tx_plan.specs.Routes.{route_list};
-ghost use Rattle.tx_mend_report.specs.MendText.{head_line, list_line, change_line, code_changes, changes, mended_text};
+ghost use Rattle.tx_mend_report.specs.MendText.{list_line, change_line, code_changes, changes, mended_text};
 
-use itoa::Buffer;
 use std::alloc::Allocator;
+use tx_audit::write_asked;
 use tx_plan::{CodeId, ExchangeId, Pair, Plan, Routes};
 use tx_plantext::write_route;
-use tx_text::{Sink, WriteFault, write_text};
-
-/// Writes what was asked.
-pub fn write_head<W: Sink>(limit: u8, spare: u8, sink: &mut W) -> Result<(), WriteFault>
-    ensures { Wrote (W.taken sink.old) (W.taken sink.new) (W.failed sink.old) (W.failed sink.new)
-        (head_line limit spare) result }
-{
-    let mut transits = Buffer::new();
-    let mut groups = Buffer::new();
-    let limit = transits.format(limit).as_bytes();
-    let spare = groups.format(spare).as_bytes();
-    write_text(&[b"MEND LIMIT ", limit, b" SPARE ", spare, b"\n"], sink)
-}
+use tx_text::{Sink, WriteFault, write_parts};
 
 /// Writes what was asked, each list of a plan that is another one than before, and YES.
 pub fn write_mended<A: Allocator, W: Sink>(
@@ -30,12 +18,12 @@ pub fn write_mended<A: Allocator, W: Sink>(
     spare: u8,
     sink: &mut W,
 ) -> Result<(), WriteFault>
-    ensures { Wrote (W.taken sink.old) (W.taken sink.new) (W.failed sink.old) (W.failed sink.new)
+    ensures { Wrote W.taken W.failed sink.old sink.new
         (mended_text before.now plan.now limit spare) result }
 {
-    write_head(limit, spare, sink)?;
+    write_asked(b"MEND", limit, spare, sink)?;
     write_changes(before, plan, sink)?;
-    write_text(&[b"VERDICT YES\n"], sink)
+    write_parts(&[b"VERDICT YES\n"], sink)
 }
 
 fn write_changes<A: Allocator, W: Sink>(
@@ -43,10 +31,9 @@ fn write_changes<A: Allocator, W: Sink>(
     plan: &Plan<A>,
     sink: &mut W,
 ) -> Result<(), WriteFault>
-    ensures { Wrote (W.taken sink.old) (W.taken sink.new) (W.failed sink.old) (W.failed sink.new)
+    ensures { Wrote W.taken W.failed sink.old sink.new
         (changes before.now plan.now) result }
 {
-    plan.rules();
     for place in 0..plan.codes() {
         write_code_changes(before, plan, CodeId::of(place), sink)?;
     }
@@ -60,10 +47,9 @@ fn write_code_changes<A: Allocator, W: Sink>(
     code: CodeId,
     sink: &mut W,
 ) -> Result<(), WriteFault>
-    ensures { Wrote (W.taken sink.old) (W.taken sink.new) (W.failed sink.old) (W.failed sink.new)
+    ensures { Wrote W.taken W.failed sink.old sink.new
         (code_changes before.now plan.now code) result }
 {
-    plan.rules();
     for place in 0..plan.exchanges() {
         write_change(before, plan, code, ExchangeId::of(place), sink)?;
     }
@@ -78,7 +64,7 @@ fn write_change<A: Allocator, W: Sink>(
     exchange: ExchangeId,
     sink: &mut W,
 ) -> Result<(), WriteFault>
-    ensures { Wrote (W.taken sink.old) (W.taken sink.new) (W.failed sink.old) (W.failed sink.new)
+    ensures { Wrote W.taken W.failed sink.old sink.new
         (change_line before.now plan.now code exchange) result }
 {
     if before.list(&Pair { exchange, code }) == plan.list(exchange, code) {
@@ -94,13 +80,13 @@ fn write_list<A: Allocator, W: Sink>(
     exchange: ExchangeId,
     sink: &mut W,
 ) -> Result<(), WriteFault>
-    ensures { Wrote (W.taken sink.old) (W.taken sink.new) (W.failed sink.old) (W.failed sink.new)
+    ensures { Wrote W.taken W.failed sink.old sink.new
         (list_line plan.now code exchange (route_list plan.now exchange code)) result }
 {
     if plan.list(exchange, code).is_empty() {
         let name = plan.exchange_name(exchange);
         let figures = plan.code_figures(code);
-        return write_text(&[b"DROP ", name, b" ", figures, b"\n"], sink);
+        return write_parts(&[b"DROP ", name, b" ", figures, b"\n"], sink);
     }
     write_route(plan, exchange, code, sink)
 }

@@ -1,9 +1,11 @@
 // The report of a mending.
 ghost use Rattle.std.specs.Prelude.{◌≡◌, ◌≤◌};
+ghost use Rattle.tx_text.specs.Ends.{output};
 ghost use Rattle.tx_text.specs.Wrote.{Wrote};
 ghost use Rattle.tx_plan.specs.Certified.{IsCertified};
 ghost use Rattle.tx_cert.specs.Certificate.{IsCertificateOf, ranks_of};
 ghost use Rattle.tx_mend.specs.Mendings.{OnMended};
+ghost use Rattle.tx_mend_report.specs.declared.reporting.MendFault.TheVariants.{Write as WriteFailed, NoMemory as OutOfMemory};
 ghost use Rattle.tx_mend_report.specs.MendText.{mended_text};
 ghost use Rattle.tx_mend_report.specs.MendAnswers.{IsConfirmed, mend_report, MendAnswers, mark_after};
 
@@ -15,7 +17,7 @@ use tx_cert::Cert;
 use tx_check::{Verdict, check};
 use tx_mend::{Mending, mend};
 use tx_plan::{Plan, Routes};
-use tx_text::{Sink, WriteFault};
+use tx_text::{NoMemory, Sink, WriteFault};
 
 /// Why there is no whole report.
 #[derive(Clone, Copy, Debug, Error)]
@@ -23,9 +25,25 @@ pub enum MendFault {
     /// The sink failed.
     #[error("a write failed")]
     Write,
-    /// Want of memory. Nothing was written.
+    /// No memory was left. Nothing was written.
     #[error("no memory")]
     NoMemory,
+}
+
+impl From<WriteFault> for MendFault {
+    ghost from_gives = { λ _ fault. fault ≡ WriteFailed };
+
+    fn from(_: WriteFault) -> MendFault {
+        MendFault::Write
+    }
+}
+
+impl From<NoMemory> for MendFault {
+    ghost from_gives = { λ _ fault. fault ≡ OutOfMemory };
+
+    fn from(_: NoMemory) -> MendFault {
+        MendFault::NoMemory
+    }
 }
 
 /// Mends a plan for at most `limit` transits (0 to 62) and `spare` groups to spare (0 to 15), and
@@ -40,17 +58,12 @@ pub fn report_mend<A: Allocator + Copy, W: Sink>(
 ) -> Result<Mending<A>, MendFault>
     requires limit { limit ≤ 62 }
     requires spare { spare ≤ 15 }
-    ensures answers { MendAnswers plan limit spare (W.taken out.old) (W.taken out.new)
-        (out.new ≡ out.old) result }
+    ensures answers { MendAnswers plan limit spare (output W.taken out.old out.new) result }
     ensures mark { W.failed out.new ≡ mark_after (W.failed out.old) result }
 {
-    match mend(alloc, plan, limit, spare) {
-        Ok(mending) => match write_mending(&mending, limit, spare, out) {
-            Ok(()) => Ok(mending),
-            Err(WriteFault) => Err(MendFault::Write),
-        },
-        Err(_) => Err(MendFault::NoMemory),
-    }
+    let mending = mend(alloc, plan, limit, spare)?;
+    write_mending(&mending, limit, spare, out)?;
+    Ok(mending)
 }
 
 /// Reports what a mending came to; a certificate after the checker said Yes to it.
@@ -66,7 +79,7 @@ fn write_mending<A: Allocator, W: Sink>(
     requires certified { OnMended (λ q before cert. IsCertified q (ranks_of cert) limit spare)
         mending.now }
     ensures confirmed { OnMended (λ q before cert. IsConfirmed q cert limit spare) mending.now }
-    ensures wrote { Wrote (W.taken out.old) (W.taken out.new) (W.failed out.old) (W.failed out.new)
+    ensures wrote { Wrote W.taken W.failed out.old out.new
         (mend_report limit spare mending.now) result }
 {
     match mending {
@@ -91,7 +104,7 @@ fn confirm<A: Allocator, W: Sink>(
     requires fits { IsCertificateOf plan.now cert.now }
     requires certified { IsCertified plan.now (ranks_of cert.now) limit spare }
     ensures confirmed { IsConfirmed plan.now cert.now limit spare }
-    ensures wrote { Wrote (W.taken out.old) (W.taken out.new) (W.failed out.old) (W.failed out.new)
+    ensures wrote { Wrote W.taken W.failed out.old out.new
         (mended_text before.now plan.now limit spare) result }
 {
     match check(plan, cert, limit, spare) {

@@ -1,14 +1,14 @@
 // The report of a plan for which no routes can be certified.
-ghost use Rattle.std.specs.Prelude.{◌≡◌, ◌+◌, Some, length};
+ghost use Rattle.std.specs.Prelude.{◌≡◌, ◌+◌};
 ghost use Rattle.std.specs.List.{flat_map};
 ghost use Rattle.tx_text.specs.Wrote.{Wrote};
-ghost use Rattle.tx_mend_report.specs.MendText.{pair_line, pair_count, unserved_line, verdict_line, unserved_text};
+ghost use Rattle.tx_mend_report.specs.MendText.{pair_line, pair_count, unserved_line, unserved_text};
 
-use crate::changed_lists::write_head;
-use itoa::Buffer;
 use std::alloc::Allocator;
+use tx_audit::{write_asked, write_finding, write_no};
 use tx_plan::{CodeId, ExchangeId, Plan};
-use tx_text::{Sink, WriteFault, write_text};
+use tx_rank::Finding;
+use tx_text::{Sink, WriteFault, write_parts};
 
 /// Writes what was asked, the ambiguous pair of codes, each code with the origins that cannot be
 /// served for it, and NO with the number of these lines.
@@ -20,13 +20,13 @@ pub fn write_unserved<A: Allocator, W: Sink>(
     pair: &Option<(CodeId, CodeId)>,
     sink: &mut W,
 ) -> Result<(), WriteFault>
-    ensures { Wrote (W.taken sink.old) (W.taken sink.new) (W.failed sink.old) (W.failed sink.new)
+    ensures { Wrote W.taken W.failed sink.old sink.new
         (unserved_text plan.now limit spare unserved.now pair.now) result }
 {
-    write_head(limit, spare, sink)?;
+    write_asked(b"MEND", limit, spare, sink)?;
     write_pair(plan, pair, sink)?;
     write_each(plan, unserved, sink)?;
-    write_verdict(pair_count(pair) + unserved.len(), sink)
+    write_no(pair_count(pair) + unserved.len(), sink)
 }
 
 fn write_pair<A: Allocator, W: Sink>(
@@ -34,26 +34,16 @@ fn write_pair<A: Allocator, W: Sink>(
     pair: &Option<(CodeId, CodeId)>,
     sink: &mut W,
 ) -> Result<(), WriteFault>
-    ensures { Wrote (W.taken sink.old) (W.taken sink.new) (W.failed sink.old) (W.failed sink.new)
+    ensures { Wrote W.taken W.failed sink.old sink.new
         (pair_line plan.now pair.now) result }
 {
     match pair {
-        Some(pair) => write_both(plan, *pair, sink),
+        Some((shorter, longer)) => {
+            let finding: Finding<A> = Finding::Ambiguous(*shorter, *longer);
+            write_finding(plan, &finding, sink)
+        }
         None => Ok(()),
     }
-}
-
-fn write_both<A: Allocator, W: Sink>(
-    plan: &Plan<A>,
-    pair: (CodeId, CodeId),
-    sink: &mut W,
-) -> Result<(), WriteFault>
-    ensures { Wrote (W.taken sink.old) (W.taken sink.new) (W.failed sink.old) (W.failed sink.new)
-        (pair_line plan.now (Some pair)) result }
-{
-    let shorter = plan.code_figures(pair.0);
-    let longer = plan.code_figures(pair.1);
-    write_text(&[b"F1 AMBIGUOUS ", shorter, b" ", longer, b"\n"], sink)
 }
 
 fn write_each<A: Allocator, W: Sink>(
@@ -61,7 +51,7 @@ fn write_each<A: Allocator, W: Sink>(
     unserved: &[(CodeId, ExchangeId)],
     sink: &mut W,
 ) -> Result<(), WriteFault>
-    ensures { Wrote (W.taken sink.old) (W.taken sink.new) (W.failed sink.old) (W.failed sink.new)
+    ensures { Wrote W.taken W.failed sink.old sink.new
         (flat_map (unserved_line plan.now) unserved.now) result }
 {
     for i in 0..unserved.len() {
@@ -75,12 +65,12 @@ fn write_one<A: Allocator, W: Sink>(
     pair: (CodeId, ExchangeId),
     sink: &mut W,
 ) -> Result<(), WriteFault>
-    ensures { Wrote (W.taken sink.old) (W.taken sink.new) (W.failed sink.old) (W.failed sink.new)
+    ensures { Wrote W.taken W.failed sink.old sink.new
         (unserved_line plan.now pair) result }
 {
     let figures = plan.code_figures(pair.0);
     let name = plan.exchange_name(pair.1);
-    write_text(&[b"F5 UNSERVED ", figures, b" ", name, b"\n"], sink)
+    write_parts(&[b"F5 UNSERVED ", figures, b" ", name, b"\n"], sink)
 }
 
 /// How many lines the ambiguous pair has.
@@ -91,13 +81,4 @@ fn pair_count(pair: &Option<(CodeId, CodeId)>) -> usize
         Some(_) => 1,
         None => 0,
     }
-}
-
-fn write_verdict<W: Sink>(count: usize, sink: &mut W) -> Result<(), WriteFault>
-    ensures { Wrote (W.taken sink.old) (W.taken sink.new) (W.failed sink.old) (W.failed sink.new)
-        (verdict_line count) result }
-{
-    let mut buffer = Buffer::new();
-    let count = buffer.format(count).as_bytes();
-    write_text(&[b"VERDICT NO ", count, b"\n"], sink)
 }

@@ -1,13 +1,16 @@
 -- A word that is no name names nothing.
-use Rattle.std.proofs.Common.{◌≡◌, ℕ, ◌<◌, ◌≤◌, Bool, true, false, ◌&&◌, ◌||◌, nat_le, List, [], ◌∷◌, length, None, refl, sym, ap, ◌∙◌, arith}
+use Rattle.std.proofs.Common.{◌≡◌, ℕ, ◌<◌, ◌≤◌, Bool, true, false, not, ◌&&◌, ◌||◌, nat_le, List, [], ◌∷◌, length, Option, Some, None, is_some, refl, sym, ap, ◌∙◌, arith}
 use Rattle.std.specs.Prelude.{position}
 use Rattle.std.specs.List.{AllByRecursion, list_all}
 use Rattle.std.specs.Str.{bytes_eq}
 use Rattle.std.proofs.lemmas.Slice.Eq.{bytes_eq-Decides}
 use Rattle.std.proofs.lemmas.Bool.{leb-true, and_parts}
+use Rattle.std.proofs.Math.Bool.{or-false, or-true}
 use Rattle.tx_text.specs.Words.{is_name, is_letter, is_figure}
-use Rattle.tx_plan.specs.Rules.{is_code}
-use Rattle.tx_entries.proofs.Lists.{no_place}
+use Rattle.tx_plan.specs.Rules.{is_code, IsPlan, IsGroup}
+use Rattle.tx_plan.specs.Plan.{Plan, Group, exchange_named, code_named, group_named}
+use Rattle.tx_plan.specs.Declaring.{has_exchange, has_code, has_group}
+use Rattle.tx_plan.proofs.Lists.{no_place, found_any}
 
 same_not : (b : Bool) → (b ≡ true → true ≡ false) → b ≡ false
 same_not true k = k refl
@@ -34,3 +37,48 @@ short_name (b ∷ bs) e =
 pub short_code : (w : List ℕ) → is_code w ≡ true → length w ≤ 3
 short_code w e =
     leb-true (length w) 3 (and_parts (nat_le 2 (length w)) (nat_le (length w) 3) (and_parts (nat_le 2 (length w) && nat_le (length w) 3) (list_all is_figure w) e).0).1
+
+-- nothing was found
+pub none_found : {A : Type 0} (o : Option A) → ((x : A) → o ≡ Some x → ⊥) → false ≡ is_some o
+none_found None h = refl
+none_found (Some x) h = absurd (h x refl)
+
+pub nothing : {A : Type 0} (o : Option A) → ((x : A) → o ≡ Some x → ⊥) → o ≡ None
+nothing None h = refl
+nothing (Some x) h = absurd (h x refl)
+
+-- whether a look-up by a name found something is whether that is declared
+module _ (p : Plan) (w : List ℕ) (o : Option ℕ) (b : Bool) where
+  pub has_exchange-is : o ≡ exchange_named p w → b ≡ is_some o → has_exchange p w ≡ b
+  has_exchange-is e h = sym (h ∙ ap is_some e ∙ found_any (bytes_eq w) p.exchanges)
+
+  pub has_code-is : o ≡ code_named p w → b ≡ is_some o → has_code p w ≡ b
+  has_code-is e h = sym (h ∙ ap is_some e ∙ found_any (λ c. bytes_eq w c.figures) p.codes)
+
+  pub has_group-is : o ≡ group_named p w → b ≡ is_some o → has_group p w ≡ b
+  has_group-is e h = sym (h ∙ ap is_some e ∙ found_any (λ g. bytes_eq w g.name) p.groups)
+
+-- what is seen of a word that names a group, beside what was seen of the words before it
+module _ (p : Plan) (w : List ℕ) (group : ℕ) (old : Bool) (found : Some group ≡ group_named p w)
+  where
+    found_name : IsPlan p → is_name w ≡ true
+    found_name h = by_test (is_name w) refl
+      where
+        by_test : (b : Bool) → is_name w ≡ b → b ≡ true
+        by_test true k = refl
+        by_test false k = sym (ap is_some (found ∙ unnamed is_name (λ (r : Group). r.name) (IsGroup p)
+            w p.groups (λ x g. g.name) k h.groups))
+
+    kept : (right : Bool) → right ≡ true → old ≡ (old || not right)
+    kept right e = sym (ap (λ b. old || not b) e ∙ or-false old)
+
+    pub bad_kept : IsPlan p → old ≡ (old || not (is_name w))
+    bad_kept h = kept (is_name w) (found_name h)
+
+    pub unknown_kept : old ≡ (old || not (has_group p w))
+    unknown_kept = kept (has_group p w) (has_group-is p w (Some group) true found refl)
+
+pub unknown_found : (p : Plan) (w : List ℕ) (old : Bool) → None ≡ group_named p w
+    → true ≡ (old || not (has_group p w))
+unknown_found p w old none = sym (ap (λ b. old || not b) (has_group-is p w None false none refl)
+    ∙ or-true old)

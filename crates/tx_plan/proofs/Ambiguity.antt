@@ -14,7 +14,8 @@ use Rattle.std.proofs.lemmas.Bool.{false≢true}
 use Rattle.tx_plan.specs.Among.{Among}
 use Rattle.tx_plan.proofs.Among.{among_map, map_among, among_flat, flat_among, among_filter, filter_among, among_places, places_among}
 use Rattle.tx_plan.specs.Plan.{Code}
-use Rattle.tx_plan.specs.Ambiguous.{CodePair, pair_at, is_ambiguous, IsAmbiguousAt, code_pairs, pair_cmp, lesser, least, ambiguous_of}
+use Rattle.tx_plan.specs.Ambiguous.{CodePair, is_ambiguous, code_pairs, pair_cmp, lesser, least, ambiguous_of}
+use Rattle.tx_plan.specs.inner.AmbiguousAt.{pair_at, IsAmbiguousAt}
 
 -- THE LEAST PAIR
 

@@ -1,7 +1,7 @@
 -- Ranks that certify two plans of a network certify each mixture of them.
 use Rattle.std.proofs.Common.{◌≡◌, ◌≢◌, ℕ, ◌<◌, true, List, inl, inr, length, Some, sym, ap, ◌∙◌, subst}
 use Rattle.std.specs.List.{AllByRecursion}
-use Rattle.tx_entries.proofs.Lists.{all_map}
+use Rattle.tx_plan.proofs.Lists.{all_map}
 use Rattle.std.specs.Prelude.{slice_get}
 use Rattle.tx_plan.specs.Codes.{is_prefix}
 use Rattle.tx_plan.specs.Plan.{Plan, Code, home_of}

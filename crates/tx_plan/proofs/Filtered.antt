@@ -4,7 +4,7 @@ use Rattle.std.proofs.lemmas.Bool.{true≢false}
 use Rattle.std.specs.Prelude.{find, filter}
 use Rattle.std.specs.List.{list_any, AllByRecursion}
 use Rattle.tx_plan.specs.Rules.{EachPair}
-use Rattle.tx_entries.proofs.Lists.{all_map}
+use Rattle.tx_plan.proofs.Lists.{all_map}
 
 module _ {A : Type 0} where
   module _ (t s : A → Bool) where

@@ -16,13 +16,13 @@ use Rattle.tx_plan.specs.Circuits.{may_seize, may_seize_row}
 use Rattle.tx_plan.specs.Routes.{is_barred}
 use Rattle.tx_plan.specs.Rules.{EachPair, IsCode, IsRange, IsGroup, IsRoute, IsBar, IsPlan, AreSeparate, is_code, is_national}
 use Rattle.tx_plan.specs.Declaring.{first_true, exchange_refusals, code_refusals, lines_refusals, group_refusals, route_refusals, bar_refusals, with_exchange, with_code, with_lines, with_group, with_route, with_bar, exchange_at, code_at, group_at, has_exchange, has_code, has_group, has_route, pair_of, pair_named, holds_at, shares, overlaps, is_not_outgoing, none_twice}
-use Rattle.tx_entries.specs.declared.direction.Direction.{Direction}
-use Rattle.tx_entries.specs.declared.direction.Direction.TheVariants.{OneWay}
-use Rattle.tx_entries.specs.declared.pair.Pair.{Pair}
-use Rattle.tx_entries.specs.declared.range.LineRange.{LineRange}
+use Rattle.tx_plan.specs.declared.ids.Direction.{Direction}
+use Rattle.tx_plan.specs.declared.ids.Direction.TheVariants.{OneWay}
+use Rattle.tx_plan.specs.declared.ids.Pair.{Pair}
+use Rattle.tx_plan.specs.declared.range.LineRange.{LineRange}
 use Rattle.tx_plan.specs.declared.refusal.PlanRefusal.{PlanRefusal}
 use Rattle.tx_plan.proofs.ByPlace.{pairs_put}
-use Rattle.tx_entries.proofs.Lists.{opposed, unlike, at_least, all_map, all_put, none_passes, apart, one_more, longer_by, slice_get_left, placed, placed_within, one_word, all_mapped, all_with}
+use Rattle.tx_plan.proofs.Lists.{opposed, unlike, at_least, all_map, all_put, none_passes, apart, one_more, longer_by, slice_get_left, placed, placed_within, one_word, all_mapped, all_with}
 
 -- WHERE NOTHING REFUSES
 

@@ -15,3 +15,8 @@ pub mod Networks
 pub mod CommonRanks
 pub mod Filtered
 pub mod Mixing
+pub mod Lists
+pub mod Named
+pub mod Tables
+pub mod Lookups
+pub mod PairRows

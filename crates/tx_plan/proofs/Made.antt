@@ -1,19 +1,50 @@
 -- What a call of the builder leaves is a plan.
-use Rattle.std.proofs.Common.{◌≡◌, ℕ, List, [], ◌∷◌, ◌++◌, map, None, Result, Ok, Err, OnOk, OnErr, sym, subst}
-use Rattle.tx_entries.specs.declared.direction.Direction.{Direction}
-use Rattle.tx_entries.specs.declared.group_row.GroupRow.{GroupRow}
-use Rattle.tx_entries.specs.declared.pair.Pair.{Pair}
-use Rattle.tx_entries.specs.declared.range.LineRange.{LineRange}
-use Rattle.tx_plan.specs.Plan.{Plan}
+use Rattle.std.proofs.Common.{◌≡◌, ℕ, Bool, true, false, List, [], ◌∷◌, ◌++◌, map, None, Result, Ok, Err, OnOk, OnErr, refl, sym, ap, ◌∙◌, subst}
+use Rattle.std.specs.Prelude.{if◌then◌else◌, IfOk}
+use Rattle.std.specs.List.{list_any}
+use Rattle.std.specs.Map.{keys_of}
+use Rattle.std.specs.Str.{bytes_eq}
+use Rattle.std.proofs.lemmas.List.{map_push}
+use Rattle.indexmap.specs.IndexMap.{IndexMap, insert_entry}
+use Rattle.indexmap.specs.IndexSet.{insert_key}
+use Rattle.tx_plan.specs.declared.ids.Direction.{Direction}
+use Rattle.tx_plan.specs.declared.ids.GroupRow.{GroupRow}
+use Rattle.tx_plan.specs.declared.ids.Pair.{Pair}
+use Rattle.tx_plan.specs.declared.range.LineRange.{LineRange}
+use Rattle.tx_plan.specs.Plan.{Plan, Code, Group}
 use Rattle.tx_plan.specs.Rules.{IsPlan}
-use Rattle.tx_entries.specs.inner.Tables.{code_of_row, group_of_row}
+use Rattle.tx_plan.specs.inner.Tables.{code_of_row, group_of_row}
 use Rattle.tx_plan.specs.Declaring.{first_true, exchange_refusals, code_refusals, lines_refusals, group_refusals, route_refusals, bar_refusals, exchange_at, code_at, group_at}
+use Rattle.tx_plan.proofs.Lookups.{entry_last}
+use Rattle.tx_plan.proofs.Tables.{list_any-map}
 use Rattle.tx_plan.proofs.Growing.{kept_exchange, kept_code, kept_lines, kept_group, kept_route, kept_bar}
 
 -- one more entry, or what there was
 pub either : {L U E : Type 0} (P : L → Type 0) (r : Result U E) (new old next : L) → OnOk r (new ≡ next) → OnErr r (new ≡ old) → P old → P next → P new
 either P (Ok x) new old next ok err was will = subst P (sym ok) will
 either P (Err x) new old next ok err was will = subst P (sym err) was
+
+-- the same, by a test of the result
+pub pushed : {L : Type 0} (P : L → Type 0) (b : Bool) (new old next : L) → new ≡ (if b then next else old) → P old → P next → P new
+pushed P true new old next e was will = subst P (sym e) will
+pushed P false new old next e was will = subst P (sym e) was
+
+-- a new key of a set, or its keys as they were
+pub inserted_key : {U E : Type 0} (r : Result U E) (P : List (List ℕ) → Type 0) (ks new : List (List ℕ)) (k : List ℕ) → IfOk r (λ _. new ≡ insert_key bytes_eq ks k) → OnErr r (new ≡ ks) → list_any (bytes_eq k) ks ≡ false → P ks → P (ks ++ k ∷ []) → P new
+inserted_key (Ok x) P ks new k ok err absent was will = subst P (sym (ok ∙ ap (λ b. if b then ks else ks ++ k ∷ []) absent)) will
+inserted_key (Err x) P ks new k ok err absent was will = subst P (sym err) was
+
+-- a new entry of a map, or its entries as they were
+pub inserted_entry : {V S U E : Type 0} (r : Result U E) (P : List (List ℕ × V) → Type 0) (m : IndexMap (List ℕ) V S) (new : List (List ℕ × V)) (k : List ℕ) (v : V) → OnOk r (new ≡ insert_entry bytes_eq m.entries k v) → OnErr r (new ≡ m.entries) → list_any (bytes_eq k) (keys_of m.entries) ≡ false → P m.entries → P (m.entries ++ (k, v) ∷ []) → P new
+inserted_entry (Ok x) P m new k v ok err absent was will = subst P (sym (ok ∙ entry_last bytes_eq m m.entries k v refl absent)) will
+inserted_entry (Err x) P m new k v ok err absent was will = subst P (sym err) was
+
+-- no key of a map of codes is the figures of a code that is not declared, and likewise of groups
+pub no_code_key : (k : List ℕ) (es : List (List ℕ × ℕ)) → list_any (λ (r : Code). bytes_eq k r.figures) (map code_of_row es) ≡ false → list_any (bytes_eq k) (keys_of es) ≡ false
+no_code_key k es h = list_any-map (bytes_eq k) (λ e. e.0) es ∙ sym (list_any-map (λ (r : Code). bytes_eq k r.figures) code_of_row es) ∙ h
+
+pub no_group_key : (k : List ℕ) (es : List (List ℕ × GroupRow)) → list_any (λ (r : Group). bytes_eq k r.name) (map group_of_row es) ≡ false → list_any (bytes_eq k) (keys_of es) ≡ false
+no_group_key k es h = list_any-map (bytes_eq k) (λ e. e.0) es ∙ sym (list_any-map (λ (r : Group). bytes_eq k r.name) group_of_row es) ∙ h
 
 module _ (p now : Plan) (v : p ≡ now) (m : IsPlan p) where
   pub made_exchange : (name e : List ℕ) → first_true (exchange_refusals now name) ≡ None → e ≡ name → IsPlan (record p { exchanges = p.exchanges ++ e ∷ [] })

@@ -3,14 +3,13 @@ use Rattle.std.proofs.Common.{◌≡◌, ◌≢◌, ℕ, ◌==◌, Bool, true, f
 use Rattle.std.proofs.lemmas.Bool.{true≢false, and_parts, not-true}
 use Rattle.std.specs.Prelude.{filter}
 use Rattle.std.specs.Option.{option_map_or}
-use Rattle.tx_entries.specs.declared.pair.Pair.{Pair}
-use Rattle.tx_entries.proofs.Lists.{all_map}
+use Rattle.tx_plan.specs.declared.ids.Pair.{Pair}
+use Rattle.tx_plan.proofs.Lists.{all_map}
 use Rattle.tx_plan.specs.Plan.{Plan, Route}
 use Rattle.tx_plan.specs.Rules.{IsRoute, IsBar, IsPlan}
 use Rattle.tx_plan.specs.Routes.{route_list, is_barred}
 use Rattle.tx_plan.specs.Mixtures.{SameNetwork, IsEither, IsMixture}
-use Rattle.tx_plan.specs.Mixed.{is_route_there, is_bar_there, mixed}
-use Rattle.tx_plan.specs.Rerouted.{rerouted}
+use Rattle.tx_plan.specs.Mixed.{is_route_there, is_bar_there, mixed, rerouted}
 use Rattle.tx_plan.proofs.Networks.{rerouted-is}
 use Rattle.tx_plan.proofs.Filtered.{find_out, find_in, find_second, find_first, any_out, any_in, any_second, any_first, all_kept, all_joined, all_pass, pairs_kept, pairs_joined}
 

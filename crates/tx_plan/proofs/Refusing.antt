@@ -1,7 +1,11 @@
--- The first refusal of a list of tests, and of two lists, one behind the other.
-use Rattle.std.proofs.Common.{◌≡◌, Bool, true, false, List, [], ◌∷◌, ◌++◌, Some, None, refl, ap}
-use Rattle.std.specs.Prelude.{if◌then◌else◌}
-use Rattle.tx_plan.specs.Declaring.{first_true}
+-- The first refusal of a list of tests, and of two lists, one after the other.
+use Rattle.std.proofs.Common.{◌≡◌, Bool, true, false, List, [], ◌∷◌, ◌++◌, Option, Some, None, Result, Ok, Err, inl, inr, refl, sym, ap, ◌∙◌, subst}
+use Rattle.std.specs.Prelude.{if◌then◌else◌, IfErr}
+use Rattle.std.specs.Result.{IsErrAnd}
+use Rattle.tx_plan.specs.Plan.{Plan}
+use Rattle.tx_plan.specs.Declaring.{Declares, first_true}
+use Rattle.tx_plan.specs.declared.refusal.PlanRefusal.{PlanRefusal}
+use Rattle.tx_plan.specs.declared.refusal.PlanRefusal.TheVariants.{NoMemory}
 
 module _ {X : Type 0} where
   -- a test that is true
@@ -33,3 +37,24 @@ module _ {R : Type 0} where
   stops [] ys r h = let bad : ⊥ = cc in absurd bad
   stops ((true, q) ∷ xs) ys r h = h
   stops ((false, q) ∷ xs) ys r h = stops xs ys r h
+
+-- a refusal that is handed on
+pub refused : {T : Type 0} (r : Result T PlanRefusal) (e : PlanRefusal) (P : PlanRefusal → Type 0) → IsErrAnd r (λ f. f ≡ e) → P e → IfErr r P
+refused (Ok x) e P h p = absurd h
+refused (Err f) e P h p = subst P (sym h) p
+
+module _ (refusal : Option PlanRefusal) (old next new : Plan) (r : Result (Unit {0}) PlanRefusal) where
+  pub declares-refused : (e : PlanRefusal) → IsErrAnd r (λ f. f ≡ e) → refusal ≡ Some e → new ≡ old → Declares refusal old next new r
+  declares-refused e h is same = at r h
+    where
+      at : (r : Result (Unit {0}) PlanRefusal) → IsErrAnd r (λ f. f ≡ e) → Declares refusal old next new r
+      at (Ok x) h = absurd h
+      at (Err f) h = (same, inl (is ∙ ap Some (sym h)))
+
+  -- memory was refused
+  pub declares-no_memory : IsErrAnd r (λ f. f ≡ NoMemory) → refusal ≡ None → new ≡ old → Declares refusal old next new r
+  declares-no_memory h none same = at r h
+    where
+      at : (r : Result (Unit {0}) PlanRefusal) → IsErrAnd r (λ f. f ≡ NoMemory) → Declares refusal old next new r
+      at (Ok x) h = absurd h
+      at (Err f) h = (same, inr (none, h))

@@ -1,42 +1,15 @@
 -- What is seen of a route's words.
-use Rattle.std.proofs.Common.{◌≡◌, ℕ, ◌<◌, ◌≤◌, nat_lt, Bool, true, false, not, ◌&&◌, ◌||◌, ◌==◌, List, [], ◌∷◌, ◌++◌, length, map, is_some, refl, sym, ap, ◌∙◌, eqb-true, eq-eqb, arith}
+use Rattle.std.proofs.Common.{◌≡◌, ℕ, ◌<◌, ◌≤◌, nat_lt, Bool, true, false, not, ◌&&◌, ◌||◌, ◌==◌, List, [], ◌∷◌, ◌++◌, length, map, refl, sym, ap, ◌∙◌, eqb-true, eq-eqb, arith}
 use Rattle.std.proofs.lemmas.Bool.{le-ltb, or_parts, not-false}
 use Rattle.std.proofs.lemmas.List.{append-nil, length-map}
 use Rattle.std.specs.List.{list_any}
 use Rattle.std.specs.Str.{bytes_eq}
 use Rattle.std.proofs.lemmas.Slice.Eq.{bytes_eq-Decides}
-use Rattle.tx_text.specs.Words.{is_name}
-use Rattle.tx_plan.specs.Plan.{Plan, Group, exchange_named, code_named, group_named}
-use Rattle.tx_plan.specs.Rules.{IsPlan, IsCode, IsGroup, is_code}
+use Rattle.tx_plan.specs.Plan.{Plan, Group}
 use Rattle.tx_plan.specs.Declaring.{has_group, group_at, none_twice}
-use Rattle.tx_entries.specs.inner.Distinct.{differ}
-use Rattle.tx_entries.specs.declared.direction.Direction.TheVariants.{OneWay}
-use Rattle.tx_plan.proofs.Absent.{unnamed}
-use Rattle.tx_entries.proofs.Lists.{opposed, one_word, below, same_tests}
-
--- a declared group's name is a name
-pub named_is_name : (p : Plan) (w : List ℕ) → IsPlan p → is_some (group_named p w) ≡ true → is_name w ≡ true
-named_is_name p w rules h = by_test (is_name w) refl
-  where
-    by_test : (b : Bool) → is_name w ≡ b → is_name w ≡ true
-    by_test true e = e
-    by_test false e = absurd (opposed (is_some (group_named p w)) h (ap is_some (unnamed is_name (λ g. g.name) (IsGroup p) w p.groups (λ x k. k.name) e rules.groups)))
-
--- a declared exchange's name is a name
-pub exchange_is_name : (p : Plan) (w : List ℕ) → IsPlan p → is_some (exchange_named p w) ≡ true → is_name w ≡ true
-exchange_is_name p w rules h = by_test (is_name w) refl
-  where
-    by_test : (b : Bool) → is_name w ≡ b → is_name w ≡ true
-    by_test true e = e
-    by_test false e = absurd (opposed (is_some (exchange_named p w)) h (ap is_some (unnamed is_name (λ x. x) (λ x. is_name x ≡ true) w p.exchanges (λ x k. k) e rules.exchanges)))
-
--- a declared code's figures are a code
-pub named_is_code : (p : Plan) (w : List ℕ) → IsPlan p → is_some (code_named p w) ≡ true → is_code w ≡ true
-named_is_code p w rules h = by_test (is_code w) refl
-  where
-    by_test : (b : Bool) → is_code w ≡ b → is_code w ≡ true
-    by_test true e = e
-    by_test false e = absurd (opposed (is_some (code_named p w)) h (ap is_some (unnamed is_code (λ c. c.figures) (IsCode p) w p.codes (λ x k. k.figures) e rules.codes)))
+use Rattle.tx_plan.specs.inner.Distinct.{differ}
+use Rattle.tx_plan.specs.declared.ids.Direction.TheVariants.{OneWay}
+use Rattle.tx_plan.proofs.Lists.{one_word, below, same_tests}
 
 -- two declared names are one exactly where they name one group
 place_is_word : (p : Plan) (v w : List ℕ) → has_group p v ≡ true → has_group p w ≡ true → (group_at p w == group_at p v) ≡ bytes_eq v w
@@ -69,7 +42,3 @@ pub many_seen : (many : Bool) (f : List ℕ → ℕ) (list : List ℕ) (words re
 many_seen true f list words rest e m s l = sym (below 16 (length words) (m refl))
 many_seen false f list words rest e m s l =
     let n = s refl in let k = ap length (all_seen f list words rest e (l refl)) in let j = length-map words f in sym (le-ltb 16 (length words) (omega (arith, n, k, j)))
-
--- there were no more than 16 words, where all were seen
-pub few_seen : (f : List ℕ → ℕ) (list : List ℕ) (words rest : List (List ℕ)) → rest ≡ [] → length list ≤ 16 → map f words ≡ list ++ map f rest → false ≡ nat_lt 16 (length words)
-few_seen f list words rest e n l = many_seen false f list words rest e (λ h. absurd (opposed false h refl)) (λ h. n) (λ h. l)

@@ -26,11 +26,15 @@ pub record LeadsDown (p : Plan) (ranks : Ranks) (spare c x r : ℕ) : Type 0 whe
   pub enough : spare < length (route_list p x c)
   pub each : AllByRecursion (LeadsLower p ranks c x r) (route_list p x c)
 
--- No code begins another. For each code the home has rank 0, each origin for it has a rank, no rank is above limit + 1, and each ranked exchange
--- other than the home has a list of more groups than spare, each leading to an exchange of smaller rank.
+-- No code begins another. For each code the home has rank 0, each origin for it has a rank, no rank
+-- is above limit + 1, and each ranked exchange other than the home has a list of more groups than
+-- spare, each leading to an exchange of smaller rank.
 pub record IsCertified (p : Plan) (ranks : Ranks) (limit spare : ℕ) : Type 0 where
-  pub no_prefix : (i j : ℕ) (c d : Code) → slice_get p.codes i ≡ Some c → slice_get p.codes j ≡ Some d → is_prefix c.figures d.figures ≡ true → c.figures ≡ d.figures
+  pub no_prefix : (i j : ℕ) (c d : Code) → slice_get p.codes i ≡ Some c
+      → slice_get p.codes j ≡ Some d → is_prefix c.figures d.figures ≡ true → c.figures ≡ d.figures
   pub homes : (c : ℕ) → c < length p.codes → ranks c (home_of p c) ≡ Some 0
-  pub origins : (c x : ℕ) → c < length p.codes → is_origin_for p x c ≡ true → (r : ℕ) × (ranks c x ≡ Some r)
+  pub origins : (c x : ℕ) → c < length p.codes
+      → is_origin_for p x c ≡ true → (r : ℕ) × (ranks c x ≡ Some r)
   pub low : (c x r : ℕ) → c < length p.codes → ranks c x ≡ Some r → r ≤ limit + 1
-  pub lists : (c x r : ℕ) → c < length p.codes → ranks c x ≡ Some r → x ≢ home_of p c → LeadsDown p ranks spare c x r
+  pub lists : (c x r : ℕ) → c < length p.codes
+      → ranks c x ≡ Some r → x ≢ home_of p c → LeadsDown p ranks spare c x r

@@ -10,6 +10,7 @@ after [] text = Some text
 after (x ∷ xs) [] = None
 after (x ∷ xs) (y ∷ ys) = if x == y then after xs ys else None
 
+-- a text begins with the front
 abbrev pub is_prefix : List ℕ → List ℕ → Bool
 is_prefix front text = is_some (after front text)
 
@@ -17,6 +18,7 @@ is_prefix front text = is_some (after front text)
 abbrev pub codes_before : Plan → List ℕ → List (ℕ × Code)
 codes_before p keyed = filter (λ e. is_prefix e.1.figures keyed) (enumerate_from 0 p.codes)
 
+-- the longer of a code and another one, if there is another
 abbrev pub longer : ℕ × Code → Option (ℕ × Code) → Option (ℕ × Code)
 longer e None = Some e
 longer e (Some f) = if nat_lt (length f.1.figures) (length e.1.figures) then Some e else Some f

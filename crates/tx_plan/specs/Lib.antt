@@ -8,8 +8,8 @@ pub mod Circuits
 pub mod Rules
 pub mod Declaring
 pub mod Certified
-pub mod Rerouted
 pub mod Mixtures
 pub mod Mixed
-pub use Rattle.tx_entries.specs.Orders
 pub mod inner
+pub mod Numbers
+pub mod Orders

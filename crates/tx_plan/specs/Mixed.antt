@@ -1,9 +1,12 @@
--- The mixture that takes some lists and some bars of one code from the new plan, and all else from
--- the old one.
+-- A plan with other routes and bars, and the mixture that takes some lists and some bars of one
+-- code from the new plan, and all else from the old one.
 use Rattle.std.specs.Prelude.{ℕ, Bool, not, ◌&&◌, ◌==◌, List, ◌++◌, filter}
-use Rattle.tx_entries.specs.declared.pair.Pair.{Pair}
+use Rattle.tx_plan.specs.declared.ids.Pair.{Pair}
 use Rattle.tx_plan.specs.Plan.{Plan, Route}
-use Rattle.tx_plan.specs.Rerouted.{rerouted}
+
+-- the plan with these routes and bars in place of its own
+abbrev pub rerouted : Plan → List Route → List Pair → Plan
+rerouted p routes bars = record p { routes = routes; bars = bars }
 
 -- a route of the code at one of the exchanges
 abbrev pub is_route_there : ℕ → (ℕ → Bool) → Route → Bool

@@ -1,4 +1,4 @@
--- Two plans of one network, and the plans that may stand while one is changed into the other.
+-- Two plans of one network, and the plans that may be in force while one is changed into the other.
 use Rattle.std.specs.Prelude.{◌≡◌, ◌⊎◌, ℕ}
 use Rattle.tx_plan.specs.Plan.{Plan}
 use Rattle.tx_plan.specs.Rules.{IsPlan}
@@ -17,7 +17,7 @@ pub record SameNetwork (p q : Plan) : Type 0 where
 abbrev pub IsEither : {A : Type 0} → A → A → A → Type 0
 IsEither z x y = (z ≡ x) ⊎ (z ≡ y)
 
--- A MIXTURE: a plan of the network in which each exchange has for each code the list of the old
+-- A mixture: a plan of the network in which each exchange has for each code the list of the old
 -- plan or that of the new one, and is barred for it as in the old plan or as in the new one.
 pub record IsMixture (old new m : Plan) : Type 0 where
   pub rules : IsPlan m
@@ -29,7 +29,7 @@ pub record IsMixture (old new m : Plan) : Type 0 where
 abbrev pub EachMixture : (old new : Plan) → (Plan → Type 0) → Type 0
 EachMixture old new Holds = (m : Plan) → IsMixture old new m → Holds m
 
--- COMMON RANKS: the same ranks certify both plans
+-- Common ranks: the same ranks certify both plans
 pub record AreCommon (old new : Plan) (ranks : Ranks) (limit spare : ℕ) : Type 0 where
   pub before : IsCertified old ranks limit spare
   pub after : IsCertified new ranks limit spare

@@ -6,7 +6,8 @@ use Rattle.tx_plan.specs.Plan.{Plan, home_of}
 
 -- the groups that exchange x tries for code c, in order; none where no route is declared
 abbrev pub route_list : Plan → ℕ → ℕ → List ℕ
-route_list p x c = option_map_or (λ r. r.groups) (find (λ r. (r.exchange == x) && (r.code == c)) p.routes) []
+route_list p x c = option_map_or (λ r. r.groups)
+    (find (λ r. (r.exchange == x) && (r.code == c)) p.routes) []
 
 -- calls that start at x for c are not admitted
 abbrev pub is_barred : Plan → ℕ → ℕ → Bool

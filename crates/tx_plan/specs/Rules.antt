@@ -2,18 +2,19 @@
 use Rattle.std.specs.Prelude.{◌≡◌, ◌≢◌, ◌<◌, ◌≤◌, true, false, ◌⊎◌, List, [], ◌∷◌, length}
 use Rattle.std.specs.List.{AllByRecursion}
 use Rattle.tx_text.specs.Words.{is_name}
-pub use Rattle.tx_entries.specs.Numbers.{is_code, is_national}
+pub use Rattle.tx_plan.specs.Numbers.{is_code, is_national}
 use Rattle.tx_plan.specs.Plan.{Plan, Code, Group, Route, home_of}
 use Rattle.tx_plan.specs.Lines.{at_most}
 use Rattle.tx_plan.specs.Circuits.{may_seize}
-use Rattle.tx_entries.specs.declared.pair.Pair.{Pair}
-use Rattle.tx_entries.specs.declared.range.LineRange.{LineRange}
+use Rattle.tx_plan.specs.declared.ids.Pair.{Pair}
+use Rattle.tx_plan.specs.declared.range.LineRange.{LineRange}
 
--- each member of a list stands so to each later one
+-- each member of a list has this relation to each later one
 abbrev pub EachPair : {A : Type 0} → (A → A → Type 0) → List A → Type 0
 EachPair Apart [] = Unit {0}
 EachPair Apart (x ∷ xs) = AllByRecursion (Apart x) xs × EachPair Apart xs
 
+-- two or three figures, at home at a declared exchange
 pub record IsCode (p : Plan) (c : Code) : Type 0 where
   pub figures : is_code c.figures ≡ true
   pub home : c.home < length p.exchanges
@@ -53,9 +54,11 @@ pub record IsBar (p : Plan) (b : Pair) : Type 0 where
 
 -- of one code and width, and yet no number lies in both
 abbrev pub AreSeparate : LineRange → LineRange → Type 0
-AreSeparate r q = r.code ≡ q.code → length r.low ≡ length q.low → (at_most q.low r.high ≡ false) ⊎ (at_most r.low q.high ≡ false)
+AreSeparate r q = r.code ≡ q.code → length r.low ≡ length q.low
+    → (at_most q.low r.high ≡ false) ⊎ (at_most r.low q.high ≡ false)
 
--- THE RULES OF A PLAN
+-- The rules of a plan: what holds of each entry of each list, that no two entries are alike, and
+-- how long a list may be.
 pub record IsPlan (p : Plan) : Type 0 where
   pub exchanges : AllByRecursion (λ x. is_name x ≡ true) p.exchanges
   pub exchanges_differ : EachPair (λ x y. x ≢ y) p.exchanges

@@ -6,17 +6,20 @@ ghost use Rattle.tx_plan.specs.Declaring.{Declares, first_true, exchange_refusal
 use crate::entries::{
     bar_entry, code_entry, exchange_entry, group_entry, range_entry, route_entry,
 };
+use crate::ids::{ByWord, Direction};
 use crate::plan::Plan;
 use crate::refusal::PlanRefusal;
+use crate::routes::{Bars, Routes};
+use indexmap::{IndexMap, IndexSet};
 use std::alloc::{Allocator, Global};
 use std::marker::Model;
-use tx_entries::{Bars, Codes, Direction, Exchanges, Groups, Ranges, Routes};
 use tx_text::Words;
 
 /// A plan in the making. What it declared so far obeys the rules of a plan.
 ///
-/// Each declaration appends one entry to one list, or changes nothing and tells the first refusal in the order of `PlanRefusal`. Names are declared before use.
-#[derive(Drop)]
+/// Each declaration appends one entry to one list, or changes nothing and reports the first refusal
+/// in the order of `PlanRefusal`. Names are declared before use.
+#[derive(Debug, Drop)]
 pub struct PlanBuilder<A: Allocator = Global> {
     plan: Plan<A>,
 }
@@ -36,10 +39,10 @@ impl<A: Allocator + Copy> PlanBuilder<A> {
     {
         PlanBuilder {
             plan: Plan {
-                exchanges: Exchanges::new(alloc),
-                codes: Codes::new(alloc),
-                ranges: Ranges::new(alloc),
-                groups: Groups::new(alloc),
+                exchanges: IndexSet::with_hasher(alloc, ByWord),
+                codes: IndexMap::with_hasher(alloc, ByWord),
+                ranges: Vec::new(alloc),
+                groups: IndexMap::with_hasher(alloc, ByWord),
                 routes: Routes::new(alloc),
                 bars: Bars::new(alloc),
             },
@@ -48,52 +51,46 @@ impl<A: Allocator + Copy> PlanBuilder<A> {
 }
 
 impl<A: Allocator> PlanBuilder<A> {
-    /// Declares an exchange by its name. Refused: `BadName`, `Duplicate`, `TooMany` after 256 exchanges, `NoMemory`.
+    /// Declares an exchange by its name. Refused: `BadName`, `Duplicate`, `TooMany` after 256
+    /// exchanges, `NoMemory`.
     pub fn exchange(&mut self, name: &[u8]) -> Result<(), PlanRefusal>
-        ensures { Declares (first_true (exchange_refusals self.old name.now)) self.old (with_exchange self.old name.now) self.new result }
+        ensures { Declares (first_true (exchange_refusals self.old name.now)) self.old
+            (with_exchange self.old name.now) self.new result }
     {
         let plan = &mut self.plan;
         let entry = exchange_entry(plan, name)?;
-        match plan.exchanges.add(entry) {
-            Ok(()) => {}
-            Err(_) => return Err(PlanRefusal::NoMemory),
-        }
+        plan.exchanges.insert(entry)?;
         Ok(())
     }
 
-    /// Declares a destination code (ITU-T F.69) of two or three figures, with the exchange where it is at home. Refused: `BadName`, `BadCode`, `Duplicate`,
-    /// `Unknown`, `NoMemory`.
+    /// Declares a destination code (ITU-T F.69) of two or three figures, with the exchange where it
+    /// is at home. Refused: `BadName`, `BadCode`, `Duplicate`, `Unknown`, `NoMemory`.
     pub fn code(&mut self, code: &[u8], home: &[u8]) -> Result<(), PlanRefusal>
-        ensures { Declares (first_true (code_refusals self.old code.now home.now)) self.old (with_code self.old code.now home.now) self.new result }
+        ensures { Declares (first_true (code_refusals self.old code.now home.now)) self.old
+            (with_code self.old code.now home.now) self.new result }
     {
         let plan = &mut self.plan;
         let (figures, home) = code_entry(plan, code, home)?;
-        match plan.codes.add(figures, home) {
-            Ok(()) => {}
-            Err(_) => return Err(PlanRefusal::NoMemory),
-        }
+        plan.codes.insert(figures, home)?;
         Ok(())
     }
 
-    /// Declares subscribers' lines: the national numbers of a code from low to high, both in it. Refused: `BadCode`, `BadNumber`, `Unknown`, `RangeOrder`,
-    /// `Overlap`, `TooMany` after 4,096 ranges, `NoMemory`.
+    /// Declares subscribers' lines: the national numbers of a code from low to high, both in it.
+    /// Refused: `BadCode`, `BadNumber`, `Unknown`, `RangeOrder`, `Overlap`, `TooMany` after 4,096
+    /// ranges, `NoMemory`.
     pub fn lines(&mut self, code: &[u8], low: &[u8], high: &[u8]) -> Result<(), PlanRefusal>
-        ensures { Declares (first_true (lines_refusals self.old code.now low.now high.now)) self.old (with_lines self.old code.now low.now high.now) self.new result }
+        ensures { Declares (first_true (lines_refusals self.old code.now low.now high.now)) self.old
+            (with_lines self.old code.now low.now high.now) self.new result }
     {
         let plan = &mut self.plan;
-        let range = match range_entry(plan, code, low, high) {
-            Ok(entry) => entry,
-            Err(refusal) => return Err(refusal),
-        };
-        match plan.ranges.add(range) {
-            Ok(()) => {}
-            Err(_) => return Err(PlanRefusal::NoMemory),
-        }
+        let range = range_entry(plan, code, low, high)?;
+        plan.ranges.push(range)?;
         Ok(())
     }
 
-    /// Declares a group of 1 to 240 circuits, with `a` as its first end and `b` as the other. Refused: `BadName`, `BadNumber`, `Duplicate`, `Unknown`,
-    /// `SameEnds`, `TooMany` after 4,096 groups, `NoMemory`.
+    /// Declares a group of 1 to 240 circuits, with `a` as its first end and `b` as the other.
+    /// Refused: `BadName`, `BadNumber`, `Duplicate`, `Unknown`, `SameEnds`, `TooMany` after 4,096
+    /// groups, `NoMemory`.
     pub fn group(
         &mut self,
         name: &[u8],
@@ -102,52 +99,42 @@ impl<A: Allocator> PlanBuilder<A> {
         direction: Direction,
         count: u32,
     ) -> Result<(), PlanRefusal>
-        ensures { Declares (first_true (group_refusals self.old name.now a.now b.now count)) self.old (with_group self.old name.now a.now b.now direction count) self.new result }
+        ensures { Declares (first_true (group_refusals self.old name.now a.now b.now count))
+            self.old (with_group self.old name.now a.now b.now direction count) self.new result }
     {
         let plan = &mut self.plan;
         let (key, row) = group_entry(plan, name, a, b, direction, count)?;
-        match plan.groups.add(key, row) {
-            Ok(()) => {}
-            Err(_) => return Err(PlanRefusal::NoMemory),
-        }
+        plan.groups.insert(key, row)?;
         Ok(())
     }
 
-    /// Declares the list of an exchange for a code: 1 to 16 groups, in the order in which it tries them. Refused: `WrongCount`, `BadName`, `BadCode`,
-    /// `Duplicate`, `Unknown`, `NotOutgoing`, `RepeatedGroup`, `RouteAtHome`, `TooMany`, `NoMemory`.
+    /// Declares the list of an exchange for a code: 1 to 16 groups, in the order in which it tries
+    /// them. Refused: `WrongCount`, `BadName`, `BadCode`, `Duplicate`, `Unknown`, `NotOutgoing`,
+    /// `RepeatedGroup`, `RouteAtHome`, `TooMany`, `NoMemory`.
     pub fn route(
         &mut self,
         exchange: &[u8],
         code: &[u8],
         groups: Words<'_>,
     ) -> Result<(), PlanRefusal>
-        ensures { Declares (first_true (route_refusals self.old exchange.now code.now groups.entry)) self.old (with_route self.old exchange.now code.now groups.entry) self.new result }
+        ensures { Declares (first_true (route_refusals self.old exchange.now code.now groups.entry))
+            self.old (with_route self.old exchange.now code.now groups.entry) self.new result }
     {
         let plan = &mut self.plan;
-        let (pair, list) = match route_entry(plan, exchange, code, groups) {
-            Ok(entry) => entry,
-            Err(refusal) => return Err(refusal),
-        };
-        match plan.routes.add(pair, list) {
-            Ok(()) => {}
-            Err(_) => return Err(PlanRefusal::NoMemory),
-        }
+        let (pair, list) = route_entry(plan, exchange, code, groups)?;
+        plan.routes.add(pair, list)?;
         Ok(())
     }
 
-    /// Bars calls that start at an exchange for a code. Refused: `BadName`, `BadCode`, `Duplicate`, `Unknown`, `BarAtHome`, `NoMemory`.
+    /// Bars calls that start at an exchange for a code. Refused: `BadName`, `BadCode`, `Duplicate`,
+    /// `Unknown`, `BarAtHome`, `NoMemory`.
     pub fn bar(&mut self, exchange: &[u8], code: &[u8]) -> Result<(), PlanRefusal>
-        ensures { Declares (first_true (bar_refusals self.old exchange.now code.now)) self.old (with_bar self.old exchange.now code.now) self.new result }
+        ensures { Declares (first_true (bar_refusals self.old exchange.now code.now)) self.old
+            (with_bar self.old exchange.now code.now) self.new result }
     {
         let plan = &mut self.plan;
-        let pair = match bar_entry(plan, exchange, code) {
-            Ok(entry) => entry,
-            Err(refusal) => return Err(refusal),
-        };
-        match plan.bars.add(pair) {
-            Ok(()) => {}
-            Err(_) => return Err(PlanRefusal::NoMemory),
-        }
+        let pair = bar_entry(plan, exchange, code)?;
+        plan.bars.add(pair)?;
         Ok(())
     }
 

@@ -1,59 +1,22 @@
 // What a declaration adds to a plan, or why it is refused.
-ghost use Rattle.std.specs.Prelude.{◌≡◌, ◌≤◌, ◌<◌, Some, None, is_some, true, false, not, map, ◌||◌, ◌&&◌, nat_le, IfNone, IfSome, IfOk, IfErr, OnOk, length};
+ghost use Rattle.std.specs.Prelude.{◌≡◌, ◌≤◌, ◌<◌, Some, None, is_some, true, false, not, map, ◌||◌, ◌&&◌, nat_le, IfSome, IfOk, IfErr, OnOk, length};
 ghost use Rattle.std.specs.List.{list_any};
+ghost use Rattle.std.specs.Result.{result_err};
 ghost use Rattle.tx_text.specs.Words.{is_name};
 ghost use Rattle.tx_plan.specs.Plan.{exchange_named, code_named, group_named};
 ghost use Rattle.tx_plan.specs.Routes.{is_barred};
-ghost use Rattle.tx_plan.specs.Rules.{is_code};
-ghost use Rattle.tx_plan.specs.inner.Seen.{IsSeen};
+ghost use Rattle.tx_plan.specs.inner.RouteScan.{IsScanOf};
 ghost use Rattle.tx_plan.specs.Declaring.{first_true, exchange_refusals, code_refusals, lines_refusals, group_refusals, route_refusals, route_plan_refusals, route_group_refusals, bar_refusals, route_word_refusals, has_exchange, has_code, has_group, has_route, pair_named, is_ordered, exchange_at, code_at, group_at};
 
-use crate::group_words::none_twice;
+use crate::ids::{Direction, ExchangeId, GroupRow, National, Pair, at_most};
+use crate::names::NameKey;
 use crate::plan::Plan;
+use crate::range::LineRange;
 use crate::refusal::PlanRefusal;
-use crate::route_words::{Seen, see};
+use crate::route_scan::{RouteScan, scan};
+use crate::routes::GroupList;
 use std::alloc::Allocator;
-use tx_entries::{
-    CodeId, Direction, ExchangeId, GroupId, GroupList, GroupRow, LineRange, NameKey, National,
-    Pair, at_most,
-};
 use tx_text::{Words, are_figures, is_name};
-
-/// The exchange of a name, and whether it was declared.
-#[tactic(auto, using(tx_entries::proofs::Lists::found_any))]
-#[inline(always)]
-fn exchange_of<A: Allocator>(plan: &Plan<A>, name: &[u8]) -> Option<ExchangeId>
-    ensures place { result ≡ exchange_named plan.now name.now }
-    ensures found { is_some result ≡ has_exchange plan.now name.now }
-    ensures named { is_some result ≡ true → is_name name.now ≡ true }
-{
-    plan.rules();
-    plan.exchange_named(name)
-}
-
-/// The code of these figures, and whether it was declared.
-#[tactic(auto, using(tx_entries::proofs::Lists::found_any))]
-#[inline(always)]
-fn code_of<A: Allocator>(plan: &Plan<A>, figures: &[u8]) -> Option<CodeId>
-    ensures place { result ≡ code_named plan.now figures.now }
-    ensures found { is_some result ≡ has_code plan.now figures.now }
-    ensures formed { is_some result ≡ true → is_code figures.now ≡ true }
-{
-    plan.rules();
-    plan.code_named(figures)
-}
-
-/// The group of a name, and whether it was declared.
-#[tactic(auto, using(tx_entries::proofs::Lists::found_any))]
-#[inline(always)]
-pub(crate) fn group_of<A: Allocator>(plan: &Plan<A>, name: &[u8]) -> Option<GroupId>
-    ensures place { result ≡ group_named plan.now name.now }
-    ensures found { is_some result ≡ has_group plan.now name.now }
-    ensures named { is_some result ≡ true → is_name name.now ≡ true }
-{
-    plan.rules();
-    plan.group_named(name)
-}
 
 /// The name of a new exchange, or why it is refused.
 pub(crate) fn exchange_entry<A: Allocator>(
@@ -68,7 +31,7 @@ pub(crate) fn exchange_entry<A: Allocator>(
     if !is_name(name) {
         return Err(PlanRefusal::BadName);
     }
-    if exchange_of(plan, name).is_some() {
+    if plan.exchange_named(name).is_some() {
         return Err(PlanRefusal::Duplicate);
     }
     if plan.exchanges() >= 256 {
@@ -83,7 +46,8 @@ pub(crate) fn code_entry<A: Allocator>(
     code: &[u8],
     home: &[u8],
 ) -> Result<(NameKey, ExchangeId), PlanRefusal>
-    ensures err { IfErr result (λ e. first_true (code_refusals plan.now code.now home.now) ≡ Some e) }
+    ensures err { IfErr result (λ e. first_true (code_refusals plan.now code.now home.now)
+        ≡ Some e) }
     ensures ok { OnOk result (first_true (code_refusals plan.now code.now home.now) ≡ None) }
     ensures entry { IfOk result (λ e. e ≡ (code.now, exchange_at plan.now home.now)) }
     ensures fresh { OnOk result (has_code plan.now code.now ≡ false) }
@@ -94,10 +58,10 @@ pub(crate) fn code_entry<A: Allocator>(
     if !are_figures(code, 2, 3) {
         return Err(PlanRefusal::BadCode);
     }
-    if code_of(plan, code).is_some() {
+    if plan.code_named(code).is_some() {
         return Err(PlanRefusal::Duplicate);
     }
-    let Some(home) = exchange_of(plan, home) else {
+    let Some(home) = plan.exchange_named(home) else {
         return Err(PlanRefusal::Unknown);
     };
     if plan.codes() >= 1100 {
@@ -107,7 +71,6 @@ pub(crate) fn code_entry<A: Allocator>(
 }
 
 /// Whether low and high have one width, and low is not above high.
-#[inline(always)]
 fn is_ordered(low: &[u8], high: &[u8]) -> bool
     ensures { result ≡ is_ordered low.now high.now }
 {
@@ -121,9 +84,12 @@ pub(crate) fn range_entry<A: Allocator>(
     low: &[u8],
     high: &[u8],
 ) -> Result<LineRange, PlanRefusal>
-    ensures err { IfErr result (λ e. first_true (lines_refusals plan.now code.now low.now high.now) ≡ Some e) }
-    ensures ok { OnOk result (first_true (lines_refusals plan.now code.now low.now high.now) ≡ None) }
-    ensures entry { IfOk result (λ e. e ≡ record { code = code_at plan.now code.now; low = low.now; high = high.now }) }
+    ensures err { IfErr result (λ e. first_true (lines_refusals plan.now code.now low.now high.now)
+        ≡ Some e) }
+    ensures ok { OnOk result (first_true (lines_refusals plan.now code.now low.now high.now)
+        ≡ None) }
+    ensures entry { IfOk result
+        (λ e. e ≡ record { code = code_at plan.now code.now; low = low.now; high = high.now }) }
 {
     if !are_figures(code, 2, 3) {
         return Err(PlanRefusal::BadCode);
@@ -134,7 +100,7 @@ pub(crate) fn range_entry<A: Allocator>(
     let Some(greatest) = National::read(high) else {
         return Err(PlanRefusal::BadNumber);
     };
-    let Some(place) = code_of(plan, code) else {
+    let Some(place) = plan.code_named(code) else {
         return Err(PlanRefusal::Unknown);
     };
     if !is_ordered(low, high) {
@@ -154,35 +120,19 @@ pub(crate) fn range_entry<A: Allocator>(
 }
 
 /// Whether each is a name.
-#[inline(always)]
 fn are_names(name: &[u8], a: &[u8], b: &[u8]) -> bool
-    ensures gives { not result ≡ (not (is_name name.now) || (not (is_name a.now) || not (is_name b.now))) }
+    ensures gives { not result
+        ≡ (not (is_name name.now) || (not (is_name a.now) || not (is_name b.now))) }
     ensures short { result ≡ true → length name.now ≤ 8 }
 {
     is_name(name) && is_name(a) && is_name(b)
 }
 
 /// Whether a group may have so many circuits.
-#[inline(always)]
 fn is_count(count: u32) -> bool
     ensures { result ≡ (nat_le 1 count && nat_le count 240) }
 {
     count >= 1 && count <= 240
-}
-
-/// The exchanges of two names.
-#[inline(always)]
-fn ends_named<A: Allocator>(plan: &Plan<A>, a: &[u8], b: &[u8]) -> Option<(ExchangeId, ExchangeId)>
-    ensures found { is_some result ≡ not (not (has_exchange plan.now a.now) || not (has_exchange plan.now b.now)) }
-    ensures ends { IfSome result (λ e. e ≡ (exchange_at plan.now a.now, exchange_at plan.now b.now)) }
-{
-    let Some(first) = exchange_of(plan, a) else {
-        return None;
-    };
-    let Some(second) = exchange_of(plan, b) else {
-        return None;
-    };
-    Some((first, second))
 }
 
 /// The name of a new group and its row, or why it is refused.
@@ -194,9 +144,19 @@ pub(crate) fn group_entry<A: Allocator>(
     direction: Direction,
     count: u32,
 ) -> Result<(NameKey, GroupRow), PlanRefusal>
-    ensures err { IfErr result (λ e. first_true (group_refusals plan.now name.now a.now b.now count) ≡ Some e) }
-    ensures ok { OnOk result (first_true (group_refusals plan.now name.now a.now b.now count) ≡ None) }
-    ensures entry { IfOk result (λ e. e ≡ (name.now, record { a = exchange_at plan.now a.now; b = exchange_at plan.now b.now; direction = direction; count = count })) }
+    ensures err { IfErr result (λ e. first_true (group_refusals plan.now name.now a.now b.now count)
+        ≡ Some e) }
+    ensures ok { OnOk result (first_true (group_refusals plan.now name.now a.now b.now count)
+        ≡ None) }
+    ensures entry { IfOk result (λ e. e ≡ (
+      name.now,
+      record {
+        a = exchange_at plan.now a.now;
+        b = exchange_at plan.now b.now;
+        direction = direction;
+        count = count;
+      },
+    )) }
     ensures fresh { OnOk result (has_group plan.now name.now ≡ false) }
 {
     if !are_names(name, a, b) {
@@ -205,12 +165,14 @@ pub(crate) fn group_entry<A: Allocator>(
     if !is_count(count) {
         return Err(PlanRefusal::BadNumber);
     }
-    if group_of(plan, name).is_some() {
+    if plan.group_named(name).is_some() {
         return Err(PlanRefusal::Duplicate);
     }
-    let (first, second) = match ends_named(plan, a, b) {
-        Some(ends) => ends,
-        None => return Err(PlanRefusal::Unknown),
+    let Some(first) = plan.exchange_named(a) else {
+        return Err(PlanRefusal::Unknown);
+    };
+    let Some(second) = plan.exchange_named(b) else {
+        return Err(PlanRefusal::Unknown);
     };
     if a == b {
         return Err(PlanRefusal::SameEnds);
@@ -227,35 +189,19 @@ pub(crate) fn group_entry<A: Allocator>(
     Ok((NameKey::new(name), row))
 }
 
-/// The exchange and the code of two words.
-#[inline(always)]
-fn pair_of<A: Allocator>(plan: &Plan<A>, exchange: &[u8], code: &[u8]) -> Option<Pair>
-    ensures pair { result ≡ pair_named plan.now exchange.now code.now }
-    ensures named { IfSome result (λ x. x ≡ record { exchange = exchange_at plan.now exchange.now; code = code_at plan.now code.now }) }
-    ensures name { is_some result ≡ true → is_name exchange.now ≡ true }
-    ensures figures { is_some result ≡ true → is_code code.now ≡ true }
-{
-    plan.rules();
-    let exchange = exchange_of(plan, exchange);
-    let code = code_of(plan, code);
-    match exchange {
-        None => None,
-        Some(exchange) => match code {
-            None => None,
-            Some(code) => Some(Pair { exchange, code }),
-        },
-    }
-}
-
 /// A new bar, or why it is refused.
 pub(crate) fn bar_entry<A: Allocator>(
     plan: &Plan<A>,
     exchange: &[u8],
     code: &[u8],
 ) -> Result<Pair, PlanRefusal>
-    ensures err { IfErr result (λ e. first_true (bar_refusals plan.now exchange.now code.now) ≡ Some e) }
+    ensures err { IfErr result (λ e. first_true (bar_refusals plan.now exchange.now code.now)
+        ≡ Some e) }
     ensures ok { OnOk result (first_true (bar_refusals plan.now exchange.now code.now) ≡ None) }
-    ensures entry { IfOk result (λ e. e ≡ record { exchange = exchange_at plan.now exchange.now; code = code_at plan.now code.now }) }
+    ensures entry { IfOk result (λ e. e ≡ record {
+      exchange = exchange_at plan.now exchange.now;
+      code = code_at plan.now code.now;
+    }) }
     ensures fresh { IfOk result (λ e. is_barred plan.now e.exchange e.code ≡ false) }
 {
     if !is_name(exchange) {
@@ -264,9 +210,8 @@ pub(crate) fn bar_entry<A: Allocator>(
     if !are_figures(code, 2, 3) {
         return Err(PlanRefusal::BadCode);
     }
-    let pair = match pair_of(plan, exchange, code) {
-        Some(pair) => pair,
-        None => return Err(PlanRefusal::Unknown),
+    let Some(pair) = plan.pair_named(exchange, code) else {
+        return Err(PlanRefusal::Unknown);
     };
     if plan.is_barred(pair.exchange, pair.code) {
         return Err(PlanRefusal::Duplicate);
@@ -277,118 +222,111 @@ pub(crate) fn bar_entry<A: Allocator>(
     Ok(pair)
 }
 
-/// What the words of a route refuse by themselves. The exchange and the code are looked at only where they are not both declared, since what is declared is
-/// well formed, and the groups only where the list that was seen of them is empty.
-#[inline(always)]
+/// What the words of a route refuse by themselves.
 fn route_words(
     exchange: &[u8],
     code: &[u8],
     groups: &Words<'_>,
-    empty: bool,
     bad: bool,
-    declared: bool,
-) -> Option<PlanRefusal>
-    requires empty { empty ≡ false → 0 < length groups.now }
+) -> Result<(), PlanRefusal>
     requires bad { bad ≡ list_any (λ g. not (is_name g)) groups.now }
-    requires name { declared ≡ true → is_name exchange.now ≡ true }
-    requires code { declared ≡ true → is_code code.now ≡ true }
-    ensures { result ≡ first_true (route_word_refusals exchange.now code.now groups.now) }
+    ensures { result_err result
+        ≡ first_true (route_word_refusals exchange.now code.now groups.now) }
 {
-    if empty && groups.again().next().is_none() {
-        return Some(PlanRefusal::WrongCount);
+    if groups.again().next().is_none() {
+        return Err(PlanRefusal::WrongCount);
     }
-    if bad || !(declared || is_name(exchange)) {
-        return Some(PlanRefusal::BadName);
+    if bad || !is_name(exchange) {
+        return Err(PlanRefusal::BadName);
     }
-    if !(declared || are_figures(code, 2, 3)) {
-        return Some(PlanRefusal::BadCode);
+    if !are_figures(code, 2, 3) {
+        return Err(PlanRefusal::BadCode);
     }
-    None
+    Ok(())
 }
 
 /// Why the groups are refused to a declared pair, all of them being declared.
 #[tactic(auto, using(crate::proofs::SeenWords::differ_as_words))]
-#[inline(always)]
 fn route_groups<A: Allocator>(
     plan: &Plan<A>,
     pair: &Pair,
     groups: &Words<'_>,
-    seen: &Seen,
-) -> Option<PlanRefusal>
-    requires seen { IsSeen plan.now (Some pair.now) groups.now seen.now }
-    requires known { seen.now.unknown ≡ false }
-    ensures gives { result ≡ first_true (route_group_refusals plan.now (Some pair.now) groups.now) }
-    ensures few { IfNone result (seen.now.many ≡ false) }
+    scan: &RouteScan,
+) -> Result<(), PlanRefusal>
+    requires scan { IsScanOf plan.now (Some pair.now) groups.now scan.now }
+    requires known { scan.now.unknown ≡ false }
+    ensures gives { result_err result
+        ≡ first_true (route_group_refusals plan.now (Some pair.now) groups.now) }
+    ensures few { OnOk result (scan.now.many ≡ false) }
 {
-    if seen.not_outgoing {
-        return Some(PlanRefusal::NotOutgoing);
+    if scan.not_outgoing {
+        return Err(PlanRefusal::NotOutgoing);
     }
-    let once = if seen.many {
-        none_twice(groups.again())
+    let once = if scan.many {
+        groups.again().none_twice()
     } else {
-        seen.list.none_twice()
+        scan.list.none_twice()
     };
     if !once {
-        return Some(PlanRefusal::RepeatedGroup);
+        return Err(PlanRefusal::RepeatedGroup);
     }
     if plan.home(pair.code) == pair.exchange {
-        return Some(PlanRefusal::RouteAtHome);
+        return Err(PlanRefusal::RouteAtHome);
     }
-    if seen.many {
-        return Some(PlanRefusal::TooMany);
+    if scan.many {
+        return Err(PlanRefusal::TooMany);
     }
-    None
+    Ok(())
 }
 
 /// Why a route is refused to a declared pair.
-#[inline(always)]
 fn route_row<A: Allocator>(
     plan: &Plan<A>,
     pair: &Pair,
     groups: &Words<'_>,
-    seen: &Seen,
-) -> Option<PlanRefusal>
-    requires seen { IsSeen plan.now (Some pair.now) groups.now seen.now }
-    ensures gives { result ≡ first_true (route_plan_refusals plan.now (Some pair.now) groups.now) }
-    ensures few { IfNone result (seen.now.many ≡ false) }
-    ensures fresh { IfNone result (has_route plan.now pair.now.exchange pair.now.code ≡ false) }
+    scan: &RouteScan,
+) -> Result<(), PlanRefusal>
+    requires scan { IsScanOf plan.now (Some pair.now) groups.now scan.now }
+    ensures gives { result_err result
+        ≡ first_true (route_plan_refusals plan.now (Some pair.now) groups.now) }
+    ensures few { OnOk result (scan.now.many ≡ false) }
+    ensures fresh { OnOk result (has_route plan.now pair.now.exchange pair.now.code ≡ false) }
 {
     if plan.has_route(pair) {
-        return Some(PlanRefusal::Duplicate);
+        return Err(PlanRefusal::Duplicate);
     }
-    if seen.unknown {
-        return Some(PlanRefusal::Unknown);
+    if scan.unknown {
+        return Err(PlanRefusal::Unknown);
     }
-    route_groups(plan, pair, groups, seen)
+    route_groups(plan, pair, groups, scan)
 }
 
 /// The pair and the groups of a new route, or why it is refused.
-#[inline(always)]
 pub(crate) fn route_entry<A: Allocator>(
     plan: &Plan<A>,
     exchange: &[u8],
     code: &[u8],
     groups: Words<'_>,
 ) -> Result<(Pair, GroupList), PlanRefusal>
-    ensures err { IfErr result (λ e. first_true (route_refusals plan.now exchange.now code.now groups.entry) ≡ Some e) }
-    ensures ok { OnOk result (first_true (route_refusals plan.now exchange.now code.now groups.entry) ≡ None) }
-    ensures entry { IfOk result (λ e. e ≡ (record { exchange = exchange_at plan.now exchange.now; code = code_at plan.now code.now }, map (group_at plan.now) groups.entry)) }
+    ensures err { IfErr result
+        (λ e. first_true (route_refusals plan.now exchange.now code.now groups.entry) ≡ Some e) }
+    ensures ok { OnOk result
+        (first_true (route_refusals plan.now exchange.now code.now groups.entry) ≡ None) }
+    ensures entry { IfOk result (λ e. e ≡ (
+      record {
+        exchange = exchange_at plan.now exchange.now;
+        code = code_at plan.now code.now;
+      },
+      map (group_at plan.now) groups.entry,
+    )) }
     ensures fresh { IfOk result (λ e. has_route plan.now e.0.exchange e.0.code ≡ false) }
 {
-    let pair = pair_of(plan, exchange, code);
-    let seen = see(plan, &pair, groups.again());
-    let empty = seen.list.groups().is_empty();
-    match route_words(exchange, code, &groups, empty, seen.bad, pair.is_some()) {
-        Some(refusal) => return Err(refusal),
-        None => {}
-    }
-    let pair = match pair {
-        Some(pair) => pair,
-        None => return Err(PlanRefusal::Unknown),
+    let pair = plan.pair_named(exchange, code);
+    let scan = scan(plan, &pair, groups.again());
+    route_words(exchange, code, &groups, scan.bad)?;
+    let Some(pair) = pair else {
+        return Err(PlanRefusal::Unknown);
     };
-    match route_row(plan, &pair, &groups, &seen) {
-        Some(refusal) => return Err(refusal),
-        None => {}
-    }
-    Ok((pair, seen.list))
+    route_row(plan, &pair, &groups, &scan)?;
+    Ok((pair, scan.list))
 }

@@ -1,7 +1,9 @@
-//! A route plan: its exchanges, destination codes, subscribers' lines, circuit groups, routes and bars.
+//! A route plan: its exchanges, destination codes, subscribers' lines, circuit groups, routes and
+//! bars.
 //!
-//! A `PlanBuilder` takes one declaration after another, and refuses each that breaks a rule. A `Plan` that it gives is never changed, and keeps the rules of
-//! all six lists. Exchanges, codes and groups are spoken of by ids, which are places in the order of declaration.
+//! A `PlanBuilder` takes one declaration after another, and refuses each that breaks a rule. A
+//! `Plan` that it gives is never changed, and keeps the rules of all six lists. Exchanges, codes
+//! and groups are spoken of by ids, which are places in the order of declaration.
 //!
 //! ```
 //! fn two_exchanges(alloc: Global) -> Result<Plan, PlanRefusal> {
@@ -22,18 +24,17 @@
 
 mod builder;
 mod entries;
-mod group_words;
-mod keyed;
+mod ids;
 mod names;
 mod plan;
+mod range;
 mod refusal;
-mod route_words;
+mod route_scan;
+mod routes;
 
 pub use builder::PlanBuilder;
-pub use keyed::{code_of, rest_after};
+pub use ids::{ByWord, Circuit, CodeId, Direction, ExchangeId, GroupId, Line, National, Pair};
 pub use plan::Plan;
+pub use range::LineRange;
 pub use refusal::PlanRefusal;
-pub use tx_entries::{
-    Bars, Circuit, CodeId, Direction, ExchangeId, GroupId, GroupList, Line, LineRange, NameKey,
-    National, Pair, Routes,
-};
+pub use routes::{Bars, GroupList, Routes};

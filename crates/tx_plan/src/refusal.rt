@@ -1,10 +1,16 @@
 // Why a declaration is refused.
-use thiserror::Error;
+ghost use Rattle.std.specs.Prelude.{◌≡◌};
+ghost use Rattle.tx_plan.specs.declared.refusal.PlanRefusal.TheVariants.{NoMemory as OutOfMemory};
 
-/// Why a declaration of a plan is refused. Of several reasons the first in this order is given. The codes are those that a plan's text is refused with.
+use std::alloc::AllocFailed;
+use thiserror::Error;
+use tx_text::NoMemory;
+
+/// Why a declaration of a plan is refused. Of several reasons the first in this order is given. The
+/// codes are those that a plan's text is refused with.
 #[derive(Clone, Copy, Debug, PartialEq, Eq, Error)]
 pub enum PlanRefusal {
-    /// P4: a route without groups. The reader of a text also tells a wrong number of words by it.
+    /// P4: a route without groups. A reader of texts also refuses a wrong number of words with it.
     #[error("a line has too few or too many words, or a list has no groups")]
     WrongCount,
     /// P5: a word in the place of an exchange or a group is no name.
@@ -34,8 +40,8 @@ pub enum PlanRefusal {
     /// P13: the exchange may not seize a group of its list.
     #[error("the exchange may not seize a group of its list")]
     NotOutgoing,
-    /// P14: a group stands twice in a list.
-    #[error("a group stands twice in a list")]
+    /// P14: a group is twice in a list.
+    #[error("a group is in a list twice")]
     RepeatedGroup,
     /// P15: a route at the code's home.
     #[error("the list is for the exchange where the code is at home")]
@@ -49,4 +55,20 @@ pub enum PlanRefusal {
     /// P21: no memory was left.
     #[error("no memory")]
     NoMemory,
+}
+
+impl From<NoMemory> for PlanRefusal {
+    ghost from_gives = { λ _ refusal. refusal ≡ OutOfMemory };
+
+    fn from(_: NoMemory) -> PlanRefusal {
+        PlanRefusal::NoMemory
+    }
+}
+
+impl<T: Drop> From<AllocFailed<T>> for PlanRefusal {
+    ghost from_gives = { λ _ refusal. refusal ≡ OutOfMemory };
+
+    fn from(_: AllocFailed<T>) -> PlanRefusal {
+        PlanRefusal::NoMemory
+    }
 }

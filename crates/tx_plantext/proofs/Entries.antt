@@ -9,7 +9,7 @@ use Rattle.tx_plantext.specs.declared.fault.PlanWord.{PlanWord}
 use Rattle.tx_plantext.specs.declared.fault.PlanWord.TheVariants.{Refused}
 use Rattle.tx_plantext.specs.PlanText.{Said, unless, is_memory, word_told}
 
--- none of these refusals is want of memory
+-- none of these refusals is lack of memory
 abbrev pub tell_no_memory : List (Bool × PlanRefusal) → Bool
 tell_no_memory [] = true
 tell_no_memory (t ∷ ts) = not (is_memory (Refused t.1)) && tell_no_memory ts

@@ -1,8 +1,8 @@
+pub mod Counts
 pub mod Entries
 pub mod ListLines
 pub mod Places
 pub mod PlanLines
 pub mod PlanWriting
-pub mod Reading
 pub mod RouteLines
 pub mod Written

@@ -2,7 +2,7 @@
 use Rattle.std.proofs.Common.{◌≡◌, ℕ, ◌<◌, Bool, false, List, [], ◌∷◌, ◌++◌, map, length, Option, None, Result, Ok, refl, sym, ◌∙◌, subst, append_assoc, append-nil}
 use Rattle.std.specs.List.{AllByRecursion}
 use Rattle.tx_text.specs.Frame.{is_end}
-use Rattle.tx_text.specs.Written.{IsWrittenLine, LeadsTo}
+use Rattle.tx_text.specs.inner.Written.{IsWrittenLine, LeadsTo}
 use Rattle.tx_plan.specs.declared.refusal.PlanRefusal.{PlanRefusal}
 use Rattle.tx_plan.specs.Plan.{Plan}
 use Rattle.tx_plan.specs.Declaring.{first_true}

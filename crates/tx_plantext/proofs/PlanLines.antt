@@ -6,9 +6,9 @@ use Rattle.std.specs.Str.{bytes_eq}
 use Rattle.std.proofs.lemmas.Bool.{and_from, and_left, and_right, or_from, not_from_true, le-leb, lt-leb, ne_eqb, eq-eqb, cases_eq}
 use Rattle.tx_text.specs.Words.{is_name}
 use Rattle.tx_text.proofs.WrittenWords.{IsShortWord, name_word, figures_word, number_word, number_back, line_of_short, fixed_word}
-use Rattle.tx_entries.specs.declared.direction.Direction.{Direction}
-use Rattle.tx_entries.specs.declared.direction.Direction.TheVariants.{OneWay, BothWay}
-use Rattle.tx_entries.specs.declared.range.LineRange.{LineRange}
+use Rattle.tx_plan.specs.declared.ids.Direction.{Direction}
+use Rattle.tx_plan.specs.declared.ids.Direction.TheVariants.{OneWay, BothWay}
+use Rattle.tx_plan.specs.declared.range.LineRange.{LineRange}
 use Rattle.tx_plan.specs.Plan.{Plan, Code, Group, exchange_named, code_named, exchange_name, figures_of}
 use Rattle.tx_plan.specs.Lines.{at_most}
 use Rattle.tx_plan.specs.Rules.{IsPlan, EachPair, IsCode, IsRange, IsGroup, AreSeparate}

@@ -11,9 +11,9 @@ use Rattle.tx_text.proofs.Writing.{stops_first, stops_at}
 use Rattle.tx_text.proofs.Wrote.{Outcome, wrote_then, wrote_first}
 use Rattle.tx_text.specs.declared.sink.WriteFault.{WriteFault}
 use Rattle.tx_text.specs.Ends.{StopsIn}
-use Rattle.tx_text.specs.Wrote.{Wrote}
+use Rattle.tx_text.specs.Wrote.{WroteBy}
 use Rattle.tx_text.specs.Written.{joined, line_written}
-use Rattle.tx_entries.specs.declared.direction.Direction.{Direction}
+use Rattle.tx_plan.specs.declared.ids.Direction.{Direction}
 use Rattle.tx_plan.specs.Plan.{Plan, Route, exchange_name, figures_of, group_name, home_of}
 use Rattle.tx_plan.specs.Circuits.{direction_of, count_of, ends_of}
 use Rattle.tx_plan.specs.Routes.{route_list}
@@ -37,14 +37,14 @@ module _ {A : Type 0} (words : A → List (List ℕ)) where
   lines_more (x ∷ xs) zero = append-nil (line_written (words x))
   lines_more (x ∷ xs) (suc i) = ap (λ l. line_written (words x) ++ l) (lines_more xs i) ∙ sym (append_assoc (line_written (words x)) (lines_of_list words (take i xs)) (line_at words xs i))
 
-  pub list_more : (xs : List A) (i : ℕ) (a b c : Option (List ℕ)) (f g h : Bool) → Wrote a b f g (lines_of_list words (take i xs)) (Ok tt) → Wrote b c g h (line_at words xs i) (Ok tt) → Wrote a c f h (lines_of_list words (take (i + 1) xs)) (Ok tt)
+  pub list_more : (xs : List A) (i : ℕ) (a b c : Option (List ℕ)) (f g h : Bool) → WroteBy a b f g (lines_of_list words (take i xs)) (Ok tt) → WroteBy b c g h (line_at words xs i) (Ok tt) → WroteBy a c f h (lines_of_list words (take (i + 1) xs)) (Ok tt)
   list_more xs i a b c f g h v w = rw (add-one, lines_more xs i) (wrote_then a b c f g h (lines_of_list words (take i xs)) (line_at words xs i) (Ok tt) v w)
 
-  pub list_done : (xs : List A) (i : ℕ) (a b : Option (List ℕ)) (f g : Bool) → length xs ≤ i → Wrote a b f g (lines_of_list words (take i xs)) (Ok tt) → Wrote a b f g (lines_of_list words xs) (Ok tt)
-  list_done xs i a b f g h v = subst (λ (ys : List A). Wrote a b f g (lines_of_list words ys) (Ok tt)) (take_all i xs h) v
+  pub list_done : (xs : List A) (i : ℕ) (a b : Option (List ℕ)) (f g : Bool) → length xs ≤ i → WroteBy a b f g (lines_of_list words (take i xs)) (Ok tt) → WroteBy a b f g (lines_of_list words xs) (Ok tt)
+  list_done xs i a b f g h v = subst (λ (ys : List A). WroteBy a b f g (lines_of_list words ys) (Ok tt)) (take_all i xs h) v
 
-  pub list_stopped : (xs : List A) (i : ℕ) (a b c : Option (List ℕ)) (f g h : Bool) (r : Outcome) (x : WriteFault) → Wrote a b f g (lines_of_list words (take i xs)) (Ok tt) → Wrote b c g h (line_at words xs i) (Err x) → IsErr r
-      → Wrote a c f h (lines_of_list words xs) r
+  pub list_stopped : (xs : List A) (i : ℕ) (a b c : Option (List ℕ)) (f g h : Bool) (r : Outcome) (x : WriteFault) → WroteBy a b f g (lines_of_list words (take i xs)) (Ok tt) → WroteBy b c g h (line_at words xs i) (Err x) → IsErr r
+      → WroteBy a c f h (lines_of_list words xs) r
   list_stopped xs i a b c f g h r x v w bad =
       rw (lines_cut xs i) (wrote_then a b c f g h (lines_of_list words (take i xs)) _ r v (wrote_first b c g h (line_at words xs i) (lines_of_list words (drop (suc i) xs)) r x w bad))
 
@@ -164,13 +164,13 @@ route_placed p i at h e =
 
 -- the sink failed at one of the names
 pub names_stopped : (p : Plan) (gs : List ℕ) (i x : ℕ) (a b c : Option (List ℕ)) (f g h : Bool) (r : Outcome) (fault : WriteFault) → i < length gs → x ≡ get_or gs i x
-    → Wrote a b f g (flat_map (λ v. codes " " ++ group_name p v) (take i gs)) (Ok tt) → Wrote b c g h (codes " " ++ (group_name p x ++ [])) (Err fault) → IsErr r
-    → Wrote a c f h (flat_map (λ v. codes " " ++ group_name p v) gs ++ codes "\n") r
+    → WroteBy a b f g (flat_map (λ v. codes " " ++ group_name p v) (take i gs)) (Ok tt) → WroteBy b c g h (codes " " ++ (group_name p x ++ [])) (Err fault) → IsErr r
+    → WroteBy a c f h (flat_map (λ v. codes " " ++ group_name p v) gs ++ codes "\n") r
 names_stopped p gs i x a b c f g h (Ok y) fault lt is v w bad = absurd (false≢true bad)
 names_stopped p gs i x a b c f g h (Err y) fault lt is v w bad =
     (stops_first (codes "\n") (stops_at (λ v. codes " " ++ group_name p v) gs i x lt is v.0 (subst (λ (l : List ℕ). StopsIn b c (codes " " ++ l)) (append-nil (group_name p x)) w.0)), w.1)
 
 pub names_done : (p : Plan) (gs : List ℕ) (i : ℕ) (a b c : Option (List ℕ)) (f g h : Bool) (r : Outcome) → length gs ≤ i
-    → Wrote a b f g (flat_map (λ v. codes " " ++ group_name p v) (take i gs)) (Ok tt) → Wrote b c g h (codes "\n") r → Wrote a c f h (flat_map (λ v. codes " " ++ group_name p v) gs ++ codes "\n") r
+    → WroteBy a b f g (flat_map (λ v. codes " " ++ group_name p v) (take i gs)) (Ok tt) → WroteBy b c g h (codes "\n") r → WroteBy a c f h (flat_map (λ v. codes " " ++ group_name p v) gs ++ codes "\n") r
 names_done p gs i a b c f g h r all v w =
-    wrote_then a b c f g h (flat_map (λ v. codes " " ++ group_name p v) gs) (codes "\n") r (subst (λ (l : List ℕ). Wrote a b f g (flat_map (λ v. codes " " ++ group_name p v) l) (Ok tt)) (take_all i gs all) v) w
+    wrote_then a b c f g h (flat_map (λ v. codes " " ++ group_name p v) gs) (codes "\n") r (subst (λ (l : List ℕ). WroteBy a b f g (flat_map (λ v. codes " " ++ group_name p v) l) (Ok tt)) (take_all i gs all) v) w

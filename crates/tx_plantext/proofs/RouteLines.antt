@@ -6,7 +6,7 @@ use Rattle.std.specs.Str.{bytes_eq}
 use Rattle.std.proofs.lemmas.Bool.{and_from, and_left, and_right, or_from, not_from_true, not_from_false, le-ltb, ne_eqb, cases_eq}
 use Rattle.tx_text.specs.Words.{is_name}
 use Rattle.tx_text.proofs.WrittenWords.{IsShortWord, name_word, figures_word, line_of_short, fixed_word}
-use Rattle.tx_entries.specs.declared.pair.Pair.{Pair}
+use Rattle.tx_plan.specs.declared.ids.Pair.{Pair}
 use Rattle.tx_plan.specs.Plan.{Plan, Group, Route, group_named, exchange_name, figures_of, group_name, home_of}
 use Rattle.tx_plan.specs.Circuits.{may_seize, may_seize_row}
 use Rattle.tx_plan.specs.Routes.{is_barred}

@@ -2,10 +2,10 @@
 use Rattle.std.proofs.Common.{◌≡◌, ℕ, ◌<◌, Bool, true, false, List, [], ◌∷◌, ◌++◌, map, length, Some, codes, nat_lt, refl, ap, subst, append-nil, arith}
 use Rattle.std.proofs.lemmas.Bool.{lt-ltb}
 use Rattle.tx_text.specs.Frame.{header_of}
-use Rattle.tx_text.specs.Written.{IsWrittenLine, LeadsTo}
+use Rattle.tx_text.specs.inner.Written.{IsWrittenLine, LeadsTo}
 use Rattle.tx_text.proofs.ReadBack.{reads_back}
 use Rattle.tx_text.proofs.WrittenWords.{line_of_short, fixed_word}
-use Rattle.tx_entries.specs.declared.pair.Pair.{Pair}
+use Rattle.tx_plan.specs.declared.ids.Pair.{Pair}
 use Rattle.tx_plan.specs.Plan.{Plan, no_plan}
 use Rattle.tx_plan.specs.Rules.{IsPlan}
 use Rattle.tx_plantext.specs.PlanText.{declare}

@@ -1,10 +1,6 @@
 -- The codes and names of the faults of plan texts, as they are printed.
 use Rattle.std.specs.Prelude.{codes}
-use Rattle.tx_text.specs.Rows.{Row, text_row}
-use Rattle.tx_text.specs.declared.line_fault.LineFault.TheVariants.{Text, Read}
-use Rattle.tx_text.specs.declared.frame.FormFault.TheVariants.{NoHeader, NoEnd, AfterEnd}
-use Rattle.tx_text.specs.declared.frame.FrameFault.{FrameFault}
-use Rattle.tx_text.specs.declared.frame.FrameFault.TheVariants.{Line, Form}
+use Rattle.tx_text.specs.Rows.{Row, frame_row}
 use Rattle.tx_text.specs.declared.frame.FaultKind.{FaultKind}
 use Rattle.tx_text.specs.declared.frame.FaultKind.TheVariants.{Frame, Word}
 use Rattle.tx_plan.specs.declared.refusal.PlanRefusal.{PlanRefusal}
@@ -12,6 +8,7 @@ use Rattle.tx_plan.specs.declared.refusal.PlanRefusal.TheVariants.{WrongCount, B
 use Rattle.tx_plantext.specs.declared.fault.PlanWord.{PlanWord}
 use Rattle.tx_plantext.specs.declared.fault.PlanWord.TheVariants.{UnknownWord, Refused}
 
+-- of a refusal of the builder
 abbrev pub refusal_row : PlanRefusal → Row
 refusal_row WrongCount = (codes "P4", codes "WrongCount")
 refusal_row BadName = (codes "P5", codes "BadName")
@@ -29,14 +26,8 @@ refusal_row TooMany = (codes "P16", codes "TooMany")
 refusal_row NoMemory = (codes "P21", codes "NoMemory")
 refusal_row BarAtHome = (codes "P22", codes "BarAtHome")
 
-abbrev pub frame_row : FrameFault → Row
-frame_row (Form NoHeader) = (codes "P17", codes "NoHeader")
-frame_row (Form NoEnd) = (codes "P18", codes "NoEnd")
-frame_row (Form AfterEnd) = (codes "P19", codes "AfterEnd")
-frame_row (Line Read) = (codes "P20", codes "ReadFault")
-frame_row (Line (Text fault)) = text_row fault
-
+-- the code and the name of a fault
 abbrev pub fault_row : FaultKind PlanWord → Row
-fault_row (Frame k) = frame_row k
+fault_row (Frame k) = frame_row (codes "P17") (codes "P18") (codes "P19") (codes "P20") k
 fault_row (Word UnknownWord) = (codes "P3", codes "UnknownWord")
 fault_row (Word (Refused r)) = refusal_row r

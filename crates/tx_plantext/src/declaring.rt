@@ -10,58 +10,53 @@ use tx_plan::{Direction, PlanBuilder, PlanRefusal};
 use tx_text::{Words, number};
 
 /// A refusal of the builder as a fault of the line's words.
-#[inline(always)]
 fn told(answer: Result<(), PlanRefusal>) -> Result<(), PlanWord>
     ensures { result ≡ word_told answer }
 {
     match answer {
         Ok(()) => Ok(()),
-        Err(refusal) => Err(PlanWord::Refused(refusal)),
+        Err(refusal) => Err(PlanWord::from(refusal)),
     }
 }
 
 /// EXCHANGE name.
-#[tactic(auto, using(crate::proofs::Entries::declared_from, crate::proofs::Entries::same_from))]
+#[tactic(auto, using(crate::proofs::Entries::declared_from, crate::proofs::Entries::same_from, crate::proofs::Counts::exchange_count))]
 fn exchange_line<A: Allocator>(plan: &mut PlanBuilder<A>, words: Words<'_>) -> Result<(), PlanWord>
     ensures declared { Declared is_memory (exchange_line plan.old words.entry) plan.new result }
     ensures same { IfErr result (λ _. plan.new ≡ plan.old) }
 {
-    let mut words = words;
-    match (words.next(), words.next()) {
-        (Some(name), None) => told(plan.exchange(name)),
-        _ => Err(PlanWord::Refused(PlanRefusal::WrongCount)),
+    match words.one() {
+        Some(name) => told(plan.exchange(name)),
+        None => Err(PlanWord::Refused(PlanRefusal::WrongCount)),
     }
 }
 
 /// CODE code home.
-#[tactic(auto, using(crate::proofs::Entries::declared_from, crate::proofs::Entries::same_from))]
+#[tactic(auto, using(crate::proofs::Entries::declared_from, crate::proofs::Entries::same_from, crate::proofs::Counts::code_count))]
 fn code_line<A: Allocator>(plan: &mut PlanBuilder<A>, words: Words<'_>) -> Result<(), PlanWord>
     ensures declared { Declared is_memory (code_line plan.old words.entry) plan.new result }
     ensures same { IfErr result (λ _. plan.new ≡ plan.old) }
 {
-    let mut words = words;
-    match (words.next(), words.next(), words.next()) {
-        (Some(code), Some(home), None) => told(plan.code(code, home)),
-        _ => Err(PlanWord::Refused(PlanRefusal::WrongCount)),
+    match words.two() {
+        Some((code, home)) => told(plan.code(code, home)),
+        None => Err(PlanWord::Refused(PlanRefusal::WrongCount)),
     }
 }
 
 /// LINES code low high.
-#[tactic(auto, using(crate::proofs::Entries::declared_from, crate::proofs::Entries::same_from))]
+#[tactic(auto, using(crate::proofs::Entries::declared_from, crate::proofs::Entries::same_from, crate::proofs::Counts::lines_count))]
 fn lines_line<A: Allocator>(plan: &mut PlanBuilder<A>, words: Words<'_>) -> Result<(), PlanWord>
     ensures declared { Declared is_memory (lines_line plan.old words.entry) plan.new result }
     ensures same { IfErr result (λ _. plan.new ≡ plan.old) }
 {
-    let mut words = words;
-    match (words.next(), words.next(), words.next(), words.next()) {
-        (Some(code), Some(low), Some(high), None) => told(plan.lines(code, low, high)),
-        _ => Err(PlanWord::Refused(PlanRefusal::WrongCount)),
+    match words.three() {
+        Some((code, low, high)) => told(plan.lines(code, low, high)),
+        None => Err(PlanWord::Refused(PlanRefusal::WrongCount)),
     }
 }
 
 /// The words after GROUP, where there are as many as there must be.
 #[tactic(auto, using(crate::proofs::Entries::declared_from, crate::proofs::Entries::same_from))]
-#[inline(always)]
 fn group_by<A: Allocator>(
     plan: &mut PlanBuilder<A>,
     name: &[u8],
@@ -81,35 +76,21 @@ fn group_by<A: Allocator>(
 }
 
 /// GROUP name a b direction count.
+#[tactic(auto, using(crate::proofs::Counts::group_count))]
 fn group_line<A: Allocator>(plan: &mut PlanBuilder<A>, words: Words<'_>) -> Result<(), PlanWord>
     ensures declared { Declared is_memory (group_line plan.old words.entry) plan.new result }
     ensures same { IfErr result (λ _. plan.new ≡ plan.old) }
 {
-    let mut words = words;
-    let Some(name) = words.next() else {
-        return Err(PlanWord::Refused(PlanRefusal::WrongCount));
-    };
-    let Some(a) = words.next() else {
-        return Err(PlanWord::Refused(PlanRefusal::WrongCount));
-    };
-    let Some(b) = words.next() else {
-        return Err(PlanWord::Refused(PlanRefusal::WrongCount));
-    };
-    let Some(direction) = words.next() else {
-        return Err(PlanWord::Refused(PlanRefusal::WrongCount));
-    };
-    let Some(count) = words.next() else {
-        return Err(PlanWord::Refused(PlanRefusal::WrongCount));
-    };
-    if words.next().is_some() {
-        return Err(PlanWord::Refused(PlanRefusal::WrongCount));
+    match words.five() {
+        Some((name, a, b, direction, count)) => {
+            group_by(plan, name, a, b, direction_of(direction), count_of(count))
+        }
+        None => Err(PlanWord::Refused(PlanRefusal::WrongCount)),
     }
-    group_by(plan, name, a, b, direction_of(direction), count_of(count))
 }
 
 /// ROUTE exchange code groups.
 #[tactic(auto, using(crate::proofs::Entries::declared_from, crate::proofs::Entries::same_from))]
-#[inline(always)]
 fn route_line<A: Allocator>(plan: &mut PlanBuilder<A>, words: Words<'_>) -> Result<(), PlanWord>
     ensures declared { Declared is_memory (route_line plan.old words.entry) plan.new result }
     ensures same { IfErr result (λ _. plan.new ≡ plan.old) }
@@ -125,27 +106,24 @@ fn route_line<A: Allocator>(plan: &mut PlanBuilder<A>, words: Words<'_>) -> Resu
 }
 
 /// BAR exchange code.
-#[tactic(auto, using(crate::proofs::Entries::declared_from, crate::proofs::Entries::same_from))]
+#[tactic(auto, using(crate::proofs::Entries::declared_from, crate::proofs::Entries::same_from, crate::proofs::Counts::bar_count))]
 fn bar_line<A: Allocator>(plan: &mut PlanBuilder<A>, words: Words<'_>) -> Result<(), PlanWord>
     ensures declared { Declared is_memory (bar_line plan.old words.entry) plan.new result }
     ensures same { IfErr result (λ _. plan.new ≡ plan.old) }
 {
-    let mut words = words;
-    match (words.next(), words.next(), words.next()) {
-        (Some(exchange), Some(code), None) => told(plan.bar(exchange, code)),
-        _ => Err(PlanWord::Refused(PlanRefusal::WrongCount)),
+    match words.two() {
+        Some((exchange, code)) => told(plan.bar(exchange, code)),
+        None => Err(PlanWord::Refused(PlanRefusal::WrongCount)),
     }
 }
 
 /// Whether a word is this one.
-#[inline(always)]
 fn is(word: &[u8], wanted: &[u8]) -> bool
     ensures { result ≡ bytes_eq word.now wanted.now }
 {
     word == wanted
 }
 
-#[inline(always)]
 fn direction_of(word: &[u8]) -> Option<Direction>
     ensures { result ≡ direction_of word.now }
 {
@@ -158,7 +136,6 @@ fn direction_of(word: &[u8]) -> Option<Direction>
     None
 }
 
-#[inline(always)]
 fn count_of(word: &[u8]) -> u32
     ensures { result ≡ count_of word.now }
 {
@@ -168,7 +145,6 @@ fn count_of(word: &[u8]) -> u32
 /// Declares what the line does under a header of this version, after the lines before it. A line
 /// that is refused changes nothing.
 #[tactic(auto, unfolding(crate::specs::PlanText::declare))]
-#[inline(always)]
 pub fn declare<A: Allocator>(
     plan: &mut PlanBuilder<A>,
     version: u8,

@@ -1,20 +1,30 @@
 // What is wrong with a plan text.
 ghost use Rattle.std.specs.Prelude.{◌≡◌};
-ghost use Rattle.tx_plantext.specs.PlanFaults.{refusal_row, frame_row, fault_row};
+ghost use Rattle.tx_plantext.specs.declared.fault.PlanWord.TheVariants.{Refused};
+ghost use Rattle.tx_plantext.specs.PlanFaults.{refusal_row, fault_row};
 
 use thiserror::Error;
 use tx_plan::PlanRefusal;
-use tx_text::{FaultAt, FaultKind, FormFault, FrameFault, LineFault};
+use tx_text::{FaultAt, FaultKind};
 
 /// What is wrong with the words of a line.
 #[derive(Clone, Copy, Debug, PartialEq, Eq, Error)]
 pub enum PlanWord {
-    /// P3: no line begins with the word, or the fifth word of a group is no direction. Under `PLAN 1` no line begins with BAR.
-    #[error("the first word of the line is none of a plan, or a group is neither ONEWAY nor BOTHWAY")]
+    /// P3: no line begins with the word, or the fifth word of a group is no direction. Under `PLAN
+    /// 1` no line begins with BAR.
+    #[error("the first word of the line is not one of a plan, or a group is neither ONEWAY nor BOTHWAY")]
     UnknownWord,
     /// The builder refuses the declaration, or the number of words is wrong: that is `WrongCount`.
     #[error(transparent)]
     Refused(PlanRefusal),
+}
+
+impl From<PlanRefusal> for PlanWord {
+    ghost from_gives = { λ refusal word. word ≡ Refused refusal };
+
+    fn from(refusal: PlanRefusal) -> PlanWord {
+        PlanWord::Refused(refusal)
+    }
 }
 
 /// What is wrong with a plan text, and the line of it, counted from 1.
@@ -25,21 +35,9 @@ pub fn code_and_name(kind: FaultKind<PlanWord>) -> (&'static [u8], &'static [u8]
     ensures { (result.0.now, result.1.now) ≡ fault_row kind }
 {
     match kind {
-        FaultKind::Frame(fault) => frame_row(fault),
+        FaultKind::Frame(fault) => fault.code_and_name(b"P17", b"P18", b"P19", b"P20"),
         FaultKind::Word(PlanWord::UnknownWord) => (b"P3", b"UnknownWord"),
         FaultKind::Word(PlanWord::Refused(refusal)) => refusal_row(refusal),
-    }
-}
-
-fn frame_row(fault: FrameFault) -> (&'static [u8], &'static [u8])
-    ensures { (result.0.now, result.1.now) ≡ frame_row fault }
-{
-    match fault {
-        FrameFault::Form(FormFault::NoHeader) => (b"P17", b"NoHeader"),
-        FrameFault::Form(FormFault::NoEnd) => (b"P18", b"NoEnd"),
-        FrameFault::Form(FormFault::AfterEnd) => (b"P19", b"AfterEnd"),
-        FrameFault::Line(LineFault::Read) => (b"P20", b"ReadFault"),
-        FrameFault::Line(LineFault::Text(fault)) => fault.code_and_name(),
     }
 }
 

@@ -1,7 +1,8 @@
 //! The text of a route plan, both ways.
 //!
-//! `read_plan` and `read_plan_from` take a text exactly where it keeps to the format, and else tell its first fault with its line. What `write_plan` writes
-//! reads back as the same plan. `write_route` writes the line of one route.
+//! `read_plan` and `read_plan_from` take a text exactly where it keeps to the format, and else
+//! report its first fault with its line. What `write_plan` writes reads back as the same plan.
+//! `write_route` writes the line of one route.
 #![tactic(auto)]
 
 mod declaring;
@@ -12,6 +13,6 @@ mod round_trip;
 
 pub use declaring::declare;
 pub use fault::{PlanFault, PlanWord, code_and_name};
-pub use plan_reader::{read_plan, read_plan_from};
+pub use plan_reader::{KEY, VERSIONS, read_plan, read_plan_from};
 pub use plan_writer::{write_plan, write_route};
 pub use round_trip::written_plans_read_back;

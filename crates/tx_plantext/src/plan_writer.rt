@@ -1,8 +1,6 @@
 // The writer of plan texts.
-ghost use Rattle.std.specs.Prelude.{◌≡◌, true, OnOk, OnErr, codes, decimal, ◌++◌};
+ghost use Rattle.std.specs.Prelude.{codes, decimal, ◌++◌};
 ghost use Rattle.std.specs.List.{flat_map};
-ghost use Rattle.std.specs.Io.KnownBytes.{append_known};
-ghost use Rattle.tx_text.specs.Ends.{StopsIn};
 ghost use Rattle.tx_text.specs.Written.{line_written};
 ghost use Rattle.tx_text.specs.Wrote.{Wrote};
 ghost use Rattle.tx_plan.specs.Plan.{group_name};
@@ -12,33 +10,27 @@ ghost use Rattle.tx_plantext.specs.PlanWritten.{plan_written, head_of, exchange_
 use itoa::Buffer;
 use std::alloc::Allocator;
 use tx_plan::{CodeId, Direction, ExchangeId, GroupId, Plan};
-use tx_text::{Sink, WriteFault, write_text};
+use tx_text::{Sink, WriteFault, write_parts};
 
-/// Writes the text of a plan: the header, a line for each entry of the six lists in order of declaration, and END.
+/// Writes the text of a plan: the header, a line for each entry of the six lists in order of
+/// declaration, and END.
 ///
-/// The header is `PLAN 2` where the plan has a bar, and else `PLAN 1`. What went out before a failure is a front of the text.
+/// The header is `PLAN 2` where the plan has a bar, and else `PLAN 1`. What went out before a
+/// failure is a front of the text.
 pub fn write_plan<A: Allocator, W: Sink>(plan: &Plan<A>, sink: &mut W) -> Result<(), WriteFault>
-    ensures ok { OnOk result (W.taken sink.new ≡ append_known (W.taken sink.old) (plan_written plan.now)) }
-    ensures err { OnErr result (StopsIn (W.taken sink.old) (W.taken sink.new) (plan_written plan.now)) }
-    ensures mark { OnErr result (W.failed sink.new ≡ true) }
-    ensures unmarked { OnOk result (W.failed sink.new ≡ W.failed sink.old) }
-{
-    write_whole(plan, sink)
-}
-
-/// The same, said at once.
-fn write_whole<A: Allocator, W: Sink>(plan: &Plan<A>, sink: &mut W) -> Result<(), WriteFault>
-    ensures { Wrote (W.taken sink.old) (W.taken sink.new) (W.failed sink.old) (W.failed sink.new) (plan_written plan.now) result }
+    ensures { Wrote W.taken W.failed sink.old sink.new (plan_written plan.now) result }
 {
     write_head(plan.bars() > 0, sink)?;
     write_numbering(plan, sink)?;
     write_routing(plan, sink)?;
-    write_text(&[b"END\n"], sink)
+    write_parts(&[b"END\n"], sink)
 }
 
 /// Writes the exchanges, the codes and the ranges of lines.
 fn write_numbering<A: Allocator, W: Sink>(plan: &Plan<A>, sink: &mut W) -> Result<(), WriteFault>
-    ensures { Wrote (W.taken sink.old) (W.taken sink.new) (W.failed sink.old) (W.failed sink.new) (lines_of_list exchange_words plan.now.exchanges ++ (lines_of_list (code_words plan.now) plan.now.codes ++ lines_of_list (range_words plan.now) plan.now.ranges)) result }
+    ensures { Wrote W.taken W.failed sink.old sink.new
+        (lines_of_list exchange_words plan.now.exchanges ++ (lines_of_list (code_words plan.now)
+        plan.now.codes ++ lines_of_list (range_words plan.now) plan.now.ranges)) result }
 {
     write_exchanges(plan, sink)?;
     write_codes(plan, sink)?;
@@ -47,7 +39,9 @@ fn write_numbering<A: Allocator, W: Sink>(plan: &Plan<A>, sink: &mut W) -> Resul
 
 /// Writes the groups, the routes and the bars.
 fn write_routing<A: Allocator, W: Sink>(plan: &Plan<A>, sink: &mut W) -> Result<(), WriteFault>
-    ensures { Wrote (W.taken sink.old) (W.taken sink.new) (W.failed sink.old) (W.failed sink.new) (lines_of_list (group_words plan.now) plan.now.groups ++ (lines_of_list (route_words plan.now) plan.now.routes ++ lines_of_list (bar_words plan.now) plan.now.bars)) result }
+    ensures { Wrote W.taken W.failed sink.old sink.new (lines_of_list (group_words plan.now)
+        plan.now.groups ++ (lines_of_list (route_words plan.now) plan.now.routes
+        ++ lines_of_list (bar_words plan.now) plan.now.bars)) result }
 {
     write_groups(plan, sink)?;
     write_routes(plan, sink)?;
@@ -55,19 +49,20 @@ fn write_routing<A: Allocator, W: Sink>(plan: &Plan<A>, sink: &mut W) -> Result<
 }
 
 fn write_head<W: Sink>(bars: bool, sink: &mut W) -> Result<(), WriteFault>
-    ensures { Wrote (W.taken sink.old) (W.taken sink.new) (W.failed sink.old) (W.failed sink.new) (line_written (head_of bars)) result }
+    ensures { Wrote W.taken W.failed sink.old sink.new (line_written (head_of bars)) result }
 {
     if bars {
-        write_text(&[b"PLAN 2\n"], sink)
+        write_parts(&[b"PLAN 2\n"], sink)
     } else {
-        write_text(&[b"PLAN 1\n"], sink)
+        write_parts(&[b"PLAN 1\n"], sink)
     }
 }
 
 // LISTS
 
 fn write_exchanges<A: Allocator, W: Sink>(plan: &Plan<A>, sink: &mut W) -> Result<(), WriteFault>
-    ensures { Wrote (W.taken sink.old) (W.taken sink.new) (W.failed sink.old) (W.failed sink.new) (lines_of_list exchange_words plan.now.exchanges) result }
+    ensures { Wrote W.taken W.failed sink.old sink.new
+        (lines_of_list exchange_words plan.now.exchanges) result }
 {
     for place in 0..plan.exchanges() {
         write_exchange(plan, place, sink)?;
@@ -76,7 +71,8 @@ fn write_exchanges<A: Allocator, W: Sink>(plan: &Plan<A>, sink: &mut W) -> Resul
 }
 
 fn write_codes<A: Allocator, W: Sink>(plan: &Plan<A>, sink: &mut W) -> Result<(), WriteFault>
-    ensures { Wrote (W.taken sink.old) (W.taken sink.new) (W.failed sink.old) (W.failed sink.new) (lines_of_list (code_words plan.now) plan.now.codes) result }
+    ensures { Wrote W.taken W.failed sink.old sink.new
+        (lines_of_list (code_words plan.now) plan.now.codes) result }
 {
     for place in 0..plan.codes() {
         write_code(plan, place, sink)?;
@@ -85,7 +81,8 @@ fn write_codes<A: Allocator, W: Sink>(plan: &Plan<A>, sink: &mut W) -> Result<()
 }
 
 fn write_ranges<A: Allocator, W: Sink>(plan: &Plan<A>, sink: &mut W) -> Result<(), WriteFault>
-    ensures { Wrote (W.taken sink.old) (W.taken sink.new) (W.failed sink.old) (W.failed sink.new) (lines_of_list (range_words plan.now) plan.now.ranges) result }
+    ensures { Wrote W.taken W.failed sink.old sink.new
+        (lines_of_list (range_words plan.now) plan.now.ranges) result }
 {
     for place in 0..plan.ranges() {
         write_range(plan, place, sink)?;
@@ -94,7 +91,8 @@ fn write_ranges<A: Allocator, W: Sink>(plan: &Plan<A>, sink: &mut W) -> Result<(
 }
 
 fn write_groups<A: Allocator, W: Sink>(plan: &Plan<A>, sink: &mut W) -> Result<(), WriteFault>
-    ensures { Wrote (W.taken sink.old) (W.taken sink.new) (W.failed sink.old) (W.failed sink.new) (lines_of_list (group_words plan.now) plan.now.groups) result }
+    ensures { Wrote W.taken W.failed sink.old sink.new
+        (lines_of_list (group_words plan.now) plan.now.groups) result }
 {
     for place in 0..plan.groups() {
         write_group(plan, place, sink)?;
@@ -103,7 +101,8 @@ fn write_groups<A: Allocator, W: Sink>(plan: &Plan<A>, sink: &mut W) -> Result<(
 }
 
 fn write_routes<A: Allocator, W: Sink>(plan: &Plan<A>, sink: &mut W) -> Result<(), WriteFault>
-    ensures { Wrote (W.taken sink.old) (W.taken sink.new) (W.failed sink.old) (W.failed sink.new) (lines_of_list (route_words plan.now) plan.now.routes) result }
+    ensures { Wrote W.taken W.failed sink.old sink.new
+        (lines_of_list (route_words plan.now) plan.now.routes) result }
 {
     for place in 0..plan.routes() {
         write_route_at(plan, place, sink)?;
@@ -112,7 +111,8 @@ fn write_routes<A: Allocator, W: Sink>(plan: &Plan<A>, sink: &mut W) -> Result<(
 }
 
 fn write_bars<A: Allocator, W: Sink>(plan: &Plan<A>, sink: &mut W) -> Result<(), WriteFault>
-    ensures { Wrote (W.taken sink.old) (W.taken sink.new) (W.failed sink.old) (W.failed sink.new) (lines_of_list (bar_words plan.now) plan.now.bars) result }
+    ensures { Wrote W.taken W.failed sink.old sink.new
+        (lines_of_list (bar_words plan.now) plan.now.bars) result }
 {
     for place in 0..plan.bars() {
         write_bar(plan, place, sink)?;
@@ -127,10 +127,11 @@ fn write_exchange<A: Allocator, W: Sink>(
     place: usize,
     sink: &mut W,
 ) -> Result<(), WriteFault>
-    ensures { Wrote (W.taken sink.old) (W.taken sink.new) (W.failed sink.old) (W.failed sink.new) (line_at exchange_words plan.now.exchanges place) result }
+    ensures { Wrote W.taken W.failed sink.old sink.new
+        (line_at exchange_words plan.now.exchanges place) result }
 {
     match plan.exchange_at(place) {
-        Some(exchange) => write_text(&[b"EXCHANGE ", plan.exchange_name(exchange), b"\n"], sink),
+        Some(exchange) => write_parts(&[b"EXCHANGE ", plan.exchange_name(exchange), b"\n"], sink),
         None => Ok(()),
     }
 }
@@ -140,12 +141,13 @@ fn write_code<A: Allocator, W: Sink>(
     place: usize,
     sink: &mut W,
 ) -> Result<(), WriteFault>
-    ensures { Wrote (W.taken sink.old) (W.taken sink.new) (W.failed sink.old) (W.failed sink.new) (line_at (code_words plan.now) plan.now.codes place) result }
+    ensures { Wrote W.taken W.failed sink.old sink.new
+        (line_at (code_words plan.now) plan.now.codes place) result }
 {
     match plan.code_at(place) {
         Some(code) => {
             let home = plan.exchange_name(plan.home(code));
-            write_text(
+            write_parts(
                 &[b"CODE ", plan.code_figures(code), b" ", home, b"\n"],
                 sink,
             )
@@ -159,12 +161,13 @@ fn write_range<A: Allocator, W: Sink>(
     place: usize,
     sink: &mut W,
 ) -> Result<(), WriteFault>
-    ensures { Wrote (W.taken sink.old) (W.taken sink.new) (W.failed sink.old) (W.failed sink.new) (line_at (range_words plan.now) plan.now.ranges place) result }
+    ensures { Wrote W.taken W.failed sink.old sink.new
+        (line_at (range_words plan.now) plan.now.ranges place) result }
 {
     match plan.range_at(place) {
         Some(range) => {
             let code = plan.code_figures(range.code);
-            write_text(
+            write_parts(
                 &[
                     b"LINES ",
                     code,
@@ -186,7 +189,8 @@ fn write_group<A: Allocator, W: Sink>(
     place: usize,
     sink: &mut W,
 ) -> Result<(), WriteFault>
-    ensures { Wrote (W.taken sink.old) (W.taken sink.new) (W.failed sink.old) (W.failed sink.new) (line_at (group_words plan.now) plan.now.groups place) result }
+    ensures { Wrote W.taken W.failed sink.old sink.new
+        (line_at (group_words plan.now) plan.now.groups place) result }
 {
     match plan.group_at(place) {
         Some(group) => {
@@ -194,7 +198,7 @@ fn write_group<A: Allocator, W: Sink>(
             let (a, b) = plan.ends(group);
             let first = plan.exchange_name(a);
             let second = plan.exchange_name(b);
-            write_text(&[b"GROUP ", name, b" ", first, b" ", second, b" "], sink)?;
+            write_parts(&[b"GROUP ", name, b" ", first, b" ", second, b" "], sink)?;
             write_direction(plan.direction(group), sink)?;
             write_count(plan.group_count(group), sink)
         }
@@ -203,21 +207,22 @@ fn write_group<A: Allocator, W: Sink>(
 }
 
 fn write_direction<W: Sink>(direction: Direction, sink: &mut W) -> Result<(), WriteFault>
-    ensures { Wrote (W.taken sink.old) (W.taken sink.new) (W.failed sink.old) (W.failed sink.new) (direction_word direction) result }
+    ensures { Wrote W.taken W.failed sink.old sink.new (direction_word direction) result }
 {
     match direction {
-        Direction::OneWay => write_text(&[b"ONEWAY"], sink),
-        Direction::BothWay => write_text(&[b"BOTHWAY"], sink),
+        Direction::OneWay => write_parts(&[b"ONEWAY"], sink),
+        Direction::BothWay => write_parts(&[b"BOTHWAY"], sink),
     }
 }
 
 /// Writes a space and a number, and the end of the line.
 fn write_count<W: Sink>(count: u32, sink: &mut W) -> Result<(), WriteFault>
-    ensures { Wrote (W.taken sink.old) (W.taken sink.new) (W.failed sink.old) (W.failed sink.new) (codes " " ++ decimal count ++ codes "\n") result }
+    ensures { Wrote W.taken W.failed sink.old sink.new
+        (codes " " ++ decimal count ++ codes "\n") result }
 {
     let mut buffer = Buffer::new();
     let figures = buffer.format(count).as_bytes();
-    write_text(&[b" ", figures, b"\n"], sink)
+    write_parts(&[b" ", figures, b"\n"], sink)
 }
 
 fn write_route_at<A: Allocator, W: Sink>(
@@ -225,10 +230,9 @@ fn write_route_at<A: Allocator, W: Sink>(
     place: usize,
     sink: &mut W,
 ) -> Result<(), WriteFault>
-    ensures { Wrote (W.taken sink.old) (W.taken sink.new) (W.failed sink.old) (W.failed sink.new)
+    ensures { Wrote W.taken W.failed sink.old sink.new
         (line_at (route_words plan.now) plan.now.routes place) result }
 {
-    plan.rules();
     match plan.route_at(place) {
         Some((exchange, code)) => write_route(plan, exchange, code, sink),
         None => Ok(()),
@@ -242,14 +246,14 @@ pub fn write_route<A: Allocator, W: Sink>(
     code: CodeId,
     sink: &mut W,
 ) -> Result<(), WriteFault>
-    ensures { Wrote (W.taken sink.old) (W.taken sink.new) (W.failed sink.old) (W.failed sink.new)
+    ensures { Wrote W.taken W.failed sink.old sink.new
         (line_written (route_words plan.now (record {
           exchange = exchange;
           code = code;
           groups = route_list plan.now exchange code;
         }))) result }
 {
-    write_text(
+    write_parts(
         &[
             b"ROUTE ",
             plan.exchange_name(exchange),
@@ -267,12 +271,13 @@ fn write_names<A: Allocator, W: Sink>(
     groups: &[GroupId],
     sink: &mut W,
 ) -> Result<(), WriteFault>
-    ensures { Wrote (W.taken sink.old) (W.taken sink.new) (W.failed sink.old) (W.failed sink.new) (flat_map (λ g. codes " " ++ group_name plan.now g) groups.now ++ codes "\n") result }
+    ensures { Wrote W.taken W.failed sink.old sink.new
+        (flat_map (λ g. codes " " ++ group_name plan.now g) groups.now ++ codes "\n") result }
 {
     for i in 0..groups.len() {
-        write_text(&[b" ", plan.group_name(groups[i])], sink)?;
+        write_parts(&[b" ", plan.group_name(groups[i])], sink)?;
     }
-    write_text(&[b"\n"], sink)
+    write_parts(&[b"\n"], sink)
 }
 
 fn write_bar<A: Allocator, W: Sink>(
@@ -280,12 +285,13 @@ fn write_bar<A: Allocator, W: Sink>(
     place: usize,
     sink: &mut W,
 ) -> Result<(), WriteFault>
-    ensures { Wrote (W.taken sink.old) (W.taken sink.new) (W.failed sink.old) (W.failed sink.new) (line_at (bar_words plan.now) plan.now.bars place) result }
+    ensures { Wrote W.taken W.failed sink.old sink.new
+        (line_at (bar_words plan.now) plan.now.bars place) result }
 {
     match plan.bar_at(place) {
         Some((exchange, code)) => {
             let exchange = plan.exchange_name(exchange);
-            write_text(
+            write_parts(
                 &[b"BAR ", exchange, b" ", plan.code_figures(code), b"\n"],
                 sink,
             )

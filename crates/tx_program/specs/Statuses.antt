@@ -8,7 +8,7 @@ use Rattle.tx_commands.specs.Faults.{IsRefusalOf, status_of}
 use Rattle.tx_commands.specs.declared.command.Command.{Command}
 use Rattle.tx_commands.specs.declared.fault.WordsFault.{WordsFault}
 
--- of arguments that could not be taken as words: 4 for want of memory, else 64
+-- of arguments that could not be taken as words: 4 when memory runs out, else 64
 abbrev pub status_of_arguments : ErrorKind → ℕ
 status_of_arguments OutOfMemory = 4
 status_of_arguments kind = 64
@@ -18,7 +18,8 @@ pub record AskNothing (words : List (Bor (List ℕ))) : Type 0 where
   pub some : words ≢ []
   pub none : (command : Command) → AskFor words command → ⊥
 
--- the exit status of words that are refused: that of a reason to refuse them, or 3 where a request for help could not be written
+-- the exit status of words that are refused: that of a reason to refuse them, or 3 where a request
+-- for help could not be written
 pub record IsRefusedWith (words : List (Bor (List ℕ))) (status : ℕ) : Type 0 where
   pub fault : WordsFault
   pub told : IsRefusalOf words fault

@@ -2,8 +2,8 @@
 use crate::command_fault::CommandFault;
 use crate::ends::Output;
 use crate::folder::Folder;
-use crate::kept::{Keep, Kept, keep_file};
-use crate::opened::Bounds;
+use crate::opened::Limits;
+use crate::output_files::{Content, OutputFiles, write_file};
 use std::alloc::Allocator;
 use std::io::{Read, Write};
 use tx_jobs::{ChangeEvidence, JobFault, Mixture, change_evidence_job};
@@ -13,16 +13,16 @@ pub(crate) fn change_files<A: Allocator + Copy, R: Read + Drop, F: Folder, O: Wr
     alloc: A,
     old: R,
     new: R,
-    bounds: Bounds,
-    files: Keep<'_>,
+    limits: Limits,
+    files: OutputFiles<'_>,
     folder: &F,
     output: &Output<O, A>,
 ) -> Result<u8, CommandFault> {
-    let evidence = report(alloc, old, new, bounds, files, output)?;
+    let evidence = report(alloc, old, new, limits, files, output)?;
     let status = evidence.status();
-    let kept = keep_evidence(alloc, &evidence, files, folder, output);
+    let written = write_evidence(alloc, &evidence, files, folder, output);
     drop(evidence);
-    kept?;
+    written?;
     Ok(status)
 }
 
@@ -31,8 +31,8 @@ fn report<A: Allocator + Copy, R: Read + Drop, O: Write + Drop>(
     alloc: A,
     old: R,
     new: R,
-    bounds: Bounds,
-    files: Keep<'_>,
+    limits: Limits,
+    files: OutputFiles<'_>,
     output: &Output<O, A>,
 ) -> Result<ChangeEvidence<A>, CommandFault> {
     let with_mixture = files.plan.is_some() || files.counter.is_some();
@@ -42,51 +42,57 @@ fn report<A: Allocator + Copy, R: Read + Drop, O: Write + Drop>(
         alloc,
         &mut old,
         &mut new,
-        bounds.limit,
-        bounds.spare,
+        limits.limit,
+        limits.spare,
         with_mixture,
         &mut output.sink(),
     )?;
     Ok(evidence)
 }
 
-/// Keeps the certificate after a Yes, and the mixture after a No that has one.
-fn keep_evidence<A: Allocator + Copy, F: Folder, O: Write + Drop>(
+/// Makes the file of the certificate after a Yes, and those of the mixture after a No that has one.
+fn write_evidence<A: Allocator + Copy, F: Folder, O: Write + Drop>(
     alloc: A,
     evidence: &ChangeEvidence<A>,
-    files: Keep<'_>,
+    files: OutputFiles<'_>,
     folder: &F,
     report: &Output<O, A>,
 ) -> Result<(), JobFault> {
     match evidence {
         ChangeEvidence::Sound(plan, cert) => {
-            keep_file(alloc, Kept::Cert(plan, cert), files.cert, folder, report)
+            write_file(alloc, Content::Cert(plan, cert), files.cert, folder, report)
         }
         ChangeEvidence::Unsound(Some(mixture)) => {
-            keep_mixture(alloc, mixture, files, folder, report)
+            write_mixture(alloc, mixture, files, folder, report)
         }
         ChangeEvidence::Unsound(None) => Ok(()),
     }
 }
 
-/// Keeps the mixture, and then the script, if it has one.
-fn keep_mixture<A: Allocator + Copy, F: Folder, O: Write + Drop>(
+/// Makes the file of the mixture, and then that of its script, if it has one.
+fn write_mixture<A: Allocator + Copy, F: Folder, O: Write + Drop>(
     alloc: A,
     mixture: &Mixture<A>,
-    files: Keep<'_>,
+    files: OutputFiles<'_>,
     folder: &F,
     report: &Output<O, A>,
 ) -> Result<(), JobFault> {
-    keep_file(
+    write_file(
         alloc,
-        Kept::Plan(mixture.plan()),
+        Content::Plan(mixture.plan()),
         files.plan,
         folder,
         report,
     )?;
     match mixture {
         Mixture::Scripted(script) => {
-            keep_file(alloc, Kept::Script(script), files.counter, folder, report)
+            write_file(
+                alloc,
+                Content::Script(script),
+                files.counter,
+                folder,
+                report,
+            )
         }
         Mixture::Unscripted(_) => Ok(()),
     }

@@ -7,16 +7,16 @@ use std::{fs, io};
 const TRIES: u32 = 100;
 
 /// A file of the machine that is being made.
-#[derive(Drop)]
+#[derive(Debug, Drop)]
 pub struct Draft {
     file: File,
-    /// Where it stands until it is whole. What is no regular file, as a device or a pipe, is
+    /// Where it is until it is whole. What is no regular file, as a device or a pipe, is
     /// written to at once, and so is what the program has open already.
     place: Option<Place>,
 }
 
-/// Where a file stands until it is whole.
-#[derive(Drop)]
+/// Where a file is until it is whole.
+#[derive(Debug, Drop)]
 struct Place {
     /// The name of a new file in the same folder.
     beside: String,
@@ -109,7 +109,7 @@ impl Draft {
         }
     }
 
-    /// Removes what stands beside the name.
+    /// Removes what is beside the name.
     pub(crate) fn give_up(self, rt: &HostRuntime) {
         if let Some(place) = &self.place {
             let _ = fs::remove_file(rt, place.beside.as_str());

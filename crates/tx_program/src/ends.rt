@@ -1,4 +1,5 @@
-// The ends of a command. Input and output are buffered, and the output goes out before the program waits for input.
+// The ends of a command. Input and output are buffered, and the output goes out before the program
+// waits for input.
 use std::alloc::Allocator;
 use std::cell::RefCell;
 use std::io;
@@ -9,7 +10,8 @@ use tx_text::{FromRead, Sink, WriteFault};
 /// How many bytes an output holds, and how many are read of an input at a time.
 const ROOM: usize = 65_536;
 
-/// A writer whose failure stays. One that takes nothing has failed; an interrupted call may be tried again.
+/// A writer whose failure stays. One that takes nothing has failed; an interrupted call may be
+/// tried again.
 #[derive(Drop)]
 struct Steady<W: Write + Drop> {
     writer: W,
@@ -54,12 +56,10 @@ impl<W: Write + Drop, A: Allocator> Output<W, A> {
             writer,
             failed: false,
         };
-        match BufWriter::with_capacity(alloc, ROOM, steady) {
-            Ok(writer) => Ok(Output {
-                writer: RefCell::new(writer),
-            }),
-            Err(_) => Err(JobFault::NoMemory),
-        }
+        let writer = BufWriter::with_capacity(alloc, ROOM, steady).or(Err(JobFault::NoMemory))?;
+        Ok(Output {
+            writer: RefCell::new(writer),
+        })
     }
 
     /// Lets out what was written.
@@ -81,24 +81,23 @@ impl<W: Write + Drop, A: Allocator> Output<W, A> {
         }
     }
 
-    /// A source over a reader, before each of whose reads the output goes out. An output that fails then is a failure of the source too: the program tells
-    /// it as the output's.
+    /// A source over a reader, before each of whose reads the output goes out. An output that fails
+    /// then is a failure of the source too: the program reports it as the output's.
     pub(crate) fn source<R: Read + Drop>(
         &self,
         alloc: A,
         reader: R,
     ) -> Result<FromRead<Flushing<'_, R, W, A>>, JobFault> {
-        match BufReader::with_capacity(alloc, ROOM, reader) {
-            Ok(reader) => Ok(FromRead::new(Flushing {
-                reader,
-                output: self,
-            })),
-            Err(_) => Err(JobFault::NoMemory),
-        }
+        let reader = BufReader::with_capacity(alloc, ROOM, reader).or(Err(JobFault::NoMemory))?;
+        Ok(FromRead::new(Flushing {
+            reader,
+            output: self,
+        }))
     }
 }
 
-/// An output as a sink, which does not tell its bytes. A call takes all its bytes or fails, and a failure stays one.
+/// An output as a sink, which does not show its bytes. A call takes all its bytes or fails, and a
+/// failure stays one.
 #[derive(Drop)]
 pub(crate) struct OutputSink<'a, W: Write + Drop, A: Allocator> {
     output: &'a Output<W, A>,
@@ -114,7 +113,6 @@ impl<'a, W: Write + Drop, A: Allocator> Sink for OutputSink<'a, W, A> {
 
     ghost called = { λ _ _ _ _. Unit {0} };
 
-    #[inline(always)]
     fn write(&mut self, bytes: &[u8]) -> Result<usize, WriteFault> {
         if !self.failed {
             if let Ok(mut writer) = self.output.writer.try_borrow_mut() {
@@ -128,7 +126,8 @@ impl<'a, W: Write + Drop, A: Allocator> Sink for OutputSink<'a, W, A> {
     }
 }
 
-/// A reader before each of whose reads an output goes out. What it has read ahead it gives without one.
+/// A reader before each of whose reads an output goes out. What it has read ahead it gives without
+/// one.
 #[derive(Drop)]
 pub(crate) struct Flushing<'a, R: Read + Drop, W: Write + Drop, A: Allocator> {
     reader: BufReader<R, A>,

@@ -64,12 +64,6 @@ impl<'a, F: Folder, I: Read + Drop> Inputs<'a, F, I> {
         second: &str,
     ) -> Result<(Input<I, F::Input>, Input<I, F::Input>), JobFault> {
         let first = self.open(first)?;
-        match self.open(second) {
-            Ok(second) => Ok((first, second)),
-            Err(fault) => {
-                drop(first);
-                Err(fault)
-            }
-        }
+        Ok((first, self.open(second)?))
     }
 }

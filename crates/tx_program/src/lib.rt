@@ -1,5 +1,5 @@
 //! The program: what it does for the words of the command line over a folder of files and its
-//! standard ends. It gives the commands on.
+//! standard ends. It re-exports the commands.
 #![tactic(auto)]
 
 mod audited;
@@ -9,11 +9,10 @@ mod draft;
 mod ends;
 mod folder;
 mod input;
-mod kept;
 mod mended;
 mod new_file;
 mod opened;
-mod perform;
+mod output_files;
 mod program;
 mod tell;
 

@@ -1,11 +1,10 @@
 // Commands whose files are open.
-ghost use Rattle.std.specs.Prelude.{◌≡◌, ◌≤◌};
-ghost use Rattle.tx_commands.specs.declared.command.Command.TheVariants.{Run, Draw};
+ghost use Rattle.std.specs.Prelude.{◌≡◌, ◌≤◌, true, IfSome};
 ghost use Rattle.tx_commands.specs.Commands.{IsInRange};
+ghost use Rattle.tx_program.specs.inner.Judging.{judges};
 
 use crate::folder::Folder;
 use crate::input::{Input, Inputs};
-use crate::kept::Keep;
 use std::io::Read;
 use tx_commands::Command;
 use tx_jobs::JobFault;
@@ -13,21 +12,21 @@ use tx_script::Telling;
 
 /// How many transits a call may pass, and how many groups of a list are to spare.
 #[derive(Clone, Copy)]
-pub(crate) struct Bounds {
+pub(crate) struct Limits {
     pub limit: u8,
     pub spare: u8,
     ghost limited: { limit ≤ 62 },
     ghost spared: { spare ≤ 15 },
 }
 
-impl Bounds {
-    fn of(limit: u8, spare: u8) -> Bounds
+impl Limits {
+    fn of(limit: u8, spare: u8) -> Limits
         requires limit { limit ≤ 62 }
         requires spare { spare ≤ 15 }
         ensures has_limit { result.limit ≡ limit }
         ensures has_spare { result.spare ≡ spare }
     {
-        Bounds { limit, spare }
+        Limits { limit, spare }
     }
 }
 
@@ -51,7 +50,7 @@ pub(crate) enum PlanJob<'a> {
         /// The code whose routes are drawn alone.
         code: Option<&'a [u8]>,
         /// The numbers for which its first finding is shown.
-        bounds: Option<Bounds>,
+        limits: Option<Limits>,
     },
 }
 
@@ -76,28 +75,25 @@ pub(crate) enum Opened<'a, I: Read + Drop, R: Read + Drop> {
         plan: Input<I, R>,
         cert: Input<I, R>,
         script: Input<I, R>,
-        bounds: Bounds,
+        limits: Limits,
     },
     Check {
         plan: Input<I, R>,
         cert: Input<I, R>,
-        bounds: Bounds,
+        limits: Limits,
     },
     Audit {
         plan: Input<I, R>,
-        bounds: Bounds,
-        keep: Keep<'a>,
+        limits: Limits,
     },
     Mend {
         plan: Input<I, R>,
-        bounds: Bounds,
-        keep: Keep<'a>,
+        limits: Limits,
     },
     Change {
         old: Input<I, R>,
         new: Input<I, R>,
-        bounds: Bounds,
-        keep: Keep<'a>,
+        limits: Limits,
     },
     Survive {
         plan: Input<I, R>,
@@ -108,16 +104,8 @@ pub(crate) enum Opened<'a, I: Read + Drop, R: Read + Drop> {
         job: PlanJob<'a>,
     },
     Explain {
-        word: Option<&'a str>,
+        word: &'a Option<String>,
     },
-}
-
-/// The name of a file or a code, if one is named.
-fn name_of(file: &Option<String>) -> Option<&str> {
-    match file {
-        Some(name) => Some(name.as_str()),
-        None => None,
-    }
 }
 
 impl<'a, I: Read + Drop, R: Read + Drop> Opened<'a, I, R> {
@@ -142,19 +130,7 @@ impl<'a, I: Read + Drop, R: Read + Drop> Opened<'a, I, R> {
                 strict,
                 echo,
                 summary,
-            } => {
-                let telling = Telling {
-                    echo: *echo,
-                    summary: *summary,
-                };
-                Opened::run_telling(inputs, plan, script, *strict, telling)
-            }
-            Command::Check {
-                plan,
-                cert,
-                limit,
-                spare,
-            } => Opened::check(inputs, plan, cert, Bounds::of(*limit, *spare)),
+            } => Opened::run_telling(inputs, plan, script, *strict, *echo, *summary),
             Command::Lint { plan } => Opened::lint(inputs, plan),
             Command::Codes { plan } => Opened::over_plan(inputs, plan, PlanJob::Codes),
             Command::Grade { plan } => Opened::over_plan(inputs, plan, PlanJob::Grade),
@@ -165,35 +141,42 @@ impl<'a, I: Read + Drop, R: Read + Drop> Opened<'a, I, R> {
                 code,
             } => Opened::trace(inputs, plan, exchange, code),
             Command::Draw { plan, routes } => Opened::draw(inputs, plan, routes),
-            Command::Explain { word } => Ok(Opened::Explain {
-                word: name_of(word),
-            }),
-            Command::Audit {
-                plan,
-                limit,
-                spare,
-                cert,
-                counter,
-            } => Opened::audit(inputs, plan, Bounds::of(*limit, *spare), cert, counter),
-            Command::Mend {
-                plan,
-                limit,
-                spare,
-                mended,
-                cert,
-            } => Opened::mend(inputs, plan, Bounds::of(*limit, *spare), mended, cert),
-            Command::Change {
-                old,
-                new,
-                limit,
-                spare,
-                cert,
-                mixture,
-                counter,
-            } => {
-                let bounds = Bounds::of(*limit, *spare);
-                Opened::change(inputs, old, new, bounds, cert, mixture, counter)
+            Command::Explain { word } => Ok(Opened::Explain { word }),
+            Command::Check { limit, spare, .. }
+            | Command::Audit { limit, spare, .. }
+            | Command::Change { limit, spare, .. }
+            | Command::Mend { limit, spare, .. } => {
+                Opened::judging(inputs, command, Limits::of(*limit, *spare))
             }
+        }
+    }
+
+    /// Opens the files of a command that judges plans.
+    fn judging<F: Folder<Input = R>>(
+        inputs: &mut Inputs<'_, F, I>,
+        command: &'a Command,
+        limits: Limits,
+    ) -> Result<Opened<'a, I, R>, JobFault>
+        requires { judges command.now ≡ true }
+    {
+        match command {
+            Command::Check { plan, cert, .. } => {
+                let (plan, cert) = inputs.open_both(plan, cert)?;
+                Ok(Opened::Check { plan, cert, limits })
+            }
+            Command::Audit { plan, .. } => {
+                let plan = inputs.open(plan)?;
+                Ok(Opened::Audit { plan, limits })
+            }
+            Command::Change { old, new, .. } => {
+                let (old, new) = inputs.open_both(old, new)?;
+                Ok(Opened::Change { old, new, limits })
+            }
+            Command::Mend { plan, .. } => {
+                let plan = inputs.open(plan)?;
+                Ok(Opened::Mend { plan, limits })
+            }
+            _ => unreachable!(),
         }
     }
 
@@ -206,84 +189,70 @@ impl<'a, I: Read + Drop, R: Read + Drop> Opened<'a, I, R> {
 
     fn run<F: Folder<Input = R>>(
         inputs: &mut Inputs<'_, F, I>,
-        plan: &String,
-        script: &String,
+        plan: &str,
+        script: &str,
         checked: &Option<(String, u8, u8)>,
     ) -> Result<Opened<'a, I, R>, JobFault>
-        requires { IsInRange (Run plan.now script.now checked.now) }
+        requires limit { IfSome checked.now (λ c. c.1 ≤ 62) }
+        requires spare { IfSome checked.now (λ c. c.2 ≤ 15) }
     {
         match checked {
             None => {
-                let (plan, script) = inputs.open_both(plan.as_str(), script.as_str())?;
+                let (plan, script) = inputs.open_both(plan, script)?;
                 Ok(Opened::Run { plan, script })
             }
             Some((cert, limit, spare)) => {
-                Opened::checked(inputs, plan, cert, script, Bounds::of(*limit, *spare))
+                Opened::checked(inputs, plan, cert, script, Limits::of(*limit, *spare))
             }
         }
     }
 
     fn run_telling<F: Folder<Input = R>>(
         inputs: &mut Inputs<'_, F, I>,
-        plan: &String,
-        script: &String,
+        plan: &str,
+        script: &str,
         strict: bool,
-        telling: Telling,
+        echo: bool,
+        summary: bool,
     ) -> Result<Opened<'a, I, R>, JobFault> {
-        let (plan, script) = inputs.open_both(plan.as_str(), script.as_str())?;
+        let (plan, script) = inputs.open_both(plan, script)?;
         Ok(Opened::RunTelling {
             plan,
             script,
             strict,
-            telling,
+            telling: Telling { echo, summary },
         })
     }
 
     fn checked<F: Folder<Input = R>>(
         inputs: &mut Inputs<'_, F, I>,
-        plan: &String,
-        cert: &String,
-        script: &String,
-        bounds: Bounds,
+        plan: &str,
+        cert: &str,
+        script: &str,
+        limits: Limits,
     ) -> Result<Opened<'a, I, R>, JobFault> {
-        let (plan, cert) = inputs.open_both(plan.as_str(), cert.as_str())?;
-        match inputs.open(script.as_str()) {
-            Ok(script) => Ok(Opened::Checked {
-                plan,
-                cert,
-                script,
-                bounds,
-            }),
-            Err(fault) => {
-                drop(cert);
-                drop(plan);
-                Err(fault)
-            }
-        }
-    }
-
-    fn check<F: Folder<Input = R>>(
-        inputs: &mut Inputs<'_, F, I>,
-        plan: &String,
-        cert: &String,
-        bounds: Bounds,
-    ) -> Result<Opened<'a, I, R>, JobFault> {
-        let (plan, cert) = inputs.open_both(plan.as_str(), cert.as_str())?;
-        Ok(Opened::Check { plan, cert, bounds })
+        let (plan, cert) = inputs.open_both(plan, cert)?;
+        let script = inputs.open(script)?;
+        Ok(Opened::Checked {
+            plan,
+            cert,
+            script,
+            limits,
+        })
     }
 
     fn over_plan<F: Folder<Input = R>>(
         inputs: &mut Inputs<'_, F, I>,
-        plan: &String,
+        plan: &str,
         job: PlanJob<'a>,
     ) -> Result<Opened<'a, I, R>, JobFault> {
-        let plan = inputs.open(plan.as_str())?;
+        let plan = inputs.open(plan)?;
         Ok(Opened::Plan { plan, job })
     }
 
     fn lint<F: Folder<Input = R>>(
         inputs: &mut Inputs<'_, F, I>,
-        plan: &'a String,
+        plan: &'a str,
     ) -> Result<Opened<'a, I, R>, JobFault> {
         let file = plan.as_bytes();
         Opened::over_plan(inputs, plan, PlanJob::Lint { file })
@@ -291,30 +260,31 @@ impl<'a, I: Read + Drop, R: Read + Drop> Opened<'a, I, R> {
 
     fn draw<F: Folder<Input = R>>(
         inputs: &mut Inputs<'_, F, I>,
-        plan: &String,
+        plan: &str,
         routes: &'a Option<(String, Option<(u8, u8)>)>,
     ) -> Result<Opened<'a, I, R>, JobFault>
-        requires { IsInRange (Draw plan.now routes.now) }
+        requires limit { IfSome routes.now (λ r. IfSome r.1 (λ b. b.0 ≤ 62)) }
+        requires spare { IfSome routes.now (λ r. IfSome r.1 (λ b. b.1 ≤ 15)) }
     {
-        let (code, bounds) = match routes {
+        let (code, limits) = match routes {
             None => (None, None),
             Some((code, None)) => (Some(code.as_bytes()), None),
             Some((code, Some((limit, spare)))) => {
-                (Some(code.as_bytes()), Some(Bounds::of(*limit, *spare)))
+                (Some(code.as_bytes()), Some(Limits::of(*limit, *spare)))
             }
         };
-        Opened::over_plan(inputs, plan, PlanJob::Draw { code, bounds })
+        Opened::over_plan(inputs, plan, PlanJob::Draw { code, limits })
     }
 
     fn survive<F: Folder<Input = R>>(
         inputs: &mut Inputs<'_, F, I>,
-        plan: &String,
+        plan: &str,
         risks: &Option<String>,
     ) -> Result<Opened<'a, I, R>, JobFault> {
         match risks {
             None => Opened::over_plan(inputs, plan, PlanJob::Survive),
             Some(risks) => {
-                let (plan, risks) = inputs.open_both(plan.as_str(), risks.as_str())?;
+                let (plan, risks) = inputs.open_both(plan, risks)?;
                 Ok(Opened::Survive { plan, risks })
             }
         }
@@ -322,69 +292,14 @@ impl<'a, I: Read + Drop, R: Read + Drop> Opened<'a, I, R> {
 
     fn trace<F: Folder<Input = R>>(
         inputs: &mut Inputs<'_, F, I>,
-        plan: &String,
-        exchange: &'a String,
-        code: &'a String,
+        plan: &str,
+        exchange: &'a str,
+        code: &'a str,
     ) -> Result<Opened<'a, I, R>, JobFault> {
         let job = PlanJob::Trace {
             exchange: exchange.as_bytes(),
             code: code.as_bytes(),
         };
         Opened::over_plan(inputs, plan, job)
-    }
-
-    fn audit<F: Folder<Input = R>>(
-        inputs: &mut Inputs<'_, F, I>,
-        plan: &String,
-        bounds: Bounds,
-        cert: &'a Option<String>,
-        counter: &'a Option<String>,
-    ) -> Result<Opened<'a, I, R>, JobFault> {
-        let plan = inputs.open(plan.as_str())?;
-        let keep = Keep {
-            cert: name_of(cert),
-            plan: None,
-            counter: name_of(counter),
-        };
-        Ok(Opened::Audit { plan, bounds, keep })
-    }
-
-    fn mend<F: Folder<Input = R>>(
-        inputs: &mut Inputs<'_, F, I>,
-        plan: &String,
-        bounds: Bounds,
-        mended: &'a Option<String>,
-        cert: &'a Option<String>,
-    ) -> Result<Opened<'a, I, R>, JobFault> {
-        let plan = inputs.open(plan.as_str())?;
-        let keep = Keep {
-            cert: name_of(cert),
-            plan: name_of(mended),
-            counter: None,
-        };
-        Ok(Opened::Mend { plan, bounds, keep })
-    }
-
-    fn change<F: Folder<Input = R>>(
-        inputs: &mut Inputs<'_, F, I>,
-        old: &String,
-        new: &String,
-        bounds: Bounds,
-        cert: &'a Option<String>,
-        mixture: &'a Option<String>,
-        counter: &'a Option<String>,
-    ) -> Result<Opened<'a, I, R>, JobFault> {
-        let (old, new) = inputs.open_both(old.as_str(), new.as_str())?;
-        let keep = Keep {
-            cert: name_of(cert),
-            plan: name_of(mixture),
-            counter: name_of(counter),
-        };
-        Ok(Opened::Change {
-            old,
-            new,
-            bounds,
-            keep,
-        })
     }
 }

@@ -1,4 +1,4 @@
-// What the user is told of refused words.
+// What is printed of refused words.
 ghost use Rattle.std.specs.Prelude.{◌≡◌};
 ghost use Rattle.std.specs.IoError.{error_kind};
 ghost use Rattle.tx_program.specs.Statuses.{status_of_arguments};
@@ -29,7 +29,8 @@ pub fn tell_words<O: Write, E: Write>(
     }
 }
 
-/// Tells why the arguments of the program could not be taken as words, and answers the exit status: 4 for want of memory, else 64.
+/// Writes why the arguments of the program could not be taken as words, and returns the exit
+/// status: 4 when memory runs out, else 64.
 pub fn refuse_arguments<E: Write>(why: &io::Error, errors: &mut E) -> u8
     ensures { result ≡ status_of_arguments (error_kind why.now) }
 {

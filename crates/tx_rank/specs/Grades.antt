@@ -14,18 +14,21 @@ CanBeCertified p limit spare = (ranks : Ranks) × IsCertified p ranks limit spar
 
 -- some ranks certify this code of it
 abbrev pub CanBeCertifiedFor : Plan → (code limit spare : ℕ) → Type 0
-CanBeCertifiedFor p code limit spare = (ranks : ℕ → Option ℕ) × Certifies (net_of p code) ranks limit spare
+CanBeCertifiedFor p code limit spare = (ranks : ℕ → Option ℕ)
+    × Certifies (net_of p code) ranks limit spare
 
 -- no finding is true of the plan
 abbrev pub NothingIsWrong : (A : Type 0) → Plan → (limit spare : ℕ) → Type 0
 NothingIsWrong A p limit spare = (f : Finding A) → IsTrueOf p limit spare f → ⊥
 
--- BOUNDS: of the spare numbers up to 15, it holds exactly with a limit that is no smaller and a spare number that is no greater.
+-- Bounds: of the spare numbers up to 15, it holds exactly with a limit that is no smaller and a
+-- spare number that is no greater.
 pub record AreBounds (Holds : (limit spare : ℕ) → Type 0) (b : Bounds) : Type 0 where
   pub few : b.spare ≤ 15
-  pub exactly : (limit spare : ℕ) → spare ≤ 15 → Holds limit spare ↔ ((b.limit ≤ limit) × (spare ≤ b.spare))
+  pub exactly : (limit spare : ℕ) → spare ≤ 15
+      → Holds limit spare ↔ ((b.limit ≤ limit) × (spare ≤ b.spare))
 
--- A GRADE: the bounds with which it holds; or none, where it holds with no limit and no spare
+-- A grade: the bounds with which it holds; or none, where it holds with no limit and no spare
 -- number.
 abbrev pub IsGrade : ((limit spare : ℕ) → Type 0) → Option Bounds → Type 0
 IsGrade Holds (Some b) = AreBounds Holds b
@@ -37,10 +40,13 @@ pub record AreCodeGrades (p : Plan) (codes : List (ℕ × Option Bounds)) : Type
   pub each : (c : ℕ) (q : ℕ × Option Bounds) → slice_get codes c ≡ Some q
       → (q.0 ≡ c) × IsGrade (CanBeCertifiedFor p c) q.1
 
--- WITHOUT A GRADE: the findings without a spare group, whatever the limit, if it is no smaller than the number of exchanges and so no walk is too long
+-- Without a grade: the findings without a spare group, whatever the limit, if it is no smaller than
+-- the number of exchanges and so no walk is too long
 abbrev pub AreUnmended : {A : Type 0} → Plan → List (Finding A) → Type 0
 AreUnmended p findings = (limit : ℕ) → length p.exchanges ≤ limit → AreFindings p limit 0 findings
 
--- what a ranked exchange other than the home asks for: its rank is at most limit + 1, and its list has more groups than spare
+-- what a ranked exchange other than the home asks for: its rank is at most limit + 1, and its list
+-- has more groups than spare
 abbrev pub Suits : Net → (ranks : ℕ → Option ℕ) → (x limit spare : ℕ) → Type 0
-Suits n ranks x limit spare = (r : ℕ) → ranks x ≡ Some r → x ≢ n.home → (r ≤ limit + 1) × (spare < n.fewest x)
+Suits n ranks x limit spare = (r : ℕ) → ranks x ≡ Some r
+    → x ≢ n.home → (r ≤ limit + 1) × (spare < n.fewest x)

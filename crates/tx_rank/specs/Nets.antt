@@ -25,4 +25,5 @@ pub record Certifies (n : Net) (ranks : ℕ → Option ℕ) (limit spare : ℕ) 
   pub origins : (x : ℕ) → n.is_origin x ≡ true → (r : ℕ) × (ranks x ≡ Some r)
   pub low : (x r : ℕ) → ranks x ≡ Some r → r ≤ limit + 1
   pub enough : (x r : ℕ) → ranks x ≡ Some r → x ≢ n.home → spare < n.fewest x
-  pub lower : (x r : ℕ) → ranks x ≡ Some r → x ≢ n.home → (g : ℕ) → Among g (n.list x) → LeadsBelow n ranks x r g
+  pub lower : (x r : ℕ) → ranks x ≡ Some r → x ≢ n.home
+      → (g : ℕ) → Among g (n.list x) → LeadsBelow n ranks x r g

@@ -33,10 +33,12 @@ pub record Walk : Type 0 where
   pub start : ℕ
   pub steps : List (ℕ × ℕ)
 
--- the steps lead on from x, each by a group in the list of the exchange before it, which is not the home
+-- the steps lead on from x, each by a group in the list of the exchange before it, which is not the
+-- home
 abbrev pub Goes : Net → ℕ → List (ℕ × ℕ) → Type 0
 Goes n x [] = Unit {0}
-Goes n x (s ∷ steps) = (x ≢ n.home) × Among s.0 (n.list x) × (n.far s.0 x ≡ Some s.1) × Goes n s.1 steps
+Goes n x (s ∷ steps) = (x ≢ n.home) × Among s.0 (n.list x)
+    × (n.far s.0 x ≡ Some s.1) × Goes n s.1 steps
 
 -- the last exchange
 abbrev pub end_of : ℕ → List (ℕ × ℕ) → ℕ
@@ -57,7 +59,7 @@ before_end x (s ∷ steps) = x ∷ before_end s.1 steps
 abbrev pub AllDiffer : List ℕ → Type 0
 AllDiffer = EachPair (λ x y. x ≢ y)
 
--- A WALK: it begins where calls may start, and goes by the lists.
+-- A walk: it begins where calls may start, and goes by the lists.
 pub record IsWalk (n : Net) (x : ℕ) (steps : List (ℕ × ℕ)) : Type 0 where
   pub origin : n.is_origin x ≡ true
   pub goes : Goes n x steps
@@ -68,7 +70,8 @@ pub record IsLoop (n : Net) (x : ℕ) (steps : List (ℕ × ℕ)) : Type 0 where
   pub again : Among (end_of x steps) (before_end x steps)
   pub once : AllDiffer (before_end x steps)
 
--- SHORT: nothing repeats, and the last exchange is not the home and may list fewer than spare + 1 groups.
+-- SHORT: nothing repeats, and the last exchange is not the home and may list fewer than spare + 1
+-- groups.
 pub record IsShort (n : Net) (spare : ℕ) (x : ℕ) (steps : List (ℕ × ℕ)) : Type 0 where
   pub walk : IsWalk n x steps
   pub once : AllDiffer (passed x steps)

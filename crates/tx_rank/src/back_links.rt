@@ -83,7 +83,8 @@ fn link_from<N: Routes>(
     }
 }
 
-/// A link of each exchange to which another one leads on a walk: the nearest one, so that the links lead back by a shortest walk.
+/// A link of each exchange to which another one leads on a walk: the nearest one, so that the links
+/// lead back by a shortest walk.
 pub fn links_of<A: Allocator + Copy, N: Routes>(
     alloc: A,
     net: &N,

@@ -3,14 +3,14 @@ ghost use Rattle.std.specs.Prelude.{◌≡◌, max, min};
 ghost use Rattle.tx_rank.specs.inner.Together.{together};
 
 /// The least transit limit and the greatest spare number, which is at most 15.
-#[derive(Clone, Copy)]
+#[derive(Clone, Copy, Debug)]
 pub struct Bounds {
     pub limit: u16,
     pub spare: u8,
 }
 
 impl Bounds {
-    /// Those of what needs no trunk.
+    /// Those of what needs no circuit.
     pub(crate) fn widest() -> Bounds
         ensures limit { result.limit ≡ 0 }
         ensures spare { result.spare ≡ 15 }

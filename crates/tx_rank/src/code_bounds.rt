@@ -40,11 +40,10 @@ pub fn code_bounds<A: Allocator>(plan: &Plan<A>, cert: &Cert<A>, code: CodeId) -
     requires certified { Certifies (net_of plan.now code) (ranks_of cert.now code) 255 0 }
     ensures { AreBounds (CanBeCertifiedFor plan.now code) result }
 {
-    plan.rules();
     cert.rules();
     let mut bounds = Bounds::widest();
     for place in 0..plan.exchanges() {
-        let exchange = ExchangeId::at(place as u16);
+        let exchange = ExchangeId::of(place);
         bounds = bounds.both(exchange_bounds(plan, cert, code, exchange));
     }
     bounds

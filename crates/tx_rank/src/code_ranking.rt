@@ -16,7 +16,8 @@ use tx_cert::Cert;
 use tx_plan::CodeId;
 use tx_text::NoMemory;
 
-/// Writes the ranks of a code that has no loop into the certificate, and adds its walks to short exchanges and a long one.
+/// Writes the ranks of a code that has no loop into the certificate, and adds its walks to short
+/// exchanges and a long one.
 fn judge_ranked<A: Allocator + Copy, N: Routes>(
     alloc: A,
     net: &N,
@@ -31,12 +32,13 @@ fn judge_ranked<A: Allocator + Copy, N: Routes>(
     requires code { code < cert.old.codes }
     requires exchanges { cert.old.exchanges ≡ (N.net net.now).exchanges }
     requires blank { (x : ℕ) → ranked_at cert.old code x ≡ None }
-    ensures judged { IfOk result (λ _. IsJudged (N.net net.now) code limit spare findings.old.items findings.new.items (ranked_at cert.new code)) }
-    ensures others { IfOk result (λ _. (d x : ℕ) → d ≢ code → ranked_at cert.new d x ≡ ranked_at cert.old d x) }
+    ensures judged { IfOk result (λ _. IsJudged (N.net net.now)
+        code limit spare findings.old.items findings.new.items (ranked_at cert.new code)) }
+    ensures others { IfOk result (λ _. (d x : ℕ)
+        → d ≢ code → ranked_at cert.new d x ≡ ranked_at cert.old d x) }
     ensures codes { cert.new.codes ≡ cert.old.codes }
     ensures exchanges { cert.new.exchanges ≡ cert.old.exchanges }
 {
-    net.rules();
     put_ranks(net, marks, code, cert);
     add_shorts(alloc, net, marks, code, spare, findings)?;
     match long_walk(alloc, net, marks, limit)? {
@@ -61,8 +63,10 @@ pub fn rank_code<A: Allocator + Copy, N: Routes>(
     requires code { code < cert.old.codes }
     requires exchanges { cert.old.exchanges ≡ (N.net net.now).exchanges }
     requires blank { (x : ℕ) → ranked_at cert.old code x ≡ None }
-    ensures judged { IfOk result (λ _. IsJudged (N.net net.now) code limit spare findings.old.items findings.new.items (ranked_at cert.new code)) }
-    ensures others { IfOk result (λ _. (d x : ℕ) → d ≢ code → ranked_at cert.new d x ≡ ranked_at cert.old d x) }
+    ensures judged { IfOk result (λ _. IsJudged (N.net net.now)
+        code limit spare findings.old.items findings.new.items (ranked_at cert.new code)) }
+    ensures others { IfOk result (λ _. (d x : ℕ)
+        → d ≢ code → ranked_at cert.new d x ≡ ranked_at cert.old d x) }
     ensures codes { cert.new.codes ≡ cert.old.codes }
     ensures exchanges { cert.new.exchanges ≡ cert.old.exchanges }
 {

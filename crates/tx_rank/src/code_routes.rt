@@ -2,7 +2,9 @@
 ghost use Rattle.std.specs.Prelude.{◌≡◌, ◌<◌, ℕ, Bool, length, Some, slice_get, IfOk};
 ghost use Rattle.tx_plan.specs.Routes.{is_origin};
 ghost use Rattle.tx_rank.specs.Walks.{net_of};
+ghost use Rattle.tx_rank.specs.Nets.{IsNet};
 ghost use Rattle.tx_rank.specs.Judged.{AreOrigins};
+ghost use Rattle.tx_rank.specs.inner.NetLaws.{IsNet-prop};
 
 use crate::routes::Routes;
 use std::alloc::Allocator;
@@ -13,10 +15,9 @@ use tx_text::NoMemory;
 pub fn origins_of<A: Allocator + Copy>(alloc: A, plan: &Plan<A>) -> Result<Vec<bool, A>, NoMemory>
     ensures { IfOk result (λ origins. AreOrigins plan.now origins.items) }
 {
-    plan.rules();
     let mut origins = Vec::with_capacity(alloc, plan.exchanges())?;
     for place in 0..plan.exchanges() {
-        origins.push_reserved(plan.is_origin(ExchangeId::at(place as u16)));
+        origins.push_reserved(plan.is_origin(ExchangeId::of(place)));
     }
     Ok(origins)
 }
@@ -27,7 +28,7 @@ pub struct CodeRoutes<'a, A: Allocator> {
     pub plan: &'a Plan<A>,
     pub origins: &'a [bool],
     pub code: CodeId,
-    ghost known: { code < length plan.now.codes },
+    ghost net: { IsNet (net_of plan.now code) } by { IsNet-prop (net_of plan.now code) },
     ghost right: { AreOrigins plan.now origins.now },
 }
 
@@ -39,8 +40,7 @@ impl<'a, A: Allocator> Routes for CodeRoutes<'a, A> {
     }
 
     fn exchange(&self, place: usize) -> ExchangeId {
-        self.plan.rules();
-        ExchangeId::at(place as u16)
+        ExchangeId::of(place)
     }
 
     fn home(&self) -> ExchangeId {
@@ -60,14 +60,11 @@ impl<'a, A: Allocator> Routes for CodeRoutes<'a, A> {
     }
 
     fn far(&self, group: GroupId, exchange: ExchangeId) -> ExchangeId {
-        self.plan.rules();
         match self.plan.other_end(group, exchange) {
             Some(to) => to,
             None => unreachable!(),
         }
     }
 
-    fn rules(&self) {
-        self.plan.rules();
-    }
+    ghost is_net = { λ routes. routes.net };
 }

@@ -58,7 +58,8 @@ fn reach_on<N: Routes>(net: &N, steps: u16, distances: &mut [u16]) -> bool
     more
 }
 
-/// Reaches the exchanges to which one of this distance leads, unless it is the home: whether one was not reached before.
+/// Reaches the exchanges to which one of this distance leads, unless it is the home: whether one
+/// was not reached before.
 fn reach_from<N: Routes>(net: &N, exchange: ExchangeId, steps: u16, distances: &mut [u16]) -> bool
     requires { length distances.old ≡ (N.net net.now).exchanges }
 {

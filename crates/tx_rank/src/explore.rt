@@ -1,4 +1,4 @@
-// The ranking pass: a walk in hand that grows and shrinks at its end.
+// The ranking pass: a current walk that grows and shrinks at its end.
 ghost use Rattle.std.specs.Prelude.{◌≡◌, ◌<◌, ◌+◌, ◌++◌, ◌∷◌, [], List, length, true, false, None, Some, IfOk, slice_get};
 ghost use Rattle.tx_rank.specs.Walks.{end_of, IsLoop};
 ghost use Rattle.tx_rank.specs.Nets.{IsNet};
@@ -13,7 +13,7 @@ use std::alloc::Allocator;
 use tx_plan::{ExchangeId, GroupId};
 use tx_text::NoMemory;
 
-/// The walk in hand goes on, all walks from its start are ranked, or it is a loop.
+/// The current walk goes on, all walks from its start are ranked, or it is a loop.
 #[derive(Clone, Copy)]
 pub enum Progress {
     More,
@@ -21,7 +21,8 @@ pub enum Progress {
     Closed,
 }
 
-/// The walk in hand, what was tried of the lists of its exchanges before the last and of the last one's, and the marks of all exchanges.
+/// The current walk, what was tried of the lists of its exchanges before the last and of the last
+/// one's, and the marks of all exchanges.
 #[derive(Drop)]
 pub struct Search<'a, A: Allocator> {
     pub start: ExchangeId,
@@ -39,7 +40,6 @@ pub fn unseen<'a, A: Allocator + Copy, N: Routes>(
     ensures marked { IfOk result (λ s. IsMarked (N.net net.now) s.marks.items) }
     ensures none { IfOk result (λ s. NoneOpen s.marks.items) }
 {
-    net.rules();
     let home = net.home();
     let mut marks = vec![in alloc; Mark::Unseen; net.exchanges()]?;
     marks[home.index()] = Mark::Ranked(0);
@@ -52,7 +52,7 @@ pub fn unseen<'a, A: Allocator + Copy, N: Routes>(
     })
 }
 
-/// The walk in hand.
+/// The current walk.
 pub fn walk_in_hand<A: Allocator>(search: Search<'_, A>) -> Walk<A>
     ensures { result ≡ record { start = search.entry.start; steps = search.entry.steps.items } }
 {
@@ -62,7 +62,7 @@ pub fn walk_in_hand<A: Allocator>(search: Search<'_, A>) -> Walk<A>
     }
 }
 
-/// Where the walk in hand ends.
+/// Where the current walk ends.
 fn end(start: ExchangeId, steps: &[(GroupId, ExchangeId)]) -> ExchangeId
     ensures { result ≡ end_of start steps.now }
 {
@@ -72,11 +72,12 @@ fn end(start: ExchangeId, steps: &[(GroupId, ExchangeId)]) -> ExchangeId
     }
 }
 
-/// Whether an exchange is on the walk in hand.
+/// Whether an exchange is on the current walk.
 fn is_open(marks: &[Mark], exchange: ExchangeId) -> bool
     requires { exchange < length marks.now }
     ensures open { result ≡ true → slice_get marks.now exchange ≡ Some (Mark.Open) }
-    ensures unseen { result ≡ false → rank_in marks.now exchange ≡ None → slice_get marks.now exchange ≡ Some (Mark.Unseen) }
+    ensures unseen { result ≡ false → rank_in marks.now exchange ≡ None
+        → slice_get marks.now exchange ≡ Some (Mark.Unseen) }
 {
     match marks[exchange.index()] {
         Mark::Open => true,
@@ -84,7 +85,7 @@ fn is_open(marks: &[Mark], exchange: ExchangeId) -> bool
     }
 }
 
-/// The walk in hand goes one step on.
+/// The current walk goes one step on.
 fn go_on<'a, A: Allocator, N: Routes>(
     net: &'a N,
     search: &mut Search<'a, A>,
@@ -92,12 +93,18 @@ fn go_on<'a, A: Allocator, N: Routes>(
     to: ExchangeId,
 ) -> Result<Progress, NoMemory>
     requires marked { IsMarked (N.net net.now) search.old.marks.items }
-    requires hand { IsInHand (N.net net.now) search.old.marks.items search.old.start search.old.steps.items }
-    requires tried { IsTrail (N.net net.now) search.old.marks.items search.old.start search.old.steps.items search.old.before.items search.old.last }
-    requires onward { IsOnward (N.net net.now) search.old.marks.items (end_of search.old.start search.old.steps.items) (group, to) }
+    requires hand { IsInHand (N.net net.now) search.old.marks.items
+        search.old.start search.old.steps.items }
+    requires tried { IsTrail (N.net net.now) search.old.marks.items
+        search.old.start search.old.steps.items search.old.before.items search.old.last }
+    requires onward { IsOnward (N.net net.now) search.old.marks.items
+        (end_of search.old.start search.old.steps.items) (group, to) }
     ensures start { search.new.start ≡ search.old.start }
-    ensures ok { IfOk result (λ p. IsAdvanced (N.net net.now) search.old.start p search.old.marks.items search.new.marks.items search.new.steps.items) }
-    ensures tried { IfOk result (λ p. p ≡ Progress.More → IsTrail (N.net net.now) search.new.marks.items search.old.start search.new.steps.items search.new.before.items search.new.last) }
+    ensures ok { IfOk result (λ p. IsAdvanced (N.net net.now)
+        search.old.start p search.old.marks.items search.new.marks.items search.new.steps.items) }
+    ensures tried { IfOk result (λ p. p ≡ Progress.More
+        → IsTrail (N.net net.now) search.new.marks.items
+        search.old.start search.new.steps.items search.new.before.items search.new.last) }
 {
     search.steps.push((group, to))?;
     if is_open(&search.marks, to) {
@@ -111,8 +118,10 @@ fn go_on<'a, A: Allocator, N: Routes>(
 
 /// Takes the last one away, if there is one.
 fn take_last<'a, A: Allocator>(before: &mut Vec<Tried<'a>, A>, none: Tried<'a>) -> Tried<'a>
-    ensures others { (front : List Tried) (last : Tried) → before.old.items ≡ front ++ last ∷ [] → before.new.items ≡ front }
-    ensures last { (front : List Tried) (last : Tried) → before.old.items ≡ front ++ last ∷ [] → result ≡ last }
+    ensures others { (front : List Tried) (last : Tried)
+        → before.old.items ≡ front ++ last ∷ [] → before.new.items ≡ front }
+    ensures last { (front : List Tried) (last : Tried)
+        → before.old.items ≡ front ++ last ∷ [] → result ≡ last }
 {
     match before.pop() {
         Some(last) => last,
@@ -120,7 +129,7 @@ fn take_last<'a, A: Allocator>(before: &mut Vec<Tried<'a>, A>, none: Tried<'a>) 
     }
 }
 
-/// The last exchange of the walk in hand is ranked.
+/// The last exchange of the current walk is ranked.
 fn settle<'a, A: Allocator, N: Routes>(
     net: &'a N,
     search: &mut Search<'a, A>,
@@ -129,13 +138,18 @@ fn settle<'a, A: Allocator, N: Routes>(
 ) -> Progress
     requires net { IsNet (N.net net.now) }
     requires marked { IsMarked (N.net net.now) search.old.marks.items }
-    requires hand { IsInHand (N.net net.now) search.old.marks.items search.old.start search.old.steps.items }
-    requires tried { IsTrail (N.net net.now) search.old.marks.items search.old.start search.old.steps.items search.old.before.items search.old.last }
+    requires hand { IsInHand (N.net net.now) search.old.marks.items
+        search.old.start search.old.steps.items }
+    requires tried { IsTrail (N.net net.now) search.old.marks.items
+        search.old.start search.old.steps.items search.old.before.items search.old.last }
     requires end { exchange ≡ end_of search.old.start search.old.steps.items }
-    requires top { IsTop (N.net net.now) search.old.marks.items exchange ((N.net net.now).list exchange) top }
+    requires top { IsTop (N.net net.now) search.old.marks.items exchange
+        ((N.net net.now).list exchange) top }
     ensures start { search.new.start ≡ search.old.start }
-    ensures ok { IsAdvanced (N.net net.now) search.old.start result search.old.marks.items search.new.marks.items search.new.steps.items }
-    ensures tried { result ≡ Progress.More → IsTrail (N.net net.now) search.new.marks.items search.old.start search.new.steps.items search.new.before.items search.new.last }
+    ensures ok { IsAdvanced (N.net net.now) search.old.start
+        result search.old.marks.items search.new.marks.items search.new.steps.items }
+    ensures tried { result ≡ Progress.More → IsTrail (N.net net.now) search.new.marks.items
+        search.old.start search.new.steps.items search.new.before.items search.new.last }
 {
     search.marks[exchange.index()] = Mark::Ranked(top + 1);
     search.last = take_last(&mut search.before, search.last);
@@ -151,13 +165,17 @@ fn advance<'a, A: Allocator, N: Routes>(
     search: &mut Search<'a, A>,
 ) -> Result<Progress, NoMemory>
     requires marked { IsMarked (N.net net.now) search.old.marks.items }
-    requires hand { IsInHand (N.net net.now) search.old.marks.items search.old.start search.old.steps.items }
-    requires tried { IsTrail (N.net net.now) search.old.marks.items search.old.start search.old.steps.items search.old.before.items search.old.last }
+    requires hand { IsInHand (N.net net.now) search.old.marks.items
+        search.old.start search.old.steps.items }
+    requires tried { IsTrail (N.net net.now) search.old.marks.items
+        search.old.start search.old.steps.items search.old.before.items search.old.last }
     ensures start { search.new.start ≡ search.old.start }
-    ensures ok { IfOk result (λ p. IsAdvanced (N.net net.now) search.old.start p search.old.marks.items search.new.marks.items search.new.steps.items) }
-    ensures tried { IfOk result (λ p. p ≡ Progress.More → IsTrail (N.net net.now) search.new.marks.items search.old.start search.new.steps.items search.new.before.items search.new.last) }
+    ensures ok { IfOk result (λ p. IsAdvanced (N.net net.now)
+        search.old.start p search.old.marks.items search.new.marks.items search.new.steps.items) }
+    ensures tried { IfOk result (λ p. p ≡ Progress.More
+        → IsTrail (N.net net.now) search.new.marks.items
+        search.old.start search.new.steps.items search.new.before.items search.new.last) }
 {
-    net.rules();
     let exchange = end(search.start, &search.steps);
     match look_on(net, &search.marks, exchange, &mut search.last) {
         Look::Onward(group, to) => go_on(net, search, group, to),
@@ -165,17 +183,22 @@ fn advance<'a, A: Allocator, N: Routes>(
     }
 }
 
-/// Goes over all walks that go on from the walk in hand: true if one of them is a loop, which is then in hand.
+/// Goes over all walks that go on from the current walk: true if one of them is a loop, which is
+/// then in hand.
 fn explore<'a, A: Allocator, N: Routes>(
     net: &'a N,
     search: &mut Search<'a, A>,
 ) -> Result<bool, NoMemory>
     requires marked { IsMarked (N.net net.now) search.old.marks.items }
-    requires hand { IsInHand (N.net net.now) search.old.marks.items search.old.start search.old.steps.items }
-    requires tried { IsTrail (N.net net.now) search.old.marks.items search.old.start search.old.steps.items search.old.before.items search.old.last }
+    requires hand { IsInHand (N.net net.now) search.old.marks.items
+        search.old.start search.old.steps.items }
+    requires tried { IsTrail (N.net net.now) search.old.marks.items
+        search.old.start search.old.steps.items search.old.before.items search.old.last }
     ensures start { search.new.start ≡ search.old.start }
-    ensures closed { IfOk result (λ closed. closed ≡ true → IsLoop (N.net net.now) search.new.start search.new.steps.items) }
-    ensures done { IfOk result (λ closed. closed ≡ false → IsEnd (N.net net.now) search.new.start search.old.marks.items search.new.marks.items) }
+    ensures closed { IfOk result (λ closed. closed ≡ true
+        → IsLoop (N.net net.now) search.new.start search.new.steps.items) }
+    ensures done { IfOk result (λ closed. closed ≡ false
+        → IsEnd (N.net net.now) search.new.start search.old.marks.items search.new.marks.items) }
 {
     loop {
         match advance(net, search)? {
@@ -196,10 +219,11 @@ fn start_at<'a, A: Allocator, N: Routes>(
     requires marked { IsMarked (N.net net.now) search.old.marks.items }
     requires none { NoneOpen search.old.marks.items }
     requires unseen { rank_in search.old.marks.items origin ≡ None }
-    ensures closed { IfOk result (λ closed. closed ≡ true → IsLoop (N.net net.now) search.new.start search.new.steps.items) }
-    ensures done { IfOk result (λ closed. closed ≡ false → IsEnd (N.net net.now) origin search.old.marks.items search.new.marks.items) }
+    ensures closed { IfOk result (λ closed. closed ≡ true
+        → IsLoop (N.net net.now) search.new.start search.new.steps.items) }
+    ensures done { IfOk result (λ closed. closed ≡ false
+        → IsEnd (N.net net.now) origin search.old.marks.items search.new.marks.items) }
 {
-    net.rules();
     search.start = origin;
     search.steps.clear();
     search.before.clear();
@@ -216,8 +240,10 @@ fn start_from<'a, A: Allocator, N: Routes>(
 ) -> Result<bool, NoMemory>
     requires place { place < (N.net net.now).exchanges }
     requires passing { IsPassing (N.net net.now) search.old.marks.items place }
-    ensures closed { IfOk result (λ closed. closed ≡ true → IsLoop (N.net net.now) search.new.start search.new.steps.items) }
-    ensures done { IfOk result (λ closed. closed ≡ false → IsPassing (N.net net.now) search.new.marks.items (place + 1)) }
+    ensures closed { IfOk result (λ closed. closed ≡ true
+        → IsLoop (N.net net.now) search.new.start search.new.steps.items) }
+    ensures done { IfOk result (λ closed. closed ≡ false
+        → IsPassing (N.net net.now) search.new.marks.items (place + 1)) }
 {
     let origin = net.exchange(place);
     match rank_at(&search.marks, origin) {
@@ -232,17 +258,19 @@ fn start_from<'a, A: Allocator, N: Routes>(
     }
 }
 
-/// Goes over all walks: true if one is a loop, which is then in hand. Each exchange is opened once and ranked once, however many walks pass it.
+/// Goes over all walks: true if one is a loop, which is then in hand. Each exchange is opened once
+/// and ranked once, however many walks pass it.
 pub fn pass<'a, A: Allocator, N: Routes>(
     net: &'a N,
     search: &mut Search<'a, A>,
 ) -> Result<bool, NoMemory>
     requires marked { IsMarked (N.net net.now) search.old.marks.items }
     requires none { NoneOpen search.old.marks.items }
-    ensures closed { IfOk result (λ closed. closed ≡ true → IsLoop (N.net net.now) search.new.start search.new.steps.items) }
-    ensures done { IfOk result (λ closed. closed ≡ false → IsPassed (N.net net.now) search.new.marks.items) }
+    ensures closed { IfOk result (λ closed. closed ≡ true
+        → IsLoop (N.net net.now) search.new.start search.new.steps.items) }
+    ensures done { IfOk result (λ closed. closed ≡ false
+        → IsPassed (N.net net.now) search.new.marks.items) }
 {
-    net.rules();
     for place in 0..net.exchanges() {
         if start_from(net, search, place)? {
             return Ok(true);

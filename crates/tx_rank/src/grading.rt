@@ -1,6 +1,7 @@
 // The grading of a plan.
 ghost use Rattle.std.specs.Prelude.{◌≡◌, ◌≢◌, ◌<◌, ℕ, length, [], None, IfOk, IfSome, IfNone};
 ghost use Rattle.std.specs.List.{AllByRecursion};
+ghost use Rattle.tx_plan.specs.Rules.{IsPlan};
 ghost use Rattle.tx_cert.specs.Certificate.{rank_at as ranked_at};
 ghost use Rattle.tx_rank.specs.Walks.{net_of};
 ghost use Rattle.tx_rank.specs.Findings.{IsTrueOf};
@@ -19,7 +20,7 @@ use tx_cert::Cert;
 use tx_plan::{CodeId, Plan};
 use tx_text::NoMemory;
 
-/// Tells the grade of a code, or adds what no limit and no spare number mends.
+/// Returns the grade of a code, or adds what no limit and no spare number mends.
 fn code_grade<A: Allocator + Copy>(
     alloc: A,
     plan: &Plan<A>,
@@ -28,6 +29,7 @@ fn code_grade<A: Allocator + Copy>(
     cert: &mut Cert<A>,
     findings: &mut Vec<Finding<A>, A>,
 ) -> Result<Option<Bounds>, NoMemory>
+    requires rules { IsPlan plan.now }
     requires code { code < length plan.now.codes }
     requires origins { AreOrigins plan.now origins.now }
     requires codes { cert.old.codes ≡ length plan.now.codes }
@@ -41,7 +43,6 @@ fn code_grade<A: Allocator + Copy>(
     ensures codes { cert.new.codes ≡ cert.old.codes }
     ensures exchanges { cert.new.exchanges ≡ cert.old.exchanges }
 {
-    plan.rules();
     let net = CodeRoutes {
         plan,
         origins,
@@ -56,9 +57,9 @@ fn code_grade<A: Allocator + Copy>(
     Ok(Some(code_bounds(plan, cert, code)))
 }
 
-/// Tells with which limits, and which spare numbers up to 15, some ranks certify the plan, and each
-/// of its codes alone; and if they certify the plan with none, what no limit and no spare number
-/// mends. `Err` is want of memory.
+/// Returns with which limits, and which spare numbers up to 15, some ranks certify the plan, and
+/// each of its codes alone; and if they certify the plan with none, what no limit and no spare
+/// number mends. `Err` means out of memory.
 pub fn grade<A: Allocator + Copy>(alloc: A, plan: &Plan<A>) -> Result<Grade<A>, NoMemory>
     // The grade of the plan says with which limits and spare numbers some ranks certify it, and so
     // for which no finding is true.
@@ -73,7 +74,6 @@ pub fn grade<A: Allocator + Copy>(alloc: A, plan: &Plan<A>) -> Result<Grade<A>, 
         → AllByRecursion (IsTrueOf plan.now limit spare) g.findings.items) }
     ensures listed { IfOk result (λ g. AreUnmended plan.now g.findings.items) }
 {
-    plan.rules();
     let origins = origins_of(alloc, plan)?;
     let mut cert = Cert::new(alloc, plan)?;
     let mut findings = pair_found(alloc, plan)?;
@@ -84,7 +84,7 @@ pub fn grade<A: Allocator + Copy>(alloc: A, plan: &Plan<A>) -> Result<Grade<A>, 
         None
     };
     for place in 0..plan.codes() {
-        let code = CodeId::at(place as u16);
+        let code = CodeId::of(place);
         let alone = code_grade(alloc, plan, &origins, code, &mut cert, &mut findings)?;
         together = both(together, alone);
         codes.push_reserved((code, alone));

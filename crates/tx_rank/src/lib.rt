@@ -1,9 +1,11 @@
-//! The ranking of a plan: a certificate that it is safe for a transit limit and a spare number, or what is wrong with it.
+//! The ranking of a plan: a certificate that it is safe for a transit limit and a spare number, or
+//! what is wrong with it.
 //!
-//! `rank` finds a certificate wherever there is one. Else it answers the ambiguous pair of codes, and for each code a loop, or a walk to each short list and
-//! one that is too long; the lists of the plan allow each walk.
+//! `rank` finds a certificate wherever there is one. Else it answers the ambiguous pair of codes,
+//! and for each code a loop, or a walk to each short list and one that is too long; the lists of
+//! the plan allow each walk.
 //!
-//! `grade` tells for which limits and spare numbers there is one.
+//! `grade` says for which limits and spare numbers there is one.
 //!
 //! ```
 //! /// Whether no call passes a transit, with no group to spare.
@@ -45,6 +47,6 @@ pub use grading::grade;
 pub use marks::is_marked;
 pub use plan_grade::Grade;
 pub use ranking::{Ranking, pair_found, rank};
-pub use reaching::reached;
+pub use reaching::{far, reached};
 pub use routes::Routes;
 pub use walk::{Steps, Walk};

@@ -7,14 +7,16 @@ use crate::mark::Mark;
 use crate::routes::Routes;
 use tx_plan::{ExchangeId, GroupId};
 
-/// A group leads to an exchange without a rank, or all lead to ranks, of which this is the greatest.
+/// A group leads to an exchange without a rank, or all lead to ranks, of which this is the
+/// greatest.
 #[derive(Clone, Copy)]
 pub enum Look {
     Onward(GroupId, ExchangeId),
     Settled(u16),
 }
 
-/// The list of an exchange, how many of its first groups were found to lead to ranks, and the greatest of these ranks.
+/// The list of an exchange, how many of its first groups were found to lead to ranks, and the
+/// greatest of these ranks.
 #[derive(Clone, Copy)]
 pub struct Tried<'a> {
     pub list: &'a [GroupId],
@@ -57,7 +59,6 @@ pub fn onward<N: Routes>(
     ensures leads { (N.net net.now).far result.0 exchange ≡ Some result.1 }
     ensures within { result.1 < (N.net net.now).exchanges }
 {
-    net.rules();
     let group = list[place];
     (group, net.far(group, exchange))
 }

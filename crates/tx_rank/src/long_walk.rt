@@ -32,7 +32,8 @@ fn lower<N: Routes>(
     rank: u16,
 ) -> Option<(GroupId, ExchangeId)>
     requires { length marks.now ≡ (N.net net.now).exchanges }
-    ensures { IsLower (N.net net.now) (rank_in marks.now) exchange ((N.net net.now).list exchange) rank result }
+    ensures { IsLower (N.net net.now) (rank_in marks.now) exchange
+        ((N.net net.now).list exchange) rank result }
 {
     let list = net.list(exchange);
     for i in 0..list.len() {
@@ -114,7 +115,6 @@ pub fn long_walk<A: Allocator + Copy, N: Routes>(
     requires { IsPassed (N.net net.now) marks.now }
     ensures { IfOk result (IsLongFound (N.net net.now) (rank_in marks.now) limit) }
 {
-    net.rules();
     for place in 0..net.exchanges() {
         let found = long_from(alloc, net, marks, place, limit)?;
         if found.is_some() {

@@ -5,7 +5,7 @@ use std::alloc::{Allocator, Global};
 use tx_plan::CodeId;
 
 /// With which limits and spare numbers a plan is certified, and each of its codes.
-#[derive(Drop)]
+#[derive(Debug, Drop)]
 pub struct Grade<A: Allocator = Global> {
     /// Exactly with a limit that is no smaller and a spare number that is no greater. None where it
     /// is certified with no numbers.

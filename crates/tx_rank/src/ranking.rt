@@ -20,11 +20,12 @@ use tx_text::NoMemory;
 use tx_trie::CodeTrie;
 
 /// What the ranking of a plan comes to.
-#[derive(Drop)]
+#[derive(Debug, Drop)]
 pub enum Ranking<A: Allocator = Global> {
     /// A certificate, by which the plan is certified.
     Found(Cert<A>),
-    /// What is wrong with the plan: the ambiguous pair, and for each code a loop, or a walk to each short exchange and then a long one.
+    /// What is wrong with the plan: the ambiguous pair, and for each code a loop, or a walk to each
+    /// short exchange and then a long one.
     Fails(Vec<Finding<A>, A>),
 }
 
@@ -33,7 +34,8 @@ pub fn pair_found<A: Allocator + Copy>(
     alloc: A,
     plan: &Plan<A>,
 ) -> Result<Vec<Finding<A>, A>, NoMemory>
-    ensures { IfOk result (λ findings. findings.items ≡ pair_findings (ambiguous_of plan.now.codes)) }
+    ensures { IfOk result (λ findings. findings.items
+        ≡ pair_findings (ambiguous_of plan.now.codes)) }
 {
     let mut findings = Vec::new(alloc);
     let trie = CodeTrie::build(alloc, plan)?;
@@ -55,8 +57,10 @@ pub fn rank_codes<A: Allocator + Copy>(
     ensures listed { IfOk result (λ _. AreFindings plan.now limit spare findings.new.items) }
     ensures codes { IfOk result (λ cert. cert.codes ≡ length plan.now.codes) }
     ensures exchanges { IfOk result (λ cert. cert.exchanges ≡ length plan.now.exchanges) }
-    ensures heights { IfOk result (λ cert. findings.new.items ≡ [] → AreHeights plan.now (ranks_of cert)) }
-    ensures certified { IfOk result (λ cert. findings.new.items ≡ [] → IsCertified plan.now (ranks_of cert) limit spare) }
+    ensures heights { IfOk result (λ cert. findings.new.items ≡ []
+        → AreHeights plan.now (ranks_of cert)) }
+    ensures certified { IfOk result (λ cert. findings.new.items ≡ []
+        → IsCertified plan.now (ranks_of cert) limit spare) }
 {
     let origins = origins_of(alloc, plan)?;
     let mut cert = Cert::new(alloc, plan)?;
@@ -64,7 +68,8 @@ pub fn rank_codes<A: Allocator + Copy>(
     Ok(cert)
 }
 
-/// The same, into a certificate without ranks, where it is known at which exchanges calls may start.
+/// The same, into a certificate without ranks, where it is known at which exchanges calls may
+/// start.
 fn rank_each<A: Allocator + Copy>(
     alloc: A,
     plan: &Plan<A>,
@@ -77,11 +82,11 @@ fn rank_each<A: Allocator + Copy>(
     requires origins { AreOrigins plan.now origins.now }
     requires blank { cert.old ≡ no_ranks_for plan.now }
     requires pair { findings.old.items ≡ pair_findings (ambiguous_of plan.now.codes) }
-    ensures { IfOk result (λ _. IsRankedBelow plan.now limit spare (length plan.now.codes) cert.new findings.new.items) }
+    ensures { IfOk result (λ _. IsRankedBelow plan.now limit spare
+        (length plan.now.codes) cert.new findings.new.items) }
 {
-    plan.rules();
     for place in 0..plan.codes() {
-        let code = CodeId::at(place as u16);
+        let code = CodeId::of(place);
         let net = CodeRoutes {
             plan,
             origins,
@@ -92,8 +97,9 @@ fn rank_each<A: Allocator + Copy>(
     Ok(())
 }
 
-/// Ranks the exchanges for each code by their heights above its home, for at most `limit` transits (0 to 62, ITU-T F.68) and `spare` groups to spare (0 to
-/// 15), or tells what is wrong. `Err` is want of memory.
+/// Ranks the exchanges for each code by their heights above its home, for at most `limit` transits
+/// (0 to 62, ITU-T F.68) and `spare` groups to spare (0 to 15), or says what is wrong. `Err` means
+/// out of memory.
 pub fn rank<A: Allocator + Copy>(
     alloc: A,
     plan: &Plan<A>,
@@ -103,11 +109,15 @@ pub fn rank<A: Allocator + Copy>(
     requires limit { limit ≤ 62 }
     requires spare { spare ≤ 15 }
 
-    // A certificate is found exactly where no finding is true, and so wherever any certificate certifies the plan.
-    ensures found { IfOk result (λ r. IsFound r ↔ ((f : Finding A) → IsTrueOf plan.now limit spare f → ⊥)) }
-    ensures wherever { IfOk result (λ r. (ranks : Ranks) → IsCertified plan.now ranks limit spare → IsFound r) }
+    // A certificate is found exactly where no finding is true, and so wherever any certificate
+    // certifies the plan.
+    ensures found { IfOk result (λ r. IsFound r
+        ↔ ((f : Finding A) → IsTrueOf plan.now limit spare f → ⊥)) }
+    ensures wherever { IfOk result (λ r. (ranks : Ranks)
+        → IsCertified plan.now ranks limit spare → IsFound r) }
 
-    ensures certified { IfOk result (OnFound (λ cert. IsCertified plan.now (ranks_of cert) limit spare)) }
+    ensures certified { IfOk result
+        (OnFound (λ cert. IsCertified plan.now (ranks_of cert) limit spare)) }
     ensures heights { IfOk result (OnFound (λ cert. AreHeights plan.now (ranks_of cert))) }
     ensures fits { IfOk result (OnFound (IsCertificateOf plan.now)) }
 

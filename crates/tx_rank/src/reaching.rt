@@ -22,7 +22,6 @@ pub fn reached<A: Allocator + Copy>(
     requires { code < length plan.now.codes }
     ensures { IfOk result (λ marks. AreReached (net_of plan.now code) marks.items) }
 {
-    plan.rules();
     let mut seen = origins(alloc, plan, code)?;
     let mut opened = vec![in alloc; false; plan.exchanges()]?;
     while let Some(exchange) = next(&seen, &opened) {
@@ -41,10 +40,9 @@ fn origins<A: Allocator + Copy>(
     requires { code < length plan.now.codes }
     ensures { IfOk result (λ marks. AreSeen (net_of plan.now code) marks.items) }
 {
-    plan.rules();
     let mut marks = Vec::with_capacity(alloc, plan.exchanges())?;
     for place in 0..plan.exchanges() {
-        marks.push_reserved(plan.is_origin_for(ExchangeId::at(place as u16), code));
+        marks.push_reserved(plan.is_origin_for(ExchangeId::of(place), code));
     }
     Ok(marks)
 }
@@ -60,11 +58,13 @@ fn is_waiting(seen: &[bool], opened: &[bool], exchange: ExchangeId) -> bool
 fn next(seen: &[bool], opened: &[bool]) -> Option<ExchangeId>
     requires few { length seen.now < 65536 }
     requires long { length seen.now ≡ length opened.now }
-    ensures some { IfSome result (λ x. (x < length seen.now) × (is_marked seen.now x ≡ true) × (is_marked opened.now x ≡ false)) }
-    ensures none { IfNone result ((x : ℕ) → is_marked seen.now x ≡ true → is_marked opened.now x ≡ true) }
+    ensures some { IfSome result (λ x. (x < length seen.now)
+        × (is_marked seen.now x ≡ true) × (is_marked opened.now x ≡ false)) }
+    ensures none { IfNone result ((x : ℕ) → is_marked seen.now x ≡ true
+        → is_marked opened.now x ≡ true) }
 {
     for place in 0..seen.len() {
-        let exchange = ExchangeId::at(place as u16);
+        let exchange = ExchangeId::of(place);
         if is_waiting(seen, opened, exchange) {
             return Some(exchange);
         }
@@ -73,7 +73,7 @@ fn next(seen: &[bool], opened: &[bool]) -> Option<ExchangeId>
 }
 
 /// Where a group in the list of an exchange leads.
-fn far<A: Allocator>(
+pub fn far<A: Allocator>(
     plan: &Plan<A>,
     code: CodeId,
     exchange: ExchangeId,
@@ -84,7 +84,6 @@ fn far<A: Allocator>(
     ensures leads { other_end plan.now group exchange ≡ Some result }
     ensures within { result < length plan.now.exchanges }
 {
-    plan.rules();
     match plan.other_end(group, exchange) {
         Some(to) => to,
         None => unreachable!(),
@@ -100,7 +99,6 @@ fn open<A: Allocator>(plan: &Plan<A>, code: CodeId, exchange: ExchangeId, seen: 
     ensures stays { StaysSeen seen.old seen.new }
     ensures leads { LeadsToSeen (net_of plan.now code) seen.new exchange }
 {
-    plan.rules();
     if exchange == plan.home(code) {
         return;
     }

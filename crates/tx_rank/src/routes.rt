@@ -41,7 +41,6 @@ pub trait Routes {
         requires { Among group ((net self.now).list exchange) }
         ensures { (net self.now).far group exchange ≡ Some result };
 
-    /// What always holds of it. Does nothing: its callers' proofs name it.
-    fn rules(&self)
-        ensures { IsNet (net self.now) };
+    // It obeys the rules of a plan.
+    ghost is_net: { (routes : Self) → IsNet (net routes) };
 }

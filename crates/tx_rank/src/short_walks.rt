@@ -15,11 +15,13 @@ use std::alloc::Allocator;
 use tx_plan::{CodeId, ExchangeId};
 use tx_text::NoMemory;
 
-/// Whether a walk comes to the exchange, which is not the home and may try no more than this many groups.
+/// Whether a walk comes to the exchange, which is not the home and may try no more than this many
+/// groups.
 fn is_short<N: Routes>(net: &N, marks: &[Mark], exchange: ExchangeId, spare: u8) -> bool
     requires { exchange < length marks.now }
     ensures yes { result ≡ true → IsShortAt (N.net net.now) (rank_in marks.now) spare exchange }
-    ensures not_so { result ≡ false → IsShortAt (N.net net.now) (rank_in marks.now) spare exchange → ⊥ }
+    ensures not_so { result ≡ false → IsShortAt (N.net net.now) (rank_in marks.now) spare exchange
+        → ⊥ }
 {
     if rank_at(marks, exchange).is_none() {
         return false;
@@ -90,7 +92,9 @@ fn add_short<A: Allocator + Copy, N: Routes>(
     requires place { place < (N.net net.now).exchanges }
     requires passed { IsPassed (N.net net.now) marks.now }
     requires linked { IsLinked (N.net net.now) (rank_in marks.now) links.now }
-    ensures { IfOk result (λ _. (first : List (Finding A)) → AddsBelow (N.net net.now) code spare place first findings.old.items → AddsBelow (N.net net.now) code spare (place + 1) first findings.new.items) }
+    ensures { IfOk result (λ _. (first : List (Finding A))
+        → AddsBelow (N.net net.now) code spare place first findings.old.items
+        → AddsBelow (N.net net.now) code spare (place + 1) first findings.new.items) }
 {
     let exchange = net.exchange(place);
     if !is_short(net, marks, exchange, spare) {
@@ -111,9 +115,9 @@ pub fn add_shorts<A: Allocator + Copy, N: Routes>(
     findings: &mut Vec<Finding<A>, A>,
 ) -> Result<(), NoMemory>
     requires { IsPassed (N.net net.now) marks.now }
-    ensures { IfOk result (λ _. AddsShorts (N.net net.now) code spare findings.old.items findings.new.items) }
+    ensures { IfOk result
+        (λ _. AddsShorts (N.net net.now) code spare findings.old.items findings.new.items) }
 {
-    net.rules();
     if !has_short(net, marks, spare) {
         return Ok(());
     }

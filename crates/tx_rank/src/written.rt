@@ -24,7 +24,8 @@ fn put_rank<A: Allocator, N: Routes>(
     requires exchanges { cert.old.exchanges ≡ (N.net net.now).exchanges }
     requires blank { ranked_at cert.old code place ≡ None }
     ensures here { ranked_at cert.new code place ≡ rank_in marks.now place }
-    ensures others { (d x : ℕ) → (d ≡ code → x ≡ place → ⊥) → ranked_at cert.new d x ≡ ranked_at cert.old d x }
+    ensures others { (d x : ℕ) → (d ≡ code → x ≡ place → ⊥)
+        → ranked_at cert.new d x ≡ ranked_at cert.old d x }
     ensures codes { cert.new.codes ≡ cert.old.codes }
     ensures exchanges { cert.new.exchanges ≡ cert.old.exchanges }
 {

@@ -7,7 +7,7 @@ use Rattle.std.specs.Option.{option_map_or, option_and_then}
 use Rattle.std.specs.List.{list_any}
 use Rattle.tx_plan.specs.Plan.{Plan, Group as Row}
 use Rattle.tx_plan.specs.Circuits.{far_end}
-use Rattle.tx_state.proofs.Lists.{any_mem}
+use Rattle.tx_machine.proofs.Lists.{any_mem}
 use Rattle.tx_rank.proofs.Ways.{all_among}
 use Rattle.tx_rank.proofs.Looks.{among_at}
 use Rattle.tx_risk.specs.declared.cut.Cut.{Cut}

@@ -10,31 +10,30 @@ use Rattle.tx_plan.specs.Rules.{IsPlan}
 use Rattle.tx_plan.specs.Codes.{code_of}
 use Rattle.tx_plan.specs.Routes.{is_barred}
 use Rattle.tx_plan.proofs.Among.{filter_among}
-use Rattle.tx_entries.specs.declared.circuit.Circuit.{Circuit}
-use Rattle.tx_entries.specs.declared.line.Line.{Line}
-use Rattle.tx_state.specs.declared.event.Event.{Event}
-use Rattle.tx_state.specs.declared.event.Event.TheVariants.{Key, Route, Confirm, Clear, Released, Fail, Restore, Block, Unblock, CircuitOut, CircuitIn, LineFault, LineMend, LineAway, LineBack}
-use Rattle.tx_state.specs.declared.phase.Phase.{Phase}
-use Rattle.tx_state.specs.declared.phase.Phase.TheVariants.{Standing, Calling, Connected}
-use Rattle.tx_state.specs.declared.service.Service.{Service}
-use Rattle.tx_state.specs.declared.refusal.Refusal.{Refusal}
-use Rattle.tx_state.specs.declared.reply.Reply.{Reply}
-use Rattle.tx_state.specs.Call.{Call, call_of, place_of, is_first}
-use Rattle.tx_state.specs.State.{State}
-use Rattle.tx_state.specs.InUse.{uses_group, choice}
-use Rattle.tx_state.specs.Lines.{line_answer}
-use Rattle.tx_state.specs.Refusals.{refusal}
-use Rattle.tx_state.specs.declared.service.Service.TheVariants.{Na}
-use Rattle.tx_state.specs.Ending.{answered}
-use Rattle.tx_state.specs.Routing.{at_line, at_trunk, line_of, routed_for}
-use Rattle.tx_state.specs.Confirming.{confirmed_by, rival, confirmed}
-use Rattle.tx_state.specs.Step.{with_call, accepted, counted, unless_refused, step}
-use Rattle.tx_state.specs.Runs.{run, InEveryState}
-use Rattle.tx_state.specs.State.{opening}
-use Rattle.tx_state.specs.Invariant.{Holds}
-use Rattle.tx_state.proofs.Invariant.{inv_opening}
-use Rattle.tx_state.proofs.Steps.{step_keeps}
-use Rattle.tx_state.proofs.Playing.{shut_out}
+use Rattle.tx_plan.specs.declared.ids.Circuit.{Circuit}
+use Rattle.tx_plan.specs.declared.ids.Line.{Line}
+use Rattle.tx_machine.specs.declared.event.Event.{Event}
+use Rattle.tx_machine.specs.declared.event.Event.TheVariants.{Key, Route, Confirm, Clear, Released, Fail, Restore, Block, Unblock, CircuitOut, CircuitIn, LineFault, LineMend, LineAway, LineBack}
+use Rattle.tx_machine.specs.declared.open_call.Phase.{Phase}
+use Rattle.tx_machine.specs.declared.open_call.Phase.TheVariants.{Standing, Calling, Connected}
+use Rattle.tx_machine.specs.declared.cause.Service.{Service}
+use Rattle.tx_machine.specs.declared.refusal.Refusal.{Refusal}
+use Rattle.tx_machine.specs.declared.reply.Reply.{Reply}
+use Rattle.tx_machine.specs.Call.{Call, call_of, place_of, is_first}
+use Rattle.tx_machine.specs.State.{State, opening}
+use Rattle.tx_machine.specs.InUse.{uses_group, choice}
+use Rattle.tx_machine.specs.Lines.{line_answer}
+use Rattle.tx_machine.specs.Refusals.{refusal}
+use Rattle.tx_machine.specs.declared.cause.Service.TheVariants.{Na}
+use Rattle.tx_machine.specs.Ending.{answered}
+use Rattle.tx_machine.specs.Routing.{at_line, at_trunk, line_of, routed_for}
+use Rattle.tx_machine.specs.Confirming.{confirmed_by, rival, confirmed}
+use Rattle.tx_machine.specs.Step.{with_call, accepted, counted, unless_refused, step}
+use Rattle.tx_machine.specs.Runs.{run, InEveryState}
+use Rattle.tx_machine.specs.inner.Invariant.{Holds}
+use Rattle.tx_machine.proofs.Invariant.{inv_opening}
+use Rattle.tx_machine.proofs.Steps.{step_keeps}
+use Rattle.tx_machine.proofs.Playing.{shut_out}
 use Rattle.tx_risk.specs.Served.{NoneOnFailed}
 use Rattle.tx_risk.proofs.Clear.{step_clear}
 

@@ -6,7 +6,7 @@ use Rattle.tx_plan.proofs.Among.{among_filter}
 use Rattle.tx_rank.proofs.Looks.{among_at}
 use Rattle.tx_risk.specs.Risks.{Risk, left_of}
 
--- the place of what stands in a list
+-- the place of what is in a list
 pub place_among : {A : Type 0} (x : A) (xs : List A) → Among x xs
     → (i : ℕ) × (slice_get xs i ≡ Some x)
 place_among x [] m = absurd m

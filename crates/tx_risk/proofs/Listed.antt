@@ -6,17 +6,17 @@ use Rattle.tx_plan.specs.Codes.{code_of}
 use Rattle.tx_plan.specs.Routes.{route_list}
 use Rattle.tx_plan.specs.Among.{Among}
 use Rattle.tx_plan.proofs.Among.{among_filter}
-use Rattle.tx_entries.specs.declared.circuit.Circuit.{Circuit}
-use Rattle.tx_state.specs.declared.event.Event.{Event}
-use Rattle.tx_state.specs.declared.hop.Hop.{Hop}
-use Rattle.tx_state.specs.declared.phase.Phase.TheVariants.{Calling}
-use Rattle.tx_state.specs.Call.{Call, last_exchange, start_of, place_of}
-use Rattle.tx_state.specs.State.{State}
-use Rattle.tx_state.specs.Step.{step}
-use Rattle.tx_state.specs.Passed.{Joins}
-use Rattle.tx_state.specs.Invariant.{Holds}
-use Rattle.tx_state.proofs.Changes.{not_standing}
-use Rattle.tx_state.proofs.Moves.{Moves, stays, connects, seizes_one, goes_on, falls_back, IsNew, came}
+use Rattle.tx_plan.specs.declared.ids.Circuit.{Circuit}
+use Rattle.tx_machine.specs.declared.event.Event.{Event}
+use Rattle.tx_machine.specs.declared.open_call.Hop.{Hop}
+use Rattle.tx_machine.specs.declared.open_call.Phase.TheVariants.{Calling}
+use Rattle.tx_machine.specs.Call.{Call, last_exchange, start_of, place_of}
+use Rattle.tx_machine.specs.State.{State}
+use Rattle.tx_machine.specs.Step.{step}
+use Rattle.tx_machine.specs.Passed.{Joins}
+use Rattle.tx_machine.specs.inner.Invariant.{Holds}
+use Rattle.tx_machine.proofs.Changes.{not_standing}
+use Rattle.tx_machine.proofs.Moves.{Moves, stays, connects, seizes_one, goes_on, falls_back, IsNew, came}
 use Rattle.tx_rank.specs.Walks.{Goes, end_of}
 use Rattle.tx_risk.specs.Risks.{Risk, net_without}
 

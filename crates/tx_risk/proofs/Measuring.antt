@@ -10,7 +10,7 @@ use Rattle.tx_plan.specs.Among.{Among}
 use Rattle.tx_rank.specs.Walks.{Net, AllDiffer, Goes, end_of, passed}
 use Rattle.tx_rank.specs.Nets.{IsNet}
 use Rattle.tx_rank.proofs.Unmended.{all_distinct}
-use Rattle.tx_state.proofs.Lists.{any_mem}
+use Rattle.tx_machine.proofs.Lists.{any_mem}
 use Rattle.tx_trie.proofs.Stepping.{set_same, set_other}
 use Rattle.tx_risk.specs.declared.left.Goal.{Goal}
 use Rattle.tx_risk.specs.inner.Nearest.{IsGoal, IsWayTo, distance_in, IsAtDistance, AreMeasured, NoneAt, AreNearest}

@@ -11,34 +11,34 @@ use Rattle.tx_plan.specs.Lines.{is_line}
 use Rattle.tx_plan.specs.Routes.{route_list, is_barred}
 use Rattle.tx_plan.specs.Among.{Among}
 use Rattle.tx_plan.proofs.Among.{filter_among, among_left, among_map}
-use Rattle.tx_entries.specs.declared.circuit.Circuit.{Circuit}
-use Rattle.tx_entries.specs.declared.line.Line.{Line}
-use Rattle.tx_state.specs.declared.event.Event.{Event}
-use Rattle.tx_state.specs.declared.event.Event.TheVariants.{Key, Route, Confirm, Clear, Released, Fail, Restore, Block, Unblock, CircuitOut, CircuitIn, LineFault, LineMend, LineAway, LineBack}
-use Rattle.tx_state.specs.declared.hop.Hop.{Hop}
-use Rattle.tx_state.specs.declared.phase.Phase.{Phase}
-use Rattle.tx_state.specs.declared.phase.Phase.TheVariants.{Standing, Calling, Connected}
-use Rattle.tx_state.specs.declared.service.Service.{Service}
-use Rattle.tx_state.specs.declared.service.Service.TheVariants.{Occ, Np, Der, Abs, Na}
-use Rattle.tx_state.specs.declared.refusal.Refusal.{Refusal}
-use Rattle.tx_state.specs.declared.reply.Reply.{Reply}
-use Rattle.tx_state.specs.declared.reply.Reply.TheVariants.{Answered}
-use Rattle.tx_state.specs.Call.{Call, call_of, start_of, place_of, is_first, circuit_called}
-use Rattle.tx_state.specs.State.{State, opening}
-use Rattle.tx_state.specs.InUse.{circuits_carried, circuits_used, first_free, choice, seizes_from}
-use Rattle.tx_state.specs.Lines.{is_engaged, line_answer}
-use Rattle.tx_state.specs.Refusals.{refusal}
-use Rattle.tx_state.specs.Ending.{answered}
-use Rattle.tx_state.specs.Routing.{at_line, at_trunk, line_of, routed_for}
-use Rattle.tx_state.specs.Confirming.{confirmed_by, rival, confirmed, far_of}
-use Rattle.tx_state.specs.Step.{with_call, accepted, counted, unless_refused, step}
-use Rattle.tx_state.specs.Runs.{run, state_after, OfEveryEvent}
-use Rattle.tx_state.specs.Excused.{HadCollided, IsNcByCollision}
-use Rattle.tx_state.specs.Invariant.{Holds}
-use Rattle.tx_state.proofs.Lists.{find_mem, none_any}
-use Rattle.tx_state.proofs.Uses.{first_in-none}
-use Rattle.tx_state.proofs.Invariant.{inv_opening}
-use Rattle.tx_state.proofs.Steps.{step_keeps}
+use Rattle.tx_plan.specs.declared.ids.Circuit.{Circuit}
+use Rattle.tx_plan.specs.declared.ids.Line.{Line}
+use Rattle.tx_machine.specs.declared.event.Event.{Event}
+use Rattle.tx_machine.specs.declared.event.Event.TheVariants.{Key, Route, Confirm, Clear, Released, Fail, Restore, Block, Unblock, CircuitOut, CircuitIn, LineFault, LineMend, LineAway, LineBack}
+use Rattle.tx_machine.specs.declared.open_call.Hop.{Hop}
+use Rattle.tx_machine.specs.declared.open_call.Phase.{Phase}
+use Rattle.tx_machine.specs.declared.open_call.Phase.TheVariants.{Standing, Calling, Connected}
+use Rattle.tx_machine.specs.declared.cause.Service.{Service}
+use Rattle.tx_machine.specs.declared.cause.Service.TheVariants.{Occ, Np, Der, Abs, Na}
+use Rattle.tx_machine.specs.declared.refusal.Refusal.{Refusal}
+use Rattle.tx_machine.specs.declared.reply.Reply.{Reply}
+use Rattle.tx_machine.specs.declared.reply.Reply.TheVariants.{Answered}
+use Rattle.tx_machine.specs.Call.{Call, call_of, start_of, place_of, is_first, circuit_called}
+use Rattle.tx_machine.specs.State.{State, opening}
+use Rattle.tx_machine.specs.InUse.{circuits_carried, circuits_used, first_free, choice, seizes_from}
+use Rattle.tx_machine.specs.Lines.{is_engaged, line_answer}
+use Rattle.tx_machine.specs.Refusals.{refusal}
+use Rattle.tx_machine.specs.Ending.{answered}
+use Rattle.tx_machine.specs.Routing.{at_line, at_trunk, line_of, routed_for}
+use Rattle.tx_machine.specs.Confirming.{confirmed_by, rival, confirmed, far_of}
+use Rattle.tx_machine.specs.Step.{with_call, accepted, counted, unless_refused, step}
+use Rattle.tx_machine.specs.Runs.{run, state_after, OfEveryEvent}
+use Rattle.tx_machine.specs.Excused.{HadCollided, IsNcByCollision}
+use Rattle.tx_machine.specs.inner.Invariant.{Holds}
+use Rattle.tx_machine.proofs.Lists.{find_mem, none_any}
+use Rattle.tx_machine.proofs.Uses.{first_in-none}
+use Rattle.tx_machine.proofs.Invariant.{inv_opening}
+use Rattle.tx_machine.proofs.Steps.{step_keeps}
 use Rattle.tx_risk.specs.Risks.{Risk, left_of}
 use Rattle.tx_risk.specs.Served.{OfRouted, StartsUncut, OutsideFree, IsClear, AllDown, AllFailed, NoneOnFailed, KeyedSinceAreClear, KeyedSinceGetThrough}
 use Rattle.tx_risk.proofs.Ways.{no_dead_end}

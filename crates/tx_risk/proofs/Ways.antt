@@ -8,7 +8,7 @@ use Rattle.tx_plan.specs.Among.{Among}
 use Rattle.tx_plan.proofs.Among.{among_filter, filter_among}
 use Rattle.tx_rank.specs.Walks.{Net, AllDiffer, Goes, end_of, passed, IsShort}
 use Rattle.tx_rank.proofs.Ways.{once_cons}
-use Rattle.tx_state.proofs.Steps.{all_mem}
+use Rattle.tx_machine.proofs.Steps.{all_mem}
 use Rattle.tx_risk.specs.Risks.{Risk, left_of, without, net_without, IsDeadEnd, IsCut, IsUncut, LeavesSome, LeadsHome, IsServed}
 
 pub is_among : (y : ℕ) (xs : List ℕ) → Among y xs ⊎ (Among y xs → ⊥)

@@ -31,7 +31,7 @@ is_asked p o code x =
     is_origin_for p x code && (not (fails_at o x) && not (fails_at o (home_of p code)))
 
 module _ {A : Type 0} where
-  -- WHAT IS CUT OFF: where calls start, and a shortest way from there to a dead end; stray, if a
+  -- What is cut off: where calls start, and a shortest way from there to a dead end; stray, if a
   -- way home is left too.
   pub record IsCutAs (n : Net) (o : Outage) (code : ℕ) (c : Cut A) : Type 0 where
     pub outage : c.outage ≡ o
@@ -41,6 +41,7 @@ module _ {A : Type 0} where
         → length c.walk.steps ≤ length steps
     pub stray : c.stray ≡ true ↔ LeadsHome n c.walk.start
 
+  -- where the calls start that are cut off
   abbrev pub start_at : Cut A → ℕ
   start_at c = c.walk.start
 
@@ -65,7 +66,7 @@ module _ {A : Type 0} where
   abbrev pub AreCutsOf : Plan → List NamedRisk → Outage → List (Cut A) → Type 0
   AreCutsOf p risks o cuts = AreCutsBelow p (risk_of p risks o) o (length p.codes) cuts
 
--- ALL OUTAGES, in order: the groups, the exchanges, the named risks
+-- All outages, in order: the groups, the exchanges, the named risks
 abbrev pub outage_at : Plan → ℕ → Outage
 outage_at p i =
     if nat_lt i (length p.groups) then Group i
@@ -84,6 +85,6 @@ module _ {A : Type 0} where
       (front : List (Cut A)) × (last : List (Cut A)) × (cuts ≡ front ++ last)
       × AreCutsOfFirst p risks i front × AreCutsOf p risks (outage_at p i) last
 
-  -- THE ANSWER: what each outage cuts off
+  -- The answer: what each outage cuts off
   abbrev pub AreAllCuts : Plan → List NamedRisk → List (Cut A) → Type 0
   AreAllCuts p risks cuts = AreCutsOfFirst p risks (outages p risks) cuts

@@ -30,11 +30,12 @@ without risk n = record {
   is_origin = n.is_origin;
 }
 
+-- the network of a plan for one code, without them
 abbrev pub net_without : Plan → Risk → ℕ → Net
 net_without p risk code = without risk (net_of p code)
 
--- A DEAD END: the steps lead from x by the lists to an exchange other than the home, and nothing
--- stands in its list.
+-- A dead end: the steps lead from x by the lists to an exchange other than the home, and nothing
+-- is in its list.
 pub record IsDeadEnd (n : Net) (x : ℕ) (steps : List (ℕ × ℕ)) : Type 0 where
   pub goes : Goes n x steps
   pub away : end_of x steps ≢ n.home
@@ -55,12 +56,13 @@ LeavesSome p ranks risk code =
     (x r : ℕ) → ranks code x ≡ Some r → x ≢ (net_of p code).home
     → (g : ℕ) × Among g (route_list p x code) × (risk g ≡ false)
 
--- SERVED: each way from x, by the groups that are left, can go on to the home.
+-- some way from x leads home
 pub record LeadsHome (n : Net) (x : ℕ) : Type 0 where
   pub steps : List (ℕ × ℕ)
   pub goes : Goes n x steps
   pub home : end_of x steps ≡ n.home
 
+-- Served: each way from x, by the groups that are left, can go on to the home.
 abbrev pub IsServed : Plan → Risk → (code x : ℕ) → Type 0
 IsServed p risk code x =
     (steps : List (ℕ × ℕ)) → Goes (net_without p risk code) x steps

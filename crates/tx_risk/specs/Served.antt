@@ -6,17 +6,16 @@ use Rattle.tx_plan.specs.Plan.{Plan}
 use Rattle.tx_plan.specs.Codes.{code_of}
 use Rattle.tx_plan.specs.Routes.{route_list}
 use Rattle.tx_plan.specs.Among.{Among}
-use Rattle.tx_state.specs.declared.event.Event.{Event}
-use Rattle.tx_state.specs.declared.reply.Reply.{Reply}
-use Rattle.tx_state.specs.Call.{Call, call_of, start_of, place_of}
-use Rattle.tx_state.specs.State.{State, opening}
-use Rattle.tx_state.specs.InUse.{is_down, first_free, uses_group}
-use Rattle.tx_state.specs.Runs.{run, state_after}
-use Rattle.tx_state.specs.Step.{step}
-use Rattle.tx_state.specs.Excused.{routed_call, IsNcByCollision}
+use Rattle.tx_machine.specs.declared.event.Event.{Event}
+use Rattle.tx_machine.specs.declared.reply.Reply.{Reply}
+use Rattle.tx_machine.specs.Call.{Call, call_of, start_of, place_of}
+use Rattle.tx_machine.specs.State.{State, opening}
+use Rattle.tx_machine.specs.InUse.{is_down, first_free, uses_group}
+use Rattle.tx_machine.specs.Runs.{run, state_after}
+use Rattle.tx_machine.specs.Step.{step}
+use Rattle.tx_machine.specs.Excused.{routed_call, IsNcByCollision}
 use Rattle.tx_risk.specs.Risks.{Risk, IsUncut}
 
--- THE CALL THAT IS ROUTED
 -- it holds of the call that the event routes, if there is one
 abbrev pub OfRouted : State → Event → (Call → Type 0) → Type 0
 OfRouted s e Holds =
@@ -42,10 +41,11 @@ OutsideFree p risk s c =
 abbrev pub IsClear : Risk → Call → Type 0
 IsClear risk c = (g : ℕ) → risk g ≡ true → uses_group g c ≡ false
 
--- WHAT IS DOWN
+-- all groups of the risk are down
 abbrev pub AllDown : Risk → State → Type 0
 AllDown risk s = (g : ℕ) → risk g ≡ true → is_down s g ≡ true
 
+-- all of them are failed
 abbrev pub AllFailed : Risk → State → Type 0
 AllFailed risk s = (g : ℕ) → risk g ≡ true → set.contains s.failed g ≡ true
 

@@ -16,7 +16,7 @@ module _ {A : Type 0} where
   OnTried Holds (Tried cuts) = Holds cuts.items
   OnTried Holds (Ungraded grade) = Unit {0}
 
-  -- it holds of what is told in place of a grade, if the plan has none
+  -- it holds of what is reported in place of a grade, if the plan has none
   abbrev pub OnUngraded : (Grade A → Type 0) → Survival A → Type 0
   OnUngraded Holds (Tried cuts) = Unit {0}
   OnUngraded Holds (Ungraded grade) = Holds grade

@@ -6,7 +6,7 @@ use tx_rank::Walk;
 
 /// What fails, and where calls for a code start that may not get through then, with a shortest walk
 /// from there to an exchange where no group is left. Stray, if a way home is left too.
-#[derive(Drop)]
+#[derive(Debug, Drop)]
 pub struct Cut<A: Allocator = Global> {
     pub outage: Outage,
     pub code: CodeId,

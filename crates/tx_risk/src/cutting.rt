@@ -1,5 +1,6 @@
 // From where a risk cuts off a code.
 ghost use Rattle.std.specs.Prelude.{◌≡◌, ◌<◌, ◌+◌, List, length, IfOk};
+ghost use Rattle.tx_plan.specs.Rules.{IsPlan};
 ghost use Rattle.tx_rank.specs.Judged.{AreOrigins};
 ghost use Rattle.tx_risk.specs.Outages.{AreCutsOfCode, is_asked, fails_at};
 ghost use Rattle.tx_risk.specs.declared.cut.Cut.{Cut};
@@ -23,7 +24,7 @@ pub fn is_failing(outage: &Outage, exchange: ExchangeId) -> bool
 {
     match outage {
         Outage::Exchange(failing) => exchange == *failing,
-        _ => false,
+        Outage::Group(_) | Outage::Named(_) => false,
     }
 }
 
@@ -38,6 +39,7 @@ fn add_cut<A: Allocator + Copy>(
     place: usize,
     cuts: &mut Vec<Cut<A>, A>,
 ) -> Result<(), NoMemory>
+    requires rules { IsPlan left.now.plan.now }
     requires code { left.now.code < length left.now.plan.now.codes }
     requires place { place < length left.now.plan.now.exchanges }
     requires origins { AreOrigins left.now.plan.now origins.now }
@@ -51,7 +53,6 @@ fn add_cut<A: Allocator + Copy>(
         → Adds (AreCutsBefore left.now.plan.now (marked left.now.gone.now) outage.now left.now.code
         (place + 1)) first cuts.new.items) }
 {
-    left.plan.rules();
     let exchange = ExchangeId::of(place);
     if !is_asked(left, origins, outage, exchange) {
         return Ok(());
@@ -100,7 +101,6 @@ pub fn add_cuts<A: Allocator + Copy>(
 {
     let dead_ends = distances_to(alloc, left, Goal::DeadEnd)?;
     let homes = distances_to(alloc, left, Goal::Home)?;
-    left.plan.rules();
     for place in 0..left.plan.exchanges() {
         add_cut(
             alloc, left, origins, outage, &dead_ends, &homes, place, cuts,

@@ -64,7 +64,6 @@ pub fn ends_of<A: Allocator + Copy>(
     ensures { IfOk result (λ ends. AreEnds plan.now (marked gone.now) (length plan.now.groups)
         ends.items) }
 {
-    plan.rules();
     let mut ends = Vec::new(alloc);
     for place in 0..plan.groups() {
         add_ends(plan, gone, place, &mut ends)?;

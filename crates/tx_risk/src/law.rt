@@ -5,7 +5,7 @@ ghost use Rattle.tx_plan.specs.Rules.{IsPlan};
 ghost use Rattle.tx_plan.specs.Routes.{is_origin_for};
 ghost use Rattle.tx_plan.specs.Certified.{Ranks, IsCertified};
 ghost use Rattle.tx_rank.specs.Walks.{Net, Goes, end_of, IsShort};
-ghost use Rattle.tx_state.specs.Runs.{InEveryState, OfEveryEvent};
+ghost use Rattle.tx_machine.specs.Runs.{InEveryState, OfEveryEvent};
 ghost use Rattle.tx_risk.specs.Risks.{Risk, without, net_without, IsDeadEnd, IsCut, IsUncut, LeavesSome, IsServed};
 ghost use Rattle.tx_risk.specs.Served.{ThroughIf, StartsUncut, OutsideFree, IsClear, AllFailed, NoneOnFailed, KeyedSinceAreClear, KeyedSinceGetThrough};
 
@@ -55,7 +55,7 @@ pub fn none_on_failed()
 
 /// In every run of any plan, a call that uses no circuit of a risk, and whose code is not cut off
 /// by it where the call started, is answered NC only after a second head-on collision, while each
-/// group that does not go, of the list where the call stands, is up and has a circuit free there.
+/// group outside the risk, of the list where the call stands, is up and has a circuit free there.
 pub fn clear_calls_get_through()
     ensures { (p : Plan) → IsPlan p → (risk : Risk) → OfEveryEvent p (λ s.
         ThroughIf (λ c. IsClear risk c × StartsUncut p risk c × OutsideFree p risk s c) s) }

@@ -8,7 +8,7 @@ use tx_plan::GroupId;
 use tx_text::Name;
 
 /// Groups that may go together, such as those of one cable, with a name for them.
-#[derive(Drop)]
+#[derive(Debug, Drop)]
 pub struct NamedRisk<A: Allocator = Global> {
     pub name: Name,
     pub groups: Vec<GroupId, A>,

@@ -1,5 +1,6 @@
 // How far exchanges are from a goal.
 ghost use Rattle.std.specs.Prelude.{◌≡◌, ◌<◌, ◌+◌, ◌↔◌, length, true, false, None, Some, IfOk};
+ghost use Rattle.tx_plan.specs.Rules.{IsPlan};
 ghost use Rattle.tx_risk.specs.inner.Left.{left_net};
 ghost use Rattle.tx_risk.specs.inner.Nearest.{IsAtDistance, AreMeasured, AreNearest, NoneAt};
 
@@ -44,7 +45,6 @@ fn measure_at<A: Allocator>(
     ensures none { result ≡ false → NoneAt distances.new distance }
 {
     let mut some = false;
-    left.plan.rules();
     for place in 0..left.plan.exchanges() {
         let exchange = ExchangeId::of(place);
         if distance_at(distances, exchange).is_some() {
@@ -60,13 +60,13 @@ fn measure_at<A: Allocator>(
 
 /// Measures all exchanges.
 fn measure<A: Allocator>(left: &Left<'_, A>, goal: Goal, distances: &mut [Option<u16>])
+    requires rules { IsPlan left.now.plan.now }
     requires code { left.now.code < length left.now.plan.now.codes }
     requires none { AreMeasured (left_net left.now.plan.now left.now.gone.now left.now.code) goal 0
         distances.old }
     ensures { AreNearest (left_net left.now.plan.now left.now.gone.now left.now.code) goal
         distances.new }
 {
-    left.plan.rules();
     for distance in 0..u16::MAX {
         if !measure_at(left, goal, distance, distances) {
             return;
@@ -84,7 +84,6 @@ pub fn distances_to<A: Allocator + Copy>(
     ensures { IfOk result (λ d. AreNearest
         (left_net left.now.plan.now left.now.gone.now left.now.code) goal d.items) }
 {
-    left.plan.rules();
     let mut distances = vec![in alloc; None; left.plan.exchanges()]?;
     measure(left, goal, &mut distances);
     Ok(distances)

@@ -1,7 +1,8 @@
 // What the outages of a plan cut off.
 ghost use Rattle.std.specs.Prelude.{◌≡◌, ◌<◌, ◌==◌, ℕ, length, true, IfOk};
-ghost use Rattle.tx_rank.specs.Judged.{AreOrigins};
 ghost use Rattle.std.specs.List.{list_any};
+ghost use Rattle.tx_plan.specs.Rules.{IsPlan};
+ghost use Rattle.tx_rank.specs.Judged.{AreOrigins};
 ghost use Rattle.tx_risk.specs.NamedRisks.{AreRisksFor, named_groups};
 ghost use Rattle.tx_risk.specs.Outages.{risk_of, outage_at, AreCutsOfCode, AreCutsOf, AreAllCuts};
 ghost use Rattle.tx_rank.specs.Grades.{CanBeCertified};
@@ -58,7 +59,6 @@ fn marks_of<A: Allocator + Copy>(
     ensures { IfOk result (λ marks. (g : ℕ)
         → marked marks.items g ≡ risk_of plan.now risks.now outage.now g) }
 {
-    plan.rules();
     let mut marks = Vec::with_capacity(alloc, plan.groups())?;
     for place in 0..plan.groups() {
         marks.push_reserved(goes_with(plan, risks, outage, GroupId::of(place)));
@@ -77,6 +77,7 @@ fn add_code<A: Allocator + Copy>(
     code: CodeId,
     cuts: &mut Vec<Cut<A>, A>,
 ) -> Result<(), NoMemory>
+    requires rules { IsPlan plan.now }
     requires origins { AreOrigins plan.now origins.now }
     requires code { code < length plan.now.codes }
     requires certified { (limit : ℕ) × (spare : ℕ) × CanBeCertified plan.now limit spare }
@@ -85,7 +86,6 @@ fn add_code<A: Allocator + Copy>(
     ensures { IfOk result (λ _. Adds (AreCutsOfCode plan.now (marked gone.now) outage.now code)
         cuts.old.items cuts.new.items) }
 {
-    plan.rules();
     if !is_hit(plan, gone, ends, outage, code) {
         return Ok(());
     }
@@ -111,7 +111,6 @@ fn add_outage<A: Allocator + Copy>(
 {
     let gone = marks_of(alloc, plan, risks, outage)?;
     let ends = ends_of(alloc, plan, &gone)?;
-    plan.rules();
     for place in 0..plan.codes() {
         let code = CodeId::of(place);
         add_code(alloc, plan, &gone, &ends, origins, outage, code, cuts)?;
@@ -123,7 +122,6 @@ fn add_outage<A: Allocator + Copy>(
 fn outage_at<A: Allocator>(plan: &Plan<A>, place: usize) -> Outage
     ensures { result ≡ outage_at plan.now place }
 {
-    plan.rules();
     let exchanges = plan.groups() + plan.exchanges();
     if place < plan.groups() {
         Outage::Group(GroupId::of(place))
@@ -146,7 +144,6 @@ pub fn all_cuts<A: Allocator + Copy>(
 {
     let origins = origins_of(alloc, plan)?;
     let mut cuts = Vec::new(alloc);
-    plan.rules();
     let count = plan.groups() + plan.exchanges() + risks.len();
     for place in 0..count {
         let outage = outage_at(plan, place);

@@ -1,5 +1,6 @@
 // A shortest walk to a goal.
 ghost use Rattle.std.specs.Prelude.{◌≡◌, ◌<◌, Some, IfOk, length};
+ghost use Rattle.tx_plan.specs.Rules.{IsPlan};
 ghost use Rattle.tx_risk.specs.inner.Left.{left_net};
 ghost use Rattle.tx_risk.specs.inner.Nearest.{AreNearest, IsNearestWay, distance_in};
 
@@ -17,6 +18,7 @@ pub fn walk_from<A: Allocator + Copy>(
     start: ExchangeId,
     distance: u16,
 ) -> Result<Walk<A>, NoMemory>
+    requires rules { IsPlan left.now.plan.now }
     requires code { left.now.code < length left.now.plan.now.codes }
     requires start { start < length left.now.plan.now.exchanges }
     requires nearest { AreNearest (left_net left.now.plan.now left.now.gone.now left.now.code)
@@ -26,7 +28,6 @@ pub fn walk_from<A: Allocator + Copy>(
     ensures nearest { IfOk result (λ w. IsNearestWay
         (left_net left.now.plan.now left.now.gone.now left.now.code) start w.steps distance) }
 {
-    left.plan.rules();
     let mut steps = Vec::new(alloc);
     let mut at = start;
     let mut ahead = distance;

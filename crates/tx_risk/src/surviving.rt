@@ -17,7 +17,7 @@ use tx_rank::{Grade, grade};
 use tx_text::NoMemory;
 
 /// What the outages of a plan cut off, or why the plan has no grade.
-#[derive(Drop)]
+#[derive(Debug, Drop)]
 pub enum Survival<A: Allocator = Global> {
     /// What each outage cuts off, by outages in order: groups, exchanges, named risks.
     Tried(Vec<Cut<A>, A>),
@@ -26,8 +26,8 @@ pub enum Survival<A: Allocator = Global> {
     Ungraded(Grade<A>),
 }
 
-/// Tells what each group, each exchange and each named risk cuts off if it fails alone; or why the
-/// plan has no grade. `Err` is want of memory.
+/// Returns what each group, each exchange and each named risk cuts off if it fails alone; or why
+/// the plan has no grade. `Err` means out of memory.
 pub fn survive<A: Allocator + Copy>(
     alloc: A,
     plan: &Plan<A>,
@@ -49,10 +49,7 @@ pub fn survive<A: Allocator + Copy>(
 {
     let grade = grade(alloc, plan)?;
     match grade.plan {
-        Some(_) => {
-            drop(grade);
-            Ok(Survival::Tried(all_cuts(alloc, plan, risks)?))
-        }
+        Some(_) => Ok(Survival::Tried(all_cuts(alloc, plan, risks)?)),
         None => Ok(Survival::Ungraded(grade)),
     }
 }

@@ -2,7 +2,7 @@
 use Rattle.std.proofs.Common.{◌≡◌, ℕ, zero, suc, ◌+◌, ◌≤◌, Bool, length, Ok, arith, List, [], ◌∷◌, ◌++◌, Option, Some, None, sym, ap, ◌∙◌, subst, take, append_assoc, append-nil, codes}
 use Rattle.std.proofs.lemmas.List.{take_all}
 use Rattle.std.specs.Prelude.{slice_get, if◌then◌else◌}
-use Rattle.tx_text.specs.Wrote.{Wrote}
+use Rattle.tx_text.specs.Wrote.{WroteBy}
 use Rattle.tx_text.proofs.Wrote.{wrote_then, text_is}
 use Rattle.tx_plan.specs.Plan.{Plan}
 use Rattle.tx_risk.specs.declared.outage.Outage.{Outage}
@@ -63,10 +63,10 @@ module _ {A : Type 0} (p : Plan) (risks : List NamedRisk) (cuts : List (Cut A)) 
   -- one more
   pub cuts_wrote : (cut : Cut A) (same : Bool) (a b c : Option (List ℕ)) (f g h : Bool)
       → slice_get cuts i ≡ Some cut → same ≡ is_same_as (outage_before None cuts i) cut.outage
-      → Wrote a b f g (cuts_text p risks None (take i cuts)) (Ok tt)
-      → Wrote b c g h
+      → WroteBy a b f g (cuts_text p risks None (take i cuts)) (Ok tt)
+      → WroteBy b c g h
       ((if same then [] else outage_line p risks cut.outage) ++ cut_line p cut) (Ok tt)
-      → Wrote a c f h (cuts_text p risks None (take (i + 1) cuts)) (Ok tt)
+      → WroteBy a c f h (cuts_text p risks None (take (i + 1) cuts)) (Ok tt)
   cuts_wrote cut same a b c f g h at told before now =
       let piece = cut_text p risks (outage_before None cuts i) cut in
       let text = λ (t : Bool).
@@ -77,14 +77,14 @@ module _ {A : Type 0} (p : Plan) (risks : List NamedRisk) (cuts : List (Cut A)) 
       text_is a c f h (cuts_text p risks None (take (i + 1) cuts))
       (cuts_text p risks None (take i cuts) ++ piece) (Ok tt) all
       (wrote_then a b c f g h (cuts_text p risks None (take i cuts)) piece (Ok tt) before
-      (subst (λ t. Wrote b c g h (text t) (Ok tt)) told now))
+      (subst (λ t. WroteBy b c g h (text t) (Ok tt)) told now))
 
   -- all of them
   pub cuts_done : (a b : Option (List ℕ)) (f g : Bool) → length cuts ≤ i
-      → Wrote a b f g (cuts_text p risks None (take i cuts)) (Ok tt)
-      → Wrote a b f g (cuts_text p risks None cuts) (Ok tt)
+      → WroteBy a b f g (cuts_text p risks None (take i cuts)) (Ok tt)
+      → WroteBy a b f g (cuts_text p risks None cuts) (Ok tt)
   cuts_done a b f g all before =
-      subst (λ (l : List (Cut A)). Wrote a b f g (cuts_text p risks None l) (Ok tt))
+      subst (λ (l : List (Cut A)). WroteBy a b f g (cuts_text p risks None l) (Ok tt))
       (take_all i cuts all) before
 
 -- the line of a cut, as it is written

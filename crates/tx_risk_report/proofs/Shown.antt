@@ -11,28 +11,27 @@ use Rattle.tx_plan.specs.Rules.{IsPlan, EachPair}
 use Rattle.tx_plan.specs.Routes.{route_list, is_origin_for}
 use Rattle.tx_plan.specs.Among.{Among}
 use Rattle.tx_plan.proofs.ByPlace.{entry_at}
-use Rattle.tx_state.specs.Refusals.{is_group}
-use Rattle.tx_state.proofs.Lists.{all_from_mem}
-use Rattle.tx_state.proofs.Steps.{all_mem}
+use Rattle.tx_machine.specs.Refusals.{is_group}
+use Rattle.tx_machine.proofs.Lists.{all_from_mem}
+use Rattle.tx_machine.proofs.Steps.{all_mem}
 use Rattle.tx_plan.proofs.Among.{filter_among, among_filter}
-use Rattle.tx_rank.specs.Walks.{Goes, net_of, end_of}
-use Rattle.tx_state.specs.declared.event.Event.{Event}
-use Rattle.tx_state.specs.declared.event.Event.TheVariants.{Key, Route, Block}
-use Rattle.tx_state.specs.declared.phase.Phase.TheVariants.{Standing}
-use Rattle.tx_state.specs.declared.reply.Reply.TheVariants.{Answered}
-use Rattle.tx_state.specs.declared.service.Service.TheVariants.{Nc}
-use Rattle.tx_state.specs.Call.{Call}
-use Rattle.tx_state.specs.State.{State, opening}
-use Rattle.tx_state.specs.InUse.{is_down, first_free, choice}
-use Rattle.tx_state.specs.Step.{step}
-use Rattle.tx_state.proofs.Playing.{Plays, plays_one, plays_then, shut, shut_out, shut_among}
-use Rattle.tx_state.proofs.OneCall.{alone, on_way, none_circuit, routed_there, nc_step, blocks}
+use Rattle.tx_rank.specs.Walks.{Goes, net_of, end_of, IsWalk}
+use Rattle.tx_machine.specs.declared.event.Event.{Event}
+use Rattle.tx_machine.specs.declared.event.Event.TheVariants.{Key, Route, Block}
+use Rattle.tx_machine.specs.declared.open_call.Phase.TheVariants.{Standing}
+use Rattle.tx_machine.specs.declared.reply.Reply.TheVariants.{Answered}
+use Rattle.tx_machine.specs.declared.cause.Service.TheVariants.{Nc}
+use Rattle.tx_machine.specs.Call.{Call}
+use Rattle.tx_machine.specs.State.{State, opening}
+use Rattle.tx_machine.specs.InUse.{is_down, first_free, choice}
+use Rattle.tx_machine.specs.Step.{step}
+use Rattle.tx_machine.proofs.Playing.{Plays, plays_one, plays_then, shut, shut_out, shut_among}
+use Rattle.tx_machine.proofs.OneCall.{alone, on_way, none_circuit, routed_there, nc_step, blocks}
 use Rattle.tx_audit.specs.Counter.{walk_events}
 use Rattle.tx_audit.proofs.Choices.{first_in_none, none_of}
 use Rattle.tx_audit.proofs.Listed.{listed_known}
 use Rattle.tx_audit.proofs.Showing.{Gone, gone}
 use Rattle.tx_audit.proofs.Passing.{no_turn}
-use Rattle.tx_rank.specs.Walks.{IsWalk}
 use Rattle.tx_rank.proofs.PassedOnce.{before_once}
 use Rattle.tx_risk.specs.Risks.{Risk, net_without, IsCut}
 use Rattle.tx_risk.proofs.LeftLists.{left_goes}

@@ -35,10 +35,12 @@ same_outage (Exchange x) (Exchange y) = x == y
 same_outage (Named i) (Named j) = i == j
 same_outage o q = false
 
+-- the same fails as in the line before, if there is one
 abbrev pub is_same_as : (before : Option Outage) → Outage → Bool
 is_same_as None o = false
 is_same_as (Some q) o = same_outage q o
 
+-- the first word of a cut, and its blank
 abbrev pub cut_word : (stray : Bool) → List ℕ
 cut_word stray = if stray then codes "STRAY " else codes "CUT "
 
@@ -53,21 +55,23 @@ module _ {A : Type 0} where
   abbrev pub cut_line : Plan → Cut A → List ℕ
   cut_line p c = cut_word c.stray ++ start_text p c.code c.walk
 
-  -- a cut, behind what fails if that is not the same as before
+  -- a cut, after what fails if that is not the same as before
   abbrev pub cut_text : Plan → List NamedRisk → (before : Option Outage) → Cut A → List ℕ
   cut_text p risks before c =
       (if is_same_as before c.outage then [] else outage_line p risks c.outage) ++ cut_line p c
 
+  -- all cuts, one after another
   abbrev pub cuts_text : Plan → List NamedRisk → (before : Option Outage) → List (Cut A) → List ℕ
   cuts_text p risks before [] = []
   cuts_text p risks before (c ∷ cuts) =
       cut_text p risks before c ++ cuts_text p risks (Some c.outage) cuts
 
+  -- how many outages were tried, the cuts, and the verdict
   abbrev pub tried_text : Plan → List NamedRisk → List (Cut A) → List ℕ
   tried_text p risks cuts =
       head_line (outages p risks) ++ (cuts_text p risks None cuts ++ verdict_line (length cuts))
 
-  -- THE REPORT: how many outages were tried, what each cuts off, and the verdict; or the text of
+  -- the report: how many outages were tried, what each cuts off, and the verdict; or the text of
   -- the grade, where the plan has none
   abbrev pub survival_text : Plan → List NamedRisk → Survival A → List ℕ
   survival_text p risks (Tried cuts) = tried_text p risks cuts.items

@@ -2,17 +2,17 @@
 use Rattle.std.specs.Prelude.{◌≡◌, ℕ, ◌<◌, length, true, false, List, [], ◌∷◌, ◌++◌, map, Some}
 use Rattle.tx_plan.specs.Plan.{Plan}
 use Rattle.tx_plan.specs.Codes.{code_of}
-use Rattle.tx_entries.specs.declared.circuit.Circuit.{Circuit}
-use Rattle.tx_state.specs.declared.event.Event.{Event}
-use Rattle.tx_state.specs.declared.event.Event.TheVariants.{Route}
-use Rattle.tx_state.specs.declared.reply.Reply.TheVariants.{Answered}
-use Rattle.tx_state.specs.declared.service.Service.TheVariants.{Nc}
-use Rattle.tx_state.specs.Call.{Call, start_of}
-use Rattle.tx_state.specs.State.{State, opening}
-use Rattle.tx_state.specs.InUse.{carries, is_free_at, is_down}
-use Rattle.tx_state.specs.Runs.{state_after}
-use Rattle.tx_state.specs.Unrefused.{NoneRefused}
-use Rattle.tx_state.specs.Step.{step}
+use Rattle.tx_plan.specs.declared.ids.Circuit.{Circuit}
+use Rattle.tx_machine.specs.declared.event.Event.{Event}
+use Rattle.tx_machine.specs.declared.event.Event.TheVariants.{Route}
+use Rattle.tx_machine.specs.declared.reply.Reply.TheVariants.{Answered}
+use Rattle.tx_machine.specs.declared.cause.Service.TheVariants.{Nc}
+use Rattle.tx_machine.specs.Call.{Call, start_of}
+use Rattle.tx_machine.specs.State.{State, opening}
+use Rattle.tx_machine.specs.InUse.{carries, is_free_at, is_down}
+use Rattle.tx_machine.specs.Runs.{state_after}
+use Rattle.tx_machine.specs.Unrefused.{NoneRefused}
+use Rattle.tx_machine.specs.Step.{step}
 use Rattle.tx_risk.specs.Risks.{Risk}
 
 -- All groups of the risk are down, and no others.
@@ -30,7 +30,7 @@ pub record IsAloneOnWay (p : Plan) (code x : ℕ) (steps : List (ℕ × ℕ)) (s
   pub way : map (λ h. (h.circuit.group, h.far)) call.hops ≡ steps
   pub free : (place : ℕ) (y : Circuit) → carries call y ≡ false → is_free_at p s place y ≡ true
 
--- THE EVENTS SHOW THE CUT: none of them is refused, nor is one Route more, of the one open call,
+-- The events show the cut: none of them is refused, nor is one Route more, of the one open call,
 -- which is answered NC.
 pub record IsShown (p : Plan) (risk : Risk) (code x : ℕ) (steps : List (ℕ × ℕ))
     (events : List Event) : Type 0 where

@@ -3,7 +3,7 @@ ghost use Rattle.std.specs.Prelude.{◌≡◌, ℕ, ◌<◌, List, true, length}
 ghost use Rattle.tx_plan.specs.Plan.{Plan};
 ghost use Rattle.tx_plan.specs.Rules.{IsPlan};
 ghost use Rattle.tx_plan.specs.Routes.{is_origin_for};
-ghost use Rattle.tx_state.specs.declared.event.Event.{Event};
+ghost use Rattle.tx_machine.specs.declared.event.Event.{Event};
 ghost use Rattle.tx_risk.specs.Risks.{Risk, net_without, IsCut};
 ghost use Rattle.tx_risk_report.specs.Shown.{IsShown};
 

@@ -11,7 +11,7 @@ use tx_audit::{write_grade, write_steps, write_verdict};
 use tx_plan::{CodeId, Plan};
 use tx_rank::Walk;
 use tx_risk::{Cut, NamedRisk, Outage, Survival};
-use tx_text::{Sink, WriteFault, write_text};
+use tx_text::{Sink, WriteFault, write_parts};
 
 /// Writes how many outages were tried, what each cuts off, and the verdict; or that the plan has no
 /// grade, as its grade is written.
@@ -21,7 +21,7 @@ pub fn write_survival<A: Allocator, W: Sink>(
     survival: &Survival<A>,
     sink: &mut W,
 ) -> Result<(), WriteFault>
-    ensures { Wrote (W.taken sink.old) (W.taken sink.new) (W.failed sink.old) (W.failed sink.new)
+    ensures { Wrote W.taken W.failed sink.old sink.new
         (survival_text plan.now risks.now survival.now) result }
 {
     match survival {
@@ -36,22 +36,21 @@ fn write_tried<A: Allocator, W: Sink>(
     cuts: &[Cut<A>],
     sink: &mut W,
 ) -> Result<(), WriteFault>
-    ensures { Wrote (W.taken sink.old) (W.taken sink.new) (W.failed sink.old) (W.failed sink.new)
+    ensures { Wrote W.taken W.failed sink.old sink.new
         (tried_text plan.now risks.now cuts.now) result }
 {
-    plan.rules();
     write_head(plan.groups() + plan.exchanges() + risks.len(), sink)?;
     write_cuts(plan, risks, cuts, sink)?;
     write_verdict(cuts.len(), sink)
 }
 
 fn write_head<W: Sink>(count: usize, sink: &mut W) -> Result<(), WriteFault>
-    ensures { Wrote (W.taken sink.old) (W.taken sink.new) (W.failed sink.old) (W.failed sink.new)
+    ensures { Wrote W.taken W.failed sink.old sink.new
         (head_line count) result }
 {
     let mut buffer = Buffer::new();
     let count = buffer.format(count).as_bytes();
-    write_text(&[b"SURVIVE RISKS ", count, b"\n"], sink)
+    write_parts(&[b"SURVIVE RISKS ", count, b"\n"], sink)
 }
 
 /// The name of the risk at a place.
@@ -70,15 +69,15 @@ fn write_outage<A: Allocator, W: Sink>(
     outage: &Outage,
     sink: &mut W,
 ) -> Result<(), WriteFault>
-    ensures { Wrote (W.taken sink.old) (W.taken sink.new) (W.failed sink.old) (W.failed sink.new)
+    ensures { Wrote W.taken W.failed sink.old sink.new
         (outage_line plan.now risks.now outage.now) result }
 {
     match outage {
-        Outage::Group(group) => write_text(&[b"GROUP ", plan.group_name(*group), b"\n"], sink),
+        Outage::Group(group) => write_parts(&[b"GROUP ", plan.group_name(*group), b"\n"], sink),
         Outage::Exchange(exchange) => {
-            write_text(&[b"EXCHANGE ", plan.exchange_name(*exchange), b"\n"], sink)
+            write_parts(&[b"EXCHANGE ", plan.exchange_name(*exchange), b"\n"], sink)
         }
-        Outage::Named(place) => write_text(&[b"RISK ", name_of(risks, *place), b"\n"], sink),
+        Outage::Named(place) => write_parts(&[b"RISK ", name_of(risks, *place), b"\n"], sink),
     }
 }
 
@@ -86,20 +85,7 @@ fn write_outage<A: Allocator, W: Sink>(
 fn is_same(before: &Outage, outage: &Outage) -> bool
     ensures { result ≡ same_outage before.now outage.now }
 {
-    match before {
-        Outage::Group(group) => match outage {
-            Outage::Group(other) => *group == *other,
-            _ => false,
-        },
-        Outage::Exchange(exchange) => match outage {
-            Outage::Exchange(other) => *exchange == *other,
-            _ => false,
-        },
-        Outage::Named(place) => match outage {
-            Outage::Named(other) => *place == *other,
-            _ => false,
-        },
-    }
+    *before == *outage
 }
 
 /// Whether the cut at a place is of the same outage as the one before it.
@@ -120,7 +106,7 @@ fn write_cuts<A: Allocator, W: Sink>(
     cuts: &[Cut<A>],
     sink: &mut W,
 ) -> Result<(), WriteFault>
-    ensures { Wrote (W.taken sink.old) (W.taken sink.new) (W.failed sink.old) (W.failed sink.new)
+    ensures { Wrote W.taken W.failed sink.old sink.new
         (cuts_text plan.now risks.now None cuts.now) result }
 {
     for i in 0..cuts.len() {
@@ -129,7 +115,7 @@ fn write_cuts<A: Allocator, W: Sink>(
     Ok(())
 }
 
-/// Writes a cut, behind what fails, unless the same fails as before.
+/// Writes a cut, after what fails, unless the same fails as before.
 fn write_cut<A: Allocator, W: Sink>(
     plan: &Plan<A>,
     risks: &[NamedRisk<A>],
@@ -137,7 +123,7 @@ fn write_cut<A: Allocator, W: Sink>(
     cut: &Cut<A>,
     sink: &mut W,
 ) -> Result<(), WriteFault>
-    ensures { Wrote (W.taken sink.old) (W.taken sink.new) (W.failed sink.old) (W.failed sink.new)
+    ensures { Wrote W.taken W.failed sink.old sink.new
         ((if same then [] else outage_line plan.now risks.now cut.now.outage)
         ++ cut_line plan.now cut.now) result }
 {
@@ -154,7 +140,7 @@ fn write_line<A: Allocator, W: Sink>(
     cut: &Cut<A>,
     sink: &mut W,
 ) -> Result<(), WriteFault>
-    ensures { Wrote (W.taken sink.old) (W.taken sink.new) (W.failed sink.old) (W.failed sink.new)
+    ensures { Wrote W.taken W.failed sink.old sink.new
         (cut_line plan.now cut.now) result }
 {
     if cut.stray {
@@ -171,12 +157,12 @@ fn write_walk<A: Allocator, W: Sink>(
     walk: &Walk<A>,
     sink: &mut W,
 ) -> Result<(), WriteFault>
-    ensures { Wrote (W.taken sink.old) (W.taken sink.new) (W.failed sink.old) (W.failed sink.new)
+    ensures { Wrote W.taken W.failed sink.old sink.new
         (head.now ++ start_text plan.now code walk.now) result }
 {
     let code = plan.code_figures(code);
     let start = plan.exchange_name(walk.start);
-    write_text(
+    write_parts(
         &[
             head,
             code,

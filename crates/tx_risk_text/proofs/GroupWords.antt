@@ -2,11 +2,10 @@
 use Rattle.std.proofs.Common.{◌≡◌, ℕ, true, false, not, List, refl, ap}
 use Rattle.std.specs.Prelude.{is_none}
 use Rattle.std.specs.Str.{bytes_eq}
-use Rattle.tx_entries.specs.Entries.{Group}
-use Rattle.tx_entries.proofs.Lists.{placed, no_place}
-use Rattle.tx_plan.specs.Plan.{Plan, group_named}
+use Rattle.tx_plan.specs.Plan.{Group, Plan, group_named}
+use Rattle.tx_plan.proofs.Lists.{placed, no_place}
 use Rattle.tx_plan.specs.Declaring.{has_group}
-use Rattle.tx_state.proofs.Lists.{none_any}
+use Rattle.tx_machine.proofs.Lists.{none_any}
 use Rattle.tx_rank.proofs.Ways.{among_all}
 
 pub unknown_is : (p : Plan) (w : List ℕ) → is_none (group_named p w) ≡ not (has_group p w)

@@ -1,13 +1,13 @@
 -- A line of risks declares risks for the plan.
-use Rattle.std.proofs.Common.{◌≡◌, ◌≢◌, ℕ, ◌<◌, ◌==◌, Bool, true, false, not, List, [], ◌∷◌, ◌++◌, map, length, inl, inr, Result, Ok, Err, refl, sym, ◌∙◌, subst, codes, eq-eqb}
+use Rattle.std.proofs.Common.{◌≡◌, ◌≢◌, ℕ, ◌<◌, ◌==◌, Bool, true, false, not, List, [], ◌∷◌, ◌++◌, map, length, inl, inr, Result, Ok, Err, IfErr, refl, sym, ◌∙◌, subst, codes, eq-eqb}
 use Rattle.std.proofs.lemmas.Bool.{and_parts, both_ways, not-true, not-false}
 use Rattle.std.proofs.lemmas.Slice.Eq.{bytes_eq-Decides}
 use Rattle.std.specs.Prelude.{if◌then◌else◌}
 use Rattle.std.specs.List.{list_any}
 use Rattle.std.specs.Str.{bytes_eq}
 use Rattle.tx_text.specs.Words.{is_name}
-use Rattle.tx_entries.specs.inner.Distinct.{differ}
-use Rattle.tx_entries.proofs.Lists.{placed_within}
+use Rattle.tx_plan.specs.inner.Distinct.{differ}
+use Rattle.tx_plan.proofs.Lists.{placed_within}
 use Rattle.tx_plan.specs.Plan.{Plan}
 use Rattle.tx_plan.specs.Rules.{EachPair}
 use Rattle.tx_plan.specs.Among.{Among}
@@ -15,11 +15,13 @@ use Rattle.tx_plan.specs.Declaring.{first_true, has_group, group_at, none_twice}
 use Rattle.tx_plan.proofs.Among.{among_cases, map_among}
 use Rattle.tx_plan.proofs.ByPlace.{pairs_put}
 use Rattle.tx_plan.proofs.SeenWords.{differ_as_words}
-use Rattle.tx_state.proofs.Lists.{none_any}
+use Rattle.tx_machine.proofs.Lists.{none_any}
 use Rattle.tx_rank.proofs.Ways.{all_among, among_all}
 use Rattle.tx_risk.specs.NamedRisks.{NamedRisk, IsNamedRisk, AreRisksFor}
 use Rattle.tx_risk_text.specs.declared.fault.RiskWord.TheVariants.{UnknownWord, WrongCount, BadName, Duplicate, UnknownName, RepeatedGroup}
-use Rattle.tx_risk_text.specs.RiskText.{declare, risk_line, with_risk, unless}
+use Rattle.tx_text.specs.Said.{Declared}
+use Rattle.tx_risk_text.specs.declared.fault.RiskWord.{RiskWord}
+use Rattle.tx_risk_text.specs.RiskText.{declare, risk_line, with_risk, unless, is_memory}
 
 pub no_risks : (p : Plan) (risks : List NamedRisk) → risks ≡ [] → AreRisksFor p risks
 no_risks p risks e = subst (AreRisksFor p) (sym e) (record { each = tt; differ = tt })
@@ -111,3 +113,11 @@ risk_fits p v risks new (w ∷ ws) ok e =
             | false ↦ λ e. absurd (no_ok e)
           ] e
     ] e
+
+-- what a line leaves
+pub line_keeps : (p : Plan) (v : ℕ) (risks new : List NamedRisk) (ws : List (List ℕ))
+    (r : Result (Unit {0}) RiskWord) → AreRisksFor p risks
+    → Declared is_memory (declare p v risks ws) new r → IfErr r (λ _. new ≡ risks)
+    → AreRisksFor p new
+line_keeps p v risks new ws (Ok x) ok d same = risk_fits p v risks new ws ok d
+line_keeps p v risks new ws (Err x) ok d same = subst (AreRisksFor p) (sym same) ok

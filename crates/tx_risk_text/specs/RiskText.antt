@@ -3,12 +3,10 @@ use Rattle.std.specs.Prelude.{ℕ, Bool, true, false, not, List, [], ◌∷◌, 
 use Rattle.std.specs.List.{list_any}
 use Rattle.std.specs.Str.{bytes_eq}
 use Rattle.tx_text.specs.declared.frame.FaultKind.{FaultKind}
-use Rattle.tx_text.specs.declared.frame.FramePart.TheVariants.{Start}
-use Rattle.tx_text.specs.Text.{lines_of}
+use Rattle.tx_text.specs.Ends.{Input}
 use Rattle.tx_text.specs.Words.{is_name}
-use Rattle.tx_text.specs.Told.{Ending, told}
-use Rattle.tx_text.specs.Frame.{Framed, header_of, framed, ReadsOn}
-use Rattle.tx_text.specs.Said.{said, declares_at, Answered}
+use Rattle.tx_text.specs.Told.{Ending}
+use Rattle.tx_text.specs.Said.{text_said, line_declares, ReadsText}
 use Rattle.tx_plan.specs.Plan.{Plan}
 use Rattle.tx_plan.specs.Declaring.{first_true, has_group, group_at, none_twice}
 use Rattle.tx_risk.specs.NamedRisks.{NamedRisk}
@@ -38,6 +36,7 @@ abbrev pub unless : Option RiskWord → List NamedRisk → Said
 unless None risks = Ok risks
 unless (Some r) risks = Err r
 
+-- the words after RISK, where there are enough of them
 abbrev pub risk_by : Plan → List NamedRisk → (name : List ℕ) → List (List ℕ) → Said
 risk_by p risks name ws =
     unless (first_true (risk_refusals p risks name ws)) (with_risk p risks name ws)
@@ -57,31 +56,19 @@ declare p v risks (w ∷ ws) =
     else if bytes_eq w (codes "END") then Err WrongCount
     else Err UnknownWord
 
--- the lines of a text of risks within its frame, whichever way the text ends
-abbrev pub lines_within : Ending → List ℕ → Framed
-lines_within e text = framed (header_of (codes "RISKS") 1) Start 1 (told e (lines_of text))
-
--- THE GRAMMAR: the risks that a text says for a plan, or its first fault, whichever way it ends
+-- the risks that a text says for a plan, or its first fault, whichever way the text ends
 abbrev pub risks_of : Plan → Ending → List ℕ → Result (List NamedRisk) (ℕ × FaultKind RiskWord)
-risks_of p e text = said (declare p) 1 [] (lines_within e text)
+risks_of p = text_said (declare p) (codes "RISKS") 1 []
 
--- line n of a text declares something, and so does each line before it: where memory can be wanting
+-- line n of a text declares something, and so does each line before it: where memory can run out
 abbrev pub declares_line : Plan → ℕ → Ending → List ℕ → Bool
-declares_line p n e text = declares_at (declare p) n 1 [] (lines_within e text)
+declares_line p = line_declares (declare p) (codes "RISKS") 1 []
 
--- memory was wanting at line n, by the bytes that were read: it declares something, whatever
--- follows
-abbrev pub WantingAt : Plan → (old new : Option (List ℕ)) → ℕ → Type 0
-WantingAt p old new n = ReadsOn old new (declares_line p n) (λ _ _. true)
-
--- want of memory
+-- no memory was left
 abbrev pub is_memory : RiskWord → Bool
 is_memory NoMemory = true
 is_memory w = false
 
--- WHAT A READER OF TEXTS OF RISKS ANSWERS. Broken says that the source failed or met the bound on
--- calls, unread that nothing was read.
-abbrev pub ReadsRisks : Plan → (old new : Option (List ℕ)) → (broken unread : Type 0)
-    → Result (List NamedRisk) (ℕ × FaultKind RiskWord) → Type 0
-ReadsRisks p old new broken unread result =
-    Answered is_memory old new (risks_of p) broken unread (WantingAt p old new) result
+-- what a reader of texts of risks answers
+abbrev pub ReadsRisks : Plan → Input → Result (List NamedRisk) (ℕ × FaultKind RiskWord) → Type 0
+ReadsRisks p = ReadsText (declare p) is_memory (codes "RISKS") 1 []

@@ -1,9 +1,9 @@
 // What each line of a text of risks declares.
-ghost use Rattle.std.specs.Prelude.{◌≡◌, false, not, map, IfOk, OnOk};
+ghost use Rattle.std.specs.Prelude.{◌≡◌, false, not, map, IfOk, IfErr, OnOk, OnErr};
 ghost use Rattle.std.specs.List.{list_any};
 ghost use Rattle.std.specs.Str.{bytes_eq};
 ghost use Rattle.tx_text.specs.Said.{Declared};
-ghost use Rattle.tx_plan.specs.Declaring.{has_group, group_at, none_twice};
+ghost use Rattle.tx_plan.specs.Declaring.{has_group, group_at};
 ghost use Rattle.tx_risk_text.specs.RiskText.{declare, is_memory, risk_by, risk_line, with_risk};
 
 use crate::fault::RiskWord;
@@ -13,97 +13,37 @@ use tx_plan::{GroupId, Plan};
 use tx_risk::NamedRisk;
 use tx_text::{Name, NoMemory, Words};
 
-/// Whether this is the name of a risk.
-fn is_named<A: Allocator>(risk: &NamedRisk<A>, name: &[u8]) -> bool
-    ensures { result ≡ bytes_eq name.now risk.now.name }
-{
-    name == risk.name.bytes()
-}
-
 /// Whether a risk has the name.
 fn has_name<A: Allocator>(risks: &[NamedRisk<A>], name: &[u8]) -> bool
     ensures { result ≡ list_any (λ r. bytes_eq name.now r.name) risks.now }
 {
-    for i in 0..risks.len() {
-        if is_named(&risks[i], name) {
-            return true;
-        }
-    }
-    false
+    risks.iter().any(|risk| name == risk.name.bytes())
 }
 
 /// Whether one of the words names no group.
-#[tactic(auto, using(crate::proofs::GroupWords::unknown_is))]
-fn has_unknown<A: Allocator>(plan: &Plan<A>, words: Words<'_>) -> bool
+fn has_unknown<A: Allocator>(plan: &Plan<A>, mut words: Words<'_>) -> bool
     ensures { result ≡ list_any (λ w. not (has_group plan.now w)) words.entry }
 {
-    let mut rest = words;
-    'words: loop {
-        match rest.next() {
-            None => return false,
-            Some(word) => {
-                if plan.group_named(word).is_none() {
-                    return true;
-                }
-            }
-        }
-    }
-}
-
-/// Whether the word is one of the words.
-fn is_among(word: &[u8], words: Words<'_>) -> bool
-    ensures { result ≡ list_any (bytes_eq word.now) words.entry }
-{
-    let mut rest = words;
-    'words: loop {
-        match rest.next() {
-            None => return false,
-            Some(other) => {
-                if word == other {
-                    return true;
-                }
-            }
-        }
-    }
-}
-
-/// Whether no word stands there twice.
-fn is_none_twice(words: Words<'_>) -> bool
-    ensures { result ≡ none_twice words.entry }
-{
-    let mut rest = words;
-    'words: loop {
-        match rest.next() {
-            None => return true,
-            Some(word) => {
-                if is_among(word, rest.again()) {
-                    return false;
-                }
-            }
-        }
-    }
+    words.any(|word| plan.group_named(word).is_none())
 }
 
 /// The groups that the words name.
 fn groups_of<A: Allocator + Copy>(
     alloc: A,
     plan: &Plan<A>,
-    words: Words<'_>,
+    mut words: Words<'_>,
 ) -> Result<Vec<GroupId, A>, NoMemory>
     requires { list_any (λ w. not (has_group plan.now w)) words ≡ false }
     ensures { IfOk result (λ groups. groups.items ≡ map (group_at plan.now) words.entry) }
 {
-    let mut rest = words;
     let mut groups = Vec::new(alloc);
-    'words: loop {
-        match rest.next() {
-            None => return Ok(groups),
-            Some(word) => match plan.group_named(word) {
-                Some(group) => groups.push(group)?,
-                None => unreachable!(),
-            },
+    while let Some(word) = words.next() {
+        match plan.group_named(word) {
+            Some(group) => groups.push(group)?,
+            None => unreachable!(),
         }
     }
+    Ok(groups)
 }
 
 /// Adds the risk of the groups that the words name.
@@ -115,7 +55,8 @@ fn add_risk<A: Allocator + Copy>(
     words: Words<'_>,
 ) -> Result<(), NoMemory>
     requires { list_any (λ w. not (has_group plan.now w)) words ≡ false }
-    ensures { OnOk result (risks.new ≡ with_risk plan.now risks.old name words.entry) }
+    ensures ok { OnOk result (risks.new ≡ with_risk plan.now risks.old name words.entry) }
+    ensures same { OnErr result (risks.new ≡ risks.old) }
 {
     let groups = groups_of(alloc, plan, words)?;
     risks.add(NamedRisk { name, groups })
@@ -129,8 +70,9 @@ fn risk_by<A: Allocator + Copy>(
     name: &[u8],
     words: Words<'_>,
 ) -> Result<(), RiskWord>
-    ensures { Declared is_memory (risk_by plan.now risks.old name.now words.entry)
+    ensures declared { Declared is_memory (risk_by plan.now risks.old name.now words.entry)
         risks.new result }
+    ensures same { IfErr result (λ _. risks.new ≡ risks.old) }
 {
     let Some(own) = Name::read(name) else {
         return Err(RiskWord::BadName);
@@ -141,13 +83,10 @@ fn risk_by<A: Allocator + Copy>(
     if has_unknown(plan, words.again()) {
         return Err(RiskWord::UnknownName);
     }
-    if !is_none_twice(words.again()) {
+    if !words.again().none_twice() {
         return Err(RiskWord::RepeatedGroup);
     }
-    match add_risk(alloc, plan, risks, own, words) {
-        Ok(()) => Ok(()),
-        Err(_) => Err(RiskWord::NoMemory),
-    }
+    Ok(add_risk(alloc, plan, risks, own, words)?)
 }
 
 /// The words after RISK: a name, and one or more groups.
@@ -155,35 +94,35 @@ fn risk_line<A: Allocator + Copy>(
     alloc: A,
     plan: &Plan<A>,
     risks: &mut Risks<A>,
-    words: Words<'_>,
+    mut words: Words<'_>,
 ) -> Result<(), RiskWord>
-    ensures { Declared is_memory (risk_line plan.now risks.old words.entry) risks.new
+    ensures declared { Declared is_memory (risk_line plan.now risks.old words.entry) risks.new
         result }
+    ensures same { IfErr result (λ _. risks.new ≡ risks.old) }
 {
-    let mut words = words;
     let Some(name) = words.next() else {
         return Err(RiskWord::WrongCount);
     };
-    let mut rest = words.again();
-    if rest.next().is_none() {
+    if words.again().next().is_none() {
         return Err(RiskWord::WrongCount);
     }
     risk_by(alloc, plan, risks, name, words)
 }
 
-/// What the line declares under a header of this version, after the lines before it.
+/// Declares what the line does under a header of this version, after the lines before it. A line
+/// that is refused changes nothing.
 #[tactic(auto, unfolding(crate::specs::RiskText::declare))]
 pub(crate) fn declare<A: Allocator + Copy>(
     alloc: A,
     plan: &Plan<A>,
     version: u8,
     risks: &mut Risks<A>,
-    words: Words<'_>,
+    mut words: Words<'_>,
 ) -> Result<(), RiskWord>
-    ensures { Declared is_memory (declare plan.now version risks.old words.entry) risks.new
+    ensures declared { Declared is_memory (declare plan.now version risks.old words.entry) risks.new
         result }
+    ensures same { IfErr result (λ _. risks.new ≡ risks.old) }
 {
-    let mut words = words;
     let Some(first) = words.next() else {
         return Err(RiskWord::UnknownWord);
     };

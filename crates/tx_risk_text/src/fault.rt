@@ -1,14 +1,15 @@
 // What is wrong with a text of risks.
 ghost use Rattle.std.specs.Prelude.{◌≡◌};
-ghost use Rattle.tx_risk_text.specs.RiskFaults.{word_row, frame_row, fault_row};
+ghost use Rattle.tx_risk_text.specs.declared.fault.RiskWord.TheVariants.{NoMemory as OutOfMemory};
+ghost use Rattle.tx_risk_text.specs.RiskFaults.{word_row, fault_row};
 
 use thiserror::Error;
-use tx_text::{FaultAt, FaultKind, FormFault, FrameFault, LineFault};
+use tx_text::{FaultAt, FaultKind, NoMemory};
 
-/// What is wrong with the words of a line. Of several the first in this order is told.
+/// What is wrong with the words of a line. Of several the first in this order is reported.
 #[derive(Clone, Copy, Debug, PartialEq, Eq, Error)]
 pub enum RiskWord {
-    /// Q1: the first word is none of a text of risks.
+    /// Q1: the first word is not one of a text of risks.
     #[error("the first word of the line is not RISK")]
     UnknownWord,
     /// Q2: no name, or no groups.
@@ -23,12 +24,20 @@ pub enum RiskWord {
     /// Q5: the plan has no such group.
     #[error("the plan has no such group")]
     UnknownName,
-    /// Q6: a group stands there twice.
+    /// Q6: a group is there twice.
     #[error("a group stands there twice")]
     RepeatedGroup,
     /// Q10: no memory was left.
     #[error("no memory")]
     NoMemory,
+}
+
+impl From<NoMemory> for RiskWord {
+    ghost from_gives = { λ _ word. word ≡ OutOfMemory };
+
+    fn from(_: NoMemory) -> RiskWord {
+        RiskWord::NoMemory
+    }
 }
 
 /// What is wrong with a text of risks, and the line of it, counted from 1.
@@ -39,20 +48,8 @@ pub fn code_and_name(kind: FaultKind<RiskWord>) -> (&'static [u8], &'static [u8]
     ensures { (result.0.now, result.1.now) ≡ fault_row kind }
 {
     match kind {
-        FaultKind::Frame(fault) => frame_row(fault),
+        FaultKind::Frame(fault) => fault.code_and_name(b"Q7", b"Q8", b"Q9", b"Q11"),
         FaultKind::Word(word) => word_row(word),
-    }
-}
-
-fn frame_row(fault: FrameFault) -> (&'static [u8], &'static [u8])
-    ensures { (result.0.now, result.1.now) ≡ frame_row fault }
-{
-    match fault {
-        FrameFault::Form(FormFault::NoHeader) => (b"Q7", b"NoHeader"),
-        FrameFault::Form(FormFault::NoEnd) => (b"Q8", b"NoEnd"),
-        FrameFault::Form(FormFault::AfterEnd) => (b"Q9", b"AfterEnd"),
-        FrameFault::Line(LineFault::Read) => (b"Q11", b"ReadFault"),
-        FrameFault::Line(LineFault::Text(fault)) => fault.code_and_name(),
     }
 }
 

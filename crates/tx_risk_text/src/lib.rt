@@ -1,5 +1,5 @@
-//! The text of named risks. A reader takes it exactly where it keeps to the format, and else tells
-//! its first fault with its line.
+//! The text of named risks. A reader takes it exactly where it keeps to the format, and else
+//! reports its first fault with its line.
 #![tactic(auto)]
 
 mod declaring;

@@ -7,7 +7,7 @@ use tx_risk::NamedRisk;
 use tx_text::NoMemory;
 
 /// Named risks, in order.
-#[derive(Drop)]
+#[derive(Debug, Drop)]
 pub struct Risks<A: Allocator = Global> {
     risks: Vec<NamedRisk<A>, A>,
 }

@@ -1,29 +1,29 @@
 -- What was counted over a run tells its summary.
-use Rattle.std.proofs.Common.{◌≡◌, ℕ, ◌+◌, ◌^◌, ◌<◌, ◌≤◌, codes, List, [], ◌∷◌, ◌++◌, length, get_or, Option, Some, None, Bool, true, false, refl, sym, ap, ap₂, ◌∙◌, subst, arith, append_assoc, append-nil}
-use Rattle.std.specs.Prelude.{option_map, is_some}
+use Rattle.std.proofs.Common.{◌≡◌, ℕ, ◌^◌, ◌<◌, codes, List, [], ◌∷◌, ◌++◌, length, get_or, Option, Some, None, Bool, true, false, refl, sym, ap, ap₂, ◌∙◌, subst, arith, append_assoc, append-nil}
+use Rattle.std.specs.Prelude.{option_map}
 use Rattle.std.specs.List.{flat_map, range_with_len}
 use Rattle.std.specs.FinSet as set
-use Rattle.std.proofs.lemmas.List.Concat.{flat_map-append, length-flat_map}
+use Rattle.std.proofs.lemmas.List.Concat.{length-flat_map}
 use Rattle.tx_plan.specs.Plan.{Plan}
 use Rattle.tx_plan.specs.Rules.{IsPlan}
 use Rattle.tx_tickets.specs.Texts.{cause_text}
-use Rattle.tx_state.specs.declared.event.Event.{Event}
-use Rattle.tx_state.specs.declared.reply.Reply.{Reply}
-use Rattle.tx_state.specs.Ended.{Ended}
-use Rattle.tx_state.specs.Invariant.{Inv, Holds}
-use Rattle.tx_state.specs.State.{State}
-use Rattle.tx_state.specs.Step.{step}
-use Rattle.tx_state.specs.Runs.{Moment, moment, run, state_after}
-use Rattle.tx_state.proofs.Invariant.{inv_opening}
-use Rattle.tx_state.proofs.Steps.{step_keeps}
+use Rattle.tx_machine.specs.declared.event.Event.{Event}
+use Rattle.tx_machine.specs.declared.reply.Reply.{Reply}
+use Rattle.tx_machine.specs.Ended.{Ended}
+use Rattle.tx_machine.specs.inner.Invariant.{Inv, Holds}
+use Rattle.tx_machine.specs.State.{State}
+use Rattle.tx_machine.specs.Step.{step}
+use Rattle.tx_machine.specs.Runs.{Moment, moment, run, state_after}
+use Rattle.tx_machine.proofs.Invariant.{inv_opening}
+use Rattle.tx_machine.proofs.Steps.{step_keeps}
 use Rattle.tx_script.specs.Answers.{IsFresh}
 use Rattle.tx_script.specs.Output.{tickets_made, end_text}
 use Rattle.tx_script.specs.Summaries.{calls_line, causes, ended_by, peak_line, summary_text}
 use Rattle.tx_script.specs.Taken.{peak}
-use Rattle.tx_script.specs.declared.telling.Telling.{Telling}
+use Rattle.tx_script.specs.declared.teller.Telling.{Telling}
 use Rattle.tx_script.specs.Telling.{told_last}
 use Rattle.tx_script.specs.TellingAnswers.{NoneReleasing}
-use Rattle.tx_script.specs.inner.Counting.{Counted, AreFew, AreNew, asked_of, counts_for, count_for, counted_on, counted_over, ends_counted, uses_counted, nothing_counted, counts_text, last_lines, use_at}
+use Rattle.tx_script.specs.inner.Counting.{Counted, AreFew, AreNew, asked_of, counts_for, counted_on, counted_over, ends_counted, uses_counted, nothing_counted, counts_text, last_lines, use_at}
 use Rattle.tx_script.proofs.Ended.{AreEnded, none_ended, ended_all, ended_within, ended_told}
 use Rattle.tx_script.proofs.GroupUses.{AreGroupUses, none_used, uses_step, peaks_told}
 use Rattle.tx_script.proofs.Moments.{few_tickets}
@@ -107,9 +107,10 @@ module _ (p : Plan) (ok : IsPlan p) where
 
 -- ---- where it is asked for
 
-pub new_counts : (p : Plan) (s : State) → NoneReleasing s → (summary : Bool) → AreNew p s (counts_for p summary)
-new_counts p s released true = (refl, released)
-new_counts p s released false = tt
+pub new_counts : (p : Plan) (s : State) (summary : Bool) → (summary ≡ true → NoneReleasing s)
+    → AreNew p s (counts_for p summary)
+new_counts p s true released = (refl, released refl)
+new_counts p s false released = tt
 
 pub asked_is : (p : Plan) (t : Telling) → asked_of t.echo (counts_for p t.summary) ≡ t
 asked_is p t = by t.summary refl

@@ -7,10 +7,10 @@ use Rattle.std.proofs.lemmas.List.Concat.{flat_map-append}
 use Rattle.tx_text.specs.Ends.{StopsIn}
 use Rattle.tx_text.proofs.Writing.{append_known-nil, append_known_twice}
 use Rattle.tx_plan.specs.Plan.{Plan}
-use Rattle.tx_state.specs.Ended.{Ended}
-use Rattle.tx_state.specs.State.{State, ticket_taken}
-use Rattle.tx_state.specs.Drained.{drained}
-use Rattle.tx_state.proofs.Lists.{first_of, none_in}
+use Rattle.tx_machine.specs.Ended.{Ended}
+use Rattle.tx_machine.specs.State.{State, ticket_taken}
+use Rattle.tx_machine.specs.Drained.{drained}
+use Rattle.tx_machine.proofs.Lists.{first_of, none_in}
 use Rattle.tx_tickets.specs.Texts.{ticket_text}
 use Rattle.tx_script.specs.Untold.{StopsAtTicket}
 

@@ -8,19 +8,20 @@ use Rattle.std.proofs.lemmas.Bool.Decides.{nat_tests}
 use Rattle.std.proofs.lemmas.List.{take_at}
 use Rattle.tx_text.specs.Words.{is_letter, is_figure, are_figures}
 use Rattle.tx_text.specs.Frame.{is_end}
-use Rattle.tx_text.specs.Written.{IsWrittenLine, joined}
+use Rattle.tx_text.specs.Written.{joined}
+use Rattle.tx_text.specs.inner.Written.{IsWrittenLine}
 use Rattle.tx_text.proofs.ReadBack.{words_joined}
 use Rattle.tx_text.proofs.WrittenWords.{IsShortWord, all_stronger, name_bytes, name_word, figures_word, number_word, number_back, circuit_word, line_of_short, fixed_word, no_fault}
 use Rattle.tx_plan.specs.Plan.{Plan, group_name, figures_of as code_figures}
 use Rattle.tx_plan.specs.Rules.{IsPlan, is_national}
-use Rattle.tx_entries.specs.declared.circuit.Circuit.{Circuit}
-use Rattle.tx_entries.specs.declared.line.Line.{Line}
-use Rattle.tx_state.specs.declared.event.Event.{Event}
-use Rattle.tx_state.specs.declared.event.Event.TheVariants.{Key, Route, Confirm, Clear, Released, Fail, Restore, Block, Unblock, CircuitOut, CircuitIn, LineFault, LineMend, LineAway, LineBack}
-use Rattle.tx_state.specs.declared.party.Party.{Party}
-use Rattle.tx_state.specs.declared.party.Party.TheVariants.{Caller, Called}
+use Rattle.tx_plan.specs.declared.ids.Circuit.{Circuit}
+use Rattle.tx_plan.specs.declared.ids.Line.{Line}
+use Rattle.tx_machine.specs.declared.event.Event.{Event}
+use Rattle.tx_machine.specs.declared.event.Event.TheVariants.{Key, Route, Confirm, Clear, Released, Fail, Restore, Block, Unblock, CircuitOut, CircuitIn, LineFault, LineMend, LineAway, LineBack}
+use Rattle.tx_machine.specs.declared.open_call.Party.{Party}
+use Rattle.tx_machine.specs.declared.open_call.Party.TheVariants.{Caller, Called}
 use Rattle.tx_tickets.specs.Texts.{circuit_text}
-use Rattle.tx_script.specs.Events.{is_dot, cut_at_dot, from_one, line_of, circuit_of, call_in, group_in, party_word, event_of, event_in, event_words, IsWritableCircuit, IsWritable, IsEvent, EventsReadBack}
+use Rattle.tx_script.specs.Events.{is_dot, cut_at_dot, from_one, line_of, circuit_of, call_in, group_in, party_word, event_of, event_in, event_words, IsWritableCircuit, FitsPlan, IsEvent, EventsReadBack}
 use Rattle.tx_plan.proofs.NamesBack.{code_back, figures_are_code, group_back, group_is_name}
 
 -- ---- what each word says
@@ -28,7 +29,7 @@ use Rattle.tx_plan.proofs.NamesBack.{code_back, figures_are_code, group_back, gr
 no_dot : (b : ℕ) → (is_letter b || is_figure b) ≡ true → not (is_dot b) ≡ true
 no_dot b h = grind (arith, nat_tests)
 
--- a dot behind a text without dots
+-- a dot after a text without dots
 dot_place : (w rest : List ℕ) → list_all (λ b. not (is_dot b)) w ≡ true → prefix_len (λ b. not (is_dot b)) (w ++ 46 ∷ rest) ≡ length w
 dot_place [] rest h = refl
 dot_place (b ∷ w) rest h =
@@ -88,7 +89,7 @@ module _ (p : Plan) (h : IsPlan p) where
     pub some : 0 < length ws
     pub no_end : is_end ws ≡ false
 
-  -- one word behind a first one of letters
+  -- one word after a first one of letters
   after_one : (e : Event) (first w : List ℕ) → event_of p (first ∷ w ∷ []) ≡ Ok e → IsShortWord first → IsShortWord w → SaysEvent e (first ∷ w ∷ [])
   after_one e first w s f g = record { says = s; written = line_of_short (first ∷ w ∷ []) (f, (g, tt)) (omega arith); some = omega arith; no_end = refl }
 
@@ -104,7 +105,7 @@ module _ (p : Plan) (h : IsPlan p) where
   clear_back n Caller h = let e = number_back (2 ^ 32 - 1) n (omega arith) (omega arith) in rw e refl
   clear_back n Called h = let e = number_back (2 ^ 32 - 1) n (omega arith) (omega arith) in rw e refl
 
-  pub words_back : (e : Event) → IsWritable p e → IsEvent e → SaysEvent e (event_words p e)
+  pub words_back : (e : Event) → FitsPlan p e → IsEvent e → SaysEvent e (event_words p e)
   unfolding event_of
   words_back (Key l keyed) w k = record {
     says = key_back l keyed w k.0 k.1;
@@ -138,4 +139,4 @@ module _ (p : Plan) (h : IsPlan p) where
       rw (f, j, k) refl
 
 pub events_back : EventsReadBack
-events_back p e h w k = line_says p h e (event_words p e) (words_back p h e w k)
+events_back p e h w = line_says p h e (event_words p e) (words_back p h e w.0 w.1)

@@ -1,9 +1,7 @@
 -- The circuits that are taken, as they are marked, and one event more.
-use Rattle.std.proofs.Common.{◌≡◌, ◌≢◌, ℕ, zero, suc, ◌+◌, ◌<◌, ◌≤◌, ◌==◌, Bool, true, false, not, ◌&&◌, ◌||◌, cond, List, [], ◌∷◌, ◌++◌, length, get_or, Option, Some, None, inl, inr, refl, sym, ap, ap₂, ◌∙◌, subst, eqb-true, eq-eqb, arith, length-append}
-use Rattle.std.proofs.Math.Numerals.{add-one}
+use Rattle.std.proofs.Common.{◌≡◌, ◌≢◌, ℕ, zero, suc, ◌+◌, ◌<◌, ◌≤◌, ◌==◌, Bool, true, false, not, ◌&&◌, ◌||◌, cond, List, [], ◌∷◌, ◌++◌, length, get_or, Option, Some, None, inl, inr, refl, sym, ap, ap₂, ◌∙◌, subst, eq-eqb, arith}
 use Rattle.std.proofs.lemmas.Bool.{false≢true, and_parts, ne_eqb, cases_eq}
-use Rattle.std.proofs.lemmas.List.{get_or-set_same, get_or-set_other, get_or-replicate, get_or-map, length-replicate, length-set, length-map}
-use Rattle.std.proofs.lemmas.Option.{get_or_from_slice_get}
+use Rattle.std.proofs.lemmas.List.{get_or-set_same, get_or-set_other, get_or-replicate, length-replicate, length-set}
 use Rattle.std.proofs.lemmas.List.Sums.{sum_by_push}
 use Rattle.std.specs.Prelude.{if◌then◌else◌, max, slice_get, slice_set, replicate}
 use Rattle.std.specs.List.{count_by, flat_map, list_any, range_with_len}
@@ -13,15 +11,15 @@ use Rattle.tx_plan.specs.Orders.{circuit_cmp, same_circuit}
 use Rattle.tx_plan.specs.Plan.{Plan, Group}
 use Rattle.tx_plan.specs.Rules.{IsPlan, IsGroup}
 use Rattle.tx_plan.specs.Circuits.{count_of, upward}
-use Rattle.tx_entries.specs.declared.circuit.Circuit.{Circuit}
-use Rattle.tx_state.specs.declared.event.Event.{Event}
-use Rattle.tx_state.specs.declared.event.Event.TheVariants.{Key, Route, Confirm, Clear, Released, Fail, Restore, Block, Unblock, CircuitOut, CircuitIn, LineFault, LineMend, LineAway, LineBack}
-use Rattle.tx_state.specs.declared.reply.Reply.{Reply}
-use Rattle.tx_state.specs.declared.reply.Reply.TheVariants.{Keyed, Seized, At, Connected, Answered, HeadOn, Cleared, Done, Lost, Refused}
-use Rattle.tx_state.specs.State.{State}
-use Rattle.tx_state.specs.Runs.{Moment}
-use Rattle.tx_state.proofs.Lists.{at_place}
-use Rattle.tx_state.specs.Sound.{is_refused}
+use Rattle.tx_plan.specs.declared.ids.Circuit.{Circuit}
+use Rattle.tx_machine.specs.declared.event.Event.{Event}
+use Rattle.tx_machine.specs.declared.event.Event.TheVariants.{Key, Route, Confirm, Clear, Released, Fail, Restore, Block, Unblock, CircuitOut, CircuitIn, LineFault, LineMend, LineAway, LineBack}
+use Rattle.tx_machine.specs.declared.reply.Reply.{Reply}
+use Rattle.tx_machine.specs.declared.reply.Reply.TheVariants.{Keyed, Seized, At, Connected, Answered, HeadOn, Cleared, Done, Lost, Refused}
+use Rattle.tx_machine.specs.State.{State}
+use Rattle.tx_machine.specs.Runs.{Moment}
+use Rattle.tx_machine.proofs.Lists.{at_place}
+use Rattle.tx_machine.specs.Sound.{is_refused}
 use Rattle.tx_script.specs.declared.group_use.GroupUse.{GroupUse}
 use Rattle.tx_script.specs.Answers.{IsFresh}
 use Rattle.tx_script.specs.TellingAnswers.{NoneReleasing}
@@ -65,11 +63,6 @@ count_within taken (suc n) =
     let b = count_within taken n in
     let c = at_most_one (get_or taken (suc n) false) in
     omega arith
-
-pub count_more : (taken : List Bool) (n : ℕ) → count_in taken (n + 1) ≡ count_in taken n + cond (get_or taken (n + 1) false) 1 0
-count_more taken n =
-    ap (count_in taken) (add-one n) ∙ sum_by_push (λ k. cond (get_or taken k false) 1 0) (upward n) (suc n)
-    ∙ ap (λ k. count_in taken n + cond (get_or taken k false) 1 0) (sym (add-one n))
 
 -- ---- peaks
 

@@ -1,4 +1,4 @@
-pub mod EventWords
+pub mod WordCounts
 pub mod EventLines
 pub mod Writable
 pub mod Balance
@@ -15,3 +15,4 @@ pub mod Told
 pub mod Running
 pub mod RunEnds
 pub mod Silent
+pub mod Retold

@@ -1,32 +1,30 @@
 -- The ways in which a run ends, and a step of its frame.
-use Rattle.std.proofs.Common.{◌≡◌, ℕ, ◌+◌, ◌<◌, Bool, true, cond, List, [], ◌∷◌, ◌++◌, length, Option, Some, None, ◌⊎◌, Result, Ok, Err, IfOk, IfErr, OnOk, OnErr, inl, inr, refl, sym, ap, ◌∙◌, subst, append-nil}
+use Rattle.std.proofs.Common.{◌≡◌, ℕ, ◌+◌, ◌<◌, Bool, true, cond, List, [], ◌∷◌, ◌++◌, length, Option, None, ◌⊎◌, Result, Ok, Err, IfOk, IfErr, OnOk, OnErr, inl, inr, refl, sym, ap, ◌∙◌, subst, append-nil}
 use Rattle.std.specs.Prelude.{if◌then◌else◌, option_map}
 use Rattle.std.specs.List.{flat_map, count_by}
 use Rattle.std.specs.Io.KnownBytes.{append_known, IsAtEnd}
-use Rattle.tx_text.specs.declared.text_fault.TextFault.TheVariants.{LineTooLong, BadByte, NoMemory as TextNoMemory}
-use Rattle.tx_text.specs.declared.line_fault.LineFault.TheVariants.{Text, Read as line_read}
+use Rattle.tx_text.specs.declared.frame.FrameFault.TheVariants.{LineTooLong, BadByte, NoMemory as TextNoMemory, Read as line_read, NoHeader, NoEnd, AfterEnd}
 use Rattle.tx_text.specs.declared.frame.FrameFault.{FrameFault}
-use Rattle.tx_text.specs.declared.frame.FrameFault.TheVariants.{Line as of_line, Form as of_form}
 use Rattle.tx_text.specs.declared.frame.FaultKind.{FaultKind}
 use Rattle.tx_text.specs.declared.frame.FaultKind.TheVariants.{Frame, Word}
-use Rattle.tx_text.specs.Ends.{StopsIn}
+use Rattle.tx_text.specs.Ends.{StopsIn, Input, Output}
 use Rattle.tx_text.specs.Told.{Ending, AtEnd}
 use Rattle.tx_text.specs.Frame.{Framed, Done, Stop, Has, ReadsOn, EndsAs, Stopped, is_read}
 use Rattle.tx_text.specs.Text.{Line}
 use Rattle.tx_text.specs.declared.frame.FrameStep.{FrameStep}
 use Rattle.tx_text.specs.declared.frame.FrameStep.TheVariants.{Header, Line as LineStep, End}
-use Rattle.tx_text.specs.Framing.{number_of_line, words_of_line, GoesOn}
+use Rattle.tx_text.specs.inner.Framing.{number_of_line, words_of_line, GoesOn}
 use Rattle.tx_text.specs.Said.{is_no_room}
 use Rattle.tx_text.proofs.NoRoom.{IsSaid, none_stops}
 use Rattle.tx_text.proofs.Writing.{append_known_twice}
 use Rattle.tx_plan.specs.Plan.{Plan}
 use Rattle.tx_plan.specs.Rules.{IsPlan}
-use Rattle.tx_state.specs.declared.event.Event.{Event}
-use Rattle.tx_state.specs.State.{State}
-use Rattle.tx_state.specs.Refusals.{refusal}
-use Rattle.tx_state.specs.Runs.{Moment, moment, run, state_after}
-use Rattle.tx_state.specs.Sound.{is_refused}
-use Rattle.tx_state.specs.Drained.{drained}
+use Rattle.tx_machine.specs.declared.event.Event.{Event}
+use Rattle.tx_machine.specs.State.{State}
+use Rattle.tx_machine.specs.Refusals.{refusal}
+use Rattle.tx_machine.specs.Runs.{moment, run, state_after}
+use Rattle.tx_machine.specs.Sound.{is_refused}
+use Rattle.tx_machine.specs.Drained.{drained}
 use Rattle.tx_tickets.specs.Texts.{reply_text, ticket_text}
 use Rattle.tx_script.specs.declared.answer.Answered.{Answered}
 use Rattle.tx_script.specs.declared.run_fault.RunFault.{RunFault}
@@ -34,15 +32,16 @@ use Rattle.tx_script.specs.declared.run_cause.RunCause.{RunCause}
 use Rattle.tx_script.specs.declared.run_cause.RunCause.TheVariants.{Read, Write, Script as OfScript, NoMemory}
 use Rattle.tx_script.specs.declared.script_word.ScriptWord.{ScriptWord}
 use Rattle.tx_script.specs.declared.summary.Summary.{Summary}
-use Rattle.tx_script.specs.declared.tally.Tally.{Tally}
-use Rattle.tx_script.specs.declared.telling.Telling.{Telling}
+use Rattle.tx_script.specs.declared.teller.Tally.{Tally}
+use Rattle.tx_script.specs.declared.teller.Telling.{Telling}
 use Rattle.tx_script.specs.Events.{Said, event_of}
 use Rattle.tx_script.specs.Script.{faulty, script_said, script_of}
 use Rattle.tx_script.specs.Output.{end_text}
 use Rattle.tx_script.specs.Untold.{IsUntold}
-use Rattle.tx_script.specs.Answers.{IsFresh, Moved, settled, next, Begins}
+use Rattle.tx_script.specs.Answers.{IsFresh, States, settled, next, Begins}
 use Rattle.tx_script.specs.Telling.{echo_asked, told_events, told_last}
-use Rattle.tx_script.specs.TellingAnswers.{IsTold, StopsInLines, Untold, LineTold, ToldRan, TellingAnswers}
+use Rattle.tx_script.specs.inner.LineAnswers.{Untold, LineTold}
+use Rattle.tx_script.specs.TellingAnswers.{StopsInLines, ToldRan, StoppedTelling, TellingAnswers}
 use Rattle.tx_script.specs.inner.Counting.{Counted, AreNew, asked_of, counted_on, last_lines}
 use Rattle.tx_script.proofs.Scripts.{event_said, fault_said, whole_said, stop_said}
 use Rattle.tx_script.proofs.Moments.{reply_same, made_same, after_same}
@@ -85,81 +84,84 @@ module _ (p : Plan) (echo : Bool) (first now : Option Counted) (a b : Option (Li
   place : tally.answered + 1 ≡ length es + 1
   place = ap (λ n. n + 1) on.answered
 
-  module _ (c : Option (List ℕ)) where
-    abbrev there : Moved
-    there = record { rest_old = a; rest_new = c; taken_old = u; taken_new = v; state_old = s; state_new = t }
+  -- what the source, the network and the sink came to
+  module _ (c : Option (List ℕ)) (r : State) (w : Option (List ℕ)) (broken unread unchanged silent : Type 0) where
+    abbrev source : Input
+    source = record { old = a; new = c; broken = broken; unread = unread }
 
-    ran : (n : ℕ) (k : FaultKind ScriptWord) → ToldRan p tel there (faulty es n k)
-    ran n k = record { wrote = on.wrote ∙ ap (append_known u) (sym (append-nil (told_events p echo s es))); network = on.network }
+    abbrev net : States
+    net = record { old = s; new = r; unchanged = unchanged }
 
-    module _ (broken untouched : Type 0) (f : RunFault) where
+    abbrev sink : Output
+    sink = record { old = u; new = w; silent = silent }
+
+    -- nothing was done after the events
+    module _ (kept : r ≡ t) (unwritten : w ≡ v) (f : RunFault) where
+      ran : (n : ℕ) (k : FaultKind ScriptWord) → ToldRan p tel source net sink (faulty es n k)
+      ran n k = record { wrote = unwritten ∙ on.wrote ∙ ap (append_known u) (sym (append-nil (told_events p echo s es))); network = kept ∙ on.network }
+
       -- a line says no event
       word_ends : (n : ℕ) (ws : List (List ℕ)) (U : Ending → List ℕ → Framed) (k : ScriptWord) → ReadsOn b c T (λ e more. Has n ws (U e more)) → event_of p ws ≡ Err k
-          → f ≡ record { event = tally.answered + 1; cause = OfScript (record { line = n; kind = Word k }) } → TellingAnswers p tel there broken untouched (Err f)
+          → f ≡ record { event = tally.answered + 1; cause = OfScript (record { line = n; kind = Word k }) } → StoppedTelling p tel source net sink f.event f.cause
       word_ends n ws U k q h i =
-          subst (λ (z : RunFault). TellingAnswers p tel there broken untouched (Err z)) (sym i)
+          subst (λ (z : RunFault). StoppedTelling p tel source net sink z.event z.cause) (sym i)
           (record { events = es; place = place; text = inl (fault_said p a b c es T on.said n ws U k q h); ran = ran n (Word k) })
 
       -- the frame is faulty, or the source failed
       stop_by : (n : ℕ) (k : FrameFault) → (is_no_room k ≡ true → ⊥) → Stopped a c (script_of p) broken (is_read k) (faulty es n (Frame k))
-          → TellingAnswers p tel there broken untouched (Err (record { event = tally.answered + 1; cause = if is_read k then Read else OfScript (record { line = n; kind = Frame k }) }))
-      stop_by n (of_line line_read) none q = record { events = es; line = n; place = place; text = q.0; failed = q.1; ran = ran n (Frame (of_line line_read)) }
-      stop_by n (of_line (Text LineTooLong)) none q = record { events = es; place = place; text = q; ran = ran n (Frame (of_line (Text LineTooLong))) }
-      stop_by n (of_line (Text BadByte)) none q = record { events = es; place = place; text = q; ran = ran n (Frame (of_line (Text BadByte))) }
-      stop_by n (of_line (Text TextNoMemory)) none q = absurd (none refl)
-      stop_by n (of_form x) none q = record { events = es; place = place; text = q; ran = ran n (Frame (of_form x)) }
+          → StoppedTelling p tel source net sink (tally.answered + 1) (if is_read k then Read else OfScript (record { line = n; kind = Frame k }))
+      stop_by n line_read none q = record { events = es; line = n; place = place; text = q.0; failed = q.1; ran = ran n (Frame line_read) }
+      stop_by n LineTooLong none q = record { events = es; place = place; text = q; ran = ran n (Frame LineTooLong) }
+      stop_by n BadByte none q = record { events = es; place = place; text = q; ran = ran n (Frame BadByte) }
+      stop_by n TextNoMemory none q = absurd (none refl)
+      stop_by n NoHeader none q = record { events = es; place = place; text = q; ran = ran n (Frame NoHeader) }
+      stop_by n NoEnd none q = record { events = es; place = place; text = q; ran = ran n (Frame NoEnd) }
+      stop_by n AfterEnd none q = record { events = es; place = place; text = q; ran = ran n (Frame AfterEnd) }
 
       pub stop_ends : (n : ℕ) (k : FrameFault) → ((e : Ending) (more : List ℕ) → IsSaid (T e more)) → Stopped b c T broken (is_read k) (Stop n k)
-          → f ≡ record { event = tally.answered + 1; cause = if is_read k then Read else OfScript (record { line = n; kind = Frame k }) } → TellingAnswers p tel there broken untouched (Err f)
+          → f ≡ record { event = tally.answered + 1; cause = if is_read k then Read else OfScript (record { line = n; kind = Frame k }) } → StoppedTelling p tel source net sink f.event f.cause
       stop_ends n k said q i =
-          subst (λ (z : RunFault). TellingAnswers p tel there broken untouched (Err z)) (sym i) (stop_by n k (none_stops b c T n k broken (is_read k) said q) (stop_said p a b c es T on.said n k broken q))
+          subst (λ (z : RunFault). StoppedTelling p tel source net sink z.event z.cause) (sym i) (stop_by n k (none_stops b c T n k broken (is_read k) said q) (stop_said p a b c es T on.said n k broken q))
 
-  -- an event was not told whole
-  module _ (c : Option (List ℕ)) (r : State) (w : Option (List ℕ)) (broken untouched : Type 0) where
-    abbrev after : Moved
-    after = record { rest_old = a; rest_new = c; taken_old = u; taken_new = w; state_old = s; state_new = r }
-
-    untold_by : (e : Event) (k : ℕ) → Begins p after (es ++ e ∷ []) → k ≡ length es + 1 → (cause : RunCause) → Untold p echo k e (settled p s es) r (append_known u (told_events p echo s es)) w cause → TellingAnswers p tel after broken untouched (Err (record { event = k; cause = cause }))
+    -- an event was not told whole
+    untold_by : (e : Event) (k : ℕ) → Begins p source (es ++ e ∷ []) → k ≡ length es + 1 → (cause : RunCause) → Untold p echo k e (settled p s es) r (append_known u (told_events p echo s es)) w cause → StoppedTelling p tel source net sink k cause
     untold_by e k text is Read h = absurd h
     untold_by e k text is Write h = inl (record { events = es; hand = e; place = is; text = text; lines = lines_same p s es e echo k r (append_known u (told_events p echo s es)) w h })
     untold_by e k text is (OfScript f) h = absurd h
     untold_by e k text is NoMemory h = inl (record { events = es; hand = e; place = is; text = text; wrote = h.written; network = h.network; asks = h.asks; unrefused = ap (λ (z : State). refusal p z e) h.network ∙ h.unrefused })
 
     untold_ends : (f : RunFault) (n : ℕ) (ws : List (List ℕ)) (U : Ending → List ℕ → Framed) (e : Event) (k : ℕ) (cause : RunCause) → ReadsOn b c T (λ e more. Has n ws (U e more)) → event_of p ws ≡ Ok e
-        → k ≡ tally.answered + 1 → Untold p echo k e t r v w cause → f ≡ record { event = tally.answered + 1; cause = cause } → TellingAnswers p tel after broken untouched (Err f)
+        → k ≡ tally.answered + 1 → Untold p echo k e t r v w cause → f ≡ record { event = tally.answered + 1; cause = cause } → StoppedTelling p tel source net sink f.event f.cause
     untold_ends f n ws U e k cause q h number untold i =
-        let text : Begins p after (es ++ e ∷ []) = record { to_come = λ e more. script_said p (U e more); reads = event_said p a b c es T on.said n ws U e q h } in
+        let text : Begins p source (es ++ e ∷ []) = record { to_come = λ e more. script_said p (U e more); reads = event_said p a b c es T on.said n ws U e q h } in
         let here = subst (λ (z : Option (List ℕ)). Untold p echo k e (settled p s es) r z w cause) on.wrote (subst (λ (z : State). Untold p echo k e z r v w cause) on.network untold) in
-        subst (λ (z : RunFault). TellingAnswers p tel after broken untouched (Err z)) (ap (λ n. record { event = n; cause = cause }) number ∙ sym i) (untold_by e k text (number ∙ place) cause here)
+        subst (λ (z : RunFault). StoppedTelling p tel source net sink z.event z.cause) (ap (λ n. record { event = n; cause = cause }) number ∙ sym i) (untold_by e k text (number ∙ place) cause here)
 
-  -- the text is whole
-  module _ (ok : IsPlan p) (fresh : IsFresh s) (new : AreNew p s first) (c : Option (List ℕ)) (w : Option (List ℕ)) (broken untouched : Type 0) where
-    abbrev last : Moved
-    last = record { rest_old = a; rest_new = c; taken_old = u; taken_new = w; state_old = s; state_new = t }
+    -- the text is whole
+    module _ (ok : IsPlan p) (fresh : IsFresh s) (new : AreNew p s first) (kept : r ≡ t) where
+      same_end : last_lines p now t ≡ told_last p tel s es None
+      same_end = last_told p ok s fresh es echo first now t new on.counts (ap end_text on.network) (ap (λ (z : State). length z.calls) on.network)
 
-    same_end : last_lines p now t ≡ told_last p tel s es None
-    same_end = last_told p ok s fresh es echo first now t new on.counts (ap end_text on.network) (ap (λ (z : State). length z.calls) on.network)
-
-    pub whole_ends : (o : Result Summary RunFault) → EndsAs b c T AtEnd Done × IsAtEnd c
-        → IfOk o (λ z. z ≡ record { events = t.events; refused = tally.refused; tickets = tally.tickets; open_calls = length t.calls }) → OnOk o (w ≡ append_known v (last_lines p now t))
-        → IfErr o (λ f. f ≡ record { event = tally.answered + 1; cause = Write }) → OnErr o (StopsIn v w (last_lines p now t)) → TellingAnswers p tel last broken untouched o
-    whole_ends (Ok z) q counted wrote fault stop = record {
-      events = es;
-      text = (whole_said p a b c es T on.said q.0, q.1);
-      ran = record { wrote = wrote ∙ ap (λ l. append_known v l) same_end ∙ ap (λ l. append_known l (told_last p tel s es None)) on.wrote ∙ append_known_twice u (told_events p echo s es) (told_last p tel s es None); network = on.network };
-      counted = counted ∙ ap (λ (n : State). record { events = n.events; refused = tally.refused; tickets = tally.tickets; open_calls = length n.calls }) on.network
-          ∙ ap (λ n. record { events = (state_after p s es).events; refused = n; tickets = tally.tickets; open_calls = length (state_after p s es).calls }) on.refused
-          ∙ ap (λ n. record { events = (state_after p s es).events; refused = count_by (λ m. is_refused m.reply) (run p s es); tickets = n; open_calls = length (state_after p s es).calls }) on.tickets;
-    }
-    whole_ends (Err f) q counted wrote fault stop =
-        subst (λ (z : RunFault). TellingAnswers p tel last broken untouched (Err z)) (sym fault)
-        (inr (record {
-          events = es;
-          place = place;
-          text = (whole_said p a b c es T on.said q.0, q.1);
-          front = subst (λ l. StopsIn (append_known u (told_events p echo s es)) w l) same_end (subst (λ z. StopsIn z w (last_lines p now t)) on.wrote stop);
-          network = on.network;
-        }))
+      pub whole_ends : (o : Result Summary RunFault) → EndsAs b c T AtEnd Done × IsAtEnd c
+          → IfOk o (λ z. z ≡ record { events = t.events; refused = tally.refused; tickets = tally.tickets; open_calls = length t.calls }) → OnOk o (w ≡ append_known v (last_lines p now t))
+          → IfErr o (λ f. f ≡ record { event = tally.answered + 1; cause = Write }) → OnErr o (StopsIn v w (last_lines p now t)) → TellingAnswers p tel source net sink o
+      whole_ends (Ok z) q counted wrote fault stop = record {
+        events = es;
+        text = (whole_said p a b c es T on.said q.0, q.1);
+        ran = record { wrote = wrote ∙ ap (λ l. append_known v l) same_end ∙ ap (λ l. append_known l (told_last p tel s es None)) on.wrote ∙ append_known_twice u (told_events p echo s es) (told_last p tel s es None); network = kept ∙ on.network };
+        counted = counted ∙ ap (λ (n : State). record { events = n.events; refused = tally.refused; tickets = tally.tickets; open_calls = length n.calls }) on.network
+            ∙ ap (λ n. record { events = (state_after p s es).events; refused = n; tickets = tally.tickets; open_calls = length (state_after p s es).calls }) on.refused
+            ∙ ap (λ n. record { events = (state_after p s es).events; refused = count_by (λ m. is_refused m.reply) (run p s es); tickets = n; open_calls = length (state_after p s es).calls }) on.tickets;
+      }
+      whole_ends (Err f) q counted wrote fault stop =
+          subst (λ (z : RunFault). TellingAnswers p tel source net sink (Err z)) (sym fault)
+          (inr (record {
+            events = es;
+            place = place;
+            text = (whole_said p a b c es T on.said q.0, q.1);
+            front = subst (λ l. StopsIn (append_known u (told_events p echo s es)) w l) same_end (subst (λ z. StopsIn z w (last_lines p now t)) on.wrote stop);
+            network = kept ∙ on.network;
+          }))
 
   -- ---- a step of the frame
 
@@ -184,14 +186,16 @@ module _ (p : Plan) (echo : Bool) (first now : Option Counted) (a b : Option (Li
           → new ≡ record { answered = tally.answered + 1; refused = tally.refused + cond count.refused 1 0; tickets = tally.tickets + count.tickets } → IsRunning p echo first more a c s r u w U new left
       line_came new count more left falls told adds i = line_by new count more left (past_line step is falls) said says told adds i
 
-      halted_by : (broken untouched : Type 0) (f : RunFault) (cause : RunCause) (x : Said) → event_of p (words_of_line l) ≡ x → LineTold p echo n k x t r v w (Err cause) → f ≡ record { event = tally.answered + 1; cause = cause }
-          → TellingAnswers p tel (after c r w broken untouched) broken untouched (Err f)
-      halted_by broken untouched f cause (Ok e) says untold i = untold_ends c r w broken untouched f (number_of_line l) (words_of_line l) U e k cause has says next untold i
-      halted_by broken untouched f cause (Err word) says none i =
-          rw (none.network, none.written) (word_ends c broken untouched f (number_of_line l) (words_of_line l) U word has says
-          (i ∙ ap (λ z. record { event = tally.answered + 1; cause = z }) (none.fault ∙ ap (λ z. OfScript (record { line = z; kind = Word word })) number)))
+      module _ (broken unread unchanged silent : Type 0) where
+        abbrev Halted : RunFault → Type 0
+        Halted f = StoppedTelling p tel (source c r w broken unread unchanged silent) (net c r w broken unread unchanged silent) (sink c r w broken unread unchanged silent) f.event f.cause
 
-      -- a line was not answered whole
-      pub line_halted : (broken untouched : Type 0) (f : RunFault) (cause : RunCause) → LineTold p echo n k said t r v w (Err cause) → f ≡ record { event = tally.answered + 1; cause = cause }
-          → TellingAnswers p tel (after c r w broken untouched) broken untouched (Err f)
-      line_halted broken untouched f cause untold i = halted_by broken untouched f cause said says untold i
+        halted_by : (f : RunFault) (cause : RunCause) (x : Said) → event_of p (words_of_line l) ≡ x → LineTold p echo n k x t r v w (Err cause) → f ≡ record { event = tally.answered + 1; cause = cause } → Halted f
+        halted_by f cause (Ok e) says untold i = untold_ends c r w broken unread unchanged silent f (number_of_line l) (words_of_line l) U e k cause has says next untold i
+        halted_by f cause (Err word) says none i =
+            word_ends c r w broken unread unchanged silent none.network none.written f (number_of_line l) (words_of_line l) U word has says
+            (i ∙ ap (λ z. record { event = tally.answered + 1; cause = z }) (none.fault ∙ ap (λ z. OfScript (record { line = z; kind = Word word })) number))
+
+        -- a line was not answered whole
+        pub line_halted : (f : RunFault) (cause : RunCause) → LineTold p echo n k said t r v w (Err cause) → f ≡ record { event = tally.answered + 1; cause = cause } → Halted f
+        line_halted f cause untold i = halted_by f cause said says untold i

@@ -6,34 +6,32 @@ use Rattle.std.specs.Io.KnownBytes.{append_known}
 use Rattle.std.proofs.lemmas.List.Sums.{count_by-le-length}
 use Rattle.tx_text.specs.declared.frame.FaultAt.{FaultAt}
 use Rattle.tx_text.specs.Calls.{source_calls}
-use Rattle.tx_text.specs.Told.{Ending, reading_start, reading_size}
+use Rattle.tx_text.specs.Told.{Ending}
+use Rattle.tx_text.specs.inner.Reading.{reading_size}
 use Rattle.tx_text.specs.Frame.{Framed, Headed, Has, ReadsOn}
-use Rattle.tx_text.specs.declared.frame.FramePart.TheVariants.{Start}
 use Rattle.tx_text.specs.declared.frame.FrameStep.{FrameStep}
 use Rattle.tx_text.specs.declared.frame.FrameStep.TheVariants.{Header, Line as LineStep, End}
-use Rattle.tx_text.specs.declared.frame_reader.FrameReader.{FrameReader}
-use Rattle.tx_text.specs.Framing.{to_come}
+use Rattle.tx_text.specs.inner.Framing.{FrameReading, frame_start, to_come}
 use Rattle.tx_text.proofs.CallCounts.{went_past}
 use Rattle.tx_text.proofs.Writing.{append_known-nil, append_known_twice}
 use Rattle.tx_plan.specs.Plan.{Plan}
 use Rattle.tx_plan.specs.Rules.{IsPlan}
-use Rattle.tx_state.specs.declared.event.Event.{Event}
-use Rattle.tx_state.specs.State.{State}
-use Rattle.tx_state.specs.Runs.{Moment, moment, run, state_after}
-use Rattle.tx_state.specs.Sound.{is_refused}
-use Rattle.tx_state.specs.Drained.{drained}
+use Rattle.tx_machine.specs.declared.event.Event.{Event}
+use Rattle.tx_machine.specs.State.{State}
+use Rattle.tx_machine.specs.Runs.{Moment, moment, run, state_after}
+use Rattle.tx_machine.specs.Sound.{is_refused}
+use Rattle.tx_machine.specs.Drained.{drained}
 use Rattle.tx_script.specs.declared.answer.Answered.{Answered}
 use Rattle.tx_script.specs.declared.run_fault.RunFault.{RunFault}
 use Rattle.tx_script.specs.declared.run_cause.RunCause.{RunCause}
 use Rattle.tx_script.specs.declared.run_cause.RunCause.TheVariants.{Read, Script as OfScript}
 use Rattle.tx_script.specs.declared.script_word.ScriptWord.{ScriptWord}
-use Rattle.tx_script.specs.declared.tally.Tally.{Tally}
+use Rattle.tx_script.specs.declared.teller.Tally.{Tally}
 use Rattle.tx_script.specs.Events.{Said, event_of}
 use Rattle.tx_script.specs.Output.{tickets_made}
-use Rattle.tx_script.specs.Answered.{count_of}
+use Rattle.tx_script.specs.inner.LineAnswers.{count_of, IsTold, LineTold}
 use Rattle.tx_script.specs.Answers.{IsFresh, settled, next, mark_by}
 use Rattle.tx_script.specs.Telling.{told_moment, told_events}
-use Rattle.tx_script.specs.TellingAnswers.{IsTold, LineTold}
 use Rattle.tx_script.specs.inner.Counting.{Counted, AreFew, AreNew, counted_on, counted_over}
 use Rattle.tx_script.proofs.Scripts.{SaidSoFar, at_start, header_said, event_said}
 use Rattle.tx_script.proofs.Moments.{run_push, one_more, few_tickets, length_run, reply_same, made_same, after_same}
@@ -61,18 +59,18 @@ pub past_line : {W : Type 0} (step : FrameStep) → step ≡ LineStep → (step 
 past_line step is w = went_past w (λ e. let bad : LineStep ≡ End = sym is ∙ e in let worse : ⊥ = cc in worse)
 
 -- nothing was read yet
-pub start_runs : {A : Type 0} (p : Plan) (echo : Bool) (counts : Option Counted) (a : Option (List ℕ)) (s : State) (u : Option (List ℕ)) (v : FrameReader A) (tally : Tally) → v.key.now ≡ codes "SCRIPT" → v.most ≡ 1 → v.reader ≡ reading_start → v.phase ≡ Start → v.number ≡ 1
+pub start_runs : (p : Plan) (echo : Bool) (counts : Option Counted) (a : Option (List ℕ)) (s : State) (u : Option (List ℕ)) (v : FrameReading) (tally : Tally) → v ≡ frame_start (codes "SCRIPT") 1 source_calls
     → IsFresh s → tally ≡ record { answered = 0; refused = 0; tickets = 0 } → IsRunning p echo counts counts a a s s u u (to_come v) tally (reading_size v.reader)
-start_runs p echo counts a s u v tally key most reader phase number fresh i = record {
+start_runs p echo counts a s u v tally start fresh i = record {
   events = [];
-  said = at_start p a v key most reader phase number;
+  said = at_start p a v start;
   wrote = append_known-nil u;
   network = ap (drained s) fresh.no_tickets;
   answered = ap (λ (z : Tally). z.answered) i;
   refused = ap (λ (z : Tally). z.refused) i;
   tickets = ap (λ (z : Tally). z.tickets) i;
   counts = map_none (counted_over p []) (λ c. refl) counts;
-  bounded = (let n = ap (λ (z : Tally). z.answered) i in let m = ap reading_size reader in omega arith);
+  bounded = (let n = ap (λ (z : Tally). z.answered) i in let m = ap (λ (z : FrameReading). reading_size z.reader) start in omega arith);
 }
 
 module _ (p : Plan) (echo : Bool) (first now : Option Counted) (a b : Option (List ℕ)) (s t : State) (u v : Option (List ℕ)) (T : Ending → List ℕ → Framed) (tally : Tally) (size : ℕ) (on : IsRunning p echo first now a b s t u v T tally size) where

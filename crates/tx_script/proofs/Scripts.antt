@@ -3,15 +3,15 @@ use Rattle.std.proofs.Common.{◌≡◌, ℕ, List, [], ◌∷◌, ◌++◌, Opt
 use Rattle.tx_text.specs.declared.frame.FrameFault.{FrameFault}
 use Rattle.tx_text.specs.declared.frame.FaultKind.{FaultKind}
 use Rattle.tx_text.specs.declared.frame.FaultKind.TheVariants.{Frame, Word}
-use Rattle.tx_text.specs.declared.frame.FramePart.TheVariants.{Start}
-use Rattle.tx_text.specs.declared.frame_reader.FrameReader.{FrameReader}
-use Rattle.tx_text.specs.Told.{Ending, AtEnd, reading_start, told_at}
+use Rattle.tx_text.specs.Calls.{source_calls}
+use Rattle.tx_text.specs.Told.{Ending, AtEnd}
+use Rattle.tx_text.specs.inner.Reading.{told_at}
 use Rattle.tx_text.specs.Frame.{Framed, Done, Stop, Headed, Has, ReadsOn, EndsAs, Stopped, is_read}
-use Rattle.tx_text.specs.Framing.{to_come}
+use Rattle.tx_text.specs.inner.Framing.{FrameReading, frame_start, to_come}
 use Rattle.tx_text.proofs.ReadingOn.{moves-nil}
 use Rattle.tx_text.proofs.Framing.{on_then, end_then, map_on, map_end, stopped_map}
 use Rattle.tx_plan.specs.Plan.{Plan}
-use Rattle.tx_state.specs.declared.event.Event.{Event}
+use Rattle.tx_machine.specs.declared.event.Event.{Event}
 use Rattle.tx_script.specs.declared.script_word.ScriptWord.{ScriptWord}
 use Rattle.tx_script.specs.Events.{event_of}
 use Rattle.tx_script.specs.Script.{Script, whole, faulty, after_events, line_said, script_said, script_of}
@@ -35,9 +35,9 @@ after_one es e s = ap (λ (l : List Event). record { events = l; fault = s.fault
 
 module _ (p : Plan) where
   -- nothing was read yet
-  pub at_start : {A : Type 0} (a : Option (List ℕ)) (v : FrameReader A) → v.key.now ≡ codes "SCRIPT" → v.most ≡ 1 → v.reader ≡ reading_start → v.phase ≡ Start → v.number ≡ 1 → SaidSoFar p a a [] (to_come v)
+  pub at_start : (a : Option (List ℕ)) (v : FrameReading) → v ≡ frame_start (codes "SCRIPT") 1 source_calls → SaidSoFar p a a [] (to_come v)
   unfolding told_at
-  at_start a v k m r ph n = record { read = []; moves = moves-nil a; gives = λ d more. rw (k, m, r, ph, n) refl }
+  at_start a v h = record { read = []; moves = moves-nil a; gives = λ d more. rw h refl }
 
   module _ (a b c : Option (List ℕ)) (es : List Event) (T : Ending → List ℕ → Framed) (said : SaidSoFar p a b es T) where
     -- the header came

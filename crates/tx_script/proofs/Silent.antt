@@ -1,26 +1,26 @@
 -- A run that tells no more than replies and tickets answers what a run does.
-use Rattle.std.proofs.Common.{◌≡◌, ◌⊎◌, ℕ, ◌+◌, Bool, true, false, List, [], ◌∷◌, ◌++◌, Option, Some, None, Result, Ok, Err, inl, inr, sym, ap, ap₂, refl, ◌∙◌, subst, append-nil}
+use Rattle.std.proofs.Common.{◌≡◌, ℕ, ◌+◌, Bool, true, false, List, [], ◌∷◌, ◌++◌, Option, Some, None, Result, Ok, Err, inl, inr, sym, ap, ap₂, refl, ◌∙◌, subst, append-nil}
 use Rattle.std.proofs.lemmas.Bool.{false≢true}
 use Rattle.std.specs.List.{flat_map}
 use Rattle.std.specs.Io.KnownBytes.{append_known}
 use Rattle.tx_text.specs.declared.frame.FaultKind.{FaultKind}
-use Rattle.tx_text.specs.Ends.{StopsIn}
+use Rattle.tx_text.specs.Ends.{StopsIn, Input, Output}
 use Rattle.tx_text.proofs.Writing.{append_known-nil}
 use Rattle.tx_plan.specs.Plan.{Plan}
-use Rattle.tx_state.specs.declared.event.Event.{Event}
-use Rattle.tx_state.specs.State.{State}
-use Rattle.tx_state.specs.Runs.{Moment, run, state_after}
+use Rattle.tx_machine.specs.declared.event.Event.{Event}
+use Rattle.tx_machine.specs.State.{State}
+use Rattle.tx_machine.specs.Runs.{Moment, run, state_after}
 use Rattle.tx_script.specs.declared.run_fault.RunFault.{RunFault}
 use Rattle.tx_script.specs.declared.run_cause.RunCause.{RunCause}
 use Rattle.tx_script.specs.declared.run_cause.RunCause.TheVariants.{Read, Write, Script as OfScript, NoMemory}
 use Rattle.tx_script.specs.declared.script_word.ScriptWord.{ScriptWord}
 use Rattle.tx_script.specs.declared.summary.Summary.{Summary}
-use Rattle.tx_script.specs.declared.telling.Telling.{Telling}
+use Rattle.tx_script.specs.declared.teller.Telling.{Telling}
 use Rattle.tx_script.specs.Script.{Script}
-use Rattle.tx_script.specs.Output.{moment_text, events_text, end_text, last_text, output}
+use Rattle.tx_script.specs.Output.{moment_text, events_text, end_text, last_text}
 use Rattle.tx_script.specs.Untold.{IsUntold}
-use Rattle.tx_script.specs.Answers.{Moved, next, Ran, Stopped, FaultyBy, RunAnswers, is_reader_room}
-use Rattle.tx_script.specs.Telling.{told_moments, told_events, told_last, told_output}
+use Rattle.tx_script.specs.Answers.{States, next, Ran, Stopped, FaultyBy, RunAnswers, is_reader_room}
+use Rattle.tx_script.specs.Telling.{told_moments, told_events, told_last}
 use Rattle.tx_script.specs.TellingAnswers.{ToldRan, StopsInLines, FaultyTold, StoppedTelling, TellingAnswers}
 
 abbrev pub nothing : Telling
@@ -41,10 +41,10 @@ module _ (p : Plan) (s : State) (es : List Event) where
   last_silent None = end_silent
   last_silent (Some x) = refl
 
-module _ (p : Plan) (x : Moved) (broken untouched : Type 0) where
-  ran_silent : (script : Script) → ToldRan p nothing x script → Ran p x script
+module _ (p : Plan) (source : Input) (net : States) (sink : Output) where
+  ran_silent : (script : Script) → ToldRan p nothing source net sink script → Ran p source net sink script
   ran_silent script told = record {
-    wrote = told.wrote ∙ ap (append_known x.taken_old) (ap₂ (λ (a b : List ℕ). a ++ b) (events_silent p x.state_old script.events) (last_silent p x.state_old script.events script.fault));
+    wrote = told.wrote ∙ ap (append_known sink.old) (ap₂ (λ (a b : List ℕ). a ++ b) (events_silent p net.old script.events) (last_silent p net.old script.events script.fault));
     network = told.network;
   }
 
@@ -52,25 +52,25 @@ module _ (p : Plan) (x : Moved) (broken untouched : Type 0) where
   lines_silent n m t a b (inl h) = absurd (false≢true h.0)
   lines_silent n m t a b (inr h) = subst (λ z. IsUntold p m t z b) (sym (append_known-nil a)) h
 
-  faulty_silent : (room : Bool) (event line : ℕ) (kind : FaultKind ScriptWord) → FaultyTold p nothing x untouched room event line kind → FaultyBy p x untouched room event line kind
+  faulty_silent : (room : Bool) (event line : ℕ) (kind : FaultKind ScriptWord) → FaultyTold p nothing source net sink room event line kind → FaultyBy p source net sink room event line kind
   faulty_silent true event line kind told = told
   faulty_silent false event line kind told = record { events = told.events; place = told.place; text = told.text; ran = ran_silent _ told.ran }
 
-  stopped_silent : (event : ℕ) (cause : RunCause) → StoppedTelling p nothing x broken untouched event cause → Stopped p x broken untouched event cause
+  stopped_silent : (event : ℕ) (cause : RunCause) → StoppedTelling p nothing source net sink event cause → Stopped p source net sink event cause
   stopped_silent event Read told = record { events = told.events; line = told.line; place = told.place; text = told.text; failed = told.failed; ran = ran_silent _ told.ran }
   stopped_silent event Write (inl told) = inl (record {
     events = told.events;
     hand = told.hand;
     place = told.place;
     text = told.text;
-    untold = subst (λ l. IsUntold p (next p x.state_old told.events told.hand) x.state_new (append_known x.taken_old l) x.taken_new) (events_silent p x.state_old told.events) (lines_silent event _ _ _ _ told.lines);
+    untold = subst (λ l. IsUntold p (next p net.old told.events told.hand) net.new (append_known sink.old l) sink.new) (events_silent p net.old told.events) (lines_silent event _ _ _ _ told.lines);
   })
   stopped_silent event Write (inr told) = inr (record {
     events = told.events;
     place = told.place;
     text = told.text;
-    front = subst (λ l. StopsIn (append_known x.taken_old l) x.taken_new (end_text (state_after p x.state_old told.events))) (events_silent p x.state_old told.events)
-        (subst (λ l. StopsIn (append_known x.taken_old (told_events p false x.state_old told.events)) x.taken_new l) (end_silent p x.state_old told.events) told.front);
+    front = subst (λ l. StopsIn (append_known sink.old l) sink.new (end_text (state_after p net.old told.events))) (events_silent p net.old told.events)
+        (subst (λ l. StopsIn (append_known sink.old (told_events p false net.old told.events)) sink.new l) (end_silent p net.old told.events) told.front);
     network = told.network;
   })
   stopped_silent event (OfScript f) told = faulty_silent (is_reader_room f.kind) event f.line f.kind told
@@ -79,13 +79,13 @@ module _ (p : Plan) (x : Moved) (broken untouched : Type 0) where
     hand = told.hand;
     place = told.place;
     text = told.text;
-    wrote = told.wrote ∙ ap (append_known x.taken_old) (events_silent p x.state_old told.events);
+    wrote = told.wrote ∙ ap (append_known sink.old) (events_silent p net.old told.events);
     network = told.network;
     asks = told.asks;
     unrefused = told.unrefused;
   }
   stopped_silent event NoMemory (inr told) = absurd (false≢true told.asked)
 
-  pub silent_answers : (o : Result Summary RunFault) → TellingAnswers p nothing x broken untouched o → RunAnswers p x broken untouched o
+  pub silent_answers : (o : Result Summary RunFault) → TellingAnswers p nothing source net sink o → RunAnswers p source net sink o
   silent_answers (Ok summary) told = record { events = told.events; text = told.text; ran = ran_silent _ told.ran; counted = told.counted }
   silent_answers (Err f) told = stopped_silent f.event f.cause told

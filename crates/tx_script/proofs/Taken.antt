@@ -1,39 +1,34 @@
 -- What an event does to the circuits that are taken.
-use Rattle.std.proofs.Common.{◌≡◌, ℕ, ◌+◌, ◌==◌, Bool, true, false, not, ◌&&◌, ◌||◌, List, [], ◌∷◌, ◌++◌, ◌⊎◌, inl, inr, map, Option, Some, None, refl, sym, ap, ◌∙◌, subst, eqb-true, eq-eqb, append-nil}
-use Rattle.std.proofs.lemmas.Bool.{false≢true, or_cases, and_parts, and_from, not-true, not-false, false_from_ne_true}
+use Rattle.std.proofs.Common.{◌≡◌, ℕ, ◌+◌, ◌==◌, Bool, true, false, not, ◌&&◌, ◌||◌, List, [], ◌∷◌, ◌++◌, ◌⊎◌, inl, inr, map, refl, sym, ap, ◌∙◌, subst, eqb-true, eq-eqb, append-nil}
+use Rattle.std.proofs.lemmas.Bool.{or_cases, or_left, or_right, and_parts, and_from, not-true, false_from_ne_true}
 use Rattle.std.proofs.lemmas.List.{map_push}
 use Rattle.std.specs.Prelude.{if◌then◌else◌, filter}
 use Rattle.std.specs.List.{list_any, flat_map}
 use Rattle.std.specs.Ordering.{eq_by_cmp}
 use Rattle.std.specs.FinSet as set
 use Rattle.tx_plan.specs.Orders.{circuit_cmp, same_circuit}
-use Rattle.tx_plan.specs.Plan.{Plan, home_of}
-use Rattle.tx_plan.specs.Codes.{code_of}
-use Rattle.tx_plan.specs.Circuits.{is_circuit}
-use Rattle.tx_plan.specs.Routes.{is_barred}
+use Rattle.tx_plan.specs.Plan.{Plan}
 use Rattle.tx_plan.specs.Among.{Among}
 use Rattle.tx_plan.proofs.Among.{among_cases, among_left, among_right, among_map, map_among, among_flat, flat_among, among_filter, filter_among}
-use Rattle.tx_entries.specs.declared.circuit.Circuit.{Circuit}
-use Rattle.tx_entries.specs.declared.line.Line.{Line}
-use Rattle.tx_entries.proofs.Named.{circuits_total, same_circuit-is, same_circuit-itself, circuit_tie, exact_circuits, in_insert, in_union}
-use Rattle.tx_state.specs.declared.event.Event.{Event}
-use Rattle.tx_state.specs.declared.event.Event.TheVariants.{Key, Route, Confirm, Clear, Released, Fail, Restore, Block, Unblock, CircuitOut, CircuitIn, LineFault, LineMend, LineAway, LineBack}
-use Rattle.tx_state.specs.declared.cause.Cause.{Cause}
-use Rattle.tx_state.specs.declared.cause.Cause.TheVariants.{Lost as ByLoss}
-use Rattle.tx_state.specs.declared.hop.Hop.{Hop}
-use Rattle.tx_state.specs.declared.phase.Phase.{Phase}
-use Rattle.tx_state.specs.declared.phase.Phase.TheVariants.{Standing, Calling, Connected}
-use Rattle.tx_state.specs.Call.{Call, circuit_called, is_numbered}
-use Rattle.tx_state.specs.State.{State}
-use Rattle.tx_state.specs.InUse.{circuits_used, circuits_carried, seizes, uses_group}
-use Rattle.tx_state.specs.Invariant.{Holds}
-use Rattle.tx_state.specs.Routing.{set_call, in_phase}
-use Rattle.tx_state.specs.Ending.{given_up, end_calls}
-use Rattle.tx_state.specs.Confirming.{carried_on, thrown_back, collide}
-use Rattle.tx_state.specs.Step.{keyed_call, keyed_in, failed_at}
-use Rattle.tx_state.proofs.Lists.{any_mem, mem_any, none_any, any_none}
-use Rattle.tx_state.proofs.Uses.{calling_on}
-use Rattle.tx_state.proofs.Invariant.{set_cases}
+use Rattle.tx_plan.specs.declared.ids.Circuit.{Circuit}
+use Rattle.tx_plan.specs.declared.ids.Line.{Line}
+use Rattle.tx_plan.proofs.Named.{circuits_total, same_circuit-is, same_circuit-itself, circuit_tie, exact_circuits, in_insert, in_union}
+use Rattle.tx_machine.specs.declared.cause.Cause.{Cause}
+use Rattle.tx_machine.specs.declared.cause.Cause.TheVariants.{Lost as ByLoss}
+use Rattle.tx_machine.specs.declared.open_call.Hop.{Hop}
+use Rattle.tx_machine.specs.declared.open_call.Phase.{Phase}
+use Rattle.tx_machine.specs.declared.open_call.Phase.TheVariants.{Standing, Calling, Connected}
+use Rattle.tx_machine.specs.Call.{Call, circuit_called, is_numbered}
+use Rattle.tx_machine.specs.State.{State}
+use Rattle.tx_machine.specs.InUse.{circuits_used, circuits_carried, seizes, uses_group}
+use Rattle.tx_machine.specs.inner.Invariant.{Holds}
+use Rattle.tx_machine.specs.Routing.{set_call, in_phase}
+use Rattle.tx_machine.specs.Ending.{given_up, end_calls}
+use Rattle.tx_machine.specs.Confirming.{carried_on, thrown_back, collide}
+use Rattle.tx_machine.specs.Step.{keyed_call, keyed_in, failed_at}
+use Rattle.tx_machine.proofs.Lists.{any_mem, mem_any, none_any}
+use Rattle.tx_machine.proofs.Uses.{calling_on}
+use Rattle.tx_machine.proofs.Invariant.{set_cases}
 use Rattle.tx_script.specs.Taken.{uses, is_taken}
 
 -- ---- what is taken, said of members
@@ -54,22 +49,15 @@ is_taken-so s y h =
       | inr u ↦ (let q = any_mem (uses y) s.calls u in inr (q.0, q.1, uses_member y q.0 q.2))
     ]
 
-true_or : (a b : Bool) → a ≡ true → (a || b) ≡ true
-true_or a b e = ap (λ z. z || b) e
-
-or_true : (a b : Bool) → b ≡ true → (a || b) ≡ true
-or_true true b e = refl
-or_true false b e = e
-
 pub so-is_taken : (s : State) (y : Circuit) → Taken s y → is_taken s y ≡ true
-so-is_taken s y (inl r) = true_or (set.contains s.releasing y) (list_any (uses y) s.calls) r
-so-is_taken s y (inr (c, m, u)) = or_true (set.contains s.releasing y) (list_any (uses y) s.calls) (mem_any (uses y) s.calls c m (member_uses y c u))
+so-is_taken s y (inl r) = or_left (set.contains s.releasing y) (list_any (uses y) s.calls) r
+so-is_taken s y (inr (c, m, u)) = or_right (set.contains s.releasing y) (list_any (uses y) s.calls) (mem_any (uses y) s.calls c m (member_uses y c u))
 
 -- ---- sets of circuits
 
 inserted : (s : set.FinSet circuit_cmp) (x y : Circuit) → (y ≡ x) ⊎ (set.contains s y ≡ true) → set.contains (set.insert s x) y ≡ true
-inserted s x y (inl e) = set.contains-insert circuits_total s x y ∙ true_or _ _ (circuit_tie x y ∙ ap (same_circuit x) e ∙ same_circuit-itself x)
-inserted s x y (inr h) = set.contains-insert circuits_total s x y ∙ or_true _ _ h
+inserted s x y (inl e) = set.contains-insert circuits_total s x y ∙ or_left _ _ (circuit_tie x y ∙ ap (same_circuit x) e ∙ same_circuit-itself x)
+inserted s x y (inr h) = set.contains-insert circuits_total s x y ∙ or_right _ _ h
 
 -- ---- the changes of a state
 
@@ -110,10 +98,10 @@ module _ (p : Plan) (s : State) (y : Circuit) where
             let mine : Among y (given_up ended kept) = among_filter left_over y (flat_map circuits_used ended) (among_flat circuits_used c y ended m u) (ap not e) in
             let tie : eq_by_cmp circuit_cmp y y ≡ true = circuit_tie y y ∙ same_circuit-itself y in
             inl (set.contains-union circuits_total s.releasing (set.from_list (given_up ended kept)) y
-            ∙ or_true _ _ (set.contains-from_list circuits_total (given_up ended kept) y ∙ mem_any (eq_by_cmp circuit_cmp y) (given_up ended kept) y mine tie))
+            ∙ or_right _ _ (set.contains-from_list circuits_total (given_up ended kept) y ∙ mem_any (eq_by_cmp circuit_cmp y) (given_up ended kept) y mine tie))
 
     pub end_all : Taken s y → Taken (end_calls p cause ends s) y
-    end_all (inl r) = inl (set.contains-union circuits_total s.releasing (set.from_list (given_up ended kept)) y ∙ true_or _ _ r)
+    end_all (inl r) = inl (set.contains-union circuits_total s.releasing (set.from_list (given_up ended kept)) y ∙ or_left _ _ r)
     end_all (inr (c, m, u)) = at (ends c) refl
       where
         at : (b : Bool) → ends c ≡ b → Taken (end_calls p cause ends s) y

@@ -9,15 +9,15 @@ use Rattle.tx_plan.proofs.ByPlace.{place_within}
 use Rattle.tx_text.specs.Words.{number_of, figures_of, are_figures, is_numeral}
 use Rattle.tx_plan.specs.Plan.{Plan, Code, Group, code_named, group_named}
 use Rattle.tx_plan.specs.Rules.{is_national}
-use Rattle.tx_entries.specs.declared.circuit.Circuit.{Circuit}
-use Rattle.tx_entries.specs.declared.line.Line.{Line}
-use Rattle.tx_state.specs.declared.event.Event.{Event}
-use Rattle.tx_state.specs.declared.event.Event.TheVariants.{Key, Route, Confirm, Clear, Released, Fail, Restore, Block, Unblock, CircuitOut, CircuitIn, LineFault, LineMend, LineAway, LineBack}
-use Rattle.tx_state.specs.declared.party.Party.{Party}
-use Rattle.tx_script.specs.declared.verb.Verb.{Verb}
-use Rattle.tx_script.specs.declared.verb.Verb.TheVariants.{Key as KeyVerb, Route as RouteVerb, Confirm as ConfirmVerb, Clear as ClearVerb, Released as ReleasedVerb, Fail as FailVerb, Restore as RestoreVerb, Block as BlockVerb, Unblock as UnblockVerb, Out as OutVerb, In as InVerb, Fault as FaultVerb, Mend as MendVerb, Away as AwayVerb, Back as BackVerb, End as EndVerb}
+use Rattle.tx_plan.specs.declared.ids.Circuit.{Circuit}
+use Rattle.tx_plan.specs.declared.ids.Line.{Line}
+use Rattle.tx_machine.specs.declared.event.Event.{Event}
+use Rattle.tx_machine.specs.declared.event.Event.TheVariants.{Key, Route, Confirm, Clear, Released, Fail, Restore, Block, Unblock, CircuitOut, CircuitIn, LineFault, LineMend, LineAway, LineBack}
+use Rattle.tx_machine.specs.declared.open_call.Party.{Party}
+use Rattle.tx_script.specs.declared.event_words.Verb.{Verb}
+use Rattle.tx_script.specs.declared.event_words.Verb.TheVariants.{Key as KeyVerb, Route as RouteVerb, Confirm as ConfirmVerb, Clear as ClearVerb, Released as ReleasedVerb, Fail as FailVerb, Restore as RestoreVerb, Block as BlockVerb, Unblock as UnblockVerb, Out as OutVerb, In as InVerb, Fault as FaultVerb, Mend as MendVerb, Away as AwayVerb, Back as BackVerb, End as EndVerb}
 use Rattle.tx_script.specs.declared.script_word.ScriptWord.{ScriptWord}
-use Rattle.tx_script.specs.Events.{call_number, party_of, national_of, from_one, circuit_number, cut_at_dot, spelt, named, counted, known, said_of, line_of, circuit_of, one_word, two_words, three_words, key_event, call_in, clear_event, circuit_in, group_in, line_in, end_event, verb_of, event_by, event_for, event_of, IsWritableCircuit, IsWritable, IsEvent}
+use Rattle.tx_script.specs.Events.{call_number, party_of, national_of, from_one, circuit_number, cut_at_dot, spelt, named, counted, known, said_of, line_of, circuit_of, one_word, two_words, three_words, key_event, call_in, clear_event, circuit_in, group_in, line_in, end_event, verb_of, event_by, event_for, event_of, IsWritableCircuit, FitsPlan, IsEvent}
 
 -- ---- a step of what is said, backwards
 
@@ -75,7 +75,7 @@ call_fits w n h = let l = at_most (2 ^ 32 - 1) w n h in omega arith
 
 -- the event can be written, and is one that the type has
 pub record CanBeWritten (p : Plan) (e : Event) : Type 0 where
-  pub writable : IsWritable p e
+  pub writable : FitsPlan p e
   pub event : IsEvent e
 
 module _ (p : Plan) where

@@ -6,29 +6,27 @@ use Rattle.tx_text.specs.Words.{words_of, number_of, figures_of, are_figures}
 use Rattle.tx_text.specs.Written.{joined, line_written}
 use Rattle.tx_plan.specs.Plan.{Plan, code_named, group_named, group_name, figures_of as code_figures}
 use Rattle.tx_plan.specs.Rules.{IsPlan, is_national}
-use Rattle.tx_entries.specs.declared.circuit.Circuit.{Circuit}
-use Rattle.tx_entries.specs.declared.line.Line.{Line}
-use Rattle.tx_state.specs.declared.event.Event.{Event}
-use Rattle.tx_state.specs.declared.event.Event.TheVariants.{Key, Route, Confirm, Clear, Released, Fail, Restore, Block, Unblock, CircuitOut, CircuitIn, LineFault, LineMend, LineAway, LineBack}
-use Rattle.tx_state.specs.declared.party.Party.{Party}
-use Rattle.tx_state.specs.declared.party.Party.TheVariants.{Caller, Called}
+use Rattle.tx_plan.specs.declared.ids.Circuit.{Circuit}
+use Rattle.tx_plan.specs.declared.ids.Line.{Line}
+use Rattle.tx_machine.specs.declared.event.Event.{Event}
+use Rattle.tx_machine.specs.declared.event.Event.TheVariants.{Key, Route, Confirm, Clear, Released, Fail, Restore, Block, Unblock, CircuitOut, CircuitIn, LineFault, LineMend, LineAway, LineBack}
+use Rattle.tx_machine.specs.declared.open_call.Party.{Party}
+use Rattle.tx_machine.specs.declared.open_call.Party.TheVariants.{Caller, Called}
 use Rattle.tx_tickets.specs.Texts.{circuit_text}
 use Rattle.tx_text.specs.declared.text_fault.TextFault.{TextFault}
-use Rattle.tx_text.specs.declared.line_fault.LineFault.TheVariants.{Text as of_text}
-use Rattle.tx_text.specs.declared.frame.FrameFault.TheVariants.{Line as of_line}
+use Rattle.tx_text.specs.Told.{frame_fault}
 use Rattle.tx_text.specs.declared.frame.FaultKind.{FaultKind}
 use Rattle.tx_text.specs.declared.frame.FaultKind.TheVariants.{Frame, Word}
 use Rattle.tx_text.specs.Text.{bytes_fault}
-use Rattle.tx_script.specs.declared.verb.Verb.{Verb}
-use Rattle.tx_script.specs.declared.verb.Verb.TheVariants.{Key as KeyVerb, Route as RouteVerb, Confirm as ConfirmVerb, Clear as ClearVerb, Released as ReleasedVerb, Fail as FailVerb, Restore as RestoreVerb, Block as BlockVerb, Unblock as UnblockVerb, Out as OutVerb, In as InVerb, Fault as FaultVerb, Mend as MendVerb, Away as AwayVerb, Back as BackVerb, End as EndVerb}
+use Rattle.tx_script.specs.declared.event_words.Verb.{Verb}
+use Rattle.tx_script.specs.declared.event_words.Verb.TheVariants.{Key as KeyVerb, Route as RouteVerb, Confirm as ConfirmVerb, Clear as ClearVerb, Released as ReleasedVerb, Fail as FailVerb, Restore as RestoreVerb, Block as BlockVerb, Unblock as UnblockVerb, Out as OutVerb, In as InVerb, Fault as FaultVerb, Mend as MendVerb, Away as AwayVerb, Back as BackVerb, End as EndVerb}
 use Rattle.tx_script.specs.declared.script_word.ScriptWord.{ScriptWord}
 use Rattle.tx_script.specs.declared.script_word.ScriptWord.TheVariants.{UnknownWord, WrongCount, BadNumber, UnknownName}
 
--- An event, or what is wrong with the words of a line: of several faults the first of UnknownWord, WrongCount, BadNumber and UnknownName.
+-- An event, or what is wrong with the words of a line: of several faults the first of UnknownWord,
+-- WrongCount, BadNumber and UnknownName.
 abbrev pub Said : Type 0
 Said = Result Event ScriptWord
-
--- WHAT A WORD SPELLS
 
 -- a call number: 0 to 4,294,967,295
 abbrev pub call_number : List ℕ → Option ℕ
@@ -36,12 +34,14 @@ call_number w = number_of (2 ^ 32 - 1) w
 
 -- CALLER or CALLED
 abbrev pub party_of : List ℕ → Option Party
-party_of w = if bytes_eq w (codes "CALLER") then Some Caller else if bytes_eq w (codes "CALLED") then Some Called else None
+party_of w = if bytes_eq w (codes "CALLER") then Some Caller
+    else if bytes_eq w (codes "CALLED") then Some Called else None
 
 -- a national number: 1 to 9 figures
 abbrev pub national_of : List ℕ → Option (List ℕ)
 national_of w = if is_national w then Some w else None
 
+-- a number, unless it is 0
 abbrev pub from_one : Option ℕ → Option ℕ
 from_one None = None
 from_one (Some n) = if n == 0 then None else Some n
@@ -50,10 +50,11 @@ from_one (Some n) = if n == 0 then None else Some n
 abbrev pub circuit_number : List ℕ → Option ℕ
 circuit_number w = from_one (number_of 240 w)
 
+-- a byte is a dot
 abbrev pub is_dot : ℕ → Bool
 is_dot b = b == 46
 
--- what stands before a place of a word, and what stands behind it
+-- what is before a place of a word, and what follows it
 abbrev pub cut_at : List ℕ → ℕ → List ℕ × List ℕ
 cut_at w i = (take i w, drop (i + 1) w)
 
@@ -66,7 +67,7 @@ abbrev pub spelt : {A B : Type 0} → Option A → (A → Result B ScriptWord) �
 spelt None say = Err BadNumber
 spelt (Some a) say = say a
 
--- a code or a group that the plan has not is UnknownName
+-- a code or a group that the plan does not have is UnknownName
 abbrev pub named : {B : Type 0} → Option ℕ → (ℕ → Result B ScriptWord) → Result B ScriptWord
 named None say = Err UnknownName
 named (Some i) say = say i
@@ -78,13 +79,13 @@ said_of make (Err k) = Err k
 
 -- the line of a code and a national number
 abbrev pub line_of : Plan → List ℕ → List ℕ → Result Line ScriptWord
-line_of p code national = spelt (national_of national) (λ n. named (code_named p code) (λ c. Ok (record { code = c; national = n })))
+line_of p code national = spelt (national_of national)
+    (λ n. named (code_named p code) (λ c. Ok (record { code = c; national = n })))
 
 -- the circuit that a word names: a group, a dot and a number, as G1.1
 abbrev pub circuit_of : Plan → List ℕ → Result Circuit ScriptWord
-circuit_of p w = spelt (cut_at_dot w) (λ c. spelt (circuit_number c.1) (λ n. named (group_named p c.0) (λ g. Ok (record { group = g; number = n }))))
-
--- WHAT FOLLOWS THE FIRST WORD
+circuit_of p w = spelt (cut_at_dot w) (λ c. spelt (circuit_number c.1)
+    (λ n. named (group_named p c.0) (λ g. Ok (record { group = g; number = n }))))
 
 -- exactly one word
 abbrev pub one_word : List (List ℕ) → Option (List ℕ)
@@ -108,7 +109,8 @@ counted (Some a) say = say a
 
 -- a code, a national number and the figures that were keyed
 abbrev pub key_event : Plan → List (List ℕ) → Said
-key_event p ws = counted (three_words ws) (λ w. spelt (figures_of w.2) (λ k. said_of (λ l. Key l k) (line_of p w.0 w.1)))
+key_event p ws = counted (three_words ws)
+    (λ w. spelt (figures_of w.2) (λ k. said_of (λ l. Key l k) (line_of p w.0 w.1)))
 
 -- a call's number
 abbrev pub call_in : List (List ℕ) → Result ℕ ScriptWord
@@ -121,7 +123,8 @@ known (Some x) say = say x
 
 -- a call's number, and CALLER or CALLED
 abbrev pub clear_event : List (List ℕ) → Said
-clear_event ws = counted (two_words ws) (λ w. known (party_of w.1) (λ x. spelt (call_number w.0) (λ n. Ok (Clear n x))))
+clear_event ws = counted (two_words ws)
+    (λ w. known (party_of w.1) (λ x. spelt (call_number w.0) (λ n. Ok (Clear n x))))
 
 -- a circuit
 abbrev pub circuit_in : Plan → List (List ℕ) → Result Circuit ScriptWord
@@ -139,8 +142,6 @@ line_in p ws = counted (two_words ws) (λ w. line_of p w.0 w.1)
 abbrev pub end_event : List (List ℕ) → Said
 end_event [] = Err UnknownWord
 end_event (w ∷ ws) = Err WrongCount
-
--- THE EVENT OF A LINE'S WORDS
 
 -- the word of a verb
 abbrev pub verb_word : Verb → List ℕ
@@ -161,8 +162,25 @@ verb_word AwayVerb = codes "AWAY"
 verb_word BackVerb = codes "BACK"
 verb_word EndVerb = codes "END"
 
+-- all first words
 abbrev pub verbs : List Verb
-verbs = KeyVerb ∷ RouteVerb ∷ ConfirmVerb ∷ ClearVerb ∷ ReleasedVerb ∷ FailVerb ∷ RestoreVerb ∷ BlockVerb ∷ UnblockVerb ∷ OutVerb ∷ InVerb ∷ FaultVerb ∷ MendVerb ∷ AwayVerb ∷ BackVerb ∷ EndVerb ∷ []
+verbs =
+    KeyVerb
+    ∷ RouteVerb
+    ∷ ConfirmVerb
+    ∷ ClearVerb
+    ∷ ReleasedVerb
+    ∷ FailVerb
+    ∷ RestoreVerb
+    ∷ BlockVerb
+    ∷ UnblockVerb
+    ∷ OutVerb
+    ∷ InVerb
+    ∷ FaultVerb
+    ∷ MendVerb
+    ∷ AwayVerb
+    ∷ BackVerb
+    ∷ EndVerb ∷ []
 
 -- the verb whose word it is
 abbrev pub verb_of : List ℕ → Option Verb
@@ -197,26 +215,22 @@ unfoldable pub event_of : Plan → List (List ℕ) → Said
 event_of p [] = Err UnknownWord
 event_of p (w ∷ ws) = event_for p (verb_of w) ws
 
--- words that begin with this verb, or with none, and go on with these
-abbrev pub BeginsWith : List (List ℕ) → Option Verb → List (List ℕ) → Type 0
-BeginsWith ws verb rest = (p : Plan) → event_of p ws ≡ event_for p verb rest
-
 -- a fault of a line's bytes comes before those of its words
 abbrev pub event_said : Option TextFault → Said → Result Event (FaultKind ScriptWord)
-event_said (Some f) said = Err (Frame (of_line (of_text f)))
+event_said (Some f) said = Err (Frame (frame_fault f))
 event_said None (Ok e) = Ok e
 event_said None (Err k) = Err (Word k)
 
--- THE EVENT OF A LINE, given as its bytes without the LF and the CR before it
+-- The event of a line, given as its bytes without the LF and the CR before it
 abbrev pub event_in : Plan → List ℕ → Result Event (FaultKind ScriptWord)
 event_in p bytes = event_said (bytes_fault bytes) (event_of p (words_of bytes))
 
--- THE LINE OF AN EVENT
-
+-- the word of a party
 abbrev pub party_word : Party → List ℕ
 party_word Caller = codes "CALLER"
 party_word Called = codes "CALLED"
 
+-- the words of an event's line
 abbrev pub event_words : Plan → Event → List (List ℕ)
 event_words p (Key l keyed) = codes "KEY" ∷ code_figures p l.code ∷ l.national ∷ keyed ∷ []
 event_words p (Route n) = codes "ROUTE" ∷ decimal n ∷ []
@@ -242,8 +256,6 @@ event_line p e = joined (event_words p e)
 abbrev pub event_text : Plan → Event → List ℕ
 event_text p e = line_written (event_words p e)
 
--- WHAT CAN BE WRITTEN
-
 -- the plan has the group, and the number is 1 to 240; the group need not have so many circuits
 pub record IsWritableCircuit (p : Plan) (x : Circuit) : Type 0 where
   pub group : x.group < length p.groups
@@ -251,24 +263,25 @@ pub record IsWritableCircuit (p : Plan) (x : Circuit) : Type 0 where
   pub few : x.number ≤ 240
 
 -- the plan has the event's ids, and a circuit's number is 1 to 240
-abbrev pub IsWritable : Plan → Event → Type 0
-IsWritable p (Key l keyed) = l.code < length p.codes
-IsWritable p (Route n) = Unit {0}
-IsWritable p (Confirm n) = Unit {0}
-IsWritable p (Clear n party) = Unit {0}
-IsWritable p (Released x) = IsWritableCircuit p x
-IsWritable p (Fail g) = g < length p.groups
-IsWritable p (Restore g) = g < length p.groups
-IsWritable p (Block g) = g < length p.groups
-IsWritable p (Unblock g) = g < length p.groups
-IsWritable p (CircuitOut x) = IsWritableCircuit p x
-IsWritable p (CircuitIn x) = IsWritableCircuit p x
-IsWritable p (LineFault l) = l.code < length p.codes
-IsWritable p (LineMend l) = l.code < length p.codes
-IsWritable p (LineAway l) = l.code < length p.codes
-IsWritable p (LineBack l) = l.code < length p.codes
+abbrev pub FitsPlan : Plan → Event → Type 0
+FitsPlan p (Key l keyed) = l.code < length p.codes
+FitsPlan p (Route n) = Unit {0}
+FitsPlan p (Confirm n) = Unit {0}
+FitsPlan p (Clear n party) = Unit {0}
+FitsPlan p (Released x) = IsWritableCircuit p x
+FitsPlan p (Fail g) = g < length p.groups
+FitsPlan p (Restore g) = g < length p.groups
+FitsPlan p (Block g) = g < length p.groups
+FitsPlan p (Unblock g) = g < length p.groups
+FitsPlan p (CircuitOut x) = IsWritableCircuit p x
+FitsPlan p (CircuitIn x) = IsWritableCircuit p x
+FitsPlan p (LineFault l) = l.code < length p.codes
+FitsPlan p (LineMend l) = l.code < length p.codes
+FitsPlan p (LineAway l) = l.code < length p.codes
+FitsPlan p (LineBack l) = l.code < length p.codes
 
--- what the type of an event keeps: a national number is 1 to 9 figures, what is keyed 1 to 12, and a call's number below 2^32
+-- what the type of an event keeps: a national number is 1 to 9 figures, what is keyed 1 to 12, and
+-- a call's number below 2^32
 abbrev pub IsEvent : Event → Type 0
 IsEvent (Key l keyed) = (is_national l.national ≡ true) × (are_figures 1 12 keyed ≡ true)
 IsEvent (Route n) = n < 2 ^ 32
@@ -286,6 +299,11 @@ IsEvent (LineMend l) = is_national l.national ≡ true
 IsEvent (LineAway l) = is_national l.national ≡ true
 IsEvent (LineBack l) = is_national l.national ≡ true
 
--- THE ROUND TRIP: the line that is written for an event says that event
+-- both: the line of the event names what the plan has, by words of the right width
+abbrev pub IsWritable : Plan → Event → Type 0
+IsWritable p e = FitsPlan p e × IsEvent e
+
+-- The round trip: the line that is written for an event says that event
 abbrev pub EventsReadBack : Type 0
-EventsReadBack = (p : Plan) (e : Event) → IsPlan p → IsWritable p e → IsEvent e → event_in p (event_line p e) ≡ Ok e
+EventsReadBack =
+    (p : Plan) (e : Event) → IsPlan p → IsWritable p e → event_in p (event_line p e) ≡ Ok e

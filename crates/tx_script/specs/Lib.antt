@@ -4,7 +4,6 @@ pub mod Script
 pub mod Output
 pub mod Untold
 pub mod Answers
-pub mod Answered
 pub mod Taken
 pub mod Summaries
 pub mod Telling

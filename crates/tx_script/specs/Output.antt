@@ -3,11 +3,11 @@ use Rattle.std.specs.Prelude.{ℕ, List, [], ◌++◌, Option, None, Some, codes
 use Rattle.std.specs.List.{flat_map, count_by, sum_by}
 use Rattle.tx_text.specs.declared.frame.FaultKind.{FaultKind}
 use Rattle.tx_plan.specs.Plan.{Plan}
-use Rattle.tx_state.specs.declared.event.Event.{Event}
-use Rattle.tx_state.specs.Ended.{Ended}
-use Rattle.tx_state.specs.State.{State}
-use Rattle.tx_state.specs.Runs.{Moment, run, state_after}
-use Rattle.tx_state.specs.Sound.{is_refused}
+use Rattle.tx_machine.specs.declared.event.Event.{Event}
+use Rattle.tx_machine.specs.Ended.{Ended}
+use Rattle.tx_machine.specs.State.{State}
+use Rattle.tx_machine.specs.Runs.{Moment, run, state_after}
+use Rattle.tx_machine.specs.Sound.{is_refused}
 use Rattle.tx_tickets.specs.Texts.{reply_text, ticket_text}
 use Rattle.tx_script.specs.declared.script_word.ScriptWord.{ScriptWord}
 use Rattle.tx_script.specs.declared.summary.Summary.{Summary}
@@ -27,8 +27,10 @@ events_text p s es = flat_map (moment_text p) (run p s es)
 
 -- END EVENTS, the accepted events, OPEN and the open calls
 abbrev pub end_line : ℕ → ℕ → List ℕ
-end_line events open_calls = codes "END EVENTS " ++ (decimal events ++ (codes " OPEN " ++ (decimal open_calls ++ codes "\n")))
+end_line events open_calls = codes "END EVENTS "
+    ++ (decimal events ++ (codes " OPEN " ++ (decimal open_calls ++ codes "\n")))
 
+-- the last line in a state
 abbrev pub end_text : State → List ℕ
 end_text s = end_line s.events (length s.calls)
 
@@ -37,9 +39,10 @@ abbrev pub last_text : State → Option (ℕ × FaultKind ScriptWord) → List �
 last_text s None = end_text s
 last_text s (Some x) = []
 
--- THE OUTPUT of a script from a state on
+-- The output of a script from a state on
 abbrev pub output : Plan → State → Script → List ℕ
-output p s script = events_text p s script.events ++ last_text (state_after p s script.events) script.fault
+output p s script = events_text p s script.events
+    ++ last_text (state_after p s script.events) script.fault
 
 -- the accepted events, the events that were refused, the tickets, and the open calls
 abbrev pub summary_of : Plan → State → List Event → Summary

@@ -5,11 +5,11 @@ use Rattle.std.specs.FinSet as set
 use Rattle.tx_plan.specs.Orders.{same_circuit}
 use Rattle.tx_plan.specs.Plan.{Plan}
 use Rattle.tx_plan.specs.Circuits.{count_of, upward}
-use Rattle.tx_entries.specs.declared.circuit.Circuit.{Circuit}
-use Rattle.tx_state.specs.Call.{Call}
-use Rattle.tx_state.specs.State.{State}
-use Rattle.tx_state.specs.InUse.{circuits_used}
-use Rattle.tx_state.specs.Runs.{Moment}
+use Rattle.tx_plan.specs.declared.ids.Circuit.{Circuit}
+use Rattle.tx_machine.specs.Call.{Call}
+use Rattle.tx_machine.specs.State.{State}
+use Rattle.tx_machine.specs.InUse.{circuits_used}
+use Rattle.tx_machine.specs.Runs.{Moment}
 
 -- a call uses a circuit if it carries it or has seized it
 abbrev pub uses : Circuit → Call → Bool
@@ -21,7 +21,8 @@ is_taken s x = set.contains s.releasing x || list_any (uses x) s.calls
 
 -- how many circuits of a group are taken
 abbrev pub taken_of : Plan → ℕ → State → ℕ
-taken_of p g s = count_by (λ n. is_taken s (record { group = g; number = n })) (upward (count_of p g))
+taken_of p g s = count_by (λ n. is_taken s (record { group = g; number = n }))
+    (upward (count_of p g))
 
 -- the most that were taken at once after an event of a run
 abbrev pub peak : Plan → ℕ → List Moment → ℕ

@@ -1,151 +1,133 @@
--- What a run answers that may tell more than replies and tickets, and what it wrote.
+-- What a run answers that may print more than replies and tickets, and what it wrote.
 use Rattle.std.specs.Prelude.{◌≡◌, ◌⊎◌, ℕ, ◌+◌, Bool, true, false, List, [], ◌∷◌, ◌++◌, length, Option, None, Result, Ok, Err}
 use Rattle.std.specs.FinSet as set
 use Rattle.std.specs.Io.KnownBytes.{append_known}
 use Rattle.tx_text.specs.declared.frame.FaultKind.{FaultKind}
 use Rattle.tx_text.specs.declared.frame.FaultKind.TheVariants.{Frame}
-use Rattle.tx_text.specs.declared.frame.FrameFault.TheVariants.{Line as of_line}
-use Rattle.tx_text.specs.declared.line_fault.LineFault.TheVariants.{Read as line_read}
-use Rattle.tx_text.specs.Ends.{StopsIn}
+use Rattle.tx_text.specs.declared.frame.FrameFault.TheVariants.{Read as line_read}
+use Rattle.tx_text.specs.Ends.{StopsIn, Input, Output}
 use Rattle.tx_text.specs.Told.{Cut}
 use Rattle.tx_text.specs.Frame.{EndsAs, Stands}
 use Rattle.tx_plan.specs.Plan.{Plan}
-use Rattle.tx_state.specs.declared.event.Event.{Event}
-use Rattle.tx_state.specs.State.{State}
-use Rattle.tx_state.specs.Refusals.{refusal}
-use Rattle.tx_state.specs.Step.{takes_memory}
-use Rattle.tx_state.specs.Runs.{Moment, moment, state_after}
-use Rattle.tx_state.specs.Drained.{drained}
-use Rattle.tx_script.specs.declared.answer.Answered.{Answered}
+use Rattle.tx_machine.specs.declared.event.Event.{Event}
+use Rattle.tx_machine.specs.State.{State}
+use Rattle.tx_machine.specs.Refusals.{refusal}
+use Rattle.tx_machine.specs.Step.{takes_memory}
+use Rattle.tx_machine.specs.Runs.{Moment}
+use Rattle.tx_machine.specs.Drained.{drained}
 use Rattle.tx_script.specs.declared.script_word.ScriptWord.{ScriptWord}
 use Rattle.tx_script.specs.declared.run_fault.RunFault.{RunFault}
 use Rattle.tx_script.specs.declared.run_cause.RunCause.{RunCause}
 use Rattle.tx_script.specs.declared.run_cause.RunCause.TheVariants.{Read, Write, Script as OfScript, NoMemory}
 use Rattle.tx_script.specs.declared.summary.Summary.{Summary}
-use Rattle.tx_script.specs.Events.{Said}
 use Rattle.tx_script.specs.Script.{Script, whole, faulty, script_of}
 use Rattle.tx_script.specs.Output.{summary_of, tickets_made}
-use Rattle.tx_script.specs.Answered.{count_of, IsUndone, IsNoEvent}
-use Rattle.tx_script.specs.Answers.{Moved, settled, next, IsWhole, Begins, is_reader_room}
-use Rattle.tx_script.specs.declared.telling.Telling.{Telling}
-use Rattle.tx_script.specs.Telling.{echo_text, echo_asked, told_moment, told_events, told_last, told_output}
+use Rattle.tx_script.specs.Answers.{States, NothingDone, settled, next, IsWhole, Begins, is_reader_room}
+use Rattle.tx_script.specs.declared.teller.Telling.{Telling}
+use Rattle.tx_script.specs.Telling.{echo_text, echo_asked, told_events, told_last, told_output}
 use Rattle.tx_script.specs.Untold.{IsUntold}
 
 -- no circuit is still to be released
 abbrev pub NoneReleasing : State → Type 0
 NoneReleasing s = s.releasing ≡ set.empty
 
--- ---- one event
-
--- In what follows s and a are the state and what was written before, t and b after.
-
--- the event was done and counted, its lines were written, and its tickets were taken
-pub record IsTold (p : Plan) (echo : Bool) (n : ℕ) (e : Event) (s t : State) (a b : Option (List ℕ)) (count : Answered) : Type 0 where
-  pub counted : count ≡ count_of (moment p s e)
-  pub wrote : b ≡ append_known a (told_moment p echo n (moment p s e))
-  pub network : t ≡ drained (moment p s e).after []
+-- In what follows a is what was written before, and t and b are the state and what was written
+-- after.
 
 -- A write failed in the event's own line, and no ticket was taken.
-pub record StopsAtEcho (p : Plan) (n : ℕ) (m : Moment) (t : State) (a b : Option (List ℕ)) : Type 0 where
+pub record StopsAtEcho (p : Plan) (n : ℕ) (m : Moment)
+    (t : State) (a b : Option (List ℕ)) : Type 0 where
   pub front : StopsIn a b (echo_text p n m.event)
   pub network : t ≡ drained m.after (tickets_made m)
 
--- The event was done, and a write failed in its own line, where that is asked for, or behind it.
-abbrev pub StopsInLines : Plan → (echo : Bool) → ℕ → Moment → State → Option (List ℕ) → Option (List ℕ) → Type 0
-StopsInLines p echo n m t a b = ((echo ≡ true) × StopsAtEcho p n m t a b) ⊎ IsUntold p m t (append_known a (echo_asked echo p n m.event)) b
+-- The event was done, and a write failed in its own line, where that is asked for, or after it.
+abbrev pub StopsInLines : Plan → (echo : Bool)
+    → ℕ → Moment → State → Option (List ℕ) → Option (List ℕ) → Type 0
+StopsInLines p echo n m t a b = ((echo ≡ true) × StopsAtEcho p n m t a b)
+    ⊎ IsUntold p m t (append_known a (echo_asked echo p n m.event)) b
 
-abbrev pub Untold : Plan → (echo : Bool) → ℕ → Event → State → State → Option (List ℕ) → Option (List ℕ) → RunCause → Type 0
-Untold p echo n e s t a b Read = ⊥
-Untold p echo n e s t a b Write = StopsInLines p echo n (moment p s e) t a b
-Untold p echo n e s t a b (OfScript f) = ⊥
-Untold p echo n e s t a b NoMemory = IsUndone p e s t a b
+module _ (p : Plan) (t : Telling) (source : Input) (net : States) (sink : Output) where
+  -- All the output of a script was written, and nothing else; the network is as its events left it.
+  pub record ToldRan (script : Script) : Type 0 where
+    pub wrote : sink.new ≡ append_known sink.old (told_output p t net.old script)
+    pub network : net.new ≡ settled p net.old script.events
 
--- THE ANSWER TO AN EVENT of this number
-abbrev pub EventTold : Plan → (echo : Bool) → ℕ → Event → State → State → Option (List ℕ) → Option (List ℕ) → Result Answered RunCause → Type 0
-EventTold p echo n e s t a b (Ok count) = IsTold p echo n e s t a b count
-EventTold p echo n e s t a b (Err cause) = Untold p echo n e s t a b cause
+  -- The whole text is a script, and the summary counts its run.
+  pub record ToldWhole (summary : Summary) : Type 0 where
+    pub events : List Event
+    pub text : IsWhole p source events
+    pub ran : ToldRan (whole events)
+    pub counted : summary ≡ summary_of p net.old events
 
--- THE ANSWER TO A LINE n, whose words say an event or have a fault; the next event has the number k
-abbrev pub LineTold : Plan → (echo : Bool) → (n k : ℕ) → Said → State → State → Option (List ℕ) → Option (List ℕ) → Result Answered RunCause → Type 0
-LineTold p echo n k (Ok e) s t a b r = EventTold p echo k e s t a b r
-LineTold p echo n k (Err word) s t a b (Ok count) = ⊥
-LineTold p echo n k (Err word) s t a b (Err cause) = IsNoEvent n word s t a b cause
+  -- The text is faulty after the events before this one.
+  pub record ToldToFault (event line : ℕ) (kind : FaultKind ScriptWord) : Type 0 where
+    pub events : List Event
+    pub place : event ≡ length events + 1
+    pub text : Stands source.old source.new (script_of p) (faulty events line kind)
+    pub ran : ToldRan (faulty events line kind)
 
--- ---- a run
+  -- The source failed in a line, or met the bound on calls, after the events before this one.
+  pub record ToldToCut (event : ℕ) : Type 0 where
+    pub events : List Event
+    pub line : ℕ
+    pub place : event ≡ length events + 1
+    pub text : EndsAs source.old source.new (script_of p) Cut
+        (faulty events line (Frame line_read))
+    pub failed : source.broken
+    pub ran : ToldRan (faulty events line (Frame line_read))
 
--- All the output of a script was written, and nothing else; the network stands after its events.
-pub record ToldRan (p : Plan) (t : Telling) (x : Moved) (script : Script) : Type 0 where
-  pub wrote : x.taken_new ≡ append_known x.taken_old (told_output p t x.state_old script)
-  pub network : x.state_new ≡ settled p x.state_old script.events
+  -- Memory ran out in this event: the lines of those before it were written, and nothing of it was
+  -- done or written.
+  pub record ToldOutOfMemory (event : ℕ) : Type 0 where
+    pub events : List Event
+    pub hand : Event
+    pub place : event ≡ length events + 1
+    pub text : Begins p source (events ++ hand ∷ [])
+    pub wrote : sink.new ≡ append_known sink.old (told_events p t.echo net.old events)
+    pub network : net.new ≡ settled p net.old events
+    pub asks : takes_memory hand ≡ true
+    pub unrefused : refusal p net.new hand ≡ None
 
--- The whole text is a script, and the summary counts its run.
-pub record ToldWhole (p : Plan) (t : Telling) (x : Moved) (summary : Summary) : Type 0 where
-  pub events : List Event
-  pub text : IsWhole p x events
-  pub ran : ToldRan p t x (whole events)
-  pub counted : summary ≡ summary_of p x.state_old events
+  -- A write failed in the lines of this event, which was done: those of the events before it were
+  -- written, and of its own a front and not all.
+  pub record StoppedInEvent (event : ℕ) : Type 0 where
+    pub events : List Event
+    pub hand : Event
+    pub place : event ≡ length events + 1
+    pub text : Begins p source (events ++ hand ∷ [])
+    pub lines : StopsInLines p t.echo event (next p net.old events hand) net.new
+        (append_known sink.old (told_events p t.echo net.old events)) sink.new
 
--- The text is faulty after the events before this one.
-pub record ToldToFault (p : Plan) (t : Telling) (x : Moved) (event line : ℕ) (kind : FaultKind ScriptWord) : Type 0 where
-  pub events : List Event
-  pub place : event ≡ length events + 1
-  pub text : Stands x.rest_old x.rest_new (script_of p) (faulty events line kind)
-  pub ran : ToldRan p t x (faulty events line kind)
+  -- A write failed after the lines of all events: these were written, and of the last line and the
+  -- summary a front and not all.
+  pub record StoppedAtEnd (event : ℕ) : Type 0 where
+    pub events : List Event
+    pub place : event ≡ length events + 1
+    pub text : IsWhole p source events
+    pub front : StopsIn (append_known sink.old (told_events p t.echo net.old events)) sink.new
+        (told_last p t net.old events None)
+    pub network : net.new ≡ settled p net.old events
 
--- The source failed in a line, or met the bound on calls, after the events before this one.
-pub record ToldToCut (p : Plan) (t : Telling) (x : Moved) (broken : Type 0) (event : ℕ) : Type 0 where
-  pub events : List Event
-  pub line : ℕ
-  pub place : event ≡ length events + 1
-  pub text : EndsAs x.rest_old x.rest_new (script_of p) Cut (faulty events line (Frame (of_line line_read)))
-  pub failed : broken
-  pub ran : ToldRan p t x (faulty events line (Frame (of_line line_read)))
+  -- Without memory for the reader of lines the first event and the first line are named, and
+  -- nothing was touched.
+  abbrev pub FaultyTold : Bool → ℕ → ℕ → FaultKind ScriptWord → Type 0
+  FaultyTold true event line kind = (event ≡ 1) × (line ≡ 1) × NothingDone source net sink
+  FaultyTold false event line kind = ToldToFault event line kind
 
--- Memory ran out in this event: the lines of those before it were written, and nothing of it was done or written.
-pub record ToldOutOfMemory (p : Plan) (t : Telling) (x : Moved) (event : ℕ) : Type 0 where
-  pub events : List Event
-  pub hand : Event
-  pub place : event ≡ length events + 1
-  pub text : Begins p x (events ++ hand ∷ [])
-  pub wrote : x.taken_new ≡ append_known x.taken_old (told_events p t.echo x.state_old events)
-  pub network : x.state_new ≡ settled p x.state_old events
-  pub asks : takes_memory hand ≡ true
-  pub unrefused : refusal p x.state_new hand ≡ None
+  -- Without memory for what is to be counted the first event is named, and nothing was touched.
+  pub record HadNoTable (event : ℕ) : Type 0 where
+    pub asked : t.summary ≡ true
+    pub place : event ≡ 1
+    pub none : NothingDone source net sink
 
--- A write failed in the lines of this event, which was done: those of the events before it were written, and of its own a front and not all.
-pub record StoppedInEvent (p : Plan) (t : Telling) (x : Moved) (event : ℕ) : Type 0 where
-  pub events : List Event
-  pub hand : Event
-  pub place : event ≡ length events + 1
-  pub text : Begins p x (events ++ hand ∷ [])
-  pub lines : StopsInLines p t.echo event (next p x.state_old events hand) x.state_new (append_known x.taken_old (told_events p t.echo x.state_old events)) x.taken_new
+  -- a run stopped in this event, for this cause
+  abbrev pub StoppedTelling : ℕ → RunCause → Type 0
+  StoppedTelling event Read = ToldToCut event
+  StoppedTelling event Write = StoppedInEvent event ⊎ StoppedAtEnd event
+  StoppedTelling event (OfScript f) = FaultyTold (is_reader_room f.kind) event f.line f.kind
+  StoppedTelling event NoMemory = ToldOutOfMemory event ⊎ HadNoTable event
 
--- A write failed behind the lines of all events: these were written, and of the last line and the summary a front and not all.
-pub record StoppedAtEnd (p : Plan) (t : Telling) (x : Moved) (event : ℕ) : Type 0 where
-  pub events : List Event
-  pub place : event ≡ length events + 1
-  pub text : IsWhole p x events
-  pub front : StopsIn (append_known x.taken_old (told_events p t.echo x.state_old events)) x.taken_new (told_last p t x.state_old events None)
-  pub network : x.state_new ≡ settled p x.state_old events
-
--- Without memory for the reader of lines the first event and the first line are told, and nothing was touched.
-abbrev pub FaultyTold : Plan → Telling → Moved → Type 0 → Bool → ℕ → ℕ → FaultKind ScriptWord → Type 0
-FaultyTold p t x untouched true event line kind = (event ≡ 1) × (line ≡ 1) × untouched
-FaultyTold p t x untouched false event line kind = ToldToFault p t x event line kind
-
--- Without memory for what is to be counted the first event is told, and nothing was touched.
-pub record HadNoTable (t : Telling) (untouched : Type 0) (event : ℕ) : Type 0 where
-  pub asked : t.summary ≡ true
-  pub place : event ≡ 1
-  pub none : untouched
-
-abbrev pub StoppedTelling : Plan → Telling → Moved → (broken untouched : Type 0) → ℕ → RunCause → Type 0
-StoppedTelling p t x broken untouched event Read = ToldToCut p t x broken event
-StoppedTelling p t x broken untouched event Write = StoppedInEvent p t x event ⊎ StoppedAtEnd p t x event
-StoppedTelling p t x broken untouched event (OfScript f) = FaultyTold p t x untouched (is_reader_room f.kind) event f.line f.kind
-StoppedTelling p t x broken untouched event NoMemory = ToldOutOfMemory p t x event ⊎ HadNoTable t untouched event
-
--- WHAT A RUN THAT TELLS MORE ANSWERS. Broken says that the source failed or met the bound on calls, untouched that nothing was read, written or done.
-abbrev pub TellingAnswers : Plan → Telling → Moved → (broken untouched : Type 0) → Result Summary RunFault → Type 0
-TellingAnswers p t x broken untouched (Ok summary) = ToldWhole p t x summary
-TellingAnswers p t x broken untouched (Err f) = StoppedTelling p t x broken untouched f.event f.cause
+  -- What a run answers that prints more
+  abbrev pub TellingAnswers : Result Summary RunFault → Type 0
+  TellingAnswers (Ok summary) = ToldWhole summary
+  TellingAnswers (Err f) = StoppedTelling f.event f.cause

@@ -1,23 +1,21 @@
-// The answer to one line of a script: its event's reply and tickets, and what more is told.
+// The answer to one line of a script: its event's reply and tickets, and what more is printed.
 ghost use Rattle.std.specs.Prelude.{◌≡◌, ◌+◌, ◌<◌, ◌^◌, [], true, OnOk, OnErr, IfOk, length, option_map};
 ghost use Rattle.std.specs.List.{flat_map};
 ghost use Rattle.std.specs.Io.KnownBytes.{append_known};
-ghost use Rattle.tx_state.specs.Drained.{drained};
-ghost use Rattle.tx_state.specs.Runs.{moment};
-ghost use Rattle.tx_state.specs.Sound.{is_refused};
+ghost use Rattle.tx_machine.specs.Drained.{drained};
+ghost use Rattle.tx_machine.specs.Runs.{moment};
+ghost use Rattle.tx_machine.specs.Sound.{is_refused};
 ghost use Rattle.tx_tickets.specs.Texts.{ticket_text};
-ghost use Rattle.tx_script.specs.Answered.{mark_with};
-ghost use Rattle.tx_script.specs.TellingAnswers.{EventTold, LineTold};
 ghost use Rattle.tx_script.specs.Untold.{StopsAtTicket};
 ghost use Rattle.tx_script.specs.inner.Counting.{AreFew, counted_on, ends_counted};
+ghost use Rattle.tx_script.specs.inner.LineAnswers.{EventTold, LineTold, mark_with};
 
-use crate::echo::write_asked_echo;
 use crate::run_cause::RunCause;
 use crate::script_word::ScriptWord;
-use crate::teller::Teller;
+use crate::teller::{Teller, write_asked_echo};
 use std::alloc::Allocator;
+use tx_machine::{Event, Network, Reply};
 use tx_plan::Plan;
-use tx_state::{Event, Network, Reply};
 use tx_text::{FaultAt, FaultKind, Sink, WriteFault};
 use tx_tickets::{write_reply, write_ticket};
 
@@ -28,7 +26,6 @@ pub(crate) struct Answered {
     pub tickets: u64,
 }
 
-#[inline(always)]
 pub(crate) fn is_refused(reply: &Reply) -> bool
     ensures { result ≡ is_refused reply.now }
 {
@@ -38,11 +35,10 @@ pub(crate) fn is_refused(reply: &Reply) -> bool
 impl<A: Allocator> Teller<A> {
     /// Answers a line of this number, whose words say an event or have a fault, over a network
     /// whose tickets were taken. The event has a number of its own.
-    #[inline(always)]
     pub(crate) fn answer_line<B: Allocator, N: Network, W: Sink>(
         &mut self,
         line: u64,
-        said: Result<Event, ScriptWord>,
+        said: &Result<Event, ScriptWord>,
         number: u64,
         plan: &Plan<B>,
         net: &mut N,
@@ -53,17 +49,17 @@ impl<A: Allocator> Teller<A> {
         requires few { length (N.state net.old).calls < 2 ^ 63 }
         requires counted { AreFew self.old.counts }
         ensures plan { N.plan net.new ≡ plan.now }
-        ensures answers { LineTold plan.now self.old.echo line number said
+        ensures answers { LineTold plan.now self.old.echo line number said.now
             (N.state net.old) (N.state net.new) (W.taken sink.old) (W.taken sink.new) result }
         ensures echo { self.new.echo ≡ self.old.echo }
-        ensures counts { IfOk said (λ e. OnOk result (self.new.counts ≡ option_map
+        ensures counts { IfOk said.now (λ e. OnOk result (self.new.counts ≡ option_map
             (counted_on plan.now (moment plan.now (N.state net.old) e)) self.old.counts)) }
         ensures mark { W.failed sink.new ≡ mark_with (W.failed sink.old) result }
     {
         match said {
             Ok(event) => self.answer(number, event, plan, net, sink),
             Err(word) => {
-                let kind = FaultKind::Word(word);
+                let kind = FaultKind::Word(*word);
                 Err(RunCause::Script(FaultAt { line, kind }))
             }
         }
@@ -71,11 +67,10 @@ impl<A: Allocator> Teller<A> {
 
     /// Applies the event of this number to a network whose tickets were taken. Then writes its
     /// line, if that is asked for, the reply and the tickets.
-    #[inline(always)]
     fn answer<B: Allocator, N: Network, W: Sink>(
         &mut self,
         number: u64,
-        event: Event,
+        event: &Event,
         plan: &Plan<B>,
         net: &mut N,
         sink: &mut W,
@@ -85,31 +80,26 @@ impl<A: Allocator> Teller<A> {
         requires few { length (N.state net.old).calls < 2 ^ 63 }
         requires counted { AreFew self.old.counts }
         ensures plan { N.plan net.new ≡ plan.now }
-        ensures answers { EventTold plan.now self.old.echo number event
+        ensures answers { EventTold plan.now self.old.echo number event.now
             (N.state net.old) (N.state net.new) (W.taken sink.old) (W.taken sink.new) result }
         ensures echo { self.new.echo ≡ self.old.echo }
         ensures counts { OnOk result (self.new.counts ≡ option_map
-            (counted_on plan.now (moment plan.now (N.state net.old) event)) self.old.counts) }
+            (counted_on plan.now (moment plan.now (N.state net.old) event.now)) self.old.counts) }
         ensures mark { W.failed sink.new ≡ mark_with (W.failed sink.old) result }
     {
-        // By reference, so that the reply is not copied.
-        let applied = net.apply(event);
-        let Ok(reply) = &applied else {
-            return Err(RunCause::NoMemory);
-        };
-        write_asked_echo(self.echo, number, &event, plan, sink)?;
-        write_reply(reply, plan, sink)?;
-        self.answered(plan, &event, reply);
+        let reply = net.apply(*event)?;
+        write_asked_echo(self.echo, number, event, plan, sink)?;
+        write_reply(&reply, plan, sink)?;
+        self.answered(plan, event, &reply);
         let tickets = self.write_tickets(plan, net, sink)?;
         Ok(Answered {
-            refused: is_refused(reply),
+            refused: is_refused(&reply),
             tickets,
         })
     }
 
-    /// Takes the tickets out of a network and writes them, the oldest first. Tells how many there
+    /// Takes the tickets out of a network and writes them, the oldest first. Returns how many there
     /// were.
-    #[inline(always)]
     fn write_tickets<B: Allocator, N: Network, W: Sink>(
         &mut self,
         plan: &Plan<B>,

@@ -8,8 +8,8 @@ use crate::answer::is_refused;
 use crate::group_use::GroupUse;
 use std::alloc::Allocator;
 use std::marker::Model;
+use tx_machine::{Cause, Event, Reply, Service};
 use tx_plan::{Circuit, GroupId, Plan};
-use tx_state::{Cause, Event, Reply, Service};
 use tx_text::NoMemory;
 
 /// How many calls ended by each cause, and how the circuits of each group were used.
@@ -103,7 +103,18 @@ impl<A: Allocator> Counts<A> {
                     self.clear(*group);
                 }
             }
-            _ => {}
+            Event::Key { .. }
+            | Event::Confirm(_)
+            | Event::Clear { .. }
+            | Event::Restore(_)
+            | Event::Block(_)
+            | Event::Unblock(_)
+            | Event::CircuitOut(_)
+            | Event::CircuitIn(_)
+            | Event::LineFault(_)
+            | Event::LineMend(_)
+            | Event::LineAway(_)
+            | Event::LineBack(_) => {}
         }
     }
 
@@ -135,9 +146,7 @@ impl<A: Allocator> Counts<A> {
     }
 
     fn clear(&mut self, group: GroupId)
-        ensures { self.new ≡ record self.old {
-          groups = change_at group cleared self.old.groups;
-        } }
+        ensures { self.new ≡ record self.old { groups = change_at group cleared self.old.groups } }
     {
         let place = group.index();
         if place < self.groups.len() {

@@ -12,14 +12,14 @@ use crate::run_cause::RunCause;
 use crate::run_fault::RunFault;
 use crate::summary::Summary;
 use crate::summary_text::write_summary;
-use crate::tally::Tally;
+use crate::teller::Tally;
 use itoa::Buffer;
 use std::alloc::Allocator;
+use tx_machine::Network;
 use tx_plan::Plan;
-use tx_state::Network;
-use tx_text::{Sink, WriteFault, write_text};
+use tx_text::{Sink, WriteFault, write_parts};
 
-/// Writes the line END EVENTS and, where it is asked for, the summary. Tells what was counted.
+/// Writes the line END EVENTS and, where it is asked for, the summary. Returns what was counted.
 pub(crate) fn finish<A: Allocator, B: Allocator, N: Network, W: Sink>(
     tally: &Tally,
     counts: &Option<Counts<A>>,
@@ -63,7 +63,7 @@ fn write_last_lines<A: Allocator, B: Allocator, W: Sink>(
     plan: &Plan<B>,
     sink: &mut W,
 ) -> Result<(), WriteFault>
-    ensures { Wrote (W.taken sink.old) (W.taken sink.new) (W.failed sink.old) (W.failed sink.new)
+    ensures { Wrote W.taken W.failed sink.old sink.new
         (end_line events open_calls ++ asked_text plan.now counts.now open_calls) result }
 {
     write_end(events, open_calls, sink)?;
@@ -74,12 +74,12 @@ fn write_last_lines<A: Allocator, B: Allocator, W: Sink>(
 }
 
 fn write_end<W: Sink>(events: u64, open_calls: u64, sink: &mut W) -> Result<(), WriteFault>
-    ensures { Wrote (W.taken sink.old) (W.taken sink.new) (W.failed sink.old) (W.failed sink.new)
+    ensures { Wrote W.taken W.failed sink.old sink.new
         (end_line events open_calls) result }
 {
     let mut accepted = Buffer::new();
     let mut open = Buffer::new();
     let events = accepted.format(events).as_bytes();
     let calls = open.format(open_calls).as_bytes();
-    write_text(&[b"END EVENTS ", events, b" OPEN ", calls, b"\n"], sink)
+    write_parts(&[b"END EVENTS ", events, b" OPEN ", calls, b"\n"], sink)
 }

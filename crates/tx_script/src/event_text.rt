@@ -1,23 +1,22 @@
 // The line of an event.
-ghost use Rattle.std.specs.Prelude.{◌≡◌, ◌++◌, [], true, Ok, OnOk, OnErr, codes, decimal, get_or};
-ghost use Rattle.std.specs.Io.KnownBytes.{append_known};
-ghost use Rattle.tx_text.specs.Ends.{StopsIn};
+ghost use Rattle.std.specs.Prelude.{◌≡◌, ◌++◌, [], true, Ok, codes, decimal, get_or};
 ghost use Rattle.tx_text.specs.Words.{are_figures};
 ghost use Rattle.tx_text.specs.Wrote.{Wrote};
 ghost use Rattle.tx_plan.specs.Plan.{Plan as PlanValue, group_name};
 ghost use Rattle.tx_plan.specs.Rules.{is_national};
 ghost use Rattle.tx_tickets.specs.Texts.{line_text};
-ghost use Rattle.tx_script.specs.Events.{IsWritable, IsEvent, event_in, event_line, event_text, event_words, party_word};
+ghost use Rattle.tx_script.specs.Events.{IsWritable, event_in, event_line, event_text, event_words, party_word};
 
 use itoa::Buffer;
 use std::alloc::Allocator;
+use tx_machine::{Event, Party};
 use tx_plan::{GroupId, Line, Plan};
-use tx_state::{Event, Party};
-use tx_text::{Figures, Sink, WriteFault, write_text};
+use tx_text::{Figures, Sink, WriteFault, write_parts};
 use tx_tickets::write_circuit;
 
-/// Writes the line of an event, as `KEY 41 10001 4110002`, with its LF. The plan has the event's ids, and its circuit has a number from 1 to 240. The line
-/// reads back as the event. Where the sink fails, a front of the line was taken.
+/// Writes the line of an event, as `KEY 41 10001 4110002`, with its LF. The plan has the event's
+/// ids, and its circuit has a number from 1 to 240. The line reads back as the event. Where the
+/// sink fails, a front of the line was taken.
 pub fn write_event<A: Allocator, W: Sink>(
     event: &Event,
     plan: &Plan<A>,
@@ -25,23 +24,21 @@ pub fn write_event<A: Allocator, W: Sink>(
 ) -> Result<(), WriteFault>
     requires { IsWritable plan.now event.now }
     ensures says { event_in plan.now (event_line plan.now event.now) ≡ Ok event.now }
-    ensures ok { OnOk result (W.taken sink.new ≡ append_known (W.taken sink.old) (event_text plan.now event.now)) }
-    ensures err { OnErr result (StopsIn (W.taken sink.old) (W.taken sink.new) (event_text plan.now event.now)) }
-    ensures mark { OnErr result (W.failed sink.new ≡ true) }
-    ensures unmarked { OnOk result (W.failed sink.new ≡ W.failed sink.old) }
+    ensures wrote { Wrote W.taken W.failed sink.old sink.new
+        (event_text plan.now event.now) result }
 {
     plan.rules();
-    write_said(event, plan, sink)
+    write_any_event(event, plan, sink)
 }
 
-/// The same for any event: of an id that the plan has not, no name is written.
-pub(crate) fn write_said<A: Allocator, W: Sink>(
+/// Writes the line of any event: of an id that the plan does not have, no name is written.
+pub(crate) fn write_any_event<A: Allocator, W: Sink>(
     event: &Event,
     plan: &Plan<A>,
     sink: &mut W,
 ) -> Result<(), WriteFault>
-    ensures event { IsEvent event.now }
-    ensures wrote { Wrote (W.taken sink.old) (W.taken sink.new) (W.failed sink.old) (W.failed sink.new) (event_text plan.now event.now) result }
+    ensures { Wrote W.taken W.failed sink.old sink.new
+        (event_text plan.now event.now) result }
 {
     let first = first_word(event);
     match event {
@@ -93,9 +90,10 @@ fn write_key<A: Allocator, W: Sink>(
 ) -> Result<(), WriteFault>
     ensures national { is_national line.now.national ≡ true }
     ensures keyed { are_figures 1 12 keyed.now ≡ true }
-    ensures wrote { Wrote (W.taken sink.old) (W.taken sink.new) (W.failed sink.old) (W.failed sink.new) (first.now ++ (line_text plan.now line.now ++ (codes " " ++ (keyed.now ++ codes "\n")))) result }
+    ensures wrote { Wrote W.taken W.failed sink.old sink.new (first.now
+        ++ (line_text plan.now line.now ++ (codes " " ++ (keyed.now ++ codes "\n")))) result }
 {
-    write_text(
+    write_parts(
         &[
             first,
             plan.code_figures(line.code),
@@ -111,13 +109,14 @@ fn write_key<A: Allocator, W: Sink>(
 
 /// Writes a first word, given with its space, a call's number, and what ends the line.
 fn write_call<W: Sink>(first: &[u8], call: u32, end: &[u8], sink: &mut W) -> Result<(), WriteFault>
-    ensures { Wrote (W.taken sink.old) (W.taken sink.new) (W.failed sink.old) (W.failed sink.new) (first.now ++ (decimal call ++ end.now)) result }
+    ensures { Wrote W.taken W.failed sink.old sink.new
+        (first.now ++ (decimal call ++ end.now)) result }
 {
     let mut digits = Buffer::new();
-    write_text(&[first, digits.format(call).as_bytes(), end, b""], sink)
+    write_parts(&[first, digits.format(call).as_bytes(), end, b""], sink)
 }
 
-/// The party that clears, with what stands before it and behind it.
+/// The party that clears, with what comes before it and after it.
 fn party_end<'a>(party: Party) -> &'a [u8]
     ensures { result.now ≡ codes " " ++ (party_word party ++ codes "\n") }
 {
@@ -134,9 +133,10 @@ fn write_group<A: Allocator, W: Sink>(
     plan: &Plan<A>,
     sink: &mut W,
 ) -> Result<(), WriteFault>
-    ensures { Wrote (W.taken sink.old) (W.taken sink.new) (W.failed sink.old) (W.failed sink.new) (first.now ++ (group_name plan.now group ++ codes "\n")) result }
+    ensures { Wrote W.taken W.failed sink.old sink.new
+        (first.now ++ (group_name plan.now group ++ codes "\n")) result }
 {
-    write_text(&[first, plan.group_name(group), b"\n"], sink)
+    write_parts(&[first, plan.group_name(group), b"\n"], sink)
 }
 
 /// Writes a first word, given with its space, and a line.
@@ -147,9 +147,10 @@ fn write_line<A: Allocator, W: Sink>(
     sink: &mut W,
 ) -> Result<(), WriteFault>
     ensures national { is_national line.now.national ≡ true }
-    ensures wrote { Wrote (W.taken sink.old) (W.taken sink.new) (W.failed sink.old) (W.failed sink.new) (first.now ++ (line_text plan.now line.now ++ codes "\n")) result }
+    ensures wrote { Wrote W.taken W.failed sink.old sink.new
+        (first.now ++ (line_text plan.now line.now ++ codes "\n")) result }
 {
-    write_text(
+    write_parts(
         &[
             first,
             plan.code_figures(line.code),

@@ -1,7 +1,8 @@
 //! A script: events as lines of text, and the run that plays them over a network.
 //!
-//! `run` takes any `Network` that was made for the plan, and writes the reply to each event and then the tickets of the calls that it ended. `read_event` and
-//! `write_event` are one line, both ways.
+//! `run` takes any `Network` that was made for the plan, and writes the reply to each event and
+//! then the tickets of the calls that it ended. `read_event` and `write_event` are one line, both
+//! ways.
 //!
 //! ```
 //! fn run_one_call<N: Network>(
@@ -15,12 +16,12 @@
 //! }
 //! ```
 //!
-//! Over an engine of the plan in tx_plan's example, the sink then has `KEYED 1`, `SEIZED NOSO1.1` and `END EVENTS 2 OPEN 1`.
+//! Over an engine of the plan in tx_plan's example, the sink then has `KEYED 1`, `SEIZED NOSO1.1`
+//! and `END EVENTS 2 OPEN 1`.
 #![tactic(auto)]
 
 mod answer;
 mod counts;
-mod echo;
 mod ending;
 mod event_line;
 mod event_text;
@@ -32,10 +33,7 @@ mod runner;
 mod script_word;
 mod summary;
 mod summary_text;
-mod tally;
 mod teller;
-mod telling;
-mod verb;
 
 pub use event_line::{event_lines_read_back, read_event};
 pub use event_text::write_event;
@@ -44,4 +42,4 @@ pub use run_fault::RunFault;
 pub use runner::{run, run_telling};
 pub use script_word::{ScriptFault, ScriptKind, ScriptWord, code_and_name};
 pub use summary::Summary;
-pub use telling::Telling;
+pub use teller::Telling;

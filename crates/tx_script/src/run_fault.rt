@@ -2,7 +2,8 @@
 use crate::run_cause::RunCause;
 use thiserror::Error;
 
-/// Where and why a run stopped: `event` is one more than the number of events, refused ones included, whose reply and tickets were written whole.
+/// Where and why a run stopped: `event` is one more than the number of events, refused ones
+/// included, whose reply and tickets were written whole.
 #[derive(Clone, Copy, Debug, PartialEq, Eq, Error)]
 #[error("event {event}: {cause}")]
 pub struct RunFault {

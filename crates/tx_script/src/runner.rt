@@ -1,42 +1,33 @@
 // The run of a script over a network.
-ghost use Rattle.std.specs.Prelude.{◌≡◌, codes, if◌then◌else◌};
-ghost use Rattle.tx_text.specs.declared.frame.FramePart.TheVariants.{Start};
-ghost use Rattle.tx_text.specs.Calls.{CallsAtMost, Broken, source_calls};
-ghost use Rattle.tx_text.specs.Told.{reading_start};
+ghost use Rattle.std.specs.Prelude.{◌≡◌, codes, if◌then◌else◌, true};
+ghost use Rattle.tx_text.specs.Calls.{CallsAtMost, source_calls};
+ghost use Rattle.tx_text.specs.Ends.{input, output};
+ghost use Rattle.tx_text.specs.inner.Framing.{frame_start};
 ghost use Rattle.tx_text.specs.Frame.{is_read};
-ghost use Rattle.tx_script.specs.Answers.{RunAnswers, IsFresh, mark_after};
+ghost use Rattle.tx_script.specs.Answers.{RunAnswers, IsFresh, states, mark_after};
 ghost use Rattle.tx_script.specs.TellingAnswers.{NoneReleasing, TellingAnswers};
 ghost use Rattle.tx_script.specs.inner.Counting.{AreNew, asked_of};
 
 use crate::ending::finish;
-use crate::event_words::{
-    clear_event, confirm_event, event_by, key_event, released_event, route_event, verb_in,
-};
+use crate::event_words::event_of;
 use crate::run_cause::RunCause;
 use crate::run_fault::RunFault;
-use crate::script_word::{ScriptKind, ScriptWord};
+use crate::script_word::ScriptKind;
 use crate::summary::Summary;
-use crate::tally::Tally;
-use crate::teller::Teller;
-use crate::telling::Telling;
-use crate::verb::Verb;
+use crate::teller::{Tally, Teller, Telling};
 use std::alloc::Allocator;
+use tx_machine::Network;
 use tx_plan::Plan;
-use tx_state::Network;
-use tx_text::{
-    FaultAt, FaultKind, FrameFault, FrameReader, FrameStep, FrameStop, LineFault, Sink, Source,
-};
+use tx_text::{FaultAt, FaultKind, FrameFault, FrameReader, FrameStep, FrameStop, Sink, Source};
 
 const KEY: &[u8] = b"SCRIPT";
 
 /// Runs the script that comes from a source over a network of the plan that has no open call and no
-/// ticket. Writes the reply and the tickets of each event,
-/// and at the script's end the line END EVENTS. `Err` tells at which event the run stopped, and
-/// why.
+/// ticket. Writes the reply and the tickets of each event, and at the script's end the line END
+/// EVENTS. `Err` says at which event the run stopped, and why.
 ///
 /// Each event is answered before the source is asked for a line that is not yet there: no clause
-/// says so, and the worked examples, which count the reads,
-/// show it.
+/// says so, and the worked examples, which count the reads, show it.
 pub fn run<A: Allocator, B: Allocator, N: Network, R: Source, W: Sink>(
     alloc: A,
     plan: &Plan<B>,
@@ -47,16 +38,9 @@ pub fn run<A: Allocator, B: Allocator, N: Network, R: Source, W: Sink>(
     requires plan { N.plan net.old ≡ plan.now }
     requires fresh { IsFresh (N.state net.old) }
     ensures plan { N.plan net.new ≡ plan.now }
-    ensures answers { RunAnswers plan.now (record {
-      rest_old = R.rest source.old;
-      rest_new = R.rest source.new;
-      taken_old = W.taken sink.old;
-      taken_new = W.taken sink.new;
-      state_old = N.state net.old;
-      state_new = N.state net.new;
-    })
-        (Broken R.called (R.failed source.new) source_calls source.old source.new)
-        ((source.new ≡ source.old) × (sink.new ≡ sink.old) × (net.new ≡ net.old)) result }
+    ensures answers { RunAnswers plan.now
+        (input R.rest R.failed R.called source.old source.new)
+        (states N.state net.old net.new) (output W.taken sink.old sink.new) result }
     ensures mark { W.failed sink.new ≡ mark_after (W.failed sink.old) result }
     ensures calls { CallsAtMost R.called source_calls source.old source.new }
 {
@@ -66,11 +50,10 @@ pub fn run<A: Allocator, B: Allocator, N: Network, R: Source, W: Sink>(
     ran
 }
 
-/// Runs a script as `run` does, over a network no circuit of which is releasing. Where the lines of
-/// events are asked for, the line of each stands before
-/// its reply, with its number, as `EVENT 2 ROUTE 1`. Numbers begin at 1, and refused events have
-/// one too. Where the summary is asked for, it stands behind
-/// the line END EVENTS.
+/// Runs a script as `run` does. Where the lines of events are asked for, the line of each comes
+/// before its reply, with its number, as `EVENT 2 ROUTE 1`. Numbers begin at 1, and refused events
+/// have one too. Where the summary is asked for, it follows the line END EVENTS, and no circuit
+/// may be releasing before the run.
 pub fn run_telling<A: Allocator + Copy, B: Allocator, N: Network, R: Source, W: Sink>(
     alloc: A,
     telling: Telling,
@@ -81,18 +64,11 @@ pub fn run_telling<A: Allocator + Copy, B: Allocator, N: Network, R: Source, W: 
 ) -> Result<Summary, RunFault>
     requires plan { N.plan net.old ≡ plan.now }
     requires fresh { IsFresh (N.state net.old) }
-    requires released { NoneReleasing (N.state net.old) }
+    requires released { telling.summary ≡ true → NoneReleasing (N.state net.old) }
     ensures plan { N.plan net.new ≡ plan.now }
-    ensures answers { TellingAnswers plan.now telling (record {
-      rest_old = R.rest source.old;
-      rest_new = R.rest source.new;
-      taken_old = W.taken sink.old;
-      taken_new = W.taken sink.new;
-      state_old = N.state net.old;
-      state_new = N.state net.new;
-    })
-        (Broken R.called (R.failed source.new) source_calls source.old source.new)
-        ((source.new ≡ source.old) × (sink.new ≡ sink.old) × (net.new ≡ net.old)) result }
+    ensures answers { TellingAnswers plan.now telling
+        (input R.rest R.failed R.called source.old source.new)
+        (states N.state net.old net.new) (output W.taken sink.old sink.new) result }
     ensures mark { W.failed sink.new ≡ mark_after (W.failed sink.old) result }
     ensures calls { CallsAtMost R.called source_calls source.old source.new }
 {
@@ -109,7 +85,7 @@ pub fn run_telling<A: Allocator + Copy, B: Allocator, N: Network, R: Source, W: 
     }
 }
 
-/// The same, where a teller says what is asked for, and nothing was counted yet.
+/// Runs a script, where a teller says what is asked for, and nothing was counted yet.
 fn run_script<A: Allocator, B: Allocator, N: Network, R: Source, W: Sink>(
     alloc: A,
     teller: &mut Teller<A>,
@@ -122,33 +98,22 @@ fn run_script<A: Allocator, B: Allocator, N: Network, R: Source, W: Sink>(
     requires fresh { IsFresh (N.state net.old) }
     requires counts { AreNew plan.now (N.state net.old) teller.old.counts }
     ensures plan { N.plan net.new ≡ plan.now }
-    ensures answers { TellingAnswers plan.now (asked_of teller.old.echo teller.old.counts) (record {
-      rest_old = R.rest source.old;
-      rest_new = R.rest source.new;
-      taken_old = W.taken sink.old;
-      taken_new = W.taken sink.new;
-      state_old = N.state net.old;
-      state_new = N.state net.new;
-    })
-        (Broken R.called (R.failed source.new) source_calls source.old source.new)
-        ((source.new ≡ source.old) × (sink.new ≡ sink.old) × (net.new ≡ net.old)) result }
+    ensures answers { TellingAnswers plan.now (asked_of teller.old.echo teller.old.counts)
+        (input R.rest R.failed R.called source.old source.new)
+        (states N.state net.old net.new) (output W.taken sink.old sink.new) result }
     ensures mark { W.failed sink.new ≡ mark_after (W.failed sink.old) result }
     ensures calls { CallsAtMost R.called source_calls source.old source.new }
 {
     match FrameReader::new(alloc, KEY, 1) {
         Ok(frame) => run_lines(frame, teller, plan, net, source, sink),
-        Err(fault) => Err(RunFault {
+        Err(stop) => Err(RunFault {
             event: 1,
-            cause: script_fault(
-                1,
-                FaultKind::Frame(FrameFault::Line(LineFault::Text(fault))),
-            ),
+            cause: frame_cause(stop),
         }),
     }
 }
 
-/// Answers the lines that the frame leaves to it, one after another. The event of a line is read
-/// here, since a function of its own would not be inlined.
+/// Answers the lines that the frame leaves to it, one after another.
 fn run_lines<A: Allocator, B: Allocator, N: Network, R: Source, W: Sink>(
     frame: FrameReader<'_, A>,
     teller: &mut Teller<A>,
@@ -157,25 +122,14 @@ fn run_lines<A: Allocator, B: Allocator, N: Network, R: Source, W: Sink>(
     source: &mut R,
     sink: &mut W,
 ) -> Result<Summary, RunFault>
-    requires key { frame.key.now ≡ codes "SCRIPT" }
-    requires versions { frame.most ≡ 1 }
-    requires reader { frame.reader ≡ reading_start }
-    requires phase { frame.phase ≡ Start }
-    requires number { frame.number ≡ 1 }
+    requires start { frame ≡ frame_start (codes "SCRIPT") 1 source_calls }
     requires plan { N.plan net.old ≡ plan.now }
     requires fresh { IsFresh (N.state net.old) }
     requires counts { AreNew plan.now (N.state net.old) teller.old.counts }
     ensures plan { N.plan net.new ≡ plan.now }
-    ensures answers { TellingAnswers plan.now (asked_of teller.old.echo teller.old.counts) (record {
-      rest_old = R.rest source.old;
-      rest_new = R.rest source.new;
-      taken_old = W.taken sink.old;
-      taken_new = W.taken sink.new;
-      state_old = N.state net.old;
-      state_new = N.state net.new;
-    })
-        (Broken R.called (R.failed source.new) source_calls source.old source.new)
-        ((source.new ≡ source.old) × (sink.new ≡ sink.old) × (net.new ≡ net.old)) result }
+    ensures answers { TellingAnswers plan.now (asked_of teller.old.echo teller.old.counts)
+        (input R.rest R.failed R.called source.old source.new)
+        (states N.state net.old net.new) (output W.taken sink.old sink.new) result }
     ensures mark { W.failed sink.new ≡ mark_after (W.failed sink.old) result }
     ensures calls { CallsAtMost R.called source_calls source.old source.new }
 {
@@ -186,18 +140,9 @@ fn run_lines<A: Allocator, B: Allocator, N: Network, R: Source, W: Sink>(
         match frame.advance(source) {
             Ok(FrameStep::Header(_)) => {}
             Ok(FrameStep::Line) => {
-                let mut words = frame.words();
-                let said = match verb_in(&mut words) {
-                    Some(Verb::Key) => key_event(words, plan),
-                    Some(Verb::Route) => route_event(words),
-                    Some(Verb::Confirm) => confirm_event(words),
-                    Some(Verb::Clear) => clear_event(words),
-                    Some(Verb::Released) => released_event(words, plan),
-                    Some(other) => event_by(other, words, plan),
-                    None => Err(ScriptWord::UnknownWord),
-                };
+                let said = event_of(frame.words(), plan);
                 let number = tally.next_number();
-                match teller.answer_line(frame.number(), said, number, plan, net, sink) {
+                match teller.answer_line(frame.number(), &said, number, plan, net, sink) {
                     Ok(answered) => tally.count(answered),
                     Err(cause) => {
                         drop(frame);
@@ -229,7 +174,7 @@ fn frame_cause(stop: FrameStop) -> RunCause
         else RunCause.Script (record { line = stop.line; kind = FaultKind.Frame stop.fault })) }
 {
     match stop.fault {
-        FrameFault::Line(LineFault::Read) => RunCause::Read,
+        FrameFault::Read => RunCause::Read,
         fault => script_fault(stop.line, FaultKind::Frame(fault)),
     }
 }

@@ -1,14 +1,16 @@
 // What is wrong with a script.
 ghost use Rattle.std.specs.Prelude.{◌≡◌};
-ghost use Rattle.tx_script.specs.ScriptFaults.{frame_row, word_row, fault_row};
+ghost use Rattle.tx_script.specs.ScriptFaults.{word_row, fault_row};
 
 use thiserror::Error;
-use tx_text::{FaultAt, FaultKind, FormFault, FrameFault, LineFault};
+use tx_text::{FaultAt, FaultKind};
 
-/// What is wrong with the words of a script's line. Of several faults the first in this order is given.
+/// What is wrong with the words of a script's line. Of several faults the first in this order is
+/// given.
 #[derive(Clone, Copy, Debug, PartialEq, Eq, Error)]
 pub enum ScriptWord {
-    /// S1: the first word is no event's, or the third of a CLEAR line of three words is neither CALLER nor CALLED.
+    /// S1: the first word is no event's, or the third of a CLEAR line of three words is neither
+    /// CALLER nor CALLED.
     #[error("the first word of the line is no event, or who clears is neither CALLER nor CALLED")]
     UnknownWord,
     /// S2: the wrong number of words.
@@ -17,7 +19,7 @@ pub enum ScriptWord {
     /// S3: a national number, keyed figures, a call or a circuit that is none.
     #[error("a national number, the keyed figures, a call or a circuit is not what it must be")]
     BadNumber,
-    /// S4: a code or a group that the plan has not.
+    /// S4: a code or a group that the plan does not have.
     #[error("the plan has no such code or group")]
     UnknownName,
 }
@@ -28,25 +30,14 @@ pub type ScriptKind = FaultKind<ScriptWord>;
 /// A fault of a script, with its line, counted from 1.
 pub type ScriptFault = FaultAt<ScriptWord>;
 
-/// The code and the name of a fault, as `S1` and `UnknownWord`. A source that failed has no code in a script.
+/// The code and the name of a fault, as `S1` and `UnknownWord`. A source that failed has no code in
+/// a script.
 pub fn code_and_name(kind: ScriptKind) -> (&'static [u8], &'static [u8])
     ensures { (result.0.now, result.1.now) ≡ fault_row kind }
 {
     match kind {
-        FaultKind::Frame(fault) => frame_row(fault),
+        FaultKind::Frame(fault) => fault.code_and_name(b"S5", b"S6", b"S7", b""),
         FaultKind::Word(word) => word_row(word),
-    }
-}
-
-fn frame_row(fault: FrameFault) -> (&'static [u8], &'static [u8])
-    ensures { (result.0.now, result.1.now) ≡ frame_row fault }
-{
-    match fault {
-        FrameFault::Form(FormFault::NoHeader) => (b"S5", b"NoHeader"),
-        FrameFault::Form(FormFault::NoEnd) => (b"S6", b"NoEnd"),
-        FrameFault::Form(FormFault::AfterEnd) => (b"S7", b"AfterEnd"),
-        FrameFault::Line(LineFault::Read) => (b"", b"ReadFault"),
-        FrameFault::Line(LineFault::Text(fault)) => fault.code_and_name(),
     }
 }
 

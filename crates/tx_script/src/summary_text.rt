@@ -1,5 +1,5 @@
 // The lines of a summary.
-ghost use Rattle.std.specs.Prelude.{◌≡◌, ◌<◌, codes, length};
+ghost use Rattle.std.specs.Prelude.{◌≡◌, ◌<◌, length};
 ghost use Rattle.std.specs.List.{flat_map, range_with_len};
 ghost use Rattle.tx_text.specs.Wrote.{Wrote};
 ghost use Rattle.tx_tickets.specs.Texts.{cause_text};
@@ -9,9 +9,9 @@ ghost use Rattle.tx_script.specs.inner.Counting.{count_for, counts_text, use_at}
 use crate::counts::Counts;
 use itoa::Buffer;
 use std::alloc::Allocator;
+use tx_machine::{Cause, Service};
 use tx_plan::{GroupId, Plan};
-use tx_state::{Cause, Service};
-use tx_text::{Sink, WriteFault, write_text};
+use tx_text::{Sink, WriteFault, write_parts};
 use tx_tickets::cause_word;
 
 /// Writes what was counted of a run, and how many calls are open.
@@ -21,16 +21,16 @@ pub(crate) fn write_summary<A: Allocator, B: Allocator, W: Sink>(
     plan: &Plan<B>,
     sink: &mut W,
 ) -> Result<(), WriteFault>
-    ensures { Wrote (W.taken sink.old) (W.taken sink.new) (W.failed sink.old) (W.failed sink.new)
+    ensures { Wrote W.taken W.failed sink.old sink.new
         (counts_text plan.now counts.now open_calls) result }
 {
     write_ended(counts, sink)?;
     write_calls(b"OPEN", open_calls, sink)?;
     write_peaks(counts, plan, sink)?;
-    write_text(&[b"END SUMMARY\n"], sink)
+    write_parts(&[b"END SUMMARY\n"], sink)
 }
 
-/// All causes, in the order in which they are told.
+/// All causes, in the order in which they are printed.
 fn causes() -> [Cause; 9]
     ensures { result ≡ causes }
 {
@@ -49,8 +49,7 @@ fn causes() -> [Cause; 9]
 
 /// Writes how many calls ended by each cause.
 fn write_ended<A: Allocator, W: Sink>(counts: &Counts<A>, sink: &mut W) -> Result<(), WriteFault>
-    ensures { Wrote (W.taken sink.old) (W.taken sink.new)
-        (W.failed sink.old) (W.failed sink.new) (flat_map
+    ensures { Wrote W.taken W.failed sink.old sink.new (flat_map
         (λ cause. calls_line (cause_text cause) (count_for counts.now.calls cause)) causes) result }
 {
     let causes = causes();
@@ -67,13 +66,11 @@ fn write_peaks<A: Allocator, B: Allocator, W: Sink>(
     plan: &Plan<B>,
     sink: &mut W,
 ) -> Result<(), WriteFault>
-    ensures { Wrote (W.taken sink.old) (W.taken sink.new) (W.failed sink.old)
-        (W.failed sink.new) (flat_map (λ g. peak_line plan.now g (use_at counts.now.groups g).most)
-        (range_with_len 0 (length plan.now.groups))) result }
+    ensures { Wrote W.taken W.failed sink.old sink.new (flat_map (λ g. peak_line plan.now g
+        (use_at counts.now.groups g).most) (range_with_len 0 (length plan.now.groups))) result }
 {
-    plan.rules();
     for place in 0..plan.groups() {
-        let group = GroupId::at(place as u16);
+        let group = GroupId::of(place);
         write_peak(group, counts.most_of(group), plan, sink)?;
     }
     Ok(())
@@ -81,7 +78,7 @@ fn write_peaks<A: Allocator, B: Allocator, W: Sink>(
 
 /// Writes how many calls there are of a kind, where there are some.
 fn write_calls<W: Sink>(word: &[u8], count: u64, sink: &mut W) -> Result<(), WriteFault>
-    ensures { Wrote (W.taken sink.old) (W.taken sink.new) (W.failed sink.old) (W.failed sink.new)
+    ensures { Wrote W.taken W.failed sink.old sink.new
         (calls_line word.now count) result }
 {
     if count == 0 {
@@ -89,7 +86,7 @@ fn write_calls<W: Sink>(word: &[u8], count: u64, sink: &mut W) -> Result<(), Wri
     }
     let mut digits = Buffer::new();
     let figures = digits.format(count).as_bytes();
-    write_text(&[b"CALLS ", word, b" ", figures, b"\n"], sink)
+    write_parts(&[b"CALLS ", word, b" ", figures, b"\n"], sink)
 }
 
 /// Writes the most circuits of a group that were taken at once, where it was used.
@@ -99,7 +96,7 @@ fn write_peak<B: Allocator, W: Sink>(
     plan: &Plan<B>,
     sink: &mut W,
 ) -> Result<(), WriteFault>
-    ensures { Wrote (W.taken sink.old) (W.taken sink.new) (W.failed sink.old) (W.failed sink.new)
+    ensures { Wrote W.taken W.failed sink.old sink.new
         (peak_line plan.now group most) result }
 {
     if most == 0 {
@@ -109,7 +106,7 @@ fn write_peak<B: Allocator, W: Sink>(
     let mut circuits = Buffer::new();
     let taken = digits.format(most).as_bytes();
     let all = circuits.format(plan.group_count(group)).as_bytes();
-    write_text(
+    write_parts(
         &[
             b"PEAK ",
             plan.group_name(group),

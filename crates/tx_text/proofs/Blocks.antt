@@ -5,7 +5,7 @@ use Rattle.std.proofs.Math.Seq.{take-add}
 use Rattle.std.proofs.lemmas.List.Folds.{list_all-append}
 
 module _ {X : Type 0} (p : X → Bool) where
-  -- the first i + n are the first i and the n behind them
+  -- the first i + n are the first i and the n after them
   pub in_blocks : (xs : List X) (i n : ℕ) → list_all p (take (i + n) xs) ≡ (list_all p (take i xs) && list_all p (take n (drop i xs)))
   in_blocks xs i n = ap (list_all p) (take-add i n xs) ∙ list_all-append p (take i xs) (take n (drop i xs))
 
@@ -13,7 +13,7 @@ module _ {X : Type 0} (p : X → Bool) where
   pub in_two : (xs : List X) (i : ℕ) → list_all p xs ≡ (list_all p (take i xs) && list_all p (drop i xs))
   in_two xs i = ap (list_all p) (sym (take-append-drop i xs)) ∙ list_all-append p (take i xs) (drop i xs)
 
--- what stands in both is tested twice
+-- what is in both is tested twice
 twice : (a b c : Bool) → ((a && b) && (b && c)) ≡ (a && (b && c))
 twice false b c = refl
 twice true false c = refl

@@ -4,7 +4,10 @@ use Rattle.std.proofs.lemmas.List.{length-drop, drop-drop}
 use Rattle.tx_text.specs.declared.source.ReadFault.{ReadFault}
 use Rattle.tx_text.specs.declared.frame.FrameFault.{FrameFault}
 use Rattle.tx_text.specs.declared.frame.FaultKind.{FaultKind}
-use Rattle.tx_text.specs.Calls.{Gives, Gave, Went, Calls, CallsAtMost, Broken}
+use Rattle.tx_text.specs.Calls.{Gives, Gave, CallsAtMost, Broken}
+use Rattle.tx_text.specs.inner.CallsLeft.{Went, Calls}
+use Rattle.tx_text.specs.inner.Reading.{Reading, reading_size}
+use Rattle.tx_text.specs.inner.Framing.{WentOn}
 use Rattle.tx_text.specs.Slices.{slice_called, SlicesAreReadWhole}
 use Rattle.tx_text.specs.Told.{Ending}
 use Rattle.tx_text.specs.Frame.{Stopped, is_read}
@@ -35,15 +38,15 @@ module _ {S : Type 0} (called : ℕ → Result ℕ ReadFault → S → S → Typ
   went_on x y z a b c (m, e, g) (n, f, h) = (n + m, omega (arith, e, f), gave_on m n (n + m) a b c refl g h)
 
   pub calls_on : (x y : ℕ) (a b c : S) → Went called x y a b → CallsAtMost called y b c → CallsAtMost called x a c
-  calls_on x y a b c w (inl (left, v)) = inl (left, went_on x y left a b c w v)
-  calls_on x y a b c w (inr (left, d, v, last)) = inr (left, d, went_on x y (suc left) a b d w v, last)
+  calls_on x y a b c (m, e, g) (inl (n, f, h)) = inl (n + m, omega (arith, e, f), gave_on m n (n + m) a b c refl g h)
+  calls_on x y a b c (m, e, g) (inr (n, f, d, h, r, last)) = inr (n + m, omega (arith, e, f), d, gave_on m n (n + m) a b d refl g h, r, last)
 
   -- one call more was made, whatever it answered
   pub calls_more : (allowed left : ℕ) (a b c : S) → Went called allowed (suc left) a b → Calls called b c → CallsAtMost called allowed a c
-  calls_more allowed left a b c w last = inr (left, b, w, last)
+  calls_more allowed left a b c (n, e, g) last = inr (n, omega (arith, e), b, g, last.0, last.1)
 
   pub calls_so_far : (allowed left : ℕ) (a b : S) → Went called allowed left a b → CallsAtMost called allowed a b
-  calls_so_far allowed left a b w = inl (left, w)
+  calls_so_far allowed left a b (n, e, g) = inl (n, omega (arith, e), g)
 
   -- all that were allowed were made
   pub gave_all : (allowed : ℕ) (a b : S) → Went called allowed 0 a b → Gave called allowed a b
@@ -81,6 +84,11 @@ more_than n a c (b, g, (m, lt, (e, d))) =
 pub slices_whole : SlicesAreReadWhole
 slices_whole text rest short (inl f) = cc
 slices_whole text rest short (inr g) = let l = more_than 2251799813685248 text rest g in omega (arith, l, short)
+
+-- a step that is not the end leaves less to read
+pub less_left : {S E : Type 0} {called : ℕ → Result ℕ ReadFault → S → S → Type 0} {old new : Reading} {a c : S} → E ⊎ WentOn called old new a c → E ⊎ (reading_size new < reading_size old)
+less_left (inl e) = inl e
+less_left (inr w) = inr w.falls
 
 -- a step that is not the end
 pub went_past : {E W : Type 0} → E ⊎ W → (E → ⊥) → W

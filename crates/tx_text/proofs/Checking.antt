@@ -5,7 +5,7 @@ use Rattle.std.proofs.lemmas.List.{take_all, length-drop, length-append, drop-dr
 use Rattle.std.proofs.lemmas.Bool.{lt-ltb}
 use Rattle.tx_text.specs.declared.text_fault.TextFault.{TextFault}
 use Rattle.tx_text.specs.Text.{Line, is_lf, lines_from, bytes_fault, checked, checked_line}
-use Rattle.tx_text.specs.Feed.{front_of, has_lf}
+use Rattle.tx_text.specs.inner.Feed.{front_of, has_lf}
 use Rattle.tx_text.proofs.TextLines.{ended_line, last_line, lines_at_lf, lines_last, lines_nil}
 use Rattle.tx_text.proofs.Feeding.{front-no_lf, cuts_at_lf, length-front}
 
@@ -21,7 +21,7 @@ pub checked-err : (text : List Line) (l : Line) (ls : List Line) (x : TextFault)
 unfolding checked
 checked-err text l ls x e h = ap checked e ∙ ap (λ o. checked_line o l (checked ls)) h
 
--- a text whose first LF stands behind `front`
+-- a text whose first LF stands after `front`
 pub line_ended : (n s : ℕ) (text front rest : List ℕ) (b : ℕ) → front ≡ front_of text → text ≡ front ++ b ∷ rest → has_lf text ≡ true → b ≡ 10
     → lines_from n s text ≡ ended_line n s front ∷ lines_from (n + 1) (s + (length text - length rest)) rest
 line_ended n s text front rest b f w h ten =

@@ -5,9 +5,9 @@ use Rattle.std.proofs.lemmas.Bool.{lt-ltb}
 use Rattle.std.specs.List.{position_or_len}
 use Rattle.tx_text.specs.declared.text_fault.TextFault.{TextFault}
 use Rattle.tx_text.specs.Text.{Line, is_lf, without_cr}
-use Rattle.tx_text.specs.Feed.{Feed, front_of, has_lf, line_fault, piece_fault, feed_leaves, leaves_by, ended, begun_more}
+use Rattle.tx_text.specs.inner.Feed.{Feed, front_of, has_lf, line_fault, piece_fault, feed_leaves, leaves_by, ended, begun_more}
 
--- f is the feeder before, b is f with its complete line let go, and a is b with the front added
+-- f is the feeder before, b is f without its complete line, and a is b with the front added
 pub record Added (f a : Feed) (front : List ℕ) : Type 0 where
   pub start : a.start ≡ f.start
   pub begun : length a.begun ≡ length f.begun + length front
@@ -34,7 +34,7 @@ ended-added f front =
 leaves_ended : (f : Feed) (front : List ℕ) (o p : Option TextFault) (b : Bool) → o ≡ None → p ≡ None → b ≡ true → leaves_by f front o p b ≡ ended f front
 leaves_ended f front o p b x y z = rw (x, y, z) refl
 
--- the front of a piece was added, with the LF behind it, and no fault was told of it
+-- the front of a piece was added, with the LF after it, and no fault was told of it
 pub record FrontAdded (f b a : Feed) (piece front : List ℕ) (k : ℕ) (told : Option TextFault) : Type 0 where
   pub let_go : b ≡ record f { line = None }
   pub place : k ≡ position_or_len is_lf piece

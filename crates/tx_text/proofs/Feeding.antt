@@ -7,10 +7,11 @@ use Rattle.std.proofs.lemmas.Bool.{eqb-true, ltb-true, ltb-false, lt-ltb}
 use Rattle.std.proofs.lemmas.List.Sums.{split_at_first, fails_before_first, passes_at_first, prefix_len-le-length}
 use Rattle.tx_text.specs.declared.text_fault.TextFault.{TextFault}
 use Rattle.tx_text.specs.declared.text_fault.TextFault.TheVariants.{LineTooLong}
-use Rattle.tx_text.specs.declared.line_fault.LineFault.TheVariants.{Text, Read}
-use Rattle.tx_text.specs.Text.{is_lf, without_cr, lines_from, bytes_fault}
-use Rattle.tx_text.specs.Feed.{Feed, begun_fault, front_of, has_lf, ended}
-use Rattle.tx_text.specs.Told.{Ending, AtEnd, Cut, Told, Closed, Faulty, Then, told, told_at, or_fault, IsFeed, place_of}
+use Rattle.tx_text.specs.declared.frame.FrameFault.TheVariants.{Read}
+use Rattle.tx_text.specs.Text.{is_lf, without_cr, lines_from, bytes_fault, begun_fault}
+use Rattle.tx_text.specs.inner.Feed.{Feed, front_of, has_lf, ended}
+use Rattle.tx_text.specs.Told.{Ending, AtEnd, Cut, Told, Closed, Faulty, Then, frame_fault, told, or_fault}
+use Rattle.tx_text.specs.inner.Reading.{told_at, IsFeed, place_of}
 use Rattle.tx_text.proofs.LineFaults.{length-without_cr}
 use Rattle.tx_text.proofs.TextLines.{HasNoLf, ended_line, last_line, lines_at_lf, lines_last, lines_nil}
 
@@ -53,7 +54,7 @@ no_cut piece h = take_all (position_or_len is_lf piece) piece (ltb-false (positi
 pub none_fault : (o : Option TextFault) (t : Told) → o ≡ None → or_fault o t ≡ t
 none_fault o t h = rw h refl
 
-pub some_fault : (o : Option TextFault) (t : Told) (x : TextFault) → o ≡ Some x → or_fault o t ≡ Faulty (Text x)
+pub some_fault : (o : Option TextFault) (t : Told) (x : TextFault) → o ≡ Some x → or_fault o t ≡ Faulty (frame_fault x)
 some_fault o t x h = rw h refl
 
 regroup : (begun front rest more : List ℕ) → (begun ++ (front ++ 10 ∷ rest)) ++ more ≡ (begun ++ front) ++ 10 ∷ (rest ++ more)
@@ -80,10 +81,8 @@ feed-line f piece i h none e more =
 
 -- a line came that is faulty
 pub feed-faulty : (f : Feed) (piece : List ℕ) (x : TextFault) → IsFeed f → (h : has_lf piece ≡ true) → bytes_fault (without_cr (f.begun ++ front_of piece)) ≡ Some x → (e : Ending) (more : List ℕ)
-    → told_at (place_of f piece) e more ≡ Faulty (Text x)
+    → told_at (place_of f piece) e more ≡ Faulty (frame_fault x)
 feed-faulty f piece x i h some e more = at_lf f piece i h e more ∙ some_fault _ _ x some
-
--- ---- a line that is too long already
 
 too_long-true : (b : Bool) (x : TextFault) → ◌≡◌ {A = Option TextFault} (cond b (Some LineTooLong) None) (Some x) → (b ≡ true) × (x ≡ LineTooLong)
 too_long-true true x h = (refl, cc)
@@ -109,12 +108,12 @@ long_begun : (raw : List ℕ) → 512 < length (without_cr raw) → begun_fault 
 unfolding begun_fault
 long_begun raw h = rw (lt-ltb 512 (length (without_cr raw)) h) refl
 
-last_faulty : (e : Ending) (n s : ℕ) (raw : List ℕ) → HasNoLf raw → 512 < length (without_cr raw) → 512 < length raw → told e (lines_from n s raw) ≡ Faulty (Text LineTooLong)
+last_faulty : (e : Ending) (n s : ℕ) (raw : List ℕ) → HasNoLf raw → 512 < length (without_cr raw) → 512 < length raw → told e (lines_from n s raw) ≡ Faulty (frame_fault LineTooLong)
 unfolding told
 last_faulty AtEnd n s raw h long l = ap (told AtEnd) (lines_last n s raw h (omega arith)) ∙ some_fault _ _ LineTooLong (long_bytes raw l)
 last_faulty Cut n s raw h long l = ap (told Cut) (lines_last n s raw h (omega arith)) ∙ some_fault _ _ LineTooLong (long_begun raw long)
 
-long_more : (e : Ending) (n s : ℕ) (raw more : List ℕ) → HasNoLf raw → 512 < length (without_cr raw) → (b : Bool) → has_lf more ≡ b → told e (lines_from n s (raw ++ more)) ≡ Faulty (Text LineTooLong)
+long_more : (e : Ending) (n s : ℕ) (raw more : List ℕ) → HasNoLf raw → 512 < length (without_cr raw) → (b : Bool) → has_lf more ≡ b → told e (lines_from n s (raw ++ more)) ≡ Faulty (frame_fault LineTooLong)
 long_more e n s raw more h long true has =
     let cut = cuts_at_lf more has in
     ap (λ l. told e (lines_from n s (raw ++ l))) cut.whole
@@ -126,15 +125,13 @@ long_more e n s raw more h long false has =
     last_faulty e n s (raw ++ more) (All-append (λ b. is_lf b ≡ false) raw more h front) (longer raw more long).0 (longer raw more long).1
 
 -- a line that has begun is too long whatever follows
-pub begun-faulty : (f : Feed) (piece : List ℕ) (x : TextFault) → IsFeed f → begun_fault (f.begun ++ front_of piece) ≡ Some x → has_lf piece ≡ false → (e : Ending) (more : List ℕ) → told_at (place_of f piece) e more ≡ Faulty (Text x)
+pub begun-faulty : (f : Feed) (piece : List ℕ) (x : TextFault) → IsFeed f → begun_fault (f.begun ++ front_of piece) ≡ Some x → has_lf piece ≡ false → (e : Ending) (more : List ℕ) → told_at (place_of f piece) e more ≡ Faulty (frame_fault x)
 unfolding told_at begun_fault
 begun-faulty f piece x i h without e more =
     let t = too_long-true _ x h in
     let e1 = no_cut piece without in
     let all = All-append (λ b. is_lf b ≡ false) f.begun (front_of piece) i.no_lf (front-no_lf piece) in
     rw t.1 (rw e1 at (long_more e (f.number + 1) f.start (f.begun ++ front_of piece) more all (ltb-true 512 _ t.0) (has_lf more) refl))
-
--- ---- the end of the text
 
 pub end-nothing : (e : Ending) (f : Feed) → f.begun ≡ [] → told_at (place_of f []) e [] ≡ told e []
 unfolding told_at

@@ -1,11 +1,19 @@
 -- Readers of framed texts: one line after another.
-use Rattle.std.proofs.Common.{ℕ, List, [], ◌++◌, Option, Bool, true, false, refl, ap, ◌∙◌, append_assoc, inl, inr}
+use Rattle.std.proofs.Common.{◌≡◌, ℕ, List, [], ◌++◌, Option, Bool, true, false, refl, ap, ◌∙◌, append_assoc, inl, inr}
 use Rattle.tx_text.specs.Told.{Ending}
 use Rattle.tx_text.specs.Frame.{ReadsOn, EndsAs, Stands, Stopped}
 use Rattle.tx_text.proofs.ReadingOn.{moves-nil, moves_on}
 
 pub on_none : {X : Type 0} (a : Option (List ℕ)) (F : Ending → List ℕ → X) → ReadsOn a a F F
 on_none a F = record { read = []; moves = moves-nil a; gives = λ e more. refl }
+
+-- nothing more was read, and something is known of what follows
+pub on_says : {X : Type 0} (a : Option (List ℕ)) {F G : Ending → List ℕ → X} → ((e : Ending) (more : List ℕ) → F e more ≡ G e more) → ReadsOn a a F G
+on_says a h = record { read = []; moves = moves-nil a; gives = h }
+
+-- nothing more is read, and what follows is known by how the bytes end
+pub ends_here : {X : Type 0} (a : Option (List ℕ)) {F : Ending → List ℕ → X} {e : Ending} {x : X} → F e [] ≡ x → EndsAs a a F e x
+ends_here a h = record { read = []; moves = moves-nil a; gives = h }
 
 pub on_then : {X : Type 0} {a b c : Option (List ℕ)} {F G H : Ending → List ℕ → X} → ReadsOn a b F G → ReadsOn b c G H → ReadsOn a c F H
 on_then {a} {b} {c} {F} r s = record {

@@ -4,25 +4,39 @@ use Rattle.std.specs.List.{flat_map, position_or_len}
 use Rattle.std.proofs.lemmas.Bool.{ltb-true, ltb-false}
 use Rattle.std.proofs.lemmas.List.{length-drop}
 use Rattle.tx_text.specs.declared.text_fault.TextFault.{TextFault}
-use Rattle.tx_text.specs.declared.line_fault.LineFault.TheVariants.{Text, Read}
+use Rattle.tx_text.specs.declared.text_fault.TextFault.TheVariants.{LineTooLong as too_long, BadByte as bad_byte, NoMemory as no_memory}
+use Rattle.tx_text.specs.declared.frame.FrameFault.{FrameFault}
+use Rattle.tx_text.specs.declared.frame.FrameFault.TheVariants.{LineTooLong, BadByte, NoMemory}
 use Rattle.tx_text.specs.Text.{Line, is_lf, lines_from, lines_of, bytes_fault, checked, checked_line}
-use Rattle.tx_text.specs.Feed.{Feed, front_of, has_lf, piece_fault, feed_gives, feed_leaves, gives_by, leaves_by, begun_more, ended, ends_giving, ends_leaving}
-use Rattle.tx_text.specs.Told.{AtEnd, Told, Closed, Faulty, Then, told, told_line, told_at, IsFeed, place_of, or_fault}
-use Rattle.tx_text.specs.Pieces.{FeedingGives, taken, completed, faulty, over, unfinished, unfinished_faulty, unfed_yet, PiecesGiveTheLines}
+use Rattle.tx_text.specs.inner.Feed.{Feed, front_of, has_lf, piece_fault, feed_gives, feed_leaves, gives_by, leaves_by, begun_more, ended, ends_giving, ends_leaving}
+use Rattle.tx_text.specs.Told.{AtEnd, Told, Closed, Faulty, Then, frame_fault, told, told_line, or_fault}
+use Rattle.tx_text.specs.inner.Reading.{told_at, IsFeed, place_of}
+use Rattle.tx_text.specs.inner.Pieces.{FeedingGives, taken, completed, faulty, over, unfinished, unfinished_faulty, unfed_yet, PiecesGiveTheLines}
 use Rattle.tx_text.proofs.TextLines.{last_line}
 use Rattle.tx_text.proofs.Feeding.{no_cut, end-nothing, end-line}
 use Rattle.tx_text.proofs.FeedSteps.{fed_as, nothing_begun, says_by}
 
+-- the fault of a line, as a list
+abbrev items_of_fault : FrameFault → List (Result Line TextFault)
+items_of_fault LineTooLong = Err too_long ∷ []
+items_of_fault BadByte = Err bad_byte ∷ []
+items_of_fault NoMemory = Err no_memory ∷ []
+items_of_fault f = []
+
 -- what is told, as a list
 abbrev items_of : Told → List (Result Line TextFault)
 items_of Closed = []
-items_of (Faulty (Text x)) = Err x ∷ []
-items_of (Faulty Read) = []
+items_of (Faulty f) = items_of_fault f
 items_of (Then l t) = Ok l ∷ items_of t
+
+items-fault : (x : TextFault) → items_of (Faulty (frame_fault x)) ≡ Err x ∷ []
+items-fault too_long = refl
+items-fault bad_byte = refl
+items-fault no_memory = refl
 
 items-line : (l : Line) (t : Told) (rest : List (Result Line TextFault)) → items_of t ≡ rest → (o : Option TextFault) → items_of (or_fault o (Then l t)) ≡ checked_line o l rest
 items-line l t rest e None = ap (λ r. Ok l ∷ r) e
-items-line l t rest e (Some x) = refl
+items-line l t rest e (Some x) = items-fault x
 
 items-told_line : (l : Line) (t : Told) (rest : List (Result Line TextFault)) → items_of t ≡ rest → (b : Bool) → items_of (told_line AtEnd b l t) ≡ checked_line (bytes_fault l.bytes) l rest
 items-told_line l t rest e true = items-line l t rest e (bytes_fault l.bytes)
@@ -50,7 +64,7 @@ at_end f i z false o h k =
     subst (FeedingGives f []) (sym (ap items_of (end-nothing AtEnd f (nothing f.begun h) ∙ told-nil))) (over f (λ j. ends_giving (z j) (h j) (bytes_fault f.begun)))
 at_end f i z true (Some x) h k =
     let line = last_line (f.number + 1) f.start f.begun in
-    subst (FeedingGives f []) (sym (ap items_of (end-line f i (ltb-true 0 (length f.begun) h) ∙ ap (λ p. or_fault p (Then line Closed)) k))) (unfinished_faulty f x (λ j. ends_giving (z j) (h j) (k j)))
+    subst (FeedingGives f []) (sym (ap items_of (end-line f i (ltb-true 0 (length f.begun) h) ∙ ap (λ p. or_fault p (Then line Closed)) k) ∙ items-fault x)) (unfinished_faulty f x (λ j. ends_giving (z j) (h j) (k j)))
 at_end f i z true None h k =
     let line = last_line (f.number + 1) f.start f.begun in
     subst (FeedingGives f []) (sym (ap items_of (end-line f i (ltb-true 0 (length f.begun) h) ∙ ap (λ p. or_fault p (Then line Closed)) k)))
@@ -67,7 +81,7 @@ module _ (pieces : List (List ℕ)) (more : More pieces) where
   one_call : (f : Feed) (piece : List ℕ) → IsFeed f → f.fault ≡ None → ((rest : List ℕ) (g : Feed) → length rest < length piece → IsFeed g → g.fault ≡ None → Fed g rest pieces)
       → (o : Option TextFault) (b : Bool) → piece_fault f piece ≡ o → has_lf piece ≡ b → Fed f piece pieces
   one_call f piece i z again (Some x) b h k =
-      subst (FeedingGives f (piece ∷ pieces)) (sym (ap items_of (says_by f piece i z (Some x) b h k AtEnd (joined pieces)))) (faulty f piece pieces x (λ j. gives_by (z j) (h j) (has_lf piece) (length (front_of piece))))
+      subst (FeedingGives f (piece ∷ pieces)) (sym (ap items_of ((says_by f piece i z (Some x) b h k).1 AtEnd (joined pieces)) ∙ items-fault x)) (faulty f piece pieces x (λ j. gives_by (z j) (h j) (has_lf piece) (length (front_of piece))))
   one_call f piece i z again None false h k =
       let s = says_by f piece i z None false h k in
       let left : feed_leaves f piece ≡ begun_more f (front_of piece) = (λ j. leaves_by f (front_of piece) (z j) (h j) (k j)) in

@@ -1,9 +1,8 @@
 pub mod WordLists
-pub mod WordEnds
 pub mod Writing
 pub mod Wrote
 pub mod Places
-pub mod AlikeBytes
+pub mod PaddedTexts
 pub mod Blocks
 pub mod LineFaults
 pub mod FeederFields
@@ -15,6 +14,7 @@ pub mod InPieces
 pub mod ReaderFields
 pub mod ReadingOn
 pub mod Framing
+pub mod Advancing
 pub mod NoRoom
 pub mod Checking
 pub mod Saying
@@ -22,9 +22,12 @@ pub mod Wanting
 pub mod Sizes
 pub mod CallCounts
 pub mod Frames
-pub mod PlainLines
+pub mod Headers
 pub mod Numbers
 pub mod WrittenWords
 pub mod ReadBack
 pub mod SliceAnswers
+pub mod Starting
+pub mod Exits
+pub mod Beside
 mod ReadCalls

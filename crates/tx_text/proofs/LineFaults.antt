@@ -4,8 +4,8 @@ use Rattle.std.proofs.Math.Seq.{take-length}
 use Rattle.std.proofs.lemmas.List.{length-take, length-append}
 use Rattle.std.proofs.lemmas.Bool.{lt-ltb}
 use Rattle.tx_text.specs.declared.text_fault.TextFault.TheVariants.{LineTooLong}
-use Rattle.tx_text.specs.Text.{without_cr, bytes_fault}
-use Rattle.tx_text.specs.Feed.{begun_fault, line_fault}
+use Rattle.tx_text.specs.Text.{without_cr, bytes_fault, begun_fault}
+use Rattle.tx_text.specs.inner.Feed.{line_fault}
 
 cr_len : (line : List ℕ) (b : Bool) → length line ≤ length (cond b (take (length line - 1) line) line) + 1
 cr_len line true = omega (arith, length-take (length line - 1) line)

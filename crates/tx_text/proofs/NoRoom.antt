@@ -5,25 +5,22 @@ use Rattle.std.specs.List.{list_all}
 use Rattle.std.proofs.lemmas.Bool.{true≢false}
 use Rattle.tx_text.specs.declared.text_fault.TextFault.{TextFault}
 use Rattle.tx_text.specs.declared.text_fault.TextFault.TheVariants.{LineTooLong, BadByte}
-use Rattle.tx_text.specs.declared.line_fault.LineFault.TheVariants.{Text, Read}
-use Rattle.tx_text.specs.declared.frame.FormFault.{FormFault}
 use Rattle.tx_text.specs.declared.frame.FrameFault.{FrameFault}
-use Rattle.tx_text.specs.declared.frame.FrameFault.TheVariants.{Line as of_line}
+use Rattle.tx_text.specs.declared.frame.FrameFault.TheVariants.{Read}
 use Rattle.tx_text.specs.declared.frame.FramePart.{FramePart}
 use Rattle.tx_text.specs.declared.frame.FramePart.TheVariants.{Start, Body, Ended}
-use Rattle.tx_text.specs.Text.{Line, is_text_byte, bytes_fault, without_cr}
-use Rattle.tx_text.specs.Feed.{begun_fault}
+use Rattle.tx_text.specs.Text.{Line, is_text_byte, bytes_fault, without_cr, begun_fault}
 use Rattle.tx_text.specs.Words.{words_of}
-use Rattle.tx_text.specs.Told.{Ending, AtEnd, Cut, Told, Closed, Faulty, Then, or_fault, told_line, told, told_at, reading_place}
-use Rattle.tx_text.specs.Frame.{Framed, Done, Stop, Headed, Has, is_end, headed, looked_by, last_fault, ended_by, as_said, framed_line, header_of, framed, Stopped}
-use Rattle.tx_text.specs.Framing.{to_come}
-use Rattle.tx_text.specs.declared.frame_reader.FrameReader.{FrameReader}
+use Rattle.tx_text.specs.Told.{Ending, AtEnd, Cut, Told, Closed, Faulty, Then, frame_fault, or_fault, told_line, told}
+use Rattle.tx_text.specs.inner.Reading.{told_at, reading_place}
+use Rattle.tx_text.specs.Frame.{Framed, Done, Stop, Headed, Has, is_end, headed, looked_by, closing, last_by, last_fault, ended_by, as_said, framed_line, header_of, framed, Stopped}
+use Rattle.tx_text.specs.inner.Framing.{FrameReading, to_come}
 use Rattle.tx_text.specs.Said.{is_no_room}
 
 -- a fault of bytes is none of memory
 abbrev IsOfBytes : Option TextFault → Type 0
 IsOfBytes None = Unit {0}
-IsOfBytes (Some f) = is_no_room (of_line (Text f)) ≡ false
+IsOfBytes (Some f) = is_no_room (frame_fault f) ≡ false
 
 begun_of_bytes : (bytes : List ℕ) → IsOfBytes (begun_fault bytes)
 unfolding begun_fault
@@ -40,7 +37,7 @@ fault_of_bytes bytes =
 -- the lines of a text tell no such fault
 abbrev pub AreOfBytes : Told → Type 0
 AreOfBytes Closed = Unit {0}
-AreOfBytes (Faulty f) = is_no_room (of_line f) ≡ false
+AreOfBytes (Faulty f) = is_no_room f ≡ false
 AreOfBytes (Then l t) = AreOfBytes t
 
 or_of_bytes : (f : Option TextFault) (t : Told) → IsOfBytes f → AreOfBytes t → AreOfBytes (or_fault f t)
@@ -66,12 +63,24 @@ IsSaid (Stop n k) = is_no_room k ≡ false
 IsSaid (Headed v t) = IsSaid t
 IsSaid (Has n ws t) = IsSaid t
 
-end_said : (n : ℕ) (k : Option FormFault) → IsSaid (ended_by n k)
-end_said n None = tt
-end_said n (Some k) = refl
+close_said : (n : ℕ) (q : FramePart) → IsSaid (ended_by n (closing q))
+close_said n Start = refl
+close_said n Body = refl
+close_said n Ended = tt
+
+last_said_by : (n : ℕ) (end : Bool) (q : FramePart) → IsSaid (ended_by n (last_by end q))
+last_said_by n true Start = refl
+last_said_by n false Start = refl
+last_said_by n true Body = tt
+last_said_by n false Body = refl
+last_said_by n end Ended = refl
+
+last_said : (n : ℕ) (q : FramePart) (ws : List (List ℕ)) → IsSaid (ended_by n (last_fault q ws))
+last_said n q [] = close_said n q
+last_said n q (w ∷ ws) = last_said_by n (is_end (w ∷ ws)) q
 
 line_framed : (header : List (List ℕ) → Option ℕ) (q : FramePart) (finished : Bool) (n : ℕ) (ws : List (List ℕ)) (k : FramePart → Framed) → ((r : FramePart) → IsSaid (k r)) → IsSaid (framed_line header q finished n ws k)
-line_framed header q false n ws k h = end_said n (last_fault q ws)
+line_framed header q false n ws k h = last_said n q ws
 line_framed header q true n [] k h = h q
 line_framed header Start true n (w ∷ ws) k h = elim (header (w ∷ ws)) as (λ (o : Option ℕ). IsSaid (as_said (headed o) Start n (w ∷ ws) k)) [ None ↦ refl | Some v ↦ h Body ]
 line_framed header Body true n (w ∷ ws) k h = elim (is_end (w ∷ ws)) as (λ (b : Bool). IsSaid (as_said (looked_by (header (w ∷ ws)) b Body) Body n (w ∷ ws) k)) [ true ↦ h Ended | false ↦ h Body ]
@@ -79,13 +88,13 @@ line_framed header Ended true n (w ∷ ws) k h = refl
 
 pub framed_said : (header : List (List ℕ) → Option ℕ) (q : FramePart) (n : ℕ) (t : Told) → AreOfBytes t → IsSaid (framed header q n t)
 unfolding framed
-framed_said header q n Closed h = end_said n _
+framed_said header q n Closed h = close_said n q
 framed_said header q n (Faulty f) h = h
 framed_said header q n (Then l t) h = line_framed header q l.finished l.number (words_of l.bytes) (λ r. framed header r (l.number + 1) t) (λ r. framed_said header r (l.number + 1) t h)
 
-pub come_said : {A : Type 0} (v : FrameReader A) (e : Ending) (more : List ℕ) → IsSaid (to_come v e more)
+pub come_said : (v : FrameReading) (e : Ending) (more : List ℕ) → IsSaid (to_come v e more)
 unfolding told_at
-come_said v e more = framed_said (header_of v.key.now v.most) v.phase v.number (told_at (reading_place v.reader) e more) (told_of_bytes e _)
+come_said v e more = framed_said (header_of v.key v.most) v.phase v.number (told_at (reading_place v.reader) e more) (told_of_bytes e _)
 
 -- so none stands
 no_stop : (n : ℕ) (k : FrameFault) (t : Framed) → IsSaid t → t ≡ Stop n k → is_no_room k ≡ true → ⊥

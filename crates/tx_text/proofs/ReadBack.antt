@@ -11,7 +11,8 @@ use Rattle.tx_text.specs.Words.{words_of, is_blank, is_hash, is_filled, before}
 use Rattle.tx_text.specs.Told.{Ending, AtEnd, Then, told}
 use Rattle.tx_text.specs.Frame.{Framed, Done, Has, Headed, is_end, framed}
 use Rattle.tx_text.specs.Said.{said, step_on}
-use Rattle.tx_text.specs.Written.{IsWritten, IsPlain, IsWord, IsWrittenLine, joined, line_written, LeadsTo}
+use Rattle.tx_text.specs.Written.{joined, line_written}
+use Rattle.tx_text.specs.inner.Written.{IsWritten, IsPlain, IsWord, IsWrittenLine, LeadsTo}
 use Rattle.tx_text.proofs.TextLines.{lines_nil}
 use Rattle.tx_text.proofs.Feeding.{told-lf, none_fault}
 

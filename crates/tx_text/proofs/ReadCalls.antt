@@ -1,15 +1,13 @@
 -- How often a reader was called.
 use Rattle.std.proofs.Common.{◌≡◌, ◌∙◌, ℕ, zero, suc, ◌≤◌, ap, sym, arith, inl, inr}
 use Rattle.tx_text.specs.Calls.{Gave, source_calls}
-use Rattle.tx_text.specs.declared.from_read.FromRead.{FromRead}
-use Rattle.tx_text.specs.ReadCalls.{counted, TellsWhy}
+use Rattle.tx_text.specs.ReadCalls.{Reads, counted, TellsWhy}
 
-module _ {R : Type 0} where
-  calls_of : (n : ℕ) (a c : FromRead R) → n ≤ 4294967295 → a.calls ≡ 0 → Gave counted n a c → c.calls ≡ n
-  unfolding Gave
-  calls_of zero a c few none g = ap (λ (r : FromRead R). r.calls) (sym g) ∙ none
-  calls_of (suc n) a c few none (b, g, (m, some, call)) = let before : b.calls ≡ n = calls_of n a b (omega (arith, few)) none g in omega (arith, call, before, few)
+calls_of : (n : ℕ) (a c : Reads) → n ≤ 4294967295 → a.calls ≡ 0 → Gave counted n a c → c.calls ≡ n
+unfolding Gave
+calls_of zero a c few none g = ap (λ (r : Reads). r.calls) (sym g) ∙ none
+calls_of (suc n) a c few none (b, g, (m, some, call)) = let before : b.calls ≡ n = calls_of n a b (omega (arith, few)) none g in omega (arith, call, before, few)
 
-  pub tells_why : (begin : FromRead R) → begin.calls ≡ 0 → TellsWhy begin
-  tells_why begin none later (inl failed) = inl failed
-  tells_why begin none later (inr g) = inr (calls_of source_calls begin later (omega arith) none g)
+pub tells_why : (begin : Reads) → begin.calls ≡ 0 → TellsWhy begin
+tells_why begin none later (inl failed) = inl failed
+tells_why begin none later (inr g) = inr (calls_of source_calls begin later (omega arith) none g)

@@ -4,16 +4,14 @@ use Rattle.std.proofs.lemmas.List.{length-take-le, length-drop, drop-drop, drop-
 use Rattle.std.proofs.lemmas.Result.{MatchResult-at_ok, MatchResult-at_err}
 use Rattle.tx_text.specs.declared.text_fault.TextFault.{TextFault}
 use Rattle.tx_text.specs.declared.feeder.Fed.{Fed}
-use Rattle.tx_text.specs.Text.{Line, without_cr, bytes_fault}
-use Rattle.tx_text.specs.Feed.{Feed, feed_gives, feed_leaves, finish_leaves, begun_fault, front_of, has_lf, leaves_by, piece_fault, ended}
-use Rattle.tx_text.specs.Told.{Reading, IsFeed, reading_start, fed_on}
+use Rattle.tx_text.specs.Text.{Line, without_cr, bytes_fault, begun_fault}
+use Rattle.tx_text.specs.inner.Feed.{Feed, feed_gives, feed_leaves, finish_leaves, front_of, has_lf, leaves_by, piece_fault, ended}
+use Rattle.tx_text.specs.inner.Reading.{Reading, IsFeed, fed_on, reading_of_calls}
 use Rattle.tx_text.specs.inner.Reader.{IsReader, reading_of, lending}
 use Rattle.tx_text.specs.declared.reader.TextReader.TheInside.{Inside}
 use Rattle.tx_text.proofs.FeedSteps.{fed_as, ended_as_feed}
 use Rattle.tx_text.proofs.Feeding.{length-front}
 use Rattle.tx_text.proofs.LineFaults.{take_without_cr}
-
--- ---- a line that is lent in place of the feeder's
 
 -- a call leaves the same, whichever line stood before, but after a fault
 leaves_by_same : (f : Feed) (l : Option Line) (front : List ℕ) (o p : Option TextFault) (b : Bool) → (o ≡ None) ⊎ (l ≡ f.line) → leaves_by (record f { line = l }) front o p b ≡ leaves_by f front o p b
@@ -72,8 +70,6 @@ after_end a g i h =
     let s = ended_as_feed a.feeder i.feed in
     rw h (record { order = i.order; within = i.within; room = i.room; feed = s.feed; bound = omega (arith, s.fits, i.bound); lent = λ e. cc })
 
--- ---- a line that stands whole in the piece
-
 -- a line stands whole at the front of what was read, and is right
 pub record IsWhole (f : Feed) (piece : List ℕ) (n m : ℕ) : Type 0 where
   pub begun : f.begun ≡ []
@@ -122,6 +118,6 @@ module _ {A : Type 0} (a : Inside A) (g : Feed) (n m : ℕ) (i : IsReader a) (w 
       let leaves = leaves_same a piece i ∙ whole_leaves a.feeder piece n m w in
       rw (leaves, gives, e, w.begun, lent_bytes, piece_after a (record { taken = n + 1; line = true }) i gives) refl
 
-pub start_feed : IsFeed reading_start.feed
+pub start_feed : (calls : ℕ) → IsFeed (reading_of_calls calls).feed
 unfolding begun_fault without_cr
-start_feed = record { no_lf = search rules; short = refl }
+start_feed calls = record { no_lf = search rules; short = refl }

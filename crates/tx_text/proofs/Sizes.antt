@@ -5,8 +5,8 @@ use Rattle.std.proofs.lemmas.Bool.{ltb-true}
 use Rattle.std.specs.List.{position_or_len}
 use Rattle.tx_text.specs.Text.{is_lf}
 use Rattle.tx_text.specs.declared.text_fault.TextFault.{TextFault}
-use Rattle.tx_text.specs.Feed.{gives_by, feed_gives, piece_fault, has_lf, front_of}
-use Rattle.tx_text.specs.Told.{Reading, reading_size, fed_on, lined, unfed}
+use Rattle.tx_text.specs.inner.Feed.{gives_by, feed_gives, piece_fault, has_lf, front_of}
+use Rattle.tx_text.specs.inner.Reading.{Reading, reading_size, fed_on, lined, unfed}
 
 pub if_ok : {T E : Type 0} {P : T → Type 0} (r : Result T E) → ((x : T) → P x) → IfOk r P
 if_ok (Ok x) h = h x

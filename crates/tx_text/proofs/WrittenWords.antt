@@ -1,4 +1,4 @@
--- Words that may stand in a written line: names, figures, numbers, circuits.
+-- Words that may be in a written line: names, figures, numbers, circuits.
 use Rattle.std.proofs.Common.{◌≡◌, ℕ, zero, suc, ◌+◌, ◌*◌, ◌^◌, ◌<◌, ◌≤◌, ◌==◌, ◌%◌, Bool, true, false, not, ◌&&◌, ◌||◌, nat_le, nat_lt, List, [], ◌∷◌, ◌++◌, length, get_or, Some, None, codes, refl, arith, length-append}
 use Rattle.std.specs.List.{AllByRecursion, list_all}
 use Rattle.std.specs.Fmt.{decimal}
@@ -9,7 +9,8 @@ use Rattle.std.proofs.lemmas.List.Sums.{AllPass-from_list_all, list_all-from_All
 use Rattle.tx_text.specs.Text.{is_text_byte, bytes_fault}
 use Rattle.std.proofs.lemmas.Fmt.{decimal_is_IsNumeral, decimal_digit, decimal_by_steps, first_decimal, length-decimal-le, decimal_nonempty}
 use Rattle.tx_text.specs.Words.{is_letter, is_figure, is_name, are_figures, is_numeral, number_of}
-use Rattle.tx_text.specs.Written.{IsPlain, IsWord, IsWrittenLine, joined}
+use Rattle.tx_text.specs.Written.{joined}
+use Rattle.tx_text.specs.inner.Written.{IsPlain, IsWord, IsWrittenLine}
 
 -- a word of at most 12 bytes
 pub record IsShortWord (w : List ℕ) : Type 0 where
@@ -87,7 +88,7 @@ number_figures k n some small h =
 pub number_word : (n : ℕ) → n < 2 ^ 32 → IsShortWord (decimal n)
 number_word n h = figures_word 1 10 (decimal n) (omega arith) (omega arith) (number_figures 10 n (omega arith) (omega arith) (omega arith))
 
--- no zero stands in front of others
+-- no zero is in front of others
 no_zero_first : (n : ℕ) → n < 2 ^ 64 → (length (decimal n) == 1 || not (get_or (decimal n) 0 0 == 48)) ≡ true
 no_zero_first zero h = let e = decimal_digit 0 (omega arith) in rw e refl
 no_zero_first (suc n) h =

@@ -7,7 +7,7 @@ use Rattle.std.proofs.lemmas.Bool.{false≢true}
 use Rattle.std.proofs.lemmas.List.{take_all, take_more}
 use Rattle.std.proofs.lemmas.List.Concat.{flat_map-append}
 use Rattle.tx_text.specs.declared.sink.WriteFault.{WriteFault}
-use Rattle.tx_text.specs.Wrote.{Wrote}
+use Rattle.tx_text.specs.Wrote.{WroteBy}
 use Rattle.tx_text.proofs.Writing.{append_known-nil, append_known_twice, stops_first, stops_later, stops_at}
 
 abbrev pub Outcome : Type 0
@@ -15,27 +15,27 @@ Outcome = Result (Unit {0}) WriteFault
 
 -- ---- one text and another
 
-pub wrote_none : (a : Option (List ℕ)) (f : Bool) → Wrote a a f f [] (Ok tt)
+pub wrote_none : (a : Option (List ℕ)) (f : Bool) → WroteBy a a f f [] (Ok tt)
 wrote_none a f = (append_known-nil a, refl)
 
-pub wrote_then : (a b c : Option (List ℕ)) (f g h : Bool) (s t : List ℕ) (r : Outcome) → Wrote a b f g s (Ok tt) → Wrote b c g h t r → Wrote a c f h (s ++ t) r
+pub wrote_then : (a b c : Option (List ℕ)) (f g h : Bool) (s t : List ℕ) (r : Outcome) → WroteBy a b f g s (Ok tt) → WroteBy b c g h t r → WroteBy a c f h (s ++ t) r
 wrote_then a b c f g h s t (Ok x) v w = (w.0 ∙ ap (λ l. append_known l t) v.0 ∙ append_known_twice a s t, w.1 ∙ v.1)
 wrote_then a b c f g h s t (Err x) v w = (stops_later s v.0 w.0, w.1)
 
 -- the sink failed in the first of two texts
-pub wrote_first : (a b : Option (List ℕ)) (f g : Bool) (s t : List ℕ) (r : Outcome) (x : WriteFault) → Wrote a b f g s (Err x) → IsErr r → Wrote a b f g (s ++ t) r
+pub wrote_first : (a b : Option (List ℕ)) (f g : Bool) (s t : List ℕ) (r : Outcome) (x : WriteFault) → WroteBy a b f g s (Err x) → IsErr r → WroteBy a b f g (s ++ t) r
 wrote_first a b f g s t (Ok y) x w bad = absurd (false≢true bad)
 wrote_first a b f g s t (Err y) x w bad = (stops_first t w.0, w.1)
 
-pub text_is : (a b : Option (List ℕ)) (f g : Bool) (s t : List ℕ) (r : Outcome) → s ≡ t → Wrote a b f g t r → Wrote a b f g s r
-text_is a b f g s t r e w = subst (λ (l : List ℕ). Wrote a b f g l r) (sym e) w
+pub text_is : (a b : Option (List ℕ)) (f g : Bool) (s t : List ℕ) (r : Outcome) → s ≡ t → WroteBy a b f g t r → WroteBy a b f g s r
+text_is a b f g s t r e w = subst (λ (l : List ℕ). WroteBy a b f g l r) (sym e) w
 
 -- ---- the texts of a list
 
 module _ {A : Type 0} (text : A → List ℕ) where
   -- one more was written
   pub texts_more : (xs : List A) (i : ℕ) (x : A) (a b c : Option (List ℕ)) (f g h : Bool) → i < length xs → x ≡ get_or xs i x
-      → Wrote a b f g (flat_map text (take i xs)) (Ok tt) → Wrote b c g h (text x) (Ok tt) → Wrote a c f h (flat_map text (take (i + 1) xs)) (Ok tt)
+      → WroteBy a b f g (flat_map text (take i xs)) (Ok tt) → WroteBy b c g h (text x) (Ok tt) → WroteBy a c f h (flat_map text (take (i + 1) xs)) (Ok tt)
   texts_more xs i x a b c f g h low is v w =
       let before = flat_map text (take i xs) in
       let more : flat_map text (take (i + 1) xs) ≡ before ++ text x =
@@ -44,10 +44,10 @@ module _ {A : Type 0} (text : A → List ℕ) where
 
   -- one of them was not written
   pub texts_stopped : (xs : List A) (i : ℕ) (x : A) (a b c : Option (List ℕ)) (f g h : Bool) (r : Outcome) (fault : WriteFault) → i < length xs → x ≡ get_or xs i x
-      → Wrote a b f g (flat_map text (take i xs)) (Ok tt) → Wrote b c g h (text x) (Err fault) → IsErr r → Wrote a c f h (flat_map text xs) r
+      → WroteBy a b f g (flat_map text (take i xs)) (Ok tt) → WroteBy b c g h (text x) (Err fault) → IsErr r → WroteBy a c f h (flat_map text xs) r
   texts_stopped xs i x a b c f g h (Ok y) fault lt is v w bad = absurd (false≢true bad)
   texts_stopped xs i x a b c f g h (Err y) fault lt is v w bad = (stops_at text xs i x lt is v.0 w.0, w.1)
 
   -- all of them were written
-  pub texts_done : (xs : List A) (i : ℕ) (a b : Option (List ℕ)) (f g : Bool) → length xs ≤ i → Wrote a b f g (flat_map text (take i xs)) (Ok tt) → Wrote a b f g (flat_map text xs) (Ok tt)
-  texts_done xs i a b f g all v = subst (λ (l : List A). Wrote a b f g (flat_map text l) (Ok tt)) (take_all i xs all) v
+  pub texts_done : (xs : List A) (i : ℕ) (a b : Option (List ℕ)) (f g : Bool) → length xs ≤ i → WroteBy a b f g (flat_map text (take i xs)) (Ok tt) → WroteBy a b f g (flat_map text xs) (Ok tt)
+  texts_done xs i a b f g all v = subst (λ (l : List A). WroteBy a b f g (flat_map text l) (Ok tt)) (take_all i xs all) v

@@ -2,11 +2,8 @@
 use Rattle.std.specs.Prelude.{◌≡◌, ◌⊎◌, ℕ, ◌+◌, Bool, true, false, ◌&&◌, nat_le, List, [], ◌∷◌, ◌++◌, Option, None, Some, codes, if◌then◌else◌}
 use Rattle.std.specs.Io.KnownBytes.{IsAtEnd}
 use Rattle.std.specs.Str.{bytes_eq}
-use Rattle.tx_text.specs.declared.line_fault.LineFault.TheVariants.{Read as line_read}
-use Rattle.tx_text.specs.declared.frame.FormFault.{FormFault}
-use Rattle.tx_text.specs.declared.frame.FormFault.TheVariants.{NoHeader, NoEnd, AfterEnd}
 use Rattle.tx_text.specs.declared.frame.FrameFault.{FrameFault}
-use Rattle.tx_text.specs.declared.frame.FrameFault.TheVariants.{Line as of_line, Form as of_form}
+use Rattle.tx_text.specs.declared.frame.FrameFault.TheVariants.{Read, NoHeader, NoEnd, AfterEnd}
 use Rattle.tx_text.specs.declared.frame.FramePart.{FramePart}
 use Rattle.tx_text.specs.declared.frame.FramePart.TheVariants.{Start, Body, Ended}
 use Rattle.tx_text.specs.declared.frame.LineForm.{LineForm}
@@ -14,7 +11,8 @@ use Rattle.tx_text.specs.declared.frame.LineForm.TheVariants.{Blank, Header, Pla
 use Rattle.tx_text.specs.Words.{words_of}
 use Rattle.tx_text.specs.Told.{Ending, AtEnd, Cut, Told, Closed, Faulty, Then, Moves}
 
--- what the frame leaves to the reader: which header it is, and the lines with their numbers and words, up to the end or the first fault of the frame
+-- what the frame leaves to the reader: which header it is, and the lines with their numbers and
+-- words, up to the end or the first fault of the frame
 pub data Framed : Type 0 where
   Done : Framed
   Stop : ℕ → FrameFault → Framed
@@ -29,9 +27,10 @@ is_end (w ∷ v ∷ ws) = false
 
 -- 1, or 2 where that is known
 abbrev pub version_of : ℕ → List ℕ → Option ℕ
-version_of most v = if bytes_eq v (codes "1") then Some 1 else if nat_le 2 most && bytes_eq v (codes "2") then Some 2 else None
+version_of most v = if bytes_eq v (codes "1")
+    then Some 1 else if nat_le 2 most && bytes_eq v (codes "2") then Some 2 else None
 
--- the version that a header with this key tells
+-- the version that a header with this key names
 abbrev pub header_of : List ℕ → ℕ → List (List ℕ) → Option ℕ
 header_of key most [] = None
 header_of key most (w ∷ []) = None
@@ -55,26 +54,26 @@ looked header p [] = Blank
 looked header p (w ∷ ws) = looked_by (header (w ∷ ws)) (is_end (w ∷ ws)) p
 
 -- what is wrong where the text ends in a phase
-abbrev pub closing : FramePart → Option FormFault
+abbrev pub closing : FramePart → Option FrameFault
 closing Start = Some NoHeader
 closing Body = Some NoEnd
 closing Ended = None
 
--- what is wrong where an unfinished line with words stands last
-abbrev pub last_by : Bool → FramePart → Option FormFault
+-- what is wrong where an unfinished line with words is last
+abbrev pub last_by : Bool → FramePart → Option FrameFault
 last_by end Start = if end then Some NoHeader else Some NoEnd
 last_by end Body = if end then None else Some NoEnd
 last_by end Ended = Some AfterEnd
 
--- What is wrong where an unfinished line with these words stands last.
-abbrev pub last_fault : FramePart → List (List ℕ) → Option FormFault
+-- What is wrong where an unfinished line with these words is last.
+abbrev pub last_fault : FramePart → List (List ℕ) → Option FrameFault
 last_fault p [] = closing p
 last_fault p (w ∷ ws) = last_by (is_end (w ∷ ws)) p
 
 -- The text is over, and whole or faulty at this line.
-abbrev pub ended_by : ℕ → Option FormFault → Framed
+abbrev pub ended_by : ℕ → Option FrameFault → Framed
 ended_by n None = Done
-ended_by n (Some k) = Stop n (of_form k)
+ended_by n (Some k) = Stop n k
 
 -- a finished line, where k goes on in a phase
 abbrev pub as_said : LineForm → FramePart → ℕ → List (List ℕ) → (FramePart → Framed) → Framed
@@ -82,43 +81,47 @@ as_said Blank p n ws k = k p
 as_said (Header v) p n ws k = Headed v (k Body)
 as_said Plain p n ws k = Has n ws (k p)
 as_said End p n ws k = k Ended
-as_said (Bad x) p n ws k = Stop n (of_form x)
+as_said (Bad x) p n ws k = Stop n x
 
 -- A finished line is judged by its place in the frame. An unfinished one is the last.
-abbrev pub framed_line : (List (List ℕ) → Option ℕ) → FramePart → Bool → ℕ → List (List ℕ) → (FramePart → Framed) → Framed
+abbrev pub framed_line : (List (List ℕ) → Option ℕ)
+    → FramePart → Bool → ℕ → List (List ℕ) → (FramePart → Framed) → Framed
 framed_line header p true n ws k = as_said (looked header p ws) p n ws k
 framed_line header p false n ws k = ended_by n (last_fault p ws)
 
 -- n is the number of finished lines plus 1
 unfoldable pub framed : (List (List ℕ) → Option ℕ) → FramePart → ℕ → Told → Framed
 framed header p n Closed = ended_by n (closing p)
-framed header p n (Faulty f) = Stop n (of_line f)
-framed header p n (Then l t) = framed_line header p l.finished l.number (words_of l.bytes) (λ q. framed header q (l.number + 1) t)
-
--- ---- what a reader answers, by the bytes that were read
+framed header p n (Faulty f) = Stop n f
+framed header p n (Then l t) = framed_line header p l.finished l.number
+    (words_of l.bytes) (λ q. framed header q (l.number + 1) t)
 
 -- Bytes were read, and F goes on as G, whatever follows.
-pub record ReadsOn {X : Type 0} (old new : Option (List ℕ)) (F G : Ending → List ℕ → X) : Type 0 where
+pub record ReadsOn {X : Type 0} (old new : Option (List ℕ))
+    (F G : Ending → List ℕ → X) : Type 0 where
   pub read : List ℕ
   pub moves : Moves old new read
   pub gives : (e : Ending) (more : List ℕ) → F e (read ++ more) ≡ G e more
 
 -- Bytes were read, and F is x there, since the bytes end so.
-pub record EndsAs {X : Type 0} (old new : Option (List ℕ)) (F : Ending → List ℕ → X) (e : Ending) (x : X) : Type 0 where
+pub record EndsAs {X : Type 0} (old new : Option (List ℕ))
+    (F : Ending → List ℕ → X) (e : Ending) (x : X) : Type 0 where
   pub read : List ℕ
   pub moves : Moves old new read
   pub gives : F e read ≡ x
 
--- x stands whatever follows, or the bytes are at their end and it is x then
-abbrev pub Stands : {X : Type 0} → Option (List ℕ) → Option (List ℕ) → (Ending → List ℕ → X) → X → Type 0
+-- x holds whatever follows, or the bytes are at their end and it is x then
+abbrev pub Stands : {X : Type 0} → (old new : Option (List ℕ))
+    → (Ending → List ℕ → X) → X → Type 0
 Stands old new F x = ReadsOn old new F (λ _ _. x) ⊎ (EndsAs old new F AtEnd x × IsAtEnd new)
 
--- The fault is that the source failed, or met the bound on calls.
+-- the fault is that the source failed, or met the bound on calls
 abbrev pub is_read : FrameFault → Bool
-is_read (of_line line_read) = true
+is_read Read = true
 is_read k = false
 
 -- what a fault says: a failure is one by the bytes that were read
-abbrev pub Stopped : {X : Type 0} → Option (List ℕ) → Option (List ℕ) → (Ending → List ℕ → X) → Type 0 → Bool → X → Type 0
+abbrev pub Stopped : {X : Type 0} → (old new : Option (List ℕ))
+    → (Ending → List ℕ → X) → Type 0 → Bool → X → Type 0
 Stopped old new F broken true x = EndsAs old new F Cut x × broken
 Stopped old new F broken false x = Stands old new F x

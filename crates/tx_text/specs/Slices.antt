@@ -7,6 +7,8 @@ use Rattle.tx_text.specs.Calls.{slice_calls, Broken}
 abbrev pub slice_called : ℕ → Result ℕ ReadFault → List ℕ → List ℕ → Type 0
 slice_called n r a b = (r ≡ Ok (min n (length a))) × (b ≡ drop n a)
 
--- No text in memory is so long that its reader meets the bound on calls, and no call for its bytes fails.
+-- No text in memory is so long that its reader meets the bound on calls, and no call for its bytes
+-- fails.
 abbrev pub SlicesAreReadWhole : Type 0
-SlicesAreReadWhole = (text rest : List ℕ) → length text < 2 ^ 63 → Broken slice_called false slice_calls text rest → ⊥
+SlicesAreReadWhole = (text rest : List ℕ) → length text < 2 ^ 63
+    → Broken slice_called false slice_calls text rest → ⊥

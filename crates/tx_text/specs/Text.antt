@@ -10,9 +10,11 @@ is_lf b = b == 10
 
 -- a CR at the end is dropped
 unfoldable pub without_cr : List ℕ → List ℕ
-without_cr line = if slice_index line (length line - 1) == 13 then take (length line - 1) line else line
+without_cr line = if slice_index line (length line - 1) == 13
+    then take (length line - 1) line else line
 
--- a line: its number, where it starts, its bytes without LF and dropped CR, and whether an LF ended it
+-- a line: its number, where it starts, its bytes without LF and dropped CR, and whether an LF ended
+-- it
 pub record Line : Type 0 where
   pub number : ℕ
   pub start : ℕ
@@ -23,9 +25,15 @@ pub record Line : Type 0 where
 unfoldable pub lines_of_parts : ℕ → ℕ → List (List ℕ) → List Line
 lines_of_parts number start [] = []
 lines_of_parts number start ([] ∷ []) = []
-lines_of_parts number start ((b ∷ bs) ∷ []) = record { number = number; start = start; bytes = b ∷ bs; finished = false } ∷ []
+lines_of_parts number start ((b ∷ bs) ∷ []) =
+    record { number = number; start = start; bytes = b ∷ bs; finished = false } ∷ []
 lines_of_parts number start (part ∷ next ∷ parts) =
-    record { number = number; start = start; bytes = without_cr part; finished = true } ∷ lines_of_parts (number + 1) (start + length part + 1) (next ∷ parts)
+    record {
+      number = number;
+      start = start;
+      bytes = without_cr part;
+      finished = true;
+    } ∷ lines_of_parts (number + 1) (start + length part + 1) (next ∷ parts)
 
 -- the lines of a text that begins with this line at this place
 unfoldable pub lines_from : ℕ → ℕ → List ℕ → List Line
@@ -41,10 +49,16 @@ is_text_byte b = b == 9 || (nat_le 32 b && nat_le b 126)
 
 -- what is wrong with the bytes of a line
 unfoldable pub bytes_fault : List ℕ → Option TextFault
-bytes_fault bytes = if nat_lt 512 (length bytes) then Some LineTooLong else (if list_all is_text_byte bytes then None else Some BadByte)
+bytes_fault bytes = if nat_lt 512 (length bytes)
+    then Some LineTooLong else (if list_all is_text_byte bytes then None else Some BadByte)
+
+-- what is wrong with the bytes of a line that has begun, whatever bytes follow
+unfoldable pub begun_fault : List ℕ → Option TextFault
+begun_fault bytes = if nat_lt 512 (length (without_cr bytes)) then Some LineTooLong else None
 
 -- the lines of a text up to the first that is faulty, and that fault
-abbrev pub checked_line : Option TextFault → Line → List (Result Line TextFault) → List (Result Line TextFault)
+abbrev pub checked_line : Option TextFault → Line
+    → List (Result Line TextFault) → List (Result Line TextFault)
 checked_line None l rest = Ok l ∷ rest
 checked_line (Some x) l rest = Err x ∷ []
 

@@ -1,3 +1,16 @@
-pub mod Feeder
+pub mod Words
+pub mod Padded
+pub mod TextLine
+pub mod Lines
 pub mod LinesLeft
+pub mod Memory
+pub mod Written
+pub mod CallsLeft
+pub mod Feed
+pub mod Feeder
+pub mod Pieces
+pub mod Reading
 pub mod Reader
+pub mod Framing
+pub mod FrameFields
+pub mod Beside

@@ -1,24 +1,24 @@
 // Lines that come in pieces.
 ghost use Rattle.std.specs.Prelude.{◌≡◌, ◌+◌, ◌-◌, ◌^◌, ◌<◌, ◌≤◌, ◌++◌, true, false, IfOk, IfErr, IfNone, IfSome, IsSome, [], length, vec_len, vec_capacity};
-ghost use Rattle.tx_text.specs.Feed.{feed_gives, feed_leaves, begun_more, ended, faulted, line_fault, finish_gives, finish_leaves, finished};
+ghost use Rattle.tx_text.specs.inner.Feed.{feed_gives, feed_leaves, begun_more, ended, faulted, line_fault, finish_gives, finish_leaves, finished};
 ghost use Rattle.tx_text.specs.Text.{without_cr};
-ghost use Rattle.tx_text.specs.TextLine.{line_of};
+ghost use Rattle.tx_text.specs.inner.TextLine.{line_of};
 
 use crate::line::TextLine;
-use crate::line_bytes::{bytes_fault, lf_or_len, without_cr};
+use crate::reader::{bytes_fault, lf_or_len, without_cr};
 use crate::text_fault::TextFault;
 use std::alloc::{Allocator, Global};
 use std::marker::Model;
 
 /// What a call of `feed` did: how many bytes of the piece it took, and whether it completed a line.
-#[derive(Clone, Copy, PartialEq, Eq)]
+#[derive(Clone, Copy, Debug, PartialEq, Eq)]
 pub struct Fed {
     pub taken: usize,
     pub line: bool,
 }
 
 /// Cuts a text that comes in pieces into lines.
-#[derive(Drop)]
+#[derive(Debug, Drop)]
 pub struct LineFeeder<A: Allocator = Global> {
     held: Vec<u8, A>,
     number: u64,
@@ -30,7 +30,7 @@ pub struct LineFeeder<A: Allocator = Global> {
 }
 
 impl<A: Allocator> Model for LineFeeder<A> {
-    ghost use Rattle.tx_text.specs.Feed.{Feed};
+    ghost use Rattle.tx_text.specs.inner.Feed.{Feed};
 
     ghost Value = { Feed };
 
@@ -42,9 +42,11 @@ impl<A: Allocator> Model for LineFeeder<A> {
 }
 
 impl<A: Allocator> LineFeeder<A> {
-    /// Reserves the buffer of a line. No other call takes memory. `Err` is want of memory alone.
+    /// Reserves the buffer of a line. No other call takes memory. `Err` means out of memory, and
+    /// nothing else.
     pub fn new(alloc: A) -> Result<LineFeeder<A>, TextFault>
-        ensures ok { IfOk result (λ f. f ≡ record { number = 0; start = 0; begun = []; line = None; fault = None }) }
+        ensures ok { IfOk result
+            (λ f. f ≡ record { number = 0; start = 0; begun = []; line = None; fault = None }) }
         ensures err { IfErr result (λ e. e ≡ TextFault.NoMemory) }
     {
         let Ok(held) = Vec::with_capacity(alloc, 513) else {
@@ -61,15 +63,15 @@ impl<A: Allocator> LineFeeder<A> {
         })
     }
 
-    /// Counts a line that stands whole elsewhere, of so many bytes and an LF, and tells where it starts. Where a line has begun here or a fault stands, it does
-    /// nothing.
-    #[inline(always)]
+    /// Counts a line that is whole elsewhere, of so many bytes and an LF, and returns where it
+    /// starts. Where a line has begun here, or one was faulty, it does nothing.
     pub(crate) fn pass(&mut self, len: usize) -> Option<usize>
         requires { self.old.start + len + 1 < 2 ^ 64 - 1 }
         ensures start { IfSome result (λ start. start ≡ self.old.start) }
         ensures begun { IfSome result (λ start. self.old.begun ≡ []) }
         ensures fault { IfSome result (λ start. self.old.fault ≡ None) }
-        ensures leaves { IfSome result (λ start. self.new ≡ record self.old { number = self.old.number + 1; start = self.old.start + len + 1; line = None }) }
+        ensures leaves { IfSome result (λ start. self.new ≡ record self.old
+            { number = self.old.number + 1; start = self.old.start + len + 1; line = None }) }
         ensures same { IfNone result (self.new ≡ self.old) }
     {
         if self.fault.is_some() || !(self.complete || self.held.is_empty()) {
@@ -83,7 +85,6 @@ impl<A: Allocator> LineFeeder<A> {
     }
 
     /// How many lines are complete.
-    #[inline(always)]
     pub(crate) fn number(&self) -> u64
         ensures number { result ≡ self.now.number }
         ensures small { result < 2 ^ 64 - 1 }
@@ -91,8 +92,7 @@ impl<A: Allocator> LineFeeder<A> {
         self.number
     }
 
-    /// Lets the completed line go.
-    #[inline(always)]
+    /// Drops the completed line.
     fn begin(&mut self)
         ensures { self.new ≡ record self.old { line = None } }
     {
@@ -102,7 +102,6 @@ impl<A: Allocator> LineFeeder<A> {
         }
     }
 
-    #[inline(always)]
     fn fail(&mut self, fault: TextFault)
         ensures { self.new ≡ faulted self.old fault }
     {
@@ -111,15 +110,16 @@ impl<A: Allocator> LineFeeder<A> {
         self.fault = Some(fault);
     }
 
-    /// Takes the bytes of a piece up to and with the first LF, or all of them. `Err` tells that the line is too long or has a bad byte.
-    #[inline(always)]
+    /// Takes the bytes of a piece up to and with the first LF, or all of them. `Err`: the line
+    /// is too long or has a bad byte.
     pub fn feed(&mut self, piece: &[u8]) -> Result<Fed, TextFault>
         requires { self.old.start + length self.old.begun + length piece.now < 2 ^ 64 - 1 }
         ensures gives { result ≡ feed_gives self.old piece.now }
         ensures leaves { self.new ≡ feed_leaves self.old piece.now }
-        ensures counted { self.new.start + length self.new.begun ≤ self.old.start + length self.old.begun + length piece.now }
-        ensures fits { IfOk result (λ fed. (fed.taken ≤ length piece.now)
-            × (self.new.start + length self.new.begun ≤ self.old.start + length self.old.begun + fed.taken)) }
+        ensures counted { self.new.start + length self.new.begun
+            ≤ self.old.start + length self.old.begun + length piece.now }
+        ensures fits { IfOk result (λ fed. (fed.taken ≤ length piece.now) × (self.new.start + length
+            self.new.begun ≤ self.old.start + length self.old.begun + fed.taken)) }
     {
         if let Some(fault) = self.fault {
             return Err(fault);
@@ -142,9 +142,8 @@ impl<A: Allocator> LineFeeder<A> {
         Ok(Fed { taken: place, line })
     }
 
-    /// Adds bytes to the line that has begun, and tells what is wrong with it then.
-    #[tactic(auto, unfolding(crate::specs::Feed::begun_fault))]
-    #[inline(always)]
+    /// Adds bytes to the line that has begun, and returns what is wrong with it then.
+    #[tactic(auto, unfolding(crate::specs::Text::begun_fault))]
     fn add(&mut self, front: &[u8], line: bool) -> Option<TextFault>
         requires begun { self.old.line ≡ None }
         requires fed { self.old.start + length self.old.begun + length front.now < 2 ^ 64 - 1 }
@@ -165,8 +164,8 @@ impl<A: Allocator> LineFeeder<A> {
         None
     }
 
-    /// The text came to its end: tells whether an unfinished line stands, and completes it. `Err` tells that this line is too long or has a bad byte.
-    #[inline(always)]
+    /// The text came to its end: returns whether there is an unfinished line, and completes it.
+    /// `Err`: this line is too long or has a bad byte.
     pub fn finish(&mut self) -> Result<bool, TextFault>
         ensures gives { result ≡ finish_gives self.old }
         ensures leaves { self.new ≡ finish_leaves self.old }
@@ -191,7 +190,6 @@ impl<A: Allocator> LineFeeder<A> {
     }
 
     /// The line that the last call of `feed` or `finish` completed.
-    #[inline(always)]
     pub fn line(&self) -> TextLine<'_>
         requires { IsSome self.now.line }
         ensures line { self.now.line ≡ Some (line_of result) }
@@ -206,7 +204,6 @@ impl<A: Allocator> LineFeeder<A> {
     }
 
     /// Completes the line that has begun, at an LF. A CR at its end goes.
-    #[inline(always)]
     fn complete_line(&mut self)
         requires begun { self.old.line ≡ None }
         requires fed { self.old.start + length self.old.begun + 1 < 2 ^ 64 - 1 }
@@ -221,8 +218,8 @@ impl<A: Allocator> LineFeeder<A> {
     }
 }
 
-/// Adds bytes to a line that has begun, and tells whether there is room for them. Else it is too long, whatever bytes follow.
-#[inline(always)]
+/// Adds bytes to a line that has begun, and returns whether there is room for them. Else it is too
+/// long, whatever bytes follow.
 fn hold<A: Allocator>(held: &mut Vec<u8, A>, front: &[u8]) -> bool
     requires room { 513 ≤ vec_capacity held.old }
     requires short { vec_len held.old ≤ 513 }
@@ -243,7 +240,6 @@ fn hold<A: Allocator>(held: &mut Vec<u8, A>, front: &[u8]) -> bool
 
 /// Takes the one CR at the end away, if there is one.
 #[tactic(auto, using(crate::proofs::LineFaults::take_without_cr))]
-#[inline(always)]
 fn drop_cr<A: Allocator>(held: &mut Vec<u8, A>)
     ensures room { vec_capacity held.new ≡ vec_capacity held.old }
     ensures items { held.new.items ≡ without_cr held.old.items }

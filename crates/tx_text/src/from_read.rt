@@ -1,15 +1,26 @@
-// std's readers as sources, whose bytes are not told.
+// std's readers as sources, whose bytes are not seen.
 ghost use Rattle.std.specs.Prelude.{◌≡◌, false};
 
 use crate::source::{ReadFault, Source};
 use std::io::Read;
+use std::marker::Model;
 
-/// A source over a reader of the standard library. Any error of the reader is a failure, and stays one. The calls are counted. It does not tell its bytes.
-#[derive(Drop)]
+/// A source over a reader of the standard library. Any error of the reader is a failure, and stays
+/// one. The calls are counted. It does not show its bytes.
+#[derive(Debug, Drop)]
 pub struct FromRead<R> {
     reader: R,
     calls: u64,
     failed: bool,
+}
+
+/// A contract sees how often it was called, and whether a call has failed.
+impl<R> Model for FromRead<R> {
+    ghost use Rattle.tx_text.specs.ReadCalls.{Reads};
+
+    ghost Value = { Reads };
+
+    ghost view = { λ s. record { calls = s.calls; failed = s.failed } };
 }
 
 impl<R: Read> FromRead<R> {
@@ -17,11 +28,8 @@ impl<R: Read> FromRead<R> {
 
     /// A source that has not been called.
     #[tactic(auto, using(crate::proofs::ReadCalls::tells_why))]
-    #[inline(always)]
     pub fn new(reader: R) -> FromRead<R>
-        ensures reader { result.reader ≡ reader }
-        ensures calls { result.calls ≡ 0 }
-        ensures failed { result.failed ≡ false }
+        ensures begins { result ≡ record { calls = 0; failed = false } }
         ensures why { TellsWhy result }
     {
         FromRead {
@@ -49,7 +57,6 @@ impl<R: Read> Source for FromRead<R> {
 
     ghost called = { counted };
 
-    #[inline(always)]
     fn read(&mut self, buf: &mut [u8]) -> Result<usize, ReadFault> {
         self.calls = self.calls.saturating_add(1);
         if !self.failed {

@@ -1,28 +1,24 @@
 //! The texts of the product: their bytes, lines and words.
 //!
-//! A text comes from a `Source` in pieces, or stands in a slice. `LineFeeder` cuts pieces into lines, `TextReader`
-//! reads the lines of a source, and `FrameReader` keeps the header, END and the numbers of lines. Texts go to a
-//! `Sink` by `write_bytes` and `write_parts`.
+//! A text comes from a `Source` in pieces, or is in a slice. `LineFeeder` cuts pieces into lines,
+//! and `FrameReader` keeps the header, END and the numbers of lines. `read_text` reads a text of
+//! which each line declares something. Texts go to a `Sink` by `write_bytes` and `write_parts`.
 #![tactic(auto)]
 
 mod feeder;
 mod figures;
 mod frame;
-mod frame_reader;
 mod from_read;
 mod line;
-mod line_bytes;
-mod line_fault;
 mod line_words;
 mod lines;
 mod memory_sink;
 mod memory_source;
 mod name;
 mod no_memory;
-mod numeral;
 mod pieces;
 mod reader;
-mod short;
+mod reading;
 mod sink;
 mod slice_source;
 mod source;
@@ -31,27 +27,23 @@ mod text_fault;
 mod to_write;
 
 pub use feeder::{Fed, LineFeeder};
-pub use figures::{Figures, are_figures};
+pub use figures::{Figures, InlineBytes, are_figures, number};
 pub use frame::{
-    FaultAt, FaultKind, FormFault, FrameFault, FramePart, FrameStep, FrameStop, LineForm, closing,
-    is_end, last_fault, look,
+    FaultAt, FaultKind, FrameFault, FramePart, FrameReader, FrameStep, FrameStop, LineForm,
+    SOURCE_CALLS, closing, is_end, last_fault, look,
 };
-pub use frame_reader::FrameReader;
 pub use from_read::FromRead;
 pub use line::TextLine;
-pub use line_bytes::{bytes_fault, without_cr};
-pub use line_fault::LineFault;
 pub use line_words::Words;
 pub use lines::{Lines, first_line};
 pub use memory_sink::MemorySink;
 pub use memory_source::MemorySource;
 pub use name::{Name, is_name};
 pub use no_memory::NoMemory;
-pub use numeral::number;
 pub use pieces::pieces_give_the_lines;
-pub use reader::TextReader;
-pub use short::Short;
-pub use sink::{Sink, WriteFault, write_bytes, write_parts, write_text};
+pub use reader::{bytes_fault, without_cr};
+pub use reading::{Declares, read_slice, read_text};
+pub use sink::{Sink, WriteFault, write_bytes, write_parts};
 pub use slice_source::{SliceSource, slices_are_read_whole};
 pub use source::{ReadFault, Source};
 pub use split::words;

@@ -1,17 +1,17 @@
-// The lines of a text that stands in memory.
+// The lines of a text that is in memory.
 ghost use Rattle.std.specs.Prelude.{◌≡◌, ◌+◌, ◌-◌, ◌^◌, ◌<◌, ◌≤◌, ◌∷◌, [], length, IfSome, MatchOption};
 ghost use Rattle.std.specs.Iterator.{YieldsFirstBy, item_count};
 ghost use Rattle.tx_text.specs.Text.{lines_from, checked};
-ghost use Rattle.tx_text.specs.TextLine.{line_of, item_of};
+ghost use Rattle.tx_text.specs.inner.TextLine.{line_of, item_of};
 ghost use Rattle.tx_text.specs.inner.LinesLeft.{items_of};
 
 use crate::line::TextLine;
-use crate::line_bytes::{bytes_fault, lf_or_len, without_cr};
+use crate::reader::{bytes_fault, lf_or_len, without_cr};
 use crate::text_fault::TextFault;
 use std::marker::Model;
 
 /// The lines of a text that are left to give. After a fault there is none.
-#[derive(Drop)]
+#[derive(Debug, Drop)]
 pub struct Lines<'a> {
     rest: &'a [u8],
     number: u64,
@@ -25,7 +25,7 @@ impl<'a> Model for Lines<'a> {
 
     ghost Value = { List (Result Line TextFault) };
 
-    ghost use Rattle.tx_text.specs.Lines.{items_left, IsLines};
+    ghost use Rattle.tx_text.specs.inner.Lines.{items_left, IsLines};
 
     ghost view = { items_left };
 
@@ -33,7 +33,7 @@ impl<'a> Model for Lines<'a> {
 }
 
 impl<'a> Lines<'a> {
-    /// The lines of a text that stands in memory, from its first.
+    /// The lines of a text that is in memory, from its first.
     pub fn new(text: &'a [u8]) -> Lines<'a>
         ensures { result ≡ checked (lines_from 1 0 text.now) }
     {
@@ -65,7 +65,7 @@ impl<'a> Iterator for Lines<'a> {
     }
 }
 
-/// What is left of a text: its bytes, how many lines stand before them, and where they start.
+/// What is left of a text: its bytes, how many lines are before them, and where they start.
 #[derive(Clone, Copy)]
 struct Left<'a> {
     rest: &'a [u8],
@@ -79,7 +79,8 @@ fn next_item(left: Left<'_>) -> Option<(Result<TextLine<'_>, TextFault>, Left<'_
     requires place { left.start + length left.rest.now < 2 ^ 63 }
     ensures number { IfSome result (λ x. x.1.number ≤ x.1.start) }
     ensures place { IfSome result (λ x. x.1.start + length x.1.rest.now < 2 ^ 63) }
-    ensures item { MatchOption result (items_of left.entry ≡ []) (λ x. items_of left.entry ≡ item_of x.0 ∷ items_of x.1) }
+    ensures item { MatchOption result (items_of left.entry ≡ [])
+        (λ x. items_of left.entry ≡ item_of x.0 ∷ items_of x.1) }
 {
     if left.rest.is_empty() {
         return None;
@@ -110,8 +111,8 @@ fn next_item(left: Left<'_>) -> Option<(Result<TextLine<'_>, TextFault>, Left<'_
 pub fn first_line(text: &[u8], number: u64, start: usize) -> (TextLine<'_>, &[u8])
     requires { 0 < length text.now }
     ensures shorter { length result.1.now < length text.now }
-    ensures line { lines_from number start text.now
-        ≡ line_of result.0 ∷ lines_from (number + 1) (start + (length text.now - length result.1.now)) result.1.now }
+    ensures line { lines_from number start text.now ≡ line_of result.0 ∷ lines_from
+        (number + 1) (start + (length text.now - length result.1.now)) result.1.now }
 {
     let place = lf_or_len(text);
     let (front, back) = text.split_at(place);

@@ -1,4 +1,4 @@
-// A sink over memory, which tells its bytes.
+// A sink over memory, which shows its bytes.
 ghost use Rattle.std.specs.Prelude.{◌≡◌, IfOk, IfErr, false, []};
 ghost use Rattle.tx_text.specs.declared.no_memory.NoMemory.{NoMemory};
 
@@ -8,7 +8,7 @@ use std::alloc::{Allocator, Global};
 use std::marker::Model;
 
 /// A sink that takes `room` bytes, and then fails.
-#[derive(Drop)]
+#[derive(Debug, Drop)]
 pub struct MemorySink<A: Allocator = Global> {
     bytes: Vec<u8, A>,
     room: usize,
@@ -17,7 +17,7 @@ pub struct MemorySink<A: Allocator = Global> {
 
 impl<A: Allocator> Model for MemorySink<A> {
     ghost use Rattle.std.specs.Prelude.{◌≤◌, vec_len, vec_capacity};
-    ghost use Rattle.tx_text.specs.Memory.{Store};
+    ghost use Rattle.tx_text.specs.inner.Memory.{Store};
 
     ghost Value = { Store };
 
@@ -49,7 +49,7 @@ impl<A: Allocator> MemorySink<A> {
 
 impl<A: Allocator> Sink for MemorySink<A> {
     ghost use Rattle.std.specs.Prelude.{◌≡◌, Some};
-    ghost use Rattle.tx_text.specs.Memory.{store_gives, store_leaves};
+    ghost use Rattle.tx_text.specs.inner.Memory.{store_gives, store_leaves};
 
     ghost taken = { λ s. Some s.bytes };
 

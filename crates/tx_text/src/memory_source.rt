@@ -1,12 +1,13 @@
-// A source over memory that tells its bytes, and fails where it is told to.
+// A source over memory that shows its bytes, and fails where it is asked to.
 ghost use Rattle.std.specs.Prelude.{◌≡◌, ◌<◌, false};
-ghost use Rattle.tx_text.specs.Memory.{is_due, sooner};
+ghost use Rattle.tx_text.specs.inner.Memory.{is_due, sooner};
 
 use crate::source::{ReadFault, Source};
 use std::marker::Model;
 
-/// A source for tests: the bytes of a slice, at most `piece` a call. The call `fails_at`, counted from 1, fails, and so does each after it.
-#[derive(Drop)]
+/// A source for tests: the bytes of a slice, at most `piece` a call. The call `fails_at`, counted
+/// from 1, fails, and so does each after it.
+#[derive(Debug, Drop)]
 pub struct MemorySource<'a> {
     rest: &'a [u8],
     piece: usize,
@@ -16,11 +17,16 @@ pub struct MemorySource<'a> {
 
 impl<'a> Model for MemorySource<'a> {
     ghost use Rattle.std.specs.Prelude.{◌<◌};
-    ghost use Rattle.tx_text.specs.Memory.{Supply};
+    ghost use Rattle.tx_text.specs.inner.Memory.{Supply};
 
     ghost Value = { Supply };
 
-    ghost view = { λ s. record { rest = s.rest.now; piece = s.piece; fails_in = s.fails_in; failed = s.failed } };
+    ghost view = { λ s. record {
+      rest = s.rest.now;
+      piece = s.piece;
+      fails_in = s.fails_in;
+      failed = s.failed;
+    } };
 
     ghost invariant = { λ s. 0 < s.piece };
 }
@@ -29,7 +35,12 @@ impl<'a> MemorySource<'a> {
     /// A source of these bytes that has not been called. A piece is at least one byte.
     pub fn new(text: &'a [u8], piece: usize, fails_at: Option<u64>) -> MemorySource<'a>
         requires { 0 < piece }
-        ensures { result ≡ record { rest = text.now; piece = piece; fails_in = fails_at; failed = false } }
+        ensures { result ≡ record {
+          rest = text.now;
+          piece = piece;
+          fails_in = fails_at;
+          failed = false;
+        } }
     {
         MemorySource {
             rest: text,
@@ -40,7 +51,7 @@ impl<'a> MemorySource<'a> {
     }
 }
 
-/// Counts a call, and tells whether it is the one that fails.
+/// Counts a call, and returns whether it is the one that fails.
 fn counted(fails_in: &mut Option<u64>) -> bool
     ensures due { result ≡ is_due fails_in.old }
     ensures counts { fails_in.new ≡ sooner fails_in.old }
@@ -56,7 +67,7 @@ fn counted(fails_in: &mut Option<u64>) -> bool
 
 impl<'a> Source for MemorySource<'a> {
     ghost use Rattle.std.specs.Prelude.{◌≡◌, Some};
-    ghost use Rattle.tx_text.specs.Memory.{supply_gives, supply_leaves};
+    ghost use Rattle.tx_text.specs.inner.Memory.{supply_gives, supply_leaves};
 
     ghost rest = { λ s. Some s.rest };
 

@@ -1,16 +1,16 @@
 // Names of exchanges and groups.
 ghost use Rattle.std.specs.Prelude.{◌≡◌, ◌≤◌, ◌||◌, true, length};
 ghost use Rattle.std.specs.List.{list_all};
-ghost use Rattle.tx_text.specs.Words.{name_of, is_name, is_letter, is_figure};
+ghost use Rattle.tx_text.specs.Words.{is_name, is_letter, is_figure};
+ghost use Rattle.tx_text.specs.inner.Words.{name_of};
 
-use crate::figures::is_figure;
-use crate::short::Short;
+use crate::figures::{InlineBytes, is_figure};
 use std::marker::Model;
 
 /// The name of an exchange or a group: 1 to 8 of `A` to `Z` and `0` to `9`, a letter first.
-#[derive(Clone, Copy, PartialEq, Eq)]
+#[derive(Clone, Copy, Debug, PartialEq, Eq)]
 pub struct Name {
-    text: Short<8>,
+    text: InlineBytes<8>,
 }
 
 impl Model for Name {
@@ -30,12 +30,11 @@ impl Model for Name {
 
 impl Name {
     /// The name, where the text is one.
-    #[inline(always)]
     pub fn read(text: &[u8]) -> Option<Name>
         ensures { result ≡ name_of text.now }
     {
         if is_name(text) {
-            let text = Short::new(text);
+            let text = InlineBytes::new(text);
             Some(Name { text })
         } else {
             None
@@ -43,7 +42,6 @@ impl Name {
     }
 
     /// The signs of the name.
-    #[inline(always)]
     pub fn bytes(&self) -> &[u8]
         ensures { result.now ≡ self.now }
     {
@@ -51,7 +49,6 @@ impl Name {
     }
 }
 
-#[inline(always)]
 fn is_letter(byte: u8) -> bool
     ensures { result ≡ is_letter byte }
 {
@@ -59,7 +56,6 @@ fn is_letter(byte: u8) -> bool
 }
 
 /// Whether the text is a name.
-#[inline(always)]
 pub fn is_name(text: &[u8]) -> bool
     ensures gives { result ≡ is_name text.now }
     ensures short { result ≡ true → length text.now ≤ 8 }
@@ -70,7 +66,6 @@ pub fn is_name(text: &[u8]) -> bool
     }
 }
 
-#[inline(always)]
 fn are_signs(text: &[u8]) -> bool
     ensures { result ≡ list_all (λ x. is_letter x || is_figure x) text.now }
 {

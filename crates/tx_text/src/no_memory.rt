@@ -1,4 +1,4 @@
-// The want of memory.
+// The lack of memory.
 use std::alloc::AllocError;
 use thiserror::Error;
 

@@ -1,30 +1,95 @@
-// Lines of a text that comes from a source.
-ghost use Rattle.std.specs.Prelude.{◌≡◌, ◌+◌, ◌-◌, ◌^◌, ◌<◌, ◌≤◌, ◌⊎◌, [], length, take, drop, true, false, IfOk, IfErr, IfSome, OnOk, OnErr, Ok, Err, IsSome, Some, None};
+// Lines of a text that comes from a source, and the bytes of a line.
+ghost use Rattle.std.specs.Prelude.{◌≡◌, ◌+◌, ◌-◌, ◌^◌, ◌<◌, ◌≤◌, ◌⊎◌, [], length, take, drop, true, false, IfOk, IfErr, IfSome, OnOk, OnErr, Ok, Err, IsSome, Some, None, ◌&&◌};
 ghost use Rattle.std.specs.Io.KnownBytes.{prepend_known, IsAtEnd};
-ghost use Rattle.tx_text.specs.Calls.{slice_calls, Gives, Went, Calls, CallsAtMost, Broken};
-ghost use Rattle.tx_text.specs.Feed.{feed_gives, finish_gives, finish_leaves, front_of, has_lf};
-ghost use Rattle.tx_text.specs.Text.{without_cr, bytes_fault};
-ghost use Rattle.tx_text.specs.TextLine.{line_of};
-ghost use Rattle.tx_text.specs.Told.{Advances, IsFeed, reading_place, reading_start, slice_start, reading_of_calls, reading_size, fed_on, lined, ended_as};
+ghost use Rattle.std.specs.List.{list_all, position_or_len};
+ghost use Rattle.tx_text.specs.Calls.{slice_calls, Gives, CallsAtMost, Broken};
+ghost use Rattle.tx_text.specs.Text.{without_cr, bytes_fault, is_text_byte, is_lf};
+ghost use Rattle.tx_text.specs.inner.TextLine.{line_of};
+ghost use Rattle.tx_text.specs.inner.CallsLeft.{Went, Calls};
+ghost use Rattle.tx_text.specs.inner.Feed.{feed_gives, finish_gives, finish_leaves, front_of, has_lf};
+ghost use Rattle.tx_text.specs.inner.Reading.{Advances, IsFeed, reading_place, reading_of_calls, reading_size, fed_on, lined, ended_as};
 
 use crate::feeder::LineFeeder;
+use crate::frame::FrameFault;
 use crate::line::TextLine;
-use crate::line_bytes::{bytes_fault, lf_or_len, without_cr};
-use crate::line_fault::LineFault;
 use crate::source::Source;
 use crate::text_fault::TextFault;
+use memchr::memchr;
 use std::alloc::{Allocator, Global};
 use std::marker::Model;
 
-/// How many calls a text may take that comes from a source.
-const SOURCE_CALLS: u64 = 4_294_967_295;
+/// The line without the one CR at its end, if there is one.
+#[tactic(auto, unfolding(crate::specs::Text::without_cr))]
+pub fn without_cr(line: &[u8]) -> &[u8]
+    ensures { result.now ≡ without_cr line.now }
+{
+    let len = line.len();
+    if len > 0 && line[len - 1] == b'\r' {
+        line.split_at(len - 1).0
+    } else {
+        line
+    }
+}
 
-/// How many calls a text may take that stands in memory: it has fewer than 2^63 bytes, and each call takes 4,096 of them.
-const SLICE_CALLS: u64 = 2_251_799_813_685_249;
+/// Whether all these bytes are text, looked at several at a time where their number is fixed.
+fn are_text(bytes: &[u8]) -> bool
+    ensures { result ≡ list_all is_text_byte bytes.now }
+{
+    let mut all = true;
+    for byte in bytes {
+        all = all & (*byte == b'\t' || (b' ' <= *byte && *byte <= b'~'));
+    }
+    all
+}
 
-/// Reads a text from a source, line by line. A line that stands whole in the bytes that were read is lent from there, and the feeder holds the others.
-#[derive(Drop)]
-pub struct TextReader<A: Allocator = Global> {
+/// Whether all bytes of a line are text, looked at in blocks, of which the last two may overlap.
+fn is_text(line: &[u8]) -> bool
+    ensures { result ≡ list_all is_text_byte line.now }
+{
+    // Byte by byte, `codes` of the largest plan takes twice as long.
+    let len = line.len();
+    if len < 8 {
+        return are_text(line);
+    }
+    if len < 16 {
+        return are_text(&line[..8]) & are_text(&line[len - 8..]);
+    }
+    let mut done = 0;
+    while done + 16 < len {
+        if !are_text(&line[done..done + 16]) {
+            return false;
+        }
+        done += 16;
+    }
+    are_text(&line[len - 16..])
+}
+
+/// What is wrong with the bytes of a line, given without its LF and the CR before it.
+#[tactic(auto, unfolding(crate::specs::Text::bytes_fault))]
+pub fn bytes_fault(line: &[u8]) -> Option<TextFault>
+    ensures { result ≡ bytes_fault line.now }
+{
+    if line.len() > 512 {
+        return Some(TextFault::LineTooLong);
+    }
+    if is_text(line) {
+        return None;
+    }
+    Some(TextFault::BadByte)
+}
+
+/// Where the first LF is, or the length.
+pub(crate) fn lf_or_len(piece: &[u8]) -> usize
+    ensures within { result ≤ length piece.now }
+    ensures place { result ≡ position_or_len is_lf piece.now }
+{
+    memchr(b'\n', piece).unwrap_or(piece.len())
+}
+
+/// Reads a text from a source, line by line. A line that is whole in the bytes that were read
+/// is lent from there, and the feeder holds the others.
+#[derive(Debug, Drop)]
+pub(crate) struct TextReader<A: Allocator = Global> {
     feeder: LineFeeder<A>,
     piece: [u8; 4096],
     from: usize,
@@ -37,7 +102,7 @@ pub struct TextReader<A: Allocator = Global> {
 }
 
 impl<A: Allocator> Model for TextReader<A> {
-    ghost use Rattle.tx_text.specs.Told.{Reading};
+    ghost use Rattle.tx_text.specs.inner.Reading.{Reading};
 
     ghost Value = { Reading };
 
@@ -49,24 +114,9 @@ impl<A: Allocator> Model for TextReader<A> {
 }
 
 impl<A: Allocator> TextReader<A> {
-    /// A reader of a text from a source, by at most 4,294,967,295 calls of it, each for at most 4,096 bytes. `Err` is want of memory alone.
-    pub fn new(alloc: A) -> Result<TextReader<A>, TextFault>
-        ensures ok { IfOk result (λ r. r ≡ reading_start) }
-        ensures err { IfErr result (λ e. e ≡ TextFault.NoMemory) }
-    {
-        TextReader::of_calls(alloc, SOURCE_CALLS)
-    }
-
-    /// A reader of a text that stands in memory: no such text meets the bound on calls. `Err` is want of memory alone.
-    pub fn for_slice(alloc: A) -> Result<TextReader<A>, TextFault>
-        ensures ok { IfOk result (λ r. r ≡ slice_start) }
-        ensures err { IfErr result (λ e. e ≡ TextFault.NoMemory) }
-    {
-        TextReader::of_calls(alloc, SLICE_CALLS)
-    }
-
-    /// A reader that has read nothing yet, and may call so often.
-    fn of_calls(alloc: A, left: u64) -> Result<TextReader<A>, TextFault>
+    /// A reader that has read nothing yet, and may call its source so often, each time for at most
+    /// 4,096 bytes. `Err` means out of memory, and nothing else.
+    pub fn new(alloc: A, left: u64) -> Result<TextReader<A>, TextFault>
         requires { left ≤ slice_calls }
         ensures ok { IfOk result (λ r. r ≡ reading_of_calls left) }
         ensures err { IfErr result (λ e. e ≡ TextFault.NoMemory) }
@@ -85,9 +135,8 @@ impl<A: Allocator> TextReader<A> {
         })
     }
 
-    /// Feeds the bytes that were read, and tells whether that completed a line.
-    #[inline(always)]
-    fn feed(&mut self) -> Result<bool, LineFault>
+    /// Feeds the bytes that were read, and returns whether that completed a line.
+    fn feed(&mut self) -> Result<bool, FrameFault>
         ensures known { IsFeed self.old.feed }
         ensures known_after { IsFeed self.new.feed }
         ensures gives { result ≡ lined (feed_gives self.old.feed self.old.piece) }
@@ -97,17 +146,13 @@ impl<A: Allocator> TextReader<A> {
             return Ok(true);
         }
         self.lent = false;
-        match self.feeder.feed(part(&self.piece, self.from, self.to)) {
-            Ok(fed) => {
-                self.from += fed.taken;
-                Ok(fed.line)
-            }
-            Err(fault) => Err(LineFault::Text(fault)),
-        }
+        let fed = self.feeder.feed(part(&self.piece, self.from, self.to))?;
+        self.from += fed.taken;
+        Ok(fed.line)
     }
 
-    /// Lends the first line of the bytes that were read, and tells so, where it stands whole there and is right.
-    #[inline(always)]
+    /// Lends the first line of the bytes that were read, and says so, where it is whole there
+    /// and is right.
     fn lend(&mut self) -> bool
         ensures known { IsFeed self.old.feed }
         ensures known_after { IsFeed self.new.feed }
@@ -131,51 +176,46 @@ impl<A: Allocator> TextReader<A> {
         }
     }
 
-    /// Goes on to the next line of the source's text, and tells whether there is one. `Err` is a line that is too long or has a bad byte, or that the source
-    /// failed or was not at its end after so many calls.
-    pub fn advance<R: Source>(&mut self, source: &mut R) -> Result<bool, LineFault>
+    /// Goes on to the next line of the source's text, and returns whether there is one. `Err` is a
+    /// line that is too long or has a bad byte, or that the source failed or was not at its end
+    /// after so many calls.
+    pub fn advance<R: Source>(&mut self, source: &mut R) -> Result<bool, FrameFault>
         requires { self.old.feed.fault ≡ None }
         ensures fault { IfOk result (λ _. self.new.feed.fault ≡ None) }
-        ensures gives { Advances (R.rest source.old) (R.rest source.new) (reading_place self.old) (reading_place self.new)
-            self.new.feed.line (Broken R.called (R.failed source.new) self.old.left source.old source.new) result }
-        ensures went { result ≡ Ok true → IfSome self.new.feed.line (λ l. l.finished ≡ true → Went R.called self.old.left self.new.left source.old source.new) }
+        ensures gives { Advances (R.rest source.old) (R.rest source.new)
+            (reading_place self.old) (reading_place self.new) self.new.feed.line
+            (Broken R.called (R.failed source.new) self.old.left source.old source.new) result }
+        ensures went { result ≡ Ok true → IfSome self.new.feed.line (λ l. l.finished ≡ true
+            → Went R.called self.old.left self.new.left source.old source.new) }
         ensures calls { CallsAtMost R.called self.old.left source.old source.new }
         ensures unmarked { OnOk result (R.failed source.new ≡ R.failed source.old) }
-        ensures falls { IfOk result (λ b. b ≡ true → reading_size self.new < reading_size self.old) }
+        ensures falls { IfOk result (λ b. b ≡ true
+            → reading_size self.new < reading_size self.old) }
     {
         'pieces: loop {
-            match self.feed() {
-                Err(fault) => return Err(fault),
-                Ok(true) => return Ok(true),
-                Ok(false) => {}
+            if self.feed()? {
+                return Ok(true);
             }
             if self.left == 0 {
-                return Err(LineFault::Read);
+                return Err(FrameFault::Read);
             }
-            match self.fill(source) {
-                Err(fault) => return Err(fault),
-                Ok(true) => {}
-                Ok(false) => return self.finish(),
+            if !self.fill(source)? {
+                return self.finish();
             }
         }
     }
 
     /// The text came to its end.
-    #[inline(always)]
-    fn finish(&mut self) -> Result<bool, LineFault>
+    fn finish(&mut self) -> Result<bool, FrameFault>
         requires { self.old.piece ≡ [] }
         ensures gives { result ≡ ended_as (finish_gives self.old.feed) }
         ensures leaves { self.new ≡ record self.old { feed = finish_leaves self.old.feed } }
     {
         self.lent = false;
-        match self.feeder.finish() {
-            Ok(line) => Ok(line),
-            Err(fault) => Err(LineFault::Text(fault)),
-        }
+        Ok(self.feeder.finish()?)
     }
 
     /// The line that the last call of `advance` gave.
-    #[inline(always)]
     pub fn line(&self) -> TextLine<'_>
         requires { IsSome self.now.feed.line }
         ensures line { self.now.feed.line ≡ Some (line_of result) }
@@ -193,9 +233,8 @@ impl<A: Allocator> TextReader<A> {
         }
     }
 
-    /// Reads the next piece, and tells whether it has any byte.
-    #[inline(always)]
-    fn fill<R: Source>(&mut self, source: &mut R) -> Result<bool, LineFault>
+    /// Reads the next piece, and returns whether it has any byte.
+    fn fill<R: Source>(&mut self, source: &mut R) -> Result<bool, FrameFault>
         requires fed { self.old.piece ≡ [] }
         requires line { self.old.feed.line ≡ None }
         requires left { 0 < self.old.left }
@@ -207,7 +246,8 @@ impl<A: Allocator> TextReader<A> {
         ensures gave { result ≡ Ok true → Gives R.called source.old source.new }
         ensures call { Calls R.called source.old source.new }
         ensures unmarked { OnOk result (R.failed source.new ≡ R.failed source.old) }
-        ensures err { IfErr result (λ e. (e ≡ LineFault.Read) × (self.new.piece ≡ []) × (R.failed source.new ≡ true)) }
+        ensures err { IfErr result (λ e. (e ≡ FrameFault.Read)
+            × (self.new.piece ≡ []) × (R.failed source.new ≡ true)) }
     {
         self.left -= 1;
         self.from = 0;
@@ -217,13 +257,12 @@ impl<A: Allocator> TextReader<A> {
                 self.to = n;
                 Ok(n > 0)
             }
-            Err(_) => Err(LineFault::Read),
+            Err(_) => Err(FrameFault::Read),
         }
     }
 }
 
 /// The bytes from one place up to another.
-#[inline(always)]
 fn part(piece: &[u8], from: usize, to: usize) -> &[u8]
     requires order { from ≤ to }
     requires within { to ≤ length piece.now }
@@ -232,7 +271,8 @@ fn part(piece: &[u8], from: usize, to: usize) -> &[u8]
     &piece[from..to]
 }
 
-/// How many bytes the first line of a piece has before its LF, and how many without the CR before it, where the line stands whole there and is right.
+/// How many bytes the first line of a piece has before its LF, and how many without the CR before
+/// it, where the line is whole there and is right.
 fn whole_line(piece: &[u8]) -> Option<(usize, usize)>
     ensures lf { IfSome result (λ line. has_lf piece.now ≡ true) }
     ensures len { IfSome result (λ line. line.0 ≡ length (front_of piece.now)) }

@@ -1,9 +1,9 @@
 // The ends to which texts are written.
-ghost use Rattle.std.specs.Prelude.{◌≡◌, ℕ, ◌<◌, ◌≤◌, Bool, true, List, Option, Result, length, IsErr, is_err, IfOk, OnOk, OnErr};
+ghost use Rattle.std.specs.Prelude.{◌≡◌, ℕ, ◌<◌, ◌≤◌, Bool, true, List, Option, Result, length, IsErr, is_err, IfOk};
 ghost use Rattle.std.specs.List.{flat_map};
 ghost use Rattle.std.specs.Io.KnownBytes.{append_known};
 ghost use Rattle.tx_text.specs.declared.sink.WriteFault.{WriteFault};
-ghost use Rattle.tx_text.specs.Ends.{moved, StopsIn};
+ghost use Rattle.tx_text.specs.Ends.{moved};
 ghost use Rattle.tx_text.specs.Wrote.{Wrote};
 
 use thiserror::Error;
@@ -15,7 +15,7 @@ pub struct WriteFault;
 
 /// Where bytes go.
 pub trait Sink {
-    // The bytes that were taken, where the sink tells them.
+    // The bytes that were taken, where the sink shows them.
     ghost taken: { Self → Option (List ℕ) };
 
     // Whether the last call failed.
@@ -35,13 +35,10 @@ pub trait Sink {
         ensures stays { failed self.old ≡ true → IsErr result };
 }
 
-/// Writes all the bytes, or stops where the sink fails: then a front of them was taken, and not all.
-#[inline(always)]
+/// Writes all the bytes, or stops where the sink fails: then a front of them was taken, and not
+/// all.
 pub fn write_bytes<W: Sink>(bytes: &[u8], sink: &mut W) -> Result<(), WriteFault>
-    ensures ok { OnOk result (W.taken sink.new ≡ append_known (W.taken sink.old) bytes.now) }
-    ensures err { OnErr result (StopsIn (W.taken sink.old) (W.taken sink.new) bytes.now) }
-    ensures mark { OnErr result (W.failed sink.new ≡ true) }
-    ensures unmarked { OnOk result (W.failed sink.new ≡ W.failed sink.old) }
+    ensures { Wrote W.taken W.failed sink.old sink.new bytes.now result }
 {
     let mut rest = bytes;
     while !rest.is_empty() {
@@ -52,24 +49,13 @@ pub fn write_bytes<W: Sink>(bytes: &[u8], sink: &mut W) -> Result<(), WriteFault
     Ok(())
 }
 
-/// Writes the parts of a text, one after another, or stops where the sink fails: then a front of the text was taken, and not all.
-#[inline(always)]
+/// Writes the parts of a text, one after another, or stops where the sink fails: then a front of
+/// the text was taken, and not all.
 pub fn write_parts<W: Sink>(parts: &[&[u8]], sink: &mut W) -> Result<(), WriteFault>
-    ensures ok { OnOk result (W.taken sink.new ≡ append_known (W.taken sink.old) (flat_map (λ p. p.now) parts.now)) }
-    ensures err { OnErr result (StopsIn (W.taken sink.old) (W.taken sink.new) (flat_map (λ p. p.now) parts.now)) }
-    ensures mark { OnErr result (W.failed sink.new ≡ true) }
-    ensures unmarked { OnOk result (W.failed sink.new ≡ W.failed sink.old) }
+    ensures { Wrote W.taken W.failed sink.old sink.new (flat_map (λ p. p.now) parts.now) result }
 {
     for i in 0..parts.len() {
         write_bytes(parts[i], sink)?;
     }
     Ok(())
-}
-
-/// Writes the parts of a text, one after another. The four clauses of `write_parts` are one here.
-#[inline(always)]
-pub fn write_text<W: Sink>(parts: &[&[u8]], sink: &mut W) -> Result<(), WriteFault>
-    ensures { Wrote (W.taken sink.old) (W.taken sink.new) (W.failed sink.old) (W.failed sink.new) (flat_map (λ p. p.now) parts.now) result }
-{
-    write_parts(parts, sink)
 }

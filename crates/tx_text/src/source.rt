@@ -13,7 +13,7 @@ pub struct ReadFault;
 
 /// Where bytes come from.
 pub trait Source {
-    // The bytes still to come, where the source tells them.
+    // The bytes still to come, where the source shows them.
     ghost rest: { Self → Option (List ℕ) };
 
     // Whether the last call failed.
@@ -22,7 +22,8 @@ pub trait Source {
     // A call for so many bytes, with this answer, leads from the first value to the second.
     ghost called: { ℕ → Result ℕ ReadFault → Self → Self → Type 0 };
 
-    /// Gives the next bytes, and 0 only at the end. A call that fails gives none, and each later one fails.
+    /// Gives the next bytes, and 0 only at the end. A call that fails gives none, and each later
+    /// one fails.
     fn read(&mut self, buf: &mut [u8]) -> Result<usize, ReadFault>
         requires { 0 < length buf.old }
         ensures bound { IfOk result (λ n. n ≤ length buf.new) }

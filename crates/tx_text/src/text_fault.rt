@@ -4,7 +4,7 @@ ghost use Rattle.tx_text.specs.Rows.{text_row};
 
 use thiserror::Error;
 
-/// The faults of lines. Of several of one line the first that is named here is told.
+/// The faults of lines. Of several of one line the first that is named here is reported.
 #[derive(Clone, Copy, Debug, PartialEq, Eq, Error)]
 pub enum TextFault {
     /// X1: a line has more than 512 bytes.

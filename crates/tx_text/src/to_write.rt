@@ -1,23 +1,31 @@
-// std's writers as sinks, whose bytes are not told.
+// std's writers as sinks, whose bytes are not seen.
 ghost use Rattle.std.specs.Prelude.{◌≡◌, false};
 
 use crate::sink::{Sink, WriteFault};
 use std::io::Write;
+use std::marker::Model;
 
-/// A sink over a writer of the standard library. Any error of the writer is a failure, and so is a call that takes nothing; a failure stays one. It does not
-/// tell its bytes.
-#[derive(Drop)]
+/// A sink over a writer of the standard library. Any error of the writer is a failure, and so is a
+/// call that takes nothing; a failure stays one. It does not show its bytes.
+#[derive(Debug, Drop)]
 pub struct ToWrite<W> {
     writer: W,
     failed: bool,
 }
 
+/// A contract sees whether a call has failed.
+impl<W> Model for ToWrite<W> {
+    ghost use Rattle.std.specs.Prelude.{Bool};
+
+    ghost Value = { Bool };
+
+    ghost view = { λ s. s.failed };
+}
+
 impl<W: Write> ToWrite<W> {
     /// A sink that has not been called.
-    #[inline(always)]
     pub fn new(writer: W) -> ToWrite<W>
-        ensures writer { result.writer ≡ writer }
-        ensures failed { result.failed ≡ false }
+        ensures { result ≡ false }
     {
         ToWrite {
             writer,
@@ -31,11 +39,10 @@ impl<W: Write> Sink for ToWrite<W> {
 
     ghost taken = { λ _. None };
 
-    ghost failed = { λ s. s.failed };
+    ghost failed = { λ s. s };
 
     ghost called = { λ _ _ _ _. Unit {0} };
 
-    #[inline(always)]
     fn write(&mut self, bytes: &[u8]) -> Result<usize, WriteFault> {
         if !self.failed {
             if let Ok(n) = self.writer.write(bytes) {

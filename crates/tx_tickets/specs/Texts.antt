@@ -2,18 +2,18 @@
 use Rattle.std.specs.Prelude.{ℕ, Bool, true, false, List, ◌++◌, codes, decimal}
 use Rattle.std.specs.List.{flat_map}
 use Rattle.tx_plan.specs.Plan.{Plan, exchange_name, figures_of, group_name}
-use Rattle.tx_entries.specs.declared.circuit.Circuit.{Circuit}
-use Rattle.tx_entries.specs.declared.line.Line.{Line}
-use Rattle.tx_state.specs.declared.cause.Cause.{Cause}
-use Rattle.tx_state.specs.declared.cause.Cause.TheVariants.{Service as ByService, ClearedByCaller, ClearedByCalled, Lost as ByLoss}
-use Rattle.tx_state.specs.declared.hop.Hop.{Hop}
-use Rattle.tx_state.specs.declared.refusal.Refusal.{Refusal}
-use Rattle.tx_state.specs.declared.refusal.Refusal.TheVariants.{UnknownCall, NotStanding, NotCalling, NotConnected, UnknownLine, LineEngaged, LineOutOfOrder, AlreadySo, NotSo, NotReleasing, UnknownCircuit, Exhausted}
-use Rattle.tx_state.specs.declared.reply.Reply.{Reply}
-use Rattle.tx_state.specs.declared.reply.Reply.TheVariants.{Keyed, Seized, At, Connected, Answered, HeadOn, Cleared, Done, Lost, Refused}
-use Rattle.tx_state.specs.declared.service.Service.{Service}
-use Rattle.tx_state.specs.declared.service.Service.TheVariants.{Occ, Nc, Np, Der, Abs, Na}
-use Rattle.tx_state.specs.Ended.{Ended}
+use Rattle.tx_plan.specs.declared.ids.Circuit.{Circuit}
+use Rattle.tx_plan.specs.declared.ids.Line.{Line}
+use Rattle.tx_machine.specs.declared.cause.Cause.{Cause}
+use Rattle.tx_machine.specs.declared.cause.Cause.TheVariants.{Service as ByService, ClearedByCaller, ClearedByCalled, Lost as ByLoss}
+use Rattle.tx_machine.specs.declared.open_call.Hop.{Hop}
+use Rattle.tx_machine.specs.declared.refusal.Refusal.{Refusal}
+use Rattle.tx_machine.specs.declared.refusal.Refusal.TheVariants.{UnknownCall, NotStanding, NotCalling, NotConnected, UnknownLine, LineEngaged, LineOutOfOrder, AlreadySo, NotSo, NotReleasing, UnknownCircuit, Exhausted}
+use Rattle.tx_machine.specs.declared.reply.Reply.{Reply}
+use Rattle.tx_machine.specs.declared.reply.Reply.TheVariants.{Keyed, Seized, At, Connected, Answered, HeadOn, Cleared, Done, Lost, Refused}
+use Rattle.tx_machine.specs.declared.cause.Service.{Service}
+use Rattle.tx_machine.specs.declared.cause.Service.TheVariants.{Occ, Nc, Np, Der, Abs, Na}
+use Rattle.tx_machine.specs.Ended.{Ended}
 
 -- a group's name, a dot and the circuit's number, as G1.1
 abbrev pub circuit_text : Plan → Circuit → List ℕ
@@ -23,6 +23,7 @@ circuit_text p x = group_name p x.group ++ (codes "." ++ decimal x.number)
 abbrev pub line_text : Plan → Line → List ℕ
 line_text p l = figures_of p l.code ++ (codes " " ++ l.national)
 
+-- the word of a service code
 abbrev pub service_text : Service → List ℕ
 service_text Occ = codes "OCC"
 service_text Nc = codes "NC"
@@ -44,7 +45,8 @@ hop_text p h = codes " " ++ (circuit_text p h.circuit ++ (codes " " ++ exchange_
 
 -- the call's number, its line and what was keyed
 abbrev pub caller_text : Plan → Ended → List ℕ
-caller_text p t = codes "T " ++ (decimal t.number ++ (codes " FROM " ++ (figures_of p t.line.code ++ (codes " " ++ (t.line.national ++ (codes " TO " ++ (t.keyed ++ codes " EV ")))))))
+caller_text p t = codes "T " ++ (decimal t.number ++ (codes " FROM " ++ (figures_of p t.line.code
+    ++ (codes " " ++ (t.line.national ++ (codes " TO " ++ (t.keyed ++ codes " EV ")))))))
 
 -- the events of its start and its end
 abbrev pub events_text : Ended → List ℕ
@@ -54,10 +56,12 @@ events_text t = decimal t.keyed_at ++ (codes " " ++ (decimal t.ended_at ++ codes
 abbrev pub why_text : Plan → Ended → List ℕ
 why_text p t = cause_text t.cause ++ (codes " VIA " ++ exchange_name p t.start)
 
--- THE LINE OF A TICKET
+-- The line of a ticket
 abbrev pub ticket_text : Plan → Ended → List ℕ
-ticket_text p t = caller_text p t ++ (events_text t ++ (why_text p t ++ (flat_map (hop_text p) t.path ++ codes "\n")))
+ticket_text p t = caller_text p t
+    ++ (events_text t ++ (why_text p t ++ (flat_map (hop_text p) t.path ++ codes "\n")))
 
+-- the code of a refusal
 abbrev pub refusal_text : Refusal → List ℕ
 refusal_text UnknownCall = codes "M1"
 refusal_text NotStanding = codes "M2"
@@ -77,14 +81,15 @@ abbrev pub stands_text : Bool → List ℕ
 stands_text true = codes " STANDS"
 stands_text false = codes " NC"
 
--- THE LINE OF A REPLY
+-- The line of a reply
 abbrev pub reply_text : Plan → Reply → List ℕ
 reply_text p (Keyed n) = codes "KEYED " ++ (decimal n ++ codes "\n")
 reply_text p (Seized x) = codes "SEIZED " ++ (circuit_text p x ++ codes "\n")
 reply_text p (At x) = codes "AT " ++ (exchange_name p x ++ codes "\n")
 reply_text p (Connected l) = codes "CONNECTED " ++ (line_text p l ++ codes "\n")
 reply_text p (Answered s) = codes "ANSWERED " ++ (service_text s ++ codes "\n")
-reply_text p (HeadOn a b a_stands b_stands) = codes "HEADON " ++ (decimal a ++ (stands_text a_stands ++ (codes " " ++ (decimal b ++ (stands_text b_stands ++ codes "\n")))))
+reply_text p (HeadOn a b a_stands b_stands) = codes "HEADON " ++ (decimal a
+    ++ (stands_text a_stands ++ (codes " " ++ (decimal b ++ (stands_text b_stands ++ codes "\n")))))
 reply_text p Cleared = codes "CLEARED\n"
 reply_text p Done = codes "DONE\n"
 reply_text p (Lost n) = codes "LOST " ++ (decimal n ++ codes "\n")

@@ -1,32 +1,155 @@
-// The line of a reply.
-ghost use Rattle.std.specs.Prelude.{◌≡◌, ◌+◌, ◌≤◌, ◌++◌, Bool, ℕ, [], true, OnOk, OnErr, codes, decimal, length};
-ghost use Rattle.std.specs.Io.KnownBytes.{append_known};
-ghost use Rattle.tx_text.specs.Ends.{StopsIn};
+// The line of a reply, in room of its own, and the words that replies and tickets share.
+ghost use Rattle.std.specs.Prelude.{◌≡◌, ◌+◌, ◌≤◌, ◌++◌, [], codes, decimal, length, ◌<◌};
+ghost use Rattle.tx_text.specs.Wrote.{Wrote};
 ghost use Rattle.tx_plan.specs.Plan.{exchange_name};
-ghost use Rattle.tx_state.specs.declared.reply.Reply.TheVariants.{Lost};
-ghost use Rattle.tx_tickets.specs.Texts.{circuit_text, line_text, stands_text, reply_text};
+ghost use Rattle.tx_machine.specs.declared.reply.Reply.TheVariants.{Lost};
+ghost use Rattle.tx_tickets.specs.Texts.{circuit_text, line_text, stands_text, reply_text, service_text, cause_text, refusal_text};
 
-use crate::line_room::LineRoom;
-use crate::words::{refusal_word, service_word, stands_word};
 use itoa::Buffer;
 use std::alloc::Allocator;
+use std::marker::Model;
+use tx_machine::{Cause, Refusal, Reply, Service};
 use tx_plan::{Circuit, ExchangeId, Line, Plan};
-use tx_state::Reply;
 use tx_text::{Sink, WriteFault, write_bytes, write_parts};
+
+/// The bytes of a line so far, in room of at most 255 bytes that is lent. The caller sees that they
+/// have room.
+#[derive(Drop)]
+pub(crate) struct LineRoom<'a, const N: usize> {
+    room: &'a mut [u8; N],
+    len: usize,
+}
+
+impl<'a, const N: usize> Model for LineRoom<'a, N> {
+    ghost use Rattle.std.specs.Prelude.{ℕ, List, take, ◌≤◌};
+
+    ghost Value = { List ℕ };
+
+    ghost view = { λ l. take l.len l.room.now };
+
+    ghost invariant = { λ l. (l.len ≤ N) × (N ≤ 255) };
+}
+
+impl<'a, const N: usize> LineRoom<'a, N> {
+    /// A line of no bytes.
+    pub(crate) fn new(room: &'a mut [u8; N]) -> LineRoom<'a, N>
+        requires { N ≤ 255 }
+        ensures { result ≡ [] }
+    {
+        LineRoom { room, len: 0 }
+    }
+
+    /// The line so far.
+    pub(crate) fn bytes(&self) -> &[u8]
+        ensures { result.now ≡ self.now }
+    {
+        &self.room[..self.len]
+    }
+
+    /// How many bytes it has.
+    pub(crate) fn len(&self) -> usize
+        ensures { result ≡ length self.now }
+    {
+        self.bytes().len()
+    }
+
+    /// Goes back to no bytes.
+    pub(crate) fn clear(&mut self)
+        ensures { self.new ≡ [] }
+    {
+        self.len = 0;
+    }
+
+    /// Appends bytes.
+    pub(crate) fn put(&mut self, bytes: &[u8])
+        requires { length self.old + length bytes.now ≤ N }
+        ensures text { self.new ≡ self.old ++ bytes.now }
+        ensures width { length self.new ≡ length self.old + length bytes.now }
+    {
+        let from = self.len;
+        let to = from + bytes.len();
+        let room = &mut self.room[..];
+        room[from..to].copy_from_slice(bytes);
+        self.len = to;
+    }
+
+    /// Appends the figures of a number.
+    pub(crate) fn put_number(&mut self, number: u64)
+        requires { length self.old + 20 ≤ N }
+        ensures text { self.new ≡ self.old ++ decimal number }
+        ensures width { length self.new ≤ length self.old + 20 }
+    {
+        let mut figures = Buffer::new();
+        self.put(figures.format(number).as_bytes());
+    }
+}
+
+/// A service code, as it is printed.
+pub(crate) fn service_word(service: Service) -> &'static [u8]
+    ensures text { result.now ≡ service_text service }
+    ensures width { length result.now ≤ 4 }
+{
+    match service {
+        Service::Occ => b"OCC",
+        Service::Nc => b"NC",
+        Service::Np => b"NP",
+        Service::Der => b"DER",
+        Service::Abs => b"ABS",
+        Service::Na => b"NA",
+    }
+}
+
+/// The word of a cause, after BY.
+pub fn cause_word(cause: Cause) -> &'static [u8]
+    ensures text { result.now ≡ cause_text cause }
+    ensures width { length result.now ≤ 4 }
+{
+    match cause {
+        Cause::Service(service) => service_word(service),
+        Cause::ClearedByCaller => b"CLRA",
+        Cause::ClearedByCalled => b"CLRB",
+        Cause::Lost => b"LOST",
+    }
+}
+
+pub(crate) fn refusal_word(refusal: Refusal) -> &'static [u8]
+    ensures text { result.now ≡ refusal_text refusal }
+    ensures width { length result.now ≤ 4 }
+{
+    match refusal {
+        Refusal::UnknownCall => b"M1",
+        Refusal::NotStanding => b"M2",
+        Refusal::NotCalling => b"M3",
+        Refusal::NotConnected => b"M4",
+        Refusal::UnknownLine => b"M5",
+        Refusal::LineEngaged => b"M6",
+        Refusal::LineOutOfOrder => b"M7",
+        Refusal::AlreadySo => b"M8",
+        Refusal::NotSo => b"M9",
+        Refusal::NotReleasing => b"M10",
+        Refusal::UnknownCircuit => b"M11",
+        Refusal::Exhausted => b"M12",
+    }
+}
+
+pub(crate) fn stands_word(stands: bool) -> &'static [u8]
+    ensures text { result.now ≡ stands_text stands }
+    ensures width { length result.now ≤ 7 }
+{
+    if stands { b" STANDS" } else { b" NC" }
+}
 
 /// How many bytes the line of a reply may have at most.
 const ROOM: usize = 64;
 
-/// Writes the line of a reply, as `CONNECTED 41 10002`, with its LF. Where the sink fails, a front of the line was taken.
+/// Writes the line of a reply, as `CONNECTED 41 10002`, with its LF. Where the sink fails, a front
+/// of the line was taken.
 pub fn write_reply<A: Allocator, W: Sink>(
     reply: &Reply,
     plan: &Plan<A>,
     sink: &mut W,
 ) -> Result<(), WriteFault>
-    ensures ok { OnOk result (W.taken sink.new ≡ append_known (W.taken sink.old) (reply_text plan.now reply.now)) }
-    ensures err { OnErr result (StopsIn (W.taken sink.old) (W.taken sink.new) (reply_text plan.now reply.now)) }
-    ensures mark { OnErr result (W.failed sink.new ≡ true) }
-    ensures unmarked { OnOk result (W.failed sink.new ≡ W.failed sink.old) }
+    ensures { Wrote W.taken W.failed sink.old sink.new (reply_text plan.now reply.now) result }
 {
     let mut room = [0; ROOM];
     let mut line = LineRoom::new(&mut room);
@@ -35,7 +158,6 @@ pub fn write_reply<A: Allocator, W: Sink>(
 }
 
 /// Puts a reply on an empty line.
-#[inline(always)]
 fn put_reply<A: Allocator>(reply: &Reply, plan: &Plan<A>, line: &mut LineRoom<'_, ROOM>)
     requires { line.old ≡ [] }
     ensures { line.new ≡ reply_text plan.now reply.now }
@@ -54,13 +176,12 @@ fn put_reply<A: Allocator>(reply: &Reply, plan: &Plan<A>, line: &mut LineRoom<'_
         } => put_head_on(*a, *a_stands, *b, *b_stands, line),
         Reply::Cleared => line.put(b"CLEARED\n"),
         Reply::Done => line.put(b"DONE\n"),
-        Reply::Lost(_) => put_lost(*reply, line),
+        Reply::Lost(n) => put_count(b"LOST ", *n, line),
         Reply::Refused(refusal) => put_word(b"REFUSED ", refusal_word(*refusal), line),
     }
 }
 
 /// Puts a first word, given with its space, and another.
-#[inline(always)]
 fn put_word(first: &[u8], word: &[u8], line: &mut LineRoom<'_, ROOM>)
     requires first { length first.now ≤ 10 }
     requires word { length word.now ≤ 20 }
@@ -73,18 +194,16 @@ fn put_word(first: &[u8], word: &[u8], line: &mut LineRoom<'_, ROOM>)
 }
 
 /// Puts the exchange that a call came to.
-#[inline(always)]
 fn put_at<A: Allocator>(exchange: ExchangeId, plan: &Plan<A>, line: &mut LineRoom<'_, ROOM>)
     requires { line.old ≡ [] }
     ensures { line.new ≡ codes "AT " ++ (exchange_name plan.now exchange ++ codes "\n") }
 {
     line.put(b"AT ");
-    line.put_name(plan.exchange_key(exchange));
+    line.put(plan.exchange_name(exchange));
     line.put(b"\n");
 }
 
 /// Puts a first word, given with its space, and a number.
-#[inline(always)]
 fn put_count(first: &[u8], count: u64, line: &mut LineRoom<'_, ROOM>)
     requires first { length first.now ≤ 10 }
     requires line { line.old ≡ [] }
@@ -95,45 +214,33 @@ fn put_count(first: &[u8], count: u64, line: &mut LineRoom<'_, ROOM>)
     line.put(b"\n");
 }
 
-#[inline(always)]
 fn put_circuit<A: Allocator>(circuit: &Circuit, plan: &Plan<A>, line: &mut LineRoom<'_, ROOM>)
     requires { line.old ≡ [] }
     ensures { line.new ≡ codes "SEIZED " ++ (circuit_text plan.now circuit.now ++ codes "\n") }
 {
     line.put(b"SEIZED ");
-    line.put_name(plan.group_key(circuit.group));
+    line.put(plan.group_name(circuit.group));
     line.put(b".");
     line.put_number(u64::from(circuit.number));
     line.put(b"\n");
 }
 
-#[inline(always)]
 fn put_connected<A: Allocator>(called: Line, plan: &Plan<A>, line: &mut LineRoom<'_, ROOM>)
     requires { line.old ≡ [] }
     ensures { line.new ≡ codes "CONNECTED " ++ (line_text plan.now called ++ codes "\n") }
 {
     line.put(b"CONNECTED ");
-    line.put_name(plan.code_key(called.code));
+    line.put(plan.code_figures(called.code));
     line.put(b" ");
-    line.put_national(called.national);
+    line.put(called.national.bytes());
     line.put(b"\n");
-}
-
-/// Puts how many calls were lost. The reply comes by value, since the count of every reply would else be read before it is known which one it is.
-#[inline(never)]
-fn put_lost(reply: Reply, line: &mut LineRoom<'_, ROOM>)
-    requires { line.old ≡ [] }
-    ensures { (n : ℕ) → reply ≡ Lost n → line.new ≡ codes "LOST " ++ (decimal n ++ codes "\n") }
-{
-    if let Reply::Lost(n) = reply {
-        put_count(b"LOST ", n, line);
-    }
 }
 
 /// Puts the two calls of a head-on collision.
 fn put_head_on(a: u32, a_stands: bool, b: u32, b_stands: bool, line: &mut LineRoom<'_, ROOM>)
     requires { line.old ≡ [] }
-    ensures { line.new ≡ codes "HEADON " ++ (decimal a ++ (stands_text a_stands ++ (codes " " ++ (decimal b ++ (stands_text b_stands ++ codes "\n"))))) }
+    ensures { line.new ≡ codes "HEADON " ++ (decimal a ++ (stands_text a_stands
+        ++ (codes " " ++ (decimal b ++ (stands_text b_stands ++ codes "\n"))))) }
 {
     line.put(b"HEADON ");
     line.put_number(u64::from(a));
@@ -151,10 +258,8 @@ pub fn write_circuit<A: Allocator, W: Sink>(
     plan: &Plan<A>,
     sink: &mut W,
 ) -> Result<(), WriteFault>
-    ensures ok { OnOk result (W.taken sink.new ≡ append_known (W.taken sink.old) (first.now ++ (circuit_text plan.now circuit.now ++ codes "\n"))) }
-    ensures err { OnErr result (StopsIn (W.taken sink.old) (W.taken sink.new) (first.now ++ (circuit_text plan.now circuit.now ++ codes "\n"))) }
-    ensures mark { OnErr result (W.failed sink.new ≡ true) }
-    ensures unmarked { OnOk result (W.failed sink.new ≡ W.failed sink.old) }
+    ensures { Wrote W.taken W.failed sink.old sink.new
+        (first.now ++ (circuit_text plan.now circuit.now ++ codes "\n")) result }
 {
     let mut digits = Buffer::new();
     let number = digits.format(circuit.number).as_bytes();

@@ -1,34 +1,30 @@
 // The line of a ticket.
-ghost use Rattle.std.specs.Prelude.{◌≡◌, ◌≤◌, ◌++◌, [], true, OnOk, OnErr, codes, length};
+ghost use Rattle.std.specs.Prelude.{◌≡◌, ◌≤◌, ◌++◌, [], codes, length};
 ghost use Rattle.std.specs.List.{flat_map};
-ghost use Rattle.std.specs.Io.KnownBytes.{append_known};
-ghost use Rattle.tx_text.specs.Ends.{StopsIn};
+ghost use Rattle.tx_text.specs.Wrote.{Wrote};
 ghost use Rattle.tx_tickets.specs.Texts.{hop_text, caller_text, events_text, why_text, ticket_text};
 
-use crate::line_room::LineRoom;
-use crate::words::cause_word;
+use crate::reply::{LineRoom, cause_word};
 use std::alloc::Allocator;
+use tx_machine::{Hop, Ticket};
 use tx_plan::Plan;
-use tx_state::{Hop, Ticket};
 use tx_text::{Sink, WriteFault, write_bytes};
 
-/// How many bytes of a ticket's line may stand in its room.
+/// How many bytes the room of a ticket's line has.
 const ROOM: usize = 192;
 
 /// A line of more bytes may have no room for one more hop and an LF.
 const FULL: usize = 152;
 
-/// Writes the line of a ticket, with its LF: the call's number, its line, what was keyed, the events by which it was keyed and ended, why it ended, and its
-/// way. Where the sink fails, a front of the line was taken.
+/// Writes the line of a ticket, with its LF: the call's number, its line, what was keyed, the
+/// events by which it was keyed and ended, why it ended, and its way. Where the sink fails, a front
+/// of the line was taken.
 pub fn write_ticket<A: Allocator, B: Allocator, W: Sink>(
     ticket: &Ticket<A>,
     plan: &Plan<B>,
     sink: &mut W,
 ) -> Result<(), WriteFault>
-    ensures ok { OnOk result (W.taken sink.new ≡ append_known (W.taken sink.old) (ticket_text plan.now ticket.now)) }
-    ensures err { OnErr result (StopsIn (W.taken sink.old) (W.taken sink.new) (ticket_text plan.now ticket.now)) }
-    ensures mark { OnErr result (W.failed sink.new ≡ true) }
-    ensures unmarked { OnOk result (W.failed sink.new ≡ W.failed sink.old) }
+    ensures { Wrote W.taken W.failed sink.old sink.new (ticket_text plan.now ticket.now) result }
 {
     let mut room = [0; ROOM];
     let mut line = LineRoom::new(&mut room);
@@ -39,7 +35,6 @@ pub fn write_ticket<A: Allocator, B: Allocator, W: Sink>(
 }
 
 /// Puts the call's number, its line and what was keyed.
-#[inline(always)]
 fn put_caller<A: Allocator, B: Allocator>(
     ticket: &Ticket<A>,
     plan: &Plan<B>,
@@ -52,16 +47,15 @@ fn put_caller<A: Allocator, B: Allocator>(
     line.put(b"T ");
     line.put_number(u64::from(ticket.number));
     line.put(b" FROM ");
-    line.put_name(plan.code_key(ticket.line.code));
+    line.put(plan.code_figures(ticket.line.code));
     line.put(b" ");
-    line.put_national(ticket.line.national);
+    line.put(ticket.line.national.bytes());
     line.put(b" TO ");
-    line.put_padded(ticket.keyed.bytes(), ticket.keyed.padded());
+    line.put(ticket.keyed.bytes());
     line.put(b" EV ");
 }
 
 /// Puts the events of the call's start and its end.
-#[inline(always)]
 fn put_events<A: Allocator>(ticket: &Ticket<A>, line: &mut LineRoom<'_, ROOM>)
     requires { length line.old ≤ 66 }
     ensures text { line.new ≡ line.old ++ events_text ticket.now }
@@ -74,7 +68,6 @@ fn put_events<A: Allocator>(ticket: &Ticket<A>, line: &mut LineRoom<'_, ROOM>)
 }
 
 /// Puts why the call ended, and where it started.
-#[inline(always)]
 fn put_why<A: Allocator, B: Allocator>(
     ticket: &Ticket<A>,
     plan: &Plan<B>,
@@ -86,11 +79,11 @@ fn put_why<A: Allocator, B: Allocator>(
 {
     line.put(cause_word(ticket.cause));
     line.put(b" VIA ");
-    line.put_name(plan.exchange_key(ticket.start));
+    line.put(plan.exchange_name(ticket.start));
 }
 
-/// Writes a line that has begun, with each hop behind it and an LF. Where the next hop may have no room, what stands there goes out before it.
-#[inline(always)]
+/// Writes a line that has begun, with each hop after it and an LF. Where the next hop may have no
+/// room, what is there goes out before it.
 fn write_path<A: Allocator, W: Sink>(
     hops: &[Hop],
     plan: &Plan<A>,
@@ -98,10 +91,8 @@ fn write_path<A: Allocator, W: Sink>(
     sink: &mut W,
 ) -> Result<(), WriteFault>
     requires { length line ≤ 128 }
-    ensures ok { OnOk result (W.taken sink.new ≡ append_known (W.taken sink.old) (line.entry ++ (flat_map (hop_text plan.now) hops.now ++ codes "\n"))) }
-    ensures err { OnErr result (StopsIn (W.taken sink.old) (W.taken sink.new) (line.entry ++ (flat_map (hop_text plan.now) hops.now ++ codes "\n"))) }
-    ensures mark { OnErr result (W.failed sink.new ≡ true) }
-    ensures unmarked { OnOk result (W.failed sink.new ≡ W.failed sink.old) }
+    ensures { Wrote W.taken W.failed sink.old sink.new
+        (line.entry ++ (flat_map (hop_text plan.now) hops.now ++ codes "\n")) result }
 {
     let mut line = line;
     for hop in hops {
@@ -117,16 +108,15 @@ fn write_path<A: Allocator, W: Sink>(
 }
 
 /// Puts a hop: its circuit, and the exchange that it leads to.
-#[inline(always)]
 fn put_hop<A: Allocator>(hop: &Hop, plan: &Plan<A>, line: &mut LineRoom<'_, ROOM>)
     requires { length line.old ≤ 152 }
     ensures text { line.new ≡ line.old ++ hop_text plan.now hop.now }
     ensures width { length line.new ≤ 191 }
 {
     line.put(b" ");
-    line.put_name(plan.group_key(hop.circuit.group));
+    line.put(plan.group_name(hop.circuit.group));
     line.put(b".");
     line.put_number(u64::from(hop.circuit.number));
     line.put(b" ");
-    line.put_name(plan.exchange_key(hop.far));
+    line.put(plan.exchange_name(hop.far));
 }

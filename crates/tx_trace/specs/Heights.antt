@@ -1,6 +1,5 @@
 -- How far exchanges are above the home of a code, computed.
-use Rattle.std.specs.Prelude.{ℕ, zero, suc, ◌==◌, if◌then◌else◌, List, [], ◌∷◌, length, map, max}
-use Rattle.std.specs.Prelude.{Option, Some, None, is_some}
+use Rattle.std.specs.Prelude.{ℕ, zero, suc, ◌==◌, if◌then◌else◌, List, [], ◌∷◌, length, map, max, Option, Some, None, is_some}
 use Rattle.std.specs.Option.{option_map}
 use Rattle.tx_plan.specs.Plan.{Plan, home_of}
 use Rattle.tx_trace.specs.Ways.{far_ends}
@@ -28,7 +27,7 @@ height_within p c zero y = if y == home_of p c then Some 0 else None
 height_within p c (suc k) y =
     if y == home_of p c then Some 0 else one_above (map (height_within p c k) (far_ends p c y))
 
--- THE HEIGHT of y. A way that does not come back has fewer steps than there are exchanges.
+-- The height of y. A way that does not come back has fewer steps than there are exchanges.
 abbrev pub height : Plan → (c y : ℕ) → Option ℕ
 height p c y = height_within p c (length p.exchanges) y
 

@@ -1,11 +1,11 @@
 -- The trace of calls for a code from an exchange, as it is written.
-use Rattle.std.specs.Prelude.{ℕ, ◌==◌, if◌then◌else◌, List, [], ◌++◌, codes, decimal}
-use Rattle.std.specs.Prelude.{Option, Some, None}
+use Rattle.std.specs.Prelude.{ℕ, ◌==◌, if◌then◌else◌, List, [], ◌++◌, codes, decimal, Option, Some, None}
 use Rattle.std.specs.List.{flat_map, enumerate_from}
 use Rattle.std.specs.Option.{option_map_or}
 use Rattle.tx_plan.specs.Plan.{Plan, exchange_name, figures_of, group_name, home_of}
 use Rattle.tx_plan.specs.Circuits.{other_end}
 use Rattle.tx_plan.specs.Routes.{route_list, is_barred}
+pub use Rattle.tx_audit.specs.Report.{step_text}
 use Rattle.tx_trace.specs.Ways.{first_way, all_met}
 use Rattle.tx_trace.specs.Heights.{rank_from}
 
@@ -20,10 +20,6 @@ bar_line p c x =
     if is_barred p x c
     then codes "BARRED " ++ (exchange_name p x ++ (codes " " ++ (figures_of p c ++ codes "\n")))
     else []
-
--- a step of a way: by a group to an exchange
-abbrev pub step_text : Plan → ℕ × ℕ → List ℕ
-step_text p s = codes " " ++ (group_name p s.0 ++ (codes " " ++ exchange_name p s.1))
 
 -- where a way starts, and its steps, as in `FIRST NORTH NOSO1 SOUTH`
 abbrev pub way_line : Plan → ℕ → List (ℕ × ℕ) → List ℕ
@@ -47,6 +43,7 @@ place_text p ranks y place g z =
     ++ (group_name p g ++ (codes " " ++ (exchange_name p z
     ++ (rank_text (ranks z) ++ codes "\n"))))))))
 
+-- the same by its group alone; nothing for a group of which y is no end
 abbrev pub place_line : Plan → (ranks : ℕ → Option ℕ) → (y place g : ℕ) → List ℕ
 place_line p ranks y place g = option_map_or (place_text p ranks y place g) (other_end p g y) []
 
@@ -59,7 +56,7 @@ list_lines p c ranks y =
 abbrev pub met_lines : Plan → (c : ℕ) → (ranks : ℕ → Option ℕ) → (y : ℕ) → List ℕ
 met_lines p c ranks y = if y == home_of p c then home_line p y else list_lines p c ranks y
 
--- THE TRACE: what was asked, the first way, and each exchange that is met
+-- The trace: what was asked, the first way, and each exchange that is met
 abbrev pub trace_text : Plan → (c x : ℕ) → List ℕ
 trace_text p c x =
     head_line p c x ++ (bar_line p c x ++ (way_line p x (first_way p c x)

@@ -11,7 +11,7 @@ use Rattle.tx_trace.specs.Heights.{rank_from}
 abbrev pub rank_told : Option Certificate → (c y : ℕ) → Option ℕ
 rank_told cert c y = option_and_then (λ t. rank_at t c y) cert
 
--- THE TRACE of a code from an exchange: the first way, the exchanges met, and the ranks of those to
+-- The trace of a code from an exchange: the first way, the exchanges met, and the ranks of those to
 -- which their groups lead
 pub record IsTraceOf {A : Type 0} (p : Plan) (t : Trace A) : Type 0 where
   pub code : t.code < length p.codes

@@ -1,6 +1,5 @@
 -- The ways that calls for a code take from an exchange.
-use Rattle.std.specs.Prelude.{ℕ, zero, suc, Bool, ◌==◌, if◌then◌else◌, List, [], ◌∷◌, ◌++◌}
-use Rattle.std.specs.Prelude.{length, slice_get, Option, None, option_and_then}
+use Rattle.std.specs.Prelude.{ℕ, zero, suc, Bool, ◌==◌, if◌then◌else◌, List, [], ◌∷◌, ◌++◌, length, slice_get, Option, None, option_and_then}
 use Rattle.std.specs.List.{list_any, filter_map, fold}
 use Rattle.std.specs.Option.{option_map, option_map_or, option_to_list}
 use Rattle.tx_plan.specs.Plan.{Plan, home_of}
@@ -8,7 +7,7 @@ use Rattle.tx_plan.specs.Routes.{route_list}
 use Rattle.tx_plan.specs.Circuits.{other_end}
 use Rattle.tx_rank.specs.Walks.{end_of, before_end}
 
--- it stands in the list
+-- it is in the list
 abbrev pub is_in : ℕ → List ℕ → Bool
 is_in y xs = list_any (λ z. z == y) xs
 
@@ -16,8 +15,6 @@ is_in y xs = list_any (λ z. z == y) xs
 abbrev pub far_ends : Plan → (c y : ℕ) → List ℕ
 far_ends p c y =
     if y == home_of p c then [] else filter_map (λ g. other_end p g y) (route_list p y c)
-
--- THE FIRST WAY
 
 -- the step by the group g from y
 abbrev pub step_by : Plan → (y g : ℕ) → Option (ℕ × ℕ)
@@ -47,8 +44,6 @@ way_within p c x (suc k) = one_on p c x (way_within p c x k)
 -- where it comes back. It has no more steps than there are exchanges.
 abbrev pub first_way : Plan → (c x : ℕ) → List (ℕ × ℕ)
 first_way p c x = way_within p c x (length p.exchanges)
-
--- THE EXCHANGES MET
 
 -- an exchange is added, if it was not met yet
 abbrev pub meet : List ℕ → ℕ → List ℕ

@@ -5,9 +5,9 @@ ghost use Rattle.tx_rank.specs.Walks.{end_of, before_end};
 ghost use Rattle.tx_trace.specs.Ways.{first_step, next_step, first_way};
 ghost use Rattle.tx_trace.specs.inner.Marked.{AreMarksOf};
 
-use crate::far::far;
 use std::alloc::Allocator;
 use tx_plan::{CodeId, ExchangeId, GroupId, Plan};
+use tx_rank::far;
 use tx_text::NoMemory;
 
 /// The step by the first group of an exchange's list, if it has one. The home has none.

@@ -18,7 +18,7 @@ pub fn heights_are_ranks()
         → height p c x ≡ Some h → IsHeight (net_of p c) x h }
 {}
 
-/// The exchanges met are those where a way of a call that starts there ends, and each stands once.
+/// The exchanges met are those where a way of a call that starts there ends, each once.
 pub fn met_are_reached()
     ensures reached { (p : Plan) (c x y : ℕ) → IsPlan p → c < length p.codes
         → x < length p.exchanges → Among y (all_met p c x) ↔ IsReached (net_from p c x) y }

@@ -2,7 +2,6 @@
 //! come to, with their lists, and how far these are from the home.
 #![tactic(auto)]
 
-mod far;
 mod first_way;
 mod law;
 mod meeting;

@@ -4,9 +4,9 @@ ghost use Rattle.std.specs.List.{fold};
 ghost use Rattle.tx_trace.specs.Ways.{far_ends, meet, meet_from, all_met};
 ghost use Rattle.tx_trace.specs.inner.Marked.{AreMarksOf};
 
-use crate::far::far;
 use std::alloc::Allocator;
 use tx_plan::{CodeId, ExchangeId, Plan};
+use tx_rank::far;
 use tx_text::NoMemory;
 
 /// Adds an exchange, if it was not met yet.

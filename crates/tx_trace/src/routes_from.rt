@@ -1,11 +1,12 @@
 // The routes of one code of a plan, for calls that start at one exchange.
 ghost use Rattle.std.specs.Prelude.{◌<◌, length};
+ghost use Rattle.tx_rank.specs.Nets.{IsNet};
+ghost use Rattle.tx_rank.specs.inner.NetLaws.{IsNet-prop};
 ghost use Rattle.tx_trace.specs.Ranked.{net_from};
 
-use crate::far::far;
 use std::alloc::Allocator;
 use tx_plan::{CodeId, ExchangeId, GroupId, Plan};
-use tx_rank::Routes;
+use tx_rank::{Routes, far};
 
 /// The routes of one code of a plan, for calls that start at one exchange.
 #[derive(Drop)]
@@ -14,7 +15,7 @@ pub struct RoutesFrom<'a, A: Allocator> {
     pub code: CodeId,
     pub start: ExchangeId,
     ghost known: { code < length plan.now.codes },
-    ghost there: { start < length plan.now.exchanges },
+    ghost net: { IsNet (net_from plan.now code start) } by { IsNet-prop (net_from plan.now code start) },
 }
 
 impl<'a, A: Allocator> Routes for RoutesFrom<'a, A> {
@@ -25,8 +26,7 @@ impl<'a, A: Allocator> Routes for RoutesFrom<'a, A> {
     }
 
     fn exchange(&self, place: usize) -> ExchangeId {
-        self.plan.rules();
-        ExchangeId::at(place as u16)
+        ExchangeId::of(place)
     }
 
     fn home(&self) -> ExchangeId {
@@ -49,7 +49,5 @@ impl<'a, A: Allocator> Routes for RoutesFrom<'a, A> {
         far(self.plan, self.code, exchange, group)
     }
 
-    fn rules(&self) {
-        self.plan.rules();
-    }
+    ghost is_net = { λ routes. routes.net };
 }

@@ -1,17 +1,16 @@
 // The writer of traces.
-ghost use Rattle.std.specs.Prelude.{◌≡◌, ◌++◌, codes, Option, ℕ};
+ghost use Rattle.std.specs.Prelude.{◌++◌, codes, Option};
 ghost use Rattle.std.specs.List.{flat_map};
 ghost use Rattle.tx_text.specs.Wrote.{Wrote};
-ghost use Rattle.tx_trace.specs.TraceText.{head_line, bar_line, step_text, way_line, home_line};
-ghost use Rattle.tx_trace.specs.TraceText.{rank_text, place_line, list_lines, met_lines};
-ghost use Rattle.tx_trace.specs.TraceText.{trace_text};
+ghost use Rattle.tx_trace.specs.TraceText.{head_line, bar_line, way_line, home_line, rank_text, place_line, list_lines, met_lines, trace_text};
 ghost use Rattle.tx_trace.specs.Traces.{IsTraceOf, rank_told};
 
 use crate::tracing::Trace;
 use itoa::Buffer;
 use std::alloc::Allocator;
+use tx_audit::write_steps;
 use tx_plan::{CodeId, ExchangeId, GroupId, Plan};
-use tx_text::{Sink, WriteFault, write_text};
+use tx_text::{Sink, WriteFault, write_parts};
 
 /// Writes a trace: what was asked, the way while all is free, and for each exchange that is met its
 /// list, or that it is the home.
@@ -21,7 +20,7 @@ pub fn write_trace<A: Allocator, W: Sink>(
     sink: &mut W,
 ) -> Result<(), WriteFault>
     requires { IsTraceOf plan.now trace.now }
-    ensures { Wrote (W.taken sink.old) (W.taken sink.new) (W.failed sink.old) (W.failed sink.new)
+    ensures { Wrote W.taken W.failed sink.old sink.new
         (trace_text plan.now trace.now.code trace.now.exchange) result }
 {
     write_head(plan, trace.code, trace.exchange, sink)?;
@@ -36,12 +35,12 @@ fn write_head<A: Allocator, W: Sink>(
     exchange: ExchangeId,
     sink: &mut W,
 ) -> Result<(), WriteFault>
-    ensures { Wrote (W.taken sink.old) (W.taken sink.new) (W.failed sink.old) (W.failed sink.new)
+    ensures { Wrote W.taken W.failed sink.old sink.new
         (head_line plan.now code exchange) result }
 {
     let figures = plan.code_figures(code);
     let name = plan.exchange_name(exchange);
-    write_text(&[b"TRACE ", figures, b" FROM ", name, b"\n"], sink)
+    write_parts(&[b"TRACE ", figures, b" FROM ", name, b"\n"], sink)
 }
 
 /// Writes that calls for the code may not start at the exchange, if a bar says so.
@@ -51,7 +50,7 @@ fn write_bar<A: Allocator, W: Sink>(
     exchange: ExchangeId,
     sink: &mut W,
 ) -> Result<(), WriteFault>
-    ensures { Wrote (W.taken sink.old) (W.taken sink.new) (W.failed sink.old) (W.failed sink.new)
+    ensures { Wrote W.taken W.failed sink.old sink.new
         (bar_line plan.now code exchange) result }
 {
     if !plan.is_barred(exchange, code) {
@@ -59,7 +58,7 @@ fn write_bar<A: Allocator, W: Sink>(
     }
     let figures = plan.code_figures(code);
     let name = plan.exchange_name(exchange);
-    write_text(&[b"BARRED ", name, b" ", figures, b"\n"], sink)
+    write_parts(&[b"BARRED ", name, b" ", figures, b"\n"], sink)
 }
 
 fn write_way<A: Allocator, W: Sink>(
@@ -68,38 +67,11 @@ fn write_way<A: Allocator, W: Sink>(
     way: &[(GroupId, ExchangeId)],
     sink: &mut W,
 ) -> Result<(), WriteFault>
-    ensures { Wrote (W.taken sink.old) (W.taken sink.new) (W.failed sink.old) (W.failed sink.new)
+    ensures { Wrote W.taken W.failed sink.old sink.new
         (way_line plan.now start way.now) result }
 {
-    write_text(&[b"FIRST ", plan.exchange_name(start)], sink)?;
+    write_parts(&[b"FIRST ", plan.exchange_name(start)], sink)?;
     write_steps(plan, way, sink)
-}
-
-/// Writes the steps of a way, and the end of the line.
-fn write_steps<A: Allocator, W: Sink>(
-    plan: &Plan<A>,
-    way: &[(GroupId, ExchangeId)],
-    sink: &mut W,
-) -> Result<(), WriteFault>
-    ensures { Wrote (W.taken sink.old) (W.taken sink.new) (W.failed sink.old) (W.failed sink.new)
-        (flat_map (step_text plan.now) way.now ++ codes "\n") result }
-{
-    for i in 0..way.len() {
-        write_step(plan, way[i], sink)?;
-    }
-    write_text(&[b"\n"], sink)
-}
-
-fn write_step<A: Allocator, W: Sink>(
-    plan: &Plan<A>,
-    step: (GroupId, ExchangeId),
-    sink: &mut W,
-) -> Result<(), WriteFault>
-    ensures { Wrote (W.taken sink.old) (W.taken sink.new) (W.failed sink.old) (W.failed sink.new)
-        (step_text plan.now step) result }
-{
-    let group = plan.group_name(step.0);
-    write_text(&[b" ", group, b" ", plan.exchange_name(step.1)], sink)
 }
 
 fn write_all_met<A: Allocator, W: Sink>(
@@ -107,7 +79,7 @@ fn write_all_met<A: Allocator, W: Sink>(
     trace: &Trace<A>,
     sink: &mut W,
 ) -> Result<(), WriteFault>
-    ensures { Wrote (W.taken sink.old) (W.taken sink.new) (W.failed sink.old) (W.failed sink.new)
+    ensures { Wrote W.taken W.failed sink.old sink.new
         (flat_map (met_lines plan.now trace.now.code (rank_told trace.now.ranks trace.now.code))
         trace.now.met.items) result }
 {
@@ -125,7 +97,7 @@ fn write_met<A: Allocator, W: Sink>(
     exchange: ExchangeId,
     sink: &mut W,
 ) -> Result<(), WriteFault>
-    ensures { Wrote (W.taken sink.old) (W.taken sink.new) (W.failed sink.old) (W.failed sink.new)
+    ensures { Wrote W.taken W.failed sink.old sink.new
         (met_lines plan.now trace.now.code (rank_told trace.now.ranks trace.now.code) exchange)
         result }
 {
@@ -141,10 +113,10 @@ fn write_home<A: Allocator, W: Sink>(
     exchange: ExchangeId,
     sink: &mut W,
 ) -> Result<(), WriteFault>
-    ensures { Wrote (W.taken sink.old) (W.taken sink.new) (W.failed sink.old) (W.failed sink.new)
+    ensures { Wrote W.taken W.failed sink.old sink.new
         (home_line plan.now exchange) result }
 {
-    write_text(&[b"HOME ", plan.exchange_name(exchange), b"\n"], sink)
+    write_parts(&[b"HOME ", plan.exchange_name(exchange), b"\n"], sink)
 }
 
 /// Writes a line for each group of a list.
@@ -154,7 +126,7 @@ fn write_list<A: Allocator, W: Sink>(
     exchange: ExchangeId,
     sink: &mut W,
 ) -> Result<(), WriteFault>
-    ensures { Wrote (W.taken sink.old) (W.taken sink.new) (W.failed sink.old) (W.failed sink.new)
+    ensures { Wrote W.taken W.failed sink.old sink.new
         (list_lines plan.now trace.now.code (rank_told trace.now.ranks trace.now.code) exchange)
         result }
 {
@@ -165,7 +137,7 @@ fn write_list<A: Allocator, W: Sink>(
     Ok(())
 }
 
-/// Writes the line of the group that stands so many in the list of an exchange.
+/// Writes the line of the group at a place in the list of an exchange.
 fn write_place<A: Allocator, W: Sink>(
     plan: &Plan<A>,
     trace: &Trace<A>,
@@ -174,7 +146,7 @@ fn write_place<A: Allocator, W: Sink>(
     group: GroupId,
     sink: &mut W,
 ) -> Result<(), WriteFault>
-    ensures { Wrote (W.taken sink.old) (W.taken sink.new) (W.failed sink.old) (W.failed sink.new)
+    ensures { Wrote W.taken W.failed sink.old sink.new
         (place_line plan.now (rank_told trace.now.ranks trace.now.code) exchange place group)
         result }
 {
@@ -186,18 +158,18 @@ fn write_place<A: Allocator, W: Sink>(
     let name = plan.exchange_name(exchange);
     let group = plan.group_name(group);
     let far = plan.exchange_name(to);
-    write_text(&[b"LIST ", name, b" ", place, b" ", group, b" ", far], sink)?;
+    write_parts(&[b"LIST ", name, b" ", place, b" ", group, b" ", far], sink)?;
     write_rank(trace.rank(to), sink)
 }
 
 /// Writes a rank, if there is one, and the end of the line.
 fn write_rank<W: Sink>(rank: Option<u16>, sink: &mut W) -> Result<(), WriteFault>
-    ensures { Wrote (W.taken sink.old) (W.taken sink.new) (W.failed sink.old) (W.failed sink.new)
+    ensures { Wrote W.taken W.failed sink.old sink.new
         (rank_text rank ++ codes "\n") result }
 {
     let Some(rank) = rank else {
-        return write_text(&[b"\n"], sink);
+        return write_parts(&[b"\n"], sink);
     };
     let mut buffer = Buffer::new();
-    write_text(&[b" RANK ", buffer.format(rank).as_bytes(), b"\n"], sink)
+    write_parts(&[b" RANK ", buffer.format(rank).as_bytes(), b"\n"], sink)
 }

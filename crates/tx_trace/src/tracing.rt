@@ -11,7 +11,7 @@ use tx_plan::{CodeId, ExchangeId, GroupId, Plan};
 use tx_text::NoMemory;
 
 /// How calls for a code go from an exchange.
-#[derive(Drop)]
+#[derive(Debug, Drop)]
 pub struct Trace<A: Allocator = Global> {
     /// The code.
     pub code: CodeId,
@@ -37,7 +37,7 @@ impl<A: Allocator> Trace<A> {
     }
 }
 
-/// Finds how calls for a code go from an exchange. `Err` is want of memory.
+/// Finds how calls for a code go from an exchange. `Err` means out of memory.
 pub fn trace_calls<A: Allocator + Copy>(
     alloc: A,
     plan: &Plan<A>,

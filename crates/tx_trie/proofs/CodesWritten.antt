@@ -1,12 +1,16 @@
 -- The lines of codes, one after another.
-use Rattle.std.proofs.Common.{◌≡◌, ℕ, ◌+◌, ◌<◌, ◌≤◌, List, [], ◌∷◌, ◌++◌, take, length, codes, Option, ap, sym, ◌∙◌, subst, append_assoc, append-nil}
+use Rattle.std.proofs.Common.{◌≡◌, ℕ, ◌+◌, ◌<◌, ◌≤◌, Bool, true, Ok, Err, List, [], ◌∷◌, ◌++◌, take, length, codes, Option, ap, sym, ◌∙◌, subst, append_assoc, append-nil}
 use Rattle.std.proofs.lemmas.List.{take_more, take_all}
 use Rattle.std.proofs.lemmas.List.Concat.{flat_map-append}
 use Rattle.std.proofs.lemmas.Option.{get_or_from_slice_get}
+use Rattle.std.specs.Prelude.{IsErr}
+use Rattle.std.proofs.lemmas.Bool.{false≢true}
 use Rattle.std.specs.Io.KnownBytes.{append_known}
 use Rattle.std.specs.List.{flat_map}
 use Rattle.tx_text.specs.Ends.{StopsIn}
+use Rattle.tx_text.specs.Wrote.{WroteBy}
 use Rattle.tx_text.specs.Written.{line_written}
+use Rattle.tx_text.proofs.Wrote.{Outcome}
 use Rattle.tx_text.proofs.Writing.{append_known_twice, stops_at, stops_first, stops_later}
 use Rattle.tx_plan.specs.Plan.{Plan, Code, figures_of, exchange_name, home_of}
 use Rattle.tx_plan.specs.Rules.{IsPlan}
@@ -16,6 +20,11 @@ use Rattle.tx_trie.proofs.Building.{code_there, its_figures, its_home}
 
 abbrev line_of : Plan → ℕ → List ℕ
 line_of p code = line_written (codes "CODE" ∷ figures_of p code ∷ exchange_name p (home_of p code) ∷ [])
+
+-- the sink failed
+pub stopped : (a b : Option (List ℕ)) (f g : Bool) (text : List ℕ) (r : Outcome) → StopsIn a b text → g ≡ true → IsErr r → WroteBy a b f g text r
+stopped a b f g text (Ok x) stop mark bad = absurd (false≢true bad)
+stopped a b f g text (Err x) stop mark bad = (stop, mark)
 
 -- a line by its parts
 pub code_text : (p : Plan) (code home : ℕ) (figures name : List ℕ) → figures ≡ figures_of p code → home ≡ home_of p code → name ≡ exchange_name p home

@@ -2,7 +2,7 @@
 use Rattle.std.proofs.Common.{◌≡◌, ◌≢◌, ℕ, suc, ◌<◌, ◌==◌, Bool, true, false, ◌&&◌, ◌⊎◌, List, [], ◌∷◌, length, Option, Some, None, refl, ap, sym, ◌∙◌, subst, inl, inr, eqb-true, eq-eqb, arith}
 use Rattle.std.proofs.lemmas.Bool.{and_parts}
 use Rattle.std.specs.Prelude.{option_and_then, if◌then◌else◌}
-use Rattle.tx_trie.specs.declared.node.Node.{Node}
+use Rattle.tx_trie.specs.declared.trie.Node.{Node}
 use Rattle.tx_trie.specs.inner.Nodes.{IsTree, child, code_at, walk, look}
 use Rattle.tx_trie.proofs.Ways.{walk_once}
 

@@ -10,9 +10,9 @@ use Rattle.std.proofs.lemmas.Slice.Eq.{bytes_eq-Decides}
 use Rattle.tx_text.specs.Words.{is_figure}
 use Rattle.tx_plan.specs.Plan.{Code}
 use Rattle.tx_plan.specs.Rules.{is_code}
-use Rattle.tx_entries.proofs.Lists.{slice_get_left}
-use Rattle.tx_trie.specs.declared.node.Node.{Node}
-use Rattle.tx_trie.specs.declared.row.Row.{Row}
+use Rattle.tx_plan.proofs.Lists.{slice_get_left}
+use Rattle.tx_trie.specs.declared.trie.Node.{Node}
+use Rattle.tx_trie.specs.declared.trie.Row.{Row}
 use Rattle.tx_trie.specs.inner.Nodes.{IsTree, IsTrie, Grows, child, code_at, walk, look, empty_node, code_of_row}
 use Rattle.tx_trie.proofs.Growing.{coded_tree, look_there, look_elsewhere}
 use Rattle.tx_trie.proofs.Stepping.{set_same, set_other, slice_get_last, from_node, nothing}

@@ -9,12 +9,13 @@ use Rattle.std.specs.Ordering.{ordering_then, is_lt, nat_cmp}
 use Rattle.std.specs.declared.cmp.Ordering.{Ordering}
 use Rattle.std.specs.declared.cmp.Ordering.TheVariants.{Less, Equal, Greater}
 use Rattle.std.specs.Cmp.Lexicographic.{slice_cmp, nat_list_cmp_total}
-use Rattle.tx_entries.proofs.Lists.{below}
+use Rattle.tx_plan.proofs.Lists.{below}
 use Rattle.tx_plan.specs.Plan.{Code}
 use Rattle.tx_plan.specs.Codes.{is_prefix}
-use Rattle.tx_plan.specs.Ambiguous.{pair_at, pair_cmp, ambiguous_of, IsAmbiguousAt}
+use Rattle.tx_plan.specs.Ambiguous.{pair_cmp, ambiguous_of}
+use Rattle.tx_plan.specs.inner.AmbiguousAt.{pair_at, IsAmbiguousAt}
 use Rattle.tx_plan.proofs.Ambiguity.{ambiguous-none, ambiguous-some}
-use Rattle.tx_trie.specs.declared.node.Node.{Node}
+use Rattle.tx_trie.specs.declared.trie.Node.{Node}
 use Rattle.tx_trie.specs.inner.Nodes.{IsTrie, look}
 use Rattle.tx_trie.specs.inner.Least.{IsLeastPair, IsLeastBelow}
 use Rattle.tx_trie.proofs.Prefixes.{prefix_is_take, take_is_prefix}

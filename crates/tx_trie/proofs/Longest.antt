@@ -13,9 +13,9 @@ use Rattle.tx_plan.specs.Codes.{is_prefix, codes_before, longer, longest, code_o
 use Rattle.tx_plan.specs.Rules.{is_code}
 use Rattle.tx_plan.specs.Among.{Among}
 use Rattle.tx_plan.proofs.Among.{among_filter, filter_among, among_places, places_among}
-use Rattle.tx_entries.proofs.Lists.{at_least, same_tests, below}
+use Rattle.tx_plan.proofs.Lists.{at_least, same_tests, below}
 use Rattle.tx_trie.specs.Trie.{plan_of}
-use Rattle.tx_trie.specs.declared.node.Node.{Node}
+use Rattle.tx_trie.specs.declared.trie.Node.{Node}
 use Rattle.tx_trie.specs.inner.Nodes.{IsTrie, child, code_at, walk, look, newer, read_on}
 use Rattle.tx_trie.proofs.Prefixes.{prefix_itself, prefix_push, prefix_keeps, prefix_length, prefix_take}
 use Rattle.tx_trie.proofs.Ways.{walk-push, walk_on}

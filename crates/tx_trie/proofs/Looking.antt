@@ -7,8 +7,8 @@ use Rattle.std.specs.Option.{option_map}
 use Rattle.std.specs.Ordering.{is_lt, nat_cmp}
 use Rattle.std.specs.Cmp.Lexicographic.{slice_cmp}
 use Rattle.tx_plan.specs.Plan.{Code}
-use Rattle.tx_trie.specs.declared.node.Node.{Node}
-use Rattle.tx_trie.specs.declared.row.Row.{Row}
+use Rattle.tx_trie.specs.declared.trie.Node.{Node}
+use Rattle.tx_trie.specs.declared.trie.Row.{Row}
 use Rattle.tx_trie.specs.inner.Nodes.{IsTrie, look, code_of_row}
 use Rattle.tx_trie.specs.inner.Least.{IsLeastPair, IsLeastBelow}
 use Rattle.tx_trie.proofs.LeastPair.{alone, first_pair, lesser_pair, greater_pair}

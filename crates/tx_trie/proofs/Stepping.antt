@@ -6,8 +6,8 @@ use Rattle.std.proofs.lemmas.Option.{slice_get_past}
 use Rattle.std.specs.Prelude.{option_and_then, slice_get, slice_set, if◌then◌else◌, nat_le, replicate}
 use Rattle.std.specs.List.{list_all}
 use Rattle.tx_text.specs.Words.{is_figure}
-use Rattle.tx_entries.proofs.Lists.{at_least}
-use Rattle.tx_trie.specs.declared.node.Node.{Node}
+use Rattle.tx_plan.proofs.Lists.{at_least}
+use Rattle.tx_trie.specs.declared.trie.Node.{Node}
 use Rattle.tx_trie.specs.inner.Nodes.{IsTree, Grows, child, code_at, walk, empty_node}
 use Rattle.tx_trie.proofs.Ways.{walk-push, walk_on}
 use Rattle.tx_trie.proofs.Growing.{here, grown_tree, same_from, kept_way}

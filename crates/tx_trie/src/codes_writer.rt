@@ -1,7 +1,5 @@
 // How the codes of a plan are written out.
-ghost use Rattle.std.specs.Prelude.{◌≡◌, ◌∷◌, [], codes, true, OnOk, OnErr};
-ghost use Rattle.std.specs.Io.KnownBytes.{append_known};
-ghost use Rattle.tx_text.specs.Ends.{StopsIn};
+ghost use Rattle.std.specs.Prelude.{◌≡◌, ◌∷◌, [], codes};
 ghost use Rattle.tx_text.specs.Written.{line_written};
 ghost use Rattle.tx_text.specs.Wrote.{Wrote};
 ghost use Rattle.tx_plan.specs.Plan.{figures_of, exchange_name, home_of};
@@ -10,24 +8,21 @@ ghost use Rattle.tx_trie.specs.CodesText.{pair_line, codes_text};
 use crate::trie::CodeTrie;
 use std::alloc::Allocator;
 use tx_plan::{CodeId, Plan};
-use tx_text::{Sink, WriteFault, write_text};
+use tx_text::{Sink, WriteFault, write_parts};
 
-/// Writes a line for each code with its home, in order of declaration, and then the least pair of which one begins the other, or `DISTINCT`. The trie is that
-/// of the plan. Where the sink fails, a front of the text was taken.
+/// Writes a line for each code with its home, in order of declaration, and then the least pair of
+/// which one begins the other, or `DISTINCT`. The trie is that of the plan. Where the sink fails, a
+/// front of the text was taken.
 pub fn write_codes<A: Allocator, W: Sink>(
     plan: &Plan<A>,
     trie: &CodeTrie<A>,
     sink: &mut W,
 ) -> Result<(), WriteFault>
     requires { trie.now ≡ plan.now.codes }
-    ensures ok { OnOk result (W.taken sink.new ≡ append_known (W.taken sink.old) (codes_text plan.now)) }
-    ensures err { OnErr result (StopsIn (W.taken sink.old) (W.taken sink.new) (codes_text plan.now)) }
-    ensures mark { OnErr result (W.failed sink.new ≡ true) }
-    ensures unmarked { OnOk result (W.failed sink.new ≡ W.failed sink.old) }
+    ensures { Wrote W.taken W.failed sink.old sink.new (codes_text plan.now) result }
 {
-    plan.rules();
     for place in 0..plan.codes() {
-        write_code(plan, CodeId::at(place as u16), sink)?;
+        write_code(plan, CodeId::of(place), sink)?;
     }
     write_pair(trie.ambiguous(), plan, sink)?;
     Ok(())
@@ -39,11 +34,12 @@ fn write_code<A: Allocator, W: Sink>(
     code: CodeId,
     sink: &mut W,
 ) -> Result<(), WriteFault>
-    ensures { Wrote (W.taken sink.old) (W.taken sink.new) (W.failed sink.old) (W.failed sink.new) (line_written (codes "CODE" ∷ figures_of plan.now code ∷ exchange_name plan.now (home_of plan.now code) ∷ [])) result }
+    ensures { Wrote W.taken W.failed sink.old sink.new (line_written (codes "CODE"
+        ∷ figures_of plan.now code ∷ exchange_name plan.now (home_of plan.now code) ∷ [])) result }
 {
     let figures = plan.code_figures(code);
     let home = plan.exchange_name(plan.home(code));
-    write_text(&[b"CODE ", figures, b" ", home, b"\n"], sink)
+    write_parts(&[b"CODE ", figures, b" ", home, b"\n"], sink)
 }
 
 /// Writes the ambiguous pair, or that there is none.
@@ -52,12 +48,12 @@ fn write_pair<A: Allocator, W: Sink>(
     plan: &Plan<A>,
     sink: &mut W,
 ) -> Result<(), WriteFault>
-    ensures { Wrote (W.taken sink.old) (W.taken sink.new) (W.failed sink.old) (W.failed sink.new) (pair_line plan.now pair) result }
+    ensures { Wrote W.taken W.failed sink.old sink.new (pair_line plan.now pair) result }
 {
     let Some((shorter, longer)) = pair else {
-        return write_text(&[b"DISTINCT\n"], sink);
+        return write_parts(&[b"DISTINCT\n"], sink);
     };
     let shorter = plan.code_figures(shorter);
     let longer = plan.code_figures(longer);
-    write_text(&[b"AMBIGUOUS ", shorter, b" ", longer, b"\n"], sink)
+    write_parts(&[b"AMBIGUOUS ", shorter, b" ", longer, b"\n"], sink)
 }

@@ -1,22 +1,134 @@
-// The trie of a plan's codes.
-ghost use Rattle.std.specs.Prelude.{◌≡◌, ◌≢◌, ◌++◌, ◌∷◌, ◌<◌, ◌+◌, [], ℕ, true, false, length, take, slice_get, Some, OnOk, OnErr, IfOk};
+// The trie of a plan's codes, and its nodes.
+ghost use Rattle.std.specs.Prelude.{◌≡◌, ◌≢◌, ◌++◌, ◌∷◌, ◌<◌, ◌+◌, [], ℕ, true, false, length, take, slice_get, Some, OnOk, OnErr, IfOk, ◌≤◌, None, List, vec_len, vec_capacity, slice_set};
+ghost use Rattle.std.specs.List.{list_all};
+ghost use Rattle.tx_text.specs.Words.{is_figure};
 ghost use Rattle.tx_plan.specs.Plan.{Code};
 ghost use Rattle.tx_plan.specs.Codes.{code_of};
 ghost use Rattle.tx_plan.specs.Rules.{is_code};
 ghost use Rattle.tx_plan.specs.Ambiguous.{ambiguous_of};
 ghost use Rattle.tx_trie.specs.Trie.{plan_of};
 ghost use Rattle.tx_trie.specs.inner.Least.{IsLeastBelow};
+ghost use Rattle.tx_trie.specs.inner.Nodes.{IsTree, Grows, child, code_at, look, walk, read_on, empty_node};
 
-use crate::node::Node;
-use crate::nodes::{empty_node, last_code, look, reach};
-use crate::row::Row;
 use std::alloc::{Allocator, Global};
 use std::marker::Model;
 use tx_plan::{CodeId, ExchangeId, Plan};
 use tx_text::{Figures, NoMemory};
 
+/// The figures of a code, and its home.
+#[derive(Clone, Copy, Debug)]
+pub struct Row {
+    pub figures: Figures,
+    pub home: ExchangeId,
+}
+
+/// The figures on the way from the root to a node are a code, or begin one.
+#[derive(Clone, Copy, Debug)]
+pub struct Node {
+    /// The code of these figures.
+    pub code: Option<CodeId>,
+    /// The node to which each further figure leads.
+    pub next: [Option<u16>; 10],
+}
+
+/// A node to which no code was added.
+pub fn empty_node() -> Node
+    ensures { result ≡ empty_node }
+{
+    Node {
+        code: None,
+        next: [None; 10],
+    }
+}
+
+/// Where a figure leads from a node.
+pub fn child(nodes: &[Node], place: usize, figure: u8) -> Option<usize>
+    ensures { result ≡ child nodes.now place figure }
+{
+    if !(b'0' <= figure && figure <= b'9') {
+        return None;
+    }
+    let node = nodes.get(place)?;
+    let next = (*node.next.get(usize::from(figure - b'0'))?)?;
+    Some(usize::from(next))
+}
+
+/// The code of the figures that lead to a node.
+pub fn code_at(nodes: &[Node], place: usize) -> Option<CodeId>
+    ensures { result ≡ code_at nodes.now place }
+{
+    nodes.get(place)?.code
+}
+
+/// Where a figure leads from a node, which is a new node where it led nowhere.
+fn step<A: Allocator>(nodes: &mut Vec<Node, A>, place: usize, figure: u8) -> usize
+    requires tree { IsTree nodes.old.items }
+    requires place { place < vec_len nodes.old }
+    requires figure { is_figure figure ≡ true }
+    requires room { vec_len nodes.old < vec_capacity nodes.old }
+    requires few { vec_len nodes.old < 65536 }
+    ensures way { child nodes.new.items place figure ≡ Some result }
+    ensures grows { Grows nodes.old.items nodes.new.items }
+    ensures len { vec_len nodes.new ≤ vec_len nodes.old + 1 }
+    ensures capacity { vec_capacity nodes.new ≡ vec_capacity nodes.old }
+{
+    if let Some(next) = child(nodes, place, figure) {
+        return next;
+    }
+    let next = nodes.len();
+    nodes.push_reserved(empty_node());
+    let node = &mut nodes[place];
+    node.next[usize::from(figure - b'0')] = Some(next as u16);
+    next
+}
+
+/// The node to which the figures lead, by new nodes where they led nowhere.
+pub fn reach<A: Allocator>(nodes: &mut Vec<Node, A>, figures: &[u8]) -> usize
+    requires tree { IsTree nodes.old.items }
+    requires figures { list_all is_figure figures.now ≡ true }
+    requires room { vec_len nodes.old + length figures.now ≤ vec_capacity nodes.old }
+    requires few { vec_len nodes.old + length figures.now ≤ 65536 }
+    ensures way { walk nodes.new.items 0 figures.now ≡ Some result }
+    ensures grows { Grows nodes.old.items nodes.new.items }
+    ensures len { vec_len nodes.new ≤ vec_len nodes.old + length figures.now }
+    ensures capacity { vec_capacity nodes.new ≡ vec_capacity nodes.old }
+{
+    let mut place = 0;
+    for figure in figures {
+        place = step(nodes, place, *figure);
+    }
+    place
+}
+
+/// The last code on the way of a text from the root.
+pub fn last_code(nodes: &[Node], text: &[u8]) -> Option<CodeId>
+    ensures { result ≡ read_on nodes.now 0 text.now None }
+{
+    let mut place = 0;
+    let mut last = None;
+    for figure in text {
+        let Some(next) = child(nodes, place, *figure) else {
+            return last;
+        };
+        place = next;
+        last = code_at(nodes, place).or(last);
+    }
+    last
+}
+
+/// The code of exactly this text.
+pub fn look(nodes: &[Node], text: &[u8]) -> Option<CodeId>
+    ensures { result ≡ look nodes.now text.now }
+{
+    let mut place = 0;
+    for figure in text {
+        place = child(nodes, place, *figure)?;
+    }
+    code_at(nodes, place)
+}
+
 /// The destination codes of a plan by their figures.
-#[derive(Drop)]
+#[derive(Debug, Drop)]
 pub struct CodeTrie<A: Allocator = Global> {
     codes: Vec<Row, A>,
     nodes: Vec<Node, A>,
@@ -39,10 +151,9 @@ impl<A: Allocator + Copy> CodeTrie<A> {
     pub fn build(alloc: A, plan: &Plan<A>) -> Result<Self, NoMemory>
         ensures { IfOk result (λ t. t ≡ plan.now.codes) }
     {
-        plan.rules();
         let mut trie = CodeTrie::new(alloc)?;
         for place in 0..plan.codes() {
-            let code = CodeId::at(place as u16);
+            let code = CodeId::of(place);
             let figures = Figures::read(plan.code_figures(code)).unwrap();
             trie.insert(figures, plan.home(code))?;
         }
@@ -68,14 +179,15 @@ impl<A: Allocator> CodeTrie<A> {
         requires form { is_code figures ≡ true }
         requires unused { (i : ℕ) (c : Code) → slice_get self.old i ≡ Some c → c.figures ≢ figures }
         requires few { length self.old < 1100 }
-        ensures ok { OnOk result (self.new ≡ self.old ++ record { figures = figures; home = home } ∷ []) }
+        ensures ok { OnOk result
+            (self.new ≡ self.old ++ record { figures = figures; home = home } ∷ []) }
         ensures err { OnErr result (self.new ≡ self.old) }
     {
         self.codes.reserve(1)?;
         self.nodes.reserve(3)?;
         let place = reach(&mut self.nodes, figures.bytes());
         let node = &mut self.nodes[place];
-        node.code = Some(CodeId::at(self.codes.len() as u16));
+        node.code = Some(CodeId::of(self.codes.len()));
         self.codes.push_reserved(Row { figures, home });
         Ok(())
     }
@@ -87,7 +199,8 @@ impl<A: Allocator> CodeTrie<A> {
         last_code(&self.nodes, &figures[..usize::min(3, figures.len())])
     }
 
-    /// The least pair of a code and a longer code that begins with it: by the shorter code's figures, and then the longer's.
+    /// The least pair of a code and a longer code that begins with it: by the shorter code's
+    /// figures, and then the longer's.
     pub fn ambiguous(&self) -> Option<(CodeId, CodeId)>
         ensures { result ≡ ambiguous_of self.now }
     {
@@ -110,7 +223,7 @@ impl<A: Allocator> CodeTrie<A> {
         let Some(shorter) = look(&self.nodes, front) else {
             return least;
         };
-        let pair = (shorter, CodeId::at(place as u16));
+        let pair = (shorter, CodeId::of(place));
         let Some(found) = least else {
             return Some(pair);
         };

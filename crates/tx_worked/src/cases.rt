@@ -1,5 +1,5 @@
-// The words that all players share: what a case says, what it prints beside what it has to print, why it stops, the ends that are watched, and an allocator that
-// refuses a request.
+// The words that all players share: what a case says, what it prints beside what it has to print,
+// why it stops, the ends that are watched, and an allocator that refuses a request.
 
 mod case;
 mod differing;

@@ -1,6 +1,6 @@
-// Judges the change of a plan into another one by brute force. Each plan of a family is changed into
-// each. The mixtures of the two are plans of the family too: what their walks show, and whether they
-// have ranks, says what is to be found of the change.
+// Judges the change of a plan into another one by brute force. Each plan of a family is changed
+// into each. The mixtures of the two are plans of the family too: what their walks show, and
+// whether they have ranks, says what is to be found of the change.
 
 mod judge;
 mod members;

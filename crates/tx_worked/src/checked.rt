@@ -1,18 +1,19 @@
-// Events that are driven through a network after a Yes of the checker. Its memory is of the type that can refuse a request, so that each network is built once.
+// Events that are driven through a network after a Yes of the checker. Its memory is of the type
+// that can refuse a request, so that each network is built once.
 use crate::cases::{
     Refusing, Told, next_line, says_no_event, tell, tell_broken, tell_count, two_texts,
 };
 use crate::driven::try_drives;
 use crate::runs::Over;
 use std::alloc::{Allocator, Global};
+use tx_audit::{Played, play};
 use tx_cert::read_cert;
 use tx_check::{Verdict, check};
-use tx_engine::{Engine, Played, play};
-use tx_machine::Plain;
+use tx_machine::{Event, Network, Reply, drive};
+use tx_plain::Plain;
 use tx_plan::Plan;
 use tx_plantext::read_plan;
 use tx_script::read_event;
-use tx_state::{Event, Network, Reply, Ticket, drive};
 use tx_tickets::{write_reply, write_ticket};
 
 /// Adds the event that a line of a script says, if it says one.
@@ -38,11 +39,11 @@ fn put_events<A: Allocator>(
 ) {
     let mut rest = script;
     for _ in 0..script.len() {
-        let Some((line, behind)) = next_line(rest) else {
+        let Some((line, after)) = next_line(rest) else {
             break;
         };
         put_event(plan, line, events, out);
-        rest = behind;
+        rest = after;
     }
 }
 
@@ -52,18 +53,17 @@ fn tell_replies<A: Allocator>(plan: &Plan<A>, replies: &[Reply], out: &mut Told)
     }
 }
 
-/// Tells how many events a network accepted and calls are open.
+/// Writes how many events a network accepted and calls are open.
 fn tell_end<N: Network>(net: &N, out: &mut Told) {
     tell_count(b"END EVENTS ", net.events(), b"", out);
     tell_count(b" OPEN ", net.open_calls(), b"\n", out);
 }
 
-/// Takes the oldest ticket and writes it. Tells whether there was one.
+/// Takes the oldest ticket and writes it. Returns whether there was one.
 fn tell_ticket<A: Allocator, N: Network>(plan: &Plan<A>, net: &mut N, out: &mut Told) -> bool {
     match net.next_ticket() {
         Some(ticket) => {
             let _ = write_ticket(&ticket, plan, out);
-            drop(ticket);
             true
         }
         None => false,
@@ -86,7 +86,7 @@ fn tell_driven<A: Allocator, N: Network>(
     tell_end(net, out);
 }
 
-/// Drives the events through a plain network, and tells what comes of it.
+/// Drives the events through a plain network, and writes what comes of it.
 fn drive_and_tell<A: Allocator, N: Network>(
     plan: &Plan<A>,
     net: &mut N,
@@ -100,7 +100,7 @@ fn drive_and_tell<A: Allocator, N: Network>(
     }
 }
 
-/// Drives the events through a new plain network of the plan, and tells what comes of it.
+/// Drives the events through a new plain network of the plan, and writes what comes of it.
 fn drive_plain<A: Allocator + Copy>(
     memory: A,
     plan: &Plan<A>,
@@ -111,27 +111,13 @@ fn drive_plain<A: Allocator + Copy>(
     match Plain::new(memory, plan) {
         Ok(mut net) => {
             drive_and_tell(plan, &mut net, events, replies, out);
-            drop(net);
         }
         Err(_) => tell_broken(b"no memory", 0, out),
     }
 }
 
-/// Writes tickets, and lets them go.
-fn tell_tickets<A: Allocator>(plan: &Plan<A>, tickets: Vec<Ticket<A>, A>, out: &mut Told) {
-    for ticket in tickets.as_slice() {
-        let _ = write_ticket(ticket, plan, out);
-    }
-    drop(tickets);
-}
-
-/// Tells how many events an engine accepted and calls are open, and lets it go.
-fn tell_and_close<A: Allocator + Copy>(engine: Engine<'_, A>, out: &mut Told) {
-    tell_end(&engine, out);
-    engine.close();
-}
-
-/// Tells what events that were played on the engine came to, and drives them again where memory is refused.
+/// Writes what events that were played on the engine came to, and drives them again where memory is
+/// refused.
 fn tell_played<A: Allocator + Copy>(
     alloc: Global,
     plan: &Plan<A>,
@@ -140,16 +126,13 @@ fn tell_played<A: Allocator + Copy>(
     played: Played<'_, A>,
     out: &mut Told,
 ) {
-    let Played {
-        replies,
-        tickets,
-        network,
-    } = played;
-    tell_replies(plan, replies.as_slice(), out);
-    tell_tickets(plan, tickets, out);
-    tell_and_close(network, out);
-    try_drives(alloc, Over::Engine, text, events, replies.as_slice(), out);
-    drop(replies);
+    let replies = played.replies.as_slice();
+    tell_replies(plan, replies, out);
+    for ticket in &played.tickets {
+        let _ = write_ticket(ticket, plan, out);
+    }
+    tell_end(&played.network, out);
+    try_drives(alloc, Over::Engine, text, events, replies, out);
 }
 
 /// Whether the checker says Yes to a certificate of the plan.
@@ -162,7 +145,6 @@ fn is_certified<A: Allocator + Copy>(
     match read_cert(memory, cert, plan) {
         Ok(cert) => {
             let verdict = check(plan, &cert, numbers.0.min(62), numbers.1.min(15));
-            drop(cert);
             matches!(verdict, Verdict::Yes)
         }
         Err(_) => false,
@@ -189,7 +171,6 @@ fn drive_over_plain<A: Allocator + Copy>(
     let mut replies = Vec::new(alloc);
     drive_plain(memory, plan, events, &mut replies, out);
     try_drives(alloc, Over::Plain, text, events, replies.as_slice(), out);
-    drop(replies);
 }
 
 /// Plays the events on the engine, and drives them again where memory is refused.
@@ -222,10 +203,10 @@ fn drive_script<A: Allocator + Copy>(
         Over::Plain => drive_over_plain(alloc, memory, plan, texts.plan, events.as_slice(), out),
         Over::Engine => play_on_engine(alloc, memory, plan, texts.plan, events.as_slice(), out),
     }
-    drop(events);
 }
 
-/// Tells whether the checker says Yes to the certificate, and drives the events of the script after a Yes.
+/// Writes whether the checker says Yes to the certificate, and drives the events of the script
+/// after a Yes.
 fn check_and_drive<A: Allocator + Copy>(
     alloc: Global,
     over: Over,
@@ -243,7 +224,8 @@ fn check_and_drive<A: Allocator + Copy>(
     }
 }
 
-/// Reads the plan, tells whether the checker says Yes to its certificate, and drives the events of the script after a Yes.
+/// Reads the plan, tells whether the checker says Yes to its certificate, and drives the events of
+/// the script after a Yes.
 fn read_and_drive<A: Allocator + Copy>(
     alloc: Global,
     over: Over,
@@ -255,13 +237,13 @@ fn read_and_drive<A: Allocator + Copy>(
     match read_plan(memory, texts.plan) {
         Ok(plan) => {
             check_and_drive(alloc, over, memory, &plan, numbers, texts, out);
-            drop(plan);
         }
         Err(_) => tell_broken(b"no plan", 0, out),
     }
 }
 
-/// Checks a certificate of a plan, with a limit and a spare number, and after a Yes drives the events of the script behind it.
+/// Checks a certificate of a plan, with a limit and a spare number, and after a Yes drives the
+/// events of the script after it.
 pub(crate) fn play_certified(
     alloc: Global,
     over: Over,

@@ -3,10 +3,10 @@ use crate::cases::{Refusing, Told, tell_broken};
 use crate::runs::Over;
 use std::alloc::{Allocator, Global};
 use tx_engine::Engine;
-use tx_machine::Plain;
+use tx_machine::{Event, Network, Reply, drive};
+use tx_plain::Plain;
 use tx_plan::Plan;
 use tx_plantext::read_plan;
-use tx_state::{Event, Network, Reply, drive};
 use tx_text::NoMemory;
 
 /// How many replies are to accepted events.
@@ -20,7 +20,8 @@ fn accepted(replies: &[Reply]) -> u64 {
     count
 }
 
-/// Drives the events, and where memory was wanted the rest of them again. Tells whether the replies were those of the events that were applied.
+/// Drives the events, and where memory ran out the rest of them again. Returns whether the replies
+/// were those of the events that were applied.
 fn drive_on<A: Allocator, N: Network>(
     net: &mut N,
     events: &[Event],
@@ -36,7 +37,8 @@ fn drive_on<A: Allocator, N: Network>(
     drive(net, rest, replies).and(Ok(true))
 }
 
-/// Drives the events through a network, and tells whether the replies are those of a network that never wants memory.
+/// Drives the events through a network, and returns whether the replies are those of a network that
+/// never runs out of memory.
 fn drives_on<A: Allocator + Copy, N: Network>(
     alloc: A,
     net: &mut N,
@@ -44,50 +46,32 @@ fn drives_on<A: Allocator + Copy, N: Network>(
     whole: &[Reply],
 ) -> Result<bool, NoMemory> {
     let mut replies = Vec::new(alloc);
-    let driven = drive_on(net, events, &mut replies);
-    let is_whole = replies.as_slice() == whole;
-    drop(replies);
-    match driven {
-        Ok(keeps) => Ok(keeps && is_whole),
-        Err(fault) => Err(fault),
-    }
+    Ok(drive_on(net, events, &mut replies)? && replies.as_slice() == whole)
 }
 
-/// The same over a new plain network of the plan.
+/// Drives the events through a new plain network of the plan.
 fn drives_on_plain<A: Allocator + Copy>(
     alloc: A,
     plan: &Plan<A>,
     events: &[Event],
     whole: &[Reply],
 ) -> Result<bool, NoMemory> {
-    match Plain::new(alloc, plan) {
-        Ok(mut net) => {
-            let keeps = drives_on(alloc, &mut net, events, whole);
-            drop(net);
-            keeps
-        }
-        Err(fault) => Err(fault),
-    }
+    let mut net = Plain::new(alloc, plan)?;
+    drives_on(alloc, &mut net, events, whole)
 }
 
-/// The same over a new engine for the plan.
+/// Drives the events through a new engine for the plan.
 fn drives_on_engine<A: Allocator + Copy>(
     alloc: A,
     plan: &Plan<A>,
     events: &[Event],
     whole: &[Reply],
 ) -> Result<bool, NoMemory> {
-    match Engine::new(alloc, plan) {
-        Ok(mut net) => {
-            let keeps = drives_on(alloc, &mut net, events, whole);
-            net.close();
-            keeps
-        }
-        Err(fault) => Err(fault),
-    }
+    let mut net = Engine::new(alloc, plan)?;
+    drives_on(alloc, &mut net, events, whole)
 }
 
-/// The same over a plan that is read with the allocator. `None` is want of memory.
+/// Reads the plan and drives the events over it, all with the allocator. `None` is out of memory.
 fn reads_and_drives_on<A: Allocator + Copy>(
     alloc: A,
     over: Over,
@@ -96,20 +80,16 @@ fn reads_and_drives_on<A: Allocator + Copy>(
     whole: &[Reply],
 ) -> Option<bool> {
     match read_plan(alloc, plan) {
-        Ok(plan) => {
-            let keeps = match over {
-                Over::Plain => drives_on_plain(alloc, &plan, events, whole),
-                Over::Engine => drives_on_engine(alloc, &plan, events, whole),
-            };
-            drop(plan);
-            keeps.ok()
-        }
+        Ok(plan) => match over {
+            Over::Plain => drives_on_plain(alloc, &plan, events, whole).ok(),
+            Over::Engine => drives_on_engine(alloc, &plan, events, whole).ok(),
+        },
         Err(_) => None,
     }
 }
 
-/// Refuses each request for memory in turn: the replies pushed are those of the events applied, and the rest of the events given again have their
-/// replies.
+/// Refuses each request for memory in turn: the replies pushed are those of the events applied, and
+/// the rest of the events given again have their replies.
 pub(crate) fn try_drives(
     alloc: Global,
     over: Over,

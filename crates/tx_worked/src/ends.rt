@@ -1,5 +1,5 @@
 // Plays the program at its ends, over files and ends that are watched, and where its words or
-// arguments are refused for want of memory.
+// arguments are refused when memory runs out.
 
 mod cases;
 mod play;

@@ -15,7 +15,8 @@ use memchr::memmem;
 use std::alloc::Global;
 use tx_text::MemorySink;
 
-/// Plays a case of texts by its kind: as a job, or by writing and reading back, or over both networks.
+/// Plays a case of texts by its kind: as a job, or by writing and reading back, or over both
+/// networks.
 pub(crate) fn play_texts(
     alloc: Global,
     kind: TextKind,
@@ -37,7 +38,8 @@ pub(crate) fn play_texts(
     }
 }
 
-/// Plays the kinds that drive events or run a script, over the plain network and then over the engine, which has to tell the same.
+/// Plays the kinds that drive events or run a script, over the plain network and then over the
+/// engine, which has to tell the same.
 fn play_over_both(
     alloc: Global,
     driven: Driven,
@@ -85,7 +87,8 @@ fn play_over(alloc: Global, driven: Driven, head: Head<'_>, text: Script<'_>, ou
     }
 }
 
-/// Tries that a script writes over the plain network what the job writes, which runs it over the engine.
+/// Tries that a script writes over the plain network what the job writes, which runs it over the
+/// engine.
 fn try_plain(alloc: Global, run: Task<'_>, job: &[u8], out: &mut Told) {
     let text = Script::opening(Over::Plain, run.first, run.second);
     let ran = run_beside(alloc, text, Ends::pieces(4096), job);
@@ -98,7 +101,7 @@ fn try_plain(alloc: Global, run: Task<'_>, job: &[u8], out: &mut Told) {
     }
 }
 
-/// Tells what a task wrote, and its fault.
+/// Writes what a task wrote, and its fault.
 fn tell_whole(whole: Whole<'_>, out: &mut Told) {
     tell(whole.text, out);
     if let Err(fault) = whole.answer {
@@ -136,7 +139,6 @@ fn play_task(alloc: Global, task: Task<'_>, mode: Mode, out: &mut Told) {
         text: written.taken(),
     };
     play_whole(alloc, task, whole, mode, out);
-    drop(written);
 }
 
 /// Tries that a plan and a script in two texts and in one do the same, and the laws of the run.
@@ -180,5 +182,4 @@ fn play_both(alloc: Global, head: Head<'_>, input: &[u8], out: &mut Told) {
         text: written.taken(),
     };
     try_both(alloc, run, pipe, whole, head, out);
-    drop(written);
 }

@@ -68,7 +68,7 @@ impl<'a> Player<'a> {
         }
     }
 
-    /// Plays a case, and tells where it differs.
+    /// Plays a case, and writes where it differs.
     fn play(&mut self, case: Case<'_>, head: Head<'_>, counts: &mut Counts, out: &mut Told) {
         let alloc = self.rt.alloc();
         let mut texts = Told::new(alloc);
@@ -90,7 +90,7 @@ impl<'a> Player<'a> {
         }
     }
 
-    /// Plays the cases of a file, and tells how many there are, and each that differs.
+    /// Plays the cases of a file, and writes how many there are, and each that differs.
     fn play_cases(&mut self, name: &str, file: &[u8], out: &mut Told) {
         let mut counts = Counts::none();
         let mut rest = cases_of(file);
@@ -112,7 +112,6 @@ impl<'a> Player<'a> {
         let file = fs::read(self.rt, name)?;
         let mut told = Told::new(self.rt.alloc());
         self.play_cases(name, file.as_slice(), &mut told);
-        drop(file);
         told.let_out(&mut self.rt.stdout())
     }
 

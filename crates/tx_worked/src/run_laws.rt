@@ -1,4 +1,5 @@
-// The laws of a run: what is written, and which event is told, wherever an end fails or memory is refused.
+// The laws of a run: what is written, and which event is told, wherever an end fails or memory is
+// refused.
 use crate::cases::{
     End, Ends, Told, event_word, takes_memory, tell, tell_broken, tell_count, written_after,
 };
@@ -9,7 +10,8 @@ use tx_script::{RunCause, RunFault, Summary};
 /// More than any case has of anything.
 const MANY: u64 = 1_000_000;
 
-/// Whether the run stopped for this reason, in the event whose output begins or goes on where the written bytes end.
+/// Whether the run stopped for this reason, in the event whose output begins or goes on where the
+/// written bytes end.
 fn stopped(ran: &Ran, fault: JobFault, whole: &[u8]) -> bool {
     match ran.end {
         Ok(_) => false,
@@ -21,8 +23,8 @@ fn stopped(ran: &Ran, fault: JobFault, whole: &[u8]) -> bool {
     }
 }
 
-/// Whether so many bytes of the whole output were written in an event: all of the events before it, and of its own output nothing, or, where the writer
-/// failed, less than all.
+/// Whether so many bytes of the whole output were written in an event: all of the events before it,
+/// and of its own output nothing, or, where the writer failed, less than all.
 fn is_in_event(event: u64, fault: JobFault, whole: &[u8], written: usize) -> bool {
     if event == 0 {
         return fault == JobFault::NoMemory && written == 0;
@@ -63,8 +65,8 @@ fn try_rooms(alloc: Global, text: Script<'_>, whole: WholeRun<'_>, out: &mut Tol
     }
 }
 
-/// Whether a run that was refused memory stopped where memory may be wanted: in an event that takes memory, or, for the network or the reader, before
-/// the first.
+/// Whether a run that was refused memory stopped where it may: in an event that takes memory, or,
+/// for the network or the reader, before the first.
 fn wanted_memory(ran: &Ran, script: &[u8], whole: &[u8]) -> bool {
     let Err(RunFault { event, cause }) = ran.end else {
         return false;
@@ -99,7 +101,7 @@ fn try_refusals(alloc: Global, text: Script<'_>, whole: WholeRun<'_>, out: &mut 
     }
 }
 
-/// Tells what was counted of a run.
+/// Writes what was counted of a run.
 pub(crate) fn tell_summary(summary: &Summary, out: &mut Told) {
     tell_count(b"-- ", summary.events, b" events, ", out);
     tell_count(b"", summary.refused, b" refused, ", out);
@@ -107,7 +109,7 @@ pub(crate) fn tell_summary(summary: &Summary, out: &mut Told) {
     tell_count(b"", summary.open_calls, b" open\n", out);
 }
 
-/// Tries the laws of a run, and tells what it counted or where it stopped.
+/// Tries the laws of a run, and writes what it counted or where it stopped.
 pub(crate) fn try_run_laws(alloc: Global, text: Script<'_>, whole: WholeRun<'_>, out: &mut Told) {
     try_reads(alloc, text, whole, out);
     try_rooms(alloc, text, whole, out);

@@ -3,11 +3,11 @@ use crate::cases::{End, Ends, Refusing};
 use std::alloc::{Allocator, Global};
 use tx_engine::Engine;
 use tx_jobs::JobFault;
-use tx_machine::Plain;
+use tx_plain::Plain;
 use tx_plan::Plan;
 use tx_plantext::read_plan;
 use tx_script::{RunCause, RunFault, Summary, run};
-use tx_text::{FaultKind, FrameFault, LineFault, MemorySink, MemorySource, TextFault};
+use tx_text::{FaultKind, FrameFault, MemorySink, MemorySource};
 
 /// The network that runs a script.
 #[derive(Clone, Copy)]
@@ -16,7 +16,8 @@ pub(crate) enum Over {
     Engine,
 }
 
-/// A plan, a script, how many numbers were given and events accepted before, and the network that runs it.
+/// A plan, a script, how many numbers were given and events accepted before, and the network that
+/// runs it.
 #[derive(Clone, Copy)]
 pub(crate) struct Script<'a> {
     pub plan: &'a [u8],
@@ -46,8 +47,8 @@ pub(crate) struct WholeRun<'a> {
     pub text: &'a [u8],
 }
 
-/// How a run ended, how many bytes it wrote, whether these are a front of what the whole run writes, and whether the request for memory came that was to be
-/// refused.
+/// How a run ended, how many bytes it wrote, whether these are a front of what the whole run
+/// writes, and whether the request for memory came that was to be refused.
 #[derive(Clone, Copy)]
 pub(crate) struct Ran {
     pub end: Result<Summary, RunFault>,
@@ -78,11 +79,7 @@ fn run_plain<A: Allocator + Copy>(
     out: &mut MemorySink,
 ) -> Result<Summary, RunFault> {
     match Plain::starting_at(alloc, plan, text.numbers, text.events) {
-        Ok(mut net) => {
-            let end = run(alloc, plan, &mut net, source, out);
-            drop(net);
-            end
-        }
+        Ok(mut net) => run(alloc, plan, &mut net, source, out),
         Err(_) => Err(NOT_BEGUN),
     }
 }
@@ -98,7 +95,6 @@ fn run_engine<A: Allocator + Copy>(
     match Engine::starting_at(alloc, plan, text.numbers, text.events) {
         Ok(mut net) => {
             let end = run(alloc, plan, &mut net, source, out);
-            net.close();
             end
         }
         Err(_) => Err(NOT_BEGUN),
@@ -127,16 +123,12 @@ pub(crate) fn run_text<A: Allocator + Copy>(
     out: &mut MemorySink,
 ) -> Result<Summary, RunFault> {
     match read_plan(alloc, text.plan) {
-        Ok(plan) => {
-            let end = run_over(alloc, &plan, text, source, out);
-            drop(plan);
-            end
-        }
+        Ok(plan) => run_over(alloc, &plan, text, source, out),
         Err(_) => Err(NOT_BEGUN),
     }
 }
 
-/// Runs a script into a room, and tells how it ran beside what is to be written.
+/// Runs a script into a room, and returns how it ran beside what is to be written.
 pub(crate) fn run_in_room(
     alloc: Global,
     text: Script<'_>,
@@ -158,11 +150,7 @@ pub(crate) fn run_in_room(
 /// How a script runs, beside what is to be written.
 pub(crate) fn run_beside(alloc: Global, text: Script<'_>, ends: Ends, whole: &[u8]) -> Ran {
     match MemorySink::new(alloc, ends.room) {
-        Ok(mut room) => {
-            let ran = run_in_room(alloc, text, ends, whole, &mut room);
-            drop(room);
-            ran
-        }
+        Ok(mut room) => run_in_room(alloc, text, ends, whole, &mut room),
         Err(_) => Ran {
             end: Err(NOT_BEGUN),
             written: 0,
@@ -179,9 +167,7 @@ pub(crate) fn told_cause(cause: RunCause) -> JobFault {
         RunCause::Write => JobFault::Write,
         RunCause::NoMemory => JobFault::NoMemory,
         RunCause::Script(fault) => match fault.kind {
-            FaultKind::Frame(FrameFault::Line(LineFault::Text(TextFault::NoMemory))) => {
-                JobFault::NoMemory
-            }
+            FaultKind::Frame(FrameFault::NoMemory) => JobFault::NoMemory,
             _ => JobFault::Script(fault),
         },
     }

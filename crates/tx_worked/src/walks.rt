@@ -1,5 +1,7 @@
-// Judges the ranking by brute force. It makes all plans of a family, goes every walk of each of their codes, and compares what these show with what
-// the ranking and the grade answer. It runs the events of each finding over the plain network too, and judges by the replies whether they show it.
+// Judges the ranking by brute force. It makes all plans of a family, goes every walk of each of
+// their codes, and compares what these show with what the ranking and the grade answer. It runs the
+// events of each finding over the plain network too, and judges by the replies whether they show
+// it.
 
 mod compare;
 mod grades;

@@ -20,7 +20,7 @@ pub(crate) enum Part {
     Calls(usize),
 }
 
-/// Tells what a run writes, and what it counts or the event and the cause that stop it.
+/// Writes what a run writes, and what it counts or the event and the cause that stop it.
 fn tell_run(whole: WholeRun<'_>, out: &mut Told) {
     tell(whole.text, out);
     match whole.end {
@@ -48,5 +48,4 @@ pub(crate) fn play_run(alloc: Global, part: Part, text: Script<'_>, out: &mut To
         Part::Rooms => list_rooms(alloc, text, whole.text, out),
         Part::Calls(piece) => list_calls(alloc, text, piece, whole, out),
     }
-    drop(written);
 }

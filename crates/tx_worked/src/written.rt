@@ -4,15 +4,14 @@ use std::alloc::{Allocator, Global};
 use tx_cert::{Cert, CertFault, CertWord, read_cert, read_cert_from, write_cert};
 use tx_plan::{CodeId, ExchangeId, Plan};
 use tx_plantext::{read_plan, write_plan};
-use tx_text::{FaultKind, FrameFault, LineFault, MemorySource, TextFault};
+use tx_text::{FaultKind, FrameFault, MemorySource};
 
 /// Whether two certificates of the plan give the same ranks.
 fn same_ranks(plan: &Plan, one: &Cert, other: &Cert) -> bool {
-    plan.rules();
     for code in 0..plan.codes() {
         for exchange in 0..plan.exchanges() {
-            let code = CodeId::at(code as u16);
-            let exchange = ExchangeId::at(exchange as u16);
+            let code = CodeId::of(code);
+            let exchange = ExchangeId::of(exchange);
             if one.rank(code, exchange) != other.rank(code, exchange) {
                 return false;
             }
@@ -24,11 +23,7 @@ fn same_ranks(plan: &Plan, one: &Cert, other: &Cert) -> bool {
 /// Whether what was read is a certificate with the same ranks.
 fn is_same(plan: &Plan, cert: &Cert, read: Result<Cert, CertFault>) -> bool {
     match read {
-        Ok(back) => {
-            let is_same = same_ranks(plan, cert, &back);
-            drop(back);
-            is_same
-        }
+        Ok(back) => same_ranks(plan, cert, &back),
         Err(_) => false,
     }
 }
@@ -53,7 +48,6 @@ fn write_new(alloc: Global, plan: &Plan, out: &mut Told) {
     match Cert::new(alloc, plan) {
         Ok(cert) => {
             let _ = write_cert(&cert, plan, out);
-            drop(cert);
         }
         Err(_) => tell_broken(b"no memory", 0, out),
     }
@@ -77,7 +71,6 @@ fn write_back_cert(alloc: Global, plan: &Plan, text: &[u8], out: &mut Told) {
                 tell_broken(b"not the same in pieces", 0, out);
             }
             write_and_read(alloc, plan, &cert, out);
-            drop(cert);
         }
         Err(_) => tell_broken(b"no certificate", 0, out),
     }
@@ -90,32 +83,26 @@ const NO_MEMORY: CertFault = CertFault {
 
 const NO_BUFFER: CertFault = CertFault {
     line: 1,
-    kind: FaultKind::Frame(FrameFault::Line(LineFault::Text(TextFault::NoMemory))),
+    kind: FaultKind::Frame(FrameFault::NoMemory),
 };
 
-/// Whether memory is wanting for a new certificate.
+/// Whether memory runs out for a new certificate.
 fn new_wants<A: Allocator>(alloc: A, plan: &Plan<A>) -> bool {
     match Cert::new(alloc, plan) {
-        Ok(cert) => {
-            drop(cert);
-            false
-        }
+        Ok(_) => false,
         Err(_) => true,
     }
 }
 
-/// Whether memory was wanting for a certificate that was read.
+/// Whether memory ran out for a certificate that was read.
 fn has_wanted<A: Allocator>(read: Result<Cert<A>, CertFault>) -> bool {
     match read {
-        Ok(cert) => {
-            drop(cert);
-            false
-        }
+        Ok(_) => false,
         Err(fault) => fault == NO_MEMORY || fault == NO_BUFFER,
     }
 }
 
-/// Whether memory is wanting for a new certificate, or for one that is read, at once or in pieces.
+/// Whether memory runs out for a new certificate, or for one that is read, at once or in pieces.
 fn cert_wants<A: Allocator + Copy>(alloc: A, plan: &Plan<A>, cert: &[u8]) -> bool {
     let mut source = MemorySource::new(cert, 7, None);
     new_wants(alloc, plan)
@@ -123,14 +110,10 @@ fn cert_wants<A: Allocator + Copy>(alloc: A, plan: &Plan<A>, cert: &[u8]) -> boo
         || has_wanted(read_cert_from(alloc, &mut source, plan))
 }
 
-/// Whether memory is wanting for a plan, which is a good one, or for its certificate.
+/// Whether memory runs out for a plan, which is a good one, or for its certificate.
 fn wants<A: Allocator + Copy>(alloc: A, plan: &[u8], cert: &[u8]) -> bool {
     match read_plan(alloc, plan) {
-        Ok(plan) => {
-            let wants = cert_wants(alloc, &plan, cert);
-            drop(plan);
-            wants
-        }
+        Ok(plan) => cert_wants(alloc, &plan, cert),
         Err(_) => true,
     }
 }
@@ -156,7 +139,6 @@ pub(crate) fn play_cert(alloc: Global, plan: &[u8], cert: &[u8], out: &mut Told)
         Ok(plan) => {
             write_new(alloc, &plan, out);
             write_back_cert(alloc, &plan, cert, out);
-            drop(plan);
         }
         Err(_) => tell_broken(b"no plan", 0, out),
     }
@@ -167,7 +149,6 @@ pub(crate) fn play_cert(alloc: Global, plan: &[u8], cert: &[u8], out: &mut Told)
 fn write_again(alloc: Global, plan: &[u8], out: &mut Told) {
     if let Ok(plan) = read_plan(alloc, plan) {
         let _ = write_plan(&plan, out);
-        drop(plan);
     }
 }
 

@@ -17,11 +17,11 @@ pub record IsTable (t : Table) : Type 0 where
   pub places : length t.ranks ≡ t.codes * t.exchanges
   pub small : All (λ r. IfSome r (λ n. n ≤ 65535)) t.ranks
 
--- where the rank of an exchange for a code stands, among so many exchanges
+-- where the rank of an exchange for a code is, among so many exchanges
 abbrev pub place_of : ℕ → Pair → ℕ
 place_of exchanges pair = pair.0 * exchanges + pair.1
 
--- the rank that stands there, and none for a foreign code or exchange
+-- the rank that is there, and none for a foreign code or exchange
 abbrev pub rank_in : Table → Pair → Option ℕ
 rank_in t pair =
     if nat_lt pair.0 t.codes && nat_lt pair.1 t.exchanges
@@ -44,6 +44,7 @@ unfoldable pub ranks_in : Table → FinMap pair_cmp ℕ
 ranks_in t =
     from_entries (flat_map (λ pair. entry_of pair (rank_in t pair)) (pairs t.codes t.exchanges))
 
+-- the certificate that a table stands for
 abbrev pub certificate_of : Table → Certificate
 certificate_of t = record { codes = t.codes; exchanges = t.exchanges; ranks = ranks_in t }
 

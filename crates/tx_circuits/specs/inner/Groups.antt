@@ -1,16 +1,16 @@
 -- The groups of a plan with the states of their circuits, and how they are kept in one vector.
 use Rattle.std.specs.Prelude.{◌≡◌, ℕ, zero, suc, ◌+◌, ◌<◌, ◌≤◌, Bool, false, ◌&&◌, ◌==◌, if◌then◌else◌, List, [], ◌∷◌, map, length, find, replicate, Option, Some, None, option_and_then, slice_get, slice_set, ◌⊎◌}
 use Rattle.std.specs.List.{between}
-use Rattle.tx_entries.specs.declared.circuit.Circuit.{Circuit}
+use Rattle.tx_plan.specs.declared.ids.Circuit.{Circuit}
 use Rattle.tx_plan.specs.Circuits.{is_both}
-use Rattle.tx_circuits.specs.declared.free_lists.End.{End}
-use Rattle.tx_circuits.specs.declared.free_lists.End.TheVariants.{First, Other}
-use Rattle.tx_circuits.specs.declared.free_lists.Way.{Way}
-use Rattle.tx_circuits.specs.declared.free_lists.Way.TheVariants.{Up, Down}
-use Rattle.tx_circuits.specs.declared.state.State.{State}
+use Rattle.tx_circuits.specs.declared.lists.End.{End}
+use Rattle.tx_circuits.specs.declared.lists.End.TheVariants.{First, Other}
+use Rattle.tx_circuits.specs.declared.lists.Way.{Way}
+use Rattle.tx_circuits.specs.declared.lists.Way.TheVariants.{Up, Down}
+use Rattle.tx_circuits.specs.declared.slot.State.{State}
 use Rattle.tx_circuits.specs.declared.slot.Slot.{Slot}
-use Rattle.tx_circuits.specs.declared.group_head.GroupHead.{GroupHead}
-use Rattle.tx_circuits.specs.declared.row.Row.{Row}
+use Rattle.tx_circuits.specs.declared.groups.GroupHead.{GroupHead}
+use Rattle.tx_circuits.specs.declared.groups.Row.{Row}
 use Rattle.tx_circuits.specs.inner.Slots.{state_of, free_in, in_order, IsSound}
 
 -- a group, with the states of its circuits in order of number
@@ -20,7 +20,8 @@ pub record GroupState : Type 0 where
 
 -- the end at which an exchange seizes, if it may
 abbrev pub seizing_end : GroupHead → ℕ → Option End
-seizing_end t x = if t.a == x then Some First else if is_both t.direction && (t.b == x) then Some Other else None
+seizing_end t x = if t.a == x then Some First
+    else if is_both t.direction && (t.b == x) then Some Other else None
 
 -- the entry of a number, counted from 1
 abbrev pub numbered : {A : Type 0} → List A → ℕ → Option A
@@ -46,12 +47,15 @@ abbrev pub set_numbered : {A : Type 0} → List A → ℕ → A → List A
 set_numbered xs zero y = xs
 set_numbered xs (suc n) y = slice_set xs n y
 
+-- the group with another state of a circuit
 abbrev pub with_state : Circuit → State → GroupState → GroupState
 with_state x to t = record t { states = set_numbered t.states x.number to }
 
+-- the group, failed or not
 abbrev pub with_failed : Bool → GroupState → GroupState
 with_failed to t = record t { head = record t.head { failed = to } }
 
+-- the group, blocked or not
 abbrev pub with_blocked : Bool → GroupState → GroupState
 with_blocked to t = record t { head = record t.head { blocked = to } }
 
@@ -66,10 +70,15 @@ first_place t end = find (free_in end t.states) (in_order (way_of end) (length t
 
 -- where no call holds a circuit, and it is in service
 abbrev pub idle : State
-idle = record { seized_first = false; seized_other = false; carried = false; releasing = false; out = false }
+idle = record {
+  seized_first = false;
+  seized_other = false;
+  carried = false;
+  releasing = false;
+  out = false;
+}
 
--- ALL CIRCUITS IN ONE VECTOR, GROUP BY GROUP
-
+-- the slots of a group
 abbrev pub group_slots : List Slot → Row → List Slot
 group_slots slots r = between r.start (r.start + r.count) slots
 
@@ -77,6 +86,7 @@ group_slots slots r = between r.start (r.start + r.count) slots
 abbrev pub states_in : List Slot → Row → List State
 states_in slots r = map state_of (group_slots slots r)
 
+-- a group with the states that its slots say
 abbrev pub group_state : List Slot → Row → GroupState
 group_state slots r = record { head = r.head; states = states_in slots r }
 
@@ -92,11 +102,13 @@ OthersStay old new r = (s : Row) → AreApart r s → group_slots new s ≡ grou
 -- end, the links followed from the head give the circuits that are free there, in that end's order.
 pub record AreKept (slots : List Slot) (rows : List Row) : Type 0 where
   pub within : (g : ℕ) (r : Row) → slice_get rows g ≡ Some r → r.start + r.count ≤ length slots
-  pub apart : (g h : ℕ) (r s : Row) → slice_get rows g ≡ Some r → slice_get rows h ≡ Some s → g < h → r.start + r.count ≤ s.start
+  pub apart : (g h : ℕ) (r s : Row) → slice_get rows g ≡ Some r
+      → slice_get rows h ≡ Some s → g < h → r.start + r.count ≤ s.start
   pub sound : (g : ℕ) (r : Row) → slice_get rows g ≡ Some r → IsSound (group_slots slots r) r.lists
 
--- The slots of one group more, all idle, stand behind those of the others.
-pub record IsAppended (old new : List Slot) (head : GroupHead) (count : ℕ) (row : Row) : Type 0 where
+-- The slots of one group more, all idle, are after those of the others.
+pub record IsAppended (old new : List Slot) (head : GroupHead)
+    (count : ℕ) (row : Row) : Type 0 where
   pub head_is : row.head ≡ head
   pub start_is : row.start ≡ length old
   pub count_is : row.count ≡ count

@@ -1,4 +1,5 @@
--- Lists of free places, linked in an order: `free` tells the places, `rank` the order, and `next` what follows a place, or begins the list.
+-- Lists of free places, linked in an order: `free` says which they are, `rank` in which order, and
+-- `next` what follows a place, or begins the list.
 use Rattle.std.specs.Prelude.{◌≡◌, ℕ, ◌+◌, ◌<◌, ◌≤◌, ◌==◌, Bool, true, cond, List, [], ◌∷◌, Option, Some, None}
 
 -- the links followed from a place give exactly this list
@@ -14,12 +15,14 @@ module _ (free : ℕ → Bool) (rank : ℕ → ℕ) where
   -- the first free place whose rank is not below `low`
   abbrev pub IsFirst : ℕ → Option ℕ → Type 0
   IsFirst low None = (k : ℕ) → free k ≡ true → rank k < low
-  IsFirst low (Some j) = (free j ≡ true) × (low ≤ rank j) × ((k : ℕ) → free k ≡ true → low ≤ rank k → rank j ≤ rank k)
+  IsFirst low (Some j) = (free j ≡ true) × (low ≤ rank j)
+      × ((k : ℕ) → free k ≡ true → low ≤ rank k → rank j ≤ rank k)
 
   -- the last free place whose rank is below `high`
   abbrev pub IsLast : ℕ → Option ℕ → Type 0
   IsLast high None = (k : ℕ) → free k ≡ true → high ≤ rank k
-  IsLast high (Some p) = (free p ≡ true) × (rank p < high) × ((k : ℕ) → free k ≡ true → rank k < high → rank k ≤ rank p)
+  IsLast high (Some p) = (free p ≡ true) × (rank p < high)
+      × ((k : ℕ) → free k ≡ true → rank k < high → rank k ≤ rank p)
 
   -- the first free place begins the list, and each free place is followed by the next
   pub record IsLinked (next : Option ℕ → Option ℕ) : Type 0 where

@@ -5,9 +5,9 @@ use Rattle.std.specs.declared.cmp.Ordering.{Ordering}
 use Rattle.std.specs.FinSet as set
 use Rattle.tx_plan.specs.Plan.{Group}
 use Rattle.tx_plan.specs.Circuits.{upward}
-use Rattle.tx_entries.specs.declared.circuit.Circuit.{Circuit}
-use Rattle.tx_circuits.specs.declared.state.State.{State}
-use Rattle.tx_circuits.specs.declared.group_head.GroupHead.{GroupHead}
+use Rattle.tx_plan.specs.declared.ids.Circuit.{Circuit}
+use Rattle.tx_circuits.specs.declared.slot.State.{State}
+use Rattle.tx_circuits.specs.declared.groups.GroupHead.{GroupHead}
 use Rattle.tx_circuits.specs.inner.Slots.{has_seized, rising}
 use Rattle.tx_circuits.specs.inner.Groups.{GroupState, state_at, end_at}
 use Rattle.tx_circuits.specs.Table.{Table, Seat}
@@ -16,8 +16,15 @@ use Rattle.tx_circuits.specs.Table.{Table, Seat}
 abbrev pub those : {K : Type 0} {R : K → K → Ordering} → (K → Bool) → List K → set.FinSet R
 those p xs = set.from_list (filter p xs)
 
+-- a group as the plan has it, without its name
 abbrev pub group_of : GroupState → Group
-group_of t = record { name = []; a = t.head.a; b = t.head.b; direction = t.head.direction; count = length t.states }
+group_of t = record {
+  name = [];
+  a = t.head.a;
+  b = t.head.b;
+  direction = t.head.direction;
+  count = length t.states;
+}
 
 -- the circuits of a group
 abbrev pub circuits_of : ℕ → GroupState → List Circuit
@@ -25,7 +32,8 @@ circuits_of g t = map (λ n. record { group = g; number = n }) (upward (length t
 
 -- both ends of each
 abbrev pub seats_of : ℕ → GroupState → List Seat
-seats_of g t = map (λ c. (c, t.head.a)) (circuits_of g t) ++ map (λ c. (c, t.head.b)) (circuits_of g t)
+seats_of g t = map (λ c. (c, t.head.a)) (circuits_of g t)
+    ++ map (λ c. (c, t.head.b)) (circuits_of g t)
 
 -- what each group gives, with its place
 abbrev pub gathered : {K : Type 0} → (ℕ → GroupState → List K) → ℕ → List GroupState → List K
@@ -36,12 +44,15 @@ gathered f g (t ∷ ts) = f g t ++ gathered f (suc g) ts
 abbrev pub is_marked : (GroupHead → Bool) → List GroupState → ℕ → Bool
 is_marked test ts g = option_map_or (λ t. test t.head) (slice_get ts g) false
 
+-- a test holds of the state of a circuit, and of no foreign one
 abbrev pub holds : (State → Bool) → List GroupState → Circuit → Bool
 holds test ts c = option_map_or test (state_at ts c) false
 
+-- the exchange of an end has seized its circuit
 abbrev pub sits : List GroupState → Seat → Bool
 sits ts s = option_map_or (λ end. holds (has_seized end) ts s.0) (end_at ts s.0.group s.1) false
 
+-- the groups as sets
 abbrev pub table_of : List GroupState → Table
 table_of ts = record {
   groups = map group_of ts;

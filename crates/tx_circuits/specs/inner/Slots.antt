@@ -1,28 +1,32 @@
 -- What the slots of a group say of its circuits. Circuit number n is at place n - 1.
 use Rattle.std.specs.Prelude.{ℕ, zero, suc, ◌-◌, ◌≤◌, Bool, false, not, ◌&&◌, List, [], ◌∷◌, ◌++◌, map, filter, length, nat_lt, Option, Some, None, slice_index_or}
-use Rattle.tx_circuits.specs.declared.free_lists.End.{End}
-use Rattle.tx_circuits.specs.declared.free_lists.End.TheVariants.{First, Other}
-use Rattle.tx_circuits.specs.declared.free_lists.Way.{Way}
-use Rattle.tx_circuits.specs.declared.free_lists.Way.TheVariants.{Up, Down}
-use Rattle.tx_circuits.specs.declared.state.State.{State}
-use Rattle.tx_circuits.specs.declared.free_lists.Links.{Links}
+use Rattle.tx_circuits.specs.declared.lists.End.{End}
+use Rattle.tx_circuits.specs.declared.lists.End.TheVariants.{First, Other}
+use Rattle.tx_circuits.specs.declared.lists.Way.{Way}
+use Rattle.tx_circuits.specs.declared.lists.Way.TheVariants.{Up, Down}
+use Rattle.tx_circuits.specs.declared.slot.State.{State}
+use Rattle.tx_circuits.specs.declared.lists.Links.{Links}
 use Rattle.tx_circuits.specs.declared.slot.Slot.{Slot}
-use Rattle.tx_circuits.specs.declared.free_lists.FreeList.{FreeList}
-use Rattle.tx_circuits.specs.declared.free_lists.FreeLists.{FreeLists}
+use Rattle.tx_circuits.specs.declared.lists.FreeList.{FreeList}
+use Rattle.tx_circuits.specs.declared.lists.FreeLists.{FreeLists}
 use Rattle.tx_circuits.specs.inner.Linked.{Follows, IsLinked, IsLast}
 
+-- the opposite end
 abbrev pub opposite : End → End
 opposite First = Other
 opposite Other = First
 
+-- the way back
 abbrev pub back : Way → Way
 back Up = Down
 back Down = Up
 
+-- the end has seized the circuit
 abbrev pub has_seized : End → State → Bool
 has_seized First s = s.seized_first
 has_seized Other s = s.seized_other
 
+-- the end has seized the circuit, or gave it up
 abbrev pub with_seized : End → Bool → State → State
 with_seized First to s = record s { seized_first = to }
 with_seized Other to s = record s { seized_other = to }
@@ -31,9 +35,11 @@ with_seized Other to s = record s { seized_other = to }
 abbrev pub is_free : End → State → Bool
 is_free end s = not s.carried && (not s.releasing && (not s.out && not (has_seized end s)))
 
+-- the state of a circuit
 abbrev pub state_of : Slot → State
 state_of s = s.state
 
+-- the links of a circuit in the list of an end
 abbrev pub links_of : End → Slot → Links
 links_of First s = s.first
 links_of Other s = s.other
@@ -48,6 +54,7 @@ abbrev pub begins : Way → FreeList → Option ℕ
 begins Up l = l.least
 begins Down l = l.greatest
 
+-- the list of an end
 abbrev pub list_of : End → FreeLists → FreeList
 list_of First l = l.first
 list_of Other l = l.other
@@ -57,14 +64,18 @@ abbrev pub rank_of : Way → ℕ → ℕ
 rank_of Up place = place
 rank_of Down place = 255 - place
 
+-- the circuit at a place is free at an end, by the states of all
 abbrev pub free_in : End → List State → ℕ → Bool
 free_in end states place = slice_index_or (map (is_free end) states) place false
 
+-- the circuit at a place is free at an end
 abbrev pub free_at : End → List Slot → ℕ → Bool
 free_at end slots place = free_in end (map state_of slots) place
 
+-- what comes after a place in the list of an end
 abbrev pub link_at : End → Way → List Slot → ℕ → Option ℕ
-link_at end way slots place = slice_index_or (map (λ s. ahead way (links_of end s)) slots) place None
+link_at end way slots place =
+    slice_index_or (map (λ s. ahead way (links_of end s)) slots) place None
 
 -- what follows a place in the list of an end, or begins the list
 abbrev pub chain : End → Way → List Slot → FreeList → Option ℕ → Option ℕ
@@ -77,8 +88,10 @@ IsListed free end slots list = (way : Way) → IsLinked free (rank_of way) (chai
 
 -- the neighbours that a place has, or would have, in a list
 abbrev pub AreNeighbours : (ℕ → Bool) → ℕ → Links → Type 0
-AreNeighbours free place links = (way : Way) → IsLast free (rank_of way) (rank_of way place) (ahead (back way) links)
+AreNeighbours free place links = (way : Way)
+    → IsLast free (rank_of way) (rank_of way place) (ahead (back way) links)
 
+-- the lists of both ends are linked so
 abbrev pub AreLinked : List Slot → FreeLists → Type 0
 AreLinked slots lists = (end : End) → IsListed (free_at end slots) end slots (list_of end lists)
 
@@ -87,20 +100,22 @@ abbrev pub rising : ℕ → List ℕ
 rising zero = []
 rising (suc n) = rising n ++ n ∷ []
 
+-- and falling
 abbrev pub falling : ℕ → List ℕ
 falling zero = []
 falling (suc n) = n ∷ falling n
 
+-- the places in a way
 abbrev pub in_order : Way → ℕ → List ℕ
 in_order Up n = rising n
 in_order Down n = falling n
 
--- THE FREE LISTS OF A GROUP
--- For each end, the links followed from the list's head give exactly the circuits that are free at that end: upward from the least in rising order,
--- and downward from the greatest in falling order.
+-- For each end, the links followed from the list's head give exactly the circuits that are free at
+-- that end: upward from the least in rising order, and downward from the greatest in falling order.
 pub record IsSound (slots : List Slot) (lists : FreeLists) : Type 0 where
   pub short : length slots ≤ 240
-  pub followed : (end : End) (way : Way) → Follows (chain end way slots (list_of end lists)) None (filter (free_at end slots) (in_order way (length slots)))
+  pub followed : (end : End) (way : Way) → Follows (chain end way slots (list_of end lists)) None
+      (filter (free_at end slots) (in_order way (length slots)))
 
 -- the free places below n alone
 abbrev pub until : ℕ → (ℕ → Bool) → ℕ → Bool
@@ -108,4 +123,10 @@ until n free k = nat_lt k n && free k
 
 -- no call holds the circuit any more; it stays out of service if it was
 abbrev pub cleared : State → State
-cleared s = record { seized_first = false; seized_other = false; carried = false; releasing = false; out = s.out }
+cleared s = record {
+  seized_first = false;
+  seized_other = false;
+  carried = false;
+  releasing = false;
+  out = s.out;
+}

@@ -9,7 +9,7 @@ use Rattle.tx_commands.specs.declared.command.Command.{Command}
 use Rattle.tx_commands.specs.declared.refusal.Refusal.{Refusal}
 use Rattle.tx_commands.specs.declared.refusal.Refusal.TheVariants.{Together, CheckedTelling, DrawTogether, NoSuchCode, InputTwice, Overwrites}
 
--- `run` has a certificate, and an option by which it tells more
+-- `run` has a certificate, and an option by which it prints more
 pub record IsCheckedTelling (name : List ℕ) (found : List Row) : Type 0 where
   pub run : name ≡ codes "run"
   pub checked : has found (codes "cert") ≡ true
@@ -38,7 +38,7 @@ IsClash command other = ⊥
 abbrev pub AskForClash : Option (List ℕ × List Row) → Refusal → Type 0
 AskForClash found refusal = (command : Command) × IsFoundIn found command × IsClash command refusal
 
--- The words that were found are refused for this. That a word is missing, and want of memory, are
+-- The words that were found are refused for this. That a word is missing, and lack of memory, are
 -- left open.
 abbrev pub IsRefused : Option (List ℕ × List Row) → Refusal → Type 0
 IsRefused command Together = IsSomeAnd command (λ c. IsRunInPart c.0 c.1)

@@ -1,15 +1,17 @@
 -- Two calls that meet on a circuit.
 use Rattle.std.specs.Prelude.{◌≡◌, ℕ, Some}
-use Rattle.tx_entries.specs.declared.circuit.Circuit.{Circuit}
-use Rattle.tx_state.specs.declared.phase.Phase.TheVariants.{Calling}
-use Rattle.tx_state.specs.Confirming.{rival, thrown_back}
+use Rattle.tx_plan.specs.declared.ids.Circuit.{Circuit}
+use Rattle.tx_machine.specs.declared.open_call.Phase.TheVariants.{Calling}
+use Rattle.tx_machine.specs.Confirming.{rival, thrown_back}
 use Rattle.tx_calls.specs.Calls.{Kept, Calls, kept_at}
 use Rattle.tx_engine.specs.declared.head_on.Met.{Met}
-use Rattle.tx_engine.specs.declared.parts.Parts.{Parts}
+use Rattle.tx_engine.specs.declared.engine.EngineState.{EngineState}
 use Rattle.tx_engine.specs.inner.Sound.{state_of}
 
--- the call under a key has seized a circuit that the call under another key has seized from its other end
-pub record AreMeeting {A : Type 0} (n : Parts A) (key other : ℕ) (x : Circuit) (k d : Kept) : Type 0 where
+-- the call under a key has seized a circuit that the call under another key has seized from its
+-- other end
+pub record AreMeeting {A : Type 0} (n : EngineState A)
+    (key other : ℕ) (x : Circuit) (k d : Kept) : Type 0 where
   pub one : kept_at n.calls key ≡ Some k
   pub two : kept_at n.calls other ≡ Some d
   pub calls : k.call.phase ≡ Calling x

@@ -1,23 +1,23 @@
 -- What holds of the parts of the engine together, and the state that they stand for.
-use Rattle.std.specs.Prelude.{◌≡◌, ℕ, ◌+◌, ◌-◌, ◌^◌, ◌<◌, ◌≤◌, ◌==◌, Bool, true, List, length, Some}
+use Rattle.std.specs.Prelude.{◌≡◌, ℕ, ◌+◌, ◌<◌, ◌≤◌, ◌==◌, Bool, true, List, length, Some}
 use Rattle.std.specs.VecDeque.{deque_len, deque_capacity}
 use Rattle.tx_plan.specs.Plan.{Plan, Code}
 use Rattle.tx_plan.specs.Rules.{IsPlan}
 use Rattle.tx_plan.specs.Lines.{is_line_at}
 use Rattle.tx_plan.specs.Circuits.{is_circuit, ends_of}
 use Rattle.tx_plan.specs.Among.{Among}
-use Rattle.tx_entries.specs.declared.circuit.Circuit.{Circuit}
-use Rattle.tx_state.specs.declared.phase.Phase.TheVariants.{Calling}
-use Rattle.tx_state.specs.Call.{place_of, call_of}
-use Rattle.tx_state.specs.State.{State}
-use Rattle.tx_state.specs.InUse.{circuits_carried}
+use Rattle.tx_plan.specs.declared.ids.Circuit.{Circuit}
+use Rattle.tx_machine.specs.declared.open_call.Phase.TheVariants.{Calling}
+use Rattle.tx_machine.specs.Call.{place_of, call_of}
+use Rattle.tx_machine.specs.State.{State}
+use Rattle.tx_machine.specs.InUse.{circuits_carried}
 use Rattle.tx_lines.specs.Book.{Book, is_line_of}
 use Rattle.tx_circuits.specs.Table.{Table}
-use Rattle.tx_calls.specs.Calls.{Kept, Calls, HasRoom, kept_at, calls_in}
+use Rattle.tx_calls.specs.Calls.{Kept, Calls, kept_at, calls_in}
 use Rattle.tx_calls.specs.inner.Keys.{HasKeys, keys_of, pick}
-use Rattle.tx_calls.specs.declared.end_keys.EndKeys.{EndKeys}
-use Rattle.tx_endings.specs.inner.Seen.{state_seen, AreTogether}
-use Rattle.tx_engine.specs.declared.parts.Parts.{Parts}
+use Rattle.tx_calls.specs.declared.circuit_keys.EndKeys.{EndKeys}
+use Rattle.tx_engine.specs.inner.Seen.{state_seen, AreTogether}
+use Rattle.tx_engine.specs.declared.engine.EngineState.{EngineState}
 
 -- the exchange is the first end of the circuit's group
 abbrev pub is_first_end : Plan → Circuit → ℕ → Bool
@@ -26,19 +26,25 @@ is_first_end p x place = (ends_of p x.group).0 == place
 -- the keys by circuit lead to the calls that seize or carry it
 pub record AreKeyed (p : Plan) (c : Calls) (ks : List (List EndKeys)) : Type 0 where
   pub all : (x : Circuit) → is_circuit p x ≡ true → HasKeys ks x
-  pub seizers : (key : ℕ) (e : Kept) → kept_at c key ≡ Some e → (x : Circuit) → e.call.phase ≡ Calling x → pick (is_first_end p x (place_of p e.call)) (keys_of ks x) ≡ key
-  pub carriers : (key : ℕ) (e : Kept) → kept_at c key ≡ Some e → (x : Circuit) → Among x (circuits_carried e.call) → (first : Bool) → pick first (keys_of ks x) ≡ key
+  pub seizers : (key : ℕ) (e : Kept) → kept_at c key ≡ Some e → (x : Circuit)
+      → e.call.phase ≡ Calling x → pick (is_first_end p x (place_of p e.call)) (keys_of ks x) ≡ key
+  pub carriers : (key : ℕ) (e : Kept) → kept_at c key ≡ Some e → (x : Circuit)
+      → Among x (circuits_carried e.call) → (first : Bool) → pick first (keys_of ks x) ≡ key
 
 -- a call that has seized a circuit has room for a hop
 abbrev pub HasHopRoom : Calls → Type 0
-HasHopRoom c = (key : ℕ) (e : Kept) → kept_at c key ≡ Some e → (x : Circuit) → e.call.phase ≡ Calling x → 0 < e.room
+HasHopRoom c = (key : ℕ) (e : Kept) → kept_at c key ≡ Some e
+    → (x : Circuit) → e.call.phase ≡ Calling x → 0 < e.room
 
--- The rules of the plan; its codes and lines; the circuits and lines that the calls hold, with what always holds of the calls; the keys by circuit;
+-- The rules of the plan; its codes and lines; the circuits and lines that the calls hold, with what
+-- always holds of the calls; the keys by circuit;
 -- room for the hop of a call that has seized a circuit; room for a ticket of each open call.
-pub record AreSound (p : Plan) (codes : List Code) (c : Calls) (ks : List (List EndKeys)) (b : Book) (t : Table) (numbers made room : ℕ) : Type 0 where
+pub record AreSound (p : Plan) (codes : List Code) (c : Calls)
+    (ks : List (List EndKeys)) (b : Book) (t : Table) (numbers made room : ℕ) : Type 0 where
   pub rules : IsPlan p
   pub codes_are : codes ≡ p.codes
-  pub lines : (code : ℕ) (number : List ℕ) → is_line_of b.ranges code number ≡ is_line_at p code number
+  pub lines : (code : ℕ) (number : List ℕ)
+      → is_line_of b.ranges code number ≡ is_line_at p code number
   pub together : AreTogether p (calls_in c) t b numbers
   pub keyed : AreKeyed p c ks
   pub hop_room : HasHopRoom c
@@ -46,19 +52,16 @@ pub record AreSound (p : Plan) (codes : List Code) (c : Calls) (ks : List (List 
 
 module _ {A : Type 0} where
   -- the parts are sound
-  abbrev pub IsSound : Parts A → Type 0
-  IsSound n = AreSound n.plan.now n.codes n.calls n.keys n.lines n.circuits n.numbers (deque_len n.tickets) (deque_capacity n.tickets)
+  abbrev pub IsSound : EngineState A → Type 0
+  IsSound n = AreSound n.plan.now n.codes n.calls n.keys n.lines n.circuits n.numbers
+      (deque_len n.tickets) (deque_capacity n.tickets)
 
   -- there is room for the tickets of the open calls and of one more
-  abbrev pub HasTicketRoom : Parts A → Type 0
+  abbrev pub HasTicketRoom : EngineState A → Type 0
   HasTicketRoom n = deque_len n.tickets + (length (calls_in n.calls) + 1) ≤ deque_capacity n.tickets
 
-  -- a call can be opened at once: neither numbers nor events are spent, and there is room for it and for its ticket
-  abbrev pub IsReady : Parts A → Type 0
-  IsReady n = (n.numbers < 2 ^ 32 - 1) × (n.events < 2 ^ 64 - 1) × HasRoom n.calls × HasTicketRoom n
-
   -- the state that the parts stand for
-  abbrev pub state_of : Parts A → State
+  abbrev pub state_of : EngineState A → State
   state_of n = state_seen (calls_in n.calls) n.circuits n.lines n.numbers n.events n.tickets.items
 
 -- the open call of a number is kept under a key

@@ -5,13 +5,13 @@ use Rattle.std.specs.FinSet as set
 use Rattle.indexmap.specs.IndexMap as index
 use Rattle.indexmap.specs.IndexMap.{IndexMap}
 use Rattle.tx_plan.specs.Orders.{same_line, line_cmp}
-use Rattle.tx_entries.specs.declared.line.Line.{Line}
-use Rattle.tx_entries.specs.declared.range.LineRange.{LineRange}
+use Rattle.tx_plan.specs.declared.ids.Line.{Line}
+use Rattle.tx_plan.specs.declared.range.LineRange.{LineRange}
 use Rattle.tx_lines.specs.Book.{Book, switched}
 use Rattle.tx_lines.specs.Status.{has, is_unmarked, unmarked}
-use Rattle.tx_lines.specs.declared.status.Status.{Status}
-use Rattle.tx_lines.specs.declared.status.Mark.{Mark}
-use Rattle.tx_lines.specs.declared.status.Mark.TheVariants.{Faulty, Away, Engaged}
+use Rattle.tx_lines.specs.declared.book.Status.{Status}
+use Rattle.tx_lines.specs.declared.book.Mark.{Mark}
+use Rattle.tx_lines.specs.declared.book.Mark.TheVariants.{Faulty, Away, Engaged}
 
 -- the book with a mark of the line set or taken away
 abbrev pub with_mark_of : Line → Mark → Bool → Book → Book
@@ -40,6 +40,7 @@ module _ {S : Type 0} where
   abbrev pub with_status : (Status → Bool) → IndexMap Line Status S → set.FinSet line_cmp
   with_status test m = set.from_list (filter (passes test m) (index.keys m))
 
+  -- the book of ranges and of a map from lines to statuses
   abbrev pub book_of : List LineRange → IndexMap Line Status S → Book
   book_of ranges m = record {
     ranges = ranges;

@@ -10,10 +10,11 @@ use Rattle.tx_lint.specs.Warnings.{Coming, TellsWhereCallsCome, is_listed}
 abbrev pub comes_by : List (List Bool) → Coming
 comes_by marks c x = option_map_or (λ m. is_marked m x) (slice_get marks c) false
 
+-- where calls come, by the marks
 abbrev pub coming_of : {A : Type 0} → Marks A → Coming
 coming_of m = comes_by (map (λ v. v.items) m.coming.items)
 
--- where calls come is marked, and which groups stand in a list
+-- where calls come is marked, and which groups are in a list
 pub record AreMarksOf {A : Type 0} (p : Plan) (m : Marks A) : Type 0 where
   pub coming : TellsWhereCallsCome p (coming_of m)
   pub listed : (g : ℕ) → is_marked m.listed.items g ≡ is_listed p g

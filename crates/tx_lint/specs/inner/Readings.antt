@@ -10,6 +10,7 @@ use Rattle.tx_lint.specs.declared.lines.Reading.{Reading}
 use Rattle.tx_lint.specs.AllFaults.{Fault, Progress, fault_in_line, fault_of_line, line_on, faults_of, progress_of}
 use Rattle.tx_lint.specs.Lints.{fault_held}
 
+-- what was read, as it is held
 abbrev pub progress_held : {A : Type 0} → Reading A → Progress
 progress_held r = record {
   part = r.part;
@@ -18,10 +19,11 @@ progress_held r = record {
   entries = r.entries.items;
 }
 
+-- the faults, as they are held
 abbrev pub faults_held : {A : Type 0} → Reading A → List Fault
 faults_held r = map fault_held r.faults.items
 
--- a line is told to be at fault
+-- a line is reported to be at fault
 abbrev pub Told : {A : Type 0} → Reading A → Reading A → Line → FaultKind PlanWord → Type 0
 Told old new l kind = faults_held new
     ≡ faults_held old ++ fault_in_line (progress_held old) l.number (words_of l.bytes) kind ∷ []

@@ -15,6 +15,7 @@ present_pairs p = map (λ r. (r.exchange, r.code)) p.routes
 abbrev pub pairs_for : ℕ → ℕ → List (ℕ × ℕ)
 pairs_for n c = map (λ x. (x, c)) (places n)
 
+-- a pair has no route
 abbrev pub is_absent : Plan → ℕ × ℕ → Bool
 is_absent p k = not (has_route p k.0 k.1)
 

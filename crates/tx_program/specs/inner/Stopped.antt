@@ -6,7 +6,7 @@ use Rattle.tx_jobs.specs.SurviveFaults.{status_of_survive}
 use Rattle.tx_program.specs.declared.command_fault.CommandFault.{CommandFault}
 use Rattle.tx_program.specs.declared.command_fault.CommandFault.TheVariants.{Job, Change, Survive, NoSuchExchange, NoSuchCode}
 
--- 64 for an exchange or a code that the plan has not
+-- 64 for an exchange or a code that the plan does not have
 abbrev pub status_of_command : CommandFault → ℕ
 status_of_command (Job fault) = status_of fault
 status_of_command (Change fault) = status_of_change fault

@@ -1,4 +1,5 @@
--- The parts of what the ranking of one code adds to the findings, and what is kept from code to code.
+-- The parts of what the ranking of one code adds to the findings, and what is kept from code to
+-- code.
 use Rattle.std.specs.Prelude.{◌≡◌, ◌≢◌, ℕ, ◌+◌, ◌<◌, ◌≤◌, true, List, [], ◌++◌, length, map, Option, Some, None}
 use Rattle.tx_plan.specs.Plan.{Plan}
 use Rattle.tx_plan.specs.Ambiguous.{ambiguous_of}
@@ -47,15 +48,18 @@ module _ {A : Type 0} where
     pub each : (w : Walk) → Among w walks → IsShort n spare w.start w.steps
     pub order : EachPair (λ x y. x < y) (map end_at walks)
     pub below : (y : ℕ) → Among y (map end_at walks) → y < i
-    pub all : (x : ℕ) (steps : List (ℕ × ℕ)) → IsShort n spare x steps → end_of x steps < i → Among (end_of x steps) (map end_at walks)
+    pub all : (x : ℕ) (steps : List (ℕ × ℕ)) → IsShort n spare x steps
+        → end_of x steps < i → Among (end_of x steps) (map end_at walks)
 
   -- the codes before c were ranked
-  pub record IsRankedBelow (p : Plan) (limit spare c : ℕ) (cert : Certificate) (findings : List (Finding A)) : Type 0 where
+  pub record IsRankedBelow (p : Plan) (limit spare c : ℕ)
+      (cert : Certificate) (findings : List (Finding A)) : Type 0 where
     pub rest : List (Finding A)
     pub joined : findings ≡ pair_findings (ambiguous_of p.codes) ++ rest
     pub listed : AreFindingsBelow p limit spare c rest
     pub heights : rest ≡ [] → (d : ℕ) → d < c → RanksByHeight (net_of p d) (rank_at cert d)
-    pub certified : rest ≡ [] → (d : ℕ) → d < c → Certifies (net_of p d) (rank_at cert d) limit spare
+    pub certified : rest ≡ [] → (d : ℕ) → d < c
+        → Certifies (net_of p d) (rank_at cert d) limit spare
     pub blank : (d x : ℕ) → c ≤ d → rank_at cert d x ≡ None
     pub codes : cert.codes ≡ length p.codes
     pub exchanges : cert.exchanges ≡ length p.exchanges

@@ -13,6 +13,7 @@ use Rattle.tx_rank.specs.declared.explore.Progress.TheVariants.{More, Done, Clos
 use Rattle.tx_rank.specs.declared.mark.Mark.{Mark}
 use Rattle.tx_rank.specs.declared.mark.Mark.TheVariants.{Unseen, Open, Ranked}
 
+-- the rank of a mark
 abbrev pub rank_of : Mark → Option ℕ
 rank_of Unseen = None
 rank_of Open = None
@@ -24,9 +25,11 @@ cost_of Unseen = 2
 cost_of Open = 1
 cost_of (Ranked r) = 0
 
+-- the rank of an exchange
 abbrev pub rank_in : List Mark → ℕ → Option ℕ
 rank_in marks x = option_and_then rank_of (slice_get marks x)
 
+-- the costs of all marks together
 abbrev pub cost : List Mark → ℕ
 cost [] = 0
 cost (m ∷ marks) = cost_of m + cost marks
@@ -35,9 +38,8 @@ cost (m ∷ marks) = cost_of m + cost marks
 pub record IsSettled (n : Net) (ranks : ℕ → Option ℕ) (x r : ℕ) : Type 0 where
   pub positive : 0 < r
   pub lower : (g : ℕ) → Among g (n.list x) → LeadsBelow n ranks x r g
-  pub tight : (r ≡ 1) ⊎ ((g : ℕ) × (y : ℕ) × (m : ℕ) × Among g (n.list x) × (n.far g x ≡ Some y) × (ranks y ≡ Some m) × (suc m ≡ r))
-
--- WHAT A PASS KEEPS
+  pub tight : (r ≡ 1) ⊎ ((g : ℕ) × (y : ℕ) × (m : ℕ)
+      × Among g (n.list x) × (n.far g x ≡ Some y) × (ranks y ≡ Some m) × (suc m ≡ r))
 
 -- of the marks: the ranked exchanges are those whose walks were all gone over
 pub record IsMarked (n : Net) (marks : List Mark) : Type 0 where
@@ -72,7 +74,8 @@ pub record IsOnward (n : Net) (marks : List Mark) (x : ℕ) (s : ℕ × ℕ) : T
 -- these groups of x lead to ranks of at most top, and one of them to top, unless that is 0
 pub record IsTop (n : Net) (marks : List Mark) (x : ℕ) (groups : List ℕ) (top : ℕ) : Type 0 where
   pub lower : (g : ℕ) → Among g groups → LeadsBelow n (rank_in marks) x (suc top) g
-  pub tight : (top ≡ 0) ⊎ ((g : ℕ) × (y : ℕ) × Among g groups × (n.far g x ≡ Some y) × (rank_in marks y ≡ Some top))
+  pub tight : (top ≡ 0)
+      ⊎ ((g : ℕ) × (y : ℕ) × Among g groups × (n.far g x ≡ Some y) × (rank_in marks y ≡ Some top))
 
 -- the list of x, of which the first groups lead to ranks of at most top
 pub record IsTried (n : Net) (marks : List Mark) (x : ℕ) (t : Tried) : Type 0 where
@@ -87,8 +90,10 @@ AreTried n marks [] (t ∷ ts) = ⊥
 AreTried n marks (x ∷ xs) [] = ⊥
 AreTried n marks (x ∷ xs) (t ∷ ts) = IsTried n marks x t × AreTried n marks xs ts
 
--- what was tried on the walk in hand: the lists of the exchanges before the last, and that of the last
-pub record IsTrail (n : Net) (marks : List Mark) (start : ℕ) (steps : List (ℕ × ℕ)) (before : List Tried) (last : Tried) : Type 0 where
+-- what was tried on the walk in hand: the lists of the exchanges before the last, and that of the
+-- last
+pub record IsTrail (n : Net) (marks : List Mark)
+    (start : ℕ) (steps : List (ℕ × ℕ)) (before : List Tried) (last : Tried) : Type 0 where
   pub lists : AreTried n marks (before_end start steps) before
   pub list : IsTried n marks (end_of start steps) last
 
@@ -124,8 +129,6 @@ pub record IsPassing (n : Net) (marks : List Mark) (i : ℕ) : Type 0 where
   pub none : NoneOpen marks
   pub origins : (x : ℕ) → x < i → n.is_origin x ≡ true → (r : ℕ) × (rank_in marks x ≡ Some r)
 
--- WHAT A PASS LEAVES THAT MET NO LOOP
-
 -- of ranks: those that walks pass are ranked by what their lists lead to
 pub record AreSettled (n : Net) (ranks : ℕ → Option ℕ) : Type 0 where
   pub home : ranks n.home ≡ Some 0
@@ -135,11 +138,14 @@ pub record AreSettled (n : Net) (ranks : ℕ → Option ℕ) : Type 0 where
   pub low : (x r : ℕ) → ranks x ≡ Some r → r ≤ 2 * n.exchanges
   pub within : (x r : ℕ) → ranks x ≡ Some r → x < n.exchanges
 
+-- a pass is over that met no loop
 pub record IsPassed (n : Net) (marks : List Mark) : Type 0 where
   pub long : length marks ≡ n.exchanges
   pub ranks : AreSettled n (rank_in marks)
 
 -- a group of these that leads from x to this rank, or none
 abbrev pub IsLower : Net → (ℕ → Option ℕ) → ℕ → List ℕ → ℕ → Option (ℕ × ℕ) → Type 0
-IsLower n ranks x groups rank None = (g y : ℕ) → Among g groups → n.far g x ≡ Some y → ranks y ≡ Some rank → ⊥
-IsLower n ranks x groups rank (Some s) = Among s.0 groups × (n.far s.0 x ≡ Some s.1) × (ranks s.1 ≡ Some rank)
+IsLower n ranks x groups rank None = (g y : ℕ)
+    → Among g groups → n.far g x ≡ Some y → ranks y ≡ Some rank → ⊥
+IsLower n ranks x groups rank (Some s) = Among s.0 groups
+    × (n.far s.0 x ≡ Some s.1) × (ranks s.1 ≡ Some rank)

@@ -13,7 +13,8 @@ pub record AreSeen (n : Net) (seen : List Bool) : Type 0 where
 
 -- each group in the list of x leads to a marked exchange, unless x is the home
 abbrev pub LeadsToSeen : Net → List Bool → ℕ → Type 0
-LeadsToSeen n seen x = x ≢ n.home → (g y : ℕ) → Among g (n.list x) → n.far g x ≡ Some y → is_marked seen y ≡ true
+LeadsToSeen n seen x = x ≢ n.home → (g y : ℕ)
+    → Among g (n.list x) → n.far g x ≡ Some y → is_marked seen y ≡ true
 
 -- marks stay
 abbrev pub StaysSeen : List Bool → List Bool → Type 0

@@ -19,6 +19,7 @@ pub record IsWayTo (n : Net) (goal : Goal) (x d : ℕ) : Type 0 where
   pub ends : IsGoal n goal (end_of x steps)
   pub count : length steps ≡ d
 
+-- the distance of x, if it has one
 abbrev pub distance_in : List (Option ℕ) → ℕ → Option ℕ
 distance_in distances x = option_and_then (λ d. d) (slice_get distances x)
 
@@ -38,7 +39,7 @@ abbrev pub IsAtDistance : Net → Goal → List (Option ℕ) → (x d : ℕ) →
 IsAtDistance n goal distances x zero = IsGoal n goal x
 IsAtDistance n goal distances x (suc d) = (x ≢ n.home) × (s : ℕ × ℕ) × IsStep n distances x d s
 
--- WHAT IS MEASURED: all exchanges from where a way to a goal has fewer steps than k, and no others.
+-- What is measured: all exchanges from where a way to a goal has fewer steps than k, and no others.
 pub record AreMeasured (n : Net) (goal : Goal) (k : ℕ) (distances : List (Option ℕ)) : Type 0 where
   pub long : length distances ≡ n.exchanges
   pub near : (x d : ℕ) → distance_in distances x ≡ Some d → d < k

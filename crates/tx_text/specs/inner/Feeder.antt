@@ -1,12 +1,17 @@
 -- What the fields of a line feeder stand for, and what is true of them.
 use Rattle.std.specs.Prelude.{◌+◌, ◌-◌, ◌^◌, ◌<◌, ◌≤◌, [], None, Some, length, vec_capacity, if◌then◌else◌}
 use Rattle.tx_text.specs.Text.{Line}
-use Rattle.tx_text.specs.Feed.{Feed}
+use Rattle.tx_text.specs.inner.Feed.{Feed}
 use Rattle.tx_text.specs.declared.feeder.LineFeeder.TheInside.{Inside}
 
 -- The completed line that the fields hold.
 abbrev pub held_line : {A : Type 0} → Inside A → Line
-held_line a = record { number = a.number; start = a.line_start; bytes = a.held.items; finished = a.finished }
+held_line a = record {
+  number = a.number;
+  start = a.line_start;
+  bytes = a.held.items;
+  finished = a.finished;
+}
 
 -- The feeder that the fields stand for: they hold either a line that has begun or a completed one.
 abbrev pub feed_of : {A : Type 0} → Inside A → Feed

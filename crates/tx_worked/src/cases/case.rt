@@ -12,7 +12,7 @@ pub struct Case<'a> {
     pub prints: &'a [u8],
 }
 
-/// The first line of a text, without its LF, and what stands behind it.
+/// The first line of a text, without its LF, and what follows it.
 pub fn next_line(text: &[u8]) -> Option<(&[u8], &[u8])> {
     if text.is_empty() {
         return None;
@@ -28,7 +28,7 @@ pub fn cases_of(file: &[u8]) -> &[u8] {
     &file[texts_len(file)..]
 }
 
-/// The next case, which begins with a line `=== HEAD`, and what stands behind it.
+/// The next case, which begins with a line `=== HEAD`, and what follows it.
 pub fn next_case(text: &[u8]) -> Option<(Case<'_>, &[u8])> {
     if !text.starts_with(b"=== ") {
         return None;
@@ -46,7 +46,7 @@ pub fn next_case(text: &[u8]) -> Option<(Case<'_>, &[u8])> {
     Some((case, more))
 }
 
-/// The texts of a case, and what has to be printed for it: what stands behind its line `--- prints`.
+/// The texts of a case, and what has to be printed for it: what follows its line `--- prints`.
 fn texts_and_prints(block: &[u8]) -> (&[u8], &[u8]) {
     if let Some(prints) = block.strip_prefix(b"--- prints\n".as_slice()) {
         return (b"", prints);
@@ -70,7 +70,7 @@ fn texts_len(texts: &[u8]) -> usize
     }
 }
 
-/// The texts before and behind the first line `---`.
+/// The texts before and after the first line `---`.
 pub fn two_texts(texts: &[u8]) -> (&[u8], &[u8]) {
     match memmem::find(texts, b"---\n") {
         Some(cut) => (&texts[..cut], &texts[cut + 4..]),

@@ -5,7 +5,8 @@ use memchr::memchr;
 /// How many lines of each text are told.
 const LINES: u8 = 3;
 
-/// The first line of a text, with its LF if it has one, and what stands behind it. A text that is none has an empty line.
+/// The first line of a text, with its LF if it has one, and what follows it. A text that is
+/// none has an empty line.
 fn split_line(text: &[u8]) -> (&[u8], &[u8]) {
     match memchr(b'\n', text) {
         Some(end) => text.split_at(end + 1),
@@ -51,7 +52,8 @@ fn tell_line(what: &[u8], line: &[u8], out: &mut Told) {
     }
 }
 
-/// Tells the name of a case that differs, and its first lines that do, those that are wanted beside those that it printed.
+/// Tells the name of a case that differs, and its first lines that do, those that are wanted beside
+/// those that it printed.
 pub fn tell_differing(name: &[u8], wanted: &[u8], got: &[u8], out: &mut Told) {
     let (number, mut wanted, mut got) = from_first_other(wanted, got);
     tell_parts(&[b"differs: ", name], out);

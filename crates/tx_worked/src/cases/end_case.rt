@@ -1,10 +1,14 @@
-// The cases of the program at its ends. Their heads are `NAME program SETTINGS : WORDS`. The settings:
+// The cases of the program at its ends. Their heads are `NAME program SETTINGS : WORDS`. The
+// settings:
 //
 // - `input FILE`: standard input has the bytes of that file, else those of the file `empty`.
 // - `piece N`: a read gives at most N bytes.
-// - `fails NAME N`: read number N of that file fails, or flush number N where it is written. Standard input is `in`.
-// - `interrupts NAME N`: call number N of that file is interrupted: a read, or a write or flush. It goes on where it is called again.
-// - `room NAME N`: that file takes N bytes and then fails. Standard output and standard error are `out` and `errors`.
+// - `fails NAME N`: read number N of that file fails, or flush number N where it is written.
+//   Standard input is `in`.
+// - `interrupts NAME N`: call number N of that file is interrupted: a read, or a write or flush. It
+//   goes on where it is called again.
+// - `room NAME N`: that file takes N bytes and then fails. Standard output and standard error are
+//   `out` and `errors`.
 // - `unfinished FILE`: that file, which is made, cannot be given its name.
 // - `terminal`: standard input is a terminal.
 // - `shows FILE`: what that file holds in the end is printed.
@@ -22,7 +26,8 @@ pub struct EndCase<'a> {
     pub piece: usize,
     /// The file of which a read fails, or a flush where it is written, and which of them.
     pub fails: Option<(&'a str, u64)>,
-    /// The file of which a call is interrupted, and which of its calls: reads, or writes and flushes.
+    /// The file of which a call is interrupted, and which of its calls: reads, or writes and
+    /// flushes.
     pub interrupts: Option<(&'a str, u64)>,
     /// The file that fails when it has taken so many bytes.
     pub room: Option<(&'a str, usize)>,
@@ -33,7 +38,7 @@ pub struct EndCase<'a> {
     /// The file to be shown in the end.
     pub shows: Option<&'a str>,
     pub what: What,
-    /// Whether a setting is none, a number is missing, or memory was wanting for a word.
+    /// Whether a setting is none, a number is missing, or memory ran out for a word.
     pub is_bad: bool,
     pub words: Vec<&'a str>,
 }
@@ -63,7 +68,7 @@ enum Setting {
     Words,
 }
 
-/// The settings, and whether the name of a file and a number stand behind each.
+/// The settings, and whether the name of a file and a number stand after each.
 static SETTINGS: [(&str, (Setting, bool, bool)); 10] = [
     ("input", (Setting::Input, true, false)),
     ("piece", (Setting::Piece, false, true)),
@@ -108,7 +113,7 @@ impl<'a> EndCase<'a> {
         case
     }
 
-    /// Takes the settings, which stand behind the name and the kind of the case.
+    /// Takes the settings, which stand after the name and the kind of the case.
     fn set_all(&mut self, settings: &'a str) {
         let mut rest = settings.split_whitespace();
         let _name = rest.next();
@@ -125,7 +130,7 @@ impl<'a> EndCase<'a> {
         }
     }
 
-    /// Takes a setting, with the name and the number behind it.
+    /// Takes a setting, with the name and the number after it.
     fn set(&mut self, setting: Setting, name: &'a str, number: &str) {
         let number = self.number(number);
         match setting {

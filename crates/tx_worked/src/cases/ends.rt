@@ -12,8 +12,9 @@ pub enum End {
     Third,
 }
 
-/// What a task or a run is given: how many bytes a call of a source gives, the call of a source that fails, the request for memory that is refused, or 0 for
-/// none, and the room for what is written.
+/// What a task or a run is given: how many bytes a call of a source gives, the call of a source
+/// that fails, the request for memory that is refused, or 0 for none, and the room for what is
+/// written.
 #[derive(Clone, Copy)]
 pub struct Ends {
     pub piece: usize,

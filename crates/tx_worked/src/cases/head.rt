@@ -181,7 +181,7 @@ pub fn limit_and_spare(head: Head<'_>) -> (u8, u8) {
     (limit, spare)
 }
 
-/// A picture: of a plan, or of a code, with a limit and a spare number behind it or without.
+/// A picture: of a plan, or of a code, with a limit and a spare number after it or without.
 pub fn drawing_of<'a>(code: &'a [u8], limit: &[u8], spare: &[u8]) -> Job<'a> {
     if code.is_empty() {
         return Job::Draw;

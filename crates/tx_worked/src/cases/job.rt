@@ -11,14 +11,14 @@ pub enum Job<'a> {
     Telling { telling: Telling },
     Codes,
     Grade,
-    /// What is to be said of the text of a plan, whose file is named so.
+    /// The faults or warnings of the text of a plan, whose file is named so.
     Lint { file: &'a [u8] },
     Check { limit: u8, spare: u8 },
-    /// An audit, with its certificate or its counter script behind the report.
+    /// An audit, with its certificate or its counter script after the report.
     Audit { limit: u8, spare: u8 },
-    /// A change of plan, with its certificate, or its mixture and script, behind the report.
+    /// A change of plan, with its certificate, or its mixture and script, after the report.
     Change { limit: u8, spare: u8 },
-    /// A plan that is mended, with the mended plan and its certificate behind the report.
+    /// A plan that is mended, with the mended plan and its certificate after the report.
     Mend { limit: u8, spare: u8 },
     /// How calls for a code go from an exchange.
     Trace { exchange: &'a [u8], code: &'a [u8] },

@@ -2,22 +2,22 @@
 use crate::cases::case::next_line;
 use tx_text::words;
 
-/// How many bytes of the output are that of the first so many events: their replies, each with the tickets behind it. The line END EVENTS counts as
-/// one more.
+/// How many bytes of the output are that of the first so many events: their replies, each with the
+/// tickets after it. The line END EVENTS counts as one more.
 pub fn written_after(output: &[u8], events: u64) -> usize {
     let mut rest = output;
     let mut left = events;
     for _ in 0..output.len() {
-        let Some((_, behind)) = next_line(rest) else {
+        let Some((_, after)) = next_line(rest) else {
             break;
         };
         if left == 0 {
             break;
         }
-        if !behind.starts_with(b"T ") {
+        if !after.starts_with(b"T ") {
             left = left.saturating_sub(1);
         }
-        rest = behind;
+        rest = after;
     }
     output.len().saturating_sub(rest.len())
 }
@@ -32,7 +32,7 @@ pub fn event_word(script: &[u8], event: u64) -> &[u8] {
     let mut rest = script;
     let mut left = event;
     for _ in 0..script.len() {
-        let Some((line, behind)) = next_line(rest) else {
+        let Some((line, after)) = next_line(rest) else {
             break;
         };
         if let Some(word) = first_word(line) {
@@ -41,12 +41,13 @@ pub fn event_word(script: &[u8], event: u64) -> &[u8] {
             }
             left = left.saturating_sub(1);
         }
-        rest = behind;
+        rest = after;
     }
     b""
 }
 
-/// Whether an event of this first word takes memory: a call that is keyed or routed, and a line that gets a status.
+/// Whether an event of this first word takes memory: a call that is keyed or routed, and a line
+/// that gets a status.
 pub fn takes_memory(word: &[u8]) -> bool {
     matches!(word, b"KEY" | b"ROUTE" | b"FAULT" | b"AWAY")
 }

@@ -1,5 +1,5 @@
-// An allocator that refuses the request of a chosen number, and passes the others on.
-// A test makes each growth fail in turn: it runs its work over `&Refusing::new(rt.alloc(), n)` for n from 1 on,
+// An allocator that refuses the request of a chosen number, and passes the others on. A test makes
+// each growth fail in turn: it runs its work over `&Refusing::new(rt.alloc(), n)` for n from 1 on,
 // until a run ends before request n comes.
 use std::alloc::{AllocError, Allocator};
 use std::cell::Cell;
@@ -19,7 +19,8 @@ impl<B: Allocator> Refusing<B> {
         }
     }
 
-    /// Whether the request that was to be refused has come; true from the start where none was to be.
+    /// Whether the request that was to be refused has come; true from the start where none was to
+    /// be.
     pub fn has_refused(&self) -> bool {
         self.left.get() == 0
     }
@@ -31,7 +32,7 @@ impl<B: Allocator> Drop for Refusing<B> {
     }
 }
 
-// Counts a request down, and tells whether it is the one to be refused.
+// Counts a request down, and returns whether it is the one to be refused.
 fn refuses(left: &Cell<u64>) -> bool {
     let n = left.get();
     if n == 0 {

@@ -5,7 +5,7 @@ use itoa::Buffer;
 use memchr::memchr;
 use tx_text::words;
 
-/// What stands before a byte and behind it.
+/// What is before a byte and after it.
 fn cut(text: &[u8], byte: u8) -> Option<(&[u8], &[u8])> {
     match memchr(byte, text) {
         Some(end) => Some((&text[..end], &text[end + 1..])),
@@ -13,50 +13,51 @@ fn cut(text: &[u8], byte: u8) -> Option<(&[u8], &[u8])> {
     }
 }
 
-/// The mark whose `{` stands before a text, and what stands behind it. A mark is empty, or begins with a figure or with `lines`: any other `{` is one.
+/// The mark whose `{` stands before a text, and what follows it. A mark is empty, or begins
+/// with a figure or with `lines`: any other `{` is one.
 fn mark_in(text: &[u8]) -> Option<(&[u8], &[u8])> {
-    let (mark, behind) = cut(text, b'}')?;
+    let (mark, after) = cut(text, b'}')?;
     let is_mark = match mark.first() {
         Some(first) => first.is_ascii_digit() || mark.starts_with(b"lines "),
         None => true,
     };
-    if is_mark { Some((mark, behind)) } else { None }
+    if is_mark { Some((mark, after)) } else { None }
 }
 
-/// Tells a text of the file, in which `{13}` stands for the byte of that number, `{35 512}` for 512 of them, `{}` for a line that goes on, and
-/// `{lines 1 9 CODE 4@ ALFA}` for nine lines.
+/// Tells a text of the file, in which `{13}` stands for the byte of that number, `{35 512}` for 512
+/// of them, `{}` for a line that goes on, and `{lines 1 9 CODE 4@ ALFA}` for nine lines.
 pub fn spell(text: &[u8], out: &mut Told) {
     let mut rest = text;
     for _ in 0..=text.len() {
-        let Some((before, behind)) = cut(rest, b'{') else {
+        let Some((before, after)) = cut(rest, b'{') else {
             break;
         };
         tell(before, out);
-        rest = match mark_in(behind) {
-            Some((mark, behind)) => {
+        rest = match mark_in(after) {
+            Some((mark, after)) => {
                 tell_mark(mark, out);
-                behind_mark(mark, behind)
+                after_mark(mark, after)
             }
             None => {
                 tell(b"{", out);
-                behind
+                after
             }
         };
     }
     tell(rest, out);
 }
 
-/// What stands behind a mark: without its LF, where the line goes on.
-fn behind_mark<'a>(mark: &[u8], behind: &'a [u8]) -> &'a [u8] {
-    if mark.is_empty() && behind.starts_with(b"\n") {
-        &behind[1..]
+/// What stands after a mark: without its LF, where the line goes on.
+fn after_mark<'a>(mark: &[u8], after: &'a [u8]) -> &'a [u8] {
+    if mark.is_empty() && after.starts_with(b"\n") {
+        &after[1..]
     } else {
-        behind
+        after
     }
 }
 
-/// Tells the bytes of a mark: none, a byte's number and how often it stands, or `lines`, two numbers, and a line that stands once for each number between
-/// them.
+/// Tells the bytes of a mark: none, a byte's number and how often it stands, or `lines`, two
+/// numbers, and a line that stands once for each number between them.
 fn tell_mark(mark: &[u8], out: &mut Told) {
     if mark.is_empty() {
         return;

@@ -1,14 +1,20 @@
 // Why a case stops before its end.
-use tx_text::NoMemory;
+use tx_text::{FaultAt, NoMemory};
 
 /// Why a case stops before its end.
 #[derive(Clone, Copy)]
 pub enum Stop {
-    /// The text of a plan is refused, at this line.
+    /// A text is refused, at this line.
     Refused(u64),
     NoMemory,
     /// What is compared differs: who plays the case knows in what.
     Differs,
+}
+
+impl<W: Copy> From<FaultAt<W>> for Stop {
+    fn from(fault: FaultAt<W>) -> Stop {
+        Stop::Refused(fault.line)
+    }
 }
 
 impl From<NoMemory> for Stop {

@@ -5,7 +5,8 @@ use std::io;
 use std::io::Write;
 use tx_text::{Sink, WriteFault};
 
-/// A text that grows with all that is told. Where memory was wanting for it, it ends there, and says so when it is let out.
+/// A text that grows with all that is told. Where memory ran out for it, it ends there, and says so
+/// when it is let out.
 #[derive(Drop)]
 pub struct Told {
     text: Vec<u8>,
@@ -25,7 +26,7 @@ impl Told {
         self.text.as_slice()
     }
 
-    /// All that was told, or none where memory was wanting for it.
+    /// All that was told, or none where memory ran out for it.
     pub fn whole(&self) -> Option<&[u8]> {
         if self.failed {
             return None;
@@ -77,7 +78,7 @@ pub fn tell(text: &[u8], out: &mut Told) {
     out.put(text);
 }
 
-/// Tells some texts, one behind another.
+/// Tells some texts, one after another.
 pub fn tell_parts(texts: &[&[u8]], out: &mut Told) {
     for text in texts {
         out.put(*text);
@@ -85,9 +86,9 @@ pub fn tell_parts(texts: &[&[u8]], out: &mut Told) {
 }
 
 /// Tells a number between two texts.
-pub fn tell_count(before: &[u8], count: u64, behind: &[u8], out: &mut Told) {
+pub fn tell_count(before: &[u8], count: u64, after: &[u8], out: &mut Told) {
     let mut digits = Buffer::new();
-    tell_parts(&[before, digits.format(count).as_bytes(), behind], out);
+    tell_parts(&[before, digits.format(count).as_bytes(), after], out);
 }
 
 /// Tells loudly which law a case broke, and at which number first.

@@ -4,7 +4,8 @@ use std::io;
 use std::io::Write;
 use tx_program::Draft;
 
-/// A writer whose writes and flushes are told, which fails when it has taken so many bytes, and of which a flush may fail.
+/// A writer whose writes and flushes are told, which fails when it has taken so many bytes, and of
+/// which a flush may fail.
 #[derive(Drop)]
 pub struct Writer<'a> {
     /// Where the bytes go; those of a standard end are only told.

@@ -101,16 +101,8 @@ fn answer_differs(
     requires spare { mixing.spare ≤ 15 }
 {
     match change(alloc, old, new, mixing.limit, mixing.spare)? {
-        Ranking::Found(cert) => {
-            let differs = cert_differs(old, joined, wanted, &cert, mixing);
-            drop(cert);
-            Ok(differs)
-        }
-        Ranking::Fails(findings) => {
-            let differs = fails_differ(&findings, wanted, mixing);
-            drop(findings);
-            Ok(differs)
-        }
+        Ranking::Found(cert) => Ok(cert_differs(old, joined, wanted, &cert, mixing)),
+        Ranking::Fails(findings) => Ok(fails_differ(&findings, wanted, mixing)),
     }
 }
 

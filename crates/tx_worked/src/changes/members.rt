@@ -34,16 +34,8 @@ pub fn is_ranked(alloc: Global, plan: &Plan, limit: u8, spare: u8) -> Result<boo
     requires limit { limit ≤ 62 }
     requires spare { spare ≤ 15 }
 {
-    match rank(alloc, plan, limit, spare)? {
-        Ranking::Found(cert) => {
-            drop(cert);
-            Ok(true)
-        }
-        Ranking::Fails(findings) => {
-            drop(findings);
-            Ok(false)
-        }
-    }
+    let ranking = rank(alloc, plan, limit, spare)?;
+    Ok(matches!(ranking, Ranking::Found(_)))
 }
 
 /// For which limits and spare numbers a plan has ranks.
@@ -79,10 +71,8 @@ fn surveyed(
 fn member_of(alloc: Global, lines: &[u8], number: u64, steps: &mut Steps) -> Result<Member, Stop> {
     let mut text = Vec::new(alloc);
     put_plan(lines, number, &mut text)?;
-    match read_plan(alloc, text.as_slice()) {
-        Ok(plan) => Ok(surveyed(alloc, text, plan, steps)?),
-        Err(fault) => Err(Stop::Refused(fault.line)),
-    }
+    let plan = read_plan(alloc, text.as_slice())?;
+    Ok(surveyed(alloc, text, plan, steps)?)
 }
 
 fn keep(member: Member, members: &mut Vec<Member>) -> Result<(), NoMemory> {

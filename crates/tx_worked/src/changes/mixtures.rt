@@ -37,10 +37,10 @@ pub fn put_mixtures(
     let mut counts = 1u64;
     let mut rest = lines;
     for _ in 0..lines.len() {
-        let Some((line, behind)) = next_line(rest) else {
+        let Some((line, after)) = next_line(rest) else {
             break;
         };
-        let ways = count_ways(line, behind).max(1);
+        let ways = count_ways(line, after).max(1);
         go_both_ways(
             counts.saturating_mul(one % ways),
             counts.saturating_mul(other % ways),
@@ -49,7 +49,7 @@ pub fn put_mixtures(
         one /= ways;
         other /= ways;
         counts = counts.saturating_mul(ways);
-        rest = behind;
+        rest = after;
     }
     Ok(())
 }

@@ -156,23 +156,20 @@ fn judge_pairs(alloc: Global, lines: &[u8], work: &mut PairWork) -> Result<PairT
     let members = members_of(alloc, lines)?;
     let mut tally = PairTally::default();
     tally.answers.plans = members.len() as u64;
-    let judged = judge_changes(alloc, lines, &members, work, &mut tally);
-    drop(members);
-    judged?;
+    judge_changes(alloc, lines, &members, work, &mut tally)?;
     Ok(tally)
 }
 
-/// Tells why the judging stopped, and the two plans where it did.
+/// Writes why the judging stopped, and the two plans where it did.
 fn tell_stopped(alloc: Global, stop: Stop, lines: &[u8], work: &PairWork, out: &mut Told) {
     let mut text = Vec::new(alloc);
     let _ = put_plan(lines, work.old as u64, &mut text);
     tell_stop(stop, work.differs, text.as_slice(), out);
     let _ = put_plan(lines, work.new as u64, &mut text);
     tell(text.as_slice(), out);
-    drop(text);
 }
 
-/// Judges the changes between all plans of a family, and tells what there was, or why it stopped
+/// Judges the changes between all plans of a family, and writes what there was, or why it stopped
 /// and the two plans where it did.
 pub fn play_pairs(alloc: Global, lines: &[u8], out: &mut Told) {
     let mut work = PairWork::new(alloc);
@@ -180,5 +177,4 @@ pub fn play_pairs(alloc: Global, lines: &[u8], out: &mut Told) {
         Ok(tally) => tell_pairs(&tally, out),
         Err(stop) => tell_stopped(alloc, stop, lines, &work, out),
     }
-    drop(work);
 }

@@ -81,15 +81,10 @@ fn is_refused(
     requires spare { spare ≤ 15 }
 {
     match rank(alloc, mixture, limit, spare)? {
-        Ranking::Found(cert) => {
-            drop(cert);
-            Ok(false)
-        }
+        Ranking::Found(_) => Ok(false),
         Ranking::Fails(findings) => {
             let differs = findings_differ(mixture, &findings, wanted, limit, spare);
-            let is_told = findings.iter().any(|it| is_same(it, finding));
-            drop(findings);
-            Ok(is_told && differs.is_none())
+            Ok(differs.is_none() && findings.iter().any(|it| is_same(it, finding)))
         }
     }
 }
@@ -141,9 +136,7 @@ fn finding_differs(
     requires shown { IsShown old new.now mixing.limit mixing.spare finding.now }
 {
     let mixture = shown(alloc, old, new, mixing.spare, finding)?;
-    let differs = mixture_differs(alloc, &mixture, finding, mixing, showing);
-    drop(mixture);
-    differs
+    mixture_differs(alloc, &mixture, finding, mixing, showing)
 }
 
 /// How the mixture differs that the first finding with a walk shows. Takes the old plan apart.
@@ -166,7 +159,6 @@ fn first_differs(
             return finding_differs(alloc, old, new, finding, mixing, showing);
         }
     }
-    drop(old);
     Ok(None)
 }
 
@@ -183,16 +175,8 @@ fn change_differs(
     requires spare { mixing.spare ≤ 15 }
 {
     match change(alloc, &old, new, mixing.limit, mixing.spare)? {
-        Ranking::Found(cert) => {
-            drop(cert);
-            drop(old);
-            Ok(Some(Difference::Found))
-        }
-        Ranking::Fails(findings) => {
-            let differs = first_differs(alloc, old, new, &findings, mixing, showing);
-            drop(findings);
-            differs
-        }
+        Ranking::Found(_) => Ok(Some(Difference::Found)),
+        Ranking::Fails(findings) => first_differs(alloc, old, new, &findings, mixing, showing),
     }
 }
 
@@ -208,14 +192,9 @@ pub fn shown_differs(
     requires limit { mixing.limit ≤ 62 }
     requires spare { mixing.spare ≤ 15 }
 {
-    match read_plan(alloc, old) {
-        Ok(old) => match first_difference(&old, new) {
-            None => Ok(change_differs(alloc, old, new, mixing, showing)?),
-            Some(_) => {
-                drop(old);
-                Ok(Some(Difference::Networks))
-            }
-        },
-        Err(fault) => Err(Stop::Refused(fault.line)),
+    let old = read_plan(alloc, old)?;
+    match first_difference(&old, new) {
+        None => Ok(change_differs(alloc, old, new, mixing, showing)?),
+        Some(_) => Ok(Some(Difference::Networks)),
     }
 }

@@ -32,7 +32,7 @@ impl PairTally {
     }
 }
 
-/// Tells what there was among the pairs of a family.
+/// Writes what there was among the pairs of a family.
 pub fn tell_pairs(tally: &PairTally, out: &mut Told) {
     tell_count(b"", tally.answers.plans, b" plans, ", out);
     tell_count(b"", tally.pairs, b" pairs with ", out);

@@ -1,4 +1,5 @@
-// Cases of the program: at its ends, and where its words or arguments are refused for want of memory.
+// Cases of the program: at its ends, and where its words or arguments are refused when memory runs
+// out.
 use crate::cases::{EndCase, Log, Told, named, tell, tell_broken, tell_count};
 use crate::ends::play::play;
 use std::alloc::Global;
@@ -9,7 +10,7 @@ use tx_program::{WordsFault, refuse_arguments, tell_words};
 #[derive(Clone, Copy)]
 enum Wrong {
     Arguments(io::ErrorKind),
-    /// Memory was wanting when the words were read.
+    /// Memory ran out when the words were read.
     Words,
 }
 
@@ -21,24 +22,19 @@ static WRONGS: [(&str, Wrong); 3] = [
 
 /// What the program tells where its arguments are no words, and its exit status.
 fn refuse(kind: io::ErrorKind, errors: &mut Vec<u8>) -> u8 {
-    let why = io::Error::from(kind);
-    let status = refuse_arguments(&why, errors);
-    drop(why);
-    status
+    refuse_arguments(&io::Error::from(kind), errors)
 }
 
-/// What the program tells where memory is wanting for its words, and its exit status.
+/// What the program tells where memory runs out for its words, and its exit status.
 fn refuse_words(alloc: Global, errors: &mut Vec<u8>) -> u8 {
     let fault = WordsFault::NoMemory;
     let mut output = Vec::new(alloc);
     let _ = tell_words(&fault, &mut output, errors);
-    drop(output);
-    let status = fault.status();
-    drop(fault);
-    status
+    fault.status()
 }
 
-/// Tells what the program tells on standard error where something is wrong before there are words, and its exit status.
+/// Writes what the program tells on standard error where something is wrong before there are words,
+/// and its exit status.
 pub(crate) fn play_arguments(alloc: Global, wrong: &[u8], out: &mut Told) {
     let mut errors = Vec::new(alloc);
     match named(&WRONGS, wrong) {
@@ -52,7 +48,6 @@ pub(crate) fn play_arguments(alloc: Global, wrong: &[u8], out: &mut Told) {
         }
         None => tell_broken(b"nothing is wrong with the arguments", 0, out),
     }
-    drop(errors);
 }
 
 fn tell_refused(errors: &[u8], status: u8, out: &mut Told) {
@@ -60,8 +55,9 @@ fn tell_refused(errors: &[u8], status: u8, out: &mut Told) {
     tell_count(b"status ", u64::from(status), b"\n", out);
 }
 
-/// Plays the program at its ends over the files of the folder, and tells all that happens there in order: files opened and made, each read and what it gave,
-/// what each write took, each flush, and then the exit status.
+/// Plays the program at its ends over the files of the folder, and tells all that happens there in
+/// order: files opened and made, each read and what it gave, what each write took, each flush, and
+/// then the exit status.
 pub(crate) fn play_program(rt: &HostRuntime, head: &[u8], out: &mut Told) {
     let Ok(head) = str::from_utf8(head) else {
         return tell_broken(b"the head is no UTF-8 text", 0, out);
@@ -69,7 +65,5 @@ pub(crate) fn play_program(rt: &HostRuntime, head: &[u8], out: &mut Told) {
     let log = Log::new(rt.alloc());
     let case = EndCase::read(rt.alloc(), head);
     play(rt, &case, &log);
-    drop(case);
     log.print(out);
-    drop(log);
 }

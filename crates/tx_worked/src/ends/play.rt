@@ -5,7 +5,7 @@ use crate::cases::{EndCase, Log, Refusing, What};
 use crate::ends::stage::Stage;
 use tx_program::{Command, Folder, WordsFault, read_command, run_command, run_words};
 
-/// Plays a case, and tells what happens.
+/// Plays a case, and writes what happens.
 pub(crate) fn play(rt: &HostRuntime, case: &EndCase<'_>, log: &Log) {
     if case.is_bad {
         log.tell("BROKEN:", "no such case");
@@ -26,7 +26,8 @@ pub(crate) fn play(rt: &HostRuntime, case: &EndCase<'_>, log: &Log) {
     }
 }
 
-/// Runs the words of a case. Tells whether its input could be opened. The memory is of the type that can refuse a request, so that the program is built once.
+/// Runs the words of a case. Returns whether its input could be opened. The memory is of the type
+/// that can refuse a request, so that the program is built once.
 fn run(rt: &HostRuntime, case: &EndCase<'_>, log: &Log) -> bool {
     let Ok(input) = Folder::open(rt, case.input) else {
         return false;
@@ -39,19 +40,17 @@ fn run(rt: &HostRuntime, case: &EndCase<'_>, log: &Log) -> bool {
     true
 }
 
-/// Runs the words of a case with each request for memory refused in turn. Tells whether there was a command, and its input could be opened.
+/// Runs the words of a case with each request for memory refused in turn. Returns whether there was
+/// a command, and its input could be opened.
 fn run_without(rt: &HostRuntime, case: &EndCase<'_>, log: &Log) -> bool {
     match read_command(rt.alloc(), case.words.as_slice()) {
-        Ok(command) => {
-            let played = refuse_each(rt, case, &command, log);
-            drop(command);
-            played
-        }
+        Ok(command) => refuse_each(rt, case, &command, log),
         Err(_) => false,
     }
 }
 
-/// Runs a command with each of its requests for memory refused in turn, and then with none refused. Tells whether its input could be opened.
+/// Runs a command with each of its requests for memory refused in turn, and then with none refused.
+/// Returns whether its input could be opened.
 fn refuse_each(rt: &HostRuntime, case: &EndCase<'_>, command: &Command, log: &Log) -> bool
     requires { IsInRange command.now }
 {
@@ -67,11 +66,10 @@ fn refuse_each(rt: &HostRuntime, case: &EndCase<'_>, command: &Command, log: &Lo
             break;
         }
     }
-    drop(last);
     played
 }
 
-/// Tells what happened, whether a request was refused or none, where the same did not happen last.
+/// Writes what happened, whether a request was refused or none, where the same did not happen last.
 fn tell_change(came: Option<bool>, now: &Log, last: &Log, log: &Log) {
     if let Some(refused) = came {
         if !now.is_as(last) {
@@ -86,7 +84,8 @@ fn tell_change(came: Option<bool>, now: &Log, last: &Log, log: &Log) {
     }
 }
 
-/// Runs a command with one request refused, and tells whether that request came, if the input could be opened.
+/// Runs a command with one request refused, and returns whether that request came, if the input
+/// could be opened.
 fn run_refused(
     rt: &HostRuntime,
     case: &EndCase<'_>,
@@ -113,10 +112,9 @@ fn read(rt: &HostRuntime, case: &EndCase<'_>, log: &Log) {
         Ok(command) => log.tell_value(command),
         Err(fault) => tell_fault(fault, log),
     }
-    drop(read);
 }
 
-/// Tells why words ask for nothing, and the exit status.
+/// Writes why words ask for nothing, and the exit status.
 fn tell_fault(fault: &WordsFault, log: &Log) {
     match fault {
         WordsFault::Clap(e) => log.tell_value(&e.kind()),

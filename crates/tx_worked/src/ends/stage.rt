@@ -26,7 +26,7 @@ impl<'a> Stage<'a> {
         }
     }
 
-    /// The name by which an end is told. Where memory is wanting for it, it is left out.
+    /// The name by which an end is told. Where memory runs out for it, it is left out.
     fn told_name(&self, name: &str) -> String {
         let mut told = String::new(self.rt.alloc());
         let _ = told.push_str(name);

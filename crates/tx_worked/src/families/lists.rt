@@ -13,7 +13,7 @@ pub fn count_lists(words: u64, most: u32) -> u64 {
     all
 }
 
-/// Adds words to a text, with a space behind each.
+/// Adds words to a text, with a space after each.
 pub fn put_words(words: &[&[u8]], text: &mut Vec<u8>) -> Result<(), NoMemory> {
     for word in words {
         text.extend_from_slice(*word)?;
@@ -22,7 +22,8 @@ pub fn put_words(words: &[&[u8]], text: &mut Vec<u8>) -> Result<(), NoMemory> {
     Ok(())
 }
 
-/// Takes the word at a place among those that are not taken yet: the first word has the mark 1, the next one 2, the next 4.
+/// Takes the word at a place among those that are not taken yet: the first word has the mark 1, the
+/// next one 2, the next 4.
 fn take_free<'a>(words: Words<'a>, taken: &mut u32, place: u64) -> Option<&'a [u8]> {
     let mut before = place;
     let mut mark = 1u32;
@@ -39,12 +40,13 @@ fn take_free<'a>(words: Words<'a>, taken: &mut u32, place: u64) -> Option<&'a [u
     None
 }
 
-/// Adds the words of a list to a text, each between two others. The lists are numbered from 0, the list of none.
+/// Adds the words of a list to a text, each between two others. The lists are numbered from 0, the
+/// list of none.
 pub fn put_list(
     words: &Words<'_>,
     number: u64,
     before: &[u8],
-    behind: &[u8],
+    after: &[u8],
     text: &mut Vec<u8>,
 ) -> Result<(), NoMemory> {
     let mut taken = 0u32;
@@ -58,7 +60,7 @@ pub fn put_list(
         left = (left - 1) / free;
         free -= 1;
         if let Some(word) = take_free(words.again(), &mut taken, place) {
-            put_words(&[before, word, behind], text)?;
+            put_words(&[before, word, after], text)?;
         }
     }
     Ok(())

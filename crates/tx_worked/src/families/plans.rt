@@ -22,7 +22,7 @@ struct Choice<'a> {
     second: &'a [u8],
 }
 
-/// Reads what stands before the words of the lists: `ROUTES` has two words there, and `CODES` one.
+/// Reads what is before the words of the lists: `ROUTES` has two words there, and `CODES` one.
 fn choice_of<'a>(line: &mut Words<'a>, has_two: bool) -> Choice<'a> {
     let _kind = line.next();
     let most = next_number(line, 16);
@@ -56,7 +56,7 @@ fn count_passages(text: &[u8]) -> u64 {
     let mut count = 1u64;
     let mut rest = text;
     for _ in 0..text.len() {
-        let Some((line, behind)) = next_line(rest) else {
+        let Some((line, after)) = next_line(rest) else {
             break;
         };
         match kind_of(line) {
@@ -64,7 +64,7 @@ fn count_passages(text: &[u8]) -> u64 {
             LineKind::Or => count = count.saturating_add(1),
             _ => {}
         }
-        rest = behind;
+        rest = after;
     }
     count
 }
@@ -76,10 +76,10 @@ fn count_lists_of(line: &[u8], has_two: bool) -> u64 {
     count_lists(count_words(&rest), choice.most)
 }
 
-/// How many ways a line gives, with the text behind it.
-pub fn count_ways(line: &[u8], behind: &[u8]) -> u64 {
+/// How many ways a line gives, with the text after it.
+pub fn count_ways(line: &[u8], after: &[u8]) -> u64 {
     match kind_of(line) {
-        LineKind::Either => count_passages(behind),
+        LineKind::Either => count_passages(after),
         LineKind::Routes => count_lists_of(line, true),
         LineKind::Codes => count_lists_of(line, false),
         LineKind::Or | LineKind::End | LineKind::Plain => 1,
@@ -91,11 +91,11 @@ pub fn count_plans(lines: &[u8]) -> u64 {
     let mut count = 1u64;
     let mut rest = lines;
     for _ in 0..lines.len() {
-        let Some((line, behind)) = next_line(rest) else {
+        let Some((line, after)) = next_line(rest) else {
             break;
         };
-        count = count.saturating_mul(count_ways(line, behind));
-        rest = behind;
+        count = count.saturating_mul(count_ways(line, after));
+        rest = after;
     }
     count
 }
@@ -155,13 +155,13 @@ fn put_lines(lines: &[u8], number: u64, text: &mut Vec<u8>) -> Result<(), NoMemo
     let mut left = number;
     let mut rest = lines;
     for _ in 0..lines.len() {
-        let Some((line, behind)) = next_line(rest) else {
+        let Some((line, after)) = next_line(rest) else {
             break;
         };
-        let ways = count_ways(line, behind).max(1);
+        let ways = count_ways(line, after).max(1);
         put_line(line, left % ways, &mut passages, text)?;
         left /= ways;
-        rest = behind;
+        rest = after;
     }
     Ok(())
 }

@@ -12,15 +12,16 @@ use tx_jobs::{
 };
 use tx_text::{MemorySink, MemorySource};
 
-/// What a whole job does, beside which others are judged: its exit status or its fault, and what it writes.
+/// What a whole job does, beside which others are judged: its exit status or its fault, and what it
+/// writes.
 #[derive(Clone, Copy)]
 pub(crate) struct Whole<'a> {
     pub answer: Result<u8, Fault>,
     pub text: &'a [u8],
 }
 
-/// What a job did: its exit status or its fault, how many bytes it wrote, whether these are a front of what the whole job writes, and whether the request for
-/// memory came that was to be refused.
+/// What a job did: its exit status or its fault, how many bytes it wrote, whether these are a front
+/// of what the whole job writes, and whether the request for memory came that was to be refused.
 #[derive(Clone, Copy)]
 pub(crate) struct Did {
     pub answer: Result<u8, Fault>,
@@ -38,14 +39,6 @@ impl Did {
     /// Whether it stopped with a fault, and wrote a front of what the whole job writes.
     pub(crate) fn stopped(&self, fault: JobFault) -> bool {
         self.is_front && self.answer.is_err_and(|it| it.is(fault))
-    }
-}
-
-/// The exit status 0 of a job that has no other, or its fault.
-fn status<T: Copy>(answer: Result<T, JobFault>) -> Result<u8, JobFault> {
-    match answer {
-        Ok(_) => Ok(0),
-        Err(fault) => Err(fault),
     }
 }
 
@@ -88,10 +81,9 @@ fn do_trace<A: Allocator + Copy>(
     code: &[u8],
     out: &mut MemorySink,
 ) -> Result<u8, JobFault> {
-    match trace_job(alloc, plan, exchange, code, out) {
-        Ok(Traced::Trace) => Ok(0),
-        Ok(Traced::NoSuchExchange | Traced::NoSuchCode) => Ok(64),
-        Err(fault) => Err(fault),
+    match trace_job(alloc, plan, exchange, code, out)? {
+        Traced::Trace => Ok(0),
+        Traced::NoSuchExchange | Traced::NoSuchCode => Ok(64),
     }
 }
 
@@ -110,10 +102,9 @@ fn do_plan_job<A: Allocator + Copy>(
         Job::Mend { limit, spare } => do_mend(alloc, plan, limit.min(62), spare.min(15), out),
         Job::Trace { exchange, code } => do_trace(alloc, plan, exchange, code, out),
         Job::SurviveAlone => do_survive_alone(alloc, plan, out),
-        _ => match do_draw(alloc, job, plan, out) {
-            Ok(Drawn::Picture) => Ok(0),
-            Ok(Drawn::NoSuchCode) => Ok(64),
-            Err(fault) => Err(fault),
+        _ => match do_draw(alloc, job, plan, out)? {
+            Drawn::Picture => Ok(0),
+            Drawn::NoSuchCode => Ok(64),
         },
     }
 }
@@ -128,11 +119,11 @@ fn do_job<A: Allocator + Copy>(
     out: &mut MemorySink,
 ) -> Result<u8, JobFault> {
     match job {
-        Job::Pipe | Job::Run => status(run_job(alloc, first, second, out)),
-        Job::Telling { telling } => match run_telling_job(alloc, telling, first, second, out) {
-            Ok(summary) => Ok(replies_status(&summary, true)),
-            Err(fault) => Err(fault),
-        },
+        Job::Pipe | Job::Run => run_job(alloc, first, second, out).and(Ok(0)),
+        Job::Telling { telling } => {
+            let summary = run_telling_job(alloc, telling, first, second, out)?;
+            Ok(replies_status(&summary, true))
+        }
         Job::Check { limit, spare } => {
             check_status(alloc, first, second, limit.min(62), spare.min(15), out)
         }
@@ -153,7 +144,7 @@ fn do_other<A: Allocator + Copy>(
 ) -> Result<u8, JobFault> {
     let mut first = ends.source(End::First, task.first);
     if let Job::Pipe = task.job {
-        return status(pipe_job(alloc, &mut first, out));
+        return pipe_job(alloc, &mut first, out).and(Ok(0));
     }
     let mut second = ends.source(End::Second, task.second);
     let mut third = ends.source(End::Third, task.third);
@@ -171,10 +162,7 @@ fn do_change_task<A: Allocator + Copy>(
 ) -> Result<u8, Fault> {
     let mut old = ends.source(End::First, task.first);
     let mut new = ends.source(End::Second, task.second);
-    match do_change(alloc, &mut old, &mut new, limit.min(62), spare.min(15), out) {
-        Ok(status) => Ok(status),
-        Err(fault) => Err(Fault::Change(fault)),
-    }
+    do_change(alloc, &mut old, &mut new, limit.min(62), spare.min(15), out).map_err(Fault::Change)
 }
 
 /// Tries the outages of a plan, named risks among them, and answers the exit status.
@@ -186,10 +174,7 @@ fn do_survive_task<A: Allocator + Copy>(
 ) -> Result<u8, Fault> {
     let mut plan = ends.source(End::First, task.first);
     let mut risks = ends.source(End::Second, task.second);
-    match do_survive(alloc, &mut plan, &mut risks, out) {
-        Ok(status) => Ok(status),
-        Err(fault) => Err(Fault::Survive(fault)),
-    }
+    do_survive(alloc, &mut plan, &mut risks, out).map_err(Fault::Survive)
 }
 
 /// Does a task, and answers its exit status.
@@ -202,14 +187,12 @@ fn do_task<A: Allocator + Copy>(
     match task.job {
         Job::Change { limit, spare } => do_change_task(alloc, task, limit, spare, ends, out),
         Job::Survive => do_survive_task(alloc, task, ends, out),
-        _ => match do_other(alloc, task, ends, out) {
-            Ok(status) => Ok(status),
-            Err(fault) => Err(Fault::Job(fault)),
-        },
+        _ => do_other(alloc, task, ends, out).map_err(Fault::Job),
     }
 }
 
-/// Does a task into a room, and tells what it did beside what is to be written. The allocator is the same for each task, so that each job is built once.
+/// Does a task into a room, and returns what it did beside what is to be written. The allocator is
+/// the same for each task, so that each job is built once.
 pub(crate) fn do_in_room(
     alloc: Global,
     task: Task<'_>,
@@ -230,11 +213,7 @@ pub(crate) fn do_in_room(
 /// What a task does, beside what is to be written.
 pub(crate) fn done(alloc: Global, task: Task<'_>, ends: Ends, whole: &[u8]) -> Did {
     match MemorySink::new(alloc, ends.room) {
-        Ok(mut room) => {
-            let did = do_in_room(alloc, task, ends, whole, &mut room);
-            drop(room);
-            did
-        }
+        Ok(mut room) => do_in_room(alloc, task, ends, whole, &mut room),
         Err(_) => Did {
             answer: Err(Fault::Job(JobFault::NoMemory)),
             written: 0,
@@ -250,7 +229,6 @@ pub(crate) fn tell_task(alloc: Global, task: Task<'_>, piece: usize, out: &mut T
         Ok(mut room) => {
             let _ = do_in_room(alloc, task, Ends::pieces(piece), b"", &mut room);
             tell(room.taken(), out);
-            drop(room);
         }
         Err(_) => tell_broken(b"no memory", 0, out),
     }

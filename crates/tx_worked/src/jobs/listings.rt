@@ -72,8 +72,8 @@ pub(crate) fn list_calls(
     stretches.end(out);
 }
 
-/// Tells what a run writes, where it stops, and how many calls of the script's source it makes, at one byte a call, where the writer takes so many
-/// bytes.
+/// Writes what a run writes, where it stops, and how many calls of the script's source it makes, at
+/// one byte a call, where the writer takes so many bytes.
 pub(crate) fn count_calls(alloc: Global, text: Script<'_>, room: usize, out: &mut Told) {
     let mut source = MemorySource::new(text.script, 1, Some(1001));
     let Ok(mut written) = MemorySink::new(alloc, room) else {
@@ -88,7 +88,6 @@ pub(crate) fn count_calls(alloc: Global, text: Script<'_>, room: usize, out: &mu
     }
     let calls = 1000u64.saturating_sub(calls_left(&mut source));
     tell_count(b"", calls, b" reads\n", out);
-    drop(written);
 }
 
 /// What a job does with each front of its last text, from none of it to the whole.

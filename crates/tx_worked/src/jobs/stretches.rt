@@ -47,7 +47,8 @@ impl Stretches {
         Stretches { open: None }
     }
 
-    /// Takes the next number. Where something else happens there than before, the stretch is told and a new one begins.
+    /// Takes the next number. Where something else happens there than before, the stretch is told
+    /// and a new one begins.
     pub(crate) fn put(&mut self, number: u64, happens: Happens, out: &mut Told) {
         let mut from = number;
         if let Some(open) = self.open {

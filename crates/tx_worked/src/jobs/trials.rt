@@ -1,4 +1,5 @@
-// The laws of a job: however its sources cut the text, wherever an end fails, and whichever request for memory is refused.
+// The laws of a job: however its sources cut the text, wherever an end fails, and whichever request
+// for memory is refused.
 use crate::cases::{End, Ends, Task, Told, job_name, sources, tell_broken, tell_count, tell_parts};
 use crate::jobs::job::{Whole, done, tell_task};
 use std::alloc::Global;
@@ -16,7 +17,8 @@ pub(crate) fn try_pieces(alloc: Global, task: Task<'_>, whole: Whole<'_>, out: &
     }
 }
 
-/// How many calls of a source a task makes, at one byte a call. Each of them, where it fails, has to make it a read fault.
+/// How many calls of a source a task makes, at one byte a call. Each of them, where it fails, has
+/// to make it a read fault.
 fn reads(alloc: Global, task: Task<'_>, end: End, whole: Whole<'_>, out: &mut Told) -> u64 {
     for made in 0..MANY {
         let ends = Ends::failing(end, made.saturating_add(1));
@@ -31,7 +33,8 @@ fn reads(alloc: Global, task: Task<'_>, end: End, whole: Whole<'_>, out: &mut To
     MANY
 }
 
-/// Gives a task each room, up to one for all: where it is too small, the task has to stop with a write fault behind so many bytes.
+/// Gives a task each room, up to one for all: where it is too small, the task has to stop with a
+/// write fault after so many bytes.
 fn try_rooms(alloc: Global, task: Task<'_>, whole: Whole<'_>, out: &mut Told) {
     for room in 0..=whole.text.len() {
         let ends = Ends {
@@ -51,7 +54,8 @@ fn try_rooms(alloc: Global, task: Task<'_>, whole: Whole<'_>, out: &mut Told) {
     }
 }
 
-/// Refuses each request for memory in turn, which has to make the task want memory, until none is refused.
+/// Refuses each request for memory in turn, which has to make the task run out of memory, until
+/// none is refused.
 pub(crate) fn try_refusals(alloc: Global, task: Task<'_>, whole: Whole<'_>, out: &mut Told) {
     for refused in 1..MANY {
         let ends = Ends {
@@ -73,7 +77,8 @@ pub(crate) fn try_refusals(alloc: Global, task: Task<'_>, whole: Whole<'_>, out:
     }
 }
 
-/// Gives each room, and makes each call of each source fail. Tells a task's status, how many calls of its sources it makes and how many bytes it writes.
+/// Gives each room, and makes each call of each source fail. Tells a task's status, how many calls
+/// of its sources it makes and how many bytes it writes.
 pub(crate) fn try_ends(alloc: Global, task: Task<'_>, whole: Whole<'_>, out: &mut Told) {
     try_rooms(alloc, task, whole, out);
     let status = match whole.answer {

@@ -274,27 +274,20 @@ pub fn mending_differs(
     let can_be = answers.unserved.is_empty() && ambiguous(asked.plan).is_none();
     match mending {
         Mending::Mended(mended, before, cert) => {
-            let differs = if can_be {
+            if can_be {
                 mended_differs(alloc, asked, &mended, &before, &cert, answers, work, tally)
             } else {
                 Ok(Some(Difference::Found))
-            };
-            drop(cert);
-            drop(before);
-            drop(mended);
-            differs
+            }
         }
         Mending::NoRouting(plan, unserved, pair) => {
             let wanted = answers.unserved.as_slice();
-            let differs = if can_be {
-                Some(Difference::Count)
-            } else {
-                refusal_differs(asked, &plan, &unserved, pair, wanted)
-            };
             tally.add_refused(pair.is_some(), unserved.len());
-            drop(unserved);
-            drop(plan);
-            Ok(differs)
+            if can_be {
+                Ok(Some(Difference::Count))
+            } else {
+                Ok(refusal_differs(asked, &plan, &unserved, pair, wanted))
+            }
         }
     }
 }

@@ -65,7 +65,7 @@ impl<'a> Asked<'a> {
         Ok(())
     }
 
-    /// Whether a group is to stand in a list that has too few.
+    /// Whether a group is to are in a list that has too few.
     fn is_wanting(
         &self,
         code: CodeId,

@@ -50,10 +50,8 @@ fn mending_of(alloc: Global, text: &[u8], limit: u8, spare: u8) -> Result<Mendin
     requires limit { limit ≤ 62 }
     requires spare { spare ≤ 15 }
 {
-    match read_plan(alloc, text) {
-        Ok(plan) => Ok(mend(alloc, plan, limit, spare)?),
-        Err(fault) => Err(Stop::Refused(fault.line)),
-    }
+    let plan = read_plan(alloc, text)?;
+    Ok(mend(alloc, plan, limit, spare)?)
 }
 
 /// How the answer for the plan in hand differs from what all routings of its network show.
@@ -152,14 +150,8 @@ fn judge_number(
     tally: &mut MendTally,
 ) -> Result<(), Stop> {
     put_plan(lines, number, &mut work.text)?;
-    match read_plan(alloc, work.text.as_slice()) {
-        Ok(plan) => {
-            let judged = judge_plan(alloc, &plan, work, tally);
-            drop(plan);
-            judged
-        }
-        Err(fault) => Err(Stop::Refused(fault.line)),
-    }
+    let plan = read_plan(alloc, work.text.as_slice())?;
+    judge_plan(alloc, &plan, work, tally)
 }
 
 /// Judges the mendings of all plans that the lines of a family give.
@@ -172,7 +164,7 @@ fn judge_mends(alloc: Global, lines: &[u8], work: &mut MendWork) -> Result<MendT
     Ok(tally)
 }
 
-/// Judges the mendings of all plans of a family, and tells what there was, or why it stopped and
+/// Judges the mendings of all plans of a family, and writes what there was, or why it stopped and
 /// the plan where it did.
 pub fn play_mends(alloc: Global, lines: &[u8], out: &mut Told) {
     let mut work = MendWork::new(alloc);
@@ -180,5 +172,4 @@ pub fn play_mends(alloc: Global, lines: &[u8], out: &mut Told) {
         Ok(tally) => tell_mends(&tally, out),
         Err(stop) => tell_stop(stop, work.differs, work.text.as_slice(), out),
     }
-    drop(work);
 }

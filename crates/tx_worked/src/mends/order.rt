@@ -31,7 +31,7 @@ fn add_new(plan: &Plan, mended: &Plan, routed: &mut Vec<Routed>) -> Result<(), N
     Ok(())
 }
 
-/// Whether the routes of a mended plan stand in the order in which they have to stand.
+/// Whether the routes of a mended plan are in the order in which they have to stand.
 pub fn are_in_order(
     plan: &Plan,
     mended: &Plan,

@@ -14,14 +14,14 @@ pub fn put_network(text: &[u8], lines: &mut Vec<u8>) -> Result<(), NoMemory> {
     lines.clear();
     let mut rest = text;
     for _ in 0..text.len() {
-        let Some((line, behind)) = next_line(rest) else {
+        let Some((line, after)) = next_line(rest) else {
             break;
         };
         if is_of_network(line) {
             lines.extend_from_slice(line)?;
             lines.push(b'\n')?;
         }
-        rest = behind;
+        rest = after;
     }
     Ok(())
 }

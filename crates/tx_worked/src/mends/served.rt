@@ -55,15 +55,8 @@ fn is_right(
     requires spare { spare ≤ 15 }
 {
     match rank(alloc, routing, limit, spare)? {
-        Ranking::Found(cert) => {
-            drop(cert);
-            Ok(true)
-        }
-        Ranking::Fails(findings) => {
-            let fails = findings.iter().any(|it| is_for(it, code));
-            drop(findings);
-            Ok(!fails)
-        }
+        Ranking::Found(_) => Ok(true),
+        Ranking::Fails(findings) => Ok(!findings.iter().any(|it| is_for(it, code))),
     }
 }
 
@@ -131,13 +124,8 @@ impl CodeServed {
     /// What no routings serve.
     pub fn new(alloc: Global, plan: &Plan) -> Result<CodeServed, NoMemory> {
         let mut numbers = Vec::new(alloc);
-        match put_none(alloc, plan, &mut numbers) {
-            Ok(()) => Ok(CodeServed { numbers }),
-            Err(fault) => {
-                drop(numbers);
-                Err(fault)
-            }
-        }
+        put_none(alloc, plan, &mut numbers)?;
+        Ok(CodeServed { numbers })
     }
 
     /// What they do with a limit and a spare number.

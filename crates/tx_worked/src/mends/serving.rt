@@ -57,14 +57,8 @@ fn note_number(
     served: &mut CodeServed,
 ) -> Result<(), Stop> {
     put_plan(&work.lines, number, &mut work.text)?;
-    match read_plan(alloc, work.text.as_slice()) {
-        Ok(routing) => {
-            let noted = note_routing(alloc, &routing, code, work, served);
-            drop(routing);
-            Ok(noted?)
-        }
-        Err(fault) => Err(Stop::Refused(fault.line)),
-    }
+    let routing = read_plan(alloc, work.text.as_slice())?;
+    Ok(note_routing(alloc, &routing, code, work, served)?)
 }
 
 /// Makes all routings of a network for a code, and takes in what they do.
@@ -92,13 +86,8 @@ fn serve_code(
     work: &mut RoutingWork,
 ) -> Result<CodeServed, Stop> {
     let mut served = CodeServed::new(alloc, plan)?;
-    match note_routings(alloc, network, plan, code, work, &mut served) {
-        Ok(()) => Ok(served),
-        Err(stop) => {
-            drop(served);
-            Err(stop)
-        }
-    }
+    note_routings(alloc, network, plan, code, work, &mut served)?;
+    Ok(served)
 }
 
 fn keep(served: CodeServed, codes: &mut Vec<CodeServed>) -> Result<(), NoMemory> {

@@ -22,13 +22,8 @@ fn survey_from(
 ) -> Result<Survey, NoMemory> {
     let mut survey = Survey::new(alloc, plan, code)?;
     steps.clear();
-    match note_walks(plan, start, steps, plan.exchanges(), &mut survey) {
-        Ok(()) => Ok(survey),
-        Err(fault) => {
-            drop(survey);
-            Err(fault)
-        }
-    }
+    note_walks(plan, start, steps, plan.exchanges(), &mut survey)?;
+    Ok(survey)
 }
 
 /// Looks at all walks for a code from each exchange alone.

@@ -55,7 +55,7 @@ impl MendTally {
     }
 }
 
-/// What stands before each count.
+/// What is before each count.
 static BEFORE: [&str; 11] = [
     "",
     " plans of ",
@@ -70,7 +70,7 @@ static BEFORE: [&str; 11] = [
     " ambiguous pairs and ",
 ];
 
-/// Tells what there was in a family.
+/// Writes what there was in a family.
 pub fn tell_mends(tally: &MendTally, out: &mut Told) {
     let counts = [
         tally.plans,

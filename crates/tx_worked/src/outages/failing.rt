@@ -71,7 +71,7 @@ fn add_each(plan: &Plan, all: &mut Vec<Failing>) -> Result<(), NoMemory> {
     Ok(())
 }
 
-/// Adds each group of a plan with each that is declared behind it.
+/// Adds each group of a plan with each that is declared after it.
 fn add_both(plan: &Plan, all: &mut Vec<Failing>) -> Result<(), NoMemory> {
     let before = all.len();
     for i in 0..plan.groups() {

@@ -37,18 +37,14 @@ pub fn survival_differs(
 {
     match survive(alloc, plan, risks)? {
         Survival::Tried(told) => {
-            let differs = if findings.is_empty() {
-                cuts_differ(plan, &told, cuts)
+            if findings.is_empty() {
+                Ok(cuts_differ(plan, &told, cuts))
             } else {
-                Some(Difference::Grade)
-            };
-            drop(told);
-            Ok(differs)
+                Ok(Some(Difference::Grade))
+            }
         }
         Survival::Ungraded(grade) => {
-            let differs = findings_differ(plan, &grade.findings, findings, HIGH, 0);
-            drop(grade);
-            Ok(differs)
+            Ok(findings_differ(plan, &grade.findings, findings, HIGH, 0))
         }
     }
 }

@@ -63,15 +63,8 @@ fn outages_differ(
     plan: &Plan,
     work: &OutageWork,
 ) -> Result<Option<Difference>, Stop> {
-    match read_risks(alloc, work.risks.as_slice(), plan) {
-        Ok(risks) => {
-            let named = risks.as_slice();
-            let differs = survival_differs(alloc, plan, named, &work.findings, &work.cuts);
-            drop(risks);
-            Ok(differs?)
-        }
-        Err(fault) => Err(Stop::Refused(fault.line)),
-    }
+    let risks = read_risks(alloc, work.risks.as_slice(), plan)?;
+    Ok(survival_differs(alloc, plan, risks.as_slice(), &work.findings, &work.cuts)?)
 }
 
 /// Judges the outages of a plan.
@@ -106,14 +99,8 @@ fn judge_number(
     tally: &mut OutageTally,
 ) -> Result<(), Stop> {
     put_plan(lines, number, &mut work.text)?;
-    match read_plan(alloc, work.text.as_slice()) {
-        Ok(plan) => {
-            let judged = judge_plan(alloc, &plan, work, tally);
-            drop(plan);
-            judged
-        }
-        Err(fault) => Err(Stop::Refused(fault.line)),
-    }
+    let plan = read_plan(alloc, work.text.as_slice())?;
+    judge_plan(alloc, &plan, work, tally)
 }
 
 /// Judges the outages of all plans that the lines of a family give.
@@ -125,13 +112,12 @@ fn judge_outages(alloc: Global, lines: &[u8], work: &mut OutageWork) -> Result<O
     Ok(tally)
 }
 
-/// Judges the outages of all plans of a family, and tells what there was, or why it stopped and the
-/// plan where it did.
+/// Judges the outages of all plans of a family, and writes what there was, or why it stopped and
+/// the plan where it did.
 pub fn play_outages(alloc: Global, lines: &[u8], out: &mut Told) {
     let mut work = OutageWork::new(alloc);
     match judge_outages(alloc, lines, &mut work) {
         Ok(tally) => tell_outages(&tally, out),
         Err(stop) => tell_stop(stop, work.differs, work.text.as_slice(), out),
     }
-    drop(work);
 }

@@ -37,7 +37,7 @@ impl OutageTally {
     }
 }
 
-/// What stands before each count.
+/// What is before each count.
 static BEFORE: [&str; 6] = [
     "",
     " plans, ",
@@ -47,7 +47,7 @@ static BEFORE: [&str; 6] = [
     " strays, by shortest walks of ",
 ];
 
-/// Tells what there was in a family.
+/// Writes what there was in a family.
 pub fn tell_outages(tally: &OutageTally, out: &mut Told) {
     let counts = [
         tally.plans,

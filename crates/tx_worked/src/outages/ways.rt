@@ -29,7 +29,7 @@ impl<'a> Left<'a> {
         exchange == self.plan.home(self.code)
     }
 
-    /// Whether a group stands in the list of an exchange, and does not go.
+    /// Whether a group is in the list of an exchange, and does not go.
     fn is_left(&self, exchange: ExchangeId, group: GroupId) -> bool {
         self.plan.list(exchange, self.code).contains(&group)
             && !self.failing.takes(self.plan, group)
@@ -67,8 +67,8 @@ fn note_dead(steps: usize, ways: &mut Ways) {
     ways.dead = Some(ways.dead.unwrap_or(steps).min(steps));
 }
 
-/// Takes in how the walk ends that has come to an exchange by so many steps, and how all end that go
-/// on from it by at most so many more.
+/// Takes in how the walk ends that has come to an exchange by so many steps, and how all end that
+/// go on from it by at most so many more.
 pub fn note_ways(left: &Left<'_>, at: ExchangeId, steps: usize, more: usize, ways: &mut Ways) {
     if left.is_home(at) {
         ways.home = true;

@@ -26,7 +26,8 @@ static HAPPENS: [(&str, (Mark, bool)); 6] = [
     ("free", (Mark::Engaged, false)),
 ];
 
-/// Gives a line a mark, or takes it. Only a new mark takes room: tells whether there was room for it.
+/// Gives a line a mark, or takes it. Only a new mark takes room: returns whether there was room for
+/// it.
 fn set_mark(book: &mut LineBook, line: &Line, mark: Mark, to: bool) -> bool {
     if to && book.reserve_one().is_err() {
         return false;
@@ -56,7 +57,7 @@ fn tell_marks(book: &LineBook, line: &Line, out: &mut Told) {
     );
 }
 
-/// Tells what is answered for a number.
+/// Writes what is answered for a number.
 fn tell_answer(book: &LineBook, code: CodeId, number: &[u8], out: &mut Told) {
     let text = match book.answer(code, number) {
         LineAnswer::NoLine => b": no line\n".as_slice(),
@@ -70,7 +71,8 @@ fn tell_answer(book: &LineBook, code: CodeId, number: &[u8], out: &mut Told) {
     tell(text, out);
 }
 
-/// What a line of a case says: the place of a code, a number, and what happens to the line first, if anything does.
+/// What a line of a case says: the place of a code, a number, and what happens to the line first,
+/// if anything does.
 #[derive(Clone, Copy)]
 struct Asked<'a> {
     code: CodeId,
@@ -82,13 +84,13 @@ fn read_asked(line: &[u8]) -> Asked<'_> {
     let mut rest = words(line);
     let code = next_number(&mut rest, 65_535).min(65_535) as u16;
     Asked {
-        code: CodeId::at(code),
+        code: CodeId::of(usize::from(code)),
         number: next_word(&mut rest),
         happens: named(&HAPPENS, next_word(&mut rest)),
     }
 }
 
-/// Tells what is found, behind what happens to the line, and what is answered.
+/// Writes what is found, after what happens to the line, and what is answered.
 fn play_line(book: &mut LineBook, line: &[u8], out: &mut Told) {
     let Asked {
         code,
@@ -109,26 +111,26 @@ fn play_line(book: &mut LineBook, line: &[u8], out: &mut Told) {
     tell_answer(book, code, number, out);
 }
 
-/// Tells what is found for each line of a case.
+/// Writes what is found for each line of a case.
 pub(crate) fn play_book(book: &mut LineBook, lines: &[u8], out: &mut Told) {
     let mut rest = lines;
     for _ in 0..lines.len() {
-        let Some((line, behind)) = next_line(rest) else {
+        let Some((line, after)) = next_line(rest) else {
             break;
         };
         tell(line, out);
         play_line(book, line, out);
-        rest = behind;
+        rest = after;
     }
 }
 
 /// The line of the first code that has a number.
 fn line_of(book: &LineBook, number: u32) -> Option<Line> {
     let mut digits = Buffer::new();
-    book.find(CodeId::at(0), digits.format(number).as_bytes())
+    book.find(CodeId::of(0), digits.format(number).as_bytes())
 }
 
-/// Marks the line of a number away. Tells whether there is such a line, and room for its mark.
+/// Marks the line of a number away. Returns whether there is such a line, and room for its mark.
 fn mark_away(book: &mut LineBook, number: u32) -> bool {
     match line_of(book, number) {
         Some(line) => set_mark(book, &line, Mark::Away, true),
@@ -136,7 +138,8 @@ fn mark_away(book: &mut LineBook, number: u32) -> bool {
     }
 }
 
-/// Marks the lines of the first code from one number to another away, and tells how many of them are found so then.
+/// Marks the lines of the first code from one number to another away, and writes how many of them
+/// are found so then.
 pub(crate) fn mark_many(book: &mut LineBook, text: &[u8], out: &mut Told) {
     let (line, _) = next_line(text).unwrap_or((b"", b""));
     let mut numbers = words(line);

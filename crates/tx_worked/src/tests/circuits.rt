@@ -1,4 +1,5 @@
-// Calls on the circuits of one group, by cases, and all short sequences of them beside a plain model.
+// Calls on the circuits of one group, by cases, and all short sequences of them beside a plain
+// model.
 pub(crate) mod calls;
 mod model;
 
@@ -10,7 +11,7 @@ use tx_circuits::CircuitTable;
 use tx_plan::{Circuit, GroupId, Plan};
 use tx_text::words;
 
-/// Makes the call that a line says, where it may be made, and tells whether.
+/// Makes the call that a line says, where it may be made, and returns whether.
 fn apply_line(table: &mut CircuitTable, line: &[u8]) -> bool {
     let mut rest = words(line);
     let Some(what) = named(&WHATS, next_word(&mut rest)) else {
@@ -25,9 +26,10 @@ fn apply_line(table: &mut CircuitTable, line: &[u8]) -> bool {
     apply(table, call)
 }
 
-/// Whether the group is failed or blocked, or one of its circuits seized, carried, releasing or out.
+/// Whether the group is failed or blocked, or one of its circuits seized, carried, releasing or
+/// out.
 fn has_marks(table: &CircuitTable) -> bool {
-    let group = GroupId::at(0);
+    let group = GroupId::of(0);
     for number in 1..241u32 {
         let x = Circuit { group, number };
         if !table.is_unseized(&x)
@@ -41,13 +43,13 @@ fn has_marks(table: &CircuitTable) -> bool {
     table.is_failed(group) || table.is_blocked(group)
 }
 
-/// Tells which number ALFA and BETA take next, or 0 for none.
+/// Writes which number ALFA and BETA take next, or 0 for none.
 fn tell_next(table: &CircuitTable, out: &mut Told) {
     tell_count(b": ", u64::from(next(table, ALFA)), b"", out);
     tell_count(b" ", u64::from(next(table, BETA)), b"\n", out);
 }
 
-/// Tells the new table, and then makes the call of each line and tells what is next behind it.
+/// Tells the new table, and then makes the call of each line and writes what is next after it.
 pub(crate) fn tell_circuits(table: &mut CircuitTable, lines: &[u8], out: &mut Told) {
     tell(b"built", out);
     if !has_marks(table) {
@@ -56,7 +58,7 @@ pub(crate) fn tell_circuits(table: &mut CircuitTable, lines: &[u8], out: &mut To
     tell_next(table, out);
     let mut rest = lines;
     for _ in 0..lines.len() {
-        let Some((line, behind)) = next_line(rest) else {
+        let Some((line, after)) = next_line(rest) else {
             break;
         };
         tell(line, out);
@@ -64,11 +66,12 @@ pub(crate) fn tell_circuits(table: &mut CircuitTable, lines: &[u8], out: &mut To
             tell(b", not made", out);
         }
         tell_next(table, out);
-        rest = behind;
+        rest = after;
     }
 }
 
-/// Makes three of the 43 calls, as far as each may be made, on a table and on the model. Tells whether the two agree.
+/// Makes three of the 43 calls, as far as each may be made, on a table and on the model. Returns
+/// whether the two agree.
 fn agree_along(table: &mut CircuitTable, sequence: u32) -> bool {
     let mut model = Model::new();
     let mut rest = sequence;
@@ -94,7 +97,7 @@ fn agrees(alloc: Global, plan: &Plan, sequence: u32) -> bool {
     }
 }
 
-/// Tries all sequences of three calls, and tells how many there are.
+/// Tries all sequences of three calls, and writes how many there are.
 pub(crate) fn try_sequences(alloc: Global, plan: &Plan, out: &mut Told) {
     let mut tried = 0u64;
     for sequence in 0..79_507u32 {

@@ -1,14 +1,17 @@
 // Sources and sinks, over memory and over std's readers and writers.
-use crate::cases::{Told, tell, tell_broken, tell_count, tell_parts};
+use crate::cases::{Log, Told, tell, tell_broken, tell_count, tell_parts};
+use crate::jobs::Fault;
+use crate::run_laws::tell_summary;
 use crate::tests::flaky::Flaky;
+use crate::tests::watched::{WatchedSink, WatchedSource};
 use std::alloc::Global;
 use std::io::ErrorKind;
-use tx_pipe::{Ahead, PlanPart, ScriptPart};
+use tx_jobs::pipe_job;
 use tx_text::{
     FromRead, MemorySink, MemorySource, Sink, Source, ToWrite, WriteFault, write_bytes, write_parts,
 };
 
-/// Makes a call of a source, for so many bytes, and tells what it gives.
+/// Makes a call of a source, for so many bytes, and writes what it gives.
 fn tell_read<R: Source>(source: &mut R, room: usize, out: &mut Told) {
     let mut buf = [0; 16];
     match source.read(buf.split_at_mut(room.clamp(1, 16)).0) {
@@ -17,7 +20,7 @@ fn tell_read<R: Source>(source: &mut R, room: usize, out: &mut Told) {
     }
 }
 
-/// Makes calls of a source, each for so many bytes, and tells what they give.
+/// Makes calls of a source, each for so many bytes, and writes what they give.
 pub(crate) fn tell_reads<R: Source>(source: &mut R, calls: u8, room: usize, out: &mut Told) {
     for _ in 0..calls {
         tell_read(source, room, out);
@@ -33,18 +36,25 @@ pub(crate) fn tell_sources(text: &[u8], piece: usize, out: &mut Told) {
     }
 }
 
-/// Calls before and behind the end of the plan of an input, of which that of a number fails, where it is not 0.
-pub(crate) fn tell_two_texts(text: &[u8], piece: usize, fails: u64, room: usize, out: &mut Told) {
+/// Runs the job of an input of two texts, which gives pieces of so many bytes, and of which the
+/// call of a number fails, where it is not 0. Tells each call of the input, what is written between
+/// them, and how the job ends.
+pub(crate) fn tell_two_texts(alloc: Global, text: &[u8], piece: usize, fails: u64, out: &mut Told) {
+    let log = Log::new(alloc);
     let fails_at = if fails > 0 { Some(fails) } else { None };
-    let mut source = MemorySource::new(text, piece.max(1), fails_at);
-    let mut ahead = Ahead::new();
-    let mut plan = PlanPart::new(&mut source, &mut ahead);
-    tell_reads(&mut plan, 5, room, out);
-    let mut script = ScriptPart::new(&mut source, &mut ahead);
-    tell_reads(&mut script, 3, room, out);
+    let mut input = WatchedSource {
+        source: MemorySource::new(text, piece.max(1), fails_at),
+        log: &log,
+    };
+    let ran = pipe_job(alloc, &mut input, &mut WatchedSink { log: &log });
+    log.print(out);
+    match ran {
+        Ok(summary) => tell_summary(&summary, out),
+        Err(fault) => Fault::Job(fault).tell(out),
+    }
 }
 
-/// Tells what a sink took, and whether it took all that it was given.
+/// Writes what a sink took, and whether it took all that it was given.
 fn tell_taken(taken: &[u8], answer: Result<(), WriteFault>, out: &mut Told) {
     let end = match answer {
         Ok(()) => b"] all, ".as_slice(),
@@ -108,8 +118,8 @@ fn tell_writes(takes: usize, why: ErrorKind, out: &mut Told) {
     tell(b"\n", out);
 }
 
-/// Calls of std's readers and writers that fail in one way: how many of a reader were counted, and those of a writer of one byte a call, and of one that takes
-/// nothing.
+/// Calls of std's readers and writers that fail in one way: how many of a reader were counted, and
+/// those of a writer of one byte a call, and of one that takes nothing.
 fn tell_failing(why: ErrorKind, out: &mut Told) {
     let mut source = FromRead::new(Flaky::new(1, why));
     tell_reads(&mut source, 4, 4, out);
@@ -118,7 +128,8 @@ fn tell_failing(why: ErrorKind, out: &mut Told) {
     tell_writes(0, why, out);
 }
 
-/// Calls of std's readers and writers that fail, or that are interrupted where the head of the case says so.
+/// Calls of std's readers and writers that fail, or that are interrupted where the head of the case
+/// says so.
 pub(crate) fn tell_ends(how: &[u8], out: &mut Told) {
     if how == b"interrupted".as_slice() {
         tell_failing(ErrorKind::Interrupted, out);

@@ -2,7 +2,8 @@
 use std::io;
 use std::io::{ErrorKind, Read, Write};
 
-/// A reader that gives one byte a call, and a writer that takes at most so many. Both fail at the third call, in this way.
+/// A reader that gives one byte a call, and a writer that takes at most so many. Both fail at the
+/// third call, in this way.
 #[derive(Drop)]
 pub(crate) struct Flaky {
     pub takes: usize,

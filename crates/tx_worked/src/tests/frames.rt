@@ -6,24 +6,25 @@ use crate::tests::lines::fault_name;
 use crate::tests::spelling::tell_words;
 use std::alloc::Global;
 use tx_text::{
-    FormFault, FrameFault, FrameReader, FrameStep, FrameStop, LineFault, MemorySource, SliceSource,
-    Source, TextFault,
+    FrameFault, FrameReader, FrameStep, FrameStop, MemorySource, SliceSource, Source, TextFault,
 };
 
 fn frame_name(fault: FrameFault) -> &'static [u8] {
     match fault {
-        FrameFault::Form(FormFault::NoHeader) => b"NoHeader",
-        FrameFault::Form(FormFault::NoEnd) => b"NoEnd",
-        FrameFault::Form(FormFault::AfterEnd) => b"AfterEnd",
-        FrameFault::Line(LineFault::Text(fault)) => fault_name(fault),
-        FrameFault::Line(LineFault::Read) => b"Read",
+        FrameFault::LineTooLong => fault_name(TextFault::LineTooLong),
+        FrameFault::BadByte => fault_name(TextFault::BadByte),
+        FrameFault::NoMemory => fault_name(TextFault::NoMemory),
+        FrameFault::Read => b"Read",
+        FrameFault::NoHeader => b"NoHeader",
+        FrameFault::NoEnd => b"NoEnd",
+        FrameFault::AfterEnd => b"AfterEnd",
     }
 }
 
 /// Tells a header, an end, or a fault.
 fn tell_step(step: Result<FrameStep, FrameStop>, out: &mut Told) {
     match step {
-        Ok(FrameStep::Header(version)) => { tell_count(b"header ", u64::from(version), b"\n", out) }
+        Ok(FrameStep::Header(version)) => tell_count(b"header ", u64::from(version), b"\n", out),
         Ok(FrameStep::Line) => {}
         Ok(FrameStep::End) => tell(b"end\n", out),
         Err(stop) => {
@@ -54,7 +55,7 @@ fn tell_frame<R: Source>(reader: &mut FrameReader<'_>, source: &mut R, out: &mut
 
 /// Tells a text of plans that a source gives to a new reader.
 fn tell_source<R: Source>(
-    reader: Result<FrameReader<'_>, TextFault>,
+    reader: Result<FrameReader<'_>, FrameStop>,
     source: &mut R,
     out: &mut Told,
 )

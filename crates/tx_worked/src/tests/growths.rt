@@ -6,9 +6,7 @@ use tx_circuits::CircuitTable;
 use tx_lines::{LineAnswer, LineBook};
 use tx_plan::{CodeId, Line, Plan, PlanRefusal};
 use tx_plantext::{PlanFault, PlanWord, read_plan};
-use tx_text::{
-    FaultKind, FrameFault, LineFault, LineFeeder, MemorySink, Sink, TextFault, write_bytes,
-};
+use tx_text::{FaultKind, FrameFault, LineFeeder, MemorySink, Sink, TextFault, write_bytes};
 use tx_trie::CodeTrie;
 
 /// What is made: the last three of them over a plan.
@@ -32,11 +30,11 @@ pub(crate) static MADE: [(&str, Made); 5] = [
 /// What came of it.
 #[derive(Clone, Copy)]
 enum Came {
-    /// All answers are right, and none was for want of memory.
+    /// All answers are right, and memory never ran out.
     Right,
-    /// The plan wanted memory.
+    /// Memory ran out for the plan.
     NoPlan,
-    /// What was made wanted memory.
+    /// Memory ran out for what was made.
     Wanting,
     /// An answer is wrong.
     Wrong,
@@ -80,7 +78,7 @@ fn make_table<A: Allocator + Copy>(alloc: A, plan: &Plan<A>) -> Came {
     }
 }
 
-/// Engages a free line, for which room is made first. Where memory is wanting it has to stay free.
+/// Engages a free line, for which room is made first. Where memory runs out it has to stay free.
 fn engage<A: Allocator + Copy>(book: &mut LineBook<A>, line: &Line) -> Came {
     let mut came = Came::Wanting;
     if book.reserve_one().is_ok() {
@@ -95,12 +93,13 @@ fn engage<A: Allocator + Copy>(book: &mut LineBook<A>, line: &Line) -> Came {
     }
 }
 
-/// Engages so many lines that their room is made more than once. Where memory is wanting, a line is engaged at the second try.
+/// Engages so many lines that their room is made more than once. Where memory runs out, a line is
+/// engaged at the second try.
 fn engage_lines<A: Allocator + Copy>(book: &mut LineBook<A>) -> Came {
     let mut all = Came::Right;
     for count in 1..14u8 {
         let number = [b'1', b'0', b'0', b'0' + count / 10, b'0' + count % 10];
-        let Some(line) = book.find(CodeId::at(0), &number) else {
+        let Some(line) = book.find(CodeId::of(0), &number) else {
             return Came::Wrong;
         };
         let mut came = engage(book, &line);
@@ -137,7 +136,7 @@ fn make_over<A: Allocator + Copy>(alloc: A, made: Made, plan: &Plan<A>) -> Came 
 /// What came of a plan that could not be read.
 fn came_of(fault: PlanFault) -> Came {
     match fault.kind {
-        FaultKind::Frame(FrameFault::Line(LineFault::Text(TextFault::NoMemory)))
+        FaultKind::Frame(FrameFault::NoMemory)
         | FaultKind::Word(PlanWord::Refused(PlanRefusal::NoMemory)) => Came::NoPlan,
         _ => Came::Wrong,
     }
@@ -146,16 +145,13 @@ fn came_of(fault: PlanFault) -> Came {
 /// Reads the plan, and makes what is to be made.
 fn make<A: Allocator + Copy>(alloc: A, made: Made, plan: &[u8]) -> Came {
     match read_plan(alloc, plan) {
-        Ok(plan) => {
-            let came = make_over(alloc, made, &plan);
-            drop(plan);
-            came
-        }
+        Ok(plan) => make_over(alloc, made, &plan),
         Err(fault) => came_of(fault),
     }
 }
 
-/// Refuses each request for memory in turn, until none is refused, and tells how many are not the plan's.
+/// Refuses each request for memory in turn, until none is refused, and writes how many are not the
+/// plan's.
 pub(crate) fn play_growths(alloc: Global, made: Option<Made>, plan: &[u8], out: &mut Told) {
     let Some(made) = made else {
         return tell_broken(b"no such type", 0, out);

@@ -46,7 +46,7 @@ pub(crate) struct Cuts {
 }
 
 impl Cuts {
-    /// What stands before the next cut of a text of which so many bytes were fed.
+    /// What is before the next cut of a text of which so many bytes were fed.
     fn piece<'a>(&self, fed: usize, rest: &'a [u8]) -> &'a [u8]
         ensures { length result.now ≤ length rest.now }
     {
@@ -61,7 +61,7 @@ impl Cuts {
     }
 }
 
-/// Tells how much was taken, or a fault.
+/// Writes how much was taken, or a fault.
 fn tell_fed(answer: Result<Fed, TextFault>, out: &mut Told) {
     match answer {
         Ok(fed) => tell_count(b"", fed.taken as u64, b" taken\n", out),
@@ -69,7 +69,7 @@ fn tell_fed(answer: Result<Fed, TextFault>, out: &mut Told) {
     }
 }
 
-/// Feeds an LF and a byte more behind a fault, which stays.
+/// Feeds an LF and a byte more after a fault, which stays.
 fn feed_again(feeder: &mut LineFeeder, out: &mut Told)
     requires { feeder.old.start + length feeder.old.begun ≤ 1000 }
 {
@@ -79,7 +79,8 @@ fn feed_again(feeder: &mut LineFeeder, out: &mut Told)
     tell_fed(byte, out);
 }
 
-/// Feeds a text piece by piece, and tells the lines that come of it. Tells whether there was no fault.
+/// Feeds a text piece by piece, and tells the lines that come of it. Returns whether there was no
+/// fault.
 fn feed_pieces(feeder: &mut LineFeeder, text: &[u8], cuts: Cuts, out: &mut Told) -> bool
     requires { feeder.old.start + length feeder.old.begun + length text.now ≤ 1000 }
 {
@@ -111,7 +112,7 @@ fn feed_pieces(feeder: &mut LineFeeder, text: &[u8], cuts: Cuts, out: &mut Told)
     true
 }
 
-/// Feeds a text, and tells how it ends.
+/// Feeds a text, and writes how it ends.
 fn feed_text(feeder: &mut LineFeeder, text: &[u8], cuts: Cuts, out: &mut Told)
     requires { feeder.old.start + length feeder.old.begun + length text.now ≤ 1000 }
 {

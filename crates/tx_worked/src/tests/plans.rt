@@ -22,7 +22,7 @@ pub(crate) enum PlanCall {
     Sequences,
 }
 
-/// Makes a trie, and tells what it reads.
+/// Makes a trie, and writes what it reads.
 fn over_trie(alloc: Global, plan: &Plan, lines: &[u8], out: &mut Told) {
     match CodeTrie::build(alloc, plan) {
         Ok(trie) => tell_trie(plan, &trie, lines, out),
@@ -30,7 +30,7 @@ fn over_trie(alloc: Global, plan: &Plan, lines: &[u8], out: &mut Told) {
     }
 }
 
-/// Makes a line book, and tells what is found in it, or in many of its lines.
+/// Makes a line book, and writes what is found in it, or in many of its lines.
 fn over_book(alloc: Global, plan: &Plan, are_many: bool, lines: &[u8], out: &mut Told) {
     match LineBook::build(alloc, plan) {
         Ok(mut book) => {
@@ -39,13 +39,12 @@ fn over_book(alloc: Global, plan: &Plan, are_many: bool, lines: &[u8], out: &mut
             } else {
                 play_book(&mut book, lines, out);
             }
-            drop(book);
         }
         Err(_) => tell_broken(b"no memory", 0, out),
     }
 }
 
-/// Makes a table of circuits, and tells what it gives behind each call.
+/// Makes a table of circuits, and writes what it gives after each call.
 fn over_table(alloc: Global, plan: &Plan, calls: &[u8], out: &mut Told) {
     match CircuitTable::build(alloc, plan) {
         Ok(mut table) => tell_circuits(&mut table, calls, out),
@@ -64,7 +63,6 @@ pub(crate) fn with_plan(alloc: Global, call: PlanCall, plan: &[u8], calls: &[u8]
                 PlanCall::Circuits => over_table(alloc, &plan, calls, out),
                 PlanCall::Sequences => try_sequences(alloc, &plan, out),
             }
-            drop(plan);
         }
         Err(fault) => tell_broken(b"no plan, line", fault.line, out),
     }

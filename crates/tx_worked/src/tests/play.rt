@@ -51,7 +51,7 @@ pub(crate) static CALLS: [(&str, CallKind); 20] = [
     ("sequences", CallKind::OverPlan(PlanCall::Sequences)),
 ];
 
-/// Plays a case of calls, and tells what they answer.
+/// Plays a case of calls, and writes what they answer.
 pub(crate) fn play_call(
     alloc: Global,
     call: CallKind,
@@ -59,7 +59,7 @@ pub(crate) fn play_call(
     text: &[u8],
     out: &mut Told,
 ) {
-    let (least, most, third) = head.numbers();
+    let (least, most, _) = head.numbers();
     let (first, second) = (least as usize, most as usize);
     match call {
         CallKind::Spelled(spelling) => tell_spellings(spelling, least, most, text, out),
@@ -77,7 +77,7 @@ pub(crate) fn play_call(
         CallKind::FrameCalls => play_calls(alloc, text, first, out),
         CallKind::Source => tell_sources(text, first, out),
         CallKind::Slice => tell_reads(&mut SliceSource::new(text), 3, 8, out),
-        CallKind::TwoTexts => tell_two_texts(text, first, u64::from(most), third as usize, out),
+        CallKind::TwoTexts => tell_two_texts(alloc, text, first, u64::from(most), out),
         CallKind::Sink => tell_rooms(alloc, text, out),
         CallKind::Ends => tell_ends(head.first, out),
         CallKind::Declared => {

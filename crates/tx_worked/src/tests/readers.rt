@@ -1,4 +1,4 @@
-// The readers of a small plan, as many entries as there may be, and want of memory.
+// The readers of a small plan, as many entries as there may be, and lack of memory.
 use crate::cases::{Refusing, Told, tell, tell_broken, tell_count};
 use std::alloc::{Allocator, Global};
 use tx_plan::{CodeId, Direction, ExchangeId, GroupId, Plan, PlanBuilder, PlanRefusal};
@@ -18,7 +18,8 @@ fn declare<A: Allocator>(plan: &mut PlanBuilder<A>, step: usize) -> Result<(), P
     }
 }
 
-/// Declares the small plan, and again what found no memory. Marks that, and tells whether all was declared.
+/// Declares the small plan, and again what found no memory. Marks that, and returns whether all was
+/// declared.
 fn declare_all<A: Allocator>(plan: &mut PlanBuilder<A>, wanting: &mut [bool; 8]) -> bool {
     for step in 0..8usize {
         let mut answer = declare(plan, step);
@@ -33,7 +34,7 @@ fn declare_all<A: Allocator>(plan: &mut PlanBuilder<A>, wanting: &mut [bool; 8])
     true
 }
 
-/// Tells how many exchanges, codes, ranges, groups, routes and bars.
+/// Writes how many exchanges, codes, ranges, groups, routes and bars.
 fn tell_sizes(plan: &Plan, out: &mut Told) {
     let sizes = [
         plan.exchanges(),
@@ -49,16 +50,16 @@ fn tell_sizes(plan: &Plan, out: &mut Told) {
     tell(b"entries\n", out);
 }
 
-const ALFA: u16 = 0;
+const ALFA: usize = 0;
 
-const BETA: u16 = 1;
+const BETA: usize = 1;
 
 fn has_places(plan: &Plan) -> bool {
-    plan.exchange_at(1) == Some(ExchangeId::at(BETA))
-        && plan.code_at(1) == Some(CodeId::at(1))
-        && plan.group_at(0) == Some(GroupId::at(0))
-        && plan.route_at(0) == Some((ExchangeId::at(ALFA), CodeId::at(1)))
-        && plan.bar_at(0) == Some((ExchangeId::at(BETA), CodeId::at(0)))
+    plan.exchange_at(1) == Some(ExchangeId::of(BETA))
+        && plan.code_at(1) == Some(CodeId::of(1))
+        && plan.group_at(0) == Some(GroupId::of(0))
+        && plan.route_at(0) == Some((ExchangeId::of(ALFA), CodeId::of(1)))
+        && plan.bar_at(0) == Some((ExchangeId::of(BETA), CodeId::of(0)))
 }
 
 fn has_range(plan: &Plan) -> bool {
@@ -69,36 +70,36 @@ fn has_range(plan: &Plan) -> bool {
 }
 
 fn has_line(plan: &Plan) -> bool {
-    match plan.line_at(CodeId::at(0), b"007") {
+    match plan.line_at(CodeId::of(0), b"007") {
         Some(line) => line.national.bytes() == b"007".as_slice(),
         None => false,
     }
 }
 
 fn has_names(plan: &Plan) -> bool {
-    plan.exchange_named(b"BETA") == Some(ExchangeId::at(BETA))
-        && plan.code_named(b"51") == Some(CodeId::at(1))
-        && plan.group_named(b"G1") == Some(GroupId::at(0))
+    plan.exchange_named(b"BETA") == Some(ExchangeId::of(BETA))
+        && plan.code_named(b"51") == Some(CodeId::of(1))
+        && plan.group_named(b"G1") == Some(GroupId::of(0))
 }
 
 fn gives_names(plan: &Plan) -> bool {
-    plan.exchange_name(ExchangeId::at(BETA)) == b"BETA".as_slice()
-        && plan.code_figures(CodeId::at(1)) == b"51".as_slice()
-        && plan.group_name(GroupId::at(0)) == b"G1".as_slice()
+    plan.exchange_name(ExchangeId::of(BETA)) == b"BETA".as_slice()
+        && plan.code_figures(CodeId::of(1)) == b"51".as_slice()
+        && plan.group_name(GroupId::of(0)) == b"G1".as_slice()
 }
 
 fn has_routes(plan: &Plan) -> bool {
-    let (alfa, beta) = (ExchangeId::at(ALFA), ExchangeId::at(BETA));
-    plan.home(CodeId::at(1)) == beta
-        && plan.list(alfa, CodeId::at(1)) == [GroupId::at(0)].as_slice()
-        && plan.is_barred(beta, CodeId::at(0))
+    let (alfa, beta) = (ExchangeId::of(ALFA), ExchangeId::of(BETA));
+    plan.home(CodeId::of(1)) == beta
+        && plan.list(alfa, CodeId::of(1)) == [GroupId::of(0)].as_slice()
+        && plan.is_barred(beta, CodeId::of(0))
         && plan.is_origin(alfa)
-        && plan.is_origin_for(alfa, CodeId::at(1))
+        && plan.is_origin_for(alfa, CodeId::of(1))
 }
 
 fn has_groups(plan: &Plan) -> bool {
-    let (alfa, beta) = (ExchangeId::at(ALFA), ExchangeId::at(BETA));
-    let group = GroupId::at(0);
+    let (alfa, beta) = (ExchangeId::of(ALFA), ExchangeId::of(BETA));
+    let group = GroupId::of(0);
     plan.direction(group) == Direction::BothWay
         && plan.group_count(group) == 2
         && plan.ends(group) == (alfa, beta)
@@ -106,9 +107,8 @@ fn has_groups(plan: &Plan) -> bool {
         && plan.may_seize(group, beta)
 }
 
-/// Tells what the readers of the small plan answer.
+/// Writes what the readers of the small plan answer.
 fn tell_readers(plan: &Plan, out: &mut Told) {
-    plan.rules();
     let answers = [
         has_places(plan),
         has_range(plan),
@@ -159,7 +159,7 @@ fn fill(plan: &mut PlanBuilder) {
     }
 }
 
-/// Tells what the small plan holds, or how much one does that has more than there may be.
+/// Writes what the small plan holds, or how much one does that has more than there may be.
 pub(crate) fn tell_plan(alloc: Global, full: bool, out: &mut Told) {
     let mut builder = PlanBuilder::new(alloc);
     let _ = declare_all(&mut builder, &mut [false; 8]);
@@ -171,10 +171,10 @@ pub(crate) fn tell_plan(alloc: Global, full: bool, out: &mut Told) {
         tell_readers(&plan, out);
     }
     tell_sizes(&plan, out);
-    drop(plan);
 }
 
-/// Declares the small plan with one request for memory refused, marks what found none, and tells whether the request came.
+/// Declares the small plan with one request for memory refused, marks what found none, and returns
+/// whether the request came.
 fn declare_without(alloc: Global, request: u64, wanting: &mut [bool; 8], out: &mut Told) -> bool {
     let refusing = Refusing::new(alloc, request);
     let mut builder = PlanBuilder::new(&refusing);
@@ -185,7 +185,8 @@ fn declare_without(alloc: Global, request: u64, wanting: &mut [bool; 8], out: &m
     refusing.has_refused()
 }
 
-/// Refuses each request for memory in turn, until none is refused, and tells which declarations take memory: the first of each kind.
+/// Refuses each request for memory in turn, until none is refused, and writes which declarations
+/// take memory: the first of each kind.
 pub(crate) fn tell_growths(alloc: Global, out: &mut Told) {
     let mut wanting = [false; 8];
     for request in 1..100u64 {

@@ -22,7 +22,7 @@ pub(crate) fn tell_words(words: &Words<'_>, out: &mut Told) {
     tell(b"\n", out);
 }
 
-/// Tells what was read of a line, if anything was, and whether the line is of the form.
+/// Writes what was read of a line, if anything was, and whether the line is of the form.
 fn tell_read(read: Option<&[u8]>, is_one: bool, out: &mut Told) {
     match read {
         Some(bytes) => tell_parts(&[b"[", bytes, b"]"], out),
@@ -36,7 +36,7 @@ fn tell_read(read: Option<&[u8]>, is_one: bool, out: &mut Told) {
     tell(end, out);
 }
 
-/// Tells what a line is.
+/// Writes what a line is.
 fn tell_line(spelling: Spelling, first: u32, second: u32, line: &[u8], out: &mut Told) {
     match spelling {
         Spelling::Words => tell_words(&words(line), out),
@@ -58,7 +58,7 @@ fn tell_line(spelling: Spelling, first: u32, second: u32, line: &[u8], out: &mut
     }
 }
 
-/// Tells what each line of a text is.
+/// Writes what each line of a text is.
 pub(crate) fn tell_spellings(
     spelling: Spelling,
     first: u32,
@@ -68,11 +68,11 @@ pub(crate) fn tell_spellings(
 ) {
     let mut rest = text;
     for _ in 0..text.len() {
-        let Some((line, behind)) = next_line(rest) else {
+        let Some((line, after)) = next_line(rest) else {
             break;
         };
         tell_parts(&[b"[", line, b"]: "], out);
         tell_line(spelling, first, second, line, out);
-        rest = behind;
+        rest = after;
     }
 }

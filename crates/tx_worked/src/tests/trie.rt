@@ -4,7 +4,8 @@ use std::alloc::Global;
 use tx_plan::Plan;
 use tx_trie::CodeTrie;
 
-/// Tells the least pair of codes of which one begins the other, and the code that is read of each line.
+/// Tells the least pair of codes of which one begins the other, and the code that is read of each
+/// line.
 pub(crate) fn tell_trie(plan: &Plan, trie: &CodeTrie, lines: &[u8], out: &mut Told) {
     match trie.ambiguous() {
         Some((shorter, longer)) => {
@@ -15,7 +16,7 @@ pub(crate) fn tell_trie(plan: &Plan, trie: &CodeTrie, lines: &[u8], out: &mut To
     }
     let mut rest = lines;
     for _ in 0..lines.len() {
-        let Some((line, behind)) = next_line(rest) else {
+        let Some((line, after)) = next_line(rest) else {
             break;
         };
         let read = match trie.read(line) {
@@ -23,6 +24,6 @@ pub(crate) fn tell_trie(plan: &Plan, trie: &CodeTrie, lines: &[u8], out: &mut To
             None => b"none",
         };
         tell_parts(&[line, b": ", read, b"\n"], out);
-        rest = behind;
+        rest = after;
     }
 }

@@ -4,8 +4,8 @@ use crate::twins::mood::{EventKind, next_kind};
 use crate::twins::picture::{KnownCall, Picture};
 use crate::twins::stray::stray;
 use arrayvec::ArrayVec;
+use tx_machine::{Event, Party};
 use tx_plan::{Circuit, GroupId, Line, National, Plan};
-use tx_state::{Event, Party};
 use tx_text::Figures;
 
 /// A figure.
@@ -65,7 +65,8 @@ fn figures(plan: &Plan, line: &Line, chance: &mut Chance) -> Option<Figures> {
     Figures::read(text.as_slice())
 }
 
-/// The line of a subscriber who calls: mostly one that takes part in no call, but also one that does, or one that is out of order.
+/// The line of a subscriber who calls: mostly one that takes part in no call, but also one that
+/// does, or one that is out of order.
 fn calling_line(plan: &Plan, picture: &Picture, chance: &mut Chance) -> Option<Line> {
     if chance.one_in(40) {
         let call = chance.pick(picture.calls.as_slice())?;
@@ -160,74 +161,27 @@ fn circuit(plan: &Plan, chance: &mut Chance) -> Option<Circuit> {
     Some(Circuit { group, number })
 }
 
-/// An event of a kind for calls.
-fn call_event(
-    kind: EventKind,
-    plan: &Plan,
-    picture: &Picture,
-    chance: &mut Chance,
-) -> Option<Event> {
-    match kind {
-        EventKind::Route => Some(Event::Route(number_for(kind, picture, chance)?)),
-        EventKind::Confirm => Some(Event::Confirm(number_for(kind, picture, chance)?)),
-        EventKind::Clear => clear(picture, chance),
-        _ => key(plan, picture, chance),
-    }
-}
-
-/// An event of a kind for groups and circuits.
-fn trunk_event(
-    kind: EventKind,
-    plan: &Plan,
-    picture: &Picture,
-    chance: &mut Chance,
-) -> Option<Event> {
+/// An event of a kind, if there is a thing for it.
+fn event_of(kind: EventKind, plan: &Plan, picture: &Picture, chance: &mut Chance) -> Option<Event> {
     let event = match kind {
+        EventKind::Key => key(plan, picture, chance)?,
+        EventKind::Route => Event::Route(number_for(kind, picture, chance)?),
+        EventKind::Confirm => Event::Confirm(number_for(kind, picture, chance)?),
+        EventKind::Clear => clear(picture, chance)?,
         EventKind::Released => Event::Released(chance.pick(picture.given_up.as_slice())?),
         EventKind::Fail => Event::Fail(group(plan, chance)?),
         EventKind::Restore => Event::Restore(chance.pick(picture.failed.as_slice())?),
         EventKind::Block => Event::Block(group(plan, chance)?),
         EventKind::Unblock => Event::Unblock(chance.pick(picture.blocked.as_slice())?),
         EventKind::CircuitOut => Event::CircuitOut(circuit(plan, chance)?),
-        _ => Event::CircuitIn(chance.pick(picture.out.as_slice())?),
-    };
-    Some(event)
-}
-
-/// An event of a kind for lines.
-fn line_event(
-    kind: EventKind,
-    plan: &Plan,
-    picture: &Picture,
-    chance: &mut Chance,
-) -> Option<Event> {
-    let event = match kind {
+        EventKind::CircuitIn => Event::CircuitIn(chance.pick(picture.out.as_slice())?),
         EventKind::LineFault => Event::LineFault(line(plan, chance)?),
         EventKind::LineMend => Event::LineMend(chance.pick(picture.faulty.as_slice())?),
         EventKind::LineAway => Event::LineAway(line(plan, chance)?),
-        _ => Event::LineBack(chance.pick(picture.away.as_slice())?),
+        EventKind::LineBack => Event::LineBack(chance.pick(picture.away.as_slice())?),
+        EventKind::Stray => stray(plan, picture, chance)?,
     };
     Some(event)
-}
-
-/// An event of a kind, if there is a thing for it.
-fn event_of(kind: EventKind, plan: &Plan, picture: &Picture, chance: &mut Chance) -> Option<Event> {
-    match kind {
-        EventKind::Key | EventKind::Route | EventKind::Confirm | EventKind::Clear => {
-            call_event(kind, plan, picture, chance)
-        }
-        EventKind::Released
-        | EventKind::Fail
-        | EventKind::Restore
-        | EventKind::Block
-        | EventKind::Unblock
-        | EventKind::CircuitOut
-        | EventKind::CircuitIn => trunk_event(kind, plan, picture, chance),
-        EventKind::LineFault | EventKind::LineMend | EventKind::LineAway | EventKind::LineBack => {
-            line_event(kind, plan, picture, chance)
-        }
-        EventKind::Stray => stray(plan, picture, chance),
-    }
 }
 
 /// The next event in a mood, where at most so many calls are to be open.

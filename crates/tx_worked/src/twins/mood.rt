@@ -19,7 +19,7 @@ pub enum EventKind {
     LineMend,
     LineAway,
     LineBack,
-    /// An event of any kind, of any things, also of those that the plan has not.
+    /// An event of any kind, of any things, also of those that the plan does not have.
     Stray,
 }
 
@@ -95,7 +95,8 @@ static EMPTY: [(usize, EventKind); 13] = [
     (111, EventKind::Stray),
 ];
 
-/// A kind of a mood, by a number below the last of its table: the first kind whose number is greater.
+/// A kind of a mood, by a number below the last of its table: the first kind whose number is
+/// greater.
 fn drawn(mood: &[(usize, EventKind)], chance: &mut Chance) -> EventKind {
     let numbers = match mood.last() {
         Some((numbers, _)) => *numbers,

@@ -4,11 +4,12 @@ use crate::twins::script::{SeededScript, play};
 use crate::twins::tally::EventTally;
 use std::alloc::Global;
 use tx_engine::Engine;
-use tx_machine::Plain;
+use tx_plain::Plain;
 use tx_plan::Plan;
 use tx_plantext::read_plan;
 
-/// Plays a script through a plain network and a new engine, whose plan says the same and whose memory is another's.
+/// Plays a script through a plain network and a new engine, whose plan says the same and whose
+/// memory is another's.
 fn play_engine<'m>(
     alloc: Global,
     plan: &Plan,
@@ -18,14 +19,8 @@ fn play_engine<'m>(
     engine_plan: &Plan<&'m Refusing<Global>>,
     tally: &mut EventTally,
 ) -> Result<(), Stop> {
-    match Engine::starting_at(memory, engine_plan, script.numbers, script.events) {
-        Ok(mut engine) => {
-            let played = play(alloc, plan, script, plain, &mut engine, memory, tally);
-            engine.close();
-            played
-        }
-        Err(_) => Err(Stop::NoMemory),
-    }
+    let mut engine = Engine::starting_at(memory, engine_plan, script.numbers, script.events)?;
+    play(alloc, plan, script, plain, &mut engine, memory, tally)
 }
 
 /// Plays a script through a new plain network and a new engine.
@@ -37,14 +32,8 @@ fn play_both<'m>(
     engine_plan: &Plan<&'m Refusing<Global>>,
     tally: &mut EventTally,
 ) -> Result<(), Stop> {
-    match Plain::starting_at(alloc, plan, script.numbers, script.events) {
-        Ok(mut plain) => {
-            let played = play_engine(alloc, plan, script, &mut plain, memory, engine_plan, tally);
-            drop(plain);
-            played
-        }
-        Err(_) => Err(Stop::NoMemory),
-    }
+    let mut plain = Plain::starting_at(alloc, plan, script.numbers, script.events)?;
+    play_engine(alloc, plan, script, &mut plain, memory, engine_plan, tally)
 }
 
 /// Plays a script through both networks, of which the engine has its plan read with its own memory.
@@ -57,11 +46,7 @@ fn play_reading(
     tally: &mut EventTally,
 ) -> Result<(), Stop> {
     match read_plan(memory, text) {
-        Ok(engine_plan) => {
-            let played = play_both(alloc, plan, script, memory, &engine_plan, tally);
-            drop(engine_plan);
-            played
-        }
+        Ok(engine_plan) => play_both(alloc, plan, script, memory, &engine_plan, tally),
         Err(_) => Err(Stop::NoMemory),
     }
 }
@@ -75,12 +60,11 @@ pub fn play_script(
     tally: &mut EventTally,
 ) -> Result<(), Stop> {
     let memory = Refusing::new(alloc, 0);
-    let played = play_reading(alloc, plan, script, &memory, text, tally);
-    drop(memory);
-    played
+    play_reading(alloc, plan, script, &memory, text, tally)
 }
 
-/// Plays a script with one request for memory refused to the engine: false where there are fewer requests.
+/// Plays a script with one request for memory refused to the engine: false where there are fewer
+/// requests.
 fn play_refusing(
     alloc: Global,
     plan: &Plan,

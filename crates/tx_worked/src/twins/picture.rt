@@ -1,7 +1,7 @@
 // What the replies and the tickets tell of a network.
 use std::alloc::{Allocator, Global};
+use tx_machine::{Event, Phase, Reply, Ticket};
 use tx_plan::{Circuit, GroupId, Line};
-use tx_state::{Event, Phase, Reply, Ticket};
 use tx_text::NoMemory;
 
 /// A call that is open, as far as its replies and the tickets tell.
@@ -12,18 +12,31 @@ pub struct KnownCall {
     pub phase: Phase,
 }
 
-/// Adds an item to a list.
-fn put_in<T: Copy>(list: &mut Vec<T>, item: &T) -> Result<(), NoMemory> {
-    list.push(*item)?;
-    Ok(())
-}
-
 /// Takes an item out of a list.
 fn take_out<T: Copy + PartialEq>(list: &mut Vec<T>, item: &T) {
     list.retain(|other| other != item);
 }
 
-/// What the replies and the tickets tell of a network, so that most events can be such as it accepts.
+/// Adds an item to a list, or takes it out, where the event that says so was not refused.
+fn set_in<T: Copy + PartialEq>(
+    list: &mut Vec<T>,
+    item: &T,
+    to: bool,
+    reply: &Reply,
+) -> Result<(), NoMemory> {
+    if matches!(reply, Reply::Refused(_)) {
+        return Ok(());
+    }
+    if to {
+        list.push(*item)?;
+    } else {
+        take_out(list, item);
+    }
+    Ok(())
+}
+
+/// What the replies and the tickets tell of a network, so that most events can be such as it
+/// accepts.
 #[derive(Drop)]
 pub struct Picture {
     pub calls: Vec<KnownCall>,
@@ -63,7 +76,7 @@ impl Picture {
         false
     }
 
-    /// The place of the call of this number, or one behind all.
+    /// The place of the call of this number, or one after all.
     fn place(&self, number: u32) -> usize {
         for (place, call) in self.calls.iter().enumerate() {
             if call.number == number {
@@ -104,14 +117,21 @@ impl Picture {
         match event {
             Event::Key { line, .. } => self.note_key(*line, reply),
             Event::Route(call) | Event::Confirm(call) => self.note_progress(*call, reply),
+            Event::Clear { .. } => Ok(()),
             Event::Released(circuit) => {
                 take_out(&mut self.given_up, circuit);
                 Ok(())
             }
-            _ => match reply {
-                Reply::Done | Reply::Lost(_) => self.note_change(event),
-                _ => Ok(()),
-            },
+            Event::Fail(group) => set_in(&mut self.failed, group, true, reply),
+            Event::Restore(group) => set_in(&mut self.failed, group, false, reply),
+            Event::Block(group) => set_in(&mut self.blocked, group, true, reply),
+            Event::Unblock(group) => set_in(&mut self.blocked, group, false, reply),
+            Event::CircuitOut(circuit) => set_in(&mut self.out, circuit, true, reply),
+            Event::CircuitIn(circuit) => set_in(&mut self.out, circuit, false, reply),
+            Event::LineFault(line) => set_in(&mut self.faulty, line, true, reply),
+            Event::LineMend(line) => set_in(&mut self.faulty, line, false, reply),
+            Event::LineAway(line) => set_in(&mut self.away, line, true, reply),
+            Event::LineBack(line) => set_in(&mut self.away, line, false, reply),
         }
     }
 
@@ -144,33 +164,6 @@ impl Picture {
             _ => {}
         }
         Ok(())
-    }
-
-    /// Takes in that something other than a call was changed.
-    fn note_change(&mut self, event: &Event) -> Result<(), NoMemory> {
-        match event {
-            Event::Fail(group) => put_in(&mut self.failed, group),
-            Event::Block(group) => put_in(&mut self.blocked, group),
-            Event::CircuitOut(circuit) => put_in(&mut self.out, circuit),
-            Event::LineFault(line) => put_in(&mut self.faulty, line),
-            Event::LineAway(line) => put_in(&mut self.away, line),
-            _ => {
-                self.note_return(event);
-                Ok(())
-            }
-        }
-    }
-
-    /// Takes in that something is in use again, or at its place.
-    fn note_return(&mut self, event: &Event) {
-        match event {
-            Event::Restore(group) => take_out(&mut self.failed, group),
-            Event::Unblock(group) => take_out(&mut self.blocked, group),
-            Event::CircuitIn(circuit) => take_out(&mut self.out, circuit),
-            Event::LineMend(line) => take_out(&mut self.faulty, line),
-            Event::LineBack(line) => take_out(&mut self.away, line),
-            _ => {}
-        }
     }
 
     /// Takes in that a call ended, and gave its circuits up.

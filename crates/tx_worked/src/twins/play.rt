@@ -72,18 +72,12 @@ fn read_and_play(
     seed: u64,
     tallies: &mut Tallies,
 ) -> Result<(), Stop> {
-    match read_plan(alloc, text) {
-        Ok(plan) => {
-            let played = play_plan(alloc, &plan, text, most, seed, tallies);
-            drop(plan);
-            played
-        }
-        Err(fault) => Err(Stop::Refused(fault.line)),
-    }
+    let plan = read_plan(alloc, text)?;
+    play_plan(alloc, &plan, text, most, seed, tallies)
 }
 
-/// Plays the scripts of a plan, whose head says how many calls are to be open at most, and the first seed. Tells how many events they have, and why they
-/// stopped where they did.
+/// Plays the scripts of a plan, whose head says how many calls are to be open at most, and the
+/// first seed. Writes how many events they have, and why they stopped where they did.
 pub fn play_twins(
     alloc: Global,
     head: Head<'_>,

@@ -7,8 +7,8 @@ use crate::twins::stop::Differs;
 use crate::twins::tally::EventTally;
 use crate::twins::twins::{Mismatch, apply_to_both, compare_tickets};
 use std::alloc::{Allocator, Global};
+use tx_machine::{Event, Network, Ticket};
 use tx_plan::Plan;
-use tx_state::{Event, Network, Ticket};
 use tx_text::NoMemory;
 
 /// The mood changes with each so many events.
@@ -65,7 +65,8 @@ fn play_event<P: Network, E: Network>(
     Ok(())
 }
 
-/// Compares two tickets, and takes in what the one of the plain network tells. Tells whether there are any.
+/// Compares two tickets, and takes in what the one of the plain network tells. Returns whether
+/// there are any.
 fn note_tickets<A: Allocator, B: Allocator>(
     wanted: Option<&Ticket<A>>,
     ticket: Option<&Ticket<B>>,
@@ -83,7 +84,7 @@ fn note_tickets<A: Allocator, B: Allocator>(
     }
 }
 
-/// Takes the oldest ticket of both networks. Tells whether there was one.
+/// Takes the oldest ticket of both networks. Returns whether there was one.
 fn take_ticket<P: Network, E: Network>(
     plain: &mut P,
     engine: &mut E,
@@ -92,10 +93,7 @@ fn take_ticket<P: Network, E: Network>(
 ) -> Result<bool, Halt> {
     let wanted = plain.next_ticket();
     let ticket = engine.next_ticket();
-    let noted = note_tickets(wanted.as_ref(), ticket.as_ref(), picture, tally);
-    drop(wanted);
-    drop(ticket);
-    noted
+    note_tickets(wanted.as_ref(), ticket.as_ref(), picture, tally)
 }
 
 /// Takes all tickets of both networks.
@@ -113,7 +111,8 @@ fn take_tickets<P: Network, E: Network>(
     Ok(())
 }
 
-/// Applies an event to both networks, and takes the tickets, if it is time for that: else more of them wait.
+/// Applies an event to both networks, and takes the tickets, if it is time for that: else more of
+/// them wait.
 fn go_on<P: Network, E: Network>(
     plain: &mut P,
     engine: &mut E,
@@ -131,7 +130,8 @@ fn go_on<P: Network, E: Network>(
     }
 }
 
-/// Why a script stops at the event of this place. Where the networks differ there, the tally takes it in.
+/// Why a script stops at the event of this place. Where the networks differ there, the tally takes
+/// it in.
 fn stop_at(halt: Halt, seed: u64, place: u32, tally: &mut EventTally) -> Stop {
     match halt {
         Halt::NoMemory => Stop::NoMemory,
@@ -180,7 +180,5 @@ pub fn play<P: Network, E: Network>(
     tally: &mut EventTally,
 ) -> Result<(), Stop> {
     let mut picture = Picture::new(alloc, script.numbers);
-    let played = play_events(plan, script, plain, engine, memory, &mut picture, tally);
-    drop(picture);
-    played
+    play_events(plan, script, plain, engine, memory, &mut picture, tally)
 }

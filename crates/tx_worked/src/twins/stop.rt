@@ -18,7 +18,7 @@ fn tell_differs(differs: &Differs, out: &mut Told) {
     tell_count(b"of the script of seed ", differs.seed, b"\n", out);
 }
 
-/// Tells why the scripts stopped.
+/// Writes why the scripts stopped.
 pub fn tell_stop(stop: Stop, differs: Option<Differs>, out: &mut Told) {
     match (stop, differs) {
         (Stop::Refused(line), _) => tell_broken(b"no plan, line", line, out),

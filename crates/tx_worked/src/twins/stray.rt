@@ -1,14 +1,17 @@
 // Events of any kind, of any things.
+ghost use Rattle.std.specs.Prelude.{◌<◌};
+
 use crate::twins::chance::Chance;
 use crate::twins::picture::Picture;
+use tx_machine::{Event, Party};
 use tx_plan::{Circuit, CodeId, GroupId, Line, National, Plan};
-use tx_state::{Event, Party};
 use tx_text::Figures;
 
-/// A place below a count, or one of the two behind it.
-fn place(count: usize, chance: &mut Chance) -> u16 {
-    let place = chance.below(count.saturating_add(2));
-    u16::try_from(place).unwrap_or(u16::MAX)
+/// A place below a count, or one of the two after it.
+fn place(count: usize, chance: &mut Chance) -> usize
+    ensures { result < 65536 }
+{
+    chance.below(count.saturating_add(2)).min(65535)
 }
 
 /// A call number: one of the last that were given, the next one, or any at all.
@@ -21,7 +24,7 @@ fn number(picture: &Picture, chance: &mut Chance) -> u32 {
 }
 
 fn group(plan: &Plan, chance: &mut Chance) -> GroupId {
-    GroupId::at(place(plan.groups(), chance))
+    GroupId::of(place(plan.groups(), chance))
 }
 
 fn circuit(plan: &Plan, chance: &mut Chance) -> Circuit {
@@ -29,12 +32,12 @@ fn circuit(plan: &Plan, chance: &mut Chance) -> Circuit {
     let number = place(plan.group_count(group) as usize, chance);
     Circuit {
         group,
-        number: u32::from(number),
+        number: number as u32,
     }
 }
 
 fn line(plan: &Plan, chance: &mut Chance) -> Option<Line> {
-    let code = CodeId::at(place(plan.codes(), chance));
+    let code = CodeId::of(place(plan.codes(), chance));
     let range = plan.range_at(chance.below(plan.ranges()))?;
     let national = if chance.one_in(2) {
         range.low
@@ -87,7 +90,7 @@ fn stray_of_lines(plan: &Plan, chance: &mut Chance) -> Option<Event> {
     Some(event)
 }
 
-/// An event of any kind, of any things, also of those that the plan has not.
+/// An event of any kind, of any things, also of those that the plan does not have.
 pub fn stray(plan: &Plan, picture: &Picture, chance: &mut Chance) -> Option<Event> {
     match chance.below(3) {
         0 => Some(stray_of_calls(picture, chance)),

@@ -1,7 +1,7 @@
 // Counts of events, by their replies, and of tickets, by their causes.
 use crate::cases::{Told, tell, tell_count, tell_parts};
 use crate::twins::stop::Differs;
-use tx_state::{Cause, Event, Refusal, Reply, Service};
+use tx_machine::{Cause, Event, Refusal, Reply, Service};
 
 /// The names of what is counted, in the order in which the counts are told.
 static REPLIES: [&str; 12] = [
@@ -38,7 +38,8 @@ static REFUSALS: [&str; 12] = [
 
 static CAUSES: [&str; 4] = ["answered", "cleared_by_caller", "cleared_by_called", "lost"];
 
-/// Which events met a request for memory that was refused. The last are those that have no need of memory.
+/// Which events met a request for memory that was refused. The last are those that have no need of
+/// memory.
 static WANTS: [&str; 5] = ["key", "route", "line_fault", "line_away", "other"];
 
 /// Counts of events and of tickets, each at the place of its name.
@@ -55,7 +56,8 @@ pub struct EventTally {
     pub differs: Option<Differs>,
 }
 
-/// Counts of the scripts that are played with all memory there, and of those that are played with memory refused.
+/// Counts of the scripts that are played with all memory there, and of those that are played with
+/// memory refused.
 #[derive(Clone, Copy)]
 pub struct Tallies {
     pub whole: EventTally,
@@ -73,7 +75,8 @@ fn count_at(counts: &mut [u64], place: usize) {
     }
 }
 
-/// The place of a reply in `REPLIES`, of which an answer and a refusal have none: these are counted by what they say.
+/// The place of a reply in `REPLIES`, of which an answer and a refusal have none: these are counted
+/// by what they say.
 fn reply_place(reply: &Reply) -> usize {
     match reply {
         Reply::Keyed(_) => 0,
@@ -86,8 +89,8 @@ fn reply_place(reply: &Reply) -> usize {
             ..
         } => match (*a_stands, *b_stands) {
             (true, true) => 4,
+            (true, false) | (false, true) => 5,
             (false, false) => 6,
-            _ => 5,
         },
         Reply::Cleared => 7,
         Reply::Done => 8,
@@ -145,7 +148,17 @@ fn want_place(event: &Event) -> usize {
         Event::Route(_) => 1,
         Event::LineFault(_) => 2,
         Event::LineAway(_) => 3,
-        _ => 4,
+        Event::Confirm(_)
+        | Event::Clear { .. }
+        | Event::Released(_)
+        | Event::Fail(_)
+        | Event::Restore(_)
+        | Event::Block(_)
+        | Event::Unblock(_)
+        | Event::CircuitOut(_)
+        | Event::CircuitIn(_)
+        | Event::LineMend(_)
+        | Event::LineBack(_) => 4,
     }
 }
 
@@ -202,7 +215,7 @@ impl Tallies {
     }
 }
 
-/// Tells a count in a line behind its name, or only whether there was any.
+/// Tells a count in a line after its name, or only whether there was any.
 fn tell_line(name: &str, count: u64, is_told: bool, out: &mut Told) {
     tell_parts(&[b"    ", name.as_bytes(), b": "], out);
     if is_told {
@@ -229,13 +242,13 @@ fn tell_counts(
     tell(b"}\n", out);
 }
 
-/// Tells how many events there were, and how many of them were accepted.
+/// Writes how many events there were, and how many of them were accepted.
 pub fn tell_events(events: u64, accepted: u64, out: &mut Told) {
     tell_count(b"", events, b" events, ", out);
     tell_count(b"", accepted, b" of them accepted\n", out);
 }
 
-/// Tells what was counted, and which events met a refused request.
+/// Writes what was counted, and which events met a refused request.
 pub fn tell_tallies(tallies: &Tallies, out: &mut Told) {
     let tally = &tallies.whole;
     tell(b"in all: ", out);

@@ -1,7 +1,7 @@
 // Two networks, and one event after another.
 use crate::cases::Refusing;
 use std::alloc::{Allocator, Global};
-use tx_state::{Event, Network, Reply, Ticket};
+use tx_machine::{Event, Network, Reply, Ticket};
 
 /// In what two networks differ after an event.
 #[derive(Clone, Copy)]
@@ -13,9 +13,9 @@ pub enum Mismatch {
     Ticket,
     /// Memory was refused, and then the counts were other ones than before.
     ChangedByRefusal,
-    /// Memory was wanting again, where no request was refused any more.
+    /// Memory ran out again, where no request was refused any more.
     NoMemory,
-    /// Memory was wanting where no request was refused, or a refused request was passed over.
+    /// Memory ran out where no request was refused, or a refused request was passed over.
     Wanting,
 }
 
@@ -40,7 +40,8 @@ pub struct Answer {
     pub was_refused: bool,
 }
 
-/// Applies an event to the engine, and again where memory was refused, which must have changed nothing.
+/// Applies an event to the engine, and again where memory was refused, which must have changed
+/// nothing.
 fn apply<E: Network>(engine: &mut E, event: &Event) -> Result<Answer, Mismatch> {
     let (open_calls, events) = (engine.open_calls(), engine.events());
     if let Ok(reply) = engine.apply(*event) {
@@ -59,8 +60,8 @@ fn apply<E: Network>(engine: &mut E, event: &Event) -> Result<Answer, Mismatch> 
     }
 }
 
-/// Applies an event to both networks, and compares their replies and counts. The answer is that of the engine, in which memory has to be wanting just where
-/// its memory refuses a request.
+/// Applies an event to both networks, and compares their replies and counts. The answer is that of
+/// the engine, which has to run out of memory exactly where a request is refused.
 pub fn apply_to_both<P: Network, E: Network>(
     plain: &mut P,
     engine: &mut E,

@@ -86,8 +86,8 @@ pub fn grade_agrees(
     wanted: &mut Vec<Wanted>,
 ) -> Result<bool, NoMemory> {
     let grade = grade(alloc, plan)?;
-    let agrees = bounds_agree(plan, surveys, &grade, wanted)?
-        && findings_agree(plan, surveys, &grade.findings, wanted)?;
-    drop(grade);
-    Ok(agrees)
+    Ok(
+        bounds_agree(plan, surveys, &grade, wanted)?
+            && findings_agree(plan, surveys, &grade.findings, wanted)?,
+    )
 }

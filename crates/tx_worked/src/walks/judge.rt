@@ -26,7 +26,8 @@ use tx_text::NoMemory;
 /// The limits 0 to 2 are tried, and the spare numbers 0 to 2.
 pub const NUMBERS: u8 = 3;
 
-/// What the walks of a plan show, and what a run of its events: one of each kind serves all plans of a family.
+/// What the walks of a plan show, and what a run of its events: one of each kind serves all plans
+/// of a family.
 #[derive(Drop)]
 struct Work {
     steps: Steps,
@@ -116,18 +117,14 @@ fn ranking_differs(
 {
     match rank(alloc, plan, judged.limit, judged.spare)? {
         Ranking::Found(cert) => {
-            let difference = if wanted.is_empty() {
-                found_differs(plan, surveys, &cert, judged.limit, judged.spare)
+            if wanted.is_empty() {
+                Ok(found_differs(plan, surveys, &cert, judged.limit, judged.spare))
             } else {
-                Some(Difference::Found)
-            };
-            drop(cert);
-            Ok(difference)
+                Ok(Some(Difference::Found))
+            }
         }
         Ranking::Fails(findings) => {
-            let difference = failed_differs(alloc, plan, &findings, wanted, judged, told, tally);
-            drop(findings);
-            difference
+            failed_differs(alloc, plan, &findings, wanted, judged, told, tally)
         }
     }
 }
@@ -203,14 +200,8 @@ fn judge_number(
 ) -> Result<(), Stop> {
     put_plan(lines, number, &mut room.plan)?;
     let text = room.plan.as_slice();
-    match read_plan(alloc, text) {
-        Ok(plan) => {
-            let judged = judge_plan(alloc, &plan, text, &mut room.work, tally);
-            drop(plan);
-            judged
-        }
-        Err(fault) => Err(Stop::Refused(fault.line)),
-    }
+    let plan = read_plan(alloc, text)?;
+    judge_plan(alloc, &plan, text, &mut room.work, tally)
 }
 
 /// Judges all plans that the lines of a family give.
@@ -222,7 +213,8 @@ fn judge_family(alloc: Global, lines: &[u8], room: &mut Room) -> Result<PlanTall
     Ok(tally)
 }
 
-/// Judges all plans of a family, and tells what there was, or why it stopped and the plan where it did.
+/// Judges all plans of a family, and writes what there was, or why it stopped and the plan where it
+/// did.
 pub fn play_family(alloc: Global, lines: &[u8], out: &mut Told) {
     let mut room = Room::new(alloc);
     match judge_family(alloc, lines, &mut room) {

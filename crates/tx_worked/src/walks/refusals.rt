@@ -1,4 +1,4 @@
-// Want of memory where the events of a finding are made.
+// Lack of memory where the events of a finding are made.
 ghost use Rattle.std.specs.Prelude.{◌≤◌};
 ghost use Rattle.std.specs.List.{AllByRecursion};
 ghost use Rattle.tx_rank.specs.Findings.{IsTrueOf};
@@ -15,7 +15,7 @@ use tx_rank::{Finding, Ranking, rank};
 enum Tried {
     /// Before events were asked for.
     Early,
-    /// With want of memory, when events were asked for.
+    /// With lack of memory, when events were asked for.
     Told,
     /// With events, whose script is told.
     Made,
@@ -37,7 +37,6 @@ fn try_findings<A: Allocator + Copy>(
     match first_counter(alloc, plan, findings, limit, spare) {
         Ok(Some(events)) => {
             let is_told = write_counter(plan, events.as_slice(), script).is_ok();
-            drop(events);
             if is_told { Tried::Made } else { Tried::Wrong }
         }
         Ok(None) => Tried::Wrong,
@@ -57,15 +56,9 @@ fn try_plan<A: Allocator + Copy>(
 {
     match rank(alloc, plan, limit, spare) {
         Ok(Ranking::Fails(findings)) => {
-            let tried = try_findings(alloc, plan, &findings, limit, spare, script);
-            drop(findings);
-            tried
+            try_findings(alloc, plan, &findings, limit, spare, script)
         }
-        Ok(Ranking::Found(cert)) => {
-            drop(cert);
-            Tried::Early
-        }
-        Err(_) => Tried::Early,
+        Ok(Ranking::Found(_)) | Err(_) => Tried::Early,
     }
 }
 
@@ -80,17 +73,14 @@ fn try_text<A: Allocator + Copy>(
     requires spare { spare ≤ 15 }
 {
     match read_plan(alloc, text) {
-        Ok(plan) => {
-            let tried = try_plan(alloc, &plan, limit, spare, script);
-            drop(plan);
-            tried
-        }
+        Ok(plan) => try_plan(alloc, &plan, limit, spare, script),
         Err(_) => Tried::Early,
     }
 }
 
-/// Refuses each request for memory in turn, from the plan's first one on, where the events of the first finding that has some are made. Whether each
-/// that was refused is told, and the events' script is this one where none is.
+/// Refuses each request for memory in turn, from the plan's first one on, where the events of the
+/// first finding that has some are made. Whether each that was refused is told, and the events'
+/// script is this one where none is.
 pub fn refusals_are_told(alloc: Global, text: &[u8], limit: u8, spare: u8, wanted: &[u8]) -> bool
     requires limit { limit ≤ 62 }
     requires spare { spare ≤ 15 }
@@ -100,12 +90,10 @@ pub fn refusals_are_told(alloc: Global, text: &[u8], limit: u8, spare: u8, wante
         let heap = Refusing::new(alloc, request);
         let mut script = Told::new(alloc);
         let tried = try_text(&heap, text, limit, spare, &mut script);
-        let is_wanted = script.is(wanted);
-        drop(script);
         match (tried, heap.has_refused()) {
             (Tried::Early, true) => {}
             (Tried::Told, true) => has_told = true,
-            (Tried::Made, false) => return has_told && is_wanted,
+            (Tried::Made, false) => return has_told && script.is(wanted),
             _ => return false,
         }
     }

@@ -1,6 +1,7 @@
 // What a call shows that goes along some events, told by the replies of the plain network.
 use std::alloc::Global;
-use tx_machine::{Event, Plain, Reply, drive};
+use tx_machine::{Event, Reply, drive};
+use tx_plain::Plain;
 use tx_plan::{CodeId, ExchangeId, Plan};
 use tx_text::NoMemory;
 
@@ -28,17 +29,12 @@ fn put_replies(
     replies: &mut Vec<Reply>,
 ) -> Result<(), NoMemory> {
     replies.clear();
-    match Plain::new(alloc, plan) {
-        Ok(mut network) => {
-            let driven = drive(&mut network, events, replies);
-            drop(network);
-            driven
-        }
-        Err(fault) => Err(fault),
-    }
+    let mut network = Plain::new(alloc, plan)?;
+    drive(&mut network, events, replies)
 }
 
-/// Adds the exchange that the call passes by an event: where its line is at home, or to which it went on.
+/// Adds the exchange that the call passes by an event: where its line is at home, or to which it
+/// went on.
 fn put_passed_by(
     plan: &Plan,
     event: &Event,

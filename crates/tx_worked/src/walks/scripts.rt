@@ -83,7 +83,8 @@ fn comes_back(passed: &[ExchangeId]) -> bool {
     }
 }
 
-/// Whether the call was answered NC where it stood, away from the home, and no more than `spare` groups were listed there.
+/// Whether the call was answered NC where it stood, away from the home, and no more than `spare`
+/// groups were listed there.
 fn is_bare(
     plan: &Plan,
     code: CodeId,
@@ -137,7 +138,7 @@ fn shows(
     }
 }
 
-/// Runs some events, and tells whether none is refused and they show the finding.
+/// Runs some events, and returns whether none is refused and they show the finding.
 fn runs_and_shows(
     alloc: Global,
     plan: &Plan,
@@ -167,9 +168,8 @@ pub fn is_right(
 {
     match counter(alloc, plan, finding, limit, spare)? {
         Some(events) => {
-            let shows = runs_and_shows(alloc, plan, finding, &events, limit, spare, told);
-            drop(events);
-            Ok(shows? && has_script(plan, finding))
+            let shows = runs_and_shows(alloc, plan, finding, &events, limit, spare, told)?;
+            Ok(shows && has_script(plan, finding))
         }
         None => Ok(!has_script(plan, finding)),
     }
@@ -205,7 +205,8 @@ pub struct Judged<'a> {
     pub spare: u8,
 }
 
-/// Whether the script of the events is one of these events, and want of memory is told where they are made.
+/// Whether the script of the events is one of these events, and lack of memory is told where they
+/// are made.
 fn holds_as_sample(alloc: Global, plan: &Plan, judged: Judged<'_>, events: &[Event]) -> bool
     requires limit { judged.limit ≤ 62 }
     requires spare { judged.spare ≤ 15 }
@@ -213,14 +214,13 @@ fn holds_as_sample(alloc: Global, plan: &Plan, judged: Judged<'_>, events: &[Eve
 {
     let script = script_of(alloc, plan, events);
     let text = script.text();
-    let holds = reads_back(alloc, judged.text, text, events.len())
-        && refusals_are_told(alloc, judged.text, judged.limit, judged.spare, text);
-    drop(script);
-    holds
+    reads_back(alloc, judged.text, text, events.len())
+        && refusals_are_told(alloc, judged.text, judged.limit, judged.spare, text)
 }
 
-/// Whether the events of the first finding that has some show the first that has to have some. Of a sample, their script has to be one of these events,
-/// and want of memory has to be told where they are made.
+/// Whether the events of the first finding that has some show the first that has to have some. Of a
+/// sample, their script has to be one of these events, and lack of memory has to be told where they
+/// are made.
 fn are_first(
     alloc: Global,
     plan: &Plan,
@@ -265,11 +265,7 @@ fn is_first_right(
     requires each { AllByRecursion (IsTrueOf plan.now judged.limit judged.spare) findings.now }
 {
     match first_counter(alloc, plan, findings, judged.limit, judged.spare)? {
-        Some(events) => {
-            let right = are_first(alloc, plan, findings, &events, judged, told, tally);
-            drop(events);
-            right
-        }
+        Some(events) => are_first(alloc, plan, findings, &events, judged, told, tally),
         None => Ok(first_with_script(plan, findings).is_none()),
     }
 }

@@ -41,7 +41,7 @@ fn tell_differs(differs: &WalksDiffer, out: &mut Told) {
     tell_count(word, place, b"\n", out);
 }
 
-/// Tells why the judging stopped, and the plan where it did.
+/// Writes why the judging stopped, and the plan where it did.
 pub fn tell_stop(stop: Stop, differs: Option<WalksDiffer>, plan: &[u8], out: &mut Told) {
     match (stop, differs) {
         (Stop::Refused(line), _) => tell_count(b"refused: line ", line, b"\n", out),

@@ -11,11 +11,13 @@ pub struct Survey {
     pub home: ExchangeId,
     /// Whether one of them is a loop.
     pub has_loop: bool,
-    /// For each number of steps, whether one of so many steps repeats nothing and ends away from the home.
+    /// For each number of steps, whether one of so many steps repeats nothing and ends away from
+    /// the home.
     pub away: Vec<bool>,
     /// For each exchange, the steps of a shortest walk to it.
     pub nearest: Vec<Option<usize>>,
-    /// For each exchange, the steps of the longest part of a walk from it to the home; 0 for the home.
+    /// For each exchange, the steps of the longest part of a walk from it to the home; 0 for the
+    /// home.
     pub heights: Vec<Option<usize>>,
     /// For each exchange, how many groups it lists.
     pub groups: Vec<usize>,

@@ -13,13 +13,8 @@ fn survey_of(
     steps: &mut Steps,
 ) -> Result<Survey, NoMemory> {
     let mut survey = Survey::new(alloc, plan, code)?;
-    match note_all_walks(plan, steps, &mut survey) {
-        Ok(()) => Ok(survey),
-        Err(fault) => {
-            drop(survey);
-            Err(fault)
-        }
-    }
+    note_all_walks(plan, steps, &mut survey)?;
+    Ok(survey)
 }
 
 /// Looks at all walks for each code.

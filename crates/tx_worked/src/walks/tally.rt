@@ -62,7 +62,7 @@ impl PlanTally {
     }
 }
 
-/// What stands before each count of what was found.
+/// What is before each count of what was found.
 static BEFORE: [&str; 8] = [
     "\n- ",
     " found, with ranks of ",
@@ -74,7 +74,7 @@ static BEFORE: [&str; 8] = [
     " steps in all, ",
 ];
 
-/// Tells what was found.
+/// Writes what was found.
 pub fn tell_answers(tally: &PlanTally, out: &mut Told) {
     let counts = [
         tally.found,
@@ -92,7 +92,7 @@ pub fn tell_answers(tally: &PlanTally, out: &mut Told) {
     tell(b" long walks\n- ", out);
 }
 
-/// Tells what there was in a family.
+/// Writes what there was in a family.
 pub fn tell_tally(tally: &PlanTally, out: &mut Told) {
     tell_count(b"", tally.plans, b" plans, ", out);
     tell_count(b"", tally.rankings, b" rankings", out);

@@ -9,7 +9,7 @@ use tx_audit::write_counter;
 use tx_machine::Event;
 use tx_plan::Plan;
 
-/// The script of the events. Where memory is wanting for it, it is cut.
+/// The script of the events. Where memory runs out for it, it is cut.
 pub fn script_of(alloc: Global, plan: &Plan, events: &[Event]) -> Told
     requires { AllByRecursion (IsWritable plan.now) events.now }
 {
@@ -18,7 +18,8 @@ pub fn script_of(alloc: Global, plan: &Plan, events: &[Event]) -> Told
     script
 }
 
-/// Whether a run of the script over a new plain network of the plan accepts so many events, and refuses none.
+/// Whether a run of the script over a new plain network of the plan accepts so many events, and
+/// refuses none.
 pub fn reads_back(alloc: Global, plan: &[u8], script: &[u8], events: usize) -> bool {
     let text = Script::opening(Over::Plain, plan, script);
     match run_beside(alloc, text, Ends::pieces(4096), b"").end {

@@ -67,7 +67,8 @@ impl<'a> Trail<'a> {
 
 /// What is wrong with a walk for a code.
 impl<'a> Trail<'a> {
-    /// Whether nothing repeats, and the last exchange is not the home and lists fewer than `spare` + 1 groups.
+    /// Whether nothing repeats, and the last exchange is not the home and lists fewer than `spare`
+    /// + 1 groups.
     pub fn is_short(&self, plan: &Plan, code: CodeId, spare: u8) -> bool {
         self.is_simple()
             && self.end() != plan.home(code)

@@ -7,7 +7,8 @@ use tx_text::NoMemory;
 /// The steps of the walk in hand.
 pub type Steps = Vec<(GroupId, ExchangeId)>;
 
-/// Takes in the walk in hand, and all that go on from it by at most so many steps, until they repeat an exchange or come home.
+/// Takes in the walk in hand, and all that go on from it by at most so many steps, until they
+/// repeat an exchange or come home.
 pub fn note_walks(
     plan: &Plan,
     start: ExchangeId,
@@ -33,7 +34,8 @@ pub fn note_walks(
     Ok(())
 }
 
-/// Takes in all walks for a code of which nothing but the last exchange repeats. None of them has more steps than there are exchanges.
+/// Takes in all walks for a code of which nothing but the last exchange repeats. None of them has
+/// more steps than there are exchanges.
 pub fn note_all_walks(plan: &Plan, steps: &mut Steps, survey: &mut Survey) -> Result<(), NoMemory> {
     for place in 0..plan.exchanges() {
         if let Some(origin) = plan.exchange_at(place) {

@@ -37,7 +37,8 @@ fn begins(plan: &Plan, shorter: CodeId, longer: CodeId) -> bool {
     shorter != longer && figures.starts_with(plan.code_figures(shorter))
 }
 
-/// Whether a code that begins another one makes a pair before this one: by the figures of its first code, and then by those of its second.
+/// Whether a code that begins another one makes a pair before this one: by the figures of its first
+/// code, and then by those of its second.
 fn has_before(plan: &Plan, shorter: CodeId, longer: CodeId) -> bool {
     let pair = (plan.code_figures(shorter), plan.code_figures(longer));
     for i in 0..plan.codes() {
@@ -66,7 +67,8 @@ pub fn ambiguous(plan: &Plan) -> Option<Wanted> {
     None
 }
 
-/// Adds a finding for each exchange to which a walk comes that lists no more than `spare` groups, and is not the home.
+/// Adds a finding for each exchange to which a walk comes that lists no more than `spare` groups,
+/// and is not the home.
 fn add_shorts(
     plan: &Plan,
     survey: &Survey,

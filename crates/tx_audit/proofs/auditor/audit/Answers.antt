@@ -1,20 +1,35 @@
-use Rattle.std.proofs.Common.{◌≡◌}
-use Rattle.tx_text.specs.Calls.{Broken, source_calls}
+use Rattle.std.proofs.Common.{refl}
+use Rattle.tx_text.specs.Ends.{input, output}
+use Rattle.tx_text.proofs.Exits.{exits_with}
+use Rattle.tx_audit.specs.declared.audited.AuditFault.TheVariants.{Plan as PlanRefused}
 use Rattle.tx_audit.proofs.Found.{audited, each_true, stopped}
 use Rattle.tx_audit.proofs.auditor.audit.Goals as goal
 
-pub returns-in-Ok-rank_and_report-clause-answers : goal.returns-in-Ok-rank_and_report-clause-answers
-returns-in-Ok-rank_and_report-clause-answers g c =
-    let old = c.args.source.now in
-    let new = c.read_plan_from.new.source in
-    rw c.of.ensures
-    (audited _ c.in-Ok.plan c.args.limit c.args.spare _ _ _ _ (Broken g.R.Source.called (g.R.Source.failed new) source_calls old new) (new ≡ old) (c.rank_and_report.new.out ≡ c.args.out.now) c.rules.ensures
-    c.in-Ok.ensures.answer c.in-Ok-rank_and_report.ranking c.in-Ok-rank_and_report.ensures.answers)
+pub returns-in_err-plan-clause-answers : goal.returns-in_err-plan-clause-answers
+returns-in_err-plan-clause-answers g c =
+    rw (exits_with c.from_residual.result (PlanRefused c.in_err-plan.field-0.0) c.from_residual.ensures.1) (c.in_err-plan.ensures.answer, refl)
 
-pub returns-in-Err-rank_and_report-clause-answers : goal.returns-in-Err-rank_and_report-clause-answers
-returns-in-Err-rank_and_report-clause-answers g c =
-    stopped _ c.in-Ok.plan c.args.limit c.args.spare _ _ _ _ _ _ _ c.rules.ensures c.in-Ok.ensures.answer c.in-Err-rank_and_report.fault c.in-Err-rank_and_report.ensures.answers
+pub returns-in_err-plan-clause-mark : goal.returns-in_err-plan-clause-mark
+returns-in_err-plan-clause-mark g c = rw (exits_with c.from_residual.result (PlanRefused c.in_err-plan.field-0.0) c.from_residual.ensures.1) refl
 
-pub returns-in-Ok-rank_and_report-clause-each : goal.returns-in-Ok-rank_and_report-clause-each
-returns-in-Ok-rank_and_report-clause-each g c =
-    rw c.of.ensures (each_true _ c.in-Ok.plan c.args.limit c.args.spare c.in-Ok-rank_and_report.ranking c.in-Ok-rank_and_report.ensures.answers.0)
+pub returns-in_err-ranking-clause-answers : goal.returns-in_err-ranking-clause-answers
+returns-in_err-ranking-clause-answers g c =
+    let f = c.in_err-ranking.field-0.0 in
+    let text = input g.R.Source.rest g.R.Source.failed g.R.Source.called c.args.source.now c.read_plan_from.new.source in
+    let out = output g.W.Sink.taken c.args.out.now c.rank_and_report.new.out in
+    rw (exits_with c.from_residual-in_err-ranking.result f c.from_residual-in_err-ranking.ensures.1)
+    (stopped _ c.in_ok-plan.plan c.args.limit c.args.spare text out c.in_ok-plan.ensures.rules c.in_ok-plan.ensures.answer f c.in_err-ranking.ensures.answers)
+
+pub returns-in_err-ranking-clause-mark : goal.returns-in_err-ranking-clause-mark
+returns-in_err-ranking-clause-mark g c =
+    rw (exits_with c.from_residual-in_err-ranking.result c.in_err-ranking.field-0.0 c.from_residual-in_err-ranking.ensures.1) c.in_err-ranking.ensures.mark
+
+pub returns-clause-answers : goal.returns-clause-answers
+returns-clause-answers g c =
+    let text = input g.R.Source.rest g.R.Source.failed g.R.Source.called c.args.source.now c.read_plan_from.new.source in
+    let out = output g.W.Sink.taken c.args.out.now c.rank_and_report.new.out in
+    rw c.of.ensures (audited _ c.in_ok-plan.plan c.args.limit c.args.spare text out c.in_ok-plan.ensures.rules c.in_ok-plan.ensures.answer c.in_ok-ranking.ranking c.in_ok-ranking.ensures.answers)
+
+pub returns-clause-each : goal.returns-clause-each
+returns-clause-each g c =
+    rw c.of.ensures (each_true _ c.in_ok-plan.plan c.args.limit c.args.spare c.in_ok-ranking.ranking c.in_ok-ranking.ensures.answers.0)

@@ -23,4 +23,4 @@ pub returns-clause-writable : goal.returns-clause-writable
 returns-clause-writable g c =
     let p = c.args.plan.now in
     let f = c.args.finding.now in
-    on_made (λ v. v.items) (counter_of p f) (λ es. AllByRecursion (IsWritable p) es) c.events_of.result c.events_of.ensures (λ es e. counter_writable p c.rules.ensures f es e)
+    on_made (λ v. v.items) (counter_of p f) (λ es. AllByRecursion (IsWritable p) es) c.events_of.result c.events_of.ensures (λ es e. counter_writable p c.rules.ensures c.args.limit c.args.spare f es c.requires e)

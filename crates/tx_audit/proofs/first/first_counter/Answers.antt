@@ -1,25 +1,55 @@
+use Rattle.std.proofs.Common.{◌∙◌, sym, ap, subst, arith, List, Option}
+use Rattle.std.specs.Prelude.{is_some}
 use Rattle.std.specs.List.{AllByRecursion, list_any}
+use Rattle.std.specs.Option.{IfSome, option_map}
+use Rattle.std.proofs.lemmas.List.{drop_all}
+use Rattle.tx_rank.specs.Findings.{IsTrueOf}
 use Rattle.tx_script.specs.Events.{IsWritable}
 use Rattle.tx_audit.specs.Counter.{has_counter, first_counter_of}
-use Rattle.tx_audit.specs.Breaks.{ShowsOne}
-use Rattle.tx_audit.proofs.Loops.{on_made, some_made}
-use Rattle.tx_audit.proofs.Firsts.{first_there, first_shows, first_writable}
+use Rattle.tx_audit.specs.Breaks.{Shows}
+use Rattle.tx_audit.proofs.Firsts.{first_here, first_past, any_here, any_past, listed_at}
+use Rattle.tx_audit.proofs.Loops.{one_of_all}
 use Rattle.tx_audit.proofs.first.first_counter.Goals as goal
 
+pub counter-requires : goal.counter-requires
+counter-requires g c = one_of_all (IsTrueOf c.args.plan.now c.args.limit c.args.spare) c.args.findings.now c.loop-finding.finding-index c.finding-item.result c.requires c.loop-finding-test.true c.finding-item.is
+
+pub loop-finding-preserved : goal.loop-finding-preserved
+loop-finding-preserved g c =
+    let p = c.args.plan.now in
+    let fs = c.args.findings.now in
+    let i = c.loop-finding.finding-index in
+    let f = c.finding-item.result in
+    let e = c.in_ok-events.ensures in
+    record {
+      events = c.loop-finding.invariant.events ∙ first_past p fs i f (omega arith) c.finding-item.is (sym e.events ∙ ap (option_map (λ v. v.items)) c.in-None.is);
+      which = c.loop-finding.invariant.which ∙ any_past (has_counter p) fs i f (omega arith) c.finding-item.is (sym e.which ∙ ap is_some c.in-None.is);
+    }
+
+pub returns-in-Some-clause-events : goal.returns-in-Some-clause-events
+returns-in-Some-clause-events g c =
+    sym (c.loop-finding.invariant.events ∙ first_here c.args.plan.now c.args.findings.now c.loop-finding.finding-index c.finding-item.result c.in-Some.events.items (omega arith) c.finding-item.is
+    (sym c.in_ok-events.ensures.events ∙ ap (option_map (λ v. v.items)) c.in-Some.is))
+
+pub returns-in-Some-clause-which : goal.returns-in-Some-clause-which
+returns-in-Some-clause-which g c =
+    sym (c.loop-finding.invariant.which ∙ any_here (has_counter c.args.plan.now) c.args.findings.now c.loop-finding.finding-index c.finding-item.result (omega arith) c.finding-item.is
+    (sym c.in_ok-events.ensures.which ∙ ap is_some c.in-Some.is))
+
+pub returns-in-Some-clause-shows : goal.returns-in-Some-clause-shows
+returns-in-Some-clause-shows g c =
+    let f = c.finding-item.result in
+    record {
+      finding = f;
+      listed = listed_at c.args.findings.now c.loop-finding.finding-index f (omega arith) c.finding-item.is;
+      shows = rw c.in-Some.is at c.in_ok-events.ensures.shows;
+    }
+
+pub returns-in-Some-clause-writable : goal.returns-in-Some-clause-writable
+returns-in-Some-clause-writable g c = rw c.in-Some.is at c.in_ok-events.ensures.writable
+
+pub returns-clause-events : goal.returns-clause-events
+returns-clause-events g c = sym (c.loop-finding.invariant.events ∙ ap (first_counter_of c.args.plan.now) (drop_all c.loop-finding.finding-index c.args.findings.now c.loop-finding-test.false))
+
 pub returns-clause-which : goal.returns-clause-which
-returns-clause-which g c =
-    let p = c.args.plan.now in
-    let fs = c.args.findings.now in
-    some_made (λ v. v.items) (first_counter_of p fs) (list_any (has_counter p) fs) c.first_events.result c.first_events.ensures (first_there p c.rules.ensures c.args.limit c.args.spare fs c.requires)
-
-pub returns-clause-shows : goal.returns-clause-shows
-returns-clause-shows g c =
-    let p = c.args.plan.now in
-    let fs = c.args.findings.now in
-    on_made (λ v. v.items) (first_counter_of p fs) (λ es. ShowsOne p c.args.limit c.args.spare fs es) c.first_events.result c.first_events.ensures (λ es e. first_shows p c.rules.ensures c.args.limit c.args.spare fs es c.requires e)
-
-pub returns-clause-writable : goal.returns-clause-writable
-returns-clause-writable g c =
-    let p = c.args.plan.now in
-    let fs = c.args.findings.now in
-    on_made (λ v. v.items) (first_counter_of p fs) (λ es. AllByRecursion (IsWritable p) es) c.first_events.result c.first_events.ensures (λ es e. first_writable p c.rules.ensures c.args.limit c.args.spare fs es e)
+returns-clause-which g c = sym (c.loop-finding.invariant.which ∙ ap (list_any (has_counter c.args.plan.now)) (drop_all c.loop-finding.finding-index c.args.findings.now c.loop-finding-test.false))

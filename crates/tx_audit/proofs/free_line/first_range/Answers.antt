@@ -1,5 +1,5 @@
 use Rattle.std.proofs.Common.{◌<◌, ◌==◌, ◌∙◌, sym, length, arith}
-use Rattle.tx_entries.specs.declared.range.LineRange.{LineRange}
+use Rattle.tx_plan.specs.declared.range.LineRange.{LineRange}
 use Rattle.tx_plan.proofs.ByPlace.{entry_at}
 use Rattle.tx_audit.proofs.Loops.{find_here, find_past}
 use Rattle.tx_audit.proofs.free_line.first_range.Goals as goal
@@ -14,6 +14,6 @@ loop-place-preserved g c =
 
 pub unreachable-requires : goal.unreachable-requires
 unreachable-requires g c =
-    let within : c.loop-place.place < length c.args.plan.now.ranges = let e = c.ranges-place-end.ensures in let t = c.loop-place-test.true in omega arith in
+    let within : c.loop-place.place < length c.args.plan.now.ranges = let e = c.ranges-place-end.ensures.count in let t = c.loop-place-test.true in omega arith in
     let r = entry_at c.args.plan.now.ranges c.loop-place.place within in
     c.in_default.not-Some r.0 (c.range_at.ensures ∙ r.1)

@@ -14,7 +14,7 @@ returns-in_err-write_step g c =
 pub returns : goal.returns
 returns g c =
     wrote_then _ _ _ _ _ _ (flat_map (step_text c.args.plan.now) c.args.steps.now) (codes "\n") _
-    (texts_done (step_text c.args.plan.now) c.args.steps.now c.loop-i.i _ _ _ _ c.loop-i-test.false c.loop-i.invariant) c.write_text.ensures
+    (texts_done (step_text c.args.plan.now) c.args.steps.now c.loop-i.i _ _ _ _ c.loop-i-test.false c.loop-i.invariant) c.write_parts.ensures
 
 pub loop-i-preserved : goal.loop-i-preserved
 loop-i-preserved g c = texts_more (step_text c.args.plan.now) c.args.steps.now c.loop-i.i c.index-steps-i.result _ _ _ _ _ _ c.loop-i-test.true c.index-steps-i.is c.loop-i.invariant c.in_ok-write_step.ensures

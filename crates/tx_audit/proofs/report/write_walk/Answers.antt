@@ -6,16 +6,16 @@ use Rattle.tx_audit.specs.Report.{step_text}
 use Rattle.tx_audit.proofs.Reporting.{walk_cut}
 use Rattle.tx_audit.proofs.report.write_walk.Goals as goal
 
-pub returns-in_err-write_text : goal.returns-in_err-write_text
-returns-in_err-write_text g c =
+pub returns-in_err-write_parts : goal.returns-in_err-write_parts
+returns-in_err-write_parts g c =
     let p = c.args.plan.now in
     let w = c.walk.inside in
     let name = exchange_name p w.start in
     let rest = flat_map (step_text p) w.steps ++ codes "\n" in
     rw (← c.walk.view_is)
     (text_is _ _ _ _ _ _ _ (walk_cut c.args.head.now (figures_of p c.args.code) name rest)
-    (wrote_first _ _ _ _ (c.args.head.now ++ (figures_of p c.args.code ++ (codes " VIA " ++ (name ++ [])))) rest _ c.in_err-write_text.field-0.0
-    (rw (c.code_figures-code.ensures, c.exchange_name.ensures) at c.in_err-write_text.ensures) c.from_residual.ensures.0))
+    (wrote_first _ _ _ _ (c.args.head.now ++ (figures_of p c.args.code ++ (codes " VIA " ++ (name ++ [])))) rest _ c.in_err-write_parts.field-0.0
+    (rw (c.code_figures-code.ensures.value, c.exchange_name.ensures.value) at c.in_err-write_parts.ensures) c.from_residual.ensures.0))
 
 pub returns : goal.returns
 returns g c =
@@ -26,4 +26,4 @@ returns g c =
     rw (← c.walk.view_is)
     (text_is _ _ _ _ _ _ _ (walk_cut c.args.head.now (figures_of p c.args.code) name rest)
     (wrote_then _ _ _ _ _ _ (c.args.head.now ++ (figures_of p c.args.code ++ (codes " VIA " ++ (name ++ [])))) rest _
-    (rw (c.code_figures-code.ensures, c.exchange_name.ensures) at c.in_ok-write_text.ensures) (rw c.as_slice.ensures at c.write_steps.ensures)))
+    (rw (c.code_figures-code.ensures.value, c.exchange_name.ensures.value) at c.in_ok-write_parts.ensures) (rw c.as_slice.ensures at c.write_steps.ensures)))

@@ -2,7 +2,7 @@ use Rattle.std.proofs.Common.{◌≡◌, ◌<◌, ◌≤◌, Some, is_some, refl
 use Rattle.std.proofs.lemmas.Bool.{false≢true}
 use Rattle.slab.proofs.SlabLemmas.{Updates-with_value}
 use Rattle.tx_calls.specs.Calls.{kept_of}
-use Rattle.tx_state.specs.Seen.{call_seen}
+use Rattle.tx_machine.specs.Seen.{call_seen}
 use Rattle.tx_calls.proofs.open_calls.more_hops.Goals as goal
 
 pub returns-in_ok-more_room : goal.returns-in_ok-more_room

@@ -1,18 +1,21 @@
-use Rattle.std.proofs.Common.{length, arith, rules}
-use Rattle.tx_text.proofs.Writing.{on_err}
+use Rattle.std.proofs.Common.{length, arith}
+use Rattle.tx_text.proofs.Wrote.{wrote_none}
 use Rattle.tx_cert.specs.Certificate.{rank_at}
 use Rattle.tx_cert.specs.CertText.{rank_lines}
-use Rattle.tx_cert.proofs.Ranges.{wrote_more, stops_in_range}
+use Rattle.tx_cert.proofs.Ranges.{lines_more, lines_stopped, lines_done}
 use Rattle.tx_cert.proofs.cert_writer.write_code.Goals as goal
+
+pub loop-place-init : goal.loop-place-init
+loop-place-init g c = wrote_none _ _
 
 pub loop-place-preserved : goal.loop-place-preserved
 loop-place-preserved g c =
-    record {
-      wrote = wrote_more (λ x. rank_lines c.args.plan.now c.args.code x (rank_at c.args.cert.now c.args.code x)) c.loop-place.place _ _ _ _ c.at.ensures c.loop-place.invariant.wrote c.in_ok-write_rank.ensures.ok;
-      mark = search rules;
-    }
+    lines_more (λ x. rank_lines c.args.plan.now c.args.code x (rank_at c.args.cert.now c.args.code x)) c.loop-place.place _ _ _ _ _ _ _ c.of.ensures c.loop-place.invariant c.in_ok-write_rank.ensures
 
-pub returns-in_err-write_rank-clause-err : goal.returns-in_err-write_rank-clause-err
-returns-in_err-write_rank-clause-err g c =
-    on_err c.from_residual.result
-    (stops_in_range (λ x. rank_lines c.args.plan.now c.args.code x (rank_at c.args.cert.now c.args.code x)) c.loop-place.place (length c.args.plan.now.exchanges) _ _ _ _ (omega arith) c.at.ensures c.loop-place.invariant.wrote c.in_err-write_rank.ensures.err)
+pub returns-in_err-write_rank : goal.returns-in_err-write_rank
+returns-in_err-write_rank g c =
+    lines_stopped (λ x. rank_lines c.args.plan.now c.args.code x (rank_at c.args.cert.now c.args.code x)) c.loop-place.place (length c.args.plan.now.exchanges) _ _ _ _ _ _ _ _ c.in_err-write_rank.field-0.0 (omega arith) c.of.ensures c.loop-place.invariant c.in_err-write_rank.ensures c.from_residual.ensures.0
+
+pub returns : goal.returns
+returns g c =
+    lines_done (λ x. rank_lines c.args.plan.now c.args.code x (rank_at c.args.cert.now c.args.code x)) c.loop-place.place (length c.args.plan.now.exchanges) _ _ _ _ (omega arith) c.loop-place.invariant

@@ -1,12 +1,10 @@
-use Rattle.std.proofs.Common.{◌≡◌}
-use Rattle.std.specs.Io.KnownBytes.{append_known}
+use Rattle.std.proofs.Common.{Ok}
 use Rattle.std.specs.List.{flat_map, range_with_len}
 use Rattle.tx_text.specs.Written.{line_written}
+use Rattle.tx_text.specs.Wrote.{WroteBy}
 use Rattle.tx_cert.specs.CertText.{code_lines}
 use Rattle.tx_cert.proofs.cert_writer.write_code.Given as goal
 
 abbrev pub invariant-loop-place : goal.invariant-loop-place
-invariant-loop-place g l = record {
-  wrote : g.W.Sink.taken l.sink ≡ append_known (g.W.Sink.taken l.initial.sink) (flat_map line_written (code_lines l.plan l.cert l.code (range_with_len 0 l.place)));
-  mark : g.W.Sink.failed l.sink ≡ g.W.Sink.failed l.initial.sink;
-}
+invariant-loop-place g l =
+    WroteBy (g.W.Sink.taken l.initial.sink) (g.W.Sink.taken l.sink) (g.W.Sink.failed l.initial.sink) (g.W.Sink.failed l.sink) (flat_map line_written (code_lines l.plan l.cert l.code (range_with_len 0 l.place))) (Ok tt)

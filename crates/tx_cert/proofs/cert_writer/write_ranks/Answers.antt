@@ -1,18 +1,21 @@
-use Rattle.std.proofs.Common.{length, arith, rules}
+use Rattle.std.proofs.Common.{length, arith}
+use Rattle.tx_text.proofs.Wrote.{wrote_none}
 use Rattle.std.specs.List.{range_with_len}
-use Rattle.tx_text.proofs.Writing.{on_err}
 use Rattle.tx_cert.specs.CertText.{code_lines}
-use Rattle.tx_cert.proofs.Ranges.{wrote_more, stops_in_range}
+use Rattle.tx_cert.proofs.Ranges.{lines_more, lines_stopped, lines_done}
 use Rattle.tx_cert.proofs.cert_writer.write_ranks.Goals as goal
+
+pub loop-place-init : goal.loop-place-init
+loop-place-init g c = wrote_none _ _
 
 pub loop-place-preserved : goal.loop-place-preserved
 loop-place-preserved g c =
-    record {
-      wrote = wrote_more (λ i. code_lines c.args.plan.now c.args.cert.now i (range_with_len 0 (length c.args.plan.now.exchanges))) c.loop-place.place _ _ _ _ c.at.ensures c.loop-place.invariant.wrote c.in_ok-write_code.ensures.ok;
-      mark = search rules;
-    }
+    lines_more (λ i. code_lines c.args.plan.now c.args.cert.now i (range_with_len 0 (length c.args.plan.now.exchanges))) c.loop-place.place _ _ _ _ _ _ _ c.of.ensures c.loop-place.invariant c.in_ok-write_code.ensures
 
-pub returns-in_err-write_code-clause-err : goal.returns-in_err-write_code-clause-err
-returns-in_err-write_code-clause-err g c =
-    on_err c.from_residual.result
-    (stops_in_range (λ i. code_lines c.args.plan.now c.args.cert.now i (range_with_len 0 (length c.args.plan.now.exchanges))) c.loop-place.place (length c.args.plan.now.codes) _ _ _ _ (omega arith) c.at.ensures c.loop-place.invariant.wrote c.in_err-write_code.ensures.err)
+pub returns-in_err-write_code : goal.returns-in_err-write_code
+returns-in_err-write_code g c =
+    lines_stopped (λ i. code_lines c.args.plan.now c.args.cert.now i (range_with_len 0 (length c.args.plan.now.exchanges))) c.loop-place.place (length c.args.plan.now.codes) _ _ _ _ _ _ _ _ c.in_err-write_code.field-0.0 (omega arith) c.of.ensures c.loop-place.invariant c.in_err-write_code.ensures c.from_residual.ensures.0
+
+pub returns : goal.returns
+returns g c =
+    lines_done (λ i. code_lines c.args.plan.now c.args.cert.now i (range_with_len 0 (length c.args.plan.now.exchanges))) c.loop-place.place (length c.args.plan.now.codes) _ _ _ _ (omega arith) c.loop-place.invariant

@@ -2,7 +2,7 @@ use Rattle.std.proofs.Common.{◌≢◌, ◌∙◌, sym, ap, length, vec_len, []
 use Rattle.std.proofs.lemmas.Bool.{eqb-false}
 use Rattle.tx_cert.specs.Certificate.{ranks_of}
 use Rattle.tx_rank.proofs.Listing.{none_of}
-use Rattle.tx_state.proofs.ChangingRuns.{sound_change}
+use Rattle.tx_machine.proofs.ChangingRuns.{sound_change}
 use Rattle.tx_change.proofs.Listing.{each_certified, nothing_found, changes_shown, some_found}
 use Rattle.tx_change.proofs.changing.change.Goals as goal
 
@@ -59,3 +59,6 @@ returns-clause-shown g c = changes_shown c.args.old.now c.args.new.now c.args.li
 
 pub returns-then-is_empty-clause-fits : goal.returns-then-is_empty-clause-fits
 returns-then-is_empty-clause-fits g c = record { codes = c.in_ok-cert.ensures.codes; exchanges = c.in_ok-cert.ensures.exchanges; rules = c.rules-then-is_empty.ensures }
+
+pub change_codes-requires-clause-network : goal.change_codes-requires-clause-network
+change_codes-requires-clause-network g c = record { network = c.requires.network; old_rules = c.rules.ensures; new_rules = c.rules-2.ensures }

@@ -5,7 +5,7 @@ use Rattle.tx_change.proofs.showing.add_bars.Goals as goal
 
 pub add_bar-requires : goal.add_bar-requires
 add_bar-requires g c = λ r at keeps.
-    bar_new (keeps_bar c.args.from_new c.args.taking.now) c.args.bars.now c.loop-place.bars c.args.from.now.bars c.loop-place.place r c.rules.ensures.bars_differ at c.loop-place.invariant
+    bar_new (keeps_bar c.args.from_new c.args.taking.now) c.args.bars.now c.loop-place.bars c.args.from.now.bars c.loop-place.place r c.bars-place-end.ensures.rules.bars_differ at c.loop-place.invariant
     (c.requires r (among_at c.args.from.now.bars c.loop-place.place r at) keeps)
 
 pub loop-place-preserved : goal.loop-place-preserved

@@ -5,7 +5,7 @@ use Rattle.tx_change.proofs.showing.add_routes.Goals as goal
 
 pub add_route-requires : goal.add_route-requires
 add_route-requires g c = λ r at keeps.
-    route_new (keeps_route c.args.from_new c.args.taking.now) c.args.routes.now c.loop-place.routes c.args.from.now.routes c.loop-place.place r c.rules.ensures.routes_differ at c.loop-place.invariant
+    route_new (keeps_route c.args.from_new c.args.taking.now) c.args.routes.now c.loop-place.routes c.args.from.now.routes c.loop-place.place r c.routes-place-end.ensures.rules.routes_differ at c.loop-place.invariant
     (c.requires r (among_at c.args.from.now.routes c.loop-place.place r at) keeps)
 
 pub loop-place-preserved : goal.loop-place-preserved

@@ -7,10 +7,10 @@ loop-place-init g c = row_start c.args.plan.now c.args.first c.args.least c.requ
 
 pub loop-place-preserved : goal.loop-place-preserved
 loop-place-preserved g c =
-    rw c.with_pair-least.ensures (row_more c.args.plan.now c.args.first c.loop-place.place _ c.loop-place.least c.at.ensures c.requires.first (omega arith) c.loop-place.invariant)
+    rw c.with_pair-least.ensures (row_more c.args.plan.now c.args.first c.loop-place.place _ c.loop-place.least c.of.ensures c.requires.first (omega arith) c.loop-place.invariant)
 
 pub returns : goal.returns
 returns g c = row_end c.args.plan.now c.args.first c.loop-place.place c.loop-place.least (omega arith) c.loop-place.invariant
 
 pub returns-then-code_figures-ge3 : goal.returns-then-code_figures-ge3
-returns-then-code_figures-ge3 g c = row_skip c.args.plan.now c.rules.ensures c.args.first c.args.least (let t = c.if-code_figures-ge3.true in let e = ap length c.code_figures.ensures in omega arith) c.requires.least
+returns-then-code_figures-ge3 g c = row_skip c.args.plan.now c.codes-codes.ensures.rules c.args.first c.args.least (let t = c.if-code_figures-ge3.true in let e = ap length c.code_figures.ensures.value in omega arith) c.requires.least

@@ -1,6 +1,6 @@
 use Rattle.std.proofs.Common.{refl}
-use Rattle.tx_state.proofs.Sound.{sound}
-use Rattle.tx_state.proofs.Counts.{few_routes}
+use Rattle.tx_machine.proofs.Sound.{sound}
+use Rattle.tx_machine.proofs.Counts.{few_routes}
 use Rattle.tx_check.specs.Checks.{check_faults, ranks_for}
 use Rattle.tx_check.proofs.Judging.{yes_of, no_of, certified_from, not_certified}
 use Rattle.tx_check.proofs.checker.check.Goals as goal

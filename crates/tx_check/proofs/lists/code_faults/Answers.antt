@@ -6,4 +6,4 @@ pub loop-place-preserved : goal.loop-place-preserved
 loop-place-preserved g c =
     let p = c.args.plan.now in
     let ranks = ranks_for p c.args.cert.now in
-    firsts_more (too_short_at p ranks c.args.spare c.args.code) (target_unranked_at p ranks c.args.code) (not_lower_at p ranks c.args.code) c.loop-place.place _ _ _ _ c.loop-place.invariant c.at.ensures c.pair_faults.ensures c.or-firsts.ensures
+    firsts_more (too_short_at p ranks c.args.spare c.args.code) (target_unranked_at p ranks c.args.code) (not_lower_at p ranks c.args.code) c.loop-place.place _ _ _ _ c.loop-place.invariant c.of.ensures c.pair_faults.ensures c.or-firsts.ensures

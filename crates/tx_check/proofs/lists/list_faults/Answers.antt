@@ -6,4 +6,4 @@ pub loop-place-preserved : goal.loop-place-preserved
 loop-place-preserved g c =
     let p = c.args.plan.now in
     let ranks = ranks_for p c.args.cert.now in
-    firsts_more (λ k. at_exchanges p (too_short_at p ranks c.args.spare k)) (λ k. at_exchanges p (target_unranked_at p ranks k)) (λ k. at_exchanges p (not_lower_at p ranks k)) c.loop-place.place _ _ _ _ c.loop-place.invariant c.at.ensures c.code_faults.ensures c.or-firsts.ensures
+    firsts_more (λ k. at_exchanges p (too_short_at p ranks c.args.spare k)) (λ k. at_exchanges p (target_unranked_at p ranks k)) (λ k. at_exchanges p (not_lower_at p ranks k)) c.loop-place.place _ _ _ _ c.loop-place.invariant c.of.ensures c.code_faults.ensures c.or-firsts.ensures

@@ -8,7 +8,7 @@ returns-then-is_some g c =
     let p = c.args.plan.now in
     let ranks = ranks_for p c.args.cert.now in
     let some : is_some c.origin_fault_at-found.result ≡ true = search rules in
-    found_at (origin_unranked_at p ranks c.args.code) c.loop-place.place (length p.exchanges) _ _ (omega arith) c.at-exchange.ensures c.origin_fault_at-found.ensures some c.loop-place.invariant
+    found_at (origin_unranked_at p ranks c.args.code) c.loop-place.place (length p.exchanges) _ _ (omega arith) c.of-exchange.ensures c.origin_fault_at-found.ensures some c.loop-place.invariant
 
 pub returns : goal.returns
 returns g c =

@@ -1,27 +1,52 @@
-use Rattle.std.proofs.Common.{◌≡◌, ◌∙◌, ℕ, ◌+◌, ◌-◌, List, ◌++◌, length, map, take, sym, ap, subst, arith}
-use Rattle.std.specs.Prelude.{replicate}
-use Rattle.std.proofs.lemmas.List.{take_at}
-use Rattle.tx_circuits.specs.declared.slot.Slot.{Slot}
-use Rattle.tx_circuits.specs.declared.row.Row.{Row}
-use Rattle.tx_circuits.specs.inner.Slots.{state_of}
-use Rattle.tx_circuits.specs.inner.Groups.{group_slots, AreApart, IsAppended}
-use Rattle.tx_circuits.proofs.Kept.{grown, appended}
+use Rattle.std.proofs.Common.{◌≡◌, ◌∙◌, ℕ, ◌+◌, ◌<◌, true, Option, Some, None, length, sym, subst, arith, refl}
+use Rattle.tx_circuits.specs.declared.lists.Way.{Way}
+use Rattle.tx_circuits.specs.declared.lists.Way.TheVariants.{Up, Down}
+use Rattle.tx_circuits.specs.inner.Linked.{IsFirst, IsLast}
+use Rattle.tx_circuits.specs.inner.Slots.{free_at, chain, rank_of, until}
+use Rattle.tx_circuits.proofs.Linked.{put, are_ranked}
+use Rattle.tx_circuits.proofs.Places.{free_here, free_within, first_within, each_way}
+use Rattle.tx_circuits.proofs.Sound.{listed_along}
+use Rattle.tx_circuits.proofs.Appending.{until_is, until_other, until_now, until_before, until_skips, greatest_last, none_above, none_after, greatest_next, not_greatest}
 use Rattle.tx_circuits.proofs.groups.append.Goals as goal
 
-pub returns-clause-ok : goal.returns-clause-ok
-returns-clause-ok g c =
-    let slots = c.args.slots.now.items in
-    let mid = c.resize.new.self.items in
-    let new = c.relist.new.slots in
-    let old : length slots ≡ c.args.slots.now.len = sym c.args.slots.now.ok.0 in
-    let start : c.len.result ≡ length slots = c.len.ensures ∙ sym old in
-    let row : Row = record { head = c.args.head; start = c.len.result; count = c.args.count; lists = c.new.result } in
-    let mid_is : mid ≡ slots ++ replicate c.args.count c.idle.result = c.in_ok-resize.ensures.items
-    ∙ ap (λ (n : ℕ). take (c.len.result + c.args.count) slots ++ replicate (c.len.result + c.args.count - n) c.idle.result) (sym old) ∙ grown slots c.args.count (c.len.result + c.args.count) c.idle.result (omega arith) in
-    let value = c.as_mut_slice.ensures.value in
-    let long : length new ≡ length mid = c.relist.auto.slots ∙ ap length value in
-    let len : length new ≡ c.resize.new.self.len = c.relist.auto.slots ∙ c.as_mut_slice.ensures.len in
-    let states : map state_of (group_slots new row) ≡ map state_of (group_slots mid row) = c.relist.ensures.states ∙ ap (λ (l : List Slot). map state_of (group_slots l row)) value in
-    let rest : (s : Row) → AreApart row s → group_slots new s ≡ group_slots mid s = λ s a. c.relist.ensures.rest s a ∙ ap (λ (l : List Slot). group_slots l s) value in
-    subst (λ (l : List Slot). IsAppended slots l c.args.head c.args.count c.relist.new.self) (sym (take_at new _ c.resize.new.self.len len))
-    (appended slots mid new row c.relist.new.self start c.relist.ensures.row c.idle.result c.idle.ensures mid_is long c.relist.ensures.sound states rest)
+pub returns-then-not-is_free-clause-listed : goal.returns-then-not-is_free-clause-listed
+returns-then-not-is_free-clause-listed c =
+    let end = c.args.end in
+    let slots = c.args.slots.now in
+    let i = c.args.place in
+    let taken = free_here end slots i _ c.requires.place ∙ sym c.is_free.ensures ∙ c.if-not-is_free.true in
+    listed_along (until i (free_at end slots)) (until (i + 1) (free_at end slots)) end slots slots c.args.list.now (until_skips (free_at end slots) i taken) (λ way k. refl) c.requires.listed
+
+pub insert-requires-clause-below : goal.insert-requires-clause-below
+insert-requires-clause-below c =
+    let end = c.args.end in
+    let slots = c.args.slots.now in
+    first_within (until c.args.place (free_at end slots)) (rank_of Down) 0 (length slots) (λ k f. free_within end slots k (until_is (free_at end slots) c.args.place k f).1) c.args.list.now.greatest
+    (c.requires.listed Down).begins
+
+pub insert-requires-clause-apart : goal.insert-requires-clause-apart
+insert-requires-clause-apart c =
+    let slots = c.args.slots.now in
+    let short = c.requires.short in
+    let i_in : c.args.place < 240 = (let a : c.args.place < length slots = c.requires.place in omega arith) in
+    each_way _ (λ e. absurd cc) (not_greatest (free_at c.args.end slots) c.args.place i_in c.args.list.now.greatest (c.requires.listed Down).begins)
+
+pub returns-clause-listed : goal.returns-clause-listed
+returns-clause-listed c =
+    let end = c.args.end in
+    let slots = c.args.slots.now in
+    let i = c.args.place in
+    let short = c.requires.short in
+    let i_in : i < 240 = (let a : i < length slots = c.requires.place in omega arith) in
+    let free = free_at end slots in
+    let inside = λ (k : ℕ) (f : until i free k ≡ true). let a : k < i = (until_is free i k f).0 in let b : k < 240 = omega arith in b in
+    let now = free_here end slots i _ c.requires.place ∙ sym c.is_free.ensures ∙ c.if-not-is_free.false in
+    let greatest = c.args.list.now.greatest in
+    let one = λ (w : Way) (q r : Option ℕ) (placed : chain end w c.insert.new.slots c.insert.new.list (Some i) ≡ r) (last : IsLast (until i free) (rank_of w) (rank_of w i) q)
+    (found : IsFirst (until i free) (rank_of w) (rank_of w i + 1) r) (joined : chain end w c.insert.new.slots c.insert.new.list q ≡ Some i).
+    put (until i free) (until (i + 1) free) (rank_of w) (are_ranked w (until i free) inside) i i_in (until_now free i now) (until_before free i) (until_other free i)
+    (chain end w slots c.args.list.now) (chain end w c.insert.new.slots c.insert.new.list) (c.requires.listed w)
+    (subst (IsFirst (until i free) (rank_of w) (rank_of w i + 1)) (sym placed) found) q last joined in
+    each_way _
+    (one Up greatest None (c.insert.ensures.placed Up) (greatest_last free i i_in greatest (c.requires.listed Down).begins) (none_after free i i_in) (c.insert.ensures.joined Up) (c.insert.ensures.rest Up))
+    (one Down None greatest (c.insert.ensures.placed Down) (none_above free i i_in) (greatest_next free i i_in greatest (c.requires.listed Down).begins) (c.insert.ensures.joined Down) (c.insert.ensures.rest Down))

@@ -3,9 +3,9 @@ use Rattle.tx_commands.specs.inner.Refused.{IsRefused}
 use Rattle.tx_commands.proofs.Found.{found_by}
 use Rattle.tx_commands.proofs.reading.command_in.Goals as goal
 
-pub returns-in-Ok-found-clause-asked : goal.returns-in-Ok-found-clause-asked
-returns-in-Ok-found-clause-asked c = found_by (λ o. IsFoundIn o c.in-Ok-found.command) _ _ _ c.requires c.in-Ok.ensures.ok.2 c.in-Ok-found.ensures.asked
+pub returns-in-Ok-found_command-clause-asked : goal.returns-in-Ok-found_command-clause-asked
+returns-in-Ok-found_command-clause-asked c = found_by (λ o. IsFoundIn o c.in-Ok-found_command.command) _ _ _ c.requires c.in-Ok.ensures.ok.2 c.in-Ok-found_command.ensures.asked
 
-pub returns-in_ok-words_fault-in-Err-found-clause-refused : goal.returns-in_ok-words_fault-in-Err-found-clause-refused
-returns-in_ok-words_fault-in-Err-found-clause-refused c =
-    c.in_ok-words_fault-in-Err-found.ensures _ (found_by (λ o. IsRefused o c.in-Err-found.refusal) _ _ _ c.requires c.in-Ok.ensures.ok.2 c.in-Err-found.ensures.refused)
+pub returns-clause-refused : goal.returns-clause-refused
+returns-clause-refused c =
+    c.in_ok-words_fault.ensures _ (found_by (λ o. IsRefused o c.in-Err-found_command.refusal) _ _ _ c.requires c.in-Ok.ensures.ok.2 c.in-Err-found_command.ensures.refused)

@@ -8,4 +8,4 @@ returns-in_err-write_box g c = wrote_first _ _ _ _ (box c.args.plan.now c.args.e
 pub returns : goal.returns
 returns g c =
     wrote_then _ _ _ _ _ _ (box c.args.plan.now c.args.exchange) _ _ c.in_ok-write_box.ensures
-    (rw (c.home_text-home.ensures, c.eq.ensures, c.home.ensures, c.color_text-color.ensures, c.passes.ensures, c.is_marked.ensures) at c.write_text.ensures)
+    (rw (c.home_text-home.ensures, c.eq.ensures, c.home.ensures, c.color_text-color.ensures, c.passes.ensures, c.is_marked.ensures) at c.write_parts.ensures)

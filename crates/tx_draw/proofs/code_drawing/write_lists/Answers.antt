@@ -10,7 +10,7 @@ loop-place-init g c =
 
 pub loop-place-preserved : goal.loop-place-preserved
 loop-place-preserved g c =
-    before_more (list_lines c.args.plan.now c.args.code c.args.reached.now c.args.shown.now) c.loop-place.place _ _ _ _ _ _ _ c.at-exchange.ensures c.loop-place.invariant (rw c.list-list.ensures at c.in_ok-write_list.ensures)
+    before_more (list_lines c.args.plan.now c.args.code c.args.reached.now c.args.shown.now) c.loop-place.place _ _ _ _ _ _ _ c.of-exchange.ensures c.loop-place.invariant (rw c.list-list.ensures.value at c.in_ok-write_list.ensures)
 
 pub returns : goal.returns
 returns g c =
@@ -18,4 +18,4 @@ returns g c =
 
 pub returns-in_err-write_list : goal.returns-in_err-write_list
 returns-in_err-write_list g c =
-    before_stopped (list_lines c.args.plan.now c.args.code c.args.reached.now c.args.shown.now) c.loop-place.place (length c.args.plan.now.exchanges) _ _ _ _ _ _ _ _ c.in_err-write_list.field-0.0 (omega arith) c.at-exchange.ensures c.loop-place.invariant (rw c.list-list.ensures at c.in_err-write_list.ensures) c.from_residual.ensures.0
+    before_stopped (list_lines c.args.plan.now c.args.code c.args.reached.now c.args.shown.now) c.loop-place.place (length c.args.plan.now.exchanges) _ _ _ _ _ _ _ _ c.in_err-write_list.field-0.0 (omega arith) c.of-exchange.ensures c.loop-place.invariant (rw c.list-list.ensures.value at c.in_err-write_list.ensures) c.from_residual.ensures.0

@@ -8,4 +8,4 @@ returns-in_err-write_box g c =
 
 pub returns : goal.returns
 returns g c =
-    wrote_then _ _ _ _ _ _ (box c.args.plan.now c.args.exchange) _ _ c.in_ok-write_box.ensures (c.write_text.ensures)
+    wrote_then _ _ _ _ _ _ (box c.args.plan.now c.args.exchange) _ _ c.in_ok-write_box.ensures (c.write_parts.ensures)

@@ -10,7 +10,7 @@ loop-place-init g c =
 
 pub loop-place-preserved : goal.loop-place-preserved
 loop-place-preserved g c =
-    before_more (exchange_line c.args.plan.now) c.loop-place.place _ _ _ _ _ _ _ c.at.ensures c.loop-place.invariant c.in_ok-write_exchange.ensures
+    before_more (exchange_line c.args.plan.now) c.loop-place.place _ _ _ _ _ _ _ c.of.ensures c.loop-place.invariant c.in_ok-write_exchange.ensures
 
 pub returns : goal.returns
 returns g c =
@@ -18,4 +18,4 @@ returns g c =
 
 pub returns-in_err-write_exchange : goal.returns-in_err-write_exchange
 returns-in_err-write_exchange g c =
-    before_stopped (exchange_line c.args.plan.now) c.loop-place.place (length c.args.plan.now.exchanges) _ _ _ _ _ _ _ _ c.in_err-write_exchange.field-0.0 (omega arith) c.at.ensures c.loop-place.invariant c.in_err-write_exchange.ensures c.from_residual.ensures.0
+    before_stopped (exchange_line c.args.plan.now) c.loop-place.place (length c.args.plan.now.exchanges) _ _ _ _ _ _ _ _ c.in_err-write_exchange.field-0.0 (omega arith) c.of.ensures c.loop-place.invariant c.in_err-write_exchange.ensures c.from_residual.ensures.0

@@ -10,7 +10,7 @@ loop-place-init g c =
 
 pub loop-place-preserved : goal.loop-place-preserved
 loop-place-preserved g c =
-    before_more (home_row c.args.plan.now c.args.exchange) c.loop-place.place _ _ _ _ _ _ _ c.at.ensures c.loop-place.invariant c.in_ok-write_home_row.ensures
+    before_more (home_row c.args.plan.now c.args.exchange) c.loop-place.place _ _ _ _ _ _ _ c.of.ensures c.loop-place.invariant c.in_ok-write_home_row.ensures
 
 pub returns : goal.returns
 returns g c =
@@ -18,4 +18,4 @@ returns g c =
 
 pub returns-in_err-write_home_row : goal.returns-in_err-write_home_row
 returns-in_err-write_home_row g c =
-    before_stopped (home_row c.args.plan.now c.args.exchange) c.loop-place.place (length c.args.plan.now.codes) _ _ _ _ _ _ _ _ c.in_err-write_home_row.field-0.0 (omega arith) c.at.ensures c.loop-place.invariant c.in_err-write_home_row.ensures c.from_residual.ensures.0
+    before_stopped (home_row c.args.plan.now c.args.exchange) c.loop-place.place (length c.args.plan.now.codes) _ _ _ _ _ _ _ _ c.in_err-write_home_row.field-0.0 (omega arith) c.of.ensures c.loop-place.invariant c.in_err-write_home_row.ensures c.from_residual.ensures.0

@@ -1,7 +1,7 @@
 use Rattle.std.proofs.Common.{ℕ, List, take, option_map, Ok}
 use Rattle.std.specs.Borrow.{Bor}
 use Rattle.std.specs.List.{flat_map}
-use Rattle.tx_text.specs.Wrote.{Wrote}
+use Rattle.tx_text.specs.Wrote.{WroteBy}
 use Rattle.tx_explain.specs.Entries.{texts}
 use Rattle.tx_explain.specs.Written.{told_text}
 use Rattle.tx_explain.proofs.explanation.write_entries.Given as goal
@@ -10,6 +10,6 @@ abbrev pub invariant-loop-i : goal.invariant-loop-i
 invariant-loop-i g l =
     let text : List (Bor (List ℕ)) → List ℕ =
     λ e. told_text (option_map (λ w. w.now) l.word) (texts e) in
-    Wrote (g.W.Sink.taken l.initial.sink) (g.W.Sink.taken l.sink)
+    WroteBy (g.W.Sink.taken l.initial.sink) (g.W.Sink.taken l.sink)
     (g.W.Sink.failed l.initial.sink) (g.W.Sink.failed l.sink)
     (flat_map text (take l.i l.entries)) (Ok tt)

@@ -1,13 +1,22 @@
-use Rattle.std.proofs.Common.{Ok, Err, refl, ap, sym, ◌∙◌}
-use Rattle.tx_jobs.specs.JobFaults.{mark_by}
+use Rattle.std.proofs.Common.{◌∙◌, Ok, Err, refl}
+use Rattle.tx_text.proofs.Exits.{exits_with}
+use Rattle.tx_jobs.specs.AuditJobs.{audit_fault}
 use Rattle.tx_jobs.proofs.RefusedTexts.{audit_marked}
 use Rattle.tx_jobs.proofs.audit.audit_job.Goals as goal
 
-pub returns-in-Ok-clause-answers : goal.returns-in-Ok-clause-answers
-returns-in-Ok-clause-answers g c = (Ok c.in-Ok.audited, c.in-Ok.ensures.answers, refl)
+pub returns-clause-answers : goal.returns-clause-answers
+returns-clause-answers g c = (Ok c.in_ok-audit.field-0, c.in_ok-audit.ensures.answers, refl)
 
-pub returns-in-Err-clause-answers : goal.returns-in-Err-clause-answers
-returns-in-Err-clause-answers g c = (Err c.in-Err.fault, c.in-Err.ensures.answers, ap Err c.of_audit.ensures)
+pub returns-in_err-audit-clause-answers : goal.returns-in_err-audit-clause-answers
+returns-in_err-audit-clause-answers g c =
+    let f = c.in_err-audit.field-0.0 in (
+      Err f,
+      c.in_err-audit.ensures.answers,
+      exits_with c.from_residual.result (audit_fault f) c.from_residual.ensures.1,
+    )
 
-pub returns-in-Err-clause-mark : goal.returns-in-Err-clause-mark
-returns-in-Err-clause-mark g c = c.in-Err.ensures.mark ∙ audit_marked (g.W.Sink.failed c.args.out.now) c.in-Err.fault ∙ ap (mark_by (g.W.Sink.failed c.args.out.now)) (sym c.of_audit.ensures)
+pub returns-in_err-audit-clause-mark : goal.returns-in_err-audit-clause-mark
+returns-in_err-audit-clause-mark g c =
+    let f = c.in_err-audit.field-0.0 in
+    rw (exits_with c.from_residual.result (audit_fault f) c.from_residual.ensures.1)
+    (c.in_err-audit.ensures.mark ∙ audit_marked (g.W.Sink.failed c.args.out.now) f)

@@ -3,10 +3,23 @@ use Rattle.tx_jobs.proofs.ChangeTold.{new_plan_mark}
 use Rattle.tx_jobs.proofs.change.change_from.Goals as goal
 
 pub returns-in-Ok-clause-answers : goal.returns-in-Ok-clause-answers
-returns-in-Ok-clause-answers g c = inl (record { plan = c.in-Ok.plan; rules = c.rules.ensures; read = c.in-Ok.ensures.answer; goes_on = c.change_into.ensures.told })
+returns-in-Ok-clause-answers g c =
+    inl (record {
+      plan = c.in-Ok.plan;
+      rules = c.in-Ok.ensures.rules;
+      read = c.in-Ok.ensures.answer;
+      goes_on = c.change_into.ensures.told;
+    })
 
 pub returns-in-Err-clause-answers : goal.returns-in-Err-clause-answers
-returns-in-Err-clause-answers g c = inr (record { fault = c.in-Err.fault; read = c.in-Err.ensures.answer; told = ap Err c.of_new_plan.ensures; rest = refl })
+returns-in-Err-clause-answers g c =
+    inr (record {
+      fault = c.in-Err.fault;
+      read = c.in-Err.ensures.answer;
+      told = ap Err c.of_new_plan.ensures;
+      rest = refl;
+    })
 
 pub returns-in-Err-clause-mark : goal.returns-in-Err-clause-mark
-returns-in-Err-clause-mark g c = new_plan_mark (g.W.Sink.failed c.args.out.now) c.in-Err.fault c.of_new_plan.result c.of_new_plan.ensures
+returns-in-Err-clause-mark g c =
+    rw c.of_new_plan.ensures (new_plan_mark (g.W.Sink.failed c.args.out.now) c.in-Err.fault)

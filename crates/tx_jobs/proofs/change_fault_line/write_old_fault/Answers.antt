@@ -1,11 +1,12 @@
-use Rattle.std.specs.Prelude.{◌≡◌, codes, OnOk}
-use Rattle.std.specs.Io.KnownBytes.{append_known}
+use Rattle.std.specs.Prelude.{codes}
 use Rattle.std.proofs.Common.{subst}
+use Rattle.tx_text.specs.Wrote.{Wrote}
 use Rattle.tx_jobs.specs.JobFaults.{text_fault_line}
 use Rattle.tx_jobs.proofs.change_fault_line.write_old_fault.Goals as goal
 
-pub returns-in-Plan-clause-ok : goal.returns-in-Plan-clause-ok
-returns-in-Plan-clause-ok g c =
+pub returns-in-Plan : goal.returns-in-Plan
+returns-in-Plan g c =
     rw c.in-Plan.is
-    (subst (λ r. OnOk c.write_text_fault.result (g.W.Sink.taken c.write_text_fault.new.sink ≡ append_known (g.W.Sink.taken c.args.sink.now) (text_fault_line (codes "old plan") c.in-Plan.fault.line r)))
-    c.code_and_name-row.ensures c.write_text_fault.ensures.ok)
+    (subst (λ r. Wrote g.W.Sink.taken g.W.Sink.failed c.args.sink.now c.write_text_fault.new.sink
+    (text_fault_line (codes "old plan") c.in-Plan.fault.line r) c.write_text_fault.result)
+    c.code_and_name-row.ensures c.write_text_fault.ensures)

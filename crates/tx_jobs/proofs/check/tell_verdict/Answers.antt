@@ -1,4 +1,8 @@
 use Rattle.tx_jobs.proofs.check.tell_verdict.Goals as goal
 
-pub returns-in-Ok-clause-told : goal.returns-in-Ok-clause-told
-returns-in-Ok-clause-told g c = (c.check-verdict.ensures.verdict, c.in-Ok.ensures.ok, c.check-verdict.ensures.sound)
+pub returns-clause-told : goal.returns-clause-told
+returns-clause-told g c = (
+  c.check-verdict.ensures.verdict,
+  c.in_ok-write_verdict.ensures.0,
+  c.check-verdict.ensures.sound,
+)

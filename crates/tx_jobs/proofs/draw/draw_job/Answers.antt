@@ -1,12 +1,12 @@
-use Rattle.std.proofs.Common.{Err, ap, inl, inr, refl}
-use Rattle.tx_jobs.proofs.RefusedTexts.{plan_mark}
+use Rattle.std.proofs.Common.{inl, inr, refl}
+use Rattle.tx_jobs.proofs.RefusedTexts.{refused, refused_mark}
 use Rattle.tx_jobs.proofs.draw.draw_job.Goals as goal
 
-pub returns-in-Ok-clause-answers : goal.returns-in-Ok-clause-answers
-returns-in-Ok-clause-answers g c = inl (record { plan = c.in-Ok.plan; rules = c.rules.ensures; read = c.in-Ok.ensures.answer; goes_on = c.draw_plan-drawn.ensures.drew })
+pub returns-clause-answers : goal.returns-clause-answers
+returns-clause-answers g c = inl (record { plan = c.in_ok-plan.plan; rules = c.in_ok-plan.ensures.rules; read = c.in_ok-plan.ensures.answer; goes_on = c.draw_plan.ensures.drew })
 
-pub returns-in-Err-clause-answers : goal.returns-in-Err-clause-answers
-returns-in-Err-clause-answers g c = inr (record { fault = c.in-Err.fault; read = c.in-Err.ensures.answer; told = ap Err c.of_plan.ensures; rest = refl })
+pub returns-in_err-plan-clause-answers : goal.returns-in_err-plan-clause-answers
+returns-in_err-plan-clause-answers g c = inr (record { fault = c.in_err-plan.field-0.0; read = c.in_err-plan.ensures.answer; told = refused c.from_residual.result c.in_err-plan.field-0.0 c.from_residual.ensures.1; rest = refl })
 
-pub returns-in-Err-clause-mark : goal.returns-in-Err-clause-mark
-returns-in-Err-clause-mark g c = plan_mark (g.W.Sink.failed c.args.out.now) c.in-Err.fault c.of_plan.result c.of_plan.ensures
+pub returns-in_err-plan-clause-mark : goal.returns-in_err-plan-clause-mark
+returns-in_err-plan-clause-mark g c = refused_mark (g.W.Sink.failed c.args.out.now) c.from_residual.result c.in_err-plan.field-0.0 c.from_residual.ensures.1

@@ -1,8 +1,20 @@
-use Rattle.std.proofs.Common.{Ok, Err, ap, refl}
+use Rattle.std.proofs.Common.{Ok, Err, ap}
+use Rattle.tx_text.proofs.Exits.{exits_with}
 use Rattle.tx_jobs.proofs.grade.grade_status.Goals as goal
 
-pub returns-in-Ok-clause-answers : goal.returns-in-Ok-clause-answers
-returns-in-Ok-clause-answers g c = (Ok c.in-Ok.grade, c.in-Ok.ensures.answers, ap Ok c.status_of.ensures)
+pub returns-clause-answers : goal.returns-clause-answers
+returns-clause-answers g c =
+    (Ok c.in_ok-grade.grade, c.in_ok-grade.ensures.answers, ap Ok c.status_of.ensures)
 
-pub returns-in-Err-clause-answers : goal.returns-in-Err-clause-answers
-returns-in-Err-clause-answers g c = (Err c.in-Err.fault, c.in-Err.ensures.answers, refl)
+pub returns-in_err-grade-clause-answers : goal.returns-in_err-grade-clause-answers
+returns-in_err-grade-clause-answers g c =
+    let f = c.in_err-grade.field-0.0 in (
+      Err f,
+      c.in_err-grade.ensures.answers,
+      exits_with c.from_residual.result f c.from_residual.ensures.1,
+    )
+
+pub returns-in_err-grade-clause-mark : goal.returns-in_err-grade-clause-mark
+returns-in_err-grade-clause-mark g c =
+    rw (exits_with c.from_residual.result c.in_err-grade.field-0.0 c.from_residual.ensures.1)
+    c.in_err-grade.ensures.mark

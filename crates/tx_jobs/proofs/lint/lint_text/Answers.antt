@@ -6,5 +6,5 @@ pub returns-in-Ok-clause-linted : goal.returns-in-Ok-clause-linted
 returns-in-Ok-clause-linted g c = inl (record {
   lint = lint_held c.in-Ok.lint;
   is = c.in-Ok.ensures;
-  told = c.tell_lint-told.ensures.told;
+  told = c.tell_lint.ensures.told;
 })

@@ -1,16 +1,23 @@
-use Rattle.std.proofs.Common.{◌∙◌, ap, sym}
-use Rattle.tx_jobs.specs.JobFaults.{mark_by}
-use Rattle.tx_jobs.specs.JobEnds.{output}
+use Rattle.std.proofs.Common.{◌∙◌}
+use Rattle.tx_text.specs.Ends.{output}
+use Rattle.tx_text.proofs.Exits.{exits_with}
+use Rattle.tx_jobs.specs.MendJobs.{mend_fault}
 use Rattle.tx_jobs.proofs.MendTold.{mend_told, mend_marked}
 use Rattle.tx_jobs.proofs.mend.tell_mending.Goals as goal
 
-pub returns-in-Ok-clause-told : goal.returns-in-Ok-clause-told
-returns-in-Ok-clause-told g c = c.in-Ok.ensures.answers
+pub returns-clause-told : goal.returns-clause-told
+returns-clause-told g c = c.in_ok-report_mend.ensures.answers
 
-pub returns-in-Err-clause-told : goal.returns-in-Err-clause-told
-returns-in-Err-clause-told g c =
-    mend_told _ c.args.plan c.args.limit c.args.spare (output g.W.Sink.taken c.args.out.now c.report_mend.new.out) c.in-Err.fault c.of_mend.result c.of_mend.ensures c.in-Err.ensures.answers
+pub returns-in_err-report_mend-clause-told : goal.returns-in_err-report_mend-clause-told
+returns-in_err-report_mend-clause-told g c =
+    let f = c.in_err-report_mend.field-0.0 in
+    rw (exits_with c.from_residual.result (mend_fault f) c.from_residual.ensures.1)
+    (mend_told _ c.args.plan c.args.limit c.args.spare
+    (output g.W.Sink.taken c.args.out.now c.report_mend.new.out) f
+    c.in_err-report_mend.ensures.answers)
 
-pub returns-in-Err-clause-mark : goal.returns-in-Err-clause-mark
-returns-in-Err-clause-mark g c =
-    c.in-Err.ensures.mark ∙ mend_marked (g.W.Sink.failed c.args.out.now) c.in-Err.fault ∙ ap (mark_by (g.W.Sink.failed c.args.out.now)) (sym c.of_mend.ensures)
+pub returns-in_err-report_mend-clause-mark : goal.returns-in_err-report_mend-clause-mark
+returns-in_err-report_mend-clause-mark g c =
+    let f = c.in_err-report_mend.field-0.0 in
+    rw (exits_with c.from_residual.result (mend_fault f) c.from_residual.ensures.1)
+    (c.in_err-report_mend.ensures.mark ∙ mend_marked (g.W.Sink.failed c.args.out.now) f)

@@ -1,26 +1,42 @@
-use Rattle.std.proofs.Common.{◌∙◌, inl}
-use Rattle.tx_jobs.specs.JobEnds.{input}
+use Rattle.std.proofs.Common.{◌∙◌, inl, refl}
+use Rattle.tx_text.specs.Ends.{input}
+use Rattle.tx_text.proofs.Exits.{exits_with}
+use Rattle.tx_jobs.specs.declared.job_fault.JobFault.TheVariants.{Write}
+use Rattle.tx_jobs.specs.JobFaults.{run_fault}
 use Rattle.tx_jobs.proofs.CheckedRun.{told_run_by, told_run_stopped}
 use Rattle.tx_jobs.proofs.RefusedTexts.{run_mark}
 use Rattle.tx_jobs.proofs.run_checked.run_or_tell.Goals as goal
 
-pub returns-in-Ok-tell_no-clause-told : goal.returns-in-Ok-tell_no-clause-told
-returns-in-Ok-tell_no-clause-told g c =
-    let script = input g.R.Source.rest g.R.Source.failed g.R.Source.called c.args.script.now c.run_checked.new.script in
-    told_run_by g.W.Sink.taken c.args.plan.now c.args.cert.now c.args.limit c.args.spare script c.args.out.now c.run_checked.new.out c.tell_no.new.out
-    c.in-Ok.checked c.in-Ok.ensures.answers c.in-Ok-tell_no.ensures.told
+pub returns-in_err-checked-clause-told : goal.returns-in_err-checked-clause-told
+returns-in_err-checked-clause-told g c =
+    let f = c.in_err-checked.field-0.0 in
+    let h = c.in_err-checked.ensures.answers in
+    rw (exits_with c.from_residual.result (run_fault f) c.from_residual.ensures.1)
+    (inl (record { allowed = h.0; answer = f; stopped = h.1; told = refl }))
 
-pub returns-in-Ok-tell_no-clause-mark : goal.returns-in-Ok-tell_no-clause-mark
-returns-in-Ok-tell_no-clause-mark g c = c.in-Ok-tell_no.ensures.unmarked ∙ c.in-Ok.ensures.mark
+pub returns-in_err-checked-clause-mark : goal.returns-in_err-checked-clause-mark
+returns-in_err-checked-clause-mark g c =
+    let f = c.in_err-checked.field-0.0 in
+    rw (exits_with c.from_residual.result (run_fault f) c.from_residual.ensures.1)
+    (run_mark (g.W.Sink.failed c.args.out.now) _ f c.in_err-checked.ensures.mark)
 
-pub returns-in-Err-tell_no-clause-told : goal.returns-in-Err-tell_no-clause-told
-returns-in-Err-tell_no-clause-told g c =
-    let script = input g.R.Source.rest g.R.Source.failed g.R.Source.called c.args.script.now c.run_checked.new.script in
-    told_run_stopped g.W.Sink.taken c.args.plan.now c.args.cert.now c.args.limit c.args.spare script c.args.out.now c.run_checked.new.out c.tell_no.new.out
-    c.in-Ok.checked _ c.in-Ok.ensures.answers c.in-Err-tell_no.ensures.told
+pub returns-in_err-tell_no-clause-told : goal.returns-in_err-tell_no-clause-told
+returns-in_err-tell_no-clause-told g c =
+    let script =
+    input g.R.Source.rest g.R.Source.failed g.R.Source.called c.args.script.now
+    c.run_checked.new.script in
+    rw (exits_with c.from_residual-in_err-tell_no.result Write c.from_residual-in_err-tell_no.ensures.1)
+    (told_run_stopped g.W.Sink.taken c.args.plan.now c.args.cert.now c.args.limit c.args.spare script c.args.out.now c.run_checked.new.out c.tell_no.new.out
+    c.in_ok-checked.checked _ c.in_ok-checked.ensures.answers c.in_err-tell_no.ensures.told)
 
-pub returns-in-Err-clause-told : goal.returns-in-Err-clause-told
-returns-in-Err-clause-told g c = inl (record { allowed = c.in-Err.ensures.answers.0; answer = c.in-Err.fault; stopped = c.in-Err.ensures.answers.1; told = c.of_run.ensures })
+pub returns-clause-told : goal.returns-clause-told
+returns-clause-told g c =
+    let script =
+    input g.R.Source.rest g.R.Source.failed g.R.Source.called c.args.script.now
+    c.run_checked.new.script in
+    told_run_by g.W.Sink.taken c.args.plan.now c.args.cert.now c.args.limit c.args.spare script
+    c.args.out.now c.run_checked.new.out c.tell_no.new.out
+    c.in_ok-checked.checked c.in_ok-checked.ensures.answers c.in_ok-tell_no.ensures.told
 
-pub returns-in-Err-clause-mark : goal.returns-in-Err-clause-mark
-returns-in-Err-clause-mark g c = run_mark (g.W.Sink.failed c.args.out.now) _ c.in-Err.fault c.of_run.result c.of_run.ensures c.in-Err.ensures.mark
+pub returns-clause-mark : goal.returns-clause-mark
+returns-clause-mark g c = c.in_ok-tell_no.ensures.unmarked ∙ c.in_ok-checked.ensures.mark

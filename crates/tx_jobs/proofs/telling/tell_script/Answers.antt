@@ -1,29 +1,41 @@
-use Rattle.std.proofs.Common.{Ok, Err, ap, inl, refl}
+use Rattle.std.proofs.Common.{Ok, Err, ap, inl, inr, refl}
 use Rattle.tx_text.specs.Calls.{source_calls}
 use Rattle.tx_text.proofs.CallCounts.{went_none, calls_so_far}
-use Rattle.tx_state.specs.State.{Net}
+use Rattle.tx_text.proofs.Exits.{exits_with}
+use Rattle.tx_machine.specs.State.{Net}
+use Rattle.tx_jobs.specs.declared.job_fault.JobFault.TheVariants.{NoMemory}
+use Rattle.tx_jobs.specs.JobFaults.{run_fault}
 use Rattle.tx_jobs.proofs.RefusedTexts.{run_mark}
 use Rattle.tx_jobs.proofs.ToldRuns.{told_plan}
 use Rattle.tx_jobs.proofs.telling.tell_script.Goals as goal
 
-pub returns-in-Ok-told-clause-answers : goal.returns-in-Ok-told-clause-answers
-returns-in-Ok-told-clause-answers g c =
-    let opened = ap (λ n. n.state) c.in-Ok.ensures in
-    inl (told_plan (λ (n : Net). n.state) c.in-Ok.network c.run_telling-told.new.net
-    (Ok c.in-Ok-told.summary) _ c.in-Ok-told.ensures.answers opened refl)
+pub returns-in_err-network-clause-answers : goal.returns-in_err-network-clause-answers
+returns-in_err-network-clause-answers g c =
+    inr (exits_with c.from_residual.result NoMemory c.from_residual.ensures.1, refl, refl)
 
-pub returns-in-Err-told-clause-answers : goal.returns-in-Err-told-clause-answers
-returns-in-Err-told-clause-answers g c =
-    let opened = ap (λ n. n.state) c.in-Ok.ensures in
-    inl (told_plan (λ (n : Net). n.state) c.in-Ok.network c.run_telling-told.new.net
-    (Err c.in-Err-told.fault) _ c.in-Err-told.ensures.answers opened (ap Err c.of_run.ensures))
-
-pub returns-in-Err-told-clause-mark : goal.returns-in-Err-told-clause-mark
-returns-in-Err-told-clause-mark g c =
-    run_mark (g.W.Sink.failed c.args.out.now) _ c.in-Err-told.fault c.of_run.result
-    c.of_run.ensures c.in-Err-told.ensures.mark
-
-pub returns-in-Err-clause-calls : goal.returns-in-Err-clause-calls
-returns-in-Err-clause-calls g c =
+pub returns-in_err-network-clause-calls : goal.returns-in_err-network-clause-calls
+returns-in_err-network-clause-calls g c =
     calls_so_far g.R.Source.called source_calls source_calls _ _
     (went_none g.R.Source.called source_calls _)
+
+pub returns-in_err-run_telling-clause-answers : goal.returns-in_err-run_telling-clause-answers
+returns-in_err-run_telling-clause-answers g c =
+    let f = c.in_err-run_telling.field-0.0 in
+    let opened = ap (λ n. n.state) c.in_ok-network.ensures in
+    inl (told_plan (λ (n : Net). n.state) c.in_ok-network.network c.run_telling.new.net
+    (Err f) _ c.in_err-run_telling.ensures.answers opened
+    (exits_with c.from_residual-in_err-run_telling.result (run_fault f)
+    c.from_residual-in_err-run_telling.ensures.1))
+
+pub returns-in_err-run_telling-clause-mark : goal.returns-in_err-run_telling-clause-mark
+returns-in_err-run_telling-clause-mark g c =
+    let f = c.in_err-run_telling.field-0.0 in
+    rw (exits_with c.from_residual-in_err-run_telling.result (run_fault f)
+    c.from_residual-in_err-run_telling.ensures.1)
+    (run_mark (g.W.Sink.failed c.args.out.now) _ f c.in_err-run_telling.ensures.mark)
+
+pub returns-clause-answers : goal.returns-clause-answers
+returns-clause-answers g c =
+    let opened = ap (λ n. n.state) c.in_ok-network.ensures in
+    inl (told_plan (λ (n : Net). n.state) c.in_ok-network.network c.run_telling.new.net
+    (Ok c.in_ok-run_telling.field-0) _ c.in_ok-run_telling.ensures.answers opened refl)

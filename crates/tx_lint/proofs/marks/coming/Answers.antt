@@ -13,7 +13,7 @@ loop-place-preserved g c =
 
 pub returns : goal.returns
 returns g c = λ d x low.
-    let n = c.codes-place-end.ensures in
+    let n = c.codes-place-end.ensures.count in
     let t = c.loop-place-test.false in
     let a = c.loop-place.auto.place-end in
     c.loop-place.invariant.so_far.each d x (omega (arith, low, n, t, a))

@@ -12,33 +12,33 @@ use Rattle.tx_lint.proofs.marks.listed.Goals as goal
 pub mark_all-requires : goal.mark_all-requires
 mark_all-requires g c =
     let p = c.args.plan.now in
-    let there = route_there p c.rules.ensures c.loop-place.place _ c.in-Some.ensures in
-    within_marks p c.rules.ensures c.loop-place.place there.0 there.1 c.deref_mut.result.now c.list.result.now
-    (ap length c.deref_mut.ensures.value ∙ c.loop-place.invariant.long) (c.list.ensures ∙ there.2)
+    let there = route_there p c.groups.ensures.rules c.loop-place.place _ c.in-Some.ensures.value in
+    within_marks p c.groups.ensures.rules c.loop-place.place there.0 there.1 c.deref_mut.result.now c.list.result.now
+    (ap length c.deref_mut.ensures.value ∙ c.loop-place.invariant.long) (c.list.ensures.value ∙ there.2)
 
 pub unreachable-requires : goal.unreachable-requires
 unreachable-requires g c =
     let p = c.args.plan.now in
     let t = c.loop-place-test.true in
-    let n = c.routes-place-end.ensures in
+    let n = c.routes-place-end.ensures.count in
     let e = entry_at p.routes c.loop-place.place (omega arith) in
-    no_none (λ (r : Route). (r.exchange, r.code)) (slice_get p.routes c.loop-place.place) e.0 e.1 (sym c.in-None.is ∙ c.route_at.ensures)
+    no_none (λ (r : Route). (r.exchange, r.code)) (slice_get p.routes c.loop-place.place) e.0 e.1 (sym c.in-None.is ∙ c.route_at.ensures.value)
 
 pub loop-place-preserved : goal.loop-place-preserved
 loop-place-preserved g c =
     let p = c.args.plan.now in
     let marks = c.loop-place.marks in
     let new = c.mark_all.new.marks in
-    let there = route_there p c.rules.ensures c.loop-place.place _ c.in-Some.ensures in
+    let there = route_there p c.groups.ensures.rules c.loop-place.place _ c.in-Some.ensures.value in
     let long : length new ≡ length marks.items = c.mark_all.ensures.long ∙ ap length c.deref_mut.ensures.value in
     let k = marks.ok.0 in
     let fits : length new ≡ marks.len = omega arith in
     let t = c.loop-place-test.true in
-    let n = c.routes-place-end.ensures in
+    let n = c.routes-place-end.ensures.count in
     rw (put_back marks.len new (drop (length new) marks.items) fits) (record {
       long = long ∙ c.loop-place.invariant.long;
       so_far = listed_more marks.items new p.routes c.loop-place.place there.0 (omega arith)
           (sym (get_or_from_slice_get p.routes c.loop-place.place there.0 there.0 there.1)) c.loop-place.invariant.so_far
           (λ x. c.mark_all.ensures.marks x
-          ∙ (λ j. is_marked (c.deref_mut.ensures.value j) x || list_any (λ (h : ℕ). h == x) ((c.list.ensures ∙ there.2) j)));
+          ∙ (λ j. is_marked (c.deref_mut.ensures.value j) x || list_any (λ (h : ℕ). h == x) ((c.list.ensures.value ∙ there.2) j)));
     })

@@ -1,5 +1,6 @@
 use Rattle.std.proofs.Common.{◌≡◌, ◌<◌, ◌-◌, suc, Ok, arith, rules}
-use Rattle.tx_text.specs.Calls.{Calls, source_calls}
+use Rattle.tx_text.specs.inner.CallsLeft.{Calls}
+use Rattle.tx_text.specs.Calls.{source_calls}
 use Rattle.tx_text.proofs.CallCounts.{went_none, went_same, went_more, calls_more}
 use Rattle.tx_lint.proofs.WholeText.{read_none, read_more}
 use Rattle.tx_lint.proofs.reading.read_text.Goals as goal

@@ -1,6 +1,7 @@
 use Rattle.std.proofs.Common.{◌≡◌}
 use Rattle.std.specs.Io.KnownBytes.{prepend_known}
-use Rattle.tx_text.specs.Calls.{Went, source_calls}
+use Rattle.tx_text.specs.inner.CallsLeft.{Went}
+use Rattle.tx_text.specs.Calls.{source_calls}
 use Rattle.tx_lint.proofs.reading.read_text.Given as goal
 
 abbrev pub invariant-loop-left : goal.invariant-loop-left

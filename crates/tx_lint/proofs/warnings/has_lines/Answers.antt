@@ -1,5 +1,5 @@
 use Rattle.std.proofs.Common.{◌≡◌, ◌==◌, ◌∙◌, true, false, sym, arith, rules}
-use Rattle.tx_entries.specs.declared.range.LineRange.{LineRange}
+use Rattle.tx_plan.specs.declared.range.LineRange.{LineRange}
 use Rattle.tx_plan.proofs.ByPlace.{entry_at}
 use Rattle.tx_lint.proofs.Warned.{any_there, none_more}
 use Rattle.tx_lint.proofs.warnings.has_lines.Goals as goal
@@ -12,7 +12,7 @@ returns-then-eq g c =
 pub unreachable-requires : goal.unreachable-requires
 unreachable-requires g c =
     let t = c.loop-place-test.true in
-    let n = c.ranges-place-end.ensures in
+    let n = c.ranges-place-end.ensures.count in
     let e = entry_at c.args.plan.now.ranges c.loop-place.place (omega arith) in
     let at = e.1 in
     let none = sym c.in-None.is ∙ c.range_at.ensures in

@@ -1,7 +1,7 @@
 use Rattle.std.proofs.Common.{◌≡◌, false, take}
 use Rattle.std.specs.Prelude.{◌==◌}
 use Rattle.std.specs.List.{list_any}
-use Rattle.tx_entries.specs.declared.range.LineRange.{LineRange}
+use Rattle.tx_plan.specs.declared.range.LineRange.{LineRange}
 use Rattle.tx_lint.proofs.warnings.has_lines.Given as goal
 
 abbrev pub invariant-loop-place : goal.invariant-loop-place

@@ -1,7 +1,7 @@
 use Rattle.std.proofs.Common.{◌∙◌, ap, sym, arith}
 use Rattle.std.specs.Prelude.{slice_get}
 use Rattle.std.specs.List.{list_any}
-use Rattle.tx_entries.specs.declared.pair.Pair.{Pair}
+use Rattle.tx_plan.specs.declared.ids.Pair.{Pair}
 use Rattle.tx_plan.proofs.ByPlace.{entry_at}
 use Rattle.tx_mend.proofs.Adding.{no_none}
 use Rattle.tx_mend.proofs.Copied.{none_before, copied_next, bar_got}
@@ -12,13 +12,13 @@ add-requires g c =
     let p = c.args.plan.now in
     let at = bar_got p.bars c.loop-place.place _ c.in-Some.ensures in
     ap (list_any _) c.loop-place.invariant
-    ∙ none_before (λ (b : Pair). b.exchange) (λ (b : Pair). b.code) p.bars c.loop-place.place _ c.rules.ensures.bars_differ at
+    ∙ none_before (λ (b : Pair). b.exchange) (λ (b : Pair). b.code) p.bars c.loop-place.place _ c.bars-place-end.ensures.rules.bars_differ at
 
 pub unreachable-requires : goal.unreachable-requires
 unreachable-requires g c =
     let p = c.args.plan.now in
     let t = c.loop-place-test.true in
-    let n = c.bars-place-end.ensures in
+    let n = c.bars-place-end.ensures.count in
     let e = entry_at p.bars c.loop-place.place (omega arith) in
     no_none (λ (b : Pair). (b.exchange, b.code)) (slice_get p.bars c.loop-place.place) e.0 e.1 (sym c.in-None.is ∙ c.bar_at.ensures)
 

@@ -10,20 +10,20 @@ use Rattle.tx_mend.proofs.copying.routes_of.Goals as goal
 pub add-requires : goal.add-requires
 add-requires g c =
     let p = c.args.plan.now in
-    let at = route_got p c.rules.ensures c.loop-place.place _ c.in-Some.ensures c.present_list-list.result c.present_list-list.ensures in
+    let at = route_got p c.routes-place-end.ensures.rules c.loop-place.place _ c.in-Some.ensures.value c.present_list-list.result c.present_list-list.ensures in
     ap (list_any _) c.loop-place.invariant
-    ∙ none_before (λ (r : Route). r.exchange) (λ (r : Route). r.code) p.routes c.loop-place.place _ c.rules.ensures.routes_differ at
+    ∙ none_before (λ (r : Route). r.exchange) (λ (r : Route). r.code) p.routes c.loop-place.place _ c.routes-place-end.ensures.rules.routes_differ at
 
 pub unreachable-requires : goal.unreachable-requires
 unreachable-requires g c =
     let p = c.args.plan.now in
     let t = c.loop-place-test.true in
-    let n = c.routes-place-end.ensures in
+    let n = c.routes-place-end.ensures.count in
     let e = entry_at p.routes c.loop-place.place (omega arith) in
-    no_none pair_of (slice_get p.routes c.loop-place.place) e.0 e.1 (sym c.in-None.is ∙ c.route_at.ensures)
+    no_none pair_of (slice_get p.routes c.loop-place.place) e.0 e.1 (sym c.in-None.is ∙ c.route_at.ensures.value)
 
 pub loop-place-preserved : goal.loop-place-preserved
 loop-place-preserved g c =
     let p = c.args.plan.now in
-    let at = route_got p c.rules.ensures c.loop-place.place _ c.in-Some.ensures c.present_list-list.result c.present_list-list.ensures in
+    let at = route_got p c.routes-place-end.ensures.rules c.loop-place.place _ c.in-Some.ensures.value c.present_list-list.result c.present_list-list.ensures in
     copied_next p.routes c.loop-place.place _ at c.loop-place.routes c.add.new.self c.loop-place.invariant c.in_ok-add-in-Some.ensures.ok

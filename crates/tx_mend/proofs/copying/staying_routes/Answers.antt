@@ -1,10 +1,9 @@
-use Rattle.std.proofs.Common.{◌∙◌, ap, sym, arith}
+use Rattle.std.proofs.Common.{◌∙◌, ap, sym, arith, take, refl, []}
 use Rattle.std.specs.Prelude.{slice_get}
 use Rattle.std.specs.List.{list_any}
 use Rattle.tx_plan.specs.Plan.{Route}
 use Rattle.tx_plan.proofs.ByPlace.{entry_at}
 use Rattle.tx_mend.specs.inner.Full.{stays}
-use Rattle.std.proofs.Common.{take, refl, []}
 use Rattle.tx_mend.proofs.Adding.{pair_of, no_none}
 use Rattle.tx_mend.proofs.Copied.{none_before, none_filtered, stays_next, goes_next, route_got}
 use Rattle.tx_mend.proofs.copying.staying_routes.Goals as goal
@@ -14,26 +13,26 @@ pub add-requires : goal.add-requires
 add-requires g c =
     let p = c.args.plan.now in
     let s = stays c.args.before.now c.args.cert.now in
-    let at = route_got p c.rules.ensures c.loop-place.place _ c.in-Some.ensures c.present_list-list.result c.present_list-list.ensures in
+    let at = route_got p c.routes-place-end.ensures.rules c.loop-place.place _ c.in-Some.ensures.value c.present_list-list.result c.present_list-list.ensures in
     ap (list_any _) c.loop-place.invariant
-    ∙ none_filtered _ s (take c.loop-place.place p.routes) (none_before (λ (r : Route). r.exchange) (λ (r : Route). r.code) p.routes c.loop-place.place _ c.rules.ensures.routes_differ at)
+    ∙ none_filtered _ s (take c.loop-place.place p.routes) (none_before (λ (r : Route). r.exchange) (λ (r : Route). r.code) p.routes c.loop-place.place _ c.routes-place-end.ensures.rules.routes_differ at)
 
 pub unreachable-requires : goal.unreachable-requires
 unreachable-requires g c =
     let p = c.args.plan.now in
     let t = c.loop-place-test.true in
-    let n = c.routes-place-end.ensures in
+    let n = c.routes-place-end.ensures.count in
     let e = entry_at p.routes c.loop-place.place (omega arith) in
-    no_none pair_of (slice_get p.routes c.loop-place.place) e.0 e.1 (sym c.in-None.is ∙ c.route_at.ensures)
+    no_none pair_of (slice_get p.routes c.loop-place.place) e.0 e.1 (sym c.in-None.is ∙ c.route_at.ensures.value)
 
 pub loop-place-preserved : goal.loop-place-preserved
 loop-place-preserved g c =
     let p = c.args.plan.now in
     let s = stays c.args.before.now c.args.cert.now in
-    let got = route_got p c.rules.ensures c.loop-place.place _ c.in-Some.ensures _ refl in
+    let got = route_got p c.routes-place-end.ensures.rules c.loop-place.place _ c.in-Some.ensures.value _ refl in
     elim c.if-is_staying.branch [
       | then-is_staying+in_ok-add-in-Some w ↦
-          let at = route_got p c.rules.ensures c.loop-place.place _ c.in-Some.ensures w.present_list-list.result w.present_list-list.ensures in
+          let at = route_got p c.routes-place-end.ensures.rules c.loop-place.place _ c.in-Some.ensures.value w.present_list-list.result w.present_list-list.ensures in
           stays_next p.routes c.loop-place.place _ at s c.loop-place.routes _ c.loop-place.invariant (sym (c.is_staying.ensures w.present_list-list.result) ∙ w.if-is_staying.true) (w.routes-is ∙ w.in_ok-add-in-Some.ensures.ok)
       | else-is_staying w ↦
           goes_next p.routes c.loop-place.place _ got s c.loop-place.routes _ c.loop-place.invariant (sym (c.is_staying.ensures []) ∙ w.if-is_staying.false) w.routes-is

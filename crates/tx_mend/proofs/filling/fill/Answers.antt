@@ -3,11 +3,10 @@ use Rattle.std.specs.Prelude.{filter}
 use Rattle.std.specs.List.{flat_map}
 use Rattle.tx_mend.specs.LeastRanks.{places, outgoing}
 use Rattle.tx_mend.specs.Lists.{leads_to, filled}
-use Rattle.tx_mend.proofs.Placed.{flat_more}
+use Rattle.tx_mend.proofs.Placed.{flat_more, places_split}
 use Rattle.tx_mend.proofs.Dropping.{filled_append}
 use Rattle.std.proofs.lemmas.List.Concat.{flat_map-append}
 use Rattle.tx_mend.proofs.Filled.{filled_full}
-use Rattle.tx_mend.proofs.Placed.{places_split}
 use Rattle.tx_mend.proofs.filling.fill.Goals as goal
 
 pub loop-lower-preserved : goal.loop-lower-preserved

@@ -10,7 +10,7 @@ pub list_by_ranks-requires-clause-seizable : goal.list_by_ranks-requires-clause-
 list_by_ranks-requires-clause-seizable g c =
     let b = c.args.basis.now in
     let p = b.plan.now in
-    c.groups_at.ensures ∙ list_got (outgoing p) (length p.exchanges) c.index-in-Some.result c.args.exchange b.seizable.now b.groups c.requires.exchange c.index-in-Some.ensures
+    c.groups_at.ensures ∙ list_got (outgoing p) (length p.exchanges) c.args.exchange b.seizable.now b.groups c.requires.exchange
 
 pub list_by_ranks-requires-clause-long : goal.list_by_ranks-requires-clause-long
 list_by_ranks-requires-clause-long g c =

@@ -10,14 +10,14 @@ pub loop-group-preserved : goal.loop-group-preserved
 loop-group-preserved g c =
     let p = c.args.plan.now in
     let xs = c.list-present.result.now in
-    let few = list_few p c.rules.ensures c.args.exchange c.args.code in
-    let same = ap length c.list-present.ensures in
+    let few = list_few p c.list-present.ensures.rules c.args.exchange c.args.code in
+    let same = ap length c.list-present.ensures.value in
     let i = c.loop-group.invariant in
     let at = c.loop-group-test.true in
     let within = i.few in
     let less : length c.loop-group.list < 16 = omega arith in
     elim c.if-leads_below.branch [
-      | then-leads_below w ↦ (let new = w.list-is ∙ room c.loop-group.list w.keep.new.self c.group-item.result less w.keep.ensures.list in
+      | then-leads_below w ↦ (let new = w.list-is ∙ room c.loop-group.list w.push.new.self c.group-item.result less w.push.ensures.list in
           record {
             few = let l = ap length new in let a = length-append c.loop-group.list (c.group-item.result ∷ []) in omega arith;
             kept = λ of e.

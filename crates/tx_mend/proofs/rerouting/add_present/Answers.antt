@@ -14,21 +14,21 @@ add_route-requires g c =
     let b = c.args.basis.now in
     let p = b.plan.now in
     let k = c.in-Some.pair in
-    ap (list_any (λ (r : Route). (r.exchange == k.0) && (r.code == k.1))) c.loop-place.invariant ∙ present_fresh p c.rules.ensures c.loop-place.place k (sym c.in-Some.is ∙ c.route_at.ensures) (full_list p b.limit b.spare)
+    ap (list_any (λ (r : Route). (r.exchange == k.0) && (r.code == k.1))) c.loop-place.invariant ∙ present_fresh p c.routes-place-end.ensures.rules c.loop-place.place k (sym c.in-Some.is ∙ c.route_at.ensures.value) (full_list p b.limit b.spare)
 
 pub full_list-list-requires-clause-code : goal.full_list-list-requires-clause-code
-full_list-list-requires-clause-code g c = (present_within c.args.basis.now.plan.now c.rules.ensures c.loop-place.place c.in-Some.pair (sym c.in-Some.is ∙ c.route_at.ensures)).1
+full_list-list-requires-clause-code g c = (present_within c.args.basis.now.plan.now c.routes-place-end.ensures.rules c.loop-place.place c.in-Some.pair (sym c.in-Some.is ∙ c.route_at.ensures.value)).1
 
 pub full_list-list-requires-clause-exchange : goal.full_list-list-requires-clause-exchange
-full_list-list-requires-clause-exchange g c = (present_within c.args.basis.now.plan.now c.rules.ensures c.loop-place.place c.in-Some.pair (sym c.in-Some.is ∙ c.route_at.ensures)).0
+full_list-list-requires-clause-exchange g c = (present_within c.args.basis.now.plan.now c.routes-place-end.ensures.rules c.loop-place.place c.in-Some.pair (sym c.in-Some.is ∙ c.route_at.ensures.value)).0
 
 pub unreachable-requires : goal.unreachable-requires
 unreachable-requires g c =
     let p = c.args.basis.now.plan.now in
     let t = c.loop-place-test.true in
-    let n = c.routes-place-end.ensures in
+    let n = c.routes-place-end.ensures.count in
     let e = entry_at p.routes c.loop-place.place (omega arith) in
-    no_none pair_of (slice_get p.routes c.loop-place.place) e.0 e.1 (sym c.in-None.is ∙ c.route_at.ensures)
+    no_none pair_of (slice_get p.routes c.loop-place.place) e.0 e.1 (sym c.in-None.is ∙ c.route_at.ensures.value)
 
 pub loop-place-preserved : goal.loop-place-preserved
 loop-place-preserved g c =
@@ -36,4 +36,4 @@ loop-place-preserved g c =
     let p = b.plan.now in
     let k = c.in-Some.pair in
     let f = full_route p b.limit b.spare in
-    c.in_ok-add_route-in-Some.ensures ∙ ap (λ (l : List ℕ). c.loop-place.routes ++ route_if k l) c.full_list-list.ensures ∙ ap (λ (l : List Route). l ++ f k) c.loop-place.invariant ∙ sym (present_more p c.rules.ensures c.loop-place.place k (sym c.in-Some.is ∙ c.route_at.ensures) (full_list p b.limit b.spare))
+    c.in_ok-add_route-in-Some.ensures ∙ ap (λ (l : List ℕ). c.loop-place.routes ++ route_if k l) c.full_list-list.ensures ∙ ap (λ (l : List Route). l ++ f k) c.loop-place.invariant ∙ sym (present_more p c.routes-place-end.ensures.rules c.loop-place.place k (sym c.in-Some.is ∙ c.route_at.ensures.value) (full_list p b.limit b.spare))

@@ -10,7 +10,7 @@ loop-place-init g c =
     c.in_ok-add_present.ensures ∙ ap (flat_map (full_route p b.limit b.spare)) (sym (append-nil (present_pairs p)))
 
 pub add_absent-requires-clause-code : goal.add_absent-requires-clause-code
-add_absent-requires-clause-code g c = let t = c.loop-place-test.true in let e = c.codes-place-end.ensures in let o = c.of.ensures in omega arith
+add_absent-requires-clause-code g c = let t = c.loop-place-test.true in let e = c.codes-place-end.ensures.count in let o = c.of.ensures in omega arith
 
 pub add_absent-requires-clause-so_far : goal.add_absent-requires-clause-so_far
 add_absent-requires-clause-so_far g c =
@@ -26,5 +26,5 @@ pub returns : goal.returns
 returns g c =
     let b = c.args.basis.now in
     let p = b.plan.now in
-    let all : c.loop-place.place ≡ length p.codes = let t = c.loop-place-test.false in let a = c.loop-place.auto.place-end in let e = c.codes-place-end.ensures in omega arith in
+    let all : c.loop-place.place ≡ length p.codes = let t = c.loop-place-test.false in let a = c.loop-place.auto.place-end in let e = c.codes-place-end.ensures.count in omega arith in
     c.loop-place.invariant ∙ ap (routes_below p b.limit b.spare) all

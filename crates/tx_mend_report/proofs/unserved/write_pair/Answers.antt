@@ -5,4 +5,4 @@ pub returns-in-None : goal.returns-in-None
 returns-in-None g c = rw c.in-None.is (wrote_none (g.W.Sink.taken c.args.sink.now) (g.W.Sink.failed c.args.sink.now))
 
 pub returns-in-Some : goal.returns-in-Some
-returns-in-Some g c = rw c.in-Some.is c.write_both.ensures
+returns-in-Some g c = rw c.in-Some.is c.write_finding.ensures

@@ -7,4 +7,4 @@ pub returns-in-None : goal.returns-in-None
 returns-in-None g c = rw (line_past (code_words c.args.plan.now) c.args.plan.now.codes c.args.place (none_at c.args.plan.now.codes c.args.place c.in-None.ensures)) (wrote_none _ _)
 
 pub returns-in-Some : goal.returns-in-Some
-returns-in-Some g c = rw (code_text c.args.plan.now c.args.place c.in-Some.code _ _ _ c.in-Some.ensures c.code_figures.ensures c.home.ensures c.exchange_name-home.ensures) c.write_text.ensures
+returns-in-Some g c = rw (code_text c.args.plan.now c.args.place c.in-Some.code _ _ _ c.in-Some.ensures c.code_figures.ensures.value c.home.ensures c.exchange_name-home.ensures.value) c.write_parts.ensures

@@ -9,14 +9,14 @@ pub loop-place-preserved : goal.loop-place-preserved
 loop-place-preserved g c =
     let n = net_of c.args.plan.now c.args.code in
     let ranks = ranks_of c.args.cert.now c.args.code in
-    let one = subst (λ (k : ℕ). AreBounds (Suits n ranks k) c.exchange_bounds.result) c.at-exchange.ensures c.exchange_bounds.ensures in
+    let one = subst (λ (k : ℕ). AreBounds (Suits n ranks k) c.exchange_bounds.result) c.of-exchange.ensures c.exchange_bounds.ensures in
     let e = c.both-bounds.ensures in
     below_next n ranks c.loop-place.place c.loop-place.bounds c.exchange_bounds.result c.both-bounds.result c.loop-place.invariant one e.limit e.spare
 
 pub returns : goal.returns
 returns g c =
-    let all : c.loop-place.place ≡ length c.args.plan.now.exchanges = let t = c.loop-place-test.false in let a = c.loop-place.auto.place-end in let e = c.exchanges-place-end.ensures in omega arith in
+    let all : c.loop-place.place ≡ length c.args.plan.now.exchanges = let t = c.loop-place-test.false in let a = c.loop-place.auto.place-end in let e = c.exchanges-place-end.ensures.count in omega arith in
     let n = net_of c.args.plan.now c.args.code in
     let ranks = ranks_of c.args.cert.now c.args.code in
-    let within : (x r : ℕ) → ranks x ≡ Some r → x < c.loop-place.place = λ x r h. let w = c.rules-2.ensures.own_exchanges c.args.code x r h in let e = c.requires.exchanges in omega arith in
+    let within : (x r : ℕ) → ranks x ≡ Some r → x < c.loop-place.place = λ x r h. let w = c.rules.ensures.own_exchanges c.args.code x r h in let e = c.requires.exchanges in omega arith in
     code_bounds n ranks c.requires.heights c.requires.certified c.loop-place.place c.loop-place.bounds within c.loop-place.invariant

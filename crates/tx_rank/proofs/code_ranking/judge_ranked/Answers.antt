@@ -28,7 +28,7 @@ returns-in-None-clause-judged g c =
     let here = c.put_ranks.ensures.here in
     let same : ranks ≡ ranked_at c.put_ranks.new.cert c.args.code = λ i x. sym (here x) i in
     let low = subst (IsLongFound n ranks c.args.limit) c.in-None.is c.in_ok-walk.ensures in
-    let j = judged_none n c.args.code c.args.limit c.args.spare ranks c.requires.passed.ranks old c.add_shorts.new.findings.items c.in_ok-add_shorts.ensures c.rules.ensures low in
+    let j = judged_none n c.args.code c.args.limit c.args.spare ranks c.requires.passed.ranks old c.add_shorts.new.findings.items c.in_ok-add_shorts.ensures (g.met.N.Routes.is_net c.args.net.now) low in
     subst (IsJudged n c.args.code c.args.limit c.args.spare old c.add_shorts.new.findings.items) same j
 
 pub put_ranks-requires-clause-long : goal.put_ranks-requires-clause-long

@@ -48,7 +48,7 @@ go_on-requires-clause-onward g c =
     subst (λ (x : ℕ). IsOnward (g.N.Routes.net c.args.net.now) search.marks.items x to) e on
 
 pub settle-requires-clause-net : goal.settle-requires-clause-net
-settle-requires-clause-net g c = c.rules.ensures
+settle-requires-clause-net g c = g.met.N.Routes.is_net c.args.net.now
 
 pub settle-requires-clause-end : goal.settle-requires-clause-end
 settle-requires-clause-end g c = c.end-exchange.ensures ∙ ap (end_of c.args.search.now.start) c.deref.ensures.value

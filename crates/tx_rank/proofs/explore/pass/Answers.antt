@@ -21,4 +21,4 @@ pub returns-clause-done : goal.returns-clause-done
 returns-clause-done g c = λ _.
     let n = g.N.Routes.net c.args.net.now in
     let all : c.loop-place.place ≡ n.exchanges = let t = c.loop-place-test.false in let a = c.loop-place.auto.place-end in let e = c.exchanges-place-end.ensures in omega arith in
-    passed_all n c.loop-place.search.marks.items c.loop-place.place c.rules.ensures all c.loop-place.invariant
+    passed_all n c.loop-place.search.marks.items c.loop-place.place (g.met.N.Routes.is_net c.args.net.now) all c.loop-place.invariant

@@ -1,4 +1,5 @@
 use Rattle.std.proofs.Common.{◌≢◌, ◌∙◌, [], ◌++◌, length, ap, arith, append-nil}
+use Rattle.tx_rank.proofs.Nets.{is_net}
 use Rattle.tx_rank.proofs.Graded.{ungraded_code}
 use Rattle.tx_rank.proofs.grading.code_grade.Goals as goal
 
@@ -13,4 +14,7 @@ returns-then-len-before-clause-grade g c =
     let more = c.if-len-before.true in
     absurd (omega arith)
     in
-    ungraded_code c.args.plan.now c.rules.ensures c.args.code c.requires.code j.mine j.listed some
+    ungraded_code c.args.plan.now c.requires.rules c.args.code c.requires.code j.mine j.listed some
+
+pub invariant_of-net : goal.invariant_of-net
+invariant_of-net g c = record { net = is_net c.args.plan.now c.requires.rules c.args.code c.requires.code; right = c.requires.origins }

@@ -35,7 +35,7 @@ loop-place-init g c =
             in
             rw w.together-is (graded_none p some)
       ]);
-      room = let r = c.in_ok-codes.ensures.capacity in let n = c.codes.ensures in omega arith;
+      room = let r = c.in_ok-codes.ensures.capacity in let n = c.codes.ensures.count in omega arith;
     }
 
 pub loop-place-preserved : goal.loop-place-preserved
@@ -43,7 +43,7 @@ loop-place-preserved g c =
     let p = c.args.plan.now in
     let i = c.loop-place.invariant in
     let e = c.in_ok-alone.ensures in
-    let at = c.at-code.ensures in
+    let at = c.of-code.ensures in
     let k = c.push_reserved.ensures in
     let place = c.loop-place.place in
     let alone = c.in_ok-alone.alone in
@@ -76,9 +76,9 @@ returns-clause-plan g c =
     let all : l.place ≡ length c.args.plan.now.codes =
     let test = c.loop-place-test.false in
     let end = l.auto.place-end in
-    let e = c.codes-place-end.ensures in
+    let e = c.codes-place-end.ensures.count in
     omega arith in
-    graded_plan c.args.plan.now c.rules.ensures l.place all l.together l.codes.items
+    graded_plan c.args.plan.now c.codes.ensures.rules l.place all l.together l.codes.items
     l.invariant.graded
 
 pub returns-clause-clear : goal.returns-clause-clear
@@ -87,9 +87,9 @@ returns-clause-clear g c =
     let all : l.place ≡ length c.args.plan.now.codes =
     let test = c.loop-place-test.false in
     let end = l.auto.place-end in
-    let e = c.codes-place-end.ensures in
+    let e = c.codes-place-end.ensures.count in
     omega arith in
-    graded_clear c.args.plan.now c.rules.ensures l.place all l.together l.codes.items
+    graded_clear c.args.plan.now c.codes.ensures.rules l.place all l.together l.codes.items
     l.invariant.graded l.cert l.findings.items l.invariant.ranked
 
 pub returns-clause-codes : goal.returns-clause-codes
@@ -98,9 +98,9 @@ returns-clause-codes g c =
     let all : l.place ≡ length c.args.plan.now.codes =
     let test = c.loop-place-test.false in
     let end = l.auto.place-end in
-    let e = c.codes-place-end.ensures in
+    let e = c.codes-place-end.ensures.count in
     omega arith in
-    graded_codes c.args.plan.now c.rules.ensures l.place all l.together l.codes.items
+    graded_codes c.args.plan.now c.codes.ensures.rules l.place all l.together l.codes.items
     l.invariant.graded
 
 pub returns-clause-fails : goal.returns-clause-fails
@@ -109,9 +109,9 @@ returns-clause-fails g c =
     let all : l.place ≡ length c.args.plan.now.codes =
     let test = c.loop-place-test.false in
     let end = l.auto.place-end in
-    let e = c.codes-place-end.ensures in
+    let e = c.codes-place-end.ensures.count in
     omega arith in
-    graded_fails c.args.plan.now c.rules.ensures l.place all l.together l.codes.items
+    graded_fails c.args.plan.now c.codes.ensures.rules l.place all l.together l.codes.items
     l.invariant.graded l.cert l.findings.items l.invariant.ranked
 
 pub returns-clause-clean : goal.returns-clause-clean
@@ -120,9 +120,9 @@ returns-clause-clean g c =
     let all : l.place ≡ length c.args.plan.now.codes =
     let test = c.loop-place-test.false in
     let end = l.auto.place-end in
-    let e = c.codes-place-end.ensures in
+    let e = c.codes-place-end.ensures.count in
     omega arith in
-    graded_clean c.args.plan.now c.rules.ensures l.place all l.together l.codes.items
+    graded_clean c.args.plan.now c.codes.ensures.rules l.place all l.together l.codes.items
     l.invariant.graded l.cert l.findings.items l.invariant.ranked
 
 pub returns-clause-each : goal.returns-clause-each
@@ -131,9 +131,9 @@ returns-clause-each g c =
     let all : l.place ≡ length c.args.plan.now.codes =
     let test = c.loop-place-test.false in
     let end = l.auto.place-end in
-    let e = c.codes-place-end.ensures in
+    let e = c.codes-place-end.ensures.count in
     omega arith in
-    graded_true c.args.plan.now c.rules.ensures l.place all l.together l.codes.items
+    graded_true c.args.plan.now c.codes.ensures.rules l.place all l.together l.codes.items
     l.invariant.graded l.cert l.findings.items l.invariant.ranked
 
 pub returns-clause-listed : goal.returns-clause-listed
@@ -142,7 +142,7 @@ returns-clause-listed g c =
     let all : l.place ≡ length c.args.plan.now.codes =
     let test = c.loop-place-test.false in
     let end = l.auto.place-end in
-    let e = c.codes-place-end.ensures in
+    let e = c.codes-place-end.ensures.count in
     omega arith in
-    graded_listed c.args.plan.now c.rules.ensures l.place all l.together l.codes.items
+    graded_listed c.args.plan.now c.codes.ensures.rules l.place all l.together l.codes.items
     l.invariant.graded l.cert l.findings.items l.invariant.ranked

@@ -13,4 +13,4 @@ pub returns-clause-within : goal.returns-clause-within
 returns-clause-within g c =
     let n = g.N.Routes.net c.args.net.now in
     let m = among_at (n.list c.args.exchange) c.args.place c.index-list-place.result (got_at c.args.list.now (n.list c.args.exchange) c.args.place c.index-list-place.result c.requires.list c.requires.place c.index-list-place.is) in
-    leads_within n c.args.exchange c.index-list-place.result c.far.result c.rules.ensures m c.far.ensures
+    leads_within n c.args.exchange c.index-list-place.result c.far.result (g.met.N.Routes.is_net c.args.net.now) m c.far.ensures

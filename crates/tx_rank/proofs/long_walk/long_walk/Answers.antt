@@ -9,5 +9,5 @@ long_from-requires-clause-place g c = let e = c.exchanges-place-end.ensures in l
 
 pub returns : goal.returns
 returns g c = λ x r origin ranked.
-    let w = c.rules.ensures.origins x origin in
+    let w = (g.met.N.Routes.is_net c.args.net.now).origins x origin in
     c.loop-place.invariant x r (let t = c.loop-place-test.false in let e = c.exchanges-place-end.ensures in omega arith) origin ranked

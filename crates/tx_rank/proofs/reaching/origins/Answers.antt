@@ -9,13 +9,13 @@ loop-place-preserved g c =
     let i = c.loop-place.invariant in
     let k = c.push_reserved.ensures in
     record {
-      so_far = origins_next p c.args.code c.loop-place.place c.loop-place.marks.items _ c.is_origin_for.result i.so_far k.items (c.is_origin_for.ensures ∙ ap (λ (x : ℕ). is_origin_for p x c.args.code) c.at.ensures);
+      so_far = origins_next p c.args.code c.loop-place.place c.loop-place.marks.items _ c.is_origin_for.result i.so_far k.items (c.is_origin_for.ensures ∙ ap (λ (x : ℕ). is_origin_for p x c.args.code) c.of.ensures);
       room = let r = i.room in let q = k.capacity in omega arith;
     }
 
 pub returns : goal.returns
 returns g c =
-    let e = c.exchanges-place-end.ensures in
+    let e = c.exchanges-place-end.ensures.count in
     let t = c.loop-place-test.false in
     let a = c.loop-place.auto.place-end in
-    origins_seen c.args.plan.now c.args.code c.loop-place.place c.loop-place.marks.items c.rules.ensures c.requires (omega arith) c.loop-place.invariant.so_far
+    origins_seen c.args.plan.now c.args.code c.loop-place.place c.loop-place.marks.items c.exchanges.ensures.rules c.requires (omega arith) c.loop-place.invariant.so_far

@@ -8,7 +8,7 @@ pub next-requires-clause-few : goal.next-requires-clause-few
 next-requires-clause-few g c =
     let e = ap length c.deref.ensures.value in
     let l = c.loop-exchange.invariant.seen.long in
-    let f = c.rules.ensures.few_exchanges in
+    let f = c.exchanges.ensures.rules.few_exchanges in
     omega arith
 
 pub next-requires-clause-long : goal.next-requires-clause-long
@@ -23,7 +23,7 @@ open-requires g c =
     }
 
 pub loop-exchange-init : goal.loop-exchange-init
-loop-exchange-init g c = marking_none (net_of c.args.plan.now c.args.code) c.exchanges.result c.in_ok-seen.seen.items c.in_ok-opened.opened.items c.in_ok-seen.ensures (c.in_ok-opened.ensures.items_if_clones_equal (λ y e. e)) c.exchanges.ensures
+loop-exchange-init g c = marking_none (net_of c.args.plan.now c.args.code) c.exchanges.result c.in_ok-seen.seen.items c.in_ok-opened.opened.items c.in_ok-seen.ensures (c.in_ok-opened.ensures.items_if_clones_equal (λ y e. e)) c.exchanges.ensures.count
 
 pub loop-exchange-smaller : goal.loop-exchange-smaller
 loop-exchange-smaller g c =

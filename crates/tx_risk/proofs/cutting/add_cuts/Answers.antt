@@ -13,9 +13,9 @@ returns g c =
     let p = c.args.left.now.plan.now in
     let all : c.loop-place.place ≡ length p.exchanges =
     let t = c.loop-place-test.false in let a = c.loop-place.auto.place-end in
-    let e = c.exchanges-place-end.ensures in omega arith in
+    let e = c.exchanges-place-end.ensures.count in omega arith in
     before_all p (marked c.args.left.now.gone.now) c.args.outage.now c.args.left.now.code
     c.args.cuts.now.items c.loop-place.cuts.items c.loop-place.place
-    (λ x a. let w = asked_within p c.rules.ensures c.args.outage.now c.args.left.now.code
+    (λ x a. let w = asked_within p c.exchanges-place-end.ensures.rules c.args.outage.now c.args.left.now.code
     c.requires.code x a in
     omega arith) c.loop-place.invariant

@@ -2,7 +2,7 @@ use Rattle.std.proofs.Common.{◌≡◌, ◌==◌, true, ◌∷◌, [], inl, ref
 use Rattle.std.specs.List.{list_any}
 use Rattle.tx_plan.specs.Among.{Among}
 use Rattle.tx_plan.proofs.Among.{among_left, among_right}
-use Rattle.tx_state.proofs.Lists.{any_mem}
+use Rattle.tx_machine.proofs.Lists.{any_mem}
 use Rattle.tx_risk.proofs.hits.add_end.Goals as goal
 
 pub returns-then-has_end-clause-added : goal.returns-then-has_end-clause-added

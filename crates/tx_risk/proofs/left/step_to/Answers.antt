@@ -21,8 +21,8 @@ returns-then-eq g c =
     let at = got_at list list c.loop-i.i x refl c.loop-i-test.true c.index-list-i.is in
     let left = left_at risk list c.loop-i.i x at (sym c.is_marked.ensures ∙ c.if-is_marked.false) in
     record {
-      listed = subst (λ l. Among x (left_of risk l)) c.list-list.ensures left;
-      leads = sym c.other_end.ensures ∙ c.in-Some.is;
+      listed = subst (λ l. Among x (left_of risk l)) c.list-list.ensures.value left;
+      leads = sym c.other_end.ensures.value ∙ c.in-Some.is;
       at = sym c.distance_at.ensures ∙ is_distance _ _ (sym c.eq.ensures ∙ c.if-eq.true);
     }
 
@@ -34,7 +34,7 @@ loop-i-preserved g c = λ j h y less at out leads near. elim (cases_eq j c.loop-
       let here = got_at list list c.loop-i.i x refl c.loop-i-test.true c.index-list-i.is in
       let same = one_there list j c.loop-i.i h x q at here in
       let far : c.other_end.result ≡ Some y =
-      c.other_end.ensures ∙ ap (λ k. other_end c.args.left.now.plan.now k c.args.exchange)
+      c.other_end.ensures.value ∙ ap (λ k. other_end c.args.left.now.plan.now k c.args.exchange)
       (sym same) ∙ leads in
       elim c.match-other_end.branch [
         | in-Some+else-eq w ↦
@@ -53,7 +53,7 @@ returns g c = λ s step.
     let list = c.list-list.result.now in
     let t = c.loop-i-test.false in
     let m = filter_among (λ k. not (risk k)) s.0 list
-    (subst (λ l. Among s.0 (left_of risk l)) (sym c.list-list.ensures) step.listed) in
+    (subst (λ l. Among s.0 (left_of risk l)) (sym c.list-list.ensures.value) step.listed) in
     let p = place_among s.0 list m.0 in
     let w = slice_get_within list p.0 s.0 p.1 in
     c.loop-i.invariant p.0 s.0 s.1 (omega arith) p.1 (not-true _ m.1) step.leads step.at

@@ -10,7 +10,7 @@ returns-then-not-measure_at g c =
     let p = c.args.left.now.plan.now in
     let code = c.args.left.now.code in
     let gone = c.args.left.now.gone.now in
-    let net = is_left_net p c.rules.ensures (marked gone) code c.requires.code in
+    let net = is_left_net p c.requires.rules (marked gone) code c.requires.code in
     nearest_none (left_net p gone code) c.args.goal net c.loop-distance.distance _
     c.measure_at.ensures.measured (c.measure_at.ensures.none c.if-not-measure_at.true)
 
@@ -19,7 +19,7 @@ returns g c =
     let p = c.args.left.now.plan.now in
     let code = c.args.left.now.code in
     let gone = c.args.left.now.gone.now in
-    let net = is_left_net p c.rules.ensures (marked gone) code c.requires.code in
+    let net = is_left_net p c.requires.rules (marked gone) code c.requires.code in
     let t = c.loop-distance-test.false in
     nearest_far (left_net p gone code) c.args.goal net c.loop-distance.distance _ (omega arith)
     c.loop-distance.invariant

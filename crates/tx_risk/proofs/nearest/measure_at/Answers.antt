@@ -26,9 +26,9 @@ loop-place-preserved g c =
     let k = c.args.distance in
     let i = c.loop-place.place in
     let ds = c.loop-place.distances in
-    let net = is_left_net p c.rules.ensures (marked gone) code c.requires.code in
+    let net = is_left_net p c.exchanges-place-end.ensures.rules (marked gone) code c.requires.code in
     let within : i < n.exchanges =
-    let t = c.loop-place-test.true in let e = c.exchanges-place-end.ensures in omega arith in
+    let t = c.loop-place-test.true in let e = c.exchanges-place-end.ensures.count in omega arith in
     let none : distance_in ds i ≡ None =
     sym (ap (distance_in ds) c.of-exchange.ensures) ∙ sym c.distance_at.ensures
     ∙ no_distance c.distance_at.result (sym c.is_some.ensures ∙ c.if-is_some.false) in
@@ -54,7 +54,7 @@ returns-clause-measured g c =
     let all : c.loop-place.place ≡ n.exchanges =
     let t = c.loop-place-test.false in
     let a = c.loop-place.auto.place-end in
-    let e = c.exchanges-place-end.ensures in
+    let e = c.exchanges-place-end.ensures.count in
     omega arith in
     round_last n c.args.goal c.args.distance c.loop-place.place c.loop-place.some
     c.loop-place.distances all c.loop-place.invariant

@@ -10,7 +10,7 @@ returns-then-not-is_hit g c =
     record {
       mine = [];
       added = sym (append-nil c.args.cuts.now.items);
-      these = unhit p c.rules.ensures (marked c.args.gone.now) c.args.outage.now c.args.code
+      these = unhit p c.requires.rules (marked c.args.gone.now) c.args.outage.now c.args.code
           c.requires.code
           k.2.0 k.0 k.1 k.2.1 c.requires.takes c.args.ends.now c.requires.ends
           (c.is_hit.ensures c.if-not-is_hit.true);

@@ -29,7 +29,7 @@ returns g c =
     let o = c.args.outage.now in
     let all : c.loop-place.place ≡ length p.codes =
     let t = c.loop-place-test.false in let a = c.loop-place.auto.place-end in
-    let e = c.codes-place-end.ensures in omega arith in
+    let e = c.codes-place-end.ensures.count in omega arith in
     subst (λ k. Adds (AreCutsBelow p (risk_of p c.args.risks.now o) o k) c.args.cuts.now.items
     c.loop-place.cuts.items)
     all c.loop-place.invariant

@@ -7,7 +7,7 @@ pub loop-place-init : goal.loop-place-init
 loop-place-init g c = record {
   so_far = marks_first (risk_of c.args.plan.now c.args.risks.now c.args.outage.now)
       c.in_ok-marks.marks.items c.in_ok-marks.ensures.items;
-  room = let q = c.in_ok-marks.ensures.capacity in let e = c.groups.ensures in omega arith;
+  room = let q = c.in_ok-marks.ensures.capacity in let e = c.groups.ensures.count in omega arith;
 }
 
 pub loop-place-preserved : goal.loop-place-preserved
@@ -26,7 +26,7 @@ pub returns : goal.returns
 returns g c =
     let all : c.loop-place.place ≡ length c.args.plan.now.groups =
     let t = c.loop-place-test.false in let a = c.loop-place.auto.place-end in
-    let e = c.groups-place-end.ensures in omega arith in
+    let e = c.groups-place-end.ensures.count in omega arith in
     marks_all (risk_of c.args.plan.now c.args.risks.now c.args.outage.now) c.loop-place.place
     c.loop-place.marks.items (λ h t. let l = c.requires h t in omega arith)
     c.loop-place.invariant.so_far

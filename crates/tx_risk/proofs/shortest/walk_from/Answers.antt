@@ -13,7 +13,7 @@ loop-ahead-preserved g c =
     let n = left_net p gone c.args.left.now.code in
     let ds = c.args.distances.now in
     let l = c.loop-ahead in
-    let net = is_left_net p c.rules.ensures (marked gone) c.args.left.now.code c.requires.code in
+    let net = is_left_net p c.requires.rules (marked gone) c.args.left.now.code c.requires.code in
     let more : l.ahead ≡ suc (l.ahead - 1) = let t = c.loop-ahead-test.true in omega arith in
     let hand = subst (λ k. IsDescent n ds c.args.start l.steps.items l.at k c.args.distance) more
     l.invariant in
@@ -29,7 +29,7 @@ unreachable-requires g c =
     let gone = c.args.left.now.gone.now in
     let n = left_net p gone c.args.left.now.code in
     let l = c.loop-ahead in
-    let net = is_left_net p c.rules.ensures (marked gone) c.args.left.now.code c.requires.code in
+    let net = is_left_net p c.requires.rules (marked gone) c.args.left.now.code c.requires.code in
     let more : l.ahead ≡ suc (l.ahead - 1) = let t = c.loop-ahead-test.true in omega arith in
     descent_goes n c.args.distances.now c.requires.nearest net l.at (l.ahead - 1) l.invariant.within
     (l.invariant.here ∙ ap Some more) c.in-None.ensures

@@ -6,8 +6,8 @@ use Rattle.tx_audit.specs.Report.{step_text}
 use Rattle.tx_risk_report.proofs.CutTexts.{line_parts}
 use Rattle.tx_risk_report.proofs.outage_report.write_walk.Goals as goal
 
-pub returns-in_err-write_text : goal.returns-in_err-write_text
-returns-in_err-write_text g c =
+pub returns-in_err-write_parts : goal.returns-in_err-write_parts
+returns-in_err-write_parts g c =
     let p = c.args.plan.now in
     let w = c.walk.inside in
     let figures = figures_of p c.args.code in
@@ -18,9 +18,9 @@ returns-in_err-write_text g c =
     (wrote_first _ _ _ _
     (c.args.head.now ++ (figures ++ (codes " " ++ (name ++ (codes " VIA " ++ (name ++ [])))))) rest
     _
-    c.in_err-write_text.field-0.0
-    (rw (c.code_figures-code.ensures, c.exchange_name-start.ensures, c.exchange_name.ensures)
-    at c.in_err-write_text.ensures) c.from_residual.ensures.0))
+    c.in_err-write_parts.field-0.0
+    (rw (c.code_figures-code.ensures.value, c.exchange_name-start.ensures.value, c.exchange_name.ensures.value)
+    at c.in_err-write_parts.ensures) c.from_residual.ensures.0))
 
 pub returns : goal.returns
 returns g c =
@@ -34,5 +34,5 @@ returns g c =
     (wrote_then _ _ _ _ _ _
     (c.args.head.now ++ (figures ++ (codes " " ++ (name ++ (codes " VIA " ++ (name ++ [])))))) rest
     _
-    (rw (c.code_figures-code.ensures, c.exchange_name-start.ensures, c.exchange_name.ensures)
-    at c.in_ok-write_text.ensures) (rw c.as_slice.ensures at c.write_steps.ensures)))
+    (rw (c.code_figures-code.ensures.value, c.exchange_name-start.ensures.value, c.exchange_name.ensures.value)
+    at c.in_ok-write_parts.ensures) (rw c.as_slice.ensures at c.write_steps.ensures)))

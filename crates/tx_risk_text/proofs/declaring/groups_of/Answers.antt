@@ -4,7 +4,7 @@ use Rattle.std.specs.Prelude.{is_none}
 use Rattle.std.specs.List.{list_any}
 use Rattle.tx_plan.specs.Plan.{group_named}
 use Rattle.tx_plan.specs.Declaring.{has_group}
-use Rattle.tx_state.proofs.Lists.{none_any}
+use Rattle.tx_machine.proofs.Lists.{none_any}
 use Rattle.tx_risk_text.proofs.GroupWords.{unknown_is}
 use Rattle.tx_risk_text.proofs.declaring.groups_of.Goals as goal
 
@@ -12,9 +12,9 @@ pub unreachable-requires : goal.unreachable-requires
 unreachable-requires g c =
     let p = c.args.plan.now in
     let w = c.in-Some.word.now in
-    let none : group_named p w ≡ None = sym c.group_named.ensures ∙ c.in-None-group_named.is in
+    let none : group_named p w ≡ None = sym c.group_named.ensures ∙ c.in-None.is in
     let t : not (has_group p w) ≡ true = sym (unknown_is p w) ∙ ap is_none none in
     let known : list_any (λ v. not (has_group p v)) (w ∷ c.next.new.self) ≡ false =
     subst (λ ws. list_any (λ v. not (has_group p v)) ws ≡ false) c.in-Some.ensures.steps
-    c.words.invariant.known in
+    c.loop-word.invariant.known in
     both_ways _ (none_any (λ v. not (has_group p v)) (w ∷ c.next.new.self) w known (inl refl)) t

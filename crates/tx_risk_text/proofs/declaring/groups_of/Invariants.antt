@@ -3,11 +3,11 @@ use Rattle.std.specs.List.{list_any}
 use Rattle.tx_plan.specs.Declaring.{has_group, group_at}
 use Rattle.tx_risk_text.proofs.declaring.groups_of.Given as goal
 
-abbrev pub invariant-words : goal.invariant-words
-invariant-words g l = record {
-  known : list_any (λ w. not (has_group l.plan w)) l.rest ≡ false;
-  groups : l.groups.items ++ map (group_at l.plan) l.rest ≡ map (group_at l.plan) l.initial.rest;
+abbrev pub invariant-loop-word : goal.invariant-loop-word
+invariant-loop-word g l = record {
+  known : list_any (λ w. not (has_group l.plan w)) l.words ≡ false;
+  groups : l.groups.items ++ map (group_at l.plan) l.words ≡ map (group_at l.plan) l.initial.words;
 }
 
-abbrev pub decreases-words : goal.decreases-words
-decreases-words g l = length l.rest
+abbrev pub decreases-loop-word : goal.decreases-loop-word
+decreases-loop-word g l = length l.words

@@ -1,16 +1,29 @@
-use Rattle.std.proofs.Common.{◌≡◌, ◌<◌, ◌^◌, length, true, arith, ap}
+use Rattle.std.proofs.Common.{[], Ok, Err, codes, subst}
 use Rattle.tx_text.specs.Told.{AtEnd}
-use Rattle.tx_text.proofs.SliceAnswers.{slice_answered, slice_stands}
-use Rattle.tx_risk_text.specs.RiskText.{risks_of, is_memory, declares_line}
+use Rattle.tx_text.proofs.Beside.{answers_beside, kept_beside}
+use Rattle.tx_text.proofs.Exits.{exits_with}
+use Rattle.tx_risk.specs.NamedRisks.{AreRisksFor}
+use Rattle.tx_risk_text.specs.RiskText.{declare, is_memory}
 use Rattle.tx_risk_text.proofs.risk_reader.read_risks.Goals as goal
 
-pub returns-in-Ok-clause-answer : goal.returns-in-Ok-clause-answer
-returns-in-Ok-clause-answer g c =
-    let short : length c.args.text.now < 2 ^ 63 = omega arith in
-    let p = c.args.plan.now in
-    let left = ap (λ r. r.left) (c.in-Ok.ensures.fields).2 in
-    let a = rw (left, c.new-source.ensures.rest) at c.read_lines.ensures.answer in
-    slice_answered is_memory c.args.text.now _ (risks_of p) _ _ _
-    (λ n. declares_line p n AtEnd c.args.text.now ≡ true)
-    (c.slices_are_read_whole.ensures c.args.text.now _ short)
-    (λ n r. slice_stands c.args.text.now _ (declares_line p n) true r) _ a
+pub returns-in_err-lines-clause-answer : goal.returns-in_err-lines-clause-answer
+returns-in_err-lines-clause-answer g c =
+    let x = c.in_err-lines.field-0.0 in
+    let a = rw c.new.ensures at c.in_err-lines.ensures in
+    rw (exits_with c.from_residual.result x c.from_residual.ensures.1)
+    (answers_beside declare c.args.plan.now (codes "RISKS") 1 [] is_memory c.args.text.now
+    (Err (x.line, x.kind)) a)
+
+pub returns-clause-answer : goal.returns-clause-answer
+returns-clause-answer g c =
+    let a = rw c.new.ensures at c.in_ok-lines.ensures in
+    rw c.finish.ensures.risks
+    (answers_beside declare c.args.plan.now (codes "RISKS") 1 [] is_memory c.args.text.now
+    (Ok c.in_ok-lines.lines) a)
+
+pub returns-clause-fits : goal.returns-clause-fits
+returns-clause-fits g c =
+    let a = rw c.new.ensures at c.in_ok-lines.ensures in
+    subst (λ q. AreRisksFor q c.finish.result)
+    (kept_beside declare c.args.plan.now (codes "RISKS") 1 [] AtEnd c.args.text.now
+    c.in_ok-lines.lines a) c.finish.ensures.fits

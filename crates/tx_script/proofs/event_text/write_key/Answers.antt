@@ -2,4 +2,4 @@ use Rattle.std.proofs.Common.{append_assoc}
 use Rattle.tx_script.proofs.event_text.write_key.Goals as goal
 
 pub returns-clause-wrote : goal.returns-clause-wrote
-returns-clause-wrote g c = rw (← c.code_figures.ensures, ← c.bytes.ensures.value, ← c.bytes-2.ensures.value, append_assoc) c.write_text.ensures
+returns-clause-wrote g c = rw (← c.code_figures.ensures.value, ← c.bytes.ensures.value, ← c.bytes-2.ensures.value, append_assoc) c.write_parts.ensures

@@ -1,50 +1,33 @@
-use Rattle.std.proofs.Common.{◌≡◌, ◌∙◌, ◌+◌, Ok, ap, sym, refl}
+use Rattle.std.proofs.Common.{◌∙◌, ◌+◌, Ok, ap, sym, refl}
 use Rattle.tx_text.specs.Calls.{source_calls}
 use Rattle.tx_text.specs.Frame.{is_read}
-use Rattle.tx_text.specs.Framing.{to_come, words_of_line}
-use Rattle.tx_text.specs.Told.{Reading}
+use Rattle.tx_text.specs.inner.Framing.{FrameReading, to_come}
 use Rattle.tx_text.proofs.NoRoom.{come_said}
-use Rattle.tx_text.proofs.CallCounts.{went_none, went_on, went_same, calls_on, broken_on, stopped_with}
+use Rattle.tx_text.proofs.CallCounts.{less_left, went_none, went_on, went_same, calls_on, broken_on, stopped_with}
 use Rattle.tx_script.specs.declared.run_cause.RunCause.{RunCause}
 use Rattle.tx_script.specs.Answers.{mark_after}
 use Rattle.tx_script.specs.Events.{event_of}
-use Rattle.tx_script.proofs.EventWords.{said_by}
 use Rattle.tx_script.proofs.Running.{past_header, past_line, start_runs, few_answered, few_refused, few_calls, few_told, few_counted, none_left, line_mark, stop_mark}
 use Rattle.tx_script.proofs.RunEnds.{header_came, line_came, line_halted, end_came, stop_ends, whole_ends}
-use Rattle.tx_script.proofs.runner.run_lines.Given.{Over}
 use Rattle.tx_script.proofs.runner.run_lines.Goals as goal
-use Rattle.tx_script.proofs.runner.run_lines.Goals.{After-answer_line, in-Some-Key, in-Some-Route, in-Some-Confirm, in-Some-Clear, in-Some-Released, in-Some, in-None}
-
--- what was answered is what the words of the line say
-said : (g : Over) (c : After-answer_line g) → event_of c.args.plan.now (words_of_line c.advance.new.self.reader.feed.line) ≡ c.match-verb_in.said
-said g c =
-    ap (event_of c.args.plan.now) (sym c.words-words.ensures) ∙ (elim c.match-verb_in.branch [
-      | in-Some-Key w ↦ said_by _ _ _ _ _ _ _ w.in-Some-Key.ensures w.in-Some-Key.field-0-is w.key_event-said.ensures w.said-is
-      | in-Some-Route w ↦ said_by _ _ _ _ _ _ _ w.in-Some-Route.ensures w.in-Some-Route.field-0-is w.route_event-said.ensures w.said-is
-      | in-Some-Confirm w ↦ said_by _ _ _ _ _ _ _ w.in-Some-Confirm.ensures w.in-Some-Confirm.field-0-is w.confirm_event-said.ensures w.said-is
-      | in-Some-Clear w ↦ said_by _ _ _ _ _ _ _ w.in-Some-Clear.ensures w.in-Some-Clear.field-0-is w.clear_event-said.ensures w.said-is
-      | in-Some-Released w ↦ said_by _ _ _ _ _ _ _ w.in-Some-Released.ensures w.in-Some-Released.field-0-is w.released_event-said.ensures w.said-is
-      | in-Some w ↦ w.in-Some.ensures c.args.plan.now ∙ sym w.event_by-said.ensures ∙ sym w.said-is
-      | in-None w ↦ w.in-None.ensures c.args.plan.now ∙ sym w.said-is
-    ])
 
 pub lines-init : goal.lines-init
 lines-init g c =
     let r = c.requires in
     record {
       plan = r.plan;
-      runs = start_runs c.args.plan.now c.args.teller.now.echo c.args.teller.now.counts (g.R.Source.rest c.args.source.now) (g.N.Network.state c.args.net.now) (g.W.Sink.taken c.args.sink.now) c.args.frame _ r.key r.versions r.reader r.phase r.number r.fresh c.new-tally.ensures;
+      runs = start_runs c.args.plan.now c.args.teller.now.echo c.args.teller.now.counts (g.R.Source.rest c.args.source.now) (g.N.Network.state c.args.net.now) (g.W.Sink.taken c.args.sink.now) c.args.frame _ r.start r.fresh c.new-tally.ensures;
       echo = refl;
       mark = refl;
-      sound = ap (λ (v : Reading). v.feed.fault) r.reader;
-      went = went_same g.R.Source.called _ _ _ _ _ (ap (λ (v : Reading). v.left) r.reader) (went_none g.R.Source.called source_calls c.args.source.now);
+      sound = ap (λ (v : FrameReading). v.reader.feed.fault) r.start;
+      went = went_same g.R.Source.called _ _ _ _ _ (ap (λ (v : FrameReading). v.reader.left) r.start) (went_none g.R.Source.called source_calls c.args.source.now);
     }
 
 pub advance-requires : goal.advance-requires
 advance-requires g c = c.lines.invariant.sound
 
 pub lines-smaller-in-Ok-Header : goal.lines-smaller-in-Ok-Header
-lines-smaller-in-Ok-Header g c = past_header _ _ c.in-Ok-Header.field-0-is c.in-Ok-Header.ensures.falls
+lines-smaller-in-Ok-Header g c = past_header _ _ c.in-Ok-Header.field-0-is (less_left c.in-Ok-Header.ensures.went)
 
 pub lines-preserved-in-Ok-Header : goal.lines-preserved-in-Ok-Header
 lines-preserved-in-Ok-Header g c =
@@ -52,15 +35,15 @@ lines-preserved-in-Ok-Header g c =
     let k = c.in-Ok-Header in
     record {
       plan = v.plan;
-      runs = header_came _ _ _ _ _ _ _ _ _ _ _ _ _ v.runs _ _ (to_come c.advance.new.self) c.advance.new.self.reader.feed.line k.ensures.gives _ _ k.field-0-is k.ensures.falls;
+      runs = header_came _ _ _ _ _ _ _ _ _ _ _ _ _ v.runs _ _ (to_come c.advance.new.self) c.advance.new.self.reader.feed.line k.ensures.gives _ _ k.field-0-is (less_left k.ensures.went);
       echo = v.echo;
       mark = v.mark;
-      sound = k.ensures.fault;
-      went = went_on g.R.Source.called _ _ _ _ _ _ v.went (past_header _ _ k.field-0-is k.ensures.went);
+      sound = k.ensures.sound;
+      went = went_on g.R.Source.called _ _ _ _ _ _ v.went (past_header _ _ k.field-0-is k.ensures.went).went;
     }
 
-pub words-words-requires : goal.words-words-requires
-words-words-requires g c = c.in-Ok-Line.ensures.line (ap Ok c.in-Ok-Line.field-0-is)
+pub words-requires : goal.words-requires
+words-requires g c = c.in-Ok-Line.ensures.line (ap Ok c.in-Ok-Line.field-0-is)
 
 pub number-requires : goal.number-requires
 number-requires g c = c.in-Ok-Line.ensures.line (ap Ok c.in-Ok-Line.field-0-is)
@@ -83,7 +66,7 @@ count-requires g c =
     }
 
 pub lines-smaller : goal.lines-smaller
-lines-smaller g c = past_line _ c.in-Ok-Line.field-0-is c.in-Ok-Line.ensures.falls
+lines-smaller g c = past_line _ c.in-Ok-Line.field-0-is (less_left c.in-Ok-Line.ensures.went)
 
 pub lines-preserved : goal.lines-preserved
 lines-preserved g c =
@@ -93,11 +76,11 @@ lines-preserved g c =
     let a = c.in-Ok.ensures in
     record {
       plan = a.plan;
-      runs = line_came _ _ _ _ _ _ _ _ _ _ _ _ _ v.runs _ _ (to_come frame) frame.reader.feed.line k.ensures.gives k.field-0-is _ c.number.ensures _ c.next_number-number.ensures _ _ _ (said g (goal.at.lines-preserved g c).After-answer_line) c.count.new.self _ _ _ k.ensures.falls (rw v.echo at a.answers) a.counts c.count.ensures;
+      runs = line_came _ _ _ _ _ _ _ _ _ _ _ _ _ v.runs _ _ (to_come frame) frame.reader.feed.line k.ensures.gives k.field-0-is _ c.number.ensures _ c.next_number-number.ensures _ _ _ (ap (event_of c.args.plan.now) (sym c.words.ensures) ∙ sym c.event_of-said.ensures) c.count.new.self _ _ _ (less_left k.ensures.went) (rw v.echo at a.answers) a.counts c.count.ensures;
       echo = a.echo ∙ v.echo;
       mark = a.mark ∙ v.mark;
-      sound = k.ensures.fault;
-      went = went_on g.R.Source.called _ _ _ _ _ _ v.went (past_line _ k.field-0-is k.ensures.went);
+      sound = k.ensures.sound;
+      went = went_on g.R.Source.called _ _ _ _ _ _ v.went (past_line _ k.field-0-is k.ensures.went).went;
     }
 
 pub finish-requires : goal.finish-requires
@@ -120,13 +103,13 @@ returns-in-Err-answer_line-clause-answers g c =
     let k = c.in-Ok-Line in
     let frame = c.advance.new.self in
     let x = c.in-Err-answer_line in
-    line_halted _ _ _ _ _ _ _ _ _ _ _ _ _ c.lines.invariant.runs _ _ (to_come frame) frame.reader.feed.line k.ensures.gives k.field-0-is _ c.number.ensures _ c.next_number-number.ensures _ _ _ (said g (goal.at.returns-in-Err-answer_line-clause-answers g c).After-answer_line) _ _ c.stopped.result x.cause (rw c.lines.invariant.echo at x.ensures.answers) c.stopped.ensures
+    line_halted _ _ _ _ _ _ _ _ _ _ _ _ _ c.lines.invariant.runs _ _ (to_come frame) frame.reader.feed.line k.ensures.gives k.field-0-is _ c.number.ensures _ c.next_number-number.ensures _ _ _ (ap (event_of c.args.plan.now) (sym c.words.ensures) ∙ sym c.event_of-said.ensures) _ _ _ _ c.stopped.result x.cause (rw c.lines.invariant.echo at x.ensures.answers) c.stopped.ensures
 
 pub returns-in-Ok-End-clause-answers : goal.returns-in-Ok-End-clause-answers
 returns-in-Ok-End-clause-answers g c =
     let k = c.in-Ok-End in
     let f = c.finish.ensures in
-    whole_ends _ _ _ _ _ _ _ _ _ _ _ _ _ c.lines.invariant.runs c.rules.ensures c.requires.fresh c.requires.counts _ _ _ _ c.finish.result (end_came _ _ _ _ _ _ _ _ _ _ _ _ _ c.lines.invariant.runs _ _ (to_come c.advance.new.self) c.advance.new.self.reader.feed.line k.ensures.gives k.field-0-is) f.summary f.ok f.fault f.err
+    whole_ends _ _ _ _ _ _ _ _ _ _ _ _ _ c.lines.invariant.runs _ _ _ _ _ _ _ c.rules.ensures c.requires.fresh c.requires.counts refl c.finish.result (end_came _ _ _ _ _ _ _ _ _ _ _ _ _ c.lines.invariant.runs _ _ (to_come c.advance.new.self) c.advance.new.self.reader.feed.line k.ensures.gives k.field-0-is) f.summary f.ok f.fault f.err
 
 pub returns-in-Err-clause-answers : goal.returns-in-Err-clause-answers
 returns-in-Err-clause-answers g c =
@@ -134,7 +117,7 @@ returns-in-Err-clause-answers g c =
     let called = g.R.Source.called in
     let failed = g.R.Source.failed c.advance.new.source in
     let q = stopped_with _ _ _ _ _ (is_read x.fault) _ (broken_on called failed source_calls c.lines.frame.reader.left _ _ _ c.lines.invariant.went) c.in-Err.ensures.gives in
-    stop_ends _ _ _ _ _ _ _ _ _ _ _ _ _ c.lines.invariant.runs _ _ _ c.stopped-in-Err.result x.line x.fault (come_said c.lines.frame) q (c.stopped-in-Err.ensures ∙ ap (λ (z : RunCause). record { event = c.lines.tally.answered + 1; cause = z }) c.frame_cause.ensures)
+    stop_ends _ _ _ _ _ _ _ _ _ _ _ _ _ c.lines.invariant.runs _ _ _ _ _ _ _ refl refl c.stopped-in-Err.result x.line x.fault (come_said c.lines.frame) q (c.stopped-in-Err.ensures ∙ ap (λ (z : RunCause). record { event = c.lines.tally.answered + 1; cause = z }) c.frame_cause.ensures)
 
 pub returns-in-Err-answer_line-clause-mark : goal.returns-in-Err-answer_line-clause-mark
 returns-in-Err-answer_line-clause-mark g c = line_mark _ _ c.lines.invariant.mark _ _ c.stopped.result c.stopped.ensures _ c.in-Err-answer_line.ensures.mark

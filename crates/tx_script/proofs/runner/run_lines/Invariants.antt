@@ -1,7 +1,8 @@
 use Rattle.std.proofs.Common.{◌≡◌, None}
-use Rattle.tx_text.specs.Calls.{Went, source_calls}
-use Rattle.tx_text.specs.Told.{reading_size}
-use Rattle.tx_text.specs.Framing.{to_come}
+use Rattle.tx_text.specs.inner.CallsLeft.{Went}
+use Rattle.tx_text.specs.Calls.{source_calls}
+use Rattle.tx_text.specs.inner.Reading.{reading_size}
+use Rattle.tx_text.specs.inner.Framing.{to_come}
 use Rattle.tx_script.proofs.Running.{IsRunning}
 use Rattle.tx_script.proofs.runner.run_lines.Given as goal
 

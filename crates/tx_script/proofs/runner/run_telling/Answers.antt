@@ -1,7 +1,11 @@
 use Rattle.tx_text.specs.Calls.{source_calls}
 use Rattle.tx_text.proofs.CallCounts.{went_none, calls_so_far}
-use Rattle.tx_script.proofs.Counting.{asked_is}
+use Rattle.tx_script.proofs.Counting.{new_counts, asked_is}
 use Rattle.tx_script.proofs.runner.run_telling.Goals as goal
+
+pub run_script-ran-requires-clause-counts : goal.run_script-ran-requires-clause-counts
+run_script-ran-requires-clause-counts g c =
+    rw c.in-Ok.ensures.ok (new_counts c.args.plan.now (g.N.Network.state c.args.net.now) c.args.telling.summary c.requires.released)
 
 pub returns-in-Ok-clause-answers : goal.returns-in-Ok-clause-answers
 returns-in-Ok-clause-answers g c = rw (c.in-Ok.ensures.ok, asked_is c.args.plan.now c.args.telling) at c.run_script-ran.ensures.answers

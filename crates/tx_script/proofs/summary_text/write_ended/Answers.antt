@@ -3,7 +3,7 @@ use Rattle.std.specs.List.{flat_map}
 use Rattle.std.proofs.lemmas.List.{get_or_default}
 use Rattle.tx_text.proofs.Wrote.{texts_more, texts_stopped, text_is}
 use Rattle.tx_tickets.specs.Texts.{cause_text}
-use Rattle.tx_state.specs.declared.cause.Cause.{Cause}
+use Rattle.tx_machine.specs.declared.cause.Cause.{Cause}
 use Rattle.tx_script.specs.Summaries.{calls_line, causes}
 use Rattle.tx_script.specs.inner.Counting.{count_for}
 use Rattle.tx_script.proofs.summary_text.write_ended.Goals as goal

@@ -49,4 +49,4 @@ returns g c =
     let last = codes "END SUMMARY\n" in
     wrote_then _ _ _ _ _ _ ended (opened ++ (peaks ++ last)) _ c.in_ok-write_ended.ensures
     (wrote_then _ _ _ _ _ _ opened (peaks ++ last) _ c.in_ok-write_calls.ensures
-    (wrote_then _ _ _ _ _ _ peaks last _ c.in_ok-write_peaks.ensures c.write_text.ensures))
+    (wrote_then _ _ _ _ _ _ peaks last _ c.in_ok-write_peaks.ensures c.write_parts.ensures))

@@ -1,13 +1,11 @@
-use Rattle.std.proofs.Common.{arith, sym, length}
-use Rattle.std.proofs.lemmas.Grind.{common_steps}
-use Rattle.std.proofs.lemmas.List.Sums.{prefix_len_is}
+use Rattle.std.proofs.Common.{not, ◌∙◌, sym, rules, tests}
+use Rattle.std.proofs.lemmas.Iterator.{YieldsList-from_slice}
+use Rattle.std.proofs.lemmas.Iterator.Search.{position_from_yields_List}
 use Rattle.tx_text.specs.Words.{is_blank}
+use Rattle.tx_text.proofs.Places.{place_or_len, same_run}
 use Rattle.tx_text.proofs.line_words.count_blanks.Goals as goal
-
-pub returns-then-not-is_blank-clause-count : goal.returns-then-not-is_blank-clause-count
-returns-then-not-is_blank-clause-count c =
-    sym (prefix_len_is is_blank c.args.text.now _ 0 (omega arith) c.loop-i.invariant (λ lt. grind (arith, common_steps)))
 
 pub returns-clause-count : goal.returns-clause-count
 returns-clause-count c =
-    sym (prefix_len_is is_blank c.args.text.now (length c.args.text.now) 0 (omega arith) (λ k lt. c.loop-i.invariant k (omega arith)) (λ lt. absurd (omega arith)))
+    let found = position_from_yields_List (λ b. not (is_blank b)) _ _ c.position-place.result c.position-place.ensures.ran (YieldsList-from_slice _ c.iter.ensures.rest) (λ x b q k. search (rules, tests)) in
+    c.unwrap_or.ensures ∙ place_or_len (λ b. not (is_blank b)) c.args.text.now _ found ∙ sym (same_run is_blank c.args.text.now)

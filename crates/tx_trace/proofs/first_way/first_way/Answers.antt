@@ -14,7 +14,7 @@ loop-code-preserved g c =
     let marks = c.loop-code.passed.items in
     let s = c.in-Some.step in
     let marked = subst (AreMarksOf (before_end x way)) (sym c.deref.ensures.value) i.marked in
-    let less : length way < length p.exchanges = let t = c.loop-code-test.true in let a = c.len.ensures in let b = c.exchanges-in-loop-code.ensures in let k = c.loop-code.way.ok.0 in omega arith in
+    let less : length way < length p.exchanges = let t = c.loop-code-test.true in let a = c.len.ensures in let b = c.exchanges-in-loop-code.ensures.count in let k = c.loop-code.way.ok.0 in omega arith in
     let on = going_on p c.args.code x c.loop-code.last way marks s i less (c.in-Some.ensures.next x way i.at marked) c.in-Some.ensures.within in
     subst (λ (l : List (ℕ × ℕ)). IsGoing p c.args.code x s.1 l (set marks c.index.result true)) (sym c.in_ok-push-in-Some.ensures.items)
     (subst (λ (k : ℕ). IsGoing p c.args.code x s.1 (way ++ s ∷ []) (set marks k true)) (sym c.index.ensures) on)

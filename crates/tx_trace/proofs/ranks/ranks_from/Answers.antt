@@ -4,6 +4,7 @@ use Rattle.tx_cert.specs.Certificate.{rank_at}
 use Rattle.tx_cert.proofs.Ranks.{none_ranked}
 use Rattle.tx_rank.proofs.Listing.{none_of}
 use Rattle.tx_trace.specs.Ranked.{net_from}
+use Rattle.tx_trace.proofs.Heights.{is_net_from}
 use Rattle.tx_trace.proofs.Ranking.{ranked_from, unranked_from, mine_all}
 use Rattle.tx_trace.proofs.ranks.ranks_from.Goals as goal
 
@@ -29,3 +30,6 @@ returns-else-is_empty g c =
     let all = mine_all (net_from p c.args.code c.args.start) c.args.code 255 0 _ findings.items _ judged c.new-findings.ensures.items in
     let some : judged.mine ≢ [] = λ e. let l = ap length (all ∙ e) in full (omega arith) in
     unranked_from p c.args.code c.args.start c.rules.ensures c.requires.code c.requires.start judged.mine some judged.listed
+
+pub invariant_of-routes : goal.invariant_of-routes
+invariant_of-routes g c = record { known = c.requires.code; net = is_net_from c.args.plan.now c.rules.ensures c.args.code c.requires.code c.args.start c.requires.start }

@@ -25,7 +25,7 @@ returns g c =
     let xs = c.list-list.result.now in
     let long = length-enumerate_from 1 xs in
     let past = c.loop-i-test.false in
-    rw (← c.list-list.ensures)
+    rw (← c.list-list.ensures.value)
     (texts_done (λ (e : ℕ × ℕ). place_line c.args.plan.now (rank_told t.ranks t.code) c.args.exchange e.0 e.1) (enumerate_from 1 xs) c.loop-i.i _ _ _ _ (omega arith) c.loop-i.invariant)
 
 pub returns-in_err-write_place : goal.returns-in_err-write_place
@@ -34,6 +34,6 @@ returns-in_err-write_place g c =
     let xs = c.list-list.result.now in
     let long = length-enumerate_from 1 xs in
     let low = c.loop-i-test.true in
-    rw (← c.list-list.ensures)
+    rw (← c.list-list.ensures.value)
     (texts_stopped (λ (e : ℕ × ℕ). place_line c.args.plan.now (rank_told t.ranks t.code) c.args.exchange e.0 e.1) (enumerate_from 1 xs) c.loop-i.i (c.loop-i.i + 1, c.index-list-i.result) _ _ _ _ _ _ _ c.in_err-write_place.field-0.0 (omega arith)
     (numbered xs c.loop-i.i c.index-list-i.result low c.index-list-i.is) c.loop-i.invariant c.in_err-write_place.ensures c.from_residual.ensures.0)

@@ -2,34 +2,35 @@ use Rattle.std.proofs.Common.{◌<◌, ◌≤◌, ◌∙◌, ap, subst, length, 
 use Rattle.std.specs.Io.KnownBytes.{append_known}
 use Rattle.tx_text.specs.Ends.{StopsIn}
 use Rattle.tx_trie.specs.CodesText.{pair_line}
-use Rattle.tx_text.proofs.Writing.{on_err}
-use Rattle.tx_trie.proofs.CodesWritten.{wrote_code, stopped_code, wrote_all, stopped_last}
+use Rattle.tx_trie.proofs.CodesWritten.{stopped, wrote_code, stopped_code, wrote_all, stopped_last}
 use Rattle.tx_trie.proofs.codes_writer.write_codes.Goals as goal
 
 pub loop-place-preserved : goal.loop-place-preserved
 loop-place-preserved g c =
     let p = c.args.plan.now in
-    let low : c.loop-place.place < length p.codes = (let e = c.codes-place-end.ensures in omega arith) in
+    let low : c.loop-place.place < length p.codes = (let e = c.codes-place-end.ensures.count in omega arith) in
     record {
-      wrote = wrote_code p c.rules.ensures c.loop-place.place c.at.result c.at.ensures low _ _ _ c.loop-place.invariant.wrote c.in_ok-write_code.ensures.0;
+      wrote = wrote_code p c.codes-place-end.ensures.rules c.loop-place.place c.of.result c.of.ensures low _ _ _ c.loop-place.invariant.wrote c.in_ok-write_code.ensures.0;
       mark = c.in_ok-write_code.ensures.1 ∙ c.loop-place.invariant.mark;
     }
 
-pub returns-in_err-write_code-clause-err : goal.returns-in_err-write_code-clause-err
-returns-in_err-write_code-clause-err g c =
+pub returns-in_err-write_code : goal.returns-in_err-write_code
+returns-in_err-write_code g c =
     let p = c.args.plan.now in
-    let low : c.loop-place.place < length p.codes = (let e = c.codes-place-end.ensures in omega arith) in
-    on_err c.from_residual.result (stopped_code p c.rules.ensures c.loop-place.place c.at.result c.at.ensures low _ _ _ c.loop-place.invariant.wrote c.in_err-write_code.ensures.0)
+    let low : c.loop-place.place < length p.codes = (let e = c.codes-place-end.ensures.count in omega arith) in
+    let failed = c.in_err-write_code.ensures in
+    stopped _ _ _ _ _ c.from_residual.result (stopped_code p c.codes-place-end.ensures.rules c.loop-place.place c.of.result c.of.ensures low _ _ _ c.loop-place.invariant.wrote failed.0) failed.1 c.from_residual.ensures.0
 
-pub returns-in_err-write_pair-clause-err : goal.returns-in_err-write_pair-clause-err
-returns-in_err-write_pair-clause-err g c =
+pub returns-in_err-write_pair : goal.returns-in_err-write_pair
+returns-in_err-write_pair g c =
     let p = c.args.plan.now in
-    let end : length p.codes ≤ c.loop-place.place = (let e = c.codes-place-end.ensures in omega arith) in
-    let stop = subst (λ o. StopsIn (g.W.Sink.taken c.loop-place.sink) (g.W.Sink.taken c.write_pair.new.sink) (pair_line p o)) c.ambiguous.ensures c.in_err-write_pair.ensures.0 in
-    on_err c.from_residual-in_err-write_pair.result (stopped_last p c.loop-place.place end c.args.trie.now c.requires _ _ _ c.loop-place.invariant.wrote stop)
+    let end : length p.codes ≤ c.loop-place.place = (let e = c.codes-place-end.ensures.count in omega arith) in
+    let failed = c.in_err-write_pair.ensures in
+    let stop = subst (λ o. StopsIn (g.W.Sink.taken c.loop-place.sink) (g.W.Sink.taken c.write_pair.new.sink) (pair_line p o)) c.ambiguous.ensures failed.0 in
+    stopped _ _ _ _ _ c.from_residual-in_err-write_pair.result (stopped_last p c.loop-place.place end c.args.trie.now c.requires _ _ _ c.loop-place.invariant.wrote stop) failed.1 c.from_residual-in_err-write_pair.ensures.0
 
-pub returns-clause-ok : goal.returns-clause-ok
-returns-clause-ok g c =
+pub returns : goal.returns
+returns g c =
     let p = c.args.plan.now in
-    let end : length p.codes ≤ c.loop-place.place = (let e = c.codes-place-end.ensures in omega arith) in
-    wrote_all p c.loop-place.place end c.args.trie.now c.requires _ _ _ c.loop-place.invariant.wrote (c.in_ok-write_pair.ensures.0 ∙ ap (λ o. append_known (g.W.Sink.taken c.loop-place.sink) (pair_line p o)) c.ambiguous.ensures)
+    let end : length p.codes ≤ c.loop-place.place = (let e = c.codes-place-end.ensures.count in omega arith) in
+    (wrote_all p c.loop-place.place end c.args.trie.now c.requires _ _ _ c.loop-place.invariant.wrote (c.in_ok-write_pair.ensures.0 ∙ ap (λ o. append_known (g.W.Sink.taken c.loop-place.sink) (pair_line p o)) c.ambiguous.ensures), c.in_ok-write_pair.ensures.1 ∙ c.loop-place.invariant.mark)

@@ -10,7 +10,8 @@ pub const BETA: u16 = 1;
 
 pub static ENDS: [(&str, u16); 2] = [("ALFA", ALFA), ("BETA", BETA)];
 
-/// What a call does: to a circuit, at an end where it asks for one and with a far end where it asks for that too, or to the group.
+/// What a call does: to a circuit, at an end where it asks for one and with a far end where it asks
+/// for that too, or to the group.
 #[derive(Clone, Copy)]
 pub enum Verb {
     Seize,
@@ -53,11 +54,11 @@ pub struct Call {
 
 /// The number of the circuit that an exchange takes next; 0 for none.
 pub fn next<A: Allocator>(table: &CircuitTable<A>, exchange: u16) -> u32 {
-    let exchange = ExchangeId::at(exchange);
-    if !table.may_seize(GroupId::at(0), exchange) {
+    let exchange = ExchangeId::of(usize::from(exchange));
+    if !table.may_seize(GroupId::of(0), exchange) {
         return 0;
     }
-    match table.first_free(GroupId::at(0), exchange) {
+    match table.first_free(GroupId::of(0), exchange) {
         Some(circuit) => circuit.number,
         None => 0,
     }
@@ -100,10 +101,10 @@ pub fn call_of(k: u32) -> Call {
     }
 }
 
-/// Makes a call where the table may be asked for it, and tells whether.
+/// Makes a call where the table may be asked for it, and returns whether.
 pub fn apply(table: &mut CircuitTable, call: Call) -> bool {
     let x = Circuit {
-        group: GroupId::at(0),
+        group: GroupId::of(0),
         number: call.number,
     };
     match call.what {
@@ -116,7 +117,10 @@ pub fn apply(table: &mut CircuitTable, call: Call) -> bool {
 }
 
 fn apply_at_end(table: &mut CircuitTable, x: &Circuit, call: Call) -> bool {
-    let (at, far) = (ExchangeId::at(call.end), ExchangeId::at(call.far));
+    let (at, far) = (
+        ExchangeId::of(usize::from(call.end)),
+        ExchangeId::of(usize::from(call.far)),
+    );
     match call.what {
         Verb::Seize
             if table.has_circuit(x) && table.may_seize(x.group, at) && table.is_free(x, at) => {

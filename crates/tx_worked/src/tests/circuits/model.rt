@@ -34,12 +34,12 @@ impl Held {
     // What the table tells of a circuit.
     fn told(table: &CircuitTable, number: u32) -> Held {
         let x = Circuit {
-            group: GroupId::at(0),
+            group: GroupId::of(0),
             number,
         };
         Held {
-            by_alfa: table.is_seized(&x, ExchangeId::at(ALFA)),
-            by_beta: table.is_seized(&x, ExchangeId::at(BETA)),
+            by_alfa: table.is_seized(&x, ExchangeId::of(usize::from(ALFA))),
+            by_beta: table.is_seized(&x, ExchangeId::of(usize::from(BETA))),
             carried: table.is_carried(&x),
             releasing: table.is_releasing(&x),
             out: table.is_out(&x),
@@ -132,7 +132,7 @@ impl Model {
         }
     }
 
-    /// Makes a call, and tells whether it may be made.
+    /// Makes a call, and returns whether it may be made.
     pub fn apply(&mut self, call: Call) -> bool {
         let number = call.number;
         if 0 < number && number < 4 {
@@ -175,7 +175,7 @@ impl Model {
 
     /// Whether the table tells the same.
     pub fn agrees(&self, table: &CircuitTable) -> bool {
-        let group = GroupId::at(0);
+        let group = GroupId::of(0);
         let mut number = 0u32;
         for held in self.circuits {
             number = number.saturating_add(1);

@@ -1,6 +1,6 @@
 use Rattle.std.proofs.Common.{◌≡◌, ◌∙◌, Option, sym, ap, subst}
 use Rattle.std.specs.Prelude.{IfSome}
-use Rattle.tx_circuits.specs.declared.free_lists.End.TheVariants.{First, Other}
+use Rattle.tx_circuits.specs.declared.lists.End.TheVariants.{First, Other}
 use Rattle.tx_circuits.specs.inner.Groups.{GroupState, group_slots, group_state, first_place}
 use Rattle.tx_circuits.proofs.Kept.{entry_at, view_at}
 use Rattle.tx_circuits.proofs.Heads.{first_place_is}

@@ -12,12 +12,12 @@ loop-place-preserved g c =
     let plan = c.args.plan.now in
     let k = c.loop-place.place in
     let test : k < c.groups-place-end.result = c.loop-place-test.true in
-    let many : c.groups-place-end.result ≡ length plan.groups = c.groups-place-end.ensures in
+    let many : c.groups-place-end.result ≡ length plan.groups = c.groups-place-end.ensures.count in
     let r = entry_at plan.groups k (omega arith) in
-    let same : c.at-group.result ≡ k = c.at-group.ensures in
+    let same : c.of-group.result ≡ k = c.of-group.ensures in
     let told : record { head = record { a = c.ends-ends.result.0; b = c.ends-ends.result.1; direction = c.direction.result; failed = false; blocked = false }; states = replicate c.group_count.result idle } ≡ fresh r.0 =
     (λ i. record { head = record { a = (c.ends-ends.ensures i).0; b = (c.ends-ends.ensures i).1; direction = c.direction.ensures i; failed = false; blocked = false }; states = replicate (c.group_count.ensures.value i) idle })
-    ∙ fresh_is plan c.at-group.result r.0 (ap (λ (n : ℕ). slice_get plan.groups n) same ∙ r.1) in
+    ∙ fresh_is plan c.of-group.result r.0 (ap (λ (n : ℕ). slice_get plan.groups n) same ∙ r.1) in
     c.in_ok-add.ensures.ok ∙ (λ i. c.loop-place.invariant i ++ told i ∷ []) ∙ sym (fresh_push plan.groups k r.0 r.1) ∙ ap (λ (n : ℕ). map fresh (take n plan.groups)) (sym (one_more k))
   where
     one_more : (n : ℕ) → n + 1 ≡ suc n
@@ -27,5 +27,5 @@ pub returns : goal.returns
 returns g c =
     let plan = c.args.plan.now in
     let test : c.groups-place-end.result ≤ c.loop-place.place = c.loop-place-test.false in
-    let many : c.groups-place-end.result ≡ length plan.groups = c.groups-place-end.ensures in
+    let many : c.groups-place-end.result ≡ length plan.groups = c.groups-place-end.ensures.count in
     ap table_of (c.loop-place.invariant ∙ ap (map fresh) (take_all c.loop-place.place plan.groups (omega arith))) ∙ built_is plan

@@ -3,7 +3,7 @@ use Rattle.std.specs.Prelude.{if◌then◌else◌, find}
 use Rattle.std.specs.Option.{option_map}
 use Rattle.std.proofs.lemmas.Option.{slice_get_within}
 use Rattle.tx_plan.specs.Circuits.{is_circuit, circuits_at}
-use Rattle.tx_entries.specs.declared.circuit.Circuit.{Circuit}
+use Rattle.tx_plan.specs.declared.ids.Circuit.{Circuit}
 use Rattle.tx_circuits.specs.inner.Groups.{first_place}
 use Rattle.tx_circuits.specs.Table.{Table, plan_of, is_down, is_free_at, first_free}
 use Rattle.tx_circuits.specs.inner.Seen.{table_of}

@@ -1,6 +1,6 @@
 use Rattle.std.proofs.Common.{◌∙◌, true, false, sym, ap}
 use Rattle.std.specs.Option.{option_map_or}
-use Rattle.tx_circuits.specs.declared.state.State.{State}
+use Rattle.tx_circuits.specs.declared.slot.State.{State}
 use Rattle.tx_circuits.specs.inner.Slots.{has_seized}
 use Rattle.tx_circuits.specs.inner.Groups.{end_at, with_state, change_at}
 use Rattle.tx_circuits.specs.Table.{Table, withdrawn, released_unless}

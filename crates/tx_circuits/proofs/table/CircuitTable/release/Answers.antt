@@ -1,5 +1,5 @@
 use Rattle.std.proofs.Common.{◌∙◌, sym, ap}
-use Rattle.tx_circuits.specs.declared.state.State.{State}
+use Rattle.tx_circuits.specs.declared.slot.State.{State}
 use Rattle.tx_circuits.specs.inner.Groups.{with_state, change_at}
 use Rattle.tx_circuits.specs.Table.{Table, with_released}
 use Rattle.tx_circuits.specs.inner.Seen.{table_of}

@@ -1,6 +1,6 @@
 use Rattle.std.proofs.Common.{ap, ◌∙◌, unwrap_or}
 use Rattle.tx_lines.specs.Status.{unmarked}
-use Rattle.tx_lines.specs.declared.status.Mark.TheVariants.{Faulty, Away, Engaged}
+use Rattle.tx_lines.specs.declared.book.Mark.TheVariants.{Faulty, Away, Engaged}
 use Rattle.tx_lines.proofs.Sets.{marks_of}
 use Rattle.tx_lines.proofs.book.LineBook.status.Goals as goal
 

@@ -1,12 +1,28 @@
-use Rattle.std.proofs.Common.{List, [], ◌∷◌, ◌++◌}
+use Rattle.std.proofs.Common.{List, [], ◌∷◌, ◌++◌, ap, sym, ◌∙◌}
+use Rattle.std.specs.Prelude.{is_ok}
+use Rattle.tx_plan.specs.declared.range.LineRange.{LineRange}
 use Rattle.tx_plan.specs.Plan.{Plan}
-use Rattle.tx_entries.specs.declared.range.LineRange.{LineRange}
 use Rattle.tx_plan.specs.Rules.{IsPlan}
-use Rattle.tx_plan.proofs.Made.{either, made_lines}
+use Rattle.tx_plan.specs.Declaring.{first_true, lines_refusals, with_lines}
+use Rattle.tx_plan.specs.inner.Tables.{plan_of}
+use Rattle.tx_plan.proofs.Made.{pushed, made_lines}
+use Rattle.tx_plan.proofs.Refusing.{declares-refused, declares-no_memory}
 use Rattle.tx_plan.proofs.builder.PlanBuilder.lines.Goals as goal
 
 pub invariant_of-plan : goal.invariant_of-plan
 invariant_of-plan g c =
-    let p : Plan = record { exchanges = c.plan.inside.exchanges; codes = c.plan.inside.codes; ranges = c.plan.inside.ranges; groups = c.plan.inside.groups; routes = c.plan.inside.routes; bars = c.plan.inside.bars } in
-    either (λ (l : List (LineRange)). IsPlan (record p { ranges = l })) c.add.result _ p.ranges (p.ranges ++ c.in-Ok.entry ∷ []) c.add.ensures.ok c.add.ensures.err c.plan.invariant
-    (made_lines p _ c.plan.view_is c.plan.invariant c.args.code.now c.args.low.now c.args.high.now c.in-Ok.entry c.in-Ok.ensures.ok c.in-Ok.ensures.entry)
+    let p : Plan = plan_of c.plan.inside.exchanges.keys c.plan.inside.codes.entries c.plan.inside.ranges.items c.plan.inside.groups.entries c.plan.inside.routes c.plan.inside.bars in
+    pushed (λ (l : List LineRange). IsPlan (record p { ranges = l })) (is_ok c.push.result) _ p.ranges (p.ranges ++ c.in_ok-range.range ∷ []) c.push.ensures.items c.plan.invariant
+    (made_lines p _ c.plan.view_is c.plan.invariant c.args.code.now c.args.low.now c.args.high.now c.in_ok-range.range c.in_ok-range.ensures.ok c.in_ok-range.ensures.entry)
+
+pub returns-in_err-range : goal.returns-in_err-range
+returns-in_err-range g c =
+    declares-refused (first_true (lines_refusals c.args.self.now c.args.code.now c.args.low.now c.args.high.now)) c.args.self.now (with_lines c.args.self.now c.args.code.now c.args.low.now c.args.high.now) c.self.inside.plan c.from_residual.result c.in_err-range.field-0.0 c.from_residual.ensures.1
+    (ap (λ (q : Plan). first_true (lines_refusals q c.args.code.now c.args.low.now c.args.high.now)) (sym c.self.view_is) ∙ c.in_err-range.ensures.err) c.self.view_is
+
+pub returns-in_err-push : goal.returns-in_err-push
+returns-in_err-push g c =
+    let p : Plan = plan_of c.plan.inside.exchanges.keys c.plan.inside.codes.entries c.plan.inside.ranges.items c.plan.inside.groups.entries c.plan.inside.routes c.plan.inside.bars in
+    declares-no_memory (first_true (lines_refusals c.args.self.now c.args.code.now c.args.low.now c.args.high.now)) c.args.self.now (with_lines c.args.self.now c.args.code.now c.args.low.now c.args.high.now) _ c.from_residual-in_err-push.result c.from_residual-in_err-push.ensures.1
+    (ap (λ (q : Plan). first_true (lines_refusals q c.args.code.now c.args.low.now c.args.high.now)) (sym c.self.view_is) ∙ c.in_ok-range.ensures.ok)
+    (ap (λ (l : List LineRange). record p { ranges = l }) c.in_err-push.ensures.items ∙ c.plan.view_is ∙ c.self.view_is)

@@ -1,15 +1,28 @@
-use Rattle.std.proofs.Common.{◌∙◌, ap, sym, Some}
-use Rattle.tx_plan.specs.Plan.{Plan, code_named}
+use Rattle.std.proofs.Common.{◌∙◌, ap, sym, map, Some, ℕ, List}
+use Rattle.std.specs.Prelude.{position}
+use Rattle.std.specs.Map.{keys_of}
+use Rattle.std.specs.Str.{bytes_eq}
+use Rattle.tx_plan.specs.Plan.{Plan, Code, code_named}
 use Rattle.tx_plan.specs.Rules.{is_code, IsCode}
+use Rattle.tx_plan.specs.inner.Tables.{plan_of, code_of_row}
 use Rattle.tx_plan.proofs.Absent.{unnamed, too_long, short_code}
+use Rattle.tx_plan.proofs.Tables.{position-map}
 use Rattle.tx_plan.proofs.plan.Plan.code_named.Goals as goal
-
-pub returns-in-Some : goal.returns-in-Some
-returns-in-Some g c = ap Some c.of.ensures ∙ sym c.in-Some.is ∙ c.find.ensures.place ∙ ap (λ (p : Plan). code_named p c.args.figures.now) c.self.view_is
-
-pub returns-in-None : goal.returns-in-None
-returns-in-None g c = sym c.in-None.is ∙ c.find.ensures.place ∙ ap (λ (p : Plan). code_named p c.args.figures.now) c.self.view_is
 
 pub returns-then-figures-gt3 : goal.returns-then-figures-gt3
 returns-then-figures-gt3 g c =
-    sym (unnamed is_code (λ c. c.figures) (IsCode c.args.self.now) c.args.figures.now c.args.self.now.codes (λ x h. h.figures) (too_long is_code 3 short_code c.args.figures.now c.if-figures-gt3.true) c.rules.ensures.codes)
+    let p : Plan = plan_of c.self.inside.exchanges.keys c.self.inside.codes.entries c.self.inside.ranges.items c.self.inside.groups.entries c.self.inside.routes c.self.inside.bars in
+    sym (unnamed is_code (λ (r : Code). r.figures) (IsCode p) c.args.figures.now p.codes (λ x h. h.figures) (too_long is_code 3 short_code c.args.figures.now c.if-figures-gt3.true) c.self.invariant.codes)
+    ∙ ap (λ (p : Plan). code_named p c.args.figures.now) c.self.view_is
+
+pub returns-in_err-place : goal.returns-in_err-place
+returns-in_err-place g c =
+    let es = c.self.inside.codes.entries in
+    c.from_residual.ensures ∙ c.in_err-place.ensures.index ∙ ap (λ (w : List ℕ). position (bytes_eq w) (keys_of es)) c.new.ensures ∙ position-map (bytes_eq c.args.figures.now) (λ e. e.0) es
+    ∙ sym (position-map (λ (r : Code). bytes_eq c.args.figures.now r.figures) code_of_row es) ∙ ap (λ (p : Plan). code_named p c.args.figures.now) c.self.view_is
+
+pub returns : goal.returns
+returns g c =
+    let es = c.self.inside.codes.entries in
+    ap Some c.of.ensures ∙ c.in_ok-place.ensures.index ∙ ap (λ (w : List ℕ). position (bytes_eq w) (keys_of es)) c.new.ensures ∙ position-map (bytes_eq c.args.figures.now) (λ e. e.0) es
+    ∙ sym (position-map (λ (r : Code). bytes_eq c.args.figures.now r.figures) code_of_row es) ∙ ap (λ (p : Plan). code_named p c.args.figures.now) c.self.view_is

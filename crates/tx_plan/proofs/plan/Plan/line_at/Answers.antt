@@ -1,21 +1,12 @@
-use Rattle.std.proofs.Common.{◌∙◌, ap, sym, ◌==◌, ◌&&◌, true, false, ℕ, List}
-use Rattle.std.specs.List.{list_any}
-use Rattle.tx_plan.specs.Plan.{Plan}
-use Rattle.tx_plan.specs.Lines.{in_range}
+use Rattle.std.proofs.Common.{◌∙◌, sym, ◌&&◌, Some, None}
+use Rattle.std.specs.Prelude.{if◌then◌else◌}
 use Rattle.tx_plan.specs.Rules.{is_national}
-use Rattle.tx_plan.proofs.LineFound.{line_if}
+use Rattle.tx_plan.proofs.Refusing.{read_right}
 use Rattle.tx_plan.proofs.plan.Plan.line_at.Goals as goal
 
-pub returns-then-has : goal.returns-then-has
-returns-then-has g c =
-    let n = c.in_ok-national.national in
-    line_if c.args.code (is_national c.args.national.now) true c.args.national.now n (λ w. list_any (λ r. (r.code == c.args.code) && in_range w r) c.args.self.now.ranges) c.in_ok-national.ensures
-    (sym c.if-has.true ∙ c.has.ensures ∙ ap (λ (w : List ℕ). list_any (λ r. (r.code == c.args.code) && in_range w r) c.self.inside.ranges) c.bytes.ensures.value
-    ∙ ap (λ (p : Plan). list_any (λ r. (r.code == c.args.code) && in_range n r) p.ranges) c.self.view_is)
-
-pub returns-else-has : goal.returns-else-has
-returns-else-has g c =
-    let n = c.in_ok-national.national in
-    line_if c.args.code (is_national c.args.national.now) false c.args.national.now n (λ w. list_any (λ r. (r.code == c.args.code) && in_range w r) c.args.self.now.ranges) c.in_ok-national.ensures
-    (sym c.if-has.false ∙ c.has.ensures ∙ ap (λ (w : List ℕ). list_any (λ r. (r.code == c.args.code) && in_range w r) c.self.inside.ranges) c.bytes.ensures.value
-    ∙ ap (λ (p : Plan). list_any (λ r. (r.code == c.args.code) && in_range n r) p.ranges) c.self.view_is)
+pub returns-else-is_in_range : goal.returns-else-is_in_range
+returns-else-is_in_range g c =
+    let number = c.args.national.now in
+    let formed = read_right (is_national number) number c.in_ok-read.field-0 c.in_ok-read.ensures in
+    let within = sym c.is_in_range.ensures ∙ c.if-is_in_range.false in
+    sym (λ i. if formed i && within i then Some (record { code = c.args.code; national = number }) else None)

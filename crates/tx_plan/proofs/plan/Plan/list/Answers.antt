@@ -3,5 +3,5 @@ use Rattle.tx_plan.specs.Plan.{Plan}
 use Rattle.tx_plan.specs.Routes.{route_list}
 use Rattle.tx_plan.proofs.plan.Plan.list.Goals as goal
 
-pub returns : goal.returns
-returns g c = c.list.ensures ∙ ap (λ (p : Plan). route_list p c.args.exchange c.args.code) c.self.view_is
+pub returns-clause-value : goal.returns-clause-value
+returns-clause-value g c = c.list.ensures ∙ ap (λ (p : Plan). route_list p c.args.exchange c.args.code) c.self.view_is

@@ -2,9 +2,9 @@ use Rattle.std.proofs.Common.{[], inr, sym, ap, ◌∙◌, arith}
 use Rattle.std.specs.Prelude.{option_map}
 use Rattle.std.specs.Io.KnownBytes.{append_known}
 use Rattle.std.proofs.lemmas.Result.{err_from_is_err_and}
-use Rattle.tx_state.specs.Drained.{drained}
-use Rattle.tx_state.specs.State.{State}
-use Rattle.tx_state.specs.Runs.{moment}
+use Rattle.tx_machine.specs.Drained.{drained}
+use Rattle.tx_machine.specs.State.{State}
+use Rattle.tx_machine.specs.Runs.{moment}
 use Rattle.tx_tickets.specs.Texts.{reply_text}
 use Rattle.tx_tickets.proofs.Taking.{then_took}
 use Rattle.tx_script.specs.Output.{moment_text}
@@ -17,52 +17,62 @@ use Rattle.tx_script.proofs.teller.Teller.answer.Goals as goal
 
 pub write_tickets-requires : goal.write_tickets-requires
 write_tickets-requires g c =
+    let p = c.args.plan.now in
     let s = g.N.Network.state c.args.net.now in
-    let t = g.N.Network.state c.apply-applied.new.self in
-    let a = is_answer c.args.plan.now (g.N.Network.plan c.args.net.now) s c.args.event c.in-Ok.reply t c.requires.plan c.requires.taken (rw c.in-Ok.is at c.apply-applied.ensures.step) in
-    record { few = omega (arith, c.requires.few, a.few); counted = few_used c.args.plan.now c.args.event c.in-Ok.reply c.args.self.now.counts c.requires.counted c.answered.new.self.counts c.answered.ensures.counts }
+    let e = c.args.event.now in
+    let a = is_answer p (g.N.Network.plan c.args.net.now) s e c.in_ok-reply.reply _ c.requires.plan c.requires.taken
+    c.in_ok-reply.ensures.step in
+    record {
+      few = omega (arith, c.requires.few, a.few);
+      counted = few_used p e c.in_ok-reply.reply c.args.self.now.counts c.requires.counted c.answered.new.self.counts
+          c.answered.ensures.counts;
+    }
 
 pub returns-in_err-write_asked_echo-clause-answers : goal.returns-in_err-write_asked_echo-clause-answers
 returns-in_err-write_asked_echo-clause-answers g c =
     let p = c.args.plan.now in
     let s = g.N.Network.state c.args.net.now in
-    let t = g.N.Network.state c.apply-applied.new.self in
-    let reply = c.in-Ok.reply in
-    let a = is_answer p (g.N.Network.plan c.args.net.now) s c.args.event reply t c.requires.plan c.requires.taken (rw c.in-Ok.is at c.apply-applied.ensures.step) in
-    let e = err_from_is_err_and c.from_residual.result c.from_residual.ensures.1 in
-    rw (e.1, e.2) (untold_echo p s c.args.event reply t _ _ c.args.self.now.echo c.args.number a c.in_err-write_asked_echo.ensures.0)
+    let e = c.args.event.now in
+    let a = is_answer p (g.N.Network.plan c.args.net.now) s e c.in_ok-reply.reply _ c.requires.plan c.requires.taken
+    c.in_ok-reply.ensures.step in
+    let f = err_from_is_err_and c.from_residual-in_err-write_asked_echo.result
+    c.from_residual-in_err-write_asked_echo.ensures.1 in
+    rw (f.1, f.2) (untold_echo p s e _ _ _ _ c.args.self.now.echo c.args.number a c.in_err-write_asked_echo.ensures.0)
 
 pub returns-in_err-write_reply-clause-answers : goal.returns-in_err-write_reply-clause-answers
 returns-in_err-write_reply-clause-answers g c =
     let p = c.args.plan.now in
     let s = g.N.Network.state c.args.net.now in
-    let t = g.N.Network.state c.apply-applied.new.self in
-    let reply = c.in-Ok.reply in
-    let a = is_answer p (g.N.Network.plan c.args.net.now) s c.args.event reply t c.requires.plan c.requires.taken (rw c.in-Ok.is at c.apply-applied.ensures.step) in
-    let e = err_from_is_err_and c.from_residual-in_err-write_reply.result c.from_residual-in_err-write_reply.ensures.1 in
-    rw (e.1, e.2) (inr (rw c.in_ok-write_asked_echo.ensures.0 at (untold_reply p s c.args.event reply t _ _ a c.in_err-write_reply.ensures.err)))
+    let e = c.args.event.now in
+    let a = is_answer p (g.N.Network.plan c.args.net.now) s e c.in_ok-reply.reply _ c.requires.plan c.requires.taken
+    c.in_ok-reply.ensures.step in
+    let f = err_from_is_err_and c.from_residual-in_err-write_reply.result c.from_residual-in_err-write_reply.ensures.1 in
+    rw (f.1, f.2) (inr (rw c.in_ok-write_asked_echo.ensures.0 at (untold_reply p s e _ _ _ _ a c.in_err-write_reply.ensures.0)))
 
 pub returns-in_err-tickets-clause-answers : goal.returns-in_err-tickets-clause-answers
 returns-in_err-tickets-clause-answers g c =
     let p = c.args.plan.now in
     let s = g.N.Network.state c.args.net.now in
-    let t = g.N.Network.state c.apply-applied.new.self in
-    let reply = c.in-Ok.reply in
-    let a = is_answer p (g.N.Network.plan c.args.net.now) s c.args.event reply t c.requires.plan c.requires.taken (rw c.in-Ok.is at c.apply-applied.ensures.step) in
-    let e = err_from_is_err_and c.from_residual-in_err-tickets.result c.from_residual-in_err-tickets.ensures.1 in
-    rw (e.1, e.2) (inr (rw c.in_ok-write_asked_echo.ensures.0 at (untold_tickets p s c.args.event reply t _ _ _ _ a c.in_ok-write_reply.ensures.ok c.in_err-tickets.ensures.err)))
+    let e = c.args.event.now in
+    let a = is_answer p (g.N.Network.plan c.args.net.now) s e c.in_ok-reply.reply _ c.requires.plan c.requires.taken
+    c.in_ok-reply.ensures.step in
+    let f = err_from_is_err_and c.from_residual-in_err-tickets.result c.from_residual-in_err-tickets.ensures.1 in
+    rw (f.1, f.2) (inr (rw c.in_ok-write_asked_echo.ensures.0 at
+    (untold_tickets p s e _ _ _ _ _ _ a c.in_ok-write_reply.ensures.0 c.in_err-tickets.ensures.err)))
 
 pub returns-clause-answers : goal.returns-clause-answers
 returns-clause-answers g c =
     let p = c.args.plan.now in
     let s = g.N.Network.state c.args.net.now in
-    let t = g.N.Network.state c.apply-applied.new.self in
-    let reply = c.in-Ok.reply in
-    let a = is_answer p (g.N.Network.plan c.args.net.now) s c.args.event reply t c.requires.plan c.requires.taken (rw c.in-Ok.is at c.apply-applied.ensures.step) in
-    let told = then_took _ _ _ (reply_text p reply) _ c.in_ok-write_reply.ensures.ok c.in_ok-tickets.ensures.ok ∙ ap (append_known (g.W.Sink.taken c.write_asked_echo.new.sink)) (sym a.text) in
+    let e = c.args.event.now in
+    let a = is_answer p (g.N.Network.plan c.args.net.now) s e c.in_ok-reply.reply _ c.requires.plan c.requires.taken
+    c.in_ok-reply.ensures.step in
+    let told = then_took _ _ _ (reply_text p c.in_ok-reply.reply) _ c.in_ok-write_reply.ensures.0 c.in_ok-tickets.ensures.ok
+    ∙ ap (append_known (g.W.Sink.taken c.write_asked_echo.new.sink)) (sym a.text) in
     record {
-      counted = counted_as p s c.args.event reply t a _ _ c.is_refused.ensures c.in_ok-tickets.ensures.count;
-      wrote = then_took _ _ _ (echo_asked c.args.self.now.echo p c.args.number c.args.event) (moment_text p (moment p s c.args.event)) c.in_ok-write_asked_echo.ensures.0 told;
+      counted = counted_as p s e _ _ a _ _ c.is_refused.ensures c.in_ok-tickets.ensures.count;
+      wrote = then_took _ _ _ (echo_asked c.args.self.now.echo p c.args.number e) (moment_text p (moment p s e))
+          c.in_ok-write_asked_echo.ensures.0 told;
       network = c.in_ok-tickets.ensures.taken ∙ ap (λ (u : State). drained u []) (sym a.after);
     }
 
@@ -70,37 +80,9 @@ pub returns-clause-counts : goal.returns-clause-counts
 returns-clause-counts g c =
     let p = c.args.plan.now in
     let s = g.N.Network.state c.args.net.now in
-    let t = g.N.Network.state c.apply-applied.new.self in
-    let reply = c.in-Ok.reply in
-    let a = is_answer p (g.N.Network.plan c.args.net.now) s c.args.event reply t c.requires.plan c.requires.taken (rw c.in-Ok.is at c.apply-applied.ensures.step) in
-    c.in_ok-tickets.ensures.counts ∙ ap (option_map (ends_counted t.tickets)) c.answered.ensures.counts ∙ counted_twice p (moment p s c.args.event) reply t.tickets a.replied a.made c.args.self.now.counts
-
-pub returns-in_err-write_asked_echo-clause-plan : goal.returns-in_err-write_asked_echo-clause-plan
-returns-in_err-write_asked_echo-clause-plan g c = c.apply-applied.ensures.plan ∙ c.requires.plan
-
-pub returns-in_err-write_reply-clause-plan : goal.returns-in_err-write_reply-clause-plan
-returns-in_err-write_reply-clause-plan g c = c.apply-applied.ensures.plan ∙ c.requires.plan
-
-pub returns-in_err-tickets-clause-plan : goal.returns-in_err-tickets-clause-plan
-returns-in_err-tickets-clause-plan g c = c.write_tickets.ensures.plan ∙ c.apply-applied.ensures.plan ∙ c.requires.plan
-
-pub returns-clause-plan : goal.returns-clause-plan
-returns-clause-plan g c = c.write_tickets.ensures.plan ∙ c.apply-applied.ensures.plan ∙ c.requires.plan
-
-pub returns-in_err-write_asked_echo-clause-mark : goal.returns-in_err-write_asked_echo-clause-mark
-returns-in_err-write_asked_echo-clause-mark g c =
-    let e = err_from_is_err_and c.from_residual.result c.from_residual.ensures.1 in
-    rw (e.1, e.2) c.in_err-write_asked_echo.ensures.1
-
-pub returns-in_err-write_reply-clause-mark : goal.returns-in_err-write_reply-clause-mark
-returns-in_err-write_reply-clause-mark g c =
-    let e = err_from_is_err_and c.from_residual-in_err-write_reply.result c.from_residual-in_err-write_reply.ensures.1 in
-    rw (e.1, e.2) c.in_err-write_reply.ensures.mark
-
-pub returns-in_err-tickets-clause-mark : goal.returns-in_err-tickets-clause-mark
-returns-in_err-tickets-clause-mark g c =
-    let e = err_from_is_err_and c.from_residual-in_err-tickets.result c.from_residual-in_err-tickets.ensures.1 in
-    rw (e.1, e.2) c.in_err-tickets.ensures.mark
-
-pub returns-clause-mark : goal.returns-clause-mark
-returns-clause-mark g c = c.in_ok-tickets.ensures.unmarked ∙ c.in_ok-write_reply.ensures.unmarked ∙ c.in_ok-write_asked_echo.ensures.1
+    let e = c.args.event.now in
+    let a = is_answer p (g.N.Network.plan c.args.net.now) s e c.in_ok-reply.reply _ c.requires.plan c.requires.taken
+    c.in_ok-reply.ensures.step in
+    let t = g.N.Network.state c.apply.new.self in
+    c.in_ok-tickets.ensures.counts ∙ ap (option_map (ends_counted t.tickets)) c.answered.ensures.counts
+    ∙ counted_twice p (moment p s e) c.in_ok-reply.reply t.tickets a.replied a.made c.args.self.now.counts

@@ -1,7 +1,7 @@
 use Rattle.std.proofs.Common.{◌∙◌, refl, sym, ap, arith}
 use Rattle.std.proofs.Math.Facts.{Fits-of_lt}
-use Rattle.tx_state.specs.Ended.{Ended}
-use Rattle.tx_state.specs.State.{State}
+use Rattle.tx_machine.specs.Ended.{Ended}
+use Rattle.tx_machine.specs.State.{State}
 use Rattle.tx_text.proofs.Writing.{on_err}
 use Rattle.tx_script.proofs.Draining.{drain_start, drain_end, drain_more, drain_stop, drain_within, drain_smaller}
 use Rattle.tx_script.proofs.Ended.{room_first, room_more, room_for_one, ends_more, ends_none}
@@ -32,8 +32,8 @@ loop-ticket-preserved g c =
     let rest = ap (λ (s : State). s.tickets) c.next_ticket.ensures.rest in
     record {
       plan = c.next_ticket.ensures.plan ∙ v.plan;
-      draining = drain_more _ _ _ _ _ _ v.draining _ first _ _ c.next_ticket.ensures.rest c.in_ok-write_ticket.ensures.ok;
-      mark = c.in_ok-write_ticket.ensures.unmarked ∙ v.mark;
+      draining = drain_more _ _ _ _ _ _ v.draining _ first _ _ c.next_ticket.ensures.rest c.in_ok-write_ticket.ensures.0;
+      mark = c.in_ok-write_ticket.ensures.1 ∙ v.mark;
       echo = c.ended.ensures.echo ∙ v.echo;
       counts = rw (rest, ended, same) (ends_more left _ first c.loop-ticket.self.counts ∙ v.counts);
       room = rw (rest, ended, same) (room_more left _ first c.loop-ticket.self.counts v.room);
@@ -41,7 +41,7 @@ loop-ticket-preserved g c =
 
 pub returns-in_err-write_ticket-clause-err : goal.returns-in_err-write_ticket-clause-err
 returns-in_err-write_ticket-clause-err g c =
-    on_err c.from_residual.result (drain_stop _ _ _ _ _ _ c.loop-ticket.invariant.draining _ (sym c.in-Some.ensures.first) _ _ c.next_ticket.ensures.rest c.in_err-write_ticket.ensures.err)
+    on_err c.from_residual.result (drain_stop _ _ _ _ _ _ c.loop-ticket.invariant.draining _ (sym c.in-Some.ensures.first) _ _ c.next_ticket.ensures.rest c.in_err-write_ticket.ensures.0)
 
 pub overflow_add-count : goal.overflow_add-count
 overflow_add-count g c =
@@ -69,7 +69,7 @@ pub returns-in_err-write_ticket-clause-plan : goal.returns-in_err-write_ticket-c
 returns-in_err-write_ticket-clause-plan g c = c.next_ticket.ensures.plan ∙ c.loop-ticket.invariant.plan
 
 pub returns-in_err-write_ticket-clause-mark : goal.returns-in_err-write_ticket-clause-mark
-returns-in_err-write_ticket-clause-mark g c = on_err c.from_residual.result c.in_err-write_ticket.ensures.mark
+returns-in_err-write_ticket-clause-mark g c = on_err c.from_residual.result c.in_err-write_ticket.ensures.1
 
 pub returns-clause-plan : goal.returns-clause-plan
 returns-clause-plan g c = c.next_ticket.ensures.plan ∙ c.loop-ticket.invariant.plan

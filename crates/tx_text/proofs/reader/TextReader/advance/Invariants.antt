@@ -1,11 +1,17 @@
 use Rattle.std.proofs.Common.{◌≡◌, ◌≤◌, None}
-use Rattle.tx_text.specs.Calls.{Went}
-use Rattle.tx_text.specs.Told.{Reads, told_at, reading_place, reading_size}
+use Rattle.tx_text.specs.Frame.{ReadsOn}
+use Rattle.tx_text.specs.inner.CallsLeft.{Went}
+use Rattle.tx_text.specs.inner.Reading.{told_at, reading_place, reading_size}
 use Rattle.tx_text.proofs.reader.TextReader.advance.Given as goal
 
 abbrev pub invariant-pieces : goal.invariant-pieces
-invariant-pieces g l =
-    Reads (g.R.Source.rest l.initial.source) (g.R.Source.rest l.source) (reading_place l.initial.self) (told_at (reading_place l.self)) × (l.self.feed.fault ≡ None) × (reading_size l.self ≤ reading_size l.initial.self) × Went g.R.Source.called l.initial.self.left l.self.left l.initial.source l.source × (g.R.Source.failed l.source ≡ g.R.Source.failed l.initial.source)
+invariant-pieces g l = record {
+  says : ReadsOn (g.R.Source.rest l.initial.source) (g.R.Source.rest l.source) (told_at (reading_place l.initial.self)) (told_at (reading_place l.self));
+  sound : l.self.feed.fault ≡ None;
+  less : reading_size l.self ≤ reading_size l.initial.self;
+  went : Went g.R.Source.called l.initial.self.left l.self.left l.initial.source l.source;
+  unmarked : g.R.Source.failed l.source ≡ g.R.Source.failed l.initial.source;
+}
 
 abbrev pub decreases-pieces : goal.decreases-pieces
 decreases-pieces g l = l.self.left

@@ -8,47 +8,47 @@ use Rattle.tx_trie.proofs.trie.CodeTrie.build.Goals as goal
 pub loop-place-init : goal.loop-place-init
 loop-place-init g c = c.in_ok-trie.ensures
 
-pub overflow_cast-place : goal.overflow_cast-place
-overflow_cast-place g c =
-    let few = c.rules.ensures.few_codes in
+pub of-code-requires : goal.of-code-requires
+of-code-requires g c =
+    let few = c.codes-place-end.ensures.rules.few_codes in
     omega arith
 
 pub unwrap-figures-requires : goal.unwrap-figures-requires
 unwrap-figures-requires g c =
     let p = c.args.plan.now in
-    let low : c.loop-place.place < length p.codes = (let e = c.codes-place-end.ensures in omega arith) in
-    its_read p c.rules.ensures c.loop-place.place low c.read.result c.code_figures.result.now c.read.ensures (c.code_figures.ensures ∙ ap (figures_of p) c.at-code.ensures)
+    let low : c.loop-place.place < length p.codes = (let e = c.codes-place-end.ensures.count in omega arith) in
+    its_read p c.codes-place-end.ensures.rules c.loop-place.place low c.read.result c.code_figures.result.now c.read.ensures (c.code_figures.ensures.value ∙ ap (figures_of p) c.of-code.ensures)
 
 pub insert-requires-clause-few : goal.insert-requires-clause-few
 insert-requires-clause-few g c =
     let p = c.args.plan.now in
-    let low : c.loop-place.place < length p.codes = (let e = c.codes-place-end.ensures in omega arith) in
-    few_before p c.rules.ensures c.loop-place.place low c.loop-place.trie c.loop-place.invariant
+    let low : c.loop-place.place < length p.codes = (let e = c.codes-place-end.ensures.count in omega arith) in
+    few_before p c.codes-place-end.ensures.rules c.loop-place.place low c.loop-place.trie c.loop-place.invariant
 
 pub insert-requires-clause-form : goal.insert-requires-clause-form
 insert-requires-clause-form g c =
     let p = c.args.plan.now in
-    let low : c.loop-place.place < length p.codes = (let e = c.codes-place-end.ensures in omega arith) in
+    let low : c.loop-place.place < length p.codes = (let e = c.codes-place-end.ensures.count in omega arith) in
     let text = c.code_figures.result.now in
-    ap is_code (read_text (are_figures 1 12 text) text c.unwrap-figures.result (sym c.read.ensures ∙ c.unwrap-figures.ensures) ∙ c.code_figures.ensures ∙ ap (figures_of p) c.at-code.ensures) ∙ its_form p c.rules.ensures c.loop-place.place low
+    ap is_code (read_text (are_figures 1 12 text) text c.unwrap-figures.result (sym c.read.ensures ∙ c.unwrap-figures.ensures) ∙ c.code_figures.ensures.value ∙ ap (figures_of p) c.of-code.ensures) ∙ its_form p c.codes-place-end.ensures.rules c.loop-place.place low
 
 pub insert-requires-clause-unused : goal.insert-requires-clause-unused
 insert-requires-clause-unused g c =
     let p = c.args.plan.now in
-    let low : c.loop-place.place < length p.codes = (let e = c.codes-place-end.ensures in omega arith) in
+    let low : c.loop-place.place < length p.codes = (let e = c.codes-place-end.ensures.count in omega arith) in
     let text = c.code_figures.result.now in
-    λ i d at same. its_own p c.rules.ensures c.loop-place.place low c.loop-place.trie c.loop-place.invariant i d at
-    (same ∙ read_text (are_figures 1 12 text) text c.unwrap-figures.result (sym c.read.ensures ∙ c.unwrap-figures.ensures) ∙ c.code_figures.ensures ∙ ap (figures_of p) c.at-code.ensures)
+    λ i d at same. its_own p c.codes-place-end.ensures.rules c.loop-place.place low c.loop-place.trie c.loop-place.invariant i d at
+    (same ∙ read_text (are_figures 1 12 text) text c.unwrap-figures.result (sym c.read.ensures ∙ c.unwrap-figures.ensures) ∙ c.code_figures.ensures.value ∙ ap (figures_of p) c.of-code.ensures)
 
 pub loop-place-preserved : goal.loop-place-preserved
 loop-place-preserved g c =
     let p = c.args.plan.now in
-    let low : c.loop-place.place < length p.codes = (let e = c.codes-place-end.ensures in omega arith) in
+    let low : c.loop-place.place < length p.codes = (let e = c.codes-place-end.ensures.count in omega arith) in
     let text = c.code_figures.result.now in
     c.in_ok-insert.ensures.ok
-    ∙ codes_more p c.rules.ensures c.loop-place.place low c.loop-place.trie c.loop-place.invariant c.unwrap-figures.result c.home.result
-    (read_text (are_figures 1 12 text) text c.unwrap-figures.result (sym c.read.ensures ∙ c.unwrap-figures.ensures) ∙ c.code_figures.ensures ∙ ap (figures_of p) c.at-code.ensures)
-    (c.home.ensures ∙ ap (home_of p) c.at-code.ensures)
+    ∙ codes_more p c.codes-place-end.ensures.rules c.loop-place.place low c.loop-place.trie c.loop-place.invariant c.unwrap-figures.result c.home.result
+    (read_text (are_figures 1 12 text) text c.unwrap-figures.result (sym c.read.ensures ∙ c.unwrap-figures.ensures) ∙ c.code_figures.ensures.value ∙ ap (figures_of p) c.of-code.ensures)
+    (c.home.ensures ∙ ap (home_of p) c.of-code.ensures)
 
 pub returns : goal.returns
 returns g c = all_codes c.loop-place.trie c.args.plan.now.codes c.loop-place.place c.loop-place.invariant (omega arith)

@@ -2,7 +2,7 @@ use Rattle.std.proofs.Common.{◌≡◌, ◌<◌, ◌++◌, ◌∷◌, [], Some,
 use Rattle.std.proofs.lemmas.List.{length-map, map_push}
 use Rattle.std.proofs.lemmas.Option.{slice_get_read}
 use Rattle.std.specs.Prelude.{slice_get}
-use Rattle.tx_trie.specs.declared.row.Row.{Row}
+use Rattle.tx_trie.specs.declared.trie.Row.{Row}
 use Rattle.tx_trie.specs.inner.Nodes.{IsTrie, walk, code_of_row}
 use Rattle.tx_trie.proofs.Ways.{walk_within}
 use Rattle.tx_trie.proofs.Longest.{widths}
@@ -31,14 +31,14 @@ invariant_of-self-2 g c =
     let k3 = c.reserve.new.self.ok.0 in
     let same : length c.reserve.new.self.items ≡ length rows = ap length c.reserve.ensures.items in
     let few : length (map code_of_row rows) < 1100 = (let e = ap length codes_are in let f = c.requires.few in omega arith) in
-    held rows c.push_reserved.new.self.items (record { figures = c.args.figures; home = c.args.home }) reserved grown _ place c.at.result d trie r.grows
+    held rows c.push_reserved.new.self.items (record { figures = c.args.figures; home = c.args.home }) reserved grown _ place c.of.result d trie r.grows
     (c.push_reserved.ensures.items ∙ ap (λ l. l ++ record { figures = c.args.figures; home = c.args.home } ∷ []) c.reserve.ensures.items)
-    (λ i. slice_set grown place (record { code = Some c.at.result; next = d.next })) (slice_get_read grown (length grown) place d (λ i. length grown) low c.index_mut-node.ensures.value) way c.requires.form
+    (λ i. slice_set grown place (record { code = Some c.of.result; next = d.next })) (slice_get_read grown (length grown) place d (λ i. length grown) low c.index_mut-node.ensures.value) way c.requires.form
     (λ i e at. c.requires.unused i e (ap (λ l. slice_get l i) (sym codes_are) ∙ at))
-    (c.at.ensures ∙ (let z : c.len.result ≡ length (map code_of_row rows) = (let e = c.len.ensures in simp length-map (omega arith)) in z)) few (omega (arith, r.len))
+    (c.of.ensures ∙ (let z : c.len.result ≡ length (map code_of_row rows) = (let e = c.len.ensures in simp length-map (omega arith)) in z)) few (omega (arith, r.len))
 
-pub overflow_cast-len : goal.overflow_cast-len
-overflow_cast-len g c =
+pub of-requires : goal.of-requires
+of-requires g c =
     let rows = c.self.inside.codes.items in
     let codes_are : map code_of_row rows ≡ c.args.self.now = c.self.view_is in
     let k = c.reserve.new.self.ok.0 in

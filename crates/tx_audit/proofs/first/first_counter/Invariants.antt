@@ -1,0 +1,10 @@
+use Rattle.std.proofs.Common.{◌≡◌, drop}
+use Rattle.std.specs.List.{list_any}
+use Rattle.tx_audit.specs.Counter.{has_counter, first_counter_of}
+use Rattle.tx_audit.proofs.first.first_counter.Given as goal
+
+abbrev pub invariant-loop-finding : goal.invariant-loop-finding
+invariant-loop-finding g l = record {
+  events : first_counter_of l.plan l.findings ≡ first_counter_of l.plan (drop l.finding-index l.findings);
+  which : list_any (has_counter l.plan) l.findings ≡ list_any (has_counter l.plan) (drop l.finding-index l.findings);
+}

@@ -1,0 +1,13 @@
+-- A line of another number of words ranks nothing.
+use Rattle.std.proofs.Common.{◌≡◌, ◌≢◌, ℕ, List, [], ◌∷◌, Err, length, refl}
+use Rattle.tx_plan.specs.Plan.{Plan}
+use Rattle.tx_cert.specs.declared.fault.CertWord.TheVariants.{WrongCount}
+use Rattle.tx_cert.specs.Certificate.{Certificate}
+use Rattle.tx_cert.specs.CertText.{rank_line}
+
+pub rank_count : (p : Plan) (t : Certificate) (ws : List (List ℕ)) → length ws ≢ 3 → rank_line p t ws ≡ Err WrongCount
+rank_count p t [] other = refl
+rank_count p t (a ∷ []) other = refl
+rank_count p t (a ∷ b ∷ []) other = refl
+rank_count p t (a ∷ b ∷ c ∷ []) other = absurd (other refl)
+rank_count p t (a ∷ b ∷ c ∷ d ∷ ws) other = refl

@@ -1,5 +1,0 @@
-use Rattle.std.proofs.Common.{rules}
-use Rattle.tx_circuits.proofs.state.State.in_release.Goals as goal
-
-pub returns : goal.returns
-returns c = search rules

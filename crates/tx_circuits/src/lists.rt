@@ -1,0 +1,307 @@
+// The free lists of a group: its ends, the ways through a list, the links of a circuit, and the
+// heads.
+ghost use Rattle.std.specs.Prelude.{◌≡◌, ◌<◌, None, ◌≢◌, ◌≤◌, ℕ, Option, Some, true, false, map, length, IfSome};
+ghost use Rattle.tx_circuits.specs.declared.lists.End.{End as EndValue};
+ghost use Rattle.tx_circuits.specs.declared.lists.Way.{Way as WayValue};
+ghost use Rattle.tx_circuits.specs.inner.Slots.{ahead, back, begins, list_of, rank_of, free_at, link_at, chain, is_free, state_of, opposite, IsListed, AreNeighbours};
+ghost use Rattle.tx_circuits.specs.inner.Linked.{IsLast, with};
+
+use crate::slot::{Slot, State};
+
+/// An end of a group.
+#[derive(Clone, Copy)]
+pub enum End {
+    /// The exchange that the plan names first.
+    First,
+    /// The other exchange.
+    Other,
+}
+
+/// A way through a free list: to greater numbers, or to smaller ones.
+#[derive(Clone, Copy)]
+pub enum Way {
+    Up,
+    Down,
+}
+
+impl Way {
+    /// Where a place comes in this way.
+    pub fn rank(self, place: usize) -> usize
+        requires { place < 256 }
+        ensures { result ≡ rank_of self place }
+    {
+        match self {
+            Way::Up => place,
+            Way::Down => 255 - place,
+        }
+    }
+}
+
+/// The circuits beside one in a free list, by their places in the group.
+#[derive(Clone, Copy, Debug)]
+pub struct Links {
+    pub above: Option<u8>,
+    pub below: Option<u8>,
+}
+
+impl Links {
+    /// The neighbour in a way.
+    pub fn ahead(self, way: Way) -> Option<u8>
+        ensures { result ≡ ahead way self }
+    {
+        match way {
+            Way::Up => self.above,
+            Way::Down => self.below,
+        }
+    }
+
+    /// The links with another neighbour in a way.
+    pub fn with(self, way: Way, to: Option<u8>) -> Links
+        ensures here { ahead way result ≡ to }
+        ensures turned { ahead (back way) result ≡ ahead (back way) self }
+    {
+        match way {
+            Way::Up => Links { above: to, ..self },
+            Way::Down => Links { below: to, ..self },
+        }
+    }
+}
+
+/// The first and the last place of the circuits that are free at an end.
+#[derive(Clone, Copy, Debug)]
+pub struct FreeList {
+    pub least: Option<u8>,
+    pub greatest: Option<u8>,
+}
+
+impl FreeList {
+    /// Where the list begins in a way.
+    pub fn begins(&self, way: Way) -> Option<u8>
+        ensures { result ≡ begins way self.now }
+    {
+        match way {
+            Way::Up => self.least,
+            Way::Down => self.greatest,
+        }
+    }
+}
+
+/// The free lists of a group, one for each end.
+#[derive(Clone, Copy, Debug)]
+pub struct FreeLists {
+    pub first: FreeList,
+    pub other: FreeList,
+}
+
+impl FreeLists {
+    /// Two empty lists.
+    pub fn new() -> FreeLists
+        ensures { (end : EndValue) (way : WayValue) → begins way (list_of end result) ≡ None }
+    {
+        let empty = FreeList {
+            least: None,
+            greatest: None,
+        };
+        FreeLists {
+            first: empty,
+            other: empty,
+        }
+    }
+}
+
+// The links of a circuit in the list of an end.
+fn links_at(slots: &[Slot], end: End, place: usize) -> Links
+    requires { place < length slots.now }
+    ensures { (way : WayValue) → ahead way result ≡ link_at end way slots.now place }
+{
+    slots[place].links(end)
+}
+
+// What follows a place in the list of an end, or begins the list.
+fn follow(slots: &[Slot], list: &FreeList, end: End, way: Way, from: Option<u8>) -> Option<u8>
+    requires { IfSome from (λ k. k < length slots.now) }
+    ensures { result ≡ chain end way slots.now list.now from }
+{
+    match from {
+        None => list.begins(way),
+        Some(place) => {
+            let links = links_at(slots, end, place as usize);
+            links.ahead(way)
+        }
+    }
+}
+
+fn set_link(slots: &mut [Slot], end: End, way: Way, place: usize, to: Option<u8>)
+    requires { place < length slots.old }
+    ensures here { link_at end way slots.new place ≡ to }
+    ensures apart { (k : ℕ) → k ≢ place
+        → link_at end way slots.new k ≡ link_at end way slots.old k }
+    ensures turned { (k : ℕ) → link_at end (back way) slots.new k
+        ≡ link_at end (back way) slots.old k }
+    ensures other { (w : WayValue) (k : ℕ)
+        → link_at (opposite end) w slots.new k ≡ link_at (opposite end) w slots.old k }
+    ensures states { map state_of slots.new ≡ map state_of slots.old }
+{
+    slots[place] = slots[place].with_link(end, way, to);
+}
+
+// After `from`, or at the list's begin, now comes `to`.
+fn lead(
+    slots: &mut [Slot],
+    list: &mut FreeList,
+    end: End,
+    way: Way,
+    from: Option<u8>,
+    to: Option<u8>,
+)
+    requires { IfSome from (λ k. k < length slots.old) }
+    ensures here { chain end way slots.new list.new from ≡ to }
+    ensures apart { (q : Option ℕ) → q ≢ from
+        → chain end way slots.new list.new q ≡ chain end way slots.old list.old q }
+    ensures turned { (q : Option ℕ)
+        → chain end (back way) slots.new list.new q ≡ chain end (back way) slots.old list.old q }
+    ensures other { (w : WayValue) (k : ℕ)
+        → link_at (opposite end) w slots.new k ≡ link_at (opposite end) w slots.old k }
+    ensures states { map state_of slots.new ≡ map state_of slots.old }
+{
+    match (from, way) {
+        (Some(place), _) => set_link(slots, end, way, place as usize, to),
+        (None, Way::Up) => list.least = to,
+        (None, Way::Down) => list.greatest = to,
+    }
+}
+
+// The last free circuit that comes before the place in a way.
+fn last_before(slots: &[Slot], list: &FreeList, end: End, way: Way, place: usize) -> Option<u8>
+    requires short { length slots.now ≤ 240 }
+    requires listed { IsListed (free_at end slots.now) end slots.now list.now }
+    requires place { place < length slots.now }
+    ensures { IsLast (free_at end slots.now) (rank_of way) (rank_of way place) result }
+{
+    let limit = way.rank(place);
+    let mut last = None;
+    let mut rest = list.begins(way);
+    while let Some(p) = rest {
+        if way.rank(p as usize) >= limit {
+            break;
+        }
+        last = Some(p);
+        rest = links_at(slots, end, p as usize).ahead(way);
+    }
+    last
+}
+
+// The neighbours that a circuit would have in the list of an end: looked for from the end of the
+// list that is nearer.
+fn neighbours(slots: &[Slot], list: &FreeList, end: End, place: usize) -> Links
+    requires short { length slots.now ≤ 240 }
+    requires listed { IsListed (free_at end slots.now) end slots.now list.now }
+    requires place { place < length slots.now }
+    requires taken { free_at end slots.now place ≡ false }
+    ensures { AreNeighbours (free_at end slots.now) place result }
+{
+    if place < slots.len() / 2 {
+        let below = last_before(slots, list, end, Way::Up, place);
+        Links {
+            above: follow(slots, list, end, Way::Up, below),
+            below,
+        }
+    } else {
+        let above = last_before(slots, list, end, Way::Down, place);
+        Links {
+            above,
+            below: follow(slots, list, end, Way::Down, above),
+        }
+    }
+}
+
+// The circuit has other links in the list of an end.
+fn set_links(slots: &mut [Slot], end: End, place: usize, links: Links)
+    requires { place < length slots.old }
+    ensures here { (way : WayValue) → link_at end way slots.new place ≡ ahead way links }
+    ensures apart { (way : WayValue) (k : ℕ) → k ≢ place
+        → link_at end way slots.new k ≡ link_at end way slots.old k }
+    ensures other { (way : WayValue) (k : ℕ)
+        → link_at (opposite end) way slots.new k ≡ link_at (opposite end) way slots.old k }
+    ensures states { map state_of slots.new ≡ map state_of slots.old }
+{
+    slots[place] = slots[place].with_links(end, links);
+}
+
+/// The circuit is now between two neighbours; all other links are as before.
+pub fn insert(slots: &mut [Slot], list: &mut FreeList, end: End, place: usize, links: Links)
+    requires short { length slots.old ≤ 240 }
+    requires place { place < length slots.old }
+    requires above { IfSome links.above (λ k. k < length slots.old) }
+    requires below { IfSome links.below (λ k. k < length slots.old) }
+    requires apart { (way : WayValue) → Some place ≢ ahead way links }
+    ensures placed { (way : WayValue)
+        → chain end way slots.new list.new (Some place) ≡ ahead way links }
+    ensures joined { (way : WayValue)
+        → chain end way slots.new list.new (ahead (back way) links) ≡ Some place }
+    ensures rest { (way : WayValue) (q : Option ℕ) → q ≢ Some place → q ≢ ahead (back way) links
+        → chain end way slots.new list.new q ≡ chain end way slots.old list.old q }
+    ensures other { (way : WayValue) (k : ℕ)
+        → link_at (opposite end) way slots.new k ≡ link_at (opposite end) way slots.old k }
+    ensures states { map state_of slots.new ≡ map state_of slots.old }
+{
+    let Links { above, below } = links;
+    let here = Some(place as u8);
+    set_links(slots, end, place, links);
+    lead(slots, list, end, Way::Up, below, here);
+    lead(slots, list, end, Way::Down, above, here);
+}
+
+// Puts a circuit on the list of an end. Walks the list.
+fn put(slots: &mut [Slot], list: &mut FreeList, end: End, place: usize)
+    requires short { length slots.old ≤ 240 }
+    requires listed { IsListed (free_at end slots.old) end slots.old list.old }
+    requires place { place < length slots.old }
+    requires taken { free_at end slots.old place ≡ false }
+    ensures listed { IsListed (with (free_at end slots.old) place true) end slots.new list.new }
+    ensures other { (way : WayValue) (k : ℕ)
+        → link_at (opposite end) way slots.new k ≡ link_at (opposite end) way slots.old k }
+    ensures states { map state_of slots.new ≡ map state_of slots.old }
+{
+    let links = neighbours(slots, list, end, place);
+    insert(slots, list, end, place, links);
+}
+
+// Takes a circuit off the list of an end.
+fn take(slots: &mut [Slot], list: &mut FreeList, end: End, place: usize)
+    requires short { length slots.old ≤ 240 }
+    requires listed { IsListed (free_at end slots.old) end slots.old list.old }
+    requires place { place < length slots.old }
+    requires free { free_at end slots.old place ≡ true }
+    ensures listed { IsListed (with (free_at end slots.old) place false) end slots.new list.new }
+    ensures other { (way : WayValue) (k : ℕ)
+        → link_at (opposite end) way slots.new k ≡ link_at (opposite end) way slots.old k }
+    ensures states { map state_of slots.new ≡ map state_of slots.old }
+{
+    let links = links_at(slots, end, place);
+    lead(slots, list, end, Way::Up, links.below, links.above);
+    lead(slots, list, end, Way::Down, links.above, links.below);
+}
+
+/// Puts a circuit on the list of an end, takes it off, or leaves the list, as its new state asks.
+pub fn relink(slots: &mut [Slot], list: &mut FreeList, end: End, place: usize, to: State)
+    requires short { length slots.old ≤ 240 }
+    requires listed { IsListed (free_at end slots.old) end slots.old list.old }
+    requires place { place < length slots.old }
+    ensures listed { IsListed (with (free_at end slots.old) place (is_free end to))
+        end slots.new list.new }
+    ensures other { (way : WayValue) (k : ℕ)
+        → link_at (opposite end) way slots.new k ≡ link_at (opposite end) way slots.old k }
+    ensures states { map state_of slots.new ≡ map state_of slots.old }
+{
+    let was = slots[place].state.is_free(end);
+    let will = to.is_free(end);
+    if was == will {
+        return;
+    }
+    if will {
+        put(slots, list, end, place);
+    } else {
+        take(slots, list, end, place);
+    }
+}

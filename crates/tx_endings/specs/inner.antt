@@ -1,4 +1,0 @@
-pub mod GivenBack
-pub mod InTurn
-pub mod Seen
-pub mod Users

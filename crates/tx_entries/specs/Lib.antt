@@ -1,4 +1,0 @@
-pub mod Entries
-pub mod Numbers
-pub mod Orders
-pub mod inner

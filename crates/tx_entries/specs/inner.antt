@@ -1,3 +1,0 @@
-pub mod Distinct
-pub mod Hashing
-pub mod Tables

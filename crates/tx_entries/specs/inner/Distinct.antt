@@ -1,8 +1,0 @@
--- Lists of places in which none stands twice.
-use Rattle.std.specs.Prelude.{ℕ, Bool, true, not, ◌&&◌, ◌==◌, List, [], ◌∷◌}
-use Rattle.std.specs.List.{list_any}
-
--- no place stands there twice
-abbrev pub differ : List ℕ → Bool
-differ [] = true
-differ (x ∷ xs) = not (list_any (λ y. y == x) xs) && differ xs

@@ -1,0 +1,72 @@
+-- What an event that is not refused may count on.
+use Rattle.std.proofs.Common.{◌≡◌, ℕ, ◌-◌, ◌^◌, ◌<◌, Bool, true, false, not, List, [], ◌∷◌, ◌++◌, Some, None, Option, refl, sym, subst, length, arith}
+use Rattle.std.specs.Prelude.{is_some, is_none, slice_get, nat_le}
+use Rattle.std.proofs.lemmas.Bool.{false≢true, not-false}
+use Rattle.std.proofs.lemmas.Bool.Decides.{nat_tests}
+use Rattle.std.proofs.lemmas.Option.{slice_get_within}
+use Rattle.tx_plan.specs.Plan.{Plan, Group}
+use Rattle.tx_plan.specs.Lines.{is_line}
+use Rattle.tx_plan.specs.Declaring.{first_true}
+use Rattle.tx_plan.specs.declared.ids.Line.{Line}
+use Rattle.tx_machine.specs.declared.event.Event.{Event}
+use Rattle.tx_machine.specs.declared.event.Event.TheVariants.{Key, Route, Confirm, Clear, Fail}
+use Rattle.tx_machine.specs.declared.open_call.Party.{Party}
+use Rattle.tx_machine.specs.declared.open_call.Party.TheVariants.{Caller, Called}
+use Rattle.tx_machine.specs.declared.open_call.Phase.TheVariants.{Standing}
+use Rattle.tx_machine.specs.declared.refusal.Refusal.{Refusal}
+use Rattle.tx_machine.specs.declared.refusal.Refusal.TheVariants.{Exhausted}
+use Rattle.tx_machine.specs.Call.{Call, call_of, is_standing, is_calling}
+use Rattle.tx_machine.specs.Lines.{is_engaged}
+use Rattle.tx_machine.specs.State.{State}
+use Rattle.tx_machine.specs.Refusals.{refusals, refusal, is_group, is_other}
+use Rattle.tx_machine.proofs.Steps.{tests_false, stands}
+
+-- a group that is not foreign
+pub group_within : (p : Plan) (g : ℕ) → not (is_group p g) ≡ false → g < length p.groups
+group_within p g h = at (slice_get p.groups g) refl h
+  where
+    at : (o : Option Group) → slice_get p.groups g ≡ o → not (is_some o) ≡ false → g < length p.groups
+    at None e h = absurd (false≢true (sym h))
+    at (Some r) e h = slice_get_within p.groups g r e
+
+-- it can be counted
+pub can_count : (p : Plan) (s : State) (e : Event) → refusal p s e ≡ None → s.events < 2 ^ 64 - 1
+can_count p s e h = let t = last (refusals p s e) (nat_le (2 ^ 64 - 1) s.events) h in grind (arith, nat_tests)
+  where
+    last : (ts : List (Bool × Refusal)) (b : Bool) → first_true (ts ++ (b, Exhausted) ∷ []) ≡ None → b ≡ false
+    last [] true h = let bad : ⊥ = cc in absurd bad
+    last [] false h = refl
+    last ((true, r) ∷ ts) b h = let bad : ⊥ = cc in absurd bad
+    last ((false, r) ∷ ts) b h = last ts b h
+
+-- the call of a Key can have a number
+pub can_key : (p : Plan) (s : State) (line : Line) (keyed : List ℕ) → refusal p s (Key line keyed) ≡ None → s.numbers < 2 ^ 32 - 1
+can_key p s line keyed h = let t = (tests_false (refusals p s (Key line keyed) ++ (nat_le (2 ^ 64 - 1) s.events, Exhausted) ∷ []) h).1.1.1.0 in grind (arith, nat_tests)
+
+-- its line is one of the plan's, and takes part in no call
+pub key_line : (p : Plan) (s : State) (line : Line) (keyed : List ℕ) → refusal p s (Key line keyed) ≡ None → (is_line p line ≡ true) × (is_engaged s line ≡ false)
+key_line p s line keyed h = let t = tests_false (refusals p s (Key line keyed) ++ (nat_le (2 ^ 64 - 1) s.events, Exhausted) ∷ []) h in (not-false (is_line p line) t.0, t.1.0)
+
+-- the call of a Route, of a Confirm or of a Clear is open
+is_open : (o : Option Call) → is_none o ≡ false → is_some o ≡ true
+is_open None h = absurd (false≢true (sym h))
+is_open (Some c) h = refl
+
+module _ (p : Plan) (s : State) (n : ℕ) where
+  pub can_route : refusal p s (Route n) ≡ None → is_some (call_of n s.calls) ≡ true
+  can_route h = is_open (call_of n s.calls) (tests_false (refusals p s (Route n) ++ (nat_le (2 ^ 64 - 1) s.events, Exhausted) ∷ []) h).0
+
+  -- and stands
+  pub route_stands : refusal p s (Route n) ≡ None → (c : Call) → call_of n s.calls ≡ Some c → c.phase ≡ Standing
+  route_stands h c e = stands c.phase (subst (λ o. is_other is_standing o ≡ false) e (tests_false (refusals p s (Route n) ++ (nat_le (2 ^ 64 - 1) s.events, Exhausted) ∷ []) h).1.0)
+
+  pub can_confirm : refusal p s (Confirm n) ≡ None → (is_some (call_of n s.calls) ≡ true) × (is_other is_calling (call_of n s.calls) ≡ false)
+  can_confirm h = let t = tests_false (refusals p s (Confirm n) ++ (nat_le (2 ^ 64 - 1) s.events, Exhausted) ∷ []) h in (is_open (call_of n s.calls) t.0, t.1.0)
+
+  pub can_clear : (party : Party) → refusal p s (Clear n party) ≡ None → is_some (call_of n s.calls) ≡ true
+  can_clear Caller h = is_open (call_of n s.calls) (tests_false (refusals p s (Clear n Caller) ++ (nat_le (2 ^ 64 - 1) s.events, Exhausted) ∷ []) h).0
+  can_clear Called h = is_open (call_of n s.calls) (tests_false (refusals p s (Clear n Called) ++ (nat_le (2 ^ 64 - 1) s.events, Exhausted) ∷ []) h).0
+
+-- the group of a Fail is one of the plan's
+pub can_fail : (p : Plan) (s : State) (g : ℕ) → refusal p s (Fail g) ≡ None → g < length p.groups
+can_fail p s g h = group_within p g (tests_false (refusals p s (Fail g) ++ (nat_le (2 ^ 64 - 1) s.events, Exhausted) ∷ []) h).1.0

@@ -1,4 +1,0 @@
-use Rattle.tx_mend_report.proofs.unserved.write_both.Goals as goal
-
-pub returns : goal.returns
-returns g c = rw (c.code_figures-shorter.ensures, c.code_figures-longer.ensures) at c.write_text.ensures

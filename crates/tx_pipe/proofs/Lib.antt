@@ -1,5 +1,0 @@
-mod EndLines
-mod Cutting
-mod Taking
-pub mod PartCalls
-pub mod PlanCalls

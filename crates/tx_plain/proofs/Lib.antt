@@ -1,0 +1,13 @@
+pub mod Holding
+pub mod Whole
+pub mod Choosing
+pub mod Routed
+pub mod Marking
+pub mod Bits
+pub mod Views
+pub mod Sweeps
+pub mod Sweeping
+pub mod Giving
+pub mod Taking
+pub mod LineSets
+pub mod Finding

@@ -1,0 +1,6 @@
+pub mod Decided
+pub mod Whole
+pub mod GivenUp
+pub mod Marks
+pub mod Marked
+pub mod Seen

@@ -1,0 +1,65 @@
+// Keyed figures: the code that they begin with, and what follows it.
+ghost use Rattle.std.specs.Prelude.{◌≡◌, ◌&&◌, ◌||◌, nat_lt, length, unwrap_or, []};
+ghost use Rattle.std.specs.Option.{option_map};
+ghost use Rattle.tx_plan.specs.Codes.{code_of, after, is_prefix};
+
+use std::alloc::Allocator;
+use tx_plan::{CodeId, Plan};
+
+/// What is left of the text after the front, if it begins with it.
+fn after<'t>(front: &[u8], text: &'t [u8]) -> Option<&'t [u8]>
+    ensures { option_map (λ rest. rest.now) result ≡ after front.now text.now }
+{
+    text.strip_prefix(front)
+}
+
+/// What is left of the text after the front; nothing where the text does not begin with it.
+pub(crate) fn rest_after<'t>(front: &[u8], text: &'t [u8]) -> &'t [u8]
+    ensures { result.now ≡ unwrap_or (after front.now text.now) [] }
+{
+    match after(front, text) {
+        Some(rest) => rest,
+        None => &text[..0],
+    }
+}
+
+/// Whether the text begins the figures and is longer than the best so far.
+fn is_longer(text: &[u8], keyed: &[u8], first: bool, width: usize) -> bool
+    ensures { result ≡ (is_prefix text.now keyed.now && (first || nat_lt width (length text.now))) }
+{
+    if !begins(text, keyed) {
+        return false;
+    }
+    first || width < text.len()
+}
+
+/// Whether the figures begin with the text.
+fn begins(text: &[u8], keyed: &[u8]) -> bool
+    ensures { result ≡ is_prefix text.now keyed.now }
+{
+    match after(text, keyed) {
+        Some(_) => true,
+        None => false,
+    }
+}
+
+/// The longest destination code that begins the figures (ITU-T F.69). It looks at each code;
+/// `tx_trie` answers the same by the figures.
+pub(crate) fn code_of<A: Allocator>(plan: &Plan<A>, keyed: &[u8]) -> Option<CodeId>
+    ensures { result ≡ code_of plan.now keyed.now }
+{
+    let mut best: Option<CodeId> = None;
+    let mut width = 0;
+    let mut place = plan.codes();
+    while place > 0 {
+        place -= 1;
+        let code = CodeId::of(place);
+        let text = plan.code_figures(code);
+        let first = best.is_none();
+        if is_longer(text, keyed, first, width) {
+            best = Some(code);
+            width = text.len();
+        }
+    }
+    best
+}

@@ -1,0 +1,216 @@
+// The routes of a plan, the lists of groups that they name, and what is barred.
+ghost use Rattle.std.specs.Prelude.{◌≡◌, ◌++◌, ◌∷◌, ◌&&◌, ◌==◌, [], false, find, OnOk, OnErr, length, slice_get, if◌then◌else◌, nat_lt, ◌≤◌};
+ghost use Rattle.std.specs.List.{list_any};
+ghost use Rattle.std.specs.Option.{option_map, option_map_or};
+ghost use Rattle.tx_plan.specs.inner.Distinct.{differ};
+
+use crate::ids::{ByWord, GroupId, Pair};
+use indexmap::{IndexMap, IndexSet};
+use std::alloc::{Allocator, Global};
+use std::marker::Model;
+use tx_text::NoMemory;
+
+/// At most 16 groups, in order.
+#[derive(Debug, Drop)]
+pub struct GroupList {
+    groups: [GroupId; 16],
+    len: u8,
+}
+
+impl Model for GroupList {
+    ghost use Rattle.std.specs.Prelude.{ℕ, List, ◌≤◌, take};
+
+    ghost Value = { List ℕ };
+
+    ghost view = { λ s. take s.len s.groups };
+
+    ghost invariant = { λ s. s.len ≤ 16 };
+}
+
+impl GroupList {
+    /// No groups.
+    pub fn new() -> GroupList
+        ensures { result ≡ [] }
+    {
+        GroupList {
+            groups: [GroupId::of(0); 16],
+            len: 0,
+        }
+    }
+
+    /// Appends a group, unless there are 16.
+    pub fn push(&mut self, group: GroupId) -> bool
+        ensures pushed { result ≡ nat_lt (length self.old) 16 }
+        ensures list { self.new
+            ≡ (if nat_lt (length self.old) 16 then self.old ++ group ∷ [] else self.old) }
+    {
+        if self.len >= 16 {
+            return false;
+        }
+        self.groups[usize::from(self.len)] = group;
+        self.len += 1;
+        true
+    }
+
+    /// Whether no group is there twice.
+    pub fn none_twice(&self) -> bool
+        ensures { result ≡ differ self.now }
+    {
+        none_twice(self.groups())
+    }
+
+    /// The groups.
+    pub fn groups(&self) -> &[GroupId]
+        ensures value { result.now ≡ self.now }
+        ensures few { length result.now ≤ 16 }
+    {
+        &self.groups[..usize::from(self.len)]
+    }
+}
+
+/// Whether no group is there twice.
+fn none_twice(groups: &[GroupId]) -> bool
+    ensures { result ≡ differ groups.now }
+{
+    match groups {
+        [] => true,
+        [group, rest @ ..] => !rest.contains(group) && none_twice(rest),
+    }
+}
+
+/// Pairs of an exchange and a code, and the groups that the exchange tries for the code.
+#[derive(Debug, Drop)]
+pub struct Routes<A: Allocator = Global> {
+    rows: IndexMap<Pair, GroupList, ByWord, A>,
+}
+
+impl<A: Allocator> Model for Routes<A> {
+    ghost use Rattle.std.specs.Prelude.{List, map};
+    ghost use Rattle.tx_plan.specs.Plan.{Route};
+    ghost use Rattle.tx_plan.specs.inner.Tables.{route_of_row};
+
+    ghost Value = { List Route };
+
+    ghost view = { λ t. map route_of_row t.rows.entries };
+}
+
+impl<A: Allocator + Copy> Routes<A> {
+    /// None. Takes no memory.
+    pub fn new(alloc: A) -> Self
+        ensures { result ≡ [] }
+    {
+        Routes {
+            rows: IndexMap::with_hasher(alloc, ByWord),
+        }
+    }
+}
+
+impl<A: Allocator> Routes<A> {
+    /// How many routes.
+    pub fn len(&self) -> usize
+        ensures { result ≡ length self.now }
+    {
+        self.rows.len()
+    }
+
+    /// Whether there is a route for the pair.
+    pub fn has(&self, pair: &Pair) -> bool
+        ensures { result ≡ list_any
+            (λ r. (r.exchange == pair.now.exchange) && (r.code == pair.now.code)) self.now }
+    {
+        self.rows.contains_key(pair)
+    }
+
+    /// The groups of the pair's route.
+    pub fn list(&self, pair: &Pair) -> &[GroupId]
+        ensures { result.now ≡ option_map_or (λ r. r.groups) (find
+            (λ r. (r.exchange == pair.now.exchange) && (r.code == pair.now.code)) self.now) [] }
+    {
+        match self.rows.get(pair) {
+            Some(groups) => groups.groups(),
+            None => &[],
+        }
+    }
+
+    /// The pair of the route at a place.
+    pub fn pair_at(&self, place: usize) -> Option<Pair>
+        ensures { result ≡ option_map (λ r. record { exchange = r.exchange; code = r.code })
+            (slice_get self.now place) }
+    {
+        let (pair, _) = self.rows.get_index(place)?;
+        Some(*pair)
+    }
+
+    /// Appends a route.
+    pub fn add(&mut self, pair: Pair, groups: GroupList) -> Result<(), NoMemory>
+        requires { list_any (λ r. (r.exchange == pair.exchange) && (r.code == pair.code)) self.old
+            ≡ false }
+        ensures ok { OnOk result (self.new ≡ self.old
+            ++ record { exchange = pair.exchange; code = pair.code; groups = groups } ∷ []) }
+        ensures err { OnErr result (self.new ≡ self.old) }
+    {
+        self.rows.insert(pair, groups)?;
+        Ok(())
+    }
+}
+
+/// Pairs of an exchange and a code: calls that start there for that code are not admitted.
+#[derive(Debug, Drop)]
+pub struct Bars<A: Allocator = Global> {
+    pairs: IndexSet<Pair, ByWord, A>,
+}
+
+impl<A: Allocator> Model for Bars<A> {
+    ghost use Rattle.std.specs.Prelude.{List};
+    ghost use Rattle.tx_plan.specs.declared.ids.Pair.{Pair};
+
+    ghost Value = { List Pair };
+
+    ghost view = { λ t. t.pairs.keys };
+}
+
+impl<A: Allocator + Copy> Bars<A> {
+    /// None. Takes no memory.
+    pub fn new(alloc: A) -> Self
+        ensures { result ≡ [] }
+    {
+        Bars {
+            pairs: IndexSet::with_hasher(alloc, ByWord),
+        }
+    }
+}
+
+impl<A: Allocator> Bars<A> {
+    /// How many bars.
+    pub fn len(&self) -> usize
+        ensures { result ≡ length self.now }
+    {
+        self.pairs.len()
+    }
+
+    /// Whether the pair is barred.
+    pub fn has(&self, pair: &Pair) -> bool
+        ensures { result ≡ list_any
+            (λ b. (b.exchange == pair.now.exchange) && (b.code == pair.now.code)) self.now }
+    {
+        self.pairs.contains(pair)
+    }
+
+    /// The pair at a place.
+    pub fn at(&self, place: usize) -> Option<Pair>
+        ensures { result ≡ slice_get self.now place }
+    {
+        self.pairs.get_index(place).copied()
+    }
+
+    /// Appends a bar.
+    pub fn add(&mut self, pair: Pair) -> Result<(), NoMemory>
+        requires { list_any (λ b. (b.exchange == pair.exchange) && (b.code == pair.code)) self.old
+            ≡ false }
+        ensures ok { OnOk result (self.new ≡ self.old ++ pair ∷ []) }
+        ensures err { OnErr result (self.new ≡ self.old) }
+    {
+        self.pairs.insert(pair)?;
+        Ok(())
+    }
+}

@@ -1,5 +1,0 @@
-use Rattle.tx_state.proofs.Sound.{suffice_in}
-use Rattle.tx_state.proofs.headline.spare_groups_suffice.Goals as goal
-
-pub returns : goal.returns
-returns c = λ p ranks limit spare ok cert. suffice_in p ok ranks limit spare cert

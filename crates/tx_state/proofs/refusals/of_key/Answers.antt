@@ -1,5 +1,0 @@
-use Rattle.std.proofs.Common.{rules}
-use Rattle.tx_state.proofs.refusals.of_key.Goals as goal
-
-pub returns-then-is_faulty : goal.returns-then-is_faulty
-returns-then-is_faulty g c = search rules

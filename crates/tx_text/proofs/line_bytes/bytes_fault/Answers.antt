@@ -1,7 +1,0 @@
-use Rattle.std.proofs.Common.{rules}
-use Rattle.tx_text.specs.Text.{bytes_fault}
-use Rattle.tx_text.proofs.line_bytes.bytes_fault.Goals as goal
-
-pub returns-then-line-gt512 : goal.returns-then-line-gt512
-unfolding bytes_fault
-returns-then-line-gt512 c = search rules

@@ -1,8 +1,0 @@
-use Rattle.std.proofs.Common.{take, Ok}
-use Rattle.std.specs.List.{flat_map}
-use Rattle.tx_text.specs.Wrote.{Wrote}
-use Rattle.tx_trace.specs.TraceText.{step_text}
-use Rattle.tx_trace.proofs.trace_text.write_steps.Given as goal
-
-abbrev pub invariant-loop-i : goal.invariant-loop-i
-invariant-loop-i g l = Wrote (g.W.Sink.taken l.initial.sink) (g.W.Sink.taken l.sink) (g.W.Sink.failed l.initial.sink) (g.W.Sink.failed l.sink) (flat_map (step_text l.plan) (take l.i l.way)) (Ok tt)
