@@ -9,7 +9,7 @@ use tx_text::{FaultAt, FaultKind, NoMemory};
 /// What is wrong with the words of a line. Of several the first in this order is reported.
 #[derive(Clone, Copy, Debug, PartialEq, Eq, Error)]
 pub enum CertWord {
-    /// C1: the first word is none of a certificate's.
+    /// C1: the first word is not one of a certificate's.
     #[error("the first word of the line is not RANK")]
     UnknownWord,
     /// C2: too few or too many words.

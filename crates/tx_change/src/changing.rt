@@ -118,8 +118,8 @@ pub fn change<A: Allocator + Copy>(
     requires limit { limit ≤ 62 }
     requires spare { spare ≤ 15 }
 
-    // Ranks are found exactly where each mixture is certified by some ranks, be it by others for
-    // each.
+    // Ranks are found exactly if each mixture is certified by some ranks, which may differ from
+    // mixture to mixture.
     ensures exactly { IfOk result (λ r. IsFound r
         ↔ EachMixture old.now new.now (λ m. CanBeCertified m limit spare)) }
     ensures found { IfOk result (λ r. IsFound r

@@ -1,6 +1,6 @@
 //! The change of a plan into another one of the same network, list by list: ranks that certify
-//! every plan that may be in force meanwhile, or what is wrong with one of them, the report of it,
-//! and the mixture that shows it.
+//! every plan that may be in force during the change, or what is wrong with one of them, the report
+//! of it, and the mixture that shows it.
 #![tactic(auto)]
 
 mod change_report;

@@ -11,7 +11,7 @@ pub enum CheckFault {
     #[error("one code begins another")]
     Ambiguous(CodeId, CodeId),
     /// K2: the home's rank is not 0.
-    #[error("the home of the code has not the rank 0")]
+    #[error("the home of the code does not have rank 0")]
     HomeNotZero(CodeId),
     /// K3: an exchange where calls for the code may start has no rank.
     #[error("calls for the code may start at the exchange, and it has no rank")]

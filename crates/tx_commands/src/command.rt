@@ -27,7 +27,7 @@ pub enum Command {
         limit: u8,
         spare: u8,
     },
-    /// `lint PLAN`: what is to be said of its text.
+    /// `lint PLAN`: the faults or warnings of its text.
     Lint {
         plan: String,
     },

@@ -105,7 +105,7 @@ fn lint_grammar<'a>(alloc: Global) -> Result<clap::Command<'a>, AllocError>
     over_plan(
         alloc,
         "lint",
-        "Tell all faults of a plan's text, or else what in it is of no use or likely not meant",
+        "Report all faults of a plan's text, or else what in it is of no use or likely not meant",
         help::LINT,
     )
 }
@@ -188,7 +188,7 @@ fn trace_grammar<'a>(alloc: Global) -> Result<clap::Command<'a>, AllocError>
     let trace = over_plan(
         alloc,
         "trace",
-        "Tell how calls for a code go from an exchange: the way while all is free, and the lists",
+        "Show how calls for a code go from an exchange: the way while all is free, and the lists",
         help::TRACE,
     );
     let trace = with_file(

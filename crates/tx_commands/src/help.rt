@@ -70,12 +70,12 @@ failed read or write, 4 when out of memory, 64 for refused words";
 pub(crate) const TRACE: &str = "Example: telexplan trace own.plan NORTH 24
 
 Exit status: 0 after the trace, 2 for a refused text, 3 for a failed read or write, 4 when out of
-memory, 64 for refused words, and for an exchange or a code that the plan has not";
+memory, 64 for refused words, and for an exchange or a code that is not in the plan";
 
 pub(crate) const DRAW: &str = "Example: telexplan draw own.plan | dot -Tsvg > own.svg
 
 Exit status: 0 after the picture, 2 for a refused text, 3 for a failed read or write, 4 when out
-of memory, 64 for refused words, and for a code that the plan has not";
+of memory, 64 for refused words, and for a code that is not in the plan";
 
 pub(crate) const EXPLAIN: &str = "Example: telexplan explain P11
 

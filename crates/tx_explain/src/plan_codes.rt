@@ -1,4 +1,4 @@
-// Codes of what is to be said of a plan.
+// Codes of the faults and warnings of a plan.
 use crate::code_table::Entry;
 
 /// The codes of warnings (A), of a check (K) and of findings (F).
@@ -18,7 +18,7 @@ pub static PLAN_CODES: [Entry; 18] = [
     [
         "A3",
         "UnusedGroup",
-        "The group stands in no list.",
+        "The group is in no list.",
         "Add it to a list, or drop it.",
     ],
     [

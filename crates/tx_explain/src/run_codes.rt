@@ -85,7 +85,7 @@ pub static RUN_CODES: [Entry; 21] = [
         "NC",
         "NoCircuits",
         "No circuits: each group in the list where the call stood is failed or blocked or has no circuit that is free there, or the list is empty, or it was the second head-on collision there.",
-        "Look at the last exchange of the ticket. In a script a circuit is taken until RELEASED, also after its call. In the plan, add circuits to its groups or groups to its list; telexplan audit tells which lists are short.",
+        "Look at the last exchange of the ticket. In a script a circuit is taken until RELEASED, also after its call. In the plan, add circuits to its groups or groups to its list; telexplan audit reports which lists are short.",
     ],
     [
         "NP",
@@ -127,6 +127,6 @@ pub static RUN_CODES: [Entry; 21] = [
         "LOST",
         "Lost",
         "A group failed, and the call had a circuit of it. As a reply: so many calls were on the group.",
-        "Call again: the call takes another group if one of its list is up. telexplan survive tells whom a group cuts off.",
+        "Call again: the call takes another group if one of its list is up. telexplan survive reports whom a group cuts off.",
     ],
 ];

@@ -27,8 +27,8 @@ pub shown_writable : {A : Type 0} (old new : Plan) (limit spare : ℕ) (findings
     → IfSome m.events (λ events. AreWritable m.plan events.items)
 shown_writable old new limit spare findings o m is h =
     let shows : ShowsFirstWalk old new limit spare findings m.plan
-        (option_map (λ v. v.items) m.events) =
-        subst (MixtureAnswer old new limit spare findings) is h in
+    (option_map (λ v. v.items) m.events) =
+    subst (MixtureAnswer old new limit spare findings) is h in
     if_mapped m.events (λ v. v.items) (AreWritable m.plan) shows.2.writable
 
 module _ {A : Type 0} (mark : Bool) (limit spare : ℕ) where

@@ -31,7 +31,7 @@ pub fn lint_job<A: Allocator + Copy, P: Source, W: Sink>(
     lint_text(alloc, &text, file, out)
 }
 
-/// Looks a text through, and writes what is to be said of it.
+/// Looks a text through, and writes its faults or warnings.
 fn lint_text<A: Allocator + Copy, W: Sink>(
     alloc: A,
     text: &[u8],
@@ -47,7 +47,7 @@ fn lint_text<A: Allocator + Copy, W: Sink>(
     }
 }
 
-/// Writes what is to be said of a text, and answers the exit status.
+/// Writes the faults or warnings of a text, and returns the exit status.
 fn tell_lint<A: Allocator, W: Sink>(
     lint: &Lint<'_, A>,
     file: &[u8],

@@ -1,4 +1,4 @@
--- What is to be said of a text, by what was read of it.
+-- The faults or warnings of a text, by what was read of it.
 use Rattle.std.proofs.Common.{◌≡◌, ◌==◌, ℕ, true, false, List, [], ◌∷◌, map, length, refl, sym, ap, subst, ◌∙◌, arith}
 use Rattle.std.proofs.lemmas.Bool.{false≢true, eqb-true}
 use Rattle.tx_plan.specs.Plan.{Plan}

@@ -1,4 +1,4 @@
--- The lines of all that is to be said of a text.
+-- The lines of the faults or warnings of a text.
 use Rattle.std.specs.Prelude.{ℕ, List, [], ◌++◌, Option, Some, None, codes, decimal}
 use Rattle.tx_text.specs.Rows.{Row}
 use Rattle.tx_plan.specs.Plan.{Plan, figures_of, group_name}

@@ -1,4 +1,4 @@
--- What is to be said of a plan's text: its faults, or where it has none its warnings.
+-- What lint_plan gives of a plan's text: its faults, or if it has none its warnings.
 use Rattle.std.specs.Prelude.{◌≡◌, ℕ, List, [], ◌∷◌, map, Option}
 use Rattle.std.specs.List.{flat_map}
 use Rattle.std.specs.Option.{option_map}
@@ -47,7 +47,7 @@ lint_status (Warnings p ws) = warnings_status ws
 abbrev pub fault_held : FaultHeld → Fault
 fault_held f = record { line = f.line; kind = f.kind; word = option_map (λ w. w.now) f.word }
 
--- what is to be said, as it is held
+-- the faults or warnings, as they are held
 abbrev pub lint_held : {A : Type 0} → LintHeld A → Lint
 lint_held (HeldFaults fs) = Faults (map fault_held fs.items)
 lint_held (HeldWarnings p ws) = Warnings p ws.items

@@ -1,6 +1,6 @@
-//! What is to be said of a plan's text, as an editor shows it: all its faults at once, each with
-//! its line and the word at fault; or where it has none, warnings of what is of no use in the plan
-//! or most likely not meant.
+//! The faults of a plan's text, as an editor shows them: all at once, each with its line and the
+//! word at fault; or, if it has none, warnings of what is useless in the plan or most likely not
+//! meant.
 #![tactic(auto)]
 
 mod at_fault;

@@ -1,4 +1,4 @@
-// The writer of what is to be said of a text.
+// The writer of the faults or warnings of a text.
 ghost use Rattle.std.specs.Prelude.{◌≡◌, ◌++◌, codes, map, option_map};
 ghost use Rattle.std.specs.List.{flat_map};
 ghost use Rattle.tx_text.specs.Wrote.{Wrote};

@@ -1,4 +1,4 @@
-// What is to be said of a plan's text.
+// The faults or warnings of a plan's text.
 ghost use Rattle.std.specs.Prelude.{◌≡◌, IfOk};
 ghost use Rattle.tx_lint.specs.Lints.{IsLintOf, lint_held, lint_status};
 
@@ -9,7 +9,7 @@ use crate::warnings::warnings_of;
 use std::alloc::{Allocator, Global};
 use tx_plan::Plan;
 
-/// What is to be said of a plan's text.
+/// The faults or warnings of a plan's text.
 #[derive(Debug, Drop)]
 pub enum Lint<'t, A: Allocator = Global> {
     /// The text is refused: all its faults, in order of its lines.
@@ -20,7 +20,7 @@ pub enum Lint<'t, A: Allocator = Global> {
 }
 
 impl<'t, A: Allocator> Lint<'t, A> {
-    /// The exit status: 0 where nothing is to be said, 1 after warnings alone, 2 after faults.
+    /// The exit status: 0 without faults and warnings, 1 after warnings alone, 2 after faults.
     pub fn status(&self) -> u8
         ensures { result ≡ lint_status (lint_held self.now) }
     {

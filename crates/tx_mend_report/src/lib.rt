@@ -1,5 +1,5 @@
-//! The report of the mending of a plan: the lists that are other ones than before, once the checker
-//! said Yes to the plan with them; or what no routes can serve.
+//! The report of the mending of a plan: the lists that change, after the checker has said Yes to the
+//! plan with them; or what no routes can serve.
 #![tactic(auto)]
 
 mod changed_lists;

@@ -41,7 +41,7 @@ pub enum PlanRefusal {
     #[error("the exchange may not seize a group of its list")]
     NotOutgoing,
     /// P14: a group is twice in a list.
-    #[error("a group stands twice in a list")]
+    #[error("a group is in a list twice")]
     RepeatedGroup,
     /// P15: a route at the code's home.
     #[error("the list is for the exchange where the code is at home")]

@@ -12,7 +12,7 @@ use tx_text::{FaultAt, FaultKind};
 pub enum PlanWord {
     /// P3: no line begins with the word, or the fifth word of a group is no direction. Under `PLAN
     /// 1` no line begins with BAR.
-    #[error("the first word of the line is none of a plan, or a group is neither ONEWAY nor BOTHWAY")]
+    #[error("the first word of the line is not one of a plan, or a group is neither ONEWAY nor BOTHWAY")]
     UnknownWord,
     /// The builder refuses the declaration, or the number of words is wrong: that is `WrongCount`.
     #[error(transparent)]

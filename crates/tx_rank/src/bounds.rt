@@ -10,7 +10,7 @@ pub struct Bounds {
 }
 
 impl Bounds {
-    /// Those of what needs no trunk.
+    /// Those of what needs no circuit.
     pub(crate) fn widest() -> Bounds
         ensures limit { result.limit ≡ 0 }
         ensures spare { result.spare ≡ 15 }

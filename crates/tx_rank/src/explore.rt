@@ -1,4 +1,4 @@
-// The ranking pass: a walk in hand that grows and shrinks at its end.
+// The ranking pass: a current walk that grows and shrinks at its end.
 ghost use Rattle.std.specs.Prelude.{◌≡◌, ◌<◌, ◌+◌, ◌++◌, ◌∷◌, [], List, length, true, false, None, Some, IfOk, slice_get};
 ghost use Rattle.tx_rank.specs.Walks.{end_of, IsLoop};
 ghost use Rattle.tx_rank.specs.Nets.{IsNet};
@@ -13,7 +13,7 @@ use std::alloc::Allocator;
 use tx_plan::{ExchangeId, GroupId};
 use tx_text::NoMemory;
 
-/// The walk in hand goes on, all walks from its start are ranked, or it is a loop.
+/// The current walk goes on, all walks from its start are ranked, or it is a loop.
 #[derive(Clone, Copy)]
 pub enum Progress {
     More,
@@ -21,7 +21,7 @@ pub enum Progress {
     Closed,
 }
 
-/// The walk in hand, what was tried of the lists of its exchanges before the last and of the last
+/// The current walk, what was tried of the lists of its exchanges before the last and of the last
 /// one's, and the marks of all exchanges.
 #[derive(Drop)]
 pub struct Search<'a, A: Allocator> {
@@ -52,7 +52,7 @@ pub fn unseen<'a, A: Allocator + Copy, N: Routes>(
     })
 }
 
-/// The walk in hand.
+/// The current walk.
 pub fn walk_in_hand<A: Allocator>(search: Search<'_, A>) -> Walk<A>
     ensures { result ≡ record { start = search.entry.start; steps = search.entry.steps.items } }
 {
@@ -62,7 +62,7 @@ pub fn walk_in_hand<A: Allocator>(search: Search<'_, A>) -> Walk<A>
     }
 }
 
-/// Where the walk in hand ends.
+/// Where the current walk ends.
 fn end(start: ExchangeId, steps: &[(GroupId, ExchangeId)]) -> ExchangeId
     ensures { result ≡ end_of start steps.now }
 {
@@ -72,7 +72,7 @@ fn end(start: ExchangeId, steps: &[(GroupId, ExchangeId)]) -> ExchangeId
     }
 }
 
-/// Whether an exchange is on the walk in hand.
+/// Whether an exchange is on the current walk.
 fn is_open(marks: &[Mark], exchange: ExchangeId) -> bool
     requires { exchange < length marks.now }
     ensures open { result ≡ true → slice_get marks.now exchange ≡ Some (Mark.Open) }
@@ -85,7 +85,7 @@ fn is_open(marks: &[Mark], exchange: ExchangeId) -> bool
     }
 }
 
-/// The walk in hand goes one step on.
+/// The current walk goes one step on.
 fn go_on<'a, A: Allocator, N: Routes>(
     net: &'a N,
     search: &mut Search<'a, A>,
@@ -129,7 +129,7 @@ fn take_last<'a, A: Allocator>(before: &mut Vec<Tried<'a>, A>, none: Tried<'a>) 
     }
 }
 
-/// The last exchange of the walk in hand is ranked.
+/// The last exchange of the current walk is ranked.
 fn settle<'a, A: Allocator, N: Routes>(
     net: &'a N,
     search: &mut Search<'a, A>,
@@ -183,7 +183,7 @@ fn advance<'a, A: Allocator, N: Routes>(
     }
 }
 
-/// Goes over all walks that go on from the walk in hand: true if one of them is a loop, which is
+/// Goes over all walks that go on from the current walk: true if one of them is a loop, which is
 /// then in hand.
 fn explore<'a, A: Allocator, N: Routes>(
     net: &'a N,

@@ -55,7 +55,7 @@ pub fn none_on_failed()
 
 /// In every run of any plan, a call that uses no circuit of a risk, and whose code is not cut off
 /// by it where the call started, is answered NC only after a second head-on collision, while each
-/// group that does not go, of the list where the call stands, is up and has a circuit free there.
+/// group outside the risk, of the list where the call stands, is up and has a circuit free there.
 pub fn clear_calls_get_through()
     ensures { (p : Plan) → IsPlan p → (risk : Risk) → OfEveryEvent p (λ s.
         ThroughIf (λ c. IsClear risk c × StartsUncut p risk c × OutsideFree p risk s c) s) }

@@ -1,5 +1,5 @@
-//! Groups that go at once, as by the failure of a cable or an exchange: who is cut off then, and
-//! what is promised of all others.
+//! Groups that fail at once, for example by the failure of a cable or an exchange: who is cut off
+//! then, and what is promised of all others.
 #![tactic(auto)]
 
 mod cut;

@@ -9,7 +9,7 @@ use tx_text::{FaultAt, FaultKind, NoMemory};
 /// What is wrong with the words of a line. Of several the first in this order is reported.
 #[derive(Clone, Copy, Debug, PartialEq, Eq, Error)]
 pub enum RiskWord {
-    /// Q1: the first word is none of a text of risks.
+    /// Q1: the first word is not one of a text of risks.
     #[error("the first word of the line is not RISK")]
     UnknownWord,
     /// Q2: no name, or no groups.

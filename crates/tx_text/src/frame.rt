@@ -40,7 +40,7 @@ pub enum FrameFault {
     #[error("the text ends without END, or in the middle of a line")]
     NoEnd,
     /// A line after END has words.
-    #[error("words stand behind END")]
+    #[error("words come after END")]
     AfterEnd,
 }
 

@@ -11,7 +11,7 @@ pub enum Job<'a> {
     Telling { telling: Telling },
     Codes,
     Grade,
-    /// What is to be said of the text of a plan, whose file is named so.
+    /// The faults or warnings of the text of a plan, whose file is named so.
     Lint { file: &'a [u8] },
     Check { limit: u8, spare: u8 },
     /// An audit, with its certificate or its counter script after the report.

@@ -9,8 +9,7 @@ returns-clause-answers g c = (Ok c.in_ok-audit.field-0, c.in_ok-audit.ensures.an
 
 pub returns-in_err-audit-clause-answers : goal.returns-in_err-audit-clause-answers
 returns-in_err-audit-clause-answers g c =
-    let f = c.in_err-audit.field-0.0 in
-    (
+    let f = c.in_err-audit.field-0.0 in (
       Err f,
       c.in_err-audit.ensures.answers,
       exits_with c.from_residual.result (audit_fault f) c.from_residual.ensures.1,

@@ -18,8 +18,7 @@ returns-clause-mark g c =
 
 pub returns-in_err-audited-clause-answers : goal.returns-in_err-audited-clause-answers
 returns-in_err-audited-clause-answers g c =
-    let f = c.in_err-audited.field-0.0 in
-    (
+    let f = c.in_err-audited.field-0.0 in (
       Err f,
       c.in_err-audited.ensures.answers,
       exits_with c.from_residual.result f c.from_residual.ensures.1,

@@ -21,8 +21,7 @@ returns-clause-mark g c =
 
 pub returns-in_err-changed-clause-answers : goal.returns-in_err-changed-clause-answers
 returns-in_err-changed-clause-answers g c =
-    let f = c.in_err-changed.field-0.0 in
-    (
+    let f = c.in_err-changed.field-0.0 in (
       Err f,
       c.in_err-changed.ensures.answers,
       exits_with c.from_residual.result f c.from_residual.ensures.1,

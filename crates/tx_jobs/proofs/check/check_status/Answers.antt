@@ -8,8 +8,7 @@ returns-clause-answers g c =
 
 pub returns-in_err-verdict-clause-answers : goal.returns-in_err-verdict-clause-answers
 returns-in_err-verdict-clause-answers g c =
-    let f = c.in_err-verdict.field-0.0 in
-    (
+    let f = c.in_err-verdict.field-0.0 in (
       Err f,
       c.in_err-verdict.ensures.answers,
       exits_with c.from_residual.result f c.from_residual.ensures.1,

@@ -13,8 +13,7 @@ returns-in-Some-clause-answers g c =
 
 pub returns-in_err-codes_job-clause-answers : goal.returns-in_err-codes_job-clause-answers
 returns-in_err-codes_job-clause-answers g c =
-    let f = c.in_err-codes_job.field-0.0 in
-    (
+    let f = c.in_err-codes_job.field-0.0 in (
       Err f,
       c.in_err-codes_job.ensures.answers,
       exits_with c.from_residual.result f c.from_residual.ensures.1,

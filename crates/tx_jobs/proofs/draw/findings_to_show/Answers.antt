@@ -21,9 +21,9 @@ returns g c =
     let findings = c.in-Fails.findings.items in
     let some = subst (OnFails (λ l. l ≢ [])) c.in-Fails.is ranked.fails in
     let each =
-        subst (OnFails (AllByRecursion (IsTrueOf p c.in-Some.limit c.in-Some.spare))) c.in-Fails.is
-        ranked.each in
+    subst (OnFails (AllByRecursion (IsTrueOf p c.in-Some.limit c.in-Some.spare))) c.in-Fails.is
+    ranked.each in
     let listed =
-        subst (OnFails (AreFindings p c.in-Some.limit c.in-Some.spare)) c.in-Fails.is ranked.listed in
+    subst (OnFails (AreFindings p c.in-Some.limit c.in-Some.spare)) c.in-Fails.is ranked.listed in
     subst (λ b. AreToShow p b findings) (sym c.in-Some.is)
     (all_found p c.in-Some.limit c.in-Some.spare findings some each listed)

@@ -9,8 +9,8 @@ use Rattle.tx_jobs.proofs.run.simulated.Goals as goal
 pub returns-clause-answers : goal.returns-clause-answers
 returns-clause-answers g c =
     let script =
-        input g.R.Source.rest g.R.Source.failed g.R.Source.called c.args.script.now
-        c.simulate.new.script in
+    input g.R.Source.rest g.R.Source.failed g.R.Source.called c.args.script.now
+    c.simulate.new.script in
     let out = output g.W.Sink.taken c.args.out.now c.simulate.new.out in
     ran_as _ script out (Ok c.in_ok-simulate.field-0) _ refl c.in_ok-simulate.ensures.answers
 
@@ -18,8 +18,8 @@ pub returns-in_err-simulate-clause-answers : goal.returns-in_err-simulate-clause
 returns-in_err-simulate-clause-answers g c =
     let f = c.in_err-simulate.field-0.0 in
     let script =
-        input g.R.Source.rest g.R.Source.failed g.R.Source.called c.args.script.now
-        c.simulate.new.script in
+    input g.R.Source.rest g.R.Source.failed g.R.Source.called c.args.script.now
+    c.simulate.new.script in
     let out = output g.W.Sink.taken c.args.out.now c.simulate.new.out in
     ran_as _ script out (Err f) _
     (exits_with c.from_residual.result (run_fault f) c.from_residual.ensures.1)

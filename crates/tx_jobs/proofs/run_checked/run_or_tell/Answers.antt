@@ -23,8 +23,8 @@ returns-in_err-checked-clause-mark g c =
 pub returns-in_err-tell_no-clause-told : goal.returns-in_err-tell_no-clause-told
 returns-in_err-tell_no-clause-told g c =
     let script =
-        input g.R.Source.rest g.R.Source.failed g.R.Source.called c.args.script.now
-        c.run_checked.new.script in
+    input g.R.Source.rest g.R.Source.failed g.R.Source.called c.args.script.now
+    c.run_checked.new.script in
     rw (exits_with c.from_residual-in_err-tell_no.result Write c.from_residual-in_err-tell_no.ensures.1)
     (told_run_stopped g.W.Sink.taken c.args.plan.now c.args.cert.now c.args.limit c.args.spare script c.args.out.now c.run_checked.new.out c.tell_no.new.out
     c.in_ok-checked.checked _ c.in_ok-checked.ensures.answers c.in_err-tell_no.ensures.told)
@@ -32,8 +32,8 @@ returns-in_err-tell_no-clause-told g c =
 pub returns-clause-told : goal.returns-clause-told
 returns-clause-told g c =
     let script =
-        input g.R.Source.rest g.R.Source.failed g.R.Source.called c.args.script.now
-        c.run_checked.new.script in
+    input g.R.Source.rest g.R.Source.failed g.R.Source.called c.args.script.now
+    c.run_checked.new.script in
     told_run_by g.W.Sink.taken c.args.plan.now c.args.cert.now c.args.limit c.args.spare script
     c.args.out.now c.run_checked.new.out c.tell_no.new.out
     c.in_ok-checked.checked c.in_ok-checked.ensures.answers c.in_ok-tell_no.ensures.told
