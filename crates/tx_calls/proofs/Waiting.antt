@@ -156,15 +156,6 @@ module _ {A S Q : Type 0} (s : Slab (Place A)) (m : IndexMap ℕ ℕ S) (q : Vec
     first : HaveTickets (ticket_at s) (key ∷ q'.items)
     first = subst (HaveTickets (ticket_at s)) items kept.queued
 
-    -- there is a ticket under the first key
-    pub is_ticket : (ticket : Ended) × (slab.get s key ≡ Some (HasEnded ticket))
-    is_ticket = by (slab.get s key) refl first.0
-      where
-        by : (o : Option (Place A)) → slab.get s key ≡ o → is_some (option_and_then ticket_in o) ≡ true → (ticket : Ended) × (slab.get s key ≡ Some (HasEnded ticket))
-        by None e h = absurd (let bad : ⊥ = cc in bad)
-        by (Some (Open c)) e h = absurd (let bad : ⊥ = cc in bad)
-        by (Some (HasEnded t)) e h = (t, e)
-
     module _ (ticket : Ended) (was : slab.get s key ≡ Some (HasEnded ticket)) (up : slab.Updates s s' key None) (slots : s'.slots ≡ set s.slots key None) where
       abbrev pub taken : Calls
       taken = calls_of s' m q'
@@ -174,9 +165,6 @@ module _ {A S Q : Type 0} (s : Slab (Place A)) (m : IndexMap ℕ ℕ S) (q : Vec
 
       is_first : old.tickets ≡ ticket ∷ filter_map (ticket_at s) q'.items
       is_first = ap (filter_map (ticket_at s)) items ∙ ap (λ o. cons_option o (filter_map (ticket_at s) q'.items)) (ap (option_and_then ticket_in) was)
-
-      pub first_taken : Some ticket ≡ slice_get old.tickets 0
-      first_taken = sym (ap (λ l. slice_get l 0) is_first)
 
       pub rest_taken : taken.tickets ≡ drop 1 old.tickets
       rest_taken = told_same (ticket_at s) (ticket_at s') q'.items others_stay ∙ sym (ap (drop 1) is_first)

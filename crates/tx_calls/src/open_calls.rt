@@ -178,7 +178,7 @@ impl<A: Allocator> OpenCalls<A> {
         write_collision(&mut self.places, key);
     }
 
-    /// The call under a key ends by an event. Its ticket waits after those of earlier ends.
+    /// The call under a key ends by an event. Its ticket comes after those of earlier ends.
     pub fn end(&mut self, key: usize, plan: &Plan<A>, cause: Cause, event: u64)
         requires { is_some (kept_at self.old key) ≡ true }
         ensures changes { Changes self.old self.new key None }

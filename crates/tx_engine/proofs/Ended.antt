@@ -1,10 +1,10 @@
 -- The parts of the engine after the call under a key ended.
-use Rattle.std.proofs.Common.{◌≡◌, ℕ, suc, ◌+◌, ◌<◌, Bool, true, false, not, cond, List, [], ◌∷◌, ◌++◌, length, Some, None, refl, ap, ◌∙◌, arith, deque_len, deque_capacity}
+use Rattle.std.proofs.Common.{◌≡◌, ℕ, ◌+◌, not, List, [], ◌∷◌, ◌++◌, Some, None, refl, ap, ◌∙◌}
 use Rattle.std.specs.Prelude.{filter}
 use Rattle.tx_plan.specs.Plan.{Plan}
 use Rattle.tx_plan.specs.Among.{Among}
 use Rattle.tx_machine.specs.declared.cause.Cause.{Cause}
-use Rattle.tx_machine.specs.Call.{Call, is_numbered}
+use Rattle.tx_machine.specs.Call.{is_numbered}
 use Rattle.tx_machine.specs.Ended.{Ended}
 use Rattle.tx_machine.specs.Ending.{end_call, ticket_of}
 use Rattle.tx_lines.specs.Book.{Book, is_line_of}

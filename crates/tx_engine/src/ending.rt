@@ -38,7 +38,7 @@ impl<'p, A: Allocator + Copy> EngineState<'p, A> {
     }
 
     /// The call under the key ends: its lines are free, its circuits are given back, and its ticket
-    /// waits.
+    /// is written.
     pub(crate) fn end_call(&mut self, key: usize, cause: Cause)
         requires sound { IsSound self.old }
         requires there { is_some (kept_at self.old.calls key) ≡ true }

@@ -1,4 +1,4 @@
-use Rattle.std.proofs.Common.{◌≡◌, refl, sym, ap, subst, ◌∙◌, deque_len, deque_capacity}
+use Rattle.std.proofs.Common.{◌≡◌, refl, sym, ap, subst, ◌∙◌}
 use Rattle.tx_lines.specs.Book.{Book}
 use Rattle.tx_circuits.specs.Table.{Table}
 use Rattle.tx_calls.specs.Calls.{calls_in}

@@ -1,4 +1,4 @@
-use Rattle.std.proofs.Common.{◌≡◌, ◌++◌, ◌∷◌, [], Some, sym, ap, ◌∙◌}
+use Rattle.std.proofs.Common.{◌≡◌, Some, sym, ap, ◌∙◌}
 use Rattle.tx_machine.specs.Ending.{end_call}
 use Rattle.tx_calls.specs.Calls.{Kept, kept_of}
 use Rattle.tx_engine.specs.inner.Sound.{state_of}

@@ -1,4 +1,4 @@
-use Rattle.std.proofs.Common.{◌+◌, sym, ap, ◌∙◌, subst, deque_len, deque_capacity}
+use Rattle.std.proofs.Common.{◌+◌, sym, ap, ◌∙◌, subst}
 use Rattle.tx_machine.specs.declared.reply.Reply.TheVariants.{Lost}
 use Rattle.tx_machine.specs.Step.{counted}
 use Rattle.tx_calls.specs.Calls.{calls_in}

@@ -1,11 +1,9 @@
-use Rattle.std.proofs.Common.{◌+◌, ◌++◌, ◌∷◌, [], sym, ap, ◌∙◌, List, deque_len, deque_capacity, arith}
-use Rattle.std.specs.FinSet as set
+use Rattle.std.proofs.Common.{◌+◌, ◌++◌, ◌∷◌, [], sym, ap, ◌∙◌, List, arith}
 use Rattle.tx_plan.specs.Plan.{Plan}
 use Rattle.tx_plan.specs.Lines.{is_line}
 use Rattle.tx_machine.specs.declared.event.Event.TheVariants.{Key}
 use Rattle.tx_machine.specs.declared.open_call.Hop.{Hop}
 use Rattle.tx_machine.specs.declared.reply.Reply.TheVariants.{Keyed}
-use Rattle.tx_machine.specs.Call.{Call}
 use Rattle.tx_machine.specs.Lines.{is_engaged}
 use Rattle.tx_machine.specs.State.{State}
 use Rattle.tx_machine.specs.Step.{accepted, counted}

@@ -1,8 +1,7 @@
-use Rattle.std.proofs.Common.{◌+◌, List, Option, sym, ap, ◌∙◌}
+use Rattle.std.proofs.Common.{◌+◌, Option, sym, ap, ◌∙◌}
 use Rattle.std.specs.FinSet as set
 use Rattle.tx_machine.specs.declared.cause.Service.{Service}
 use Rattle.tx_machine.specs.declared.reply.Reply.TheVariants.{Connected}
-use Rattle.tx_machine.specs.Call.{Call}
 use Rattle.tx_machine.specs.Routing.{at_line}
 use Rattle.tx_machine.specs.Step.{counted}
 use Rattle.tx_lines.specs.Book.{Book}

@@ -1,4 +1,4 @@
-use Rattle.std.proofs.Common.{◌≡◌, ℕ, ◌+◌, ◌<◌, ◌==◌, Some, refl, sym, ap, ◌∙◌, subst, OnOk, deque_len, deque_capacity}
+use Rattle.std.proofs.Common.{◌≡◌, ℕ, ◌+◌, ◌<◌, ◌==◌, Some, refl, sym, ap, ◌∙◌, subst, OnOk}
 use Rattle.tx_machine.specs.declared.open_call.Phase.TheVariants.{Calling}
 use Rattle.tx_machine.specs.declared.reply.Reply.TheVariants.{Seized}
 use Rattle.tx_machine.specs.Routing.{set_call, in_phase}
