@@ -1,7 +1,7 @@
 -- The tickets that wait, and what a new call, an end and a ticket that is taken make of all that is kept.
 use Rattle.std.proofs.Common.{◌≡◌, ℕ, zero, suc, ◌+◌, ◌<◌, ◌≤◌, true, not, cond, List, [], ◌∷◌, ◌++◌, map, length, set, Option, Some, None, is_some, nat_eq, slice_index_or, deque_len, deque_capacity, inl, inr, refl, sym, ap, subst, ◌∙◌, arith}
 use Rattle.std.proofs.lemmas.List.Elements.{filter_map-append}
-use Rattle.std.specs.Prelude.{filter, filter_map, option_and_then, drop, slice_get}
+use Rattle.std.specs.Prelude.{filter, filter_map, option_and_then, drop}
 use Rattle.std.specs.List.{cons_option}
 use Rattle.std.specs.declared.collections.VecDeque.{VecDeque}
 use Rattle.slab.specs.Slab as slab
