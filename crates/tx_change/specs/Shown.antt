@@ -14,8 +14,8 @@ use Rattle.tx_rank.specs.Findings.{IsTrueOf}
 abbrev pub is_listed : Plan → (c x g : ℕ) → Bool
 is_listed p c x g = list_any (λ h. h == g) (route_list p x c)
 
--- A walk from x takes the new list at an exchange y where the old one does not have the group by which
--- the walk goes on; at its end, where the test says so; elsewhere it takes none.
+-- A walk from x takes the new list at an exchange y where the old one does not have the group by
+-- which the walk goes on; at its end, where the test says so; elsewhere it takes none.
 abbrev pub takes_new : Plan → ℕ → (ℕ → Bool) → ℕ → List (ℕ × ℕ) → ℕ → Bool
 takes_new old c at_end x [] y = (x == y) && at_end x
 takes_new old c at_end x (s ∷ steps) y =
