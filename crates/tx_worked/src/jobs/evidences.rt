@@ -142,9 +142,7 @@ pub(crate) fn do_survive_alone<A: Allocator + Copy>(
     out: &mut MemorySink,
 ) -> Result<u8, JobFault> {
     let survival = survive_job(alloc, plan, out)?;
-    let status = survival_status(&survival);
-    drop(survival);
-    Ok(status)
+    Ok(survival_status(&survival))
 }
 
 /// Tries the outages of a plan, and its named risks among them.
@@ -155,7 +153,5 @@ pub(crate) fn do_survive<A: Allocator + Copy>(
     out: &mut MemorySink,
 ) -> Result<u8, SurviveFault> {
     let survival = survive_risks_job(alloc, plan, risks, out)?;
-    let status = survival_status(&survival);
-    drop(survival);
-    Ok(status)
+    Ok(survival_status(&survival))
 }
