@@ -25,6 +25,7 @@
 mod builder;
 mod entries;
 mod ids;
+mod limits;
 mod names;
 mod plan;
 mod range;
@@ -34,6 +35,7 @@ mod routes;
 
 pub use builder::PlanBuilder;
 pub use ids::{ByWord, Circuit, CodeId, Direction, ExchangeId, GroupId, Line, National, Pair};
+pub use limits::Limits;
 pub use plan::Plan;
 pub use range::LineRange;
 pub use refusal::PlanRefusal;
