@@ -18,7 +18,7 @@ use crate::report::write_report;
 use std::alloc::Allocator;
 use tx_cert::Cert;
 use tx_check::{Verdict, check};
-use tx_plan::Plan;
+use tx_plan::{Limits, Plan};
 use tx_plantext::read_plan_from;
 use tx_rank::{Finding, Ranking, rank};
 use tx_text::{Sink, Source, WriteFault};
@@ -47,7 +47,7 @@ pub fn audit<A: Allocator + Copy, R: Source, W: Sink>(
     ensures calls { CallsAtMost R.called source_calls source.old source.new }
 {
     let plan = read_plan_from(alloc, source)?;
-    let ranking = rank_and_report(alloc, &plan, limit, spare, out)?;
+    let ranking = rank_and_report(alloc, &plan, Limits { limit, spare }, out)?;
     Ok(Audited::of(plan, ranking))
 }
 
@@ -55,17 +55,15 @@ pub fn audit<A: Allocator + Copy, R: Source, W: Sink>(
 fn rank_and_report<A: Allocator + Copy, W: Sink>(
     alloc: A,
     plan: &Plan<A>,
-    limit: u8,
-    spare: u8,
+    limits: Limits,
     out: &mut W,
 ) -> Result<Ranking<A>, AuditFault>
-    requires limit { limit ≤ 62 }
-    requires spare { spare ≤ 15 }
-    ensures answers { RankAnswers plan.now limit spare (output W.taken out.old out.new) result }
+    ensures answers { RankAnswers plan.now limits.limit limits.spare
+        (output W.taken out.old out.new) result }
     ensures mark { W.failed out.new ≡ mark_after (W.failed out.old) result }
 {
-    let ranking = rank(alloc, plan, limit, spare)?;
-    report_ranking(plan, &ranking, limit, spare, out)?;
+    let ranking = rank(alloc, plan, limits.limit, limits.spare)?;
+    report_ranking(plan, &ranking, limits, out)?;
     Ok(ranking)
 }
 
@@ -73,22 +71,20 @@ fn rank_and_report<A: Allocator + Copy, W: Sink>(
 fn report_ranking<A: Allocator, W: Sink>(
     plan: &Plan<A>,
     ranking: &Ranking<A>,
-    limit: u8,
-    spare: u8,
+    limits: Limits,
     out: &mut W,
 ) -> Result<(), WriteFault>
-    requires limit { limit ≤ 62 }
-    requires spare { spare ≤ 15 }
     requires fits { OnFound (IsCertificateOf plan.now) ranking.now }
-    requires certified { OnFound (λ cert. IsCertified plan.now (ranks_of cert) limit spare)
+    requires certified { OnFound (λ cert.
+        IsCertified plan.now (ranks_of cert) limits.limit limits.spare) ranking.now }
+    ensures confirmed { OnFound (λ cert. IsAllowed plan.now cert limits.limit limits.spare)
         ranking.now }
-    ensures confirmed { OnFound (λ cert. IsAllowed plan.now cert limit spare) ranking.now }
     ensures wrote { Wrote W.taken W.failed out.old out.new
-        (report plan.now limit spare (findings_of ranking.now)) result }
+        (report plan.now limits.limit limits.spare (findings_of ranking.now)) result }
 {
     match ranking {
-        Ranking::Found(cert) => confirm(plan, cert, limit, spare, out),
-        Ranking::Fails(findings) => write_report(plan, findings, limit, spare, out),
+        Ranking::Found(cert) => confirm(plan, cert, limits, out),
+        Ranking::Fails(findings) => write_report(plan, findings, limits, out),
     }
 }
 
@@ -96,22 +92,19 @@ fn report_ranking<A: Allocator, W: Sink>(
 fn confirm<A: Allocator, W: Sink>(
     plan: &Plan<A>,
     cert: &Cert<A>,
-    limit: u8,
-    spare: u8,
+    limits: Limits,
     out: &mut W,
 ) -> Result<(), WriteFault>
-    requires limit { limit ≤ 62 }
-    requires spare { spare ≤ 15 }
     requires fits { IsCertificateOf plan.now cert.now }
-    requires certified { IsCertified plan.now (ranks_of cert.now) limit spare }
-    ensures confirmed { IsAllowed plan.now cert.now limit spare }
+    requires certified { IsCertified plan.now (ranks_of cert.now) limits.limit limits.spare }
+    ensures confirmed { IsAllowed plan.now cert.now limits.limit limits.spare }
     ensures wrote { Wrote W.taken W.failed out.old out.new
-        (report {A = A} plan.now limit spare []) result }
+        (report {A = A} plan.now limits.limit limits.spare []) result }
 {
-    match check(plan, cert, limit, spare) {
+    match check(plan, cert, limits.limit, limits.spare) {
         Verdict::Yes => {
             let none: [Finding<A>; 0] = [];
-            write_report(plan, &none, limit, spare, out)
+            write_report(plan, &none, limits, out)
         }
         Verdict::No(_) => unreachable!(),
     }

@@ -2,9 +2,6 @@
 ghost use Rattle.std.specs.Prelude.{◌≡◌, ◌≤◌};
 ghost use Rattle.tx_text.specs.Calls.{CallsAtMost, source_calls};
 ghost use Rattle.tx_text.specs.Ends.{input, output};
-ghost use Rattle.tx_machine.specs.Sound.{IsSound, HasFewRoutes};
-ghost use Rattle.tx_check.specs.declared.verdict.Verdict.TheVariants.{Yes};
-ghost use Rattle.tx_check.specs.Checks.{check_faults, ranks_for, verdict_of};
 ghost use Rattle.tx_audit.specs.CheckedRuns.{CheckedAnswers, mark_after};
 
 use crate::checked::Checked;
@@ -38,31 +35,10 @@ pub fn run_checked<A: Allocator + Copy, R: Source, W: Sink>(
     ensures calls { CallsAtMost R.called source_calls script.old script.new }
 {
     match check(plan, cert, limit, spare) {
-        Verdict::Yes => run_allowed(alloc, plan, cert, limit, spare, script, out),
+        Verdict::Yes => {
+            let summary = simulate(alloc, plan, script, out)?;
+            Ok(Checked::Ran(summary))
+        }
         Verdict::No(fault) => Ok(Checked::Denied(fault)),
     }
-}
-
-/// The run after a Yes.
-fn run_allowed<A: Allocator + Copy, R: Source, W: Sink>(
-    alloc: A,
-    plan: &Plan<A>,
-    cert: &Cert<A>,
-    limit: u8,
-    spare: u8,
-    script: &mut R,
-    out: &mut W,
-) -> Result<Checked, RunFault>
-    requires yes { verdict_of (check_faults plan.now (ranks_for plan.now cert.now) limit spare)
-        ≡ Yes }
-    requires sound { IsSound plan.now limit spare }
-    requires few_routes { HasFewRoutes plan.now limit }
-    ensures answers { CheckedAnswers plan.now cert.now limit spare
-        (input R.rest R.failed R.called script.old script.new)
-        (output W.taken out.old out.new) result }
-    ensures mark { W.failed out.new ≡ mark_after (W.failed out.old) result }
-    ensures calls { CallsAtMost R.called source_calls script.old script.new }
-{
-    let summary = simulate(alloc, plan, script, out)?;
-    Ok(Checked::Ran(summary))
 }

@@ -10,7 +10,7 @@ ghost use Rattle.tx_audit.specs.Breaks.{ShowsOne};
 use crate::counters::counter;
 use std::alloc::Allocator;
 use tx_machine::Event;
-use tx_plan::Plan;
+use tx_plan::{Limits, Plan};
 use tx_rank::Finding;
 use tx_text::NoMemory;
 
@@ -20,20 +20,19 @@ pub fn first_counter<A: Allocator + Copy>(
     alloc: A,
     plan: &Plan<A>,
     findings: &[Finding<A>],
-    limit: u8,
-    spare: u8,
+    limits: Limits,
 ) -> Result<Option<Vec<Event, A>>, NoMemory>
-    requires { AllByRecursion (IsTrueOf plan.now limit spare) findings.now }
+    requires { AllByRecursion (IsTrueOf plan.now limits.limit limits.spare) findings.now }
     ensures events { IfOk result (λ o. option_map (λ v. v.items) o
         ≡ first_counter_of plan.now findings.now) }
     ensures which { IfOk result (λ o. is_some o ≡ list_any (has_counter plan.now) findings.now) }
     ensures shows { IfOk result
-        (λ o. IfSome o (λ v. ShowsOne plan.now limit spare findings.now v.items)) }
+        (λ o. IfSome o (λ v. ShowsOne plan.now limits.limit limits.spare findings.now v.items)) }
     ensures writable { IfOk result
         (λ o. IfSome o (λ v. AllByRecursion (IsWritable plan.now) v.items)) }
 {
     for finding in findings {
-        match counter(alloc, plan, finding, limit, spare)? {
+        match counter(alloc, plan, finding, limits.limit, limits.spare)? {
             Some(events) => return Ok(Some(events)),
             None => {}
         }

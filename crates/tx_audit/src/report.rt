@@ -6,7 +6,7 @@ ghost use Rattle.tx_audit.specs.Report.{asked_line, step_text, walk_text, findin
 
 use itoa::Buffer;
 use std::alloc::Allocator;
-use tx_plan::{CodeId, ExchangeId, GroupId, Plan};
+use tx_plan::{CodeId, ExchangeId, GroupId, Limits, Plan};
 use tx_rank::{Finding, Walk};
 use tx_text::{Sink, WriteFault, write_parts};
 
@@ -14,31 +14,26 @@ use tx_text::{Sink, WriteFault, write_parts};
 pub(crate) fn write_report<A: Allocator, W: Sink>(
     plan: &Plan<A>,
     findings: &[Finding<A>],
-    limit: u8,
-    spare: u8,
+    limits: Limits,
     sink: &mut W,
 ) -> Result<(), WriteFault>
     ensures { Wrote W.taken W.failed sink.old sink.new
-        (report plan.now limit spare findings.now) result }
+        (report plan.now limits.limit limits.spare findings.now) result }
 {
-    write_asked(b"AUDIT", limit, spare, sink)?;
+    write_asked(b"AUDIT", limits, sink)?;
     write_findings(plan, findings, sink)?;
     write_verdict(findings.len(), sink)
 }
 
-/// Writes the first line of a report: its word, and the limit and the spare number that were asked.
-pub fn write_asked<W: Sink>(
-    word: &[u8],
-    limit: u8,
-    spare: u8,
-    sink: &mut W,
-) -> Result<(), WriteFault>
-    ensures { Wrote W.taken W.failed sink.old sink.new (asked_line word.now limit spare) result }
+/// Writes the first line of a report: its word, and the limits that were asked.
+pub fn write_asked<W: Sink>(word: &[u8], limits: Limits, sink: &mut W) -> Result<(), WriteFault>
+    ensures { Wrote W.taken W.failed sink.old sink.new
+        (asked_line word.now limits.limit limits.spare) result }
 {
     let mut transits = Buffer::new();
     let mut groups = Buffer::new();
-    let limit = transits.format(limit).as_bytes();
-    let spare = groups.format(spare).as_bytes();
+    let limit = transits.format(limits.limit).as_bytes();
+    let spare = groups.format(limits.spare).as_bytes();
     write_parts(&[word, b" LIMIT ", limit, b" SPARE ", spare, b"\n"], sink)
 }
 

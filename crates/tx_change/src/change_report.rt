@@ -4,7 +4,7 @@ ghost use Rattle.tx_change.specs.ChangeReport.{change_report};
 
 use std::alloc::Allocator;
 use tx_audit::{write_asked, write_findings, write_verdict};
-use tx_plan::Plan;
+use tx_plan::{Limits, Plan};
 use tx_rank::Finding;
 use tx_text::{Sink, WriteFault};
 
@@ -13,14 +13,13 @@ use tx_text::{Sink, WriteFault};
 pub fn write_change<A: Allocator, W: Sink>(
     plan: &Plan<A>,
     findings: &[Finding<A>],
-    limit: u8,
-    spare: u8,
+    limits: Limits,
     sink: &mut W,
 ) -> Result<(), WriteFault>
     ensures { Wrote W.taken W.failed sink.old sink.new
-        (change_report plan.now limit spare findings.now) result }
+        (change_report plan.now limits.limit limits.spare findings.now) result }
 {
-    write_asked(b"CHANGE", limit, spare, sink)?;
+    write_asked(b"CHANGE", limits, sink)?;
     write_findings(plan, findings, sink)?;
     write_verdict(findings.len(), sink)
 }

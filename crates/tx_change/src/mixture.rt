@@ -10,7 +10,7 @@ use crate::showing::shown;
 use std::alloc::{Allocator, Global};
 use tx_audit::counter;
 use tx_machine::Event;
-use tx_plan::Plan;
+use tx_plan::{Limits, Plan};
 use tx_rank::Finding;
 use tx_text::NoMemory;
 
@@ -31,16 +31,15 @@ pub fn first_mixture<A: Allocator + Copy>(
     old: Plan<A>,
     new: &Plan<A>,
     findings: &[Finding<A>],
-    limit: u8,
-    spare: u8,
+    limits: Limits,
 ) -> Result<Option<ShownMixture<A>>, NoMemory>
     requires network { SameNetwork old new.now }
-    requires shown { AllByRecursion (IsShown old new.now limit spare) findings.now }
-    ensures { IfOk result (MixtureAnswer old new.now limit spare findings.now) }
+    requires shown { AllByRecursion (IsShown old new.now limits.limit limits.spare) findings.now }
+    ensures { IfOk result (MixtureAnswer old new.now limits.limit limits.spare findings.now) }
 {
     match first_walked(findings) {
         Some(finding) => {
-            let mixture = show_mixture(alloc, old, new, finding, limit, spare)?;
+            let mixture = show_mixture(alloc, old, new, finding, limits)?;
             Ok(Some(mixture))
         }
         None => Ok(None),
@@ -53,16 +52,15 @@ fn show_mixture<A: Allocator + Copy>(
     old: Plan<A>,
     new: &Plan<A>,
     finding: &Finding<A>,
-    limit: u8,
-    spare: u8,
+    limits: Limits,
 ) -> Result<ShownMixture<A>, NoMemory>
     requires network { SameNetwork old new.now }
-    requires shown { IsShown old new.now limit spare finding.now }
-    ensures { IfOk result (λ m. ShowsMixture old new.now limit spare finding.now m.plan
-        (option_map (λ v. v.items) m.events)) }
+    requires shown { IsShown old new.now limits.limit limits.spare finding.now }
+    ensures { IfOk result (λ m. ShowsMixture old new.now limits.limit limits.spare finding.now
+        m.plan (option_map (λ v. v.items) m.events)) }
 {
-    let plan = shown(alloc, old, new, spare, finding)?;
-    let events = counter(alloc, &plan, finding, limit, spare)?;
+    let plan = shown(alloc, old, new, limits.spare, finding)?;
+    let events = counter(alloc, &plan, finding, limits.limit, limits.spare)?;
     Ok(ShownMixture { plan, events })
 }
 

@@ -12,7 +12,7 @@ mod ranks;
 mod verdict;
 mod verdict_writer;
 
-pub use checker::check;
+pub use checker::{check, confirm};
 pub use fault::CheckFault;
 pub use law::faultless_is_certified;
 pub use verdict::Verdict;

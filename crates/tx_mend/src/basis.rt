@@ -1,12 +1,12 @@
 // What full lists are made of.
-ghost use Rattle.std.specs.Prelude.{◌≡◌, ◌≤◌, map, length};
+ghost use Rattle.std.specs.Prelude.{◌≡◌, map, length};
 ghost use Rattle.tx_mend.specs.LeastRanks.{places, outgoing};
 ghost use Rattle.tx_mend.specs.inner.CodeRanks.{code_ranks};
 
 use crate::code_ranks::CodeRanks;
 use crate::outgoing::Outgoing;
 use std::alloc::Allocator;
-use tx_plan::Plan;
+use tx_plan::{Limits, Plan};
 
 /// What full lists are made of: the plan, the groups that each exchange may seize, and what the
 /// mending of each code goes by.
@@ -15,10 +15,8 @@ pub struct Basis<'a, A: Allocator> {
     pub plan: &'a Plan<A>,
     pub seizable: &'a [Outgoing<A>],
     pub table: &'a [CodeRanks<A>],
-    pub limit: u8,
-    pub spare: u8,
+    pub limits: Limits,
     ghost groups: { seizable.now ≡ map (outgoing plan.now) (places (length plan.now.exchanges)) },
-    ghost ranks: { table.now ≡ map (code_ranks plan.now limit spare)
+    ghost ranks: { table.now ≡ map (code_ranks plan.now limits.limit limits.spare)
         (places (length plan.now.codes)) },
-    ghost few: { spare ≤ 15 },
 }

@@ -1,5 +1,5 @@
 // What the mending of each code goes by.
-ghost use Rattle.std.specs.Prelude.{◌≡◌, ◌≤◌, map, length, option_and_then, slice_get, IfOk};
+ghost use Rattle.std.specs.Prelude.{◌≡◌, map, length, option_and_then, slice_get, IfOk};
 ghost use Rattle.std.specs.Option.{option_copied};
 ghost use Rattle.tx_plan.specs.Rules.{IsPlan};
 ghost use Rattle.tx_rank.specs.Judged.{AreOrigins};
@@ -12,7 +12,7 @@ use crate::rules::{AnyRoutes, PresentRoutes};
 use crate::serving::all_ranked;
 use std::alloc::{Allocator, Global};
 use std::marker::Model;
-use tx_plan::{CodeId, Plan};
+use tx_plan::{CodeId, Limits, Plan};
 use tx_text::NoMemory;
 
 /// The least ranks of the exchanges for a code, unless the code keeps its routes.
@@ -56,19 +56,21 @@ fn ranks_for<A: Allocator + Copy>(
     seizable: &[Outgoing<A>],
     origins: &[bool],
     code: CodeId,
-    limit: u8,
-    spare: u8,
+    limits: Limits,
 ) -> Result<CodeRanks<A>, NoMemory>
     requires rules { IsPlan plan.now }
     requires seizable { seizable.now
         ≡ map (outgoing plan.now) (places (length plan.now.exchanges)) }
     requires origins { AreOrigins plan.now origins.now }
-    requires limit { limit ≤ 62 }
-    ensures { IfOk result (λ ranks. ranks ≡ code_ranks plan.now limit spare code) }
+    ensures { IfOk result (λ ranks. ranks ≡ code_ranks plan.now limits.limit limits.spare code) }
 {
     let home = plan.home(code);
-    let by_lists = PresentRoutes { plan, code, spare };
-    let present = ranks_after(alloc, &by_lists, home, limit)?;
+    let by_lists = PresentRoutes {
+        plan,
+        code,
+        spare: limits.spare,
+    };
+    let present = ranks_after(alloc, &by_lists, home, limits)?;
     if all_ranked(plan, origins, code, &present) {
         return Ok(CodeRanks {
             kept: true,
@@ -78,9 +80,9 @@ fn ranks_for<A: Allocator + Copy>(
     let by_groups = AnyRoutes {
         plan,
         seizable,
-        spare,
+        spare: limits.spare,
     };
-    let least = ranks_after(alloc, &by_groups, home, limit)?;
+    let least = ranks_after(alloc, &by_groups, home, limits)?;
     Ok(CodeRanks {
         kept: false,
         ranks: least,
@@ -93,20 +95,18 @@ pub fn all_code_ranks<A: Allocator + Copy>(
     plan: &Plan<A>,
     seizable: &[Outgoing<A>],
     origins: &[bool],
-    limit: u8,
-    spare: u8,
+    limits: Limits,
 ) -> Result<Vec<CodeRanks<A>, A>, NoMemory>
     requires seizable { seizable.now
         ≡ map (outgoing plan.now) (places (length plan.now.exchanges)) }
     requires origins { AreOrigins plan.now origins.now }
-    requires limit { limit ≤ 62 }
     ensures { IfOk result (λ table. table.items
-        ≡ map (code_ranks plan.now limit spare) (places (length plan.now.codes))) }
+        ≡ map (code_ranks plan.now limits.limit limits.spare) (places (length plan.now.codes))) }
 {
     let mut table = Vec::new(alloc);
     for place in 0..plan.codes() {
         let code = CodeId::of(place);
-        table.push(ranks_for(alloc, plan, seizable, origins, code, limit, spare)?)?;
+        table.push(ranks_for(alloc, plan, seizable, origins, code, limits)?)?;
     }
     Ok(table)
 }

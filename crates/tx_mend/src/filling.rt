@@ -1,5 +1,5 @@
 // The list of an exchange.
-ghost use Rattle.std.specs.Prelude.{◌≡◌, ◌==◌, ◌<◌, ◌≤◌, ℕ, Option, map, length, filter};
+ghost use Rattle.std.specs.Prelude.{◌≡◌, ◌==◌, ◌<◌, ℕ, Option, map, length, filter};
 ghost use Rattle.std.specs.List.{list_any};
 ghost use Rattle.tx_plan.specs.Routes.{route_list};
 ghost use Rattle.tx_mend.specs.LeastRanks.{outgoing};
@@ -11,7 +11,7 @@ use crate::basis::Basis;
 use crate::code_ranks::least_at;
 use crate::outgoing::groups_at;
 use std::alloc::Allocator;
-use tx_plan::{CodeId, ExchangeId, GroupId, GroupList, Plan};
+use tx_plan::{CodeId, ExchangeId, GroupId, GroupList, Limits, Plan};
 
 /// Whether the group is in the list.
 fn stands(list: &GroupList, group: GroupId) -> bool
@@ -27,11 +27,10 @@ fn stands(list: &GroupList, group: GroupId) -> bool
 }
 
 /// Appends a group, unless it is there already or there are more than `spare`.
-fn put(list: &mut GroupList, group: GroupId, spare: u8)
-    requires { spare ≤ 15 }
-    ensures { list.new ≡ put spare list.old group }
+fn put(list: &mut GroupList, group: GroupId, limits: Limits)
+    ensures { list.new ≡ put limits.spare list.old group }
 {
-    if list.groups().len() > usize::from(spare) {
+    if list.groups().len() > usize::from(limits.spare) {
         return;
     }
     if stands(list, group) {
@@ -48,17 +47,17 @@ fn fill_at<A: Allocator>(
     ranks: &[Option<u8>],
     exchange: ExchangeId,
     rank: u8,
-    spare: u8,
+    limits: Limits,
     list: &mut GroupList,
 )
     requires long { length ranks.now ≡ length plan.now.exchanges }
-    requires spare { spare ≤ 15 }
     ensures { (of : ℕ → Option ℕ) → ranks.now ≡ rank_list plan.now of → list.new
-        ≡ filled spare list.old (filter (λ g. leads_to plan.now of rank exchange g) seizable.now) }
+        ≡ filled limits.spare list.old
+        (filter (λ g. leads_to plan.now of rank exchange g) seizable.now) }
 {
     for group in seizable {
         if leads_to(plan, ranks, exchange, rank, *group) {
-            put(list, *group, spare);
+            put(list, *group, limits);
         }
     }
 }
@@ -71,20 +70,19 @@ fn fill<A: Allocator>(
     ranks: &[Option<u8>],
     exchange: ExchangeId,
     rank: u8,
-    spare: u8,
+    limits: Limits,
     list: &mut GroupList,
 )
     requires seizable { seizable.now ≡ outgoing plan.now exchange }
     requires long { length ranks.now ≡ length plan.now.exchanges }
-    requires spare { spare ≤ 15 }
     ensures { (of : ℕ → Option ℕ) → ranks.now ≡ rank_list plan.now of
-        → list.new ≡ filled spare list.old (groups_below plan.now of rank exchange) }
+        → list.new ≡ filled limits.spare list.old (groups_below plan.now of rank exchange) }
 {
     for lower in 0..rank {
-        if list.groups().len() > usize::from(spare) {
+        if list.groups().len() > usize::from(limits.spare) {
             return;
         }
-        fill_at(plan, seizable, ranks, exchange, lower, spare, list);
+        fill_at(plan, seizable, ranks, exchange, lower, limits, list);
     }
 }
 
@@ -130,19 +128,18 @@ fn list_by_ranks<A: Allocator>(
     ranks: &[Option<u8>],
     code: CodeId,
     exchange: ExchangeId,
-    spare: u8,
+    limits: Limits,
 ) -> GroupList
     requires seizable { seizable.now ≡ outgoing plan.now exchange }
     requires long { length ranks.now ≡ length plan.now.exchanges }
     requires exchange { exchange < length plan.now.exchanges }
-    requires spare { spare ≤ 15 }
     ensures { (of : ℕ → Option ℕ) → ranks.now ≡ rank_list plan.now of
-        → result ≡ list_of_rank plan.now of code spare exchange (of exchange) }
+        → result ≡ list_of_rank plan.now of code limits.spare exchange (of exchange) }
 {
     match ranks[exchange.index()] {
         Some(rank) => {
             let mut list = kept_below(plan, ranks, code, exchange, rank);
-            fill(plan, seizable, ranks, exchange, rank, spare, &mut list);
+            fill(plan, seizable, ranks, exchange, rank, limits, &mut list);
             list
         }
         None => GroupList::new(),
@@ -157,7 +154,8 @@ pub fn full_list<A: Allocator>(
 ) -> GroupList
     requires code { code < length basis.now.plan.now.codes }
     requires exchange { exchange < length basis.now.plan.now.exchanges }
-    ensures { result ≡ full_list basis.now.plan.now basis.now.limit basis.now.spare code exchange }
+    ensures { result ≡ full_list basis.now.plan.now
+        basis.now.limits.limit basis.now.limits.spare code exchange }
 {
     match least_at(basis.table, code.index()) {
         None => present_list(basis.plan, code, exchange),
@@ -167,7 +165,7 @@ pub fn full_list<A: Allocator>(
             ranks,
             code,
             exchange,
-            basis.spare,
+            basis.limits,
         ),
     }
 }

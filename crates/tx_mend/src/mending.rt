@@ -1,5 +1,5 @@
 // The mending of a plan.
-ghost use Rattle.std.specs.Prelude.{◌≡◌, ◌≤◌, ◌↔◌, IfOk, filter};
+ghost use Rattle.std.specs.Prelude.{◌≡◌, ◌↔◌, IfOk, filter};
 ghost use Rattle.tx_plan.specs.Ambiguous.{ambiguous_of};
 ghost use Rattle.tx_plan.specs.Certified.{IsCertified};
 ghost use Rattle.tx_cert.specs.Certificate.{ranks_of, IsCertificateOf};
@@ -19,7 +19,7 @@ use crate::rerouting::full_routes;
 use crate::serving::unserved_of;
 use std::alloc::{Allocator, Global};
 use tx_cert::Cert;
-use tx_plan::{Bars, CodeId, ExchangeId, Plan, Routes};
+use tx_plan::{Bars, CodeId, ExchangeId, Limits, Plan, Routes};
 use tx_rank::{Ranking, origins_of, rank};
 use tx_text::NoMemory;
 use tx_trie::CodeTrie;
@@ -46,29 +46,22 @@ struct Found<A: Allocator> {
     bars: Bars<A>,
 }
 
-fn look<A: Allocator + Copy>(
-    alloc: A,
-    plan: &Plan<A>,
-    limit: u8,
-    spare: u8,
-) -> Result<Found<A>, NoMemory>
-    requires limit { limit ≤ 62 }
-    requires spare { spare ≤ 15 }
-    ensures routes { IfOk result (λ f. f.routes ≡ full_routes plan.now limit spare) }
-    ensures unserved { IfOk result (λ f. f.unserved.items ≡ unserved plan.now limit spare) }
+fn look<A: Allocator + Copy>(alloc: A, plan: &Plan<A>, limits: Limits) -> Result<Found<A>, NoMemory>
+    ensures routes { IfOk result (λ f. f.routes ≡ full_routes plan.now limits.limit limits.spare) }
+    ensures unserved { IfOk result (λ f.
+        f.unserved.items ≡ unserved plan.now limits.limit limits.spare) }
     ensures pair { IfOk result (λ f. f.pair ≡ ambiguous_of plan.now.codes) }
     ensures before { IfOk result (λ f. f.before ≡ plan.now.routes) }
     ensures bars { IfOk result (λ f. f.bars ≡ plan.now.bars) }
 {
     let seizable = all_outgoing(alloc, plan)?;
     let origins = origins_of(alloc, plan)?;
-    let table = all_code_ranks(alloc, plan, &seizable, &origins, limit, spare)?;
+    let table = all_code_ranks(alloc, plan, &seizable, &origins, limits)?;
     let basis = Basis {
         plan,
         seizable: &seizable,
         table: &table,
-        limit,
-        spare,
+        limits,
     };
     let unserved = unserved_of(alloc, &basis, &origins)?;
     let routes = full_routes(alloc, &basis)?;
@@ -94,20 +87,18 @@ fn settle<A: Allocator + Copy>(
     alloc: A,
     plan: &Plan<A>,
     before: &Routes<A>,
-    limit: u8,
-    spare: u8,
+    limits: Limits,
 ) -> Result<Settled<A>, NoMemory>
-    requires limit { limit ≤ 62 }
-    requires spare { spare ≤ 15 }
-    requires can_be { CanBeCertified plan.now limit spare }
-    ensures certified { IfOk result (λ s. IsCertified plan.now (ranks_of s.cert) limit spare) }
+    requires can_be { CanBeCertified plan.now limits.limit limits.spare }
+    ensures certified { IfOk result (λ s.
+        IsCertified plan.now (ranks_of s.cert) limits.limit limits.spare) }
     ensures heights { IfOk result (λ s. AreHeights plan.now (ranks_of s.cert)) }
     ensures fits { IfOk result (λ s. IsCertificateOf plan.now s.cert) }
     ensures routes { IfOk result (λ s. s.routes
         ≡ filter (stays before.now s.cert) plan.now.routes) }
     ensures bars { IfOk result (λ s. s.bars ≡ plan.now.bars) }
 {
-    match rank(alloc, plan, limit, spare)? {
+    match rank(alloc, plan, limits.limit, limits.spare)? {
         Ranking::Found(cert) => {
             let routes = staying_routes(alloc, plan, before, &cert)?;
             let bars = bars_of(alloc, plan)?;
@@ -117,37 +108,36 @@ fn settle<A: Allocator + Copy>(
     }
 }
 
-/// Mends a plan: routes over its groups that are certified for at most `limit` transits (0 to 62)
-/// and `spare` groups to spare (0 to 15), wherever any are. A code whose present routes can be
-/// certified keeps them. Else it says which exchanges cannot be served for which code. `Err` is
-/// lack of memory.
+/// Mends a plan: routes over its groups that are certified for the limits, wherever any are. A code
+/// whose present routes can be certified keeps them. Else it says which exchanges cannot be served
+/// for which code. `Err` is lack of memory.
 pub fn mend<A: Allocator + Copy>(
     alloc: A,
     plan: Plan<A>,
-    limit: u8,
-    spare: u8,
+    limits: Limits,
 ) -> Result<Mending<A>, NoMemory>
-    requires limit { limit ≤ 62 }
-    requires spare { spare ≤ 15 }
 
     // It is mended exactly where any routes of the network are certified by any ranks.
-    ensures wherever { IfOk result (λ m. IsMended m ↔ CanBeMended plan limit spare) }
+    ensures wherever { IfOk result (λ m. IsMended m ↔ CanBeMended plan limits.limit limits.spare) }
 
     ensures routing { IfOk result (OnMended (λ q before cert. IsRouting plan q)) }
     ensures certified { IfOk result (OnMended (λ q before cert.
-        IsCertified q (ranks_of cert) limit spare)) }
+        IsCertified q (ranks_of cert) limits.limit limits.spare)) }
     ensures fits { IfOk result (OnMended (λ q before cert. IsCertificateOf q cert)) }
-    ensures kept { IfOk result (OnMended (λ q before cert. KeepsSafeLists plan q limit spare)) }
+    ensures kept { IfOk result (OnMended (λ q before cert.
+        KeepsSafeLists plan q limits.limit limits.spare)) }
     ensures called { IfOk result (OnMended (λ q before cert. NewListsAreReached plan q)) }
-    ensures mended { IfOk result (OnMended (λ q before cert. q ≡ mended plan limit spare)) }
+    ensures mended { IfOk result (OnMended (λ q before cert.
+        q ≡ mended plan limits.limit limits.spare)) }
     ensures before { IfOk result (OnMended (λ q before cert. before ≡ plan.routes)) }
 
     ensures same { IfOk result (OnNoRouting (λ q pairs pair. q ≡ plan)) }
-    ensures told { IfOk result (OnNoRouting (λ q pairs pair. pairs ≡ unserved plan limit spare)) }
+    ensures told { IfOk result (OnNoRouting (λ q pairs pair.
+        pairs ≡ unserved plan limits.limit limits.spare)) }
     ensures pair { IfOk result (OnNoRouting (λ q pairs pair. pair ≡ ambiguous_of plan.codes)) }
 {
     plan.rules();
-    let found = match look(alloc, &plan, limit, spare) {
+    let found = match look(alloc, &plan, limits) {
         Ok(found) => found,
         Err(error) => {
             drop(plan);
@@ -158,7 +148,7 @@ pub fn mend<A: Allocator + Copy>(
         return Ok(Mending::NoRouting(plan, found.unserved, found.pair));
     }
     let full = plan.rerouted(found.routes, found.bars);
-    match settle(alloc, &full, &found.before, limit, spare) {
+    match settle(alloc, &full, &found.before, limits) {
         Ok(settled) => {
             let mended = full.rerouted(settled.routes, settled.bars);
             Ok(Mending::Mended(mended, found.before, settled.cert))

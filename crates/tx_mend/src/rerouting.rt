@@ -32,7 +32,7 @@ fn add_route<A: Allocator>(
 fn add_present<A: Allocator>(basis: &Basis<'_, A>, routes: &mut Routes<A>) -> Result<(), NoMemory>
     requires { routes.old ≡ [] }
     ensures { OnOk result (routes.new
-        ≡ flat_map (full_route basis.now.plan.now basis.now.limit basis.now.spare)
+        ≡ flat_map (full_route basis.now.plan.now basis.now.limits.limit basis.now.limits.spare)
         (present_pairs basis.now.plan.now)) }
 {
     let plan = basis.plan;
@@ -56,9 +56,10 @@ fn add_absent<A: Allocator>(
 ) -> Result<(), NoMemory>
     requires code { code < length basis.now.plan.now.codes }
     requires so_far { routes.old
-        ≡ routes_below basis.now.plan.now basis.now.limit basis.now.spare code }
+        ≡ routes_below basis.now.plan.now basis.now.limits.limit basis.now.limits.spare code }
     ensures { OnOk result (routes.new
-        ≡ routes_below basis.now.plan.now basis.now.limit basis.now.spare (code + 1)) }
+        ≡ routes_below basis.now.plan.now
+        basis.now.limits.limit basis.now.limits.spare (code + 1)) }
 {
     let plan = basis.plan;
     for place in 0..plan.exchanges() {
@@ -77,7 +78,7 @@ pub fn full_routes<A: Allocator + Copy>(
     basis: &Basis<'_, A>,
 ) -> Result<Routes<A>, NoMemory>
     ensures { IfOk result (λ routes. routes
-        ≡ full_routes basis.now.plan.now basis.now.limit basis.now.spare) }
+        ≡ full_routes basis.now.plan.now basis.now.limits.limit basis.now.limits.spare) }
 {
     let plan = basis.plan;
     let mut routes = Routes::new(alloc);

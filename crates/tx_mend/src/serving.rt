@@ -98,7 +98,7 @@ pub fn unserved_of<A: Allocator + Copy>(
 ) -> Result<Vec<(CodeId, ExchangeId), A>, NoMemory>
     requires { AreOrigins basis.now.plan.now origins.now }
     ensures { IfOk result (λ pairs. pairs.items
-        ≡ unserved basis.now.plan.now basis.now.limit basis.now.spare) }
+        ≡ unserved basis.now.plan.now basis.now.limits.limit basis.now.limits.spare) }
 {
     let plan = basis.plan;
     let mut pairs = Vec::new(alloc);

@@ -6,7 +6,7 @@ ghost use Rattle.tx_mend_report.specs.MendText.{list_line, change_line, code_cha
 
 use std::alloc::Allocator;
 use tx_audit::write_asked;
-use tx_plan::{CodeId, ExchangeId, Pair, Plan, Routes};
+use tx_plan::{CodeId, ExchangeId, Limits, Pair, Plan, Routes};
 use tx_plantext::write_route;
 use tx_text::{Sink, WriteFault, write_parts};
 
@@ -14,14 +14,13 @@ use tx_text::{Sink, WriteFault, write_parts};
 pub fn write_mended<A: Allocator, W: Sink>(
     before: &Routes<A>,
     plan: &Plan<A>,
-    limit: u8,
-    spare: u8,
+    limits: Limits,
     sink: &mut W,
 ) -> Result<(), WriteFault>
     ensures { Wrote W.taken W.failed sink.old sink.new
-        (mended_text before.now plan.now limit spare) result }
+        (mended_text before.now plan.now limits.limit limits.spare) result }
 {
-    write_asked(b"MEND", limit, spare, sink)?;
+    write_asked(b"MEND", limits, sink)?;
     write_changes(before, plan, sink)?;
     write_parts(&[b"VERDICT YES\n"], sink)
 }

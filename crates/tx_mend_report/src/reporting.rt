@@ -1,5 +1,5 @@
 // The report of a mending.
-ghost use Rattle.std.specs.Prelude.{◌≡◌, ◌≤◌};
+ghost use Rattle.std.specs.Prelude.{◌≡◌};
 ghost use Rattle.tx_text.specs.Ends.{output};
 ghost use Rattle.tx_text.specs.Wrote.{Wrote};
 ghost use Rattle.tx_plan.specs.Certified.{IsCertified};
@@ -16,7 +16,7 @@ use thiserror::Error;
 use tx_cert::Cert;
 use tx_check::{Verdict, check};
 use tx_mend::{Mending, mend};
-use tx_plan::{Plan, Routes};
+use tx_plan::{Limits, Plan, Routes};
 use tx_text::{NoMemory, Sink, WriteFault};
 
 /// Why there is no whole report.
@@ -46,46 +46,42 @@ impl From<NoMemory> for MendFault {
     }
 }
 
-/// Mends a plan for at most `limit` transits (0 to 62) and `spare` groups to spare (0 to 15), and
-/// writes the report. YES exactly where any routes of the network can be certified, and after the
-/// checker said Yes to the mended plan with its certificate. Else what cannot be served.
+/// Mends a plan, and writes the report. YES exactly where any routes of the network can be
+/// certified, and after the checker said Yes to the mended plan with its certificate. Else what
+/// cannot be served.
 pub fn report_mend<A: Allocator + Copy, W: Sink>(
     alloc: A,
     plan: Plan<A>,
-    limit: u8,
-    spare: u8,
+    limits: Limits,
     out: &mut W,
 ) -> Result<Mending<A>, MendFault>
-    requires limit { limit ≤ 62 }
-    requires spare { spare ≤ 15 }
-    ensures answers { MendAnswers plan limit spare (output W.taken out.old out.new) result }
+    ensures answers { MendAnswers plan limits.limit limits.spare
+        (output W.taken out.old out.new) result }
     ensures mark { W.failed out.new ≡ mark_after (W.failed out.old) result }
 {
-    let mending = mend(alloc, plan, limit, spare)?;
-    write_mending(&mending, limit, spare, out)?;
+    let mending = mend(alloc, plan, limits)?;
+    write_mending(&mending, limits, out)?;
     Ok(mending)
 }
 
 /// Reports what a mending came to; a certificate after the checker said Yes to it.
 fn write_mending<A: Allocator, W: Sink>(
     mending: &Mending<A>,
-    limit: u8,
-    spare: u8,
+    limits: Limits,
     out: &mut W,
 ) -> Result<(), WriteFault>
-    requires limit { limit ≤ 62 }
-    requires spare { spare ≤ 15 }
     requires fits { OnMended (λ q before cert. IsCertificateOf q cert) mending.now }
-    requires certified { OnMended (λ q before cert. IsCertified q (ranks_of cert) limit spare)
-        mending.now }
-    ensures confirmed { OnMended (λ q before cert. IsConfirmed q cert limit spare) mending.now }
+    requires certified { OnMended (λ q before cert.
+        IsCertified q (ranks_of cert) limits.limit limits.spare) mending.now }
+    ensures confirmed { OnMended (λ q before cert.
+        IsConfirmed q cert limits.limit limits.spare) mending.now }
     ensures wrote { Wrote W.taken W.failed out.old out.new
-        (mend_report limit spare mending.now) result }
+        (mend_report limits.limit limits.spare mending.now) result }
 {
     match mending {
-        Mending::Mended(plan, before, cert) => confirm(plan, before, cert, limit, spare, out),
+        Mending::Mended(plan, before, cert) => confirm(plan, before, cert, limits, out),
         Mending::NoRouting(plan, unserved, pair) => {
-            write_unserved(plan, limit, spare, unserved, pair, out)
+            write_unserved(plan, limits, unserved, pair, out)
         }
     }
 }
@@ -95,20 +91,17 @@ fn confirm<A: Allocator, W: Sink>(
     plan: &Plan<A>,
     before: &Routes<A>,
     cert: &Cert<A>,
-    limit: u8,
-    spare: u8,
+    limits: Limits,
     out: &mut W,
 ) -> Result<(), WriteFault>
-    requires limit { limit ≤ 62 }
-    requires spare { spare ≤ 15 }
     requires fits { IsCertificateOf plan.now cert.now }
-    requires certified { IsCertified plan.now (ranks_of cert.now) limit spare }
-    ensures confirmed { IsConfirmed plan.now cert.now limit spare }
+    requires certified { IsCertified plan.now (ranks_of cert.now) limits.limit limits.spare }
+    ensures confirmed { IsConfirmed plan.now cert.now limits.limit limits.spare }
     ensures wrote { Wrote W.taken W.failed out.old out.new
-        (mended_text before.now plan.now limit spare) result }
+        (mended_text before.now plan.now limits.limit limits.spare) result }
 {
-    match check(plan, cert, limit, spare) {
-        Verdict::Yes => write_mended(before, plan, limit, spare, out),
+    match check(plan, cert, limits.limit, limits.spare) {
+        Verdict::Yes => write_mended(before, plan, limits, out),
         Verdict::No(_) => unreachable!(),
     }
 }

@@ -6,7 +6,7 @@ ghost use Rattle.tx_mend_report.specs.MendText.{pair_line, pair_count, unserved_
 
 use std::alloc::Allocator;
 use tx_audit::{write_asked, write_finding, write_no};
-use tx_plan::{CodeId, ExchangeId, Plan};
+use tx_plan::{CodeId, ExchangeId, Limits, Plan};
 use tx_rank::Finding;
 use tx_text::{Sink, WriteFault, write_parts};
 
@@ -14,16 +14,15 @@ use tx_text::{Sink, WriteFault, write_parts};
 /// served for it, and NO with the number of these lines.
 pub fn write_unserved<A: Allocator, W: Sink>(
     plan: &Plan<A>,
-    limit: u8,
-    spare: u8,
+    limits: Limits,
     unserved: &[(CodeId, ExchangeId)],
     pair: &Option<(CodeId, CodeId)>,
     sink: &mut W,
 ) -> Result<(), WriteFault>
     ensures { Wrote W.taken W.failed sink.old sink.new
-        (unserved_text plan.now limit spare unserved.now pair.now) result }
+        (unserved_text plan.now limits.limit limits.spare unserved.now pair.now) result }
 {
-    write_asked(b"MEND", limit, spare, sink)?;
+    write_asked(b"MEND", limits, sink)?;
     write_pair(plan, pair, sink)?;
     write_each(plan, unserved, sink)?;
     write_no(pair_count(pair) + unserved.len(), sink)

@@ -15,7 +15,7 @@ use crate::code_routes::{CodeRoutes, origins_of};
 use crate::finding::Finding;
 use std::alloc::{Allocator, Global};
 use tx_cert::Cert;
-use tx_plan::{CodeId, Plan};
+use tx_plan::{CodeId, Limits, Plan};
 use tx_text::NoMemory;
 use tx_trie::CodeTrie;
 
@@ -49,22 +49,22 @@ pub fn pair_found<A: Allocator + Copy>(
 pub fn rank_codes<A: Allocator + Copy>(
     alloc: A,
     plan: &Plan<A>,
-    limit: u8,
-    spare: u8,
+    limits: Limits,
     findings: &mut Vec<Finding<A>, A>,
 ) -> Result<Cert<A>, NoMemory>
     requires { findings.old.items ≡ pair_findings (ambiguous_of plan.now.codes) }
-    ensures listed { IfOk result (λ _. AreFindings plan.now limit spare findings.new.items) }
+    ensures listed { IfOk result (λ _.
+        AreFindings plan.now limits.limit limits.spare findings.new.items) }
     ensures codes { IfOk result (λ cert. cert.codes ≡ length plan.now.codes) }
     ensures exchanges { IfOk result (λ cert. cert.exchanges ≡ length plan.now.exchanges) }
     ensures heights { IfOk result (λ cert. findings.new.items ≡ []
         → AreHeights plan.now (ranks_of cert)) }
     ensures certified { IfOk result (λ cert. findings.new.items ≡ []
-        → IsCertified plan.now (ranks_of cert) limit spare) }
+        → IsCertified plan.now (ranks_of cert) limits.limit limits.spare) }
 {
     let origins = origins_of(alloc, plan)?;
     let mut cert = Cert::new(alloc, plan)?;
-    rank_each(alloc, plan, &origins, limit, spare, &mut cert, findings)?;
+    rank_each(alloc, plan, &origins, limits, &mut cert, findings)?;
     Ok(cert)
 }
 
@@ -74,17 +74,17 @@ fn rank_each<A: Allocator + Copy>(
     alloc: A,
     plan: &Plan<A>,
     origins: &[bool],
-    limit: u8,
-    spare: u8,
+    limits: Limits,
     cert: &mut Cert<A>,
     findings: &mut Vec<Finding<A>, A>,
 ) -> Result<(), NoMemory>
     requires origins { AreOrigins plan.now origins.now }
     requires blank { cert.old ≡ no_ranks_for plan.now }
     requires pair { findings.old.items ≡ pair_findings (ambiguous_of plan.now.codes) }
-    ensures { IfOk result (λ _. IsRankedBelow plan.now limit spare
+    ensures { IfOk result (λ _. IsRankedBelow plan.now limits.limit limits.spare
         (length plan.now.codes) cert.new findings.new.items) }
 {
+    let Limits { limit, spare } = limits;
     for place in 0..plan.codes() {
         let code = CodeId::of(place);
         let net = CodeRoutes {
@@ -126,7 +126,7 @@ pub fn rank<A: Allocator + Copy>(
     ensures listed { IfOk result (OnFails (AreFindings plan.now limit spare)) }
 {
     let mut findings = pair_found(alloc, plan)?;
-    let cert = rank_codes(alloc, plan, limit, spare, &mut findings)?;
+    let cert = rank_codes(alloc, plan, Limits { limit, spare }, &mut findings)?;
     if findings.is_empty() {
         cert.rules();
         return Ok(Ranking::Found(cert));

@@ -12,7 +12,7 @@ use Rattle.tx_audit.proofs.Loops.{one_of_all}
 use Rattle.tx_audit.proofs.first.first_counter.Goals as goal
 
 pub counter-requires : goal.counter-requires
-counter-requires g c = one_of_all (IsTrueOf c.args.plan.now c.args.limit c.args.spare) c.args.findings.now c.loop-finding.finding-index c.finding-item.result c.requires c.loop-finding-test.true c.finding-item.is
+counter-requires g c = one_of_all (IsTrueOf c.args.plan.now c.args.limits.limit c.args.limits.spare) c.args.findings.now c.loop-finding.finding-index c.finding-item.result c.requires c.loop-finding-test.true c.finding-item.is
 
 pub loop-finding-preserved : goal.loop-finding-preserved
 loop-finding-preserved g c =

@@ -10,14 +10,14 @@ pub returns-then-is_empty-clause-exactly : goal.returns-then-is_empty-clause-exa
 returns-then-is_empty-clause-exactly g c =
     let empty = eqb-true (vec_len c.change_codes.new.findings) 0 (sym c.is_empty.ensures ∙ c.if-is_empty.true) in
     let none = none_of c.change_codes.new.findings.items (omega arith) in
-    (λ _. each_certified c.args.old.now c.args.new.now c.args.limit c.args.spare c.requires.network (ranks_of c.in_ok-cert.cert) (c.in_ok-cert.ensures.common none), λ _. tt)
+    (λ _. each_certified c.args.old.now c.args.new.now c.args.limits.limit c.args.limits.spare c.requires.network (ranks_of c.in_ok-cert.cert) (c.in_ok-cert.ensures.common none), λ _. tt)
 
 pub returns-then-is_empty-clause-found : goal.returns-then-is_empty-clause-found
 returns-then-is_empty-clause-found g c =
     let empty = eqb-true (vec_len c.change_codes.new.findings) 0 (sym c.is_empty.ensures ∙ c.if-is_empty.true) in
     let none = none_of c.change_codes.new.findings.items (omega arith) in
-    let each = each_certified c.args.old.now c.args.new.now c.args.limit c.args.spare c.requires.network (ranks_of c.in_ok-cert.cert) (c.in_ok-cert.ensures.common none) in
-    (λ _. nothing_found c.args.old.now c.args.new.now c.args.limit c.args.spare c.rules.ensures c.rules-2.ensures c.requires.network each, λ _. tt)
+    let each = each_certified c.args.old.now c.args.new.now c.args.limits.limit c.args.limits.spare c.requires.network (ranks_of c.in_ok-cert.cert) (c.in_ok-cert.ensures.common none) in
+    (λ _. nothing_found c.args.old.now c.args.new.now c.args.limits.limit c.args.limits.spare c.rules.ensures c.rules-2.ensures c.requires.network each, λ _. tt)
 
 pub returns-then-is_empty-clause-common : goal.returns-then-is_empty-clause-common
 returns-then-is_empty-clause-common g c =
@@ -29,7 +29,7 @@ pub returns-then-is_empty-clause-sound : goal.returns-then-is_empty-clause-sound
 returns-then-is_empty-clause-sound g c =
     let empty = eqb-true (vec_len c.change_codes.new.findings) 0 (sym c.is_empty.ensures ∙ c.if-is_empty.true) in
     let none = none_of c.change_codes.new.findings.items (omega arith) in
-    sound_change c.args.old.now c.args.new.now (ranks_of c.in_ok-cert.cert) c.args.limit c.args.spare c.requires.network (c.in_ok-cert.ensures.common none)
+    sound_change c.args.old.now c.args.new.now (ranks_of c.in_ok-cert.cert) c.args.limits.limit c.args.limits.spare c.requires.network (c.in_ok-cert.ensures.common none)
 
 pub returns-then-is_empty-clause-heights : goal.returns-then-is_empty-clause-heights
 returns-then-is_empty-clause-heights g c =
@@ -43,8 +43,8 @@ returns-clause-exactly g c =
     let full = eqb-false (vec_len findings) 0 (sym c.is_empty.ensures ∙ c.if-is_empty.false) in
     let some : findings.items ≢ [] = λ e. let l = ap length e in full (omega arith) in (
       λ b. absurd b,
-      λ each. some_found c.args.old.now c.args.new.now c.args.limit c.args.spare findings.items c.in_ok-cert.ensures.listed some
-          (nothing_found c.args.old.now c.args.new.now c.args.limit c.args.spare c.rules.ensures c.rules-2.ensures c.requires.network each),
+      λ each. some_found c.args.old.now c.args.new.now c.args.limits.limit c.args.limits.spare findings.items c.in_ok-cert.ensures.listed some
+          (nothing_found c.args.old.now c.args.new.now c.args.limits.limit c.args.limits.spare c.rules.ensures c.rules-2.ensures c.requires.network each),
     )
 
 pub returns-clause-found : goal.returns-clause-found
@@ -52,10 +52,10 @@ returns-clause-found g c =
     let findings = c.change_codes.new.findings in
     let full = eqb-false (vec_len findings) 0 (sym c.is_empty.ensures ∙ c.if-is_empty.false) in
     let some : findings.items ≢ [] = λ e. let l = ap length e in full (omega arith) in
-    (λ b. absurd b, λ none. some_found c.args.old.now c.args.new.now c.args.limit c.args.spare findings.items c.in_ok-cert.ensures.listed some none)
+    (λ b. absurd b, λ none. some_found c.args.old.now c.args.new.now c.args.limits.limit c.args.limits.spare findings.items c.in_ok-cert.ensures.listed some none)
 
 pub returns-clause-shown : goal.returns-clause-shown
-returns-clause-shown g c = changes_shown c.args.old.now c.args.new.now c.args.limit c.args.spare c.rules.ensures c.rules-2.ensures c.requires.network c.change_codes.new.findings.items c.in_ok-cert.ensures.listed
+returns-clause-shown g c = changes_shown c.args.old.now c.args.new.now c.args.limits.limit c.args.limits.spare c.rules.ensures c.rules-2.ensures c.requires.network c.change_codes.new.findings.items c.in_ok-cert.ensures.listed
 
 pub returns-then-is_empty-clause-fits : goal.returns-then-is_empty-clause-fits
 returns-then-is_empty-clause-fits g c = record { codes = c.in_ok-cert.ensures.codes; exchanges = c.in_ok-cert.ensures.exchanges; rules = c.rules-then-is_empty.ensures }

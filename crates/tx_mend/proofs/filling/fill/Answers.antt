@@ -13,7 +13,7 @@ pub loop-lower-preserved : goal.loop-lower-preserved
 loop-lower-preserved g c = λ of e.
     let p = c.args.plan.now in
     let x = c.args.exchange in
-    let s = c.args.spare in
+    let s = c.args.limits.spare in
     let n = c.loop-lower.lower in
     let f : ℕ → List ℕ = λ m. filter (λ g. leads_to p of m x g) (outgoing p x) in
     c.fill_at.ensures of e ∙ ap (λ (l : List ℕ). filled s c.loop-lower.list (filter (λ g. leads_to p of n x g) l)) c.requires.seizable ∙ ap (λ (l : List ℕ). filled s l (f n)) (c.loop-lower.invariant of e)
@@ -23,7 +23,7 @@ pub returns-then-groups-from : goal.returns-then-groups-from
 returns-then-groups-from g c = λ of e.
     let p = c.args.plan.now in
     let x = c.args.exchange in
-    let s = c.args.spare in
+    let s = c.args.limits.spare in
     let n = c.loop-lower.lower in
     let start = c.args.list.now in
     let f : ℕ → List ℕ = λ m. filter (λ g. leads_to p of m x g) (outgoing p x) in

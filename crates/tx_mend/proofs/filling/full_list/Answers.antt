@@ -16,19 +16,19 @@ pub list_by_ranks-requires-clause-long : goal.list_by_ranks-requires-clause-long
 list_by_ranks-requires-clause-long g c =
     let b = c.args.basis.now in
     let p = b.plan.now in
-    let w = was_least p b.limit b.spare c.args.code c.in-Some.ranks.now (c.in-Some.ensures ∙ ranks_got p b.limit b.spare c.index.result c.args.code b.table.now b.ranks c.requires.code c.index.ensures) in
-    length_ranks p c.in-Some.ranks.now (least_rank p c.args.code b.limit b.spare) w.1
+    let w = was_least p b.limits.limit b.limits.spare c.args.code c.in-Some.ranks.now (c.in-Some.ensures ∙ ranks_got p b.limits.limit b.limits.spare c.index.result c.args.code b.table.now b.ranks c.requires.code c.index.ensures) in
+    length_ranks p c.in-Some.ranks.now (least_rank p c.args.code b.limits.limit b.limits.spare) w.1
 
 pub returns-in-None : goal.returns-in-None
 returns-in-None g c =
     let b = c.args.basis.now in
     let p = b.plan.now in
-    let k = was_kept p b.limit b.spare c.args.code (c.in-None.ensures ∙ ranks_got p b.limit b.spare c.index.result c.args.code b.table.now b.ranks c.requires.code c.index.ensures) in
-    c.present_list.ensures ∙ sym (ap (λ t. if t then route_list p c.args.exchange c.args.code else least_list p b.limit b.spare c.args.code c.args.exchange) k)
+    let k = was_kept p b.limits.limit b.limits.spare c.args.code (c.in-None.ensures ∙ ranks_got p b.limits.limit b.limits.spare c.index.result c.args.code b.table.now b.ranks c.requires.code c.index.ensures) in
+    c.present_list.ensures ∙ sym (ap (λ t. if t then route_list p c.args.exchange c.args.code else least_list p b.limits.limit b.limits.spare c.args.code c.args.exchange) k)
 
 pub returns-in-Some : goal.returns-in-Some
 returns-in-Some g c =
     let b = c.args.basis.now in
     let p = b.plan.now in
-    let w = was_least p b.limit b.spare c.args.code c.in-Some.ranks.now (c.in-Some.ensures ∙ ranks_got p b.limit b.spare c.index.result c.args.code b.table.now b.ranks c.requires.code c.index.ensures) in
-    c.list_by_ranks.ensures (least_rank p c.args.code b.limit b.spare) w.1 ∙ sym (ap (λ t. if t then route_list p c.args.exchange c.args.code else least_list p b.limit b.spare c.args.code c.args.exchange) w.0)
+    let w = was_least p b.limits.limit b.limits.spare c.args.code c.in-Some.ranks.now (c.in-Some.ensures ∙ ranks_got p b.limits.limit b.limits.spare c.index.result c.args.code b.table.now b.ranks c.requires.code c.index.ensures) in
+    c.list_by_ranks.ensures (least_rank p c.args.code b.limits.limit b.limits.spare) w.1 ∙ sym (ap (λ t. if t then route_list p c.args.exchange c.args.code else least_list p b.limits.limit b.limits.spare c.args.code c.args.exchange) w.0)

@@ -10,7 +10,7 @@ returns-in-Some g c = λ of e.
     let at = c.index.ensures in
     let h = c.requires.exchange in
     let here : of x ≡ Some c.in-Some.rank = sym (value_at of (length p.exchanges) c.index.result None c.args.ranks.now e (omega arith) ∙ ap of at) ∙ c.in-Some.is in
-    c.fill.ensures of e ∙ ap (λ (l : List ℕ). filled c.args.spare l (groups_below p of c.in-Some.rank x)) (c.kept_below-list.ensures of e) ∙ sym (ap (λ (o : Option ℕ). list_of_rank p of c.args.code c.args.spare x o) here)
+    c.fill.ensures of e ∙ ap (λ (l : List ℕ). filled c.args.limits.spare l (groups_below p of c.in-Some.rank x)) (c.kept_below-list.ensures of e) ∙ sym (ap (λ (o : Option ℕ). list_of_rank p of c.args.code c.args.limits.spare x o) here)
 
 pub returns-in-None : goal.returns-in-None
 returns-in-None g c = λ of e.
@@ -19,4 +19,4 @@ returns-in-None g c = λ of e.
     let at = c.index.ensures in
     let h = c.requires.exchange in
     let here : of x ≡ None = sym (value_at of (length p.exchanges) c.index.result None c.args.ranks.now e (omega arith) ∙ ap of at) ∙ c.in-None.is in
-    c.new.ensures ∙ sym (ap (λ (o : Option ℕ). list_of_rank p of c.args.code c.args.spare x o) here)
+    c.new.ensures ∙ sym (ap (λ (o : Option ℕ). list_of_rank p of c.args.code c.args.limits.spare x o) here)

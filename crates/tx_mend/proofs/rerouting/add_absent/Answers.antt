@@ -22,7 +22,7 @@ add_route-requires g c =
     let none = nil_from_length c.list.result.now (eqb-true (length c.list.result.now) 0 (sym c.is_empty.ensures ∙ c.if-is_empty.true)) in
     let empty : route_list p n code ≡ [] = sym (c.list.ensures.value ∙ ap (λ (y : ℕ). route_list p y code) e) ∙ none in
     ap (λ (y : ℕ). list_any (λ (r : Route). (r.exchange == y) && (r.code == code)) c.loop-place.routes) e ∙ ap (list_any (λ (r : Route). (r.exchange == n) && (r.code == code))) c.loop-place.invariant
-    ∙ absent_fresh p c.exchanges-place-end.ensures.rules (full_list p b.limit b.spare) code n (is_absent_if p c.exchanges-place-end.ensures.rules n code empty)
+    ∙ absent_fresh p c.exchanges-place-end.ensures.rules (full_list p b.limits.limit b.limits.spare) code n (is_absent_if p c.exchanges-place-end.ensures.rules n code empty)
 
 pub loop-place-preserved : goal.loop-place-preserved
 loop-place-preserved g c =
@@ -31,23 +31,23 @@ loop-place-preserved g c =
     let n = c.loop-place.place in
     let code = c.args.code in
     let e = c.of-exchange.ensures in
-    let f = full_route p b.limit b.spare in
+    let f = full_route p b.limits.limit b.limits.spare in
     let here = c.list.ensures.value ∙ ap (λ (y : ℕ). route_list p y code) e in
     elim c.if-is_empty.branch [
       | then-is_empty+in_ok-add_route w ↦ (
           let none = nil_from_length c.list.result.now (eqb-true (length c.list.result.now) 0 (sym c.is_empty.ensures ∙ w.if-is_empty.true)) in
           w.routes-is ∙ w.in_ok-add_route.ensures ∙ ap (λ (l : List ℕ). c.loop-place.routes ++ route_if (c.of-exchange.result, code) l) w.full_list-list.ensures
           ∙ ap (λ (y : ℕ). c.loop-place.routes ++ f (y, code)) e ∙ ap (λ (l : List Route). l ++ f (n, code)) c.loop-place.invariant
-          ∙ sym (absent_more p c.exchanges-place-end.ensures.rules (full_list p b.limit b.spare) code n (is_absent_if p c.exchanges-place-end.ensures.rules n code (sym here ∙ none))))
+          ∙ sym (absent_more p c.exchanges-place-end.ensures.rules (full_list p b.limits.limit b.limits.spare) code n (is_absent_if p c.exchanges-place-end.ensures.rules n code (sym here ∙ none))))
       | else-is_empty w ↦ (
           let some = eqb-false (length c.list.result.now) 0 (sym c.is_empty.ensures ∙ w.if-is_empty.false) in
-          w.routes-is ∙ c.loop-place.invariant ∙ sym (absent_same p c.exchanges-place-end.ensures.rules (full_list p b.limit b.spare) code n (is_present_if p c.exchanges-place-end.ensures.rules n code (λ k. some (ap length (here ∙ k))))))
+          w.routes-is ∙ c.loop-place.invariant ∙ sym (absent_same p c.exchanges-place-end.ensures.rules (full_list p b.limits.limit b.limits.spare) code n (is_present_if p c.exchanges-place-end.ensures.rules n code (λ k. some (ap length (here ∙ k))))))
     ]
 
 pub returns : goal.returns
 returns g c =
     let b = c.args.basis.now in
     let p = b.plan.now in
-    let f = full_route p b.limit b.spare in
+    let f = full_route p b.limits.limit b.limits.spare in
     let all : c.loop-place.place ≡ length p.exchanges = let t = c.loop-place-test.false in let a = c.loop-place.auto.place-end in let e = c.exchanges-place-end.ensures.count in omega arith in
-    c.loop-place.invariant ∙ ap (λ (n : ℕ). flat_map f (present_pairs p ++ (absent_below p c.args.code ++ filter (is_absent p) (pairs_for n c.args.code)))) all ∙ absent_all p c.exchanges-place-end.ensures.rules (full_list p b.limit b.spare) c.args.code
+    c.loop-place.invariant ∙ ap (λ (n : ℕ). flat_map f (present_pairs p ++ (absent_below p c.args.code ++ filter (is_absent p) (pairs_for n c.args.code)))) all ∙ absent_all p c.exchanges-place-end.ensures.rules (full_list p b.limits.limit b.limits.spare) c.args.code

@@ -14,7 +14,7 @@ add_route-requires g c =
     let b = c.args.basis.now in
     let p = b.plan.now in
     let k = c.in-Some.pair in
-    ap (list_any (λ (r : Route). (r.exchange == k.0) && (r.code == k.1))) c.loop-place.invariant ∙ present_fresh p c.routes-place-end.ensures.rules c.loop-place.place k (sym c.in-Some.is ∙ c.route_at.ensures.value) (full_list p b.limit b.spare)
+    ap (list_any (λ (r : Route). (r.exchange == k.0) && (r.code == k.1))) c.loop-place.invariant ∙ present_fresh p c.routes-place-end.ensures.rules c.loop-place.place k (sym c.in-Some.is ∙ c.route_at.ensures.value) (full_list p b.limits.limit b.limits.spare)
 
 pub full_list-list-requires-clause-code : goal.full_list-list-requires-clause-code
 full_list-list-requires-clause-code g c = (present_within c.args.basis.now.plan.now c.routes-place-end.ensures.rules c.loop-place.place c.in-Some.pair (sym c.in-Some.is ∙ c.route_at.ensures.value)).1
@@ -35,5 +35,5 @@ loop-place-preserved g c =
     let b = c.args.basis.now in
     let p = b.plan.now in
     let k = c.in-Some.pair in
-    let f = full_route p b.limit b.spare in
-    c.in_ok-add_route-in-Some.ensures ∙ ap (λ (l : List ℕ). c.loop-place.routes ++ route_if k l) c.full_list-list.ensures ∙ ap (λ (l : List Route). l ++ f k) c.loop-place.invariant ∙ sym (present_more p c.routes-place-end.ensures.rules c.loop-place.place k (sym c.in-Some.is ∙ c.route_at.ensures.value) (full_list p b.limit b.spare))
+    let f = full_route p b.limits.limit b.limits.spare in
+    c.in_ok-add_route-in-Some.ensures ∙ ap (λ (l : List ℕ). c.loop-place.routes ++ route_if k l) c.full_list-list.ensures ∙ ap (λ (l : List Route). l ++ f k) c.loop-place.invariant ∙ sym (present_more p c.routes-place-end.ensures.rules c.loop-place.place k (sym c.in-Some.is ∙ c.route_at.ensures.value) (full_list p b.limits.limit b.limits.spare))

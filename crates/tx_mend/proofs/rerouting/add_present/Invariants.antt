@@ -4,4 +4,4 @@ use Rattle.tx_mend.specs.inner.Pairs.{full_route, present_pairs}
 use Rattle.tx_mend.proofs.rerouting.add_present.Given as goal
 
 abbrev pub invariant-loop-place : goal.invariant-loop-place
-invariant-loop-place g l = l.routes ≡ flat_map (full_route l.plan l.basis.limit l.basis.spare) (take l.place (present_pairs l.plan))
+invariant-loop-place g l = l.routes ≡ flat_map (full_route l.plan l.basis.limits.limit l.basis.limits.spare) (take l.place (present_pairs l.plan))

@@ -7,7 +7,7 @@ pub loop-place-init : goal.loop-place-init
 loop-place-init g c =
     let b = c.args.basis.now in
     let p = b.plan.now in
-    c.in_ok-add_present.ensures ∙ ap (flat_map (full_route p b.limit b.spare)) (sym (append-nil (present_pairs p)))
+    c.in_ok-add_present.ensures ∙ ap (flat_map (full_route p b.limits.limit b.limits.spare)) (sym (append-nil (present_pairs p)))
 
 pub add_absent-requires-clause-code : goal.add_absent-requires-clause-code
 add_absent-requires-clause-code g c = let t = c.loop-place-test.true in let e = c.codes-place-end.ensures.count in let o = c.of.ensures in omega arith
@@ -15,16 +15,16 @@ add_absent-requires-clause-code g c = let t = c.loop-place-test.true in let e = 
 pub add_absent-requires-clause-so_far : goal.add_absent-requires-clause-so_far
 add_absent-requires-clause-so_far g c =
     let b = c.args.basis.now in
-    c.loop-place.invariant ∙ ap (routes_below b.plan.now b.limit b.spare) (sym c.of.ensures)
+    c.loop-place.invariant ∙ ap (routes_below b.plan.now b.limits.limit b.limits.spare) (sym c.of.ensures)
 
 pub loop-place-preserved : goal.loop-place-preserved
 loop-place-preserved g c =
     let b = c.args.basis.now in
-    c.in_ok-add_absent.ensures ∙ ap (λ (n : ℕ). routes_below b.plan.now b.limit b.spare (n + 1)) c.of.ensures
+    c.in_ok-add_absent.ensures ∙ ap (λ (n : ℕ). routes_below b.plan.now b.limits.limit b.limits.spare (n + 1)) c.of.ensures
 
 pub returns : goal.returns
 returns g c =
     let b = c.args.basis.now in
     let p = b.plan.now in
     let all : c.loop-place.place ≡ length p.codes = let t = c.loop-place-test.false in let a = c.loop-place.auto.place-end in let e = c.codes-place-end.ensures.count in omega arith in
-    c.loop-place.invariant ∙ ap (routes_below p b.limit b.spare) all
+    c.loop-place.invariant ∙ ap (routes_below p b.limits.limit b.limits.spare) all

@@ -8,7 +8,7 @@ use Rattle.tx_mend_report.proofs.unserved.write_unserved.Goals as goal
 pub returns-in_err-write_asked : goal.returns-in_err-write_asked
 returns-in_err-write_asked g c =
     let p = c.args.plan.now in
-    let h = head_line c.args.limit c.args.spare in
+    let h = head_line c.args.limits.limit c.args.limits.spare in
     let q = pair_line p c.args.pair.now in
     let l = flat_map (unserved_line p) c.args.unserved.now in
     let v = no_line (pair_count c.args.pair.now + length c.args.unserved.now) in
@@ -17,7 +17,7 @@ returns-in_err-write_asked g c =
 pub returns-in_err-write_pair : goal.returns-in_err-write_pair
 returns-in_err-write_pair g c =
     let p = c.args.plan.now in
-    let h = head_line c.args.limit c.args.spare in
+    let h = head_line c.args.limits.limit c.args.limits.spare in
     let q = pair_line p c.args.pair.now in
     let l = flat_map (unserved_line p) c.args.unserved.now in
     let v = no_line (pair_count c.args.pair.now + length c.args.unserved.now) in
@@ -27,7 +27,7 @@ returns-in_err-write_pair g c =
 pub returns-in_err-write_each : goal.returns-in_err-write_each
 returns-in_err-write_each g c =
     let p = c.args.plan.now in
-    let h = head_line c.args.limit c.args.spare in
+    let h = head_line c.args.limits.limit c.args.limits.spare in
     let q = pair_line p c.args.pair.now in
     let l = flat_map (unserved_line p) c.args.unserved.now in
     let v = no_line (pair_count c.args.pair.now + length c.args.unserved.now) in
@@ -38,7 +38,7 @@ returns-in_err-write_each g c =
 pub returns : goal.returns
 returns g c =
     let p = c.args.plan.now in
-    let h = head_line c.args.limit c.args.spare in
+    let h = head_line c.args.limits.limit c.args.limits.spare in
     let q = pair_line p c.args.pair.now in
     let l = flat_map (unserved_line p) c.args.unserved.now in
     let v = no_line (pair_count c.args.pair.now + length c.args.unserved.now) in

@@ -6,13 +6,13 @@ pub rank_each-requires-clause-blank : goal.rank_each-requires-clause-blank
 rank_each-requires-clause-blank g c = c.in_ok-cert.ensures
 
 pub returns-clause-listed : goal.returns-clause-listed
-returns-clause-listed g c = ranked_listed c.args.plan.now c.args.limit c.args.spare (length c.args.plan.now.codes) c.rank_each.new.cert c.rank_each.new.findings.items c.in_ok-rank_each.ensures refl
+returns-clause-listed g c = ranked_listed c.args.plan.now c.args.limits.limit c.args.limits.spare (length c.args.plan.now.codes) c.rank_each.new.cert c.rank_each.new.findings.items c.in_ok-rank_each.ensures refl
 
 pub returns-clause-heights : goal.returns-clause-heights
-returns-clause-heights g c = ranked_heights c.args.plan.now c.args.limit c.args.spare (length c.args.plan.now.codes) c.rank_each.new.cert c.rank_each.new.findings.items c.in_ok-rank_each.ensures refl
+returns-clause-heights g c = ranked_heights c.args.plan.now c.args.limits.limit c.args.limits.spare (length c.args.plan.now.codes) c.rank_each.new.cert c.rank_each.new.findings.items c.in_ok-rank_each.ensures refl
 
 pub returns-clause-certified : goal.returns-clause-certified
-returns-clause-certified g c = ranked_certified c.args.plan.now c.args.limit c.args.spare (length c.args.plan.now.codes) c.rank_each.new.cert c.rank_each.new.findings.items c.in_ok-rank_each.ensures refl
+returns-clause-certified g c = ranked_certified c.args.plan.now c.args.limits.limit c.args.limits.spare (length c.args.plan.now.codes) c.rank_each.new.cert c.rank_each.new.findings.items c.in_ok-rank_each.ensures refl
 
 pub returns-clause-codes : goal.returns-clause-codes
 returns-clause-codes g c = c.in_ok-rank_each.ensures.codes

@@ -8,7 +8,7 @@ use Rattle.tx_rank.proofs.Listing.{ranked_first, ranked_next}
 use Rattle.tx_rank.proofs.ranking.rank_each.Goals as goal
 
 pub loop-place-init : goal.loop-place-init
-loop-place-init g c = ranked_first c.args.plan.now c.args.limit c.args.spare c.args.cert.now c.args.findings.now.items c.requires.blank c.requires.pair
+loop-place-init g c = ranked_first c.args.plan.now c.args.limits.limit c.args.limits.spare c.args.cert.now c.args.findings.now.items c.requires.blank c.requires.pair
 
 pub invariant_of-net : goal.invariant_of-net
 invariant_of-net g c =
@@ -30,12 +30,12 @@ pub loop-place-preserved : goal.loop-place-preserved
 loop-place-preserved g c =
     let e = c.in_ok-rank_code.ensures in
     let at = c.of-code.ensures in
-    ranked_next c.args.plan.now c.args.limit c.args.spare c.loop-place.place c.loop-place.cert c.rank_code.new.cert c.loop-place.findings.items c.rank_code.new.findings.items c.loop-place.invariant
-    (subst (λ (k : ℕ). IsJudged {A = g.row.A.Denot} (net_of c.args.plan.now k) k c.args.limit c.args.spare c.loop-place.findings.items c.rank_code.new.findings.items (rank_at c.rank_code.new.cert k)) at e.judged)
+    ranked_next c.args.plan.now c.args.limits.limit c.args.limits.spare c.loop-place.place c.loop-place.cert c.rank_code.new.cert c.loop-place.findings.items c.rank_code.new.findings.items c.loop-place.invariant
+    (subst (λ (k : ℕ). IsJudged {A = g.row.A.Denot} (net_of c.args.plan.now k) k c.args.limits.limit c.args.limits.spare c.loop-place.findings.items c.rank_code.new.findings.items (rank_at c.rank_code.new.cert k)) at e.judged)
     (λ d x away. e.others d x (λ q. away (q ∙ at))) e.codes e.exchanges
 
 pub returns : goal.returns
 returns g c =
     let p = c.args.plan.now in
     let all : c.loop-place.place ≡ length p.codes = let t = c.loop-place-test.false in let a = c.loop-place.auto.place-end in let e = c.codes-place-end.ensures.count in omega arith in
-    subst (λ (k : ℕ). IsRankedBelow p c.args.limit c.args.spare k c.loop-place.cert c.loop-place.findings.items) all c.loop-place.invariant
+    subst (λ (k : ℕ). IsRankedBelow p c.args.limits.limit c.args.limits.spare k c.loop-place.cert c.loop-place.findings.items) all c.loop-place.invariant
