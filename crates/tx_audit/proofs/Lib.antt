@@ -1,7 +1,4 @@
-pub mod Reporting
 pub mod Found
-pub mod Untouched
-pub mod Taken
 pub mod Listed
 pub mod Choices
 pub mod Walking

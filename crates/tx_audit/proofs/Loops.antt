@@ -2,8 +2,8 @@
 use Rattle.std.proofs.Common.{◌≡◌, ℕ, zero, suc, ◌+◌, ◌-◌, ◌<◌, ◌≤◌, Bool, true, false, List, [], ◌∷◌, length, drop, ◌++◌, map, take, get_or, Option, Some, None, Result, Ok, Err, refl, sym, ap, ◌∙◌, arith}
 use Rattle.std.specs.Prelude.{find, slice_get, is_some, option_and_then, IfOk}
 use Rattle.std.specs.List.{range_with_len, AllByRecursion}
-use Rattle.std.proofs.lemmas.List.{append_assoc, append-nil, drop_all, map_more}
-use Rattle.std.proofs.lemmas.Option.{slice_get_read}
+use Rattle.std.proofs.lemmas.List.{append_assoc, append-nil, at_drop_more, drop_all, map_more}
+use Rattle.std.proofs.lemmas.Option.{slice_get_read, slice_get_within, get_or_from_slice_get}
 use Rattle.std.specs.Option.{option_map, IfSome}
 use Rattle.tx_plan.specs.declared.range.LineRange.{LineRange}
 use Rattle.tx_plan.specs.Plan.{Plan}
@@ -13,12 +13,7 @@ use Rattle.tx_plan.specs.Routes.{route_list}
 use Rattle.tx_audit.specs.Counter.{first_range, first_code, low_line, first_line, is_single, turns_on_one, step_events, walk_events}
 
 pub drop_at : {A : Type 0} (xs : List A) (i : ℕ) (x : A) → slice_get xs i ≡ Some x → drop i xs ≡ x ∷ drop (i + 1) xs
-drop_at xs i x h = at xs i h ∙ (let e : suc i ≡ i + 1 = omega arith in ap (λ k. x ∷ drop k xs) e)
-  where
-    at : (xs : List _) (i : ℕ) → slice_get xs i ≡ Some x → drop i xs ≡ x ∷ drop (suc i) xs
-    at [] i h = let bad : ⊥ = cc in absurd bad
-    at (y ∷ ys) zero h = let e : y ≡ x = cc in ap (λ z. z ∷ ys) e
-    at (y ∷ ys) (suc i) h = at ys i h
+drop_at xs i x h = at_drop_more (λ l. l) xs i x (slice_get_within xs i x h) ∙ ap (λ y. y ∷ drop (i + 1) xs) (get_or_from_slice_get xs i x x h)
 
 -- one of a list of which all are so
 pub one_of_all : {A : Type 0} (P : A → Type 0) (xs : List A) (i : ℕ) (x : A) → AllByRecursion P xs → i < length xs → x ≡ get_or xs i x → P x

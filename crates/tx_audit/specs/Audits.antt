@@ -1,5 +1,5 @@
 -- What an audit answers.
-use Rattle.std.specs.Prelude.{◌≡◌, ◌≢◌, ℕ, Bool, true, List, [], ◌∷◌, Result, Ok, Err}
+use Rattle.std.specs.Prelude.{◌≡◌, ◌≢◌, ℕ, Bool, true, List, [], ◌∷◌, codes, Result, Ok, Err}
 use Rattle.std.specs.List.{AllByRecursion}
 use Rattle.std.specs.Io.KnownBytes.{append_known}
 use Rattle.tx_text.specs.Ends.{StopsIn, Input, Output}
@@ -12,14 +12,16 @@ use Rattle.tx_machine.specs.Sound.{IsSound, HasFewRoutes}
 use Rattle.tx_check.specs.declared.verdict.Verdict.TheVariants.{Yes}
 use Rattle.tx_check.specs.Checks.{check_faults, ranks_for, verdict_of}
 use Rattle.tx_rank.specs.declared.finding.Finding.{Finding}
+use Rattle.tx_rank.specs.declared.ranking.Ranking.{Ranking}
+use Rattle.tx_rank.specs.declared.ranking.Ranking.TheVariants.{Found, Fails}
 use Rattle.tx_rank.specs.Findings.{IsTrueOf, AreFindings}
 use Rattle.tx_rank.specs.Grades.{CanBeCertified}
 use Rattle.tx_rank.specs.Heights.{AreHeights}
+use Rattle.tx_rank.specs.Report.{report}
 use Rattle.tx_audit.specs.declared.audited.Audited.{Audited}
 use Rattle.tx_audit.specs.declared.audited.Audited.TheVariants.{Sound, Unsound}
 use Rattle.tx_audit.specs.declared.audited.AuditFault.{AuditFault}
 use Rattle.tx_audit.specs.declared.audited.AuditFault.TheVariants.{Plan as PlanRefused, Write, NoMemory}
-use Rattle.tx_audit.specs.Report.{report}
 
 -- The certificate ranks by heights and certifies the plan, the checker says Yes to it, and so the
 -- plan is sound and calls are routed a few times only.
@@ -38,13 +40,24 @@ module _ {A : Type 0} where
   IsAllFound p limit spare (f ∷ findings) = AllByRecursion (IsTrueOf p limit spare) (f ∷ findings)
       × AreFindings p limit spare (f ∷ findings)
 
+  -- a certificate that clears a plan without findings, or the findings of one that no ranks certify
+  abbrev pub IsRightRanking : Plan → (limit spare : ℕ) → Ranking A → Type 0
+  IsRightRanking p limit spare (Found cert) = IsAllFound {A = A} p limit spare []
+      × IsCleared p cert limit spare
+  IsRightRanking p limit spare (Fails findings) = IsAllFound p limit spare findings.items
+      × (findings.items ≢ []) × (CanBeCertified p limit spare → ⊥)
+
+  -- the report of an audit
+  abbrev pub audit_report : Plan → (limit spare : ℕ) → List (Finding A) → List ℕ
+  audit_report = report (codes "AUDIT")
+
   -- the plan of the whole text was audited, and the report was written
   pub record Reported (p : Plan) (limit spare : ℕ) (text : Input) (out : Output)
       (findings : List (Finding A)) : Type 0 where
     pub rules : IsPlan p
     pub read : SaysPlan text p
     pub found : IsAllFound p limit spare findings
-    pub wrote : out.new ≡ append_known out.old (report p limit spare findings)
+    pub wrote : out.new ≡ append_known out.old (audit_report p limit spare findings)
 
 -- it holds of a plan and its findings, if something was wrong
 abbrev pub OnUnsound : {A : Type 0} → (Plan → List (Finding A) → Type 0) → Audited A → Type 0
@@ -60,7 +73,7 @@ pub record ReportedInPart (A : Type 0) (limit spare : ℕ) (text : Input) (out :
   pub findings : List (Finding A)
   pub found : IsAllFound plan limit spare findings
   pub cleared : findings ≡ [] → (cert : Certificate) × IsCleared plan cert limit spare
-  pub wrote : StopsIn out.old out.new (report plan limit spare findings)
+  pub wrote : StopsIn out.old out.new (audit_report plan limit spare findings)
 
 -- the plan was read, and there was no memory to rank it
 pub record ReadAlone (text : Input) : Type 0 where

@@ -1,7 +1,5 @@
-pub mod Report
 pub mod Audits
 pub mod CheckedRuns
-pub mod GradeText
 pub mod Counter
 pub mod Breaks
 pub mod Scripts

@@ -1,5 +1,4 @@
-//! The audit of a plan and its report, the text of a grade, the events that show what is wrong, and
-//! runs over the engine: of a list of events, of a script, and of a script after a check.
+//! The audit of a plan, the events that show what is wrong, and runs of a script after a check.
 #![tactic(auto)]
 
 mod audited;
@@ -9,11 +8,8 @@ mod checked_run;
 mod counters;
 mod first;
 mod free_line;
-mod grade_text;
-mod playing;
-mod report;
+mod judging;
 mod script_writer;
-mod simulating;
 mod steps;
 mod turns;
 
@@ -23,10 +19,5 @@ pub use checked::Checked;
 pub use checked_run::run_checked;
 pub use counters::counter;
 pub use first::first_counter;
-pub use grade_text::write_grade;
-pub use playing::{Played, play};
-pub use report::{
-    write_asked, write_finding, write_findings, write_no, write_steps, write_verdict,
-};
+pub use judging::judge;
 pub use script_writer::write_counter;
-pub use simulating::simulate;

@@ -1,14 +1,18 @@
--- What a ranking of a change came to is right.
+-- What a ranking of a change comes to is right.
 use Rattle.std.proofs.Common.{◌≢◌, ℕ, [], length, ap, ◌∙◌}
 use Rattle.std.specs.Prelude.{◌↔◌}
 use Rattle.std.specs.List.{AllByRecursion}
 use Rattle.tx_plan.specs.Plan.{Plan}
-use Rattle.tx_cert.specs.Certificate.{Certificate, IsCertificateOf}
+use Rattle.tx_cert.specs.Certificate.{Certificate, IsCertificateOf, ranks_of}
 use Rattle.tx_rank.specs.declared.ranking.Ranking.{Ranking}
 use Rattle.tx_rank.specs.declared.ranking.Ranking.TheVariants.{Found, Fails}
 use Rattle.tx_rank.specs.Grades.{CanBeCertified}
 use Rattle.tx_rank.specs.Rankings.{IsFound, OnFound, OnFails}
-use Rattle.tx_plan.specs.Mixtures.{SameNetwork, EachMixture}
+use Rattle.tx_plan.specs.Mixtures.{SameNetwork, EachMixture, AreCommon}
+use Rattle.tx_plan.proofs.CommonRanks.{mixture_certified}
+use Rattle.tx_machine.proofs.Sound.{sound}
+use Rattle.tx_machine.proofs.ChangingRuns.{sound_change, few_meanwhile, suffice_meanwhile}
+use Rattle.tx_check.specs.Confirmed.{IsConfirmed}
 use Rattle.tx_change.specs.ChangeFindings.{AreChangeFindings}
 use Rattle.tx_change.specs.Shown.{IsShown}
 use Rattle.tx_change.specs.ChangeAnswers.{IsCleared, IsRightChange}
@@ -16,6 +20,19 @@ use Rattle.tx_change.specs.ChangeAnswers.{IsCleared, IsRightChange}
 -- a certificate of a plan is one of each plan of its network
 pub certificate_along : (p q : Plan) (t : Certificate) → SameNetwork p q → IsCertificateOf p t → IsCertificateOf q t
 certificate_along p q t same h = record { codes = h.codes ∙ ap length same.codes; exchanges = h.exchanges ∙ ap length same.exchanges; rules = h.rules }
+
+-- common ranks that the checker confirms for both plans clear the change
+pub cleared : (p q : Plan) (limit spare : ℕ) (t : Certificate) → SameNetwork p q → AreCommon p q (ranks_of t) limit spare → IsConfirmed p t limit spare → IsConfirmed q t limit spare → IsCleared p q limit spare t
+cleared p q limit spare t same common before after = record {
+  fits = before.fits;
+  before = before.yes;
+  after = after.yes;
+  common = common;
+  mixtures = λ m mix. sound m mix.rules (ranks_of t) limit spare (mixture_certified p q m (ranks_of t) limit spare same common mix);
+  live = sound_change p q (ranks_of t) limit spare same common;
+  few_routes = few_meanwhile p q (ranks_of t) limit spare same common;
+  suffice = suffice_meanwhile p q (ranks_of t) limit spare same common;
+}
 
 pub is_right_change : (A : Type 0) (old new : Plan) (limit spare : ℕ) (r : Ranking A) → (IsFound r ↔ EachMixture old new (λ m. CanBeCertified m limit spare)) → OnFails (λ findings. findings ≢ []) r
     → OnFails (AllByRecursion (IsShown old new limit spare)) r → OnFails (AreChangeFindings old new limit spare) r

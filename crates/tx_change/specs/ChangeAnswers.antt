@@ -1,7 +1,6 @@
--- What the report of a change answers.
-use Rattle.std.specs.Prelude.{◌≡◌, ◌≢◌, ℕ, List, [], Result, Ok, Err}
+-- What the ranking of a change answers.
+use Rattle.std.specs.Prelude.{◌≡◌, ◌≢◌, ℕ, List, []}
 use Rattle.std.specs.List.{AllByRecursion}
-use Rattle.std.specs.Io.KnownBytes.{append_known}
 use Rattle.tx_text.specs.Ends.{StopsIn, Output}
 use Rattle.tx_plan.specs.Plan.{Plan}
 use Rattle.tx_cert.specs.Certificate.{Certificate, IsCertificateOf, ranks_of}
@@ -12,11 +11,9 @@ use Rattle.tx_rank.specs.declared.finding.Finding.{Finding}
 use Rattle.tx_rank.specs.declared.ranking.Ranking.{Ranking}
 use Rattle.tx_rank.specs.declared.ranking.Ranking.TheVariants.{Found, Fails}
 use Rattle.tx_rank.specs.Grades.{CanBeCertified}
+use Rattle.tx_rank.specs.Report.{findings_of}
 use Rattle.tx_plan.specs.Mixtures.{EachMixture, AreCommon}
 use Rattle.tx_machine.specs.ChangingRuns.{IsSoundChange, HasFewRoutesMeanwhile, SufficesMeanwhile}
-use Rattle.tx_audit.specs.declared.audited.AuditFault.{AuditFault}
-use Rattle.tx_audit.specs.declared.audited.AuditFault.TheVariants.{Plan as PlanRefused, Write, NoMemory}
-use Rattle.tx_audit.specs.Report.{findings_of}
 use Rattle.tx_change.specs.ChangeFindings.{AreChangeFindings}
 use Rattle.tx_change.specs.Shown.{IsShown}
 use Rattle.tx_change.specs.ChangeReport.{change_report}
@@ -55,13 +52,3 @@ pub record ChangeToldInPart (A : Type 0) (old new : Plan) (limit spare : ℕ) (o
   pub ranking : Ranking A
   pub right : IsRightChange old new limit spare ranking
   pub wrote : StopsIn out.old out.new (change_report old limit spare (findings_of ranking))
-
--- the ranking is right, and its report was written
-abbrev pub ChangeAnswers : {A : Type 0} → (old new : Plan) → (limit spare : ℕ) → (out : Output)
-    → Result (Ranking A) AuditFault → Type 0
-ChangeAnswers old new limit spare out (Ok r) = IsRightChange old new limit spare r
-    × (out.new ≡ append_known out.old (change_report old limit spare (findings_of r)))
-ChangeAnswers {A} old new limit spare out (Err Write) =
-    ChangeToldInPart A old new limit spare out
-ChangeAnswers old new limit spare out (Err NoMemory) = out.silent
-ChangeAnswers old new limit spare out (Err (PlanRefused f)) = ⊥

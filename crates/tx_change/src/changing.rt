@@ -11,6 +11,7 @@ ghost use Rattle.tx_plan.specs.Mixtures.{SameNetwork, EachMixture, AreCommon};
 ghost use Rattle.tx_machine.specs.ChangingRuns.{IsSoundChange};
 ghost use Rattle.tx_change.specs.ChangeNets.{IsTrueOfChange};
 ghost use Rattle.tx_change.specs.ChangeFindings.{AreChangeFindings, AreChangeHeights};
+ghost use Rattle.tx_change.specs.ChangeAnswers.{IsCleared};
 ghost use Rattle.tx_change.specs.Shown.{IsShown};
 ghost use Rattle.tx_change.specs.inner.Changed.{IsChangedBelow};
 ghost use Rattle.tx_change.specs.inner.OneNetwork.{AreOfOneNetwork};
@@ -19,6 +20,7 @@ use crate::change_routes::ChangeRoutes;
 use crate::joined::joined_lists;
 use std::alloc::Allocator;
 use tx_cert::Cert;
+use tx_check::confirm;
 use tx_plan::{CodeId, Limits, Plan};
 use tx_rank::{Finding, Ranking, origins_of, pair_found, rank_code};
 use tx_text::NoMemory;
@@ -121,9 +123,11 @@ pub fn change<A: Allocator + Copy>(
     ensures found { IfOk result (λ r. IsFound r
         ↔ ((f : Finding A) → IsTrueOfChange old.now new.now limits.limit limits.spare f → ⊥)) }
 
-    // They certify both plans, and so the change is sound with calls up.
+    // They certify both plans, as the checker confirms, and so the change is sound with calls up.
     ensures common { IfOk result (OnFound (λ cert.
         AreCommon old.now new.now (ranks_of cert) limits.limit limits.spare)) }
+    ensures cleared { IfOk result (OnFound
+        (IsCleared old.now new.now limits.limit limits.spare)) }
     ensures sound { IfOk result (OnFound (λ cert.
         IsSoundChange old.now new.now limits.limit limits.spare)) }
     ensures heights { IfOk result (OnFound (λ cert.
@@ -143,6 +147,8 @@ pub fn change<A: Allocator + Copy>(
     let cert = change_codes(alloc, old, new, limits, &mut findings)?;
     if findings.is_empty() {
         cert.rules();
+        confirm(old, &cert, limits);
+        confirm(new, &cert, limits);
         return Ok(Ranking::Found(cert));
     }
     Ok(Ranking::Fails(findings))

@@ -1,3 +1,4 @@
 pub mod Checks
 pub mod Verdicts
+pub mod Confirmed
 pub mod inner

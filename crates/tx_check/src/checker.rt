@@ -4,6 +4,7 @@ ghost use Rattle.tx_plan.specs.Certified.{IsCertified};
 ghost use Rattle.tx_cert.specs.Certificate.{IsCertificateOf, ranks_of};
 ghost use Rattle.tx_machine.specs.Sound.{IsSound, HasFewRoutes};
 ghost use Rattle.tx_check.specs.Checks.{ranks_for, check_faults, foremost, verdict_of};
+ghost use Rattle.tx_check.specs.Confirmed.{IsConfirmed};
 
 use crate::ambiguity::ambiguous;
 use crate::fault::CheckFault;
@@ -44,11 +45,7 @@ pub fn check<A: Allocator>(plan: &Plan<A>, cert: &Cert<A>, limit: u8, spare: u8)
 pub fn confirm<A: Allocator>(plan: &Plan<A>, cert: &Cert<A>, limits: Limits)
     requires fits { IsCertificateOf plan.now cert.now }
     requires certified { IsCertified plan.now (ranks_of cert.now) limits.limit limits.spare }
-    ensures yes { verdict_of
-        (check_faults plan.now (ranks_for plan.now cert.now) limits.limit limits.spare)
-        ≡ Verdict.Yes }
-    ensures sound { IsSound plan.now limits.limit limits.spare }
-    ensures few_routes { HasFewRoutes plan.now limits.limit }
+    ensures { IsConfirmed plan.now cert.now limits.limit limits.spare }
 {
     match check(plan, cert, limits.limit, limits.spare) {
         Verdict::Yes => {}

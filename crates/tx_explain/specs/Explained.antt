@@ -18,8 +18,8 @@ use Rattle.tx_tickets.specs.Texts.{refusal_text, cause_text}
 use Rattle.tx_check.specs.declared.fault.CheckFault.{CheckFault}
 use Rattle.tx_check.specs.Verdicts.{fault_words}
 use Rattle.tx_rank.specs.declared.finding.Finding.{Finding}
-use Rattle.tx_audit.specs.Report.{finding_line}
-use Rattle.tx_mend_report.specs.MendText.{pair_line, unserved_line}
+use Rattle.tx_rank.specs.Report.{finding_line}
+use Rattle.tx_mend.specs.MendText.{pair_line, unserved_line}
 use Rattle.tx_risk_text.specs.declared.fault.RiskWord.{RiskWord}
 use Rattle.tx_risk_text.specs.RiskFaults.{fault_row as risk_row}
 use Rattle.tx_explain.specs.Entries.{table, entries_of, is_known}

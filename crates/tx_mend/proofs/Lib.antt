@@ -17,3 +17,5 @@ pub mod Comes
 pub mod Trimmed
 pub mod Staying
 pub mod Local
+pub mod Written
+pub mod Right

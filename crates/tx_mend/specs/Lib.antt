@@ -4,4 +4,5 @@ pub mod Lists
 pub mod Mended
 pub mod Laws
 pub mod Mendings
+pub mod MendText
 pub mod inner

@@ -1,9 +1,14 @@
 -- What the mending of a plan answers.
-use Rattle.std.specs.Prelude.{ℕ, List, Option}
+use Rattle.std.specs.Prelude.{◌≡◌, ℕ, List, Option}
 use Rattle.tx_plan.specs.Plan.{Plan, Route}
+use Rattle.tx_plan.specs.Ambiguous.{ambiguous_of}
 use Rattle.tx_cert.specs.Certificate.{Certificate}
+use Rattle.tx_check.specs.Confirmed.{IsConfirmed}
 use Rattle.tx_mend.specs.declared.mending.Mending.{Mending}
 use Rattle.tx_mend.specs.declared.mending.Mending.TheVariants.{Mended, NoRouting}
+use Rattle.tx_mend.specs.Routings.{IsRouting, CanBeMended}
+use Rattle.tx_mend.specs.Mended.{mended, unserved}
+use Rattle.tx_mend.specs.Laws.{KeepsSafeLists, NewListsAreReached}
 
 module _ {A : Type 0} where
   -- the plan was mended
@@ -21,3 +26,27 @@ module _ {A : Type 0} where
   abbrev pub OnNoRouting : (Plan → List (ℕ × ℕ) → Option (ℕ × ℕ) → Type 0) → Mending A → Type 0
   OnNoRouting Holds (Mended plan before cert) = Unit {0}
   OnNoRouting Holds (NoRouting plan unserved pair) = Holds plan unserved.items pair
+
+-- YES: the mended plan, of the same network, with a certificate to which the checker says Yes
+pub record IsMendedInto (p q : Plan) (routes : List Route) (cert : Certificate) (limit spare : ℕ)
+    : Type 0 where
+  pub routing : IsRouting p q
+  pub mended : q ≡ mended p limit spare
+  pub before : routes ≡ p.routes
+  pub kept : KeepsSafeLists p q limit spare
+  pub called : NewListsAreReached p q
+  pub confirmed : IsConfirmed q cert limit spare
+
+-- NO: no routes of the network are certified by any ranks; what cannot be served, and the pair
+pub record HasNoRouting (p q : Plan) (pairs : List (ℕ × ℕ)) (both : Option (ℕ × ℕ))
+    (limit spare : ℕ) : Type 0 where
+  pub same : q ≡ p
+  pub told : pairs ≡ unserved p limit spare
+  pub pair : both ≡ ambiguous_of p.codes
+  pub none : CanBeMended p limit spare → ⊥
+
+-- YES with the mended plan, or NO with what cannot be served
+abbrev pub IsRightMending : {A : Type 0} → Plan → (limit spare : ℕ) → Mending A → Type 0
+IsRightMending p limit spare (Mended q before cert) = IsMendedInto p q before cert limit spare
+IsRightMending p limit spare (NoRouting q pairs pair) =
+    HasNoRouting p q pairs.items pair limit spare

@@ -3,6 +3,7 @@ ghost use Rattle.std.specs.Prelude.{◌≡◌, ◌↔◌, IfOk, filter};
 ghost use Rattle.tx_plan.specs.Ambiguous.{ambiguous_of};
 ghost use Rattle.tx_plan.specs.Certified.{IsCertified};
 ghost use Rattle.tx_cert.specs.Certificate.{ranks_of, IsCertificateOf};
+ghost use Rattle.tx_check.specs.Confirmed.{IsConfirmed};
 ghost use Rattle.tx_rank.specs.Grades.{CanBeCertified};
 ghost use Rattle.tx_rank.specs.Heights.{AreHeights};
 ghost use Rattle.tx_mend.specs.Routings.{IsRouting, CanBeMended};
@@ -19,6 +20,7 @@ use crate::rerouting::full_routes;
 use crate::serving::unserved_of;
 use std::alloc::{Allocator, Global};
 use tx_cert::Cert;
+use tx_check::confirm;
 use tx_plan::{Bars, CodeId, ExchangeId, Limits, Plan, Routes};
 use tx_rank::{Ranking, origins_of, rank};
 use tx_text::NoMemory;
@@ -109,8 +111,9 @@ fn settle<A: Allocator + Copy>(
 }
 
 /// Mends a plan: routes over its groups that are certified for the limits, wherever any are. A code
-/// whose present routes can be certified keeps them. Else it says which exchanges cannot be served
-/// for which code. `Err` is lack of memory.
+/// whose present routes can be certified keeps them. The mended plan is given after the checker has
+/// said Yes to it. Else it says which exchanges cannot be served for which code. `Err` is lack of
+/// memory.
 pub fn mend<A: Allocator + Copy>(
     alloc: A,
     plan: Plan<A>,
@@ -124,6 +127,8 @@ pub fn mend<A: Allocator + Copy>(
     ensures certified { IfOk result (OnMended (λ q before cert.
         IsCertified q (ranks_of cert) limits.limit limits.spare)) }
     ensures fits { IfOk result (OnMended (λ q before cert. IsCertificateOf q cert)) }
+    ensures confirmed { IfOk result (OnMended (λ q before cert.
+        IsConfirmed q cert limits.limit limits.spare)) }
     ensures kept { IfOk result (OnMended (λ q before cert.
         KeepsSafeLists plan q limits.limit limits.spare)) }
     ensures called { IfOk result (OnMended (λ q before cert. NewListsAreReached plan q)) }
@@ -151,6 +156,7 @@ pub fn mend<A: Allocator + Copy>(
     match settle(alloc, &full, &found.before, limits) {
         Ok(settled) => {
             let mended = full.rerouted(settled.routes, settled.bars);
+            confirm(&mended, &settled.cert, limits);
             Ok(Mending::Mended(mended, found.before, settled.cert))
         }
         Err(error) => {

@@ -6,4 +6,6 @@ pub mod Rankings
 pub mod Nets
 pub mod Judged
 pub mod Grades
+pub mod Report
+pub mod GradeText
 pub mod inner

@@ -5,7 +5,8 @@
 //! and for each code a loop, or a walk to each short list and one that is too long; the lists of
 //! the plan allow each walk.
 //!
-//! `grade` says for which limits and spare numbers there is one.
+//! `grade` says for which limits and spare numbers there is one. `write_report` and `write_grade`
+//! write what was found.
 //!
 //! ```
 //! /// Whether no call passes a transit, with no group to spare.
@@ -26,6 +27,7 @@ mod code_routes;
 mod distances;
 mod explore;
 mod finding;
+mod grade_text;
 mod grading;
 mod list_scan;
 mod long_walk;
@@ -34,6 +36,7 @@ mod marks;
 mod plan_grade;
 mod ranking;
 mod reaching;
+mod report;
 mod routes;
 mod short_walks;
 mod walk;
@@ -43,10 +46,12 @@ pub use bounds::Bounds;
 pub use code_ranking::rank_code;
 pub use code_routes::origins_of;
 pub use finding::Finding;
+pub use grade_text::write_grade;
 pub use grading::grade;
 pub use marks::is_marked;
 pub use plan_grade::Grade;
 pub use ranking::{Ranking, pair_found, rank};
 pub use reaching::{far, reached};
+pub use report::{write_asked, write_finding, write_no, write_report, write_steps, write_verdict};
 pub use routes::Routes;
 pub use walk::{Steps, Walk};

@@ -11,8 +11,8 @@ use Rattle.tx_risk.specs.declared.surviving.Survival.{Survival}
 use Rattle.tx_risk.specs.declared.surviving.Survival.TheVariants.{Tried, Ungraded}
 use Rattle.tx_risk.specs.NamedRisks.{NamedRisk}
 use Rattle.tx_risk.specs.Outages.{outages}
-use Rattle.tx_audit.specs.Report.{step_text, verdict_line}
-use Rattle.tx_audit.specs.GradeText.{grade_text}
+use Rattle.tx_rank.specs.Report.{step_text, verdict_line}
+use Rattle.tx_rank.specs.GradeText.{grade_text}
 
 -- how many outages were tried
 abbrev pub head_line : ℕ → List ℕ

@@ -7,9 +7,8 @@ ghost use Rattle.tx_risk_report.specs.OutageReport.{head_line, risk_name, outage
 
 use itoa::Buffer;
 use std::alloc::Allocator;
-use tx_audit::{write_grade, write_steps, write_verdict};
 use tx_plan::{CodeId, Plan};
-use tx_rank::Walk;
+use tx_rank::{Walk, write_grade, write_steps, write_verdict};
 use tx_risk::{Cut, NamedRisk, Outage, Survival};
 use tx_text::{Sink, WriteFault, write_parts};
 

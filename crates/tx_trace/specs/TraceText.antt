@@ -5,7 +5,7 @@ use Rattle.std.specs.Option.{option_map_or}
 use Rattle.tx_plan.specs.Plan.{Plan, exchange_name, figures_of, group_name, home_of}
 use Rattle.tx_plan.specs.Circuits.{other_end}
 use Rattle.tx_plan.specs.Routes.{route_list, is_barred}
-pub use Rattle.tx_audit.specs.Report.{step_text}
+pub use Rattle.tx_rank.specs.Report.{step_text}
 use Rattle.tx_trace.specs.Ways.{first_way, all_met}
 use Rattle.tx_trace.specs.Heights.{rank_from}
 

@@ -8,8 +8,8 @@ ghost use Rattle.tx_trace.specs.Traces.{IsTraceOf, rank_told};
 use crate::tracing::Trace;
 use itoa::Buffer;
 use std::alloc::Allocator;
-use tx_audit::write_steps;
 use tx_plan::{CodeId, ExchangeId, GroupId, Plan};
+use tx_rank::write_steps;
 use tx_text::{Sink, WriteFault, write_parts};
 
 /// Writes a trace: what was asked, the way while all is free, and for each exchange that is met its

@@ -1,7 +1,7 @@
 use Rattle.std.proofs.Common.{refl}
 use Rattle.tx_text.specs.Ends.{input, output}
 use Rattle.tx_text.proofs.Exits.{exits_with}
-use Rattle.tx_audit.specs.declared.audited.AuditFault.TheVariants.{Plan as PlanRefused}
+use Rattle.tx_audit.specs.declared.audited.AuditFault.TheVariants.{Plan as PlanRefused, Write, NoMemory}
 use Rattle.tx_audit.proofs.Found.{audited, each_true, stopped}
 use Rattle.tx_audit.proofs.auditor.audit.Goals as goal
 
@@ -14,22 +14,29 @@ returns-in_err-plan-clause-mark g c = rw (exits_with c.from_residual.result (Pla
 
 pub returns-in_err-ranking-clause-answers : goal.returns-in_err-ranking-clause-answers
 returns-in_err-ranking-clause-answers g c =
-    let f = c.in_err-ranking.field-0.0 in
-    let text = input g.R.Source.rest g.R.Source.failed g.R.Source.called c.args.source.now c.read_plan_from.new.source in
-    let out = output g.W.Sink.taken c.args.out.now c.rank_and_report.new.out in
-    rw (exits_with c.from_residual-in_err-ranking.result f c.from_residual-in_err-ranking.ensures.1)
-    (stopped _ c.in_ok-plan.plan c.args.limit c.args.spare text out c.in_ok-plan.ensures.rules c.in_ok-plan.ensures.answer f c.in_err-ranking.ensures.answers)
+    rw (exits_with c.from_residual-in_err-ranking.result NoMemory c.from_residual-in_err-ranking.ensures.1)
+    (record { plan = c.in_ok-plan.plan; rules = c.in_ok-plan.ensures.rules; read = c.in_ok-plan.ensures.answer }, refl)
 
 pub returns-in_err-ranking-clause-mark : goal.returns-in_err-ranking-clause-mark
-returns-in_err-ranking-clause-mark g c =
-    rw (exits_with c.from_residual-in_err-ranking.result c.in_err-ranking.field-0.0 c.from_residual-in_err-ranking.ensures.1) c.in_err-ranking.ensures.mark
+returns-in_err-ranking-clause-mark g c = rw (exits_with c.from_residual-in_err-ranking.result NoMemory c.from_residual-in_err-ranking.ensures.1) refl
+
+pub returns-in_err-write_report-clause-answers : goal.returns-in_err-write_report-clause-answers
+returns-in_err-write_report-clause-answers g c =
+    let text = input g.R.Source.rest g.R.Source.failed g.R.Source.called c.args.source.now c.read_plan_from.new.source in
+    let out = output g.W.Sink.taken c.args.out.now c.write_report.new.out in
+    rw (exits_with c.from_residual-in_err-write_report.result Write c.from_residual-in_err-write_report.ensures.1)
+    (stopped _ c.in_ok-plan.plan c.args.limit c.args.spare text out c.in_ok-plan.ensures.rules c.in_ok-plan.ensures.answer c.in_ok-ranking.ranking c.in_ok-ranking.ensures c.in_err-write_report.ensures.0)
+
+pub returns-in_err-write_report-clause-mark : goal.returns-in_err-write_report-clause-mark
+returns-in_err-write_report-clause-mark g c =
+    rw (exits_with c.from_residual-in_err-write_report.result Write c.from_residual-in_err-write_report.ensures.1) c.in_err-write_report.ensures.1
 
 pub returns-clause-answers : goal.returns-clause-answers
 returns-clause-answers g c =
     let text = input g.R.Source.rest g.R.Source.failed g.R.Source.called c.args.source.now c.read_plan_from.new.source in
-    let out = output g.W.Sink.taken c.args.out.now c.rank_and_report.new.out in
-    rw c.of.ensures (audited _ c.in_ok-plan.plan c.args.limit c.args.spare text out c.in_ok-plan.ensures.rules c.in_ok-plan.ensures.answer c.in_ok-ranking.ranking c.in_ok-ranking.ensures.answers)
+    let out = output g.W.Sink.taken c.args.out.now c.write_report.new.out in
+    rw c.of.ensures (audited _ c.in_ok-plan.plan c.args.limit c.args.spare text out c.in_ok-plan.ensures.rules c.in_ok-plan.ensures.answer c.in_ok-ranking.ranking c.in_ok-ranking.ensures c.in_ok-write_report.ensures.0)
 
 pub returns-clause-each : goal.returns-clause-each
 returns-clause-each g c =
-    rw c.of.ensures (each_true _ c.in_ok-plan.plan c.args.limit c.args.spare c.in_ok-ranking.ranking c.in_ok-ranking.ensures.answers.0)
+    rw c.of.ensures (each_true _ c.in_ok-plan.plan c.args.limit c.args.spare c.in_ok-ranking.ranking c.in_ok-ranking.ensures)

@@ -4,6 +4,7 @@ use Rattle.tx_cert.specs.Certificate.{ranks_of}
 use Rattle.tx_rank.proofs.Listing.{none_of}
 use Rattle.tx_machine.proofs.ChangingRuns.{sound_change}
 use Rattle.tx_change.proofs.Listing.{each_certified, nothing_found, changes_shown, some_found}
+use Rattle.tx_change.proofs.Cleared.{certificate_along, cleared}
 use Rattle.tx_change.proofs.changing.change.Goals as goal
 
 pub returns-then-is_empty-clause-exactly : goal.returns-then-is_empty-clause-exactly
@@ -58,7 +59,29 @@ pub returns-clause-shown : goal.returns-clause-shown
 returns-clause-shown g c = changes_shown c.args.old.now c.args.new.now c.args.limits.limit c.args.limits.spare c.rules.ensures c.rules-2.ensures c.requires.network c.change_codes.new.findings.items c.in_ok-cert.ensures.listed
 
 pub returns-then-is_empty-clause-fits : goal.returns-then-is_empty-clause-fits
-returns-then-is_empty-clause-fits g c = record { codes = c.in_ok-cert.ensures.codes; exchanges = c.in_ok-cert.ensures.exchanges; rules = c.rules-then-is_empty.ensures }
+returns-then-is_empty-clause-fits g c = c.confirm.ensures.fits
+
+pub returns-then-is_empty-clause-cleared : goal.returns-then-is_empty-clause-cleared
+returns-then-is_empty-clause-cleared g c =
+    let empty = eqb-true (vec_len c.change_codes.new.findings) 0 (sym c.is_empty.ensures ∙ c.if-is_empty.true) in
+    let none = none_of c.change_codes.new.findings.items (omega arith) in
+    cleared c.args.old.now c.args.new.now c.args.limits.limit c.args.limits.spare c.in_ok-cert.cert c.requires.network (c.in_ok-cert.ensures.common none) c.confirm.ensures c.confirm-2.ensures
+
+pub confirm-requires-clause-fits : goal.confirm-requires-clause-fits
+confirm-requires-clause-fits g c = record { codes = c.in_ok-cert.ensures.codes; exchanges = c.in_ok-cert.ensures.exchanges; rules = c.rules-then-is_empty.ensures }
+
+pub confirm-requires-clause-certified : goal.confirm-requires-clause-certified
+confirm-requires-clause-certified g c =
+    let empty = eqb-true (vec_len c.change_codes.new.findings) 0 (sym c.is_empty.ensures ∙ c.if-is_empty.true) in
+    (c.in_ok-cert.ensures.common (none_of c.change_codes.new.findings.items (omega arith))).before
+
+pub confirm-2-requires-clause-fits : goal.confirm-2-requires-clause-fits
+confirm-2-requires-clause-fits g c = certificate_along c.args.old.now c.args.new.now c.in_ok-cert.cert c.requires.network c.confirm.ensures.fits
+
+pub confirm-2-requires-clause-certified : goal.confirm-2-requires-clause-certified
+confirm-2-requires-clause-certified g c =
+    let empty = eqb-true (vec_len c.change_codes.new.findings) 0 (sym c.is_empty.ensures ∙ c.if-is_empty.true) in
+    (c.in_ok-cert.ensures.common (none_of c.change_codes.new.findings.items (omega arith))).after
 
 pub change_codes-requires-clause-network : goal.change_codes-requires-clause-network
 change_codes-requires-clause-network g c = record { network = c.requires.network; old_rules = c.rules.ensures; new_rules = c.rules-2.ensures }

@@ -1,6 +1,6 @@
 use Rattle.std.proofs.Common.{◌+◌, ◌++◌, None, length}
 use Rattle.tx_text.proofs.Wrote.{wrote_then, wrote_first}
-use Rattle.tx_audit.specs.Report.{verdict_line}
+use Rattle.tx_rank.specs.Report.{verdict_line}
 use Rattle.tx_risk.specs.Outages.{outages}
 use Rattle.tx_risk_report.specs.OutageReport.{head_line, cuts_text}
 use Rattle.tx_risk_report.proofs.outage_report.write_tried.Goals as goal

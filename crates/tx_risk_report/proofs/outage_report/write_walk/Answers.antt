@@ -2,7 +2,7 @@ use Rattle.std.proofs.Common.{◌++◌, [], codes}
 use Rattle.std.specs.List.{flat_map}
 use Rattle.tx_text.proofs.Wrote.{wrote_then, wrote_first, text_is}
 use Rattle.tx_plan.specs.Plan.{figures_of, exchange_name}
-use Rattle.tx_audit.specs.Report.{step_text}
+use Rattle.tx_rank.specs.Report.{step_text}
 use Rattle.tx_risk_report.proofs.CutTexts.{line_parts}
 use Rattle.tx_risk_report.proofs.outage_report.write_walk.Goals as goal
 

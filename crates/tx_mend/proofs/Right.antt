@@ -1,0 +1,23 @@
+-- What a mending came to is right.
+use Rattle.std.proofs.Common.{◌≡◌, ℕ}
+use Rattle.std.specs.Prelude.{◌↔◌}
+use Rattle.tx_plan.specs.Plan.{Plan}
+use Rattle.tx_plan.specs.Ambiguous.{ambiguous_of}
+use Rattle.tx_mend.specs.declared.mending.Mending.{Mending}
+use Rattle.tx_mend.specs.declared.mending.Mending.TheVariants.{Mended, NoRouting}
+use Rattle.tx_mend.specs.Routings.{IsRouting, CanBeMended}
+use Rattle.tx_mend.specs.Mended.{mended, unserved}
+use Rattle.tx_mend.specs.Laws.{KeepsSafeLists, NewListsAreReached}
+use Rattle.tx_check.specs.Confirmed.{IsConfirmed}
+use Rattle.tx_mend.specs.Mendings.{IsMended, OnMended, OnNoRouting, IsRightMending}
+
+module _ (A : Type 0) (p : Plan) (limit spare : ℕ) where
+  pub is_right : (m : Mending A) → (IsMended m ↔ CanBeMended p limit spare) → OnMended (λ q before cert. IsRouting p q) m → OnMended (λ q before cert. q ≡ mended p limit spare) m
+      → OnMended (λ q before cert. before ≡ p.routes) m → OnMended (λ q before cert. KeepsSafeLists p q limit spare) m → OnMended (λ q before cert. NewListsAreReached p q) m
+      → OnMended (λ q before cert. IsConfirmed q cert limit spare) m
+      → OnNoRouting (λ q pairs pair. q ≡ p) m → OnNoRouting (λ q pairs pair. pairs ≡ unserved p limit spare) m → OnNoRouting (λ q pairs pair. pair ≡ ambiguous_of p.codes) m
+      → IsRightMending p limit spare m
+  is_right (Mended q before cert) wherever routing is had kept called confirmed same told pair =
+      record { routing = routing; mended = is; before = had; kept = kept; called = called; confirmed = confirmed }
+  is_right (NoRouting q pairs both) wherever routing is had kept called confirmed same told pair =
+      record { same = same; told = told; pair = pair; none = λ can. wherever.1 can }

@@ -1,0 +1,83 @@
+-- The report of a mending, as it is written.
+use Rattle.std.specs.Prelude.{ℕ, ◌+◌, if◌then◌else◌, List, [], ◌∷◌, ◌++◌, length, codes, Option, Some, None}
+use Rattle.std.specs.List.{flat_map, range_with_len}
+use Rattle.std.specs.Str.{bytes_eq}
+use Rattle.tx_text.specs.Ends.{StopsIn, Output}
+use Rattle.tx_text.specs.Written.{line_written}
+use Rattle.tx_plan.specs.Plan.{Plan, Route, figures_of, exchange_name}
+use Rattle.tx_plan.specs.Routes.{route_list}
+use Rattle.tx_plan.specs.Mixed.{rerouted}
+use Rattle.tx_plantext.specs.PlanWritten.{route_words}
+use Rattle.tx_rank.specs.declared.finding.Finding.TheVariants.{Ambiguous}
+use Rattle.tx_rank.specs.Report.{asked_line, finding_line, no_line}
+use Rattle.tx_mend.specs.declared.mending.Mending.{Mending}
+use Rattle.tx_mend.specs.declared.mending.Mending.TheVariants.{Mended, NoRouting}
+use Rattle.tx_mend.specs.Mendings.{IsRightMending}
+
+-- what was asked
+abbrev pub head_line : (limit spare : ℕ) → List ℕ
+head_line = asked_line (codes "MEND")
+
+-- the list of an exchange for a code: the route, as a plan writes it, or that none is needed
+abbrev pub list_line : Plan → (code x : ℕ) → List ℕ → List ℕ
+list_line p code x [] =
+    codes "DROP " ++ (exchange_name p x ++ (codes " " ++ (figures_of p code ++ codes "\n")))
+list_line p code x (g ∷ gs) =
+    line_written (route_words p (record { exchange = x; code = code; groups = g ∷ gs }))
+
+-- a line for a list, unless it has the groups that it had before, in the same order
+abbrev pub line_unless_same : Plan → (code x : ℕ) → (before now : List ℕ) → List ℕ
+line_unless_same p code x before now = if bytes_eq before now then [] else list_line p code x now
+
+-- that of the list of an exchange for a code, where other routes were before
+abbrev pub change_line : List Route → Plan → (code x : ℕ) → List ℕ
+change_line before p code x = line_unless_same p code x
+    (route_list (rerouted p before p.bars) x code) (route_list p x code)
+
+-- the lines of all lists for a code, by exchanges
+abbrev pub code_changes : List Route → Plan → (code : ℕ) → List ℕ
+code_changes before p code =
+    flat_map (change_line before p code) (range_with_len 0 (length p.exchanges))
+
+-- those of all codes
+abbrev pub changes : List Route → Plan → List ℕ
+changes before p = flat_map (code_changes before p) (range_with_len 0 (length p.codes))
+
+-- The report of a plan that was mended, and had these routes before
+abbrev pub mended_text : List Route → Plan → (limit spare : ℕ) → List ℕ
+mended_text before p limit spare =
+    head_line limit spare ++ (changes before p ++ codes "VERDICT YES\n")
+
+-- the ambiguous pair of codes, if there is one
+abbrev pub pair_line : Plan → Option (ℕ × ℕ) → List ℕ
+pair_line p None = []
+pair_line p (Some q) = finding_line {A = Unit {0}} p (Ambiguous q.0 q.1)
+
+-- how many lines that pair has
+abbrev pub pair_count : Option (ℕ × ℕ) → ℕ
+pair_count None = 0
+pair_count (Some q) = 1
+
+-- a code, and an exchange that cannot be served for it
+abbrev pub unserved_line : Plan → ℕ × ℕ → List ℕ
+unserved_line p k = codes "F5 UNSERVED "
+    ++ (figures_of p k.0 ++ (codes " " ++ (exchange_name p k.1 ++ codes "\n")))
+
+-- the report of a plan for which no routes can be certified: what was asked, a line for the pair
+-- and one for each that cannot be served, and NO with their number
+abbrev pub unserved_text : Plan → (limit spare : ℕ) → List (ℕ × ℕ) → Option (ℕ × ℕ) → List ℕ
+unserved_text p limit spare unserved pair = head_line limit spare
+    ++ (pair_line p pair ++ (flat_map (unserved_line p) unserved
+    ++ no_line (pair_count pair + length unserved)))
+
+-- The report of a mending
+abbrev pub mend_report : {A : Type 0} → (limit spare : ℕ) → Mending A → List ℕ
+mend_report limit spare (Mended q before cert) = mended_text before q limit spare
+mend_report limit spare (NoRouting q pairs pair) = unserved_text q limit spare pairs.items pair
+
+-- a mending that is right, whose report was written in part
+pub record MendToldInPart (A : Type 0) (p : Plan) (limit spare : ℕ) (out : Output)
+    : Type 0 where
+  pub mending : Mending A
+  pub right : IsRightMending p limit spare mending
+  pub wrote : StopsIn out.old out.new (mend_report limit spare mending)

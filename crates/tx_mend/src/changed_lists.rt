@@ -1,0 +1,91 @@
+// The report of a plan that was mended.
+ghost use Rattle.std.specs.Prelude.{◌<◌, codes};
+ghost use Rattle.tx_text.specs.Wrote.{Wrote};
+ghost use Rattle.tx_plan.specs.Routes.{route_list};
+ghost use Rattle.tx_mend.specs.MendText.{list_line, change_line, code_changes, changes, mended_text};
+
+use std::alloc::Allocator;
+use tx_plan::{CodeId, ExchangeId, Limits, Pair, Plan, Routes};
+use tx_plantext::write_route;
+use tx_rank::write_asked;
+use tx_text::{Sink, WriteFault, write_parts};
+
+/// Writes what was asked, each list of a plan that is another one than before, and YES.
+pub fn write_mended<A: Allocator, W: Sink>(
+    before: &Routes<A>,
+    plan: &Plan<A>,
+    limits: Limits,
+    sink: &mut W,
+) -> Result<(), WriteFault>
+    ensures { Wrote W.taken W.failed sink.old sink.new
+        (mended_text before.now plan.now limits.limit limits.spare) result }
+{
+    write_asked(b"MEND", limits, sink)?;
+    write_changes(before, plan, sink)?;
+    write_parts(&[b"VERDICT YES\n"], sink)
+}
+
+fn write_changes<A: Allocator, W: Sink>(
+    before: &Routes<A>,
+    plan: &Plan<A>,
+    sink: &mut W,
+) -> Result<(), WriteFault>
+    ensures { Wrote W.taken W.failed sink.old sink.new
+        (changes before.now plan.now) result }
+{
+    for place in 0..plan.codes() {
+        write_code_changes(before, plan, CodeId::of(place), sink)?;
+    }
+    Ok(())
+}
+
+/// Those of one code.
+fn write_code_changes<A: Allocator, W: Sink>(
+    before: &Routes<A>,
+    plan: &Plan<A>,
+    code: CodeId,
+    sink: &mut W,
+) -> Result<(), WriteFault>
+    ensures { Wrote W.taken W.failed sink.old sink.new
+        (code_changes before.now plan.now code) result }
+{
+    for place in 0..plan.exchanges() {
+        write_change(before, plan, code, ExchangeId::of(place), sink)?;
+    }
+    Ok(())
+}
+
+/// Writes the list of an exchange for a code, if it is another one than before.
+fn write_change<A: Allocator, W: Sink>(
+    before: &Routes<A>,
+    plan: &Plan<A>,
+    code: CodeId,
+    exchange: ExchangeId,
+    sink: &mut W,
+) -> Result<(), WriteFault>
+    ensures { Wrote W.taken W.failed sink.old sink.new
+        (change_line before.now plan.now code exchange) result }
+{
+    if before.list(&Pair { exchange, code }) == plan.list(exchange, code) {
+        return Ok(());
+    }
+    write_list(plan, code, exchange, sink)
+}
+
+/// Writes the list of an exchange for a code, or that it needs none.
+fn write_list<A: Allocator, W: Sink>(
+    plan: &Plan<A>,
+    code: CodeId,
+    exchange: ExchangeId,
+    sink: &mut W,
+) -> Result<(), WriteFault>
+    ensures { Wrote W.taken W.failed sink.old sink.new
+        (list_line plan.now code exchange (route_list plan.now exchange code)) result }
+{
+    if plan.list(exchange, code).is_empty() {
+        let name = plan.exchange_name(exchange);
+        let figures = plan.code_figures(code);
+        return write_parts(&[b"DROP ", name, b" ", figures, b"\n"], sink);
+    }
+    write_route(plan, exchange, code, sink)
+}

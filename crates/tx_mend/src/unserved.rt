@@ -1,0 +1,82 @@
+// The report of a plan for which no routes can be certified.
+ghost use Rattle.std.specs.Prelude.{◌≡◌, ◌+◌};
+ghost use Rattle.std.specs.List.{flat_map};
+ghost use Rattle.tx_text.specs.Wrote.{Wrote};
+ghost use Rattle.tx_mend.specs.MendText.{pair_line, pair_count, unserved_line, unserved_text};
+
+use std::alloc::Allocator;
+use tx_plan::{CodeId, ExchangeId, Limits, Plan};
+use tx_rank::{Finding, write_asked, write_finding, write_no};
+use tx_text::{Sink, WriteFault, write_parts};
+
+/// Writes what was asked, the ambiguous pair of codes, each code with the origins that cannot be
+/// served for it, and NO with the number of these lines.
+pub fn write_unserved<A: Allocator, W: Sink>(
+    plan: &Plan<A>,
+    limits: Limits,
+    unserved: &[(CodeId, ExchangeId)],
+    pair: &Option<(CodeId, CodeId)>,
+    sink: &mut W,
+) -> Result<(), WriteFault>
+    ensures { Wrote W.taken W.failed sink.old sink.new
+        (unserved_text plan.now limits.limit limits.spare unserved.now pair.now) result }
+{
+    write_asked(b"MEND", limits, sink)?;
+    write_pair(plan, pair, sink)?;
+    write_each(plan, unserved, sink)?;
+    write_no(pair_count(pair) + unserved.len(), sink)
+}
+
+fn write_pair<A: Allocator, W: Sink>(
+    plan: &Plan<A>,
+    pair: &Option<(CodeId, CodeId)>,
+    sink: &mut W,
+) -> Result<(), WriteFault>
+    ensures { Wrote W.taken W.failed sink.old sink.new
+        (pair_line plan.now pair.now) result }
+{
+    match pair {
+        Some((shorter, longer)) => {
+            let finding: Finding<A> = Finding::Ambiguous(*shorter, *longer);
+            write_finding(plan, &finding, sink)
+        }
+        None => Ok(()),
+    }
+}
+
+fn write_each<A: Allocator, W: Sink>(
+    plan: &Plan<A>,
+    unserved: &[(CodeId, ExchangeId)],
+    sink: &mut W,
+) -> Result<(), WriteFault>
+    ensures { Wrote W.taken W.failed sink.old sink.new
+        (flat_map (unserved_line plan.now) unserved.now) result }
+{
+    for i in 0..unserved.len() {
+        write_one(plan, unserved[i], sink)?;
+    }
+    Ok(())
+}
+
+fn write_one<A: Allocator, W: Sink>(
+    plan: &Plan<A>,
+    pair: (CodeId, ExchangeId),
+    sink: &mut W,
+) -> Result<(), WriteFault>
+    ensures { Wrote W.taken W.failed sink.old sink.new
+        (unserved_line plan.now pair) result }
+{
+    let figures = plan.code_figures(pair.0);
+    let name = plan.exchange_name(pair.1);
+    write_parts(&[b"F5 UNSERVED ", figures, b" ", name, b"\n"], sink)
+}
+
+/// How many lines the ambiguous pair has.
+fn pair_count(pair: &Option<(CodeId, CodeId)>) -> usize
+    ensures { result ≡ pair_count pair.now }
+{
+    match pair {
+        Some(_) => 1,
+        None => 0,
+    }
+}

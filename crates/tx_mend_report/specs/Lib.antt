@@ -1,2 +1,0 @@
-pub mod MendText
-pub mod MendAnswers
