@@ -339,8 +339,8 @@ def codes_defined():
     names = dict(row[:2] for row in codes_explained())
     rows.update((it, names.get(it)) for it in re.findall(r'(?:service|cause)_text \w+ = codes "(\w+)"', text("tx_tickets", "Texts")))
     rows.update((b, a) for a, b in re.findall(r'fault_words p \((\w+)[ \w]*\) =\s+codes "(K\d)"', text("tx_check", "Verdicts")))
-    rows.update(re.findall(r'finding_line p \(\w+[ \w]*\) = codes "(F\d) (\w+) ', text("tx_audit", "Report")))
-    rows.update(re.findall(r'codes "(F\d) (\w+) ', text("tx_mend_report", "MendText")))
+    rows.update(re.findall(r'finding_line p \(\w+[ \w]*\) = codes "(F\d) (\w+) ', text("tx_rank", "Report")))
+    rows.update(re.findall(r'codes "(F\d) (\w+) ', text("tx_mend", "MendText")))
     return rows
 
 

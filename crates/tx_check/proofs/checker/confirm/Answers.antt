@@ -8,8 +8,8 @@ unreachable-requires g c =
     let no = c.in-No.is in
     cc
 
-pub returns-in-Yes : goal.returns-in-Yes
-returns-in-Yes g c =
+pub returns : goal.returns
+returns g c =
     let is = c.in-Yes.is in
     record {
       fits = c.requires.fits;
