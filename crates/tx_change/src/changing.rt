@@ -105,9 +105,9 @@ fn change_codes<A: Allocator + Copy>(
     Ok(cert)
 }
 
-/// Ranks that certify every plan that may be in force while a plan is changed into another one of
-/// the same network, list by list; or what is wrong with some of these plans. `Err` means out of
-/// memory.
+/// Ranks that certify, for the limits, every plan that may be in force while a plan is changed into
+/// another one of the same network, list by list; or what is wrong with some of these plans. `Err`
+/// means out of memory.
 pub fn change<A: Allocator + Copy>(
     alloc: A,
     old: &Plan<A>,

@@ -119,7 +119,6 @@ pub fn mend<A: Allocator + Copy>(
     plan: Plan<A>,
     limits: Limits,
 ) -> Result<Mending<A>, NoMemory>
-
     // It is mended exactly where any routes of the network are certified by any ranks.
     ensures wherever { IfOk result (λ m. IsMended m ↔ CanBeMended plan limits.limit limits.spare) }
 
