@@ -117,8 +117,9 @@ module _ (p : Plan) (ok : IsPlan p) (c x : ℕ) (line : Line) (keyed : List ℕ)
       led : comes_back x way ≡ false → end_of x way ≢ home_of p c → (h : ℕ) → find (has_free p way) (route_list p (end_of x way) c) ≡ Some h → (o : Option ℕ) → other_end p h (end_of x way) ≡ o → option_map {U = ℕ × ℕ} (λ z. (h, z)) o ≡ Some (g, z) → IsNext way g z
       led k away h f None l q = let bad : ⊥ = cc in absurd bad
       led k away h f (Some u) l q =
-          let same : h ≡ g = cc in
-          let far : u ≡ z = cc in
+          let pair : (h, u) ≡ (g, z) = cc in
+          let same = ap (λ (s : ℕ × ℕ). s.0) pair in
+          let far = ap (λ (s : ℕ × ℕ). s.1) pair in
           record { new = not_back way k; away = away; first = f ∙ ap Some same; leads = ap (λ i. other_end p i (end_of x way)) (sym same) ∙ l ∙ ap Some far }
 
       found : comes_back x way ≡ false → end_of x way ≢ home_of p c → (o : Option ℕ) → find (has_free p way) (route_list p (end_of x way) c) ≡ o → option_and_then (step_by p (end_of x way)) o ≡ Some (g, z) → IsNext way g z
