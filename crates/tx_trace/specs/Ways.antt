@@ -20,11 +20,11 @@ far_ends p c y =
 abbrev pub step_by : Plan → (y g : ℕ) → Option (ℕ × ℕ)
 step_by p y g = option_map (λ z. (g, z)) (other_end p g y)
 
--- the group has a free circuit, where the only call has gone this way: by one circuit for each step
+-- the group has a free circuit once the only call has gone this way, by a circuit for each step
 abbrev pub has_free : Plan → List (ℕ × ℕ) → (g : ℕ) → Bool
 has_free p way g = nat_lt (count_by (λ s. s.0 == g) way) (count_of p g)
 
--- its step by the first group that y tries and that has a free circuit; none from the home
+-- the step on from y by the first group that y tries and that has one; none from the home
 abbrev pub first_step : Plan → (c y : ℕ) → List (ℕ × ℕ) → Option (ℕ × ℕ)
 first_step p c y way =
     if y == home_of p c then None
@@ -47,8 +47,8 @@ abbrev pub way_within : Plan → (c x k : ℕ) → List (ℕ × ℕ)
 way_within p c x zero = []
 way_within p c x (suc k) = one_on p c x (way_within p c x k)
 
--- The way while all is free but what the call itself carries: to the home, to an exchange where no
--- group has a free circuit, or to where it comes back. It has no more steps than there are exchanges.
+-- The way of the only call: to the home, to an exchange where no group of the list has a free
+-- circuit, or to where it comes back. It has no more steps than there are exchanges.
 abbrev pub first_way : Plan → (c x : ℕ) → List (ℕ × ℕ)
 first_way p c x = way_within p c x (length p.exchanges)
 

@@ -1,4 +1,4 @@
-// The way of a call while all is free.
+// The way of a call while there is no other.
 ghost use Rattle.std.specs.Prelude.{◌≡◌, ◌<◌, ℕ, List, length, find, IfOk};
 ghost use Rattle.std.specs.Option.{IfSome};
 ghost use Rattle.tx_rank.specs.Walks.{end_of, before_end};
@@ -10,12 +10,8 @@ use tx_plan::{CodeId, ExchangeId, GroupId, Plan};
 use tx_rank::far;
 use tx_text::NoMemory;
 
-/// Whether a group has a free circuit, where the only call has gone this way.
-fn has_free<A: Allocator>(
-    plan: &Plan<A>,
-    way: &[(GroupId, ExchangeId)],
-    group: GroupId,
-) -> bool
+/// Whether a group has a free circuit once the only call has gone this way.
+fn has_free<A: Allocator>(plan: &Plan<A>, way: &[(GroupId, ExchangeId)], group: GroupId) -> bool
     ensures { result ≡ has_free plan.now way.now group }
 {
     way.iter().filter(|step| step.0 == group).count() < plan.group_count(group) as usize
@@ -29,7 +25,9 @@ fn first_free<A: Allocator>(
 ) -> Option<GroupId>
     ensures { result ≡ find (has_free plan.now way.now) list.now }
 {
-    list.iter().copied().find(|group| has_free(plan, way, *group))
+    list.iter()
+        .copied()
+        .find(|group| has_free(plan, way, *group))
 }
 
 /// The step by the first group of an exchange's list that has a free circuit. The home has none.
@@ -71,7 +69,7 @@ fn next_step<A: Allocator>(
     first_step(plan, code, last, way)
 }
 
-/// The way of a call while there is no other: to the home, to an exchange where no group has a free
+/// The way of the only call: to the home, to an exchange where no group of the list has a free
 /// circuit, or to where it comes back.
 pub fn first_way<A: Allocator + Copy>(
     alloc: A,
