@@ -1,6 +1,6 @@
 // Plays cases of texts by their kinds.
 use crate::cases::{
-    Driven, Ends, Head, Job, Mode, ROOM, Task, TextKind, Told, job_of, limit_and_spare,
+    Driven, Ends, FULL_ROOM, Head, Job, Mode, ROOM, Task, TextKind, Told, job_of, limit_and_spare,
     long_number, number_of, task_of, tell, tell_broken, two_texts,
 };
 use crate::checked::play_certified;
@@ -128,9 +128,17 @@ fn play_whole(alloc: Global, task: Task<'_>, whole: Whole<'_>, mode: Mode, out: 
     }
 }
 
+/// How much room a job of a mode is given.
+fn room_in(mode: Mode) -> usize {
+    match mode {
+        Mode::Once => FULL_ROOM,
+        Mode::Plain | Mode::EachEnd | Mode::Prefixes => ROOM,
+    }
+}
+
 /// Does a task whole, and plays it.
 fn play_task(alloc: Global, task: Task<'_>, mode: Mode, out: &mut Told) {
-    let Ok(mut written) = MemorySink::new(alloc, ROOM) else {
+    let Ok(mut written) = MemorySink::new(alloc, room_in(mode)) else {
         return tell_broken(b"no memory", 0, out);
     };
     let did = do_in_room(alloc, task, Ends::pieces(7), b"", &mut written);
