@@ -54,7 +54,7 @@ impl Seen {
         }
     }
 
-    /// What was seen with more bytes of the line. One whose word is not END stays so.
+    /// What was seen with more bytes of the line, which are looked at until another word is seen.
     fn with_bytes(self, bytes: &[u8]) -> Seen
         ensures { result ≡ line_seen self bytes.now }
     {

@@ -1,6 +1,5 @@
-use Rattle.std.proofs.Common.{◌≡◌, ◌∙◌, sym, ap, arith, rules}
+use Rattle.std.proofs.Common.{◌≡◌, ◌∙◌, sym, arith, rules}
 use Rattle.tx_jobs.specs.declared.seen.Seen.TheVariants.{Other}
-use Rattle.tx_jobs.specs.inner.Seen.{line_seen}
 use Rattle.tx_jobs.proofs.Taking.{seen_on, seen_all, seen_other}
 use Rattle.tx_jobs.proofs.seen.Seen.with_bytes.Goals as goal
 
