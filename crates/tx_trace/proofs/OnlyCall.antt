@@ -267,6 +267,7 @@ module _ (p : Plan) (ok : IsPlan p) (c x : ℕ) (line : Line) (keyed : List ℕ)
         hops = gone.hops;
         steps = gone.steps;
         replied = gone.replied;
+        once = w.once;
         ended = λ new. subst (λ s. (step p s (Route 1)).0 ≡ last_reply p s c (end_of x way) keyed) (sym gone.here)
             (last_is way gone (let l = w.few in omega arith) (stopped way w new) new);
       }

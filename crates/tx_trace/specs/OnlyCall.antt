@@ -3,7 +3,7 @@ use Rattle.std.specs.Prelude.{◌≡◌, ℕ, false, ◌==◌, if◌then◌else�
 use Rattle.std.specs.List.{flat_map}
 use Rattle.tx_plan.specs.Plan.{Plan, home_of}
 use Rattle.tx_plan.specs.declared.ids.Line.{Line}
-use Rattle.tx_rank.specs.Walks.{end_of}
+use Rattle.tx_rank.specs.Walks.{end_of, before_end, AllDiffer}
 use Rattle.tx_machine.specs.declared.event.Event.{Event}
 use Rattle.tx_machine.specs.declared.event.Event.TheVariants.{Key, Route, Confirm}
 use Rattle.tx_machine.specs.declared.open_call.Hop.{Hop}
@@ -42,11 +42,13 @@ last_reply p s c y keyed =
     else Answered Nc
 
 -- The only call goes from x by the way: in each hop by a circuit of the step's group to the step's
--- exchange. One more Route, unless the way has come back, gives the last reply.
+-- exchange. The way goes on from no exchange twice. One more Route, unless it has come back, gives
+-- the last reply.
 pub record GoesBy (p : Plan) (c x : ℕ) (line : Line) (keyed : List ℕ) (way : List (ℕ × ℕ))
     : Type 0 where
   pub hops : List Hop
   pub steps : map (λ h. (h.circuit.group, h.far)) hops ≡ way
   pub replied : replies p (opening 0 0) (events_along line keyed way) ≡ replies_along hops
+  pub once : AllDiffer (before_end x way)
   pub ended : comes_back x way ≡ false → (step p (state_along p line keyed way) (Route 1)).0
       ≡ last_reply p (state_along p line keyed way) c (end_of x way) keyed

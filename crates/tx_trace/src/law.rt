@@ -16,7 +16,7 @@ ghost use Rattle.tx_trace.specs.Ways.{first_way, all_met};
 ghost use Rattle.tx_trace.specs.OnlyCall.{GoesBy};
 
 /// From the opening state a line that is at home at an exchange keys a code, for which calls may
-/// start there, and a number. Its call goes by the first way. One more Route, unless the way has
+/// start there, and perhaps a number. Its call goes by the first way. One more Route, unless the way has
 /// come back, is answered by the line that is called at the home, and elsewhere with NC.
 pub fn only_call_goes_first_way()
     ensures { (p : Plan) (c x : ℕ) (line : Line) (keyed : List ℕ) → IsPlan p
