@@ -545,6 +545,12 @@ def check_terminal(program, tell):
         tell(f"without words, on a terminal: the status is {ran.returncode}, and the outputs have {ran.stdout!r} and {ran.stderr!r}")
 
 
+def check_done(ran, what, tell):
+    """The audit said YES on the outputs that are not files, and nothing else."""
+    if ran[0] != 0 or ran[1] not in (report(), None) or ran[2] not in (b"", None):
+        tell(f"{what}: the status is {ran[0]}, and the outputs have {ran[1]!r} and {ran[2]!r}")
+
+
 def check_replaced(program, tell):
     """A file that takes the place of another one has its permissions, a link to that one leads to it, and nothing is left beside it."""
     with tempfile.TemporaryDirectory() as room:
@@ -552,7 +558,7 @@ def check_replaced(program, tell):
         write(old, "old\n")
         os.chmod(old, 0o640)
         os.symlink("old", link)
-        audit(program, link)
+        check_done(audit(program, link), "a file that is made by a link", tell)
         if read(old) != cert() or os.stat(old).st_mode & 0o777 != 0o640:
             tell("a file that is made by a link has other bytes or permissions")
         if not os.path.islink(link) or sorted(os.listdir(room)) != ["link", "old"]:
@@ -566,7 +572,7 @@ def check_outputs(program, tell):
             with tempfile.NamedTemporaryFile() as file:
                 file.write(b"before\n")
                 file.flush()
-                audit(program, name, **{output: file})
+                check_done(audit(program, name, **{output: file}), f"a certificate to {name}", tell)
                 if read(file.name) != before + cert():
                     tell(f"a certificate to {name}, which is a file, leaves {read(file.name)!r} there")
     if audit(program, "/dev/stdout") != (0, report() + cert(), b""):
@@ -579,12 +585,12 @@ def check_pipe_and_device(program, tell):
         pipe = os.path.join(room, "pipe")
         os.mkfifo(pipe)
         end = os.open(pipe, os.O_RDONLY | os.O_NONBLOCK)
-        audit(program, pipe)
+        check_done(audit(program, pipe), "a certificate to a pipe", tell)
         if waiting(end) != cert() or not stat.S_ISFIFO(os.stat(pipe).st_mode):
             tell("a certificate to a pipe does not go there, or the pipe is replaced")
         os.close(end)
     terminal, device = pty.openpty()
-    audit(program, os.ttyname(device))
+    check_done(audit(program, os.ttyname(device)), "a certificate to a device", tell)
     if waiting(terminal).replace(b"\r\n", b"\n") != cert():
         tell("a certificate to a device does not go there")
     os.close(terminal)
