@@ -19,14 +19,10 @@ use Rattle.tx_machine.specs.declared.reply.Reply.TheVariants.{Seized, At}
 use Rattle.tx_machine.specs.Refusals.{is_group}
 use Rattle.tx_machine.proofs.Uses.{two_ends}
 use Rattle.tx_machine.proofs.Playing.{Groups, AllUp, Plays, plays_none, plays_first, plays_one, plays_then, shut, opened, shut_out, shut_among, all_up_again}
-use Rattle.tx_machine.proofs.OneCall.{alone, on_way, IsPlaced, routed_there, placed_next, route_step, confirm_step, blocks, unblocks}
+use Rattle.tx_machine.proofs.OneCall.{alone, on_way, step_of, IsPlaced, routed_there, placed_next, route_step, confirm_step, blocks, unblocks}
 use Rattle.tx_audit.specs.Counter.{listed_before, step_events, walk_events, is_single, turns_on_one}
 use Rattle.tx_audit.proofs.Choices.{IsLoose, count_some, loose_new, loose_other, choose}
 use Rattle.tx_audit.proofs.Listed.{listed_once, listed_known, listed_may, both_ways_from, known_from, not_before, before_once, before_all}
-
--- a hop as a step of a walk: by its group to its exchange
-abbrev pub step_of : Hop → ℕ × ℕ
-step_of h = (h.circuit.group, h.far)
 
 -- a hop of a call that stands at x and has passed these exchanges before
 pub record IsPast (p : Plan) (x : ℕ) (past : List ℕ) (h : Hop) : Type 0 where

@@ -1,8 +1,9 @@
 // The files that a command names, and where two of them clash.
-ghost use Rattle.std.specs.Prelude.{◌≡◌, false, None, ◌∷◌, IfSome, option_map, string_bytes};
+ghost use Rattle.std.specs.Prelude.{◌≡◌, true, false, None, Some, ◌∷◌, IfSome, option_map, string_bytes};
 ghost use Rattle.tx_commands.specs.Files.{files_read, files_made, standard_input, is_among, has_input_twice, has_clash, reads_input_twice, overwrites};
 ghost use Rattle.tx_commands.specs.inner.Named.{names};
 ghost use Rattle.tx_commands.specs.inner.Refused.{IsClash};
+ghost use Rattle.tx_commands.specs.declared.refusal.Refusal.TheVariants.{InputTwice};
 
 use crate::command::Command;
 use crate::refusal::Refusal;
@@ -108,9 +109,11 @@ fn has_clash(read: &[Option<&str>], made: &[Option<&str>]) -> bool
     false
 }
 
-/// Why a command is refused of which two files clash.
+/// Why a command is refused of which two files clash. Standard input that is read twice is told
+/// before a file that is made over another one.
 pub(crate) fn clash(command: &Command) -> Option<Refusal>
     ensures some { IfSome result (IsClash command.now) }
+    ensures input_first { reads_input_twice command.now ≡ true → result ≡ Some InputTwice }
     ensures read_once { result ≡ None → reads_input_twice command.now ≡ false }
     ensures apart { result ≡ None → overwrites command.now ≡ false }
 {

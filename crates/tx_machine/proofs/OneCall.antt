@@ -47,6 +47,10 @@ alone c b n =
 abbrev pub on_way : Line → List ℕ → List Hop → Phase → Call
 on_way line keyed hops phase = record { number = 1; line = line; keyed = keyed; keyed_at = 1; hops = hops; phase = phase; collided = false }
 
+-- a hop as a step of a walk: by its group to its exchange
+abbrev pub step_of : Hop → ℕ × ℕ
+step_of h = (h.circuit.group, h.far)
+
 room : (n : ℕ) → n < 2 ^ 64 - 1 → nat_le (2 ^ 64 - 1) n ≡ false
 room n h = lt-leb (2 ^ 64 - 1) n h
 

@@ -22,7 +22,7 @@ pub(crate) use case::{
 };
 pub(crate) use differing::tell_differing;
 pub(crate) use end_case::{EndCase, What};
-pub(crate) use ends::{End, Ends, ROOM, calls_left};
+pub(crate) use ends::{End, Ends, FULL_ROOM, ROOM, calls_left};
 pub(crate) use head::{
     Driven, Head, JobKind, Kind, Mode, TextKind, drawing_of, head_of, job_of, limit_and_spare,
 };
