@@ -1,5 +1,6 @@
 -- What a change comes to, as its job tells it.
-use Rattle.std.proofs.Common.{◌≡◌, ◌∙◌, ℕ, Bool, Ok, Err, refl, sym}
+use Rattle.std.proofs.Common.{◌≡◌, ◌∙◌, ℕ, Bool, Ok, refl, sym}
+use Rattle.std.specs.Io.KnownBytes.{append_known}
 use Rattle.std.specs.List.{AllByRecursion}
 use Rattle.tx_text.specs.declared.frame.FaultAt.{FaultAt}
 use Rattle.tx_plan.specs.Plan.{Plan}
@@ -7,15 +8,13 @@ use Rattle.tx_plan.specs.Mixtures.{SameNetwork}
 use Rattle.tx_plantext.specs.declared.fault.PlanWord.{PlanWord}
 use Rattle.tx_rank.specs.declared.ranking.Ranking.{Ranking}
 use Rattle.tx_rank.specs.declared.ranking.Ranking.TheVariants.{Found, Fails}
-use Rattle.tx_audit.specs.declared.audited.AuditFault.{AuditFault}
-use Rattle.tx_audit.specs.declared.audited.AuditFault.TheVariants.{Plan as AuditPlan, Write as AuditWrite, NoMemory as AuditNoMemory}
+use Rattle.tx_rank.specs.Report.{findings_of}
 use Rattle.tx_change.specs.Shown.{IsShown}
-use Rattle.tx_change.specs.ChangeAnswers.{IsRightChange, ChangeAnswers}
+use Rattle.tx_change.specs.ChangeReport.{change_report}
+use Rattle.tx_change.specs.ChangeAnswers.{IsRightChange}
 use Rattle.tx_jobs.specs.declared.job_fault.JobFault.{JobFault}
 use Rattle.tx_jobs.specs.declared.job_fault.JobFault.TheVariants.{Plan as PlanFault, Cert, Script, Read, Write, NoMemory}
-use Rattle.tx_jobs.specs.declared.change_fault.ChangeFault.TheVariants.{Job}
 use Rattle.tx_jobs.specs.JobFaults.{mark_by, plan_fault}
-use Rattle.tx_jobs.specs.AuditJobs.{audit_fault}
 use Rattle.tx_jobs.specs.ChangeFaults.{in_new_plan, new_plan_fault, change_mark_by}
 use Rattle.tx_text.specs.Ends.{Output}
 use Rattle.tx_jobs.specs.ChangeJobs.{ToldChange, OnUnsoundChange}
@@ -24,9 +23,9 @@ use Rattle.tx_jobs.proofs.RefusedTexts.{plan_mark}
 
 module _ {A : Type 0} (old new : Plan) (limit spare : ℕ) (same : SameNetwork old new) where
   -- the report was written
-  pub change_told : (out : Output) (r : Ranking A) → ChangeAnswers old new limit spare out (Ok r) → ToldChange old new limit spare out (Ok (changed_of old new r))
-  change_told out (Found cert) h = (refl, same, h.0, h.1)
-  change_told out (Fails findings) h = (refl, refl, same, h.0, h.1)
+  pub change_told : (out : Output) (r : Ranking A) → IsRightChange old new limit spare r → out.new ≡ append_known out.old (change_report old limit spare (findings_of r)) → ToldChange old new limit spare out (Ok (changed_of old new r))
+  change_told out (Found cert) right wrote = (refl, same, right, wrote)
+  change_told out (Fails findings) right wrote = (refl, refl, same, right, wrote)
 
   -- what follows from findings
   pub change_network : (r : Ranking A) → OnUnsoundChange (λ p q findings. SameNetwork p q) (changed_of old new r)
@@ -36,13 +35,6 @@ module _ {A : Type 0} (old new : Plan) (limit spare : ℕ) (same : SameNetwork o
   pub change_shown : (r : Ranking A) → IsRightChange old new limit spare r → OnUnsoundChange (λ p q findings. AllByRecursion (IsShown p q limit spare) findings) (changed_of old new r)
   change_shown (Found cert) h = tt
   change_shown (Fails findings) h = h.shown
-
--- the report stopped
-pub change_stopped : (A : Type 0) (old new : Plan) (limit spare : ℕ) (same : SameNetwork old new) (out : Output) (f : AuditFault) → ChangeAnswers {A = A} old new limit spare out (Err f)
-    → ToldChange {A = A} old new limit spare out (Err (Job (audit_fault f)))
-change_stopped A old new limit spare same out (AuditPlan f) h = absurd h
-change_stopped A old new limit spare same out AuditWrite h = (same, h)
-change_stopped A old new limit spare same out AuditNoMemory h = (same, h)
 
 new_as : (old : Bool) (f : JobFault) → change_mark_by old (in_new_plan f) ≡ mark_by old f
 new_as old (PlanFault f) = refl

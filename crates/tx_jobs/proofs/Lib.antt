@@ -8,7 +8,6 @@ mod Evidenced
 mod ChangeTold
 mod ChangeEvidenced
 mod Grading
-mod MendTold
 mod LintTold
 mod Surviving
 mod DrawnCode

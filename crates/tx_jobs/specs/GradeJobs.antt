@@ -10,7 +10,7 @@ use Rattle.tx_rank.specs.declared.plan_grade.Grade.{Grade}
 use Rattle.tx_rank.specs.declared.bounds.Bounds.{Bounds}
 use Rattle.tx_rank.specs.Findings.{IsTrueOf}
 use Rattle.tx_rank.specs.Grades.{AreBounds, CanBeCertified, AreCodeGrades, AreUnmended}
-use Rattle.tx_audit.specs.GradeText.{grade_text}
+use Rattle.tx_rank.specs.GradeText.{grade_text}
 use Rattle.tx_jobs.specs.declared.job_fault.JobFault.{JobFault}
 use Rattle.tx_jobs.specs.declared.job_fault.JobFault.TheVariants.{Write, NoMemory}
 use Rattle.tx_jobs.specs.Jobs.{PlanRead, PlanRefused}

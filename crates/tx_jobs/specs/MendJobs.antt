@@ -4,18 +4,12 @@ use Rattle.std.specs.Io.KnownBytes.{append_known}
 use Rattle.tx_plan.specs.Plan.{Plan}
 use Rattle.tx_mend.specs.declared.mending.Mending.{Mending}
 use Rattle.tx_mend.specs.declared.mending.Mending.TheVariants.{Mended, NoRouting}
-use Rattle.tx_mend_report.specs.declared.reporting.MendFault.{MendFault}
-use Rattle.tx_mend_report.specs.declared.reporting.MendFault.TheVariants.{Write as MendWrite, NoMemory as MendNoMemory}
-use Rattle.tx_mend_report.specs.MendAnswers.{IsRightMending, mend_report, MendToldInPart}
+use Rattle.tx_mend.specs.Mendings.{IsRightMending}
+use Rattle.tx_mend.specs.MendText.{mend_report, MendToldInPart}
 use Rattle.tx_jobs.specs.declared.job_fault.JobFault.{JobFault}
 use Rattle.tx_jobs.specs.declared.job_fault.JobFault.TheVariants.{Write, NoMemory}
 use Rattle.tx_text.specs.Ends.{Input, Output}
 use Rattle.tx_jobs.specs.Jobs.{PlanRead, PlanRefused}
-
--- why there is no whole report, as a job reports it
-abbrev pub mend_fault : MendFault → JobFault
-mend_fault MendWrite = Write
-mend_fault MendNoMemory = NoMemory
 
 -- the mending of the plan is right, and its report was written
 abbrev pub ToldMending : {A : Type 0} → Plan → (limit spare : ℕ) → Output

@@ -13,7 +13,7 @@ use crate::evidence::{CounterScript, Evidence};
 use crate::job_fault::JobFault;
 use std::alloc::Allocator;
 use tx_audit::{Audited, first_counter};
-use tx_plan::Plan;
+use tx_plan::{Limits, Plan};
 use tx_rank::Finding;
 use tx_text::{Sink, Source};
 
@@ -38,25 +38,25 @@ pub fn evidence_job<A: Allocator + Copy, P: Source, W: Sink>(
     ensures calls { CallsAtMost P.called source_calls plan.old plan.new }
 {
     let audited = audit_job(alloc, plan, limit, spare, out)?;
-    evidence_of(alloc, audited, limit, spare, with_script)
+    evidence_of(alloc, audited, Limits { limit, spare }, with_script)
 }
 
 /// What shows the verdict of an audit.
 fn evidence_of<A: Allocator + Copy>(
     alloc: A,
     audited: Audited<A>,
-    limit: u8,
-    spare: u8,
+    limits: Limits,
     with_script: bool,
 ) -> Result<Evidence<A>, JobFault>
-    requires { OnUnsound (λ p findings. AllByRecursion (IsTrueOf p limit spare) findings) audited }
-    ensures { IsEvidenceOf with_script limit spare audited result }
+    requires { OnUnsound (λ p findings. AllByRecursion (IsTrueOf p limits.limit limits.spare) findings)
+        audited }
+    ensures { IsEvidenceOf with_script limits.limit limits.spare audited result }
 {
     match audited {
         Audited::Sound(plan, cert) => Ok(Evidence::Sound(plan, cert)),
         Audited::Unsound(plan, findings) => {
             if with_script {
-                script_of(alloc, plan, findings, limit, spare)
+                script_of(alloc, plan, findings, limits)
             } else {
                 Ok(Evidence::Unsound(None))
             }
@@ -69,13 +69,12 @@ fn script_of<A: Allocator + Copy>(
     alloc: A,
     plan: Plan<A>,
     findings: Vec<Finding<A>, A>,
-    limit: u8,
-    spare: u8,
+    limits: Limits,
 ) -> Result<Evidence<A>, JobFault>
-    requires { AllByRecursion (IsTrueOf plan limit spare) findings.items }
-    ensures { IsScriptOf plan limit spare findings.items result }
+    requires { AllByRecursion (IsTrueOf plan limits.limit limits.spare) findings.items }
+    ensures { IsScriptOf plan limits.limit limits.spare findings.items result }
 {
-    match first_counter(alloc, &plan, findings.as_slice(), limit, spare)? {
+    match first_counter(alloc, &plan, findings.as_slice(), limits)? {
         Some(events) => Ok(Evidence::Unsound(Some(CounterScript { plan, events }))),
         None => Ok(Evidence::Unsound(None)),
     }

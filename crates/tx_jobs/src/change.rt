@@ -11,10 +11,10 @@ ghost use Rattle.tx_jobs.specs.ChangeJobs.{ChangeJobAnswers, NewPlanAnswers, Tol
 use crate::change_fault::ChangeFault;
 use std::alloc::{Allocator, Global};
 use tx_cert::Cert;
-use tx_change::{first_difference, report_change};
-use tx_plan::Plan;
+use tx_change::{change, first_difference};
+use tx_plan::{Limits, Plan};
 use tx_plantext::read_plan_from;
-use tx_rank::{Finding, Ranking};
+use tx_rank::{Finding, Ranking, write_report};
 use tx_text::{Sink, Source};
 
 /// What a change of plan comes to.
@@ -66,7 +66,7 @@ pub fn change_job<A: Allocator + Copy, P: Source, Q: Source, W: Sink>(
     ensures new_calls { CallsAtMost Q.called source_calls new.old new.new }
 {
     match read_plan_from(alloc, old) {
-        Ok(plan) => change_from(alloc, plan, new, limit, spare, out),
+        Ok(plan) => change_from(alloc, plan, new, Limits { limit, spare }, out),
         Err(fault) => Err(ChangeFault::of_old_plan(fault)),
     }
 }
@@ -76,22 +76,19 @@ fn change_from<A: Allocator + Copy, Q: Source, W: Sink>(
     alloc: A,
     old: Plan<A>,
     new: &mut Q,
-    limit: u8,
-    spare: u8,
+    limits: Limits,
     out: &mut W,
 ) -> Result<Changed<A>, ChangeFault>
-    requires limit { limit ≤ 62 }
-    requires spare { spare ≤ 15 }
-    ensures answers { NewPlanAnswers old limit spare
+    ensures answers { NewPlanAnswers old limits.limit limits.spare
         (input Q.rest Q.failed Q.called new.old new.new) (output W.taken out.old out.new) result }
     ensures network { IfOk result (OnUnsoundChange (λ p q findings. SameNetwork p q)) }
     ensures each { IfOk result (OnUnsoundChange (λ p q findings.
-        AllByRecursion (IsShown p q limit spare) findings)) }
+        AllByRecursion (IsShown p q limits.limit limits.spare) findings)) }
     ensures mark { W.failed out.new ≡ change_mark_after (W.failed out.old) result }
     ensures calls { CallsAtMost Q.called source_calls new.old new.new }
 {
     match read_plan_from(alloc, new) {
-        Ok(plan) => change_into(alloc, old, plan, limit, spare, out),
+        Ok(plan) => change_into(alloc, old, plan, limits, out),
         Err(fault) => Err(ChangeFault::of_new_plan(fault)),
     }
 }
@@ -101,21 +98,20 @@ fn change_into<A: Allocator + Copy, W: Sink>(
     alloc: A,
     old: Plan<A>,
     new: Plan<A>,
-    limit: u8,
-    spare: u8,
+    limits: Limits,
     out: &mut W,
 ) -> Result<Changed<A>, ChangeFault>
-    requires limit { limit ≤ 62 }
-    requires spare { spare ≤ 15 }
-    ensures told { ToldChange old new limit spare (output W.taken out.old out.new) result }
+    ensures told { ToldChange old new limits.limit limits.spare
+        (output W.taken out.old out.new) result }
     ensures network { IfOk result (OnUnsoundChange (λ p q findings. SameNetwork p q)) }
     ensures each { IfOk result (OnUnsoundChange (λ p q findings.
-        AllByRecursion (IsShown p q limit spare) findings)) }
+        AllByRecursion (IsShown p q limits.limit limits.spare) findings)) }
     ensures mark { W.failed out.new ≡ change_mark_after (W.failed out.old) result }
 {
     if let Some(difference) = first_difference(&old, &new) {
         return Err(ChangeFault::TwoNetworks(difference));
     }
-    let ranking = report_change(alloc, &old, &new, limit, spare, out)?;
+    let ranking = change(alloc, &old, &new, limits)?;
+    write_report(b"CHANGE", &old, &ranking, limits, out)?;
     Ok(Changed::of(old, new, ranking))
 }

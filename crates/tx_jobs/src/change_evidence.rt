@@ -14,7 +14,7 @@ use crate::change_fault::ChangeFault;
 use crate::mixture::{ChangeEvidence, Mixture};
 use std::alloc::Allocator;
 use tx_change::first_mixture;
-use tx_plan::Plan;
+use tx_plan::{Limits, Plan};
 use tx_rank::Finding;
 use tx_text::{Sink, Source};
 
@@ -42,27 +42,26 @@ pub fn change_evidence_job<A: Allocator + Copy, P: Source, Q: Source, W: Sink>(
     ensures new_calls { CallsAtMost Q.called source_calls new.old new.new }
 {
     let changed = change_job(alloc, old, new, limit, spare, out)?;
-    change_evidence_of(alloc, changed, limit, spare, with_mixture)
+    change_evidence_of(alloc, changed, Limits { limit, spare }, with_mixture)
 }
 
 /// What shows the verdict on a change.
 fn change_evidence_of<A: Allocator + Copy>(
     alloc: A,
     changed: Changed<A>,
-    limit: u8,
-    spare: u8,
+    limits: Limits,
     with_mixture: bool,
 ) -> Result<ChangeEvidence<A>, ChangeFault>
     requires network { OnUnsoundChange (λ p q findings. SameNetwork p q) changed }
     requires each { OnUnsoundChange (λ p q findings.
-        AllByRecursion (IsShown p q limit spare) findings) changed }
-    ensures { IsChangeEvidenceOf with_mixture limit spare changed result }
+        AllByRecursion (IsShown p q limits.limit limits.spare) findings) changed }
+    ensures { IsChangeEvidenceOf with_mixture limits.limit limits.spare changed result }
 {
     match changed {
         Changed::Sound(plan, cert) => Ok(ChangeEvidence::Sound(plan, cert)),
         Changed::Unsound(old, new, findings) => {
             if with_mixture {
-                mixture_of(alloc, old, new, findings, limit, spare)
+                mixture_of(alloc, old, new, findings, limits)
             } else {
                 Ok(ChangeEvidence::Unsound(None))
             }
@@ -76,14 +75,13 @@ fn mixture_of<A: Allocator + Copy>(
     old: Plan<A>,
     new: Plan<A>,
     findings: Vec<Finding<A>, A>,
-    limit: u8,
-    spare: u8,
+    limits: Limits,
 ) -> Result<ChangeEvidence<A>, ChangeFault>
     requires network { SameNetwork old new }
-    requires each { AllByRecursion (IsShown old new limit spare) findings.items }
-    ensures { IsMixtureOf old new limit spare findings.items result }
+    requires each { AllByRecursion (IsShown old new limits.limit limits.spare) findings.items }
+    ensures { IsMixtureOf old new limits.limit limits.spare findings.items result }
 {
-    match first_mixture(alloc, old, &new, findings.as_slice(), limit, spare)? {
+    match first_mixture(alloc, old, &new, findings.as_slice(), limits)? {
         Some(shown) => Ok(ChangeEvidence::Unsound(Some(Mixture::of(shown)))),
         None => Ok(ChangeEvidence::Unsound(None)),
     }

@@ -1,16 +1,14 @@
 // Why the job of a change stopped.
 ghost use Rattle.std.specs.Prelude.{◌≡◌};
-ghost use Rattle.tx_jobs.specs.declared.job_fault.JobFault.TheVariants.{NoMemory as OutOfMemory};
+ghost use Rattle.tx_jobs.specs.declared.job_fault.JobFault.TheVariants.{Write as WriteFailed, NoMemory as OutOfMemory};
 ghost use Rattle.tx_jobs.specs.declared.change_fault.ChangeFault.TheVariants.{Job};
-ghost use Rattle.tx_jobs.specs.AuditJobs.{audit_fault};
 ghost use Rattle.tx_jobs.specs.ChangeFaults.{status_of_change, old_plan_fault, new_plan_fault};
 
 use crate::job_fault::JobFault;
 use thiserror::Error;
-use tx_audit::AuditFault;
 use tx_change::Difference;
 use tx_plantext::PlanFault;
-use tx_text::NoMemory;
+use tx_text::{NoMemory, WriteFault};
 
 /// Why the job of a change stopped before its end. `write_change_fault` says it in full.
 #[derive(Clone, Copy, Debug, PartialEq, Eq, Error)]
@@ -26,11 +24,11 @@ pub enum ChangeFault {
     TwoNetworks(Difference),
 }
 
-impl From<AuditFault> for ChangeFault {
-    ghost from_gives = { λ audit fault. fault ≡ Job (audit_fault audit) };
+impl From<WriteFault> for ChangeFault {
+    ghost from_gives = { λ _ fault. fault ≡ Job WriteFailed };
 
-    fn from(fault: AuditFault) -> ChangeFault {
-        ChangeFault::Job(JobFault::from(fault))
+    fn from(_: WriteFault) -> ChangeFault {
+        ChangeFault::Job(JobFault::Write)
     }
 }
 

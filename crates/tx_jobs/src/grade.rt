@@ -8,10 +8,9 @@ ghost use Rattle.tx_jobs.specs.GradeJobs.{GradeJobAnswers, GradeStatusAnswers, T
 
 use crate::job_fault::JobFault;
 use std::alloc::Allocator;
-use tx_audit::write_grade;
 use tx_plan::Plan;
 use tx_plantext::read_plan_from;
-use tx_rank::{Grade, grade};
+use tx_rank::{Grade, grade, write_grade};
 use tx_text::{Sink, Source};
 
 /// Reads a plan, and writes with which limits and spare numbers it is safe, and each of its codes;

@@ -4,13 +4,11 @@ ghost use Rattle.tx_jobs.specs.declared.job_fault.JobFault.TheVariants.{NoMemory
 ghost use Rattle.tx_jobs.specs.JobFaults.{status_of, plan_fault, cert_fault, script_fault, run_fault};
 ghost use Rattle.tx_jobs.specs.AuditJobs.{audit_fault};
 ghost use Rattle.tx_jobs.specs.LintJobs.{lint_fault};
-ghost use Rattle.tx_jobs.specs.MendJobs.{mend_fault};
 
 use thiserror::Error;
 use tx_audit::AuditFault;
 use tx_cert::{CertFault, CertWord};
 use tx_lint::LintFault;
-use tx_mend_report::MendFault;
 use tx_plan::PlanRefusal;
 use tx_plantext::{PlanFault, PlanWord};
 use tx_script::{RunCause, RunFault, ScriptFault};
@@ -157,17 +155,6 @@ impl From<LintFault> for JobFault {
         match fault {
             LintFault::Read => JobFault::Read,
             LintFault::NoMemory => JobFault::NoMemory,
-        }
-    }
-}
-
-impl From<MendFault> for JobFault {
-    ghost from_gives = { λ mend fault. fault ≡ mend_fault mend };
-
-    fn from(fault: MendFault) -> JobFault {
-        match fault {
-            MendFault::Write => JobFault::Write,
-            MendFault::NoMemory => JobFault::NoMemory,
         }
     }
 }

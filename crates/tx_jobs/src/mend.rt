@@ -7,9 +7,8 @@ ghost use Rattle.tx_jobs.specs.MendJobs.{MendJobAnswers, ToldMending, status_of_
 
 use crate::job_fault::JobFault;
 use std::alloc::Allocator;
-use tx_mend::Mending;
-use tx_mend_report::report_mend;
-use tx_plan::Plan;
+use tx_mend::{Mending, mend, write_mending};
+use tx_plan::{Limits, Plan};
 use tx_plantext::read_plan_from;
 use tx_text::{Sink, Source};
 
@@ -33,7 +32,7 @@ pub fn mend_job<A: Allocator + Copy, P: Source, W: Sink>(
     ensures calls { CallsAtMost P.called source_calls plan.old plan.new }
 {
     let plan = read_plan_from(alloc, plan)?;
-    tell_mending(alloc, plan, limit, spare, out)
+    tell_mending(alloc, plan, Limits { limit, spare }, out)
 }
 
 /// The exit status of a mending: 0 where the plan is mended, else 1.
@@ -50,14 +49,14 @@ pub fn mending_status<A: Allocator>(mending: &Mending<A>) -> u8
 fn tell_mending<A: Allocator + Copy, W: Sink>(
     alloc: A,
     plan: Plan<A>,
-    limit: u8,
-    spare: u8,
+    limits: Limits,
     out: &mut W,
 ) -> Result<Mending<A>, JobFault>
-    requires limit { limit ≤ 62 }
-    requires spare { spare ≤ 15 }
-    ensures told { ToldMending plan limit spare (output W.taken out.old out.new) result }
+    ensures told { ToldMending plan limits.limit limits.spare
+        (output W.taken out.old out.new) result }
     ensures mark { W.failed out.new ≡ mark_after (W.failed out.old) result }
 {
-    Ok(report_mend(alloc, plan, limit, spare, out)?)
+    let mending = mend(alloc, plan, limits)?;
+    write_mending(&mending, limits, out)?;
+    Ok(mending)
 }

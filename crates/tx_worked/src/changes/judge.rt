@@ -10,7 +10,7 @@ use std::alloc::Global;
 use tx_cert::Cert;
 use tx_change::{change, first_difference};
 use tx_check::{Verdict, check};
-use tx_plan::Plan;
+use tx_plan::{Limits, Plan};
 use tx_rank::{Finding, Ranking};
 use tx_text::NoMemory;
 
@@ -100,7 +100,7 @@ fn answer_differs(
     requires limit { mixing.limit ≤ 62 }
     requires spare { mixing.spare ≤ 15 }
 {
-    match change(alloc, old, new, mixing.limit, mixing.spare)? {
+    match change(alloc, old, new, Limits::of(mixing.limit, mixing.spare))? {
         Ranking::Found(cert) => Ok(cert_differs(old, joined, wanted, &cert, mixing)),
         Ranking::Fails(findings) => Ok(fails_differ(&findings, wanted, mixing)),
     }

@@ -11,7 +11,7 @@ use crate::changes::mixtures::are_alike;
 use crate::walks::{Difference, Replay, Wanted, findings_differ, is_right, put_wanted};
 use std::alloc::Global;
 use tx_change::{change, first_difference, shown};
-use tx_plan::Plan;
+use tx_plan::{Limits, Plan};
 use tx_plantext::read_plan;
 use tx_rank::{Finding, Ranking, rank};
 use tx_text::NoMemory;
@@ -174,7 +174,7 @@ fn change_differs(
     requires limit { mixing.limit ≤ 62 }
     requires spare { mixing.spare ≤ 15 }
 {
-    match change(alloc, &old, new, mixing.limit, mixing.spare)? {
+    match change(alloc, &old, new, Limits::of(mixing.limit, mixing.spare))? {
         Ranking::Found(_) => Ok(Some(Difference::Found)),
         Ranking::Fails(findings) => first_differs(alloc, old, new, &findings, mixing, showing),
     }

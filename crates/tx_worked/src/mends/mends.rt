@@ -12,7 +12,7 @@ use crate::mends::tally::{MendTally, tell_mends};
 use crate::walks::{Difference, NUMBERS, Survey, WalksDiffer, survey_codes, tell_stop};
 use std::alloc::Global;
 use tx_mend::{Mending, mend};
-use tx_plan::Plan;
+use tx_plan::{Limits, Plan};
 use tx_plantext::read_plan;
 
 /// The plan in hand and its network: one of each kind serves all plans of a family.
@@ -51,7 +51,7 @@ fn mending_of(alloc: Global, text: &[u8], limit: u8, spare: u8) -> Result<Mendin
     requires spare { spare ≤ 15 }
 {
     let plan = read_plan(alloc, text)?;
-    Ok(mend(alloc, plan, limit, spare)?)
+    Ok(mend(alloc, plan, Limits::of(limit, spare))?)
 }
 
 /// How the answer for the plan in hand differs from what all routings of its network show.

@@ -6,7 +6,7 @@ ghost use Rattle.tx_rank.specs.Findings.{IsTrueOf};
 use crate::cases::{Refusing, Told};
 use std::alloc::{Allocator, Global};
 use tx_audit::{first_counter, write_counter};
-use tx_plan::Plan;
+use tx_plan::{Limits, Plan};
 use tx_plantext::read_plan;
 use tx_rank::{Finding, Ranking, rank};
 
@@ -32,9 +32,11 @@ fn try_findings<A: Allocator + Copy>(
     spare: u8,
     script: &mut Told,
 ) -> Tried
-    requires { AllByRecursion (IsTrueOf plan.now limit spare) findings.now }
+    requires limit { limit ≤ 62 }
+    requires spare { spare ≤ 15 }
+    requires each { AllByRecursion (IsTrueOf plan.now limit spare) findings.now }
 {
-    match first_counter(alloc, plan, findings, limit, spare) {
+    match first_counter(alloc, plan, findings, Limits::of(limit, spare)) {
         Ok(Some(events)) => {
             let is_told = write_counter(plan, events.as_slice(), script).is_ok();
             if is_told { Tried::Made } else { Tried::Wrong }

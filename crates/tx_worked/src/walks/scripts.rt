@@ -11,7 +11,7 @@ use crate::walks::texts::{reads_back, script_of};
 use std::alloc::Global;
 use tx_audit::{counter, first_counter};
 use tx_machine::{Event, Reply, Service};
-use tx_plan::{CodeId, Direction, ExchangeId, Plan};
+use tx_plan::{CodeId, Direction, ExchangeId, Limits, Plan};
 use tx_rank::{Finding, Walk};
 use tx_text::NoMemory;
 
@@ -264,7 +264,12 @@ fn is_first_right(
     requires spare { judged.spare ≤ 15 }
     requires each { AllByRecursion (IsTrueOf plan.now judged.limit judged.spare) findings.now }
 {
-    match first_counter(alloc, plan, findings, judged.limit, judged.spare)? {
+    match first_counter(
+        alloc,
+        plan,
+        findings,
+        Limits::of(judged.limit, judged.spare),
+    )? {
         Some(events) => are_first(alloc, plan, findings, &events, judged, told, tally),
         None => Ok(first_with_script(plan, findings).is_none()),
     }

@@ -1,10 +1,10 @@
-use Rattle.std.proofs.Common.{◌∙◌, refl}
+use Rattle.std.proofs.Common.{refl}
 use Rattle.tx_text.specs.Ends.{output}
 use Rattle.tx_text.proofs.Exits.{exits_with}
+use Rattle.tx_change.proofs.Cleared.{is_right_change}
+use Rattle.tx_jobs.specs.declared.job_fault.JobFault.TheVariants.{Write, NoMemory}
 use Rattle.tx_jobs.specs.declared.change_fault.ChangeFault.TheVariants.{Job}
-use Rattle.tx_jobs.specs.AuditJobs.{audit_fault}
-use Rattle.tx_jobs.proofs.ChangeTold.{change_told, change_stopped, change_network, change_shown}
-use Rattle.tx_jobs.proofs.RefusedTexts.{audit_marked}
+use Rattle.tx_jobs.proofs.ChangeTold.{change_told, change_network, change_shown}
 use Rattle.tx_jobs.proofs.change.change_into.Goals as goal
 
 pub returns-in-Some-clause-told : goal.returns-in-Some-clause-told
@@ -12,33 +12,47 @@ returns-in-Some-clause-told g c = (c.in-Some.ensures, refl)
 
 pub returns-clause-told : goal.returns-clause-told
 returns-clause-told g c =
+    let r = c.in_ok-ranking.ensures in
     rw c.of.ensures
-    (change_told c.args.old c.args.new c.args.limit c.args.spare c.in_default.ensures
-    (output g.W.Sink.taken c.args.out.now c.report_change.new.out) c.in_ok-ranking.ranking
-    c.in_ok-ranking.ensures.answers)
+    (change_told c.args.old c.args.new c.args.limits.limit c.args.limits.spare c.in_default.ensures
+    (output g.W.Sink.taken c.args.out.now c.write_report.new.out) c.in_ok-ranking.ranking
+    (is_right_change _ c.args.old c.args.new c.args.limits.limit c.args.limits.spare c.in_ok-ranking.ranking r.exactly r.fails r.shown r.listed r.cleared)
+    c.in_ok-write_report.ensures.0)
 
 pub returns-clause-network : goal.returns-clause-network
 returns-clause-network g c =
     rw c.of.ensures
-    (change_network c.args.old c.args.new c.args.limit c.args.spare c.in_default.ensures
+    (change_network c.args.old c.args.new c.args.limits.limit c.args.limits.spare c.in_default.ensures
     c.in_ok-ranking.ranking)
 
 pub returns-clause-each : goal.returns-clause-each
 returns-clause-each g c =
+    let r = c.in_ok-ranking.ensures in
     rw c.of.ensures
-    (change_shown c.args.old c.args.new c.args.limit c.args.spare c.in_default.ensures
-    c.in_ok-ranking.ranking c.in_ok-ranking.ensures.answers.0)
+    (change_shown c.args.old c.args.new c.args.limits.limit c.args.limits.spare c.in_default.ensures
+    c.in_ok-ranking.ranking
+    (is_right_change _ c.args.old c.args.new c.args.limits.limit c.args.limits.spare c.in_ok-ranking.ranking r.exactly r.fails r.shown r.listed r.cleared))
 
 pub returns-in_err-ranking-clause-told : goal.returns-in_err-ranking-clause-told
 returns-in_err-ranking-clause-told g c =
-    let f = c.in_err-ranking.field-0.0 in
-    rw (exits_with c.from_residual.result (Job (audit_fault f)) c.from_residual.ensures.1)
-    (change_stopped _ c.args.old c.args.new c.args.limit c.args.spare c.in_default.ensures
-    (output g.W.Sink.taken c.args.out.now c.report_change.new.out) f
-    c.in_err-ranking.ensures.answers)
+    rw (exits_with c.from_residual.result (Job NoMemory) c.from_residual.ensures.1) (c.in_default.ensures, refl)
 
 pub returns-in_err-ranking-clause-mark : goal.returns-in_err-ranking-clause-mark
 returns-in_err-ranking-clause-mark g c =
-    let f = c.in_err-ranking.field-0.0 in
-    rw (exits_with c.from_residual.result (Job (audit_fault f)) c.from_residual.ensures.1)
-    (c.in_err-ranking.ensures.mark ∙ audit_marked (g.W.Sink.failed c.args.out.now) f)
+    rw (exits_with c.from_residual.result (Job NoMemory) c.from_residual.ensures.1) refl
+
+pub returns-in_err-write_report-clause-told : goal.returns-in_err-write_report-clause-told
+returns-in_err-write_report-clause-told g c =
+    let r = c.in_ok-ranking.ensures in
+    rw (exits_with c.from_residual-in_err-write_report.result (Job Write) c.from_residual-in_err-write_report.ensures.1) (
+      c.in_default.ensures,
+      record {
+        ranking = c.in_ok-ranking.ranking;
+        right = is_right_change _ c.args.old c.args.new c.args.limits.limit c.args.limits.spare c.in_ok-ranking.ranking r.exactly r.fails r.shown r.listed r.cleared;
+        wrote = c.in_err-write_report.ensures.0;
+      },
+    )
+
+pub returns-in_err-write_report-clause-mark : goal.returns-in_err-write_report-clause-mark
+returns-in_err-write_report-clause-mark g c =
+    rw (exits_with c.from_residual-in_err-write_report.result (Job Write) c.from_residual-in_err-write_report.ensures.1) c.in_err-write_report.ensures.1

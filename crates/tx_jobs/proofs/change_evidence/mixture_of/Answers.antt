@@ -6,7 +6,7 @@ use Rattle.tx_jobs.proofs.change_evidence.mixture_of.Goals as goal
 
 pub of-requires : goal.of-requires
 of-requires g c =
-    shown_writable c.args.old c.args.new c.args.limit c.args.spare c.as_slice.result.now
+    shown_writable c.args.old c.args.new c.args.limits.limit c.args.limits.spare c.as_slice.result.now
     c.in_ok-shown.field-0 c.in-Some.shown c.in-Some.is c.in_ok-shown.ensures
 
 pub returns-in_err-shown : goal.returns-in_err-shown

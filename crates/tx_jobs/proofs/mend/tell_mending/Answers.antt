@@ -1,23 +1,26 @@
-use Rattle.std.proofs.Common.{◌∙◌}
-use Rattle.tx_text.specs.Ends.{output}
+use Rattle.std.proofs.Common.{refl}
 use Rattle.tx_text.proofs.Exits.{exits_with}
-use Rattle.tx_jobs.specs.MendJobs.{mend_fault}
-use Rattle.tx_jobs.proofs.MendTold.{mend_told, mend_marked}
+use Rattle.tx_mend.proofs.Right.{is_right}
+use Rattle.tx_jobs.specs.declared.job_fault.JobFault.TheVariants.{Write, NoMemory}
 use Rattle.tx_jobs.proofs.mend.tell_mending.Goals as goal
 
+pub returns-in_err-mending-clause-told : goal.returns-in_err-mending-clause-told
+returns-in_err-mending-clause-told g c = rw (exits_with c.from_residual.result NoMemory c.from_residual.ensures.1) refl
+
+pub returns-in_err-mending-clause-mark : goal.returns-in_err-mending-clause-mark
+returns-in_err-mending-clause-mark g c = rw (exits_with c.from_residual.result NoMemory c.from_residual.ensures.1) refl
+
+pub returns-in_err-write_mending-clause-told : goal.returns-in_err-write_mending-clause-told
+returns-in_err-write_mending-clause-told g c =
+    let r = c.in_ok-mending.ensures in
+    rw (exits_with c.from_residual-in_err-write_mending.result Write c.from_residual-in_err-write_mending.ensures.1)
+    (record { mending = c.in_ok-mending.mending; right = is_right _ c.args.plan c.args.limits.limit c.args.limits.spare c.in_ok-mending.mending r.wherever r.routing r.mended r.before r.kept r.called r.confirmed r.same r.told r.pair; wrote = c.in_err-write_mending.ensures.0 })
+
+pub returns-in_err-write_mending-clause-mark : goal.returns-in_err-write_mending-clause-mark
+returns-in_err-write_mending-clause-mark g c =
+    rw (exits_with c.from_residual-in_err-write_mending.result Write c.from_residual-in_err-write_mending.ensures.1) c.in_err-write_mending.ensures.1
+
 pub returns-clause-told : goal.returns-clause-told
-returns-clause-told g c = c.in_ok-report_mend.ensures.answers
-
-pub returns-in_err-report_mend-clause-told : goal.returns-in_err-report_mend-clause-told
-returns-in_err-report_mend-clause-told g c =
-    let f = c.in_err-report_mend.field-0.0 in
-    rw (exits_with c.from_residual.result (mend_fault f) c.from_residual.ensures.1)
-    (mend_told _ c.args.plan c.args.limit c.args.spare
-    (output g.W.Sink.taken c.args.out.now c.report_mend.new.out) f
-    c.in_err-report_mend.ensures.answers)
-
-pub returns-in_err-report_mend-clause-mark : goal.returns-in_err-report_mend-clause-mark
-returns-in_err-report_mend-clause-mark g c =
-    let f = c.in_err-report_mend.field-0.0 in
-    rw (exits_with c.from_residual.result (mend_fault f) c.from_residual.ensures.1)
-    (c.in_err-report_mend.ensures.mark ∙ mend_marked (g.W.Sink.failed c.args.out.now) f)
+returns-clause-told g c =
+    let r = c.in_ok-mending.ensures in
+    (is_right _ c.args.plan c.args.limits.limit c.args.limits.spare c.in_ok-mending.mending r.wherever r.routing r.mended r.before r.kept r.called r.confirmed r.same r.told r.pair, c.in_ok-write_mending.ensures.0)
