@@ -25,13 +25,13 @@ module _ (A : Type 0) (p : Plan) (limit spare : ℕ) where
   all_found (f ∷ findings) some each listed = (each, listed)
 
   -- a certificate that the checker confirmed is right
-  pub found_right : (cert : Certificate) → ((f : Finding A) → IsTrueOf p limit spare f → ⊥) → AreHeights p (ranks_of cert) → IsConfirmed p cert limit spare → IsRightRanking p limit spare (Found cert)
+  pub found_right : (cert : Certificate) → ((f : Finding A) → IsTrueOf p limit spare f → ⊥) → AreHeights p (ranks_of cert) → IsConfirmed p cert limit spare → IsRightRanking {A = A} p limit spare (Found cert)
   found_right cert clear heights h = (
     clear,
     record { fits = h.fits; heights = heights; certified = h.certified; yes = h.yes; sound = h.sound; few_routes = h.few_routes },
   )
 
-  pub fails_right : (findings : Vec (Finding A)) → findings.items ≢ [] → AllByRecursion (IsTrueOf p limit spare) findings.items → AreFindings p limit spare findings.items → ((ranks : Ranks) → IsCertified p ranks limit spare → ⊥)
+  pub fails_right : (findings : Vec (Finding A) A) → findings.items ≢ [] → AllByRecursion (IsTrueOf p limit spare) findings.items → AreFindings p limit spare findings.items → ((ranks : Ranks) → IsCertified p ranks limit spare → ⊥)
       → IsRightRanking p limit spare (Fails findings)
   fails_right findings some each listed none = (all_found findings.items some each listed, some, λ k. none k.0 k.1)
 

@@ -42,7 +42,7 @@ module _ {A : Type 0} where
 
   -- a certificate that clears a plan without findings, or the findings of one that no ranks certify
   abbrev pub IsRightRanking : Plan → (limit spare : ℕ) → Ranking A → Type 0
-  IsRightRanking p limit spare (Found cert) = IsAllFound {A = A} p limit spare []
+  IsRightRanking p limit spare (Found cert) = IsAllFound p limit spare []
       × IsCleared p cert limit spare
   IsRightRanking p limit spare (Fails findings) = IsAllFound p limit spare findings.items
       × (findings.items ≢ []) × (CanBeCertified p limit spare → ⊥)

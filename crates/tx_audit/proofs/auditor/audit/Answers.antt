@@ -23,7 +23,7 @@ returns-in_err-ranking-clause-mark g c = rw (exits_with c.from_residual-in_err-r
 pub returns-in_err-write_report-clause-answers : goal.returns-in_err-write_report-clause-answers
 returns-in_err-write_report-clause-answers g c =
     let text = input g.R.Source.rest g.R.Source.failed g.R.Source.called c.args.source.now c.read_plan_from.new.source in
-    let out = output g.W.Sink.taken c.args.out.now c.write_report.new.out in
+    let out = output g.W.Sink.taken c.args.out.now c.write_report.new.sink in
     rw (exits_with c.from_residual-in_err-write_report.result Write c.from_residual-in_err-write_report.ensures.1)
     (stopped _ c.in_ok-plan.plan c.args.limit c.args.spare text out c.in_ok-plan.ensures.rules c.in_ok-plan.ensures.answer c.in_ok-ranking.ranking c.in_ok-ranking.ensures c.in_err-write_report.ensures.0)
 
@@ -34,7 +34,7 @@ returns-in_err-write_report-clause-mark g c =
 pub returns-clause-answers : goal.returns-clause-answers
 returns-clause-answers g c =
     let text = input g.R.Source.rest g.R.Source.failed g.R.Source.called c.args.source.now c.read_plan_from.new.source in
-    let out = output g.W.Sink.taken c.args.out.now c.write_report.new.out in
+    let out = output g.W.Sink.taken c.args.out.now c.write_report.new.sink in
     rw c.of.ensures (audited _ c.in_ok-plan.plan c.args.limit c.args.spare text out c.in_ok-plan.ensures.rules c.in_ok-plan.ensures.answer c.in_ok-ranking.ranking c.in_ok-ranking.ensures c.in_ok-write_report.ensures.0)
 
 pub returns-clause-each : goal.returns-clause-each

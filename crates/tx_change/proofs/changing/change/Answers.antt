@@ -65,7 +65,7 @@ pub returns-then-is_empty-clause-cleared : goal.returns-then-is_empty-clause-cle
 returns-then-is_empty-clause-cleared g c =
     let empty = eqb-true (vec_len c.change_codes.new.findings) 0 (sym c.is_empty.ensures ∙ c.if-is_empty.true) in
     let none = none_of c.change_codes.new.findings.items (omega arith) in
-    cleared c.args.old.now c.args.new.now c.args.limits.limit c.args.limits.spare c.in_ok-cert.cert c.requires.network (c.in_ok-cert.ensures.common none) c.confirm.ensures c.confirm-2.ensures
+    cleared c.args.old.now c.args.new.now c.args.limits.limit c.args.limits.spare c.in_ok-cert.cert c.requires.network (c.in_ok-cert.ensures.common none) c.confirm.ensures c.confirm-then-is_empty.ensures
 
 pub confirm-requires-clause-fits : goal.confirm-requires-clause-fits
 confirm-requires-clause-fits g c = record { codes = c.in_ok-cert.ensures.codes; exchanges = c.in_ok-cert.ensures.exchanges; rules = c.rules-then-is_empty.ensures }
@@ -75,11 +75,11 @@ confirm-requires-clause-certified g c =
     let empty = eqb-true (vec_len c.change_codes.new.findings) 0 (sym c.is_empty.ensures ∙ c.if-is_empty.true) in
     (c.in_ok-cert.ensures.common (none_of c.change_codes.new.findings.items (omega arith))).before
 
-pub confirm-2-requires-clause-fits : goal.confirm-2-requires-clause-fits
-confirm-2-requires-clause-fits g c = certificate_along c.args.old.now c.args.new.now c.in_ok-cert.cert c.requires.network c.confirm.ensures.fits
+pub confirm-requires-then-is_empty-clause-fits : goal.confirm-requires-then-is_empty-clause-fits
+confirm-requires-then-is_empty-clause-fits g c = certificate_along c.args.old.now c.args.new.now c.in_ok-cert.cert c.requires.network c.confirm.ensures.fits
 
-pub confirm-2-requires-clause-certified : goal.confirm-2-requires-clause-certified
-confirm-2-requires-clause-certified g c =
+pub confirm-requires-then-is_empty-clause-certified : goal.confirm-requires-then-is_empty-clause-certified
+confirm-requires-then-is_empty-clause-certified g c =
     let empty = eqb-true (vec_len c.change_codes.new.findings) 0 (sym c.is_empty.ensures ∙ c.if-is_empty.true) in
     (c.in_ok-cert.ensures.common (none_of c.change_codes.new.findings.items (omega arith))).after
 
