@@ -1,5 +1,6 @@
 -- The files that a command names, and where two of them clash.
-use Rattle.std.specs.Prelude.{ℕ, Bool, false, ◌&&◌, ◌||◌, List, [], ◌∷◌, Option, None, Some, option_map, bytes_eq, codes, string_bytes}
+use Rattle.std.specs.Prelude.{ℕ, Bool, false, ◌&&◌, ◌||◌, List, [], ◌∷◌, Option, None, Some, map, option_map, bytes_eq, codes, string_bytes, String}
+use Rattle.std.specs.Borrow.{Bor}
 use Rattle.std.specs.List.{list_any}
 use Rattle.tx_commands.specs.declared.command.Command.{Command}
 use Rattle.tx_commands.specs.declared.command.Command.TheVariants.{Pipe, Run, RunTelling, Check, Codes, Audit, Change, Mend, Survive, Grade, Trace, Draw, Explain, Lint}
@@ -10,12 +11,24 @@ given [] = []
 given (None ∷ rest) = given rest
 given (Some file ∷ rest) = file ∷ given rest
 
--- the files that a command reads
+-- those of these files that are named, as a function sees them
+abbrev pub names : List (Option (Bor (List ℕ))) → List (List ℕ)
+names files = given (map (option_map (λ f. f.now)) files)
+
+-- the name of standard input, where a file is read
+abbrev pub standard_input : List ℕ
+standard_input = codes "-"
+
+-- the files that a run reads: the certificate, if there is one, before the script
+abbrev pub run_files : {Z : Type 0} → (plan script : List ℕ) → Option (String Z × ℕ × ℕ)
+    → List (List ℕ)
+run_files plan script None = plan ∷ script ∷ []
+run_files plan script (Some (cert, limit, spare)) = plan ∷ string_bytes cert ∷ script ∷ []
+
+-- the files that a command reads, in the order in which they are opened
 abbrev pub files_read : Command → List (List ℕ)
-files_read Pipe = []
-files_read (Run plan script checked) =
-    string_bytes plan ∷ string_bytes script
-    ∷ given (option_map (λ c. string_bytes c.0) checked ∷ [])
+files_read Pipe = standard_input ∷ []
+files_read (Run plan script checked) = run_files (string_bytes plan) (string_bytes script) checked
 files_read (RunTelling plan script strict echo summary) =
     string_bytes plan ∷ string_bytes script ∷ []
 files_read (Check plan cert limit spare) = string_bytes plan ∷ string_bytes cert ∷ []
@@ -31,20 +44,35 @@ files_read (Trace plan exchange code) = string_bytes plan ∷ []
 files_read (Draw plan routes) = string_bytes plan ∷ []
 files_read (Explain word) = []
 
--- the files that it may make
-abbrev pub files_made : Command → List (List ℕ)
-files_made (Audit plan limit spare cert counter) =
-    given (option_map string_bytes cert ∷ option_map string_bytes counter ∷ [])
-files_made (Change old new limit spare cert mixture counter) =
-    given (option_map string_bytes cert ∷ option_map string_bytes mixture
-    ∷ option_map string_bytes counter ∷ [])
-files_made (Mend plan limit spare mended cert) =
-    given (option_map string_bytes mended ∷ option_map string_bytes cert ∷ [])
-files_made other = []
+-- the files that a command may make, by what goes into them
+pub record Made : Type 0 where
+  pub plan : Option (List ℕ)
+  pub cert : Option (List ℕ)
+  pub script : Option (List ℕ)
 
--- the name of standard input, where a file is read
-abbrev pub standard_input : List ℕ
-standard_input = codes "-"
+-- those of a command
+abbrev pub made_by : Command → Made
+made_by (Audit plan limit spare cert counter) = record {
+  plan = None;
+  cert = option_map string_bytes cert;
+  script = option_map string_bytes counter;
+}
+made_by (Change old new limit spare cert mixture counter) = record {
+  plan = option_map string_bytes mixture;
+  cert = option_map string_bytes cert;
+  script = option_map string_bytes counter;
+}
+made_by (Mend plan limit spare mended cert) = record {
+  plan = option_map string_bytes mended;
+  cert = option_map string_bytes cert;
+  script = None;
+}
+made_by other = record { plan = None; cert = None; script = None }
+
+-- their names
+abbrev pub files_made : Command → List (List ℕ)
+files_made command =
+    let made = made_by command in given (made.plan ∷ made.cert ∷ made.script ∷ [])
 
 -- the file is one of these: it is named by the same bytes
 abbrev pub is_among : List (List ℕ) → List ℕ → Bool

@@ -1,7 +1,6 @@
 // The files that a command names, and where two of them clash.
-ghost use Rattle.std.specs.Prelude.{◌≡◌, false, None, ◌∷◌, IfSome, option_map, string_bytes};
-ghost use Rattle.tx_commands.specs.Files.{files_read, files_made, standard_input, is_among, has_input_twice, has_clash, reads_input_twice, overwrites};
-ghost use Rattle.tx_commands.specs.inner.Named.{names};
+ghost use Rattle.std.specs.Prelude.{◌≡◌, false, None, [], ◌∷◌, IfSome, option_map, string_bytes};
+ghost use Rattle.tx_commands.specs.Files.{names, run_files, files_read, made_by, standard_input, is_among, has_input_twice, has_clash, reads_input_twice, overwrites};
 ghost use Rattle.tx_commands.specs.inner.Refused.{IsClash};
 
 use crate::command::Command;
@@ -10,68 +9,136 @@ use crate::refusal::Refusal;
 /// The name of standard input, where a file is read.
 pub const STANDARD_INPUT: &str = "-";
 
-/// The certificate of a run, if there is one.
-fn cert_of(checked: &Option<(String, u8, u8)>) -> Option<&str>
-    ensures { option_map (λ s. s.now) result
-        ≡ option_map (λ c. string_bytes c.0) checked.now }
+/// The files of a command, by their names.
+#[derive(Clone, Copy)]
+pub struct Files<'a> {
+    /// Those that it reads, in the order in which they are opened.
+    pub reads: [Option<&'a str>; 3],
+    /// The plan that it may make.
+    pub plan: Option<&'a str>,
+    /// The certificate that it may make.
+    pub cert: Option<&'a str>,
+    /// The script that it may make.
+    pub script: Option<&'a str>,
+}
+
+impl<'a> Files<'a> {
+    /// Those that a command names. Without words it is standard input that is read.
+    pub fn of(command: &'a Command) -> Files<'a>
+        ensures reads { names result.reads ≡ files_read command.now }
+        ensures plan { option_map (λ f. f.now) result.plan ≡ (made_by command.now).plan }
+        ensures cert { option_map (λ f. f.now) result.cert ≡ (made_by command.now).cert }
+        ensures script { option_map (λ f. f.now) result.script ≡ (made_by command.now).script }
+    {
+        match command {
+            Command::Pipe => Files::reading(one(STANDARD_INPUT)),
+            Command::Run {
+                plan,
+                script,
+                checked,
+            } => Files::reading(run_files(plan, script, checked)),
+            Command::RunTelling { plan, script, .. } => Files::reading(two(plan, script)),
+            Command::Check { plan, cert, .. } => Files::reading(two(plan, cert)),
+            Command::Lint { plan }
+            | Command::Codes { plan }
+            | Command::Grade { plan }
+            | Command::Trace { plan, .. }
+            | Command::Draw { plan, .. } => Files::reading(one(plan)),
+            Command::Audit {
+                plan,
+                cert,
+                counter,
+                ..
+            } => Files::new(one(plan), None, cert, counter.as_deref()),
+            Command::Change {
+                old,
+                new,
+                cert,
+                mixture,
+                counter,
+                ..
+            } => Files::new(two(old, new), mixture.as_deref(), cert, counter.as_deref()),
+            Command::Mend {
+                plan,
+                mended,
+                cert,
+                ..
+            } => Files::new(one(plan), mended.as_deref(), cert, None),
+            Command::Survive { plan, risks } => {
+                Files::reading([Some(plan.as_str()), risks.as_deref(), None])
+            }
+            Command::Explain { .. } => Files::reading([None, None, None]),
+        }
+    }
+
+    fn new(
+        reads: [Option<&'a str>; 3],
+        plan: Option<&'a str>,
+        cert: &'a Option<String>,
+        script: Option<&'a str>,
+    ) -> Files<'a>
+        ensures reads { names result.reads ≡ names reads.entry }
+        ensures plan { option_map (λ f. f.now) result.plan ≡ option_map (λ f. f.now) plan.entry }
+        ensures cert { option_map (λ f. f.now) result.cert ≡ option_map string_bytes cert.now }
+        ensures script { option_map (λ f. f.now) result.script
+            ≡ option_map (λ f. f.now) script.entry }
+    {
+        Files {
+            reads,
+            plan,
+            cert: cert.as_deref(),
+            script,
+        }
+    }
+
+    /// Files that are read alone.
+    fn reading(reads: [Option<&'a str>; 3]) -> Files<'a>
+        ensures reads { names result.reads ≡ names reads.entry }
+        ensures plan { option_map (λ f. f.now) result.plan ≡ None }
+        ensures cert { option_map (λ f. f.now) result.cert ≡ None }
+        ensures script { option_map (λ f. f.now) result.script ≡ None }
+    {
+        Files {
+            reads,
+            plan: None,
+            cert: None,
+            script: None,
+        }
+    }
+
+    /// Those that it may make, in the order in which they are made.
+    pub fn makes(&self) -> [Option<&'a str>; 3]
+        ensures { names result ≡ names (self.now.plan ∷ self.now.cert ∷ self.now.script ∷ []) }
+    {
+        [self.plan, self.cert, self.script]
+    }
+}
+
+/// One file.
+fn one(file: &str) -> [Option<&str>; 3]
+    ensures { names result ≡ file.now ∷ [] }
+{
+    [Some(file), None, None]
+}
+
+/// Two files.
+fn two<'a>(first: &'a str, second: &'a str) -> [Option<&'a str>; 3]
+    ensures { names result ≡ first.now ∷ second.now ∷ [] }
+{
+    [Some(first), Some(second), None]
+}
+
+/// The files that a run reads.
+fn run_files<'a>(
+    plan: &'a str,
+    script: &'a str,
+    checked: &'a Option<(String, u8, u8)>,
+) -> [Option<&'a str>; 3]
+    ensures { names result ≡ run_files plan.now script.now checked.now }
 {
     match checked {
-        Some((cert, _, _)) => Some(cert.as_str()),
-        None => None,
-    }
-}
-
-/// The files that a command reads.
-fn files_read(command: &Command) -> [Option<&str>; 3]
-    ensures { names result ≡ files_read command.now }
-{
-    match command {
-        Command::Pipe | Command::Explain { .. } => [None, None, None],
-        Command::Run {
-            plan,
-            script,
-            checked,
-        } => [Some(plan.as_str()), Some(script.as_str()), cert_of(checked)],
-        Command::RunTelling { plan, script, .. } => {
-            [Some(plan.as_str()), Some(script.as_str()), None]
-        }
-        Command::Check { plan, cert, .. } => [Some(plan.as_str()), Some(cert.as_str()), None],
-        Command::Change { old, new, .. } => [Some(old.as_str()), Some(new.as_str()), None],
-        Command::Survive { plan, risks } => [Some(plan.as_str()), risks.as_deref(), None],
-        Command::Codes { plan }
-        | Command::Lint { plan }
-        | Command::Audit { plan, .. }
-        | Command::Mend { plan, .. }
-        | Command::Grade { plan }
-        | Command::Trace { plan, .. }
-        | Command::Draw { plan, .. } => [Some(plan.as_str()), None, None],
-    }
-}
-
-/// The files that it may make.
-fn files_made(command: &Command) -> [Option<&str>; 3]
-    ensures { names result ≡ files_made command.now }
-{
-    match command {
-        Command::Audit { cert, counter, .. } => [cert.as_deref(), counter.as_deref(), None],
-        Command::Mend { mended, cert, .. } => [mended.as_deref(), cert.as_deref(), None],
-        Command::Change {
-            cert,
-            mixture,
-            counter,
-            ..
-        } => [cert.as_deref(), mixture.as_deref(), counter.as_deref()],
-        Command::Pipe
-        | Command::Run { .. }
-        | Command::RunTelling { .. }
-        | Command::Check { .. }
-        | Command::Lint { .. }
-        | Command::Codes { .. }
-        | Command::Grade { .. }
-        | Command::Survive { .. }
-        | Command::Trace { .. }
-        | Command::Draw { .. }
-        | Command::Explain { .. } => [None, None, None],
+        None => two(plan, script),
+        Some((cert, _, _)) => [Some(plan), Some(cert.as_str()), Some(script)],
     }
 }
 
@@ -114,10 +181,10 @@ pub(crate) fn clash(command: &Command) -> Option<Refusal>
     ensures read_once { result ≡ None → reads_input_twice command.now ≡ false }
     ensures apart { result ≡ None → overwrites command.now ≡ false }
 {
-    let read = files_read(command);
-    if has_input_twice(&read) {
+    let files = Files::of(command);
+    if has_input_twice(&files.reads) {
         Some(Refusal::InputTwice)
-    } else if has_clash(&read, &files_made(command)) {
+    } else if has_clash(&files.reads, &files.makes()) {
         Some(Refusal::Overwrites)
     } else {
         None

@@ -13,5 +13,5 @@ mod refusal;
 
 pub use command::Command;
 pub use fault::WordsFault;
-pub use files::STANDARD_INPUT;
+pub use files::{Files, STANDARD_INPUT};
 pub use reading::read_command;

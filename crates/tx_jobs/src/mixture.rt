@@ -34,6 +34,16 @@ impl<A: Allocator> Mixture<A> {
         }
     }
 
+    /// The script, if there is one.
+    pub fn script(&self) -> Option<&CounterScript<A>>
+        ensures { option_map (λ s. s.now.events.items) result ≡ mixture_events self.now }
+    {
+        match self {
+            Mixture::Scripted(script) => Some(script),
+            Mixture::Unscripted(_) => None,
+        }
+    }
+
     /// The plan of the mixture.
     pub fn plan(&self) -> &Plan<A>
         ensures { result.now ≡ mixture_plan self.now }
@@ -52,19 +62,4 @@ pub enum ChangeEvidence<A: Allocator = Global> {
     Sound(Plan<A>, Cert<A>),
     /// After a No, the mixture of the first finding that has a walk, if it was asked for.
     Unsound(Option<Mixture<A>>),
-}
-
-impl<A: Allocator> ChangeEvidence<A> {
-    ghost use Rattle.std.specs.Prelude.{◌≡◌};
-    ghost use Rattle.tx_jobs.specs.ChangeEvidences.{status_of_change_evidence};
-
-    /// The exit status of the change: 0 after a Yes, 1 after a No.
-    pub fn status(&self) -> u8
-        ensures { result ≡ status_of_change_evidence self.now }
-    {
-        match self {
-            ChangeEvidence::Sound(_, _) => 0,
-            ChangeEvidence::Unsound(_) => 1,
-        }
-    }
 }

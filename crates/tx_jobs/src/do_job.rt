@@ -1,0 +1,181 @@
+// The jobs of all commands, behind one call.
+ghost use Rattle.std.specs.Prelude.{◌≡◌, ◌≢◌, ◌≤◌, IfSome, option_map, string_bytes};
+ghost use Rattle.tx_text.specs.Calls.{CallsAtMost, source_calls};
+ghost use Rattle.tx_text.specs.Ends.{input, output};
+ghost use Rattle.tx_commands.specs.Commands.{IsInRange};
+ghost use Rattle.tx_commands.specs.declared.command.Command.TheVariants.{Pipe};
+ghost use Rattle.tx_jobs.specs.JobFaults.{mark_after};
+ghost use Rattle.tx_explain.specs.Written.{explanation_text};
+ghost use Rattle.tx_jobs.specs.DrawJobs.{ToldText};
+ghost use Rattle.tx_jobs.specs.TellingJobs.{TellingJobAnswers};
+ghost use Rattle.tx_jobs.specs.Done.{Does, HasRun, HasDrawn, IsDone, ran, written};
+
+use crate::audit_evidence::evidence_job;
+use crate::change_evidence::change_evidence_job;
+use crate::check::check_job;
+use crate::codes::codes_job;
+use crate::done::Done;
+use crate::draw::draw_job;
+use crate::grade::grade_job;
+use crate::job_fault::JobFault;
+use crate::lint::lint_job;
+use crate::mend::mend_job;
+use crate::pipe::pipe_job;
+use crate::run::run_job;
+use crate::run_checked::run_checked_job;
+use crate::survive::{survive_job, survive_risks_job};
+use crate::telling::run_telling_job;
+use crate::trace::trace_job;
+use std::alloc::Allocator;
+use tx_commands::{Command, Files};
+use tx_explain::write_explanation;
+use tx_script::Telling;
+use tx_text::{Sink, Source};
+
+/// Does the job of a command: reads its texts, in the order in which its files are opened, and
+/// writes what it prints. Answers what the command came to. `Err` is the fault of the first call
+/// that failed.
+pub fn do_job<A: Allocator + Copy, P: Source, Q: Source, R: Source, W: Sink>(
+    alloc: A,
+    command: &Command,
+    first: &mut P,
+    second: &mut Q,
+    third: &mut R,
+    out: &mut W,
+) -> Result<Done<A>, JobFault>
+    requires { IsInRange command.now }
+    ensures done { IsDone P.rest P.failed P.called first.old first.new
+        (input Q.rest Q.failed Q.called second.old second.new)
+        (input R.rest R.failed R.called third.old third.new)
+        (output W.taken out.old out.new) command.now result }
+    ensures mark { W.failed out.new ≡ mark_after (W.failed out.old) result }
+    ensures first_calls { command.now ≢ Pipe
+        → CallsAtMost P.called source_calls first.old first.new }
+    ensures second_calls { CallsAtMost Q.called source_calls second.old second.new }
+    ensures third_calls { CallsAtMost R.called source_calls third.old third.new }
+{
+    let files = Files::of(command);
+    match command {
+        Command::Pipe => pipe_job(alloc, first, out).map(Done::Ran),
+        Command::Run { checked, .. } => run(alloc, checked, first, second, third, out),
+        Command::RunTelling {
+            strict,
+            echo,
+            summary,
+            ..
+        } => run_telling(alloc, *strict, *echo, *summary, first, second, out),
+        Command::Check { limit, spare, .. } => {
+            check_job(alloc, first, second, *limit, *spare, out).map(Done::Verified)
+        }
+        Command::Lint { plan } => lint_job(alloc, first, plan.as_bytes(), out).map(Done::Linted),
+        Command::Codes { .. } => codes_job(alloc, first, out).map(Done::Listed),
+        Command::Audit { limit, spare, .. } => {
+            let shown = files.script.is_some();
+            evidence_job(alloc, first, *limit, *spare, shown, out).map(Done::Audited)
+        }
+        Command::Change { limit, spare, .. } => {
+            let shown = files.plan.is_some() || files.script.is_some();
+            change_evidence_job(alloc, first, second, *limit, *spare, shown, out).map(Done::Changed)
+        }
+        Command::Mend { limit, spare, .. } => {
+            mend_job(alloc, first, *limit, *spare, out).map(Done::Mended)
+        }
+        Command::Survive { risks: None, .. } => survive_job(alloc, first, out).map(Done::Survived),
+        Command::Survive { risks: Some(_), .. } => {
+            survive_risks_job(alloc, first, second, out).map(Done::Survived)
+        }
+        Command::Grade { .. } => grade_job(alloc, first, out).map(Done::Graded),
+        Command::Trace { exchange, code, .. } => {
+            trace_job(alloc, first, exchange.as_bytes(), code.as_bytes(), out)
+                .and(Ok(Done::Written))
+        }
+        Command::Draw { routes, .. } => draw(alloc, routes, first, out),
+        Command::Explain { word } => explain(word, out),
+    }
+}
+
+/// Runs a script over a plan, after a Yes to a certificate if there is one.
+fn run<A: Allocator + Copy, P: Source, Q: Source, R: Source, W: Sink>(
+    alloc: A,
+    checked: &Option<(String, u8, u8)>,
+    first: &mut P,
+    second: &mut Q,
+    third: &mut R,
+    out: &mut W,
+) -> Result<Done<A>, JobFault>
+    requires limit { IfSome checked.now (λ c. c.1 ≤ 62) }
+    requires spare { IfSome checked.now (λ c. c.2 ≤ 15) }
+    ensures done { HasRun (input P.rest P.failed P.called first.old first.new)
+        (input Q.rest Q.failed Q.called second.old second.new)
+        (input R.rest R.failed R.called third.old third.new)
+        (output W.taken out.old out.new) checked.now result }
+    ensures mark { W.failed out.new ≡ mark_after (W.failed out.old) result }
+    ensures first_calls { CallsAtMost P.called source_calls first.old first.new }
+    ensures second_calls { CallsAtMost Q.called source_calls second.old second.new }
+    ensures third_calls { CallsAtMost R.called source_calls third.old third.new }
+{
+    match checked {
+        None => run_job(alloc, first, second, out).map(Done::Ran),
+        Some((_, limit, spare)) => {
+            run_checked_job(alloc, first, second, *limit, *spare, third, out).map(Done::Checked)
+        }
+    }
+}
+
+/// Runs a script over a plan, and prints more.
+fn run_telling<A: Allocator + Copy, P: Source, R: Source, W: Sink>(
+    alloc: A,
+    strict: bool,
+    echo: bool,
+    summary: bool,
+    plan: &mut P,
+    script: &mut R,
+    out: &mut W,
+) -> Result<Done<A>, JobFault>
+    ensures done { Does (ran strict) (TellingJobAnswers (record { echo = echo; summary = summary })
+        (input P.rest P.failed P.called plan.old plan.new)
+        (input R.rest R.failed R.called script.old script.new)
+        (output W.taken out.old out.new)) result }
+    ensures mark { W.failed out.new ≡ mark_after (W.failed out.old) result }
+    ensures plan_calls { CallsAtMost P.called source_calls plan.old plan.new }
+    ensures script_calls { CallsAtMost R.called source_calls script.old script.new }
+{
+    let told = run_telling_job(alloc, Telling { echo, summary }, plan, script, out);
+    if strict {
+        told.map(Done::RanStrictly)
+    } else {
+        told.map(Done::Ran)
+    }
+}
+
+/// Draws a plan, or the routes for one of its codes.
+fn draw<A: Allocator + Copy, P: Source, W: Sink>(
+    alloc: A,
+    routes: &Option<(String, Option<(u8, u8)>)>,
+    plan: &mut P,
+    out: &mut W,
+) -> Result<Done<A>, JobFault>
+    requires limit { IfSome routes.now (λ r. IfSome r.1 (λ n. n.0 ≤ 62)) }
+    requires spare { IfSome routes.now (λ r. IfSome r.1 (λ n. n.1 ≤ 15)) }
+    ensures done { HasDrawn (input P.rest P.failed P.called plan.old plan.new)
+        (output W.taken out.old out.new) routes.now result }
+    ensures mark { W.failed out.new ≡ mark_after (W.failed out.old) result }
+    ensures calls { CallsAtMost P.called source_calls plan.old plan.new }
+{
+    match routes {
+        None => draw_job(alloc, plan, None, None, out).and(Ok(Done::Written)),
+        Some((code, numbers)) => {
+            draw_job(alloc, plan, Some(code.as_bytes()), *numbers, out).and(Ok(Done::Written))
+        }
+    }
+}
+
+/// Says what a word means, or all codes.
+fn explain<A: Allocator, W: Sink>(word: &Option<String>, out: &mut W) -> Result<Done<A>, JobFault>
+    ensures done { Does written (ToldText (explanation_text (option_map string_bytes word.now))
+        (output W.taken out.old out.new)) result }
+    ensures mark { W.failed out.new ≡ mark_after (W.failed out.old) result }
+{
+    write_explanation(word.as_deref(), out)?;
+    Ok(Done::Written)
+}
