@@ -1,6 +1,7 @@
 -- What words ask for.
 use Rattle.std.specs.Prelude.{◌≡◌, ◌≤◌, ℕ, Bool, true, false, List, Option, None, Some, map, option_map, codes, string_bytes, String, ◌||◌}
 use Rattle.std.specs.Borrow.{Bor}
+use Rattle.std.specs.Coded.{Unit-prop, le_prop, ×_prop}
 use Rattle.std.specs.Option.{option_map_or}
 use Rattle.std.specs.Str.{bytes_eq}
 use Rattle.std.specs.Str.Parse.{IsNumeral, digits_value, without_leading_plus}
@@ -19,6 +20,26 @@ IsInRange (Mend plan limit spare mended cert) = (limit ≤ 62) × (spare ≤ 15)
 IsInRange (Check plan cert limit spare) = (limit ≤ 62) × (spare ≤ 15)
 IsInRange (Draw plan (Some (code, Some (limit, spare)))) = (limit ≤ 62) × (spare ≤ 15)
 IsInRange other = Unit {0}
+
+-- That is known in at most one way. A type that keeps it needs that.
+pub IsInRange-prop : (command : Command) → IsProp (IsInRange command)
+IsInRange-prop Pipe = Unit-prop
+IsInRange-prop (Run plan script None) = Unit-prop
+IsInRange-prop (Run plan script (Some (cert, limit, spare))) = ×_prop le_prop le_prop
+IsInRange-prop (RunTelling plan script strict echo summary) = Unit-prop
+IsInRange-prop (Check plan cert limit spare) = ×_prop le_prop le_prop
+IsInRange-prop (Lint plan) = Unit-prop
+IsInRange-prop (Codes plan) = Unit-prop
+IsInRange-prop (Audit plan limit spare cert counter) = ×_prop le_prop le_prop
+IsInRange-prop (Change old new limit spare cert mixture counter) = ×_prop le_prop le_prop
+IsInRange-prop (Mend plan limit spare mended cert) = ×_prop le_prop le_prop
+IsInRange-prop (Survive plan risks) = Unit-prop
+IsInRange-prop (Grade plan) = Unit-prop
+IsInRange-prop (Trace plan exchange code) = Unit-prop
+IsInRange-prop (Draw plan None) = Unit-prop
+IsInRange-prop (Draw plan (Some (code, None))) = Unit-prop
+IsInRange-prop (Draw plan (Some (code, Some (limit, spare)))) = ×_prop le_prop le_prop
+IsInRange-prop (Explain word) = Unit-prop
 
 -- the words of a command name this file
 abbrev pub Names : {Z : Type 0} → List Row → List ℕ → String Z → Type 0

@@ -1,26 +1,18 @@
 -- What a change comes to, as its job tells it.
-use Rattle.std.proofs.Common.{◌≡◌, ◌∙◌, ℕ, Bool, Ok, Err, refl, sym}
+use Rattle.std.proofs.Common.{ℕ, Ok, Err, refl}
 use Rattle.std.specs.List.{AllByRecursion}
-use Rattle.tx_text.specs.declared.frame.FaultAt.{FaultAt}
 use Rattle.tx_plan.specs.Plan.{Plan}
 use Rattle.tx_plan.specs.Mixtures.{SameNetwork}
-use Rattle.tx_plantext.specs.declared.fault.PlanWord.{PlanWord}
 use Rattle.tx_rank.specs.declared.ranking.Ranking.{Ranking}
 use Rattle.tx_rank.specs.declared.ranking.Ranking.TheVariants.{Found, Fails}
 use Rattle.tx_audit.specs.declared.audited.AuditFault.{AuditFault}
 use Rattle.tx_audit.specs.declared.audited.AuditFault.TheVariants.{Plan as AuditPlan, Write as AuditWrite, NoMemory as AuditNoMemory}
 use Rattle.tx_change.specs.Shown.{IsShown}
 use Rattle.tx_change.specs.ChangeAnswers.{IsRightChange, ChangeAnswers}
-use Rattle.tx_jobs.specs.declared.job_fault.JobFault.{JobFault}
-use Rattle.tx_jobs.specs.declared.job_fault.JobFault.TheVariants.{Plan as PlanFault, Cert, Script, Read, Write, NoMemory}
-use Rattle.tx_jobs.specs.declared.change_fault.ChangeFault.TheVariants.{Job}
-use Rattle.tx_jobs.specs.JobFaults.{mark_by, plan_fault}
 use Rattle.tx_jobs.specs.AuditJobs.{audit_fault}
-use Rattle.tx_jobs.specs.ChangeFaults.{in_new_plan, new_plan_fault, change_mark_by}
 use Rattle.tx_text.specs.Ends.{Output}
 use Rattle.tx_jobs.specs.ChangeJobs.{ToldChange, OnUnsoundChange}
 use Rattle.tx_jobs.specs.inner.Changing.{changed_of}
-use Rattle.tx_jobs.proofs.RefusedTexts.{plan_mark}
 
 module _ {A : Type 0} (old new : Plan) (limit spare : ℕ) (same : SameNetwork old new) where
   -- the report was written
@@ -39,19 +31,7 @@ module _ {A : Type 0} (old new : Plan) (limit spare : ℕ) (same : SameNetwork o
 
 -- the report stopped
 pub change_stopped : (A : Type 0) (old new : Plan) (limit spare : ℕ) (same : SameNetwork old new) (out : Output) (f : AuditFault) → ChangeAnswers {A = A} old new limit spare out (Err f)
-    → ToldChange {A = A} old new limit spare out (Err (Job (audit_fault f)))
+    → ToldChange {A = A} old new limit spare out (Err (audit_fault f))
 change_stopped A old new limit spare same out (AuditPlan f) h = absurd h
 change_stopped A old new limit spare same out AuditWrite h = (same, h)
 change_stopped A old new limit spare same out AuditNoMemory h = (same, h)
-
-new_as : (old : Bool) (f : JobFault) → change_mark_by old (in_new_plan f) ≡ mark_by old f
-new_as old (PlanFault f) = refl
-new_as old (Cert f) = refl
-new_as old (Script f) = refl
-new_as old Read = refl
-new_as old Write = refl
-new_as old NoMemory = refl
-
--- a refused new plan leaves the mark
-pub new_plan_mark : (old : Bool) (f : FaultAt PlanWord) → old ≡ change_mark_by old (new_plan_fault f)
-new_plan_mark old f = plan_mark old f ∙ sym (new_as old (plan_fault f))

@@ -108,15 +108,18 @@ module _ {A : Type 0} where
   HasDrawn plan out (Some (code, numbers)) result =
       Does written (DrawJobAnswers A (Some (string_bytes code)) numbers plan out) result
 
-  module _ {P : Type 0} (rest : P → Option (List ℕ)) (failed : P → Bool)
-      (called : ℕ → Result ℕ ReadFault → P → P → Type 0) (old new : P) (second third : Input)
-      (out : Output) where
-    abbrev first : Input
-    first = input rest failed called old new
+module _ {P : Type 0} (rest : P → Option (List ℕ)) (failed : P → Bool)
+    (called : ℕ → Result ℕ ReadFault → P → P → Type 0) (old new : P) (second third : Input)
+    (out : Output) where
+  -- the first text
+  abbrev pub first : Input
+  first = input rest failed called old new
 
-    abbrev Alone : Type 0
-    Alone = second.unread × third.unread
+  -- no text but the first was read
+  abbrev pub Alone : Type 0
+  Alone = second.unread × third.unread
 
+  module _ {A : Type 0} where
     -- the command came to the answer of its job over its texts, and no other text was read
     abbrev pub IsDone : Command → Result (Done A) JobFault → Type 0
     IsDone Pipe result = Does Ran (PipeJobAnswers rest failed called old new out) result × Alone

@@ -88,12 +88,15 @@ impl<A: Allocator> Done<A> {
             Done::Audited(Evidence::Unsound(Some(script))) => {
                 [None, None, Some(Content::Script(script))]
             }
-            Done::Changed(ChangeEvidence::Unsound(Some(mixture))) => {
+            Done::Changed(ChangeEvidence::Unsound(Some(Mixture::Scripted(script)))) => {
                 [
-                    Some(Content::Plan(mixture.plan())),
+                    Some(Content::Plan(&script.plan)),
                     None,
-                    mixture.script().map(Content::Script),
+                    Some(Content::Script(script)),
                 ]
+            }
+            Done::Changed(ChangeEvidence::Unsound(Some(Mixture::Unscripted(plan)))) => {
+                [Some(Content::Plan(plan)), None, None]
             }
             Done::Mended(Mending::Mended(plan, _, cert)) => {
                 [

@@ -33,26 +33,6 @@ impl<A: Allocator> Mixture<A> {
             None => Mixture::Unscripted(plan),
         }
     }
-
-    /// The script, if there is one.
-    pub fn script(&self) -> Option<&CounterScript<A>>
-        ensures { option_map (λ s. s.now.events.items) result ≡ mixture_events self.now }
-    {
-        match self {
-            Mixture::Scripted(script) => Some(script),
-            Mixture::Unscripted(_) => None,
-        }
-    }
-
-    /// The plan of the mixture.
-    pub fn plan(&self) -> &Plan<A>
-        ensures { result.now ≡ mixture_plan self.now }
-    {
-        match self {
-            Mixture::Scripted(script) => &script.plan,
-            Mixture::Unscripted(plan) => plan,
-        }
-    }
 }
 
 /// What shows the verdict on a change.

@@ -1,7 +1,6 @@
 use Rattle.std.proofs.Common.{◌∙◌, refl}
 use Rattle.tx_text.specs.Ends.{output}
 use Rattle.tx_text.proofs.Exits.{exits_with}
-use Rattle.tx_jobs.specs.declared.change_fault.ChangeFault.TheVariants.{Job}
 use Rattle.tx_jobs.specs.AuditJobs.{audit_fault}
 use Rattle.tx_jobs.proofs.ChangeTold.{change_told, change_stopped, change_network, change_shown}
 use Rattle.tx_jobs.proofs.RefusedTexts.{audit_marked}
@@ -32,7 +31,7 @@ returns-clause-each g c =
 pub returns-in_err-ranking-clause-told : goal.returns-in_err-ranking-clause-told
 returns-in_err-ranking-clause-told g c =
     let f = c.in_err-ranking.field-0.0 in
-    rw (exits_with c.from_residual.result (Job (audit_fault f)) c.from_residual.ensures.1)
+    rw (exits_with c.from_residual.result (audit_fault f) c.from_residual.ensures.1)
     (change_stopped _ c.args.old c.args.new c.args.limit c.args.spare c.in_default.ensures
     (output g.W.Sink.taken c.args.out.now c.report_change.new.out) f
     c.in_err-ranking.ensures.answers)
@@ -40,5 +39,5 @@ returns-in_err-ranking-clause-told g c =
 pub returns-in_err-ranking-clause-mark : goal.returns-in_err-ranking-clause-mark
 returns-in_err-ranking-clause-mark g c =
     let f = c.in_err-ranking.field-0.0 in
-    rw (exits_with c.from_residual.result (Job (audit_fault f)) c.from_residual.ensures.1)
+    rw (exits_with c.from_residual.result (audit_fault f) c.from_residual.ensures.1)
     (c.in_err-ranking.ensures.mark ∙ audit_marked (g.W.Sink.failed c.args.out.now) f)

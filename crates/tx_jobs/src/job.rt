@@ -56,7 +56,7 @@ pub fn do_job<A: Allocator + Copy, P: Source, Q: Source, R: Source, W: Sink>(
 {
     let files = Files::of(command);
     match command {
-        Command::Pipe => pipe_job(alloc, first, out).map(Done::Ran),
+        Command::Pipe => Ok(Done::Ran(pipe_job(alloc, first, out)?)),
         Command::Run { checked, .. } => run(alloc, checked, first, second, third, out),
         Command::RunTelling {
             strict,
@@ -65,29 +65,30 @@ pub fn do_job<A: Allocator + Copy, P: Source, Q: Source, R: Source, W: Sink>(
             ..
         } => run_telling(alloc, *strict, *echo, *summary, first, second, out),
         Command::Check { limit, spare, .. } => {
-            check_job(alloc, first, second, *limit, *spare, out).map(Done::Verified)
+            Ok(Done::Verified(check_job(alloc, first, second, *limit, *spare, out)?))
         }
-        Command::Lint { plan } => lint_job(alloc, first, plan.as_bytes(), out).map(Done::Linted),
-        Command::Codes { .. } => codes_job(alloc, first, out).map(Done::Listed),
+        Command::Lint { plan } => Ok(Done::Linted(lint_job(alloc, first, plan.as_bytes(), out)?)),
+        Command::Codes { .. } => Ok(Done::Listed(codes_job(alloc, first, out)?)),
         Command::Audit { limit, spare, .. } => {
             let shown = files.script.is_some();
-            evidence_job(alloc, first, *limit, *spare, shown, out).map(Done::Audited)
+            Ok(Done::Audited(evidence_job(alloc, first, *limit, *spare, shown, out)?))
         }
         Command::Change { limit, spare, .. } => {
             let shown = files.plan.is_some() || files.script.is_some();
-            change_evidence_job(alloc, first, second, *limit, *spare, shown, out).map(Done::Changed)
+            let changed = change_evidence_job(alloc, first, second, *limit, *spare, shown, out)?;
+            Ok(Done::Changed(changed))
         }
         Command::Mend { limit, spare, .. } => {
-            mend_job(alloc, first, *limit, *spare, out).map(Done::Mended)
+            Ok(Done::Mended(mend_job(alloc, first, *limit, *spare, out)?))
         }
-        Command::Survive { risks: None, .. } => survive_job(alloc, first, out).map(Done::Survived),
+        Command::Survive { risks: None, .. } => Ok(Done::Survived(survive_job(alloc, first, out)?)),
         Command::Survive { risks: Some(_), .. } => {
-            survive_risks_job(alloc, first, second, out).map(Done::Survived)
+            Ok(Done::Survived(survive_risks_job(alloc, first, second, out)?))
         }
-        Command::Grade { .. } => grade_job(alloc, first, out).map(Done::Graded),
+        Command::Grade { .. } => Ok(Done::Graded(grade_job(alloc, first, out)?)),
         Command::Trace { exchange, code, .. } => {
-            trace_job(alloc, first, exchange.as_bytes(), code.as_bytes(), out)
-                .and(Ok(Done::Written))
+            trace_job(alloc, first, exchange.as_bytes(), code.as_bytes(), out)?;
+            Ok(Done::Written)
         }
         Command::Draw { routes, .. } => draw(alloc, routes, first, out),
         Command::Explain { word } => explain(word, out),
@@ -115,9 +116,10 @@ fn run<A: Allocator + Copy, P: Source, Q: Source, R: Source, W: Sink>(
     ensures third_calls { CallsAtMost R.called source_calls third.old third.new }
 {
     match checked {
-        None => run_job(alloc, first, second, out).map(Done::Ran),
+        None => Ok(Done::Ran(run_job(alloc, first, second, out)?)),
         Some((_, limit, spare)) => {
-            run_checked_job(alloc, first, second, *limit, *spare, third, out).map(Done::Checked)
+            let checked = run_checked_job(alloc, first, second, *limit, *spare, third, out)?;
+            Ok(Done::Checked(checked))
         }
     }
 }
@@ -140,11 +142,12 @@ fn run_telling<A: Allocator + Copy, P: Source, R: Source, W: Sink>(
     ensures plan_calls { CallsAtMost P.called source_calls plan.old plan.new }
     ensures script_calls { CallsAtMost R.called source_calls script.old script.new }
 {
-    let told = run_telling_job(alloc, Telling { echo, summary }, plan, script, out);
+    let telling = Telling { echo, summary };
+    let summary = run_telling_job(alloc, telling, plan, script, out)?;
     if strict {
-        told.map(Done::RanStrictly)
+        Ok(Done::RanStrictly(summary))
     } else {
-        told.map(Done::Ran)
+        Ok(Done::Ran(summary))
     }
 }
 
@@ -163,11 +166,10 @@ fn draw<A: Allocator + Copy, P: Source, W: Sink>(
     ensures calls { CallsAtMost P.called source_calls plan.old plan.new }
 {
     match routes {
-        None => draw_job(alloc, plan, None, None, out).and(Ok(Done::Written)),
-        Some((code, numbers)) => {
-            draw_job(alloc, plan, Some(code.as_bytes()), *numbers, out).and(Ok(Done::Written))
-        }
+        None => draw_job(alloc, plan, None, None, out)?,
+        Some((code, numbers)) => draw_job(alloc, plan, Some(code.as_bytes()), *numbers, out)?,
     }
+    Ok(Done::Written)
 }
 
 /// Says what a word means, or all codes.

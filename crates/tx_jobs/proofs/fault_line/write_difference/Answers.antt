@@ -1,4 +1,4 @@
-use Rattle.tx_jobs.proofs.change_fault_line.write_difference.Goals as goal
+use Rattle.tx_jobs.proofs.fault_line.write_difference.Goals as goal
 
 pub returns : goal.returns
 returns g c =
