@@ -1,12 +1,10 @@
 -- What a command comes to: the answer of its job, its exit status, and what goes into its files.
-use Rattle.std.specs.Prelude.{◌≡◌, ℕ, ◌==◌, Bool, true, false, List, [], ◌∷◌, Option, None, Some, option_map, is_some, ◌||◌, if◌then◌else◌, string_bytes, String, Result, Ok, Err}
+use Rattle.std.specs.Prelude.{◌≡◌, ℕ, ◌==◌, not, ◌&&◌, Bool, List, [], ◌∷◌, Option, None, Some, option_map, is_some, ◌||◌, if◌then◌else◌, string_bytes, String, Result, Ok, Err}
 use Rattle.tx_text.specs.declared.source.ReadFault.{ReadFault}
 use Rattle.tx_text.specs.Ends.{Input, Output, input}
 use Rattle.tx_plantext.specs.PlanWritten.{plan_written}
 use Rattle.tx_cert.specs.CertText.{cert_written}
 use Rattle.tx_check.specs.declared.verdict.Verdict.TheVariants.{Yes, No}
-use Rattle.tx_script.specs.declared.summary.Summary.{Summary}
-use Rattle.tx_script.specs.declared.teller.Telling.{Telling}
 use Rattle.tx_mend.specs.declared.mending.Mending.TheVariants.{Mended as IsMended, NoRouting}
 use Rattle.tx_risk.specs.declared.surviving.Survival.TheVariants.{Tried, Ungraded}
 use Rattle.tx_audit.specs.Scripts.{script_written}
@@ -18,7 +16,7 @@ use Rattle.tx_jobs.specs.declared.evidence.Evidence.TheVariants.{Sound, Unsound}
 use Rattle.tx_jobs.specs.declared.mixture.ChangeEvidence.TheVariants.{Sound as SoundChange, Unsound as UnsoundChange}
 use Rattle.tx_jobs.specs.declared.job_fault.JobFault.{JobFault}
 use Rattle.tx_jobs.specs.declared.done.Done.{Done}
-use Rattle.tx_jobs.specs.declared.done.Done.TheVariants.{Ran, RanStrictly, Checked, Verified, Listed, Linted, Audited, Changed, Mended, Graded, Survived, Written}
+use Rattle.tx_jobs.specs.declared.done.Done.TheVariants.{Ran, Told, Checked, Verified, Listed, Linted, Audited, Changed, Mended, Graded, Survived, Written}
 use Rattle.tx_jobs.specs.ChangeEvidences.{ChangeEvidenceAnswers, mixture_plan, mixture_events}
 use Rattle.tx_jobs.specs.CheckJobs.{CheckJobAnswers}
 use Rattle.tx_jobs.specs.CheckedJobs.{CheckedJobAnswers}
@@ -41,7 +39,7 @@ status_of_cuts (cut ∷ cuts) = 1
 -- the exit status
 abbrev pub status_of_done : {A : Type 0} → Done A → ℕ
 status_of_done (Ran summary) = 0
-status_of_done (RanStrictly summary) = if summary.refused == 0 then 0 else 1
+status_of_done (Told strict summary) = if strict && not (summary.refused == 0) then 1 else 0
 status_of_done (Checked (RanAfterYes summary)) = 0
 status_of_done (Checked (Denied fault)) = 1
 status_of_done (Verified Yes) = 0
@@ -88,19 +86,6 @@ module _ {A : Type 0} where
   abbrev pub written : Unit {0} → Done A
   written _ = Written
 
-  -- a script was run, by whether a refused event is to show
-  abbrev pub ran : (strict : Bool) → Summary → Done A
-  ran true = RanStrictly
-  ran false = Ran
-
-  -- `run PLAN SCRIPT`, after a Yes to a certificate if there is one
-  abbrev pub HasRun : {Z : Type 0} → (first second third : Input) → Output
-      → Option (String Z × ℕ × ℕ) → Result (Done A) JobFault → Type 0
-  HasRun first second third out None result =
-      Does Ran (RunJobAnswers first second out) result × third.unread
-  HasRun first second third out (Some (cert, limit, spare)) result =
-      Does Checked (CheckedJobAnswers limit spare first second third out) result
-
   -- `draw PLAN`, or of one of its codes
   abbrev pub HasDrawn : {Z : Type 0} → Input → Output → Option (String Z × Option (ℕ × ℕ))
       → Result (Done A) JobFault → Type 0
@@ -123,9 +108,12 @@ module _ {P : Type 0} (rest : P → Option (List ℕ)) (failed : P → Bool)
     -- the command came to the answer of its job over its texts, and no other text was read
     abbrev pub IsDone : Command → Result (Done A) JobFault → Type 0
     IsDone Pipe result = Does Ran (PipeJobAnswers rest failed called old new out) result × Alone
-    IsDone (Run plan script checked) result = HasRun first second third out checked result
+    IsDone (Run plan script None) result =
+        Does Ran (RunJobAnswers first second out) result × third.unread
+    IsDone (Run plan script (Some (cert, limit, spare))) result =
+        Does Checked (CheckedJobAnswers limit spare first second third out) result
     IsDone (RunTelling plan script strict echo summary) result =
-        Does (ran strict) (TellingJobAnswers (record { echo = echo; summary = summary })
+        Does (Told strict) (TellingJobAnswers (record { echo = echo; summary = summary })
         first second out) result × third.unread
     IsDone (Check plan cert limit spare) result =
         Does Verified (CheckJobAnswers limit spare first second out) result × third.unread

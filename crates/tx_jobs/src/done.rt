@@ -19,8 +19,9 @@ use tx_script::Summary;
 pub enum Done<A: Allocator = Global> {
     /// A script was run.
     Ran(Summary),
-    /// A script was run, and the exit status is to show whether an event was refused.
-    RanStrictly(Summary),
+    /// A script was run that told more. The flag: the exit status is to show whether an event was
+    /// refused.
+    Told(bool, Summary),
     /// A script was run after a Yes to a certificate, or was not after a No.
     Checked(Checked),
     /// A certificate was checked.
@@ -68,7 +69,7 @@ impl<A: Allocator> Done<A> {
             | Done::Changed(ChangeEvidence::Unsound(_))
             | Done::Mended(Mending::NoRouting(_, _, _))
             | Done::Survived(Survival::Ungraded(_)) => 1,
-            Done::RanStrictly(summary) => u8::from(summary.refused != 0),
+            Done::Told(strict, summary) => u8::from(*strict && summary.refused != 0),
             Done::Graded(grade) => u8::from(grade.plan.is_none()),
             Done::Survived(Survival::Tried(cuts)) => u8::from(!cuts.is_empty()),
             Done::Linted(status) => *status,
@@ -106,7 +107,7 @@ impl<A: Allocator> Done<A> {
                 ]
             }
             Done::Ran(_)
-            | Done::RanStrictly(_)
+            | Done::Told(_, _)
             | Done::Checked(_)
             | Done::Verified(_)
             | Done::Listed(_)

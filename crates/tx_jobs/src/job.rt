@@ -1,14 +1,12 @@
 // The jobs of all commands, behind one call.
-ghost use Rattle.std.specs.Prelude.{◌≡◌, ◌≢◌, ◌≤◌, IfSome, option_map, string_bytes};
+ghost use Rattle.std.specs.Prelude.{◌≡◌, ◌≢◌, ◌≤◌, true, IfSome};
 ghost use Rattle.tx_text.specs.Calls.{CallsAtMost, source_calls};
 ghost use Rattle.tx_text.specs.Ends.{input, output};
 ghost use Rattle.tx_commands.specs.Commands.{IsInRange};
 ghost use Rattle.tx_commands.specs.declared.command.Command.TheVariants.{Pipe};
 ghost use Rattle.tx_jobs.specs.JobFaults.{mark_after};
-ghost use Rattle.tx_explain.specs.Written.{explanation_text};
-ghost use Rattle.tx_jobs.specs.DrawJobs.{ToldText};
-ghost use Rattle.tx_jobs.specs.TellingJobs.{TellingJobAnswers};
-ghost use Rattle.tx_jobs.specs.Done.{Does, HasRun, HasDrawn, IsDone, ran, written};
+ghost use Rattle.tx_jobs.specs.Done.{HasDrawn, IsDone};
+ghost use Rattle.tx_jobs.specs.inner.Running.{runs_script};
 
 use crate::audit_evidence::evidence_job;
 use crate::change_evidence::change_evidence_job;
@@ -56,14 +54,9 @@ pub fn do_job<A: Allocator + Copy, P: Source, Q: Source, R: Source, W: Sink>(
 {
     let files = Files::of(command);
     match command {
-        Command::Pipe => Ok(Done::Ran(pipe_job(alloc, first, out)?)),
-        Command::Run { checked, .. } => run(alloc, checked, first, second, third, out),
-        Command::RunTelling {
-            strict,
-            echo,
-            summary,
-            ..
-        } => run_telling(alloc, *strict, *echo, *summary, first, second, out),
+        Command::Pipe | Command::Run { .. } | Command::RunTelling { .. } => {
+            do_run(alloc, command, first, second, third, out)
+        }
         Command::Check { limit, spare, .. } => {
             Ok(Done::Verified(check_job(alloc, first, second, *limit, *spare, out)?))
         }
@@ -91,63 +84,58 @@ pub fn do_job<A: Allocator + Copy, P: Source, Q: Source, R: Source, W: Sink>(
             Ok(Done::Written)
         }
         Command::Draw { routes, .. } => draw(alloc, routes, first, out),
-        Command::Explain { word } => explain(word, out),
+        Command::Explain { word } => {
+            write_explanation(word.as_deref(), out)?;
+            Ok(Done::Written)
+        }
     }
 }
 
-/// Runs a script over a plan, after a Yes to a certificate if there is one.
-fn run<A: Allocator + Copy, P: Source, Q: Source, R: Source, W: Sink>(
+/// Does the job of a command that runs a script.
+fn do_run<A: Allocator + Copy, P: Source, Q: Source, R: Source, W: Sink>(
     alloc: A,
-    checked: &Option<(String, u8, u8)>,
+    command: &Command,
     first: &mut P,
     second: &mut Q,
     third: &mut R,
     out: &mut W,
 ) -> Result<Done<A>, JobFault>
-    requires limit { IfSome checked.now (λ c. c.1 ≤ 62) }
-    requires spare { IfSome checked.now (λ c. c.2 ≤ 15) }
-    ensures done { HasRun (input P.rest P.failed P.called first.old first.new)
+    requires range { IsInRange command.now }
+    requires run { runs_script command.now ≡ true }
+    ensures done { IsDone P.rest P.failed P.called first.old first.new
         (input Q.rest Q.failed Q.called second.old second.new)
         (input R.rest R.failed R.called third.old third.new)
-        (output W.taken out.old out.new) checked.now result }
+        (output W.taken out.old out.new) command.now result }
     ensures mark { W.failed out.new ≡ mark_after (W.failed out.old) result }
-    ensures first_calls { CallsAtMost P.called source_calls first.old first.new }
+    ensures first_calls { command.now ≢ Pipe
+        → CallsAtMost P.called source_calls first.old first.new }
     ensures second_calls { CallsAtMost Q.called source_calls second.old second.new }
     ensures third_calls { CallsAtMost R.called source_calls third.old third.new }
 {
-    match checked {
-        None => Ok(Done::Ran(run_job(alloc, first, second, out)?)),
-        Some((_, limit, spare)) => {
+    match command {
+        Command::Pipe => Ok(Done::Ran(pipe_job(alloc, first, out)?)),
+        Command::Run { checked: None, .. } => Ok(Done::Ran(run_job(alloc, first, second, out)?)),
+        Command::Run {
+            checked: Some((_, limit, spare)),
+            ..
+        } => {
             let checked = run_checked_job(alloc, first, second, *limit, *spare, third, out)?;
             Ok(Done::Checked(checked))
         }
-    }
-}
-
-/// Runs a script over a plan, and prints more.
-fn run_telling<A: Allocator + Copy, P: Source, R: Source, W: Sink>(
-    alloc: A,
-    strict: bool,
-    echo: bool,
-    summary: bool,
-    plan: &mut P,
-    script: &mut R,
-    out: &mut W,
-) -> Result<Done<A>, JobFault>
-    ensures done { Does (ran strict) (TellingJobAnswers (record { echo = echo; summary = summary })
-        (input P.rest P.failed P.called plan.old plan.new)
-        (input R.rest R.failed R.called script.old script.new)
-        (output W.taken out.old out.new)) result }
-    ensures mark { W.failed out.new ≡ mark_after (W.failed out.old) result }
-    ensures plan_calls { CallsAtMost P.called source_calls plan.old plan.new }
-    ensures script_calls { CallsAtMost R.called source_calls script.old script.new }
-{
-    let telling = Telling { echo, summary };
-    let summary = run_telling_job(alloc, telling, plan, script, out)?;
-    if strict {
-        Ok(Done::RanStrictly(summary))
-    } else {
-        Ok(Done::Ran(summary))
+        Command::RunTelling {
+            strict,
+            echo,
+            summary,
+            ..
+        } => {
+            let telling = Telling {
+                echo: *echo,
+                summary: *summary,
+            };
+            let summary = run_telling_job(alloc, telling, first, second, out)?;
+            Ok(Done::Told(*strict, summary))
+        }
+        _ => unreachable!(),
     }
 }
 
@@ -169,15 +157,5 @@ fn draw<A: Allocator + Copy, P: Source, W: Sink>(
         None => draw_job(alloc, plan, None, None, out)?,
         Some((code, numbers)) => draw_job(alloc, plan, Some(code.as_bytes()), *numbers, out)?,
     }
-    Ok(Done::Written)
-}
-
-/// Says what a word means, or all codes.
-fn explain<A: Allocator, W: Sink>(word: &Option<String>, out: &mut W) -> Result<Done<A>, JobFault>
-    ensures done { Does written (ToldText (explanation_text (option_map string_bytes word.now))
-        (output W.taken out.old out.new)) result }
-    ensures mark { W.failed out.new ≡ mark_after (W.failed out.old) result }
-{
-    write_explanation(word.as_deref(), out)?;
     Ok(Done::Written)
 }
