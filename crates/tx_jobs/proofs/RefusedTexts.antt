@@ -58,18 +58,18 @@ pub plan_mark : (old : Bool) (f : FaultAt PlanWord) → old ≡ mark_by old (pla
 plan_mark old f = sym (plan_by old f f.kind)
 
 in_plan_mark : (which : FaultAt PlanWord → JobFault) → ((old : Bool) (f : FaultAt PlanWord) → mark_by old (which f) ≡ old) → (old : Bool) (f : JobFault) → mark_by old (in_plan which f) ≡ mark_by old f
-in_plan_mark which as old (Plan f) = as old f
-in_plan_mark which as old (Cert f) = refl
-in_plan_mark which as old (Script f) = refl
-in_plan_mark which as old Read = refl
-in_plan_mark which as old Write = refl
-in_plan_mark which as old NoMemory = refl
-in_plan_mark which as old (OldPlan f) = refl
-in_plan_mark which as old (NewPlan f) = refl
-in_plan_mark which as old (TwoNetworks d) = refl
-in_plan_mark which as old (Risks f) = refl
-in_plan_mark which as old NoSuchExchange = refl
-in_plan_mark which as old NoSuchCode = refl
+in_plan_mark which leaves old (Plan f) = leaves old f
+in_plan_mark which leaves old (Cert f) = refl
+in_plan_mark which leaves old (Script f) = refl
+in_plan_mark which leaves old Read = refl
+in_plan_mark which leaves old Write = refl
+in_plan_mark which leaves old NoMemory = refl
+in_plan_mark which leaves old (OldPlan f) = refl
+in_plan_mark which leaves old (NewPlan f) = refl
+in_plan_mark which leaves old (TwoNetworks d) = refl
+in_plan_mark which leaves old (Risks f) = refl
+in_plan_mark which leaves old NoSuchExchange = refl
+in_plan_mark which leaves old NoSuchCode = refl
 
 -- the same of the two plans of a change
 pub old_plan_mark : (old : Bool) (f : FaultAt PlanWord) → old ≡ mark_by old (old_plan_fault f)

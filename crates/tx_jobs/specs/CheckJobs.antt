@@ -9,7 +9,7 @@ use Rattle.tx_cert.specs.declared.fault.CertWord.{CertWord}
 use Rattle.tx_cert.specs.Certificate.{Certificate, IsCertificateOf}
 use Rattle.tx_cert.specs.CertText.{SaysCert, ReadsCert}
 use Rattle.tx_check.specs.declared.verdict.Verdict.{Verdict}
-use Rattle.tx_check.specs.declared.verdict.Verdict.TheVariants.{Yes, No}
+use Rattle.tx_check.specs.declared.verdict.Verdict.TheVariants.{Yes}
 use Rattle.tx_check.specs.Checks.{check_faults, ranks_for, verdict_of}
 use Rattle.tx_check.specs.Verdicts.{verdict_written}
 use Rattle.tx_jobs.specs.declared.job_fault.JobFault.{JobFault}
