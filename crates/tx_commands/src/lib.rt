@@ -11,7 +11,6 @@ mod help;
 mod reading;
 mod refusal;
 
-pub use command::Command;
+pub use command::{Command, Files, STANDARD_INPUT};
 pub use fault::WordsFault;
-pub use files::{Files, STANDARD_INPUT};
 pub use reading::read_command;
