@@ -7,7 +7,7 @@ mod command;
 mod fault;
 mod files;
 mod grammar;
-mod help;
+mod judging;
 mod reading;
 mod refusal;
 

@@ -1,6 +1,6 @@
 use Rattle.std.proofs.Common.{refl}
 use Rattle.tx_commands.proofs.Grammars.{one_more}
-use Rattle.tx_commands.proofs.grammar.judging_grammar.Goals as goal
+use Rattle.tx_commands.proofs.judging.judging_grammar.Goals as goal
 
 pub returns : goal.returns
 returns c =

@@ -1,6 +1,6 @@
 use Rattle.std.proofs.Common.{◌≡◌, codes, rules}
 use Rattle.clap.specs.Words.{app_of, new_app}
-use Rattle.tx_commands.proofs.grammar.mend_grammar.Goals as goal
+use Rattle.tx_commands.proofs.judging.mend_grammar.Goals as goal
 
 pub returns : goal.returns
 returns c =
