@@ -6,7 +6,7 @@ ghost use Rattle.tx_commands.specs.Commands.{IsInRange};
 ghost use Rattle.tx_commands.specs.declared.command.Command.TheVariants.{Pipe};
 ghost use Rattle.tx_jobs.specs.JobFaults.{mark_after};
 ghost use Rattle.tx_jobs.specs.Done.{HasDrawn, IsDone};
-ghost use Rattle.tx_jobs.specs.inner.Running.{runs_script};
+ghost use Rattle.tx_jobs.specs.inner.Texts.{has_more_texts};
 
 use crate::audit_evidence::evidence_job;
 use crate::change_evidence::change_evidence_job;
@@ -54,11 +54,13 @@ pub fn do_job<A: Allocator + Copy, P: Source, Q: Source, R: Source, W: Sink>(
 {
     let files = Files::of(command);
     match command {
-        Command::Pipe | Command::Run { .. } | Command::RunTelling { .. } => {
-            do_run(alloc, command, first, second, third, out)
-        }
-        Command::Check { limit, spare, .. } => {
-            Ok(Done::Verified(check_job(alloc, first, second, *limit, *spare, out)?))
+        Command::Pipe
+        | Command::Run { .. }
+        | Command::RunTelling { .. }
+        | Command::Check { .. }
+        | Command::Change { .. }
+        | Command::Survive { risks: Some(_), .. } => {
+            do_texts(alloc, command, first, second, third, out)
         }
         Command::Lint { plan } => Ok(Done::Linted(lint_job(alloc, first, plan.as_bytes(), out)?)),
         Command::Codes { .. } => Ok(Done::Listed(codes_job(alloc, first, out)?)),
@@ -66,18 +68,10 @@ pub fn do_job<A: Allocator + Copy, P: Source, Q: Source, R: Source, W: Sink>(
             let shown = files.script.is_some();
             Ok(Done::Audited(evidence_job(alloc, first, *limit, *spare, shown, out)?))
         }
-        Command::Change { limit, spare, .. } => {
-            let shown = files.plan.is_some() || files.script.is_some();
-            let changed = change_evidence_job(alloc, first, second, *limit, *spare, shown, out)?;
-            Ok(Done::Changed(changed))
-        }
         Command::Mend { limit, spare, .. } => {
             Ok(Done::Mended(mend_job(alloc, first, *limit, *spare, out)?))
         }
         Command::Survive { risks: None, .. } => Ok(Done::Survived(survive_job(alloc, first, out)?)),
-        Command::Survive { risks: Some(_), .. } => {
-            Ok(Done::Survived(survive_risks_job(alloc, first, second, out)?))
-        }
         Command::Grade { .. } => Ok(Done::Graded(grade_job(alloc, first, out)?)),
         Command::Trace { exchange, code, .. } => {
             trace_job(alloc, first, exchange.as_bytes(), code.as_bytes(), out)?;
@@ -91,8 +85,8 @@ pub fn do_job<A: Allocator + Copy, P: Source, Q: Source, R: Source, W: Sink>(
     }
 }
 
-/// Does the job of a command that runs a script.
-fn do_run<A: Allocator + Copy, P: Source, Q: Source, R: Source, W: Sink>(
+/// Does the job of a command over more than one text.
+fn do_texts<A: Allocator + Copy, P: Source, Q: Source, R: Source, W: Sink>(
     alloc: A,
     command: &Command,
     first: &mut P,
@@ -101,7 +95,7 @@ fn do_run<A: Allocator + Copy, P: Source, Q: Source, R: Source, W: Sink>(
     out: &mut W,
 ) -> Result<Done<A>, JobFault>
     requires range { IsInRange command.now }
-    requires run { runs_script command.now ≡ true }
+    requires texts { has_more_texts command.now ≡ true }
     ensures done { IsDone P.rest P.failed P.called first.old first.new
         (input Q.rest Q.failed Q.called second.old second.new)
         (input R.rest R.failed R.called third.old third.new)
@@ -112,6 +106,7 @@ fn do_run<A: Allocator + Copy, P: Source, Q: Source, R: Source, W: Sink>(
     ensures second_calls { CallsAtMost Q.called source_calls second.old second.new }
     ensures third_calls { CallsAtMost R.called source_calls third.old third.new }
 {
+    let files = Files::of(command);
     match command {
         Command::Pipe => Ok(Done::Ran(pipe_job(alloc, first, out)?)),
         Command::Run { checked: None, .. } => Ok(Done::Ran(run_job(alloc, first, second, out)?)),
@@ -134,6 +129,17 @@ fn do_run<A: Allocator + Copy, P: Source, Q: Source, R: Source, W: Sink>(
             };
             let summary = run_telling_job(alloc, telling, first, second, out)?;
             Ok(Done::Told(*strict, summary))
+        }
+        Command::Check { limit, spare, .. } => {
+            Ok(Done::Verified(check_job(alloc, first, second, *limit, *spare, out)?))
+        }
+        Command::Change { limit, spare, .. } => {
+            let shown = files.plan.is_some() || files.script.is_some();
+            let changed = change_evidence_job(alloc, first, second, *limit, *spare, shown, out)?;
+            Ok(Done::Changed(changed))
+        }
+        Command::Survive { risks: Some(_), .. } => {
+            Ok(Done::Survived(survive_risks_job(alloc, first, second, out)?))
         }
         _ => unreachable!(),
     }

@@ -2,20 +2,6 @@ use Rattle.std.proofs.Common.{refl}
 use Rattle.tx_jobs.proofs.Did.{did, stopped, stopped_mark}
 use Rattle.tx_jobs.proofs.job.do_job.Goals as goal
 
-pub returns-in_ok-check_job-in-Check-clause-done : goal.returns-in_ok-check_job-in-Check-clause-done
-returns-in_ok-check_job-in-Check-clause-done g c =
-    rw c.in-Check.is (did c.in_ok-check_job-in-Check.field-0 c.in_ok-check_job-in-Check.ensures.answers, refl)
-
-pub returns-in_err-check_job-in-Check-clause-done : goal.returns-in_err-check_job-in-Check-clause-done
-returns-in_err-check_job-in-Check-clause-done g c =
-    let f = c.in_err-check_job-in-Check.field-0.0 in
-    rw c.in-Check.is
-    (stopped f c.from_residual.result c.in_err-check_job-in-Check.ensures.answers c.from_residual.ensures.1, refl)
-
-pub returns-in_err-check_job-in-Check-clause-mark : goal.returns-in_err-check_job-in-Check-clause-mark
-returns-in_err-check_job-in-Check-clause-mark g c =
-    stopped_mark _ _ c.in_err-check_job-in-Check.field-0.0 c.from_residual.result c.in_err-check_job-in-Check.ensures.mark c.from_residual.ensures.1
-
 pub returns-in_ok-lint_job-in-Lint-clause-done : goal.returns-in_ok-lint_job-in-Lint-clause-done
 returns-in_ok-lint_job-in-Lint-clause-done g c =
     rw c.in-Lint.is (did c.in_ok-lint_job-in-Lint.field-0 c.in_ok-lint_job-in-Lint.ensures.answers, refl, refl)
@@ -24,11 +10,11 @@ pub returns-in_err-lint_job-in-Lint-clause-done : goal.returns-in_err-lint_job-i
 returns-in_err-lint_job-in-Lint-clause-done g c =
     let f = c.in_err-lint_job-in-Lint.field-0.0 in
     rw c.in-Lint.is
-    (stopped f c.from_residual-in_err-lint_job-in-Lint.result c.in_err-lint_job-in-Lint.ensures.answers c.from_residual-in_err-lint_job-in-Lint.ensures.1, refl, refl)
+    (stopped f c.from_residual.result c.in_err-lint_job-in-Lint.ensures.answers c.from_residual.ensures.1, refl, refl)
 
 pub returns-in_err-lint_job-in-Lint-clause-mark : goal.returns-in_err-lint_job-in-Lint-clause-mark
 returns-in_err-lint_job-in-Lint-clause-mark g c =
-    stopped_mark _ _ c.in_err-lint_job-in-Lint.field-0.0 c.from_residual-in_err-lint_job-in-Lint.result c.in_err-lint_job-in-Lint.ensures.mark c.from_residual-in_err-lint_job-in-Lint.ensures.1
+    stopped_mark _ _ c.in_err-lint_job-in-Lint.field-0.0 c.from_residual.result c.in_err-lint_job-in-Lint.ensures.mark c.from_residual.ensures.1
 
 pub returns-in_ok-codes_job-in-Codes-clause-done : goal.returns-in_ok-codes_job-in-Codes-clause-done
 returns-in_ok-codes_job-in-Codes-clause-done g c =
@@ -58,20 +44,6 @@ pub returns-in_err-evidence_job-in-Audit-clause-mark : goal.returns-in_err-evide
 returns-in_err-evidence_job-in-Audit-clause-mark g c =
     stopped_mark _ _ c.in_err-evidence_job-in-Audit.field-0.0 c.from_residual-in_err-evidence_job-in-Audit.result c.in_err-evidence_job-in-Audit.ensures.mark c.from_residual-in_err-evidence_job-in-Audit.ensures.1
 
-pub returns-in_ok-changed-in-Change-clause-done : goal.returns-in_ok-changed-in-Change-clause-done
-returns-in_ok-changed-in-Change-clause-done g c =
-    rw c.in-Change.is (did c.in_ok-changed-in-Change.changed c.in_ok-changed-in-Change.ensures.answers, refl)
-
-pub returns-in_err-changed-in-Change-clause-done : goal.returns-in_err-changed-in-Change-clause-done
-returns-in_err-changed-in-Change-clause-done g c =
-    let f = c.in_err-changed-in-Change.field-0.0 in
-    rw c.in-Change.is
-    (stopped f c.from_residual-in_err-changed-in-Change.result c.in_err-changed-in-Change.ensures.answers c.from_residual-in_err-changed-in-Change.ensures.1, refl)
-
-pub returns-in_err-changed-in-Change-clause-mark : goal.returns-in_err-changed-in-Change-clause-mark
-returns-in_err-changed-in-Change-clause-mark g c =
-    stopped_mark _ _ c.in_err-changed-in-Change.field-0.0 c.from_residual-in_err-changed-in-Change.result c.in_err-changed-in-Change.ensures.mark c.from_residual-in_err-changed-in-Change.ensures.1
-
 pub returns-in_ok-mend_job-in-Mend-clause-done : goal.returns-in_ok-mend_job-in-Mend-clause-done
 returns-in_ok-mend_job-in-Mend-clause-done g c =
     rw c.in-Mend.is (did c.in_ok-mend_job-in-Mend.field-0 c.in_ok-mend_job-in-Mend.ensures.answers, refl, refl)
@@ -99,20 +71,6 @@ returns-in_err-survive_job-in-Survive-None-clause-done g c =
 pub returns-in_err-survive_job-in-Survive-None-clause-mark : goal.returns-in_err-survive_job-in-Survive-None-clause-mark
 returns-in_err-survive_job-in-Survive-None-clause-mark g c =
     stopped_mark _ _ c.in_err-survive_job-in-Survive-None.field-0.0 c.from_residual-in_err-survive_job-in-Survive-None.result c.in_err-survive_job-in-Survive-None.ensures.mark c.from_residual-in_err-survive_job-in-Survive-None.ensures.1
-
-pub returns-in_ok-survive_risks_job-in-Survive-Some-clause-done : goal.returns-in_ok-survive_risks_job-in-Survive-Some-clause-done
-returns-in_ok-survive_risks_job-in-Survive-Some-clause-done g c =
-    rw c.in-Survive-Some.is (did c.in_ok-survive_risks_job-in-Survive-Some.field-0 c.in_ok-survive_risks_job-in-Survive-Some.ensures.answers, refl)
-
-pub returns-in_err-survive_risks_job-in-Survive-Some-clause-done : goal.returns-in_err-survive_risks_job-in-Survive-Some-clause-done
-returns-in_err-survive_risks_job-in-Survive-Some-clause-done g c =
-    let f = c.in_err-survive_risks_job-in-Survive-Some.field-0.0 in
-    rw c.in-Survive-Some.is
-    (stopped f c.from_residual-in_err-survive_risks_job-in-Survive-Some.result c.in_err-survive_risks_job-in-Survive-Some.ensures.answers c.from_residual-in_err-survive_risks_job-in-Survive-Some.ensures.1, refl)
-
-pub returns-in_err-survive_risks_job-in-Survive-Some-clause-mark : goal.returns-in_err-survive_risks_job-in-Survive-Some-clause-mark
-returns-in_err-survive_risks_job-in-Survive-Some-clause-mark g c =
-    stopped_mark _ _ c.in_err-survive_risks_job-in-Survive-Some.field-0.0 c.from_residual-in_err-survive_risks_job-in-Survive-Some.result c.in_err-survive_risks_job-in-Survive-Some.ensures.mark c.from_residual-in_err-survive_risks_job-in-Survive-Some.ensures.1
 
 pub returns-in_ok-grade_job-in-Grade-clause-done : goal.returns-in_ok-grade_job-in-Grade-clause-done
 returns-in_ok-grade_job-in-Grade-clause-done g c =

@@ -1,6 +1,6 @@
 use Rattle.std.proofs.Common.{refl}
 use Rattle.tx_jobs.proofs.Did.{did, stopped, stopped_mark}
-use Rattle.tx_jobs.proofs.job.do_run.Goals as goal
+use Rattle.tx_jobs.proofs.job.do_texts.Goals as goal
 
 pub returns-in_ok-pipe_job-in-Pipe-clause-done : goal.returns-in_ok-pipe_job-in-Pipe-clause-done
 returns-in_ok-pipe_job-in-Pipe-clause-done g c =
@@ -57,4 +57,46 @@ returns-in_err-summary-in-RunTelling-clause-done g c =
 pub returns-in_err-summary-in-RunTelling-clause-mark : goal.returns-in_err-summary-in-RunTelling-clause-mark
 returns-in_err-summary-in-RunTelling-clause-mark g c =
     stopped_mark _ _ c.in_err-summary-in-RunTelling.field-0.0 c.from_residual-in_err-summary-in-RunTelling.result c.in_err-summary-in-RunTelling.ensures.mark c.from_residual-in_err-summary-in-RunTelling.ensures.1
+
+pub returns-in_ok-check_job-in-Check-clause-done : goal.returns-in_ok-check_job-in-Check-clause-done
+returns-in_ok-check_job-in-Check-clause-done g c =
+    rw c.in-Check.is (did c.in_ok-check_job-in-Check.field-0 c.in_ok-check_job-in-Check.ensures.answers, refl)
+
+pub returns-in_err-check_job-in-Check-clause-done : goal.returns-in_err-check_job-in-Check-clause-done
+returns-in_err-check_job-in-Check-clause-done g c =
+    let f = c.in_err-check_job-in-Check.field-0.0 in
+    rw c.in-Check.is
+    (stopped f c.from_residual-in_err-check_job-in-Check.result c.in_err-check_job-in-Check.ensures.answers c.from_residual-in_err-check_job-in-Check.ensures.1, refl)
+
+pub returns-in_err-check_job-in-Check-clause-mark : goal.returns-in_err-check_job-in-Check-clause-mark
+returns-in_err-check_job-in-Check-clause-mark g c =
+    stopped_mark _ _ c.in_err-check_job-in-Check.field-0.0 c.from_residual-in_err-check_job-in-Check.result c.in_err-check_job-in-Check.ensures.mark c.from_residual-in_err-check_job-in-Check.ensures.1
+
+pub returns-in_ok-changed-in-Change-clause-done : goal.returns-in_ok-changed-in-Change-clause-done
+returns-in_ok-changed-in-Change-clause-done g c =
+    rw c.in-Change.is (did c.in_ok-changed-in-Change.changed c.in_ok-changed-in-Change.ensures.answers, refl)
+
+pub returns-in_err-changed-in-Change-clause-done : goal.returns-in_err-changed-in-Change-clause-done
+returns-in_err-changed-in-Change-clause-done g c =
+    let f = c.in_err-changed-in-Change.field-0.0 in
+    rw c.in-Change.is
+    (stopped f c.from_residual-in_err-changed-in-Change.result c.in_err-changed-in-Change.ensures.answers c.from_residual-in_err-changed-in-Change.ensures.1, refl)
+
+pub returns-in_err-changed-in-Change-clause-mark : goal.returns-in_err-changed-in-Change-clause-mark
+returns-in_err-changed-in-Change-clause-mark g c =
+    stopped_mark _ _ c.in_err-changed-in-Change.field-0.0 c.from_residual-in_err-changed-in-Change.result c.in_err-changed-in-Change.ensures.mark c.from_residual-in_err-changed-in-Change.ensures.1
+
+pub returns-in_ok-survive_risks_job-in-Survive-Some-clause-done : goal.returns-in_ok-survive_risks_job-in-Survive-Some-clause-done
+returns-in_ok-survive_risks_job-in-Survive-Some-clause-done g c =
+    rw c.in-Survive-Some.is (did c.in_ok-survive_risks_job-in-Survive-Some.field-0 c.in_ok-survive_risks_job-in-Survive-Some.ensures.answers, refl)
+
+pub returns-in_err-survive_risks_job-in-Survive-Some-clause-done : goal.returns-in_err-survive_risks_job-in-Survive-Some-clause-done
+returns-in_err-survive_risks_job-in-Survive-Some-clause-done g c =
+    let f = c.in_err-survive_risks_job-in-Survive-Some.field-0.0 in
+    rw c.in-Survive-Some.is
+    (stopped f c.from_residual-in_err-survive_risks_job-in-Survive-Some.result c.in_err-survive_risks_job-in-Survive-Some.ensures.answers c.from_residual-in_err-survive_risks_job-in-Survive-Some.ensures.1, refl)
+
+pub returns-in_err-survive_risks_job-in-Survive-Some-clause-mark : goal.returns-in_err-survive_risks_job-in-Survive-Some-clause-mark
+returns-in_err-survive_risks_job-in-Survive-Some-clause-mark g c =
+    stopped_mark _ _ c.in_err-survive_risks_job-in-Survive-Some.field-0.0 c.from_residual-in_err-survive_risks_job-in-Survive-Some.result c.in_err-survive_risks_job-in-Survive-Some.ensures.mark c.from_residual-in_err-survive_risks_job-in-Survive-Some.ensures.1
 
