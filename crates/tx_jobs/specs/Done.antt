@@ -58,10 +58,11 @@ status_of_done (Survived (Tried cuts)) = status_of_cuts cuts.items
 status_of_done (Survived (Ungraded grade)) = 1
 status_of_done Written = 0
 
--- what goes into the files: the text of a plan, of a certificate and of a script, where there is one
+-- what goes into the files: the texts of a plan, of a certificate and of a script, if there are any
 abbrev pub texts_of : {A : Type 0} → Done A → List (Option (List ℕ))
 texts_of (Audited (Sound p cert)) = None ∷ Some (cert_written p cert) ∷ None ∷ []
-texts_of (Audited (Unsound (Some s))) = None ∷ None ∷ Some (script_written s.plan s.events.items) ∷ []
+texts_of (Audited (Unsound (Some s))) =
+    None ∷ None ∷ Some (script_written s.plan s.events.items) ∷ []
 texts_of (Changed (SoundChange p cert)) = None ∷ Some (cert_written p cert) ∷ None ∷ []
 texts_of (Changed (UnsoundChange (Some m))) = Some (plan_written (mixture_plan m)) ∷ None
     ∷ option_map (script_written (mixture_plan m)) (mixture_events m) ∷ []
