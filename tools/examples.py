@@ -6,12 +6,14 @@
 
 Runs each example of examples/list with a built program (crates/telexplan/out/telexplan where none is named), in a folder of its own, and compares what it prints,
 its exit status and the files that it makes with what stands in examples/. A fault stands on standard error, but for those that `lint` finds, and nothing else does.
-An example that begins with a script in Python runs that, with the program as its first word; no case shows it. Then checks README.md and docs/FORMATS.md: each block
-there says, in a comment before it, what it shows, and has to show just that; the table of codes has to be the program's and to have the codes of the definitions,
-the map of the crates has to be that of crates.txt, what the pages name has to be there, each link of theirs has to lead to a file and a heading that are there, the
-player of the gate, crates/tx_worked, has to have the examples and the pictures as they stand, all pictures of the plans of crates/tx_worked have to be ones that can
-be read, and docs/telexplan.bash and docs/telexplan.1 have to have the commands and options that the program's help tells. Prints a line for each difference; the
-status is 1 if there is one.
+An example that begins with a script in Python runs that, with the program as its first word; no case shows it. Then tries the program with what no example can say:
+odd words, a terminal, and files to be made in odd places. What the machine does not allow is left out, and standard error says so.
+
+Then checks README.md and docs/FORMATS.md: each block there says, in a comment before it, what it shows, and has to show just that; the table of codes has to be the
+program's and to have the codes of the definitions, the map of the crates has to be that of crates.txt, what the pages name has to be there, each link of theirs has
+to lead to a file and a heading that are there, the player of the gate, crates/tx_worked, has to have the examples and the pictures as they stand, all pictures of the
+plans of crates/tx_worked have to be ones that can be read, and docs/telexplan.bash and docs/telexplan.1 have to have the commands and options that the program's help
+tells. Prints a line for each difference; the status is 1 if there is one.
 
 --pages runs nothing: it checks the pages and the player's cases alone. Each example is such a case, and the gate plays them, so the pages then show what the
 program prints, but for those that a script in Python runs.
@@ -29,8 +31,11 @@ and before a table:
   <!-- examples -->       each text in the last column is a line of some file in examples/
   <!-- codes -->          the table of codes"""
 import os
+import pty
 import re
+import select
 import shutil
+import stat
 import subprocess
 import sys
 import tempfile
@@ -127,37 +132,6 @@ def check_examples(program, tell):
     for it in sorted(os.listdir(os.path.join(TOP, "examples"))):
         if f"examples/{it}" not in named:
             tell(f"examples/{it}: no example has it")
-
-
-def check_arguments(program, tell):
-    """A word that is no UTF-8 text is refused. No example can say it."""
-    ran = subprocess.run(program + [b"\xff"], capture_output=True, timeout=60)
-    if (ran.returncode, ran.stdout, ran.stderr) != (64, b"", b"telexplan: a word is no UTF-8 text\n"):
-        tell(f"a word that is no UTF-8 text: the status is {ran.returncode}, and standard error has {ran.stderr!r}")
-
-
-def check_made(program, tell):
-    """A file that takes the place of another one has its permissions, a link to that one leads to it, and nothing is left beside it. A pipe is written to at once. No case
-    can say it."""
-    audit = ["audit", os.path.join(TOP, "examples/three.plan"), "--limit", "1", "--spare", "1", "--cert"]
-    with tempfile.TemporaryDirectory() as room:
-        old, link = os.path.join(room, "old"), os.path.join(room, "link")
-        with open(old, "w") as it:
-            it.write("old\n")
-        os.chmod(old, 0o640)
-        os.symlink("old", link)
-        subprocess.run(program + audit + [link], capture_output=True, timeout=60)
-        if read(old) != read("examples/three.cert") or os.stat(old).st_mode & 0o777 != 0o640:
-            tell("a file that is made by a link has other bytes or permissions")
-        if not os.path.islink(link) or sorted(os.listdir(room)) != ["link", "old"]:
-            tell(f"a file that is made by a link leaves {sorted(os.listdir(room))}")
-        with open(os.path.join(room, "both"), "wb") as both:
-            subprocess.run(program + audit + ["/dev/stdout"], stdout=both, timeout=60)
-        if read(os.path.join(room, "both")) != read("examples/three-audit.out") + read("examples/three.cert"):
-            tell("a certificate to standard output, which is a file, is not behind the report")
-    ran = subprocess.run(program + audit + ["/dev/stdout"], capture_output=True, timeout=60)
-    if (ran.returncode, ran.stdout) != (0, read("examples/three-audit.out") + read("examples/three.cert")):
-        tell(f"a certificate to a pipe: the status is {ran.returncode}, and standard output has {ran.stdout!r}")
 
 
 def in_examples(ending):
@@ -515,6 +489,162 @@ def check_ends(tell):
             tell(f"crates/tx_worked: no case has what {example.name} prints")
 
 
+# AT THE ENDS OF THE MACHINE: what no example and no case can say
+
+
+def audit(program, out, **how):
+    """Runs an audit that makes the certificate OUT, and answers its exit status and what it prints on both outputs."""
+    words = ["audit", "-", "--limit", "1", "--spare", "1", "--cert", out]
+    ends = {"stdout": subprocess.PIPE, "stderr": subprocess.PIPE} | how
+    ran = subprocess.run(program + words, input=read("examples/three.plan"), timeout=60, **ends)
+    return ran.returncode, ran.stdout, ran.stderr
+
+
+def report():
+    return read("examples/three-audit.out")
+
+
+def cert():
+    return read("examples/three.cert")
+
+
+def write(path, text):
+    with open(path, "w") as it:
+        it.write(text)
+
+
+def waiting(end):
+    """The bytes that wait at an end."""
+    text = b""
+    while select.select([end], [], [], 0.5)[0]:
+        piece = os.read(end, 65536)
+        if not piece:
+            break
+        text += piece
+    return text
+
+
+def check_arguments(program, tell):
+    """A word that is no UTF-8 text is refused, and so is an empty one, which is no command."""
+    given = read("examples/three.plan") + read("examples/three.script")
+    for word, why in [(b"\xff", b"telexplan: a word is no UTF-8 text\n"), (b"", b"error: unrecognized subcommand ''\n")]:
+        ran = subprocess.run(program + [word], input=given, capture_output=True, timeout=60)
+        if (ran.returncode, ran.stdout) != (64, b"") or not ran.stderr.startswith(why):
+            tell(f"the word {word!r}: the status is {ran.returncode}, and standard error has {ran.stderr!r}")
+
+
+def check_terminal(program, tell):
+    """Without words, on a terminal, standard error says what is read, and then that is read."""
+    terminal, end = pty.openpty()
+    os.write(terminal, read("examples/three.plan") + read("examples/three.script") + b"\x04")
+    ran = subprocess.run(program, stdin=end, capture_output=True, timeout=60)
+    os.close(terminal)
+    os.close(end)
+    said = b"telexplan: reading a plan, then a script; telexplan --help lists the commands\n"
+    if (ran.returncode, ran.stdout, ran.stderr) != (0, read("examples/three-input.out"), said):
+        tell(f"without words, on a terminal: the status is {ran.returncode}, and the outputs have {ran.stdout!r} and {ran.stderr!r}")
+
+
+def check_done(ran, what, tell):
+    """The audit said YES on the outputs that are not files, and nothing else."""
+    if ran[0] != 0 or ran[1] not in (report(), None) or ran[2] not in (b"", None):
+        tell(f"{what}: the status is {ran[0]}, and the outputs have {ran[1]!r} and {ran[2]!r}")
+
+
+def check_replaced(program, tell):
+    """A file that takes the place of another one has its permissions, a link to that one leads to it, and nothing is left beside it."""
+    with tempfile.TemporaryDirectory() as room:
+        old, link = os.path.join(room, "old"), os.path.join(room, "link")
+        write(old, "old\n")
+        os.chmod(old, 0o640)
+        os.symlink("old", link)
+        check_done(audit(program, link), "a file that is made by a link", tell)
+        if read(old) != cert() or os.stat(old).st_mode & 0o777 != 0o640:
+            tell("a file that is made by a link has other bytes or permissions")
+        if not os.path.islink(link) or sorted(os.listdir(room)) != ["link", "old"]:
+            tell(f"a file that is made by a link leaves {sorted(os.listdir(room))}")
+
+
+def check_outputs(program, tell):
+    """A file to be made that is an output of the program, by whatever name, is written to at its end."""
+    for output, number, before in [("stdout", 1, b"before\n" + report()), ("stderr", 2, b"before\n")]:
+        for name in [f"/dev/{output}", f"/dev/fd/{number}", f"/proc/self/fd/{number}"]:
+            with tempfile.NamedTemporaryFile() as file:
+                file.write(b"before\n")
+                file.flush()
+                check_done(audit(program, name, **{output: file}), f"a certificate to {name}", tell)
+                if read(file.name) != before + cert():
+                    tell(f"a certificate to {name}, which is a file, leaves {read(file.name)!r} there")
+    if audit(program, "/dev/stdout") != (0, report() + cert(), b""):
+        tell("a certificate to standard output, which is a pipe, is not behind the report")
+
+
+def check_pipe_and_device(program, tell):
+    """A pipe and a device are written to at once, and stay."""
+    with tempfile.TemporaryDirectory() as room:
+        pipe = os.path.join(room, "pipe")
+        os.mkfifo(pipe)
+        end = os.open(pipe, os.O_RDONLY | os.O_NONBLOCK)
+        check_done(audit(program, pipe), "a certificate to a pipe", tell)
+        if waiting(end) != cert() or not stat.S_ISFIFO(os.stat(pipe).st_mode):
+            tell("a certificate to a pipe does not go there, or the pipe is replaced")
+        os.close(end)
+    terminal, device = pty.openpty()
+    check_done(audit(program, os.ttyname(device)), "a certificate to a device", tell)
+    if waiting(terminal).replace(b"\r\n", b"\n") != cert():
+        tell("a certificate to a device does not go there")
+    os.close(terminal)
+    os.close(device)
+
+
+def check_stays(ran, room, what, tell):
+    """A file that could not be replaced stays, and nothing is left beside it."""
+    if ran != (3, report(), b"telexplan: write fault\n"):
+        tell(f"{what}: the status is {ran[0]}, and the outputs have {ran[1]!r} and {ran[2]!r}")
+    if read(os.path.join(room, "old")) != b"old\n" or sorted(os.listdir(room)) != ["old", "other"]:
+        tell(f"{what} is replaced, or leaves {sorted(os.listdir(room))}")
+
+
+def check_no_leave(program, tell):
+    """A file that may not be written to is not replaced. Root may write to all, so another user has to try."""
+    with tempfile.TemporaryDirectory() as room:
+        old, other = os.path.join(room, "old"), os.path.join(room, "other")
+        shutil.copy(program[0], other)
+        write(old, "old\n")
+        os.chmod(old, 0o444)
+        user = {}
+        if os.geteuid() == 0:
+            user = {"user": 65534}
+            for it in room, old, other:
+                os.chown(it, 65534, 65534)
+        check_stays(audit([other], "old", cwd=room, **user), room, "a file that may not be written to", tell)
+
+
+def check_no_name(program, tell):
+    """A file that something is mounted on stays, since no other one can get its name."""
+    mounting = ["unshare", "--mount"] + ["--map-root-user"] * (os.geteuid() != 0) + ["sh", "-c", 'mount --bind other old && exec "$@"', "sh"]
+    with tempfile.TemporaryDirectory() as room:
+        write(os.path.join(room, "old"), "old\n")
+        write(os.path.join(room, "other"), "other\n")
+        if shutil.which("unshare") and subprocess.run(mounting + ["true"], cwd=room, capture_output=True).returncode == 0:
+            check_stays(audit(mounting + program, "old", cwd=room), room, "a file that cannot be given its name", tell)
+        else:
+            print("left out: a file that cannot be given its name (nothing can be mounted here)", file=sys.stderr)
+
+
+def check_order(program, tell):
+    """A file gets its name once all of it is on the disk."""
+    with tempfile.TemporaryDirectory() as room:
+        tracing = ["strace", "-o", "calls", "-e", "trace=/sync|rename"]
+        if not shutil.which("strace") or subprocess.run(tracing + ["true"], cwd=room, capture_output=True).returncode != 0:
+            print("left out: a file is on the disk before it gets its name (strace cannot trace here)", file=sys.stderr)
+            return
+        audit(tracing + program, "new", cwd=room)
+        calls = re.findall(rb"(?m)^\w*?(sync|rename)\w*\(.* = 0$", read(os.path.join(room, "calls")))
+        if calls != [b"sync", b"rename"]:
+            tell(f"a file that is made: its calls are {calls}")
+
+
 # THE WORDS OF THE PROGRAM
 
 
@@ -582,8 +712,8 @@ def main(words):
     told = []
     if not only_pages:
         check_examples(program, told.append)
-        check_arguments(program, told.append)
-        check_made(program, told.append)
+        for check in (check_arguments, check_terminal, check_replaced, check_outputs, check_pipe_and_device, check_no_leave, check_no_name, check_order):
+            check(program, told.append)
     check_pages(told.append)
     check_names(told.append)
     check_links(told.append)

@@ -1,4 +1,4 @@
-//! Open calls, by number and by circuit, and the tickets of those that ended.
+//! Open calls, by number and by circuit.
 #![tactic(auto)]
 
 mod circuit_keys;

@@ -1,8 +1,9 @@
 // Where two files of a command clash.
-ghost use Rattle.std.specs.Prelude.{◌≡◌, false, None, ◌∷◌, IfSome};
+ghost use Rattle.std.specs.Prelude.{◌≡◌, true, false, None, Some, ◌∷◌, IfSome};
 ghost use Rattle.tx_commands.specs.Commands.{names, standard_input};
 ghost use Rattle.tx_commands.specs.Files.{is_among, has_input_twice, has_clash, reads_input_twice, overwrites};
 ghost use Rattle.tx_commands.specs.inner.Refused.{IsClash};
+ghost use Rattle.tx_commands.specs.declared.refusal.Refusal.TheVariants.{InputTwice};
 
 use crate::command::{Command, Files, STANDARD_INPUT};
 use crate::refusal::Refusal;
@@ -40,9 +41,11 @@ fn has_clash(read: &[Option<&str>], made: &[Option<&str>]) -> bool
     false
 }
 
-/// Why a command is refused of which two files clash.
+/// Why a command is refused of which two files clash. Standard input that is read twice is told
+/// before a file that is made over another one.
 pub(crate) fn clash(command: &Command) -> Option<Refusal>
     ensures some { IfSome result (IsClash command.now) }
+    ensures input_first { reads_input_twice command.now ≡ true → result ≡ Some InputTwice }
     ensures read_once { result ≡ None → reads_input_twice command.now ≡ false }
     ensures apart { result ≡ None → overwrites command.now ≡ false }
 {

@@ -1,5 +1,5 @@
 -- The parts of the engine at the opening, with more room, after a new call, and after one call changed.
-use Rattle.std.proofs.Common.{◌≡◌, ◌≢◌, ℕ, ◌+◌, ◌<◌, ◌≤◌, Bool, true, false, List, [], ◌∷◌, ◌++◌, Some, None, refl, sym, ap, subst, ◌∙◌, arith}
+use Rattle.std.proofs.Common.{◌≡◌, ◌≢◌, ℕ, suc, ◌+◌, ◌<◌, ◌≤◌, Bool, true, false, List, [], ◌∷◌, ◌++◌, length, Some, None, refl, sym, ap, subst, ◌∙◌, arith}
 use Rattle.std.specs.Prelude.{slice_index_or}
 use Rattle.std.specs.FinSet as set
 use Rattle.std.specs.Ordering.{nat_cmp}
@@ -31,6 +31,14 @@ use Rattle.tx_engine.proofs.Going.{keyed_together}
 use Rattle.tx_engine.specs.inner.Sound.{AreSound, is_first_end}
 use Rattle.tx_engine.proofs.Keyed.{keyed_updated, hop_room_updated}
 
+pub length_set : (n : ℕ) (f : Call → Call) (cs : List Call) → length (set_call n f cs) ≡ length cs
+length_set n f [] = refl
+length_set n f (c ∷ cs) = ap suc (length_set n f cs)
+
+length_push : (cs : List Call) (c : Call) → length (cs ++ c ∷ []) ≡ length cs + 1
+length_push [] c = refl
+length_push (d ∷ cs) c = let r = length_push cs c in omega arith
+
 -- a new call, with some hops
 abbrev pub keyed_with : ℕ → Line → List ℕ → ℕ → List Hop → Call
 keyed_with n line keyed event hops = record { number = n; line = line; keyed = keyed; keyed_at = event; hops = hops; phase = Standing; collided = false }
@@ -40,10 +48,10 @@ pub together_in : (p : Plan) (cs : List Call) (t : Table) (b b' : Book) (numbers
 together_in p cs t b b' numbers engaged k = record { inv = k.inv; used = k.used; engaged = λ l. ap (λ (z : set.FinSet line_cmp). set.contains z l) engaged ∙ k.engaged l }
 
 -- THE OPENING
-pub sound_opening : (p : Plan) (codes : List Code) (c : Calls) (ks : List (List EndKeys)) (b : Book) (t : Table) (numbers : ℕ) → IsPlan p → codes ≡ p.codes → c.slots ≡ []
-    → ((x : Circuit) → is_circuit p x ≡ true → HasKeys ks x) → ((code : ℕ) (number : List ℕ) → is_line_of b.ranges code number ≡ is_line_at p code number) → b.engaged ≡ set.empty → t ≡ all_free p
-    → AreSound p codes c ks b t numbers
-sound_opening p codes c ks b t numbers ok codes_are none keys lines idle free =
+pub sound_opening : (p : Plan) (codes : List Code) (c : Calls) (ks : List (List EndKeys)) (b : Book) (t : Table) (numbers made room : ℕ) → IsPlan p → codes ≡ p.codes → c.slots ≡ []
+    → ((x : Circuit) → is_circuit p x ≡ true → HasKeys ks x) → ((code : ℕ) (number : List ℕ) → is_line_of b.ranges code number ≡ is_line_at p code number) → b.engaged ≡ set.empty → t ≡ all_free p → made ≡ 0
+    → AreSound p codes c ks b t numbers made room
+sound_opening p codes c ks b t numbers made room ok codes_are none keys lines idle free zero' =
     let calls : calls_in c ≡ [] = ap sorted_calls none in
     let nothing : (key : ℕ) (e : Kept) → kept_at c key ≡ Some e → ⊥ = λ key e at. elim (subst (λ (s : List Call). Among e.call s) calls (sorted_mem c.slots key e at)) [ ] in
     record {
@@ -61,12 +69,13 @@ sound_opening p codes c ks b t numbers ok codes_are none keys lines idle free =
       });
       keyed = record { all = keys; seizers = λ key e at. absurd (nothing key e at); carriers = λ key e at. absurd (nothing key e at) };
       hop_room = λ key e at. absurd (nothing key e at);
+      ticket_room = (let n = ap length calls in omega arith);
     }
 
-module _ (p : Plan) (codes : List Code) (c : Calls) (ks : List (List EndKeys)) (b : Book) (t : Table) (numbers : ℕ) (sound : AreSound p codes c ks b t numbers) where
+module _ (p : Plan) (codes : List Code) (c : Calls) (ks : List (List EndKeys)) (b : Book) (t : Table) (numbers made room : ℕ) (sound : AreSound p codes c ks b t numbers made room) where
   -- ROOM
-  pub sound_room : (c' : Calls) (b' : Book) → c'.slots ≡ c.slots → b'.ranges ≡ b.ranges → b'.engaged ≡ b.engaged → AreSound p codes c' ks b' t numbers
-  sound_room c' b' slots ranges engaged =
+  pub sound_room : (c' : Calls) (b' : Book) (made' room' : ℕ) → c'.slots ≡ c.slots → b'.ranges ≡ b.ranges → b'.engaged ≡ b.engaged → made' + length (calls_in c) ≤ room' → AreSound p codes c' ks b' t numbers made' room'
+  sound_room c' b' made' room' slots ranges engaged more =
       let calls : calls_in c' ≡ calls_in c = ap sorted_calls slots in
       let at : (key : ℕ) (e : Kept) → kept_at c' key ≡ Some e → kept_at c key ≡ Some e = λ key e h. ap (λ s. slice_index_or s key None) (sym slots) ∙ h in
       record {
@@ -76,14 +85,15 @@ module _ (p : Plan) (codes : List Code) (c : Calls) (ks : List (List EndKeys)) (
         together = subst (λ s. AreTogether p s t b' numbers) (sym calls) (together_in p (calls_in c) t b b' numbers engaged sound.together);
         keyed = record { all = sound.keyed.all; seizers = λ key e h. sound.keyed.seizers key e (at key e h); carriers = λ key e h. sound.keyed.carriers key e (at key e h) };
         hop_room = λ key e h. sound.hop_room key e (at key e h);
+        ticket_room = (let n = ap length calls in omega (arith, more));
       }
 
   -- A NEW CALL
   pub sound_key : (c' : Calls) (b' : Book) (key : ℕ) (e : Kept) (line : Line) (keyed : List ℕ) (event : ℕ) → is_line p line ≡ true → set.contains b.engaged line ≡ false
       → Changes c c' key (Some e) → e.call ≡ keyed_call (numbers + 1) line keyed event → calls_in c' ≡ calls_in c ++ keyed_call (numbers + 1) line keyed event ∷ []
-      → b'.ranges ≡ b.ranges → b'.engaged ≡ set.insert b.engaged line
-      → AreSound p codes c' ks b' t (numbers + 1)
-  sound_key c' b' key e line keyed event known free up seen calls ranges engaged =
+      → b'.ranges ≡ b.ranges → b'.engaged ≡ set.insert b.engaged line → made + (length (calls_in c) + 1) ≤ room
+      → AreSound p codes c' ks b' t (numbers + 1) made room
+  sound_key c' b' key e line keyed event known free up seen calls ranges engaged more =
       record {
         rules = sound.rules;
         codes_are = sound.codes_are;
@@ -94,14 +104,15 @@ module _ (p : Plan) (codes : List Code) (c : Calls) (ks : List (List EndKeys)) (
             (λ x m. absurd (subst (λ (z : Call). Among x (circuits_carried z)) seen m))
             (λ k d ne was x f. refl) (λ k d ne was x m f. refl);
         hop_room = hop_room_updated c c' key e up sound.hop_room (λ x f. absurd (not_standing (ap (λ (z : Call). z.phase) (sym seen) ∙ f)));
+        ticket_room = (let n = ap length calls ∙ length_push (calls_in c) (keyed_call (numbers + 1) line keyed event) in omega (arith, more));
       }
 
   -- ONLY THE TABLE CHANGES
-  pub sound_table : (t' : Table) → AreTogether p (calls_in c) t' b numbers → AreSound p codes c ks b t' numbers
-  sound_table t' k = record { rules = sound.rules; codes_are = sound.codes_are; lines = sound.lines; together = k; keyed = sound.keyed; hop_room = sound.hop_room }
+  pub sound_table : (t' : Table) → AreTogether p (calls_in c) t' b numbers → AreSound p codes c ks b t' numbers made room
+  sound_table t' k = record { rules = sound.rules; codes_are = sound.codes_are; lines = sound.lines; together = k; keyed = sound.keyed; hop_room = sound.hop_room; ticket_room = sound.ticket_room }
 
   -- other groups are failed or blocked, or other circuits out of service
-  pub sound_marks : (failed blocked : set.FinSet nat_cmp) (out : set.FinSet circuit_cmp) → AreSound p codes c ks b (record t { failed = failed; blocked = blocked; out = out }) numbers
+  pub sound_marks : (failed blocked : set.FinSet nat_cmp) (out : set.FinSet circuit_cmp) → AreSound p codes c ks b (record t { failed = failed; blocked = blocked; out = out }) numbers made room
   sound_marks failed blocked out =
       sound_table (record t { failed = failed; blocked = blocked; out = out })
       (record { inv = sound.together.inv; used = record { groups = sound.together.used.groups; carried = sound.together.used.carried; seized = sound.together.used.seized }; engaged = sound.together.engaged })
@@ -120,7 +131,7 @@ module _ (p : Plan) (codes : List Code) (c : Calls) (ks : List (List EndKeys)) (
         → ((i : ℕ) (d : Kept) → i ≢ key → kept_at c i ≡ Some d → (x : Circuit) → d.call.phase ≡ Calling x → pick (is_first_end p x (place_of p d.call)) (keys_of ks' x) ≡ pick (is_first_end p x (place_of p d.call)) (keys_of ks x))
         → ((i : ℕ) (d : Kept) → i ≢ key → kept_at c i ≡ Some d → (x : Circuit) → Among x (circuits_carried d.call) → (f : Bool) → pick f (keys_of ks' x) ≡ pick f (keys_of ks x))
         → ((x : Circuit) → e.call.phase ≡ Calling x → 0 < e.room)
-        → AreSound p codes c' ks' b' t' numbers
+        → AreSound p codes c' ks' b' t' numbers made room
     sound_after c' e f b' t' ks' up calls ranges together all seizers carriers other_seizers other_carriers hop = record {
       rules = sound.rules;
       codes_are = sound.codes_are;
@@ -128,10 +139,11 @@ module _ (p : Plan) (codes : List Code) (c : Calls) (ks : List (List EndKeys)) (
       together = subst (λ z. AreTogether p z t' b' numbers) (sym calls) together;
       keyed = keyed_updated p c c' key ks ks' sound.keyed all e up seizers carriers other_seizers other_carriers;
       hop_room = hop_room_updated c c' key e up sound.hop_room hop;
+      ticket_room = (let n = ap length calls ∙ length_set k.call.number f (calls_in c) in let r = sound.ticket_room in omega arith);
     }
 
     -- room for a hop
-    pub sound_hop : (c' : Calls) (r : ℕ) → Changes c c' key (Some (record k { room = r })) → calls_in c' ≡ calls_in c → k.room ≤ r → AreSound p codes c' ks b t numbers
+    pub sound_hop : (c' : Calls) (r : ℕ) → Changes c c' key (Some (record k { room = r })) → calls_in c' ≡ calls_in c → k.room ≤ r → AreSound p codes c' ks b t numbers made room
     sound_hop c' r up calls more = record {
       rules = sound.rules;
       codes_are = sound.codes_are;
@@ -139,4 +151,5 @@ module _ (p : Plan) (codes : List Code) (c : Calls) (ks : List (List EndKeys)) (
       together = subst (λ z. AreTogether p z t b numbers) (sym calls) sound.together;
       keyed = keyed_updated p c c' key ks ks sound.keyed sound.keyed.all (record k { room = r }) up (sound.keyed.seizers key k was) (sound.keyed.carriers key k was) (λ i d ne at x f. refl) (λ i d ne at x m f. refl);
       hop_room = hop_room_updated c c' key (record k { room = r }) up sound.hop_room (λ x f. let h = sound.hop_room key k was x f in omega (arith, more));
+      ticket_room = (let n = ap length calls in let r = sound.ticket_room in omega arith);
     }

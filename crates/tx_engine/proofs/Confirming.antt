@@ -1,5 +1,5 @@
 -- A Confirm where no other call has seized the circuit.
-use Rattle.std.proofs.Common.{◌≡◌, ◌≢◌, inl, inr, ℕ, ◌+◌, ◌<◌, Bool, true, false, List, [], ◌∷◌, Some, None, refl, sym, ap, subst, ◌∙◌}
+use Rattle.std.proofs.Common.{◌≡◌, ◌≢◌, inl, inr, ℕ, ◌+◌, ◌<◌, Bool, true, false, List, [], ◌∷◌, Some, None, refl, sym, ap, subst, ◌∙◌, deque_len, deque_capacity}
 use Rattle.std.specs.Prelude.{if◌then◌else◌, unwrap_or}
 use Rattle.std.specs.Option.{option_map}
 use Rattle.std.specs.FinSet as set
@@ -80,8 +80,8 @@ module _ {A : Type 0} (n : EngineState A) (sound : IsSound n) (number key : ℕ)
       key_kept : (y : Circuit) → Among y (circuits_carried k.call) → (g : Bool) → pick g (keys_of ks y) ≡ key
       key_kept y m g = key_else y g (λ q. (sound.together.inv.each k.call in').own x (subst (λ z. Among z (circuits_carried k.call)) (same_circuit-is y x q) m) calling) ∙ sound.keyed.carriers key k at.kept y m g
 
-      pub sound_confirmed : AreSound p n.codes c ks n.lines t n.numbers
-      sound_confirmed = sound_after p n.codes n.calls n.keys n.lines n.circuits n.numbers sound key k at.kept c (record { call = carried_on x far k.call; room = r }) (carried_on x far) n.lines t ks up calls refl
+      pub sound_confirmed : AreSound p n.codes c ks n.lines t n.numbers (deque_len n.tickets) (deque_capacity n.tickets)
+      sound_confirmed = sound_after p n.codes n.calls n.keys n.lines n.circuits n.numbers (deque_len n.tickets) (deque_capacity n.tickets) sound key k at.kept c (record { call = carried_on x far k.call; room = r }) (carried_on x far) n.lines t ks up calls refl
           (subst (λ z. AreTogether p (set_call k.call.number (carried_on x far) (calls_in n.calls)) z n.lines n.numbers) (sym held)
           (carried_together p (calls_in n.calls) n.circuits n.lines n.numbers sound.together k.call in' x calling alone far (far_is ∙ ap Some (sym is_far))))
           (λ y q. keys_stay n.keys ks x (λ _. record { first = key; other = key }) has_keys keys y (sound.keyed.all y q))
@@ -95,10 +95,10 @@ module _ {A : Type 0} (n : EngineState A) (sound : IsSound n) (number key : ℕ)
           (sound.together.inv.pairs k.call d.call in' (sorted_mem n.calls.slots i d q) (λ e. apart i d ne q (sym e))).right x calling (subst (λ z. Among z (circuits_carried d.call)) (same_circuit-is y x tie) m)))
           (λ y g. let bad : ⊥ = cc in absurd bad)
 
-      pub step_confirmed : c.tickets ≡ n.calls.tickets → counted (accepted p (state_of n) (Confirm number)) ≡ (At far, state_seen (calls_in c) t n.lines n.numbers (n.events + 1) c.tickets)
-      step_confirmed tickets =
+      pub step_confirmed : counted (accepted p (state_of n) (Confirm number)) ≡ (At far, state_seen (calls_in c) t n.lines n.numbers (n.events + 1) n.tickets.items)
+      step_confirmed =
           ap (λ o. counted (with_call o (state_of n) (λ c. confirmed p (state_of n) c c.phase))) at.open'
           ∙ ap (λ z. counted (confirmed p (state_of n) k.call z)) calling
           ∙ ap (λ o. counted (confirmed_by p (state_of n) k.call x o)) alone
           ∙ (λ i. counted (At (sym is_far i), record (state_of n) { calls = set_call k.call.number (carried_on x (sym is_far i)) (calls_in n.calls) }))
-          ∙ (λ i. (At far, state_seen (sym calls i) (sym held i) n.lines n.numbers (n.events + 1) (sym tickets i)))
+          ∙ (λ i. (At far, state_seen (sym calls i) (sym held i) n.lines n.numbers (n.events + 1) n.tickets.items))

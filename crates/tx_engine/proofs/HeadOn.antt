@@ -1,5 +1,5 @@
 -- Two calls that meet on a circuit.
-use Rattle.std.proofs.Common.{◌≡◌, ◌≢◌, ℕ, Bool, true, false, [], Some, refl, sym, ap, subst, ◌∙◌}
+use Rattle.std.proofs.Common.{◌≡◌, ◌≢◌, ℕ, Bool, true, false, [], length, Some, refl, sym, ap, subst, ◌∙◌, arith, deque_len, deque_capacity}
 use Rattle.std.specs.Prelude.{if◌then◌else◌, nat_lt}
 use Rattle.std.specs.FinSet as set
 use Rattle.tx_plan.specs.Plan.{Plan}
@@ -24,6 +24,7 @@ use Rattle.tx_engine.specs.declared.engine.EngineState.{EngineState}
 use Rattle.tx_engine.specs.inner.Sound.{AreSound, IsSound, IsUnder, is_first_end, state_of}
 use Rattle.tx_engine.specs.inner.Meeting.{AreMeeting, AreThrown}
 use Rattle.tx_engine.proofs.Keyed.{keyed_updated, hop_room_updated}
+use Rattle.tx_engine.proofs.Changing.{length_set}
 use Rattle.tx_engine.proofs.Leading.{seizer_kept}
 
 -- the rival of a call whose circuit is seized at its far end, and where its key is found
@@ -77,7 +78,7 @@ module _ {A : Type 0} (n : EngineState A) (sound : IsSound n) (key other : ℕ) 
     both_calls : calls_in c2 ≡ (collide k.call.number d.call.number x (state_of n)).calls
     both_calls = calls2 ∙ ap (set_call d.call.number thrown_back) calls1 ∙ thrown_in_turn k.call.number d.call.number (calls_in n.calls)
 
-    pub sound_thrown : AreSound p n.codes c2 n.keys n.lines t n.numbers
+    pub sound_thrown : AreSound p n.codes c2 n.keys n.lines t n.numbers (deque_len n.tickets) (deque_capacity n.tickets)
     sound_thrown = record {
       rules = sound.rules;
       codes_are = sound.codes_are;
@@ -89,10 +90,11 @@ module _ {A : Type 0} (n : EngineState A) (sound : IsSound n) (key other : ℕ) 
           sound.keyed.all (record d { call = thrown_back d.call }) up2 (λ y g. let bad : ⊥ = cc in absurd bad) (sound.keyed.carriers other d m.two) (λ i d ne q y g. refl) (λ i d ne q y m g. refl);
       hop_room = hop_room_updated c1 c2 other (record d { call = thrown_back d.call }) up2
           (hop_room_updated n.calls c1 key (record k { call = thrown_back k.call }) up1 sound.hop_room (λ y g. let bad : ⊥ = cc in absurd bad)) (λ y g. let bad : ⊥ = cc in absurd bad);
+      ticket_room = (let a = ap length calls1 ∙ length_set k.call.number thrown_back (calls_in n.calls) in let z = ap length calls2 ∙ length_set d.call.number thrown_back (calls_in c1) in let q = sound.ticket_room in omega arith);
     }
 
-    pub state_thrown : c2.tickets ≡ n.calls.tickets → state_seen (calls_in c2) t n.lines n.numbers n.events c2.tickets ≡ collide k.call.number d.call.number x (state_of n)
-    state_thrown tickets = λ i. state_seen (both_calls i) (thrown_is i) n.lines n.numbers n.events (tickets i)
+    pub state_thrown : state_seen (calls_in c2) t n.lines n.numbers n.events n.tickets.items ≡ collide k.call.number d.call.number x (state_of n)
+    state_thrown = λ i. state_seen (both_calls i) (thrown_is i) n.lines n.numbers n.events n.tickets.items
 
     pub kept_thrown : AreThrown c2 key other k d
     kept_thrown = record { one = up2.others key (λ e. keys_differ (sym e)) ∙ up1.changed; two = up2.changed }

@@ -1,5 +1,5 @@
 -- A Route that connects a call, and one that seizes a circuit.
-use Rattle.std.proofs.Common.{◌≡◌, ℕ, ◌<◌, ◌==◌, Bool, true, false, ◌&&◌, List, Option, Some, None, refl, sym, ap, subst, ◌∙◌, eqb-true}
+use Rattle.std.proofs.Common.{◌≡◌, ℕ, ◌<◌, ◌==◌, Bool, true, false, ◌&&◌, List, Option, Some, None, refl, sym, ap, subst, ◌∙◌, eqb-true, deque_len, deque_capacity}
 use Rattle.std.specs.Prelude.{if◌then◌else◌, find}
 use Rattle.std.specs.Option.{option_map}
 use Rattle.std.specs.FinSet as set
@@ -128,9 +128,9 @@ module _ {A : Type 0} (n : EngineState A) (sound : IsSound n) (key : ℕ) (k : K
 
     pub sound_connected : set.contains n.lines.engaged l ≡ false → (b : Book) → b.ranges ≡ n.lines.ranges → b.engaged ≡ set.insert n.lines.engaged l
         → (c : Calls) → Changes n.calls c key (Some (record k { call = in_phase (Connected l) k.call })) → calls_in c ≡ set_call k.call.number (in_phase (Connected l)) (calls_in n.calls)
-        → AreSound p n.codes c n.keys b t n.numbers
+        → AreSound p n.codes c n.keys b t n.numbers (deque_len n.tickets) (deque_capacity n.tickets)
     sound_connected free b ranges engaged c up calls =
-        sound_after p n.codes n.calls n.keys n.lines t n.numbers sound key k d.kept c (record k { call = in_phase (Connected l) k.call }) (in_phase (Connected l)) b t n.keys up calls ranges
+        sound_after p n.codes n.calls n.keys n.lines t n.numbers (deque_len n.tickets) (deque_capacity n.tickets) sound key k d.kept c (record k { call = in_phase (Connected l) k.call }) (in_phase (Connected l)) b t n.keys up calls ranges
         (together_in p (set_call k.call.number (in_phase (Connected l)) (calls_in n.calls)) t (record n.lines { engaged = set.insert n.lines.engaged l; room = b.room }) b n.numbers engaged
         (connected_together p (calls_in n.calls) t n.lines n.numbers sound.together k.call in_connect l b.room d.stands keyed_line free))
         sound.keyed.all (λ x e. let bad : ⊥ = cc in absurd bad) (sound.keyed.carriers key k d.kept) (λ i d ne q x e. refl) (λ i d ne q x m y. refl) (λ x e. let bad : ⊥ = cc in absurd bad)
@@ -147,7 +147,7 @@ module _ {A : Type 0} (n : EngineState A) (sound : IsSound n) (key : ℕ) (k : K
     listed = first_in-is (table_first t place) (route_list p place told.1.0) x told.1.1
 
     choice : IsChosen p (state_of n) place listed.0 x
-    choice = chosen p (state_of n) place listed.0 x (sym (first_is p (calls_in n.calls) n.lines t n.numbers n.events n.calls.tickets sound.lines sound.together place listed.0) ∙ listed.2)
+    choice = chosen p (state_of n) place listed.0 x (sym (first_is p (calls_in n.calls) n.lines t n.numbers n.events n.tickets.items sound.lines sound.together place listed.0) ∙ listed.2)
 
     pub known : is_circuit (plan_of t) x ≡ true
     known = is_circuit-same p t sound.together.used.groups x ∙ choice.planned
@@ -181,8 +181,8 @@ module _ {A : Type 0} (n : EngineState A) (sound : IsSound n) (key : ℕ) (k : K
               let same = same_circuit-is y x q in
               ap (λ z. pick g (keys_of ks2 z)) same ∙ ap (pick g) (keys_here n.keys ks2 x (with_key first key) has_keys keys) ∙ pick_other g first key (keys_of n.keys x) (apart q) ∙ ap (λ z. pick g (keys_of n.keys z)) (sym same)
 
-      pub sound_seized : AreSound p n.codes c2 ks2 n.lines t2 n.numbers
-      sound_seized = sound_after p n.codes n.calls n.keys n.lines t n.numbers sound key k d.kept c2 e (in_phase (Calling x)) n.lines t2 ks2 up calls refl
+      pub sound_seized : AreSound p n.codes c2 ks2 n.lines t2 n.numbers (deque_len n.tickets) (deque_capacity n.tickets)
+      sound_seized = sound_after p n.codes n.calls n.keys n.lines t n.numbers (deque_len n.tickets) (deque_capacity n.tickets) sound key k d.kept c2 e (in_phase (Calling x)) n.lines t2 ks2 up calls refl
           (subst (λ z. AreTogether p (set_call k.call.number (in_phase (Calling x)) (calls_in n.calls)) z n.lines n.numbers) (sym (seized ∙ ap (λ z. record t { seized = set.insert t.seized (x, z) }) told.0))
           (seized_together p (calls_in n.calls) t n.lines n.numbers sound.together k.call in_seize x leads.0 d.stands choice.planned leads.1 free_here))
           (λ y q. keys_stay n.keys ks2 x (with_key first key) has_keys keys y (sound.keyed.all y q))

@@ -1,7 +1,7 @@
 // Calls that end.
 ghost use Rattle.std.specs.Prelude.{◌≡◌, ◌≢◌, ℕ, ◌<◌, ◌-◌, ◌^◌, is_some, Some, None, true};
 ghost use Rattle.tx_machine.specs.declared.event.Event.TheVariants.{Clear};
-ghost use Rattle.tx_machine.specs.Ending.{end_call};
+ghost use Rattle.tx_machine.specs.Ending.{end_call, ticket_of};
 ghost use Rattle.tx_machine.specs.Step.{accepted, counted};
 ghost use Rattle.tx_machine.specs.Refusals.{refusal};
 ghost use Rattle.tx_calls.specs.Calls.{Kept, kept_at};
@@ -13,7 +13,7 @@ use crate::engine::EngineState;
 use std::alloc::Allocator;
 use tx_circuits::CircuitTable;
 use tx_lines::LineBook;
-use tx_machine::{Cause, Hop, OpenCall, Party, Phase, Reply, far_of, place_of};
+use tx_machine::{Cause, Hop, OpenCall, Party, Path, Phase, Reply, Ticket, far_of, place_of};
 use tx_plan::{Circuit, Plan};
 
 impl<'p, A: Allocator + Copy> EngineState<'p, A> {
@@ -51,10 +51,27 @@ impl<'p, A: Allocator + Copy> EngineState<'p, A> {
         ensures state { (k : Kept) → kept_at self.old.calls key ≡ Some k → state_of self.new
             ≡ end_call self.old.plan.now cause k.call.number (state_of self.old) }
     {
-        let call = self.calls.at(key);
-        free_lines(&mut self.lines, call);
-        give_back(&mut self.circuits, self.plan, call);
-        self.calls.end(key, self.plan, cause, self.events + 1);
+        let call = self.calls.take_out(key);
+        free_lines(&mut self.lines, &call);
+        give_back(&mut self.circuits, self.plan, &call);
+        let ticket = ticket_of(self.plan, call, cause, self.events + 1);
+        self.tickets.push_back_reserved(ticket);
+    }
+}
+
+/// The ticket of a call that ends by this event.
+fn ticket_of<A: Allocator>(plan: &Plan<A>, call: OpenCall<A>, cause: Cause, event: u64) -> Ticket<A>
+    ensures { result ≡ ticket_of plan.now cause event (call_seen call) }
+{
+    Ticket {
+        number: call.number,
+        line: call.line,
+        start: plan.home(call.line.code),
+        keyed: call.keyed,
+        cause,
+        keyed_at: call.keyed_at,
+        ended_at: event,
+        path: Path::of(call.hops),
     }
 }
 

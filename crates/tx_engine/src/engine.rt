@@ -9,6 +9,7 @@ ghost use Rattle.tx_machine.specs.Call.{call_of};
 ghost use Rattle.tx_calls.specs.Calls.{Kept, calls_in};
 
 use std::alloc::{Allocator, Global};
+use std::collections::VecDeque;
 use std::marker::Model;
 use tx_calls::{CircuitKeys, OpenCalls};
 use tx_circuits::CircuitTable;
@@ -90,7 +91,7 @@ impl<'p, A: Allocator + Copy> Network for Engine<'p, A> {
     }
 
     fn next_ticket(&mut self) -> Option<Ticket<A>> {
-        self.inner.calls.next_ticket()
+        self.inner.tickets.pop_front()
     }
 
     fn open_calls(&self) -> u64 {
@@ -218,6 +219,7 @@ pub(crate) struct EngineState<'p, A: Allocator> {
     pub circuits: CircuitTable<A>,
     pub numbers: u32,
     pub events: u64,
+    pub tickets: VecDeque<Ticket<A>, A>,
 }
 
 impl<'p, A: Allocator + Copy> EngineState<'p, A> {
@@ -248,6 +250,7 @@ impl<'p, A: Allocator + Copy> EngineState<'p, A> {
             circuits,
             numbers,
             events,
+            tickets: VecDeque::new(alloc),
         })
     }
 

@@ -1,14 +1,16 @@
 // A line that calls.
-ghost use Rattle.std.specs.Prelude.{◌≡◌, ◌<◌, IfOk, IsOk, OnOk, OnErr, None};
+ghost use Rattle.std.specs.Prelude.{◌≡◌, ◌<◌, ◌≤◌, ◌+◌, IfOk, IsOk, OnOk, OnErr, None};
+ghost use Rattle.std.specs.VecDeque.{deque_len, deque_capacity};
 ghost use Rattle.tx_calls.specs.Calls.{HasRoom};
 ghost use Rattle.tx_machine.specs.Step.{accepted, counted};
 ghost use Rattle.tx_machine.specs.Refusals.{refusal};
 ghost use Rattle.tx_machine.specs.declared.event.Event.TheVariants.{Key};
-ghost use Rattle.tx_engine.specs.inner.Sound.{IsSound, state_of};
+ghost use Rattle.tx_engine.specs.inner.Sound.{IsSound, HasTicketRoom, state_of};
 
 use crate::engine::EngineState;
 use std::alloc::Allocator;
-use tx_machine::{OpenCall, Phase, Reply};
+use std::collections::VecDeque;
+use tx_machine::{OpenCall, Phase, Reply, Ticket};
 use tx_plan::Line;
 use tx_text::{Figures, NoMemory};
 
@@ -51,11 +53,32 @@ impl<'p, A: Allocator + Copy> EngineState<'p, A> {
         ensures events { self.new.events ≡ self.old.events }
         ensures state { state_of self.new ≡ state_of self.old }
         ensures calls { OnOk result (HasRoom self.new.calls) }
+        ensures tickets { OnOk result (HasTicketRoom self.new) }
         ensures lines { OnOk result (0 < self.new.lines.room) }
-        ensures unasked { HasRoom self.old.calls → 0 < self.old.lines.room
+        ensures unasked { HasRoom self.old.calls → HasTicketRoom self.old → 0 < self.old.lines.room
             → IsOk result × (self.new ≡ self.old) }
     {
         self.calls.reserve_one()?;
-        self.lines.reserve_one()
+        self.lines.reserve_one()?;
+        reserve_tickets(&mut self.tickets, self.calls.len())
     }
+}
+
+/// Makes room for the tickets of so many open calls and of one more, where there is none. The room
+/// at least doubles, so that few calls take any.
+fn reserve_tickets<A: Allocator>(
+    tickets: &mut VecDeque<Ticket<A>, A>,
+    calls: usize,
+) -> Result<(), NoMemory>
+    requires { deque_len tickets.old + calls ≤ deque_capacity tickets.old }
+    ensures items { tickets.new.items ≡ tickets.old.items }
+    ensures room { deque_len tickets.new + calls ≤ deque_capacity tickets.new }
+    ensures ok { OnOk result (deque_len tickets.new + (calls + 1) ≤ deque_capacity tickets.new) }
+    ensures unasked { deque_len tickets.old + (calls + 1) ≤ deque_capacity tickets.old
+        → IsOk result × (tickets.new ≡ tickets.old) }
+{
+    if tickets.capacity() - tickets.len() <= calls {
+        tickets.reserve((calls + 1).saturating_add(calls))?;
+    }
+    Ok(())
 }

@@ -57,7 +57,7 @@ pick : (x : Bool) (s t : Seen) → is_over s ≡ false → is_over t ≡ false �
 pick true s t h k = h
 pick false s t h k = k
 
-in_going : (seen : Seen) (b : ℕ) → is_over seen ≡ false → is_over (in_line seen b) ≡ false
+pub in_going : (seen : Seen) (b : ℕ) → is_over seen ≡ false → is_over (in_line seen b) ≡ false
 in_going Blanks b h = pick (is_blank b) _ _ refl (pick (b == 69) _ _ refl refl)
 in_going E b h = pick (b == 78) _ _ refl refl
 in_going En b h = pick (b == 68) _ _ refl refl
@@ -67,7 +67,7 @@ in_going Cr b h = refl
 in_going Other b h = refl
 in_going Over b h = h
 
-line_going : (seen : Seen) (raw : List ℕ) → is_over seen ≡ false → is_over (line_seen seen raw) ≡ false
+pub line_going : (seen : Seen) (raw : List ℕ) → is_over seen ≡ false → is_over (line_seen seen raw) ≡ false
 unfolding line_seen
 line_going seen [] h = h
 line_going seen (b ∷ raw) h = line_going (in_line seen b) raw (in_going seen b h)

@@ -162,7 +162,8 @@ module _ (p : List ℕ → List ℕ) (b : ℕ) (none : is_end (words_of (p [])) 
 
 -- WHAT IS SEEN
 
-other : (t : List ℕ) → line_seen Other t ≡ Other
+-- a line whose one word is not END stays so
+pub other : (t : List ℕ) → line_seen Other t ≡ Other
 unfolding line_seen
 other [] = refl
 other (b ∷ t) = other t

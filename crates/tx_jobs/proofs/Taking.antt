@@ -1,42 +1,121 @@
--- Taking the bytes of a plan, one by one.
+-- Taking the bytes of a plan, line by line.
 use Rattle.std.proofs.Common.{◌≡◌, ◌≢◌, ℕ, zero, suc, ◌+◌, ◌-◌, ◌<◌, ◌≤◌, min, true, false, List, [], ◌∷◌, ◌++◌, Option, Some, None, Result, Ok, inl, inr, ◌⊎◌, length, take, drop, refl, sym, ap, subst, ◌∙◌, arith}
-use Rattle.std.specs.Prelude.{slice_index}
+use Rattle.std.specs.Prelude.{if◌then◌else◌, slice_index}
+use Rattle.std.specs.List.{position_or_len}
 use Rattle.std.specs.Io.KnownBytes.{IsAtEnd, prepend_known}
-use Rattle.std.proofs.lemmas.Bool.{false≢true}
-use Rattle.std.proofs.lemmas.List.{append_assoc, take-append-drop, length-take-le, take-append-le, drop-append-le, take_all, drop_all, drop-drop}
+use Rattle.std.proofs.lemmas.Bool.{false≢true, lt-ltb}
+use Rattle.std.proofs.lemmas.List.{append_assoc, take-append-drop, length-drop, length-take-le, take-append-le, drop-append-le, take_all, drop_all, drop-drop}
+use Rattle.std.proofs.lemmas.List.Elements.{All-tail}
+use Rattle.memchr.specs.Find.{IsFirstByte}
+use Rattle.tx_text.specs.Text.{is_lf}
+use Rattle.tx_text.specs.inner.Feed.{front_of}
+use Rattle.tx_text.proofs.TextLines.{HasNoLf}
+use Rattle.tx_text.proofs.Feeding.{front-no_lf, length-front, cuts_at_lf}
+use Rattle.tx_text.proofs.Places.{found_or_len}
 use Rattle.tx_jobs.specs.declared.seen.Seen.{Seen}
-use Rattle.tx_jobs.specs.inner.Seen.{after, is_over, end_from}
+use Rattle.tx_jobs.specs.declared.seen.Seen.TheVariants.{Other}
+use Rattle.tx_jobs.specs.inner.Seen.{in_line, at_lf, line_seen, is_over, end_from}
 use Rattle.tx_text.specs.declared.source.ReadFault.{ReadFault}
 use Rattle.tx_jobs.specs.declared.ahead.Ahead.{Ahead}
 use Rattle.tx_jobs.specs.declared.script_part.ScriptPart.{ScriptPart}
 use Rattle.tx_jobs.specs.inner.Reading.{plan_of, script_of, Refilled, CalledInput, LeftInput}
-use Rattle.tx_jobs.proofs.Cutting.{end_on}
-
--- The first i of the bytes were taken.
-pub record Taken (old : Seen) (bytes : List ℕ) (now : Seen) (i : ℕ) : Type 0 where
-  pub end : (more : List ℕ) → end_from old (bytes ++ more) ≡ i + end_from now (drop i bytes ++ more)
-  pub some : is_over old ≡ false → is_over now ≡ true → 0 < i
+use Rattle.tx_jobs.proofs.Cutting.{end_on, in_going, line_going}
+use Rattle.tx_jobs.proofs.EndLines.{other}
 
 zero_on : (k : ℕ) → k ≡ 0 + k
 zero_on k = omega arith
 
-pub taken_none : (old : Seen) (bytes : List ℕ) → Taken old bytes old 0
-taken_none old bytes = record { end = λ more. zero_on (end_from old (bytes ++ more)); some = λ h k. absurd (false≢true (sym h ∙ k)) }
+-- A LINE of which these bytes have no LF
 
--- what stands from a place on
+pub line_taken : (seen : Seen) (line rest : List ℕ) → HasNoLf line → is_over seen ≡ false → end_from seen (line ++ rest) ≡ length line + end_from (line_seen seen line) rest
+unfolding line_seen
+line_taken seen [] rest none going = zero_on (end_from seen rest)
+line_taken seen (b ∷ line) rest none going =
+    let plain : is_lf b ≡ false = none 0 0 (omega arith) in
+    end_on seen b (line ++ rest) going
+    ∙ ap suc (ap (λ x. end_from (if x then at_lf seen else in_line seen b) (line ++ rest)) plain ∙ line_taken (in_line seen b) line rest (All-tail (λ c. is_lf c ≡ false) b line none) (in_going seen b going))
+    ∙ omega arith
+
+-- with its LF
+pub lf_taken : (seen : Seen) (line rest more : List ℕ) → HasNoLf line → is_over seen ≡ false → end_from seen ((line ++ 10 ∷ rest) ++ more) ≡ length line + 1 + end_from (at_lf (line_seen seen line)) (rest ++ more)
+lf_taken seen line rest more none going =
+    ap (end_from seen) (append_assoc line (10 ∷ rest) more) ∙ line_taken seen line (10 ∷ rest ++ more) none going
+    ∙ ap (λ k. length line + k) (end_on (line_seen seen line) 10 (rest ++ more) (line_going seen line going)) ∙ omega arith
+
+-- the first LF of these bytes ends a line
+record EndsLine (bytes : List ℕ) (len : ℕ) : Type 0 where
+  pub none : HasNoLf (take len bytes)
+  pub whole : bytes ≡ take len bytes ++ 10 ∷ drop (len + 1) bytes
+
+ends_line : (bytes : List ℕ) (len : ℕ) → IsFirstByte is_lf bytes (Some len) → EndsLine bytes len
+ends_line bytes len first =
+    let e : len ≡ position_or_len is_lf bytes = found_or_len is_lf bytes (Some len) first in
+    let cut = cuts_at_lf bytes (lt-ltb (position_or_len is_lf bytes) (length bytes) (omega (arith, e, first.0.high))) in
+    subst (EndsLine bytes) (sym e)
+    (record { none = front-no_lf bytes; whole = cut.whole ∙ ap (λ rest. front_of bytes ++ 10 ∷ rest) (sym cut.dropped ∙ ap (λ k. drop (k + 1) bytes) (length-front bytes)) })
+
+no_lf : (bytes : List ℕ) → IsFirstByte is_lf bytes None → HasNoLf bytes
+no_lf bytes first =
+    let e : length bytes ≡ position_or_len is_lf bytes = found_or_len is_lf bytes None first in
+    subst HasNoLf (take_all (position_or_len is_lf bytes) bytes (omega (arith, e))) (front-no_lf bytes)
+
+-- the bytes up to the first LF and with it were taken
+pub to_lf : (seen new : Seen) (bytes : List ℕ) (len : ℕ) → IsFirstByte is_lf bytes (Some len) → is_over seen ≡ false → new ≡ at_lf (line_seen seen (take len bytes))
+    → (more : List ℕ) → end_from seen (bytes ++ more) ≡ len + 1 + end_from new (drop (len + 1) bytes ++ more)
+to_lf seen new bytes len first going is more =
+    let cut = ends_line bytes len first in
+    let line = take len bytes in
+    let rest = drop (len + 1) bytes in
+    let size : length line ≡ len = length-take-le len bytes (omega (arith, first.0.high)) in
+    ap (λ l. end_from seen (l ++ more)) cut.whole ∙ lf_taken seen line rest more cut.none going ∙ (λ i. size i + 1 + end_from (sym is i) (rest ++ more))
+
+-- all bytes were taken, of which none is an LF
+pub to_end : (seen new : Seen) (bytes : List ℕ) → IsFirstByte is_lf bytes None → is_over seen ≡ false → new ≡ line_seen seen bytes
+    → (more : List ℕ) → end_from seen (bytes ++ more) ≡ length bytes + end_from new (drop (length bytes) bytes ++ more)
+to_end seen new bytes first going is more =
+    let none : drop (length bytes) bytes ≡ [] = drop_all (length bytes) bytes (omega arith) in
+    line_taken seen bytes more (no_lf bytes first) going ∙ (λ i. length bytes + end_from (sym is i) (sym none i ++ more))
+
+-- WHAT IS SEEN with the bytes of a line from a place on
+
 from_at : (bytes : List ℕ) (i : ℕ) → i < length bytes → drop i bytes ≡ slice_index bytes i ∷ drop (i + 1) bytes
 from_at [] i h = absurd (omega (arith, h))
 from_at (b ∷ bs) zero h = refl
 from_at (b ∷ bs) (suc i) h = let e : suc (i + 1) ≡ suc i + 1 = omega arith in from_at bs i (omega (arith, h)) ∙ ap (λ k. slice_index bs i ∷ drop k (b ∷ bs)) e
 
-pub taken_more : (old : Seen) (bytes : List ℕ) (now : Seen) (i : ℕ) → i < length bytes → is_over now ≡ false → Taken old bytes now i → Taken old bytes (after now (slice_index bytes i)) (i + 1)
-taken_more old bytes now i h going t =
+pub seen_on : (seen : Seen) (bytes : List ℕ) (i : ℕ) → i < length bytes → line_seen seen (drop i bytes) ≡ line_seen (in_line seen (slice_index bytes i)) (drop (i + 1) bytes)
+unfolding line_seen
+seen_on seen bytes i lt = ap (line_seen seen) (from_at bytes i lt)
+
+pub seen_all : (seen : Seen) (bytes : List ℕ) (i : ℕ) → length bytes ≤ i → line_seen seen (drop i bytes) ≡ seen
+unfolding line_seen
+seen_all seen bytes i le = ap (line_seen seen) (drop_all i bytes le)
+
+pub seen_other : (seen : Seen) (bytes : List ℕ) → seen ≡ Other → line_seen seen bytes ≡ seen
+seen_other seen bytes is = rw is (other bytes)
+
+-- THE FIRST i OF THE BYTES WERE TAKEN
+
+pub record Taken (old : Seen) (bytes : List ℕ) (now : Seen) (i : ℕ) : Type 0 where
+  pub within : i ≤ length bytes
+  pub end : (more : List ℕ) → end_from old (bytes ++ more) ≡ i + end_from now (drop i bytes ++ more)
+  pub some : is_over old ≡ false → is_over now ≡ true → 0 < i
+
+pub taken_none : (old : Seen) (bytes : List ℕ) → Taken old bytes old 0
+taken_none old bytes = record { within = omega arith; end = λ more. zero_on (end_from old (bytes ++ more)); some = λ h k. absurd (false≢true (sym h ∙ k)) }
+
+-- and then n of the rest
+pub taken_more : (old : Seen) (bytes : List ℕ) (now new : Seen) (i n : ℕ) (rest : List ℕ) → rest ≡ drop i bytes → i < length bytes → Taken old bytes now i → n ≤ length rest → (rest ≢ [] → 0 < n)
+    → ((more : List ℕ) → end_from now (rest ++ more) ≡ n + end_from new (drop n rest ++ more)) → Taken old bytes new (i + n)
+taken_more old bytes now new i n rest is lt t within some end =
+    let size : length rest ≡ length bytes - i = ap length is ∙ length-drop i bytes in
+    let gain : 0 < n = some (λ none. omega (arith, lt, size, ap length none)) in
     record {
+      within = omega (arith, size, within, lt);
       end = λ more.
-          let b = slice_index bytes i in
-          let rest = drop (i + 1) bytes ++ more in
-          t.end more ∙ ap (λ k. i + k) (ap (λ l. end_from now (l ++ more)) (from_at bytes i h) ∙ end_on now b rest going) ∙ omega arith;
-      some = λ _ _. omega arith;
+          let left : drop n rest ≡ drop (i + n) bytes = ap (drop n) is ∙ drop-drop n i bytes ∙ ap (λ k. drop k bytes) (omega arith) in
+          t.end more ∙ ap (λ l. i + end_from now (l ++ more)) (sym is) ∙ ap (λ k. i + k) (end more) ∙ ap (λ l. i + (n + end_from new (l ++ more))) left ∙ omega arith;
+      some = λ _ _. omega (arith, gain);
     }
 
 -- WHAT IS LEFT, once the first n bytes of a piece were given

@@ -6,6 +6,7 @@ use Rattle.tx_text.specs.declared.frame.FaultAt.{FaultAt}
 use Rattle.tx_plan.specs.Plan.{Plan}
 use Rattle.tx_risk.specs.NamedRisks.{NamedRisk, AreRisksFor}
 use Rattle.tx_risk.specs.Outages.{AreAllCuts}
+use Rattle.tx_risk.specs.Survivals.{HasGrade}
 use Rattle.tx_risk.specs.declared.surviving.Survival.{Survival}
 use Rattle.tx_risk.specs.declared.surviving.Survival.TheVariants.{Tried, Ungraded}
 use Rattle.tx_risk_report.specs.OutageReport.{survival_text}
@@ -17,10 +18,10 @@ use Rattle.tx_jobs.specs.JobFaults.{risks_fault}
 use Rattle.tx_jobs.specs.Jobs.{PlanRead, PlanRefused}
 use Rattle.tx_jobs.specs.GradeJobs.{IsGradeOf}
 
--- what outages come to: what each group, each exchange and each named risk cuts off alone; or its
--- grade, where the plan has none
+-- what outages come to: of a plan that has a grade, what each group, each exchange and each named
+-- risk cuts off alone; else that it has none, and why
 abbrev pub IsSurvivalOf : {A : Type 0} → Plan → List NamedRisk → Survival A → Type 0
-IsSurvivalOf p risks (Tried cuts) = AreAllCuts p risks cuts.items
+IsSurvivalOf p risks (Tried cuts) = HasGrade p × AreAllCuts p risks cuts.items
 IsSurvivalOf p risks (Ungraded grade) = (grade.plan ≡ None) × IsGradeOf p grade
 
 -- the outages were tried, but a write failed within the text

@@ -1,5 +1,5 @@
 // The job of `lint PLAN`.
-ghost use Rattle.std.specs.Prelude.{◌≡◌};
+ghost use Rattle.std.specs.Prelude.{◌≡◌, true, Err};
 ghost use Rattle.tx_text.specs.Calls.{CallsAtMost, source_calls};
 ghost use Rattle.tx_lint.specs.Lints.{lint_held};
 ghost use Rattle.tx_jobs.specs.JobFaults.{mark_after};
@@ -15,7 +15,8 @@ use tx_text::{Sink, Source};
 /// its plan. Each line begins with the words for the file of the text. Answers the exit status: 0
 /// without any line, 1 after warnings, 2 after faults.
 ///
-/// Nothing is written where the text cannot be read to its end, or where memory runs out.
+/// Nothing is written where the text cannot be read to its end, or where memory runs out. A source
+/// that failed is reported as a read fault.
 pub fn lint_job<A: Allocator + Copy, P: Source, W: Sink>(
     alloc: A,
     plan: &mut P,
@@ -24,6 +25,7 @@ pub fn lint_job<A: Allocator + Copy, P: Source, W: Sink>(
 ) -> Result<u8, JobFault>
     ensures answers { LintJobAnswers file.now
         (input P.rest P.failed P.called plan.old plan.new) (output W.taken out.old out.new) result }
+    ensures failed { P.failed plan.new ≡ true → result ≡ Err JobFault.Read }
     ensures mark { W.failed out.new ≡ mark_after (W.failed out.old) result }
     ensures calls { CallsAtMost P.called source_calls plan.old plan.new }
 {
@@ -41,10 +43,8 @@ fn lint_text<A: Allocator + Copy, W: Sink>(
     ensures linted { LintedInRoom text.now file.now (output W.taken out.old out.new) result }
     ensures mark { W.failed out.new ≡ mark_after (W.failed out.old) result }
 {
-    match lint_plan(alloc, text) {
-        Ok(lint) => tell_lint(&lint, file, out),
-        Err(_) => Err(JobFault::NoMemory),
-    }
+    let lint = lint_plan(alloc, text)?;
+    tell_lint(&lint, file, out)
 }
 
 /// Writes the faults or warnings of a text, and returns the exit status.

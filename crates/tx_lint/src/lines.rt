@@ -1,5 +1,5 @@
 // The lines of a plan's text, all of them.
-ghost use Rattle.std.specs.Prelude.{◌≡◌, ◌++◌, [], true, None, IfOk, OnOk};
+ghost use Rattle.std.specs.Prelude.{◌≡◌, ◌++◌, [], true, None, IfOk, IfErr, OnOk};
 ghost use Rattle.std.specs.Option.{option_to_list};
 ghost use Rattle.tx_text.specs.inner.TextLine.{line_of};
 ghost use Rattle.tx_text.specs.Text.{bytes_fault};
@@ -69,7 +69,8 @@ impl<'t, A: Allocator> Reading<'t, A> {
 
     /// Takes in the next line.
     fn take_in(&mut self, line: TextLine<'t>) -> Result<(), LintFault>
-        ensures { OnOk result (TookIn self.old self.new (line_of line.entry)) }
+        ensures took { OnOk result (TookIn self.old self.new (line_of line.entry)) }
+        ensures memory { IfErr result (λ fault. fault ≡ LintFault.NoMemory) }
     {
         if let Some(fault) = bytes_fault(line.text) {
             self.tell(line, FaultKind::Frame(FrameFault::from(fault)))?;
@@ -90,7 +91,8 @@ impl<'t, A: Allocator> Reading<'t, A> {
         requires finished { line.finished ≡ true }
         requires right { bytes_fault line.text.now ≡ None }
         requires form { form ≡ form_of self.old.part (words_of line.text.now) }
-        ensures { OnOk result (TookIn self.old self.new (line_of line.entry)) }
+        ensures took { OnOk result (TookIn self.old self.new (line_of line.entry)) }
+        ensures memory { IfErr result (λ fault. fault ≡ LintFault.NoMemory) }
     {
         match form {
             LineForm::Blank => {}
@@ -117,7 +119,8 @@ impl<'t, A: Allocator> Reading<'t, A> {
         requires finished { line.finished ≡ true }
         requires right { bytes_fault line.text.now ≡ None }
         requires plain { form_of self.old.part (words_of line.text.now) ≡ LineForm.Plain }
-        ensures { OnOk result (TookIn self.old self.new (line_of line.entry)) }
+        ensures took { OnOk result (TookIn self.old self.new (line_of line.entry)) }
+        ensures memory { IfErr result (λ fault. fault ≡ LintFault.NoMemory) }
     {
         let entry = match words(line.text).next() {
             Some(first) => Entry::next(self.plan.plan(), first),
@@ -157,7 +160,8 @@ pub(crate) fn read_lines<A: Allocator + Copy>(
     alloc: A,
     text: &[u8],
 ) -> Result<Reading<'_, A>, LintFault>
-    ensures { IfOk result (HasRead text.now) }
+    ensures read { IfOk result (HasRead text.now) }
+    ensures memory { IfErr result (λ fault. fault ≡ LintFault.NoMemory) }
 {
     let mut reading = Reading::new(alloc);
     let mut rest = text;

@@ -1,5 +1,5 @@
 // The faults or warnings of a plan's text.
-ghost use Rattle.std.specs.Prelude.{◌≡◌, IfOk};
+ghost use Rattle.std.specs.Prelude.{◌≡◌, IfOk, IfErr};
 ghost use Rattle.tx_lint.specs.Lints.{IsLintOf, lint_held, lint_status};
 
 use crate::fault::{Fault, LintFault};
@@ -34,7 +34,8 @@ impl<'t, A: Allocator> Lint<'t, A> {
 /// Looks a plan's text through: all its faults, or where it has none all warnings of its plan.
 /// `Err` is lack of memory.
 pub fn lint_plan<A: Allocator + Copy>(alloc: A, text: &[u8]) -> Result<Lint<'_, A>, LintFault>
-    ensures { IfOk result (λ l. IsLintOf text.now (lint_held l)) }
+    ensures lint { IfOk result (λ l. IsLintOf text.now (lint_held l)) }
+    ensures memory { IfErr result (λ fault. fault ≡ LintFault.NoMemory) }
 {
     let Reading {
         part: _,

@@ -18,3 +18,16 @@ pub mod OneCall
 pub mod LastHop
 pub mod ByNetwork
 pub mod ChangingRuns
+pub mod Holding
+pub mod Whole
+pub mod Choosing
+pub mod Routed
+pub mod Marking
+pub mod Bits
+pub mod Views
+pub mod Sweeps
+pub mod Sweeping
+pub mod Giving
+pub mod Taking
+pub mod LineSets
+pub mod Finding

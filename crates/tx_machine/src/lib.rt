@@ -11,6 +11,7 @@ mod headline;
 mod network;
 mod open_call;
 mod path;
+mod plain;
 mod refusal;
 mod refusals;
 mod reply;
@@ -28,6 +29,7 @@ pub use headline::{
 pub use network::Network;
 pub use open_call::{Hop, OpenCall, Party, Phase, far_of, place_of};
 pub use path::Path;
+pub use plain::Plain;
 pub use refusal::Refusal;
 pub use refusals::refusal_of;
 pub use reply::Reply;

@@ -9,7 +9,7 @@ use crate::ends::Output;
 use crate::folder::Folder;
 use crate::input::Inputs;
 use crate::output_files::write_files;
-use crate::tell::tell_words;
+use crate::tell::{announce_input, tell_words};
 use std::alloc::{Allocator, Global};
 use std::io::{IsTerminal, Read, Write};
 use tx_commands::{Command, Files, WordsFault, read_command};
@@ -29,35 +29,22 @@ pub struct Ends<'a, F, I: Drop, O: Drop, E: Drop> {
 /// a No (of `codes`: where codes are ambiguous; of `grade` and `survive`: where there is no grade
 /// too; of `lint`: after warnings), 2 for a refused text (of `lint`: after faults), 3 for a failed
 /// read or write (of help too), 4 when memory runs out, 64 for refused words, and for a code to
-/// draw, or an exchange or a code to trace, that the plan does not have. Without words, on a
-/// terminal, it prints its help. A fault is one line on standard error, and refused words
-/// by what the library of command lines says. The words are read with `alloc`, and what they ask
-/// for is done with `memory`.
+/// draw, or an exchange or a code to trace, that the plan does not have. Without words it reads a
+/// plan and then a script, and on a terminal it says so first. A fault is one line on standard
+/// error, and refused words are reported by what the library of command lines says. The words are
+/// read with `alloc`, and what they ask for is done with `memory`.
 pub fn run_words<
     A: Allocator + Copy,
     F: Folder,
     I: Read + IsTerminal + Drop,
     O: Write + Drop,
     E: Write + Drop,
->(alloc: Global, memory: A, words: &[&str], ends: Ends<'_, F, I, O, E>) -> u8
+>(alloc: Global, memory: A, words: &[&str], mut ends: Ends<'_, F, I, O, E>) -> u8
     ensures refused { AskNothing words.now → IsRefusedWith words.now result }
 {
     if words.is_empty() && ends.input.is_terminal() {
-        do_words(alloc, memory, &["--help"], ends)
-    } else {
-        do_words(alloc, memory, words, ends)
+        announce_input(&mut ends.errors);
     }
-}
-
-/// Does what the words ask for, whatever the input is, and answers the exit status.
-fn do_words<A: Allocator + Copy, F: Folder, I: Read + Drop, O: Write + Drop, E: Write + Drop>(
-    alloc: Global,
-    memory: A,
-    words: &[&str],
-    ends: Ends<'_, F, I, O, E>,
-) -> u8
-    ensures { AskNothing words.now → IsRefusedWith words.now result }
-{
     match read_command(alloc, words) {
         Ok(command) => run_command(memory, &command, ends),
         Err(fault) => refuse_words(&fault, ends),

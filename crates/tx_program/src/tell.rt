@@ -1,4 +1,4 @@
-// What is printed of refused words.
+// What is printed of the words, beside what they ask for.
 ghost use Rattle.std.specs.Prelude.{◌≡◌};
 ghost use Rattle.std.specs.IoError.{error_kind};
 ghost use Rattle.tx_program.specs.Statuses.{status_of_arguments};
@@ -6,6 +6,14 @@ ghost use Rattle.tx_program.specs.Statuses.{status_of_arguments};
 use std::io;
 use std::io::Write;
 use tx_commands::WordsFault;
+
+/// Says that a plan and then a script are read, to whoever has to type them. An end that fails is
+/// let pass.
+pub(crate) fn announce_input<E: Write>(errors: &mut E) {
+    let _ = errors.write_all(
+        b"telexplan: reading a plan, then a script; telexplan --help lists the commands\n",
+    );
+}
 
 /// Prints a request's help to the output, and why words are refused to the errors.
 pub fn tell_words<O: Write, E: Write>(

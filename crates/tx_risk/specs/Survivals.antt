@@ -1,9 +1,15 @@
 -- What a search for outages answers.
-use Rattle.std.specs.Prelude.{List}
+use Rattle.std.specs.Prelude.{ℕ, List}
+use Rattle.tx_plan.specs.Plan.{Plan}
 use Rattle.tx_rank.specs.declared.plan_grade.Grade.{Grade}
+use Rattle.tx_rank.specs.Grades.{CanBeCertified}
 use Rattle.tx_risk.specs.declared.cut.Cut.{Cut}
 use Rattle.tx_risk.specs.declared.surviving.Survival.{Survival}
 use Rattle.tx_risk.specs.declared.surviving.Survival.TheVariants.{Tried, Ungraded}
+
+-- the plan has a grade: some ranks certify it, with some limit and spare number
+abbrev pub HasGrade : Plan → Type 0
+HasGrade p = (limit : ℕ) × (spare : ℕ) × CanBeCertified p limit spare
 
 module _ {A : Type 0} where
   -- all outages were tried

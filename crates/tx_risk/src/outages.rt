@@ -5,7 +5,7 @@ ghost use Rattle.tx_plan.specs.Rules.{IsPlan};
 ghost use Rattle.tx_rank.specs.Judged.{AreOrigins};
 ghost use Rattle.tx_risk.specs.NamedRisks.{AreRisksFor, named_groups};
 ghost use Rattle.tx_risk.specs.Outages.{risk_of, outage_at, AreCutsOfCode, AreCutsOf, AreAllCuts};
-ghost use Rattle.tx_rank.specs.Grades.{CanBeCertified};
+ghost use Rattle.tx_risk.specs.Survivals.{HasGrade};
 ghost use Rattle.tx_risk.specs.inner.Hits.{AreEnds, TakesItsGroups};
 ghost use Rattle.tx_risk.specs.inner.Cutting.{Adds};
 ghost use Rattle.tx_risk.specs.inner.Marked.{marked};
@@ -80,7 +80,7 @@ fn add_code<A: Allocator + Copy>(
     requires rules { IsPlan plan.now }
     requires origins { AreOrigins plan.now origins.now }
     requires code { code < length plan.now.codes }
-    requires certified { (limit : ℕ) × (spare : ℕ) × CanBeCertified plan.now limit spare }
+    requires grade { HasGrade plan.now }
     requires takes { TakesItsGroups plan.now (marked gone.now) outage.now }
     requires ends { AreEnds plan.now (marked gone.now) (length plan.now.groups) ends.now }
     ensures { IfOk result (λ _. Adds (AreCutsOfCode plan.now (marked gone.now) outage.now code)
@@ -103,7 +103,7 @@ fn add_outage<A: Allocator + Copy>(
     cuts: &mut Vec<Cut<A>, A>,
 ) -> Result<(), NoMemory>
     requires origins { AreOrigins plan.now origins.now }
-    requires certified { (limit : ℕ) × (spare : ℕ) × CanBeCertified plan.now limit spare }
+    requires grade { HasGrade plan.now }
     requires known { (g : ℕ) → risk_of plan.now risks.now outage.now g ≡ true
         → g < length plan.now.groups }
     ensures { IfOk result (λ _. Adds (AreCutsOf plan.now risks.now outage.now) cuts.old.items
@@ -139,7 +139,7 @@ pub fn all_cuts<A: Allocator + Copy>(
     risks: &[NamedRisk<A>],
 ) -> Result<Vec<Cut<A>, A>, NoMemory>
     requires risks { AreRisksFor plan.now risks.now }
-    requires certified { (limit : ℕ) × (spare : ℕ) × CanBeCertified plan.now limit spare }
+    requires grade { HasGrade plan.now }
     ensures { IfOk result (λ cuts. AreAllCuts plan.now risks.now cuts.items) }
 {
     let origins = origins_of(alloc, plan)?;

@@ -1,12 +1,11 @@
 // Outages of a plan that has a grade.
-ghost use Rattle.std.specs.Prelude.{◌≡◌, ◌≢◌, ℕ, [], None, IfOk};
+ghost use Rattle.std.specs.Prelude.{◌≡◌, ◌≢◌, ◌↔◌, ℕ, [], None, IfOk};
 ghost use Rattle.std.specs.List.{AllByRecursion};
-ghost use Rattle.tx_plan.specs.Certified.{Ranks, IsCertified};
 ghost use Rattle.tx_rank.specs.Findings.{IsTrueOf};
 ghost use Rattle.tx_rank.specs.Grades.{AreCodeGrades, AreUnmended};
 ghost use Rattle.tx_risk.specs.NamedRisks.{AreRisksFor};
 ghost use Rattle.tx_risk.specs.Outages.{AreAllCuts};
-ghost use Rattle.tx_risk.specs.Survivals.{AreTried, OnTried, OnUngraded};
+ghost use Rattle.tx_risk.specs.Survivals.{HasGrade, AreTried, OnTried, OnUngraded};
 
 use crate::cut::Cut;
 use crate::named_risk::NamedRisk;
@@ -35,9 +34,8 @@ pub fn survive<A: Allocator + Copy>(
 ) -> Result<Survival<A>, NoMemory>
     requires { AreRisksFor plan.now risks.now }
 
-    // All outages are tried wherever any ranks certify the plan.
-    ensures wherever { IfOk result (λ s. (ranks : Ranks) (limit spare : ℕ)
-        → IsCertified plan.now ranks limit spare → AreTried s) }
+    // All outages are tried exactly where the plan has a grade.
+    ensures tried { IfOk result (λ s. AreTried s ↔ HasGrade plan.now) }
     ensures cuts { IfOk result (OnTried (AreAllCuts plan.now risks.now)) }
 
     ensures ungraded { IfOk result (OnUngraded (λ g. g.plan ≡ None)) }

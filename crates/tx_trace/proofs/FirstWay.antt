@@ -10,11 +10,11 @@ use Rattle.tx_trace.specs.Ways.{next_step, one_on, way_within, first_way}
 use Rattle.tx_trace.specs.inner.Marked.{AreMarksOf}
 use Rattle.tx_trace.proofs.Ends.{marks_push}
 
-passed_end : (x : ℕ) (steps : List (ℕ × ℕ)) → passed x steps ≡ before_end x steps ++ end_of x steps ∷ []
+pub passed_end : (x : ℕ) (steps : List (ℕ × ℕ)) → passed x steps ≡ before_end x steps ++ end_of x steps ∷ []
 passed_end x [] = refl
 passed_end x (s ∷ steps) = ap (λ l. x ∷ l) (passed_end s.1 steps)
 
-before_longer : (x : ℕ) (steps : List (ℕ × ℕ)) (s : ℕ × ℕ) → before_end x (steps ++ s ∷ []) ≡ before_end x steps ++ end_of x steps ∷ []
+pub before_longer : (x : ℕ) (steps : List (ℕ × ℕ)) (s : ℕ × ℕ) → before_end x (steps ++ s ∷ []) ≡ before_end x steps ++ end_of x steps ∷ []
 before_longer x steps s = before_push x steps s ∙ passed_end x steps
 
 -- the way so far, and the marks of the exchanges that it has passed

@@ -189,11 +189,11 @@ module _ (p : Plan) (ok : IsPlan p) (c : ℕ) (known : c < length p.codes) where
 
 -- ---- no way that falls is longer than the exchanges
 
-passed_count : (x : ℕ) (steps : List (ℕ × ℕ)) → length (passed x steps) ≡ length steps + 1
+pub passed_count : (x : ℕ) (steps : List (ℕ × ℕ)) → length (passed x steps) ≡ length steps + 1
 passed_count x [] = refl
 passed_count x (s ∷ steps) = let e = passed_count s.1 steps in omega arith
 
-any_among : (q : ℕ) (xs : List ℕ) → list_any (eqb q) xs ≡ true → Among q xs
+pub any_among : (q : ℕ) (xs : List ℕ) → list_any (eqb q) xs ≡ true → Among q xs
 any_among q [] h = absurd (false≢true h)
 any_among q (x ∷ xs) h = elim (or_cases (eqb q x) (list_any (eqb q) xs) h) [ inl a ↦ inl (sym (eqb-true q x a)) | inr b ↦ inr (any_among q xs b) ]
 

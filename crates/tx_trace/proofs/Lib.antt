@@ -5,4 +5,6 @@ pub mod Reached
 pub mod Heights
 pub mod Longest
 pub mod Ranking
+pub mod FreeCircuits
+pub mod OnlyCall
 pub mod Texts

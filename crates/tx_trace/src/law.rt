@@ -1,13 +1,28 @@
-// What a height says of ranks and of ways, and which exchanges are met.
-ghost use Rattle.std.specs.Prelude.{◌≡◌, ◌↔◌, ℕ, ◌<◌, length, Some, IsSome};
-ghost use Rattle.tx_plan.specs.Plan.{Plan};
+// How a call goes by the first way, what a height says of ranks and of ways, and which exchanges
+// are met.
+ghost use Rattle.std.specs.Prelude.{◌≡◌, ◌↔◌, ℕ, ◌<◌, true, false, List, length, Some, IsSome};
+ghost use Rattle.tx_plan.specs.Plan.{Plan, home_of};
 ghost use Rattle.tx_plan.specs.Rules.{IsPlan};
+ghost use Rattle.tx_plan.specs.Lines.{is_line};
+ghost use Rattle.tx_plan.specs.Codes.{code_of};
+ghost use Rattle.tx_plan.specs.Routes.{is_barred};
+ghost use Rattle.tx_plan.specs.declared.ids.Line.{Line};
 ghost use Rattle.tx_plan.specs.Among.{Among};
 ghost use Rattle.tx_rank.specs.Walks.{net_of, AllDiffer};
 ghost use Rattle.tx_rank.specs.Heights.{IsHeight, IsReached};
 ghost use Rattle.tx_trace.specs.Heights.{height};
 ghost use Rattle.tx_trace.specs.Ranked.{CanBeRankedFrom, net_from};
-ghost use Rattle.tx_trace.specs.Ways.{all_met};
+ghost use Rattle.tx_trace.specs.Ways.{first_way, all_met};
+ghost use Rattle.tx_trace.specs.OnlyCall.{GoesBy};
+
+/// From the opening state a line that is at home at an exchange keys a code, for which calls may
+/// start there, and perhaps a number. Its call goes by the first way. One more Route, unless the way has
+/// come back, is answered by the line that is called at the home, and elsewhere with NC.
+pub fn only_call_goes_first_way()
+    ensures { (p : Plan) (c x : ℕ) (line : Line) (keyed : List ℕ) → IsPlan p
+        → is_line p line ≡ true → home_of p line.code ≡ x → code_of p keyed ≡ Some c
+        → is_barred p x c ≡ false → GoesBy p c x line keyed (first_way p c x) }
+{}
 
 /// An exchange has a height exactly where some ranks certify the code for calls that start there,
 /// and it is the number of steps of the longest way to the home.

@@ -10,6 +10,6 @@ mod routes_from;
 mod trace_text;
 mod tracing;
 
-pub use law::{heights_are_ranks, met_are_reached};
+pub use law::{heights_are_ranks, met_are_reached, only_call_goes_first_way};
 pub use trace_text::write_trace;
 pub use tracing::{Trace, trace_calls};

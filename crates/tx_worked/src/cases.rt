@@ -22,7 +22,7 @@ pub(crate) use case::{
 };
 pub(crate) use differing::tell_differing;
 pub(crate) use end_case::{EndCase, What};
-pub(crate) use ends::{End, Ends, ROOM, calls_left};
+pub(crate) use ends::{End, Ends, FULL_ROOM, ROOM, calls_left};
 pub(crate) use head::{Driven, Head, Kind, Mode, TextKind, head_of, limit_and_spare};
 pub(crate) use log::Log;
 pub(crate) use outputs::{event_word, says_no_event, takes_memory, written_after};

@@ -5,8 +5,8 @@
 //!
 //! A file has the cases of its topic, after a comment or none. A case begins with a line `=== NAME
 //! KIND` and has its texts after it, with a line `---` between two, then a line `--- prints`, and
-//! after it what has to be printed. Texts and what is printed may have the marks of `spell`. Where
-//! a law is broken, a line with `BROKEN` is printed, so the case differs.
+//! after it what has to be printed. All of these may have the marks of `spell`. Where a law is
+//! broken, a line with `BROKEN` is printed, so the case differs.
 //!
 //! - `pipe` has a plan and a script in one text, and `run` in two. So has `telling`, which tells
 //!   each event before its reply, and has the status 1 where one was refused; `telling summary`
@@ -26,8 +26,8 @@
 //!   and makes each call of each source fail. The lines with `--` tell the exit status, the calls
 //!   of the sources at one byte a call, the bytes written, and what a run counted or the event
 //!   where it stopped.
-//! - `once` before such a kind plays it by a source of 7 bytes a call, and tries nothing else: for
-//!   what is large.
+//! - `once` before such a kind plays it by sources of 4,096 bytes a call, and tries nothing else:
+//!   for what is large.
 //! - `prefixes` before such a kind plays each front of the last text, and tells the stretches of
 //!   lengths at which the same happens.
 //! - `rooms` and `calls PIECE` have a plan and a script, and tell at which event the run stops in

@@ -1,7 +1,7 @@
 // Plays cases of texts by their kinds.
 use crate::cases::{
-    Driven, Ends, Head, Mode, ROOM, Task, TextKind, Told, command_of, limit_and_spare, long_number,
-    number_of, tell, tell_broken, two_texts,
+    Driven, Ends, FULL_ROOM, Head, Mode, ROOM, Task, TextKind, Told, command_of, limit_and_spare,
+    long_number, number_of, tell, tell_broken, two_texts,
 };
 use crate::checked::play_certified;
 use crate::jobs::{
@@ -142,12 +142,24 @@ fn play_command(alloc: Global, head: Head<'_>, first: &[u8], rest: &[u8], out: &
     }
 }
 
+/// What a job of a mode is given where it is done whole.
+fn ends_in(mode: Mode) -> Ends {
+    match mode {
+        Mode::Once => Ends {
+            room: FULL_ROOM,
+            ..Ends::pieces(4096)
+        },
+        Mode::Plain | Mode::EachEnd | Mode::Prefixes => Ends::pieces(7),
+    }
+}
+
 /// Does a task whole, and plays it.
 fn play_task(alloc: Global, task: Task<'_>, mode: Mode, out: &mut Told) {
-    let Ok(mut written) = MemorySink::new(alloc, ROOM) else {
+    let ends = ends_in(mode);
+    let Ok(mut written) = MemorySink::new(alloc, ends.room) else {
         return tell_broken(b"no memory", 0, out);
     };
-    let did = do_in_room(alloc, task, Ends::pieces(7), b"", &mut written);
+    let did = do_in_room(alloc, task, ends, b"", &mut written);
     let whole = Whole {
         answer: did.answer,
         text: written.taken(),

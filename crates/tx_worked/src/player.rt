@@ -1,6 +1,6 @@
 // Plays the cases of files, and compares what each prints with what it has to print.
 use crate::cases::{
-    Case, Head, Kind, Told, cases_of, head_of, next_case, spell, tell, tell_broken, tell_count,
+    Case, Kind, Told, cases_of, head_of, next_case, spell, tell, tell_broken, tell_count,
     tell_differing,
 };
 use crate::changes::play_pairs;
@@ -51,13 +51,21 @@ impl<'a> Player<'a> {
         }
     }
 
+    /// A text of a case with its marks spelled.
+    fn spelled(&self, text: &[u8]) -> Told {
+        let mut spelled = Told::new(self.rt.alloc());
+        spell(self.rt.alloc(), text, &mut spelled);
+        spelled
+    }
+
     /// Plays a case by its kind.
-    fn play_kind(&mut self, case: Case<'_>, head: Head<'_>, texts: &[u8], out: &mut Told) {
+    fn play_kind(&mut self, head_text: &[u8], texts: &[u8], out: &mut Told) {
         let alloc = self.rt.alloc();
+        let head = head_of(head_text);
         match head.kind {
             Some(Kind::Texts(kind)) => play_texts(alloc, kind, head, texts, out),
             Some(Kind::Calls(kind)) => play_call(alloc, kind, head, texts, out),
-            Some(Kind::Program) => play_program(self.rt, case.head, out),
+            Some(Kind::Program) => play_program(self.rt, head_text, out),
             Some(Kind::Arguments) => play_arguments(alloc, head.first, out),
             Some(Kind::Family) => play_family(alloc, texts, out),
             Some(Kind::Pairs) => play_pairs(alloc, texts, out),
@@ -69,15 +77,13 @@ impl<'a> Player<'a> {
     }
 
     /// Plays a case, and writes where it differs.
-    fn play(&mut self, case: Case<'_>, head: Head<'_>, counts: &mut Counts, out: &mut Told) {
-        let alloc = self.rt.alloc();
-        let mut texts = Told::new(alloc);
-        spell(case.texts, &mut texts);
-        let mut wanted = Told::new(alloc);
-        spell(case.prints, &mut wanted);
-        let mut got = Told::new(alloc);
+    fn play(&mut self, case: Case<'_>, counts: &mut Counts, out: &mut Told) {
+        let head = self.spelled(case.head);
+        let texts = self.spelled(case.texts);
+        let wanted = self.spelled(case.prints);
+        let mut got = Told::new(self.rt.alloc());
         match texts.whole() {
-            Some(texts) => self.play_kind(case, head, texts, &mut got),
+            Some(texts) => self.play_kind(head.text(), texts, &mut got),
             None => tell_broken(b"no memory", 0, &mut got),
         }
         let differs = got.whole().is_none() || !wanted.is(got.text());
@@ -86,7 +92,8 @@ impl<'a> Player<'a> {
             differ: u64::from(differs),
         });
         if differs {
-            tell_differing(head.name, wanted.text(), got.text(), out);
+            let name = head_of(case.head).name;
+            tell_differing(name, wanted.text(), got.text(), out);
         }
     }
 
@@ -98,7 +105,7 @@ impl<'a> Player<'a> {
             let Some((case, more)) = next_case(rest) else {
                 break;
             };
-            self.play(case, head_of(case.head), &mut counts, out);
+            self.play(case, &mut counts, out);
             rest = more;
         }
         self.counts.add(counts);

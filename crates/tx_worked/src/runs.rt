@@ -3,7 +3,7 @@ use crate::cases::{End, Ends, Refusing};
 use std::alloc::{Allocator, Global};
 use tx_engine::Engine;
 use tx_jobs::JobFault;
-use tx_plain::Plain;
+use tx_machine::Plain;
 use tx_plan::Plan;
 use tx_plantext::read_plan;
 use tx_script::{RunCause, RunFault, Summary, run};

@@ -1,5 +1,6 @@
 -- What holds of the parts of the engine together, and the state that they stand for.
-use Rattle.std.specs.Prelude.{◌≡◌, ℕ, ◌<◌, ◌==◌, Bool, true, List, Some}
+use Rattle.std.specs.Prelude.{◌≡◌, ℕ, ◌+◌, ◌<◌, ◌≤◌, ◌==◌, Bool, true, List, length, Some}
+use Rattle.std.specs.VecDeque.{deque_len, deque_capacity}
 use Rattle.tx_plan.specs.Plan.{Plan, Code}
 use Rattle.tx_plan.specs.Rules.{IsPlan}
 use Rattle.tx_plan.specs.Lines.{is_line_at}
@@ -36,10 +37,10 @@ HasHopRoom c = (key : ℕ) (e : Kept) → kept_at c key ≡ Some e
     → (x : Circuit) → e.call.phase ≡ Calling x → 0 < e.room
 
 -- The rules of the plan; its codes and lines; the circuits and lines that the calls hold, with what
--- always holds of the calls; the keys by circuit; room for the hop of a call that has seized a
--- circuit.
+-- always holds of the calls; the keys by circuit;
+-- room for the hop of a call that has seized a circuit; room for a ticket of each open call.
 pub record AreSound (p : Plan) (codes : List Code) (c : Calls)
-    (ks : List (List EndKeys)) (b : Book) (t : Table) (numbers : ℕ) : Type 0 where
+    (ks : List (List EndKeys)) (b : Book) (t : Table) (numbers made room : ℕ) : Type 0 where
   pub rules : IsPlan p
   pub codes_are : codes ≡ p.codes
   pub lines : (code : ℕ) (number : List ℕ)
@@ -47,15 +48,21 @@ pub record AreSound (p : Plan) (codes : List Code) (c : Calls)
   pub together : AreTogether p (calls_in c) t b numbers
   pub keyed : AreKeyed p c ks
   pub hop_room : HasHopRoom c
+  pub ticket_room : made + length (calls_in c) ≤ room
 
 module _ {A : Type 0} where
   -- the parts are sound
   abbrev pub IsSound : EngineState A → Type 0
   IsSound n = AreSound n.plan.now n.codes n.calls n.keys n.lines n.circuits n.numbers
+      (deque_len n.tickets) (deque_capacity n.tickets)
+
+  -- there is room for the tickets of the open calls and of one more
+  abbrev pub HasTicketRoom : EngineState A → Type 0
+  HasTicketRoom n = deque_len n.tickets + (length (calls_in n.calls) + 1) ≤ deque_capacity n.tickets
 
   -- the state that the parts stand for
   abbrev pub state_of : EngineState A → State
-  state_of n = state_seen (calls_in n.calls) n.circuits n.lines n.numbers n.events n.calls.tickets
+  state_of n = state_seen (calls_in n.calls) n.circuits n.lines n.numbers n.events n.tickets.items
 
 -- the open call of a number is kept under a key
 pub record IsUnder (c : Calls) (number key : ℕ) (k : Kept) : Type 0 where

@@ -1,8 +1,11 @@
 // What a job or a run is given beside its texts.
 use tx_text::{MemorySource, Source};
 
-/// Room enough for what any job of the cases writes.
+/// Room enough for what any job of the cases writes that is tried more than once.
 pub const ROOM: usize = 4_000_000;
+
+/// Room enough for what any job of the cases writes.
+pub const FULL_ROOM: usize = 100_000_000;
 
 /// One of the sources of a task.
 #[derive(Clone, Copy)]

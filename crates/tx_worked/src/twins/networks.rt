@@ -4,7 +4,7 @@ use crate::twins::script::{SeededScript, play};
 use crate::twins::tally::EventTally;
 use std::alloc::Global;
 use tx_engine::Engine;
-use tx_plain::Plain;
+use tx_machine::Plain;
 use tx_plan::Plan;
 use tx_plantext::read_plan;
 

@@ -1,7 +1,6 @@
 // What a call shows that goes along some events, told by the replies of the plain network.
 use std::alloc::Global;
-use tx_machine::{Event, Reply, drive};
-use tx_plain::Plain;
+use tx_machine::{Event, Plain, Reply, drive};
 use tx_plan::{CodeId, ExchangeId, Plan};
 use tx_text::NoMemory;
 

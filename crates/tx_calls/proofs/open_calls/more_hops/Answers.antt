@@ -3,16 +3,15 @@ use Rattle.std.proofs.lemmas.Bool.{false≢true}
 use Rattle.slab.proofs.SlabLemmas.{Updates-with_value}
 use Rattle.tx_calls.specs.Calls.{kept_of}
 use Rattle.tx_machine.specs.Seen.{call_seen}
-use Rattle.tx_calls.specs.declared.open_calls.Place.TheVariants.{Open}
 use Rattle.tx_calls.proofs.open_calls.more_hops.Goals as goal
 
 pub returns-in_ok-more_room : goal.returns-in_ok-more_room
 returns-in_ok-more_room g c = λ old was.
-    let both : Some (Open c.in-Open.call) ≡ Some (Open old) = ap Some (sym c.in-Open.is) ∙ c.in-Some.ensures.value ∙ was in
-    let same : c.in-Open.call ≡ old = cc in
-    let now = c.in-Open.call in (
+    let both : Some c.in-Some.call.now ≡ Some old = c.in-Some.ensures.value ∙ was in
+    let same : c.in-Some.call.now ≡ old = cc in
+    let now = c.in-Some.call.now in (
       record now { hops = c.more_room.new.hops },
-      Updates-with_value c.args.places.now c.args.key (Open (record now { hops = c.more_room.new.hops })) (ap is_some was),
+      Updates-with_value c.args.calls.now c.args.key (record now { hops = c.more_room.new.hops }) (ap is_some was),
       (λ i. record { number = now.number; line = now.line; keyed = now.keyed; keyed_at = now.keyed_at; hops = c.more_room.ensures.items i; phase = now.phase; collided = now.collided })
           ∙ ap call_seen same,
       subst (λ z. (kept_of z).room ≤ (kept_of (record now { hops = c.more_room.new.hops })).room) same (omega (arith, c.more_room.ensures.capacity, c.more_room.ensures.len)),
@@ -26,11 +25,11 @@ returns-in_ok-more_room g c = λ old was.
 
 pub returns-in_err-more_room : goal.returns-in_err-more_room
 returns-in_err-more_room g c = λ old was.
-    let both : Some (Open c.in-Open.call) ≡ Some (Open old) = ap Some (sym c.in-Open.is) ∙ c.in-Some.ensures.value ∙ was in
-    let same : c.in-Open.call ≡ old = cc in
-    let now = c.in-Open.call in (
+    let both : Some c.in-Some.call.now ≡ Some old = c.in-Some.ensures.value ∙ was in
+    let same : c.in-Some.call.now ≡ old = cc in
+    let now = c.in-Some.call.now in (
       record now { hops = c.more_room.new.hops },
-      Updates-with_value c.args.places.now c.args.key (Open (record now { hops = c.more_room.new.hops })) (ap is_some was),
+      Updates-with_value c.args.calls.now c.args.key (record now { hops = c.more_room.new.hops }) (ap is_some was),
       (λ i. record { number = now.number; line = now.line; keyed = now.keyed; keyed_at = now.keyed_at; hops = c.more_room.ensures.items i; phase = now.phase; collided = now.collided })
           ∙ ap call_seen same,
       subst (λ z. (kept_of z).room ≤ (kept_of (record now { hops = c.more_room.new.hops })).room) same (omega (arith, c.more_room.ensures.capacity, c.more_room.ensures.len)),

@@ -11,7 +11,7 @@ returns-in_err-write_survival-clause-told g c =
     (record {
       survival = c.in_ok-survival.survival;
       right = survival_is _ c.args.plan.now c.args.risks.now c.in_ok-survival.survival
-          e.wherever e.cuts e.ungraded e.codes e.fails e.each e.listed;
+          e.tried e.cuts e.ungraded e.codes e.fails e.each e.listed;
       wrote = c.in_err-write_survival.ensures.0;
     })
 
@@ -19,6 +19,6 @@ pub returns-clause-told : goal.returns-clause-told
 returns-clause-told g c =
     let e = c.in_ok-survival.ensures in (
       survival_is _ c.args.plan.now c.args.risks.now c.in_ok-survival.survival
-          e.wherever e.cuts e.ungraded e.codes e.fails e.each e.listed,
+          e.tried e.cuts e.ungraded e.codes e.fails e.each e.listed,
       c.in_ok-write_survival.ensures.0,
     )

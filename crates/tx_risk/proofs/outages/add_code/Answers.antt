@@ -6,7 +6,7 @@ use Rattle.tx_risk.proofs.outages.add_code.Goals as goal
 pub returns-then-not-is_hit : goal.returns-then-not-is_hit
 returns-then-not-is_hit g c =
     let p = c.args.plan.now in
-    let k = c.requires.certified in
+    let k = c.requires.grade in
     record {
       mine = [];
       added = sym (append-nil c.args.cuts.now.items);

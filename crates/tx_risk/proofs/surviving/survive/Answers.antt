@@ -1,15 +1,29 @@
-use Rattle.std.proofs.Common.{arith}
+use Rattle.std.proofs.Common.{Some, arith}
+use Rattle.tx_rank.specs.declared.bounds.Bounds.{Bounds}
+use Rattle.tx_rank.specs.Grades.{CanBeCertified, IsGrade}
+use Rattle.tx_plan.specs.Plan.{Plan}
+use Rattle.tx_risk.specs.Survivals.{HasGrade}
 use Rattle.tx_risk.proofs.surviving.survive.Goals as goal
 
-pub all_cuts-requires-clause-certified : goal.all_cuts-requires-clause-certified
-all_cuts-requires-clause-certified g c =
-    let bounds = rw c.in-Some.is at c.in_ok-grade.ensures.plan in
-    let b = c.in-Some.field-0 in
+graded : (p : Plan) (b : Bounds) → IsGrade (CanBeCertified p) (Some b) → HasGrade p
+graded p b bounds =
     (b.limit, b.spare, (bounds.exactly b.limit b.spare bounds.few).1 (omega arith, omega arith))
 
-pub returns-in-None-clause-wherever : goal.returns-in-None-clause-wherever
-returns-in-None-clause-wherever g c = λ ranks limit spare cert.
-    (rw c.in-None.is at c.in_ok-grade.ensures.plan) limit spare (ranks, cert)
+pub all_cuts-requires-clause-grade : goal.all_cuts-requires-clause-grade
+all_cuts-requires-clause-grade g c =
+    graded c.args.plan.now c.in-Some.field-0 (rw c.in-Some.is at c.in_ok-grade.ensures.plan)
+
+pub returns-in_ok-all_cuts-in-Some-clause-tried : goal.returns-in_ok-all_cuts-in-Some-clause-tried
+returns-in_ok-all_cuts-in-Some-clause-tried g c = (
+  λ t. graded c.args.plan.now c.in-Some.field-0 (rw c.in-Some.is at c.in_ok-grade.ensures.plan),
+  λ h. tt,
+)
+
+pub returns-in-None-clause-tried : goal.returns-in-None-clause-tried
+returns-in-None-clause-tried g c = (
+  λ t. absurd t,
+  λ h. (rw c.in-None.is at c.in_ok-grade.ensures.plan) h.0 h.1 h.2,
+)
 
 pub returns-in-None-clause-fails : goal.returns-in-None-clause-fails
 returns-in-None-clause-fails g c = rw c.in-None.is at c.in_ok-grade.ensures.fails

@@ -1,6 +1,7 @@
-use Rattle.std.proofs.Common.{◌<◌, ◌++◌, ◌∷◌, [], ℕ, List, length, true, sym, subst, arith}
+use Rattle.std.proofs.Common.{◌≡◌, ◌<◌, ◌++◌, ◌∷◌, [], ℕ, List, length, Some, None, true, sym, subst, arith}
 use Rattle.std.proofs.Math.ListN.{set}
-use Rattle.tx_rank.specs.Walks.{before_end}
+use Rattle.tx_rank.specs.Walks.{end_of, before_end}
+use Rattle.tx_trace.specs.Ways.{next_step}
 use Rattle.tx_trace.specs.inner.Marked.{AreMarksOf}
 use Rattle.tx_trace.proofs.FirstWay.{IsGoing, going_on, ended}
 use Rattle.tx_trace.proofs.first_way.first_way.Goals as goal
@@ -15,7 +16,8 @@ loop-code-preserved g c =
     let s = c.in-Some.step in
     let marked = subst (AreMarksOf (before_end x way)) (sym c.deref.ensures.value) i.marked in
     let less : length way < length p.exchanges = let t = c.loop-code-test.true in let a = c.len.ensures in let b = c.exchanges-in-loop-code.ensures.count in let k = c.loop-code.way.ok.0 in omega arith in
-    let on = going_on p c.args.code x c.loop-code.last way marks s i less (c.in-Some.ensures.next x way i.at marked) c.in-Some.ensures.within in
+    let next = subst (λ (w : List (ℕ × ℕ)). c.loop-code.last ≡ end_of x w → AreMarksOf (before_end x w) c.deref.result.now → Some s ≡ next_step p c.args.code x w) c.deref-in-loop-code.ensures.value (c.in-Some.ensures.next x) in
+    let on = going_on p c.args.code x c.loop-code.last way marks s i less (next i.at marked) c.in-Some.ensures.within in
     subst (λ (l : List (ℕ × ℕ)). IsGoing p c.args.code x s.1 l (set marks c.index.result true)) (sym c.in_ok-push-in-Some.ensures.items)
     (subst (λ (k : ℕ). IsGoing p c.args.code x s.1 (way ++ s ∷ []) (set marks k true)) (sym c.index.ensures) on)
 
@@ -25,4 +27,5 @@ returns-in-None g c =
     let i = c.loop-code.invariant in
     let way = c.loop-code.way.items in
     let marked = subst (AreMarksOf (before_end x way)) (sym c.deref.ensures.value) i.marked in
-    ended c.args.plan.now c.args.code x c.loop-code.last way c.loop-code.passed.items i (c.in-None.ensures.next x way i.at marked)
+    let next = subst (λ (w : List (ℕ × ℕ)). c.loop-code.last ≡ end_of x w → AreMarksOf (before_end x w) c.deref.result.now → None ≡ next_step c.args.plan.now c.args.code x w) c.deref-in-loop-code.ensures.value (c.in-None.ensures.next x) in
+    ended c.args.plan.now c.args.code x c.loop-code.last way c.loop-code.passed.items i (next i.at marked)

@@ -1,4 +1,4 @@
-use Rattle.std.proofs.Common.{◌≡◌, refl, sym, ap, subst, ◌∙◌}
+use Rattle.std.proofs.Common.{◌≡◌, refl, sym, ap, subst, ◌∙◌, deque_len, deque_capacity}
 use Rattle.tx_lines.specs.Book.{Book}
 use Rattle.tx_circuits.specs.Table.{Table}
 use Rattle.tx_calls.specs.Calls.{calls_in}
@@ -12,11 +12,11 @@ pub returns-clause-sound : goal.returns-clause-sound
 returns-clause-sound g c =
     let n = c.args.self.now in
     let sound = c.requires.sound in
-    let holds = λ (t : Table). AreSound n.plan.now n.codes n.calls n.keys n.lines t n.numbers in
-    let marks = sound_marks n.plan.now n.codes n.calls n.keys n.lines n.circuits n.numbers sound in
-    let book = λ (b : Book) (ranges : b.ranges ≡ n.lines.ranges) (engaged : b.engaged ≡ n.lines.engaged). sound_room n.plan.now n.codes n.calls n.keys n.lines n.circuits n.numbers sound n.calls b refl ranges engaged in
+    let holds = λ (t : Table). AreSound n.plan.now n.codes n.calls n.keys n.lines t n.numbers (deque_len n.tickets) (deque_capacity n.tickets) in
+    let marks = sound_marks n.plan.now n.codes n.calls n.keys n.lines n.circuits n.numbers (deque_len n.tickets) (deque_capacity n.tickets) sound in
+    let book = λ (b : Book) (ranges : b.ranges ≡ n.lines.ranges) (engaged : b.engaged ≡ n.lines.engaged). sound_room n.plan.now n.codes n.calls n.keys n.lines n.circuits n.numbers (deque_len n.tickets) (deque_capacity n.tickets) sound n.calls b (deque_len n.tickets) (deque_capacity n.tickets) refl ranges engaged sound.ticket_room in
     elim c.match-event.branch [
-      | in-Released w ↦ subst IsSound (sym w.self-is) (subst holds (sym w.released.ensures) (sound_table n.plan.now n.codes n.calls n.keys n.lines n.circuits n.numbers sound _ (released_together n.plan.now (calls_in n.calls) n.circuits n.lines n.numbers sound.together w.in-Released.circuit)))
+      | in-Released w ↦ subst IsSound (sym w.self-is) (subst holds (sym w.released.ensures) (sound_table n.plan.now n.codes n.calls n.keys n.lines n.circuits n.numbers (deque_len n.tickets) (deque_capacity n.tickets) sound _ (released_together n.plan.now (calls_in n.calls) n.circuits n.lines n.numbers sound.together w.in-Released.circuit)))
       | in-Restore w ↦ subst IsSound (sym w.self-is) (subst holds (sym w.restore.ensures) (marks _ _ _))
       | in-Block w ↦ subst IsSound (sym w.self-is) (subst holds (sym w.block.ensures) (marks _ _ _))
       | in-Unblock w ↦ subst IsSound (sym w.self-is) (subst holds (sym w.unblock.ensures) (marks _ _ _))

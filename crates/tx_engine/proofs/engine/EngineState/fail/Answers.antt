@@ -1,4 +1,4 @@
-use Rattle.std.proofs.Common.{◌+◌, sym, ap, ◌∙◌, subst}
+use Rattle.std.proofs.Common.{◌+◌, sym, ap, ◌∙◌, subst, deque_len, deque_capacity}
 use Rattle.tx_machine.specs.declared.reply.Reply.TheVariants.{Lost}
 use Rattle.tx_machine.specs.Step.{counted}
 use Rattle.tx_calls.specs.Calls.{calls_in}
@@ -14,7 +14,7 @@ returns-clause-sound g c =
     let n = c.args.self.now in
     let m = c.lose_users-lost.new.self in
     let e = c.lose_users-lost.ensures in
-    sound_table m.plan.now m.codes m.calls m.keys m.lines m.circuits m.numbers e.sound c.fail.new.self
+    sound_table m.plan.now m.codes m.calls m.keys m.lines m.circuits m.numbers (deque_len m.tickets) (deque_capacity m.tickets) e.sound c.fail.new.self
     (subst (λ z. AreTogether m.plan.now (calls_in m.calls) z m.lines m.numbers) (sym c.fail.ensures) (failed_together m.plan.now (calls_in m.calls) m.circuits m.lines m.numbers e.sound.together c.args.group e.none))
 
 pub returns-clause-step : goal.returns-clause-step
@@ -23,4 +23,4 @@ returns-clause-step g c =
     let m = c.lose_users-lost.new.self in
     let e = c.lose_users-lost.ensures in
     ap counted (fail_done n.plan.now c.args.group (state_of n) (state_of m) c.lose_users-lost.result e.losing e.none)
-    ∙ (λ i. (Lost c.lose_users-lost.result, state_seen (calls_in m.calls) (sym c.fail.ensures i) m.lines m.numbers (m.events + 1) m.calls.tickets))
+    ∙ (λ i. (Lost c.lose_users-lost.result, state_seen (calls_in m.calls) (sym c.fail.ensures i) m.lines m.numbers (m.events + 1) m.tickets.items))

@@ -37,4 +37,3 @@ returns-clause-step g c =
     let k = q.0 in
     let h = c.go_on.ensures.changes k q.1.kept in
     step_confirmed n c.requires.sound c.args.number c.args.key c.args.circuit.now k q.1 q.2 c.args.far q.3 c.requires.alone c.hold.new.self c.hold.ensures c.set_both.new.self c.set_both.ensures c.go_on.new.self h.0 h.1 (c.go_on.ensures.calls k q.1.kept)
-    c.go_on.ensures.tickets

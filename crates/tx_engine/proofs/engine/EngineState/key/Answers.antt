@@ -1,9 +1,11 @@
-use Rattle.std.proofs.Common.{◌+◌, ◌++◌, ◌∷◌, [], sym, ap, ◌∙◌, List, arith}
+use Rattle.std.proofs.Common.{◌+◌, ◌++◌, ◌∷◌, [], sym, ap, ◌∙◌, List, deque_len, deque_capacity, arith}
+use Rattle.std.specs.FinSet as set
 use Rattle.tx_plan.specs.Plan.{Plan}
 use Rattle.tx_plan.specs.Lines.{is_line}
 use Rattle.tx_machine.specs.declared.event.Event.TheVariants.{Key}
 use Rattle.tx_machine.specs.declared.open_call.Hop.{Hop}
 use Rattle.tx_machine.specs.declared.reply.Reply.TheVariants.{Keyed}
+use Rattle.tx_machine.specs.Call.{Call}
 use Rattle.tx_machine.specs.Lines.{is_engaged}
 use Rattle.tx_machine.specs.State.{State}
 use Rattle.tx_machine.specs.Step.{accepted, counted}
@@ -42,13 +44,14 @@ returns-clause-sound g c =
     let may = key_line n.plan.now (state_of n) line c.args.keyed c.requires.open in
     let call = λ (h : List Hop). keyed_with (m.numbers + 1) line c.args.keyed (m.events + 1) h in
     let added = c.«open».ensures.changes in
-    sound_key m.plan.now m.codes m.calls m.keys m.lines m.circuits m.numbers sound
+    sound_key m.plan.now m.codes m.calls m.keys m.lines m.circuits m.numbers (deque_len m.tickets) (deque_capacity m.tickets) sound
     c.«open».new.self c.engage.new.self added.0 _ line c.args.keyed (m.events + 1)
     (ap (λ (p : Plan). is_line p line) c.reserve_call.ensures.plan ∙ may.0)
     (sound.together.engaged line ∙ ap (λ (s : State). is_engaged s line) c.reserve_call.ensures.state ∙ may.1)
     added.2 (ap call c.new.ensures.items) (c.«open».ensures.calls ∙ ap (λ (h : List Hop). calls_in m.calls ++ call h ∷ []) c.new.ensures.items)
     (ap (λ (b : Book). b.ranges) c.engage.ensures.lines)
     (ap (λ (b : Book). b.engaged) c.engage.ensures.lines)
+    c.in_ok-reserve_call.ensures.tickets
 
 pub returns-clause-ok : goal.returns-clause-ok
 returns-clause-ok g c =
@@ -59,4 +62,5 @@ returns-clause-ok g c =
     let call = λ (h : List Hop). keyed_with (m.numbers + 1) line keyed (m.events + 1) h in
     let calls = c.«open».ensures.calls ∙ ap (λ (h : List Hop). calls_in m.calls ++ call h ∷ []) c.new.ensures.items in
     ap (λ (s : State). counted (accepted n.plan.now s (Key line keyed))) (sym c.reserve_call.ensures.state)
-    ∙ (λ i. (Keyed (m.numbers + 1), state_seen (sym calls i) m.circuits (sym c.engage.ensures.lines i) (m.numbers + 1) (m.events + 1) (sym c.«open».ensures.tickets i)))
+    ∙ ap (λ (cs : List Call). (Keyed (m.numbers + 1), state_seen cs m.circuits m.lines (m.numbers + 1) (m.events + 1) m.tickets.items)) (sym calls)
+    ∙ ap (λ (b : Book). (Keyed (m.numbers + 1), state_seen (calls_in c.«open».new.self) m.circuits b (m.numbers + 1) (m.events + 1) m.tickets.items)) (sym c.engage.ensures.lines)

@@ -1,7 +1,8 @@
-use Rattle.std.proofs.Common.{◌+◌, Option, sym, ap, ◌∙◌}
+use Rattle.std.proofs.Common.{◌+◌, List, Option, sym, ap, ◌∙◌}
 use Rattle.std.specs.FinSet as set
 use Rattle.tx_machine.specs.declared.cause.Service.{Service}
 use Rattle.tx_machine.specs.declared.reply.Reply.TheVariants.{Connected}
+use Rattle.tx_machine.specs.Call.{Call}
 use Rattle.tx_machine.specs.Routing.{at_line}
 use Rattle.tx_machine.specs.Step.{counted}
 use Rattle.tx_lines.specs.Book.{Book}
@@ -22,7 +23,7 @@ returns-in-Some-clause-ok g c = λ k at.
     let told = c.status.ensures in
     let known = known_line n c.requires.sound c.args.key c.requires.decided.0 l c.requires.decided.1 in
     ap (λ (o : Option Service). counted (at_line p s k.call l o))
-    (answer_is p (calls_in n.calls) n.lines n.circuits n.numbers n.events n.calls.tickets c.requires.sound.lines c.requires.sound.together l known ∙ (λ i. service_of (sym told.faulty i) (sym told.away i) (sym told.engaged i)) ∙ sym c.service_of.ensures ∙ c.in-Some.is)
+    (answer_is p (calls_in n.calls) n.lines n.circuits n.numbers n.events n.tickets.items c.requires.sound.lines c.requires.sound.together l known ∙ (λ i. service_of (sym told.faulty i) (sym told.away i) (sym told.engaged i)) ∙ sym c.service_of.ensures ∙ c.in-Some.is)
     ∙ c.answer.ensures.step k at
 
 pub returns-in_ok-reserve_one-in-None-clause-sound : goal.returns-in_ok-reserve_one-in-None-clause-sound
@@ -46,8 +47,8 @@ returns-in_ok-reserve_one-in-None-clause-ok g c = λ k at.
     let l = c.args.line.now in
     let told = c.status.ensures in
     let known = known_line n c.requires.sound c.args.key c.requires.decided.0 l c.requires.decided.1 in
-    let seen = λ (b : Book). state_seen (calls_in c.set_phase.new.self) n.circuits b n.numbers (n.events + 1) c.set_phase.new.self.tickets in
+    let seen = λ (b : Book). state_seen (calls_in c.set_phase.new.self) n.circuits b n.numbers (n.events + 1) n.tickets.items in
     ap (λ (o : Option Service). counted (at_line p s k.call l o))
-    (answer_is p (calls_in n.calls) n.lines n.circuits n.numbers n.events n.calls.tickets c.requires.sound.lines c.requires.sound.together l known ∙ (λ i. service_of (sym told.faulty i) (sym told.away i) (sym told.engaged i)) ∙ sym c.service_of.ensures ∙ c.in-None.is)
-    ∙ (λ i. (Connected l, state_seen (sym (c.set_phase.ensures.calls k at) i) n.circuits n.lines n.numbers (n.events + 1) (sym c.set_phase.ensures.tickets i)))
+    (answer_is p (calls_in n.calls) n.lines n.circuits n.numbers n.events n.tickets.items c.requires.sound.lines c.requires.sound.together l known ∙ (λ i. service_of (sym told.faulty i) (sym told.away i) (sym told.engaged i)) ∙ sym c.service_of.ensures ∙ c.in-None.is)
+    ∙ ap (λ (cs : List Call). (Connected l, state_seen cs n.circuits n.lines n.numbers (n.events + 1) n.tickets.items)) (sym (c.set_phase.ensures.calls k at))
     ∙ ap (λ s. (Connected l, s)) (sym (ap seen c.engage.ensures.lines ∙ ap seen c.reserve_one.ensures.rest))

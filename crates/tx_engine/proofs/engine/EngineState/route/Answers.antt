@@ -44,19 +44,19 @@ returns-in-Reach-clause-ok g c =
     let f = c.key_of-key.ensures in
     let dec = c.decision.ensures f.0 f.1.kept in
     if_ok c.reach.result (λ reply done.
-    ap counted (route_is n.plan.now (calls_in n.calls) n.lines n.circuits n.numbers n.events n.calls.tickets c.requires.sound.lines c.requires.sound.together c.args.number f.0.call (Reach c.in-Reach.line) f.1.open' (sym c.in-Reach.is ∙ dec)) ∙ done f.0 f.1.kept) c.reach.ensures.ok
+    ap counted (route_is n.plan.now (calls_in n.calls) n.lines n.circuits n.numbers n.events n.tickets.items c.requires.sound.lines c.requires.sound.together c.args.number f.0.call (Reach c.in-Reach.line) f.1.open' (sym c.in-Reach.is ∙ dec)) ∙ done f.0 f.1.kept) c.reach.ensures.ok
 
 pub returns-in_ok-seize-in-Seize-clause-ok : goal.returns-in_ok-seize-in-Seize-clause-ok
 returns-in_ok-seize-in-Seize-clause-ok g c =
     let n = c.args.self.now in
     let f = c.key_of-key.ensures in
     let dec = c.decision.ensures f.0 f.1.kept in
-    ap counted (route_is n.plan.now (calls_in n.calls) n.lines n.circuits n.numbers n.events n.calls.tickets c.requires.sound.lines c.requires.sound.together c.args.number f.0.call (Seize c.in-Seize.circuit c.in-Seize.here) f.1.open' (sym c.in-Seize.is ∙ dec)) ∙ c.in_ok-seize-in-Seize.ensures.ok f.0 f.1.kept
+    ap counted (route_is n.plan.now (calls_in n.calls) n.lines n.circuits n.numbers n.events n.tickets.items c.requires.sound.lines c.requires.sound.together c.args.number f.0.call (Seize c.in-Seize.circuit c.in-Seize.here) f.1.open' (sym c.in-Seize.is ∙ dec)) ∙ c.in_ok-seize-in-Seize.ensures.ok f.0 f.1.kept
 
 pub returns-in-Answer-clause-ok : goal.returns-in-Answer-clause-ok
 returns-in-Answer-clause-ok g c =
     let n = c.args.self.now in
     let f = c.key_of-key.ensures in
     let dec = c.decision.ensures f.0 f.1.kept in
-    ap counted (route_is n.plan.now (calls_in n.calls) n.lines n.circuits n.numbers n.events n.calls.tickets c.requires.sound.lines c.requires.sound.together c.args.number f.0.call (Answer c.in-Answer.service) f.1.open' (sym c.in-Answer.is ∙ dec))
+    ap counted (route_is n.plan.now (calls_in n.calls) n.lines n.circuits n.numbers n.events n.tickets.items c.requires.sound.lines c.requires.sound.together c.args.number f.0.call (Answer c.in-Answer.service) f.1.open' (sym c.in-Answer.is ∙ dec))
     ∙ c.answer.ensures.step f.0 f.1.kept

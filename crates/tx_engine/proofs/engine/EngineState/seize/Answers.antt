@@ -1,4 +1,4 @@
-use Rattle.std.proofs.Common.{◌≡◌, ℕ, ◌+◌, ◌<◌, ◌==◌, Some, refl, sym, ap, ◌∙◌, subst, OnOk}
+use Rattle.std.proofs.Common.{◌≡◌, ℕ, ◌+◌, ◌<◌, ◌==◌, Some, refl, sym, ap, ◌∙◌, subst, OnOk, deque_len, deque_capacity}
 use Rattle.tx_machine.specs.declared.open_call.Phase.TheVariants.{Calling}
 use Rattle.tx_machine.specs.declared.reply.Reply.TheVariants.{Seized}
 use Rattle.tx_machine.specs.Routing.{set_call, in_phase}
@@ -16,7 +16,7 @@ returns-in_err-reserve_hop-clause-sound g c =
     let d = c.requires.decided.1 in
     let x = c.args.circuit.now in
     let h = c.reserve_hop.ensures.changes k d.kept in
-    sound_hop n.plan.now n.codes n.calls n.keys n.lines n.circuits n.numbers c.requires.sound c.args.key k d.kept c.reserve_hop.new.self h.0 h.1 c.reserve_hop.ensures.calls h.2
+    sound_hop n.plan.now n.codes n.calls n.keys n.lines n.circuits n.numbers (deque_len n.tickets) (deque_capacity n.tickets) c.requires.sound c.args.key k d.kept c.reserve_hop.new.self h.0 h.1 c.reserve_hop.ensures.calls h.2
 
 pub seize-requires-clause-known : goal.seize-requires-clause-known
 seize-requires-clause-known g c =
@@ -73,5 +73,5 @@ returns-clause-ok g c = λ e was.
     let calls = c.set_phase.ensures.calls (record k { room = h.0 }) h.1.changed ∙ ap (set_call k.call.number (in_phase (Calling x))) c.reserve_hop.ensures.calls in
     let both : Some k ≡ Some e = sym d.kept ∙ was in
     let one : k ≡ e = cc in
-    (λ i. (Seized x, record (state_seen (calls_in n.calls) n.circuits n.lines n.numbers (n.events + 1) n.calls.tickets) { calls = set_call (sym one i).call.number (in_phase (Calling x)) (calls_in n.calls) }))
-    ∙ (λ i. (Seized x, state_seen (sym calls i) (sym c.seize.ensures i) n.lines n.numbers (n.events + 1) (sym (c.set_phase.ensures.tickets ∙ c.reserve_hop.ensures.tickets) i)))
+    (λ i. (Seized x, record (state_seen (calls_in n.calls) n.circuits n.lines n.numbers (n.events + 1) n.tickets.items) { calls = set_call (sym one i).call.number (in_phase (Calling x)) (calls_in n.calls) }))
+    ∙ (λ i. (Seized x, state_seen (sym calls i) (sym c.seize.ensures i) n.lines n.numbers (n.events + 1) n.tickets.items))

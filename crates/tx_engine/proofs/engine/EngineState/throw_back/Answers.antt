@@ -44,7 +44,7 @@ returns-clause-state g c = λ k d m.
     let was2 = up1.others c.args.other_key (keys_differ n c.requires.sound c.args.key c.args.other_key x k d m) ∙ m.two in
     let up2 = c.throw_back-2.ensures.changes d was2 in
     state_thrown n c.requires.sound c.args.key c.args.other_key x k d m c.throw_off.new.circuits (c.throw_off.ensures ∙ (λ i. thrown_off n.plan.now (is_k i).call (is_d i).call x n.circuits)) c.throw_back.new.self c.throw_back-2.new.self
-    up1 (c.throw_back.ensures.calls k m.one) up2 (c.throw_back-2.ensures.calls d was2) (c.throw_back-2.ensures.tickets ∙ c.throw_back.ensures.tickets)
+    up1 (c.throw_back.ensures.calls k m.one) up2 (c.throw_back-2.ensures.calls d was2)
 
 pub returns-clause-kept : goal.returns-clause-kept
 returns-clause-kept g c = λ k d m.

@@ -1,9 +1,15 @@
-use Rattle.std.proofs.Common.{sym, ◌∙◌, arith}
+use Rattle.std.proofs.Common.{◌≡◌, ◌-◌, length, take, drop, arith}
+use Rattle.std.proofs.lemmas.List.{length-drop, take_all}
 use Rattle.tx_jobs.proofs.Taking.{taken_none, taken_more}
 use Rattle.tx_jobs.proofs.seen.Seen.take.Goals as goal
 
-pub loop-i-init : goal.loop-i-init
-loop-i-init c = taken_none c.args.self.now c.args.bytes.now
+pub loop-taken-init : goal.loop-taken-init
+loop-taken-init c = taken_none c.args.self.now c.args.bytes.now
 
-pub loop-i-preserved : goal.loop-i-preserved
-loop-i-preserved c = rw c.after.ensures (taken_more c.args.self.now c.args.bytes.now c.loop-i.self c.loop-i.i (omega arith) (sym c.is_over.ensures ∙ c.if-is_over.false) c.loop-i.invariant)
+pub loop-taken-preserved : goal.loop-taken-preserved
+loop-taken-preserved c =
+    let bytes = c.args.bytes.now in
+    let i = c.loop-taken.taken in
+    let line = c.take_line-taken in
+    let rest : take (length bytes - i) (drop i bytes) ≡ drop i bytes = take_all (length bytes - i) (drop i bytes) (omega (arith, length-drop i bytes)) in
+    taken_more c.args.self.now bytes c.loop-taken.self line.new.self i line.result _ rest (omega (arith, c.loop-taken-test.true)) c.loop-taken.invariant line.ensures.within line.ensures.some line.ensures.end

@@ -1,6 +1,0 @@
-pub mod Decided
-pub mod Whole
-pub mod GivenUp
-pub mod Marks
-pub mod Marked
-pub mod Seen
