@@ -117,7 +117,7 @@ impl<'a> Task<'a> {
     pub fn new(kind: &'a [u8], command: &'a Command, first: &'a [u8], rest: &'a [u8]) -> Task<'a>
         requires { IsInRange command.now }
     {
-        let (second, third) = if sources(command) > 2 {
+        let (second, third) = if Files::of(command).reads[2].is_some() {
             two_texts(rest)
         } else {
             (rest, b"".as_slice())
@@ -131,9 +131,10 @@ impl<'a> Task<'a> {
         }
     }
 
-    /// How many sources it has.
+    /// How many sources it has: one for each file that the command reads.
     pub fn sources(&self) -> usize {
-        sources(self.command)
+        let reads = Files::of(self.command).reads;
+        reads.iter().filter(|file| file.is_some()).count()
     }
 
     /// Its last text.
@@ -147,6 +148,7 @@ impl<'a> Task<'a> {
 
     /// The task with another last text.
     pub fn with_last(self, text: &'a [u8]) -> Task<'a> {
+        let sources = self.sources();
         let Task {
             kind,
             command,
@@ -154,7 +156,7 @@ impl<'a> Task<'a> {
             mut second,
             mut third,
         } = self;
-        match sources(command) {
+        match sources {
             1 => first = text,
             2 => second = text,
             _ => third = text,
@@ -167,10 +169,4 @@ impl<'a> Task<'a> {
             third,
         }
     }
-}
-
-/// How many files a command reads.
-fn sources(command: &Command) -> usize {
-    let reads = Files::of(command).reads;
-    reads.iter().filter(|file| file.is_some()).count()
 }
