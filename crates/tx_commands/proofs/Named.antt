@@ -4,7 +4,7 @@ use Rattle.std.specs.Borrow.{Bor}
 use Rattle.std.specs.List.{list_any}
 use Rattle.std.specs.Option.{option_eq}
 use Rattle.tx_commands.specs.Files.{is_among}
-use Rattle.tx_commands.specs.inner.Named.{names}
+use Rattle.tx_commands.specs.Commands.{names}
 
 -- a file is one of these exactly where it is one of those that are named
 pub among : (files : List (Option (Bor (List ℕ)))) (file : Bor (List ℕ))

@@ -1,6 +1,7 @@
--- What words ask for.
-use Rattle.std.specs.Prelude.{◌≡◌, ◌≤◌, ℕ, Bool, true, false, List, Option, None, Some, map, option_map, codes, string_bytes, String, ◌||◌}
+-- What words ask for, and the files of it.
+use Rattle.std.specs.Prelude.{◌≡◌, ◌≤◌, ℕ, Bool, true, false, List, [], ◌∷◌, Option, None, Some, map, option_map, codes, string_bytes, String, ◌||◌}
 use Rattle.std.specs.Borrow.{Bor}
+use Rattle.std.specs.Coded.{Unit-prop, le_prop, ×_prop}
 use Rattle.std.specs.Option.{option_map_or}
 use Rattle.std.specs.Str.{bytes_eq}
 use Rattle.std.specs.Str.Parse.{IsNumeral, digits_value, without_leading_plus}
@@ -19,6 +20,26 @@ IsInRange (Mend plan limit spare mended cert) = (limit ≤ 62) × (spare ≤ 15)
 IsInRange (Check plan cert limit spare) = (limit ≤ 62) × (spare ≤ 15)
 IsInRange (Draw plan (Some (code, Some (limit, spare)))) = (limit ≤ 62) × (spare ≤ 15)
 IsInRange other = Unit {0}
+
+-- That is known in at most one way. A type that keeps it needs that.
+pub IsInRange-prop : (command : Command) → IsProp (IsInRange command)
+IsInRange-prop Pipe = Unit-prop
+IsInRange-prop (Run plan script None) = Unit-prop
+IsInRange-prop (Run plan script (Some (cert, limit, spare))) = ×_prop le_prop le_prop
+IsInRange-prop (RunTelling plan script strict echo summary) = Unit-prop
+IsInRange-prop (Check plan cert limit spare) = ×_prop le_prop le_prop
+IsInRange-prop (Lint plan) = Unit-prop
+IsInRange-prop (Codes plan) = Unit-prop
+IsInRange-prop (Audit plan limit spare cert counter) = ×_prop le_prop le_prop
+IsInRange-prop (Change old new limit spare cert mixture counter) = ×_prop le_prop le_prop
+IsInRange-prop (Mend plan limit spare mended cert) = ×_prop le_prop le_prop
+IsInRange-prop (Survive plan risks) = Unit-prop
+IsInRange-prop (Grade plan) = Unit-prop
+IsInRange-prop (Trace plan exchange code) = Unit-prop
+IsInRange-prop (Draw plan None) = Unit-prop
+IsInRange-prop (Draw plan (Some (code, None))) = Unit-prop
+IsInRange-prop (Draw plan (Some (code, Some (limit, spare)))) = ×_prop le_prop le_prop
+IsInRange-prop (Explain word) = Unit-prop
 
 -- the words of a command name this file
 abbrev pub Names : {Z : Type 0} → List Row → List ℕ → String Z → Type 0
@@ -110,3 +131,72 @@ IsFoundIn (Some (name, found)) command = Asks name found command
 -- the words ask for this: the library finds one of the program's commands in them
 abbrev pub AskFor : List (Bor (List ℕ)) → Command → Type 0
 AskFor words command = IsFoundIn (subcommand_of program_words (map (λ w. w.now) words)) command
+
+-- those of these files that are named
+abbrev pub given : List (Option (List ℕ)) → List (List ℕ)
+given [] = []
+given (None ∷ rest) = given rest
+given (Some file ∷ rest) = file ∷ given rest
+
+-- those of these files that are named, as a function sees them
+abbrev pub names : List (Option (Bor (List ℕ))) → List (List ℕ)
+names files = given (map (option_map (λ f. f.now)) files)
+
+-- the name of standard input, where a file is read
+abbrev pub standard_input : List ℕ
+standard_input = codes "-"
+
+-- the files that a run reads: the certificate, if there is one, before the script
+abbrev pub run_files : {Z : Type 0} → (plan script : List ℕ) → Option (String Z × ℕ × ℕ)
+    → List (List ℕ)
+run_files plan script None = plan ∷ script ∷ []
+run_files plan script (Some (cert, limit, spare)) = plan ∷ string_bytes cert ∷ script ∷ []
+
+-- the files that a command reads, in the order in which they are opened
+abbrev pub files_read : Command → List (List ℕ)
+files_read Pipe = standard_input ∷ []
+files_read (Run plan script checked) = run_files (string_bytes plan) (string_bytes script) checked
+files_read (RunTelling plan script strict echo summary) =
+    string_bytes plan ∷ string_bytes script ∷ []
+files_read (Check plan cert limit spare) = string_bytes plan ∷ string_bytes cert ∷ []
+files_read (Lint plan) = string_bytes plan ∷ []
+files_read (Codes plan) = string_bytes plan ∷ []
+files_read (Audit plan limit spare cert counter) = string_bytes plan ∷ []
+files_read (Change old new limit spare cert mixture counter) =
+    string_bytes old ∷ string_bytes new ∷ []
+files_read (Mend plan limit spare mended cert) = string_bytes plan ∷ []
+files_read (Survive plan risks) = string_bytes plan ∷ given (option_map string_bytes risks ∷ [])
+files_read (Grade plan) = string_bytes plan ∷ []
+files_read (Trace plan exchange code) = string_bytes plan ∷ []
+files_read (Draw plan routes) = string_bytes plan ∷ []
+files_read (Explain word) = []
+
+-- the files that a command may make, by what goes into them
+pub record Made : Type 0 where
+  pub plan : Option (List ℕ)
+  pub cert : Option (List ℕ)
+  pub script : Option (List ℕ)
+
+-- those of a command
+abbrev pub made_by : Command → Made
+made_by (Audit plan limit spare cert counter) = record {
+  plan = None;
+  cert = option_map string_bytes cert;
+  script = option_map string_bytes counter;
+}
+made_by (Change old new limit spare cert mixture counter) = record {
+  plan = option_map string_bytes mixture;
+  cert = option_map string_bytes cert;
+  script = option_map string_bytes counter;
+}
+made_by (Mend plan limit spare mended cert) = record {
+  plan = option_map string_bytes mended;
+  cert = option_map string_bytes cert;
+  script = None;
+}
+made_by other = record { plan = None; cert = None; script = None }
+
+-- their names
+abbrev pub files_made : Command → List (List ℕ)
+files_made command =
+    let made = made_by command in given (made.plan ∷ made.cert ∷ made.script ∷ [])

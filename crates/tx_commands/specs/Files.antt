@@ -1,50 +1,8 @@
--- The files that a command names, and where two of them clash.
-use Rattle.std.specs.Prelude.{ℕ, Bool, false, ◌&&◌, ◌||◌, List, [], ◌∷◌, Option, None, Some, option_map, bytes_eq, codes, string_bytes}
+-- Where two files of a command clash.
+use Rattle.std.specs.Prelude.{ℕ, Bool, false, ◌&&◌, ◌||◌, List, [], ◌∷◌, bytes_eq}
 use Rattle.std.specs.List.{list_any}
 use Rattle.tx_commands.specs.declared.command.Command.{Command}
-use Rattle.tx_commands.specs.declared.command.Command.TheVariants.{Pipe, Run, RunTelling, Check, Codes, Audit, Change, Mend, Survive, Grade, Trace, Draw, Explain, Lint}
-
--- those of these files that are named
-abbrev pub given : List (Option (List ℕ)) → List (List ℕ)
-given [] = []
-given (None ∷ rest) = given rest
-given (Some file ∷ rest) = file ∷ given rest
-
--- the files that a command reads
-abbrev pub files_read : Command → List (List ℕ)
-files_read Pipe = []
-files_read (Run plan script checked) =
-    string_bytes plan ∷ string_bytes script
-    ∷ given (option_map (λ c. string_bytes c.0) checked ∷ [])
-files_read (RunTelling plan script strict echo summary) =
-    string_bytes plan ∷ string_bytes script ∷ []
-files_read (Check plan cert limit spare) = string_bytes plan ∷ string_bytes cert ∷ []
-files_read (Lint plan) = string_bytes plan ∷ []
-files_read (Codes plan) = string_bytes plan ∷ []
-files_read (Audit plan limit spare cert counter) = string_bytes plan ∷ []
-files_read (Change old new limit spare cert mixture counter) =
-    string_bytes old ∷ string_bytes new ∷ []
-files_read (Mend plan limit spare mended cert) = string_bytes plan ∷ []
-files_read (Survive plan risks) = string_bytes plan ∷ given (option_map string_bytes risks ∷ [])
-files_read (Grade plan) = string_bytes plan ∷ []
-files_read (Trace plan exchange code) = string_bytes plan ∷ []
-files_read (Draw plan routes) = string_bytes plan ∷ []
-files_read (Explain word) = []
-
--- the files that it may make
-abbrev pub files_made : Command → List (List ℕ)
-files_made (Audit plan limit spare cert counter) =
-    given (option_map string_bytes cert ∷ option_map string_bytes counter ∷ [])
-files_made (Change old new limit spare cert mixture counter) =
-    given (option_map string_bytes cert ∷ option_map string_bytes mixture
-    ∷ option_map string_bytes counter ∷ [])
-files_made (Mend plan limit spare mended cert) =
-    given (option_map string_bytes mended ∷ option_map string_bytes cert ∷ [])
-files_made other = []
-
--- the name of standard input, where a file is read
-abbrev pub standard_input : List ℕ
-standard_input = codes "-"
+use Rattle.tx_commands.specs.Commands.{standard_input, files_read, files_made}
 
 -- the file is one of these: it is named by the same bytes
 abbrev pub is_among : List (List ℕ) → List ℕ → Bool

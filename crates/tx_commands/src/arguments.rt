@@ -4,9 +4,12 @@ ghost use Rattle.clap.specs.Words.{App, app_of, new_rule, rule_of, with_rule};
 ghost use Rattle.clap.specs.declared.builder.action.ArgAction.TheVariants.{Set};
 ghost use Rattle.tx_commands.specs.Grammar as grammar;
 
-use crate::help;
 use clap::{Arg, ArgAction, value_parser};
 use std::alloc::{AllocError, Global};
+
+/// What the help says of a plan.
+pub(crate) const PLAN: &str =
+    "The route plan: exchanges, codes, lines, groups, routes and bars; - is standard input";
 
 /// A command whose first word is a plan, with what its help begins and ends with.
 pub(crate) fn over_plan<'a>(
@@ -20,7 +23,7 @@ pub(crate) fn over_plan<'a>(
     let command = clap::Command::new(alloc, name)
         .about(about)
         .after_help(after);
-    with_file(Ok(command), alloc, "plan", "PLAN", help::PLAN)
+    with_file(Ok(command), alloc, "plan", "PLAN", PLAN)
 }
 
 /// Adds an argument to a command, if that could be made so far.

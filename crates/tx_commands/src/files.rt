@@ -1,80 +1,12 @@
-// The files that a command names, and where two of them clash.
-ghost use Rattle.std.specs.Prelude.{◌≡◌, true, false, None, Some, ◌∷◌, IfSome, option_map, string_bytes};
-ghost use Rattle.tx_commands.specs.Files.{files_read, files_made, standard_input, is_among, has_input_twice, has_clash, reads_input_twice, overwrites};
-ghost use Rattle.tx_commands.specs.inner.Named.{names};
+// Where two files of a command clash.
+ghost use Rattle.std.specs.Prelude.{◌≡◌, true, false, None, Some, ◌∷◌, IfSome};
+ghost use Rattle.tx_commands.specs.Commands.{names, standard_input};
+ghost use Rattle.tx_commands.specs.Files.{is_among, has_input_twice, has_clash, reads_input_twice, overwrites};
 ghost use Rattle.tx_commands.specs.inner.Refused.{IsClash};
 ghost use Rattle.tx_commands.specs.declared.refusal.Refusal.TheVariants.{InputTwice};
 
-use crate::command::Command;
+use crate::command::{Command, Files, STANDARD_INPUT};
 use crate::refusal::Refusal;
-
-/// The name of standard input, where a file is read.
-pub const STANDARD_INPUT: &str = "-";
-
-/// The certificate of a run, if there is one.
-fn cert_of(checked: &Option<(String, u8, u8)>) -> Option<&str>
-    ensures { option_map (λ s. s.now) result
-        ≡ option_map (λ c. string_bytes c.0) checked.now }
-{
-    match checked {
-        Some((cert, _, _)) => Some(cert.as_str()),
-        None => None,
-    }
-}
-
-/// The files that a command reads.
-fn files_read(command: &Command) -> [Option<&str>; 3]
-    ensures { names result ≡ files_read command.now }
-{
-    match command {
-        Command::Pipe | Command::Explain { .. } => [None, None, None],
-        Command::Run {
-            plan,
-            script,
-            checked,
-        } => [Some(plan.as_str()), Some(script.as_str()), cert_of(checked)],
-        Command::RunTelling { plan, script, .. } => {
-            [Some(plan.as_str()), Some(script.as_str()), None]
-        }
-        Command::Check { plan, cert, .. } => [Some(plan.as_str()), Some(cert.as_str()), None],
-        Command::Change { old, new, .. } => [Some(old.as_str()), Some(new.as_str()), None],
-        Command::Survive { plan, risks } => [Some(plan.as_str()), risks.as_deref(), None],
-        Command::Codes { plan }
-        | Command::Lint { plan }
-        | Command::Audit { plan, .. }
-        | Command::Mend { plan, .. }
-        | Command::Grade { plan }
-        | Command::Trace { plan, .. }
-        | Command::Draw { plan, .. } => [Some(plan.as_str()), None, None],
-    }
-}
-
-/// The files that it may make.
-fn files_made(command: &Command) -> [Option<&str>; 3]
-    ensures { names result ≡ files_made command.now }
-{
-    match command {
-        Command::Audit { cert, counter, .. } => [cert.as_deref(), counter.as_deref(), None],
-        Command::Mend { mended, cert, .. } => [mended.as_deref(), cert.as_deref(), None],
-        Command::Change {
-            cert,
-            mixture,
-            counter,
-            ..
-        } => [cert.as_deref(), mixture.as_deref(), counter.as_deref()],
-        Command::Pipe
-        | Command::Run { .. }
-        | Command::RunTelling { .. }
-        | Command::Check { .. }
-        | Command::Lint { .. }
-        | Command::Codes { .. }
-        | Command::Grade { .. }
-        | Command::Survive { .. }
-        | Command::Trace { .. }
-        | Command::Draw { .. }
-        | Command::Explain { .. } => [None, None, None],
-    }
-}
 
 /// Whether a file is one of these.
 fn is_among(files: &[Option<&str>], file: &str) -> bool
@@ -117,10 +49,10 @@ pub(crate) fn clash(command: &Command) -> Option<Refusal>
     ensures read_once { result ≡ None → reads_input_twice command.now ≡ false }
     ensures apart { result ≡ None → overwrites command.now ≡ false }
 {
-    let read = files_read(command);
-    if has_input_twice(&read) {
+    let files = Files::of(command);
+    if has_input_twice(&files.reads) {
         Some(Refusal::InputTwice)
-    } else if has_clash(&read, &files_made(command)) {
+    } else if has_clash(&files.reads, &files.makes()) {
         Some(Refusal::Overwrites)
     } else {
         None

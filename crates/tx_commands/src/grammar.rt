@@ -1,15 +1,22 @@
-// The words that the program takes, with what its help says of them.
+// The words that the program takes, with what its help says of them. The help of each command ends
+// with an example and the exit statuses.
 ghost use Rattle.std.specs.Prelude.{◌≡◌, Ok, IfOk, codes};
 ghost use Rattle.clap.specs.Words.{AddsSubcommand, App, app_of, with_rule};
 ghost use Rattle.clap.specs.declared.builder.command.Command.{Command};
 ghost use Rattle.tx_commands.specs.Grammar as grammar;
 
 use crate::arguments::{over_plan, with_bounds, with_file, with_flag, with_option, word};
-use crate::help;
+use crate::judging::judging_grammar;
 use std::alloc::{AllocError, Global};
 
 /// The version of the program.
 const VERSION: &str = "1.0.0";
+
+const RUN_HELP: &str = "Example: telexplan run own.plan own.script
+
+Exit status: 0 after the run, 1 after a NO to the certificate (with --strict: after a refused event
+too), 2 for a refused text, 3 for a failed read or write, 4 when out of memory, 64 for refused
+words";
 
 fn run_grammar<'a>(alloc: Global) -> Result<clap::Command<'a>, AllocError>
     ensures { IfOk result (λ c. app_of c ≡ grammar.run_words) }
@@ -18,7 +25,7 @@ fn run_grammar<'a>(alloc: Global) -> Result<clap::Command<'a>, AllocError>
         alloc,
         "run",
         "Run a script of events over a plan: print each reply, and a ticket for each ended call",
-        help::RUN,
+        RUN_HELP,
     );
     let run = with_file(
         run,
@@ -69,24 +76,10 @@ that were taken at once",
     )
 }
 
-fn check_grammar<'a>(alloc: Global) -> Result<clap::Command<'a>, AllocError>
-    ensures { IfOk result (λ c. app_of c ≡ grammar.check_words) }
-{
-    let check = over_plan(
-        alloc,
-        "check",
-        "Say whether a certificate shows that a plan is safe: YES, or NO with the first reason",
-        help::CHECK,
-    );
-    let check = with_file(
-        check,
-        alloc,
-        "cert",
-        "CERT",
-        "The certificate: ranks of exchanges for each code; - is standard input",
-    );
-    with_bounds(check, alloc, true)
-}
+const CODES_HELP: &str = "Example: telexplan codes own.plan
+
+Exit status: 0 where no code begins another, 1 where one does, 2 for a refused text, 3 for a
+failed read or write, 4 when out of memory, 64 for refused words";
 
 fn codes_grammar<'a>(alloc: Global) -> Result<clap::Command<'a>, AllocError>
     ensures { IfOk result (λ c. app_of c ≡ grammar.codes_words) }
@@ -95,92 +88,14 @@ fn codes_grammar<'a>(alloc: Global) -> Result<clap::Command<'a>, AllocError>
         alloc,
         "codes",
         "List the codes of a plan, and the least pair of which one begins the other",
-        help::CODES,
+        CODES_HELP,
     )
 }
 
-fn lint_grammar<'a>(alloc: Global) -> Result<clap::Command<'a>, AllocError>
-    ensures { IfOk result (λ c. app_of c ≡ grammar.lint_words) }
-{
-    over_plan(
-        alloc,
-        "lint",
-        "Report all faults of a plan's text, or else what in it is of no use or likely not meant",
-        help::LINT,
-    )
-}
+const TRACE_HELP: &str = "Example: telexplan trace own.plan NORTH 24
 
-fn audit_grammar<'a>(alloc: Global) -> Result<clap::Command<'a>, AllocError>
-    ensures { IfOk result (λ c. app_of c ≡ grammar.audit_words) }
-{
-    let audit = over_plan(
-        alloc,
-        "audit",
-        "Say whether a plan is safe: YES, or NO with what is wrong and the walks that show it",
-        help::AUDIT,
-    );
-    let audit = with_bounds(audit, alloc, true);
-    let audit = with_option(
-        audit,
-        alloc,
-        "cert",
-        "CERT",
-        "After YES, write the certificate to this file",
-    );
-    with_option(
-        audit,
-        alloc,
-        "counter",
-        "SCRIPT",
-        "After NO, write a script to this file that shows the first finding
-that has one",
-    )
-}
-
-fn mend_grammar<'a>(alloc: Global) -> Result<clap::Command<'a>, AllocError>
-    ensures { IfOk result (λ c. app_of c ≡ grammar.mend_words) }
-{
-    let mend = clap::Command::new(alloc, "mend")
-        .about(
-            "Find lists with which a plan is safe: YES with each new list, or NO with whom none serve",
-        )
-        .after_help(help::MEND);
-    let mend = with_file(Ok(mend), alloc, "old", "PLAN", help::PLAN);
-    let mend = with_bounds(mend, alloc, true);
-    let mend = with_option(
-        mend,
-        alloc,
-        "plan",
-        "OUT",
-        "After YES, write the plan with these lists to this file",
-    );
-    with_option(
-        mend,
-        alloc,
-        "cert",
-        "CERT",
-        "After YES, write a certificate of that plan to this file",
-    )
-}
-
-fn survive_grammar<'a>(alloc: Global) -> Result<clap::Command<'a>, AllocError>
-    ensures { IfOk result (λ c. app_of c ≡ grammar.survive_words) }
-{
-    let survive = over_plan(
-        alloc,
-        "survive",
-        "Say whom each group, exchange and named risk of a plan cuts off if it fails alone",
-        help::SURVIVE,
-    );
-    with_option(
-        survive,
-        alloc,
-        "risks",
-        "RISKS",
-        "The named risks, such as cables: lines RISK name group .., between
-RISKS 1 and END; - is standard input",
-    )
-}
+Exit status: 0 after the trace, 2 for a refused text, 3 for a failed read or write, 4 when out of
+memory, 64 for refused words, and for an exchange or a code that is not in the plan";
 
 fn trace_grammar<'a>(alloc: Global) -> Result<clap::Command<'a>, AllocError>
     ensures { IfOk result (λ c. app_of c ≡ grammar.trace_words) }
@@ -189,7 +104,7 @@ fn trace_grammar<'a>(alloc: Global) -> Result<clap::Command<'a>, AllocError>
         alloc,
         "trace",
         "Show how calls for a code go from an exchange: the way while all is free, and the lists",
-        help::TRACE,
+        TRACE_HELP,
     );
     let trace = with_file(
         trace,
@@ -201,52 +116,10 @@ fn trace_grammar<'a>(alloc: Global) -> Result<clap::Command<'a>, AllocError>
     with_file(trace, alloc, "code", "CODE", "Their destination code")
 }
 
-fn change_grammar<'a>(alloc: Global) -> Result<clap::Command<'a>, AllocError>
-    ensures { IfOk result (λ c. app_of c ≡ grammar.change_words) }
-{
-    let change = clap::Command::new(alloc, "change")
-        .about(
-            "Say whether a plan is safe at every moment while its lists change into those of another",
-        )
-        .after_help(help::CHANGE);
-    let change = with_file(Ok(change), alloc, "old", "OLD", help::OLD_PLAN);
-    let change = with_file(change, alloc, "new", "NEW", help::NEW_PLAN);
-    let change = with_bounds(change, alloc, true);
-    let change = with_option(
-        change,
-        alloc,
-        "cert",
-        "CERT",
-        "After YES, write a certificate of both plans to this file",
-    );
-    let change = with_option(
-        change,
-        alloc,
-        "mixture",
-        "PLAN",
-        "After NO, write a plan of old and new lists to this file that shows
-the first finding that has a walk",
-    );
-    with_option(
-        change,
-        alloc,
-        "counter",
-        "SCRIPT",
-        "After NO, write a script to this file that shows the same finding in
-that plan, if there is one",
-    )
-}
+const DRAW_HELP: &str = "Example: telexplan draw own.plan | dot -Tsvg > own.svg
 
-fn grade_grammar<'a>(alloc: Global) -> Result<clap::Command<'a>, AllocError>
-    ensures { IfOk result (λ c. app_of c ≡ grammar.grade_words) }
-{
-    over_plan(
-        alloc,
-        "grade",
-        "Say with which transit limits and spare numbers a plan is safe, and each of its codes",
-        help::GRADE,
-    )
-}
+Exit status: 0 after the picture, 2 for a refused text, 3 for a failed read or write, 4 when out
+of memory, 64 for refused words, and for a code that is not in the plan";
 
 fn draw_grammar<'a>(alloc: Global) -> Result<clap::Command<'a>, AllocError>
     ensures { IfOk result (λ c. app_of c ≡ grammar.draw_words) }
@@ -255,7 +128,7 @@ fn draw_grammar<'a>(alloc: Global) -> Result<clap::Command<'a>, AllocError>
         alloc,
         "draw",
         "Draw the exchanges and groups of a plan, as a text of Graphviz",
-        help::DRAW,
+        DRAW_HELP,
     );
     let draw = with_option(
         draw,
@@ -267,6 +140,11 @@ fn draw_grammar<'a>(alloc: Global) -> Result<clap::Command<'a>, AllocError>
     );
     with_bounds(draw, alloc, false)
 }
+
+const EXPLAIN_HELP: &str = "Example: telexplan explain P11
+
+Exit status: 0 for a code or a name of the table and without one, 3 for a failed write, 4 when out
+of memory, 64 for refused words";
 
 fn explain_grammar<'a>(alloc: Global) -> Result<clap::Command<'a>, AllocError>
     ensures { IfOk result (λ c. app_of c ≡ grammar.explain_words) }
@@ -281,12 +159,17 @@ fn explain_grammar<'a>(alloc: Global) -> Result<clap::Command<'a>, AllocError>
         .about(
             "Say what a printed code means, and what to do about it; without one, list all codes",
         )
-        .after_help(help::EXPLAIN)
+        .after_help(EXPLAIN_HELP)
         .arg(code)
 }
 
+const PROGRAM_HELP: &str = "Example: telexplan audit own.plan --limit 1 --spare 1
+
+Exit status: 0 for a YES or a job done, 1 for a NO, 2 for a refused text, 3 for a failed read or
+write, 4 when out of memory, 64 for refused words";
+
 /// The program's name, its version and what it does.
-fn top_grammar<'a>(alloc: Global) -> Result<clap::Command<'a>, AllocError>
+pub(crate) fn top_grammar<'a>(alloc: Global) -> Result<clap::Command<'a>, AllocError>
     ensures { IfOk result (λ c. app_of c ≡ grammar.top_words) }
 {
     clap::Command::new(alloc, "telexplan")
@@ -295,13 +178,13 @@ fn top_grammar<'a>(alloc: Global) -> Result<clap::Command<'a>, AllocError>
             "Audit the route plan of an automatic telex network, and simulate calls over it.
 Without words, a plan and a script are read from standard input.",
         )
-        .after_help(help::PROGRAM)
+        .after_help(PROGRAM_HELP)
         .no_binary_name(true)
         .bin_name("telexplan")
 }
 
 /// The program with one command more, if both could be made.
-fn with_command<'a>(
+pub(crate) fn with_command<'a>(
     program: Result<clap::Command<'a>, AllocError>,
     command: Result<clap::Command<'a>, AllocError>,
 ) -> Result<clap::Command<'a>, AllocError>
@@ -309,25 +192,6 @@ fn with_command<'a>(
         × (program.entry ≡ Ok top) × (command.entry ≡ Ok words) × AddsSubcommand top words c) }
 {
     program?.subcommand(command?)
-}
-
-/// The program with the commands that judge a plan.
-fn judging_grammar<'a>(alloc: Global) -> Result<clap::Command<'a>, AllocError>
-    ensures { IfOk result (λ c. app_of c ≡ grammar.judging_words) }
-{
-    let program = with_command(
-        with_command(top_grammar(alloc), lint_grammar(alloc)),
-        audit_grammar(alloc),
-    );
-    let program = with_command(
-        with_command(program, grade_grammar(alloc)),
-        mend_grammar(alloc),
-    );
-    let program = with_command(
-        with_command(program, change_grammar(alloc)),
-        survive_grammar(alloc),
-    );
-    with_command(program, check_grammar(alloc))
 }
 
 /// The words that the program takes.

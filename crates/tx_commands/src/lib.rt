@@ -7,11 +7,10 @@ mod command;
 mod fault;
 mod files;
 mod grammar;
-mod help;
+mod judging;
 mod reading;
 mod refusal;
 
-pub use command::Command;
+pub use command::{Command, Files, STANDARD_INPUT};
 pub use fault::WordsFault;
-pub use files::STANDARD_INPUT;
 pub use reading::read_command;

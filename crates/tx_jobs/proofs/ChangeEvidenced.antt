@@ -7,11 +7,10 @@ use Rattle.tx_change.specs.declared.mixture.ShownMixture.{ShownMixture}
 use Rattle.tx_change.specs.MixtureShown.{ShowsFirstWalk, MixtureAnswer}
 use Rattle.tx_jobs.specs.declared.change.Changed.{Changed}
 use Rattle.tx_jobs.specs.declared.change.Changed.TheVariants.{Sound as FoundSound, Unsound as FoundUnsound}
-use Rattle.tx_jobs.specs.declared.change_fault.ChangeFault.{ChangeFault}
-use Rattle.tx_jobs.specs.declared.change_fault.ChangeFault.TheVariants.{Job, NewPlan, TwoNetworks}
-use Rattle.tx_jobs.specs.declared.job_fault.JobFault.TheVariants.{Plan as PlanFault, Cert, Script, Read, Write, NoMemory}
+use Rattle.tx_jobs.specs.declared.job_fault.JobFault.{JobFault}
+use Rattle.tx_jobs.specs.declared.job_fault.JobFault.TheVariants.{Plan as PlanFault, Cert, Script, Read, Write, NoMemory, OldPlan, NewPlan, TwoNetworks, Risks, NoSuchExchange, NoSuchCode}
 use Rattle.tx_jobs.specs.declared.mixture.ChangeEvidence.{ChangeEvidence}
-use Rattle.tx_jobs.specs.ChangeFaults.{change_mark_after}
+use Rattle.tx_jobs.specs.JobFaults.{mark_after}
 use Rattle.tx_jobs.specs.ChangeEvidences.{IsMixtureOf, IsChangeEvidenceOf}
 use Rattle.tx_jobs.specs.Writables.{AreWritable}
 
@@ -32,18 +31,22 @@ shown_writable old new limit spare findings o m is h =
     if_mapped m.events (λ v. v.items) (AreWritable m.plan) shows.2.writable
 
 module _ {A : Type 0} (mark : Bool) (limit spare : ℕ) where
-  mixture_mark : (old new : Plan) (findings : List (Finding A)) (r : Result (ChangeEvidence A) ChangeFault) → IsMixtureOf old new limit spare findings r → mark ≡ change_mark_after mark r
+  mixture_mark : (old new : Plan) (findings : List (Finding A)) (r : Result (ChangeEvidence A) JobFault) → IsMixtureOf old new limit spare findings r → mark ≡ mark_after mark r
   mixture_mark old new findings (Ok kept) h = refl
-  mixture_mark old new findings (Err (NewPlan f)) h = refl
-  mixture_mark old new findings (Err (TwoNetworks d)) h = refl
-  mixture_mark old new findings (Err (Job (PlanFault f))) h = refl
-  mixture_mark old new findings (Err (Job (Cert f))) h = refl
-  mixture_mark old new findings (Err (Job (Script f))) h = refl
-  mixture_mark old new findings (Err (Job Read)) h = refl
-  mixture_mark old new findings (Err (Job Write)) h = absurd h
-  mixture_mark old new findings (Err (Job NoMemory)) h = refl
+  mixture_mark old new findings (Err (PlanFault f)) h = absurd h
+  mixture_mark old new findings (Err (Cert f)) h = absurd h
+  mixture_mark old new findings (Err (Script f)) h = absurd h
+  mixture_mark old new findings (Err Read) h = absurd h
+  mixture_mark old new findings (Err Write) h = absurd h
+  mixture_mark old new findings (Err NoMemory) h = refl
+  mixture_mark old new findings (Err (OldPlan f)) h = absurd h
+  mixture_mark old new findings (Err (NewPlan f)) h = absurd h
+  mixture_mark old new findings (Err (TwoNetworks d)) h = absurd h
+  mixture_mark old new findings (Err (Risks f)) h = absurd h
+  mixture_mark old new findings (Err NoSuchExchange) h = absurd h
+  mixture_mark old new findings (Err NoSuchCode) h = absurd h
 
-  pub change_evidence_mark : (with_mixture : Bool) (changed : Changed A) (r : Result (ChangeEvidence A) ChangeFault) → IsChangeEvidenceOf with_mixture limit spare changed r → mark ≡ change_mark_after mark r
-  change_evidence_mark with_mixture (FoundSound p cert) r h = ap (change_mark_after mark) (sym h)
+  pub change_evidence_mark : (with_mixture : Bool) (changed : Changed A) (r : Result (ChangeEvidence A) JobFault) → IsChangeEvidenceOf with_mixture limit spare changed r → mark ≡ mark_after mark r
+  change_evidence_mark with_mixture (FoundSound p cert) r h = ap (mark_after mark) (sym h)
   change_evidence_mark true (FoundUnsound p q findings) r h = mixture_mark p q findings.items r h
-  change_evidence_mark false (FoundUnsound p q findings) r h = ap (change_mark_after mark) (sym h)
+  change_evidence_mark false (FoundUnsound p q findings) r h = ap (mark_after mark) (sym h)

@@ -1,25 +1,18 @@
 -- What a change comes to, as its job tells it.
-use Rattle.std.proofs.Common.{◌≡◌, ◌∙◌, ℕ, Bool, Ok, refl, sym}
+use Rattle.std.proofs.Common.{ℕ, Ok, refl}
 use Rattle.std.specs.Io.KnownBytes.{append_known}
 use Rattle.std.specs.List.{AllByRecursion}
-use Rattle.tx_text.specs.declared.frame.FaultAt.{FaultAt}
 use Rattle.tx_plan.specs.Plan.{Plan}
 use Rattle.tx_plan.specs.Mixtures.{SameNetwork}
-use Rattle.tx_plantext.specs.declared.fault.PlanWord.{PlanWord}
 use Rattle.tx_rank.specs.declared.ranking.Ranking.{Ranking}
 use Rattle.tx_rank.specs.declared.ranking.Ranking.TheVariants.{Found, Fails}
 use Rattle.tx_rank.specs.Report.{findings_of}
 use Rattle.tx_change.specs.Shown.{IsShown}
 use Rattle.tx_change.specs.ChangeReport.{change_report}
 use Rattle.tx_change.specs.ChangeAnswers.{IsRightChange}
-use Rattle.tx_jobs.specs.declared.job_fault.JobFault.{JobFault}
-use Rattle.tx_jobs.specs.declared.job_fault.JobFault.TheVariants.{Plan as PlanFault, Cert, Script, Read, Write, NoMemory}
-use Rattle.tx_jobs.specs.JobFaults.{mark_by, plan_fault}
-use Rattle.tx_jobs.specs.ChangeFaults.{in_new_plan, new_plan_fault, change_mark_by}
 use Rattle.tx_text.specs.Ends.{Output}
 use Rattle.tx_jobs.specs.ChangeJobs.{ToldChange, OnUnsoundChange}
 use Rattle.tx_jobs.specs.inner.Changing.{changed_of}
-use Rattle.tx_jobs.proofs.RefusedTexts.{plan_mark}
 
 module _ {A : Type 0} (old new : Plan) (limit spare : ℕ) (same : SameNetwork old new) where
   -- the report was written
@@ -36,14 +29,3 @@ module _ {A : Type 0} (old new : Plan) (limit spare : ℕ) (same : SameNetwork o
   change_shown (Found cert) h = tt
   change_shown (Fails findings) h = h.shown
 
-new_as : (old : Bool) (f : JobFault) → change_mark_by old (in_new_plan f) ≡ mark_by old f
-new_as old (PlanFault f) = refl
-new_as old (Cert f) = refl
-new_as old (Script f) = refl
-new_as old Read = refl
-new_as old Write = refl
-new_as old NoMemory = refl
-
--- a refused new plan leaves the mark
-pub new_plan_mark : (old : Bool) (f : FaultAt PlanWord) → old ≡ change_mark_by old (new_plan_fault f)
-new_plan_mark old f = plan_mark old f ∙ sym (new_as old (plan_fault f))

@@ -6,19 +6,25 @@ use Rattle.tx_audit.specs.declared.audited.Audited.{Audited}
 use Rattle.tx_audit.specs.declared.audited.Audited.TheVariants.{Sound as FoundSound, Unsound as FoundUnsound}
 use Rattle.tx_jobs.specs.declared.evidence.Evidence.{Evidence}
 use Rattle.tx_jobs.specs.declared.job_fault.JobFault.{JobFault}
-use Rattle.tx_jobs.specs.declared.job_fault.JobFault.TheVariants.{Plan as PlanFault, Cert, Script, Read, Write, NoMemory}
+use Rattle.tx_jobs.specs.declared.job_fault.JobFault.TheVariants.{Plan as PlanFault, Cert, Script, Read, Write, NoMemory, OldPlan, NewPlan, TwoNetworks, Risks, NoSuchExchange, NoSuchCode}
 use Rattle.tx_jobs.specs.JobFaults.{mark_after}
 use Rattle.tx_jobs.specs.Evidences.{IsScriptOf, IsEvidenceOf}
 
 module _ {A : Type 0} (old : Bool) (limit spare : ℕ) where
   script_mark : (p : Plan) (findings : List (Finding A)) (r : Result (Evidence A) JobFault) → IsScriptOf p limit spare findings r → old ≡ mark_after old r
   script_mark p findings (Ok kept) h = refl
-  script_mark p findings (Err (PlanFault f)) h = refl
-  script_mark p findings (Err (Cert f)) h = refl
-  script_mark p findings (Err (Script f)) h = refl
-  script_mark p findings (Err Read) h = refl
+  script_mark p findings (Err (PlanFault f)) h = absurd h
+  script_mark p findings (Err (Cert f)) h = absurd h
+  script_mark p findings (Err (Script f)) h = absurd h
+  script_mark p findings (Err Read) h = absurd h
   script_mark p findings (Err Write) h = absurd h
   script_mark p findings (Err NoMemory) h = refl
+  script_mark p findings (Err (OldPlan f)) h = absurd h
+  script_mark p findings (Err (NewPlan f)) h = absurd h
+  script_mark p findings (Err (TwoNetworks d)) h = absurd h
+  script_mark p findings (Err (Risks f)) h = absurd h
+  script_mark p findings (Err NoSuchExchange) h = absurd h
+  script_mark p findings (Err NoSuchCode) h = absurd h
 
   pub evidence_mark : (with_script : Bool) (audited : Audited A) (r : Result (Evidence A) JobFault) → IsEvidenceOf with_script limit spare audited r → old ≡ mark_after old r
   evidence_mark with_script (FoundSound p cert) r h = ap (mark_after old) (sym h)

@@ -14,5 +14,6 @@ mod DrawnCode
 mod EndLines
 mod Cutting
 mod Taking
+mod Did
 pub mod PartCalls
 pub mod PlanCalls

@@ -6,8 +6,7 @@ use Rattle.tx_rank.specs.declared.finding.Finding.{Finding}
 use Rattle.tx_change.specs.MixtureShown.{first_walked, ShowsFirstWalk}
 use Rattle.tx_jobs.specs.declared.change.Changed.{Changed}
 use Rattle.tx_jobs.specs.declared.change.Changed.TheVariants.{Sound as FoundSound, Unsound as FoundUnsound}
-use Rattle.tx_jobs.specs.declared.change_fault.ChangeFault.{ChangeFault}
-use Rattle.tx_jobs.specs.declared.change_fault.ChangeFault.TheVariants.{Job}
+use Rattle.tx_jobs.specs.declared.job_fault.JobFault.{JobFault}
 use Rattle.tx_jobs.specs.declared.job_fault.JobFault.TheVariants.{NoMemory}
 use Rattle.tx_jobs.specs.declared.mixture.Mixture.{Mixture}
 use Rattle.tx_jobs.specs.declared.mixture.Mixture.TheVariants.{Scripted, Unscripted}
@@ -17,11 +16,6 @@ use Rattle.tx_text.specs.Ends.{Input, Output}
 use Rattle.tx_jobs.specs.ChangeJobs.{ChangeJobAnswers}
 
 module _ {A : Type 0} where
-  -- 0 after a Yes, 1 after a No
-  abbrev pub status_of_change_evidence : ChangeEvidence A → ℕ
-  status_of_change_evidence (Sound plan cert) = 0
-  status_of_change_evidence (Unsound mixture) = 1
-
   -- the plan of a mixture, and the events of its script
   abbrev pub mixture_plan : Mixture A → Plan
   mixture_plan (Scripted script) = script.plan
@@ -42,15 +36,15 @@ module _ {A : Type 0} where
 
   -- the mixture of some findings, or there was no memory for it
   abbrev pub IsMixtureOf : (old new : Plan) → (limit spare : ℕ) → List (Finding A)
-      → Result (ChangeEvidence A) ChangeFault → Type 0
+      → Result (ChangeEvidence A) JobFault → Type 0
   IsMixtureOf old new limit spare findings (Ok (Unsound mixture)) =
       ShowsWalk old new limit spare findings mixture
-  IsMixtureOf old new limit spare findings (Err (Job NoMemory)) = Unit {0}
+  IsMixtureOf old new limit spare findings (Err NoMemory) = Unit {0}
   IsMixtureOf old new limit spare findings other = ⊥
 
   -- the certificate after a Yes, and the mixture after a No where it is asked for
   abbrev pub IsChangeEvidenceOf : (with_mixture : Bool) → (limit spare : ℕ) → Changed A
-      → Result (ChangeEvidence A) ChangeFault → Type 0
+      → Result (ChangeEvidence A) JobFault → Type 0
   IsChangeEvidenceOf with_mixture limit spare (FoundSound p cert) result =
       result ≡ Ok (Sound p cert)
   IsChangeEvidenceOf true limit spare (FoundUnsound p q findings) result =
@@ -60,14 +54,14 @@ module _ {A : Type 0} where
 
   -- what shows the verdict on a change, or the fault that stopped it
   abbrev pub TellsChangeEvidence : (with_mixture : Bool) → (limit spare : ℕ)
-      → Result (Changed A) ChangeFault → Result (ChangeEvidence A) ChangeFault → Type 0
+      → Result (Changed A) JobFault → Result (ChangeEvidence A) JobFault → Type 0
   TellsChangeEvidence with_mixture limit spare (Ok changed) result =
       IsChangeEvidenceOf with_mixture limit spare changed result
   TellsChangeEvidence with_mixture limit spare (Err fault) result = result ≡ Err fault
 
   -- The change was judged, and then what shows the verdict was made.
   abbrev pub ChangeEvidenceAnswers : (with_mixture : Bool) → (limit spare : ℕ)
-      → (old new : Input) → Output → Result (ChangeEvidence A) ChangeFault → Type 0
+      → (old new : Input) → Output → Result (ChangeEvidence A) JobFault → Type 0
   ChangeEvidenceAnswers with_mixture limit spare old new out result =
-      (answer : Result (Changed A) ChangeFault) × ChangeJobAnswers limit spare old new out answer
+      (answer : Result (Changed A) JobFault) × ChangeJobAnswers limit spare old new out answer
       × TellsChangeEvidence with_mixture limit spare answer result

@@ -12,10 +12,9 @@ use Rattle.tx_change.specs.ChangeReport.{change_report}
 use Rattle.tx_change.specs.ChangeAnswers.{IsCleared, IsDenied, ChangeToldInPart}
 use Rattle.tx_jobs.specs.declared.change.Changed.{Changed}
 use Rattle.tx_jobs.specs.declared.change.Changed.TheVariants.{Sound, Unsound}
-use Rattle.tx_jobs.specs.declared.change_fault.ChangeFault.{ChangeFault}
-use Rattle.tx_jobs.specs.declared.change_fault.ChangeFault.TheVariants.{Job, TwoNetworks}
-use Rattle.tx_jobs.specs.declared.job_fault.JobFault.TheVariants.{Write, NoMemory}
-use Rattle.tx_jobs.specs.ChangeFaults.{old_plan_fault, new_plan_fault}
+use Rattle.tx_jobs.specs.declared.job_fault.JobFault.{JobFault}
+use Rattle.tx_jobs.specs.declared.job_fault.JobFault.TheVariants.{Write, NoMemory, TwoNetworks}
+use Rattle.tx_jobs.specs.JobFaults.{old_plan_fault, new_plan_fault}
 use Rattle.tx_text.specs.Ends.{Input, Output}
 use Rattle.tx_jobs.specs.Jobs.{PlanRead}
 
@@ -28,22 +27,22 @@ OnUnsoundChange Holds (Unsound p q findings) = Holds p q findings.items
 -- What is answered of two plans. They are of one network: the certificate clears the change, or the
 -- findings deny it, and the report was written. Or the first entry that differs is answered.
 abbrev pub ToldChange : {A : Type 0} → (p q : Plan) → (limit spare : ℕ) → Output
-    → Result (Changed A) ChangeFault → Type 0
+    → Result (Changed A) JobFault → Type 0
 ToldChange {A} p q limit spare out (Ok (Sound m cert)) =
     (m ≡ p) × SameNetwork p q × IsCleared p q limit spare cert
     × (out.new ≡ append_known out.old (change_report {A = A} p limit spare []))
 ToldChange p q limit spare out (Ok (Unsound m n findings)) =
     (m ≡ p) × (n ≡ q) × SameNetwork p q × IsDenied p q limit spare findings.items
     × (out.new ≡ append_known out.old (change_report p limit spare findings.items))
-ToldChange {A} p q limit spare out (Err (Job Write)) =
+ToldChange {A} p q limit spare out (Err Write) =
     SameNetwork p q × ChangeToldInPart A p q limit spare out
-ToldChange p q limit spare out (Err (Job NoMemory)) = SameNetwork p q × out.silent
+ToldChange p q limit spare out (Err NoMemory) = SameNetwork p q × out.silent
 ToldChange p q limit spare out (Err (TwoNetworks d)) = DifferenceAnswer p q (Some d) × out.silent
 ToldChange p q limit spare out (Err other) = ⊥
 
 -- a plan was refused, and nothing else was read or written
-pub record RefusedAs {X : Type 0} (tell : FaultAt PlanWord → ChangeFault) (text : Input)
-    (untouched : Type 0) (result : Result X ChangeFault) : Type 0 where
+pub record RefusedAs {X : Type 0} (tell : FaultAt PlanWord → JobFault) (text : Input)
+    (untouched : Type 0) (result : Result X JobFault) : Type 0 where
   pub fault : FaultAt PlanWord
   pub read : ReadsPlan text (Err (fault.line, fault.kind))
   pub told : result ≡ Err (tell fault)
@@ -51,14 +50,14 @@ pub record RefusedAs {X : Type 0} (tell : FaultAt PlanWord → ChangeFault) (tex
 
 -- the new plan was read, and the change into it judged
 abbrev pub NewPlanAnswers : {A : Type 0} → Plan → (limit spare : ℕ) → Input → Output
-    → Result (Changed A) ChangeFault → Type 0
+    → Result (Changed A) JobFault → Type 0
 NewPlanAnswers p limit spare new out result =
     PlanRead new (λ q. ToldChange p q limit spare out result)
     ⊎ RefusedAs new_plan_fault new out.silent result
 
 -- `change OLD NEW --limit L --spare K`
 abbrev pub ChangeJobAnswers : {A : Type 0} → (limit spare : ℕ) → (old new : Input) → Output
-    → Result (Changed A) ChangeFault → Type 0
+    → Result (Changed A) JobFault → Type 0
 ChangeJobAnswers limit spare old new out result =
     PlanRead old (λ p. NewPlanAnswers p limit spare new out result)
     ⊎ RefusedAs old_plan_fault old (new.unread × out.silent) result

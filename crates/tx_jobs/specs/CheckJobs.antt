@@ -9,7 +9,7 @@ use Rattle.tx_cert.specs.declared.fault.CertWord.{CertWord}
 use Rattle.tx_cert.specs.Certificate.{Certificate, IsCertificateOf}
 use Rattle.tx_cert.specs.CertText.{SaysCert, ReadsCert}
 use Rattle.tx_check.specs.declared.verdict.Verdict.{Verdict}
-use Rattle.tx_check.specs.declared.verdict.Verdict.TheVariants.{Yes, No}
+use Rattle.tx_check.specs.declared.verdict.Verdict.TheVariants.{Yes}
 use Rattle.tx_check.specs.Checks.{check_faults, ranks_for, verdict_of}
 use Rattle.tx_check.specs.Verdicts.{verdict_written}
 use Rattle.tx_jobs.specs.declared.job_fault.JobFault.{JobFault}
@@ -56,19 +56,3 @@ abbrev pub CheckJobAnswers : (limit spare : ℕ)
     → (plan cert : Input) → Output → Result Verdict JobFault → Type 0
 CheckJobAnswers limit spare plan cert out result = PlanRead plan (λ p.
     CheckAnswers p limit spare cert out result) ⊎ PlanRefused plan (cert.unread × out.silent) result
-
--- 0 after a Yes, 1 after a No
-abbrev pub status_for : Verdict → ℕ
-status_for Yes = 0
-status_for (No fault) = 1
-
--- a verdict, as an exit status
-abbrev pub told_status : Result Verdict JobFault → Result ℕ JobFault
-told_status (Ok v) = Ok (status_for v)
-told_status (Err f) = Err f
-
--- the same, as an exit status
-abbrev pub CheckStatusAnswers : (limit spare : ℕ)
-    → (plan cert : Input) → Output → Result ℕ JobFault → Type 0
-CheckStatusAnswers limit spare plan cert out result = (answer : Result Verdict JobFault)
-    × CheckJobAnswers limit spare plan cert out answer × (result ≡ told_status answer)

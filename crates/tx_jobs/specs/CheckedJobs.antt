@@ -67,19 +67,3 @@ abbrev pub CheckedJobAnswers : (limit spare : ℕ)
 CheckedJobAnswers limit spare plan cert script out result =
     PlanRead plan (λ p. CertAnswers p limit spare cert script out result)
     ⊎ PlanRefused plan (cert.unread × script.unread × out.silent) result
-
--- 0 after a Yes, 1 after a No
-abbrev pub status_of_run : Checked → ℕ
-status_of_run (Ran summary) = 0
-status_of_run (Denied fault) = 1
-
--- what a checked run came to, as an exit status
-abbrev pub told_status : Result Checked JobFault → Result ℕ JobFault
-told_status (Ok checked) = Ok (status_of_run checked)
-told_status (Err fault) = Err fault
-
--- the same, as an exit status
-abbrev pub CheckedStatusAnswers : (limit spare : ℕ)
-    → (plan cert script : Input) → Output → Result ℕ JobFault → Type 0
-CheckedStatusAnswers limit spare plan cert script out result = (answer : Result Checked JobFault)
-    × CheckedJobAnswers limit spare plan cert script out answer × (result ≡ told_status answer)

@@ -11,9 +11,7 @@ use Rattle.tx_draw.specs.Shown.{first_shown}
 use Rattle.tx_draw.specs.CodeDrawing.{code_drawing}
 use Rattle.tx_audit.specs.Audits.{IsAllFound}
 use Rattle.tx_jobs.specs.declared.job_fault.JobFault.{JobFault}
-use Rattle.tx_jobs.specs.declared.job_fault.JobFault.TheVariants.{Write, NoMemory}
-use Rattle.tx_jobs.specs.declared.draw.Drawn.{Drawn}
-use Rattle.tx_jobs.specs.declared.draw.Drawn.TheVariants.{Picture, NoSuchCode}
+use Rattle.tx_jobs.specs.declared.job_fault.JobFault.TheVariants.{Write, NoMemory, NoSuchCode}
 use Rattle.tx_jobs.specs.Jobs.{PlanRead, PlanRefused}
 
 -- the findings of which one may be shown: those of an audit for a limit and a spare number, and
@@ -33,39 +31,38 @@ pub record IsCodePicture (A : Type 0) (p : Plan)
   pub is : text ≡ code_drawing p c marks (first_shown c findings)
 
 -- the text was written, or a front of it before the sink failed
-abbrev pub ToldText : List ℕ → Output → Result Drawn JobFault → Type 0
-ToldText text out (Ok Picture) = out.new ≡ append_known out.old text
-ToldText text out (Ok NoSuchCode) = ⊥
+abbrev pub ToldText : List ℕ → Output → Result (Unit {0}) JobFault → Type 0
+ToldText text out (Ok x) = out.new ≡ append_known out.old text
 ToldText text out (Err Write) = StopsIn out.old out.new text
 ToldText text out (Err other) = ⊥
 
 -- the picture of the code was written
 pub record CodeDrawn (A : Type 0) (p : Plan) (c : ℕ)
-    (bounds : Option (ℕ × ℕ)) (out : Output) (result : Result Drawn JobFault) : Type 0 where
+    (bounds : Option (ℕ × ℕ)) (out : Output) (result : Result (Unit {0}) JobFault) : Type 0 where
   pub text : List ℕ
   pub picture : IsCodePicture A p c bounds text
   pub told : ToldText text out result
 
 -- it was written, or there was no memory for it, and nothing was written
 abbrev pub DrewCode : (A : Type 0) → Plan → ℕ
-    → Option (ℕ × ℕ) → Output → Result Drawn JobFault → Type 0
+    → Option (ℕ × ℕ) → Output → Result (Unit {0}) JobFault → Type 0
 DrewCode A p c bounds out result = CodeDrawn A p c bounds out result
     ⊎ ((result ≡ Err NoMemory) × out.silent)
 
 -- the code of some figures was drawn, or the plan has none, and nothing was written
 abbrev pub DrewNamed : (A : Type 0) → Plan → Option ℕ
-    → Option (ℕ × ℕ) → Output → Result Drawn JobFault → Type 0
+    → Option (ℕ × ℕ) → Output → Result (Unit {0}) JobFault → Type 0
 DrewNamed A p (Some c) bounds out result = DrewCode A p c bounds out result
-DrewNamed A p None bounds out result = (result ≡ Ok NoSuchCode) × out.silent
+DrewNamed A p None bounds out result = (result ≡ Err NoSuchCode) × out.silent
 
 -- the picture of a plan, or of the code of some figures
 abbrev pub Drew : (A : Type 0) → Plan → Option (List ℕ)
-    → Option (ℕ × ℕ) → Output → Result Drawn JobFault → Type 0
+    → Option (ℕ × ℕ) → Output → Result (Unit {0}) JobFault → Type 0
 Drew A p None bounds out result = ToldText (drawing p) out result
 Drew A p (Some figures) bounds out result = DrewNamed A p (code_named p figures) bounds out result
 
 -- `draw PLAN [--code C] [--limit L --spare K]`
 abbrev pub DrawJobAnswers : (A : Type 0) → (code : Option (List ℕ))
-    → Option (ℕ × ℕ) → Input → Output → Result Drawn JobFault → Type 0
+    → Option (ℕ × ℕ) → Input → Output → Result (Unit {0}) JobFault → Type 0
 DrawJobAnswers A code bounds plan out result = PlanRead plan (λ p. Drew A p code bounds out result)
     ⊎ PlanRefused plan out.silent result

@@ -16,11 +16,6 @@ use Rattle.tx_jobs.specs.declared.job_fault.JobFault.TheVariants.{NoMemory}
 use Rattle.tx_text.specs.Ends.{Input, Output}
 use Rattle.tx_jobs.specs.AuditJobs.{AuditJobAnswers}
 
--- 0 after a Yes, 1 after a No
-abbrev pub status_of_evidence : {A : Type 0} → Evidence A → ℕ
-status_of_evidence (Sound plan cert) = 0
-status_of_evidence (Unsound script) = 1
-
 -- The script has the plan and the events of the first finding that has some, and these show one of
 -- the findings, so the plan is not sound. There is none exactly where no finding has events.
 pub record ShowsFirst {A : Type 0} (p : Plan) (limit spare : ℕ)

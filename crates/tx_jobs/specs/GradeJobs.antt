@@ -1,5 +1,5 @@
 -- What `grade PLAN` answers.
-use Rattle.std.specs.Prelude.{◌≡◌, ◌≢◌, ◌⊎◌, if◌then◌else◌, ℕ, List, [], Option, Some, None, is_some, Result, Ok, Err}
+use Rattle.std.specs.Prelude.{◌≡◌, ◌≢◌, ◌⊎◌, ℕ, List, [], Option, Some, None, Result, Ok, Err}
 use Rattle.std.specs.Io.KnownBytes.{append_known}
 use Rattle.std.specs.List.{AllByRecursion}
 use Rattle.tx_text.specs.Ends.{StopsIn, Input, Output}
@@ -52,17 +52,3 @@ ToldGrade p out (Err other) = ⊥
 abbrev pub GradeJobAnswers : {A : Type 0} → Input → Output → Result (Grade A) JobFault → Type 0
 GradeJobAnswers plan out result = PlanRead plan (λ p. ToldGrade p out result)
     ⊎ PlanRefused plan out.silent result
-
--- 0 where there is a grade, else 1
-abbrev pub status_of_grade : {A : Type 0} → Grade A → ℕ
-status_of_grade g = if is_some g.plan then 0 else 1
-
--- a grade, as an exit status
-abbrev pub told_grade_status : {A : Type 0} → Result (Grade A) JobFault → Result ℕ JobFault
-told_grade_status (Ok grade) = Ok (status_of_grade grade)
-told_grade_status (Err fault) = Err fault
-
--- the same, as an exit status
-abbrev pub GradeStatusAnswers : (A : Type 0) → Input → Output → Result ℕ JobFault → Type 0
-GradeStatusAnswers A plan out result = (answer : Result (Grade A) JobFault)
-    × GradeJobAnswers plan out answer × (result ≡ told_grade_status answer)

@@ -1,5 +1,5 @@
 -- Why jobs stop, and what is reported of it.
-use Rattle.std.specs.Prelude.{ℕ, Bool, true, List, ◌++◌, Result, Ok, Err, codes, decimal}
+use Rattle.std.specs.Prelude.{ℕ, ◌+◌, Bool, true, List, ◌++◌, Result, Ok, Err, codes, decimal}
 use Rattle.tx_text.specs.declared.frame.FrameFault.TheVariants.{Read as LineRead, NoMemory as TextNoMemory}
 use Rattle.tx_text.specs.declared.frame.FaultAt.{FaultAt}
 use Rattle.tx_text.specs.declared.frame.FaultKind.{FaultKind}
@@ -16,10 +16,17 @@ use Rattle.tx_script.specs.declared.run_fault.RunFault.{RunFault}
 use Rattle.tx_script.specs.declared.run_cause.RunCause.{RunCause}
 use Rattle.tx_script.specs.declared.run_cause.RunCause.TheVariants.{Read as RunRead, Write as RunWrite, Script as RunScript, NoMemory as RunNoMemory}
 use Rattle.tx_script.specs.ScriptFaults.{fault_row as script_row}
+use Rattle.tx_risk_text.specs.declared.fault.RiskWord.{RiskWord}
+use Rattle.tx_risk_text.specs.declared.fault.RiskWord.TheVariants.{NoMemory as RiskNoMemory}
+use Rattle.tx_risk_text.specs.RiskFaults.{fault_row as risk_row}
+use Rattle.tx_change.specs.declared.difference.NetworkList.{NetworkList}
+use Rattle.tx_change.specs.declared.difference.NetworkList.TheVariants.{Exchanges, Codes, Ranges, Groups}
+use Rattle.tx_change.specs.declared.difference.Difference.{Difference}
 use Rattle.tx_jobs.specs.declared.job_fault.JobFault.{JobFault}
-use Rattle.tx_jobs.specs.declared.job_fault.JobFault.TheVariants.{Plan, Cert, Script, Read, Write, NoMemory}
+use Rattle.tx_jobs.specs.declared.job_fault.JobFault.TheVariants.{Plan, Cert, Script, Read, Write, NoMemory, OldPlan, NewPlan, TwoNetworks, Risks, NoSuchExchange, NoSuchCode}
 
--- 2 for a refused text, 3 for a read or a write fault, 4 when memory runs out
+-- 2 for a refused text and for plans of two networks, 3 for a read or a write fault, 4 when memory
+-- runs out, 64 for an exchange or a code that the plan does not have
 abbrev pub status_of : JobFault → ℕ
 status_of (Plan f) = 2
 status_of (Cert f) = 2
@@ -27,6 +34,12 @@ status_of (Script f) = 2
 status_of Read = 3
 status_of Write = 3
 status_of NoMemory = 4
+status_of (OldPlan f) = 2
+status_of (NewPlan f) = 2
+status_of (TwoNetworks d) = 2
+status_of (Risks f) = 2
+status_of NoSuchExchange = 64
+status_of NoSuchCode = 64
 
 -- A failure to read and a lack of memory are reported as such.
 abbrev pub plan_fault_by : FaultAt PlanWord → FaultKind PlanWord → JobFault
@@ -38,6 +51,19 @@ plan_fault_by f k = Plan f
 -- a fault of the plan's text, as a job reports it
 abbrev pub plan_fault : FaultAt PlanWord → JobFault
 plan_fault f = plan_fault_by f f.kind
+
+-- a fault of one of two plans, by which of them it is
+abbrev pub in_plan : (FaultAt PlanWord → JobFault) → JobFault → JobFault
+in_plan which (Plan f) = which f
+in_plan which other = other
+
+-- a fault of the old plan of a change
+abbrev pub old_plan_fault : FaultAt PlanWord → JobFault
+old_plan_fault f = in_plan OldPlan (plan_fault f)
+
+-- a fault of its new plan
+abbrev pub new_plan_fault : FaultAt PlanWord → JobFault
+new_plan_fault f = in_plan NewPlan (plan_fault f)
 
 -- a fault of the certificate's text, by its kind
 abbrev pub cert_fault_by : FaultAt CertWord → FaultKind CertWord → JobFault
@@ -59,6 +85,17 @@ script_fault_by f k = Script f
 abbrev pub script_fault : FaultAt ScriptWord → JobFault
 script_fault f = script_fault_by f f.kind
 
+-- a fault of the text of risks, by its kind
+abbrev pub risks_fault_by : FaultAt RiskWord → FaultKind RiskWord → JobFault
+risks_fault_by f (Frame LineRead) = Read
+risks_fault_by f (Frame TextNoMemory) = NoMemory
+risks_fault_by f (Word RiskNoMemory) = NoMemory
+risks_fault_by f k = Risks f
+
+-- a fault of the text of risks, as a job reports it
+abbrev pub risks_fault : FaultAt RiskWord → JobFault
+risks_fault f = risks_fault_by f f.kind
+
 -- why a run stopped, by its cause
 abbrev pub cause_fault : RunCause → JobFault
 cause_fault RunRead = Read
@@ -72,12 +109,8 @@ run_fault f = cause_fault f.cause
 
 -- the sink's mark after a fault: set where a write fault is reported, and otherwise as before
 abbrev pub mark_by : Bool → JobFault → Bool
-mark_by old (Plan f) = old
-mark_by old (Cert f) = old
-mark_by old (Script f) = old
-mark_by old Read = old
 mark_by old Write = true
-mark_by old NoMemory = old
+mark_by old other = old
 
 -- the sink's mark after a job: as before where it answers Ok
 abbrev pub mark_after : {X : Type 0} → Bool → Result X JobFault → Bool
@@ -89,6 +122,19 @@ abbrev pub text_fault_line : List ℕ → ℕ → List ℕ × List ℕ → List 
 text_fault_line text n row = codes "telexplan: " ++ (text ++ (codes " line "
     ++ (decimal n ++ (codes ": " ++ (row.0 ++ (codes " " ++ (row.1 ++ codes "\n")))))))
 
+-- the word that begins the lines of a list
+abbrev pub list_word : NetworkList → List ℕ
+list_word Exchanges = codes "EXCHANGE"
+list_word Codes = codes "CODE"
+list_word Ranges = codes "LINES"
+list_word Groups = codes "GROUP"
+
+-- the list, and the place of its first entry that differs, from 1
+abbrev pub difference_line : Difference → List ℕ
+difference_line d =
+    codes "telexplan: plans of two networks: "
+    ++ (list_word d.list ++ (codes " " ++ (decimal (d.place + 1) ++ codes " differs\n")))
+
 -- the line that says why a job stopped
 abbrev pub fault_line : JobFault → List ℕ
 fault_line (Plan f) = text_fault_line (codes "plan") f.line (plan_row f.kind)
@@ -97,3 +143,9 @@ fault_line (Script f) = text_fault_line (codes "script") f.line (script_row f.ki
 fault_line Read = codes "telexplan: read fault\n"
 fault_line Write = codes "telexplan: write fault\n"
 fault_line NoMemory = codes "telexplan: no memory\n"
+fault_line (OldPlan f) = text_fault_line (codes "old plan") f.line (plan_row f.kind)
+fault_line (NewPlan f) = text_fault_line (codes "new plan") f.line (plan_row f.kind)
+fault_line (TwoNetworks d) = difference_line d
+fault_line (Risks f) = text_fault_line (codes "risks") f.line (risk_row f.kind)
+fault_line NoSuchExchange = codes "telexplan: no such exchange in the plan\n"
+fault_line NoSuchCode = codes "telexplan: no such code in the plan\n"

@@ -1,5 +1,5 @@
 -- What jobs answer: what their calls do, one after another, and the fault of the first that fails.
-use Rattle.std.specs.Prelude.{◌≡◌, ◌⊎◌, ℕ, Option, None, Some, Result, Ok, Err}
+use Rattle.std.specs.Prelude.{◌≡◌, ◌⊎◌, ℕ, Option, Result, Ok, Err}
 use Rattle.tx_text.specs.declared.frame.FaultAt.{FaultAt}
 use Rattle.tx_plan.specs.Plan.{Plan}
 use Rattle.tx_plan.specs.Rules.{IsPlan}
@@ -68,18 +68,3 @@ ToldCodes p out (Err other) = ⊥
 abbrev pub CodesJobAnswers : Input → Output → Result (Option (ℕ × ℕ)) JobFault → Type 0
 CodesJobAnswers plan out result = PlanRead plan (λ p. ToldCodes p out result)
     ⊎ PlanRefused plan out.silent result
-
--- 1 where a code begins another, else 0
-abbrev pub status_of_codes : Option (ℕ × ℕ) → ℕ
-status_of_codes None = 0
-status_of_codes (Some pair) = 1
-
--- a pair of codes, as an exit status
-abbrev pub told_codes_status : Result (Option (ℕ × ℕ)) JobFault → Result ℕ JobFault
-told_codes_status (Ok pair) = Ok (status_of_codes pair)
-told_codes_status (Err fault) = Err fault
-
--- the same, as an exit status
-abbrev pub CodesStatusAnswers : Input → Output → Result ℕ JobFault → Type 0
-CodesStatusAnswers plan out result = (answer : Result (Option (ℕ × ℕ)) JobFault)
-    × CodesJobAnswers plan out answer × (result ≡ told_codes_status answer)

@@ -3,7 +3,6 @@ use Rattle.std.specs.Prelude.{◌≡◌, ◌⊎◌, ℕ, Result, Ok, Err}
 use Rattle.std.specs.Io.KnownBytes.{append_known}
 use Rattle.tx_plan.specs.Plan.{Plan}
 use Rattle.tx_mend.specs.declared.mending.Mending.{Mending}
-use Rattle.tx_mend.specs.declared.mending.Mending.TheVariants.{Mended, NoRouting}
 use Rattle.tx_mend.specs.Mendings.{IsRightMending}
 use Rattle.tx_mend.specs.MendText.{mend_report, MendToldInPart}
 use Rattle.tx_jobs.specs.declared.job_fault.JobFault.{JobFault}
@@ -25,8 +24,3 @@ abbrev pub MendJobAnswers : {A : Type 0} → (limit spare : ℕ) → Input → O
     → Result (Mending A) JobFault → Type 0
 MendJobAnswers limit spare plan out result =
     PlanRead plan (λ p. ToldMending p limit spare out result) ⊎ PlanRefused plan out.silent result
-
--- 0 where the plan is mended, else 1
-abbrev pub status_of_mending : {A : Type 0} → Mending A → ℕ
-status_of_mending (Mended q before cert) = 0
-status_of_mending (NoRouting q unserved pair) = 1

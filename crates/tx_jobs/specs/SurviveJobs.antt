@@ -1,11 +1,9 @@
 -- What `survive PLAN` answers: what its calls do, one after another.
-use Rattle.std.specs.Prelude.{◌≡◌, ◌⊎◌, ℕ, List, [], ◌∷◌, None, Result, Ok, Err}
+use Rattle.std.specs.Prelude.{◌≡◌, ◌⊎◌, List, [], None, Result, Ok, Err}
 use Rattle.std.specs.Io.KnownBytes.{append_known}
 use Rattle.tx_text.specs.Ends.{StopsIn, Input, Output}
 use Rattle.tx_text.specs.declared.frame.FaultAt.{FaultAt}
 use Rattle.tx_plan.specs.Plan.{Plan}
-use Rattle.tx_plantext.specs.declared.fault.PlanWord.{PlanWord}
-use Rattle.tx_plantext.specs.PlanText.{ReadsPlan}
 use Rattle.tx_risk.specs.NamedRisks.{NamedRisk, AreRisksFor}
 use Rattle.tx_risk.specs.Outages.{AreAllCuts}
 use Rattle.tx_risk.specs.Survivals.{HasGrade}
@@ -16,10 +14,7 @@ use Rattle.tx_risk_text.specs.declared.fault.RiskWord.{RiskWord}
 use Rattle.tx_risk_text.specs.RiskText.{ReadsRisks}
 use Rattle.tx_jobs.specs.declared.job_fault.JobFault.{JobFault}
 use Rattle.tx_jobs.specs.declared.job_fault.JobFault.TheVariants.{Write, NoMemory}
-use Rattle.tx_jobs.specs.declared.survive_fault.SurviveFault.{SurviveFault}
-use Rattle.tx_jobs.specs.declared.survive_fault.SurviveFault.TheVariants.{Job, Risks}
-use Rattle.tx_jobs.specs.JobFaults.{plan_fault}
-use Rattle.tx_jobs.specs.SurviveFaults.{risks_fault}
+use Rattle.tx_jobs.specs.JobFaults.{risks_fault}
 use Rattle.tx_jobs.specs.Jobs.{PlanRead, PlanRefused}
 use Rattle.tx_jobs.specs.GradeJobs.{IsGradeOf}
 
@@ -51,13 +46,6 @@ abbrev pub SurviveJobAnswers : {A : Type 0} → Input → Output → Result (Sur
 SurviveJobAnswers plan out result =
     PlanRead plan (λ p. ToldSurvival p [] out result) ⊎ PlanRefused plan out.silent result
 
--- the same, once the text was read
-abbrev pub ToldOfRisks : {A : Type 0} → Plan → List NamedRisk → Output
-    → Result (Survival A) SurviveFault → Type 0
-ToldOfRisks p risks out (Ok survival) = ToldSurvival p risks out (Ok survival)
-ToldOfRisks {A} p risks out (Err (Job f)) = ToldSurvival {A = A} p risks out (Err f)
-ToldOfRisks p risks out (Err (Risks f)) = ⊥
-
 -- the text of risks was read, and then the outages were tried
 pub record RisksRead (p : Plan) (text : Input) (after : List NamedRisk → Type 0) : Type 0 where
   pub risks : List NamedRisk
@@ -67,39 +55,21 @@ pub record RisksRead (p : Plan) (text : Input) (after : List NamedRisk → Type 
 
 -- the text of risks was refused, and nothing was written
 pub record RisksRefused {X : Type 0} (p : Plan) (text : Input) (untouched : Type 0)
-    (result : Result X SurviveFault) : Type 0 where
+    (result : Result X JobFault) : Type 0 where
   pub fault : FaultAt RiskWord
   pub read : ReadsRisks p text (Err (fault.line, fault.kind))
   pub told : result ≡ Err (risks_fault fault)
   pub rest : untouched
 
 -- the text of risks was read and the outages tried, or the text was refused
-abbrev pub RisksAnswers : {A : Type 0} → Plan → Input → Output → Result (Survival A) SurviveFault
+abbrev pub RisksAnswers : {A : Type 0} → Plan → Input → Output → Result (Survival A) JobFault
     → Type 0
 RisksAnswers p risks out result =
-    RisksRead p risks (λ rs. ToldOfRisks p rs out result) ⊎ RisksRefused p risks out.silent result
-
--- the plan was refused, and nothing else was read or written
-pub record RefusedFirst {X : Type 0} (text : Input) (untouched : Type 0)
-    (result : Result X SurviveFault) : Type 0 where
-  pub fault : FaultAt PlanWord
-  pub read : ReadsPlan text (Err (fault.line, fault.kind))
-  pub told : result ≡ Err (Job (plan_fault fault))
-  pub rest : untouched
+    RisksRead p risks (λ rs. ToldSurvival p rs out result) ⊎ RisksRefused p risks out.silent result
 
 -- `survive PLAN --risks FILE`
 abbrev pub SurviveRisksJobAnswers : {A : Type 0} → (plan risks : Input) → Output
-    → Result (Survival A) SurviveFault → Type 0
+    → Result (Survival A) JobFault → Type 0
 SurviveRisksJobAnswers plan risks out result =
     PlanRead plan (λ p. RisksAnswers p risks out result)
-    ⊎ RefusedFirst plan (risks.unread × out.silent) result
-
--- the exit status: 0 where nothing is cut off, else 1; 1 too where the plan has no grade
-abbrev pub status_of_cuts : {A : Type 0} → List A → ℕ
-status_of_cuts [] = 0
-status_of_cuts (cut ∷ cuts) = 1
-
--- the exit status of what was found
-abbrev pub status_of_survival : {A : Type 0} → Survival A → ℕ
-status_of_survival (Tried cuts) = status_of_cuts cuts.items
-status_of_survival (Ungraded grade) = 1
+    ⊎ PlanRefused plan (risks.unread × out.silent) result

@@ -1,6 +1,5 @@
--- What a run answers where more is printed: each event before its reply, a summary, or by the exit
--- status that an event was refused.
-use Rattle.std.specs.Prelude.{◌≡◌, ◌⊎◌, ℕ, Bool, not, ◌&&◌, ◌==◌, if◌then◌else◌, Result}
+-- What a run answers where more is printed: each event before its reply, or a summary.
+use Rattle.std.specs.Prelude.{◌≡◌, ◌⊎◌, Result}
 use Rattle.tx_plan.specs.Plan.{Plan}
 use Rattle.tx_machine.specs.State.{State}
 use Rattle.tx_script.specs.declared.summary.Summary.{Summary}
@@ -31,11 +30,3 @@ abbrev pub TellingJobAnswers : Telling → (plan script : Input) → Output
 TellingJobAnswers t plan script out result =
     PlanRead plan (λ p. ScriptTold p t script out result)
     ⊎ PlanRefused plan (script.unread × out.silent) result
-
--- an event of the run was refused
-abbrev pub has_refused : Summary → Bool
-has_refused s = not (s.refused == 0)
-
--- with `--strict` 1 where an event was refused, else 0
-abbrev pub status_of_replies : (strict : Bool) → Summary → ℕ
-status_of_replies strict s = if strict && has_refused s then 1 else 0

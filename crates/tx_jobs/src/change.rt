@@ -4,11 +4,11 @@ ghost use Rattle.std.specs.List.{AllByRecursion};
 ghost use Rattle.tx_text.specs.Calls.{CallsAtMost, source_calls};
 ghost use Rattle.tx_plan.specs.Mixtures.{SameNetwork};
 ghost use Rattle.tx_change.specs.Shown.{IsShown};
-ghost use Rattle.tx_jobs.specs.ChangeFaults.{change_mark_after};
+ghost use Rattle.tx_jobs.specs.JobFaults.{mark_after};
 ghost use Rattle.tx_text.specs.Ends.{input, output};
 ghost use Rattle.tx_jobs.specs.ChangeJobs.{ChangeJobAnswers, NewPlanAnswers, ToldChange, OnUnsoundChange};
 
-use crate::change_fault::ChangeFault;
+use crate::job_fault::JobFault;
 use std::alloc::{Allocator, Global};
 use tx_cert::Cert;
 use tx_change::{change, first_difference};
@@ -53,7 +53,7 @@ pub fn change_job<A: Allocator + Copy, P: Source, Q: Source, W: Sink>(
     limit: u8,
     spare: u8,
     out: &mut W,
-) -> Result<Changed<A>, ChangeFault>
+) -> Result<Changed<A>, JobFault>
     requires limit { limit ≤ 62 }
     requires spare { spare ≤ 15 }
     ensures answers { ChangeJobAnswers limit spare (input P.rest P.failed P.called old.old old.new)
@@ -61,13 +61,13 @@ pub fn change_job<A: Allocator + Copy, P: Source, Q: Source, W: Sink>(
     ensures network { IfOk result (OnUnsoundChange (λ p q findings. SameNetwork p q)) }
     ensures each { IfOk result (OnUnsoundChange (λ p q findings.
         AllByRecursion (IsShown p q limit spare) findings)) }
-    ensures mark { W.failed out.new ≡ change_mark_after (W.failed out.old) result }
+    ensures mark { W.failed out.new ≡ mark_after (W.failed out.old) result }
     ensures old_calls { CallsAtMost P.called source_calls old.old old.new }
     ensures new_calls { CallsAtMost Q.called source_calls new.old new.new }
 {
     match read_plan_from(alloc, old) {
         Ok(plan) => change_from(alloc, plan, new, Limits { limit, spare }, out),
-        Err(fault) => Err(ChangeFault::of_old_plan(fault)),
+        Err(fault) => Err(JobFault::of_old_plan(fault)),
     }
 }
 
@@ -78,18 +78,18 @@ fn change_from<A: Allocator + Copy, Q: Source, W: Sink>(
     new: &mut Q,
     limits: Limits,
     out: &mut W,
-) -> Result<Changed<A>, ChangeFault>
+) -> Result<Changed<A>, JobFault>
     ensures answers { NewPlanAnswers old limits.limit limits.spare
         (input Q.rest Q.failed Q.called new.old new.new) (output W.taken out.old out.new) result }
     ensures network { IfOk result (OnUnsoundChange (λ p q findings. SameNetwork p q)) }
     ensures each { IfOk result (OnUnsoundChange (λ p q findings.
         AllByRecursion (IsShown p q limits.limit limits.spare) findings)) }
-    ensures mark { W.failed out.new ≡ change_mark_after (W.failed out.old) result }
+    ensures mark { W.failed out.new ≡ mark_after (W.failed out.old) result }
     ensures calls { CallsAtMost Q.called source_calls new.old new.new }
 {
     match read_plan_from(alloc, new) {
         Ok(plan) => change_into(alloc, old, plan, limits, out),
-        Err(fault) => Err(ChangeFault::of_new_plan(fault)),
+        Err(fault) => Err(JobFault::of_new_plan(fault)),
     }
 }
 
@@ -100,16 +100,16 @@ fn change_into<A: Allocator + Copy, W: Sink>(
     new: Plan<A>,
     limits: Limits,
     out: &mut W,
-) -> Result<Changed<A>, ChangeFault>
+) -> Result<Changed<A>, JobFault>
     ensures told { ToldChange old new limits.limit limits.spare
         (output W.taken out.old out.new) result }
     ensures network { IfOk result (OnUnsoundChange (λ p q findings. SameNetwork p q)) }
     ensures each { IfOk result (OnUnsoundChange (λ p q findings.
         AllByRecursion (IsShown p q limits.limit limits.spare) findings)) }
-    ensures mark { W.failed out.new ≡ change_mark_after (W.failed out.old) result }
+    ensures mark { W.failed out.new ≡ mark_after (W.failed out.old) result }
 {
     if let Some(difference) = first_difference(&old, &new) {
-        return Err(ChangeFault::TwoNetworks(difference));
+        return Err(JobFault::TwoNetworks(difference));
     }
     let ranking = change(alloc, &old, &new, limits)?;
     write_report(b"CHANGE", &old, &ranking, limits, out)?;

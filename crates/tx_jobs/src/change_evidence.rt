@@ -4,13 +4,13 @@ ghost use Rattle.std.specs.List.{AllByRecursion};
 ghost use Rattle.tx_text.specs.Calls.{CallsAtMost, source_calls};
 ghost use Rattle.tx_plan.specs.Mixtures.{SameNetwork};
 ghost use Rattle.tx_change.specs.Shown.{IsShown};
-ghost use Rattle.tx_jobs.specs.ChangeFaults.{change_mark_after};
+ghost use Rattle.tx_jobs.specs.JobFaults.{mark_after};
 ghost use Rattle.tx_text.specs.Ends.{input, output};
 ghost use Rattle.tx_jobs.specs.ChangeJobs.{OnUnsoundChange};
 ghost use Rattle.tx_jobs.specs.ChangeEvidences.{ChangeEvidenceAnswers, IsChangeEvidenceOf, IsMixtureOf};
 
 use crate::change::{Changed, change_job};
-use crate::change_fault::ChangeFault;
+use crate::job_fault::JobFault;
 use crate::mixture::{ChangeEvidence, Mixture};
 use std::alloc::Allocator;
 use tx_change::first_mixture;
@@ -31,13 +31,13 @@ pub fn change_evidence_job<A: Allocator + Copy, P: Source, Q: Source, W: Sink>(
     spare: u8,
     with_mixture: bool,
     out: &mut W,
-) -> Result<ChangeEvidence<A>, ChangeFault>
+) -> Result<ChangeEvidence<A>, JobFault>
     requires limit { limit ≤ 62 }
     requires spare { spare ≤ 15 }
     ensures answers { ChangeEvidenceAnswers with_mixture limit spare
         (input P.rest P.failed P.called old.old old.new)
         (input Q.rest Q.failed Q.called new.old new.new) (output W.taken out.old out.new) result }
-    ensures mark { W.failed out.new ≡ change_mark_after (W.failed out.old) result }
+    ensures mark { W.failed out.new ≡ mark_after (W.failed out.old) result }
     ensures old_calls { CallsAtMost P.called source_calls old.old old.new }
     ensures new_calls { CallsAtMost Q.called source_calls new.old new.new }
 {
@@ -51,7 +51,7 @@ fn change_evidence_of<A: Allocator + Copy>(
     changed: Changed<A>,
     limits: Limits,
     with_mixture: bool,
-) -> Result<ChangeEvidence<A>, ChangeFault>
+) -> Result<ChangeEvidence<A>, JobFault>
     requires network { OnUnsoundChange (λ p q findings. SameNetwork p q) changed }
     requires each { OnUnsoundChange (λ p q findings.
         AllByRecursion (IsShown p q limits.limit limits.spare) findings) changed }
@@ -76,7 +76,7 @@ fn mixture_of<A: Allocator + Copy>(
     new: Plan<A>,
     findings: Vec<Finding<A>, A>,
     limits: Limits,
-) -> Result<ChangeEvidence<A>, ChangeFault>
+) -> Result<ChangeEvidence<A>, JobFault>
     requires network { SameNetwork old new }
     requires each { AllByRecursion (IsShown old new limits.limit limits.spare) findings.items }
     ensures { IsMixtureOf old new limits.limit limits.spare findings.items result }

@@ -3,7 +3,7 @@ ghost use Rattle.std.specs.Prelude.{◌≡◌, ◌≤◌};
 ghost use Rattle.tx_text.specs.Calls.{CallsAtMost, source_calls};
 ghost use Rattle.tx_jobs.specs.JobFaults.{mark_after};
 ghost use Rattle.tx_text.specs.Ends.{input, output};
-ghost use Rattle.tx_jobs.specs.CheckJobs.{CheckJobAnswers, CheckStatusAnswers, CheckAnswers, ToldVerdict, status_for};
+ghost use Rattle.tx_jobs.specs.CheckJobs.{CheckJobAnswers, CheckAnswers, ToldVerdict};
 
 use crate::job_fault::JobFault;
 use std::alloc::Allocator;
@@ -34,37 +34,6 @@ pub fn check_job<A: Allocator + Copy, P: Source, R: Source, W: Sink>(
 {
     let plan = read_plan_from(alloc, plan)?;
     check_cert(alloc, &plan, cert, limit, spare, out)
-}
-
-/// Does the job of `check_job`, and answers the exit status: 0 after a Yes, 1 after a No.
-pub fn check_status<A: Allocator + Copy, P: Source, R: Source, W: Sink>(
-    alloc: A,
-    plan: &mut P,
-    cert: &mut R,
-    limit: u8,
-    spare: u8,
-    out: &mut W,
-) -> Result<u8, JobFault>
-    requires limit { limit ≤ 62 }
-    requires spare { spare ≤ 15 }
-    ensures answers { CheckStatusAnswers limit spare
-        (input P.rest P.failed P.called plan.old plan.new)
-        (input R.rest R.failed R.called cert.old cert.new) (output W.taken out.old out.new) result }
-    ensures mark { W.failed out.new ≡ mark_after (W.failed out.old) result }
-    ensures plan_calls { CallsAtMost P.called source_calls plan.old plan.new }
-    ensures cert_calls { CallsAtMost R.called source_calls cert.old cert.new }
-{
-    let verdict = check_job(alloc, plan, cert, limit, spare, out)?;
-    Ok(status_of(&verdict))
-}
-
-fn status_of(verdict: &Verdict) -> u8
-    ensures { result ≡ status_for verdict.now }
-{
-    match verdict {
-        Verdict::Yes => 0,
-        Verdict::No(_) => 1,
-    }
 }
 
 /// Reads a certificate of the plan, and writes the verdict.

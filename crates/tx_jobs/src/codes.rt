@@ -3,7 +3,7 @@ ghost use Rattle.std.specs.Prelude.{◌≡◌};
 ghost use Rattle.tx_text.specs.Calls.{CallsAtMost, source_calls};
 ghost use Rattle.tx_jobs.specs.JobFaults.{mark_after};
 ghost use Rattle.tx_text.specs.Ends.{input, output};
-ghost use Rattle.tx_jobs.specs.Jobs.{CodesJobAnswers, CodesStatusAnswers, ToldCodes};
+ghost use Rattle.tx_jobs.specs.Jobs.{CodesJobAnswers, ToldCodes};
 
 use crate::job_fault::JobFault;
 use std::alloc::Allocator;
@@ -27,24 +27,6 @@ pub fn codes_job<A: Allocator + Copy, P: Source, W: Sink>(
 {
     let plan = read_plan_from(alloc, plan)?;
     tell_codes(alloc, &plan, out)
-}
-
-/// Does the job of `codes_job`, and answers the exit status: 0 where no code begins another, else
-/// 1.
-pub fn codes_status<A: Allocator + Copy, P: Source, W: Sink>(
-    alloc: A,
-    plan: &mut P,
-    out: &mut W,
-) -> Result<u8, JobFault>
-    ensures answers { CodesStatusAnswers (input P.rest P.failed P.called plan.old plan.new)
-        (output W.taken out.old out.new) result }
-    ensures mark { W.failed out.new ≡ mark_after (W.failed out.old) result }
-    ensures calls { CallsAtMost P.called source_calls plan.old plan.new }
-{
-    match codes_job(alloc, plan, out)? {
-        None => Ok(0),
-        Some(_) => Ok(1),
-    }
 }
 
 fn tell_codes<A: Allocator + Copy, W: Sink>(

@@ -14,20 +14,10 @@ use tx_plantext::read_plan_from;
 use tx_rank::{Finding, Ranking, rank, reached};
 use tx_text::{NoMemory, Sink, Source};
 
-/// What a plan to draw came to.
-#[derive(Clone, Copy, Debug)]
-pub enum Drawn {
-    /// The picture was written.
-    Picture,
-    /// The plan has no code of the figures that were asked for.
-    NoSuchCode,
-}
-
 /// Reads a plan, and writes its picture; with the figures of a code that of the routes for the
 /// code, and with a limit and a spare number too that with the walk of the code's first finding.
 ///
-/// Answers whether the picture was written, or the plan has no such code. Nothing is written where
-/// it has none or is refused, or where memory runs out.
+/// Nothing is written where the plan is refused or has no such code, or where memory runs out.
 /// Without a code the limit and the spare number change nothing.
 pub fn draw_job<A: Allocator + Copy, P: Source, W: Sink>(
     alloc: A,
@@ -35,7 +25,7 @@ pub fn draw_job<A: Allocator + Copy, P: Source, W: Sink>(
     code: Option<&[u8]>,
     bounds: Option<(u8, u8)>,
     out: &mut W,
-) -> Result<Drawn, JobFault>
+) -> Result<(), JobFault>
     requires limit { IfSome bounds (λ b. b.0 ≤ 62) }
     requires spare { IfSome bounds (λ b. b.1 ≤ 15) }
     ensures answers { DrawJobAnswers A (option_map (λ f. f.now) code.entry) bounds
@@ -54,7 +44,7 @@ fn draw_plan<A: Allocator + Copy, W: Sink>(
     code: Option<&[u8]>,
     bounds: Option<(u8, u8)>,
     out: &mut W,
-) -> Result<Drawn, JobFault>
+) -> Result<(), JobFault>
     requires limit { IfSome bounds (λ b. b.0 ≤ 62) }
     requires spare { IfSome bounds (λ b. b.1 ≤ 15) }
     ensures drew { Drew A plan.now (option_map (λ f. f.now) code.entry) bounds
@@ -65,17 +55,17 @@ fn draw_plan<A: Allocator + Copy, W: Sink>(
         None => draw_whole(plan, out),
         Some(figures) => match plan.code_named(figures) {
             Some(code) => draw_code(alloc, plan, code, bounds, out),
-            None => Ok(Drawn::NoSuchCode),
+            None => Err(JobFault::NoSuchCode),
         },
     }
 }
 
-fn draw_whole<A: Allocator, W: Sink>(plan: &Plan<A>, out: &mut W) -> Result<Drawn, JobFault>
+fn draw_whole<A: Allocator, W: Sink>(plan: &Plan<A>, out: &mut W) -> Result<(), JobFault>
     ensures told { ToldText (drawing plan.now) (output W.taken out.old out.new) result }
     ensures mark { W.failed out.new ≡ mark_after (W.failed out.old) result }
 {
     write_drawing(plan, out)?;
-    Ok(Drawn::Picture)
+    Ok(())
 }
 
 fn draw_code<A: Allocator + Copy, W: Sink>(
@@ -84,7 +74,7 @@ fn draw_code<A: Allocator + Copy, W: Sink>(
     code: CodeId,
     bounds: Option<(u8, u8)>,
     out: &mut W,
-) -> Result<Drawn, JobFault>
+) -> Result<(), JobFault>
     requires code { code < length plan.now.codes }
     requires limit { IfSome bounds (λ b. b.0 ≤ 62) }
     requires spare { IfSome bounds (λ b. b.1 ≤ 15) }
@@ -122,7 +112,7 @@ fn draw_finding<A: Allocator + Copy, W: Sink>(
     bounds: Option<(u8, u8)>,
     findings: &[Finding<A>],
     out: &mut W,
-) -> Result<Drawn, JobFault>
+) -> Result<(), JobFault>
     requires code { code < length plan.now.codes }
     requires found { AreToShow plan.now bounds findings.now }
     ensures drew { DrewCode A plan.now code bounds (output W.taken out.old out.new) result }
@@ -130,5 +120,5 @@ fn draw_finding<A: Allocator + Copy, W: Sink>(
 {
     let marks = reached(alloc, plan, code)?;
     write_code_drawing(plan, code, &marks, findings, out)?;
-    Ok(Drawn::Picture)
+    Ok(())
 }

@@ -23,18 +23,3 @@ pub enum Evidence<A: Allocator = Global> {
     /// After a No, the script of the first finding that has one, if it was asked for.
     Unsound(Option<CounterScript<A>>),
 }
-
-impl<A: Allocator> Evidence<A> {
-    ghost use Rattle.std.specs.Prelude.{◌≡◌};
-    ghost use Rattle.tx_jobs.specs.Evidences.{status_of_evidence};
-
-    /// The exit status of the audit: 0 after a Yes, 1 after a No.
-    pub fn status(&self) -> u8
-        ensures { result ≡ status_of_evidence self.now }
-    {
-        match self {
-            Evidence::Sound(_, _) => 0,
-            Evidence::Unsound(_) => 1,
-        }
-    }
-}

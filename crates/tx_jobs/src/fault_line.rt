@@ -1,9 +1,13 @@
 // The line that says why a job stopped.
+ghost use Rattle.std.specs.Prelude.{◌≡◌};
 ghost use Rattle.tx_text.specs.Wrote.{Wrote};
-ghost use Rattle.tx_jobs.specs.JobFaults.{fault_line, text_fault_line};
+ghost use Rattle.tx_plantext.specs.PlanFaults.{fault_row};
+ghost use Rattle.tx_jobs.specs.JobFaults.{fault_line, text_fault_line, difference_line, list_word};
 
 use crate::job_fault::JobFault;
 use itoa::Buffer;
+use tx_change::{Difference, NetworkList};
+use tx_plantext::PlanFault;
 use tx_text::{Sink, WriteFault, write_bytes, write_parts};
 
 /// Writes the line that reports a fault, as `telexplan: plan line 5: P11 Overlap`, with its LF.
@@ -11,10 +15,9 @@ pub fn write_fault<W: Sink>(fault: &JobFault, sink: &mut W) -> Result<(), WriteF
     ensures { Wrote W.taken W.failed sink.old sink.new (fault_line fault.now) result }
 {
     match fault {
-        JobFault::Plan(fault) => {
-            let row = tx_plantext::code_and_name(fault.kind);
-            write_text_fault(b"plan", fault.line, row, sink)
-        }
+        JobFault::Plan(fault) => write_plan_fault(b"plan", fault, sink),
+        JobFault::OldPlan(fault) => write_plan_fault(b"old plan", fault, sink),
+        JobFault::NewPlan(fault) => write_plan_fault(b"new plan", fault, sink),
         JobFault::Cert(fault) => {
             let row = tx_cert::code_and_name(fault.kind);
             write_text_fault(b"certificate", fault.line, row, sink)
@@ -23,14 +26,32 @@ pub fn write_fault<W: Sink>(fault: &JobFault, sink: &mut W) -> Result<(), WriteF
             let row = tx_script::code_and_name(fault.kind);
             write_text_fault(b"script", fault.line, row, sink)
         }
+        JobFault::Risks(fault) => {
+            let row = tx_risk_text::code_and_name(fault.kind);
+            write_text_fault(b"risks", fault.line, row, sink)
+        }
+        JobFault::TwoNetworks(difference) => write_difference(difference, sink),
         JobFault::Read => write_bytes(b"telexplan: read fault\n", sink),
         JobFault::Write => write_bytes(b"telexplan: write fault\n", sink),
         JobFault::NoMemory => write_bytes(b"telexplan: no memory\n", sink),
+        JobFault::NoSuchExchange => {
+            write_bytes(b"telexplan: no such exchange in the plan\n", sink)
+        }
+        JobFault::NoSuchCode => write_bytes(b"telexplan: no such code in the plan\n", sink),
     }
 }
 
+/// Writes the line of a fault of a plan's text.
+fn write_plan_fault<W: Sink>(text: &[u8], fault: &PlanFault, sink: &mut W) -> Result<(), WriteFault>
+    ensures { Wrote W.taken W.failed sink.old sink.new
+        (text_fault_line text.now fault.now.line (fault_row fault.now.kind)) result }
+{
+    let row = tx_plantext::code_and_name(fault.kind);
+    write_text_fault(text, fault.line, row, sink)
+}
+
 /// Writes the line of a fault of a text: which text it is, and its row, of a code and a name.
-pub(crate) fn write_text_fault<'a, W: Sink>(
+fn write_text_fault<'a, W: Sink>(
     text: &'a [u8],
     line: u64,
     row: (&'a [u8], &'a [u8]),
@@ -54,4 +75,33 @@ pub(crate) fn write_text_fault<'a, W: Sink>(
         ],
         sink,
     )
+}
+
+/// Writes the first entry in which two plans are not of one network, by its place from 1.
+fn write_difference<W: Sink>(difference: &Difference, sink: &mut W) -> Result<(), WriteFault>
+    ensures { Wrote W.taken W.failed sink.old sink.new (difference_line difference.now) result }
+{
+    let mut number = Buffer::new();
+    write_parts(
+        &[
+            b"telexplan: plans of two networks: ",
+            list_word(difference.list),
+            b" ",
+            number.format(u32::from(difference.place) + 1).as_bytes(),
+            b" differs\n",
+        ],
+        sink,
+    )
+}
+
+/// The word that begins the lines of a list.
+fn list_word(list: NetworkList) -> &'static [u8]
+    ensures { result.now ≡ list_word list }
+{
+    match list {
+        NetworkList::Exchanges => b"EXCHANGE",
+        NetworkList::Codes => b"CODE",
+        NetworkList::Ranges => b"LINES",
+        NetworkList::Groups => b"GROUP",
+    }
 }

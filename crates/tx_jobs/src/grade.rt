@@ -4,7 +4,7 @@ ghost use Rattle.tx_text.specs.Calls.{CallsAtMost, source_calls};
 ghost use Rattle.tx_plan.specs.Rules.{IsPlan};
 ghost use Rattle.tx_jobs.specs.JobFaults.{mark_after};
 ghost use Rattle.tx_text.specs.Ends.{input, output};
-ghost use Rattle.tx_jobs.specs.GradeJobs.{GradeJobAnswers, GradeStatusAnswers, ToldGrade, status_of_grade};
+ghost use Rattle.tx_jobs.specs.GradeJobs.{GradeJobAnswers, ToldGrade};
 
 use crate::job_fault::JobFault;
 use std::alloc::Allocator;
@@ -29,30 +29,6 @@ pub fn grade_job<A: Allocator + Copy, P: Source, W: Sink>(
 {
     let plan = read_plan_from(alloc, plan)?;
     tell_grade(alloc, &plan, out)
-}
-
-/// Does the job of `grade_job`, and answers the exit status: 0 where there is a grade, else 1.
-pub fn grade_status<A: Allocator + Copy, P: Source, W: Sink>(
-    alloc: A,
-    plan: &mut P,
-    out: &mut W,
-) -> Result<u8, JobFault>
-    ensures answers { GradeStatusAnswers A (input P.rest P.failed P.called plan.old plan.new)
-        (output W.taken out.old out.new) result }
-    ensures mark { W.failed out.new ≡ mark_after (W.failed out.old) result }
-    ensures calls { CallsAtMost P.called source_calls plan.old plan.new }
-{
-    let grade = grade_job(alloc, plan, out)?;
-    Ok(status_of(&grade))
-}
-
-fn status_of<A: Allocator>(grade: &Grade<A>) -> u8
-    ensures { result ≡ status_of_grade grade.now }
-{
-    match grade.plan {
-        Some(_) => 0,
-        None => 1,
-    }
 }
 
 fn tell_grade<A: Allocator + Copy, W: Sink>(

@@ -1,16 +1,18 @@
 // Why a job stopped.
 ghost use Rattle.std.specs.Prelude.{◌≡◌};
 ghost use Rattle.tx_jobs.specs.declared.job_fault.JobFault.TheVariants.{NoMemory as OutOfMemory, Write as WriteFailed};
-ghost use Rattle.tx_jobs.specs.JobFaults.{status_of, plan_fault, cert_fault, script_fault, run_fault};
+ghost use Rattle.tx_jobs.specs.JobFaults.{status_of, plan_fault, old_plan_fault, new_plan_fault, cert_fault, script_fault, risks_fault, run_fault};
 ghost use Rattle.tx_jobs.specs.AuditJobs.{audit_fault};
 ghost use Rattle.tx_jobs.specs.LintJobs.{lint_fault};
 
 use thiserror::Error;
 use tx_audit::AuditFault;
 use tx_cert::{CertFault, CertWord};
+use tx_change::Difference;
 use tx_lint::LintFault;
 use tx_plan::PlanRefusal;
 use tx_plantext::{PlanFault, PlanWord};
+use tx_risk_text::{RiskFault, RiskWord};
 use tx_script::{RunCause, RunFault, ScriptFault};
 use tx_text::{FaultKind, FrameFault, NoMemory, WriteFault};
 
@@ -35,6 +37,24 @@ pub enum JobFault {
     /// No memory was left.
     #[error("no memory")]
     NoMemory,
+    /// The text of the plan that is in force is refused.
+    #[error("old plan {0}")]
+    OldPlan(PlanFault),
+    /// The text of the plan that is to be is refused.
+    #[error("new plan {0}")]
+    NewPlan(PlanFault),
+    /// The plans of a change are of two networks: the first entry that differs.
+    #[error("the plans are of two networks")]
+    TwoNetworks(Difference),
+    /// The text of risks is refused.
+    #[error("risks {0}")]
+    Risks(RiskFault),
+    /// The plan has no exchange of the name that was asked for.
+    #[error("the plan has no such exchange")]
+    NoSuchExchange,
+    /// The plan has no code of the figures that were asked for.
+    #[error("the plan has no such code")]
+    NoSuchCode,
 }
 
 impl From<NoMemory> for JobFault {
@@ -123,6 +143,34 @@ impl From<ScriptFault> for JobFault {
     }
 }
 
+/// A failure to read and a lack of memory are reported as such.
+impl From<RiskFault> for JobFault {
+    ghost from_gives = { λ risks fault. fault ≡ risks_fault risks };
+
+    fn from(fault: RiskFault) -> JobFault {
+        match fault.kind {
+            FaultKind::Frame(FrameFault::Read) => JobFault::Read,
+            FaultKind::Frame(FrameFault::NoMemory) | FaultKind::Word(RiskWord::NoMemory) =>
+                JobFault::NoMemory,
+            FaultKind::Frame(
+                FrameFault::LineTooLong
+                | FrameFault::BadByte
+                | FrameFault::NoHeader
+                | FrameFault::NoEnd
+                | FrameFault::AfterEnd,
+            )
+            | FaultKind::Word(
+                RiskWord::UnknownWord
+                | RiskWord::WrongCount
+                | RiskWord::BadName
+                | RiskWord::Duplicate
+                | RiskWord::UnknownName
+                | RiskWord::RepeatedGroup,
+            ) => JobFault::Risks(fault),
+        }
+    }
+}
+
 impl From<RunFault> for JobFault {
     ghost from_gives = { λ run fault. fault ≡ run_fault run };
 
@@ -160,15 +208,42 @@ impl From<LintFault> for JobFault {
 }
 
 impl JobFault {
-    /// The exit status: 2 for a refused text, 3 for a read or a write fault, 4 when memory runs
-    /// out.
+    /// The exit status: 2 for a refused text and for plans of two networks, 3 for a read or a write
+    /// fault, 4 when memory runs out, 64 for an exchange or a code that the plan does not have.
     pub fn status(&self) -> u8
         ensures { result ≡ status_of self.now }
     {
         match self {
-            JobFault::Plan(_) | JobFault::Cert(_) | JobFault::Script(_) => 2,
+            JobFault::Plan(_)
+            | JobFault::Cert(_)
+            | JobFault::Script(_)
+            | JobFault::OldPlan(_)
+            | JobFault::NewPlan(_)
+            | JobFault::TwoNetworks(_)
+            | JobFault::Risks(_) => 2,
             JobFault::Read | JobFault::Write => 3,
             JobFault::NoMemory => 4,
+            JobFault::NoSuchExchange | JobFault::NoSuchCode => 64,
+        }
+    }
+
+    /// A fault of the old plan of a change.
+    pub(crate) fn of_old_plan(fault: PlanFault) -> JobFault
+        ensures { result ≡ old_plan_fault fault }
+    {
+        match JobFault::from(fault) {
+            JobFault::Plan(fault) => JobFault::OldPlan(fault),
+            other => other,
+        }
+    }
+
+    /// A fault of the new plan of a change.
+    pub(crate) fn of_new_plan(fault: PlanFault) -> JobFault
+        ensures { result ≡ new_plan_fault fault }
+    {
+        match JobFault::from(fault) {
+            JobFault::Plan(fault) => JobFault::NewPlan(fault),
+            other => other,
         }
     }
 }

@@ -3,7 +3,7 @@ ghost use Rattle.std.specs.Prelude.{◌≡◌, ◌≤◌};
 ghost use Rattle.tx_text.specs.Calls.{CallsAtMost, source_calls};
 ghost use Rattle.tx_jobs.specs.JobFaults.{mark_after};
 ghost use Rattle.tx_text.specs.Ends.{input, output};
-ghost use Rattle.tx_jobs.specs.MendJobs.{MendJobAnswers, ToldMending, status_of_mending};
+ghost use Rattle.tx_jobs.specs.MendJobs.{MendJobAnswers, ToldMending};
 
 use crate::job_fault::JobFault;
 use std::alloc::Allocator;
@@ -33,16 +33,6 @@ pub fn mend_job<A: Allocator + Copy, P: Source, W: Sink>(
 {
     let plan = read_plan_from(alloc, plan)?;
     tell_mending(alloc, plan, Limits { limit, spare }, out)
-}
-
-/// The exit status of a mending: 0 where the plan is mended, else 1.
-pub fn mending_status<A: Allocator>(mending: &Mending<A>) -> u8
-    ensures { result ≡ status_of_mending mending.now }
-{
-    match mending {
-        Mending::Mended(_, _, _) => 0,
-        Mending::NoRouting(_, _, _) => 1,
-    }
 }
 
 /// Mends a plan, and writes the report.

@@ -33,16 +33,6 @@ impl<A: Allocator> Mixture<A> {
             None => Mixture::Unscripted(plan),
         }
     }
-
-    /// The plan of the mixture.
-    pub fn plan(&self) -> &Plan<A>
-        ensures { result.now ≡ mixture_plan self.now }
-    {
-        match self {
-            Mixture::Scripted(script) => &script.plan,
-            Mixture::Unscripted(plan) => plan,
-        }
-    }
 }
 
 /// What shows the verdict on a change.
@@ -52,19 +42,4 @@ pub enum ChangeEvidence<A: Allocator = Global> {
     Sound(Plan<A>, Cert<A>),
     /// After a No, the mixture of the first finding that has a walk, if it was asked for.
     Unsound(Option<Mixture<A>>),
-}
-
-impl<A: Allocator> ChangeEvidence<A> {
-    ghost use Rattle.std.specs.Prelude.{◌≡◌};
-    ghost use Rattle.tx_jobs.specs.ChangeEvidences.{status_of_change_evidence};
-
-    /// The exit status of the change: 0 after a Yes, 1 after a No.
-    pub fn status(&self) -> u8
-        ensures { result ≡ status_of_change_evidence self.now }
-    {
-        match self {
-            ChangeEvidence::Sound(_, _) => 0,
-            ChangeEvidence::Unsound(_) => 1,
-        }
-    }
 }

@@ -3,7 +3,7 @@ ghost use Rattle.std.specs.Prelude.{◌≡◌, ◌≤◌, true, OnOk, OnErr};
 ghost use Rattle.tx_text.specs.Calls.{CallsAtMost, source_calls};
 ghost use Rattle.tx_jobs.specs.JobFaults.{mark_after};
 ghost use Rattle.tx_text.specs.Ends.{input, output};
-ghost use Rattle.tx_jobs.specs.CheckedJobs.{CheckedJobAnswers, CheckedStatusAnswers, CertAnswers, ToldRun, ToldNo};
+ghost use Rattle.tx_jobs.specs.CheckedJobs.{CheckedJobAnswers, CertAnswers, ToldRun, ToldNo};
 
 use crate::job_fault::JobFault;
 use std::alloc::Allocator;
@@ -41,34 +41,6 @@ pub fn run_checked_job<A: Allocator + Copy, P: Source, C: Source, R: Source, W: 
 {
     let plan = read_plan_from(alloc, plan)?;
     read_and_run(alloc, &plan, cert, limit, spare, script, out)
-}
-
-/// Does the job of `run_checked_job`, and answers the exit status: 0 after a Yes, 1 after a No.
-pub fn run_checked_status<A: Allocator + Copy, P: Source, C: Source, R: Source, W: Sink>(
-    alloc: A,
-    plan: &mut P,
-    cert: &mut C,
-    limit: u8,
-    spare: u8,
-    script: &mut R,
-    out: &mut W,
-) -> Result<u8, JobFault>
-    requires limit { limit ≤ 62 }
-    requires spare { spare ≤ 15 }
-    ensures answers { CheckedStatusAnswers limit spare
-        (input P.rest P.failed P.called plan.old plan.new)
-        (input C.rest C.failed C.called cert.old cert.new)
-        (input R.rest R.failed R.called script.old script.new)
-        (output W.taken out.old out.new) result }
-    ensures mark { W.failed out.new ≡ mark_after (W.failed out.old) result }
-    ensures plan_calls { CallsAtMost P.called source_calls plan.old plan.new }
-    ensures cert_calls { CallsAtMost C.called source_calls cert.old cert.new }
-    ensures script_calls { CallsAtMost R.called source_calls script.old script.new }
-{
-    match run_checked_job(alloc, plan, cert, limit, spare, script, out)? {
-        Checked::Ran(_) => Ok(0),
-        Checked::Denied(_) => Ok(1),
-    }
 }
 
 /// Reads a certificate of the plan, and runs the script after a Yes.

@@ -3,12 +3,10 @@ ghost use Rattle.std.specs.Prelude.{◌≡◌, []};
 ghost use Rattle.tx_text.specs.Calls.{CallsAtMost, source_calls};
 ghost use Rattle.tx_risk.specs.NamedRisks.{AreRisksFor};
 ghost use Rattle.tx_jobs.specs.JobFaults.{mark_after};
-ghost use Rattle.tx_jobs.specs.SurviveFaults.{survive_mark_after};
 ghost use Rattle.tx_text.specs.Ends.{input, output};
-ghost use Rattle.tx_jobs.specs.SurviveJobs.{SurviveJobAnswers, SurviveRisksJobAnswers, RisksAnswers, ToldSurvival, status_of_survival};
+ghost use Rattle.tx_jobs.specs.SurviveJobs.{SurviveJobAnswers, SurviveRisksJobAnswers, RisksAnswers, ToldSurvival};
 
 use crate::job_fault::JobFault;
-use crate::survive_fault::SurviveFault;
 use std::alloc::Allocator;
 use tx_plan::Plan;
 use tx_plantext::read_plan_from;
@@ -44,28 +42,17 @@ pub fn survive_risks_job<A: Allocator + Copy, P: Source, R: Source, W: Sink>(
     plan: &mut P,
     risks: &mut R,
     out: &mut W,
-) -> Result<Survival<A>, SurviveFault>
+) -> Result<Survival<A>, JobFault>
     ensures answers { SurviveRisksJobAnswers
         (input P.rest P.failed P.called plan.old plan.new)
         (input R.rest R.failed R.called risks.old risks.new)
         (output W.taken out.old out.new) result }
-    ensures mark { W.failed out.new ≡ survive_mark_after (W.failed out.old) result }
+    ensures mark { W.failed out.new ≡ mark_after (W.failed out.old) result }
     ensures plan_calls { CallsAtMost P.called source_calls plan.old plan.new }
     ensures risks_calls { CallsAtMost R.called source_calls risks.old risks.new }
 {
     let plan = read_plan_from(alloc, plan)?;
     tell_named(alloc, &plan, risks, out)
-}
-
-/// The exit status of what was found: 0 where nothing is cut off, else 1, and 1 where the plan has
-/// no grade.
-pub fn survival_status<A: Allocator>(survival: &Survival<A>) -> u8
-    ensures { result ≡ status_of_survival survival.now }
-{
-    match survival {
-        Survival::Tried(cuts) => { if cuts.is_empty() { 0 } else { 1 } }
-        Survival::Ungraded(_) => 1,
-    }
 }
 
 /// Reports outages without named risks.
@@ -87,14 +74,14 @@ fn tell_named<A: Allocator + Copy, R: Source, W: Sink>(
     plan: &Plan<A>,
     risks: &mut R,
     out: &mut W,
-) -> Result<Survival<A>, SurviveFault>
+) -> Result<Survival<A>, JobFault>
     ensures answers { RisksAnswers plan.now (input R.rest R.failed R.called risks.old risks.new)
         (output W.taken out.old out.new) result }
-    ensures mark { W.failed out.new ≡ survive_mark_after (W.failed out.old) result }
+    ensures mark { W.failed out.new ≡ mark_after (W.failed out.old) result }
     ensures calls { CallsAtMost R.called source_calls risks.old risks.new }
 {
     let risks = read_risks_from(alloc, risks, plan)?;
-    Ok(tell_survival(alloc, plan, risks.as_slice(), out)?)
+    tell_survival(alloc, plan, risks.as_slice(), out)
 }
 
 /// Tries all outages, and writes the report.

@@ -1,10 +1,9 @@
-// The job of `run PLAN SCRIPT` where more is printed, and the exit status of a run that is to show
-// whether an event was refused.
+// The job of `run PLAN SCRIPT` where more is printed.
 ghost use Rattle.std.specs.Prelude.{◌≡◌};
 ghost use Rattle.tx_text.specs.Calls.{CallsAtMost, source_calls};
 ghost use Rattle.tx_jobs.specs.JobFaults.{mark_after};
 ghost use Rattle.tx_text.specs.Ends.{input, output};
-ghost use Rattle.tx_jobs.specs.TellingJobs.{ScriptTold, TellingJobAnswers, status_of_replies};
+ghost use Rattle.tx_jobs.specs.TellingJobs.{ScriptTold, TellingJobAnswers};
 
 use crate::job_fault::JobFault;
 use std::alloc::Allocator;
@@ -51,11 +50,4 @@ fn tell_script<A: Allocator + Copy, R: Source, W: Sink>(
 {
     let mut network = Engine::new(alloc, plan)?;
     Ok(run_telling(alloc, telling, plan, &mut network, script, out)?)
-}
-
-/// The exit status of a run: 1 where it is to be strict and an event was refused, else 0.
-pub fn replies_status(summary: &Summary, strict: bool) -> u8
-    ensures { result ≡ status_of_replies strict summary.now }
-{
-    u8::from(strict && summary.refused != 0)
 }

@@ -14,28 +14,17 @@ use tx_plantext::read_plan_from;
 use tx_text::{Sink, Source};
 use tx_trace::{trace_calls, write_trace};
 
-/// What a plan to trace calls in came to.
-#[derive(Clone, Copy, Debug)]
-pub enum Traced {
-    /// The trace was written.
-    Trace,
-    /// The plan has no exchange of the name that was asked for.
-    NoSuchExchange,
-    /// The plan has no code of the figures that were asked for.
-    NoSuchCode,
-}
-
 /// Reads a plan, and writes how calls for the code of some figures go from the exchange of a name.
 ///
-/// Answers whether the trace was written, or the plan has no such exchange or no such code. Nothing
-/// is written where it has none or is refused, or where memory runs out.
+/// Nothing is written where the plan is refused or has no such exchange or no such code, or where
+/// memory runs out.
 pub fn trace_job<A: Allocator + Copy, P: Source, W: Sink>(
     alloc: A,
     plan: &mut P,
     exchange: &[u8],
     code: &[u8],
     out: &mut W,
-) -> Result<Traced, JobFault>
+) -> Result<(), JobFault>
     ensures answers { TraceJobAnswers exchange.now code.now
         (input P.rest P.failed P.called plan.old plan.new) (output W.taken out.old out.new) result }
     ensures mark { W.failed out.new ≡ mark_after (W.failed out.old) result }
@@ -52,7 +41,7 @@ fn trace_named<A: Allocator + Copy, W: Sink>(
     exchange: &[u8],
     code: &[u8],
     out: &mut W,
-) -> Result<Traced, JobFault>
+) -> Result<(), JobFault>
     ensures traced { TracedNamed plan.now (exchange_named plan.now exchange.now)
         (code_named plan.now code.now) (output W.taken out.old out.new) result }
     ensures mark { W.failed out.new ≡ mark_after (W.failed out.old) result }
@@ -60,9 +49,9 @@ fn trace_named<A: Allocator + Copy, W: Sink>(
     match plan.exchange_named(exchange) {
         Some(exchange) => match plan.code_named(code) {
             Some(code) => trace_code(alloc, plan, code, exchange, out),
-            None => Ok(Traced::NoSuchCode),
+            None => Err(JobFault::NoSuchCode),
         },
-        None => Ok(Traced::NoSuchExchange),
+        None => Err(JobFault::NoSuchExchange),
     }
 }
 
@@ -72,7 +61,7 @@ fn trace_code<A: Allocator + Copy, W: Sink>(
     code: CodeId,
     exchange: ExchangeId,
     out: &mut W,
-) -> Result<Traced, JobFault>
+) -> Result<(), JobFault>
     requires code { code < length plan.now.codes }
     requires exchange { exchange < length plan.now.exchanges }
     ensures told { ToldTrace (trace_text plan.now code exchange) (output W.taken out.old out.new)
@@ -81,5 +70,5 @@ fn trace_code<A: Allocator + Copy, W: Sink>(
 {
     let trace = trace_calls(alloc, plan, code, exchange)?;
     write_trace(plan, &trace, out)?;
-    Ok(Traced::Trace)
+    Ok(())
 }

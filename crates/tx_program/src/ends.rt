@@ -82,13 +82,20 @@ impl<W: Write + Drop, A: Allocator> Output<W, A> {
     }
 
     /// A source over a reader, before each of whose reads the output goes out. An output that fails
-    /// then is a failure of the source too: the program reports it as the output's.
+    /// then is a failure of the source too: the program reports it as the output's. Without a
+    /// reader the source has no bytes.
     pub(crate) fn source<R: Read + Drop>(
         &self,
         alloc: A,
-        reader: R,
+        reader: Option<R>,
     ) -> Result<FromRead<Flushing<'_, R, W, A>>, JobFault> {
-        let reader = BufReader::with_capacity(alloc, ROOM, reader).or(Err(JobFault::NoMemory))?;
+        let reader = match reader {
+            Some(reader) => match BufReader::with_capacity(alloc, ROOM, reader) {
+                Ok(reader) => Some(reader),
+                Err(_) => return Err(JobFault::NoMemory),
+            },
+            None => None,
+        };
         Ok(FromRead::new(Flushing {
             reader,
             output: self,
@@ -130,15 +137,20 @@ impl<'a, W: Write + Drop, A: Allocator> Sink for OutputSink<'a, W, A> {
 /// one.
 #[derive(Drop)]
 pub(crate) struct Flushing<'a, R: Read + Drop, W: Write + Drop, A: Allocator> {
-    reader: BufReader<R, A>,
+    reader: Option<BufReader<R, A>>,
     output: &'a Output<W, A>,
 }
 
 impl<'a, R: Read + Drop, W: Write + Drop, A: Allocator> Read for Flushing<'a, R, W, A> {
     fn read(&mut self, buf: &mut [u8]) -> io::Result<usize> {
-        if self.reader.buffer().is_empty() {
-            self.output.flush()?;
+        match &mut self.reader {
+            Some(reader) => {
+                if reader.buffer().is_empty() {
+                    self.output.flush()?;
+                }
+                reader.read(buf)
+            }
+            None => Ok(0),
         }
-        self.reader.read(buf)
     }
 }

@@ -21,49 +21,45 @@ impl<I: Read + Drop, R: Read + Drop> Read for Input<I, R> {
     }
 }
 
-/// Where the inputs of a command are opened: a folder of files, and standard input until it is
-/// taken.
+/// The files that a command reads, which are open.
 #[derive(Drop)]
-pub(crate) struct Inputs<'a, F: Folder, I: Read + Drop> {
-    folder: &'a F,
-    standard: Option<I>,
+pub(crate) struct Inputs<I: Read + Drop, R: Read + Drop> {
+    pub first: Option<Input<I, R>>,
+    pub second: Option<Input<I, R>>,
+    pub third: Option<Input<I, R>>,
 }
 
-impl<'a, F: Folder, I: Read + Drop> Inputs<'a, F, I> {
-    pub(crate) fn new(folder: &'a F, standard: I) -> Inputs<'a, F, I> {
-        Inputs {
-            folder,
-            standard: Some(standard),
-        }
+impl<I: Read + Drop, R: Read + Drop> Inputs<I, R> {
+    /// Opens the files of these names, the first one first.
+    pub(crate) fn open<F: Folder<Input = R>>(
+        names: [Option<&str>; 3],
+        folder: &F,
+        standard: I,
+    ) -> Result<Inputs<I, R>, JobFault> {
+        let mut standard = Some(standard);
+        Ok(Inputs {
+            first: open(names[0], folder, &mut standard)?,
+            second: open(names[1], folder, &mut standard)?,
+            third: open(names[2], folder, &mut standard)?,
+        })
     }
+}
 
-    /// Takes standard input, which can be read once.
-    pub(crate) fn take_standard(&mut self) -> Result<Input<I, F::Input>, JobFault> {
-        match self.standard.take() {
-            Some(input) => Ok(Input::Standard(input)),
+/// Opens a file, or takes standard input where `-` is named, which can be read once.
+fn open<F: Folder, I: Read + Drop>(
+    name: Option<&str>,
+    folder: &F,
+    standard: &mut Option<I>,
+) -> Result<Option<Input<I, F::Input>>, JobFault> {
+    match name {
+        Some(STANDARD_INPUT) => match standard.take() {
+            Some(input) => Ok(Some(Input::Standard(input))),
             None => Err(JobFault::Read),
-        }
-    }
-
-    /// Opens a file, or takes standard input where `-` is named.
-    pub(crate) fn open(&mut self, name: &str) -> Result<Input<I, F::Input>, JobFault> {
-        if name == STANDARD_INPUT {
-            self.take_standard()
-        } else {
-            match self.folder.open(name) {
-                Ok(file) => Ok(Input::File(file)),
-                Err(_) => Err(JobFault::Read),
-            }
-        }
-    }
-
-    /// Opens two, the first one first.
-    pub(crate) fn open_both(
-        &mut self,
-        first: &str,
-        second: &str,
-    ) -> Result<(Input<I, F::Input>, Input<I, F::Input>), JobFault> {
-        let first = self.open(first)?;
-        Ok((first, self.open(second)?))
+        },
+        Some(name) => match folder.open(name) {
+            Ok(file) => Ok(Some(Input::File(file))),
+            Err(_) => Err(JobFault::Read),
+        },
+        None => Ok(None),
     }
 }

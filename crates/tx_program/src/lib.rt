@@ -2,16 +2,11 @@
 //! standard ends. It re-exports the commands.
 #![tactic(auto)]
 
-mod audited;
-mod changed;
-mod command_fault;
 mod draft;
 mod ends;
 mod folder;
 mod input;
-mod mended;
 mod new_file;
-mod opened;
 mod output_files;
 mod program;
 mod tell;

@@ -1,32 +1,20 @@
-// The program, from its words to its exit status: a job for each command.
-ghost use Rattle.std.specs.Prelude.{◌≡◌, ◌⊎◌, ◌≤◌, IfSome, option_map};
+// The program, from its words to its exit status.
+ghost use Rattle.std.specs.Prelude.{◌≡◌, ◌⊎◌};
 ghost use Rattle.tx_commands.specs.Commands.{IsInRange};
 ghost use Rattle.tx_program.specs.Statuses.{AskNothing, IsRefusedWith};
-ghost use Rattle.tx_program.specs.inner.Stopped.{status_of_command};
+ghost use Rattle.tx_jobs.specs.JobFaults.{status_of};
 ghost use Rattle.tx_commands.specs.Faults.{status_of as words_status};
 
-use crate::audited::audit_file;
-use crate::changed::change_files;
-use crate::command_fault::CommandFault;
 use crate::ends::Output;
 use crate::folder::Folder;
 use crate::input::Inputs;
-use crate::mended::mend_file;
-use crate::opened::{Limits, Opened, PlanJob};
-use crate::output_files::OutputFiles;
+use crate::output_files::write_files;
 use crate::tell::{announce_input, tell_words};
 use std::alloc::{Allocator, Global};
 use std::io::{IsTerminal, Read, Write};
-use tx_commands::{Command, WordsFault, read_command};
-use tx_explain::write_explanation;
-use tx_jobs::{
-    Drawn, JobFault, Traced, check_status, codes_status, draw_job, grade_status, lint_job,
-    pipe_job, replies_status, run_checked_status, run_job, run_telling_job, survival_status,
-    survive_job, survive_risks_job, trace_job, write_change_fault, write_fault,
-    write_survive_fault,
-};
-use tx_script::Telling;
-use tx_text::{ToWrite, write_bytes};
+use tx_commands::{Command, Files, WordsFault, read_command};
+use tx_jobs::{JobFault, do_job, write_fault};
+use tx_text::ToWrite;
 
 /// The ends of the program: a folder of files, standard input, standard output and standard error.
 #[derive(Debug, Drop)]
@@ -80,7 +68,7 @@ fn refuse_words<F: Folder, I: Read + Drop, O: Write + Drop, E: Write + Drop>(
     let told = tell_words(fault, &mut output, &mut errors);
     let status = fault.status();
     if told.is_err() && status == 0 {
-        return tell_fault(&CommandFault::Job(JobFault::Write), errors);
+        return tell_fault(&JobFault::Write, errors);
     }
     status
 }
@@ -108,21 +96,10 @@ pub fn run_command<
 }
 
 /// Writes why a command was not done, in one line on standard error, and returns the exit status.
-fn tell_fault<E: Write + Drop>(fault: &CommandFault, errors: E) -> u8
-    ensures { result ≡ status_of_command fault.now }
+fn tell_fault<E: Write + Drop>(fault: &JobFault, errors: E) -> u8
+    ensures { result ≡ status_of fault.now }
 {
-    let mut errors = ToWrite::new(errors);
-    let _ = match fault {
-        CommandFault::Job(fault) => write_fault(fault, &mut errors),
-        CommandFault::Change(fault) => write_change_fault(fault, &mut errors),
-        CommandFault::Survive(fault) => write_survive_fault(fault, &mut errors),
-        CommandFault::NoSuchExchange => {
-            write_bytes(b"telexplan: no such exchange in the plan\n", &mut errors)
-        }
-        CommandFault::NoSuchCode => {
-            write_bytes(b"telexplan: no such code in the plan\n", &mut errors)
-        }
-    };
+    let _ = write_fault(fault, &mut ToWrite::new(errors));
     fault.status()
 }
 
@@ -134,197 +111,39 @@ pub(crate) fn perform<A: Allocator + Copy, F: Folder, I: Read + Drop, O: Write +
     folder: &F,
     input: I,
     output: O,
-) -> Result<u8, CommandFault>
+) -> Result<u8, JobFault>
     requires { IsInRange command.now }
 {
-    let opened = Opened::new(command, &mut Inputs::new(folder, input))?;
+    let inputs = Inputs::open(Files::of(command).reads, folder, input)?;
     let output = Output::new(alloc, output)?;
-    let done = do_job(alloc, opened, OutputFiles::of(command), folder, &output);
+    let done = do_over(alloc, command, inputs, folder, &output);
     output.let_out()?;
     done
 }
 
-fn do_job<A: Allocator + Copy, F: Folder, I: Read + Drop, O: Write + Drop>(
+/// Does the job of a command over its files, which are open, and then makes the files of what it
+/// came to.
+fn do_over<A: Allocator + Copy, F: Folder, I: Read + Drop, O: Write + Drop>(
     alloc: A,
-    opened: Opened<'_, I, F::Input>,
-    files: OutputFiles<'_>,
+    command: &Command,
+    inputs: Inputs<I, F::Input>,
     folder: &F,
     output: &Output<O, A>,
-) -> Result<u8, CommandFault> {
-    let status = match opened {
-        Opened::Pipe { input } => run_input(alloc, input, output)?,
-        Opened::Run { plan, script } => run_files(alloc, plan, script, output)?,
-        Opened::RunTelling {
-            plan,
-            script,
-            strict,
-            telling,
-        } => run_telling_files(alloc, plan, script, strict, telling, output)?,
-        Opened::Checked {
-            plan,
-            cert,
-            script,
-            limits,
-        } => run_checked_files(alloc, plan, cert, limits, script, output)?,
-        Opened::Check { plan, cert, limits } => check_files(alloc, plan, cert, limits, output)?,
-        Opened::Plan { plan, job } => do_plan_job(alloc, plan, job, output)?,
-        Opened::Audit { plan, limits } => {
-            audit_file(alloc, plan, limits, files, folder, output)?
-        }
-        Opened::Mend { plan, limits } => mend_file(alloc, plan, limits, files, folder, output)?,
-        Opened::Survive { plan, risks } => survive_files(alloc, plan, risks, output)?,
-        Opened::Change { old, new, limits } => change_files(
-            alloc, old, new, limits, files, folder, output,
-        )?,
-        Opened::Explain { word } => explain(word.as_deref(), output)?,
-    };
-    Ok(status)
-}
-
-/// A plan and then a script on standard input.
-fn run_input<A: Allocator + Copy, I: Read + Drop, O: Write + Drop>(
-    alloc: A,
-    input: I,
-    output: &Output<O, A>,
-) -> Result<u8, JobFault> {
-    let mut input = output.source(alloc, input)?;
-    pipe_job(alloc, &mut input, &mut output.sink()).and(Ok(0))
-}
-
-/// `run PLAN SCRIPT`.
-fn run_files<A: Allocator + Copy, P: Read + Drop, R: Read + Drop, O: Write + Drop>(
-    alloc: A,
-    plan: P,
-    script: R,
-    output: &Output<O, A>,
-) -> Result<u8, JobFault> {
-    let mut plan = output.source(alloc, plan)?;
-    let mut script = output.source(alloc, script)?;
-    run_job(alloc, &mut plan, &mut script, &mut output.sink()).and(Ok(0))
-}
-
-/// `run PLAN SCRIPT` with `--strict`, `--echo` or `--summary`.
-fn run_telling_files<A: Allocator + Copy, P: Read + Drop, R: Read + Drop, O: Write + Drop>(
-    alloc: A,
-    plan: P,
-    script: R,
-    strict: bool,
-    telling: Telling,
-    output: &Output<O, A>,
-) -> Result<u8, JobFault> {
-    let mut plan = output.source(alloc, plan)?;
-    let mut script = output.source(alloc, script)?;
-    let mut sink = output.sink();
-    let summary = run_telling_job(alloc, telling, &mut plan, &mut script, &mut sink)?;
-    Ok(replies_status(&summary, strict))
-}
-
-/// `run PLAN SCRIPT --cert CERT --limit L --spare K`.
-fn run_checked_files<A: Allocator + Copy, P: Read + Drop, R: Read + Drop, O: Write + Drop>(
-    alloc: A,
-    plan: P,
-    cert: P,
-    limits: Limits,
-    script: R,
-    output: &Output<O, A>,
-) -> Result<u8, JobFault> {
-    let mut plan = output.source(alloc, plan)?;
-    let mut cert = output.source(alloc, cert)?;
-    let mut script = output.source(alloc, script)?;
-    run_checked_status(
-        alloc,
-        &mut plan,
-        &mut cert,
-        limits.limit,
-        limits.spare,
-        &mut script,
-        &mut output.sink(),
-    )
-}
-
-/// `lint PLAN`, `codes PLAN`, `grade PLAN`, `survive PLAN`, `trace PLAN EXCHANGE CODE`, or
-/// `draw PLAN [--code C [--limit L --spare K]]`.
-fn do_plan_job<A: Allocator + Copy, R: Read + Drop, O: Write + Drop>(
-    alloc: A,
-    plan: R,
-    job: PlanJob<'_>,
-    output: &Output<O, A>,
-) -> Result<u8, CommandFault> {
-    let mut plan = output.source(alloc, plan)?;
-    let mut sink = output.sink();
-    match job {
-        PlanJob::Lint { file } => Ok(lint_job(alloc, &mut plan, file, &mut sink)?),
-        PlanJob::Codes => Ok(codes_status(alloc, &mut plan, &mut sink)?),
-        PlanJob::Grade => Ok(grade_status(alloc, &mut plan, &mut sink)?),
-        PlanJob::Survive => Ok(survival_status(&survive_job(alloc, &mut plan, &mut sink)?)),
-        PlanJob::Trace { exchange, code } => {
-            match trace_job(alloc, &mut plan, exchange, code, &mut sink)? {
-                Traced::Trace => Ok(0),
-                Traced::NoSuchExchange => Err(CommandFault::NoSuchExchange),
-                Traced::NoSuchCode => Err(CommandFault::NoSuchCode),
-            }
-        }
-        PlanJob::Draw { code, limits } => {
-            match draw_job(alloc, &mut plan, code, numbers(limits), &mut sink)? {
-                Drawn::Picture => Ok(0),
-                Drawn::NoSuchCode => Err(CommandFault::NoSuchCode),
-            }
-        }
-    }
-}
-
-/// `check PLAN CERT --limit L --spare K`.
-fn check_files<A: Allocator + Copy, R: Read + Drop, O: Write + Drop>(
-    alloc: A,
-    plan: R,
-    cert: R,
-    limits: Limits,
-    output: &Output<O, A>,
-) -> Result<u8, JobFault> {
-    let mut plan = output.source(alloc, plan)?;
-    let mut cert = output.source(alloc, cert)?;
-    check_status(
-        alloc,
-        &mut plan,
-        &mut cert,
-        limits.limit,
-        limits.spare,
-        &mut output.sink(),
-    )
-}
-
-/// `survive PLAN --risks RISKS`.
-fn survive_files<A: Allocator + Copy, R: Read + Drop, O: Write + Drop>(
-    alloc: A,
-    plan: R,
-    risks: R,
-    output: &Output<O, A>,
-) -> Result<u8, CommandFault> {
-    let mut plan = output.source(alloc, plan)?;
-    let mut risks = output.source(alloc, risks)?;
-    let survival = survive_risks_job(alloc, &mut plan, &mut risks, &mut output.sink())?;
-    let status = survival_status(&survival);
-    drop(survival);
-    Ok(status)
-}
-
-/// A limit and a spare number, if there are any.
-fn numbers(limits: Option<Limits>) -> Option<(u8, u8)>
-    ensures limit { IfSome result (λ n. n.0 ≤ 62) }
-    ensures spare { IfSome result (λ n. n.1 ≤ 15) }
-    ensures same { result ≡ option_map (λ b. (b.limit, b.spare)) limits }
+) -> Result<u8, JobFault>
+    requires { IsInRange command.now }
 {
-    match limits {
-        Some(limits) => Some((limits.limit, limits.spare)),
-        None => None,
-    }
-}
-
-/// `explain [CODE]`.
-fn explain<A: Allocator, O: Write + Drop>(
-    word: Option<&str>,
-    output: &Output<O, A>,
-) -> Result<u8, JobFault> {
-    write_explanation(word, &mut output.sink())?;
-    Ok(0)
+    let mut first = output.source(alloc, inputs.first)?;
+    let mut second = output.source(alloc, inputs.second)?;
+    let mut third = output.source(alloc, inputs.third)?;
+    let mut sink = output.sink();
+    let done = do_job(
+        alloc,
+        command,
+        &mut first,
+        &mut second,
+        &mut third,
+        &mut sink,
+    )?;
+    write_files(alloc, &done, Files::of(command), folder, output)?;
+    Ok(done.status())
 }

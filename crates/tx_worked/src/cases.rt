@@ -6,13 +6,13 @@ mod differing;
 mod end_case;
 mod ends;
 mod head;
-mod job;
 mod log;
 mod outputs;
 mod reader;
 mod refusing;
 mod spelled;
 mod stop;
+mod task;
 mod told;
 mod writer;
 
@@ -23,15 +23,13 @@ pub(crate) use case::{
 pub(crate) use differing::tell_differing;
 pub(crate) use end_case::{EndCase, What};
 pub(crate) use ends::{End, Ends, FULL_ROOM, ROOM, calls_left};
-pub(crate) use head::{
-    Driven, Head, JobKind, Kind, Mode, TextKind, drawing_of, head_of, job_of, limit_and_spare,
-};
-pub(crate) use job::{Job, Task, job_name, sources, task_of, with_last};
+pub(crate) use head::{Driven, Head, Kind, Mode, TextKind, head_of, limit_and_spare};
 pub(crate) use log::Log;
 pub(crate) use outputs::{event_word, says_no_event, takes_memory, written_after};
 pub(crate) use reader::Reader;
 pub(crate) use refusing::Refusing;
 pub(crate) use spelled::spell;
 pub(crate) use stop::Stop;
+pub(crate) use task::{Task, command_of};
 pub(crate) use told::{Told, tell, tell_broken, tell_count, tell_parts};
 pub(crate) use writer::Writer;

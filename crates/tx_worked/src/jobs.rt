@@ -1,15 +1,12 @@
 // Plays plans, certificates and scripts through the jobs, and tries what must hold of each: in
 // pieces of any size, wherever an end fails, and whichever request for memory is refused.
 
-mod evidences;
-mod fault;
 mod job;
 mod listings;
 mod pictures;
 mod stretches;
 mod trials;
 
-pub(crate) use fault::Fault;
 pub(crate) use job::{Whole, do_in_room};
 pub(crate) use listings::{count_calls, list_calls, list_prefixes, list_rooms};
 pub(crate) use pictures::play_pictures;

@@ -1,7 +1,7 @@
 // Plays cases of texts by their kinds.
 use crate::cases::{
-    Driven, Ends, FULL_ROOM, Head, Job, Mode, ROOM, Task, TextKind, Told, job_of, limit_and_spare,
-    long_number, number_of, task_of, tell, tell_broken, two_texts,
+    Driven, Ends, FULL_ROOM, Head, Mode, ROOM, Task, TextKind, Told, command_of, limit_and_spare,
+    long_number, number_of, tell, tell_broken, two_texts,
 };
 use crate::checked::play_certified;
 use crate::jobs::{
@@ -13,6 +13,8 @@ use crate::whole_runs::{Part, play_run};
 use crate::written::{play_cert, play_plan};
 use memchr::memmem;
 use std::alloc::Global;
+use tx_commands::Command;
+use tx_jobs::{JobFault, write_fault};
 use tx_text::MemorySink;
 
 /// Plays a case of texts by its kind: as a job, or by writing and reading back, or over both
@@ -26,10 +28,7 @@ pub(crate) fn play_texts(
 ) {
     let (first, second) = two_texts(texts);
     match kind {
-        TextKind::Job(kind) => {
-            let task = task_of(job_of(kind, head), first, second);
-            play_task(alloc, task, head.mode, out)
-        }
+        TextKind::Command => play_command(alloc, head, first, second, out),
         TextKind::Both => play_both(alloc, head, texts, out),
         TextKind::Pictures => play_pictures(alloc, head, texts, out),
         TextKind::Plan => play_plan(alloc, texts, out),
@@ -101,11 +100,15 @@ fn try_plain(alloc: Global, run: Task<'_>, job: &[u8], out: &mut Told) {
     }
 }
 
-/// Writes what a task wrote, and its fault.
+/// Writes what a task wrote, and its fault. That the plan has no such exchange or code is told by
+/// the exit status alone.
 fn tell_whole(whole: Whole<'_>, out: &mut Told) {
     tell(whole.text, out);
-    if let Err(fault) = whole.answer {
-        fault.tell(out);
+    match whole.answer {
+        Err(JobFault::NoSuchExchange | JobFault::NoSuchCode) | Ok(_) => {}
+        Err(fault) => {
+            let _ = write_fault(&fault, out);
+        }
     }
 }
 
@@ -114,7 +117,7 @@ fn play_whole(alloc: Global, task: Task<'_>, whole: Whole<'_>, mode: Mode, out: 
     if let Mode::Once = mode {
         return tell_whole(whole, out);
     }
-    if matches!(task.job, Job::Run) {
+    if matches!(task.command, Command::Run { checked: None, .. }) {
         try_plain(alloc, task, whole.text, out);
     }
     if let Mode::Prefixes = mode {
@@ -125,6 +128,17 @@ fn play_whole(alloc: Global, task: Task<'_>, whole: Whole<'_>, mode: Mode, out: 
     if let Mode::EachEnd = mode {
         try_refusals(alloc, task, whole, out);
         try_ends(alloc, task, whole, out);
+    }
+}
+
+/// Plays a command over its texts.
+fn play_command(alloc: Global, head: Head<'_>, first: &[u8], rest: &[u8], out: &mut Told) {
+    match command_of(alloc, head.word, [head.first, head.second, head.third]) {
+        Ok(command) => {
+            let task = Task::new(head.word, &command, first, rest);
+            play_task(alloc, task, head.mode, out)
+        }
+        Err(_) => tell_broken(b"no command", 0, out),
     }
 }
 
@@ -182,8 +196,13 @@ fn play_both(alloc: Global, head: Head<'_>, input: &[u8], out: &mut Told) {
         Some(end) => input.split_at(end.saturating_add(5).min(input.len())),
         None => (input, b"".as_slice()),
     };
-    let pipe = task_of(Job::Pipe, input, b"");
-    let run = task_of(Job::Run, first, second);
+    let run = Command::Run {
+        plan: String::new(alloc),
+        script: String::new(alloc),
+        checked: None,
+    };
+    let run = Task::new(b"run", &run, first, second);
+    let pipe = Task::new(b"pipe", &Command::Pipe, input, b"");
     play_task(alloc, pipe, head.mode, out);
     let Ok(mut written) = MemorySink::new(alloc, ROOM) else {
         return tell_broken(b"no memory", 0, out);

@@ -1,8 +1,7 @@
 // What the head of a case says.
 use crate::cases::case::{named, next_word, number_of};
-use crate::cases::job::Job;
+use crate::cases::task::is_command;
 use crate::tests::{CALLS, CallKind};
-use tx_script::Telling;
 use tx_text::words;
 
 /// What is done with a job.
@@ -47,32 +46,14 @@ pub enum Kind {
 /// What is done with plans, certificates and scripts.
 #[derive(Clone, Copy)]
 pub enum TextKind {
-    Job(JobKind),
+    /// The texts of a command.
+    Command,
     /// A plan and a script in one text, as a pipe and as a run.
     Both,
     Pictures,
     Plan,
     Cert,
     Driven(Driven),
-}
-
-/// Which job, without its numbers.
-#[derive(Clone, Copy)]
-pub enum JobKind {
-    Pipe,
-    Run,
-    Telling,
-    Codes,
-    Grade,
-    Lint,
-    Check,
-    Audit,
-    Change,
-    Mend,
-    Trace,
-    Survive,
-    Checked,
-    Draw,
 }
 
 /// What is played over both networks.
@@ -88,21 +69,7 @@ pub enum Driven {
     Starting,
 }
 
-static TEXTS: [(&str, TextKind); 23] = [
-    ("pipe", TextKind::Job(JobKind::Pipe)),
-    ("run", TextKind::Job(JobKind::Run)),
-    ("telling", TextKind::Job(JobKind::Telling)),
-    ("codes", TextKind::Job(JobKind::Codes)),
-    ("grade", TextKind::Job(JobKind::Grade)),
-    ("lint", TextKind::Job(JobKind::Lint)),
-    ("check", TextKind::Job(JobKind::Check)),
-    ("audit", TextKind::Job(JobKind::Audit)),
-    ("change", TextKind::Job(JobKind::Change)),
-    ("mend", TextKind::Job(JobKind::Mend)),
-    ("trace", TextKind::Job(JobKind::Trace)),
-    ("survive", TextKind::Job(JobKind::Survive)),
-    ("checked", TextKind::Job(JobKind::Checked)),
-    ("draw", TextKind::Job(JobKind::Draw)),
+static TEXTS: [(&str, TextKind); 9] = [
     ("both", TextKind::Both),
     ("pictures", TextKind::Pictures),
     ("plan", TextKind::Plan),
@@ -126,6 +93,9 @@ static OTHERS: [(&str, Kind); 7] = [
 
 /// The kind of a word, if it is one.
 fn kind_of(word: &[u8]) -> Option<Kind> {
+    if is_command(word) {
+        return Some(Kind::Texts(TextKind::Command));
+    }
     match (named(&TEXTS, word), named(&CALLS, word)) {
         (Some(texts), _) => Some(Kind::Texts(texts)),
         (None, Some(calls)) => Some(Kind::Calls(calls)),
@@ -139,6 +109,8 @@ pub struct Head<'a> {
     pub name: &'a [u8],
     pub mode: Mode,
     pub kind: Option<Kind>,
+    /// The word of the kind.
+    pub word: &'a [u8],
     pub first: &'a [u8],
     pub second: &'a [u8],
     pub third: &'a [u8],
@@ -157,6 +129,7 @@ pub fn head_of(head: &[u8]) -> Head<'_> {
         name,
         mode,
         kind: kind_of(word),
+        word,
         first: next_word(&mut rest),
         second: next_word(&mut rest),
         third: next_word(&mut rest),
@@ -179,63 +152,4 @@ pub fn limit_and_spare(head: Head<'_>) -> (u8, u8) {
     let limit = number_of(head.first, 62).min(62) as u8;
     let spare = number_of(head.second, 15).min(15) as u8;
     (limit, spare)
-}
-
-/// A picture: of a plan, or of a code, with a limit and a spare number after it or without.
-pub fn drawing_of<'a>(code: &'a [u8], limit: &[u8], spare: &[u8]) -> Job<'a> {
-    if code.is_empty() {
-        return Job::Draw;
-    }
-    let code = number_of(code, 9999).min(9999) as u16;
-    if limit.is_empty() {
-        return Job::DrawCode { code };
-    }
-    Job::DrawFinding {
-        code,
-        limit: number_of(limit, 62).min(62) as u8,
-        spare: number_of(spare, 15).min(15) as u8,
-    }
-}
-
-/// Outages of a plan, alone or with named risks.
-fn survival_of<'a>(word: &'a [u8]) -> Job<'a> {
-    if word == b"alone".as_slice() {
-        Job::SurviveAlone
-    } else {
-        Job::Survive
-    }
-}
-
-/// What a run is to tell: each event, a summary, or both.
-fn telling_of(word: &[u8]) -> Telling {
-    Telling {
-        echo: word != b"summary".as_slice(),
-        summary: word == b"summary".as_slice() || word == b"both".as_slice(),
-    }
-}
-
-/// The job of a case.
-pub fn job_of<'a>(kind: JobKind, head: Head<'a>) -> Job<'a> {
-    let (limit, spare) = limit_and_spare(head);
-    match kind {
-        JobKind::Pipe => Job::Pipe,
-        JobKind::Run => Job::Run,
-        JobKind::Telling => Job::Telling {
-            telling: telling_of(head.first),
-        },
-        JobKind::Codes => Job::Codes,
-        JobKind::Grade => Job::Grade,
-        JobKind::Lint => Job::Lint { file: head.first },
-        JobKind::Check => Job::Check { limit, spare },
-        JobKind::Audit => Job::Audit { limit, spare },
-        JobKind::Change => Job::Change { limit, spare },
-        JobKind::Mend => Job::Mend { limit, spare },
-        JobKind::Trace => Job::Trace {
-            exchange: head.first,
-            code: head.second,
-        },
-        JobKind::Survive => survival_of(head.first),
-        JobKind::Checked => Job::Checked { limit, spare },
-        JobKind::Draw => drawing_of(head.first, head.second, head.third),
-    }
 }

@@ -1,8 +1,5 @@
 // Runs and jobs at each room, at each failing call and for each prefix.
-use crate::cases::{
-    End, Ends, Refusing, Task, Told, calls_left, sources, tell, tell_broken, tell_count, with_last,
-};
-use crate::jobs::fault::Fault;
+use crate::cases::{End, Ends, Refusing, Task, Told, calls_left, tell, tell_broken, tell_count};
 use crate::jobs::job::{Whole, done};
 use crate::jobs::stretches::{Happens, Stretches};
 use crate::runs::{Ran, Script, WholeRun, run_beside, run_text, told_cause};
@@ -24,7 +21,7 @@ fn happens(ran: &Ran, bytes: Option<u64>) -> Happens {
         Err(fault) => Happens {
             event: Some(fault.event),
             bytes,
-            fault: Some(Fault::Job(told_cause(fault.cause))),
+            fault: Some(told_cause(fault.cause)),
         },
     }
 }
@@ -93,13 +90,9 @@ pub(crate) fn count_calls(alloc: Global, text: Script<'_>, room: usize, out: &mu
 /// What a job does with each front of its last text, from none of it to the whole.
 pub(crate) fn list_prefixes(alloc: Global, task: Task<'_>, whole: Whole<'_>, out: &mut Told) {
     let mut stretches = Stretches::new();
-    let last = match sources(task.job) {
-        1 => task.first,
-        2 => task.second,
-        _ => task.third,
-    };
+    let last = task.last();
     for length in 0..=last.len() {
-        let cut = with_last(task, last.split_at(length.min(last.len())).0);
+        let cut = task.with_last(last.split_at(length.min(last.len())).0);
         let did = done(alloc, cut, Ends::pieces(4096), whole.text);
         if !did.is_front {
             tell_broken(b"not a front of the output, prefix", length as u64, out);

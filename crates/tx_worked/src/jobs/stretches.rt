@@ -1,13 +1,13 @@
 // Lists of what happens at each number, told by stretches of numbers at which the same happens.
 use crate::cases::{Told, tell, tell_count};
-use crate::jobs::fault::Fault;
+use tx_jobs::{JobFault, write_fault};
 
 /// What happens at a number: the event and the bytes, where they are told, and the fault.
 #[derive(Clone, Copy, PartialEq, Eq)]
 pub(crate) struct Happens {
     pub event: Option<u64>,
     pub bytes: Option<u64>,
-    pub fault: Option<Fault>,
+    pub fault: Option<JobFault>,
 }
 
 /// Numbers in a row at which the same happens.
@@ -30,7 +30,9 @@ impl Stretch {
             tell_count(b"", bytes, b" bytes, ", out);
         }
         match self.happens.fault {
-            Some(fault) => fault.tell(out),
+            Some(fault) => {
+                let _ = write_fault(&fault, out);
+            }
             None => tell(b"done\n", out),
         }
     }

@@ -1,6 +1,6 @@
 // The laws of a job: however its sources cut the text, wherever an end fails, and whichever request
 // for memory is refused.
-use crate::cases::{End, Ends, Task, Told, job_name, sources, tell_broken, tell_count, tell_parts};
+use crate::cases::{End, Ends, Task, Told, tell_broken, tell_count, tell_parts};
 use crate::jobs::job::{Whole, done, tell_task};
 use std::alloc::Global;
 use tx_jobs::JobFault;
@@ -85,15 +85,15 @@ pub(crate) fn try_ends(alloc: Global, task: Task<'_>, whole: Whole<'_>, out: &mu
         Ok(status) => status,
         Err(fault) => fault.status(),
     };
-    tell_parts(&[b"-- ", job_name(task.job)], out);
+    tell_parts(&[b"-- ", task.kind], out);
     tell_count(b": status ", u64::from(status), b"", out);
     let first = reads(alloc, task, End::First, whole, out);
     tell_count(b", ", first, b"", out);
-    if sources(task.job) > 1 {
+    if task.sources() > 1 {
         let second = reads(alloc, task, End::Second, whole, out);
         tell_count(b" and ", second, b"", out);
     }
-    if sources(task.job) > 2 {
+    if task.sources() > 2 {
         let third = reads(alloc, task, End::Third, whole, out);
         tell_count(b" and ", third, b"", out);
     }

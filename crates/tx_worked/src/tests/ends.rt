@@ -1,12 +1,11 @@
 // Sources and sinks, over memory and over std's readers and writers.
 use crate::cases::{Log, Told, tell, tell_broken, tell_count, tell_parts};
-use crate::jobs::Fault;
 use crate::run_laws::tell_summary;
 use crate::tests::flaky::Flaky;
 use crate::tests::watched::{WatchedSink, WatchedSource};
 use std::alloc::Global;
 use std::io::ErrorKind;
-use tx_jobs::pipe_job;
+use tx_jobs::{pipe_job, write_fault};
 use tx_text::{
     FromRead, MemorySink, MemorySource, Sink, Source, ToWrite, WriteFault, write_bytes, write_parts,
 };
@@ -50,7 +49,9 @@ pub(crate) fn tell_two_texts(alloc: Global, text: &[u8], piece: usize, fails: u6
     log.print(out);
     match ran {
         Ok(summary) => tell_summary(&summary, out),
-        Err(fault) => Fault::Job(fault).tell(out),
+        Err(fault) => {
+            let _ = write_fault(&fault, out);
+        }
     }
 }
 

@@ -1,6 +1,6 @@
 use Rattle.std.proofs.Common.{◌≡◌, ◌∷◌, drop}
-use Rattle.tx_commands.specs.Files.{standard_input, has_clash}
-use Rattle.tx_commands.specs.inner.Named.{names}
+use Rattle.tx_commands.specs.Commands.{names, standard_input}
+use Rattle.tx_commands.specs.Files.{has_clash}
 use Rattle.tx_commands.proofs.files.has_clash.Given as goal
 
 -- it is so of all files exactly where it is so of those that are left

@@ -1,5 +1,5 @@
 use Rattle.std.proofs.Common.{Err, ap, inl, inr, refl}
-use Rattle.tx_jobs.proofs.ChangeTold.{new_plan_mark}
+use Rattle.tx_jobs.proofs.RefusedTexts.{new_plan_mark}
 use Rattle.tx_jobs.proofs.change.change_from.Goals as goal
 
 pub returns-in-Ok-clause-answers : goal.returns-in-Ok-clause-answers

@@ -3,7 +3,6 @@ use Rattle.tx_text.specs.Ends.{output}
 use Rattle.tx_text.proofs.Exits.{exits_with}
 use Rattle.tx_change.proofs.Cleared.{is_right_change}
 use Rattle.tx_jobs.specs.declared.job_fault.JobFault.TheVariants.{Write, NoMemory}
-use Rattle.tx_jobs.specs.declared.change_fault.ChangeFault.TheVariants.{Job}
 use Rattle.tx_jobs.proofs.ChangeTold.{change_told, change_network, change_shown}
 use Rattle.tx_jobs.proofs.change.change_into.Goals as goal
 
@@ -35,16 +34,16 @@ returns-clause-each g c =
 
 pub returns-in_err-ranking-clause-told : goal.returns-in_err-ranking-clause-told
 returns-in_err-ranking-clause-told g c =
-    rw (exits_with c.from_residual.result (Job NoMemory) c.from_residual.ensures.1) (c.in_default.ensures, refl)
+    rw (exits_with c.from_residual.result NoMemory c.from_residual.ensures.1) (c.in_default.ensures, refl)
 
 pub returns-in_err-ranking-clause-mark : goal.returns-in_err-ranking-clause-mark
 returns-in_err-ranking-clause-mark g c =
-    rw (exits_with c.from_residual.result (Job NoMemory) c.from_residual.ensures.1) refl
+    rw (exits_with c.from_residual.result NoMemory c.from_residual.ensures.1) refl
 
 pub returns-in_err-write_report-clause-told : goal.returns-in_err-write_report-clause-told
 returns-in_err-write_report-clause-told g c =
     let r = c.in_ok-ranking.ensures in
-    rw (exits_with c.from_residual-in_err-write_report.result (Job Write) c.from_residual-in_err-write_report.ensures.1) (
+    rw (exits_with c.from_residual-in_err-write_report.result Write c.from_residual-in_err-write_report.ensures.1) (
       c.in_default.ensures,
       record {
         ranking = c.in_ok-ranking.ranking;
@@ -55,4 +54,4 @@ returns-in_err-write_report-clause-told g c =
 
 pub returns-in_err-write_report-clause-mark : goal.returns-in_err-write_report-clause-mark
 returns-in_err-write_report-clause-mark g c =
-    rw (exits_with c.from_residual-in_err-write_report.result (Job Write) c.from_residual-in_err-write_report.ensures.1) c.in_err-write_report.ensures.1
+    rw (exits_with c.from_residual-in_err-write_report.result Write c.from_residual-in_err-write_report.ensures.1) c.in_err-write_report.ensures.1

@@ -1,7 +1,7 @@
 use Rattle.std.proofs.Common.{Err, ap, inl, inr, refl}
 use Rattle.tx_text.specs.Calls.{source_calls}
 use Rattle.tx_text.proofs.CallCounts.{went_none, calls_so_far}
-use Rattle.tx_jobs.proofs.RefusedTexts.{plan_mark}
+use Rattle.tx_jobs.proofs.RefusedTexts.{old_plan_mark}
 use Rattle.tx_jobs.proofs.change.change_job.Goals as goal
 
 pub returns-in-Ok-clause-answers : goal.returns-in-Ok-clause-answers
@@ -24,7 +24,7 @@ returns-in-Err-clause-answers g c =
 
 pub returns-in-Err-clause-mark : goal.returns-in-Err-clause-mark
 returns-in-Err-clause-mark g c =
-    rw c.of_old_plan.ensures (plan_mark (g.W.Sink.failed c.args.out.now) c.in-Err.fault)
+    rw c.of_old_plan.ensures (old_plan_mark (g.W.Sink.failed c.args.out.now) c.in-Err.fault)
 
 pub returns-in-Err-clause-new_calls : goal.returns-in-Err-clause-new_calls
 returns-in-Err-clause-new_calls g c =

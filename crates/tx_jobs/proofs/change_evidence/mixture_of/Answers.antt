@@ -1,6 +1,5 @@
 use Rattle.tx_text.proofs.Exits.{exits_with}
 use Rattle.tx_jobs.specs.declared.job_fault.JobFault.TheVariants.{NoMemory}
-use Rattle.tx_jobs.specs.declared.change_fault.ChangeFault.TheVariants.{Job}
 use Rattle.tx_jobs.proofs.ChangeEvidenced.{shown_writable}
 use Rattle.tx_jobs.proofs.change_evidence.mixture_of.Goals as goal
 
@@ -11,4 +10,4 @@ of-requires g c =
 
 pub returns-in_err-shown : goal.returns-in_err-shown
 returns-in_err-shown g c =
-    rw (exits_with c.from_residual.result (Job NoMemory) c.from_residual.ensures.1) tt
+    rw (exits_with c.from_residual.result NoMemory c.from_residual.ensures.1) tt

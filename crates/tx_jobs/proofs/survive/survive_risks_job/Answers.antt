@@ -1,10 +1,7 @@
 use Rattle.std.proofs.Common.{inl, inr, refl}
 use Rattle.tx_text.specs.Calls.{source_calls}
 use Rattle.tx_text.proofs.CallCounts.{went_none, calls_so_far}
-use Rattle.tx_text.proofs.Exits.{exits_with}
-use Rattle.tx_jobs.specs.declared.survive_fault.SurviveFault.TheVariants.{Job}
-use Rattle.tx_jobs.specs.JobFaults.{plan_fault}
-use Rattle.tx_jobs.proofs.RefusedTexts.{plan_mark}
+use Rattle.tx_jobs.proofs.RefusedTexts.{refused, refused_mark}
 use Rattle.tx_jobs.proofs.survive.survive_risks_job.Goals as goal
 
 pub returns-clause-answers : goal.returns-clause-answers
@@ -16,20 +13,16 @@ returns-clause-answers g c = inl (record {
 })
 
 pub returns-in_err-plan-clause-answers : goal.returns-in_err-plan-clause-answers
-returns-in_err-plan-clause-answers g c =
-    let f = c.in_err-plan.field-0.0 in
-    inr (record {
-      fault = f;
-      read = c.in_err-plan.ensures.answer;
-      told = exits_with c.from_residual.result (Job (plan_fault f)) c.from_residual.ensures.1;
-      rest = (refl, refl);
-    })
+returns-in_err-plan-clause-answers g c = inr (record {
+  fault = c.in_err-plan.field-0.0;
+  read = c.in_err-plan.ensures.answer;
+  told = refused c.from_residual.result c.in_err-plan.field-0.0 c.from_residual.ensures.1;
+  rest = (refl, refl);
+})
 
 pub returns-in_err-plan-clause-mark : goal.returns-in_err-plan-clause-mark
 returns-in_err-plan-clause-mark g c =
-    let f = c.in_err-plan.field-0.0 in
-    rw (exits_with c.from_residual.result (Job (plan_fault f)) c.from_residual.ensures.1)
-    (plan_mark (g.W.Sink.failed c.args.out.now) f)
+    refused_mark (g.W.Sink.failed c.args.out.now) c.from_residual.result c.in_err-plan.field-0.0 c.from_residual.ensures.1
 
 pub returns-in_err-plan-clause-risks_calls : goal.returns-in_err-plan-clause-risks_calls
 returns-in_err-plan-clause-risks_calls g c =

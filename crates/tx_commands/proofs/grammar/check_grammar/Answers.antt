@@ -1,4 +1,0 @@
-use Rattle.tx_commands.proofs.grammar.check_grammar.Goals as goal
-
-pub returns : goal.returns
-returns c = c.with_bounds.ensures _ (c.with_file-check.ensures _ c.over_plan-check.ensures)

@@ -1,4 +1,0 @@
-use Rattle.tx_commands.proofs.grammar.survive_grammar.Goals as goal
-
-pub returns : goal.returns
-returns c = c.with_option.ensures _ c.over_plan-survive.ensures

@@ -1,0 +1,224 @@
+// The words of the commands that judge a plan, with what their help says. It ends with an example
+// and the exit statuses.
+ghost use Rattle.std.specs.Prelude.{◌≡◌, IfOk};
+ghost use Rattle.clap.specs.Words.{app_of};
+ghost use Rattle.tx_commands.specs.Grammar as grammar;
+
+use crate::arguments::{PLAN, over_plan, with_bounds, with_file, with_option};
+use crate::grammar::{top_grammar, with_command};
+use std::alloc::{AllocError, Global};
+
+const LINT_HELP: &str = "Example: telexplan lint own.plan
+
+Exit status: 0 without any line, 1 after warnings, 2 after faults, 3 for a failed read or write, 4
+when out of memory, 64 for refused words";
+
+fn lint_grammar<'a>(alloc: Global) -> Result<clap::Command<'a>, AllocError>
+    ensures { IfOk result (λ c. app_of c ≡ grammar.lint_words) }
+{
+    over_plan(
+        alloc,
+        "lint",
+        "Report all faults of a plan's text, or else what in it is of no use or likely not meant",
+        LINT_HELP,
+    )
+}
+
+const AUDIT_HELP: &str =
+    "Example: telexplan audit own.plan --limit 1 --spare 1 --cert own.cert --counter own.script
+
+Exit status: 0 after YES, 1 after NO, 2 for a refused text, 3 for a failed read or write, 4 when
+out of memory, 64 for refused words";
+
+fn audit_grammar<'a>(alloc: Global) -> Result<clap::Command<'a>, AllocError>
+    ensures { IfOk result (λ c. app_of c ≡ grammar.audit_words) }
+{
+    let audit = over_plan(
+        alloc,
+        "audit",
+        "Say whether a plan is safe: YES, or NO with what is wrong and the walks that show it",
+        AUDIT_HELP,
+    );
+    let audit = with_bounds(audit, alloc, true);
+    let audit = with_option(
+        audit,
+        alloc,
+        "cert",
+        "CERT",
+        "After YES, write the certificate to this file",
+    );
+    with_option(
+        audit,
+        alloc,
+        "counter",
+        "SCRIPT",
+        "After NO, write a script to this file that shows the first finding
+that has one",
+    )
+}
+
+const GRADE_HELP: &str = "Example: telexplan grade own.plan
+
+Exit status: 0 for a plan that has a grade, 1 for one that has none, 2 for a refused text, 3 for
+a failed read or write, 4 when out of memory, 64 for refused words";
+
+fn grade_grammar<'a>(alloc: Global) -> Result<clap::Command<'a>, AllocError>
+    ensures { IfOk result (λ c. app_of c ≡ grammar.grade_words) }
+{
+    over_plan(
+        alloc,
+        "grade",
+        "Say with which transit limits and spare numbers a plan is safe, and each of its codes",
+        GRADE_HELP,
+    )
+}
+
+const MEND_HELP: &str =
+    "Example: telexplan mend own.plan --limit 1 --spare 1 --plan new.plan --cert new.cert
+
+Exit status: 0 after YES, 1 after NO, 2 for a refused text, 3 for a failed read or write, 4 when
+out of memory, 64 for refused words";
+
+fn mend_grammar<'a>(alloc: Global) -> Result<clap::Command<'a>, AllocError>
+    ensures { IfOk result (λ c. app_of c ≡ grammar.mend_words) }
+{
+    let mend = clap::Command::new(alloc, "mend")
+        .about(
+            "Find lists with which a plan is safe: YES with each new list, or NO with whom none serve",
+        )
+        .after_help(MEND_HELP);
+    let mend = with_file(Ok(mend), alloc, "old", "PLAN", PLAN);
+    let mend = with_bounds(mend, alloc, true);
+    let mend = with_option(
+        mend,
+        alloc,
+        "plan",
+        "OUT",
+        "After YES, write the plan with these lists to this file",
+    );
+    with_option(
+        mend,
+        alloc,
+        "cert",
+        "CERT",
+        "After YES, write a certificate of that plan to this file",
+    )
+}
+
+const OLD_PLAN: &str = "The plan that is in force; - is standard input";
+
+const NEW_PLAN: &str =
+    "The plan that is to be: the same network with other routes and bars; - is standard input";
+
+const CHANGE_HELP: &str =
+    "Example: telexplan change own.plan new.plan --limit 1 --spare 1 --mixture between.plan
+
+Exit status: 0 after YES, 1 after NO, 2 for a refused text and for plans of two networks, 3 for a
+failed read or write, 4 when out of memory, 64 for refused words";
+
+fn change_grammar<'a>(alloc: Global) -> Result<clap::Command<'a>, AllocError>
+    ensures { IfOk result (λ c. app_of c ≡ grammar.change_words) }
+{
+    let change = clap::Command::new(alloc, "change")
+        .about(
+            "Say whether a plan is safe at every moment while its lists change into those of another",
+        )
+        .after_help(CHANGE_HELP);
+    let change = with_file(Ok(change), alloc, "old", "OLD", OLD_PLAN);
+    let change = with_file(change, alloc, "new", "NEW", NEW_PLAN);
+    let change = with_bounds(change, alloc, true);
+    let change = with_option(
+        change,
+        alloc,
+        "cert",
+        "CERT",
+        "After YES, write a certificate of both plans to this file",
+    );
+    let change = with_option(
+        change,
+        alloc,
+        "mixture",
+        "PLAN",
+        "After NO, write a plan of old and new lists to this file that shows
+the first finding that has a walk",
+    );
+    with_option(
+        change,
+        alloc,
+        "counter",
+        "SCRIPT",
+        "After NO, write a script to this file that shows the same finding in
+that plan, if there is one",
+    )
+}
+
+const SURVIVE_HELP: &str =
+    "Of an exchange that fails, the calls that start there and those for codes at home there are
+left out.
+
+Example: telexplan survive own.plan --risks cables
+
+Exit status: 0 after YES, 1 after NO and for a plan that has no grade, 2 for a refused text, 3 for
+a failed read or write, 4 when out of memory, 64 for refused words";
+
+fn survive_grammar<'a>(alloc: Global) -> Result<clap::Command<'a>, AllocError>
+    ensures { IfOk result (λ c. app_of c ≡ grammar.survive_words) }
+{
+    let survive = over_plan(
+        alloc,
+        "survive",
+        "Say whom each group, exchange and named risk of a plan cuts off if it fails alone",
+        SURVIVE_HELP,
+    );
+    with_option(
+        survive,
+        alloc,
+        "risks",
+        "RISKS",
+        "The named risks, such as cables: lines RISK name group .., between
+RISKS 1 and END; - is standard input",
+    )
+}
+
+const CHECK_HELP: &str = "Example: telexplan check own.plan own.cert --limit 1 --spare 1
+
+Exit status: 0 after YES, 1 after NO, 2 for a refused text, 3 for a failed read or write, 4 when
+out of memory, 64 for refused words";
+
+fn check_grammar<'a>(alloc: Global) -> Result<clap::Command<'a>, AllocError>
+    ensures { IfOk result (λ c. app_of c ≡ grammar.check_words) }
+{
+    let check = over_plan(
+        alloc,
+        "check",
+        "Say whether a certificate shows that a plan is safe: YES, or NO with the first reason",
+        CHECK_HELP,
+    );
+    let check = with_file(
+        check,
+        alloc,
+        "cert",
+        "CERT",
+        "The certificate: ranks of exchanges for each code; - is standard input",
+    );
+    with_bounds(check, alloc, true)
+}
+
+/// The program with the commands that judge a plan.
+pub(crate) fn judging_grammar<'a>(alloc: Global) -> Result<clap::Command<'a>, AllocError>
+    ensures { IfOk result (λ c. app_of c ≡ grammar.judging_words) }
+{
+    let program = with_command(
+        with_command(top_grammar(alloc), lint_grammar(alloc)),
+        audit_grammar(alloc),
+    );
+    let program = with_command(
+        with_command(program, grade_grammar(alloc)),
+        mend_grammar(alloc),
+    );
+    let program = with_command(
+        with_command(program, change_grammar(alloc)),
+        survive_grammar(alloc),
+    );
+    with_command(program, check_grammar(alloc))
+}

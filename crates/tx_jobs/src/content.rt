@@ -1,0 +1,36 @@
+// What goes into the files that a command makes.
+ghost use Rattle.tx_text.specs.Wrote.{Wrote};
+ghost use Rattle.tx_jobs.specs.Contents.{content_text};
+
+use crate::evidence::CounterScript;
+use std::alloc::{Allocator, Global};
+use tx_audit::write_counter;
+use tx_cert::{Cert, write_cert};
+use tx_plan::Plan;
+use tx_plantext::write_plan;
+use tx_text::{Sink, WriteFault};
+
+/// What goes into a file that a command makes.
+#[derive(Clone, Copy)]
+pub enum Content<'a, A: Allocator = Global> {
+    /// A plan that was mended, or a mixture of two plans.
+    Plan(&'a Plan<A>),
+    /// A certificate of a plan.
+    Cert(&'a Plan<A>, &'a Cert<A>),
+    /// The script of a call that goes along the walk of a finding.
+    Script(&'a CounterScript<A>),
+}
+
+/// Writes what goes into a file.
+pub fn write_content<A: Allocator, W: Sink>(
+    content: Content<'_, A>,
+    sink: &mut W,
+) -> Result<(), WriteFault>
+    ensures { Wrote W.taken W.failed sink.old sink.new (content_text content.entry) result }
+{
+    match content {
+        Content::Plan(plan) => write_plan(plan, sink),
+        Content::Cert(plan, cert) => write_cert(cert, plan, sink),
+        Content::Script(script) => write_counter(&script.plan, script.events.as_slice(), sink),
+    }
+}

@@ -1,0 +1,123 @@
+// What a command came to.
+ghost use Rattle.std.specs.Prelude.{◌≡◌, map, option_map};
+ghost use Rattle.tx_jobs.specs.Contents.{content_text};
+
+use crate::content::Content;
+use crate::evidence::Evidence;
+use crate::mixture::{ChangeEvidence, Mixture};
+use std::alloc::{Allocator, Global};
+use tx_audit::Checked;
+use tx_check::Verdict;
+use tx_mend::Mending;
+use tx_plan::CodeId;
+use tx_rank::Grade;
+use tx_risk::Survival;
+use tx_script::Summary;
+
+/// What a command came to: the answer of its job.
+#[derive(Debug, Drop)]
+pub enum Done<A: Allocator = Global> {
+    /// A script was run.
+    Ran(Summary),
+    /// A script was run that told more. The flag: the exit status is to show whether an event was
+    /// refused.
+    Told(bool, Summary),
+    /// A script was run after a Yes to a certificate, or was not after a No.
+    Checked(Checked),
+    /// A certificate was checked.
+    Verified(Verdict),
+    /// Codes were listed: the least pair of which one begins the other, if there is one.
+    Listed(Option<(CodeId, CodeId)>),
+    /// A text was looked through, with this exit status.
+    Linted(u8),
+    /// A plan was audited.
+    Audited(Evidence<A>),
+    /// A change of plan was judged.
+    Changed(ChangeEvidence<A>),
+    /// A plan was mended, or cannot be.
+    Mended(Mending<A>),
+    /// A plan was graded.
+    Graded(Grade<A>),
+    /// The outages of a plan were tried.
+    Survived(Survival<A>),
+    /// A trace, a picture or an explanation was written.
+    Written,
+}
+
+impl<A: Allocator> Done<A> {
+    ghost use Rattle.tx_jobs.specs.Done.{status_of_done, texts_of};
+
+    /// The exit status: 0, or 1 after a No (where codes are ambiguous; where a plan has no grade;
+    /// after warnings of a text; after a refused event, if that is to show), 2 after faults of a
+    /// text that was looked through.
+    pub fn status(&self) -> u8
+        ensures { result ≡ status_of_done self.now }
+    {
+        match self {
+            Done::Ran(_)
+            | Done::Written
+            | Done::Checked(Checked::Ran(_))
+            | Done::Verified(Verdict::Yes)
+            | Done::Listed(None)
+            | Done::Audited(Evidence::Sound(_, _))
+            | Done::Changed(ChangeEvidence::Sound(_, _))
+            | Done::Mended(Mending::Mended(_, _, _)) => 0,
+            Done::Checked(Checked::Denied(_))
+            | Done::Verified(Verdict::No(_))
+            | Done::Listed(Some(_))
+            | Done::Audited(Evidence::Unsound(_))
+            | Done::Changed(ChangeEvidence::Unsound(_))
+            | Done::Mended(Mending::NoRouting(_, _, _))
+            | Done::Survived(Survival::Ungraded(_)) => 1,
+            Done::Told(strict, summary) => u8::from(*strict && summary.refused != 0),
+            Done::Graded(grade) => u8::from(grade.plan.is_none()),
+            Done::Survived(Survival::Tried(cuts)) => u8::from(!cuts.is_empty()),
+            Done::Linted(status) => *status,
+        }
+    }
+
+    /// What goes into the files that the command may make: the plan, the certificate and the
+    /// script, each if there is one.
+    pub fn contents(&self) -> [Option<Content<'_, A>>; 3]
+        ensures { map (option_map content_text) result ≡ texts_of self.now }
+    {
+        match self {
+            Done::Audited(Evidence::Sound(plan, cert))
+            | Done::Changed(ChangeEvidence::Sound(plan, cert)) => {
+                [None, Some(Content::Cert(plan, cert)), None]
+            }
+            Done::Audited(Evidence::Unsound(Some(script))) => {
+                [None, None, Some(Content::Script(script))]
+            }
+            Done::Changed(ChangeEvidence::Unsound(Some(Mixture::Scripted(script)))) => {
+                [
+                    Some(Content::Plan(&script.plan)),
+                    None,
+                    Some(Content::Script(script)),
+                ]
+            }
+            Done::Changed(ChangeEvidence::Unsound(Some(Mixture::Unscripted(plan)))) => {
+                [Some(Content::Plan(plan)), None, None]
+            }
+            Done::Mended(Mending::Mended(plan, _, cert)) => {
+                [
+                    Some(Content::Plan(plan)),
+                    Some(Content::Cert(plan, cert)),
+                    None,
+                ]
+            }
+            Done::Ran(_)
+            | Done::Told(_, _)
+            | Done::Checked(_)
+            | Done::Verified(_)
+            | Done::Listed(_)
+            | Done::Linted(_)
+            | Done::Audited(Evidence::Unsound(None))
+            | Done::Changed(ChangeEvidence::Unsound(None))
+            | Done::Mended(Mending::NoRouting(_, _, _))
+            | Done::Graded(_)
+            | Done::Survived(_)
+            | Done::Written => [None, None, None],
+        }
+    }
+}

@@ -1,0 +1,167 @@
+// The jobs of all commands, behind one call.
+ghost use Rattle.std.specs.Prelude.{◌≡◌, ◌≢◌, ◌≤◌, true, IfSome};
+ghost use Rattle.tx_text.specs.Calls.{CallsAtMost, source_calls};
+ghost use Rattle.tx_text.specs.Ends.{input, output};
+ghost use Rattle.tx_commands.specs.Commands.{IsInRange};
+ghost use Rattle.tx_commands.specs.declared.command.Command.TheVariants.{Pipe};
+ghost use Rattle.tx_jobs.specs.JobFaults.{mark_after};
+ghost use Rattle.tx_jobs.specs.Done.{HasDrawn, IsDone};
+ghost use Rattle.tx_jobs.specs.inner.Texts.{has_more_texts};
+
+use crate::audit_evidence::evidence_job;
+use crate::change_evidence::change_evidence_job;
+use crate::check::check_job;
+use crate::codes::codes_job;
+use crate::done::Done;
+use crate::draw::draw_job;
+use crate::grade::grade_job;
+use crate::job_fault::JobFault;
+use crate::lint::lint_job;
+use crate::mend::mend_job;
+use crate::pipe::pipe_job;
+use crate::run::run_job;
+use crate::run_checked::run_checked_job;
+use crate::survive::{survive_job, survive_risks_job};
+use crate::telling::run_telling_job;
+use crate::trace::trace_job;
+use std::alloc::Allocator;
+use tx_commands::{Command, Files};
+use tx_explain::write_explanation;
+use tx_script::Telling;
+use tx_text::{Sink, Source};
+
+/// Does the job of a command: reads its texts, in the order in which its files are opened, and
+/// writes what it prints. Answers what the command came to. `Err` is the fault of the first call
+/// that failed.
+pub fn do_job<A: Allocator + Copy, P: Source, Q: Source, R: Source, W: Sink>(
+    alloc: A,
+    command: &Command,
+    first: &mut P,
+    second: &mut Q,
+    third: &mut R,
+    out: &mut W,
+) -> Result<Done<A>, JobFault>
+    requires { IsInRange command.now }
+    ensures done { IsDone P.rest P.failed P.called first.old first.new
+        (input Q.rest Q.failed Q.called second.old second.new)
+        (input R.rest R.failed R.called third.old third.new)
+        (output W.taken out.old out.new) command.now result }
+    ensures mark { W.failed out.new ≡ mark_after (W.failed out.old) result }
+    ensures first_calls { command.now ≢ Pipe
+        → CallsAtMost P.called source_calls first.old first.new }
+    ensures second_calls { CallsAtMost Q.called source_calls second.old second.new }
+    ensures third_calls { CallsAtMost R.called source_calls third.old third.new }
+{
+    let files = Files::of(command);
+    match command {
+        Command::Pipe
+        | Command::Run { .. }
+        | Command::RunTelling { .. }
+        | Command::Check { .. }
+        | Command::Change { .. }
+        | Command::Survive { risks: Some(_), .. } => {
+            do_texts(alloc, command, first, second, third, out)
+        }
+        Command::Lint { plan } => Ok(Done::Linted(lint_job(alloc, first, plan.as_bytes(), out)?)),
+        Command::Codes { .. } => Ok(Done::Listed(codes_job(alloc, first, out)?)),
+        Command::Audit { limit, spare, .. } => {
+            let shown = files.script.is_some();
+            Ok(Done::Audited(evidence_job(alloc, first, *limit, *spare, shown, out)?))
+        }
+        Command::Mend { limit, spare, .. } => {
+            Ok(Done::Mended(mend_job(alloc, first, *limit, *spare, out)?))
+        }
+        Command::Survive { risks: None, .. } => Ok(Done::Survived(survive_job(alloc, first, out)?)),
+        Command::Grade { .. } => Ok(Done::Graded(grade_job(alloc, first, out)?)),
+        Command::Trace { exchange, code, .. } => {
+            trace_job(alloc, first, exchange.as_bytes(), code.as_bytes(), out)?;
+            Ok(Done::Written)
+        }
+        Command::Draw { routes, .. } => draw(alloc, routes, first, out),
+        Command::Explain { word } => {
+            write_explanation(word.as_deref(), out)?;
+            Ok(Done::Written)
+        }
+    }
+}
+
+/// Does the job of a command over more than one text.
+fn do_texts<A: Allocator + Copy, P: Source, Q: Source, R: Source, W: Sink>(
+    alloc: A,
+    command: &Command,
+    first: &mut P,
+    second: &mut Q,
+    third: &mut R,
+    out: &mut W,
+) -> Result<Done<A>, JobFault>
+    requires range { IsInRange command.now }
+    requires texts { has_more_texts command.now ≡ true }
+    ensures done { IsDone P.rest P.failed P.called first.old first.new
+        (input Q.rest Q.failed Q.called second.old second.new)
+        (input R.rest R.failed R.called third.old third.new)
+        (output W.taken out.old out.new) command.now result }
+    ensures mark { W.failed out.new ≡ mark_after (W.failed out.old) result }
+    ensures first_calls { command.now ≢ Pipe
+        → CallsAtMost P.called source_calls first.old first.new }
+    ensures second_calls { CallsAtMost Q.called source_calls second.old second.new }
+    ensures third_calls { CallsAtMost R.called source_calls third.old third.new }
+{
+    let files = Files::of(command);
+    match command {
+        Command::Pipe => Ok(Done::Ran(pipe_job(alloc, first, out)?)),
+        Command::Run { checked: None, .. } => Ok(Done::Ran(run_job(alloc, first, second, out)?)),
+        Command::Run {
+            checked: Some((_, limit, spare)),
+            ..
+        } => {
+            let checked = run_checked_job(alloc, first, second, *limit, *spare, third, out)?;
+            Ok(Done::Checked(checked))
+        }
+        Command::RunTelling {
+            strict,
+            echo,
+            summary,
+            ..
+        } => {
+            let telling = Telling {
+                echo: *echo,
+                summary: *summary,
+            };
+            let summary = run_telling_job(alloc, telling, first, second, out)?;
+            Ok(Done::Told(*strict, summary))
+        }
+        Command::Check { limit, spare, .. } => {
+            Ok(Done::Verified(check_job(alloc, first, second, *limit, *spare, out)?))
+        }
+        Command::Change { limit, spare, .. } => {
+            let shown = files.plan.is_some() || files.script.is_some();
+            let changed = change_evidence_job(alloc, first, second, *limit, *spare, shown, out)?;
+            Ok(Done::Changed(changed))
+        }
+        Command::Survive { risks: Some(_), .. } => {
+            Ok(Done::Survived(survive_risks_job(alloc, first, second, out)?))
+        }
+        _ => unreachable!(),
+    }
+}
+
+/// Draws a plan, or the routes for one of its codes.
+fn draw<A: Allocator + Copy, P: Source, W: Sink>(
+    alloc: A,
+    routes: &Option<(String, Option<(u8, u8)>)>,
+    plan: &mut P,
+    out: &mut W,
+) -> Result<Done<A>, JobFault>
+    requires limit { IfSome routes.now (λ r. IfSome r.1 (λ n. n.0 ≤ 62)) }
+    requires spare { IfSome routes.now (λ r. IfSome r.1 (λ n. n.1 ≤ 15)) }
+    ensures done { HasDrawn (input P.rest P.failed P.called plan.old plan.new)
+        (output W.taken out.old out.new) routes.now result }
+    ensures mark { W.failed out.new ≡ mark_after (W.failed out.old) result }
+    ensures calls { CallsAtMost P.called source_calls plan.old plan.new }
+{
+    match routes {
+        None => draw_job(alloc, plan, None, None, out)?,
+        Some((code, numbers)) => draw_job(alloc, plan, Some(code.as_bytes()), *numbers, out)?,
+    }
+    Ok(Done::Written)
+}

@@ -1,0 +1,172 @@
+// The command that a case plays, and its texts.
+ghost use Rattle.std.specs.Prelude.{IfOk};
+ghost use Rattle.tx_commands.specs.Commands.{IsInRange, IsInRange-prop};
+
+use crate::cases::case::two_texts;
+use std::alloc::{AllocError, Global};
+use tx_commands::{Command, Files, WordsFault, read_command};
+
+/// The words of a command by the kind of its case and, where it matters, the word after the kind.
+/// `@1`, `@2` and `@3` stand for the words after the kind: where there is no such word, what has it
+/// is left out. All that a command can print and make is asked for.
+static COMMANDS: [(&str, &str, &str); 17] = [
+    ("pipe", "", ""),
+    ("run", "", "run plan script"),
+    (
+        "checked",
+        "",
+        "run plan script --cert=cert --limit=@1 --spare=@2",
+    ),
+    ("telling", "summary", "run plan script --strict --summary"),
+    (
+        "telling",
+        "both",
+        "run plan script --strict --echo --summary",
+    ),
+    ("telling", "", "run plan script --strict --echo"),
+    ("check", "", "check plan cert --limit=@1 --spare=@2"),
+    ("lint", "", "lint @1"),
+    ("codes", "", "codes plan"),
+    (
+        "audit",
+        "",
+        "audit plan --limit=@1 --spare=@2 --cert=cert --counter=script",
+    ),
+    (
+        "change",
+        "",
+        "change old new --limit=@1 --spare=@2 --cert=cert --mixture=plan --counter=script",
+    ),
+    (
+        "mend",
+        "",
+        "mend old --limit=@1 --spare=@2 --plan=plan --cert=cert",
+    ),
+    ("survive", "alone", "survive plan"),
+    ("survive", "", "survive plan --risks=risks"),
+    ("grade", "", "grade plan"),
+    ("trace", "", "trace plan @1 @2"),
+    ("draw", "", "draw plan --code=@1 --limit=@2 --spare=@3"),
+];
+
+/// The words of the command of a kind, if it is that of a command.
+fn words_of(kind: &[u8], first: &[u8]) -> Option<&'static str> {
+    for (name, second, words) in &COMMANDS {
+        if kind == name.as_bytes() && (second.is_empty() || first == second.as_bytes()) {
+            return Some(*words);
+        }
+    }
+    None
+}
+
+/// Whether a kind is that of a command.
+pub fn is_command(kind: &[u8]) -> bool {
+    words_of(kind, b"").is_some()
+}
+
+/// A word of a command, with what stands after the kind in its place.
+fn placed(alloc: Global, word: &str, after: [&[u8]; 3]) -> Result<Option<String>, AllocError> {
+    let Some((front, place)) = word.split_once('@') else {
+        return Ok(Some(String::from_str(alloc, word)?));
+    };
+    let given = match place {
+        "1" => after[0],
+        "2" => after[1],
+        _ => after[2],
+    };
+    match str::from_utf8(given) {
+        Ok("") | Err(_) => Ok(None),
+        Ok(given) => Ok(Some(format!(in alloc; "{front}{given}")?)),
+    }
+}
+
+/// The command of a kind and the words after it.
+pub fn command_of(alloc: Global, kind: &[u8], after: [&[u8]; 3]) -> Result<Command, WordsFault>
+    ensures { IfOk result IsInRange }
+{
+    let mut all = Vec::new(alloc);
+    for word in words_of(kind, after[0])
+        .unwrap_or("no-command")
+        .split_whitespace()
+    {
+        if let Some(word) = placed(alloc, word, after)? {
+            all.push(word)?;
+        }
+    }
+    let mut words = Vec::new(alloc);
+    for word in &all {
+        words.push(word.as_str())?;
+    }
+    read_command(alloc, words.as_slice())
+}
+
+/// A command and its texts, in the order in which they are read.
+#[derive(Clone, Copy)]
+pub struct Task<'a> {
+    /// The kind of its case.
+    pub kind: &'a [u8],
+    pub command: &'a Command,
+    pub first: &'a [u8],
+    pub second: &'a [u8],
+    pub third: &'a [u8],
+    ghost in_range: { IsInRange command.now } by { IsInRange-prop command.now },
+}
+
+impl<'a> Task<'a> {
+    /// A command over its first text and the others, which are in one.
+    pub fn new(kind: &'a [u8], command: &'a Command, first: &'a [u8], rest: &'a [u8]) -> Task<'a>
+        requires { IsInRange command.now }
+    {
+        let (second, third) = if Files::of(command).reads[2].is_some() {
+            two_texts(rest)
+        } else {
+            (rest, b"".as_slice())
+        };
+        Task {
+            kind,
+            command,
+            first,
+            second,
+            third,
+        }
+    }
+
+    /// How many sources it has: one for each file that the command reads.
+    pub fn sources(&self) -> usize {
+        let reads = Files::of(self.command).reads;
+        reads.iter().filter(|file| file.is_some()).count()
+    }
+
+    /// Its last text.
+    pub fn last(&self) -> &'a [u8] {
+        match self.sources() {
+            1 => self.first,
+            2 => self.second,
+            _ => self.third,
+        }
+    }
+
+    /// The task with another last text.
+    pub fn with_last(self, text: &'a [u8]) -> Task<'a> {
+        let sources = self.sources();
+        let Task {
+            kind,
+            command,
+            mut first,
+            mut second,
+            mut third,
+        } = self;
+        match sources {
+            1 => first = text,
+            2 => second = text,
+            _ => third = text,
+        }
+        Task {
+            kind,
+            command,
+            first,
+            second,
+            third,
+        }
+    }
+}
