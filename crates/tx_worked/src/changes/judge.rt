@@ -26,8 +26,7 @@ fn all_are_ranked(mixing: Mixing<'_>) -> bool {
 
 /// Whether the checker says Yes to a certificate for each mixture, the old plan and the new one
 /// among them.
-fn certifies_all(mixing: Mixing<'_>, cert: &Cert) -> bool
-{
+fn certifies_all(mixing: Mixing<'_>, cert: &Cert) -> bool {
     for number in mixing.mixtures {
         if let Some(member) = mixing.members.get(*number as usize) {
             match check(&member.plan, cert, mixing.limits.limit, mixing.limits.spare) {
@@ -46,8 +45,7 @@ fn cert_differs(
     wanted: &[Wanted],
     cert: &Cert,
     mixing: Mixing<'_>,
-) -> Option<Difference>
-{
+) -> Option<Difference> {
     if !all_are_ranked(mixing) || !wanted.is_empty() {
         return Some(Difference::Found);
     }
@@ -109,8 +107,7 @@ pub fn change_differs(
     wanted: &[Wanted],
     mixing: Mixing<'_>,
     showing: &mut Showing,
-) -> Result<Option<Difference>, Stop>
-{
+) -> Result<Option<Difference>, Stop> {
     let differs = match first_difference(&old.plan, &new.plan) {
         None => answer_differs(alloc, &old.plan, &new.plan, joined, wanted, mixing)?,
         Some(_) => Some(Difference::Networks),

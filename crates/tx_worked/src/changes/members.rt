@@ -22,13 +22,15 @@ pub struct Member {
 impl Member {
     /// Whether it has ranks for a limit and a spare number.
     pub fn is_ranked(&self, limits: Limits) -> bool {
-        self.ranked.get(tried_before(limits)).copied().unwrap_or(false)
+        self.ranked
+            .get(tried_before(limits))
+            .copied()
+            .unwrap_or(false)
     }
 }
 
 /// Whether a plan has ranks for a limit and a spare number.
-pub fn is_ranked(alloc: Global, plan: &Plan, limits: Limits) -> Result<bool, NoMemory>
-{
+pub fn is_ranked(alloc: Global, plan: &Plan, limits: Limits) -> Result<bool, NoMemory> {
     let ranking = rank(alloc, plan, limits.limit, limits.spare)?;
     Ok(matches!(ranking, Ranking::Found(_)))
 }

@@ -83,8 +83,7 @@ fn judge_numbers(
     limits: Limits,
     work: &mut PairWork,
     tally: &mut PairTally,
-) -> Result<(), Stop>
-{
+) -> Result<(), Stop> {
     let joined = work.joined.as_slice();
     put_wanted(&old.plan, joined, limits, &mut work.wanted)?;
     let wanted = work.wanted.as_slice();
@@ -95,10 +94,7 @@ fn judge_numbers(
     };
     let showing = &mut work.showing;
     if let Some(difference) = change_differs(alloc, old, new, joined, wanted, mixing, showing)? {
-        work.differs = Some(WalksDiffer {
-            limits,
-            difference,
-        });
+        work.differs = Some(WalksDiffer { limits, difference });
         return Err(Stop::Differs);
     }
     tally.add_answer(joined, wanted);

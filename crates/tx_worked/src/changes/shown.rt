@@ -73,8 +73,7 @@ fn is_refused(
     finding: &Finding,
     wanted: &[Wanted],
     limits: Limits,
-) -> Result<bool, NoMemory>
-{
+) -> Result<bool, NoMemory> {
     match rank(alloc, mixture, limits.limit, limits.spare)? {
         Ranking::Found(_) => Ok(false),
         Ranking::Fails(findings) => {
@@ -176,8 +175,7 @@ pub fn shown_differs(
     new: &Plan,
     mixing: Mixing<'_>,
     showing: &mut Showing,
-) -> Result<Option<Difference>, Stop>
-{
+) -> Result<Option<Difference>, Stop> {
     let old = read_plan(alloc, old)?;
     match first_difference(&old, new) {
         None => Ok(change_differs(alloc, old, new, mixing, showing)?),

@@ -177,13 +177,7 @@ fn lists_differ(
 }
 
 /// Whether a plan has ranks, and the checker says Yes to its certificate.
-fn is_certified(
-    alloc: Global,
-    plan: &Plan,
-    cert: &Cert,
-    limits: Limits,
-) -> Result<bool, NoMemory>
-{
+fn is_certified(alloc: Global, plan: &Plan, cert: &Cert, limits: Limits) -> Result<bool, NoMemory> {
     match check(plan, cert, limits.limit, limits.spare) {
         Verdict::Yes => is_ranked(alloc, plan, limits),
         Verdict::No(_) => Ok(false),
@@ -201,8 +195,7 @@ fn mended_differs(
     answers: &mut Answers,
     work: &mut RoutingWork,
     tally: &mut MendTally,
-) -> Result<Option<Difference>, NoMemory>
-{
+) -> Result<Option<Difference>, NoMemory> {
     if first_difference(asked.plan, mended).is_some() || !bars_alike(asked.plan, mended) {
         return Ok(Some(Difference::Networks));
     }
@@ -260,8 +253,7 @@ pub fn mending_differs(
     answers: &mut Answers,
     work: &mut RoutingWork,
     tally: &mut MendTally,
-) -> Result<Option<Difference>, NoMemory>
-{
+) -> Result<Option<Difference>, NoMemory> {
     let can_be = answers.unserved.is_empty() && ambiguous(asked.plan).is_none();
     match mending {
         Mending::Mended(mended, before, cert) => {

@@ -44,8 +44,7 @@ impl MendWork {
 }
 
 /// Mends the plan of a text.
-fn mending_of(alloc: Global, text: &[u8], limits: Limits) -> Result<Mending, Stop>
-{
+fn mending_of(alloc: Global, text: &[u8], limits: Limits) -> Result<Mending, Stop> {
     let plan = read_plan(alloc, text)?;
     Ok(mend(alloc, plan, limits)?)
 }
@@ -57,8 +56,7 @@ fn answer_differs(
     limits: Limits,
     work: &mut MendWork,
     tally: &mut MendTally,
-) -> Result<Option<Difference>, Stop>
-{
+) -> Result<Option<Difference>, Stop> {
     let asked = Asked {
         plan,
         surveys: work.surveys.as_slice(),
@@ -81,13 +79,9 @@ fn judge_numbers(
     limits: Limits,
     work: &mut MendWork,
     tally: &mut MendTally,
-) -> Result<(), Stop>
-{
+) -> Result<(), Stop> {
     if let Some(difference) = answer_differs(alloc, plan, limits, work, tally)? {
-        work.differs = Some(WalksDiffer {
-            limits,
-            difference,
-        });
+        work.differs = Some(WalksDiffer { limits, difference });
         return Err(Stop::Differs);
     }
     Ok(())

@@ -37,13 +37,7 @@ fn is_for(finding: &Finding, code: CodeId) -> bool {
 }
 
 /// Whether an audit of a routing finds nothing wrong with a code.
-fn is_right(
-    alloc: Global,
-    routing: &Plan,
-    code: CodeId,
-    limits: Limits,
-) -> Result<bool, NoMemory>
-{
+fn is_right(alloc: Global, routing: &Plan, code: CodeId, limits: Limits) -> Result<bool, NoMemory> {
     match rank(alloc, routing, limits.limit, limits.spare)? {
         Ranking::Found(_) => Ok(true),
         Ranking::Fails(findings) => Ok(!findings.iter().any(|it| is_for(it, code))),
@@ -79,8 +73,7 @@ fn note_numbers(
     limits: Limits,
     wanted: &mut Vec<Wanted>,
     served: &mut Served,
-) -> Result<(), NoMemory>
-{
+) -> Result<(), NoMemory> {
     note_ranks(routing, starts, limits, wanted, &mut served.ranks)?;
     if !served.is_ranked {
         served.is_ranked = is_right(alloc, routing, code, limits)?;

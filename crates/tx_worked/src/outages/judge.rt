@@ -43,8 +43,6 @@ pub fn survival_differs(
                 Ok(Some(Difference::Grade))
             }
         }
-        Survival::Ungraded(grade) => {
-            Ok(findings_differ(plan, &grade.findings, findings, HIGH))
-        }
+        Survival::Ungraded(grade) => { Ok(findings_differ(plan, &grade.findings, findings, HIGH)) }
     }
 }

@@ -46,13 +46,7 @@ pub enum Difference {
 }
 
 /// Whether a walk is one for a code, with what is wanted wrong.
-fn is_wrong(
-    plan: &Plan,
-    code: CodeId,
-    trail: &Trail<'_>,
-    wanted: Wanted,
-    limits: Limits,
-) -> bool {
+fn is_wrong(plan: &Plan, code: CodeId, trail: &Trail<'_>, wanted: Wanted, limits: Limits) -> bool {
     is_walk(plan, code, trail)
         && match wanted {
             Wanted::Ambiguous(_, _) => false,

@@ -74,8 +74,7 @@ fn found_differs(
     surveys: &[Survey],
     cert: &Cert,
     limits: Limits,
-) -> Option<Difference>
-{
+) -> Option<Difference> {
     match check(plan, cert, limits.limit, limits.spare) {
         Verdict::Yes => ranks_differ(plan, surveys, cert),
         Verdict::No(_) => Some(Difference::Refused),
@@ -111,8 +110,7 @@ fn ranking_differs(
     judged: Judged<'_>,
     told: &mut Replay,
     tally: &mut ScriptTally,
-) -> Result<Option<Difference>, NoMemory>
-{
+) -> Result<Option<Difference>, NoMemory> {
     match rank(alloc, plan, judged.limits.limit, judged.limits.spare)? {
         Ranking::Found(cert) => {
             if wanted.is_empty() {
@@ -134,8 +132,7 @@ fn judge_numbers(
     judged: Judged<'_>,
     work: &mut Work,
     tally: &mut PlanTally,
-) -> Result<(), Stop>
-{
+) -> Result<(), Stop> {
     let limits = judged.limits;
     let surveys = work.surveys.as_slice();
     put_wanted(plan, surveys, limits, &mut work.wanted)?;
@@ -144,10 +141,7 @@ fn judge_numbers(
     if let Some(difference) = ranking_differs(
         alloc, plan, surveys, wanted, judged, told, scripts,
     )? {
-        work.differs = Some(WalksDiffer {
-            limits,
-            difference,
-        });
+        work.differs = Some(WalksDiffer { limits, difference });
         return Err(Stop::Differs);
     }
     if wanted.is_empty() {

@@ -47,12 +47,9 @@ fn try_plan<A: Allocator + Copy>(
     plan: &Plan<A>,
     limits: Limits,
     script: &mut Told,
-) -> Tried
-{
+) -> Tried {
     match rank(alloc, plan, limits.limit, limits.spare) {
-        Ok(Ranking::Fails(findings)) => {
-            try_findings(alloc, plan, &findings, limits, script)
-        }
+        Ok(Ranking::Fails(findings)) => { try_findings(alloc, plan, &findings, limits, script) }
         Ok(Ranking::Found(_)) | Err(_) => Tried::Early,
     }
 }
@@ -62,8 +59,7 @@ fn try_text<A: Allocator + Copy>(
     text: &[u8],
     limits: Limits,
     script: &mut Told,
-) -> Tried
-{
+) -> Tried {
     match read_plan(alloc, text) {
         Ok(plan) => try_plan(alloc, &plan, limits, script),
         Err(_) => Tried::Early,
@@ -73,8 +69,7 @@ fn try_text<A: Allocator + Copy>(
 /// Refuses each request for memory in turn, from the plan's first one on, where the events of the
 /// first finding that has some are made. Whether each that was refused is told, and the events'
 /// script is this one where none is.
-pub fn refusals_are_told(alloc: Global, text: &[u8], limits: Limits, wanted: &[u8]) -> bool
-{
+pub fn refusals_are_told(alloc: Global, text: &[u8], limits: Limits, wanted: &[u8]) -> bool {
     let mut has_told = false;
     for request in 1..1000u64 {
         let heap = Refusing::new(alloc, request);

@@ -115,13 +115,7 @@ fn transits(plan: &Plan, code: CodeId, passed: &[ExchangeId]) -> usize {
 }
 
 /// Whether a run of some events, of which none was refused, shows the finding.
-fn shows(
-    plan: &Plan,
-    finding: &Finding,
-    events: &[Event],
-    told: &Replay,
-    limits: Limits,
-) -> bool {
+fn shows(plan: &Plan, finding: &Finding, events: &[Event], told: &Replay, limits: Limits) -> bool {
     let passed = told.passed.as_slice();
     match finding {
         Finding::Ambiguous(_, _) => false,
@@ -131,7 +125,8 @@ fn shows(
                 && is_bare(plan, *code, passed, told.replies.last(), limits.spare)
         }
         Finding::Long(code, _) => {
-            keys_code(plan, *code, events) && transits(plan, *code, passed) > usize::from(limits.limit)
+            keys_code(plan, *code, events)
+                && transits(plan, *code, passed) > usize::from(limits.limit)
         }
     }
 }
@@ -230,14 +225,7 @@ fn are_first(
     if tally.is_sample() && !holds_as_sample(alloc, plan, judged, events) {
         return Ok(false);
     }
-    runs_and_shows(
-        alloc,
-        plan,
-        finding,
-        events,
-        judged.limits,
-        told,
-    )
+    runs_and_shows(alloc, plan, finding, events, judged.limits, told)
 }
 
 /// Whether the first finding that has to have events has them, or rightly none has.
@@ -252,12 +240,7 @@ fn is_first_right(
     requires each { AllByRecursion (IsTrueOf plan.now judged.limits.limit judged.limits.spare)
         findings.now }
 {
-    match first_counter(
-        alloc,
-        plan,
-        findings,
-        judged.limits,
-    )? {
+    match first_counter(alloc, plan, findings, judged.limits)? {
         Some(events) => are_first(alloc, plan, findings, &events, judged, told, tally),
         None => Ok(first_with_script(plan, findings).is_none()),
     }
