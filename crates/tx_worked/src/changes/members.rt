@@ -40,7 +40,7 @@ fn rank_all(alloc: Global, plan: &Plan) -> Result<Vec<bool>, NoMemory> {
     let mut ranked = Vec::new(alloc);
     for limit in 0..NUMBERS {
         for spare in 0..NUMBERS {
-            ranked.push(is_ranked(alloc, plan, Limits::of(limit, spare))?)?;
+            ranked.push(is_ranked(alloc, plan, Limits { limit, spare })?)?;
         }
     }
     Ok(ranked)

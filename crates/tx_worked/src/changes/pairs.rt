@@ -117,7 +117,7 @@ fn judge_change(
     tally.add_pair(work.mixtures.len());
     for limit in 0..NUMBERS {
         for spare in 0..NUMBERS {
-            let limits = Limits::of(limit, spare);
+            let limits = Limits { limit, spare };
             judge_numbers(alloc, old, new, members, limits, work, tally)?;
         }
     }

@@ -117,7 +117,7 @@ fn judge_plan(
     tally.plans = tally.plans.saturating_add(1);
     for limit in 0..NUMBERS {
         for spare in 0..NUMBERS {
-            judge_numbers(alloc, plan, Limits::of(limit, spare), work, tally)?;
+            judge_numbers(alloc, plan, Limits { limit, spare }, work, tally)?;
         }
     }
     Ok(())

@@ -123,7 +123,7 @@ impl CodeServed {
     ) -> Result<(), NoMemory> {
         for limit in 0..NUMBERS {
             for spare in 0..NUMBERS {
-                let limits = Limits::of(limit, spare);
+                let limits = Limits { limit, spare };
                 if let Some(served) = self.numbers.get_mut(tried_before(limits)) {
                     note_numbers(alloc, routing, code, starts, limits, wanted, served)?;
                 }

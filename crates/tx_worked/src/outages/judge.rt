@@ -2,17 +2,11 @@
 ghost use Rattle.tx_risk.specs.NamedRisks.{AreRisksFor};
 
 use crate::outages::wanted::WantedCut;
-use crate::walks::{Difference, Wanted, findings_differ};
+use crate::walks::{Difference, HIGH, Wanted, findings_differ};
 use std::alloc::Global;
-use tx_plan::{Limits, Plan};
+use tx_plan::Plan;
 use tx_risk::{Cut, NamedRisk, Survival, survive};
 use tx_text::NoMemory;
-
-/// No walk of these plans is too long for this limit.
-pub const HIGH: Limits = Limits {
-    limit: 62,
-    spare: 0,
-};
 
 /// How what is told to be cut off differs from what all walks show.
 fn cuts_differ(plan: &Plan, cuts: &[Cut], wanted: &[WantedCut]) -> Option<Difference> {

@@ -2,11 +2,11 @@
 use crate::cases::{Stop, Told};
 use crate::families::{count_plans, put_plan};
 use crate::outages::failing::{Failing, put_failing, put_risks};
-use crate::outages::judge::{HIGH, survival_differs};
+use crate::outages::judge::survival_differs;
 use crate::outages::tally::{OutageTally, tell_outages};
 use crate::outages::wanted::{WantedCut, put_cuts};
 use crate::walks::{
-    Difference, Steps, Survey, WalksDiffer, Wanted, put_wanted, survey_codes, tell_stop,
+    Difference, HIGH, Steps, Survey, WalksDiffer, Wanted, put_wanted, survey_codes, tell_stop,
 };
 use std::alloc::Global;
 use tx_plan::Plan;

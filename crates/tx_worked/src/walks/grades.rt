@@ -8,10 +8,13 @@ use tx_rank::{Bounds, Finding, Grade, grade};
 use tx_text::NoMemory;
 
 /// No walk of these plans is too long for this limit.
-const HIGH: u8 = 62;
+pub const HIGH: Limits = Limits {
+    limit: 62,
+    spare: 0,
+};
 
 /// The limits and the spare numbers that are tried, up to the greatest ones.
-const LIMITS: [u8; 5] = [0, 1, 2, 3, HIGH];
+const LIMITS: [u8; 5] = [0, 1, 2, 3, 62];
 
 const SPARES: [u8; 5] = [0, 1, 2, 3, 15];
 
@@ -51,7 +54,7 @@ fn bounds_agree(
 ) -> Result<bool, NoMemory> {
     for limit in LIMITS {
         for spare in SPARES {
-            let limits = Limits::of(limit, spare);
+            let limits = Limits { limit, spare };
             put_wanted(plan, surveys, limits, wanted)?;
             let right = wanted.is_empty();
             if right != keeps(grade.plan, limits)
@@ -71,11 +74,11 @@ fn findings_agree(
     findings: &[Finding],
     wanted: &mut Vec<Wanted>,
 ) -> Result<bool, NoMemory> {
-    put_wanted(plan, surveys, Limits::of(HIGH, 0), wanted)?;
+    put_wanted(plan, surveys, HIGH, wanted)?;
     if wanted.is_empty() {
         return Ok(findings.is_empty());
     }
-    Ok(findings_differ(plan, findings, wanted, Limits::of(HIGH, 0)).is_none())
+    Ok(findings_differ(plan, findings, wanted, HIGH).is_none())
 }
 
 /// Whether the grade of a plan is what the walks show.

@@ -163,7 +163,7 @@ fn judge_plan(
     survey_codes(alloc, plan, &mut work.steps, &mut work.surveys)?;
     if !grade_agrees(alloc, plan, &work.surveys, &mut work.wanted)? {
         work.differs = Some(WalksDiffer {
-            limits: Limits::of(0, 0),
+            limits: Limits { limit: 0, spare: 0 },
             difference: Difference::Grade,
         });
         return Err(Stop::Differs);
@@ -171,7 +171,7 @@ fn judge_plan(
     tally.plans = tally.plans.saturating_add(1);
     for limit in 0..NUMBERS {
         for spare in 0..NUMBERS {
-            let limits = Limits::of(limit, spare);
+            let limits = Limits { limit, spare };
             let judged = Judged { text, limits };
             judge_numbers(alloc, plan, judged, work, tally)?;
         }
