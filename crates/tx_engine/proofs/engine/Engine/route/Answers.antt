@@ -1,8 +1,7 @@
-use Rattle.std.proofs.Common.{◌≡◌, is_some, true, sym, ap, subst, ◌∙◌}
+use Rattle.std.proofs.Common.{◌≡◌, ◌<◌, ◌-◌, ◌^◌, is_some, true, sym, ap, subst, ◌∙◌}
 use Rattle.tx_machine.specs.declared.deciding.Decision.{Decision}
 use Rattle.tx_machine.specs.declared.deciding.Decision.TheVariants.{Answer, Connect, Seize}
 use Rattle.tx_machine.specs.declared.event.Event.TheVariants.{Route}
-use Rattle.tx_machine.specs.declared.reply.Reply.TheVariants.{Answered, Connected, Seized}
 use Rattle.tx_machine.specs.Call.{call_of}
 use Rattle.tx_machine.specs.State.{Net}
 use Rattle.tx_machine.specs.inner.Decided.{carried_out}
@@ -46,7 +45,7 @@ returns-in-Answer-clause-ok g c =
     let f = c.key_of-key.ensures in
     let told = c.decide.ensures ∙ ap (carried_out v.plan v.state c.at.result.now.number) c.in-Answer.is in
     is_routed c.self.inside.inner v c.self.view_is c.args.number c.key_of-key.result c.requires f.0 _ f.1 c.at.ensures (Answer c.in-Answer.service) told
-    ∙ c.answer.ensures.step f.0 f.1.kept ∙ ap (λ (v : Net). (c.answer.result, v.state)) c.self-in-Answer.view_is
+    ∙ c.answer.ensures.step f.0 f.1.kept
 
 pub returns-in_ok-connect-in-Connect-clause-ok : goal.returns-in_ok-connect-in-Connect-clause-ok
 returns-in_ok-connect-in-Connect-clause-ok g c =
@@ -54,7 +53,7 @@ returns-in_ok-connect-in-Connect-clause-ok g c =
     let f = c.key_of-key.ensures in
     let told = c.decide.ensures ∙ ap (carried_out v.plan v.state c.at.result.now.number) c.in-Connect.is in
     is_routed c.self.inside.inner v c.self.view_is c.args.number c.key_of-key.result c.requires f.0 _ f.1 c.at.ensures (Connect c.in-Connect.line) told
-    ∙ c.in_ok-connect-in-Connect.ensures.ok f.0 f.1.kept ∙ ap (λ (v : Net). (Connected c.in-Connect.line, v.state)) c.self-in_ok-connect-in-Connect.view_is
+    ∙ c.in_ok-connect-in-Connect.ensures.ok f.0 f.1.kept
 
 pub returns-in_ok-seize-in-Seize-clause-ok : goal.returns-in_ok-seize-in-Seize-clause-ok
 returns-in_ok-seize-in-Seize-clause-ok g c =
@@ -62,4 +61,4 @@ returns-in_ok-seize-in-Seize-clause-ok g c =
     let f = c.key_of-key.ensures in
     let told = c.decide.ensures ∙ ap (carried_out v.plan v.state c.at.result.now.number) c.in-Seize.is in
     is_routed c.self.inside.inner v c.self.view_is c.args.number c.key_of-key.result c.requires f.0 _ f.1 c.at.ensures (Seize c.in-Seize.circuit) told
-    ∙ c.in_ok-seize-in-Seize.ensures.ok f.0 f.1.kept ∙ ap (λ (v : Net). (Seized c.in-Seize.circuit, v.state)) c.self-in_ok-seize-in-Seize.view_is
+    ∙ c.in_ok-seize-in-Seize.ensures.ok f.0 f.1.kept
