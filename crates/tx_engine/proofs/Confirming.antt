@@ -20,7 +20,7 @@ use Rattle.tx_machine.specs.Call.{Call, place_of}
 use Rattle.tx_machine.specs.InUse.{circuits_carried}
 use Rattle.tx_machine.specs.Confirming.{far_of, carried_on, rival, confirmed, confirmed_by}
 use Rattle.tx_machine.specs.Routing.{set_call}
-use Rattle.tx_machine.specs.Step.{accepted, counted, with_call}
+use Rattle.tx_machine.specs.Step.{accepted, with_call}
 use Rattle.tx_circuits.specs.Table.{Table, IsSeizedBy, with_held}
 use Rattle.tx_calls.specs.Calls.{Kept, Calls, kept_at, Changes, calls_in}
 use Rattle.tx_calls.specs.inner.Keys.{HasKeys, keys_at, keys_of, pick}
@@ -95,10 +95,10 @@ module _ {A : Type 0} (n : EngineState A) (sound : IsSound n) (number key : ℕ)
           (sound.together.inv.pairs k.call d.call in' (sorted_mem n.calls.slots i d q) (λ e. apart i d ne q (sym e))).right x calling (subst (λ z. Among z (circuits_carried d.call)) (same_circuit-is y x tie) m)))
           (λ y g. let bad : ⊥ = cc in absurd bad)
 
-      pub step_confirmed : counted (accepted p (state_of n) (Confirm number)) ≡ (At far, state_seen (calls_in c) t n.lines n.numbers (n.events + 1) n.tickets.items)
+      pub step_confirmed : accepted p (state_of n) (Confirm number) ≡ (At far, state_seen (calls_in c) t n.lines n.numbers n.events n.tickets.items)
       step_confirmed =
-          ap (λ o. counted (with_call o (state_of n) (λ c. confirmed p (state_of n) c c.phase))) at.open'
-          ∙ ap (λ z. counted (confirmed p (state_of n) k.call z)) calling
-          ∙ ap (λ o. counted (confirmed_by p (state_of n) k.call x o)) alone
-          ∙ (λ i. counted (At (sym is_far i), record (state_of n) { calls = set_call k.call.number (carried_on x (sym is_far i)) (calls_in n.calls) }))
-          ∙ (λ i. (At far, state_seen (sym calls i) (sym held i) n.lines n.numbers (n.events + 1) n.tickets.items))
+          ap (λ o. with_call o (state_of n) (λ c. confirmed p (state_of n) c c.phase)) at.open'
+          ∙ ap (λ z. confirmed p (state_of n) k.call z) calling
+          ∙ ap (λ o. confirmed_by p (state_of n) k.call x o) alone
+          ∙ (λ i. (At (sym is_far i), record (state_of n) { calls = set_call k.call.number (carried_on x (sym is_far i)) (calls_in n.calls) }))
+          ∙ (λ i. (At far, state_seen (sym calls i) (sym held i) n.lines n.numbers n.events n.tickets.items))

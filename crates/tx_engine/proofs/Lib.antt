@@ -8,9 +8,6 @@ pub mod Ended
 pub mod Confirming
 pub mod HeadOn
 pub mod Lost
-pub mod AfterCode
-pub mod Found
-pub mod Choosing
 pub mod Filters
 pub mod Given
 pub mod InTurn

@@ -2,7 +2,7 @@
 ghost use Rattle.std.specs.Prelude.{◌≡◌, ◌≢◌, ℕ, ◌<◌, ◌-◌, ◌^◌, is_some, Some, None, true};
 ghost use Rattle.tx_machine.specs.declared.event.Event.TheVariants.{Clear};
 ghost use Rattle.tx_machine.specs.Ending.{end_call, ticket_of};
-ghost use Rattle.tx_machine.specs.Step.{accepted, counted};
+ghost use Rattle.tx_machine.specs.Step.{accepted};
 ghost use Rattle.tx_machine.specs.Refusals.{refusal};
 ghost use Rattle.tx_calls.specs.Calls.{Kept, kept_at};
 ghost use Rattle.tx_machine.specs.Seen.{call_seen};
@@ -24,8 +24,8 @@ impl<'p, A: Allocator + Copy> EngineState<'p, A> {
             (state_of self.old) (Clear number party) ≡ None }
         ensures sound { IsSound self.new }
         ensures plan { self.new.plan.now ≡ self.old.plan.now }
-        ensures step { counted (accepted self.old.plan.now
-            (state_of self.old) (Clear number party)) ≡ (result, state_of self.new) }
+        ensures step { accepted self.old.plan.now (state_of self.old) (Clear number party)
+            ≡ (result, state_of self.new) }
     {
         let key = self.key_of(number);
         let cause = match party {
@@ -33,7 +33,6 @@ impl<'p, A: Allocator + Copy> EngineState<'p, A> {
             Party::Called => Cause::ClearedByCalled,
         };
         self.end_call(key, cause);
-        self.events += 1;
         Reply::Cleared
     }
 

@@ -1,8 +1,7 @@
-// The indexed network: what it keeps, what it knows for the refusals, and what it does with an
-// event.
+// The indexed network: what it keeps, what it knows, and what it does with an event.
 ghost use Rattle.std.specs.Prelude.{◌≡◌, IfOk, OnErr, None, true, is_some};
 ghost use Rattle.tx_machine.specs.State.{opening};
-ghost use Rattle.tx_machine.specs.Step.{accepted, counted, takes_memory};
+ghost use Rattle.tx_machine.specs.Step.{accepted, takes_memory};
 ghost use Rattle.tx_machine.specs.Refusals.{refusal};
 ghost use Rattle.tx_engine.specs.inner.Sound.{IsSound, state_of, IsUnder};
 ghost use Rattle.tx_machine.specs.Call.{call_of};
@@ -13,9 +12,9 @@ use std::collections::VecDeque;
 use std::marker::Model;
 use tx_calls::{CircuitKeys, OpenCalls};
 use tx_circuits::CircuitTable;
-use tx_lines::LineBook;
-use tx_machine::{Event, Facts, Network, Phase, Reply, Ticket, refusal_of};
-use tx_plan::{Circuit, GroupId, Line, Plan};
+use tx_lines::{LineBook, Status};
+use tx_machine::{Event, Facts, LineStatus, Network, Phase, Reply, Ticket, refusal_of};
+use tx_plan::{Circuit, CodeId, ExchangeId, GroupId, Line, Plan};
 use tx_text::NoMemory;
 use tx_trie::CodeTrie;
 
@@ -74,6 +73,41 @@ impl<'p, A: Allocator + Copy> Engine<'p, A> {
         let inner = EngineState::build(alloc, plan, numbers, events)?;
         Ok(Engine { inner })
     }
+
+    /// One event that is not refused, before it is counted.
+    fn accept(&mut self, event: &Event) -> Result<Reply, NoMemory>
+        requires { refusal self.old.plan self.old.state event.now ≡ None }
+        ensures plan { self.new.plan ≡ self.old.plan }
+        ensures ok { IfOk result (λ reply. accepted self.old.plan self.old.state event.now
+            ≡ (reply, self.new.state)) }
+        ensures err { OnErr result (self.new ≡ self.old) }
+        ensures memory { OnErr result (takes_memory event.now ≡ true) }
+    {
+        match event {
+            Event::Key { line, keyed } => return self.inner.key(*line, *keyed),
+            Event::Route(number) => return self.route(*number),
+            Event::Confirm(number) => return Ok(self.inner.confirm(*number)),
+            Event::Clear { call, party } => return Ok(self.inner.clear(*call, *party)),
+            Event::Fail(group) => return Ok(self.inner.fail(*group)),
+            Event::Released(circuit) => self.inner.circuits.released(circuit),
+            Event::Restore(group) => self.inner.circuits.restore(*group),
+            Event::Block(group) => self.inner.circuits.block(*group),
+            Event::Unblock(group) => self.inner.circuits.unblock(*group),
+            Event::CircuitOut(circuit) => self.inner.circuits.put_out(circuit),
+            Event::CircuitIn(circuit) => self.inner.circuits.put_in(circuit),
+            Event::LineFault(line) => {
+                self.inner.lines.reserve_one()?;
+                self.inner.lines.set_fault(line, true);
+            }
+            Event::LineMend(line) => self.inner.lines.set_fault(line, false),
+            Event::LineAway(line) => {
+                self.inner.lines.reserve_one()?;
+                self.inner.lines.set_away(line, true);
+            }
+            Event::LineBack(line) => self.inner.lines.set_away(line, false),
+        }
+        Ok(Reply::Done)
+    }
 }
 
 impl<'p, A: Allocator + Copy> Network for Engine<'p, A> {
@@ -86,7 +120,11 @@ impl<'p, A: Allocator + Copy> Network for Engine<'p, A> {
     fn apply(&mut self, event: Event) -> Result<Reply, NoMemory> {
         match refusal_of(self, &event) {
             Some(refusal) => Ok(Reply::Refused(refusal)),
-            None => self.inner.accept(&event),
+            None => {
+                let reply = self.accept(&event)?;
+                self.inner.events += 1;
+                Ok(reply)
+            }
         }
     }
 
@@ -104,9 +142,15 @@ impl<'p, A: Allocator + Copy> Network for Engine<'p, A> {
 }
 
 impl<'p, A: Allocator + Copy> Facts for Engine<'p, A> {
+    type A = A;
+
     ghost plan = { λ n. n.plan };
 
     ghost state = { λ n. n.state };
+
+    fn plan(&self) -> &Plan<A> {
+        self.inner.plan
+    }
 
     fn phase_of(&self, number: u32) -> Option<Phase> {
         match self.inner.calls.find(number) {
@@ -115,20 +159,25 @@ impl<'p, A: Allocator + Copy> Facts for Engine<'p, A> {
         }
     }
 
+    fn code_of(&self, keyed: &[u8]) -> Option<CodeId> {
+        self.inner.codes.read(keyed)
+    }
+
     fn has_line(&self, line: &Line) -> bool {
         self.inner.lines.has(line)
     }
 
-    fn is_engaged(&self, line: &Line) -> bool {
-        self.inner.lines.is_engaged(line)
-    }
-
-    fn is_faulty(&self, line: &Line) -> bool {
-        self.inner.lines.is_faulty(line)
-    }
-
-    fn is_away(&self, line: &Line) -> bool {
-        self.inner.lines.is_away(line)
+    fn status(&self, line: &Line) -> LineStatus {
+        let Status {
+            faulty,
+            away,
+            engaged,
+        } = self.inner.lines.status(line);
+        LineStatus {
+            faulty,
+            away,
+            engaged,
+        }
     }
 
     fn has_circuit(&self, circuit: &Circuit) -> bool {
@@ -143,12 +192,6 @@ impl<'p, A: Allocator + Copy> Facts for Engine<'p, A> {
         self.inner.circuits.is_out(circuit)
     }
 
-    fn has_group(&self, group: GroupId) -> bool {
-        let plan = self.inner.plan;
-        let groups = plan.groups();
-        group.index() < groups
-    }
-
     fn is_failed(&self, group: GroupId) -> bool {
         self.inner.circuits.is_failed(group)
     }
@@ -157,52 +200,16 @@ impl<'p, A: Allocator + Copy> Facts for Engine<'p, A> {
         self.inner.circuits.is_blocked(group)
     }
 
+    fn first_free(&self, group: GroupId, exchange: ExchangeId) -> Option<Circuit> {
+        self.inner.circuits.first_free(group, exchange)
+    }
+
     fn numbers_given(&self) -> u32 {
         self.inner.numbers
     }
 
     fn events_accepted(&self) -> u64 {
         self.inner.events
-    }
-}
-
-impl<'p, A: Allocator + Copy> EngineState<'p, A> {
-    /// One event that is not refused.
-    pub(crate) fn accept(&mut self, event: &Event) -> Result<Reply, NoMemory>
-        requires sound { IsSound self.old }
-        requires open { refusal self.old.plan.now (state_of self.old) event.now ≡ None }
-        ensures sound { IsSound self.new }
-        ensures plan { self.new.plan.now ≡ self.old.plan.now }
-        ensures ok { IfOk result (λ reply. counted (accepted self.old.plan.now
-            (state_of self.old) event.now) ≡ (reply, state_of self.new)) }
-        ensures err { OnErr result (state_of self.new ≡ state_of self.old) }
-        ensures memory { OnErr result (takes_memory event.now ≡ true) }
-    {
-        match event {
-            Event::Key { line, keyed } => return self.key(*line, *keyed),
-            Event::Route(number) => return self.route(*number),
-            Event::Confirm(number) => return Ok(self.confirm(*number)),
-            Event::Clear { call, party } => return Ok(self.clear(*call, *party)),
-            Event::Fail(group) => return Ok(self.fail(*group)),
-            Event::Released(circuit) => self.circuits.released(circuit),
-            Event::Restore(group) => self.circuits.restore(*group),
-            Event::Block(group) => self.circuits.block(*group),
-            Event::Unblock(group) => self.circuits.unblock(*group),
-            Event::CircuitOut(circuit) => self.circuits.put_out(circuit),
-            Event::CircuitIn(circuit) => self.circuits.put_in(circuit),
-            Event::LineFault(line) => {
-                self.lines.reserve_one()?;
-                self.lines.set_fault(line, true);
-            }
-            Event::LineMend(line) => self.lines.set_fault(line, false),
-            Event::LineAway(line) => {
-                self.lines.reserve_one()?;
-                self.lines.set_away(line, true);
-            }
-            Event::LineBack(line) => self.lines.set_away(line, false),
-        }
-        self.events += 1;
-        Ok(Reply::Done)
     }
 }
 

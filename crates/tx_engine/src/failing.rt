@@ -10,7 +10,7 @@ ghost use Rattle.tx_machine.specs.Call.{Call, call_of};
 ghost use Rattle.tx_machine.specs.Ending.{end_call};
 ghost use Rattle.tx_machine.specs.InUse.{uses_group, seizes_from};
 ghost use Rattle.tx_machine.specs.Refusals.{refusal};
-ghost use Rattle.tx_machine.specs.Step.{accepted, counted};
+ghost use Rattle.tx_machine.specs.Step.{accepted};
 ghost use Rattle.tx_calls.specs.Calls.{calls_in};
 ghost use Rattle.tx_engine.specs.inner.InTurn.{uses, IsLosing};
 ghost use Rattle.tx_engine.specs.inner.Users.{AreNumbersOf};
@@ -32,12 +32,11 @@ impl<'p, A: Allocator + Copy> EngineState<'p, A> {
         requires open { refusal self.old.plan.now (state_of self.old) (Fail group) ≡ None }
         ensures sound { IsSound self.new }
         ensures plan { self.new.plan.now ≡ self.old.plan.now }
-        ensures step { counted (accepted self.old.plan.now (state_of self.old) (Fail group))
+        ensures step { accepted self.old.plan.now (state_of self.old) (Fail group)
             ≡ (result, state_of self.new) }
     {
         let lost = self.lose_users(group);
         self.circuits.fail(group);
-        self.events += 1;
         Reply::Lost(lost)
     }
 

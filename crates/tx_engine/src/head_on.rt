@@ -6,7 +6,7 @@ ghost use Rattle.tx_machine.specs.declared.event.Event.TheVariants.{Confirm};
 ghost use Rattle.tx_machine.specs.declared.open_call.Phase.TheVariants.{Calling};
 ghost use Rattle.tx_machine.specs.declared.cause.Service.TheVariants.{Nc};
 ghost use Rattle.tx_machine.specs.Confirming.{far_of, rival, collide};
-ghost use Rattle.tx_machine.specs.Step.{accepted, counted};
+ghost use Rattle.tx_machine.specs.Step.{accepted};
 ghost use Rattle.tx_calls.specs.Calls.{Kept, kept_at};
 ghost use Rattle.tx_engine.specs.inner.InTurn.{ended_if, pair_ended};
 ghost use Rattle.tx_engine.specs.inner.Meeting.{AreMeeting, AreThrown, IsMet};
@@ -43,7 +43,7 @@ impl<'p, A: Allocator + Copy> EngineState<'p, A> {
         requires met { set.contains self.old.circuits.seized (circuit.now, far) ≡ true }
         ensures sound { IsSound self.new }
         ensures plan { self.new.plan.now ≡ self.old.plan.now }
-        ensures step { counted (accepted self.old.plan.now (state_of self.old) (Confirm number))
+        ensures step { accepted self.old.plan.now (state_of self.old) (Confirm number)
             ≡ (result, state_of self.new) }
     {
         let (first, _) = self.plan.ends(circuit.group);
@@ -52,7 +52,6 @@ impl<'p, A: Allocator + Copy> EngineState<'p, A> {
         let other = self.met(other_key);
         self.throw_back(key, other_key, circuit);
         self.end_collided(&one, &other);
-        self.events += 1;
         Reply::HeadOn {
             a: one.number,
             b: other.number,

@@ -2,7 +2,7 @@
 ghost use Rattle.std.specs.Prelude.{◌≡◌, ◌<◌, ◌≤◌, ◌+◌, IfOk, IsOk, OnOk, OnErr, None};
 ghost use Rattle.std.specs.VecDeque.{deque_len, deque_capacity};
 ghost use Rattle.tx_calls.specs.Calls.{HasRoom};
-ghost use Rattle.tx_machine.specs.Step.{accepted, counted};
+ghost use Rattle.tx_machine.specs.Step.{accepted};
 ghost use Rattle.tx_machine.specs.Refusals.{refusal};
 ghost use Rattle.tx_machine.specs.declared.event.Event.TheVariants.{Key};
 ghost use Rattle.tx_engine.specs.inner.Sound.{IsSound, HasTicketRoom, state_of};
@@ -21,8 +21,8 @@ impl<'p, A: Allocator + Copy> EngineState<'p, A> {
         requires open { refusal self.old.plan.now (state_of self.old) (Key line keyed) ≡ None }
         ensures sound { IsSound self.new }
         ensures plan { self.new.plan.now ≡ self.old.plan.now }
-        ensures ok { IfOk result (λ reply. counted (accepted self.old.plan.now
-            (state_of self.old) (Key line keyed)) ≡ (reply, state_of self.new)) }
+        ensures ok { IfOk result (λ reply. accepted self.old.plan.now (state_of self.old)
+            (Key line keyed) ≡ (reply, state_of self.new)) }
         ensures err { OnErr result (state_of self.new ≡ state_of self.old) }
     {
         self.reserve_call()?;
@@ -39,7 +39,6 @@ impl<'p, A: Allocator + Copy> EngineState<'p, A> {
         };
         self.calls.open(call);
         self.numbers = number;
-        self.events += 1;
         Ok(Reply::Keyed(number))
     }
 

@@ -6,9 +6,15 @@ use Rattle.tx_plan.specs.Plan.{Plan, Group}
 use Rattle.tx_plan.specs.Circuits.{upward, downward, circuits_at, order_at, is_circuit, ends_of, count_of}
 use Rattle.tx_plan.specs.Routes.{route_list}
 use Rattle.tx_plan.specs.declared.ids.Circuit.{Circuit}
+use Rattle.tx_machine.specs.declared.event.Event.TheVariants.{Route}
+use Rattle.tx_machine.specs.declared.reply.Reply.TheVariants.{Seized}
+use Rattle.tx_machine.specs.Call.{Call, call_of, place_of}
 use Rattle.tx_machine.specs.State.{State}
+use Rattle.tx_machine.specs.Routing.{routed}
+use Rattle.tx_machine.specs.Step.{with_call, accepted}
 use Rattle.tx_machine.specs.InUse.{first_free, choice}
 use Rattle.tx_machine.proofs.Uses.{first_in-is, chosen}
+use Rattle.tx_machine.proofs.Routed.{seizes}
 
 module _ (t : Circuit → Bool) (g : ℕ) where
   abbrev pub mk : ℕ → Circuit
@@ -56,6 +62,14 @@ module _ (t : Circuit → Bool) (g : ℕ) where
 -- a circuit that is chosen is one of the plan's
 pub chosen_circuit : (p : Plan) (s : State) (place code : ℕ) (x : Circuit) → choice p s place code ≡ Some x → is_circuit p x ≡ true
 chosen_circuit p s place code x h = let r = first_in-is (first_free p s place) (route_list p place code) x h in (chosen p s place r.0 x r.2).planned
+
+-- so is one that a Route seizes
+pub seized_circuit : (p : Plan) (s : State) (n : ℕ) (x : Circuit) → (accepted p s (Route n)).0 ≡ Seized x → is_circuit p x ≡ true
+seized_circuit p s n x e = at (call_of n s.calls) e
+  where
+    at : (o : Option Call) → (with_call o s (λ c. routed p s c)).0 ≡ Seized x → is_circuit p x ≡ true
+    at None e = let bad : ⊥ = cc in absurd bad
+    at (Some c) e = let r = seizes p s c x e in chosen_circuit p s (place_of p c) r.0 x r.1
 
 pub counted_circuit : (p : Plan) (x : Circuit) → (nat_le 1 x.number && nat_le x.number (option_map_or (λ (r : Group). r.count) (slice_get p.groups x.group) 0)) ≡ is_circuit p x
 counted_circuit p x = at (slice_get p.groups x.group)

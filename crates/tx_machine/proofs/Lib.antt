@@ -3,6 +3,7 @@ pub mod Uses
 pub mod Invariant
 pub mod Changes
 pub mod Steps
+pub mod Routed
 pub mod Unrefused
 pub mod Moves
 pub mod Ranks
@@ -21,7 +22,7 @@ pub mod ChangingRuns
 pub mod Holding
 pub mod Whole
 pub mod Choosing
-pub mod Routed
+pub mod Confirmed
 pub mod Marking
 pub mod Bits
 pub mod Views

@@ -1,33 +1,144 @@
--- A routed call at the home of its code, and a call that confirms.
-use Rattle.std.proofs.Common.{◌≡◌, ℕ, true, false, ◌&&◌, ◌==◌, Option, Some, length, ap, ◌∙◌}
+-- What becomes of a call that is routed, by what is found of it.
+use Rattle.std.proofs.Common.{◌≡◌, ℕ, suc, ◌+◌, ◌<◌, ◌≤◌, ◌==◌, Bool, true, false, not, ◌&&◌, ◌⊎◌, inl, inr, List, [], ◌∷◌, length, drop, get_or, Option, Some, None, is_some, refl, sym, ap, subst, ◌∙◌, eqb-true, arith}
+use Rattle.std.proofs.lemmas.Bool.Decides.{nat_tests}
+use Rattle.std.proofs.lemmas.List.{at_drop_more, at_drop_all}
 use Rattle.std.specs.Prelude.{if◌then◌else◌}
-use Rattle.tx_plan.specs.Plan.{Plan, home_of}
+use Rattle.std.specs.FinSet as set
+use Rattle.tx_plan.specs.Plan.{Plan, home_of, figures_of}
 use Rattle.tx_plan.specs.Codes.{code_of}
+use Rattle.tx_plan.specs.Lines.{is_line}
 use Rattle.tx_plan.specs.Routes.{is_barred}
 use Rattle.tx_plan.specs.declared.ids.Circuit.{Circuit}
-use Rattle.tx_machine.specs.declared.open_call.Phase.TheVariants.{Calling}
-use Rattle.tx_machine.specs.declared.cause.Service.TheVariants.{Na}
-use Rattle.tx_machine.specs.inner.Marks.{HasMark}
-use Rattle.tx_machine.specs.inner.Decided.{IsOn, IsMet}
-use Rattle.tx_machine.specs.declared.plain.confirm.Meeting.{Meeting}
-use Rattle.tx_machine.specs.declared.plain.confirm.Meeting.TheVariants.{GoesOn, Collides}
-use Rattle.tx_machine.specs.Call.{call_of, Call, is_first, place_of}
+use Rattle.tx_plan.specs.declared.ids.Line.{Line}
+use Rattle.tx_machine.specs.declared.cause.Service.{Service}
+use Rattle.tx_machine.specs.declared.cause.Service.TheVariants.{Occ, Np, Der, Abs, Na}
+use Rattle.tx_machine.specs.declared.open_call.Hop.{Hop}
+use Rattle.tx_machine.specs.declared.reply.Reply.{Reply}
+use Rattle.tx_machine.specs.declared.reply.Reply.TheVariants.{Seized, Connected as ConnectedTo}
+use Rattle.tx_machine.specs.Call.{Call, place_of, is_first}
 use Rattle.tx_machine.specs.State.{State}
+use Rattle.tx_machine.specs.InUse.{first_in, choice}
+use Rattle.tx_machine.specs.Lines.{line_answer, is_engaged}
 use Rattle.tx_machine.specs.Routing.{routed, routed_for, at_line, at_trunk, line_of}
 use Rattle.tx_machine.specs.Ending.{answered}
-use Rattle.tx_machine.specs.InUse.{choice}
-use Rattle.tx_machine.specs.Lines.{line_answer}
-use Rattle.tx_machine.specs.Confirming.{confirmed, confirmed_by, rival}
+use Rattle.tx_machine.specs.Safe.{IsKeyedLine}
+use Rattle.tx_machine.proofs.Steps.{free_line, prefix-is, code_begins}
 
-pub routed_home : (p : Plan) (s : State) (d : Call) (code : ℕ) → code_of p d.keyed ≡ Some code → (is_first d.hops && is_barred p (place_of p d) code) ≡ false → (home_of p code == place_of p d) ≡ true → routed p s d ≡ at_line p s d (line_of p code d.keyed) (line_answer p s (line_of p code d.keyed))
-routed_home p s d code e b h =
-    ap (routed_for p s d) e
-    ∙ ap (λ t. if t then answered p d.number Na s else if home_of p code == place_of p d then at_line p s d (line_of p code d.keyed) (line_answer p s (line_of p code d.keyed)) else at_trunk p s d (choice p s (place_of p d) code)) b
-    ∙ ap (λ t. if t then at_line p s d (line_of p code d.keyed) (line_answer p s (line_of p code d.keyed)) else at_trunk p s d (choice p s (place_of p d) code)) h
+-- A CALL WITHOUT HOPS
+some : (n : ℕ) → false ≡ (suc n == 0)
+some n = grind (arith, nat_tests)
 
-pub confirms : (p : Plan) (s : State) (d : Call) (x : Circuit) (o : Option Call) → d.phase ≡ Calling x → rival p s d x ≡ o → confirmed p s d d.phase ≡ confirmed_by p s d x o
-confirms p s d x o e r = ap (confirmed p s d) e ∙ ap (confirmed_by p s d x) r
+pub first_is_empty : (hops : List Hop) (len : ℕ) → len ≡ length hops → is_first hops ≡ (len == 0)
+first_is_empty hops len e = by hops ∙ ap (λ n. n == 0) (sym e)
+  where
+    by : (hops : List Hop) → is_first hops ≡ (length hops == 0)
+    by [] = refl
+    by (h ∷ hops) = some (length hops)
 
-pub met : (p : Plan) (s : State) (n : ℕ) (d : Call) (m : Meeting) → call_of n s.calls ≡ Some d → IsOn d.phase m → ((x : Circuit) → d.phase ≡ Calling x → HasMark (length p.groups) x) → IsMet p s n m
-met p s n d (GoesOn h) e on marked = (d, e, on)
-met p s n d (Collides x collided k other) e on marked = marked x on
+-- WHERE A CALL IS
+module _ (p : Plan) (s : State) (c : Call) (code : ℕ) (begins : code_of p c.keyed ≡ Some code) where
+  abbrev at_home : Reply × State
+  at_home = at_line p s c (line_of p code c.keyed) (line_answer p s (line_of p code c.keyed))
+
+  abbrev on_the_way : Reply × State
+  on_the_way = at_trunk p s c (choice p s (place_of p c) code)
+
+  -- it is not barred where it stands, or has gone over a circuit
+  abbrev pub IsLet : Type 0
+  IsLet = (is_first c.hops ≡ false) ⊎ (is_barred p (place_of p c) code ≡ false)
+
+  is_let : IsLet → (is_first c.hops && is_barred p (place_of p c) code) ≡ false
+  is_let h = elim h [ inl f ↦ ap (λ x. x && is_barred p (place_of p c) code) f | inr z ↦ ap (λ x. is_first c.hops && x) z ∙ neither (is_first c.hops) ]
+    where
+      neither : (x : Bool) → (x && false) ≡ false
+      neither true = refl
+      neither false = refl
+
+  pub routed_barred : is_first c.hops ≡ true → is_barred p (place_of p c) code ≡ true → routed p s c ≡ answered p c.number Na s
+  routed_barred f z = ap (routed_for p s c) begins ∙ (λ i. if f i && z i then answered p c.number Na s else if home_of p code == place_of p c then at_home else on_the_way)
+
+  pub routed_home : IsLet → (home_of p code == place_of p c) ≡ true → routed p s c ≡ at_home
+  routed_home l h = ap (routed_for p s c) begins ∙ (λ i. if is_let l i then answered p c.number Na s else if h i then at_home else on_the_way)
+
+  pub routed_trunk : IsLet → (home_of p code == place_of p c) ≡ false → routed p s c ≡ on_the_way
+  routed_trunk l h = ap (routed_for p s c) begins ∙ (λ i. if is_let l i then answered p c.number Na s else if h i then at_home else on_the_way)
+
+-- what a line of the plan answers
+pub known_answer : (p : Plan) (s : State) (l : Line) (f a e : Bool) → is_line p l ≡ true → f ≡ set.contains s.faulty l → a ≡ set.contains s.away l → e ≡ is_engaged s l
+    → line_answer p s l ≡ (if f then Some Der else if a then Some Abs else if e then Some Occ else None)
+known_answer p s l f a e k x y z = λ i. if not (k i) then Some Np else if sym x i then Some Der else if sym y i then Some Abs else if sym z i then Some Occ else None
+
+-- no line of the plan
+pub unknown_answer : (p : Plan) (s : State) (l : Line) → is_line p l ≡ false → line_answer p s l ≡ Some Np
+unknown_answer p s l k = λ i. if not (k i) then Some Np else if set.contains s.faulty l then Some Der else if set.contains s.away l then Some Abs else if is_engaged s l then Some Occ else None
+
+-- THE FIRST CIRCUIT IN A LIST OF GROUPS, AS IT IS LOOKED THROUGH
+module _ (look : ℕ → Option Circuit) (gs : List ℕ) (i : ℕ) where
+  here : (g : ℕ) (b : Bool) → i < length gs → g ≡ get_or gs i g → is_some (look g) ≡ b → first_in look (drop i gs) ≡ (if b then look g else first_in look (drop (i + 1) gs))
+  here g b low at e =
+      at_drop_more (first_in look) gs i g low
+      ∙ ap (λ h. first_in look (h ∷ drop (i + 1) gs)) (sym at)
+      ∙ ap (λ c. if c then look g else first_in look (drop (i + 1) gs)) e
+
+  -- the group at a place has a circuit
+  pub first_here : (g : ℕ) → i < length gs → g ≡ get_or gs i g → is_some (look g) ≡ true → first_in look (drop i gs) ≡ look g
+  first_here g low at e = here g true low at e
+
+  -- it has none
+  pub first_past : (g : ℕ) → i < length gs → g ≡ get_or gs i g → is_some (look g) ≡ false → first_in look (drop i gs) ≡ first_in look (drop (i + 1) gs)
+  first_past g low at e = here g false low at e
+
+  -- no group is left
+  pub first_none : length gs ≤ i → first_in look (drop i gs) ≡ None
+  first_none all = at_drop_all (first_in look) gs i all
+
+-- WHAT THE STEP TELLS OF THE CALL
+module _ (p : Plan) (s : State) (c : Call) where
+  -- a call that is connected has keyed the line, which is free
+  pub connects : (l : Line) → (routed p s c).0 ≡ ConnectedTo l → IsKeyedLine p c l × (is_engaged s l ≡ false)
+  connects l e = at (code_of p c.keyed) refl e
+    where
+      line : (code : ℕ) → code_of p c.keyed ≡ Some code → (home_of p code == place_of p c) ≡ true → (o : Option Service) → line_answer p s (line_of p code c.keyed) ≡ o
+          → (at_line p s c (line_of p code c.keyed) o).0 ≡ ConnectedTo l → IsKeyedLine p c l × (is_engaged s l ≡ false)
+      line code q here None a e =
+          let same : line_of p code c.keyed ≡ l = cc in
+          let f = free_line p s (line_of p code c.keyed) a in
+          subst (λ (m : Line). IsKeyedLine p c m × (is_engaged s m ≡ false)) same (record { known = f.0; at_home = sym (eqb-true _ _ here); keyed = prefix-is (figures_of p code) c.keyed (code_begins p c.keyed code q) }, f.1)
+      line code q here (Some service) a e = let bad : ⊥ = cc in absurd bad
+
+      trunk : (o : Option Circuit) → (at_trunk p s c o).0 ≡ ConnectedTo l → ⊥
+      trunk None e = cc
+      trunk (Some x) e = cc
+
+      test : (code : ℕ) → code_of p c.keyed ≡ Some code → (z h : Bool) → (home_of p code == place_of p c) ≡ h
+          → (if z then answered p c.number Na s else if h then at_line p s c (line_of p code c.keyed) (line_answer p s (line_of p code c.keyed)) else at_trunk p s c (choice p s (place_of p c) code)).0 ≡ ConnectedTo l
+          → IsKeyedLine p c l × (is_engaged s l ≡ false)
+      test code q true h here e = let bad : ⊥ = cc in absurd bad
+      test code q false true here e = line code q here (line_answer p s (line_of p code c.keyed)) refl e
+      test code q false false here e = absurd (trunk (choice p s (place_of p c) code) e)
+
+      at : (o : Option ℕ) → code_of p c.keyed ≡ o → (routed_for p s c o).0 ≡ ConnectedTo l → IsKeyedLine p c l × (is_engaged s l ≡ false)
+      at None q e = let bad : ⊥ = cc in absurd bad
+      at (Some code) q e = test code q (is_first c.hops && is_barred p (place_of p c) code) (home_of p code == place_of p c) refl e
+
+  -- a circuit that is seized was chosen
+  pub seizes : (x : Circuit) → (routed p s c).0 ≡ Seized x → (code : ℕ) × (choice p s (place_of p c) code ≡ Some x)
+  seizes x e = at (code_of p c.keyed) e
+    where
+      line : (l : Line) (o : Option Service) → (at_line p s c l o).0 ≡ Seized x → ⊥
+      line l None e = cc
+      line l (Some service) e = cc
+
+      trunk : (o : Option Circuit) → (at_trunk p s c o).0 ≡ Seized x → o ≡ Some x
+      trunk None e = let bad : ⊥ = cc in absurd bad
+      trunk (Some y) e = let same : y ≡ x = cc in ap Some same
+
+      test : (code : ℕ) (z h : Bool) → (if z then answered p c.number Na s else if h then at_line p s c (line_of p code c.keyed) (line_answer p s (line_of p code c.keyed)) else at_trunk p s c (choice p s (place_of p c) code)).0 ≡ Seized x
+          → (code : ℕ) × (choice p s (place_of p c) code ≡ Some x)
+      test code true h e = let bad : ⊥ = cc in absurd bad
+      test code false true e = absurd (line (line_of p code c.keyed) (line_answer p s (line_of p code c.keyed)) e)
+      test code false false e = (code, trunk (choice p s (place_of p c) code) e)
+
+      at : (o : Option ℕ) → (routed_for p s c o).0 ≡ Seized x → (code : ℕ) × (choice p s (place_of p c) code ≡ Some x)
+      at None e = let bad : ⊥ = cc in absurd bad
+      at (Some code) e = test code (is_first c.hops && is_barred p (place_of p c) code) (home_of p code == place_of p c) e

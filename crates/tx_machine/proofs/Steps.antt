@@ -111,7 +111,7 @@ listed_leads p ok x c g m = at (slice_get p.groups g) (listed_may p ok x c g m)
         ] h
 
 -- LINES
-free_line : (p : Plan) (s : State) (l : Line) → line_answer p s l ≡ None → (is_line p l ≡ true) × (is_engaged s l ≡ false)
+pub free_line : (p : Plan) (s : State) (l : Line) → line_answer p s l ≡ None → (is_line p l ≡ true) × (is_engaged s l ≡ false)
 free_line p s l h =
     elim (is_line p l) as (λ a. (if not a then Some Np else if set.contains s.faulty l then Some Der else if set.contains s.away l then Some Abs else if is_engaged s l then Some Occ else None) ≡ None → (a ≡ true) × (is_engaged s l ≡ false)) [
       | false ↦ λ e. let bad : ⊥ = cc in absurd bad

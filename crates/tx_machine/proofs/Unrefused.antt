@@ -1,22 +1,34 @@
 -- What an event that is not refused may count on.
-use Rattle.std.proofs.Common.{◌≡◌, ℕ, ◌-◌, ◌^◌, ◌<◌, Bool, true, false, not, List, [], ◌∷◌, ◌++◌, Some, None, Option, refl, sym, subst, length, arith}
-use Rattle.std.specs.Prelude.{is_some, is_none, slice_get, nat_le}
+use Rattle.std.proofs.Common.{◌≡◌, ℕ, ◌-◌, ◌^◌, ◌<◌, ◌==◌, Bool, true, false, not, ◌&&◌, List, [], ◌∷◌, ◌++◌, Some, None, Option, refl, sym, subst, length, arith}
+use Rattle.std.specs.Prelude.{is_some, is_none, slice_get, nat_le, if◌then◌else◌}
 use Rattle.std.proofs.lemmas.Bool.{false≢true, not-false}
 use Rattle.std.proofs.lemmas.Bool.Decides.{nat_tests}
 use Rattle.std.proofs.lemmas.Option.{slice_get_within}
-use Rattle.tx_plan.specs.Plan.{Plan, Group}
+use Rattle.tx_plan.specs.Plan.{Plan, Group, home_of}
+use Rattle.tx_plan.specs.Codes.{code_of}
+use Rattle.tx_plan.specs.Routes.{is_barred}
+use Rattle.tx_plan.specs.declared.ids.Circuit.{Circuit}
 use Rattle.tx_plan.specs.Lines.{is_line}
 use Rattle.tx_plan.specs.Declaring.{first_true}
 use Rattle.tx_plan.specs.declared.ids.Line.{Line}
 use Rattle.tx_machine.specs.declared.event.Event.{Event}
-use Rattle.tx_machine.specs.declared.event.Event.TheVariants.{Key, Route, Confirm, Clear, Fail}
+use Rattle.tx_machine.specs.declared.event.Event.TheVariants.{Key, Route, Confirm, Clear, Released, Fail, Restore, Block, Unblock, CircuitOut, CircuitIn, LineFault, LineMend, LineAway, LineBack}
+use Rattle.tx_machine.specs.declared.cause.Service.{Service}
+use Rattle.tx_machine.specs.declared.cause.Service.TheVariants.{Na}
+use Rattle.tx_machine.specs.declared.reply.Reply.{Reply}
 use Rattle.tx_machine.specs.declared.open_call.Party.{Party}
 use Rattle.tx_machine.specs.declared.open_call.Party.TheVariants.{Caller, Called}
-use Rattle.tx_machine.specs.declared.open_call.Phase.TheVariants.{Standing}
+use Rattle.tx_machine.specs.declared.open_call.Phase.{Phase}
+use Rattle.tx_machine.specs.declared.open_call.Phase.TheVariants.{Standing, Calling, Connected}
 use Rattle.tx_machine.specs.declared.refusal.Refusal.{Refusal}
 use Rattle.tx_machine.specs.declared.refusal.Refusal.TheVariants.{Exhausted}
-use Rattle.tx_machine.specs.Call.{Call, call_of, is_standing, is_calling}
-use Rattle.tx_machine.specs.Lines.{is_engaged}
+use Rattle.tx_machine.specs.Call.{Call, call_of, is_standing, is_calling, is_first, place_of}
+use Rattle.tx_machine.specs.Lines.{is_engaged, line_answer}
+use Rattle.tx_machine.specs.InUse.{choice}
+use Rattle.tx_machine.specs.Ending.{answered}
+use Rattle.tx_machine.specs.Routing.{at_line, at_trunk, line_of, routed_for}
+use Rattle.tx_machine.specs.Confirming.{confirmed_by, rival, confirmed}
+use Rattle.tx_machine.specs.Step.{with_call, accepted}
 use Rattle.tx_machine.specs.State.{State}
 use Rattle.tx_machine.specs.Refusals.{refusals, refusal, is_group, is_other}
 use Rattle.tx_machine.proofs.Steps.{tests_false, stands}
@@ -70,3 +82,52 @@ module _ (p : Plan) (s : State) (n : ℕ) where
 -- the group of a Fail is one of the plan's
 pub can_fail : (p : Plan) (s : State) (g : ℕ) → refusal p s (Fail g) ≡ None → g < length p.groups
 can_fail p s g h = group_within p g (tests_false (refusals p s (Fail g) ++ (nat_le (2 ^ 64 - 1) s.events, Exhausted) ∷ []) h).1.0
+
+-- it is counted once it is done
+module _ (p : Plan) (s : State) where
+  line : (c : Call) (l : Line) (o : Option Service) → (at_line p s c l o).1.events ≡ s.events
+  line c l None = refl
+  line c l (Some service) = refl
+
+  trunk : (c : Call) (o : Option Circuit) → (at_trunk p s c o).1.events ≡ s.events
+  trunk c None = refl
+  trunk c (Some x) = refl
+
+  route : (c : Call) (o : Option ℕ) → (routed_for p s c o).1.events ≡ s.events
+  route c None = refl
+  route c (Some code) = by (is_first c.hops && is_barred p (place_of p c) code) (home_of p code == place_of p c)
+    where
+      by : (z h : Bool) → (if z then answered p c.number Na s else if h then at_line p s c (line_of p code c.keyed) (line_answer p s (line_of p code c.keyed)) else at_trunk p s c (choice p s (place_of p c) code)).1.events ≡ s.events
+      by true h = refl
+      by false true = line c (line_of p code c.keyed) (line_answer p s (line_of p code c.keyed))
+      by false false = trunk c (choice p s (place_of p c) code)
+
+  meet : (c : Call) (x : Circuit) (o : Option Call) → (confirmed_by p s c x o).1.events ≡ s.events
+  meet c x None = refl
+  meet c x (Some d) = refl
+
+  confirm : (c : Call) (phase : Phase) → (confirmed p s c phase).1.events ≡ s.events
+  confirm c Standing = refl
+  confirm c (Calling x) = meet c x (rival p s c x)
+  confirm c (Connected l) = refl
+
+  with_call_same : (act : Call → Reply × State) → ((c : Call) → (act c).1.events ≡ s.events) → (o : Option Call) → (with_call o s act).1.events ≡ s.events
+  with_call_same act each None = refl
+  with_call_same act each (Some c) = each c
+
+  pub not_counted : (e : Event) → (accepted p s e).1.events ≡ s.events
+  not_counted (Key line keyed) = refl
+  not_counted (Route n) = with_call_same _ (λ c. route c (code_of p c.keyed)) (call_of n s.calls)
+  not_counted (Confirm n) = with_call_same _ (λ c. confirm c c.phase) (call_of n s.calls)
+  not_counted (Clear n party) = refl
+  not_counted (Released x) = refl
+  not_counted (Fail g) = refl
+  not_counted (Restore g) = refl
+  not_counted (Block g) = refl
+  not_counted (Unblock g) = refl
+  not_counted (CircuitOut x) = refl
+  not_counted (CircuitIn x) = refl
+  not_counted (LineFault l) = refl
+  not_counted (LineMend l) = refl
+  not_counted (LineAway l) = refl
+  not_counted (LineBack l) = refl

@@ -1,6 +1,7 @@
 pub mod Facts
 pub mod Invariant
 pub mod Decided
+pub mod Met
 pub mod Whole
 pub mod GivenUp
 pub mod Marks

@@ -4,6 +4,7 @@
 
 mod cause;
 mod changing;
+mod deciding;
 mod driving;
 mod event;
 mod facts;
@@ -19,9 +20,10 @@ mod ticket;
 
 pub use cause::{Cause, Service};
 pub use changing::{common_ranks_certify, live_change_is_sound};
+pub use deciding::{Decision, decide};
 pub use driving::drive;
 pub use event::Event;
-pub use facts::Facts;
+pub use facts::{Facts, LineStatus};
 pub use headline::{
     certified_is_sound, every_nc_is_excused, hops_join_and_carry_once, lines_take_part_once,
     ranks_fall, routes_are_bounded, spare_groups_suffice, tickets_are_appended,

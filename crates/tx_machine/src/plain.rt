@@ -1,6 +1,6 @@
 // A network over lists.
 ghost use Rattle.std.specs.Prelude.{◌≡◌, ◌<◌, ◌+◌, ◌-◌, IfOk, OnErr, Some, None, true, not, filter};
-ghost use Rattle.tx_machine.specs.Step.{takes_memory, accepted, counted};
+ghost use Rattle.tx_machine.specs.Step.{takes_memory, accepted};
 ghost use Rattle.tx_machine.specs.State.{opening};
 ghost use Rattle.tx_machine.specs.Refusals.{refusal};
 ghost use Rattle.tx_plan.specs.Orders.{same_line};
@@ -102,11 +102,11 @@ impl<'p, A: Allocator + Copy> Plain<'p, A> {
         })
     }
 
-    /// One event that is not refused.
+    /// One event that is not refused, before it is counted.
     fn accept(&mut self, event: &Event) -> Result<Reply, NoMemory>
         requires open { refusal self.old.plan self.old.state event.now ≡ None }
         ensures plan { self.new.plan ≡ self.old.plan }
-        ensures ok { IfOk result (λ reply. counted (accepted self.old.plan self.old.state event.now)
+        ensures ok { IfOk result (λ reply. accepted self.old.plan self.old.state event.now
             ≡ (reply, self.new.state)) }
         ensures err { OnErr result (self.new ≡ self.old) }
         ensures memory { OnErr result (takes_memory event.now ≡ true) }
@@ -128,7 +128,6 @@ impl<'p, A: Allocator + Copy> Plain<'p, A> {
             Event::LineAway(line) => self.away.push(*line)?,
             Event::LineBack(line) => take_line(&mut self.away, line),
         }
-        self.events += 1;
         Ok(Reply::Done)
     }
 }
@@ -143,7 +142,11 @@ impl<'p, A: Allocator + Copy> Network for Plain<'p, A> {
     fn apply(&mut self, event: Event) -> Result<Reply, NoMemory> {
         match refusal_of(self, &event) {
             Some(refusal) => Ok(Reply::Refused(refusal)),
-            None => self.accept(&event),
+            None => {
+                let reply = self.accept(&event)?;
+                self.events += 1;
+                Ok(reply)
+            }
         }
     }
 

@@ -33,10 +33,10 @@ pub fn refusal_of<N: Facts>(network: &N, event: &Event) -> Option<Refusal>
         Event::Restore(group) => of_group(network, *group, network.is_failed(*group), false),
         Event::Block(group) => of_group(network, *group, network.is_blocked(*group), true),
         Event::Unblock(group) => of_group(network, *group, network.is_blocked(*group), false),
-        Event::LineFault(line) => of_line(network, line, network.is_faulty(line), true),
-        Event::LineMend(line) => of_line(network, line, network.is_faulty(line), false),
-        Event::LineAway(line) => of_line(network, line, network.is_away(line), true),
-        Event::LineBack(line) => of_line(network, line, network.is_away(line), false),
+        Event::LineFault(line) => of_line(network, line, network.status(line).faulty, true),
+        Event::LineMend(line) => of_line(network, line, network.status(line).faulty, false),
+        Event::LineAway(line) => of_line(network, line, network.status(line).away, true),
+        Event::LineBack(line) => of_line(network, line, network.status(line).away, false),
     }
 }
 
@@ -45,10 +45,12 @@ fn of_key<N: Facts>(network: &N, line: &Line, keyed: &Figures) -> Option<Refusal
     ensures { result ≡ refusal (N.plan network.now) (N.state network.now) (Key line.now keyed.now) }
 {
     if !network.has_line(line) {
-        Some(Refusal::UnknownLine)
-    } else if network.is_engaged(line) {
+        return Some(Refusal::UnknownLine);
+    }
+    let status = network.status(line);
+    if status.engaged {
         Some(Refusal::LineEngaged)
-    } else if network.is_faulty(line) {
+    } else if status.faulty {
         Some(Refusal::LineOutOfOrder)
     } else if network.numbers_given() == u32::MAX {
         Some(Refusal::Exhausted)
@@ -153,7 +155,7 @@ fn of_group<N: Facts>(network: &N, group: GroupId, is: bool, will: bool) -> Opti
     ) ∷ (not (is_group (N.plan network.now) group), UnknownCircuit)
         ∷ (nat_le (2 ^ 64 - 1) (N.state network.now).events, Exhausted) ∷ []) }
 {
-    if !network.has_group(group) {
+    if group.index() >= network.plan().groups() {
         Some(Refusal::UnknownCircuit)
     } else {
         of_fact(network, is, will)

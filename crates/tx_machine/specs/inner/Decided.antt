@@ -1,57 +1,19 @@
--- What was decided for a call, and what is done then.
-use Rattle.std.specs.Prelude.{◌≡◌, ℕ, true, not, length, Some}
+-- What was decided for a call that is routed, and what is done then.
+use Rattle.std.specs.Prelude.{ℕ}
 use Rattle.tx_plan.specs.Plan.{Plan}
-use Rattle.tx_plan.specs.Circuits.{is_circuit}
-use Rattle.tx_machine.specs.declared.cause.Cause.TheVariants.{Service as ByService}
-use Rattle.tx_machine.specs.declared.open_call.Phase.{Phase}
+use Rattle.tx_machine.specs.declared.deciding.Decision.{Decision}
+use Rattle.tx_machine.specs.declared.deciding.Decision.TheVariants.{Answer, Connect, Seize}
 use Rattle.tx_machine.specs.declared.open_call.Phase.TheVariants.{Calling, Connected}
 use Rattle.tx_machine.specs.declared.reply.Reply.{Reply}
-use Rattle.tx_machine.specs.declared.reply.Reply.TheVariants.{Seized, At, HeadOn, Connected as ConnectedTo}
-use Rattle.tx_machine.specs.declared.cause.Service.TheVariants.{Nc}
-use Rattle.tx_machine.specs.Call.{Call, call_of}
+use Rattle.tx_machine.specs.declared.reply.Reply.TheVariants.{Seized, Connected as ConnectedTo}
 use Rattle.tx_machine.specs.State.{State}
-use Rattle.tx_machine.specs.Ending.{answered, end_calls}
+use Rattle.tx_machine.specs.Ending.{answered}
 use Rattle.tx_machine.specs.Routing.{set_call, in_phase}
-use Rattle.tx_machine.specs.Confirming.{collide}
-use Rattle.tx_machine.specs.inner.Marks.{HasMark}
-use Rattle.tx_machine.specs.inner.Seen.{changed}
-use Rattle.tx_machine.specs.inner.GivenUp.{ends_by}
-use Rattle.tx_machine.specs.declared.plain.changing.Change.TheVariants.{Carry}
-use Rattle.tx_machine.specs.declared.plain.ended_calls.Ends.TheVariants.{Collided}
-use Rattle.tx_machine.specs.declared.plain.route.Routing.{Routing}
-use Rattle.tx_machine.specs.declared.plain.route.Routing.TheVariants.{Answer, Connect, Seize}
-use Rattle.tx_machine.specs.declared.plain.confirm.Meeting.{Meeting}
-use Rattle.tx_machine.specs.declared.plain.confirm.Meeting.TheVariants.{GoesOn, Collides}
 
--- what a routing does with the call of a number
-abbrev pub routing_done : Plan → State → ℕ → Routing → Reply × State
-routing_done p s n (Answer service) = answered p n service s
-routing_done p s n (Connect l) =
+-- the step that a decision makes for the call of a number
+abbrev pub carried_out : Plan → State → ℕ → Decision → Reply × State
+carried_out p s n (Answer service) = answered p n service s
+carried_out p s n (Connect l) =
     (ConnectedTo l, record s { calls = set_call n (in_phase (Connected l)) s.calls })
-routing_done p s n (Seize x) =
+carried_out p s n (Seize x) =
     (Seized x, record s { calls = set_call n (in_phase (Calling x)) s.calls })
-
--- the circuit that it seizes is one of the plan's
-abbrev pub IsPlanned : Plan → Routing → Type 0
-IsPlanned p (Answer service) = Unit {0}
-IsPlanned p (Connect l) = Unit {0}
-IsPlanned p (Seize x) = is_circuit p x ≡ true
-
--- what a meeting does with the call of a number
-abbrev pub meeting_done : Plan → State → ℕ → Meeting → Reply × State
-meeting_done p s n (GoesOn h) =
-    (At h.far, record s { calls = set_call n (changed (Carry h)) s.calls })
-meeting_done p s n (Collides x collided m other) = (
-  HeadOn n m (not collided) (not other),
-  end_calls p (ByService Nc) (ends_by (Collided n collided m other)) (collide n m x s),
-)
-
--- the phase of a call that has this meeting
-abbrev pub IsOn : Phase → Meeting → Type 0
-IsOn phase (GoesOn h) = phase ≡ Calling h.circuit
-IsOn phase (Collides x collided m other) = phase ≡ Calling x
-
--- the call of the number has seized the circuit, and a circuit that is given back has a mark
-abbrev pub IsMet : Plan → State → ℕ → Meeting → Type 0
-IsMet p s n (GoesOn h) = (c : Call) × (call_of n s.calls ≡ Some c) × (c.phase ≡ Calling h.circuit)
-IsMet p s n (Collides x collided m other) = HasMark (length p.groups) x

@@ -1,13 +1,13 @@
 // Confirming a circuit.
 ghost use Rattle.tx_machine.specs.declared.plain.confirm.Meeting.TheVariants.{GoesOn, Collides};
 ghost use Rattle.std.specs.Prelude.{◌≡◌, ◌<◌, ◌+◌, ◌-◌, ◌^◌, Some, None, length, is_some, true, false};
-ghost use Rattle.tx_machine.specs.Step.{step, accepted, counted};
+ghost use Rattle.tx_machine.specs.Step.{accepted};
 ghost use Rattle.tx_machine.specs.Call.{is_calling, call_of};
 ghost use Rattle.tx_machine.specs.Refusals.{is_other};
 ghost use Rattle.tx_machine.specs.Confirming.{confirmed, collide};
 ghost use Rattle.tx_machine.specs.inner.Marks.{HasMark};
 ghost use Rattle.tx_machine.specs.Seen.{call_seen};
-ghost use Rattle.tx_machine.specs.inner.Decided.{meeting_done, IsMet, IsOn};
+ghost use Rattle.tx_machine.specs.inner.Met.{meeting_done, IsMet, IsOn};
 ghost use Rattle.tx_machine.specs.declared.event.Event.TheVariants.{Confirm};
 ghost use Rattle.tx_machine.specs.declared.open_call.Phase.TheVariants.{Calling};
 ghost use Rattle.tx_machine.specs.declared.plain.changing.Change.TheVariants.{Carry};
@@ -82,7 +82,7 @@ impl<'p, A: Allocator + Copy> Plain<'p, A> {
         requires events { self.old.state.events < 2 ^ 64 - 1 }
         requires open { is_some (call_of number self.old.state.calls) ≡ true }
         requires calling { is_other is_calling (call_of number self.old.state.calls) ≡ false }
-        ensures step { counted (accepted self.old.plan self.old.state (Confirm number))
+        ensures step { accepted self.old.plan self.old.state (Confirm number)
             ≡ (result, self.new.state) }
         ensures plan { self.new.plan ≡ self.old.plan }
     {
@@ -100,14 +100,12 @@ impl<'p, A: Allocator + Copy> Plain<'p, A> {
 
     /// A call goes on over the circuit that it seizes.
     pub(crate) fn carry(&mut self, number: u32, hop: &Hop) -> Reply
-        requires events { self.old.state.events < 2 ^ 64 - 1 }
-        requires met { IsMet self.old.plan self.old.state number (GoesOn hop.now) }
-        ensures step { counted (meeting_done self.old.plan self.old.state number (GoesOn hop.now))
+        requires { IsMet self.old.plan self.old.state number (GoesOn hop.now) }
+        ensures step { meeting_done self.old.plan self.old.state number (GoesOn hop.now)
             ≡ (result, self.new.state) }
         ensures plan { self.new.plan ≡ self.old.plan }
     {
         change_numbered(self.calls.as_mut_slice(), number, &Change::Carry(*hop));
-        self.events += 1;
         Reply::At(hop.far)
     }
 
@@ -122,8 +120,8 @@ impl<'p, A: Allocator + Copy> Plain<'p, A> {
     ) -> Reply
         requires events { self.old.state.events < 2 ^ 64 - 1 }
         requires met { HasMark (length self.old.plan.groups) circuit.now }
-        ensures step { counted (meeting_done self.old.plan self.old.state number
-            (Collides circuit.now collided other other_collided)) ≡ (result, self.new.state) }
+        ensures step { meeting_done self.old.plan self.old.state number
+            (Collides circuit.now collided other other_collided) ≡ (result, self.new.state) }
         ensures plan { self.new.plan ≡ self.old.plan }
     {
         self.collide(number, other, circuit);

@@ -1,7 +1,7 @@
 // Ending calls.
 ghost use Rattle.tx_machine.specs.declared.open_call.Party.TheVariants.{Caller, Called};
 ghost use Rattle.std.specs.Prelude.{◌≡◌, ◌<◌, ◌+◌, ◌-◌, ◌^◌, filter, length};
-ghost use Rattle.tx_machine.specs.Step.{step, accepted, counted};
+ghost use Rattle.tx_machine.specs.Step.{accepted};
 ghost use Rattle.tx_machine.specs.InUse.{uses_group};
 ghost use Rattle.tx_machine.specs.Ending.{end_calls};
 ghost use Rattle.tx_machine.specs.inner.GivenUp.{ends_by};
@@ -17,7 +17,7 @@ impl<'p, A: Allocator + Copy> Plain<'p, A> {
     /// A call is cleared.
     pub(crate) fn clear(&mut self, number: u32, party: Party) -> Reply
         requires { self.old.state.events < 2 ^ 64 - 1 }
-        ensures step { counted (accepted self.old.plan self.old.state (Clear number party))
+        ensures step { accepted self.old.plan self.old.state (Clear number party)
             ≡ (result, self.new.state) }
         ensures plan { self.new.plan ≡ self.old.plan }
     {
@@ -33,7 +33,7 @@ impl<'p, A: Allocator + Copy> Plain<'p, A> {
     pub(crate) fn fail(&mut self, group: GroupId) -> Reply
         requires events { self.old.state.events < 2 ^ 64 - 1 }
         requires group { group < length self.old.plan.groups }
-        ensures step { counted (accepted self.old.plan self.old.state (Fail group))
+        ensures step { accepted self.old.plan self.old.state (Fail group)
             ≡ (result, self.new.state) }
         ensures plan { self.new.plan ≡ self.old.plan }
     {
@@ -53,12 +53,9 @@ impl<'p, A: Allocator + Copy> Plain<'p, A> {
     /// An event ends calls, with one cause.
     pub(crate) fn end(&mut self, ends: &Ends, cause: Cause)
         requires { self.old.state.events < 2 ^ 64 - 1 }
-        ensures { self.new ≡ record self.old {
-          state = record (end_calls self.old.plan cause
-              (ends_by ends.now) self.old.state) { events = self.old.state.events + 1 };
-        } }
+        ensures { self.new ≡ record self.old
+            { state = end_calls self.old.plan cause (ends_by ends.now) self.old.state } }
     {
-        self.events += 1;
         give_up(self.calls.as_slice(), ends, &mut self.marks.releasing);
         take_out(
             self.plan,
@@ -66,7 +63,7 @@ impl<'p, A: Allocator + Copy> Plain<'p, A> {
             &mut self.tickets,
             ends,
             cause,
-            self.events,
+            self.events + 1,
         );
     }
 }

@@ -1,27 +1,10 @@
 // Keyed figures: the code that they begin with, and what follows it.
-ghost use Rattle.std.specs.Prelude.{◌≡◌, ◌&&◌, ◌||◌, nat_lt, length, unwrap_or, []};
-ghost use Rattle.std.specs.Option.{option_map};
-ghost use Rattle.tx_plan.specs.Codes.{code_of, after, is_prefix};
+ghost use Rattle.std.specs.Prelude.{◌≡◌, ◌&&◌, ◌||◌, nat_lt, length};
+ghost use Rattle.tx_plan.specs.Codes.{code_of, is_prefix};
 
+use crate::deciding::after;
 use std::alloc::Allocator;
 use tx_plan::{CodeId, Plan};
-
-/// What is left of the text after the front, if it begins with it.
-fn after<'t>(front: &[u8], text: &'t [u8]) -> Option<&'t [u8]>
-    ensures { option_map (λ rest. rest.now) result ≡ after front.now text.now }
-{
-    text.strip_prefix(front)
-}
-
-/// What is left of the text after the front; nothing where the text does not begin with it.
-pub(crate) fn rest_after<'t>(front: &[u8], text: &'t [u8]) -> &'t [u8]
-    ensures { result.now ≡ unwrap_or (after front.now text.now) [] }
-{
-    match after(front, text) {
-        Some(rest) => rest,
-        None => &text[..0],
-    }
-}
 
 /// Whether the text begins the figures and is longer than the best so far.
 fn is_longer(text: &[u8], keyed: &[u8], first: bool, width: usize) -> bool

@@ -1,6 +1,6 @@
 // The event Key: a new call.
 ghost use Rattle.std.specs.Prelude.{◌≡◌, ◌<◌, ◌-◌, ◌^◌, IfOk, OnErr};
-ghost use Rattle.tx_machine.specs.Step.{accepted, counted};
+ghost use Rattle.tx_machine.specs.Step.{accepted};
 ghost use Rattle.tx_machine.specs.declared.event.Event.TheVariants.{Key};
 
 use crate::plain::Plain;
@@ -15,8 +15,8 @@ impl<'p, A: Allocator + Copy> Plain<'p, A> {
         requires numbers { self.old.state.numbers < 2 ^ 32 - 1 }
         requires events { self.old.state.events < 2 ^ 64 - 1 }
         ensures plan { self.new.plan ≡ self.old.plan }
-        ensures ok { IfOk result (λ reply. counted
-            (accepted self.old.plan self.old.state (Key line keyed)) ≡ (reply, self.new.state)) }
+        ensures ok { IfOk result (λ reply. accepted self.old.plan self.old.state
+            (Key line keyed) ≡ (reply, self.new.state)) }
         ensures err { OnErr result (self.new ≡ self.old) }
     {
         self.calls.reserve(1)?;
@@ -34,7 +34,6 @@ impl<'p, A: Allocator + Copy> Plain<'p, A> {
         };
         self.calls.push_reserved(call);
         self.numbers = number;
-        self.events += 1;
         Ok(Reply::Keyed(number))
     }
 }

@@ -1,12 +1,12 @@
 // What the plain network looks at.
-ghost use Rattle.std.specs.Prelude.{◌≡◌, ◌<◌, ◌≤◌, ◌+◌, ◌-◌, Some, None, find, map, is_some};
-ghost use Rattle.tx_machine.specs.InUse.{first_in, is_free_at, first_free, choice, is_down};
+ghost use Rattle.std.specs.Prelude.{◌≡◌, ◌<◌, ◌≤◌, ◌+◌, ◌-◌, Some, None, find, map};
+ghost use Rattle.tx_machine.specs.InUse.{is_free_at, is_down};
 ghost use Rattle.tx_plan.specs.Circuits.{upward, downward};
 
 use crate::plain::Plain;
 use crate::plain::calls::{carried_by, seized_from};
 use std::alloc::Allocator;
-use tx_plan::{Circuit, CodeId, ExchangeId, GroupId};
+use tx_plan::{Circuit, ExchangeId, GroupId};
 
 impl<'p, A: Allocator + Copy> Plain<'p, A> {
     /// Whether the group is failed or blocked.
@@ -65,46 +65,5 @@ impl<'p, A: Allocator + Copy> Plain<'p, A> {
             n -= 1;
         }
         None
-    }
-
-    /// The circuit of a group that the exchange would seize.
-    #[tactic(auto, using(crate::proofs::Choosing::by_first_end))]
-    pub(crate) fn first_free(&self, place: ExchangeId, group: GroupId) -> Option<Circuit>
-        ensures { result ≡ first_free self.now.plan self.now.state place group }
-    {
-        if self.is_down(group) {
-            return None;
-        }
-        let plan = self.plan;
-        let count = plan.group_count(group);
-        let (first, _) = plan.ends(group);
-        if first == place {
-            self.first_up(place, group, count)
-        } else {
-            self.first_down(place, group, count)
-        }
-    }
-
-    /// The first circuit that the exchange finds in the groups.
-    pub(crate) fn choice_in(&self, place: ExchangeId, groups: &[GroupId]) -> Option<Circuit>
-        ensures { result ≡ first_in (first_free self.now.plan self.now.state place) groups.now }
-    {
-        let mut at = 0;
-        while at < groups.len() {
-            let found = self.first_free(place, groups[at]);
-            if found.is_some() {
-                return found;
-            }
-            at += 1;
-        }
-        None
-    }
-
-    /// The circuit that the exchange chooses.
-    pub(crate) fn choice(&self, place: ExchangeId, code: CodeId) -> Option<Circuit>
-        ensures { result ≡ choice self.now.plan self.now.state place code }
-    {
-        let plan = self.plan;
-        self.choice_in(place, plan.list(place, code))
     }
 }

@@ -1,4 +1,4 @@
-use Rattle.std.proofs.Common.{is_some, ap, arith}
+use Rattle.std.proofs.Common.{is_some, ap}
 use Rattle.tx_machine.specs.declared.event.Event.TheVariants.{Clear}
 use Rattle.tx_machine.proofs.Unrefused.{can_count, can_clear}
 use Rattle.tx_engine.specs.inner.Sound.{state_of}
@@ -12,6 +12,3 @@ end_call-requires-clause-there g c = ap is_some c.key_of-key.ensures.1.kept
 
 pub end_call-requires-clause-events : goal.end_call-requires-clause-events
 end_call-requires-clause-events g c = can_count c.args.self.now.plan.now (state_of c.args.self.now) (Clear c.args.number c.args.party) c.requires.open
-
-pub overflow_add-self : goal.overflow_add-self
-overflow_add-self g c = omega (arith, c.end_call.ensures.events, can_count c.args.self.now.plan.now (state_of c.args.self.now) (Clear c.args.number c.args.party) c.requires.open)

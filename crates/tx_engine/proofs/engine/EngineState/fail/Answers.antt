@@ -1,6 +1,5 @@
-use Rattle.std.proofs.Common.{◌+◌, sym, ap, ◌∙◌, subst, deque_len, deque_capacity}
+use Rattle.std.proofs.Common.{sym, ◌∙◌, subst, deque_len, deque_capacity}
 use Rattle.tx_machine.specs.declared.reply.Reply.TheVariants.{Lost}
-use Rattle.tx_machine.specs.Step.{counted}
 use Rattle.tx_calls.specs.Calls.{calls_in}
 use Rattle.tx_engine.specs.inner.Seen.{AreTogether, state_seen}
 use Rattle.tx_engine.proofs.Accepted.{fail_done}
@@ -22,5 +21,5 @@ returns-clause-step g c =
     let n = c.args.self.now in
     let m = c.lose_users-lost.new.self in
     let e = c.lose_users-lost.ensures in
-    ap counted (fail_done n.plan.now c.args.group (state_of n) (state_of m) c.lose_users-lost.result e.losing e.none)
-    ∙ (λ i. (Lost c.lose_users-lost.result, state_seen (calls_in m.calls) (sym c.fail.ensures i) m.lines m.numbers (m.events + 1) m.tickets.items))
+    fail_done n.plan.now c.args.group (state_of n) (state_of m) c.lose_users-lost.result e.losing e.none
+    ∙ (λ i. (Lost c.lose_users-lost.result, state_seen (calls_in m.calls) (sym c.fail.ensures i) m.lines m.numbers m.events m.tickets.items))

@@ -8,7 +8,7 @@ use Rattle.tx_machine.specs.declared.reply.Reply.TheVariants.{Keyed}
 use Rattle.tx_machine.specs.Call.{Call}
 use Rattle.tx_machine.specs.Lines.{is_engaged}
 use Rattle.tx_machine.specs.State.{State}
-use Rattle.tx_machine.specs.Step.{accepted, counted}
+use Rattle.tx_machine.specs.Step.{accepted}
 use Rattle.tx_machine.proofs.Unrefused.{can_count, can_key, key_line}
 use Rattle.tx_lines.specs.Book.{Book}
 use Rattle.tx_calls.specs.Calls.{calls_in}
@@ -24,11 +24,6 @@ overflow_add-number g c =
 
 pub overflow_add-call : goal.overflow_add-call
 overflow_add-call g c =
-    let n = c.args.self.now in
-    omega (arith, can_count n.plan.now (state_of n) (Key c.args.line c.args.keyed) c.requires.open, c.reserve_call.ensures.events)
-
-pub overflow_add-self : goal.overflow_add-self
-overflow_add-self g c =
     let n = c.args.self.now in
     omega (arith, can_count n.plan.now (state_of n) (Key c.args.line c.args.keyed) c.requires.open, c.reserve_call.ensures.events)
 
@@ -61,6 +56,6 @@ returns-clause-ok g c =
     let keyed = c.args.keyed in
     let call = λ (h : List Hop). keyed_with (m.numbers + 1) line keyed (m.events + 1) h in
     let calls = c.«open».ensures.calls ∙ ap (λ (h : List Hop). calls_in m.calls ++ call h ∷ []) c.new.ensures.items in
-    ap (λ (s : State). counted (accepted n.plan.now s (Key line keyed))) (sym c.reserve_call.ensures.state)
-    ∙ ap (λ (cs : List Call). (Keyed (m.numbers + 1), state_seen cs m.circuits m.lines (m.numbers + 1) (m.events + 1) m.tickets.items)) (sym calls)
-    ∙ ap (λ (b : Book). (Keyed (m.numbers + 1), state_seen (calls_in c.«open».new.self) m.circuits b (m.numbers + 1) (m.events + 1) m.tickets.items)) (sym c.engage.ensures.lines)
+    ap (λ (s : State). accepted n.plan.now s (Key line keyed)) (sym c.reserve_call.ensures.state)
+    ∙ ap (λ (cs : List Call). (Keyed (m.numbers + 1), state_seen cs m.circuits m.lines (m.numbers + 1) m.events m.tickets.items)) (sym calls)
+    ∙ ap (λ (b : Book). (Keyed (m.numbers + 1), state_seen (calls_in c.«open».new.self) m.circuits b (m.numbers + 1) m.events m.tickets.items)) (sym c.engage.ensures.lines)

@@ -1,16 +1,15 @@
-use Rattle.std.proofs.Common.{◌≡◌, ℕ, ◌==◌, ◌<◌, ◌-◌, ◌^◌, not, sym, ap, ◌∙◌, subst, arith}
+use Rattle.std.proofs.Common.{◌≡◌, ℕ, ◌==◌, ◌<◌, ◌-◌, ◌^◌, not, sym, ap, ◌∙◌, subst}
 use Rattle.tx_machine.specs.declared.cause.Cause.TheVariants.{Service as ByService}
 use Rattle.tx_machine.specs.declared.cause.Service.TheVariants.{Nc}
 use Rattle.tx_machine.specs.declared.reply.Reply.TheVariants.{HeadOn}
 use Rattle.tx_machine.specs.State.{State}
-use Rattle.tx_machine.specs.Step.{counted}
 use Rattle.tx_calls.specs.Calls.{kept_at}
 use Rattle.tx_calls.specs.inner.Keys.{keys_of, pick}
 use Rattle.tx_engine.specs.inner.InTurn.{pair_ended}
 use Rattle.tx_engine.proofs.Accepted.{head_on_done}
 use Rattle.tx_engine.specs.declared.head_on.Met.{Met}
 use Rattle.tx_engine.specs.inner.Sound.{state_of}
-use Rattle.tx_engine.proofs.HeadOn.{meeting, keys_differ, pair_events}
+use Rattle.tx_engine.proofs.HeadOn.{meeting, keys_differ}
 use Rattle.tx_engine.proofs.engine.EngineState.meet.Goals as goal
 
 pub met-one-requires : goal.met-one-requires
@@ -90,23 +89,6 @@ end_collided-requires-clause-other g c =
     let now = c.throw_back.ensures.state k d mt.1 in
     (_, ap (kept_at c.throw_back.new.self.calls) (ap (λ (z : Met). z.key) other) ∙ th.two, sym (ap (λ (z : Met). z.number) other))
 
-pub overflow_add-self : goal.overflow_add-self
-overflow_add-self g c =
-    let n = c.args.self.now in
-    let x = c.args.circuit.now in
-    let q = c.requires.calls in
-    let k = q.0 in
-    let mt = meeting n c.requires.sound c.args.number c.args.key x k q.1 q.2 c.args.far q.3 c.requires.met c.get-other_key.result (c.get-other_key.ensures ∙ ap (λ z. pick z (keys_of n.keys x)) (c.eq.ensures ∙ ap (λ (z : ℕ × ℕ). z.0 == c.args.far) c.ends-first.ensures)) in
-    let d = mt.0 in
-    let one = c.met-one.ensures k q.1.kept in
-    let other = c.met-other.ensures d mt.1.two in
-    let th = c.throw_back.ensures.kept k d mt.1 in
-    let now = c.throw_back.ensures.state k d mt.1 in
-    let same : c.end_collided.new.self.events ≡ n.events = ap (λ (z : State). z.events) c.end_collided.ensures.state
-    ∙ pair_events c.throw_back.new.self.plan.now (ByService Nc) c.met-one.result.number c.met-one.result.collided c.met-other.result.number c.met-other.result.collided (state_of c.throw_back.new.self)
-    ∙ ap (λ (z : State). z.events) now in
-    omega (arith, same, c.requires.events)
-
 pub returns-clause-step : goal.returns-clause-step
 returns-clause-step g c =
     let n = c.args.self.now in
@@ -121,9 +103,9 @@ returns-clause-step g c =
     let now = c.throw_back.ensures.state k d mt.1 in
     let a = c.met-one.result in
     let b = c.met-other.result in
-    ap counted (head_on_done n.plan.now (state_of n) c.args.number k.call d.call x c.requires.sound.together.inv q.1.open' mt.1.calls mt.1.met)
-    ∙ (λ i. counted (
+    head_on_done n.plan.now (state_of n) c.args.number k.call d.call x c.requires.sound.together.inv q.1.open' mt.1.calls mt.1.met
+    ∙ (λ i. (
       HeadOn (sym one i).number (sym other i).number (not (sym one i).collided) (not (sym other i).collided),
       pair_ended (sym c.throw_back.ensures.plan i) (ByService Nc) (sym one i).number (sym one i).collided (sym other i).number (sym other i).collided (sym now i),
     ))
-    ∙ ap (λ (z : State). counted (HeadOn a.number b.number (not a.collided) (not b.collided), z)) (sym c.end_collided.ensures.state)
+    ∙ ap (λ (z : State). (HeadOn a.number b.number (not a.collided) (not b.collided), z)) (sym c.end_collided.ensures.state)

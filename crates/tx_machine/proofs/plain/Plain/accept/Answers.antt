@@ -1,4 +1,4 @@
-use Rattle.std.proofs.Common.{◌≡◌, ◌+◌, sym, subst, ap, ◌∙◌, None, arith}
+use Rattle.std.proofs.Common.{◌≡◌, sym, subst, ap, ◌∙◌, None}
 use Rattle.std.specs.FinSet as set
 use Rattle.tx_plan.specs.Orders.{line_cmp}
 use Rattle.tx_plan.proofs.Named.{line_put}
@@ -6,7 +6,7 @@ use Rattle.tx_machine.specs.declared.event.Event.TheVariants.{Released, Restore,
 use Rattle.tx_machine.specs.declared.reply.Reply.TheVariants.{Done}
 use Rattle.tx_machine.specs.Refusals.{refusal}
 use Rattle.tx_machine.specs.State.{Net}
-use Rattle.tx_machine.specs.Step.{accepted, counted}
+use Rattle.tx_machine.specs.Step.{accepted}
 use Rattle.tx_machine.proofs.Unrefused.{can_count, can_key, can_route, can_confirm, can_fail}
 use Rattle.tx_machine.specs.inner.Whole.{net_of}
 use Rattle.tx_machine.proofs.LineSets.{lines_without}
@@ -43,27 +43,8 @@ fail-requires-clause-events g c = can_count c.args.self.now.plan c.args.self.now
 pub fail-requires-clause-group : goal.fail-requires-clause-group
 fail-requires-clause-group g c = can_fail c.args.self.now.plan c.args.self.now.state c.in-Fail.group (subst (λ e. refusal c.args.self.now.plan c.args.self.now.state e ≡ None) c.in-Fail.is c.requires.open)
 
-pub overflow_add-self : goal.overflow_add-self
-overflow_add-self g c =
-    let v = c.args.self.now in
-    let few = can_count v.plan v.state c.args.event.now c.requires.open in
-    let now : c.self-2.inside.events ≡ c.match-event.self.state.events = ap (λ (n : Net). n.state.events) c.self-2.view_is in
-    let same : c.match-event.self.state.events ≡ v.state.events = elim c.match-event.branch [
-      | in-Released w ↦ ap (λ (n : Net). n.state.events) w.self-is ∙ ap (λ (n : Net). n.state.events) w.self.view_is
-      | in-Restore w ↦ ap (λ (n : Net). n.state.events) w.self-is ∙ ap (λ (n : Net). n.state.events) w.self-in-Restore.view_is
-      | in-Block w ↦ ap (λ (n : Net). n.state.events) w.self-is ∙ ap (λ (n : Net). n.state.events) w.self-in-Block.view_is
-      | in-Unblock w ↦ ap (λ (n : Net). n.state.events) w.self-is ∙ ap (λ (n : Net). n.state.events) w.self-in-Unblock.view_is
-      | in-CircuitOut w ↦ ap (λ (n : Net). n.state.events) w.self-is ∙ ap (λ (n : Net). n.state.events) w.self-in-CircuitOut.view_is
-      | in-CircuitIn w ↦ ap (λ (n : Net). n.state.events) w.self-is ∙ ap (λ (n : Net). n.state.events) w.self-in-CircuitIn.view_is
-      | in-LineFault+in_ok-push-in-LineFault w ↦ ap (λ (n : Net). n.state.events) w.self-is ∙ ap (λ (n : Net). n.state.events) w.self-in-LineFault.view_is
-      | in-LineMend w ↦ ap (λ (n : Net). n.state.events) w.self-is ∙ ap (λ (n : Net). n.state.events) w.self-in-LineMend.view_is
-      | in-LineAway+in_ok-push-in-LineAway w ↦ ap (λ (n : Net). n.state.events) w.self-is ∙ ap (λ (n : Net). n.state.events) w.self-in-LineAway.view_is
-      | in-LineBack w ↦ ap (λ (n : Net). n.state.events) w.self-is ∙ ap (λ (n : Net). n.state.events) w.self-in-LineBack.view_is
-    ] in
-    omega arith
-
 pub returns-clause-plan : goal.returns-clause-plan
-returns-clause-plan g c = ap (λ (n : Net). n.plan) c.self-2.view_is ∙ elim c.match-event.branch [
+returns-clause-plan g c = elim c.match-event.branch [
   | in-Released w ↦ ap (λ (n : Net). n.plan) w.self-is ∙ ap (λ (n : Net). n.plan) w.self.view_is
   | in-Restore w ↦ ap (λ (n : Net). n.plan) w.self-is ∙ ap (λ (n : Net). n.plan) w.self-in-Restore.view_is
   | in-Block w ↦ ap (λ (n : Net). n.plan) w.self-is ∙ ap (λ (n : Net). n.plan) w.self-in-Block.view_is
@@ -79,7 +60,7 @@ returns-clause-plan g c = ap (λ (n : Net). n.plan) c.self-2.view_is ∙ elim c.
 pub returns-clause-ok : goal.returns-clause-ok
 returns-clause-ok g c =
     let v = c.args.self.now in
-    let joined : accepted v.plan v.state c.args.event.now ≡ (Done, c.match-event.self.state) = elim c.match-event.branch [
+    elim c.match-event.branch [
       | in-Released w ↦
           let k = w.self.inside in
           let s = (net_of k.plan.now k.calls.items k.marks k.faulty.items k.away.items k.numbers k.events k.tickets.items).state in
@@ -130,5 +111,4 @@ returns-clause-ok g c =
           let s = (net_of k.plan.now k.calls.items k.marks k.faulty.items k.away.items k.numbers k.events k.tickets.items).state in
           ap (accepted v.plan v.state) w.in-LineBack.is ∙ ap (λ (n : Net). accepted n.plan n.state (LineBack w.in-LineBack.line)) (sym w.self-in-LineBack.view_is)
           ∙ (λ i. (Done, record s { away = sym (ap (λ ls. set.from_list {R = line_cmp} ls) w.take_line-in-LineBack.ensures ∙ lines_without k.away.items w.in-LineBack.line) i })) ∙ ap (λ (n : Net). (Done, n.state)) (sym w.self-is)
-    ] in
-    ap counted joined ∙ ap (λ (n : Net). (Done, record n.state { events = n.state.events + 1 })) (sym c.self-2.view_is)
+    ]

@@ -1,4 +1,4 @@
-use Rattle.std.proofs.Common.{◌+◌, ◌∙◌, ap, sym, not}
+use Rattle.std.proofs.Common.{◌∙◌, ap, sym, not}
 use Rattle.tx_machine.specs.declared.cause.Cause.TheVariants.{Service as ByService}
 use Rattle.tx_machine.specs.declared.reply.Reply.TheVariants.{HeadOn}
 use Rattle.tx_machine.specs.declared.cause.Service.TheVariants.{Nc}
@@ -12,4 +12,4 @@ pub returns-clause-step : goal.returns-clause-step
 returns-clause-step g c =
     let ends = ends_by (Collided c.args.number c.args.collided c.args.other c.args.other_collided) in
     sym (ap (λ (v : Net). (HeadOn c.args.number c.args.other (not c.args.collided) (not c.args.other_collided), v.state))
-    (c.end.ensures ∙ ap (λ (v : Net). record v { state = record (end_calls v.plan (ByService Nc) ends v.state) { events = v.state.events + 1 } }) c.collide.ensures))
+    (c.end.ensures ∙ ap (λ (v : Net). record v { state = end_calls v.plan (ByService Nc) ends v.state }) c.collide.ensures))

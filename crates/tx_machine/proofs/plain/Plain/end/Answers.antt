@@ -1,4 +1,4 @@
-use Rattle.std.proofs.Common.{◌+◌, ap, ◌∙◌, sym, subst, not, map, List}
+use Rattle.std.proofs.Common.{ap, ◌∙◌, sym, subst, not, map, List}
 use Rattle.std.specs.Prelude.{filter}
 use Rattle.std.specs.List.{flat_map}
 use Rattle.std.specs.FinSet as set
@@ -37,5 +37,5 @@ returns g c =
     let calls = ap (map call_seen) c.take_out.ensures.calls ∙ filter_map_seen (λ d. not (ends_by ends d)) call_seen n.calls.items in
     let given = λ (l : List Call). filter (is_given ends l) (flat_map circuits_used (filter (ends_by ends) l)) in
     let releasing = ap (λ (v : Circuits). v.marked) c.give_up.ensures ∙ ap (λ xs. set.union n.marks.releasing.marked (set.from_list {R = circuit_cmp} xs)) (ap (λ l. given (map call_seen l)) c.as_slice.ensures.value ∙ given_same ends (map call_seen n.calls.items)) in
-    (λ i. record w { state = record w.state { calls = calls i; releasing = releasing i; events = n.events + 1; tickets = c.take_out.ensures.tickets i } })
-    ∙ ap (λ (v : Net). record v { state = record (end_calls v.plan cause (ends_by ends) v.state) { events = v.state.events + 1 } }) c.self.view_is
+    (λ i. record w { state = record w.state { calls = calls i; releasing = releasing i; tickets = c.take_out.ensures.tickets i } })
+    ∙ ap (λ (v : Net). record v { state = end_calls v.plan cause (ends_by ends) v.state }) c.self.view_is

@@ -9,7 +9,7 @@ use Rattle.tx_machine.specs.Routing.{set_call}
 use Rattle.tx_machine.specs.Seen.{call_seen}
 use Rattle.tx_machine.specs.inner.Seen.{changed}
 use Rattle.tx_machine.specs.declared.plain.changing.Change.TheVariants.{Carry}
-use Rattle.tx_machine.proofs.Routed.{confirms}
+use Rattle.tx_machine.proofs.Confirmed.{confirms}
 use Rattle.tx_machine.proofs.plain.Plain.meeting.Goals as goal
 
 pub returns-in-None : goal.returns-in-None

@@ -8,9 +8,9 @@ use Rattle.tx_plan.specs.Among.{Among}
 use Rattle.tx_plan.proofs.Among.{among_right}
 use Rattle.tx_machine.proofs.Lists.{find_mem}
 use Rattle.tx_machine.specs.inner.Marks.{HasMark}
-use Rattle.tx_machine.proofs.Routed.{met}
+use Rattle.tx_machine.proofs.Confirmed.{met}
 use Rattle.tx_machine.specs.Seen.{call_seen}
-use Rattle.tx_machine.specs.inner.Decided.{meeting_done}
+use Rattle.tx_machine.specs.inner.Met.{meeting_done}
 use Rattle.tx_machine.proofs.plain.Plain.meeting_of.Goals as goal
 
 pub returns-clause-done : goal.returns-clause-done

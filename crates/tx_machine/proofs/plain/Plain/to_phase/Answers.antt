@@ -1,8 +1,7 @@
-use Rattle.std.proofs.Common.{◌≡◌, ◌∙◌, ◌+◌, ap, sym, subst, map, length, true}
+use Rattle.std.proofs.Common.{◌≡◌, ◌∙◌, ap, sym, subst, map, length, true}
 use Rattle.std.specs.Vec.{with_items}
 use Rattle.std.proofs.lemmas.List.{with_items_is}
 use Rattle.tx_machine.specs.State.{Net}
-use Rattle.tx_machine.specs.Step.{counted}
 use Rattle.tx_machine.specs.Routing.{set_call, in_phase}
 use Rattle.tx_plan.specs.Circuits.{is_circuit}
 use Rattle.tx_plan.specs.Among.{Among}
@@ -33,7 +32,7 @@ invariant_of-self-2 g c =
     let calls = with_items n.calls c.reserve_hop.new.calls in
     let w = whole_same p n.calls n.tickets n.marks n.numbers c.self.invariant c.as_mut_slice.result.now c.reserve_hop.new.calls c.as_mut_slice.ensures.value c.as_mut_slice.ensures.len c.reserve_hop.ensures.seen c.reserve_hop.ensures.len c.reserve_hop.ensures.room in
     whole_changed p calls n.tickets n.marks n.numbers w c.args.number (To c.args.phase) c.as_mut_slice-2.result.now c.change_numbered.new.calls c.as_mut_slice-2.ensures.value c.as_mut_slice-2.ensures.len c.change_numbered.ensures.seen c.change_numbered.ensures.len c.change_numbered.ensures.room
-    (marks_to (length p.groups) n.numbers c.args.number (map call_seen calls.items) w.held c.args.phase (λ x e. circuit_marked p w.rules x (subst (λ (v : Net). is_circuit v.plan x ≡ true) (sym c.self.view_is) (c.requires.circuit x e))))
+    (marks_to (length p.groups) n.numbers c.args.number (map call_seen calls.items) w.held c.args.phase (λ x e. circuit_marked p w.rules x (subst (λ (v : Net). is_circuit v.plan x ≡ true) (sym c.self.view_is) (c.requires x e))))
 
 pub returns-clause-ok : goal.returns-clause-ok
 returns-clause-ok g c =
@@ -43,4 +42,4 @@ returns-clause-ok g c =
     let calls = with_items n.calls c.reserve_hop.new.calls in
     let seen = seen_changed calls c.args.number (To c.args.phase) c.as_mut_slice-2.result.now c.change_numbered.new.calls c.as_mut_slice-2.ensures.value c.as_mut_slice-2.ensures.len c.change_numbered.ensures.seen c.change_numbered.ensures.len
     ∙ ap to (seen_same n.calls c.as_mut_slice.result.now c.reserve_hop.new.calls c.as_mut_slice.ensures.value c.as_mut_slice.ensures.len c.reserve_hop.ensures.seen c.reserve_hop.ensures.len) in
-    sym ((λ i. (c.args.reply, record s { calls = seen i; events = n.events + 1 })) ∙ ap (λ (v : Net). counted (c.args.reply, record v.state { calls = to v.state.calls })) c.self.view_is)
+    (λ i. record s { calls = seen i }) ∙ ap (λ (v : Net). record v.state { calls = to v.state.calls }) c.self.view_is

@@ -1,5 +1,5 @@
 use Rattle.tx_plan.proofs.Fronts.{stripped}
-use Rattle.tx_machine.proofs.plain.keyed.after.Goals as goal
+use Rattle.tx_machine.proofs.deciding.after.Goals as goal
 
 pub returns : goal.returns
 returns c = stripped (λ rest. rest.now) c.strip_prefix.result c.args.front.now c.args.text.now _ c.strip_prefix.ensures.cases
