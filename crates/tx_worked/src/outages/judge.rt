@@ -9,7 +9,10 @@ use tx_risk::{Cut, NamedRisk, Survival, survive};
 use tx_text::NoMemory;
 
 /// No walk of these plans is too long for this limit.
-pub const HIGH: Limits = Limits::of(62, 0);
+pub const HIGH: Limits = Limits {
+    limit: 62,
+    spare: 0,
+};
 
 /// How what is told to be cut off differs from what all walks show.
 fn cuts_differ(plan: &Plan, cuts: &[Cut], wanted: &[WantedCut]) -> Option<Difference> {
