@@ -28,4 +28,3 @@ module _ {A : Type 0} (old new : Plan) (limit spare : ℕ) (same : SameNetwork o
   pub change_shown : (r : Ranking A) → IsRightChange old new limit spare r → OnUnsoundChange (λ p q findings. AllByRecursion (IsShown p q limit spare) findings) (changed_of old new r)
   change_shown (Found cert) h = tt
   change_shown (Fails findings) h = h.shown
-

@@ -1,5 +1,5 @@
 -- What a command comes to: the answer of its job, its exit status, and what goes into its files.
-use Rattle.std.specs.Prelude.{◌≡◌, ℕ, ◌==◌, not, ◌&&◌, Bool, List, [], ◌∷◌, Option, None, Some, option_map, is_some, ◌||◌, if◌then◌else◌, string_bytes, String, Result, Ok, Err}
+use Rattle.std.specs.Prelude.{◌≡◌, ℕ, ◌==◌, not, ◌&&◌, Bool, true, List, [], ◌∷◌, Option, None, Some, option_map, is_some, ◌||◌, if◌then◌else◌, string_bytes, String, Result, Ok, Err}
 use Rattle.tx_text.specs.declared.source.ReadFault.{ReadFault}
 use Rattle.tx_text.specs.Ends.{Input, Output, input}
 use Rattle.tx_plantext.specs.PlanWritten.{plan_written}
@@ -15,6 +15,7 @@ use Rattle.tx_commands.specs.declared.command.Command.TheVariants.{Pipe, Run, Ru
 use Rattle.tx_jobs.specs.declared.evidence.Evidence.TheVariants.{Sound, Unsound}
 use Rattle.tx_jobs.specs.declared.mixture.ChangeEvidence.TheVariants.{Sound as SoundChange, Unsound as UnsoundChange}
 use Rattle.tx_jobs.specs.declared.job_fault.JobFault.{JobFault}
+use Rattle.tx_jobs.specs.declared.job_fault.JobFault.TheVariants.{Read}
 use Rattle.tx_jobs.specs.declared.done.Done.{Done}
 use Rattle.tx_jobs.specs.declared.done.Done.TheVariants.{Ran, Told, Checked, Verified, Listed, Linted, Audited, Changed, Mended, Graded, Survived, Written}
 use Rattle.tx_jobs.specs.ChangeEvidences.{ChangeEvidenceAnswers, mixture_plan, mixture_events}
@@ -119,7 +120,8 @@ module _ {P : Type 0} (rest : P → Option (List ℕ)) (failed : P → Bool)
     IsDone (Check plan cert limit spare) result =
         Does Verified (CheckJobAnswers limit spare first second out) result × third.unread
     IsDone (Lint plan) result =
-        Does Linted (LintJobAnswers (string_bytes plan) first out) result × Alone
+        Does Linted (LintJobAnswers (string_bytes plan) first out) result
+        × (failed new ≡ true → result ≡ Err Read) × Alone
     IsDone (Codes plan) result = Does Listed (CodesJobAnswers first out) result × Alone
     IsDone (Audit plan limit spare cert counter) result =
         Does Audited (EvidenceJobAnswers (is_some counter) limit spare first out) result × Alone

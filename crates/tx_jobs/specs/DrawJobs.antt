@@ -1,7 +1,8 @@
 -- What `draw PLAN` answers.
-use Rattle.std.specs.Prelude.{◌≡◌, ◌⊎◌, ℕ, Bool, List, [], Option, None, Some, Result, Ok, Err}
+use Rattle.std.specs.Prelude.{◌≡◌, ◌⊎◌, ℕ, Bool, List, [], Option, None, Some, option_map, Result, Ok, Err}
 use Rattle.std.specs.Io.KnownBytes.{append_known}
 use Rattle.tx_text.specs.Ends.{StopsIn, Input, Output}
+use Rattle.tx_plan.specs.declared.limits.Limits.{Limits}
 use Rattle.tx_plan.specs.Plan.{Plan, code_named}
 use Rattle.tx_rank.specs.Walks.{net_of}
 use Rattle.tx_rank.specs.Reached.{AreReached}
@@ -13,6 +14,10 @@ use Rattle.tx_audit.specs.Audits.{IsAllFound}
 use Rattle.tx_jobs.specs.declared.job_fault.JobFault.{JobFault}
 use Rattle.tx_jobs.specs.declared.job_fault.JobFault.TheVariants.{Write, NoMemory, NoSuchCode}
 use Rattle.tx_jobs.specs.Jobs.{PlanRead, PlanRefused}
+
+-- a limit and a spare number, if there are any
+abbrev pub as_pair : Option Limits → Option (ℕ × ℕ)
+as_pair limits = option_map (λ l. (l.limit, l.spare)) limits
 
 -- the findings of which one may be shown: those of an audit for a limit and a spare number, and
 -- none without these

@@ -1,5 +1,5 @@
 // The job of `audit PLAN --limit L --spare K` where what shows the verdict is to be kept.
-ghost use Rattle.std.specs.Prelude.{◌≡◌, ◌≤◌};
+ghost use Rattle.std.specs.Prelude.{◌≡◌};
 ghost use Rattle.std.specs.List.{AllByRecursion};
 ghost use Rattle.tx_text.specs.Calls.{CallsAtMost, source_calls};
 ghost use Rattle.tx_rank.specs.Findings.{IsTrueOf};
@@ -17,28 +17,26 @@ use tx_plan::{Limits, Plan};
 use tx_rank::Finding;
 use tx_text::{Sink, Source};
 
-/// Reads a plan, and writes the report of its audit for at most `limit` transits (0 to 62) and
-/// `spare` groups to spare (0 to 15). Answers what shows the verdict: after a Yes the certificate,
-/// and after a No, if it is asked for, the script of the first finding that has one. `Err` is the
-/// fault of the first call that failed. Where there is no memory for that script, the report was
-/// written.
+/// Reads a plan, and writes the report of its audit for the limits. Answers what shows the verdict:
+/// the certificate after a Yes, and after a No, if it is asked for, the script of the first finding
+/// that has one.
+///
+/// `Err` is the fault of the first call that failed. Where there is no memory for that script, the
+/// report was written.
 pub fn evidence_job<A: Allocator + Copy, P: Source, W: Sink>(
     alloc: A,
     plan: &mut P,
-    limit: u8,
-    spare: u8,
+    limits: Limits,
     with_script: bool,
     out: &mut W,
 ) -> Result<Evidence<A>, JobFault>
-    requires limit { limit ≤ 62 }
-    requires spare { spare ≤ 15 }
-    ensures answers { EvidenceJobAnswers with_script limit spare
+    ensures answers { EvidenceJobAnswers with_script limits.limit limits.spare
         (input P.rest P.failed P.called plan.old plan.new) (output W.taken out.old out.new) result }
     ensures mark { W.failed out.new ≡ mark_after (W.failed out.old) result }
     ensures calls { CallsAtMost P.called source_calls plan.old plan.new }
 {
-    let audited = audit_job(alloc, plan, limit, spare, out)?;
-    evidence_of(alloc, audited, Limits { limit, spare }, with_script)
+    let audited = audit_job(alloc, plan, limits.limit, limits.spare, out)?;
+    evidence_of(alloc, audited, limits, with_script)
 }
 
 /// What shows the verdict of an audit.
@@ -48,8 +46,8 @@ fn evidence_of<A: Allocator + Copy>(
     limits: Limits,
     with_script: bool,
 ) -> Result<Evidence<A>, JobFault>
-    requires { OnUnsound (λ p findings. AllByRecursion (IsTrueOf p limits.limit limits.spare) findings)
-        audited }
+    requires { OnUnsound (λ p findings.
+        AllByRecursion (IsTrueOf p limits.limit limits.spare) findings) audited }
     ensures { IsEvidenceOf with_script limits.limit limits.spare audited result }
 {
     match audited {

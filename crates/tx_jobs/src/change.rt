@@ -1,5 +1,5 @@
 // The job of `change OLD NEW --limit L --spare K`.
-ghost use Rattle.std.specs.Prelude.{◌≡◌, ◌≤◌, IfOk};
+ghost use Rattle.std.specs.Prelude.{◌≡◌, IfOk};
 ghost use Rattle.std.specs.List.{AllByRecursion};
 ghost use Rattle.tx_text.specs.Calls.{CallsAtMost, source_calls};
 ghost use Rattle.tx_plan.specs.Mixtures.{SameNetwork};
@@ -44,29 +44,26 @@ impl<A: Allocator> Changed<A> {
 }
 
 /// Reads an old plan and then a new one, and writes the report on the change of the one into the
-/// other, list by list, for at most `limit` transits (0 to 62) and `spare` groups to spare (0 to
-/// 15). `Err` is the fault of the first call that failed.
+/// other, list by list, for the limits. `Err` is the fault of the first call that failed.
 pub fn change_job<A: Allocator + Copy, P: Source, Q: Source, W: Sink>(
     alloc: A,
     old: &mut P,
     new: &mut Q,
-    limit: u8,
-    spare: u8,
+    limits: Limits,
     out: &mut W,
 ) -> Result<Changed<A>, JobFault>
-    requires limit { limit ≤ 62 }
-    requires spare { spare ≤ 15 }
-    ensures answers { ChangeJobAnswers limit spare (input P.rest P.failed P.called old.old old.new)
+    ensures answers { ChangeJobAnswers limits.limit limits.spare
+        (input P.rest P.failed P.called old.old old.new)
         (input Q.rest Q.failed Q.called new.old new.new) (output W.taken out.old out.new) result }
     ensures network { IfOk result (OnUnsoundChange (λ p q findings. SameNetwork p q)) }
     ensures each { IfOk result (OnUnsoundChange (λ p q findings.
-        AllByRecursion (IsShown p q limit spare) findings)) }
+        AllByRecursion (IsShown p q limits.limit limits.spare) findings)) }
     ensures mark { W.failed out.new ≡ mark_after (W.failed out.old) result }
     ensures old_calls { CallsAtMost P.called source_calls old.old old.new }
     ensures new_calls { CallsAtMost Q.called source_calls new.old new.new }
 {
     match read_plan_from(alloc, old) {
-        Ok(plan) => change_from(alloc, plan, new, Limits { limit, spare }, out),
+        Ok(plan) => change_from(alloc, plan, new, limits, out),
         Err(fault) => Err(JobFault::of_old_plan(fault)),
     }
 }

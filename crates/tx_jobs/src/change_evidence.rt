@@ -1,5 +1,5 @@
 // The job of `change OLD NEW --limit L --spare K` where what shows the verdict is to be kept.
-ghost use Rattle.std.specs.Prelude.{◌≡◌, ◌≤◌};
+ghost use Rattle.std.specs.Prelude.{◌≡◌};
 ghost use Rattle.std.specs.List.{AllByRecursion};
 ghost use Rattle.tx_text.specs.Calls.{CallsAtMost, source_calls};
 ghost use Rattle.tx_plan.specs.Mixtures.{SameNetwork};
@@ -19,30 +19,28 @@ use tx_rank::Finding;
 use tx_text::{Sink, Source};
 
 /// Reads an old plan and then a new one, and writes the report on the change of the one into the
-/// other, list by list, for at most `limit` transits (0 to 62) and `spare` groups to spare (0 to
-/// 15). Answers what shows the verdict: after a Yes the certificate, and after a No, if it is asked
-/// for, the mixture of the first finding that has a walk. `Err` is the fault of the first call that
-/// failed. Where there is no memory for that mixture, the report was written.
+/// other, list by list, for the limits. Answers what shows the verdict: the certificate after a
+/// Yes, and after a No, if it is asked for, the mixture of the first finding that has a walk.
+///
+/// `Err` is the fault of the first call that failed. Where there is no memory for that mixture, the
+/// report was written.
 pub fn change_evidence_job<A: Allocator + Copy, P: Source, Q: Source, W: Sink>(
     alloc: A,
     old: &mut P,
     new: &mut Q,
-    limit: u8,
-    spare: u8,
+    limits: Limits,
     with_mixture: bool,
     out: &mut W,
 ) -> Result<ChangeEvidence<A>, JobFault>
-    requires limit { limit ≤ 62 }
-    requires spare { spare ≤ 15 }
-    ensures answers { ChangeEvidenceAnswers with_mixture limit spare
+    ensures answers { ChangeEvidenceAnswers with_mixture limits.limit limits.spare
         (input P.rest P.failed P.called old.old old.new)
         (input Q.rest Q.failed Q.called new.old new.new) (output W.taken out.old out.new) result }
     ensures mark { W.failed out.new ≡ mark_after (W.failed out.old) result }
     ensures old_calls { CallsAtMost P.called source_calls old.old old.new }
     ensures new_calls { CallsAtMost Q.called source_calls new.old new.new }
 {
-    let changed = change_job(alloc, old, new, limit, spare, out)?;
-    change_evidence_of(alloc, changed, Limits { limit, spare }, with_mixture)
+    let changed = change_job(alloc, old, new, limits, out)?;
+    change_evidence_of(alloc, changed, limits, with_mixture)
 }
 
 /// What shows the verdict on a change.

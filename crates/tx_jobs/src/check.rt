@@ -9,7 +9,7 @@ use crate::job_fault::JobFault;
 use std::alloc::Allocator;
 use tx_cert::{Cert, read_cert_from};
 use tx_check::{Verdict, check, write_verdict};
-use tx_plan::Plan;
+use tx_plan::{Limits, Plan};
 use tx_plantext::read_plan_from;
 use tx_text::{Sink, Source};
 
@@ -33,7 +33,7 @@ pub fn check_job<A: Allocator + Copy, P: Source, R: Source, W: Sink>(
     ensures cert_calls { CallsAtMost R.called source_calls cert.old cert.new }
 {
     let plan = read_plan_from(alloc, plan)?;
-    check_cert(alloc, &plan, cert, limit, spare, out)
+    check_cert(alloc, &plan, cert, Limits { limit, spare }, out)
 }
 
 /// Reads a certificate of the plan, and writes the verdict.
@@ -41,36 +41,30 @@ fn check_cert<A: Allocator + Copy, R: Source, W: Sink>(
     alloc: A,
     plan: &Plan<A>,
     cert: &mut R,
-    limit: u8,
-    spare: u8,
+    limits: Limits,
     out: &mut W,
 ) -> Result<Verdict, JobFault>
-    requires limit { limit ≤ 62 }
-    requires spare { spare ≤ 15 }
-    ensures answers { CheckAnswers plan.now limit spare
+    ensures answers { CheckAnswers plan.now limits.limit limits.spare
         (input R.rest R.failed R.called cert.old cert.new) (output W.taken out.old out.new) result }
     ensures mark { W.failed out.new ≡ mark_after (W.failed out.old) result }
     ensures calls { CallsAtMost R.called source_calls cert.old cert.new }
 {
     let cert = read_cert_from(alloc, cert, plan)?;
-    tell_verdict(plan, &cert, limit, spare, out)
+    tell_verdict(plan, &cert, limits, out)
 }
 
 /// Checks a certificate, and writes the verdict.
 fn tell_verdict<A: Allocator, W: Sink>(
     plan: &Plan<A>,
     cert: &Cert<A>,
-    limit: u8,
-    spare: u8,
+    limits: Limits,
     out: &mut W,
 ) -> Result<Verdict, JobFault>
-    requires limit { limit ≤ 62 }
-    requires spare { spare ≤ 15 }
-    ensures told { ToldVerdict plan.now cert.now limit spare
+    ensures told { ToldVerdict plan.now cert.now limits.limit limits.spare
         (output W.taken out.old out.new) result }
     ensures mark { W.failed out.new ≡ mark_after (W.failed out.old) result }
 {
-    let verdict = check(plan, cert, limit, spare);
+    let verdict = check(plan, cert, limits.limit, limits.spare);
     write_verdict(&verdict, plan, out)?;
     Ok(verdict)
 }

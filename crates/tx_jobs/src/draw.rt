@@ -1,40 +1,38 @@
 // The job of `draw PLAN [--code C] [--limit L --spare K]`.
-ghost use Rattle.std.specs.Prelude.{◌≡◌, ◌≤◌, ◌<◌, length, IfOk, IfSome, option_map};
+ghost use Rattle.std.specs.Prelude.{◌≡◌, ◌<◌, length, IfOk, option_map};
 ghost use Rattle.tx_text.specs.Calls.{CallsAtMost, source_calls};
 ghost use Rattle.tx_draw.specs.Drawing.{drawing};
 ghost use Rattle.tx_jobs.specs.JobFaults.{mark_after};
 ghost use Rattle.tx_text.specs.Ends.{input, output};
-ghost use Rattle.tx_jobs.specs.DrawJobs.{AreToShow, ToldText, DrewCode, Drew, DrawJobAnswers};
+ghost use Rattle.tx_jobs.specs.DrawJobs.{as_pair, AreToShow, ToldText, DrewCode, Drew, DrawJobAnswers};
 
 use crate::job_fault::JobFault;
 use std::alloc::Allocator;
 use tx_draw::{write_code_drawing, write_drawing};
-use tx_plan::{CodeId, Plan};
+use tx_plan::{CodeId, Limits, Plan};
 use tx_plantext::read_plan_from;
 use tx_rank::{Finding, Ranking, rank, reached};
 use tx_text::{NoMemory, Sink, Source};
 
 /// Reads a plan, and writes its picture; with the figures of a code that of the routes for the
-/// code, and with a limit and a spare number too that with the walk of the code's first finding.
+/// code, and with limits too that with the walk of the code's first finding.
 ///
 /// Nothing is written where the plan is refused or has no such code, or where memory runs out.
-/// Without a code the limit and the spare number change nothing.
+/// Without a code the limits change nothing.
 pub fn draw_job<A: Allocator + Copy, P: Source, W: Sink>(
     alloc: A,
     plan: &mut P,
     code: Option<&[u8]>,
-    bounds: Option<(u8, u8)>,
+    limits: Option<Limits>,
     out: &mut W,
 ) -> Result<(), JobFault>
-    requires limit { IfSome bounds (λ b. b.0 ≤ 62) }
-    requires spare { IfSome bounds (λ b. b.1 ≤ 15) }
-    ensures answers { DrawJobAnswers A (option_map (λ f. f.now) code.entry) bounds
+    ensures answers { DrawJobAnswers A (option_map (λ f. f.now) code.entry) (as_pair limits)
         (input P.rest P.failed P.called plan.old plan.new) (output W.taken out.old out.new) result }
     ensures mark { W.failed out.new ≡ mark_after (W.failed out.old) result }
     ensures calls { CallsAtMost P.called source_calls plan.old plan.new }
 {
     let plan = read_plan_from(alloc, plan)?;
-    draw_plan(alloc, &plan, code, bounds, out)
+    draw_plan(alloc, &plan, code, limits, out)
 }
 
 /// Draws a plan, or the code of some figures.
@@ -42,19 +40,17 @@ fn draw_plan<A: Allocator + Copy, W: Sink>(
     alloc: A,
     plan: &Plan<A>,
     code: Option<&[u8]>,
-    bounds: Option<(u8, u8)>,
+    limits: Option<Limits>,
     out: &mut W,
 ) -> Result<(), JobFault>
-    requires limit { IfSome bounds (λ b. b.0 ≤ 62) }
-    requires spare { IfSome bounds (λ b. b.1 ≤ 15) }
-    ensures drew { Drew A plan.now (option_map (λ f. f.now) code.entry) bounds
+    ensures drew { Drew A plan.now (option_map (λ f. f.now) code.entry) (as_pair limits)
         (output W.taken out.old out.new) result }
     ensures mark { W.failed out.new ≡ mark_after (W.failed out.old) result }
 {
     match code {
         None => draw_whole(plan, out),
         Some(figures) => match plan.code_named(figures) {
-            Some(code) => draw_code(alloc, plan, code, bounds, out),
+            Some(code) => draw_code(alloc, plan, code, limits, out),
             None => Err(JobFault::NoSuchCode),
         },
     }
@@ -72,32 +68,29 @@ fn draw_code<A: Allocator + Copy, W: Sink>(
     alloc: A,
     plan: &Plan<A>,
     code: CodeId,
-    bounds: Option<(u8, u8)>,
+    limits: Option<Limits>,
     out: &mut W,
 ) -> Result<(), JobFault>
     requires code { code < length plan.now.codes }
-    requires limit { IfSome bounds (λ b. b.0 ≤ 62) }
-    requires spare { IfSome bounds (λ b. b.1 ≤ 15) }
-    ensures drew { DrewCode A plan.now code bounds (output W.taken out.old out.new) result }
+    ensures drew { DrewCode A plan.now code (as_pair limits) (output W.taken out.old out.new)
+        result }
     ensures mark { W.failed out.new ≡ mark_after (W.failed out.old) result }
 {
-    let findings = findings_to_show(alloc, plan, bounds)?;
-    draw_finding(alloc, plan, code, bounds, &findings, out)
+    let findings = findings_to_show(alloc, plan, limits)?;
+    draw_finding(alloc, plan, code, limits, &findings, out)
 }
 
-/// What is wrong with a plan, for a limit and a spare number; nothing without these.
+/// What is wrong with a plan, for the limits; nothing without these.
 fn findings_to_show<A: Allocator + Copy>(
     alloc: A,
     plan: &Plan<A>,
-    bounds: Option<(u8, u8)>,
+    limits: Option<Limits>,
 ) -> Result<Vec<Finding<A>, A>, NoMemory>
-    requires limit { IfSome bounds (λ b. b.0 ≤ 62) }
-    requires spare { IfSome bounds (λ b. b.1 ≤ 15) }
-    ensures { IfOk result (λ findings. AreToShow plan.now bounds findings.items) }
+    ensures { IfOk result (λ findings. AreToShow plan.now (as_pair limits) findings.items) }
 {
-    match bounds {
+    match limits {
         None => Ok(Vec::new(alloc)),
-        Some((limit, spare)) => match rank(alloc, plan, limit, spare)? {
+        Some(limits) => match rank(alloc, plan, limits.limit, limits.spare)? {
             Ranking::Found(_) => Ok(Vec::new(alloc)),
             Ranking::Fails(findings) => Ok(findings),
         },
@@ -109,13 +102,14 @@ fn draw_finding<A: Allocator + Copy, W: Sink>(
     alloc: A,
     plan: &Plan<A>,
     code: CodeId,
-    bounds: Option<(u8, u8)>,
+    limits: Option<Limits>,
     findings: &[Finding<A>],
     out: &mut W,
 ) -> Result<(), JobFault>
     requires code { code < length plan.now.codes }
-    requires found { AreToShow plan.now bounds findings.now }
-    ensures drew { DrewCode A plan.now code bounds (output W.taken out.old out.new) result }
+    requires found { AreToShow plan.now (as_pair limits) findings.now }
+    ensures drew { DrewCode A plan.now code (as_pair limits) (output W.taken out.old out.new)
+        result }
     ensures mark { W.failed out.new ≡ mark_after (W.failed out.old) result }
 {
     let marks = reached(alloc, plan, code)?;

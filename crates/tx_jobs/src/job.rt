@@ -27,6 +27,7 @@ use crate::trace::trace_job;
 use std::alloc::Allocator;
 use tx_commands::{Command, Files};
 use tx_explain::write_explanation;
+use tx_plan::Limits;
 use tx_script::Telling;
 use tx_text::{Sink, Source};
 
@@ -65,11 +66,12 @@ pub fn do_job<A: Allocator + Copy, P: Source, Q: Source, R: Source, W: Sink>(
         Command::Lint { plan } => Ok(Done::Linted(lint_job(alloc, first, plan.as_bytes(), out)?)),
         Command::Codes { .. } => Ok(Done::Listed(codes_job(alloc, first, out)?)),
         Command::Audit { limit, spare, .. } => {
+            let limits = Limits::of(*limit, *spare);
             let shown = files.script.is_some();
-            Ok(Done::Audited(evidence_job(alloc, first, *limit, *spare, shown, out)?))
+            Ok(Done::Audited(evidence_job(alloc, first, limits, shown, out)?))
         }
         Command::Mend { limit, spare, .. } => {
-            Ok(Done::Mended(mend_job(alloc, first, *limit, *spare, out)?))
+            Ok(Done::Mended(mend_job(alloc, first, Limits::of(*limit, *spare), out)?))
         }
         Command::Survive { risks: None, .. } => Ok(Done::Survived(survive_job(alloc, first, out)?)),
         Command::Grade { .. } => Ok(Done::Graded(grade_job(alloc, first, out)?)),
@@ -134,8 +136,9 @@ fn do_texts<A: Allocator + Copy, P: Source, Q: Source, R: Source, W: Sink>(
             Ok(Done::Verified(check_job(alloc, first, second, *limit, *spare, out)?))
         }
         Command::Change { limit, spare, .. } => {
+            let limits = Limits::of(*limit, *spare);
             let shown = files.plan.is_some() || files.script.is_some();
-            let changed = change_evidence_job(alloc, first, second, *limit, *spare, shown, out)?;
+            let changed = change_evidence_job(alloc, first, second, limits, shown, out)?;
             Ok(Done::Changed(changed))
         }
         Command::Survive { risks: Some(_), .. } => {
@@ -152,8 +155,7 @@ fn draw<A: Allocator + Copy, P: Source, W: Sink>(
     plan: &mut P,
     out: &mut W,
 ) -> Result<Done<A>, JobFault>
-    requires limit { IfSome routes.now (λ r. IfSome r.1 (λ n. n.0 ≤ 62)) }
-    requires spare { IfSome routes.now (λ r. IfSome r.1 (λ n. n.1 ≤ 15)) }
+    requires { IfSome routes.now (λ r. IfSome r.1 (λ n. (n.0 ≤ 62) × (n.1 ≤ 15))) }
     ensures done { HasDrawn (input P.rest P.failed P.called plan.old plan.new)
         (output W.taken out.old out.new) routes.now result }
     ensures mark { W.failed out.new ≡ mark_after (W.failed out.old) result }
@@ -161,7 +163,11 @@ fn draw<A: Allocator + Copy, P: Source, W: Sink>(
 {
     match routes {
         None => draw_job(alloc, plan, None, None, out)?,
-        Some((code, numbers)) => draw_job(alloc, plan, Some(code.as_bytes()), *numbers, out)?,
+        Some((code, None)) => draw_job(alloc, plan, Some(code.as_bytes()), None, out)?,
+        Some((code, Some((limit, spare)))) => {
+            let limits = Limits::of(*limit, *spare);
+            draw_job(alloc, plan, Some(code.as_bytes()), Some(limits), out)?
+        }
     }
     Ok(Done::Written)
 }

@@ -1,5 +1,5 @@
 // The job of `mend PLAN --limit L --spare K`.
-ghost use Rattle.std.specs.Prelude.{◌≡◌, ◌≤◌};
+ghost use Rattle.std.specs.Prelude.{◌≡◌};
 ghost use Rattle.tx_text.specs.Calls.{CallsAtMost, source_calls};
 ghost use Rattle.tx_jobs.specs.JobFaults.{mark_after};
 ghost use Rattle.tx_text.specs.Ends.{input, output};
@@ -12,27 +12,23 @@ use tx_plan::{Limits, Plan};
 use tx_plantext::read_plan_from;
 use tx_text::{Sink, Source};
 
-/// Reads a plan, and writes the report of its mending for at most `limit` transits (0 to 62) and
-/// `spare` groups to spare (0 to 15). Answers the mended plan with its certificate, or what no
-/// routes can serve.
+/// Reads a plan, and writes the report of its mending for the limits. Answers the mended plan with
+/// its certificate, or what no routes can serve.
 ///
 /// Nothing is written where the plan is refused or memory runs out.
 pub fn mend_job<A: Allocator + Copy, P: Source, W: Sink>(
     alloc: A,
     plan: &mut P,
-    limit: u8,
-    spare: u8,
+    limits: Limits,
     out: &mut W,
 ) -> Result<Mending<A>, JobFault>
-    requires limit { limit ≤ 62 }
-    requires spare { spare ≤ 15 }
-    ensures answers { MendJobAnswers limit spare
+    ensures answers { MendJobAnswers limits.limit limits.spare
         (input P.rest P.failed P.called plan.old plan.new) (output W.taken out.old out.new) result }
     ensures mark { W.failed out.new ≡ mark_after (W.failed out.old) result }
     ensures calls { CallsAtMost P.called source_calls plan.old plan.new }
 {
     let plan = read_plan_from(alloc, plan)?;
-    tell_mending(alloc, plan, Limits { limit, spare }, out)
+    tell_mending(alloc, plan, limits, out)
 }
 
 /// Mends a plan, and writes the report.

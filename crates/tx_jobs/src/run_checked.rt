@@ -10,7 +10,7 @@ use std::alloc::Allocator;
 use tx_audit::{Checked, run_checked};
 use tx_cert::{Cert, read_cert_from};
 use tx_check::{Verdict, write_verdict};
-use tx_plan::Plan;
+use tx_plan::{Limits, Plan};
 use tx_plantext::read_plan_from;
 use tx_text::{Sink, Source, WriteFault};
 
@@ -40,7 +40,7 @@ pub fn run_checked_job<A: Allocator + Copy, P: Source, C: Source, R: Source, W: 
     ensures script_calls { CallsAtMost R.called source_calls script.old script.new }
 {
     let plan = read_plan_from(alloc, plan)?;
-    read_and_run(alloc, &plan, cert, limit, spare, script, out)
+    read_and_run(alloc, &plan, cert, Limits { limit, spare }, script, out)
 }
 
 /// Reads a certificate of the plan, and runs the script after a Yes.
@@ -48,14 +48,11 @@ fn read_and_run<A: Allocator + Copy, C: Source, R: Source, W: Sink>(
     alloc: A,
     plan: &Plan<A>,
     cert: &mut C,
-    limit: u8,
-    spare: u8,
+    limits: Limits,
     script: &mut R,
     out: &mut W,
 ) -> Result<Checked, JobFault>
-    requires limit { limit ≤ 62 }
-    requires spare { spare ≤ 15 }
-    ensures answers { CertAnswers plan.now limit spare
+    ensures answers { CertAnswers plan.now limits.limit limits.spare
         (input C.rest C.failed C.called cert.old cert.new)
         (input R.rest R.failed R.called script.old script.new)
         (output W.taken out.old out.new) result }
@@ -64,7 +61,7 @@ fn read_and_run<A: Allocator + Copy, C: Source, R: Source, W: Sink>(
     ensures script_calls { CallsAtMost R.called source_calls script.old script.new }
 {
     let cert = read_cert_from(alloc, cert, plan)?;
-    run_or_tell(alloc, plan, &cert, limit, spare, script, out)
+    run_or_tell(alloc, plan, &cert, limits, script, out)
 }
 
 /// Runs the script after a Yes, or writes the verdict.
@@ -72,20 +69,17 @@ fn run_or_tell<A: Allocator + Copy, R: Source, W: Sink>(
     alloc: A,
     plan: &Plan<A>,
     cert: &Cert<A>,
-    limit: u8,
-    spare: u8,
+    limits: Limits,
     script: &mut R,
     out: &mut W,
 ) -> Result<Checked, JobFault>
-    requires limit { limit ≤ 62 }
-    requires spare { spare ≤ 15 }
-    ensures told { ToldRun plan.now cert.now limit spare
+    ensures told { ToldRun plan.now cert.now limits.limit limits.spare
         (input R.rest R.failed R.called script.old script.new)
         (output W.taken out.old out.new) result }
     ensures mark { W.failed out.new ≡ mark_after (W.failed out.old) result }
     ensures calls { CallsAtMost R.called source_calls script.old script.new }
 {
-    let checked = run_checked(alloc, plan, cert, limit, spare, script, out)?;
+    let checked = run_checked(alloc, plan, cert, limits.limit, limits.spare, script, out)?;
     tell_no(&checked, plan, out)?;
     Ok(checked)
 }

@@ -121,8 +121,8 @@ pub(crate) fn perform<A: Allocator + Copy, F: Folder, I: Read + Drop, O: Write +
     done
 }
 
-/// Does the job of a command over its files, which are open, and then makes the files of what it
-/// came to.
+/// Does the job of a command over its files, which are open. Closes them, and then makes the files
+/// of what it came to.
 fn do_over<A: Allocator + Copy, F: Folder, I: Read + Drop, O: Write + Drop>(
     alloc: A,
     command: &Command,
@@ -132,18 +132,20 @@ fn do_over<A: Allocator + Copy, F: Folder, I: Read + Drop, O: Write + Drop>(
 ) -> Result<u8, JobFault>
     requires { IsInRange command.now }
 {
-    let mut first = output.source(alloc, inputs.first)?;
-    let mut second = output.source(alloc, inputs.second)?;
-    let mut third = output.source(alloc, inputs.third)?;
-    let mut sink = output.sink();
-    let done = do_job(
-        alloc,
-        command,
-        &mut first,
-        &mut second,
-        &mut third,
-        &mut sink,
-    )?;
+    let done = {
+        let mut first = output.source(alloc, inputs.first)?;
+        let mut second = output.source(alloc, inputs.second)?;
+        let mut third = output.source(alloc, inputs.third)?;
+        let mut sink = output.sink();
+        do_job(
+            alloc,
+            command,
+            &mut first,
+            &mut second,
+            &mut third,
+            &mut sink,
+        )?
+    };
     write_files(alloc, &done, Files::of(command), folder, output)?;
     Ok(done.status())
 }

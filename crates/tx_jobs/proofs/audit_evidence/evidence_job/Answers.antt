@@ -12,8 +12,8 @@ returns-clause-answers g c =
 
 pub returns-clause-mark : goal.returns-clause-mark
 returns-clause-mark g c =
-    c.in_ok-audited.ensures.mark ∙ evidence_mark (g.W.Sink.failed c.args.out.now) c.args.limit
-    c.args.spare c.args.with_script c.in_ok-audited.audited c.evidence_of.result
+    c.in_ok-audited.ensures.mark ∙ evidence_mark (g.W.Sink.failed c.args.out.now) c.args.limits.limit
+    c.args.limits.spare c.args.with_script c.in_ok-audited.audited c.evidence_of.result
     c.evidence_of.ensures
 
 pub returns-in_err-audited-clause-answers : goal.returns-in_err-audited-clause-answers

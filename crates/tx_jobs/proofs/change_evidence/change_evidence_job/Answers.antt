@@ -16,7 +16,7 @@ returns-clause-answers g c =
 pub returns-clause-mark : goal.returns-clause-mark
 returns-clause-mark g c =
     c.in_ok-changed.ensures.mark ∙ change_evidence_mark (g.W.Sink.failed c.args.out.now)
-    c.args.limit c.args.spare c.args.with_mixture c.in_ok-changed.changed
+    c.args.limits.limit c.args.limits.spare c.args.with_mixture c.in_ok-changed.changed
     c.change_evidence_of.result c.change_evidence_of.ensures
 
 pub returns-in_err-changed-clause-answers : goal.returns-in_err-changed-clause-answers

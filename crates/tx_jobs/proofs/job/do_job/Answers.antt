@@ -99,4 +99,3 @@ returns-in_err-trace_job-in-Trace-clause-done g c =
 pub returns-in_err-trace_job-in-Trace-clause-mark : goal.returns-in_err-trace_job-in-Trace-clause-mark
 returns-in_err-trace_job-in-Trace-clause-mark g c =
     stopped_mark _ _ c.in_err-trace_job-in-Trace.field-0.0 c.from_residual-in_err-trace_job-in-Trace.result c.in_err-trace_job-in-Trace.ensures.mark c.from_residual-in_err-trace_job-in-Trace.ensures.1
-

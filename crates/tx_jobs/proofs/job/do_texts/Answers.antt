@@ -99,4 +99,3 @@ returns-in_err-survive_risks_job-in-Survive-Some-clause-done g c =
 pub returns-in_err-survive_risks_job-in-Survive-Some-clause-mark : goal.returns-in_err-survive_risks_job-in-Survive-Some-clause-mark
 returns-in_err-survive_risks_job-in-Survive-Some-clause-mark g c =
     stopped_mark _ _ c.in_err-survive_risks_job-in-Survive-Some.field-0.0 c.from_residual-in_err-survive_risks_job-in-Survive-Some.result c.in_err-survive_risks_job-in-Survive-Some.ensures.mark c.from_residual-in_err-survive_risks_job-in-Survive-Some.ensures.1
-

@@ -26,7 +26,7 @@ returns-in_err-tell_no-clause-told g c =
     input g.R.Source.rest g.R.Source.failed g.R.Source.called c.args.script.now
     c.run_checked.new.script in
     rw (exits_with c.from_residual-in_err-tell_no.result Write c.from_residual-in_err-tell_no.ensures.1)
-    (told_run_stopped g.W.Sink.taken c.args.plan.now c.args.cert.now c.args.limit c.args.spare script c.args.out.now c.run_checked.new.out c.tell_no.new.out
+    (told_run_stopped g.W.Sink.taken c.args.plan.now c.args.cert.now c.args.limits.limit c.args.limits.spare script c.args.out.now c.run_checked.new.out c.tell_no.new.out
     c.in_ok-checked.checked _ c.in_ok-checked.ensures.answers c.in_err-tell_no.ensures.told)
 
 pub returns-clause-told : goal.returns-clause-told
@@ -34,7 +34,7 @@ returns-clause-told g c =
     let script =
     input g.R.Source.rest g.R.Source.failed g.R.Source.called c.args.script.now
     c.run_checked.new.script in
-    told_run_by g.W.Sink.taken c.args.plan.now c.args.cert.now c.args.limit c.args.spare script
+    told_run_by g.W.Sink.taken c.args.plan.now c.args.cert.now c.args.limits.limit c.args.limits.spare script
     c.args.out.now c.run_checked.new.out c.tell_no.new.out
     c.in_ok-checked.checked c.in_ok-checked.ensures.answers c.in_ok-tell_no.ensures.told
 
