@@ -7,6 +7,7 @@ ghost use Rattle.tx_change.specs.Shown.{IsShown};
 ghost use Rattle.tx_jobs.specs.JobFaults.{mark_after};
 ghost use Rattle.tx_text.specs.Ends.{input, output};
 ghost use Rattle.tx_jobs.specs.ChangeJobs.{ChangeJobAnswers, NewPlanAnswers, ToldChange, OnUnsoundChange};
+ghost use Rattle.tx_jobs.specs.inner.Changing.{ToldRanking};
 
 use crate::job_fault::JobFault;
 use std::alloc::{Allocator, Global};
@@ -108,7 +109,24 @@ fn change_into<A: Allocator + Copy, W: Sink>(
     if let Some(difference) = first_difference(&old, &new) {
         return Err(JobFault::TwoNetworks(difference));
     }
-    let ranking = change(alloc, &old, &new, limits)?;
-    write_report(b"CHANGE", &old, &ranking, limits, out)?;
+    let ranking = tell_change(alloc, &old, &new, limits, out)?;
     Ok(Changed::of(old, new, ranking))
+}
+
+/// Ranks the change, and writes the report.
+fn tell_change<A: Allocator + Copy, W: Sink>(
+    alloc: A,
+    old: &Plan<A>,
+    new: &Plan<A>,
+    limits: Limits,
+    out: &mut W,
+) -> Result<Ranking<A>, JobFault>
+    requires { SameNetwork old.now new.now }
+    ensures told { ToldRanking old.now new.now limits.limit limits.spare
+        (output W.taken out.old out.new) result }
+    ensures mark { W.failed out.new ≡ mark_after (W.failed out.old) result }
+{
+    let ranking = change(alloc, old, new, limits)?;
+    write_report(b"CHANGE", old, &ranking, limits, out)?;
+    Ok(ranking)
 }

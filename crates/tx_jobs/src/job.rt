@@ -66,23 +66,13 @@ pub fn do_job<A: Allocator + Copy, P: Source, Q: Source, R: Source, W: Sink>(
         Command::Lint { plan } => Ok(Done::Linted(lint_job(alloc, first, plan.as_bytes(), out)?)),
         Command::Codes { .. } => Ok(Done::Listed(codes_job(alloc, first, out)?)),
         Command::Audit { limit, spare, .. } => {
-            let limits = Limits {
-                limit: *limit,
-                spare: *spare,
-            };
+            let (limit, spare) = (*limit, *spare);
             let shown = files.script.is_some();
-            Ok(Done::Audited(evidence_job(alloc, first, limits, shown, out)?))
+            Ok(Done::Audited(evidence_job(alloc, first, Limits { limit, spare }, shown, out)?))
         }
         Command::Mend { limit, spare, .. } => {
-            Ok(Done::Mended(mend_job(
-                alloc,
-                first,
-                Limits {
-                    limit: *limit,
-                    spare: *spare,
-                },
-                out,
-            )?))
+            let (limit, spare) = (*limit, *spare);
+            Ok(Done::Mended(mend_job(alloc, first, Limits { limit, spare }, out)?))
         }
         Command::Survive { risks: None, .. } => Ok(Done::Survived(survive_job(alloc, first, out)?)),
         Command::Grade { .. } => Ok(Done::Graded(grade_job(alloc, first, out)?)),
@@ -147,10 +137,8 @@ fn do_texts<A: Allocator + Copy, P: Source, Q: Source, R: Source, W: Sink>(
             Ok(Done::Verified(check_job(alloc, first, second, *limit, *spare, out)?))
         }
         Command::Change { limit, spare, .. } => {
-            let limits = Limits {
-                limit: *limit,
-                spare: *spare,
-            };
+            let (limit, spare) = (*limit, *spare);
+            let limits = Limits { limit, spare };
             let shown = files.plan.is_some() || files.script.is_some();
             let changed = change_evidence_job(alloc, first, second, limits, shown, out)?;
             Ok(Done::Changed(changed))
@@ -179,11 +167,14 @@ fn draw<A: Allocator + Copy, P: Source, W: Sink>(
         None => draw_job(alloc, plan, None, None, out)?,
         Some((code, None)) => draw_job(alloc, plan, Some(code.as_bytes()), None, out)?,
         Some((code, Some((limit, spare)))) => {
-            let limits = Limits {
-                limit: *limit,
-                spare: *spare,
-            };
-            draw_job(alloc, plan, Some(code.as_bytes()), Some(limits), out)?
+            let (limit, spare) = (*limit, *spare);
+            draw_job(
+                alloc,
+                plan,
+                Some(code.as_bytes()),
+                Some(Limits { limit, spare }),
+                out,
+            )?
         }
     }
     Ok(Done::Written)
