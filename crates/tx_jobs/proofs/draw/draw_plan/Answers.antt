@@ -2,8 +2,8 @@ use Rattle.std.proofs.Common.{refl}
 use Rattle.tx_jobs.proofs.DrawnCode.{named_within}
 use Rattle.tx_jobs.proofs.draw.draw_plan.Goals as goal
 
-pub draw_code-requires-clause-code : goal.draw_code-requires-clause-code
-draw_code-requires-clause-code g c = named_within c.args.plan.now c.in-Some.figures.now c.in-Some-code_named.code c.in-Some-code_named.ensures
+pub draw_code-requires : goal.draw_code-requires
+draw_code-requires g c = record { code = named_within c.args.plan.now c.in-Some.figures.now c.in-Some-code_named.code c.in-Some-code_named.ensures }
 
 pub returns-in-None-clause-drew : goal.returns-in-None-clause-drew
 returns-in-None-clause-drew g c = rw c.in-None.is c.draw_whole.ensures.told
