@@ -139,7 +139,7 @@ fn do_texts<A: Allocator + Copy, P: Source, Q: Source, R: Source, W: Sink>(
         Command::Change { limit, spare, .. } => {
             let (limit, spare) = (*limit, *spare);
             let limits = Limits { limit, spare };
-            let shown = files.plan.is_some() || files.script.is_some();
+            let shown = files.plan.or(files.script).is_some();
             let changed = change_evidence_job(alloc, first, second, limits, shown, out)?;
             Ok(Done::Changed(changed))
         }
