@@ -13,7 +13,7 @@ use crate::tell::{announce_input, tell_words};
 use std::alloc::{Allocator, Global};
 use std::io::{IsTerminal, Read, Write};
 use tx_commands::{Command, Files, WordsFault, read_command};
-use tx_jobs::{JobFault, do_job, write_fault};
+use tx_jobs::{Done, JobFault, do_job, write_fault};
 use tx_text::ToWrite;
 
 /// The ends of the program: a folder of files, standard input, standard output and standard error.
@@ -116,14 +116,14 @@ pub(crate) fn perform<A: Allocator + Copy, F: Folder, I: Read + Drop, O: Write +
 {
     let inputs = Inputs::open(Files::of(command).reads, folder, input)?;
     let output = Output::new(alloc, output)?;
-    let done = do_over(alloc, command, inputs, folder, &output);
+    let done = carry_out(alloc, command, inputs, folder, &output);
     output.let_out()?;
     done
 }
 
-/// Does the job of a command over its files, which are open. Closes them, and then makes the files
-/// of what it came to.
-fn do_over<A: Allocator + Copy, F: Folder, I: Read + Drop, O: Write + Drop>(
+/// Does the job of a command over its files, which are open, and closes them. Then it makes the files
+/// of what the command came to.
+fn carry_out<A: Allocator + Copy, F: Folder, I: Read + Drop, O: Write + Drop>(
     alloc: A,
     command: &Command,
     inputs: Inputs<I, F::Input>,
@@ -132,20 +132,32 @@ fn do_over<A: Allocator + Copy, F: Folder, I: Read + Drop, O: Write + Drop>(
 ) -> Result<u8, JobFault>
     requires { IsInRange command.now }
 {
-    let done = {
-        let mut first = output.source(alloc, inputs.first)?;
-        let mut second = output.source(alloc, inputs.second)?;
-        let mut third = output.source(alloc, inputs.third)?;
-        let mut sink = output.sink();
-        do_job(
-            alloc,
-            command,
-            &mut first,
-            &mut second,
-            &mut third,
-            &mut sink,
-        )?
-    };
-    write_files(alloc, &done, Files::of(command), folder, output)?;
-    Ok(done.status())
+    let done = do_over(alloc, command, inputs, output)?;
+    let made = write_files(alloc, &done, Files::of(command), folder, output);
+    let status = done.status();
+    drop(done);
+    made?;
+    Ok(status)
+}
+
+/// Does the job of a command over its files, which are open, and closes them.
+fn do_over<A: Allocator + Copy, I: Read + Drop, J: Read + Drop, O: Write + Drop>(
+    alloc: A,
+    command: &Command,
+    inputs: Inputs<I, J>,
+    output: &Output<O, A>,
+) -> Result<Done<A>, JobFault>
+    requires { IsInRange command.now }
+{
+    let mut first = output.source(alloc, inputs.first)?;
+    let mut second = output.source(alloc, inputs.second)?;
+    let mut third = output.source(alloc, inputs.third)?;
+    do_job(
+        alloc,
+        command,
+        &mut first,
+        &mut second,
+        &mut third,
+        &mut output.sink(),
+    )
 }
