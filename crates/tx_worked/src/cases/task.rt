@@ -117,7 +117,9 @@ impl<'a> Task<'a> {
     pub fn new(kind: &'a [u8], command: &'a Command, first: &'a [u8], rest: &'a [u8]) -> Task<'a>
         requires { IsInRange command.now }
     {
-        let (second, third) = if Files::of(command).reads[2].is_some() {
+        let reads = Files::of(command).reads;
+        let last = reads[2];
+        let (second, third) = if last.is_some() {
             two_texts(rest)
         } else {
             (rest, b"".as_slice())
