@@ -2,9 +2,9 @@ use Rattle.std.proofs.Common.{inl}
 use Rattle.tx_lint.specs.Lints.{lint_held}
 use Rattle.tx_jobs.proofs.lint.lint_text.Goals as goal
 
-pub returns-in-Ok-clause-linted : goal.returns-in-Ok-clause-linted
-returns-in-Ok-clause-linted g c = inl (record {
-  lint = lint_held c.in-Ok.lint;
-  is = c.in-Ok.ensures;
+pub returns-clause-linted : goal.returns-clause-linted
+returns-clause-linted g c = inl (record {
+  lint = lint_held c.in_ok-lint.lint;
+  is = c.in_ok-lint.ensures.lint;
   told = c.tell_lint.ensures.told;
 })
