@@ -1,5 +1,6 @@
 pub mod Counts
 pub mod Entries
+pub mod LineWords
 pub mod ListLines
 pub mod Places
 pub mod PlanLines

@@ -1,7 +1,7 @@
 use Rattle.std.proofs.Common.{◌∙◌, ℕ, ap, arith}
 use Rattle.tx_plan.specs.Routes.{is_origin_for}
 use Rattle.tx_rank.proofs.Marking.{origins_next, origins_seen}
-use Rattle.tx_rank.proofs.reaching.origins.Goals as goal
+use Rattle.tx_rank.proofs.reaching.starts.Goals as goal
 
 pub loop-place-preserved : goal.loop-place-preserved
 loop-place-preserved g c =
@@ -9,7 +9,7 @@ loop-place-preserved g c =
     let i = c.loop-place.invariant in
     let k = c.push_reserved.ensures in
     record {
-      so_far = origins_next p c.args.code c.loop-place.place c.loop-place.marks.items _ c.is_origin_for.result i.so_far k.items (c.is_origin_for.ensures ∙ ap (λ (x : ℕ). is_origin_for p x c.args.code) c.of.ensures);
+      so_far = origins_next p c.args.code c.loop-place.place c.loop-place.marks.items _ c.may_start.result i.so_far k.items (c.may_start.ensures ∙ ap (λ (x : ℕ). is_origin_for p x c.args.code) c.of-exchange.ensures);
       room = let r = i.room in let q = k.capacity in omega arith;
     }
 
@@ -18,4 +18,4 @@ returns g c =
     let e = c.exchanges-place-end.ensures.count in
     let t = c.loop-place-test.false in
     let a = c.loop-place.auto.place-end in
-    origins_seen c.args.plan.now c.args.code c.loop-place.place c.loop-place.marks.items c.exchanges.ensures.rules c.requires (omega arith) c.loop-place.invariant.so_far
+    origins_seen c.args.plan.now c.args.code c.loop-place.place c.loop-place.marks.items c.exchanges.ensures.rules c.requires.code (omega arith) c.loop-place.invariant.so_far
