@@ -5,7 +5,7 @@ ghost use Rattle.tx_plantext.specs.PlanText.{declare, count_of, is_memory, word_
 ghost use Rattle.tx_plantext.specs.inner.LineWords.{declare_line};
 
 use crate::fault::PlanWord;
-use crate::plan_line::PlanLine;
+use crate::plan_line::{LineFault, PlanLine};
 use std::alloc::Allocator;
 use tx_plan::{PlanBuilder, PlanRefusal};
 use tx_text::{Words, number};
@@ -13,7 +13,7 @@ use tx_text::{Words, number};
 impl<'t> PlanLine<'t> {
     /// Declares what the line does, after the lines before it. A line that is refused changes
     /// nothing.
-    #[tactic(auto, using(crate::proofs::Entries::declared_from, crate::proofs::Entries::same_from), unfolding(crate::specs::PlanText::declare))]
+    #[tactic(auto, using(crate::proofs::Entries::declared_from, crate::proofs::Entries::same_from))]
     pub fn declare<A: Allocator>(&self, plan: &mut PlanBuilder<A>) -> Result<(), PlanRefusal>
         ensures declared { Declared is_memory (declare_line plan.old self.now) plan.new
             (word_told result) }
@@ -56,6 +56,9 @@ pub fn declare<A: Allocator>(
     ensures declared { Declared is_memory (declare version plan.old words.entry) plan.new result }
     ensures same { IfErr result (λ _. plan.new ≡ plan.old) }
 {
-    PlanLine::read(version, words)?.declare(plan)?;
-    Ok(())
+    match PlanLine::read(version, words) {
+        Ok(line) => Ok(line.declare(plan)?),
+        Err(LineFault::UnknownWord(_)) => Err(PlanWord::UnknownWord),
+        Err(LineFault::WrongCount) => Err(PlanWord::Refused(PlanRefusal::WrongCount)),
+    }
 }

@@ -1,10 +1,9 @@
 // A line of a plan as a value, between its words and what it declares.
-ghost use Rattle.std.specs.Prelude.{◌≡◌, ◌∷◌, ℕ, codes, option_map, IfOk, IfErr};
+ghost use Rattle.std.specs.Prelude.{◌≡◌, ◌∷◌, ℕ, codes};
 ghost use Rattle.tx_plantext.specs.PlanText.{direction_of};
-ghost use Rattle.tx_plantext.specs.inner.LineWords.{IsLine, IsLineFault, word_fault, faulty_word};
+ghost use Rattle.tx_plantext.specs.inner.LineWords.{IsRead};
 
-use crate::fault::PlanWord;
-use tx_plan::{Direction, PlanRefusal};
+use tx_plan::Direction;
 use tx_text::Words;
 
 /// A line of a plan, with its words as the builder takes them.
@@ -50,86 +49,80 @@ pub enum LineFault<'t> {
     WrongCount,
 }
 
-impl<'t> From<LineFault<'t>> for PlanWord {
-    ghost from_gives = { λ fault word. word ≡ word_fault fault };
-
-    fn from(fault: LineFault<'t>) -> PlanWord {
-        match fault {
-            LineFault::UnknownWord(_) => PlanWord::UnknownWord,
-            LineFault::WrongCount => PlanWord::Refused(PlanRefusal::WrongCount),
-        }
-    }
-}
-
-impl<'t> LineFault<'t> {
-    /// The word at fault, if one is.
-    pub fn word(&self) -> Option<&'t [u8]>
-        ensures { option_map (λ w. w.now) result ≡ faulty_word self.now }
-    {
-        match self {
-            LineFault::UnknownWord(word) => *word,
-            LineFault::WrongCount => None,
-        }
-    }
-}
-
 impl<'t> PlanLine<'t> {
     /// The line that has these words, under a header of this version.
+    #[tactic(auto, using(crate::proofs::Counts::exchange_count, crate::proofs::Counts::code_count, crate::proofs::Counts::lines_count, crate::proofs::Counts::bar_count), unfolding(crate::specs::PlanText::declare))]
     pub fn read(version: u8, words: Words<'t>) -> Result<PlanLine<'t>, LineFault<'t>>
-        ensures line { IfOk result (IsLine version words.entry) }
-        ensures fault { IfErr result (IsLineFault version words.entry) }
+        ensures { IsRead version words.entry result }
     {
         let mut rest = words;
-        let first = rest.next();
-        match first {
-            Some(b"EXCHANGE") => {
-                let name = rest.one().ok_or(LineFault::WrongCount)?;
-                Ok(PlanLine::Exchange { name })
+        let Some(first) = rest.next() else {
+            return Err(LineFault::UnknownWord(None));
+        };
+        if first == b"EXCHANGE".as_slice() {
+            match rest.one() {
+                Some(name) => Ok(PlanLine::Exchange { name }),
+                None => Err(LineFault::WrongCount),
             }
-            Some(b"CODE") => {
-                let (code, home) = rest.two().ok_or(LineFault::WrongCount)?;
-                Ok(PlanLine::Code { code, home })
+        } else if first == b"CODE".as_slice() {
+            match rest.two() {
+                Some((code, home)) => Ok(PlanLine::Code { code, home }),
+                None => Err(LineFault::WrongCount),
             }
-            Some(b"LINES") => {
-                let (code, low, high) = rest.three().ok_or(LineFault::WrongCount)?;
-                Ok(PlanLine::Lines { code, low, high })
+        } else if first == b"LINES".as_slice() {
+            match rest.three() {
+                Some((code, low, high)) => Ok(PlanLine::Lines { code, low, high }),
+                None => Err(LineFault::WrongCount),
             }
-            Some(b"GROUP") => group_line(rest),
-            Some(b"ROUTE") => route_line(rest),
-            Some(b"BAR") if version == 2 => {
-                let (exchange, code) = rest.two().ok_or(LineFault::WrongCount)?;
-                Ok(PlanLine::Bar { exchange, code })
+        } else if first == b"GROUP".as_slice() {
+            group_line(rest)
+        } else if first == b"ROUTE".as_slice() {
+            route_line(rest)
+        } else if version == 2 && first == b"BAR".as_slice() {
+            match rest.two() {
+                Some((exchange, code)) => Ok(PlanLine::Bar { exchange, code }),
+                None => Err(LineFault::WrongCount),
             }
-            Some(b"END") => Err(LineFault::WrongCount),
-            _ => Err(LineFault::UnknownWord(first)),
+        } else if first == b"END".as_slice() {
+            Err(LineFault::WrongCount)
+        } else {
+            Err(LineFault::UnknownWord(Some(first)))
         }
     }
 }
 
 /// GROUP name a b direction count.
+#[tactic(auto, using(crate::proofs::Counts::group_count), unfolding(crate::specs::PlanText::declare))]
 fn group_line<'t>(words: Words<'t>) -> Result<PlanLine<'t>, LineFault<'t>>
-    ensures line { (v : ℕ) → IfOk result (IsLine v (codes "GROUP" ∷ words.entry)) }
-    ensures fault { (v : ℕ) → IfErr result (IsLineFault v (codes "GROUP" ∷ words.entry)) }
+    ensures { (v : ℕ) → IsRead v (codes "GROUP" ∷ words.entry) result }
 {
-    let (name, a, b, word, count) = words.five().ok_or(LineFault::WrongCount)?;
-    let direction = direction_of(word).ok_or(LineFault::UnknownWord(Some(word)))?;
-    Ok(PlanLine::Group {
-        name,
-        a,
-        b,
-        direction,
-        count,
-    })
+    let Some((name, a, b, word, count)) = words.five() else {
+        return Err(LineFault::WrongCount);
+    };
+    match direction_of(word) {
+        Some(direction) => Ok(PlanLine::Group {
+            name,
+            a,
+            b,
+            direction,
+            count,
+        }),
+        None => Err(LineFault::UnknownWord(Some(word))),
+    }
 }
 
 /// ROUTE exchange code group ..
+#[tactic(auto, unfolding(crate::specs::PlanText::declare))]
 fn route_line<'t>(words: Words<'t>) -> Result<PlanLine<'t>, LineFault<'t>>
-    ensures line { (v : ℕ) → IfOk result (IsLine v (codes "ROUTE" ∷ words.entry)) }
-    ensures fault { (v : ℕ) → IfErr result (IsLineFault v (codes "ROUTE" ∷ words.entry)) }
+    ensures { (v : ℕ) → IsRead v (codes "ROUTE" ∷ words.entry) result }
 {
     let mut groups = words;
-    let exchange = groups.next().ok_or(LineFault::WrongCount)?;
-    let code = groups.next().ok_or(LineFault::WrongCount)?;
+    let Some(exchange) = groups.next() else {
+        return Err(LineFault::WrongCount);
+    };
+    let Some(code) = groups.next() else {
+        return Err(LineFault::WrongCount);
+    };
     Ok(PlanLine::Route {
         exchange,
         code,
@@ -140,9 +133,11 @@ fn route_line<'t>(words: Words<'t>) -> Result<PlanLine<'t>, LineFault<'t>>
 fn direction_of(word: &[u8]) -> Option<Direction>
     ensures { result ≡ direction_of word.now }
 {
-    match word {
-        b"ONEWAY" => Some(Direction::OneWay),
-        b"BOTHWAY" => Some(Direction::BothWay),
-        _ => None,
+    if word == b"ONEWAY".as_slice() {
+        Some(Direction::OneWay)
+    } else if word == b"BOTHWAY".as_slice() {
+        Some(Direction::BothWay)
+    } else {
+        None
     }
 }

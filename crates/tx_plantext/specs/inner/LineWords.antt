@@ -1,16 +1,14 @@
 -- A line of a plan as a value, by its words.
-use Rattle.std.specs.Prelude.{◌≡◌, ℕ, List, [], ◌∷◌, slice_get, codes, if◌then◌else◌, Option, None, Some, Err}
+use Rattle.std.specs.Prelude.{◌≡◌, ℕ, List, [], ◌∷◌, slice_get, codes, if◌then◌else◌, Option, None, Some, Result, Ok, Err}
 use Rattle.std.specs.Option.{option_map}
 use Rattle.std.specs.Str.{bytes_eq}
-use Rattle.tx_plan.specs.declared.refusal.PlanRefusal.TheVariants.{WrongCount as RefusedCount}
 use Rattle.tx_plan.specs.Plan.{Plan}
-use Rattle.tx_plantext.specs.declared.fault.PlanWord.{PlanWord}
-use Rattle.tx_plantext.specs.declared.fault.PlanWord.TheVariants.{UnknownWord as NoSuchWord, Refused}
+use Rattle.tx_plantext.specs.declared.fault.PlanWord.TheVariants.{UnknownWord as NoSuchWord}
 use Rattle.tx_plantext.specs.declared.plan_line.PlanLine.{PlanLine}
 use Rattle.tx_plantext.specs.declared.plan_line.PlanLine.TheVariants.{Exchange, Code, Lines, Group, Route, Bar}
 use Rattle.tx_plantext.specs.declared.plan_line.LineFault.{LineFault}
 use Rattle.tx_plantext.specs.declared.plan_line.LineFault.TheVariants.{UnknownWord, WrongCount}
-use Rattle.tx_plantext.specs.PlanText.{Said, declare}
+use Rattle.tx_plantext.specs.PlanText.{Said, declare, wrong_count, exchange_line, code_line, lines_line, group_by, count_of, route_line, bar_line}
 use Rattle.tx_plantext.specs.PlanWritten.{direction_word}
 
 -- the words of a line
@@ -23,41 +21,29 @@ line_words (Group name a b direction count) =
 line_words (Route exchange code groups) = codes "ROUTE" ∷ exchange.now ∷ code.now ∷ groups
 line_words (Bar exchange code) = codes "BAR" ∷ exchange.now ∷ code.now ∷ []
 
--- what it declares after those before it, under the version that has all lines
+-- what it declares after those before it
 abbrev pub declare_line : Plan → PlanLine → Said
-declare_line p line = declare 2 p (line_words line)
+declare_line p (Exchange name) = exchange_line p (name.now ∷ [])
+declare_line p (Code code home) = code_line p (code.now ∷ home.now ∷ [])
+declare_line p (Lines code low high) = lines_line p (code.now ∷ low.now ∷ high.now ∷ [])
+declare_line p (Group name a b direction count) =
+    group_by p name.now a.now b.now (Some direction) (count_of count.now)
+declare_line p (Route exchange code groups) = route_line p (exchange.now ∷ code.now ∷ groups)
+declare_line p (Bar exchange code) = bar_line p (exchange.now ∷ code.now ∷ [])
 
--- The line may be there under a header of this version.
-abbrev pub Stands : ℕ → PlanLine → Type 0
-Stands v (Bar exchange code) = v ≡ 2
-Stands v other = Unit {0}
-
--- these are the words of the line, under a header of this version
+-- These are the words of the line, and declare what it does under a header of this version.
 pub record IsLine (v : ℕ) (ws : List (List ℕ)) (line : PlanLine) : Type 0 where
   pub words : ws ≡ line_words line
-  pub stands : Stands v line
-
--- why some words are no line, as a fault of them
-abbrev pub word_fault : LineFault → PlanWord
-word_fault (UnknownWord w) = NoSuchWord
-word_fault WrongCount = Refused RefusedCount
-
--- the word at fault, if one is
-abbrev pub faulty_word : LineFault → Option (List ℕ)
-faulty_word (UnknownWord w) = option_map (λ b. b.now) w
-faulty_word WrongCount = None
+  pub declares : (p : Plan) → declare v p ws ≡ declare_line p line
 
 -- the word that no line has there: the first one, or of a group the one for its direction
 abbrev pub unknown_of : List (List ℕ) → Option (List ℕ)
 unknown_of [] = None
 unknown_of (w ∷ ws) = if bytes_eq w (codes "GROUP") then slice_get ws 3 else Some w
 
--- the word is the one at fault
-abbrev pub IsFaultyWord : List (List ℕ) → LineFault → Type 0
-IsFaultyWord ws (UnknownWord w) = option_map (λ b. b.now) w ≡ unknown_of ws
-IsFaultyWord ws WrongCount = Unit {0}
-
--- for this reason the words are no line, under a header of this version
-pub record IsLineFault (v : ℕ) (ws : List (List ℕ)) (fault : LineFault) : Type 0 where
-  pub declares : (p : Plan) → declare v p ws ≡ Err (word_fault fault)
-  pub word : IsFaultyWord ws fault
+-- what the words of a line are, under a header of this version
+abbrev pub IsRead : ℕ → List (List ℕ) → Result PlanLine LineFault → Type 0
+IsRead v ws (Ok line) = IsLine v ws line
+IsRead v ws (Err (UnknownWord w)) = ((p : Plan) → declare v p ws ≡ Err NoSuchWord)
+    × (option_map (λ b. b.now) w ≡ unknown_of ws)
+IsRead v ws (Err WrongCount) = (p : Plan) → declare v p ws ≡ wrong_count
