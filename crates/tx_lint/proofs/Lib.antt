@@ -2,7 +2,6 @@ pub mod Agreeing
 pub mod AllRead
 pub mod Linted
 pub mod Marked
-pub mod RefusedWords
 pub mod Texts
 pub mod Warned
 pub mod WholeText

@@ -5,7 +5,7 @@ use Rattle.std.specs.List.{list_any, AllByRecursion}
 use Rattle.std.specs.Option.{option_map, option_map_or}
 use Rattle.std.proofs.Math.Dec.{eqb-zero-suc, eqb-suc-zero, eqb-suc-suc}
 use Rattle.std.proofs.Math.ListN.{set}
-use Rattle.std.proofs.lemmas.Bool.{cases_lt, false≢true}
+use Rattle.std.proofs.lemmas.Bool.{cases_lt, false≢true, false_from_ne_true}
 use Rattle.std.proofs.lemmas.List.{map-append}
 use Rattle.std.proofs.lemmas.List.Folds.{list_any_more}
 use Rattle.std.proofs.lemmas.Option.{slice_get_within}
@@ -28,20 +28,15 @@ use Rattle.tx_lint.specs.inner.Marks.{comes_by}
 
 -- the marks of the origins say so of each exchange, also of one that the plan does not have
 pub marked_origin : (p : Plan) → IsPlan p → (origins : List Bool) → AreOrigins p origins → (x : ℕ) → is_marked origins x ≡ is_origin p x
-marked_origin p ok origins are x = by_mark (slice_get origins x) refl
+marked_origin p ok origins are x = by (slice_get origins x) refl
   where
-    by_start : slice_get origins x ≡ None → (b : Bool) → is_origin p x ≡ b → false ≡ b
-    by_start none true h =
+    by : (o : Option Bool) → slice_get origins x ≡ o → option_map_or (λ b. b) o false ≡ is_origin p x
+    by (Some b) e = are.each x b e
+    by None e = sym (false_from_ne_true (is_origin p x) (λ h.
         let within = origin_within p ok x h in
         let long = are.long in
-        let there = entry_at origins x (omega arith) in
-        let is = there.1 in
-        absurd (let bad : ⊥ = cc in bad)
-    by_start none false h = refl
-
-    by_mark : (o : Option Bool) → slice_get origins x ≡ o → option_map_or (λ b. b) o false ≡ is_origin p x
-    by_mark None e = by_start e (is_origin p x) refl
-    by_mark (Some b) e = are.each x b e
+        let is = (entry_at origins x (omega arith)).1 in
+        cc))
 
 -- ---- where calls come
 

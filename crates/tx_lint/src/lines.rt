@@ -4,7 +4,6 @@ ghost use Rattle.std.specs.Option.{option_to_list};
 ghost use Rattle.tx_text.specs.inner.TextLine.{line_of};
 ghost use Rattle.tx_text.specs.Text.{bytes_fault};
 ghost use Rattle.tx_text.specs.Words.{words_of};
-ghost use Rattle.tx_plantext.specs.inner.LineWords.{line_words};
 ghost use Rattle.tx_lint.specs.AllFaults.{no_progress, form_of, fault_of_end};
 ghost use Rattle.tx_lint.specs.inner.Readings.{progress_held, faults_held, TookIn, Declared, HasRead, Noted};
 
@@ -13,7 +12,7 @@ use crate::entry::Entry;
 use crate::fault::{Fault, LintFault};
 use std::alloc::Allocator;
 use tx_plan::{PlanBuilder, PlanRefusal};
-use tx_plantext::{KEY, PlanLine, PlanWord, VERSIONS};
+use tx_plantext::{KEY, LineFault, PlanLine, PlanWord, VERSIONS};
 use tx_text::{
     FaultKind, FrameFault, FramePart, LineForm, NoMemory, TextLine, bytes_fault, closing,
     first_line, last_fault, look, words,
@@ -128,19 +127,18 @@ impl<'t, A: Allocator> Reading<'t, A> {
         ensures took { OnOk result (TookIn self.old self.new (line_of line.entry)) }
         ensures memory { IfErr result (λ fault. fault ≡ LintFault.NoMemory) }
     {
-        match PlanLine::read(self.version, words(line.text)) {
-            Ok(read) => self.declare_line(line.number, &read),
-            Err(fault) => {
-                let kind = FaultKind::Word(PlanWord::from(fault));
-                self.tell(line.number, kind, fault.word())?;
-                Ok(())
-            }
-        }
+        let (word, at) = match PlanLine::read(self.version, words(line.text)) {
+            Ok(read) => return self.declare_line(line.number, &read),
+            Err(LineFault::UnknownWord(at)) => (PlanWord::UnknownWord, at),
+            Err(LineFault::WrongCount) => (PlanWord::from(PlanRefusal::WrongCount), None),
+        };
+        self.tell(line.number, FaultKind::Word(word), at)?;
+        Ok(())
     }
 
     /// Declares what a line does, or notes why it is refused.
     fn declare_line(&mut self, number: u64, line: &PlanLine<'t>) -> Result<(), LintFault>
-        ensures declared { OnOk result (Declared self.old self.new number (line_words line.now)) }
+        ensures declared { OnOk result (Declared self.old self.new number line.now) }
         ensures memory { IfErr result (λ fault. fault ≡ LintFault.NoMemory) }
     {
         let entry = Entry::next(self.plan.plan(), line);

@@ -21,6 +21,7 @@ pub(crate) struct Marks<A: Allocator> {
 
 impl<A: Allocator + Copy> Marks<A> {
     /// The marks of a plan.
+    #[tactic(auto, using(crate::proofs::Marked::marked_origin))]
     pub(crate) fn of(alloc: A, plan: &Plan<A>) -> Result<Marks<A>, NoMemory>
         ensures { IfOk result (AreMarksOf plan.now) }
     {
