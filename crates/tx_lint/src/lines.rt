@@ -4,6 +4,7 @@ ghost use Rattle.std.specs.Option.{option_to_list};
 ghost use Rattle.tx_text.specs.inner.TextLine.{line_of};
 ghost use Rattle.tx_text.specs.Text.{bytes_fault};
 ghost use Rattle.tx_text.specs.Words.{words_of};
+ghost use Rattle.tx_plantext.specs.inner.LineWords.{line_words};
 ghost use Rattle.tx_lint.specs.AllFaults.{no_progress, form_of, fault_of_end};
 ghost use Rattle.tx_lint.specs.inner.Readings.{progress_held, faults_held, TookIn, Declared, HasRead, Noted};
 
@@ -138,7 +139,7 @@ impl<'t, A: Allocator> Reading<'t, A> {
 
     /// Declares what a line does, or notes why it is refused.
     fn declare_line(&mut self, number: u64, line: &PlanLine<'t>) -> Result<(), LintFault>
-        ensures declared { OnOk result (Declared self.old self.new number line.now) }
+        ensures declared { OnOk result (Declared self.old self.new number (line_words line.now)) }
         ensures memory { IfErr result (λ fault. fault ≡ LintFault.NoMemory) }
     {
         let entry = Entry::next(self.plan.plan(), line);

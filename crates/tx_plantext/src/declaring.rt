@@ -2,7 +2,7 @@
 ghost use Rattle.std.specs.Prelude.{◌≡◌, IfErr};
 ghost use Rattle.tx_text.specs.Said.{Declared};
 ghost use Rattle.tx_plantext.specs.PlanText.{declare, count_of, is_memory, word_told};
-ghost use Rattle.tx_plantext.specs.inner.LineWords.{declare_line};
+ghost use Rattle.tx_plantext.specs.inner.LineWords.{line_words};
 
 use crate::fault::PlanWord;
 use crate::plan_line::{LineFault, PlanLine};
@@ -13,9 +13,9 @@ use tx_text::{Words, number};
 impl<'t> PlanLine<'t> {
     /// Declares what the line does, after the lines before it. A line that is refused changes
     /// nothing.
-    #[tactic(auto, using(crate::proofs::Entries::declared_from, crate::proofs::Entries::same_from))]
+    #[tactic(auto, using(crate::proofs::Entries::declared_from, crate::proofs::Entries::same_from), unfolding(crate::specs::PlanText::declare))]
     pub fn declare<A: Allocator>(&self, plan: &mut PlanBuilder<A>) -> Result<(), PlanRefusal>
-        ensures declared { Declared is_memory (declare_line plan.old self.now) plan.new
+        ensures declared { Declared is_memory (declare 2 plan.old (line_words self.now)) plan.new
             (word_told result) }
         ensures same { IfErr result (λ _. plan.new ≡ plan.old) }
     {

@@ -60,29 +60,21 @@ impl<'t> PlanLine<'t> {
             return Err(LineFault::UnknownWord(None));
         };
         if first == b"EXCHANGE".as_slice() {
-            match rest.one() {
-                Some(name) => Ok(PlanLine::Exchange { name }),
-                None => Err(LineFault::WrongCount),
-            }
+            let name = rest.one().ok_or(LineFault::WrongCount)?;
+            Ok(PlanLine::Exchange { name })
         } else if first == b"CODE".as_slice() {
-            match rest.two() {
-                Some((code, home)) => Ok(PlanLine::Code { code, home }),
-                None => Err(LineFault::WrongCount),
-            }
+            let (code, home) = rest.two().ok_or(LineFault::WrongCount)?;
+            Ok(PlanLine::Code { code, home })
         } else if first == b"LINES".as_slice() {
-            match rest.three() {
-                Some((code, low, high)) => Ok(PlanLine::Lines { code, low, high }),
-                None => Err(LineFault::WrongCount),
-            }
+            let (code, low, high) = rest.three().ok_or(LineFault::WrongCount)?;
+            Ok(PlanLine::Lines { code, low, high })
         } else if first == b"GROUP".as_slice() {
             group_line(rest)
         } else if first == b"ROUTE".as_slice() {
             route_line(rest)
         } else if version == 2 && first == b"BAR".as_slice() {
-            match rest.two() {
-                Some((exchange, code)) => Ok(PlanLine::Bar { exchange, code }),
-                None => Err(LineFault::WrongCount),
-            }
+            let (exchange, code) = rest.two().ok_or(LineFault::WrongCount)?;
+            Ok(PlanLine::Bar { exchange, code })
         } else if first == b"END".as_slice() {
             Err(LineFault::WrongCount)
         } else {
@@ -96,19 +88,15 @@ impl<'t> PlanLine<'t> {
 fn group_line<'t>(words: Words<'t>) -> Result<PlanLine<'t>, LineFault<'t>>
     ensures { (v : ℕ) → IsRead v (codes "GROUP" ∷ words.entry) result }
 {
-    let Some((name, a, b, word, count)) = words.five() else {
-        return Err(LineFault::WrongCount);
-    };
-    match direction_of(word) {
-        Some(direction) => Ok(PlanLine::Group {
-            name,
-            a,
-            b,
-            direction,
-            count,
-        }),
-        None => Err(LineFault::UnknownWord(Some(word))),
-    }
+    let (name, a, b, word, count) = words.five().ok_or(LineFault::WrongCount)?;
+    let direction = direction_of(word).ok_or(LineFault::UnknownWord(Some(word)))?;
+    Ok(PlanLine::Group {
+        name,
+        a,
+        b,
+        direction,
+        count,
+    })
 }
 
 /// ROUTE exchange code group ..
@@ -117,12 +105,8 @@ fn route_line<'t>(words: Words<'t>) -> Result<PlanLine<'t>, LineFault<'t>>
     ensures { (v : ℕ) → IsRead v (codes "ROUTE" ∷ words.entry) result }
 {
     let mut groups = words;
-    let Some(exchange) = groups.next() else {
-        return Err(LineFault::WrongCount);
-    };
-    let Some(code) = groups.next() else {
-        return Err(LineFault::WrongCount);
-    };
+    let exchange = groups.next().ok_or(LineFault::WrongCount)?;
+    let code = groups.next().ok_or(LineFault::WrongCount)?;
     Ok(PlanLine::Route {
         exchange,
         code,

@@ -1,6 +1,6 @@
 // The routes of one code of a plan.
 ghost use Rattle.std.specs.Prelude.{◌≡◌, ◌<◌, ℕ, Bool, length, Some, slice_get, IfOk};
-ghost use Rattle.tx_plan.specs.Routes.{is_origin, is_origin_for};
+ghost use Rattle.tx_plan.specs.Routes.{is_origin};
 ghost use Rattle.tx_rank.specs.Walks.{net_of};
 ghost use Rattle.tx_rank.specs.Nets.{IsNet};
 ghost use Rattle.tx_rank.specs.Judged.{AreOrigins};
@@ -20,20 +20,6 @@ pub fn origins_of<A: Allocator + Copy>(alloc: A, plan: &Plan<A>) -> Result<Vec<b
         origins.push_reserved(plan.is_origin(ExchangeId::of(place)));
     }
     Ok(origins)
-}
-
-/// Whether calls for the code may start at the exchange.
-pub(crate) fn may_start<A: Allocator>(
-    plan: &Plan<A>,
-    origins: &[bool],
-    code: CodeId,
-    exchange: ExchangeId,
-) -> bool
-    requires origins { AreOrigins plan.now origins.now }
-    requires exchange { exchange < length plan.now.exchanges }
-    ensures { result ≡ is_origin_for plan.now exchange code }
-{
-    origins[exchange.index()] && !plan.is_barred(exchange, code)
 }
 
 /// The routes of one code of a plan.
@@ -62,7 +48,7 @@ impl<'a, A: Allocator> Routes for CodeRoutes<'a, A> {
     }
 
     fn is_origin(&self, exchange: ExchangeId) -> bool {
-        may_start(self.plan, self.origins, self.code, exchange)
+        self.origins[exchange.index()] && !self.plan.is_barred(exchange, self.code)
     }
 
     fn list(&self, exchange: ExchangeId) -> &[GroupId] {

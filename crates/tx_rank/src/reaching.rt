@@ -9,8 +9,9 @@ ghost use Rattle.tx_rank.specs.Judged.{AreOrigins};
 ghost use Rattle.tx_rank.specs.Reached.{is_marked, AreReached};
 ghost use Rattle.tx_rank.specs.inner.Seen.{AreSeen, LeadsToSeen, StaysSeen};
 
-use crate::code_routes::may_start;
+use crate::code_routes::CodeRoutes;
 use crate::marks::is_marked;
+use crate::routes::Routes;
 use std::alloc::Allocator;
 use tx_plan::{CodeId, ExchangeId, GroupId, Plan};
 use tx_text::NoMemory;
@@ -48,8 +49,12 @@ fn starts<A: Allocator + Copy>(
 {
     let mut marks = Vec::with_capacity(alloc, plan.exchanges())?;
     for place in 0..plan.exchanges() {
-        let exchange = ExchangeId::of(place);
-        marks.push_reserved(may_start(plan, origins, code, exchange));
+        let routes = CodeRoutes {
+            plan,
+            origins,
+            code,
+        };
+        marks.push_reserved(routes.is_origin(ExchangeId::of(place)));
     }
     Ok(marks)
 }

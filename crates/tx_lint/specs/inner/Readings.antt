@@ -2,8 +2,7 @@
 use Rattle.std.specs.Prelude.{◌≡◌, ℕ, List, [], ◌∷◌, ◌++◌, map, if◌then◌else◌}
 use Rattle.std.specs.Option.{option_map, option_to_list}
 use Rattle.tx_text.specs.Text.{Line}
-use Rattle.tx_plantext.specs.declared.plan_line.PlanLine.{PlanLine}
-use Rattle.tx_plantext.specs.inner.LineWords.{line_words, declare_line}
+use Rattle.tx_plantext.specs.PlanText.{declare}
 use Rattle.tx_lint.specs.declared.entry.Entry.{Entry}
 use Rattle.tx_lint.specs.declared.lines.Reading.{Reading}
 use Rattle.tx_lint.specs.AllFaults.{Fault, Progress, fault_in_line, refused, declared_on, fault_of_line, line_on, faults_of, progress_of}
@@ -28,13 +27,12 @@ pub record Noted {A : Type 0} (old new : Reading A) (n : ℕ) (e : Entry) : Type
       ≡ record (progress_held old) { entries = old.entries.items ++ (n, e) ∷ [] }
   pub faults : faults_held new ≡ faults_held old
 
--- what a line declares was added, or the line was reported
-pub record Declared {A : Type 0} (old new : Reading A) (n : ℕ) (line : PlanLine) : Type 0 where
+-- what a line of these words declares was added, or the line was reported
+pub record Declared {A : Type 0} (old new : Reading A) (n : ℕ) (ws : List (List ℕ)) : Type 0 where
   pub faults : faults_held new ≡ faults_held old
-      ++ option_to_list (option_map (fault_in_line (progress_held old) n (line_words line))
-      (refused (declare_line old.plan line)))
-  pub progress : progress_held new
-      ≡ declared_on (progress_held old) n (line_words line) (declare_line old.plan line)
+      ++ option_to_list (option_map (fault_in_line (progress_held old) n ws)
+      (refused (declare 2 old.plan ws)))
+  pub progress : progress_held new ≡ declared_on (progress_held old) n ws (declare 2 old.plan ws)
 
 -- a line was taken in
 pub record TookIn {A : Type 0} (old new : Reading A) (l : Line) : Type 0 where
