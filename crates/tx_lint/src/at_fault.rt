@@ -5,7 +5,7 @@ ghost use Rattle.tx_plan.specs.Declaring.{has_exchange, has_code, has_group, pai
 ghost use Rattle.tx_plantext.specs.inner.LineWords.{line_words};
 ghost use Rattle.tx_plantext.specs.declared.fault.PlanWord.TheVariants.{Refused};
 ghost use Rattle.tx_text.specs.declared.frame.FaultKind.TheVariants.{Word};
-ghost use Rattle.tx_lint.specs.AtFault.{first_not, first_again, unknown_of_pair, exchange_word, code_word, lines_word, group_word, route_word, bar_word, word_at_fault};
+ghost use Rattle.tx_lint.specs.AtFault.{unknown_of_pair, group_word, route_word, word_at_fault};
 
 use crate::word_tests::{
     first_again, first_closed, first_no_name, first_unknown_group, is_code, is_exchange,
@@ -25,61 +25,39 @@ pub(crate) fn word_at_fault<'t, A: Allocator>(
         ≡ word_at_fault plan.now (line_words line.now) (Word (Refused refusal)) }
 {
     match line {
-        PlanLine::Exchange { name } => exchange_word(name, refusal),
-        PlanLine::Code { code, home } => code_word(code, home, refusal),
-        PlanLine::Lines { code, low, high } => lines_word(code, low, high, refusal),
+        PlanLine::Exchange { name } => match refusal {
+            PlanRefusal::BadName | PlanRefusal::Duplicate => Some(name),
+            _ => None,
+        },
+        PlanLine::Code { code, home } => match refusal {
+            PlanRefusal::BadName | PlanRefusal::Unknown => Some(home),
+            PlanRefusal::BadCode | PlanRefusal::Duplicate => Some(code),
+            _ => None,
+        },
+        PlanLine::Lines { code, low, high } => match refusal {
+            PlanRefusal::BadCode | PlanRefusal::Unknown => Some(code),
+            PlanRefusal::BadNumber if National::read(low).is_none() => Some(low),
+            PlanRefusal::BadNumber if National::read(high).is_none() => Some(high),
+            _ => None,
+        },
         PlanLine::Group {
             name,
             a,
             b,
-            direction: _,
             count,
+            ..
         } => group_word(plan, name, a, b, count, refusal),
         PlanLine::Route {
             exchange,
             code,
             groups,
         } => route_word(plan, exchange, code, groups.again(), refusal),
-        PlanLine::Bar { exchange, code } => bar_word(plan, exchange, code, refusal),
-    }
-}
-
-/// EXCHANGE name.
-fn exchange_word<'t>(name: &'t [u8], refusal: PlanRefusal) -> Option<&'t [u8]>
-    ensures { option_map (λ w. w.now) result ≡ exchange_word (name.now ∷ []) refusal }
-{
-    match refusal {
-        PlanRefusal::BadName | PlanRefusal::Duplicate => Some(name),
-        _ => None,
-    }
-}
-
-/// CODE code home.
-fn code_word<'t>(code: &'t [u8], home: &'t [u8], refusal: PlanRefusal) -> Option<&'t [u8]>
-    ensures { option_map (λ w. w.now) result ≡ code_word (code.now ∷ home.now ∷ []) refusal }
-{
-    match refusal {
-        PlanRefusal::BadName | PlanRefusal::Unknown => Some(home),
-        PlanRefusal::BadCode | PlanRefusal::Duplicate => Some(code),
-        _ => None,
-    }
-}
-
-/// LINES code low high.
-fn lines_word<'t>(
-    code: &'t [u8],
-    low: &'t [u8],
-    high: &'t [u8],
-    refusal: PlanRefusal,
-) -> Option<&'t [u8]>
-    ensures { option_map (λ w. w.now) result
-        ≡ lines_word (code.now ∷ low.now ∷ high.now ∷ []) refusal }
-{
-    match refusal {
-        PlanRefusal::BadCode | PlanRefusal::Unknown => Some(code),
-        PlanRefusal::BadNumber if National::read(low).is_none() => Some(low),
-        PlanRefusal::BadNumber if National::read(high).is_none() => Some(high),
-        _ => None,
+        PlanLine::Bar { exchange, code } => match refusal {
+            PlanRefusal::BadName => Some(exchange),
+            PlanRefusal::BadCode => Some(code),
+            PlanRefusal::Unknown => unknown_of_pair(plan, exchange, code),
+            _ => None,
+        },
     }
 }
 
@@ -149,24 +127,6 @@ fn route_word<'t, A: Allocator>(
             first_closed(plan, &pair, groups)
         }
         PlanRefusal::RepeatedGroup => first_again(groups),
-        _ => None,
-    }
-}
-
-/// BAR exchange code.
-fn bar_word<'t, A: Allocator>(
-    plan: &Plan<A>,
-    exchange: &'t [u8],
-    code: &'t [u8],
-    refusal: PlanRefusal,
-) -> Option<&'t [u8]>
-    ensures { option_map (λ w. w.now) result
-        ≡ bar_word plan.now (exchange.now ∷ code.now ∷ []) refusal }
-{
-    match refusal {
-        PlanRefusal::BadName => Some(exchange),
-        PlanRefusal::BadCode => Some(code),
-        PlanRefusal::Unknown => unknown_of_pair(plan, exchange, code),
         _ => None,
     }
 }
