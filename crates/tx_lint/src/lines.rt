@@ -128,12 +128,12 @@ impl<'t, A: Allocator> Reading<'t, A> {
         ensures took { OnOk result (TookIn self.old self.new (line_of line.entry)) }
         ensures memory { IfErr result (λ fault. fault ≡ LintFault.NoMemory) }
     {
-        let (word, at) = match PlanLine::read(self.version, words(line.text)) {
+        let (fault, word) = match PlanLine::read(self.version, words(line.text)) {
             Ok(read) => return self.declare_line(line.number, &read),
-            Err(LineFault::UnknownWord(at)) => (PlanWord::UnknownWord, at),
+            Err(LineFault::UnknownWord(word)) => (PlanWord::UnknownWord, word),
             Err(LineFault::WrongCount) => (PlanWord::from(PlanRefusal::WrongCount), None),
         };
-        self.tell(line.number, FaultKind::Word(word), at)?;
+        self.tell(line.number, FaultKind::Word(fault), word)?;
         Ok(())
     }
 

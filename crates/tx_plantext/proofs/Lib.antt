@@ -1,6 +1,5 @@
 pub mod Counts
 pub mod Entries
-pub mod LineWords
 pub mod ListLines
 pub mod Places
 pub mod PlanLines

@@ -13,13 +13,17 @@ use Rattle.tx_plan.specs.Plan.{Plan, Code, Group, exchange_named, code_named, ex
 use Rattle.tx_plan.specs.Lines.{at_most}
 use Rattle.tx_plan.specs.Rules.{IsPlan, EachPair, IsCode, IsRange, IsGroup, AreSeparate}
 use Rattle.tx_plan.specs.Declaring.{exchange_refusals, code_refusals, lines_refusals, group_refusals, has_exchange, has_code, has_group, shares, overlaps, is_ordered}
-use Rattle.tx_plantext.specs.PlanText.{declare, count_of, group_by}
+use Rattle.tx_plantext.specs.PlanText.{declare, direction_of, count_of, group_by}
 use Rattle.tx_plantext.specs.PlanWritten.{exchange_words, code_words, range_words, group_words, direction_word}
 use Rattle.tx_plan.proofs.ByPlace.{bytes_apart}
 use Rattle.tx_plantext.proofs.Places.{all_between, apart_front, all_weaker, none_passes, length_front}
-use Rattle.tx_plantext.proofs.LineWords.{direction_back}
 use Rattle.tx_plantext.proofs.ListLines.{IsLineOf, none_true, unless-none}
 use Rattle.tx_plan.proofs.NamesBack.{exchange_back, exchange_is_name, code_back, figures_are_code}
+
+-- the word for a direction says it
+pub direction_back : (d : Direction) → direction_of (direction_word d) ≡ Some d
+direction_back OneWay = refl
+direction_back BothWay = refl
 
 module _ (v : ℕ) (p : Plan) (h : IsPlan p) where
   -- ---- what was declared before the next line of each kind

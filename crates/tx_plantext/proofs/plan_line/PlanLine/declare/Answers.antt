@@ -2,7 +2,7 @@ use Rattle.std.proofs.Common.{refl}
 use Rattle.tx_plan.specs.Declaring.{code_refusals, group_refusals, route_refusals, bar_refusals}
 use Rattle.tx_plantext.specs.PlanText.{declare, count_of}
 use Rattle.tx_plantext.proofs.Entries.{declared_from}
-use Rattle.tx_plantext.proofs.LineWords.{direction_back}
+use Rattle.tx_plantext.proofs.PlanLines.{direction_back}
 use Rattle.tx_plantext.proofs.plan_line.PlanLine.declare.Goals as goal
 
 pub returns-in-Code-clause-declared : goal.returns-in-Code-clause-declared

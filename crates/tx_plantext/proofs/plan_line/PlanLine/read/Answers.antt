@@ -1,13 +1,13 @@
 use Rattle.std.proofs.Common.{sym, ◌∙◌}
-use Rattle.tx_plantext.proofs.LineWords.{begins}
+use Rattle.std.proofs.lemmas.Slice.Eq.{bytes_eq-Decides}
 use Rattle.tx_plantext.proofs.plan_line.PlanLine.read.Goals as goal
 
 pub returns-then-eq-4 : goal.returns-then-eq-4
 returns-then-eq-4 c =
-    let group = rw c.as_slice-else-eq-3.ensures at (sym c.eq-else-eq-3.ensures ∙ c.if-eq-4.true) in
-    begins _ _ _ _ _ _ group c.in-Some.ensures.steps (c.group_line.ensures c.args.version)
+    let group = (bytes_eq-Decides _ _).0 (sym c.eq-else-eq-3.ensures ∙ c.if-eq-4.true) ∙ c.as_slice-else-eq-3.ensures in
+    rw (c.in-Some.ensures.steps, group) (c.group_line.ensures c.args.version)
 
 pub returns-then-eq-5 : goal.returns-then-eq-5
 returns-then-eq-5 c =
-    let route = rw c.as_slice-else-eq-4.ensures at (sym c.eq-else-eq-4.ensures ∙ c.if-eq-5.true) in
-    begins _ _ _ _ _ _ route c.in-Some.ensures.steps (c.route_line.ensures c.args.version)
+    let route = (bytes_eq-Decides _ _).0 (sym c.eq-else-eq-4.ensures ∙ c.if-eq-5.true) ∙ c.as_slice-else-eq-4.ensures in
+    rw (c.in-Some.ensures.steps, route) (c.route_line.ensures c.args.version)
