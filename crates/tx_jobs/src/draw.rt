@@ -11,7 +11,7 @@ use std::alloc::Allocator;
 use tx_draw::{write_code_drawing, write_drawing};
 use tx_plan::{CodeId, Limits, Plan};
 use tx_plantext::read_plan_from;
-use tx_rank::{Finding, Ranking, rank, reached};
+use tx_rank::{Finding, Ranking, origins_of, rank, reached};
 use tx_text::{NoMemory, Sink, Source};
 
 /// Reads a plan, and writes its picture; with the figures of a code that of the routes for the
@@ -112,7 +112,8 @@ fn draw_finding<A: Allocator + Copy, W: Sink>(
         result }
     ensures mark { W.failed out.new ≡ mark_after (W.failed out.old) result }
 {
-    let marks = reached(alloc, plan, code)?;
+    let origins = origins_of(alloc, plan)?;
+    let marks = reached(alloc, plan, &origins, code)?;
     write_code_drawing(plan, code, &marks, findings, out)?;
     Ok(())
 }

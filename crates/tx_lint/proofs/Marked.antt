@@ -5,22 +5,38 @@ use Rattle.std.specs.List.{list_any, AllByRecursion}
 use Rattle.std.specs.Option.{option_map, option_map_or}
 use Rattle.std.proofs.Math.Dec.{eqb-zero-suc, eqb-suc-zero, eqb-suc-suc}
 use Rattle.std.proofs.Math.ListN.{set}
-use Rattle.std.proofs.lemmas.Bool.{cases_lt, false≢true}
+use Rattle.std.proofs.lemmas.Bool.{cases_lt, false≢true, false_from_ne_true}
 use Rattle.std.proofs.lemmas.List.{map-append}
 use Rattle.std.proofs.lemmas.List.Folds.{list_any_more}
 use Rattle.std.proofs.lemmas.Option.{slice_get_within}
 use Rattle.tx_plan.proofs.Lists.{all_map}
 use Rattle.tx_plan.specs.Plan.{Plan, Route, Group}
 use Rattle.tx_plan.specs.Circuits.{may_seize, may_seize_row}
-use Rattle.tx_plan.specs.Routes.{route_list}
+use Rattle.tx_plan.specs.Routes.{route_list, is_origin}
 use Rattle.tx_plan.specs.Rules.{IsPlan, IsRoute}
-use Rattle.tx_plan.proofs.ByPlace.{all_at}
+use Rattle.tx_plan.proofs.ByPlace.{entry_at, all_at}
 use Rattle.tx_plan.proofs.ListFound.{list_found}
 use Rattle.tx_trie.proofs.Stepping.{slice_get_last}
 use Rattle.tx_rank.specs.Walks.{net_of}
 use Rattle.tx_rank.specs.Heights.{IsReached}
+use Rattle.tx_rank.specs.Judged.{AreOrigins}
+use Rattle.tx_rank.proofs.Nets.{origin_within}
 use Rattle.tx_rank.specs.Reached.{is_marked, AreReached}
 use Rattle.tx_lint.specs.inner.Marks.{comes_by}
+
+-- ---- where calls may start
+
+-- the marks of the origins say so of each exchange, also of one that the plan does not have
+pub marked_origin : (p : Plan) → IsPlan p → (origins : List Bool) → AreOrigins p origins → (x : ℕ) → is_marked origins x ≡ is_origin p x
+marked_origin p ok origins are x = by (slice_get origins x) refl
+  where
+    by : (o : Option Bool) → slice_get origins x ≡ o → option_map_or (λ b. b) o false ≡ is_origin p x
+    by (Some b) e = are.each x b e
+    by None e = sym (false_from_ne_true (is_origin p x) (λ h.
+        let within = origin_within p ok x h in
+        let long = are.long in
+        let is = (entry_at origins x (omega arith)).1 in
+        cc))
 
 -- ---- where calls come
 

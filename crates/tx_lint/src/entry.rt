@@ -1,9 +1,11 @@
 // What the lines of a plan declare.
-ghost use Rattle.std.specs.Prelude.{◌≡◌};
-ghost use Rattle.tx_lint.specs.AtFault.{entry_of};
+ghost use Rattle.std.specs.Prelude.{◌≡◌, ◌∷◌, [], ℕ};
+ghost use Rattle.tx_plantext.specs.inner.LineWords.{line_words};
+ghost use Rattle.tx_lint.specs.AllFaults.{entry_at};
 
 use std::alloc::Allocator;
 use tx_plan::{CodeId, ExchangeId, GroupId, Plan};
+use tx_plantext::PlanLine;
 
 /// What a line of a plan's text declares. Ranges, routes and bars are known by their places in
 /// their lists, from 0.
@@ -19,24 +21,17 @@ pub(crate) enum Entry {
 }
 
 impl Entry {
-    /// What a line declares next that begins with the word, if one begins with it.
-    pub(crate) fn next<A: Allocator>(plan: &Plan<A>, word: &[u8]) -> Option<Entry>
-        ensures { result ≡ entry_of plan.now word.now }
+    /// What the line declares, as the next of the plan.
+    pub(crate) fn next<A: Allocator>(plan: &Plan<A>, line: &PlanLine<'_>) -> Entry
+        ensures { (n : ℕ) → entry_at plan.now n (line_words line.now) ≡ (n, result) ∷ [] }
     {
-        if word == b"EXCHANGE".as_slice() {
-            Some(Entry::Exchange(ExchangeId::of(plan.exchanges())))
-        } else if word == b"CODE".as_slice() {
-            Some(Entry::Code(CodeId::of(plan.codes())))
-        } else if word == b"LINES".as_slice() {
-            Some(Entry::Lines(plan.ranges()))
-        } else if word == b"GROUP".as_slice() {
-            Some(Entry::Group(GroupId::of(plan.groups())))
-        } else if word == b"ROUTE".as_slice() {
-            Some(Entry::Route(plan.routes()))
-        } else if word == b"BAR".as_slice() {
-            Some(Entry::Bar(plan.bars()))
-        } else {
-            None
+        match line {
+            PlanLine::Exchange { .. } => Entry::Exchange(ExchangeId::of(plan.exchanges())),
+            PlanLine::Code { .. } => Entry::Code(CodeId::of(plan.codes())),
+            PlanLine::Lines { .. } => Entry::Lines(plan.ranges()),
+            PlanLine::Group { .. } => Entry::Group(GroupId::of(plan.groups())),
+            PlanLine::Route { .. } => Entry::Route(plan.routes()),
+            PlanLine::Bar { .. } => Entry::Bar(plan.bars()),
         }
     }
 }

@@ -1,18 +1,19 @@
 // The lines of a plan's text, all of them.
-ghost use Rattle.std.specs.Prelude.{◌≡◌, ◌++◌, [], true, None, IfOk, IfErr, OnOk};
+ghost use Rattle.std.specs.Prelude.{◌≡◌, ◌∷◌, ◌++◌, [], true, None, IfOk, IfErr, OnOk, option_map};
 ghost use Rattle.std.specs.Option.{option_to_list};
 ghost use Rattle.tx_text.specs.inner.TextLine.{line_of};
 ghost use Rattle.tx_text.specs.Text.{bytes_fault};
 ghost use Rattle.tx_text.specs.Words.{words_of};
+ghost use Rattle.tx_plantext.specs.inner.LineWords.{line_words};
 ghost use Rattle.tx_lint.specs.AllFaults.{no_progress, form_of, fault_of_end};
-ghost use Rattle.tx_lint.specs.inner.Readings.{progress_held, faults_held, TookIn, HasRead, Told, Noted};
+ghost use Rattle.tx_lint.specs.inner.Readings.{progress_held, faults_held, TookIn, Declared, HasRead, Noted};
 
 use crate::at_fault::word_at_fault;
 use crate::entry::Entry;
 use crate::fault::{Fault, LintFault};
 use std::alloc::Allocator;
 use tx_plan::{PlanBuilder, PlanRefusal};
-use tx_plantext::{KEY, PlanWord, VERSIONS, declare};
+use tx_plantext::{KEY, LineFault, PlanLine, PlanWord, VERSIONS};
 use tx_text::{
     FaultKind, FrameFault, FramePart, LineForm, NoMemory, TextLine, bytes_fault, closing,
     first_line, last_fault, look, words,
@@ -45,17 +46,21 @@ impl<'t, A: Allocator + Copy> Reading<'t, A> {
 }
 
 impl<'t, A: Allocator> Reading<'t, A> {
-    /// Notes that a line is at fault, and passes over it.
-    fn tell(&mut self, line: TextLine<'t>, kind: FaultKind<PlanWord>) -> Result<(), NoMemory>
-        ensures told { OnOk result (Told self.old self.new (line_of line.entry) kind) }
+    /// Notes a fault of a line.
+    fn tell(
+        &mut self,
+        line: u64,
+        kind: FaultKind<PlanWord>,
+        word: Option<&'t [u8]>,
+    ) -> Result<(), NoMemory>
+        ensures told { OnOk result (faults_held self.new ≡ faults_held self.old ++ record {
+          line = line;
+          kind = kind;
+          word = option_map (λ w. w.now) word.entry;
+        } ∷ []) }
         ensures same { progress_held self.new ≡ progress_held self.old }
     {
-        let word = word_at_fault(self.plan.plan(), words(line.text), kind);
-        self.faults.push(Fault {
-            line: line.number,
-            kind,
-            word,
-        })?;
+        self.faults.push(Fault { line, kind, word })?;
         Ok(())
     }
 
@@ -73,7 +78,8 @@ impl<'t, A: Allocator> Reading<'t, A> {
         ensures memory { IfErr result (λ fault. fault ≡ LintFault.NoMemory) }
     {
         if let Some(fault) = bytes_fault(line.text) {
-            self.tell(line, FaultKind::Frame(FrameFault::from(fault)))?;
+            let fault = FrameFault::from(fault);
+            self.tell(line.number, FaultKind::Frame(fault), None)?;
             return Ok(());
         }
         if line.finished {
@@ -81,7 +87,7 @@ impl<'t, A: Allocator> Reading<'t, A> {
             return self.take_form(line, form);
         }
         if let Some(fault) = last_fault(self.part, line.text) {
-            self.tell(line, FaultKind::Frame(fault))?;
+            self.tell(line.number, FaultKind::Frame(fault), None)?;
         }
         Ok(())
     }
@@ -104,7 +110,7 @@ impl<'t, A: Allocator> Reading<'t, A> {
             LineForm::Plain => self.declare(line)?,
             LineForm::End => self.part = FramePart::Ended,
             LineForm::Bad(fault) => {
-                self.tell(line, FaultKind::Frame(fault))?;
+                self.tell(line.number, FaultKind::Frame(fault), None)?;
                 if matches!(fault, FrameFault::NoHeader) {
                     self.part = FramePart::Body;
                     self.version = VERSIONS;
@@ -122,18 +128,28 @@ impl<'t, A: Allocator> Reading<'t, A> {
         ensures took { OnOk result (TookIn self.old self.new (line_of line.entry)) }
         ensures memory { IfErr result (λ fault. fault ≡ LintFault.NoMemory) }
     {
-        let entry = match words(line.text).next() {
-            Some(first) => Entry::next(self.plan.plan(), first),
-            None => None,
+        let (fault, word) = match PlanLine::read(self.version, words(line.text)) {
+            Ok(read) => return self.declare_line(line.number, &read),
+            Err(LineFault::UnknownWord(word)) => (PlanWord::UnknownWord, word),
+            Err(LineFault::WrongCount) => (PlanWord::from(PlanRefusal::WrongCount), None),
         };
-        match declare(&mut self.plan, self.version, words(line.text)) {
-            Ok(()) => {
-                if let Some(entry) = entry {
-                    self.note(line.number, entry)?;
-                }
+        self.tell(line.number, FaultKind::Word(fault), word)?;
+        Ok(())
+    }
+
+    /// Declares what a line does, or notes why it is refused.
+    fn declare_line(&mut self, number: u64, line: &PlanLine<'t>) -> Result<(), LintFault>
+        ensures declared { OnOk result (Declared self.old self.new number (line_words line.now)) }
+        ensures memory { IfErr result (λ fault. fault ≡ LintFault.NoMemory) }
+    {
+        let entry = Entry::next(self.plan.plan(), line);
+        match line.declare(&mut self.plan) {
+            Ok(()) => self.note(number, entry)?,
+            Err(PlanRefusal::NoMemory) => return Err(LintFault::NoMemory),
+            Err(refusal) => {
+                let word = word_at_fault(self.plan.plan(), line, refusal);
+                self.tell(number, FaultKind::Word(PlanWord::from(refusal)), word)?;
             }
-            Err(PlanWord::Refused(PlanRefusal::NoMemory)) => return Err(LintFault::NoMemory),
-            Err(fault) => self.tell(line, FaultKind::Word(fault))?,
         }
         Ok(())
     }
@@ -145,11 +161,7 @@ impl<'t, A: Allocator> Reading<'t, A> {
         ensures same { progress_held self.new ≡ progress_held self.old }
     {
         if let Some(fault) = closing(self.part) {
-            self.faults.push(Fault {
-                line: number,
-                kind: FaultKind::Frame(fault),
-                word: None,
-            })?;
+            self.tell(number, FaultKind::Frame(fault), None)?;
         }
         Ok(())
     }

@@ -1,34 +1,50 @@
 // What is marked before the entries of a plan are looked at.
 ghost use Rattle.std.specs.Prelude.{◌≡◌, ℕ, ◌<◌, ◌||◌, ◌==◌, length, map, IfOk};
 ghost use Rattle.std.specs.List.{list_any, AllByRecursion};
+ghost use Rattle.tx_rank.specs.Judged.{AreOrigins};
 ghost use Rattle.tx_rank.specs.Reached.{is_marked};
 ghost use Rattle.tx_lint.specs.Warnings.{TellsWhereCallsCome, is_listed};
 ghost use Rattle.tx_lint.specs.inner.Marks.{comes_by, coming_of, AreMarksOf};
 
 use std::alloc::Allocator;
 use tx_plan::{CodeId, ExchangeId, GroupId, Plan};
-use tx_rank::{is_marked, reached};
+use tx_rank::{is_marked, origins_of, reached};
 use tx_text::NoMemory;
 
-/// Where calls for each code come, and which groups are in a list.
+/// Where calls may start, where those for each code come, and which groups are in a list.
 #[derive(Drop)]
 pub(crate) struct Marks<A: Allocator> {
+    origins: Vec<bool, A>,
     coming: Vec<Vec<bool, A>, A>,
     listed: Vec<bool, A>,
 }
 
 impl<A: Allocator + Copy> Marks<A> {
     /// The marks of a plan.
+    #[tactic(auto, using(crate::proofs::Marked::marked_origin))]
     pub(crate) fn of(alloc: A, plan: &Plan<A>) -> Result<Marks<A>, NoMemory>
         ensures { IfOk result (AreMarksOf plan.now) }
     {
-        let coming = coming(alloc, plan)?;
+        let origins = origins_of(alloc, plan)?;
+        let coming = coming(alloc, plan, &origins)?;
         let listed = listed(alloc, plan)?;
-        Ok(Marks { coming, listed })
+        plan.rules();
+        Ok(Marks {
+            origins,
+            coming,
+            listed,
+        })
     }
 }
 
 impl<A: Allocator> Marks<A> {
+    /// Whether calls may start at the exchange.
+    pub(crate) fn is_origin(&self, exchange: ExchangeId) -> bool
+        ensures { result ≡ is_marked self.now.origins.items exchange }
+    {
+        is_marked(&self.origins, exchange)
+    }
+
     /// Whether some call for the code may come to the exchange.
     pub(crate) fn comes(&self, code: CodeId, exchange: ExchangeId) -> bool
         ensures { result ≡ coming_of self.now code exchange }
@@ -50,13 +66,18 @@ impl<A: Allocator> Marks<A> {
     }
 }
 
-fn coming<A: Allocator + Copy>(alloc: A, plan: &Plan<A>) -> Result<Vec<Vec<bool, A>, A>, NoMemory>
+fn coming<A: Allocator + Copy>(
+    alloc: A,
+    plan: &Plan<A>,
+    origins: &[bool],
+) -> Result<Vec<Vec<bool, A>, A>, NoMemory>
+    requires { AreOrigins plan.now origins.now }
     ensures { IfOk result (λ marks.
         TellsWhereCallsCome plan.now (comes_by (map (λ m. m.items) marks.items))) }
 {
     let mut marks = Vec::with_capacity(alloc, plan.codes())?;
     for place in 0..plan.codes() {
-        let reached = reached(alloc, plan, CodeId::of(place))?;
+        let reached = reached(alloc, plan, origins, CodeId::of(place))?;
         marks.push_reserved(reached);
     }
     Ok(marks)

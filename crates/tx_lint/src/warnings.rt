@@ -46,7 +46,10 @@ fn add_warnings<A: Allocator>(
 {
     match entry {
         Entry::Header => add_if(plan.ranges() == 0, line, Warning::NothingToJudge, found),
-        Entry::Exchange(exchange) => add_missing_lists(plan, exchange, line, found),
+        Entry::Exchange(exchange) => {
+            let origin = marks.is_origin(exchange);
+            add_missing_lists(plan, exchange, origin, line, found)
+        }
         Entry::Code(code) => add_if(!has_lines(plan, code), line, Warning::NoLines(code), found),
         Entry::Lines(_) => Ok(()),
         Entry::Group(group) => {
@@ -62,7 +65,8 @@ fn add_warnings<A: Allocator>(
         },
         Entry::Bar(place) => match plan.bar_at(place) {
             Some((exchange, _)) => {
-                add_if(!plan.is_origin(exchange), line, Warning::UnusedBar, found)
+                let unused = !marks.is_origin(exchange);
+                add_if(unused, line, Warning::UnusedBar, found)
             }
             None => Ok(()),
         },
@@ -106,14 +110,15 @@ fn has_lines<A: Allocator>(plan: &Plan<A>, code: CodeId) -> bool
 fn add_missing_lists<A: Allocator>(
     plan: &Plan<A>,
     exchange: ExchangeId,
+    origin: bool,
     line: u64,
     found: &mut Vec<(u64, Warning), A>,
 ) -> Result<(), NoMemory>
+    requires { origin ≡ is_origin plan.now exchange }
     ensures { OnOk result (found.new.items ≡ found.old.items ++ map (λ w. (line, w))
         (flat_map (λ c. warned_if (wants_list plan.now exchange c) (NoList c))
         (range_with_len 0 (length plan.now.codes)))) }
 {
-    let origin = plan.is_origin(exchange);
     for place in 0..plan.codes() {
         let code = CodeId::of(place);
         let wanting = wants_list(plan, exchange, origin, code);

@@ -29,6 +29,6 @@ declared_from ts old next new (Err e) t (same, inl h) = refused_by (unless (firs
 declared_from ts old next new (Err e) t (same, inr h) = rw (h.0, h.1) refl
 
 -- A refused declaration changes nothing.
-pub same_from : (refusal : Option PlanRefusal) (old next new : Plan) (o : Result (Unit {0}) PlanRefusal) → Declares refusal old next new o → IfErr (word_told o) (λ _. new ≡ old)
+pub same_from : (refusal : Option PlanRefusal) (old next new : Plan) (o : Result (Unit {0}) PlanRefusal) → Declares refusal old next new o → IfErr o (λ _. new ≡ old)
 same_from refusal old next new (Ok x) h = search
 same_from refusal old next new (Err e) h = h.0

@@ -20,6 +20,11 @@ use Rattle.tx_plantext.proofs.Places.{all_between, apart_front, all_weaker, none
 use Rattle.tx_plantext.proofs.ListLines.{IsLineOf, none_true, unless-none}
 use Rattle.tx_plan.proofs.NamesBack.{exchange_back, exchange_is_name, code_back, figures_are_code}
 
+-- the word for a direction says it
+pub direction_back : (d : Direction) → direction_of (direction_word d) ≡ Some d
+direction_back OneWay = refl
+direction_back BothWay = refl
+
 module _ (v : ℕ) (p : Plan) (h : IsPlan p) where
   -- ---- what was declared before the next line of each kind
   abbrev pub exchanges_so_far : List (List ℕ) → Plan
@@ -149,10 +154,6 @@ module _ (v : ℕ) (p : Plan) (h : IsPlan p) where
       let s = (exchange_back p h b k).back in
       let t = ap (exchange_named p) e in
       d (let z : a ≡ b = cc in z))
-
-  direction_back : (d : Direction) → direction_of (direction_word d) ≡ Some d
-  direction_back OneWay = refl
-  direction_back BothWay = refl
 
   direction_short : (d : Direction) → IsShortWord (direction_word d)
   direction_short OneWay = fixed_word (codes "ONEWAY") refl

@@ -1,3 +1,4 @@
 pub mod PlanText
 pub mod PlanWritten
 pub mod PlanFaults
+pub mod inner

@@ -7,12 +7,14 @@
 
 mod declaring;
 mod fault;
+mod plan_line;
 mod plan_reader;
 mod plan_writer;
 mod round_trip;
 
 pub use declaring::declare;
 pub use fault::{PlanFault, PlanWord, code_and_name};
+pub use plan_line::{LineFault, PlanLine};
 pub use plan_reader::{KEY, VERSIONS, read_plan, read_plan_from};
 pub use plan_writer::{write_plan, write_route};
 pub use round_trip::written_plans_read_back;

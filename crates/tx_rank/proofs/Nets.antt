@@ -5,7 +5,7 @@ use Rattle.std.specs.List.{list_any}
 use Rattle.std.specs.Option.{option_map_or}
 use Rattle.std.proofs.lemmas.Bool.{and_parts, or_cases, false≢true}
 use Rattle.tx_plan.specs.Plan.{Plan, Code, Group, Route, home_of}
-use Rattle.tx_plan.specs.Routes.{route_list, is_origin, is_origin_for, is_barred}
+use Rattle.tx_plan.specs.Routes.{route_list, is_origin, is_barred}
 use Rattle.tx_plan.specs.Circuits.{other_end, far_end, may_seize, is_both}
 use Rattle.tx_plan.specs.Rules.{IsPlan, IsCode, IsRange, IsGroup, IsRoute}
 use Rattle.tx_plan.specs.declared.range.LineRange.{LineRange}
@@ -37,9 +37,9 @@ module _ (p : Plan) (ok : IsPlan p) where
       let w = (all_among (IsCode p) p.codes k.0 ok.codes (among_at p.codes c k.0 k.1)).home in
       omega arith
 
-  origin_within : (c x : ℕ) → is_origin_for p x c ≡ true → x < length p.exchanges
-  origin_within c x h =
-      let o = any_among (λ (r : LineRange). home_of p r.code == x) p.ranges (and_parts (is_origin p x) (not (is_barred p x c)) h).0 in
+  pub origin_within : (x : ℕ) → is_origin p x ≡ true → x < length p.exchanges
+  origin_within x h =
+      let o = any_among (λ (r : LineRange). home_of p r.code == x) p.ranges h in
       let e = eqb-true (home_of p o.0.code) x o.2 in
       let w = home_within o.0.code (all_among (IsRange p) p.ranges o.0 ok.ranges o.1).code in
       omega arith
@@ -70,7 +70,7 @@ module _ (p : Plan) (ok : IsPlan p) where
           leads_from g x (ap (may_seize p g) (sym at) ∙ all_among (λ (h : ℕ). may_seize p h r.exchange ≡ true) r.groups g a m)
 
   pub is_net : (c : ℕ) → c < length p.codes → IsNet (net_of p c)
-  is_net c h = record { few = ok.few_exchanges; home = home_within c h; origins = origin_within c; leads = λ x g m. leads_in c x g m; listed = λ x. omega arith }
+  is_net c h = record { few = ok.few_exchanges; home = home_within c h; origins = λ x h. origin_within x (and_parts (is_origin p x) (not (is_barred p x c)) h).0; leads = λ x g m. leads_in c x g m; listed = λ x. omega arith }
 
 pub leads_somewhere : (p : Plan) → IsPlan p → (c x g : ℕ) → Among g (route_list p x c) → other_end p g x ≡ None → ⊥
 leads_somewhere p ok c x g m e = let l = leads_in p ok c x g m in let q = l.1 in let bad : ⊥ = cc in bad

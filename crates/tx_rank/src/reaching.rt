@@ -5,10 +5,13 @@ ghost use Rattle.tx_plan.specs.Among.{Among};
 ghost use Rattle.tx_plan.specs.Circuits.{other_end};
 ghost use Rattle.tx_plan.specs.Routes.{route_list};
 ghost use Rattle.tx_rank.specs.Walks.{net_of};
+ghost use Rattle.tx_rank.specs.Judged.{AreOrigins};
 ghost use Rattle.tx_rank.specs.Reached.{is_marked, AreReached};
 ghost use Rattle.tx_rank.specs.inner.Seen.{AreSeen, LeadsToSeen, StaysSeen};
 
+use crate::code_routes::CodeRoutes;
 use crate::marks::is_marked;
+use crate::routes::Routes;
 use std::alloc::Allocator;
 use tx_plan::{CodeId, ExchangeId, GroupId, Plan};
 use tx_text::NoMemory;
@@ -17,12 +20,14 @@ use tx_text::NoMemory;
 pub fn reached<A: Allocator + Copy>(
     alloc: A,
     plan: &Plan<A>,
+    origins: &[bool],
     code: CodeId,
 ) -> Result<Vec<bool, A>, NoMemory>
-    requires { code < length plan.now.codes }
+    requires code { code < length plan.now.codes }
+    requires origins { AreOrigins plan.now origins.now }
     ensures { IfOk result (λ marks. AreReached (net_of plan.now code) marks.items) }
 {
-    let mut seen = origins(alloc, plan, code)?;
+    let mut seen = starts(alloc, plan, origins, code)?;
     let mut opened = vec![in alloc; false; plan.exchanges()]?;
     while let Some(exchange) = next(&seen, &opened) {
         opened[exchange.index()] = true;
@@ -32,17 +37,24 @@ pub fn reached<A: Allocator + Copy>(
 }
 
 /// Marks each exchange where calls for the code may start.
-fn origins<A: Allocator + Copy>(
+fn starts<A: Allocator + Copy>(
     alloc: A,
     plan: &Plan<A>,
+    origins: &[bool],
     code: CodeId,
 ) -> Result<Vec<bool, A>, NoMemory>
-    requires { code < length plan.now.codes }
+    requires code { code < length plan.now.codes }
+    requires origins { AreOrigins plan.now origins.now }
     ensures { IfOk result (λ marks. AreSeen (net_of plan.now code) marks.items) }
 {
     let mut marks = Vec::with_capacity(alloc, plan.exchanges())?;
     for place in 0..plan.exchanges() {
-        marks.push_reserved(plan.is_origin_for(ExchangeId::of(place), code));
+        let routes = CodeRoutes {
+            plan,
+            origins,
+            code,
+        };
+        marks.push_reserved(routes.is_origin(ExchangeId::of(place)));
     }
     Ok(marks)
 }

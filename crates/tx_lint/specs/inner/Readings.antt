@@ -1,13 +1,11 @@
 -- What is held while the lines of a text are read.
 use Rattle.std.specs.Prelude.{◌≡◌, ℕ, List, [], ◌∷◌, ◌++◌, map, if◌then◌else◌}
-use Rattle.std.specs.Option.{option_to_list}
-use Rattle.tx_text.specs.declared.frame.FaultKind.{FaultKind}
+use Rattle.std.specs.Option.{option_map, option_to_list}
 use Rattle.tx_text.specs.Text.{Line}
-use Rattle.tx_text.specs.Words.{words_of}
-use Rattle.tx_plantext.specs.declared.fault.PlanWord.{PlanWord}
+use Rattle.tx_plantext.specs.PlanText.{declare}
 use Rattle.tx_lint.specs.declared.entry.Entry.{Entry}
 use Rattle.tx_lint.specs.declared.lines.Reading.{Reading}
-use Rattle.tx_lint.specs.AllFaults.{Fault, Progress, fault_in_line, fault_of_line, line_on, faults_of, progress_of}
+use Rattle.tx_lint.specs.AllFaults.{Fault, Progress, fault_in_line, refused, declared_on, fault_of_line, line_on, faults_of, progress_of}
 use Rattle.tx_lint.specs.Lints.{fault_held}
 
 -- what was read, as it is held
@@ -23,16 +21,18 @@ progress_held r = record {
 abbrev pub faults_held : {A : Type 0} → Reading A → List Fault
 faults_held r = map fault_held r.faults.items
 
--- a line is reported to be at fault
-abbrev pub Told : {A : Type 0} → Reading A → Reading A → Line → FaultKind PlanWord → Type 0
-Told old new l kind = faults_held new
-    ≡ faults_held old ++ fault_in_line (progress_held old) l.number (words_of l.bytes) kind ∷ []
-
 -- the line of an entry is noted, and nothing else changes
 pub record Noted {A : Type 0} (old new : Reading A) (n : ℕ) (e : Entry) : Type 0 where
   pub progress : progress_held new
       ≡ record (progress_held old) { entries = old.entries.items ++ (n, e) ∷ [] }
   pub faults : faults_held new ≡ faults_held old
+
+-- what a line of these words declares was added, or the line was reported
+pub record Declared {A : Type 0} (old new : Reading A) (n : ℕ) (ws : List (List ℕ)) : Type 0 where
+  pub faults : faults_held new ≡ faults_held old
+      ++ option_to_list (option_map (fault_in_line (progress_held old) n ws)
+      (refused (declare 2 old.plan ws)))
+  pub progress : progress_held new ≡ declared_on (progress_held old) n ws (declare 2 old.plan ws)
 
 -- a line was taken in
 pub record TookIn {A : Type 0} (old new : Reading A) (l : Line) : Type 0 where

@@ -5,9 +5,13 @@ use Rattle.tx_draw.specs.CodeDrawing.{code_drawing}
 use Rattle.tx_jobs.specs.declared.job_fault.JobFault.TheVariants.{Write, NoMemory}
 use Rattle.tx_jobs.proofs.draw.draw_finding.Goals as goal
 
+pub returns-in_err-origins-clause-drew : goal.returns-in_err-origins-clause-drew
+returns-in_err-origins-clause-drew g c =
+    inr (exits_with c.from_residual.result NoMemory c.from_residual.ensures.1, refl)
+
 pub returns-in_err-marks-clause-drew : goal.returns-in_err-marks-clause-drew
 returns-in_err-marks-clause-drew g c =
-    inr (exits_with c.from_residual.result NoMemory c.from_residual.ensures.1, refl)
+    inr (exits_with c.from_residual-in_err-marks.result NoMemory c.from_residual-in_err-marks.ensures.1, refl)
 
 pub returns-in_err-write_code_drawing-clause-drew : goal.returns-in_err-write_code_drawing-clause-drew
 returns-in_err-write_code_drawing-clause-drew g c =

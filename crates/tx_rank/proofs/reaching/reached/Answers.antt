@@ -17,7 +17,7 @@ next-requires-clause-long g c = rw (c.deref.ensures.value, c.deref-in-loop-excha
 pub open-requires : goal.open-requires
 open-requires g c =
     record {
-      code = c.requires;
+      code = c.requires.code;
       seen = rw c.deref_mut.ensures.value c.loop-exchange.invariant.seen;
       here = rw c.deref_mut.ensures.value (rw c.deref.ensures.value at c.in-Some.ensures.some.1);
     }
