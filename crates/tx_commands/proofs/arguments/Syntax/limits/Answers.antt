@@ -1,4 +1,4 @@
-use Rattle.std.proofs.Common.{◌≡◌, IfOk, subst}
+use Rattle.std.proofs.Common.{subst}
 use Rattle.clap.specs.Words.{rule_of, with_rule}
 use Rattle.tx_commands.specs.Grammar as grammar
 use Rattle.tx_commands.specs.inner.Takes.{Takes}
