@@ -1,87 +1,38 @@
 // The line of a reply, in room of its own, and the words that replies and tickets share.
 ghost use Rattle.std.specs.Prelude.{◌≡◌, ◌+◌, ◌≤◌, ◌++◌, [], codes, decimal, length, ◌<◌};
+ghost use Rattle.arrayvec.specs.ArrayVec.{array_vec_len};
 ghost use Rattle.tx_text.specs.Wrote.{Wrote};
 ghost use Rattle.tx_plan.specs.Plan.{exchange_name};
 ghost use Rattle.tx_machine.specs.declared.reply.Reply.TheVariants.{Lost};
 ghost use Rattle.tx_tickets.specs.Texts.{circuit_text, line_text, stands_text, reply_text, service_text, cause_text, refusal_text};
 
+use arrayvec::ArrayVec;
 use itoa::Buffer;
 use std::alloc::Allocator;
-use std::marker::Model;
 use tx_machine::{Cause, Refusal, Reply, Service};
 use tx_plan::{Circuit, ExchangeId, Line, Plan};
 use tx_text::{Sink, WriteFault, write_bytes, write_parts};
 
-/// The bytes of a line so far, in room of at most 255 bytes that is lent. The caller sees that they
-/// have room.
-#[derive(Drop)]
-pub(crate) struct LineRoom<'a, const N: usize> {
-    room: &'a mut [u8; N],
-    len: usize,
+/// Appends bytes to a line.
+pub(crate) fn put<const N: usize>(line: &mut ArrayVec<u8, N>, bytes: &[u8])
+    requires { array_vec_len line.old + length bytes.now ≤ N }
+    ensures text { line.new.items ≡ line.old.items ++ bytes.now }
+    ensures width { array_vec_len line.new ≡ array_vec_len line.old + length bytes.now }
+{
+    match line.try_extend_from_slice(bytes) {
+        Ok(()) => {}
+        Err(_) => unreachable!(),
+    }
 }
 
-impl<'a, const N: usize> Model for LineRoom<'a, N> {
-    ghost use Rattle.std.specs.Prelude.{ℕ, List, take, ◌≤◌};
-
-    ghost Value = { List ℕ };
-
-    ghost view = { λ l. take l.len l.room.now };
-
-    ghost invariant = { λ l. (l.len ≤ N) × (N ≤ 255) };
-}
-
-impl<'a, const N: usize> LineRoom<'a, N> {
-    /// A line of no bytes.
-    pub(crate) fn new(room: &'a mut [u8; N]) -> LineRoom<'a, N>
-        requires { N ≤ 255 }
-        ensures { result ≡ [] }
-    {
-        LineRoom { room, len: 0 }
-    }
-
-    /// The line so far.
-    pub(crate) fn bytes(&self) -> &[u8]
-        ensures { result.now ≡ self.now }
-    {
-        &self.room[..self.len]
-    }
-
-    /// How many bytes it has.
-    pub(crate) fn len(&self) -> usize
-        ensures { result ≡ length self.now }
-    {
-        self.bytes().len()
-    }
-
-    /// Goes back to no bytes.
-    pub(crate) fn clear(&mut self)
-        ensures { self.new ≡ [] }
-    {
-        self.len = 0;
-    }
-
-    /// Appends bytes.
-    pub(crate) fn put(&mut self, bytes: &[u8])
-        requires { length self.old + length bytes.now ≤ N }
-        ensures text { self.new ≡ self.old ++ bytes.now }
-        ensures width { length self.new ≡ length self.old + length bytes.now }
-    {
-        let from = self.len;
-        let to = from + bytes.len();
-        let room = &mut self.room[..];
-        room[from..to].copy_from_slice(bytes);
-        self.len = to;
-    }
-
-    /// Appends the figures of a number.
-    pub(crate) fn put_number(&mut self, number: u64)
-        requires { length self.old + 20 ≤ N }
-        ensures text { self.new ≡ self.old ++ decimal number }
-        ensures width { length self.new ≤ length self.old + 20 }
-    {
-        let mut figures = Buffer::new();
-        self.put(figures.format(number).as_bytes());
-    }
+/// Appends the figures of a number to a line.
+pub(crate) fn put_number<const N: usize>(line: &mut ArrayVec<u8, N>, number: u64)
+    requires { array_vec_len line.old + 20 ≤ N }
+    ensures text { line.new.items ≡ line.old.items ++ decimal number }
+    ensures width { array_vec_len line.new ≤ array_vec_len line.old + 20 }
+{
+    let mut figures = Buffer::new();
+    put(line, figures.format(number).as_bytes());
 }
 
 /// A service code, as it is printed.
@@ -139,8 +90,8 @@ pub(crate) fn stands_word(stands: bool) -> &'static [u8]
     if stands { b" STANDS" } else { b" NC" }
 }
 
-/// How many bytes the line of a reply may have at most.
-const ROOM: usize = 64;
+/// Room for the line of a reply, which has at most 64 bytes.
+type Room = ArrayVec<u8, 64>;
 
 /// Writes the line of a reply, as `CONNECTED 41 10002`, with its LF. Where the sink fails, a front
 /// of the line was taken.
@@ -151,16 +102,15 @@ pub fn write_reply<A: Allocator, W: Sink>(
 ) -> Result<(), WriteFault>
     ensures { Wrote W.taken W.failed sink.old sink.new (reply_text plan.now reply.now) result }
 {
-    let mut room = [0; ROOM];
-    let mut line = LineRoom::new(&mut room);
+    let mut line = Room::new();
     put_reply(reply, plan, &mut line);
-    write_bytes(line.bytes(), sink)
+    write_bytes(line.as_slice(), sink)
 }
 
 /// Puts a reply on an empty line.
-fn put_reply<A: Allocator>(reply: &Reply, plan: &Plan<A>, line: &mut LineRoom<'_, ROOM>)
-    requires { line.old ≡ [] }
-    ensures { line.new ≡ reply_text plan.now reply.now }
+fn put_reply<A: Allocator>(reply: &Reply, plan: &Plan<A>, line: &mut Room)
+    requires { line.old.items ≡ [] }
+    ensures { line.new.items ≡ reply_text plan.now reply.now }
 {
     match reply {
         Reply::Keyed(n) => put_count(b"KEYED ", u64::from(*n), line),
@@ -174,81 +124,81 @@ fn put_reply<A: Allocator>(reply: &Reply, plan: &Plan<A>, line: &mut LineRoom<'_
             a_stands,
             b_stands,
         } => put_head_on(*a, *a_stands, *b, *b_stands, line),
-        Reply::Cleared => line.put(b"CLEARED\n"),
-        Reply::Done => line.put(b"DONE\n"),
+        Reply::Cleared => put(line, b"CLEARED\n"),
+        Reply::Done => put(line, b"DONE\n"),
         Reply::Lost(n) => put_count(b"LOST ", *n, line),
         Reply::Refused(refusal) => put_word(b"REFUSED ", refusal_word(*refusal), line),
     }
 }
 
 /// Puts a first word, given with its space, and another.
-fn put_word(first: &[u8], word: &[u8], line: &mut LineRoom<'_, ROOM>)
+fn put_word(first: &[u8], word: &[u8], line: &mut Room)
     requires first { length first.now ≤ 10 }
     requires word { length word.now ≤ 20 }
-    requires line { line.old ≡ [] }
-    ensures { line.new ≡ first.now ++ (word.now ++ codes "\n") }
+    requires line { line.old.items ≡ [] }
+    ensures { line.new.items ≡ first.now ++ (word.now ++ codes "\n") }
 {
-    line.put(first);
-    line.put(word);
-    line.put(b"\n");
+    put(line, first);
+    put(line, word);
+    put(line, b"\n");
 }
 
 /// Puts the exchange that a call came to.
-fn put_at<A: Allocator>(exchange: ExchangeId, plan: &Plan<A>, line: &mut LineRoom<'_, ROOM>)
-    requires { line.old ≡ [] }
-    ensures { line.new ≡ codes "AT " ++ (exchange_name plan.now exchange ++ codes "\n") }
+fn put_at<A: Allocator>(exchange: ExchangeId, plan: &Plan<A>, line: &mut Room)
+    requires { line.old.items ≡ [] }
+    ensures { line.new.items ≡ codes "AT " ++ (exchange_name plan.now exchange ++ codes "\n") }
 {
-    line.put(b"AT ");
-    line.put(plan.exchange_name(exchange));
-    line.put(b"\n");
+    put(line, b"AT ");
+    put(line, plan.exchange_name(exchange));
+    put(line, b"\n");
 }
 
 /// Puts a first word, given with its space, and a number.
-fn put_count(first: &[u8], count: u64, line: &mut LineRoom<'_, ROOM>)
+fn put_count(first: &[u8], count: u64, line: &mut Room)
     requires first { length first.now ≤ 10 }
-    requires line { line.old ≡ [] }
-    ensures { line.new ≡ first.now ++ (decimal count ++ codes "\n") }
+    requires line { line.old.items ≡ [] }
+    ensures { line.new.items ≡ first.now ++ (decimal count ++ codes "\n") }
 {
-    line.put(first);
-    line.put_number(count);
-    line.put(b"\n");
+    put(line, first);
+    put_number(line, count);
+    put(line, b"\n");
 }
 
-fn put_circuit<A: Allocator>(circuit: &Circuit, plan: &Plan<A>, line: &mut LineRoom<'_, ROOM>)
-    requires { line.old ≡ [] }
-    ensures { line.new ≡ codes "SEIZED " ++ (circuit_text plan.now circuit.now ++ codes "\n") }
+fn put_circuit<A: Allocator>(circuit: &Circuit, plan: &Plan<A>, line: &mut Room)
+    requires { line.old.items ≡ [] }
+    ensures { line.new.items ≡ codes "SEIZED " ++ (circuit_text plan.now circuit.now ++ codes "\n") }
 {
-    line.put(b"SEIZED ");
-    line.put(plan.group_name(circuit.group));
-    line.put(b".");
-    line.put_number(u64::from(circuit.number));
-    line.put(b"\n");
+    put(line, b"SEIZED ");
+    put(line, plan.group_name(circuit.group));
+    put(line, b".");
+    put_number(line, u64::from(circuit.number));
+    put(line, b"\n");
 }
 
-fn put_connected<A: Allocator>(called: Line, plan: &Plan<A>, line: &mut LineRoom<'_, ROOM>)
-    requires { line.old ≡ [] }
-    ensures { line.new ≡ codes "CONNECTED " ++ (line_text plan.now called ++ codes "\n") }
+fn put_connected<A: Allocator>(called: Line, plan: &Plan<A>, line: &mut Room)
+    requires { line.old.items ≡ [] }
+    ensures { line.new.items ≡ codes "CONNECTED " ++ (line_text plan.now called ++ codes "\n") }
 {
-    line.put(b"CONNECTED ");
-    line.put(plan.code_figures(called.code));
-    line.put(b" ");
-    line.put(called.national.bytes());
-    line.put(b"\n");
+    put(line, b"CONNECTED ");
+    put(line, plan.code_figures(called.code));
+    put(line, b" ");
+    put(line, called.national.bytes());
+    put(line, b"\n");
 }
 
 /// Puts the two calls of a head-on collision.
-fn put_head_on(a: u32, a_stands: bool, b: u32, b_stands: bool, line: &mut LineRoom<'_, ROOM>)
-    requires { line.old ≡ [] }
-    ensures { line.new ≡ codes "HEADON " ++ (decimal a ++ (stands_text a_stands
+fn put_head_on(a: u32, a_stands: bool, b: u32, b_stands: bool, line: &mut Room)
+    requires { line.old.items ≡ [] }
+    ensures { line.new.items ≡ codes "HEADON " ++ (decimal a ++ (stands_text a_stands
         ++ (codes " " ++ (decimal b ++ (stands_text b_stands ++ codes "\n"))))) }
 {
-    line.put(b"HEADON ");
-    line.put_number(u64::from(a));
-    line.put(stands_word(a_stands));
-    line.put(b" ");
-    line.put_number(u64::from(b));
-    line.put(stands_word(b_stands));
-    line.put(b"\n");
+    put(line, b"HEADON ");
+    put_number(line, u64::from(a));
+    put(line, stands_word(a_stands));
+    put(line, b" ");
+    put_number(line, u64::from(b));
+    put(line, stands_word(b_stands));
+    put(line, b"\n");
 }
 
 /// Writes a first word, given with its space, and a circuit, as `SEIZED G1.12`, with its LF.

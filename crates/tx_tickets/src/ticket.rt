@@ -1,17 +1,19 @@
 // The line of a ticket.
 ghost use Rattle.std.specs.Prelude.{◌≡◌, ◌≤◌, ◌++◌, [], codes, length};
 ghost use Rattle.std.specs.List.{flat_map};
+ghost use Rattle.arrayvec.specs.ArrayVec.{array_vec_len};
 ghost use Rattle.tx_text.specs.Wrote.{Wrote};
 ghost use Rattle.tx_tickets.specs.Texts.{hop_text, caller_text, events_text, why_text, ticket_text};
 
-use crate::reply::{LineRoom, cause_word};
+use crate::reply::{cause_word, put, put_number};
+use arrayvec::ArrayVec;
 use std::alloc::Allocator;
 use tx_machine::{Hop, Ticket};
 use tx_plan::Plan;
 use tx_text::{Sink, WriteFault, write_bytes};
 
-/// How many bytes the room of a ticket's line has.
-const ROOM: usize = 192;
+/// Room for the line of a ticket, or for a part of it.
+type Room = ArrayVec<u8, 192>;
 
 /// A line of more bytes may have no room for one more hop and an LF.
 const FULL: usize = 152;
@@ -26,60 +28,51 @@ pub fn write_ticket<A: Allocator, B: Allocator, W: Sink>(
 ) -> Result<(), WriteFault>
     ensures { Wrote W.taken W.failed sink.old sink.new (ticket_text plan.now ticket.now) result }
 {
-    let mut room = [0; ROOM];
-    let mut line = LineRoom::new(&mut room);
+    let mut line = Room::new();
     put_caller(ticket, plan, &mut line);
     put_events(ticket, &mut line);
     put_why(ticket, plan, &mut line);
-    write_path(ticket.path.hops(), plan, line, sink)
+    write_path(ticket.path.hops(), plan, &mut line, sink)
 }
 
 /// Puts the call's number, its line and what was keyed.
-fn put_caller<A: Allocator, B: Allocator>(
-    ticket: &Ticket<A>,
-    plan: &Plan<B>,
-    line: &mut LineRoom<'_, ROOM>,
-)
-    requires { line.old ≡ [] }
-    ensures text { line.new ≡ caller_text plan.now ticket.now }
-    ensures width { length line.new ≤ 66 }
+fn put_caller<A: Allocator, B: Allocator>(ticket: &Ticket<A>, plan: &Plan<B>, line: &mut Room)
+    requires { line.old.items ≡ [] }
+    ensures text { line.new.items ≡ caller_text plan.now ticket.now }
+    ensures width { array_vec_len line.new ≤ 66 }
 {
-    line.put(b"T ");
-    line.put_number(u64::from(ticket.number));
-    line.put(b" FROM ");
-    line.put(plan.code_figures(ticket.line.code));
-    line.put(b" ");
-    line.put(ticket.line.national.bytes());
-    line.put(b" TO ");
-    line.put(ticket.keyed.bytes());
-    line.put(b" EV ");
+    put(line, b"T ");
+    put_number(line, u64::from(ticket.number));
+    put(line, b" FROM ");
+    put(line, plan.code_figures(ticket.line.code));
+    put(line, b" ");
+    put(line, ticket.line.national.bytes());
+    put(line, b" TO ");
+    put(line, ticket.keyed.bytes());
+    put(line, b" EV ");
 }
 
 /// Puts the events of the call's start and its end.
-fn put_events<A: Allocator>(ticket: &Ticket<A>, line: &mut LineRoom<'_, ROOM>)
-    requires { length line.old ≤ 66 }
-    ensures text { line.new ≡ line.old ++ events_text ticket.now }
-    ensures width { length line.new ≤ 111 }
+fn put_events<A: Allocator>(ticket: &Ticket<A>, line: &mut Room)
+    requires { array_vec_len line.old ≤ 66 }
+    ensures text { line.new.items ≡ line.old.items ++ events_text ticket.now }
+    ensures width { array_vec_len line.new ≤ 111 }
 {
-    line.put_number(ticket.keyed_at);
-    line.put(b" ");
-    line.put_number(ticket.ended_at);
-    line.put(b" BY ");
+    put_number(line, ticket.keyed_at);
+    put(line, b" ");
+    put_number(line, ticket.ended_at);
+    put(line, b" BY ");
 }
 
 /// Puts why the call ended, and where it started.
-fn put_why<A: Allocator, B: Allocator>(
-    ticket: &Ticket<A>,
-    plan: &Plan<B>,
-    line: &mut LineRoom<'_, ROOM>,
-)
-    requires { length line.old ≤ 111 }
-    ensures text { line.new ≡ line.old ++ why_text plan.now ticket.now }
-    ensures width { length line.new ≤ 128 }
+fn put_why<A: Allocator, B: Allocator>(ticket: &Ticket<A>, plan: &Plan<B>, line: &mut Room)
+    requires { array_vec_len line.old ≤ 111 }
+    ensures text { line.new.items ≡ line.old.items ++ why_text plan.now ticket.now }
+    ensures width { array_vec_len line.new ≤ 128 }
 {
-    line.put(cause_word(ticket.cause));
-    line.put(b" VIA ");
-    line.put(plan.exchange_name(ticket.start));
+    put(line, cause_word(ticket.cause));
+    put(line, b" VIA ");
+    put(line, plan.exchange_name(ticket.start));
 }
 
 /// Writes a line that has begun, with each hop after it and an LF. Where the next hop may have no
@@ -87,36 +80,35 @@ fn put_why<A: Allocator, B: Allocator>(
 fn write_path<A: Allocator, W: Sink>(
     hops: &[Hop],
     plan: &Plan<A>,
-    line: LineRoom<'_, ROOM>,
+    line: &mut Room,
     sink: &mut W,
 ) -> Result<(), WriteFault>
-    requires { length line ≤ 128 }
+    requires { array_vec_len line.old ≤ 128 }
     ensures { Wrote W.taken W.failed sink.old sink.new
-        (line.entry ++ (flat_map (hop_text plan.now) hops.now ++ codes "\n")) result }
+        (line.old.items ++ (flat_map (hop_text plan.now) hops.now ++ codes "\n")) result }
 {
-    let mut line = line;
     for hop in hops {
-        put_hop(hop, plan, &mut line);
+        put_hop(hop, plan, line);
         if line.len() <= FULL {
             continue;
         }
-        write_bytes(line.bytes(), sink)?;
+        write_bytes(line.as_slice(), sink)?;
         line.clear();
     }
-    line.put(b"\n");
-    write_bytes(line.bytes(), sink)
+    put(line, b"\n");
+    write_bytes(line.as_slice(), sink)
 }
 
 /// Puts a hop: its circuit, and the exchange that it leads to.
-fn put_hop<A: Allocator>(hop: &Hop, plan: &Plan<A>, line: &mut LineRoom<'_, ROOM>)
-    requires { length line.old ≤ 152 }
-    ensures text { line.new ≡ line.old ++ hop_text plan.now hop.now }
-    ensures width { length line.new ≤ 191 }
+fn put_hop<A: Allocator>(hop: &Hop, plan: &Plan<A>, line: &mut Room)
+    requires { array_vec_len line.old ≤ 152 }
+    ensures text { line.new.items ≡ line.old.items ++ hop_text plan.now hop.now }
+    ensures width { array_vec_len line.new ≤ 191 }
 {
-    line.put(b" ");
-    line.put(plan.group_name(hop.circuit.group));
-    line.put(b".");
-    line.put_number(u64::from(hop.circuit.number));
-    line.put(b" ");
-    line.put(plan.exchange_name(hop.far));
+    put(line, b" ");
+    put(line, plan.group_name(hop.circuit.group));
+    put(line, b".");
+    put_number(line, u64::from(hop.circuit.number));
+    put(line, b" ");
+    put(line, plan.exchange_name(hop.far));
 }
