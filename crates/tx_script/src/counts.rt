@@ -1,10 +1,10 @@
 // What is counted of a run for its summary.
 ghost use Rattle.std.specs.Prelude.{◌≡◌, ◌+◌, ◌<◌, ◌^◌, true, false, IfOk};
 ghost use Rattle.tx_plan.specs.Circuits.{count_of};
-ghost use Rattle.tx_machine.specs.Sound.{is_refused};
 ghost use Rattle.tx_script.specs.inner.Counting.{change_at, cleared, count_for, counted, followed, marked, nothing_counted, one_counted, use_at, uses_counted};
 
 use crate::group_use::GroupUse;
+use crate::runner::is_refused;
 use std::alloc::Allocator;
 use std::marker::Model;
 use tx_machine::{Cause, Event, Reply};
@@ -25,13 +25,6 @@ impl<A: Allocator> Model for Counts<A> {
     ghost Value = { Counted };
 
     ghost view = { λ c. record { calls = c.calls; groups = c.groups.items } };
-}
-
-/// Whether the event was refused.
-pub(crate) fn is_refused(reply: &Reply) -> bool
-    ensures { result ≡ is_refused reply.now }
-{
-    matches!(reply, Reply::Refused(_))
 }
 
 impl<A: Allocator> Counts<A> {

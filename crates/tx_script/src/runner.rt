@@ -16,7 +16,6 @@ ghost use Rattle.tx_script.specs.inner.Counting.{AreNew, asked_of, AreFew, count
 ghost use Rattle.tx_script.specs.Untold.{StopsAtTicket};
 ghost use Rattle.tx_script.specs.inner.LineAnswers.{EventTold, LineTold, mark_with};
 
-use crate::counts::is_refused;
 use crate::ending::finish;
 use crate::event_words::event_of;
 use crate::run_cause::RunCause;
@@ -25,7 +24,7 @@ use crate::script_word::{ScriptKind, ScriptWord};
 use crate::summary::Summary;
 use crate::teller::{Tally, Teller, Telling, write_asked_echo};
 use std::alloc::Allocator;
-use tx_machine::{Event, Network};
+use tx_machine::{Event, Network, Reply};
 use tx_plan::Plan;
 use tx_text::{
     FaultAt, FaultKind, FrameFault, FrameReader, FrameStep, FrameStop, Sink, Source, WriteFault,
@@ -179,6 +178,13 @@ fn run_lines<A: Allocator, B: Allocator, N: Network, R: Source, W: Sink>(
             }
         }
     }
+}
+
+/// Whether the event was refused.
+pub(crate) fn is_refused(reply: &Reply) -> bool
+    ensures { result ≡ is_refused reply.now }
+{
+    matches!(reply, Reply::Refused(_))
 }
 
 impl<A: Allocator> Teller<A> {
