@@ -111,12 +111,6 @@ module _ (p : Plan) (codes : List Code) (c : Calls) (ks : List (List EndKeys)) (
   pub sound_table : (t' : Table) → AreTogether p (calls_in c) t' b numbers → AreSound p codes c ks b t' numbers made room
   sound_table t' k = record { rules = sound.rules; codes_are = sound.codes_are; lines = sound.lines; together = k; keyed = sound.keyed; hop_room = sound.hop_room; ticket_room = sound.ticket_room }
 
-  -- other groups are failed or blocked, or other circuits out of service
-  pub sound_marks : (failed blocked : set.FinSet nat_cmp) (out : set.FinSet circuit_cmp) → AreSound p codes c ks b (record t { failed = failed; blocked = blocked; out = out }) numbers made room
-  sound_marks failed blocked out =
-      sound_table (record t { failed = failed; blocked = blocked; out = out })
-      (record { inv = sound.together.inv; used = record { groups = sound.together.used.groups; carried = sound.together.used.carried; seized = sound.together.used.seized }; engaged = sound.together.engaged })
-
   -- ONE CALL CHANGES
   module _ (key : ℕ) (k : Kept) (was : kept_at c key ≡ Some k) where
     pub inside : Among k.call (calls_in c)

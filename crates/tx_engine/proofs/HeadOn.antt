@@ -98,14 +98,3 @@ module _ {A : Type 0} (n : EngineState A) (sound : IsSound n) (key other : ℕ) 
 
     pub kept_thrown : AreThrown c2 key other k d
     kept_thrown = record { one = up2.others key (λ e. keys_differ (sym e)) ∙ up1.changed; two = up2.changed }
-
-if_events : (p : Plan) (cause : Cause) (b : Bool) (n : ℕ) (s : State) → (ended_if p cause b n s).events ≡ s.events
-if_events p cause true n s = refl
-if_events p cause false n s = refl
-
-pub pair_events : (p : Plan) (cause : Cause) (a : ℕ) (a_ends : Bool) (b : ℕ) (b_ends : Bool) (s : State) → (pair_ended p cause a a_ends b b_ends s).events ≡ s.events
-pair_events p cause a a_ends b b_ends s = by (nat_lt a b)
-  where
-    by : (z : Bool) → (if z then ended_if p cause b_ends b (ended_if p cause a_ends a s) else ended_if p cause a_ends a (ended_if p cause b_ends b s)).events ≡ s.events
-    by true = if_events p cause b_ends b (ended_if p cause a_ends a s) ∙ if_events p cause a_ends a s
-    by false = if_events p cause a_ends a (ended_if p cause b_ends b s) ∙ if_events p cause b_ends b s

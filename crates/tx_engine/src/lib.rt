@@ -13,12 +13,10 @@
 //! ```
 #![tactic(auto)]
 
-mod confirm;
 mod ending;
 mod engine;
 mod failing;
 mod head_on;
-mod keying;
-mod route;
+mod setting_up;
 
 pub use engine::Engine;

@@ -63,15 +63,6 @@ module _ (p : Plan) (s : State) (c : Call) (code : ℕ) (begins : code_of p c.ke
   pub routed_trunk : IsLet → (home_of p code == place_of p c) ≡ false → routed p s c ≡ on_the_way
   routed_trunk l h = ap (routed_for p s c) begins ∙ (λ i. if is_let l i then answered p c.number Na s else if h i then at_home else on_the_way)
 
--- what a line of the plan answers
-pub known_answer : (p : Plan) (s : State) (l : Line) (f a e : Bool) → is_line p l ≡ true → f ≡ set.contains s.faulty l → a ≡ set.contains s.away l → e ≡ is_engaged s l
-    → line_answer p s l ≡ (if f then Some Der else if a then Some Abs else if e then Some Occ else None)
-known_answer p s l f a e k x y z = λ i. if not (k i) then Some Np else if sym x i then Some Der else if sym y i then Some Abs else if sym z i then Some Occ else None
-
--- no line of the plan
-pub unknown_answer : (p : Plan) (s : State) (l : Line) → is_line p l ≡ false → line_answer p s l ≡ Some Np
-unknown_answer p s l k = λ i. if not (k i) then Some Np else if set.contains s.faulty l then Some Der else if set.contains s.away l then Some Abs else if is_engaged s l then Some Occ else None
-
 -- THE FIRST CIRCUIT IN A LIST OF GROUPS, AS IT IS LOOKED THROUGH
 module _ (look : ℕ → Option Circuit) (gs : List ℕ) (i : ℕ) where
   here : (g : ℕ) (b : Bool) → i < length gs → g ≡ get_or gs i g → is_some (look g) ≡ b → first_in look (drop i gs) ≡ (if b then look g else first_in look (drop (i + 1) gs))

@@ -1,6 +1,7 @@
 pub mod Members
 pub mod Call
 pub mod Ended
+pub mod Causes
 pub mod State
 pub mod InUse
 pub mod Lines

@@ -1,4 +1,6 @@
 // Why calls end.
+ghost use Rattle.std.specs.Prelude.{◌≡◌};
+ghost use Rattle.tx_machine.specs.Causes.{index_of};
 
 /// A service code: why a call was not put through.
 #[derive(Clone, Copy, Debug, PartialEq, Eq)]
@@ -28,4 +30,36 @@ pub enum Cause {
     ClearedByCalled,
     /// A group failed that it had a circuit of, carried or seized.
     Lost,
+}
+
+impl Cause {
+    /// All causes, in the order in which they are told.
+    pub const ALL: [Cause; 9] = [
+        Cause::Service(Service::Occ),
+        Cause::Service(Service::Nc),
+        Cause::Service(Service::Np),
+        Cause::Service(Service::Der),
+        Cause::Service(Service::Abs),
+        Cause::Service(Service::Na),
+        Cause::ClearedByCaller,
+        Cause::ClearedByCalled,
+        Cause::Lost,
+    ];
+
+    /// Its index among them.
+    pub fn index(self) -> usize
+        ensures { result ≡ index_of self }
+    {
+        match self {
+            Cause::Service(Service::Occ) => 0,
+            Cause::Service(Service::Nc) => 1,
+            Cause::Service(Service::Np) => 2,
+            Cause::Service(Service::Der) => 3,
+            Cause::Service(Service::Abs) => 4,
+            Cause::Service(Service::Na) => 5,
+            Cause::ClearedByCaller => 6,
+            Cause::ClearedByCalled => 7,
+            Cause::Lost => 8,
+        }
+    }
 }

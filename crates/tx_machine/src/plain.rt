@@ -19,7 +19,6 @@ mod looking;
 mod marks;
 mod route;
 
-use crate::plain::calls::same_line;
 use crate::plain::marks::Marks;
 use crate::{Event, Network, OpenCall, Reply, Ticket, refusal_of};
 use std::alloc::{Allocator, Global};
@@ -171,12 +170,5 @@ impl<'p, A: Allocator + Copy> Network for Plain<'p, A> {
 fn take_line<A: Allocator>(lines: &mut Vec<Line, A>, line: &Line)
     ensures { lines.new.items ≡ filter (λ m. not (same_line m line.now)) lines.old.items }
 {
-    let mut at = 0;
-    while at < lines.len() {
-        if same_line(&lines[at], line) {
-            lines.remove(at);
-        } else {
-            at += 1;
-        }
-    }
+    lines.retain(|other| other != line);
 }

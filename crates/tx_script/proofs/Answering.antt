@@ -12,7 +12,7 @@ use Rattle.tx_machine.specs.Step.{step}
 use Rattle.tx_machine.specs.Runs.{moment}
 use Rattle.tx_tickets.specs.Texts.{reply_text, ticket_text}
 use Rattle.tx_machine.specs.Sound.{is_refused}
-use Rattle.tx_script.specs.declared.answer.Answered.{Answered}
+use Rattle.tx_script.specs.declared.runner.Answered.{Answered}
 use Rattle.tx_machine.specs.Drained.{drained}
 use Rattle.tx_script.specs.inner.LineAnswers.{count_of}
 use Rattle.tx_script.specs.Untold.{StopsAtTicket, IsUntold}

@@ -18,7 +18,8 @@ use Rattle.tx_machine.proofs.Invariant.{inv_opening}
 use Rattle.tx_machine.proofs.Steps.{step_keeps}
 use Rattle.tx_script.specs.Answers.{IsFresh}
 use Rattle.tx_script.specs.Output.{tickets_made, end_text}
-use Rattle.tx_script.specs.Summaries.{calls_line, causes, ended_by, peak_line, summary_text}
+use Rattle.tx_machine.specs.declared.cause.TheConstants.Cause.{ALL}
+use Rattle.tx_script.specs.Summaries.{calls_line, ended_by, peak_line, summary_text}
 use Rattle.tx_script.specs.Taken.{peak}
 use Rattle.tx_script.specs.declared.teller.Telling.{Telling}
 use Rattle.tx_script.specs.Telling.{told_last}
@@ -99,7 +100,7 @@ module _ (p : Plan) (ok : IsPlan p) where
         let ms = run p s es in
         let c = counted_over p ms (nothing_counted p) in
         let told : List ℕ → ℕ → List ℕ → List ℕ = λ x n y. x ++ (calls_line (codes "OPEN") n ++ (y ++ codes "END SUMMARY\n")) in
-        let ended = flat_map (λ k. calls_line (cause_text k) (ended_by (flat_map tickets_made ms) k)) causes in
+        let ended = flat_map (λ k. calls_line (cause_text k) (ended_by (flat_map tickets_made ms) k)) ALL in
         let most = flat_map (λ g. peak_line p g (use_at c.groups g).most) (range_with_len 0 (length p.groups)) in
         ap (λ x. told x opened most) (ended_told (flat_map tickets_made ms) c.calls (ended_from_none p ms))
         ∙ ap (told ended opened) (peaks_told p ms (state_after p s es) c.groups (uses_from_none es))

@@ -11,15 +11,17 @@ use Rattle.tx_machine.specs.declared.cause.Service.TheVariants.{Occ, Nc, Np, Der
 use Rattle.tx_tickets.specs.Texts.{cause_text}
 use Rattle.tx_machine.specs.Ended.{Ended}
 use Rattle.tx_machine.proofs.Lists.{first_of, none_in}
-use Rattle.tx_script.specs.Summaries.{calls_line, causes, place_of, ended_by}
+use Rattle.tx_machine.specs.declared.cause.TheConstants.Cause.{ALL}
+use Rattle.tx_machine.specs.Causes.{index_of}
+use Rattle.tx_script.specs.Summaries.{calls_line, ended_by}
 use Rattle.tx_script.specs.inner.Counting.{Counted, AreFew, count_for, ends_counted, one_counted, one_ended, all_ended}
 
--- the counts stand by the places of the causes
+-- the counts stand by the indexes of the causes
 pub record AreEnded (ts : List Ended) (calls : List ℕ) : Type 0 where
   pub all : length calls ≡ 9
-  pub each : (k : ℕ) → k < 9 → get_or calls k 0 ≡ count_by (λ t. place_of t.cause == k) ts
+  pub each : (k : ℕ) → k < 9 → get_or calls k 0 ≡ count_by (λ t. index_of t.cause == k) ts
 
-pub place_within : (c : Cause) → place_of c < 9
+pub place_within : (c : Cause) → index_of c < 9
 place_within (ByService Occ) = omega arith
 place_within (ByService Nc) = omega arith
 place_within (ByService Np) = omega arith
@@ -36,19 +38,19 @@ plus_zero n = omega arith
 -- one call more ended
 pub ended_more : (ts : List Ended) (t : Ended) (calls : List ℕ) → AreEnded ts calls → AreEnded (ts ++ t ∷ []) (one_ended calls t.cause)
 ended_more ts t calls are = record {
-  all = length-set calls (place_of t.cause) _ ∙ are.all;
-  each = λ k l. elim (cases_eq (place_of t.cause) k) [
+  all = length-set calls (index_of t.cause) _ ∙ are.all;
+  each = λ k l. elim (cases_eq (index_of t.cause) k) [
     | inl e ↦
-        subst (λ z. get_or (one_ended calls t.cause) z 0 ≡ count_by (λ t. place_of t.cause == z) (ts ++ t ∷ [])) e
-        (get_or-set_same calls (place_of t.cause) _ 0 (let a = are.all in let b = place_within t.cause in omega arith)
-        ∙ ap (λ z. z + 1) (are.each (place_of t.cause) (place_within t.cause))
-        ∙ ap (λ b. count_by (λ u. place_of u.cause == place_of t.cause) ts + cond b 1 0) (sym (eq-eqb (place_of t.cause) (place_of t.cause) refl))
-        ∙ sym (sum_by_push (λ (u : Ended). cond (place_of u.cause == place_of t.cause) 1 0) ts t))
+        subst (λ z. get_or (one_ended calls t.cause) z 0 ≡ count_by (λ t. index_of t.cause == z) (ts ++ t ∷ [])) e
+        (get_or-set_same calls (index_of t.cause) _ 0 (let a = are.all in let b = place_within t.cause in omega arith)
+        ∙ ap (λ z. z + 1) (are.each (index_of t.cause) (place_within t.cause))
+        ∙ ap (λ b. count_by (λ u. index_of u.cause == index_of t.cause) ts + cond b 1 0) (sym (eq-eqb (index_of t.cause) (index_of t.cause) refl))
+        ∙ sym (sum_by_push (λ (u : Ended). cond (index_of u.cause == index_of t.cause) 1 0) ts t))
     | inr ne ↦
-        get_or-set_other calls (place_of t.cause) k _ 0 (λ e. ne (sym e)) ∙ are.each k l
-        ∙ plus_zero (count_by (λ u. place_of u.cause == k) ts)
-        ∙ ap (λ b. count_by (λ u. place_of u.cause == k) ts + cond b 1 0) (sym (ne_eqb (place_of t.cause) k ne))
-        ∙ sym (sum_by_push (λ (u : Ended). cond (place_of u.cause == k) 1 0) ts t)
+        get_or-set_other calls (index_of t.cause) k _ 0 (λ e. ne (sym e)) ∙ are.each k l
+        ∙ plus_zero (count_by (λ u. index_of u.cause == k) ts)
+        ∙ ap (λ b. count_by (λ u. index_of u.cause == k) ts + cond b 1 0) (sym (ne_eqb (index_of t.cause) k ne))
+        ∙ sym (sum_by_push (λ (u : Ended). cond (index_of u.cause == k) 1 0) ts t)
   ];
 }
 
@@ -64,18 +66,18 @@ none_ended calls e = subst (λ l. AreEnded [] l) (sym e) (record { all = length-
 -- a count is at most that of all calls
 pub ended_within : (ts : List Ended) (calls : List ℕ) → AreEnded ts calls → (k : ℕ) → get_or calls k 0 ≤ length ts
 ended_within ts calls are k = elim (cases_lt k 9) [
-  | inl l ↦ (let c = count_by-le-length (λ (t : Ended). place_of t.cause == k) ts in let e = are.each k l in omega arith)
+  | inl l ↦ (let c = count_by-le-length (λ (t : Ended). index_of t.cause == k) ts in let e = are.each k l in omega arith)
   | inr l ↦ (let e = get_or_past calls k 0 (let a = are.all in omega arith) in omega arith)
 ]
 
 -- one call more adds at most one to a count
 pub one_within : (calls : List ℕ) (cause : Cause) (k : ℕ) → get_or (one_ended calls cause) k 0 ≤ get_or calls k 0 + 1
-one_within calls cause k = elim (cases_eq (place_of cause) k) [
-  | inl e ↦ subst (λ z. get_or (one_ended calls cause) z 0 ≤ get_or calls z 0 + 1) e (elim (cases_lt (place_of cause) (length calls)) [
-    | inl l ↦ (let q = get_or-set_same calls (place_of cause) (get_or calls (place_of cause) 0 + 1) 0 l in omega arith)
-    | inr l ↦ (let q = get_or_past (one_ended calls cause) (place_of cause) 0 (let n = length-set calls (place_of cause) (get_or calls (place_of cause) 0 + 1) in omega arith) in omega arith)
+one_within calls cause k = elim (cases_eq (index_of cause) k) [
+  | inl e ↦ subst (λ z. get_or (one_ended calls cause) z 0 ≤ get_or calls z 0 + 1) e (elim (cases_lt (index_of cause) (length calls)) [
+    | inl l ↦ (let q = get_or-set_same calls (index_of cause) (get_or calls (index_of cause) 0 + 1) 0 l in omega arith)
+    | inr l ↦ (let q = get_or_past (one_ended calls cause) (index_of cause) 0 (let n = length-set calls (index_of cause) (get_or calls (index_of cause) 0 + 1) in omega arith) in omega arith)
   ])
-  | inr ne ↦ (let q = get_or-set_other calls (place_of cause) k (get_or calls (place_of cause) 0 + 1) 0 (λ e. ne (sym e)) in omega arith)
+  | inr ne ↦ (let q = get_or-set_other calls (index_of cause) k (get_or calls (index_of cause) 0 + 1) 0 (λ e. ne (sym e)) in omega arith)
 ]
 
 -- ---- tickets that are taken out of a network and counted, one after another
@@ -106,7 +108,7 @@ module _ (left : List Ended) (t : Ended) (h : slice_get left 0 ≡ Some t) where
 
   pub room_for_one : (counts : Option Counted) → HasRoom counts (length left) → IfSome counts (λ c. count_for c.calls t.cause + 1 < 2 ^ 64)
   room_for_one None room = tt
-  room_for_one (Some c) room = let n = ap length split in let r = room (place_of t.cause) in omega arith
+  room_for_one (Some c) room = let n = ap length split in let r = room (index_of t.cause) in omega arith
 
 pub ends_none : (left : List Ended) (counts : Option Counted) → slice_get left 0 ≡ None → counts ≡ option_map (ends_counted left) counts
 ends_none left counts h = by counts ∙ ap (λ l. option_map (ends_counted l) counts) (sym (none_in left h))
@@ -122,5 +124,5 @@ flat_causes f h [] e = refl
 flat_causes f h (c ∷ cs) e = ap₂ (λ (x y : List ℕ). x ++ y) (e c) (flat_causes f h cs e)
 
 pub ended_told : (ts : List Ended) (calls : List ℕ) → AreEnded ts calls
-    → flat_map (λ c. calls_line (cause_text c) (get_or calls (place_of c) 0)) causes ≡ flat_map (λ c. calls_line (cause_text c) (ended_by ts c)) causes
-ended_told ts calls are = flat_causes (λ c. calls_line (cause_text c) (get_or calls (place_of c) 0)) (λ c. calls_line (cause_text c) (ended_by ts c)) causes (λ c. ap (calls_line (cause_text c)) (are.each (place_of c) (place_within c)))
+    → flat_map (λ c. calls_line (cause_text c) (get_or calls (index_of c) 0)) ALL ≡ flat_map (λ c. calls_line (cause_text c) (ended_by ts c)) ALL
+ended_told ts calls are = flat_causes (λ c. calls_line (cause_text c) (get_or calls (index_of c) 0)) (λ c. calls_line (cause_text c) (ended_by ts c)) ALL (λ c. ap (calls_line (cause_text c)) (are.each (index_of c) (place_within c)))

@@ -26,7 +26,7 @@ use Rattle.tx_machine.specs.Runs.{moment, run, state_after}
 use Rattle.tx_machine.specs.Sound.{is_refused}
 use Rattle.tx_machine.specs.Drained.{drained}
 use Rattle.tx_tickets.specs.Texts.{reply_text, ticket_text}
-use Rattle.tx_script.specs.declared.answer.Answered.{Answered}
+use Rattle.tx_script.specs.declared.runner.Answered.{Answered}
 use Rattle.tx_script.specs.declared.run_fault.RunFault.{RunFault}
 use Rattle.tx_script.specs.declared.run_cause.RunCause.{RunCause}
 use Rattle.tx_script.specs.declared.run_cause.RunCause.TheVariants.{Read, Write, Script as OfScript, NoMemory}

@@ -21,7 +21,7 @@ use Rattle.tx_machine.specs.State.{State}
 use Rattle.tx_machine.specs.Runs.{Moment, moment, run, state_after}
 use Rattle.tx_machine.specs.Sound.{is_refused}
 use Rattle.tx_machine.specs.Drained.{drained}
-use Rattle.tx_script.specs.declared.answer.Answered.{Answered}
+use Rattle.tx_script.specs.declared.runner.Answered.{Answered}
 use Rattle.tx_script.specs.declared.run_fault.RunFault.{RunFault}
 use Rattle.tx_script.specs.declared.run_cause.RunCause.{RunCause}
 use Rattle.tx_script.specs.declared.run_cause.RunCause.TheVariants.{Read, Script as OfScript}

@@ -5,8 +5,8 @@ use Rattle.std.specs.List.{flat_map, count_by, range_with_len}
 use Rattle.tx_plan.specs.Plan.{Plan, group_name}
 use Rattle.tx_plan.specs.Circuits.{count_of}
 use Rattle.tx_machine.specs.declared.cause.Cause.{Cause}
-use Rattle.tx_machine.specs.declared.cause.Cause.TheVariants.{Service as ByService, ClearedByCaller, ClearedByCalled, Lost as ByLoss}
-use Rattle.tx_machine.specs.declared.cause.Service.TheVariants.{Occ, Nc, Np, Der, Abs, Na}
+use Rattle.tx_machine.specs.declared.cause.TheConstants.Cause.{ALL}
+use Rattle.tx_machine.specs.Causes.{index_of}
 use Rattle.tx_machine.specs.Ended.{Ended}
 use Rattle.tx_machine.specs.State.{State}
 use Rattle.tx_machine.specs.Runs.{Moment}
@@ -14,34 +14,9 @@ use Rattle.tx_tickets.specs.Texts.{cause_text}
 use Rattle.tx_script.specs.Output.{tickets_made}
 use Rattle.tx_script.specs.Taken.{peak}
 
--- all causes, in the order in which they are printed
-abbrev pub causes : List Cause
-causes =
-    ByService Occ
-    ∷ ByService Nc
-    ∷ ByService Np
-    ∷ ByService Der
-    ∷ ByService Abs
-    ∷ ByService Na
-    ∷ ClearedByCaller
-    ∷ ClearedByCalled
-    ∷ ByLoss ∷ []
-
--- the place of a cause among them
-abbrev pub place_of : Cause → ℕ
-place_of (ByService Occ) = 0
-place_of (ByService Nc) = 1
-place_of (ByService Np) = 2
-place_of (ByService Der) = 3
-place_of (ByService Abs) = 4
-place_of (ByService Na) = 5
-place_of ClearedByCaller = 6
-place_of ClearedByCalled = 7
-place_of ByLoss = 8
-
 -- two causes are one
 abbrev pub same_cause : Cause → Cause → Bool
-same_cause a b = place_of a == place_of b
+same_cause a b = index_of a == index_of b
 
 -- how many of these calls ended by a cause
 abbrev pub ended_by : List Ended → Cause → ℕ
@@ -61,7 +36,7 @@ peak_line p g n = if n == 0 then [] else codes "PEAK " ++ (group_name p g
 -- by how many calls ended by each cause and are open, and by the most circuits of each group
 abbrev pub summary_by : Plan → (Cause → ℕ) → ℕ → (ℕ → ℕ) → List ℕ
 summary_by p ended opened most = flat_map (λ cause. calls_line (cause_text cause) (ended cause))
-    causes ++ (calls_line (codes "OPEN") opened ++ (flat_map
+    ALL ++ (calls_line (codes "OPEN") opened ++ (flat_map
     (λ g. peak_line p g (most g)) (range_with_len 0 (length p.groups)) ++ codes "END SUMMARY\n"))
 
 -- The summary of a run, and of the state after it

@@ -1,21 +1,20 @@
 // What is counted of a run for its summary.
 ghost use Rattle.std.specs.Prelude.{◌≡◌, ◌+◌, ◌<◌, ◌^◌, true, false, IfOk};
 ghost use Rattle.tx_plan.specs.Circuits.{count_of};
-ghost use Rattle.tx_script.specs.Summaries.{place_of};
 ghost use Rattle.tx_script.specs.inner.Counting.{change_at, cleared, count_for, counted, followed, marked, nothing_counted, one_counted, use_at, uses_counted};
 
-use crate::answer::is_refused;
 use crate::group_use::GroupUse;
+use crate::runner::is_refused;
 use std::alloc::Allocator;
 use std::marker::Model;
-use tx_machine::{Cause, Event, Reply, Service};
+use tx_machine::{Cause, Event, Reply};
 use tx_plan::{Circuit, GroupId, Plan};
 use tx_text::NoMemory;
 
 /// How many calls ended by each cause, and how the circuits of each group were used.
 #[derive(Drop)]
 pub(crate) struct Counts<A: Allocator> {
-    /// By the places of the causes.
+    /// By the indexes of the causes.
     calls: [u64; 9],
     groups: Vec<GroupUse, A>,
 }
@@ -26,24 +25,6 @@ impl<A: Allocator> Model for Counts<A> {
     ghost Value = { Counted };
 
     ghost view = { λ c. record { calls = c.calls; groups = c.groups.items } };
-}
-
-/// The place of a cause among all causes.
-fn place_of(cause: Cause) -> usize
-    ensures place { result ≡ place_of cause }
-    ensures within { result < 9 }
-{
-    match cause {
-        Cause::Service(Service::Occ) => 0,
-        Cause::Service(Service::Nc) => 1,
-        Cause::Service(Service::Np) => 2,
-        Cause::Service(Service::Der) => 3,
-        Cause::Service(Service::Abs) => 4,
-        Cause::Service(Service::Na) => 5,
-        Cause::ClearedByCaller => 6,
-        Cause::ClearedByCalled => 7,
-        Cause::Lost => 8,
-    }
 }
 
 impl<A: Allocator> Counts<A> {
@@ -62,7 +43,7 @@ impl<A: Allocator> Counts<A> {
     pub(crate) fn ended_by(&self, cause: Cause) -> u64
         ensures { result ≡ count_for self.now.calls cause }
     {
-        self.calls[place_of(cause)]
+        self.calls[cause.index()]
     }
 
     /// The most circuits of a group that were taken at once.
@@ -80,7 +61,7 @@ impl<A: Allocator> Counts<A> {
         requires { count_for self.old.calls cause + 1 < 2 ^ 64 }
         ensures { self.new ≡ one_counted cause self.old }
     {
-        self.calls[place_of(cause)] += 1;
+        self.calls[cause.index()] += 1;
     }
 
     /// An event was answered.

@@ -20,7 +20,6 @@
 //! and `END EVENTS 2 OPEN 1`.
 #![tactic(auto)]
 
-mod answer;
 mod counts;
 mod ending;
 mod event_line;

@@ -3,13 +3,13 @@ ghost use Rattle.std.specs.Prelude.{◌≡◌, ◌<◌, length};
 ghost use Rattle.std.specs.List.{flat_map, range_with_len};
 ghost use Rattle.tx_text.specs.Wrote.{Wrote};
 ghost use Rattle.tx_tickets.specs.Texts.{cause_text};
-ghost use Rattle.tx_script.specs.Summaries.{calls_line, causes, peak_line};
+ghost use Rattle.tx_script.specs.Summaries.{calls_line, peak_line};
 ghost use Rattle.tx_script.specs.inner.Counting.{count_for, counts_text, use_at};
 
 use crate::counts::Counts;
 use itoa::Buffer;
 use std::alloc::Allocator;
-use tx_machine::{Cause, Service};
+use tx_machine::Cause;
 use tx_plan::{GroupId, Plan};
 use tx_text::{Sink, WriteFault, write_parts};
 use tx_tickets::cause_word;
@@ -30,31 +30,12 @@ pub(crate) fn write_summary<A: Allocator, B: Allocator, W: Sink>(
     write_parts(&[b"END SUMMARY\n"], sink)
 }
 
-/// All causes, in the order in which they are printed.
-fn causes() -> [Cause; 9]
-    ensures { result ≡ causes }
-{
-    [
-        Cause::Service(Service::Occ),
-        Cause::Service(Service::Nc),
-        Cause::Service(Service::Np),
-        Cause::Service(Service::Der),
-        Cause::Service(Service::Abs),
-        Cause::Service(Service::Na),
-        Cause::ClearedByCaller,
-        Cause::ClearedByCalled,
-        Cause::Lost,
-    ]
-}
-
 /// Writes how many calls ended by each cause.
 fn write_ended<A: Allocator, W: Sink>(counts: &Counts<A>, sink: &mut W) -> Result<(), WriteFault>
     ensures { Wrote W.taken W.failed sink.old sink.new (flat_map
-        (λ cause. calls_line (cause_text cause) (count_for counts.now.calls cause)) causes) result }
+        (λ cause. calls_line (cause_text cause) (count_for counts.now.calls cause)) Cause.ALL) result }
 {
-    let causes = causes();
-    for i in 0..causes.len() {
-        let cause = causes[i];
+    for cause in Cause::ALL {
         write_calls(cause_word(cause), counts.ended_by(cause), sink)?;
     }
     Ok(())

@@ -4,11 +4,11 @@ ghost use Rattle.tx_text.specs.Wrote.{Wrote};
 ghost use Rattle.tx_script.specs.inner.Counting.{count_for, counts_for, one_counted, uses_counted};
 ghost use Rattle.tx_script.specs.Telling.{echo_asked, echo_text, number_text};
 
-use crate::answer::Answered;
 use crate::counts::Counts;
 use crate::event_text::write_any_event;
 use crate::run_cause::RunCause;
 use crate::run_fault::RunFault;
+use crate::runner::Answered;
 use itoa::Buffer;
 use std::alloc::Allocator;
 use tx_machine::{Cause, Event, Reply};

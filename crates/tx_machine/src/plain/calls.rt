@@ -11,29 +11,15 @@ use crate::{OpenCall, Phase, place_of};
 use std::alloc::Allocator;
 use tx_plan::{Circuit, ExchangeId, Line, Plan};
 
-/// Whether two lines are one.
-pub(crate) fn same_line(a: &Line, b: &Line) -> bool
-    ensures { result ≡ same_line a.now b.now }
-{
-    a == b
-}
-
-/// Whether two circuits are one.
-pub(crate) fn same_circuit(a: &Circuit, b: &Circuit) -> bool
-    ensures { result ≡ same_circuit a.now b.now }
-{
-    a == b
-}
-
 /// Whether the line takes part in the call.
 fn takes_part<A: Allocator>(call: &OpenCall<A>, line: &Line) -> bool
     ensures { result ≡ takes_part (call_seen call.now) line.now }
 {
-    if same_line(&call.line, line) {
+    if call.line == *line {
         return true;
     }
     match &call.phase {
-        Phase::Connected(other) => same_line(other, line),
+        Phase::Connected(other) => other == line,
         Phase::Standing | Phase::Calling(_) => false,
     }
 }
@@ -49,9 +35,7 @@ pub(crate) fn engaged_in<A: Allocator>(calls: &[OpenCall<A>], line: &Line) -> bo
 fn carries<A: Allocator>(call: &OpenCall<A>, circuit: &Circuit) -> bool
     ensures { result ≡ carries (call_seen call.now) circuit.now }
 {
-    call.hops
-        .iter()
-        .any(|hop| same_circuit(&hop.circuit, circuit))
+    call.hops.iter().any(|hop| hop.circuit == *circuit)
 }
 
 /// Whether one of the calls carries the circuit.
@@ -66,7 +50,7 @@ pub(crate) fn seizes<A: Allocator>(call: &OpenCall<A>, circuit: &Circuit) -> boo
     ensures { result ≡ seizes (call_seen call.now) circuit.now }
 {
     match &call.phase {
-        Phase::Calling(other) => same_circuit(other, circuit),
+        Phase::Calling(other) => other == circuit,
         Phase::Standing | Phase::Connected(_) => false,
     }
 }

@@ -73,20 +73,14 @@ fn hops_use(hops: &[Hop], group: GroupId) -> bool
     hops.iter().any(|hop| hop.circuit.group == group)
 }
 
-/// Whether a call that goes on seizes the circuit.
-fn kept_by<A: Allocator>(call: &OpenCall<A>, ends: &Ends, circuit: &Circuit) -> bool
-    ensures { result ≡ (not (ends_by ends.now (call_seen call.now))
-        && seizes (call_seen call.now) circuit.now) }
-{
-    !is_ended(call, ends) && seizes(call, circuit)
-}
-
 /// Whether one of the calls that go on seizes the circuit.
 fn kept<A: Allocator>(calls: &[OpenCall<A>], ends: &Ends, circuit: &Circuit) -> bool
     ensures { result ≡ list_any (λ c. not (ends_by ends.now (call_seen c))
         && seizes (call_seen c) circuit.now) calls.now }
 {
-    calls.iter().any(|call| kept_by(call, ends, circuit))
+    calls
+        .iter()
+        .any(|call| !is_ended(call, ends) && seizes(call, circuit))
 }
 
 /// Gives up one circuit.

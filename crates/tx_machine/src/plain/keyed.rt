@@ -10,20 +10,7 @@ use tx_plan::{CodeId, Plan};
 fn is_longer(text: &[u8], keyed: &[u8], first: bool, width: usize) -> bool
     ensures { result ≡ (is_prefix text.now keyed.now && (first || nat_lt width (length text.now))) }
 {
-    if !begins(text, keyed) {
-        return false;
-    }
-    first || width < text.len()
-}
-
-/// Whether the figures begin with the text.
-fn begins(text: &[u8], keyed: &[u8]) -> bool
-    ensures { result ≡ is_prefix text.now keyed.now }
-{
-    match after(text, keyed) {
-        Some(_) => true,
-        None => false,
-    }
+    after(text, keyed).is_some() && (first || width < text.len())
 }
 
 /// The longest destination code that begins the figures (ITU-T F.69). It looks at each code;

@@ -15,12 +15,13 @@ use Rattle.tx_machine.specs.Runs.{Moment}
 use Rattle.tx_machine.specs.State.{State}
 use Rattle.tx_machine.specs.Sound.{is_refused}
 use Rattle.tx_script.specs.Output.{tickets_made, end_text}
-use Rattle.tx_script.specs.Summaries.{place_of, summary_by}
+use Rattle.tx_machine.specs.Causes.{index_of}
+use Rattle.tx_script.specs.Summaries.{summary_by}
 use Rattle.tx_script.specs.TellingAnswers.{NoneReleasing}
 use Rattle.tx_script.specs.declared.group_use.GroupUse.{GroupUse}
 use Rattle.tx_script.specs.declared.teller.Telling.{Telling}
 
--- how many calls ended, by the places of their causes, and a row for each group
+-- how many calls ended, by the indexes of their causes, and a row for each group
 pub record Counted : Type 0 where
   pub calls : List ℕ
   pub groups : List GroupUse
@@ -81,11 +82,11 @@ followed p other r us = us
 
 -- how many calls ended by a cause
 abbrev pub count_for : List ℕ → Cause → ℕ
-count_for calls cause = get_or calls (place_of cause) 0
+count_for calls cause = get_or calls (index_of cause) 0
 
 -- one call more ended by a cause
 abbrev pub one_ended : List ℕ → Cause → List ℕ
-one_ended calls cause = slice_set calls (place_of cause) (count_for calls cause + 1)
+one_ended calls cause = slice_set calls (index_of cause) (count_for calls cause + 1)
 
 -- some calls more ended
 abbrev pub all_ended : List ℕ → List Ended → List ℕ

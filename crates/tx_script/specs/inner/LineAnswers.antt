@@ -10,7 +10,7 @@ use Rattle.tx_machine.specs.Step.{takes_memory}
 use Rattle.tx_machine.specs.Runs.{Moment, moment}
 use Rattle.tx_machine.specs.Drained.{drained}
 use Rattle.tx_machine.specs.Sound.{is_refused}
-use Rattle.tx_script.specs.declared.answer.Answered.{Answered}
+use Rattle.tx_script.specs.declared.runner.Answered.{Answered}
 use Rattle.tx_script.specs.declared.run_cause.RunCause.{RunCause}
 use Rattle.tx_script.specs.declared.run_cause.RunCause.TheVariants.{Read, Write, Script as OfScript, NoMemory}
 use Rattle.tx_script.specs.declared.script_word.ScriptWord.{ScriptWord}

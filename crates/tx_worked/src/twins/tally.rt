@@ -1,7 +1,7 @@
 // Counts of events, by their replies, and of tickets, by their causes.
 use crate::cases::{Told, tell, tell_count, tell_parts};
 use crate::twins::stop::Differs;
-use tx_machine::{Cause, Event, Refusal, Reply, Service};
+use tx_machine::{Cause, Event, Refusal, Reply};
 
 /// The names of what is counted, in the order in which the counts are told.
 static REPLIES: [&str; 12] = [
@@ -101,18 +101,6 @@ fn reply_place(reply: &Reply) -> usize {
     }
 }
 
-/// The place of a service code in `SERVICES`.
-fn service_place(service: Service) -> usize {
-    match service {
-        Service::Occ => 0,
-        Service::Nc => 1,
-        Service::Np => 2,
-        Service::Der => 3,
-        Service::Abs => 4,
-        Service::Na => 5,
-    }
-}
-
 /// The place of a refusal in `REFUSALS`.
 fn refusal_place(refusal: Refusal) -> usize {
     match refusal {
@@ -182,7 +170,9 @@ impl EventTally {
             Reply::Refused(refusal) => {
                 return count_at(&mut self.refusals, refusal_place(*refusal));
             }
-            Reply::Answered(service) => count_at(&mut self.answers, service_place(*service)),
+            Reply::Answered(service) => {
+                count_at(&mut self.answers, Cause::Service(*service).index())
+            },
             _ => count_at(&mut self.replies, reply_place(reply)),
         }
         add_one(&mut self.accepted);

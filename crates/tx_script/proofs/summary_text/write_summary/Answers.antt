@@ -2,7 +2,8 @@ use Rattle.std.proofs.Common.{◌++◌, codes, length}
 use Rattle.std.specs.List.{flat_map, range_with_len}
 use Rattle.tx_text.proofs.Wrote.{wrote_then, wrote_first}
 use Rattle.tx_tickets.specs.Texts.{cause_text}
-use Rattle.tx_script.specs.Summaries.{calls_line, causes, peak_line}
+use Rattle.tx_machine.specs.declared.cause.TheConstants.Cause.{ALL}
+use Rattle.tx_script.specs.Summaries.{calls_line, peak_line}
 use Rattle.tx_script.specs.inner.Counting.{count_for, use_at}
 use Rattle.tx_script.proofs.summary_text.write_summary.Goals as goal
 
@@ -10,7 +11,7 @@ pub returns-in_err-write_ended : goal.returns-in_err-write_ended
 returns-in_err-write_ended g c =
     let p = c.args.plan.now in
     let counts = c.args.counts.now in
-    let ended = flat_map (λ cause. calls_line (cause_text cause) (count_for counts.calls cause)) causes in
+    let ended = flat_map (λ cause. calls_line (cause_text cause) (count_for counts.calls cause)) ALL in
     let opened = calls_line (codes "OPEN") c.args.open_calls in
     let peaks = flat_map (λ x. peak_line p x (use_at counts.groups x).most) (range_with_len 0 (length p.groups)) in
     let last = codes "END SUMMARY\n" in
@@ -20,7 +21,7 @@ pub returns-in_err-write_calls : goal.returns-in_err-write_calls
 returns-in_err-write_calls g c =
     let p = c.args.plan.now in
     let counts = c.args.counts.now in
-    let ended = flat_map (λ cause. calls_line (cause_text cause) (count_for counts.calls cause)) causes in
+    let ended = flat_map (λ cause. calls_line (cause_text cause) (count_for counts.calls cause)) ALL in
     let opened = calls_line (codes "OPEN") c.args.open_calls in
     let peaks = flat_map (λ x. peak_line p x (use_at counts.groups x).most) (range_with_len 0 (length p.groups)) in
     let last = codes "END SUMMARY\n" in
@@ -31,7 +32,7 @@ pub returns-in_err-write_peaks : goal.returns-in_err-write_peaks
 returns-in_err-write_peaks g c =
     let p = c.args.plan.now in
     let counts = c.args.counts.now in
-    let ended = flat_map (λ cause. calls_line (cause_text cause) (count_for counts.calls cause)) causes in
+    let ended = flat_map (λ cause. calls_line (cause_text cause) (count_for counts.calls cause)) ALL in
     let opened = calls_line (codes "OPEN") c.args.open_calls in
     let peaks = flat_map (λ x. peak_line p x (use_at counts.groups x).most) (range_with_len 0 (length p.groups)) in
     let last = codes "END SUMMARY\n" in
@@ -43,7 +44,7 @@ pub returns : goal.returns
 returns g c =
     let p = c.args.plan.now in
     let counts = c.args.counts.now in
-    let ended = flat_map (λ cause. calls_line (cause_text cause) (count_for counts.calls cause)) causes in
+    let ended = flat_map (λ cause. calls_line (cause_text cause) (count_for counts.calls cause)) ALL in
     let opened = calls_line (codes "OPEN") c.args.open_calls in
     let peaks = flat_map (λ x. peak_line p x (use_at counts.groups x).most) (range_with_len 0 (length p.groups)) in
     let last = codes "END SUMMARY\n" in

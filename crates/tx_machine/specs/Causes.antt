@@ -1,0 +1,17 @@
+-- All causes for which a call may end, in order.
+use Rattle.std.specs.Prelude.{ℕ}
+use Rattle.tx_machine.specs.declared.cause.Cause.{Cause}
+use Rattle.tx_machine.specs.declared.cause.Cause.TheVariants.{Service as ByService, ClearedByCaller, ClearedByCalled, Lost as ByLoss}
+use Rattle.tx_machine.specs.declared.cause.Service.TheVariants.{Occ, Nc, Np, Der, Abs, Na}
+
+-- the index of a cause among all causes (`Cause::ALL`)
+abbrev pub index_of : Cause → ℕ
+index_of (ByService Occ) = 0
+index_of (ByService Nc) = 1
+index_of (ByService Np) = 2
+index_of (ByService Der) = 3
+index_of (ByService Abs) = 4
+index_of (ByService Na) = 5
+index_of ClearedByCaller = 6
+index_of ClearedByCalled = 7
+index_of ByLoss = 8
