@@ -1,9 +1,10 @@
 -- What is left of a list, group by group.
-use Rattle.std.proofs.Common.{◌≡◌, ℕ, suc, ◌<◌, true, false, not, cond, List, [], ◌∷◌, inl, inr, length, Some, refl, sym, ap, ◌∙◌, subst, arith}
+use Rattle.std.proofs.Common.{◌≡◌, ℕ, suc, ◌+◌, ◌<◌, true, false, not, cond, List, [], ◌∷◌, ◌++◌, append-nil, take, inl, inr, length, Some, refl, sym, ap, ◌∙◌, subst, arith}
 use Rattle.std.specs.Prelude.{slice_get}
+use Rattle.std.proofs.lemmas.List.Elements.{filter-append}
 use Rattle.tx_plan.specs.Among.{Among}
 use Rattle.tx_plan.proofs.Among.{among_filter}
-use Rattle.tx_rank.proofs.Looks.{among_at}
+use Rattle.tx_rank.proofs.Looks.{among_at, take_next}
 use Rattle.tx_risk.specs.Risks.{Risk, left_of}
 
 -- the place of what is in a list
@@ -32,6 +33,22 @@ module _ (risk : Risk) where
       let e = all 0 g (omega arith) refl in
       ap (λ b. cond (not b) (g ∷ left_of risk gs) (left_of risk gs)) e
       ∙ left_none gs (λ i h l at. all (suc i) h (omega arith) at)
+
+  -- what is left of the first groups of a list, group by group
+  pub left_skip : (gs : List ℕ) (i g : ℕ) → slice_get gs i ≡ Some g → risk g ≡ true
+      → left_of risk (take (i + 1) gs) ≡ left_of risk (take i gs)
+  left_skip gs i g at out =
+      ap (left_of risk) (take_next gs i g at)
+      ∙ filter-append (λ h. not (risk h)) (take i gs) (g ∷ [])
+      ∙ ap (λ b. left_of risk (take i gs) ++ cond (not b) (g ∷ []) []) out
+      ∙ append-nil (left_of risk (take i gs))
+
+  pub left_more : (gs : List ℕ) (i g : ℕ) → slice_get gs i ≡ Some g → risk g ≡ false
+      → left_of risk (take (i + 1) gs) ≡ left_of risk (take i gs) ++ g ∷ []
+  left_more gs i g at out =
+      ap (left_of risk) (take_next gs i g at)
+      ∙ filter-append (λ h. not (risk h)) (take i gs) (g ∷ [])
+      ∙ ap (λ b. left_of risk (take i gs) ++ cond (not b) (g ∷ []) []) out
 
 -- all of a list of which nothing is left goes
 pub left_goes : (risk : Risk) (gs : List ℕ) (g : ℕ) → left_of risk gs ≡ [] → Among g gs

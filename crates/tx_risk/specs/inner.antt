@@ -1,5 +1,6 @@
 pub mod Marked
 pub mod Left
-pub mod Nearest
+pub mod Orders
+pub mod Ahead
 pub mod Cutting
 pub mod Hits

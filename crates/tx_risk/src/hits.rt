@@ -6,10 +6,10 @@ ghost use Rattle.tx_risk.specs.inner.Marked.{marked};
 ghost use Rattle.tx_risk.specs.inner.Hits.{AreEnds, IsMissed};
 
 use crate::cutting::is_failing;
-use crate::left::{are_marked, is_marked};
+use crate::left::{Left, is_marked};
 use crate::outage::Outage;
 use std::alloc::Allocator;
-use tx_plan::{CodeId, ExchangeId, GroupId, Plan};
+use tx_plan::{ExchangeId, GroupId, Plan};
 use tx_text::NoMemory;
 
 /// Whether an exchange is among these.
@@ -72,38 +72,25 @@ pub fn ends_of<A: Allocator + Copy>(
 }
 
 /// Whether nothing is left of the list of an exchange that has one, and does not fail.
-fn is_emptied<A: Allocator>(
-    plan: &Plan<A>,
-    gone: &[bool],
-    outage: &Outage,
-    exchange: ExchangeId,
-    code: CodeId,
-) -> bool
-    ensures { result ≡ false → IsMissed plan.now (marked gone.now) outage.now code exchange }
+fn is_emptied<A: Allocator>(left: &Left<'_, A>, outage: &Outage, exchange: ExchangeId) -> bool
+    ensures { result ≡ false → IsMissed left.now outage.now exchange }
 {
-    let list = plan.list(exchange, code);
+    let list = left.list(exchange);
     if list.is_empty() {
         return false;
     }
     if is_failing(outage, exchange) {
         return false;
     }
-    are_marked(gone, list)
+    left.are_gone(list)
 }
 
 /// Whether nothing is left of a list for the code, of an exchange among these.
-pub fn is_hit<A: Allocator>(
-    plan: &Plan<A>,
-    gone: &[bool],
-    ends: &[ExchangeId],
-    outage: &Outage,
-    code: CodeId,
-) -> bool
-    ensures { result ≡ false → (x : ℕ) → Among x ends.now
-        → IsMissed plan.now (marked gone.now) outage.now code x }
+pub fn is_hit<A: Allocator>(left: &Left<'_, A>, ends: &[ExchangeId], outage: &Outage) -> bool
+    ensures { result ≡ false → (x : ℕ) → Among x ends.now → IsMissed left.now outage.now x }
 {
     for i in 0..ends.len() {
-        if is_emptied(plan, gone, outage, ends[i], code) {
+        if is_emptied(left, outage, ends[i]) {
             return true;
         }
     }

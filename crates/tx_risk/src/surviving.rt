@@ -47,7 +47,7 @@ pub fn survive<A: Allocator + Copy>(
 {
     let grade = grade(alloc, plan)?;
     match grade.plan {
-        Some(_) => Ok(Survival::Tried(all_cuts(alloc, plan, risks)?)),
+        Some(_) => Ok(Survival::Tried(all_cuts(alloc, plan, &grade.ranks, risks)?)),
         None => Ok(Survival::Ungraded(grade)),
     }
 }

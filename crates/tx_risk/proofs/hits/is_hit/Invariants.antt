@@ -1,10 +1,8 @@
 use Rattle.std.proofs.Common.{◌≡◌, ℕ, ◌<◌, Some}
 use Rattle.std.specs.Prelude.{slice_get}
-use Rattle.tx_risk.specs.inner.Marked.{marked}
 use Rattle.tx_risk.specs.inner.Hits.{IsMissed}
 use Rattle.tx_risk.proofs.hits.is_hit.Given as goal
 
 abbrev pub invariant-loop-i : goal.invariant-loop-i
 invariant-loop-i g l =
-    (j x : ℕ) → j < l.i → slice_get l.ends j ≡ Some x
-    → IsMissed l.plan (marked l.gone) l.outage l.code x
+    (j x : ℕ) → j < l.i → slice_get l.ends j ≡ Some x → IsMissed l.left l.outage x

@@ -6,24 +6,26 @@ use Rattle.tx_plan.specs.Circuits.{other_end}
 use Rattle.tx_plan.proofs.Among.{filter_among}
 use Rattle.tx_rank.proofs.Looks.{got_at}
 use Rattle.tx_risk.specs.Risks.{left_of}
-use Rattle.tx_risk.specs.inner.Marked.{marked}
-use Rattle.tx_risk.specs.inner.Nearest.{distance_in}
+use Rattle.tx_risk.specs.declared.ahead.Ahead.{Ahead}
+use Rattle.tx_risk.specs.inner.Left.{gone}
+use Rattle.tx_risk.specs.inner.Ahead.{ahead_in}
 use Rattle.tx_risk.proofs.LeftLists.{left_at, place_among, one_there}
-use Rattle.tx_risk.proofs.Measuring.{some_is, is_distance, distance_is}
-use Rattle.tx_risk.proofs.left.step_to.Goals.{in-Some+else-eq, in_default}
-use Rattle.tx_risk.proofs.left.step_to.Goals as goal
+use Rattle.tx_risk.proofs.LookingAhead.{some_is, is_distance, distance_is}
+use Rattle.tx_risk.proofs.shortest.step_to.Goals.{in-Some+else-eq, in_default}
+use Rattle.tx_risk.proofs.shortest.step_to.Goals as goal
 
 pub returns-then-eq : goal.returns-then-eq
 returns-then-eq g c =
     let list = c.list-list.result.now in
     let x = c.index-list-i.result in
-    let risk = marked c.args.left.now.gone.now in
+    let risk = gone c.args.left.now in
     let at = got_at list list c.loop-i.i x refl c.loop-i-test.true c.index-list-i.is in
-    let left = left_at risk list c.loop-i.i x at (sym c.is_marked.ensures ∙ c.if-is_marked.false) in
+    let left = left_at risk list c.loop-i.i x at (sym c.is_gone.ensures ∙ c.if-is_gone.false) in
     record {
       listed = subst (λ l. Among x (left_of risk l)) c.list-list.ensures.value left;
-      leads = sym c.other_end.ensures.value ∙ c.in-Some.is;
-      at = sym c.distance_at.ensures ∙ is_distance _ _ (sym c.eq.ensures ∙ c.if-eq.true);
+      leads = sym c.far.ensures ∙ c.in-Some.is;
+      at = ap (λ (a : Ahead). a.dead_end) (sym c.ahead_at.ensures)
+          ∙ is_distance _ _ (sym c.eq.ensures ∙ c.if-eq.true);
     }
 
 pub loop-i-preserved : goal.loop-i-preserved
@@ -33,15 +35,15 @@ loop-i-preserved g c = λ j h y less at out leads near. elim (cases_eq j c.loop-
       let x = c.index-list-i.result in
       let here = got_at list list c.loop-i.i x refl c.loop-i-test.true c.index-list-i.is in
       let same = one_there list j c.loop-i.i h x q at here in
-      let far : c.other_end.result ≡ Some y =
-      c.other_end.ensures.value ∙ ap (λ k. other_end c.args.left.now.plan.now k c.args.exchange)
+      let far : c.far.result ≡ Some y =
+      c.far.ensures ∙ ap (λ k. other_end c.args.left.now.plan k c.args.exchange)
       (sym same) ∙ leads in
-      elim c.match-other_end.branch [
+      elim c.match-far.branch [
         | in-Some+else-eq w ↦
             let to = some_is (sym far ∙ w.in-Some.is) in
             both_ways _ (sym w.eq.ensures ∙ w.if-eq.false)
-            (distance_is _ _ (w.distance_at.ensures ∙ ap (distance_in c.args.distances.now) (sym to)
-            ∙ near))
+            (distance_is _ _ (ap (λ (a : Ahead). a.dead_end) (w.ahead_at.ensures
+            ∙ ap (ahead_in c.args.aheads.now) (sym to)) ∙ near))
         | in_default w ↦ none-some _ (sym w.in_default.is ∙ far)
       ]
   | inr ne ↦ c.loop-i.invariant j h y (omega arith) at out leads near
@@ -49,7 +51,7 @@ loop-i-preserved g c = λ j h y less at out leads near. elim (cases_eq j c.loop-
 
 pub returns : goal.returns
 returns g c = λ s step.
-    let risk = marked c.args.left.now.gone.now in
+    let risk = gone c.args.left.now in
     let list = c.list-list.result.now in
     let t = c.loop-i-test.false in
     let m = filter_among (λ k. not (risk k)) s.0 list
