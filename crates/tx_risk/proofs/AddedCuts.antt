@@ -1,7 +1,7 @@
 -- The cuts of one code, one exchange after another.
-use Rattle.std.proofs.Common.{◌≡◌, ℕ, ◌+◌, ◌<◌, true, List, [], ◌∷◌, ◌++◌, map, inl, inr, length, Option, Some, None, refl, sym, ap, subst, ◌∙◌, arith, append_assoc, append-nil}
+use Rattle.std.proofs.Common.{◌≡◌, ◌↔◌, ℕ, ◌+◌, ◌<◌, true, List, [], ◌∷◌, ◌++◌, map, inl, inr, length, Option, Some, None, refl, sym, ap, subst, ◌∙◌, arith, append_assoc, append-nil}
 use Rattle.std.proofs.lemmas.Bool.{false≢true, cases_eq, and_parts}
-use Rattle.std.proofs.lemmas.Option.{none-some}
+use Rattle.std.proofs.lemmas.Option.{none-some, same_Some}
 use Rattle.std.proofs.lemmas.List.{map-append}
 use Rattle.std.specs.Prelude.{is_some}
 use Rattle.tx_plan.specs.Plan.{Plan}
@@ -11,18 +11,21 @@ use Rattle.tx_rank.proofs.Nets.{is_net}
 use Rattle.tx_plan.specs.Among.{Among}
 use Rattle.tx_plan.proofs.Among.{among_left, among_right, among_cases}
 use Rattle.tx_plan.proofs.ByPlace.{pairs_put}
-use Rattle.tx_rank.specs.Walks.{Net}
+use Rattle.tx_rank.specs.Walks.{Net, Goes, AllDiffer, net_of, passed}
 use Rattle.tx_rank.specs.Heights.{IsReached}
 use Rattle.tx_rank.proofs.Ways.{among_all}
-use Rattle.tx_risk.specs.declared.ahead.Ahead.{Ahead}
+use Rattle.tx_rank.proofs.Ranks.{once_down}
+use Rattle.tx_rank.proofs.Certifying.{certifies_code}
+use Rattle.tx_risk.specs.declared.nearest.Goal.TheVariants.{DeadEnd, Home}
 use Rattle.tx_risk.specs.declared.cut.Cut.{Cut}
 use Rattle.tx_risk.specs.declared.outage.Outage.{Outage}
-use Rattle.tx_risk.specs.Risks.{IsCut}
+use Rattle.tx_risk.specs.Risks.{Risk, net_without, IsCut, LeadsHome}
 use Rattle.tx_risk.specs.Outages.{is_asked, IsCutAs, start_at}
+use Rattle.tx_risk.specs.Survivals.{HasGrade}
 use Rattle.tx_risk.specs.inner.Left.{Left, left_net}
-use Rattle.tx_risk.specs.inner.Ahead.{IsAhead, IsNearestWay}
+use Rattle.tx_risk.specs.inner.Nearest.{IsDistance}
 use Rattle.tx_risk.specs.inner.Cutting.{Adds, AreCuts, AreCutsBefore}
-use Rattle.tx_risk.proofs.LookingAhead.{some_is}
+use Rattle.tx_risk.proofs.Ordering.{goes_left}
 
 module _ {A : Type 0} (l : Left) (o : Outage) where
   abbrev Before : ℕ → List (Cut A) → Type 0
@@ -123,28 +126,50 @@ module _ {A : Type 0} (l : Left) (o : Outage) where
         };
       }
 
--- from where no dead end is ahead there is no cut
-pub none_cut : (n : Net) (x : ℕ) (a : Ahead) (steps : List (ℕ × ℕ)) → IsAhead n x a
-    → a.dead_end ≡ None → IsCut n x steps → ⊥
-none_cut n x a steps h e c =
-    let m = h.nearest steps c.dead in none-some _ (sym e ∙ m.1)
+-- without a dead end there is no cut
+pub none_cut : (n : Net) (x : ℕ) (o : Option ℕ) (steps : List (ℕ × ℕ)) → IsDistance n DeadEnd x o
+    → o ≡ None → IsCut n x steps → ⊥
+none_cut n x o steps h e c =
+    let m = h.least steps c.dead.goes (c.dead.away, c.dead.none) in none-some _ (sym e ∙ m.1)
 
--- a cut by the nearest way to a dead end
-pub cut_as : {A : Type 0} (n : Net) (c : Cut A) (o : Outage) (code d : ℕ) (a : Ahead)
-    → c.outage ≡ o → c.code ≡ code → IsAhead n c.walk.start a → a.dead_end ≡ Some d
-    → IsNearestWay n c.walk.start c.walk.steps d → c.stray ≡ a.home → IsCutAs n o code c
-cut_as n c o code d a fails of ahead e w s = record {
+-- a cut by a shortest way to a dead end
+pub cut_as : {A : Type 0} (n : Net) (c : Cut A) (o : Outage) (code x : ℕ) (home : Option ℕ)
+    → c.outage ≡ o → c.code ≡ code → c.walk.start ≡ x → IsCut n x c.walk.steps
+    → IsDistance n DeadEnd x (Some (length c.walk.steps)) → IsDistance n Home x home
+    → c.stray ≡ is_some home → IsCutAs n o code c
+cut_as n c o code x home fails of start cut dead leads stray = record {
   outage = fails;
   of_code = of;
-  cut = w.cut;
+  cut = subst (λ y. IsCut n y c.walk.steps) (sym start) cut;
   shortest = λ steps k.
-      let m = ahead.nearest steps k.dead in
-      let same = some_is (sym e ∙ m.1) in
+      let d = (subst (λ y. IsCut n y steps) start k).dead in
+      let m = dead.least steps d.goes (d.away, d.none) in
+      let same = same_Some _ _ m.1 in
       let few = m.2 in
-      let count = w.count in
       omega arith;
-  stray = (λ t. ahead.home.0 (sym s ∙ t), λ h. s ∙ ahead.home.1 h);
+  stray = subst (λ y. (c.stray ≡ true) ↔ LeadsHome n y) (sym start)
+      (λ t. back home leads (sym stray ∙ t), λ h. stray ∙ there home leads h);
 }
+  where
+    back : (o : Option ℕ) → IsDistance n Home x o → is_some o ≡ true → LeadsHome n x
+    back None k t = absurd (false≢true t)
+    back (Some d) k t =
+        let w = k.way d refl in record { steps = w.steps; goes = w.goes; home = w.ends }
+
+    there : (o : Option ℕ) → IsDistance n Home x o → LeadsHome n x → is_some o ≡ true
+    there o k h = let m = k.least h.steps h.goes h.home in ap is_some m.1
+
+-- where a plan has a grade no walk passes an exchange twice
+pub graded_once : (p : Plan) (risk : Risk) (code x : ℕ) (steps : List (ℕ × ℕ)) → HasGrade p
+    → code < length p.codes → is_origin_for p x code ≡ true
+    → Goes (net_without p risk code) x steps → AllDiffer (passed x steps)
+graded_once p risk code x steps grade within origin goes =
+    let n = net_of p code in
+    let ranks = grade.2.0 in
+    let cert = certifies_code p ranks grade.0 grade.1 grade.2.1 code within in
+    let o = cert.origins x origin in
+    once_down n (ranks code) (record { lower = cert.lower }) x o.0 steps o.1
+    (goes_left risk n x steps goes)
 
 -- an exchange in question is one where calls may start
 pub asked_origin : (p : Plan) (o : Outage) (code x : ℕ) → is_asked p o code x ≡ true

@@ -5,8 +5,8 @@ pub mod Failed
 pub mod Through
 pub mod LeftLists
 pub mod LeftNets
-pub mod LookingAhead
-pub mod InOrder
+pub mod Ordering
+pub mod Measuring
 pub mod Descending
 pub mod AddedCuts
 pub mod AddedOutages

@@ -3,24 +3,26 @@ use Rattle.std.proofs.Common.{◌≡◌, ◌≢◌, ℕ, ◌+◌, ◌<◌, ◌�
 use Rattle.std.proofs.lemmas.Bool.{and_parts, both_ways, not-true, ne_eqb, eqb-false, cases_eq}
 use Rattle.std.specs.Prelude.{slice_get, is_some, if◌then◌else◌}
 use Rattle.std.specs.Option.{option_and_then, option_map_or}
+use Rattle.std.specs.List.{list_any}
 use Rattle.tx_plan.specs.Plan.{Plan, Group as Row, home_of}
 use Rattle.tx_plan.specs.Circuits.{other_end, far_end, ends_of}
 use Rattle.tx_plan.specs.Routes.{route_list, is_origin_for}
 use Rattle.tx_plan.specs.Among.{Among}
 use Rattle.tx_plan.proofs.Among.{filter_among}
+use Rattle.tx_machine.proofs.Lists.{none_any}
 use Rattle.tx_rank.specs.Walks.{Goes, end_of}
 use Rattle.tx_rank.proofs.Nets.{is_net}
 use Rattle.tx_risk.specs.declared.outage.Outage.{Outage}
 use Rattle.tx_risk.specs.declared.outage.Outage.TheVariants.{Group, Exchange, Named}
-use Rattle.tx_risk.specs.Risks.{Risk, groups_of, net_without}
+use Rattle.tx_risk.specs.Risks.{Risk, groups_of, left_of, net_without}
 use Rattle.tx_risk.specs.NamedRisks.{NamedRisk}
 use Rattle.tx_risk.specs.Outages.{risk_of, fails_at}
 use Rattle.tx_risk.specs.Survivals.{HasGrade}
 use Rattle.tx_risk.specs.inner.Left.{Left, IsLeft, gone}
 use Rattle.tx_risk.specs.inner.Cutting.{AreCuts}
-use Rattle.tx_risk.specs.inner.Hits.{AreEnds, IsMissed, TakesItsGroups}
+use Rattle.tx_risk.specs.inner.Hits.{AreEnds, TakesItsGroups, is_emptied}
 use Rattle.tx_risk.proofs.Ways.{ranked_on}
-use Rattle.tx_risk.proofs.LeftLists.{left_goes}
+use Rattle.tx_risk.proofs.LeftLists.{left_goes, none_left}
 use Rattle.tx_risk.proofs.AddedOutages.{end_known}
 
 -- an exchange to which a group leads is an end of it
@@ -127,10 +129,11 @@ takes p risks (Exchange x) = λ g t. t
 takes p risks (Named i) = tt
 
 module _ (l : Left) (is : IsLeft l) (o : Outage) where
-  -- an exchange that is no end of a group that goes is missed
-  missed_all : (ends : List ℕ) → AreEnds l.plan (gone l) (length l.plan.groups) ends
-      → ((x : ℕ) → Among x ends → IsMissed l o x) → (x : ℕ) → IsMissed l o x
-  missed_all ends all each x f some none = at (route_list l.plan x l.code) refl
+  -- a list of which nothing is left is that of an end of a group that goes
+  missed : (ends : List ℕ) → AreEnds l.plan (gone l) (length l.plan.groups) ends
+      → list_any (is_emptied l o) ends ≡ false → (x : ℕ) → fails_at o x ≡ false
+      → route_list l.plan x l.code ≢ [] → left_of (gone l) (route_list l.plan x l.code) ≡ [] → ⊥
+  missed ends all hit x f some none = at (route_list l.plan x l.code) refl
     where
       at : (gs : List ℕ) → route_list l.plan x l.code ≡ gs → ⊥
       at [] e = some e
@@ -139,13 +142,17 @@ module _ (l : Left) (is : IsLeft l) (o : Outage) where
           let to = (is_net l.plan is.rules l.code is.code).leads x g m in
           let end : is_some (other_end l.plan g x) ≡ true = ap is_some to.1 in
           let goes = left_goes (gone l) (route_list l.plan x l.code) g none m in
-          each x (all g x (end_known l.plan g x end) goes end) f some none
+          let here = all g x (end_known l.plan g x end) goes end in
+          let empty = none_left (gone l) (route_list l.plan x l.code) none in
+          let long = ne_eqb (length (route_list l.plan x l.code)) 0
+          (λ z. let k = ap length e in omega arith) in
+          both_ways _ (none_any (is_emptied l o) ends x hit here) (rw (f, empty, long) refl)
 
   -- so it is cut off from no exchange in question
   pub unhit : {A : Type 0} → HasGrade l.plan → TakesItsGroups l.plan (gone l) o → (ends : List ℕ)
       → AreEnds l.plan (gone l) (length l.plan.groups) ends
-      → ((x : ℕ) → Among x ends → IsMissed l o x) → AreCuts {A = A} l o []
-  unhit grade takes ends all each = record {
+      → list_any (is_emptied l o) ends ≡ false → AreCuts {A = A} l o []
+  unhit grade takes ends all hit = record {
     each = λ c m. absurd m;
     asked = λ c m. absurd m;
     order = tt;
@@ -160,7 +167,7 @@ module _ (l : Left) (is : IsLeft l) (o : Outage) where
         let q = ranked_on p (gone l) code grade.2.0 grade.0 grade.1 cert is.code x r.0 steps r.1
         c.dead.goes in
         let d = cert.lists code (end_of x steps) q.0 is.code q.1 c.dead.away in
-        absurd (missed_all ends all each (end_of x steps)
+        absurd (missed ends all hit (end_of x steps)
         (not_failing p (gone l) o code x steps takes (not-true _ f.0) c.dead.goes)
         (λ e. let n = d.enough in let few = ap length e in omega arith) c.dead.none);
   }

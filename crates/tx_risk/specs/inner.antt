@@ -1,6 +1,6 @@
 pub mod Marked
 pub mod Left
 pub mod Orders
-pub mod Ahead
+pub mod Nearest
 pub mod Cutting
 pub mod Hits

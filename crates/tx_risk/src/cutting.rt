@@ -2,15 +2,16 @@
 ghost use Rattle.std.specs.Prelude.{◌≡◌, ◌<◌, ◌+◌, List, length, IfOk};
 ghost use Rattle.tx_rank.specs.Judged.{AreOrigins};
 ghost use Rattle.tx_risk.specs.Outages.{is_asked, fails_at};
+ghost use Rattle.tx_risk.specs.Survivals.{HasGrade};
 ghost use Rattle.tx_risk.specs.declared.cut.Cut.{Cut};
 ghost use Rattle.tx_risk.specs.inner.Left.{left_net};
 ghost use Rattle.tx_risk.specs.inner.Orders.{IsOrder};
-ghost use Rattle.tx_risk.specs.inner.Ahead.{AreAhead};
+ghost use Rattle.tx_risk.specs.inner.Nearest.{AreNearest};
 ghost use Rattle.tx_risk.specs.inner.Cutting.{Adds, AreCuts, AreCutsBefore};
 
-use crate::ahead::{Ahead, ahead_at, aheads_of};
 use crate::cut::Cut;
 use crate::left::Left;
+use crate::nearest::{Goal, distance_at, distances_to};
 use crate::outage::Outage;
 use crate::shortest::walk_from;
 use std::alloc::Allocator;
@@ -27,36 +28,37 @@ pub fn is_failing(outage: &Outage, exchange: ExchangeId) -> bool
     }
 }
 
-/// Adds the cut from the exchange at a place, if it is in question and there is one.
+/// Adds the cut from an exchange, if it is in question and there is one.
 fn add_cut<A: Allocator + Copy>(
     alloc: A,
     left: &Left<'_, A>,
-    aheads: &[Ahead],
     origins: &[bool],
     outage: &Outage,
-    place: usize,
+    dead_ends: &[Option<usize>],
+    homes: &[Option<usize>],
+    exchange: ExchangeId,
     cuts: &mut Vec<Cut<A>, A>,
 ) -> Result<(), NoMemory>
-    requires place { place < length left.now.plan.exchanges }
-    requires aheads { AreAhead (left_net left.now) aheads.now }
+    requires exchange { exchange < length left.now.plan.exchanges }
+    requires grade { HasGrade left.now.plan }
     requires origins { AreOrigins left.now.plan origins.now }
+    requires dead_ends { AreNearest (left_net left.now) Goal.DeadEnd dead_ends.now }
+    requires homes { AreNearest (left_net left.now) Goal.Home homes.now }
     ensures { IfOk result (λ _. (first : List (Cut A))
-        → Adds (AreCutsBefore left.now outage.now place) first cuts.old.items
-        → Adds (AreCutsBefore left.now outage.now (place + 1)) first cuts.new.items) }
+        → Adds (AreCutsBefore left.now outage.now exchange) first cuts.old.items
+        → Adds (AreCutsBefore left.now outage.now (exchange + 1)) first cuts.new.items) }
 {
-    let exchange = ExchangeId::of(place);
     if !is_asked(left, origins, outage, exchange) {
         return Ok(());
     }
-    let ahead = ahead_at(aheads, exchange);
-    let Some(distance) = ahead.dead_end else {
+    if distance_at(dead_ends, exchange).is_none() {
         return Ok(());
-    };
-    let walk = walk_from(alloc, left, aheads, exchange, distance)?;
+    }
+    let walk = walk_from(alloc, left, dead_ends, exchange)?;
     cuts.push(Cut {
         outage: *outage,
         code: left.code,
-        stray: ahead.home,
+        stray: distance_at(homes, exchange).is_some(),
         walk,
     })?;
     Ok(())
@@ -86,13 +88,18 @@ pub fn add_cuts<A: Allocator + Copy>(
     outage: &Outage,
     cuts: &mut Vec<Cut<A>, A>,
 ) -> Result<(), NoMemory>
+    requires grade { HasGrade left.now.plan }
     requires order { IsOrder (left_net left.now) order.now }
     requires origins { AreOrigins left.now.plan origins.now }
     ensures { IfOk result (λ _. Adds (AreCuts left.now outage.now) cuts.old.items cuts.new.items) }
 {
-    let aheads = aheads_of(alloc, left, order)?;
+    let dead_ends = distances_to(alloc, left, Goal::DeadEnd, order)?;
+    let homes = distances_to(alloc, left, Goal::Home, order)?;
     for place in 0..left.exchanges() {
-        add_cut(alloc, left, &aheads, origins, outage, place, cuts)?;
+        let exchange = ExchangeId::of(place);
+        add_cut(
+            alloc, left, origins, outage, &dead_ends, &homes, exchange, cuts,
+        )?;
     }
     Ok(())
 }

@@ -1,9 +1,9 @@
 // Which codes an outage may cut off at all.
-ghost use Rattle.std.specs.Prelude.{◌≡◌, ◌<◌, ◌+◌, ◌==◌, ℕ, false, length, IfOk};
+ghost use Rattle.std.specs.Prelude.{◌≡◌, ◌<◌, ◌+◌, ◌==◌, ℕ, length, IfOk};
 ghost use Rattle.std.specs.List.{list_any};
 ghost use Rattle.tx_plan.specs.Among.{Among};
 ghost use Rattle.tx_risk.specs.inner.Marked.{marked};
-ghost use Rattle.tx_risk.specs.inner.Hits.{AreEnds, IsMissed};
+ghost use Rattle.tx_risk.specs.inner.Hits.{AreEnds, is_emptied};
 
 use crate::cutting::is_failing;
 use crate::left::{Left, is_marked};
@@ -73,26 +73,15 @@ pub fn ends_of<A: Allocator + Copy>(
 
 /// Whether nothing is left of the list of an exchange that has one, and does not fail.
 fn is_emptied<A: Allocator>(left: &Left<'_, A>, outage: &Outage, exchange: ExchangeId) -> bool
-    ensures { result ≡ false → IsMissed left.now outage.now exchange }
+    ensures { result ≡ is_emptied left.now outage.now exchange }
 {
     let list = left.list(exchange);
-    if list.is_empty() {
-        return false;
-    }
-    if is_failing(outage, exchange) {
-        return false;
-    }
-    left.are_gone(list)
+    !list.is_empty() && !is_failing(outage, exchange) && left.are_gone(list)
 }
 
 /// Whether nothing is left of a list for the code, of an exchange among these.
 pub fn is_hit<A: Allocator>(left: &Left<'_, A>, ends: &[ExchangeId], outage: &Outage) -> bool
-    ensures { result ≡ false → (x : ℕ) → Among x ends.now → IsMissed left.now outage.now x }
+    ensures { result ≡ list_any (is_emptied left.now outage.now) ends.now }
 {
-    for i in 0..ends.len() {
-        if is_emptied(left, outage, ends[i]) {
-            return true;
-        }
-    }
-    false
+    ends.iter().any(|end| is_emptied(left, outage, *end))
 }

@@ -1,7 +1,7 @@
 // What a risk leaves of a plan.
-ghost use Rattle.std.specs.Prelude.{◌≡◌, ◌↔◌, true, []};
+ghost use Rattle.std.specs.Prelude.{◌≡◌};
+ghost use Rattle.std.specs.List.{list_all};
 ghost use Rattle.tx_plan.specs.Routes.{route_list};
-ghost use Rattle.tx_risk.specs.Risks.{left_of};
 ghost use Rattle.tx_risk.specs.inner.Marked.{marked};
 ghost use Rattle.tx_risk.specs.inner.Left.{IsLeft, gone, left_net};
 
@@ -66,16 +66,11 @@ impl<'a, A: Allocator> Left<'a, A> {
         is_marked(self.gone, group)
     }
 
-    /// Whether nothing is left of a list.
+    /// Whether all groups of a list go.
     pub fn are_gone(&self, list: &[GroupId]) -> bool
-        ensures { result ≡ true ↔ left_of (gone self.now) list.now ≡ [] }
+        ensures { result ≡ list_all (gone self.now) list.now }
     {
-        for i in 0..list.len() {
-            if !self.is_gone(list[i]) {
-                return false;
-            }
-        }
-        true
+        list.iter().all(|group| self.is_gone(*group))
     }
 }
 

@@ -2,13 +2,13 @@
 //! then, and what is promised of all others.
 #![tactic(auto)]
 
-mod ahead;
 mod cut;
 mod cutting;
 mod hits;
 mod law;
 mod left;
 mod named_risk;
+mod nearest;
 mod orders;
 mod outage;
 mod outages;

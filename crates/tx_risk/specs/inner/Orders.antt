@@ -1,24 +1,17 @@
 -- Exchanges in an order in which their lists lead back.
-use Rattle.std.specs.Prelude.{◌≡◌, ◌≢◌, ℕ, ◌<◌, true, List, length, All, Contains, Vec, Some, slice_get}
+use Rattle.std.specs.Prelude.{◌≡◌, ◌≢◌, ℕ, ◌<◌, List, length, Vec, Some, slice_get, take}
 use Rattle.tx_plan.specs.Plan.{Plan}
 use Rattle.tx_plan.specs.Among.{Among}
 use Rattle.tx_rank.specs.Walks.{Net, net_of}
+use Rattle.tx_rank.specs.Heights.{IsReached}
 
--- a group leads from x to an exchange before place i
-pub record LeadsBack (n : Net) (order : List ℕ) (i x g : ℕ) : Type 0 where
-  pub to : ℕ
-  pub place : ℕ
-  pub leads : n.far g x ≡ Some to
-  pub at : slice_get order place ≡ Some to
-  pub before : place < i
-
--- An order of exchanges: all are there where calls may start, and each but the home lists groups
--- that lead to exchanges before it.
+-- An order of exchanges: each exchange of a walk is there, and the groups of each but the home lead
+-- to exchanges before it.
 pub record IsOrder (n : Net) (order : List ℕ) : Type 0 where
-  pub within : All (λ x. x < n.exchanges) order
-  pub origins : (x : ℕ) → n.is_origin x ≡ true → Contains order x
+  pub within : (x : ℕ) → Among x order → x < n.exchanges
+  pub reached : (x : ℕ) → IsReached n x → Among x order
   pub back : (i x : ℕ) → slice_get order i ≡ Some x → x ≢ n.home
-      → (g : ℕ) → Among g (n.list x) → LeadsBack n order i x g
+      → (g y : ℕ) → Among g (n.list x) → n.far g x ≡ Some y → Among y (take i order)
 
 -- one for each code
 pub record AreOrders {A : Type 0} (p : Plan) (orders : List (Vec ℕ A)) : Type 0 where

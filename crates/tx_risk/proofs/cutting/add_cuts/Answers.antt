@@ -1,9 +1,21 @@
-use Rattle.std.proofs.Common.{◌≡◌, length, arith}
+use Rattle.std.proofs.Common.{◌≡◌, ◌+◌, length, sym, subst, arith}
+use Rattle.tx_risk.specs.inner.Cutting.{Adds, AreCutsBefore}
 use Rattle.tx_risk.proofs.AddedCuts.{before_none, before_all, asked_within}
 use Rattle.tx_risk.proofs.cutting.add_cuts.Goals as goal
 
 pub loop-place-init : goal.loop-place-init
 loop-place-init g c = before_none c.args.left.now c.args.outage.now c.args.cuts.now.items
+
+pub loop-place-preserved : goal.loop-place-preserved
+loop-place-preserved g c =
+    let l = c.args.left.now in
+    let o = c.args.outage.now in
+    let first = c.args.cuts.now.items in
+    subst (λ k. Adds (AreCutsBefore l o (k + 1)) first c.add_cut.new.cuts.items)
+    c.of-exchange.ensures
+    (c.in_ok-add_cut.ensures first
+    (subst (λ k. Adds (AreCutsBefore l o k) first c.loop-place.cuts.items)
+    (sym c.of-exchange.ensures) c.loop-place.invariant))
 
 pub returns : goal.returns
 returns g c =

@@ -9,7 +9,7 @@ use Rattle.tx_risk.specs.inner.Cutting.{Adds}
 use Rattle.tx_risk.specs.inner.Marked.{marked}
 use Rattle.tx_risk.specs.inner.Hits.{AreEnds, TakesItsGroups}
 use Rattle.tx_risk.proofs.Marking.{same_risk}
-use Rattle.tx_risk.proofs.InOrder.{order_left}
+use Rattle.tx_risk.proofs.Ordering.{order_left}
 use Rattle.tx_risk.proofs.Unhit.{takes, unhit}
 use Rattle.tx_risk.proofs.AddedOutages.{codes_next}
 use Rattle.tx_risk.proofs.outages.add_outage.Goals as goal
@@ -37,11 +37,11 @@ loop-place-preserved-then-not-is_hit g c =
     c.in_ok-ends.ensures) in
     let none = unhit left is o c.requires.grade
     (subst (λ r. TakesItsGroups p r o) (sym same) (takes p c.args.risks.now o))
-    c.deref-in-loop-place-2.result.now ends (c.is_hit.ensures c.if-not-is_hit.true) in
+    c.deref-in-loop-place-2.result.now ends (sym c.is_hit.ensures ∙ c.if-not-is_hit.true) in
     let mine : Adds (AreCutsOfCode p risk o c.of.result) old old = record {
       mine = [];
       added = sym (append-nil old);
-      these = subst (λ r. AreCutsOfCode p r o c.of.result []) same none;
+      these = subst (λ r. AreCutsOfCode {A = g.row.A.Denot} p r o c.of.result []) same none;
     } in
     codes_next p risk o c.loop-place.place c.args.cuts.now.items old old c.loop-place.invariant
     (subst (λ k. Adds (AreCutsOfCode p risk o k) old old) c.of.ensures mine)
