@@ -10,9 +10,8 @@ use crate::job_fault::JobFault;
 use std::alloc::Allocator;
 use tx_plan::Plan;
 use tx_plantext::read_plan_from;
-use tx_risk::{NamedRisk, Survival, survive};
+use tx_risk::{NamedRisk, Risks, Survival, read_risks_from, survive};
 use tx_risk_report::write_survival;
-use tx_risk_text::{Risks, read_risks_from};
 use tx_text::{Sink, Source};
 
 /// Reads a plan, and writes whom each of its groups and each of its exchanges cuts off if it fails

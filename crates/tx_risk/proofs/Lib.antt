@@ -4,7 +4,6 @@ pub mod Clear
 pub mod Failed
 pub mod Through
 pub mod LeftLists
-pub mod LeftNets
 pub mod Ordering
 pub mod Measuring
 pub mod Descending
@@ -12,3 +11,5 @@ pub mod AddedCuts
 pub mod AddedOutages
 pub mod Unhit
 pub mod Marking
+pub mod GroupWords
+pub mod RiskLines

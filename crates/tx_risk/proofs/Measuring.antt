@@ -156,12 +156,6 @@ module _ (n : Net) (ds : List (Option ℕ)) (x : ℕ) where
             )
 
 module _ (n : Net) (goal : Goal) (x : ℕ) where
-  pub measured_goal : IsGoal n goal x → IsDistance n goal x (Some 0)
-  measured_goal is = record {
-    way = λ d e. record { steps = []; goes = tt; ends = is; count = same_Some _ _ e };
-    least = λ steps go end. (0, refl, omega arith);
-  }
-
   -- no way leads on from the home
   pub measured_home : x ≡ n.home → (IsGoal n goal x → ⊥) → IsDistance n goal x None
   measured_home here off = record { way = λ d e. absurd (none-some _ e); least = no_way }

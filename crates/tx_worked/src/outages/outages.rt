@@ -11,7 +11,7 @@ use crate::walks::{
 use std::alloc::Global;
 use tx_plan::Plan;
 use tx_plantext::read_plan;
-use tx_risk_text::read_risks;
+use tx_risk::read_risks;
 use tx_text::NoMemory;
 
 /// The plan in hand: one of each kind serves all plans of a family.

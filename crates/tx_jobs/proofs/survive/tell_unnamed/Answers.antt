@@ -1,5 +1,5 @@
 use Rattle.std.proofs.Common.{◌∙◌}
-use Rattle.tx_risk_text.proofs.RiskLines.{no_risks}
+use Rattle.tx_risk.proofs.RiskLines.{no_risks}
 use Rattle.tx_jobs.proofs.survive.tell_unnamed.Goals as goal
 
 pub tell_survival-requires : goal.tell_survival-requires

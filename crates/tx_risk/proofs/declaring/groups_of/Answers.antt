@@ -5,8 +5,8 @@ use Rattle.std.specs.List.{list_any}
 use Rattle.tx_plan.specs.Plan.{group_named}
 use Rattle.tx_plan.specs.Declaring.{has_group}
 use Rattle.tx_machine.proofs.Lists.{none_any}
-use Rattle.tx_risk_text.proofs.GroupWords.{unknown_is}
-use Rattle.tx_risk_text.proofs.declaring.groups_of.Goals as goal
+use Rattle.tx_risk.proofs.GroupWords.{unknown_is}
+use Rattle.tx_risk.proofs.declaring.groups_of.Goals as goal
 
 pub unreachable-requires : goal.unreachable-requires
 unreachable-requires g c =

@@ -3,8 +3,8 @@ use Rattle.tx_text.specs.Told.{AtEnd}
 use Rattle.tx_text.proofs.Beside.{answers_beside, kept_beside}
 use Rattle.tx_text.proofs.Exits.{exits_with}
 use Rattle.tx_risk.specs.NamedRisks.{AreRisksFor}
-use Rattle.tx_risk_text.specs.RiskText.{declare, is_memory}
-use Rattle.tx_risk_text.proofs.risk_reader.read_risks.Goals as goal
+use Rattle.tx_risk.specs.RiskText.{declare, is_memory}
+use Rattle.tx_risk.proofs.risk_reader.read_risks.Goals as goal
 
 pub returns-in_err-lines-clause-answer : goal.returns-in_err-lines-clause-answer
 returns-in_err-lines-clause-answer g c =

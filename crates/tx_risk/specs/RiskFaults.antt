@@ -3,8 +3,8 @@ use Rattle.std.specs.Prelude.{codes}
 use Rattle.tx_text.specs.Rows.{Row, frame_row}
 use Rattle.tx_text.specs.declared.frame.FaultKind.{FaultKind}
 use Rattle.tx_text.specs.declared.frame.FaultKind.TheVariants.{Frame, Word}
-use Rattle.tx_risk_text.specs.declared.fault.RiskWord.{RiskWord}
-use Rattle.tx_risk_text.specs.declared.fault.RiskWord.TheVariants.{UnknownWord, WrongCount, BadName, Duplicate, UnknownName, RepeatedGroup, NoMemory}
+use Rattle.tx_risk.specs.declared.fault.RiskWord.{RiskWord}
+use Rattle.tx_risk.specs.declared.fault.RiskWord.TheVariants.{UnknownWord, WrongCount, BadName, Duplicate, UnknownName, RepeatedGroup, NoMemory}
 
 -- of a fault of a line's words
 abbrev pub word_row : RiskWord → Row

@@ -3,8 +3,8 @@ use Rattle.std.proofs.Common.{rules, tests, refl}
 use Rattle.std.proofs.lemmas.Iterator.Search.{any_from_yields_List}
 use Rattle.std.proofs.lemmas.Iterator.Consumers.{YieldsList-from_first}
 use Rattle.tx_plan.specs.Declaring.{has_group}
-use Rattle.tx_risk_text.proofs.GroupWords.{unknown_is}
-use Rattle.tx_risk_text.proofs.declaring.has_unknown.Goals as goal
+use Rattle.tx_risk.proofs.GroupWords.{unknown_is}
+use Rattle.tx_risk.proofs.declaring.has_unknown.Goals as goal
 
 pub returns : goal.returns
 returns g c =

@@ -1,7 +1,7 @@
 // What is wrong with a text of risks.
 ghost use Rattle.std.specs.Prelude.{◌≡◌};
-ghost use Rattle.tx_risk_text.specs.declared.fault.RiskWord.TheVariants.{NoMemory as OutOfMemory};
-ghost use Rattle.tx_risk_text.specs.RiskFaults.{word_row, fault_row};
+ghost use Rattle.tx_risk.specs.declared.fault.RiskWord.TheVariants.{NoMemory as OutOfMemory};
+ghost use Rattle.tx_risk.specs.RiskFaults.{word_row, fault_row};
 
 use thiserror::Error;
 use tx_text::{FaultAt, FaultKind, NoMemory};

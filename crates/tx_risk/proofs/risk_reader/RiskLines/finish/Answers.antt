@@ -1,6 +1,6 @@
 use Rattle.std.proofs.Common.{subst}
 use Rattle.tx_risk.specs.NamedRisks.{AreRisksFor}
-use Rattle.tx_risk_text.proofs.risk_reader.RiskLines.finish.Goals as goal
+use Rattle.tx_risk.proofs.risk_reader.RiskLines.finish.Goals as goal
 
 pub returns-clause-fits : goal.returns-clause-fits
 returns-clause-fits g c =

@@ -4,13 +4,13 @@ ghost use Rattle.std.specs.List.{list_any};
 ghost use Rattle.std.specs.Str.{bytes_eq};
 ghost use Rattle.tx_text.specs.Said.{Declared};
 ghost use Rattle.tx_plan.specs.Declaring.{has_group, group_at};
-ghost use Rattle.tx_risk_text.specs.RiskText.{declare, is_memory, risk_by, risk_line, with_risk};
+ghost use Rattle.tx_risk.specs.RiskText.{declare, is_memory, risk_by, risk_line, with_risk};
 
 use crate::fault::RiskWord;
 use crate::risks::Risks;
 use std::alloc::Allocator;
 use tx_plan::{GroupId, Plan};
-use tx_risk::NamedRisk;
+use crate::named_risk::NamedRisk;
 use tx_text::{Name, NoMemory, Words};
 
 /// Whether a risk has the name.

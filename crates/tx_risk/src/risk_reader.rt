@@ -5,7 +5,7 @@ ghost use Rattle.tx_text.specs.Ends.{input};
 ghost use Rattle.tx_text.specs.Said.{AnswersAs, told_fault};
 ghost use Rattle.tx_text.specs.Told.{AtEnd};
 ghost use Rattle.tx_risk.specs.NamedRisks.{AreRisksFor};
-ghost use Rattle.tx_risk_text.specs.RiskText.{risks_of, is_memory, declares_line, ReadsRisks};
+ghost use Rattle.tx_risk.specs.RiskText.{risks_of, is_memory, declares_line, ReadsRisks};
 
 use crate::declaring::declare;
 use crate::fault::{RiskFault, RiskWord};
@@ -61,7 +61,7 @@ impl<'p, A: Allocator> RiskLines<'p, A> {
 
 impl<'p, A: Allocator + Copy> Declares for RiskLines<'p, A> {
     ghost use Rattle.tx_text.specs.inner.Beside.{beside};
-    ghost use Rattle.tx_risk_text.specs.RiskText.{declare, is_memory};
+    ghost use Rattle.tx_risk.specs.RiskText.{declare, is_memory};
 
     type Word = RiskWord;
 

@@ -1,7 +1,7 @@
 use Rattle.std.proofs.Common.{rules}
 use Rattle.tx_text.proofs.Exits.{exits_with}
-use Rattle.tx_risk_text.specs.declared.fault.RiskWord.TheVariants.{NoMemory}
-use Rattle.tx_risk_text.proofs.declaring.risk_by.Goals as goal
+use Rattle.tx_risk.specs.declared.fault.RiskWord.TheVariants.{NoMemory}
+use Rattle.tx_risk.proofs.declaring.risk_by.Goals as goal
 
 pub returns-in_err-add_risk-clause-declared : goal.returns-in_err-add_risk-clause-declared
 returns-in_err-add_risk-clause-declared g c =

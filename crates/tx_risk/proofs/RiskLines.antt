@@ -18,10 +18,10 @@ use Rattle.tx_plan.proofs.SeenWords.{differ_as_words}
 use Rattle.tx_machine.proofs.Lists.{none_any}
 use Rattle.tx_rank.proofs.Ways.{all_among, among_all}
 use Rattle.tx_risk.specs.NamedRisks.{NamedRisk, IsNamedRisk, AreRisksFor}
-use Rattle.tx_risk_text.specs.declared.fault.RiskWord.TheVariants.{UnknownWord, WrongCount, BadName, Duplicate, UnknownName, RepeatedGroup}
+use Rattle.tx_risk.specs.declared.fault.RiskWord.TheVariants.{UnknownWord, WrongCount, BadName, Duplicate, UnknownName, RepeatedGroup}
 use Rattle.tx_text.specs.Said.{Declared}
-use Rattle.tx_risk_text.specs.declared.fault.RiskWord.{RiskWord}
-use Rattle.tx_risk_text.specs.RiskText.{declare, risk_line, with_risk, unless, is_memory}
+use Rattle.tx_risk.specs.declared.fault.RiskWord.{RiskWord}
+use Rattle.tx_risk.specs.RiskText.{declare, risk_line, with_risk, unless, is_memory}
 
 pub no_risks : (p : Plan) (risks : List NamedRisk) → risks ≡ [] → AreRisksFor p risks
 no_risks p risks e = subst (AreRisksFor p) (sym e) (record { each = tt; differ = tt })

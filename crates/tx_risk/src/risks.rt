@@ -3,7 +3,7 @@ ghost use Rattle.std.specs.Prelude.{◌≡◌, ◌++◌, ◌∷◌, [], OnOk, On
 
 use std::alloc::{Allocator, Global};
 use std::marker::Model;
-use tx_risk::NamedRisk;
+use crate::named_risk::NamedRisk;
 use tx_text::NoMemory;
 
 /// Named risks, in order.

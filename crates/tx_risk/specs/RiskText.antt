@@ -10,8 +10,8 @@ use Rattle.tx_text.specs.Said.{text_said, line_declares, ReadsText}
 use Rattle.tx_plan.specs.Plan.{Plan}
 use Rattle.tx_plan.specs.Declaring.{first_true, has_group, group_at, none_twice}
 use Rattle.tx_risk.specs.NamedRisks.{NamedRisk}
-use Rattle.tx_risk_text.specs.declared.fault.RiskWord.{RiskWord}
-use Rattle.tx_risk_text.specs.declared.fault.RiskWord.TheVariants.{UnknownWord, WrongCount, BadName, Duplicate, UnknownName, RepeatedGroup, NoMemory}
+use Rattle.tx_risk.specs.declared.fault.RiskWord.{RiskWord}
+use Rattle.tx_risk.specs.declared.fault.RiskWord.TheVariants.{UnknownWord, WrongCount, BadName, Duplicate, UnknownName, RepeatedGroup, NoMemory}
 
 -- the risks after a line, or what is wrong with its words
 abbrev pub Said : Type 0

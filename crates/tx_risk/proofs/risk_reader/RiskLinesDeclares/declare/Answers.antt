@@ -2,9 +2,9 @@ use Rattle.std.proofs.Common.{subst}
 use Rattle.tx_text.specs.Said.{Declared}
 use Rattle.tx_text.specs.inner.Beside.{beside}
 use Rattle.tx_text.proofs.Beside.{declared_beside}
-use Rattle.tx_risk_text.specs.RiskText.{declare, is_memory}
-use Rattle.tx_risk_text.proofs.RiskLines.{line_keeps}
-use Rattle.tx_risk_text.proofs.risk_reader.RiskLinesDeclares.declare.Goals as goal
+use Rattle.tx_risk.specs.RiskText.{declare, is_memory}
+use Rattle.tx_risk.proofs.RiskLines.{line_keeps}
+use Rattle.tx_risk.proofs.risk_reader.RiskLinesDeclares.declare.Goals as goal
 
 pub invariant_of-self : goal.invariant_of-self
 invariant_of-self g c =
