@@ -11,5 +11,6 @@ pub mod AddedCuts
 pub mod AddedOutages
 pub mod Unhit
 pub mod Marking
+pub mod Rows
 pub mod GroupWords
 pub mod RiskLines

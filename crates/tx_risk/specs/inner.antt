@@ -1,3 +1,4 @@
+pub mod Rows
 pub mod Marked
 pub mod Left
 pub mod Orders

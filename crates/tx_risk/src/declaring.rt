@@ -9,16 +9,8 @@ ghost use Rattle.tx_risk.specs.RiskText.{declare, is_memory, risk_by, risk_line,
 use crate::fault::RiskWord;
 use crate::risks::Risks;
 use std::alloc::Allocator;
-use tx_plan::{GroupId, Plan};
-use crate::named_risk::NamedRisk;
-use tx_text::{Name, NoMemory, Words};
-
-/// Whether a risk has the name.
-fn has_name<A: Allocator>(risks: &[NamedRisk<A>], name: &[u8]) -> bool
-    ensures { result ≡ list_any (λ r. bytes_eq name.now r.name) risks.now }
-{
-    risks.iter().any(|risk| name == risk.name.bytes())
-}
+use tx_plan::{GroupId, NameKey, Plan};
+use tx_text::{NoMemory, Words, is_name};
 
 /// Whether one of the words names no group.
 fn has_unknown<A: Allocator>(plan: &Plan<A>, mut words: Words<'_>) -> bool
@@ -51,15 +43,16 @@ fn add_risk<A: Allocator + Copy>(
     alloc: A,
     plan: &Plan<A>,
     risks: &mut Risks<A>,
-    name: Name,
+    name: NameKey,
     words: Words<'_>,
 ) -> Result<(), NoMemory>
-    requires { list_any (λ w. not (has_group plan.now w)) words ≡ false }
+    requires fresh { list_any (λ r. bytes_eq name r.name) risks.old ≡ false }
+    requires known { list_any (λ w. not (has_group plan.now w)) words ≡ false }
     ensures ok { OnOk result (risks.new ≡ with_risk plan.now risks.old name words.entry) }
     ensures same { OnErr result (risks.new ≡ risks.old) }
 {
     let groups = groups_of(alloc, plan, words)?;
-    risks.add(NamedRisk { name, groups })
+    risks.add(name, groups)
 }
 
 /// A name of its own, and its groups.
@@ -74,10 +67,11 @@ fn risk_by<A: Allocator + Copy>(
         risks.new result }
     ensures same { IfErr result (λ _. risks.new ≡ risks.old) }
 {
-    let Some(own) = Name::read(name) else {
+    if !is_name(name) {
         return Err(RiskWord::BadName);
-    };
-    if has_name(risks.as_slice(), name) {
+    }
+    let own = NameKey::new(name);
+    if risks.has(&own) {
         return Err(RiskWord::Duplicate);
     }
     if has_unknown(plan, words.again()) {

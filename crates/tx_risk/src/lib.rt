@@ -12,7 +12,6 @@ mod fault;
 mod hits;
 mod law;
 mod left;
-mod named_risk;
 mod nearest;
 mod orders;
 mod outage;
@@ -28,7 +27,6 @@ pub use law::{
     clear_calls_get_through, cut_is_short, dead_ends_cut, failed_cuts_no_other,
     keyed_since_get_through, none_on_failed, ranked_is_uncut, uncut_is_closed, uncut_is_served,
 };
-pub use named_risk::NamedRisk;
 pub use outage::Outage;
 pub use risk_reader::{read_risks, read_risks_from};
 pub use risks::Risks;

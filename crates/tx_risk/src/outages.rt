@@ -1,10 +1,9 @@
 // What the outages of a plan cut off.
-ghost use Rattle.std.specs.Prelude.{◌≡◌, ◌<◌, ◌==◌, ℕ, length, true, IfOk};
-ghost use Rattle.std.specs.List.{list_any};
+ghost use Rattle.std.specs.Prelude.{◌≡◌, ◌<◌, ℕ, length, true, IfOk};
 ghost use Rattle.tx_plan.specs.Certified.{IsCertified};
 ghost use Rattle.tx_cert.specs.Certificate.{ranks_of};
 ghost use Rattle.tx_rank.specs.Judged.{AreOrigins};
-ghost use Rattle.tx_risk.specs.NamedRisks.{AreRisksFor, named_groups};
+ghost use Rattle.tx_risk.specs.NamedRisks.{AreRisksFor};
 ghost use Rattle.tx_risk.specs.Outages.{risk_of, outage_at, AreCutsOf, AreAllCuts};
 ghost use Rattle.tx_risk.specs.Survivals.{HasGrade};
 ghost use Rattle.tx_risk.specs.inner.Marked.{marked};
@@ -15,9 +14,9 @@ use crate::cut::Cut;
 use crate::cutting::add_cuts;
 use crate::hits::{ends_of, is_hit};
 use crate::left::Left;
-use crate::named_risk::NamedRisk;
 use crate::orders::orders_of;
 use crate::outage::Outage;
+use crate::risks::Risks;
 use std::alloc::Allocator;
 use tx_cert::Cert;
 use tx_plan::{CodeId, ExchangeId, GroupId, Plan};
@@ -27,7 +26,7 @@ use tx_text::NoMemory;
 /// Whether a group goes with an outage.
 fn goes_with<A: Allocator>(
     plan: &Plan<A>,
-    risks: &[NamedRisk<A>],
+    risks: &Risks<A>,
     outage: &Outage,
     group: GroupId,
 ) -> bool
@@ -36,17 +35,7 @@ fn goes_with<A: Allocator>(
     match outage {
         Outage::Group(gone) => group == *gone,
         Outage::Exchange(exchange) => plan.other_end(group, *exchange).is_some(),
-        Outage::Named(place) => is_named(risks, *place, group),
-    }
-}
-
-/// Whether a group is one of the named risk at a place.
-fn is_named<A: Allocator>(risks: &[NamedRisk<A>], place: usize, group: GroupId) -> bool
-    ensures { result ≡ list_any (λ g. g == group) (named_groups risks.now place) }
-{
-    match risks.get(place) {
-        Some(risk) => risk.has(group),
-        None => false,
+        Outage::Named(place) => risks.groups(*place).contains(&group),
     }
 }
 
@@ -54,7 +43,7 @@ fn is_named<A: Allocator>(risks: &[NamedRisk<A>], place: usize, group: GroupId) 
 fn marks_of<A: Allocator + Copy>(
     alloc: A,
     plan: &Plan<A>,
-    risks: &[NamedRisk<A>],
+    risks: &Risks<A>,
     outage: &Outage,
 ) -> Result<Vec<bool, A>, NoMemory>
     requires { (g : ℕ) → risk_of plan.now risks.now outage.now g ≡ true
@@ -73,7 +62,7 @@ fn marks_of<A: Allocator + Copy>(
 fn add_outage<A: Allocator + Copy>(
     alloc: A,
     plan: &Plan<A>,
-    risks: &[NamedRisk<A>],
+    risks: &Risks<A>,
     orders: &[Vec<ExchangeId, A>],
     origins: &[bool],
     outage: &Outage,
@@ -123,7 +112,7 @@ pub fn all_cuts<A: Allocator + Copy>(
     alloc: A,
     plan: &Plan<A>,
     ranks: &Cert<A>,
-    risks: &[NamedRisk<A>],
+    risks: &Risks<A>,
 ) -> Result<Vec<Cut<A>, A>, NoMemory>
     requires certified { (limit : ℕ) × (spare : ℕ)
         × IsCertified plan.now (ranks_of ranks.now) limit spare }

@@ -8,8 +8,8 @@ ghost use Rattle.tx_risk.specs.Outages.{AreAllCuts};
 ghost use Rattle.tx_risk.specs.Survivals.{HasGrade, AreTried, OnTried, OnUngraded};
 
 use crate::cut::Cut;
-use crate::named_risk::NamedRisk;
 use crate::outages::all_cuts;
+use crate::risks::Risks;
 use std::alloc::{Allocator, Global};
 use tx_plan::Plan;
 use tx_rank::{Grade, grade};
@@ -30,7 +30,7 @@ pub enum Survival<A: Allocator = Global> {
 pub fn survive<A: Allocator + Copy>(
     alloc: A,
     plan: &Plan<A>,
-    risks: &[NamedRisk<A>],
+    risks: &Risks<A>,
 ) -> Result<Survival<A>, NoMemory>
     requires { AreRisksFor plan.now risks.now }
 

@@ -5,7 +5,7 @@ use crate::outages::wanted::WantedCut;
 use crate::walks::{Difference, Wanted, findings_differ};
 use std::alloc::Global;
 use tx_plan::Plan;
-use tx_risk::{Cut, NamedRisk, Survival, survive};
+use tx_risk::{Cut, Risks, Survival, survive};
 use tx_text::NoMemory;
 
 /// No walk of these plans is too long for this limit.
@@ -29,7 +29,7 @@ fn cuts_differ(plan: &Plan, cuts: &[Cut], wanted: &[WantedCut]) -> Option<Differ
 pub fn survival_differs(
     alloc: Global,
     plan: &Plan,
-    risks: &[NamedRisk],
+    risks: &Risks,
     findings: &[Wanted],
     cuts: &[WantedCut],
 ) -> Result<Option<Difference>, NoMemory>
