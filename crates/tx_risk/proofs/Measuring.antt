@@ -1,5 +1,5 @@
 -- How far an exchange is from a goal, by the distances of those to which its list leads.
-use Rattle.std.proofs.Common.{◌≡◌, ◌≢◌, ℕ, ◌+◌, ◌<◌, ◌≤◌, true, false, nat_lt, List, [], ◌∷◌, ◌⊎◌, map, fold, inl, inr, length, take, Option, Some, None, refl, sym, ap, ◌∙◌, subst, arith}
+use Rattle.std.proofs.Common.{◌≡◌, ◌≢◌, ℕ, ◌+◌, ◌^◌, ◌<◌, ◌≤◌, true, false, nat_lt, List, [], ◌∷◌, ◌⊎◌, map, fold, inl, inr, length, take, Option, Some, None, refl, sym, ap, ◌∙◌, subst, arith}
 use Rattle.std.specs.Prelude.{slice_get, if◌then◌else◌}
 use Rattle.std.specs.Option.{option_and_then, option_map}
 use Rattle.std.proofs.lemmas.Bool.{cases_eq, ltb-true}
@@ -14,7 +14,7 @@ use Rattle.tx_trie.proofs.Stepping.{set_same, set_other}
 use Rattle.tx_risk.specs.declared.nearest.Goal.{Goal}
 use Rattle.tx_risk.specs.declared.nearest.Step.{Step}
 use Rattle.tx_risk.specs.inner.Orders.{IsOrder}
-use Rattle.tx_risk.specs.inner.Nearest.{IsGoal, IsWayTo, IsDistance, AreKept, distance_in, nearer, nearest_step, step_by}
+use Rattle.tx_risk.specs.inner.Nearest.{IsGoal, IsWayTo, IsDistance, AreKept, IsKnownFrom, distance_in, nearer, nearest_step, step_by}
 use Rattle.tx_risk.proofs.Ordering.{way_few}
 
 -- THE NEAREST STEP
@@ -168,21 +168,17 @@ module _ (n : Net) (goal : Goal) (x : ℕ) where
 -- what is measured in an order
 module _ (n : Net) (goal : Goal) (ds : List (Option ℕ)) (order : List ℕ) (i x : ℕ)
     (at : slice_get order i ≡ Some x) (kept : AreKept n goal ds (take i order)) where
-  pub measured_at : IsOrder n order → x ≢ n.home → (IsGoal n goal x → ⊥) → (s : Option Step)
-      → nearest_step n ds x ≡ s → IsDistance n goal x (option_map (λ s. s.distance + 1) s)
-  measured_at o away =
-      measured n ds x goal (λ g y m leads. kept y (o.back i x at away g y m leads)) away
-
-  -- it has no more steps than exchanges come before
-  pub nearest_few : IsOrder n order → x ≢ n.home → (s : Step) → nearest_step n ds x ≡ Some s
-      → s.distance < i
-  nearest_few o away s h =
-      let k = nearest_is n ds x s h in
-      let m = o.back i x at away s.group s.to k.listed k.leads in
-      let w = (kept s.to m).way s.distance k.at in
-      let few = way_few n order o i s.to w.steps m w.goes in
-      let c = w.count in
-      omega arith
+  -- a distance that is kept of one before has fewer steps than exchanges come before
+  pub known_from : i < 2 ^ 64 → IsOrder n order → IsKnownFrom n goal ds x
+  known_from few o away g y m leads =
+      let before = o.back i x at away g y m leads in (
+        kept y before,
+        λ d e.
+            let w = (kept y before).way d e in
+            let f = way_few n order o i y w.steps before w.goes in
+            let c = w.count in
+            omega arith,
+      )
 
   pub kept_next : (d : Option ℕ) → x < length ds → IsDistance n goal x d
       → AreKept n goal (set ds x d) (take (i + 1) order)

@@ -1,8 +1,8 @@
 // How far exchanges are from a goal.
-ghost use Rattle.std.specs.Prelude.{◌≡◌, ◌↔◌, ◌<◌, ℕ, true, length, Some, slice_get, take, IfOk};
+ghost use Rattle.std.specs.Prelude.{◌≡◌, ◌↔◌, true, IfOk};
 ghost use Rattle.tx_risk.specs.inner.Left.{left_net};
 ghost use Rattle.tx_risk.specs.inner.Orders.{IsOrder};
-ghost use Rattle.tx_risk.specs.inner.Nearest.{IsGoal, IsDistance, AreKept, AreNearest, distance_in, nearer, nearest_step, step_by};
+ghost use Rattle.tx_risk.specs.inner.Nearest.{IsGoal, IsDistance, IsKnownFrom, AreNearest, distance_in, nearer, nearest_step, step_by};
 
 use crate::left::Left;
 use std::alloc::Allocator;
@@ -88,22 +88,16 @@ pub fn nearest_step<A: Allocator>(
         .fold(None, nearer)
 }
 
-/// The distance of the exchange at a place of an order, where those of the exchanges before it are
-/// kept.
+/// The distance of an exchange, where those of the exchanges to which its list leads are kept.
 fn distance_of<A: Allocator>(
     left: &Left<'_, A>,
     goal: Goal,
-    order: &[ExchangeId],
-    place: usize,
     distances: &[Option<usize>],
+    exchange: ExchangeId,
 ) -> Option<usize>
-    requires place { place < length order.now }
-    requires order { IsOrder (left_net left.now) order.now }
-    requires kept { AreKept (left_net left.now) goal distances.now (take place order.now) }
-    ensures { (x : ℕ) → slice_get order.now place ≡ Some x
-        → IsDistance (left_net left.now) goal x result }
+    requires { IsKnownFrom (left_net left.now) goal distances.now exchange }
+    ensures { IsDistance (left_net left.now) goal exchange result }
 {
-    let exchange = order[place];
     if is_goal(left, goal, exchange) {
         return Some(0);
     }
@@ -127,7 +121,7 @@ pub fn distances_to<A: Allocator + Copy>(
     let mut distances = vec![in alloc; None; left.exchanges()]?;
     for place in 0..order.len() {
         let exchange = order[place];
-        let distance = distance_of(left, goal, order, place, &distances);
+        let distance = distance_of(left, goal, &distances, exchange);
         distances[exchange.index()] = distance;
     }
     Ok(distances)

@@ -1,5 +1,5 @@
 -- How far exchanges are from a goal.
-use Rattle.std.specs.Prelude.{◌≡◌, ◌≢◌, ℕ, ◌≤◌, nat_lt, if◌then◌else◌, List, [], length, map, fold, Option, Some, None, slice_get}
+use Rattle.std.specs.Prelude.{◌≡◌, ◌≢◌, ℕ, ◌+◌, ◌^◌, ◌<◌, ◌≤◌, nat_lt, if◌then◌else◌, List, [], length, map, fold, Option, Some, None, slice_get}
 use Rattle.std.specs.Option.{option_and_then, option_map}
 use Rattle.tx_plan.specs.Among.{Among}
 use Rattle.tx_rank.specs.Walks.{Net, Goes, end_of}
@@ -33,6 +33,14 @@ distance_in distances x = option_and_then (λ d. d) (slice_get distances x)
 -- it is kept of these exchanges
 abbrev pub AreKept : Net → Goal → List (Option ℕ) → (xs : List ℕ) → Type 0
 AreKept n goal distances xs = (x : ℕ) → Among x xs → IsDistance n goal x (distance_in distances x)
+
+-- unless x is the home, it is kept of each exchange to which a group leads from there, and one more
+-- step can be counted
+abbrev pub IsKnownFrom : Net → Goal → List (Option ℕ) → ℕ → Type 0
+IsKnownFrom n goal distances x =
+    x ≢ n.home → (g y : ℕ) → Among g (n.list x) → n.far g x ≡ Some y
+    → IsDistance n goal y (distance_in distances y)
+    × ((d : ℕ) → distance_in distances y ≡ Some d → d + 1 < 2 ^ 64)
 
 -- it is kept of all exchanges of walks
 abbrev pub AreNearest : Net → Goal → List (Option ℕ) → Type 0

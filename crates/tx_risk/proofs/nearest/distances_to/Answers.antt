@@ -4,8 +4,8 @@ use Rattle.std.proofs.lemmas.List.{take_all}
 use Rattle.tx_plan.specs.Among.{Among}
 use Rattle.tx_rank.proofs.Looks.{got_at, among_at}
 use Rattle.tx_risk.specs.inner.Left.{left_net}
-use Rattle.tx_risk.specs.inner.Nearest.{AreKept}
-use Rattle.tx_risk.proofs.Measuring.{kept_next}
+use Rattle.tx_risk.specs.inner.Nearest.{AreKept, IsKnownFrom}
+use Rattle.tx_risk.proofs.Measuring.{known_from, kept_next}
 use Rattle.tx_risk.proofs.nearest.distances_to.Goals as goal
 
 pub loop-place-init : goal.loop-place-init
@@ -31,7 +31,7 @@ loop-place-preserved g c =
       kept = subst (λ k. AreKept n c.args.goal (set ds k d) (take (l.place + 1) order))
           (sym c.index.ensures)
           (kept_next n c.args.goal ds order l.place x at l.invariant.kept d within
-          (c.distance_of-distance.ensures x at));
+          c.distance_of-distance.ensures);
     }
 
 pub index_mut-requires : goal.index_mut-requires
@@ -46,11 +46,16 @@ index_mut-requires g c =
     let k = l.distances.ok.0 in
     omega arith
 
-pub distance_of-distance-requires-clause-kept : goal.distance_of-distance-requires-clause-kept
-distance_of-distance-requires-clause-kept g c =
+pub distance_of-distance-requires : goal.distance_of-distance-requires
+distance_of-distance-requires g c =
+    let n = left_net c.args.left.now in
     let l = c.loop-place in
-    subst (λ ds. AreKept (left_net c.args.left.now) c.args.goal ds (take l.place c.args.order.now))
-    (sym c.deref.ensures.value) l.invariant.kept
+    let order = c.args.order.now in
+    let x = c.index-order-place.result in
+    let at = got_at order order l.place x refl c.loop-place-test.true c.index-order-place.is in
+    subst (λ ds. IsKnownFrom n c.args.goal ds x) (sym c.deref.ensures.value)
+    (known_from n c.args.goal l.distances.items order l.place x at l.invariant.kept
+    (omega arith) c.requires)
 
 pub returns : goal.returns
 returns g c = λ x r.
