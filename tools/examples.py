@@ -305,7 +305,7 @@ def codes_defined():
     """The codes and names of the definitions, and why calls end by the names of the table, since these codes have none."""
     text = lambda crate, name: read(f"crates/{crate}/specs/{name}.antt").decode()
     rows = set()
-    for crate, name in [("tx_text", "Rows"), ("tx_plantext", "PlanFaults"), ("tx_lint", "LintText"), ("tx_cert", "CertFaults"), ("tx_script", "ScriptFaults"), ("tx_risk_text", "RiskFaults")]:
+    for crate, name in [("tx_text", "Rows"), ("tx_plantext", "PlanFaults"), ("tx_lint", "LintText"), ("tx_cert", "CertFaults"), ("tx_script", "ScriptFaults"), ("tx_risk", "RiskFaults")]:
         rows.update(re.findall(r'\(codes "([APCSQX]\d+)", codes "(\w+)"\)', text(crate, name)))
         for framed in re.findall(r'frame_row((?: \(codes "\w+"\))+)', text(crate, name)):
             rows.update(zip(re.findall(r'"(\w+)"', framed), ["NoHeader", "NoEnd", "AfterEnd", "ReadFault"]))

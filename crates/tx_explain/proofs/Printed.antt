@@ -14,7 +14,7 @@ use Rattle.tx_machine.specs.declared.cause.Cause.TheVariants as cause
 use Rattle.tx_check.specs.declared.fault.CheckFault.TheVariants as fault
 use Rattle.tx_rank.specs.declared.finding.Finding.TheVariants as finding
 use Rattle.tx_mend.specs.MendText.{pair_line, unserved_line}
-use Rattle.tx_risk_text.specs.declared.fault.RiskWord.TheVariants as risk
+use Rattle.tx_risk.specs.declared.fault.RiskWord.TheVariants as risk
 use Rattle.tx_explain.specs.Entries.{table}
 use Rattle.tx_explain.specs.Explained.{CodesAreDistinct, BeginsExplained, PlanFaultsAreExplained, WarningsAreExplained, CertFaultsAreExplained, ScriptFaultsAreExplained, RiskFaultsAreExplained, RefusalsAreExplained, CausesAreExplained, CheckFaultsAreExplained, FindingsAreExplained, MendingsAreExplained}
 

@@ -20,8 +20,8 @@ use Rattle.tx_check.specs.Verdicts.{fault_words}
 use Rattle.tx_rank.specs.declared.finding.Finding.{Finding}
 use Rattle.tx_rank.specs.Report.{finding_line}
 use Rattle.tx_mend.specs.MendText.{pair_line, unserved_line}
-use Rattle.tx_risk_text.specs.declared.fault.RiskWord.{RiskWord}
-use Rattle.tx_risk_text.specs.RiskFaults.{fault_row as risk_row}
+use Rattle.tx_risk.specs.declared.fault.RiskWord.{RiskWord}
+use Rattle.tx_risk.specs.RiskFaults.{fault_row as risk_row}
 use Rattle.tx_explain.specs.Entries.{table, entries_of, is_known}
 
 -- the code of an entry asks for that entry alone: no other has it as its code or its name

@@ -11,8 +11,8 @@ use Rattle.tx_plantext.specs.declared.fault.PlanWord.{PlanWord}
 use Rattle.tx_plantext.specs.declared.fault.PlanWord.TheVariants.{UnknownWord, Refused}
 use Rattle.tx_cert.specs.declared.fault.CertWord.{CertWord}
 use Rattle.tx_cert.specs.declared.fault.CertWord.TheVariants.{UnknownWord as CertUnknownWord, WrongCount as CertWrongCount, UnknownName, BadNumber as CertBadNumber, Duplicate as CertDuplicate, NoMemory as CertNoMemory}
-use Rattle.tx_risk_text.specs.declared.fault.RiskWord.{RiskWord}
-use Rattle.tx_risk_text.specs.declared.fault.RiskWord.TheVariants.{UnknownWord as RiskUnknownWord, WrongCount as RiskWrongCount, BadName as RiskBadName, Duplicate as RiskDuplicate, UnknownName as RiskUnknownName, RepeatedGroup as RiskRepeatedGroup, NoMemory as RiskNoMemory}
+use Rattle.tx_risk.specs.declared.fault.RiskWord.{RiskWord}
+use Rattle.tx_risk.specs.declared.fault.RiskWord.TheVariants.{UnknownWord as RiskUnknownWord, WrongCount as RiskWrongCount, BadName as RiskBadName, Duplicate as RiskDuplicate, UnknownName as RiskUnknownName, RepeatedGroup as RiskRepeatedGroup, NoMemory as RiskNoMemory}
 use Rattle.tx_script.specs.declared.script_word.ScriptWord.{ScriptWord}
 use Rattle.tx_script.specs.declared.run_fault.RunFault.{RunFault}
 use Rattle.tx_script.specs.declared.run_cause.RunCause.{RunCause}

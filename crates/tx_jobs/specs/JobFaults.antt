@@ -16,9 +16,9 @@ use Rattle.tx_script.specs.declared.run_fault.RunFault.{RunFault}
 use Rattle.tx_script.specs.declared.run_cause.RunCause.{RunCause}
 use Rattle.tx_script.specs.declared.run_cause.RunCause.TheVariants.{Read as RunRead, Write as RunWrite, Script as RunScript, NoMemory as RunNoMemory}
 use Rattle.tx_script.specs.ScriptFaults.{fault_row as script_row}
-use Rattle.tx_risk_text.specs.declared.fault.RiskWord.{RiskWord}
-use Rattle.tx_risk_text.specs.declared.fault.RiskWord.TheVariants.{NoMemory as RiskNoMemory}
-use Rattle.tx_risk_text.specs.RiskFaults.{fault_row as risk_row}
+use Rattle.tx_risk.specs.declared.fault.RiskWord.{RiskWord}
+use Rattle.tx_risk.specs.declared.fault.RiskWord.TheVariants.{NoMemory as RiskNoMemory}
+use Rattle.tx_risk.specs.RiskFaults.{fault_row as risk_row}
 use Rattle.tx_change.specs.declared.difference.NetworkList.{NetworkList}
 use Rattle.tx_change.specs.declared.difference.NetworkList.TheVariants.{Exchanges, Codes, Ranges, Groups}
 use Rattle.tx_change.specs.declared.difference.Difference.{Difference}

@@ -10,8 +10,8 @@ use Rattle.tx_risk.specs.Survivals.{HasGrade}
 use Rattle.tx_risk.specs.declared.surviving.Survival.{Survival}
 use Rattle.tx_risk.specs.declared.surviving.Survival.TheVariants.{Tried, Ungraded}
 use Rattle.tx_risk_report.specs.OutageReport.{survival_text}
-use Rattle.tx_risk_text.specs.declared.fault.RiskWord.{RiskWord}
-use Rattle.tx_risk_text.specs.RiskText.{ReadsRisks}
+use Rattle.tx_risk.specs.declared.fault.RiskWord.{RiskWord}
+use Rattle.tx_risk.specs.RiskText.{ReadsRisks}
 use Rattle.tx_jobs.specs.declared.job_fault.JobFault.{JobFault}
 use Rattle.tx_jobs.specs.declared.job_fault.JobFault.TheVariants.{Write, NoMemory}
 use Rattle.tx_jobs.specs.JobFaults.{risks_fault}

@@ -27,7 +27,7 @@ pub fn write_fault<W: Sink>(fault: &JobFault, sink: &mut W) -> Result<(), WriteF
             write_text_fault(b"script", fault.line, row, sink)
         }
         JobFault::Risks(fault) => {
-            let row = tx_risk_text::code_and_name(fault.kind);
+            let row = tx_risk::code_and_name(fault.kind);
             write_text_fault(b"risks", fault.line, row, sink)
         }
         JobFault::TwoNetworks(difference) => write_difference(difference, sink),

@@ -12,7 +12,7 @@ use tx_change::Difference;
 use tx_lint::LintFault;
 use tx_plan::PlanRefusal;
 use tx_plantext::{PlanFault, PlanWord};
-use tx_risk_text::{RiskFault, RiskWord};
+use tx_risk::{RiskFault, RiskWord};
 use tx_script::{RunCause, RunFault, ScriptFault};
 use tx_text::{FaultKind, FrameFault, NoMemory, WriteFault};
 

@@ -10,9 +10,8 @@ use crate::job_fault::JobFault;
 use std::alloc::Allocator;
 use tx_plan::Plan;
 use tx_plantext::read_plan_from;
-use tx_risk::{NamedRisk, Survival, survive};
+use tx_risk::{Risks, Survival, read_risks_from, survive};
 use tx_risk_report::write_survival;
-use tx_risk_text::{Risks, read_risks_from};
 use tx_text::{Sink, Source};
 
 /// Reads a plan, and writes whom each of its groups and each of its exchanges cuts off if it fails
@@ -65,7 +64,7 @@ fn tell_unnamed<A: Allocator + Copy, W: Sink>(
     ensures mark { W.failed out.new ≡ mark_after (W.failed out.old) result }
 {
     let risks = Risks::none(alloc);
-    tell_survival(alloc, plan, risks.as_slice(), out)
+    tell_survival(alloc, plan, &risks, out)
 }
 
 /// Reads the named risks of the plan, and reports outages with them.
@@ -81,14 +80,14 @@ fn tell_named<A: Allocator + Copy, R: Source, W: Sink>(
     ensures calls { CallsAtMost R.called source_calls risks.old risks.new }
 {
     let risks = read_risks_from(alloc, risks, plan)?;
-    tell_survival(alloc, plan, risks.as_slice(), out)
+    tell_survival(alloc, plan, &risks, out)
 }
 
 /// Tries all outages, and writes the report.
 fn tell_survival<A: Allocator + Copy, W: Sink>(
     alloc: A,
     plan: &Plan<A>,
-    risks: &[NamedRisk<A>],
+    risks: &Risks<A>,
     out: &mut W,
 ) -> Result<Survival<A>, JobFault>
     requires { AreRisksFor plan.now risks.now }

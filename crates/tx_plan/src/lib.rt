@@ -36,6 +36,7 @@ mod routes;
 pub use builder::PlanBuilder;
 pub use ids::{ByWord, Circuit, CodeId, Direction, ExchangeId, GroupId, Line, National, Pair};
 pub use limits::Limits;
+pub use names::NameKey;
 pub use plan::Plan;
 pub use range::LineRange;
 pub use refusal::PlanRefusal;

@@ -6,7 +6,7 @@ use Rattle.std.proofs.lemmas.Bool.{cases_lt}
 use Rattle.tx_plan.specs.Plan.{Plan}
 use Rattle.tx_plan.specs.Rules.{IsPlan}
 use Rattle.tx_plan.specs.Ambiguous.{ambiguous_of}
-use Rattle.tx_plan.specs.Certified.{Ranks}
+use Rattle.tx_plan.specs.Certified.{Ranks, IsCertified}
 use Rattle.tx_cert.specs.Certificate.{Certificate, ranks_of}
 use Rattle.tx_rank.specs.declared.bounds.Bounds.{Bounds}
 use Rattle.tx_rank.specs.declared.finding.Finding.{Finding}
@@ -198,23 +198,32 @@ module _ (p : Plan) (ok : IsPlan p) (c : ℕ) (all : c ≡ length p.codes) (plan
         at None h = λ e. h 255 0 (ranks_of cert, ranked_certified p 255 0 c cert findings r all e)
         at (Some b) h = tt
 
-    -- nothing is wrong exactly where some ranks certify the plan
-    clear_certified : (l s : ℕ) → NothingIsWrong A p l s → CanBeCertified p l s
+    -- where nothing is wrong these ranks certify the plan
+    clear_certified : (l s : ℕ) → NothingIsWrong A p l s → IsCertified p (ranks_of cert) l s
     clear_certified l s none = at findings refl
       where
-        at : (fs : List (Finding A)) → findings ≡ fs → CanBeCertified p l s
+        at : (fs : List (Finding A)) → findings ≡ fs → IsCertified p (ranks_of cert) l s
         at [] e =
             let heights = ranked_heights p 255 0 c cert findings r all e in
-            let own = ranked_certified p 255 0 c cert findings r all e in (
-              ranks_of cert,
-              certified_codes p (ranks_of cert) l s own.no_prefix
-                  (λ d h. clear_code p (ranks_of cert) heights own d h l s none),
-            )
+            let own = ranked_certified p 255 0 c cert findings r all e in
+            certified_codes p (ranks_of cert) l s own.no_prefix
+            (λ d h. clear_code p (ranks_of cert) heights own d h l s none)
         at (f ∷ fs) e =
             let some : findings ≢ [] = λ empty. let bad : ⊥ = cc in bad in
             absurd (some_true p l s findings (graded_true l s) some none)
 
+    -- nothing is wrong exactly where some ranks do
     pub graded_clear : IsGrade (NothingIsWrong A p) plan
     graded_clear =
         grade_same (CanBeCertified p) (NothingIsWrong A p) plan graded_plan
-        (λ l s. (λ k. none_true p k.0 l s k.1, clear_certified l s))
+        (λ l s. (λ k. none_true p k.0 l s k.1, λ none. (ranks_of cert, clear_certified l s none)))
+
+    pub graded_ranks : IfSome plan (λ b. IsCertified p (ranks_of cert) b.limit b.spare)
+    graded_ranks = at plan graded_clear
+      where
+        at : (o : Option Bounds) → IsGrade (NothingIsWrong A p) o
+            → IfSome o (λ b. IsCertified p (ranks_of cert) b.limit b.spare)
+        at None h = tt
+        at (Some b) h =
+            clear_certified b.limit b.spare
+            ((h.exactly b.limit b.spare h.few).1 (omega arith, omega arith))

@@ -2,7 +2,8 @@
 ghost use Rattle.std.specs.Prelude.{◌≡◌, ◌≢◌, ◌<◌, ℕ, length, [], None, IfOk, IfSome, IfNone};
 ghost use Rattle.std.specs.List.{AllByRecursion};
 ghost use Rattle.tx_plan.specs.Rules.{IsPlan};
-ghost use Rattle.tx_cert.specs.Certificate.{rank_at as ranked_at};
+ghost use Rattle.tx_plan.specs.Certified.{IsCertified};
+ghost use Rattle.tx_cert.specs.Certificate.{rank_at as ranked_at, ranks_of};
 ghost use Rattle.tx_rank.specs.Walks.{net_of};
 ghost use Rattle.tx_rank.specs.Findings.{IsTrueOf};
 ghost use Rattle.tx_rank.specs.Judged.{AreOrigins, IsJudged};
@@ -66,6 +67,8 @@ pub fn grade<A: Allocator + Copy>(alloc: A, plan: &Plan<A>) -> Result<Grade<A>, 
     ensures plan { IfOk result (λ g. IsGrade (CanBeCertified plan.now) g.plan) }
     ensures clear { IfOk result (λ g. IsGrade (NothingIsWrong A plan.now) g.plan) }
     ensures codes { IfOk result (λ g. AreCodeGrades plan.now g.codes.items) }
+    ensures ranks { IfOk result (λ g. IfSome g.plan (λ b.
+        IsCertified plan.now (ranks_of g.ranks) b.limit b.spare)) }
 
     // Something is found exactly where the plan has no grade.
     ensures fails { IfOk result (λ g. IfNone g.plan (g.findings.items ≢ [])) }
@@ -93,5 +96,6 @@ pub fn grade<A: Allocator + Copy>(alloc: A, plan: &Plan<A>) -> Result<Grade<A>, 
         plan: together,
         codes,
         findings,
+        ranks: cert,
     })
 }

@@ -2,6 +2,7 @@
 use crate::bounds::Bounds;
 use crate::finding::Finding;
 use std::alloc::{Allocator, Global};
+use tx_cert::Cert;
 use tx_plan::CodeId;
 
 /// With which limits and spare numbers a plan is certified, and each of its codes.
@@ -15,4 +16,6 @@ pub struct Grade<A: Allocator = Global> {
     /// What is wrong whatever the numbers, if the plan has no grade: the ambiguous pair, and for
     /// each code a loop, or a walk to each exchange without a list.
     pub findings: Vec<Finding<A>, A>,
+    /// Ranks by which the plan is certified so, if it has a grade.
+    pub ranks: Cert<A>,
 }

@@ -1,7 +1,7 @@
 -- The cuts of one code, one exchange after another.
-use Rattle.std.proofs.Common.{◌≡◌, ℕ, ◌+◌, ◌<◌, true, List, [], ◌∷◌, ◌++◌, map, inl, inr, length, Option, Some, None, refl, sym, ap, subst, ◌∙◌, arith, append_assoc, append-nil}
+use Rattle.std.proofs.Common.{◌≡◌, ◌↔◌, ℕ, ◌+◌, ◌<◌, true, List, [], ◌∷◌, ◌++◌, map, inl, inr, length, Option, Some, None, refl, sym, ap, subst, ◌∙◌, arith, append_assoc, append-nil}
 use Rattle.std.proofs.lemmas.Bool.{false≢true, cases_eq, and_parts}
-use Rattle.std.proofs.lemmas.Option.{none-some}
+use Rattle.std.proofs.lemmas.Option.{none-some, same_Some}
 use Rattle.std.proofs.lemmas.List.{map-append}
 use Rattle.std.specs.Prelude.{is_some}
 use Rattle.tx_plan.specs.Plan.{Plan}
@@ -11,20 +11,25 @@ use Rattle.tx_rank.proofs.Nets.{is_net}
 use Rattle.tx_plan.specs.Among.{Among}
 use Rattle.tx_plan.proofs.Among.{among_left, among_right, among_cases}
 use Rattle.tx_plan.proofs.ByPlace.{pairs_put}
-use Rattle.tx_rank.specs.Walks.{Net}
+use Rattle.tx_rank.specs.Walks.{Net, Goes, AllDiffer, net_of, passed}
+use Rattle.tx_rank.specs.Heights.{IsReached}
 use Rattle.tx_rank.proofs.Ways.{among_all}
+use Rattle.tx_rank.proofs.Ranks.{once_down}
+use Rattle.tx_rank.proofs.Certifying.{certifies_code}
+use Rattle.tx_risk.specs.declared.nearest.Goal.TheVariants.{DeadEnd, Home}
 use Rattle.tx_risk.specs.declared.cut.Cut.{Cut}
-use Rattle.tx_risk.specs.declared.left.Goal.TheVariants.{DeadEnd, Home}
 use Rattle.tx_risk.specs.declared.outage.Outage.{Outage}
 use Rattle.tx_risk.specs.Risks.{Risk, net_without, IsCut, LeadsHome}
-use Rattle.tx_risk.specs.Outages.{is_asked, IsCutAs, start_at, AreCutsOfCode}
-use Rattle.tx_risk.specs.inner.Nearest.{AreNearest, IsNearestWay, distance_in}
-use Rattle.tx_risk.specs.inner.Cutting.{Adds, AreCutsBefore}
-use Rattle.tx_risk.proofs.Measuring.{some_is}
+use Rattle.tx_risk.specs.Outages.{is_asked, IsCutAs, start_at}
+use Rattle.tx_risk.specs.Survivals.{HasGrade}
+use Rattle.tx_risk.specs.inner.Left.{Left, left_net}
+use Rattle.tx_risk.specs.inner.Nearest.{IsDistance}
+use Rattle.tx_risk.specs.inner.Cutting.{Adds, AreCuts, AreCutsBefore}
+use Rattle.tx_risk.proofs.Ordering.{goes_left}
 
-module _ {A : Type 0} (p : Plan) (risk : Risk) (o : Outage) (code : ℕ) where
+module _ {A : Type 0} (l : Left) (o : Outage) where
   abbrev Before : ℕ → List (Cut A) → Type 0
-  Before i cuts = AreCutsBefore p risk o code i cuts
+  Before i cuts = AreCutsBefore l o i cuts
 
   pub before_none : (old : List (Cut A)) → Adds (Before 0) old old
   before_none old = record {
@@ -35,12 +40,12 @@ module _ {A : Type 0} (p : Plan) (risk : Risk) (o : Outage) (code : ℕ) where
       asked = λ c m. absurd m;
       order = tt;
       below = λ y m. absurd m;
-      all = λ x steps a c l. absurd (omega arith);
+      all = λ x steps a c less. absurd (omega arith);
     };
   }
 
-  pub before_all : (old new : List (Cut A)) (i : ℕ) → ((x : ℕ) → is_asked p o code x ≡ true → x < i)
-      → Adds (Before i) old new → Adds (AreCutsOfCode p risk o code) old new
+  pub before_all : (old new : List (Cut A)) (i : ℕ) → ((x : ℕ) → is_asked l.plan o l.code x ≡ true → x < i)
+      → Adds (Before i) old new → Adds (AreCuts l o) old new
   before_all old new i few b = record {
     mine = b.mine;
     added = b.added;
@@ -54,8 +59,8 @@ module _ {A : Type 0} (p : Plan) (risk : Risk) (o : Outage) (code : ℕ) where
 
   -- the exchange at place i is not in question, or there is no cut from it
   pub before_skip : (old new : List (Cut A)) (i : ℕ) → Adds (Before i) old new
-      → ((steps : List (ℕ × ℕ)) → is_asked p o code i ≡ true
-      → IsCut (net_without p risk code) i steps → ⊥)
+      → ((steps : List (ℕ × ℕ)) → is_asked l.plan o l.code i ≡ true
+      → IsCut (left_net l) i steps → ⊥)
       → Adds (Before (i + 1)) old new
   before_skip old new i b none = record {
     mine = b.mine;
@@ -65,9 +70,9 @@ module _ {A : Type 0} (p : Plan) (risk : Risk) (o : Outage) (code : ℕ) where
       asked = b.these.asked;
       order = b.these.order;
       below = λ y m. let k = b.these.below y m in omega arith;
-      all = λ x steps a c l. elim (cases_eq x i) [
-        | inl q ↦ absurd (none steps (subst (λ y. is_asked p o code y ≡ true) q a)
-            (subst (λ y. IsCut (net_without p risk code) y steps) q c))
+      all = λ x steps a c less. elim (cases_eq x i) [
+        | inl q ↦ absurd (none steps (subst (λ y. is_asked l.plan o l.code y ≡ true) q a)
+            (subst (λ y. IsCut (left_net l) y steps) q c))
         | inr ne ↦ b.these.all x steps a c (omega arith)
       ];
     };
@@ -75,7 +80,7 @@ module _ {A : Type 0} (p : Plan) (risk : Risk) (o : Outage) (code : ℕ) where
 
   -- its cut was added
   pub before_more : (old new : List (Cut A)) (i : ℕ) (c : Cut A) → Adds (Before i) old new
-      → start_at c ≡ i → IsCutAs (net_without p risk code) o code c → is_asked p o code i ≡ true
+      → start_at c ≡ i → IsCutAs (left_net l) o l.code c → is_asked l.plan o l.code i ≡ true
       → Adds (Before (i + 1)) old (new ++ c ∷ [])
   before_more old new i c b at is ask =
       let t = b.these in
@@ -83,13 +88,13 @@ module _ {A : Type 0} (p : Plan) (risk : Risk) (o : Outage) (code : ℕ) where
       map-append start_at b.mine (c ∷ []) in
       record {
         mine = b.mine ++ c ∷ [];
-        added = ap (λ l. l ++ c ∷ []) b.added ∙ append_assoc old b.mine (c ∷ []);
+        added = ap (λ cuts. cuts ++ c ∷ []) b.added ∙ append_assoc old b.mine (c ∷ []);
         these = record {
           each = λ d m. elim (among_cases d b.mine (c ∷ []) m) [
             | inl a ↦ t.each d a
             | inr k ↦
                 elim k [
-                  | inl q ↦ subst (IsCutAs (net_without p risk code) o code) q is
+                  | inl q ↦ subst (IsCutAs (left_net l) o l.code) q is
                   | inr z ↦
                       absurd z
                 ]
@@ -98,8 +103,8 @@ module _ {A : Type 0} (p : Plan) (risk : Risk) (o : Outage) (code : ℕ) where
             | inl a ↦ t.asked d a
             | inr k ↦
                 elim k [
-                  | inl q ↦ subst (λ (e : Cut A). is_asked p o code (start_at e) ≡ true) q
-                      (ap (is_asked p o code) at ∙ ask)
+                  | inl q ↦ subst (λ (e : Cut A). is_asked l.plan o l.code (start_at e) ≡ true) q
+                      (ap (is_asked l.plan o l.code) at ∙ ask)
                   | inr z ↦ absurd z
                 ]
           ];
@@ -113,7 +118,7 @@ module _ {A : Type 0} (p : Plan) (risk : Risk) (o : Outage) (code : ℕ) where
                 | inr k ↦
                     elim k [ inl q ↦ omega arith | inr z ↦ absurd z ]
               ];
-          all = λ x steps a k l. subst (Among x) (sym f) (elim (cases_eq x i) [
+          all = λ x steps a k less. subst (Among x) (sym f) (elim (cases_eq x i) [
             | inl q ↦ among_right x (map start_at b.mine) (start_at c ∷ []) (inl (at ∙ sym q))
             | inr ne ↦ among_left x (map start_at b.mine) (start_at c ∷ [])
                 (t.all x steps a k (omega arith))
@@ -121,58 +126,68 @@ module _ {A : Type 0} (p : Plan) (risk : Risk) (o : Outage) (code : ℕ) where
         };
       }
 
--- from where there is no distance there is no cut
-pub none_cut : (n : Net) (ds : List (Option ℕ)) (x : ℕ) (steps : List (ℕ × ℕ))
-    → AreNearest n DeadEnd ds → x < n.exchanges → distance_in ds x ≡ None → IsCut n x steps → ⊥
-none_cut n ds x steps dead within e c =
-    let m = dead.least x (length steps) within (record {
-      steps = steps;
-      goes = c.dead.goes;
-      ends = (c.dead.away, c.dead.none);
-      count = refl;
-    }) in
-    none-some _ (sym e ∙ m.1)
+-- without a dead end there is no cut
+pub none_cut : (n : Net) (x : ℕ) (o : Option ℕ) (steps : List (ℕ × ℕ)) → IsDistance n DeadEnd x o
+    → o ≡ None → IsCut n x steps → ⊥
+none_cut n x o steps h e c =
+    let m = h.least steps c.dead.goes (c.dead.away, c.dead.none) in none-some _ (sym e ∙ m.1)
 
-module _ {A : Type 0} (n : Net) (ds hs : List (Option ℕ)) (dead : AreNearest n DeadEnd ds)
-    (home : AreNearest n Home hs) where
-  -- a cut of the least distance
-  pub cut_as : (c : Cut A) (o : Outage) (code d : ℕ) → c.outage ≡ o → c.code ≡ code
-      → c.walk.start < n.exchanges
-      → distance_in ds c.walk.start ≡ Some d → IsNearestWay n c.walk.start c.walk.steps d
-      → c.stray ≡ is_some (distance_in hs c.walk.start) → IsCutAs n o code c
-  cut_as c o code d fails of within e w s = record {
-    outage = fails;
-    of_code = of;
-    cut = w.cut;
-    shortest = λ steps k.
-        let m = dead.least c.walk.start (length steps) within
-        (record {
-          steps = steps;
-          goes = k.dead.goes;
-          ends = (k.dead.away, k.dead.none);
-          count = refl;
-        }) in
-        let same = some_is (sym e ∙ m.1) in
-        let few = m.2 in
-        let count = w.count in
-        omega arith;
-    stray = (
-      λ t. leads (distance_in hs c.walk.start) refl (sym s ∙ t),
-      λ h.
-          let m = home.least c.walk.start (length h.steps) within
-          (record { steps = h.steps; goes = h.goes; ends = h.home; count = refl }) in
-          s ∙ ap is_some m.1,
-    );
-  }
-    where
-      leads : (o : Option ℕ) → distance_in hs c.walk.start ≡ o → is_some o ≡ true
-          → LeadsHome n c.walk.start
-      leads None q t = absurd (false≢true t)
-      leads (Some k) q t = let w = home.way c.walk.start k q in
-          record { steps = w.steps; goes = w.goes; home = w.ends }
+-- a cut by a shortest way to a dead end
+pub cut_as : {A : Type 0} (n : Net) (c : Cut A) (o : Outage) (code x : ℕ) (home : Option ℕ)
+    → c.outage ≡ o → c.code ≡ code → c.walk.start ≡ x → IsCut n x c.walk.steps
+    → IsDistance n DeadEnd x (Some (length c.walk.steps)) → IsDistance n Home x home
+    → c.stray ≡ is_some home → IsCutAs n o code c
+cut_as n c o code x home fails of start cut dead leads stray = record {
+  outage = fails;
+  of_code = of;
+  cut = subst (λ y. IsCut n y c.walk.steps) (sym start) cut;
+  shortest = λ steps k.
+      let d = (subst (λ y. IsCut n y steps) start k).dead in
+      let m = dead.least steps d.goes (d.away, d.none) in
+      let same = same_Some _ _ m.1 in
+      let few = m.2 in
+      omega arith;
+  stray = subst (λ y. (c.stray ≡ true) ↔ LeadsHome n y) (sym start)
+      (λ t. back home leads (sym stray ∙ t), λ h. stray ∙ there home leads h);
+}
+  where
+    back : (o : Option ℕ) → IsDistance n Home x o → is_some o ≡ true → LeadsHome n x
+    back None k t = absurd (false≢true t)
+    back (Some d) k t =
+        let w = k.way d refl in record { steps = w.steps; goes = w.goes; home = w.ends }
 
--- what is in question is an exchange of the plan
+    there : (o : Option ℕ) → IsDistance n Home x o → LeadsHome n x → is_some o ≡ true
+    there o k h = let m = k.least h.steps h.goes h.home in ap is_some m.1
+
+-- where a plan has a grade no walk passes an exchange twice
+pub graded_once : (p : Plan) (risk : Risk) (code x : ℕ) (steps : List (ℕ × ℕ)) → HasGrade p
+    → code < length p.codes → is_origin_for p x code ≡ true
+    → Goes (net_without p risk code) x steps → AllDiffer (passed x steps)
+graded_once p risk code x steps grade within origin goes =
+    let n = net_of p code in
+    let ranks = grade.2.0 in
+    let cert = certifies_code p ranks grade.0 grade.1 grade.2.1 code within in
+    let o = cert.origins x origin in
+    once_down n (ranks code) (record { lower = cert.lower }) x o.0 steps o.1
+    (goes_left risk n x steps goes)
+
+-- an exchange in question is one where calls may start
+pub asked_origin : (p : Plan) (o : Outage) (code x : ℕ) → is_asked p o code x ≡ true
+    → is_origin_for p x code ≡ true
+asked_origin p o code x a = (and_parts (is_origin_for p x code) _ a).0
+
+-- and is one of the plan
 pub asked_within : (p : Plan) → IsPlan p → (o : Outage) (code : ℕ) → code < length p.codes → (x : ℕ)
     → is_asked p o code x ≡ true → x < length p.exchanges
 asked_within p ok o code within x a =
-    (is_net p ok code within).origins x (and_parts (is_origin_for p x code) _ a).0
+    (is_net p ok code within).origins x (asked_origin p o code x a)
+
+-- so a walk leads there
+pub asked_reached : (l : Left) (o : Outage) (x : ℕ) → is_asked l.plan o l.code x ≡ true
+    → IsReached (left_net l) x
+asked_reached l o x a = record {
+  start = x;
+  steps = [];
+  walk = record { origin = asked_origin l.plan o l.code x a; goes = tt };
+  ends = refl;
+}

@@ -4,10 +4,13 @@ pub mod Clear
 pub mod Failed
 pub mod Through
 pub mod LeftLists
-pub mod LeftNets
+pub mod Ordering
 pub mod Measuring
 pub mod Descending
 pub mod AddedCuts
 pub mod AddedOutages
 pub mod Unhit
 pub mod Marking
+pub mod Rows
+pub mod GroupWords
+pub mod RiskLines

@@ -1,261 +1,196 @@
--- Distances to a goal, measured step by step.
-use Rattle.std.proofs.Common.{◌≡◌, ◌≢◌, ℕ, zero, suc, ◌+◌, ◌<◌, ◌≤◌, Bool, true, false, List, [], ◌∷◌, ◌⊎◌, inl, inr, length, Option, Some, None, refl, sym, ap, ◌∙◌, subst, arith, eqb, eqb-true, eq-eqb}
-use Rattle.std.proofs.lemmas.Bool.{cases_eq, false≢true}
-use Rattle.std.proofs.lemmas.Option.{none-some}
-use Rattle.std.proofs.lemmas.Map.Steps.{length-le_from_distinct_below}
-use Rattle.std.proofs.Math.ListN.{set, length-set}
-use Rattle.std.specs.Prelude.{is_some}
-use Rattle.std.specs.Option.{option_and_then, option_eq}
+-- How far an exchange is from a goal, by the distances of those to which its list leads.
+use Rattle.std.proofs.Common.{◌≡◌, ◌≢◌, ℕ, ◌+◌, ◌^◌, ◌<◌, ◌≤◌, true, false, nat_lt, List, [], ◌∷◌, ◌⊎◌, map, fold, inl, inr, length, take, Option, Some, None, refl, sym, ap, ◌∙◌, subst, arith}
+use Rattle.std.specs.Prelude.{slice_get, if◌then◌else◌}
+use Rattle.std.specs.Option.{option_and_then, option_map}
+use Rattle.std.proofs.lemmas.Bool.{cases_eq, ltb-true}
+use Rattle.std.proofs.lemmas.Option.{none-some, same_Some}
+use Rattle.std.proofs.Math.ListN.{set}
+use borrow.Author.Tests.{ltb-false}
 use Rattle.tx_plan.specs.Among.{Among}
-use Rattle.tx_rank.specs.Walks.{Net, AllDiffer, Goes, end_of, passed}
-use Rattle.tx_rank.specs.Nets.{IsNet}
-use Rattle.tx_rank.proofs.Unmended.{all_distinct}
-use Rattle.tx_machine.proofs.Lists.{any_mem}
+use Rattle.tx_plan.proofs.Among.{among_cases, among_map, map_among}
+use Rattle.tx_rank.specs.Walks.{Net, Goes, end_of}
+use Rattle.tx_rank.proofs.Looks.{take_next}
 use Rattle.tx_trie.proofs.Stepping.{set_same, set_other}
-use Rattle.tx_risk.specs.declared.left.Goal.{Goal}
-use Rattle.tx_risk.specs.inner.Nearest.{IsGoal, IsWayTo, distance_in, IsAtDistance, AreMeasured, NoneAt, AreNearest}
-use Rattle.tx_risk.proofs.Ways.{shorten}
+use Rattle.tx_risk.specs.declared.nearest.Goal.{Goal}
+use Rattle.tx_risk.specs.declared.nearest.Step.{Step}
+use Rattle.tx_risk.specs.inner.Orders.{IsOrder}
+use Rattle.tx_risk.specs.inner.Nearest.{IsGoal, IsWayTo, IsDistance, AreKept, IsKnownFrom, distance_in, nearer, nearest_step, step_by}
+use Rattle.tx_risk.proofs.Ordering.{way_few}
 
-pub some_is : {A : Type 0} {a b : A} → Some a ≡ Some b → a ≡ b
-some_is e = cc
+-- THE NEAREST STEP
 
--- tests of a distance
-pub is_distance : (o : Option ℕ) (d : ℕ) → option_eq eqb o (Some d) ≡ true → o ≡ Some d
-is_distance None d t = absurd (false≢true t)
-is_distance (Some e) d t = ap Some (eqb-true e d t)
+nearer_one : (a b : Option Step) → (nearer a b ≡ a) ⊎ (nearer a b ≡ b)
+nearer_one None b = inr refl
+nearer_one (Some a) None = inl refl
+nearer_one (Some a) (Some b) =
+    elim (nat_lt b.distance a.distance) as (λ c. ((if c then Some b else Some a) ≡ Some a)
+    ⊎ ((if c then Some b else Some a) ≡ Some b)) [ true ↦ inr refl | false ↦ inl refl ]
 
-pub distance_is : (o : Option ℕ) (d : ℕ) → o ≡ Some d → option_eq eqb o (Some d) ≡ true
-distance_is o d e = ap (λ o. option_eq eqb o (Some d)) e ∙ eq-eqb d d refl
+-- neither is nearer
+nearer_least : (a b : Option Step) (t : Step) → (a ≡ Some t) ⊎ (b ≡ Some t)
+    → (s : Step) × (nearer a b ≡ Some s) × (s.distance ≤ t.distance)
+nearer_least None b t (inl e) = absurd (none-some _ e)
+nearer_least None b t (inr e) = (t, e, omega arith)
+nearer_least (Some a) None t (inl e) = (t, e, omega arith)
+nearer_least (Some a) None t (inr e) = absurd (none-some _ e)
+nearer_least (Some a) (Some b) t e =
+    let is : (t.distance ≡ a.distance) ⊎ (t.distance ≡ b.distance) = elim e [
+      | inl q ↦ inl (ap (λ (s : Step). s.distance) (sym (same_Some _ _ q)))
+      | inr q ↦ inr (ap (λ (s : Step). s.distance) (sym (same_Some _ _ q)))
+    ] in
+    elim (nat_lt b.distance a.distance) as (λ c. nat_lt b.distance a.distance ≡ c → (s : Step)
+    × ((if c then Some b else Some a) ≡ Some s) × (s.distance ≤ t.distance)) [
+      | true ↦ λ c. (b, refl, let l = ltb-true b.distance a.distance c in omega arith)
+      | false ↦ λ c. (a, refl, let l = ltb-false b.distance a.distance c in omega arith)
+    ] refl
 
-pub no_distance : (o : Option ℕ) → is_some o ≡ false → o ≡ None
-no_distance None t = refl
-no_distance (Some d) t = absurd (false≢true (sym t))
+-- one of these steps, and none of them is nearer
+record IsNearestOf (steps : List (Option Step)) (nearest : Option Step) : Type 0 where
+  one : (s : Step) → nearest ≡ Some s → Among (Some s) steps
+  least : (t : Step) → Among (Some t) steps
+      → (s : Step) × (nearest ≡ Some s) × (s.distance ≤ t.distance)
 
-pub some_distance : (o : Option ℕ) → is_some o ≡ true → (d : ℕ) × (o ≡ Some d)
-some_distance None t = absurd (false≢true t)
-some_distance (Some d) t = (d, refl)
-
-module _ (n : Net) (goal : Goal) where
-  -- one step more
-  pub way_on : (x d : ℕ) (s : ℕ × ℕ) → x ≢ n.home → Among s.0 (n.list x) → n.far s.0 x ≡ Some s.1
-      → IsWayTo n goal s.1 d → IsWayTo n goal x (suc d)
-  way_on x d s away listed leads w =
-      record {
-        steps = s ∷ w.steps;
-        goes = (away, listed, leads, w.goes);
-        ends = w.ends;
-        count = ap suc w.count;
-      }
-
-  -- the exchanges before place i are looked at
-  pub record AreMeasuring (k i : ℕ) (some : Bool) (ds : List (Option ℕ)) : Type 0 where
-    pub long : length ds ≡ n.exchanges
-    pub near : (x d : ℕ) → distance_in ds x ≡ Some d → d < k + 1
-    pub fresh : some ≡ false → NoneAt ds k
-    pub way : (x d : ℕ) → distance_in ds x ≡ Some d → IsWayTo n goal x d
-    pub least : (x d : ℕ) → x < n.exchanges → d < k → IsWayTo n goal x d
-        → (e : ℕ) × (distance_in ds x ≡ Some e) × (e ≤ d)
-    pub here : (x : ℕ) → x < i → IsWayTo n goal x k
-        → (e : ℕ) × (distance_in ds x ≡ Some e) × (e ≤ k)
-
-  pub round_last : (k i : ℕ) (some : Bool) (ds : List (Option ℕ)) → i ≡ n.exchanges
-      → AreMeasuring k i some ds → AreMeasured n goal (k + 1) ds
-  round_last k i some ds e a = record {
-    long = a.long;
-    near = a.near;
-    way = a.way;
-    least = λ x d within l w. elim (cases_eq d k) [
-      | inl q ↦ let h = a.here x (omega arith) (subst (IsWayTo n goal x) q w) in
-          (h.0, h.1, let m = h.2 in omega arith)
-      | inr ne ↦ a.least x d within (omega arith) w
-    ];
-  }
-
-  -- the next exchange is measured already
-  pub round_skip : (k i d : ℕ) (some : Bool) (ds : List (Option ℕ)) → distance_in ds i ≡ Some d
-      → AreMeasuring k i some ds → AreMeasuring k (i + 1) some ds
-  round_skip k i d some ds e a = record {
-    long = a.long;
-    near = a.near;
-    fresh = a.fresh;
-    way = a.way;
-    least = a.least;
-    here = λ x l w. elim (cases_eq x i) [
-      | inl q ↦ (d, ap (distance_in ds) q ∙ e, let m = a.near i d e in omega arith)
-      | inr ne ↦ a.here x (omega arith) w
-    ];
-  }
-
-  -- the same, of what is measured while a round goes on
-  way_there : (ds : List (Option ℕ)) (k x i : ℕ) (some : Bool) → AreMeasuring k i some ds
-      → IsAtDistance n goal ds x k → IsWayTo n goal x k
-  way_there ds zero x i some a h = record { steps = []; goes = tt; ends = h; count = refl }
-  way_there ds (suc k) x i some a h =
-      way_on x k h.1 h.0 h.2.listed h.2.leads (a.way h.1.1 k h.2.at)
-
-  -- an exchange that is not measured, and from where a way has k steps, is at this distance
-  at_there : (net : IsNet n) (ds : List (Option ℕ)) (k x i : ℕ) (some : Bool)
-      → AreMeasuring k i some ds → x < n.exchanges → distance_in ds x ≡ None
-      → IsWayTo n goal x k → IsAtDistance n goal ds x k
-  at_there net ds zero x i some a within none w = ends w.steps w.ends w.count
-    where
-      ends : (steps : List (ℕ × ℕ)) → IsGoal n goal (end_of x steps) → length steps ≡ 0
-          → IsGoal n goal x
-      ends [] e c = e
-      ends (s ∷ steps) e c = let bad : ⊥ = omega arith in absurd bad
-  at_there net ds (suc k) x i some a within none w = on w.steps w.goes w.ends w.count
-    where
-      on : (steps : List (ℕ × ℕ)) → Goes n x steps → IsGoal n goal (end_of x steps)
-          → length steps ≡ suc k → IsAtDistance n goal ds x (suc k)
-      on [] g e c = let bad : ⊥ = omega arith in absurd bad
-      on (s ∷ rest) g e c =
-          let l = net.leads x s.0 g.1 in
-          let same : l.0 ≡ s.1 = some_is (sym l.1 ∙ g.2) in
-          let there : IsWayTo n goal s.1 k =
-          record { steps = rest; goes = g.3; ends = e; count = omega arith } in
-          let m = a.least s.1 k (subst (λ y. y < n.exchanges) same l.2) (omega arith) there in
-          elim (cases_eq m.0 k) [
-            | inl q ↦ (g.0, s, record { listed = g.1; leads = g.2; at = m.1 ∙ ap Some q })
-            | inr ne ↦
-                let few = m.2 in
-                let near = way_on x m.0 s g.0 g.1 g.2 (a.way s.1 m.0 m.1) in
-                let f = a.least x (suc m.0) within (omega arith) near in
-                absurd (none-some _ (sym none ∙ f.1))
-          ]
-
-  -- the next exchange is not at this distance
-  pub round_far : (net : IsNet n) (k i : ℕ) (some : Bool) (ds : List (Option ℕ))
-      → i < n.exchanges → distance_in ds i ≡ None
-      → (IsAtDistance n goal ds i k → ⊥) → AreMeasuring k i some ds → AreMeasuring k (i + 1) some ds
-  round_far net k i some ds within none far a = record {
-    long = a.long;
-    near = a.near;
-    fresh = a.fresh;
-    way = a.way;
-    least = a.least;
-    here = λ x l w. elim (cases_eq x i) [
-      | inl q ↦
-          absurd (far (at_there net ds k i i some a within none
-          (subst (λ y. IsWayTo n goal y k) q w)))
-      | inr ne ↦ a.here x (omega arith) w
-    ];
-  }
-
-  -- it is, and is measured
-  pub round_near : (k i : ℕ) (some : Bool) (ds : List (Option ℕ)) → i < n.exchanges
-      → distance_in ds i ≡ None → IsAtDistance n goal ds i k → AreMeasuring k i some ds
-      → AreMeasuring k (i + 1) true (set ds i (Some k))
-  round_near k i some ds within none at a = record {
-    long = length-set ds i (Some k) ∙ a.long;
-    near = λ x d e. elim (either x d e) [
-      | inl q ↦ let w = q.1 in omega arith
-      | inr q ↦
-          a.near x d q
-    ];
-    fresh = λ t. let bad : ⊥ = cc in absurd bad;
-    way = λ x d e. elim (either x d e) [
-      | inl q ↦ subst (λ y. IsWayTo n goal y d) (sym q.0)
-          (subst (IsWayTo n goal i) (sym q.1) (way_there ds k i i some a at))
-      | inr q ↦ a.way x d q
-    ];
-    least = λ x d w l y. let m = a.least x d w l y in (m.0, stays x m.0 m.1, m.2);
-    here = λ x l w. elim (cases_eq x i) [
-      | inl q ↦ (k, ap (distance_in (set ds i (Some k))) q ∙ now, omega arith)
-      | inr ne ↦ let m = a.here x (omega arith) w in (m.0, stays x m.0 m.1, m.2)
-    ];
-  }
-    where
-      now : distance_in (set ds i (Some k)) i ≡ Some k
-      now = let l = a.long in
-          ap (option_and_then (λ (d : Option ℕ). d)) (set_same ds i (Some k) (omega arith))
-
-      other : (x : ℕ) → x ≢ i → distance_in (set ds i (Some k)) x ≡ distance_in ds x
-      other x ne = ap (option_and_then (λ (d : Option ℕ). d)) (set_other ds i x (Some k) ne)
-
-      either : (x d : ℕ) → distance_in (set ds i (Some k)) x ≡ Some d
-          → ((x ≡ i) × (d ≡ k)) ⊎ (distance_in ds x ≡ Some d)
-      either x d e = elim (cases_eq x i) [
-        | inl q ↦ inl (
-          q,
-          sym
-              (some_is (sym now ∙ ap (distance_in (set ds i (Some k))) (sym q) ∙ e)),
-        )
-        | inr ne ↦ inr (sym (other x ne) ∙ e)
-      ]
-
-      stays : (x d : ℕ) → distance_in ds x ≡ Some d → distance_in (set ds i (Some k)) x ≡ Some d
-      stays x d e = other x (λ q. none-some _ (sym none ∙ ap (distance_in ds) (sym q) ∙ e)) ∙ e
-
-  -- no way is longer than the network
-  once_few : (net : IsNet n) (x : ℕ) (steps : List (ℕ × ℕ)) → x < n.exchanges → Goes n x steps
-      → AllDiffer (passed x steps) → length steps < 256
-  once_few net x steps within g once =
-      let l = length-le_from_distinct_below (passed x steps) n.exchanges
-      (all_distinct (passed x steps) once) (λ q h. let a = any_mem (eqb q) (passed x steps) h in
-      below x steps within g q
-      (subst (λ k. Among k (passed x steps)) (sym (eqb-true q a.0 a.2)) a.1)) in
-      let f = net.few in let c = count x steps in omega arith
-    where
-      count : (x : ℕ) (steps : List (ℕ × ℕ)) → length (passed x steps) ≡ suc (length steps)
-      count x [] = refl
-      count x (s ∷ steps) = ap suc (count s.1 steps)
-
-      below : (x : ℕ) (steps : List (ℕ × ℕ)) → x < n.exchanges → Goes n x steps → (u : ℕ)
-          → Among u (passed x steps) → u < n.exchanges
-      below x [] h g u (inl e) = subst (λ k. k < n.exchanges) e h
-      below x [] h g u (inr m) = absurd m
-      below x (s ∷ steps) h g u (inl e) = subst (λ k. k < n.exchanges) e h
-      below x (s ∷ steps) h g u (inr m) =
-          let l = net.leads x s.0 g.1 in
-          below s.1 steps (subst (λ k. k < n.exchanges) (some_is (sym l.1 ∙ g.2)) l.2) g.3 u m
-
-  module _ (net : IsNet n) (k : ℕ) (ds : List (Option ℕ)) (a : AreMeasured n goal k ds)
-      (some : 0 < k) (more : (x d : ℕ) → x < n.exchanges → distance_in ds x ≡ Some d
-      → suc d < k) where
-    -- so each way is seen
-    seen : (x : ℕ) (steps : List (ℕ × ℕ)) → x < n.exchanges → Goes n x steps
-        → IsGoal n goal (end_of x steps)
-        → (e : ℕ) × (distance_in ds x ≡ Some e) × (e ≤ length steps)
-    seen x [] within g e =
-        a.least x 0 within some (record { steps = []; goes = g; ends = e; count = refl })
-    seen x (s ∷ steps) within g e =
-        let l = net.leads x s.0 g.1 in
-        let there = subst (λ k. k < n.exchanges) (some_is (sym l.1 ∙ g.2)) l.2 in
-        let r = seen s.1 steps there g.3 e in
-        let near = way_on x r.0 s g.0 g.1 g.2 (a.way s.1 r.0 r.1) in
-        let m = a.least x (suc r.0) within (more s.1 r.0 there r.1) near in
-        (m.0, m.1, let f = m.2 in let h = r.2 in omega arith)
-
-    pub nearest : AreNearest n goal ds
-    nearest = record {
-      way = a.way;
-      least = λ x d within w. let r = seen x w.steps within w.goes w.ends in
-          (r.0, r.1, let f = r.2 in let c = w.count in omega arith);
+fold_nearest : (os : List (Option Step)) (o : Option Step)
+    → IsNearestOf (o ∷ os) (fold nearer o os)
+fold_nearest [] o = record {
+  one = λ s e. inl e;
+  least = λ t m. elim m [ inl e ↦ (t, e, omega arith) | inr z ↦ absurd z ];
+}
+fold_nearest (p ∷ os) o =
+    let rest = fold_nearest os (nearer o p) in
+    let first : (t : Step) → (o ≡ Some t) ⊎ (p ≡ Some t) → (s : Step)
+    × (fold nearer (nearer o p) os ≡ Some s) × (s.distance ≤ t.distance) = λ t e.
+    let u = nearer_least o p t e in let r = rest.least u.0 (inl u.1) in
+    (r.0, r.1, let a = u.2 in let b = r.2 in omega arith) in
+    record {
+      one = λ s e. elim (rest.one s e) [
+        | inl q ↦ elim (nearer_one o p) [
+          | inl k ↦ inl (sym k ∙ q)
+          | inr k ↦ inr (inl (sym k ∙ q))
+        ]
+        | inr m ↦ inr (inr m)
+      ];
+      least = λ t m. elim m [
+        | inl e ↦ first t (inl e)
+        | inr k ↦ elim k [ inl e ↦ first t (inr e) | inr m ↦ rest.least t (inr m) ]
+      ];
     }
 
-  -- no exchange has the last distance
-  pub nearest_none : (net : IsNet n) (k : ℕ) (ds : List (Option ℕ)) → AreMeasured n goal (k + 1) ds
-      → NoneAt ds k → AreNearest n goal ds
-  nearest_none net k ds a none =
-      nearest net (k + 1) ds a (omega arith) (λ x d within e.
-      let l = a.near x d e in
-      elim (cases_eq d k) [ inl q ↦ absurd (none x (e ∙ ap Some q)) | inr ne ↦ omega arith ])
+-- what is known of a step
+pub record IsStep (n : Net) (ds : List (Option ℕ)) (x : ℕ) (s : Step) : Type 0 where
+  pub listed : Among s.group (n.list x)
+  pub leads : n.far s.group x ≡ Some s.to
+  pub at : distance_in ds s.to ≡ Some s.distance
 
-  -- the last distance is out of reach
-  pub nearest_far : (net : IsNet n) (k : ℕ) (ds : List (Option ℕ)) → 256 < k
-      → AreMeasured n goal k ds → AreNearest n goal ds
-  nearest_far net k ds far a =
-      nearest net k ds a (omega arith) (λ x d within e.
-      let w = a.way x d e in
-      let r = shorten n x w.steps w.goes in
-      let few = once_few net x r.0 within r.1 r.3 in
-      let m = a.least x (length r.0) within (omega arith)
-      (record {
-        steps = r.0;
-        goes = r.1;
-        ends = subst (IsGoal n goal) (sym r.2) w.ends;
-        count = refl;
-      }) in
-      let same = some_is (sym e ∙ m.1) in
-      let f = m.2 in
-      omega arith)
+module _ (n : Net) (ds : List (Option ℕ)) (x : ℕ) where
+  step_of : (g : ℕ) (s : Step) → Among g (n.list x) → step_by n ds x g ≡ Some s → IsStep n ds x s
+  step_of g s m e = at (n.far g x) refl e
+    where
+      on : (y : ℕ) → n.far g x ≡ Some y → (o : Option ℕ) → distance_in ds y ≡ o
+          → option_map (λ d. record { group = g; to = y; distance = d }) o ≡ Some s
+          → IsStep n ds x s
+      on y f None q e = absurd (none-some _ e)
+      on y f (Some d) q e =
+          subst (IsStep n ds x) (same_Some _ _ e) (record { listed = m; leads = f; at = q })
+
+      at : (o : Option ℕ) → n.far g x ≡ o
+          → option_and_then (λ y. option_map (λ d. record { group = g; to = y; distance = d })
+          (distance_in ds y)) o ≡ Some s → IsStep n ds x s
+      at None f e = absurd (none-some _ e)
+      at (Some y) f e = on y f (distance_in ds y) refl e
+
+  nearest : IsNearestOf (None ∷ map (step_by n ds x) (n.list x)) (nearest_step n ds x)
+  nearest = fold_nearest (map (step_by n ds x) (n.list x)) None
+
+  -- the nearest step is one
+  pub nearest_is : (s : Step) → nearest_step n ds x ≡ Some s → IsStep n ds x s
+  nearest_is s e = elim (nearest.one s e) [
+    | inl q ↦ absurd (none-some _ q)
+    | inr m ↦
+        let r = map_among (step_by n ds x) (Some s) (n.list x) m in step_of r.0 s r.1 r.2
+  ]
+
+  module _ (goal : Goal) (known : (g y : ℕ) → Among g (n.list x) → n.far g x ≡ Some y
+      → IsDistance n goal y (distance_in ds y)) where
+    -- and no way is shorter than by it
+    pub nearest_least : (t : ℕ × ℕ) (rest : List (ℕ × ℕ)) → Goes n x (t ∷ rest)
+        → IsGoal n goal (end_of t.1 rest)
+        → (s : Step) × (nearest_step n ds x ≡ Some s) × (s.distance ≤ length rest)
+    nearest_least t rest go end =
+        let k = (known t.0 t.1 go.1 go.2).least rest go.3 end in
+        let s : Step = record { group = t.0; to = t.1; distance = k.0 } in
+        let is : step_by n ds x t.0 ≡ Some s = let f = go.2 in let q = k.1 in rw (f, q) refl in
+        let m = subst (λ o. Among o (map (step_by n ds x) (n.list x))) is
+        (among_map (step_by n ds x) t.0 (n.list x) go.1) in
+        let r = nearest.least s (inr m) in
+        (r.0, r.1, let a = r.2 in let b = k.2 in omega arith)
+
+    pub step_way : x ≢ n.home → (s : Step) → IsStep n ds x s → IsWayTo n goal x (s.distance + 1)
+    step_way away s h =
+        let w = (known s.group s.to h.listed h.leads).way s.distance h.at in
+        record {
+          steps = (s.group, s.to) ∷ w.steps;
+          goes = (away, h.listed, h.leads, w.goes);
+          ends = w.ends;
+          count = let c = w.count in omega arith;
+        }
+
+    pub measured : x ≢ n.home → (IsGoal n goal x → ⊥) → (o : Option Step)
+        → nearest_step n ds x ≡ o → IsDistance n goal x (option_map (λ s. s.distance + 1) o)
+    measured away off o is = record { way = way o is; least = few }
+      where
+        way : (o : Option Step) → nearest_step n ds x ≡ o → (d : ℕ)
+            → option_map (λ s. s.distance + 1) o ≡ Some d → IsWayTo n goal x d
+        way None q d e = absurd (none-some _ e)
+        way (Some s) q d e =
+            subst (IsWayTo n goal x) (same_Some _ _ e) (step_way away s (nearest_is s q))
+
+        few : (steps : List (ℕ × ℕ)) → Goes n x steps → IsGoal n goal (end_of x steps)
+            → (d : ℕ) × (option_map (λ s. s.distance + 1) o ≡ Some d) × (d ≤ length steps)
+        few [] go end = absurd (off end)
+        few (t ∷ rest) go end =
+            let r = nearest_least t rest go end in (
+              r.0.distance + 1,
+              ap (option_map (λ s. s.distance + 1)) (sym is ∙ r.1),
+              let l = r.2 in omega arith,
+            )
+
+module _ (n : Net) (goal : Goal) (x : ℕ) where
+  -- no way leads on from the home
+  pub measured_home : x ≡ n.home → (IsGoal n goal x → ⊥) → IsDistance n goal x None
+  measured_home here off = record { way = λ d e. absurd (none-some _ e); least = no_way }
+    where
+      no_way : (steps : List (ℕ × ℕ)) → Goes n x steps → IsGoal n goal (end_of x steps)
+          → (d : ℕ) × (None ≡ Some d) × (d ≤ length steps)
+      no_way [] go end = absurd (off end)
+      no_way (t ∷ rest) go end = absurd (go.0 here)
+
+-- what is measured in an order
+module _ (n : Net) (goal : Goal) (ds : List (Option ℕ)) (order : List ℕ) (i x : ℕ)
+    (at : slice_get order i ≡ Some x) (kept : AreKept n goal ds (take i order)) where
+  -- a distance that is kept of one before has fewer steps than exchanges come before
+  pub known_from : i < 2 ^ 64 → IsOrder n order → IsKnownFrom n goal ds x
+  known_from few o away g y m leads =
+      let before = o.back i x at away g y m leads in (
+        kept y before,
+        λ d e.
+            let w = (kept y before).way d e in
+            let f = way_few n order o i y w.steps before w.goes in
+            let c = w.count in
+            omega arith,
+      )
+
+  pub kept_next : (d : Option ℕ) → x < length ds → IsDistance n goal x d
+      → AreKept n goal (set ds x d) (take (i + 1) order)
+  kept_next d within is y m = elim (cases_eq y x) [
+    | inl q ↦ subst (λ z. IsDistance n goal z (distance_in (set ds x d) z)) (sym q)
+        (subst (IsDistance n goal x) (sym (ap (option_and_then (λ o. o)) (set_same ds x d within)))
+        is)
+    | inr ne ↦ subst (IsDistance n goal y)
+        (sym (ap (option_and_then (λ o. o)) (set_other ds x y d ne)))
+        (kept y (elim (among_cases y (take i order) (x ∷ [])
+        (subst (Among y) (take_next order i x at) m)) [
+          | inl k ↦ k
+          | inr k ↦ elim k [ inl e ↦ absurd (ne (sym e)) | inr z ↦ absurd z ]
+        ]))
+  ]

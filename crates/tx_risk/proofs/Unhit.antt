@@ -3,23 +3,26 @@ use Rattle.std.proofs.Common.{◌≡◌, ◌≢◌, ℕ, ◌+◌, ◌<◌, ◌�
 use Rattle.std.proofs.lemmas.Bool.{and_parts, both_ways, not-true, ne_eqb, eqb-false, cases_eq}
 use Rattle.std.specs.Prelude.{slice_get, is_some, if◌then◌else◌}
 use Rattle.std.specs.Option.{option_and_then, option_map_or}
+use Rattle.std.specs.List.{list_any}
 use Rattle.tx_plan.specs.Plan.{Plan, Group as Row, home_of}
-use Rattle.tx_plan.specs.Rules.{IsPlan}
-use Rattle.tx_plan.specs.Certified.{Ranks, IsCertified}
 use Rattle.tx_plan.specs.Circuits.{other_end, far_end, ends_of}
 use Rattle.tx_plan.specs.Routes.{route_list, is_origin_for}
 use Rattle.tx_plan.specs.Among.{Among}
 use Rattle.tx_plan.proofs.Among.{filter_among}
+use Rattle.tx_machine.proofs.Lists.{none_any}
 use Rattle.tx_rank.specs.Walks.{Goes, end_of}
 use Rattle.tx_rank.proofs.Nets.{is_net}
 use Rattle.tx_risk.specs.declared.outage.Outage.{Outage}
 use Rattle.tx_risk.specs.declared.outage.Outage.TheVariants.{Group, Exchange, Named}
-use Rattle.tx_risk.specs.Risks.{Risk, groups_of, net_without}
+use Rattle.tx_risk.specs.Risks.{Risk, groups_of, left_of, net_without}
 use Rattle.tx_risk.specs.NamedRisks.{NamedRisk}
-use Rattle.tx_risk.specs.Outages.{risk_of, fails_at, AreCutsOfCode}
-use Rattle.tx_risk.specs.inner.Hits.{AreEnds, IsMissed, TakesItsGroups}
+use Rattle.tx_risk.specs.Outages.{risk_of, fails_at}
+use Rattle.tx_risk.specs.Survivals.{HasGrade}
+use Rattle.tx_risk.specs.inner.Left.{Left, IsLeft, gone}
+use Rattle.tx_risk.specs.inner.Cutting.{AreCuts}
+use Rattle.tx_risk.specs.inner.Hits.{AreEnds, TakesItsGroups, is_emptied}
 use Rattle.tx_risk.proofs.Ways.{ranked_on}
-use Rattle.tx_risk.proofs.LeftLists.{left_goes}
+use Rattle.tx_risk.proofs.LeftLists.{left_goes, none_left}
 use Rattle.tx_risk.proofs.AddedOutages.{end_known}
 
 -- an exchange to which a group leads is an end of it
@@ -125,38 +128,46 @@ takes p risks (Group h) = tt
 takes p risks (Exchange x) = λ g t. t
 takes p risks (Named i) = tt
 
-module _ (p : Plan) (ok : IsPlan p) (risk : Risk) (o : Outage) (code : ℕ)
-    (within : code < length p.codes) where
-  -- an exchange that is no end of a group that goes is missed
-  missed_all : (ends : List ℕ) → AreEnds p risk (length p.groups) ends
-      → ((x : ℕ) → Among x ends → IsMissed p risk o code x) → (x : ℕ) → IsMissed p risk o code x
-  missed_all ends all each x f some none = at (route_list p x code) refl
+module _ (l : Left) (is : IsLeft l) (o : Outage) where
+  -- a list of which nothing is left is that of an end of a group that goes
+  missed : (ends : List ℕ) → AreEnds l.plan (gone l) (length l.plan.groups) ends
+      → list_any (is_emptied l o) ends ≡ false → (x : ℕ) → fails_at o x ≡ false
+      → route_list l.plan x l.code ≢ [] → left_of (gone l) (route_list l.plan x l.code) ≡ [] → ⊥
+  missed ends all hit x f some none = at (route_list l.plan x l.code) refl
     where
-      at : (gs : List ℕ) → route_list p x code ≡ gs → ⊥
+      at : (gs : List ℕ) → route_list l.plan x l.code ≡ gs → ⊥
       at [] e = some e
       at (g ∷ gs) e =
-          let m : Among g (route_list p x code) = subst (Among g) (sym e) (inl refl) in
-          let l = (is_net p ok code within).leads x g m in
-          let end : is_some (other_end p g x) ≡ true = ap is_some l.1 in
-          each x (all g x (end_known p g x end) (left_goes risk (route_list p x code) g none m) end)
-          f some none
+          let m : Among g (route_list l.plan x l.code) = subst (Among g) (sym e) (inl refl) in
+          let to = (is_net l.plan is.rules l.code is.code).leads x g m in
+          let end : is_some (other_end l.plan g x) ≡ true = ap is_some to.1 in
+          let goes = left_goes (gone l) (route_list l.plan x l.code) g none m in
+          let here = all g x (end_known l.plan g x end) goes end in
+          let empty = none_left (gone l) (route_list l.plan x l.code) none in
+          let long = ne_eqb (length (route_list l.plan x l.code)) 0
+          (λ z. let k = ap length e in omega arith) in
+          both_ways _ (none_any (is_emptied l o) ends x hit here) (rw (f, empty, long) refl)
 
   -- so it is cut off from no exchange in question
-  pub unhit : {A : Type 0} (ranks : Ranks) (limit spare : ℕ) → IsCertified p ranks limit spare
-      → TakesItsGroups p risk o → (ends : List ℕ) → AreEnds p risk (length p.groups) ends
-      → ((x : ℕ) → Among x ends → IsMissed p risk o code x) → AreCutsOfCode {A = A} p risk o code []
-  unhit ranks limit spare cert takes ends all each = record {
+  pub unhit : {A : Type 0} → HasGrade l.plan → TakesItsGroups l.plan (gone l) o → (ends : List ℕ)
+      → AreEnds l.plan (gone l) (length l.plan.groups) ends
+      → list_any (is_emptied l o) ends ≡ false → AreCuts {A = A} l o []
+  unhit grade takes ends all hit = record {
     each = λ c m. absurd m;
     asked = λ c m. absurd m;
     order = tt;
     all = λ x steps a c.
+        let p = l.plan in
+        let code = l.code in
+        let cert = grade.2.1 in
         let t = and_parts (is_origin_for p x code)
         (not (fails_at o x) && not (fails_at o (home_of p code))) a in
         let f = and_parts (not (fails_at o x)) (not (fails_at o (home_of p code))) t.1 in
-        let r = cert.origins code x within t.0 in
-        let q = ranked_on p risk code ranks limit spare cert within x r.0 steps r.1 c.dead.goes in
-        let d = cert.lists code (end_of x steps) q.0 within q.1 c.dead.away in
-        absurd (missed_all ends all each (end_of x steps)
-        (not_failing p risk o code x steps takes (not-true _ f.0) c.dead.goes)
-        (λ e. let n = d.enough in let l = ap length e in omega arith) c.dead.none);
+        let r = cert.origins code x is.code t.0 in
+        let q = ranked_on p (gone l) code grade.2.0 grade.0 grade.1 cert is.code x r.0 steps r.1
+        c.dead.goes in
+        let d = cert.lists code (end_of x steps) q.0 is.code q.1 c.dead.away in
+        absurd (missed ends all hit (end_of x steps)
+        (not_failing p (gone l) o code x steps takes (not-true _ f.0) c.dead.goes)
+        (λ e. let n = d.enough in let few = ap length e in omega arith) c.dead.none);
   }

@@ -3,4 +3,6 @@ pub mod Served
 pub mod NamedRisks
 pub mod Outages
 pub mod Survivals
+pub mod RiskText
+pub mod RiskFaults
 pub mod inner

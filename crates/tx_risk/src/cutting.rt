@@ -1,17 +1,17 @@
 // From where a risk cuts off a code.
 ghost use Rattle.std.specs.Prelude.{◌≡◌, ◌<◌, ◌+◌, List, length, IfOk};
-ghost use Rattle.tx_plan.specs.Rules.{IsPlan};
 ghost use Rattle.tx_rank.specs.Judged.{AreOrigins};
-ghost use Rattle.tx_risk.specs.Outages.{AreCutsOfCode, is_asked, fails_at};
+ghost use Rattle.tx_risk.specs.Outages.{is_asked, fails_at};
+ghost use Rattle.tx_risk.specs.Survivals.{HasGrade};
 ghost use Rattle.tx_risk.specs.declared.cut.Cut.{Cut};
-ghost use Rattle.tx_risk.specs.inner.Marked.{marked};
 ghost use Rattle.tx_risk.specs.inner.Left.{left_net};
+ghost use Rattle.tx_risk.specs.inner.Orders.{IsOrder};
 ghost use Rattle.tx_risk.specs.inner.Nearest.{AreNearest};
-ghost use Rattle.tx_risk.specs.inner.Cutting.{Adds, AreCutsBefore};
+ghost use Rattle.tx_risk.specs.inner.Cutting.{Adds, AreCuts, AreCutsBefore};
 
 use crate::cut::Cut;
-use crate::left::{Goal, Left, distance_at};
-use crate::nearest::distances_to;
+use crate::left::Left;
+use crate::nearest::{Goal, distance_at, distances_to};
 use crate::outage::Outage;
 use crate::shortest::walk_from;
 use std::alloc::Allocator;
@@ -28,39 +28,33 @@ pub fn is_failing(outage: &Outage, exchange: ExchangeId) -> bool
     }
 }
 
-/// Adds the cut from the exchange at a place, if it is in question and there is one.
+/// Adds the cut from an exchange, if it is in question and there is one.
 fn add_cut<A: Allocator + Copy>(
     alloc: A,
     left: &Left<'_, A>,
     origins: &[bool],
     outage: &Outage,
-    dead_ends: &[Option<u16>],
-    homes: &[Option<u16>],
-    place: usize,
+    dead_ends: &[Option<usize>],
+    homes: &[Option<usize>],
+    exchange: ExchangeId,
     cuts: &mut Vec<Cut<A>, A>,
 ) -> Result<(), NoMemory>
-    requires rules { IsPlan left.now.plan.now }
-    requires code { left.now.code < length left.now.plan.now.codes }
-    requires place { place < length left.now.plan.now.exchanges }
-    requires origins { AreOrigins left.now.plan.now origins.now }
-    requires dead_ends { AreNearest (left_net left.now.plan.now left.now.gone.now left.now.code)
-        Goal.DeadEnd dead_ends.now }
-    requires homes { AreNearest (left_net left.now.plan.now left.now.gone.now left.now.code)
-        Goal.Home homes.now }
+    requires exchange { exchange < length left.now.plan.exchanges }
+    requires grade { HasGrade left.now.plan }
+    requires origins { AreOrigins left.now.plan origins.now }
+    requires dead_ends { AreNearest (left_net left.now) Goal.DeadEnd dead_ends.now }
+    requires homes { AreNearest (left_net left.now) Goal.Home homes.now }
     ensures { IfOk result (λ _. (first : List (Cut A))
-        → Adds (AreCutsBefore left.now.plan.now (marked left.now.gone.now) outage.now left.now.code
-        place) first cuts.old.items
-        → Adds (AreCutsBefore left.now.plan.now (marked left.now.gone.now) outage.now left.now.code
-        (place + 1)) first cuts.new.items) }
+        → Adds (AreCutsBefore left.now outage.now exchange) first cuts.old.items
+        → Adds (AreCutsBefore left.now outage.now (exchange + 1)) first cuts.new.items) }
 {
-    let exchange = ExchangeId::of(place);
     if !is_asked(left, origins, outage, exchange) {
         return Ok(());
     }
-    let Some(distance) = distance_at(dead_ends, exchange) else {
+    if distance_at(dead_ends, exchange).is_none() {
         return Ok(());
-    };
-    let walk = walk_from(alloc, left, dead_ends, exchange, distance)?;
+    }
+    let walk = walk_from(alloc, left, dead_ends, exchange)?;
     cuts.push(Cut {
         outage: *outage,
         code: left.code,
@@ -77,9 +71,9 @@ fn is_asked<A: Allocator>(
     outage: &Outage,
     exchange: ExchangeId,
 ) -> bool
-    requires origins { AreOrigins left.now.plan.now origins.now }
-    requires exchange { exchange < length left.now.plan.now.exchanges }
-    ensures { result ≡ is_asked left.now.plan.now outage.now left.now.code exchange }
+    requires origins { AreOrigins left.now.plan origins.now }
+    requires exchange { exchange < length left.now.plan.exchanges }
+    ensures { result ≡ is_asked left.now.plan outage.now left.now.code exchange }
 {
     (origins[exchange.index()] && !left.plan.is_barred(exchange, left.code))
         && (!is_failing(outage, exchange) && !is_failing(outage, left.plan.home(left.code)))
@@ -89,21 +83,22 @@ fn is_asked<A: Allocator>(
 pub fn add_cuts<A: Allocator + Copy>(
     alloc: A,
     left: &Left<'_, A>,
+    order: &[ExchangeId],
     origins: &[bool],
     outage: &Outage,
     cuts: &mut Vec<Cut<A>, A>,
 ) -> Result<(), NoMemory>
-    requires code { left.now.code < length left.now.plan.now.codes }
-    requires origins { AreOrigins left.now.plan.now origins.now }
-    ensures { IfOk result (λ _. Adds
-        (AreCutsOfCode left.now.plan.now (marked left.now.gone.now) outage.now left.now.code)
-        cuts.old.items cuts.new.items) }
+    requires grade { HasGrade left.now.plan }
+    requires order { IsOrder (left_net left.now) order.now }
+    requires origins { AreOrigins left.now.plan origins.now }
+    ensures { IfOk result (λ _. Adds (AreCuts left.now outage.now) cuts.old.items cuts.new.items) }
 {
-    let dead_ends = distances_to(alloc, left, Goal::DeadEnd)?;
-    let homes = distances_to(alloc, left, Goal::Home)?;
-    for place in 0..left.plan.exchanges() {
+    let dead_ends = distances_to(alloc, left, Goal::DeadEnd, order)?;
+    let homes = distances_to(alloc, left, Goal::Home, order)?;
+    for place in 0..left.exchanges() {
+        let exchange = ExchangeId::of(place);
         add_cut(
-            alloc, left, origins, outage, &dead_ends, &homes, place, cuts,
+            alloc, left, origins, outage, &dead_ends, &homes, exchange, cuts,
         )?;
     }
     Ok(())

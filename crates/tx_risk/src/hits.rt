@@ -1,15 +1,15 @@
 // Which codes an outage may cut off at all.
-ghost use Rattle.std.specs.Prelude.{◌≡◌, ◌<◌, ◌+◌, ◌==◌, ℕ, false, length, IfOk};
+ghost use Rattle.std.specs.Prelude.{◌≡◌, ◌<◌, ◌+◌, ◌==◌, ℕ, length, IfOk};
 ghost use Rattle.std.specs.List.{list_any};
 ghost use Rattle.tx_plan.specs.Among.{Among};
 ghost use Rattle.tx_risk.specs.inner.Marked.{marked};
-ghost use Rattle.tx_risk.specs.inner.Hits.{AreEnds, IsMissed};
+ghost use Rattle.tx_risk.specs.inner.Hits.{AreEnds, is_emptied};
 
 use crate::cutting::is_failing;
-use crate::left::{are_marked, is_marked};
+use crate::left::{Left, is_marked};
 use crate::outage::Outage;
 use std::alloc::Allocator;
-use tx_plan::{CodeId, ExchangeId, GroupId, Plan};
+use tx_plan::{ExchangeId, GroupId, Plan};
 use tx_text::NoMemory;
 
 /// Whether an exchange is among these.
@@ -72,40 +72,16 @@ pub fn ends_of<A: Allocator + Copy>(
 }
 
 /// Whether nothing is left of the list of an exchange that has one, and does not fail.
-fn is_emptied<A: Allocator>(
-    plan: &Plan<A>,
-    gone: &[bool],
-    outage: &Outage,
-    exchange: ExchangeId,
-    code: CodeId,
-) -> bool
-    ensures { result ≡ false → IsMissed plan.now (marked gone.now) outage.now code exchange }
+fn is_emptied<A: Allocator>(left: &Left<'_, A>, outage: &Outage, exchange: ExchangeId) -> bool
+    ensures { result ≡ is_emptied left.now outage.now exchange }
 {
-    let list = plan.list(exchange, code);
-    if list.is_empty() {
-        return false;
-    }
-    if is_failing(outage, exchange) {
-        return false;
-    }
-    are_marked(gone, list)
+    let list = left.list(exchange);
+    !list.is_empty() && !is_failing(outage, exchange) && left.are_gone(list)
 }
 
 /// Whether nothing is left of a list for the code, of an exchange among these.
-pub fn is_hit<A: Allocator>(
-    plan: &Plan<A>,
-    gone: &[bool],
-    ends: &[ExchangeId],
-    outage: &Outage,
-    code: CodeId,
-) -> bool
-    ensures { result ≡ false → (x : ℕ) → Among x ends.now
-        → IsMissed plan.now (marked gone.now) outage.now code x }
+pub fn is_hit<A: Allocator>(left: &Left<'_, A>, ends: &[ExchangeId], outage: &Outage) -> bool
+    ensures { result ≡ list_any (is_emptied left.now outage.now) ends.now }
 {
-    for i in 0..ends.len() {
-        if is_emptied(plan, gone, outage, ends[i], code) {
-            return true;
-        }
-    }
-    false
+    ends.iter().any(|end| is_emptied(left, outage, *end))
 }

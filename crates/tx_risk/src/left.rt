@@ -1,19 +1,13 @@
-// The network of a plan without the groups of a risk.
-ghost use Rattle.std.specs.Prelude.{◌≡◌, ◌↔◌, true, []};
-ghost use Rattle.tx_risk.specs.Risks.{left_of};
+// What a risk leaves of a plan.
+ghost use Rattle.std.specs.Prelude.{◌≡◌};
+ghost use Rattle.std.specs.List.{list_all};
+ghost use Rattle.tx_plan.specs.Routes.{route_list};
 ghost use Rattle.tx_risk.specs.inner.Marked.{marked};
-ghost use Rattle.tx_risk.specs.inner.Nearest.{IsGoal, IsStepTo, distance_in};
-ghost use Rattle.tx_risk.specs.inner.Left.{left_net};
+ghost use Rattle.tx_risk.specs.inner.Left.{IsLeft, gone, left_net};
 
 use std::alloc::Allocator;
+use std::marker::Model;
 use tx_plan::{CodeId, ExchangeId, GroupId, Plan};
-
-/// What a walk is to come to: an exchange where no group is left, or the home.
-#[derive(Clone, Copy)]
-pub enum Goal {
-    DeadEnd,
-    Home,
-}
 
 /// The routes for one code, without the groups that are marked.
 #[derive(Drop)]
@@ -21,6 +15,63 @@ pub struct Left<'a, A: Allocator> {
     pub plan: &'a Plan<A>,
     pub gone: &'a [bool],
     pub code: CodeId,
+}
+
+impl<'a, A: Allocator> Model for Left<'a, A> {
+    ghost use Rattle.tx_risk.specs.inner.Left.{Left, IsLeft};
+
+    ghost Value = { Left };
+
+    ghost view = { λ l. record { plan = l.plan.now; marks = l.gone.now; code = l.code } };
+
+    ghost invariant = { λ l. IsLeft
+        (record { plan = l.plan.now; marks = l.gone.now; code = l.code }) };
+}
+
+impl<'a, A: Allocator> Left<'a, A> {
+    /// How many exchanges.
+    pub fn exchanges(&self) -> usize
+        ensures count { result ≡ (left_net self.now).exchanges }
+        ensures rules { IsLeft self.now }
+    {
+        self.plan.exchanges()
+    }
+
+    /// The home of the code.
+    pub fn home(&self) -> ExchangeId
+        ensures { result ≡ (left_net self.now).home }
+    {
+        self.plan.home(self.code)
+    }
+
+    /// The groups that an exchange tries, with those that go.
+    pub fn list(&self, exchange: ExchangeId) -> &[GroupId]
+        ensures value { result.now ≡ route_list self.now.plan exchange self.now.code }
+        ensures rules { IsLeft self.now }
+    {
+        self.plan.list(exchange, self.code)
+    }
+
+    /// Where a group leads from an exchange.
+    pub fn far(&self, group: GroupId, exchange: ExchangeId) -> Option<ExchangeId>
+        ensures { result ≡ (left_net self.now).far group exchange }
+    {
+        self.plan.other_end(group, exchange)
+    }
+
+    /// Whether a group goes.
+    pub fn is_gone(&self, group: GroupId) -> bool
+        ensures { result ≡ gone self.now group }
+    {
+        is_marked(self.gone, group)
+    }
+
+    /// Whether all groups of a list go.
+    pub fn are_gone(&self, list: &[GroupId]) -> bool
+        ensures { result ≡ list_all (gone self.now) list.now }
+    {
+        list.iter().all(|group| self.is_gone(*group))
+    }
 }
 
 /// Whether a group is marked.
@@ -31,63 +82,4 @@ pub fn is_marked(marks: &[bool], group: GroupId) -> bool
         Some(mark) => *mark,
         None => false,
     }
-}
-
-/// Whether all groups of a list are marked.
-pub fn are_marked(marks: &[bool], list: &[GroupId]) -> bool
-    ensures { result ≡ true ↔ left_of (marked marks.now) list.now ≡ [] }
-{
-    for i in 0..list.len() {
-        if !is_marked(marks, list[i]) {
-            return false;
-        }
-    }
-    true
-}
-
-/// The distance of an exchange, if it has one.
-pub fn distance_at(distances: &[Option<u16>], exchange: ExchangeId) -> Option<u16>
-    ensures { result ≡ distance_in distances.now exchange }
-{
-    match distances.get(exchange.index()) {
-        Some(distance) => *distance,
-        None => None,
-    }
-}
-
-/// Whether a walk may end at an exchange.
-pub fn is_goal<A: Allocator>(left: &Left<'_, A>, goal: Goal, exchange: ExchangeId) -> bool
-    ensures { result ≡ true
-        ↔ IsGoal (left_net left.now.plan.now left.now.gone.now left.now.code) goal exchange }
-{
-    let is_home = exchange == left.plan.home(left.code);
-    match goal {
-        Goal::DeadEnd => { !is_home && are_marked(left.gone, left.plan.list(exchange, left.code)) }
-        Goal::Home => is_home,
-    }
-}
-
-/// A group that is left in the list of an exchange, and leads to an exchange of this distance.
-pub fn step_to<A: Allocator>(
-    left: &Left<'_, A>,
-    distances: &[Option<u16>],
-    exchange: ExchangeId,
-    distance: u16,
-) -> Option<(GroupId, ExchangeId)>
-    ensures { IsStepTo (left_net left.now.plan.now left.now.gone.now left.now.code) distances.now
-        exchange distance result }
-{
-    let list = left.plan.list(exchange, left.code);
-    for i in 0..list.len() {
-        let group = list[i];
-        if is_marked(left.gone, group) {
-            continue;
-        }
-        if let Some(to) = left.plan.other_end(group, exchange) {
-            if distance_at(distances, to) == Some(distance) {
-                return Some((group, to));
-            }
-        }
-    }
-    None
 }

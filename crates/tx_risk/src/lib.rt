@@ -1,24 +1,33 @@
 //! Groups that fail at once, for example by the failure of a cable or an exchange: who is cut off
 //! then, and what is promised of all others.
+//!
+//! A text names such risks. Its reader takes it exactly where it keeps to the format, and else reports
+//! its first fault with its line.
 #![tactic(auto)]
 
 mod cut;
 mod cutting;
+mod declaring;
+mod fault;
 mod hits;
 mod law;
 mod left;
-mod named_risk;
 mod nearest;
+mod orders;
 mod outage;
 mod outages;
+mod risk_reader;
+mod risks;
 mod shortest;
 mod surviving;
 
 pub use cut::Cut;
+pub use fault::{RiskFault, RiskWord, code_and_name};
 pub use law::{
     clear_calls_get_through, cut_is_short, dead_ends_cut, failed_cuts_no_other,
     keyed_since_get_through, none_on_failed, ranked_is_uncut, uncut_is_closed, uncut_is_served,
 };
-pub use named_risk::NamedRisk;
 pub use outage::Outage;
+pub use risk_reader::{read_risks, read_risks_from};
+pub use risks::Risks;
 pub use surviving::{Survival, survive};

@@ -1,22 +1,24 @@
 // What the outages of a plan cut off.
-ghost use Rattle.std.specs.Prelude.{◌≡◌, ◌<◌, ◌==◌, ℕ, length, true, IfOk};
-ghost use Rattle.std.specs.List.{list_any};
-ghost use Rattle.tx_plan.specs.Rules.{IsPlan};
+ghost use Rattle.std.specs.Prelude.{◌≡◌, ◌<◌, ℕ, length, true, IfOk};
+ghost use Rattle.tx_plan.specs.Certified.{IsCertified};
+ghost use Rattle.tx_cert.specs.Certificate.{ranks_of};
 ghost use Rattle.tx_rank.specs.Judged.{AreOrigins};
-ghost use Rattle.tx_risk.specs.NamedRisks.{AreRisksFor, named_groups};
-ghost use Rattle.tx_risk.specs.Outages.{risk_of, outage_at, AreCutsOfCode, AreCutsOf, AreAllCuts};
+ghost use Rattle.tx_risk.specs.NamedRisks.{AreRisksFor};
+ghost use Rattle.tx_risk.specs.Outages.{risk_of, outage_at, AreCutsOf, AreAllCuts};
 ghost use Rattle.tx_risk.specs.Survivals.{HasGrade};
-ghost use Rattle.tx_risk.specs.inner.Hits.{AreEnds, TakesItsGroups};
-ghost use Rattle.tx_risk.specs.inner.Cutting.{Adds};
 ghost use Rattle.tx_risk.specs.inner.Marked.{marked};
+ghost use Rattle.tx_risk.specs.inner.Orders.{AreOrders};
+ghost use Rattle.tx_risk.specs.inner.Cutting.{Adds};
 
 use crate::cut::Cut;
 use crate::cutting::add_cuts;
 use crate::hits::{ends_of, is_hit};
 use crate::left::Left;
-use crate::named_risk::NamedRisk;
+use crate::orders::orders_of;
 use crate::outage::Outage;
+use crate::risks::Risks;
 use std::alloc::Allocator;
+use tx_cert::Cert;
 use tx_plan::{CodeId, ExchangeId, GroupId, Plan};
 use tx_rank::origins_of;
 use tx_text::NoMemory;
@@ -24,7 +26,7 @@ use tx_text::NoMemory;
 /// Whether a group goes with an outage.
 fn goes_with<A: Allocator>(
     plan: &Plan<A>,
-    risks: &[NamedRisk<A>],
+    risks: &Risks<A>,
     outage: &Outage,
     group: GroupId,
 ) -> bool
@@ -33,17 +35,7 @@ fn goes_with<A: Allocator>(
     match outage {
         Outage::Group(gone) => group == *gone,
         Outage::Exchange(exchange) => plan.other_end(group, *exchange).is_some(),
-        Outage::Named(place) => is_named(risks, *place, group),
-    }
-}
-
-/// Whether a group is one of the named risk at a place.
-fn is_named<A: Allocator>(risks: &[NamedRisk<A>], place: usize, group: GroupId) -> bool
-    ensures { result ≡ list_any (λ g. g == group) (named_groups risks.now place) }
-{
-    match risks.get(place) {
-        Some(risk) => risk.has(group),
-        None => false,
+        Outage::Named(place) => risks.groups(*place).contains(&group),
     }
 }
 
@@ -51,7 +43,7 @@ fn is_named<A: Allocator>(risks: &[NamedRisk<A>], place: usize, group: GroupId) 
 fn marks_of<A: Allocator + Copy>(
     alloc: A,
     plan: &Plan<A>,
-    risks: &[NamedRisk<A>],
+    risks: &Risks<A>,
     outage: &Outage,
 ) -> Result<Vec<bool, A>, NoMemory>
     requires { (g : ℕ) → risk_of plan.now risks.now outage.now g ≡ true
@@ -66,42 +58,17 @@ fn marks_of<A: Allocator + Copy>(
     Ok(marks)
 }
 
-/// Adds what an outage cuts off of one code: nothing, unless some list of the code is hit.
-fn add_code<A: Allocator + Copy>(
-    alloc: A,
-    plan: &Plan<A>,
-    gone: &[bool],
-    ends: &[ExchangeId],
-    origins: &[bool],
-    outage: &Outage,
-    code: CodeId,
-    cuts: &mut Vec<Cut<A>, A>,
-) -> Result<(), NoMemory>
-    requires rules { IsPlan plan.now }
-    requires origins { AreOrigins plan.now origins.now }
-    requires code { code < length plan.now.codes }
-    requires grade { HasGrade plan.now }
-    requires takes { TakesItsGroups plan.now (marked gone.now) outage.now }
-    requires ends { AreEnds plan.now (marked gone.now) (length plan.now.groups) ends.now }
-    ensures { IfOk result (λ _. Adds (AreCutsOfCode plan.now (marked gone.now) outage.now code)
-        cuts.old.items cuts.new.items) }
-{
-    if !is_hit(plan, gone, ends, outage, code) {
-        return Ok(());
-    }
-    let left = Left { plan, gone, code };
-    add_cuts(alloc, &left, origins, outage, cuts)
-}
-
-/// Adds all that an outage cuts off.
+/// Adds all that an outage cuts off, code by code: nothing, where no list of the code is hit.
 fn add_outage<A: Allocator + Copy>(
     alloc: A,
     plan: &Plan<A>,
-    risks: &[NamedRisk<A>],
+    risks: &Risks<A>,
+    orders: &[Vec<ExchangeId, A>],
     origins: &[bool],
     outage: &Outage,
     cuts: &mut Vec<Cut<A>, A>,
 ) -> Result<(), NoMemory>
+    requires orders { AreOrders plan.now orders.now }
     requires origins { AreOrigins plan.now origins.now }
     requires grade { HasGrade plan.now }
     requires known { (g : ℕ) → risk_of plan.now risks.now outage.now g ≡ true
@@ -112,8 +79,15 @@ fn add_outage<A: Allocator + Copy>(
     let gone = marks_of(alloc, plan, risks, outage)?;
     let ends = ends_of(alloc, plan, &gone)?;
     for place in 0..plan.codes() {
-        let code = CodeId::of(place);
-        add_code(alloc, plan, &gone, &ends, origins, outage, code, cuts)?;
+        let left = Left {
+            plan,
+            gone: &gone,
+            code: CodeId::of(place),
+        };
+        if !is_hit(&left, &ends, outage) {
+            continue;
+        }
+        add_cuts(alloc, &left, &orders[place], origins, outage, cuts)?;
     }
     Ok(())
 }
@@ -132,22 +106,26 @@ fn outage_at<A: Allocator>(plan: &Plan<A>, place: usize) -> Outage
     }
 }
 
-/// What each group, each exchange and each named risk cuts off if it fails alone.
+/// What each group, each exchange and each named risk cuts off if it fails alone, in a plan that the
+/// ranks certify.
 pub fn all_cuts<A: Allocator + Copy>(
     alloc: A,
     plan: &Plan<A>,
-    risks: &[NamedRisk<A>],
+    ranks: &Cert<A>,
+    risks: &Risks<A>,
 ) -> Result<Vec<Cut<A>, A>, NoMemory>
+    requires certified { (limit : ℕ) × (spare : ℕ)
+        × IsCertified plan.now (ranks_of ranks.now) limit spare }
     requires risks { AreRisksFor plan.now risks.now }
-    requires grade { HasGrade plan.now }
     ensures { IfOk result (λ cuts. AreAllCuts plan.now risks.now cuts.items) }
 {
+    let orders = orders_of(alloc, plan, ranks)?;
     let origins = origins_of(alloc, plan)?;
     let mut cuts = Vec::new(alloc);
     let count = plan.groups() + plan.exchanges() + risks.len();
     for place in 0..count {
         let outage = outage_at(plan, place);
-        add_outage(alloc, plan, risks, &origins, &outage, &mut cuts)?;
+        add_outage(alloc, plan, risks, &orders, &origins, &outage, &mut cuts)?;
     }
     Ok(cuts)
 }

@@ -1,45 +1,37 @@
-// A shortest walk to a goal.
-ghost use Rattle.std.specs.Prelude.{◌≡◌, ◌<◌, Some, IfOk, length};
-ghost use Rattle.tx_plan.specs.Rules.{IsPlan};
+// A shortest walk to a dead end.
+ghost use Rattle.std.specs.Prelude.{◌≡◌, ℕ, length, Some, true, IfOk};
+ghost use Rattle.tx_risk.specs.Risks.{IsDeadEnd};
+ghost use Rattle.tx_risk.specs.declared.nearest.Goal.{Goal};
 ghost use Rattle.tx_risk.specs.inner.Left.{left_net};
-ghost use Rattle.tx_risk.specs.inner.Nearest.{AreNearest, IsNearestWay, distance_in};
+ghost use Rattle.tx_risk.specs.inner.Nearest.{AreNearest, distance_in};
 
-use crate::left::{Goal, Left, step_to};
+use crate::left::Left;
+use crate::nearest::nearest_step;
 use std::alloc::Allocator;
 use tx_plan::ExchangeId;
 use tx_rank::{Steps, Walk};
 use tx_text::NoMemory;
 
-/// A walk from an exchange to a dead end, of as many steps as its distance.
+/// A shortest walk from where calls may start to a dead end, if there is one.
 pub fn walk_from<A: Allocator + Copy>(
     alloc: A,
     left: &Left<'_, A>,
-    distances: &[Option<u16>],
+    dead_ends: &[Option<usize>],
     start: ExchangeId,
-    distance: u16,
 ) -> Result<Walk<A>, NoMemory>
-    requires rules { IsPlan left.now.plan.now }
-    requires code { left.now.code < length left.now.plan.now.codes }
-    requires start { start < length left.now.plan.now.exchanges }
-    requires nearest { AreNearest (left_net left.now.plan.now left.now.gone.now left.now.code)
-        Goal.DeadEnd distances.now }
-    requires distance { distance_in distances.now start ≡ Some distance }
+    requires nearest { AreNearest (left_net left.now) Goal.DeadEnd dead_ends.now }
+    requires origin { (left_net left.now).is_origin start ≡ true }
+    requires cut { (d : ℕ) × (distance_in dead_ends.now start ≡ Some d) }
     ensures start { IfOk result (λ w. w.start ≡ start) }
-    ensures nearest { IfOk result (λ w. IsNearestWay
-        (left_net left.now.plan.now left.now.gone.now left.now.code) start w.steps distance) }
+    ensures dead { IfOk result (λ w. IsDeadEnd (left_net left.now) start w.steps) }
+    ensures shortest { IfOk result (λ w.
+        distance_in dead_ends.now start ≡ Some (length w.steps)) }
 {
     let mut steps = Vec::new(alloc);
     let mut at = start;
-    let mut ahead = distance;
-    while ahead > 0 {
-        match step_to(left, distances, at, ahead - 1) {
-            Some(step) => {
-                steps.push((step.0, step.1))?;
-                at = step.1;
-                ahead -= 1;
-            }
-            None => unreachable!(),
-        }
+    while let Some(step) = nearest_step(left, dead_ends, at) {
+        steps.push((step.group, step.to))?;
+        at = step.to;
     }
     Ok(Walk {
         start,

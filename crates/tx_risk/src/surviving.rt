@@ -8,8 +8,8 @@ ghost use Rattle.tx_risk.specs.Outages.{AreAllCuts};
 ghost use Rattle.tx_risk.specs.Survivals.{HasGrade, AreTried, OnTried, OnUngraded};
 
 use crate::cut::Cut;
-use crate::named_risk::NamedRisk;
 use crate::outages::all_cuts;
+use crate::risks::Risks;
 use std::alloc::{Allocator, Global};
 use tx_plan::Plan;
 use tx_rank::{Grade, grade};
@@ -30,7 +30,7 @@ pub enum Survival<A: Allocator = Global> {
 pub fn survive<A: Allocator + Copy>(
     alloc: A,
     plan: &Plan<A>,
-    risks: &[NamedRisk<A>],
+    risks: &Risks<A>,
 ) -> Result<Survival<A>, NoMemory>
     requires { AreRisksFor plan.now risks.now }
 
@@ -47,7 +47,7 @@ pub fn survive<A: Allocator + Copy>(
 {
     let grade = grade(alloc, plan)?;
     match grade.plan {
-        Some(_) => Ok(Survival::Tried(all_cuts(alloc, plan, risks)?)),
+        Some(_) => Ok(Survival::Tried(all_cuts(alloc, plan, &grade.ranks, risks)?)),
         None => Ok(Survival::Ungraded(grade)),
     }
 }

@@ -3,20 +3,20 @@ ghost use Rattle.std.specs.Prelude.{◌≡◌, ◌<◌, ◌++◌, [], if◌then�
 ghost use Rattle.tx_text.specs.Wrote.{Wrote};
 ghost use Rattle.tx_risk.specs.declared.cut.Cut.{Cut};
 ghost use Rattle.tx_risk_report.specs.inner.Before.{outage_before};
-ghost use Rattle.tx_risk_report.specs.OutageReport.{head_line, risk_name, outage_line, same_outage, is_same_as, start_text, cut_line, cuts_text, tried_text, survival_text};
+ghost use Rattle.tx_risk_report.specs.OutageReport.{head_line, outage_line, same_outage, is_same_as, start_text, cut_line, cuts_text, tried_text, survival_text};
 
 use itoa::Buffer;
 use std::alloc::Allocator;
 use tx_plan::{CodeId, Plan};
 use tx_rank::{Walk, write_grade, write_steps, write_verdict};
-use tx_risk::{Cut, NamedRisk, Outage, Survival};
+use tx_risk::{Cut, Outage, Risks, Survival};
 use tx_text::{Sink, WriteFault, write_parts};
 
 /// Writes how many outages were tried, what each cuts off, and the verdict; or that the plan has no
 /// grade, as its grade is written.
 pub fn write_survival<A: Allocator, W: Sink>(
     plan: &Plan<A>,
-    risks: &[NamedRisk<A>],
+    risks: &Risks<A>,
     survival: &Survival<A>,
     sink: &mut W,
 ) -> Result<(), WriteFault>
@@ -31,7 +31,7 @@ pub fn write_survival<A: Allocator, W: Sink>(
 
 fn write_tried<A: Allocator, W: Sink>(
     plan: &Plan<A>,
-    risks: &[NamedRisk<A>],
+    risks: &Risks<A>,
     cuts: &[Cut<A>],
     sink: &mut W,
 ) -> Result<(), WriteFault>
@@ -52,19 +52,9 @@ fn write_head<W: Sink>(count: usize, sink: &mut W) -> Result<(), WriteFault>
     write_parts(&[b"SURVIVE RISKS ", count, b"\n"], sink)
 }
 
-/// The name of the risk at a place.
-fn name_of<A: Allocator>(risks: &[NamedRisk<A>], place: usize) -> &[u8]
-    ensures { result.now ≡ risk_name risks.now place }
-{
-    match risks.get(place) {
-        Some(risk) => risk.name.bytes(),
-        None => &[],
-    }
-}
-
 fn write_outage<A: Allocator, W: Sink>(
     plan: &Plan<A>,
-    risks: &[NamedRisk<A>],
+    risks: &Risks<A>,
     outage: &Outage,
     sink: &mut W,
 ) -> Result<(), WriteFault>
@@ -76,7 +66,7 @@ fn write_outage<A: Allocator, W: Sink>(
         Outage::Exchange(exchange) => {
             write_parts(&[b"EXCHANGE ", plan.exchange_name(*exchange), b"\n"], sink)
         }
-        Outage::Named(place) => write_parts(&[b"RISK ", name_of(risks, *place), b"\n"], sink),
+        Outage::Named(place) => write_parts(&[b"RISK ", risks.name(*place), b"\n"], sink),
     }
 }
 
@@ -101,7 +91,7 @@ fn is_same_as_before<A: Allocator>(cuts: &[Cut<A>], place: usize) -> bool
 
 fn write_cuts<A: Allocator, W: Sink>(
     plan: &Plan<A>,
-    risks: &[NamedRisk<A>],
+    risks: &Risks<A>,
     cuts: &[Cut<A>],
     sink: &mut W,
 ) -> Result<(), WriteFault>
@@ -117,7 +107,7 @@ fn write_cuts<A: Allocator, W: Sink>(
 /// Writes a cut, after what fails, unless the same fails as before.
 fn write_cut<A: Allocator, W: Sink>(
     plan: &Plan<A>,
-    risks: &[NamedRisk<A>],
+    risks: &Risks<A>,
     same: bool,
     cut: &Cut<A>,
     sink: &mut W,

@@ -1,12 +1,12 @@
 -- The cuts of one code, as they are added.
 use Rattle.std.specs.Prelude.{◌≡◌, ℕ, ◌<◌, true, List, ◌++◌, map}
-use Rattle.tx_plan.specs.Plan.{Plan}
 use Rattle.tx_plan.specs.Rules.{EachPair}
 use Rattle.tx_plan.specs.Among.{Among}
 use Rattle.tx_risk.specs.declared.cut.Cut.{Cut}
 use Rattle.tx_risk.specs.declared.outage.Outage.{Outage}
-use Rattle.tx_risk.specs.Risks.{Risk, net_without, IsCut}
-use Rattle.tx_risk.specs.Outages.{is_asked, IsCutAs, start_at}
+use Rattle.tx_risk.specs.Risks.{IsCut}
+use Rattle.tx_risk.specs.Outages.{is_asked, IsCutAs, start_at, AreCutsOfCode}
+use Rattle.tx_risk.specs.inner.Left.{Left, gone, left_net}
 
 module _ {A : Type 0} where
   -- these were added
@@ -15,12 +15,15 @@ module _ {A : Type 0} where
     pub added : new ≡ old ++ mine
     pub these : AreThese mine
 
-  -- those of a code from the exchanges before place i
-  pub record AreCutsBefore (p : Plan) (risk : Risk) (o : Outage) (code i : ℕ)
-      (cuts : List (Cut A)) : Type 0 where
-    pub each : (c : Cut A) → Among c cuts → IsCutAs (net_without p risk code) o code c
-    pub asked : (c : Cut A) → Among c cuts → is_asked p o code (start_at c) ≡ true
+  -- those of the code
+  abbrev pub AreCuts : Left → Outage → List (Cut A) → Type 0
+  AreCuts l o cuts = AreCutsOfCode l.plan (gone l) o l.code cuts
+
+  -- those from the exchanges before place i
+  pub record AreCutsBefore (l : Left) (o : Outage) (i : ℕ) (cuts : List (Cut A)) : Type 0 where
+    pub each : (c : Cut A) → Among c cuts → IsCutAs (left_net l) o l.code c
+    pub asked : (c : Cut A) → Among c cuts → is_asked l.plan o l.code (start_at c) ≡ true
     pub order : EachPair (λ x y. x < y) (map start_at cuts)
     pub below : (y : ℕ) → Among y (map start_at cuts) → y < i
-    pub all : (x : ℕ) (steps : List (ℕ × ℕ)) → is_asked p o code x ≡ true
-        → IsCut (net_without p risk code) x steps → x < i → Among x (map start_at cuts)
+    pub all : (x : ℕ) (steps : List (ℕ × ℕ)) → is_asked l.plan o l.code x ≡ true
+        → IsCut (left_net l) x steps → x < i → Among x (map start_at cuts)

@@ -1,23 +1,26 @@
 -- Lists of which an outage leaves nothing.
-use Rattle.std.specs.Prelude.{◌≡◌, ◌≢◌, ℕ, ◌<◌, true, false, List, [], is_some}
+use Rattle.std.specs.Prelude.{◌≡◌, ℕ, ◌<◌, Bool, true, not, ◌&&◌, ◌==◌, List, length, is_some}
+use Rattle.std.specs.List.{list_all}
 use Rattle.tx_plan.specs.Plan.{Plan}
 use Rattle.tx_plan.specs.Among.{Among}
 use Rattle.tx_plan.specs.Circuits.{other_end}
 use Rattle.tx_plan.specs.Routes.{route_list}
 use Rattle.tx_risk.specs.declared.outage.Outage.{Outage}
 use Rattle.tx_risk.specs.declared.outage.Outage.TheVariants.{Exchange}
-use Rattle.tx_risk.specs.Risks.{Risk, groups_of, left_of}
+use Rattle.tx_risk.specs.Risks.{Risk, groups_of}
 use Rattle.tx_risk.specs.Outages.{fails_at}
+use Rattle.tx_risk.specs.inner.Left.{Left, gone}
 
 -- the ends of the first groups, if they go, are among these
 abbrev pub AreEnds : Plan → Risk → ℕ → List ℕ → Type 0
 AreEnds p risk i ends =
     (g x : ℕ) → g < i → risk g ≡ true → is_some (other_end p g x) ≡ true → Among x ends
 
--- the exchange fails, or has no list for the code, or something is left of it
-abbrev pub IsMissed : Plan → Risk → Outage → (code x : ℕ) → Type 0
-IsMissed p risk o code x =
-    fails_at o x ≡ false → route_list p x code ≢ [] → left_of risk (route_list p x code) ≡ [] → ⊥
+-- nothing is left of the list of x for the code; it has one, and does not fail
+abbrev pub is_emptied : Left → Outage → (x : ℕ) → Bool
+is_emptied l o x =
+    not (length (route_list l.plan x l.code) == 0)
+    && (not (fails_at o x) && list_all (gone l) (route_list l.plan x l.code))
 
 -- where an exchange fails, all groups of which it is an end go
 abbrev pub TakesItsGroups : Plan → Risk → Outage → Type 0

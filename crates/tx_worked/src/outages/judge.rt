@@ -5,7 +5,7 @@ use crate::outages::wanted::WantedCut;
 use crate::walks::{Difference, HIGH, Wanted, findings_differ};
 use std::alloc::Global;
 use tx_plan::Plan;
-use tx_risk::{Cut, NamedRisk, Survival, survive};
+use tx_risk::{Cut, Risks, Survival, survive};
 use tx_text::NoMemory;
 
 /// How what is told to be cut off differs from what all walks show.
@@ -26,7 +26,7 @@ fn cuts_differ(plan: &Plan, cuts: &[Cut], wanted: &[WantedCut]) -> Option<Differ
 pub fn survival_differs(
     alloc: Global,
     plan: &Plan,
-    risks: &[NamedRisk],
+    risks: &Risks,
     findings: &[Wanted],
     cuts: &[WantedCut],
 ) -> Result<Option<Difference>, NoMemory>

@@ -11,7 +11,7 @@ use crate::walks::{
 use std::alloc::Global;
 use tx_plan::Plan;
 use tx_plantext::read_plan;
-use tx_risk_text::read_risks;
+use tx_risk::read_risks;
 use tx_text::NoMemory;
 
 /// The plan in hand: one of each kind serves all plans of a family.
@@ -64,7 +64,7 @@ fn outages_differ(
     work: &OutageWork,
 ) -> Result<Option<Difference>, Stop> {
     let risks = read_risks(alloc, work.risks.as_slice(), plan)?;
-    Ok(survival_differs(alloc, plan, risks.as_slice(), &work.findings, &work.cuts)?)
+    Ok(survival_differs(alloc, plan, &risks, &work.findings, &work.cuts)?)
 }
 
 /// Judges the outages of a plan.

@@ -1,13 +1,8 @@
-use Rattle.std.proofs.Common.{inl, inr, refl, sym, subst}
+use Rattle.std.proofs.Common.{inl, inr, refl}
 use Rattle.tx_text.proofs.Exits.{exits_with}
-use Rattle.tx_risk.specs.NamedRisks.{AreRisksFor}
 use Rattle.tx_jobs.specs.JobFaults.{risks_fault}
 use Rattle.tx_jobs.proofs.RefusedTexts.{risks_mark}
 use Rattle.tx_jobs.proofs.survive.tell_named.Goals as goal
-
-pub tell_survival-requires : goal.tell_survival-requires
-tell_survival-requires g c =
-    subst (AreRisksFor c.args.plan.now) (sym c.as_slice.ensures) c.in_ok-risks.ensures.fits
 
 pub returns-in_err-risks-clause-answers : goal.returns-in_err-risks-clause-answers
 returns-in_err-risks-clause-answers g c =
@@ -30,5 +25,5 @@ returns-clause-answers g c = inl (record {
   risks = c.in_ok-risks.risks;
   fit = c.in_ok-risks.ensures.fits;
   read = c.in_ok-risks.ensures.answer;
-  goes_on = rw c.as_slice.ensures at c.tell_survival.ensures.told;
+  goes_on = c.tell_survival.ensures.told;
 })

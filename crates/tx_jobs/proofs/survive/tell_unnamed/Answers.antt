@@ -1,11 +1,8 @@
-use Rattle.std.proofs.Common.{◌∙◌}
-use Rattle.tx_risk_text.proofs.RiskLines.{no_risks}
+use Rattle.tx_risk.proofs.RiskLines.{no_risks}
 use Rattle.tx_jobs.proofs.survive.tell_unnamed.Goals as goal
 
 pub tell_survival-requires : goal.tell_survival-requires
-tell_survival-requires g c =
-    no_risks c.args.plan.now c.as_slice.result.now (c.as_slice.ensures ∙ c.none-risks.ensures)
+tell_survival-requires g c = no_risks c.args.plan.now c.none-risks.result c.none-risks.ensures
 
 pub returns-clause-told : goal.returns-clause-told
-returns-clause-told g c =
-    rw (c.as_slice.ensures ∙ c.none-risks.ensures) at c.tell_survival.ensures.told
+returns-clause-told g c = rw c.none-risks.ensures at c.tell_survival.ensures.told

@@ -8,7 +8,7 @@ use Rattle.tx_rank.specs.Findings.{pair_findings}
 use Rattle.tx_rank.specs.Judged.{IsJudged}
 use Rattle.tx_rank.specs.Grades.{IsGrade, CanBeCertifiedFor}
 use Rattle.tx_rank.proofs.Listing.{none_of, no_pair, ranked_first, ranked_next}
-use Rattle.tx_rank.proofs.Graded.{IsGradedBelow, graded_first, graded_none, graded_next, graded_plan, graded_codes, graded_listed, graded_true, graded_clean, graded_fails, graded_clear}
+use Rattle.tx_rank.proofs.Graded.{IsGradedBelow, graded_first, graded_none, graded_next, graded_plan, graded_codes, graded_listed, graded_true, graded_clean, graded_fails, graded_clear, graded_ranks}
 use Rattle.tx_rank.proofs.grading.grade.Goals as goal
 use Rattle.tx_rank.proofs.grading.grade.Goals.{then-is_empty, else-is_empty}
 
@@ -145,4 +145,15 @@ returns-clause-listed g c =
     let e = c.codes-place-end.ensures.count in
     omega arith in
     graded_listed c.args.plan.now c.codes.ensures.rules l.place all l.together l.codes.items
+    l.invariant.graded l.cert l.findings.items l.invariant.ranked
+
+pub returns-clause-ranks : goal.returns-clause-ranks
+returns-clause-ranks g c =
+    let l = c.loop-place in
+    let all : l.place ≡ length c.args.plan.now.codes =
+    let test = c.loop-place-test.false in
+    let end = l.auto.place-end in
+    let e = c.codes-place-end.ensures.count in
+    omega arith in
+    graded_ranks c.args.plan.now c.codes.ensures.rules l.place all l.together l.codes.items
     l.invariant.graded l.cert l.findings.items l.invariant.ranked

@@ -1,66 +1,65 @@
-use Rattle.std.proofs.Common.{◌<◌, ◌+◌, subst, refl, sym, ap, ◌∙◌, arith}
+use Rattle.std.proofs.Common.{◌≡◌, ◌+◌, subst, refl, sym, ap, ◌∙◌}
 use Rattle.std.proofs.lemmas.Bool.{both_ways}
 use Rattle.std.specs.Prelude.{is_some}
 use Rattle.tx_risk.specs.declared.cut.Cut.{Cut}
-use Rattle.tx_risk.specs.Outages.{is_asked}
-use Rattle.tx_risk.specs.inner.Left.{left_net}
-use Rattle.tx_risk.specs.inner.Marked.{marked}
-use Rattle.tx_risk.specs.inner.Nearest.{distance_in, IsNearestWay}
+use Rattle.tx_risk.specs.declared.nearest.Goal.TheVariants.{DeadEnd}
+use Rattle.tx_risk.specs.inner.Left.{Left, IsLeft, gone, left_net}
+use Rattle.tx_risk.specs.inner.Nearest.{IsDistance, distance_in}
 use Rattle.tx_risk.specs.inner.Cutting.{Adds, AreCutsBefore}
-use Rattle.tx_risk.proofs.AddedCuts.{none_cut, cut_as, before_skip, before_more}
+use Rattle.tx_risk.proofs.Ordering.{some_of, none_of}
+use Rattle.tx_risk.proofs.AddedCuts.{none_cut, cut_as, graded_once, before_skip, before_more, asked_origin, asked_reached}
 use Rattle.tx_risk.proofs.cutting.add_cut.Goals as goal
 
 pub returns-then-not-is_asked : goal.returns-then-not-is_asked
 returns-then-not-is_asked g c = λ first b.
-    let p = c.args.left.now.plan.now in
-    let o = c.args.outage.now in
-    let code = c.args.left.now.code in
-    let off = sym (ap (is_asked p o code) c.of-exchange.ensures) ∙ sym c.is_asked.ensures
-    ∙ c.if-not-is_asked.true in
-    before_skip p (marked c.args.left.now.gone.now) o code first c.args.cuts.now.items c.args.place
-    b
-    (λ steps a k. both_ways _ off a)
+    before_skip c.args.left.now c.args.outage.now first c.args.cuts.now.items c.args.exchange b
+    (λ steps a k. both_ways _ (sym c.is_asked.ensures ∙ c.if-not-is_asked.true) a)
 
-pub returns-in_default : goal.returns-in_default
-returns-in_default g c = λ first b.
-    let p = c.args.left.now.plan.now in
-    let gone = c.args.left.now.gone.now in
-    let code = c.args.left.now.code in
+pub returns-then-is_none : goal.returns-then-is_none
+returns-then-is_none g c = λ first b.
+    let l = c.args.left.now in
+    let o = c.args.outage.now in
+    let x = c.args.exchange in
     let ds = c.args.dead_ends.now in
-    let none = sym (ap (distance_in ds) c.of-exchange.ensures) ∙ sym c.distance_at.ensures
-    ∙ c.in_default.is in
-    before_skip p (marked gone) c.args.outage.now code first c.args.cuts.now.items c.args.place b
-    (λ steps a k. none_cut (left_net p gone code) ds c.args.place steps c.requires.dead_ends
-    c.requires.place none k)
+    let none = sym c.distance_at.ensures ∙ none_of c.distance_at.result c.if-is_none.ensures in
+    before_skip l o first c.args.cuts.now.items x b (λ steps a k. none_cut (left_net l) x
+    (distance_in ds x) steps (c.requires.dead_ends x (asked_reached l o x a)) none k)
+
+pub walk_from-requires-clause-origin : goal.walk_from-requires-clause-origin
+walk_from-requires-clause-origin g c =
+    let l = c.args.left.now in
+    asked_origin l.plan c.args.outage.now l.code c.args.exchange
+    (sym c.is_asked.ensures ∙ c.if-not-is_asked.false)
+
+pub walk_from-requires-clause-cut : goal.walk_from-requires-clause-cut
+walk_from-requires-clause-cut g c =
+    let d = some_of c.distance_at.result c.if-is_none.ensures in
+    (d.0, sym c.distance_at.ensures ∙ d.1)
 
 pub returns : goal.returns
 returns g c = λ first b.
-    let p = c.args.left.now.plan.now in
-    let gone = c.args.left.now.gone.now in
+    let l = c.args.left.now in
     let o = c.args.outage.now in
-    let code = c.args.left.now.code in
-    let n = left_net p gone code in
-    let ds = c.args.dead_ends.now in
-    let hs = c.args.homes.now in
+    let n = left_net l in
+    let x = c.args.exchange in
     let w = c.in_ok-walk.walk in
-    let start = c.in_ok-walk.ensures.start in
-    let at = start ∙ c.of-exchange.ensures in
-    let within : w.start < n.exchanges = let l = c.requires.place in omega arith in
-    let far = ap (distance_in ds) start ∙ sym c.distance_at.ensures ∙ c.in-Some.is in
-    let way = subst (λ x. IsNearestWay n x w.steps c.in-Some.distance)
-    (sym start) c.in_ok-walk.ensures.nearest in
-    let stray = c.is_some.ensures ∙ ap is_some
-    (c.distance_at-2.ensures ∙ ap (distance_in hs) (sym start)) in
+    let k = c.in_ok-walk.ensures in
+    let asked = sym c.is_asked.ensures ∙ c.if-not-is_asked.false in
+    let reached = asked_reached l o x asked in
     let cut : Cut g.row.A.Denot = record {
       outage = o;
-      code = code;
+      code = c.left.inside.code;
       stray = c.is_some.result;
       walk = w;
     } in
-    let is = cut_as n ds hs c.requires.dead_ends c.requires.homes cut o code c.in-Some.distance refl
-    refl within far way stray in
-    let asked = sym (ap (is_asked p o code) c.of-exchange.ensures) ∙ sym c.is_asked.ensures
-    ∙ c.if-not-is_asked.false in
-    subst (Adds (AreCutsBefore p (marked gone) o code (c.args.place + 1)) first)
-    (sym c.in_ok-push.ensures.items)
-    (before_more p (marked gone) o code first c.args.cuts.now.items c.args.place cut b at is asked)
+    let is = cut_as n cut o l.code x (distance_in c.args.homes.now x) refl
+    (ap (λ (m : Left). m.code) c.left.view_is) k.start
+    (record {
+      dead = k.dead;
+      once = graded_once l.plan (gone l) l.code x w.steps c.requires.grade
+          (subst IsLeft c.left.view_is c.left.invariant).code (asked_origin l.plan o l.code x asked) k.dead.goes;
+    })
+    (subst (IsDistance n DeadEnd x) k.shortest (c.requires.dead_ends x reached))
+    (c.requires.homes x reached) (c.is_some.ensures ∙ ap is_some c.distance_at-2.ensures) in
+    subst (Adds (AreCutsBefore l o (x + 1)) first) (sym c.in_ok-push.ensures.items)
+    (before_more l o first c.args.cuts.now.items x cut b k.start is asked)

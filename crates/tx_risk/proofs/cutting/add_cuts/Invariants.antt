@@ -1,8 +1,6 @@
-use Rattle.tx_risk.specs.inner.Marked.{marked}
 use Rattle.tx_risk.specs.inner.Cutting.{Adds, AreCutsBefore}
 use Rattle.tx_risk.proofs.cutting.add_cuts.Given as goal
 
 abbrev pub invariant-loop-place : goal.invariant-loop-place
 invariant-loop-place g l =
-    Adds (AreCutsBefore l.left.plan.now (marked l.left.gone.now) l.outage l.left.code l.place)
-    l.fn.cuts.items l.cuts.items
+    Adds (AreCutsBefore l.left l.outage l.place) l.fn.cuts.items l.cuts.items

@@ -26,5 +26,6 @@ returns g c =
     let risks = c.args.risks.now in
     let all : c.loop-place.place ≡ (length p.groups + length p.exchanges) + length risks =
     let t = c.loop-place-test.false in let a = c.loop-place.auto.place-end in
-    let g = c.groups.ensures.count in let e = c.exchanges.ensures.count in omega arith in
+    let g = c.groups.ensures.count in let e = c.exchanges.ensures.count in
+    let r = c.len.ensures.count in omega arith in
     subst (λ k. AreCutsOfFirst p risks k c.loop-place.cuts.items) all c.loop-place.invariant

@@ -1,46 +1,61 @@
-use Rattle.std.proofs.Common.{◌≡◌, ◌-◌, suc, Some, subst, sym, ap, ◌∙◌, arith}
+use Rattle.std.proofs.Common.{◌≡◌, ℕ, List, length, Some, sym, ap, ◌∙◌, refl, subst, arith}
+use Rattle.std.specs.Prelude.{unwrap_or}
+use Rattle.tx_risk.specs.Risks.{IsDeadEnd}
 use Rattle.tx_risk.specs.inner.Left.{left_net}
-use Rattle.tx_risk.specs.inner.Marked.{marked}
-use Rattle.tx_risk.specs.inner.Nearest.{IsNearestWay}
-use Rattle.tx_risk.proofs.LeftNets.{is_left_net}
-use Rattle.tx_risk.proofs.Descending.{IsDescent, descent_on, descent_goes, descent_ends}
+use Rattle.tx_risk.specs.inner.Nearest.{distance_in}
+use Rattle.tx_risk.proofs.Descending.{IsDescent, nearer, descent_on, descent_ends}
+use Rattle.tx_risk.proofs.Measuring.{nearest_is}
 use Rattle.tx_risk.proofs.shortest.walk_from.Goals as goal
 
-pub loop-ahead-preserved : goal.loop-ahead-preserved
-loop-ahead-preserved g c =
-    let p = c.args.left.now.plan.now in
-    let gone = c.args.left.now.gone.now in
-    let n = left_net p gone c.args.left.now.code in
-    let ds = c.args.distances.now in
-    let l = c.loop-ahead in
-    let net = is_left_net p c.requires.rules (marked gone) c.args.left.now.code c.requires.code in
-    let more : l.ahead ≡ suc (l.ahead - 1) = let t = c.loop-ahead-test.true in omega arith in
-    let hand = subst (λ k. IsDescent n ds c.args.start l.steps.items l.at k c.args.distance) more
-    l.invariant in
-    let next = descent_on n ds c.requires.nearest net c.args.start l.at
-    (l.ahead - 1) c.args.distance
-    l.steps.items c.in-Some.step hand c.in-Some.ensures in
-    subst (λ s. IsDescent n ds c.args.start s c.in-Some.step.1 (l.ahead - 1) c.args.distance)
-    (sym c.in_ok-push-in-Some.ensures.items) next
+pub loop-step-init : goal.loop-step-init
+loop-step-init g c =
+    let start = c.args.start in
+    subst (λ s. IsDescent (left_net c.args.left.now) c.args.dead_ends.now start s start)
+    (sym c.new-steps.ensures.items) (record {
+      origin = c.requires.origin;
+      goes = tt;
+      ends = refl;
+      away = c.requires.cut.0;
+      here = c.requires.cut.1;
+      first = c.requires.cut.1 ∙ ap Some (omega arith);
+    })
 
-pub unreachable-requires : goal.unreachable-requires
-unreachable-requires g c =
-    let p = c.args.left.now.plan.now in
-    let gone = c.args.left.now.gone.now in
-    let n = left_net p gone c.args.left.now.code in
-    let l = c.loop-ahead in
-    let net = is_left_net p c.requires.rules (marked gone) c.args.left.now.code c.requires.code in
-    let more : l.ahead ≡ suc (l.ahead - 1) = let t = c.loop-ahead-test.true in omega arith in
-    descent_goes n c.args.distances.now c.requires.nearest net l.at (l.ahead - 1) l.invariant.within
-    (l.invariant.here ∙ ap Some more) c.in-None.ensures
+pub loop-step-preserved : goal.loop-step-preserved
+loop-step-preserved g c =
+    let n = left_net c.args.left.now in
+    let ds = c.args.dead_ends.now in
+    let l = c.loop-step in
+    let step = c.in-Some.step in
+    subst (λ s. IsDescent n ds c.args.start s step.to) (sym c.in_ok-push.ensures.items)
+    (descent_on n ds c.requires.nearest c.args.start l.at l.steps.items l.invariant step
+    (sym c.nearest_step.ensures ∙ c.in-Some.is))
 
-pub returns-clause-nearest : goal.returns-clause-nearest
-returns-clause-nearest g c =
-    let n = left_net c.args.left.now.plan.now c.args.left.now.gone.now c.args.left.now.code in
-    let ds = c.args.distances.now in
-    let l = c.loop-ahead in
-    let none : l.ahead ≡ 0 = let t = c.loop-ahead-test.false in omega arith in
-    let hand = subst (λ k. IsDescent n ds c.args.start l.steps.items l.at k c.args.distance) none
-    l.invariant in
-    subst (λ s. IsNearestWay n c.args.start s c.args.distance) (sym c.of.ensures)
-    (descent_ends n ds c.requires.nearest c.args.start l.at c.args.distance l.steps.items hand)
+pub loop-step-smaller : goal.loop-step-smaller
+loop-step-smaller g c =
+    let n = left_net c.args.left.now in
+    let ds = c.args.dead_ends.now in
+    let l = c.loop-step in
+    let step = c.in-Some.step in
+    let is = sym c.nearest_step.ensures ∙ c.in-Some.is in
+    let less = nearer n ds c.requires.nearest c.args.start l.at l.steps.items l.invariant step is in
+    let now : unwrap_or (distance_in ds l.at) 0 ≡ l.invariant.away =
+    ap (λ o. unwrap_or o 0) l.invariant.here in
+    let then : unwrap_or (distance_in ds step.to) 0 ≡ step.distance =
+    ap (λ o. unwrap_or o 0) (nearest_is n ds l.at step is).at in
+    omega arith
+
+pub returns-clause-dead : goal.returns-clause-dead
+returns-clause-dead g c =
+    let n = left_net c.args.left.now in
+    let l = c.loop-step in
+    subst (IsDeadEnd n c.args.start) (sym c.of.ensures)
+    (descent_ends n c.args.dead_ends.now c.requires.nearest c.args.start l.at l.steps.items
+    l.invariant (sym c.nearest_step.ensures ∙ c.in_default.is)).0
+
+pub returns-clause-shortest : goal.returns-clause-shortest
+returns-clause-shortest g c =
+    let n = left_net c.args.left.now in
+    let l = c.loop-step in
+    (descent_ends n c.args.dead_ends.now c.requires.nearest c.args.start l.at l.steps.items
+    l.invariant (sym c.nearest_step.ensures ∙ c.in_default.is)).1
+    ∙ ap (λ (s : List (ℕ × ℕ)). Some (length s)) (sym c.of.ensures)

@@ -1,11 +1,12 @@
+use Rattle.std.proofs.Common.{◌+◌}
+use Rattle.std.specs.Prelude.{unwrap_or}
 use Rattle.tx_risk.specs.inner.Left.{left_net}
+use Rattle.tx_risk.specs.inner.Nearest.{distance_in}
 use Rattle.tx_risk.proofs.Descending.{IsDescent}
 use Rattle.tx_risk.proofs.shortest.walk_from.Given as goal
 
-abbrev pub invariant-loop-ahead : goal.invariant-loop-ahead
-invariant-loop-ahead g l =
-    IsDescent (left_net l.left.plan.now l.left.gone.now l.left.code) l.distances l.fn.start
-    l.steps.items l.at l.ahead l.fn.distance
+abbrev pub invariant-loop-step : goal.invariant-loop-step
+invariant-loop-step g l = IsDescent (left_net l.left) l.dead_ends l.fn.start l.steps.items l.at
 
-abbrev pub decreases-loop-ahead : goal.decreases-loop-ahead
-decreases-loop-ahead g l = l.ahead
+abbrev pub decreases-loop-step : goal.decreases-loop-step
+decreases-loop-step g l = unwrap_or (distance_in l.dead_ends l.at) 0

@@ -1,23 +1,16 @@
-use Rattle.std.proofs.Common.{Some, arith}
-use Rattle.tx_rank.specs.declared.bounds.Bounds.{Bounds}
-use Rattle.tx_rank.specs.Grades.{CanBeCertified, IsGrade}
-use Rattle.tx_plan.specs.Plan.{Plan}
-use Rattle.tx_risk.specs.Survivals.{HasGrade}
+use Rattle.tx_cert.specs.Certificate.{ranks_of}
 use Rattle.tx_risk.proofs.surviving.survive.Goals as goal
 
-graded : (p : Plan) (b : Bounds) → IsGrade (CanBeCertified p) (Some b) → HasGrade p
-graded p b bounds =
-    (b.limit, b.spare, (bounds.exactly b.limit b.spare bounds.few).1 (omega arith, omega arith))
-
-pub all_cuts-requires-clause-grade : goal.all_cuts-requires-clause-grade
-all_cuts-requires-clause-grade g c =
-    graded c.args.plan.now c.in-Some.field-0 (rw c.in-Some.is at c.in_ok-grade.ensures.plan)
+pub all_cuts-requires-clause-certified : goal.all_cuts-requires-clause-certified
+all_cuts-requires-clause-certified g c =
+    let b = c.in-Some.field-0 in
+    (b.limit, b.spare, rw c.in-Some.is at c.in_ok-grade.ensures.ranks)
 
 pub returns-in_ok-all_cuts-in-Some-clause-tried : goal.returns-in_ok-all_cuts-in-Some-clause-tried
-returns-in_ok-all_cuts-in-Some-clause-tried g c = (
-  λ t. graded c.args.plan.now c.in-Some.field-0 (rw c.in-Some.is at c.in_ok-grade.ensures.plan),
-  λ h. tt,
-)
+returns-in_ok-all_cuts-in-Some-clause-tried g c =
+    let b = c.in-Some.field-0 in
+    let cert = rw c.in-Some.is at c.in_ok-grade.ensures.ranks in
+    (λ t. (b.limit, b.spare, (ranks_of c.in_ok-grade.grade.ranks, cert)), λ h. tt)
 
 pub returns-in-None-clause-tried : goal.returns-in-None-clause-tried
 returns-in-None-clause-tried g c = (

@@ -13,7 +13,7 @@ returns-in_err-write_head g c =
     wrote_first _ _ _ _ (head_line (outages p risks))
     (cuts_text p risks None cuts ++ verdict_line (length cuts)) _
     c.in_err-write_head.field-0.0
-    (rw (c.groups.ensures.count, c.exchanges.ensures.count) at c.in_err-write_head.ensures)
+    (rw (c.groups.ensures.count, c.exchanges.ensures.count, c.len.ensures.count) at c.in_err-write_head.ensures)
     c.from_residual.ensures.0
 
 pub returns-in_err-write_cuts : goal.returns-in_err-write_cuts
@@ -23,7 +23,7 @@ returns-in_err-write_cuts g c =
     let cuts = c.args.cuts.now in
     wrote_then _ _ _ _ _ _ (head_line (outages p risks))
     (cuts_text p risks None cuts ++ verdict_line (length cuts)) _
-    (rw (c.groups.ensures.count, c.exchanges.ensures.count) at c.in_ok-write_head.ensures)
+    (rw (c.groups.ensures.count, c.exchanges.ensures.count, c.len.ensures.count) at c.in_ok-write_head.ensures)
     (wrote_first _ _ _ _ (cuts_text p risks None cuts) (verdict_line (length cuts)) _
     c.in_err-write_cuts.field-0.0 c.in_err-write_cuts.ensures
     c.from_residual-in_err-write_cuts.ensures.0)
@@ -35,6 +35,6 @@ returns g c =
     let cuts = c.args.cuts.now in
     wrote_then _ _ _ _ _ _ (head_line (outages p risks))
     (cuts_text p risks None cuts ++ verdict_line (length cuts)) _
-    (rw (c.groups.ensures.count, c.exchanges.ensures.count) at c.in_ok-write_head.ensures)
+    (rw (c.groups.ensures.count, c.exchanges.ensures.count, c.len.ensures.count) at c.in_ok-write_head.ensures)
     (wrote_then _ _ _ _ _ _ (cuts_text p risks None cuts) (verdict_line (length cuts)) _
     c.in_ok-write_cuts.ensures c.write_verdict.ensures)

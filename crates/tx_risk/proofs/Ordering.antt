@@ -1,0 +1,155 @@
+-- Ranked exchanges, by their ranks.
+use Rattle.std.proofs.Common.{◌≡◌, ◌≢◌, ℕ, zero, suc, ◌+◌, ◌<◌, ◌≤◌, true, false, not, List, [], ◌∷◌, inl, inr, length, take, Option, Some, None, refl, sym, ap, ◌∙◌, subst, arith}
+use Rattle.std.specs.Prelude.{slice_get, slice_index_or, unwrap_or, is_some, filter, IsPermutation}
+use Rattle.std.specs.List.{range_with_len}
+use Rattle.std.specs.List.Sorted.{IsNonDecreasingBy}
+use Rattle.std.proofs.lemmas.Bool.{cases_lt, cases_eq, false≢true}
+use Rattle.std.proofs.lemmas.Option.{slice_get_within, get_or_from_slice_get}
+use Rattle.std.proofs.lemmas.List.Sorted.{Contains-permutation, IsPermutation-sym}
+use Rattle.tx_plan.specs.Among.{Among}
+use Rattle.tx_plan.proofs.Among.{among_filter, filter_among, among_at}
+use Rattle.tx_rank.specs.Walks.{Net, Goes, end_of}
+use Rattle.tx_rank.specs.Nets.{IsNet, Certifies}
+use Rattle.tx_rank.specs.Heights.{IsReached}
+use Rattle.tx_rank.proofs.Ranks.{Falls, one_down, all_down}
+use Rattle.tx_rank.proofs.Looks.{leads_within, among_at as listed}
+use Rattle.tx_risk.specs.Risks.{Risk, without}
+use Rattle.tx_risk.specs.inner.Orders.{IsOrder}
+use Rattle.tx_risk.proofs.LeftLists.{place_among}
+
+-- a number that may be there
+pub some_of : (o : Option ℕ) → is_some o ≡ true → (n : ℕ) × (o ≡ Some n)
+some_of None t = absurd (false≢true t)
+some_of (Some n) t = (n, refl)
+
+pub none_of : (o : Option ℕ) → is_some o ≡ false → o ≡ None
+none_of None t = refl
+none_of (Some n) t = absurd (false≢true (sym t))
+
+-- the first of a list
+pub first_among : (xs : List ℕ) (i j x : ℕ) → slice_get xs j ≡ Some x → j < i → Among x (take i xs)
+first_among [] i j x at less = let bad : ⊥ = cc in absurd bad
+first_among (y ∷ xs) zero j x at less = absurd (omega arith)
+first_among (y ∷ xs) (suc i) zero x at less = inl (let same : y ≡ x = cc in same)
+first_among (y ∷ xs) (suc i) (suc j) x at less = inr (first_among xs i j x at (omega arith))
+
+pub among_first : (xs : List ℕ) (i x : ℕ) → Among x (take i xs)
+    → (j : ℕ) × (slice_get xs j ≡ Some x) × (j < i)
+among_first [] zero x m = absurd m
+among_first [] (suc i) x m = absurd m
+among_first (y ∷ xs) zero x m = absurd m
+among_first (y ∷ xs) (suc i) x (inl e) = (0, ap Some e, omega arith)
+among_first (y ∷ xs) (suc i) x (inr m) =
+    let r = among_first xs i x m in (suc r.0, r.1, let l = r.2 in omega arith)
+
+-- what is left of a network
+module _ (risk : Risk) (n : Net) where
+  pub goes_left : (x : ℕ) (steps : List (ℕ × ℕ)) → Goes (without risk n) x steps → Goes n x steps
+  goes_left x [] g = tt
+  goes_left x (s ∷ steps) g =
+      (g.0, (filter_among (λ h. not (risk h)) s.0 (n.list x) g.1).0, g.2, goes_left s.1 steps g.3)
+
+  pub order_left : (order : List ℕ) → IsOrder n order → IsOrder (without risk n) order
+  order_left order o = record {
+    within = o.within;
+    reached = λ x r. o.reached x (record {
+      start = r.start;
+      steps = r.steps;
+      walk = record { origin = r.walk.origin; goes = goes_left r.start r.steps r.walk.goes };
+      ends = r.ends;
+    });
+    back = λ i x at away g y m leads.
+        o.back i x at away g y (filter_among (λ h. not (risk h)) g (n.list x) m).0 leads;
+  }
+
+-- a way from one of the first exchanges has fewer steps
+pub way_few : (n : Net) (order : List ℕ) → IsOrder n order → (i x : ℕ) (steps : List (ℕ × ℕ))
+    → Among x (take i order) → Goes n x steps → length steps < i
+way_few n order o i x [] m g = let p = among_first order i x m in let l = p.2 in omega arith
+way_few n order o i x (s ∷ steps) m g =
+    let p = among_first order i x m in
+    let back = o.back p.0 x p.1 g.0 s.0 s.1 g.1 g.2 in
+    let few = way_few n order o p.0 s.1 steps back g.3 in
+    let l = p.2 in
+    omega arith
+
+-- THE ORDER OF RANKS
+
+-- numbers in a row
+range_among : (a n x : ℕ) → Among x (range_with_len a n) → x < a + n
+range_among a zero x m = absurd m
+range_among a (suc n) x (inl e) = omega arith
+range_among a (suc n) x (inr m) = let l = range_among (a + 1) n x m in omega arith
+
+among_range : (a n x : ℕ) → a ≤ x → x < a + n → Among x (range_with_len a n)
+among_range a zero x low high = absurd (omega arith)
+among_range a (suc n) x low high = elim (cases_eq a x) [
+  | inl e ↦ inl e
+  | inr ne ↦ inr (among_range (a + 1) n x (omega arith) (omega arith))
+]
+
+-- a list and one that it was sorted to have the same members
+permuted : (xs ys : List ℕ) → IsPermutation xs ys → (x : ℕ) → Among x xs → Among x ys
+permuted xs ys p x m =
+    let i = place_among x xs m in
+    let r = Contains-permutation xs ys x p
+    (i.0, slice_get_within xs i.0 x i.1, get_or_from_slice_get xs i.0 x x i.1) in
+    among_at ys r.0 x r.1 (sym r.2)
+
+abbrev pub rank_or_0 : (ℕ → Option ℕ) → ℕ → ℕ
+rank_or_0 ranks x = unwrap_or (ranks x) 0
+
+module _ (n : Net) (net : IsNet n) (ranks : ℕ → Option ℕ) (limit spare : ℕ)
+    (cert : Certifies n ranks limit spare) (order : List ℕ) where
+  abbrev ranked : List ℕ
+  ranked = filter (λ x. is_some (ranks x)) (range_with_len 0 n.exchanges)
+
+  falls : Falls n ranks
+  falls = record { lower = cert.lower }
+
+  walk_within : (x : ℕ) (steps : List (ℕ × ℕ)) → x < n.exchanges → Goes n x steps
+      → end_of x steps < n.exchanges
+  walk_within x [] within g = within
+  walk_within x (s ∷ steps) within g =
+      walk_within s.1 steps (leads_within n x s.0 s.1 net g.1 g.2) g.3
+
+  pub by_rank : IsPermutation ranked order → IsNonDecreasingBy (rank_or_0 ranks) order → IsOrder n order
+  by_rank p rising = record {
+    within = λ x m. let l = range_among 0 n.exchanges x (old x m).0 in omega arith;
+    reached = λ x r.
+        let o = cert.origins r.start r.walk.origin in
+        let d = all_down n ranks falls r.start o.0 r.steps o.1 r.walk.goes in
+        subst (λ y. Among y order) r.ends
+        (there (end_of r.start r.steps) d.rank d.ranked
+        (walk_within r.start r.steps (net.origins r.start r.walk.origin) r.walk.goes));
+    back = λ i x at away g y m leads.
+        let r = some_of (ranks x) (old x (listed order i x at)).1 in
+        let d = one_down n ranks falls x r.0 g y r.1 away m leads in
+        let j = place_among y order (there y d.rank d.ranked (leads_within n x g y net m leads)) in
+        first_among order i j.0 y j.1 (before i j.0 x y r.0 d.rank at j.1 r.1 d.ranked
+        (let l = d.within in omega arith));
+  }
+    where
+      old : (x : ℕ) → Among x order
+          → Among x (range_with_len 0 n.exchanges) × (is_some (ranks x) ≡ true)
+      old x m = filter_among (λ y. is_some (ranks y)) x (range_with_len 0 n.exchanges)
+          (permuted order ranked (IsPermutation-sym ranked order p) x m)
+
+      there : (x r : ℕ) → ranks x ≡ Some r → x < n.exchanges → Among x order
+      there x r e within = permuted ranked order p x
+          (among_filter (λ y. is_some (ranks y)) x (range_with_len 0 n.exchanges)
+          (among_range 0 n.exchanges x (omega arith) (omega arith)) (ap is_some e))
+
+      -- what has a lower rank is before
+      before : (i j x y r s : ℕ) → slice_get order i ≡ Some x → slice_get order j ≡ Some y
+          → ranks x ≡ Some r → ranks y ≡ Some s → s < r → j < i
+      before i j x y r s at_i at_j rank_x rank_y less = elim (cases_lt j i) [
+        | inl l ↦ l
+        | inr behind ↦
+            let up = rising i j 0 behind (slice_get_within order j y at_j) in
+            let one : rank_or_0 ranks (slice_index_or order i 0) ≡ r =
+            ap (rank_or_0 ranks) (get_or_from_slice_get order i x 0 at_i) ∙ ap (λ o. unwrap_or o 0) rank_x in
+            let two : rank_or_0 ranks (slice_index_or order j 0) ≡ s =
+            ap (rank_or_0 ranks) (get_or_from_slice_get order j y 0 at_j) ∙ ap (λ o. unwrap_or o 0) rank_y in
+            absurd (omega arith)
+      ]

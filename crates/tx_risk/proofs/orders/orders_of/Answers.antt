@@ -1,0 +1,43 @@
+use Rattle.std.proofs.Common.{◌≡◌, ◌+◌, ◌<◌, ◌∷◌, ◌++◌, [], ◌∙◌, inl, inr, sym, ap, subst, length, length-append, arith}
+use Rattle.std.specs.Prelude.{slice_get}
+use Rattle.tx_cert.specs.Certificate.{ranks_of}
+use Rattle.tx_rank.specs.Walks.{net_of}
+use Rattle.tx_rank.proofs.Origins.{at_push}
+use Rattle.tx_rank.proofs.Certifying.{certifies_code}
+use Rattle.tx_risk.specs.inner.Orders.{IsOrder}
+use Rattle.tx_risk.proofs.orders.orders_of.Goals as goal
+
+pub order_of-requires-clause-certified : goal.order_of-requires-clause-certified
+order_of-requires-clause-certified g c =
+    let p = c.args.plan.now in
+    let k = c.requires in
+    let within : c.of.result < length p.codes =
+    let t = c.loop-place-test.true in let e = c.codes-place-end.ensures.count in
+    let at = c.of.ensures in omega arith in
+    (k.0, k.1, certifies_code p (ranks_of c.args.ranks.now) k.0 k.1 k.2 c.of.result within)
+
+pub loop-place-preserved : goal.loop-place-preserved
+loop-place-preserved g c =
+    let p = c.args.plan.now in
+    let i = c.loop-place.invariant in
+    let old = c.loop-place.orders.items in
+    let order = c.in_ok-order_of.field-0 in
+    let k = c.push_reserved.ensures in
+    record {
+      long = ap length k.items ∙ length-append old (order ∷ []) ∙ ap (λ n. n + 1) i.long;
+      each = λ d e at. elim (at_push old order e d (ap (λ l. slice_get l d) (sym k.items) ∙ at)) [
+        | inl m ↦ i.each d e m
+        | inr m ↦
+            subst (λ n. IsOrder (net_of p n) e.items) (c.of.ensures ∙ sym (m.0 ∙ i.long))
+            (subst (λ f. IsOrder (net_of p c.of.result) f.items) (sym m.1) c.in_ok-order_of.ensures)
+      ];
+      room = let r = i.room in let q = k.capacity in omega arith;
+    }
+
+pub returns : goal.returns
+returns g c =
+    let i = c.loop-place.invariant in
+    let all : c.loop-place.place ≡ length c.args.plan.now.codes =
+    let t = c.loop-place-test.false in let a = c.loop-place.auto.place-end in
+    let e = c.codes-place-end.ensures.count in omega arith in
+    record { long = i.long ∙ all; each = i.each }

@@ -1,0 +1,7 @@
+use Rattle.std.proofs.Common.{subst}
+use Rattle.tx_risk.specs.NamedRisks.{AreRisksFor}
+use Rattle.tx_risk.proofs.risk_reader.RiskLines.finish.Goals as goal
+
+pub returns-clause-fits : goal.returns-clause-fits
+returns-clause-fits g c =
+    subst (λ s. AreRisksFor s.0 c.self.inside.risks) c.self.view_is c.self.invariant

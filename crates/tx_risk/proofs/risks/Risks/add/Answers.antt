@@ -1,0 +1,20 @@
+use Rattle.std.proofs.Common.{◌≡◌, List, [], ◌∷◌, ◌++◌, map, refl, ap, ◌∙◌}
+use Rattle.std.specs.List.{list_any}
+use Rattle.std.specs.Str.{bytes_eq}
+use Rattle.std.proofs.lemmas.List.{map_push}
+use Rattle.tx_plan.proofs.Lookups.{entry_last}
+use Rattle.tx_risk.specs.NamedRisks.{NamedRisk}
+use Rattle.tx_risk.specs.inner.Rows.{risk_of_row}
+use Rattle.tx_risk.proofs.Rows.{any_risk}
+use Rattle.tx_risk.proofs.risks.Risks.add.Goals as goal
+
+pub returns-clause-ok : goal.returns-clause-ok
+returns-clause-ok g c =
+    let name = c.args.name in
+    let rows = c.self.inside.rows.entries in
+    let absent = any_risk name rows
+    ∙ ap (list_any (λ (r : NamedRisk). bytes_eq name r.name)) c.self.view_is ∙ c.requires in
+    ap (map risk_of_row) (c.in_ok-insert.ensures.entries
+    ∙ entry_last bytes_eq c.self.inside.rows rows name c.args.groups refl absent)
+    ∙ map_push risk_of_row rows (name, c.args.groups)
+    ∙ ap (λ (rs : List NamedRisk). rs ++ risk_of_row (name, c.args.groups) ∷ []) c.self.view_is

@@ -1,0 +1,19 @@
+use Rattle.std.proofs.Common.{ℕ, List, [], Some, None, ◌∙◌, ap}
+use Rattle.std.specs.Prelude.{slice_get}
+use Rattle.std.specs.Option.{option_map_or}
+use Rattle.tx_plan.proofs.Tables.{value_at}
+use Rattle.tx_risk.specs.NamedRisks.{NamedRisk}
+use Rattle.tx_risk.specs.inner.Rows.{risk_of_row}
+use Rattle.tx_risk.proofs.risks.Risks.name.Goals as goal
+
+pub returns-in-Some : goal.returns-in-Some
+returns-in-Some g c =
+    c.bytes.ensures.value ∙ value_at risk_of_row (λ (r : NamedRisk). r.name) [] c.self.inside.rows.entries
+    c.args.place (Some (c.in-Some.name.now, c.in-Some.field-0-1.now)) c.in-Some.ensures.entry
+    ∙ ap (λ (rs : List NamedRisk). option_map_or (λ r. r.name) (slice_get rs c.args.place) []) c.self.view_is
+
+pub returns-in-None : goal.returns-in-None
+returns-in-None g c =
+    value_at risk_of_row (λ (r : NamedRisk). r.name) [] c.self.inside.rows.entries c.args.place None
+    c.in-None.ensures.entry
+    ∙ ap (λ (rs : List NamedRisk). option_map_or (λ r. r.name) (slice_get rs c.args.place) []) c.self.view_is

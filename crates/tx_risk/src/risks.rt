@@ -1,0 +1,87 @@
+// Named risks.
+ghost use Rattle.std.specs.Prelude.{◌≡◌, ◌<◌, ◌^◌, ◌++◌, ◌∷◌, [], false, length, slice_get, OnOk, OnErr};
+ghost use Rattle.std.specs.List.{list_any};
+ghost use Rattle.std.specs.Option.{option_map_or};
+ghost use Rattle.std.specs.Str.{bytes_eq};
+ghost use Rattle.tx_risk.specs.NamedRisks.{named_groups};
+
+use indexmap::IndexMap;
+use std::alloc::{Allocator, Global};
+use std::marker::Model;
+use tx_plan::{ByWord, GroupId, NameKey};
+use tx_text::NoMemory;
+
+/// Risks in order: each has a name, and groups that may go together, such as those of one cable.
+#[derive(Debug, Drop)]
+pub struct Risks<A: Allocator = Global> {
+    rows: IndexMap<NameKey, Vec<GroupId, A>, ByWord, A>,
+}
+
+impl<A: Allocator> Model for Risks<A> {
+    ghost use Rattle.std.specs.Prelude.{List, map};
+    ghost use Rattle.tx_risk.specs.NamedRisks.{NamedRisk};
+    ghost use Rattle.tx_risk.specs.inner.Rows.{risk_of_row};
+
+    ghost Value = { List NamedRisk };
+
+    ghost view = { λ r. map risk_of_row r.rows.entries };
+}
+
+impl<A: Allocator + Copy> Risks<A> {
+    /// No risks. Takes no memory.
+    pub fn none(alloc: A) -> Risks<A>
+        ensures { result ≡ [] }
+    {
+        Risks {
+            rows: IndexMap::with_hasher(alloc, ByWord),
+        }
+    }
+}
+
+impl<A: Allocator> Risks<A> {
+    /// How many risks.
+    pub fn len(&self) -> usize
+        ensures count { result ≡ length self.now }
+        ensures few { result < 2 ^ 63 }
+    {
+        self.rows.len()
+    }
+
+    /// Whether a risk has the name.
+    pub(crate) fn has(&self, name: &NameKey) -> bool
+        ensures { result ≡ list_any (λ r. bytes_eq name.now r.name) self.now }
+    {
+        self.rows.contains_key(name)
+    }
+
+    /// The name of the risk at a place; no bytes, if there is none.
+    pub fn name(&self, place: usize) -> &[u8]
+        ensures { result.now ≡ option_map_or (λ r. r.name) (slice_get self.now place) [] }
+    {
+        match self.rows.get_index(place) {
+            Some((name, _)) => name.bytes(),
+            None => &[],
+        }
+    }
+
+    /// The groups of the risk at a place; none, if there is none.
+    pub(crate) fn groups(&self, place: usize) -> &[GroupId]
+        ensures { result.now ≡ named_groups self.now place }
+    {
+        match self.rows.get_index(place) {
+            Some((_, groups)) => groups.as_slice(),
+            None => &[],
+        }
+    }
+
+    /// Appends a risk.
+    pub(crate) fn add(&mut self, name: NameKey, groups: Vec<GroupId, A>) -> Result<(), NoMemory>
+        requires { list_any (λ r. bytes_eq name r.name) self.old ≡ false }
+        ensures ok { OnOk result (self.new
+            ≡ self.old ++ record { name = name; groups = groups.items } ∷ []) }
+        ensures err { OnErr result (self.new ≡ self.old) }
+    {
+        self.rows.insert(name, groups)?;
+        Ok(())
+    }
+}

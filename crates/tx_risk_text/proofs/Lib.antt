@@ -1,2 +1,0 @@
-pub mod GroupWords
-pub mod RiskLines

@@ -1,2 +1,0 @@
-pub mod RiskText
-pub mod RiskFaults
