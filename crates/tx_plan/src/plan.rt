@@ -227,6 +227,16 @@ impl<A: Allocator> Plan<A> {
         self.routes.list(&Pair { exchange, code })
     }
 
+    /// The same groups as a list of their own.
+    pub fn group_list(&self, exchange: ExchangeId, code: CodeId) -> GroupList
+        ensures { result.items ≡ route_list self.now exchange code }
+    {
+        match GroupList::try_from(self.routes.list(&Pair { exchange, code })) {
+            Ok(list) => list,
+            Err(_) => unreachable!(),
+        }
+    }
+
     /// The exchange and the code of two words, if both are declared.
     pub fn pair_named(&self, exchange: &[u8], code: &[u8]) -> Option<Pair>
         ensures pair { result ≡ pair_named self.now exchange.now code.now }
