@@ -58,8 +58,8 @@ fn fill<A: Allocator>(
 )
     requires seizable { seizable.now ≡ outgoing plan.now exchange }
     requires long { length ranks.now ≡ length plan.now.exchanges }
-    ensures { (of : ℕ → Option ℕ) → ranks.now ≡ rank_list plan.now of
-        → list.new.items ≡ filled limits.spare list.old.items (groups_below plan.now of rank exchange) }
+    ensures { (of : ℕ → Option ℕ) → ranks.now ≡ rank_list plan.now of → list.new.items
+        ≡ filled limits.spare list.old.items (groups_below plan.now of rank exchange) }
 {
     for lower in 0..rank {
         if list.len() > usize::from(limits.spare) {

@@ -1,7 +1,7 @@
 // The exchanges that calls may come to.
 ghost use Rattle.std.specs.Prelude.{◌≡◌, ◌<◌, length, IfOk};
 ghost use Rattle.std.specs.List.{fold};
-ghost use Rattle.tx_trace.specs.Ways.{far_ends, meet, meet_from, all_met};
+ghost use Rattle.tx_trace.specs.Ways.{far_ends, meet, all_met};
 ghost use Rattle.tx_trace.specs.inner.Marked.{AreMarksOf};
 
 use std::alloc::Allocator;
@@ -54,27 +54,6 @@ fn meet_ends<A: Allocator>(
     Ok(())
 }
 
-/// The exchange at a place adds those to which its groups lead.
-fn meet_from<A: Allocator>(
-    plan: &Plan<A>,
-    code: CodeId,
-    place: usize,
-    marks: &mut [bool],
-    met: &mut Vec<ExchangeId, A>,
-) -> Result<(), NoMemory>
-    requires code { code < length plan.now.codes }
-    requires long { length marks.old ≡ length plan.now.exchanges }
-    requires marks { AreMarksOf met.old.items marks.old }
-    ensures marks { IfOk result (λ _. AreMarksOf met.new.items marks.new) }
-    ensures met { IfOk result (λ _. met.new.items ≡ meet_from plan.now code place met.old.items) }
-{
-    if place >= met.len() {
-        return Ok(());
-    }
-    let exchange = met[place];
-    meet_ends(plan, code, exchange, marks, met)
-}
-
 /// The exchanges that calls for the code may come to from one, in the order in which they are met
 /// by breadth.
 pub fn all_met<A: Allocator + Copy>(
@@ -91,7 +70,9 @@ pub fn all_met<A: Allocator + Copy>(
     let mut met = Vec::new(alloc);
     meet(start, &mut marks, &mut met)?;
     for place in 0..plan.exchanges() {
-        meet_from(plan, code, place, &mut marks, &mut met)?;
+        if let Some(exchange) = met.get(place).copied() {
+            meet_ends(plan, code, exchange, &mut marks, &mut met)?;
+        }
     }
     Ok(met)
 }
