@@ -1,6 +1,6 @@
 // Commands with their arguments, as the library of command lines takes them.
-ghost use Rattle.std.specs.Prelude.{◌≡◌, false, Some, IfOk};
-ghost use Rattle.clap.specs.Words.{App, app_of, new_rule, rule_of, with_rule};
+ghost use Rattle.std.specs.Prelude.{◌≡◌, false, Some};
+ghost use Rattle.clap.specs.Words.{App, new_app, new_rule, rule_of, with_rule};
 ghost use Rattle.clap.specs.declared.builder.action.ArgAction.TheVariants.{Set};
 ghost use Rattle.tx_commands.specs.Grammar as grammar;
 
@@ -11,45 +11,92 @@ use std::alloc::{AllocError, Global};
 pub(crate) const PLAN: &str =
     "The route plan: exchanges, codes, lines, groups, routes and bars; - is standard input";
 
-/// A command whose first word is a plan, with what its help begins and ends with.
-pub(crate) fn over_plan<'a>(
+/// A command with its arguments so far, unless memory ran out.
+#[derive(Drop)]
+pub(crate) struct Words<'a> {
     alloc: Global,
-    name: &'a str,
-    about: &'a str,
-    after: &'a str,
-) -> Result<clap::Command<'a>, AllocError>
-    ensures { IfOk result (λ c. app_of c ≡ grammar.plan_words name.now) }
-{
-    let command = clap::Command::new(alloc, name)
-        .about(about)
-        .after_help(after);
-    with_file(Ok(command), alloc, "plan", "PLAN", PLAN)
+    pub(crate) command: Result<clap::Command<'a>, AllocError>,
 }
 
-/// Adds an argument to a command, if that could be made so far.
-fn with_arg<'a>(
-    command: Result<clap::Command<'a>, AllocError>,
-    arg: Arg<'a>,
-) -> Result<clap::Command<'a>, AllocError>
-    requires { arg.global ≡ false }
-    ensures { (app : App) → IfOk command.entry (λ c. app_of c ≡ app)
-        → IfOk result (λ c. app_of c ≡ with_rule app (rule_of arg.entry)) }
-{
-    command?.arg(arg)
-}
+impl<'a> Words<'a> {
+    ghost use Rattle.tx_commands.specs.inner.Takes.{Takes};
 
-/// Adds a file, which has to be named.
-pub(crate) fn with_file<'a>(
-    command: Result<clap::Command<'a>, AllocError>,
-    alloc: Global,
-    id: &'a str,
-    shown: &'a str,
-    help: &'a str,
-) -> Result<clap::Command<'a>, AllocError>
-    ensures { (app : App) → IfOk command.entry (λ c. app_of c ≡ app)
-        → IfOk result (λ c. app_of c ≡ with_rule app (grammar.file id.now)) }
-{
-    with_arg(command, word(alloc, id, shown, help).required(true))
+    /// A command, with what its help begins and ends with.
+    pub(crate) fn new(alloc: Global, name: &'a str, about: &'a str, after: &'a str) -> Words<'a>
+        ensures { Takes result (new_app name.now) }
+    {
+        let command = clap::Command::new(alloc, name)
+            .about(about)
+            .after_help(after);
+        Words {
+            alloc,
+            command: Ok(command),
+        }
+    }
+
+    /// A command whose first word is a plan.
+    pub(crate) fn over_plan(
+        alloc: Global,
+        name: &'a str,
+        about: &'a str,
+        after: &'a str,
+    ) -> Words<'a>
+        ensures { Takes result (grammar.plan_words name.now) }
+    {
+        Words::new(alloc, name, about, after).file("plan", "PLAN", PLAN)
+    }
+
+    /// Adds an argument.
+    fn arg(self, arg: Arg<'a>) -> Words<'a>
+        requires { arg.global ≡ false }
+        ensures { (app : App) → Takes self.entry app
+            → Takes result (with_rule app (rule_of arg.entry)) }
+    {
+        let Words { alloc, command } = self;
+        let command = match command {
+            Ok(command) => command.arg(arg),
+            Err(e) => Err(e),
+        };
+        Words { alloc, command }
+    }
+
+    /// Adds a file, which has to be named.
+    pub(crate) fn file(self, id: &'a str, shown: &'a str, help: &'a str) -> Words<'a>
+        ensures { (app : App) → Takes self.entry app
+            → Takes result (with_rule app (grammar.file id.now)) }
+    {
+        let file = word(self.alloc, id, shown, help).required(true);
+        self.arg(file)
+    }
+
+    /// Adds an option with a word.
+    pub(crate) fn option(self, id: &'a str, shown: &'a str, help: &'a str) -> Words<'a>
+        ensures { (app : App) → Takes self.entry app
+            → Takes result (with_rule app (grammar.option id.now)) }
+    {
+        let option = option(self.alloc, id, shown, help);
+        self.arg(option)
+    }
+
+    /// Adds an option without a word.
+    pub(crate) fn flag(self, id: &'a str, help: &'a str) -> Words<'a>
+        ensures { (app : App) → Takes self.entry app
+            → Takes result (with_rule app (grammar.flag id.now)) }
+    {
+        let flag = flag(self.alloc, id, help);
+        self.arg(flag)
+    }
+
+    /// Adds a limit and a spare number, which may have to be given.
+    pub(crate) fn limits(self, needed: bool) -> Words<'a>
+        ensures { (app : App) → Takes self.entry app
+            → Takes result (with_rule (with_rule app (record grammar.limit { required = needed }))
+            (record grammar.spare { required = needed })) }
+    {
+        let limit = limit(self.alloc).required(needed);
+        let spare = spare(self.alloc).required(needed);
+        self.arg(limit).arg(spare)
+    }
 }
 
 /// A word that goes by its place.
@@ -72,20 +119,6 @@ fn option<'a>(alloc: Global, id: &'a str, shown: &'a str, help: &'a str) -> Arg<
     word(alloc, id, shown, help).long(id)
 }
 
-/// Adds an option with a word.
-pub(crate) fn with_option<'a>(
-    command: Result<clap::Command<'a>, AllocError>,
-    alloc: Global,
-    id: &'a str,
-    shown: &'a str,
-    help: &'a str,
-) -> Result<clap::Command<'a>, AllocError>
-    ensures { (app : App) → IfOk command.entry (λ c. app_of c ≡ app)
-        → IfOk result (λ c. app_of c ≡ with_rule app (grammar.option id.now)) }
-{
-    with_arg(command, option(alloc, id, shown, help))
-}
-
 /// An option without a word.
 fn flag<'a>(alloc: Global, id: &'a str, help: &'a str) -> Arg<'a>
     ensures rule { rule_of result ≡ grammar.flag id.now }
@@ -95,19 +128,6 @@ fn flag<'a>(alloc: Global, id: &'a str, help: &'a str) -> Arg<'a>
         .long(id)
         .help(help)
         .action(ArgAction::SetTrue)
-}
-
-/// Adds an option without a word.
-pub(crate) fn with_flag<'a>(
-    command: Result<clap::Command<'a>, AllocError>,
-    alloc: Global,
-    id: &'a str,
-    help: &'a str,
-) -> Result<clap::Command<'a>, AllocError>
-    ensures { (app : App) → IfOk command.entry (λ c. app_of c ≡ app)
-        → IfOk result (λ c. app_of c ≡ with_rule app (grammar.flag id.now)) }
-{
-    with_arg(command, flag(alloc, id, help))
 }
 
 fn limit<'a>(alloc: Global) -> Arg<'a>
@@ -136,19 +156,4 @@ after a second head-on collision, or where more than K groups are
 listed and each of them is down or has no free circuit",
     )
     .value_parser(value_parser!(u8).range(0..=15))
-}
-
-/// Adds a limit and a spare number, which may have to be given.
-pub(crate) fn with_bounds<'a>(
-    command: Result<clap::Command<'a>, AllocError>,
-    alloc: Global,
-    needed: bool,
-) -> Result<clap::Command<'a>, AllocError>
-    ensures { (app : App) → IfOk command.entry (λ c. app_of c ≡ app)
-        → IfOk result (λ c. app_of c
-        ≡ with_rule (with_rule app (record grammar.limit { required = needed }))
-        (record grammar.spare { required = needed })) }
-{
-    let command = with_arg(command, limit(alloc).required(needed));
-    with_arg(command, spare(alloc).required(needed))
 }

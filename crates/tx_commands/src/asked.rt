@@ -55,7 +55,7 @@ fn number(matches: &ArgMatches<'_>, id: &str, most: u8) -> Option<u8>
 }
 
 /// The limit and the spare number, if both are given.
-fn bounds(matches: &ArgMatches<'_>) -> Option<(u8, u8)>
+fn limits(matches: &ArgMatches<'_>) -> Option<(u8, u8)>
     ensures range { IfSome result (λ b. (b.0 ≤ 62) × (b.1 ≤ 15)) }
     ensures given { IfSome result (λ b.
         Gives (rows_of (found_of matches.now)) (codes "limit") b.0
@@ -76,7 +76,7 @@ fn check_of(alloc: Global, plan: String, matches: &ArgMatches<'_>) -> Result<Com
         (IsRefused (Some (codes "check", rows_of (found_of matches.now)))) }
 {
     let cert = text(alloc, matches, "cert")?;
-    match (cert, bounds(matches)) {
+    match (cert, limits(matches)) {
         (Some(cert), Some((limit, spare))) => Ok(Command::Check {
             plan,
             cert,
@@ -97,7 +97,7 @@ fn audit_of(alloc: Global, plan: String, matches: &ArgMatches<'_>) -> Result<Com
 {
     let cert = text(alloc, matches, "cert")?;
     let counter = text(alloc, matches, "counter")?;
-    match bounds(matches) {
+    match limits(matches) {
         Some((limit, spare)) => Ok(Command::Audit {
             plan,
             limit,
@@ -121,7 +121,7 @@ pub(crate) fn change_of(alloc: Global, matches: &ArgMatches<'_>) -> Result<Comma
     let cert = text(alloc, matches, "cert")?;
     let mixture = text(alloc, matches, "mixture")?;
     let counter = text(alloc, matches, "counter")?;
-    match (old, new, bounds(matches)) {
+    match (old, new, limits(matches)) {
         (Some(old), Some(new), Some((limit, spare))) => Ok(Command::Change {
             old,
             new,
@@ -146,7 +146,7 @@ pub(crate) fn mend_of(alloc: Global, matches: &ArgMatches<'_>) -> Result<Command
     let plan = text(alloc, matches, "old")?;
     let mended = text(alloc, matches, "plan")?;
     let cert = text(alloc, matches, "cert")?;
-    match (plan, bounds(matches)) {
+    match (plan, limits(matches)) {
         (Some(plan), Some((limit, spare))) => Ok(Command::Mend {
             plan,
             limit,
@@ -204,7 +204,7 @@ fn run_of(alloc: Global, plan: String, matches: &ArgMatches<'_>) -> Result<Comma
     let cert = text(alloc, matches, "cert")?;
     let checked = match (cert, is_given(matches, "limit"), is_given(matches, "spare")) {
         (None, false, false) => None,
-        (Some(cert), true, true) => match bounds(matches) {
+        (Some(cert), true, true) => match limits(matches) {
             Some((limit, spare)) => Some((cert, limit, spare)),
             None => return Err(Refusal::Incomplete),
         },
@@ -243,8 +243,8 @@ fn draw_of(alloc: Global, plan: String, matches: &ArgMatches<'_>) -> Result<Comm
     let routes = match (code, is_given(matches, "limit"), is_given(matches, "spare")) {
         (None, false, false) => None,
         (Some(code), false, false) => Some((code, None)),
-        (Some(code), true, true) => match bounds(matches) {
-            Some(bounds) => Some((code, Some(bounds))),
+        (Some(code), true, true) => match limits(matches) {
+            Some(limits) => Some((code, Some(limits))),
             None => return Err(Refusal::Incomplete),
         },
         _ => return Err(Refusal::DrawTogether),

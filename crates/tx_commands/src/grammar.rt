@@ -1,11 +1,11 @@
 // The words that the program takes, with what its help says of them. The help of each command ends
 // with an example and the exit statuses.
-ghost use Rattle.std.specs.Prelude.{◌≡◌, Ok, IfOk, codes};
-ghost use Rattle.clap.specs.Words.{AddsSubcommand, App, app_of, with_rule};
+ghost use Rattle.std.specs.Prelude.{◌≡◌, Ok, IfOk};
+ghost use Rattle.clap.specs.Words.{AddsSubcommand, app_of};
 ghost use Rattle.clap.specs.declared.builder.command.Command.{Command};
 ghost use Rattle.tx_commands.specs.Grammar as grammar;
 
-use crate::arguments::{over_plan, with_bounds, with_file, with_flag, with_option, word};
+use crate::arguments::{Words, word};
 use crate::judging::judging_grammar;
 use std::alloc::{AllocError, Global};
 
@@ -21,59 +21,32 @@ words";
 fn run_grammar<'a>(alloc: Global) -> Result<clap::Command<'a>, AllocError>
     ensures { IfOk result (λ c. app_of c ≡ grammar.run_words) }
 {
-    let run = over_plan(
+    Words::over_plan(
         alloc,
         "run",
         "Run a script of events over a plan: print each reply, and a ticket for each ended call",
         RUN_HELP,
-    );
-    let run = with_file(
-        run,
-        alloc,
+    )
+    .file(
         "script",
         "SCRIPT",
         "The script: events, one a line, between SCRIPT 1 and END; - is standard input",
-    );
-    let run = with_option(
-        run,
-        alloc,
+    )
+    .option(
         "cert",
         "CERT",
         "Run only if this certificate shows that the plan is safe, else print
 the verdict; goes with --limit and --spare",
-    );
-    with_telling(with_bounds(run, alloc, false), alloc)
-}
-
-/// Adds the options by which `run` prints more.
-fn with_telling<'a>(
-    run: Result<clap::Command<'a>, AllocError>,
-    alloc: Global,
-) -> Result<clap::Command<'a>, AllocError>
-    ensures { (app : App) → IfOk run.entry (λ c. app_of c ≡ app)
-        → IfOk result (λ c. app_of c
-        ≡ with_rule (with_rule (with_rule app (grammar.flag (codes "strict")))
-        (grammar.flag (codes "echo"))) (grammar.flag (codes "summary"))) }
-{
-    let run = with_flag(
-        run,
-        alloc,
-        "strict",
-        "End with status 1 if an event was refused",
-    );
-    let run = with_flag(
-        run,
-        alloc,
-        "echo",
-        "Print each event with its number before its reply",
-    );
-    with_flag(
-        run,
-        alloc,
+    )
+    .limits(false)
+    .flag("strict", "End with status 1 if an event was refused")
+    .flag("echo", "Print each event with its number before its reply")
+    .flag(
         "summary",
         "Print at the end how calls ended, and the most circuits of each group
 that were taken at once",
     )
+    .command
 }
 
 const CODES_HELP: &str = "Example: telexplan codes own.plan
@@ -84,12 +57,13 @@ failed read or write, 4 when out of memory, 64 for refused words";
 fn codes_grammar<'a>(alloc: Global) -> Result<clap::Command<'a>, AllocError>
     ensures { IfOk result (λ c. app_of c ≡ grammar.codes_words) }
 {
-    over_plan(
+    Words::over_plan(
         alloc,
         "codes",
         "List the codes of a plan, and the least pair of which one begins the other",
         CODES_HELP,
     )
+    .command
 }
 
 const TRACE_HELP: &str = "Example: telexplan trace own.plan NORTH 24
@@ -100,20 +74,19 @@ memory, 64 for refused words, and for an exchange or a code that is not in the p
 fn trace_grammar<'a>(alloc: Global) -> Result<clap::Command<'a>, AllocError>
     ensures { IfOk result (λ c. app_of c ≡ grammar.trace_words) }
 {
-    let trace = over_plan(
+    Words::over_plan(
         alloc,
         "trace",
         "Show how calls for a code go from an exchange: the way while all is free, and the lists",
         TRACE_HELP,
-    );
-    let trace = with_file(
-        trace,
-        alloc,
+    )
+    .file(
         "exchange",
         "EXCHANGE",
         "The exchange from which the calls go",
-    );
-    with_file(trace, alloc, "code", "CODE", "Their destination code")
+    )
+    .file("code", "CODE", "Their destination code")
+    .command
 }
 
 const DRAW_HELP: &str = "Example: telexplan draw own.plan | dot -Tsvg > own.svg
@@ -124,21 +97,20 @@ of memory, 64 for refused words, and for a code that is not in the plan";
 fn draw_grammar<'a>(alloc: Global) -> Result<clap::Command<'a>, AllocError>
     ensures { IfOk result (λ c. app_of c ≡ grammar.draw_words) }
 {
-    let draw = over_plan(
+    Words::over_plan(
         alloc,
         "draw",
         "Draw the exchanges and groups of a plan, as a text of Graphviz",
         DRAW_HELP,
-    );
-    let draw = with_option(
-        draw,
-        alloc,
+    )
+    .option(
         "code",
         "CODE",
         "Draw the routes for this destination code alone; with --limit and
 --spare, the walk of its first finding is red",
-    );
-    with_bounds(draw, alloc, false)
+    )
+    .limits(false)
+    .command
 }
 
 const EXPLAIN_HELP: &str = "Example: telexplan explain P11

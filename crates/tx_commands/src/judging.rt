@@ -4,7 +4,7 @@ ghost use Rattle.std.specs.Prelude.{◌≡◌, IfOk};
 ghost use Rattle.clap.specs.Words.{app_of};
 ghost use Rattle.tx_commands.specs.Grammar as grammar;
 
-use crate::arguments::{PLAN, over_plan, with_bounds, with_file, with_option};
+use crate::arguments::{PLAN, Words};
 use crate::grammar::{top_grammar, with_command};
 use std::alloc::{AllocError, Global};
 
@@ -16,12 +16,13 @@ when out of memory, 64 for refused words";
 fn lint_grammar<'a>(alloc: Global) -> Result<clap::Command<'a>, AllocError>
     ensures { IfOk result (λ c. app_of c ≡ grammar.lint_words) }
 {
-    over_plan(
+    Words::over_plan(
         alloc,
         "lint",
         "Report all faults of a plan's text, or else what in it is of no use or likely not meant",
         LINT_HELP,
     )
+    .command
 }
 
 const AUDIT_HELP: &str =
@@ -33,28 +34,25 @@ out of memory, 64 for refused words";
 fn audit_grammar<'a>(alloc: Global) -> Result<clap::Command<'a>, AllocError>
     ensures { IfOk result (λ c. app_of c ≡ grammar.audit_words) }
 {
-    let audit = over_plan(
+    Words::over_plan(
         alloc,
         "audit",
         "Say whether a plan is safe: YES, or NO with what is wrong and the walks that show it",
         AUDIT_HELP,
-    );
-    let audit = with_bounds(audit, alloc, true);
-    let audit = with_option(
-        audit,
-        alloc,
+    )
+    .limits(true)
+    .option(
         "cert",
         "CERT",
         "After YES, write the certificate to this file",
-    );
-    with_option(
-        audit,
-        alloc,
+    )
+    .option(
         "counter",
         "SCRIPT",
         "After NO, write a script to this file that shows the first finding
 that has one",
     )
+    .command
 }
 
 const GRADE_HELP: &str = "Example: telexplan grade own.plan
@@ -65,12 +63,13 @@ a failed read or write, 4 when out of memory, 64 for refused words";
 fn grade_grammar<'a>(alloc: Global) -> Result<clap::Command<'a>, AllocError>
     ensures { IfOk result (λ c. app_of c ≡ grammar.grade_words) }
 {
-    over_plan(
+    Words::over_plan(
         alloc,
         "grade",
         "Say with which transit limits and spare numbers a plan is safe, and each of its codes",
         GRADE_HELP,
     )
+    .command
 }
 
 const MEND_HELP: &str =
@@ -82,27 +81,25 @@ out of memory, 64 for refused words";
 fn mend_grammar<'a>(alloc: Global) -> Result<clap::Command<'a>, AllocError>
     ensures { IfOk result (λ c. app_of c ≡ grammar.mend_words) }
 {
-    let mend = clap::Command::new(alloc, "mend")
-        .about(
-            "Find lists with which a plan is safe: YES with each new list, or NO with whom none serve",
-        )
-        .after_help(MEND_HELP);
-    let mend = with_file(Ok(mend), alloc, "old", "PLAN", PLAN);
-    let mend = with_bounds(mend, alloc, true);
-    let mend = with_option(
-        mend,
+    Words::new(
         alloc,
+        "mend",
+        "Find lists with which a plan is safe: YES with each new list, or NO with whom none serve",
+        MEND_HELP,
+    )
+    .file("old", "PLAN", PLAN)
+    .limits(true)
+    .option(
         "plan",
         "OUT",
         "After YES, write the plan with these lists to this file",
-    );
-    with_option(
-        mend,
-        alloc,
+    )
+    .option(
         "cert",
         "CERT",
         "After YES, write a certificate of that plan to this file",
     )
+    .command
 }
 
 const OLD_PLAN: &str = "The plan that is in force; - is standard input";
@@ -119,37 +116,33 @@ failed read or write, 4 when out of memory, 64 for refused words";
 fn change_grammar<'a>(alloc: Global) -> Result<clap::Command<'a>, AllocError>
     ensures { IfOk result (λ c. app_of c ≡ grammar.change_words) }
 {
-    let change = clap::Command::new(alloc, "change")
-        .about(
-            "Say whether a plan is safe at every moment while its lists change into those of another",
-        )
-        .after_help(CHANGE_HELP);
-    let change = with_file(Ok(change), alloc, "old", "OLD", OLD_PLAN);
-    let change = with_file(change, alloc, "new", "NEW", NEW_PLAN);
-    let change = with_bounds(change, alloc, true);
-    let change = with_option(
-        change,
+    Words::new(
         alloc,
+        "change",
+        "Say whether a plan is safe at every moment while its lists change into those of another",
+        CHANGE_HELP,
+    )
+    .file("old", "OLD", OLD_PLAN)
+    .file("new", "NEW", NEW_PLAN)
+    .limits(true)
+    .option(
         "cert",
         "CERT",
         "After YES, write a certificate of both plans to this file",
-    );
-    let change = with_option(
-        change,
-        alloc,
+    )
+    .option(
         "mixture",
         "PLAN",
         "After NO, write a plan of old and new lists to this file that shows
 the first finding that has a walk",
-    );
-    with_option(
-        change,
-        alloc,
+    )
+    .option(
         "counter",
         "SCRIPT",
         "After NO, write a script to this file that shows the same finding in
 that plan, if there is one",
     )
+    .command
 }
 
 const SURVIVE_HELP: &str =
@@ -164,20 +157,19 @@ a failed read or write, 4 when out of memory, 64 for refused words";
 fn survive_grammar<'a>(alloc: Global) -> Result<clap::Command<'a>, AllocError>
     ensures { IfOk result (λ c. app_of c ≡ grammar.survive_words) }
 {
-    let survive = over_plan(
+    Words::over_plan(
         alloc,
         "survive",
         "Say whom each group, exchange and named risk of a plan cuts off if it fails alone",
         SURVIVE_HELP,
-    );
-    with_option(
-        survive,
-        alloc,
+    )
+    .option(
         "risks",
         "RISKS",
         "The named risks, such as cables: lines RISK name group .., between
 RISKS 1 and END; - is standard input",
     )
+    .command
 }
 
 const CHECK_HELP: &str = "Example: telexplan check own.plan own.cert --limit 1 --spare 1
@@ -188,20 +180,19 @@ out of memory, 64 for refused words";
 fn check_grammar<'a>(alloc: Global) -> Result<clap::Command<'a>, AllocError>
     ensures { IfOk result (λ c. app_of c ≡ grammar.check_words) }
 {
-    let check = over_plan(
+    Words::over_plan(
         alloc,
         "check",
         "Say whether a certificate shows that a plan is safe: YES, or NO with the first reason",
         CHECK_HELP,
-    );
-    let check = with_file(
-        check,
-        alloc,
+    )
+    .file(
         "cert",
         "CERT",
         "The certificate: ranks of exchanges for each code; - is standard input",
-    );
-    with_bounds(check, alloc, true)
+    )
+    .limits(true)
+    .command
 }
 
 /// The program with the commands that judge a plan.
