@@ -14,7 +14,7 @@ ghost use Rattle.tx_plan.specs.inner.Tables.{row_of};
 use crate::ids::{ByWord, CodeId, Direction, ExchangeId, GroupId, GroupRow, Line, National, Pair};
 use crate::names::NameKey;
 use crate::range::LineRange;
-use crate::routes::{Bars, Routes};
+use crate::routes::{Bars, GroupList, Routes};
 use indexmap::{IndexMap, IndexSet};
 use std::alloc::{Allocator, Global};
 use std::marker::Model;
