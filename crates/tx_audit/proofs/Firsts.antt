@@ -3,10 +3,8 @@ use Rattle.std.proofs.Common.{◌≡◌, ℕ, ◌+◌, ◌<◌, Bool, true, fals
 use Rattle.std.proofs.lemmas.Option.{slice_get_read}
 use Rattle.std.specs.List.{list_any}
 use Rattle.tx_plan.specs.Plan.{Plan}
-use Rattle.tx_plan.specs.Among.{Among}
 use Rattle.tx_machine.specs.declared.event.Event.{Event}
 use Rattle.tx_rank.specs.declared.finding.Finding.{Finding}
-use Rattle.tx_rank.proofs.Looks.{among_at}
 use Rattle.tx_audit.specs.Counter.{counter_of, first_counter_of, or_else}
 use Rattle.tx_audit.proofs.Loops.{drop_at}
 
@@ -24,6 +22,3 @@ module _ {A : Type 0} (t : A → Bool) where
 
   pub any_past : (fs : List A) (i : ℕ) (f : A) → i < length fs → f ≡ get_or fs i f → t f ≡ false → list_any t (drop i fs) ≡ list_any t (drop (i + 1) fs)
   any_past fs i f l e h = ap (list_any t) (drop_at fs i f (slice_get_read fs (length fs) i f refl l e)) ∙ ap (λ b. b || list_any t (drop (i + 1) fs)) h
-
-pub listed_at : {A : Type 0} (fs : List A) (i : ℕ) (f : A) → i < length fs → f ≡ get_or fs i f → Among f fs
-listed_at fs i f l e = among_at fs i f (slice_get_read fs (length fs) i f refl l e)

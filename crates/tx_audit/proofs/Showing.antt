@@ -37,10 +37,10 @@ use Rattle.tx_machine.proofs.Steps.{all_mem}
 use Rattle.tx_audit.specs.Counter.{first_line, walk_events, shut_events, walked_by, walked, turns_on_one, counter_of, has_counter}
 use Rattle.tx_audit.specs.Breaks.{PassesTwice, PassesMany, AnswersBare, Shows}
 use Rattle.tx_machine.proofs.Playing.{Groups, AllUp, Plays, plays_none, plays_first, plays_one, plays_then, shut, shut_among}
-use Rattle.tx_machine.proofs.OneCall.{alone, on_way, IsPlaced, routed_there, key_step, nc_step, blocks}
+use Rattle.tx_machine.proofs.OneCall.{step_of, alone, on_way, IsPlaced, routed_there, key_step, nc_step, blocks}
 use Rattle.tx_audit.proofs.Choices.{first_in_none, none_of}
 use Rattle.tx_audit.proofs.Listed.{listed_once, listed_few, listed_known}
-use Rattle.tx_audit.proofs.Walking.{IsOn, IfMore, step_of, walk_plays}
+use Rattle.tx_audit.proofs.Walking.{IsOn, IfMore, some_same, walk_plays}
 use Rattle.tx_audit.proofs.Starting.{caller, code_itself}
 use Rattle.tx_audit.proofs.Sizes.{steps_few, walk_few}
 use Rattle.tx_rank.proofs.PassedOnce.{before_once}
@@ -227,9 +227,6 @@ events_are : (p : Plan) (c : ℕ) (w : Walk) (last events : List Event) (line : 
 events_are p c w last events line first e =
     let made : walked p c w last ≡ Some (walked_by p c w last line) = ap (option_map (walked_by p c w last)) first in
     some_same (sym made ∙ e)
-  where
-    some_same : {a b : List Event} → Some a ≡ Some b → a ≡ b
-    some_same q = cc
 
 module _ {A : Type 0} (p : Plan) (ok : IsPlan p) (limit spare : ℕ) where
   shows_loop : (c : ℕ) (w : Walk) (events : List Event) → c < length p.codes → IsLoop (net_of p c) w.start w.steps → turns_on_one p w.steps ≡ false → walked p c w [] ≡ Some events → Shows {A = A} p limit spare (Loop c w) events

@@ -57,7 +57,7 @@ abbrev pub IfMore : List (ℕ × ℕ) → Type 0 → Type 0
 IfMore [] P = Unit {0}
 IfMore (s ∷ steps) P = P
 
-some_same : {y z : Circuit} → Some y ≡ Some z → y ≡ z
+pub some_same : {A : Type 0} {y z : A} → Some y ≡ Some z → y ≡ z
 some_same e = cc
 
 -- a hop by the group of the next step is the last one, the step leads back, and the group is a both-way one

@@ -9,6 +9,7 @@ use Rattle.tx_text.specs.Told.{Ending, AtEnd}
 use Rattle.tx_text.specs.Frame.{Framed, Done, Stop, Headed, Has, Stands}
 use Rattle.tx_text.specs.Said.{said, step_on, Declared, lines_within, ReadsText, AnswersAs, RefusedBy, FaultsBy}
 use Rattle.tx_plan.specs.Plan.{Plan}
+use Rattle.tx_plan.proofs.Lists.{opposed}
 use Rattle.tx_cert.specs.declared.fault.CertWord.{CertWord}
 use Rattle.tx_cert.specs.declared.fault.CertWord.TheVariants.{UnknownWord, WrongCount}
 use Rattle.tx_cert.specs.Certificate.{Certificate, no_ranks_for, rank_at}
@@ -73,14 +74,10 @@ said_none p v t (Stop n k) = tt
 said_none p v t (Headed w f) = said_none p w t f
 said_none p v t (Has n ws f) = step_none p v n f (λ r. said_none p v r f) (declare p v t ws) (declare_none p v t ws)
 
-never_by : (b : Bool) → b ≡ true → b ≡ false → ⊥
-never_by true h k = cc
-never_by false h k = cc
-
 never : (p : Plan) (e : Ending) (text : List ℕ) (n : ℕ) (x : CertWord) → cert_of p e text ≡ Err (n, Word x) → is_memory x ≡ true → ⊥
 never p e text n x h m =
     let k : NotMemoryAt (cert_of p e text) = said_none p 1 (no_ranks_for p) (lines_within (codes "CERT") 1 e text) in
-    never_by (is_memory x) m (subst NotMemoryAt h k)
+    opposed (is_memory x) m (subst NotMemoryAt h k)
 
 module _ (p : Plan) where
   refused : (text : Input) (b : Bool) (n : ℕ) (x : CertWord) → is_memory x ≡ b → Stands text.old text.new (cert_of p) (Err (n, Word x)) → RefusedBy text.old text.new (cert_of p) (λ m. (m ≡ 1) × text.unread) b n x

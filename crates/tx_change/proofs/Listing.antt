@@ -20,7 +20,7 @@ use Rattle.tx_rank.specs.Nets.{Certifies}
 use Rattle.tx_rank.specs.Grades.{CanBeCertified}
 use Rattle.tx_rank.specs.Judged.{IsJudged}
 use Rattle.tx_rank.proofs.Certifying.{none_distinct, none_true}
-use Rattle.tx_rank.proofs.Listing.{front_none, back_none}
+use Rattle.tx_rank.proofs.Listing.{front_none, back_none, no_pair}
 use Rattle.tx_plan.specs.Mixtures.{SameNetwork, EachMixture, AreCommon}
 use Rattle.tx_plan.proofs.Filtered.{all_joined}
 use Rattle.tx_plan.proofs.CommonRanks.{mixture_certified}
@@ -140,7 +140,3 @@ module _ {A : Type 0} (old new : Plan) (limit spare : ℕ) where
           common_codes old new same (ranks_of cert) limit spare
           (none_distinct old.codes (no_pair (ambiguous_of old.codes) (front_none (pair_findings (ambiguous_of old.codes)) r.rest (sym r.joined ∙ none))))
           (λ d h. r.certified (back_none (pair_findings (ambiguous_of old.codes)) r.rest (sym r.joined ∙ none)) d (omega arith))
-        where
-          no_pair : (o : Option (ℕ × ℕ)) → pair_findings {A = A} o ≡ [] → o ≡ None
-          no_pair None e = refl
-          no_pair (Some q) e = absurd (let bad : ⊥ = cc in bad)

@@ -138,38 +138,56 @@ given [] = []
 given (None ∷ rest) = given rest
 given (Some file ∷ rest) = file ∷ given rest
 
--- those of these files that are named, as a function sees them
+-- the names of these files, where there are any, as a function sees them
+abbrev pub named : List (Option (Bor (List ℕ))) → List (Option (List ℕ))
+named files = map (option_map (λ f. f.now)) files
+
+-- those alone
 abbrev pub names : List (Option (Bor (List ℕ))) → List (List ℕ)
-names files = given (map (option_map (λ f. f.now)) files)
+names files = given (named files)
 
 -- the name of standard input, where a file is read
 abbrev pub standard_input : List ℕ
 standard_input = codes "-"
 
+-- one file is read
+abbrev pub one_read : List ℕ → List (Option (List ℕ))
+one_read file = Some file ∷ None ∷ None ∷ []
+
+-- two files are read
+abbrev pub two_read : List ℕ → List ℕ → List (Option (List ℕ))
+two_read first second = Some first ∷ Some second ∷ None ∷ []
+
 -- the files that a run reads: the certificate, if there is one, before the script
 abbrev pub run_files : {Z : Type 0} → (plan script : List ℕ) → Option (String Z × ℕ × ℕ)
-    → List (List ℕ)
-run_files plan script None = plan ∷ script ∷ []
-run_files plan script (Some (cert, limit, spare)) = plan ∷ string_bytes cert ∷ script ∷ []
+    → List (Option (List ℕ))
+run_files plan script None = two_read plan script
+run_files plan script (Some (cert, limit, spare)) =
+    Some plan ∷ Some (string_bytes cert) ∷ Some script ∷ []
 
--- the files that a command reads, in the order in which they are opened
+-- the first, the second and the third file that a command reads, as they are opened
+abbrev pub reads_of : Command → List (Option (List ℕ))
+reads_of Pipe = one_read standard_input
+reads_of (Run plan script checked) = run_files (string_bytes plan) (string_bytes script) checked
+reads_of (RunTelling plan script strict echo summary) =
+    two_read (string_bytes plan) (string_bytes script)
+reads_of (Check plan cert limit spare) = two_read (string_bytes plan) (string_bytes cert)
+reads_of (Lint plan) = one_read (string_bytes plan)
+reads_of (Codes plan) = one_read (string_bytes plan)
+reads_of (Audit plan limit spare cert counter) = one_read (string_bytes plan)
+reads_of (Change old new limit spare cert mixture counter) =
+    two_read (string_bytes old) (string_bytes new)
+reads_of (Mend plan limit spare mended cert) = one_read (string_bytes plan)
+reads_of (Survive plan risks) =
+    Some (string_bytes plan) ∷ option_map string_bytes risks ∷ None ∷ []
+reads_of (Grade plan) = one_read (string_bytes plan)
+reads_of (Trace plan exchange code) = one_read (string_bytes plan)
+reads_of (Draw plan routes) = one_read (string_bytes plan)
+reads_of (Explain word) = None ∷ None ∷ None ∷ []
+
+-- their names
 abbrev pub files_read : Command → List (List ℕ)
-files_read Pipe = standard_input ∷ []
-files_read (Run plan script checked) = run_files (string_bytes plan) (string_bytes script) checked
-files_read (RunTelling plan script strict echo summary) =
-    string_bytes plan ∷ string_bytes script ∷ []
-files_read (Check plan cert limit spare) = string_bytes plan ∷ string_bytes cert ∷ []
-files_read (Lint plan) = string_bytes plan ∷ []
-files_read (Codes plan) = string_bytes plan ∷ []
-files_read (Audit plan limit spare cert counter) = string_bytes plan ∷ []
-files_read (Change old new limit spare cert mixture counter) =
-    string_bytes old ∷ string_bytes new ∷ []
-files_read (Mend plan limit spare mended cert) = string_bytes plan ∷ []
-files_read (Survive plan risks) = string_bytes plan ∷ given (option_map string_bytes risks ∷ [])
-files_read (Grade plan) = string_bytes plan ∷ []
-files_read (Trace plan exchange code) = string_bytes plan ∷ []
-files_read (Draw plan routes) = string_bytes plan ∷ []
-files_read (Explain word) = []
+files_read command = given (reads_of command)
 
 -- the files that a command may make, by what goes into them
 pub record Made : Type 0 where

@@ -13,22 +13,22 @@ pub(crate) const PLAN: &str =
 
 /// A command with its arguments so far, unless memory ran out.
 #[derive(Drop)]
-pub(crate) struct Words<'a> {
+pub(crate) struct Syntax<'a> {
     alloc: Global,
     pub(crate) command: Result<clap::Command<'a>, AllocError>,
 }
 
-impl<'a> Words<'a> {
+impl<'a> Syntax<'a> {
     ghost use Rattle.tx_commands.specs.inner.Takes.{Takes};
 
     /// A command, with what its help begins and ends with.
-    pub(crate) fn new(alloc: Global, name: &'a str, about: &'a str, after: &'a str) -> Words<'a>
+    pub(crate) fn new(alloc: Global, name: &'a str, about: &'a str, after: &'a str) -> Syntax<'a>
         ensures { Takes result (new_app name.now) }
     {
         let command = clap::Command::new(alloc, name)
             .about(about)
             .after_help(after);
-        Words {
+        Syntax {
             alloc,
             command: Ok(command),
         }
@@ -40,28 +40,28 @@ impl<'a> Words<'a> {
         name: &'a str,
         about: &'a str,
         after: &'a str,
-    ) -> Words<'a>
+    ) -> Syntax<'a>
         ensures { Takes result (grammar.plan_words name.now) }
     {
-        Words::new(alloc, name, about, after).file("plan", "PLAN", PLAN)
+        Syntax::new(alloc, name, about, after).file("plan", "PLAN", PLAN)
     }
 
     /// Adds an argument.
-    fn arg(self, arg: Arg<'a>) -> Words<'a>
+    fn arg(self, arg: Arg<'a>) -> Syntax<'a>
         requires { arg.global ≡ false }
         ensures { (app : App) → Takes self.entry app
             → Takes result (with_rule app (rule_of arg.entry)) }
     {
-        let Words { alloc, command } = self;
+        let Syntax { alloc, command } = self;
         let command = match command {
             Ok(command) => command.arg(arg),
             Err(e) => Err(e),
         };
-        Words { alloc, command }
+        Syntax { alloc, command }
     }
 
     /// Adds a file, which has to be named.
-    pub(crate) fn file(self, id: &'a str, shown: &'a str, help: &'a str) -> Words<'a>
+    pub(crate) fn file(self, id: &'a str, shown: &'a str, help: &'a str) -> Syntax<'a>
         ensures { (app : App) → Takes self.entry app
             → Takes result (with_rule app (grammar.file id.now)) }
     {
@@ -70,7 +70,7 @@ impl<'a> Words<'a> {
     }
 
     /// Adds an option with a word.
-    pub(crate) fn option(self, id: &'a str, shown: &'a str, help: &'a str) -> Words<'a>
+    pub(crate) fn option(self, id: &'a str, shown: &'a str, help: &'a str) -> Syntax<'a>
         ensures { (app : App) → Takes self.entry app
             → Takes result (with_rule app (grammar.option id.now)) }
     {
@@ -79,7 +79,7 @@ impl<'a> Words<'a> {
     }
 
     /// Adds an option without a word.
-    pub(crate) fn flag(self, id: &'a str, help: &'a str) -> Words<'a>
+    pub(crate) fn flag(self, id: &'a str, help: &'a str) -> Syntax<'a>
         ensures { (app : App) → Takes self.entry app
             → Takes result (with_rule app (grammar.flag id.now)) }
     {
@@ -88,7 +88,7 @@ impl<'a> Words<'a> {
     }
 
     /// Adds a limit and a spare number, which may have to be given.
-    pub(crate) fn limits(self, needed: bool) -> Words<'a>
+    pub(crate) fn limits(self, needed: bool) -> Syntax<'a>
         ensures { (app : App) → Takes self.entry app
             → Takes result (with_rule (with_rule app (record grammar.limit { required = needed }))
             (record grammar.spare { required = needed })) }

@@ -1,6 +1,6 @@
 // Commands, and the files that they name.
 ghost use Rattle.std.specs.Prelude.{◌≡◌, None, [], ◌∷◌, option_map, string_bytes};
-ghost use Rattle.tx_commands.specs.Commands.{names, run_files, files_read, made_by};
+ghost use Rattle.tx_commands.specs.Commands.{named, one_read, two_read, run_files, reads_of, made_by};
 
 /// What the words ask for.
 #[derive(Debug, Drop)]
@@ -112,7 +112,7 @@ pub struct Files<'a> {
 impl<'a> Files<'a> {
     /// Those that a command names. Without words it is standard input that is read.
     pub fn of(command: &'a Command) -> Files<'a>
-        ensures reads { names result.reads ≡ files_read command.now }
+        ensures reads { named result.reads ≡ reads_of command.now }
         ensures plan { option_map (λ f. f.now) result.plan ≡ (made_by command.now).plan }
         ensures cert { option_map (λ f. f.now) result.cert ≡ (made_by command.now).cert }
         ensures script { option_map (λ f. f.now) result.script ≡ (made_by command.now).script }
@@ -164,7 +164,7 @@ impl<'a> Files<'a> {
         cert: &'a Option<String>,
         script: Option<&'a str>,
     ) -> Files<'a>
-        ensures reads { names result.reads ≡ names reads.entry }
+        ensures reads { named result.reads ≡ named reads.entry }
         ensures plan { option_map (λ f. f.now) result.plan ≡ option_map (λ f. f.now) plan.entry }
         ensures cert { option_map (λ f. f.now) result.cert ≡ option_map string_bytes cert.now }
         ensures script { option_map (λ f. f.now) result.script
@@ -180,7 +180,7 @@ impl<'a> Files<'a> {
 
     /// Files that are read alone.
     fn reading(reads: [Option<&'a str>; 3]) -> Files<'a>
-        ensures reads { names result.reads ≡ names reads.entry }
+        ensures reads { named result.reads ≡ named reads.entry }
         ensures plan { option_map (λ f. f.now) result.plan ≡ None }
         ensures cert { option_map (λ f. f.now) result.cert ≡ None }
         ensures script { option_map (λ f. f.now) result.script ≡ None }
@@ -195,7 +195,7 @@ impl<'a> Files<'a> {
 
     /// Those that it may make, in the order in which they are made.
     pub fn makes(&self) -> [Option<&'a str>; 3]
-        ensures { names result ≡ names (self.now.plan ∷ self.now.cert ∷ self.now.script ∷ []) }
+        ensures { named result ≡ named (self.now.plan ∷ self.now.cert ∷ self.now.script ∷ []) }
     {
         [self.plan, self.cert, self.script]
     }
@@ -203,14 +203,14 @@ impl<'a> Files<'a> {
 
 /// One file.
 fn one(file: &str) -> [Option<&str>; 3]
-    ensures { names result ≡ file.now ∷ [] }
+    ensures { named result ≡ one_read file.now }
 {
     [Some(file), None, None]
 }
 
 /// Two files.
 fn two<'a>(first: &'a str, second: &'a str) -> [Option<&'a str>; 3]
-    ensures { names result ≡ first.now ∷ second.now ∷ [] }
+    ensures { named result ≡ two_read first.now second.now }
 {
     [Some(first), Some(second), None]
 }
@@ -221,7 +221,7 @@ fn run_files<'a>(
     script: &'a str,
     checked: &'a Option<(String, u8, u8)>,
 ) -> [Option<&'a str>; 3]
-    ensures { names result ≡ run_files plan.now script.now checked.now }
+    ensures { named result ≡ run_files plan.now script.now checked.now }
 {
     match checked {
         None => two(plan, script),

@@ -5,7 +5,7 @@ ghost use Rattle.clap.specs.Words.{AddsSubcommand, app_of};
 ghost use Rattle.clap.specs.declared.builder.command.Command.{Command};
 ghost use Rattle.tx_commands.specs.Grammar as grammar;
 
-use crate::arguments::{Words, word};
+use crate::arguments::{Syntax, word};
 use crate::judging::judging_grammar;
 use std::alloc::{AllocError, Global};
 
@@ -21,7 +21,7 @@ words";
 fn run_grammar<'a>(alloc: Global) -> Result<clap::Command<'a>, AllocError>
     ensures { IfOk result (λ c. app_of c ≡ grammar.run_words) }
 {
-    Words::over_plan(
+    Syntax::over_plan(
         alloc,
         "run",
         "Run a script of events over a plan: print each reply, and a ticket for each ended call",
@@ -57,7 +57,7 @@ failed read or write, 4 when out of memory, 64 for refused words";
 fn codes_grammar<'a>(alloc: Global) -> Result<clap::Command<'a>, AllocError>
     ensures { IfOk result (λ c. app_of c ≡ grammar.codes_words) }
 {
-    Words::over_plan(
+    Syntax::over_plan(
         alloc,
         "codes",
         "List the codes of a plan, and the least pair of which one begins the other",
@@ -74,7 +74,7 @@ memory, 64 for refused words, and for an exchange or a code that is not in the p
 fn trace_grammar<'a>(alloc: Global) -> Result<clap::Command<'a>, AllocError>
     ensures { IfOk result (λ c. app_of c ≡ grammar.trace_words) }
 {
-    Words::over_plan(
+    Syntax::over_plan(
         alloc,
         "trace",
         "Show how calls for a code go from an exchange: the way while all is free, and the lists",
@@ -97,7 +97,7 @@ of memory, 64 for refused words, and for a code that is not in the plan";
 fn draw_grammar<'a>(alloc: Global) -> Result<clap::Command<'a>, AllocError>
     ensures { IfOk result (λ c. app_of c ≡ grammar.draw_words) }
 {
-    Words::over_plan(
+    Syntax::over_plan(
         alloc,
         "draw",
         "Draw the exchanges and groups of a plan, as a text of Graphviz",

@@ -4,7 +4,7 @@ ghost use Rattle.std.specs.Prelude.{◌≡◌, IfOk};
 ghost use Rattle.clap.specs.Words.{app_of};
 ghost use Rattle.tx_commands.specs.Grammar as grammar;
 
-use crate::arguments::{PLAN, Words};
+use crate::arguments::{PLAN, Syntax};
 use crate::grammar::{top_grammar, with_command};
 use std::alloc::{AllocError, Global};
 
@@ -16,7 +16,7 @@ when out of memory, 64 for refused words";
 fn lint_grammar<'a>(alloc: Global) -> Result<clap::Command<'a>, AllocError>
     ensures { IfOk result (λ c. app_of c ≡ grammar.lint_words) }
 {
-    Words::over_plan(
+    Syntax::over_plan(
         alloc,
         "lint",
         "Report all faults of a plan's text, or else what in it is of no use or likely not meant",
@@ -34,7 +34,7 @@ out of memory, 64 for refused words";
 fn audit_grammar<'a>(alloc: Global) -> Result<clap::Command<'a>, AllocError>
     ensures { IfOk result (λ c. app_of c ≡ grammar.audit_words) }
 {
-    Words::over_plan(
+    Syntax::over_plan(
         alloc,
         "audit",
         "Say whether a plan is safe: YES, or NO with what is wrong and the walks that show it",
@@ -63,7 +63,7 @@ a failed read or write, 4 when out of memory, 64 for refused words";
 fn grade_grammar<'a>(alloc: Global) -> Result<clap::Command<'a>, AllocError>
     ensures { IfOk result (λ c. app_of c ≡ grammar.grade_words) }
 {
-    Words::over_plan(
+    Syntax::over_plan(
         alloc,
         "grade",
         "Say with which transit limits and spare numbers a plan is safe, and each of its codes",
@@ -81,7 +81,7 @@ out of memory, 64 for refused words";
 fn mend_grammar<'a>(alloc: Global) -> Result<clap::Command<'a>, AllocError>
     ensures { IfOk result (λ c. app_of c ≡ grammar.mend_words) }
 {
-    Words::new(
+    Syntax::new(
         alloc,
         "mend",
         "Find lists with which a plan is safe: YES with each new list, or NO with whom none serve",
@@ -116,7 +116,7 @@ failed read or write, 4 when out of memory, 64 for refused words";
 fn change_grammar<'a>(alloc: Global) -> Result<clap::Command<'a>, AllocError>
     ensures { IfOk result (λ c. app_of c ≡ grammar.change_words) }
 {
-    Words::new(
+    Syntax::new(
         alloc,
         "change",
         "Say whether a plan is safe at every moment while its lists change into those of another",
@@ -157,7 +157,7 @@ a failed read or write, 4 when out of memory, 64 for refused words";
 fn survive_grammar<'a>(alloc: Global) -> Result<clap::Command<'a>, AllocError>
     ensures { IfOk result (λ c. app_of c ≡ grammar.survive_words) }
 {
-    Words::over_plan(
+    Syntax::over_plan(
         alloc,
         "survive",
         "Say whom each group, exchange and named risk of a plan cuts off if it fails alone",
@@ -180,7 +180,7 @@ out of memory, 64 for refused words";
 fn check_grammar<'a>(alloc: Global) -> Result<clap::Command<'a>, AllocError>
     ensures { IfOk result (λ c. app_of c ≡ grammar.check_words) }
 {
-    Words::over_plan(
+    Syntax::over_plan(
         alloc,
         "check",
         "Say whether a certificate shows that a plan is safe: YES, or NO with the first reason",

@@ -1,14 +1,14 @@
 -- Lists of numbers in which nothing stands twice.
-use Rattle.std.proofs.Common.{◌≡◌, ◌≢◌, ℕ, zero, suc, ◌+◌, ◌<◌, ◌≤◌, ◌⊎◌, true, eqb, eqb-true, eq-eqb, List, [], ◌∷◌, ◌++◌, length, inl, inr, refl, sym, arith}
+use Rattle.std.proofs.Common.{◌≡◌, ◌≢◌, ℕ, zero, suc, ◌+◌, ◌<◌, ◌≤◌, ◌⊎◌, true, eqb, eq-eqb, List, [], ◌∷◌, ◌++◌, length, inl, inr, refl, sym, arith}
 use Rattle.std.specs.Cmp.{nat_eq_equiv}
 use Rattle.std.specs.List.{list_any, AllByRecursion, range_with_len}
-use Rattle.std.proofs.lemmas.Bool.{cases_lt, or_cases, or_left, or_right, false≢true}
+use Rattle.std.proofs.lemmas.Bool.{cases_lt, or_left, or_right}
 use Rattle.std.proofs.lemmas.Map.Made.{length-le_from_is_member}
 use Rattle.tx_plan.specs.Rules.{EachPair}
 use Rattle.tx_plan.specs.Among.{Among}
 use Rattle.tx_rank.specs.Walks.{AllDiffer}
 use Rattle.tx_rank.proofs.Ways.{among_all}
-use Rattle.tx_rank.proofs.Unmended.{all_distinct}
+use Rattle.tx_rank.proofs.Unmended.{all_distinct, any_among}
 
 module _ {A : Type 0} where
   pub some_among : (xs : List A) (n : ℕ) → n < length xs → (x : A) × Among x xs
@@ -24,10 +24,6 @@ module _ {A : Type 0} where
       all_append P (x ∷ xs) ys a b = (a.0, all_append P xs ys a.1 b)
 
 -- NUMBERS
-
-pub any_among : (q : ℕ) (xs : List ℕ) → list_any (eqb q) xs ≡ true → Among q xs
-any_among q [] h = absurd (false≢true h)
-any_among q (x ∷ xs) h = elim (or_cases (eqb q x) (list_any (eqb q) xs) h) [ inl a ↦ inl (sym (eqb-true q x a)) | inr b ↦ inr (any_among q xs b) ]
 
 pub among_any : (q : ℕ) (xs : List ℕ) → Among q xs → list_any (eqb q) xs ≡ true
 among_any q [] m = absurd m

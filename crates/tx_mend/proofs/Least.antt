@@ -1,27 +1,24 @@
 -- Least ranks are least.
 use Rattle.std.proofs.Common.{◌≡◌, ◌≢◌, ℕ, suc, ◌<◌, ◌≤◌, ◌⊎◌, Bool, true, false, ◌==◌, ◌&&◌, cond, eqb-true, List, [], ◌∷◌, length, Option, Some, None, inl, inr, refl, sym, ap, subst, ◌∙◌, arith}
-use Rattle.std.specs.Prelude.{find, filter, slice_get, is_some, option_and_then}
+use Rattle.std.specs.Prelude.{find, filter, is_some, option_and_then}
 use Rattle.std.specs.Option.{option_map_or}
-use Rattle.std.proofs.lemmas.Bool.{and_parts, lt-ltb, false≢true}
-use Rattle.std.proofs.lemmas.Option.{slice_get_within}
-use Rattle.tx_plan.specs.Plan.{Plan, Route, Group, home_of}
+use Rattle.std.proofs.lemmas.Bool.{and_parts, lt-ltb}
+use Rattle.tx_plan.specs.Plan.{Plan, Route, home_of}
 use Rattle.tx_plan.specs.Rules.{IsPlan, IsRoute}
 use Rattle.tx_plan.specs.Routes.{route_list}
-use Rattle.tx_plan.specs.Circuits.{may_seize, may_seize_row, other_end}
-use Rattle.tx_plan.specs.Certified.{Ranks, IsBelow, LeadsLower}
+use Rattle.tx_plan.specs.Circuits.{may_seize, other_end}
+use Rattle.tx_plan.specs.Certified.{Ranks, LeadsLower}
 use Rattle.tx_plan.specs.Among.{Among}
 use Rattle.tx_plan.proofs.Among.{among_filter}
+use Rattle.tx_plan.proofs.Growing.{seizes_within}
 use Rattle.tx_plan.specs.Mixed.{rerouted}
 use Rattle.tx_mend.specs.Routings.{IsFalling}
 use Rattle.tx_mend.specs.LeastRanks.{places, RanksOfCode, outgoing, leads_on, can_follow, least_rank, LeastRanksAreLeast}
 use Rattle.tx_mend.proofs.Distinct.{some_among, fits, among_range}
 use Rattle.tx_rank.specs.Walks.{AllDiffer}
 use Rattle.tx_rank.proofs.Ways.{all_among}
+use Rattle.tx_rank.proofs.Certifying.{below_rank}
 use Rattle.tx_mend.proofs.RoundRanks.{no_greater}
-
-pub below_rank : (o : Option ℕ) (r : ℕ) → IsBelow o r → (m : ℕ) × (o ≡ Some m) × (m < r)
-below_rank None r h = absurd h
-below_rank (Some m) r h = (m, refl, h)
 
 -- the route that was found is one of them
 pub record IsFoundRoute (p : Plan) (x c : ℕ) : Type 0 where
@@ -72,13 +69,6 @@ module _ (p : Plan) (ok : IsPlan p) (x c : ℕ) where
   ]
 
 -- a group that may be seized is one of the plan, and so stands among those that its exchange may seize
-pub seizes_within : (p : Plan) (g x : ℕ) → may_seize p g x ≡ true → g < length p.groups
-seizes_within p g x h = by_get (slice_get p.groups g) refl h
-  where
-    by_get : (o : Option Group) → slice_get p.groups g ≡ o → option_map_or (λ (r : Group). may_seize_row r x) o false ≡ true → g < length p.groups
-    by_get None e k = absurd (false≢true k)
-    by_get (Some r) e k = slice_get_within p.groups g r e
-
 pub outgoing_has : (p : Plan) (g x : ℕ) → may_seize p g x ≡ true → Among g (outgoing p x)
 outgoing_has p g x h = among_filter (λ (g : ℕ). may_seize p g x) g (places (length p.groups)) (among_range 0 (length p.groups) g (omega arith) (let w = seizes_within p g x h in omega arith)) h
 

@@ -26,8 +26,9 @@ use Rattle.tx_mend.specs.Lists.{least_list, list_of_rank, full_list}
 use Rattle.tx_mend.specs.inner.Full.{full}
 use Rattle.tx_mend.proofs.Distinct.{some_among, among_range, range_among}
 use Rattle.tx_rank.proofs.Ways.{all_among, among_all}
+use Rattle.tx_rank.proofs.Certifying.{below_rank}
 use Rattle.tx_mend.proofs.RoundRanks.{Ranked, at_home, stays_on, within, why, no_greater}
-use Rattle.tx_mend.proofs.Least.{below_rank, list_cases, leads, least}
+use Rattle.tx_mend.proofs.Least.{list_cases, leads, least}
 use Rattle.tx_mend.proofs.LeastLists.{Leads, IsList, on_rank, across_to, outgoing_seizes, present_list, is_least_list, filled_enough, filled_leads}
 use Rattle.tx_mend.proofs.Routed.{routed_list, routes_rules, routes_differ}
 use Rattle.tx_mend.proofs.Rerouted.{kept_rerouted}

@@ -199,6 +199,10 @@ some_row : (o : Option Group) (x : ℕ) → option_map_or (λ r. may_seize_row r
 some_row None x h = absurd (cc)
 some_row (Some r) x h = (r, refl)
 
+-- a group that may be seized is one of the plan
+pub seizes_within : (p : Plan) (g x : ℕ) → may_seize p g x ≡ true → g < length p.groups
+seizes_within p g x h = let row = some_row (slice_get p.groups g) x h in slice_get_within p.groups g row.0 row.1
+
 pub kept_group : (p : Plan) (name a b : List ℕ) (direction : Direction) (count : ℕ) → IsPlan p → first_true (group_refusals p name a b count) ≡ None → IsPlan (with_group p name a b direction count)
 kept_group p name a b direction count h none =
     let t = passed (group_refusals p name a b count) none in

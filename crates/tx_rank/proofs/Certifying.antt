@@ -19,7 +19,7 @@ use Rattle.tx_rank.specs.Findings.{IsTrueOf}
 use Rattle.tx_rank.proofs.Ways.{all_among, among_all}
 use Rattle.tx_rank.proofs.Walked.{certified_no_loop, certified_no_short, certified_no_long}
 
-below_rank : (o : Option ℕ) (r : ℕ) → IsBelow o r → (m : ℕ) × (o ≡ Some m) × (m < r)
+pub below_rank : (o : Option ℕ) (r : ℕ) → IsBelow o r → (m : ℕ) × (o ≡ Some m) × (m < r)
 below_rank None r h = absurd h
 below_rank (Some m) r h = (m, refl, h)
 

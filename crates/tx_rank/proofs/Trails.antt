@@ -6,12 +6,12 @@ use Rattle.tx_rank.specs.declared.list_scan.Tried.{Tried}
 use Rattle.tx_rank.specs.declared.mark.Mark.{Mark}
 use Rattle.tx_rank.proofs.Ways.{end_push, before_push}
 
-passed_end : (x : ℕ) (steps : List (ℕ × ℕ)) → passed x steps ≡ before_end x steps ++ end_of x steps ∷ []
+pub passed_end : (x : ℕ) (steps : List (ℕ × ℕ)) → passed x steps ≡ before_end x steps ++ end_of x steps ∷ []
 passed_end x [] = refl
 passed_end x (s ∷ steps) = ap (λ l. x ∷ l) (passed_end s.1 steps)
 
 -- the exchanges before the end of a walk that is one step longer
-before_longer : (x : ℕ) (steps : List (ℕ × ℕ)) (s : ℕ × ℕ) → before_end x (steps ++ s ∷ []) ≡ before_end x steps ++ end_of x steps ∷ []
+pub before_longer : (x : ℕ) (steps : List (ℕ × ℕ)) (s : ℕ × ℕ) → before_end x (steps ++ s ∷ []) ≡ before_end x steps ++ end_of x steps ∷ []
 before_longer x steps s = before_push x steps s ∙ passed_end x steps
 
 module _ (n : Net) where

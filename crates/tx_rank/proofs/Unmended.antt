@@ -18,7 +18,7 @@ use Rattle.tx_rank.proofs.Listing.{all_true}
 
 -- NO WALK IS LONGER THAN THE EXCHANGES
 
-passed_count : (x : ℕ) (steps : List (ℕ × ℕ)) → length (passed x steps) ≡ length steps + 1
+pub passed_count : (x : ℕ) (steps : List (ℕ × ℕ)) → length (passed x steps) ≡ length steps + 1
 passed_count x [] = refl
 passed_count x (s ∷ steps) = let e = passed_count s.1 steps in omega arith
 
@@ -31,12 +31,12 @@ all_distinct (x ∷ xs) d = (each x xs d.0, all_distinct xs d.1)
     each x [] h = tt
     each x (y ∷ ys) h = (ne_eqb x y h.0, each x ys h.1)
 
-any_among : (q : ℕ) (xs : List ℕ) → list_any (eqb q) xs ≡ true → Among q xs
+pub any_among : (q : ℕ) (xs : List ℕ) → list_any (eqb q) xs ≡ true → Among q xs
 any_among q [] h = absurd (false≢true h)
 any_among q (x ∷ xs) h = elim (or_cases (eqb q x) (list_any (eqb q) xs) h) [ inl a ↦ inl (sym (eqb-true q x a)) | inr b ↦ inr (any_among q xs b) ]
 
 module _ (n : Net) (net : IsNet n) where
-  passed_below : (x : ℕ) (steps : List (ℕ × ℕ)) → Goes n x steps → x < n.exchanges → (u : ℕ) → Among u (passed x steps) → u < n.exchanges
+  pub passed_below : (x : ℕ) (steps : List (ℕ × ℕ)) → Goes n x steps → x < n.exchanges → (u : ℕ) → Among u (passed x steps) → u < n.exchanges
   passed_below x [] goes h u m = elim m [ inl e ↦ subst (λ k. k < n.exchanges) e h | inr b ↦ absurd b ]
   passed_below x (s ∷ steps) goes h u (inl e) = subst (λ k. k < n.exchanges) e h
   passed_below x (s ∷ steps) goes h u (inr m) =

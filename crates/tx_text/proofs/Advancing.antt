@@ -6,21 +6,17 @@ use Rattle.tx_text.specs.declared.text_fault.TextFault.{TextFault}
 use Rattle.tx_text.specs.declared.frame.FrameFault.{FrameFault}
 use Rattle.tx_text.specs.declared.frame.FrameFault.TheVariants.{Read}
 use Rattle.tx_text.specs.Text.{Line, bytes_fault}
-use Rattle.tx_text.specs.Told.{Ending, AtEnd, Cut, Closed, Faulty, frame_fault, told}
+use Rattle.tx_text.specs.Told.{Ending, AtEnd, Cut, Faulty, frame_fault}
 use Rattle.tx_text.specs.Frame.{ReadsOn, EndsAs, Stopped}
 use Rattle.tx_text.specs.inner.Feed.{Feed, feed_gives, finish_gives, finish_leaves, ends_giving, ends_leaving}
 use Rattle.tx_text.specs.inner.Reading.{told_at, Place, place_of, IsFeed, Came, LineCame, Advances, ended_as, Reading, reading_place, fed_on, lined}
 use Rattle.tx_text.proofs.FeedSteps.{Says, says, no_read}
-use Rattle.tx_text.proofs.Feeding.{end-nothing, end-line, end-cut, none_fault, some_fault}
+use Rattle.tx_text.proofs.Feeding.{told-nil, end-nothing, end-line, end-cut, none_fault, some_fault}
 use Rattle.tx_text.proofs.Framing.{on_says, ends_here, on_then, end_then}
 
 no_bytes : (l : List ℕ) → length l ≤ 0 → l ≡ []
 no_bytes [] h = refl
 no_bytes (b ∷ bs) h = absurd (omega arith)
-
-told-nil : told AtEnd [] ≡ Closed
-unfolding told
-told-nil = refl
 
 regroup : (begun piece more : List ℕ) → (begun ++ []) ++ (piece ++ more) ≡ (begun ++ piece) ++ more
 regroup begun piece more = rw append-nil (sym (append_assoc begun piece more))

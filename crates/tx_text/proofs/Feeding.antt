@@ -137,6 +137,10 @@ pub end-nothing : (e : Ending) (f : Feed) → f.begun ≡ [] → told_at (place_
 unfolding told_at
 end-nothing e f h = rw h (ap (told e) (lines_nil (f.number + 1) f.start))
 
+pub told-nil : told AtEnd [] ≡ Closed
+unfolding told
+told-nil = refl
+
 same_place : (f : Feed) → (f.begun ++ []) ++ [] ≡ f.begun
 same_place f = append-nil (f.begun ++ []) ∙ append-nil f.begun
 

@@ -13,7 +13,7 @@ use Rattle.tx_text.specs.Told.{AtEnd, Told, Closed, Faulty, Then, frame_fault, t
 use Rattle.tx_text.specs.inner.Reading.{told_at, IsFeed, place_of}
 use Rattle.tx_text.specs.inner.Pieces.{FeedingGives, taken, completed, faulty, over, unfinished, unfinished_faulty, unfed_yet, PiecesGiveTheLines}
 use Rattle.tx_text.proofs.TextLines.{last_line}
-use Rattle.tx_text.proofs.Feeding.{no_cut, end-nothing, end-line}
+use Rattle.tx_text.proofs.Feeding.{told-nil, no_cut, end-nothing, end-line}
 use Rattle.tx_text.proofs.FeedSteps.{fed_as, nothing_begun, says_by}
 
 -- the fault of a line, as a list
@@ -54,10 +54,6 @@ joined pieces = flat_map (λ p. p) pieces
 nothing : (l : List ℕ) → nat_lt 0 (length l) ≡ false → l ≡ []
 nothing [] h = refl
 nothing (b ∷ bs) h = absurd (omega (arith, ltb-false 0 (length (b ∷ bs)) h))
-
-told-nil : told AtEnd [] ≡ Closed
-unfolding told
-told-nil = refl
 
 at_end : (f : Feed) → IsFeed f → f.fault ≡ None → (b : Bool) (o : Option TextFault) → nat_lt 0 (length f.begun) ≡ b → bytes_fault f.begun ≡ o → FeedingGives f [] (items_of (told_at (place_of f []) AtEnd []))
 at_end f i z false o h k =

@@ -7,7 +7,7 @@ pub moves-nil : (a : Option (List ℕ)) → Moves a a []
 moves-nil None = refl
 moves-nil (Some x) = refl
 
-prepend_twice : (s t : List ℕ) (a : Option (List ℕ)) → prepend_known s (prepend_known t a) ≡ prepend_known (s ++ t) a
+pub prepend_twice : (s t : List ℕ) (a : Option (List ℕ)) → prepend_known s (prepend_known t a) ≡ prepend_known (s ++ t) a
 prepend_twice s t None = refl
 prepend_twice s t (Some x) = ap Some (sym (append_assoc s t x))
 

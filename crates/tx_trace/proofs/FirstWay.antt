@@ -1,21 +1,15 @@
 -- The first way, step by step.
-use Rattle.std.proofs.Common.{◌≡◌, ℕ, zero, suc, ◌+◌, ◌-◌, ◌<◌, ◌≤◌, Bool, true, List, [], ◌∷◌, ◌++◌, length, Some, None, refl, sym, ap, subst, ◌∙◌, arith, append-nil}
+use Rattle.std.proofs.Common.{◌≡◌, ℕ, zero, suc, ◌+◌, ◌-◌, ◌<◌, ◌≤◌, Bool, true, List, [], ◌∷◌, ◌++◌, length, Some, None, sym, ap, subst, ◌∙◌, arith, append-nil}
 use Rattle.std.specs.Option.{option_to_list}
 use Rattle.std.proofs.lemmas.List.{length_push}
 use Rattle.std.proofs.Math.ListN.{set, length-set}
 use Rattle.tx_plan.specs.Plan.{Plan}
 use Rattle.tx_rank.specs.Walks.{end_of, before_end, passed}
-use Rattle.tx_rank.proofs.Ways.{end_push, before_push}
+use Rattle.tx_rank.proofs.Ways.{end_push}
+use Rattle.tx_rank.proofs.Trails.{before_longer}
 use Rattle.tx_trace.specs.Ways.{next_step, one_on, way_within, first_way}
 use Rattle.tx_trace.specs.inner.Marked.{AreMarksOf}
 use Rattle.tx_trace.proofs.Ends.{marks_push}
-
-pub passed_end : (x : ℕ) (steps : List (ℕ × ℕ)) → passed x steps ≡ before_end x steps ++ end_of x steps ∷ []
-passed_end x [] = refl
-passed_end x (s ∷ steps) = ap (λ l. x ∷ l) (passed_end s.1 steps)
-
-pub before_longer : (x : ℕ) (steps : List (ℕ × ℕ)) (s : ℕ × ℕ) → before_end x (steps ++ s ∷ []) ≡ before_end x steps ++ end_of x steps ∷ []
-before_longer x steps s = before_push x steps s ∙ passed_end x steps
 
 -- the way so far, and the marks of the exchanges that it has passed
 pub record IsGoing (p : Plan) (c x last : ℕ) (way : List (ℕ × ℕ)) (marks : List Bool) : Type 0 where

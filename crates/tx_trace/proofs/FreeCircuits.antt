@@ -1,16 +1,15 @@
 -- Which groups have a free circuit, where there is one call.
-use Rattle.std.proofs.Common.{◌≡◌, ℕ, zero, suc, ◌+◌, ◌<◌, ◌≤◌, ◌==◌, Bool, true, false, ◌&&◌, nat_le, nat_lt, eqb, eqb-true, eq-eqb, List, [], ◌∷◌, ◌++◌, cond, inl, inr, map, length, Option, Some, None, refl, sym, ap, ◌∙◌, subst, arith, append-nil}
-use Rattle.std.specs.Prelude.{count_by, filter, find, is_some, slice_get, option_and_then}
-use Rattle.std.specs.Option.{option_map_or}
+use Rattle.std.proofs.Common.{◌≡◌, ℕ, zero, suc, ◌+◌, ◌<◌, ◌≤◌, ◌==◌, Bool, true, false, ◌&&◌, nat_le, eqb, eqb-true, eq-eqb, List, [], ◌∷◌, ◌++◌, cond, inl, inr, map, length, Option, Some, None, refl, sym, ap, ◌∙◌, subst, arith, append-nil}
+use Rattle.std.specs.Prelude.{count_by, filter, find, is_some, option_and_then}
 use Rattle.std.specs.List.{list_any}
 use Rattle.std.specs.Ordering.{nat_cmp}
 use Rattle.std.specs.FinSet as set
-use Rattle.std.proofs.lemmas.Bool.{false≢true, and_parts, and_from, and_right, leb-true, le-leb, lt-leb, lt-ltb, le-ltb, both_ways}
+use Rattle.std.proofs.lemmas.Bool.{and_parts, and_from, leb-true, le-leb, lt-ltb, le-ltb, both_ways}
 use Rattle.std.proofs.lemmas.List.{length-map, map-append}
 use Rattle.std.proofs.lemmas.List.Elements.{filter-append}
 use Rattle.std.proofs.lemmas.List.Sums.{length-filter}
 use Rattle.std.proofs.lemmas.Map.Steps.{length-le_from_distinct_below, le-length_from_below}
-use Rattle.tx_plan.specs.Plan.{Plan, Group}
+use Rattle.tx_plan.specs.Plan.{Plan}
 use Rattle.tx_plan.specs.Orders.{same_circuit}
 use Rattle.tx_plan.specs.Routes.{route_list}
 use Rattle.tx_plan.specs.Circuits.{is_circuit, circuits_at, count_of}
@@ -26,6 +25,7 @@ use Rattle.tx_machine.specs.declared.open_call.Phase.TheVariants.{Standing}
 use Rattle.tx_machine.specs.State.{State}
 use Rattle.tx_machine.specs.InUse.{carries, is_free_at, is_down, first_free, first_in, choice}
 use Rattle.tx_machine.proofs.Lists.{any_mem, mem_any, find_none}
+use Rattle.tx_machine.proofs.Choosing.{counted_circuit}
 use Rattle.tx_machine.proofs.Uses.{IsChosen, chosen}
 use Rattle.tx_machine.proofs.Excuses.{circuit_listed}
 use Rattle.tx_machine.proofs.OneCall.{alone, on_way, step_of, none_circuit}
@@ -62,15 +62,7 @@ circuit_is : (x : Circuit) (g : ℕ) → (x.group == g) ≡ true → x ≡ circu
 circuit_is x g e = λ i. record { group = eqb-true x.group g e i; number = x.number }
 
 numbered : (p : Plan) (g k : ℕ) → is_circuit p (circuit g k) ≡ (nat_le 1 k && nat_le k (count_of p g))
-numbered p g k = at (slice_get p.groups g) k
-  where
-    none : (k : ℕ) → (nat_le 1 k && nat_le k 0) ≡ false
-    none zero = refl
-    none (suc k) = and_right (nat_le 1 (suc k)) (nat_le (suc k) 0) (lt-leb (suc k) 0 (omega arith))
-
-    at : (o : Option Group) (k : ℕ) → option_map_or (λ r. nat_le 1 k && nat_le k r.count) o false ≡ (nat_le 1 k && nat_le k (option_map_or (λ r. r.count) o 0))
-    at None k = sym (none k)
-    at (Some r) k = refl
+numbered p g k = sym (counted_circuit p (circuit g k))
 
 -- their numbers
 abbrev pub numbers : ℕ → List Hop → List ℕ

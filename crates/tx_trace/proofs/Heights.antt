@@ -1,8 +1,7 @@
 -- What heights say of far ends, and that they are the ranks of a code that can be ranked.
-use Rattle.std.proofs.Common.{◌≡◌, ◌≢◌, ℕ, zero, suc, ◌+◌, ◌<◌, ◌≤◌, true, false, eqb, eqb-true, List, [], ◌∷◌, length, map, max, cond, inl, inr, Option, Some, None, refl, sym, ap, subst, ◌∙◌, arith}
+use Rattle.std.proofs.Common.{◌≡◌, ◌≢◌, ℕ, zero, suc, ◌<◌, ◌≤◌, true, false, eqb, eqb-true, List, [], ◌∷◌, length, map, max, cond, inl, inr, Option, Some, None, refl, sym, ap, subst, ◌∙◌, arith}
 use Rattle.std.specs.Option.{option_map}
-use Rattle.std.specs.List.{list_any}
-use Rattle.std.proofs.lemmas.Bool.{eqb-false, eq-eqb, ne_eqb, or_cases, false≢true}
+use Rattle.std.proofs.lemmas.Bool.{eqb-false, eq-eqb, ne_eqb}
 use Rattle.std.proofs.lemmas.Map.Steps.{length-le_from_distinct_below}
 use Rattle.tx_plan.specs.Plan.{Plan, home_of}
 use Rattle.tx_plan.specs.Routes.{route_list}
@@ -13,7 +12,7 @@ use Rattle.tx_rank.specs.Nets.{IsNet, Certifies}
 use Rattle.tx_rank.specs.Heights.{IsHeight, RanksByHeight}
 use Rattle.tx_rank.proofs.Nets.{is_net}
 use Rattle.tx_rank.proofs.Ranks.{Falls, once_down}
-use Rattle.tx_rank.proofs.Unmended.{all_distinct}
+use Rattle.tx_rank.proofs.Unmended.{all_distinct, any_among, passed_below, passed_count}
 use Rattle.tx_trace.specs.Ways.{far_ends}
 use Rattle.tx_trace.specs.Heights.{greater, greatest, one_above, height_within, height}
 use Rattle.tx_trace.specs.Ranked.{net_from}
@@ -189,29 +188,11 @@ module _ (p : Plan) (ok : IsPlan p) (c : ℕ) (known : c < length p.codes) where
 
 -- ---- no way that falls is longer than the exchanges
 
-pub passed_count : (x : ℕ) (steps : List (ℕ × ℕ)) → length (passed x steps) ≡ length steps + 1
-passed_count x [] = refl
-passed_count x (s ∷ steps) = let e = passed_count s.1 steps in omega arith
-
-pub any_among : (q : ℕ) (xs : List ℕ) → list_any (eqb q) xs ≡ true → Among q xs
-any_among q [] h = absurd (false≢true h)
-any_among q (x ∷ xs) h = elim (or_cases (eqb q x) (list_any (eqb q) xs) h) [ inl a ↦ inl (sym (eqb-true q x a)) | inr b ↦ inr (any_among q xs b) ]
-
 module _ (n : Net) (net : IsNet n) where
-  pub passed_below : (x : ℕ) (steps : List (ℕ × ℕ)) → Goes n x steps → x < n.exchanges → (u : ℕ) → Among u (passed x steps) → u < n.exchanges
-  passed_below x [] goes h u m = elim m [ inl e ↦ subst (λ k. k < n.exchanges) e h | inr b ↦ absurd b ]
-  passed_below x (s ∷ steps) goes h u (inl e) = subst (λ k. k < n.exchanges) e h
-  passed_below x (s ∷ steps) goes h u (inr m) =
-      let l = net.leads x s.0 goes.1 in
-      let far = l.1 in
-      let far' = goes.2 in
-      let same : l.0 ≡ s.1 = cc in
-      passed_below s.1 steps goes.3 (subst (λ k. k < n.exchanges) same l.2) u m
-
   pub height_fits : (ranks : ℕ → Option ℕ) → Falls n ranks → (y r : ℕ) → ranks y ≡ Some r → IsHeight n y r → y < n.exchanges → r ≤ n.exchanges
   height_fits ranks falls y r ranked h within =
       let once = once_down n ranks falls y r h.steps ranked h.goes in
-      let few = length-le_from_distinct_below (passed y h.steps) n.exchanges (all_distinct (passed y h.steps) once) (λ q a. passed_below y h.steps h.goes within q (any_among q (passed y h.steps) a)) in
+      let few = length-le_from_distinct_below (passed y h.steps) n.exchanges (all_distinct (passed y h.steps) once) (λ q a. passed_below n net y h.steps h.goes within q (any_among q (passed y h.steps) a)) in
       let e = passed_count y h.steps in
       let k = h.count in
       omega arith

@@ -1,8 +1,7 @@
 -- The only call of a network goes by the first way.
-use Rattle.std.proofs.Common.{◌≡◌, ◌≢◌, ℕ, zero, suc, ◌+◌, ◌-◌, ◌^◌, ◌<◌, ◌≤◌, ◌==◌, Bool, true, false, ◌&&◌, nat_le, eqb, eqb-true, eq-eqb, List, [], ◌∷◌, ◌++◌, ◌⊎◌, inl, inr, map, length, Option, Some, None, refl, sym, ap, ◌∙◌, subst, arith, append-nil}
+use Rattle.std.proofs.Common.{◌≡◌, ◌≢◌, ℕ, zero, suc, ◌+◌, ◌-◌, ◌^◌, ◌<◌, ◌≤◌, ◌==◌, true, false, ◌&&◌, nat_le, eqb-true, eq-eqb, List, [], ◌∷◌, ◌++◌, ◌⊎◌, inl, inr, map, length, Option, Some, None, refl, sym, ap, ◌∙◌, subst, arith, append-nil}
 use Rattle.std.specs.Prelude.{if◌then◌else◌, find, is_some, option_and_then}
 use Rattle.std.specs.Option.{option_map, option_to_list}
-use Rattle.std.specs.List.{flat_map}
 use Rattle.std.specs.FinSet as set
 use Rattle.std.proofs.lemmas.Bool.{false≢true, and_parts, eqb-false, lt-leb}
 use Rattle.std.proofs.lemmas.Grind.{flat_map-append}
@@ -22,31 +21,29 @@ use Rattle.tx_plan.specs.Among.{Among}
 use Rattle.tx_rank.specs.Walks.{AllDiffer, Goes, net_of, end_of, before_end, passed}
 use Rattle.tx_rank.proofs.Nets.{is_net}
 use Rattle.tx_rank.proofs.Ways.{once_push, end_push, goes_push}
-use Rattle.tx_rank.proofs.Unmended.{all_distinct}
+use Rattle.tx_rank.proofs.Unmended.{all_distinct, any_among, passed_below, passed_count}
 use Rattle.tx_machine.specs.declared.event.Event.{Event}
 use Rattle.tx_machine.specs.declared.event.Event.TheVariants.{Key, Route, Confirm}
 use Rattle.tx_machine.specs.declared.open_call.Hop.{Hop}
-use Rattle.tx_machine.specs.declared.open_call.Phase.TheVariants.{Standing, Calling}
+use Rattle.tx_machine.specs.declared.open_call.Phase.TheVariants.{Standing}
 use Rattle.tx_machine.specs.declared.reply.Reply.{Reply}
 use Rattle.tx_machine.specs.declared.reply.Reply.TheVariants.{Keyed, Seized, At, Answered}
 use Rattle.tx_machine.specs.declared.cause.Service.{Service}
 use Rattle.tx_machine.specs.declared.cause.Service.TheVariants.{Nc}
-use Rattle.tx_machine.specs.Call.{Call, is_first, last_exchange}
 use Rattle.tx_machine.specs.State.{State, opening}
 use Rattle.tx_machine.specs.InUse.{first_free, choice}
 use Rattle.tx_machine.specs.Lines.{line_answer}
 use Rattle.tx_machine.specs.Routing.{at_line, line_of}
 use Rattle.tx_machine.specs.Runs.{replies, state_after}
 use Rattle.tx_machine.specs.Step.{step}
-use Rattle.tx_machine.proofs.Lists.{any_mem, mem_any, none_any, find_mem}
+use Rattle.tx_machine.proofs.Lists.{any_mem, none_any, find_mem}
 use Rattle.tx_machine.proofs.Ranks.{code_within}
 use Rattle.tx_machine.proofs.Steps.{all_mem, listed_leads}
 use Rattle.tx_machine.proofs.Uses.{chosen}
 use Rattle.tx_machine.proofs.OneCall.{alone, on_way, step_of, IsPlaced, routed_there, placed_next, key_step, route_step, nc_step, confirm_step}
 use Rattle.tx_trace.specs.Ways.{has_free, step_by, first_step, comes_back, next_step, way_within, first_way}
 use Rattle.tx_trace.specs.OnlyCall.{events_along, state_along, replies_along, line_reply, last_reply, GoesBy}
-use Rattle.tx_trace.proofs.FirstWay.{passed_end, before_longer}
-use Rattle.tx_trace.proofs.Heights.{passed_count, passed_below, any_among}
+use Rattle.tx_rank.proofs.Trails.{passed_end, before_longer}
 use Rattle.tx_trace.proofs.FreeCircuits.{AreApart, none_apart, one_apart, free_there, chosen_there}
 
 -- EVENTS IN TURN

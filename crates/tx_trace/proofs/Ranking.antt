@@ -19,7 +19,8 @@ use Rattle.tx_rank.proofs.Walked.{certified_no_loop, certified_no_short, certifi
 use Rattle.tx_trace.specs.Heights.{height}
 use Rattle.tx_trace.specs.Ranked.{net_from}
 use Rattle.tx_trace.specs.inner.Marked.{AreRanksFrom}
-use Rattle.tx_trace.proofs.Heights.{is_net_from, heights_certify, passed_below, height_fits, height_is}
+use Rattle.tx_trace.proofs.Heights.{is_net_from, heights_certify, height_fits, height_is}
+use Rattle.tx_rank.proofs.Unmended.{passed_below}
 
 abbrev short_findings : (A : Type 0) → ℕ → List Walk → List (Finding A)
 short_findings A code ws = map (Short code) ws

@@ -1,20 +1,19 @@
 -- The exchanges met are those where a way ends, each once.
 use Rattle.std.proofs.Common.{◌≡◌, ◌≢◌, ℕ, zero, suc, ◌+◌, ◌-◌, ◌<◌, ◌≤◌, ◌||◌, true, false, eqb, eqb-true, cond, List, [], ◌∷◌, ◌++◌, length, inl, inr, Some, None, refl, sym, ap, subst, ◌∙◌, arith}
 use Rattle.std.specs.Prelude.{slice_get}
-use Rattle.std.specs.List.{fold, list_any}
+use Rattle.std.specs.List.{fold}
 use Rattle.std.specs.Option.{option_map_or}
 use Rattle.std.proofs.lemmas.Bool.{cases_lt, eq-eqb, false≢true}
 use Rattle.std.proofs.lemmas.Option.{slice_get_past, slice_get_within}
 use Rattle.std.proofs.lemmas.Map.Steps.{length-le_from_distinct_below}
-use Rattle.tx_plan.specs.Plan.{Plan, home_of}
+use Rattle.tx_plan.specs.Plan.{Plan}
 use Rattle.tx_plan.specs.Rules.{IsPlan}
 use Rattle.tx_plan.specs.Among.{Among}
 use Rattle.tx_plan.proofs.Among.{among_left, among_right}
-use Rattle.tx_rank.specs.Walks.{AllDiffer, Goes, end_of, net_of}
+use Rattle.tx_rank.specs.Walks.{AllDiffer, Goes, end_of}
 use Rattle.tx_rank.specs.Heights.{IsReached}
 use Rattle.tx_rank.proofs.Nets.{is_net}
-use Rattle.tx_rank.proofs.Looks.{among_at}
-use Rattle.tx_rank.proofs.Unmended.{all_distinct}
+use Rattle.tx_rank.proofs.Unmended.{all_distinct, any_among}
 use Rattle.tx_rank.proofs.Ways.{once_push}
 use Rattle.tx_trace.specs.Ways.{is_in, far_ends, meet, meet_from, met_before, all_met}
 use Rattle.tx_trace.specs.Ranked.{net_from}
@@ -34,14 +33,6 @@ in_among y (z ∷ xs) e =
     elim (eqb z y) as (λ b. eqb z y ≡ b → (b || is_in y xs) ≡ true → Among y (z ∷ xs)) [
       | true ↦ λ q h. inl (eqb-true z y q)
       | false ↦ λ q h. inr (in_among y xs h)
-    ] refl e
-
-any_in : (y : ℕ) (xs : List ℕ) → list_any (eqb y) xs ≡ true → Among y xs
-any_in y [] e = absurd (false≢true e)
-any_in y (z ∷ xs) e =
-    elim (eqb y z) as (λ b. eqb y z ≡ b → (b || list_any (eqb y) xs) ≡ true → Among y (z ∷ xs)) [
-      | true ↦ λ q h. inl (sym (eqb-true y z q))
-      | false ↦ λ q h. inr (any_in y xs h)
     ] refl e
 
 place_of : (y : ℕ) (xs : List ℕ) → Among y xs → (i : ℕ) × (slice_get xs i ≡ Some y)
@@ -148,7 +139,7 @@ module _ (p : Plan) (c x : ℕ) where
         let e = r.ends in omega (arith, w, e)
 
     few : length (all_met p c x) ≤ length p.exchanges
-    few = length-le_from_distinct_below (all_met p c x) (length p.exchanges) (all_distinct (all_met p c x) all_once) (λ q m. within q (all_reached p c x reached q (any_in q (all_met p c x) m)))
+    few = length-le_from_distinct_below (all_met p c x) (length p.exchanges) (all_distinct (all_met p c x) all_once) (λ q m. within q (all_reached p c x reached q (any_among q (all_met p c x) m)))
 
     -- each that is met has added those to which its groups lead
     opened : (y z : ℕ) → Among y (all_met p c x) → Among z (far_ends p c y) → Among z (all_met p c x)

@@ -19,7 +19,7 @@ mod walks;
 mod wanted;
 
 pub(crate) use compare::{Difference, findings_differ, ranks_differ, shows};
-pub(crate) use judge::{NUMBERS, play_family};
+pub(crate) use judge::{NUMBERS, play_family, tried_before};
 pub(crate) use replay::Replay;
 pub(crate) use scripts::is_right;
 pub(crate) use stop::{WalksDiffer, tell_stop};

@@ -1,5 +1,4 @@
 // What is found of a change beside what the mixtures of its two plans show.
-ghost use Rattle.std.specs.Prelude.{◌≤◌};
 ghost use Rattle.tx_plan.specs.Mixtures.{SameNetwork};
 
 use crate::cases::Stop;
@@ -10,7 +9,7 @@ use std::alloc::Global;
 use tx_cert::Cert;
 use tx_change::{change, first_difference};
 use tx_check::{Verdict, check};
-use tx_plan::{Limits, Plan};
+use tx_plan::Plan;
 use tx_rank::{Finding, Ranking};
 use tx_text::NoMemory;
 
@@ -18,7 +17,7 @@ use tx_text::NoMemory;
 fn all_are_ranked(mixing: Mixing<'_>) -> bool {
     for number in mixing.mixtures {
         match mixing.members.get(*number as usize) {
-            Some(member) if member.is_ranked(mixing.limit, mixing.spare) => {}
+            Some(member) if member.is_ranked(mixing.limits) => {}
             _ => return false,
         }
     }
@@ -27,13 +26,10 @@ fn all_are_ranked(mixing: Mixing<'_>) -> bool {
 
 /// Whether the checker says Yes to a certificate for each mixture, the old plan and the new one
 /// among them.
-fn certifies_all(mixing: Mixing<'_>, cert: &Cert) -> bool
-    requires limit { mixing.limit ≤ 62 }
-    requires spare { mixing.spare ≤ 15 }
-{
+fn certifies_all(mixing: Mixing<'_>, cert: &Cert) -> bool {
     for number in mixing.mixtures {
         if let Some(member) = mixing.members.get(*number as usize) {
-            match check(&member.plan, cert, mixing.limit, mixing.spare) {
+            match check(&member.plan, cert, mixing.limits.limit, mixing.limits.spare) {
                 Verdict::Yes => {}
                 Verdict::No(_) => return false,
             }
@@ -49,10 +45,7 @@ fn cert_differs(
     wanted: &[Wanted],
     cert: &Cert,
     mixing: Mixing<'_>,
-) -> Option<Difference>
-    requires limit { mixing.limit ≤ 62 }
-    requires spare { mixing.spare ≤ 15 }
-{
+) -> Option<Difference> {
     if !all_are_ranked(mixing) || !wanted.is_empty() {
         return Some(Difference::Found);
     }
@@ -66,7 +59,7 @@ fn cert_differs(
 fn is_of_some(finding: &Finding, wanted: &Wanted, mixing: Mixing<'_>) -> bool {
     for number in mixing.mixtures {
         if let Some(member) = mixing.members.get(*number as usize) {
-            if shows(&member.plan, finding, *wanted, mixing.limit, mixing.spare) {
+            if shows(&member.plan, finding, *wanted, mixing.limits) {
                 return true;
             }
         }
@@ -97,10 +90,8 @@ fn answer_differs(
     mixing: Mixing<'_>,
 ) -> Result<Option<Difference>, NoMemory>
     requires network { SameNetwork old.now new.now }
-    requires limit { mixing.limit ≤ 62 }
-    requires spare { mixing.spare ≤ 15 }
 {
-    match change(alloc, old, new, Limits::of(mixing.limit, mixing.spare))? {
+    match change(alloc, old, new, mixing.limits)? {
         Ranking::Found(cert) => Ok(cert_differs(old, joined, wanted, &cert, mixing)),
         Ranking::Fails(findings) => Ok(fails_differ(&findings, wanted, mixing)),
     }
@@ -116,10 +107,7 @@ pub fn change_differs(
     wanted: &[Wanted],
     mixing: Mixing<'_>,
     showing: &mut Showing,
-) -> Result<Option<Difference>, Stop>
-    requires limit { mixing.limit ≤ 62 }
-    requires spare { mixing.spare ≤ 15 }
-{
+) -> Result<Option<Difference>, Stop> {
     let differs = match first_difference(&old.plan, &new.plan) {
         None => answer_differs(alloc, &old.plan, &new.plan, joined, wanted, mixing)?,
         Some(_) => Some(Difference::Networks),

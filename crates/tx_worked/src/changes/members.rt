@@ -1,11 +1,9 @@
 // The plans of a family, kept.
-ghost use Rattle.std.specs.Prelude.{◌≤◌};
-
 use crate::cases::Stop;
 use crate::families::{count_plans, put_plan};
-use crate::walks::{NUMBERS, Steps, Survey, survey_codes};
+use crate::walks::{NUMBERS, Steps, Survey, survey_codes, tried_before};
 use std::alloc::Global;
-use tx_plan::Plan;
+use tx_plan::{Limits, Plan};
 use tx_plantext::read_plan;
 use tx_rank::{Ranking, rank};
 use tx_text::NoMemory;
@@ -17,24 +15,23 @@ pub struct Member {
     pub plan: Plan,
     /// What its walks show for each code.
     pub surveys: Vec<Survey>,
-    /// Whether it has ranks, for each limit, and with it for each spare number.
+    /// Whether it has ranks, for each of the limits that are tried.
     pub ranked: Vec<bool>,
 }
 
 impl Member {
     /// Whether it has ranks for a limit and a spare number.
-    pub fn is_ranked(&self, limit: u8, spare: u8) -> bool {
-        let place = usize::from(limit) * usize::from(NUMBERS) + usize::from(spare);
-        self.ranked.get(place).copied().unwrap_or(false)
+    pub fn is_ranked(&self, limits: Limits) -> bool {
+        self.ranked
+            .get(tried_before(limits))
+            .copied()
+            .unwrap_or(false)
     }
 }
 
 /// Whether a plan has ranks for a limit and a spare number.
-pub fn is_ranked(alloc: Global, plan: &Plan, limit: u8, spare: u8) -> Result<bool, NoMemory>
-    requires limit { limit ≤ 62 }
-    requires spare { spare ≤ 15 }
-{
-    let ranking = rank(alloc, plan, limit, spare)?;
+pub fn is_ranked(alloc: Global, plan: &Plan, limits: Limits) -> Result<bool, NoMemory> {
+    let ranking = rank(alloc, plan, limits.limit, limits.spare)?;
     Ok(matches!(ranking, Ranking::Found(_)))
 }
 
@@ -43,7 +40,7 @@ fn rank_all(alloc: Global, plan: &Plan) -> Result<Vec<bool>, NoMemory> {
     let mut ranked = Vec::new(alloc);
     for limit in 0..NUMBERS {
         for spare in 0..NUMBERS {
-            ranked.push(is_ranked(alloc, plan, limit, spare)?)?;
+            ranked.push(is_ranked(alloc, plan, Limits::of(limit, spare))?)?;
         }
     }
     Ok(ranked)

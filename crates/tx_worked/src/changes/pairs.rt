@@ -1,6 +1,4 @@
 // The changes between the plans of a family, judged one after another.
-ghost use Rattle.std.specs.Prelude.{◌≤◌};
-
 use crate::cases::{Stop, Told, tell};
 use crate::changes::judge::change_differs;
 use crate::changes::members::{Member, members_of};
@@ -10,6 +8,7 @@ use crate::changes::tally::{PairTally, tell_pairs};
 use crate::families::put_plan;
 use crate::walks::{NUMBERS, Survey, WalksDiffer, Wanted, put_wanted, tell_stop};
 use std::alloc::Global;
+use tx_plan::Limits;
 use tx_text::NoMemory;
 
 /// The pair of plans in hand, by their numbers, and what its mixtures show: one of each kind serves
@@ -81,30 +80,21 @@ fn judge_numbers(
     old: &Member,
     new: &Member,
     members: &[Member],
-    limit: u8,
-    spare: u8,
+    limits: Limits,
     work: &mut PairWork,
     tally: &mut PairTally,
-) -> Result<(), Stop>
-    requires limit { limit ≤ 62 }
-    requires spare { spare ≤ 15 }
-{
+) -> Result<(), Stop> {
     let joined = work.joined.as_slice();
-    put_wanted(&old.plan, joined, limit, spare, &mut work.wanted)?;
+    put_wanted(&old.plan, joined, limits, &mut work.wanted)?;
     let wanted = work.wanted.as_slice();
     let mixing = Mixing {
         members,
         mixtures: work.mixtures.as_slice(),
-        limit,
-        spare,
+        limits,
     };
     let showing = &mut work.showing;
     if let Some(difference) = change_differs(alloc, old, new, joined, wanted, mixing, showing)? {
-        work.differs = Some(WalksDiffer {
-            limit,
-            spare,
-            difference,
-        });
+        work.differs = Some(WalksDiffer { limits, difference });
         return Err(Stop::Differs);
     }
     tally.add_answer(joined, wanted);
@@ -127,7 +117,8 @@ fn judge_change(
     tally.add_pair(work.mixtures.len());
     for limit in 0..NUMBERS {
         for spare in 0..NUMBERS {
-            judge_numbers(alloc, old, new, members, limit, spare, work, tally)?;
+            let limits = Limits::of(limit, spare);
+            judge_numbers(alloc, old, new, members, limits, work, tally)?;
         }
     }
     Ok(())

@@ -1,5 +1,4 @@
 // The mixture that the first finding of a change shows, beside what it has to be.
-ghost use Rattle.std.specs.Prelude.{◌≤◌};
 ghost use Rattle.std.specs.List.{AllByRecursion};
 ghost use Rattle.tx_plan.specs.Mixtures.{SameNetwork};
 ghost use Rattle.tx_rank.specs.Findings.{IsTrueOf};
@@ -16,14 +15,13 @@ use tx_plantext::read_plan;
 use tx_rank::{Finding, Ranking, rank};
 use tx_text::NoMemory;
 
-/// What a mixture is judged beside: the mixtures of the two plans, as members of the family, and a
-/// limit and a spare number.
+/// What a mixture is judged beside: the mixtures of the two plans, as members of the family, and
+/// limits.
 #[derive(Clone, Copy)]
 pub struct Mixing<'a> {
     pub members: &'a [Member],
     pub mixtures: &'a [u64],
-    pub limit: u8,
-    pub spare: u8,
+    pub limits: Limits,
 }
 
 impl<'a> Mixing<'a> {
@@ -74,16 +72,12 @@ fn is_refused(
     mixture: &Plan,
     finding: &Finding,
     wanted: &[Wanted],
-    limit: u8,
-    spare: u8,
-) -> Result<bool, NoMemory>
-    requires limit { limit ≤ 62 }
-    requires spare { spare ≤ 15 }
-{
-    match rank(alloc, mixture, limit, spare)? {
+    limits: Limits,
+) -> Result<bool, NoMemory> {
+    match rank(alloc, mixture, limits.limit, limits.spare)? {
         Ranking::Found(_) => Ok(false),
         Ranking::Fails(findings) => {
-            let differs = findings_differ(mixture, &findings, wanted, limit, spare);
+            let differs = findings_differ(mixture, &findings, wanted, limits);
             Ok(differs.is_none() && findings.iter().any(|it| is_same(it, finding)))
         }
     }
@@ -98,19 +92,17 @@ fn mixture_differs(
     mixing: Mixing<'_>,
     showing: &mut Showing,
 ) -> Result<Option<Difference>, NoMemory>
-    requires limit { mixing.limit ≤ 62 }
-    requires spare { mixing.spare ≤ 15 }
-    requires true_there { IsTrueOf mixture.now mixing.limit mixing.spare finding.now }
+    requires true_there { IsTrueOf mixture.now mixing.limits.limit mixing.limits.spare finding.now }
 {
-    let (limit, spare) = (mixing.limit, mixing.spare);
+    let limits = mixing.limits;
     let Some(member) = mixing.like(mixture) else {
         return Ok(Some(Difference::NoMixture));
     };
-    put_wanted(mixture, &member.surveys, limit, spare, &mut showing.wanted)?;
-    if !is_refused(alloc, mixture, finding, &showing.wanted, limit, spare)? {
+    put_wanted(mixture, &member.surveys, limits, &mut showing.wanted)?;
+    if !is_refused(alloc, mixture, finding, &showing.wanted, limits)? {
         return Ok(Some(Difference::Mixture));
     }
-    if !is_right(alloc, mixture, finding, limit, spare, &mut showing.told)? {
+    if !is_right(alloc, mixture, finding, limits, &mut showing.told)? {
         return Ok(Some(Difference::FirstScript));
     }
     Ok(None)
@@ -131,11 +123,9 @@ fn finding_differs(
     showing: &mut Showing,
 ) -> Result<Option<Difference>, NoMemory>
     requires network { SameNetwork old new.now }
-    requires limit { mixing.limit ≤ 62 }
-    requires spare { mixing.spare ≤ 15 }
-    requires shown { IsShown old new.now mixing.limit mixing.spare finding.now }
+    requires shown { IsShown old new.now mixing.limits.limit mixing.limits.spare finding.now }
 {
-    let mixture = shown(alloc, old, new, mixing.spare, finding)?;
+    let mixture = shown(alloc, old, new, mixing.limits.spare, finding)?;
     mixture_differs(alloc, &mixture, finding, mixing, showing)
 }
 
@@ -149,9 +139,8 @@ fn first_differs(
     showing: &mut Showing,
 ) -> Result<Option<Difference>, NoMemory>
     requires network { SameNetwork old new.now }
-    requires limit { mixing.limit ≤ 62 }
-    requires spare { mixing.spare ≤ 15 }
-    requires shown { AllByRecursion (IsShown old new.now mixing.limit mixing.spare) findings.now }
+    requires shown { AllByRecursion (IsShown old new.now mixing.limits.limit mixing.limits.spare)
+        findings.now }
 {
     for place in 0..findings.len() {
         let finding = &findings[place];
@@ -171,10 +160,8 @@ fn change_differs(
     showing: &mut Showing,
 ) -> Result<Option<Difference>, NoMemory>
     requires network { SameNetwork old new.now }
-    requires limit { mixing.limit ≤ 62 }
-    requires spare { mixing.spare ≤ 15 }
 {
-    match change(alloc, &old, new, Limits::of(mixing.limit, mixing.spare))? {
+    match change(alloc, &old, new, mixing.limits)? {
         Ranking::Found(_) => Ok(Some(Difference::Found)),
         Ranking::Fails(findings) => first_differs(alloc, old, new, &findings, mixing, showing),
     }
@@ -188,10 +175,7 @@ pub fn shown_differs(
     new: &Plan,
     mixing: Mixing<'_>,
     showing: &mut Showing,
-) -> Result<Option<Difference>, Stop>
-    requires limit { mixing.limit ≤ 62 }
-    requires spare { mixing.spare ≤ 15 }
-{
+) -> Result<Option<Difference>, Stop> {
     let old = read_plan(alloc, old)?;
     match first_difference(&old, new) {
         None => Ok(change_differs(alloc, old, new, mixing, showing)?),

@@ -1,6 +1,4 @@
 // What a mending answers beside what all routings of the network show.
-ghost use Rattle.std.specs.Prelude.{◌≤◌};
-
 use crate::changes::{are_alike, is_ranked};
 use crate::mends::lists::Asked;
 use crate::mends::order::{Routed, are_in_order};
@@ -13,7 +11,7 @@ use tx_cert::Cert;
 use tx_change::first_difference;
 use tx_check::{Verdict, check};
 use tx_mend::Mending;
-use tx_plan::{CodeId, ExchangeId, GroupId, Pair, Plan, Routes};
+use tx_plan::{CodeId, ExchangeId, GroupId, Limits, Pair, Plan, Routes};
 use tx_text::NoMemory;
 
 /// What is wanted of a mending, and what the mended plan shows.
@@ -147,7 +145,7 @@ fn code_differs(
     wanted: &mut Vec<Wanted>,
     tally: &mut MendTally,
 ) -> Result<Option<Difference>, NoMemory> {
-    put_code(asked.plan, present, asked.limit, asked.spare, wanted)?;
+    put_code(asked.plan, present, asked.limits, wanted)?;
     let keeps = wanted.is_empty();
     for place in 0..asked.plan.exchanges() {
         if let Some(exchange) = asked.plan.exchange_at(place) {
@@ -179,18 +177,9 @@ fn lists_differ(
 }
 
 /// Whether a plan has ranks, and the checker says Yes to its certificate.
-fn is_certified(
-    alloc: Global,
-    plan: &Plan,
-    cert: &Cert,
-    limit: u8,
-    spare: u8,
-) -> Result<bool, NoMemory>
-    requires limit { limit ≤ 62 }
-    requires spare { spare ≤ 15 }
-{
-    match check(plan, cert, limit, spare) {
-        Verdict::Yes => is_ranked(alloc, plan, limit, spare),
+fn is_certified(alloc: Global, plan: &Plan, cert: &Cert, limits: Limits) -> Result<bool, NoMemory> {
+    match check(plan, cert, limits.limit, limits.spare) {
+        Verdict::Yes => is_ranked(alloc, plan, limits),
         Verdict::No(_) => Ok(false),
     }
 }
@@ -206,17 +195,14 @@ fn mended_differs(
     answers: &mut Answers,
     work: &mut RoutingWork,
     tally: &mut MendTally,
-) -> Result<Option<Difference>, NoMemory>
-    requires limit { asked.limit ≤ 62 }
-    requires spare { asked.spare ≤ 15 }
-{
+) -> Result<Option<Difference>, NoMemory> {
     if first_difference(asked.plan, mended).is_some() || !bars_alike(asked.plan, mended) {
         return Ok(Some(Difference::Networks));
     }
     if !are_routes_of(asked.plan, before) {
         return Ok(Some(Difference::Before));
     }
-    if !is_certified(alloc, mended, cert, asked.limit, asked.spare)? {
+    if !is_certified(alloc, mended, cert, asked.limits)? {
         return Ok(Some(Difference::Refused));
     }
     if !are_in_order(asked.plan, mended, &mut answers.routed)? {
@@ -267,10 +253,7 @@ pub fn mending_differs(
     answers: &mut Answers,
     work: &mut RoutingWork,
     tally: &mut MendTally,
-) -> Result<Option<Difference>, NoMemory>
-    requires limit { asked.limit ≤ 62 }
-    requires spare { asked.spare ≤ 15 }
-{
+) -> Result<Option<Difference>, NoMemory> {
     let can_be = answers.unserved.is_empty() && ambiguous(asked.plan).is_none();
     match mending {
         Mending::Mended(mended, before, cert) => {

@@ -1,26 +1,24 @@
 // The lists that a mended plan has to have, by the least ranks of all routings.
 use crate::mends::served::{CodeServed, Served};
 use crate::walks::Survey;
-use tx_plan::{CodeId, ExchangeId, GroupId, Plan};
+use tx_plan::{CodeId, ExchangeId, GroupId, Limits, Plan};
 use tx_text::NoMemory;
 
-/// A plan that is to be mended, with what the routings of its network do, for a limit and a spare
-/// number.
+/// A plan that is to be mended for some limits, with what the routings of its network do.
 #[derive(Clone, Copy)]
 pub struct Asked<'a> {
     pub plan: &'a Plan,
     /// What the walks of the plan show for each code.
     pub surveys: &'a [Survey],
     pub codes: &'a [CodeServed],
-    pub limit: u8,
-    pub spare: u8,
+    pub limits: Limits,
 }
 
 impl<'a> Asked<'a> {
     /// What the routings do for a code.
     pub fn served(&self, code: CodeId) -> Option<&'a Served> {
         match self.codes.get(code.index()) {
-            Some(served) => served.at(self.limit, self.spare),
+            Some(served) => served.at(self.limits),
             None => None,
         }
     }
@@ -74,7 +72,7 @@ impl<'a> Asked<'a> {
         far: usize,
         list: &[GroupId],
     ) -> bool {
-        list.len() <= usize::from(self.spare)
+        list.len() <= usize::from(self.limits.spare)
             && self.plan.may_seize(group, exchange)
             && self.rank_across(code, exchange, group) == Some(far)
             && !list.contains(&group)

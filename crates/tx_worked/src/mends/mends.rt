@@ -1,6 +1,4 @@
 // The plans of a family, mended one after another.
-ghost use Rattle.std.specs.Prelude.{◌≤◌};
-
 use crate::cases::{Stop, Told};
 use crate::families::{count_plans, put_plan};
 use crate::mends::judge::{Answers, all_are_ranked, mending_differs, put_unserved};
@@ -46,39 +44,31 @@ impl MendWork {
 }
 
 /// Mends the plan of a text.
-fn mending_of(alloc: Global, text: &[u8], limit: u8, spare: u8) -> Result<Mending, Stop>
-    requires limit { limit ≤ 62 }
-    requires spare { spare ≤ 15 }
-{
+fn mending_of(alloc: Global, text: &[u8], limits: Limits) -> Result<Mending, Stop> {
     let plan = read_plan(alloc, text)?;
-    Ok(mend(alloc, plan, Limits::of(limit, spare))?)
+    Ok(mend(alloc, plan, limits)?)
 }
 
 /// How the answer for the plan in hand differs from what all routings of its network show.
 fn answer_differs(
     alloc: Global,
     plan: &Plan,
-    limit: u8,
-    spare: u8,
+    limits: Limits,
     work: &mut MendWork,
     tally: &mut MendTally,
-) -> Result<Option<Difference>, Stop>
-    requires limit { limit ≤ 62 }
-    requires spare { spare ≤ 15 }
-{
+) -> Result<Option<Difference>, Stop> {
     let asked = Asked {
         plan,
         surveys: work.surveys.as_slice(),
         codes: work.codes.as_slice(),
-        limit,
-        spare,
+        limits,
     };
     let answers = &mut work.answers;
     put_unserved(asked, &mut answers.unserved)?;
     if answers.unserved.is_empty() != all_are_ranked(asked) {
         return Ok(Some(Difference::Routings));
     }
-    let mending = mending_of(alloc, work.text.as_slice(), limit, spare)?;
+    let mending = mending_of(alloc, work.text.as_slice(), limits)?;
     Ok(mending_differs(alloc, asked, mending, answers, &mut work.routing, tally)?)
 }
 
@@ -86,20 +76,12 @@ fn answer_differs(
 fn judge_numbers(
     alloc: Global,
     plan: &Plan,
-    limit: u8,
-    spare: u8,
+    limits: Limits,
     work: &mut MendWork,
     tally: &mut MendTally,
-) -> Result<(), Stop>
-    requires limit { limit ≤ 62 }
-    requires spare { spare ≤ 15 }
-{
-    if let Some(difference) = answer_differs(alloc, plan, limit, spare, work, tally)? {
-        work.differs = Some(WalksDiffer {
-            limit,
-            spare,
-            difference,
-        });
+) -> Result<(), Stop> {
+    if let Some(difference) = answer_differs(alloc, plan, limits, work, tally)? {
+        work.differs = Some(WalksDiffer { limits, difference });
         return Err(Stop::Differs);
     }
     Ok(())
@@ -135,7 +117,7 @@ fn judge_plan(
     tally.plans = tally.plans.saturating_add(1);
     for limit in 0..NUMBERS {
         for spare in 0..NUMBERS {
-            judge_numbers(alloc, plan, limit, spare, work, tally)?;
+            judge_numbers(alloc, plan, Limits::of(limit, spare), work, tally)?;
         }
     }
     Ok(())

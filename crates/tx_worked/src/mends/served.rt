@@ -1,10 +1,8 @@
 // What the routings of a network serve.
-ghost use Rattle.std.specs.Prelude.{◌≤◌};
-
 use crate::mends::starts::count_at;
-use crate::walks::{NUMBERS, Survey, Wanted, note_lesser, put_code};
+use crate::walks::{NUMBERS, Survey, Wanted, note_lesser, put_code, tried_before};
 use std::alloc::Global;
-use tx_plan::{CodeId, ExchangeId, Plan};
+use tx_plan::{CodeId, ExchangeId, Limits, Plan};
 use tx_rank::{Finding, Ranking, rank};
 use tx_text::NoMemory;
 
@@ -30,11 +28,6 @@ pub struct CodeServed {
     numbers: Vec<Served>,
 }
 
-/// The place of a limit and a spare number.
-fn place_of(limit: u8, spare: u8) -> usize {
-    usize::from(limit) * usize::from(NUMBERS) + usize::from(spare)
-}
-
 /// Whether a finding is one for a code.
 fn is_for(finding: &Finding, code: CodeId) -> bool {
     match finding {
@@ -44,17 +37,8 @@ fn is_for(finding: &Finding, code: CodeId) -> bool {
 }
 
 /// Whether an audit of a routing finds nothing wrong with a code.
-fn is_right(
-    alloc: Global,
-    routing: &Plan,
-    code: CodeId,
-    limit: u8,
-    spare: u8,
-) -> Result<bool, NoMemory>
-    requires limit { limit ≤ 62 }
-    requires spare { spare ≤ 15 }
-{
-    match rank(alloc, routing, limit, spare)? {
+fn is_right(alloc: Global, routing: &Plan, code: CodeId, limits: Limits) -> Result<bool, NoMemory> {
+    match rank(alloc, routing, limits.limit, limits.spare)? {
         Ranking::Found(_) => Ok(true),
         Ranking::Fails(findings) => Ok(!findings.iter().any(|it| is_for(it, code))),
     }
@@ -65,13 +49,12 @@ fn is_right(
 fn note_ranks(
     routing: &Plan,
     starts: &[Survey],
-    limit: u8,
-    spare: u8,
+    limits: Limits,
     wanted: &mut Vec<Wanted>,
     ranks: &mut [Option<usize>],
 ) -> Result<(), NoMemory> {
     for (place, survey) in starts.iter().enumerate() {
-        put_code(routing, survey, limit, spare, wanted)?;
+        put_code(routing, survey, limits, wanted)?;
         if wanted.is_empty() {
             if let Some(height) = count_at(&survey.heights, place) {
                 note_lesser(ranks, place, height);
@@ -87,17 +70,13 @@ fn note_numbers(
     routing: &Plan,
     code: CodeId,
     starts: &[Survey],
-    limit: u8,
-    spare: u8,
+    limits: Limits,
     wanted: &mut Vec<Wanted>,
     served: &mut Served,
-) -> Result<(), NoMemory>
-    requires limit { limit ≤ 62 }
-    requires spare { spare ≤ 15 }
-{
-    note_ranks(routing, starts, limit, spare, wanted, &mut served.ranks)?;
+) -> Result<(), NoMemory> {
+    note_ranks(routing, starts, limits, wanted, &mut served.ranks)?;
     if !served.is_ranked {
-        served.is_ranked = is_right(alloc, routing, code, limit, spare)?;
+        served.is_ranked = is_right(alloc, routing, code, limits)?;
     }
     Ok(())
 }
@@ -129,8 +108,8 @@ impl CodeServed {
     }
 
     /// What they do with a limit and a spare number.
-    pub fn at(&self, limit: u8, spare: u8) -> Option<&Served> {
-        self.numbers.get(place_of(limit, spare))
+    pub fn at(&self, limits: Limits) -> Option<&Served> {
+        self.numbers.get(tried_before(limits))
     }
 
     /// Takes in what a routing does for a code, whose walks from each exchange show this.
@@ -144,8 +123,9 @@ impl CodeServed {
     ) -> Result<(), NoMemory> {
         for limit in 0..NUMBERS {
             for spare in 0..NUMBERS {
-                if let Some(served) = self.numbers.get_mut(place_of(limit, spare)) {
-                    note_numbers(alloc, routing, code, starts, limit, spare, wanted, served)?;
+                let limits = Limits::of(limit, spare);
+                if let Some(served) = self.numbers.get_mut(tried_before(limits)) {
+                    note_numbers(alloc, routing, code, starts, limits, wanted, served)?;
                 }
             }
         }

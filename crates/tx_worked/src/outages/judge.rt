@@ -4,12 +4,15 @@ ghost use Rattle.tx_risk.specs.NamedRisks.{AreRisksFor};
 use crate::outages::wanted::WantedCut;
 use crate::walks::{Difference, Wanted, findings_differ};
 use std::alloc::Global;
-use tx_plan::Plan;
+use tx_plan::{Limits, Plan};
 use tx_risk::{Cut, NamedRisk, Survival, survive};
 use tx_text::NoMemory;
 
 /// No walk of these plans is too long for this limit.
-pub const HIGH: u8 = 62;
+pub const HIGH: Limits = Limits {
+    limit: 62,
+    spare: 0,
+};
 
 /// How what is told to be cut off differs from what all walks show.
 fn cuts_differ(plan: &Plan, cuts: &[Cut], wanted: &[WantedCut]) -> Option<Difference> {
@@ -43,8 +46,6 @@ pub fn survival_differs(
                 Ok(Some(Difference::Grade))
             }
         }
-        Survival::Ungraded(grade) => {
-            Ok(findings_differ(plan, &grade.findings, findings, HIGH, 0))
-        }
+        Survival::Ungraded(grade) => { Ok(findings_differ(plan, &grade.findings, findings, HIGH)) }
     }
 }

@@ -48,7 +48,7 @@ impl OutageWork {
 /// none, what its outages cut off.
 fn put_all(alloc: Global, plan: &Plan, work: &mut OutageWork) -> Result<(), NoMemory> {
     survey_codes(alloc, plan, &mut work.steps, &mut work.surveys)?;
-    put_wanted(plan, &work.surveys, HIGH, 0, &mut work.findings)?;
+    put_wanted(plan, &work.surveys, HIGH, &mut work.findings)?;
     put_failing(plan, &mut work.failing)?;
     put_risks(plan, &work.failing, &mut work.risks)?;
     if work.findings.is_empty() {
@@ -77,8 +77,7 @@ fn judge_plan(
     put_all(alloc, plan, work)?;
     if let Some(difference) = outages_differ(alloc, plan, work)? {
         work.differs = Some(WalksDiffer {
-            limit: HIGH,
-            spare: 0,
+            limits: HIGH,
             difference,
         });
         return Err(Stop::Differs);

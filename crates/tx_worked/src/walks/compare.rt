@@ -3,7 +3,7 @@ use crate::walks::survey::Survey;
 use crate::walks::trail::{Trail, is_walk};
 use crate::walks::wanted::Wanted;
 use tx_cert::Cert;
-use tx_plan::{CodeId, ExchangeId, Plan};
+use tx_plan::{CodeId, ExchangeId, Limits, Plan};
 use tx_rank::Finding;
 
 /// How an answer differs from what the walks show.
@@ -46,29 +46,22 @@ pub enum Difference {
 }
 
 /// Whether a walk is one for a code, with what is wanted wrong.
-fn is_wrong(
-    plan: &Plan,
-    code: CodeId,
-    trail: &Trail<'_>,
-    wanted: Wanted,
-    limit: u8,
-    spare: u8,
-) -> bool {
+fn is_wrong(plan: &Plan, code: CodeId, trail: &Trail<'_>, wanted: Wanted, limits: Limits) -> bool {
     is_walk(plan, code, trail)
         && match wanted {
             Wanted::Ambiguous(_, _) => false,
             Wanted::Loop(_) => trail.is_loop(),
             Wanted::Short(_, end, steps) => {
-                trail.is_short(plan, code, spare)
+                trail.is_short(plan, code, limits.spare)
                     && trail.end() == end
                     && trail.steps.len() == steps
             }
-            Wanted::Long(_) => trail.is_long(plan, code, limit),
+            Wanted::Long(_) => trail.is_long(plan, code, limits.limit),
         }
 }
 
 /// Whether a finding is the one that is wanted: its walk is one for its code, with this wrong.
-pub fn shows(plan: &Plan, finding: &Finding, wanted: Wanted, limit: u8, spare: u8) -> bool {
+pub fn shows(plan: &Plan, finding: &Finding, wanted: Wanted, limits: Limits) -> bool {
     match (finding, wanted) {
         (Finding::Ambiguous(shorter, longer), Wanted::Ambiguous(first, second)) => {
             *shorter == first && *longer == second
@@ -76,7 +69,7 @@ pub fn shows(plan: &Plan, finding: &Finding, wanted: Wanted, limit: u8, spare: u
         (Finding::Loop(code, walk), Wanted::Loop(of))
         | (Finding::Short(code, walk), Wanted::Short(of, _, _))
         | (Finding::Long(code, walk), Wanted::Long(of)) => {
-            *code == of && is_wrong(plan, of, &Trail::of(walk), wanted, limit, spare)
+            *code == of && is_wrong(plan, of, &Trail::of(walk), wanted, limits)
         }
         _ => false,
     }
@@ -87,14 +80,13 @@ pub fn findings_differ(
     plan: &Plan,
     findings: &[Finding],
     wanted: &[Wanted],
-    limit: u8,
-    spare: u8,
+    limits: Limits,
 ) -> Option<Difference> {
     if wanted.is_empty() || findings.len() != wanted.len() {
         return Some(Difference::Count);
     }
     for place in 0..wanted.len() {
-        if !shows(plan, &findings[place], wanted[place], limit, spare) {
+        if !shows(plan, &findings[place], wanted[place], limits) {
             return Some(Difference::FindingAt(place));
         }
     }

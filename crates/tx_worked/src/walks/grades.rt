@@ -3,7 +3,7 @@ use crate::walks::compare::findings_differ;
 use crate::walks::survey::Survey;
 use crate::walks::wanted::{Wanted, put_code, put_wanted};
 use std::alloc::Global;
-use tx_plan::{CodeId, Plan};
+use tx_plan::{CodeId, Limits, Plan};
 use tx_rank::{Bounds, Finding, Grade, grade};
 use tx_text::NoMemory;
 
@@ -16,9 +16,9 @@ const LIMITS: [u8; 5] = [0, 1, 2, 3, HIGH];
 const SPARES: [u8; 5] = [0, 1, 2, 3, 15];
 
 /// Whether a limit and a spare number keep to a grade.
-fn keeps(grade: Option<Bounds>, limit: u8, spare: u8) -> bool {
+fn keeps(grade: Option<Bounds>, limits: Limits) -> bool {
     match grade {
-        Some(bounds) => bounds.limit <= u16::from(limit) && spare <= bounds.spare,
+        Some(bounds) => bounds.limit <= u16::from(limits.limit) && limits.spare <= bounds.spare,
         None => false,
     }
 }
@@ -28,14 +28,13 @@ fn codes_agree(
     plan: &Plan,
     surveys: &[Survey],
     codes: &[(CodeId, Option<Bounds>)],
-    limit: u8,
-    spare: u8,
+    limits: Limits,
     wanted: &mut Vec<Wanted>,
 ) -> Result<bool, NoMemory> {
     for (survey, (code, grade)) in surveys.iter().zip(codes) {
-        put_code(plan, survey, limit, spare, wanted)?;
+        put_code(plan, survey, limits, wanted)?;
         let right = wanted.is_empty();
-        if survey.code != *code || right != keeps(*grade, limit, spare) {
+        if survey.code != *code || right != keeps(*grade, limits) {
             return Ok(false);
         }
     }
@@ -52,10 +51,11 @@ fn bounds_agree(
 ) -> Result<bool, NoMemory> {
     for limit in LIMITS {
         for spare in SPARES {
-            put_wanted(plan, surveys, limit, spare, wanted)?;
+            let limits = Limits::of(limit, spare);
+            put_wanted(plan, surveys, limits, wanted)?;
             let right = wanted.is_empty();
-            if right != keeps(grade.plan, limit, spare)
-                || !codes_agree(plan, surveys, &grade.codes, limit, spare, wanted)?
+            if right != keeps(grade.plan, limits)
+                || !codes_agree(plan, surveys, &grade.codes, limits, wanted)?
             {
                 return Ok(false);
             }
@@ -71,11 +71,11 @@ fn findings_agree(
     findings: &[Finding],
     wanted: &mut Vec<Wanted>,
 ) -> Result<bool, NoMemory> {
-    put_wanted(plan, surveys, HIGH, 0, wanted)?;
+    put_wanted(plan, surveys, Limits::of(HIGH, 0), wanted)?;
     if wanted.is_empty() {
         return Ok(findings.is_empty());
     }
-    Ok(findings_differ(plan, findings, wanted, HIGH, 0).is_none())
+    Ok(findings_differ(plan, findings, wanted, Limits::of(HIGH, 0)).is_none())
 }
 
 /// Whether the grade of a plan is what the walks show.

@@ -1,5 +1,4 @@
 // The plans of families, judged one after another.
-ghost use Rattle.std.specs.Prelude.{◌≤◌};
 ghost use Rattle.std.specs.List.{AllByRecursion};
 ghost use Rattle.tx_rank.specs.Findings.{IsTrueOf};
 
@@ -18,13 +17,18 @@ use crate::walks::wanted::{Wanted, put_wanted};
 use std::alloc::Global;
 use tx_cert::Cert;
 use tx_check::{Verdict, check};
-use tx_plan::Plan;
+use tx_plan::{Limits, Plan};
 use tx_plantext::read_plan;
 use tx_rank::{Finding, Ranking, rank};
 use tx_text::NoMemory;
 
 /// The limits 0 to 2 are tried, and the spare numbers 0 to 2.
 pub const NUMBERS: u8 = 3;
+
+/// How many of them are tried before these.
+pub fn tried_before(limits: Limits) -> usize {
+    usize::from(limits.limit) * usize::from(NUMBERS) + usize::from(limits.spare)
+}
 
 /// What the walks of a plan show, and what a run of its events: one of each kind serves all plans
 /// of a family.
@@ -69,13 +73,9 @@ fn found_differs(
     plan: &Plan,
     surveys: &[Survey],
     cert: &Cert,
-    limit: u8,
-    spare: u8,
-) -> Option<Difference>
-    requires limit { limit ≤ 62 }
-    requires spare { spare ≤ 15 }
-{
-    match check(plan, cert, limit, spare) {
+    limits: Limits,
+) -> Option<Difference> {
+    match check(plan, cert, limits.limit, limits.spare) {
         Verdict::Yes => ranks_differ(plan, surveys, cert),
         Verdict::No(_) => Some(Difference::Refused),
     }
@@ -91,11 +91,10 @@ fn failed_differs(
     told: &mut Replay,
     tally: &mut ScriptTally,
 ) -> Result<Option<Difference>, NoMemory>
-    requires limit { judged.limit ≤ 62 }
-    requires spare { judged.spare ≤ 15 }
-    requires each { AllByRecursion (IsTrueOf plan.now judged.limit judged.spare) findings.now }
+    requires each { AllByRecursion (IsTrueOf plan.now judged.limits.limit judged.limits.spare)
+        findings.now }
 {
-    let difference = findings_differ(plan, findings, wanted, judged.limit, judged.spare);
+    let difference = findings_differ(plan, findings, wanted, judged.limits);
     if difference.is_some() {
         return Ok(difference);
     }
@@ -111,14 +110,11 @@ fn ranking_differs(
     judged: Judged<'_>,
     told: &mut Replay,
     tally: &mut ScriptTally,
-) -> Result<Option<Difference>, NoMemory>
-    requires limit { judged.limit ≤ 62 }
-    requires spare { judged.spare ≤ 15 }
-{
-    match rank(alloc, plan, judged.limit, judged.spare)? {
+) -> Result<Option<Difference>, NoMemory> {
+    match rank(alloc, plan, judged.limits.limit, judged.limits.spare)? {
         Ranking::Found(cert) => {
             if wanted.is_empty() {
-                Ok(found_differs(plan, surveys, &cert, judged.limit, judged.spare))
+                Ok(found_differs(plan, surveys, &cert, judged.limits))
             } else {
                 Ok(Some(Difference::Found))
             }
@@ -136,23 +132,16 @@ fn judge_numbers(
     judged: Judged<'_>,
     work: &mut Work,
     tally: &mut PlanTally,
-) -> Result<(), Stop>
-    requires limit { judged.limit ≤ 62 }
-    requires spare { judged.spare ≤ 15 }
-{
-    let (limit, spare) = (judged.limit, judged.spare);
+) -> Result<(), Stop> {
+    let limits = judged.limits;
     let surveys = work.surveys.as_slice();
-    put_wanted(plan, surveys, limit, spare, &mut work.wanted)?;
+    put_wanted(plan, surveys, limits, &mut work.wanted)?;
     let wanted = work.wanted.as_slice();
     let (told, scripts) = (&mut work.told, &mut tally.scripts);
     if let Some(difference) = ranking_differs(
         alloc, plan, surveys, wanted, judged, told, scripts,
     )? {
-        work.differs = Some(WalksDiffer {
-            limit,
-            spare,
-            difference,
-        });
+        work.differs = Some(WalksDiffer { limits, difference });
         return Err(Stop::Differs);
     }
     if wanted.is_empty() {
@@ -174,8 +163,7 @@ fn judge_plan(
     survey_codes(alloc, plan, &mut work.steps, &mut work.surveys)?;
     if !grade_agrees(alloc, plan, &work.surveys, &mut work.wanted)? {
         work.differs = Some(WalksDiffer {
-            limit: 0,
-            spare: 0,
+            limits: Limits::of(0, 0),
             difference: Difference::Grade,
         });
         return Err(Stop::Differs);
@@ -183,7 +171,8 @@ fn judge_plan(
     tally.plans = tally.plans.saturating_add(1);
     for limit in 0..NUMBERS {
         for spare in 0..NUMBERS {
-            let judged = Judged { text, limit, spare };
+            let limits = Limits::of(limit, spare);
+            let judged = Judged { text, limits };
             judge_numbers(alloc, plan, judged, work, tally)?;
         }
     }

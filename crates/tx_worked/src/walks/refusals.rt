@@ -1,5 +1,4 @@
 // Lack of memory where the events of a finding are made.
-ghost use Rattle.std.specs.Prelude.{◌≤◌};
 ghost use Rattle.std.specs.List.{AllByRecursion};
 ghost use Rattle.tx_rank.specs.Findings.{IsTrueOf};
 
@@ -28,15 +27,12 @@ fn try_findings<A: Allocator + Copy>(
     alloc: A,
     plan: &Plan<A>,
     findings: &[Finding<A>],
-    limit: u8,
-    spare: u8,
+    limits: Limits,
     script: &mut Told,
 ) -> Tried
-    requires limit { limit ≤ 62 }
-    requires spare { spare ≤ 15 }
-    requires each { AllByRecursion (IsTrueOf plan.now limit spare) findings.now }
+    requires each { AllByRecursion (IsTrueOf plan.now limits.limit limits.spare) findings.now }
 {
-    match first_counter(alloc, plan, findings, Limits::of(limit, spare)) {
+    match first_counter(alloc, plan, findings, limits) {
         Ok(Some(events)) => {
             let is_told = write_counter(plan, events.as_slice(), script).is_ok();
             if is_told { Tried::Made } else { Tried::Wrong }
@@ -49,17 +45,11 @@ fn try_findings<A: Allocator + Copy>(
 fn try_plan<A: Allocator + Copy>(
     alloc: A,
     plan: &Plan<A>,
-    limit: u8,
-    spare: u8,
+    limits: Limits,
     script: &mut Told,
-) -> Tried
-    requires limit { limit ≤ 62 }
-    requires spare { spare ≤ 15 }
-{
-    match rank(alloc, plan, limit, spare) {
-        Ok(Ranking::Fails(findings)) => {
-            try_findings(alloc, plan, &findings, limit, spare, script)
-        }
+) -> Tried {
+    match rank(alloc, plan, limits.limit, limits.spare) {
+        Ok(Ranking::Fails(findings)) => { try_findings(alloc, plan, &findings, limits, script) }
         Ok(Ranking::Found(_)) | Err(_) => Tried::Early,
     }
 }
@@ -67,15 +57,11 @@ fn try_plan<A: Allocator + Copy>(
 fn try_text<A: Allocator + Copy>(
     alloc: A,
     text: &[u8],
-    limit: u8,
-    spare: u8,
+    limits: Limits,
     script: &mut Told,
-) -> Tried
-    requires limit { limit ≤ 62 }
-    requires spare { spare ≤ 15 }
-{
+) -> Tried {
     match read_plan(alloc, text) {
-        Ok(plan) => try_plan(alloc, &plan, limit, spare, script),
+        Ok(plan) => try_plan(alloc, &plan, limits, script),
         Err(_) => Tried::Early,
     }
 }
@@ -83,15 +69,12 @@ fn try_text<A: Allocator + Copy>(
 /// Refuses each request for memory in turn, from the plan's first one on, where the events of the
 /// first finding that has some are made. Whether each that was refused is told, and the events'
 /// script is this one where none is.
-pub fn refusals_are_told(alloc: Global, text: &[u8], limit: u8, spare: u8, wanted: &[u8]) -> bool
-    requires limit { limit ≤ 62 }
-    requires spare { spare ≤ 15 }
-{
+pub fn refusals_are_told(alloc: Global, text: &[u8], limits: Limits, wanted: &[u8]) -> bool {
     let mut has_told = false;
     for request in 1..1000u64 {
         let heap = Refusing::new(alloc, request);
         let mut script = Told::new(alloc);
-        let tried = try_text(&heap, text, limit, spare, &mut script);
+        let tried = try_text(&heap, text, limits, &mut script);
         match (tried, heap.has_refused()) {
             (Tried::Early, true) => {}
             (Tried::Told, true) => has_told = true,

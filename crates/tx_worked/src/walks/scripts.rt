@@ -1,5 +1,4 @@
 // The events of each finding, run over a network, beside what they have to show.
-ghost use Rattle.std.specs.Prelude.{◌≤◌};
 ghost use Rattle.std.specs.List.{AllByRecursion};
 ghost use Rattle.tx_rank.specs.Findings.{IsTrueOf};
 ghost use Rattle.tx_script.specs.Events.{IsWritable};
@@ -116,24 +115,18 @@ fn transits(plan: &Plan, code: CodeId, passed: &[ExchangeId]) -> usize {
 }
 
 /// Whether a run of some events, of which none was refused, shows the finding.
-fn shows(
-    plan: &Plan,
-    finding: &Finding,
-    events: &[Event],
-    told: &Replay,
-    limit: u8,
-    spare: u8,
-) -> bool {
+fn shows(plan: &Plan, finding: &Finding, events: &[Event], told: &Replay, limits: Limits) -> bool {
     let passed = told.passed.as_slice();
     match finding {
         Finding::Ambiguous(_, _) => false,
         Finding::Loop(code, _) => keys_code(plan, *code, events) && comes_back(passed),
         Finding::Short(code, _) => {
             keys_code(plan, *code, events)
-                && is_bare(plan, *code, passed, told.replies.last(), spare)
+                && is_bare(plan, *code, passed, told.replies.last(), limits.spare)
         }
         Finding::Long(code, _) => {
-            keys_code(plan, *code, events) && transits(plan, *code, passed) > usize::from(limit)
+            keys_code(plan, *code, events)
+                && transits(plan, *code, passed) > usize::from(limits.limit)
         }
     }
 }
@@ -144,15 +137,14 @@ fn runs_and_shows(
     plan: &Plan,
     finding: &Finding,
     events: &[Event],
-    limit: u8,
-    spare: u8,
+    limits: Limits,
     told: &mut Replay,
 ) -> Result<bool, NoMemory> {
     run_events(alloc, plan, events, told)?;
     if told.replies.len() != events.len() || has_refused(told.replies.as_slice()) {
         return Ok(false);
     }
-    Ok(shows(plan, finding, events, told, limit, spare))
+    Ok(shows(plan, finding, events, told, limits))
 }
 
 /// Whether a finding has the events that it has to have, or rightly none.
@@ -160,15 +152,14 @@ pub fn is_right(
     alloc: Global,
     plan: &Plan,
     finding: &Finding,
-    limit: u8,
-    spare: u8,
+    limits: Limits,
     told: &mut Replay,
 ) -> Result<bool, NoMemory>
-    requires { IsTrueOf plan.now limit spare finding.now }
+    requires { IsTrueOf plan.now limits.limit limits.spare finding.now }
 {
-    match counter(alloc, plan, finding, limit, spare)? {
+    match counter(alloc, plan, finding, limits.limit, limits.spare)? {
         Some(events) => {
-            let shows = runs_and_shows(alloc, plan, finding, &events, limit, spare, told)?;
+            let shows = runs_and_shows(alloc, plan, finding, &events, limits, told)?;
             Ok(shows && has_script(plan, finding))
         }
         None => Ok(!has_script(plan, finding)),
@@ -180,16 +171,15 @@ fn wrong_finding(
     alloc: Global,
     plan: &Plan,
     findings: &[Finding],
-    limit: u8,
-    spare: u8,
+    limits: Limits,
     told: &mut Replay,
     tally: &mut ScriptTally,
 ) -> Result<Option<usize>, NoMemory>
-    requires { AllByRecursion (IsTrueOf plan.now limit spare) findings.now }
+    requires { AllByRecursion (IsTrueOf plan.now limits.limit limits.spare) findings.now }
 {
     for place in 0..findings.len() {
         let finding = &findings[place];
-        if !is_right(alloc, plan, finding, limit, spare, told)? {
+        if !is_right(alloc, plan, finding, limits, told)? {
             return Ok(Some(place));
         }
         tally.add(finding);
@@ -197,25 +187,22 @@ fn wrong_finding(
     Ok(None)
 }
 
-/// What is judged beside the findings: the text of the plan, and a limit and a spare number.
+/// What is judged beside the findings: the text of the plan, and limits.
 #[derive(Clone, Copy)]
 pub struct Judged<'a> {
     pub text: &'a [u8],
-    pub limit: u8,
-    pub spare: u8,
+    pub limits: Limits,
 }
 
 /// Whether the script of the events is one of these events, and lack of memory is told where they
 /// are made.
 fn holds_as_sample(alloc: Global, plan: &Plan, judged: Judged<'_>, events: &[Event]) -> bool
-    requires limit { judged.limit ≤ 62 }
-    requires spare { judged.spare ≤ 15 }
     requires writable { AllByRecursion (IsWritable plan.now) events.now }
 {
     let script = script_of(alloc, plan, events);
     let text = script.text();
     reads_back(alloc, judged.text, text, events.len())
-        && refusals_are_told(alloc, judged.text, judged.limit, judged.spare, text)
+        && refusals_are_told(alloc, judged.text, judged.limits, text)
 }
 
 /// Whether the events of the first finding that has some show the first that has to have some. Of a
@@ -230,8 +217,6 @@ fn are_first(
     told: &mut Replay,
     tally: &mut ScriptTally,
 ) -> Result<bool, NoMemory>
-    requires limit { judged.limit ≤ 62 }
-    requires spare { judged.spare ≤ 15 }
     requires writable { AllByRecursion (IsWritable plan.now) events.now }
 {
     let Some(finding) = first_with_script(plan, findings) else {
@@ -240,15 +225,7 @@ fn are_first(
     if tally.is_sample() && !holds_as_sample(alloc, plan, judged, events) {
         return Ok(false);
     }
-    runs_and_shows(
-        alloc,
-        plan,
-        finding,
-        events,
-        judged.limit,
-        judged.spare,
-        told,
-    )
+    runs_and_shows(alloc, plan, finding, events, judged.limits, told)
 }
 
 /// Whether the first finding that has to have events has them, or rightly none has.
@@ -260,16 +237,10 @@ fn is_first_right(
     told: &mut Replay,
     tally: &mut ScriptTally,
 ) -> Result<bool, NoMemory>
-    requires limit { judged.limit ≤ 62 }
-    requires spare { judged.spare ≤ 15 }
-    requires each { AllByRecursion (IsTrueOf plan.now judged.limit judged.spare) findings.now }
+    requires each { AllByRecursion (IsTrueOf plan.now judged.limits.limit judged.limits.spare)
+        findings.now }
 {
-    match first_counter(
-        alloc,
-        plan,
-        findings,
-        Limits::of(judged.limit, judged.spare),
-    )? {
+    match first_counter(alloc, plan, findings, judged.limits)? {
         Some(events) => are_first(alloc, plan, findings, &events, judged, told, tally),
         None => Ok(first_with_script(plan, findings).is_none()),
     }
@@ -284,12 +255,11 @@ pub fn scripts_differ(
     told: &mut Replay,
     tally: &mut ScriptTally,
 ) -> Result<Option<Difference>, NoMemory>
-    requires limit { judged.limit ≤ 62 }
-    requires spare { judged.spare ≤ 15 }
-    requires each { AllByRecursion (IsTrueOf plan.now judged.limit judged.spare) findings.now }
+    requires each { AllByRecursion (IsTrueOf plan.now judged.limits.limit judged.limits.spare)
+        findings.now }
 {
-    let (limit, spare) = (judged.limit, judged.spare);
-    if let Some(place) = wrong_finding(alloc, plan, findings, limit, spare, told, tally)? {
+    let limits = judged.limits;
+    if let Some(place) = wrong_finding(alloc, plan, findings, limits, told, tally)? {
         return Ok(Some(Difference::ScriptAt(place)));
     }
     if !is_first_right(alloc, plan, findings, judged, told, tally)? {

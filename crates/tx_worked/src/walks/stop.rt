@@ -1,12 +1,12 @@
 // Why the plans of a family, or their pairs, mendings or outages, are judged no further.
 use crate::cases::{Stop, Told, tell, tell_count};
 use crate::walks::compare::Difference;
+use tx_plan::Limits;
 
 /// For which limit and spare number an answer differs from what the walks show, and how.
 #[derive(Clone, Copy)]
 pub struct WalksDiffer {
-    pub limit: u8,
-    pub spare: u8,
+    pub limits: Limits,
     pub difference: Difference,
 }
 
@@ -35,8 +35,8 @@ fn said(difference: Difference) -> (&'static [u8], u64) {
 
 /// Tells for which numbers an answer differs, and how.
 fn tell_differs(differs: &WalksDiffer, out: &mut Told) {
-    tell_count(b"limit ", u64::from(differs.limit), b", ", out);
-    tell_count(b"spare ", u64::from(differs.spare), b": ", out);
+    tell_count(b"limit ", u64::from(differs.limits.limit), b", ", out);
+    tell_count(b"spare ", u64::from(differs.limits.spare), b": ", out);
     let (word, place) = said(differs.difference);
     tell_count(word, place, b"\n", out);
 }

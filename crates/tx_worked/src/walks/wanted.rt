@@ -1,6 +1,6 @@
 // The findings that the walks call for.
 use crate::walks::survey::Survey;
-use tx_plan::{CodeId, ExchangeId, Plan};
+use tx_plan::{CodeId, ExchangeId, Limits, Plan};
 use tx_text::NoMemory;
 
 /// A finding that there is to be.
@@ -90,16 +90,15 @@ fn add_shorts(
 fn add_code(
     plan: &Plan,
     survey: &Survey,
-    limit: u8,
-    spare: u8,
+    limits: Limits,
     wanted: &mut Vec<Wanted>,
 ) -> Result<(), NoMemory> {
     if survey.has_loop {
         wanted.push(Wanted::Loop(survey.code))?;
         return Ok(());
     }
-    add_shorts(plan, survey, spare, wanted)?;
-    if survey.has_long(limit) {
+    add_shorts(plan, survey, limits.spare, wanted)?;
+    if survey.has_long(limits.limit) {
         wanted.push(Wanted::Long(survey.code))?;
     }
     Ok(())
@@ -109,20 +108,18 @@ fn add_code(
 pub fn put_code(
     plan: &Plan,
     survey: &Survey,
-    limit: u8,
-    spare: u8,
+    limits: Limits,
     wanted: &mut Vec<Wanted>,
 ) -> Result<(), NoMemory> {
     wanted.clear();
-    add_code(plan, survey, limit, spare, wanted)
+    add_code(plan, survey, limits, wanted)
 }
 
 /// Makes the list of all findings, in order.
 pub fn put_wanted(
     plan: &Plan,
     surveys: &[Survey],
-    limit: u8,
-    spare: u8,
+    limits: Limits,
     wanted: &mut Vec<Wanted>,
 ) -> Result<(), NoMemory> {
     wanted.clear();
@@ -130,7 +127,7 @@ pub fn put_wanted(
         wanted.push(finding)?;
     }
     for survey in surveys {
-        add_code(plan, survey, limit, spare, wanted)?;
+        add_code(plan, survey, limits, wanted)?;
     }
     Ok(())
 }

@@ -1,13 +1,12 @@
-use Rattle.std.proofs.Common.{◌∙◌, sym, ap, subst, arith, List, Option}
+use Rattle.std.proofs.Common.{◌∙◌, sym, ap, arith}
 use Rattle.std.specs.Prelude.{is_some}
-use Rattle.std.specs.List.{AllByRecursion, list_any}
-use Rattle.std.specs.Option.{IfSome, option_map}
+use Rattle.std.specs.List.{list_any}
+use Rattle.std.specs.Option.{option_map}
 use Rattle.std.proofs.lemmas.List.{drop_all}
 use Rattle.tx_rank.specs.Findings.{IsTrueOf}
-use Rattle.tx_script.specs.Events.{IsWritable}
 use Rattle.tx_audit.specs.Counter.{has_counter, first_counter_of}
-use Rattle.tx_audit.specs.Breaks.{Shows}
-use Rattle.tx_audit.proofs.Firsts.{first_here, first_past, any_here, any_past, listed_at}
+use Rattle.tx_audit.proofs.Firsts.{first_here, first_past, any_here, any_past}
+use Rattle.tx_plan.proofs.Among.{among_at}
 use Rattle.tx_audit.proofs.Loops.{one_of_all}
 use Rattle.tx_audit.proofs.first.first_counter.Goals as goal
 
@@ -41,7 +40,7 @@ returns-in-Some-clause-shows g c =
     let f = c.finding-item.result in
     record {
       finding = f;
-      listed = listed_at c.args.findings.now c.loop-finding.finding-index f (omega arith) c.finding-item.is;
+      listed = among_at c.args.findings.now c.loop-finding.finding-index f (omega arith) c.finding-item.is;
       shows = rw c.in-Some.is at c.in_ok-events.ensures.shows;
     }
 

@@ -3,7 +3,7 @@ use Rattle.clap.specs.Words.{rule_of, with_rule}
 use Rattle.tx_commands.specs.Grammar as grammar
 use Rattle.tx_commands.specs.inner.Takes.{Takes}
 use Rattle.tx_commands.proofs.Grammars.{needs}
-use Rattle.tx_commands.proofs.arguments.Words.limits.Goals as goal
+use Rattle.tx_commands.proofs.arguments.Syntax.limits.Goals as goal
 
 pub returns : goal.returns
 returns c = λ app is.
