@@ -312,13 +312,11 @@ pub(crate) fn route_entry<A: Allocator>(
         (λ e. first_true (route_refusals plan.now exchange.now code.now groups.entry) ≡ Some e) }
     ensures ok { OnOk result
         (first_true (route_refusals plan.now exchange.now code.now groups.entry) ≡ None) }
-    ensures entry { IfOk result (λ e. (e.0, e.1.items) ≡ (
-      record {
-        exchange = exchange_at plan.now exchange.now;
-        code = code_at plan.now code.now;
-      },
-      map (group_at plan.now) groups.entry,
-    )) }
+    ensures pair { IfOk result (λ e. e.0 ≡ record {
+      exchange = exchange_at plan.now exchange.now;
+      code = code_at plan.now code.now;
+    }) }
+    ensures groups { IfOk result (λ e. e.1.items ≡ map (group_at plan.now) groups.entry) }
     ensures fresh { IfOk result (λ e. has_route plan.now e.0.exchange e.0.code ≡ false) }
 {
     let pair = plan.pair_named(exchange, code);
