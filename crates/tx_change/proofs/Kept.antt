@@ -1,5 +1,5 @@
 -- Members of a list that are kept, one place after another.
-use Rattle.std.proofs.Common.{◌≡◌, ◌≢◌, ℕ, zero, suc, ◌+◌, ◌≤◌, ◌==◌, Bool, true, false, not, cond, ◌&&◌, ◌||◌, List, [], ◌∷◌, ◌++◌, length, take, Option, Some, None, Result, Ok, Err, OnOk, IfOk, inl, inr, eqb-true, refl, sym, ap, ◌∙◌, arith, append_assoc}
+use Rattle.std.proofs.Common.{◌≡◌, ◌≢◌, ℕ, zero, suc, ◌+◌, ◌==◌, Bool, true, false, not, cond, ◌&&◌, ◌||◌, List, [], ◌∷◌, ◌++◌, take, Option, Some, None, Result, Ok, Err, OnOk, IfOk, inl, inr, eqb-true, refl, sym, ap, ◌∙◌, arith, append_assoc}
 use mathlib.Core.Bool.{beq}
 use Rattle.std.specs.Prelude.{filter, slice_get}
 use Rattle.std.specs.Option.{option_map}
@@ -7,13 +7,11 @@ use Rattle.std.specs.List.{list_any}
 use Rattle.std.proofs.lemmas.Bool.{ne_eqb, cases_eq, and_left, and_right, and_parts}
 use Rattle.tx_plan.specs.declared.ids.Pair.{Pair}
 use Rattle.tx_plan.specs.Plan.{Plan, Route}
-use Rattle.tx_plan.specs.Rules.{EachPair, IsRoute, IsPlan}
+use Rattle.tx_plan.specs.Rules.{EachPair, IsPlan}
 use Rattle.tx_plan.specs.Routes.{route_list}
 use Rattle.tx_plan.specs.Mixed.{is_route_there, is_bar_there}
 use Rattle.tx_plan.proofs.Filtered.{any_out}
 use Rattle.tx_plan.proofs.ListFound.{list_found}
-use Rattle.tx_rank.proofs.Ways.{all_among}
-use Rattle.tx_rank.proofs.Looks.{among_at}
 use Rattle.tx_machine.proofs.Lists.{at_place}
 use Rattle.tx_change.specs.inner.Kept.{keeps, kept_alone, has_route_as, has_bar_as}
 
@@ -130,9 +128,6 @@ route_is p ok i at e = by_get (slice_get p.routes i) refl e
         let listed : route_list p r.exchange r.code ≡ r.groups = list_found p i r ok g in
         let from : route_list p at.0 at.1 ≡ r.groups = (λ k. route_list p (same k).0 (same k).1) ∙ listed in
         ap (λ k. Some k) (λ k. record { exchange = (sym same k).0; code = (sym same k).1; groups = sym from k })
-
-pub route_few : (p : Plan) → IsPlan p → (i : ℕ) (r : Route) → slice_get p.routes i ≡ Some r → length r.groups ≤ 16
-route_few p ok i r e = (all_among (IsRoute p) p.routes r ok.routes (among_at p.routes i r e)).few
 
 -- an entry was added, and it is the one that is kept
 pub entry_added : {A E : Type 0} (s : A → Bool) (o : Option A) (x y : A) (old new : List A) (result : Result (Unit {0}) E) → OnOk result (new ≡ old ++ y ∷ []) → y ≡ x → o ≡ Some x → s x ≡ true → IfOk result (λ _. new ≡ old ++ kept_alone s o)

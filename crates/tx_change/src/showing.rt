@@ -1,5 +1,5 @@
 // The mixture that a finding shows.
-ghost use Rattle.std.specs.Prelude.{◌≡◌, ◌≤◌, ◌++◌, true, false, length, slice_get, Some, IfOk, filter};
+ghost use Rattle.std.specs.Prelude.{◌≡◌, ◌++◌, true, false, slice_get, Some, IfOk, filter};
 ghost use Rattle.tx_plan.specs.declared.ids.Pair.{Pair as Bar};
 ghost use Rattle.tx_plan.specs.Plan.{Route};
 ghost use Rattle.tx_plan.specs.Among.{Among};
@@ -10,7 +10,7 @@ ghost use Rattle.tx_change.specs.inner.Kept.{listed, barred, keeps_route, keeps_
 
 use crate::taking::Taking;
 use std::alloc::Allocator;
-use tx_plan::{Bars, CodeId, GroupId, GroupList, Pair, Plan, Routes};
+use tx_plan::{Bars, CodeId, Pair, Plan, Routes};
 use tx_rank::{Finding, Walk};
 use tx_text::NoMemory;
 
@@ -112,23 +112,10 @@ fn add_route<A: Allocator>(
             if taking.has_list(exchange, code) != from_new {
                 return Ok(());
             }
-            let groups = list_of(from.list(exchange, code));
-            routes.add(Pair { exchange, code }, groups)
+            routes.add(Pair { exchange, code }, from.group_list(exchange, code))
         }
         None => Ok(()),
     }
-}
-
-/// The groups of a list.
-fn list_of(groups: &[GroupId]) -> GroupList
-    requires { length groups.now ≤ 16 }
-    ensures { result ≡ groups.now }
-{
-    let mut list = GroupList::new();
-    for i in 0..groups.len() {
-        list.push(groups[i]);
-    }
-    list
 }
 
 /// The old bars and the new ones that are in the mixture.

@@ -1,6 +1,6 @@
 -- Steps of loops over groups, by what is left.
-use Rattle.std.proofs.Common.{◌≡◌, ℕ, suc, ◌+◌, ◌<◌, Bool, true, false, cond, ◌&&◌, nat_lt, List, [], ◌∷◌, ◌++◌, length, get_or, drop, refl, sym, ap, ◌∙◌, arith, add-one, drop-cons, append_assoc, lt-ltb}
-use Rattle.std.specs.Prelude.{filter, if◌then◌else◌}
+use Rattle.std.proofs.Common.{◌≡◌, ℕ, suc, ◌+◌, ◌<◌, Bool, true, false, cond, ◌&&◌, List, [], ◌∷◌, ◌++◌, length, get_or, drop, refl, sym, ap, ◌∙◌, arith, add-one, drop-cons, append_assoc}
+use Rattle.std.specs.Prelude.{filter}
 use Rattle.std.specs.List.{list_all}
 use mir.Val.{bool_byte}
 use Rattle.tx_mend.specs.Lists.{put, filled}
@@ -32,10 +32,6 @@ module _ (xs : List ℕ) (i x : ℕ) (h : i < length xs) (e : x ≡ get_or xs i 
 
     pub keep_passed : (new : List ℕ) → t x ≡ false → new ≡ list → new ++ filter t (drop (i + 1) xs) ≡ all
     keep_passed new k n = ap (λ l. l ++ filter t (drop (i + 1) xs)) n ∙ ap (λ l. list ++ l) (sym (filter_step t false k)) ∙ a
-
--- there is room for one more of at most 16
-pub room : (list new : List ℕ) (x : ℕ) → length list < 16 → new ≡ (if nat_lt (length list) 16 then list ++ x ∷ [] else list) → new ≡ list ++ x ∷ []
-room list new x h e = e ∙ ap (λ b. if b then list ++ x ∷ [] else list) (lt-ltb (length list) 16 h)
 
 pub filled_append : (spare : ℕ) (list a b : List ℕ) → filled spare list (a ++ b) ≡ filled spare (filled spare list a) b
 filled_append spare list [] b = refl

@@ -2,7 +2,6 @@
 ghost use Rattle.std.specs.Prelude.{◌≡◌, ℕ, List, IfOk, filter};
 ghost use Rattle.tx_mend.specs.inner.Full.{stays};
 
-use crate::filling::present_list;
 use std::alloc::Allocator;
 use tx_cert::Cert;
 use tx_plan::{Bars, CodeId, ExchangeId, Pair, Plan, Routes};
@@ -16,7 +15,7 @@ pub fn routes_of<A: Allocator + Copy>(alloc: A, plan: &Plan<A>) -> Result<Routes
     for place in 0..plan.routes() {
         match plan.route_at(place) {
             Some((exchange, code)) => {
-                let list = present_list(plan, code, exchange);
+                let list = plan.group_list(exchange, code);
                 routes.add(Pair { exchange, code }, list)?;
             }
             None => unreachable!(),
@@ -71,7 +70,7 @@ pub fn staying_routes<A: Allocator + Copy>(
         match plan.route_at(place) {
             Some((exchange, code)) => {
                 if is_staying(before, cert, exchange, code) {
-                    let list = present_list(plan, code, exchange);
+                    let list = plan.group_list(exchange, code);
                     routes.add(Pair { exchange, code }, list)?;
                 }
             }

@@ -1,6 +1,5 @@
 // The list of an exchange.
-ghost use Rattle.std.specs.Prelude.{◌≡◌, ◌==◌, ◌<◌, ℕ, Option, map, length, filter};
-ghost use Rattle.std.specs.List.{list_any};
+ghost use Rattle.std.specs.Prelude.{◌≡◌, ◌<◌, ℕ, Option, length, filter};
 ghost use Rattle.tx_plan.specs.Routes.{route_list};
 ghost use Rattle.tx_mend.specs.LeastRanks.{outgoing};
 ghost use Rattle.tx_mend.specs.Lists.{put, filled, leads_below, leads_to, groups_below, list_of_rank, full_list};
@@ -13,27 +12,11 @@ use crate::outgoing::groups_at;
 use std::alloc::Allocator;
 use tx_plan::{CodeId, ExchangeId, GroupId, GroupList, Limits, Plan};
 
-/// Whether the group is in the list.
-fn stands(list: &GroupList, group: GroupId) -> bool
-    ensures { result ≡ list_any (λ h. h == group) list.now }
-{
-    let groups = list.groups();
-    for other in groups {
-        if *other == group {
-            return true;
-        }
-    }
-    false
-}
-
 /// Appends a group, unless it is there already or there are more than `spare`.
 fn put(list: &mut GroupList, group: GroupId, limits: Limits)
-    ensures { list.new ≡ put limits.spare list.old group }
+    ensures { list.new.items ≡ put limits.spare list.old.items group }
 {
-    if list.groups().len() > usize::from(limits.spare) {
-        return;
-    }
-    if stands(list, group) {
+    if list.len() > usize::from(limits.spare) || list.as_slice().contains(&group) {
         return;
     }
     list.push(group);
@@ -51,8 +34,8 @@ fn fill_at<A: Allocator>(
     list: &mut GroupList,
 )
     requires long { length ranks.now ≡ length plan.now.exchanges }
-    ensures { (of : ℕ → Option ℕ) → ranks.now ≡ rank_list plan.now of → list.new
-        ≡ filled limits.spare list.old
+    ensures { (of : ℕ → Option ℕ) → ranks.now ≡ rank_list plan.now of → list.new.items
+        ≡ filled limits.spare list.old.items
         (filter (λ g. leads_to plan.now of rank exchange g) seizable.now) }
 {
     for group in seizable {
@@ -75,11 +58,11 @@ fn fill<A: Allocator>(
 )
     requires seizable { seizable.now ≡ outgoing plan.now exchange }
     requires long { length ranks.now ≡ length plan.now.exchanges }
-    ensures { (of : ℕ → Option ℕ) → ranks.now ≡ rank_list plan.now of
-        → list.new ≡ filled limits.spare list.old (groups_below plan.now of rank exchange) }
+    ensures { (of : ℕ → Option ℕ) → ranks.now ≡ rank_list plan.now of → list.new.items
+        ≡ filled limits.spare list.old.items (groups_below plan.now of rank exchange) }
 {
     for lower in 0..rank {
-        if list.groups().len() > usize::from(limits.spare) {
+        if list.len() > usize::from(limits.spare) {
             return;
         }
         fill_at(plan, seizable, ranks, exchange, lower, limits, list);
@@ -96,7 +79,7 @@ fn kept_below<A: Allocator>(
 ) -> GroupList
     requires { length ranks.now ≡ length plan.now.exchanges }
     ensures { (of : ℕ → Option ℕ) → ranks.now ≡ rank_list plan.now of
-        → result ≡ filter (λ g. leads_below plan.now of rank exchange g)
+        → result.items ≡ filter (λ g. leads_below plan.now of rank exchange g)
         (route_list plan.now exchange code) }
 {
     let mut list = GroupList::new();
@@ -105,18 +88,6 @@ fn kept_below<A: Allocator>(
         if leads_below(plan, ranks, exchange, rank, *group) {
             list.push(*group);
         }
-    }
-    list
-}
-
-/// The groups of the present list.
-pub fn present_list<A: Allocator>(plan: &Plan<A>, code: CodeId, exchange: ExchangeId) -> GroupList
-    ensures { result ≡ route_list plan.now exchange code }
-{
-    let mut list = GroupList::new();
-    let present = plan.list(exchange, code);
-    for group in present {
-        list.push(*group);
     }
     list
 }
@@ -134,7 +105,7 @@ fn list_by_ranks<A: Allocator>(
     requires long { length ranks.now ≡ length plan.now.exchanges }
     requires exchange { exchange < length plan.now.exchanges }
     ensures { (of : ℕ → Option ℕ) → ranks.now ≡ rank_list plan.now of
-        → result ≡ list_of_rank plan.now of code limits.spare exchange (of exchange) }
+        → result.items ≡ list_of_rank plan.now of code limits.spare exchange (of exchange) }
 {
     match ranks[exchange.index()] {
         Some(rank) => {
@@ -154,11 +125,11 @@ pub fn full_list<A: Allocator>(
 ) -> GroupList
     requires code { code < length basis.now.plan.now.codes }
     requires exchange { exchange < length basis.now.plan.now.exchanges }
-    ensures { result ≡ full_list basis.now.plan.now
+    ensures { result.items ≡ full_list basis.now.plan.now
         basis.now.limits.limit basis.now.limits.spare code exchange }
 {
     match least_at(basis.table, code.index()) {
-        None => present_list(basis.plan, code, exchange),
+        None => basis.plan.group_list(exchange, code),
         Some(ranks) => list_by_ranks(
             basis.plan,
             groups_at(basis.seizable, exchange),

@@ -20,9 +20,9 @@ fn add_route<A: Allocator>(
 ) -> Result<(), NoMemory>
     requires { list_any (λ r. (r.exchange == exchange) && (r.code == code)) routes.old
         ≡ false }
-    ensures { OnOk result (routes.new ≡ routes.old ++ route_if (exchange, code) list) }
+    ensures { OnOk result (routes.new ≡ routes.old ++ route_if (exchange, code) list.items) }
 {
-    if list.groups().is_empty() {
+    if list.is_empty() {
         return Ok(());
     }
     routes.add(Pair { exchange, code }, list)

@@ -4,6 +4,7 @@ use Rattle.std.specs.Prelude.{find}
 use Rattle.std.specs.List.{list_any}
 use Rattle.std.specs.Map.{lookup, keys_of}
 use Rattle.std.specs.Option.{option_map_or}
+use Rattle.arrayvec.specs.ArrayVec.{ArrayVec}
 use Rattle.tx_plan.specs.Plan.{Route}
 use Rattle.tx_plan.specs.declared.ids.Pair.{Pair}
 use Rattle.tx_plan.specs.inner.Tables.{route_of_row}
@@ -26,15 +27,15 @@ abbrev pub is_route : Pair → Route → Bool
 is_route p r = (r.exchange == p.exchange) && (r.code == p.code)
 
 -- the test of a pair, at the keys of a map and at the routes that its entries are
-pub any_route : (p : Pair) (es : List (Pair × List ℕ)) → list_any (same_pair p) (keys_of es) ≡ list_any (is_route p) (map route_of_row es)
+pub any_route : (p : Pair) (es : List (Pair × ArrayVec ℕ)) → list_any (same_pair p) (keys_of es) ≡ list_any (is_route p) (map route_of_row es)
 any_route p es = list_any-map (same_pair p) (λ e. e.0) es ∙ ap (λ t. list_any t es) (λ i e. turned p e.0 i) ∙ sym (list_any-map (is_route p) route_of_row es)
 
 -- what a map has for a pair are the groups of its first route
-pub groups_found : (p : Pair) (es : List (Pair × List ℕ)) → option_map_or (λ gs. gs) (lookup (same_pair p) es) [] ≡ option_map_or (λ r. r.groups) (find (is_route p) (map route_of_row es)) []
+pub groups_found : (p : Pair) (es : List (Pair × ArrayVec ℕ)) → option_map_or (λ gs. gs.items) (lookup (same_pair p) es) [] ≡ option_map_or (λ r. r.groups) (find (is_route p) (map route_of_row es)) []
 groups_found p [] = refl
 groups_found p (e ∷ es) = by_test (same_pair p e.0) refl (groups_found p es)
   where
-    by_test : (b : Bool) → same_pair p e.0 ≡ b → option_map_or (λ gs. gs) (lookup (same_pair p) es) [] ≡ option_map_or (λ r. r.groups) (find (is_route p) (map route_of_row es)) []
-        → option_map_or (λ gs. gs) (lookup (same_pair p) (e ∷ es)) [] ≡ option_map_or (λ r. r.groups) (find (is_route p) (map route_of_row (e ∷ es))) []
+    by_test : (b : Bool) → same_pair p e.0 ≡ b → option_map_or (λ gs. gs.items) (lookup (same_pair p) es) [] ≡ option_map_or (λ r. r.groups) (find (is_route p) (map route_of_row es)) []
+        → option_map_or (λ gs. gs.items) (lookup (same_pair p) (e ∷ es)) [] ≡ option_map_or (λ r. r.groups) (find (is_route p) (map route_of_row (e ∷ es))) []
     by_test true h later = rw (h, sym (turned p e.0) ∙ h) refl
     by_test false h later = rw (h, sym (turned p e.0) ∙ h) later

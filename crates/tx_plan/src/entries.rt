@@ -1,5 +1,5 @@
 // What a declaration adds to a plan, or why it is refused.
-ghost use Rattle.std.specs.Prelude.{◌≡◌, ◌≤◌, ◌<◌, Some, None, is_some, true, false, not, map, ◌||◌, ◌&&◌, nat_le, IfSome, IfOk, IfErr, OnOk, length};
+ghost use Rattle.std.specs.Prelude.{◌≡◌, ◌≤◌, ◌<◌, Some, None, is_some, true, false, not, map, ◌||◌, ◌&&◌, nat_le, IfOk, IfErr, OnOk, length};
 ghost use Rattle.std.specs.List.{list_any};
 ghost use Rattle.std.specs.Result.{result_err};
 ghost use Rattle.tx_text.specs.Words.{is_name};
@@ -14,7 +14,7 @@ use crate::plan::Plan;
 use crate::range::LineRange;
 use crate::refusal::PlanRefusal;
 use crate::route_scan::{RouteScan, scan};
-use crate::routes::GroupList;
+use crate::routes::{GroupList, none_twice};
 use std::alloc::Allocator;
 use tx_text::{Words, are_figures, is_name};
 
@@ -265,7 +265,7 @@ fn route_groups<A: Allocator>(
     let once = if scan.many {
         groups.again().none_twice()
     } else {
-        scan.list.none_twice()
+        none_twice(scan.list.as_slice())
     };
     if !once {
         return Err(PlanRefusal::RepeatedGroup);
@@ -312,13 +312,11 @@ pub(crate) fn route_entry<A: Allocator>(
         (λ e. first_true (route_refusals plan.now exchange.now code.now groups.entry) ≡ Some e) }
     ensures ok { OnOk result
         (first_true (route_refusals plan.now exchange.now code.now groups.entry) ≡ None) }
-    ensures entry { IfOk result (λ e. e ≡ (
-      record {
-        exchange = exchange_at plan.now exchange.now;
-        code = code_at plan.now code.now;
-      },
-      map (group_at plan.now) groups.entry,
-    )) }
+    ensures pair { IfOk result (λ e. e.0 ≡ record {
+      exchange = exchange_at plan.now exchange.now;
+      code = code_at plan.now code.now;
+    }) }
+    ensures groups { IfOk result (λ e. e.1.items ≡ map (group_at plan.now) groups.entry) }
     ensures fresh { IfOk result (λ e. has_route plan.now e.0.exchange e.0.code ≡ false) }
 {
     let pair = plan.pair_named(exchange, code);

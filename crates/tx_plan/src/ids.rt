@@ -86,7 +86,7 @@ impl CodeId {
 }
 
 /// A group of circuits of a plan, by its place. An id is foreign to a plan that has no such place.
-#[derive(Clone, Copy, Debug, PartialEq, Eq, Hash)]
+#[derive(Clone, Copy, Debug, Default, PartialEq, Eq, Hash)]
 pub struct GroupId {
     place: u16,
 }

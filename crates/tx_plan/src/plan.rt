@@ -14,7 +14,7 @@ ghost use Rattle.tx_plan.specs.inner.Tables.{row_of};
 use crate::ids::{ByWord, CodeId, Direction, ExchangeId, GroupId, GroupRow, Line, National, Pair};
 use crate::names::NameKey;
 use crate::range::LineRange;
-use crate::routes::{Bars, Routes};
+use crate::routes::{Bars, GroupList, Routes};
 use indexmap::{IndexMap, IndexSet};
 use std::alloc::{Allocator, Global};
 use std::marker::Model;
@@ -225,6 +225,16 @@ impl<A: Allocator> Plan<A> {
         ensures rules { IsPlan self.now }
     {
         self.routes.list(&Pair { exchange, code })
+    }
+
+    /// The same groups as a list of their own.
+    pub fn group_list(&self, exchange: ExchangeId, code: CodeId) -> GroupList
+        ensures { result.items ≡ route_list self.now exchange code }
+    {
+        match GroupList::try_from(self.routes.list(&Pair { exchange, code })) {
+            Ok(list) => list,
+            Err(_) => unreachable!(),
+        }
     }
 
     /// The exchange and the code of two words, if both are declared.

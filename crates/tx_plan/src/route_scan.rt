@@ -1,5 +1,6 @@
 // What the words of a route's groups come to, in one pass over them.
-ghost use Rattle.std.specs.Prelude.{◌≡◌, ◌||◌, ◌++◌, ◌∷◌, [], not, false, nat_le, length};
+ghost use Rattle.std.specs.Prelude.{◌≡◌, ◌||◌, ◌++◌, ◌∷◌, [], not, false, nat_le};
+ghost use Rattle.arrayvec.specs.ArrayVec.{array_vec_len};
 ghost use Rattle.tx_text.specs.Words.{is_name};
 ghost use Rattle.tx_plan.specs.Declaring.{has_group, is_not_outgoing, group_at};
 ghost use Rattle.tx_plan.specs.inner.RouteScan.{IsScanOf};
@@ -34,9 +35,9 @@ impl RouteScan {
             ≡ (self.old.unknown || not (has_group plan.now word.now)) }
         ensures not_outgoing { self.new.not_outgoing
             ≡ (self.old.not_outgoing || is_not_outgoing plan.now pair.now word.now) }
-        ensures many { self.new.many ≡ (self.old.many || nat_le 16 (length self.old.list)) }
+        ensures many { self.new.many ≡ (self.old.many || nat_le 16 (array_vec_len self.old.list)) }
         ensures list { self.new.many ≡ false
-            → self.new.list ≡ self.old.list ++ group_at plan.now word.now ∷ [] }
+            → self.new.list.items ≡ self.old.list.items ++ group_at plan.now word.now ∷ [] }
     {
         let group = match plan.group_named(word) {
             Some(group) => {
@@ -55,7 +56,7 @@ impl RouteScan {
                 GroupId::of(0)
             }
         };
-        if !self.list.push(group) {
+        if self.list.try_push(group).is_err() {
             self.many = true;
         }
     }

@@ -1,75 +1,21 @@
 // The routes of a plan, the lists of groups that they name, and what is barred.
-ghost use Rattle.std.specs.Prelude.{◌≡◌, ◌++◌, ◌∷◌, ◌&&◌, ◌==◌, [], false, find, OnOk, OnErr, length, slice_get, if◌then◌else◌, nat_lt, ◌≤◌};
+ghost use Rattle.std.specs.Prelude.{◌≡◌, ◌++◌, ◌∷◌, ◌&&◌, ◌==◌, [], false, find, OnOk, OnErr, length, slice_get, ◌≤◌};
 ghost use Rattle.std.specs.List.{list_any};
 ghost use Rattle.std.specs.Option.{option_map, option_map_or};
 ghost use Rattle.tx_plan.specs.inner.Distinct.{differ};
 
 use crate::ids::{ByWord, GroupId, Pair};
+use arrayvec::ArrayVec;
 use indexmap::{IndexMap, IndexSet};
 use std::alloc::{Allocator, Global};
 use std::marker::Model;
 use tx_text::NoMemory;
 
 /// At most 16 groups, in order.
-#[derive(Debug, Drop)]
-pub struct GroupList {
-    groups: [GroupId; 16],
-    len: u8,
-}
-
-impl Model for GroupList {
-    ghost use Rattle.std.specs.Prelude.{ℕ, List, ◌≤◌, take};
-
-    ghost Value = { List ℕ };
-
-    ghost view = { λ s. take s.len s.groups };
-
-    ghost invariant = { λ s. s.len ≤ 16 };
-}
-
-impl GroupList {
-    /// No groups.
-    pub fn new() -> GroupList
-        ensures { result ≡ [] }
-    {
-        GroupList {
-            groups: [GroupId::of(0); 16],
-            len: 0,
-        }
-    }
-
-    /// Appends a group, unless there are 16.
-    pub fn push(&mut self, group: GroupId) -> bool
-        ensures pushed { result ≡ nat_lt (length self.old) 16 }
-        ensures list { self.new
-            ≡ (if nat_lt (length self.old) 16 then self.old ++ group ∷ [] else self.old) }
-    {
-        if self.len >= 16 {
-            return false;
-        }
-        self.groups[usize::from(self.len)] = group;
-        self.len += 1;
-        true
-    }
-
-    /// Whether no group is there twice.
-    pub fn none_twice(&self) -> bool
-        ensures { result ≡ differ self.now }
-    {
-        none_twice(self.groups())
-    }
-
-    /// The groups.
-    pub fn groups(&self) -> &[GroupId]
-        ensures value { result.now ≡ self.now }
-        ensures few { length result.now ≤ 16 }
-    {
-        &self.groups[..usize::from(self.len)]
-    }
-}
+pub type GroupList = ArrayVec<GroupId, 16>;
 
 /// Whether no group is there twice.
-fn none_twice(groups: &[GroupId]) -> bool
+pub(crate) fn none_twice(groups: &[GroupId]) -> bool
     ensures { result ≡ differ groups.now }
 {
     match groups {
@@ -123,11 +69,12 @@ impl<A: Allocator> Routes<A> {
 
     /// The groups of the pair's route.
     pub fn list(&self, pair: &Pair) -> &[GroupId]
-        ensures { result.now ≡ option_map_or (λ r. r.groups) (find
+        ensures value { result.now ≡ option_map_or (λ r. r.groups) (find
             (λ r. (r.exchange == pair.now.exchange) && (r.code == pair.now.code)) self.now) [] }
+        ensures few { length result.now ≤ 16 }
     {
         match self.rows.get(pair) {
-            Some(groups) => groups.groups(),
+            Some(groups) => groups.as_slice(),
             None => &[],
         }
     }
@@ -146,7 +93,7 @@ impl<A: Allocator> Routes<A> {
         requires { list_any (λ r. (r.exchange == pair.exchange) && (r.code == pair.code)) self.old
             ≡ false }
         ensures ok { OnOk result (self.new ≡ self.old
-            ++ record { exchange = pair.exchange; code = pair.code; groups = groups } ∷ []) }
+            ++ record { exchange = pair.exchange; code = pair.code; groups = groups.items } ∷ []) }
         ensures err { OnErr result (self.new ≡ self.old) }
     {
         self.rows.insert(pair, groups)?;

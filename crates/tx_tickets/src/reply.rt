@@ -14,25 +14,25 @@ use tx_plan::{Circuit, ExchangeId, Line, Plan};
 use tx_text::{Sink, WriteFault, write_bytes, write_parts};
 
 /// Appends bytes to a line.
-pub(crate) fn put<const N: usize>(line: &mut ArrayVec<u8, N>, bytes: &[u8])
-    requires { array_vec_len line.old + length bytes.now ≤ N }
-    ensures text { line.new.items ≡ line.old.items ++ bytes.now }
-    ensures width { array_vec_len line.new ≡ array_vec_len line.old + length bytes.now }
+pub(crate) fn put<const N: usize>(text: &mut ArrayVec<u8, N>, bytes: &[u8])
+    requires { array_vec_len text.old + length bytes.now ≤ N }
+    ensures text { text.new.items ≡ text.old.items ++ bytes.now }
+    ensures width { array_vec_len text.new ≡ array_vec_len text.old + length bytes.now }
 {
-    match line.try_extend_from_slice(bytes) {
+    match text.try_extend_from_slice(bytes) {
         Ok(()) => {}
         Err(_) => unreachable!(),
     }
 }
 
 /// Appends the figures of a number to a line.
-pub(crate) fn put_number<const N: usize>(line: &mut ArrayVec<u8, N>, number: u64)
-    requires { array_vec_len line.old + 20 ≤ N }
-    ensures text { line.new.items ≡ line.old.items ++ decimal number }
-    ensures width { array_vec_len line.new ≤ array_vec_len line.old + 20 }
+pub(crate) fn put_number<const N: usize>(text: &mut ArrayVec<u8, N>, number: u64)
+    requires { array_vec_len text.old + 20 ≤ N }
+    ensures text { text.new.items ≡ text.old.items ++ decimal number }
+    ensures width { array_vec_len text.new ≤ array_vec_len text.old + 20 }
 {
     let mut figures = Buffer::new();
-    put(line, figures.format(number).as_bytes());
+    put(text, figures.format(number).as_bytes());
 }
 
 /// A service code, as it is printed.
@@ -102,103 +102,104 @@ pub fn write_reply<A: Allocator, W: Sink>(
 ) -> Result<(), WriteFault>
     ensures { Wrote W.taken W.failed sink.old sink.new (reply_text plan.now reply.now) result }
 {
-    let mut line = Room::new();
-    put_reply(reply, plan, &mut line);
-    write_bytes(line.as_slice(), sink)
+    let mut text = Room::new();
+    put_reply(reply, plan, &mut text);
+    write_bytes(text.as_slice(), sink)
 }
 
 /// Puts a reply on an empty line.
-fn put_reply<A: Allocator>(reply: &Reply, plan: &Plan<A>, line: &mut Room)
-    requires { line.old.items ≡ [] }
-    ensures { line.new.items ≡ reply_text plan.now reply.now }
+fn put_reply<A: Allocator>(reply: &Reply, plan: &Plan<A>, text: &mut Room)
+    requires { text.old.items ≡ [] }
+    ensures { text.new.items ≡ reply_text plan.now reply.now }
 {
     match reply {
-        Reply::Keyed(n) => put_count(b"KEYED ", u64::from(*n), line),
-        Reply::Seized(circuit) => put_circuit(circuit, plan, line),
-        Reply::At(exchange) => put_at(*exchange, plan, line),
-        Reply::Connected(called) => put_connected(*called, plan, line),
-        Reply::Answered(service) => put_word(b"ANSWERED ", service_word(*service), line),
+        Reply::Keyed(n) => put_count(b"KEYED ", u64::from(*n), text),
+        Reply::Seized(circuit) => put_circuit(circuit, plan, text),
+        Reply::At(exchange) => put_at(*exchange, plan, text),
+        Reply::Connected(called) => put_connected(*called, plan, text),
+        Reply::Answered(service) => put_word(b"ANSWERED ", service_word(*service), text),
         Reply::HeadOn {
             a,
             b,
             a_stands,
             b_stands,
-        } => put_head_on(*a, *a_stands, *b, *b_stands, line),
-        Reply::Cleared => put(line, b"CLEARED\n"),
-        Reply::Done => put(line, b"DONE\n"),
-        Reply::Lost(n) => put_count(b"LOST ", *n, line),
-        Reply::Refused(refusal) => put_word(b"REFUSED ", refusal_word(*refusal), line),
+        } => put_head_on(*a, *a_stands, *b, *b_stands, text),
+        Reply::Cleared => put(text, b"CLEARED\n"),
+        Reply::Done => put(text, b"DONE\n"),
+        Reply::Lost(n) => put_count(b"LOST ", *n, text),
+        Reply::Refused(refusal) => put_word(b"REFUSED ", refusal_word(*refusal), text),
     }
 }
 
 /// Puts a first word, given with its space, and another.
-fn put_word(first: &[u8], word: &[u8], line: &mut Room)
+fn put_word(first: &[u8], word: &[u8], text: &mut Room)
     requires first { length first.now ≤ 10 }
     requires word { length word.now ≤ 20 }
-    requires line { line.old.items ≡ [] }
-    ensures { line.new.items ≡ first.now ++ (word.now ++ codes "\n") }
+    requires text { text.old.items ≡ [] }
+    ensures { text.new.items ≡ first.now ++ (word.now ++ codes "\n") }
 {
-    put(line, first);
-    put(line, word);
-    put(line, b"\n");
+    put(text, first);
+    put(text, word);
+    put(text, b"\n");
 }
 
 /// Puts the exchange that a call came to.
-fn put_at<A: Allocator>(exchange: ExchangeId, plan: &Plan<A>, line: &mut Room)
-    requires { line.old.items ≡ [] }
-    ensures { line.new.items ≡ codes "AT " ++ (exchange_name plan.now exchange ++ codes "\n") }
+fn put_at<A: Allocator>(exchange: ExchangeId, plan: &Plan<A>, text: &mut Room)
+    requires { text.old.items ≡ [] }
+    ensures { text.new.items ≡ codes "AT " ++ (exchange_name plan.now exchange ++ codes "\n") }
 {
-    put(line, b"AT ");
-    put(line, plan.exchange_name(exchange));
-    put(line, b"\n");
+    put(text, b"AT ");
+    put(text, plan.exchange_name(exchange));
+    put(text, b"\n");
 }
 
 /// Puts a first word, given with its space, and a number.
-fn put_count(first: &[u8], count: u64, line: &mut Room)
+fn put_count(first: &[u8], count: u64, text: &mut Room)
     requires first { length first.now ≤ 10 }
-    requires line { line.old.items ≡ [] }
-    ensures { line.new.items ≡ first.now ++ (decimal count ++ codes "\n") }
+    requires text { text.old.items ≡ [] }
+    ensures { text.new.items ≡ first.now ++ (decimal count ++ codes "\n") }
 {
-    put(line, first);
-    put_number(line, count);
-    put(line, b"\n");
+    put(text, first);
+    put_number(text, count);
+    put(text, b"\n");
 }
 
-fn put_circuit<A: Allocator>(circuit: &Circuit, plan: &Plan<A>, line: &mut Room)
-    requires { line.old.items ≡ [] }
-    ensures { line.new.items ≡ codes "SEIZED " ++ (circuit_text plan.now circuit.now ++ codes "\n") }
+fn put_circuit<A: Allocator>(circuit: &Circuit, plan: &Plan<A>, text: &mut Room)
+    requires { text.old.items ≡ [] }
+    ensures { text.new.items
+        ≡ codes "SEIZED " ++ (circuit_text plan.now circuit.now ++ codes "\n") }
 {
-    put(line, b"SEIZED ");
-    put(line, plan.group_name(circuit.group));
-    put(line, b".");
-    put_number(line, u64::from(circuit.number));
-    put(line, b"\n");
+    put(text, b"SEIZED ");
+    put(text, plan.group_name(circuit.group));
+    put(text, b".");
+    put_number(text, u64::from(circuit.number));
+    put(text, b"\n");
 }
 
-fn put_connected<A: Allocator>(called: Line, plan: &Plan<A>, line: &mut Room)
-    requires { line.old.items ≡ [] }
-    ensures { line.new.items ≡ codes "CONNECTED " ++ (line_text plan.now called ++ codes "\n") }
+fn put_connected<A: Allocator>(called: Line, plan: &Plan<A>, text: &mut Room)
+    requires { text.old.items ≡ [] }
+    ensures { text.new.items ≡ codes "CONNECTED " ++ (line_text plan.now called ++ codes "\n") }
 {
-    put(line, b"CONNECTED ");
-    put(line, plan.code_figures(called.code));
-    put(line, b" ");
-    put(line, called.national.bytes());
-    put(line, b"\n");
+    put(text, b"CONNECTED ");
+    put(text, plan.code_figures(called.code));
+    put(text, b" ");
+    put(text, called.national.bytes());
+    put(text, b"\n");
 }
 
 /// Puts the two calls of a head-on collision.
-fn put_head_on(a: u32, a_stands: bool, b: u32, b_stands: bool, line: &mut Room)
-    requires { line.old.items ≡ [] }
-    ensures { line.new.items ≡ codes "HEADON " ++ (decimal a ++ (stands_text a_stands
+fn put_head_on(a: u32, a_stands: bool, b: u32, b_stands: bool, text: &mut Room)
+    requires { text.old.items ≡ [] }
+    ensures { text.new.items ≡ codes "HEADON " ++ (decimal a ++ (stands_text a_stands
         ++ (codes " " ++ (decimal b ++ (stands_text b_stands ++ codes "\n"))))) }
 {
-    put(line, b"HEADON ");
-    put_number(line, u64::from(a));
-    put(line, stands_word(a_stands));
-    put(line, b" ");
-    put_number(line, u64::from(b));
-    put(line, stands_word(b_stands));
-    put(line, b"\n");
+    put(text, b"HEADON ");
+    put_number(text, u64::from(a));
+    put(text, stands_word(a_stands));
+    put(text, b" ");
+    put_number(text, u64::from(b));
+    put(text, stands_word(b_stands));
+    put(text, b"\n");
 }
 
 /// Writes a first word, given with its space, and a circuit, as `SEIZED G1.12`, with its LF.

@@ -28,51 +28,51 @@ pub fn write_ticket<A: Allocator, B: Allocator, W: Sink>(
 ) -> Result<(), WriteFault>
     ensures { Wrote W.taken W.failed sink.old sink.new (ticket_text plan.now ticket.now) result }
 {
-    let mut line = Room::new();
-    put_caller(ticket, plan, &mut line);
-    put_events(ticket, &mut line);
-    put_why(ticket, plan, &mut line);
-    write_path(ticket.path.hops(), plan, &mut line, sink)
+    let mut text = Room::new();
+    put_caller(ticket, plan, &mut text);
+    put_events(ticket, &mut text);
+    put_why(ticket, plan, &mut text);
+    write_path(ticket.path.hops(), plan, &mut text, sink)
 }
 
 /// Puts the call's number, its line and what was keyed.
-fn put_caller<A: Allocator, B: Allocator>(ticket: &Ticket<A>, plan: &Plan<B>, line: &mut Room)
-    requires { line.old.items ≡ [] }
-    ensures text { line.new.items ≡ caller_text plan.now ticket.now }
-    ensures width { array_vec_len line.new ≤ 66 }
+fn put_caller<A: Allocator, B: Allocator>(ticket: &Ticket<A>, plan: &Plan<B>, text: &mut Room)
+    requires { text.old.items ≡ [] }
+    ensures text { text.new.items ≡ caller_text plan.now ticket.now }
+    ensures width { array_vec_len text.new ≤ 66 }
 {
-    put(line, b"T ");
-    put_number(line, u64::from(ticket.number));
-    put(line, b" FROM ");
-    put(line, plan.code_figures(ticket.line.code));
-    put(line, b" ");
-    put(line, ticket.line.national.bytes());
-    put(line, b" TO ");
-    put(line, ticket.keyed.bytes());
-    put(line, b" EV ");
+    put(text, b"T ");
+    put_number(text, u64::from(ticket.number));
+    put(text, b" FROM ");
+    put(text, plan.code_figures(ticket.line.code));
+    put(text, b" ");
+    put(text, ticket.line.national.bytes());
+    put(text, b" TO ");
+    put(text, ticket.keyed.bytes());
+    put(text, b" EV ");
 }
 
 /// Puts the events of the call's start and its end.
-fn put_events<A: Allocator>(ticket: &Ticket<A>, line: &mut Room)
-    requires { array_vec_len line.old ≤ 66 }
-    ensures text { line.new.items ≡ line.old.items ++ events_text ticket.now }
-    ensures width { array_vec_len line.new ≤ 111 }
+fn put_events<A: Allocator>(ticket: &Ticket<A>, text: &mut Room)
+    requires { array_vec_len text.old ≤ 66 }
+    ensures text { text.new.items ≡ text.old.items ++ events_text ticket.now }
+    ensures width { array_vec_len text.new ≤ 111 }
 {
-    put_number(line, ticket.keyed_at);
-    put(line, b" ");
-    put_number(line, ticket.ended_at);
-    put(line, b" BY ");
+    put_number(text, ticket.keyed_at);
+    put(text, b" ");
+    put_number(text, ticket.ended_at);
+    put(text, b" BY ");
 }
 
 /// Puts why the call ended, and where it started.
-fn put_why<A: Allocator, B: Allocator>(ticket: &Ticket<A>, plan: &Plan<B>, line: &mut Room)
-    requires { array_vec_len line.old ≤ 111 }
-    ensures text { line.new.items ≡ line.old.items ++ why_text plan.now ticket.now }
-    ensures width { array_vec_len line.new ≤ 128 }
+fn put_why<A: Allocator, B: Allocator>(ticket: &Ticket<A>, plan: &Plan<B>, text: &mut Room)
+    requires { array_vec_len text.old ≤ 111 }
+    ensures text { text.new.items ≡ text.old.items ++ why_text plan.now ticket.now }
+    ensures width { array_vec_len text.new ≤ 128 }
 {
-    put(line, cause_word(ticket.cause));
-    put(line, b" VIA ");
-    put(line, plan.exchange_name(ticket.start));
+    put(text, cause_word(ticket.cause));
+    put(text, b" VIA ");
+    put(text, plan.exchange_name(ticket.start));
 }
 
 /// Writes a line that has begun, with each hop after it and an LF. Where the next hop may have no
@@ -80,35 +80,35 @@ fn put_why<A: Allocator, B: Allocator>(ticket: &Ticket<A>, plan: &Plan<B>, line:
 fn write_path<A: Allocator, W: Sink>(
     hops: &[Hop],
     plan: &Plan<A>,
-    line: &mut Room,
+    text: &mut Room,
     sink: &mut W,
 ) -> Result<(), WriteFault>
-    requires { array_vec_len line.old ≤ 128 }
+    requires { array_vec_len text.old ≤ 128 }
     ensures { Wrote W.taken W.failed sink.old sink.new
-        (line.old.items ++ (flat_map (hop_text plan.now) hops.now ++ codes "\n")) result }
+        (text.old.items ++ (flat_map (hop_text plan.now) hops.now ++ codes "\n")) result }
 {
     for hop in hops {
-        put_hop(hop, plan, line);
-        if line.len() <= FULL {
+        put_hop(hop, plan, text);
+        if text.len() <= FULL {
             continue;
         }
-        write_bytes(line.as_slice(), sink)?;
-        line.clear();
+        write_bytes(text.as_slice(), sink)?;
+        text.clear();
     }
-    put(line, b"\n");
-    write_bytes(line.as_slice(), sink)
+    put(text, b"\n");
+    write_bytes(text.as_slice(), sink)
 }
 
 /// Puts a hop: its circuit, and the exchange that it leads to.
-fn put_hop<A: Allocator>(hop: &Hop, plan: &Plan<A>, line: &mut Room)
-    requires { array_vec_len line.old ≤ 152 }
-    ensures text { line.new.items ≡ line.old.items ++ hop_text plan.now hop.now }
-    ensures width { array_vec_len line.new ≤ 191 }
+fn put_hop<A: Allocator>(hop: &Hop, plan: &Plan<A>, text: &mut Room)
+    requires { array_vec_len text.old ≤ 152 }
+    ensures text { text.new.items ≡ text.old.items ++ hop_text plan.now hop.now }
+    ensures width { array_vec_len text.new ≤ 191 }
 {
-    put(line, b" ");
-    put(line, plan.group_name(hop.circuit.group));
-    put(line, b".");
-    put_number(line, u64::from(hop.circuit.number));
-    put(line, b" ");
-    put(line, plan.exchange_name(hop.far));
+    put(text, b" ");
+    put(text, plan.group_name(hop.circuit.group));
+    put(text, b".");
+    put_number(text, u64::from(hop.circuit.number));
+    put(text, b" ");
+    put(text, plan.exchange_name(hop.far));
 }

@@ -14,4 +14,4 @@ pub record IsScanOf (p : Plan) (pair : Option Pair) (words : List (List ℕ))
   pub unknown : s.unknown ≡ list_any (λ g. not (has_group p g)) words
   pub not_outgoing : s.not_outgoing ≡ list_any (is_not_outgoing p pair) words
   pub many : s.many ≡ nat_lt 16 (length words)
-  pub list : s.many ≡ false → s.list ≡ map (group_at p) words
+  pub list : s.many ≡ false → s.list.items ≡ map (group_at p) words

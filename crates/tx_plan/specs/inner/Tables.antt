@@ -1,5 +1,6 @@
 -- A plan's entries as keys and values.
 use Rattle.std.specs.Prelude.{ℕ, List, map}
+use Rattle.arrayvec.specs.ArrayVec.{ArrayVec}
 use Rattle.tx_plan.specs.Plan.{Plan, Code, Group, Route}
 use Rattle.tx_plan.specs.declared.ids.Pair.{Pair}
 use Rattle.tx_plan.specs.declared.range.LineRange.{LineRange}
@@ -24,8 +25,8 @@ abbrev pub row_of : Group → GroupRow
 row_of g = record { a = g.a; b = g.b; direction = g.direction; count = g.count }
 
 -- a pair, and the groups of its route
-abbrev pub route_of_row : Pair × List ℕ → Route
-route_of_row e = record { exchange = e.0.exchange; code = e.0.code; groups = e.1 }
+abbrev pub route_of_row : Pair × ArrayVec ℕ → Route
+route_of_row e = record { exchange = e.0.exchange; code = e.0.code; groups = e.1.items }
 
 -- a plan whose lists are these: codes, groups and routes with what they are found by
 abbrev pub plan_of : List (List ℕ) → List (List ℕ × ℕ) → List LineRange

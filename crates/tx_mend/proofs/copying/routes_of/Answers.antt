@@ -10,7 +10,7 @@ use Rattle.tx_mend.proofs.copying.routes_of.Goals as goal
 pub add-requires : goal.add-requires
 add-requires g c =
     let p = c.args.plan.now in
-    let at = route_got p c.routes-place-end.ensures.rules c.loop-place.place _ c.in-Some.ensures.value c.present_list-list.result c.present_list-list.ensures in
+    let at = route_got p c.routes-place-end.ensures.rules c.loop-place.place _ c.in-Some.ensures.value c.group_list-list.result.items c.group_list-list.ensures in
     ap (list_any _) c.loop-place.invariant
     ∙ none_before (λ (r : Route). r.exchange) (λ (r : Route). r.code) p.routes c.loop-place.place _ c.routes-place-end.ensures.rules.routes_differ at
 
@@ -25,5 +25,5 @@ unreachable-requires g c =
 pub loop-place-preserved : goal.loop-place-preserved
 loop-place-preserved g c =
     let p = c.args.plan.now in
-    let at = route_got p c.routes-place-end.ensures.rules c.loop-place.place _ c.in-Some.ensures.value c.present_list-list.result c.present_list-list.ensures in
+    let at = route_got p c.routes-place-end.ensures.rules c.loop-place.place _ c.in-Some.ensures.value c.group_list-list.result.items c.group_list-list.ensures in
     copied_next p.routes c.loop-place.place _ at c.loop-place.routes c.add.new.self c.loop-place.invariant c.in_ok-add-in-Some.ensures.ok

@@ -13,7 +13,7 @@ pub add-requires : goal.add-requires
 add-requires g c =
     let p = c.args.plan.now in
     let s = stays c.args.before.now c.args.cert.now in
-    let at = route_got p c.routes-place-end.ensures.rules c.loop-place.place _ c.in-Some.ensures.value c.present_list-list.result c.present_list-list.ensures in
+    let at = route_got p c.routes-place-end.ensures.rules c.loop-place.place _ c.in-Some.ensures.value c.group_list-list.result.items c.group_list-list.ensures in
     ap (list_any _) c.loop-place.invariant
     ∙ none_filtered _ s (take c.loop-place.place p.routes) (none_before (λ (r : Route). r.exchange) (λ (r : Route). r.code) p.routes c.loop-place.place _ c.routes-place-end.ensures.rules.routes_differ at)
 
@@ -32,8 +32,8 @@ loop-place-preserved g c =
     let got = route_got p c.routes-place-end.ensures.rules c.loop-place.place _ c.in-Some.ensures.value _ refl in
     elim c.if-is_staying.branch [
       | then-is_staying+in_ok-add-in-Some w ↦
-          let at = route_got p c.routes-place-end.ensures.rules c.loop-place.place _ c.in-Some.ensures.value w.present_list-list.result w.present_list-list.ensures in
-          stays_next p.routes c.loop-place.place _ at s c.loop-place.routes _ c.loop-place.invariant (sym (c.is_staying.ensures w.present_list-list.result) ∙ w.if-is_staying.true) (w.routes-is ∙ w.in_ok-add-in-Some.ensures.ok)
+          let at = route_got p c.routes-place-end.ensures.rules c.loop-place.place _ c.in-Some.ensures.value w.group_list-list.result.items w.group_list-list.ensures in
+          stays_next p.routes c.loop-place.place _ at s c.loop-place.routes _ c.loop-place.invariant (sym (c.is_staying.ensures w.group_list-list.result.items) ∙ w.if-is_staying.true) (w.routes-is ∙ w.in_ok-add-in-Some.ensures.ok)
       | else-is_staying w ↦
           goes_next p.routes c.loop-place.place _ got s c.loop-place.routes _ c.loop-place.invariant (sym (c.is_staying.ensures []) ∙ w.if-is_staying.false) w.routes-is
     ]

@@ -16,24 +16,24 @@ loop-lower-preserved g c = λ of e.
     let s = c.args.limits.spare in
     let n = c.loop-lower.lower in
     let f : ℕ → List ℕ = λ m. filter (λ g. leads_to p of m x g) (outgoing p x) in
-    c.fill_at.ensures of e ∙ ap (λ (l : List ℕ). filled s c.loop-lower.list (filter (λ g. leads_to p of n x g) l)) c.requires.seizable ∙ ap (λ (l : List ℕ). filled s l (f n)) (c.loop-lower.invariant of e)
-    ∙ sym (filled_append s c.args.list.now (flat_map f (places n)) (f n)) ∙ ap (filled s c.args.list.now) (sym (flat_more f n))
+    c.fill_at.ensures of e ∙ ap (λ (l : List ℕ). filled s c.loop-lower.list.items (filter (λ g. leads_to p of n x g) l)) c.requires.seizable ∙ ap (λ (l : List ℕ). filled s l (f n)) (c.loop-lower.invariant of e)
+    ∙ sym (filled_append s c.args.list.now.items (flat_map f (places n)) (f n)) ∙ ap (filled s c.args.list.now.items) (sym (flat_more f n))
 
-pub returns-then-groups-from : goal.returns-then-groups-from
-returns-then-groups-from g c = λ of e.
+pub returns-then-list-from : goal.returns-then-list-from
+returns-then-list-from g c = λ of e.
     let p = c.args.plan.now in
     let x = c.args.exchange in
     let s = c.args.limits.spare in
     let n = c.loop-lower.lower in
-    let start = c.args.list.now in
+    let start = c.args.list.now.items in
     let f : ℕ → List ℕ = λ m. filter (λ g. leads_to p of m x g) (outgoing p x) in
     let t = c.loop-lower-test.true in
     let k = places_split c.args.rank n (omega arith) in
     let a = flat_map f (places n) in
     let b = flat_map f k.0 in
     let here = c.loop-lower.invariant of e in
-    let same = ap length c.groups.ensures.value in
-    let more = c.if-groups-from.true in
+    let same = c.list-len.ensures.value in
+    let more = c.if-list-from.true in
     let at = c.from.ensures in
-    let full : s < length c.loop-lower.list = omega arith in
-    sym (ap (filled s start) (ap (flat_map f) k.1 ∙ flat_map-append f (places n) k.0) ∙ filled_append s start a b ∙ ap (λ (l : List ℕ). filled s l b) (sym here) ∙ filled_full s c.loop-lower.list b full)
+    let full : s < length c.loop-lower.list.items = omega arith in
+    sym (ap (filled s start) (ap (flat_map f) k.1 ∙ flat_map-append f (places n) k.0) ∙ filled_append s start a b ∙ ap (λ (l : List ℕ). filled s l b) (sym here) ∙ filled_full s c.loop-lower.list.items b full)

@@ -24,7 +24,7 @@ returns-in-None g c =
     let b = c.args.basis.now in
     let p = b.plan.now in
     let k = was_kept p b.limits.limit b.limits.spare c.args.code (c.in-None.ensures ∙ ranks_got p b.limits.limit b.limits.spare c.index.result c.args.code b.table.now b.ranks c.requires.code c.index.ensures) in
-    c.present_list.ensures ∙ sym (ap (λ t. if t then route_list p c.args.exchange c.args.code else least_list p b.limits.limit b.limits.spare c.args.code c.args.exchange) k)
+    c.group_list.ensures ∙ sym (ap (λ t. if t then route_list p c.args.exchange c.args.code else least_list p b.limits.limit b.limits.spare c.args.code c.args.exchange) k)
 
 pub returns-in-Some : goal.returns-in-Some
 returns-in-Some g c =

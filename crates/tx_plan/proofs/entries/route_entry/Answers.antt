@@ -43,12 +43,13 @@ returns-clause-ok g c =
     ∙ ap (λ (o : Option Pair). first_true (route_plan_refusals p o gs)) (sym c.pair_named-pair.ensures.pair ∙ c.in-Some.is)
     ∙ sym c.in_ok-route_row.ensures.gives
 
-pub returns-clause-entry : goal.returns-clause-entry
-returns-clause-entry g c =
+pub returns-clause-pair : goal.returns-clause-pair
+returns-clause-pair g c =
     let p = c.args.plan.now in
-    let named = subst (λ (o : Option Pair). IfSome o (λ x. x ≡ record { exchange = exchange_at p c.args.exchange.now; code = code_at p c.args.code.now })) c.in-Some.is c.pair_named-pair.ensures.named in
-    let list = c.scan-scan.ensures.list c.in_ok-route_row.ensures.few ∙ ap (map (group_at p)) c.again.ensures in
-    λ i. (named i, list i)
+    subst (λ (o : Option Pair). IfSome o (λ x. x ≡ record { exchange = exchange_at p c.args.exchange.now; code = code_at p c.args.code.now })) c.in-Some.is c.pair_named-pair.ensures.named
+
+pub returns-clause-groups : goal.returns-clause-groups
+returns-clause-groups g c = c.scan-scan.ensures.list c.in_ok-route_row.ensures.few ∙ ap (map (group_at c.args.plan.now)) c.again.ensures
 
 pub returns-clause-fresh : goal.returns-clause-fresh
 returns-clause-fresh g c = c.in_ok-route_row.ensures.fresh

@@ -8,6 +8,6 @@ returns g c = let e = c.in_default.ensures.steps.0 in let i = c.loop-word.invari
   bad = search rules;
   unknown = search rules;
   not_outgoing = search rules;
-  many = many_seen c.loop-word.scan.many (group_at c.args.plan.now) c.loop-word.scan.list c.args.words c.loop-word.words e i.many i.short i.list;
-  list = λ h. all_seen (group_at c.args.plan.now) c.loop-word.scan.list c.args.words c.loop-word.words e (i.list h);
+  many = many_seen c.loop-word.scan.many (group_at c.args.plan.now) c.loop-word.scan.list.items c.args.words c.loop-word.words e i.many i.short i.list;
+  list = λ h. all_seen (group_at c.args.plan.now) c.loop-word.scan.list.items c.args.words c.loop-word.words e (i.list h);
 }

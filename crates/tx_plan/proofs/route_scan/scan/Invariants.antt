@@ -10,8 +10,8 @@ invariant-loop-word g l = record {
   unknown : list_any (λ w. not (has_group l.plan w)) l.initial.words ≡ (l.scan.unknown || list_any (λ w. not (has_group l.plan w)) l.words);
   not_outgoing : list_any (is_not_outgoing l.plan l.pair) l.initial.words ≡ (l.scan.not_outgoing || list_any (is_not_outgoing l.plan l.pair) l.words);
   many : l.scan.many ≡ true → 16 < length l.initial.words;
-  short : l.scan.many ≡ false → length l.scan.list ≤ 16;
-  list : l.scan.many ≡ false → map (group_at l.plan) l.initial.words ≡ l.scan.list ++ map (group_at l.plan) l.words;
+  short : l.scan.many ≡ false → length l.scan.list.items ≤ 16;
+  list : l.scan.many ≡ false → map (group_at l.plan) l.initial.words ≡ l.scan.list.items ++ map (group_at l.plan) l.words;
 }
 
 abbrev pub decreases-loop-word : goal.decreases-loop-word

@@ -27,7 +27,7 @@ module _ {X : Type 0} (f : X → List ℕ) (xs : List X) (i : ℕ) (x : X) (lt :
 pub loop-hop-preserved-then-len-le-FULL : goal.loop-hop-preserved-then-len-le-FULL
 loop-hop-preserved-then-len-le-FULL g c =
     let v = c.loop-hop.invariant in
-    let t = text_more (hop_text c.args.plan.now) c.args.hops.now c.loop-hop.hop-index c.hop-item.result c.loop-hop-test.true c.hop-item.is c.args.line.now.items in
+    let t = text_more (hop_text c.args.plan.now) c.args.hops.now c.loop-hop.hop-index c.hop-item.result c.loop-hop-test.true c.hop-item.is c.args.text.now.items in
     record {
       begun = rw (t, c.put_hop.ensures.text) (begun_more v.begun (hop_text c.args.plan.now c.hop-item.result));
       mark = v.mark;
@@ -37,7 +37,7 @@ loop-hop-preserved-then-len-le-FULL g c =
 pub loop-hop-preserved : goal.loop-hop-preserved
 loop-hop-preserved g c =
     let v = c.loop-hop.invariant in
-    let t = text_more (hop_text c.args.plan.now) c.args.hops.now c.loop-hop.hop-index c.hop-item.result c.loop-hop-test.true c.hop-item.is c.args.line.now.items in
+    let t = text_more (hop_text c.args.plan.now) c.args.hops.now c.loop-hop.hop-index c.hop-item.result c.loop-hop-test.true c.hop-item.is c.args.text.now.items in
     let e = c.as_slice.ensures.value ∙ c.put_hop.ensures.text in
     record {
       begun = rw (t, c.clear.ensures) (begun_out (begun_more v.begun (hop_text c.args.plan.now c.hop-item.result)) (c.in_ok-write_bytes.ensures.0 ∙ ap (append_known (g.W.Sink.taken c.loop-hop.sink)) e));
@@ -48,7 +48,7 @@ loop-hop-preserved g c =
 pub returns-in_err-write_bytes : goal.returns-in_err-write_bytes
 returns-in_err-write_bytes g c =
     let v = c.loop-hop.invariant in
-    let t = whole (hop_text c.args.plan.now) c.args.hops.now c.loop-hop.hop-index c.hop-item.result c.loop-hop-test.true c.hop-item.is c.args.line.now.items (codes "\n") in
+    let t = whole (hop_text c.args.plan.now) c.args.hops.now c.loop-hop.hop-index c.hop-item.result c.loop-hop-test.true c.hop-item.is c.args.text.now.items (codes "\n") in
     let e = c.as_slice.ensures.value ∙ c.put_hop.ensures.text in
     let x = c.in_err-write_bytes.field-0.0 in
     let before = g.W.Sink.failed c.loop-hop.sink in
@@ -65,7 +65,7 @@ returns g c =
     let i : c.loop-hop.hop-index ≡ length hops = omega arith in
     let all : flat_map f (take c.loop-hop.hop-index hops) ≡ flat_map f hops = ap (λ j. flat_map f (take j hops)) i ∙ ap (flat_map f) (take-length hops) in
     let e = c.as_slice-2.ensures.value ∙ c.put.ensures.text in
-    let t : (c.args.line.now.items ++ flat_map f (take c.loop-hop.hop-index hops)) ++ codes "\n" ≡ c.args.line.now.items ++ (flat_map f hops ++ codes "\n") =
-    ap (λ l. (c.args.line.now.items ++ l) ++ codes "\n") all ∙ append_assoc c.args.line.now.items (flat_map f hops) (codes "\n") in
+    let t : (c.args.text.now.items ++ flat_map f (take c.loop-hop.hop-index hops)) ++ codes "\n" ≡ c.args.text.now.items ++ (flat_map f hops ++ codes "\n") =
+    ap (λ l. (c.args.text.now.items ++ l) ++ codes "\n") all ∙ append_assoc c.args.text.now.items (flat_map f hops) (codes "\n") in
     text_is _ _ _ _ _ _ c.write_bytes-2.result (sym t)
     (begun_wrote (begun_more v.begun (codes "\n")) _ _ _ _ c.write_bytes-2.result v.mark (text_is _ _ _ _ _ _ c.write_bytes-2.result (sym e) c.write_bytes-2.ensures))

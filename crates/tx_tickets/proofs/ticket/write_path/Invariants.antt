@@ -6,7 +6,7 @@ use Rattle.tx_tickets.proofs.ticket.write_path.Given as goal
 
 abbrev pub invariant-loop-hop : goal.invariant-loop-hop
 invariant-loop-hop g l = record {
-  begun : IsBegun (g.W.Sink.taken l.initial.sink) (g.W.Sink.taken l.sink) l.line.items (l.initial.line.items ++ flat_map (hop_text l.plan) (take l.hop-index l.hops));
+  begun : IsBegun (g.W.Sink.taken l.initial.sink) (g.W.Sink.taken l.sink) l.text.items (l.initial.text.items ++ flat_map (hop_text l.plan) (take l.hop-index l.hops));
   mark : g.W.Sink.failed l.sink ≡ g.W.Sink.failed l.initial.sink;
-  room : length l.line.items ≤ 152;
+  room : length l.text.items ≤ 152;
 }

@@ -10,8 +10,8 @@ use Rattle.tx_plan.proofs.builder.PlanBuilder.route.Goals as goal
 pub invariant_of-plan : goal.invariant_of-plan
 invariant_of-plan g c =
     let p : Plan = plan_of c.plan.inside.exchanges.keys c.plan.inside.codes.entries c.plan.inside.ranges.items c.plan.inside.groups.entries c.plan.inside.routes c.plan.inside.bars in
-    either (λ (l : List Route). IsPlan (record p { routes = l })) c.add.result _ p.routes (p.routes ++ record { exchange = c.in_ok-pair.pair.exchange; code = c.in_ok-pair.pair.code; groups = c.in_ok-pair.list } ∷ []) c.add.ensures.ok c.add.ensures.err c.plan.invariant
-    (made_route p _ c.plan.view_is c.plan.invariant c.args.exchange.now c.args.code.now c.args.groups (c.in_ok-pair.pair, c.in_ok-pair.list) c.in_ok-pair.ensures.ok c.in_ok-pair.ensures.entry)
+    either (λ (l : List Route). IsPlan (record p { routes = l })) c.add.result _ p.routes (p.routes ++ record { exchange = c.in_ok-pair.pair.exchange; code = c.in_ok-pair.pair.code; groups = c.in_ok-pair.list.items } ∷ []) c.add.ensures.ok c.add.ensures.err c.plan.invariant
+    (made_route p _ c.plan.view_is c.plan.invariant c.args.exchange.now c.args.code.now c.args.groups (c.in_ok-pair.pair, c.in_ok-pair.list.items) c.in_ok-pair.ensures.ok (λ i. (c.in_ok-pair.ensures.pair i, c.in_ok-pair.ensures.groups i)))
 
 pub returns-in_err-pair : goal.returns-in_err-pair
 returns-in_err-pair g c =

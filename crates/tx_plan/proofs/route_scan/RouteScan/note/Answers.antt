@@ -4,8 +4,8 @@ use Rattle.tx_plan.proofs.Absent.{bad_kept, unknown_kept, unknown_found}
 use Rattle.tx_plan.proofs.route_scan.RouteScan.note.Goals as goal
 use Rattle.tx_plan.proofs.route_scan.RouteScan.note.Goals.{in-Some+in-Some-pair+then-not-may_seize, in-Some+in-Some-pair+else-not-may_seize, in-Some+in_default, in-None}
 
-pub returns-then-not-push-clause-bad : goal.returns-then-not-push-clause-bad
-returns-then-not-push-clause-bad g c =
+pub returns-then-is_err-clause-bad : goal.returns-then-is_err-clause-bad
+returns-then-is_err-clause-bad g c =
     let p = c.args.plan.now in
     let v = c.args.word.now in
     let old = c.args.self.now.bad in
@@ -22,8 +22,8 @@ returns-then-not-push-clause-bad g c =
       | in-None w ↦ search rules
     ]
 
-pub returns-then-not-push-clause-unknown : goal.returns-then-not-push-clause-unknown
-returns-then-not-push-clause-unknown g c =
+pub returns-then-is_err-clause-unknown : goal.returns-then-is_err-clause-unknown
+returns-then-is_err-clause-unknown g c =
     let p = c.args.plan.now in
     let v = c.args.word.now in
     let old = c.args.self.now.unknown in
@@ -41,8 +41,8 @@ returns-then-not-push-clause-unknown g c =
           ap (λ (s : RouteScan). s.unknown) w.self-is ∙ unknown_found p v old w.in-None.ensures
     ]
 
-pub returns-else-not-push-clause-bad : goal.returns-else-not-push-clause-bad
-returns-else-not-push-clause-bad g c =
+pub returns-else-is_err-clause-bad : goal.returns-else-is_err-clause-bad
+returns-else-is_err-clause-bad g c =
     let p = c.args.plan.now in
     let v = c.args.word.now in
     let old = c.args.self.now.bad in
@@ -59,8 +59,8 @@ returns-else-not-push-clause-bad g c =
       | in-None w ↦ search rules
     ]
 
-pub returns-else-not-push-clause-unknown : goal.returns-else-not-push-clause-unknown
-returns-else-not-push-clause-unknown g c =
+pub returns-else-is_err-clause-unknown : goal.returns-else-is_err-clause-unknown
+returns-else-is_err-clause-unknown g c =
     let p = c.args.plan.now in
     let v = c.args.word.now in
     let old = c.args.self.now.unknown in
