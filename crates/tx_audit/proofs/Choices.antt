@@ -17,7 +17,7 @@ use Rattle.tx_machine.specs.declared.open_call.Hop.{Hop}
 use Rattle.tx_machine.specs.declared.open_call.Phase.TheVariants.{Standing}
 use Rattle.tx_machine.specs.InUse.{carries, is_free_at, is_down, first_free, first_in, choice}
 use Rattle.tx_machine.specs.Refusals.{is_group}
-use Rattle.tx_machine.proofs.Lists.{any_none, at_place}
+use Rattle.tx_machine.proofs.Lists.{any_none, at_index}
 use Rattle.tx_machine.proofs.Uses.{chosen}
 use Rattle.tx_machine.proofs.Excuses.{circuit_listed}
 use Rattle.tx_machine.proofs.Playing.{Groups}
@@ -68,7 +68,7 @@ count_some p ok g known = at (slice_get p.groups g) refl known
   where
     at : (o : Option Group) → slice_get p.groups g ≡ o → is_some o ≡ true → 1 ≤ option_map_or (λ r. r.count) o 0
     at None e h = absurd (false≢true h)
-    at (Some r) e h = (at_place (IsGroup p) p.groups ok.groups g r e).some
+    at (Some r) e h = (at_index (IsGroup p) p.groups ok.groups g r e).some
 
 -- A CIRCUIT THAT THE CALL DOES NOT CARRY
 

@@ -8,7 +8,7 @@ use Rattle.std.specs.Option.{option_map, IfSome}
 use Rattle.tx_plan.specs.declared.range.LineRange.{LineRange}
 use Rattle.tx_plan.specs.Plan.{Plan}
 use Rattle.tx_machine.specs.declared.event.Event.{Event}
-use Rattle.tx_machine.proofs.Lists.{at_place}
+use Rattle.tx_machine.proofs.Lists.{at_index}
 use Rattle.tx_plan.specs.Routes.{route_list}
 use Rattle.tx_audit.specs.Counter.{first_range, first_code, low_line, first_line, is_single, turns_on_one, step_events, walk_events}
 
@@ -17,7 +17,7 @@ drop_at xs i x h = at_drop_more (λ l. l) xs i x (slice_get_within xs i x h) ∙
 
 -- one of a list of which all are so
 pub one_of_all : {A : Type 0} (P : A → Type 0) (xs : List A) (i : ℕ) (x : A) → AllByRecursion P xs → i < length xs → x ≡ get_or xs i x → P x
-one_of_all P xs i x all low is = at_place P xs all i x (slice_get_read xs (length xs) i x refl low is)
+one_of_all P xs i x all low is = at_index P xs all i x (slice_get_read xs (length xs) i x refl low is)
 
 -- one more event, of one more thing
 pub one_pushed : {A B : Type 0} (f : A → B) (xs : List A) (i : ℕ) (x : A) (start old new : List B) → i < length xs → x ≡ get_or xs i x → old ≡ start ++ map f (take i xs) → new ≡ old ++ f x ∷ [] → new ≡ start ++ map f (take (i + 1) xs)
@@ -48,7 +48,7 @@ module _ {A : Type 0} (t : A → Bool) (xs : List A) (i : ℕ) (x : A) (h : slic
   pub find_past : t x ≡ false → find t (drop i xs) ≡ find t (drop (i + 1) xs)
   find_past e = ap (find t) (drop_at xs i x h) ∙ rw e refl
 
--- the codes from a place on
+-- the codes from an index on
 codes_at : (i n : ℕ) → i < n → range_with_len i (n - i) ≡ i ∷ range_with_len (i + 1) (n - (i + 1))
 codes_at i n h = let e : n - i ≡ suc (n - (i + 1)) = omega arith in ap (range_with_len i) e
 

@@ -23,7 +23,7 @@ use Rattle.tx_machine.specs.declared.open_call.Hop.{Hop}
 use Rattle.tx_machine.specs.declared.open_call.Phase.TheVariants.{Standing}
 use Rattle.tx_machine.specs.declared.reply.Reply.TheVariants.{Keyed, Answered}
 use Rattle.tx_machine.specs.declared.cause.Service.TheVariants.{Nc}
-use Rattle.tx_machine.specs.Call.{Call, place_of}
+use Rattle.tx_machine.specs.Call.{Call, exchange_of}
 use Rattle.tx_machine.specs.State.{State, opening}
 use Rattle.tx_machine.specs.InUse.{first_free, choice}
 use Rattle.tx_machine.specs.Members.{NoneTwice}
@@ -196,8 +196,8 @@ module _ (p : Plan) (ok : IsPlan p) (c : ℕ) (within : c < length p.codes) (x :
             let k' = g.placed.code' in
             let code : n.code ≡ c = cc in
             let many = n.taken.many in
-            let place : place_of p n.call ≡ end' = ap (place_of p) (sym same) ∙ g.placed.at in
-            let e : length (route_list p (place_of p n.call) n.code) ≡ length list = ap (λ y. length (route_list p y n.code)) place ∙ ap (λ d. length (route_list p end' d)) code in
+            let exchange : exchange_of p n.call ≡ end' = ap (exchange_of p) (sym same) ∙ g.placed.at in
+            let e : length (route_list p (exchange_of p n.call) n.code) ≡ length list = ap (λ y. length (route_list p y n.code)) exchange ∙ ap (λ d. length (route_list p end' d)) code in
             omega arith
 
     plays_shut : end' ≢ home_of p c → Plays p (opening 0 0) (Key g.line keyed ∷ (walk_events p c x steps ++ (map Block list ++ (Route 1 ∷ [])))) (step p closed (Route 1)).1

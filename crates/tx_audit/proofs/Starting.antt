@@ -17,10 +17,10 @@ use Rattle.tx_plan.specs.Codes.{after, is_prefix, codes_before, longer, longest,
 use Rattle.tx_plan.specs.Routes.{is_origin}
 use Rattle.tx_plan.specs.declared.ids.Line.{Line}
 use Rattle.tx_plan.specs.declared.range.LineRange.{LineRange}
-use Rattle.tx_plan.proofs.Among.{among_places, among_filter, filter_among}
-use Rattle.tx_plan.proofs.ByPlace.{entry_at}
+use Rattle.tx_plan.proofs.Among.{among_indexes, among_filter, filter_among}
+use Rattle.tx_plan.proofs.ByIndex.{entry_at}
 use Rattle.tx_plan.specs.Among.{Among}
-use Rattle.tx_machine.proofs.Lists.{any_mem, mem_any, find_mem, places_differ}
+use Rattle.tx_machine.proofs.Lists.{any_mem, mem_any, find_mem, indexes_differ}
 use Rattle.tx_machine.proofs.Steps.{all_mem, enumerated}
 use Rattle.tx_audit.specs.Counter.{first_range, calls_from, first_code, low_line, first_line}
 use Rattle.tx_audit.proofs.Choices.{find_some}
@@ -62,14 +62,14 @@ code_itself p ok c within =
     let keyed : List ℕ = row.0.figures in
     let figures : figures_of p c ≡ keyed = ap (λ o. option_map_or (λ (k : Code). k.figures) o []) row.1 in
     let starts : is_prefix keyed keyed ≡ true = ap is_some (after_itself keyed) in
-    let among = among_filter (λ (e : ℕ × Code). is_prefix e.1.figures keyed) (0 + c, row.0) (enumerate_from 0 p.codes) (among_places 0 c row.0 p.codes row.1) starts in
+    let among = among_filter (λ (e : ℕ × Code). is_prefix e.1.figures keyed) (0 + c, row.0) (enumerate_from 0 p.codes) (among_indexes 0 c row.0 p.codes row.1) starts in
     let most = longest_most (codes_before p keyed) (0 + c, row.0) among in
     let d = most.found in
     let m = filter_among (λ (e : ℕ × Code). is_prefix e.1.figures keyed) d (enumerate_from 0 p.codes) (longest_among (codes_before p keyed) d most.longest') in
     let same = prefix_whole d.1.figures keyed m.1 most.long in
-    let place = enumerated 0 p.codes d m.0 in
-    let one = places_differ (λ (a b : Code). a.figures ≡ b.figures) (λ a b e. sym e) p.codes ok.codes_differ place.0 c d.1 row.0 place.2 row.1 same in
-    let at : d.0 ≡ c = (let z = place.1 in omega arith) in
+    let index = enumerated 0 p.codes d m.0 in
+    let one = indexes_differ (λ (a b : Code). a.figures ≡ b.figures) (λ a b e. sym e) p.codes ok.codes_differ index.0 c d.1 row.0 index.2 row.1 same in
+    let at : d.0 ≡ c = (let z = index.1 in omega arith) in
     ap (code_of p) figures ∙ ap (option_map (λ (e : ℕ × Code). e.0)) most.longest' ∙ ap Some at
 
 -- THE LINE THAT CALLS

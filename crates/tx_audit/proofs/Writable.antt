@@ -11,7 +11,7 @@ use Rattle.tx_plan.specs.Rules.{IsPlan, IsCode, IsRange, is_national}
 use Rattle.tx_plan.specs.Routes.{route_list}
 use Rattle.tx_plan.specs.declared.ids.Line.{Line}
 use Rattle.tx_plan.specs.declared.range.LineRange.{LineRange}
-use Rattle.tx_plan.proofs.ByPlace.{entry_at}
+use Rattle.tx_plan.proofs.ByIndex.{entry_at}
 use Rattle.tx_plan.specs.Among.{Among}
 use Rattle.tx_rank.specs.declared.finding.Finding.{Finding}
 use Rattle.tx_rank.specs.declared.finding.Finding.TheVariants.{Ambiguous, Loop, Short, Long}
@@ -20,7 +20,7 @@ use Rattle.tx_rank.specs.Walks.{Walk, end_of}
 use Rattle.tx_machine.specs.declared.event.Event.{Event}
 use Rattle.tx_machine.specs.declared.event.Event.TheVariants.{Route, Confirm, Block, Unblock}
 use Rattle.tx_machine.specs.Refusals.{is_group}
-use Rattle.tx_machine.proofs.Lists.{find_mem, at_place}
+use Rattle.tx_machine.proofs.Lists.{find_mem, at_index}
 use Rattle.tx_machine.proofs.Steps.{all_mem}
 use Rattle.tx_script.specs.Events.{IsWritable}
 use Rattle.tx_audit.specs.Counter.{first_range, first_code, calls_from, low_line, first_line, listed_before, step_events, walk_events, shut_events, walked_by, walked, turns_on_one, counter_of}
@@ -34,7 +34,7 @@ all_append P (x ∷ xs) ys h k = (h.0, all_append P xs ys h.1 k)
 keyed_width : (p : Plan) → IsPlan p → (c : ℕ) → c < length p.codes → are_figures 1 12 (figures_of p c) ≡ true
 keyed_width p ok c within =
     let row = entry_at p.codes c within in
-    let f = (at_place (IsCode p) p.codes ok.codes c row.0 row.1).figures in
+    let f = (at_index (IsCode p) p.codes ok.codes c row.0 row.1).figures in
     let e : figures_of p c ≡ row.0.figures = ap (λ o. option_map_or (λ (k : Code). k.figures) o []) row.1 in
     subst (λ (text : List ℕ). are_figures 1 12 text ≡ true) (sym e) (wide row.0.figures f)
   where

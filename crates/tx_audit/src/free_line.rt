@@ -10,8 +10,8 @@ use tx_plan::{CodeId, ExchangeId, Line, LineRange, Plan};
 fn first_range<A: Allocator>(plan: &Plan<A>, code: CodeId) -> Option<LineRange>
     ensures { result ≡ first_range plan.now code }
 {
-    for place in 0..plan.ranges() {
-        let Some(range) = plan.range_at(place) else {
+    for index in 0..plan.ranges() {
+        let Some(range) = plan.range_at(index) else {
             unreachable!()
         };
         if range.code == code {
@@ -27,8 +27,8 @@ pub(crate) fn first_line<A: Allocator>(plan: &Plan<A>, start: ExchangeId) -> Opt
     ensures line { result ≡ first_line plan.now start }
     ensures rules { IsPlan plan.now }
 {
-    for place in 0..plan.codes() {
-        let code = CodeId::of(place);
+    for index in 0..plan.codes() {
+        let code = CodeId::of(index);
         if plan.home(code) != start {
             continue;
         }

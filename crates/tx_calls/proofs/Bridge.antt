@@ -8,13 +8,13 @@ use Rattle.slab.specs.Slab.{Slab}
 use Rattle.indexmap.specs.IndexMap.{IndexMap}
 use Rattle.tx_machine.specs.Call.{Call}
 use Rattle.tx_machine.specs.Routing.{set_call}
-use Rattle.tx_calls.specs.Calls.{Kept, Calls, kept_at, Changes, sorted_calls, calls_in, kept_of, slots_of, calls_of}
+use Rattle.tx_calls.specs.KeptCalls.{Kept, KeptCalls, kept_at, Changes, sorted_calls, calls_in, kept_of, slots_of, calls_of}
 use Rattle.tx_machine.specs.Seen.{call_seen}
 use Rattle.tx_calls.specs.inner.Tied.{IsTied}
 use Rattle.tx_machine.specs.declared.open_call.OpenCall.{OpenCall}
 use Rattle.tx_calls.proofs.Sorted.{length_put, after_change, tied_distinct, tied_after_change}
 
-pub some_under : (v : Calls) (key : ℕ) → is_some (kept_at v key) ≡ true → (k : Kept) × (kept_at v key ≡ Some k)
+pub some_under : (v : KeptCalls) (key : ℕ) → is_some (kept_at v key) ≡ true → (k : Kept) × (kept_at v key ≡ Some k)
 some_under v key h = by (kept_at v key) refl h
   where
     by : (o : Option Kept) → kept_at v key ≡ o → is_some o ≡ true → (k : Kept) × (kept_at v key ≡ Some k)
@@ -52,11 +52,11 @@ module _ {A S : Type 0} where
       by (Some c) q h = (c, q, let same : kept_of c ≡ k = cc in same)
 
   -- A CALL CHANGES, AND KEEPS ITS NUMBER
-  module _ (s s' : Slab (OpenCall A)) (m : IndexMap ℕ ℕ S) (tied : IsTied (slots_of s) m) (v : Calls) (view : calls_of s m ≡ v) (key : ℕ)
+  module _ (s s' : Slab (OpenCall A)) (m : IndexMap ℕ ℕ S) (tied : IsTied (slots_of s) m) (v : KeptCalls) (view : calls_of s m ≡ v) (key : ℕ)
       (f : Call → Call) (keeps : (c : Call) → (f c).number ≡ c.number)
       (write : (c : OpenCall A) → slab.get s key ≡ Some c → (d : OpenCall A) × slab.Updates s s' key (Some d) × (call_seen d ≡ f (call_seen c))) where
     under : (k : Kept) → kept_at v key ≡ Some k → (c : OpenCall A) × (slab.get s key ≡ Some c) × (kept_of c ≡ k)
-    under k was = call_under s m key k (subst (λ (w : Calls). kept_at w key ≡ Some k) (sym view) was)
+    under k was = call_under s m key k (subst (λ (w : KeptCalls). kept_at w key ≡ Some k) (sym view) was)
 
     tied_by : (k : Kept) → kept_at v key ≡ Some k → IsTied (slots_of s') m
     tied_by k was =
@@ -73,7 +73,7 @@ module _ {A S : Type 0} where
         let u = under k was in
         let w = write u.0 u.1 in (
           (kept_of w.0).room,
-          subst (λ (z : Calls). Changes z (calls_of s' m) key (Some (record { call = f k.call; room = (kept_of w.0).room }))) view
+          subst (λ (z : KeptCalls). Changes z (calls_of s' m) key (Some (record { call = f k.call; room = (kept_of w.0).room }))) view
               (subst (λ (z : Call). Changes (calls_of s m) (calls_of s' m) key (Some (record { call = z; room = (kept_of w.0).room }))) (w.2 ∙ ap (λ (z : Kept). f z.call) u.2) (changes_of s s' m m key (Some w.0) w.1)),
         )
 
@@ -86,18 +86,18 @@ module _ {A S : Type 0} where
         ∙ (λ i. set_call (u.2 i).call.number f (calls_in (view i)))
 
   -- with what room it has
-  pub changes_exactly : (s s' : Slab (OpenCall A)) (m : IndexMap ℕ ℕ S) (v : Calls) (view : calls_of s m ≡ v) (key : ℕ) (h : Kept → Kept)
+  pub changes_exactly : (s s' : Slab (OpenCall A)) (m : IndexMap ℕ ℕ S) (v : KeptCalls) (view : calls_of s m ≡ v) (key : ℕ) (h : Kept → Kept)
       → ((c : OpenCall A) → slab.get s key ≡ Some c → (d : OpenCall A) × slab.Updates s s' key (Some d) × (kept_of d ≡ h (kept_of c)))
       → (k : Kept) → kept_at v key ≡ Some k → Changes v (calls_of s' m) key (Some (h k))
   changes_exactly s s' m v view key h write k was =
-      let u = call_under s m key k (subst (λ (w : Calls). kept_at w key ≡ Some k) (sym view) was) in
+      let u = call_under s m key k (subst (λ (w : KeptCalls). kept_at w key ≡ Some k) (sym view) was) in
       let w = write u.0 u.1 in
-      subst (λ (z : Calls). Changes z (calls_of s' m) key (Some (h k))) view
+      subst (λ (z : KeptCalls). Changes z (calls_of s' m) key (Some (h k))) view
       (subst (λ z. Changes (calls_of s m) (calls_of s' m) key (Some z)) (w.2 ∙ ap h u.2) (changes_of s s' m m key (Some w.0) w.1))
 
-  pub room_under : (s : Slab (OpenCall A)) (m : IndexMap ℕ ℕ S) (v : Calls) → calls_of s m ≡ v → (key : ℕ) → ((k : Kept) → kept_at v key ≡ Some k → 0 < k.room)
+  pub room_under : (s : Slab (OpenCall A)) (m : IndexMap ℕ ℕ S) (v : KeptCalls) → calls_of s m ≡ v → (key : ℕ) → ((k : Kept) → kept_at v key ≡ Some k → 0 < k.room)
       → (c : OpenCall A) → slab.get s key ≡ Some c → 0 < (kept_of c).room
-  room_under s m v view key room c e = room (kept_of c) (ap (λ (w : Calls). kept_at w key) (sym view) ∙ kept_is s m key ∙ ap (option_map kept_of) e)
+  room_under s m v view key room c e = room (kept_of c) (ap (λ (w : KeptCalls). kept_at w key) (sym view) ∙ kept_is s m key ∙ ap (option_map kept_of) e)
 
 -- nothing changes by the identity
 pub set_none : (n : ℕ) (cs : List Call) → set_call n (λ k. k) cs ≡ cs

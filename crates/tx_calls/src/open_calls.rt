@@ -7,7 +7,7 @@ ghost use Rattle.tx_machine.specs.Confirming.{carried_on, thrown_back};
 ghost use Rattle.slab.specs.Slab.{get, HasRoomFor, Updates};
 ghost use Rattle.tx_machine.specs.declared.open_call.Phase.TheVariants.{Standing};
 ghost use Rattle.tx_machine.specs.declared.open_call.OpenCall.{OpenCall};
-ghost use Rattle.tx_calls.specs.Calls.{Kept, HasRoom, kept_at, Changes, calls_in, kept_of};
+ghost use Rattle.tx_calls.specs.KeptCalls.{Kept, HasRoom, kept_at, Changes, calls_in, kept_of};
 ghost use Rattle.tx_machine.specs.Seen.{call_seen};
 
 use indexmap::IndexMap;
@@ -26,10 +26,10 @@ pub struct OpenCalls<A: Allocator = Global> {
 }
 
 impl<A: Allocator> Model for OpenCalls<A> {
-    ghost use Rattle.tx_calls.specs.Calls.{Calls, calls_of, slots_of};
+    ghost use Rattle.tx_calls.specs.KeptCalls.{KeptCalls, calls_of, slots_of};
     ghost use Rattle.tx_calls.specs.inner.Tied.{IsTied};
 
-    ghost Value = { Calls };
+    ghost Value = { KeptCalls };
 
     ghost view = { λ c. calls_of c.calls c.by_number };
 

@@ -1,4 +1,4 @@
--- What is written at each place of a plan, one after another.
+-- What is written at each index of a plan, one after another.
 use Rattle.std.proofs.Common.{◌≡◌, ℕ, zero, suc, ◌+◌, ◌-◌, ◌<◌, Bool, List, ◌∷◌, ◌++◌, Option, Ok, Err, refl, ap, ◌∙◌, subst, arith, append-nil}
 use Rattle.std.specs.Prelude.{IsErr}
 use Rattle.std.specs.List.{flat_map, range_with_len}
@@ -19,13 +19,13 @@ range_split a (suc m) n =
     rw (e, s) (ap (λ l. a ∷ l) (range_split (a + 1) m n))
 
 module _ {A : Type 0} (f : ℕ → List A) where
-  -- what stands at one place more
+  -- what stands at one index more
   pub flat_map-range_more : (i : ℕ) → flat_map f (range_with_len 0 (i + 1)) ≡ flat_map f (range_with_len 0 i) ++ f i
   flat_map-range_more i =
       let e : 0 + i ≡ i = omega arith in
       ap (flat_map f) (range_split 0 i 1) ∙ flat_map-append f (range_with_len 0 i) (range_with_len (0 + i) 1) ∙ ap (λ l. flat_map f (range_with_len 0 i) ++ l) (rw e (append-nil (f i)))
 
-  -- what stands before a place, there, and after it
+  -- what stands before an index, there, and after it
   pub flat_map-range_at : (i n : ℕ) → i < n → flat_map f (range_with_len 0 n) ≡ flat_map f (range_with_len 0 i) ++ (f i ++ flat_map f (range_with_len (i + 1) (n - (i + 1))))
   flat_map-range_at i n lt =
       let e : n ≡ i + suc (n - (i + 1)) = omega (arith, lt) in
@@ -34,18 +34,18 @@ module _ {A : Type 0} (f : ℕ → List A) where
       ∙ flat_map-append f (range_with_len 0 i) (range_with_len (0 + i) (suc (n - (i + 1)))) ∙ rw s refl
 
 module _ (f : ℕ → List (List (List ℕ))) where
-  -- the lines of the places before one
+  -- the lines of the indexes before one
   abbrev lines : ℕ → List ℕ
   lines i = flat_map line_written (flat_map f (range_with_len 0 i))
 
-  -- the lines of one place more were written
+  -- the lines of one index more were written
   pub lines_more : (i x : ℕ) (a b c : Option (List ℕ)) (k m n : Bool) → x ≡ i → WroteBy a b k m (lines i) (Ok tt) → WroteBy b c m n (flat_map line_written (f x)) (Ok tt) → WroteBy a c k n (lines (i + 1)) (Ok tt)
   lines_more i x a b c k m n e v w =
       let more : lines (i + 1) ≡ lines i ++ flat_map line_written (f i) = ap (λ l. flat_map line_written l) (flat_map-range_more f i) ∙ flat_map-append line_written (flat_map f (range_with_len 0 i)) (f i) in
       text_is a c k n (lines (i + 1)) (lines i ++ flat_map line_written (f i)) (Ok tt) more
       (wrote_then a b c k m n (lines i) (flat_map line_written (f i)) (Ok tt) v (subst (λ (j : ℕ). WroteBy b c m n (flat_map line_written (f j)) (Ok tt)) e w))
 
-  -- a stop in the lines of a place: those before it were written
+  -- a stop in the lines of an index: those before it were written
   pub lines_stopped : (i n x : ℕ) (a b c : Option (List ℕ)) (k m o : Bool) (r : Outcome) (fault : WriteFault) → i < n → x ≡ i → WroteBy a b k m (lines i) (Ok tt) → WroteBy b c m o (flat_map line_written (f x)) (Err fault) → IsErr r → WroteBy a c k o (lines n) r
   lines_stopped i n x a b c k m o r fault lt e v w bad =
       let rest = flat_map f (range_with_len (i + 1) (n - (i + 1))) in
@@ -56,6 +56,6 @@ module _ (f : ℕ → List (List (List ℕ))) where
       (wrote_then a b c k m o (lines i) (flat_map line_written (f i) ++ flat_map line_written rest) r v
       (wrote_first b c m o (flat_map line_written (f i)) (flat_map line_written rest) r fault (subst (λ (j : ℕ). WroteBy b c m o (flat_map line_written (f j)) (Err fault)) e w) bad))
 
-  -- the lines of all places were written
+  -- the lines of all indexes were written
   pub lines_done : (i n : ℕ) (a b : Option (List ℕ)) (k m : Bool) → i ≡ n → WroteBy a b k m (lines i) (Ok tt) → WroteBy a b k m (lines n) (Ok tt)
   lines_done i n a b k m e v = subst (λ (j : ℕ). WroteBy a b k m (lines j) (Ok tt)) e v

@@ -6,7 +6,7 @@ use Rattle.std.proofs.lemmas.Bool.{lt-ltb, le-ltb}
 use Rattle.std.proofs.lemmas.Bool.Decides.{nat_tests}
 use Rattle.std.proofs.lemmas.Nat.{mul-add-lt, same_from_place}
 use Rattle.tx_cert.specs.Certificate.{Pair, pair_cmp, Certificate, no_ranks, rank_at, with_rank, IsCertificate}
-use Rattle.tx_cert.specs.inner.Table.{place_of}
+use Rattle.tx_cert.specs.inner.Table.{index_of}
 use Rattle.tx_cert.proofs.Pairs.{pairs_total, exact, tells}
 
 -- certificates with the same ranks
@@ -25,7 +25,7 @@ one_more p n away = grind (arith, nat_tests)
 
 module _ (t : Certificate) where
   abbrev is_before : ℕ → Pair → Bool
-  is_before n q = nat_lt (place_of t.exchanges q) n
+  is_before n q = nat_lt (index_of t.exchanges q) n
 
   -- those that have fewer than n before them are ranked as they are, and the others are not
   abbrev pub so_far : ℕ → Certificate
@@ -36,7 +36,7 @@ module _ (t : Certificate) where
 
   -- nothing yet
   pub so_far_none : so_far 0 ≡ no_ranks t.codes t.exchanges
-  so_far_none = same_ranks t.codes t.exchanges _ _ (λ q. kept 0 q ∙ ap (λ b. cond b (get t.ranks q) None) (le-ltb (place_of t.exchanges q) 0 (omega arith)) ∙ sym (get-empty pair_cmp q))
+  so_far_none = same_ranks t.codes t.exchanges _ _ (λ q. kept 0 q ∙ ap (λ b. cond b (get t.ranks q) None) (le-ltb (index_of t.exchanges q) 0 (omega arith)) ∙ sym (get-empty pair_cmp q))
 
   module _ (rules : IsCertificate t) where
     -- all of them
@@ -47,7 +47,7 @@ module _ (t : Certificate) where
         all q None e = none_either (is_before (t.codes * t.exchanges) q) true (get t.ranks q) e
         all q (Some r) e =
             let low = mul-add-lt q.0 t.exchanges q.1 t.codes (rules.own_codes q.0 q.1 r e) (rules.own_exchanges q.0 q.1 r e) in
-            ap (λ b. cond b (get t.ranks q) None) (lt-ltb (place_of t.exchanges q) (t.codes * t.exchanges) (omega arith))
+            ap (λ b. cond b (get t.ranks q) None) (lt-ltb (index_of t.exchanges q) (t.codes * t.exchanges) (omega arith))
 
     module _ (c x : ℕ) (exchange : x < t.exchanges) where
       -- the next one has no rank yet
@@ -59,8 +59,8 @@ module _ (t : Certificate) where
           → cond (is_before (c * t.exchanges + x) q) (get t.ranks q) None ≡ cond (is_before (c * t.exchanges + x + 1) q) (get t.ranks q) None
       others q None e away = none_either (is_before (c * t.exchanges + x) q) (is_before (c * t.exchanges + x + 1) q) (get t.ranks q) e
       others q (Some r) e away =
-          let apart : place_of t.exchanges q ≢ c * t.exchanges + x = λ p. let s = same_from_place q.0 q.1 c x t.exchanges (rules.own_exchanges q.0 q.1 r e) exchange p in away (λ i. (s.0 i, s.1 i)) in
-          ap (λ b. cond b (get t.ranks q) None) (sym (one_more (place_of t.exchanges q) (c * t.exchanges + x) apart))
+          let apart : index_of t.exchanges q ≢ c * t.exchanges + x = λ p. let s = same_from_place q.0 q.1 c x t.exchanges (rules.own_exchanges q.0 q.1 r e) exchange p in away (λ i. (s.0 i, s.1 i)) in
+          ap (λ b. cond b (get t.ranks q) None) (sym (one_more (index_of t.exchanges q) (c * t.exchanges + x) apart))
 
       -- one on, where it has no rank
       pub next_none : rank_at t c x ≡ None → so_far (c * t.exchanges + x) ≡ so_far (c * t.exchanges + x + 1)

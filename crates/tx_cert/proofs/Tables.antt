@@ -12,7 +12,7 @@ use Rattle.std.proofs.lemmas.Nat.{mul-add-lt, same_from_place}
 use Rattle.tx_plan.specs.Among.{Among}
 use Rattle.tx_plan.proofs.Among.{among_map, among_flat}
 use Rattle.tx_cert.specs.Certificate.{Certificate, Pair, pair_cmp, no_ranks, rank_at, with_rank, IsCertificate}
-use Rattle.tx_cert.specs.inner.Table.{Table, IsTable, place_of, rank_in, pairs, entry_of, ranks_in, certificate_of}
+use Rattle.tx_cert.specs.inner.Table.{Table, IsTable, index_of, rank_in, pairs, entry_of, ranks_in, certificate_of}
 use Rattle.tx_cert.proofs.Pairs.{pairs_total, exact, tells}
 
 -- the keys that have a value, each with it
@@ -58,15 +58,15 @@ module _ (t : Table) where
   IsKnown q = (q.0 < t.codes) × (q.1 < t.exchanges)
 
   -- what is ranked in the table is one of its codes and one of its exchanges
-  ranked_in : (q : Pair) (r : ℕ) → rank_in t q ≡ Some r → IsKnown q × (get_or t.ranks (place_of t.exchanges q) None ≡ Some r)
+  ranked_in : (q : Pair) (r : ℕ) → rank_in t q ≡ Some r → IsKnown q × (get_or t.ranks (index_of t.exchanges q) None ≡ Some r)
   ranked_in q r h =
-      elim (nat_lt q.0 t.codes && nat_lt q.1 t.exchanges) as (λ b. (nat_lt q.0 t.codes && nat_lt q.1 t.exchanges) ≡ b → (if b then get_or t.ranks (place_of t.exchanges q) None else None) ≡ Some r → IsKnown q × (get_or t.ranks (place_of t.exchanges q) None ≡ Some r)) [
+      elim (nat_lt q.0 t.codes && nat_lt q.1 t.exchanges) as (λ b. (nat_lt q.0 t.codes && nat_lt q.1 t.exchanges) ≡ b → (if b then get_or t.ranks (index_of t.exchanges q) None else None) ≡ Some r → IsKnown q × (get_or t.ranks (index_of t.exchanges q) None ≡ Some r)) [
         | true ↦ λ e s. let b = and_parts (nat_lt q.0 t.codes) (nat_lt q.1 t.exchanges) e in ((ltb-true q.0 t.codes b.0, ltb-true q.1 t.exchanges b.1), s)
         | false ↦ λ e s. absurd (let bad : ⊥ = cc in bad)
       ] refl h
 
-  rank_known : (q : Pair) → IsKnown q → rank_in t q ≡ get_or t.ranks (place_of t.exchanges q) None
-  rank_known q k = ap (λ b. if b then get_or t.ranks (place_of t.exchanges q) None else None) (and_from (nat_lt q.0 t.codes) (nat_lt q.1 t.exchanges) (lt-ltb q.0 t.codes k.0) (lt-ltb q.1 t.exchanges k.1))
+  rank_known : (q : Pair) → IsKnown q → rank_in t q ≡ get_or t.ranks (index_of t.exchanges q) None
+  rank_known q k = ap (λ b. if b then get_or t.ranks (index_of t.exchanges q) None else None) (and_from (nat_lt q.0 t.codes) (nat_lt q.1 t.exchanges) (lt-ltb q.0 t.codes k.0) (lt-ltb q.1 t.exchanges k.1))
 
   listed : (q : Pair) (o : Option ℕ) → rank_in t q ≡ o → (o ≡ None) ⊎ Among q (pairs t.codes t.exchanges)
   listed q None h = inl refl
@@ -78,7 +78,7 @@ module _ (t : Table) where
   get-ranks_in q = get-from_entries pairs_total (entries_of (rank_in t) (pairs t.codes t.exchanges)) q ∙ found (rank_in t) q (pairs t.codes t.exchanges) (listed q (rank_in t q) refl)
 
   -- what is ranked in the map is so in the table
-  ranked_at : (c x r : ℕ) → rank_at (certificate_of t) c x ≡ Some r → IsKnown (c, x) × (get_or t.ranks (place_of t.exchanges (c, x)) None ≡ Some r)
+  ranked_at : (c x r : ℕ) → rank_at (certificate_of t) c x ≡ Some r → IsKnown (c, x) × (get_or t.ranks (index_of t.exchanges (c, x)) None ≡ Some r)
   ranked_at c x r h = ranked_in (c, x) r (sym (get-ranks_in (c, x)) ∙ h)
 
   pub is_certificate : IsTable t → IsCertificate (certificate_of t)
@@ -87,15 +87,15 @@ module _ (t : Table) where
     own_exchanges = λ c x r h. (ranked_at c x r h).0.1;
     small = λ c x r h.
         let b = ranked_at c x r h in
-        let places = w.places in
+        let entries = w.indexes in
         let low = mul-add-lt c t.exchanges x t.codes b.0.0 b.0.1 in
-        subst (λ o. IfSome o (λ n. n ≤ 65535)) b.1 (w.small (place_of t.exchanges (c, x)) None (omega arith));
+        subst (λ o. IfSome o (λ n. n ≤ 65535)) b.1 (w.small (index_of t.exchanges (c, x)) None (omega arith));
   }
 
   module _ (w : IsTable t) (c x i : ℕ) (code : c < t.codes) (exchange : x < t.exchanges) (at : i ≡ c * t.exchanges + x) where
-    -- the place of a code and an exchange is in the table
+    -- the index of a code and an exchange is in the table
     within : i < length t.ranks
-    within = let places = w.places in let low = mul-add-lt c t.exchanges x t.codes code exchange in omega arith
+    within = let entries = w.indexes in let low = mul-add-lt c t.exchanges x t.codes code exchange in omega arith
 
     -- what stands there is its rank
     pub rank_read : (o : Option ℕ) → o ≡ get_or t.ranks i o → o ≡ rank_at (certificate_of t) c x
@@ -112,7 +112,7 @@ module _ (t : Table) where
 -- A RANK IS WRITTEN
 pub table_set : (t : Table) (i r : ℕ) → IsTable t → r ≤ 65535 → IsTable (record t { ranks = slice_set t.ranks i (Some r) })
 table_set t i r w l = record {
-  places = length-set t.ranks i (Some r) ∙ w.places;
+  entries = length-set t.ranks i (Some r) ∙ w.indexes;
   small = All-set (λ o. IfSome o (λ n. n ≤ 65535)) t.ranks i (Some r) l w.small;
 }
 
@@ -128,11 +128,11 @@ module _ (t : Table) (w : IsTable t) (c x i r : ℕ) (code : c < t.codes) (excha
   there : (q : Pair) → q ≢ (c, x) → rank_in table_with q ≡ rank_in t q
   there q away =
       elim (nat_lt q.0 t.codes && nat_lt q.1 t.exchanges) as (λ b. (nat_lt q.0 t.codes && nat_lt q.1 t.exchanges) ≡ b
-      → (if b then get_or (slice_set t.ranks i (Some r)) (place_of t.exchanges q) None else None) ≡ (if b then get_or t.ranks (place_of t.exchanges q) None else None)) [
+      → (if b then get_or (slice_set t.ranks i (Some r)) (index_of t.exchanges q) None else None) ≡ (if b then get_or t.ranks (index_of t.exchanges q) None else None)) [
         | true ↦ λ e.
             let low = ltb-true q.1 t.exchanges (and_parts (nat_lt q.0 t.codes) (nat_lt q.1 t.exchanges) e).1 in
-            let other : place_of t.exchanges q ≢ i = λ p. let s = same_from_place q.0 q.1 c x t.exchanges low exchange (p ∙ at) in away (λ k. (s.0 k, s.1 k)) in
-            get_or-set_other t.ranks i (place_of t.exchanges q) (Some r) None other
+            let other : index_of t.exchanges q ≢ i = λ p. let s = same_from_place q.0 q.1 c x t.exchanges low exchange (p ∙ at) in away (λ k. (s.0 k, s.1 k)) in
+            get_or-set_other t.ranks i (index_of t.exchanges q) (Some r) None other
         | false ↦ λ e. refl
       ] refl
 

@@ -20,15 +20,15 @@ leads_on f v a b c (x ∷ xs) ys h k = (h.0, h.1, h.2, h.3, h.4, leads_on f v h.
 
 module _ (p : Plan) (t : Certificate) (h : IsPlan p) (k : IsCertificateOf p t) where
   -- how many pairs stand before this one
-  abbrev place : ℕ → ℕ → ℕ
-  place c x = c * t.exchanges + x
+  abbrev index : ℕ → ℕ → ℕ
+  index c x = c * t.exchanges + x
 
   within : (x : ℕ) → x < length p.exchanges → x < t.exchanges
   within x m = rw k.exchanges m
 
   -- the line of a rank
   declared_rank : (c x r : ℕ) → c < length p.codes → x < length p.exchanges → rank_at t c x ≡ Some r → r ≤ 65535
-      → declare p 1 (so_far t (place c x)) (codes "RANK" ∷ figures_of p c ∷ exchange_name p x ∷ decimal r ∷ []) ≡ Ok (so_far t (place c x + 1))
+      → declare p 1 (so_far t (index c x)) (codes "RANK" ∷ figures_of p c ∷ exchange_name p x ∷ decimal r ∷ []) ≡ Ok (so_far t (index c x + 1))
   unfolding declare
   declared_rank c x r l m e small =
       let code = (code_back p h c l).back in
@@ -43,37 +43,37 @@ module _ (p : Plan) (t : Certificate) (h : IsPlan p) (k : IsCertificateOf p t) w
 
   -- at one pair
   pair_by : (c x : ℕ) (o : Option ℕ) → c < length p.codes → x < length p.exchanges → rank_at t c x ≡ o
-      → LeadsTo (declare p) 1 (so_far t (place c x)) (rank_lines p c x o) (so_far t (place c x + 1))
+      → LeadsTo (declare p) 1 (so_far t (index c x)) (rank_lines p c x o) (so_far t (index c x + 1))
   pair_by c x None l m e = next_none t k.rules c x (within x m) e
   pair_by c x (Some r) l m e =
       let s = k.rules.small c x r e in
-      (so_far t (place c x + 1), declared_rank c x r l m e s, refl, omega arith, rank_written c x r l m s, refl)
+      (so_far t (index c x + 1), declared_rank c x r l m e s, refl, omega arith, rank_written c x r l m s, refl)
 
   -- at some exchanges, for one code
   code_leads : (c x n : ℕ) → c < length p.codes → x + n ≡ length p.exchanges
-      → LeadsTo (declare p) 1 (so_far t (place c x)) (code_lines p t c (range_with_len x n)) (so_far t (place (c + 1) 0))
+      → LeadsTo (declare p) 1 (so_far t (index c x)) (code_lines p t c (range_with_len x n)) (so_far t (index (c + 1) 0))
   code_leads c x zero l e =
-      let s : place c x ≡ place (c + 1) 0 = (let q = k.exchanges in omega (arith, q, e)) in
+      let s : index c x ≡ index (c + 1) 0 = (let q = k.exchanges in omega (arith, q, e)) in
       ap (so_far t) s
   code_leads c x (suc n) l e =
-      let s : place c x + 1 ≡ place c (x + 1) = omega arith in
-      leads_on (declare p) 1 (so_far t (place c x)) (so_far t (place c x + 1)) (so_far t (place (c + 1) 0)) (rank_lines p c x (rank_at t c x)) (code_lines p t c (range_with_len (x + 1) n))
+      let s : index c x + 1 ≡ index c (x + 1) = omega arith in
+      leads_on (declare p) 1 (so_far t (index c x)) (so_far t (index c x + 1)) (so_far t (index (c + 1) 0)) (rank_lines p c x (rank_at t c x)) (code_lines p t c (range_with_len (x + 1) n))
       (pair_by c x (rank_at t c x) l (omega (arith, e)) refl)
-      (subst (λ i. LeadsTo (declare p) 1 (so_far t i) (code_lines p t c (range_with_len (x + 1) n)) (so_far t (place (c + 1) 0))) (sym s) (code_leads c (x + 1) n l (omega (arith, e))))
+      (subst (λ i. LeadsTo (declare p) 1 (so_far t i) (code_lines p t c (range_with_len (x + 1) n)) (so_far t (index (c + 1) 0))) (sym s) (code_leads c (x + 1) n l (omega (arith, e))))
 
   -- for some codes
   codes_lead : (c n : ℕ) → c + n ≡ length p.codes
-      → LeadsTo (declare p) 1 (so_far t (place c 0)) (flat_map (λ i. code_lines p t i (range_with_len 0 (length p.exchanges))) (range_with_len c n)) t
+      → LeadsTo (declare p) 1 (so_far t (index c 0)) (flat_map (λ i. code_lines p t i (range_with_len 0 (length p.exchanges))) (range_with_len c n)) t
   codes_lead c zero e =
-      let q = k.codes in let s : c ≡ t.codes = omega (arith, q, e) in let n : place c 0 ≡ t.codes * t.exchanges = rw s (omega arith) in ap (so_far t) n ∙ so_far_all t k.rules
+      let q = k.codes in let s : c ≡ t.codes = omega (arith, q, e) in let n : index c 0 ≡ t.codes * t.exchanges = rw s (omega arith) in ap (so_far t) n ∙ so_far_all t k.rules
   codes_lead c (suc n) e =
-      leads_on (declare p) 1 (so_far t (place c 0)) (so_far t (place (c + 1) 0)) t (code_lines p t c (range_with_len 0 (length p.exchanges))) _
+      leads_on (declare p) 1 (so_far t (index c 0)) (so_far t (index (c + 1) 0)) t (code_lines p t c (range_with_len 0 (length p.exchanges))) _
       (code_leads c 0 (length p.exchanges) (omega (arith, e)) (omega arith))
       (codes_lead (c + 1) n (omega (arith, e)))
 
-  nothing_yet : no_ranks_for p ≡ so_far t (place 0 0)
+  nothing_yet : no_ranks_for p ≡ so_far t (index 0 0)
   nothing_yet =
-      let first : 0 ≡ place 0 0 = omega arith in
+      let first : 0 ≡ index 0 0 = omega arith in
       (λ i. no_ranks (sym k.codes i) (sym k.exchanges i)) ∙ sym (so_far_none t) ∙ ap (so_far t) first
 
   lines_lead : LeadsTo (declare p) 1 (no_ranks_for p) (cert_lines p t) t

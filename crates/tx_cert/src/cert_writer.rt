@@ -37,8 +37,8 @@ fn write_ranks<A: Allocator, W: Sink>(
     ensures { Wrote W.taken W.failed sink.old sink.new
         (flat_map line_written (cert_lines plan.now cert.now)) result }
 {
-    for place in 0..plan.codes() {
-        write_code(cert, plan, CodeId::of(place), sink)?;
+    for index in 0..plan.codes() {
+        write_code(cert, plan, CodeId::of(index), sink)?;
     }
     Ok(())
 }
@@ -53,8 +53,8 @@ fn write_code<A: Allocator, W: Sink>(
     ensures { Wrote W.taken W.failed sink.old sink.new (flat_map line_written
         (code_lines plan.now cert.now code (range_with_len 0 (length plan.now.exchanges)))) result }
 {
-    for place in 0..plan.exchanges() {
-        write_rank(cert, plan, code, ExchangeId::of(place), sink)?;
+    for index in 0..plan.exchanges() {
+        write_rank(cert, plan, code, ExchangeId::of(index), sink)?;
     }
     Ok(())
 }

@@ -1,4 +1,4 @@
--- Lists that are alike at each place, and entries that are.
+-- Lists that are alike at each index, and entries that are.
 use Rattle.std.proofs.Common.{◌≡◌, ℕ, suc, ◌<◌, Bool, true, List, [], ◌∷◌, length, Option, Some, refl, sym, ap, ◌∙◌}
 use Rattle.std.specs.Prelude.{slice_get}
 use Rattle.std.specs.Option.{option_map_or}
@@ -9,7 +9,7 @@ use Rattle.tx_plan.specs.declared.ids.Direction.TheVariants.{OneWay}
 use Rattle.tx_plan.specs.Plan.{Plan, Code, Group, exchange_name, figures_of, home_of, group_name}
 use Rattle.tx_plan.specs.Circuits.{direction_of, count_of, ends_of}
 use Rattle.tx_plan.specs.Mixtures.{SameNetwork}
-use Rattle.tx_plan.proofs.ByPlace.{entry_at}
+use Rattle.tx_plan.proofs.ByIndex.{entry_at}
 use Rattle.tx_change.specs.declared.difference.NetworkList.TheVariants.{Exchanges, Codes, Ranges, Groups}
 use Rattle.tx_change.specs.Difference.{SameList}
 
@@ -25,7 +25,7 @@ alike (x ∷ xs) (y ∷ ys) h =
 pub one_network : (p q : Plan) → SameList Exchanges p q → SameList Codes p q → SameList Ranges p q → SameList Groups p q → SameNetwork p q
 one_network p q a b c d = record { exchanges = alike p.exchanges q.exchanges a; codes = alike p.codes q.codes b; ranges = alike p.ranges q.ranges c; groups = alike p.groups q.groups d }
 
--- entries at a place are alike if what they are made of is
+-- entries at an index are alike if what they are made of is
 entries_alike : {A : Type 0} (xs ys : List A) (i : ℕ) → i < length xs → i < length ys → ((x y : A) → slice_get xs i ≡ Some x → slice_get ys i ≡ Some y → x ≡ y) → slice_get xs i ≡ slice_get ys i
 entries_alike xs ys i l m h = let a = entry_at xs i l in let b = entry_at ys i m in a.1 ∙ (ap (λ k. Some k) (h a.0 b.0 a.1 b.1) ∙ sym b.1)
 

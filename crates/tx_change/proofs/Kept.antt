@@ -1,4 +1,4 @@
--- Members of a list that are kept, one place after another.
+-- Members of a list that are kept, one index after another.
 use Rattle.std.proofs.Common.{◌≡◌, ◌≢◌, ℕ, zero, suc, ◌+◌, ◌==◌, Bool, true, false, not, cond, ◌&&◌, ◌||◌, List, [], ◌∷◌, ◌++◌, take, Option, Some, None, Result, Ok, Err, OnOk, IfOk, inl, inr, eqb-true, refl, sym, ap, ◌∙◌, arith, append_assoc}
 use mathlib.Core.Bool.{beq}
 use Rattle.std.specs.Prelude.{filter, slice_get}
@@ -12,7 +12,7 @@ use Rattle.tx_plan.specs.Routes.{route_list}
 use Rattle.tx_plan.specs.Mixed.{is_route_there, is_bar_there}
 use Rattle.tx_plan.proofs.Filtered.{any_out}
 use Rattle.tx_plan.proofs.ListFound.{list_found}
-use Rattle.tx_machine.proofs.Lists.{at_place}
+use Rattle.tx_machine.proofs.Lists.{at_index}
 use Rattle.tx_change.specs.inner.Kept.{keeps, kept_alone, has_route_as, has_bar_as}
 
 module _ {A : Type 0} (s : A → Bool) where
@@ -47,7 +47,7 @@ module _ (s : Route → Bool) where
   route_fresh (q ∷ rs) zero r d at = refl
   route_fresh (q ∷ rs) (suc i) r d at =
       let rest = route_fresh rs i r d.1 at in
-      let apart = at_place (λ (r : Route). q.exchange ≡ r.exchange → q.code ≢ r.code) rs d.0 i r at in
+      let apart = at_index (λ (r : Route). q.exchange ≡ r.exchange → q.code ≢ r.code) rs d.0 i r at in
       let t : ((q.exchange == r.exchange) && (q.code == r.code)) ≡ false = elim (cases_eq q.exchange r.exchange) [
         | inr n ↦ and_left (q.exchange == r.exchange) (q.code == r.code) (ne_eqb q.exchange r.exchange n)
         | inl m ↦ and_right (q.exchange == r.exchange) (q.code == r.code) (ne_eqb q.code r.code (apart m))
@@ -68,7 +68,7 @@ module _ (s : Pair → Bool) where
   bar_fresh (q ∷ rs) zero r d at = refl
   bar_fresh (q ∷ rs) (suc i) r d at =
       let rest = bar_fresh rs i r d.1 at in
-      let apart = at_place (λ (r : Pair). q.exchange ≡ r.exchange → q.code ≢ r.code) rs d.0 i r at in
+      let apart = at_index (λ (r : Pair). q.exchange ≡ r.exchange → q.code ≢ r.code) rs d.0 i r at in
       let t : ((q.exchange == r.exchange) && (q.code == r.code)) ≡ false = elim (cases_eq q.exchange r.exchange) [
         | inr n ↦ and_left (q.exchange == r.exchange) (q.code == r.code) (ne_eqb q.exchange r.exchange n)
         | inl m ↦ and_right (q.exchange == r.exchange) (q.code == r.code) (ne_eqb q.code r.code (apart m))
@@ -105,7 +105,7 @@ bar_not_before c there r h rs =
     ap not (alike ∙ h))
     rs
 
--- THE ENTRY AT A PLACE
+-- THE ENTRY AT AN INDEX
 
 pub keeps_test : (w t : Bool) → not (beq t w) ≡ false → keeps w t ≡ true
 keeps_test true true h = refl
@@ -116,7 +116,7 @@ keeps_test false false h = refl
 pub groups_alike : (x c : ℕ) (gs hs : List ℕ) → gs ≡ hs → ◌≡◌ {A = Route} (record { exchange = x; code = c; groups = gs }) (record { exchange = x; code = c; groups = hs })
 groups_alike x c gs hs e = λ i. record { exchange = x; code = c; groups = e i }
 
--- the route at a place, of which the exchange and the code are told
+-- the route at an index, of which the exchange and the code are told
 pub route_is : (p : Plan) → IsPlan p → (i : ℕ) (at : ℕ × ℕ) → ◌≡◌ {A = Option (ℕ × ℕ)} (Some at) (option_map (λ (r : Route). (r.exchange, r.code)) (slice_get p.routes i))
     → slice_get p.routes i ≡ Some (record { exchange = at.0; code = at.1; groups = route_list p at.0 at.1 })
 route_is p ok i at e = by_get (slice_get p.routes i) refl e

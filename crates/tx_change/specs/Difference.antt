@@ -6,7 +6,7 @@ use Rattle.tx_change.specs.declared.difference.NetworkList.{NetworkList}
 use Rattle.tx_change.specs.declared.difference.NetworkList.TheVariants.{Exchanges, Codes, Ranges, Groups}
 use Rattle.tx_change.specs.declared.difference.Difference.{Difference}
 
--- at a place of a list both plans have the same entry, or both have none
+-- at an index of a list both plans have the same entry, or both have none
 abbrev pub SameAt : NetworkList → (p q : Plan) → ℕ → Type 0
 SameAt Exchanges p q i = slice_get p.exchanges i ≡ slice_get q.exchanges i
 SameAt Codes p q i = slice_get p.codes i ≡ slice_get q.codes i
@@ -17,10 +17,10 @@ SameAt Groups p q i = slice_get p.groups i ≡ slice_get q.groups i
 abbrev pub SameList : NetworkList → (p q : Plan) → Type 0
 SameList list p q = (i : ℕ) → SameAt list p q i
 
--- the first place at which their lists differ
-pub record DiffersFirst (list : NetworkList) (p q : Plan) (place : ℕ) : Type 0 where
-  pub before : (i : ℕ) → i < place → SameAt list p q i
-  pub here : SameAt list p q place → ⊥
+-- the first index at which their lists differ
+pub record DiffersFirst (list : NetworkList) (p q : Plan) (index : ℕ) : Type 0 where
+  pub before : (i : ℕ) → i < index → SameAt list p q i
+  pub here : SameAt list p q index → ⊥
 
 -- the lists before this one are the same
 abbrev pub SameBefore : NetworkList → (p q : Plan) → Type 0
@@ -32,4 +32,4 @@ SameBefore Groups p q = SameList Exchanges p q × SameList Codes p q × SameList
 -- one network, or the first list that differs, and its first entry that does
 abbrev pub DifferenceAnswer : (p q : Plan) → Option Difference → Type 0
 DifferenceAnswer p q None = SameNetwork p q
-DifferenceAnswer p q (Some d) = SameBefore d.list p q × DiffersFirst d.list p q d.place
+DifferenceAnswer p q (Some d) = SameBefore d.list p q × DiffersFirst d.list p q d.index

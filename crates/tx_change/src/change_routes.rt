@@ -9,7 +9,7 @@ ghost use Rattle.tx_change.specs.inner.Joined.{AreJoined};
 use crate::joined::Groups;
 use std::alloc::Allocator;
 use tx_plan::{CodeId, ExchangeId, GroupId, Plan};
-use tx_rank::Routes;
+use tx_rank::CodeNet;
 
 /// The routes of one code of an old and a new plan of one network.
 #[derive(Drop)]
@@ -25,15 +25,15 @@ pub struct ChangeRoutes<'a, A: Allocator> {
     ghost net: { IsNet (change_net old.now new.now code) } by { IsNet-prop (change_net old.now new.now code) },
 }
 
-impl<'a, A: Allocator> Routes for ChangeRoutes<'a, A> {
+impl<'a, A: Allocator> CodeNet for ChangeRoutes<'a, A> {
     ghost net = { λ r. change_net r.old.now r.new.now r.code };
 
     fn exchanges(&self) -> usize {
         self.old.exchanges()
     }
 
-    fn exchange(&self, place: usize) -> ExchangeId {
-        ExchangeId::of(place)
+    fn exchange(&self, index: usize) -> ExchangeId {
+        ExchangeId::of(index)
     }
 
     fn home(&self) -> ExchangeId {

@@ -73,8 +73,8 @@ fn change_each<A: Allocator + Copy>(
     ensures { IfOk result (λ _. IsChangedBelow old.now new.now limits.limit limits.spare
         (length old.now.codes) cert.new findings.new.items) }
 {
-    for place in 0..old.codes() {
-        let code = CodeId::of(place);
+    for index in 0..old.codes() {
+        let code = CodeId::of(index);
         change_code(alloc, old, new, origins, code, limits, cert, findings)?;
     }
     Ok(())

@@ -25,8 +25,8 @@ pub enum NetworkList {
 pub struct Difference {
     /// The list.
     pub list: NetworkList,
-    /// The place of the entry, from 0.
-    pub place: u16,
+    /// The index of the entry, from 0.
+    pub index: u16,
 }
 
 /// The first list in which two plans are not of one network, and its first entry that differs. None
@@ -36,34 +36,34 @@ pub fn first_difference<A: Allocator>(old: &Plan<A>, new: &Plan<A>) -> Option<Di
     ensures { DifferenceAnswer old.now new.now result }
 {
     let list = NetworkList::Exchanges;
-    if let Some(place) = first_apart(list, old, new) {
-        return Some(Difference { list, place });
+    if let Some(index) = first_apart(list, old, new) {
+        return Some(Difference { list, index });
     }
     let list = NetworkList::Codes;
-    if let Some(place) = first_apart(list, old, new) {
-        return Some(Difference { list, place });
+    if let Some(index) = first_apart(list, old, new) {
+        return Some(Difference { list, index });
     }
     let list = NetworkList::Ranges;
-    if let Some(place) = first_apart(list, old, new) {
-        return Some(Difference { list, place });
+    if let Some(index) = first_apart(list, old, new) {
+        return Some(Difference { list, index });
     }
     let list = NetworkList::Groups;
-    if let Some(place) = first_apart(list, old, new) {
-        return Some(Difference { list, place });
+    if let Some(index) = first_apart(list, old, new) {
+        return Some(Difference { list, index });
     }
     None
 }
 
-/// The first place at which a list differs.
+/// The first index at which a list differs.
 fn first_apart<A: Allocator>(list: NetworkList, old: &Plan<A>, new: &Plan<A>) -> Option<u16>
     ensures { ApartAnswer list old.now new.now result }
 {
     let before = entries(list, old);
     let after = entries(list, new);
     let shorter = before.min(after);
-    for place in 0..shorter {
-        if !is_same_at(list, old, new, place) {
-            return Some(place);
+    for index in 0..shorter {
+        if !is_same_at(list, old, new, index) {
+            return Some(index);
         }
     }
     if before == after { None } else { Some(shorter) }
@@ -82,17 +82,17 @@ fn entries<A: Allocator>(list: NetworkList, plan: &Plan<A>) -> u16
     count as u16
 }
 
-/// Whether a list has the same entry at a place.
-fn is_same_at<A: Allocator>(list: NetworkList, old: &Plan<A>, new: &Plan<A>, place: u16) -> bool
-    requires old { place < entries_in list old.now }
-    requires new { place < entries_in list new.now }
-    ensures { result ≡ true ↔ SameAt list old.now new.now place }
+/// Whether a list has the same entry at an index.
+fn is_same_at<A: Allocator>(list: NetworkList, old: &Plan<A>, new: &Plan<A>, index: u16) -> bool
+    requires old { index < entries_in list old.now }
+    requires new { index < entries_in list new.now }
+    ensures { result ≡ true ↔ SameAt list old.now new.now index }
 {
-    let place = usize::from(place);
+    let index = usize::from(index);
     match list {
-        NetworkList::Exchanges => is_same_exchange(old, new, ExchangeId::of(place)),
-        NetworkList::Codes => is_same_code(old, new, CodeId::of(place)),
-        NetworkList::Ranges => is_same_range(old, new, place),
-        NetworkList::Groups => is_same_group(old, new, GroupId::of(place)),
+        NetworkList::Exchanges => is_same_exchange(old, new, ExchangeId::of(index)),
+        NetworkList::Codes => is_same_code(old, new, CodeId::of(index)),
+        NetworkList::Ranges => is_same_range(old, new, index),
+        NetworkList::Groups => is_same_group(old, new, GroupId::of(index)),
     }
 }

@@ -23,13 +23,13 @@ pub fn is_same_code<A: Allocator>(old: &Plan<A>, new: &Plan<A>, code: CodeId) ->
     old.home(code) == new.home(code) && old.code_figures(code) == new.code_figures(code)
 }
 
-/// Whether two plans have the same range at a place.
-pub fn is_same_range<A: Allocator>(old: &Plan<A>, new: &Plan<A>, place: usize) -> bool
-    requires old { place < length old.now.ranges }
-    requires new { place < length new.now.ranges }
-    ensures { result ≡ true ↔ slice_get old.now.ranges place ≡ slice_get new.now.ranges place }
+/// Whether two plans have the same range at an index.
+pub fn is_same_range<A: Allocator>(old: &Plan<A>, new: &Plan<A>, index: usize) -> bool
+    requires old { index < length old.now.ranges }
+    requires new { index < length new.now.ranges }
+    ensures { result ≡ true ↔ slice_get old.now.ranges index ≡ slice_get new.now.ranges index }
 {
-    match (old.range_at(place), new.range_at(place)) {
+    match (old.range_at(index), new.range_at(index)) {
         (Some(a), Some(b)) => a.code == b.code && a.low == b.low && a.high == b.high,
         _ => false,
     }

@@ -67,8 +67,8 @@ pub fn joined_lists<A: Allocator + Copy>(
     ensures { IfOk result (λ lists. AreJoined old.now new.now code lists.items) }
 {
     let mut lists = Vec::new(alloc);
-    for place in 0..old.exchanges() {
-        let exchange = ExchangeId::of(place);
+    for index in 0..old.exchanges() {
+        let exchange = ExchangeId::of(index);
         lists.push(joined(alloc, old, new, code, exchange)?)?;
     }
     Ok(lists)

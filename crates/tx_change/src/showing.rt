@@ -88,26 +88,26 @@ fn add_routes<A: Allocator>(
     ensures { IfOk result (λ _. routes.new
         ≡ routes.old ++ filter (keeps_route from_new taking.now) from.now.routes) }
 {
-    for place in 0..from.routes() {
-        add_route(from, taking, from_new, place, routes)?;
+    for index in 0..from.routes() {
+        add_route(from, taking, from_new, index, routes)?;
     }
     Ok(())
 }
 
-/// Adds the one at a place, if it is in the mixture.
+/// Adds the one at an index, if it is in the mixture.
 fn add_route<A: Allocator>(
     from: &Plan<A>,
     taking: &Taking<'_, A>,
     from_new: bool,
-    place: usize,
+    index: usize,
     routes: &mut Routes<A>,
 ) -> Result<(), NoMemory>
-    requires { (r : Route) → slice_get from.now.routes place ≡ Some r
+    requires { (r : Route) → slice_get from.now.routes index ≡ Some r
         → keeps_route from_new taking.now r ≡ true → has_route_as r routes.old ≡ false }
     ensures { IfOk result (λ _. routes.new ≡ routes.old
-        ++ kept_alone (keeps_route from_new taking.now) (slice_get from.now.routes place)) }
+        ++ kept_alone (keeps_route from_new taking.now) (slice_get from.now.routes index)) }
 {
-    match from.route_at(place) {
+    match from.route_at(index) {
         Some((exchange, code)) => {
             if taking.has_list(exchange, code) != from_new {
                 return Ok(());
@@ -147,26 +147,26 @@ fn add_bars<A: Allocator>(
     ensures { IfOk result (λ _. bars.new
         ≡ bars.old ++ filter (keeps_bar from_new taking.now) from.now.bars) }
 {
-    for place in 0..from.bars() {
-        add_bar(from, taking, from_new, place, bars)?;
+    for index in 0..from.bars() {
+        add_bar(from, taking, from_new, index, bars)?;
     }
     Ok(())
 }
 
-/// Adds the one at a place, if it is in the mixture.
+/// Adds the one at an index, if it is in the mixture.
 fn add_bar<A: Allocator>(
     from: &Plan<A>,
     taking: &Taking<'_, A>,
     from_new: bool,
-    place: usize,
+    index: usize,
     bars: &mut Bars<A>,
 ) -> Result<(), NoMemory>
-    requires { (b : Bar) → slice_get from.now.bars place ≡ Some b
+    requires { (b : Bar) → slice_get from.now.bars index ≡ Some b
         → keeps_bar from_new taking.now b ≡ true → has_bar_as b bars.old ≡ false }
     ensures { IfOk result (λ _. bars.new ≡ bars.old
-        ++ kept_alone (keeps_bar from_new taking.now) (slice_get from.now.bars place)) }
+        ++ kept_alone (keeps_bar from_new taking.now) (slice_get from.now.bars index)) }
 {
-    match from.bar_at(place) {
+    match from.bar_at(index) {
         Some((exchange, code)) => {
             if taking.has_bar(exchange, code) != from_new {
                 return Ok(());

@@ -12,7 +12,7 @@ use Rattle.tx_plan.specs.Certified.{Ranks, IsBelow, LeadsLower, LeadsDown, IsCer
 use Rattle.tx_plan.specs.Rules.{IsPlan, IsCode, IsRange}
 use Rattle.tx_plan.specs.declared.range.LineRange.{LineRange}
 use Rattle.tx_plan.proofs.Ambiguity.{none-ambiguous, ambiguous-none}
-use Rattle.tx_plan.proofs.ByPlace.{entry_at, all_at}
+use Rattle.tx_plan.proofs.ByIndex.{entry_at, all_at}
 use Rattle.tx_check.specs.declared.fault.CheckFault.{CheckFault}
 use Rattle.tx_check.specs.declared.fault.CheckFault.TheVariants.{Short, TargetUnranked, NotLower}
 use Rattle.tx_check.specs.Checks.{at_exchanges, at_pairs, fault_if, is_rank, is_above, is_at_least, rank_away, rank_beyond, ambiguous_fault, ambiguous_faults, home_not_zero_at, home_not_zero_faults, origin_unranked_at, origin_unranked_faults, too_high_at, too_high_faults, too_short_at, too_short_faults, target_unranked_by, target_unranked_at, target_unranked_faults, not_lower_by, not_lower_at, not_lower_faults, check_faults, RanksOnly}

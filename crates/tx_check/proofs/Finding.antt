@@ -1,4 +1,4 @@
--- Lists of what is found at each place: when they are empty, and what comes first.
+-- Lists of what is found at each index: when they are empty, and what comes first.
 use Rattle.std.specs.Prelude.{find, if◌then◌else◌}
 use Rattle.std.specs.Option.{option_map}
 use Rattle.std.proofs.Common.{◌≡◌, ℕ, zero, suc, ◌+◌, ◌-◌, ◌<◌, Bool, true, false, List, [], ◌∷◌, ◌++◌, Option, Some, None, is_some, ◌≢◌, length, get_or, refl, sym, ap, ◌∙◌, subst, arith, below_more, get_or-set_other, get_or-set_same}
@@ -40,7 +40,7 @@ module _ {A : Type 0} where
       none_append (f a) (flat_map f (range_with_len (a + 1) n)) (subst (λ i. f i ≡ []) e (h 0 (omega arith)))
       (none_range f (a + 1) n (λ k l. let s : a + suc k ≡ (a + 1) + k = omega arith in subst (λ i. f i ≡ []) s (h (suc k) (omega (arith, l)))))
 
-  -- nothing is found at any place
+  -- nothing is found at any index
   pub at_none : (f : ℕ → List A) (n : ℕ) → flat_map f (range_with_len 0 n) ≡ [] → (k : ℕ) → k < n → f k ≡ []
   at_none f n h k l = let e : 0 + k ≡ k = omega arith in subst (λ i. f i ≡ []) e (range_none f 0 n h k l)
 
@@ -84,7 +84,7 @@ is_found None h = absurd (let z : ⊥ = cc in z)
 is_found (Some x) h = (x, refl)
 
 module _ (f : ℕ → List CheckFault) where
-  -- nothing was found below a place, and there it was
+  -- nothing was found below an index, and there it was
   pub found_at : (i n x : ℕ) (o : Option CheckFault) → i < n → x ≡ i → o ≡ foremost (f x) → is_some o ≡ true → ((k : ℕ) → k < i → f k ≡ []) → o ≡ foremost (flat_map f (range_with_len 0 n))
   found_at i n x o lt s e h none =
       let y = is_found o h in
@@ -92,7 +92,7 @@ module _ (f : ℕ → List CheckFault) where
       let empty = none_at f i none in
       y.1 ∙ sym (ap foremost (flat_map-range_at f i n lt ∙ ap (λ l. l ++ (f i ++ flat_map f (range_with_len (i + 1) (n - (i + 1))))) empty) ∙ first_left (f i) _ y.0 is)
 
-  -- nothing was found below one place more
+  -- nothing was found below one index more
   pub passed_at : (i x : ℕ) (o : Option CheckFault) → x ≡ i → o ≡ foremost (f x) → is_some o ≡ false → ((k : ℕ) → k < i → f k ≡ []) → (k : ℕ) → k < i + 1 → f k ≡ []
   passed_at i x None s e h none = below_more (λ k. f k ≡ []) i none (ap f (sym s) ∙ nothing (f x) (sym e))
   passed_at i x (Some y) s e h none = absurd (let z : ⊥ = cc in z)
@@ -101,11 +101,11 @@ module _ (f : ℕ → List CheckFault) where
   pub found_none : (n : ℕ) → ((k : ℕ) → k < n → f k ≡ []) → None ≡ foremost (flat_map f (range_with_len 0 n))
   found_none n none = ap foremost (sym (none_at f n none))
 
-  -- what was found first below one place more
+  -- what was found first below one index more
   pub first_more : (i : ℕ) → or_later (foremost (flat_map f (range_with_len 0 i))) (foremost (f i)) ≡ foremost (flat_map f (range_with_len 0 (i + 1)))
   first_more i = sym (ap foremost (flat_map-range_more f i) ∙ first_append (flat_map f (range_with_len 0 i)) (f i))
 
--- the first faults of three kinds below one place more
+-- the first faults of three kinds below one index more
 pub firsts_more : (f g h : ℕ → List CheckFault) (i x : ℕ) (a b r : Firsts) → a ≡ firsts_of (flat_map f (range_with_len 0 i)) (flat_map g (range_with_len 0 i)) (flat_map h (range_with_len 0 i)) → x ≡ i → b ≡ firsts_of (f x) (g x) (h x) → r ≡ firsts_or a b
     → r ≡ firsts_of (flat_map f (range_with_len 0 (i + 1))) (flat_map g (range_with_len 0 (i + 1))) (flat_map h (range_with_len 0 (i + 1)))
 firsts_more f g h i x a b r e s k l =

@@ -16,13 +16,13 @@ use Rattle.tx_plan.specs.inner.AmbiguousAt.{IsAmbiguousAt}
 use Rattle.tx_plan.specs.Rules.{IsPlan}
 use Rattle.tx_plan.proofs.Absent.{short_code}
 use Rattle.tx_plan.proofs.Ambiguity.{ambiguous-none, ambiguous-some}
-use Rattle.tx_plan.proofs.ByPlace.{entry_at}
+use Rattle.tx_plan.proofs.ByIndex.{entry_at}
 use Rattle.tx_plan.proofs.NamesBack.{code_back, figures_are_code}
-use Rattle.tx_check.specs.inner.LeastPair.{begins, places_cmp, comes_first, lesser_of, with_pair, IsLeastOf, SeenBelow, IsLeastBelow}
+use Rattle.tx_check.specs.inner.LeastPair.{begins, indexes_cmp, comes_first, lesser_of, with_pair, IsLeastOf, SeenBelow, IsLeastBelow}
 
 module _ (p : Plan) where
-  places_total : IsTotalOrder (places_cmp p)
-  places_total = then_total (on_total (λ (x : ℕ × ℕ). figures_of p x.0) nat_list_cmp_total) (on_total (λ (x : ℕ × ℕ). figures_of p x.1) nat_list_cmp_total)
+  indexes_total : IsTotalOrder (indexes_cmp p)
+  indexes_total = then_total (on_total (λ (x : ℕ × ℕ). figures_of p x.0) nat_list_cmp_total) (on_total (λ (x : ℕ × ℕ). figures_of p x.1) nat_list_cmp_total)
 
   less_of : (o : Ordering) → is_lt o ≡ true → o ≡ Less
   less_of Less h = refl
@@ -31,7 +31,7 @@ module _ (p : Plan) where
 
   -- none comes before itself
   not_itself : (x : ℕ × ℕ) → comes_first p x x ≡ false
-  not_itself x = ap is_lt (tied_itself places_total x)
+  not_itself x = ap is_lt (tied_itself indexes_total x)
 
   -- what does not come before a pair does not come before an earlier one
   not_earlier : (x y z : ℕ × ℕ) → comes_first p x y ≡ true → comes_first p z y ≡ false → comes_first p z x ≡ false
@@ -39,7 +39,7 @@ module _ (p : Plan) where
     where
       by : (b : Bool) → comes_first p z x ≡ b → comes_first p z x ≡ false
       by false e = e
-      by true e = absurd (let t = ap is_lt (places_total.trans z x y (less_of _ e) (less_of _ h)) in let w : ⊥ = cc in w)
+      by true e = absurd (let t = ap is_lt (indexes_total.trans z x y (less_of _ e) (less_of _ h)) in let w : ⊥ = cc in w)
 
   module _ (Seen More : ℕ × ℕ → Type 0) (x : ℕ × ℕ) (more : (y : ℕ × ℕ) → More y → Seen y ⊎ (y ≡ x)) (in0 : x.0 < length p.codes) (in1 : x.1 < length p.codes) where
     -- a pair that is not ambiguous changes nothing
@@ -101,7 +101,7 @@ module _ (p : Plan) where
         by true e = taken o e h
         by false e = skipped o e h
 
-  -- the pairs seen, where the seconds of this first code were looked at below a place
+  -- the pairs seen, where the seconds of this first code were looked at below an index
   abbrev pub SeenUpTo : ℕ → ℕ → ℕ × ℕ → Type 0
   SeenUpTo first n y = (y.1 < length p.codes) × ((y.0 < first) ⊎ ((y.0 ≡ first) × (y.1 < n)))
 

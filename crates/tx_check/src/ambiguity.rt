@@ -14,8 +14,8 @@ pub(crate) fn ambiguous<A: Allocator>(plan: &Plan<A>) -> Option<(CodeId, CodeId)
     ensures { result ≡ ambiguous_of plan.now.codes }
 {
     let mut least = None;
-    for place in 0..plan.codes() {
-        least = least_with(plan, CodeId::of(place), least);
+    for index in 0..plan.codes() {
+        least = least_with(plan, CodeId::of(index), least);
     }
     least
 }
@@ -36,8 +36,8 @@ fn least_with<A: Allocator>(
         return least;
     }
     let mut least = least;
-    for place in 0..codes {
-        least = with_pair(plan, first, CodeId::of(place), least);
+    for index in 0..codes {
+        least = with_pair(plan, first, CodeId::of(index), least);
     }
     least
 }

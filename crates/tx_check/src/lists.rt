@@ -61,8 +61,8 @@ pub(crate) fn list_faults<A: Allocator>(plan: &Plan<A>, cert: &Cert<A>, spare: u
         (not_lower_faults plan.now (ranks_for plan.now cert.now)) }
 {
     let mut firsts = Firsts::none();
-    for place in 0..plan.codes() {
-        firsts = firsts.or(code_faults(plan, cert, spare, CodeId::of(place)));
+    for index in 0..plan.codes() {
+        firsts = firsts.or(code_faults(plan, cert, spare, CodeId::of(index)));
     }
     firsts
 }
@@ -75,8 +75,8 @@ fn code_faults<A: Allocator>(plan: &Plan<A>, cert: &Cert<A>, spare: u8, code: Co
         (at_exchanges plan.now (not_lower_at plan.now (ranks_for plan.now cert.now) code)) }
 {
     let mut firsts = Firsts::none();
-    for place in 0..plan.exchanges() {
-        firsts = firsts.or(pair_faults(plan, cert, spare, code, ExchangeId::of(place)));
+    for index in 0..plan.exchanges() {
+        firsts = firsts.or(pair_faults(plan, cert, spare, code, ExchangeId::of(index)));
     }
     firsts
 }

@@ -13,8 +13,8 @@ use tx_plan::{CodeId, ExchangeId, Plan};
 pub(crate) fn home_fault<A: Allocator>(plan: &Plan<A>, cert: &Cert<A>) -> Option<CheckFault>
     ensures { result ≡ foremost (home_not_zero_faults plan.now (ranks_for plan.now cert.now)) }
 {
-    for place in 0..plan.codes() {
-        let found = home_fault_for(plan, cert, CodeId::of(place));
+    for index in 0..plan.codes() {
+        let found = home_fault_for(plan, cert, CodeId::of(index));
         if found.is_some() {
             return found;
         }
@@ -42,8 +42,8 @@ pub(crate) fn origin_fault<A: Allocator>(plan: &Plan<A>, cert: &Cert<A>) -> Opti
     ensures { result ≡ foremost (origin_unranked_faults plan.now (ranks_for plan.now cert.now)) }
 {
     let origins = origins(plan);
-    for place in 0..plan.codes() {
-        let found = origin_fault_for(plan, cert, &origins, CodeId::of(place));
+    for index in 0..plan.codes() {
+        let found = origin_fault_for(plan, cert, &origins, CodeId::of(index));
         if found.is_some() {
             return found;
         }
@@ -57,8 +57,8 @@ fn origins<A: Allocator>(plan: &Plan<A>) -> [bool; 256]
         → slice_index_or result x false ≡ is_origin plan.now x }
 {
     let mut marks = [false; 256];
-    for place in 0..plan.exchanges() {
-        marks[place] = plan.is_origin(ExchangeId::of(place));
+    for index in 0..plan.exchanges() {
+        marks[index] = plan.is_origin(ExchangeId::of(index));
     }
     marks
 }
@@ -74,9 +74,9 @@ fn origin_fault_for<A: Allocator>(
     ensures { result ≡ foremost
         (at_exchanges plan.now (origin_unranked_at plan.now (ranks_for plan.now cert.now) code)) }
 {
-    for place in 0..plan.exchanges() {
-        let exchange = ExchangeId::of(place);
-        let found = origin_fault_at(plan, cert, origins[place], code, exchange);
+    for index in 0..plan.exchanges() {
+        let exchange = ExchangeId::of(index);
+        let found = origin_fault_at(plan, cert, origins[index], code, exchange);
         if found.is_some() {
             return found;
         }
@@ -110,8 +110,8 @@ pub(crate) fn height_fault<A: Allocator>(
 ) -> Option<CheckFault>
     ensures { result ≡ foremost (too_high_faults plan.now (ranks_for plan.now cert.now) limit) }
 {
-    for place in 0..plan.codes() {
-        let found = height_fault_for(plan, cert, limit, CodeId::of(place));
+    for index in 0..plan.codes() {
+        let found = height_fault_for(plan, cert, limit, CodeId::of(index));
         if found.is_some() {
             return found;
         }
@@ -128,8 +128,8 @@ fn height_fault_for<A: Allocator>(
     ensures { result
         ≡ foremost (at_exchanges plan.now (too_high_at (ranks_for plan.now cert.now) limit code)) }
 {
-    for place in 0..plan.exchanges() {
-        let found = height_fault_at(plan, cert, limit, code, ExchangeId::of(place));
+    for index in 0..plan.exchanges() {
+        let found = height_fault_at(plan, cert, limit, code, ExchangeId::of(index));
         if found.is_some() {
             return found;
         }

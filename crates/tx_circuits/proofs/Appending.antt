@@ -34,7 +34,7 @@ module _ (free : ℕ → Bool) where
       not_free false e le = e
 
   module _ (i : ℕ) where
-    -- the next place alone may come new
+    -- the next index alone may come new
     pub until_other : (k : ℕ) → k ≢ i → until (i + 1) free k ≡ until i free k
     until_other k ne = elim (ltb_tells k i) [
       | inl a ↦ ap (λ b. b && free k) (below k (i + 1) (let c : k < i = a.1 in omega arith) ∙ sym a.0)
@@ -47,7 +47,7 @@ module _ (free : ℕ → Bool) where
     pub until_before : until i free i ≡ false
     until_before = ap (λ b. b && free i) (lt_false i i (omega arith))
 
-    -- where the next place is not free, there is no new one
+    -- where the next index is not free, there is no new one
     pub until_skips : free i ≡ false → (k : ℕ) → until i free k ≡ until (i + 1) free k
     until_skips f k = elim (eqb_tells k i) [
       | inl e ↦ (let none : free k ≡ false = ap free e.1 ∙ f in and_right (nat_lt k i) (free k) none ∙ sym (and_right (nat_lt k (i + 1)) (free k) none))
@@ -58,7 +58,7 @@ module _ (free : ℕ → Bool) where
       inside : (k : ℕ) → until i free k ≡ true → k < i
       inside k f = (until_is i k f).0
 
-      -- the greatest is the last before the next place
+      -- the greatest is the last before the next index
       pub greatest_last : (r : Option ℕ) → IsFirst (until i free) (rank_of Down) 0 r → IsLast (until i free) (rank_of Up) (rank_of Up i) r
       greatest_last None l = λ k f. absurd (let a : 255 - k < 0 = l k f in omega arith)
       greatest_last (Some j) l = let a = inside j l.0 in (l.0, a, λ k f lt. let b : 255 - j ≤ 255 - k = l.2 k f (omega arith) in omega arith)

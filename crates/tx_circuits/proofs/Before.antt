@@ -1,4 +1,4 @@
--- A walk along a list, as far as a place.
+-- A walk along a list, as far as an index.
 use Rattle.std.proofs.Common.{◌≡◌, ℕ, ◌+◌, ◌-◌, ◌<◌, ◌≤◌, inl, inr, Bool, true, Option, Some, None, arith}
 use Rattle.tx_circuits.specs.declared.lists.Way.{Way}
 use Rattle.tx_circuits.specs.declared.lists.Way.TheVariants.{Up, Down}
@@ -16,7 +16,7 @@ rank_below Up p h = h
 rank_below Down p h = omega arith
 
 module _ (free : ℕ → Bool) (rank : ℕ → ℕ) where
-  -- what comes next is the first free place from `low` on, and `last` is the last one below `low`
+  -- what comes next is the first free index from `low` on, and `last` is the last one below `low`
   abbrev pub Reached : ℕ → Option ℕ → Option ℕ → Type 0
   Reached limit last rest = (low : ℕ) × (low ≤ limit) × IsFirst free rank low rest × IsLast free rank low last
 
@@ -26,7 +26,7 @@ module _ (free : ℕ → Bool) (rank : ℕ → ℕ) where
   pub reached_next : (limit p : ℕ) (last rest : Option ℕ) → Reached limit last (Some p) → rank p < limit → IsFirst free rank (rank p + 1) rest → Reached limit (Some p) rest
   reached_next limit p last rest r below first = (rank p + 1, omega (arith, below), first, (r.2.0, omega arith, λ k f lt. omega (arith, lt)))
 
-  -- what is last below `low` is last below the limit where no free place comes between
+  -- what is last below `low` is last below the limit where no free index comes between
   settled : (limit low : ℕ) (last : Option ℕ) → low ≤ limit → ((k : ℕ) → free k ≡ true → low ≤ rank k → limit ≤ rank k) → IsLast free rank low last → IsLast free rank limit last
   settled limit low None le gap l = λ k f. gap k f (l k f)
   settled limit low (Some q) le gap l = (

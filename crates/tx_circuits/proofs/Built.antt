@@ -13,7 +13,7 @@ use Rattle.tx_plan.specs.declared.ids.Direction.TheVariants.{OneWay}
 use Rattle.tx_plan.proofs.Named.{circuits_total, exact_circuits}
 use Rattle.tx_circuits.specs.declared.lists.End.{End}
 use Rattle.tx_circuits.specs.declared.lists.End.TheVariants.{First, Other}
-use Rattle.tx_circuits.specs.declared.slot.State.{State}
+use Rattle.tx_circuits.specs.declared.slot.CircuitState.{CircuitState}
 use Rattle.tx_circuits.specs.declared.groups.GroupHead.{GroupHead}
 use Rattle.tx_circuits.specs.inner.Slots.{has_seized, rising}
 use Rattle.tx_circuits.specs.inner.Groups.{GroupState, numbered, end_at, idle}
@@ -34,7 +34,7 @@ module _ (gs : List Group) where
       each None = refl
       each (Some r) = off r
 
-  idle_in : (test : State → Bool) → test idle ≡ false → (n m : ℕ) → option_map_or test (numbered (replicate n idle) m) false ≡ false
+  idle_in : (test : CircuitState → Bool) → test idle ≡ false → (n m : ℕ) → option_map_or test (numbered (replicate n idle) m) false ≡ false
   idle_in test off n zero = refl
   idle_in test off n (suc m) = inside n m
     where
@@ -43,7 +43,7 @@ module _ (gs : List Group) where
       inside (suc n) zero = off
       inside (suc n) (suc m) = inside n m
 
-  holds_none : (test : State → Bool) → test idle ≡ false → (c : Circuit) → holds test (map fresh gs) c ≡ false
+  holds_none : (test : CircuitState → Bool) → test idle ≡ false → (c : Circuit) → holds test (map fresh gs) c ≡ false
   holds_none test off c = ap (λ o. option_map_or test (option_and_then (λ t. numbered t.states c.number) o) false) (slice_get-map fresh gs c.group) ∙ each (slice_get gs c.group)
     where
       each : (o : Option Group) → option_map_or test (option_and_then (λ t. numbered t.states c.number) (option_map fresh o)) false ≡ false

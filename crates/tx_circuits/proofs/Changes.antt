@@ -13,7 +13,7 @@ use Rattle.tx_plan.specs.declared.ids.Circuit.{Circuit}
 use Rattle.tx_plan.proofs.Named.{circuits_total, exact_circuits, same_circuit-is, same_circuit-itself}
 use Rattle.tx_circuits.specs.declared.lists.End.{End}
 use Rattle.tx_circuits.specs.declared.lists.End.TheVariants.{First, Other}
-use Rattle.tx_circuits.specs.declared.slot.State.{State}
+use Rattle.tx_circuits.specs.declared.slot.CircuitState.{CircuitState}
 use Rattle.tx_circuits.specs.declared.groups.GroupHead.{GroupHead}
 use Rattle.tx_circuits.specs.inner.Slots.{has_seized, opposite, rising}
 use Rattle.tx_circuits.specs.inner.Groups.{GroupState, state_at, numbered, set_numbered, seizing_end, end_at, with_state, change_at}
@@ -83,14 +83,14 @@ numbered_here xs (suc n) k y e h = get-set_here xs n y (omega arith)
 
 -- ONE CIRCUIT GETS ANOTHER STATE
 
-module _ (ts : List GroupState) (c : Circuit) (known : Known ts c) (s to : State) (old : state_at ts c ≡ Some s) where
+module _ (ts : List GroupState) (c : Circuit) (known : Known ts c) (s to : CircuitState) (old : state_at ts c ≡ Some s) where
   abbrev pub after : List GroupState
   after = change_at (with_state c to) c.group ts
 
   pub state_here : state_at after c ≡ Some to
   state_here =
       ap (option_and_then (λ t. numbered t.states c.number)) (get-change_here (with_state c to) ts c.group ∙ ap (option_map (with_state c to)) known.at)
-      ∙ numbered_here known.group.states c.number known.place to known.number known.within
+      ∙ numbered_here known.group.states c.number known.index to known.number known.within
 
   state_there : (d : Circuit) → d ≢ c → state_at after d ≡ state_at ts d
   state_there d ne = elim (eqb_tells d.group c.group) [
@@ -112,7 +112,7 @@ module _ (ts : List GroupState) (c : Circuit) (known : Known ts c) (s to : State
   pub heads_stay : (test : GroupHead → Bool) → those {R = nat_cmp} (is_marked test after) (rising (length after)) ≡ those (is_marked test ts) (rising (length ts))
   heads_stay test = marked_stay (with_state c to) c.group ts test (λ t. refl)
 
-  module _ (test : State → Bool) where
+  module _ (test : CircuitState → Bool) where
     holds_there : (d : Circuit) → d ≢ c → holds test after d ≡ holds test ts d
     holds_there d ne = ap (λ o. option_map_or test o false) (state_there d ne)
 

@@ -18,13 +18,13 @@ module _ {A B : Type 0} (f : A → B) where
   column-set_same (x ∷ xs) zero y z e h = ap (λ b. b ∷ map f xs) e
   column-set_same (x ∷ xs) (suc i) y z e h = ap (λ bs. f x ∷ bs) (column-set_same xs i y z e (omega arith))
 
-  -- a column at a place
+  -- a column at an index
   pub column_at : (xs : List A) (i : ℕ) (z : A) (d : B) → i < length xs → slice_index_or (map f xs) i d ≡ f (slice_index_or xs i z)
   column_at [] i z d h = absurd (omega arith)
   column_at (x ∷ xs) zero z d h = refl
   column_at (x ∷ xs) (suc i) z d h = column_at xs i z d (omega arith)
 
-  -- a column after a write: at the place, elsewhere, and where the entry is as before
+  -- a column after a write: at the index, elsewhere, and where the entry is as before
   pub column_here : (xs : List A) (i : ℕ) (y : A) (d : B) → i < length xs → slice_index_or (map f (slice_set xs i y)) i d ≡ f y
   column_here xs i y d h = column-set xs i i y d h ∙ ap (λ b. cond b (f y) (slice_index_or (map f xs) i d)) (eq-eqb i i refl)
 

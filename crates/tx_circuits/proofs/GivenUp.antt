@@ -5,7 +5,7 @@ use Rattle.std.specs.Option.{option_map_or}
 use Rattle.std.specs.FinSet.{contains}
 use Rattle.tx_plan.specs.declared.ids.Circuit.{Circuit}
 use Rattle.tx_circuits.specs.declared.lists.End.{End}
-use Rattle.tx_circuits.specs.declared.slot.State.{State}
+use Rattle.tx_circuits.specs.declared.slot.CircuitState.{CircuitState}
 use Rattle.tx_circuits.specs.inner.Slots.{has_seized, with_seized}
 use Rattle.tx_circuits.specs.inner.Groups.{GroupState, state_at, end_at, set_numbered, with_state, change_at}
 use Rattle.tx_circuits.specs.Table.{Table, withdrawn, with_released, released_unless}
@@ -24,13 +24,13 @@ numbered_twice : {A : Type 0} (xs : List A) (n : ℕ) (y z : A) → set_numbered
 numbered_twice xs zero y z = refl
 numbered_twice xs (suc n) y z = set_twice xs n y z
 
-change_twice : (c : Circuit) (s to : State) (g : ℕ) (ts : List GroupState) → change_at (with_state c to) g (change_at (with_state c s) g ts) ≡ change_at (with_state c to) g ts
+change_twice : (c : Circuit) (s to : CircuitState) (g : ℕ) (ts : List GroupState) → change_at (with_state c to) g (change_at (with_state c s) g ts) ≡ change_at (with_state c to) g ts
 change_twice c s to g [] = refl
 change_twice c s to zero (t ∷ ts) = λ i. record t { states = numbered_twice t.states c.number s to i } ∷ ts
 change_twice c s to (suc g) (t ∷ ts) = ap (λ l. t ∷ l) (change_twice c s to g ts)
 
-module _ (ts : List GroupState) (c : Circuit) (s : State) (old : state_at ts c ≡ Some s) (end : End) (x : ℕ) (at : end_at ts c.group x ≡ Some end) where
-  abbrev left : State
+module _ (ts : List GroupState) (c : Circuit) (s : CircuitState) (old : state_at ts c ≡ Some s) (end : End) (x : ℕ) (at : end_at ts c.group x ≡ Some end) where
+  abbrev left : CircuitState
   left = with_seized end false s
 
   abbrev mid : List GroupState

@@ -10,7 +10,7 @@ use Rattle.std.proofs.lemmas.Option.{slice_get-map, slice_get_within}
 use Rattle.std.proofs.lemmas.Slice.{between_is, take-put_mid_below, drop-put_mid, between-put_mid}
 use borrow.Rule.Slice.PartMut.{put_mid}
 use Rattle.tx_circuits.specs.declared.slot.Slot.{Slot}
-use Rattle.tx_circuits.specs.declared.slot.State.{State}
+use Rattle.tx_circuits.specs.declared.slot.CircuitState.{CircuitState}
 use Rattle.tx_circuits.specs.declared.groups.Row.{Row}
 use Rattle.tx_circuits.specs.declared.groups.GroupHead.{GroupHead}
 use Rattle.tx_circuits.specs.inner.Slots.{state_of, IsSound}
@@ -122,7 +122,7 @@ grown_here slots more s e f =
 
 pub states_alike : (k : ℕ) (slot : Slot) → map state_of (replicate k slot) ≡ replicate k slot.state
 states_alike zero slot = refl
-states_alike (suc k) slot = ap (λ (l : List State). slot.state ∷ l) (states_alike k slot)
+states_alike (suc k) slot = ap (λ (l : List CircuitState). slot.state ∷ l) (states_alike k slot)
 
 module _ (slots rest : List Slot) (rows : List Row) (kept : AreKept slots rows) (longer : length slots ≤ length rest)
     (same : (s : Row) → s.start + s.count ≤ length slots → group_slots rest s ≡ group_slots slots s) where

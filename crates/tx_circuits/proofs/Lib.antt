@@ -10,7 +10,7 @@ pub mod Linked
 pub mod FreeLists
 pub mod Members
 pub mod Ordered
-pub mod Places
+pub mod Indexes
 pub mod Reading
 pub mod Seats
 pub mod Sound

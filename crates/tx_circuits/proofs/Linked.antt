@@ -1,4 +1,4 @@
--- A free place is put on a list, or taken off it; and a list is linked exactly where its links give the free places in order.
+-- A free index is put on a list, or taken off it; and a list is linked exactly where its links give the free indexes in order.
 use Rattle.std.proofs.Common.{◌≡◌, ◌≢◌, ℕ, ◌+◌, ◌-◌, ◌<◌, ◌≤◌, ◌⊎◌, inl, inr, Bool, true, false, cond, Option, Some, None, refl, sym, ap, subst, ◌∙◌, arith, eq-eqb}
 use Rattle.std.specs.Prelude.{unwrap_or}
 use Rattle.std.proofs.lemmas.Bool.Decides.{leb_tells, eqb_tells}
@@ -7,7 +7,7 @@ use Rattle.tx_circuits.specs.declared.lists.Way.TheVariants.{Up, Down}
 use Rattle.tx_circuits.specs.inner.Linked.{IsFirst, IsLast, IsLinked, with}
 use Rattle.tx_circuits.specs.inner.Slots.{rank_of, back}
 
--- a function with another value, at the place and elsewhere
+-- a function with another value, at the index and elsewhere
 pub with_here : {A : Type 0} (f : ℕ → A) (i : ℕ) (y : A) → with f i y i ≡ y
 with_here f i y = ap (λ b. cond b y (f i)) (eq-eqb i i refl)
 
@@ -20,20 +20,20 @@ le_or a b = elim (leb_tells a b) [ inl h ↦ inl h.1 | inr h ↦ inr h.1 ]
 some_is : (j k : ℕ) → Some j ≡ Some k → j ≡ k
 some_is j k e = ap (λ o. unwrap_or o 0) e
 
--- the ranks that come after a place
+-- the ranks that come after an index
 abbrev pub beyond : (ℕ → ℕ) → Option ℕ → ℕ
 beyond rank None = 0
 beyond rank (Some k) = rank k + 1
 
--- The free places are numbers below 240, which have different ranks.
+-- The free indexes are numbers below 240, which have different ranks.
 pub record AreRanked (free : ℕ → Bool) (rank : ℕ → ℕ) : Type 0 where
   pub within : (k : ℕ) → free k ≡ true → k < 240
   pub one : (j k : ℕ) → j < 240 → k < 240 → rank j ≡ rank k → j ≡ k
 
--- how a place is put on a list
+-- how an index is put on a list
 module _ (free free' : ℕ → Bool) (rank : ℕ → ℕ) (ranked : AreRanked free rank) (i : ℕ) (i_in : i < 240)
     (here : free' i ≡ true) (was : free i ≡ false) (more : (k : ℕ) → k ≢ i → free' k ≡ free k) where
-  -- what is free now is the new place, or was free
+  -- what is free now is the new index, or was free
   which : (k : ℕ) → free' k ≡ true → (k ≡ i) ⊎ ((k ≢ i) × (free k ≡ true))
   which k f = elim (eqb_tells k i) [ inl h ↦ inl h.1 | inr h ↦ inr (h.1, sym (more k h.1) ∙ f) ]
 
@@ -44,7 +44,7 @@ module _ (free free' : ℕ → Bool) (rank : ℕ → ℕ) (ranked : AreRanked fr
     | inr h ↦ (more k h.1 ∙ f, λ e. h.1 (ranked.one k i (ranked.within k f) i_in e))
   ]
 
-  -- a first free place from `low` on stays so where the new place comes before `low`
+  -- a first free index from `low` on stays so where the new index comes before `low`
   first_past : (low : ℕ) (r : Option ℕ) → rank i < low → IsFirst free rank low r → IsFirst free' rank low r
   first_past low None h l = λ k f. elim (which k f) [ inl e ↦ subst (λ j. rank j < low) (sym e) h | inr w ↦ l k w.1 ]
   first_past low (Some j) h l = (
@@ -56,15 +56,15 @@ module _ (free free' : ℕ → Bool) (rank : ℕ → ℕ) (ranked : AreRanked fr
     ],
   )
 
-  -- or where it comes after the place that was found
+  -- or where it comes after the index that was found
   first_before : (low j : ℕ) → rank j ≤ rank i → IsFirst free rank low (Some j) → IsFirst free' rank low (Some j)
   first_before low j h l = ((kept j l.0).0, l.1, λ k f le. elim (which k f) [ inl e ↦ subst (λ x. rank j ≤ rank x) (sym e) h | inr w ↦ l.2 k w.1 le ])
 
-  -- the new place is the first from `low` on where no other comes between
+  -- the new index is the first from `low` on where no other comes between
   first_new : (low : ℕ) → low ≤ rank i → ((k : ℕ) → free k ≡ true → low ≤ rank k → rank i ≤ rank k) → IsFirst free' rank low (Some i)
   first_new low h first = (here, h, λ k f le. elim (which k f) [ inl e ↦ (let same : rank k ≡ rank i = ap rank e in omega arith) | inr w ↦ first k w.1 le ])
 
-  -- after the last place that comes before the new one comes what is first after it
+  -- after the last index that comes before the new one comes what is first after it
   pub after_last : (q r : Option ℕ) → IsLast free rank (rank i) q → IsFirst free rank (beyond rank q) r → IsFirst free rank (rank i + 1) r
   after_last None None last l = λ k f. let bad : rank k < 0 = l k f in absurd (omega arith)
   after_last (Some p) None last l = λ k f. let a : rank k < rank p + 1 = l k f in let b : rank p < rank i = last.1 in omega arith
@@ -83,7 +83,7 @@ module _ (free free' : ℕ → Bool) (rank : ℕ → ℕ) (ranked : AreRanked fr
     at_new : (k : ℕ) → k ≡ i → IsFirst free' rank (rank k + 1) (next' (Some k))
     at_new k e = subst (λ j. IsFirst free' rank (rank j + 1) (next' (Some j))) (sym e) (first_past (rank i + 1) (next' (Some i)) (omega arith) found)
 
-    -- The new place comes after the last one before it, or begins the list.
+    -- The new index comes after the last one before it, or begins the list.
     pub put : (q : Option ℕ) → IsLast free rank (rank i) q → next' q ≡ Some i → ((k : Option ℕ) → k ≢ Some i → k ≢ q → next' k ≡ next k) → IsLinked free' rank next'
     put None none joined rest = record {
       begins = subst (IsFirst free' rank 0) (sym joined) (first_new 0 (omega arith) (λ k f le. none k f));
@@ -124,7 +124,7 @@ module _ (free free' : ℕ → Bool) (rank : ℕ → ℕ) (ranked : AreRanked fr
               let b : rank k ≢ rank p = λ e. ne (ranked.one k p (ranked.within k f) (ranked.within p last.0) e) in omega arith) r l
         ]
 
--- how a place is taken off
+-- how an index is taken off
 module _ (free free' : ℕ → Bool) (rank : ℕ → ℕ) (ranked : AreRanked free rank) (i : ℕ)
     (gone : free' i ≡ false) (was : free i ≡ true) (less : (k : ℕ) → k ≢ i → free' k ≡ free k) where
   one : (j k : ℕ) → free j ≡ true → free k ≡ true → rank j ≡ rank k → j ≡ k
@@ -136,7 +136,7 @@ module _ (free free' : ℕ → Bool) (rank : ℕ → ℕ) (ranked : AreRanked fr
     | inr h ↦ (h.1, sym (less k h.1) ∙ f)
   ]
 
-  -- a first free place from `low` on stays so where it is not the one that goes
+  -- a first free index from `low` on stays so where it is not the one that goes
   first_still : (low : ℕ) (r : Option ℕ) → ((j : ℕ) → r ≡ Some j → j ≢ i) → IsFirst free rank low r → IsFirst free' rank low r
   first_still low None ne l = λ k f. l k (stood k f).1
   first_still low (Some j) ne l = (less j (ne j refl) ∙ l.0, l.1, λ k f le. l.2 k (stood k f).1 le)
@@ -159,7 +159,7 @@ module _ (free free' : ℕ → Bool) (rank : ℕ → ℕ) (ranked : AreRanked fr
       )
 
   module _ (next next' : Option ℕ → Option ℕ) (list : IsLinked free rank next) where
-    -- What came after the place now comes after the last one before it.
+    -- What came after the index now comes after the last one before it.
     pub take : (q : Option ℕ) → IsLast free rank (rank i) q → next' q ≡ next (Some i) → ((k : Option ℕ) → k ≢ q → next' k ≡ next k) → IsLinked free' rank next'
     take None none joined rest = record {
       begins = subst (IsFirst free' rank 0) (sym joined) (first_next 0 (next (Some i)) (omega arith) (λ k f le. none k f) (list.goes_on i was));
@@ -187,7 +187,7 @@ module _ (free free' : ℕ → Bool) (rank : ℕ → ℕ) (ranked : AreRanked fr
         past_p : (k : ℕ) → free k ≡ true → rank p + 1 ≤ rank k → rank i ≤ rank k
         past_p k f le = elim (le_or (rank i) (rank k)) [ inl y ↦ y | inr y ↦ absurd (let a : rank k ≤ rank p = last.2 k f y in omega arith) ]
 
--- what is last before a place in one way is first after it in the other
+-- what is last before an index in one way is first after it in the other
 module _ (free : ℕ → Bool) (within : (k : ℕ) → free k ≡ true → k < 240) (i : ℕ) (i_in : i < 240) where
   pub to_first : (w : Way) (r : Option ℕ) → IsLast free (rank_of (back w)) (rank_of (back w) i) r → IsFirst free (rank_of w) (rank_of w i + 1) r
   to_first Up None l = λ k f. let a = within k f in let b : 255 - i ≤ 255 - k = l k f in omega arith
@@ -226,7 +226,7 @@ with_at f i y e k = elim (eqb_tells k i) [
 pub with_same : {A : Type 0} (f : ℕ → A) (i : ℕ) (y : A) → y ≡ f i → f ≡ with f i y
 with_same f i y e = λ j k. with_at f i y e k j
 
--- a list is one of each function that is equal at each place
+-- a list is one of each function that is equal at each index
 pub linked_along : (free free' : ℕ → Bool) (rank : ℕ → ℕ) (next next' : Option ℕ → Option ℕ) → ((k : ℕ) → free k ≡ free' k) → ((q : Option ℕ) → next q ≡ next' q)
     → IsLinked free rank next → IsLinked free' rank next'
 linked_along free free' rank next next' ef en list =

@@ -9,7 +9,7 @@ use Rattle.tx_plan.specs.declared.ids.Circuit.{Circuit}
 use Rattle.tx_circuits.specs.declared.lists.End.{End}
 use Rattle.tx_circuits.specs.declared.lists.End.TheVariants.{First, Other}
 use Rattle.tx_circuits.specs.declared.lists.Way.TheVariants.{Up}
-use Rattle.tx_circuits.specs.declared.slot.State.{State}
+use Rattle.tx_circuits.specs.declared.slot.CircuitState.{CircuitState}
 use Rattle.tx_circuits.specs.declared.groups.GroupHead.{GroupHead}
 use Rattle.tx_circuits.specs.inner.Slots.{has_seized, rising}
 use Rattle.tx_circuits.specs.inner.Groups.{GroupState, state_at, numbered, seizing_end, end_at}
@@ -23,16 +23,16 @@ use Rattle.tx_circuits.proofs.Kept.{number_in}
 pub record Known (ts : List GroupState) (c : Circuit) : Type 0 where
   pub group : GroupState
   pub at : slice_get ts c.group ≡ Some group
-  pub place : ℕ
-  pub number : c.number ≡ suc place
-  pub within : place < length group.states
+  pub index : ℕ
+  pub number : c.number ≡ suc index
+  pub within : index < length group.states
 
 pub known : (ts : List GroupState) (c : Circuit) → is_some (state_at ts c) ≡ true → Known ts c
 known ts c h = by_group (slice_get ts c.group) refl h
   where
     by_group : (o : Option GroupState) → slice_get ts c.group ≡ o → is_some (option_and_then (λ t. numbered t.states c.number) o) ≡ true → Known ts c
     by_group None e k = absurd cc
-    by_group (Some t) e k = (let m = number_in t.states c.number k in record { group = t; at = e; place = m.0; number = m.1; within = m.2 })
+    by_group (Some t) e k = (let m = number_in t.states c.number k in record { group = t; at = e; index = m.0; number = m.1; within = m.2 })
 
 pub some_from : {A : Type 0} (test : A → Bool) (o : Option A) → option_map_or test o false ≡ true → is_some o ≡ true
 some_from test None h = absurd cc
@@ -69,9 +69,9 @@ in_gathered f (u ∷ ts) g (suc k) n t y e at i = from_right (f g u) (gathered f
 pub in_circuits : (ts : List GroupState) (c : Circuit) (k : Known ts c) → In (circuits_of c.group k.group) c
 in_circuits ts c k =
     subst (In (circuits_of c.group k.group)) (sym (ap (λ (n : ℕ). record { group = c.group; number = n }) k.number))
-    (in_map (λ n. record { group = c.group; number = n }) (upward (length k.group.states)) (suc k.place) (in_upward (length k.group.states) k.place k.within))
+    (in_map (λ n. record { group = c.group; number = n }) (upward (length k.group.states)) (suc k.index) (in_upward (length k.group.states) k.index k.within))
 
-pub holds_in : (test : State → Bool) (ts : List GroupState) (c : Circuit) → holds test ts c ≡ true → In (gathered circuits_of 0 ts) c
+pub holds_in : (test : CircuitState → Bool) (ts : List GroupState) (c : Circuit) → holds test ts c ≡ true → In (gathered circuits_of 0 ts) c
 holds_in test ts c h = (let k = known ts c (some_from test (state_at ts c) h) in in_gathered circuits_of ts 0 c.group c.group k.group c (omega arith) k.at (in_circuits ts c k))
 
 -- an exchange that seizes at an end is that end

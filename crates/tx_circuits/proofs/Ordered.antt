@@ -1,4 +1,4 @@
--- A list is linked exactly where its links give the free places in order.
+-- A list is linked exactly where its links give the free indexes in order.
 use Rattle.std.proofs.Common.{◌≡◌, ℕ, zero, suc, ◌+◌, ◌-◌, ◌<◌, ◌≤◌, ◌⊎◌, inl, inr, Bool, true, false, cond, List, [], ◌∷◌, ◌++◌, Option, Some, None, refl, sym, ap, subst, ◌∙◌, arith}
 use Rattle.std.specs.Prelude.{filter}
 use Rattle.tx_circuits.specs.declared.lists.Way.{Way}
@@ -25,7 +25,7 @@ rises_lower : (rank : ℕ → ℕ) (low low' : ℕ) (xs : List ℕ) → low' ≤
 rises_lower rank low low' [] le r = r
 rises_lower rank low low' (x ∷ xs) le r = (let a : low ≤ rank x = r.0 in omega arith, r.1)
 
--- the list holds exactly the free places of rank `low` and more, in order
+-- the list holds exactly the free indexes of rank `low` and more, in order
 pub record Holds (free : ℕ → Bool) (rank : ℕ → ℕ) (low : ℕ) (xs : List ℕ) : Type 0 where
   pub rises : Rises rank low xs
   pub all : (k : ℕ) → In xs k → free k ≡ true
@@ -80,7 +80,7 @@ module _ (free : ℕ → Bool) (rank : ℕ → ℕ) where
       goes_on = λ k g. goes xs 0 None f h k (h.each k g (omega arith));
     }
 
--- THE PLACES IN ORDER
+-- THE INDEXES IN ORDER
 
 pub in_append : {A : Type 0} (xs ys : List A) (k : A) → In (xs ++ ys) k → In xs k ⊎ In ys k
 in_append [] ys k i = inr i
@@ -153,7 +153,7 @@ module _ (p : ℕ → Bool) where
     | false ↦ rises_lower rank (rank x + 1) low (filter p xs) (let a : low ≤ rank x = r.0 in omega arith) (rises_filter rank (rank x + 1) xs r.1)
   ]
 
--- the free places of n, in order
+-- the free indexes of n, in order
 pub in_order_holds : (w : Way) (free : ℕ → Bool) (n : ℕ) → n ≤ 240 → ((k : ℕ) → free k ≡ true → k < n) → Holds free (rank_of w) 0 (filter free (in_order w n))
 in_order_holds w free n short within = record {
   rises = rises_filter free (rank_of w) 0 (in_order w n) (order_rises w n short);

@@ -14,10 +14,10 @@ use Rattle.tx_plan.specs.declared.ids.Circuit.{Circuit}
 use Rattle.tx_plan.proofs.Named.{circuits_total, exact_circuits}
 use Rattle.tx_circuits.specs.declared.lists.End.{End}
 use Rattle.tx_circuits.specs.declared.lists.End.TheVariants.{First, Other}
-use Rattle.tx_circuits.specs.declared.slot.State.{State}
+use Rattle.tx_circuits.specs.declared.slot.CircuitState.{CircuitState}
 use Rattle.tx_circuits.specs.declared.groups.GroupHead.{GroupHead}
 use Rattle.tx_circuits.specs.inner.Slots.{has_seized, is_free, free_in, in_order, rising, falling}
-use Rattle.tx_circuits.specs.inner.Groups.{GroupState, state_at, numbered, seizing_end, end_at, first_place, way_of, idle}
+use Rattle.tx_circuits.specs.inner.Groups.{GroupState, state_at, numbered, seizing_end, end_at, first_index, way_of, idle}
 use Rattle.tx_circuits.specs.Table.{Seat, seat_cmp, plan_of, is_free_at, is_down, first_free}
 use Rattle.tx_circuits.specs.inner.Seen.{those, group_of, circuits_of, seats_of, gathered, is_marked, holds, sits, table_of}
 use Rattle.tx_circuits.proofs.Columns.{column_at}
@@ -29,7 +29,7 @@ use Rattle.tx_circuits.proofs.Seats.{seats_total, exact_seats}
 
 -- THE SETS
 
-pub contains_circuits : (test : State → Bool) (ts : List GroupState) (c : Circuit) → contains (those {R = circuit_cmp} (holds test ts) (gathered circuits_of 0 ts)) c ≡ holds test ts c
+pub contains_circuits : (test : CircuitState → Bool) (ts : List GroupState) (c : Circuit) → contains (those {R = circuit_cmp} (holds test ts) (gathered circuits_of 0 ts)) c ≡ holds test ts c
 contains_circuits test ts c = contains_those circuits_total exact_circuits (holds test ts) (gathered circuits_of 0 ts) (holds_in test ts) c
 
 pub contains_seats : (ts : List GroupState) (q : Seat) → contains (those {R = seat_cmp} (sits ts) (gathered seats_of 0 ts)) q ≡ sits ts q
@@ -52,12 +52,12 @@ one_at_least m = grind (arith, nat_tests)
 pub circuit_known : (ts : List GroupState) (c : Circuit) → is_circuit (plan_of (table_of ts)) c ≡ is_some (state_at ts c)
 circuit_known ts c = ap (λ o. option_map_or (λ r. nat_le 1 c.number && nat_le c.number r.count) o false) (slice_get-map group_of ts c.group) ∙ each (slice_get ts c.group)
   where
-    inside : (xs : List State) (m : ℕ) → nat_le (suc m) (length xs) ≡ is_some (slice_get xs m)
+    inside : (xs : List CircuitState) (m : ℕ) → nat_le (suc m) (length xs) ≡ is_some (slice_get xs m)
     inside [] m = grind (arith, nat_tests)
     inside (x ∷ xs) zero = grind (arith, nat_tests)
     inside (x ∷ xs) (suc m) = shift m (length xs) ∙ inside xs m
 
-    by_number : (xs : List State) (n : ℕ) → (nat_le 1 n && nat_le n (length xs)) ≡ is_some (numbered xs n)
+    by_number : (xs : List CircuitState) (n : ℕ) → (nat_le 1 n && nat_le n (length xs)) ≡ is_some (numbered xs n)
     by_number xs zero = ap (λ b. b && nat_le zero (length xs)) none_yet
     by_number xs (suc m) = ap (λ b. b && nat_le (suc m) (length xs)) (one_at_least m) ∙ inside xs m
 
@@ -140,13 +140,13 @@ module _ (ts : List GroupState) (g x : ℕ) (t : GroupState) (at : slice_get ts 
   free_is : (k : ℕ) → k < length t.states → is_free_at (table_of ts) x (circuit k) ≡ free_in end t.states k
   free_is k h =
       let s = slice_index_or t.states k idle in
-      let part = λ (test : State → Bool). contains_circuits test ts (circuit k) ∙ ap (λ o. option_map_or test o false) (state_is k h) in
+      let part = λ (test : CircuitState → Bool). contains_circuits test ts (circuit k) ∙ ap (λ o. option_map_or test o false) (state_is k h) in
       let seat = contains_seats ts (circuit k, x) ∙ ap (λ o. option_map_or (λ e. holds (has_seized e) ts (circuit k)) o false) (ap (option_and_then (λ u. seizing_end u.head x)) at ∙ seizes)
       ∙ ap (λ o. option_map_or (has_seized end) o false) (state_is k h) in
       (λ i. not (part (λ z. z.carried) i) && (not (part (λ z. z.releasing) i) && (not (part (λ z. z.out) i) && not (seat i))))
       ∙ sym (column_at (is_free end) t.states k idle false h)
 
-  pub first_is : is_down (table_of ts) g ≡ false → first_free (table_of ts) x g ≡ option_map circuit (first_place t end)
+  pub first_is : is_down (table_of ts) g ≡ false → first_free (table_of ts) x g ≡ option_map circuit (first_index t end)
   first_is up =
       ap (λ b. if b then None else find (is_free_at (table_of ts) x) (circuits_at (plan_of (table_of ts)) g x)) up
       ∙ ap (find (is_free_at (table_of ts) x)) listed ∙ find_map (λ n. record { group = g; number = n }) (is_free_at (table_of ts) x) (map suc order)
@@ -166,7 +166,7 @@ module _ (ts : List GroupState) (g x : ℕ) (t : GroupState) (at : slice_get ts 
       twice (Some k) = refl
 
   -- and it is one of the group's
-  pub first_known : (k : ℕ) → first_place t end ≡ Some k → (is_circuit (plan_of (table_of ts)) (circuit k) ≡ true) × (is_free_at (table_of ts) x (circuit k) ≡ true)
+  pub first_known : (k : ℕ) → first_index t end ≡ Some k → (is_circuit (plan_of (table_of ts)) (circuit k) ≡ true) × (is_free_at (table_of ts) x (circuit k) ≡ true)
   first_known k e =
       let r = find_in (free_in end t.states) (in_order (way_of end) (length t.states)) k e in
       let h = below (way_of end) (length t.states) k r.0 in

@@ -5,7 +5,7 @@ use Rattle.tx_circuits.specs.declared.lists.End.{End}
 use Rattle.tx_circuits.specs.declared.lists.End.TheVariants.{First, Other}
 use Rattle.tx_circuits.specs.declared.lists.Way.{Way}
 use Rattle.tx_circuits.specs.declared.slot.Slot.{Slot}
-use Rattle.tx_circuits.specs.declared.slot.State.{State}
+use Rattle.tx_circuits.specs.declared.slot.CircuitState.{CircuitState}
 use Rattle.tx_circuits.specs.declared.lists.FreeList.{FreeList}
 use Rattle.tx_circuits.specs.declared.lists.FreeLists.{FreeLists}
 use Rattle.std.proofs.lemmas.List.{length-map, map-set, get_or_default}
@@ -16,7 +16,7 @@ use Rattle.tx_circuits.proofs.Columns.{column-set, column_same}
 use Rattle.tx_circuits.proofs.Linked.{linked_along}
 use Rattle.tx_circuits.proofs.Ordered.{linked, followed, in_order_holds}
 use Rattle.tx_circuits.proofs.Appending.{until_none}
-use Rattle.tx_circuits.proofs.Places.{free_within}
+use Rattle.tx_circuits.proofs.Indexes.{free_within}
 
 pub are_linked : (slots : List Slot) (lists : FreeLists) → IsSound slots lists → AreLinked slots lists
 are_linked slots lists sound = λ end way.
@@ -40,20 +40,20 @@ listed_along free free' end old new list ef el h = λ way. linked_along free fre
     same way (Some k) = sym (el way k)
 
 pub free_alike : (end : End) (old new : List Slot) → map state_of new ≡ map state_of old → (k : ℕ) → free_at end new k ≡ free_at end old k
-free_alike end old new e k = ap (λ (l : List State). free_in end l k) e
+free_alike end old new e k = ap (λ (l : List CircuitState). free_in end l k) e
 
--- the slot at a place, with another state
-abbrev pub given : List Slot → ℕ → Slot → State → Slot
+-- the slot at an index, with another state
+abbrev pub given : List Slot → ℕ → Slot → CircuitState → Slot
 given slots i z to = record (slice_index_or slots i z) { state = to }
 
 -- it keeps its links
-module _ (two : List Slot) (i : ℕ) (z : Slot) (to : State) (i_in : i < length two) where
+module _ (two : List Slot) (i : ℕ) (z : Slot) (to : CircuitState) (i_in : i < length two) where
   links : (end : End) → links_of end (given two i z to) ≡ links_of end (slice_index_or two i z)
   links First = refl
   links Other = refl
 
   written : (end : End) (k : ℕ) → free_at end (slice_set two i (given two i z to)) k ≡ with (free_at end two) i (is_free end to) k
-  written end k = ap (λ (l : List State). free_in end l k) (map-set state_of two i (given two i z to)) ∙ column-set (is_free end) (map state_of two) i k to false (rw length-map i_in)
+  written end k = ap (λ (l : List CircuitState). free_in end l k) (map-set state_of two i (given two i z to)) ∙ column-set (is_free end) (map state_of two) i k to false (rw length-map i_in)
 
   pub after_write : (end : End) (list : FreeList) → IsListed (with (free_at end two) i (is_free end to)) end two list → IsListed (free_at end (slice_set two i (given two i z to))) end (slice_set two i (given two i z to)) list
   after_write end list h =
@@ -66,10 +66,10 @@ with_cleared s = record s { state = cleared s.state }
 
 pub states_cleared : (slots : List Slot) → map state_of (map with_cleared slots) ≡ map cleared (map state_of slots)
 states_cleared [] = refl
-states_cleared (s ∷ slots) = ap (λ (l : List State). cleared s.state ∷ l) (states_cleared slots)
+states_cleared (s ∷ slots) = ap (λ (l : List CircuitState). cleared s.state ∷ l) (states_cleared slots)
 
 -- one slot more is cleared
-pub cleared_more : (old slots : List Slot) (i : ℕ) (z : Slot) (to : State) → i < length old → length slots ≡ length old → slots ≡ map with_cleared (take i old) ++ drop i old → to ≡ cleared (slice_index_or slots i z).state
+pub cleared_more : (old slots : List Slot) (i : ℕ) (z : Slot) (to : CircuitState) → i < length old → length slots ≡ length old → slots ≡ map with_cleared (take i old) ++ drop i old → to ≡ cleared (slice_index_or slots i z).state
     → slice_set slots i (given slots i z to) ≡ map with_cleared (take (i + 1) old) ++ drop (i + 1) old
 cleared_more old slots i z to lt long h e =
     let x = slice_index_or slots i z in

@@ -11,7 +11,7 @@ use Rattle.tx_plan.specs.declared.ids.Circuit.{Circuit}
 use Rattle.tx_circuits.specs.declared.lists.End.{End}
 use Rattle.tx_circuits.specs.declared.groups.GroupHead.{GroupHead}
 use Rattle.tx_circuits.specs.inner.Slots.{has_seized}
-use Rattle.tx_circuits.specs.inner.Groups.{GroupState, state_at, end_at, seizing_end, first_place}
+use Rattle.tx_circuits.specs.inner.Groups.{GroupState, state_at, end_at, seizing_end, first_index}
 use Rattle.tx_circuits.specs.Table.{Table, plan_of, IsSeizedBy}
 use Rattle.tx_circuits.specs.inner.Seen.{group_of, is_marked, holds, sits, table_of}
 use Rattle.tx_circuits.proofs.Members.{known, some_from, end_is, marked_within}
@@ -38,8 +38,8 @@ group_at ts g x end h = by_group (slice_get ts g) refl h
     by_group None e f = absurd cc
     by_group (Some t) e f = record { group = t; at = e; seizes = f }
 
-pub place_is : (ts : List GroupState) (g : ℕ) (end : End) (r : Option ℕ) (t : GroupState) → IfSome (slice_get ts g) (λ t. r ≡ first_place t end) → slice_get ts g ≡ Some t → r ≡ first_place t end
-place_is ts g end r t h at = subst (λ (o : Option GroupState). IfSome o (λ t. r ≡ first_place t end)) at h
+pub index_is : (ts : List GroupState) (g : ℕ) (end : End) (r : Option ℕ) (t : GroupState) → IfSome (slice_get ts g) (λ t. r ≡ first_index t end) → slice_get ts g ≡ Some t → r ≡ first_index t end
+index_is ts g end r t h at = subst (λ (o : Option GroupState). IfSome o (λ t. r ≡ first_index t end)) at h
 
 module _ (ts : List GroupState) (now : Table) (view : table_of ts ≡ now) where
   pub group_in : (g : ℕ) → g < length now.groups → g < length ts

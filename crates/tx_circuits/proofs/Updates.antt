@@ -12,7 +12,7 @@ use Rattle.tx_plan.specs.declared.ids.Circuit.{Circuit}
 use Rattle.tx_plan.proofs.Named.{circuits_total, exact_circuits}
 use Rattle.tx_circuits.specs.declared.lists.End.{End}
 use Rattle.tx_circuits.specs.declared.lists.End.TheVariants.{First, Other}
-use Rattle.tx_circuits.specs.declared.slot.State.{State}
+use Rattle.tx_circuits.specs.declared.slot.CircuitState.{CircuitState}
 use Rattle.tx_circuits.specs.declared.groups.GroupHead.{GroupHead}
 use Rattle.tx_circuits.specs.inner.Slots.{has_seized, with_seized, opposite, cleared, rising}
 use Rattle.tx_circuits.specs.inner.Groups.{GroupState, state_at, numbered, seizing_end, end_at, with_state, with_failed, with_blocked, change_at}
@@ -29,11 +29,11 @@ use Rattle.tx_circuits.proofs.Changes.{map_same, part_same, marked_stay, ends_sa
 
 -- A CIRCUIT GETS ANOTHER STATE
 
-module _ (ts : List GroupState) (c : Circuit) (s : State) (old : state_at ts c ≡ Some s) where
+module _ (ts : List GroupState) (c : Circuit) (s : CircuitState) (old : state_at ts c ≡ Some s) where
   found : Known ts c
   found = known ts c (ap is_some old)
 
-  module _ (to : State) where
+  module _ (to : CircuitState) where
     -- the fields one by one
     table_after : (releasing out carried : FinSet circuit_cmp) (seized : FinSet seat_cmp) → those (holds (λ s. s.releasing) (change_at (with_state c to) c.group ts)) (gathered circuits_of 0 (change_at (with_state c to) c.group ts)) ≡ releasing
         → those (holds (λ s. s.out) (change_at (with_state c to) c.group ts)) (gathered circuits_of 0 (change_at (with_state c to) c.group ts)) ≡ out
@@ -50,7 +50,7 @@ module _ (ts : List GroupState) (c : Circuit) (s : State) (old : state_at ts c �
       seized = h i;
     }
 
-    stays : (test : State → Bool) → test to ≡ test s → those (holds test (change_at (with_state c to) c.group ts)) (gathered circuits_of 0 (change_at (with_state c to) c.group ts)) ≡ those {R = circuit_cmp} (holds test ts) (gathered circuits_of 0 ts)
+    stays : (test : CircuitState → Bool) → test to ≡ test s → those (holds test (change_at (with_state c to) c.group ts)) (gathered circuits_of 0 (change_at (with_state c to) c.group ts)) ≡ those {R = circuit_cmp} (holds test ts) (gathered circuits_of 0 ts)
     stays test e = circuits_stay ts c found s to old test e
 
   seizes : (end : End) (b : Bool) → (x : ℕ) → end_at ts c.group x ≡ Some end → (seized : FinSet seat_cmp)
@@ -81,44 +81,44 @@ module _ (ts : List GroupState) (c : Circuit) (s : State) (old : state_at ts c �
 
   pub held_is : table_of (change_at (with_state c (record s { seized_first = false; seized_other = false; carried = true })) c.group ts) ≡ with_held (table_of ts) c
   held_is =
-      let to : State = record s { seized_first = false; seized_other = false; carried = true } in
+      let to : CircuitState = record s { seized_first = false; seized_other = false; carried = true } in
       table_after to _ _ _ _ (stays to (λ s. s.releasing) refl) (stays to (λ s. s.out) refl) (circuits_inserted ts c found s to old (λ s. s.carried) refl) (seats_cleared ts c found s to old neither)
 
-  same_ends : (to : State) → to.seized_first ≡ s.seized_first → to.seized_other ≡ s.seized_other → (end : End) → has_seized end to ≡ has_seized end s
+  same_ends : (to : CircuitState) → to.seized_first ≡ s.seized_first → to.seized_other ≡ s.seized_other → (end : End) → has_seized end to ≡ has_seized end s
   same_ends to e f First = e
   same_ends to e f Other = f
 
   pub released_is : table_of (change_at (with_state c (record s { carried = false; releasing = true })) c.group ts) ≡ with_released (table_of ts) c
   released_is =
-      let to : State = record s { carried = false; releasing = true } in
+      let to : CircuitState = record s { carried = false; releasing = true } in
       table_after to _ _ _ _ (circuits_inserted ts c found s to old (λ s. s.releasing) refl) (stays to (λ s. s.out) refl) (circuits_removed ts c found s to old (λ s. s.carried) refl)
       (seats_stay ts c found s to old (same_ends to refl refl))
 
   pub confirmed_is : table_of (change_at (with_state c (record s { releasing = false })) c.group ts) ≡ record (table_of ts) { releasing = remove (table_of ts).releasing c }
   confirmed_is =
-      let to : State = record s { releasing = false } in
+      let to : CircuitState = record s { releasing = false } in
       table_after to _ _ _ _ (circuits_removed ts c found s to old (λ s. s.releasing) refl) (stays to (λ s. s.out) refl) (stays to (λ s. s.carried) refl)
       (seats_stay ts c found s to old (same_ends to refl refl))
 
   pub put_out_is : table_of (change_at (with_state c (record s { out = true })) c.group ts) ≡ record (table_of ts) { out = insert (table_of ts).out c }
   put_out_is =
-      let to : State = record s { out = true } in
+      let to : CircuitState = record s { out = true } in
       table_after to _ _ _ _ (stays to (λ s. s.releasing) refl) (circuits_inserted ts c found s to old (λ s. s.out) refl) (stays to (λ s. s.carried) refl)
       (seats_stay ts c found s to old (same_ends to refl refl))
 
   pub put_in_is : table_of (change_at (with_state c (record s { out = false })) c.group ts) ≡ record (table_of ts) { out = remove (table_of ts).out c }
   put_in_is =
-      let to : State = record s { out = false } in
+      let to : CircuitState = record s { out = false } in
       table_after to _ _ _ _ (stays to (λ s. s.releasing) refl) (circuits_removed ts c found s to old (λ s. s.out) refl) (stays to (λ s. s.carried) refl)
       (seats_stay ts c found s to old (same_ends to refl refl))
 
 -- A GROUP GETS A MARK
 
 module _ (f : GroupState → GroupState) (g : ℕ) (ts : List GroupState) (states : (t : GroupState) → (f t).states ≡ t.states) where
-  holds_same : (test : State → Bool) (c : Circuit) → holds test (change_at f g ts) c ≡ holds test ts c
+  holds_same : (test : CircuitState → Bool) (c : Circuit) → holds test (change_at f g ts) c ≡ holds test ts c
   holds_same test c = ap (λ o. option_map_or test o false) (part_same f g ts (λ t. numbered t.states c.number) (λ t. ap (λ l. numbered l c.number) (states t)) c.group)
 
-  pub circuits_same : (test : State → Bool) → those {R = circuit_cmp} (holds test (change_at f g ts)) (gathered circuits_of 0 (change_at f g ts)) ≡ those (holds test ts) (gathered circuits_of 0 ts)
+  pub circuits_same : (test : CircuitState → Bool) → those {R = circuit_cmp} (holds test (change_at f g ts)) (gathered circuits_of 0 (change_at f g ts)) ≡ those (holds test ts) (gathered circuits_of 0 ts)
   circuits_same test =
       those_stay circuits_total exact_circuits (holds test ts) (holds test (change_at f g ts)) (gathered circuits_of 0 ts) (gathered circuits_of 0 (change_at f g ts)) (holds_in test ts)
       (holds_in test (change_at f g ts)) (holds_same test)
@@ -201,7 +201,7 @@ module _ (ts : List GroupState) (g : ℕ) (in_it : g < length ts) where
 abbrev pub clear_group : GroupState → GroupState
 clear_group t = record t { states = map cleared t.states }
 
-numbered_cleared : (xs : List State) (n : ℕ) → numbered (map cleared xs) n ≡ option_map cleared (numbered xs n)
+numbered_cleared : (xs : List CircuitState) (n : ℕ) → numbered (map cleared xs) n ≡ option_map cleared (numbered xs n)
 numbered_cleared xs zero = refl
 numbered_cleared xs (suc n) = slice_get-map cleared xs n
 
@@ -222,40 +222,40 @@ module _ (ts : List GroupState) (g : ℕ) where
       through None = refl
       through (Some t) = numbered_cleared t.states c.number
 
-  module _ (test : State → Bool) where
+  module _ (test : CircuitState → Bool) where
     -- what a cleared circuit is not
-    holds_off : ((s : State) → test (cleared s) ≡ false) → (c : Circuit) → holds test after c ≡ (holds test ts c && not (c.group == g))
+    holds_off : ((s : CircuitState) → test (cleared s) ≡ false) → (c : Circuit) → holds test after c ≡ (holds test ts c && not (c.group == g))
     holds_off off c = elim (eqb_tells c.group g) [
       | inl e ↦ ap (λ o. option_map_or test o false) (states_here c e.1) ∙ none (state_at ts c) ∙ sym (and-false (holds test ts c)) ∙ sym (ap (λ b. holds test ts c && not b) e.0)
       | inr e ↦ ap (λ o. option_map_or test o false) (states_there c e.1) ∙ sym (and-true (holds test ts c)) ∙ sym (ap (λ b. holds test ts c && not b) e.0)
     ]
       where
-        none : (o : Option State) → option_map_or test (option_map cleared o) false ≡ false
+        none : (o : Option CircuitState) → option_map_or test (option_map cleared o) false ≡ false
         none None = refl
         none (Some s) = off s
 
     -- what stays
-    holds_on : ((s : State) → test (cleared s) ≡ test s) → (c : Circuit) → holds test after c ≡ holds test ts c
+    holds_on : ((s : CircuitState) → test (cleared s) ≡ test s) → (c : Circuit) → holds test after c ≡ holds test ts c
     holds_on on c = elim (eqb_tells c.group g) [
       | inl e ↦ ap (λ o. option_map_or test o false) (states_here c e.1) ∙ same (state_at ts c)
       | inr e ↦ ap (λ o. option_map_or test o false) (states_there c e.1)
     ]
       where
-        same : (o : Option State) → option_map_or test (option_map cleared o) false ≡ option_map_or test o false
+        same : (o : Option CircuitState) → option_map_or test (option_map cleared o) false ≡ option_map_or test o false
         same None = refl
         same (Some s) = on s
 
-    circuits_off : ((s : State) → test (cleared s) ≡ false)
+    circuits_off : ((s : CircuitState) → test (cleared s) ≡ false)
         → those {R = circuit_cmp} (holds test after) (gathered circuits_of 0 after) ≡ retain (those (holds test ts) (gathered circuits_of 0 ts)) (λ c. not (c.group == g))
     circuits_off off =
         those_retained circuits_total exact_circuits (holds test ts) (holds test after) (gathered circuits_of 0 ts) (gathered circuits_of 0 after) (holds_in test ts) (holds_in test after)
         (λ c. not (c.group == g)) (holds_off off)
 
-    circuits_on : ((s : State) → test (cleared s) ≡ test s) → those {R = circuit_cmp} (holds test after) (gathered circuits_of 0 after) ≡ those (holds test ts) (gathered circuits_of 0 ts)
+    circuits_on : ((s : CircuitState) → test (cleared s) ≡ test s) → those {R = circuit_cmp} (holds test after) (gathered circuits_of 0 after) ≡ those (holds test ts) (gathered circuits_of 0 ts)
     circuits_on on =
         those_stay circuits_total exact_circuits (holds test ts) (holds test after) (gathered circuits_of 0 ts) (gathered circuits_of 0 after) (holds_in test ts) (holds_in test after) (holds_on on)
 
-  not_seized : (end : End) (s : State) → has_seized end (cleared s) ≡ false
+  not_seized : (end : End) (s : CircuitState) → has_seized end (cleared s) ≡ false
   not_seized First s = refl
   not_seized Other s = refl
 

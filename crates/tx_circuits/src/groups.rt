@@ -2,12 +2,12 @@
 ghost use Rattle.std.specs.Prelude.{◌≡◌, ◌≤◌, ◌<◌, ◌++◌, ◌∷◌, [], true, false, is_some, map, length, replicate, Some, None, slice_get, OnOk, OnErr, IfOk, IfSome, ◌+◌, ℕ, slice_set};
 ghost use Rattle.std.specs.Option.{option_map, option_map_or};
 ghost use Rattle.tx_circuits.specs.inner.Slots.{cleared, has_seized, IsSound, IsListed, free_at, link_at, opposite, state_of, until};
-ghost use Rattle.tx_circuits.specs.inner.Groups.{state_at, end_at, change_at, with_state, with_failed, with_blocked, first_place, idle, IsAppended, seizing_end, group_slots, states_in, numbered, OthersStay};
+ghost use Rattle.tx_circuits.specs.inner.Groups.{state_at, end_at, change_at, with_state, with_failed, with_blocked, first_index, idle, IsAppended, seizing_end, group_slots, states_in, numbered, OthersStay};
 ghost use Rattle.tx_circuits.specs.inner.Seen.{holds};
 ghost use Rattle.tx_circuits.specs.declared.lists.Way.{Way as WayValue};
 
 use crate::lists::{End, FreeList, FreeLists, Links, insert, relink};
-use crate::slot::{Slot, State};
+use crate::slot::{CircuitState, Slot};
 use std::alloc::{Allocator, Global};
 use std::marker::Model;
 use tx_plan::{Circuit, Direction, ExchangeId, GroupId};
@@ -49,7 +49,7 @@ pub struct Row {
 
 impl Row {
     /// The state of the circuit of a number, if there is such a one.
-    pub fn state(&self, slots: &[Slot], number: u32) -> Option<State>
+    pub fn state(&self, slots: &[Slot], number: u32) -> Option<CircuitState>
         requires { self.now.start + self.now.count ≤ length slots.now }
         ensures { result ≡ numbered (states_in slots.now self.now) number }
     {
@@ -61,18 +61,18 @@ impl Row {
     }
 
     /// Gives a circuit another state.
-    pub fn set_state(&mut self, slots: &mut [Slot], place: usize, to: State)
+    pub fn set_state(&mut self, slots: &mut [Slot], index: usize, to: CircuitState)
         requires within { self.old.start + self.old.count ≤ length slots.old }
-        requires place { place < self.old.count }
+        requires index { index < self.old.count }
         requires sound { IsSound (group_slots slots.old self.old) self.old.lists }
         ensures row { self.new ≡ record self.old { lists = self.new.lists } }
         ensures sound { IsSound (group_slots slots.new self.old) self.new.lists }
         ensures states { states_in slots.new self.old
-            ≡ slice_set (states_in slots.old self.old) place to }
+            ≡ slice_set (states_in slots.old self.old) index to }
         ensures rest { OthersStay slots.old slots.new self.old }
     {
         let part = &mut slots[self.start..self.start + self.count];
-        set_state(part, &mut self.lists, place, to);
+        set_state(part, &mut self.lists, index, to);
     }
 
     /// Takes all calls off the circuits.
@@ -103,35 +103,35 @@ impl Row {
 }
 
 // Gives a circuit a state. Walks a list only where the circuit comes back to it.
-fn set_state(slots: &mut [Slot], lists: &mut FreeLists, place: usize, to: State)
+fn set_state(slots: &mut [Slot], lists: &mut FreeLists, index: usize, to: CircuitState)
     requires sound { IsSound slots.old lists.old }
-    requires place { place < length slots.old }
+    requires index { index < length slots.old }
     ensures sound { IsSound slots.new lists.new }
-    ensures states { map state_of slots.new ≡ slice_set (map state_of slots.old) place to }
+    ensures states { map state_of slots.new ≡ slice_set (map state_of slots.old) index to }
 {
-    relink(slots, &mut lists.first, End::First, place, to);
-    relink(slots, &mut lists.other, End::Other, place, to);
-    slots[place].state = to;
+    relink(slots, &mut lists.first, End::First, index, to);
+    relink(slots, &mut lists.other, End::Other, index, to);
+    slots[index].state = to;
 }
 
 // Puts a circuit after all others on the list of an end, if it is free there.
-fn append(slots: &mut [Slot], list: &mut FreeList, end: End, place: usize)
+fn append(slots: &mut [Slot], list: &mut FreeList, end: End, index: usize)
     requires short { length slots.old ≤ 240 }
-    requires place { place < length slots.old }
-    requires listed { IsListed (until place (free_at end slots.old)) end slots.old list.old }
-    ensures listed { IsListed (until (place + 1) (free_at end slots.old)) end slots.new list.new }
+    requires index { index < length slots.old }
+    requires listed { IsListed (until index (free_at end slots.old)) end slots.old list.old }
+    ensures listed { IsListed (until (index + 1) (free_at end slots.old)) end slots.new list.new }
     ensures other { (way : WayValue) (k : ℕ)
         → link_at (opposite end) way slots.new k ≡ link_at (opposite end) way slots.old k }
     ensures states { map state_of slots.new ≡ map state_of slots.old }
 {
-    if !slots[place].state.is_free(end) {
+    if !slots[index].state.is_free(end) {
         return;
     }
     let links = Links {
         above: None,
         below: list.greatest,
     };
-    insert(slots, list, end, place, links);
+    insert(slots, list, end, index, links);
 }
 
 // Makes the lists anew, in one pass.
@@ -141,9 +141,9 @@ fn relist(slots: &mut [Slot]) -> FreeLists
     ensures states { map state_of slots.new ≡ map state_of slots.old }
 {
     let mut lists = FreeLists::new();
-    for place in 0..slots.len() {
-        append(slots, &mut lists.first, End::First, place);
-        append(slots, &mut lists.other, End::Other, place);
+    for index in 0..slots.len() {
+        append(slots, &mut lists.first, End::First, index);
+        append(slots, &mut lists.other, End::Other, index);
     }
     lists
 }
@@ -242,7 +242,7 @@ impl<A: Allocator> Groups<A> {
     }
 
     /// The state of a circuit, if there is such a one.
-    pub fn state(&self, circuit: &Circuit) -> Option<State>
+    pub fn state(&self, circuit: &Circuit) -> Option<CircuitState>
         ensures { result ≡ state_at self.now circuit.now }
     {
         match self.rows.get(circuit.group.index()) {
@@ -262,7 +262,7 @@ impl<A: Allocator> Groups<A> {
     }
 
     /// The state of a circuit that there is.
-    pub fn known_state(&self, circuit: &Circuit) -> State
+    pub fn known_state(&self, circuit: &Circuit) -> CircuitState
         requires { is_some (state_at self.now circuit.now) ≡ true }
         ensures { state_at self.now circuit.now ≡ Some result }
     {
@@ -288,7 +288,7 @@ impl<A: Allocator> Groups<A> {
     }
 
     /// Whether an exchange has seized a circuit of a group that is in this state.
-    pub fn seizes_in(&self, state: State, group: GroupId, exchange: ExchangeId) -> bool
+    pub fn seizes_in(&self, state: CircuitState, group: GroupId, exchange: ExchangeId) -> bool
         ensures { result ≡ option_map_or (λ end. has_seized end state)
             (end_at self.now group exchange) false }
     {
@@ -298,10 +298,10 @@ impl<A: Allocator> Groups<A> {
         }
     }
 
-    /// The place of the circuit that an end takes next, read from the head of its list.
-    pub fn first_place(&self, group: GroupId, end: End) -> Option<u8>
+    /// The index of the circuit that an end takes next, read from the head of its list.
+    pub fn first_index(&self, group: GroupId, end: End) -> Option<u8>
         requires { group < length self.now }
-        ensures { IfSome (slice_get self.now group) (λ t. result ≡ first_place t end) }
+        ensures { IfSome (slice_get self.now group) (λ t. result ≡ first_index t end) }
     {
         let lists = &self.rows[group.index()].lists;
         match end {
@@ -311,13 +311,13 @@ impl<A: Allocator> Groups<A> {
     }
 
     /// Gives a circuit another state.
-    pub fn set_state(&mut self, circuit: &Circuit, to: State)
+    pub fn set_state(&mut self, circuit: &Circuit, to: CircuitState)
         requires { is_some (state_at self.old circuit.now) ≡ true }
         ensures { self.new ≡ change_at (with_state circuit.now to) circuit.now.group self.old }
     {
-        let place = circuit.number as usize - 1;
+        let index = circuit.number as usize - 1;
         let row = &mut self.rows[circuit.group.index()];
-        row.set_state(self.slots.as_mut_slice(), place, to);
+        row.set_state(self.slots.as_mut_slice(), index, to);
     }
 
     /// Takes all calls off the circuits of a group.

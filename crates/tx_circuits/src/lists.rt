@@ -6,7 +6,7 @@ ghost use Rattle.tx_circuits.specs.declared.lists.Way.{Way as WayValue};
 ghost use Rattle.tx_circuits.specs.inner.Slots.{ahead, back, begins, list_of, rank_of, free_at, link_at, chain, is_free, state_of, opposite, IsListed, AreNeighbours};
 ghost use Rattle.tx_circuits.specs.inner.Linked.{IsLast, with};
 
-use crate::slot::{Slot, State};
+use crate::slot::{CircuitState, Slot};
 
 /// An end of a group.
 #[derive(Clone, Copy)]
@@ -25,19 +25,19 @@ pub enum Way {
 }
 
 impl Way {
-    /// Where a place comes in this way.
-    pub fn rank(self, place: usize) -> usize
-        requires { place < 256 }
-        ensures { result ≡ rank_of self place }
+    /// Where an index comes in this way.
+    pub fn rank(self, index: usize) -> usize
+        requires { index < 256 }
+        ensures { result ≡ rank_of self index }
     {
         match self {
-            Way::Up => place,
-            Way::Down => 255 - place,
+            Way::Up => index,
+            Way::Down => 255 - index,
         }
     }
 }
 
-/// The circuits beside one in a free list, by their places in the group.
+/// The circuits beside one in a free list, by their indexes in the group.
 #[derive(Clone, Copy, Debug)]
 pub struct Links {
     pub above: Option<u8>,
@@ -67,7 +67,7 @@ impl Links {
     }
 }
 
-/// The first and the last place of the circuits that are free at an end.
+/// The first and the last index of the circuits that are free at an end.
 #[derive(Clone, Copy, Debug)]
 pub struct FreeList {
     pub least: Option<u8>,
@@ -110,31 +110,31 @@ impl FreeLists {
 }
 
 // The links of a circuit in the list of an end.
-fn links_at(slots: &[Slot], end: End, place: usize) -> Links
-    requires { place < length slots.now }
-    ensures { (way : WayValue) → ahead way result ≡ link_at end way slots.now place }
+fn links_at(slots: &[Slot], end: End, index: usize) -> Links
+    requires { index < length slots.now }
+    ensures { (way : WayValue) → ahead way result ≡ link_at end way slots.now index }
 {
-    slots[place].links(end)
+    slots[index].links(end)
 }
 
-// What follows a place in the list of an end, or begins the list.
+// What follows an index in the list of an end, or begins the list.
 fn follow(slots: &[Slot], list: &FreeList, end: End, way: Way, from: Option<u8>) -> Option<u8>
     requires { IfSome from (λ k. k < length slots.now) }
     ensures { result ≡ chain end way slots.now list.now from }
 {
     match from {
         None => list.begins(way),
-        Some(place) => {
-            let links = links_at(slots, end, place as usize);
+        Some(index) => {
+            let links = links_at(slots, end, index as usize);
             links.ahead(way)
         }
     }
 }
 
-fn set_link(slots: &mut [Slot], end: End, way: Way, place: usize, to: Option<u8>)
-    requires { place < length slots.old }
-    ensures here { link_at end way slots.new place ≡ to }
-    ensures apart { (k : ℕ) → k ≢ place
+fn set_link(slots: &mut [Slot], end: End, way: Way, index: usize, to: Option<u8>)
+    requires { index < length slots.old }
+    ensures here { link_at end way slots.new index ≡ to }
+    ensures apart { (k : ℕ) → k ≢ index
         → link_at end way slots.new k ≡ link_at end way slots.old k }
     ensures turned { (k : ℕ) → link_at end (back way) slots.new k
         ≡ link_at end (back way) slots.old k }
@@ -142,7 +142,7 @@ fn set_link(slots: &mut [Slot], end: End, way: Way, place: usize, to: Option<u8>
         → link_at (opposite end) w slots.new k ≡ link_at (opposite end) w slots.old k }
     ensures states { map state_of slots.new ≡ map state_of slots.old }
 {
-    slots[place] = slots[place].with_link(end, way, to);
+    slots[index] = slots[index].with_link(end, way, to);
 }
 
 // After `from`, or at the list's begin, now comes `to`.
@@ -165,20 +165,20 @@ fn lead(
     ensures states { map state_of slots.new ≡ map state_of slots.old }
 {
     match (from, way) {
-        (Some(place), _) => set_link(slots, end, way, place as usize, to),
+        (Some(index), _) => set_link(slots, end, way, index as usize, to),
         (None, Way::Up) => list.least = to,
         (None, Way::Down) => list.greatest = to,
     }
 }
 
-// The last free circuit that comes before the place in a way.
-fn last_before(slots: &[Slot], list: &FreeList, end: End, way: Way, place: usize) -> Option<u8>
+// The last free circuit that comes before the index in a way.
+fn last_before(slots: &[Slot], list: &FreeList, end: End, way: Way, index: usize) -> Option<u8>
     requires short { length slots.now ≤ 240 }
     requires listed { IsListed (free_at end slots.now) end slots.now list.now }
-    requires place { place < length slots.now }
-    ensures { IsLast (free_at end slots.now) (rank_of way) (rank_of way place) result }
+    requires index { index < length slots.now }
+    ensures { IsLast (free_at end slots.now) (rank_of way) (rank_of way index) result }
 {
-    let limit = way.rank(place);
+    let limit = way.rank(index);
     let mut last = None;
     let mut rest = list.begins(way);
     while let Some(p) = rest {
@@ -193,21 +193,21 @@ fn last_before(slots: &[Slot], list: &FreeList, end: End, way: Way, place: usize
 
 // The neighbours that a circuit would have in the list of an end: looked for from the end of the
 // list that is nearer.
-fn neighbours(slots: &[Slot], list: &FreeList, end: End, place: usize) -> Links
+fn neighbours(slots: &[Slot], list: &FreeList, end: End, index: usize) -> Links
     requires short { length slots.now ≤ 240 }
     requires listed { IsListed (free_at end slots.now) end slots.now list.now }
-    requires place { place < length slots.now }
-    requires taken { free_at end slots.now place ≡ false }
-    ensures { AreNeighbours (free_at end slots.now) place result }
+    requires index { index < length slots.now }
+    requires taken { free_at end slots.now index ≡ false }
+    ensures { AreNeighbours (free_at end slots.now) index result }
 {
-    if place < slots.len() / 2 {
-        let below = last_before(slots, list, end, Way::Up, place);
+    if index < slots.len() / 2 {
+        let below = last_before(slots, list, end, Way::Up, index);
         Links {
             above: follow(slots, list, end, Way::Up, below),
             below,
         }
     } else {
-        let above = last_before(slots, list, end, Way::Down, place);
+        let above = last_before(slots, list, end, Way::Down, index);
         Links {
             above,
             below: follow(slots, list, end, Way::Down, above),
@@ -216,92 +216,92 @@ fn neighbours(slots: &[Slot], list: &FreeList, end: End, place: usize) -> Links
 }
 
 // The circuit has other links in the list of an end.
-fn set_links(slots: &mut [Slot], end: End, place: usize, links: Links)
-    requires { place < length slots.old }
-    ensures here { (way : WayValue) → link_at end way slots.new place ≡ ahead way links }
-    ensures apart { (way : WayValue) (k : ℕ) → k ≢ place
+fn set_links(slots: &mut [Slot], end: End, index: usize, links: Links)
+    requires { index < length slots.old }
+    ensures here { (way : WayValue) → link_at end way slots.new index ≡ ahead way links }
+    ensures apart { (way : WayValue) (k : ℕ) → k ≢ index
         → link_at end way slots.new k ≡ link_at end way slots.old k }
     ensures other { (way : WayValue) (k : ℕ)
         → link_at (opposite end) way slots.new k ≡ link_at (opposite end) way slots.old k }
     ensures states { map state_of slots.new ≡ map state_of slots.old }
 {
-    slots[place] = slots[place].with_links(end, links);
+    slots[index] = slots[index].with_links(end, links);
 }
 
 /// The circuit is now between two neighbours; all other links are as before.
-pub fn insert(slots: &mut [Slot], list: &mut FreeList, end: End, place: usize, links: Links)
+pub fn insert(slots: &mut [Slot], list: &mut FreeList, end: End, index: usize, links: Links)
     requires short { length slots.old ≤ 240 }
-    requires place { place < length slots.old }
+    requires index { index < length slots.old }
     requires above { IfSome links.above (λ k. k < length slots.old) }
     requires below { IfSome links.below (λ k. k < length slots.old) }
-    requires apart { (way : WayValue) → Some place ≢ ahead way links }
+    requires apart { (way : WayValue) → Some index ≢ ahead way links }
     ensures placed { (way : WayValue)
-        → chain end way slots.new list.new (Some place) ≡ ahead way links }
+        → chain end way slots.new list.new (Some index) ≡ ahead way links }
     ensures joined { (way : WayValue)
-        → chain end way slots.new list.new (ahead (back way) links) ≡ Some place }
-    ensures rest { (way : WayValue) (q : Option ℕ) → q ≢ Some place → q ≢ ahead (back way) links
+        → chain end way slots.new list.new (ahead (back way) links) ≡ Some index }
+    ensures rest { (way : WayValue) (q : Option ℕ) → q ≢ Some index → q ≢ ahead (back way) links
         → chain end way slots.new list.new q ≡ chain end way slots.old list.old q }
     ensures other { (way : WayValue) (k : ℕ)
         → link_at (opposite end) way slots.new k ≡ link_at (opposite end) way slots.old k }
     ensures states { map state_of slots.new ≡ map state_of slots.old }
 {
     let Links { above, below } = links;
-    let here = Some(place as u8);
-    set_links(slots, end, place, links);
+    let here = Some(index as u8);
+    set_links(slots, end, index, links);
     lead(slots, list, end, Way::Up, below, here);
     lead(slots, list, end, Way::Down, above, here);
 }
 
 // Puts a circuit on the list of an end. Walks the list.
-fn put(slots: &mut [Slot], list: &mut FreeList, end: End, place: usize)
+fn put(slots: &mut [Slot], list: &mut FreeList, end: End, index: usize)
     requires short { length slots.old ≤ 240 }
     requires listed { IsListed (free_at end slots.old) end slots.old list.old }
-    requires place { place < length slots.old }
-    requires taken { free_at end slots.old place ≡ false }
-    ensures listed { IsListed (with (free_at end slots.old) place true) end slots.new list.new }
+    requires index { index < length slots.old }
+    requires taken { free_at end slots.old index ≡ false }
+    ensures listed { IsListed (with (free_at end slots.old) index true) end slots.new list.new }
     ensures other { (way : WayValue) (k : ℕ)
         → link_at (opposite end) way slots.new k ≡ link_at (opposite end) way slots.old k }
     ensures states { map state_of slots.new ≡ map state_of slots.old }
 {
-    let links = neighbours(slots, list, end, place);
-    insert(slots, list, end, place, links);
+    let links = neighbours(slots, list, end, index);
+    insert(slots, list, end, index, links);
 }
 
 // Takes a circuit off the list of an end.
-fn take(slots: &mut [Slot], list: &mut FreeList, end: End, place: usize)
+fn take(slots: &mut [Slot], list: &mut FreeList, end: End, index: usize)
     requires short { length slots.old ≤ 240 }
     requires listed { IsListed (free_at end slots.old) end slots.old list.old }
-    requires place { place < length slots.old }
-    requires free { free_at end slots.old place ≡ true }
-    ensures listed { IsListed (with (free_at end slots.old) place false) end slots.new list.new }
+    requires index { index < length slots.old }
+    requires free { free_at end slots.old index ≡ true }
+    ensures listed { IsListed (with (free_at end slots.old) index false) end slots.new list.new }
     ensures other { (way : WayValue) (k : ℕ)
         → link_at (opposite end) way slots.new k ≡ link_at (opposite end) way slots.old k }
     ensures states { map state_of slots.new ≡ map state_of slots.old }
 {
-    let links = links_at(slots, end, place);
+    let links = links_at(slots, end, index);
     lead(slots, list, end, Way::Up, links.below, links.above);
     lead(slots, list, end, Way::Down, links.above, links.below);
 }
 
 /// Puts a circuit on the list of an end, takes it off, or leaves the list, as its new state asks.
-pub fn relink(slots: &mut [Slot], list: &mut FreeList, end: End, place: usize, to: State)
+pub fn relink(slots: &mut [Slot], list: &mut FreeList, end: End, index: usize, to: CircuitState)
     requires short { length slots.old ≤ 240 }
     requires listed { IsListed (free_at end slots.old) end slots.old list.old }
-    requires place { place < length slots.old }
-    ensures listed { IsListed (with (free_at end slots.old) place (is_free end to))
+    requires index { index < length slots.old }
+    ensures listed { IsListed (with (free_at end slots.old) index (is_free end to))
         end slots.new list.new }
     ensures other { (way : WayValue) (k : ℕ)
         → link_at (opposite end) way slots.new k ≡ link_at (opposite end) way slots.old k }
     ensures states { map state_of slots.new ≡ map state_of slots.old }
 {
-    let was = slots[place].state.is_free(end);
+    let was = slots[index].state.is_free(end);
     let will = to.is_free(end);
     if was == will {
         return;
     }
     if will {
-        put(slots, list, end, place);
+        put(slots, list, end, index);
     } else {
-        take(slots, list, end, place);
+        take(slots, list, end, index);
     }
 }

@@ -7,7 +7,7 @@ use crate::lists::{End, Links, Way};
 
 /// What holds a circuit.
 #[derive(Clone, Copy, Debug)]
-pub struct State {
+pub struct CircuitState {
     pub seized_first: bool,
     pub seized_other: bool,
     pub carried: bool,
@@ -15,12 +15,12 @@ pub struct State {
     pub out: bool,
 }
 
-impl State {
+impl CircuitState {
     /// The state of a circuit in service that no call holds.
-    pub fn idle() -> State
+    pub fn idle() -> CircuitState
         ensures { result ≡ idle }
     {
-        State {
+        CircuitState {
             seized_first: false,
             seized_other: false,
             carried: false,
@@ -47,17 +47,17 @@ impl State {
     }
 
     /// The state where no call holds the circuit.
-    pub fn cleared(self) -> State
+    pub fn cleared(self) -> CircuitState
         ensures { result ≡ cleared self }
     {
-        State {
+        CircuitState {
             out: self.out,
-            ..State::idle()
+            ..CircuitState::idle()
         }
     }
 
     /// The state where the circuit is releasing, and no call carries it.
-    pub fn in_release(mut self) -> State
+    pub fn in_release(mut self) -> CircuitState
         ensures { result ≡ record self { carried = false; releasing = true } }
     {
         self.carried = false;
@@ -66,15 +66,15 @@ impl State {
     }
 
     /// The state where the end has, or has not, seized the circuit.
-    pub fn with_seized(self, end: End, to: bool) -> State
+    pub fn with_seized(self, end: End, to: bool) -> CircuitState
         ensures { result ≡ with_seized end to self }
     {
         match end {
-            End::First => State {
+            End::First => CircuitState {
                 seized_first: to,
                 ..self
             },
-            End::Other => State {
+            End::Other => CircuitState {
                 seized_other: to,
                 ..self
             },
@@ -85,7 +85,7 @@ impl State {
 /// A circuit's state, and its links in the list of each end.
 #[derive(Clone, Copy, Debug)]
 pub struct Slot {
-    pub state: State,
+    pub state: CircuitState,
     pub first: Links,
     pub other: Links,
 }
@@ -100,7 +100,7 @@ impl Slot {
             below: None,
         };
         Slot {
-            state: State::idle(),
+            state: CircuitState::idle(),
             first: none,
             other: none,
         }

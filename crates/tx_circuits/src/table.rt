@@ -5,7 +5,7 @@ ghost use Rattle.tx_plan.specs.Circuits.{is_circuit, may_seize};
 ghost use Rattle.tx_circuits.specs.Table.{Table, plan_of, all_free, is_free_at, is_down, first_free, IsSeizedBy, with_held, withdrawn, with_released, released_unless, with_failure};
 
 use crate::groups::{GroupHead, Groups};
-use crate::slot::State;
+use crate::slot::CircuitState;
 use std::alloc::{Allocator, Global};
 use std::marker::Model;
 use tx_plan::{Circuit, ExchangeId, GroupId, Plan};
@@ -41,8 +41,8 @@ impl<A: Allocator + Copy> CircuitTable<A> {
         ensures { IfOk result (λ t. t ≡ all_free plan.now) }
     {
         let mut groups = Groups::with_room(alloc, plan.groups(), total(plan))?;
-        for place in 0..plan.groups() {
-            let group = GroupId::of(place);
+        for index in 0..plan.groups() {
+            let group = GroupId::of(index);
             let ends = plan.ends(group);
             let head = GroupHead {
                 a: ends.0,
@@ -60,8 +60,8 @@ impl<A: Allocator + Copy> CircuitTable<A> {
 // How many circuits a plan has.
 fn total<A: Allocator>(plan: &Plan<A>) -> usize {
     let mut circuits = 0;
-    for place in 0..plan.groups() {
-        circuits += plan.group_count(GroupId::of(place)) as usize;
+    for index in 0..plan.groups() {
+        circuits += plan.group_count(GroupId::of(index)) as usize;
     }
     circuits
 }
@@ -220,10 +220,10 @@ impl<A: Allocator> CircuitTable<A> {
             return None;
         }
         let end = self.groups.known_end(group, exchange);
-        match self.groups.first_place(group, end) {
-            Some(place) => Some(Circuit {
+        match self.groups.first_index(group, end) {
+            Some(index) => Some(Circuit {
                 group,
-                number: u32::from(place) + 1,
+                number: u32::from(index) + 1,
             }),
             None => None,
         }
@@ -287,7 +287,7 @@ impl<A: Allocator> CircuitTable<A> {
         ensures { self.new ≡ with_held self.old circuit.now }
     {
         let state = self.groups.known_state(circuit);
-        let to = State {
+        let to = CircuitState {
             seized_first: false,
             seized_other: false,
             carried: true,
@@ -315,7 +315,7 @@ impl<A: Allocator> CircuitTable<A> {
             { releasing = set.remove self.old.releasing circuit.now } }
     {
         let state = self.groups.known_state(circuit);
-        let to = State {
+        let to = CircuitState {
             releasing: false,
             ..state
         };
@@ -329,7 +329,7 @@ impl<A: Allocator> CircuitTable<A> {
         ensures { self.new ≡ record self.old { out = set.insert self.old.out circuit.now } }
     {
         let state = self.groups.known_state(circuit);
-        let to = State { out: true, ..state };
+        let to = CircuitState { out: true, ..state };
         self.groups.set_state(circuit, to);
     }
 
@@ -339,7 +339,7 @@ impl<A: Allocator> CircuitTable<A> {
         ensures { self.new ≡ record self.old { out = set.remove self.old.out circuit.now } }
     {
         let state = self.groups.known_state(circuit);
-        let to = State {
+        let to = CircuitState {
             out: false,
             ..state
         };

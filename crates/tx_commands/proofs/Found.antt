@@ -11,8 +11,8 @@ use Rattle.tx_commands.specs.Grammar.{program_words}
 use Rattle.tx_commands.specs.Commands.{Gives, IsFoundIn}
 use Rattle.tx_commands.specs.inner.Refused.{IsClash, IsRefused}
 use Rattle.tx_commands.specs.declared.command.Command.{Command}
-use Rattle.tx_commands.specs.declared.refusal.Refusal.{Refusal}
-use Rattle.tx_commands.specs.declared.refusal.Refusal.TheVariants.{Incomplete, Together, CheckedTelling, DrawTogether, NoSuchCode, InputTwice, Overwrites, NoMemory}
+use Rattle.tx_commands.specs.declared.misuse.Misuse.{Misuse}
+use Rattle.tx_commands.specs.declared.misuse.Misuse.TheVariants.{Incomplete, Together, CheckedTelling, DrawTogether, NoSuchCode, InputTwice, Overwrites, NoMemory}
 
 -- the word that was read for an id is the first that was found for it
 pub first_found : (m : ArgMatches) (id : List ℕ) (word : Option (Bor (List ℕ)))
@@ -40,7 +40,7 @@ found_by P app words m is has found =
     subst P (h.1 ∙ ap (λ (a : App). subcommand_of a words) is) found
 
 -- words that ask for a command of which two files clash are refused for that
-pub refused_for_clash : (found : Option (Text × List Row)) (command : Command) (refusal : Refusal)
+pub refused_for_clash : (found : Option (Text × List Row)) (command : Command) (refusal : Misuse)
     → IsFoundIn found command → IsClash command refusal → IsRefused found refusal
 refused_for_clash found command InputTwice asked clash = (command, asked, clash)
 refused_for_clash found command Overwrites asked clash = (command, asked, clash)

@@ -1,5 +1,5 @@
 -- The words that the program takes, as the library of command lines sees them: commands, whose
--- files go by place and whose options go by name.
+-- files go by position and whose options go by name.
 use Rattle.std.specs.Prelude.{ℕ, List, Some, true, codes, pos}
 use Rattle.clap.specs.Words.{App, Rule, new_app, new_rule, with_rule, with_subcommand}
 use Rattle.clap.specs.declared.builder.action.ArgAction.TheVariants.{Set, SetTrue}

@@ -99,7 +99,7 @@ impl<'a> Syntax<'a> {
     }
 }
 
-/// A word that goes by its place.
+/// A word that goes by position.
 pub(crate) fn word<'a>(alloc: Global, id: &'a str, shown: &'a str, help: &'a str) -> Arg<'a>
     ensures rule { rule_of result
         ≡ record (new_rule id.now) { value_names = 1; action = Some Set } }

@@ -6,7 +6,7 @@ ghost use Rattle.tx_commands.specs.Faults.{has};
 ghost use Rattle.tx_commands.specs.inner.Refused.{IsRefused};
 
 use crate::command::Command;
-use crate::refusal::Refusal;
+use crate::misuse::Misuse;
 use clap::ArgMatches;
 use std::alloc::{AllocError, Global};
 use tx_explain::is_known;
@@ -68,7 +68,7 @@ fn limits(matches: &ArgMatches<'_>) -> Option<(u8, u8)>
 }
 
 /// The words of `check` after the plan.
-fn check_of(alloc: Global, plan: String, matches: &ArgMatches<'_>) -> Result<Command, Refusal>
+fn check_of(alloc: Global, plan: String, matches: &ArgMatches<'_>) -> Result<Command, Misuse>
     requires { Names (rows_of (found_of matches.now)) (codes "plan") plan }
     ensures range { IfOk result IsInRange }
     ensures asked { IfOk result (Asks (codes "check") (rows_of (found_of matches.now))) }
@@ -83,12 +83,12 @@ fn check_of(alloc: Global, plan: String, matches: &ArgMatches<'_>) -> Result<Com
             limit,
             spare,
         }),
-        _ => Err(Refusal::Incomplete),
+        _ => Err(Misuse::Incomplete),
     }
 }
 
 /// The words of `audit` after the plan.
-fn audit_of(alloc: Global, plan: String, matches: &ArgMatches<'_>) -> Result<Command, Refusal>
+fn audit_of(alloc: Global, plan: String, matches: &ArgMatches<'_>) -> Result<Command, Misuse>
     requires { Names (rows_of (found_of matches.now)) (codes "plan") plan }
     ensures range { IfOk result IsInRange }
     ensures asked { IfOk result (Asks (codes "audit") (rows_of (found_of matches.now))) }
@@ -105,12 +105,12 @@ fn audit_of(alloc: Global, plan: String, matches: &ArgMatches<'_>) -> Result<Com
             cert,
             counter,
         }),
-        None => Err(Refusal::Incomplete),
+        None => Err(Misuse::Incomplete),
     }
 }
 
 /// The words of `change`.
-pub(crate) fn change_of(alloc: Global, matches: &ArgMatches<'_>) -> Result<Command, Refusal>
+pub(crate) fn change_of(alloc: Global, matches: &ArgMatches<'_>) -> Result<Command, Misuse>
     ensures range { IfOk result IsInRange }
     ensures asked { IfOk result (Asks (codes "change") (rows_of (found_of matches.now))) }
     ensures refused { IfErr result
@@ -131,13 +131,13 @@ pub(crate) fn change_of(alloc: Global, matches: &ArgMatches<'_>) -> Result<Comma
             mixture,
             counter,
         }),
-        _ => Err(Refusal::Incomplete),
+        _ => Err(Misuse::Incomplete),
     }
 }
 
 /// The words of `mend`. The option of the mended plan has the name of a plan, so the first word has
 /// another.
-pub(crate) fn mend_of(alloc: Global, matches: &ArgMatches<'_>) -> Result<Command, Refusal>
+pub(crate) fn mend_of(alloc: Global, matches: &ArgMatches<'_>) -> Result<Command, Misuse>
     ensures range { IfOk result IsInRange }
     ensures asked { IfOk result (Asks (codes "mend") (rows_of (found_of matches.now))) }
     ensures refused { IfErr result
@@ -154,12 +154,12 @@ pub(crate) fn mend_of(alloc: Global, matches: &ArgMatches<'_>) -> Result<Command
             mended,
             cert,
         }),
-        _ => Err(Refusal::Incomplete),
+        _ => Err(Misuse::Incomplete),
     }
 }
 
 /// The words of `survive` after the plan.
-fn survive_of(alloc: Global, plan: String, matches: &ArgMatches<'_>) -> Result<Command, Refusal>
+fn survive_of(alloc: Global, plan: String, matches: &ArgMatches<'_>) -> Result<Command, Misuse>
     requires { Names (rows_of (found_of matches.now)) (codes "plan") plan }
     ensures range { IfOk result IsInRange }
     ensures asked { IfOk result (Asks (codes "survive") (rows_of (found_of matches.now))) }
@@ -171,7 +171,7 @@ fn survive_of(alloc: Global, plan: String, matches: &ArgMatches<'_>) -> Result<C
 }
 
 /// The words of `trace` after the plan.
-fn trace_of(alloc: Global, plan: String, matches: &ArgMatches<'_>) -> Result<Command, Refusal>
+fn trace_of(alloc: Global, plan: String, matches: &ArgMatches<'_>) -> Result<Command, Misuse>
     requires { Names (rows_of (found_of matches.now)) (codes "plan") plan }
     ensures range { IfOk result IsInRange }
     ensures asked { IfOk result (Asks (codes "trace") (rows_of (found_of matches.now))) }
@@ -186,12 +186,12 @@ fn trace_of(alloc: Global, plan: String, matches: &ArgMatches<'_>) -> Result<Com
             exchange,
             code,
         }),
-        _ => Err(Refusal::Incomplete),
+        _ => Err(Misuse::Incomplete),
     }
 }
 
 /// The words of `run` after the plan.
-fn run_of(alloc: Global, plan: String, matches: &ArgMatches<'_>) -> Result<Command, Refusal>
+fn run_of(alloc: Global, plan: String, matches: &ArgMatches<'_>) -> Result<Command, Misuse>
     requires { Names (rows_of (found_of matches.now)) (codes "plan") plan }
     ensures range { IfOk result IsInRange }
     ensures asked { IfOk result (Asks (codes "run") (rows_of (found_of matches.now))) }
@@ -199,16 +199,16 @@ fn run_of(alloc: Global, plan: String, matches: &ArgMatches<'_>) -> Result<Comma
         (IsRefused (Some (codes "run", rows_of (found_of matches.now)))) }
 {
     let Some(script) = text(alloc, matches, "script")? else {
-        return Err(Refusal::Incomplete);
+        return Err(Misuse::Incomplete);
     };
     let cert = text(alloc, matches, "cert")?;
     let checked = match (cert, is_given(matches, "limit"), is_given(matches, "spare")) {
         (None, false, false) => None,
         (Some(cert), true, true) => match limits(matches) {
             Some((limit, spare)) => Some((cert, limit, spare)),
-            None => return Err(Refusal::Incomplete),
+            None => return Err(Misuse::Incomplete),
         },
-        _ => return Err(Refusal::Together),
+        _ => return Err(Misuse::Together),
     };
     let strict = is_set(matches, "strict");
     let echo = is_set(matches, "echo");
@@ -222,7 +222,7 @@ fn run_of(alloc: Global, plan: String, matches: &ArgMatches<'_>) -> Result<Comma
             echo,
             summary,
         }),
-        Some(_) if more => Err(Refusal::CheckedTelling),
+        Some(_) if more => Err(Misuse::CheckedTelling),
         checked => Ok(Command::Run {
             plan,
             script,
@@ -232,7 +232,7 @@ fn run_of(alloc: Global, plan: String, matches: &ArgMatches<'_>) -> Result<Comma
 }
 
 /// The words of `draw` after the plan.
-fn draw_of(alloc: Global, plan: String, matches: &ArgMatches<'_>) -> Result<Command, Refusal>
+fn draw_of(alloc: Global, plan: String, matches: &ArgMatches<'_>) -> Result<Command, Misuse>
     requires { Names (rows_of (found_of matches.now)) (codes "plan") plan }
     ensures range { IfOk result IsInRange }
     ensures asked { IfOk result (Asks (codes "draw") (rows_of (found_of matches.now))) }
@@ -245,15 +245,15 @@ fn draw_of(alloc: Global, plan: String, matches: &ArgMatches<'_>) -> Result<Comm
         (Some(code), false, false) => Some((code, None)),
         (Some(code), true, true) => match limits(matches) {
             Some(limits) => Some((code, Some(limits))),
-            None => return Err(Refusal::Incomplete),
+            None => return Err(Misuse::Incomplete),
         },
-        _ => return Err(Refusal::DrawTogether),
+        _ => return Err(Misuse::DrawTogether),
     };
     Ok(Command::Draw { plan, routes })
 }
 
 /// The words of `explain`. A word that is no code and no name is refused.
-pub(crate) fn explain_of(alloc: Global, matches: &ArgMatches<'_>) -> Result<Command, Refusal>
+pub(crate) fn explain_of(alloc: Global, matches: &ArgMatches<'_>) -> Result<Command, Misuse>
     ensures range { IfOk result IsInRange }
     ensures asked { IfOk result (Asks (codes "explain") (rows_of (found_of matches.now))) }
     ensures refused { IfErr result
@@ -265,7 +265,7 @@ pub(crate) fn explain_of(alloc: Global, matches: &ArgMatches<'_>) -> Result<Comm
     if is_known(word.as_str()) {
         Ok(Command::Explain { word: Some(word) })
     } else {
-        Err(Refusal::NoSuchCode)
+        Err(Misuse::NoSuchCode)
     }
 }
 
@@ -275,7 +275,7 @@ pub(crate) fn plan_command(
     name: &str,
     plan: String,
     matches: &ArgMatches<'_>,
-) -> Result<Command, Refusal>
+) -> Result<Command, Misuse>
     requires { Names (rows_of (found_of matches.now)) (codes "plan") plan }
     ensures range { IfOk result IsInRange }
     ensures asked { IfOk result (Asks name.now (rows_of (found_of matches.now))) }
@@ -291,6 +291,6 @@ pub(crate) fn plan_command(
         "survive" => survive_of(alloc, plan, matches),
         "trace" => trace_of(alloc, plan, matches),
         "draw" => draw_of(alloc, plan, matches),
-        _ => Err(Refusal::Incomplete),
+        _ => Err(Misuse::Incomplete),
     }
 }

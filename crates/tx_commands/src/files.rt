@@ -3,10 +3,10 @@ ghost use Rattle.std.specs.Prelude.{◌≡◌, true, false, None, Some, ◌∷�
 ghost use Rattle.tx_commands.specs.Commands.{names, standard_input};
 ghost use Rattle.tx_commands.specs.Files.{is_among, has_input_twice, has_clash, reads_input_twice, overwrites};
 ghost use Rattle.tx_commands.specs.inner.Refused.{IsClash};
-ghost use Rattle.tx_commands.specs.declared.refusal.Refusal.TheVariants.{InputTwice};
+ghost use Rattle.tx_commands.specs.declared.misuse.Misuse.TheVariants.{InputTwice};
 
 use crate::command::{Command, Files, STANDARD_INPUT};
-use crate::refusal::Refusal;
+use crate::misuse::Misuse;
 
 /// Whether a file is one of these.
 fn is_among(files: &[Option<&str>], file: &str) -> bool
@@ -43,7 +43,7 @@ fn has_clash(read: &[Option<&str>], made: &[Option<&str>]) -> bool
 
 /// Why a command is refused of which two files clash. Standard input that is read twice is told
 /// before a file that is made over another one.
-pub(crate) fn clash(command: &Command) -> Option<Refusal>
+pub(crate) fn clash(command: &Command) -> Option<Misuse>
     ensures some { IfSome result (IsClash command.now) }
     ensures input_first { reads_input_twice command.now ≡ true → result ≡ Some InputTwice }
     ensures read_once { result ≡ None → reads_input_twice command.now ≡ false }
@@ -51,9 +51,9 @@ pub(crate) fn clash(command: &Command) -> Option<Refusal>
 {
     let files = Files::of(command);
     if has_input_twice(&files.reads) {
-        Some(Refusal::InputTwice)
+        Some(Misuse::InputTwice)
     } else if has_clash(&files.reads, &files.makes()) {
-        Some(Refusal::Overwrites)
+        Some(Misuse::Overwrites)
     } else {
         None
     }

@@ -8,8 +8,8 @@ mod fault;
 mod files;
 mod grammar;
 mod judging;
+mod misuse;
 mod reading;
-mod refusal;
 
 pub use command::{Command, Files, STANDARD_INPUT};
 pub use fault::WordsFault;

@@ -12,13 +12,13 @@ use crate::command::Command;
 use crate::fault::WordsFault;
 use crate::files::clash;
 use crate::grammar::grammar;
-use crate::refusal::Refusal;
+use crate::misuse::Misuse;
 use clap::ArgMatches;
 use clap::error::ErrorKind;
 use std::alloc::{AllocError, Global};
 
 /// The command of a subcommand's words.
-fn command_of(alloc: Global, name: &str, matches: &ArgMatches<'_>) -> Result<Command, Refusal>
+fn command_of(alloc: Global, name: &str, matches: &ArgMatches<'_>) -> Result<Command, Misuse>
     ensures range { IfOk result IsInRange }
     ensures asked { IfOk result (Asks name.now (rows_of (found_of matches.now))) }
     ensures refused { IfErr result (IsRefused (Some (name.now, rows_of (found_of matches.now)))) }
@@ -31,12 +31,12 @@ fn command_of(alloc: Global, name: &str, matches: &ArgMatches<'_>) -> Result<Com
     }
     match text(alloc, matches, "plan")? {
         Some(plan) => plan_command(alloc, name, plan, matches),
-        None => Err(Refusal::Incomplete),
+        None => Err(Misuse::Incomplete),
     }
 }
 
 /// The command that was found in the words. One of which two files clash is refused.
-fn found_command(alloc: Global, matches: &ArgMatches<'_>) -> Result<Command, Refusal>
+fn found_command(alloc: Global, matches: &ArgMatches<'_>) -> Result<Command, Misuse>
     ensures range { IfOk result IsInRange }
     ensures asked { IfOk result (IsFoundIn (subcommand_rows_of matches.now)) }
     ensures read_once { IfOk result (λ c. reads_input_twice c ≡ false) }
@@ -51,7 +51,7 @@ fn found_command(alloc: Global, matches: &ArgMatches<'_>) -> Result<Command, Ref
                 Some(refusal) => Err(refusal),
             }
         }
-        None => Err(Refusal::Incomplete),
+        None => Err(Misuse::Incomplete),
     }
 }
 
@@ -69,39 +69,39 @@ fn in_its_words(
 }
 
 /// Why the words are refused. What has no fault of its own is reported in the words of the library.
-fn words_fault(grammar: &mut clap::Command<'_>, refusal: Refusal) -> Result<WordsFault, AllocError>
+fn words_fault(grammar: &mut clap::Command<'_>, refusal: Misuse) -> Result<WordsFault, AllocError>
     ensures { IfOk result (λ fault. (command : Option (List ℕ × List Row))
         → IsRefused command refusal → IsRefusalIn command fault) }
 {
     match refusal {
-        Refusal::Together => Ok(WordsFault::Together),
-        Refusal::NoMemory => Ok(WordsFault::NoMemory),
-        Refusal::Incomplete => in_its_words(
+        Misuse::Together => Ok(WordsFault::Together),
+        Misuse::NoMemory => Ok(WordsFault::NoMemory),
+        Misuse::Incomplete => in_its_words(
             grammar,
             ErrorKind::MissingSubcommand,
             "a command is missing",
         ),
-        Refusal::CheckedTelling => in_its_words(
+        Misuse::CheckedTelling => in_its_words(
             grammar,
             ErrorKind::ArgumentConflict,
             "--strict, --echo and --summary do not go with --cert",
         ),
-        Refusal::DrawTogether => in_its_words(
+        Misuse::DrawTogether => in_its_words(
             grammar,
             ErrorKind::MissingRequiredArgument,
             "--limit and --spare go together, and with --code",
         ),
-        Refusal::NoSuchCode => in_its_words(
+        Misuse::NoSuchCode => in_its_words(
             grammar,
             ErrorKind::InvalidValue,
             "no such code; there are X1 to X3, P3 to P22, A1 to A6, C1 to C10, S1 to S7, Q1 to Q11, M1 to M12, K1 to K7 and F1 to F5, those of a ticket, as NC or CLRA, and the names, as Overlap",
         ),
-        Refusal::InputTwice => in_its_words(
+        Misuse::InputTwice => in_its_words(
             grammar,
             ErrorKind::ArgumentConflict,
             "standard input, which is named -, can be read for one file alone",
         ),
-        Refusal::Overwrites => in_its_words(
+        Misuse::Overwrites => in_its_words(
             grammar,
             ErrorKind::ArgumentConflict,
             "a file to be made has the name of another file of the command, or is named -",

@@ -5,7 +5,7 @@ use Rattle.tx_rank.specs.declared.finding.Finding.{Finding}
 use Rattle.tx_draw.specs.Shown.{Shown, nothing, shown_by, or_else, first_shown}
 
 module _ {A : Type 0} (code : ℕ) (fs : List (Finding A)) (i : ℕ) where
-  -- the finding at this place, and the rest
+  -- the finding at this index, and the rest
   first_at : (f : Finding A) → i < length fs → f ≡ get_or fs i f → first_shown code (drop i fs) ≡ or_else (shown_by code f) (first_shown code (drop (i + 1) fs))
   first_at f l e = at_drop_more (first_shown code) fs i f l ∙ ap (λ g. first_shown code (g ∷ drop (i + 1) fs)) (sym e)
 

@@ -7,7 +7,7 @@ use Rattle.tx_plan.specs.Circuits.{ends_of, direction_of, count_of}
 use Rattle.tx_plan.specs.declared.ids.Direction.{Direction}
 use Rattle.tx_plan.specs.declared.ids.Direction.TheVariants.{OneWay, BothWay}
 
--- the texts of the places before n, in order
+-- the texts of the indexes before n, in order
 abbrev pub each_before : ℕ → (ℕ → List ℕ) → List ℕ
 each_before n text = flat_map text (range_with_len 0 n)
 

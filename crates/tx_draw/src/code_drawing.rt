@@ -74,8 +74,8 @@ fn write_exchanges<A: Allocator, W: Sink>(
     ensures { Wrote W.taken W.failed sink.old sink.new (each_before
         (length plan.now.exchanges) (exchange_line plan.now code reached.now shown.now)) result }
 {
-    for place in 0..plan.exchanges() {
-        let exchange = ExchangeId::of(place);
+    for index in 0..plan.exchanges() {
+        let exchange = ExchangeId::of(index);
         write_exchange(plan, code, reached, shown, exchange, sink)?;
     }
     Ok(())
@@ -117,8 +117,8 @@ fn write_lists<A: Allocator, W: Sink>(
     ensures { Wrote W.taken W.failed sink.old sink.new (each_before
         (length plan.now.exchanges) (list_lines plan.now code reached.now shown.now)) result }
 {
-    for place in 0..plan.exchanges() {
-        let exchange = ExchangeId::of(place);
+    for index in 0..plan.exchanges() {
+        let exchange = ExchangeId::of(index);
         let list = plan.list(exchange, code);
         write_list(plan, reached, shown, exchange, list, sink)?;
     }

@@ -27,8 +27,8 @@ fn write_exchanges<A: Allocator, W: Sink>(plan: &Plan<A>, sink: &mut W) -> Resul
     ensures { Wrote W.taken W.failed sink.old sink.new
         (each_before (length plan.now.exchanges) (exchange_line plan.now)) result }
 {
-    for place in 0..plan.exchanges() {
-        write_exchange(plan, ExchangeId::of(place), sink)?;
+    for index in 0..plan.exchanges() {
+        write_exchange(plan, ExchangeId::of(index), sink)?;
     }
     Ok(())
 }
@@ -48,8 +48,8 @@ fn write_groups<A: Allocator, W: Sink>(plan: &Plan<A>, sink: &mut W) -> Result<(
     ensures { Wrote W.taken W.failed sink.old sink.new
         (each_before (length plan.now.groups) (group_line plan.now)) result }
 {
-    for place in 0..plan.groups() {
-        write_group(plan, GroupId::of(place), sink)?;
+    for index in 0..plan.groups() {
+        write_group(plan, GroupId::of(index), sink)?;
     }
     Ok(())
 }

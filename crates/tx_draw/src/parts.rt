@@ -43,8 +43,8 @@ fn write_home_rows<A: Allocator, W: Sink>(
     ensures { Wrote W.taken W.failed sink.old sink.new
         (each_before (length plan.now.codes) (home_row plan.now exchange)) result }
 {
-    for place in 0..plan.codes() {
-        write_home_row(plan, exchange, CodeId::of(place), sink)?;
+    for index in 0..plan.codes() {
+        write_home_row(plan, exchange, CodeId::of(index), sink)?;
     }
     Ok(())
 }

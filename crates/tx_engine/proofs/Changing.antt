@@ -13,7 +13,7 @@ use Rattle.tx_plan.specs.declared.ids.Circuit.{Circuit}
 use Rattle.tx_plan.specs.declared.ids.Line.{Line}
 use Rattle.tx_machine.specs.declared.open_call.Hop.{Hop}
 use Rattle.tx_machine.specs.declared.open_call.Phase.TheVariants.{Standing, Calling}
-use Rattle.tx_machine.specs.Call.{Call, place_of}
+use Rattle.tx_machine.specs.Call.{Call, exchange_of}
 use Rattle.tx_machine.specs.InUse.{circuits_carried}
 use Rattle.tx_machine.specs.Routing.{set_call}
 use Rattle.tx_machine.specs.Step.{keyed_call}
@@ -22,7 +22,7 @@ use Rattle.tx_machine.proofs.Invariant.{inv_opening}
 use Rattle.tx_machine.proofs.Changes.{not_standing}
 use Rattle.tx_lines.specs.Book.{Book, is_line_of}
 use Rattle.tx_circuits.specs.Table.{Table, all_free, seat_cmp}
-use Rattle.tx_calls.specs.Calls.{Kept, Calls, kept_at, Changes, calls_in, sorted_calls}
+use Rattle.tx_calls.specs.KeptCalls.{Kept, KeptCalls, kept_at, Changes, calls_in, sorted_calls}
 use Rattle.tx_calls.specs.inner.Keys.{HasKeys, keys_of, pick}
 use Rattle.tx_calls.specs.declared.circuit_keys.EndKeys.{EndKeys}
 use Rattle.tx_calls.proofs.Sorted.{sorted_mem}
@@ -48,7 +48,7 @@ pub together_in : (p : Plan) (cs : List Call) (t : Table) (b b' : Book) (numbers
 together_in p cs t b b' numbers engaged k = record { inv = k.inv; used = k.used; engaged = λ l. ap (λ (z : set.FinSet line_cmp). set.contains z l) engaged ∙ k.engaged l }
 
 -- THE OPENING
-pub sound_opening : (p : Plan) (codes : List Code) (c : Calls) (ks : List (List EndKeys)) (b : Book) (t : Table) (numbers made room : ℕ) → IsPlan p → codes ≡ p.codes → c.slots ≡ []
+pub sound_opening : (p : Plan) (codes : List Code) (c : KeptCalls) (ks : List (List EndKeys)) (b : Book) (t : Table) (numbers made room : ℕ) → IsPlan p → codes ≡ p.codes → c.slots ≡ []
     → ((x : Circuit) → is_circuit p x ≡ true → HasKeys ks x) → ((code : ℕ) (number : List ℕ) → is_line_of b.ranges code number ≡ is_line_at p code number) → b.engaged ≡ set.empty → t ≡ all_free p → made ≡ 0
     → AreSound p codes c ks b t numbers made room
 sound_opening p codes c ks b t numbers made room ok codes_are none keys lines idle free zero' =
@@ -72,9 +72,9 @@ sound_opening p codes c ks b t numbers made room ok codes_are none keys lines id
       ticket_room = (let n = ap length calls in omega arith);
     }
 
-module _ (p : Plan) (codes : List Code) (c : Calls) (ks : List (List EndKeys)) (b : Book) (t : Table) (numbers made room : ℕ) (sound : AreSound p codes c ks b t numbers made room) where
+module _ (p : Plan) (codes : List Code) (c : KeptCalls) (ks : List (List EndKeys)) (b : Book) (t : Table) (numbers made room : ℕ) (sound : AreSound p codes c ks b t numbers made room) where
   -- ROOM
-  pub sound_room : (c' : Calls) (b' : Book) (made' room' : ℕ) → c'.slots ≡ c.slots → b'.ranges ≡ b.ranges → b'.engaged ≡ b.engaged → made' + length (calls_in c) ≤ room' → AreSound p codes c' ks b' t numbers made' room'
+  pub sound_room : (c' : KeptCalls) (b' : Book) (made' room' : ℕ) → c'.slots ≡ c.slots → b'.ranges ≡ b.ranges → b'.engaged ≡ b.engaged → made' + length (calls_in c) ≤ room' → AreSound p codes c' ks b' t numbers made' room'
   sound_room c' b' made' room' slots ranges engaged more =
       let calls : calls_in c' ≡ calls_in c = ap sorted_calls slots in
       let at : (key : ℕ) (e : Kept) → kept_at c' key ≡ Some e → kept_at c key ≡ Some e = λ key e h. ap (λ s. slice_index_or s key None) (sym slots) ∙ h in
@@ -89,7 +89,7 @@ module _ (p : Plan) (codes : List Code) (c : Calls) (ks : List (List EndKeys)) (
       }
 
   -- A NEW CALL
-  pub sound_key : (c' : Calls) (b' : Book) (key : ℕ) (e : Kept) (line : Line) (keyed : List ℕ) (event : ℕ) → is_line p line ≡ true → set.contains b.engaged line ≡ false
+  pub sound_key : (c' : KeptCalls) (b' : Book) (key : ℕ) (e : Kept) (line : Line) (keyed : List ℕ) (event : ℕ) → is_line p line ≡ true → set.contains b.engaged line ≡ false
       → Changes c c' key (Some e) → e.call ≡ keyed_call (numbers + 1) line keyed event → calls_in c' ≡ calls_in c ++ keyed_call (numbers + 1) line keyed event ∷ []
       → b'.ranges ≡ b.ranges → b'.engaged ≡ set.insert b.engaged line → made + (length (calls_in c) + 1) ≤ room
       → AreSound p codes c' ks b' t (numbers + 1) made room
@@ -116,13 +116,13 @@ module _ (p : Plan) (codes : List Code) (c : Calls) (ks : List (List EndKeys)) (
     pub inside : Among k.call (calls_in c)
     inside = sorted_mem c.slots key k was
 
-    pub sound_after : (c' : Calls) (e : Kept) (f : Call → Call) (b' : Book) (t' : Table) (ks' : List (List EndKeys))
+    pub sound_after : (c' : KeptCalls) (e : Kept) (f : Call → Call) (b' : Book) (t' : Table) (ks' : List (List EndKeys))
         → Changes c c' key (Some e) → calls_in c' ≡ set_call k.call.number f (calls_in c) → b'.ranges ≡ b.ranges
         → AreTogether p (set_call k.call.number f (calls_in c)) t' b' numbers
         → ((x : Circuit) → is_circuit p x ≡ true → HasKeys ks' x)
-        → ((x : Circuit) → e.call.phase ≡ Calling x → pick (is_first_end p x (place_of p e.call)) (keys_of ks' x) ≡ key)
+        → ((x : Circuit) → e.call.phase ≡ Calling x → pick (is_first_end p x (exchange_of p e.call)) (keys_of ks' x) ≡ key)
         → ((x : Circuit) → Among x (circuits_carried e.call) → (f : Bool) → pick f (keys_of ks' x) ≡ key)
-        → ((i : ℕ) (d : Kept) → i ≢ key → kept_at c i ≡ Some d → (x : Circuit) → d.call.phase ≡ Calling x → pick (is_first_end p x (place_of p d.call)) (keys_of ks' x) ≡ pick (is_first_end p x (place_of p d.call)) (keys_of ks x))
+        → ((i : ℕ) (d : Kept) → i ≢ key → kept_at c i ≡ Some d → (x : Circuit) → d.call.phase ≡ Calling x → pick (is_first_end p x (exchange_of p d.call)) (keys_of ks' x) ≡ pick (is_first_end p x (exchange_of p d.call)) (keys_of ks x))
         → ((i : ℕ) (d : Kept) → i ≢ key → kept_at c i ≡ Some d → (x : Circuit) → Among x (circuits_carried d.call) → (f : Bool) → pick f (keys_of ks' x) ≡ pick f (keys_of ks x))
         → ((x : Circuit) → e.call.phase ≡ Calling x → 0 < e.room)
         → AreSound p codes c' ks' b' t' numbers made room
@@ -137,7 +137,7 @@ module _ (p : Plan) (codes : List Code) (c : Calls) (ks : List (List EndKeys)) (
     }
 
     -- room for a hop
-    pub sound_hop : (c' : Calls) (r : ℕ) → Changes c c' key (Some (record k { room = r })) → calls_in c' ≡ calls_in c → k.room ≤ r → AreSound p codes c' ks b t numbers made room
+    pub sound_hop : (c' : KeptCalls) (r : ℕ) → Changes c c' key (Some (record k { room = r })) → calls_in c' ≡ calls_in c → k.room ≤ r → AreSound p codes c' ks b t numbers made room
     sound_hop c' r up calls more = record {
       rules = sound.rules;
       codes_are = sound.codes_are;

@@ -16,13 +16,13 @@ use Rattle.tx_machine.specs.declared.open_call.Hop.{Hop}
 use Rattle.tx_machine.specs.declared.open_call.Phase.TheVariants.{Calling}
 use Rattle.tx_machine.specs.declared.event.Event.TheVariants.{Confirm}
 use Rattle.tx_machine.specs.declared.reply.Reply.TheVariants.{At}
-use Rattle.tx_machine.specs.Call.{Call, place_of}
+use Rattle.tx_machine.specs.Call.{Call, exchange_of}
 use Rattle.tx_machine.specs.InUse.{circuits_carried}
 use Rattle.tx_machine.specs.Confirming.{far_of, carried_on, rival, confirmed, confirmed_by}
 use Rattle.tx_machine.specs.Routing.{set_call}
 use Rattle.tx_machine.specs.Step.{accepted, with_call}
 use Rattle.tx_circuits.specs.Table.{Table, IsSeizedBy, with_held}
-use Rattle.tx_calls.specs.Calls.{Kept, Calls, kept_at, Changes, calls_in}
+use Rattle.tx_calls.specs.KeptCalls.{Kept, KeptCalls, kept_at, Changes, calls_in}
 use Rattle.tx_calls.specs.inner.Keys.{HasKeys, keys_at, keys_of, pick}
 use Rattle.tx_calls.specs.declared.circuit_keys.EndKeys.{EndKeys}
 use Rattle.tx_calls.proofs.Sorted.{sorted_mem, distinct_rising}
@@ -41,7 +41,7 @@ module _ {A : Type 0} (n : EngineState A) (sound : IsSound n) (number key : ℕ)
   in' : Among k.call (calls_in n.calls)
   in' = sorted_mem n.calls.slots key k at.kept
 
-  far_is : other_end p x.group (place_of p k.call) ≡ Some (far_of p k.call x)
+  far_is : other_end p x.group (exchange_of p k.call) ≡ Some (far_of p k.call x)
   far_is = let r = (sound.together.inv.each k.call in').calling x calling in r.1 ∙ ap Some (sym (ap (λ o. unwrap_or o 0) r.1))
 
   apart : (i : ℕ) (d : Kept) → i ≢ key → kept_at n.calls i ≡ Some d → d.call.number ≢ k.call.number
@@ -65,7 +65,7 @@ module _ {A : Type 0} (n : EngineState A) (sound : IsSound n) (number key : ℕ)
 
     module _ (t : Table) (held : t ≡ with_held n.circuits x) (ks : List (List EndKeys))
         (keys : (y : Circuit) → keys_at ks y ≡ (if same_circuit y x then option_map (λ _. record { first = key; other = key }) (keys_at n.keys y) else keys_at n.keys y))
-        (c : Calls) (r : ℕ) (up : Changes n.calls c key (Some (record { call = carried_on x far k.call; room = r }))) (calls : calls_in c ≡ set_call k.call.number (carried_on x far) (calls_in n.calls)) where
+        (c : KeptCalls) (r : ℕ) (up : Changes n.calls c key (Some (record { call = carried_on x far k.call; room = r }))) (calls : calls_in c ≡ set_call k.call.number (carried_on x far) (calls_in n.calls)) where
       both : (g : Bool) → pick g (record { first = key; other = key }) ≡ key
       both true = refl
       both false = refl
@@ -90,7 +90,7 @@ module _ {A : Type 0} (n : EngineState A) (sound : IsSound n) (number key : ℕ)
             | inl o ↦ key_kept y o g
             | inr o ↦ elim o [ inl e ↦ ap (λ z. pick g (keys_of ks z)) (sym e) ∙ key_x g | inr bad ↦ absurd bad ]
           ])
-          (λ i d ne q y g. key_else y (is_first_end p y (place_of p d.call)) (λ tie. nobody d.call (sorted_mem n.calls.slots i d q) (apart i d ne q) (g ∙ ap Calling (same_circuit-is y x tie))))
+          (λ i d ne q y g. key_else y (is_first_end p y (exchange_of p d.call)) (λ tie. nobody d.call (sorted_mem n.calls.slots i d q) (apart i d ne q) (g ∙ ap Calling (same_circuit-is y x tie))))
           (λ i d ne q y m g. key_else y g (λ tie.
           (sound.together.inv.pairs k.call d.call in' (sorted_mem n.calls.slots i d q) (λ e. apart i d ne q (sym e))).right x calling (subst (λ z. Among z (circuits_carried d.call)) (same_circuit-is y x tie) m)))
           (λ y g. let bad : ⊥ = cc in absurd bad)

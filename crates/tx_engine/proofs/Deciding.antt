@@ -18,7 +18,7 @@ use Rattle.tx_machine.specs.InUse.{first_free, is_free_at, is_down}
 use Rattle.tx_lines.specs.Book.{Book}
 use Rattle.tx_circuits.specs.Table.{Table, is_free_at as table_frees, first_free as table_first}
 use Rattle.tx_circuits.proofs.Unnamed.{circuits_at-same}
-use Rattle.tx_calls.specs.Calls.{Kept, kept_at}
+use Rattle.tx_calls.specs.KeptCalls.{Kept, kept_at}
 use Rattle.tx_engine.specs.declared.engine.EngineState.{EngineState}
 use Rattle.tx_engine.specs.inner.Decided.{IsDecided}
 use Rattle.tx_engine.specs.inner.Seen.{state_seen, AreTogether}
@@ -28,11 +28,11 @@ module _ (p : Plan) (cs : List Call) (b : Book) (t : Table) (numbers events : �
   abbrev here : State
   here = state_seen cs t b numbers events tickets
 
-  free_is : (place : ℕ) (x : Circuit) → table_frees t place x ≡ is_free_at p here place x
-  free_is place x = λ i. not (together.used.carried x i) && (not (set.contains t.releasing x) && (not (set.contains t.out x) && not (together.used.seized x place i)))
+  free_is : (exchange : ℕ) (x : Circuit) → table_frees t exchange x ≡ is_free_at p here exchange x
+  free_is exchange x = λ i. not (together.used.carried x i) && (not (set.contains t.releasing x) && (not (set.contains t.out x) && not (together.used.seized x exchange i)))
 
-  pub first_is : (place g : ℕ) → table_first t place g ≡ first_free p here place g
-  first_is place g = λ i. if is_down here g then None else find (λ x. free_is place x i) (circuits_at-same p t together.used.groups g place i)
+  pub first_is : (exchange g : ℕ) → table_first t exchange g ≡ first_free p here exchange g
+  first_is exchange g = λ i. if is_down here g then None else find (λ x. free_is exchange x i) (circuits_at-same p t together.used.groups g exchange i)
 
 -- a network decides for the call that it keeps under a key
 module _ {A : Type 0} (n : EngineState A) (v : Net) (view : record { plan = n.plan.now; state = state_of n } ≡ v) (number key : ℕ) (none : refusal v.plan v.state (Route number) ≡ None)

@@ -9,7 +9,7 @@ use Rattle.tx_machine.specs.Ended.{Ended}
 use Rattle.tx_machine.specs.Ending.{end_call, ticket_of}
 use Rattle.tx_lines.specs.Book.{Book, is_line_of}
 use Rattle.tx_circuits.specs.Table.{Table}
-use Rattle.tx_calls.specs.Calls.{Kept, Calls, kept_at, Changes, calls_in}
+use Rattle.tx_calls.specs.KeptCalls.{Kept, KeptCalls, kept_at, Changes, calls_in}
 use Rattle.tx_calls.proofs.Sorted.{sorted_mem}
 use Rattle.tx_engine.specs.inner.GivenBack.{CanGiveBack, given_back, freed}
 use Rattle.tx_engine.specs.inner.Seen.{state_seen}
@@ -43,7 +43,7 @@ module _ {A : Type 0} (n : EngineState A) (sound : IsSound n) (key : ℕ) (k : K
   pub has_ticket_room : deque_len n.tickets < deque_capacity n.tickets
   has_ticket_room = let a = sound.ticket_room in let f = fewer in omega arith
 
-  module _ (c : Calls) (b : Book) (t : Table) (up : Changes n.calls c key None) (calls : calls_in c ≡ filter (λ d. not (is_numbered k.call.number d)) (calls_in n.calls))
+  module _ (c : KeptCalls) (b : Book) (t : Table) (up : Changes n.calls c key None) (calls : calls_in c ≡ filter (λ d. not (is_numbered k.call.number d)) (calls_in n.calls))
       (free : b ≡ record n.lines { engaged = freed k.call n.lines.engaged; room = b.room }) (back : t ≡ given_back p k.call n.circuits) where
     pub sound_ended : (made room : ℕ) → made ≡ deque_len n.tickets + 1 → room ≡ deque_capacity n.tickets → AreSound p n.codes c n.keys b t n.numbers made room
     sound_ended made room one same = record {

@@ -18,7 +18,7 @@ use Rattle.tx_plan.specs.declared.ids.Line.{Line}
 use Rattle.tx_machine.specs.declared.open_call.Hop.{Hop}
 use Rattle.tx_machine.specs.declared.open_call.Phase.{Phase}
 use Rattle.tx_machine.specs.declared.open_call.Phase.TheVariants.{Standing, Calling, Connected}
-use Rattle.tx_machine.specs.Call.{Call, place_of}
+use Rattle.tx_machine.specs.Call.{Call, exchange_of}
 use Rattle.tx_machine.specs.InUse.{carries, seizes, seizes_from, is_calling_on, is_free_at}
 use Rattle.tx_machine.specs.Lines.{takes_part, is_connected_to}
 use Rattle.tx_machine.specs.Routing.{set_call, in_phase}
@@ -76,7 +76,7 @@ module _ (p : Plan) (cs : List Call) (t : Table) (b : Book) (numbers : ℕ) (k :
           used = record {
             groups = k.used.groups;
             carried = λ x. k.used.carried x ∙ sym (any_same p cs t.releasing numbers k.inv c m f (λ d. carries d x) refl);
-            seized = λ x e. k.used.seized x e ∙ sym (any_same p cs t.releasing numbers k.inv c m f (λ d. seizes_from p d x e) (ap (λ (z : Phase). is_calling_on z x && (place_of p c == e)) (sym stands)));
+            seized = λ x e. k.used.seized x e ∙ sym (any_same p cs t.releasing numbers k.inv c m f (λ d. seizes_from p d x e) (ap (λ (z : Phase). is_calling_on z x && (exchange_of p c == e)) (sym stands)));
           };
           engaged = λ n.
               set.contains-insert lines_total b.engaged l n
@@ -94,22 +94,22 @@ module _ (p : Plan) (cs : List Call) (t : Table) (b : Book) (numbers : ℕ) (k :
 
     -- A CALL SEIZES A CIRCUIT
     -- what the table sees as free, the machine does
-    pub free_told : (x : Circuit) (place : ℕ) → is_free_in t place x ≡ is_free_at p (state_seen cs t b numbers 0 []) place x
-    free_told x place = λ i. not (k.used.carried x i) && (not (set.contains t.releasing x) && (not (set.contains t.out x) && not (k.used.seized x place i)))
+    pub free_told : (x : Circuit) (exchange : ℕ) → is_free_in t exchange x ≡ is_free_at p (state_seen cs t b numbers 0 []) exchange x
+    free_told x exchange = λ i. not (k.used.carried x i) && (not (set.contains t.releasing x) && (not (set.contains t.out x) && not (k.used.seized x exchange i)))
 
-    pub seized_together : (x : Circuit) (y : ℕ) → c.phase ≡ Standing → is_circuit p x ≡ true → other_end p x.group (place_of p c) ≡ Some y → is_free_in t (place_of p c) x ≡ true
-        → AreTogether p (set_call c.number (in_phase (Calling x)) cs) (record t { seized = set.insert t.seized (x, place_of p c) }) b numbers
+    pub seized_together : (x : Circuit) (y : ℕ) → c.phase ≡ Standing → is_circuit p x ≡ true → other_end p x.group (exchange_of p c) ≡ Some y → is_free_in t (exchange_of p c) x ≡ true
+        → AreTogether p (set_call c.number (in_phase (Calling x)) cs) (record t { seized = set.insert t.seized (x, exchange_of p c) }) b numbers
     seized_together x y stands known to free =
         let f = in_phase (Calling x) in
         record {
-          inv = seize_keeps p (state_seen cs t b numbers 0 []) k.inv c m x y stands known to (is_free p (state_seen cs t b numbers 0 []) (place_of p c) x (sym (free_told x (place_of p c)) ∙ free));
+          inv = seize_keeps p (state_seen cs t b numbers 0 []) k.inv c m x y stands known to (is_free p (state_seen cs t b numbers 0 []) (exchange_of p c) x (sym (free_told x (exchange_of p c)) ∙ free));
           used = record {
             groups = k.used.groups;
             carried = λ z. k.used.carried z ∙ sym (any_same p cs t.releasing numbers k.inv c m f (λ d. carries d z) refl);
             seized = λ z e.
-                set.contains-insert seats_total t.seized (x, place_of p c) (z, e)
-                ∙ (λ i. seat_tie x z (place_of p c) e i || k.used.seized z e i)
-                ∙ sym (any_more p cs t.releasing numbers k.inv c m f (λ d. seizes_from p d z e) (ap (λ (q : Phase). is_calling_on q z && (place_of p c == e)) stands));
+                set.contains-insert seats_total t.seized (x, exchange_of p c) (z, e)
+                ∙ (λ i. seat_tie x z (exchange_of p c) e i || k.used.seized z e i)
+                ∙ sym (any_more p cs t.releasing numbers k.inv c m f (λ d. seizes_from p d z e) (ap (λ (q : Phase). is_calling_on q z && (exchange_of p c == e)) stands));
           };
           engaged = λ l. k.engaged l ∙ sym (any_same p cs t.releasing numbers k.inv c m f (λ d. takes_part d l) (ap (λ (z : Phase). same_line c.line l || is_connected_to z l) (sym stands)));
         }
@@ -121,7 +121,7 @@ module _ (p : Plan) (cs : List Call) (t : Table) (b : Book) (numbers : ℕ) (k :
       nobody_else d i ne e =
           let to = (k.inv.each c m).calling x calls in
           let to' = (k.inv.each d i).calling x e in
-          let there : place_of p d ≡ far_of p c x = two_ends p x.group (place_of p c) (place_of p d) to.0 to'.0 to.1 to'.1 (λ q. (k.inv.pairs c d m i (λ n. ne (sym n))).ends x calls e q) ∙ sym (ap (λ o. unwrap_or o 0) to.1) in
+          let there : exchange_of p d ≡ far_of p c x = two_ends p x.group (exchange_of p c) (exchange_of p d) to.0 to'.0 to.1 to'.1 (λ q. (k.inv.pairs c d m i (λ n. ne (sym n))).ends x calls e q) ∙ sym (ap (λ o. unwrap_or o 0) to.1) in
           both_ways _ (find_none (λ d. not (d.number == c.number) && seizes_from p d x (far_of p c x)) cs d alone i) (and_from (not (d.number == c.number)) (seizes_from p d x (far_of p c x)) (ap not (ne_eqb d.number c.number ne)) (seizes_at p d x (far_of p c x) e there))
 
       unseized_rest : (e : ℕ) → list_any (λ d. seizes_from p d x e) (rest p cs t.releasing numbers k.inv c m) ≡ false
@@ -130,10 +130,10 @@ module _ (p : Plan) (cs : List Call) (t : Table) (b : Book) (numbers : ℕ) (k :
       -- the table may hold it
       pub may_hold : (e : ℕ) × IsSeizedBy t x e
       may_hold = (
-        place_of p c,
+        exchange_of p c,
         record {
-          this = k.used.seized x (place_of p c) ∙ mem_any (λ d. seizes_from p d x (place_of p c)) cs c m (seizes_at p c x (place_of p c) calls refl);
-          no_other = λ e s. sym (eqb-true (place_of p c) e (and_parts (seizes c x) (place_of p c == e) (this_one (seizes_from p c x e) (list_any (λ d. seizes_from p d x e) (rest p cs t.releasing numbers k.inv c m)) (sym (any_before p cs t.releasing numbers k.inv c m (λ d. seizes_from p d x e)) ∙ sym (k.used.seized x e) ∙ s) (unseized_rest e))).1);
+          this = k.used.seized x (exchange_of p c) ∙ mem_any (λ d. seizes_from p d x (exchange_of p c)) cs c m (seizes_at p c x (exchange_of p c) calls refl);
+          no_other = λ e s. sym (eqb-true (exchange_of p c) e (and_parts (seizes c x) (exchange_of p c == e) (this_one (seizes_from p c x e) (list_any (λ d. seizes_from p d x e) (rest p cs t.releasing numbers k.inv c m)) (sym (any_before p cs t.releasing numbers k.inv c m (λ d. seizes_from p d x e)) ∙ sym (k.used.seized x e) ∙ s) (unseized_rest e))).1);
         },
       )
         where
@@ -141,7 +141,7 @@ module _ (p : Plan) (cs : List Call) (t : Table) (b : Book) (numbers : ℕ) (k :
           this_one true r h f = refl
           this_one false r h f = sym f ∙ h
 
-      pub carried_together : (far : ℕ) → other_end p x.group (place_of p c) ≡ Some far → AreTogether p (set_call c.number (carried_on x far) cs) (with_held t x) b numbers
+      pub carried_together : (far : ℕ) → other_end p x.group (exchange_of p c) ≡ Some far → AreTogether p (set_call c.number (carried_on x far) cs) (with_held t x) b numbers
       carried_together far to =
           let f = carried_on x far in
           let others = rest p cs t.releasing numbers k.inv c m in

@@ -7,12 +7,12 @@ use Rattle.tx_plan.specs.Among.{Among}
 use Rattle.tx_plan.specs.declared.ids.Circuit.{Circuit}
 use Rattle.tx_machine.specs.declared.cause.Cause.{Cause}
 use Rattle.tx_machine.specs.declared.open_call.Phase.TheVariants.{Calling}
-use Rattle.tx_machine.specs.Call.{Call, place_of}
+use Rattle.tx_machine.specs.Call.{Call, exchange_of}
 use Rattle.tx_machine.specs.State.{State}
 use Rattle.tx_machine.specs.Confirming.{far_of, thrown_back, collide}
 use Rattle.tx_machine.specs.Routing.{set_call}
 use Rattle.tx_circuits.specs.Table.{Table}
-use Rattle.tx_calls.specs.Calls.{Kept, Calls, kept_at, Changes, calls_in}
+use Rattle.tx_calls.specs.KeptCalls.{Kept, KeptCalls, kept_at, Changes, calls_in}
 use Rattle.tx_calls.specs.inner.Keys.{keys_of, pick}
 use Rattle.tx_calls.proofs.Sorted.{sorted_mem}
 use Rattle.tx_engine.specs.inner.InTurn.{ended_if, pair_ended}
@@ -40,11 +40,11 @@ module _ {A : Type 0} (n : EngineState A) (sound : IsSound n) (number key : ℕ)
   meeting other is =
       let r = told.1 in
       let f = seizer_kept n.plan.now n.calls n.keys sound.keyed x told.0 r.open' r.calls in
-      let place : place_of n.plan.now told.0 ≡ far = r.far ∙ sym is_far in (
+      let exchange : exchange_of n.plan.now told.0 ≡ far = r.far ∙ sym is_far in (
         f.0,
         record {
           one = at.kept;
-          two = ap (kept_at n.calls) (is ∙ ap (λ z. pick (is_first_end n.plan.now x z) (keys_of n.keys x)) (sym place)) ∙ f.1;
+          two = ap (kept_at n.calls) (is ∙ ap (λ z. pick (is_first_end n.plan.now x z) (keys_of n.keys x)) (sym exchange)) ∙ f.1;
           calls = calling;
           met = only_rival n.plan.now (state_of n) sound.together.inv k.call in' x calling told.0 r ∙ ap Some (sym f.2);
         },
@@ -72,7 +72,7 @@ module _ {A : Type 0} (n : EngineState A) (sound : IsSound n) (key other : ℕ) 
       let same : d ≡ k = cc in
       rivals.other (ap (λ (z : Kept). z.call.number) same)
 
-  module _ (t : Table) (thrown_is : t ≡ thrown_off p k.call d.call x n.circuits) (c1 c2 : Calls)
+  module _ (t : Table) (thrown_is : t ≡ thrown_off p k.call d.call x n.circuits) (c1 c2 : KeptCalls)
       (up1 : Changes n.calls c1 key (Some (record k { call = thrown_back k.call }))) (calls1 : calls_in c1 ≡ set_call k.call.number thrown_back (calls_in n.calls))
       (up2 : Changes c1 c2 other (Some (record d { call = thrown_back d.call }))) (calls2 : calls_in c2 ≡ set_call d.call.number thrown_back (calls_in c1)) where
     both_calls : calls_in c2 ≡ (collide k.call.number d.call.number x (state_of n)).calls

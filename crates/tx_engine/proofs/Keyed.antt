@@ -10,10 +10,10 @@ use Rattle.tx_plan.specs.Circuits.{is_circuit, other_end, ends_of, far_end}
 use Rattle.tx_plan.specs.Among.{Among}
 use Rattle.tx_plan.specs.declared.ids.Circuit.{Circuit}
 use Rattle.tx_machine.specs.declared.open_call.Phase.TheVariants.{Calling}
-use Rattle.tx_machine.specs.Call.{place_of}
+use Rattle.tx_machine.specs.Call.{exchange_of}
 use Rattle.tx_machine.specs.InUse.{circuits_carried}
 use Rattle.tx_machine.proofs.Uses.{an_end}
-use Rattle.tx_calls.specs.Calls.{Kept, Calls, kept_at, Changes}
+use Rattle.tx_calls.specs.KeptCalls.{Kept, KeptCalls, kept_at, Changes}
 use Rattle.tx_calls.specs.inner.Keys.{HasKeys, keys_at, keys_of, pick, with_key, no_keys}
 use Rattle.tx_calls.specs.declared.circuit_keys.EndKeys.{EndKeys}
 use Rattle.tx_engine.specs.inner.Sound.{AreKeyed, HasHopRoom, is_first_end}
@@ -70,18 +70,18 @@ ends_same p g x y a b hx hy same = at (slice_get p.groups g) hx hy same
     ]
 
 -- WHAT IS KEPT UNDER A KEY CHANGED
-module _ (p : Plan) (c c' : Calls) (key : ℕ) (ks ks' : List (List EndKeys)) (keyed : AreKeyed p c ks) (all : (x : Circuit) → is_circuit p x ≡ true → HasKeys ks' x) where
+module _ (p : Plan) (c c' : KeptCalls) (key : ℕ) (ks ks' : List (List EndKeys)) (keyed : AreKeyed p c ks) (all : (x : Circuit) → is_circuit p x ≡ true → HasKeys ks' x) where
   pub keyed_updated : (d : Kept) → Changes c c' key (Some d)
-      → ((x : Circuit) → d.call.phase ≡ Calling x → pick (is_first_end p x (place_of p d.call)) (keys_of ks' x) ≡ key)
+      → ((x : Circuit) → d.call.phase ≡ Calling x → pick (is_first_end p x (exchange_of p d.call)) (keys_of ks' x) ≡ key)
       → ((x : Circuit) → Among x (circuits_carried d.call) → (f : Bool) → pick f (keys_of ks' x) ≡ key)
-      → ((k : ℕ) (e : Kept) → k ≢ key → kept_at c k ≡ Some e → (x : Circuit) → e.call.phase ≡ Calling x → pick (is_first_end p x (place_of p e.call)) (keys_of ks' x) ≡ pick (is_first_end p x (place_of p e.call)) (keys_of ks x))
+      → ((k : ℕ) (e : Kept) → k ≢ key → kept_at c k ≡ Some e → (x : Circuit) → e.call.phase ≡ Calling x → pick (is_first_end p x (exchange_of p e.call)) (keys_of ks' x) ≡ pick (is_first_end p x (exchange_of p e.call)) (keys_of ks x))
       → ((k : ℕ) (e : Kept) → k ≢ key → kept_at c k ≡ Some e → (x : Circuit) → Among x (circuits_carried e.call) → (f : Bool) → pick f (keys_of ks' x) ≡ pick f (keys_of ks x))
       → AreKeyed p c' ks'
   keyed_updated d up seizes carries same_seizers same_carriers = record {
     all = all;
     seizers = λ k e at x f. elim (eqb_tells k key) [
       | inl h ↦ (let both : Some e ≡ Some d = sym at ∙ subst (λ j. kept_at c' j ≡ Some d) (sym h.1) up.changed in let one : e ≡ d = cc in
-          ap (λ (z : Kept). pick (is_first_end p x (place_of p z.call)) (keys_of ks' x)) one ∙ seizes x (ap (λ (z : Kept). z.call.phase) (sym one) ∙ f) ∙ sym h.1)
+          ap (λ (z : Kept). pick (is_first_end p x (exchange_of p z.call)) (keys_of ks' x)) one ∙ seizes x (ap (λ (z : Kept). z.call.phase) (sym one) ∙ f) ∙ sym h.1)
       | inr h ↦ (let old : kept_at c k ≡ Some e = sym (up.others k h.1) ∙ at in same_seizers k e h.1 old x f ∙ keyed.seizers k e old x f)
     ];
     carriers = λ k e at x m y. elim (eqb_tells k key) [
@@ -91,7 +91,7 @@ module _ (p : Plan) (c c' : Calls) (key : ℕ) (ks ks' : List (List EndKeys)) (k
     ];
   }
 
-pub hop_room_updated : (c c' : Calls) (key : ℕ) (d : Kept) → Changes c c' key (Some d) → HasHopRoom c → ((x : Circuit) → d.call.phase ≡ Calling x → 0 < d.room) → HasHopRoom c'
+pub hop_room_updated : (c c' : KeptCalls) (key : ℕ) (d : Kept) → Changes c c' key (Some d) → HasHopRoom c → ((x : Circuit) → d.call.phase ≡ Calling x → 0 < d.room) → HasHopRoom c'
 hop_room_updated c c' key d up room new k e at x f = elim (eqb_tells k key) [
   | inl h ↦ (let both : Some e ≡ Some d = sym at ∙ subst (λ j. kept_at c' j ≡ Some d) (sym h.1) up.changed in let one : e ≡ d = cc in
       subst (λ (z : Kept). 0 < z.room) (sym one) (new x (ap (λ (z : Kept). z.call.phase) (sym one) ∙ f)))
@@ -99,18 +99,18 @@ hop_room_updated c c' key d up room new k e at x f = elim (eqb_tells k key) [
 ]
 
 -- what is kept after a removal was kept before
-pub kept_before : (c c' : Calls) (key k : ℕ) (e : Kept) → Changes c c' key None → kept_at c' k ≡ Some e → kept_at c k ≡ Some e
+pub kept_before : (c c' : KeptCalls) (key k : ℕ) (e : Kept) → Changes c c' key None → kept_at c' k ≡ Some e → kept_at c k ≡ Some e
 kept_before c c' key k e up at = elim (eqb_tells k key) [
   | inl h ↦ absurd (let bad : None ≡ Some e = sym up.changed ∙ subst (λ j. kept_at c' j ≡ Some e) h.1 at in cc)
   | inr h ↦ sym (up.others k h.1) ∙ at
 ]
 
-pub keyed_removed : (p : Plan) (c c' : Calls) (key : ℕ) (ks : List (List EndKeys)) → Changes c c' key None → AreKeyed p c ks → AreKeyed p c' ks
+pub keyed_removed : (p : Plan) (c c' : KeptCalls) (key : ℕ) (ks : List (List EndKeys)) → Changes c c' key None → AreKeyed p c ks → AreKeyed p c' ks
 keyed_removed p c c' key ks up keyed = record {
   all = keyed.all;
   seizers = λ k e at x f. keyed.seizers k e (kept_before c c' key k e up at) x f;
   carriers = λ k e at x m f. keyed.carriers k e (kept_before c c' key k e up at) x m f;
 }
 
-pub hop_room_removed : (c c' : Calls) (key : ℕ) → Changes c c' key None → HasHopRoom c → HasHopRoom c'
+pub hop_room_removed : (c c' : KeptCalls) (key : ℕ) → Changes c c' key None → HasHopRoom c → HasHopRoom c'
 hop_room_removed c c' key up room k e at x f = room k e (kept_before c c' key k e up at) x f

@@ -5,22 +5,22 @@ use Rattle.tx_plan.specs.Plan.{Plan}
 use Rattle.tx_plan.specs.Among.{Among}
 use Rattle.tx_plan.specs.declared.ids.Circuit.{Circuit}
 use Rattle.tx_machine.specs.declared.open_call.Phase.TheVariants.{Calling}
-use Rattle.tx_machine.specs.Call.{Call, place_of}
+use Rattle.tx_machine.specs.Call.{Call, exchange_of}
 use Rattle.tx_machine.specs.InUse.{carries, seizes_from, circuits_carried}
 use Rattle.tx_machine.proofs.Lists.{any_mem}
-use Rattle.tx_calls.specs.Calls.{Kept, Calls, kept_at, calls_in}
+use Rattle.tx_calls.specs.KeptCalls.{Kept, KeptCalls, kept_at, calls_in}
 use Rattle.tx_calls.specs.inner.Keys.{keys_of, pick}
 use Rattle.tx_calls.specs.declared.circuit_keys.EndKeys.{EndKeys}
 use Rattle.tx_calls.proofs.Sorted.{mem_sorted}
 use Rattle.tx_engine.proofs.After.{carried_mem, seizing_from}
 use Rattle.tx_engine.specs.inner.Sound.{AreKeyed, is_first_end}
 
-module _ (p : Plan) (c : Calls) (ks : List (List EndKeys)) (keyed : AreKeyed p c ks) (x : Circuit) where
-  pub seizer_kept : (d : Call) → Among d (calls_in c) → d.phase ≡ Calling x → (e : Kept) × (kept_at c (pick (is_first_end p x (place_of p d)) (keys_of ks x)) ≡ Some e) × (e.call ≡ d)
+module _ (p : Plan) (c : KeptCalls) (ks : List (List EndKeys)) (keyed : AreKeyed p c ks) (x : Circuit) where
+  pub seizer_kept : (d : Call) → Among d (calls_in c) → d.phase ≡ Calling x → (e : Kept) × (kept_at c (pick (is_first_end p x (exchange_of p d)) (keys_of ks x)) ≡ Some e) × (e.call ≡ d)
   seizer_kept d m calls =
       let r = mem_sorted c.slots d m in
       let key = keyed.seizers r.0 r.1 r.2 x (ap (λ (z : Call). z.phase) r.3 ∙ calls) in
-      (r.1, ap (kept_at c) (ap (λ (z : Call). pick (is_first_end p x (place_of p z)) (keys_of ks x)) (sym r.3) ∙ key) ∙ r.2, r.3)
+      (r.1, ap (kept_at c) (ap (λ (z : Call). pick (is_first_end p x (exchange_of p z)) (keys_of ks x)) (sym r.3) ∙ key) ∙ r.2, r.3)
 
   pub carrier_kept : (d : Call) → Among d (calls_in c) → carries d x ≡ true → (first : Bool) → (e : Kept) × (kept_at c (pick first (keys_of ks x)) ≡ Some e) × (e.call ≡ d)
   carrier_kept d m carried first =

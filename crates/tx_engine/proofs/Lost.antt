@@ -17,7 +17,7 @@ use Rattle.tx_engine.specs.inner.InTurn.{IsLosing}
 use Rattle.tx_engine.proofs.Losing.{losing_goes_on}
 use Rattle.tx_engine.proofs.Users.{AreLeft, first_user, left_after, left_without}
 
--- the numbers from a place on: the one there, and those after it
+-- the numbers from an index on: the one there, and those after it
 pub drop_first : (xs : List ℕ) (i : ℕ) → i < length xs → drop i xs ≡ get_or xs i 0 ∷ drop (i + 1) xs
 drop_first [] i h = absurd (omega arith)
 drop_first (y ∷ ys) zero h = refl
@@ -28,7 +28,7 @@ mem_there [] i h = absurd (omega arith)
 mem_there (y ∷ ys) zero h = inl refl
 mem_there (y ∷ ys) (suc i) h = inr (mem_there ys i (omega arith))
 
--- where a number after a place stands
+-- where a number after an index stands
 placed : (xs : List ℕ) (k m : ℕ) → Among m (drop k xs) → (j : ℕ) × (k ≤ j) × (j < length xs) × (slice_index_or xs j 0 ≡ m)
 placed [] zero m h = elim h [ ]
 placed [] (suc k) m h = elim h [ ]
@@ -41,7 +41,7 @@ index_is [] i h = absurd (omega arith)
 index_is (y ∷ ys) zero h = refl
 index_is (y ∷ ys) (suc i) h = index_is ys i (omega arith)
 
--- of sorted numbers none after a place is below the one there
+-- of sorted numbers none after an index is below the one there
 pub least_there : (xs : List ℕ) → IsSorted nat_cmp xs → (i : ℕ) → i < length xs → (m : ℕ) → Among m (drop (i + 1) xs) → get_or xs i 0 ≤ m
 least_there xs sorted i h m k =
     let r = placed xs (i + 1) m k in

@@ -14,7 +14,7 @@ use Rattle.tx_plan.specs.Among.{Among}
 use Rattle.tx_plan.specs.declared.ids.Circuit.{Circuit}
 use Rattle.tx_plan.proofs.Lists.{at_least}
 use Rattle.tx_plan.proofs.Among.{among_left, among_right, filter_among}
-use Rattle.tx_machine.specs.Call.{Call, place_of, is_numbered, call_of}
+use Rattle.tx_machine.specs.Call.{Call, exchange_of, is_numbered, call_of}
 use Rattle.tx_machine.specs.InUse.{circuits_used, carries, seizes, seizes_from, uses_group}
 use Rattle.tx_machine.specs.inner.Invariant.{IsRising, Inv}
 use Rattle.tx_machine.proofs.Lists.{any_none, mem_any, find_mem, find_none}
@@ -185,11 +185,11 @@ module _ (p : Plan) (cs : List Call) (rel : set.FinSet circuit_cmp) (numbers : �
         by_seizure d m true e =
             let calls = calling_on d.phase x e in
             let to = (inv.each d m).calling x calls in
-            e ∙ sym (elim (at_end (place_of p d) to.0 to.1) [
+            e ∙ sym (elim (at_end (exchange_of p d) to.0 to.1) [
               | inl q ↦ or_left (seizes_from p d x (ends_of p x.group).0) (seizes_from p d x (ends_of p x.group).1) (seizes_at p d x (ends_of p x.group).0 calls (sym q))
               | inr q ↦ or_right (seizes_from p d x (ends_of p x.group).0) (seizes_from p d x (ends_of p x.group).1) (seizes_at p d x (ends_of p x.group).1 calls (sym q))
             ])
-        by_seizure d m false e = e ∙ sym (λ i. (e i && (place_of p d == (ends_of p x.group).0)) || (e i && (place_of p d == (ends_of p x.group).1)))
+        by_seizure d m false e = e ∙ sym (λ i. (e i && (exchange_of p d == (ends_of p x.group).0)) || (e i && (exchange_of p d == (ends_of p x.group).1)))
 
         by_ends : (d : Call) → Among d cs → uses d x ≡ (seizes_from p d x (ends_of p x.group).0 || seizes_from p d x (ends_of p x.group).1)
         by_ends d m = ap (λ b. b || seizes d x) (uncarried d m) ∙ by_seizure d m (seizes d x) refl

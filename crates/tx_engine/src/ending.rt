@@ -1,10 +1,10 @@
-// Calls that end.
+// KeptCalls that end.
 ghost use Rattle.std.specs.Prelude.{◌≡◌, ◌≢◌, ℕ, ◌<◌, ◌-◌, ◌^◌, is_some, Some, None, true};
 ghost use Rattle.tx_machine.specs.declared.event.Event.TheVariants.{Clear};
 ghost use Rattle.tx_machine.specs.Ending.{end_call, ticket_of};
 ghost use Rattle.tx_machine.specs.Step.{accepted};
 ghost use Rattle.tx_machine.specs.Refusals.{refusal};
-ghost use Rattle.tx_calls.specs.Calls.{Kept, kept_at};
+ghost use Rattle.tx_calls.specs.KeptCalls.{Kept, kept_at};
 ghost use Rattle.tx_machine.specs.Seen.{call_seen};
 ghost use Rattle.tx_engine.specs.inner.GivenBack.{released_all, given_back, thrown_off, freed, CanReleaseAll, CanGiveBack, CanThrowOff};
 ghost use Rattle.tx_engine.specs.inner.Sound.{IsSound, state_of};
@@ -13,7 +13,7 @@ use crate::engine::EngineState;
 use std::alloc::Allocator;
 use tx_circuits::CircuitTable;
 use tx_lines::LineBook;
-use tx_machine::{Cause, Hop, OpenCall, Party, Path, Phase, Reply, Ticket, far_of, place_of};
+use tx_machine::{Cause, Hop, OpenCall, Party, Path, Phase, Reply, Ticket, exchange_of, far_of};
 use tx_plan::{Circuit, Plan};
 
 impl<'p, A: Allocator + Copy> EngineState<'p, A> {
@@ -98,9 +98,9 @@ fn give_back<A: Allocator>(circuits: &mut CircuitTable<A>, plan: &Plan<A>, call:
     release_hops(circuits, &call.hops);
     match &call.phase {
         Phase::Calling(circuit) => {
-            let place = place_of(plan, call);
+            let exchange = exchange_of(plan, call);
             let far = far_of(plan, call, circuit);
-            circuits.give_up(circuit, place, far);
+            circuits.give_up(circuit, exchange, far);
         }
         Phase::Standing => {}
         Phase::Connected(_) => {}
@@ -130,8 +130,8 @@ pub(crate) fn throw_off<A: Allocator>(
     ensures { circuits.new ≡ thrown_off plan.now
         (call_seen call.now) (call_seen other.now) circuit.now circuits.old }
 {
-    let near = place_of(plan, call);
-    let far = place_of(plan, other);
+    let near = exchange_of(plan, call);
+    let far = exchange_of(plan, other);
     circuits.withdraw(circuit, near);
     circuits.withdraw(circuit, far);
     circuits.release(circuit);

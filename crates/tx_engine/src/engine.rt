@@ -5,7 +5,7 @@ ghost use Rattle.tx_machine.specs.Step.{accepted, takes_memory};
 ghost use Rattle.tx_machine.specs.Refusals.{refusal};
 ghost use Rattle.tx_engine.specs.inner.Sound.{IsSound, state_of, IsUnder};
 ghost use Rattle.tx_machine.specs.Call.{call_of};
-ghost use Rattle.tx_calls.specs.Calls.{Kept, calls_in};
+ghost use Rattle.tx_calls.specs.KeptCalls.{Kept, calls_in};
 
 use std::alloc::{Allocator, Global};
 use std::collections::VecDeque;

@@ -10,7 +10,7 @@ ghost use Rattle.tx_machine.specs.Step.{accepted};
 ghost use Rattle.tx_machine.specs.Refusals.{refusal};
 ghost use Rattle.tx_machine.specs.inner.Decided.{carried_out};
 ghost use Rattle.tx_machine.specs.Confirming.{far_of};
-ghost use Rattle.tx_calls.specs.Calls.{HasRoom, Kept, kept_at};
+ghost use Rattle.tx_calls.specs.KeptCalls.{HasRoom, Kept, kept_at};
 ghost use Rattle.tx_engine.specs.inner.Sound.{IsSound, HasTicketRoom, state_of, IsUnder};
 ghost use Rattle.tx_engine.specs.inner.Decided.{IsDecided};
 
@@ -18,7 +18,7 @@ use crate::engine::{Engine, EngineState};
 use std::alloc::Allocator;
 use std::collections::VecDeque;
 use tx_machine::{
-    Cause, Decision, Hop, OpenCall, Phase, Reply, Service, Ticket, decide, far_of, place_of,
+    Cause, Decision, Hop, OpenCall, Phase, Reply, Service, Ticket, decide, exchange_of, far_of,
 };
 use tx_plan::{Circuit, ExchangeId, Line};
 use tx_text::{Figures, NoMemory};
@@ -159,7 +159,7 @@ impl<'p, A: Allocator + Copy> EngineState<'p, A> {
             ≡ (Seized circuit.now, state_of self.new)) }
         ensures err { OnErr result (state_of self.new ≡ state_of self.old) }
     {
-        let here = place_of(self.plan, self.calls.at(key));
+        let here = exchange_of(self.plan, self.calls.at(key));
         self.calls.reserve_hop(key)?;
         let (first, _) = self.plan.ends(circuit.group);
         self.circuits.seize(circuit, here);

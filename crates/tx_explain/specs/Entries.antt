@@ -11,7 +11,7 @@ use Rattle.tx_explain.specs.declared.plan_codes.TheConstants.{PLAN_CODES}
 abbrev pub Texts : Type 0
 Texts = List ℕ × List ℕ × List ℕ × List ℕ
 
--- a text of an entry, by its place, of which there are four
+-- a text of an entry, by its index, of which there are four
 abbrev pub text_at : List (Bor (List ℕ)) → ℕ → List ℕ
 text_at e i = (get_or e i (record { ref_ptr = (0, 0); now = [] })).now
 

@@ -11,7 +11,7 @@ use Rattle.tx_text.specs.Text.{is_lf}
 use Rattle.tx_text.specs.inner.Feed.{front_of}
 use Rattle.tx_text.proofs.TextLines.{HasNoLf}
 use Rattle.tx_text.proofs.Feeding.{front-no_lf, length-front, cuts_at_lf}
-use Rattle.tx_text.proofs.Places.{found_or_len}
+use Rattle.tx_text.proofs.Indexes.{found_or_len}
 use Rattle.tx_jobs.specs.declared.seen.Seen.{Seen}
 use Rattle.tx_jobs.specs.declared.seen.Seen.TheVariants.{Other}
 use Rattle.tx_jobs.specs.inner.Seen.{in_line, at_lf, line_seen, is_over, end_from}
@@ -76,7 +76,7 @@ to_end seen new bytes first going is more =
     let none : drop (length bytes) bytes ≡ [] = drop_all (length bytes) bytes (omega arith) in
     line_taken seen bytes more (no_lf bytes first) going ∙ (λ i. length bytes + end_from (sym is i) (sym none i ++ more))
 
--- WHAT IS SEEN with the bytes of a line from a place on
+-- WHAT IS SEEN with the bytes of a line from an index on
 
 from_at : (bytes : List ℕ) (i : ℕ) → i < length bytes → drop i bytes ≡ slice_index bytes i ∷ drop (i + 1) bytes
 from_at [] i h = absurd (omega (arith, h))

@@ -129,11 +129,11 @@ list_word Codes = codes "CODE"
 list_word Ranges = codes "LINES"
 list_word Groups = codes "GROUP"
 
--- the list, and the place of its first entry that differs, from 1
+-- the list, and the index of its first entry that differs, from 1
 abbrev pub difference_line : Difference → List ℕ
 difference_line d =
     codes "telexplan: plans of two networks: "
-    ++ (list_word d.list ++ (codes " " ++ (decimal (d.place + 1) ++ codes " differs\n")))
+    ++ (list_word d.list ++ (codes " " ++ (decimal (d.index + 1) ++ codes " differs\n")))
 
 -- the line that says why a job stopped
 abbrev pub fault_line : JobFault → List ℕ

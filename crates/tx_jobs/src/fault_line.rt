@@ -77,7 +77,7 @@ fn write_text_fault<'a, W: Sink>(
     )
 }
 
-/// Writes the first entry in which two plans are not of one network, by its place from 1.
+/// Writes the first entry in which two plans are not of one network, by its index from 1.
 fn write_difference<W: Sink>(difference: &Difference, sink: &mut W) -> Result<(), WriteFault>
     ensures { Wrote W.taken W.failed sink.old sink.new (difference_line difference.now) result }
 {
@@ -87,7 +87,7 @@ fn write_difference<W: Sink>(difference: &Difference, sink: &mut W) -> Result<()
             b"telexplan: plans of two networks: ",
             list_word(difference.list),
             b" ",
-            number.format(u32::from(difference.place) + 1).as_bytes(),
+            number.format(u32::from(difference.index) + 1).as_bytes(),
             b" differs\n",
         ],
         sink,

@@ -10,7 +10,7 @@ use Rattle.tx_plan.specs.Plan.{Plan}
 use Rattle.tx_plan.specs.Lines.{at_most}
 use Rattle.tx_plan.specs.Rules.{IsPlan, IsRange, EachPair, AreSeparate}
 use Rattle.tx_plan.specs.declared.range.LineRange.{LineRange}
-use Rattle.tx_plan.proofs.ByPlace.{all_at}
+use Rattle.tx_plan.proofs.ByIndex.{all_at}
 use Rattle.std.specs.List.Sorted.{IsSortedBy}
 use Rattle.std.specs.Ordering.{is_lt}
 use Rattle.std.specs.declared.cmp.Ordering.{Ordering}
@@ -19,7 +19,7 @@ use Rattle.std.specs.Fn.{Called, ComparesAs}
 use denote.Param.Members.{Mut}
 use denote.Ref.{Bor}
 use Rattle.std.proofs.lemmas.Fn.{always_returns_same}
-use Rattle.tx_lines.specs.inner.Ordered.{place_cmp, start_of, IsInOrder}
+use Rattle.tx_lines.specs.inner.Ordered.{key_cmp, start_of, IsInOrder}
 
 -- of one code and width, and sharing a number
 pub record Shares (r q : LineRange) : Type 0 where
@@ -74,12 +74,12 @@ stood (d ∷ xs) a b k x l m h =
       ]
     ]
 
--- two that stood at one place stand at one place
+-- two that stood at one index stand at one index
 abbrev Moves : ℕ → ℕ → ℕ → ℕ → Type 0
 Moves a b k f = ((k ≡ b) × (f ≡ a)) ⊎ ((k ≢ b) × (k ≡ a) × (f ≡ b)) ⊎ ((k ≢ b) × (k ≢ a) × (f ≡ k))
 
-one_place : (a b i j f g : ℕ) → Moves a b i f → Moves a b j g → f ≡ g → i ≡ j
-one_place a b i j f g p q e =
+one_index : (a b i j f g : ℕ) → Moves a b i f → Moves a b j g → f ≡ g → i ≡ j
+one_index a b i j f g p q e =
     elim p [
       | inl x ↦ elim q [
         | inl y ↦ x.0 ∙ sym y.0
@@ -101,7 +101,7 @@ apart_swap : (xs : List LineRange) (a b : ℕ) → a < length xs → b < length 
 apart_swap xs a b l m h i j r q x y s =
     let u = stood xs a b i r l m x in
     let v = stood xs a b j q l m y in
-    one_place a b i j u.from v.from u.moved v.moved (h u.from v.from r q u.there v.there s)
+    one_index a b i j u.from v.from u.moved v.moved (h u.from v.from r q u.there v.there s)
 
 apart_sorted : (xs ys : List LineRange) → IsPermutation xs ys → Apart xs → Apart ys
 apart_sorted xs ys p h = IsPermutation-keeps xs Apart h apart_swap ys p
@@ -113,7 +113,7 @@ Upward xs = (i : ℕ) (r : LineRange) → slice_get xs i ≡ Some r → at_most 
 upward_swap : (xs : List LineRange) (a b : ℕ) → a < length xs → b < length xs → Upward xs → Upward (swap xs a b)
 upward_swap xs a b l m h i r x = let u = stood xs a b i r l m x in h u.from r u.there
 
-pub arranged : (p : Plan) (rules : IsPlan p) (ys : List LineRange) → IsPermutation p.ranges ys → IsSortedBy (λ r q. is_lt (place_cmp (start_of r) (start_of q))) ys → IsInOrder ys
+pub arranged : (p : Plan) (rules : IsPlan p) (ys : List LineRange) → IsPermutation p.ranges ys → IsSortedBy (λ r q. is_lt (key_cmp (start_of r) (start_of q))) ys → IsInOrder ys
 arranged p rules ys perm sorted =
     let alone = apart_sorted p.ranges ys perm (apart_pairs p.ranges rules.ranges_apart) in
     record {

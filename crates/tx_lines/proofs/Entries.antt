@@ -11,7 +11,7 @@ use Rattle.indexmap.specs.declared.map.entry.Entry.{Entry}
 use Rattle.indexmap.specs.declared.map.entry.Entry.TheVariants.{Occupied, Vacant}
 
 module _ {K V S A H : Type 0} {g : eq.Ghosts K} {h : hash.Ghosts K} {b : builder.Ghosts S H} {w : hasher.Ghosts H} where
-  -- a place for a new key, and else none
+  -- one for a new key, and else none
   pub write_room : (e : Entry K V S A H g h b w) (v : V) → spare (entry_map e) ≤ spare (map_with_value e v) + (if is_some (entry_value e) then 0 else 1)
   unfolding map_with_value entry_value
   write_room (Occupied o) v = omega arith

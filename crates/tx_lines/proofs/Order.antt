@@ -17,10 +17,10 @@ use Rattle.std.proofs.lemmas.Map.Keys.{any_passes_from_place}
 use Rattle.tx_plan.specs.Lines.{at_most, in_range}
 use Rattle.tx_plan.specs.declared.range.LineRange.{LineRange}
 use Rattle.tx_plan.proofs.Lists.{same_tests}
-use Rattle.tx_lines.specs.inner.Ordered.{Place, place_cmp, start_of, IsInOrder}
+use Rattle.tx_lines.specs.inner.Ordered.{Key, key_cmp, start_of, IsInOrder}
 
-pub places_total : IsTotalOrder place_cmp
-places_total = then_total (on_total (λ (x : Place). x.0) nat_cmp_total) (then_total (on_total (λ (x : Place). length x.1) nat_cmp_total) (on_total (λ (x : Place). x.1) nat_list_cmp_total))
+pub keys_total : IsTotalOrder key_cmp
+keys_total = then_total (on_total (λ (x : Key). x.0) nat_cmp_total) (then_total (on_total (λ (x : Key). length x.1) nat_cmp_total) (on_total (λ (x : Key). x.1) nat_list_cmp_total))
 
 le_not_gt : (o : Ordering) → is_le o ≡ true → is_gt o ≡ false
 le_not_gt Less h = refl
@@ -55,8 +55,8 @@ first_part a b o h =
       ] refl k
     ] refl h
 
--- between two places of one code and width
-between : (c d : ℕ) (low mid high : List ℕ) → is_le (place_cmp (c, low) (d, mid)) ≡ true → is_le (place_cmp (d, mid) (c, high)) ≡ true → length low ≡ length high
+-- between two keys of one code and width
+between : (c d : ℕ) (low mid high : List ℕ) → is_le (key_cmp (c, low) (d, mid)) ≡ true → is_le (key_cmp (d, mid) (c, high)) ≡ true → length low ≡ length high
     → (d ≡ c) × (length mid ≡ length high) × (at_most low mid ≡ true) × (at_most mid high ≡ true)
 between c d low mid high h k same =
     let p = first_part c d (ordering_then (nat_cmp (length low) (length mid)) (slice_cmp nat_cmp low mid)) h in
@@ -67,7 +67,7 @@ between c d low mid high h k same =
     let w : length mid ≡ length high = (let a = r.0 in let b = s.0 in omega arith) in
     (sym e, w, r.1 (same ∙ sym w), s.1 w)
 
--- one that passes is at a place of the list
+-- one that passes is at an index of the list
 any_at : {A : Type 0} (t : A → Bool) (xs : List A) → list_any t xs ≡ true → (i : ℕ) × (x : A) × (slice_get xs i ≡ Some x) × (t x ≡ true)
 any_at t [] h = absurd (false≢true h)
 any_at t (x ∷ xs) h =
@@ -82,17 +82,17 @@ none_true false f = refl
 
 module _ (ranges : List LineRange) (ordered : IsInOrder ranges) (code : ℕ) (number : List ℕ) where
   abbrev pub starts_by : LineRange → Bool
-  starts_by r = is_le (place_cmp (start_of r) (code, number))
+  starts_by r = is_le (key_cmp (start_of r) (code, number))
 
   abbrev pub matches : LineRange → Bool
   matches r = (r.code == code) && in_range number r
 
   -- a later range starts no earlier
-  pub rises : (i j : ℕ) (d : LineRange) → i ≤ j → j < length ranges → is_le (place_cmp (start_of (get_or ranges i d)) (start_of (get_or ranges j d))) ≡ true
-  rises i j d l h = at_or_after places_total (start_of (get_or ranges i d)) (start_of (get_or ranges j d)) (sorted_far (λ r q. is_lt (place_cmp (start_of r) (start_of q))) (ranks_by places_total start_of) ranges ordered.sorted i j d l h)
+  pub rises : (i j : ℕ) (d : LineRange) → i ≤ j → j < length ranges → is_le (key_cmp (start_of (get_or ranges i d)) (start_of (get_or ranges j d))) ≡ true
+  rises i j d l h = at_or_after keys_total (start_of (get_or ranges i d)) (start_of (get_or ranges j d)) (sorted_far (λ r q. is_lt (key_cmp (start_of r) (start_of q))) (ranks_by keys_total start_of) ranges ordered.sorted i j d l h)
 
   pub partitioned : IsPartitionedBy starts_by ranges
-  partitioned i j d l h p = le_trans places_total (start_of (get_or ranges i d)) (start_of (get_or ranges j d)) (code, number) (rises i j d l h) p
+  partitioned i j d l h p = le_trans keys_total (start_of (get_or ranges i d)) (start_of (get_or ranges j d)) (code, number) (rises i j d l h) p
 
   -- what a range that has the number says of it
   record Has (r : LineRange) : Type 0 where
@@ -158,9 +158,9 @@ module _ (ranges : List LineRange) (ordered : IsInOrder ranges) (code : ℕ) (nu
             let h = has q a.3 in
             let l = before a.0 q a.2 h in
             let last = slice_get_within ranges m r at in
-            let up : is_le (place_cmp (start_of q) (start_of r)) ≡ true =
-            (λ i. is_le (place_cmp (start_of (sym (get_or_from_slice_get ranges a.0 q q a.2) i)) (start_of (sym (get_or_from_slice_get ranges m r q at) i)))) ∙ rises a.0 m q (omega arith) last in
-            let up' : is_le (place_cmp (code, q.low) (r.code, r.low)) ≡ true = ap (λ c. is_le (place_cmp (c, q.low) (r.code, r.low))) (sym h.code_is) ∙ up in
+            let up : is_le (key_cmp (start_of q) (start_of r)) ≡ true =
+            (λ i. is_le (key_cmp (start_of (sym (get_or_from_slice_get ranges a.0 q q a.2) i)) (start_of (sym (get_or_from_slice_get ranges m r q at) i)))) ∙ rises a.0 m q (omega arith) last in
+            let up' : is_le (key_cmp (code, q.low) (r.code, r.low)) ≡ true = ap (λ c. is_le (key_cmp (c, q.low) (r.code, r.low))) (sym h.code_is) ∙ up in
             let b = between code r.code q.low r.low number up' down (sym h.width) in
             let one = ordered.apart a.0 m q r a.2 at (h.code_is ∙ sym b.0) (sym h.width ∙ sym b.1) (le_trans nat_list_cmp_total r.low number q.high b.3 h.high) (le_trans nat_list_cmp_total q.low r.low r.high b.2 (ordered.upward m r at)) in
             let s : Some q ≡ Some r = sym a.2 ∙ ap (slice_get ranges) one ∙ at in

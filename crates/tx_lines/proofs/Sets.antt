@@ -19,7 +19,7 @@ use Rattle.tx_lines.specs.declared.book.Status.{Status}
 use Rattle.tx_lines.specs.declared.book.Mark.{Mark}
 use Rattle.tx_lines.specs.declared.book.Mark.TheVariants.{Faulty, Away, Engaged}
 use Rattle.tx_lines.specs.Status.{has, with_mark, is_unmarked, unmarked}
-use Rattle.tx_lines.specs.Book.{Book, has_status, place_taken, switched}
+use Rattle.tx_lines.specs.Book.{Book, has_status, room_taken, switched}
 use Rattle.tx_lines.specs.inner.Kept.{passes, with_status, book_of, with_mark_of, status_of, kept}
 
 contains-switched : (on : Bool) (s : set.FinSet line_cmp) (line l : Line) → set.contains (switched on s line) l ≡ cond (same_line line l) on (set.contains s l)
@@ -146,9 +146,9 @@ module _ {S : Type 0} where
     pub room_there : (has_status b line ≡ false → 0 < b.room) → index.get same_line m line ≡ None → 0 < index.spare m
     room_there given none = subst (λ (v : Book). 0 < v.room) (sym view) (given (no_status none))
 
-    pub room_after : index.spare m ≤ index.spare n + (if is_some (index.get same_line m line) then 0 else 1) → b.room ≤ index.spare n + place_taken b line
-    room_after h = subst (λ (v : Book). v.room ≤ index.spare n + place_taken b line) view (by (index.get same_line m line) refl h)
+    pub room_after : index.spare m ≤ index.spare n + (if is_some (index.get same_line m line) then 0 else 1) → b.room ≤ index.spare n + room_taken b line
+    room_after h = subst (λ (v : Book). v.room ≤ index.spare n + room_taken b line) view (by (index.get same_line m line) refl h)
       where
-        by : (o : Option Status) → index.get same_line m line ≡ o → index.spare m ≤ index.spare n + (if is_some o then 0 else 1) → index.spare m ≤ index.spare n + place_taken b line
+        by : (o : Option Status) → index.get same_line m line ≡ o → index.spare m ≤ index.spare n + (if is_some o then 0 else 1) → index.spare m ≤ index.spare n + room_taken b line
         by (Some s) e h = omega (arith, h)
         by None e h = subst (λ z. index.spare m ≤ index.spare n + z) (sym (ap (λ z. if z then 0 else 1) (no_status e))) h

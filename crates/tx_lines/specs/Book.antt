@@ -27,9 +27,9 @@ is_line_of ranges = is_line_at (record no_plan { ranges = ranges })
 abbrev pub has_status : Book → Line → Bool
 has_status b l = set.contains b.faulty l || (set.contains b.away l || set.contains b.engaged l)
 
--- the room that a mark takes: a place, unless the line has a status already
-abbrev pub place_taken : Book → Line → ℕ
-place_taken b l = if has_status b l then 0 else 1
+-- the room that a mark takes: one, unless the line has a status already
+abbrev pub room_taken : Book → Line → ℕ
+room_taken b l = if has_status b l then 0 else 1
 
 -- a set with a line put in or taken out
 abbrev pub switched : Bool → set.FinSet line_cmp → Line → set.FinSet line_cmp

@@ -7,7 +7,7 @@ ghost use Rattle.tx_plan.specs.Orders.{same_line};
 ghost use Rattle.tx_plan.specs.declared.ids.Line.{Line};
 ghost use Rattle.tx_lines.specs.declared.book.Status.{Status};
 ghost use Rattle.tx_lines.specs.declared.book.Mark.{Mark};
-ghost use Rattle.tx_lines.specs.Book.{is_line_of, has_status, place_taken, switched, answer_of};
+ghost use Rattle.tx_lines.specs.Book.{is_line_of, has_status, room_taken, switched, answer_of};
 ghost use Rattle.tx_lines.specs.Status.{with_mark, is_unmarked};
 ghost use Rattle.tx_lines.specs.inner.Kept.{with_mark_of, status_of, kept};
 
@@ -82,7 +82,7 @@ impl Status {
 /// The lines of a plan, and which of them are faulty (out of order), away (their subscriber is
 /// absent) or engaged.
 ///
-/// A line's first status takes a place of the book's room, which `reserve_one` makes; a further
+/// A line's first status takes one of the book's room, which `reserve_one` makes; a further
 /// one takes none. `build` and `reserve_one` alone take memory.
 #[derive(Debug, Drop)]
 pub struct LineBook<A: Allocator = Global> {
@@ -171,7 +171,7 @@ impl<A: Allocator> LineBook<A> {
         ensures lines { self.new
             ≡ record (with_mark_of line.now mark on self.old) { room = self.new.room } }
         ensures room { self.old.room
-            ≤ self.new.room + (if on then place_taken self.old line.now else 0) }
+            ≤ self.new.room + (if on then room_taken self.old line.now else 0) }
     {
         if on {
             add_mark(&mut self.statuses, line, mark);
@@ -188,7 +188,7 @@ impl<A: Allocator> LineBook<A> {
           room = self.new.room;
         } }
         ensures room { self.old.room
-            ≤ self.new.room + (if faulty then place_taken self.old line.now else 0) }
+            ≤ self.new.room + (if faulty then room_taken self.old line.now else 0) }
     {
         self.set_mark(line, Mark::Faulty, faulty);
     }
@@ -201,7 +201,7 @@ impl<A: Allocator> LineBook<A> {
           room = self.new.room;
         } }
         ensures room { self.old.room
-            ≤ self.new.room + (if away then place_taken self.old line.now else 0) }
+            ≤ self.new.room + (if away then room_taken self.old line.now else 0) }
     {
         self.set_mark(line, Mark::Away, away);
     }
@@ -213,7 +213,7 @@ impl<A: Allocator> LineBook<A> {
           engaged = set.insert self.old.engaged line.now;
           room = self.new.room;
         } }
-        ensures room { self.old.room ≤ self.new.room + place_taken self.old line.now }
+        ensures room { self.old.room ≤ self.new.room + room_taken self.old line.now }
     {
         self.set_mark(line, Mark::Engaged, true);
     }
@@ -294,12 +294,12 @@ fn take_mark<A: Allocator>(
         else get same_line statuses.old q) }
     ensures room { spare statuses.old ≤ spare statuses.new }
 {
-    let Some((place, _, status)) = statuses.get_full(line) else {
+    let Some((index, _, status)) = statuses.get_full(line) else {
         return;
     };
     let left = status.with_mark(mark, false);
     if left.is_unmarked() {
-        let _entry = statuses.swap_remove_index(place);
+        let _entry = statuses.swap_remove_index(index);
     } else if let Some(status) = statuses.get_mut(line) {
         *status = left;
     }

@@ -3,7 +3,7 @@ ghost use Rattle.std.specs.Prelude.{◌≡◌, ◌≤◌, ◌<◌, ◌&&◌, ◌
 ghost use Rattle.std.specs.List.{list_any, AllWithin};
 ghost use Rattle.std.specs.Ordering.{is_le};
 ghost use Rattle.tx_plan.specs.Lines.{at_most, in_range};
-ghost use Rattle.tx_lines.specs.inner.Ordered.{place_cmp, start_of, IsInOrder, IsStart, AreFirsts};
+ghost use Rattle.tx_lines.specs.inner.Ordered.{key_cmp, start_of, IsInOrder, IsStart, AreFirsts};
 
 use std::alloc::{Allocator, Global};
 use std::cmp::Ordering;
@@ -37,8 +37,8 @@ impl<A: Allocator + Copy> Ranges<A> {
         ensures { IfOk result (λ r. IsPermutation plan.now.ranges r) }
     {
         let mut ranges = Vec::with_capacity(alloc, plan.ranges())?;
-        for place in 0..plan.ranges() {
-            ranges.push_reserved(plan.range_at(place).unwrap());
+        for index in 0..plan.ranges() {
+            ranges.push_reserved(plan.range_at(index).unwrap());
         }
         ranges.sort_unstable_by(|a, b| compare_starts(a, b));
         let firsts = firsts_of(alloc, &ranges, plan.codes())?;
@@ -51,7 +51,7 @@ impl<A: Allocator> Ranges<A> {
     pub fn has(&self, code: CodeId, number: &[u8]) -> bool
         ensures { result ≡ list_any (λ r. (r.code == code) && in_range number.now r) self.now }
     {
-        let (first, end) = self.places(code);
+        let (first, end) = self.indexes(code);
         let after = starting_by(&self.ranges, code, number, first, end);
         if after == 0 {
             return false;
@@ -60,17 +60,17 @@ impl<A: Allocator> Ranges<A> {
         reaches(range, code, number)
     }
 
-    /// From which place and up to which the ranges of the code are; all places for a code that
+    /// From which index and up to which the ranges of the code are; all indexes for a code that
     /// the plan does not have.
-    fn places(&self, code: CodeId) -> (usize, usize)
+    fn indexes(&self, code: CodeId) -> (usize, usize)
         ensures order { result.0 ≤ result.1 }
         ensures within { result.1 ≤ length self.now }
         ensures before { AllWithin (λ r. r.code < code) self.now 0 result.0 }
         ensures behind { AllWithin (λ r. code < r.code) self.now result.1 (length self.now) }
     {
-        let place = code.index();
-        if place + 1 < self.firsts.len() {
-            (self.firsts[place], self.firsts[place + 1])
+        let index = code.index();
+        if index + 1 < self.firsts.len() {
+            (self.firsts[index], self.firsts[index + 1])
         } else {
             (0, self.ranges.len())
         }
@@ -95,7 +95,7 @@ fn firsts_of<A: Allocator>(
 }
 
 fn compare(code: CodeId, low: &[u8], other: CodeId, number: &[u8]) -> Ordering
-    ensures { result ≡ place_cmp (code, low.now) (other, number.now) }
+    ensures { result ≡ key_cmp (code, low.now) (other, number.now) }
 {
     code.index()
         .cmp(&other.index())
@@ -103,13 +103,13 @@ fn compare(code: CodeId, low: &[u8], other: CodeId, number: &[u8]) -> Ordering
 }
 
 fn compare_starts(a: &LineRange, b: &LineRange) -> Ordering
-    ensures { result ≡ place_cmp (start_of a.now) (start_of b.now) }
+    ensures { result ≡ key_cmp (start_of a.now) (start_of b.now) }
 {
     compare(a.code, a.low.bytes(), b.code, b.low.bytes())
 }
 
 /// How many ranges start at the number of the code or before it, where those of the code are from
-/// one place and up to another.
+/// one index and up to another.
 fn starting_by(ranges: &[LineRange], code: CodeId, number: &[u8], first: usize, end: usize) -> usize
     requires order { IsInOrder ranges.now }
     requires rising { first ≤ end }
@@ -125,7 +125,7 @@ fn starting_by(ranges: &[LineRange], code: CodeId, number: &[u8], first: usize, 
 
 /// Whether the range starts at the number of the code or before it.
 fn starts_by(range: &LineRange, code: CodeId, number: &[u8]) -> bool
-    ensures { result ≡ is_le (place_cmp (start_of range.now) (code, number.now)) }
+    ensures { result ≡ is_le (key_cmp (start_of range.now) (code, number.now)) }
 {
     compare(range.code, range.low.bytes(), code, number).is_le()
 }

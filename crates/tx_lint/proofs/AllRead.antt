@@ -54,8 +54,8 @@ module _ (text : List ℕ) (fs new : List Fault) (s r : Progress) (n : ℕ) (res
       → l.number ≡ n → l.finished ≡ true → length after < length rest
       → new ≡ fs ++ option_to_list (fault_of_line s l) → r ≡ led_on s l → SoFar text new r (n + 1) after
   so_far_next so e num fin less told led =
-      let place : (length text - length rest) + (length rest - length after) ≡ length text - length after = omega (arith, so.short, less) in
-      let lines = subst (λ (k : ℕ). lines_from n (length text - length rest) rest ≡ l ∷ lines_from (n + 1) k after) place e in
+      let index : (length text - length rest) + (length rest - length after) ≡ length text - length after = omega (arith, so.short, less) in
+      let lines = subst (λ (k : ℕ). lines_from n (length text - length rest) rest ≡ l ∷ lines_from (n + 1) k after) index e in
       let on : r ≡ line_on s l = led ∙ rw fin refl in
       let others = lines_from (n + 1) (length text - length after) after in
       let opened = option_to_list (fault_of_line s l) in

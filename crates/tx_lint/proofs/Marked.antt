@@ -14,7 +14,7 @@ use Rattle.tx_plan.specs.Plan.{Plan, Route, Group}
 use Rattle.tx_plan.specs.Circuits.{may_seize, may_seize_row}
 use Rattle.tx_plan.specs.Routes.{route_list, is_origin}
 use Rattle.tx_plan.specs.Rules.{IsPlan, IsRoute}
-use Rattle.tx_plan.proofs.ByPlace.{entry_at, all_at}
+use Rattle.tx_plan.proofs.ByIndex.{entry_at, all_at}
 use Rattle.tx_plan.proofs.ListFound.{list_found}
 use Rattle.tx_trie.proofs.Stepping.{slice_get_last}
 use Rattle.tx_rank.specs.Walks.{net_of}
@@ -49,7 +49,7 @@ long_push : {X : Type 0} (xs : List X) (x : X) → length (xs ++ x ∷ []) ≡ l
 long_push [] x = refl
 long_push (y ∷ xs) x = let e = long_push xs x in omega arith
 
--- the codes before place i are marked
+-- the codes before index i are marked
 pub record AreComingBefore (p : Plan) (i : ℕ) (marks : List (List Bool)) : Type 0 where
   pub long : length marks ≡ i
   pub each : (c x : ℕ) → c < i → (comes_by marks c x ≡ true) ↔ IsReached (net_of p c) x
@@ -101,7 +101,7 @@ or_assoc : (a b c : Bool) → ((a || b) || c) ≡ (a || (b || c))
 or_assoc true b c = refl
 or_assoc false b c = refl
 
--- the group at place i of a list is marked too
+-- the group at index i of a list is marked too
 pub marked_more : (old marks : List Bool) (groups : List ℕ) (i y : ℕ) → i < length groups → y ≡ get_or groups i y → y < length marks
     → ((g : ℕ) → is_marked marks g ≡ (is_marked old g || list_any (λ h. h == g) (take i groups)))
     → (g : ℕ) → is_marked (set marks y true) g ≡ (is_marked old g || list_any (λ h. h == g) (take (i + 1) groups))
@@ -114,7 +114,7 @@ marked_more old marks groups i y low is within so g =
 abbrev pub stands_in : ℕ → List Route → Bool
 stands_in g routes = list_any (λ r. list_any (λ h. h == g) r.groups) routes
 
--- the groups of the list of place i are marked too
+-- the groups of the list of index i are marked too
 pub listed_more : (old new : List Bool) (routes : List Route) (i : ℕ) (r : Route) → i < length routes → r ≡ get_or routes i r
     → ((g : ℕ) → is_marked old g ≡ stands_in g (take i routes))
     → ((g : ℕ) → is_marked new g ≡ (is_marked old g || list_any (λ h. h == g) r.groups))
@@ -124,7 +124,7 @@ listed_more old new routes i r low is so more g =
     ∙ ap (λ (q : Route). stands_in g (take i routes) || list_any (λ h. h == g) q.groups) is
     ∙ sym (list_any_more (λ (q : Route). list_any (λ h. h == g) q.groups) routes i r low)
 
--- ---- the route at a place
+-- ---- the route at an index
 
 seized_within : (p : Plan) (g x : ℕ) → may_seize p g x ≡ true → g < length p.groups
 seized_within p g x h = at (slice_get p.groups g) refl h
@@ -156,12 +156,12 @@ within_marks p ok i r at marks list long is =
     (subst (λ n. AllByRecursion (λ g. g < n) r.groups) (sym long)
     (all_map r.groups (λ g may. seized_within p g r.exchange may) seized))
 
--- an entry at a place within a list is there
+-- an entry at an index within a list is there
 pub no_none : {X Y : Type 0} (f : X → Y) (o : Option X) (x : X) → o ≡ Some x → ◌≡◌ {A = Option Y} None (option_map f o) → ⊥
 no_none f None x e h = cc
 no_none f (Some y) x e h = cc
 
--- what is below a bound at each place
+-- what is below a bound at each index
 pub below_at : (n : ℕ) (groups : List ℕ) (i y : ℕ) → AllByRecursion (λ g. g < n) groups → i < length groups
     → y ≡ get_or groups i y → y < n
 below_at n [] i y all low is = absurd (omega (arith, low))

@@ -21,7 +21,7 @@ pub told_cut : (file line code name rest : List ℕ)
     ≡ told_front file line code name ++ rest
 told_cut file line code name rest = cut file (codes ":") line (codes ": ") code (codes " ") name rest
 
--- The texts of a list, whose member at a place is read with a default.
+-- The texts of a list, whose member at an index is read with a default.
 module _ {X : Type 0} (text : X → List ℕ) where
   pub more_read : (xs : List X) (i : ℕ) (d : X) (a b c : Option (List ℕ)) (f g h : Bool) → i < length xs
       → WroteBy a b f g (flat_map text (take i xs)) (Ok tt) → WroteBy b c g h (text (get_or xs i d)) (Ok tt)

@@ -7,7 +7,7 @@ use std::alloc::Allocator;
 use tx_plan::{CodeId, ExchangeId, GroupId, Plan};
 use tx_plantext::PlanLine;
 
-/// What a line of a plan's text declares. Ranges, routes and bars are known by their places in
+/// What a line of a plan's text declares. Ranges, routes and bars are known by their indexes in
 /// their lists, from 0.
 #[derive(Clone, Copy)]
 pub(crate) enum Entry {

@@ -76,8 +76,8 @@ fn coming<A: Allocator + Copy>(
         TellsWhereCallsCome plan.now (comes_by (map (λ m. m.items) marks.items))) }
 {
     let mut marks = Vec::with_capacity(alloc, plan.codes())?;
-    for place in 0..plan.codes() {
-        let reached = reached(alloc, plan, origins, CodeId::of(place))?;
+    for index in 0..plan.codes() {
+        let reached = reached(alloc, plan, origins, CodeId::of(index))?;
         marks.push_reserved(reached);
     }
     Ok(marks)
@@ -87,8 +87,8 @@ fn listed<A: Allocator + Copy>(alloc: A, plan: &Plan<A>) -> Result<Vec<bool, A>,
     ensures { IfOk result (λ marks. (g : ℕ) → is_marked marks.items g ≡ is_listed plan.now g) }
 {
     let mut marks = vec![in alloc; false; plan.groups()]?;
-    for place in 0..plan.routes() {
-        match plan.route_at(place) {
+    for index in 0..plan.routes() {
+        match plan.route_at(index) {
             Some((exchange, code)) => mark_all(plan.list(exchange, code), &mut marks),
             None => unreachable!(),
         }

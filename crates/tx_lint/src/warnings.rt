@@ -56,14 +56,14 @@ fn add_warnings<A: Allocator>(
             let unused = !marks.is_listed(group);
             add_if(unused, line, Warning::UnusedGroup(group), found)
         }
-        Entry::Route(place) => match plan.route_at(place) {
+        Entry::Route(index) => match plan.route_at(index) {
             Some((exchange, code)) => {
                 let unused = !marks.comes(code, exchange);
                 add_if(unused, line, Warning::UnusedList, found)
             }
             None => Ok(()),
         },
-        Entry::Bar(place) => match plan.bar_at(place) {
+        Entry::Bar(index) => match plan.bar_at(index) {
             Some((exchange, _)) => {
                 let unused = !marks.is_origin(exchange);
                 add_if(unused, line, Warning::UnusedBar, found)
@@ -93,8 +93,8 @@ fn add_if<A: Allocator>(
 fn has_lines<A: Allocator>(plan: &Plan<A>, code: CodeId) -> bool
     ensures { result ≡ has_lines plan.now code }
 {
-    for place in 0..plan.ranges() {
-        match plan.range_at(place) {
+    for index in 0..plan.ranges() {
+        match plan.range_at(index) {
             Some(range) => {
                 if range.code == code {
                     return true;
@@ -119,8 +119,8 @@ fn add_missing_lists<A: Allocator>(
         (flat_map (λ c. warned_if (wants_list plan.now exchange c) (NoList c))
         (range_with_len 0 (length plan.now.codes)))) }
 {
-    for place in 0..plan.codes() {
-        let code = CodeId::of(place);
+    for index in 0..plan.codes() {
+        let code = CodeId::of(index);
         let wanting = wants_list(plan, exchange, origin, code);
         add_if(wanting, line, Warning::NoList(code), found)?;
     }

@@ -16,7 +16,7 @@ use Rattle.tx_machine.specs.declared.refusal.Refusal.{Refusal}
 use Rattle.tx_machine.specs.declared.reply.Reply.{Reply}
 use Rattle.tx_machine.specs.declared.reply.Reply.TheVariants.{Answered, Cleared}
 use Rattle.tx_machine.specs.Ended.{Ended}
-use Rattle.tx_machine.specs.Call.{Phase, Standing, Calling, Connected, Call, place_of, call_of, is_numbered, is_first}
+use Rattle.tx_machine.specs.Call.{Phase, Standing, Calling, Connected, Call, exchange_of, call_of, is_numbered, is_first}
 use Rattle.tx_machine.specs.State.{State}
 use Rattle.tx_machine.specs.InUse.{choice, uses_group}
 use Rattle.tx_machine.specs.Lines.{line_answer}
@@ -53,7 +53,7 @@ module _ (p : Plan) (s : State) (ts : List Ended) where
 
     route_law : (o : Option ℕ) → IsAppending s ts (routed_for p s c o) (routed_for p (drained s ts) c o)
     route_law None = ended (Answered Np) (ByService Np) (is_numbered c.number)
-    route_law (Some code) = pick (is_first c.hops && is_barred p (place_of p c) code) (home_of p code == place_of p c) _ _ _ _ _ _ (ended (Answered Na) (ByService Na) (is_numbered c.number)) (line_law (line_of p code c.keyed) (line_answer p s (line_of p code c.keyed))) (trunk_law (choice p s (place_of p c) code))
+    route_law (Some code) = pick (is_first c.hops && is_barred p (exchange_of p c) code) (home_of p code == exchange_of p c) _ _ _ _ _ _ (ended (Answered Na) (ByService Na) (is_numbered c.number)) (line_law (line_of p code c.keyed) (line_answer p s (line_of p code c.keyed))) (trunk_law (choice p s (exchange_of p c) code))
 
     meet_law : (x : Circuit) (o : Option Call) → IsAppending s ts (confirmed_by p s c x o) (confirmed_by p (drained s ts) c x o)
     meet_law x None = kept _ _ refl

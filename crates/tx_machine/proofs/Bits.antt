@@ -16,20 +16,20 @@ use Rattle.tx_plan.specs.declared.ids.Circuit.{Circuit}
 use Rattle.tx_plan.proofs.Lists.{at_least}
 use Rattle.std.proofs.lemmas.List.{get_or-set_other}
 use Rattle.std.proofs.lemmas.Grind.{get_or-set_at}
-use Rattle.tx_machine.specs.inner.Marks.{places, circuit_at, index_of, circuits_of, groups_of, HasMark, IsCleared}
+use Rattle.tx_machine.specs.inner.Marks.{indexes, circuit_at, index_of, circuits_of, groups_of, HasMark, IsCleared}
 
--- no place before the first
-none_before : (bits : List Bool) (k j : ℕ) → j < k → list_any (λ i. j == i) (places k bits) ≡ false
+-- no index before the first
+none_before : (bits : List Bool) (k j : ℕ) → j < k → list_any (λ i. j == i) (indexes k bits) ≡ false
 none_before [] k j h = refl
-none_before (true ∷ bits) k j h = let ne : (j == k) ≡ false = ne_eqb j k (λ e. let b : ⊥ = omega arith in b) in ap (λ b. b || list_any (λ i. j == i) (places (k + 1) bits)) ne ∙ none_before bits (k + 1) j (omega arith)
+none_before (true ∷ bits) k j h = let ne : (j == k) ≡ false = ne_eqb j k (λ e. let b : ⊥ = omega arith in b) in ap (λ b. b || list_any (λ i. j == i) (indexes (k + 1) bits)) ne ∙ none_before bits (k + 1) j (omega arith)
 none_before (false ∷ bits) k j h = none_before bits (k + 1) j (omega arith)
 
--- the bit at a place
-pub placed : (bits : List Bool) (k i j : ℕ) → j ≡ k + i → list_any (λ n. j == n) (places k bits) ≡ get_or bits i false
+-- the bit at an index
+pub placed : (bits : List Bool) (k i j : ℕ) → j ≡ k + i → list_any (λ n. j == n) (indexes k bits) ≡ get_or bits i false
 placed [] k i j e = refl
-placed (true ∷ bits) k zero j e = ap (λ b. b || list_any (λ n. j == n) (places (k + 1) bits)) (eq-eqb j k (omega arith))
+placed (true ∷ bits) k zero j e = ap (λ b. b || list_any (λ n. j == n) (indexes (k + 1) bits)) (eq-eqb j k (omega arith))
 placed (false ∷ bits) k zero j e = none_before bits (k + 1) j (omega arith)
-placed (true ∷ bits) k (suc i) j e = let ne : (j == k) ≡ false = ne_eqb j k (λ q. let b : ⊥ = omega arith in b) in ap (λ b. b || list_any (λ n. j == n) (places (k + 1) bits)) ne ∙ placed bits (k + 1) i j (omega arith)
+placed (true ∷ bits) k (suc i) j e = let ne : (j == k) ≡ false = ne_eqb j k (λ q. let b : ⊥ = omega arith in b) in ap (λ b. b || list_any (λ n. j == n) (indexes (k + 1) bits)) ne ∙ placed bits (k + 1) i j (omega arith)
 placed (false ∷ bits) k (suc i) j e = placed bits (k + 1) i j (omega arith)
 
 any_same : {A : Type 0} (t u : A → Bool) → ((x : A) → t x ≡ u x) → (xs : List A) → list_any t xs ≡ list_any u xs
@@ -47,16 +47,16 @@ same_nat q k = same_from_decides (eq_by_cmp nat_cmp q k) (q == k)
     (eqb-true q k, eq-eqb q k)
 
 pub in_groups : (bits : List Bool) (g : ℕ) → set.contains (groups_of bits) g ≡ get_or bits g false
-in_groups bits g = set.contains-from_list nat_cmp_total (places 0 bits) g ∙ any_same _ _ (same_nat g) (places 0 bits) ∙ placed bits 0 g g (omega arith)
+in_groups bits g = set.contains-from_list nat_cmp_total (indexes 0 bits) g ∙ any_same _ _ (same_nat g) (indexes 0 bits) ∙ placed bits 0 g g (omega arith)
 
 pub length_put : (bits : List Bool) (i : ℕ) (b : Bool) → length (slice_set bits i b) ≡ length bits
 length_put [] i b = refl
 length_put (c ∷ bits) zero b = refl
 length_put (c ∷ bits) (suc i) b = ap suc (length_put bits i b)
 
--- two lists of bits that agree but at one place
-one_place : (bits : List Bool) (i j : ℕ) (b : Bool) → i < length bits → get_or (slice_set bits i b) j false ≡ (if j == i then b else get_or bits j false)
-one_place bits i j b h =
+-- two lists of bits that agree but at one index
+one_index : (bits : List Bool) (i j : ℕ) (b : Bool) → i < length bits → get_or (slice_set bits i b) j false ≡ (if j == i then b else get_or bits j false)
+one_index bits i j b h =
     elim (j == i) as (λ t. (j == i) ≡ t → get_or (slice_set bits i b) j false ≡ (if t then b else get_or bits j false)) [
       | true ↦ λ t. get_or-set_at bits i j b false (eqb-true j i t) h
       | false ↦ λ t. get_or-set_other bits i j b false (eqb-false j i t)
@@ -73,16 +73,16 @@ put_false false c = refl
 pub group_put : (bits : List Bool) (g : ℕ) → g < length bits → groups_of (slice_set bits g true) ≡ set.insert (groups_of bits) g
 group_put bits g h =
     set.same_set nat_cmp_total exact_unsigned _ _ (λ q.
-    in_groups (slice_set bits g true) q ∙ one_place bits g q true h ∙ put_true (q == g) (get_or bits q false)
+    in_groups (slice_set bits g true) q ∙ one_index bits g q true h ∙ put_true (q == g) (get_or bits q false)
     ∙ sym (set.contains-insert nat_cmp_total (groups_of bits) g q ∙ (λ i. same_nat q g i || in_groups bits q i)))
 
 pub group_taken : (bits : List Bool) (g : ℕ) → g < length bits → groups_of (slice_set bits g false) ≡ set.remove (groups_of bits) g
 group_taken bits g h =
     set.same_set nat_cmp_total exact_unsigned _ _ (λ q.
-    in_groups (slice_set bits g false) q ∙ one_place bits g q false h ∙ put_false (q == g) (get_or bits q false)
+    in_groups (slice_set bits g false) q ∙ one_index bits g q false h ∙ put_false (q == g) (get_or bits q false)
     ∙ sym (set.contains-remove nat_cmp_total (groups_of bits) g q ∙ (λ i. not (same_nat q g i) && in_groups bits q i)))
 
-none_set : (n k : ℕ) → places k (replicate n false) ≡ []
+none_set : (n k : ℕ) → indexes k (replicate n false) ≡ []
 none_set zero k = refl
 none_set (suc n) k = none_set n (k + 1)
 
@@ -114,9 +114,9 @@ circuit_back x h =
     let n : (240 * x.group + (x.number - 1)) % 240 + 1 ≡ x.number = omega arith in
     λ i. record { group = g i; number = n i }
 
--- a circuit at a place
-at_place : (y : Circuit) → well y ≡ true → (k : ℕ) → eq_by_cmp circuit_cmp y (circuit_at k) ≡ (index_of y == k)
-at_place y h k = same_from_decides (eq_by_cmp circuit_cmp y (circuit_at k)) (index_of y == k)
+-- a circuit at an index
+at_index : (y : Circuit) → well y ≡ true → (k : ℕ) → eq_by_cmp circuit_cmp y (circuit_at k) ≡ (index_of y == k)
+at_index y h k = same_from_decides (eq_by_cmp circuit_cmp y (circuit_at k)) (index_of y == k)
     (λ e. by_cmp-is y (circuit_at k) e, λ e. ap (λ z. eq_by_cmp circuit_cmp y z) (sym e) ∙ ap is_eq (tied_itself circuits_total y))
     (λ e. sym (circuit_back y h) ∙ ap circuit_at (eqb-true (index_of y) k e), λ e. eq-eqb (index_of y) k (ap index_of e ∙ index_back k))
 
@@ -125,14 +125,14 @@ well_at k = and_from (nat_le 1 (k % 240 + 1)) (nat_le (k % 240 + 1) 240) (grind 
 
 pub in_circuits : (bits : List Bool) (y : Circuit) → set.contains (circuits_of bits) y ≡ (well y && get_or bits (index_of y) false)
 in_circuits bits y =
-    set.contains-from_list circuits_total (map circuit_at (places 0 bits)) y ∙ list_any-map (eq_by_cmp circuit_cmp y) circuit_at (places 0 bits)
-    ∙ elim (well y) as (λ w. well y ≡ w → list_any (λ k. eq_by_cmp circuit_cmp y (circuit_at k)) (places 0 bits) ≡ (w && get_or bits (index_of y) false)) [
-      | true ↦ λ w. any_same _ _ (at_place y w) (places 0 bits) ∙ placed bits 0 (index_of y) (index_of y) (omega arith)
-      | false ↦ λ w. any_no _ (λ k. false_from_ne_true _ (λ e. let b : ⊥ = (let f = ap well (by_cmp-is y (circuit_at k) e) in let g = well_at k in cc) in b)) (places 0 bits)
+    set.contains-from_list circuits_total (map circuit_at (indexes 0 bits)) y ∙ list_any-map (eq_by_cmp circuit_cmp y) circuit_at (indexes 0 bits)
+    ∙ elim (well y) as (λ w. well y ≡ w → list_any (λ k. eq_by_cmp circuit_cmp y (circuit_at k)) (indexes 0 bits) ≡ (w && get_or bits (index_of y) false)) [
+      | true ↦ λ w. any_same _ _ (at_index y w) (indexes 0 bits) ∙ placed bits 0 (index_of y) (index_of y) (omega arith)
+      | false ↦ λ w. any_no _ (λ k. false_from_ne_true _ (λ e. let b : ⊥ = (let f = ap well (by_cmp-is y (circuit_at k) e) in let g = well_at k in cc) in b)) (indexes 0 bits)
     ] refl
 
 same_index : (x y : Circuit) → well x ≡ true → well y ≡ true → (index_of y == index_of x) ≡ eq_by_cmp circuit_cmp y x
-same_index x y wx wy = sym (at_place y wy (index_of x)) ∙ ap (eq_by_cmp circuit_cmp y) (circuit_back x wx)
+same_index x y wx wy = sym (at_index y wy (index_of x)) ∙ ap (eq_by_cmp circuit_cmp y) (circuit_back x wx)
 
 pub well_marked : (groups : ℕ) (x : Circuit) → HasMark groups x → well x ≡ true
 well_marked groups x h = and_from (nat_le 1 x.number) (nat_le x.number 240) (let a = h.first in grind arith) (let b = h.last in grind arith)
@@ -166,7 +166,7 @@ module _ (groups : ℕ) (bits : List Bool) (x : Circuit) (long : length bits ≡
       set.same_set circuits_total exact_circuits _ _ (λ y.
       in_circuits (slice_set bits (index_of x) true) y
       ∙ elim (well y) as (λ w. well y ≡ w → (w && get_or (slice_set bits (index_of x) true) (index_of y) false) ≡ (eq_by_cmp circuit_cmp y x || (w && get_or bits (index_of y) false))) [
-        | true ↦ λ w. one_place bits (index_of x) (index_of y) true within ∙ put_true (index_of y == index_of x) _ ∙ ap (λ b. b || get_or bits (index_of y) false) (same_index x y wx w)
+        | true ↦ λ w. one_index bits (index_of x) (index_of y) true within ∙ put_true (index_of y == index_of x) _ ∙ ap (λ b. b || get_or bits (index_of y) false) (same_index x y wx w)
         | false ↦ λ w. sym (ap (λ b. b || false) (not_alike x y wx w))
       ] refl
       ∙ sym (set.contains-insert circuits_total (circuits_of bits) x y ∙ ap (λ b. eq_by_cmp circuit_cmp y x || b) (in_circuits bits y)))
@@ -176,7 +176,7 @@ module _ (groups : ℕ) (bits : List Bool) (x : Circuit) (long : length bits ≡
       set.same_set circuits_total exact_circuits _ _ (λ y.
       in_circuits (slice_set bits (index_of x) false) y
       ∙ elim (well y) as (λ w. well y ≡ w → (w && get_or (slice_set bits (index_of x) false) (index_of y) false) ≡ (not (eq_by_cmp circuit_cmp y x) && (w && get_or bits (index_of y) false))) [
-        | true ↦ λ w. one_place bits (index_of x) (index_of y) false within ∙ put_false (index_of y == index_of x) _ ∙ ap (λ b. not b && get_or bits (index_of y) false) (same_index x y wx w)
+        | true ↦ λ w. one_index bits (index_of x) (index_of y) false within ∙ put_false (index_of y == index_of x) _ ∙ ap (λ b. not b && get_or bits (index_of y) false) (same_index x y wx w)
         | false ↦ λ w. sym (ap (λ b. not b && false) (not_alike x y wx w))
       ] refl
       ∙ sym (set.contains-remove circuits_total (circuits_of bits) x y ∙ ap (λ b. not (eq_by_cmp circuit_cmp y x) && b) (in_circuits bits y)))

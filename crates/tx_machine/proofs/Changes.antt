@@ -18,7 +18,7 @@ use Rattle.tx_plan.proofs.Among.{among_cases, filter_among, flat_among, map_amon
 use Rattle.tx_machine.specs.declared.cause.Cause.{Cause}
 use Rattle.tx_machine.specs.declared.cause.Cause.TheVariants.{Lost as ByLoss}
 use Rattle.tx_machine.specs.declared.open_call.Hop.{Hop}
-use Rattle.tx_machine.specs.Call.{Phase, Standing, Calling, Connected, Call, start_of, place_of, circuit_called, is_numbered}
+use Rattle.tx_machine.specs.Call.{Phase, Standing, Calling, Connected, Call, start_of, exchange_of, circuit_called, is_numbered}
 use Rattle.tx_machine.specs.State.{State}
 use Rattle.tx_machine.specs.InUse.{circuits_carried, seizes, circuits_used, uses_group, seizes_from, is_calling_on}
 use Rattle.tx_machine.specs.Routing.{set_call, in_phase}
@@ -140,7 +140,7 @@ module _ (p : Plan) (s : State) (h : Holds p s) where
         free d m = none_any (λ d. takes_part d l) s.calls d idle m
 
     -- A CALL THAT SEIZES A CIRCUIT
-    pub seize_keeps : (x : Circuit) (y : ℕ) → c.phase ≡ Standing → is_circuit p x ≡ true → other_end p x.group (place_of p c) ≡ Some y → IsFree p s (place_of p c) x → Inv p (set_call c.number (in_phase (Calling x)) s.calls) s.releasing s.numbers
+    pub seize_keeps : (x : Circuit) (y : ℕ) → c.phase ≡ Standing → is_circuit p x ≡ true → other_end p x.group (exchange_of p c) ≡ Some y → IsFree p s (exchange_of p c) x → Inv p (set_call c.number (in_phase (Calling x)) s.calls) s.releasing s.numbers
     seize_keeps x y stands known to free =
         inv_set p s.calls s.releasing s.numbers h c in' (in_phase (Calling x)) refl
         (record {
@@ -149,7 +149,7 @@ module _ (p : Plan) (s : State) (h : Holds p s) where
           once = kept.once;
           own = λ z m e. let same : x ≡ z = cc in free.carried c in' (subst (λ z. Among z (circuits_carried c)) (sym same) m);
           planned = λ z e. let same : x ≡ z = cc in subst (λ w. is_circuit p w ≡ true) same known;
-          calling = λ z e. let same : x ≡ z = cc in (y, ap (λ (w : Circuit). other_end p w.group (place_of p c)) (sym same) ∙ to);
+          calling = λ z e. let same : x ≡ z = cc in (y, ap (λ (w : Circuit). other_end p w.group (exchange_of p c)) (sym same) ∙ to);
           connected = λ l e. let bad : ⊥ = cc in absurd bad;
           lines = (refl, tt);
         })
@@ -163,7 +163,7 @@ module _ (p : Plan) (s : State) (h : Holds p s) where
         (λ z i. record { carried = (h.idle z i c in').carried; seized = λ e. let same : x ≡ z = cc in free.releasing (ap (set.contains s.releasing) same ∙ i) })
 
     -- A CALL THAT GOES ON OVER ITS CIRCUIT
-    pub carry_keeps : (x : Circuit) (far : ℕ) → c.phase ≡ Calling x → other_end p x.group (place_of p c) ≡ Some far → rival p s c x ≡ None → Inv p (set_call c.number (carried_on x far) s.calls) s.releasing s.numbers
+    pub carry_keeps : (x : Circuit) (far : ℕ) → c.phase ≡ Calling x → other_end p x.group (exchange_of p c) ≡ Some far → rival p s c x ≡ None → Inv p (set_call c.number (carried_on x far) s.calls) s.releasing s.numbers
     carry_keeps x far calls to alone =
         inv_set p s.calls s.releasing s.numbers h c in' (carried_on x far) refl
         (record {
@@ -197,9 +197,9 @@ module _ (p : Plan) (s : State) (h : Holds p s) where
         others : (d : Call) → Among d s.calls → d.number ≢ c.number → d.phase ≡ Calling x → ⊥
         others d m ne e =
             let to' = (h.each d m).calling x e in
-            let there : place_of p d ≡ far_of p c x = two_ends p x.group (place_of p c) (place_of p d) far to'.0 to to'.1 (λ q. (apart d m ne).ends x calls e q) ∙ sym (ap (λ o. unwrap_or o 0) to) in
+            let there : exchange_of p d ≡ far_of p c x = two_ends p x.group (exchange_of p c) (exchange_of p d) far to'.0 to to'.1 (λ q. (apart d m ne).ends x calls e q) ∙ sym (ap (λ o. unwrap_or o 0) to) in
             let seized = false_from_ne_true (seizes_from p d x (far_of p c x)) (λ t. both_ways _ (second (not (d.number == c.number)) (ap not (ne_eqb _ _ ne)) (find_none (λ d. not (d.number == c.number) && seizes_from p d x (far_of p c x)) s.calls d alone m)) t) in
-            both_ways _ seized (and_from (seizes d x) (place_of p d == far_of p c x) (ap (λ phase. is_calling_on phase x) e ∙ same_circuit-itself x) (eq-eqb _ _ there))
+            both_ways _ seized (and_from (seizes d x) (exchange_of p d == far_of p c x) (ap (λ phase. is_calling_on phase x) e ∙ same_circuit-itself x) (eq-eqb _ _ there))
           where
             second : (b : Bool) {a : Bool} → b ≡ true → (b && a) ≡ false → a ≡ false
             second b {a} t f = ap (λ b. b && a) (sym t) ∙ f
@@ -279,7 +279,7 @@ module _ (p : Plan) where
     not_seized_now : (k : Call) → Among k s.calls → k.number ≢ c.number → k.number ≢ d.number → k.phase ≡ Calling x → ⊥
     not_seized_now k m n o e =
         let yc = (h.each c mc).calling x ec in let yd = (h.each d md).calling x ed in let yk = (h.each k m).calling x e in
-        no_third_end p x.group (place_of p c) (place_of p d) (place_of p k) yc.0 yd.0 yk.0 yc.1 yd.1 yk.1
+        no_third_end p x.group (exchange_of p c) (exchange_of p d) (exchange_of p k) yc.0 yd.0 yk.0 yc.1 yd.1 yk.1
         ((h.pairs c d mc md (λ q. ne (sym q))).ends x ec ed)
         ((h.pairs c k mc m (λ q. n (sym q))).ends x ec e)
         ((h.pairs d k md m (λ q. o (sym q))).ends x ed e)

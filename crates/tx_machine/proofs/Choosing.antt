@@ -8,7 +8,7 @@ use Rattle.tx_plan.specs.Routes.{route_list}
 use Rattle.tx_plan.specs.declared.ids.Circuit.{Circuit}
 use Rattle.tx_machine.specs.declared.event.Event.TheVariants.{Route}
 use Rattle.tx_machine.specs.declared.reply.Reply.TheVariants.{Seized}
-use Rattle.tx_machine.specs.Call.{Call, call_of, place_of}
+use Rattle.tx_machine.specs.Call.{Call, call_of, exchange_of}
 use Rattle.tx_machine.specs.State.{State}
 use Rattle.tx_machine.specs.Routing.{routed}
 use Rattle.tx_machine.specs.Step.{with_call, accepted}
@@ -60,8 +60,8 @@ module _ (t : Circuit → Bool) (g : ℕ) where
   down_less (suc n) b h e f = ap (λ b. cond b (Some (mk (suc n))) (find t (map mk (downward n)))) (sym e ∙ f) ∙ ap (λ k. find t (map mk (downward k))) (let q : n ≡ suc n - 1 = omega arith in q)
 
 -- a circuit that is chosen is one of the plan's
-pub chosen_circuit : (p : Plan) (s : State) (place code : ℕ) (x : Circuit) → choice p s place code ≡ Some x → is_circuit p x ≡ true
-chosen_circuit p s place code x h = let r = first_in-is (first_free p s place) (route_list p place code) x h in (chosen p s place r.0 x r.2).planned
+pub chosen_circuit : (p : Plan) (s : State) (exchange code : ℕ) (x : Circuit) → choice p s exchange code ≡ Some x → is_circuit p x ≡ true
+chosen_circuit p s exchange code x h = let r = first_in-is (first_free p s exchange) (route_list p exchange code) x h in (chosen p s exchange r.0 x r.2).planned
 
 -- so is one that a Route seizes
 pub seized_circuit : (p : Plan) (s : State) (n : ℕ) (x : Circuit) → (accepted p s (Route n)).0 ≡ Seized x → is_circuit p x ≡ true
@@ -69,7 +69,7 @@ seized_circuit p s n x e = at (call_of n s.calls) e
   where
     at : (o : Option Call) → (with_call o s (λ c. routed p s c)).0 ≡ Seized x → is_circuit p x ≡ true
     at None e = let bad : ⊥ = cc in absurd bad
-    at (Some c) e = let r = seizes p s c x e in chosen_circuit p s (place_of p c) r.0 x r.1
+    at (Some c) e = let r = seizes p s c x e in chosen_circuit p s (exchange_of p c) r.0 x r.1
 
 pub counted_circuit : (p : Plan) (x : Circuit) → (nat_le 1 x.number && nat_le x.number (option_map_or (λ (r : Group). r.count) (slice_get p.groups x.group) 0)) ≡ is_circuit p x
 counted_circuit p x = at (slice_get p.groups x.group)
@@ -83,16 +83,16 @@ counted_circuit p x = at (slice_get p.groups x.group)
     at (Some r) = refl
 
 -- the free circuits of a group, by its first end and its count
-pub by_first_end : (p : Plan) (g place : ℕ) (t : Circuit → Bool) → (if (ends_of p g).0 == place then find t (map (λ n. record { group = g; number = n }) (upward (count_of p g))) else find t (map (λ n. record { group = g; number = n }) (downward (count_of p g)))) ≡ find t (circuits_at p g place)
-by_first_end p g place t = at (slice_get p.groups g)
+pub by_first_end : (p : Plan) (g exchange : ℕ) (t : Circuit → Bool) → (if (ends_of p g).0 == exchange then find t (map (λ n. record { group = g; number = n }) (upward (count_of p g))) else find t (map (λ n. record { group = g; number = n }) (downward (count_of p g)))) ≡ find t (circuits_at p g exchange)
+by_first_end p g exchange t = at (slice_get p.groups g)
   where
     none : (b : Bool) → (if b then find t [] else find t []) ≡ None
     none true = refl
     none false = refl
 
-    at : (o : Option Group) → (if (option_map_or {U = ℕ × ℕ} (λ (r : Group). (r.a, r.b)) o (0, 0)).0 == place then find t (map (λ n. record { group = g; number = n }) (upward (option_map_or (λ (r : Group). r.count) o 0))) else find t (map (λ n. record { group = g; number = n }) (downward (option_map_or (λ (r : Group). r.count) o 0)))) ≡ find t (option_map_or (λ (r : Group). map (λ n. record { group = g; number = n }) (order_at r place)) o [])
-    at None = none (0 == place)
-    at (Some r) = pick (r.a == place)
+    at : (o : Option Group) → (if (option_map_or {U = ℕ × ℕ} (λ (r : Group). (r.a, r.b)) o (0, 0)).0 == exchange then find t (map (λ n. record { group = g; number = n }) (upward (option_map_or (λ (r : Group). r.count) o 0))) else find t (map (λ n. record { group = g; number = n }) (downward (option_map_or (λ (r : Group). r.count) o 0)))) ≡ find t (option_map_or (λ (r : Group). map (λ n. record { group = g; number = n }) (order_at r exchange)) o [])
+    at None = none (0 == exchange)
+    at (Some r) = pick (r.a == exchange)
       where
         pick : (b : Bool) → (if b then find t (map (λ n. record { group = g; number = n }) (upward r.count)) else find t (map (λ n. record { group = g; number = n }) (downward r.count))) ≡ find t (map (λ n. record { group = g; number = n }) (if b then upward r.count else downward r.count))
         pick true = refl

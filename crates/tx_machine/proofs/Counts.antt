@@ -21,7 +21,7 @@ use Rattle.tx_machine.specs.declared.refusal.Refusal.{Refusal}
 use Rattle.tx_machine.specs.declared.reply.Reply.{Reply}
 use Rattle.tx_machine.specs.declared.reply.Reply.TheVariants.{Answered}
 use Rattle.tx_machine.specs.declared.open_call.Hop.{Hop}
-use Rattle.tx_machine.specs.Call.{Phase, Standing, Calling, Connected, Call, place_of, call_of, is_standing, is_numbered, is_first}
+use Rattle.tx_machine.specs.Call.{Phase, Standing, Calling, Connected, Call, exchange_of, call_of, is_standing, is_numbered, is_first}
 use Rattle.tx_machine.specs.State.{State, opening}
 use Rattle.tx_machine.specs.InUse.{choice}
 use Rattle.tx_machine.specs.Lines.{line_answer}
@@ -38,7 +38,7 @@ use Rattle.tx_machine.proofs.Invariant.{set_cases, inv_opening}
 use Rattle.tx_machine.specs.inner.Invariant.{Holds, IsRanked}
 use Rattle.tx_machine.proofs.Steps.{tests_false, stands, step_keeps}
 use Rattle.tx_machine.proofs.Moves.{Moves, stays, connects, seizes_one, goes_on, falls_back, came, after_accepted}
-use Rattle.tx_machine.proofs.Ranks.{AllRanked, step_ranked, hops_within, ranked_place}
+use Rattle.tx_machine.proofs.Ranks.{AllRanked, step_ranked, hops_within, ranked_index}
 
 -- a Route of a call that stands leaves it in another phase, or ended
 module _ (p : Plan) (s : State) (h : Holds p s) (c' : Call) (c : Call) (m : Among c s.calls) (n : c'.number ≡ c.number) (e : c'.phase ≡ Standing) where
@@ -59,9 +59,9 @@ module _ (p : Plan) (s : State) (h : Holds p s) (c' : Call) (c : Call) (m : Amon
   route_leaves : (o : Option ℕ) → Among c' (routed_for p s c o).1.calls → ⊥
   route_leaves None q = gone (ByService Np) q
   route_leaves (Some code) q =
-      elim (is_first c.hops && is_barred p (place_of p c) code) as (λ b. Among c' (if b then answer Na else if home_of p code == place_of p c then line else trunk).1.calls → ⊥) [
+      elim (is_first c.hops && is_barred p (exchange_of p c) code) as (λ b. Among c' (if b then answer Na else if home_of p code == exchange_of p c then line else trunk).1.calls → ⊥) [
         | true ↦ λ q. gone (ByService Na) q
-        | false ↦ elim (home_of p code == place_of p c) as (λ b. Among c' (if b then line else trunk).1.calls → ⊥) [ true ↦ λ q. line_leaves (line_of p code c.keyed) _ q | false ↦ λ q. trunk_leaves _ q ]
+        | false ↦ elim (home_of p code == exchange_of p c) as (λ b. Among c' (if b then line else trunk).1.calls → ⊥) [ true ↦ λ q. line_leaves (line_of p code c.keyed) _ q | false ↦ λ q. trunk_leaves _ q ]
       ] q
     where
       answer : Service → Reply × State
@@ -71,7 +71,7 @@ module _ (p : Plan) (s : State) (h : Holds p s) (c' : Call) (c : Call) (m : Amon
       line = at_line p s c (line_of p code c.keyed) (line_answer p s (line_of p code c.keyed))
 
       trunk : Reply × State
-      trunk = at_trunk p s c (choice p s (place_of p c) code)
+      trunk = at_trunk p s c (choice p s (exchange_of p c) code)
 
 -- the count of numbers never falls
 line_numbers : (p : Plan) (s : State) (c : Call) (l : Line) (o : Option Service) → (at_line p s c l o).1.numbers ≡ s.numbers
@@ -84,7 +84,7 @@ trunk_numbers p s c (Some x) = refl
 
 route_numbers : (p : Plan) (s : State) (c : Call) (o : Option ℕ) → (routed_for p s c o).1.numbers ≡ s.numbers
 route_numbers p s c None = refl
-route_numbers p s c (Some code) = pick (is_first c.hops && is_barred p (place_of p c) code) (home_of p code == place_of p c) _ _ _ refl (line_numbers p s c (line_of p code c.keyed) _) (trunk_numbers p s c _)
+route_numbers p s c (Some code) = pick (is_first c.hops && is_barred p (exchange_of p c) code) (home_of p code == exchange_of p c) _ _ _ refl (line_numbers p s c (line_of p code c.keyed) _) (trunk_numbers p s c _)
   where
     pick : (a b : Bool) (x y z : Reply × State) → x.1.numbers ≡ s.numbers → y.1.numbers ≡ s.numbers → z.1.numbers ≡ s.numbers → (if a then x else if b then y else z).1.numbers ≡ s.numbers
     pick true b x y z hx hy hz = hx
@@ -191,9 +191,9 @@ module _ (p : Plan) (ok : IsPlan p) (ranks : Ranks) (limit spare : ℕ) (cert : 
   }
 
   -- a call that stands has a Route left
-  room : (c : Call) → IsRanked p ranks c → c.phase ≡ Standing → (code : ℕ) → code_of p c.keyed ≡ Some code → (is_first c.hops && is_barred p (place_of p c) code) ≡ false → used c + 1 ≤ 2 * limit + 3
+  room : (c : Call) → IsRanked p ranks c → c.phase ≡ Standing → (code : ℕ) → code_of p c.keyed ≡ Some code → (is_first c.hops && is_barred p (exchange_of p c) code) ≡ false → used c + 1 ≤ 2 * limit + 3
   room c r st code keyed open' =
-      let a = ranked_place p ranks limit spare cert c r code keyed open' in
+      let a = ranked_index p ranks limit spare cert c r code keyed open' in
       let b = hops_within p ranks limit spare cert c r code keyed a.0 a.1 in
       let w = ap waits st in
       at c.collided refl a.0 a.1 b w
@@ -201,13 +201,13 @@ module _ (p : Plan) (ok : IsPlan p) (ranks : Ranks) (limit spare : ℕ) (cert : 
       some : {m n : ℕ} → Some m ≡ Some n → m ≡ n
       some e = cc
 
-      at : (b : Bool) → c.collided ≡ b → (a : ℕ) → ranks code (place_of p c) ≡ Some a → a + length c.hops ≤ limit + 1 → waits c.phase ≡ 0 → used c + 1 ≤ 2 * limit + 3
+      at : (b : Bool) → c.collided ≡ b → (a : ℕ) → ranks code (exchange_of p c) ≡ Some a → a + length c.hops ≤ limit + 1 → waits c.phase ≡ 0 → used c + 1 ≤ 2 * limit + 3
       at false e a here b w = let f = ap one_if e in omega arith
       at true e a here b w =
           let f = ap one_if e in
           let d = r.collided e in
           let same = some (sym d.1 ∙ keyed) in
-          let up = some (sym here ∙ ap (λ k. ranks k (place_of p c)) (sym same) ∙ d.3) in
+          let up = some (sym here ∙ ap (λ k. ranks k (exchange_of p c)) (sym same) ∙ d.3) in
           omega arith
 
   first_room : (c : Call) → c.hops ≡ [] → c.phase ≡ Standing → used c + 1 ≤ 2 * limit + 3
@@ -222,7 +222,7 @@ module _ (p : Plan) (ok : IsPlan p) (ranks : Ranks) (limit spare : ℕ) (cert : 
     where
       at : (o : Option ℕ) → code_of p c.keyed ≡ o → used c + 1 ≤ 2 * limit + 3
       at None e = first_room c (r.unrouted e) st
-      at (Some code) e = elim (cases_Bool (is_first c.hops && is_barred p (place_of p c) code)) [
+      at (Some code) e = elim (cases_Bool (is_first c.hops && is_barred p (exchange_of p c) code)) [
         | inl t ↦ first_room c (is_first-is c.hops (and_parts _ _ t).0) st
         | inr f ↦ room c r st code e f
       ]

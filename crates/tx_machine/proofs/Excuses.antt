@@ -22,7 +22,7 @@ use Rattle.tx_machine.specs.declared.cause.Cause.TheVariants.{Service as ByServi
 use Rattle.tx_machine.specs.declared.refusal.Refusal.{Refusal}
 use Rattle.tx_machine.specs.declared.reply.Reply.{Reply}
 use Rattle.tx_machine.specs.declared.reply.Reply.TheVariants.{Answered}
-use Rattle.tx_machine.specs.Call.{Phase, Standing, Calling, Connected, Call, place_of, call_of, is_numbered, is_first}
+use Rattle.tx_machine.specs.Call.{Phase, Standing, Calling, Connected, Call, exchange_of, call_of, is_numbered, is_first}
 use Rattle.tx_machine.specs.State.{State}
 use Rattle.tx_machine.specs.InUse.{is_free_at, is_down, first_free, choice, seizes_from}
 use Rattle.tx_machine.specs.Lines.{is_engaged, line_answer}
@@ -35,7 +35,7 @@ use Rattle.tx_machine.specs.Excused.{HadCollided, IsExcusedTo, IsExcused}
 use Rattle.tx_machine.proofs.Lists.{find_mem, find_none, all_from_mem}
 use Rattle.tx_machine.proofs.Uses.{first_in-none}
 use Rattle.tx_machine.specs.inner.Invariant.{Holds}
-use Rattle.tx_machine.proofs.Ranks.{AllRanked, ranked_place, code_within}
+use Rattle.tx_machine.proofs.Ranks.{AllRanked, ranked_index, code_within}
 
 -- THE CIRCUITS OF A GROUP
 pub in_downward : (n k : ℕ) → 0 < k → k ≤ n → Among k (downward n)
@@ -46,23 +46,23 @@ pub in_upward : (n k : ℕ) → 0 < k → k ≤ n → Among k (upward n)
 in_upward zero k l h = absurd (omega arith)
 in_upward (suc n) k l h = elim (cases_eq (suc n) k) [ inl e ↦ among_right k (upward n) (suc n ∷ []) (inl e) | inr e ↦ among_left k (upward n) (suc n ∷ []) (in_upward n k l (omega arith)) ]
 
-pub circuit_listed : (p : Plan) (x : Circuit) (g place : ℕ) → is_circuit p x ≡ true → x.group ≡ g → Among x (circuits_at p g place)
-circuit_listed p x g place h e = subst (λ k. Among x (circuits_at p k place)) e (at (slice_get p.groups x.group) h)
+pub circuit_listed : (p : Plan) (x : Circuit) (g exchange : ℕ) → is_circuit p x ≡ true → x.group ≡ g → Among x (circuits_at p g exchange)
+circuit_listed p x g exchange h e = subst (λ k. Among x (circuits_at p k exchange)) e (at (slice_get p.groups x.group) h)
   where
-    at : (o : Option Group) → option_map_or (λ r. nat_le 1 x.number && nat_le x.number r.count) o false ≡ true → Among x (option_map_or (λ (r : Group). map (λ n. record { group = x.group; number = n }) (order_at r place)) o [])
+    at : (o : Option Group) → option_map_or (λ r. nat_le 1 x.number && nat_le x.number r.count) o false ≡ true → Among x (option_map_or (λ (r : Group). map (λ n. record { group = x.group; number = n }) (order_at r exchange)) o [])
     at None h = absurd (false≢true h)
     at (Some r) h =
         let b = and_parts (nat_le 1 x.number) (nat_le x.number r.count) h in
         let one = leb-true 1 x.number b.0 in let few = leb-true x.number r.count b.1 in
-        among_map (λ n. record { group = x.group; number = n }) x.number (order_at r place)
-        (elim (r.a == place) as (λ c. Among x.number (if c then upward r.count else downward r.count)) [ true ↦ in_upward r.count x.number (omega arith) few | false ↦ in_downward r.count x.number (omega arith) few ])
+        among_map (λ n. record { group = x.group; number = n }) x.number (order_at r exchange)
+        (elim (r.a == exchange) as (λ c. Among x.number (if c then upward r.count else downward r.count)) [ true ↦ in_upward r.count x.number (omega arith) few | false ↦ in_downward r.count x.number (omega arith) few ])
 
 -- a group in which none was found
-none_there : (p : Plan) (s : State) (place g : ℕ) → first_free p s place g ≡ None → (is_down s g ≡ true) ⊎ ((x : Circuit) → is_circuit p x ≡ true → x.group ≡ g → is_free_at p s place x ≡ false)
-none_there p s place g h =
-    elim (is_down s g) as (λ b. (if b then None else find (is_free_at p s place) (circuits_at p g place)) ≡ None → (b ≡ true) ⊎ ((x : Circuit) → is_circuit p x ≡ true → x.group ≡ g → is_free_at p s place x ≡ false)) [
+none_there : (p : Plan) (s : State) (exchange g : ℕ) → first_free p s exchange g ≡ None → (is_down s g ≡ true) ⊎ ((x : Circuit) → is_circuit p x ≡ true → x.group ≡ g → is_free_at p s exchange x ≡ false)
+none_there p s exchange g h =
+    elim (is_down s g) as (λ b. (if b then None else find (is_free_at p s exchange) (circuits_at p g exchange)) ≡ None → (b ≡ true) ⊎ ((x : Circuit) → is_circuit p x ≡ true → x.group ≡ g → is_free_at p s exchange x ≡ false)) [
       | true ↦ λ e. inl refl
-      | false ↦ λ e. inr (λ x c q. find_none (is_free_at p s place) (circuits_at p g place) x e (circuit_listed p x g place c q))
+      | false ↦ λ e. inr (λ x c q. find_none (is_free_at p s exchange) (circuits_at p g exchange) x e (circuit_listed p x g exchange c q))
     ] h
 
 -- no line answers NC
@@ -96,11 +96,11 @@ module _ (p : Plan) (ranks : Ranks) (limit spare : ℕ) (cert : IsCertified p ra
   line_reply l None e = tt
   line_reply l (Some service) e = line_excused p spare s n l service e
 
-  trunk_reply : (code : ℕ) → code_of p c.keyed ≡ Some code → (is_first c.hops && is_barred p (place_of p c) code) ≡ false → (home_of p code == place_of p c) ≡ false → (o : Option Circuit) → choice p s (place_of p c) code ≡ o → IsExcused p spare s (Route n) (at_trunk p s c o).0
+  trunk_reply : (code : ℕ) → code_of p c.keyed ≡ Some code → (is_first c.hops && is_barred p (exchange_of p c) code) ≡ false → (home_of p code == exchange_of p c) ≡ false → (o : Option Circuit) → choice p s (exchange_of p c) code ≡ o → IsExcused p spare s (Route n) (at_trunk p s c o).0
   trunk_reply code e open' away (Some x) a = tt
   trunk_reply code e open' away None a =
-      let r = ranked_place p ranks limit spare cert c (ranked c m) code e open' in
-      let down = cert.lists code (place_of p c) r.0 (code_within p c.keyed code e) r.1 (λ i. eqb-false _ _ away (sym i)) in
+      let r = ranked_index p ranks limit spare cert c (ranked c m) code e open' in
+      let down = cert.lists code (exchange_of p c) r.0 (code_within p c.keyed code e) r.1 (λ i. eqb-false _ _ away (sym i)) in
       record {
         call = c;
         open' = here;
@@ -108,16 +108,16 @@ module _ (p : Plan) (ranks : Ranks) (limit spare : ℕ) (cert : IsCertified p ra
         keyed = e;
         taken = record {
           many = down.enough;
-          each = all_from_mem _ (route_list p (place_of p c) code) (λ g i. none_there p s (place_of p c) g (first_in-none (first_free p s (place_of p c)) (route_list p (place_of p c) code) g a i));
+          each = all_from_mem _ (route_list p (exchange_of p c) code) (λ g i. none_there p s (exchange_of p c) g (first_in-none (first_free p s (exchange_of p c)) (route_list p (exchange_of p c) code) g a i));
         };
       }
 
   route_reply : (o : Option ℕ) → code_of p c.keyed ≡ o → IsExcused p spare s (Route n) (routed_for p s c o).0
   route_reply None e = tt
   route_reply (Some code) e =
-      elim (is_first c.hops && is_barred p (place_of p c) code) as (λ b. (is_first c.hops && is_barred p (place_of p c) code) ≡ b → IsExcused p spare s (Route n) (if b then answer Na else if home_of p code == place_of p c then line else trunk).0) [
+      elim (is_first c.hops && is_barred p (exchange_of p c) code) as (λ b. (is_first c.hops && is_barred p (exchange_of p c) code) ≡ b → IsExcused p spare s (Route n) (if b then answer Na else if home_of p code == exchange_of p c then line else trunk).0) [
         | true ↦ λ b. tt
-        | false ↦ λ b. elim (home_of p code == place_of p c) as (λ b. (home_of p code == place_of p c) ≡ b → IsExcused p spare s (Route n) (if b then line else trunk).0) [
+        | false ↦ λ b. elim (home_of p code == exchange_of p c) as (λ b. (home_of p code == exchange_of p c) ≡ b → IsExcused p spare s (Route n) (if b then line else trunk).0) [
           | true ↦ λ q. line_reply (line_of p code c.keyed) _ refl
           | false ↦ λ q. trunk_reply code e b q _ refl
         ] refl
@@ -130,7 +130,7 @@ module _ (p : Plan) (ranks : Ranks) (limit spare : ℕ) (cert : IsCertified p ra
       line = at_line p s c (line_of p code c.keyed) (line_answer p s (line_of p code c.keyed))
 
       trunk : Reply × State
-      trunk = at_trunk p s c (choice p s (place_of p c) code)
+      trunk = at_trunk p s c (choice p s (exchange_of p c) code)
 
   had : (d : Call) → Among d s.calls → not d.collided ≡ false → HadCollided s d.number
   had d m e = record { call = d; open' = found s.calls d m (λ k i q. h.one k d i m q); collided = not-false _ e }

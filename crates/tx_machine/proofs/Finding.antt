@@ -21,7 +21,7 @@ module _ {X Y : Type 0} (test : Y → Bool) (f : X → Y) (xs : List X) (i : ℕ
         ∙ ap (λ y. filter test (map f (y ∷ drop (suc i) xs))) (sym is)
         ∙ ap (λ k. cond (test (f x)) (f x ∷ filter test (map f (drop k xs))) (filter test (map f (drop k xs)))) (sym (add-one i))
 
-    -- a loop has counted those before the place
+    -- a loop has counted those before the index
     module _ (count new total : ℕ) (few : count ≤ i) (all : count + length (filter test (map f (drop i xs))) ≡ total) where
       pub counted : test (f x) ≡ true → new ≡ count + 1 → (i + 1 ≤ length xs) × (new ≤ i + 1) × (new + length (filter test (map f (drop (i + 1) xs))) ≡ total)
       counted t e =

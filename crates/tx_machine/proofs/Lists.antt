@@ -55,15 +55,15 @@ module _ {A : Type 0} where
   all_from_mem P [] h = tt
   all_from_mem P (x ∷ xs) h = (h x (inl refl), all_from_mem P xs (λ z m. h z (inr m)))
 
-pub at_place : {A : Type 0} (P : A → Type 0) (xs : List A) → AllByRecursion P xs → (i : ℕ) (x : A) → slice_get xs i ≡ Some x → P x
-at_place P [] h i x e = let bad : ⊥ = cc in absurd bad
-at_place P (y ∷ ys) h zero x e = let same : y ≡ x = cc in subst P same h.0
-at_place P (y ∷ ys) h (suc i) x e = at_place P ys h.1 i x e
+pub at_index : {A : Type 0} (P : A → Type 0) (xs : List A) → AllByRecursion P xs → (i : ℕ) (x : A) → slice_get xs i ≡ Some x → P x
+at_index P [] h i x e = let bad : ⊥ = cc in absurd bad
+at_index P (y ∷ ys) h zero x e = let same : y ≡ x = cc in subst P same h.0
+at_index P (y ∷ ys) h (suc i) x e = at_index P ys h.1 i x e
 
--- where each member stands apart from each later one, two places of alike members are one
-pub places_differ : {A : Type 0} (Alike : A → A → Type 0) → ((x y : A) → Alike x y → Alike y x) → (xs : List A) → EachPair (λ x y. Alike x y → ⊥) xs → (i j : ℕ) (x y : A) → slice_get xs i ≡ Some x → slice_get xs j ≡ Some y → Alike x y → i ≡ j
-places_differ Alike turned [] h i j x y hx hy a = let bad : ⊥ = cc in absurd bad
-places_differ Alike turned (z ∷ zs) h zero zero x y hx hy a = refl
-places_differ Alike turned (z ∷ zs) h zero (suc j) x y hx hy a = let e : z ≡ x = cc in absurd (at_place (λ y. Alike z y → ⊥) zs h.0 j y hy (subst (λ w. Alike w y) (sym e) a))
-places_differ Alike turned (z ∷ zs) h (suc i) zero x y hx hy a = let e : z ≡ y = cc in absurd (at_place (λ y. Alike z y → ⊥) zs h.0 i x hx (turned x z (subst (λ w. Alike x w) (sym e) a)))
-places_differ Alike turned (z ∷ zs) h (suc i) (suc j) x y hx hy a = ap suc (places_differ Alike turned zs h.1 i j x y hx hy a)
+-- where each member stands apart from each later one, two indexes of alike members are one
+pub indexes_differ : {A : Type 0} (Alike : A → A → Type 0) → ((x y : A) → Alike x y → Alike y x) → (xs : List A) → EachPair (λ x y. Alike x y → ⊥) xs → (i j : ℕ) (x y : A) → slice_get xs i ≡ Some x → slice_get xs j ≡ Some y → Alike x y → i ≡ j
+indexes_differ Alike turned [] h i j x y hx hy a = let bad : ⊥ = cc in absurd bad
+indexes_differ Alike turned (z ∷ zs) h zero zero x y hx hy a = refl
+indexes_differ Alike turned (z ∷ zs) h zero (suc j) x y hx hy a = let e : z ≡ x = cc in absurd (at_index (λ y. Alike z y → ⊥) zs h.0 j y hy (subst (λ w. Alike w y) (sym e) a))
+indexes_differ Alike turned (z ∷ zs) h (suc i) zero x y hx hy a = let e : z ≡ y = cc in absurd (at_index (λ y. Alike z y → ⊥) zs h.0 i x hx (turned x z (subst (λ w. Alike x w) (sym e) a)))
+indexes_differ Alike turned (z ∷ zs) h (suc i) (suc j) x y hx hy a = ap suc (indexes_differ Alike turned zs h.1 i j x y hx hy a)

@@ -19,7 +19,7 @@ use Rattle.tx_machine.specs.declared.cause.Cause.TheVariants.{Service as ByServi
 use Rattle.tx_machine.specs.declared.refusal.Refusal.{Refusal}
 use Rattle.tx_machine.specs.declared.reply.Reply.{Reply}
 use Rattle.tx_machine.specs.declared.reply.Reply.TheVariants.{Answered}
-use Rattle.tx_machine.specs.Call.{Phase, Standing, Calling, Connected, Call, place_of, call_of, is_standing, is_numbered, is_first}
+use Rattle.tx_machine.specs.Call.{Phase, Standing, Calling, Connected, Call, exchange_of, call_of, is_standing, is_numbered, is_first}
 use Rattle.tx_machine.specs.State.{State}
 use Rattle.tx_machine.specs.InUse.{first_free, choice, uses_group, seizes, seizes_from}
 use Rattle.tx_machine.specs.Lines.{line_answer}
@@ -38,7 +38,7 @@ use Rattle.tx_machine.proofs.Steps.{tests_false, stands}
 pub data Moves (p : Plan) (e : Event) (c c' : Call) : Type 0 where
   stays : c ≡ c' → Moves p e c c'
   connects : (l : Line) → e ≡ Route c.number → c.phase ≡ Standing → in_phase (Connected l) c ≡ c' → Moves p e c c'
-  seizes_one : (x : Circuit) (code : ℕ) → e ≡ Route c.number → c.phase ≡ Standing → code_of p c.keyed ≡ Some code → (is_first c.hops && is_barred p (place_of p c) code) ≡ false → (home_of p code == place_of p c) ≡ false → Among x.group (route_list p (place_of p c) code) → in_phase (Calling x) c ≡ c' → Moves p e c c'
+  seizes_one : (x : Circuit) (code : ℕ) → e ≡ Route c.number → c.phase ≡ Standing → code_of p c.keyed ≡ Some code → (is_first c.hops && is_barred p (exchange_of p c) code) ≡ false → (home_of p code == exchange_of p c) ≡ false → Among x.group (route_list p (exchange_of p c) code) → in_phase (Calling x) c ≡ c' → Moves p e c c'
   goes_on : (x : Circuit) → c.phase ≡ Calling x → carried_on x (far_of p c x) c ≡ c' → Moves p e c c'
   falls_back : (x : Circuit) → c.phase ≡ Calling x → c.collided ≡ false → thrown_back c ≡ c' → Moves p e c c'
 
@@ -71,19 +71,19 @@ module _ (p : Plan) (s : State) (h : Holds p s) (e : Event) (c' : Call) where
     after_line l q stands None m' = after_set c m (in_phase (Connected l)) (λ i. connects l q stands i) m'
     after_line l q stands (Some service) m' = after_end (ByService service) (is_numbered c.number) m'
 
-    after_trunk : (code : ℕ) → e ≡ Route c.number → c.phase ≡ Standing → code_of p c.keyed ≡ Some code → (is_first c.hops && is_barred p (place_of p c) code) ≡ false → (home_of p code == place_of p c) ≡ false → (o : Option Circuit) → choice p s (place_of p c) code ≡ o → Among c' (at_trunk p s c o).1.calls → Came p s e c'
+    after_trunk : (code : ℕ) → e ≡ Route c.number → c.phase ≡ Standing → code_of p c.keyed ≡ Some code → (is_first c.hops && is_barred p (exchange_of p c) code) ≡ false → (home_of p code == exchange_of p c) ≡ false → (o : Option Circuit) → choice p s (exchange_of p c) code ≡ o → Among c' (at_trunk p s c o).1.calls → Came p s e c'
     after_trunk code q stands keyed open' away None a m' = after_end (ByService Nc) (is_numbered c.number) m'
     after_trunk code q stands keyed open' away (Some x) a m' =
-        let r = first_in-is (first_free p s (place_of p c)) (route_list p (place_of p c) code) x a in
-        let f = chosen p s (place_of p c) r.0 x r.2 in
-        after_set c m (in_phase (Calling x)) (λ i. seizes_one x code q stands keyed open' away (subst (λ z. Among z (route_list p (place_of p c) code)) (sym f.group) r.1) i) m'
+        let r = first_in-is (first_free p s (exchange_of p c)) (route_list p (exchange_of p c) code) x a in
+        let f = chosen p s (exchange_of p c) r.0 x r.2 in
+        after_set c m (in_phase (Calling x)) (λ i. seizes_one x code q stands keyed open' away (subst (λ z. Among z (route_list p (exchange_of p c) code)) (sym f.group) r.1) i) m'
 
     after_route : e ≡ Route c.number → c.phase ≡ Standing → (o : Option ℕ) → code_of p c.keyed ≡ o → Among c' (routed_for p s c o).1.calls → Came p s e c'
     after_route q stands None k m' = after_end (ByService Np) (is_numbered c.number) m'
     after_route q stands (Some code) k m' =
-        elim (is_first c.hops && is_barred p (place_of p c) code) as (λ b. (is_first c.hops && is_barred p (place_of p c) code) ≡ b → Among c' (if b then answer Na else if home_of p code == place_of p c then line else trunk).1.calls → Came p s e c') [
+        elim (is_first c.hops && is_barred p (exchange_of p c) code) as (λ b. (is_first c.hops && is_barred p (exchange_of p c) code) ≡ b → Among c' (if b then answer Na else if home_of p code == exchange_of p c then line else trunk).1.calls → Came p s e c') [
           | true ↦ λ b m'. after_end (ByService Na) (is_numbered c.number) m'
-          | false ↦ λ b m'. elim (home_of p code == place_of p c) as (λ b. (home_of p code == place_of p c) ≡ b → Among c' (if b then line else trunk).1.calls → Came p s e c') [
+          | false ↦ λ b m'. elim (home_of p code == exchange_of p c) as (λ b. (home_of p code == exchange_of p c) ≡ b → Among c' (if b then line else trunk).1.calls → Came p s e c') [
             | true ↦ λ here m'. after_line (line_of p code c.keyed) q stands (line_answer p s (line_of p code c.keyed)) m'
             | false ↦ λ away m'. after_trunk code q stands k b away _ refl m'
           ] refl m'
@@ -96,7 +96,7 @@ module _ (p : Plan) (s : State) (h : Holds p s) (e : Event) (c' : Call) where
         line = at_line p s c (line_of p code c.keyed) (line_answer p s (line_of p code c.keyed))
 
         trunk : Reply × State
-        trunk = at_trunk p s c (choice p s (place_of p c) code)
+        trunk = at_trunk p s c (choice p s (exchange_of p c) code)
 
     after_meeting : (x : Circuit) → c.phase ≡ Calling x → (o : Option Call) → rival p s c x ≡ o → Among c' (confirmed_by p s c x o).1.calls → Came p s e c'
     after_meeting x calls None a m' = after_set c m (carried_on x (far_of p c x)) (λ i. goes_on x calls i) m'
@@ -105,7 +105,7 @@ module _ (p : Plan) (s : State) (h : Holds p s) (e : Event) (c' : Call) where
         let t = and_parts (not (d.number == c.number)) (seizes_from p d x (far_of p c x)) r.1 in
         let f = filter_among (λ k. not (second_time c d k)) c' (collide c.number d.number x s).calls m' in
         let b = map_among (λ k. if is_numbered c.number k || is_numbered d.number k then thrown_back k else k) c' s.calls f.0 in
-        thrown d r.0 (calling_on d.phase x (and_parts (seizes d x) (place_of p d == far_of p c x) t.1).0) b (not-true _ f.1)
+        thrown d r.0 (calling_on d.phase x (and_parts (seizes d x) (exchange_of p d == far_of p c x) t.1).0) b (not-true _ f.1)
       where
         thrown : (d : Call) → Among d s.calls → d.phase ≡ Calling x → (k : Call) × Among k s.calls × ((if is_numbered c.number k || is_numbered d.number k then thrown_back k else k) ≡ c') → second_time c d c' ≡ false → Came p s e c'
         thrown d md ed (k, mk, i) t =

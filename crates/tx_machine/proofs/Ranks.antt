@@ -19,7 +19,7 @@ use Rattle.tx_plan.specs.declared.ids.Line.{Line}
 use Rattle.tx_plan.proofs.Among.{filter_among}
 use Rattle.tx_machine.specs.declared.event.Event.{Event}
 use Rattle.tx_machine.specs.declared.open_call.Hop.{Hop}
-use Rattle.tx_machine.specs.Call.{Call, last_exchange, start_of, place_of, is_first}
+use Rattle.tx_machine.specs.Call.{Call, last_exchange, start_of, exchange_of, is_first}
 use Rattle.tx_machine.specs.State.{State}
 use Rattle.tx_machine.specs.Confirming.{far_of}
 use Rattle.tx_machine.specs.Step.{step}
@@ -77,8 +77,8 @@ code_within p keyed i h = at (longest (codes_before p keyed)) refl h
         let m = filter_among (λ e. is_prefix e.1.figures keyed) d (enumerate_from 0 p.codes) (longest_among (codes_before p keyed) d e) in
         let r = enumerated 0 p.codes d m.0 in
         let same : d.0 ≡ i = cc in
-        let place : r.0 ≡ i = (let f = r.1 in omega arith) in
-        subst (λ k. k < length p.codes) place (slice_get_within p.codes r.0 d.1 r.2)
+        let index : r.0 ≡ i = (let f = r.1 in omega arith) in
+        subst (λ k. k < length p.codes) index (slice_get_within p.codes r.0 d.1 r.2)
 
 -- the home of a line is an origin
 line_starts : (p : Plan) (l : Line) → is_line p l ≡ true → is_origin p (home_of p l.code) ≡ true
@@ -89,8 +89,8 @@ line_starts p l h =
 
 module _ (p : Plan) (ranks : Ranks) (limit spare : ℕ) (cert : IsCertified p ranks limit spare) where
   -- where a call is routed, its exchange is ranked
-  pub ranked_place : (c : Call) → IsRanked p ranks c → (code : ℕ) → code_of p c.keyed ≡ Some code → (is_first c.hops && is_barred p (place_of p c) code) ≡ false → (a : ℕ) × (ranks code (place_of p c) ≡ Some a)
-  ranked_place c h code e open' = at c.hops (h.falls code e) open'
+  pub ranked_index : (c : Call) → IsRanked p ranks c → (code : ℕ) → code_of p c.keyed ≡ Some code → (is_first c.hops && is_barred p (exchange_of p c) code) ≡ false → (a : ℕ) × (ranks code (exchange_of p c) ≡ Some a)
+  ranked_index c h code e open' = at c.hops (h.falls code e) open'
     where
       at : (hops : List Hop) → Falls (ranks code) (start_of p c) hops → (is_first hops && is_barred p (last_exchange (start_of p c) hops) code) ≡ false → (a : ℕ) × (ranks code (last_exchange (start_of p c) hops) ≡ Some a)
       at [] f o = cert.origins code (start_of p c) (code_within p c.keyed code e) (and_from _ _ (line_starts p c.line h.known) (not_from_false _ o))
@@ -108,10 +108,10 @@ module _ (p : Plan) (ranks : Ranks) (limit spare : ℕ) (cert : IsCertified p ra
       at [] many each = absurd (omega arith)
       at (g ∷ gs) many each = below _ each.0.lower
 
-  leads_to : (c : Call) (x : Circuit) (code a : ℕ) → ranks code (place_of p c) ≡ Some a → LeadsLower p ranks code (place_of p c) a x.group → IsLower (ranks code) (place_of p c) (far_of p c x)
+  leads_to : (c : Call) (x : Circuit) (code a : ℕ) → ranks code (exchange_of p c) ≡ Some a → LeadsLower p ranks code (exchange_of p c) a x.group → IsLower (ranks code) (exchange_of p c) (far_of p c x)
   leads_to c x code a e l = lower (ranks code l.to) refl l.lower
     where
-      lower : (o : Option ℕ) → ranks code l.to ≡ o → IsBelow o a → IsLower (ranks code) (place_of p c) (far_of p c x)
+      lower : (o : Option ℕ) → ranks code l.to ≡ o → IsBelow o a → IsLower (ranks code) (exchange_of p c) (far_of p c x)
       lower None q b = absurd b
       lower (Some m) q b = record { high = a; low = m; from = e; to = ap (ranks code) (ap (λ o. unwrap_or o 0) l.leads) ∙ q; less = b }
 
@@ -126,14 +126,14 @@ module _ (p : Plan) (ranks : Ranks) (limit spare : ℕ) (cert : IsCertified p ra
     collided = h.collided;
   })
   moves_ranked e c c' h (seizes_one x code event stands keyed open' away listed q) =
-      let r = ranked_place c h code keyed open' in
-      let down = cert.lists code (place_of p c) r.0 (code_within p c.keyed code keyed) r.1 (λ i. eqb-false _ _ away (sym i)) in
-      let lower = leads_to c x code r.0 r.1 (all_mem (LeadsLower p ranks code (place_of p c) r.0) (route_list p (place_of p c) code) x.group down.each listed) in
+      let r = ranked_index c h code keyed open' in
+      let down = cert.lists code (exchange_of p c) r.0 (code_within p c.keyed code keyed) r.1 (λ i. eqb-false _ _ away (sym i)) in
+      let lower = leads_to c x code r.0 r.1 (all_mem (LeadsLower p ranks code (exchange_of p c) r.0) (route_list p (exchange_of p c) code) x.group down.each listed) in
       subst (IsRanked p ranks) q (record {
         known = h.known;
         unrouted = h.unrouted;
         falls = h.falls;
-        calling = λ y i. let same : x ≡ y = cc in (code, keyed, subst (λ z. IsLower (ranks code) (place_of p c) (far_of p c z)) same lower);
+        calling = λ y i. let same : x ≡ y = cc in (code, keyed, subst (λ z. IsLower (ranks code) (exchange_of p c) (far_of p c z)) same lower);
         collided = h.collided;
       })
   moves_ranked e c c' h (goes_on x calls q) =
@@ -141,7 +141,7 @@ module _ (p : Plan) (ranks : Ranks) (limit spare : ℕ) (cert : IsCertified p ra
       subst (IsRanked p ranks) q (record {
         known = h.known;
         unrouted = λ i. absurd (none_some i to.1);
-        falls = λ code i. falls_more (ranks code) (start_of p c) c.hops _ (h.falls code i) (subst (λ k. IsLower (ranks k) (place_of p c) (far_of p c x)) (same to.1 i) to.2);
+        falls = λ code i. falls_more (ranks code) (start_of p c) c.hops _ (h.falls code i) (subst (λ k. IsLower (ranks k) (exchange_of p c) (far_of p c x)) (same to.1 i) to.2);
         calling = λ y i. absurd (not_standing i);
         collided = λ i. absurd (false≢true i);
       })
@@ -185,7 +185,7 @@ module _ (p : Plan) (ranks : Ranks) (limit spare : ℕ) (cert : IsCertified p ra
 
   -- HOW FAR A CALL GOES
   -- the hops so far, and the rank that is left
-  pub hops_within : (c : Call) → IsRanked p ranks c → (code : ℕ) → code_of p c.keyed ≡ Some code → (a : ℕ) → ranks code (place_of p c) ≡ Some a → a + length c.hops ≤ limit + 1
+  pub hops_within : (c : Call) → IsRanked p ranks c → (code : ℕ) → code_of p c.keyed ≡ Some code → (a : ℕ) → ranks code (exchange_of p c) ≡ Some a → a + length c.hops ≤ limit + 1
   hops_within c h code e a here = at c.hops (h.falls code e) here
     where
       some : {m n : ℕ} → Some m ≡ Some n → m ≡ n

@@ -15,7 +15,7 @@ use Rattle.tx_machine.specs.declared.cause.Service.TheVariants.{Occ, Np, Der, Ab
 use Rattle.tx_machine.specs.declared.open_call.Hop.{Hop}
 use Rattle.tx_machine.specs.declared.reply.Reply.{Reply}
 use Rattle.tx_machine.specs.declared.reply.Reply.TheVariants.{Seized, Connected as ConnectedTo}
-use Rattle.tx_machine.specs.Call.{Call, place_of, is_first}
+use Rattle.tx_machine.specs.Call.{Call, exchange_of, is_first}
 use Rattle.tx_machine.specs.State.{State}
 use Rattle.tx_machine.specs.InUse.{first_in, choice}
 use Rattle.tx_machine.specs.Lines.{line_answer, is_engaged}
@@ -41,26 +41,26 @@ module _ (p : Plan) (s : State) (c : Call) (code : ℕ) (begins : code_of p c.ke
   at_home = at_line p s c (line_of p code c.keyed) (line_answer p s (line_of p code c.keyed))
 
   abbrev on_the_way : Reply × State
-  on_the_way = at_trunk p s c (choice p s (place_of p c) code)
+  on_the_way = at_trunk p s c (choice p s (exchange_of p c) code)
 
   -- it is not barred where it stands, or has gone over a circuit
   abbrev pub IsLet : Type 0
-  IsLet = (is_first c.hops ≡ false) ⊎ (is_barred p (place_of p c) code ≡ false)
+  IsLet = (is_first c.hops ≡ false) ⊎ (is_barred p (exchange_of p c) code ≡ false)
 
-  is_let : IsLet → (is_first c.hops && is_barred p (place_of p c) code) ≡ false
-  is_let h = elim h [ inl f ↦ ap (λ x. x && is_barred p (place_of p c) code) f | inr z ↦ ap (λ x. is_first c.hops && x) z ∙ neither (is_first c.hops) ]
+  is_let : IsLet → (is_first c.hops && is_barred p (exchange_of p c) code) ≡ false
+  is_let h = elim h [ inl f ↦ ap (λ x. x && is_barred p (exchange_of p c) code) f | inr z ↦ ap (λ x. is_first c.hops && x) z ∙ neither (is_first c.hops) ]
     where
       neither : (x : Bool) → (x && false) ≡ false
       neither true = refl
       neither false = refl
 
-  pub routed_barred : is_first c.hops ≡ true → is_barred p (place_of p c) code ≡ true → routed p s c ≡ answered p c.number Na s
-  routed_barred f z = ap (routed_for p s c) begins ∙ (λ i. if f i && z i then answered p c.number Na s else if home_of p code == place_of p c then at_home else on_the_way)
+  pub routed_barred : is_first c.hops ≡ true → is_barred p (exchange_of p c) code ≡ true → routed p s c ≡ answered p c.number Na s
+  routed_barred f z = ap (routed_for p s c) begins ∙ (λ i. if f i && z i then answered p c.number Na s else if home_of p code == exchange_of p c then at_home else on_the_way)
 
-  pub routed_home : IsLet → (home_of p code == place_of p c) ≡ true → routed p s c ≡ at_home
+  pub routed_home : IsLet → (home_of p code == exchange_of p c) ≡ true → routed p s c ≡ at_home
   routed_home l h = ap (routed_for p s c) begins ∙ (λ i. if is_let l i then answered p c.number Na s else if h i then at_home else on_the_way)
 
-  pub routed_trunk : IsLet → (home_of p code == place_of p c) ≡ false → routed p s c ≡ on_the_way
+  pub routed_trunk : IsLet → (home_of p code == exchange_of p c) ≡ false → routed p s c ≡ on_the_way
   routed_trunk l h = ap (routed_for p s c) begins ∙ (λ i. if is_let l i then answered p c.number Na s else if h i then at_home else on_the_way)
 
 -- THE FIRST CIRCUIT IN A LIST OF GROUPS, AS IT IS LOOKED THROUGH
@@ -71,7 +71,7 @@ module _ (look : ℕ → Option Circuit) (gs : List ℕ) (i : ℕ) where
       ∙ ap (λ h. first_in look (h ∷ drop (i + 1) gs)) (sym at)
       ∙ ap (λ c. if c then look g else first_in look (drop (i + 1) gs)) e
 
-  -- the group at a place has a circuit
+  -- the group at an index has a circuit
   pub first_here : (g : ℕ) → i < length gs → g ≡ get_or gs i g → is_some (look g) ≡ true → first_in look (drop i gs) ≡ look g
   first_here g low at e = here g true low at e
 
@@ -89,7 +89,7 @@ module _ (p : Plan) (s : State) (c : Call) where
   pub connects : (l : Line) → (routed p s c).0 ≡ ConnectedTo l → IsKeyedLine p c l × (is_engaged s l ≡ false)
   connects l e = at (code_of p c.keyed) refl e
     where
-      line : (code : ℕ) → code_of p c.keyed ≡ Some code → (home_of p code == place_of p c) ≡ true → (o : Option Service) → line_answer p s (line_of p code c.keyed) ≡ o
+      line : (code : ℕ) → code_of p c.keyed ≡ Some code → (home_of p code == exchange_of p c) ≡ true → (o : Option Service) → line_answer p s (line_of p code c.keyed) ≡ o
           → (at_line p s c (line_of p code c.keyed) o).0 ≡ ConnectedTo l → IsKeyedLine p c l × (is_engaged s l ≡ false)
       line code q here None a e =
           let same : line_of p code c.keyed ≡ l = cc in
@@ -101,19 +101,19 @@ module _ (p : Plan) (s : State) (c : Call) where
       trunk None e = cc
       trunk (Some x) e = cc
 
-      test : (code : ℕ) → code_of p c.keyed ≡ Some code → (z h : Bool) → (home_of p code == place_of p c) ≡ h
-          → (if z then answered p c.number Na s else if h then at_line p s c (line_of p code c.keyed) (line_answer p s (line_of p code c.keyed)) else at_trunk p s c (choice p s (place_of p c) code)).0 ≡ ConnectedTo l
+      test : (code : ℕ) → code_of p c.keyed ≡ Some code → (z h : Bool) → (home_of p code == exchange_of p c) ≡ h
+          → (if z then answered p c.number Na s else if h then at_line p s c (line_of p code c.keyed) (line_answer p s (line_of p code c.keyed)) else at_trunk p s c (choice p s (exchange_of p c) code)).0 ≡ ConnectedTo l
           → IsKeyedLine p c l × (is_engaged s l ≡ false)
       test code q true h here e = let bad : ⊥ = cc in absurd bad
       test code q false true here e = line code q here (line_answer p s (line_of p code c.keyed)) refl e
-      test code q false false here e = absurd (trunk (choice p s (place_of p c) code) e)
+      test code q false false here e = absurd (trunk (choice p s (exchange_of p c) code) e)
 
       at : (o : Option ℕ) → code_of p c.keyed ≡ o → (routed_for p s c o).0 ≡ ConnectedTo l → IsKeyedLine p c l × (is_engaged s l ≡ false)
       at None q e = let bad : ⊥ = cc in absurd bad
-      at (Some code) q e = test code q (is_first c.hops && is_barred p (place_of p c) code) (home_of p code == place_of p c) refl e
+      at (Some code) q e = test code q (is_first c.hops && is_barred p (exchange_of p c) code) (home_of p code == exchange_of p c) refl e
 
   -- a circuit that is seized was chosen
-  pub seizes : (x : Circuit) → (routed p s c).0 ≡ Seized x → (code : ℕ) × (choice p s (place_of p c) code ≡ Some x)
+  pub seizes : (x : Circuit) → (routed p s c).0 ≡ Seized x → (code : ℕ) × (choice p s (exchange_of p c) code ≡ Some x)
   seizes x e = at (code_of p c.keyed) e
     where
       line : (l : Line) (o : Option Service) → (at_line p s c l o).0 ≡ Seized x → ⊥
@@ -124,12 +124,12 @@ module _ (p : Plan) (s : State) (c : Call) where
       trunk None e = let bad : ⊥ = cc in absurd bad
       trunk (Some y) e = let same : y ≡ x = cc in ap Some same
 
-      test : (code : ℕ) (z h : Bool) → (if z then answered p c.number Na s else if h then at_line p s c (line_of p code c.keyed) (line_answer p s (line_of p code c.keyed)) else at_trunk p s c (choice p s (place_of p c) code)).0 ≡ Seized x
-          → (code : ℕ) × (choice p s (place_of p c) code ≡ Some x)
+      test : (code : ℕ) (z h : Bool) → (if z then answered p c.number Na s else if h then at_line p s c (line_of p code c.keyed) (line_answer p s (line_of p code c.keyed)) else at_trunk p s c (choice p s (exchange_of p c) code)).0 ≡ Seized x
+          → (code : ℕ) × (choice p s (exchange_of p c) code ≡ Some x)
       test code true h e = let bad : ⊥ = cc in absurd bad
       test code false true e = absurd (line (line_of p code c.keyed) (line_answer p s (line_of p code c.keyed)) e)
-      test code false false e = (code, trunk (choice p s (place_of p c) code) e)
+      test code false false e = (code, trunk (choice p s (exchange_of p c) code) e)
 
-      at : (o : Option ℕ) → (routed_for p s c o).0 ≡ Seized x → (code : ℕ) × (choice p s (place_of p c) code ≡ Some x)
+      at : (o : Option ℕ) → (routed_for p s c o).0 ≡ Seized x → (code : ℕ) × (choice p s (exchange_of p c) code ≡ Some x)
       at None e = let bad : ⊥ = cc in absurd bad
-      at (Some code) e = test code (is_first c.hops && is_barred p (place_of p c) code) (home_of p code == place_of p c) e
+      at (Some code) e = test code (is_first c.hops && is_barred p (exchange_of p c) code) (home_of p code == exchange_of p c) e

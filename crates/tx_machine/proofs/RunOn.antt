@@ -10,7 +10,7 @@ use Rattle.tx_machine.specs.Step.{step, takes_memory}
 use Rattle.tx_machine.specs.Runs.{replies, state_after}
 use Rattle.tx_machine.specs.Driven.{StopsAt}
 
--- after the first events and the one at that place
+-- after the first events and the one at that index
 pub record IsOneMore (p : Plan) (s : State) (events : List Event) (at : ℕ) (e : Event) : Type 0 where
   pub replies : replies p s (take (suc at) events) ≡ replies p s (take at events) ++ (step p (state_after p s (take at events)) e).0 ∷ []
   pub state : state_after p s (take (suc at) events) ≡ (step p (state_after p s (take at events)) e).1

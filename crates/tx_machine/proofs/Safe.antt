@@ -22,7 +22,7 @@ use Rattle.tx_machine.specs.Members.{NoneTwice}
 use Rattle.tx_machine.specs.Lines.{lines_of}
 use Rattle.tx_machine.specs.Passed.{Joins}
 use Rattle.tx_machine.specs.Safe.{IsKeyedLine, IsOnlyLine, OfConnected, JoinsAndCarriesOnce, TakesPartOnce, FallsInRank, RanksFall, IsSafeCall, IsSafe}
-use Rattle.tx_machine.proofs.Lists.{any_none, none_any, any_mem, all_from_mem, places_differ}
+use Rattle.tx_machine.proofs.Lists.{any_none, none_any, any_mem, all_from_mem, indexes_differ}
 use Rattle.tx_machine.proofs.Steps.{all_mem}
 use Rattle.tx_machine.specs.inner.Invariant.{IsRising, Holds}
 use Rattle.tx_machine.proofs.Ranks.{AllRanked, few_transits, passed_once}
@@ -90,7 +90,7 @@ one_line p ok ranks limit spare cert l m hl hm e =
       | inl b ↦ cert.no_prefix l.code m.code c.0 d.0 c.1 d.1 (ap (λ x. is_prefix x d.0.figures) (sym fc) ∙ ap (is_prefix (figures_of p l.code)) (sym fd) ∙ b)
       | inr b ↦ sym (cert.no_prefix m.code l.code d.0 c.0 d.1 c.1 (ap (λ x. is_prefix x c.0.figures) (sym fd) ∙ ap (is_prefix (figures_of p m.code)) (sym fc) ∙ b))
     ] in
-    let code = places_differ (λ (c d : Code). c.figures ≡ d.figures) (λ _ _ e. sym e) p.codes ok.codes_differ l.code m.code c.0 d.0 c.1 d.1 figures in
+    let code = indexes_differ (λ (c d : Code). c.figures ≡ d.figures) (λ _ _ e. sym e) p.codes ok.codes_differ l.code m.code c.0 d.0 c.1 d.1 figures in
     let rest = same_rest (figures_of p l.code) l.national m.national (e ∙ ap (λ k. figures_of p k ++ m.national) (sym code)) in
     λ i. record { code = sym code i; national = sym rest i }
 

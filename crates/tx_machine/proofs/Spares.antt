@@ -18,7 +18,7 @@ use Rattle.tx_machine.specs.declared.event.Event.{Event}
 use Rattle.tx_machine.specs.declared.reply.Reply.{Reply}
 use Rattle.tx_machine.specs.declared.reply.Reply.TheVariants.{Answered, HeadOn}
 use Rattle.tx_machine.specs.declared.cause.Service.TheVariants.{Nc}
-use Rattle.tx_machine.specs.Call.{place_of}
+use Rattle.tx_machine.specs.Call.{exchange_of}
 use Rattle.tx_machine.specs.State.{State}
 use Rattle.tx_machine.specs.InUse.{is_down, is_free_at, first_free}
 use Rattle.tx_machine.specs.Excused.{IsTaken, FoundNone, IsExcused, IsExcusedTo, routed_call, FewDown, OthersFree, IsNcByCollision}
@@ -72,29 +72,29 @@ within p g x h = at (slice_get p.groups g) refl h
     at (Some r) e h = slice_get_within p.groups g r e
 
 -- a group that is taken is down, unless a circuit of it is free
-taken_down : (p : Plan) (s : State) (place g : ℕ) → IsTaken p s place g → (is_down s g ≡ false → is_some (first_free p s place g) ≡ true) → is_down s g ≡ true
-taken_down p s place g (inl down) free = down
-taken_down p s place g (inr none) free = at (is_down s g) free
+taken_down : (p : Plan) (s : State) (exchange g : ℕ) → IsTaken p s exchange g → (is_down s g ≡ false → is_some (first_free p s exchange g) ≡ true) → is_down s g ≡ true
+taken_down p s exchange g (inl down) free = down
+taken_down p s exchange g (inr none) free = at (is_down s g) free
   where
-    found : (o : Option Circuit) → find (is_free_at p s place) (circuits_at p g place) ≡ o → is_some o ≡ true → ⊥
+    found : (o : Option Circuit) → find (is_free_at p s exchange) (circuits_at p g exchange) ≡ o → is_some o ≡ true → ⊥
     found None e h = false≢true h
     found (Some x) e h =
-        let f = find_mem (is_free_at p s place) (circuits_at p g place) x e in
-        let i = group_at p g place x f.0 in
+        let f = find_mem (is_free_at p s exchange) (circuits_at p g exchange) x e in
+        let i = group_at p g exchange x f.0 in
         both_ways _ (none x i.1 i.0) f.1
 
-    at : (b : Bool) → (b ≡ false → is_some (if b then None else find (is_free_at p s place) (circuits_at p g place)) ≡ true) → b ≡ true
+    at : (b : Bool) → (b ≡ false → is_some (if b then None else find (is_free_at p s exchange) (circuits_at p g exchange)) ≡ true) → b ≡ true
     at true h = refl
     at false h = absurd (found _ refl (h refl))
 
 module _ (p : Plan) (ok : IsPlan p) (spare : ℕ) (s : State) (e : Event) (few : FewDown p s spare) (free : OthersFree p s e) where
   some_free : (n : ℕ) → routed_call e ≡ Some n → FoundNone p s spare n → ⊥
   some_free n q f =
-      let place = place_of p f.call in
-      let list = route_list p place f.code in
-      let down = counted (is_down s) (length p.groups) list (listed_once p ok place f.code) (λ g m.
-      let may = listed_may p ok place f.code g m in
-      (within p g place may, taken_down p s place g (all_mem (IsTaken p s place) list g f.taken.each m) (free n f.call q f.open' g may))) in
+      let exchange = exchange_of p f.call in
+      let list = route_list p exchange f.code in
+      let down = counted (is_down s) (length p.groups) list (listed_once p ok exchange f.code) (λ g m.
+      let may = listed_may p ok exchange f.code g m in
+      (within p g exchange may, taken_down p s exchange g (all_mem (IsTaken p s exchange) list g f.taken.each m) (free n f.call q f.open' g may))) in
       let many = f.taken.many in
       let up = few in
       omega arith

@@ -26,7 +26,7 @@ use Rattle.tx_machine.specs.declared.cause.Cause.TheVariants.{Service as ByServi
 use Rattle.tx_machine.specs.declared.refusal.Refusal.{Refusal}
 use Rattle.tx_machine.specs.declared.reply.Reply.{Reply}
 use Rattle.tx_machine.specs.declared.reply.Reply.TheVariants.{Answered}
-use Rattle.tx_machine.specs.Call.{Phase, Standing, Calling, Connected, Call, place_of, call_of, is_standing, is_numbered, is_first}
+use Rattle.tx_machine.specs.Call.{Phase, Standing, Calling, Connected, Call, exchange_of, call_of, is_standing, is_numbered, is_first}
 use Rattle.tx_machine.specs.State.{State}
 use Rattle.tx_machine.specs.InUse.{first_free, choice, seizes, seizes_from}
 use Rattle.tx_machine.specs.Lines.{is_engaged, line_answer}
@@ -77,8 +77,8 @@ code_begins p keyed i h = at (longest (codes_before p keyed)) refl h
         let m = filter_among (λ e. is_prefix e.1.figures keyed) d (enumerate_from 0 p.codes) (longest_among (codes_before p keyed) d e) in
         let r = enumerated 0 p.codes d m.0 in
         let same : d.0 ≡ i = cc in
-        let place : r.0 ≡ i = (let f = r.1 in omega arith) in
-        let row : slice_get p.codes i ≡ Some d.1 = subst (λ k. slice_get p.codes k ≡ Some d.1) place r.2 in
+        let index : r.0 ≡ i = (let f = r.1 in omega arith) in
+        let row : slice_get p.codes i ≡ Some d.1 = subst (λ k. slice_get p.codes k ≡ Some d.1) index r.2 in
         subst (λ o. is_prefix (option_map_or (λ c. c.figures) o []) keyed ≡ true) (sym row) m.1
 
 -- ROUTES
@@ -133,26 +133,26 @@ stands (Connected l) e = absurd (true≢false e)
 -- THE EVENTS
 module _ (p : Plan) (ok : IsPlan p) (s : State) (h : Holds p s) where
   module _ (c : Call) (m : Among c s.calls) where
-    line_keeps : (code : ℕ) → code_of p c.keyed ≡ Some code → (home_of p code == place_of p c) ≡ true → (o : Option Service) → line_answer p s (line_of p code c.keyed) ≡ o → Holds p (at_line p s c (line_of p code c.keyed) o).1
+    line_keeps : (code : ℕ) → code_of p c.keyed ≡ Some code → (home_of p code == exchange_of p c) ≡ true → (o : Option Service) → line_answer p s (line_of p code c.keyed) ≡ o → Holds p (at_line p s c (line_of p code c.keyed) o).1
     line_keeps code e here None a =
         let f = free_line p s (line_of p code c.keyed) a in
         connect_keeps p s h c m (line_of p code c.keyed) (record { known = f.0; at_home = sym (eqb-true _ _ here); keyed = prefix-is (figures_of p code) c.keyed (code_begins p c.keyed code e) }) f.1
     line_keeps code e here (Some service) a = end_keeps p s h (ByService service) (is_numbered c.number)
 
-    trunk_keeps : (code : ℕ) → c.phase ≡ Standing → (o : Option Circuit) → choice p s (place_of p c) code ≡ o → Holds p (at_trunk p s c o).1
+    trunk_keeps : (code : ℕ) → c.phase ≡ Standing → (o : Option Circuit) → choice p s (exchange_of p c) code ≡ o → Holds p (at_trunk p s c o).1
     trunk_keeps code stands None a = end_keeps p s h (ByService Nc) (is_numbered c.number)
     trunk_keeps code stands (Some x) a =
-        let r = first_in-is (first_free p s (place_of p c)) (route_list p (place_of p c) code) x a in
-        let f = chosen p s (place_of p c) r.0 x r.2 in
-        let to = listed_leads p ok (place_of p c) code r.0 r.1 in
-        seize_keeps p s h c m x to.0 stands f.planned (ap (λ g. other_end p g (place_of p c)) f.group ∙ to.1) f.free
+        let r = first_in-is (first_free p s (exchange_of p c)) (route_list p (exchange_of p c) code) x a in
+        let f = chosen p s (exchange_of p c) r.0 x r.2 in
+        let to = listed_leads p ok (exchange_of p c) code r.0 r.1 in
+        seize_keeps p s h c m x to.0 stands f.planned (ap (λ g. other_end p g (exchange_of p c)) f.group ∙ to.1) f.free
 
     route_keeps : c.phase ≡ Standing → (o : Option ℕ) → code_of p c.keyed ≡ o → Holds p (routed_for p s c o).1
     route_keeps stands None e = end_keeps p s h (ByService Np) (is_numbered c.number)
     route_keeps stands (Some code) e =
-        elim (is_first c.hops && is_barred p (place_of p c) code) as (λ b. Holds p (if b then answer Na else if home_of p code == place_of p c then line else trunk).1) [
+        elim (is_first c.hops && is_barred p (exchange_of p c) code) as (λ b. Holds p (if b then answer Na else if home_of p code == exchange_of p c then line else trunk).1) [
           | true ↦ end_keeps p s h (ByService Na) (is_numbered c.number)
-          | false ↦ elim (home_of p code == place_of p c) as (λ b. (home_of p code == place_of p c) ≡ b → Holds p (if b then line else trunk).1) [
+          | false ↦ elim (home_of p code == exchange_of p c) as (λ b. (home_of p code == exchange_of p c) ≡ b → Holds p (if b then line else trunk).1) [
             | true ↦ λ here. line_keeps code e here _ refl
             | false ↦ λ away. trunk_keeps code stands _ refl
           ] refl
@@ -165,7 +165,7 @@ module _ (p : Plan) (ok : IsPlan p) (s : State) (h : Holds p s) where
         line = at_line p s c (line_of p code c.keyed) (line_answer p s (line_of p code c.keyed))
 
         trunk : Reply × State
-        trunk = at_trunk p s c (choice p s (place_of p c) code)
+        trunk = at_trunk p s c (choice p s (exchange_of p c) code)
 
     meet_keeps : (x : Circuit) → c.phase ≡ Calling x → (o : Option Call) → rival p s c x ≡ o → Holds p (confirmed_by p s c x o).1
     meet_keeps x calls None e =
@@ -174,7 +174,7 @@ module _ (p : Plan) (ok : IsPlan p) (s : State) (h : Holds p s) where
     meet_keeps x calls (Some d) e =
         let r = find_mem (λ d. not (d.number == c.number) && seizes_from p d x (far_of p c x)) s.calls d e in
         let t = and_parts (not (d.number == c.number)) (seizes_from p d x (far_of p c x)) r.1 in
-        end_keeps p (collide c.number d.number x s) (collide_keeps p s h c d m r.0 x (eqb-false _ _ (not-true _ t.0)) calls (calling_on d.phase x (and_parts (seizes d x) (place_of p d == far_of p c x) t.1).0)) (ByService Nc) (second_time c d)
+        end_keeps p (collide c.number d.number x s) (collide_keeps p s h c d m r.0 x (eqb-false _ _ (not-true _ t.0)) calls (calling_on d.phase x (and_parts (seizes d x) (exchange_of p d == far_of p c x) t.1).0)) (ByService Nc) (second_time c d)
 
     confirm_keeps : (phase : Phase) → c.phase ≡ phase → Holds p (confirmed p s c phase).1
     confirm_keeps Standing e = h

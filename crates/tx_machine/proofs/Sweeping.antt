@@ -11,7 +11,7 @@ use Rattle.tx_machine.specs.declared.open_call.OpenCall.{OpenCall}
 use Rattle.tx_machine.specs.declared.plain.changing.Change.{Change}
 use Rattle.tx_machine.proofs.Sweeps.{step_seen, mem_set, mem_take_set}
 
--- the calls up to a place have room for a hop
+-- the calls up to an index have room for a hop
 pub record IsReserving {A : Type 0} (n : ℕ) (old : List (OpenCall A)) (at : ℕ) (now : List (OpenCall A)) : Type 0 where
   pub seen : map call_seen now ≡ map call_seen old
   pub len : length now ≡ length old
@@ -19,7 +19,7 @@ pub record IsReserving {A : Type 0} (n : ℕ) (old : List (OpenCall A)) (at : �
   pub ready : (c : OpenCall A) → Among c (take at now) → IsReady n c
   pub within : at ≤ length now
 
--- the calls up to a place are changed
+-- the calls up to an index are changed
 pub record IsChanging {A : Type 0} (n : ℕ) (change : Change) (old : List (OpenCall A)) (at : ℕ) (now : List (OpenCall A)) : Type 0 where
   pub seen : map call_seen (take at now) ++ map (change_at n (changed change)) (map call_seen (drop at now)) ≡ map (change_at n (changed change)) (map call_seen old)
   pub len : length now ≡ length old

@@ -43,7 +43,7 @@ drop_taken [] (suc i) = refl
 drop_taken (x ∷ xs) zero = refl
 drop_taken (x ∷ xs) (suc i) = drop_taken xs i
 
--- what stands at a place does not hang on what stands for nothing
+-- what stands at an index does not hang on what stands for nothing
 pub one_read : {X : Type 0} (xs : List X) (i : ℕ) (x y : X) → i < length xs → x ≡ get_or xs i x → y ≡ get_or xs i y → x ≡ y
 one_read [] i x y h e f = absurd (omega arith)
 one_read (z ∷ zs) zero x y h e f = e ∙ sym f

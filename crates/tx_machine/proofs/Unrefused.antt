@@ -22,7 +22,7 @@ use Rattle.tx_machine.specs.declared.open_call.Phase.{Phase}
 use Rattle.tx_machine.specs.declared.open_call.Phase.TheVariants.{Standing, Calling, Connected}
 use Rattle.tx_machine.specs.declared.refusal.Refusal.{Refusal}
 use Rattle.tx_machine.specs.declared.refusal.Refusal.TheVariants.{Exhausted}
-use Rattle.tx_machine.specs.Call.{Call, call_of, is_standing, is_calling, is_first, place_of}
+use Rattle.tx_machine.specs.Call.{Call, call_of, is_standing, is_calling, is_first, exchange_of}
 use Rattle.tx_machine.specs.Lines.{is_engaged, line_answer}
 use Rattle.tx_machine.specs.InUse.{choice}
 use Rattle.tx_machine.specs.Ending.{answered}
@@ -95,12 +95,12 @@ module _ (p : Plan) (s : State) where
 
   route : (c : Call) (o : Option ℕ) → (routed_for p s c o).1.events ≡ s.events
   route c None = refl
-  route c (Some code) = by (is_first c.hops && is_barred p (place_of p c) code) (home_of p code == place_of p c)
+  route c (Some code) = by (is_first c.hops && is_barred p (exchange_of p c) code) (home_of p code == exchange_of p c)
     where
-      by : (z h : Bool) → (if z then answered p c.number Na s else if h then at_line p s c (line_of p code c.keyed) (line_answer p s (line_of p code c.keyed)) else at_trunk p s c (choice p s (place_of p c) code)).1.events ≡ s.events
+      by : (z h : Bool) → (if z then answered p c.number Na s else if h then at_line p s c (line_of p code c.keyed) (line_answer p s (line_of p code c.keyed)) else at_trunk p s c (choice p s (exchange_of p c) code)).1.events ≡ s.events
       by true h = refl
       by false true = line c (line_of p code c.keyed) (line_answer p s (line_of p code c.keyed))
-      by false false = trunk c (choice p s (place_of p c) code)
+      by false false = trunk c (choice p s (exchange_of p c) code)
 
   meet : (c : Call) (x : Circuit) (o : Option Call) → (confirmed_by p s c x o).1.events ≡ s.events
   meet c x None = refl

@@ -14,7 +14,7 @@ use Rattle.tx_plan.specs.declared.ids.Circuit.{Circuit}
 use Rattle.tx_plan.specs.declared.ids.Line.{Line}
 use Rattle.tx_plan.proofs.Among.{among_cases, map_among}
 use Rattle.tx_machine.specs.declared.open_call.Hop.{Hop}
-use Rattle.tx_machine.specs.Call.{Phase, Standing, Calling, Connected, Call, last_exchange, place_of, lines_called}
+use Rattle.tx_machine.specs.Call.{Phase, Standing, Calling, Connected, Call, last_exchange, exchange_of, lines_called}
 use Rattle.tx_machine.specs.State.{State}
 use Rattle.tx_machine.specs.InUse.{circuits_carried, carries, is_calling_on, seizes, seizes_from, is_free_at, is_down, first_free, first_in}
 use Rattle.tx_machine.specs.Lines.{is_connected_to, takes_part, lines_of}
@@ -47,20 +47,20 @@ not_taking c l n (inr m) = connected c.phase (or_parts (same_line c.line l) (is_
     connected (Connected k) n (inr m) = m
 
 -- a circuit that an exchange sees as free
-pub record IsFree (p : Plan) (s : State) (place : ℕ) (x : Circuit) : Type 0 where
+pub record IsFree (p : Plan) (s : State) (exchange : ℕ) (x : Circuit) : Type 0 where
   pub carried : (c : Call) → Among c s.calls → Among x (circuits_carried c) → ⊥
   pub releasing : set.contains s.releasing x ≡ true → ⊥
-  pub seized : (c : Call) → Among c s.calls → c.phase ≡ Calling x → place_of p c ≡ place → ⊥
+  pub seized : (c : Call) → Among c s.calls → c.phase ≡ Calling x → exchange_of p c ≡ exchange → ⊥
 
-pub is_free : (p : Plan) (s : State) (place : ℕ) (x : Circuit) → is_free_at p s place x ≡ true → IsFree p s place x
-is_free p s place x h =
+pub is_free : (p : Plan) (s : State) (exchange : ℕ) (x : Circuit) → is_free_at p s exchange x ≡ true → IsFree p s exchange x
+is_free p s exchange x h =
     let a = and_parts (not (list_any (λ c. carries c x) s.calls)) _ h in
     let b = and_parts (not (set.contains s.releasing x)) _ a.1 in
     let d = and_parts (not (set.contains s.out x)) _ b.1 in
     record {
       carried = λ c m. not_carried c x (none_any (λ c. carries c x) s.calls c (not-true _ a.0) m);
       releasing = both_ways _ (not-true _ b.0);
-      seized = λ c m e at. both_ways _ (none_any (λ c. seizes_from p c x place) s.calls c (not-true _ d.1) m)
+      seized = λ c m e at. both_ways _ (none_any (λ c. seizes_from p c x exchange) s.calls c (not-true _ d.1) m)
           (and_from _ _ (ap (λ phase. is_calling_on phase x) e ∙ same_circuit-itself x) (eq-eqb _ _ at));
     }
 
@@ -89,30 +89,30 @@ in_order false (suc k) n (inl e) = (omega arith, omega arith)
 in_order false (suc k) n (inr m) = let r = in_order false k n m in (r.0, let q = r.1 in omega arith)
 
 -- the circuits of a group are circuits of the plan
-pub group_at : (p : Plan) (g place : ℕ) (x : Circuit) → Among x (circuits_at p g place) → (x.group ≡ g) × (is_circuit p x ≡ true)
-group_at p g place x m = at (slice_get p.groups g) refl m
+pub group_at : (p : Plan) (g exchange : ℕ) (x : Circuit) → Among x (circuits_at p g exchange) → (x.group ≡ g) × (is_circuit p x ≡ true)
+group_at p g exchange x m = at (slice_get p.groups g) refl m
   where
-    at : (o : Option Group) → slice_get p.groups g ≡ o → Among x (option_map_or (λ (r : Group). map (λ n. record { group = g; number = n }) (order_at r place)) o []) → (x.group ≡ g) × (is_circuit p x ≡ true)
+    at : (o : Option Group) → slice_get p.groups g ≡ o → Among x (option_map_or (λ (r : Group). map (λ n. record { group = g; number = n }) (order_at r exchange)) o []) → (x.group ≡ g) × (is_circuit p x ≡ true)
     at None e m = elim m [ ]
     at (Some r) e m =
-        let q = map_among (λ n. record { group = g; number = n }) x (order_at r place) m in
-        let i = in_order (r.a == place) r.count q.0 q.1 in
+        let q = map_among (λ n. record { group = g; number = n }) x (order_at r exchange) m in
+        let i = in_order (r.a == exchange) r.count q.0 q.1 in
         (ap (λ (y : Circuit). y.group) (sym q.2), subst (λ y. is_circuit p y ≡ true) q.2 (ap (λ o. option_map_or (λ (r : Group). nat_le 1 q.0 && nat_le q.0 r.count) o false) e ∙ and_from (nat_le 1 q.0) (nat_le q.0 r.count) (le-leb 1 q.0 i.0) (le-leb q.0 r.count i.1)))
 
 -- a circuit that an exchange may choose
-pub record IsChosen (p : Plan) (s : State) (place g : ℕ) (x : Circuit) : Type 0 where
+pub record IsChosen (p : Plan) (s : State) (exchange g : ℕ) (x : Circuit) : Type 0 where
   pub group : x.group ≡ g
   pub planned : is_circuit p x ≡ true
-  pub free : IsFree p s place x
+  pub free : IsFree p s exchange x
 
-pub chosen : (p : Plan) (s : State) (place g : ℕ) (x : Circuit) → first_free p s place g ≡ Some x → IsChosen p s place g x
-chosen p s place g x h =
-    elim (is_down s g) as (λ b. (if b then None else find (is_free_at p s place) (circuits_at p g place)) ≡ Some x → IsChosen p s place g x) [
+pub chosen : (p : Plan) (s : State) (exchange g : ℕ) (x : Circuit) → first_free p s exchange g ≡ Some x → IsChosen p s exchange g x
+chosen p s exchange g x h =
+    elim (is_down s g) as (λ b. (if b then None else find (is_free_at p s exchange) (circuits_at p g exchange)) ≡ Some x → IsChosen p s exchange g x) [
       | true ↦ λ e. let bad : ⊥ = cc in absurd bad
       | false ↦ λ e.
-          let r = find_mem (is_free_at p s place) (circuits_at p g place) x e in
-          let q = group_at p g place x r.0 in
-          record { group = q.0; planned = q.1; free = is_free p s place x r.1 }
+          let r = find_mem (is_free_at p s exchange) (circuits_at p g exchange) x e in
+          let q = group_at p g exchange x r.0 in
+          record { group = q.0; planned = q.1; free = is_free p s exchange x r.1 }
     ] h
 
 -- ends of a group

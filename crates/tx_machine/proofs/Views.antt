@@ -31,7 +31,7 @@ any_filter t u (x ∷ xs) =
       | false ↦ any_filter t u xs
     ]
 
--- calls that end, up to a place in the list
+-- calls that end, up to an index in the list
 pub record IsEnding {A : Type 0} (p : Plan) (cause : Cause) (event : ℕ) (ends : Ends) (calls : List (OpenCall A)) (tickets : List Ended) (at : ℕ) (now : Vec (OpenCall A) A) (made : Vec Ended A) : Type 0 where
   pub kept : take at now.items ++ filter (λ c. not (ends_by ends (call_seen c))) (drop at now.items) ≡ filter (λ c. not (ends_by ends (call_seen c))) calls
   pub ended : made.items ++ map (ticket_of p cause event) (filter (ends_by ends) (map call_seen (drop at now.items))) ≡ tickets ++ map (ticket_of p cause event) (filter (ends_by ends) (map call_seen calls))

@@ -25,7 +25,7 @@ use Rattle.tx_machine.specs.Step.{keyed_call}
 use Rattle.tx_machine.specs.InUse.{circuits_used, circuits_carried, seizes}
 use Rattle.tx_machine.specs.Routing.{set_call}
 use Rattle.tx_machine.specs.Ending.{given_up}
-use Rattle.tx_machine.proofs.Lists.{find_mem, at_place}
+use Rattle.tx_machine.proofs.Lists.{find_mem, at_index}
 use Rattle.tx_machine.specs.inner.Marks.{Circuits, HasMark}
 use Rattle.tx_machine.specs.inner.Marked.{AreFor}
 use Rattle.tx_machine.specs.declared.plain.marks.Marks.{Marks}
@@ -47,7 +47,7 @@ circuit_marked p ok x h = at (slice_get p.groups x.group) refl h
     at None e h = absurd (false≢true h)
     at (Some r) e h =
         let t = and_parts (nat_le 1 x.number) (nat_le x.number r.count) h in
-        let few = (at_place (IsGroup p) p.groups ok.groups x.group r e).few in
+        let few = (at_index (IsGroup p) p.groups ok.groups x.group r e).few in
         let last = at_least x.number r.count t.1 in
         record { group = slice_get_within p.groups x.group r e; first = at_least 1 x.number t.0; last = omega arith }
 

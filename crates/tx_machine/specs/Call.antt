@@ -67,8 +67,8 @@ abbrev pub start_of : Plan → Call → ℕ
 start_of p c = home_of p c.line.code
 
 -- it stands at the far exchange of its last hop, or where it started
-abbrev pub place_of : Plan → Call → ℕ
-place_of p c = last_exchange (start_of p c) c.hops
+abbrev pub exchange_of : Plan → Call → ℕ
+exchange_of p c = last_exchange (start_of p c) c.hops
 
 -- it has gone over no circuit
 abbrev pub is_first : List Hop → Bool

@@ -9,7 +9,7 @@ use Rattle.tx_machine.specs.declared.refusal.Refusal.TheVariants.{NotCalling}
 use Rattle.tx_machine.specs.declared.reply.Reply.{Reply}
 use Rattle.tx_machine.specs.declared.reply.Reply.TheVariants.{At, HeadOn, Refused}
 use Rattle.tx_machine.specs.declared.cause.Service.TheVariants.{Nc}
-use Rattle.tx_machine.specs.Call.{Call, Phase, Standing, Calling, Connected, place_of, is_numbered}
+use Rattle.tx_machine.specs.Call.{Call, Phase, Standing, Calling, Connected, exchange_of, is_numbered}
 use Rattle.tx_machine.specs.State.{State}
 use Rattle.tx_machine.specs.InUse.{seizes_from}
 use Rattle.tx_machine.specs.Ending.{end_calls}
@@ -17,7 +17,7 @@ use Rattle.tx_machine.specs.Routing.{set_call}
 
 -- the exchange that a circuit leads to from where the call stands
 abbrev pub far_of : Plan → Call → Circuit → ℕ
-far_of p c x = unwrap_or (other_end p x.group (place_of p c)) 0
+far_of p c x = unwrap_or (other_end p x.group (exchange_of p c)) 0
 
 -- the call goes on over the circuit, and stands at its far exchange without collisions there
 abbrev pub carried_on : Circuit → ℕ → Call → Call

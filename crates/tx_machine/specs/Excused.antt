@@ -12,19 +12,19 @@ use Rattle.tx_machine.specs.declared.reply.Reply.{Reply}
 use Rattle.tx_machine.specs.declared.reply.Reply.TheVariants.{Answered, HeadOn}
 use Rattle.tx_machine.specs.declared.cause.Service.{Service}
 use Rattle.tx_machine.specs.declared.cause.Service.TheVariants.{Nc}
-use Rattle.tx_machine.specs.Call.{Call, call_of, place_of}
+use Rattle.tx_machine.specs.Call.{Call, call_of, exchange_of}
 use Rattle.tx_machine.specs.State.{State}
 use Rattle.tx_machine.specs.InUse.{is_down, is_free_at, first_free}
 
 -- the group is down, or has no circuit free at the exchange
 abbrev pub IsTaken : Plan → State → ℕ → ℕ → Type 0
-IsTaken p s place g = (is_down s g ≡ true)
-    ⊎ ((x : Circuit) → is_circuit p x ≡ true → x.group ≡ g → is_free_at p s place x ≡ false)
+IsTaken p s exchange g = (is_down s g ≡ true)
+    ⊎ ((x : Circuit) → is_circuit p x ≡ true → x.group ≡ g → is_free_at p s exchange x ≡ false)
 
 -- the list of an exchange for a code has more groups than spare, and each is taken
-pub record AllTaken (p : Plan) (s : State) (spare place code : ℕ) : Type 0 where
-  pub many : spare < length (route_list p place code)
-  pub each : AllByRecursion (IsTaken p s place) (route_list p place code)
+pub record AllTaken (p : Plan) (s : State) (spare exchange code : ℕ) : Type 0 where
+  pub many : spare < length (route_list p exchange code)
+  pub each : AllByRecursion (IsTaken p s exchange) (route_list p exchange code)
 
 -- the call of the number had collided at the exchange where it stood
 pub record HadCollided (s : State) (n : ℕ) : Type 0 where
@@ -38,7 +38,7 @@ pub record FoundNone (p : Plan) (s : State) (spare n : ℕ) : Type 0 where
   pub open' : call_of n s.calls ≡ Some call
   pub code : ℕ
   pub keyed : code_of p call.keyed ≡ Some code
-  pub taken : AllTaken p s spare (place_of p call) code
+  pub taken : AllTaken p s spare (exchange_of p call) code
 
 -- the call that an event routes
 abbrev pub routed_call : Event → Option ℕ
@@ -74,5 +74,5 @@ FewDown p s spare = count_by (is_down s) (range_with_len 0 (length p.groups)) �
 -- free there
 abbrev pub OthersFree : Plan → State → Event → Type 0
 OthersFree p s e = (n : ℕ) (c : Call) → routed_call e ≡ Some n
-    → call_of n s.calls ≡ Some c → (g : ℕ) → may_seize p g (place_of p c) ≡ true
-    → is_down s g ≡ false → is_some (first_free p s (place_of p c) g) ≡ true
+    → call_of n s.calls ≡ Some c → (g : ℕ) → may_seize p g (exchange_of p c) ≡ true
+    → is_down s g ≡ false → is_some (first_free p s (exchange_of p c) g) ≡ true

@@ -7,7 +7,7 @@ use Rattle.tx_plan.specs.Plan.{Plan}
 use Rattle.tx_plan.specs.Routes.{route_list}
 use Rattle.tx_plan.specs.Circuits.{circuits_at}
 use Rattle.tx_plan.specs.declared.ids.Circuit.{Circuit}
-use Rattle.tx_machine.specs.Call.{Call, Phase, Standing, Calling, Connected, circuit_called, place_of}
+use Rattle.tx_machine.specs.Call.{Call, Phase, Standing, Calling, Connected, circuit_called, exchange_of}
 use Rattle.tx_machine.specs.State.{State}
 
 -- a call carries the circuits of its hops
@@ -30,7 +30,7 @@ seizes c x = is_calling_on c.phase x
 
 -- it has seized the circuit from the exchange where it stands
 abbrev pub seizes_from : Plan → Call → Circuit → ℕ → Bool
-seizes_from p c x place = seizes c x && (place_of p c == place)
+seizes_from p c x exchange = seizes c x && (exchange_of p c == exchange)
 
 -- the circuits that a call carries, and the one that it has seized
 abbrev pub circuits_used : Call → List Circuit
@@ -43,8 +43,9 @@ uses_group g c = list_any (λ x. x.group == g) (circuits_used c)
 -- Free at an exchange: no call carries the circuit, it is not releasing, it is not out, and no call
 -- has seized it from there. A seizure from the other end is not seen.
 abbrev pub is_free_at : Plan → State → ℕ → Circuit → Bool
-is_free_at p s place x = not (list_any (λ c. carries c x) s.calls) && (not (set.contains s.releasing
-    x) && (not (set.contains s.out x) && not (list_any (λ c. seizes_from p c x place) s.calls)))
+is_free_at p s exchange x =
+    not (list_any (λ c. carries c x) s.calls) && (not (set.contains s.releasing x)
+    && (not (set.contains s.out x) && not (list_any (λ c. seizes_from p c x exchange) s.calls)))
 
 -- a group is down if it is failed or blocked
 abbrev pub is_down : State → ℕ → Bool
@@ -53,8 +54,8 @@ is_down s g = set.contains s.failed g || set.contains s.blocked g
 -- the circuit of a group that an exchange would seize: none of a group that is down, else the first
 -- in its order that is free there
 abbrev pub first_free : Plan → State → ℕ → ℕ → Option Circuit
-first_free p s place g = if is_down s g then None
-    else find (is_free_at p s place) (circuits_at p g place)
+first_free p s exchange g = if is_down s g then None
+    else find (is_free_at p s exchange) (circuits_at p g exchange)
 
 -- the circuit of the first of some groups that has one
 abbrev pub first_in : (ℕ → Option Circuit) → List ℕ → Option Circuit
@@ -63,4 +64,4 @@ first_in look (g ∷ gs) = if is_some (look g) then look g else first_in look gs
 
 -- the circuit that an exchange chooses for a code: of the first group of its list that has one
 abbrev pub choice : Plan → State → ℕ → ℕ → Option Circuit
-choice p s place code = first_in (first_free p s place) (route_list p place code)
+choice p s exchange code = first_in (first_free p s exchange) (route_list p exchange code)

@@ -9,7 +9,7 @@ use Rattle.tx_machine.specs.declared.reply.Reply.{Reply}
 use Rattle.tx_machine.specs.declared.reply.Reply.TheVariants.{Seized, Connected as ConnectedTo}
 use Rattle.tx_machine.specs.declared.cause.Service.{Service}
 use Rattle.tx_machine.specs.declared.cause.Service.TheVariants.{Nc, Np, Na}
-use Rattle.tx_machine.specs.Call.{Call, Phase, Calling, Connected, place_of, is_first}
+use Rattle.tx_machine.specs.Call.{Call, Phase, Calling, Connected, exchange_of, is_first}
 use Rattle.tx_machine.specs.State.{State}
 use Rattle.tx_machine.specs.InUse.{choice}
 use Rattle.tx_machine.specs.Lines.{line_answer}
@@ -47,9 +47,11 @@ line_of p code keyed = record {
 -- exchange barred for the code, is answered NA.
 abbrev pub routed_for : Plan → State → Call → Option ℕ → Reply × State
 routed_for p s c None = answered p c.number Np s
-routed_for p s c (Some code) = if is_first c.hops && is_barred p (place_of p c) code then answered p
-    c.number Na s else if home_of p code == place_of p c then at_line p s c (line_of p code c.keyed)
-    (line_answer p s (line_of p code c.keyed)) else at_trunk p s c (choice p s (place_of p c) code)
+routed_for p s c (Some code) =
+    if is_first c.hops && is_barred p (exchange_of p c) code then answered p c.number Na s
+    else if home_of p code == exchange_of p c then at_line p s c (line_of p code c.keyed)
+    (line_answer p s (line_of p code c.keyed))
+    else at_trunk p s c (choice p s (exchange_of p c) code)
 
 -- a call is routed by the longest code that begins the keyed figures
 abbrev pub routed : Plan → State → Call → Reply × State

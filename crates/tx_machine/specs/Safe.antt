@@ -8,7 +8,7 @@ use Rattle.tx_plan.specs.Lines.{is_line, full_number}
 use Rattle.tx_plan.specs.Codes.{code_of}
 use Rattle.tx_plan.specs.declared.ids.Line.{Line}
 use Rattle.tx_machine.specs.Members.{NoneTwice}
-use Rattle.tx_machine.specs.Call.{Call, Phase, Standing, Calling, Connected, start_of, place_of}
+use Rattle.tx_machine.specs.Call.{Call, Phase, Standing, Calling, Connected, start_of, exchange_of}
 use Rattle.tx_machine.specs.State.{State}
 use Rattle.tx_machine.specs.InUse.{circuits_carried}
 use Rattle.tx_machine.specs.Lines.{lines_of}
@@ -17,7 +17,7 @@ use Rattle.tx_machine.specs.Passed.{Joins, Falls, passed, transits}
 -- the line of the plan whose full number was keyed, and the call stands at its home
 pub record IsKeyedLine (p : Plan) (c : Call) (l : Line) : Type 0 where
   pub known : is_line p l ≡ true
-  pub at_home : place_of p c ≡ home_of p l.code
+  pub at_home : exchange_of p c ≡ home_of p l.code
   pub keyed : full_number p l ≡ c.keyed
 
 -- no other line of the plan has the full number that was keyed

@@ -10,7 +10,7 @@ ghost use Rattle.tx_machine.specs.Routing.{at_line, line_of, routed};
 ghost use Rattle.tx_machine.specs.Seen.{call_seen};
 ghost use Rattle.tx_machine.specs.inner.Decided.{carried_out};
 
-use crate::{Facts, OpenCall, Service, place_of};
+use crate::{Facts, OpenCall, Service, exchange_of};
 use tx_plan::{Circuit, CodeId, ExchangeId, Line, National};
 
 /// What becomes of a call that is routed.
@@ -34,7 +34,7 @@ pub fn decide<N: Facts>(network: &N, call: &OpenCall<N::A>) -> Decision
     let Some(code) = network.code_of(keyed) else {
         return Decision::Answer(Service::Np);
     };
-    let here = place_of(plan, call);
+    let here = exchange_of(plan, call);
     if call.hops.is_empty() && plan.is_barred(here, code) {
         return Decision::Answer(Service::Na);
     }

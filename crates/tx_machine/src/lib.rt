@@ -29,7 +29,7 @@ pub use headline::{
     ranks_fall, routes_are_bounded, spare_groups_suffice, tickets_are_appended,
 };
 pub use network::Network;
-pub use open_call::{Hop, OpenCall, Party, Phase, far_of, place_of};
+pub use open_call::{Hop, OpenCall, Party, Phase, exchange_of, far_of};
 pub use path::Path;
 pub use plain::Plain;
 pub use refusal::Refusal;

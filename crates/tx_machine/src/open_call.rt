@@ -1,6 +1,6 @@
 // Open calls: what is kept of a call, and where it is.
 ghost use Rattle.std.specs.Prelude.{◌≡◌};
-ghost use Rattle.tx_machine.specs.Call.{is_standing, is_calling, is_connected, place_of};
+ghost use Rattle.tx_machine.specs.Call.{is_standing, is_calling, is_connected, exchange_of};
 ghost use Rattle.tx_machine.specs.Confirming.{far_of};
 ghost use Rattle.tx_machine.specs.Seen.{call_seen};
 
@@ -72,15 +72,15 @@ pub struct OpenCall<A: Allocator = Global> {
     pub collided: bool,
     /// What it waits for.
     pub phase: Phase,
-    /// The event by which the figures were keyed, by its place among the accepted events, from 1.
+    /// The event by which the figures were keyed, by its number among the accepted events, from 1.
     pub keyed_at: u64,
     /// The hops so far.
     pub hops: Vec<Hop, A>,
 }
 
 /// Where the call stands.
-pub fn place_of<A: Allocator>(plan: &Plan<A>, call: &OpenCall<A>) -> ExchangeId
-    ensures { result ≡ place_of plan.now (call_seen call.now) }
+pub fn exchange_of<A: Allocator>(plan: &Plan<A>, call: &OpenCall<A>) -> ExchangeId
+    ensures { result ≡ exchange_of plan.now (call_seen call.now) }
 {
     match call.hops.last() {
         Some(hop) => hop.far,
@@ -92,7 +92,7 @@ pub fn place_of<A: Allocator>(plan: &Plan<A>, call: &OpenCall<A>) -> ExchangeId
 pub fn far_of<A: Allocator>(plan: &Plan<A>, call: &OpenCall<A>, circuit: &Circuit) -> ExchangeId
     ensures { result ≡ far_of plan.now (call_seen call.now) circuit.now }
 {
-    match plan.other_end(circuit.group, place_of(plan, call)) {
+    match plan.other_end(circuit.group, exchange_of(plan, call)) {
         Some(far) => far,
         None => ExchangeId::of(0),
     }

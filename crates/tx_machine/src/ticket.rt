@@ -19,9 +19,9 @@ pub struct Ticket<A: Allocator = Global> {
     pub keyed: Figures,
     /// Why the call ended.
     pub cause: Cause,
-    /// The event by which the line called, by its place among the accepted events, from 1.
+    /// The event by which the line called, by its number among the accepted events, from 1.
     pub keyed_at: u64,
-    /// The event by which the call ended, by its place likewise.
+    /// The event by which the call ended, by its number likewise.
     pub ended_at: u64,
     /// The circuits that the call carried, and where they led.
     pub path: Path<A>,

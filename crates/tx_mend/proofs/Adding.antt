@@ -13,12 +13,12 @@ use Rattle.tx_plan.specs.Routes.{route_list}
 use Rattle.tx_plan.specs.Declaring.{has_route}
 use Rattle.tx_plan.specs.Among.{Among}
 use Rattle.tx_plan.proofs.Among.{among_left, among_cases, map_among, filter_among, flat_among}
-use Rattle.tx_mend.specs.LeastRanks.{places}
+use Rattle.tx_mend.specs.LeastRanks.{indexes}
 use Rattle.tx_mend.specs.inner.Pairs.{present_pairs, pairs_for, is_absent, absent_below}
 use Rattle.tx_mend.proofs.Distinct.{range_among}
 use Rattle.tx_rank.proofs.Ways.{all_among}
 use Rattle.tx_mend.proofs.Least.{list_cases, found_among}
-use Rattle.tx_mend.proofs.Placed.{places_more, flat_more}
+use Rattle.tx_mend.proofs.Placed.{indexes_more, flat_more}
 use Rattle.tx_mend.proofs.Routed.{Apart, routed, route_of, has_any, any_has, pair_within, pairs_apart}
 
 abbrev at : ℕ → ℕ → Route → Bool
@@ -67,7 +67,7 @@ module _ (p : Plan) (ok : IsPlan p) where
   fronts_apart = front (present_pairs p) (filter (is_absent p) (all_of p)) (pairs_apart p ok)
     where
       all_of : Plan → List (ℕ × ℕ)
-      all_of q = flat_map (pairs_for (length q.exchanges)) (places (length q.codes))
+      all_of q = flat_map (pairs_for (length q.exchanges)) (indexes (length q.codes))
 
       front : (xs ys : List (ℕ × ℕ)) → EachPair Apart (xs ++ ys) → EachPair Apart xs
       front [] ys d = tt
@@ -125,7 +125,7 @@ module _ (p : Plan) (ok : IsPlan p) where
     so_far = present_pairs p ++ (absent_below p c ++ filter (is_absent p) (pairs_for i c))
 
     row_more : pairs_for (i + 1) c ≡ pairs_for i c ++ (i, c) ∷ []
-    row_more = ap (map (λ (x : ℕ). (x, c))) (places_more i) ∙ map-append (λ (x : ℕ). (x, c)) (places i) (i ∷ [])
+    row_more = ap (map (λ (x : ℕ). (x, c))) (indexes_more i) ∙ map-append (λ (x : ℕ). (x, c)) (indexes i) (i ∷ [])
 
     pub absent_fresh : is_absent p (i, c) ≡ true → list_any (at i c) (flat_map (routed lists) so_far) ≡ false
     absent_fresh h = fresh lists so_far i c (λ k m a b. elim (among_cases k (present_pairs p) (absent_below p c ++ filter (is_absent p) (pairs_for i c)) m) [
@@ -134,12 +134,12 @@ module _ (p : Plan) (ok : IsPlan p) where
           let none = not-true (has_route p i c) h in
           let bad : ⊥ = cc in bad)
       | inr l ↦ elim (among_cases k (absent_below p c) (filter (is_absent p) (pairs_for i c)) l) [
-        | inl n ↦ (let f = flat_among (pairs_for (length p.exchanges)) k (places c) (filter_among (is_absent p) k (flat_map (pairs_for (length p.exchanges)) (places c)) n).0 in
-            let r = map_among (λ (x : ℕ). (x, f.0)) k (places (length p.exchanges)) f.2 in
+        | inl n ↦ (let f = flat_among (pairs_for (length p.exchanges)) k (indexes c) (filter_among (is_absent p) k (flat_map (pairs_for (length p.exchanges)) (indexes c)) n).0 in
+            let r = map_among (λ (x : ℕ). (x, f.0)) k (indexes (length p.exchanges)) f.2 in
             let w = (range_among 0 c f.0 f.1).1 in
             let e : f.0 ≡ k.1 = ap (λ (q : ℕ × ℕ). q.1) r.2 in
             absurd (omega arith))
-        | inr n ↦ (let r = map_among (λ (x : ℕ). (x, c)) k (places i) (filter_among (is_absent p) k (pairs_for i c) n).0 in
+        | inr n ↦ (let r = map_among (λ (x : ℕ). (x, c)) k (indexes i) (filter_among (is_absent p) k (pairs_for i c) n).0 in
             let w = (range_among 0 i r.0 r.1).1 in
             let e : r.0 ≡ k.0 = ap (λ (q : ℕ × ℕ). q.0) r.2 in
             absurd (omega arith))
@@ -168,4 +168,4 @@ module _ (p : Plan) (ok : IsPlan p) where
   pub absent_all : (lists : ℕ → ℕ → List ℕ) (c : ℕ) → flat_map (routed lists) (present_pairs p ++ (absent_below p c ++ filter (is_absent p) (pairs_for (length p.exchanges) c))) ≡ flat_map (routed lists) (present_pairs p ++ absent_below p (c + 1))
   absent_all lists c =
       let n = length p.exchanges in
-      ap (λ l. flat_map (routed lists) (present_pairs p ++ l)) (sym (ap (filter (is_absent p)) (flat_more (pairs_for n) c) ∙ filter-append (is_absent p) (flat_map (pairs_for n) (places c)) (pairs_for n c)))
+      ap (λ l. flat_map (routed lists) (present_pairs p ++ l)) (sym (ap (filter (is_absent p)) (flat_more (pairs_for n) c) ∙ filter-append (is_absent p) (flat_map (pairs_for n) (indexes c)) (pairs_for n c)))

@@ -15,7 +15,7 @@ use Rattle.tx_rank.specs.Nets.{Certifies}
 use Rattle.tx_rank.proofs.Nets.{is_net}
 use Rattle.tx_rank.proofs.Ways.{end_push, goes_push}
 use Rattle.tx_rank.proofs.Ranks.{all_down}
-use Rattle.tx_mend.specs.LeastRanks.{places}
+use Rattle.tx_mend.specs.LeastRanks.{indexes}
 use Rattle.tx_mend.specs.Lists.{leads_between, comes_in}
 use Rattle.tx_mend.proofs.Distinct.{among_range, range_among}
 
@@ -65,7 +65,7 @@ module _ (p : Plan) (lists : ℕ → List ℕ) (c : ℕ) (known : c < length p.c
   comes_more n zero x few h = let e : n ≡ 0 = omega arith in subst (λ (k : ℕ). comes k x ≡ true) e h
   comes_more n (suc m) x few h = elim (cases_lt m n) [
     | inl l ↦ (let e : n ≡ suc m = omega arith in subst (λ (k : ℕ). comes k x ≡ true) e h)
-    | inr l ↦ or_left (comes m x) (list_any (λ y. comes m y && list_any (leads_between p y x) (lists y)) (places (length p.exchanges))) (comes_more n m x l h)
+    | inr l ↦ or_left (comes m x) (list_any (λ y. comes m y && list_any (leads_between p y x) (lists y)) (indexes (length p.exchanges))) (comes_more n m x l h)
   ]
 
   module _ (routes : List Route) where
@@ -83,7 +83,7 @@ module _ (p : Plan) (lists : ℕ → List ℕ) (c : ℕ) (known : c < length p.c
           let same : l.0 ≡ s.1 = cc in
           let group = subst (λ (k : List ℕ). Among s.0 k) (has x w) go.1 in
           let over = member_any (leads_between p x s.1) (lists x) s.0 group (is_leads p x s.1 s.0 go.2) in
-          let step = or_right (comes n s.1) (list_any (λ y. comes n y && list_any (leads_between p y s.1) (lists y)) (places (length p.exchanges))) (member_any (λ y. comes n y && list_any (leads_between p y s.1) (lists y)) (places (length p.exchanges)) x (among_range 0 (length p.exchanges) x (omega arith) (omega arith)) (and_from (comes n x) (list_any (leads_between p x s.1) (lists x)) h over)) in
+          let step = or_right (comes n s.1) (list_any (λ y. comes n y && list_any (leads_between p y s.1) (lists y)) (indexes (length p.exchanges))) (member_any (λ y. comes n y && list_any (leads_between p y s.1) (lists y)) (indexes (length p.exchanges)) x (among_range 0 (length p.exchanges) x (omega arith) (omega arith)) (and_from (comes n x) (list_any (leads_between p x s.1) (lists x)) h over)) in
           goes_comes (suc n) m s.1 steps (omega arith) step (subst (λ k. k < length p.exchanges) same l.2) go.3
 
       pub reached_comes : (limit spare : ℕ) (ranks : ℕ → Option ℕ) → Certifies (net_of Q c) ranks limit spare → (x : ℕ) → IsReached (net_of Q c) x → comes (suc limit) x ≡ true
@@ -99,10 +99,10 @@ module _ (p : Plan) (lists : ℕ → List ℕ) (c : ℕ) (known : c < length p.c
     module _ (last : ℕ) (away : (x g : ℕ) → Among g (lists x) → home_of p c ≢ x) (has : (n x : ℕ) → n ≤ last → comes n x ≡ true → x < length p.exchanges → route_list Q x c ≡ lists x) where
       pub comes_reached : (n x : ℕ) → n ≤ suc last → comes n x ≡ true → IsReached (net_of Q c) x
       comes_reached zero x h a = record { start = x; steps = []; walk = record { origin = a; goes = tt }; ends = refl }
-      comes_reached (suc n) x h a = elim (or_cases (comes n x) (list_any (λ y. comes n y && list_any (leads_between p y x) (lists y)) (places (length p.exchanges))) a) [
+      comes_reached (suc n) x h a = elim (or_cases (comes n x) (list_any (λ y. comes n y && list_any (leads_between p y x) (lists y)) (indexes (length p.exchanges))) a) [
         | inl b ↦ comes_reached n x (omega arith) b
         | inr b ↦
-            let y = any_member (λ y. comes n y && list_any (leads_between p y x) (lists y)) (places (length p.exchanges)) b in
+            let y = any_member (λ y. comes n y && list_any (leads_between p y x) (lists y)) (indexes (length p.exchanges)) b in
             let t = and_parts (comes n y.0) (list_any (leads_between p y.0 x) (lists y.0)) y.2 in
             let g = any_member (leads_between p y.0 x) (lists y.0) t.1 in
             let w = (range_among 0 (length p.exchanges) y.0 y.1).1 in

@@ -56,7 +56,7 @@ module _ {A : Type 0} (xs : List A) (i : ℕ) (x : A) (at : slice_get xs i ≡ S
   pub goes_next : (s : A → Bool) (old new : List A) → old ≡ filter s (take i xs) → s x ≡ false → new ≡ old → new ≡ filter s (take (i + 1) xs)
   goes_next s old new a e b = b ∙ a ∙ sym (filtered_next s false e ∙ append-nil (filter s (take i xs)))
 
--- THE ENTRY AT A PLACE
+-- THE ENTRY AT AN INDEX
 
 pub route_got : (p : Plan) → IsPlan p → (i : ℕ) (k : ℕ × ℕ) → Some k ≡ option_map (λ (r : Route). (r.exchange, r.code)) (slice_get p.routes i) → (list : List ℕ) → list ≡ route_list p k.0 k.1 → slice_get p.routes i ≡ Some (record { exchange = k.0; code = k.1; groups = list })
 route_got p ok i k got list is = by (slice_get p.routes i) refl got

@@ -34,7 +34,7 @@ among_any q (x ∷ xs) (inr m) = or_right (eqb q x) (list_any (eqb q) xs) (among
 pub fits : (xs ys : List ℕ) → AllDiffer xs → ((g : ℕ) → Among g xs → Among g ys) → length xs ≤ length ys
 fits xs ys d h = length-le_from_is_member nat_eq_equiv xs ys (all_distinct xs d) (λ q m. among_any q ys (h q (any_among q xs m)))
 
--- PLACES
+-- INDEXES
 
 pub among_range : (a n g : ℕ) → a ≤ g → g < a + n → Among g (range_with_len a n)
 among_range a zero g h k = absurd (omega arith)

@@ -7,7 +7,7 @@ use borrow.Author.Tests.{ltb-false}
 use Rattle.tx_plan.specs.Among.{Among}
 use Rattle.tx_plan.proofs.Among.{among_left, among_right}
 use Rattle.tx_plan.proofs.Lists.{all_put}
-use Rattle.tx_plan.proofs.ByPlace.{pairs_put}
+use Rattle.tx_plan.proofs.ByIndex.{pairs_put}
 use Rattle.tx_mend.specs.Lists.{put, filled}
 use Rattle.tx_rank.specs.Walks.{AllDiffer}
 use Rattle.tx_rank.proofs.Ways.{among_all}

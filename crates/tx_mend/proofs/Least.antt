@@ -13,7 +13,7 @@ use Rattle.tx_plan.proofs.Among.{among_filter}
 use Rattle.tx_plan.proofs.Growing.{seizes_within}
 use Rattle.tx_plan.specs.Mixed.{rerouted}
 use Rattle.tx_mend.specs.Routings.{IsFalling}
-use Rattle.tx_mend.specs.LeastRanks.{places, RanksOfCode, outgoing, leads_on, can_follow, least_rank, LeastRanksAreLeast}
+use Rattle.tx_mend.specs.LeastRanks.{indexes, RanksOfCode, outgoing, leads_on, can_follow, least_rank, LeastRanksAreLeast}
 use Rattle.tx_mend.proofs.Distinct.{some_among, fits, among_range}
 use Rattle.tx_rank.specs.Walks.{AllDiffer}
 use Rattle.tx_rank.proofs.Ways.{all_among}
@@ -70,7 +70,7 @@ module _ (p : Plan) (ok : IsPlan p) (x c : ℕ) where
 
 -- a group that may be seized is one of the plan, and so stands among those that its exchange may seize
 pub outgoing_has : (p : Plan) (g x : ℕ) → may_seize p g x ≡ true → Among g (outgoing p x)
-outgoing_has p g x h = among_filter (λ (g : ℕ). may_seize p g x) g (places (length p.groups)) (among_range 0 (length p.groups) g (omega arith) (let w = seizes_within p g x h in omega arith)) h
+outgoing_has p g x h = among_filter (λ (g : ℕ). may_seize p g x) g (indexes (length p.groups)) (among_range 0 (length p.groups) g (omega arith) (let w = seizes_within p g x h in omega arith)) h
 
 -- a group that leads to a ranked exchange
 pub leads : (p : Plan) (ranks : RanksOfCode) (x g y n : ℕ) → other_end p g x ≡ Some y → ranks y ≡ Some n → leads_on p ranks x g ≡ true

@@ -9,7 +9,7 @@ use Rattle.tx_plan.specs.Routes.{route_list}
 use Rattle.tx_plan.specs.Circuits.{may_seize, other_end}
 use Rattle.tx_plan.specs.Among.{Among}
 use Rattle.tx_plan.proofs.Among.{among_filter, filter_among, among_flat, flat_among}
-use Rattle.tx_mend.specs.LeastRanks.{places, RanksOfCode, outgoing, rank_across, leads_on, can_follow, least_rank}
+use Rattle.tx_mend.specs.LeastRanks.{indexes, RanksOfCode, outgoing, rank_across, leads_on, can_follow, least_rank}
 use Rattle.tx_mend.specs.Lists.{filled, leads_below, leads_to, groups_below, list_of_rank, least_list}
 use Rattle.tx_mend.proofs.Distinct.{fits, among_range, range_among, range_differs}
 use Rattle.tx_plan.proofs.Filtered.{pairs_kept}
@@ -63,7 +63,7 @@ module _ (p : Plan) (ranks : RanksOfCode) (x g : ℕ) where
   to_this m e = ap (λ (o : Option ℕ). option_map_or (λ k. k == m) o false) e ∙ eq-eqb m m refl
 
 pub outgoing_seizes : (p : Plan) (g x : ℕ) → Among g (outgoing p x) → may_seize p g x ≡ true
-outgoing_seizes p g x m = (filter_among (λ (g : ℕ). may_seize p g x) g (places (length p.groups)) m).1
+outgoing_seizes p g x m = (filter_among (λ (g : ℕ). may_seize p g x) g (indexes (length p.groups)) m).1
 
 -- what the list of an exchange has to be
 pub record IsList (p : Plan) (x c : ℕ) (list : List ℕ) : Type 0 where
@@ -89,12 +89,12 @@ module _ (p : Plan) (ok : IsPlan p) (limit spare c : ℕ) (small : spare ≤ 15)
 
   below_seizes : (r x g : ℕ) → Among g (groups_below p Least r x) → may_seize p g x ≡ true
   below_seizes r x g m =
-      let f = flat_among (λ m. filter (λ g. leads_to p Least m x g) (outgoing p x)) g (places r) m in
+      let f = flat_among (λ m. filter (λ g. leads_to p Least m x g) (outgoing p x)) g (indexes r) m in
       outgoing_seizes p g x (filter_among (λ g. leads_to p Least f.0 x g) g (outgoing p x) f.2).0
 
   below_leads : (r x g : ℕ) → Among g (groups_below p Least r x) → Leads p Least x r g
   below_leads r x g m =
-      let f = flat_among (λ m. filter (λ g. leads_to p Least m x g) (outgoing p x)) g (places r) m in
+      let f = flat_among (λ m. filter (λ g. leads_to p Least m x g) (outgoing p x)) g (indexes r) m in
       let w = (range_among 0 r f.0 f.1).1 in
       leads_from_to p Least x g f.0 r (omega arith) (filter_among (λ g. leads_to p Least f.0 x g) g (outgoing p x) f.2).1
 
@@ -112,9 +112,9 @@ module _ (p : Plan) (ok : IsPlan p) (limit spare c : ℕ) (small : spare ≤ 15)
       let b = w.before in
       let next = w.next in
       let at : Least a.0 ≡ Some n.0 = stays_on (home_of p c) (can_follow p spare) (suc limit) w.round a.0 n.0 (omega arith) a.2 in
-      has g (among_flat (λ m. filter (λ g. leads_to p Least m x g) (outgoing p x)) n.0 g (places r) (among_range 0 r n.0 (omega arith) (omega arith))
+      has g (among_flat (λ m. filter (λ g. leads_to p Least m x g) (outgoing p x)) n.0 g (indexes r) (among_range 0 r n.0 (omega arith) (omega arith))
       (among_filter (λ g. leads_to p Least n.0 x g) g (outgoing p x) q.0 (to_this p Least x g n.0 (rank_over p Least x g a.0 n.0 a.1 at)))) in
-      let long = fits follow list (pairs_kept (λ x y. x ≢ y) (λ g. leads_on p before x g) (outgoing p x) (pairs_kept (λ x y. x ≢ y) (λ g. may_seize p g x) (places (length p.groups)) (range_differs 0 (length p.groups)))) each in
+      let long = fits follow list (pairs_kept (λ x y. x ≢ y) (λ g. leads_on p before x g) (outgoing p x) (pairs_kept (λ x y. x ≢ y) (λ g. may_seize p g x) (indexes (length p.groups)) (range_differs 0 (length p.groups)))) each in
       let more = ltb-true spare (length follow) w.admitted in
       omega arith
 

@@ -19,7 +19,7 @@ use Rattle.tx_rank.proofs.Looks.{among_at}
 use Rattle.tx_rank.proofs.Certifying.{distinct_none}
 use Rattle.tx_plan.specs.Mixed.{rerouted}
 use Rattle.tx_mend.specs.Routings.{IsRouting, IsFalling, CanBeServed, CanBeKept, CanBeMended}
-use Rattle.tx_mend.specs.LeastRanks.{places, RanksOfCode, outgoing, leads_on, can_follow, does_follow, least_rank, present_rank, keeps_routes}
+use Rattle.tx_mend.specs.LeastRanks.{indexes, RanksOfCode, outgoing, leads_on, can_follow, does_follow, least_rank, present_rank, keeps_routes}
 use Rattle.tx_mend.specs.Mended.{routes_of, unserved_for, unserved}
 use Rattle.tx_mend.specs.Laws.{LeastRanksAreAttained, LeastRanksServe, KeepsWhatCanBeKept}
 use Rattle.tx_mend.specs.Lists.{least_list, list_of_rank, full_list}
@@ -101,7 +101,7 @@ module _ (p : Plan) (ok : IsPlan p) where
     kept_origins : keeps_routes p c limit spare ≡ true → (x : ℕ) → is_origin_for p x c ≡ true → (r : ℕ) × (Present x ≡ Some r)
     kept_origins k x o =
         let w = (is_net p ok c known).origins x o in
-        let t = all_holds (λ x. not (is_origin_for p x c) || is_some (Present x)) (places (length p.exchanges)) x k (among_range 0 (length p.exchanges) x (omega arith) (omega arith)) in
+        let t = all_holds (λ x. not (is_origin_for p x c) || is_some (Present x)) (indexes (length p.exchanges)) x k (among_range 0 (length p.exchanges) x (omega arith) (omega arith)) in
         by (Present x) refl (elim (or_cases (not (is_origin_for p x c)) (is_some (Present x)) t) [ inl n ↦ (let f = not-true (is_origin_for p x c) n in let bad : ⊥ = cc in absurd bad) | inr s ↦ s ])
       where
         by : (o : Option ℕ) → Present x ≡ o → is_some o ≡ true → (r : ℕ) × (Present x ≡ Some r)
@@ -110,7 +110,7 @@ module _ (p : Plan) (ok : IsPlan p) where
 
     pub keeps : CanBeKept p c limit spare → keeps_routes p c limit spare ≡ true
     keeps k =
-        holds_all (λ x. not (is_origin_for p x c) || is_some (Present x)) (places (length p.exchanges)) (λ x m.
+        holds_all (λ x. not (is_origin_for p x c) || is_some (Present x)) (indexes (length p.exchanges)) (λ x m.
         elim (is_origin_for p x c) as (λ b. is_origin_for p x c ≡ b → (not b || is_some (Present x)) ≡ true) [
           | true ↦ λ o. (let r = k.origins x o in let low = k.falling.low x r.0 r.1 in
               let n = no_greater (home_of p c) (does_follow p c spare) (k.ranks c) positive fed (suc limit) x r.0 (omega arith) r.1 in
@@ -268,8 +268,8 @@ module _ (p : Plan) (ok : IsPlan p) where
         by (Some r) e = (r, e)
         by None e =
             let w = (is_net p ok c known).origins x o in
-            let f = among_filter (λ x. is_origin_for p x c && is_none (least_rank p c limit spare x)) x (places (length p.exchanges)) (among_range 0 (length p.exchanges) x (omega arith) (omega arith)) (and_from (is_origin_for p x c) (is_none (least_rank p c limit spare x)) o (ap is_none e)) in
-            let m = among_map (λ (x : ℕ). (c, x)) x (filter (λ x. is_origin_for p x c && is_none (least_rank p c limit spare x)) (places (length p.exchanges))) f in
+            let f = among_filter (λ x. is_origin_for p x c && is_none (least_rank p c limit spare x)) x (indexes (length p.exchanges)) (among_range 0 (length p.exchanges) x (omega arith) (omega arith)) (and_from (is_origin_for p x c) (is_none (least_rank p c limit spare x)) o (ap is_none e)) in
+            let m = among_map (λ (x : ℕ). (c, x)) x (filter (λ x. is_origin_for p x c && is_none (least_rank p c limit spare x)) (indexes (length p.exchanges))) f in
             absurd (subst (λ (l : List (ℕ × ℕ)). Among (c, x) l) none m)
 
     ranked_origins : (c : ℕ) → c < length p.codes → unserved_for p limit spare c ≡ [] → (x : ℕ) → is_origin_for p x c ≡ true → (r : ℕ) × (full_ranks c x ≡ Some r)
@@ -286,7 +286,7 @@ module _ (p : Plan) (ok : IsPlan p) where
         by [] e = e
         by (k ∷ ks) e =
             let m : Among k (unserved_for p limit spare c) = subst (λ (l : List (ℕ × ℕ)). Among k l) (sym e) (inl refl) in
-            absurd (subst (λ (l : List (ℕ × ℕ)). Among k l) none (among_flat (unserved_for p limit spare) c k (places (length p.codes)) (among_range 0 (length p.codes) c (omega arith) (omega arith)) m))
+            absurd (subst (λ (l : List (ℕ × ℕ)). Among k l) none (among_flat (unserved_for p limit spare) c k (indexes (length p.codes)) (among_range 0 (length p.codes) c (omega arith) (omega arith)) m))
 
     -- the ranks of a code of which no origin is unserved certify it
     pub full_certifies : (c : ℕ) → c < length p.codes → unserved_for p limit spare c ≡ [] → Certifies (net_of (full p limit spare) c) (full_ranks c) limit spare
@@ -308,11 +308,11 @@ module _ (p : Plan) (ok : IsPlan p) where
     served_all k =
         let same : k.routing ≡ rerouted p k.routing.routes p.bars = k.same.same in
         let cert : IsCertified (rerouted p k.routing.routes p.bars) k.ranks limit spare = subst (λ (q : Plan). IsCertified q k.ranks limit spare) same k.certified in
-        none_flat (unserved_for p limit spare) (places (length p.codes)) (λ c m.
+        none_flat (unserved_for p limit spare) (indexes (length p.codes)) (λ c m.
         let w = (range_among 0 (length p.codes) c m).1 in
         let known : c < length p.codes = omega arith in
         let fall : IsFalling (rerouted p k.routing.routes p.bars) k.ranks c limit spare = record { home = cert.homes c known; low = λ x r e. cert.low c x r known e; lists = λ x r e away. cert.lists c x r known e away } in
-        none_mapped c (λ x. is_origin_for p x c && is_none (least_rank p c limit spare x)) (places (length p.exchanges)) (λ x t.
+        none_mapped c (λ x. is_origin_for p x c && is_none (least_rank p c limit spare x)) (indexes (length p.exchanges)) (λ x t.
         let a = and_parts (is_origin_for p x c) (is_none (least_rank p c limit spare x)) t in
         let r = cert.origins c x known a.0 in
         let n = least p (rerouted p k.routing.routes p.bars) (record { plan = subst (λ (q : Plan). IsPlan q) same k.same.plan; same = refl }) k.ranks c limit spare fall x r.0 r.1 in
@@ -360,7 +360,7 @@ keeps_exactly p ok code limit spare known = (
 pub kept_served : (p : Plan) → IsPlan p → (code limit spare : ℕ) → code < length p.codes → keeps_routes p code limit spare ≡ true → unserved_for p limit spare code ≡ []
 kept_served p ok code limit spare known h =
     let k = (keeps_exactly p ok code limit spare known).0 h in
-    none_mapped code (λ x. is_origin_for p x code && is_none (least_rank p code limit spare x)) (places (length p.exchanges)) (λ x t.
+    none_mapped code (λ x. is_origin_for p x code && is_none (least_rank p code limit spare x)) (indexes (length p.exchanges)) (λ x t.
     let a = and_parts (is_origin_for p x code) (is_none (least_rank p code limit spare x)) t in
     let r = k.origins x a.0 in
     let n = least p p (record { plan = ok; same = refl }) k.ranks code limit spare k.falling x r.0 r.1 in

@@ -12,7 +12,7 @@ use Rattle.tx_plan.specs.Declaring.{has_route}
 use Rattle.tx_plan.specs.Among.{Among}
 use Rattle.tx_plan.proofs.Among.{among_right, among_left, among_cases, among_map, map_among, among_filter, filter_among, among_flat, flat_among}
 use Rattle.tx_plan.specs.Mixed.{rerouted}
-use Rattle.tx_mend.specs.LeastRanks.{places}
+use Rattle.tx_mend.specs.LeastRanks.{indexes}
 use Rattle.tx_mend.specs.Mended.{all_pairs, pairs_of, route_if, routes_of}
 use Rattle.tx_mend.proofs.Distinct.{among_range, range_among, range_differs, pairs_append}
 use Rattle.tx_plan.proofs.Filtered.{pairs_kept}
@@ -111,7 +111,7 @@ module _ (lists : ℕ → ℕ → List ℕ) where
 -- ALL PAIRS
 
 abbrev row : ℕ → ℕ → List (ℕ × ℕ)
-row n c = map (λ x. (x, c)) (places n)
+row n c = map (λ x. (x, c)) (indexes n)
 
 row_apart : (c : ℕ) (xs : List ℕ) → AllDiffer xs → EachPair Apart (map (λ x. (x, c)) xs)
 row_apart c [] d = tt
@@ -124,11 +124,11 @@ row_apart c (x ∷ xs) d = (each xs d.0, row_apart c xs d.1)
 rows_apart : (n : ℕ) (cs : List ℕ) → AllDiffer cs → EachPair Apart (flat_map (row n) cs)
 rows_apart n [] d = tt
 rows_apart n (c ∷ cs) d =
-    pairs_append Apart (row n c) (flat_map (row n) cs) (row_apart c (places n) (range_differs 0 n)) (rows_apart n cs d.1)
+    pairs_append Apart (row n c) (flat_map (row n) cs) (row_apart c (indexes n) (range_differs 0 n)) (rows_apart n cs d.1)
     (λ a b m k.
-    let i = map_among (λ (x : ℕ). (x, c)) a (places n) m in
+    let i = map_among (λ (x : ℕ). (x, c)) a (indexes n) m in
     let f = flat_among (row n) b cs k in
-    let j = map_among (λ (x : ℕ). (x, f.0)) b (places n) f.2 in
+    let j = map_among (λ (x : ℕ). (x, f.0)) b (indexes n) f.2 in
     let here : c ≡ a.1 = ap (λ (q : ℕ × ℕ). q.1) i.2 in
     let there : f.0 ≡ b.1 = ap (λ (q : ℕ × ℕ). q.1) j.2 in
     λ _ e. all_among (λ y. c ≢ y) cs f.0 d.0 f.1 (here ∙ e ∙ sym there))
@@ -153,7 +153,7 @@ module _ (p : Plan) where
   without = filter (λ (k : ℕ × ℕ). not (has_route p k.0 k.1)) (all_pairs p)
 
   all_has : (x c : ℕ) → x < length p.exchanges → c < length p.codes → Among (x, c) (all_pairs p)
-  all_has x c h k = among_flat (row (length p.exchanges)) c (x, c) (places (length p.codes)) (among_range 0 (length p.codes) c (omega arith) (omega arith)) (among_map (λ (x : ℕ). (x, c)) x (places (length p.exchanges)) (among_range 0 (length p.exchanges) x (omega arith) (omega arith)))
+  all_has x c h k = among_flat (row (length p.exchanges)) c (x, c) (indexes (length p.codes)) (among_range 0 (length p.codes) c (omega arith) (omega arith)) (among_map (λ (x : ℕ). (x, c)) x (indexes (length p.exchanges)) (among_range 0 (length p.exchanges) x (omega arith) (omega arith)))
 
   -- each pair stands there
   pub pairs_have : (x c : ℕ) → x < length p.exchanges → c < length p.codes → (k : ℕ × ℕ) × Among k (pairs_of p) × (k.0 ≡ x) × (k.1 ≡ c)
@@ -173,8 +173,8 @@ module _ (p : Plan) where
           let e : i.0.exchange ≡ k.0 = ap (λ (q : ℕ × ℕ). q.0) i.2 in
           let f : i.0.code ≡ k.1 = ap (λ (q : ℕ × ℕ). q.1) i.2 in
           (omega arith, omega arith))
-      | inr a ↦ (let f = flat_among (row (length p.exchanges)) k (places (length p.codes)) (filter_among (λ (k : ℕ × ℕ). not (has_route p k.0 k.1)) k (all_pairs p) a).0 in
-          let i = map_among (λ (x : ℕ). (x, f.0)) k (places (length p.exchanges)) f.2 in
+      | inr a ↦ (let f = flat_among (row (length p.exchanges)) k (indexes (length p.codes)) (filter_among (λ (k : ℕ × ℕ). not (has_route p k.0 k.1)) k (all_pairs p) a).0 in
+          let i = map_among (λ (x : ℕ). (x, f.0)) k (indexes (length p.exchanges)) f.2 in
           let c = range_among 0 (length p.codes) f.0 f.1 in
           let x = range_among 0 (length p.exchanges) i.0 i.1 in
           let e : i.0 ≡ k.0 = ap (λ (q : ℕ × ℕ). q.0) i.2 in
@@ -187,7 +187,7 @@ module _ (p : Plan) where
     -- and each once
     pub pairs_apart : EachPair Apart (pairs_of p)
     pairs_apart =
-        pairs_append Apart with_route without (mapped p.routes ok.routes_differ) (pairs_kept Apart (λ (k : ℕ × ℕ). not (has_route p k.0 k.1)) (all_pairs p) (rows_apart (length p.exchanges) (places (length p.codes)) (range_differs 0 (length p.codes))))
+        pairs_append Apart with_route without (mapped p.routes ok.routes_differ) (pairs_kept Apart (λ (k : ℕ × ℕ). not (has_route p k.0 k.1)) (all_pairs p) (rows_apart (length p.exchanges) (indexes (length p.codes)) (range_differs 0 (length p.codes))))
         (λ a b m n e f.
         let i = map_among (λ (r : Route). (r.exchange, r.code)) a p.routes m in
         let t = not-true (has_route p b.0 b.1) (filter_among (λ (k : ℕ × ℕ). not (has_route p k.0 k.1)) b (all_pairs p) n).1 in

@@ -7,9 +7,9 @@ use Rattle.tx_plan.specs.Circuits.{other_end, may_seize}
 use Rattle.tx_plan.specs.Certified.{Ranks}
 use Rattle.tx_mend.specs.Routings.{IsRouting, IsFalling}
 
--- the places of a list of so many entries, in order
-abbrev pub places : ℕ → List ℕ
-places n = range_with_len 0 n
+-- the indexes of a list of so many entries, in order
+abbrev pub indexes : ℕ → List ℕ
+indexes n = range_with_len 0 n
 
 -- a rank for some exchanges
 abbrev pub RanksOfCode : Type 0
@@ -17,7 +17,7 @@ RanksOfCode = ℕ → Option ℕ
 
 -- the groups that an exchange may seize, in order of declaration
 abbrev pub outgoing : Plan → ℕ → List ℕ
-outgoing p x = filter (λ g. may_seize p g x) (places (length p.groups))
+outgoing p x = filter (λ g. may_seize p g x) (indexes (length p.groups))
 
 -- the rank of the exchange to which a group leads from x
 abbrev pub rank_across : Plan → RanksOfCode → ℕ → ℕ → Option ℕ
@@ -67,7 +67,7 @@ present_rank p code limit spare x =
 abbrev pub keeps_routes : Plan → (code limit spare : ℕ) → Bool
 keeps_routes p code limit spare = list_all
     (λ x. not (is_origin_for p x code) || is_some (present_rank p code limit spare x))
-    (places (length p.exchanges))
+    (indexes (length p.exchanges))
 
 -- Least ranks are least: wherever ranks that fall along any routes of the network rank an exchange,
 -- it has a least rank, and that is no greater.

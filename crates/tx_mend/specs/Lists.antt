@@ -6,7 +6,7 @@ use Rattle.tx_plan.specs.Plan.{Plan}
 use Rattle.tx_plan.specs.Routes.{route_list, is_origin_for}
 use Rattle.tx_plan.specs.Circuits.{other_end}
 use Rattle.tx_plan.specs.Declaring.{has_route}
-use Rattle.tx_mend.specs.LeastRanks.{places, RanksOfCode, outgoing, rank_across, least_rank, keeps_routes}
+use Rattle.tx_mend.specs.LeastRanks.{indexes, RanksOfCode, outgoing, rank_across, least_rank, keeps_routes}
 
 -- a group is appended, unless it is there already or there are more than spare
 abbrev pub put : (spare : ℕ) → List ℕ → ℕ → List ℕ
@@ -31,7 +31,7 @@ leads_to p ranks m x g = option_map_or (λ k. k == m) (rank_across p ranks x g) 
 -- declaration
 abbrev pub groups_below : Plan → RanksOfCode → (r x : ℕ) → List ℕ
 groups_below p ranks r x =
-    flat_map (λ m. filter (λ g. leads_to p ranks m x g) (outgoing p x)) (places r)
+    flat_map (λ m. filter (λ g. leads_to p ranks m x g) (outgoing p x)) (indexes r)
 
 -- The list of an exchange of some rank: the groups of its present list that lead to smaller ranks,
 -- and then others until there are more than spare.
@@ -61,7 +61,7 @@ abbrev pub comes_in : Plan → (lists : ℕ → List ℕ) → (code n x : ℕ) �
 comes_in p lists code zero x = is_origin_for p x code
 comes_in p lists code (suc n) x = comes_in p lists code n x
     || list_any (λ y. comes_in p lists code n y && list_any (leads_between p y x) (lists y))
-    (places (length p.exchanges))
+    (indexes (length p.exchanges))
 
 -- Calls for a code may come to x by the mended lists: each exchange that they pass has its full
 -- list, and they go over limit + 1 groups at most.

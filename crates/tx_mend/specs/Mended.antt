@@ -5,7 +5,7 @@ use Rattle.tx_plan.specs.Plan.{Plan, Route}
 use Rattle.tx_plan.specs.Routes.{is_origin_for}
 use Rattle.tx_plan.specs.Declaring.{has_route}
 use Rattle.tx_plan.specs.Mixed.{rerouted}
-use Rattle.tx_mend.specs.LeastRanks.{places, least_rank}
+use Rattle.tx_mend.specs.LeastRanks.{indexes, least_rank}
 use Rattle.tx_mend.specs.Lists.{mended_list}
 
 -- an exchange and a code
@@ -15,7 +15,7 @@ PairOf = ℕ × ℕ
 -- all pairs, by codes and then by exchanges, each in order of declaration
 abbrev pub all_pairs : Plan → List PairOf
 all_pairs p =
-    flat_map (λ c. map (λ x. (x, c)) (places (length p.exchanges))) (places (length p.codes))
+    flat_map (λ c. map (λ x. (x, c)) (indexes (length p.exchanges))) (indexes (length p.codes))
 
 -- those that have a route, in order of the routes, and then the others
 abbrev pub pairs_of : Plan → List PairOf
@@ -44,8 +44,8 @@ mended p limit spare = rerouted p (mended_routes p limit spare) p.bars
 abbrev pub unserved_for : Plan → (limit spare code : ℕ) → List (ℕ × ℕ)
 unserved_for p limit spare code = map (λ x. (code, x))
     (filter (λ x. is_origin_for p x code && is_none (least_rank p code limit spare x))
-    (places (length p.exchanges)))
+    (indexes (length p.exchanges)))
 
 -- what cannot be served, for all codes
 abbrev pub unserved : Plan → (limit spare : ℕ) → List (ℕ × ℕ)
-unserved p limit spare = flat_map (unserved_for p limit spare) (places (length p.codes))
+unserved p limit spare = flat_map (unserved_for p limit spare) (indexes (length p.codes))

@@ -1,6 +1,6 @@
 // What full lists are made of.
 ghost use Rattle.std.specs.Prelude.{◌≡◌, map, length};
-ghost use Rattle.tx_mend.specs.LeastRanks.{places, outgoing};
+ghost use Rattle.tx_mend.specs.LeastRanks.{indexes, outgoing};
 ghost use Rattle.tx_mend.specs.inner.CodeRanks.{code_ranks};
 
 use crate::code_ranks::CodeRanks;
@@ -16,7 +16,7 @@ pub struct Basis<'a, A: Allocator> {
     pub seizable: &'a [Outgoing<A>],
     pub table: &'a [CodeRanks<A>],
     pub limits: Limits,
-    ghost groups: { seizable.now ≡ map (outgoing plan.now) (places (length plan.now.exchanges)) },
+    ghost groups: { seizable.now ≡ map (outgoing plan.now) (indexes (length plan.now.exchanges)) },
     ghost ranks: { table.now ≡ map (code_ranks plan.now limits.limit limits.spare)
-        (places (length plan.now.codes)) },
+        (indexes (length plan.now.codes)) },
 }

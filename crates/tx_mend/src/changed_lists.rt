@@ -33,8 +33,8 @@ fn write_changes<A: Allocator, W: Sink>(
     ensures { Wrote W.taken W.failed sink.old sink.new
         (changes before.now plan.now) result }
 {
-    for place in 0..plan.codes() {
-        write_code_changes(before, plan, CodeId::of(place), sink)?;
+    for index in 0..plan.codes() {
+        write_code_changes(before, plan, CodeId::of(index), sink)?;
     }
     Ok(())
 }
@@ -49,8 +49,8 @@ fn write_code_changes<A: Allocator, W: Sink>(
     ensures { Wrote W.taken W.failed sink.old sink.new
         (code_changes before.now plan.now code) result }
 {
-    for place in 0..plan.exchanges() {
-        write_change(before, plan, code, ExchangeId::of(place), sink)?;
+    for index in 0..plan.exchanges() {
+        write_change(before, plan, code, ExchangeId::of(index), sink)?;
     }
     Ok(())
 }

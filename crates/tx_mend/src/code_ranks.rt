@@ -3,7 +3,7 @@ ghost use Rattle.std.specs.Prelude.{◌≡◌, map, length, option_and_then, sli
 ghost use Rattle.std.specs.Option.{option_copied};
 ghost use Rattle.tx_plan.specs.Rules.{IsPlan};
 ghost use Rattle.tx_rank.specs.Judged.{AreOrigins};
-ghost use Rattle.tx_mend.specs.LeastRanks.{places, outgoing};
+ghost use Rattle.tx_mend.specs.LeastRanks.{indexes, outgoing};
 ghost use Rattle.tx_mend.specs.inner.CodeRanks.{code_ranks};
 
 use crate::outgoing::Outgoing;
@@ -39,11 +39,11 @@ impl<A: Allocator> CodeRanks<A> {
     }
 }
 
-/// Those of the code at a place; none for a place that the table does not have.
-pub fn least_at<A: Allocator>(table: &[CodeRanks<A>], place: usize) -> Option<&[Option<u8>]>
-    ensures { option_copied result ≡ option_and_then (λ r. r) (slice_get table.now place) }
+/// Those of the code at an index; none for an index that the table does not have.
+pub fn least_at<A: Allocator>(table: &[CodeRanks<A>], index: usize) -> Option<&[Option<u8>]>
+    ensures { option_copied result ≡ option_and_then (λ r. r) (slice_get table.now index) }
 {
-    match table.get(place) {
+    match table.get(index) {
         Some(ranks) => ranks.least(),
         None => None,
     }
@@ -60,7 +60,7 @@ fn ranks_for<A: Allocator + Copy>(
 ) -> Result<CodeRanks<A>, NoMemory>
     requires rules { IsPlan plan.now }
     requires seizable { seizable.now
-        ≡ map (outgoing plan.now) (places (length plan.now.exchanges)) }
+        ≡ map (outgoing plan.now) (indexes (length plan.now.exchanges)) }
     requires origins { AreOrigins plan.now origins.now }
     ensures { IfOk result (λ ranks. ranks ≡ code_ranks plan.now limits.limit limits.spare code) }
 {
@@ -98,14 +98,14 @@ pub fn all_code_ranks<A: Allocator + Copy>(
     limits: Limits,
 ) -> Result<Vec<CodeRanks<A>, A>, NoMemory>
     requires seizable { seizable.now
-        ≡ map (outgoing plan.now) (places (length plan.now.exchanges)) }
+        ≡ map (outgoing plan.now) (indexes (length plan.now.exchanges)) }
     requires origins { AreOrigins plan.now origins.now }
     ensures { IfOk result (λ table. table.items
-        ≡ map (code_ranks plan.now limits.limit limits.spare) (places (length plan.now.codes))) }
+        ≡ map (code_ranks plan.now limits.limit limits.spare) (indexes (length plan.now.codes))) }
 {
     let mut table = Vec::new(alloc);
-    for place in 0..plan.codes() {
-        let code = CodeId::of(place);
+    for index in 0..plan.codes() {
+        let code = CodeId::of(index);
         table.push(ranks_for(alloc, plan, seizable, origins, code, limits)?)?;
     }
     Ok(table)

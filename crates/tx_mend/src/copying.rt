@@ -12,8 +12,8 @@ pub fn routes_of<A: Allocator + Copy>(alloc: A, plan: &Plan<A>) -> Result<Routes
     ensures { IfOk result (λ routes. routes ≡ plan.now.routes) }
 {
     let mut routes = Routes::new(alloc);
-    for place in 0..plan.routes() {
-        match plan.route_at(place) {
+    for index in 0..plan.routes() {
+        match plan.route_at(index) {
             Some((exchange, code)) => {
                 let list = plan.group_list(exchange, code);
                 routes.add(Pair { exchange, code }, list)?;
@@ -29,8 +29,8 @@ pub fn bars_of<A: Allocator + Copy>(alloc: A, plan: &Plan<A>) -> Result<Bars<A>,
     ensures { IfOk result (λ bars. bars ≡ plan.now.bars) }
 {
     let mut bars = Bars::new(alloc);
-    for place in 0..plan.bars() {
-        match plan.bar_at(place) {
+    for index in 0..plan.bars() {
+        match plan.bar_at(index) {
             Some((exchange, code)) => bars.add(Pair { exchange, code })?,
             None => unreachable!(),
         }
@@ -66,8 +66,8 @@ pub fn staying_routes<A: Allocator + Copy>(
         ≡ filter (stays before.now cert.now) plan.now.routes) }
 {
     let mut routes = Routes::new(alloc);
-    for place in 0..plan.routes() {
-        match plan.route_at(place) {
+    for index in 0..plan.routes() {
+        match plan.route_at(index) {
             Some((exchange, code)) => {
                 if is_staying(before, cert, exchange, code) {
                     let list = plan.group_list(exchange, code);

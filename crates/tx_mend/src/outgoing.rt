@@ -1,6 +1,6 @@
 // The groups that exchanges may seize.
 ghost use Rattle.std.specs.Prelude.{◌≡◌, [], map, length, unwrap_or, slice_get, IfOk};
-ghost use Rattle.tx_mend.specs.LeastRanks.{places, outgoing};
+ghost use Rattle.tx_mend.specs.LeastRanks.{indexes, outgoing};
 
 use std::alloc::{Allocator, Global};
 use std::marker::Model;
@@ -49,8 +49,8 @@ fn outgoing_of<A: Allocator + Copy>(
     ensures { IfOk result (λ groups. groups ≡ outgoing plan.now exchange) }
 {
     let mut groups = Vec::new(alloc);
-    for place in 0..plan.groups() {
-        let group = GroupId::of(place);
+    for index in 0..plan.groups() {
+        let group = GroupId::of(index);
         if plan.may_seize(group, exchange) {
             groups.push(group)?;
         }
@@ -64,11 +64,11 @@ pub fn all_outgoing<A: Allocator + Copy>(
     plan: &Plan<A>,
 ) -> Result<Vec<Outgoing<A>, A>, NoMemory>
     ensures { IfOk result (λ lists. lists.items
-        ≡ map (outgoing plan.now) (places (length plan.now.exchanges))) }
+        ≡ map (outgoing plan.now) (indexes (length plan.now.exchanges))) }
 {
     let mut lists = Vec::new(alloc);
-    for place in 0..plan.exchanges() {
-        lists.push(outgoing_of(alloc, plan, ExchangeId::of(place))?)?;
+    for index in 0..plan.exchanges() {
+        lists.push(outgoing_of(alloc, plan, ExchangeId::of(index))?)?;
     }
     Ok(lists)
 }

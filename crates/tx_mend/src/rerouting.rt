@@ -36,8 +36,8 @@ fn add_present<A: Allocator>(basis: &Basis<'_, A>, routes: &mut Routes<A>) -> Re
         (present_pairs basis.now.plan.now)) }
 {
     let plan = basis.plan;
-    for place in 0..plan.routes() {
-        match plan.route_at(place) {
+    for index in 0..plan.routes() {
+        match plan.route_at(index) {
             Some(pair) => {
                 let list = full_list(basis, pair.1, pair.0);
                 add_route(routes, pair.0, pair.1, list)?;
@@ -62,8 +62,8 @@ fn add_absent<A: Allocator>(
         basis.now.limits.limit basis.now.limits.spare (code + 1)) }
 {
     let plan = basis.plan;
-    for place in 0..plan.exchanges() {
-        let exchange = ExchangeId::of(place);
+    for index in 0..plan.exchanges() {
+        let exchange = ExchangeId::of(index);
         if plan.list(exchange, code).is_empty() {
             let list = full_list(basis, code, exchange);
             add_route(routes, exchange, code, list)?;
@@ -83,8 +83,8 @@ pub fn full_routes<A: Allocator + Copy>(
     let plan = basis.plan;
     let mut routes = Routes::new(alloc);
     add_present(basis, &mut routes)?;
-    for place in 0..plan.codes() {
-        add_absent(basis, CodeId::of(place), &mut routes)?;
+    for index in 0..plan.codes() {
+        add_absent(basis, CodeId::of(index), &mut routes)?;
     }
     Ok(routes)
 }

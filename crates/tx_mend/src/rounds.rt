@@ -1,6 +1,6 @@
 // Ranks, round by round.
 ghost use Rattle.std.specs.Prelude.{◌≡◌, ◌<◌, ℕ, suc, Option, Some, None, ◌==◌, if◌then◌else◌, map, length, IfOk};
-ghost use Rattle.tx_mend.specs.LeastRanks.{places, kept_or, ranked_in};
+ghost use Rattle.tx_mend.specs.LeastRanks.{indexes, kept_or, ranked_in};
 
 use crate::rules::Rule;
 use std::alloc::Allocator;
@@ -8,10 +8,10 @@ use tx_plan::{ExchangeId, Limits};
 use tx_text::NoMemory;
 
 /// The home has rank 0, and no other exchange has a rank.
-fn first_rank(place: usize, home: ExchangeId) -> Option<u8>
-    ensures { result ≡ (if place == home then Some 0 else None) }
+fn first_rank(index: usize, home: ExchangeId) -> Option<u8>
+    ensures { result ≡ (if index == home then Some 0 else None) }
 {
-    if place == home.index() { Some(0) } else { None }
+    if index == home.index() { Some(0) } else { None }
 }
 
 /// The first ranks.
@@ -21,11 +21,11 @@ fn home_alone<A: Allocator + Copy>(
     home: ExchangeId,
 ) -> Result<Vec<Option<u8>, A>, NoMemory>
     ensures { IfOk result (λ ranks. ranks.items
-        ≡ map (λ x. if x == home then Some 0 else None) (places exchanges)) }
+        ≡ map (λ x. if x == home then Some 0 else None) (indexes exchanges)) }
 {
     let mut ranks = Vec::new(alloc);
-    for place in 0..exchanges {
-        ranks.push(first_rank(place, home))?;
+    for index in 0..exchanges {
+        ranks.push(first_rank(index, home))?;
     }
     Ok(ranks)
 }
@@ -34,7 +34,7 @@ fn home_alone<A: Allocator + Copy>(
 fn rank_on<R: Rule>(rule: &R, ranks: &[Option<u8>], exchange: ExchangeId, round: u8) -> Option<u8>
     requires long { length ranks.now ≡ R.exchanges rule.now }
     requires exchange { exchange < R.exchanges rule.now }
-    ensures { (of : ℕ → Option ℕ) → ranks.now ≡ map of (places (R.exchanges rule.now))
+    ensures { (of : ℕ → Option ℕ) → ranks.now ≡ map of (indexes (R.exchanges rule.now))
         → result ≡ kept_or (of exchange) (R.follows rule.now of exchange) round }
 {
     match ranks[exchange.index()] {
@@ -58,13 +58,13 @@ fn next_ranks<A: Allocator + Copy, R: Rule>(
 ) -> Result<Vec<Option<u8>, A>, NoMemory>
     requires { length ranks.now ≡ R.exchanges rule.now }
     ensures { IfOk result (λ next. (of : ℕ → Option ℕ) → ranks.now
-        ≡ map of (places (R.exchanges rule.now))
+        ≡ map of (indexes (R.exchanges rule.now))
         → next.items ≡ map (λ x. kept_or (of x) (R.follows rule.now of x) round)
-        (places (R.exchanges rule.now))) }
+        (indexes (R.exchanges rule.now))) }
 {
     let mut next = Vec::new(alloc);
-    for place in 0..rule.exchanges() {
-        next.push(rank_on(rule, ranks, ExchangeId::of(place), round))?;
+    for index in 0..rule.exchanges() {
+        next.push(rank_on(rule, ranks, ExchangeId::of(index), round))?;
     }
     Ok(next)
 }
@@ -79,7 +79,7 @@ pub fn ranks_after<A: Allocator + Copy, R: Rule>(
 ) -> Result<Vec<Option<u8>, A>, NoMemory>
     ensures { IfOk result (λ ranks. ranks.items
         ≡ map (ranked_in home (R.follows rule.now) (suc limits.limit))
-        (places (R.exchanges rule.now))) }
+        (indexes (R.exchanges rule.now))) }
 {
     let mut ranks = home_alone(alloc, rule.exchanges(), home)?;
     for done in 0..limits.limit + 1 {

@@ -1,7 +1,7 @@
 // Which exchanges may follow those that are ranked.
 ghost use Rattle.std.specs.Prelude.{◌≡◌, ◌<◌, ◌≤◌, ℕ, Option, Bool, map, length, filter};
 ghost use Rattle.std.specs.List.{list_all};
-ghost use Rattle.tx_mend.specs.LeastRanks.{places, outgoing, leads_on, can_follow, does_follow};
+ghost use Rattle.tx_mend.specs.LeastRanks.{indexes, outgoing, leads_on, can_follow, does_follow};
 ghost use Rattle.tx_mend.specs.inner.CodeRanks.{rank_list};
 ghost use Rattle.tx_mend.specs.inner.Local.{IsLocal};
 
@@ -25,7 +25,7 @@ pub trait Rule {
     fn follows(&self, ranks: &[Option<u8>], exchange: ExchangeId) -> bool
         requires long { length ranks.now ≡ exchanges self.now }
         requires exchange { exchange < exchanges self.now }
-        ensures { (of : ℕ → Option ℕ) → ranks.now ≡ map of (places (exchanges self.now))
+        ensures { (of : ℕ → Option ℕ) → ranks.now ≡ map of (indexes (exchanges self.now))
             → result ≡ follows self.now of exchange };
 
     // Which exchanges may follow hangs on the ranks of the network's exchanges alone.
@@ -39,7 +39,7 @@ pub struct AnyRoutes<'a, A: Allocator> {
     pub plan: &'a Plan<A>,
     pub seizable: &'a [Outgoing<A>],
     pub spare: u8,
-    ghost right: { seizable.now ≡ map (outgoing plan.now) (places (length plan.now.exchanges)) },
+    ghost right: { seizable.now ≡ map (outgoing plan.now) (indexes (length plan.now.exchanges)) },
     ghost local: { IsLocal (length plan.now.exchanges) (can_follow plan.now spare) },
 }
 

@@ -3,7 +3,7 @@ ghost use Rattle.std.specs.Prelude.{◌≡◌, ◌<◌, ◌++◌, ◌||◌, ◌&
 ghost use Rattle.std.specs.List.{list_all};
 ghost use Rattle.tx_plan.specs.Routes.{is_origin_for};
 ghost use Rattle.tx_rank.specs.Judged.{AreOrigins};
-ghost use Rattle.tx_mend.specs.LeastRanks.{places};
+ghost use Rattle.tx_mend.specs.LeastRanks.{indexes};
 ghost use Rattle.tx_mend.specs.Mended.{unserved};
 ghost use Rattle.tx_mend.specs.inner.CodeRanks.{rank_list};
 
@@ -55,10 +55,10 @@ pub fn all_ranked<A: Allocator>(
     requires long { length ranks.now ≡ length plan.now.exchanges }
     ensures { (of : ℕ → Option ℕ) → ranks.now ≡ rank_list plan.now of
         → result ≡ list_all (λ x. not (is_origin_for plan.now x code) || is_some (of x))
-        (places (length plan.now.exchanges)) }
+        (indexes (length plan.now.exchanges)) }
 {
-    for place in 0..plan.exchanges() {
-        if is_unranked(plan, origins, code, ranks, ExchangeId::of(place)) {
+    for index in 0..plan.exchanges() {
+        if is_unranked(plan, origins, code, ranks, ExchangeId::of(index)) {
             return false;
         }
     }
@@ -79,10 +79,10 @@ pub fn add_unranked<A: Allocator>(
         → unserved.new.items ≡ unserved.old.items
         ++ map (λ x. (code, x))
         (filter (λ x. is_origin_for plan.now x code && is_none (of x))
-        (places (length plan.now.exchanges)))) }
+        (indexes (length plan.now.exchanges)))) }
 {
-    for place in 0..plan.exchanges() {
-        let exchange = ExchangeId::of(place);
+    for index in 0..plan.exchanges() {
+        let exchange = ExchangeId::of(index);
         if is_unranked(plan, origins, code, ranks, exchange) {
             unserved.push((code, exchange))?;
         }
@@ -102,10 +102,10 @@ pub fn unserved_of<A: Allocator + Copy>(
 {
     let plan = basis.plan;
     let mut pairs = Vec::new(alloc);
-    for place in 0..plan.codes() {
-        match least_at(basis.table, place) {
+    for index in 0..plan.codes() {
+        match least_at(basis.table, index) {
             None => {}
-            Some(ranks) => add_unranked(plan, origins, CodeId::of(place), ranks, &mut pairs)?,
+            Some(ranks) => add_unranked(plan, origins, CodeId::of(index), ranks, &mut pairs)?,
         }
     }
     Ok(pairs)

@@ -10,7 +10,7 @@ use Rattle.tx_text.specs.Words.{is_name, is_letter, is_figure}
 use Rattle.tx_plan.specs.Rules.{is_code, IsPlan, IsGroup}
 use Rattle.tx_plan.specs.Plan.{Plan, Group, exchange_named, code_named, group_named}
 use Rattle.tx_plan.specs.Declaring.{has_exchange, has_code, has_group}
-use Rattle.tx_plan.proofs.Lists.{no_place, found_any}
+use Rattle.tx_plan.proofs.Lists.{no_index, found_any}
 
 same_not : (b : Bool) → (b ≡ true → true ≡ false) → b ≡ false
 same_not true k = k refl
@@ -23,7 +23,7 @@ others ok word P w (x ∷ xs) k h all =
     (same_not (bytes_eq w (word x)) (λ e. sym (k x all.0) ∙ ap ok (sym ((bytes_eq-Decides w (word x)).0 e)) ∙ h), others ok word P w xs k h all.1)
 
 pub unnamed : {A : Type 0} (ok : List ℕ → Bool) (word : A → List ℕ) (P : A → Type 0) (w : List ℕ) (xs : List A) → ((x : A) → P x → ok (word x) ≡ true) → ok w ≡ false → AllByRecursion P xs → position (λ x. bytes_eq w (word x)) xs ≡ None
-unnamed ok word P w xs k h all = no_place (λ x. bytes_eq w (word x)) xs (others ok word P w xs k h all)
+unnamed ok word P w xs k h all = no_index (λ x. bytes_eq w (word x)) xs (others ok word P w xs k h all)
 
 -- a text too long for the words that pass
 pub too_long : (ok : List ℕ → Bool) (n : ℕ) → ((w : List ℕ) → ok w ≡ true → length w ≤ n) → (w : List ℕ) → n < length w → ok w ≡ false

@@ -1,4 +1,4 @@
--- The least ambiguous pair, by the places of its codes.
+-- The least ambiguous pair, by the indexes of its codes.
 use Rattle.std.proofs.Common.{◌≡◌, ℕ, ◌+◌, true, false, ◌⊎◌, List, [], ◌∷◌, map, Option, Some, None, refl, ap, sym, ◌∙◌, subst, inl, inr, arith}
 use Rattle.std.specs.Prelude.{filter, slice_get, if◌then◌else◌}
 use Rattle.std.specs.List.{enumerate_from}
@@ -12,7 +12,7 @@ use Rattle.std.proofs.lemmas.Cmp.{on_total, then_total}
 use Rattle.std.proofs.lemmas.Map.Lookups.{exact_pairs, exact_bytes}
 use Rattle.std.proofs.lemmas.Bool.{false≢true}
 use Rattle.tx_plan.specs.Among.{Among}
-use Rattle.tx_plan.proofs.Among.{among_map, map_among, among_flat, flat_among, among_filter, filter_among, among_places, places_among}
+use Rattle.tx_plan.proofs.Among.{among_map, map_among, among_flat, flat_among, among_filter, filter_among, among_indexes, indexes_among}
 use Rattle.tx_plan.specs.Plan.{Code}
 use Rattle.tx_plan.specs.Ambiguous.{CodePair, is_ambiguous, code_pairs, pair_cmp, lesser, least, ambiguous_of}
 use Rattle.tx_plan.specs.inner.AmbiguousAt.{pair_at, IsAmbiguousAt}
@@ -59,8 +59,8 @@ least_is (q ∷ ps) p (inr h) low =
 module _ (codes : List Code) where
   listed : (i j : ℕ) (c d : Code) → IsAmbiguousAt codes i j c d → Among (pair_at i j c d) (filter is_ambiguous (code_pairs codes))
   listed i j c d h =
-      let a : Among (i, c) (enumerate_from 0 codes) = subst (λ k. Among (k, c) (enumerate_from 0 codes)) (let z : 0 + i ≡ i = omega arith in z) (among_places 0 i c codes h.first) in
-      let b : Among (j, d) (enumerate_from 0 codes) = subst (λ k. Among (k, d) (enumerate_from 0 codes)) (let z : 0 + j ≡ j = omega arith in z) (among_places 0 j d codes h.second) in
+      let a : Among (i, c) (enumerate_from 0 codes) = subst (λ k. Among (k, c) (enumerate_from 0 codes)) (let z : 0 + i ≡ i = omega arith in z) (among_indexes 0 i c codes h.first) in
+      let b : Among (j, d) (enumerate_from 0 codes) = subst (λ k. Among (k, d) (enumerate_from 0 codes)) (let z : 0 + j ≡ j = omega arith in z) (among_indexes 0 j d codes h.second) in
       among_filter is_ambiguous _ (code_pairs codes)
       (among_flat (λ x. map (λ y. record { first = x; second = y }) (enumerate_from 0 codes)) (i, c) _ (enumerate_from 0 codes) a (among_map (λ y. record { first = (i, c); second = y }) (j, d) (enumerate_from 0 codes) b)) h.begins
 
@@ -69,8 +69,8 @@ module _ (codes : List Code) where
       let f = filter_among is_ambiguous p (code_pairs codes) h in
       let s = flat_among (λ x. map (λ y. record { first = x; second = y }) (enumerate_from 0 codes)) p (enumerate_from 0 codes) f.0 in
       let t = map_among (λ y. record { first = s.0; second = y }) p (enumerate_from 0 codes) s.2 in
-      let a = places_among 0 s.0 codes s.1 in
-      let b = places_among 0 t.0 codes t.1 in
+      let a = indexes_among 0 s.0 codes s.1 in
+      let b = indexes_among 0 t.0 codes t.1 in
       let e : p ≡ record { first = s.0; second = t.0 } = sym t.2 in
       record {
         first = ap (slice_get codes) (ap (λ (w : CodePair). w.first.0) e ∙ a.2 ∙ (let z : 0 + a.0 ≡ a.0 = omega arith in z)) ∙ a.1 ∙ ap (λ (w : CodePair). Some w.first.1) (sym e);
@@ -78,25 +78,25 @@ module _ (codes : List Code) where
         begins = f.1;
       }
 
-  abbrev places : CodePair → ℕ × ℕ
-  places p = (p.first.0, p.second.0)
+  abbrev indexes : CodePair → ℕ × ℕ
+  indexes p = (p.first.0, p.second.0)
 
   pub ambiguous-none : ((i j : ℕ) (c d : Code) → IsAmbiguousAt codes i j c d → ⊥) → ambiguous_of codes ≡ None
-  ambiguous-none h = ap (option_map places) (least_none (filter is_ambiguous (code_pairs codes)) (λ p k. h p.first.0 p.second.0 p.first.1 p.second.1 (unlisted p k)))
+  ambiguous-none h = ap (option_map indexes) (least_none (filter is_ambiguous (code_pairs codes)) (λ p k. h p.first.0 p.second.0 p.first.1 p.second.1 (unlisted p k)))
 
   pub none-ambiguous : ambiguous_of codes ≡ None → (i j : ℕ) (c d : Code) → IsAmbiguousAt codes i j c d → ⊥
   none-ambiguous e i j c d h = none (filter is_ambiguous (code_pairs codes)) e (pair_at i j c d) (listed i j c d h)
     where
-      some : (p : CodePair) (o : Option CodePair) → option_map places (lesser p o) ≡ None → ⊥
+      some : (p : CodePair) (o : Option CodePair) → option_map indexes (lesser p o) ≡ None → ⊥
       some p None h = let bad : ⊥ = cc in bad
       some p (Some q) h =
-          elim (is_le (pair_cmp p q)) as (λ b. option_map places (if b then Some p else Some q) ≡ None → ⊥) [ true ↦ λ k. let bad : ⊥ = cc in bad | false ↦ λ k. let bad : ⊥ = cc in bad ] h
+          elim (is_le (pair_cmp p q)) as (λ b. option_map indexes (if b then Some p else Some q) ≡ None → ⊥) [ true ↦ λ k. let bad : ⊥ = cc in bad | false ↦ λ k. let bad : ⊥ = cc in bad ] h
 
-      none : (ps : List CodePair) → option_map places (least ps) ≡ None → (p : CodePair) → Among p ps → ⊥
+      none : (ps : List CodePair) → option_map indexes (least ps) ≡ None → (p : CodePair) → Among p ps → ⊥
       none [] e p h = h
       none (q ∷ ps) e p h = some q (least ps) e
 
-  -- codes at different places differ
+  -- codes at different indexes differ
   abbrev pub AreDistinct : Type 0
   AreDistinct = (i j : ℕ) (c d : Code) → slice_get codes i ≡ Some c → slice_get codes j ≡ Some d → c.figures ≡ d.figures → i ≡ j
 
@@ -105,7 +105,7 @@ module _ (codes : List Code) where
       → ((k l : ℕ) (e f : Code) → IsAmbiguousAt codes k l e f → is_lt (pair_cmp (pair_at k l e f) (pair_at i j c d)) ≡ false)
       → ambiguous_of codes ≡ Some (i, j)
   ambiguous-some differ i j c d h low =
-      ap (option_map places) (least_is (filter is_ambiguous (code_pairs codes)) (pair_at i j c d) (listed i j c d h) (λ q k. by q (unlisted q k)))
+      ap (option_map indexes) (least_is (filter is_ambiguous (code_pairs codes)) (pair_at i j c d) (listed i j c d h) (λ q k. by q (unlisted q k)))
     where
       by : (q : CodePair) → IsAmbiguousAt codes q.first.0 q.second.0 q.first.1 q.second.1 → (q ≡ pair_at i j c d) ⊎ (pair_cmp (pair_at i j c d) q ≡ Less)
       by q a = at (pair_cmp q (pair_at i j c d)) refl

@@ -56,17 +56,17 @@ filter_among p x (z ∷ xs) h =
       | false ↦ λ t h. let r = filter_among p x xs h in (inr r.0, r.1)
     ] refl h
 
-pub among_places : {A : Type 0} (n i : ℕ) (x : A) (xs : List A) → slice_get xs i ≡ Some x → Among (n + i, x) (enumerate_from n xs)
-among_places n i x [] h = let bad : ⊥ = cc in absurd bad
-among_places n zero x (y ∷ xs) h = inl (let e : y ≡ x = cc in let z : n ≡ n + 0 = omega arith in λ k. (z k, e k))
-among_places n (suc i) x (y ∷ xs) h =
+pub among_indexes : {A : Type 0} (n i : ℕ) (x : A) (xs : List A) → slice_get xs i ≡ Some x → Among (n + i, x) (enumerate_from n xs)
+among_indexes n i x [] h = let bad : ⊥ = cc in absurd bad
+among_indexes n zero x (y ∷ xs) h = inl (let e : y ≡ x = cc in let z : n ≡ n + 0 = omega arith in λ k. (z k, e k))
+among_indexes n (suc i) x (y ∷ xs) h =
     let z : (n + 1) + i ≡ n + suc i = omega arith in
-    inr (subst (λ k. Among (k, x) (enumerate_from (n + 1) xs)) z (among_places (n + 1) i x xs h))
+    inr (subst (λ k. Among (k, x) (enumerate_from (n + 1) xs)) z (among_indexes (n + 1) i x xs h))
 
-pub places_among : {A : Type 0} (n : ℕ) (e : ℕ × A) (xs : List A) → Among e (enumerate_from n xs) → (i : ℕ) × (slice_get xs i ≡ Some e.1) × (e.0 ≡ n + i)
-places_among n e [] h = absurd h
-places_among n e (y ∷ xs) (inl p) = (0, ap (λ w. Some w.1) p, ap (λ w. w.0) (sym p) ∙ (let z : n ≡ n + 0 = omega arith in z))
-places_among n e (y ∷ xs) (inr h) = let r = places_among (n + 1) e xs h in (suc r.0, r.1, r.2 ∙ (let z : (n + 1) + r.0 ≡ n + suc r.0 = omega arith in z))
+pub indexes_among : {A : Type 0} (n : ℕ) (e : ℕ × A) (xs : List A) → Among e (enumerate_from n xs) → (i : ℕ) × (slice_get xs i ≡ Some e.1) × (e.0 ≡ n + i)
+indexes_among n e [] h = absurd h
+indexes_among n e (y ∷ xs) (inl p) = (0, ap (λ w. Some w.1) p, ap (λ w. w.0) (sym p) ∙ (let z : n ≡ n + 0 = omega arith in z))
+indexes_among n e (y ∷ xs) (inr h) = let r = indexes_among (n + 1) e xs h in (suc r.0, r.1, r.2 ∙ (let z : (n + 1) + r.0 ≡ n + suc r.0 = omega arith in z))
 
 pub among_at : {A : Type 0} (xs : List A) (i : ℕ) (x : A) → i < length xs → x ≡ get_or xs i x → Among x xs
 among_at [] i x h e = absurd (omega arith)

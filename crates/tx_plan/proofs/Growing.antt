@@ -21,7 +21,7 @@ use Rattle.tx_plan.specs.declared.ids.Direction.TheVariants.{OneWay}
 use Rattle.tx_plan.specs.declared.ids.Pair.{Pair}
 use Rattle.tx_plan.specs.declared.range.LineRange.{LineRange}
 use Rattle.tx_plan.specs.declared.refusal.PlanRefusal.{PlanRefusal}
-use Rattle.tx_plan.proofs.ByPlace.{pairs_put}
+use Rattle.tx_plan.proofs.ByIndex.{pairs_put}
 use Rattle.tx_plan.proofs.Lists.{opposed, unlike, at_least, all_map, all_put, none_passes, apart, one_more, longer_by, slice_get_left, placed, placed_within, one_word, all_mapped, all_with}
 
 -- WHERE NOTHING REFUSES

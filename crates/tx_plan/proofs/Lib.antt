@@ -2,7 +2,7 @@ pub mod Among
 pub mod Ambiguity
 pub mod Absent
 pub mod LineFound
-pub mod ByPlace
+pub mod ByIndex
 pub mod NamesBack
 pub mod Growing
 pub mod Made

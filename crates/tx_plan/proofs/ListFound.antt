@@ -6,7 +6,7 @@ use Rattle.std.proofs.lemmas.Bool.{and_from, and_left, and_right, eq-eqb, ne_eqb
 use Rattle.tx_plan.specs.Plan.{Plan, Route}
 use Rattle.tx_plan.specs.Rules.{EachPair, IsPlan}
 use Rattle.tx_plan.specs.Routes.{route_list}
-use Rattle.tx_plan.proofs.ByPlace.{all_at}
+use Rattle.tx_plan.proofs.ByIndex.{all_at}
 
 found_at : (r : Route) (rs : List Route) (k : ℕ) → EachPair (λ q s. q.exchange ≡ s.exchange → q.code ≢ s.code) rs → slice_get rs k ≡ Some r → find (λ q. (q.exchange == r.exchange) && (q.code == r.code)) rs ≡ Some r
 found_at r [] k d at = absurd (let z : ⊥ = cc in z)

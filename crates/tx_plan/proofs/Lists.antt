@@ -51,9 +51,9 @@ slice_get_left [] ys k h = absurd (omega (arith, h))
 slice_get_left (x ∷ xs) ys zero h = refl
 slice_get_left (x ∷ xs) ys (suc k) h = slice_get_left xs ys k (omega (arith, h))
 
--- PLACES
+-- INDEXES
 
--- where no element passes, the place is past the end
+-- where no element passes, the index is past the end
 none_len : {A : Type 0} (t : A → Bool) (xs : List A) → AllByRecursion (λ x. t x ≡ false) xs → position_or_len t xs ≡ length xs
 none_len t [] h = refl
 none_len t (x ∷ xs) h = rw (h.0, none_len t xs h.1) (omega arith)
@@ -61,12 +61,12 @@ none_len t (x ∷ xs) h = rw (h.0, none_len t xs h.1) (omega arith)
 not_below : (n : ℕ) → nat_lt n n ≡ false
 not_below n = grind (arith, nat_tests)
 
-pub no_place : {A : Type 0} (t : A → Bool) (xs : List A) → AllByRecursion (λ x. t x ≡ false) xs → position t xs ≡ None
-no_place t xs h = rw (none_len t xs h, not_below (length xs)) refl
+pub no_index : {A : Type 0} (t : A → Bool) (xs : List A) → AllByRecursion (λ x. t x ≡ false) xs → position t xs ≡ None
+no_index t xs h = rw (none_len t xs h, not_below (length xs)) refl
 
-place_found : {A : Type 0} (t : A → Bool) (xs : List A) → list_any t xs ≡ true → position_or_len t xs < length xs
-place_found t [] h = absurd (cc)
-place_found t (x ∷ xs) h = by_test (t x) h (place_found t xs)
+index_found : {A : Type 0} (t : A → Bool) (xs : List A) → list_any t xs ≡ true → position_or_len t xs < length xs
+index_found t [] h = absurd (cc)
+index_found t (x ∷ xs) h = by_test (t x) h (index_found t xs)
   where
     by_test : (b : Bool) → (b || list_any t xs) ≡ true → (list_any t xs ≡ true → position_or_len t xs < length xs) → cond (not b) (1 + position_or_len t xs) 0 < suc (length xs)
     by_test true h k = omega arith
@@ -75,12 +75,12 @@ place_found t (x ∷ xs) h = by_test (t x) h (place_found t xs)
 pub below : (m n : ℕ) → m < n → nat_lt m n ≡ true
 below m n h = grind (arith, nat_tests)
 
--- where one passes, the place is of a member that passes
+-- where one passes, the index is of a member that passes
 pub placed : {A : Type 0} (t : A → Bool) (xs : List A) → list_any t xs ≡ true → position t xs ≡ Some (unwrap_or (position t xs) 0)
-placed t xs h = rw (below (position_or_len t xs) (length xs) (place_found t xs h)) refl
+placed t xs h = rw (below (position_or_len t xs) (length xs) (index_found t xs h)) refl
 
 pub placed_within : {A : Type 0} (t : A → Bool) (xs : List A) → list_any t xs ≡ true → unwrap_or (position t xs) 0 < length xs
-placed_within t xs h = rw (below (position_or_len t xs) (length xs) (place_found t xs h)) (place_found t xs h)
+placed_within t xs h = rw (below (position_or_len t xs) (length xs) (index_found t xs h)) (index_found t xs h)
 
 -- the word that was looked for stands there
 pub placed_word : {A : Type 0} (word : A → List ℕ) (d : A) (w : List ℕ) (xs : List A) → list_any (λ x. bytes_eq w (word x)) xs ≡ true → w ≡ word (get_or xs (unwrap_or (position (λ x. bytes_eq w (word x)) xs) 0) d)
@@ -88,7 +88,7 @@ placed_word word d w xs h =
     let found = position-Some (λ x. bytes_eq w (word x)) xs (unwrap_or (position (λ x. bytes_eq w (word x)) xs) 0) d (placed (λ x. bytes_eq w (word x)) xs h) in
     (bytes_eq-Decides w (word (get_or xs (unwrap_or (position (λ x. bytes_eq w (word x)) xs) 0) d))).0 found.1
 
--- two words that and_parts are in a list at one place are one
+-- two words that and_parts are in a list at one index are one
 pub one_word : {A : Type 0} (word : A → List ℕ) (d : A) (v w : List ℕ) (xs : List A) → list_any (λ x. bytes_eq v (word x)) xs ≡ true → list_any (λ x. bytes_eq w (word x)) xs ≡ true
     → unwrap_or (position (λ x. bytes_eq v (word x)) xs) 0 ≡ unwrap_or (position (λ x. bytes_eq w (word x)) xs) 0 → v ≡ w
 one_word word d v w xs h k e = placed_word word d v xs h ∙ ap (λ i. word (get_or xs i d)) e ∙ sym (placed_word word d w xs k)
@@ -101,10 +101,10 @@ pub all_with : {A : Type 0} {P Q R : A → Type 0} (xs : List A) → ((x : A) �
 all_with [] f h k = tt
 all_with (x ∷ xs) f h k = (f x h.0 k.0, all_with xs f h.1 k.1)
 
--- a place is found exactly where one passes
+-- an index is found exactly where one passes
 pub found_any : {A : Type 0} (t : A → Bool) (xs : List A) → is_some (position t xs) ≡ list_any t xs
 found_any t xs = by_test (list_any t xs) refl
   where
     by_test : (b : Bool) → list_any t xs ≡ b → is_some (position t xs) ≡ list_any t xs
     by_test true h = ap is_some (placed t xs h) ∙ sym h
-    by_test false h = ap is_some (no_place t xs (none_passes t xs h)) ∙ sym h
+    by_test false h = ap is_some (no_index t xs (none_passes t xs h)) ∙ sym h

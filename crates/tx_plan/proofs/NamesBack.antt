@@ -1,14 +1,14 @@
--- The names of a plan's exchanges, codes and groups lead back to their places.
+-- The names of a plan's exchanges, codes and groups lead back to their indexes.
 use Rattle.std.proofs.Common.{◌≡◌, ℕ, ◌<◌, Bool, true, length, Option, Some}
 use Rattle.tx_text.specs.Words.{is_name}
 use Rattle.tx_plan.specs.Plan.{Plan, Code, Group, exchange_named, code_named, group_named, exchange_name, figures_of, group_name}
 use Rattle.tx_plan.specs.Rules.{IsPlan, IsCode, IsGroup, is_code}
 use Rattle.tx_plan.specs.Declaring.{has_exchange, has_code, has_group}
-use Rattle.tx_plan.proofs.ByPlace.{entry_at, all_at, place_back, place_passes}
+use Rattle.tx_plan.proofs.ByIndex.{entry_at, all_at, index_back, index_passes}
 
--- a word that names the entry at a place
-pub record IsNameOf (named : Option ℕ) (has : Bool) (place : ℕ) : Type 0 where
-  pub back : named ≡ Some place
+-- a word that names the entry at an index
+pub record IsNameOf (named : Option ℕ) (has : Bool) (index : ℕ) : Type 0 where
+  pub back : named ≡ Some index
   pub there : has ≡ true
 
 module _ (p : Plan) (h : IsPlan p) where
@@ -16,7 +16,7 @@ module _ (p : Plan) (h : IsPlan p) where
   exchange_back x l =
       let e = entry_at p.exchanges x l in
       let q = e.1 in
-      rw q (record { back = place_back (λ name. name) p.exchanges x e.0 h.exchanges_differ q; there = place_passes (λ name. name) p.exchanges x e.0 q })
+      rw q (record { back = index_back (λ name. name) p.exchanges x e.0 h.exchanges_differ q; there = index_passes (λ name. name) p.exchanges x e.0 q })
 
   pub exchange_is_name : (x : ℕ) → x < length p.exchanges → is_name (exchange_name p x) ≡ true
   exchange_is_name x l =
@@ -28,7 +28,7 @@ module _ (p : Plan) (h : IsPlan p) where
   code_back c l =
       let e = entry_at p.codes c l in
       let q = e.1 in
-      rw q (record { back = place_back (λ (r : Code). r.figures) p.codes c e.0 h.codes_differ q; there = place_passes (λ (r : Code). r.figures) p.codes c e.0 q })
+      rw q (record { back = index_back (λ (r : Code). r.figures) p.codes c e.0 h.codes_differ q; there = index_passes (λ (r : Code). r.figures) p.codes c e.0 q })
 
   pub figures_are_code : (c : ℕ) → c < length p.codes → is_code (figures_of p c) ≡ true
   figures_are_code c l =
@@ -41,7 +41,7 @@ module _ (p : Plan) (h : IsPlan p) where
   group_back g l =
       let e = entry_at p.groups g l in
       let q = e.1 in
-      rw q (record { back = place_back (λ (r : Group). r.name) p.groups g e.0 h.groups_differ q; there = place_passes (λ (r : Group). r.name) p.groups g e.0 q })
+      rw q (record { back = index_back (λ (r : Group). r.name) p.groups g e.0 h.groups_differ q; there = index_passes (λ (r : Group). r.name) p.groups g e.0 q })
 
   pub group_is_name : (g : ℕ) → g < length p.groups → is_name (group_name p g) ≡ true
   group_is_name g l =

@@ -12,8 +12,8 @@ use Rattle.tx_plan.specs.declared.ids.Direction.TheVariants.{OneWay}
 use Rattle.tx_plan.proofs.Lists.{one_word, below, same_tests}
 
 -- two declared names are one exactly where they name one group
-place_is_word : (p : Plan) (v w : List ℕ) → has_group p v ≡ true → has_group p w ≡ true → (group_at p w == group_at p v) ≡ bytes_eq v w
-place_is_word p v w h k =
+index_is_word : (p : Plan) (v w : List ℕ) → has_group p v ≡ true → has_group p w ≡ true → (group_at p w == group_at p v) ≡ bytes_eq v w
+index_is_word p v w h k =
     same_tests (group_at p w == group_at p v) (bytes_eq v w)
     (λ e. (bytes_eq-Decides v w).1 (one_word (λ (g : Group). g.name) (record { name = []; a = 0; b = 0; direction = OneWay; count = 0 }) v w p.groups h k (sym (eqb-true (group_at p w) (group_at p v) e))))
     (λ e. eq-eqb (group_at p w) (group_at p v) (ap (group_at p) (sym ((bytes_eq-Decides v w).0 e))))
@@ -23,9 +23,9 @@ any_as_words : (p : Plan) (v : List ℕ) (ws : List (List ℕ)) → has_group p 
 any_as_words p v [] h k = refl
 any_as_words p v (w ∷ ws) h k =
     let n = or_parts (not (has_group p w)) (list_any (λ g. not (has_group p g)) ws) k in
-    ap (λ b. b || list_any (λ y. y == group_at p v) (map (group_at p) ws)) (place_is_word p v w h (not-false (has_group p w) n.0)) ∙ ap (λ b. bytes_eq v w || b) (any_as_words p v ws h n.1)
+    ap (λ b. b || list_any (λ y. y == group_at p v) (map (group_at p) ws)) (index_is_word p v w h (not-false (has_group p w) n.0)) ∙ ap (λ b. bytes_eq v w || b) (any_as_words p v ws h n.1)
 
--- of declared groups no place stands there twice exactly where no word does
+-- of declared groups no index stands there twice exactly where no word does
 pub differ_as_words : (p : Plan) (ws : List (List ℕ)) → list_any (λ g. not (has_group p g)) ws ≡ false → differ (map (group_at p) ws) ≡ none_twice ws
 differ_as_words p [] h = refl
 differ_as_words p (w ∷ ws) h =

@@ -1,4 +1,4 @@
--- Tests and places of a table's rows are those of the plan's entries.
+-- Tests and indexes of a table's rows are those of the plan's entries.
 use Rattle.std.proofs.Common.{◌≡◌, ℕ, Bool, ◌||◌, List, [], ◌∷◌, map, Option, Some, None, refl, sym, ap, ◌∙◌}
 use Rattle.std.specs.Prelude.{position, slice_get}
 use Rattle.std.specs.List.{list_any, position_or_len}
@@ -19,7 +19,7 @@ position_or_len-map t f (x ∷ xs) = rw (position_or_len-map t f xs) refl
 pub position-map : {A B : Type 0} (t : B → Bool) (f : A → B) (xs : List A) → position t (map f xs) ≡ position (λ x. t (f x)) xs
 position-map t f xs = rw (position_or_len-map t f xs, length-map xs f) refl
 
--- what is read at a place of a plan's list is read of the entry at that place of its map
+-- what is read at an index of a plan's list is read of the entry at that index of its map
 pub value_at : {A B C : Type 0} (f : A → B) (read : B → C) (z : C) (es : List A) (i : ℕ) (o : Option A) → o ≡ slice_get es i → option_map_or (λ e. read (f e)) o z ≡ option_map_or read (slice_get (map f es) i) z
 value_at {A} f read z es i o h = by o ∙ ap (λ (o : Option A). option_map_or read (option_map f o) z) h ∙ ap (λ o. option_map_or read o z) (sym (slice_get-map f es i))
   where

@@ -9,7 +9,7 @@ use Rattle.std.specs.Cmp.Lexicographic.{slice_cmp}
 use Rattle.tx_plan.specs.Plan.{Code}
 use Rattle.tx_plan.specs.Codes.{is_prefix}
 
--- a code and another one, each with its place
+-- a code and another one, each with its index
 pub record CodePair : Type 0 where
   pub first : ℕ × Code
   pub second : ℕ × Code

@@ -27,15 +27,15 @@ may_seize_row r x = (r.a == x) || (is_both r.direction && (r.b == x))
 abbrev pub may_seize : Plan → ℕ → ℕ → Bool
 may_seize p g x = option_map_or (λ r. may_seize_row r x) (slice_get p.groups g) false
 
--- from which ends a group may be seized; the first only for a place that the plan does not have
+-- from which ends a group may be seized; the first only for an index that the plan does not have
 abbrev pub direction_of : Plan → ℕ → Direction
 direction_of p g = option_map_or (λ r. r.direction) (slice_get p.groups g) OneWay
 
--- how many circuits a group has; none for a place that the plan does not have
+-- how many circuits a group has; none for an index that the plan does not have
 abbrev pub count_of : Plan → ℕ → ℕ
 count_of p g = option_map_or (λ r. r.count) (slice_get p.groups g) 0
 
--- both ends of a group, the first one first; the first exchange twice for a place that the plan
+-- both ends of a group, the first one first; the first exchange twice for an index that the plan
 -- does not have
 abbrev pub ends_of : Plan → ℕ → ℕ × ℕ
 ends_of p g = option_map_or (λ r. (r.a, r.b)) (slice_get p.groups g) (0, 0)

@@ -14,7 +14,7 @@ after (x ∷ xs) (y ∷ ys) = if x == y then after xs ys else None
 abbrev pub is_prefix : List ℕ → List ℕ → Bool
 is_prefix front text = is_some (after front text)
 
--- the codes, with their places, that begin the figures
+-- the codes, with their indexes, that begin the figures
 abbrev pub codes_before : Plan → List ℕ → List (ℕ × Code)
 codes_before p keyed = filter (λ e. is_prefix e.1.figures keyed) (enumerate_from 0 p.codes)
 

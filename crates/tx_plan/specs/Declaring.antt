@@ -41,7 +41,7 @@ has_code p figures = list_any (λ c. bytes_eq figures c.figures) p.codes
 abbrev pub has_group : Plan → List ℕ → Bool
 has_group p name = list_any (λ g. bytes_eq name g.name) p.groups
 
--- both places as a pair, if there are both
+-- both indexes as a pair, if there are both
 abbrev pub pair_of : Option ℕ → Option ℕ → Option Pair
 pair_of None c = None
 pair_of (Some x) None = None
@@ -146,15 +146,15 @@ bar_refusals p exchange code =
     ∷ (is_none (pair_named p exchange code), Unknown)
     ∷ (holds_at (pair_named p exchange code) (λ x c. home_of p c == x), BarAtHome) ∷ []
 
--- the place of the exchange of a name, which is declared
+-- the index of the exchange of a name, which is declared
 abbrev pub exchange_at : Plan → List ℕ → ℕ
 exchange_at p name = unwrap_or (exchange_named p name) 0
 
--- the place of the code of these figures, which is declared
+-- the index of the code of these figures, which is declared
 abbrev pub code_at : Plan → List ℕ → ℕ
 code_at p figures = unwrap_or (code_named p figures) 0
 
--- the place of the group of a name, which is declared
+-- the index of the group of a name, which is declared
 abbrev pub group_at : Plan → List ℕ → ℕ
 group_at p name = unwrap_or (group_named p name) 0
 

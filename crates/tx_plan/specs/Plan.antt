@@ -25,7 +25,7 @@ pub record Route : Type 0 where
   pub code : ℕ
   pub groups : List ℕ
 
--- An exchange is its name. Exchanges, codes and groups are known by their places in these lists,
+-- An exchange is its name. Exchanges, codes and groups are known by their indexes in these lists,
 -- from 0. A range is the national numbers of a code from low to high. A bar is an exchange and a
 -- code: calls that start there for that code are not admitted.
 pub record Plan : Type 0 where
@@ -52,18 +52,18 @@ code_named p figures = position (λ c. bytes_eq figures c.figures) p.codes
 abbrev pub group_named : Plan → List ℕ → Option ℕ
 group_named p name = position (λ g. bytes_eq name g.name) p.groups
 
--- the name of an exchange; nothing for a place that the plan does not have
+-- the name of an exchange; nothing for an index that the plan does not have
 abbrev pub exchange_name : Plan → ℕ → List ℕ
 exchange_name p x = option_map_or (λ name. name) (slice_get p.exchanges x) []
 
--- the figures of a code; nothing for a place that the plan does not have
+-- the figures of a code; nothing for an index that the plan does not have
 abbrev pub figures_of : Plan → ℕ → List ℕ
 figures_of p code = option_map_or (λ c. c.figures) (slice_get p.codes code) []
 
--- the name of a group; nothing for a place that the plan does not have
+-- the name of a group; nothing for an index that the plan does not have
 abbrev pub group_name : Plan → ℕ → List ℕ
 group_name p g = option_map_or (λ r. r.name) (slice_get p.groups g) []
 
--- the home of a code; the first exchange for a place that the plan does not have
+-- the home of a code; the first exchange for an index that the plan does not have
 abbrev pub home_of : Plan → ℕ → ℕ
 home_of p code = option_map_or (λ c. c.home) (slice_get p.codes code) 0

@@ -100,20 +100,20 @@ pub(crate) fn range_entry<A: Allocator>(
     let Some(greatest) = National::read(high) else {
         return Err(PlanRefusal::BadNumber);
     };
-    let Some(place) = plan.code_named(code) else {
+    let Some(index) = plan.code_named(code) else {
         return Err(PlanRefusal::Unknown);
     };
     if !is_ordered(low, high) {
         return Err(PlanRefusal::RangeOrder);
     }
-    if plan.overlaps(place, low, high) {
+    if plan.overlaps(index, low, high) {
         return Err(PlanRefusal::Overlap);
     }
     if plan.ranges() >= 4096 {
         return Err(PlanRefusal::TooMany);
     }
     Ok(LineRange {
-        code: place,
+        code: index,
         low: least,
         high: greatest,
     })

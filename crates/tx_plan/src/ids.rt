@@ -8,10 +8,10 @@ use std::hash::{BuildHasher, Hash, Hasher};
 use std::marker::Model;
 use tx_text::{InlineBytes, are_figures};
 
-/// An exchange of a plan, by its place. An id is foreign to a plan that has no such place.
+/// An exchange of a plan, by its index. An id is foreign to a plan that has no such index.
 #[derive(Clone, Copy, Debug, PartialEq, Eq, Hash)]
 pub struct ExchangeId {
-    place: u16,
+    index: u16,
 }
 
 impl Model for ExchangeId {
@@ -19,34 +19,34 @@ impl Model for ExchangeId {
 
     ghost Value = { ℕ };
 
-    ghost view = { λ e. e.place };
+    ghost view = { λ e. e.index };
 
-    ghost inverse = { λ n. record { place = n } };
+    ghost inverse = { λ n. record { index = n } };
 }
 
 impl ExchangeId {
-    /// The exchange at a place.
-    pub fn of(place: usize) -> ExchangeId
-        requires { place < 65536 }
-        ensures { result ≡ place }
+    /// The exchange at an index.
+    pub fn of(index: usize) -> ExchangeId
+        requires { index < 65536 }
+        ensures { result ≡ index }
     {
         ExchangeId {
-            place: place as u16,
+            index: index as u16,
         }
     }
 
-    /// Its place, from 0, in the order of declaration.
+    /// Its index, from 0, in the order of declaration.
     pub fn index(self) -> usize
         ensures { result ≡ self }
     {
-        usize::from(self.place)
+        usize::from(self.index)
     }
 }
 
-/// A destination code of a plan, by its place. An id is foreign to a plan that has no such place.
+/// A destination code of a plan, by its index. An id is foreign to a plan that has no such index.
 #[derive(Clone, Copy, Debug, PartialEq, Eq, Hash)]
 pub struct CodeId {
-    place: u16,
+    index: u16,
 }
 
 impl Model for CodeId {
@@ -54,41 +54,41 @@ impl Model for CodeId {
 
     ghost Value = { ℕ };
 
-    ghost view = { λ e. e.place };
+    ghost view = { λ e. e.index };
 
-    ghost inverse = { λ n. record { place = n } };
+    ghost inverse = { λ n. record { index = n } };
 }
 
 impl CodeId {
-    /// Its place.
-    pub(crate) fn place(self) -> u16
+    /// Its index.
+    pub(crate) fn index(self) -> u16
         ensures { result ≡ self }
     {
-        self.place
+        self.index
     }
 
-    /// The code at a place.
-    pub fn of(place: usize) -> CodeId
-        requires { place < 65536 }
-        ensures { result ≡ place }
+    /// The code at an index.
+    pub fn of(index: usize) -> CodeId
+        requires { index < 65536 }
+        ensures { result ≡ index }
     {
         CodeId {
-            place: place as u16,
+            index: index as u16,
         }
     }
 
-    /// Its place, from 0, in the order of declaration.
+    /// Its index, from 0, in the order of declaration.
     pub fn index(self) -> usize
         ensures { result ≡ self }
     {
-        usize::from(self.place)
+        usize::from(self.index)
     }
 }
 
-/// A group of circuits of a plan, by its place. An id is foreign to a plan that has no such place.
+/// A group of circuits of a plan, by its index. An id is foreign to a plan that has no such index.
 #[derive(Clone, Copy, Debug, Default, PartialEq, Eq, Hash)]
 pub struct GroupId {
-    place: u16,
+    index: u16,
 }
 
 impl Model for GroupId {
@@ -96,27 +96,27 @@ impl Model for GroupId {
 
     ghost Value = { ℕ };
 
-    ghost view = { λ e. e.place };
+    ghost view = { λ e. e.index };
 
-    ghost inverse = { λ n. record { place = n } };
+    ghost inverse = { λ n. record { index = n } };
 }
 
 impl GroupId {
-    /// The group at a place.
-    pub fn of(place: usize) -> GroupId
-        requires { place < 65536 }
-        ensures { result ≡ place }
+    /// The group at an index.
+    pub fn of(index: usize) -> GroupId
+        requires { index < 65536 }
+        ensures { result ≡ index }
     {
         GroupId {
-            place: place as u16,
+            index: index as u16,
         }
     }
 
-    /// Its place, from 0, in the order of declaration.
+    /// Its index, from 0, in the order of declaration.
     pub fn index(self) -> usize
         ensures { result ≡ self }
     {
-        usize::from(self.place)
+        usize::from(self.index)
     }
 }
 
@@ -240,7 +240,7 @@ impl Hash for Line {
     ghost respects_eq = { λ l m h. ap line_bytes (same_line-is l m h) };
 
     fn hash<H: Hasher>(&self, state: &mut H) {
-        state.write_u16(self.code.place());
+        state.write_u16(self.code.index());
         state.write(self.national.padded());
     }
 }
@@ -254,10 +254,10 @@ pub fn at_most(low: &[u8], high: &[u8]) -> bool
 
 const MULTIPLIER: u64 = 0x9E37_79B9_7F4A_7C15;
 
-/// Hashes the keys of a map word by word. The lower bits, by which a map finds a place, are those
+/// Hashes the keys of a map word by word. The lower bits, by which a map finds a slot, are those
 /// above the lower half of a product: each bit of a key reaches them, and numbers that follow one
-/// another come to places that do. The upper eight of 32, by which it distinguishes the
-/// keys of one place, are of the lower half too.
+/// another come to slots that do. The upper eight of 32, by which it distinguishes the
+/// keys of one slot, are of the lower half too.
 #[derive(Clone, Copy, Debug)]
 pub struct ByWord;
 

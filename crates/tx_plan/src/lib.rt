@@ -3,7 +3,7 @@
 //!
 //! A `PlanBuilder` takes one declaration after another, and refuses each that breaks a rule. A
 //! `Plan` that it gives is never changed, and keeps the rules of all six lists. Exchanges, codes
-//! and groups are spoken of by ids, which are places in the order of declaration.
+//! and groups are spoken of by ids, which are indexes in the order of declaration.
 //!
 //! ```
 //! fn two_exchanges(alloc: Global) -> Result<Plan, PlanRefusal> {

@@ -70,8 +70,8 @@ impl<A: Allocator> Plan<A> {
         if name.len() > 8 {
             return None;
         }
-        let place = exchanges.get_index_of(&NameKey::new(name))?;
-        Some(ExchangeId::of(place))
+        let index = exchanges.get_index_of(&NameKey::new(name))?;
+        Some(ExchangeId::of(index))
     }
 
     /// The code of these figures, if it is declared.
@@ -82,8 +82,8 @@ impl<A: Allocator> Plan<A> {
         if figures.len() > 3 {
             return None;
         }
-        let place = codes.get_index_of(&NameKey::new(figures))?;
-        Some(CodeId::of(place))
+        let index = codes.get_index_of(&NameKey::new(figures))?;
+        Some(CodeId::of(index))
     }
 
     /// The group of a name, if one is declared.
@@ -94,8 +94,8 @@ impl<A: Allocator> Plan<A> {
         if name.len() > 8 {
             return None;
         }
-        let place = groups.get_index_of(&NameKey::new(name))?;
-        Some(GroupId::of(place))
+        let index = groups.get_index_of(&NameKey::new(name))?;
+        Some(GroupId::of(index))
     }
 
     /// The name of an exchange; no bytes for a foreign one.

@@ -47,7 +47,7 @@ impl<A: Allocator> Model for Plan<A> {
         p.groups.entries p.routes p.bars) };
 }
 
-/// Counts, and entries by their places.
+/// Counts, and entries by their indexes.
 impl<A: Allocator> Plan<A> {
     /// Its lists obey the rules. Does nothing: its callers' proofs name it.
     pub fn rules(&self)
@@ -108,61 +108,61 @@ impl<A: Allocator> Plan<A> {
         self.bars.len()
     }
 
-    /// The exchange at a place, from 0.
-    pub fn exchange_at(&self, place: usize) -> Option<ExchangeId>
-        ensures { result ≡ (if nat_lt place (length self.now.exchanges) then Some place else None) }
+    /// The exchange at an index, from 0.
+    pub fn exchange_at(&self, index: usize) -> Option<ExchangeId>
+        ensures { result ≡ (if nat_lt index (length self.now.exchanges) then Some index else None) }
     {
-        if place < self.exchanges.len() {
-            Some(ExchangeId::of(place))
+        if index < self.exchanges.len() {
+            Some(ExchangeId::of(index))
         } else {
             None
         }
     }
 
-    /// The code at a place, from 0.
-    pub fn code_at(&self, place: usize) -> Option<CodeId>
-        ensures { result ≡ (if nat_lt place (length self.now.codes) then Some place else None) }
+    /// The code at an index, from 0.
+    pub fn code_at(&self, index: usize) -> Option<CodeId>
+        ensures { result ≡ (if nat_lt index (length self.now.codes) then Some index else None) }
     {
-        if place < self.codes.len() {
-            Some(CodeId::of(place))
+        if index < self.codes.len() {
+            Some(CodeId::of(index))
         } else {
             None
         }
     }
 
-    /// The group at a place, from 0.
-    pub fn group_at(&self, place: usize) -> Option<GroupId>
-        ensures { result ≡ (if nat_lt place (length self.now.groups) then Some place else None) }
+    /// The group at an index, from 0.
+    pub fn group_at(&self, index: usize) -> Option<GroupId>
+        ensures { result ≡ (if nat_lt index (length self.now.groups) then Some index else None) }
     {
-        if place < self.groups.len() {
-            Some(GroupId::of(place))
+        if index < self.groups.len() {
+            Some(GroupId::of(index))
         } else {
             None
         }
     }
 
-    /// The range at a place, from 0.
-    pub fn range_at(&self, place: usize) -> Option<LineRange>
-        ensures { result ≡ slice_get self.now.ranges place }
+    /// The range at an index, from 0.
+    pub fn range_at(&self, index: usize) -> Option<LineRange>
+        ensures { result ≡ slice_get self.now.ranges index }
     {
-        self.ranges.get(place).copied()
+        self.ranges.get(index).copied()
     }
 
-    /// The exchange and the code of the route at a place, from 0. `list` has its groups.
-    pub fn route_at(&self, place: usize) -> Option<(ExchangeId, CodeId)>
+    /// The exchange and the code of the route at an index, from 0. `list` has its groups.
+    pub fn route_at(&self, index: usize) -> Option<(ExchangeId, CodeId)>
         ensures value { result ≡ option_map (λ r. (r.exchange, r.code))
-            (slice_get self.now.routes place) }
+            (slice_get self.now.routes index) }
         ensures rules { IsPlan self.now }
     {
-        let pair = self.routes.pair_at(place)?;
+        let pair = self.routes.pair_at(index)?;
         Some((pair.exchange, pair.code))
     }
 
-    /// The exchange and the code of the bar at a place, from 0.
-    pub fn bar_at(&self, place: usize) -> Option<(ExchangeId, CodeId)>
-        ensures { result ≡ option_map (λ b. (b.exchange, b.code)) (slice_get self.now.bars place) }
+    /// The exchange and the code of the bar at an index, from 0.
+    pub fn bar_at(&self, index: usize) -> Option<(ExchangeId, CodeId)>
+        ensures { result ≡ option_map (λ b. (b.exchange, b.code)) (slice_get self.now.bars index) }
     {
-        let pair = self.bars.at(place)?;
+        let pair = self.bars.at(index)?;
         Some((pair.exchange, pair.code))
     }
 }
@@ -183,7 +183,7 @@ impl<A: Allocator> Plan<A> {
 
 /// Lines, origins and routes.
 impl<A: Allocator> Plan<A> {
-    /// The exchange where a code is at home; for a foreign code the id at place 0.
+    /// The exchange where a code is at home; for a foreign code the id at index 0.
     pub fn home(&self, code: CodeId) -> ExchangeId
         ensures { result ≡ home_of self.now code }
     {
@@ -323,7 +323,7 @@ impl<A: Allocator> Plan<A> {
         }
     }
 
-    /// The ends of the group, the first one first; for a foreign group the id at place 0 twice.
+    /// The ends of the group, the first one first; for a foreign group the id at index 0 twice.
     pub fn ends(&self, group: GroupId) -> (ExchangeId, ExchangeId)
         ensures { result ≡ ends_of self.now group }
     {

@@ -79,12 +79,12 @@ impl<A: Allocator> Routes<A> {
         }
     }
 
-    /// The pair of the route at a place.
-    pub fn pair_at(&self, place: usize) -> Option<Pair>
+    /// The pair of the route at an index.
+    pub fn pair_at(&self, index: usize) -> Option<Pair>
         ensures { result ≡ option_map (λ r. record { exchange = r.exchange; code = r.code })
-            (slice_get self.now place) }
+            (slice_get self.now index) }
     {
-        let (pair, _) = self.rows.get_index(place)?;
+        let (pair, _) = self.rows.get_index(index)?;
         Some(*pair)
     }
 
@@ -143,11 +143,11 @@ impl<A: Allocator> Bars<A> {
         self.pairs.contains(pair)
     }
 
-    /// The pair at a place.
-    pub fn at(&self, place: usize) -> Option<Pair>
-        ensures { result ≡ slice_get self.now place }
+    /// The pair at an index.
+    pub fn at(&self, index: usize) -> Option<Pair>
+        ensures { result ≡ slice_get self.now index }
     {
-        self.pairs.get_index(place).copied()
+        self.pairs.get_index(index).copied()
     }
 
     /// Appends a bar.

@@ -1,7 +1,7 @@
 pub mod Counts
 pub mod Entries
 pub mod ListLines
-pub mod Places
+pub mod Indexes
 pub mod PlanLines
 pub mod PlanWriting
 pub mod RouteLines

@@ -15,8 +15,8 @@ use Rattle.tx_plan.specs.Rules.{IsPlan, EachPair, IsCode, IsRange, IsGroup, AreS
 use Rattle.tx_plan.specs.Declaring.{exchange_refusals, code_refusals, lines_refusals, group_refusals, has_exchange, has_code, has_group, shares, overlaps, is_ordered}
 use Rattle.tx_plantext.specs.PlanText.{declare, direction_of, count_of, group_by}
 use Rattle.tx_plantext.specs.PlanWritten.{exchange_words, code_words, range_words, group_words, direction_word}
-use Rattle.tx_plan.proofs.ByPlace.{bytes_apart}
-use Rattle.tx_plantext.proofs.Places.{all_between, apart_front, all_weaker, none_passes, length_front}
+use Rattle.tx_plan.proofs.ByIndex.{bytes_apart}
+use Rattle.tx_plantext.proofs.Indexes.{all_between, apart_front, all_weaker, none_passes, length_front}
 use Rattle.tx_plantext.proofs.ListLines.{IsLineOf, none_true, unless-none}
 use Rattle.tx_plan.proofs.NamesBack.{exchange_back, exchange_is_name, code_back, figures_are_code}
 
@@ -146,7 +146,7 @@ module _ (v : ℕ) (p : Plan) (h : IsPlan p) where
       none_passes (λ c. bytes_eq x.name c.name) f (all_weaker (λ y. y.name ≢ x.name) (λ y. bytes_eq x.name y.name ≡ false) (λ y k. bytes_apart x.name y.name (λ q. k (sym q))) f
       (apart_front (λ y z. y.name ≢ z.name) f x b (subst (EachPair (λ (y z : Group). y.name ≢ z.name)) (sym e) h.groups_differ)))
 
-  -- exchanges at two places have two names
+  -- exchanges at two indexes have two names
   ends_apart : (a b : ℕ) → a < length p.exchanges → b < length p.exchanges → a ≢ b → bytes_eq (exchange_name p a) (exchange_name p b) ≡ false
   ends_apart a b l k d =
       bytes_apart (exchange_name p a) (exchange_name p b) (λ e.

@@ -19,7 +19,7 @@ use Rattle.tx_plan.specs.Circuits.{direction_of, count_of, ends_of}
 use Rattle.tx_plan.specs.Routes.{route_list}
 use Rattle.tx_plan.specs.Rules.{IsPlan}
 use Rattle.tx_plantext.specs.PlanWritten.{plan_written, has_bars, head_of, exchange_words, code_words, range_words, direction_word, group_words, route_words, bar_words, lines_of_list, line_at}
-use Rattle.tx_plan.proofs.ByPlace.{entry_at}
+use Rattle.tx_plan.proofs.ByIndex.{entry_at}
 use Rattle.tx_plan.proofs.ListFound.{list_found}
 
 -- ---- the lines of a list
@@ -152,7 +152,7 @@ pub named_route : (p : Plan) (x c : ℕ) (name figures groups : List ℕ) → na
     → line_written (route_words p (record { exchange = x; code = c; groups = route_list p x c })) ≡ route_head name figures ++ route_end p groups
 named_route p x c name figures groups n f l = rw (l, n, f) (route_line p (exchange_name p x) (figures_of p c) (route_list p x c))
 
--- the route at a place is that of its exchange for its code
+-- the route at an index is that of its exchange for its code
 pub route_placed : (p : Plan) (i : ℕ) (at : ℕ × ℕ) → IsPlan p → ◌≡◌ {A = Option (ℕ × ℕ)} (Some at) (option_map (λ (r : Route). (r.exchange, r.code)) (slice_get p.routes i))
     → line_at (route_words p) p.routes i ≡ line_written (route_words p (record { exchange = at.0; code = at.1; groups = route_list p at.0 at.1 }))
 route_placed p i at h e =

@@ -14,8 +14,8 @@ use Rattle.tx_plan.specs.Rules.{IsPlan, EachPair, IsRoute, IsBar}
 use Rattle.tx_plan.specs.Declaring.{first_true, route_refusals, bar_refusals, has_group, has_route, pair_named, is_not_outgoing, none_twice, group_at, with_route, with_bar}
 use Rattle.tx_plantext.specs.PlanText.{declare}
 use Rattle.tx_plantext.specs.PlanWritten.{route_words, bar_words}
-use Rattle.tx_plan.proofs.ByPlace.{bytes_apart}
-use Rattle.tx_plantext.proofs.Places.{all_between, apart_front, all_weaker, none_passes}
+use Rattle.tx_plan.proofs.ByIndex.{bytes_apart}
+use Rattle.tx_plantext.proofs.Indexes.{all_between, apart_front, all_weaker, none_passes}
 use Rattle.tx_plantext.proofs.ListLines.{IsLineOf, none_true, unless-none}
 use Rattle.tx_plan.proofs.NamesBack.{exchange_back, exchange_is_name, code_back, figures_are_code, group_back, group_is_name}
 

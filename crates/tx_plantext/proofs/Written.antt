@@ -13,7 +13,7 @@ use Rattle.tx_plantext.specs.PlanWritten.{plan_lines, head_of, version_of, has_b
 use Rattle.tx_plantext.proofs.ListLines.{list_leads}
 use Rattle.tx_plantext.proofs.PlanLines.{exchanges_so_far, codes_so_far, ranges_so_far, groups_so_far, exchange_declared, code_declared, range_declared, group_declared}
 use Rattle.tx_plantext.proofs.RouteLines.{routes_so_far, bars_so_far, route_declared, bar_declared}
-use Rattle.tx_plantext.proofs.Places.{length_front}
+use Rattle.tx_plantext.proofs.Indexes.{length_front}
 
 head_written : (bars : Bool) → IsWrittenLine (head_of bars)
 head_written false = line_of_short (head_of false) (fixed_word (codes "PLAN") refl, (fixed_word (codes "1") refl, tt)) (omega arith)

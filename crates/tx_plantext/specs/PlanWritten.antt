@@ -62,10 +62,10 @@ plan_lines p = map exchange_words p.exchanges
 abbrev pub lines_of_list : {A : Type 0} → (A → List (List ℕ)) → List A → List ℕ
 lines_of_list words entries = flat_map (λ x. line_written (words x)) entries
 
--- the line of the entry at a place, if there is one
+-- the line of the entry at an index, if there is one
 abbrev pub line_at : {A : Type 0} → (A → List (List ℕ)) → List A → ℕ → List ℕ
-line_at words entries place =
-    option_map_or (λ x. line_written (words x)) (slice_get entries place) []
+line_at words entries index =
+    option_map_or (λ x. line_written (words x)) (slice_get entries index) []
 
 -- whether a plan has bars
 abbrev pub has_bars : Plan → Bool

@@ -64,8 +64,8 @@ fn write_exchanges<A: Allocator, W: Sink>(plan: &Plan<A>, sink: &mut W) -> Resul
     ensures { Wrote W.taken W.failed sink.old sink.new
         (lines_of_list exchange_words plan.now.exchanges) result }
 {
-    for place in 0..plan.exchanges() {
-        write_exchange(plan, place, sink)?;
+    for index in 0..plan.exchanges() {
+        write_exchange(plan, index, sink)?;
     }
     Ok(())
 }
@@ -74,8 +74,8 @@ fn write_codes<A: Allocator, W: Sink>(plan: &Plan<A>, sink: &mut W) -> Result<()
     ensures { Wrote W.taken W.failed sink.old sink.new
         (lines_of_list (code_words plan.now) plan.now.codes) result }
 {
-    for place in 0..plan.codes() {
-        write_code(plan, place, sink)?;
+    for index in 0..plan.codes() {
+        write_code(plan, index, sink)?;
     }
     Ok(())
 }
@@ -84,8 +84,8 @@ fn write_ranges<A: Allocator, W: Sink>(plan: &Plan<A>, sink: &mut W) -> Result<(
     ensures { Wrote W.taken W.failed sink.old sink.new
         (lines_of_list (range_words plan.now) plan.now.ranges) result }
 {
-    for place in 0..plan.ranges() {
-        write_range(plan, place, sink)?;
+    for index in 0..plan.ranges() {
+        write_range(plan, index, sink)?;
     }
     Ok(())
 }
@@ -94,8 +94,8 @@ fn write_groups<A: Allocator, W: Sink>(plan: &Plan<A>, sink: &mut W) -> Result<(
     ensures { Wrote W.taken W.failed sink.old sink.new
         (lines_of_list (group_words plan.now) plan.now.groups) result }
 {
-    for place in 0..plan.groups() {
-        write_group(plan, place, sink)?;
+    for index in 0..plan.groups() {
+        write_group(plan, index, sink)?;
     }
     Ok(())
 }
@@ -104,8 +104,8 @@ fn write_routes<A: Allocator, W: Sink>(plan: &Plan<A>, sink: &mut W) -> Result<(
     ensures { Wrote W.taken W.failed sink.old sink.new
         (lines_of_list (route_words plan.now) plan.now.routes) result }
 {
-    for place in 0..plan.routes() {
-        write_route_at(plan, place, sink)?;
+    for index in 0..plan.routes() {
+        write_route_at(plan, index, sink)?;
     }
     Ok(())
 }
@@ -114,23 +114,23 @@ fn write_bars<A: Allocator, W: Sink>(plan: &Plan<A>, sink: &mut W) -> Result<(),
     ensures { Wrote W.taken W.failed sink.old sink.new
         (lines_of_list (bar_words plan.now) plan.now.bars) result }
 {
-    for place in 0..plan.bars() {
-        write_bar(plan, place, sink)?;
+    for index in 0..plan.bars() {
+        write_bar(plan, index, sink)?;
     }
     Ok(())
 }
 
-// LINES: that of the entry at a place, if there is one
+// LINES: that of the entry at an index, if there is one
 
 fn write_exchange<A: Allocator, W: Sink>(
     plan: &Plan<A>,
-    place: usize,
+    index: usize,
     sink: &mut W,
 ) -> Result<(), WriteFault>
     ensures { Wrote W.taken W.failed sink.old sink.new
-        (line_at exchange_words plan.now.exchanges place) result }
+        (line_at exchange_words plan.now.exchanges index) result }
 {
-    match plan.exchange_at(place) {
+    match plan.exchange_at(index) {
         Some(exchange) => write_parts(&[b"EXCHANGE ", plan.exchange_name(exchange), b"\n"], sink),
         None => Ok(()),
     }
@@ -138,13 +138,13 @@ fn write_exchange<A: Allocator, W: Sink>(
 
 fn write_code<A: Allocator, W: Sink>(
     plan: &Plan<A>,
-    place: usize,
+    index: usize,
     sink: &mut W,
 ) -> Result<(), WriteFault>
     ensures { Wrote W.taken W.failed sink.old sink.new
-        (line_at (code_words plan.now) plan.now.codes place) result }
+        (line_at (code_words plan.now) plan.now.codes index) result }
 {
-    match plan.code_at(place) {
+    match plan.code_at(index) {
         Some(code) => {
             let home = plan.exchange_name(plan.home(code));
             write_parts(
@@ -158,13 +158,13 @@ fn write_code<A: Allocator, W: Sink>(
 
 fn write_range<A: Allocator, W: Sink>(
     plan: &Plan<A>,
-    place: usize,
+    index: usize,
     sink: &mut W,
 ) -> Result<(), WriteFault>
     ensures { Wrote W.taken W.failed sink.old sink.new
-        (line_at (range_words plan.now) plan.now.ranges place) result }
+        (line_at (range_words plan.now) plan.now.ranges index) result }
 {
-    match plan.range_at(place) {
+    match plan.range_at(index) {
         Some(range) => {
             let code = plan.code_figures(range.code);
             write_parts(
@@ -186,13 +186,13 @@ fn write_range<A: Allocator, W: Sink>(
 
 fn write_group<A: Allocator, W: Sink>(
     plan: &Plan<A>,
-    place: usize,
+    index: usize,
     sink: &mut W,
 ) -> Result<(), WriteFault>
     ensures { Wrote W.taken W.failed sink.old sink.new
-        (line_at (group_words plan.now) plan.now.groups place) result }
+        (line_at (group_words plan.now) plan.now.groups index) result }
 {
-    match plan.group_at(place) {
+    match plan.group_at(index) {
         Some(group) => {
             let name = plan.group_name(group);
             let (a, b) = plan.ends(group);
@@ -227,13 +227,13 @@ fn write_count<W: Sink>(count: u32, sink: &mut W) -> Result<(), WriteFault>
 
 fn write_route_at<A: Allocator, W: Sink>(
     plan: &Plan<A>,
-    place: usize,
+    index: usize,
     sink: &mut W,
 ) -> Result<(), WriteFault>
     ensures { Wrote W.taken W.failed sink.old sink.new
-        (line_at (route_words plan.now) plan.now.routes place) result }
+        (line_at (route_words plan.now) plan.now.routes index) result }
 {
-    match plan.route_at(place) {
+    match plan.route_at(index) {
         Some((exchange, code)) => write_route(plan, exchange, code, sink),
         None => Ok(()),
     }
@@ -282,13 +282,13 @@ fn write_names<A: Allocator, W: Sink>(
 
 fn write_bar<A: Allocator, W: Sink>(
     plan: &Plan<A>,
-    place: usize,
+    index: usize,
     sink: &mut W,
 ) -> Result<(), WriteFault>
     ensures { Wrote W.taken W.failed sink.old sink.new
-        (line_at (bar_words plan.now) plan.now.bars place) result }
+        (line_at (bar_words plan.now) plan.now.bars index) result }
 {
-    match plan.bar_at(place) {
+    match plan.bar_at(index) {
         Some((exchange, code)) => {
             let exchange = plan.exchange_name(exchange);
             write_parts(

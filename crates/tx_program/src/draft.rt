@@ -12,12 +12,12 @@ pub struct Draft {
     file: File,
     /// Where it is until it is whole. What is no regular file, as a device or a pipe, is
     /// written to at once, and so is what the program has open already.
-    place: Option<Place>,
+    names: Option<Names>,
 }
 
 /// Where a file is until it is whole.
 #[derive(Debug, Drop)]
-struct Place {
+struct Names {
     /// The name of a new file in the same folder.
     beside: String,
     /// The name that it gets.
@@ -38,7 +38,7 @@ impl Draft {
     pub(crate) fn begin(rt: &HostRuntime, name: &str) -> io::Result<Draft> {
         if is_open_already(name) {
             let file = OpenOptions::new().append(true).open(rt, name)?;
-            return Ok(Draft { file, place: None });
+            return Ok(Draft { file, names: None });
         }
         match OpenOptions::new().write(true).open(rt, name) {
             Ok(old) => Draft::in_place_of(rt, old, name),
@@ -47,14 +47,14 @@ impl Draft {
         }
     }
 
-    /// Begins a file that is to take the place of an old one, and has its permissions. A link to
+    /// Begins a file that is to take the names of an old one, and has its permissions. A link to
     /// the old one stays one.
     fn in_place_of(rt: &HostRuntime, old: File, name: &str) -> io::Result<Draft> {
         let metadata = old.metadata()?;
         if !metadata.is_file() {
             return Ok(Draft {
                 file: old,
-                place: None,
+                names: None,
             });
         }
         drop(old);
@@ -78,7 +78,7 @@ impl Draft {
                 Ok(file) => {
                     return Ok(Draft {
                         file,
-                        place: Some(Place { beside, name }),
+                        names: Some(Names { beside, name }),
                     });
                 }
                 Err(e) if e.kind() == io::ErrorKind::AlreadyExists => {}
@@ -100,10 +100,10 @@ impl Draft {
     }
 
     fn put(&self, rt: &HostRuntime) -> io::Result<()> {
-        match &self.place {
-            Some(place) => {
+        match &self.names {
+            Some(names) => {
                 self.file.sync_all()?;
-                fs::rename(rt, place.beside.as_str(), place.name.as_str())
+                fs::rename(rt, names.beside.as_str(), names.name.as_str())
             }
             None => Ok(()),
         }
@@ -111,8 +111,8 @@ impl Draft {
 
     /// Removes what is beside the name.
     pub(crate) fn give_up(self, rt: &HostRuntime) {
-        if let Some(place) = &self.place {
-            let _ = fs::remove_file(rt, place.beside.as_str());
+        if let Some(names) = &self.names {
+            let _ = fs::remove_file(rt, names.beside.as_str());
         }
     }
 }

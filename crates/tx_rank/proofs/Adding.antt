@@ -5,7 +5,7 @@ use Rattle.std.proofs.lemmas.List.{map-append}
 use Rattle.tx_plan.specs.Rules.{EachPair}
 use Rattle.tx_plan.specs.Among.{Among}
 use Rattle.tx_plan.proofs.Among.{among_left, among_right, among_cases}
-use Rattle.tx_plan.proofs.ByPlace.{pairs_put}
+use Rattle.tx_plan.proofs.ByIndex.{pairs_put}
 use Rattle.tx_rank.specs.declared.finding.Finding.{Finding}
 use Rattle.tx_rank.specs.declared.finding.Finding.TheVariants.{Short}
 use Rattle.tx_rank.specs.Walks.{Net, Walk, end_of, IsWalk, IsShort}
@@ -17,7 +17,7 @@ use Rattle.tx_rank.proofs.Walked.{short_true, short_at}
 
 module _ {A : Type 0} (n : Net) (code spare : ℕ) where
   module _ (ranks : ℕ → Option ℕ) (done : AreSettled n ranks) where
-    -- no walk to the exchange at place i is short
+    -- no walk to the exchange at index i is short
     pub below_skip : (old new : List (Finding A)) (i : ℕ) → AddsBelow n code spare i old new → (IsShortAt n ranks spare i → ⊥) → AddsBelow n code spare (i + 1) old new
     below_skip old new i b none =
         record {

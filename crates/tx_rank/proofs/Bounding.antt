@@ -44,7 +44,7 @@ front_goes n k x [] g l = absurd (omega arith)
 front_goes n zero x (s ∷ way) g l = ([], tt, g.0, refl)
 front_goes n (suc k) x (s ∷ way) g l = let f = front_goes n k s.1 way g.3 (omega arith) in (s ∷ f.0, (g.0, g.1, g.2, f.1), f.2, ap suc f.3)
 
--- what the exchanges before place i ask for
+-- what the exchanges before index i ask for
 abbrev pub SuitsBelow : Net → (ℕ → Option ℕ) → (i limit spare : ℕ) → Type 0
 SuitsBelow n ranks i limit spare = (x : ℕ) → x < i → Suits n ranks x limit spare
 

@@ -76,7 +76,7 @@ module _ (n : Net) (ranks : ℕ → Option ℕ) (p : ℕ) where
         ];
       })
 
--- the links of the exchanges before place i
+-- the links of the exchanges before index i
 pub record IsLinkedBelow (n : Net) (ranks : ℕ → Option ℕ) (links : List (Option (ℕ × ℕ))) (i : ℕ) : Type 0 where
   pub long : length links ≡ n.exchanges
   pub true_of : AreLinks n ranks links
@@ -96,7 +96,7 @@ module _ (n : Net) (ranks : ℕ → Option ℕ) where
     below = λ p r lt. absurd (omega (arith, lt));
   }
 
-  -- the next place has nothing to link
+  -- the next index has nothing to link
   pub below_skip : (links : List (Option (ℕ × ℕ))) (i : ℕ) → LinksBelow n ranks links i → ((r : ℕ) → ranks i ≡ Some r → i ≢ n.home → ⊥) → LinksBelow n ranks links (i + 1)
   below_skip links i b nothing p r h ranked away =
       elim (eqb p i) as (λ t. eqb p i ≡ t → LinksAll n links p (n.list p)) [

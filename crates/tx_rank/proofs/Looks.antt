@@ -15,7 +15,7 @@ among_at [] i x h = absurd (let bad : ⊥ = cc in bad)
 among_at (y ∷ xs) zero x h = let same : y ≡ x = cc in inl same
 among_at (y ∷ xs) (suc i) x h = inr (among_at xs i x h)
 
--- what was read at a place of a list
+-- what was read at an index of a list
 pub got_at : (xs ys : List ℕ) (i x : ℕ) → xs ≡ ys → i < length xs → x ≡ get_or xs i x → slice_get ys i ≡ Some x
 got_at xs ys i x e h is = ap (λ l. slice_get l i) (sym e) ∙ slice_get-get_or xs i x h ∙ ap (λ k. Some k) (sym is)
 

@@ -76,7 +76,7 @@ before_end [] b x h = absurd (omega (arith, h))
 before_end (c ∷ bs) b zero h = refl
 before_end (c ∷ bs) b (suc x) h = before_end bs b x (omega (arith, h))
 
--- the origins before place i are marked
+-- the origins before index i are marked
 pub record AreOriginsBefore (p : Plan) (c i : ℕ) (marks : List Bool) : Type 0 where
   pub long : length marks ≡ i
   pub each : (x : ℕ) → x < i → is_marked marks x ≡ is_origin_for p x c
@@ -152,7 +152,7 @@ module _ (n : Net) (x : ℕ) where
         ];
       }
 
-  -- the group at a place leads to y
+  -- the group at an index leads to y
   pub opening_step : (i : ℕ) (old seen : List Bool) (g y : ℕ) → slice_get (n.list x) i ≡ Some g → IsOpening n x (take i (n.list x)) old seen → IsReached n x → x ≢ n.home → n.far g x ≡ Some y → y < n.exchanges → IsOpening n x (take (i + 1) (n.list x)) old (set seen y true)
   opening_step i old seen g y at o r away leads within =
       subst (λ (gs : List ℕ). IsOpening n x gs old (set seen y true)) (sym (take_next (n.list x) i g at)) (opening_more (take i (n.list x)) old seen g y o r away (among_at (n.list x) i g at) leads within)

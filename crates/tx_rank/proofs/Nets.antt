@@ -10,7 +10,7 @@ use Rattle.tx_plan.specs.Circuits.{other_end, far_end, may_seize, is_both}
 use Rattle.tx_plan.specs.Rules.{IsPlan, IsCode, IsRange, IsGroup, IsRoute}
 use Rattle.tx_plan.specs.declared.range.LineRange.{LineRange}
 use Rattle.tx_plan.specs.Among.{Among}
-use Rattle.tx_plan.proofs.ByPlace.{entry_at}
+use Rattle.tx_plan.proofs.ByIndex.{entry_at}
 use Rattle.tx_rank.specs.Walks.{net_of}
 use Rattle.tx_rank.specs.Nets.{IsNet}
 use Rattle.tx_rank.proofs.Ways.{all_among}

@@ -8,7 +8,7 @@ use Rattle.tx_cert.specs.Certificate.{Certificate, rank_at}
 use Rattle.tx_rank.specs.inner.Marks.{rank_of, rank_in}
 use Rattle.tx_rank.specs.declared.mark.Mark.{Mark}
 
--- those of the exchanges before place i
+-- those of the exchanges before index i
 pub record IsWriting (old new : Certificate) (marks : List Mark) (code i : ℕ) : Type 0 where
   pub here : (x : ℕ) → x < i → rank_at new code x ≡ rank_in marks x
   pub blank : (x : ℕ) → i ≤ x → rank_at new code x ≡ None

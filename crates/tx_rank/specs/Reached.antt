@@ -7,7 +7,7 @@ use Rattle.std.specs.Option.{option_map_or}
 use Rattle.tx_rank.specs.Walks.{Net}
 use Rattle.tx_rank.specs.Heights.{IsReached}
 
--- the mark of an exchange; none for a place that the plan does not have
+-- the mark of an exchange; none for an index that the plan does not have
 abbrev pub is_marked : List Bool → ℕ → Bool
 is_marked marks x = option_map_or (λ b. b) (slice_get marks x) false
 

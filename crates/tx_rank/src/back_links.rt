@@ -6,7 +6,7 @@ ghost use Rattle.tx_rank.specs.inner.Links.{AreLinks, LinksAll, LinksBelow, Stay
 use crate::distances::{distance, distances_of};
 use crate::list_scan::{onward, rank_at};
 use crate::mark::Mark;
-use crate::routes::Routes;
+use crate::routes::CodeNet;
 use std::alloc::Allocator;
 use tx_plan::{ExchangeId, GroupId};
 use tx_text::NoMemory;
@@ -33,7 +33,7 @@ fn is_nearer(distances: &[u16], exchange: ExchangeId, link: Link) -> bool
 }
 
 /// Links the exchanges to which an exchange leads, unless nearer ones lead there.
-fn link_list<N: Routes>(
+fn link_list<N: CodeNet>(
     net: &N,
     marks: &[Mark],
     distances: &[u16],
@@ -58,23 +58,23 @@ fn link_list<N: Routes>(
     }
 }
 
-/// Links the exchanges to which the exchange at a place leads.
-fn link_from<N: Routes>(
+/// Links the exchanges to which the exchange at an index leads.
+fn link_from<N: CodeNet>(
     net: &N,
     marks: &[Mark],
     distances: &[u16],
-    place: usize,
+    index: usize,
     links: &mut [Link],
 )
-    requires place { place < (N.net net.now).exchanges }
+    requires index { index < (N.net net.now).exchanges }
     requires marks { length marks.now ≡ (N.net net.now).exchanges }
     requires long { length links.old ≡ (N.net net.now).exchanges }
     requires links { AreLinks (N.net net.now) (rank_in marks.now) links.old }
-    requires below { LinksBelow (N.net net.now) (rank_in marks.now) links.old place }
+    requires below { LinksBelow (N.net net.now) (rank_in marks.now) links.old index }
     ensures links { AreLinks (N.net net.now) (rank_in marks.now) links.new }
-    ensures below { LinksBelow (N.net net.now) (rank_in marks.now) links.new (place + 1) }
+    ensures below { LinksBelow (N.net net.now) (rank_in marks.now) links.new (index + 1) }
 {
-    let exchange = net.exchange(place);
+    let exchange = net.exchange(index);
     if exchange == net.home() {
         return;
     }
@@ -85,7 +85,7 @@ fn link_from<N: Routes>(
 
 /// A link of each exchange to which another one leads on a walk: the nearest one, so that the links
 /// lead back by a shortest walk.
-pub fn links_of<A: Allocator + Copy, N: Routes>(
+pub fn links_of<A: Allocator + Copy, N: CodeNet>(
     alloc: A,
     net: &N,
     marks: &[Mark],
@@ -95,8 +95,8 @@ pub fn links_of<A: Allocator + Copy, N: Routes>(
 {
     let distances = distances_of(alloc, net)?;
     let mut links = vec![in alloc; None; net.exchanges()]?;
-    for place in 0..net.exchanges() {
-        link_from(net, marks, &distances, place, &mut links);
+    for index in 0..net.exchanges() {
+        link_from(net, marks, &distances, index, &mut links);
     }
     Ok(links)
 }

@@ -42,8 +42,8 @@ pub fn code_bounds<A: Allocator>(plan: &Plan<A>, cert: &Cert<A>, code: CodeId) -
 {
     cert.rules();
     let mut bounds = Bounds::widest();
-    for place in 0..plan.exchanges() {
-        let exchange = ExchangeId::of(place);
+    for index in 0..plan.exchanges() {
+        let exchange = ExchangeId::of(index);
         bounds = bounds.both(exchange_bounds(plan, cert, code, exchange));
     }
     bounds

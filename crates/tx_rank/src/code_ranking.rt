@@ -8,7 +8,7 @@ use crate::explore::{pass, unseen, walk_in_hand};
 use crate::finding::Finding;
 use crate::long_walk::long_walk;
 use crate::mark::Mark;
-use crate::routes::Routes;
+use crate::routes::CodeNet;
 use crate::short_walks::add_shorts;
 use crate::written::put_ranks;
 use std::alloc::Allocator;
@@ -18,7 +18,7 @@ use tx_text::NoMemory;
 
 /// Writes the ranks of a code that has no loop into the certificate, and adds its walks to short
 /// exchanges and a long one.
-fn judge_ranked<A: Allocator + Copy, N: Routes>(
+fn judge_ranked<A: Allocator + Copy, N: CodeNet>(
     alloc: A,
     net: &N,
     marks: &[Mark],
@@ -51,7 +51,7 @@ fn judge_ranked<A: Allocator + Copy, N: Routes>(
 }
 
 /// Adds what is wrong with a code, or writes its ranks into the certificate.
-pub fn rank_code<A: Allocator + Copy, N: Routes>(
+pub fn rank_code<A: Allocator + Copy, N: CodeNet>(
     alloc: A,
     net: &N,
     code: CodeId,

@@ -6,7 +6,7 @@ ghost use Rattle.tx_rank.specs.Nets.{IsNet};
 ghost use Rattle.tx_rank.specs.Judged.{AreOrigins};
 ghost use Rattle.tx_rank.specs.inner.NetLaws.{IsNet-prop};
 
-use crate::routes::Routes;
+use crate::routes::CodeNet;
 use std::alloc::Allocator;
 use tx_plan::{CodeId, ExchangeId, GroupId, Plan};
 use tx_text::NoMemory;
@@ -16,8 +16,8 @@ pub fn origins_of<A: Allocator + Copy>(alloc: A, plan: &Plan<A>) -> Result<Vec<b
     ensures { IfOk result (λ origins. AreOrigins plan.now origins.items) }
 {
     let mut origins = Vec::with_capacity(alloc, plan.exchanges())?;
-    for place in 0..plan.exchanges() {
-        origins.push_reserved(plan.is_origin(ExchangeId::of(place)));
+    for index in 0..plan.exchanges() {
+        origins.push_reserved(plan.is_origin(ExchangeId::of(index)));
     }
     Ok(origins)
 }
@@ -32,15 +32,15 @@ pub struct CodeRoutes<'a, A: Allocator> {
     ghost right: { AreOrigins plan.now origins.now },
 }
 
-impl<'a, A: Allocator> Routes for CodeRoutes<'a, A> {
+impl<'a, A: Allocator> CodeNet for CodeRoutes<'a, A> {
     ghost net = { λ r. net_of r.plan.now r.code };
 
     fn exchanges(&self) -> usize {
         self.plan.exchanges()
     }
 
-    fn exchange(&self, place: usize) -> ExchangeId {
-        ExchangeId::of(place)
+    fn exchange(&self, index: usize) -> ExchangeId {
+        ExchangeId::of(index)
     }
 
     fn home(&self) -> ExchangeId {

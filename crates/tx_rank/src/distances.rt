@@ -2,7 +2,7 @@
 ghost use Rattle.std.specs.Prelude.{◌≡◌, length, IfOk};
 
 use crate::list_scan::onward;
-use crate::routes::Routes;
+use crate::routes::CodeNet;
 use std::alloc::Allocator;
 use tx_plan::ExchangeId;
 use tx_text::NoMemory;
@@ -11,7 +11,7 @@ use tx_text::NoMemory;
 const FAR: u16 = u16::MAX;
 
 /// The steps of a shortest walk to each exchange.
-pub fn distances_of<A: Allocator + Copy, N: Routes>(
+pub fn distances_of<A: Allocator + Copy, N: CodeNet>(
     alloc: A,
     net: &N,
 ) -> Result<Vec<u16, A>, NoMemory>
@@ -23,7 +23,7 @@ pub fn distances_of<A: Allocator + Copy, N: Routes>(
 }
 
 /// Measures step by step, from where calls may start, until nothing more is reached.
-fn measure<N: Routes>(net: &N, distances: &mut [u16])
+fn measure<N: CodeNet>(net: &N, distances: &mut [u16])
     requires { length distances.old ≡ (N.net net.now).exchanges }
 {
     start(net, distances);
@@ -35,23 +35,23 @@ fn measure<N: Routes>(net: &N, distances: &mut [u16])
 }
 
 /// No step leads to where calls may start.
-fn start<N: Routes>(net: &N, distances: &mut [u16])
+fn start<N: CodeNet>(net: &N, distances: &mut [u16])
     requires { length distances.old ≡ (N.net net.now).exchanges }
 {
-    for place in 0..net.exchanges() {
-        if net.is_origin(net.exchange(place)) {
-            distances[place] = 0;
+    for index in 0..net.exchanges() {
+        if net.is_origin(net.exchange(index)) {
+            distances[index] = 0;
         }
     }
 }
 
 /// Reaches the exchanges to which those of this distance lead: whether one was not reached before.
-fn reach_on<N: Routes>(net: &N, steps: u16, distances: &mut [u16]) -> bool
+fn reach_on<N: CodeNet>(net: &N, steps: u16, distances: &mut [u16]) -> bool
     requires { length distances.old ≡ (N.net net.now).exchanges }
 {
     let mut more = false;
-    for place in 0..net.exchanges() {
-        if distances[place] == steps && reach_from(net, net.exchange(place), steps, distances) {
+    for index in 0..net.exchanges() {
+        if distances[index] == steps && reach_from(net, net.exchange(index), steps, distances) {
             more = true;
         }
     }
@@ -60,7 +60,7 @@ fn reach_on<N: Routes>(net: &N, steps: u16, distances: &mut [u16]) -> bool
 
 /// Reaches the exchanges to which one of this distance leads, unless it is the home: whether one
 /// was not reached before.
-fn reach_from<N: Routes>(net: &N, exchange: ExchangeId, steps: u16, distances: &mut [u16]) -> bool
+fn reach_from<N: CodeNet>(net: &N, exchange: ExchangeId, steps: u16, distances: &mut [u16]) -> bool
     requires { length distances.old ≡ (N.net net.now).exchanges }
 {
     if exchange == net.home() {

@@ -7,7 +7,7 @@ ghost use Rattle.tx_rank.specs.inner.Marks.{IsMarked, IsInHand, IsTrail, IsOnwar
 
 use crate::list_scan::{Look, Tried, look_on, rank_at, untried};
 use crate::mark::Mark;
-use crate::routes::Routes;
+use crate::routes::CodeNet;
 use crate::walk::{Steps, Walk};
 use std::alloc::Allocator;
 use tx_plan::{ExchangeId, GroupId};
@@ -33,7 +33,7 @@ pub struct Search<'a, A: Allocator> {
 }
 
 /// The marks before a pass: the home is ranked 0.
-pub fn unseen<'a, A: Allocator + Copy, N: Routes>(
+pub fn unseen<'a, A: Allocator + Copy, N: CodeNet>(
     alloc: A,
     net: &'a N,
 ) -> Result<Search<'a, A>, NoMemory>
@@ -86,7 +86,7 @@ fn is_open(marks: &[Mark], exchange: ExchangeId) -> bool
 }
 
 /// The current walk goes one step on.
-fn go_on<'a, A: Allocator, N: Routes>(
+fn go_on<'a, A: Allocator, N: CodeNet>(
     net: &'a N,
     search: &mut Search<'a, A>,
     group: GroupId,
@@ -130,7 +130,7 @@ fn take_last<'a, A: Allocator>(before: &mut Vec<Tried<'a>, A>, none: Tried<'a>) 
 }
 
 /// The last exchange of the current walk is ranked.
-fn settle<'a, A: Allocator, N: Routes>(
+fn settle<'a, A: Allocator, N: CodeNet>(
     net: &'a N,
     search: &mut Search<'a, A>,
     exchange: ExchangeId,
@@ -160,7 +160,7 @@ fn settle<'a, A: Allocator, N: Routes>(
 }
 
 /// A turn of the pass: it opens an exchange, or ranks one.
-fn advance<'a, A: Allocator, N: Routes>(
+fn advance<'a, A: Allocator, N: CodeNet>(
     net: &'a N,
     search: &mut Search<'a, A>,
 ) -> Result<Progress, NoMemory>
@@ -185,7 +185,7 @@ fn advance<'a, A: Allocator, N: Routes>(
 
 /// Goes over all walks that go on from the current walk: true if one of them is a loop, which is
 /// then in hand.
-fn explore<'a, A: Allocator, N: Routes>(
+fn explore<'a, A: Allocator, N: CodeNet>(
     net: &'a N,
     search: &mut Search<'a, A>,
 ) -> Result<bool, NoMemory>
@@ -210,7 +210,7 @@ fn explore<'a, A: Allocator, N: Routes>(
 }
 
 /// Goes over all walks from an origin that was not seen.
-fn start_at<'a, A: Allocator, N: Routes>(
+fn start_at<'a, A: Allocator, N: CodeNet>(
     net: &'a N,
     search: &mut Search<'a, A>,
     origin: ExchangeId,
@@ -232,20 +232,20 @@ fn start_at<'a, A: Allocator, N: Routes>(
     explore(net, search)
 }
 
-/// Goes over all walks from the exchange at a place.
-fn start_from<'a, A: Allocator, N: Routes>(
+/// Goes over all walks from the exchange at an index.
+fn start_from<'a, A: Allocator, N: CodeNet>(
     net: &'a N,
     search: &mut Search<'a, A>,
-    place: usize,
+    index: usize,
 ) -> Result<bool, NoMemory>
-    requires place { place < (N.net net.now).exchanges }
-    requires passing { IsPassing (N.net net.now) search.old.marks.items place }
+    requires index { index < (N.net net.now).exchanges }
+    requires passing { IsPassing (N.net net.now) search.old.marks.items index }
     ensures closed { IfOk result (λ closed. closed ≡ true
         → IsLoop (N.net net.now) search.new.start search.new.steps.items) }
     ensures done { IfOk result (λ closed. closed ≡ false
-        → IsPassing (N.net net.now) search.new.marks.items (place + 1)) }
+        → IsPassing (N.net net.now) search.new.marks.items (index + 1)) }
 {
-    let origin = net.exchange(place);
+    let origin = net.exchange(index);
     match rank_at(&search.marks, origin) {
         Some(_) => Ok(false),
         None => {
@@ -260,7 +260,7 @@ fn start_from<'a, A: Allocator, N: Routes>(
 
 /// Goes over all walks: true if one is a loop, which is then in hand. Each exchange is opened once
 /// and ranked once, however many walks pass it.
-pub fn pass<'a, A: Allocator, N: Routes>(
+pub fn pass<'a, A: Allocator, N: CodeNet>(
     net: &'a N,
     search: &mut Search<'a, A>,
 ) -> Result<bool, NoMemory>
@@ -271,8 +271,8 @@ pub fn pass<'a, A: Allocator, N: Routes>(
     ensures done { IfOk result (λ closed. closed ≡ false
         → IsPassed (N.net net.now) search.new.marks.items) }
 {
-    for place in 0..net.exchanges() {
-        if start_from(net, search, place)? {
+    for index in 0..net.exchanges() {
+        if start_from(net, search, index)? {
             return Ok(true);
         }
     }

@@ -86,8 +86,8 @@ pub fn grade<A: Allocator + Copy>(alloc: A, plan: &Plan<A>) -> Result<Grade<A>, 
     } else {
         None
     };
-    for place in 0..plan.codes() {
-        let code = CodeId::of(place);
+    for index in 0..plan.codes() {
+        let code = CodeId::of(index);
         let alone = code_grade(alloc, plan, &origins, code, &mut cert, &mut findings)?;
         together = both(together, alone);
         codes.push_reserved((code, alone));

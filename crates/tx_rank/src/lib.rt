@@ -53,5 +53,5 @@ pub use plan_grade::Grade;
 pub use ranking::{Ranking, pair_found, rank};
 pub use reaching::{far, reached};
 pub use report::{write_asked, write_finding, write_no, write_report, write_steps, write_verdict};
-pub use routes::Routes;
+pub use routes::CodeNet;
 pub use walk::{Steps, Walk};

@@ -4,7 +4,7 @@ ghost use Rattle.tx_rank.specs.declared.mark.Mark.{Mark};
 ghost use Rattle.tx_rank.specs.inner.Marks.{IsLook, IsTried, rank_in};
 
 use crate::mark::Mark;
-use crate::routes::Routes;
+use crate::routes::CodeNet;
 use tx_plan::{ExchangeId, GroupId};
 
 /// A group leads to an exchange without a rank, or all lead to ranks, of which this is the
@@ -25,7 +25,7 @@ pub struct Tried<'a> {
 }
 
 /// The list of an exchange, where no group was tried yet.
-pub fn untried<N: Routes>(net: &N, exchange: ExchangeId) -> Tried<'_>
+pub fn untried<N: CodeNet>(net: &N, exchange: ExchangeId) -> Tried<'_>
     ensures { (marks : List Mark) → IsTried (N.net net.now) marks exchange result }
 {
     Tried {
@@ -46,20 +46,20 @@ pub fn rank_at(marks: &[Mark], exchange: ExchangeId) -> Option<u16>
     }
 }
 
-/// The group at a place of an exchange's list, and where it leads.
-pub fn onward<N: Routes>(
+/// The group at an index of an exchange's list, and where it leads.
+pub fn onward<N: CodeNet>(
     net: &N,
     exchange: ExchangeId,
     list: &[GroupId],
-    place: usize,
+    index: usize,
 ) -> (GroupId, ExchangeId)
     requires list { list.now ≡ (N.net net.now).list exchange }
-    requires place { place < length list.now }
-    ensures at { slice_get ((N.net net.now).list exchange) place ≡ Some result.0 }
+    requires index { index < length list.now }
+    ensures at { slice_get ((N.net net.now).list exchange) index ≡ Some result.0 }
     ensures leads { (N.net net.now).far result.0 exchange ≡ Some result.1 }
     ensures within { result.1 < (N.net net.now).exchanges }
 {
-    let group = list[place];
+    let group = list[index];
     (group, net.far(group, exchange))
 }
 
@@ -73,7 +73,7 @@ fn greater(a: u16, b: u16) -> u16
 }
 
 /// Looks at the groups of an exchange that were not tried yet.
-pub fn look_on<N: Routes>(
+pub fn look_on<N: CodeNet>(
     net: &N,
     marks: &[Mark],
     exchange: ExchangeId,

@@ -6,7 +6,7 @@ ghost use Rattle.tx_rank.specs.inner.Judged.{IsLongFrom, IsLongFound};
 
 use crate::list_scan::{onward, rank_at};
 use crate::mark::Mark;
-use crate::routes::Routes;
+use crate::routes::CodeNet;
 use crate::walk::{Steps, Walk};
 use std::alloc::Allocator;
 use tx_plan::{ExchangeId, GroupId};
@@ -25,7 +25,7 @@ fn has_rank(marks: &[Mark], exchange: ExchangeId, rank: u16) -> bool
 }
 
 /// The first group that leads to this rank.
-fn lower<N: Routes>(
+fn lower<N: CodeNet>(
     net: &N,
     marks: &[Mark],
     exchange: ExchangeId,
@@ -46,7 +46,7 @@ fn lower<N: Routes>(
 }
 
 /// A walk of this many steps from an origin that is ranked higher.
-fn walk_down<A: Allocator + Copy, N: Routes>(
+fn walk_down<A: Allocator + Copy, N: CodeNet>(
     alloc: A,
     net: &N,
     marks: &[Mark],
@@ -79,19 +79,19 @@ fn walk_down<A: Allocator + Copy, N: Routes>(
     })
 }
 
-/// A long walk from the exchange at a place, if there is one.
-fn long_from<A: Allocator + Copy, N: Routes>(
+/// A long walk from the exchange at an index, if there is one.
+fn long_from<A: Allocator + Copy, N: CodeNet>(
     alloc: A,
     net: &N,
     marks: &[Mark],
-    place: usize,
+    index: usize,
     limit: u8,
 ) -> Result<Option<Walk<A>>, NoMemory>
-    requires place { place < (N.net net.now).exchanges }
+    requires index { index < (N.net net.now).exchanges }
     requires passed { IsPassed (N.net net.now) marks.now }
-    ensures { IfOk result (IsLongFrom (N.net net.now) (rank_in marks.now) limit place) }
+    ensures { IfOk result (IsLongFrom (N.net net.now) (rank_in marks.now) limit index) }
 {
-    let exchange = net.exchange(place);
+    let exchange = net.exchange(index);
     let count = u16::from(limit) + 1;
     match rank_at(marks, exchange) {
         Some(rank) if rank > count => {
@@ -106,7 +106,7 @@ fn long_from<A: Allocator + Copy, N: Routes>(
 }
 
 /// A long walk, if there is one.
-pub fn long_walk<A: Allocator + Copy, N: Routes>(
+pub fn long_walk<A: Allocator + Copy, N: CodeNet>(
     alloc: A,
     net: &N,
     marks: &[Mark],
@@ -115,8 +115,8 @@ pub fn long_walk<A: Allocator + Copy, N: Routes>(
     requires { IsPassed (N.net net.now) marks.now }
     ensures { IfOk result (IsLongFound (N.net net.now) (rank_in marks.now) limit) }
 {
-    for place in 0..net.exchanges() {
-        let found = long_from(alloc, net, marks, place, limit)?;
+    for index in 0..net.exchanges() {
+        let found = long_from(alloc, net, marks, index, limit)?;
         if found.is_some() {
             return Ok(found);
         }

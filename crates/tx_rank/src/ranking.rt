@@ -85,8 +85,8 @@ fn rank_each<A: Allocator + Copy>(
         (length plan.now.codes) cert.new findings.new.items) }
 {
     let Limits { limit, spare } = limits;
-    for place in 0..plan.codes() {
-        let code = CodeId::of(place);
+    for index in 0..plan.codes() {
+        let code = CodeId::of(index);
         let net = CodeRoutes {
             plan,
             origins,

@@ -11,7 +11,7 @@ ghost use Rattle.tx_rank.specs.inner.Seen.{AreSeen, LeadsToSeen, StaysSeen};
 
 use crate::code_routes::CodeRoutes;
 use crate::marks::is_marked;
-use crate::routes::Routes;
+use crate::routes::CodeNet;
 use std::alloc::Allocator;
 use tx_plan::{CodeId, ExchangeId, GroupId, Plan};
 use tx_text::NoMemory;
@@ -48,13 +48,13 @@ fn starts<A: Allocator + Copy>(
     ensures { IfOk result (λ marks. AreSeen (net_of plan.now code) marks.items) }
 {
     let mut marks = Vec::with_capacity(alloc, plan.exchanges())?;
-    for place in 0..plan.exchanges() {
+    for index in 0..plan.exchanges() {
         let routes = CodeRoutes {
             plan,
             origins,
             code,
         };
-        marks.push_reserved(routes.is_origin(ExchangeId::of(place)));
+        marks.push_reserved(routes.is_origin(ExchangeId::of(index)));
     }
     Ok(marks)
 }
@@ -75,8 +75,8 @@ fn next(seen: &[bool], opened: &[bool]) -> Option<ExchangeId>
     ensures none { IfNone result ((x : ℕ) → is_marked seen.now x ≡ true
         → is_marked opened.now x ≡ true) }
 {
-    for place in 0..seen.len() {
-        let exchange = ExchangeId::of(place);
+    for index in 0..seen.len() {
+        let exchange = ExchangeId::of(index);
         if is_waiting(seen, opened, exchange) {
             return Some(exchange);
         }

@@ -7,17 +7,17 @@ ghost use Rattle.tx_rank.specs.Nets.{IsNet};
 use tx_plan::{ExchangeId, GroupId};
 
 /// The network as calls for one code see it.
-pub trait Routes {
+pub trait CodeNet {
     ghost net: { Self → Net };
 
     /// How many exchanges there are.
     fn exchanges(&self) -> usize
         ensures { result ≡ (net self.now).exchanges };
 
-    /// The exchange at a place.
-    fn exchange(&self, place: usize) -> ExchangeId
-        requires { place < (net self.now).exchanges }
-        ensures { result ≡ place };
+    /// The exchange at an index.
+    fn exchange(&self, index: usize) -> ExchangeId
+        requires { index < (net self.now).exchanges }
+        ensures { result ≡ index };
 
     /// The home of the code.
     fn home(&self) -> ExchangeId

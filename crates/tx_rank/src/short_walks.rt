@@ -9,7 +9,7 @@ use crate::back_links::{Link, link_at, links_of};
 use crate::finding::Finding;
 use crate::list_scan::rank_at;
 use crate::mark::Mark;
-use crate::routes::Routes;
+use crate::routes::CodeNet;
 use crate::walk::{Steps, Walk};
 use std::alloc::Allocator;
 use tx_plan::{CodeId, ExchangeId};
@@ -17,7 +17,7 @@ use tx_text::NoMemory;
 
 /// Whether a walk comes to the exchange, which is not the home and may try no more than this many
 /// groups.
-fn is_short<N: Routes>(net: &N, marks: &[Mark], exchange: ExchangeId, spare: u8) -> bool
+fn is_short<N: CodeNet>(net: &N, marks: &[Mark], exchange: ExchangeId, spare: u8) -> bool
     requires { exchange < length marks.now }
     ensures yes { result ≡ true → IsShortAt (N.net net.now) (rank_in marks.now) spare exchange }
     ensures not_so { result ≡ false → IsShortAt (N.net net.now) (rank_in marks.now) spare exchange
@@ -33,12 +33,12 @@ fn is_short<N: Routes>(net: &N, marks: &[Mark], exchange: ExchangeId, spare: u8)
 }
 
 /// Whether there is such an exchange.
-fn has_short<N: Routes>(net: &N, marks: &[Mark], spare: u8) -> bool
+fn has_short<N: CodeNet>(net: &N, marks: &[Mark], spare: u8) -> bool
     requires { length marks.now ≡ (N.net net.now).exchanges }
     ensures { result ≡ false → (x : ℕ) → IsShortAt (N.net net.now) (rank_in marks.now) spare x → ⊥ }
 {
-    for place in 0..net.exchanges() {
-        if is_short(net, marks, net.exchange(place), spare) {
+    for index in 0..net.exchanges() {
+        if is_short(net, marks, net.exchange(index), spare) {
             return true;
         }
     }
@@ -46,7 +46,7 @@ fn has_short<N: Routes>(net: &N, marks: &[Mark], spare: u8) -> bool
 }
 
 /// A shortest walk to an exchange, which is found from its end.
-fn walk_to<A: Allocator + Copy, N: Routes>(
+fn walk_to<A: Allocator + Copy, N: CodeNet>(
     alloc: A,
     net: &N,
     marks: &[Mark],
@@ -78,25 +78,25 @@ fn walk_to<A: Allocator + Copy, N: Routes>(
     })
 }
 
-/// Adds a walk to the exchange at a place, if its list is too short.
-fn add_short<A: Allocator + Copy, N: Routes>(
+/// Adds a walk to the exchange at an index, if its list is too short.
+fn add_short<A: Allocator + Copy, N: CodeNet>(
     alloc: A,
     net: &N,
     marks: &[Mark],
     links: &[Link],
-    place: usize,
+    index: usize,
     code: CodeId,
     spare: u8,
     findings: &mut Vec<Finding<A>, A>,
 ) -> Result<(), NoMemory>
-    requires place { place < (N.net net.now).exchanges }
+    requires index { index < (N.net net.now).exchanges }
     requires passed { IsPassed (N.net net.now) marks.now }
     requires linked { IsLinked (N.net net.now) (rank_in marks.now) links.now }
     ensures { IfOk result (λ _. (first : List (Finding A))
-        → AddsBelow (N.net net.now) code spare place first findings.old.items
-        → AddsBelow (N.net net.now) code spare (place + 1) first findings.new.items) }
+        → AddsBelow (N.net net.now) code spare index first findings.old.items
+        → AddsBelow (N.net net.now) code spare (index + 1) first findings.new.items) }
 {
-    let exchange = net.exchange(place);
+    let exchange = net.exchange(index);
     if !is_short(net, marks, exchange, spare) {
         return Ok(());
     }
@@ -106,7 +106,7 @@ fn add_short<A: Allocator + Copy, N: Routes>(
 }
 
 /// Adds a walk to each exchange whose list is too short, in order of the exchanges.
-pub fn add_shorts<A: Allocator + Copy, N: Routes>(
+pub fn add_shorts<A: Allocator + Copy, N: CodeNet>(
     alloc: A,
     net: &N,
     marks: &[Mark],
@@ -122,8 +122,8 @@ pub fn add_shorts<A: Allocator + Copy, N: Routes>(
         return Ok(());
     }
     let links = links_of(alloc, net, marks)?;
-    for place in 0..net.exchanges() {
-        add_short(alloc, net, marks, &links, place, code, spare, findings)?;
+    for index in 0..net.exchanges() {
+        add_short(alloc, net, marks, &links, index, code, spare, findings)?;
     }
     Ok(())
 }

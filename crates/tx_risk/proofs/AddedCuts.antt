@@ -10,7 +10,7 @@ use Rattle.tx_plan.specs.Routes.{is_origin_for}
 use Rattle.tx_rank.proofs.Nets.{is_net}
 use Rattle.tx_plan.specs.Among.{Among}
 use Rattle.tx_plan.proofs.Among.{among_left, among_right, among_cases}
-use Rattle.tx_plan.proofs.ByPlace.{pairs_put}
+use Rattle.tx_plan.proofs.ByIndex.{pairs_put}
 use Rattle.tx_rank.specs.Walks.{Net, Goes, AllDiffer, net_of, passed}
 use Rattle.tx_rank.specs.Heights.{IsReached}
 use Rattle.tx_rank.proofs.Ways.{among_all}
@@ -57,7 +57,7 @@ module _ {A : Type 0} (l : Left) (o : Outage) where
     };
   }
 
-  -- the exchange at place i is not in question, or there is no cut from it
+  -- the exchange at index i is not in question, or there is no cut from it
   pub before_skip : (old new : List (Cut A)) (i : ℕ) → Adds (Before i) old new
       → ((steps : List (ℕ × ℕ)) → is_asked l.plan o l.code i ≡ true
       → IsCut (left_net l) i steps → ⊥)

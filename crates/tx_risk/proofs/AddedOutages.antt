@@ -61,7 +61,7 @@ named_known p risks ok i g t = at (slice_get risks i) refl t
         let l = all_among (λ h. h < length p.groups) r.groups m.0 k.known m.1 in
         omega arith
 
--- the group at a place of the list of all outages
+-- the group at an index of the list of all outages
 pub outage_group : (p : Plan) (i g : ℕ) → outage_at p i ≡ Group g → g < length p.groups
 outage_group p i g = at (nat_lt i (length p.groups)) refl
   where

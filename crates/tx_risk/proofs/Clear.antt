@@ -21,7 +21,7 @@ use Rattle.tx_machine.specs.declared.refusal.Refusal.{Refusal}
 use Rattle.tx_machine.specs.declared.reply.Reply.{Reply}
 use Rattle.tx_machine.specs.declared.reply.Reply.TheVariants.{Answered}
 use Rattle.tx_machine.specs.declared.open_call.Phase.TheVariants.{Standing, Calling, Connected}
-use Rattle.tx_machine.specs.Call.{Call, place_of, call_of, is_numbered, is_first, circuit_called}
+use Rattle.tx_machine.specs.Call.{Call, exchange_of, call_of, is_numbered, is_first, circuit_called}
 use Rattle.tx_machine.specs.State.{State}
 use Rattle.tx_machine.specs.InUse.{circuits_carried, circuits_used, is_down, is_free_at, first_free, choice}
 use Rattle.tx_machine.specs.Lines.{line_answer}
@@ -46,11 +46,11 @@ on_group g xs ys within h =
     any_none (λ x. x.group == g) ys (λ x m. none_any (λ x. x.group == g) xs x h (within x m))
 
 -- a circuit that is found is of a group that is not down
-pub up_there : (p : Plan) (s : State) (place g : ℕ) (x : Circuit) → first_free p s place g ≡ Some x
+pub up_there : (p : Plan) (s : State) (exchange g : ℕ) (x : Circuit) → first_free p s exchange g ≡ Some x
     → is_down s g ≡ false
-up_there p s place g x h =
+up_there p s exchange g x h =
     elim (is_down s g) as
-    (λ b. (if b then None else find (is_free_at p s place) (circuits_at p g place)) ≡ Some x
+    (λ b. (if b then None else find (is_free_at p s exchange) (circuits_at p g exchange)) ≡ Some x
     → b ≡ false) [
       | true ↦ λ e. let bad : ⊥ = cc in absurd bad
       | false ↦ λ e. refl
@@ -127,11 +127,11 @@ module _ (p : Plan) (risk : Risk) (T : ℕ → Type 0) (s : State) (h : Holds p 
   AllClear cs = (c : Call) → Among c cs → ClearIf c
 
   module _ (clear : AllClear s.calls) where
-    outside : (g place : ℕ) (x : Circuit) → x.group ≡ g → first_free p s place g ≡ Some x
+    outside : (g exchange : ℕ) (x : Circuit) → x.group ≡ g → first_free p s exchange g ≡ Some x
         → risk x.group ≡ false
-    outside g place x e f =
+    outside g exchange x e f =
         false_from_ne_true _
-        (λ r. both_ways _ (up_there p s place g x f) (ap (is_down s) (sym e) ∙ down x.group r))
+        (λ r. both_ways _ (up_there p s exchange g x f) (ap (is_down s) (sym e) ∙ down x.group r))
 
     ended : (keeps : Call → Bool) → AllClear (filter keeps s.calls)
     ended keeps c m = clear c (filter_among keeps c s.calls m).0
@@ -145,27 +145,27 @@ module _ (p : Plan) (risk : Risk) (T : ℕ → Type 0) (s : State) (h : Holds p 
           ]
       line_clear l (Some service) d md = ended _ d md
 
-      trunk_clear : (code : ℕ) (o : Option Circuit) → choice p s (place_of p c) code ≡ o
+      trunk_clear : (code : ℕ) (o : Option Circuit) → choice p s (exchange_of p c) code ≡ o
           → AllClear (at_trunk p s c o).1.calls
       trunk_clear code None a d md = ended _ d md
       trunk_clear code (Some x) a d md =
-          let r = first_in-is (first_free p s (place_of p c)) (route_list p (place_of p c) code) x
+          let r = first_in-is (first_free p s (exchange_of p c)) (route_list p (exchange_of p c) code) x
           a in
-          let f = chosen p s (place_of p c) r.0 x r.2 in
+          let f = chosen p s (exchange_of p c) r.0 x r.2 in
           elim (set_cases p s.calls s.releasing s.numbers h c m (in_phase (Calling x)) d md) [
             | inl o ↦ clear d o.0
             | inr q ↦ subst ClearIf q
-                (λ t. as_calling risk c x (outside r.0 (place_of p c) x f.group r.2) (clear c m t))
+                (λ t. as_calling risk c x (outside r.0 (exchange_of p c) x f.group r.2) (clear c m t))
           ]
 
       route_clear : (o : Option ℕ) → AllClear (routed_for p s c o).1.calls
       route_clear None = λ d md. ended _ d md
       route_clear (Some code) =
-          elim (is_first c.hops && is_barred p (place_of p c) code)
-          as (λ b. AllClear (if b then answer Na else if home_of p code == place_of p c then
+          elim (is_first c.hops && is_barred p (exchange_of p c) code)
+          as (λ b. AllClear (if b then answer Na else if home_of p code == exchange_of p c then
           line else trunk).1.calls) [
             | true ↦ λ d md. ended _ d md
-            | false ↦ elim (home_of p code == place_of p c)
+            | false ↦ elim (home_of p code == exchange_of p c)
                 as (λ b. AllClear (if b then line else trunk).1.calls) [
                   | true ↦ line_clear (line_of p code c.keyed)
                       (line_answer p s (line_of p code c.keyed))
@@ -184,7 +184,7 @@ module _ (p : Plan) (risk : Risk) (T : ℕ → Type 0) (s : State) (h : Holds p 
           line = at_line p s c (line_of p code c.keyed) (line_answer p s (line_of p code c.keyed))
 
           trunk : Reply × State
-          trunk = at_trunk p s c (choice p s (place_of p c) code)
+          trunk = at_trunk p s c (choice p s (exchange_of p c) code)
 
     routed_clear : (n : ℕ) → AllClear (accepted p s (Route n)).1.calls
     routed_clear n = at (call_of n s.calls) refl

@@ -19,7 +19,7 @@ use Rattle.tx_machine.specs.declared.open_call.Phase.TheVariants.{Standing, Call
 use Rattle.tx_machine.specs.declared.cause.Service.{Service}
 use Rattle.tx_machine.specs.declared.refusal.Refusal.{Refusal}
 use Rattle.tx_machine.specs.declared.reply.Reply.{Reply}
-use Rattle.tx_machine.specs.Call.{Call, call_of, place_of, is_first}
+use Rattle.tx_machine.specs.Call.{Call, call_of, exchange_of, is_first}
 use Rattle.tx_machine.specs.State.{State, opening}
 use Rattle.tx_machine.specs.InUse.{uses_group, choice}
 use Rattle.tx_machine.specs.Lines.{line_answer}
@@ -53,15 +53,15 @@ module _ (p : Plan) (s : State) where
   route_same : (c : Call) (o : Option ℕ) → Same (routed_for p s c o).1
   route_same c None = refl
   route_same c (Some code) =
-      elim (is_first c.hops && is_barred p (place_of p c) code)
-      as (λ b. Same (if b then answer else if home_of p code == place_of p c then line else
+      elim (is_first c.hops && is_barred p (exchange_of p c) code)
+      as (λ b. Same (if b then answer else if home_of p code == exchange_of p c then line else
       trunk).1) [
         | true ↦ refl
-        | false ↦ elim (home_of p code == place_of p c)
+        | false ↦ elim (home_of p code == exchange_of p c)
             as (λ b. Same (if b then line else trunk).1) [
               | true ↦ line_same c (line_of p code c.keyed)
                   (line_answer p s (line_of p code c.keyed))
-              | false ↦ trunk_same c (choice p s (place_of p c) code)
+              | false ↦ trunk_same c (choice p s (exchange_of p c) code)
             ]
       ]
     where
@@ -72,7 +72,7 @@ module _ (p : Plan) (s : State) where
       line = at_line p s c (line_of p code c.keyed) (line_answer p s (line_of p code c.keyed))
 
       trunk : Reply × State
-      trunk = at_trunk p s c (choice p s (place_of p c) code)
+      trunk = at_trunk p s c (choice p s (exchange_of p c) code)
 
   meet_same : (c : Call) (x : Circuit) (o : Option Call) → Same (confirmed_by p s c x o).1
   meet_same c x None = refl

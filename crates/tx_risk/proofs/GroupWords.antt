@@ -3,7 +3,7 @@ use Rattle.std.proofs.Common.{◌≡◌, ℕ, true, false, not, List, refl, ap}
 use Rattle.std.specs.Prelude.{is_none}
 use Rattle.std.specs.Str.{bytes_eq}
 use Rattle.tx_plan.specs.Plan.{Group, Plan, group_named}
-use Rattle.tx_plan.proofs.Lists.{placed, no_place}
+use Rattle.tx_plan.proofs.Lists.{placed, no_index}
 use Rattle.tx_plan.specs.Declaring.{has_group}
 use Rattle.tx_machine.proofs.Lists.{none_any}
 use Rattle.tx_rank.proofs.Ways.{among_all}
@@ -12,7 +12,7 @@ pub unknown_is : (p : Plan) (w : List ℕ) → is_none (group_named p w) ≡ not
 unknown_is p w =
     elim (has_group p w) as (λ b. has_group p w ≡ b → is_none (group_named p w) ≡ not b) [
       | true ↦ λ t. ap is_none (placed (λ (g : Group). bytes_eq w g.name) p.groups t)
-      | false ↦ λ t. ap is_none (no_place (λ (g : Group). bytes_eq w g.name) p.groups
+      | false ↦ λ t. ap is_none (no_index (λ (g : Group). bytes_eq w g.name) p.groups
           (among_all _ p.groups
           (λ g m. none_any (λ (g : Group). bytes_eq w g.name) p.groups g t m)))
     ] refl

@@ -7,12 +7,12 @@ use Rattle.tx_plan.specs.Among.{Among}
 use Rattle.tx_plan.proofs.Among.{among_filter}
 use Rattle.tx_risk.specs.Risks.{Risk, left_of}
 
--- the place of what is in a list
-pub place_among : {A : Type 0} (x : A) (xs : List A) → Among x xs
+-- the index of what is in a list
+pub index_among : {A : Type 0} (x : A) (xs : List A) → Among x xs
     → (i : ℕ) × (slice_get xs i ≡ Some x)
-place_among x [] m = absurd m
-place_among x (y ∷ xs) (inl e) = (0, ap Some e)
-place_among x (y ∷ xs) (inr m) = let r = place_among x xs m in (suc r.0, r.1)
+index_among x [] m = absurd m
+index_among x (y ∷ xs) (inl e) = (0, ap Some e)
+index_among x (y ∷ xs) (inr m) = let r = index_among x xs m in (suc r.0, r.1)
 
 -- all of a list of which nothing is left goes
 pub left_goes : (risk : Risk) (gs : List ℕ) (g : ℕ) → left_of risk gs ≡ [] → Among g gs

@@ -10,7 +10,7 @@ use Rattle.tx_plan.specs.declared.ids.Circuit.{Circuit}
 use Rattle.tx_machine.specs.declared.event.Event.{Event}
 use Rattle.tx_machine.specs.declared.open_call.Hop.{Hop}
 use Rattle.tx_machine.specs.declared.open_call.Phase.TheVariants.{Calling}
-use Rattle.tx_machine.specs.Call.{Call, last_exchange, start_of, place_of}
+use Rattle.tx_machine.specs.Call.{Call, last_exchange, start_of, exchange_of}
 use Rattle.tx_machine.specs.State.{State}
 use Rattle.tx_machine.specs.Step.{step}
 use Rattle.tx_machine.specs.Passed.{Joins}
@@ -29,7 +29,7 @@ ByLists p code x (h ∷ hops) = (x ≢ home_of p code) × Among h.circuit.group 
 pub record IsListed (p : Plan) (c : Call) : Type 0 where
   pub hops : (code : ℕ) → code_of p c.keyed ≡ Some code → ByLists p code (start_of p c) c.hops
   pub calling : (x : Circuit) → c.phase ≡ Calling x → (code : ℕ) → code_of p c.keyed ≡ Some code
-      → (place_of p c ≢ home_of p code) × Among x.group (route_list p (place_of p c) code)
+      → (exchange_of p c ≢ home_of p code) × Among x.group (route_list p (exchange_of p c) code)
 
 module _ (p : Plan) where
   by_more : (code x : ℕ) (hops : List Hop) (h : Hop) → ByLists p code x hops
@@ -56,10 +56,10 @@ module _ (p : Plan) where
         calling = λ y i k f.
             let same : x ≡ y = cc in
             let codes : code ≡ k = one_code keyed f in
-            subst (λ k. (place_of p c ≢ home_of p k)
-            × Among y.group (route_list p (place_of p c) k)) codes (
+            subst (λ k. (exchange_of p c ≢ home_of p k)
+            × Among y.group (route_list p (exchange_of p c) k)) codes (
               λ z. eqb-false _ _ away (sym z),
-              subst (λ (y : Circuit). Among y.group (route_list p (place_of p c) code)) same
+              subst (λ (y : Circuit). Among y.group (route_list p (exchange_of p c) code)) same
                   listed,
             );
       })

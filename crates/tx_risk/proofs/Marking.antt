@@ -5,7 +5,7 @@ use Rattle.std.proofs.lemmas.List.{length_push}
 use Rattle.std.proofs.lemmas.Option.{none-some}
 use Rattle.std.specs.Prelude.{slice_get}
 use Rattle.std.specs.Option.{option_map_or}
-use Rattle.tx_plan.proofs.ByPlace.{entry_at}
+use Rattle.tx_plan.proofs.ByIndex.{entry_at}
 use Rattle.tx_rank.proofs.Origins.{at_push}
 use Rattle.tx_risk.specs.Risks.{Risk}
 use Rattle.tx_risk.specs.inner.Marked.{marked}

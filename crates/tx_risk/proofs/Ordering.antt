@@ -15,7 +15,7 @@ use Rattle.tx_rank.proofs.Ranks.{Falls, one_down, all_down}
 use Rattle.tx_rank.proofs.Looks.{leads_within, among_at as listed}
 use Rattle.tx_risk.specs.Risks.{Risk, without}
 use Rattle.tx_risk.specs.inner.Orders.{IsOrder}
-use Rattle.tx_risk.proofs.LeftLists.{place_among}
+use Rattle.tx_risk.proofs.LeftLists.{index_among}
 
 -- a number that may be there
 pub some_of : (o : Option ℕ) → is_some o ≡ true → (n : ℕ) × (o ≡ Some n)
@@ -91,7 +91,7 @@ among_range a (suc n) x low high = elim (cases_eq a x) [
 -- a list and one that it was sorted to have the same members
 permuted : (xs ys : List ℕ) → IsPermutation xs ys → (x : ℕ) → Among x xs → Among x ys
 permuted xs ys p x m =
-    let i = place_among x xs m in
+    let i = index_among x xs m in
     let r = Contains-permutation xs ys x p
     (i.0, slice_get_within xs i.0 x i.1, get_or_from_slice_get xs i.0 x x i.1) in
     among_at ys r.0 x r.1 (sym r.2)
@@ -125,7 +125,7 @@ module _ (n : Net) (net : IsNet n) (ranks : ℕ → Option ℕ) (limit spare : �
     back = λ i x at away g y m leads.
         let r = some_of (ranks x) (old x (listed order i x at)).1 in
         let d = one_down n ranks falls x r.0 g y r.1 away m leads in
-        let j = place_among y order (there y d.rank d.ranked (leads_within n x g y net m leads)) in
+        let j = index_among y order (there y d.rank d.ranked (leads_within n x g y net m leads)) in
         first_among order i j.0 y j.1 (before i j.0 x y r.0 d.rank at j.1 r.1 d.ranked
         (let l = d.within in omega arith));
   }

@@ -13,7 +13,7 @@ use Rattle.tx_plan.specs.Rules.{EachPair}
 use Rattle.tx_plan.specs.Among.{Among}
 use Rattle.tx_plan.specs.Declaring.{first_true, has_group, group_at, none_twice}
 use Rattle.tx_plan.proofs.Among.{among_cases, map_among}
-use Rattle.tx_plan.proofs.ByPlace.{pairs_put}
+use Rattle.tx_plan.proofs.ByIndex.{pairs_put}
 use Rattle.tx_plan.proofs.SeenWords.{differ_as_words}
 use Rattle.tx_machine.proofs.Lists.{none_any}
 use Rattle.tx_rank.proofs.Ways.{all_among, among_all}
@@ -26,7 +26,7 @@ use Rattle.tx_risk.specs.RiskText.{declare, risk_line, with_risk, unless, is_mem
 pub no_risks : (p : Plan) (risks : List NamedRisk) → risks ≡ [] → AreRisksFor p risks
 no_risks p risks e = subst (AreRisksFor p) (sym e) (record { each = tt; differ = tt })
 
--- places none of which stands there twice
+-- indexes none of which stands there twice
 differ_pairs : (xs : List ℕ) → differ xs ≡ true → EachPair (λ g h. g ≢ h) xs
 differ_pairs [] t = tt
 differ_pairs (x ∷ xs) t =

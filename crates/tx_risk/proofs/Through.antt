@@ -23,7 +23,7 @@ use Rattle.tx_machine.specs.declared.cause.Service.TheVariants.{Occ, Np, Der, Ab
 use Rattle.tx_machine.specs.declared.refusal.Refusal.{Refusal}
 use Rattle.tx_machine.specs.declared.reply.Reply.{Reply}
 use Rattle.tx_machine.specs.declared.reply.Reply.TheVariants.{Answered}
-use Rattle.tx_machine.specs.Call.{Call, call_of, start_of, place_of, is_first, circuit_called}
+use Rattle.tx_machine.specs.Call.{Call, call_of, start_of, exchange_of, is_first, circuit_called}
 use Rattle.tx_machine.specs.State.{State, opening}
 use Rattle.tx_machine.specs.InUse.{circuits_carried, circuits_used, first_free, choice, seizes_from}
 use Rattle.tx_machine.specs.Lines.{is_engaged, line_answer}
@@ -107,14 +107,14 @@ module _ (p : Plan) (risk : Risk) (s : State) (h : Holds p s) (listed : AllListe
         (among_map (λ (h : Hop). h.circuit) k c.hops i)))
         (eq-eqb k.circuit.group k.circuit.group refl))
 
-    some_there : (code : ℕ) → code_of p c.keyed ≡ Some code → (home_of p code == place_of p c)
-        ≡ false → choice p s (place_of p c) code ≡ None → ⊥
-    some_there code k away none = at (left_of risk (route_list p (place_of p c) code)) refl
+    some_there : (code : ℕ) → code_of p c.keyed ≡ Some code → (home_of p code == exchange_of p c)
+        ≡ false → choice p s (exchange_of p c) code ≡ None → ⊥
+    some_there code k away none = at (left_of risk (route_list p (exchange_of p c) code)) refl
       where
-        place : ℕ
-        place = place_of p c
+        exchange : ℕ
+        exchange = exchange_of p c
 
-        at : (left : List ℕ) → left_of risk (route_list p (place_of p c) code) ≡ left → ⊥
+        at : (left : List ℕ) → left_of risk (route_list p (exchange_of p c) code) ≡ left → ⊥
         at [] e =
             let q = end_steps (start_of p c) c.hops in
             no_dead_end p risk code (start_of p c) (steps_of c.hops) (uncut code k) (record {
@@ -124,10 +124,10 @@ module _ (p : Plan) (risk : Risk) (s : State) (h : Holds p s) (listed : AllListe
               none = ap (λ x. left_of risk (route_list p x code)) q ∙ e;
             })
         at (g ∷ gs) e =
-            let a = filter_among (λ g. not (risk g)) g (route_list p (place_of p c) code)
+            let a = filter_among (λ g. not (risk g)) g (route_list p (exchange_of p c) code)
             (subst (Among g) (sym e) (inl refl)) in
-            let none' = first_in-none (first_free p s (place_of p c))
-            (route_list p (place_of p c) code) g none a.0 in
+            let none' = first_in-none (first_free p s (exchange_of p c))
+            (route_list p (exchange_of p c) code) g none a.0 in
             false≢true (sym (ap is_some none') ∙ free code g k a.0 (not-true _ a.1))
 
   module _ (n : ℕ) (c : Call) (m : Among c s.calls) (here : call_of n s.calls ≡ Some c) where
@@ -137,8 +137,8 @@ module _ (p : Plan) (risk : Risk) (s : State) (h : Holds p s) (listed : AllListe
     line_reply l (Some service) e = line_fine p s l service e
 
     trunk_reply : (IsClear risk c × StartsUncut p risk c × OutsideFree p risk s c) → (code : ℕ)
-        → code_of p c.keyed ≡ Some code → (home_of p code == place_of p c) ≡ false
-        → (o : Option Circuit) → choice p s (place_of p c) code ≡ o
+        → code_of p c.keyed ≡ Some code → (home_of p code == exchange_of p c) ≡ false
+        → (o : Option Circuit) → choice p s (exchange_of p c) code ≡ o
         → IsNcByCollision s (at_trunk p s c o).0
     trunk_reply f code k away (Some x) a = tt
     trunk_reply f code k away None a = absurd (some_there c m f.0 f.1 f.2 code k away a)
@@ -147,12 +147,12 @@ module _ (p : Plan) (risk : Risk) (s : State) (h : Holds p s) (listed : AllListe
         → code_of p c.keyed ≡ o → IsNcByCollision s (routed_for p s c o).0
     route_reply f None e = tt
     route_reply f (Some code) e =
-        elim (is_first c.hops && is_barred p (place_of p c) code)
+        elim (is_first c.hops && is_barred p (exchange_of p c) code)
         as (λ b. IsNcByCollision s
-        (if b then answer else if home_of p code == place_of p c then line else trunk).0) [
+        (if b then answer else if home_of p code == exchange_of p c then line else trunk).0) [
           | true ↦ tt
-          | false ↦ elim (home_of p code == place_of p c)
-              as (λ b. (home_of p code == place_of p c) ≡ b
+          | false ↦ elim (home_of p code == exchange_of p c)
+              as (λ b. (home_of p code == exchange_of p c) ≡ b
               → IsNcByCollision s (if b then line else trunk).0) [
                 | true ↦ λ q. line_reply (line_of p code c.keyed) _ refl
                 | false ↦ λ q. trunk_reply f code e q _ refl
@@ -166,7 +166,7 @@ module _ (p : Plan) (risk : Risk) (s : State) (h : Holds p s) (listed : AllListe
         line = at_line p s c (line_of p code c.keyed) (line_answer p s (line_of p code c.keyed))
 
         trunk : Reply × State
-        trunk = at_trunk p s c (choice p s (place_of p c) code)
+        trunk = at_trunk p s c (choice p s (exchange_of p c) code)
 
     had : (d : Call) → Among d s.calls → not d.collided ≡ false → HadCollided s d.number
     had d m e = record {

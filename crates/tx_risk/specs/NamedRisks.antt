@@ -6,12 +6,12 @@ use Rattle.tx_text.specs.Words.{is_name}
 use Rattle.tx_plan.specs.Plan.{Plan}
 use Rattle.tx_plan.specs.Rules.{EachPair}
 
--- a name, and groups by their places
+-- a name, and groups by their indexes
 pub record NamedRisk : Type 0 where
   pub name : List ℕ
   pub groups : List ℕ
 
--- the groups of the risk at a place
+-- the groups of the risk at an index
 abbrev pub named_groups : List NamedRisk → ℕ → List ℕ
 named_groups risks i = option_map_or (λ r. r.groups) (slice_get risks i) []
 

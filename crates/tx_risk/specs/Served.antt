@@ -8,7 +8,7 @@ use Rattle.tx_plan.specs.Routes.{route_list}
 use Rattle.tx_plan.specs.Among.{Among}
 use Rattle.tx_machine.specs.declared.event.Event.{Event}
 use Rattle.tx_machine.specs.declared.reply.Reply.{Reply}
-use Rattle.tx_machine.specs.Call.{Call, call_of, start_of, place_of}
+use Rattle.tx_machine.specs.Call.{Call, call_of, start_of, exchange_of}
 use Rattle.tx_machine.specs.State.{State, opening}
 use Rattle.tx_machine.specs.InUse.{is_down, first_free, uses_group}
 use Rattle.tx_machine.specs.Runs.{run, state_after}
@@ -34,8 +34,8 @@ StartsUncut p risk c =
 -- there
 abbrev pub OutsideFree : Plan → Risk → State → Call → Type 0
 OutsideFree p risk s c =
-    (code g : ℕ) → code_of p c.keyed ≡ Some code → Among g (route_list p (place_of p c) code)
-    → risk g ≡ false → is_some (first_free p s (place_of p c) g) ≡ true
+    (code g : ℕ) → code_of p c.keyed ≡ Some code → Among g (route_list p (exchange_of p c) code)
+    → risk g ≡ false → is_some (first_free p s (exchange_of p c) g) ≡ true
 
 -- it uses no circuit of the risk
 abbrev pub IsClear : Risk → Call → Type 0

@@ -95,8 +95,8 @@ pub fn add_cuts<A: Allocator + Copy>(
 {
     let dead_ends = distances_to(alloc, left, Goal::DeadEnd, order)?;
     let homes = distances_to(alloc, left, Goal::Home, order)?;
-    for place in 0..left.exchanges() {
-        let exchange = ExchangeId::of(place);
+    for index in 0..left.exchanges() {
+        let exchange = ExchangeId::of(index);
         add_cut(
             alloc, left, origins, outage, &dead_ends, &homes, exchange, cuts,
         )?;

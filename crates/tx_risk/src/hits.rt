@@ -34,18 +34,18 @@ fn add_end<A: Allocator>(
     Ok(())
 }
 
-/// Adds both ends of the group at a place, if it is marked.
+/// Adds both ends of the group at an index, if it is marked.
 fn add_ends<A: Allocator>(
     plan: &Plan<A>,
     gone: &[bool],
-    place: usize,
+    index: usize,
     ends: &mut Vec<ExchangeId, A>,
 ) -> Result<(), NoMemory>
-    requires { place < 65536 }
-    ensures { IfOk result (λ _. AreEnds plan.now (marked gone.now) place ends.old.items
-        → AreEnds plan.now (marked gone.now) (place + 1) ends.new.items) }
+    requires { index < 65536 }
+    ensures { IfOk result (λ _. AreEnds plan.now (marked gone.now) index ends.old.items
+        → AreEnds plan.now (marked gone.now) (index + 1) ends.new.items) }
 {
-    let group = GroupId::of(place);
+    let group = GroupId::of(index);
     if !is_marked(gone, group) {
         return Ok(());
     }
@@ -65,8 +65,8 @@ pub fn ends_of<A: Allocator + Copy>(
         ends.items) }
 {
     let mut ends = Vec::new(alloc);
-    for place in 0..plan.groups() {
-        add_ends(plan, gone, place, &mut ends)?;
+    for index in 0..plan.groups() {
+        add_ends(plan, gone, index, &mut ends)?;
     }
     Ok(ends)
 }

@@ -119,8 +119,8 @@ pub fn distances_to<A: Allocator + Copy>(
     ensures { IfOk result (λ d. AreNearest (left_net left.now) goal d.items) }
 {
     let mut distances = vec![in alloc; None; left.exchanges()]?;
-    for place in 0..order.len() {
-        let exchange = order[place];
+    for index in 0..order.len() {
+        let exchange = order[index];
         let distance = distance_of(left, goal, &distances, exchange);
         distances[exchange.index()] = distance;
     }

@@ -59,8 +59,8 @@ pub fn orders_of<A: Allocator + Copy>(
     ensures { IfOk result (λ orders. AreOrders plan.now orders.items) }
 {
     let mut orders = Vec::with_capacity(alloc, plan.codes())?;
-    for place in 0..plan.codes() {
-        orders.push_reserved(order_of(alloc, plan, ranks, CodeId::of(place))?);
+    for index in 0..plan.codes() {
+        orders.push_reserved(order_of(alloc, plan, ranks, CodeId::of(index))?);
     }
     Ok(orders)
 }

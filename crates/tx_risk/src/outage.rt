@@ -8,6 +8,6 @@ pub enum Outage {
     Group(GroupId),
     /// An exchange, with all groups of which it is an end.
     Exchange(ExchangeId),
-    /// The groups of the named risk at a place.
+    /// The groups of the named risk at an index.
     Named(usize),
 }

@@ -35,7 +35,7 @@ fn goes_with<A: Allocator>(
     match outage {
         Outage::Group(gone) => group == *gone,
         Outage::Exchange(exchange) => plan.other_end(group, *exchange).is_some(),
-        Outage::Named(place) => risks.groups(*place).contains(&group),
+        Outage::Named(index) => risks.groups(*index).contains(&group),
     }
 }
 
@@ -52,8 +52,8 @@ fn marks_of<A: Allocator + Copy>(
         → marked marks.items g ≡ risk_of plan.now risks.now outage.now g) }
 {
     let mut marks = Vec::with_capacity(alloc, plan.groups())?;
-    for place in 0..plan.groups() {
-        marks.push_reserved(goes_with(plan, risks, outage, GroupId::of(place)));
+    for index in 0..plan.groups() {
+        marks.push_reserved(goes_with(plan, risks, outage, GroupId::of(index)));
     }
     Ok(marks)
 }
@@ -78,31 +78,31 @@ fn add_outage<A: Allocator + Copy>(
 {
     let gone = marks_of(alloc, plan, risks, outage)?;
     let ends = ends_of(alloc, plan, &gone)?;
-    for place in 0..plan.codes() {
+    for index in 0..plan.codes() {
         let left = Left {
             plan,
             gone: &gone,
-            code: CodeId::of(place),
+            code: CodeId::of(index),
         };
         if !is_hit(&left, &ends, outage) {
             continue;
         }
-        add_cuts(alloc, &left, &orders[place], origins, outage, cuts)?;
+        add_cuts(alloc, &left, &orders[index], origins, outage, cuts)?;
     }
     Ok(())
 }
 
-/// The outage at a place: of the groups, then the exchanges, then the named risks.
-fn outage_at<A: Allocator>(plan: &Plan<A>, place: usize) -> Outage
-    ensures { result ≡ outage_at plan.now place }
+/// The outage at an index: of the groups, then the exchanges, then the named risks.
+fn outage_at<A: Allocator>(plan: &Plan<A>, index: usize) -> Outage
+    ensures { result ≡ outage_at plan.now index }
 {
     let exchanges = plan.groups() + plan.exchanges();
-    if place < plan.groups() {
-        Outage::Group(GroupId::of(place))
-    } else if place < exchanges {
-        Outage::Exchange(ExchangeId::of(place - plan.groups()))
+    if index < plan.groups() {
+        Outage::Group(GroupId::of(index))
+    } else if index < exchanges {
+        Outage::Exchange(ExchangeId::of(index - plan.groups()))
     } else {
-        Outage::Named(place - exchanges)
+        Outage::Named(index - exchanges)
     }
 }
 
@@ -123,8 +123,8 @@ pub fn all_cuts<A: Allocator + Copy>(
     let origins = origins_of(alloc, plan)?;
     let mut cuts = Vec::new(alloc);
     let count = plan.groups() + plan.exchanges() + risks.len();
-    for place in 0..count {
-        let outage = outage_at(plan, place);
+    for index in 0..count {
+        let outage = outage_at(plan, index);
         add_outage(alloc, plan, risks, &orders, &origins, &outage, &mut cuts)?;
     }
     Ok(cuts)

@@ -54,21 +54,21 @@ impl<A: Allocator> Risks<A> {
         self.rows.contains_key(name)
     }
 
-    /// The name of the risk at a place; no bytes, if there is none.
-    pub fn name(&self, place: usize) -> &[u8]
-        ensures { result.now ≡ option_map_or (λ r. r.name) (slice_get self.now place) [] }
+    /// The name of the risk at an index; no bytes, if there is none.
+    pub fn name(&self, index: usize) -> &[u8]
+        ensures { result.now ≡ option_map_or (λ r. r.name) (slice_get self.now index) [] }
     {
-        match self.rows.get_index(place) {
+        match self.rows.get_index(index) {
             Some((name, _)) => name.bytes(),
             None => &[],
         }
     }
 
-    /// The groups of the risk at a place; none, if there is none.
-    pub(crate) fn groups(&self, place: usize) -> &[GroupId]
-        ensures { result.now ≡ named_groups self.now place }
+    /// The groups of the risk at an index; none, if there is none.
+    pub(crate) fn groups(&self, index: usize) -> &[GroupId]
+        ensures { result.now ≡ named_groups self.now index }
     {
-        match self.rows.get_index(place) {
+        match self.rows.get_index(index) {
             Some((_, groups)) => groups.as_slice(),
             None => &[],
         }

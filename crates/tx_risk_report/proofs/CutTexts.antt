@@ -15,7 +15,7 @@ pub some_is : {A : Type 0} {a b : A} → Some a ≡ Some b → a ≡ b
 some_is e = cc
 
 module _ {A : Type 0} where
-  -- the outage of the cut at the place before
+  -- the outage of the cut at the index before
   pub before_is : (before : Option Outage) (cuts : List (Cut A)) (i : ℕ) (d : Cut A)
       → slice_get cuts i ≡ Some d → outage_before before cuts (suc i) ≡ Some d.outage
   before_is before [] i d at = let bad : ⊥ = cc in absurd bad

@@ -10,7 +10,7 @@ use Rattle.tx_plan.specs.Plan.{Plan, Group, figures_of}
 use Rattle.tx_plan.specs.Rules.{IsPlan, EachPair}
 use Rattle.tx_plan.specs.Routes.{route_list, is_origin_for}
 use Rattle.tx_plan.specs.Among.{Among}
-use Rattle.tx_plan.proofs.ByPlace.{entry_at}
+use Rattle.tx_plan.proofs.ByIndex.{entry_at}
 use Rattle.tx_machine.specs.Refusals.{is_group}
 use Rattle.tx_machine.proofs.Lists.{all_from_mem}
 use Rattle.tx_machine.proofs.Steps.{all_mem}
@@ -192,7 +192,7 @@ module _ (p : Plan) (ok : IsPlan p) (risk : Risk) (c x : ℕ) (steps : List (ℕ
       start = g.home;
       keyed = g.placed.code';
       way = g.way;
-      free = λ place y h. let f = none_circuit y in rw (h, f) refl;
+      free = λ exchange y h. let f = none_circuit y in rw (h, f) refl;
     }
 
     shown : IsShown p risk c x steps events

@@ -18,7 +18,7 @@ use Rattle.tx_rank.specs.GradeText.{grade_text}
 abbrev pub head_line : ℕ → List ℕ
 head_line n = codes "SURVIVE RISKS " ++ (decimal n ++ codes "\n")
 
--- the name of the risk at a place; nothing for a place that has none
+-- the name of the risk at an index; nothing for an index that has none
 abbrev pub risk_name : List NamedRisk → ℕ → List ℕ
 risk_name risks i = option_map_or (λ r. r.name) (slice_get risks i) []
 

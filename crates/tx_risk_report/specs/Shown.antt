@@ -28,7 +28,8 @@ pub record IsAloneOnWay (p : Plan) (code x : ℕ) (steps : List (ℕ × ℕ)) (s
   pub start : start_of p call ≡ x
   pub keyed : code_of p call.keyed ≡ Some code
   pub way : map (λ h. (h.circuit.group, h.far)) call.hops ≡ steps
-  pub free : (place : ℕ) (y : Circuit) → carries call y ≡ false → is_free_at p s place y ≡ true
+  pub free : (exchange : ℕ) (y : Circuit) → carries call y ≡ false
+      → is_free_at p s exchange y ≡ true
 
 -- The events show the cut: none of them is refused, nor is one Route more, of the one open call,
 -- which is answered NC.

@@ -66,7 +66,7 @@ fn write_outage<A: Allocator, W: Sink>(
         Outage::Exchange(exchange) => {
             write_parts(&[b"EXCHANGE ", plan.exchange_name(*exchange), b"\n"], sink)
         }
-        Outage::Named(place) => write_parts(&[b"RISK ", risks.name(*place), b"\n"], sink),
+        Outage::Named(index) => write_parts(&[b"RISK ", risks.name(*index), b"\n"], sink),
     }
 }
 
@@ -77,16 +77,16 @@ fn is_same(before: &Outage, outage: &Outage) -> bool
     *before == *outage
 }
 
-/// Whether the cut at a place is of the same outage as the one before it.
-fn is_same_as_before<A: Allocator>(cuts: &[Cut<A>], place: usize) -> bool
-    requires { place < length cuts.now }
-    ensures { (c : Cut A) → slice_get cuts.now place ≡ Some c
-        → result ≡ is_same_as (outage_before None cuts.now place) c.outage }
+/// Whether the cut at an index is of the same outage as the one before it.
+fn is_same_as_before<A: Allocator>(cuts: &[Cut<A>], index: usize) -> bool
+    requires { index < length cuts.now }
+    ensures { (c : Cut A) → slice_get cuts.now index ≡ Some c
+        → result ≡ is_same_as (outage_before None cuts.now index) c.outage }
 {
-    if place == 0 {
+    if index == 0 {
         return false;
     }
-    is_same(&cuts[place - 1].outage, &cuts[place].outage)
+    is_same(&cuts[index - 1].outage, &cuts[index].outage)
 }
 
 fn write_cuts<A: Allocator, W: Sink>(

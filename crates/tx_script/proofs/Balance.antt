@@ -18,7 +18,7 @@ use Rattle.tx_machine.specs.declared.refusal.Refusal.{Refusal}
 use Rattle.tx_machine.specs.declared.reply.Reply.{Reply}
 use Rattle.tx_machine.specs.declared.open_call.Phase.{Phase}
 use Rattle.tx_machine.specs.declared.open_call.Phase.TheVariants.{Standing, Calling, Connected}
-use Rattle.tx_machine.specs.Call.{Call, place_of, call_of, is_numbered, is_first}
+use Rattle.tx_machine.specs.Call.{Call, exchange_of, call_of, is_numbered, is_first}
 use Rattle.tx_machine.specs.State.{State}
 use Rattle.tx_machine.specs.InUse.{choice, uses_group}
 use Rattle.tx_machine.specs.Lines.{line_answer}
@@ -60,7 +60,7 @@ module _ (p : Plan) (s : State) where
 
     route_keeps : (o : Option ℕ) → Keeps s (routed_for p s c o)
     route_keeps None = ended p s (ByService Np) (is_numbered c.number)
-    route_keeps (Some code) = pick (is_first c.hops && is_barred p (place_of p c) code) (home_of p code == place_of p c) _ _ _ (ended p s (ByService Na) (is_numbered c.number)) (line_keeps (line_of p code c.keyed) (line_answer p s (line_of p code c.keyed))) (trunk_keeps (choice p s (place_of p c) code))
+    route_keeps (Some code) = pick (is_first c.hops && is_barred p (exchange_of p c) code) (home_of p code == exchange_of p c) _ _ _ (ended p s (ByService Na) (is_numbered c.number)) (line_keeps (line_of p code c.keyed) (line_answer p s (line_of p code c.keyed))) (trunk_keeps (choice p s (exchange_of p c) code))
 
     meet_keeps : (x : Circuit) (o : Option Call) → Keeps s (confirmed_by p s c x o)
     meet_keeps x None = ap (λ n. n + length s.tickets) (length-map s.calls _)

@@ -21,16 +21,16 @@ pub record AreEnded (ts : List Ended) (calls : List ℕ) : Type 0 where
   pub all : length calls ≡ 9
   pub each : (k : ℕ) → k < 9 → get_or calls k 0 ≡ count_by (λ t. index_of t.cause == k) ts
 
-pub place_within : (c : Cause) → index_of c < 9
-place_within (ByService Occ) = omega arith
-place_within (ByService Nc) = omega arith
-place_within (ByService Np) = omega arith
-place_within (ByService Der) = omega arith
-place_within (ByService Abs) = omega arith
-place_within (ByService Na) = omega arith
-place_within ClearedByCaller = omega arith
-place_within ClearedByCalled = omega arith
-place_within ByLoss = omega arith
+pub index_within : (c : Cause) → index_of c < 9
+index_within (ByService Occ) = omega arith
+index_within (ByService Nc) = omega arith
+index_within (ByService Np) = omega arith
+index_within (ByService Der) = omega arith
+index_within (ByService Abs) = omega arith
+index_within (ByService Na) = omega arith
+index_within ClearedByCaller = omega arith
+index_within ClearedByCalled = omega arith
+index_within ByLoss = omega arith
 
 plus_zero : (n : ℕ) → n ≡ n + 0
 plus_zero n = omega arith
@@ -42,8 +42,8 @@ ended_more ts t calls are = record {
   each = λ k l. elim (cases_eq (index_of t.cause) k) [
     | inl e ↦
         subst (λ z. get_or (one_ended calls t.cause) z 0 ≡ count_by (λ t. index_of t.cause == z) (ts ++ t ∷ [])) e
-        (get_or-set_same calls (index_of t.cause) _ 0 (let a = are.all in let b = place_within t.cause in omega arith)
-        ∙ ap (λ z. z + 1) (are.each (index_of t.cause) (place_within t.cause))
+        (get_or-set_same calls (index_of t.cause) _ 0 (let a = are.all in let b = index_within t.cause in omega arith)
+        ∙ ap (λ z. z + 1) (are.each (index_of t.cause) (index_within t.cause))
         ∙ ap (λ b. count_by (λ u. index_of u.cause == index_of t.cause) ts + cond b 1 0) (sym (eq-eqb (index_of t.cause) (index_of t.cause) refl))
         ∙ sym (sum_by_push (λ (u : Ended). cond (index_of u.cause == index_of t.cause) 1 0) ts t))
     | inr ne ↦
@@ -125,4 +125,4 @@ flat_causes f h (c ∷ cs) e = ap₂ (λ (x y : List ℕ). x ++ y) (e c) (flat_c
 
 pub ended_told : (ts : List Ended) (calls : List ℕ) → AreEnded ts calls
     → flat_map (λ c. calls_line (cause_text c) (get_or calls (index_of c) 0)) ALL ≡ flat_map (λ c. calls_line (cause_text c) (ended_by ts c)) ALL
-ended_told ts calls are = flat_causes (λ c. calls_line (cause_text c) (get_or calls (index_of c) 0)) (λ c. calls_line (cause_text c) (ended_by ts c)) ALL (λ c. ap (calls_line (cause_text c)) (are.each (index_of c) (place_within c)))
+ended_told ts calls are = flat_causes (λ c. calls_line (cause_text c) (get_or calls (index_of c) 0)) (λ c. calls_line (cause_text c) (ended_by ts c)) ALL (λ c. ap (calls_line (cause_text c)) (are.each (index_of c) (index_within c)))

@@ -30,17 +30,17 @@ no_dot : (b : ℕ) → (is_letter b || is_figure b) ≡ true → not (is_dot b) 
 no_dot b h = grind (arith, nat_tests)
 
 -- a dot after a text without dots
-dot_place : (w rest : List ℕ) → list_all (λ b. not (is_dot b)) w ≡ true → prefix_len (λ b. not (is_dot b)) (w ++ 46 ∷ rest) ≡ length w
-dot_place [] rest h = refl
-dot_place (b ∷ w) rest h =
+dot_index : (w rest : List ℕ) → list_all (λ b. not (is_dot b)) w ≡ true → prefix_len (λ b. not (is_dot b)) (w ++ 46 ∷ rest) ≡ length w
+dot_index [] rest h = refl
+dot_index (b ∷ w) rest h =
     let r = and_parts (not (is_dot b)) (list_all (λ x. not (is_dot x)) w) h in
     let t = r.0 in
-    let e = dot_place w rest r.1 in
+    let e = dot_index w rest r.1 in
     rw (t, e) (omega arith)
 
 cut_back : (w rest : List ℕ) → list_all (λ b. not (is_dot b)) w ≡ true → cut_at_dot (w ++ 46 ∷ rest) ≡ Some (w, rest)
 cut_back w rest h =
-    let e = dot_place w rest h in
+    let e = dot_index w rest h in
     let l = lt-ltb (length w) (length (w ++ 46 ∷ rest)) (omega (arith, length-append w (46 ∷ rest))) in
     let t = take_at w (46 ∷ rest) (length w) refl in
     let d = drop-append-add w (46 ∷ rest) 1 in

@@ -18,7 +18,7 @@ use Rattle.tx_machine.specs.declared.reply.Reply.{Reply}
 use Rattle.tx_machine.specs.declared.reply.Reply.TheVariants.{Keyed, Seized, At, Connected, Answered, HeadOn, Cleared, Done, Lost, Refused}
 use Rattle.tx_machine.specs.State.{State}
 use Rattle.tx_machine.specs.Runs.{Moment}
-use Rattle.tx_machine.proofs.Lists.{at_place}
+use Rattle.tx_machine.proofs.Lists.{at_index}
 use Rattle.tx_machine.specs.Sound.{is_refused}
 use Rattle.tx_script.specs.declared.group_use.GroupUse.{GroupUse}
 use Rattle.tx_script.specs.Answers.{IsFresh}
@@ -272,7 +272,7 @@ few_of p ok g l = at (slice_get p.groups g) refl
   where
     at : (o : Option Group) → slice_get p.groups g ≡ o → count_of p g ≤ 240
     at None e = absurd (past p.groups g e l)
-    at (Some r) e = subst (λ o. option_map_or (λ (r : Group). r.count) o 0 ≤ 240) (sym e) ((at_place (IsGroup p) p.groups ok.groups g r e).few)
+    at (Some r) e = subst (λ o. option_map_or (λ (r : Group). r.count) o 0 ≤ 240) (sym e) ((at_index (IsGroup p) p.groups ok.groups g r e).few)
 
 pub none_used : (p : Plan) → IsPlan p → (s : State) → IsFresh s → NoneReleasing s → AreGroupUses p [] s (replicate (length p.groups) idle)
 none_used p ok s fresh released = record { all = length-replicate (length p.groups) idle; each = λ g l. at g (let q = length-replicate (length p.groups) idle in omega arith) }

@@ -38,14 +38,14 @@ module _ (p : Plan) (source : Input) (net : States) (sink : Output) (D V J : Typ
       → FaultyBy p source_as net_as sink room event line kind
   faulty_as true event line kind r = (r.0, r.1, nothing_as r.2)
   faulty_as false event line kind r =
-      record { events = r.events; place = r.place; text = r.text; ran = ran_as r.ran }
+      record { events = r.events; number = r.number; text = r.text; ran = ran_as r.ran }
 
   stopped_as : (event : ℕ) (cause : RunCause)
       → Stopped p source net sink event cause → Stopped p source_as net_as sink event cause
   stopped_as event Read r = record {
     events = r.events;
     line = r.line;
-    place = r.place;
+    number = r.number;
     text = r.text;
     failed = f r.failed;
     ran = ran_as r.ran;
@@ -53,13 +53,13 @@ module _ (p : Plan) (source : Input) (net : States) (sink : Output) (D V J : Typ
   stopped_as event Write (inl r) = inl (record {
     events = r.events;
     hand = r.hand;
-    place = r.place;
+    number = r.number;
     text = begins_as r.text;
     untold = r.untold;
   })
   stopped_as event Write (inr r) = inr (record {
     events = r.events;
-    place = r.place;
+    number = r.number;
     text = r.text;
     front = r.front;
     network = r.network;
@@ -68,7 +68,7 @@ module _ (p : Plan) (source : Input) (net : States) (sink : Output) (D V J : Typ
   stopped_as event NoMemory r = record {
     events = r.events;
     hand = r.hand;
-    place = r.place;
+    number = r.number;
     text = begins_as r.text;
     wrote = r.wrote;
     network = r.network;
@@ -93,7 +93,7 @@ module _ (p : Plan) (source : Input) (net : States) (sink : Output) (D V J : Typ
         → FaultyTold p t source_as net_as sink room event line kind
     faulty_told_as true event line kind r = (r.0, r.1, nothing_as r.2)
     faulty_told_as false event line kind r =
-        record { events = r.events; place = r.place; text = r.text; ran = told_as r.ran }
+        record { events = r.events; number = r.number; text = r.text; ran = told_as r.ran }
 
     stopped_telling_as : (event : ℕ) (cause : RunCause)
         → StoppedTelling p t source net sink event cause
@@ -101,7 +101,7 @@ module _ (p : Plan) (source : Input) (net : States) (sink : Output) (D V J : Typ
     stopped_telling_as event Read r = record {
       events = r.events;
       line = r.line;
-      place = r.place;
+      number = r.number;
       text = r.text;
       failed = f r.failed;
       ran = told_as r.ran;
@@ -109,13 +109,13 @@ module _ (p : Plan) (source : Input) (net : States) (sink : Output) (D V J : Typ
     stopped_telling_as event Write (inl r) = inl (record {
       events = r.events;
       hand = r.hand;
-      place = r.place;
+      number = r.number;
       text = begins_as r.text;
       lines = r.lines;
     })
     stopped_telling_as event Write (inr r) = inr (record {
       events = r.events;
-      place = r.place;
+      number = r.number;
       text = r.text;
       front = r.front;
       network = r.network;
@@ -125,7 +125,7 @@ module _ (p : Plan) (source : Input) (net : States) (sink : Output) (D V J : Typ
     stopped_telling_as event NoMemory (inl r) = inl (record {
       events = r.events;
       hand = r.hand;
-      place = r.place;
+      number = r.number;
       text = begins_as r.text;
       wrote = r.wrote;
       network = r.network;
@@ -133,7 +133,7 @@ module _ (p : Plan) (source : Input) (net : States) (sink : Output) (D V J : Typ
       unrefused = r.unrefused;
     })
     stopped_telling_as event NoMemory (inr r) =
-        inr (record { asked = r.asked; place = r.place; none = nothing_as r.none })
+        inr (record { asked = r.asked; number = r.number; none = nothing_as r.none })
 
     pub telling_as : (o : Result Summary RunFault)
         → TellingAnswers p t source net sink o → TellingAnswers p t source_as net_as sink o

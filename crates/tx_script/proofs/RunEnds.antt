@@ -81,8 +81,8 @@ module _ (p : Plan) (echo : Bool) (first now : Option Counted) (a b : Option (Li
   abbrev tel : Telling
   tel = asked_of echo first
 
-  place : tally.answered + 1 ≡ length es + 1
-  place = ap (λ n. n + 1) on.answered
+  number : tally.answered + 1 ≡ length es + 1
+  number = ap (λ n. n + 1) on.answered
 
   -- what the source, the network and the sink came to
   module _ (c : Option (List ℕ)) (r : State) (w : Option (List ℕ)) (broken unread unchanged silent : Type 0) where
@@ -105,18 +105,18 @@ module _ (p : Plan) (echo : Bool) (first now : Option Counted) (a b : Option (Li
           → f ≡ record { event = tally.answered + 1; cause = OfScript (record { line = n; kind = Word k }) } → StoppedTelling p tel source net sink f.event f.cause
       word_ends n ws U k q h i =
           subst (λ (z : RunFault). StoppedTelling p tel source net sink z.event z.cause) (sym i)
-          (record { events = es; place = place; text = inl (fault_said p a b c es T on.said n ws U k q h); ran = ran n (Word k) })
+          (record { events = es; number = number; text = inl (fault_said p a b c es T on.said n ws U k q h); ran = ran n (Word k) })
 
       -- the frame is faulty, or the source failed
       stop_by : (n : ℕ) (k : FrameFault) → (is_no_room k ≡ true → ⊥) → Stopped a c (script_of p) broken (is_read k) (faulty es n (Frame k))
           → StoppedTelling p tel source net sink (tally.answered + 1) (if is_read k then Read else OfScript (record { line = n; kind = Frame k }))
-      stop_by n line_read none q = record { events = es; line = n; place = place; text = q.0; failed = q.1; ran = ran n (Frame line_read) }
-      stop_by n LineTooLong none q = record { events = es; place = place; text = q; ran = ran n (Frame LineTooLong) }
-      stop_by n BadByte none q = record { events = es; place = place; text = q; ran = ran n (Frame BadByte) }
+      stop_by n line_read none q = record { events = es; line = n; number = number; text = q.0; failed = q.1; ran = ran n (Frame line_read) }
+      stop_by n LineTooLong none q = record { events = es; number = number; text = q; ran = ran n (Frame LineTooLong) }
+      stop_by n BadByte none q = record { events = es; number = number; text = q; ran = ran n (Frame BadByte) }
       stop_by n TextNoMemory none q = absurd (none refl)
-      stop_by n NoHeader none q = record { events = es; place = place; text = q; ran = ran n (Frame NoHeader) }
-      stop_by n NoEnd none q = record { events = es; place = place; text = q; ran = ran n (Frame NoEnd) }
-      stop_by n AfterEnd none q = record { events = es; place = place; text = q; ran = ran n (Frame AfterEnd) }
+      stop_by n NoHeader none q = record { events = es; number = number; text = q; ran = ran n (Frame NoHeader) }
+      stop_by n NoEnd none q = record { events = es; number = number; text = q; ran = ran n (Frame NoEnd) }
+      stop_by n AfterEnd none q = record { events = es; number = number; text = q; ran = ran n (Frame AfterEnd) }
 
       pub stop_ends : (n : ℕ) (k : FrameFault) → ((e : Ending) (more : List ℕ) → IsSaid (T e more)) → Stopped b c T broken (is_read k) (Stop n k)
           → f ≡ record { event = tally.answered + 1; cause = if is_read k then Read else OfScript (record { line = n; kind = Frame k }) } → StoppedTelling p tel source net sink f.event f.cause
@@ -126,16 +126,16 @@ module _ (p : Plan) (echo : Bool) (first now : Option Counted) (a b : Option (Li
     -- an event was not told whole
     untold_by : (e : Event) (k : ℕ) → Begins p source (es ++ e ∷ []) → k ≡ length es + 1 → (cause : RunCause) → Untold p echo k e (settled p s es) r (append_known u (told_events p echo s es)) w cause → StoppedTelling p tel source net sink k cause
     untold_by e k text is Read h = absurd h
-    untold_by e k text is Write h = inl (record { events = es; hand = e; place = is; text = text; lines = lines_same p s es e echo k r (append_known u (told_events p echo s es)) w h })
+    untold_by e k text is Write h = inl (record { events = es; hand = e; number = is; text = text; lines = lines_same p s es e echo k r (append_known u (told_events p echo s es)) w h })
     untold_by e k text is (OfScript f) h = absurd h
-    untold_by e k text is NoMemory h = inl (record { events = es; hand = e; place = is; text = text; wrote = h.written; network = h.network; asks = h.asks; unrefused = ap (λ (z : State). refusal p z e) h.network ∙ h.unrefused })
+    untold_by e k text is NoMemory h = inl (record { events = es; hand = e; number = is; text = text; wrote = h.written; network = h.network; asks = h.asks; unrefused = ap (λ (z : State). refusal p z e) h.network ∙ h.unrefused })
 
     untold_ends : (f : RunFault) (n : ℕ) (ws : List (List ℕ)) (U : Ending → List ℕ → Framed) (e : Event) (k : ℕ) (cause : RunCause) → ReadsOn b c T (λ e more. Has n ws (U e more)) → event_of p ws ≡ Ok e
         → k ≡ tally.answered + 1 → Untold p echo k e t r v w cause → f ≡ record { event = tally.answered + 1; cause = cause } → StoppedTelling p tel source net sink f.event f.cause
     untold_ends f n ws U e k cause q h number untold i =
         let text : Begins p source (es ++ e ∷ []) = record { to_come = λ e more. script_said p (U e more); reads = event_said p a b c es T on.said n ws U e q h } in
         let here = subst (λ (z : Option (List ℕ)). Untold p echo k e (settled p s es) r z w cause) on.wrote (subst (λ (z : State). Untold p echo k e z r v w cause) on.network untold) in
-        subst (λ (z : RunFault). StoppedTelling p tel source net sink z.event z.cause) (ap (λ n. record { event = n; cause = cause }) number ∙ sym i) (untold_by e k text (number ∙ place) cause here)
+        subst (λ (z : RunFault). StoppedTelling p tel source net sink z.event z.cause) (ap (λ n. record { event = n; cause = cause }) number ∙ sym i) (untold_by e k text (number ∙ index) cause here)
 
     -- the text is whole
     module _ (ok : IsPlan p) (fresh : IsFresh s) (new : AreNew p s first) (kept : r ≡ t) where
@@ -157,7 +157,7 @@ module _ (p : Plan) (echo : Bool) (first now : Option Counted) (a b : Option (Li
           subst (λ (z : RunFault). TellingAnswers p tel source net sink (Err z)) (sym fault)
           (inr (record {
             events = es;
-            place = place;
+            number = number;
             text = (whole_said p a b c es T on.said q.0, q.1);
             front = subst (λ l. StopsIn (append_known u (told_events p echo s es)) w l) same_end (subst (λ z. StopsIn z w (last_lines p now t)) on.wrote stop);
             network = kept ∙ on.network;

@@ -54,20 +54,20 @@ module _ (p : Plan) (source : Input) (net : States) (sink : Output) where
 
   faulty_silent : (room : Bool) (event line : ℕ) (kind : FaultKind ScriptWord) → FaultyTold p nothing source net sink room event line kind → FaultyBy p source net sink room event line kind
   faulty_silent true event line kind told = told
-  faulty_silent false event line kind told = record { events = told.events; place = told.place; text = told.text; ran = ran_silent _ told.ran }
+  faulty_silent false event line kind told = record { events = told.events; number = told.number; text = told.text; ran = ran_silent _ told.ran }
 
   stopped_silent : (event : ℕ) (cause : RunCause) → StoppedTelling p nothing source net sink event cause → Stopped p source net sink event cause
-  stopped_silent event Read told = record { events = told.events; line = told.line; place = told.place; text = told.text; failed = told.failed; ran = ran_silent _ told.ran }
+  stopped_silent event Read told = record { events = told.events; line = told.line; number = told.number; text = told.text; failed = told.failed; ran = ran_silent _ told.ran }
   stopped_silent event Write (inl told) = inl (record {
     events = told.events;
     hand = told.hand;
-    place = told.place;
+    number = told.number;
     text = told.text;
     untold = subst (λ l. IsUntold p (next p net.old told.events told.hand) net.new (append_known sink.old l) sink.new) (events_silent p net.old told.events) (lines_silent event _ _ _ _ told.lines);
   })
   stopped_silent event Write (inr told) = inr (record {
     events = told.events;
-    place = told.place;
+    number = told.number;
     text = told.text;
     front = subst (λ l. StopsIn (append_known sink.old l) sink.new (end_text (state_after p net.old told.events))) (events_silent p net.old told.events)
         (subst (λ l. StopsIn (append_known sink.old (told_events p false net.old told.events)) sink.new l) (end_silent p net.old told.events) told.front);
@@ -77,7 +77,7 @@ module _ (p : Plan) (source : Input) (net : States) (sink : Output) where
   stopped_silent event NoMemory (inl told) = record {
     events = told.events;
     hand = told.hand;
-    place = told.place;
+    number = told.number;
     text = told.text;
     wrote = told.wrote ∙ ap (append_known sink.old) (events_silent p net.old told.events);
     network = told.network;

@@ -25,7 +25,7 @@ use Rattle.tx_machine.specs.declared.reply.Reply.{Reply}
 use Rattle.tx_machine.specs.declared.reply.Reply.TheVariants.{Refused}
 use Rattle.tx_machine.specs.declared.open_call.Phase.{Phase}
 use Rattle.tx_machine.specs.declared.open_call.Phase.TheVariants.{Standing, Calling, Connected}
-use Rattle.tx_machine.specs.Call.{Call, place_of, call_of, is_standing, is_numbered, is_first}
+use Rattle.tx_machine.specs.Call.{Call, exchange_of, call_of, is_standing, is_numbered, is_first}
 use Rattle.tx_machine.specs.State.{State}
 use Rattle.tx_machine.specs.InUse.{choice, seizes, seizes_from}
 use Rattle.tx_machine.specs.Lines.{line_answer}
@@ -86,15 +86,15 @@ module _ (p : Plan) (s : State) (h : Holds p s) (y : Circuit) where
     route_follows : (n : ℕ) → c.phase ≡ Standing → (o : Option ℕ) → Follows (Route n) (routed_for p s c o)
     route_follows n e None = ends_same (ByService Np) (is_numbered c.number)
     route_follows n e (Some code) =
-        pick n (is_first c.hops && is_barred p (place_of p c) code) (home_of p code == place_of p c) (answered p c.number Na s) (at_line p s c (line_of p code c.keyed) (line_answer p s (line_of p code c.keyed))) (at_trunk p s c (choice p s (place_of p c) code))
-        (ends_same (ByService Na) (is_numbered c.number)) (line_follows n (line_of p code c.keyed) e (line_answer p s (line_of p code c.keyed))) (trunk_follows n e (choice p s (place_of p c) code))
+        pick n (is_first c.hops && is_barred p (exchange_of p c) code) (home_of p code == exchange_of p c) (answered p c.number Na s) (at_line p s c (line_of p code c.keyed) (line_answer p s (line_of p code c.keyed))) (at_trunk p s c (choice p s (exchange_of p c) code))
+        (ends_same (ByService Na) (is_numbered c.number)) (line_follows n (line_of p code c.keyed) e (line_answer p s (line_of p code c.keyed))) (trunk_follows n e (choice p s (exchange_of p c) code))
 
     meet_follows : (n : ℕ) (x : Circuit) → c.phase ≡ Calling x → (o : Option Call) → rival p s c x ≡ o → Follows (Confirm n) (confirmed_by p s c x o)
     meet_follows n x e None q = taken_same s (confirmed_by p s c x None).1 y (carry_only p s y h c m x (far_of p c x) e) (carry_all p s y h c m x (far_of p c x) e)
     meet_follows n x e (Some d) q =
         let r = find_mem (λ d. not (d.number == c.number) && seizes_from p d x (far_of p c x)) s.calls d q in
         let t = and_parts (not (d.number == c.number)) (seizes_from p d x (far_of p c x)) r.1 in
-        let o = calling_on d.phase x (and_parts (seizes d x) (place_of p d == far_of p c x) t.1).0 in
+        let o = calling_on d.phase x (and_parts (seizes d x) (exchange_of p d == far_of p c x) t.1).0 in
         let hit = collide c.number d.number x s in
         taken_same hit (end_calls p (ByService Nc) (second_time c d) hit) y (end_only p hit y (ByService Nc) (second_time c d)) (end_all p hit y (ByService Nc) (second_time c d))
         ∙ taken_same s hit y (collide_only p s y h c m d r.0 x e o) (collide_all p s y h c m d r.0 x e o)

@@ -5,7 +5,7 @@ use Rattle.std.specs.Str.Parse.{digits_value}
 use Rattle.std.proofs.lemmas.Bool.{and_parts, leb-true}
 use Rattle.std.proofs.lemmas.Bool.Decides.{nat_tests}
 use Rattle.std.proofs.lemmas.Option.{cond_some}
-use Rattle.tx_plan.proofs.ByPlace.{place_within}
+use Rattle.tx_plan.proofs.ByIndex.{index_within}
 use Rattle.tx_text.specs.Words.{number_of, figures_of, are_figures, is_numeral}
 use Rattle.tx_plan.specs.Plan.{Plan, Code, Group, code_named, group_named}
 use Rattle.tx_plan.specs.Rules.{is_national}
@@ -85,7 +85,7 @@ module _ (p : Plan) where
       let c = named_ok (code_named p code) _ l n.said in
       let s : ◌≡◌ {A = Line} (record { code = c.value; national = n.value }) l = cc (c.said) in
       subst (λ (m : Line). (m.code < length p.codes) × (is_national m.national ≡ true)) s
-      (place_within (λ (r : Code). bytes_eq code r.figures) p.codes c.value c.is, passes is_national national n.value n.is)
+      (index_within (λ (r : Code). bytes_eq code r.figures) p.codes c.value c.is, passes is_national national n.value n.is)
 
   circuit_ok : (w : List ℕ) (x : Circuit) → circuit_of p w ≡ Ok x → IsWritableCircuit p x
   circuit_ok w x h =
@@ -94,7 +94,7 @@ module _ (p : Plan) where
       let g = named_ok (group_named p c.value.0) _ x n.said in
       let f = from_one_ok (number_of 240 c.value.1) n.value n.is in
       let s : ◌≡◌ {A = Circuit} (record { group = g.value; number = n.value }) x = cc (g.said) in
-      subst (IsWritableCircuit p) s (record { group = place_within (λ (r : Group). bytes_eq c.value.0 r.name) p.groups g.value g.is; some = f.1; few = at_most 240 c.value.1 n.value f.0 })
+      subst (IsWritableCircuit p) s (record { group = index_within (λ (r : Group). bytes_eq c.value.0 r.name) p.groups g.value g.is; some = f.1; few = at_most 240 c.value.1 n.value f.0 })
 
   abbrev Can : Event → Type 0
   Can e = CanBeWritten p e
@@ -119,7 +119,7 @@ module _ (p : Plan) where
       let w = counted_ok (one_word ws) _ m.value m.is in
       let g = named_ok (group_named p w.value) _ m.value w.said in
       let s : g.value ≡ m.value = cc (g.said) in
-      subst Can m.made (f m.value (omega (arith, s, place_within (λ (r : Group). bytes_eq w.value r.name) p.groups g.value g.is)))
+      subst Can m.made (f m.value (omega (arith, s, index_within (λ (r : Group). bytes_eq w.value r.name) p.groups g.value g.is)))
 
   line_can : (make : Line → Event) (ws : List (List ℕ)) (e : Event) → ((l : Line) → l.code < length p.codes → is_national l.national ≡ true → Can (make l)) → said_of make (line_in p ws) ≡ Ok e → Can e
   line_can make ws e f h =

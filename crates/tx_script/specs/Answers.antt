@@ -83,7 +83,7 @@ module _ (p : Plan) (source : Input) (net : States) (sink : Output) where
   -- The text is faulty after the events before this one.
   pub record RanToFault (event line : ℕ) (kind : FaultKind ScriptWord) : Type 0 where
     pub events : List Event
-    pub place : event ≡ length events + 1
+    pub number : event ≡ length events + 1
     pub text : Stands source.old source.new (script_of p) (faulty events line kind)
     pub ran : Ran (faulty events line kind)
 
@@ -91,7 +91,7 @@ module _ (p : Plan) (source : Input) (net : States) (sink : Output) where
   pub record RanToCut (event : ℕ) : Type 0 where
     pub events : List Event
     pub line : ℕ
-    pub place : event ≡ length events + 1
+    pub number : event ≡ length events + 1
     pub text : EndsAs source.old source.new (script_of p) Cut
         (faulty events line (Frame line_read))
     pub failed : source.broken
@@ -102,7 +102,7 @@ module _ (p : Plan) (source : Input) (net : States) (sink : Output) where
   pub record RanOutOfMemory (event : ℕ) : Type 0 where
     pub events : List Event
     pub hand : Event
-    pub place : event ≡ length events + 1
+    pub number : event ≡ length events + 1
     pub text : Begins p source (events ++ hand ∷ [])
     pub wrote : sink.new ≡ append_known sink.old (events_text p net.old events)
     pub network : net.new ≡ settled p net.old events
@@ -114,7 +114,7 @@ module _ (p : Plan) (source : Input) (net : States) (sink : Output) where
   pub record FailedInEvent (event : ℕ) : Type 0 where
     pub events : List Event
     pub hand : Event
-    pub place : event ≡ length events + 1
+    pub number : event ≡ length events + 1
     pub text : Begins p source (events ++ hand ∷ [])
     pub untold : IsUntold p (next p net.old events hand) net.new
         (append_known sink.old (events_text p net.old events)) sink.new
@@ -123,7 +123,7 @@ module _ (p : Plan) (source : Input) (net : States) (sink : Output) where
   -- and not all.
   pub record FailedAtEnd (event : ℕ) : Type 0 where
     pub events : List Event
-    pub place : event ≡ length events + 1
+    pub number : event ≡ length events + 1
     pub text : IsWhole p source events
     pub front : StopsIn (append_known sink.old (events_text p net.old events)) sink.new
         (end_text (state_after p net.old events))

@@ -54,7 +54,7 @@ circuit_number w = from_one (number_of 240 w)
 abbrev pub is_dot : ℕ → Bool
 is_dot b = b == 46
 
--- what is before a place of a word, and what follows it
+-- what is before an index of a word, and what follows it
 abbrev pub cut_at : List ℕ → ℕ → List ℕ × List ℕ
 cut_at w i = (take i w, drop (i + 1) w)
 

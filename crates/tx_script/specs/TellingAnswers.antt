@@ -62,7 +62,7 @@ module _ (p : Plan) (t : Telling) (source : Input) (net : States) (sink : Output
   -- The text is faulty after the events before this one.
   pub record ToldToFault (event line : ℕ) (kind : FaultKind ScriptWord) : Type 0 where
     pub events : List Event
-    pub place : event ≡ length events + 1
+    pub number : event ≡ length events + 1
     pub text : Stands source.old source.new (script_of p) (faulty events line kind)
     pub ran : ToldRan (faulty events line kind)
 
@@ -70,7 +70,7 @@ module _ (p : Plan) (t : Telling) (source : Input) (net : States) (sink : Output
   pub record ToldToCut (event : ℕ) : Type 0 where
     pub events : List Event
     pub line : ℕ
-    pub place : event ≡ length events + 1
+    pub number : event ≡ length events + 1
     pub text : EndsAs source.old source.new (script_of p) Cut
         (faulty events line (Frame line_read))
     pub failed : source.broken
@@ -81,7 +81,7 @@ module _ (p : Plan) (t : Telling) (source : Input) (net : States) (sink : Output
   pub record ToldOutOfMemory (event : ℕ) : Type 0 where
     pub events : List Event
     pub hand : Event
-    pub place : event ≡ length events + 1
+    pub number : event ≡ length events + 1
     pub text : Begins p source (events ++ hand ∷ [])
     pub wrote : sink.new ≡ append_known sink.old (told_events p t.echo net.old events)
     pub network : net.new ≡ settled p net.old events
@@ -93,7 +93,7 @@ module _ (p : Plan) (t : Telling) (source : Input) (net : States) (sink : Output
   pub record StoppedInEvent (event : ℕ) : Type 0 where
     pub events : List Event
     pub hand : Event
-    pub place : event ≡ length events + 1
+    pub number : event ≡ length events + 1
     pub text : Begins p source (events ++ hand ∷ [])
     pub lines : StopsInLines p t.echo event (next p net.old events hand) net.new
         (append_known sink.old (told_events p t.echo net.old events)) sink.new
@@ -102,7 +102,7 @@ module _ (p : Plan) (t : Telling) (source : Input) (net : States) (sink : Output
   -- summary a front and not all.
   pub record StoppedAtEnd (event : ℕ) : Type 0 where
     pub events : List Event
-    pub place : event ≡ length events + 1
+    pub number : event ≡ length events + 1
     pub text : IsWhole p source events
     pub front : StopsIn (append_known sink.old (told_events p t.echo net.old events)) sink.new
         (told_last p t net.old events None)
@@ -117,7 +117,7 @@ module _ (p : Plan) (t : Telling) (source : Input) (net : States) (sink : Output
   -- Without memory for what is to be counted the first event is named, and nothing was touched.
   pub record HadNoTable (event : ℕ) : Type 0 where
     pub asked : t.summary ≡ true
-    pub place : event ≡ 1
+    pub number : event ≡ 1
     pub none : NothingDone source net sink
 
   -- a run stopped in this event, for this cause

@@ -106,9 +106,9 @@ impl<A: Allocator> Counts<A> {
               self.old.groups;
         } }
     {
-        let place = circuit.group.index();
-        if place < self.groups.len() {
-            let group = &mut self.groups[place];
+        let number = circuit.group.index();
+        if index < self.groups.len() {
+            let group = &mut self.groups[index];
             group.seize(circuit.number, plan.group_count(circuit.group));
         }
     }
@@ -119,9 +119,9 @@ impl<A: Allocator> Counts<A> {
               (marked circuit.now.number false) self.old.groups;
         } }
     {
-        let place = circuit.group.index();
-        if place < self.groups.len() {
-            let group = &mut self.groups[place];
+        let number = circuit.group.index();
+        if index < self.groups.len() {
+            let group = &mut self.groups[index];
             group.mark(circuit.number, false);
         }
     }
@@ -129,9 +129,9 @@ impl<A: Allocator> Counts<A> {
     fn clear(&mut self, group: GroupId)
         ensures { self.new ≡ record self.old { groups = change_at group cleared self.old.groups } }
     {
-        let place = group.index();
-        if place < self.groups.len() {
-            let group = &mut self.groups[place];
+        let number = group.index();
+        if index < self.groups.len() {
+            let group = &mut self.groups[index];
             group.clear();
         }
     }

@@ -187,7 +187,7 @@ fn cut_at_dot(word: &[u8]) -> Option<(&[u8], &[u8])>
 
 /// Where the first dot is.
 fn first_dot(word: &[u8]) -> Option<usize>
-    ensures place { result ≡ position is_dot word.now }
+    ensures index { result ≡ position is_dot word.now }
     ensures within { IfSome result (λ dot. dot < length word.now) }
 {
     word.iter().position(|byte| *byte == b'.')

@@ -33,9 +33,9 @@ impl GroupUse {
     pub(crate) fn mark(&mut self, number: u32, taken: bool)
         ensures { self.new ≡ marked number taken self.old }
     {
-        let place = number as usize;
-        if place < 241 {
-            self.taken[place] = taken;
+        let number = number as usize;
+        if index < 241 {
+            self.taken[index] = taken;
         }
     }
 

@@ -50,8 +50,8 @@ fn write_peaks<A: Allocator, B: Allocator, W: Sink>(
     ensures { Wrote W.taken W.failed sink.old sink.new (flat_map (λ g. peak_line plan.now g
         (use_at counts.now.groups g).most) (range_with_len 0 (length plan.now.groups))) result }
 {
-    for place in 0..plan.groups() {
-        let group = GroupId::of(place);
+    for index in 0..plan.groups() {
+        let group = GroupId::of(index);
         write_peak(group, counts.most_of(group), plan, sink)?;
     }
     Ok(())

@@ -9,7 +9,7 @@ module _ {X : Type 0} (p : X → Bool) where
   pub in_blocks : (xs : List X) (i n : ℕ) → list_all p (take (i + n) xs) ≡ (list_all p (take i xs) && list_all p (take n (drop i xs)))
   in_blocks xs i n = ap (list_all p) (take-add i n xs) ∙ list_all-append p (take i xs) (take n (drop i xs))
 
-  -- a front and all from a place on
+  -- a front and all from an index on
   pub in_two : (xs : List X) (i : ℕ) → list_all p xs ≡ (list_all p (take i xs) && list_all p (drop i xs))
   in_two xs i = ap (list_all p) (sym (take-append-drop i xs)) ∙ list_all-append p (take i xs) (drop i xs)
 
@@ -19,7 +19,7 @@ twice false b c = refl
 twice true false c = refl
 twice true true c = refl
 
--- a front, and all from a place in it on
+-- a front, and all from an index in it on
 pub overlapping : {X : Type 0} (p : X → Bool) (xs : List X) (i j : ℕ) → j ≤ i → (list_all p (take i xs) && list_all p (drop j xs)) ≡ list_all p xs
 overlapping p xs i j le =
     let rest : List _ = drop j xs in

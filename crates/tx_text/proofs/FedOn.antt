@@ -37,7 +37,7 @@ leaves_ended f front o p b x y z = rw (x, y, z) refl
 -- the front of a piece was added, with the LF after it, and no fault was told of it
 pub record FrontAdded (f b a : Feed) (piece front : List ℕ) (k : ℕ) (told : Option TextFault) : Type 0 where
   pub let_go : b ≡ record f { line = None }
-  pub place : k ≡ position_or_len is_lf piece
+  pub index : k ≡ position_or_len is_lf piece
   pub cut : front ≡ take k piece
   pub lf : k < length piece
   pub gives : told ≡ line_fault (nat_lt k (length piece)) (b.begun ++ front)
@@ -46,8 +46,8 @@ pub record FrontAdded (f b a : Feed) (piece front : List ℕ) (k : ℕ) (told : 
 
 pub ended_by_lf : (f b a e : Feed) (piece front : List ℕ) (k : ℕ) (told : Option TextFault) → FrontAdded f b a piece front k told → f.fault ≡ None → e ≡ ended a [] → e ≡ feed_leaves f piece
 ended_by_lf f b a e piece front k told h free he =
-    let front_is : front ≡ front_of piece = h.cut ∙ ap (λ n. take n piece) h.place in
+    let front_is : front ≡ front_of piece = h.cut ∙ ap (λ n. take n piece) h.index in
     let whole : a ≡ begun_more f (front_of piece) = h.held ∙ ap (λ l. begun_more b l) front_is ∙ ap (λ (w : Feed). begun_more w (front_of piece)) h.let_go in
-    let same : line_fault (nat_lt k (length piece)) (b.begun ++ front) ≡ piece_fault f piece = rw (front_is, h.place, ap (λ (w : Feed). w.begun) h.let_go) refl in
-    let lf : has_lf piece ≡ true = rw (← h.place) (lt-ltb k (length piece) h.lf) in
+    let same : line_fault (nat_lt k (length piece)) (b.begun ++ front) ≡ piece_fault f piece = rw (front_is, h.index, ap (λ (w : Feed). w.begun) h.let_go) refl in
+    let lf : has_lf piece ≡ true = rw (← h.index) (lt-ltb k (length piece) h.lf) in
     he ∙ ap (λ (w : Feed). ended w []) whole ∙ ended-added f (front_of piece) ∙ sym (leaves_ended f (front_of piece) f.fault (piece_fault f piece) (has_lf piece) free (sym same ∙ sym h.gives ∙ h.right) lf)

@@ -12,7 +12,7 @@ use Rattle.tx_text.specs.Text.{Line, is_lf, without_cr, bytes_fault, begun_fault
 use Rattle.tx_text.specs.inner.Feed.{Feed, front_of, has_lf, piece_fault, feed_gives, feed_leaves, gives_by, leaves_by, ends_leaving, finish_leaves, finished, ended, begun_more, faulted}
 use Rattle.tx_text.specs.Told.{Ending, Faulty, Then, frame_fault}
 use Rattle.tx_text.specs.Frame.{is_read}
-use Rattle.tx_text.specs.inner.Reading.{told_at, IsFeed, Place, place_of, unfed, lined}
+use Rattle.tx_text.specs.inner.Reading.{told_at, IsFeed, Rest, rest_of, unfed, lined}
 use Rattle.tx_text.proofs.TextLines.{ended_line}
 use Rattle.tx_text.proofs.Feeding.{front-no_lf, length-front, no_cut, feed-line, feed-faulty, begun-faulty}
 
@@ -62,9 +62,9 @@ pub ended_as_feed : (f : Feed) → IsFeed f → EndedAs f (finish_leaves f)
 ended_as_feed f i = ended_by f i f.fault _ _
 
 -- what a call of a reader's feeder says of the text: by what the call answered
-abbrev pub Says : Place → Feed → List ℕ → Result Bool FrameFault → Type 0
-Says p g rest (Ok true) = (g.fault ≡ None) × (l : Line) × (g.line ≡ Some l) × (l.finished ≡ true) × ((e : Ending) (more : List ℕ) → told_at p e more ≡ Then l (told_at (place_of g rest) e more))
-Says p g rest (Ok false) = (g.fault ≡ None) × (rest ≡ []) × ((e : Ending) (more : List ℕ) → told_at p e more ≡ told_at (place_of g rest) e more)
+abbrev pub Says : Rest → Feed → List ℕ → Result Bool FrameFault → Type 0
+Says p g rest (Ok true) = (g.fault ≡ None) × (l : Line) × (g.line ≡ Some l) × (l.finished ≡ true) × ((e : Ending) (more : List ℕ) → told_at p e more ≡ Then l (told_at (rest_of g rest) e more))
+Says p g rest (Ok false) = (g.fault ≡ None) × (rest ≡ []) × ((e : Ending) (more : List ℕ) → told_at p e more ≡ told_at (rest_of g rest) e more)
 Says p g rest (Err f) = (is_read f ≡ false) × ((e : Ending) (more : List ℕ) → told_at p e more ≡ Faulty f)
 
 -- a fault of bytes is no failure
@@ -73,7 +73,7 @@ no_read LineTooLong = refl
 no_read BadByte = refl
 no_read NoMemory = refl
 
-same_ahead : (f : Feed) (piece : List ℕ) → has_lf piece ≡ false → (e : Ending) (more : List ℕ) → told_at (place_of f piece) e more ≡ told_at (place_of (begun_more f (front_of piece)) (drop (length (front_of piece)) piece)) e more
+same_ahead : (f : Feed) (piece : List ℕ) → has_lf piece ≡ false → (e : Ending) (more : List ℕ) → told_at (rest_of f piece) e more ≡ told_at (rest_of (begun_more f (front_of piece)) (drop (length (front_of piece)) piece)) e more
 unfolding told_at
 same_ahead f piece h e more =
     let n = no_cut piece h in
@@ -81,7 +81,7 @@ same_ahead f piece h e more =
     rw (rest, n, append-nil) refl
 
 pub says_by : (f : Feed) (piece : List ℕ) → IsFeed f → f.fault ≡ None → (p : Option TextFault) (b : Bool) → piece_fault f piece ≡ p → has_lf piece ≡ b
-    → Says (place_of f piece) (leaves_by f (front_of piece) None p b) (unfed (gives_by None p b (length (front_of piece))) piece) (lined (gives_by None p b (length (front_of piece))))
+    → Says (rest_of f piece) (leaves_by f (front_of piece) None p b) (unfed (gives_by None p b (length (front_of piece))) piece) (lined (gives_by None p b (length (front_of piece))))
 says_by f piece i z (Some x) true h k = let g : bytes_fault (without_cr (f.begun ++ front_of piece)) ≡ Some x = rw k at h in (no_read x, λ e more. feed-faulty f piece x i k g e more)
 says_by f piece i z (Some x) false h k = let g : begun_fault (f.begun ++ front_of piece) ≡ Some x = rw k at h in (no_read x, λ e more. begun-faulty f piece x i g k e more)
 says_by f piece i z None true h k =
@@ -89,5 +89,5 @@ says_by f piece i z None true h k =
     (z, ended_line (f.number + 1) f.start (f.begun ++ front_of piece), refl, refl, λ e more. feed-line f piece i k g e more)
 says_by f piece i z None false h k = (z, drop_all _ piece (omega (arith, ap length (no_cut piece k))), λ e more. same_ahead f piece k e more)
 
-pub says : (f : Feed) (piece : List ℕ) → IsFeed f → f.fault ≡ None → Says (place_of f piece) (feed_leaves f piece) (unfed (feed_gives f piece) piece) (lined (feed_gives f piece))
-says f piece i z = subst (λ o. Says (place_of f piece) (leaves_by f (front_of piece) o (piece_fault f piece) (has_lf piece)) (unfed (gives_by o (piece_fault f piece) (has_lf piece) (length (front_of piece))) piece) (lined (gives_by o (piece_fault f piece) (has_lf piece) (length (front_of piece))))) (sym z) (says_by f piece i z (piece_fault f piece) (has_lf piece) refl refl)
+pub says : (f : Feed) (piece : List ℕ) → IsFeed f → f.fault ≡ None → Says (rest_of f piece) (feed_leaves f piece) (unfed (feed_gives f piece) piece) (lined (feed_gives f piece))
+says f piece i z = subst (λ o. Says (rest_of f piece) (leaves_by f (front_of piece) o (piece_fault f piece) (has_lf piece)) (unfed (gives_by o (piece_fault f piece) (has_lf piece) (length (front_of piece))) piece) (lined (gives_by o (piece_fault f piece) (has_lf piece) (length (front_of piece))))) (sym z) (says_by f piece i z (piece_fault f piece) (has_lf piece) refl refl)

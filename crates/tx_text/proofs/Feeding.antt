@@ -11,7 +11,7 @@ use Rattle.tx_text.specs.declared.frame.FrameFault.TheVariants.{Read}
 use Rattle.tx_text.specs.Text.{is_lf, without_cr, lines_from, bytes_fault, begun_fault}
 use Rattle.tx_text.specs.inner.Feed.{Feed, front_of, has_lf, ended}
 use Rattle.tx_text.specs.Told.{Ending, AtEnd, Cut, Told, Closed, Faulty, Then, frame_fault, told, or_fault}
-use Rattle.tx_text.specs.inner.Reading.{told_at, IsFeed, place_of}
+use Rattle.tx_text.specs.inner.Reading.{told_at, IsFeed, rest_of}
 use Rattle.tx_text.proofs.LineFaults.{length-without_cr}
 use Rattle.tx_text.proofs.TextLines.{HasNoLf, ended_line, last_line, lines_at_lf, lines_last, lines_nil}
 
@@ -61,7 +61,7 @@ regroup : (begun front rest more : List ℕ) → (begun ++ (front ++ 10 ∷ rest
 regroup begun front rest more = simp append_assoc
 
 at_lf : (f : Feed) (piece : List ℕ) → IsFeed f → (h : has_lf piece ≡ true) → (e : Ending) (more : List ℕ)
-    → told_at (place_of f piece) e more ≡ or_fault (bytes_fault (without_cr (f.begun ++ front_of piece)))
+    → told_at (rest_of f piece) e more ≡ or_fault (bytes_fault (without_cr (f.begun ++ front_of piece)))
     (Then (ended_line (f.number + 1) f.start (f.begun ++ front_of piece)) (told e (lines_from (f.number + 1 + 1) (f.start + length (f.begun ++ front_of piece) + 1) ((cuts_at_lf piece h).rest ++ more))))
 unfolding told_at told
 at_lf f piece i h e more =
@@ -72,16 +72,16 @@ at_lf f piece i h e more =
 
 -- a line came
 pub feed-line : (f : Feed) (piece : List ℕ) → IsFeed f → (h : has_lf piece ≡ true) → bytes_fault (without_cr (f.begun ++ front_of piece)) ≡ None → (e : Ending) (more : List ℕ)
-    → told_at (place_of f piece) e more ≡ Then (ended_line (f.number + 1) f.start (f.begun ++ front_of piece)) (told_at (place_of (ended f (front_of piece)) (drop (length (front_of piece) + 1) piece)) e more)
+    → told_at (rest_of f piece) e more ≡ Then (ended_line (f.number + 1) f.start (f.begun ++ front_of piece)) (told_at (rest_of (ended f (front_of piece)) (drop (length (front_of piece) + 1) piece)) e more)
 unfolding told_at told
 feed-line f piece i h none e more =
     at_lf f piece i h e more ∙ none_fault _ _ none
     ∙ ap (λ k. Then (ended_line (f.number + 1) f.start (f.begun ++ front_of piece)) (told e (lines_from (f.number + 1 + 1) (k + 1) ((cuts_at_lf piece h).rest ++ more)))) (omega (arith, length-append f.begun (front_of piece)))
-    ∙ ap (λ l. Then (ended_line (f.number + 1) f.start (f.begun ++ front_of piece)) (told_at (place_of (ended f (front_of piece)) l) e more)) (sym (cuts_at_lf piece h).dropped)
+    ∙ ap (λ l. Then (ended_line (f.number + 1) f.start (f.begun ++ front_of piece)) (told_at (rest_of (ended f (front_of piece)) l) e more)) (sym (cuts_at_lf piece h).dropped)
 
 -- a line came that is faulty
 pub feed-faulty : (f : Feed) (piece : List ℕ) (x : TextFault) → IsFeed f → (h : has_lf piece ≡ true) → bytes_fault (without_cr (f.begun ++ front_of piece)) ≡ Some x → (e : Ending) (more : List ℕ)
-    → told_at (place_of f piece) e more ≡ Faulty (frame_fault x)
+    → told_at (rest_of f piece) e more ≡ Faulty (frame_fault x)
 feed-faulty f piece x i h some e more = at_lf f piece i h e more ∙ some_fault _ _ x some
 
 too_long-true : (b : Bool) (x : TextFault) → ◌≡◌ {A = Option TextFault} (cond b (Some LineTooLong) None) (Some x) → (b ≡ true) × (x ≡ LineTooLong)
@@ -125,7 +125,7 @@ long_more e n s raw more h long false has =
     last_faulty e n s (raw ++ more) (All-append (λ b. is_lf b ≡ false) raw more h front) (longer raw more long).0 (longer raw more long).1
 
 -- a line that has begun is too long whatever follows
-pub begun-faulty : (f : Feed) (piece : List ℕ) (x : TextFault) → IsFeed f → begun_fault (f.begun ++ front_of piece) ≡ Some x → has_lf piece ≡ false → (e : Ending) (more : List ℕ) → told_at (place_of f piece) e more ≡ Faulty (frame_fault x)
+pub begun-faulty : (f : Feed) (piece : List ℕ) (x : TextFault) → IsFeed f → begun_fault (f.begun ++ front_of piece) ≡ Some x → has_lf piece ≡ false → (e : Ending) (more : List ℕ) → told_at (rest_of f piece) e more ≡ Faulty (frame_fault x)
 unfolding told_at begun_fault
 begun-faulty f piece x i h without e more =
     let t = too_long-true _ x h in
@@ -133,7 +133,7 @@ begun-faulty f piece x i h without e more =
     let all = All-append (λ b. is_lf b ≡ false) f.begun (front_of piece) i.no_lf (front-no_lf piece) in
     rw t.1 (rw e1 at (long_more e (f.number + 1) f.start (f.begun ++ front_of piece) more all (ltb-true 512 _ t.0) (has_lf more) refl))
 
-pub end-nothing : (e : Ending) (f : Feed) → f.begun ≡ [] → told_at (place_of f []) e [] ≡ told e []
+pub end-nothing : (e : Ending) (f : Feed) → f.begun ≡ [] → told_at (rest_of f []) e [] ≡ told e []
 unfolding told_at
 end-nothing e f h = rw h (ap (told e) (lines_nil (f.number + 1) f.start))
 
@@ -141,18 +141,18 @@ pub told-nil : told AtEnd [] ≡ Closed
 unfolding told
 told-nil = refl
 
-same_place : (f : Feed) → (f.begun ++ []) ++ [] ≡ f.begun
-same_place f = append-nil (f.begun ++ []) ∙ append-nil f.begun
+same_rest : (f : Feed) → (f.begun ++ []) ++ [] ≡ f.begun
+same_rest f = append-nil (f.begun ++ []) ∙ append-nil f.begun
 
-pub end-line : (f : Feed) → IsFeed f → 0 < length f.begun → told_at (place_of f []) AtEnd [] ≡ or_fault (bytes_fault f.begun) (Then (last_line (f.number + 1) f.start f.begun) Closed)
+pub end-line : (f : Feed) → IsFeed f → 0 < length f.begun → told_at (rest_of f []) AtEnd [] ≡ or_fault (bytes_fault f.begun) (Then (last_line (f.number + 1) f.start f.begun) Closed)
 unfolding told_at told
-end-line f i lt = ap (λ l. told AtEnd (lines_from (f.number + 1) f.start l)) (same_place f) ∙ ap (told AtEnd) (lines_last (f.number + 1) f.start f.begun i.no_lf lt)
+end-line f i lt = ap (λ l. told AtEnd (lines_from (f.number + 1) f.start l)) (same_rest f) ∙ ap (told AtEnd) (lines_last (f.number + 1) f.start f.begun i.no_lf lt)
 
 cut_at : (f : Feed) → IsFeed f → (l : List ℕ) → f.begun ≡ l → told Cut (lines_from (f.number + 1) f.start f.begun) ≡ Faulty Read
 unfolding told
 cut_at f i [] h = rw h (ap (told Cut) (lines_nil (f.number + 1) f.start))
 cut_at f i (b ∷ bs) h = ap (told Cut) (lines_last (f.number + 1) f.start f.begun i.no_lf (rw h (omega arith))) ∙ none_fault _ (Faulty Read) i.short
 
-pub end-cut : (f : Feed) → IsFeed f → told_at (place_of f []) Cut [] ≡ Faulty Read
+pub end-cut : (f : Feed) → IsFeed f → told_at (rest_of f []) Cut [] ≡ Faulty Read
 unfolding told_at
-end-cut f i = ap (λ l. told Cut (lines_from (f.number + 1) f.start l)) (same_place f) ∙ cut_at f i f.begun refl
+end-cut f i = ap (λ l. told Cut (lines_from (f.number + 1) f.start l)) (same_rest f) ∙ cut_at f i f.begun refl

@@ -1,7 +1,7 @@
 pub mod WordLists
 pub mod Writing
 pub mod Wrote
-pub mod Places
+pub mod Indexes
 pub mod PaddedTexts
 pub mod Blocks
 pub mod LineFaults

@@ -12,7 +12,7 @@ use Rattle.tx_text.specs.declared.frame.FramePart.TheVariants.{Start, Body, Ende
 use Rattle.tx_text.specs.Text.{Line, is_text_byte, bytes_fault, without_cr, begun_fault}
 use Rattle.tx_text.specs.Words.{words_of}
 use Rattle.tx_text.specs.Told.{Ending, AtEnd, Cut, Told, Closed, Faulty, Then, frame_fault, or_fault, told_line, told}
-use Rattle.tx_text.specs.inner.Reading.{told_at, reading_place}
+use Rattle.tx_text.specs.inner.Reading.{told_at, reading_rest}
 use Rattle.tx_text.specs.Frame.{Framed, Done, Stop, Headed, Has, is_end, headed, looked_by, closing, last_by, last_fault, ended_by, as_said, framed_line, header_of, framed, Stopped}
 use Rattle.tx_text.specs.inner.Framing.{FrameReading, to_come}
 use Rattle.tx_text.specs.Said.{is_no_room}
@@ -94,7 +94,7 @@ framed_said header q n (Then l t) h = line_framed header q l.finished l.number (
 
 pub come_said : (v : FrameReading) (e : Ending) (more : List ℕ) → IsSaid (to_come v e more)
 unfolding told_at
-come_said v e more = framed_said (header_of v.key v.most) v.phase v.number (told_at (reading_place v.reader) e more) (told_of_bytes e _)
+come_said v e more = framed_said (header_of v.key v.most) v.phase v.number (told_at (reading_rest v.reader) e more) (told_of_bytes e _)
 
 -- so none stands
 no_stop : (n : ℕ) (k : FrameFault) (t : Framed) → IsSaid t → t ≡ Stop n k → is_no_room k ≡ true → ⊥

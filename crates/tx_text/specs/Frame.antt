@@ -83,7 +83,7 @@ as_said Plain p n ws k = Has n ws (k p)
 as_said End p n ws k = k Ended
 as_said (Bad x) p n ws k = Stop n x
 
--- A finished line is judged by its place in the frame. An unfinished one is the last.
+-- A finished line is judged by where it stands in the frame. An unfinished one is the last.
 abbrev pub framed_line : (List (List ℕ) → Option ℕ)
     → FramePart → Bool → ℕ → List (List ℕ) → (FramePart → Framed) → Framed
 framed_line header p true n ws k = as_said (looked header p ws) p n ws k

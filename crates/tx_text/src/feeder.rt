@@ -125,9 +125,9 @@ impl<A: Allocator> LineFeeder<A> {
             return Err(fault);
         }
         self.begin();
-        let place = lf_or_len(piece);
-        let line = place < piece.len();
-        let (front, _) = piece.split_at(place);
+        let index = lf_or_len(piece);
+        let line = index < piece.len();
+        let (front, _) = piece.split_at(index);
         if let Some(fault) = self.add(front, line) {
             self.fail(fault);
             return Err(fault);
@@ -135,11 +135,11 @@ impl<A: Allocator> LineFeeder<A> {
         if line {
             self.complete_line();
             return Ok(Fed {
-                taken: place + 1,
+                taken: index + 1,
                 line,
             });
         }
-        Ok(Fed { taken: place, line })
+        Ok(Fed { taken: index, line })
     }
 
     /// Adds bytes to the line that has begun, and returns what is wrong with it then.

@@ -144,8 +144,8 @@ fn count_blanks(text: &[u8]) -> usize
     ensures within { result ≤ length text.now }
     ensures count { result ≡ prefix_len is_blank text.now }
 {
-    let place = text.iter().position(|byte| !is_blank(*byte));
-    place.unwrap_or(text.len())
+    let index = text.iter().position(|byte| !is_blank(*byte));
+    index.unwrap_or(text.len())
 }
 
 /// How long the word at the front is.

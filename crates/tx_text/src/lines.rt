@@ -76,9 +76,9 @@ struct Left<'a> {
 /// The next line or its fault, and what is left then.
 fn next_item(left: Left<'_>) -> Option<(Result<TextLine<'_>, TextFault>, Left<'_>)>
     requires number { left.number ≤ left.start }
-    requires place { left.start + length left.rest.now < 2 ^ 63 }
+    requires index { left.start + length left.rest.now < 2 ^ 63 }
     ensures number { IfSome result (λ x. x.1.number ≤ x.1.start) }
-    ensures place { IfSome result (λ x. x.1.start + length x.1.rest.now < 2 ^ 63) }
+    ensures index { IfSome result (λ x. x.1.start + length x.1.rest.now < 2 ^ 63) }
     ensures item { MatchOption result (items_of left.entry ≡ [])
         (λ x. items_of left.entry ≡ item_of x.0 ∷ items_of x.1) }
 {
@@ -114,8 +114,8 @@ pub fn first_line(text: &[u8], number: u64, start: usize) -> (TextLine<'_>, &[u8
     ensures line { lines_from number start text.now ≡ line_of result.0 ∷ lines_from
         (number + 1) (start + (length text.now - length result.1.now)) result.1.now }
 {
-    let place = lf_or_len(text);
-    let (front, back) = text.split_at(place);
+    let index = lf_or_len(text);
+    let (front, back) = text.split_at(index);
     match back.split_first() {
         Some((_, rest)) => {
             let line = TextLine {

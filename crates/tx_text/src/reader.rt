@@ -7,7 +7,7 @@ ghost use Rattle.tx_text.specs.Text.{without_cr, bytes_fault, is_text_byte, is_l
 ghost use Rattle.tx_text.specs.inner.TextLine.{line_of};
 ghost use Rattle.tx_text.specs.inner.CallsLeft.{Went, Calls};
 ghost use Rattle.tx_text.specs.inner.Feed.{feed_gives, finish_gives, finish_leaves, front_of, has_lf};
-ghost use Rattle.tx_text.specs.inner.Reading.{Advances, IsFeed, reading_place, reading_of_calls, reading_size, fed_on, lined, ended_as};
+ghost use Rattle.tx_text.specs.inner.Reading.{Advances, IsFeed, reading_rest, reading_of_calls, reading_size, fed_on, lined, ended_as};
 
 use crate::feeder::LineFeeder;
 use crate::frame::FrameFault;
@@ -81,7 +81,7 @@ pub fn bytes_fault(line: &[u8]) -> Option<TextFault>
 /// Where the first LF is, or the length.
 pub(crate) fn lf_or_len(piece: &[u8]) -> usize
     ensures within { result ≤ length piece.now }
-    ensures place { result ≡ position_or_len is_lf piece.now }
+    ensures index { result ≡ position_or_len is_lf piece.now }
 {
     memchr(b'\n', piece).unwrap_or(piece.len())
 }
@@ -183,7 +183,7 @@ impl<A: Allocator> TextReader<A> {
         requires { self.old.feed.fault ≡ None }
         ensures fault { IfOk result (λ _. self.new.feed.fault ≡ None) }
         ensures gives { Advances (R.rest source.old) (R.rest source.new)
-            (reading_place self.old) (reading_place self.new) self.new.feed.line
+            (reading_rest self.old) (reading_rest self.new) self.new.feed.line
             (Broken R.called (R.failed source.new) self.old.left source.old source.new) result }
         ensures went { result ≡ Ok true → IfSome self.new.feed.line (λ l. l.finished ≡ true
             → Went R.called self.old.left self.new.left source.old source.new) }
@@ -262,7 +262,7 @@ impl<A: Allocator> TextReader<A> {
     }
 }
 
-/// The bytes from one place up to another.
+/// The bytes from one index up to another.
 fn part(piece: &[u8], from: usize, to: usize) -> &[u8]
     requires order { from ≤ to }
     requires within { to ≤ length piece.now }

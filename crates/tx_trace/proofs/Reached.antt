@@ -35,10 +35,10 @@ in_among y (z ∷ xs) e =
       | false ↦ λ q h. inr (in_among y xs h)
     ] refl e
 
-place_of : (y : ℕ) (xs : List ℕ) → Among y xs → (i : ℕ) × (slice_get xs i ≡ Some y)
-place_of y [] m = absurd m
-place_of y (z ∷ xs) (inl e) = (0, ap (λ k. Some k) e)
-place_of y (z ∷ xs) (inr m) = let r = place_of y xs m in (suc r.0, r.1)
+index_of : (y : ℕ) (xs : List ℕ) → Among y xs → (i : ℕ) × (slice_get xs i ≡ Some y)
+index_of y [] m = absurd m
+index_of y (z ∷ xs) (inl e) = (0, ap (λ k. Some k) e)
+index_of y (z ∷ xs) (inr m) = let r = index_of y xs m in (suc r.0, r.1)
 
 there_before : (xs : List ℕ) (y i z : ℕ) → slice_get xs i ≡ Some z → slice_get (xs ++ y ∷ []) i ≡ Some z
 there_before [] y i z e = absurd (let bad : ⊥ = cc in bad)
@@ -145,14 +145,14 @@ module _ (p : Plan) (c x : ℕ) where
     opened : (y z : ℕ) → Among y (all_met p c x) → Among z (far_ends p c y) → Among z (all_met p c x)
     opened y z m to =
         let n = length p.exchanges in
-        let at = place_of y (all_met p c x) m in
+        let at = index_of y (all_met p c x) m in
         let i = at.0 in
         let inside = slice_get_within (all_met p c x) i y at.1 in
         let rest = n - i in
         let whole : i + rest ≡ n = let f = few in omega arith in
         elim (cases_lt i (length (met i))) [
           | inl less ↦
-              let here = place_at (met i) i less in
+              let here = index_at (met i) i less in
               let again : slice_get (all_met p c x) i ≡ Some here.0 = ap (λ k. slice_get (met k) i) (sym whole) ∙ at_later i rest i here.0 here.1 in
               let is : here.0 ≡ y = let a = at.1 in cc in
               let adds : Among z (met (suc i)) = subst (λ o. Among z (fold meet (met i) (option_map_or (far_ends p c) o []))) (sym (here.1 ∙ ap (λ k. Some k) is)) (added_fold (met i) (far_ends p c y) z to) in
@@ -163,10 +163,10 @@ module _ (p : Plan) (c x : ℕ) where
               absurd (omega (arith, bad, more, inside))
         ]
       where
-        place_at : (xs : List ℕ) (i : ℕ) → i < length xs → (w : ℕ) × (slice_get xs i ≡ Some w)
-        place_at [] i h = absurd (omega (arith, h))
-        place_at (w ∷ xs) zero h = (w, refl)
-        place_at (w ∷ xs) (suc i) h = place_at xs i (omega (arith, h))
+        index_at : (xs : List ℕ) (i : ℕ) → i < length xs → (w : ℕ) × (slice_get xs i ≡ Some w)
+        index_at [] i h = absurd (omega (arith, h))
+        index_at (w ∷ xs) zero h = (w, refl)
+        index_at (w ∷ xs) (suc i) h = index_at xs i (omega (arith, h))
 
     goes_on : (y : ℕ) (steps : List (ℕ × ℕ)) → Among y (all_met p c x) → Goes (net_from p c x) y steps → Among (end_of y steps) (all_met p c x)
     goes_on y [] m go = m

@@ -9,7 +9,7 @@ use Rattle.tx_plan.specs.Plan.{Plan, home_of, exchange_name, group_name}
 use Rattle.tx_plan.specs.Circuits.{other_end}
 use Rattle.tx_plan.specs.Routes.{route_list}
 use Rattle.tx_plan.specs.Among.{Among}
-use Rattle.tx_plan.proofs.Among.{places_among}
+use Rattle.tx_plan.proofs.Among.{indexes_among}
 use Rattle.tx_rank.proofs.Looks.{among_at}
 use Rattle.tx_trace.specs.declared.tracing.Trace.{Trace}
 use Rattle.tx_trace.specs.Ways.{all_met}
@@ -62,7 +62,7 @@ module _ (p : Plan) (c : ℕ) (told ranks : ℕ → Option ℕ) where
         | true ↦ λ e. refl
         | false ↦ λ e.
             flat_map-same (λ (k : ℕ × ℕ). place_line p told y k.0 k.1) (λ (k : ℕ × ℕ). place_line p ranks y k.0 k.1) (enumerate_from 1 (route_list p y c))
-            (λ k m. let at = places_among 1 k (route_list p y c) m in place_same y k.0 k.1 (λ z leads. same (eqb-false y (home_of p c) e) k.1 z (among_at (route_list p y c) at.0 k.1 at.1) leads))
+            (λ k m. let at = indexes_among 1 k (route_list p y c) m in place_same y k.0 k.1 (λ z leads. same (eqb-false y (home_of p c) e) k.1 z (among_at (route_list p y c) at.0 k.1 at.1) leads))
       ] refl
 
 -- the lines that a trace tells

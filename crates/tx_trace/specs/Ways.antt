@@ -56,11 +56,11 @@ first_way p c x = way_within p c x (length p.exchanges)
 abbrev pub meet : List ℕ → ℕ → List ℕ
 meet met y = if is_in y met then met else met ++ y ∷ []
 
--- the exchange at place i adds those to which its groups lead
+-- the exchange at index i adds those to which its groups lead
 abbrev pub meet_from : Plan → (c i : ℕ) → List ℕ → List ℕ
 meet_from p c i met = fold meet met (option_map_or (far_ends p c) (slice_get met i) [])
 
--- x, and what the exchanges before place k have added, one after another
+-- x, and what the exchanges before index k have added, one after another
 abbrev pub met_before : Plan → (c x k : ℕ) → List ℕ
 met_before p c x zero = x ∷ []
 met_before p c x (suc k) = meet_from p c k (met_before p c x k)

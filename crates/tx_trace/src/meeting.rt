@@ -69,8 +69,8 @@ pub fn all_met<A: Allocator + Copy>(
     let mut marks = vec![in alloc; false; plan.exchanges()]?;
     let mut met = Vec::new(alloc);
     meet(start, &mut marks, &mut met)?;
-    for place in 0..plan.exchanges() {
-        if let Some(exchange) = met.get(place).copied() {
+    for index in 0..plan.exchanges() {
+        if let Some(exchange) = met.get(index).copied() {
             meet_ends(plan, code, exchange, &mut marks, &mut met)?;
         }
     }

@@ -6,7 +6,7 @@ ghost use Rattle.tx_trace.specs.Ranked.{net_from};
 
 use std::alloc::Allocator;
 use tx_plan::{CodeId, ExchangeId, GroupId, Plan};
-use tx_rank::{Routes, far};
+use tx_rank::{CodeNet, far};
 
 /// The routes of one code of a plan, for calls that start at one exchange.
 #[derive(Drop)]
@@ -18,15 +18,15 @@ pub struct RoutesFrom<'a, A: Allocator> {
     ghost net: { IsNet (net_from plan.now code start) } by { IsNet-prop (net_from plan.now code start) },
 }
 
-impl<'a, A: Allocator> Routes for RoutesFrom<'a, A> {
+impl<'a, A: Allocator> CodeNet for RoutesFrom<'a, A> {
     ghost net = { λ r. net_from r.plan.now r.code r.start };
 
     fn exchanges(&self) -> usize {
         self.plan.exchanges()
     }
 
-    fn exchange(&self, place: usize) -> ExchangeId {
-        ExchangeId::of(place)
+    fn exchange(&self, index: usize) -> ExchangeId {
+        ExchangeId::of(index)
     }
 
     fn home(&self) -> ExchangeId {

@@ -9,7 +9,7 @@ use Rattle.std.specs.Option.{option_map_or, IsSome}
 use Rattle.tx_text.specs.Words.{is_figure, are_figures}
 use Rattle.tx_plan.specs.Plan.{Plan, Code, figures_of, home_of}
 use Rattle.tx_plan.specs.Rules.{EachPair, IsPlan, IsCode, is_code}
-use Rattle.tx_plan.proofs.ByPlace.{all_at}
+use Rattle.tx_plan.proofs.ByIndex.{all_at}
 use Rattle.tx_trie.proofs.Longest.{widths}
 
 pub pairs_at : {A : Type 0} (R : A → A → Type 0) (xs : List A) (i j : ℕ) (x y : A) → EachPair R xs → slice_get xs i ≡ Some x → slice_get xs j ≡ Some y → i < j → R x y
@@ -37,7 +37,7 @@ pub all_codes : (codes all : List Code) (n : ℕ) → codes ≡ take n all → l
 all_codes codes all n e h = e ∙ take_all n all h
 
 module _ (p : Plan) (rules : IsPlan p) (n : ℕ) (within : n < length p.codes) where
-  -- the code at a place
+  -- the code at an index
   pub code_there : (c : Code) × (slice_get p.codes n ≡ Some c)
   code_there = by p.codes n within
     where

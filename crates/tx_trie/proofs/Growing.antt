@@ -7,7 +7,7 @@ use Rattle.tx_trie.specs.inner.Nodes.{IsTree, child, code_at, walk, look}
 use Rattle.tx_trie.proofs.Ways.{walk_once}
 
 abbrev pub here : ℕ → ℕ → ℕ → ℕ → Bool
-here place figure n x = (n == place) && (x == figure)
+here index figure n x = (n == index) && (x == figure)
 
 -- what a text finds from a node
 abbrev pub look_from : List Node → ℕ → List ℕ → Option ℕ
@@ -17,13 +17,13 @@ look_none : (nodes : List Node) (xs : List ℕ) → (n : ℕ) → ((x : ℕ) →
 look_none nodes [] n none bare = bare
 look_none nodes (x ∷ xs) n none bare = ap (λ o. option_and_then (code_at nodes) (option_and_then (λ m. walk nodes m xs) o)) (none x)
 
--- A new node m, to which the figure leads from a place where it led nowhere.
-module _ (old new : List Node) (place figure m : ℕ) (fresh : m ≡ length old) (more : length new ≡ suc m) (within : place < m) (none : child old place figure ≡ None)
-    (ways : (n x : ℕ) → child new n x ≡ (if here place figure n x then Some m else child old n x)) (codes : (n : ℕ) → code_at new n ≡ code_at old n) (tree : IsTree old) (past : (x : ℕ) → child old m x ≡ None) (bare : code_at old m ≡ None) where
-  at_new : (n x k : ℕ) → child new n x ≡ Some k → ((n ≡ place) × (x ≡ figure) × (k ≡ m)) ⊎ (child old n x ≡ Some k)
+-- A new node m, to which the figure leads from an index where it led nowhere.
+module _ (old new : List Node) (index figure m : ℕ) (fresh : m ≡ length old) (more : length new ≡ suc m) (within : index < m) (none : child old index figure ≡ None)
+    (ways : (n x : ℕ) → child new n x ≡ (if here index figure n x then Some m else child old n x)) (codes : (n : ℕ) → code_at new n ≡ code_at old n) (tree : IsTree old) (past : (x : ℕ) → child old m x ≡ None) (bare : code_at old m ≡ None) where
+  at_new : (n x k : ℕ) → child new n x ≡ Some k → ((n ≡ index) × (x ≡ figure) × (k ≡ m)) ⊎ (child old n x ≡ Some k)
   at_new n x k h =
-      elim (here place figure n x) as (λ b. here place figure n x ≡ b → (if b then Some m else child old n x) ≡ Some k → ((n ≡ place) × (x ≡ figure) × (k ≡ m)) ⊎ (child old n x ≡ Some k)) [
-        | true ↦ λ t e. let p = and_parts (n == place) (x == figure) t in let s : k ≡ m = cc in inl (eqb-true n place p.0, eqb-true x figure p.1, s)
+      elim (here index figure n x) as (λ b. here index figure n x ≡ b → (if b then Some m else child old n x) ≡ Some k → ((n ≡ index) × (x ≡ figure) × (k ≡ m)) ⊎ (child old n x ≡ Some k)) [
+        | true ↦ λ t e. let p = and_parts (n == index) (x == figure) t in let s : k ≡ m = cc in inl (eqb-true n index p.0, eqb-true x figure p.1, s)
         | false ↦ λ t e. inr e
       ] refl (sym (ways n x) ∙ h)
 
@@ -49,8 +49,8 @@ module _ (old new : List Node) (place figure m : ℕ) (fresh : m ≡ length old)
   new_ways : (x : ℕ) → child new m x ≡ None
   new_ways x =
       ways m x
-      ∙ (elim (here place figure m x) as (λ b. here place figure m x ≡ b → (if b then Some m else child old m x) ≡ None) [
-        | true ↦ λ t. let e : m ≡ place = eqb-true m place (and_parts (m == place) (x == figure) t).0 in absurd (omega arith)
+      ∙ (elim (here index figure m x) as (λ b. here index figure m x ≡ b → (if b then Some m else child old m x) ≡ None) [
+        | true ↦ λ t. let e : m ≡ index = eqb-true m index (and_parts (m == index) (x == figure) t).0 in absurd (omega arith)
         | false ↦ λ t. past x
       ] refl)
 
@@ -58,10 +58,10 @@ module _ (old new : List Node) (place figure m : ℕ) (fresh : m ≡ length old)
   same_from n [] = codes n
   same_from n (x ∷ xs) =
       ap (λ o. option_and_then (code_at new) (option_and_then (λ k. walk new k xs) o)) (ways n x)
-      ∙ (elim (here place figure n x) as (λ b. here place figure n x ≡ b → option_and_then (code_at new) (option_and_then (λ k. walk new k xs) (if b then Some m else child old n x)) ≡ option_and_then (code_at old) (option_and_then (λ k. walk old k xs) (child old n x))) [
-        | true ↦ λ t. let p = and_parts (n == place) (x == figure) t in
+      ∙ (elim (here index figure n x) as (λ b. here index figure n x ≡ b → option_and_then (code_at new) (option_and_then (λ k. walk new k xs) (if b then Some m else child old n x)) ≡ option_and_then (code_at old) (option_and_then (λ k. walk old k xs) (child old n x))) [
+        | true ↦ λ t. let p = and_parts (n == index) (x == figure) t in
             look_none new xs m new_ways (codes m ∙ bare)
-            ∙ sym (ap (λ o. option_and_then (code_at old) (option_and_then (λ k. walk old k xs) o)) ((λ i. child old (eqb-true n place p.0 i) (eqb-true x figure p.1 i)) ∙ none))
+            ∙ sym (ap (λ o. option_and_then (code_at old) (option_and_then (λ k. walk old k xs) o)) ((λ i. child old (eqb-true n index p.0 i) (eqb-true x figure p.1 i)) ∙ none))
         | false ↦ λ t. by (child old n x) (λ k. same_from k xs)
       ] refl)
     where
@@ -73,15 +73,15 @@ module _ (old new : List Node) (place figure m : ℕ) (fresh : m ≡ length old)
   pub kept_way : (n x k : ℕ) → child old n x ≡ Some k → child new n x ≡ Some k
   kept_way n x k h =
       ways n x
-      ∙ (elim (here place figure n x) as (λ b. here place figure n x ≡ b → (if b then Some m else child old n x) ≡ Some k) [
-        | true ↦ λ t. let p = and_parts (n == place) (x == figure) t in
-            let e : child old place figure ≡ Some k = (λ i. child old (sym (eqb-true n place p.0) i) (sym (eqb-true x figure p.1) i)) ∙ h in
+      ∙ (elim (here index figure n x) as (λ b. here index figure n x ≡ b → (if b then Some m else child old n x) ≡ Some k) [
+        | true ↦ λ t. let p = and_parts (n == index) (x == figure) t in
+            let e : child old index figure ≡ Some k = (λ i. child old (sym (eqb-true n index p.0) i) (sym (eqb-true x figure p.1) i)) ∙ h in
             let bad : ⊥ = cc in absurd bad
         | false ↦ λ t. h
       ] refl)
 
 -- A code at a node: the ways stay.
-module _ (old new : List Node) (place id : ℕ) (ways : (n x : ℕ) → child new n x ≡ child old n x) (codes : (n : ℕ) → code_at new n ≡ (if n == place then Some id else code_at old n)) (more : length new ≡ length old) (tree : IsTree old) where
+module _ (old new : List Node) (index id : ℕ) (ways : (n x : ℕ) → child new n x ≡ child old n x) (codes : (n : ℕ) → code_at new n ≡ (if n == index then Some id else code_at old n)) (more : length new ≡ length old) (tree : IsTree old) where
   pub coded_tree : IsTree new
   coded_tree = record {
     root = subst (λ n. 0 < n) (sym more) tree.root;
@@ -97,17 +97,17 @@ module _ (old new : List Node) (place id : ℕ) (ways : (n x : ℕ) → child ne
       by None h = refl
       by (Some m) h = h m
 
-  pub look_there : (text : List ℕ) → walk old 0 text ≡ Some place → look new text ≡ Some id
-  look_there text at = ap (option_and_then (code_at new)) (same_walk 0 text ∙ at) ∙ codes place ∙ ap (λ b. if b then Some id else code_at old place) (eq-eqb place place refl)
+  pub look_there : (text : List ℕ) → walk old 0 text ≡ Some index → look new text ≡ Some id
+  look_there text at = ap (option_and_then (code_at new)) (same_walk 0 text ∙ at) ∙ codes index ∙ ap (λ b. if b then Some id else code_at old index) (eq-eqb index index refl)
 
-  pub look_elsewhere : (text own : List ℕ) → walk old 0 own ≡ Some place → text ≢ own → look new text ≡ look old text
+  pub look_elsewhere : (text own : List ℕ) → walk old 0 own ≡ Some index → text ≢ own → look new text ≡ look old text
   look_elsewhere text own at differ = ap (option_and_then (code_at new)) (same_walk 0 text) ∙ by (walk old 0 text) refl
     where
       by : (o : Option ℕ) → walk old 0 text ≡ o → option_and_then (code_at new) o ≡ option_and_then (code_at old) o
       by None is = refl
       by (Some n) is =
           codes n
-          ∙ (elim (n == place) as (λ b. (n == place) ≡ b → (if b then Some id else code_at old n) ≡ code_at old n) [
-            | true ↦ λ t. absurd (differ (walk_once old tree text own place (is ∙ ap (λ k. Some k) (eqb-true n place t)) at))
+          ∙ (elim (n == index) as (λ b. (n == index) ≡ b → (if b then Some id else code_at old n) ≡ code_at old n) [
+            | true ↦ λ t. absurd (differ (walk_once old tree text own index (is ∙ ap (λ k. Some k) (eqb-true n index t)) at))
             | false ↦ λ t. refl
           ] refl)

@@ -49,51 +49,51 @@ no_codes rows nodes r n = subst (λ d. IsTrie (map code_of_row rows) d) (sym n) 
 
 -- ONE CODE MORE
 
-module _ (nodes new : List Node) (place id : ℕ) (d : Node) (is_new : new ≡ slice_set nodes place (record { code = Some id; next = d.next })) (at : slice_get nodes place ≡ Some d) where
+module _ (nodes new : List Node) (index id : ℕ) (d : Node) (is_new : new ≡ slice_set nodes index (record { code = Some id; next = d.next })) (at : slice_get nodes index ≡ Some d) where
   abbrev coded : Node
   coded = record { code = Some id; next = d.next }
 
-  new_here : slice_get new place ≡ Some coded
-  new_here = ap (λ l. slice_get l place) is_new ∙ set_same nodes place coded (slice_get_within nodes place d at)
+  new_here : slice_get new index ≡ Some coded
+  new_here = ap (λ l. slice_get l index) is_new ∙ set_same nodes index coded (slice_get_within nodes index d at)
 
-  new_there : (n : ℕ) → n ≢ place → slice_get new n ≡ slice_get nodes n
-  new_there n h = ap (λ l. slice_get l n) is_new ∙ set_other nodes place n coded h
+  new_there : (n : ℕ) → n ≢ index → slice_get new n ≡ slice_get nodes n
+  new_there n h = ap (λ l. slice_get l n) is_new ∙ set_other nodes index n coded h
 
   pub coded_ways : (n x : ℕ) → child new n x ≡ child nodes n x
-  coded_ways n x = ap (λ o. if is_figure x then o else None) (by (n == place) refl)
+  coded_ways n x = ap (λ o. if is_figure x then o else None) (by (n == index) refl)
     where
-      by : (b : Bool) → (n == place) ≡ b → from_node (slice_get new n) x ≡ from_node (slice_get nodes n) x
-      by true t = ap (λ q. from_node (slice_get new q) x) (eqb-true n place t) ∙ ap (λ o. from_node o x) new_here ∙ sym (ap (λ o. from_node o x) at) ∙ ap (λ q. from_node (slice_get nodes q) x) (sym (eqb-true n place t))
-      by false t = ap (λ o. from_node o x) (new_there n (eqb-false n place t))
+      by : (b : Bool) → (n == index) ≡ b → from_node (slice_get new n) x ≡ from_node (slice_get nodes n) x
+      by true t = ap (λ q. from_node (slice_get new q) x) (eqb-true n index t) ∙ ap (λ o. from_node o x) new_here ∙ sym (ap (λ o. from_node o x) at) ∙ ap (λ q. from_node (slice_get nodes q) x) (sym (eqb-true n index t))
+      by false t = ap (λ o. from_node o x) (new_there n (eqb-false n index t))
 
-  pub coded_codes : (n : ℕ) → code_at new n ≡ (if n == place then Some id else code_at nodes n)
-  coded_codes n = by (n == place) refl
+  pub coded_codes : (n : ℕ) → code_at new n ≡ (if n == index then Some id else code_at nodes n)
+  coded_codes n = by (n == index) refl
     where
-      by : (b : Bool) → (n == place) ≡ b → code_at new n ≡ (if b then Some id else code_at nodes n)
-      by true t = ap (code_at new) (eqb-true n place t) ∙ ap (option_and_then (λ (d : Node). d.code)) new_here
-      by false t = ap (option_and_then (λ (d : Node). d.code)) (new_there n (eqb-false n place t))
+      by : (b : Bool) → (n == index) ≡ b → code_at new n ≡ (if b then Some id else code_at nodes n)
+      by true t = ap (code_at new) (eqb-true n index t) ∙ ap (option_and_then (λ (d : Node). d.code)) new_here
+      by false t = ap (option_and_then (λ (d : Node). d.code)) (new_there n (eqb-false n index t))
 
--- the place of a code among one more
+-- the index of a code among one more
 pub put_cases : (codes : List Code) (c : Code) (i : ℕ) (e : Code) → slice_get (codes ++ c ∷ []) i ≡ Some e → (slice_get codes i ≡ Some e) ⊎ ((i ≡ length codes) × (e ≡ c))
 put_cases [] c zero e h = inr (refl, (let s : e ≡ c = cc in s))
 put_cases [] c (suc i) e h = let bad : ⊥ = cc in absurd bad
 put_cases (d ∷ codes) c zero e h = inl h
 put_cases (d ∷ codes) c (suc i) e h = elim (put_cases codes c i e h) [ inl l ↦ inl l | inr r ↦ inr (ap suc r.0, r.1) ]
 
-module _ (codes : List Code) (c : Code) (nodes grown new : List Node) (place : ℕ) (d : Node) (trie : IsTrie codes nodes) (grows : Grows nodes grown) (is_new : new ≡ slice_set grown place (record { code = Some (length codes); next = d.next }))
-    (at : slice_get grown place ≡ Some d) (way : walk grown 0 c.figures ≡ Some place) (form : is_code c.figures ≡ true) (unused : (i : ℕ) (e : Code) → slice_get codes i ≡ Some e → e.figures ≢ c.figures)
+module _ (codes : List Code) (c : Code) (nodes grown new : List Node) (index : ℕ) (d : Node) (trie : IsTrie codes nodes) (grows : Grows nodes grown) (is_new : new ≡ slice_set grown index (record { code = Some (length codes); next = d.next }))
+    (at : slice_get grown index ≡ Some d) (way : walk grown 0 c.figures ≡ Some index) (form : is_code c.figures ≡ true) (unused : (i : ℕ) (e : Code) → slice_get codes i ≡ Some e → e.figures ≢ c.figures)
     (few : length codes < 1100) (few_grown : length grown ≤ length nodes + 3) (len : length new ≡ length grown) where
   ways : (n x : ℕ) → child new n x ≡ child grown n x
-  ways = coded_ways grown new place (length codes) d is_new at
+  ways = coded_ways grown new index (length codes) d is_new at
 
-  marks : (n : ℕ) → code_at new n ≡ (if n == place then Some (length codes) else code_at grown n)
-  marks = coded_codes grown new place (length codes) d is_new at
+  marks : (n : ℕ) → code_at new n ≡ (if n == index then Some (length codes) else code_at grown n)
+  marks = coded_codes grown new index (length codes) d is_new at
 
   own : look new c.figures ≡ Some (length codes)
-  own = look_there grown new place (length codes) ways marks len grows.tree c.figures way
+  own = look_there grown new index (length codes) ways marks len grows.tree c.figures way
 
   others : (text : List ℕ) → text ≢ c.figures → look new text ≡ look nodes text
-  others text ne = look_elsewhere grown new place (length codes) ways marks len grows.tree text c.figures way ne ∙ grows.looks text
+  others text ne = look_elsewhere grown new index (length codes) ways marks len grows.tree text c.figures way ne ∙ grows.looks text
 
   gives : (text : List ℕ) (i : ℕ) → look new text ≡ Some i → option_map (λ (e : Code). e.figures) (slice_get (codes ++ c ∷ []) i) ≡ Some text
   gives text i h = by (bytes_eq text c.figures) refl
@@ -116,7 +116,7 @@ module _ (codes : List Code) (c : Code) (nodes grown new : List Node) (place : �
   -- the trie with the code
   pub one_more : IsTrie (codes ++ c ∷ []) new
   one_more = record {
-    tree = coded_tree grown new place (length codes) ways marks len grows.tree;
+    tree = coded_tree grown new index (length codes) ways marks len grows.tree;
     gives = gives;
     finds = λ i e h. elim (put_cases codes c i e h) [
       | inl l ↦ others e.figures (unused i e l) ∙ trie.finds i e l
@@ -131,11 +131,11 @@ module _ (codes : List Code) (c : Code) (nodes grown new : List Node) (place : �
   }
 
 -- a row more, and its code at the node that its figures lead to
-pub held : (rows pushed : List Row) (row : Row) (nodes grown new : List Node) (place id : ℕ) (d : Node) → IsTrie (map code_of_row rows) nodes → Grows nodes grown → pushed ≡ rows ++ row ∷ []
-    → new ≡ slice_set grown place (record { code = Some id; next = d.next }) → slice_get grown place ≡ Some d → walk grown 0 row.figures ≡ Some place → is_code row.figures ≡ true
+pub held : (rows pushed : List Row) (row : Row) (nodes grown new : List Node) (index id : ℕ) (d : Node) → IsTrie (map code_of_row rows) nodes → Grows nodes grown → pushed ≡ rows ++ row ∷ []
+    → new ≡ slice_set grown index (record { code = Some id; next = d.next }) → slice_get grown index ≡ Some d → walk grown 0 row.figures ≡ Some index → is_code row.figures ≡ true
     → ((i : ℕ) (e : Code) → slice_get (map code_of_row rows) i ≡ Some e → e.figures ≢ row.figures) → id ≡ length (map code_of_row rows) → length (map code_of_row rows) < 1100 → length grown ≤ length nodes + 3
     → IsTrie (map code_of_row pushed) new
-held rows pushed row nodes grown new place id d trie grows put is_new at way form unused id_is few few_grown =
+held rows pushed row nodes grown new index id d trie grows put is_new at way form unused id_is few few_grown =
     subst (λ l. IsTrie l new) (sym (ap (map code_of_row) put ∙ map_push code_of_row rows row))
-    (one_more (map code_of_row rows) (code_of_row row) nodes grown new place d trie grows (is_new ∙ ap (λ k. slice_set grown place (record { code = Some k; next = d.next })) id_is) at way form unused few few_grown
+    (one_more (map code_of_row rows) (code_of_row row) nodes grown new index d trie grows (is_new ∙ ap (λ k. slice_set grown index (record { code = Some k; next = d.next })) id_is) at way form unused few few_grown
     (ap length is_new ∙ simp length-set))

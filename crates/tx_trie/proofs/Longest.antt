@@ -12,7 +12,7 @@ use Rattle.tx_plan.specs.Plan.{Code}
 use Rattle.tx_plan.specs.Codes.{is_prefix, codes_before, longer, longest, code_of}
 use Rattle.tx_plan.specs.Rules.{is_code}
 use Rattle.tx_plan.specs.Among.{Among}
-use Rattle.tx_plan.proofs.Among.{among_filter, filter_among, among_places, places_among}
+use Rattle.tx_plan.proofs.Among.{among_filter, filter_among, among_indexes, indexes_among}
 use Rattle.tx_plan.proofs.Lists.{at_least, same_tests, below}
 use Rattle.tx_trie.specs.Trie.{plan_of}
 use Rattle.tx_trie.specs.declared.trie.Node.{Node}
@@ -55,12 +55,12 @@ module _ (codes : List Code) where
       → code_of (plan_of codes) text ≡ Some i
   code_some text i c at front low =
       ap (option_map (λ e. e.0)) (longest_is (codes_before (plan_of codes) text) (i, c)
-      (among_filter (λ e. is_prefix e.1.figures text) (i, c) (enumerate_from 0 codes) (subst (λ k. Among (k, c) (enumerate_from 0 codes)) (let z : 0 + i ≡ i = omega arith in z) (among_places 0 i c codes at)) front) by)
+      (among_filter (λ e. is_prefix e.1.figures text) (i, c) (enumerate_from 0 codes) (subst (λ k. Among (k, c) (enumerate_from 0 codes)) (let z : 0 + i ≡ i = omega arith in z) (among_indexes 0 i c codes at)) front) by)
     where
       by : (f : ℕ × Code) → Among f (codes_before (plan_of codes) text) → (f ≡ (i, c)) ⊎ (width f < length c.figures)
       by f h =
           let m = filter_among (λ e. is_prefix e.1.figures text) f (enumerate_from 0 codes) h in
-          let p = places_among 0 f codes m.0 in
+          let p = indexes_among 0 f codes m.0 in
           let e : f.0 ≡ p.0 = p.2 ∙ (let z : 0 + p.0 ≡ p.0 = omega arith in z) in
           let there : slice_get codes f.0 ≡ Some f.1 = ap (slice_get codes) e ∙ p.1 in
           elim (low f.0 f.1 there m.1) [
@@ -94,13 +94,13 @@ widths text h =
     (at_least 2 (length text) b.0, at_least (length text) 3 b.1)
 
 module _ (codes : List Code) (nodes : List Node) (trie : IsTrie codes nodes) where
-  at_place : (i : ℕ) (text : List ℕ) (o : Option Code) → slice_get codes i ≡ o → option_map (λ (c : Code). c.figures) o ≡ Some text → (c : Code) × (slice_get codes i ≡ Some c) × (c.figures ≡ text)
-  at_place i text None is h = let bad : ⊥ = cc in absurd bad
-  at_place i text (Some c) is h = (c, is, (let e : c.figures ≡ text = cc in e))
+  at_index : (i : ℕ) (text : List ℕ) (o : Option Code) → slice_get codes i ≡ o → option_map (λ (c : Code). c.figures) o ≡ Some text → (c : Code) × (slice_get codes i ≡ Some c) × (c.figures ≡ text)
+  at_index i text None is h = let bad : ⊥ = cc in absurd bad
+  at_index i text (Some c) is h = (c, is, (let e : c.figures ≡ text = cc in e))
 
   -- the code that a text finds
   pub found : (text : List ℕ) (i : ℕ) → look nodes text ≡ Some i → (c : Code) × (slice_get codes i ≡ Some c) × (c.figures ≡ text)
-  found text i h = at_place i text (slice_get codes i) refl (trie.gives text i h)
+  found text i h = at_index i text (slice_get codes i) refl (trie.gives text i h)
 
   -- codes of the same figures are one
   pub one_code : (i j : ℕ) (c d : Code) → slice_get codes i ≡ Some c → slice_get codes j ≡ Some d → c.figures ≡ d.figures → i ≡ j

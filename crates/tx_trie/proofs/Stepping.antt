@@ -59,39 +59,39 @@ code_pushed (d ∷ old) (suc n) = code_pushed old n
 past_end : (old : List Node) (n x : ℕ) → length old ≤ n → child old n x ≡ None
 past_end old n x h = elim (is_figure x) as (λ b. (if b then from_node (slice_get old n) x else None) ≡ None) [ true ↦ ap (λ o. from_node o x) (slice_get_past old n h) | false ↦ refl ]
 
-module _ (old pushed new : List Node) (place figure m k : ℕ) (d : Node)
-    (is_pushed : pushed ≡ old ++ empty_node ∷ []) (is_new : new ≡ slice_set pushed place (record { code = d.code; next = slice_set d.next k (Some m) }))
-    (at : slice_get pushed place ≡ Some d) (k_is : k ≡ figure - 48) (wide : k < length d.next) (fig : is_figure figure ≡ true) (fresh : m ≡ length old) (within : place < length old) where
+module _ (old pushed new : List Node) (index figure m k : ℕ) (d : Node)
+    (is_pushed : pushed ≡ old ++ empty_node ∷ []) (is_new : new ≡ slice_set pushed index (record { code = d.code; next = slice_set d.next k (Some m) }))
+    (at : slice_get pushed index ≡ Some d) (k_is : k ≡ figure - 48) (wide : k < length d.next) (fig : is_figure figure ≡ true) (fresh : m ≡ length old) (within : index < length old) where
   abbrev changed : Node
   changed = record { code = d.code; next = slice_set d.next k (Some m) }
 
   len_pushed : length pushed ≡ suc (length old)
   len_pushed = ap length is_pushed ∙ simp length-append (omega arith)
 
-  new_here : slice_get new place ≡ Some changed
-  new_here = ap (λ l. slice_get l place) is_new ∙ set_same pushed place changed (let l = len_pushed in omega arith)
+  new_here : slice_get new index ≡ Some changed
+  new_here = ap (λ l. slice_get l index) is_new ∙ set_same pushed index changed (let l = len_pushed in omega arith)
 
-  new_there : (n : ℕ) → n ≢ place → slice_get new n ≡ slice_get pushed n
-  new_there n h = ap (λ l. slice_get l n) is_new ∙ set_other pushed place n changed h
+  new_there : (n : ℕ) → n ≢ index → slice_get new n ≡ slice_get pushed n
+  new_there n h = ap (λ l. slice_get l n) is_new ∙ set_other pushed index n changed h
 
   old_here : (n x : ℕ) → from_node (slice_get pushed n) x ≡ from_node (slice_get old n) x
   old_here n x = ap (λ l. from_node (slice_get l n) x) is_pushed ∙ from_pushed old n x
 
-  next_at : (x : ℕ) → is_figure x ≡ true → from_node (Some changed) x ≡ (if x == figure then Some m else from_node (slice_get old place) x)
+  next_at : (x : ℕ) → is_figure x ≡ true → from_node (Some changed) x ≡ (if x == figure then Some m else from_node (slice_get old index) x)
   next_at x f =
-      elim (x == figure) as (λ b. (x == figure) ≡ b → from_node (Some changed) x ≡ (if b then Some m else from_node (slice_get old place) x)) [
+      elim (x == figure) as (λ b. (x == figure) ≡ b → from_node (Some changed) x ≡ (if b then Some m else from_node (slice_get old index) x)) [
         | true ↦ λ t. let e : x - 48 ≡ k = (let s = eqb-true x figure t in omega arith) in ap (option_and_then (λ m. m)) (ap (slice_get changed.next) e ∙ set_same d.next k (Some m) wide)
         | false ↦ λ t. let ne = eqb-false x figure t in
             let e : x - 48 ≢ k = λ s. ne (let a = figure_least x f in let b = figure_least figure fig in omega arith) in
-            ap (option_and_then (λ m. m)) (set_other d.next k (x - 48) (Some m) e) ∙ sym (ap (λ o. from_node o x) at) ∙ old_here place x
+            ap (option_and_then (λ m. m)) (set_other d.next k (x - 48) (Some m) e) ∙ sym (ap (λ o. from_node o x) at) ∙ old_here index x
       ] refl
 
-  ways : (n x : ℕ) → child new n x ≡ (if here place figure n x then Some m else child old n x)
-  ways n x = by (is_figure x) refl (n == place) refl
+  ways : (n x : ℕ) → child new n x ≡ (if here index figure n x then Some m else child old n x)
+  ways n x = by (is_figure x) refl (n == index) refl
     where
-      by : (f : Bool) → is_figure x ≡ f → (b : Bool) → (n == place) ≡ b → (if f then from_node (slice_get new n) x else None) ≡ (if b && (x == figure) then Some m else (if f then from_node (slice_get old n) x else None))
-      by true i true t = ap (λ o. from_node o x) (ap (slice_get new) (eqb-true n place t) ∙ new_here) ∙ next_at x i ∙ ap (λ q. if x == figure then Some m else from_node (slice_get old q) x) (sym (eqb-true n place t))
-      by true i false t = ap (λ o. from_node o x) (new_there n (eqb-false n place t)) ∙ old_here n x
+      by : (f : Bool) → is_figure x ≡ f → (b : Bool) → (n == index) ≡ b → (if f then from_node (slice_get new n) x else None) ≡ (if b && (x == figure) then Some m else (if f then from_node (slice_get old n) x else None))
+      by true i true t = ap (λ o. from_node o x) (ap (slice_get new) (eqb-true n index t) ∙ new_here) ∙ next_at x i ∙ ap (λ q. if x == figure then Some m else from_node (slice_get old q) x) (sym (eqb-true n index t))
+      by true i false t = ap (λ o. from_node o x) (new_there n (eqb-false n index t)) ∙ old_here n x
       by false i true t =
           elim (x == figure) as (λ b. (x == figure) ≡ b → None ≡ (if b then Some m else None)) [
             | true ↦ λ e. absurd (false≢true (sym i ∙ ap is_figure (eqb-true x figure e) ∙ fig))
@@ -101,9 +101,9 @@ module _ (old pushed new : List Node) (place figure m k : ℕ) (d : Node)
 
   codes : (n : ℕ) → code_at new n ≡ code_at old n
   codes n =
-      elim (n == place) as (λ b. (n == place) ≡ b → code_at new n ≡ code_at old n) [
-        | true ↦ λ t. ap (λ q. code_at new q) (eqb-true n place t) ∙ ap (option_and_then (λ (d : Node). d.code)) new_here ∙ sym (ap (option_and_then (λ (d : Node). d.code)) at) ∙ old_code place ∙ ap (λ q. code_at old q) (sym (eqb-true n place t))
-        | false ↦ λ t. ap (option_and_then (λ (d : Node). d.code)) (new_there n (eqb-false n place t)) ∙ old_code n
+      elim (n == index) as (λ b. (n == index) ≡ b → code_at new n ≡ code_at old n) [
+        | true ↦ λ t. ap (λ q. code_at new q) (eqb-true n index t) ∙ ap (option_and_then (λ (d : Node). d.code)) new_here ∙ sym (ap (option_and_then (λ (d : Node). d.code)) at) ∙ old_code index ∙ ap (λ q. code_at old q) (sym (eqb-true n index t))
+        | false ↦ λ t. ap (option_and_then (λ (d : Node). d.code)) (new_there n (eqb-false n index t)) ∙ old_code n
       ] refl
     where
       old_code : (n : ℕ) → code_at pushed n ≡ code_at old n
@@ -113,15 +113,15 @@ module _ (old pushed new : List Node) (place figure m k : ℕ) (d : Node)
   len_new = ap length is_new ∙ simp length-set (len_pushed ∙ ap suc (sym fresh))
 
   -- a step to a new node
-  pub stepped : child old place figure ≡ None → IsTree old → Grows old new
+  pub stepped : child old index figure ≡ None → IsTree old → Grows old new
   stepped none tree =
-      let low : place < m = omega arith in
+      let low : index < m = omega arith in
       let past : (x : ℕ) → child old m x ≡ None = λ x. past_end old m x (omega arith) in
       let bare : code_at old m ≡ None = ap (option_and_then (λ (d : Node). d.code)) (slice_get_past old m (omega arith)) in
       record {
-        tree = grown_tree old new place figure m fresh len_new low none ways codes tree past bare;
-        ways = kept_way old new place figure m fresh len_new low none ways codes tree past bare;
-        looks = same_from old new place figure m fresh len_new low none ways codes tree past bare 0;
+        tree = grown_tree old new index figure m fresh len_new low none ways codes tree past bare;
+        ways = kept_way old new index figure m fresh len_new low none ways codes tree past bare;
+        looks = same_from old new index figure m fresh len_new low none ways codes tree past bare 0;
         longer = (let l = len_new in omega arith);
       }
 

@@ -21,8 +21,8 @@ pub fn write_codes<A: Allocator, W: Sink>(
     requires { trie.now ≡ plan.now.codes }
     ensures { Wrote W.taken W.failed sink.old sink.new (codes_text plan.now) result }
 {
-    for place in 0..plan.codes() {
-        write_code(plan, CodeId::of(place), sink)?;
+    for index in 0..plan.codes() {
+        write_code(plan, CodeId::of(index), sink)?;
     }
     write_pair(trie.ambiguous(), plan, sink)?;
     Ok(())

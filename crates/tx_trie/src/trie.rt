@@ -42,42 +42,42 @@ pub fn empty_node() -> Node
 }
 
 /// Where a figure leads from a node.
-pub fn child(nodes: &[Node], place: usize, figure: u8) -> Option<usize>
-    ensures { result ≡ child nodes.now place figure }
+pub fn child(nodes: &[Node], index: usize, figure: u8) -> Option<usize>
+    ensures { result ≡ child nodes.now index figure }
 {
     if !(b'0' <= figure && figure <= b'9') {
         return None;
     }
-    let node = nodes.get(place)?;
+    let node = nodes.get(index)?;
     let next = (*node.next.get(usize::from(figure - b'0'))?)?;
     Some(usize::from(next))
 }
 
 /// The code of the figures that lead to a node.
-pub fn code_at(nodes: &[Node], place: usize) -> Option<CodeId>
-    ensures { result ≡ code_at nodes.now place }
+pub fn code_at(nodes: &[Node], index: usize) -> Option<CodeId>
+    ensures { result ≡ code_at nodes.now index }
 {
-    nodes.get(place)?.code
+    nodes.get(index)?.code
 }
 
 /// Where a figure leads from a node, which is a new node where it led nowhere.
-fn step<A: Allocator>(nodes: &mut Vec<Node, A>, place: usize, figure: u8) -> usize
+fn step<A: Allocator>(nodes: &mut Vec<Node, A>, index: usize, figure: u8) -> usize
     requires tree { IsTree nodes.old.items }
-    requires place { place < vec_len nodes.old }
+    requires index { index < vec_len nodes.old }
     requires figure { is_figure figure ≡ true }
     requires room { vec_len nodes.old < vec_capacity nodes.old }
     requires few { vec_len nodes.old < 65536 }
-    ensures way { child nodes.new.items place figure ≡ Some result }
+    ensures way { child nodes.new.items index figure ≡ Some result }
     ensures grows { Grows nodes.old.items nodes.new.items }
     ensures len { vec_len nodes.new ≤ vec_len nodes.old + 1 }
     ensures capacity { vec_capacity nodes.new ≡ vec_capacity nodes.old }
 {
-    if let Some(next) = child(nodes, place, figure) {
+    if let Some(next) = child(nodes, index, figure) {
         return next;
     }
     let next = nodes.len();
     nodes.push_reserved(empty_node());
-    let node = &mut nodes[place];
+    let node = &mut nodes[index];
     node.next[usize::from(figure - b'0')] = Some(next as u16);
     next
 }
@@ -93,25 +93,25 @@ pub fn reach<A: Allocator>(nodes: &mut Vec<Node, A>, figures: &[u8]) -> usize
     ensures len { vec_len nodes.new ≤ vec_len nodes.old + length figures.now }
     ensures capacity { vec_capacity nodes.new ≡ vec_capacity nodes.old }
 {
-    let mut place = 0;
+    let mut index = 0;
     for figure in figures {
-        place = step(nodes, place, *figure);
+        index = step(nodes, index, *figure);
     }
-    place
+    index
 }
 
 /// The last code on the way of a text from the root.
 pub fn last_code(nodes: &[Node], text: &[u8]) -> Option<CodeId>
     ensures { result ≡ read_on nodes.now 0 text.now None }
 {
-    let mut place = 0;
+    let mut index = 0;
     let mut last = None;
     for figure in text {
-        let Some(next) = child(nodes, place, *figure) else {
+        let Some(next) = child(nodes, index, *figure) else {
             return last;
         };
-        place = next;
-        last = code_at(nodes, place).or(last);
+        index = next;
+        last = code_at(nodes, index).or(last);
     }
     last
 }
@@ -120,11 +120,11 @@ pub fn last_code(nodes: &[Node], text: &[u8]) -> Option<CodeId>
 pub fn look(nodes: &[Node], text: &[u8]) -> Option<CodeId>
     ensures { result ≡ look nodes.now text.now }
 {
-    let mut place = 0;
+    let mut index = 0;
     for figure in text {
-        place = child(nodes, place, *figure)?;
+        index = child(nodes, index, *figure)?;
     }
-    code_at(nodes, place)
+    code_at(nodes, index)
 }
 
 /// The destination codes of a plan by their figures.
@@ -152,8 +152,8 @@ impl<A: Allocator + Copy> CodeTrie<A> {
         ensures { IfOk result (λ t. t ≡ plan.now.codes) }
     {
         let mut trie = CodeTrie::new(alloc)?;
-        for place in 0..plan.codes() {
-            let code = CodeId::of(place);
+        for index in 0..plan.codes() {
+            let code = CodeId::of(index);
             let figures = Figures::read(plan.code_figures(code)).unwrap();
             trie.insert(figures, plan.home(code))?;
         }
@@ -185,8 +185,8 @@ impl<A: Allocator> CodeTrie<A> {
     {
         self.codes.reserve(1)?;
         self.nodes.reserve(3)?;
-        let place = reach(&mut self.nodes, figures.bytes());
-        let node = &mut self.nodes[place];
+        let index = reach(&mut self.nodes, figures.bytes());
+        let node = &mut self.nodes[index];
         node.code = Some(CodeId::of(self.codes.len()));
         self.codes.push_reserved(Row { figures, home });
         Ok(())
@@ -206,24 +206,24 @@ impl<A: Allocator> CodeTrie<A> {
     {
         let count = self.codes.len();
         let mut least = None;
-        for place in 0..count {
-            least = self.lesser(place, least);
+        for index in 0..count {
+            least = self.lesser(index, least);
         }
         least
     }
 
-    /// The least pair so far, once the code at the next place was looked at as the longer one.
-    fn lesser(&self, place: usize, least: Option<(CodeId, CodeId)>) -> Option<(CodeId, CodeId)>
-        requires place { place < length self.now }
-        requires least { IsLeastBelow self.now place least }
-        ensures { IsLeastBelow self.now (place + 1) result }
+    /// The least pair so far, once the code at the next index was looked at as the longer one.
+    fn lesser(&self, index: usize, least: Option<(CodeId, CodeId)>) -> Option<(CodeId, CodeId)>
+        requires index { index < length self.now }
+        requires least { IsLeastBelow self.now index least }
+        ensures { IsLeastBelow self.now (index + 1) result }
     {
-        let figures = self.codes[place].figures.bytes();
+        let figures = self.codes[index].figures.bytes();
         let front = &figures[..figures.len().saturating_sub(1)];
         let Some(shorter) = look(&self.nodes, front) else {
             return least;
         };
-        let pair = (shorter, CodeId::of(place));
+        let pair = (shorter, CodeId::of(index));
         let Some(found) = least else {
             return Some(pair);
         };

@@ -17,7 +17,7 @@
 // - `declared` has no text: it declares a small plan, and writes what its readers answer, how much
 //   a plan holds, and which declarations take memory.
 // - `trie` has a plan, and figures of which the code is read. `book` has a plan, and lines with a
-//   code's place, a number and what happens to the line, and tells what is found there.
+//   code's index, a number and what happens to the line, and tells what is found there.
 //   `many-lines` has a plan and two numbers, marks the lines of the first code between them, and
 //   writes how many are found marked.
 // - `circuits` has a plan of one group, and calls on its circuits, and writes which number each end

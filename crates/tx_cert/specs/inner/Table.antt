@@ -1,4 +1,4 @@
--- How a certificate keeps its ranks: a table with a place for each code and exchange.
+-- How a certificate keeps its ranks: a table with an entry for each code and exchange.
 use Rattle.std.specs.Prelude.{◌≡◌, ℕ, ◌+◌, ◌*◌, ◌≤◌, ◌&&◌, nat_lt, List, [], ◌∷◌, length, map, Option, None, Some, slice_index_or, if◌then◌else◌, refl}
 use Rattle.std.specs.List.{All, flat_map, range_with_len}
 use Rattle.std.specs.Option.{IfSome}
@@ -12,23 +12,23 @@ pub record Table : Type 0 where
   pub exchanges : ℕ
   pub ranks : List (Option ℕ)
 
--- there is a place for each code and exchange, and no rank is above 65,535
+-- there is an entry for each code and exchange, and no rank is above 65,535
 pub record IsTable (t : Table) : Type 0 where
-  pub places : length t.ranks ≡ t.codes * t.exchanges
+  pub entries : length t.ranks ≡ t.codes * t.exchanges
   pub small : All (λ r. IfSome r (λ n. n ≤ 65535)) t.ranks
 
 -- where the rank of an exchange for a code is, among so many exchanges
-abbrev pub place_of : ℕ → Pair → ℕ
-place_of exchanges pair = pair.0 * exchanges + pair.1
+abbrev pub index_of : ℕ → Pair → ℕ
+index_of exchanges pair = pair.0 * exchanges + pair.1
 
 -- the rank that is there, and none for a foreign code or exchange
 abbrev pub rank_in : Table → Pair → Option ℕ
 rank_in t pair =
     if nat_lt pair.0 t.codes && nat_lt pair.1 t.exchanges
-    then slice_index_or t.ranks (place_of t.exchanges pair) None
+    then slice_index_or t.ranks (index_of t.exchanges pair) None
     else None
 
--- the codes with the exchanges, in the order of their places
+-- the codes with the exchanges, in the order of their indexes
 abbrev pub pairs : ℕ → ℕ → List Pair
 pairs codes exchanges =
     flat_map (λ code. map (λ exchange. (code, exchange)) (range_with_len 0 exchanges))

@@ -12,7 +12,7 @@ entries_in Codes p = length p.codes
 entries_in Ranges p = length p.ranges
 entries_in Groups p = length p.groups
 
--- the same list, or the first place at which it differs
+-- the same list, or the first index at which it differs
 abbrev pub ApartAnswer : NetworkList → (p q : Plan) → Option ℕ → Type 0
 ApartAnswer list p q None = SameList list p q
-ApartAnswer list p q (Some place) = DiffersFirst list p q place
+ApartAnswer list p q (Some index) = DiffersFirst list p q index

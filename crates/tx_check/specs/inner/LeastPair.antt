@@ -1,5 +1,5 @@
--- Pairs of codes of which the first begins the second, by the places of the codes, and the least of
--- those that were looked at.
+-- Pairs of codes of which the first begins the second, by the indexes of the codes, and the least
+-- of those that were looked at.
 use Rattle.std.specs.Prelude.{◌≡◌, ℕ, ◌<◌, Bool, true, false, ◌&&◌, nat_lt, if◌then◌else◌, length, Option, Some, None}
 use Rattle.std.specs.Ordering.{ordering_then, is_lt, nat_cmp}
 use Rattle.std.specs.declared.cmp.Ordering.{Ordering}
@@ -13,13 +13,13 @@ begins p x = is_prefix (figures_of p x.0) (figures_of p x.1)
     && nat_lt (length (figures_of p x.0)) (length (figures_of p x.1))
 
 -- by the first code's figures, and then the second's
-abbrev pub places_cmp : Plan → ℕ × ℕ → ℕ × ℕ → Ordering
-places_cmp p x y = ordering_then (slice_cmp nat_cmp (figures_of p x.0) (figures_of p y.0))
+abbrev pub indexes_cmp : Plan → ℕ × ℕ → ℕ × ℕ → Ordering
+indexes_cmp p x y = ordering_then (slice_cmp nat_cmp (figures_of p x.0) (figures_of p y.0))
     (slice_cmp nat_cmp (figures_of p x.1) (figures_of p y.1))
 
 -- a pair comes before another
 abbrev pub comes_first : Plan → ℕ × ℕ → ℕ × ℕ → Bool
-comes_first p x y = is_lt (places_cmp p x y)
+comes_first p x y = is_lt (indexes_cmp p x y)
 
 -- the lesser of a pair and another
 abbrev pub lesser_of : Plan → ℕ × ℕ → Option (ℕ × ℕ) → Option (ℕ × ℕ)
@@ -36,7 +36,7 @@ IsLeastOf p Seen None = (y : ℕ × ℕ) → Seen y → begins p y ≡ true → 
 IsLeastOf p Seen (Some x) = (x.0 < length p.codes) × (x.1 < length p.codes)
     × (begins p x ≡ true) × ((y : ℕ × ℕ) → Seen y → begins p y ≡ true → comes_first p y x ≡ false)
 
--- all pairs of the plan's codes whose first code is below this place were seen
+-- all pairs of the plan's codes whose first code is below this index were seen
 abbrev pub SeenBelow : Plan → ℕ → ℕ × ℕ → Type 0
 SeenBelow p n y = (y.0 < n) × (y.1 < length p.codes)
 

@@ -7,7 +7,7 @@ use Rattle.tx_circuits.specs.declared.lists.End.{End}
 use Rattle.tx_circuits.specs.declared.lists.End.TheVariants.{First, Other}
 use Rattle.tx_circuits.specs.declared.lists.Way.{Way}
 use Rattle.tx_circuits.specs.declared.lists.Way.TheVariants.{Up, Down}
-use Rattle.tx_circuits.specs.declared.slot.State.{State}
+use Rattle.tx_circuits.specs.declared.slot.CircuitState.{CircuitState}
 use Rattle.tx_circuits.specs.declared.slot.Slot.{Slot}
 use Rattle.tx_circuits.specs.declared.groups.GroupHead.{GroupHead}
 use Rattle.tx_circuits.specs.declared.groups.Row.{Row}
@@ -16,7 +16,7 @@ use Rattle.tx_circuits.specs.inner.Slots.{state_of, free_in, in_order, IsSound}
 -- a group, with the states of its circuits in order of number
 pub record GroupState : Type 0 where
   pub head : GroupHead
-  pub states : List State
+  pub states : List CircuitState
 
 -- the end at which an exchange seizes, if it may
 abbrev pub seizing_end : GroupHead → ℕ → Option End
@@ -29,7 +29,7 @@ numbered xs zero = None
 numbered xs (suc n) = slice_get xs n
 
 -- the state of a circuit, if the groups have it
-abbrev pub state_at : List GroupState → Circuit → Option State
+abbrev pub state_at : List GroupState → Circuit → Option CircuitState
 state_at ts x = option_and_then (λ t. numbered t.states x.number) (slice_get ts x.group)
 
 -- the end at which an exchange seizes circuits of a group, if it may
@@ -38,9 +38,9 @@ end_at ts g x = option_and_then (λ t. seizing_end t.head x) (slice_get ts g)
 
 -- the list with one entry changed
 abbrev pub change_at : {A : Type 0} → (A → A) → ℕ → List A → List A
-change_at f place [] = []
+change_at f index [] = []
 change_at f zero (x ∷ xs) = f x ∷ xs
-change_at f (suc place) (x ∷ xs) = x ∷ change_at f place xs
+change_at f (suc index) (x ∷ xs) = x ∷ change_at f index xs
 
 -- the list with another entry of a number, counted from 1
 abbrev pub set_numbered : {A : Type 0} → List A → ℕ → A → List A
@@ -48,7 +48,7 @@ set_numbered xs zero y = xs
 set_numbered xs (suc n) y = slice_set xs n y
 
 -- the group with another state of a circuit
-abbrev pub with_state : Circuit → State → GroupState → GroupState
+abbrev pub with_state : Circuit → CircuitState → GroupState → GroupState
 with_state x to t = record t { states = set_numbered t.states x.number to }
 
 -- the group, failed or not
@@ -59,17 +59,17 @@ with_failed to t = record t { head = record t.head { failed = to } }
 abbrev pub with_blocked : Bool → GroupState → GroupState
 with_blocked to t = record t { head = record t.head { blocked = to } }
 
--- the first end looks upward from the least place, the other downward from the greatest
+-- the first end looks upward from the least index, the other downward from the greatest
 abbrev pub way_of : End → Way
 way_of First = Up
 way_of Other = Down
 
--- the first free place of a group, as an end looks
-abbrev pub first_place : GroupState → End → Option ℕ
-first_place t end = find (free_in end t.states) (in_order (way_of end) (length t.states))
+-- the first free index of a group, as an end looks
+abbrev pub first_index : GroupState → End → Option ℕ
+first_index t end = find (free_in end t.states) (in_order (way_of end) (length t.states))
 
 -- where no call holds a circuit, and it is in service
-abbrev pub idle : State
+abbrev pub idle : CircuitState
 idle = record {
   seized_first = false;
   seized_other = false;
@@ -83,7 +83,7 @@ abbrev pub group_slots : List Slot → Row → List Slot
 group_slots slots r = between r.start (r.start + r.count) slots
 
 -- the states of its circuits
-abbrev pub states_in : List Slot → Row → List State
+abbrev pub states_in : List Slot → Row → List CircuitState
 states_in slots r = map state_of (group_slots slots r)
 
 -- a group with the states that its slots say

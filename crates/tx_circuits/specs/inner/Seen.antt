@@ -6,7 +6,7 @@ use Rattle.std.specs.FinSet as set
 use Rattle.tx_plan.specs.Plan.{Group}
 use Rattle.tx_plan.specs.Circuits.{upward}
 use Rattle.tx_plan.specs.declared.ids.Circuit.{Circuit}
-use Rattle.tx_circuits.specs.declared.slot.State.{State}
+use Rattle.tx_circuits.specs.declared.slot.CircuitState.{CircuitState}
 use Rattle.tx_circuits.specs.declared.groups.GroupHead.{GroupHead}
 use Rattle.tx_circuits.specs.inner.Slots.{has_seized, rising}
 use Rattle.tx_circuits.specs.inner.Groups.{GroupState, state_at, end_at}
@@ -35,7 +35,7 @@ abbrev pub seats_of : ℕ → GroupState → List Seat
 seats_of g t = map (λ c. (c, t.head.a)) (circuits_of g t)
     ++ map (λ c. (c, t.head.b)) (circuits_of g t)
 
--- what each group gives, with its place
+-- what each group gives, with its index
 abbrev pub gathered : {K : Type 0} → (ℕ → GroupState → List K) → ℕ → List GroupState → List K
 gathered f g [] = []
 gathered f g (t ∷ ts) = f g t ++ gathered f (suc g) ts
@@ -45,7 +45,7 @@ abbrev pub is_marked : (GroupHead → Bool) → List GroupState → ℕ → Bool
 is_marked test ts g = option_map_or (λ t. test t.head) (slice_get ts g) false
 
 -- a test holds of the state of a circuit, and of no foreign one
-abbrev pub holds : (State → Bool) → List GroupState → Circuit → Bool
+abbrev pub holds : (CircuitState → Bool) → List GroupState → Circuit → Bool
 holds test ts c = option_map_or test (state_at ts c) false
 
 -- the exchange of an end has seized its circuit

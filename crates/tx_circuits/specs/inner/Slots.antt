@@ -1,10 +1,10 @@
--- What the slots of a group say of its circuits. Circuit number n is at place n - 1.
+-- What the slots of a group say of its circuits. Circuit number n is at index n - 1.
 use Rattle.std.specs.Prelude.{ℕ, zero, suc, ◌-◌, ◌≤◌, Bool, false, not, ◌&&◌, List, [], ◌∷◌, ◌++◌, map, filter, length, nat_lt, Option, Some, None, slice_index_or}
 use Rattle.tx_circuits.specs.declared.lists.End.{End}
 use Rattle.tx_circuits.specs.declared.lists.End.TheVariants.{First, Other}
 use Rattle.tx_circuits.specs.declared.lists.Way.{Way}
 use Rattle.tx_circuits.specs.declared.lists.Way.TheVariants.{Up, Down}
-use Rattle.tx_circuits.specs.declared.slot.State.{State}
+use Rattle.tx_circuits.specs.declared.slot.CircuitState.{CircuitState}
 use Rattle.tx_circuits.specs.declared.lists.Links.{Links}
 use Rattle.tx_circuits.specs.declared.slot.Slot.{Slot}
 use Rattle.tx_circuits.specs.declared.lists.FreeList.{FreeList}
@@ -22,21 +22,21 @@ back Up = Down
 back Down = Up
 
 -- the end has seized the circuit
-abbrev pub has_seized : End → State → Bool
+abbrev pub has_seized : End → CircuitState → Bool
 has_seized First s = s.seized_first
 has_seized Other s = s.seized_other
 
 -- the end has seized the circuit, or gave it up
-abbrev pub with_seized : End → Bool → State → State
+abbrev pub with_seized : End → Bool → CircuitState → CircuitState
 with_seized First to s = record s { seized_first = to }
 with_seized Other to s = record s { seized_other = to }
 
 -- no call carries the circuit, it is not releasing, it is not out, and the end has not seized it
-abbrev pub is_free : End → State → Bool
+abbrev pub is_free : End → CircuitState → Bool
 is_free end s = not s.carried && (not s.releasing && (not s.out && not (has_seized end s)))
 
 -- the state of a circuit
-abbrev pub state_of : Slot → State
+abbrev pub state_of : Slot → CircuitState
 state_of s = s.state
 
 -- the links of a circuit in the list of an end
@@ -44,7 +44,7 @@ abbrev pub links_of : End → Slot → Links
 links_of First s = s.first
 links_of Other s = s.other
 
--- what comes after the links' place in a way
+-- what comes after the links' index in a way
 abbrev pub ahead : Way → Links → Option ℕ
 ahead Up l = l.above
 ahead Down l = l.below
@@ -59,25 +59,25 @@ abbrev pub list_of : End → FreeLists → FreeList
 list_of First l = l.first
 list_of Other l = l.other
 
--- places in rising order of rank: upward from the first, downward from the last
+-- indexes in rising order of rank: upward from the first, downward from the last
 abbrev pub rank_of : Way → ℕ → ℕ
-rank_of Up place = place
-rank_of Down place = 255 - place
+rank_of Up index = index
+rank_of Down index = 255 - index
 
--- the circuit at a place is free at an end, by the states of all
-abbrev pub free_in : End → List State → ℕ → Bool
-free_in end states place = slice_index_or (map (is_free end) states) place false
+-- the circuit at an index is free at an end, by the states of all
+abbrev pub free_in : End → List CircuitState → ℕ → Bool
+free_in end states index = slice_index_or (map (is_free end) states) index false
 
--- the circuit at a place is free at an end
+-- the circuit at an index is free at an end
 abbrev pub free_at : End → List Slot → ℕ → Bool
-free_at end slots place = free_in end (map state_of slots) place
+free_at end slots index = free_in end (map state_of slots) index
 
--- what comes after a place in the list of an end
+-- what comes after an index in the list of an end
 abbrev pub link_at : End → Way → List Slot → ℕ → Option ℕ
-link_at end way slots place =
-    slice_index_or (map (λ s. ahead way (links_of end s)) slots) place None
+link_at end way slots index =
+    slice_index_or (map (λ s. ahead way (links_of end s)) slots) index None
 
--- what follows a place in the list of an end, or begins the list
+-- what follows an index in the list of an end, or begins the list
 abbrev pub chain : End → Way → List Slot → FreeList → Option ℕ → Option ℕ
 chain end way slots list None = begins way list
 chain end way slots list (Some k) = link_at end way slots k
@@ -86,16 +86,16 @@ chain end way slots list (Some k) = link_at end way slots k
 abbrev pub IsListed : (ℕ → Bool) → End → List Slot → FreeList → Type 0
 IsListed free end slots list = (way : Way) → IsLinked free (rank_of way) (chain end way slots list)
 
--- the neighbours that a place has, or would have, in a list
+-- the neighbours that an index has, or would have, in a list
 abbrev pub AreNeighbours : (ℕ → Bool) → ℕ → Links → Type 0
-AreNeighbours free place links = (way : Way)
-    → IsLast free (rank_of way) (rank_of way place) (ahead (back way) links)
+AreNeighbours free index links = (way : Way)
+    → IsLast free (rank_of way) (rank_of way index) (ahead (back way) links)
 
 -- the lists of both ends are linked so
 abbrev pub AreLinked : List Slot → FreeLists → Type 0
 AreLinked slots lists = (end : End) → IsListed (free_at end slots) end slots (list_of end lists)
 
--- the places of n circuits, rising and falling
+-- the indexes of n circuits, rising and falling
 abbrev pub rising : ℕ → List ℕ
 rising zero = []
 rising (suc n) = rising n ++ n ∷ []
@@ -105,7 +105,7 @@ abbrev pub falling : ℕ → List ℕ
 falling zero = []
 falling (suc n) = n ∷ falling n
 
--- the places in a way
+-- the indexes in a way
 abbrev pub in_order : Way → ℕ → List ℕ
 in_order Up n = rising n
 in_order Down n = falling n
@@ -117,12 +117,12 @@ pub record IsSound (slots : List Slot) (lists : FreeLists) : Type 0 where
   pub followed : (end : End) (way : Way) → Follows (chain end way slots (list_of end lists)) None
       (filter (free_at end slots) (in_order way (length slots)))
 
--- the free places below n alone
+-- the free indexes below n alone
 abbrev pub until : ℕ → (ℕ → Bool) → ℕ → Bool
 until n free k = nat_lt k n && free k
 
 -- no call holds the circuit any more; it stays out of service if it was
-abbrev pub cleared : State → State
+abbrev pub cleared : CircuitState → CircuitState
 cleared s = record {
   seized_first = false;
   seized_other = false;

@@ -6,8 +6,8 @@ use Rattle.tx_commands.specs.Commands.{IsFoundIn, is_set}
 use Rattle.tx_commands.specs.Files.{reads_input_twice, overwrites}
 use Rattle.tx_commands.specs.Faults.{has, IsRunInPart}
 use Rattle.tx_commands.specs.declared.command.Command.{Command}
-use Rattle.tx_commands.specs.declared.refusal.Refusal.{Refusal}
-use Rattle.tx_commands.specs.declared.refusal.Refusal.TheVariants.{Together, CheckedTelling, DrawTogether, NoSuchCode, InputTwice, Overwrites}
+use Rattle.tx_commands.specs.declared.misuse.Misuse.{Misuse}
+use Rattle.tx_commands.specs.declared.misuse.Misuse.TheVariants.{Together, CheckedTelling, DrawTogether, NoSuchCode, InputTwice, Overwrites}
 
 -- `run` has a certificate, and an option by which it prints more
 pub record IsCheckedTelling (name : List ℕ) (found : List Row) : Type 0 where
@@ -29,18 +29,18 @@ pub record IsNoCode (name : List ℕ) (found : List Row) : Type 0 where
   pub unknown : option_map is_known (first_of (codes "code") found) ≡ Some false
 
 -- two files of the command clash in this way
-abbrev pub IsClash : Command → Refusal → Type 0
+abbrev pub IsClash : Command → Misuse → Type 0
 IsClash command InputTwice = reads_input_twice command ≡ true
 IsClash command Overwrites = overwrites command ≡ true
 IsClash command other = ⊥
 
 -- the words that were found ask for a command of which two files clash in this way
-abbrev pub AskForClash : Option (List ℕ × List Row) → Refusal → Type 0
+abbrev pub AskForClash : Option (List ℕ × List Row) → Misuse → Type 0
 AskForClash found refusal = (command : Command) × IsFoundIn found command × IsClash command refusal
 
 -- The words that were found are refused for this. That a word is missing, and lack of memory, are
 -- left open.
-abbrev pub IsRefused : Option (List ℕ × List Row) → Refusal → Type 0
+abbrev pub IsRefused : Option (List ℕ × List Row) → Misuse → Type 0
 IsRefused command Together = IsSomeAnd command (λ c. IsRunInPart c.0 c.1)
 IsRefused command CheckedTelling = IsSomeAnd command (λ c. IsCheckedTelling c.0 c.1)
 IsRefused command DrawTogether = IsSomeAnd command (λ c. IsDrawInPart c.0 c.1)

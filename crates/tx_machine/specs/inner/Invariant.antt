@@ -11,7 +11,7 @@ use Rattle.tx_plan.specs.Among.{Among}
 use Rattle.tx_plan.specs.declared.ids.Circuit.{Circuit}
 use Rattle.tx_plan.specs.declared.ids.Line.{Line}
 use Rattle.tx_machine.specs.Members.{NoneTwice}
-use Rattle.tx_machine.specs.Call.{Call, Calling, Connected, start_of, place_of}
+use Rattle.tx_machine.specs.Call.{Call, Calling, Connected, start_of, exchange_of}
 use Rattle.tx_machine.specs.State.{State}
 use Rattle.tx_machine.specs.InUse.{circuits_carried}
 use Rattle.tx_machine.specs.Lines.{lines_of}
@@ -29,7 +29,7 @@ pub record IsKept (p : Plan) (c : Call) : Type 0 where
   pub own : (x : Circuit) → Among x (circuits_carried c) → c.phase ≡ Calling x → ⊥
   pub planned : (x : Circuit) → c.phase ≡ Calling x → is_circuit p x ≡ true
   pub calling : (x : Circuit) → c.phase ≡ Calling x
-      → (y : ℕ) × (other_end p x.group (place_of p c) ≡ Some y)
+      → (y : ℕ) × (other_end p x.group (exchange_of p c) ≡ Some y)
   pub connected : (l : Line) → c.phase ≡ Connected l → IsKeyedLine p c l
   pub lines : NoneTwice same_line (lines_of c)
 
@@ -41,7 +41,7 @@ pub record AreApart (p : Plan) (c d : Call) : Type 0 where
   pub left : (x : Circuit) → Among x (circuits_carried c) → d.phase ≡ Calling x → ⊥
   pub right : (x : Circuit) → c.phase ≡ Calling x → Among x (circuits_carried d) → ⊥
   pub ends : (x : Circuit) → c.phase ≡ Calling x
-      → d.phase ≡ Calling x → place_of p c ≡ place_of p d → ⊥
+      → d.phase ≡ Calling x → exchange_of p c ≡ exchange_of p d → ⊥
   pub lines : (l : Line) → Among l (lines_of c) → Among l (lines_of d) → ⊥
 
 -- a call has nothing to do with a circuit: it neither carries it nor has seized it
@@ -79,6 +79,6 @@ pub record IsRanked (p : Plan) (ranks : Ranks) (c : Call) : Type 0 where
   pub unrouted : code_of p c.keyed ≡ None → c.hops ≡ []
   pub falls : (code : ℕ) → code_of p c.keyed ≡ Some code → Falls (ranks code) (start_of p c) c.hops
   pub calling : (x : Circuit) → c.phase ≡ Calling x → (code : ℕ)
-      × (code_of p c.keyed ≡ Some code) × IsLower (ranks code) (place_of p c) (far_of p c x)
+      × (code_of p c.keyed ≡ Some code) × IsLower (ranks code) (exchange_of p c) (far_of p c x)
   pub collided : c.collided ≡ true → (code : ℕ)
-      × (code_of p c.keyed ≡ Some code) × (n : ℕ) × (ranks code (place_of p c) ≡ Some (suc n))
+      × (code_of p c.keyed ≡ Some code) × (n : ℕ) × (ranks code (exchange_of p c) ≡ Some (suc n))

@@ -7,25 +7,25 @@ use Rattle.tx_plan.specs.Orders.{circuit_cmp, coded_circuit}
 use Rattle.tx_plan.specs.declared.ids.Circuit.{Circuit}
 
 -- where the bits are set, counted from k
-abbrev pub places : ℕ → List Bool → List ℕ
-places k [] = []
-places k (b ∷ bits) = if b then k ∷ places (k + 1) bits else places (k + 1) bits
+abbrev pub indexes : ℕ → List Bool → List ℕ
+indexes k [] = []
+indexes k (b ∷ bits) = if b then k ∷ indexes (k + 1) bits else indexes (k + 1) bits
 
--- each group has 240 places
+-- each group has 240 indexes
 abbrev pub circuit_at : ℕ → Circuit
 circuit_at k = record { group = k / 240; number = k % 240 + 1 }
 
--- the place of a circuit
+-- the index of a circuit
 abbrev pub index_of : Circuit → ℕ
 index_of x = 240 * x.group + (x.number - 1)
 
 -- the circuits whose bits are set
 abbrev pub circuits_of : List Bool → set.FinSet circuit_cmp
-circuits_of bits = set.from_list (map circuit_at (places 0 bits))
+circuits_of bits = set.from_list (map circuit_at (indexes 0 bits))
 
 -- the groups whose bits are set
 abbrev pub groups_of : List Bool → set.FinSet nat_cmp
-groups_of bits = set.from_list (places 0 bits)
+groups_of bits = set.from_list (indexes 0 bits)
 
 -- the circuits that are marked, among those of so many groups
 pub record Circuits : Type 0 where

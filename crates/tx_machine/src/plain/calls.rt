@@ -4,10 +4,10 @@ ghost use Rattle.std.specs.List.{list_any};
 ghost use Rattle.tx_plan.specs.Orders.{same_line, same_circuit};
 ghost use Rattle.tx_machine.specs.InUse.{seizes_from, carries, seizes};
 ghost use Rattle.tx_machine.specs.Lines.{takes_part};
-ghost use Rattle.tx_machine.specs.Call.{place_of, call_of};
+ghost use Rattle.tx_machine.specs.Call.{exchange_of, call_of};
 ghost use Rattle.tx_machine.specs.Seen.{call_seen};
 
-use crate::{OpenCall, Phase, place_of};
+use crate::{OpenCall, Phase, exchange_of};
 use std::alloc::Allocator;
 use tx_plan::{Circuit, ExchangeId, Line, Plan};
 
@@ -60,12 +60,12 @@ fn seizes_from<A: Allocator>(
     plan: &Plan<A>,
     call: &OpenCall<A>,
     circuit: &Circuit,
-    place: ExchangeId,
+    exchange: ExchangeId,
 ) -> bool
     ensures { result ≡ (seizes (call_seen call.now) circuit.now
-        && (place_of plan.now (call_seen call.now) == place)) }
+        && (exchange_of plan.now (call_seen call.now) == exchange)) }
 {
-    seizes(call, circuit) && place_of(plan, call) == place
+    seizes(call, circuit) && exchange_of(plan, call) == exchange
 }
 
 /// Whether one of the calls seizes the circuit from the exchange.
@@ -73,14 +73,14 @@ pub(crate) fn seized_from<A: Allocator>(
     plan: &Plan<A>,
     calls: &[OpenCall<A>],
     circuit: &Circuit,
-    place: ExchangeId,
+    exchange: ExchangeId,
 ) -> bool
     ensures { result ≡ list_any (λ c. seizes (call_seen c) circuit.now
-        && (place_of plan.now (call_seen c) == place)) calls.now }
+        && (exchange_of plan.now (call_seen c) == exchange)) calls.now }
 {
     calls
         .iter()
-        .any(|call| seizes_from(plan, call, circuit, place))
+        .any(|call| seizes_from(plan, call, circuit, exchange))
 }
 
 /// Another call than that of the number that seizes the circuit from the exchange.
@@ -89,16 +89,16 @@ pub(crate) fn rival_of<'c, A: Allocator>(
     calls: &'c [OpenCall<A>],
     number: u32,
     circuit: &Circuit,
-    place: ExchangeId,
+    exchange: ExchangeId,
 ) -> Option<&'c OpenCall<A>>
     ensures { MatchOption result (find (λ d. not (d.number == number)
-        && seizes_from plan.now d circuit.now place) (map call_seen calls.now) ≡ None)
-        (λ c. find (λ d. not (d.number == number) && seizes_from plan.now d circuit.now place)
+        && seizes_from plan.now d circuit.now exchange) (map call_seen calls.now) ≡ None)
+        (λ c. find (λ d. not (d.number == number) && seizes_from plan.now d circuit.now exchange)
         (map call_seen calls.now) ≡ Some (call_seen c.now)) }
 {
     let mut at = 0;
     while at < calls.len() {
-        if is_rival(plan, &calls[at], number, circuit, place) {
+        if is_rival(plan, &calls[at], number, circuit, exchange) {
             return Some(&calls[at]);
         }
         at += 1;
@@ -112,12 +112,12 @@ fn is_rival<A: Allocator>(
     call: &OpenCall<A>,
     number: u32,
     circuit: &Circuit,
-    place: ExchangeId,
+    exchange: ExchangeId,
 ) -> bool
     ensures { result ≡ (not (call.now.number == number)
-        && seizes_from plan.now (call_seen call.now) circuit.now place) }
+        && seizes_from plan.now (call_seen call.now) circuit.now exchange) }
 {
-    call.number != number && seizes_from(plan, call, circuit, place)
+    call.number != number && seizes_from(plan, call, circuit, exchange)
 }
 
 /// The call with the number.

@@ -20,10 +20,10 @@ pub(crate) fn code_of<A: Allocator>(plan: &Plan<A>, keyed: &[u8]) -> Option<Code
 {
     let mut best: Option<CodeId> = None;
     let mut width = 0;
-    let mut place = plan.codes();
-    while place > 0 {
-        place -= 1;
-        let code = CodeId::of(place);
+    let mut index = plan.codes();
+    while index > 0 {
+        index -= 1;
+        let code = CodeId::of(index);
         let text = plan.code_figures(code);
         let first = best.is_none();
         if is_longer(text, keyed, first, width) {

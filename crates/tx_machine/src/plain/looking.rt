@@ -17,19 +17,24 @@ impl<'p, A: Allocator + Copy> Plain<'p, A> {
     }
 
     /// Whether the exchange sees the circuit as free.
-    pub(crate) fn is_free(&self, place: ExchangeId, circuit: &Circuit) -> bool
-        ensures { result ≡ is_free_at self.now.plan self.now.state place circuit.now }
+    pub(crate) fn is_free(&self, exchange: ExchangeId, circuit: &Circuit) -> bool
+        ensures { result ≡ is_free_at self.now.plan self.now.state exchange circuit.now }
     {
         !carried_by(self.calls.as_slice(), circuit)
             && !self.marks.releasing.has(circuit)
             && !self.marks.out.has(circuit)
-            && !seized_from(self.plan, self.calls.as_slice(), circuit, place)
+            && !seized_from(self.plan, self.calls.as_slice(), circuit, exchange)
     }
 
     /// The free circuit of the least number.
-    pub(crate) fn first_up(&self, place: ExchangeId, group: GroupId, count: u32) -> Option<Circuit>
+    pub(crate) fn first_up(
+        &self,
+        exchange: ExchangeId,
+        group: GroupId,
+        count: u32,
+    ) -> Option<Circuit>
         requires { count ≤ 240 }
-        ensures { result ≡ find (is_free_at self.now.plan self.now.state place)
+        ensures { result ≡ find (is_free_at self.now.plan self.now.state exchange)
             (map (λ n. record { group = group; number = n }) (upward count)) }
     {
         let mut n = 0;
@@ -38,7 +43,7 @@ impl<'p, A: Allocator + Copy> Plain<'p, A> {
                 group,
                 number: n + 1,
             };
-            if self.is_free(place, &circuit) {
+            if self.is_free(exchange, &circuit) {
                 return Some(circuit);
             }
             n += 1;
@@ -49,17 +54,17 @@ impl<'p, A: Allocator + Copy> Plain<'p, A> {
     /// The free circuit of the greatest number.
     pub(crate) fn first_down(
         &self,
-        place: ExchangeId,
+        exchange: ExchangeId,
         group: GroupId,
         count: u32,
     ) -> Option<Circuit>
-        ensures { result ≡ find (is_free_at self.now.plan self.now.state place)
+        ensures { result ≡ find (is_free_at self.now.plan self.now.state exchange)
             (map (λ n. record { group = group; number = n }) (downward count)) }
     {
         let mut n = count;
         while n > 0 {
             let circuit = Circuit { group, number: n };
-            if self.is_free(place, &circuit) {
+            if self.is_free(exchange, &circuit) {
                 return Some(circuit);
             }
             n -= 1;

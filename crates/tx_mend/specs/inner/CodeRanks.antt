@@ -1,11 +1,11 @@
 -- What the mending of a code goes by.
 use Rattle.std.specs.Prelude.{ℕ, if◌then◌else◌, List, length, map, Option, Some, None}
 use Rattle.tx_plan.specs.Plan.{Plan}
-use Rattle.tx_mend.specs.LeastRanks.{places, RanksOfCode, least_rank, keeps_routes}
+use Rattle.tx_mend.specs.LeastRanks.{indexes, RanksOfCode, least_rank, keeps_routes}
 
 -- the ranks of all exchanges, in order
 abbrev pub rank_list : Plan → RanksOfCode → List (Option ℕ)
-rank_list p ranks = map ranks (places (length p.exchanges))
+rank_list p ranks = map ranks (indexes (length p.exchanges))
 
 -- the least ranks, unless the code keeps its routes
 abbrev pub code_ranks : Plan → (limit spare code : ℕ) → Option (List (Option ℕ))

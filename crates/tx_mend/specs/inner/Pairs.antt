@@ -3,7 +3,7 @@ use Rattle.std.specs.Prelude.{ℕ, Bool, not, List, ◌++◌, length, map, filte
 use Rattle.std.specs.List.{flat_map}
 use Rattle.tx_plan.specs.Plan.{Plan, Route}
 use Rattle.tx_plan.specs.Declaring.{has_route}
-use Rattle.tx_mend.specs.LeastRanks.{places}
+use Rattle.tx_mend.specs.LeastRanks.{indexes}
 use Rattle.tx_mend.specs.Lists.{full_list}
 use Rattle.tx_mend.specs.Mended.{route_if}
 
@@ -13,7 +13,7 @@ present_pairs p = map (λ r. (r.exchange, r.code)) p.routes
 
 -- the pairs of a code and the first n exchanges
 abbrev pub pairs_for : ℕ → ℕ → List (ℕ × ℕ)
-pairs_for n c = map (λ x. (x, c)) (places n)
+pairs_for n c = map (λ x. (x, c)) (indexes n)
 
 -- a pair has no route
 abbrev pub is_absent : Plan → ℕ × ℕ → Bool
@@ -22,7 +22,7 @@ is_absent p k = not (has_route p k.0 k.1)
 -- the pairs without a route, of the codes before c
 abbrev pub absent_below : Plan → ℕ → List (ℕ × ℕ)
 absent_below p c =
-    filter (is_absent p) (flat_map (pairs_for (length p.exchanges)) (places c))
+    filter (is_absent p) (flat_map (pairs_for (length p.exchanges)) (indexes c))
 
 -- the route of a pair with its full list, if that has groups
 abbrev pub full_route : Plan → (limit spare : ℕ) → ℕ × ℕ → List Route

@@ -41,7 +41,7 @@ module _ {A : Type 0} where
     pub added : new ≡ old ++ map (Short code) walks
     pub found : AreShorts n spare walks
 
-  -- the same for the exchanges before place i
+  -- the same for the exchanges before index i
   pub record AddsBelow (n : Net) (code spare i : ℕ) (old new : List (Finding A)) : Type 0 where
     pub walks : List Walk
     pub added : new ≡ old ++ map (Short code) walks

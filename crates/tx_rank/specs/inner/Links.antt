@@ -26,7 +26,7 @@ abbrev pub StaysLinked : List (Option (ℕ × ℕ)) → List (Option (ℕ × ℕ
 StaysLinked old new = (y : ℕ) (s : ℕ × ℕ) → slice_get old y ≡ Some (Some s)
     → (t : ℕ × ℕ) × (slice_get new y ≡ Some (Some t))
 
--- each exchange to which a ranked exchange before place i leads is linked
+-- each exchange to which a ranked exchange before index i leads is linked
 abbrev pub LinksBelow : Net → (ℕ → Option ℕ) → List (Option (ℕ × ℕ)) → ℕ → Type 0
 LinksBelow n ranks links i = (p r : ℕ) → p < i
     → ranks p ≡ Some r → p ≢ n.home → LinksAll n links p (n.list p)

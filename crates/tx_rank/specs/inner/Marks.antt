@@ -123,7 +123,7 @@ IsAdvanced n start More old new steps = IsStep n start old new steps
 IsAdvanced n start Done old new steps = IsEnd n start old new
 IsAdvanced n start Closed old new steps = IsLoop n start steps
 
--- the exchanges before place i were tried
+-- the exchanges before index i were tried
 pub record IsPassing (n : Net) (marks : List Mark) (i : ℕ) : Type 0 where
   pub marked : IsMarked n marks
   pub none : NoneOpen marks

@@ -19,7 +19,7 @@ module _ {A : Type 0} where
   abbrev pub AreCuts : Left → Outage → List (Cut A) → Type 0
   AreCuts l o cuts = AreCutsOfCode l.plan (gone l) o l.code cuts
 
-  -- those from the exchanges before place i
+  -- those from the exchanges before index i
   pub record AreCutsBefore (l : Left) (o : Outage) (i : ℕ) (cuts : List (Cut A)) : Type 0 where
     pub each : (c : Cut A) → Among c cuts → IsCutAs (left_net l) o l.code c
     pub asked : (c : Cut A) → Among c cuts → is_asked l.plan o l.code (start_at c) ≡ true

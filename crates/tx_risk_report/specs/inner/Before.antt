@@ -1,9 +1,9 @@
--- The outage of the cut before a place.
+-- The outage of the cut before an index.
 use Rattle.std.specs.Prelude.{ℕ, zero, suc, List, [], ◌∷◌, Option, Some}
 use Rattle.tx_risk.specs.declared.outage.Outage.{Outage}
 use Rattle.tx_risk.specs.declared.cut.Cut.{Cut}
 
--- the outage of the cut before a place; before the first one, what is given
+-- the outage of the cut before an index; before the first one, what is given
 abbrev pub outage_before : {A : Type 0} → (before : Option Outage) → List (Cut A) → ℕ
     → Option Outage
 outage_before before cuts zero = before

@@ -13,7 +13,7 @@ use Rattle.tx_text.specs.Words.{words_of}
 use Rattle.tx_text.specs.Told.{Ending, AtEnd}
 use Rattle.tx_text.specs.Frame.{Framed, Done, Stop, Headed, Has, header_of, framed, ReadsOn, EndsAs, Stopped, is_read}
 use Rattle.tx_text.specs.inner.CallsLeft.{Went}
-use Rattle.tx_text.specs.inner.Reading.{Reading, told_at, reading_place, reading_of_calls, reading_size}
+use Rattle.tx_text.specs.inner.Reading.{Reading, told_at, reading_rest, reading_of_calls, reading_size}
 
 -- a frame reader: its header's key and greatest version, the part of the text that it reads, the
 -- number of finished lines plus 1, and its reader of lines
@@ -45,7 +45,7 @@ IsSound v = v.reader.feed.fault ≡ None
 -- what comes from here on, where these bytes follow
 abbrev pub to_come : FrameReading → Ending → List ℕ → Framed
 to_come v e more = framed (header_of v.key v.most) v.phase v.number
-    (told_at (reading_place v.reader) e more)
+    (told_at (reading_rest v.reader) e more)
 
 -- the number of the line that the reader holds
 abbrev pub number_of_line : Option Line → ℕ

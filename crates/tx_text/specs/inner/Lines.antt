@@ -11,4 +11,4 @@ items_left a = checked (lines_from (a.number + 1) a.start a.rest.now)
 -- What is true of the fields: the counts fit.
 pub record IsLines (a : Inside) : Type 0 where
   pub number : a.number ≤ a.start
-  pub place : a.start + length a.rest.now < 2 ^ 63
+  pub index : a.start + length a.rest.now < 2 ^ 63

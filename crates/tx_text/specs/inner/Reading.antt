@@ -12,28 +12,28 @@ use Rattle.tx_text.specs.inner.Feed.{Feed, feed_gives, feed_leaves}
 
 -- where a reader stands: how many lines it gave, where the next one starts, and the bytes of it and
 -- after it that were read
-pub record Place : Type 0 where
+pub record Rest : Type 0 where
   pub number : ℕ
   pub start : ℕ
   pub ahead : List ℕ
 
--- what comes from a place on, where these bytes follow
-unfoldable pub told_at : Place → Ending → List ℕ → Told
+-- what comes after what was read, where these bytes follow
+unfoldable pub told_at : Rest → Ending → List ℕ → Told
 told_at p e more = told e (lines_from (p.number + 1) p.start (p.ahead ++ more))
 
 -- a line came; an unfinished one is the last
-abbrev pub LineCame : Option (List ℕ) → Option (List ℕ) → Place → Place → Line → Bool → Type 0
+abbrev pub LineCame : Option (List ℕ) → Option (List ℕ) → Rest → Rest → Line → Bool → Type 0
 LineCame old new p q l true = ReadsOn old new (told_at p) (λ e more. Then l (told_at q e more))
 LineCame old new p q l false = EndsAs old new (told_at p) AtEnd (Then l Closed) × IsAtEnd new
 
 -- a line came, and the reader holds it
-abbrev pub Came : Option (List ℕ) → Option (List ℕ) → Place → Place → Option Line → Type 0
+abbrev pub Came : Option (List ℕ) → Option (List ℕ) → Rest → Rest → Option Line → Type 0
 Came old new p q None = ⊥
 Came old new p q (Some l) = LineCame old new p q l l.finished
 
 -- what a call that goes on to the next line says
 abbrev pub Advances : Option (List ℕ) → Option (List ℕ)
-    → Place → Place → Option Line → Type 0 → Result Bool FrameFault → Type 0
+    → Rest → Rest → Option Line → Type 0 → Result Bool FrameFault → Type 0
 Advances old new p q given broken (Ok true) = Came old new p q given
 Advances old new p q given broken (Ok false) =
     EndsAs old new (told_at p) AtEnd Closed × IsAtEnd new
@@ -46,8 +46,8 @@ pub record IsFeed (f : Feed) : Type 0 where
   pub short : begun_fault f.begun ≡ None
 
 -- where a feeder stands that has a piece to take yet
-abbrev pub place_of : Feed → List ℕ → Place
-place_of f piece = record { number = f.number; start = f.start; ahead = f.begun ++ piece }
+abbrev pub rest_of : Feed → List ℕ → Rest
+rest_of f piece = record { number = f.number; start = f.start; ahead = f.begun ++ piece }
 
 -- a reader of texts: its feeder, the bytes that it read and hasn't fed, and how often it may read
 -- yet
@@ -57,8 +57,8 @@ pub record Reading : Type 0 where
   pub left : ℕ
 
 -- where a reader stands
-abbrev pub reading_place : Reading → Place
-reading_place r = place_of r.feed r.piece
+abbrev pub reading_rest : Reading → Rest
+reading_rest r = rest_of r.feed r.piece
 
 -- whether feeding completed a line, or the fault of its bytes
 abbrev pub lined : Result Fed TextFault → Result Bool FrameFault

@@ -13,6 +13,6 @@ abbrev pub AreRanksFrom : Plan → (c x : ℕ) → Option Certificate → Type 0
 AreRanksFrom p c x cert =
     (y : ℕ) → IsReached (net_from p c x) y → rank_told cert c y ≡ rank_from p c x y
 
--- each mark says whether its place is in the list
+-- each mark says whether its index is in the list
 abbrev pub AreMarksOf : List ℕ → List Bool → Type 0
 AreMarksOf xs marks = (y : ℕ) → y < length marks → slice_get marks y ≡ Some (is_in y xs)

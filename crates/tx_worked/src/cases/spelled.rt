@@ -30,18 +30,18 @@ fn begins_mark(after: &[u8]) -> bool {
 
 /// How many bytes of a text stand before the first `}` that closes no `{` of its own.
 fn closed_after(text: &[u8]) -> usize {
-    let mut place = 0usize;
+    let mut index = 0usize;
     let mut open = 0u64;
     for byte in text {
         match *byte {
-            b'}' if open == 0 => return place,
+            b'}' if open == 0 => return index,
             b'}' => open = open.saturating_sub(1),
             b'{' => open = open.saturating_add(1),
             _ => {}
         }
-        place = place.saturating_add(1);
+        index = index.saturating_add(1);
     }
-    place
+    index
 }
 
 /// The mark whose `{` stands before a text, and what follows it.

@@ -66,10 +66,10 @@ pub fn is_command(kind: &[u8]) -> bool {
 
 /// A word of a command, with what stands after the kind in its place.
 fn placed(alloc: Global, word: &str, after: [&[u8]; 3]) -> Result<Option<String>, AllocError> {
-    let Some((front, place)) = word.split_once('@') else {
+    let Some((front, index)) = word.split_once('@') else {
         return Ok(Some(String::from_str(alloc, word)?));
     };
-    let given = match place {
+    let given = match index {
         "1" => after[0],
         "2" => after[1],
         _ => after[2],

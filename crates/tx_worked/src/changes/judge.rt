@@ -72,9 +72,9 @@ fn fails_differ(findings: &[Finding], wanted: &[Wanted], mixing: Mixing<'_>) -> 
     if all_are_ranked(mixing) || findings.len() != wanted.len() {
         return Some(Difference::Count);
     }
-    for (place, (finding, it)) in findings.iter().zip(wanted).enumerate() {
+    for (index, (finding, it)) in findings.iter().zip(wanted).enumerate() {
         if !is_of_some(finding, it, mixing) {
-            return Some(Difference::FindingAt(place));
+            return Some(Difference::FindingAt(index));
         }
     }
     None

@@ -12,8 +12,8 @@ use tx_text::NoMemory;
 /// Adds to each number what the way of the one plan counts, or that of the other, where they
 /// differ.
 fn go_both_ways(one: u64, other: u64, numbers: &mut Vec<u64>) -> Result<(), NoMemory> {
-    for place in 0..numbers.len() {
-        if let Some(number) = numbers.get_mut(place) {
+    for index in 0..numbers.len() {
+        if let Some(number) = numbers.get_mut(index) {
             let before = *number;
             *number = before.saturating_add(one);
             if one != other {

@@ -39,19 +39,19 @@ impl PairWork {
     }
 }
 
-/// What some mixture shows for the code at a place, of which an old plan has a survey.
+/// What some mixture shows for the code at an index, of which an old plan has a survey.
 fn join_code(
     alloc: Global,
     old: &Member,
     survey: &Survey,
-    place: usize,
+    index: usize,
     members: &[Member],
     mixtures: &[u64],
 ) -> Result<Survey, NoMemory> {
     let mut joined = Survey::new(alloc, &old.plan, survey.code)?;
     for number in mixtures {
         if let Some(member) = members.get(*number as usize) {
-            if let Some(other) = member.surveys.get(place) {
+            if let Some(other) = member.surveys.get(index) {
                 joined.join(other);
             }
         }
@@ -68,8 +68,8 @@ fn join_codes(
     joined: &mut Vec<Survey>,
 ) -> Result<(), NoMemory> {
     joined.clear();
-    for (place, survey) in old.surveys.iter().enumerate() {
-        joined.push(join_code(alloc, old, survey, place, members, mixtures)?)?;
+    for (index, survey) in old.surveys.iter().enumerate() {
+        joined.push(join_code(alloc, old, survey, index, members, mixtures)?)?;
     }
     Ok(())
 }

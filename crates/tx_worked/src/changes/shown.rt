@@ -142,8 +142,8 @@ fn first_differs(
     requires shown { AllByRecursion (IsShown old new.now mixing.limits.limit mixing.limits.spare)
         findings.now }
 {
-    for place in 0..findings.len() {
-        let finding = &findings[place];
+    for index in 0..findings.len() {
+        let finding = &findings[index];
         if has_walk(finding) {
             return finding_differs(alloc, old, new, finding, mixing, showing);
         }

@@ -22,10 +22,10 @@ pub fn put_words(words: &[&[u8]], text: &mut Vec<u8>) -> Result<(), NoMemory> {
     Ok(())
 }
 
-/// Takes the word at a place among those that are not taken yet: the first word has the mark 1, the
+/// Takes the word at an index among those that are not taken yet: the first word has the mark 1, the
 /// next one 2, the next 4.
-fn take_free<'a>(words: Words<'a>, taken: &mut u32, place: u64) -> Option<&'a [u8]> {
-    let mut before = place;
+fn take_free<'a>(words: Words<'a>, taken: &mut u32, index: u64) -> Option<&'a [u8]> {
+    let mut before = index;
     let mut mark = 1u32;
     for word in words {
         if *taken & mark == 0 {
@@ -56,10 +56,10 @@ pub fn put_list(
         if left == 0 || free == 0 {
             break;
         }
-        let place = (left - 1) % free;
+        let index = (left - 1) % free;
         left = (left - 1) / free;
         free -= 1;
-        if let Some(word) = take_free(words.again(), &mut taken, place) {
+        if let Some(word) = take_free(words.again(), &mut taken, index) {
             put_words(&[before, word, after], text)?;
         }
     }

@@ -18,8 +18,8 @@ pub(crate) fn play_pictures(alloc: Global, head: Head<'_>, text: &[u8], out: &mu
 }
 
 fn draw_codes(alloc: Global, plan: &Plan, head: Head<'_>, text: &[u8], out: &mut Told) {
-    for place in 0..plan.codes() {
-        let code = plan.code_figures(CodeId::of(place));
+    for index in 0..plan.codes() {
+        let code = plan.code_figures(CodeId::of(index));
         draw(alloc, [code, head.first, head.second], text, out);
     }
 }

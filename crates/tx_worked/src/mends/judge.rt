@@ -61,8 +61,8 @@ pub fn put_unserved(
 
 /// Whether for each code an audit finds nothing wrong with the code in some routing.
 pub fn all_are_ranked(asked: Asked<'_>) -> bool {
-    for place in 0..asked.plan.codes() {
-        if let Some(code) = asked.plan.code_at(place) {
+    for index in 0..asked.plan.codes() {
+        if let Some(code) = asked.plan.code_at(index) {
             match asked.served(code) {
                 Some(served) if served.is_ranked => {}
                 _ => return false,
@@ -147,8 +147,8 @@ fn code_differs(
 ) -> Result<Option<Difference>, NoMemory> {
     put_code(asked.plan, present, asked.limits, wanted)?;
     let keeps = wanted.is_empty();
-    for place in 0..asked.plan.exchanges() {
-        if let Some(exchange) = asked.plan.exchange_at(place) {
+    for index in 0..asked.plan.exchanges() {
+        if let Some(exchange) = asked.plan.exchange_at(index) {
             let differs = list_differs(asked, mended, survey, keeps, exchange, list, tally)?;
             if differs.is_some() {
                 return Ok(differs);

@@ -86,8 +86,8 @@ impl<'a> Asked<'a> {
         far: usize,
         list: &mut Vec<GroupId>,
     ) -> Result<(), NoMemory> {
-        for place in 0..self.plan.groups() {
-            if let Some(group) = self.plan.group_at(place) {
+        for index in 0..self.plan.groups() {
+            if let Some(group) = self.plan.group_at(index) {
                 if self.is_wanting(code, exchange, group, far, list.as_slice()) {
                     list.push(group)?;
                 }

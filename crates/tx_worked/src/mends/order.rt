@@ -7,8 +7,8 @@ pub type Routed = (ExchangeId, CodeId);
 
 /// Adds those that have a list in both plans, in order of the routes of the first one.
 fn add_old(plan: &Plan, mended: &Plan, routed: &mut Vec<Routed>) -> Result<(), NoMemory> {
-    for place in 0..plan.routes() {
-        if let Some((exchange, code)) = plan.route_at(place) {
+    for index in 0..plan.routes() {
+        if let Some((exchange, code)) = plan.route_at(index) {
             if !mended.list(exchange, code).is_empty() {
                 routed.push((exchange, code))?;
             }
@@ -40,8 +40,8 @@ pub fn are_in_order(
     routed.clear();
     add_old(plan, mended, routed)?;
     add_new(plan, mended, routed)?;
-    for (place, it) in routed.iter().enumerate() {
-        if mended.route_at(place) != Some(*it) {
+    for (index, it) in routed.iter().enumerate() {
+        if mended.route_at(index) != Some(*it) {
             return Ok(false);
         }
     }

@@ -35,8 +35,8 @@ fn put_choice(
 ) -> Result<(), NoMemory> {
     let (name, figures) = (plan.exchange_name(exchange), plan.code_figures(code));
     put_words(&[b"ROUTES 16".as_slice(), name, figures], lines)?;
-    for place in 0..plan.groups() {
-        if let Some(group) = plan.group_at(place) {
+    for index in 0..plan.groups() {
+        if let Some(group) = plan.group_at(index) {
             if plan.may_seize(group, exchange) {
                 put_words(&[plan.group_name(group)], lines)?;
             }
@@ -56,8 +56,8 @@ pub fn put_routings(
 ) -> Result<(), NoMemory> {
     lines.clear();
     lines.extend_from_slice(network)?;
-    for place in 0..plan.exchanges() {
-        if let Some(exchange) = plan.exchange_at(place) {
+    for index in 0..plan.exchanges() {
+        if let Some(exchange) = plan.exchange_at(index) {
             if exchange != plan.home(code) {
                 put_choice(plan, exchange, code, lines)?;
             }

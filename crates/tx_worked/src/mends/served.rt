@@ -53,11 +53,11 @@ fn note_ranks(
     wanted: &mut Vec<Wanted>,
     ranks: &mut [Option<usize>],
 ) -> Result<(), NoMemory> {
-    for (place, survey) in starts.iter().enumerate() {
+    for (index, survey) in starts.iter().enumerate() {
         put_code(routing, survey, limits, wanted)?;
         if wanted.is_empty() {
-            if let Some(height) = count_at(&survey.heights, place) {
-                note_lesser(ranks, place, height);
+            if let Some(height) = count_at(&survey.heights, index) {
+                note_lesser(ranks, index, height);
             }
         }
     }

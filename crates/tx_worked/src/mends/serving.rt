@@ -104,8 +104,8 @@ pub fn serve_codes(
     codes: &mut Vec<CodeServed>,
 ) -> Result<(), Stop> {
     codes.clear();
-    for place in 0..plan.codes() {
-        if let Some(code) = plan.code_at(place) {
+    for index in 0..plan.codes() {
+        if let Some(code) = plan.code_at(index) {
             keep(serve_code(alloc, network, plan, code, work)?, codes)?;
         }
     }

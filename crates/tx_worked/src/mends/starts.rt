@@ -4,9 +4,9 @@ use std::alloc::Global;
 use tx_plan::{CodeId, ExchangeId, Plan};
 use tx_text::NoMemory;
 
-/// The count for the exchange at a place, if it has one.
-pub fn count_at(counts: &[Option<usize>], place: usize) -> Option<usize> {
-    match counts.get(place) {
+/// The count for the exchange at an index, if it has one.
+pub fn count_at(counts: &[Option<usize>], index: usize) -> Option<usize> {
+    match counts.get(index) {
         Some(count) => *count,
         None => None,
     }
@@ -35,8 +35,8 @@ pub fn put_starts(
     starts: &mut Vec<Survey>,
 ) -> Result<(), NoMemory> {
     starts.clear();
-    for place in 0..plan.exchanges() {
-        if let Some(start) = plan.exchange_at(place) {
+    for index in 0..plan.exchanges() {
+        if let Some(start) = plan.exchange_at(index) {
             starts.push(survey_from(alloc, plan, code, start, steps)?)?;
         }
     }

@@ -4,7 +4,7 @@ use tx_plan::{ExchangeId, GroupId, Plan};
 use tx_risk::Outage;
 use tx_text::NoMemory;
 
-/// What fails: a group, an exchange, or two groups, which are the named risk at a place.
+/// What fails: a group, an exchange, or two groups, which are the named risk at an index.
 #[derive(Clone, Copy)]
 pub enum Failing {
     Group(GroupId),
@@ -38,10 +38,10 @@ impl Failing {
         }
     }
 
-    /// Whether it is the named risk at this place.
-    fn is_named(self, place: usize) -> bool {
+    /// Whether it is the named risk at this index.
+    fn is_named(self, index: usize) -> bool {
         match self {
-            Failing::Both(risk, _, _) => place == risk,
+            Failing::Both(risk, _, _) => index == risk,
             _ => false,
         }
     }
@@ -51,20 +51,20 @@ impl Failing {
         match outage {
             Outage::Group(group) => self.is_group(group),
             Outage::Exchange(exchange) => self.is_exchange(exchange),
-            Outage::Named(place) => self.is_named(place),
+            Outage::Named(index) => self.is_named(index),
         }
     }
 }
 
 /// Adds each group and each exchange.
 fn add_each(plan: &Plan, all: &mut Vec<Failing>) -> Result<(), NoMemory> {
-    for place in 0..plan.groups() {
-        if let Some(group) = plan.group_at(place) {
+    for index in 0..plan.groups() {
+        if let Some(group) = plan.group_at(index) {
             all.push(Failing::Group(group))?;
         }
     }
-    for place in 0..plan.exchanges() {
-        if let Some(exchange) = plan.exchange_at(place) {
+    for index in 0..plan.exchanges() {
+        if let Some(exchange) = plan.exchange_at(index) {
             all.push(Failing::Exchange(exchange))?;
         }
     }
@@ -78,8 +78,8 @@ fn add_both(plan: &Plan, all: &mut Vec<Failing>) -> Result<(), NoMemory> {
         for j in i..plan.groups() {
             if let (Some(one), Some(other)) = (plan.group_at(i), plan.group_at(j)) {
                 if one != other {
-                    let place = all.len().saturating_sub(before);
-                    all.push(Failing::Both(place, one, other))?;
+                    let index = all.len().saturating_sub(before);
+                    all.push(Failing::Both(index, one, other))?;
                 }
             }
         }
@@ -97,14 +97,14 @@ pub fn put_failing(plan: &Plan, all: &mut Vec<Failing>) -> Result<(), NoMemory> 
 /// Adds the line of a named risk.
 fn put_risk(
     plan: &Plan,
-    place: usize,
+    index: usize,
     one: GroupId,
     other: GroupId,
     text: &mut Vec<u8>,
 ) -> Result<(), NoMemory> {
     let mut digits = Buffer::new();
     text.extend_from_slice(b"RISK R")?;
-    text.extend_from_slice(digits.format(place as u64).as_bytes())?;
+    text.extend_from_slice(digits.format(index as u64).as_bytes())?;
     text.push(b' ')?;
     text.extend_from_slice(plan.group_name(one))?;
     text.push(b' ')?;
@@ -118,8 +118,8 @@ pub fn put_risks(plan: &Plan, all: &[Failing], text: &mut Vec<u8>) -> Result<(),
     text.clear();
     text.extend_from_slice(b"RISKS 1\n")?;
     for failing in all {
-        if let Failing::Both(place, one, other) = *failing {
-            put_risk(plan, place, one, other, text)?;
+        if let Failing::Both(index, one, other) = *failing {
+            put_risk(plan, index, one, other, text)?;
         }
     }
     text.extend_from_slice(b"END\n")?;

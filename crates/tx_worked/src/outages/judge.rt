@@ -13,9 +13,9 @@ fn cuts_differ(plan: &Plan, cuts: &[Cut], wanted: &[WantedCut]) -> Option<Differ
     if cuts.len() != wanted.len() {
         return Some(Difference::Count);
     }
-    for (place, (cut, it)) in cuts.iter().zip(wanted).enumerate() {
+    for (index, (cut, it)) in cuts.iter().zip(wanted).enumerate() {
         if !it.is(plan, cut) {
-            return Some(Difference::CutAt(place));
+            return Some(Difference::CutAt(index));
         }
     }
     None

@@ -43,8 +43,8 @@ fn is_asked(left: &Left<'_>, exchange: ExchangeId) -> bool {
 
 /// Adds what is cut off of one code, by exchanges.
 fn add_code(left: &Left<'_>, wanted: &mut Vec<WantedCut>) -> Result<(), NoMemory> {
-    for place in 0..left.plan.exchanges() {
-        if let Some(start) = left.plan.exchange_at(place) {
+    for index in 0..left.plan.exchanges() {
+        if let Some(start) = left.plan.exchange_at(index) {
             if is_asked(left, start) {
                 let mut ways = NO_WAYS;
                 note_ways(left, start, 0, left.plan.exchanges(), &mut ways);
@@ -67,8 +67,8 @@ fn add_code(left: &Left<'_>, wanted: &mut Vec<WantedCut>) -> Result<(), NoMemory
 pub fn put_cuts(plan: &Plan, all: &[Failing], wanted: &mut Vec<WantedCut>) -> Result<(), NoMemory> {
     wanted.clear();
     for failing in all {
-        for place in 0..plan.codes() {
-            if let Some(code) = plan.code_at(place) {
+        for index in 0..plan.codes() {
+            if let Some(code) = plan.code_at(index) {
                 let left = Left {
                     plan,
                     code,

@@ -71,7 +71,7 @@ fn tell_answer(book: &LineBook, code: CodeId, number: &[u8], out: &mut Told) {
     tell(text, out);
 }
 
-/// What a line of a case says: the place of a code, a number, and what happens to the line first,
+/// What a line of a case says: the index of a code, a number, and what happens to the line first,
 /// if anything does.
 #[derive(Clone, Copy)]
 struct Asked<'a> {

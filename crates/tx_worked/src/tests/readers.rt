@@ -54,7 +54,7 @@ const ALFA: usize = 0;
 
 const BETA: usize = 1;
 
-fn has_places(plan: &Plan) -> bool {
+fn has_indexes(plan: &Plan) -> bool {
     plan.exchange_at(1) == Some(ExchangeId::of(BETA))
         && plan.code_at(1) == Some(CodeId::of(1))
         && plan.group_at(0) == Some(GroupId::of(0))
@@ -110,7 +110,7 @@ fn has_groups(plan: &Plan) -> bool {
 /// Writes what the readers of the small plan answer.
 fn tell_readers(plan: &Plan, out: &mut Told) {
     let answers = [
-        has_places(plan),
+        has_indexes(plan),
         has_range(plan),
         has_names(plan),
         gives_names(plan),

@@ -18,8 +18,8 @@ fn near(low: &[u8], chance: &mut Chance) -> Option<National> {
     let others = if chance.one_in(3) { 2 } else { 1 };
     let same = low.len().saturating_sub(others);
     let mut text = ArrayVec::<u8, 9>::new();
-    for (place, byte) in low.iter().enumerate() {
-        let byte = if place < same { *byte } else { figure(chance) };
+    for (index, byte) in low.iter().enumerate() {
+        let byte = if index < same { *byte } else { figure(chance) };
         let _ = text.try_push(byte);
     }
     National::read(text.as_slice())
@@ -127,7 +127,7 @@ fn first_for(kind: EventKind, calls: &[KnownCall]) -> Option<u32> {
     None
 }
 
-/// The number of a call for an event of this kind: the first from any place on, or else the first.
+/// The number of a call for an event of this kind: the first from any index on, or else the first.
 fn number_for(kind: EventKind, picture: &Picture, chance: &mut Chance) -> Option<u32> {
     let calls = picture.calls.as_slice();
     let start = chance.below(calls.len());
@@ -156,8 +156,8 @@ fn group(plan: &Plan, chance: &mut Chance) -> Option<GroupId> {
 /// A circuit of the plan.
 fn circuit(plan: &Plan, chance: &mut Chance) -> Option<Circuit> {
     let group = group(plan, chance)?;
-    let place = chance.below(plan.group_count(group) as usize);
-    let number = u32::try_from(place).ok()?.checked_add(1)?;
+    let index = chance.below(plan.group_count(group) as usize);
+    let number = u32::try_from(index).ok()?.checked_add(1)?;
     Some(Circuit { group, number })
 }
 

@@ -76,11 +76,11 @@ impl Picture {
         false
     }
 
-    /// The place of the call of this number, or one after all.
-    fn place(&self, number: u32) -> usize {
-        for (place, call) in self.calls.iter().enumerate() {
+    /// The index of the call of this number, or one after all.
+    fn index(&self, number: u32) -> usize {
+        for (index, call) in self.calls.iter().enumerate() {
             if call.number == number {
-                return place;
+                return index;
             }
         }
         usize::MAX
@@ -88,7 +88,7 @@ impl Picture {
 
     /// The phase of the call of this number.
     fn phase(&self, number: u32) -> Option<Phase> {
-        let call = self.calls.get(self.place(number))?;
+        let call = self.calls.get(self.index(number))?;
         Some(call.phase)
     }
 
@@ -106,8 +106,8 @@ impl Picture {
     }
 
     fn set_phase(&mut self, number: u32, phase: Phase) {
-        let place = self.place(number);
-        if let Some(call) = self.calls.get_mut(place) {
+        let index = self.index(number);
+        if let Some(call) = self.calls.get_mut(index) {
             call.phase = phase;
         }
     }

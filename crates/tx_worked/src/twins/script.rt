@@ -130,15 +130,15 @@ fn go_on<P: Network, E: Network>(
     }
 }
 
-/// Why a script stops at the event of this place. Where the networks differ there, the tally takes
+/// Why a script stops at the event of this index. Where the networks differ there, the tally takes
 /// it in.
-fn stop_at(halt: Halt, seed: u64, place: u32, tally: &mut EventTally) -> Stop {
+fn stop_at(halt: Halt, seed: u64, index: u32, tally: &mut EventTally) -> Stop {
     match halt {
         Halt::NoMemory => Stop::NoMemory,
         Halt::Differs(difference) => {
             tally.differs = Some(Differs {
                 seed,
-                place,
+                index,
                 difference,
             });
             Stop::Differs
@@ -157,13 +157,13 @@ fn play_events<P: Network, E: Network>(
     tally: &mut EventTally,
 ) -> Result<(), Stop> {
     let mut chance = Chance::new(script.seed);
-    for place in 0..script.length {
-        let mood = script.seed.wrapping_add(u64::from(place / MOOD_EVENTS));
+    for index in 0..script.length {
+        let mood = script.seed.wrapping_add(u64::from(index / MOOD_EVENTS));
         let event = next_event(plan, picture, &mut chance, mood, script.most);
         let takes_tickets = !chance.one_in(4);
         let played = go_on(plain, engine, memory, &event, takes_tickets, picture, tally);
         if let Err(halt) = played {
-            return Err(stop_at(halt, script.seed, place, tally));
+            return Err(stop_at(halt, script.seed, index, tally));
         }
     }
     Ok(())

@@ -7,14 +7,14 @@ use crate::twins::twins::Mismatch;
 pub struct Differs {
     /// The seed of the script.
     pub seed: u64,
-    /// The place of the event, from 0.
-    pub place: u32,
+    /// The index of the event, from 0.
+    pub index: u32,
     pub difference: Mismatch,
 }
 
 /// Tells in what the networks differ, and after which event of which script.
 fn tell_differs(differs: &Differs, out: &mut Told) {
-    tell_broken(differs.difference.law(), u64::from(differs.place), out);
+    tell_broken(differs.difference.law(), u64::from(differs.index), out);
     tell_count(b"of the script of seed ", differs.seed, b"\n", out);
 }
 

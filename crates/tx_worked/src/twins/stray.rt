@@ -7,8 +7,8 @@ use tx_machine::{Event, Party};
 use tx_plan::{Circuit, CodeId, GroupId, Line, National, Plan};
 use tx_text::Figures;
 
-/// A place below a count, or one of the two after it.
-fn place(count: usize, chance: &mut Chance) -> usize
+/// An index below a count, or one of the two after it.
+fn index(count: usize, chance: &mut Chance) -> usize
     ensures { result < 65536 }
 {
     chance.below(count.saturating_add(2)).min(65535)
@@ -24,12 +24,12 @@ fn number(picture: &Picture, chance: &mut Chance) -> u32 {
 }
 
 fn group(plan: &Plan, chance: &mut Chance) -> GroupId {
-    GroupId::of(place(plan.groups(), chance))
+    GroupId::of(index(plan.groups(), chance))
 }
 
 fn circuit(plan: &Plan, chance: &mut Chance) -> Circuit {
     let group = group(plan, chance);
-    let number = place(plan.group_count(group) as usize, chance);
+    let number = index(plan.group_count(group) as usize, chance);
     Circuit {
         group,
         number: number as u32,
@@ -37,7 +37,7 @@ fn circuit(plan: &Plan, chance: &mut Chance) -> Circuit {
 }
 
 fn line(plan: &Plan, chance: &mut Chance) -> Option<Line> {
-    let code = CodeId::of(place(plan.codes(), chance));
+    let code = CodeId::of(index(plan.codes(), chance));
     let range = plan.range_at(chance.below(plan.ranges()))?;
     let national = if chance.one_in(2) {
         range.low

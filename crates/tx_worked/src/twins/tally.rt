@@ -42,7 +42,7 @@ static CAUSES: [&str; 4] = ["answered", "cleared_by_caller", "cleared_by_called"
 /// memory.
 static WANTS: [&str; 5] = ["key", "route", "line_fault", "line_away", "other"];
 
-/// Counts of events and of tickets, each at the place of its name.
+/// Counts of events and of tickets, each at the index of its name.
 #[derive(Clone, Copy)]
 pub struct EventTally {
     pub events: u64,
@@ -68,16 +68,16 @@ fn add_one(count: &mut u64) {
     *count = count.saturating_add(1);
 }
 
-/// Adds one to the count at a place, if there is one.
-fn count_at(counts: &mut [u64], place: usize) {
-    if let Some(count) = counts.get_mut(place) {
+/// Adds one to the count at an index, if there is one.
+fn count_at(counts: &mut [u64], index: usize) {
+    if let Some(count) = counts.get_mut(index) {
         add_one(count);
     }
 }
 
-/// The place of a reply in `REPLIES`, of which an answer and a refusal have none: these are counted
+/// The index of a reply in `REPLIES`, of which an answer and a refusal have none: these are counted
 /// by what they say.
-fn reply_place(reply: &Reply) -> usize {
+fn reply_index(reply: &Reply) -> usize {
     match reply {
         Reply::Keyed(_) => 0,
         Reply::Seized(_) => 1,
@@ -101,8 +101,8 @@ fn reply_place(reply: &Reply) -> usize {
     }
 }
 
-/// The place of a refusal in `REFUSALS`.
-fn refusal_place(refusal: Refusal) -> usize {
+/// The index of a refusal in `REFUSALS`.
+fn refusal_index(refusal: Refusal) -> usize {
     match refusal {
         Refusal::UnknownCall => 0,
         Refusal::NotStanding => 1,
@@ -119,8 +119,8 @@ fn refusal_place(refusal: Refusal) -> usize {
     }
 }
 
-/// The place of a cause in `CAUSES`.
-fn cause_place(cause: Cause) -> usize {
+/// The index of a cause in `CAUSES`.
+fn cause_index(cause: Cause) -> usize {
     match cause {
         Cause::Service(_) => 0,
         Cause::ClearedByCaller => 1,
@@ -129,8 +129,8 @@ fn cause_place(cause: Cause) -> usize {
     }
 }
 
-/// The place of an event in `WANTS`.
-fn want_place(event: &Event) -> usize {
+/// The index of an event in `WANTS`.
+fn want_index(event: &Event) -> usize {
     match event {
         Event::Key { .. } => 0,
         Event::Route(_) => 1,
@@ -168,23 +168,23 @@ impl EventTally {
         add_one(&mut self.events);
         match reply {
             Reply::Refused(refusal) => {
-                return count_at(&mut self.refusals, refusal_place(*refusal));
+                return count_at(&mut self.refusals, refusal_index(*refusal));
             }
             Reply::Answered(service) => {
                 count_at(&mut self.answers, Cause::Service(*service).index())
             },
-            _ => count_at(&mut self.replies, reply_place(reply)),
+            _ => count_at(&mut self.replies, reply_index(reply)),
         }
         add_one(&mut self.accepted);
     }
 
     pub fn note_cause(&mut self, cause: Cause) {
-        count_at(&mut self.causes, cause_place(cause));
+        count_at(&mut self.causes, cause_index(cause));
     }
 
     /// Takes in that an event met a request for memory that was refused.
     pub fn note_want(&mut self, event: &Event) {
-        count_at(&mut self.wants, want_place(event));
+        count_at(&mut self.wants, want_index(event));
     }
 }
 

@@ -13,13 +13,13 @@ pub enum Difference {
     Found,
     /// Findings where nothing is wrong, or more or fewer of them than there are.
     Count,
-    /// The finding at this place.
+    /// The finding at this index.
     FindingAt(usize),
     /// The rank of an exchange for a code.
     RankAt(CodeId, ExchangeId),
     /// A certificate that the checker refuses.
     Refused,
-    /// The events of the finding at this place.
+    /// The events of the finding at this index.
     ScriptAt(usize),
     /// The events of the first finding that has some.
     FirstScript,
@@ -41,7 +41,7 @@ pub enum Difference {
     ListAt(CodeId, ExchangeId),
     /// The order of the routes of a mended plan.
     Order,
-    /// The cut at this place.
+    /// The cut at this index.
     CutAt(usize),
 }
 
@@ -85,9 +85,9 @@ pub fn findings_differ(
     if wanted.is_empty() || findings.len() != wanted.len() {
         return Some(Difference::Count);
     }
-    for place in 0..wanted.len() {
-        if !shows(plan, &findings[place], wanted[place], limits) {
-            return Some(Difference::FindingAt(place));
+    for index in 0..wanted.len() {
+        if !shows(plan, &findings[index], wanted[index], limits) {
+            return Some(Difference::FindingAt(index));
         }
     }
     None
@@ -96,8 +96,8 @@ pub fn findings_differ(
 /// How the ranks for each code differ from the heights.
 pub fn ranks_differ(plan: &Plan, surveys: &[Survey], cert: &Cert) -> Option<Difference> {
     for survey in surveys {
-        for (place, height) in survey.heights.iter().enumerate() {
-            let exchange = plan.exchange_at(place)?;
+        for (index, height) in survey.heights.iter().enumerate() {
+            let exchange = plan.exchange_at(index)?;
             if cert.rank(survey.code, exchange).map(usize::from) != *height {
                 return Some(Difference::RankAt(survey.code, exchange));
             }

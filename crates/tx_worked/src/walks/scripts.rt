@@ -166,7 +166,7 @@ pub fn is_right(
     }
 }
 
-/// The place of the first finding whose events are wrong.
+/// The index of the first finding whose events are wrong.
 fn wrong_finding(
     alloc: Global,
     plan: &Plan,
@@ -177,10 +177,10 @@ fn wrong_finding(
 ) -> Result<Option<usize>, NoMemory>
     requires { AllByRecursion (IsTrueOf plan.now limits.limit limits.spare) findings.now }
 {
-    for place in 0..findings.len() {
-        let finding = &findings[place];
+    for index in 0..findings.len() {
+        let finding = &findings[index];
         if !is_right(alloc, plan, finding, limits, told)? {
-            return Ok(Some(place));
+            return Ok(Some(index));
         }
         tally.add(finding);
     }
@@ -259,8 +259,8 @@ pub fn scripts_differ(
         findings.now }
 {
     let limits = judged.limits;
-    if let Some(place) = wrong_finding(alloc, plan, findings, limits, told, tally)? {
-        return Ok(Some(Difference::ScriptAt(place)));
+    if let Some(index) = wrong_finding(alloc, plan, findings, limits, told, tally)? {
+        return Ok(Some(Difference::ScriptAt(index)));
     }
     if !is_first_right(alloc, plan, findings, judged, told, tally)? {
         return Ok(Some(Difference::FirstScript));

@@ -10,15 +10,15 @@ pub struct WalksDiffer {
     pub difference: Difference,
 }
 
-/// How an answer differs, in a word, and the place of the finding or of the exchange.
+/// How an answer differs, in a word, and the index of the finding or of the exchange.
 fn said(difference: Difference) -> (&'static [u8], u64) {
     match difference {
         Difference::Found => (b"found ", 0),
         Difference::Count => (b"count ", 0),
-        Difference::FindingAt(place) => (b"finding ", place as u64),
+        Difference::FindingAt(index) => (b"finding ", index as u64),
         Difference::RankAt(_, exchange) => (b"rank ", exchange.index() as u64),
         Difference::Refused => (b"refused ", 0),
-        Difference::ScriptAt(place) => (b"script ", place as u64),
+        Difference::ScriptAt(index) => (b"script ", index as u64),
         Difference::FirstScript => (b"first script ", 0),
         Difference::Grade => (b"grade ", 0),
         Difference::Networks => (b"networks ", 0),
@@ -29,7 +29,7 @@ fn said(difference: Difference) -> (&'static [u8], u64) {
         Difference::Before => (b"before ", 0),
         Difference::ListAt(_, exchange) => (b"list ", exchange.index() as u64),
         Difference::Order => (b"order ", 0),
-        Difference::CutAt(place) => (b"cut ", place as u64),
+        Difference::CutAt(index) => (b"cut ", index as u64),
     }
 }
 
@@ -37,8 +37,8 @@ fn said(difference: Difference) -> (&'static [u8], u64) {
 fn tell_differs(differs: &WalksDiffer, out: &mut Told) {
     tell_count(b"limit ", u64::from(differs.limits.limit), b", ", out);
     tell_count(b"spare ", u64::from(differs.limits.spare), b": ", out);
-    let (word, place) = said(differs.difference);
-    tell_count(word, place, b"\n", out);
+    let (word, index) = said(differs.difference);
+    tell_count(word, index, b"\n", out);
 }
 
 /// Writes why the judging stopped, and the plan where it did.

@@ -23,16 +23,16 @@ pub struct Survey {
     pub groups: Vec<usize>,
 }
 
-/// Takes in a count for the exchange at a place, where it is the greater.
-fn note_greater(counts: &mut [Option<usize>], place: usize, count: usize) {
-    if let Some(known) = counts.get_mut(place) {
+/// Takes in a count for the exchange at an index, where it is the greater.
+fn note_greater(counts: &mut [Option<usize>], index: usize, count: usize) {
+    if let Some(known) = counts.get_mut(index) {
         *known = Some(known.unwrap_or(0).max(count));
     }
 }
 
-/// Takes in a count for the exchange at a place, where it is the lesser.
-pub fn note_lesser(counts: &mut [Option<usize>], place: usize, count: usize) {
-    if let Some(known) = counts.get_mut(place) {
+/// Takes in a count for the exchange at an index, where it is the lesser.
+pub fn note_lesser(counts: &mut [Option<usize>], index: usize, count: usize) {
+    if let Some(known) = counts.get_mut(index) {
         *known = Some(known.unwrap_or(count).min(count));
     }
 }
@@ -50,8 +50,8 @@ fn note_heights(heights: &mut [Option<usize>], trail: &Trail<'_>) {
 /// How many groups each exchange lists for a code.
 fn list_lengths(alloc: Global, plan: &Plan, code: CodeId) -> Result<Vec<usize>, NoMemory> {
     let mut lengths = Vec::new(alloc);
-    for place in 0..plan.exchanges() {
-        if let Some(exchange) = plan.exchange_at(place) {
+    for index in 0..plan.exchanges() {
+        if let Some(exchange) = plan.exchange_at(index) {
             lengths.push(plan.list(exchange, code).len())?;
         }
     }
@@ -106,14 +106,14 @@ impl Survey {
         for (known, away) in self.away.iter_mut().zip(&other.away) {
             *known |= *away;
         }
-        for (place, steps) in other.nearest.iter().enumerate() {
+        for (index, steps) in other.nearest.iter().enumerate() {
             if let Some(steps) = *steps {
-                note_lesser(&mut self.nearest, place, steps);
+                note_lesser(&mut self.nearest, index, steps);
             }
         }
-        for (place, steps) in other.heights.iter().enumerate() {
+        for (index, steps) in other.heights.iter().enumerate() {
             if let Some(steps) = *steps {
-                note_greater(&mut self.heights, place, steps);
+                note_greater(&mut self.heights, index, steps);
             }
         }
         for (known, groups) in self.groups.iter_mut().zip(&other.groups) {

@@ -25,8 +25,8 @@ pub fn survey_codes(
     surveys: &mut Vec<Survey>,
 ) -> Result<(), NoMemory> {
     surveys.clear();
-    for place in 0..plan.codes() {
-        if let Some(code) = plan.code_at(place) {
+    for index in 0..plan.codes() {
+        if let Some(code) = plan.code_at(index) {
             surveys.push(survey_of(alloc, plan, code, steps)?)?;
         }
     }

@@ -38,10 +38,10 @@ impl<'a> Trail<'a> {
 
     /// Whether nothing repeats.
     pub fn is_simple(&self) -> bool {
-        for (place, (_, to)) in self.steps.iter().enumerate() {
+        for (index, (_, to)) in self.steps.iter().enumerate() {
             let before = Trail {
                 start: self.start,
-                steps: self.steps.split_at(place.min(self.steps.len())).0,
+                steps: self.steps.split_at(index.min(self.steps.len())).0,
             };
             if before.passes(*to) {
                 return false;

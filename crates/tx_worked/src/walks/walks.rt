@@ -37,8 +37,8 @@ pub fn note_walks(
 /// Takes in all walks for a code of which nothing but the last exchange repeats. None of them has
 /// more steps than there are exchanges.
 pub fn note_all_walks(plan: &Plan, steps: &mut Steps, survey: &mut Survey) -> Result<(), NoMemory> {
-    for place in 0..plan.exchanges() {
-        if let Some(origin) = plan.exchange_at(place) {
+    for index in 0..plan.exchanges() {
+        if let Some(origin) = plan.exchange_at(index) {
             if plan.is_origin_for(origin, survey.code) {
                 steps.clear();
                 note_walks(plan, origin, steps, plan.exchanges(), survey)?;

@@ -75,9 +75,9 @@ fn add_shorts(
     spare: u8,
     wanted: &mut Vec<Wanted>,
 ) -> Result<(), NoMemory> {
-    for (place, nearest) in survey.nearest.iter().enumerate() {
-        if let (Some(exchange), Some(steps)) = (plan.exchange_at(place), *nearest) {
-            let groups = survey.groups.get(place).copied().unwrap_or(0);
+    for (index, nearest) in survey.nearest.iter().enumerate() {
+        if let (Some(exchange), Some(steps)) = (plan.exchange_at(index), *nearest) {
+            let groups = survey.groups.get(index).copied().unwrap_or(0);
             if exchange != survey.home && groups <= usize::from(spare) {
                 wanted.push(Wanted::Short(survey.code, exchange, steps))?;
             }

@@ -4,5 +4,5 @@ use Rattle.tx_plan.specs.declared.range.LineRange.{LineRange}
 use Rattle.tx_audit.specs.Counter.{first_range}
 use Rattle.tx_audit.proofs.free_line.first_range.Given as goal
 
-abbrev pub invariant-loop-place : goal.invariant-loop-place
-invariant-loop-place g l = first_range l.plan l.code ≡ find (λ (r : LineRange). r.code == l.code) (drop l.place l.plan.ranges)
+abbrev pub invariant-loop-index : goal.invariant-loop-index
+invariant-loop-index g l = first_range l.plan l.code ≡ find (λ (r : LineRange). r.code == l.code) (drop l.index l.plan.ranges)

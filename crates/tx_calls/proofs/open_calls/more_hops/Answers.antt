@@ -1,7 +1,7 @@
 use Rattle.std.proofs.Common.{◌≡◌, ◌<◌, ◌≤◌, Some, is_some, refl, ap, sym, ◌∙◌, arith, subst, rules}
 use Rattle.std.proofs.lemmas.Bool.{false≢true}
 use Rattle.slab.proofs.SlabLemmas.{Updates-with_value}
-use Rattle.tx_calls.specs.Calls.{kept_of}
+use Rattle.tx_calls.specs.KeptCalls.{kept_of}
 use Rattle.tx_machine.specs.Seen.{call_seen}
 use Rattle.tx_calls.proofs.open_calls.more_hops.Goals as goal
 

@@ -5,6 +5,6 @@ use Rattle.tx_text.specs.Wrote.{WroteBy}
 use Rattle.tx_cert.specs.CertText.{code_lines}
 use Rattle.tx_cert.proofs.cert_writer.write_ranks.Given as goal
 
-abbrev pub invariant-loop-place : goal.invariant-loop-place
-invariant-loop-place g l =
-    WroteBy (g.W.Sink.taken l.initial.sink) (g.W.Sink.taken l.sink) (g.W.Sink.failed l.initial.sink) (g.W.Sink.failed l.sink) (flat_map line_written (flat_map (λ c. code_lines l.plan l.cert c (range_with_len 0 (length l.plan.exchanges))) (range_with_len 0 l.place))) (Ok tt)
+abbrev pub invariant-loop-index : goal.invariant-loop-index
+invariant-loop-index g l =
+    WroteBy (g.W.Sink.taken l.initial.sink) (g.W.Sink.taken l.sink) (g.W.Sink.failed l.initial.sink) (g.W.Sink.failed l.sink) (flat_map line_written (flat_map (λ c. code_lines l.plan l.cert c (range_with_len 0 (length l.plan.exchanges))) (range_with_len 0 l.index))) (Ok tt)

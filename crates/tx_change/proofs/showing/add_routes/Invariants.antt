@@ -3,5 +3,5 @@ use Rattle.std.specs.Prelude.{filter}
 use Rattle.tx_change.specs.inner.Kept.{keeps_route}
 use Rattle.tx_change.proofs.showing.add_routes.Given as goal
 
-abbrev pub invariant-loop-place : goal.invariant-loop-place
-invariant-loop-place g l = l.routes ≡ l.initial.routes ++ filter (keeps_route l.from_new l.taking) (take l.place l.from.routes)
+abbrev pub invariant-loop-index : goal.invariant-loop-index
+invariant-loop-index g l = l.routes ≡ l.initial.routes ++ filter (keeps_route l.from_new l.taking) (take l.index l.from.routes)

@@ -4,5 +4,5 @@ use Rattle.tx_check.specs.Checks.{ranks_for, at_exchanges, too_short_at, target_
 use Rattle.tx_check.specs.inner.Firsts.{firsts_of}
 use Rattle.tx_check.proofs.lists.list_faults.Given as goal
 
-abbrev pub invariant-loop-place : goal.invariant-loop-place
-invariant-loop-place g l = l.firsts ≡ firsts_of (flat_map (λ c. at_exchanges l.plan (too_short_at l.plan (ranks_for l.plan l.cert) l.spare c)) (range_with_len 0 l.place)) (flat_map (λ c. at_exchanges l.plan (target_unranked_at l.plan (ranks_for l.plan l.cert) c)) (range_with_len 0 l.place)) (flat_map (λ c. at_exchanges l.plan (not_lower_at l.plan (ranks_for l.plan l.cert) c)) (range_with_len 0 l.place))
+abbrev pub invariant-loop-index : goal.invariant-loop-index
+invariant-loop-index g l = l.firsts ≡ firsts_of (flat_map (λ c. at_exchanges l.plan (too_short_at l.plan (ranks_for l.plan l.cert) l.spare c)) (range_with_len 0 l.index)) (flat_map (λ c. at_exchanges l.plan (target_unranked_at l.plan (ranks_for l.plan l.cert) c)) (range_with_len 0 l.index)) (flat_map (λ c. at_exchanges l.plan (not_lower_at l.plan (ranks_for l.plan l.cert) c)) (range_with_len 0 l.index))

@@ -8,10 +8,10 @@ returns-then-is_some g c =
     let p = c.args.plan.now in
     let ranks = ranks_for p c.args.cert.now in
     let some : is_some c.height_fault_for-found.result ≡ true = search rules in
-    found_at (λ k. at_exchanges p (too_high_at ranks c.args.limit k)) c.loop-place.place (length p.codes) _ _ (omega arith) c.of.ensures c.height_fault_for-found.ensures some c.loop-place.invariant
+    found_at (λ k. at_exchanges p (too_high_at ranks c.args.limit k)) c.loop-index.index (length p.codes) _ _ (omega arith) c.of.ensures c.height_fault_for-found.ensures some c.loop-index.invariant
 
 pub returns : goal.returns
 returns g c =
     let p = c.args.plan.now in
     let ranks = ranks_for p c.args.cert.now in
-    found_none (λ k. at_exchanges p (too_high_at ranks c.args.limit k)) (length p.codes) (λ k l. c.loop-place.invariant k (omega arith))
+    found_none (λ k. at_exchanges p (too_high_at ranks c.args.limit k)) (length p.codes) (λ k l. c.loop-index.invariant k (omega arith))

@@ -2,5 +2,5 @@ use Rattle.std.proofs.Common.{◌≡◌, ℕ, ◌<◌, []}
 use Rattle.tx_check.specs.Checks.{ranks_for, at_exchanges, too_high_at}
 use Rattle.tx_check.proofs.passes.height_fault.Given as goal
 
-abbrev pub invariant-loop-place : goal.invariant-loop-place
-invariant-loop-place g l = (k : ℕ) → k < l.place → at_exchanges l.plan (too_high_at (ranks_for l.plan l.cert) l.limit k) ≡ []
+abbrev pub invariant-loop-index : goal.invariant-loop-index
+invariant-loop-index g l = (k : ℕ) → k < l.index → at_exchanges l.plan (too_high_at (ranks_for l.plan l.cert) l.limit k) ≡ []

@@ -8,10 +8,10 @@ returns-then-is_some g c =
     let p = c.args.plan.now in
     let ranks = ranks_for p c.args.cert.now in
     let some : is_some c.height_fault_at-found.result ≡ true = search rules in
-    found_at (too_high_at ranks c.args.limit c.args.code) c.loop-place.place (length p.exchanges) _ _ (omega arith) c.of.ensures c.height_fault_at-found.ensures some c.loop-place.invariant
+    found_at (too_high_at ranks c.args.limit c.args.code) c.loop-index.index (length p.exchanges) _ _ (omega arith) c.of.ensures c.height_fault_at-found.ensures some c.loop-index.invariant
 
 pub returns : goal.returns
 returns g c =
     let p = c.args.plan.now in
     let ranks = ranks_for p c.args.cert.now in
-    found_none (too_high_at ranks c.args.limit c.args.code) (length p.exchanges) (λ k l. c.loop-place.invariant k (omega arith))
+    found_none (too_high_at ranks c.args.limit c.args.code) (length p.exchanges) (λ k l. c.loop-index.invariant k (omega arith))

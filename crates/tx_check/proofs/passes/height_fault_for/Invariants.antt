@@ -2,5 +2,5 @@ use Rattle.std.proofs.Common.{◌≡◌, ℕ, ◌<◌, []}
 use Rattle.tx_check.specs.Checks.{ranks_for, too_high_at}
 use Rattle.tx_check.proofs.passes.height_fault_for.Given as goal
 
-abbrev pub invariant-loop-place : goal.invariant-loop-place
-invariant-loop-place g l = (k : ℕ) → k < l.place → too_high_at (ranks_for l.plan l.cert) l.limit l.code k ≡ []
+abbrev pub invariant-loop-index : goal.invariant-loop-index
+invariant-loop-index g l = (k : ℕ) → k < l.index → too_high_at (ranks_for l.plan l.cert) l.limit l.code k ≡ []

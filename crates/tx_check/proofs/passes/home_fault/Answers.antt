@@ -8,15 +8,15 @@ returns-then-is_some g c =
     let p = c.args.plan.now in
     let ranks = ranks_for p c.args.cert.now in
     let some : is_some c.home_fault_for-found.result ≡ true = search rules in
-    found_at (home_not_zero_at p ranks) c.loop-place.place (length p.codes) _ _ (omega arith) c.of.ensures c.home_fault_for-found.ensures some c.loop-place.invariant
+    found_at (home_not_zero_at p ranks) c.loop-index.index (length p.codes) _ _ (omega arith) c.of.ensures c.home_fault_for-found.ensures some c.loop-index.invariant
 
 pub returns : goal.returns
 returns g c =
     let p = c.args.plan.now in
     let ranks = ranks_for p c.args.cert.now in
-    found_none (home_not_zero_at p ranks) (length p.codes) (λ k l. c.loop-place.invariant k (omega arith))
+    found_none (home_not_zero_at p ranks) (length p.codes) (λ k l. c.loop-index.invariant k (omega arith))
 
-pub loop-place-preserved : goal.loop-place-preserved
-loop-place-preserved g c =
+pub loop-index-preserved : goal.loop-index-preserved
+loop-index-preserved g c =
     let p = c.args.plan.now in
-    passed_at (home_not_zero_at p (ranks_for p c.args.cert.now)) c.loop-place.place _ _ c.of.ensures c.home_fault_for-found.ensures (sym c.is_some.ensures ∙ c.if-is_some.false) c.loop-place.invariant
+    passed_at (home_not_zero_at p (ranks_for p c.args.cert.now)) c.loop-index.index _ _ c.of.ensures c.home_fault_for-found.ensures (sym c.is_some.ensures ∙ c.if-is_some.false) c.loop-index.invariant

@@ -2,5 +2,5 @@ use Rattle.std.proofs.Common.{◌≡◌, ℕ, ◌<◌, []}
 use Rattle.tx_check.specs.Checks.{ranks_for, origin_unranked_at}
 use Rattle.tx_check.proofs.passes.origin_fault_for.Given as goal
 
-abbrev pub invariant-loop-place : goal.invariant-loop-place
-invariant-loop-place g l = (k : ℕ) → k < l.place → origin_unranked_at l.plan (ranks_for l.plan l.cert) l.code k ≡ []
+abbrev pub invariant-loop-index : goal.invariant-loop-index
+invariant-loop-index g l = (k : ℕ) → k < l.index → origin_unranked_at l.plan (ranks_for l.plan l.cert) l.code k ≡ []

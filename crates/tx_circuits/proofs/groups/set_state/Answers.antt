@@ -2,10 +2,10 @@ use Rattle.std.proofs.Common.{◌≡◌, ◌∙◌, ◌<◌, ◌≤◌, ℕ, Boo
 use Rattle.std.proofs.lemmas.List.{length-map, map-set}
 use Rattle.tx_circuits.specs.declared.lists.End.{End}
 use Rattle.tx_circuits.specs.declared.lists.End.TheVariants.{First, Other}
-use Rattle.tx_circuits.specs.declared.slot.State.{State}
+use Rattle.tx_circuits.specs.declared.slot.CircuitState.{CircuitState}
 use Rattle.tx_circuits.specs.inner.Linked.{with}
 use Rattle.tx_circuits.specs.inner.Slots.{free_at, is_free, state_of, IsListed}
-use Rattle.tx_circuits.proofs.Places.{each_end}
+use Rattle.tx_circuits.proofs.Indexes.{each_end}
 use Rattle.tx_circuits.proofs.Sound.{are_linked, are_sound, listed_along, free_alike, after_write}
 use Rattle.tx_circuits.proofs.groups.set_state.Goals as goal
 
@@ -21,18 +21,18 @@ relink-requires-2-clause-listed c =
 
 pub returns-clause-states : goal.returns-clause-states
 returns-clause-states c =
-    map-set state_of c.relink-2.new.slots c.args.place _ ∙ ap (λ (l : List State). slice_set l c.args.place c.args.to) (c.relink-2.ensures.states ∙ c.relink.ensures.states)
+    map-set state_of c.relink-2.new.slots c.args.index _ ∙ ap (λ (l : List CircuitState). slice_set l c.args.index c.args.to) (c.relink-2.ensures.states ∙ c.relink.ensures.states)
 
 pub returns-clause-sound : goal.returns-clause-sound
 returns-clause-sound c =
     let old = c.args.slots.now in
     let one = c.relink.new.slots in
     let two = c.relink-2.new.slots in
-    let i = c.args.place in
+    let i = c.args.index in
     let to = c.args.to in
     let states : map state_of two ≡ map state_of old = c.relink-2.ensures.states ∙ c.relink.ensures.states in
     let len : length two ≡ length old = sym (length-map two state_of) ∙ ap length states ∙ length-map old state_of in
-    let inside : i < length two = (let a : i < length old = c.requires.place in omega arith) in
+    let inside : i < length two = (let a : i < length old = c.requires.index in omega arith) in
     let still = λ (end : End) (f g : ℕ → Bool) (e : (k : ℕ) → f k ≡ g k). let same : f ≡ g = (λ j k. e k j) in
     ap (λ (h : ℕ → Bool). with h i (is_free end to)) same in
     are_sound _ _ (let a : length old ≤ 240 = c.requires.sound.short in simp length-set (omega arith))

@@ -4,23 +4,23 @@ use Rattle.tx_circuits.specs.declared.lists.Way.TheVariants.{Up, Down}
 use Rattle.tx_circuits.specs.inner.Linked.{IsFirst, IsLast, with}
 use Rattle.tx_circuits.specs.inner.Slots.{free_at, chain, rank_of, ahead, back}
 use Rattle.tx_circuits.proofs.Linked.{put, with_here, with_there, to_first, are_ranked}
-use Rattle.tx_circuits.proofs.Places.{free_within, free_below, last_within, not_itself, each_way}
+use Rattle.tx_circuits.proofs.Indexes.{free_within, free_below, last_within, not_itself, each_way}
 use Rattle.tx_circuits.proofs.lists.put.Goals as goal
 
 pub insert-requires-clause-above : goal.insert-requires-clause-above
 insert-requires-clause-above c =
-    last_within (free_at c.args.end c.args.slots.now) (rank_of Down) (rank_of Down c.args.place) (length c.args.slots.now) (free_within c.args.end c.args.slots.now) c.neighbours-links.result.above
+    last_within (free_at c.args.end c.args.slots.now) (rank_of Down) (rank_of Down c.args.index) (length c.args.slots.now) (free_within c.args.end c.args.slots.now) c.neighbours-links.result.above
     (c.neighbours-links.ensures Down)
 
 pub insert-requires-clause-below : goal.insert-requires-clause-below
 insert-requires-clause-below c =
-    last_within (free_at c.args.end c.args.slots.now) (rank_of Up) (rank_of Up c.args.place) (length c.args.slots.now) (free_within c.args.end c.args.slots.now) c.neighbours-links.result.below
+    last_within (free_at c.args.end c.args.slots.now) (rank_of Up) (rank_of Up c.args.index) (length c.args.slots.now) (free_within c.args.end c.args.slots.now) c.neighbours-links.result.below
     (c.neighbours-links.ensures Up)
 
 pub insert-requires-clause-apart : goal.insert-requires-clause-apart
 insert-requires-clause-apart c =
     let free = free_at c.args.end c.args.slots.now in
-    let i = c.args.place in
+    let i = c.args.index in
     each_way _
     (not_itself free (rank_of Down) (rank_of Down i) i c.requires.taken c.neighbours-links.result.above (c.neighbours-links.ensures Down))
     (not_itself free (rank_of Up) (rank_of Up i) i c.requires.taken c.neighbours-links.result.below (c.neighbours-links.ensures Up))
@@ -29,9 +29,9 @@ pub returns-clause-listed : goal.returns-clause-listed
 returns-clause-listed c =
     let end = c.args.end in
     let slots = c.args.slots.now in
-    let i = c.args.place in
+    let i = c.args.index in
     let short = c.requires.short in
-    let i_in : i < 240 = (let a : i < length slots = c.requires.place in omega arith) in
+    let i_in : i < 240 = (let a : i < length slots = c.requires.index in omega arith) in
     let free = free_at end slots in
     let inside = free_below end slots short in
     let links = c.neighbours-links.result in

@@ -8,7 +8,7 @@ use Rattle.tx_circuits.specs.declared.slot.Slot.{Slot}
 use Rattle.tx_circuits.specs.inner.Linked.{IsFirst, with}
 use Rattle.tx_circuits.specs.inner.Slots.{free_at, chain, link_at, rank_of, ahead, back, IsListed}
 use Rattle.tx_circuits.proofs.Linked.{take, with_here, with_there, to_last, are_ranked}
-use Rattle.tx_circuits.proofs.Places.{free_within, free_below, first_within, each_way}
+use Rattle.tx_circuits.proofs.Indexes.{free_within, free_below, first_within, each_way}
 use Rattle.tx_circuits.proofs.lists.take.Goals as goal
 
 -- what follows a free circuit in a way lies in the group
@@ -19,20 +19,20 @@ module _ (end : End) (slots : List Slot) (list : FreeList) (listed : IsListed (f
       (first_within (free_at end slots) (rank_of way) (rank_of way i + 1) (length slots) (free_within end slots) (link_at end way slots i) ((listed way).goes_on i free))
 
 pub lead-requires : goal.lead-requires
-lead-requires c = next_within c.args.end c.args.slots.now c.args.list.now c.requires.listed c.args.place c.requires.free Down _ (c.links_at-links.ensures Down)
+lead-requires c = next_within c.args.end c.args.slots.now c.args.list.now c.requires.listed c.args.index c.requires.free Down _ (c.links_at-links.ensures Down)
 
 pub lead-requires-2 : goal.lead-requires-2
 lead-requires-2 c =
     subst (λ (n : ℕ). IfSome c.links_at-links.result.above (λ k. k < n)) (sym c.lead.auto.slots)
-    (next_within c.args.end c.args.slots.now c.args.list.now c.requires.listed c.args.place c.requires.free Up _ (c.links_at-links.ensures Up))
+    (next_within c.args.end c.args.slots.now c.args.list.now c.requires.listed c.args.index c.requires.free Up _ (c.links_at-links.ensures Up))
 
 pub returns-clause-listed : goal.returns-clause-listed
 returns-clause-listed c =
     let end = c.args.end in
     let slots = c.args.slots.now in
-    let i = c.args.place in
+    let i = c.args.index in
     let short = c.requires.short in
-    let i_in : i < 240 = (let a : i < length slots = c.requires.place in omega arith) in
+    let i_in : i < 240 = (let a : i < length slots = c.requires.index in omega arith) in
     let free = free_at end slots in
     let inside = free_below end slots short in
     let one = λ (w : Way) (joined : chain end w c.lead-2.new.slots c.lead-2.new.list (ahead (back w) c.links_at-links.result) ≡ link_at end w slots i)

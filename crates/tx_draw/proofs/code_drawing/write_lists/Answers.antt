@@ -4,18 +4,18 @@ use Rattle.tx_draw.specs.CodeDrawing.{list_lines}
 use Rattle.tx_draw.proofs.Before.{before_more, before_done, before_stopped}
 use Rattle.tx_draw.proofs.code_drawing.write_lists.Goals as goal
 
-pub loop-place-init : goal.loop-place-init
-loop-place-init g c =
+pub loop-index-init : goal.loop-index-init
+loop-index-init g c =
     wrote_none _ _
 
-pub loop-place-preserved : goal.loop-place-preserved
-loop-place-preserved g c =
-    before_more (list_lines c.args.plan.now c.args.code c.args.reached.now c.args.shown.now) c.loop-place.place _ _ _ _ _ _ _ c.of-exchange.ensures c.loop-place.invariant (rw c.list-list.ensures.value at c.in_ok-write_list.ensures)
+pub loop-index-preserved : goal.loop-index-preserved
+loop-index-preserved g c =
+    before_more (list_lines c.args.plan.now c.args.code c.args.reached.now c.args.shown.now) c.loop-index.index _ _ _ _ _ _ _ c.of-exchange.ensures c.loop-index.invariant (rw c.list-list.ensures.value at c.in_ok-write_list.ensures)
 
 pub returns : goal.returns
 returns g c =
-    before_done (list_lines c.args.plan.now c.args.code c.args.reached.now c.args.shown.now) c.loop-place.place (length c.args.plan.now.exchanges) _ _ _ _ (omega arith) c.loop-place.invariant
+    before_done (list_lines c.args.plan.now c.args.code c.args.reached.now c.args.shown.now) c.loop-index.index (length c.args.plan.now.exchanges) _ _ _ _ (omega arith) c.loop-index.invariant
 
 pub returns-in_err-write_list : goal.returns-in_err-write_list
 returns-in_err-write_list g c =
-    before_stopped (list_lines c.args.plan.now c.args.code c.args.reached.now c.args.shown.now) c.loop-place.place (length c.args.plan.now.exchanges) _ _ _ _ _ _ _ _ c.in_err-write_list.field-0.0 (omega arith) c.of-exchange.ensures c.loop-place.invariant (rw c.list-list.ensures.value at c.in_err-write_list.ensures) c.from_residual.ensures.0
+    before_stopped (list_lines c.args.plan.now c.args.code c.args.reached.now c.args.shown.now) c.loop-index.index (length c.args.plan.now.exchanges) _ _ _ _ _ _ _ _ c.in_err-write_list.field-0.0 (omega arith) c.of-exchange.ensures c.loop-index.invariant (rw c.list-list.ensures.value at c.in_err-write_list.ensures) c.from_residual.ensures.0

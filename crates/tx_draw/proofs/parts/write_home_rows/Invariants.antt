@@ -3,5 +3,5 @@ use Rattle.tx_text.specs.Wrote.{WroteBy}
 use Rattle.tx_draw.specs.Drawing.{each_before, home_row}
 use Rattle.tx_draw.proofs.parts.write_home_rows.Given as goal
 
-abbrev pub invariant-loop-place : goal.invariant-loop-place
-invariant-loop-place g l = WroteBy (g.W.Sink.taken l.initial.sink) (g.W.Sink.taken l.sink) (g.W.Sink.failed l.initial.sink) (g.W.Sink.failed l.sink) (each_before l.place (home_row l.plan l.exchange)) (Ok tt)
+abbrev pub invariant-loop-index : goal.invariant-loop-index
+invariant-loop-index g l = WroteBy (g.W.Sink.taken l.initial.sink) (g.W.Sink.taken l.sink) (g.W.Sink.failed l.initial.sink) (g.W.Sink.failed l.sink) (each_before l.index (home_row l.plan l.exchange)) (Ok tt)

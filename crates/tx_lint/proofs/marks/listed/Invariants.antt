@@ -3,8 +3,8 @@ use Rattle.tx_rank.specs.Reached.{is_marked}
 use Rattle.tx_lint.proofs.Marked.{stands_in}
 use Rattle.tx_lint.proofs.marks.listed.Given as goal
 
-abbrev pub invariant-loop-place : goal.invariant-loop-place
-invariant-loop-place g l = record {
+abbrev pub invariant-loop-index : goal.invariant-loop-index
+invariant-loop-index g l = record {
   long : length l.marks.items ≡ length l.plan.groups;
-  so_far : (x : ℕ) → is_marked l.marks.items x ≡ stands_in x (take l.place l.plan.routes);
+  so_far : (x : ℕ) → is_marked l.marks.items x ≡ stands_in x (take l.index l.plan.routes);
 }

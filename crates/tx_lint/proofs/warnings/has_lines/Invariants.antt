@@ -4,6 +4,6 @@ use Rattle.std.specs.List.{list_any}
 use Rattle.tx_plan.specs.declared.range.LineRange.{LineRange}
 use Rattle.tx_lint.proofs.warnings.has_lines.Given as goal
 
-abbrev pub invariant-loop-place : goal.invariant-loop-place
-invariant-loop-place g l =
-    list_any (λ (r : LineRange). r.code == l.code) (take l.place l.plan.ranges) ≡ false
+abbrev pub invariant-loop-index : goal.invariant-loop-index
+invariant-loop-index g l =
+    list_any (λ (r : LineRange). r.code == l.code) (take l.index l.plan.ranges) ≡ false

@@ -2,7 +2,7 @@ use Rattle.std.proofs.Common.{◌≡◌, ◌==◌, inl, inr, false, true, Some, 
 use Rattle.tx_plan.specs.Codes.{code_of}
 use Rattle.tx_plan.specs.Plan.{Plan, home_of}
 use Rattle.tx_plan.specs.Routes.{is_barred}
-use Rattle.tx_machine.specs.Call.{is_first, place_of}
+use Rattle.tx_machine.specs.Call.{is_first, exchange_of}
 use Rattle.tx_machine.specs.InUse.{choice}
 use Rattle.tx_machine.specs.Lines.{line_answer}
 use Rattle.tx_machine.specs.Routing.{routed_for, at_line, at_trunk, line_of}
@@ -26,9 +26,9 @@ returns-then-is_barred g c =
     let code = c.in-Some.code in
     let hops = c.args.call.now.hops in
     let begins : code_of p d.keyed ≡ Some code = ap (code_of p) (sym c.bytes-keyed.ensures.value) ∙ sym c.in-Some.ensures in
-    let place : c.place_of-here.result ≡ place_of p d = c.place_of-here.ensures ∙ ap (λ p. place_of p d) c.plan-plan.ensures in
+    let exchange : c.exchange_of-here.result ≡ exchange_of p d = c.exchange_of-here.ensures ∙ ap (λ p. exchange_of p d) c.plan-plan.ensures in
     let first : is_first d.hops ≡ true = first_is_empty hops.items hops.len hops.ok.0 ∙ sym c.is_empty.ensures ∙ c.if-is_empty.true in
-    let barred : is_barred p (place_of p d) code ≡ true = (λ i. is_barred (sym c.plan-plan.ensures i) (sym place i) code) ∙ sym c.is_barred.ensures ∙ c.if-is_barred.true in
+    let barred : is_barred p (exchange_of p d) code ≡ true = (λ i. is_barred (sym c.plan-plan.ensures i) (sym exchange i) code) ∙ sym c.is_barred.ensures ∙ c.if-is_barred.true in
     routed_barred p s d code begins first barred
 
 pub returns-then-eq : goal.returns-then-eq
@@ -39,12 +39,12 @@ returns-then-eq g c =
     let code = c.in-Some.code in
     let hops = c.args.call.now.hops in
     let begins : code_of p d.keyed ≡ Some code = ap (code_of p) (sym c.bytes-keyed.ensures.value) ∙ sym c.in-Some.ensures in
-    let place : c.place_of-here.result ≡ place_of p d = c.place_of-here.ensures ∙ ap (λ p. place_of p d) c.plan-plan.ensures in
+    let exchange : c.exchange_of-here.result ≡ exchange_of p d = c.exchange_of-here.ensures ∙ ap (λ p. exchange_of p d) c.plan-plan.ensures in
     let past : IsLet p s d code begins = elim c.else-is_empty.branch [
-      | else-is_empty-via-then-is_empty+else-is_barred w ↦ inr ((λ i. is_barred (sym c.plan-plan.ensures i) (sym place i) code) ∙ sym w.is_barred.ensures ∙ w.if-is_barred.false)
+      | else-is_empty-via-then-is_empty+else-is_barred w ↦ inr ((λ i. is_barred (sym c.plan-plan.ensures i) (sym exchange i) code) ∙ sym w.is_barred.ensures ∙ w.if-is_barred.false)
       | else-is_empty-via-else-is_empty w ↦ inl (first_is_empty hops.items hops.len hops.ok.0 ∙ sym c.is_empty.ensures ∙ w.if-is_empty.false)
     ] in
-    let home : (home_of p code == place_of p d) ≡ true = (λ i. home_of (sym c.plan-plan.ensures i) code == sym place i) ∙ ap (λ h. h == c.place_of-here.result) (sym c.home.ensures) ∙ sym c.eq.ensures ∙ c.if-eq.true in
+    let home : (home_of p code == exchange_of p d) ≡ true = (λ i. home_of (sym c.plan-plan.ensures i) code == sym exchange i) ∙ ap (λ h. h == c.exchange_of-here.result) (sym c.home.ensures) ∙ sym c.eq.ensures ∙ c.if-eq.true in
     routed_home p s d code begins past home
     ∙ ap (λ k. at_line p s d (line_of p code k) (line_answer p s (line_of p code k))) (sym c.bytes-keyed.ensures.value) ∙ c.at_home.ensures d
 
@@ -56,13 +56,13 @@ returns-in-Some-choice g c =
     let code = c.in-Some.code in
     let hops = c.args.call.now.hops in
     let begins : code_of p d.keyed ≡ Some code = ap (code_of p) (sym c.bytes-keyed.ensures.value) ∙ sym c.in-Some.ensures in
-    let place : c.place_of-here.result ≡ place_of p d = c.place_of-here.ensures ∙ ap (λ p. place_of p d) c.plan-plan.ensures in
+    let exchange : c.exchange_of-here.result ≡ exchange_of p d = c.exchange_of-here.ensures ∙ ap (λ p. exchange_of p d) c.plan-plan.ensures in
     let past : IsLet p s d code begins = elim c.else-is_empty.branch [
-      | else-is_empty-via-then-is_empty+else-is_barred w ↦ inr ((λ i. is_barred (sym c.plan-plan.ensures i) (sym place i) code) ∙ sym w.is_barred.ensures ∙ w.if-is_barred.false)
+      | else-is_empty-via-then-is_empty+else-is_barred w ↦ inr ((λ i. is_barred (sym c.plan-plan.ensures i) (sym exchange i) code) ∙ sym w.is_barred.ensures ∙ w.if-is_barred.false)
       | else-is_empty-via-else-is_empty w ↦ inl (first_is_empty hops.items hops.len hops.ok.0 ∙ sym c.is_empty.ensures ∙ w.if-is_empty.false)
     ] in
-    let home : (home_of p code == place_of p d) ≡ false = (λ i. home_of (sym c.plan-plan.ensures i) code == sym place i) ∙ ap (λ h. h == c.place_of-here.result) (sym c.home.ensures) ∙ sym c.eq.ensures ∙ c.if-eq.false in
-    routed_trunk p s d code begins past home ∙ ap (at_trunk p s d) (ap (λ x. choice p s x code) (sym place) ∙ sym c.choice.ensures ∙ c.in-Some-choice.is)
+    let home : (home_of p code == exchange_of p d) ≡ false = (λ i. home_of (sym c.plan-plan.ensures i) code == sym exchange i) ∙ ap (λ h. h == c.exchange_of-here.result) (sym c.home.ensures) ∙ sym c.eq.ensures ∙ c.if-eq.false in
+    routed_trunk p s d code begins past home ∙ ap (at_trunk p s d) (ap (λ x. choice p s x code) (sym exchange) ∙ sym c.choice.ensures ∙ c.in-Some-choice.is)
 
 pub returns-in-None : goal.returns-in-None
 returns-in-None g c =
@@ -72,10 +72,10 @@ returns-in-None g c =
     let code = c.in-Some.code in
     let hops = c.args.call.now.hops in
     let begins : code_of p d.keyed ≡ Some code = ap (code_of p) (sym c.bytes-keyed.ensures.value) ∙ sym c.in-Some.ensures in
-    let place : c.place_of-here.result ≡ place_of p d = c.place_of-here.ensures ∙ ap (λ p. place_of p d) c.plan-plan.ensures in
+    let exchange : c.exchange_of-here.result ≡ exchange_of p d = c.exchange_of-here.ensures ∙ ap (λ p. exchange_of p d) c.plan-plan.ensures in
     let past : IsLet p s d code begins = elim c.else-is_empty.branch [
-      | else-is_empty-via-then-is_empty+else-is_barred w ↦ inr ((λ i. is_barred (sym c.plan-plan.ensures i) (sym place i) code) ∙ sym w.is_barred.ensures ∙ w.if-is_barred.false)
+      | else-is_empty-via-then-is_empty+else-is_barred w ↦ inr ((λ i. is_barred (sym c.plan-plan.ensures i) (sym exchange i) code) ∙ sym w.is_barred.ensures ∙ w.if-is_barred.false)
       | else-is_empty-via-else-is_empty w ↦ inl (first_is_empty hops.items hops.len hops.ok.0 ∙ sym c.is_empty.ensures ∙ w.if-is_empty.false)
     ] in
-    let home : (home_of p code == place_of p d) ≡ false = (λ i. home_of (sym c.plan-plan.ensures i) code == sym place i) ∙ ap (λ h. h == c.place_of-here.result) (sym c.home.ensures) ∙ sym c.eq.ensures ∙ c.if-eq.false in
-    routed_trunk p s d code begins past home ∙ ap (at_trunk p s d) (ap (λ x. choice p s x code) (sym place) ∙ sym c.choice.ensures ∙ c.in-None.is)
+    let home : (home_of p code == exchange_of p d) ≡ false = (λ i. home_of (sym c.plan-plan.ensures i) code == sym exchange i) ∙ ap (λ h. h == c.exchange_of-here.result) (sym c.home.ensures) ∙ sym c.eq.ensures ∙ c.if-eq.false in
+    routed_trunk p s d code begins past home ∙ ap (at_trunk p s d) (ap (λ x. choice p s x code) (sym exchange) ∙ sym c.choice.ensures ∙ c.in-None.is)

@@ -3,5 +3,5 @@ use Rattle.std.specs.Prelude.{filter}
 use Rattle.tx_mend.specs.inner.Full.{stays}
 use Rattle.tx_mend.proofs.copying.staying_routes.Given as goal
 
-abbrev pub invariant-loop-place : goal.invariant-loop-place
-invariant-loop-place g l = l.routes ≡ filter (stays l.before l.cert) (take l.place l.plan.routes)
+abbrev pub invariant-loop-index : goal.invariant-loop-index
+invariant-loop-index g l = l.routes ≡ filter (stays l.before l.cert) (take l.index l.plan.routes)

@@ -1,9 +1,9 @@
 use Rattle.std.proofs.Common.{ℕ, ◌∙◌, List, sym, ap, ◌<◌, length, arith}
 use Rattle.std.specs.Prelude.{filter}
 use Rattle.std.specs.List.{flat_map}
-use Rattle.tx_mend.specs.LeastRanks.{places, outgoing}
+use Rattle.tx_mend.specs.LeastRanks.{indexes, outgoing}
 use Rattle.tx_mend.specs.Lists.{leads_to, filled}
-use Rattle.tx_mend.proofs.Placed.{flat_more, places_split}
+use Rattle.tx_mend.proofs.Placed.{flat_more, indexes_split}
 use Rattle.tx_mend.proofs.Dropping.{filled_append}
 use Rattle.std.proofs.lemmas.List.Concat.{flat_map-append}
 use Rattle.tx_mend.proofs.Filled.{filled_full}
@@ -17,7 +17,7 @@ loop-lower-preserved g c = λ of e.
     let n = c.loop-lower.lower in
     let f : ℕ → List ℕ = λ m. filter (λ g. leads_to p of m x g) (outgoing p x) in
     c.fill_at.ensures of e ∙ ap (λ (l : List ℕ). filled s c.loop-lower.list.items (filter (λ g. leads_to p of n x g) l)) c.requires.seizable ∙ ap (λ (l : List ℕ). filled s l (f n)) (c.loop-lower.invariant of e)
-    ∙ sym (filled_append s c.args.list.now.items (flat_map f (places n)) (f n)) ∙ ap (filled s c.args.list.now.items) (sym (flat_more f n))
+    ∙ sym (filled_append s c.args.list.now.items (flat_map f (indexes n)) (f n)) ∙ ap (filled s c.args.list.now.items) (sym (flat_more f n))
 
 pub returns-then-list-from : goal.returns-then-list-from
 returns-then-list-from g c = λ of e.
@@ -28,12 +28,12 @@ returns-then-list-from g c = λ of e.
     let start = c.args.list.now.items in
     let f : ℕ → List ℕ = λ m. filter (λ g. leads_to p of m x g) (outgoing p x) in
     let t = c.loop-lower-test.true in
-    let k = places_split c.args.rank n (omega arith) in
-    let a = flat_map f (places n) in
+    let k = indexes_split c.args.rank n (omega arith) in
+    let a = flat_map f (indexes n) in
     let b = flat_map f k.0 in
     let here = c.loop-lower.invariant of e in
     let same = c.list-len.ensures.value in
     let more = c.if-list-from.true in
     let at = c.from.ensures in
     let full : s < length c.loop-lower.list.items = omega arith in
-    sym (ap (filled s start) (ap (flat_map f) k.1 ∙ flat_map-append f (places n) k.0) ∙ filled_append s start a b ∙ ap (λ (l : List ℕ). filled s l b) (sym here) ∙ filled_full s c.loop-lower.list.items b full)
+    sym (ap (filled s start) (ap (flat_map f) k.1 ∙ flat_map-append f (indexes n) k.0) ∙ filled_append s start a b ∙ ap (λ (l : List ℕ). filled s l b) (sym here) ∙ filled_full s c.loop-lower.list.items b full)

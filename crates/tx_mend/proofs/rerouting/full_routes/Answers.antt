@@ -3,22 +3,22 @@ use Rattle.std.specs.List.{flat_map}
 use Rattle.tx_mend.specs.inner.Pairs.{present_pairs, full_route, routes_below}
 use Rattle.tx_mend.proofs.rerouting.full_routes.Goals as goal
 
-pub loop-place-init : goal.loop-place-init
-loop-place-init g c =
+pub loop-index-init : goal.loop-index-init
+loop-index-init g c =
     let b = c.args.basis.now in
     let p = b.plan.now in
     c.in_ok-add_present.ensures ∙ ap (flat_map (full_route p b.limits.limit b.limits.spare)) (sym (append-nil (present_pairs p)))
 
 pub add_absent-requires-clause-code : goal.add_absent-requires-clause-code
-add_absent-requires-clause-code g c = let t = c.loop-place-test.true in let e = c.codes-place-end.ensures.count in let o = c.of.ensures in omega arith
+add_absent-requires-clause-code g c = let t = c.loop-index-test.true in let e = c.codes-index-end.ensures.count in let o = c.of.ensures in omega arith
 
 pub add_absent-requires-clause-so_far : goal.add_absent-requires-clause-so_far
 add_absent-requires-clause-so_far g c =
     let b = c.args.basis.now in
-    c.loop-place.invariant ∙ ap (routes_below b.plan.now b.limits.limit b.limits.spare) (sym c.of.ensures)
+    c.loop-index.invariant ∙ ap (routes_below b.plan.now b.limits.limit b.limits.spare) (sym c.of.ensures)
 
-pub loop-place-preserved : goal.loop-place-preserved
-loop-place-preserved g c =
+pub loop-index-preserved : goal.loop-index-preserved
+loop-index-preserved g c =
     let b = c.args.basis.now in
     c.in_ok-add_absent.ensures ∙ ap (λ (n : ℕ). routes_below b.plan.now b.limits.limit b.limits.spare (n + 1)) c.of.ensures
 
@@ -26,5 +26,5 @@ pub returns : goal.returns
 returns g c =
     let b = c.args.basis.now in
     let p = b.plan.now in
-    let all : c.loop-place.place ≡ length p.codes = let t = c.loop-place-test.false in let a = c.loop-place.auto.place-end in let e = c.codes-place-end.ensures.count in omega arith in
-    c.loop-place.invariant ∙ ap (routes_below p b.limits.limit b.limits.spare) all
+    let all : c.loop-index.index ≡ length p.codes = let t = c.loop-index-test.false in let a = c.loop-index.auto.index-end in let e = c.codes-index-end.ensures.count in omega arith in
+    c.loop-index.invariant ∙ ap (routes_below p b.limits.limit b.limits.spare) all

@@ -4,4 +4,4 @@ use Rattle.tx_plantext.proofs.PlanWriting.{line_past, none_at}
 use Rattle.tx_plantext.proofs.plan_writer.write_exchange.Goals as goal
 
 pub returns-in-None : goal.returns-in-None
-returns-in-None g c = rw (line_past exchange_words c.args.plan.now.exchanges c.args.place (none_at c.args.plan.now.exchanges c.args.place c.in-None.ensures)) (wrote_none _ _)
+returns-in-None g c = rw (line_past exchange_words c.args.plan.now.exchanges c.args.index (none_at c.args.plan.now.exchanges c.args.index c.in-None.ensures)) (wrote_none _ _)

@@ -5,45 +5,45 @@ use Rattle.tx_rank.specs.inner.Marks.{rank_in}
 use Rattle.tx_rank.proofs.Linking.{IsLinkedBelow, none_linked}
 use Rattle.tx_rank.proofs.back_links.links_of.Goals as goal
 
-pub loop-place-init : goal.loop-place-init
-loop-place-init g c =
+pub loop-index-init : goal.loop-index-init
+loop-index-init g c =
     let links = c.in_ok-links.links in
-    none_linked (g.N.Routes.net c.args.net.now) (rank_in c.args.marks.now) links.items _ (omega (arith, c.in_ok-links.ensures.len, links.ok.0)) (c.in_ok-links.ensures.items_if_clones_equal (λ y e. search rules))
+    none_linked (g.N.CodeNet.net c.args.net.now) (rank_in c.args.marks.now) links.items _ (omega (arith, c.in_ok-links.ensures.len, links.ok.0)) (c.in_ok-links.ensures.items_if_clones_equal (λ y e. search rules))
 
-pub loop-place-preserved : goal.loop-place-preserved
-loop-place-preserved g c =
-    let links = c.loop-place.links in
+pub loop-index-preserved : goal.loop-index-preserved
+loop-index-preserved g c =
+    let links = c.loop-index.links in
     let new = c.link_from.new.links in
     let a = c.link_from.auto.links in
     let v = ap length c.deref_mut.ensures.value in
-    let l = c.loop-place.invariant.long in
+    let l = c.loop-index.invariant.long in
     let k = links.ok.0 in
     let fits : length new ≡ links.len = omega arith in
     let rest = drop (length new) links.items in
-    subst (λ (all : List (Option (ℕ × ℕ))). IsLinkedBelow (g.N.Routes.net c.args.net.now) (rank_in c.args.marks.now) all (c.loop-place.place + 1)) (sym (ap (λ k. take k (new ++ rest)) (sym fits) ∙ take-append_seam new rest))
+    subst (λ (all : List (Option (ℕ × ℕ))). IsLinkedBelow (g.N.CodeNet.net c.args.net.now) (rank_in c.args.marks.now) all (c.loop-index.index + 1)) (sym (ap (λ k. take k (new ++ rest)) (sym fits) ∙ take-append_seam new rest))
     (record { long = omega arith; true_of = c.link_from.ensures.links; below = c.link_from.ensures.below })
 
 pub returns : goal.returns
 returns g c =
-    let i = c.loop-place.invariant in
-    let n = g.N.Routes.net c.args.net.now in
-    let t = c.loop-place-test.false in
-    let a = c.loop-place.auto.place-end in
-    let e = c.exchanges-place-end.ensures in
-    let all : c.loop-place.place ≡ n.exchanges = omega arith in
-    record { long = i.long; true_of = i.true_of; all = subst (LinksBelow n (rank_in c.args.marks.now) c.loop-place.links.items) all i.below }
+    let i = c.loop-index.invariant in
+    let n = g.N.CodeNet.net c.args.net.now in
+    let t = c.loop-index-test.false in
+    let a = c.loop-index.auto.index-end in
+    let e = c.exchanges-index-end.ensures in
+    let all : c.loop-index.index ≡ n.exchanges = omega arith in
+    record { long = i.long; true_of = i.true_of; all = subst (LinksBelow n (rank_in c.args.marks.now) c.loop-index.links.items) all i.below }
 
-pub link_from-requires-clause-place : goal.link_from-requires-clause-place
-link_from-requires-clause-place g c = let e = c.exchanges-place-end.ensures in let t = c.loop-place-test.true in omega arith
+pub link_from-requires-clause-index : goal.link_from-requires-clause-index
+link_from-requires-clause-index g c = let e = c.exchanges-index-end.ensures in let t = c.loop-index-test.true in omega arith
 
 pub link_from-requires-clause-marks : goal.link_from-requires-clause-marks
 link_from-requires-clause-marks g c = c.requires.long
 
 pub link_from-requires-clause-long : goal.link_from-requires-clause-long
-link_from-requires-clause-long g c = ap length c.deref_mut.ensures.value ∙ c.loop-place.invariant.long
+link_from-requires-clause-long g c = ap length c.deref_mut.ensures.value ∙ c.loop-index.invariant.long
 
 pub link_from-requires-clause-links : goal.link_from-requires-clause-links
-link_from-requires-clause-links g c = subst (AreLinks (g.N.Routes.net c.args.net.now) (rank_in c.args.marks.now)) (sym c.deref_mut.ensures.value) c.loop-place.invariant.true_of
+link_from-requires-clause-links g c = subst (AreLinks (g.N.CodeNet.net c.args.net.now) (rank_in c.args.marks.now)) (sym c.deref_mut.ensures.value) c.loop-index.invariant.true_of
 
 pub link_from-requires-clause-below : goal.link_from-requires-clause-below
-link_from-requires-clause-below g c = subst (λ (l : List (Option (ℕ × ℕ))). LinksBelow (g.N.Routes.net c.args.net.now) (rank_in c.args.marks.now) l c.loop-place.place) (sym c.deref_mut.ensures.value) c.loop-place.invariant.below
+link_from-requires-clause-below g c = subst (λ (l : List (Option (ℕ × ℕ))). LinksBelow (g.N.CodeNet.net c.args.net.now) (rank_in c.args.marks.now) l c.loop-index.index) (sym c.deref_mut.ensures.value) c.loop-index.invariant.below

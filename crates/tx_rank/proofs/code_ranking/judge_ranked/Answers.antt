@@ -10,7 +10,7 @@ use Rattle.tx_rank.proofs.code_ranking.judge_ranked.Goals as goal
 
 pub returns-in_ok-push-in-Some-clause-judged : goal.returns-in_ok-push-in-Some-clause-judged
 returns-in_ok-push-in-Some-clause-judged g c =
-    let n = g.N.Routes.net c.args.net.now in
+    let n = g.N.CodeNet.net c.args.net.now in
     let ranks = rank_in c.args.marks.now in
     let old = c.args.findings.now.items in
     let here = c.put_ranks.ensures.here in
@@ -22,13 +22,13 @@ returns-in_ok-push-in-Some-clause-judged g c =
 
 pub returns-in-None-clause-judged : goal.returns-in-None-clause-judged
 returns-in-None-clause-judged g c =
-    let n = g.N.Routes.net c.args.net.now in
+    let n = g.N.CodeNet.net c.args.net.now in
     let ranks = rank_in c.args.marks.now in
     let old = c.args.findings.now.items in
     let here = c.put_ranks.ensures.here in
     let same : ranks ≡ ranked_at c.put_ranks.new.cert c.args.code = λ i x. sym (here x) i in
     let low = subst (IsLongFound n ranks c.args.limit) c.in-None.is c.in_ok-walk.ensures in
-    let j = judged_none n c.args.code c.args.limit c.args.spare ranks c.requires.passed.ranks old c.add_shorts.new.findings.items c.in_ok-add_shorts.ensures (g.met.N.Routes.is_net c.args.net.now) low in
+    let j = judged_none n c.args.code c.args.limit c.args.spare ranks c.requires.passed.ranks old c.add_shorts.new.findings.items c.in_ok-add_shorts.ensures (g.met.N.CodeNet.is_net c.args.net.now) low in
     subst (IsJudged n c.args.code c.args.limit c.args.spare old c.add_shorts.new.findings.items) same j
 
 pub put_ranks-requires-clause-long : goal.put_ranks-requires-clause-long

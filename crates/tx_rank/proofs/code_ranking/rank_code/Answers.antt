@@ -10,7 +10,7 @@ use Rattle.tx_rank.proofs.code_ranking.rank_code.Goals as goal
 
 pub returns-then-closed-clause-judged : goal.returns-then-closed-clause-judged
 returns-then-closed-clause-judged g c =
-    let n = g.N.Routes.net c.args.net.now in
+    let n = g.N.CodeNet.net c.args.net.now in
     let ranks = ranked_at c.args.cert.now c.args.code in
     let old = c.args.findings.now.items in
     let search = c.pass.new.search in
@@ -31,7 +31,7 @@ pub returns-clause-exchanges : goal.returns-clause-exchanges
 returns-clause-exchanges g c = c.judge_ranked.ensures.exchanges
 
 pub judge_ranked-requires-clause-passed : goal.judge_ranked-requires-clause-passed
-judge_ranked-requires-clause-passed g c = subst (IsPassed (g.N.Routes.net c.args.net.now)) (sym c.deref.ensures.value) (c.in_ok-closed.ensures.done c.if-closed.false)
+judge_ranked-requires-clause-passed g c = subst (IsPassed (g.N.CodeNet.net c.args.net.now)) (sym c.deref.ensures.value) (c.in_ok-closed.ensures.done c.if-closed.false)
 
 pub judge_ranked-requires-clause-code : goal.judge_ranked-requires-clause-code
 judge_ranked-requires-clause-code g c = c.requires.code

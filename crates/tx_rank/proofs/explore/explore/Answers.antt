@@ -28,14 +28,14 @@ returns-in-Done-clause-closed g c = λ h. let bad : ⊥ = cc in absurd bad
 
 pub returns-in-Done-clause-done : goal.returns-in-Done-clause-done
 returns-in-Done-clause-done g c = λ _.
-    let n = g.N.Routes.net c.args.net.now in
+    let n = g.N.CodeNet.net c.args.net.now in
     let new = c.advance.new.search in
     let step = subst (λ (p : Progress). IsAdvanced n c.loop.search.start p c.loop.search.marks.items new.marks.items new.steps.items) c.in-Done.is c.in_ok-advance.ensures.ok in
     ends n c.args.search.now.start c.args.search.now.marks.items c.loop.search.start new.start c.loop.search.steps.items c.loop.search.marks.items new.marks.items c.loop.invariant.exploring c.advance.ensures.start step
 
 pub returns-in-Closed-clause-closed : goal.returns-in-Closed-clause-closed
 returns-in-Closed-clause-closed g c = λ _.
-    let n = g.N.Routes.net c.args.net.now in
+    let n = g.N.CodeNet.net c.args.net.now in
     let new = c.advance.new.search in
     let step = subst (λ (p : Progress). IsAdvanced n c.loop.search.start p c.loop.search.marks.items new.marks.items new.steps.items) c.in-Closed.is c.in_ok-advance.ensures.ok in
     subst (λ (x : ℕ). IsLoop n x new.steps.items) (sym c.advance.ensures.start) step
@@ -45,7 +45,7 @@ returns-in-Closed-clause-done g c = λ h. let bad : ⊥ = cc in absurd bad
 
 pub loop-preserved : goal.loop-preserved
 loop-preserved g c =
-    let n = g.N.Routes.net c.args.net.now in
+    let n = g.N.CodeNet.net c.args.net.now in
     let new = c.advance.new.search in
     let step = subst (λ (p : Progress). IsAdvanced n c.loop.search.start p c.loop.search.marks.items new.marks.items new.steps.items) c.in-More.is c.in_ok-advance.ensures.ok in
     record {
@@ -55,7 +55,7 @@ loop-preserved g c =
 
 pub loop-smaller : goal.loop-smaller
 loop-smaller g c =
-    let n = g.N.Routes.net c.args.net.now in
+    let n = g.N.CodeNet.net c.args.net.now in
     let new = c.advance.new.search in
     let step = subst (λ (p : Progress). IsAdvanced n c.loop.search.start p c.loop.search.marks.items new.marks.items new.steps.items) c.in-More.is c.in_ok-advance.ensures.ok in
     step.nearer

@@ -4,7 +4,7 @@ use Rattle.tx_rank.proofs.explore.explore.Given as goal
 
 abbrev pub invariant-loop : goal.invariant-loop
 invariant-loop g l =
-    let n = g.N.Routes.net l.net in
+    let n = g.N.CodeNet.net l.net in
     record {
       exploring : IsExploring n l.fn.search.start l.fn.search.marks.items l.search.start l.search.steps.items l.search.marks.items;
       tried : IsTrail n l.search.marks.items l.search.start l.search.steps.items l.search.before.items l.search.last;

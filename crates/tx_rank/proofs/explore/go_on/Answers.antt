@@ -12,7 +12,7 @@ use Rattle.tx_rank.proofs.explore.go_on.Goals as goal
 
 pub returns-then-is_open-clause-ok : goal.returns-then-is_open-clause-ok
 returns-then-is_open-clause-ok g c =
-    let n = g.N.Routes.net c.args.net.now in
+    let n = g.N.CodeNet.net c.args.net.now in
     let marks = c.args.search.now.marks.items in
     let start = c.args.search.now.start in
     let steps = c.args.search.now.steps.items in
@@ -21,7 +21,7 @@ returns-then-is_open-clause-ok g c =
 
 pub returns-clause-ok : goal.returns-clause-ok
 returns-clause-ok g c =
-    let n = g.N.Routes.net c.args.net.now in
+    let n = g.N.CodeNet.net c.args.net.now in
     let marks = c.args.search.now.marks.items in
     let start = c.args.search.now.start in
     let steps = c.args.search.now.steps.items in
@@ -32,7 +32,7 @@ returns-clause-ok g c =
 
 pub returns-clause-tried : goal.returns-clause-tried
 returns-clause-tried g c = λ _.
-    let n = g.N.Routes.net c.args.net.now in
+    let n = g.N.CodeNet.net c.args.net.now in
     let search = c.args.search.now in
     let marks = search.marks.items in
     let new = set marks c.args.to Open in

@@ -8,7 +8,7 @@ use Rattle.tx_rank.proofs.explore.settle.Goals as goal
 
 pub index_mut-requires : goal.index_mut-requires
 index_mut-requires g c =
-    let w = end_within (g.N.Routes.net c.args.net.now) c.args.search.now.marks.items c.args.search.now.start c.args.search.now.steps.items c.requires.marked c.requires.hand in
+    let w = end_within (g.N.CodeNet.net c.args.net.now) c.args.search.now.marks.items c.args.search.now.start c.args.search.now.steps.items c.requires.marked c.requires.hand in
     let e = c.index.ensures in
     let f = c.requires.end in
     let l = c.requires.marked.long in
@@ -16,7 +16,7 @@ index_mut-requires g c =
 
 pub returns-in-Some-clause-ok : goal.returns-in-Some-clause-ok
 returns-in-Some-clause-ok g c =
-    let n = g.N.Routes.net c.args.net.now in
+    let n = g.N.CodeNet.net c.args.net.now in
     let marks = c.args.search.now.marks.items in
     let start = c.args.search.now.start in
     let steps = c.args.search.now.steps.items in
@@ -30,7 +30,7 @@ nothing (s ∷ steps) h = absurd (omega arith)
 
 pub returns-in-None-clause-ok : goal.returns-in-None-clause-ok
 returns-in-None-clause-ok g c =
-    let n = g.N.Routes.net c.args.net.now in
+    let n = g.N.CodeNet.net c.args.net.now in
     let marks = c.args.search.now.marks.items in
     let start = c.args.search.now.start in
     let steps = c.args.search.now.steps.items in
@@ -40,7 +40,7 @@ returns-in-None-clause-ok g c =
 
 pub returns-in-Some-clause-tried : goal.returns-in-Some-clause-tried
 returns-in-Some-clause-tried g c = λ _.
-    let n = g.N.Routes.net c.args.net.now in
+    let n = g.N.CodeNet.net c.args.net.now in
     let search = c.args.search.now in
     let e : suc c.args.top ≡ c.args.top + 1 = omega arith in
     let new = set search.marks.items c.args.exchange (Ranked (c.args.top + 1)) in

@@ -5,20 +5,20 @@ use Rattle.tx_rank.proofs.Passes.{passing_skip, passing_from}
 use Rattle.tx_rank.proofs.explore.start_from.Goals as goal
 
 pub returns-then-is_origin-clause-done : goal.returns-then-is_origin-clause-done
-returns-then-is_origin-clause-done g c = passing_from (g.N.Routes.net c.args.net.now) _ c.start_at.new.search.marks.items c.args.place _ c.start_at.result c.requires.passing c.exchange-origin.ensures c.start_at.ensures.done
+returns-then-is_origin-clause-done g c = passing_from (g.N.CodeNet.net c.args.net.now) _ c.start_at.new.search.marks.items c.args.index _ c.start_at.result c.requires.passing c.exchange-origin.ensures c.start_at.ensures.done
 
 pub exchange-origin-requires : goal.exchange-origin-requires
-exchange-origin-requires g c = c.requires.place
+exchange-origin-requires g c = c.requires.index
 
 pub rank_at-requires : goal.rank_at-requires
-rank_at-requires g c = let e = c.exchange-origin.ensures in let p = c.requires.place in let l = c.requires.passing.marked.long in let d = ap length c.deref.ensures.value in omega arith
+rank_at-requires g c = let e = c.exchange-origin.ensures in let p = c.requires.index in let l = c.requires.passing.marked.long in let d = ap length c.deref.ensures.value in omega arith
 
 pub returns-in-Some-clause-done : goal.returns-in-Some-clause-done
 returns-in-Some-clause-done g c = λ _.
-    let n = g.N.Routes.net c.args.net.now in
+    let n = g.N.CodeNet.net c.args.net.now in
     let marks = c.args.search.now.marks.items in
     let ranked = ap (rank_in marks) (sym c.exchange-origin.ensures) ∙ ap (λ (l : List Mark). rank_in l c.exchange-origin.result) (sym c.deref.ensures.value) ∙ sym c.rank_at.ensures ∙ c.in-Some.is in
-    passing_skip n marks c.args.place c.requires.passing (λ _. (c.in-Some.field-0, ranked))
+    passing_skip n marks c.args.index c.requires.passing (λ _. (c.in-Some.field-0, ranked))
 
 pub start_at-requires-clause-origin : goal.start_at-requires-clause-origin
 start_at-requires-clause-origin g c = sym c.is_origin.ensures ∙ c.if-is_origin.true
@@ -34,9 +34,9 @@ start_at-requires-clause-unseen g c = ap (λ (l : List Mark). rank_in l c.exchan
 
 pub returns-else-is_origin-clause-done : goal.returns-else-is_origin-clause-done
 returns-else-is_origin-clause-done g c = λ _.
-    let n = g.N.Routes.net c.args.net.now in
+    let n = g.N.CodeNet.net c.args.net.now in
     let no = ap n.is_origin (sym c.exchange-origin.ensures) ∙ sym c.is_origin.ensures ∙ c.if-is_origin.false in
-    passing_skip n c.args.search.now.marks.items c.args.place c.requires.passing (λ o. let bad : ⊥ = cc in absurd bad)
+    passing_skip n c.args.search.now.marks.items c.args.index c.requires.passing (λ o. let bad : ⊥ = cc in absurd bad)
 
 pub returns-then-is_origin-clause-closed : goal.returns-then-is_origin-clause-closed
 returns-then-is_origin-clause-closed g c = c.start_at.ensures.closed

@@ -12,8 +12,8 @@ use Rattle.tx_rank.proofs.Graded.{IsGradedBelow, graded_first, graded_none, grad
 use Rattle.tx_rank.proofs.grading.grade.Goals as goal
 use Rattle.tx_rank.proofs.grading.grade.Goals.{then-is_empty, else-is_empty}
 
-pub loop-place-init : goal.loop-place-init
-loop-place-init g c =
+pub loop-index-init : goal.loop-index-init
+loop-index-init g c =
     let p = c.args.plan.now in
     let findings = c.in_ok-findings.findings in
     record {
@@ -38,122 +38,122 @@ loop-place-init g c =
       room = let r = c.in_ok-codes.ensures.capacity in let n = c.codes.ensures.count in omega arith;
     }
 
-pub loop-place-preserved : goal.loop-place-preserved
-loop-place-preserved g c =
+pub loop-index-preserved : goal.loop-index-preserved
+loop-index-preserved g c =
     let p = c.args.plan.now in
-    let i = c.loop-place.invariant in
+    let i = c.loop-index.invariant in
     let e = c.in_ok-alone.ensures in
     let at = c.of-code.ensures in
     let k = c.push_reserved.ensures in
-    let place = c.loop-place.place in
+    let index = c.loop-index.index in
     let alone = c.in_ok-alone.alone in
     let one = subst (λ (d : ℕ). IsGrade (CanBeCertifiedFor p d) alone) at e.grade in
-    let before = c.loop-place.codes.items in
+    let before = c.loop-index.codes.items in
     let plan = c.both-together.result in
-    let next = graded_next p place c.loop-place.together alone before i.graded one in
+    let next = graded_next p index c.loop-index.together alone before i.graded one in
     let both = subst
-    (λ (b : Option Bounds). IsGradedBelow p (place + 1) b (before ++ (place, alone) ∷ []))
+    (λ (b : Option Bounds). IsGradedBelow p (index + 1) b (before ++ (index, alone) ∷ []))
     (sym c.both-together.ensures) next in
     let same = subst
-    (λ (d : ℕ). IsGradedBelow p (place + 1) plan (before ++ (d, alone) ∷ []))
+    (λ (d : ℕ). IsGradedBelow p (index + 1) plan (before ++ (d, alone) ∷ []))
     (sym at) both in
     record {
-      ranked = ranked_next p 255 0 place c.loop-place.cert c.code_grade.new.cert
-          c.loop-place.findings.items c.code_grade.new.findings.items i.ranked
+      ranked = ranked_next p 255 0 index c.loop-index.cert c.code_grade.new.cert
+          c.loop-index.findings.items c.code_grade.new.findings.items i.ranked
           (subst (λ (d : ℕ). IsJudged {A = g.row.A.Denot} (net_of p d) d 255 0
-          c.loop-place.findings.items c.code_grade.new.findings.items
+          c.loop-index.findings.items c.code_grade.new.findings.items
           (rank_at c.code_grade.new.cert d)) at e.judged)
           (λ d x away. e.others d x (λ q. away (q ∙ at))) e.codes e.exchanges;
       graded = subst
-          (λ (codes : List (ℕ × Option Bounds)). IsGradedBelow p (place + 1) plan codes)
+          (λ (codes : List (ℕ × Option Bounds)). IsGradedBelow p (index + 1) plan codes)
           (sym k.items) same;
       room = let r = i.room in let q = k.capacity in omega arith;
     }
 
 pub returns-clause-plan : goal.returns-clause-plan
 returns-clause-plan g c =
-    let l = c.loop-place in
-    let all : l.place ≡ length c.args.plan.now.codes =
-    let test = c.loop-place-test.false in
-    let end = l.auto.place-end in
-    let e = c.codes-place-end.ensures.count in
+    let l = c.loop-index in
+    let all : l.index ≡ length c.args.plan.now.codes =
+    let test = c.loop-index-test.false in
+    let end = l.auto.index-end in
+    let e = c.codes-index-end.ensures.count in
     omega arith in
-    graded_plan c.args.plan.now c.codes.ensures.rules l.place all l.together l.codes.items
+    graded_plan c.args.plan.now c.codes.ensures.rules l.index all l.together l.codes.items
     l.invariant.graded
 
 pub returns-clause-clear : goal.returns-clause-clear
 returns-clause-clear g c =
-    let l = c.loop-place in
-    let all : l.place ≡ length c.args.plan.now.codes =
-    let test = c.loop-place-test.false in
-    let end = l.auto.place-end in
-    let e = c.codes-place-end.ensures.count in
+    let l = c.loop-index in
+    let all : l.index ≡ length c.args.plan.now.codes =
+    let test = c.loop-index-test.false in
+    let end = l.auto.index-end in
+    let e = c.codes-index-end.ensures.count in
     omega arith in
-    graded_clear c.args.plan.now c.codes.ensures.rules l.place all l.together l.codes.items
+    graded_clear c.args.plan.now c.codes.ensures.rules l.index all l.together l.codes.items
     l.invariant.graded l.cert l.findings.items l.invariant.ranked
 
 pub returns-clause-codes : goal.returns-clause-codes
 returns-clause-codes g c =
-    let l = c.loop-place in
-    let all : l.place ≡ length c.args.plan.now.codes =
-    let test = c.loop-place-test.false in
-    let end = l.auto.place-end in
-    let e = c.codes-place-end.ensures.count in
+    let l = c.loop-index in
+    let all : l.index ≡ length c.args.plan.now.codes =
+    let test = c.loop-index-test.false in
+    let end = l.auto.index-end in
+    let e = c.codes-index-end.ensures.count in
     omega arith in
-    graded_codes c.args.plan.now c.codes.ensures.rules l.place all l.together l.codes.items
+    graded_codes c.args.plan.now c.codes.ensures.rules l.index all l.together l.codes.items
     l.invariant.graded
 
 pub returns-clause-fails : goal.returns-clause-fails
 returns-clause-fails g c =
-    let l = c.loop-place in
-    let all : l.place ≡ length c.args.plan.now.codes =
-    let test = c.loop-place-test.false in
-    let end = l.auto.place-end in
-    let e = c.codes-place-end.ensures.count in
+    let l = c.loop-index in
+    let all : l.index ≡ length c.args.plan.now.codes =
+    let test = c.loop-index-test.false in
+    let end = l.auto.index-end in
+    let e = c.codes-index-end.ensures.count in
     omega arith in
-    graded_fails c.args.plan.now c.codes.ensures.rules l.place all l.together l.codes.items
+    graded_fails c.args.plan.now c.codes.ensures.rules l.index all l.together l.codes.items
     l.invariant.graded l.cert l.findings.items l.invariant.ranked
 
 pub returns-clause-clean : goal.returns-clause-clean
 returns-clause-clean g c =
-    let l = c.loop-place in
-    let all : l.place ≡ length c.args.plan.now.codes =
-    let test = c.loop-place-test.false in
-    let end = l.auto.place-end in
-    let e = c.codes-place-end.ensures.count in
+    let l = c.loop-index in
+    let all : l.index ≡ length c.args.plan.now.codes =
+    let test = c.loop-index-test.false in
+    let end = l.auto.index-end in
+    let e = c.codes-index-end.ensures.count in
     omega arith in
-    graded_clean c.args.plan.now c.codes.ensures.rules l.place all l.together l.codes.items
+    graded_clean c.args.plan.now c.codes.ensures.rules l.index all l.together l.codes.items
     l.invariant.graded l.cert l.findings.items l.invariant.ranked
 
 pub returns-clause-each : goal.returns-clause-each
 returns-clause-each g c =
-    let l = c.loop-place in
-    let all : l.place ≡ length c.args.plan.now.codes =
-    let test = c.loop-place-test.false in
-    let end = l.auto.place-end in
-    let e = c.codes-place-end.ensures.count in
+    let l = c.loop-index in
+    let all : l.index ≡ length c.args.plan.now.codes =
+    let test = c.loop-index-test.false in
+    let end = l.auto.index-end in
+    let e = c.codes-index-end.ensures.count in
     omega arith in
-    graded_true c.args.plan.now c.codes.ensures.rules l.place all l.together l.codes.items
+    graded_true c.args.plan.now c.codes.ensures.rules l.index all l.together l.codes.items
     l.invariant.graded l.cert l.findings.items l.invariant.ranked
 
 pub returns-clause-listed : goal.returns-clause-listed
 returns-clause-listed g c =
-    let l = c.loop-place in
-    let all : l.place ≡ length c.args.plan.now.codes =
-    let test = c.loop-place-test.false in
-    let end = l.auto.place-end in
-    let e = c.codes-place-end.ensures.count in
+    let l = c.loop-index in
+    let all : l.index ≡ length c.args.plan.now.codes =
+    let test = c.loop-index-test.false in
+    let end = l.auto.index-end in
+    let e = c.codes-index-end.ensures.count in
     omega arith in
-    graded_listed c.args.plan.now c.codes.ensures.rules l.place all l.together l.codes.items
+    graded_listed c.args.plan.now c.codes.ensures.rules l.index all l.together l.codes.items
     l.invariant.graded l.cert l.findings.items l.invariant.ranked
 
 pub returns-clause-ranks : goal.returns-clause-ranks
 returns-clause-ranks g c =
-    let l = c.loop-place in
-    let all : l.place ≡ length c.args.plan.now.codes =
-    let test = c.loop-place-test.false in
-    let end = l.auto.place-end in
-    let e = c.codes-place-end.ensures.count in
+    let l = c.loop-index in
+    let all : l.index ≡ length c.args.plan.now.codes =
+    let test = c.loop-index-test.false in
+    let end = l.auto.index-end in
+    let e = c.codes-index-end.ensures.count in
     omega arith in
-    graded_ranks c.args.plan.now c.codes.ensures.rules l.place all l.together l.codes.items
+    graded_ranks c.args.plan.now c.codes.ensures.rules l.index all l.together l.codes.items
     l.invariant.graded l.cert l.findings.items l.invariant.ranked

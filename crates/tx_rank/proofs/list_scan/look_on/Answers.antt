@@ -5,7 +5,7 @@ use Rattle.tx_rank.proofs.list_scan.look_on.Goals as goal
 pub returns-in-None-clause-look : goal.returns-in-None-clause-look
 returns-in-None-clause-look g c =
     let o = c.onward-group in
-    onward_at (g.N.Routes.net c.args.net.now) c.args.marks.now c.args.exchange c.loop-i.i o.result.0 o.result.1 o.ensures.at o.ensures.leads o.ensures.within c.in-None.ensures
+    onward_at (g.N.CodeNet.net c.args.net.now) c.args.marks.now c.args.exchange c.loop-i.i o.result.0 o.result.1 o.ensures.at o.ensures.leads o.ensures.within c.in-None.ensures
 
 pub returns-in-None-clause-tried : goal.returns-in-None-clause-tried
 returns-in-None-clause-tried g c =
@@ -18,5 +18,5 @@ loop-i-preserved g c =
     let e = c.greater-top.ensures in
     record {
       tried = c.loop-i.invariant.tried;
-      top = top_step (g.N.Routes.net c.args.net.now) c.args.marks.now c.args.exchange c.loop-i.i c.loop-i.top c.greater-top.result o.result.0 o.result.1 c.in-Some.rank o.ensures.at c.loop-i.invariant.top o.ensures.leads c.in-Some.ensures e.first e.second e.either;
+      top = top_step (g.N.CodeNet.net c.args.net.now) c.args.marks.now c.args.exchange c.loop-i.i c.loop-i.top c.greater-top.result o.result.0 o.result.1 c.in-Some.rank o.ensures.at c.loop-i.invariant.top o.ensures.leads c.in-Some.ensures e.first e.second e.either;
     }

@@ -6,14 +6,14 @@ use Rattle.tx_rank.proofs.long_walk.walk_down.Goals as goal
 
 pub unreachable-requires : goal.unreachable-requires
 unreachable-requires g c =
-    let n = g.N.Routes.net c.args.net.now in
+    let n = g.N.CodeNet.net c.args.net.now in
     let i = c.loop-i.invariant.count in
     let h = c.requires.high in
     goes_down n (rank_in c.args.marks.now) c.requires.passed.ranks c.args.origin c.args.rank c.loop-i.at (c.args.rank - c.loop-i.i - 1) c.loop-i.steps.items c.loop-i.invariant.down (omega arith) (let t = c.loop-i-test.true in omega arith) c.in-None.ensures
 
 pub loop-i-preserved : goal.loop-i-preserved
 loop-i-preserved g c =
-    let n = g.N.Routes.net c.args.net.now in
+    let n = g.N.CodeNet.net c.args.net.now in
     let i = c.loop-i.invariant.count in
     let h = c.requires.high in
     let t = c.loop-i-test.true in
@@ -26,7 +26,7 @@ loop-i-preserved g c =
 
 pub loop-i-init : goal.loop-i-init
 loop-i-init g c =
-    let n = g.N.Routes.net c.args.net.now in
+    let n = g.N.CodeNet.net c.args.net.now in
     let e = c.new-steps.ensures.items in
     record { down = subst (λ (s : List (ℕ × ℕ)). IsDown n (rank_in c.args.marks.now) c.args.origin c.args.rank c.args.origin s) (sym e) (down_none n (rank_in c.args.marks.now) c.args.origin c.args.rank c.requires.ranked); count = ap length e }
 
@@ -34,7 +34,7 @@ pub lower-requires : goal.lower-requires
 lower-requires g c = c.requires.passed.long
 
 pub returns-clause-walk : goal.returns-clause-walk
-returns-clause-walk g c = record { origin = c.requires.origin; goes = subst (Goes (g.N.Routes.net c.args.net.now) c.args.origin) (sym c.of.ensures) c.loop-i.invariant.down.goes }
+returns-clause-walk g c = record { origin = c.requires.origin; goes = subst (Goes (g.N.CodeNet.net c.args.net.now) c.args.origin) (sym c.of.ensures) c.loop-i.invariant.down.goes }
 
 pub returns-clause-count : goal.returns-clause-count
 returns-clause-count g c = let q = ap length c.of.ensures in let k = c.loop-i.invariant.count in let t = c.loop-i-test.false in let a = c.loop-i.auto.i-end in omega arith

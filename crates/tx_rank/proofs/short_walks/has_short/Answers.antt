@@ -5,8 +5,8 @@ use Rattle.tx_rank.proofs.short_walks.has_short.Goals as goal
 pub returns : goal.returns
 returns g c = λ _ x s.
     let w = rank_within c.args.marks.now x s.rank s.ranked in
-    let e = c.exchanges-place-end.ensures in
+    let e = c.exchanges-index-end.ensures in
     let l = c.requires in
-    let t = c.loop-place-test.false in
-    let a = c.loop-place.auto.place-end in
-    c.loop-place.invariant x (omega arith) s
+    let t = c.loop-index-test.false in
+    let a = c.loop-index.auto.index-end in
+    c.loop-index.invariant x (omega arith) s

@@ -3,5 +3,5 @@ use Rattle.tx_rank.specs.inner.Marks.{rank_in}
 use Rattle.tx_rank.specs.inner.Judged.{IsShortAt}
 use Rattle.tx_rank.proofs.short_walks.has_short.Given as goal
 
-abbrev pub invariant-loop-place : goal.invariant-loop-place
-invariant-loop-place g l = (x : ℕ) → x < l.place → IsShortAt (g.N.Routes.net l.net) (rank_in l.marks) l.spare x → ⊥
+abbrev pub invariant-loop-index : goal.invariant-loop-index
+invariant-loop-index g l = (x : ℕ) → x < l.index → IsShortAt (g.N.CodeNet.net l.net) (rank_in l.marks) l.spare x → ⊥

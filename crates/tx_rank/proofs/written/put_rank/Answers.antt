@@ -13,7 +13,7 @@ returns-in-Some-clause-here g c =
     let cert = c.args.cert.now in
     let x = c.exchange-exchange.result in
     let e = c.exchange-exchange.ensures in
-    ap (λ t. ranked_at t c.args.code c.args.place) c.set.ensures ∙ ap (ranked_at (with_rank cert c.args.code x c.in-Some.rank) c.args.code) (sym e) ∙ rank_here cert c.args.code x c.in-Some.rank ∙ c.in-Some.ensures ∙ ap (rank_in c.args.marks.now) e
+    ap (λ t. ranked_at t c.args.code c.args.index) c.set.ensures ∙ ap (ranked_at (with_rank cert c.args.code x c.in-Some.rank) c.args.code) (sym e) ∙ rank_here cert c.args.code x c.in-Some.rank ∙ c.in-Some.ensures ∙ ap (rank_in c.args.marks.now) e
 
 pub returns-in-None-clause-here : goal.returns-in-None-clause-here
 returns-in-None-clause-here g c = c.requires.blank ∙ c.in-None.ensures ∙ ap (rank_in c.args.marks.now) c.exchange-exchange.ensures

@@ -2,36 +2,36 @@ use Rattle.std.proofs.Common.{◌≡◌, arith, length, ◌∙◌, refl}
 use Rattle.tx_rank.proofs.Writing.{writing_more, writing_all}
 use Rattle.tx_rank.proofs.written.put_ranks.Goals as goal
 
-pub loop-place-preserved : goal.loop-place-preserved
-loop-place-preserved g c =
+pub loop-index-preserved : goal.loop-index-preserved
+loop-index-preserved g c =
     let e = c.put_rank.ensures in
-    writing_more c.args.cert.now c.loop-place.cert c.put_rank.new.cert c.args.marks.now c.args.code c.loop-place.place c.loop-place.invariant e.here e.others e.codes e.exchanges
+    writing_more c.args.cert.now c.loop-index.cert c.put_rank.new.cert c.args.marks.now c.args.code c.loop-index.index c.loop-index.invariant e.here e.others e.codes e.exchanges
 
 pub returns-clause-here : goal.returns-clause-here
 returns-clause-here g c =
-    let at : c.loop-place.place ≡ length c.args.marks.now = let t = c.loop-place-test.false in let a = c.loop-place.auto.place-end in let e = c.exchanges-place-end.ensures in let l = c.requires.long in omega arith in
-    writing_all c.args.cert.now c.loop-place.cert c.args.marks.now c.args.code c.loop-place.place c.loop-place.invariant at
+    let at : c.loop-index.index ≡ length c.args.marks.now = let t = c.loop-index-test.false in let a = c.loop-index.auto.index-end in let e = c.exchanges-index-end.ensures in let l = c.requires.long in omega arith in
+    writing_all c.args.cert.now c.loop-index.cert c.args.marks.now c.args.code c.loop-index.index c.loop-index.invariant at
 
-pub loop-place-init : goal.loop-place-init
-loop-place-init g c = record { here = λ x h. absurd (omega arith); blank = λ x h. c.requires.blank x; others = λ d x h. refl; codes = refl; exchanges = refl }
+pub loop-index-init : goal.loop-index-init
+loop-index-init g c = record { here = λ x h. absurd (omega arith); blank = λ x h. c.requires.blank x; others = λ d x h. refl; codes = refl; exchanges = refl }
 
-pub put_rank-requires-clause-place : goal.put_rank-requires-clause-place
-put_rank-requires-clause-place g c = let e = c.exchanges-place-end.ensures in let t = c.loop-place-test.true in omega arith
+pub put_rank-requires-clause-index : goal.put_rank-requires-clause-index
+put_rank-requires-clause-index g c = let e = c.exchanges-index-end.ensures in let t = c.loop-index-test.true in omega arith
 
 pub put_rank-requires-clause-long : goal.put_rank-requires-clause-long
 put_rank-requires-clause-long g c = c.requires.long
 
 pub put_rank-requires-clause-exchanges : goal.put_rank-requires-clause-exchanges
-put_rank-requires-clause-exchanges g c = c.loop-place.invariant.exchanges ∙ c.requires.exchanges
+put_rank-requires-clause-exchanges g c = c.loop-index.invariant.exchanges ∙ c.requires.exchanges
 
 pub put_rank-requires-clause-blank : goal.put_rank-requires-clause-blank
-put_rank-requires-clause-blank g c = c.loop-place.invariant.blank c.loop-place.place (omega arith)
+put_rank-requires-clause-blank g c = c.loop-index.invariant.blank c.loop-index.index (omega arith)
 
 pub returns-clause-others : goal.returns-clause-others
-returns-clause-others g c = c.loop-place.invariant.others
+returns-clause-others g c = c.loop-index.invariant.others
 
 pub returns-clause-codes : goal.returns-clause-codes
-returns-clause-codes g c = c.loop-place.invariant.codes
+returns-clause-codes g c = c.loop-index.invariant.codes
 
 pub returns-clause-exchanges : goal.returns-clause-exchanges
-returns-clause-exchanges g c = c.loop-place.invariant.exchanges
+returns-clause-exchanges g c = c.loop-index.invariant.exchanges

@@ -12,15 +12,15 @@ order_of-requires-clause-certified g c =
     let p = c.args.plan.now in
     let k = c.requires in
     let within : c.of.result < length p.codes =
-    let t = c.loop-place-test.true in let e = c.codes-place-end.ensures.count in
+    let t = c.loop-index-test.true in let e = c.codes-index-end.ensures.count in
     let at = c.of.ensures in omega arith in
     (k.0, k.1, certifies_code p (ranks_of c.args.ranks.now) k.0 k.1 k.2 c.of.result within)
 
-pub loop-place-preserved : goal.loop-place-preserved
-loop-place-preserved g c =
+pub loop-index-preserved : goal.loop-index-preserved
+loop-index-preserved g c =
     let p = c.args.plan.now in
-    let i = c.loop-place.invariant in
-    let old = c.loop-place.orders.items in
+    let i = c.loop-index.invariant in
+    let old = c.loop-index.orders.items in
     let order = c.in_ok-order_of.field-0 in
     let k = c.push_reserved.ensures in
     record {
@@ -36,8 +36,8 @@ loop-place-preserved g c =
 
 pub returns : goal.returns
 returns g c =
-    let i = c.loop-place.invariant in
-    let all : c.loop-place.place ≡ length c.args.plan.now.codes =
-    let t = c.loop-place-test.false in let a = c.loop-place.auto.place-end in
-    let e = c.codes-place-end.ensures.count in omega arith in
+    let i = c.loop-index.invariant in
+    let all : c.loop-index.index ≡ length c.args.plan.now.codes =
+    let t = c.loop-index-test.false in let a = c.loop-index.auto.index-end in
+    let e = c.codes-index-end.ensures.count in omega arith in
     record { long = i.long ∙ all; each = i.each }

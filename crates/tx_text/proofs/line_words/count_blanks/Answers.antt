@@ -2,10 +2,10 @@ use Rattle.std.proofs.Common.{not, ◌∙◌, sym, rules, tests}
 use Rattle.std.proofs.lemmas.Iterator.{YieldsList-from_slice}
 use Rattle.std.proofs.lemmas.Iterator.Search.{position_from_yields_List}
 use Rattle.tx_text.specs.Words.{is_blank}
-use Rattle.tx_text.proofs.Places.{place_or_len, same_run}
+use Rattle.tx_text.proofs.Indexes.{index_or_len, same_run}
 use Rattle.tx_text.proofs.line_words.count_blanks.Goals as goal
 
 pub returns-clause-count : goal.returns-clause-count
 returns-clause-count c =
-    let found = position_from_yields_List (λ b. not (is_blank b)) _ _ c.position-place.result c.position-place.ensures.ran (YieldsList-from_slice _ c.iter.ensures.rest) (λ x b q k. search (rules, tests)) in
-    c.unwrap_or.ensures ∙ place_or_len (λ b. not (is_blank b)) c.args.text.now _ found ∙ sym (same_run is_blank c.args.text.now)
+    let found = position_from_yields_List (λ b. not (is_blank b)) _ _ c.position-index.result c.position-index.ensures.ran (YieldsList-from_slice _ c.iter.ensures.rest) (λ x b q k. search (rules, tests)) in
+    c.unwrap_or.ensures ∙ index_or_len (λ b. not (is_blank b)) c.args.text.now _ found ∙ sym (same_run is_blank c.args.text.now)

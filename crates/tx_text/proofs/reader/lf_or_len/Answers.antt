@@ -1,11 +1,11 @@
 use Rattle.std.proofs.Common.{◌∙◌, arith, not}
 use Rattle.std.proofs.lemmas.List.Sums.{prefix_len-le-length}
 use Rattle.tx_text.specs.Text.{is_lf}
-use Rattle.tx_text.proofs.Places.{found_or_len}
+use Rattle.tx_text.proofs.Indexes.{found_or_len}
 use Rattle.tx_text.proofs.reader.lf_or_len.Goals as goal
 
-pub returns-clause-place : goal.returns-clause-place
-returns-clause-place c = c.unwrap_or.ensures ∙ found_or_len is_lf c.args.piece.now c.memchr.result c.memchr.ensures
+pub returns-clause-index : goal.returns-clause-index
+returns-clause-index c = c.unwrap_or.ensures ∙ found_or_len is_lf c.args.piece.now c.memchr.result c.memchr.ensures
 
 pub returns-clause-within : goal.returns-clause-within
 returns-clause-within c =

@@ -3,6 +3,6 @@ use Rattle.tx_trace.specs.Ways.{met_before}
 use Rattle.tx_trace.specs.inner.Marked.{AreMarksOf}
 use Rattle.tx_trace.proofs.meeting.all_met.Given as goal
 
-abbrev pub invariant-loop-place : goal.invariant-loop-place
-invariant-loop-place g l =
-    record { long : length l.marks.items ≡ length l.plan.exchanges; marked : AreMarksOf l.met.items l.marks.items; so_far : l.met.items ≡ met_before l.plan l.code l.fn.start l.place }
+abbrev pub invariant-loop-index : goal.invariant-loop-index
+invariant-loop-index g l =
+    record { long : length l.marks.items ≡ length l.plan.exchanges; marked : AreMarksOf l.met.items l.marks.items; so_far : l.met.items ≡ met_before l.plan l.code l.fn.start l.index }

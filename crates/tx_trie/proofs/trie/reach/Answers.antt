@@ -11,20 +11,20 @@ loop-figure-init g c =
     let root = c.requires.tree.root in
     record { way = refl; grows = grows_none c.args.nodes.now.items c.requires.tree; within = omega arith; len = omega arith; capacity = refl }
 
-pub step-place-requires-clause-tree : goal.step-place-requires-clause-tree
-step-place-requires-clause-tree g c = c.loop-figure.invariant.grows.tree
+pub step-index-requires-clause-tree : goal.step-index-requires-clause-tree
+step-index-requires-clause-tree g c = c.loop-figure.invariant.grows.tree
 
-pub step-place-requires-clause-figure : goal.step-place-requires-clause-figure
-step-place-requires-clause-figure g c = figure_at c.args.figures.now c.loop-figure.figure-index c.requires.figures c.loop-figure-test.true
+pub step-index-requires-clause-figure : goal.step-index-requires-clause-figure
+step-index-requires-clause-figure g c = figure_at c.args.figures.now c.loop-figure.figure-index c.requires.figures c.loop-figure-test.true
 
-pub step-place-requires-clause-room : goal.step-place-requires-clause-room
-step-place-requires-clause-room g c =
+pub step-index-requires-clause-room : goal.step-index-requires-clause-room
+step-index-requires-clause-room g c =
     let i = c.loop-figure.invariant in
     let r = c.requires in
     omega arith
 
-pub step-place-requires-clause-few : goal.step-place-requires-clause-few
-step-place-requires-clause-few g c =
+pub step-index-requires-clause-few : goal.step-index-requires-clause-few
+step-index-requires-clause-few g c =
     let i = c.loop-figure.invariant in
     let r = c.requires in
     omega arith
@@ -32,16 +32,16 @@ step-place-requires-clause-few g c =
 pub loop-figure-preserved : goal.loop-figure-preserved
 loop-figure-preserved g c =
     let inv = c.loop-figure.invariant in
-    let s = c.step-place.ensures in
+    let s = c.step-index.ensures in
     let a = c.loop-figure.nodes.items in
-    let b = c.step-place.new.nodes.items in
+    let b = c.step-index.new.nodes.items in
     let text = c.args.figures.now in
     let i = c.loop-figure.figure-index in
-    let kept = walk_kept a b s.grows 0 (take i text) c.loop-figure.place inv.way in
-    let known = c.step-place.new.nodes.ok.0 in
-    let low = (s.grows.tree.rises c.loop-figure.place (get_or text i 0) c.step-place.result s.way).1 in
+    let kept = walk_kept a b s.grows 0 (take i text) c.loop-figure.index inv.way in
+    let known = c.step-index.new.nodes.ok.0 in
+    let low = (s.grows.tree.rises c.loop-figure.index (get_or text i 0) c.step-index.result s.way).1 in
     record {
-      way = ap (walk b 0) (take_more text i 0 (omega arith)) ∙ walked b (take i text) (get_or text i 0) c.loop-figure.place c.step-place.result kept s.way;
+      way = ap (walk b 0) (take_more text i 0 (omega arith)) ∙ walked b (take i text) (get_or text i 0) c.loop-figure.index c.step-index.result kept s.way;
       grows = grows_on c.args.nodes.now.items a b inv.grows s.grows;
       within = omega arith;
       len = omega arith;

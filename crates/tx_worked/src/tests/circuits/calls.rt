@@ -3,7 +3,7 @@ use std::alloc::Allocator;
 use tx_circuits::CircuitTable;
 use tx_plan::{Circuit, ExchangeId, GroupId};
 
-/// The places of the ends.
+/// The indexes of the ends.
 pub const ALFA: u16 = 0;
 
 pub const BETA: u16 = 1;

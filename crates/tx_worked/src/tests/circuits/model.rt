@@ -136,9 +136,9 @@ impl Model {
     pub fn apply(&mut self, call: Call) -> bool {
         let number = call.number;
         if 0 < number && number < 4 {
-            let place = (number - 1) as usize;
-            let held = self.circuits[place];
-            self.circuits[place] = held.after(call);
+            let index = (number - 1) as usize;
+            let held = self.circuits[index];
+            self.circuits[index] = held.after(call);
             return held.allows(call);
         }
         let (failed, blocked) = (self.failed, self.blocked);
@@ -165,9 +165,9 @@ impl Model {
         if self.failed || self.blocked {
             return found;
         }
-        for place in 0..3u32 {
-            if self.circuits[place as usize].is_free(exchange) && (found == 0 || exchange == BETA) {
-                found = place + 1;
+        for index in 0..3u32 {
+            if self.circuits[index as usize].is_free(exchange) && (found == 0 || exchange == BETA) {
+                found = index + 1;
             }
         }
         found

@@ -47,7 +47,7 @@ returns g c =
     let long : length new ≡ length slots = c.set_state.auto.slots ∙ ap length c.as_mut_slice.ensures.value in
     let len : length new ≡ c.self.inside.slots.len = c.set_state.auto.slots ∙ c.as_mut_slice.ensures.len in
     let rest = λ (s : Row) (a : AreApart row s). c.set_state.ensures.rest s a ∙ ap (λ (l : List Slot). group_slots l s) c.as_mut_slice.ensures.value in
-    let some : 0 < c.args.circuit.now.number = (let k = known c.args.self.now c.args.circuit.now c.requires in let e : c.args.circuit.now.number ≡ suc k.place = k.number in omega arith) in
+    let some : 0 < c.args.circuit.now.number = (let k = known c.args.self.now c.args.circuit.now c.requires in let e : c.args.circuit.now.number ≡ suc k.index = k.number in omega arith) in
     ap (λ (l : List Slot). map (group_state l) (slice_set rows c.index.result c.set_state.new.self)) (with_items_is c.self.inside.slots new len)
     ∙ view_updated slots rows c.args.self.now c.self.invariant c.self.view_is c.args.circuit.now.group c.index.result c.index.ensures row at new long c.set_state.new.self c.set_state.ensures.row c.set_state.ensures.sound rest
     (with_state c.args.circuit.now c.args.to)

@@ -3,5 +3,5 @@ use Rattle.tx_circuits.proofs.Built.{fresh}
 use Rattle.tx_circuits.proofs.table.CircuitTable.build.Given as goal
 
 -- the groups before this one stand, all their circuits free
-abbrev pub invariant-loop-place : goal.invariant-loop-place
-invariant-loop-place g l = l.groups ≡ map fresh (take l.place l.plan.groups)
+abbrev pub invariant-loop-index : goal.invariant-loop-index
+invariant-loop-index g l = l.groups ≡ map fresh (take l.index l.plan.groups)

@@ -4,11 +4,11 @@ use Rattle.std.specs.Option.{option_map}
 use Rattle.std.proofs.lemmas.Option.{slice_get_within}
 use Rattle.tx_plan.specs.Circuits.{is_circuit, circuits_at}
 use Rattle.tx_plan.specs.declared.ids.Circuit.{Circuit}
-use Rattle.tx_circuits.specs.inner.Groups.{first_place}
+use Rattle.tx_circuits.specs.inner.Groups.{first_index}
 use Rattle.tx_circuits.specs.Table.{Table, plan_of, is_down, is_free_at, first_free}
 use Rattle.tx_circuits.specs.inner.Seen.{table_of}
 use Rattle.tx_circuits.proofs.Reading.{first_is, first_known}
-use Rattle.tx_circuits.proofs.Steps.{group_at, place_is, end_is_there}
+use Rattle.tx_circuits.proofs.Steps.{group_at, index_is, end_is_there}
 use Rattle.tx_circuits.proofs.table.CircuitTable.first_free.Goals as goal
 
 abbrev numbered_in : ℕ → ℕ → Circuit
@@ -22,8 +22,8 @@ returns-then-is_down-clause-value g c =
 pub known_end-end-requires : goal.known_end-end-requires
 known_end-end-requires g c = sym (end_is_there c.self.inside.groups c.args.self.now c.self.view_is c.args.group c.args.exchange) ∙ c.requires
 
-pub first_place-requires : goal.first_place-requires
-first_place-requires g c =
+pub first_index-requires : goal.first_index-requires
+first_index-requires g c =
     let ts = c.self.inside.groups in
     let at = group_at ts c.args.group c.args.exchange c.known_end-end.result c.known_end-end.ensures in
     slice_get_within ts c.args.group at.group at.at
@@ -35,10 +35,10 @@ returns-in-Some-clause-value g c =
     let at = group_at ts c.args.group c.args.exchange end c.known_end-end.ensures in
     let up : is_down (table_of ts) c.args.group ≡ false = ap (λ (t : Table). is_down t c.args.group) c.self.view_is ∙ sym c.is_down.ensures ∙ c.if-is_down.false in
     let first = first_is ts c.args.group c.args.exchange at.group at.at end at.seizes up in
-    let place : Some c.in-Some.place ≡ first_place at.group end = place_is ts c.args.group end (Some c.in-Some.place) at.group c.in-Some.ensures at.at in
-    let same : c.from.result ≡ c.in-Some.place = c.from.ensures in
-    let number : suc c.in-Some.place ≡ c.from.result + 1 = omega arith in
-    ap (λ (n : ℕ). Some (numbered_in c.args.group n)) (sym number) ∙ ap (option_map (λ k. numbered_in c.args.group (suc k))) place ∙ sym first
+    let index : Some c.in-Some.index ≡ first_index at.group end = index_is ts c.args.group end (Some c.in-Some.index) at.group c.in-Some.ensures at.at in
+    let same : c.from.result ≡ c.in-Some.index = c.from.ensures in
+    let number : suc c.in-Some.index ≡ c.from.result + 1 = omega arith in
+    ap (λ (n : ℕ). Some (numbered_in c.args.group n)) (sym number) ∙ ap (option_map (λ k. numbered_in c.args.group (suc k))) index ∙ sym first
     ∙ ap (λ (t : Table). first_free t c.args.exchange c.args.group) c.self.view_is
 
 pub returns-in-Some-clause-known : goal.returns-in-Some-clause-known
@@ -48,11 +48,11 @@ returns-in-Some-clause-known g c =
     let at = group_at ts c.args.group c.args.exchange end c.known_end-end.ensures in
     let up : is_down (table_of ts) c.args.group ≡ false = ap (λ (t : Table). is_down t c.args.group) c.self.view_is ∙ sym c.is_down.ensures ∙ c.if-is_down.false in
     let first = first_is ts c.args.group c.args.exchange at.group at.at end at.seizes up in
-    let place : Some c.in-Some.place ≡ first_place at.group end = place_is ts c.args.group end (Some c.in-Some.place) at.group c.in-Some.ensures at.at in
-    let same : c.from.result ≡ c.in-Some.place = c.from.ensures in
-    let number : suc c.in-Some.place ≡ c.from.result + 1 = omega arith in
+    let index : Some c.in-Some.index ≡ first_index at.group end = index_is ts c.args.group end (Some c.in-Some.index) at.group c.in-Some.ensures at.at in
+    let same : c.from.result ≡ c.in-Some.index = c.from.ensures in
+    let number : suc c.in-Some.index ≡ c.from.result + 1 = omega arith in
     subst (λ (z : Table × ℕ). is_circuit (plan_of z.0) (numbered_in c.args.group z.1) ≡ true) (λ i. (c.self.view_is i, number i))
-    (first_known ts c.args.group c.args.exchange at.group at.at end at.seizes c.in-Some.place (sym place)).0
+    (first_known ts c.args.group c.args.exchange at.group at.at end at.seizes c.in-Some.index (sym index)).0
 
 pub returns-in-Some-clause-free : goal.returns-in-Some-clause-free
 returns-in-Some-clause-free g c =
@@ -61,11 +61,11 @@ returns-in-Some-clause-free g c =
     let at = group_at ts c.args.group c.args.exchange end c.known_end-end.ensures in
     let up : is_down (table_of ts) c.args.group ≡ false = ap (λ (t : Table). is_down t c.args.group) c.self.view_is ∙ sym c.is_down.ensures ∙ c.if-is_down.false in
     let first = first_is ts c.args.group c.args.exchange at.group at.at end at.seizes up in
-    let place : Some c.in-Some.place ≡ first_place at.group end = place_is ts c.args.group end (Some c.in-Some.place) at.group c.in-Some.ensures at.at in
-    let same : c.from.result ≡ c.in-Some.place = c.from.ensures in
-    let number : suc c.in-Some.place ≡ c.from.result + 1 = omega arith in
+    let index : Some c.in-Some.index ≡ first_index at.group end = index_is ts c.args.group end (Some c.in-Some.index) at.group c.in-Some.ensures at.at in
+    let same : c.from.result ≡ c.in-Some.index = c.from.ensures in
+    let number : suc c.in-Some.index ≡ c.from.result + 1 = omega arith in
     subst (λ (z : Table × ℕ). is_free_at z.0 c.args.exchange (numbered_in c.args.group z.1) ≡ true) (λ i. (c.self.view_is i, number i))
-    (first_known ts c.args.group c.args.exchange at.group at.at end at.seizes c.in-Some.place (sym place)).1
+    (first_known ts c.args.group c.args.exchange at.group at.at end at.seizes c.in-Some.index (sym index)).1
 
 pub returns-in-None-clause-value : goal.returns-in-None-clause-value
 returns-in-None-clause-value g c =
@@ -74,5 +74,5 @@ returns-in-None-clause-value g c =
     let at = group_at ts c.args.group c.args.exchange end c.known_end-end.ensures in
     let up : is_down (table_of ts) c.args.group ≡ false = ap (λ (t : Table). is_down t c.args.group) c.self.view_is ∙ sym c.is_down.ensures ∙ c.if-is_down.false in
     let first = first_is ts c.args.group c.args.exchange at.group at.at end at.seizes up in
-    let place : None ≡ first_place at.group end = place_is ts c.args.group end None at.group c.in-None.ensures at.at in
-    ap (option_map (λ k. numbered_in c.args.group (suc k))) place ∙ sym first ∙ ap (λ (t : Table). first_free t c.args.exchange c.args.group) c.self.view_is
+    let index : None ≡ first_index at.group end = index_is ts c.args.group end None at.group c.in-None.ensures at.at in
+    ap (option_map (λ k. numbered_in c.args.group (suc k))) index ∙ sym first ∙ ap (λ (t : Table). first_free t c.args.exchange c.args.group) c.self.view_is

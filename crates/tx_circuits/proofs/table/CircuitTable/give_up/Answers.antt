@@ -1,6 +1,6 @@
 use Rattle.std.proofs.Common.{◌∙◌, true, false, sym, ap}
 use Rattle.std.specs.Option.{option_map_or}
-use Rattle.tx_circuits.specs.declared.slot.State.{State}
+use Rattle.tx_circuits.specs.declared.slot.CircuitState.{CircuitState}
 use Rattle.tx_circuits.specs.inner.Slots.{has_seized}
 use Rattle.tx_circuits.specs.inner.Groups.{end_at, with_state, change_at}
 use Rattle.tx_circuits.specs.Table.{Table, withdrawn, released_unless}
@@ -25,13 +25,13 @@ returns g c =
     let x = c.args.circuit.now in
     let end = c.known_end-end.result in
     let left = c.with_seized-left.ensures in
-    let far = c.seizes_in.ensures ∙ ap (λ (s : State). option_map_or (λ e. has_seized e s) (end_at ts x.group c.args.far) false) left in
+    let far = c.seizes_in.ensures ∙ ap (λ (s : CircuitState). option_map_or (λ e. has_seized e s) (end_at ts x.group c.args.far) false) left in
     let viewed = ap (λ (t : Table). released_unless c.args.far x (withdrawn t x c.args.exchange)) c.self.view_is in
     elim c.if-seizes_in.branch [
       | then-seizes_in w ↦
-          ap table_of (c.set_state.ensures ∙ ap (λ (s : State). change_at (with_state x s) x.group ts) (w.to-is ∙ left))
+          ap table_of (c.set_state.ensures ∙ ap (λ (s : CircuitState). change_at (with_state x s) x.group ts) (w.to-is ∙ left))
           ∙ kept_is ts x c.known_state.result c.known_state.ensures end c.args.exchange c.known_end-end.ensures c.args.far (sym far ∙ w.if-seizes_in.true) ∙ viewed
       | else-seizes_in w ↦
-          ap table_of (c.set_state.ensures ∙ ap (λ (s : State). change_at (with_state x s) x.group ts) (w.to-is ∙ w.in_release-to.ensures ∙ ap (λ (s : State). record s { carried = false; releasing = true }) left))
+          ap table_of (c.set_state.ensures ∙ ap (λ (s : CircuitState). change_at (with_state x s) x.group ts) (w.to-is ∙ w.in_release-to.ensures ∙ ap (λ (s : CircuitState). record s { carried = false; releasing = true }) left))
           ∙ given_up_is ts x c.known_state.result c.known_state.ensures end c.args.exchange c.known_end-end.ensures c.args.far (sym far ∙ w.if-seizes_in.false) ∙ viewed
     ]

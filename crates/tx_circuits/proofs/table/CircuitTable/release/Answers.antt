@@ -1,5 +1,5 @@
 use Rattle.std.proofs.Common.{◌∙◌, sym, ap}
-use Rattle.tx_circuits.specs.declared.slot.State.{State}
+use Rattle.tx_circuits.specs.declared.slot.CircuitState.{CircuitState}
 use Rattle.tx_circuits.specs.inner.Groups.{with_state, change_at}
 use Rattle.tx_circuits.specs.Table.{Table, with_released}
 use Rattle.tx_circuits.specs.inner.Seen.{table_of}
@@ -17,4 +17,4 @@ pub returns : goal.returns
 returns g c =
     let ts = c.self.inside.groups in
     let x = c.args.circuit.now in
-    ap table_of (c.set_state.ensures ∙ ap (λ (s : State). change_at (with_state x s) x.group ts) c.in_release-to.ensures) ∙ released_is ts x c.known_state.result c.known_state.ensures ∙ ap (λ (t : Table). with_released t x) c.self.view_is
+    ap table_of (c.set_state.ensures ∙ ap (λ (s : CircuitState). change_at (with_state x s) x.group ts) c.in_release-to.ensures) ∙ released_is ts x c.known_state.result c.known_state.ensures ∙ ap (λ (t : Table). with_released t x) c.self.view_is

@@ -3,7 +3,7 @@ use Rattle.std.specs.FinSet as set
 use Rattle.tx_machine.specs.declared.reply.Reply.TheVariants.{Connected}
 use Rattle.tx_machine.specs.Call.{Call}
 use Rattle.tx_lines.specs.Book.{Book}
-use Rattle.tx_calls.specs.Calls.{calls_in}
+use Rattle.tx_calls.specs.KeptCalls.{calls_in}
 use Rattle.tx_engine.specs.inner.Seen.{state_seen}
 use Rattle.tx_engine.proofs.Routing.{sound_connected}
 use Rattle.tx_engine.proofs.engine.EngineState.connect.Goals as goal

@@ -3,7 +3,7 @@ use Rattle.tx_machine.specs.declared.cause.Cause.TheVariants.{Service as ByServi
 use Rattle.tx_machine.specs.declared.cause.Service.TheVariants.{Nc}
 use Rattle.tx_machine.specs.declared.reply.Reply.TheVariants.{HeadOn}
 use Rattle.tx_machine.specs.State.{State}
-use Rattle.tx_calls.specs.Calls.{kept_at}
+use Rattle.tx_calls.specs.KeptCalls.{kept_at}
 use Rattle.tx_calls.specs.inner.Keys.{keys_of, pick}
 use Rattle.tx_engine.specs.inner.InTurn.{pair_ended}
 use Rattle.tx_engine.proofs.Accepted.{head_on_done}

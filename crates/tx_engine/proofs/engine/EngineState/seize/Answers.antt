@@ -2,7 +2,7 @@ use Rattle.std.proofs.Common.{◌≡◌, ℕ, ◌<◌, ◌==◌, Some, refl, sym
 use Rattle.tx_machine.specs.declared.open_call.Phase.TheVariants.{Calling}
 use Rattle.tx_machine.specs.declared.reply.Reply.TheVariants.{Seized}
 use Rattle.tx_machine.specs.Routing.{set_call, in_phase}
-use Rattle.tx_calls.specs.Calls.{calls_in}
+use Rattle.tx_calls.specs.KeptCalls.{calls_in}
 use Rattle.tx_calls.proofs.Sorted.{twice}
 use Rattle.tx_engine.specs.inner.Seen.{state_seen}
 use Rattle.tx_engine.proofs.Changing.{sound_hop}
@@ -24,7 +24,7 @@ seize-requires-clause-known g c =
     let k = c.requires.decided.0 in
     let d = c.requires.decided.1 in
     let x = c.args.circuit.now in
-    known n c.requires.sound c.args.key k x c.place_of-here.result (stands_there n.plan.now n.calls c.args.key c.place_of-here.result k _ d.kept c.at.ensures c.place_of-here.ensures) d
+    known n c.requires.sound c.args.key k x c.exchange_of-here.result (stands_there n.plan.now n.calls c.args.key c.exchange_of-here.result k _ d.kept c.at.ensures c.exchange_of-here.ensures) d
 
 pub seize-requires-clause-may : goal.seize-requires-clause-may
 seize-requires-clause-may g c =
@@ -32,7 +32,7 @@ seize-requires-clause-may g c =
     let k = c.requires.decided.0 in
     let d = c.requires.decided.1 in
     let x = c.args.circuit.now in
-    may n c.requires.sound c.args.key k x c.place_of-here.result (stands_there n.plan.now n.calls c.args.key c.place_of-here.result k _ d.kept c.at.ensures c.place_of-here.ensures) d
+    may n c.requires.sound c.args.key k x c.exchange_of-here.result (stands_there n.plan.now n.calls c.args.key c.exchange_of-here.result k _ d.kept c.at.ensures c.exchange_of-here.ensures) d
 
 pub seize-requires-clause-free : goal.seize-requires-clause-free
 seize-requires-clause-free g c =
@@ -40,7 +40,7 @@ seize-requires-clause-free g c =
     let k = c.requires.decided.0 in
     let d = c.requires.decided.1 in
     let x = c.args.circuit.now in
-    free n c.requires.sound c.args.key k x c.place_of-here.result (stands_there n.plan.now n.calls c.args.key c.place_of-here.result k _ d.kept c.at.ensures c.place_of-here.ensures) d
+    free n c.requires.sound c.args.key k x c.exchange_of-here.result (stands_there n.plan.now n.calls c.args.key c.exchange_of-here.result k _ d.kept c.at.ensures c.exchange_of-here.ensures) d
 
 pub set-requires : goal.set-requires
 set-requires g c =
@@ -48,7 +48,7 @@ set-requires g c =
     let k = c.requires.decided.0 in
     let d = c.requires.decided.1 in
     let x = c.args.circuit.now in
-    has_keys n c.requires.sound c.args.key k x c.place_of-here.result (stands_there n.plan.now n.calls c.args.key c.place_of-here.result k _ d.kept c.at.ensures c.place_of-here.ensures) d
+    has_keys n c.requires.sound c.args.key k x c.exchange_of-here.result (stands_there n.plan.now n.calls c.args.key c.exchange_of-here.result k _ d.kept c.at.ensures c.exchange_of-here.ensures) d
 
 pub returns-clause-sound : goal.returns-clause-sound
 returns-clause-sound g c =
@@ -58,7 +58,7 @@ returns-clause-sound g c =
     let x = c.args.circuit.now in
     let h = c.reserve_hop.ensures.changes k d.kept in
     let calls = c.set_phase.ensures.calls (record k { room = h.0 }) h.1.changed ∙ ap (set_call k.call.number (in_phase (Calling x))) c.reserve_hop.ensures.calls in
-    sound_seized n c.requires.sound c.args.key k x c.place_of-here.result (stands_there n.plan.now n.calls c.args.key c.place_of-here.result k _ d.kept c.at.ensures c.place_of-here.ensures) d c.eq.result (c.eq.ensures ∙ ap (λ (z : ℕ × ℕ). z.0 == c.place_of-here.result) c.ends-first.ensures) c.seize.new.self c.seize.ensures c.set.new.self c.set.ensures
+    sound_seized n c.requires.sound c.args.key k x c.exchange_of-here.result (stands_there n.plan.now n.calls c.args.key c.exchange_of-here.result k _ d.kept c.at.ensures c.exchange_of-here.ensures) d c.eq.result (c.eq.ensures ∙ ap (λ (z : ℕ × ℕ). z.0 == c.exchange_of-here.result) c.ends-first.ensures) c.seize.new.self c.seize.ensures c.set.new.self c.set.ensures
     c.set_phase.new.self (record k { call = in_phase (Calling x) k.call; room = h.0 }) refl
     (twice n.calls c.reserve_hop.new.self c.set_phase.new.self c.args.key (Some (record k { room = h.0 })) _ h.1 (c.set_phase.ensures.changes (record k { room = h.0 }) h.1.changed))
     calls (subst (λ r. OnOk r (0 < h.0)) c.in_ok-reserve_hop.was h.3)

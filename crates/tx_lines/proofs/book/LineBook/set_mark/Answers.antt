@@ -1,7 +1,7 @@
 use Rattle.std.proofs.Common.{◌+◌, ◌≤◌, Bool, ap, sym, subst, ◌∙◌}
 use Rattle.std.specs.Prelude.{if◌then◌else◌}
 use Rattle.indexmap.specs.IndexMap.{spare}
-use Rattle.tx_lines.specs.Book.{place_taken}
+use Rattle.tx_lines.specs.Book.{room_taken}
 use Rattle.tx_lines.specs.inner.Kept.{with_mark_of}
 use Rattle.tx_lines.proofs.Sets.{book_added, book_taken, room_there, room_after}
 use Rattle.tx_lines.proofs.book.LineBook.set_mark.Goals as goal
@@ -16,7 +16,7 @@ returns-then-on-clause-lines g c =
 
 pub returns-then-on-clause-room : goal.returns-then-on-clause-room
 returns-then-on-clause-room g c =
-    subst (λ (on : Bool). c.args.self.now.room ≤ spare c.add_mark.new.statuses + (if on then place_taken c.args.self.now c.args.line.now else 0)) (sym c.if-on.true)
+    subst (λ (on : Bool). c.args.self.now.room ≤ spare c.add_mark.new.statuses + (if on then room_taken c.args.self.now c.args.line.now else 0)) (sym c.if-on.true)
     (room_after c.self.inside.ranges c.self.inside.statuses c.add_mark.new.statuses c.args.self.now c.self.view_is c.args.line.now c.args.mark c.add_mark.ensures.room)
 
 pub returns-else-on-clause-lines : goal.returns-else-on-clause-lines

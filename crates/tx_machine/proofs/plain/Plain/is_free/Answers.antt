@@ -18,7 +18,7 @@ returns-then-not-has-2 g c =
     let p = n.plan.now in
     let s = (net_of p n.calls.items n.marks n.faulty.items n.away.items n.numbers n.events n.tickets.items).state in
     let carried = c.carried_by.ensures ∙ ap (list_any (λ d. carries (call_seen d) x)) c.as_slice.ensures.value ∙ any_map (λ d. carries d x) call_seen n.calls.items in
-    let seized = c.seized_from.ensures ∙ ap (list_any (λ d. seizes_from p (call_seen d) x c.args.place)) c.as_slice-then-not-has-2.ensures.value ∙ any_map (λ d. seizes_from p d x c.args.place) call_seen n.calls.items in
+    let seized = c.seized_from.ensures ∙ ap (list_any (λ d. seizes_from p (call_seen d) x c.args.exchange)) c.as_slice-then-not-has-2.ensures.value ∙ any_map (λ d. seizes_from p d x c.args.exchange) call_seen n.calls.items in
     let uncarried : list_any (λ d. carries d x) s.calls ≡ false = elim c.if-not-has.branch [
       | then-not-has w ↦ elim c.if-not-carried_by.branch [ then-not-carried_by u ↦ sym carried ∙ u.if-not-carried_by.true | else-not-carried_by u ↦ absurd (let bad : ⊥ = cc in bad) ]
       | else-not-has w ↦ absurd (let bad : ⊥ = cc in bad)
@@ -32,8 +32,8 @@ returns-then-not-has-2 g c =
       | else-not-has w ↦ absurd (let bad : ⊥ = cc in bad)
     ] in
     (λ i. not (seized i))
-    ∙ sym (λ i. not (uncarried i) && (not (idle i) && (not (in_service i) && not (list_any (λ d. seizes_from p d x c.args.place) s.calls))))
-    ∙ ap (λ (v : Net). is_free_at v.plan v.state c.args.place x) c.self.view_is
+    ∙ sym (λ i. not (uncarried i) && (not (idle i) && (not (in_service i) && not (list_any (λ d. seizes_from p d x c.args.exchange) s.calls))))
+    ∙ ap (λ (v : Net). is_free_at v.plan v.state c.args.exchange x) c.self.view_is
 
 pub returns-else-not-has-2 : goal.returns-else-not-has-2
 returns-else-not-has-2 g c =
@@ -43,8 +43,8 @@ returns-else-not-has-2 g c =
     let s = (net_of p n.calls.items n.marks n.faulty.items n.away.items n.numbers n.events n.tickets.items).state in
     let carried = c.carried_by.ensures ∙ ap (list_any (λ d. carries (call_seen d) x)) c.as_slice.ensures.value ∙ any_map (λ d. carries d x) call_seen n.calls.items in
     let by_call = list_any (λ d. carries d x) s.calls in
-    let left = not (list_any (λ d. seizes_from p d x c.args.place) s.calls) in
-    let taken : is_free_at p s c.args.place x ≡ false = elim c.if-not-has.branch [
+    let left = not (list_any (λ d. seizes_from p d x c.args.exchange) s.calls) in
+    let taken : is_free_at p s c.args.exchange x ≡ false = elim c.if-not-has.branch [
       | then-not-has w ↦
           let out = sym w.has-then-not-has.ensures ∙ not-false _ (sym w.value-is ∙ c.if-not-has-2.false) in
           (λ i. not by_call && (not (set.contains n.marks.releasing.marked x) && (not (out i) && left))) ∙ ap (λ b. not by_call && b) (and-false (not (set.contains n.marks.releasing.marked x))) ∙ and-false (not by_call)
@@ -57,4 +57,4 @@ returns-else-not-has-2 g c =
             (λ i. not (by i) && (not (set.contains n.marks.releasing.marked x) && (not (set.contains n.marks.out.marked x) && left)))
       ]
     ] in
-    c.if-not-has-2.false ∙ sym taken ∙ ap (λ (v : Net). is_free_at v.plan v.state c.args.place x) c.self.view_is
+    c.if-not-has-2.false ∙ sym taken ∙ ap (λ (v : Net). is_free_at v.plan v.state c.args.exchange x) c.self.view_is

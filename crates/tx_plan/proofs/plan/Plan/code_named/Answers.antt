@@ -15,14 +15,14 @@ returns-then-figures-gt3 g c =
     sym (unnamed is_code (λ (r : Code). r.figures) (IsCode p) c.args.figures.now p.codes (λ x h. h.figures) (too_long is_code 3 short_code c.args.figures.now c.if-figures-gt3.true) c.self.invariant.codes)
     ∙ ap (λ (p : Plan). code_named p c.args.figures.now) c.self.view_is
 
-pub returns-in_err-place : goal.returns-in_err-place
-returns-in_err-place g c =
+pub returns-in_err-index : goal.returns-in_err-index
+returns-in_err-index g c =
     let es = c.self.inside.codes.entries in
-    c.from_residual.ensures ∙ c.in_err-place.ensures.index ∙ ap (λ (w : List ℕ). position (bytes_eq w) (keys_of es)) c.new.ensures ∙ position-map (bytes_eq c.args.figures.now) (λ e. e.0) es
+    c.from_residual.ensures ∙ c.in_err-index.ensures.index ∙ ap (λ (w : List ℕ). position (bytes_eq w) (keys_of es)) c.new.ensures ∙ position-map (bytes_eq c.args.figures.now) (λ e. e.0) es
     ∙ sym (position-map (λ (r : Code). bytes_eq c.args.figures.now r.figures) code_of_row es) ∙ ap (λ (p : Plan). code_named p c.args.figures.now) c.self.view_is
 
 pub returns : goal.returns
 returns g c =
     let es = c.self.inside.codes.entries in
-    ap Some c.of.ensures ∙ c.in_ok-place.ensures.index ∙ ap (λ (w : List ℕ). position (bytes_eq w) (keys_of es)) c.new.ensures ∙ position-map (bytes_eq c.args.figures.now) (λ e. e.0) es
+    ap Some c.of.ensures ∙ c.in_ok-index.ensures.index ∙ ap (λ (w : List ℕ). position (bytes_eq w) (keys_of es)) c.new.ensures ∙ position-map (bytes_eq c.args.figures.now) (λ e. e.0) es
     ∙ sym (position-map (λ (r : Code). bytes_eq c.args.figures.now r.figures) code_of_row es) ∙ ap (λ (p : Plan). code_named p c.args.figures.now) c.self.view_is

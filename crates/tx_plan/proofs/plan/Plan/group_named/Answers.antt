@@ -16,14 +16,14 @@ returns-then-name-gt8 g c =
     sym (unnamed is_name (λ (r : Group). r.name) (IsGroup p) c.args.name.now p.groups (λ x h. h.name) (too_long is_name 8 short_name c.args.name.now c.if-name-gt8.true) c.self.invariant.groups)
     ∙ ap (λ (p : Plan). group_named p c.args.name.now) c.self.view_is
 
-pub returns-in_err-place : goal.returns-in_err-place
-returns-in_err-place g c =
+pub returns-in_err-index : goal.returns-in_err-index
+returns-in_err-index g c =
     let es = c.self.inside.groups.entries in
-    c.from_residual.ensures ∙ c.in_err-place.ensures.index ∙ ap (λ (w : List ℕ). position (bytes_eq w) (keys_of es)) c.new.ensures ∙ position-map (bytes_eq c.args.name.now) (λ e. e.0) es
+    c.from_residual.ensures ∙ c.in_err-index.ensures.index ∙ ap (λ (w : List ℕ). position (bytes_eq w) (keys_of es)) c.new.ensures ∙ position-map (bytes_eq c.args.name.now) (λ e. e.0) es
     ∙ sym (position-map (λ (r : Group). bytes_eq c.args.name.now r.name) group_of_row es) ∙ ap (λ (p : Plan). group_named p c.args.name.now) c.self.view_is
 
 pub returns : goal.returns
 returns g c =
     let es = c.self.inside.groups.entries in
-    ap Some c.of.ensures ∙ c.in_ok-place.ensures.index ∙ ap (λ (w : List ℕ). position (bytes_eq w) (keys_of es)) c.new.ensures ∙ position-map (bytes_eq c.args.name.now) (λ e. e.0) es
+    ap Some c.of.ensures ∙ c.in_ok-index.ensures.index ∙ ap (λ (w : List ℕ). position (bytes_eq w) (keys_of es)) c.new.ensures ∙ position-map (bytes_eq c.args.name.now) (λ e. e.0) es
     ∙ sym (position-map (λ (r : Group). bytes_eq c.args.name.now r.name) group_of_row es) ∙ ap (λ (p : Plan). group_named p c.args.name.now) c.self.view_is

@@ -9,11 +9,11 @@ use Rattle.tx_risk.proofs.risks.Risks.name.Goals as goal
 pub returns-in-Some : goal.returns-in-Some
 returns-in-Some g c =
     c.bytes.ensures.value ∙ value_at risk_of_row (λ (r : NamedRisk). r.name) [] c.self.inside.rows.entries
-    c.args.place (Some (c.in-Some.name.now, c.in-Some.field-0-1.now)) c.in-Some.ensures.entry
-    ∙ ap (λ (rs : List NamedRisk). option_map_or (λ r. r.name) (slice_get rs c.args.place) []) c.self.view_is
+    c.args.index (Some (c.in-Some.name.now, c.in-Some.field-0-1.now)) c.in-Some.ensures.entry
+    ∙ ap (λ (rs : List NamedRisk). option_map_or (λ r. r.name) (slice_get rs c.args.index) []) c.self.view_is
 
 pub returns-in-None : goal.returns-in-None
 returns-in-None g c =
-    value_at risk_of_row (λ (r : NamedRisk). r.name) [] c.self.inside.rows.entries c.args.place None
+    value_at risk_of_row (λ (r : NamedRisk). r.name) [] c.self.inside.rows.entries c.args.index None
     c.in-None.ensures.entry
-    ∙ ap (λ (rs : List NamedRisk). option_map_or (λ r. r.name) (slice_get rs c.args.place) []) c.self.view_is
+    ∙ ap (λ (rs : List NamedRisk). option_map_or (λ r. r.name) (slice_get rs c.args.index) []) c.self.view_is

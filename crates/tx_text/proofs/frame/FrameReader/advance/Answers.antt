@@ -6,7 +6,7 @@ use Rattle.tx_text.specs.inner.TextLine.{line_of}
 use Rattle.tx_text.specs.inner.CallsLeft.{Went}
 use Rattle.tx_text.specs.inner.FrameFields.{frame_of}
 use Rattle.tx_text.specs.inner.Framing.{FrameReading, IsSound, to_come}
-use Rattle.tx_text.specs.inner.Reading.{reading_place, reading_size}
+use Rattle.tx_text.specs.inner.Reading.{reading_rest, reading_size}
 use Rattle.tx_text.proofs.Framing.{on_none}
 use Rattle.tx_text.proofs.CallCounts.{went_none, went_on, calls_on, broken_on, stopped_with}
 use Rattle.tx_text.proofs.Sizes.{on_ok, some_at}
@@ -29,7 +29,7 @@ pub returns-in-Err-clause-gives : goal.returns-in-Err-clause-gives
 returns-in-Err-clause-gives g c =
     let v = c.lines.self-inside in
     let n = c.advance.new.self in
-    let s = frame_err (header_of v.key.now v.most) _ _ _ _ v.phase v.number (reading_place v.reader) (reading_place n) n.feed.line _ c.in-Err.fault c.lines.invariant.says c.in-Err.ensures.gives in
+    let s = frame_err (header_of v.key.now v.most) _ _ _ _ v.phase v.number (reading_rest v.reader) (reading_rest n) n.feed.line _ c.in-Err.fault c.lines.invariant.says c.in-Err.ensures.gives in
     let called = g.R.Source.called in
     let failed = g.R.Source.failed c.advance.new.source in
     stopped_with _ _ _ _ _ (is_read c.in-Err.fault) _ (broken_on called failed c.args.self.now.reader.left v.reader.left _ _ _ c.lines.invariant.went) s
@@ -40,7 +40,7 @@ returns-in-Ok-false-clause-gives g c =
     let n = c.advance.new.self in
     let broken = Broken g.R.Source.called (g.R.Source.failed c.advance.new.source) c.args.self.now.reader.left c.args.source.now c.advance.new.source in
     rw (c.end_as.ensures, c.closing.ensures)
-    (frame_end (header_of v.key.now v.most) _ _ _ _ (to_come (frame_of (record v { reader = n }))) v.phase v.number (reading_place v.reader) n.feed.line broken c.lines.invariant.says (rw c.in-Ok-false.field-0-test at c.in-Ok-false.ensures.gives))
+    (frame_end (header_of v.key.now v.most) _ _ _ _ (to_come (frame_of (record v { reader = n }))) v.phase v.number (reading_rest v.reader) n.feed.line broken c.lines.invariant.says (rw c.in-Ok-false.field-0-test at c.in-Ok-false.ensures.gives))
 
 pub returns-then-not-line-clause-gives : goal.returns-then-not-line-clause-gives
 returns-then-not-line-clause-gives g c =
@@ -48,7 +48,7 @@ returns-then-not-line-clause-gives g c =
     let n = c.advance.new.self in
     let broken = Broken g.R.Source.called (g.R.Source.failed c.advance.new.source) c.args.self.now.reader.left c.args.source.now c.advance.new.source in
     rw (c.end_as-then-not-line.ensures, c.last_fault.ensures)
-    (frame_last (header_of v.key.now v.most) _ _ _ _ (to_come (frame_of (record v { reader = n }))) v.phase v.number (reading_place v.reader) (reading_place n) n.feed.line n.feed.line (line_of c.line-line.result) broken c.lines.invariant.says (rw c.in-Ok-true.field-0-test at c.in-Ok-true.ensures.gives) c.line-line.ensures.line c.if-not-line.true)
+    (frame_last (header_of v.key.now v.most) _ _ _ _ (to_come (frame_of (record v { reader = n }))) v.phase v.number (reading_rest v.reader) (reading_rest n) n.feed.line n.feed.line (line_of c.line-line.result) broken c.lines.invariant.says (rw c.in-Ok-true.field-0-test at c.in-Ok-true.ensures.gives) c.line-line.ensures.line c.if-not-line.true)
 
 pub lines-preserved-in-Blank : goal.lines-preserved-in-Blank
 lines-preserved-in-Blank g c =
@@ -56,7 +56,7 @@ lines-preserved-in-Blank g c =
     let n = c.advance.new.self in
     let i = c.lines.invariant in
     record {
-      says = frame_line (header_of v.key.now v.most) _ _ _ _ v.phase v.number (reading_place v.reader) (reading_place n) n.feed.line (line_of c.line-line.result) Blank i.says (rw c.in-Ok-true.field-0-test at c.in-Ok-true.ensures.gives) c.line-line.ensures.line c.if-not-line.false c.in-Blank.ensures;
+      says = frame_line (header_of v.key.now v.most) _ _ _ _ v.phase v.number (reading_rest v.reader) (reading_rest n) n.feed.line (line_of c.line-line.result) Blank i.says (rw c.in-Ok-true.field-0-test at c.in-Ok-true.ensures.gives) c.line-line.ensures.line c.if-not-line.false c.in-Blank.ensures;
       sound = c.in-Ok-true.ensures.fault;
       less = omega (arith, c.in-Ok-true.ensures.falls c.in-Ok-true.field-0-test, i.less);
       went = went_on g.R.Source.called _ v.reader.left n.left _ _ _ i.went (some_at _ _ _ c.line-line.ensures.line (c.in-Ok-true.ensures.went (ap Ok c.in-Ok-true.field-0-test)) c.if-not-line.false);
@@ -69,7 +69,7 @@ lines-preserved g c =
     let n = c.advance.new.self in
     let i = c.lines.invariant in
     record {
-      says = frame_line (header_of v.key.now v.most) _ _ _ _ v.phase v.number (reading_place v.reader) (reading_place n) n.feed.line (line_of c.line-line.result) End i.says (rw c.in-Ok-true.field-0-test at c.in-Ok-true.ensures.gives) c.line-line.ensures.line c.if-not-line.false c.in-End.ensures;
+      says = frame_line (header_of v.key.now v.most) _ _ _ _ v.phase v.number (reading_rest v.reader) (reading_rest n) n.feed.line (line_of c.line-line.result) End i.says (rw c.in-Ok-true.field-0-test at c.in-Ok-true.ensures.gives) c.line-line.ensures.line c.if-not-line.false c.in-End.ensures;
       sound = c.in-Ok-true.ensures.fault;
       less = omega (arith, c.in-Ok-true.ensures.falls c.in-Ok-true.field-0-test, i.less);
       went = went_on g.R.Source.called _ v.reader.left n.left _ _ _ i.went (some_at _ _ _ c.line-line.ensures.line (c.in-Ok-true.ensures.went (ap Ok c.in-Ok-true.field-0-test)) c.if-not-line.false);
@@ -80,19 +80,19 @@ pub returns-in-Header-clause-gives : goal.returns-in-Header-clause-gives
 returns-in-Header-clause-gives g c =
     let v = c.lines.self-inside in
     let n = c.advance.new.self in
-    frame_line (header_of v.key.now v.most) _ _ _ _ v.phase v.number (reading_place v.reader) (reading_place n) n.feed.line (line_of c.line-line.result) (Header c.in-Header.version) c.lines.invariant.says (rw c.in-Ok-true.field-0-test at c.in-Ok-true.ensures.gives) c.line-line.ensures.line c.if-not-line.false c.in-Header.ensures
+    frame_line (header_of v.key.now v.most) _ _ _ _ v.phase v.number (reading_rest v.reader) (reading_rest n) n.feed.line (line_of c.line-line.result) (Header c.in-Header.version) c.lines.invariant.says (rw c.in-Ok-true.field-0-test at c.in-Ok-true.ensures.gives) c.line-line.ensures.line c.if-not-line.false c.in-Header.ensures
 
 pub returns-in-Plain-clause-gives : goal.returns-in-Plain-clause-gives
 returns-in-Plain-clause-gives g c =
     let v = c.lines.self-inside in
     let n = c.advance.new.self in
-    frame_plain (header_of v.key.now v.most) _ _ _ _ v.phase v.number (reading_place v.reader) (reading_place n) n.feed.line (line_of c.line-line.result) c.lines.invariant.says (rw c.in-Ok-true.field-0-test at c.in-Ok-true.ensures.gives) c.line-line.ensures.line c.if-not-line.false c.in-Plain.ensures
+    frame_plain (header_of v.key.now v.most) _ _ _ _ v.phase v.number (reading_rest v.reader) (reading_rest n) n.feed.line (line_of c.line-line.result) c.lines.invariant.says (rw c.in-Ok-true.field-0-test at c.in-Ok-true.ensures.gives) c.line-line.ensures.line c.if-not-line.false c.in-Plain.ensures
 
 pub returns-in-Bad-clause-gives : goal.returns-in-Bad-clause-gives
 returns-in-Bad-clause-gives g c =
     let v = c.lines.self-inside in
     let n = c.advance.new.self in
-    frame_bad (header_of v.key.now v.most) _ _ _ _ v.phase v.number (reading_place v.reader) (reading_place n) n.feed.line (line_of c.line-line.result) _ c.in-Bad.fault c.lines.invariant.says (rw c.in-Ok-true.field-0-test at c.in-Ok-true.ensures.gives) c.line-line.ensures.line c.if-not-line.false c.in-Bad.ensures
+    frame_bad (header_of v.key.now v.most) _ _ _ _ v.phase v.number (reading_rest v.reader) (reading_rest n) n.feed.line (line_of c.line-line.result) _ c.in-Bad.fault c.lines.invariant.says (rw c.in-Ok-true.field-0-test at c.in-Ok-true.ensures.gives) c.line-line.ensures.line c.if-not-line.false c.in-Bad.ensures
 
 pub returns-in-Header-clause-went : goal.returns-in-Header-clause-went
 returns-in-Header-clause-went g c =

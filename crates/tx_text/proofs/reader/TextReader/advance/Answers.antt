@@ -1,5 +1,5 @@
 use Rattle.std.proofs.Common.{◌≡◌, suc, refl, Bool, ap, ◌∙◌, sym, Ok, inl, inr, true, false, None, arith}
-use Rattle.tx_text.specs.inner.Reading.{reading_place, reading_size, Reading, IsFeed}
+use Rattle.tx_text.specs.inner.Reading.{reading_rest, reading_size, Reading, IsFeed}
 use Rattle.tx_text.proofs.Sizes.{if_ok, on_ok, if_some, fed_left, fed_smaller, emptied}
 use Rattle.tx_text.proofs.CallCounts.{went_none, went_same, went_more, calls_so_far, calls_more, gave_all}
 use Rattle.tx_text.proofs.Exits.{exits_with}
@@ -16,13 +16,13 @@ returns-in_err-feed-clause-gives g c =
     let n = c.feed.new.self in
     let x = c.in_err-feed.field-0.0 in
     rw (exits_with c.from_residual.result x c.from_residual.ensures.1)
-    (adv_err _ _ _ (reading_place r) n.feed n.piece c.pieces.invariant.says x (reading_place n) n.feed.line _ (says_at r n _ c.feed.ensures.known c.pieces.invariant.sound c.in_err-feed.ensures.gives c.feed.ensures.leaves))
+    (adv_err _ _ _ (reading_rest r) n.feed n.piece c.pieces.invariant.says x (reading_rest n) n.feed.line _ (says_at r n _ c.feed.ensures.known c.pieces.invariant.sound c.in_err-feed.ensures.gives c.feed.ensures.leaves))
 
 pub returns-then-branch-clause-gives : goal.returns-then-branch-clause-gives
 returns-then-branch-clause-gives g c =
     let r = c.pieces.self in
     let n = c.feed.new.self in
-    adv_line _ _ _ (reading_place r) n.feed n.piece c.pieces.invariant.says (says_at r n (Ok true) c.feed.ensures.known c.pieces.invariant.sound (ap Ok (sym c.if-branch.true) ∙ c.in_ok-feed.ensures.gives) c.feed.ensures.leaves)
+    adv_line _ _ _ (reading_rest r) n.feed n.piece c.pieces.invariant.says (says_at r n (Ok true) c.feed.ensures.known c.pieces.invariant.sound (ap Ok (sym c.if-branch.true) ∙ c.in_ok-feed.ensures.gives) c.feed.ensures.leaves)
 
 pub returns-then-self-eq0-clause-gives : goal.returns-then-self-eq0-clause-gives
 returns-then-self-eq0-clause-gives g c =
@@ -32,7 +32,7 @@ returns-then-self-eq0-clause-gives g c =
     let none : 0 ≡ r.left = sym (ap (λ (x : Reading). x.left) (sym c.self.view_is) ∙ c.if-self-eq0.true) ∙ fed_left r n c.feed.ensures.leaves in
     let called = g.R.Source.called in
     let all = gave_all called c.args.self.now.left _ _ (went_same called _ _ 0 _ _ none c.pieces.invariant.went) in
-    (adv_cut _ (on_empty _ _ _ (reading_place r) n.feed n.piece c.pieces.invariant.says s) c.feed.ensures.known_after, inr all)
+    (adv_cut _ (on_empty _ _ _ (reading_rest r) n.feed n.piece c.pieces.invariant.says s) c.feed.ensures.known_after, inr all)
 
 pub pieces-preserved : goal.pieces-preserved
 pieces-preserved g c =
@@ -41,7 +41,7 @@ pieces-preserved g c =
     let i = c.pieces.invariant in
     let s = says_at r n (Ok false) c.feed.ensures.known i.sound (ap Ok (sym c.if-branch.false) ∙ c.in_ok-feed.ensures.gives) c.feed.ensures.leaves in
     record {
-      says = after_fill _ _ _ _ n.feed c.fill.new.self (on_empty _ _ _ (reading_place r) n.feed n.piece i.says s) c.fill.ensures.feed c.fill.ensures.bytes;
+      says = after_fill _ _ _ _ n.feed c.fill.new.self (on_empty _ _ _ (reading_rest r) n.feed n.piece i.says s) c.fill.ensures.feed c.fill.ensures.bytes;
       sound = rw c.fill.ensures.feed s.0;
       less = omega (arith, c.fill.ensures.left, c.fill.ensures.short, emptied r n c.feed.ensures.leaves s.1, i.less);
       went = went_more g.R.Source.called _ _ _ _ _ (went_same g.R.Source.called _ _ (suc c.fill.new.self.left) _ _ (omega (arith, c.fill.ensures.left, fed_left r n c.feed.ensures.leaves)) i.went) (c.in_ok-fill.ensures.gave (ap Ok c.if-not-branch.false));
@@ -55,7 +55,7 @@ returns-in_err-fill-clause-gives g c =
     let s = says_at r n (Ok false) c.feed.ensures.known c.pieces.invariant.sound (ap Ok (sym c.if-branch.false) ∙ c.in_ok-feed.ensures.gives) c.feed.ensures.leaves in
     let x = c.in_err-fill.field-0.0 in
     let e = c.in_err-fill.ensures.err in
-    let fed = after_empty_fill _ _ _ _ n.feed c.fill.new.self (on_empty _ _ _ (reading_place r) n.feed n.piece c.pieces.invariant.says s) c.fill.ensures.feed c.fill.ensures.bytes e.1 in
+    let fed = after_empty_fill _ _ _ _ n.feed c.fill.new.self (on_empty _ _ _ (reading_rest r) n.feed n.piece c.pieces.invariant.says s) c.fill.ensures.feed c.fill.ensures.bytes e.1 in
     let i : IsFeed c.fill.new.self.feed = rw c.fill.ensures.feed c.feed.ensures.known_after in
     rw (exits_with c.from_residual-in_err-fill.result x c.from_residual-in_err-fill.ensures.1, e.0) (adv_cut _ fed i, inl e.2)
 
@@ -65,7 +65,7 @@ returns-then-not-branch-clause-gives g c =
     let n = c.feed.new.self in
     let s = says_at r n (Ok false) c.feed.ensures.known c.pieces.invariant.sound (ap Ok (sym c.if-branch.false) ∙ c.in_ok-feed.ensures.gives) c.feed.ensures.leaves in
     let e = c.in_ok-fill.ensures.end (ap Ok c.if-not-branch.true) in
-    let fed = after_empty_fill _ _ _ _ n.feed c.fill.new.self (on_empty _ _ _ (reading_place r) n.feed n.piece c.pieces.invariant.says s) c.fill.ensures.feed c.fill.ensures.bytes e.0 in
+    let fed = after_empty_fill _ _ _ _ n.feed c.fill.new.self (on_empty _ _ _ (reading_rest r) n.feed n.piece c.pieces.invariant.says s) c.fill.ensures.feed c.fill.ensures.bytes e.0 in
     let i : IsFeed c.fill.new.self.feed = rw c.fill.ensures.feed c.feed.ensures.known_after in
     let z : c.fill.new.self.feed.fault ≡ None = rw c.fill.ensures.feed s.0 in
     rw (c.finish.ensures.gives, c.finish.ensures.leaves) (adv_end _ c.fill.new.self.feed fed i z e.1 _ _)

@@ -10,8 +10,8 @@ use Rattle.tx_trie.proofs.trie.CodeTrie.ambiguous.Goals as goal
 pub returns : goal.returns
 returns g c =
     let cs = map code_of_row c.self.inside.codes.items in
-    let end : c.loop-place.place ≡ length cs =
-    (let e = length-map c.self.inside.codes.items code_of_row in let known = c.self.inside.codes.ok.0 in let l = c.len-count.ensures in let t = c.loop-place-test.false in let u = c.loop-place.auto.place-end in omega arith) in
-    least_of_all cs c.self.inside.nodes.items c.self.invariant c.loop-place.least
-    (subst (λ n. IsLeastBelow cs n c.loop-place.least) end (subst (λ (l : List Code). IsLeastBelow l c.loop-place.place c.loop-place.least) (sym c.self.view_is) c.loop-place.invariant))
+    let end : c.loop-index.index ≡ length cs =
+    (let e = length-map c.self.inside.codes.items code_of_row in let known = c.self.inside.codes.ok.0 in let l = c.len-count.ensures in let t = c.loop-index-test.false in let u = c.loop-index.auto.index-end in omega arith) in
+    least_of_all cs c.self.inside.nodes.items c.self.invariant c.loop-index.least
+    (subst (λ n. IsLeastBelow cs n c.loop-index.least) end (subst (λ (l : List Code). IsLeastBelow l c.loop-index.index c.loop-index.least) (sym c.self.view_is) c.loop-index.invariant))
     ∙ ap ambiguous_of c.self.view_is

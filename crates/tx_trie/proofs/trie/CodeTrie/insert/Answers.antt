@@ -14,26 +14,26 @@ invariant_of-self-2 g c =
     let rows = c.self.inside.codes.items in
     let nodes = c.self.inside.nodes.items in
     let reserved = c.reserve-2.new.self.items in
-    let grown = c.reach-place.new.nodes.items in
-    let place = c.reach-place.result in
+    let grown = c.reach-index.new.nodes.items in
+    let index = c.reach-index.result in
     let d = c.index_mut-node.result.now in
     let text = c.bytes.result.now in
-    let r = c.reach-place.ensures in
+    let r = c.reach-index.ensures in
     let codes_are : map code_of_row rows ≡ c.args.self.now = c.self.view_is in
     let count : length c.args.self.now ≡ length rows = ap length (sym codes_are) ∙ simp length-map in
     let trie : IsTrie (map code_of_row rows) reserved = subst (λ n. IsTrie (map code_of_row rows) n) (sym c.reserve-2.ensures.items) c.self.invariant in
-    let way : walk grown 0 c.args.figures ≡ Some place = ap (walk grown 0) (sym c.bytes.ensures.value) ∙ r.way in
-    let low = walk_within grown r.grows.tree 0 text place r.grows.tree.root r.way in
+    let way : walk grown 0 c.args.figures ≡ Some index = ap (walk grown 0) (sym c.bytes.ensures.value) ∙ r.way in
+    let low = walk_within grown r.grows.tree 0 text index r.grows.tree.root r.way in
     let short = (widths c.args.figures c.requires.form).1 in
     let wide : length text ≡ length c.args.figures = ap length c.bytes.ensures.value in
-    let k1 = c.reach-place.new.nodes.ok.0 in
+    let k1 = c.reach-index.new.nodes.ok.0 in
     let k2 = c.reserve-2.new.self.ok.0 in
     let k3 = c.reserve.new.self.ok.0 in
     let same : length c.reserve.new.self.items ≡ length rows = ap length c.reserve.ensures.items in
     let few : length (map code_of_row rows) < 1100 = (let e = ap length codes_are in let f = c.requires.few in omega arith) in
-    held rows c.push_reserved.new.self.items (record { figures = c.args.figures; home = c.args.home }) reserved grown _ place c.of.result d trie r.grows
+    held rows c.push_reserved.new.self.items (record { figures = c.args.figures; home = c.args.home }) reserved grown _ index c.of.result d trie r.grows
     (c.push_reserved.ensures.items ∙ ap (λ l. l ++ record { figures = c.args.figures; home = c.args.home } ∷ []) c.reserve.ensures.items)
-    (λ i. slice_set grown place (record { code = Some c.of.result; next = d.next })) (slice_get_read grown (length grown) place d (λ i. length grown) low c.index_mut-node.ensures.value) way c.requires.form
+    (λ i. slice_set grown index (record { code = Some c.of.result; next = d.next })) (slice_get_read grown (length grown) index d (λ i. length grown) low c.index_mut-node.ensures.value) way c.requires.form
     (λ i e at. c.requires.unused i e (ap (λ l. slice_get l i) (sym codes_are) ∙ at))
     (c.of.ensures ∙ (let z : c.len.result ≡ length (map code_of_row rows) = (let e = c.len.ensures in simp length-map (omega arith)) in z)) few (omega (arith, r.len))
 

@@ -1,4 +1,4 @@
--- What is known of the member of a list at a place, and that its key leads back to the place.
+-- What is known of the member of a list at an index, and that its key leads back to the index.
 use Rattle.std.proofs.Common.{◌≡◌, ◌≢◌, ℕ, zero, suc, ◌<◌, Bool, nat_lt, true, false, List, [], ◌∷◌, ◌++◌, length, Some, refl, sym, ap, subst, arith}
 use Rattle.std.specs.List.{AllByRecursion, list_any, slice_get, position, position_or_len}
 use Rattle.std.specs.Str.{bytes_eq}
@@ -39,18 +39,18 @@ module _ {A : Type 0} where
         let r = first_at xs i x h.1 e in
         rw (t, r) (omega arith)
 
-    pub place_back : (xs : List A) (i : ℕ) (x : A) → EachPair (λ a b. key a ≢ key b) xs → slice_get xs i ≡ Some x → position (λ a. bytes_eq (key x) (key a)) xs ≡ Some i
-    place_back xs i x h e =
+    pub index_back : (xs : List A) (i : ℕ) (x : A) → EachPair (λ a b. key a ≢ key b) xs → slice_get xs i ≡ Some x → position (λ a. bytes_eq (key x) (key a)) xs ≡ Some i
+    index_back xs i x h e =
         let p = first_at xs i x h e in
         let l = lt-ltb i (length xs) (slice_get_within xs i x e) in
         rw (p, l) refl
 
-    pub place_passes : (xs : List A) (i : ℕ) (x : A) → slice_get xs i ≡ Some x → list_any (λ a. bytes_eq (key x) (key a)) xs ≡ true
-    place_passes xs i x e = any_passes_from_place (λ a. bytes_eq (key x) (key a)) xs i x e (bytes_same (key x) (key x) refl)
+    pub index_passes : (xs : List A) (i : ℕ) (x : A) → slice_get xs i ≡ Some x → list_any (λ a. bytes_eq (key x) (key a)) xs ≡ true
+    index_passes xs i x e = any_passes_from_place (λ a. bytes_eq (key x) (key a)) xs i x e (bytes_same (key x) (key x) refl)
 
--- the place that a search gives is one of the list
-pub place_within : {A : Type 0} (test : A → Bool) (xs : List A) (i : ℕ) → position test xs ≡ Some i → i < length xs
-place_within test xs i h =
+-- the index that a search gives is one of the list
+pub index_within : {A : Type 0} (test : A → Bool) (xs : List A) (i : ℕ) → position test xs ≡ Some i → i < length xs
+index_within test xs i h =
     let r = cond_some (nat_lt (position_or_len test xs) (length xs)) (position_or_len test xs) i h in
     let l = ltb-true (position_or_len test xs) (length xs) r.0 in
     omega (arith, r.1)

@@ -1,12 +1,12 @@
 // Why a command that was found is refused.
 ghost use Rattle.std.specs.Prelude.{◌≡◌};
-ghost use Rattle.tx_commands.specs.declared.refusal.Refusal.TheVariants.{NoMemory as OutOfMemory};
+ghost use Rattle.tx_commands.specs.declared.misuse.Misuse.TheVariants.{NoMemory as OutOfMemory};
 
 use std::alloc::AllocError;
 
 /// Why the words of a command are refused, beside what the library of command lines refuses.
 #[derive(Clone, Copy)]
-pub(crate) enum Refusal {
+pub(crate) enum Misuse {
     /// A word that it needs is missing, which the grammar rules out.
     Incomplete,
     /// `run` has some of its three options, and not all.
@@ -25,10 +25,10 @@ pub(crate) enum Refusal {
     NoMemory,
 }
 
-impl From<AllocError> for Refusal {
+impl From<AllocError> for Misuse {
     ghost from_gives = { λ _ refusal. refusal ≡ OutOfMemory };
 
-    fn from(_e: AllocError) -> Refusal {
-        Refusal::NoMemory
+    fn from(_e: AllocError) -> Misuse {
+        Misuse::NoMemory
     }
 }

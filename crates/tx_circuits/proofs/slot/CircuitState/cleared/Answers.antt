@@ -1,5 +1,5 @@
 use Rattle.std.proofs.Common.{rules}
-use Rattle.tx_circuits.proofs.slot.State.cleared.Goals as goal
+use Rattle.tx_circuits.proofs.slot.CircuitState.cleared.Goals as goal
 
 pub returns : goal.returns
 returns c = search rules

@@ -1,4 +1,4 @@
--- Free circuits lie in the group; what a place has beside it in a list.
+-- Free circuits lie in the group; what an index has beside it in a list.
 use Rattle.std.proofs.Common.{◌≡◌, ◌≢◌, ℕ, zero, suc, ◌+◌, ◌<◌, ◌≤◌, Bool, true, false, List, [], ◌∷◌, length, map, slice_index_or, Option, Some, None, refl, sym, subst, ap, ◌∙◌, arith}
 use Rattle.std.specs.Prelude.{IfSome, unwrap_or}
 use mathlib.Core.Bool.{beq}
@@ -39,7 +39,7 @@ pub last_within : (free : ℕ → Bool) (rank : ℕ → ℕ) (high n : ℕ) → 
 last_within free rank high n inside None l = tt
 last_within free rank high n inside (Some j) l = inside j l.0
 
--- what follows the begin of a list, or a free place
+-- what follows the begin of a list, or a free index
 pub at : (free : ℕ → Bool) (rank : ℕ → ℕ) (next : Option ℕ → Option ℕ) → IsLinked free rank next → (q : Option ℕ) → IfSome q (λ k. free k ≡ true) → IsFirst free rank (beyond rank q) (next q)
 at free rank next list None on = list.begins
 at free rank next list (Some k) on = list.goes_on k on
@@ -48,7 +48,7 @@ last_free : (free : ℕ → Bool) (rank : ℕ → ℕ) (high : ℕ) (q : Option 
 last_free free rank high None l = tt
 last_free free rank high (Some p) l = l.0
 
--- the neighbour after a place is what follows the one before it
+-- the neighbour after an index is what follows the one before it
 module _ (free : ℕ → Bool) (inside : (k : ℕ) → free k ≡ true → k < 240) (i : ℕ) (i_in : i < 240) (taken : free i ≡ false) where
   after : (w : Way) (next : Option ℕ → Option ℕ) → IsLinked free (rank_of w) next → (q : Option ℕ) → IsLast free (rank_of w) (rank_of w i) q → IsFirst free (rank_of w) (rank_of w i + 1) (next q)
   after w next list q last =
@@ -60,7 +60,7 @@ module _ (free : ℕ → Bool) (inside : (k : ℕ) → free k ≡ true → k < 2
   beside Up next list q r e last = subst (IsLast free (rank_of Down) (rank_of Down i)) (sym e) (to_last free inside i i_in Down (next q) (after Up next list q last))
   beside Down next list q r e last = subst (IsLast free (rank_of Up) (rank_of Up i)) (sym e) (to_last free inside i i_in Up (next q) (after Down next list q last))
 
--- a place that is taken is no neighbour
+-- an index that is taken is no neighbour
 pub not_itself : (free : ℕ → Bool) (rank : ℕ → ℕ) (high i : ℕ) → free i ≡ false → (r : Option ℕ) → IsLast free rank high r → Some i ≢ r
 not_itself free rank high i taken None l e = absurd cc
 not_itself free rank high i taken (Some j) l e = (let same : i ≡ j = ap (λ o. unwrap_or o 0) e in let bad : true ≡ false = sym l.0 ∙ subst (λ k. free k ≡ false) same taken in absurd cc)

@@ -3,7 +3,7 @@ use Rattle.std.specs.Prelude.{slice_get}
 use Rattle.tx_machine.specs.Call.{start_of}
 use Rattle.tx_machine.specs.Seen.{call_seen}
 use Rattle.tx_machine.proofs.LastHop.{last_is}
-use Rattle.tx_machine.proofs.open_call.place_of.Goals as goal
+use Rattle.tx_machine.proofs.open_call.exchange_of.Goals as goal
 
 pub returns-in-Some : goal.returns-in-Some
 returns-in-Some g c =

@@ -15,26 +15,26 @@ pub record Kept : Type 0 where
   pub room : ℕ
 
 -- what is kept under each key from 0 on, and how many more calls and numbers there is room for
-pub record Calls : Type 0 where
+pub record KeptCalls : Type 0 where
   pub slots : List (Option Kept)
   pub call_room : ℕ
   pub number_room : ℕ
 
 -- there is room for one more call
-pub record HasRoom (v : Calls) : Type 0 where
+pub record HasRoom (v : KeptCalls) : Type 0 where
   pub calls : 0 < v.call_room
   pub numbers : 0 < v.number_room
 
 -- what is kept under a key
-abbrev pub kept_at : Calls → ℕ → Option Kept
+abbrev pub kept_at : KeptCalls → ℕ → Option Kept
 kept_at v key = slice_index_or v.slots key None
 
 -- the new ones have this under the key, and under every other key what was there
-pub record Changes (old new : Calls) (key : ℕ) (slot : Option Kept) : Type 0 where
+pub record Changes (old new : KeptCalls) (key : ℕ) (slot : Option Kept) : Type 0 where
   pub changed : kept_at new key ≡ slot
   pub others : (other : ℕ) → other ≢ key → kept_at new other ≡ kept_at old other
 
--- a call in its place by number
+-- a call where its number stands
 abbrev pub put_call : Call → List Call → List Call
 put_call c [] = c ∷ []
 put_call c (d ∷ ds) = if nat_lt c.number d.number then c ∷ d ∷ ds else d ∷ put_call c ds
@@ -46,7 +46,7 @@ sorted_calls (None ∷ slots) = sorted_calls slots
 sorted_calls (Some k ∷ slots) = put_call k.call (sorted_calls slots)
 
 -- the calls in order of their numbers
-abbrev pub calls_in : Calls → List Call
+abbrev pub calls_in : KeptCalls → List Call
 calls_in v = sorted_calls v.slots
 
 -- a call as it is kept: what is seen of it, and how many more hops have room
@@ -59,7 +59,7 @@ module _ {A : Type 0} where
   slots_of s = map (option_map kept_of) s.slots
 
   -- what a slab of calls and an index by number come to
-  abbrev pub calls_of : {S : Type 0} → Slab (OpenCall A) → IndexMap ℕ ℕ S → Calls
+  abbrev pub calls_of : {S : Type 0} → Slab (OpenCall A) → IndexMap ℕ ℕ S → KeptCalls
   calls_of s m = record {
     slots = slots_of s;
     call_room = s.capacity - slab_len s;
