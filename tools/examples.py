@@ -565,6 +565,29 @@ def check_replaced(program, tell):
             tell(f"a file that is made by a link leaves {sorted(os.listdir(room))}")
 
 
+def check_apart(program, tell):
+    """A plan that is read is not replaced by another name of it, and the first file that is made is not replaced by the second one."""
+    with tempfile.TemporaryDirectory() as room:
+        own = os.path.join(room, "own.plan")
+        shutil.copy(os.path.join(TOP, "examples/three.plan"), own)
+        os.symlink("own.plan", os.path.join(room, "link.plan"))
+        os.link(own, os.path.join(room, "hard.plan"))
+        above = f"../{os.path.basename(room)}/own.plan"
+        for plan, name in [("own.plan", it) for it in ("./own.plan", above, own, "link.plan", "hard.plan")] + [("link.plan", "own.plan"), ("-", "own.plan")]:
+            with open(own) as given:
+                words = ["audit", plan, "--limit", "1", "--spare", "1", "--cert", name]
+                ran = subprocess.run(program + words, cwd=room, stdin=given, capture_output=True, timeout=60)
+            if (ran.returncode, ran.stdout, ran.stderr.decode()) != (64, b"", f"telexplan: {name} and {plan} are one file\n"):
+                tell(f"a certificate to {name} of the plan {plan}: the status is {ran.returncode}, and standard error has {ran.stderr!r}")
+            if read(own) != read("examples/three.plan") or sorted(os.listdir(room)) != ["hard.plan", "link.plan", "own.plan"]:
+                tell(f"a certificate to {name} of the plan {plan} leaves {sorted(os.listdir(room))}")
+        os.symlink("new.plan", os.path.join(room, "late.cert"))
+        words = ["mend", "own.plan", "--limit", "1", "--spare", "1", "--plan", "new.plan", "--cert", "late.cert"]
+        ran = subprocess.run(program + words, cwd=room, capture_output=True, timeout=60)
+        if (ran.returncode, ran.stderr) != (64, b"telexplan: new.plan and late.cert are one file\n") or not read(os.path.join(room, "new.plan")).startswith(b"PLAN 1\n"):
+            tell(f"a second file that is a link to the first one: the status is {ran.returncode}, and standard error has {ran.stderr!r}")
+
+
 def check_outputs(program, tell):
     """A file to be made that is an output of the program, by whatever name, is written to at its end."""
     for output, number, before in [("stdout", 1, b"before\n" + report()), ("stderr", 2, b"before\n")]:
@@ -712,7 +735,7 @@ def main(words):
     told = []
     if not only_pages:
         check_examples(program, told.append)
-        for check in (check_arguments, check_terminal, check_replaced, check_outputs, check_pipe_and_device, check_no_leave, check_no_name, check_order):
+        for check in (check_arguments, check_terminal, check_replaced, check_apart, check_outputs, check_pipe_and_device, check_no_leave, check_no_name, check_order):
             check(program, told.append)
     check_pages(told.append)
     check_names(told.append)

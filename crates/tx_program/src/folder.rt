@@ -1,5 +1,6 @@
 // The files that commands name.
 use crate::draft::Draft;
+use crate::place::Place;
 use std::fs::File;
 use std::io;
 use std::io::{Read, Write};
@@ -11,6 +12,10 @@ pub trait Folder {
 
     /// A file that is being made.
     type Output: Write + Drop;
+
+    /// Where a name leads, if a file is there or can be made there. Names of one file lead to one
+    /// place. `-` leads to what standard input was redirected from.
+    fn find(&self, name: &str) -> Option<Place>;
 
     /// Opens a file to be read.
     fn open(&self, name: &str) -> io::Result<Self::Input>;
@@ -30,6 +35,10 @@ impl Folder for HostRuntime {
     type Input = File;
 
     type Output = Draft;
+
+    fn find(&self, name: &str) -> Option<Place> {
+        Place::of(self, name)
+    }
 
     fn open(&self, name: &str) -> io::Result<File> {
         File::open(self, name)

@@ -1,0 +1,124 @@
+// The files that a command makes, and what they would take the place of.
+ghost use Rattle.std.specs.Prelude.{◌≡◌, false, IfOk};
+ghost use Rattle.tx_program.specs.Places.{found, has_clash};
+
+use crate::draft::is_open_already;
+use crate::folder::Folder;
+use crate::kind::{MADE, TextKind, kind_of};
+use crate::place::{Found, clash};
+use crate::stop::Stop;
+use std::alloc::Allocator;
+use tx_commands::Files;
+
+/// The files that a command makes, by their names, and where those are that it reads.
+#[derive(Clone, Copy, Debug)]
+pub(crate) struct Targets<'n> {
+    read: [Option<Found<'n>>; 3],
+    names: [Option<&'n str>; 3],
+}
+
+/// The name of a file that is none of the other files of its command.
+#[derive(Clone, Copy, Debug)]
+pub(crate) struct Target<'n> {
+    name: &'n str,
+}
+
+impl<'n> Targets<'n> {
+    /// Those of a command that has opened what it reads. They are refused where one would be made
+    /// over another file of the command, or over another kind of text.
+    pub(crate) fn of<A: Allocator + Copy, F: Folder>(
+        alloc: A,
+        files: Files<'n>,
+        folder: &F,
+    ) -> Result<Targets<'n>, Stop<'n>> {
+        let [first, second, third] = files.reads;
+        let targets = Targets {
+            read: [
+                look_for(first, folder),
+                look_for(second, folder),
+                look_for(third, folder),
+            ],
+            names: files.makes(),
+        };
+        let made = targets.find(folder)?;
+        for i in 0..3usize {
+            if let Some(file) = made[i] {
+                require_kind(alloc, file, MADE[i], folder)?;
+            }
+        }
+        Ok(targets)
+    }
+
+    /// Where the files to be made are, each of which is none of the other files.
+    fn find<F: Folder>(&self, folder: &F) -> Result<[Option<Found<'n>>; 3], Stop<'n>>
+        ensures { IfOk result (λ made.
+            has_clash (found self.now.read) (found made) ≡ false) }
+    {
+        let [plan, cert, script] = self.names;
+        let made = [
+            look_for_target(plan, folder),
+            look_for_target(cert, folder),
+            look_for_target(script, folder),
+        ];
+        match clash(&self.read, &made) {
+            Some((name, other)) => Err(Stop::OneFile(name, other)),
+            None => Ok(made),
+        }
+    }
+
+    /// The name of a file to be made, if it is named, found once more to be none of the others.
+    pub(crate) fn get<F: Folder>(
+        &self,
+        index: usize,
+        folder: &F,
+    ) -> Result<Option<Target<'n>>, Stop<'n>>
+        requires { index < 3 }
+    {
+        let Some(name) = self.names[index] else {
+            return Ok(None);
+        };
+        self.find(folder)?;
+        Ok(Some(Target { name }))
+    }
+}
+
+impl<'n> Target<'n> {
+    pub(crate) fn name(self) -> &'n str {
+        self.name
+    }
+}
+
+/// A file that is named, and where it is.
+fn look_for<'n, F: Folder>(name: Option<&'n str>, folder: &F) -> Option<Found<'n>> {
+    let name = name?;
+    let place = folder.find(name)?;
+    Some(Found::new(name, place))
+}
+
+/// The same of a file to be made. An output of the program takes the place of no file.
+fn look_for_target<'n, F: Folder>(name: Option<&'n str>, folder: &F) -> Option<Found<'n>> {
+    match name {
+        Some(name) if is_open_already(name) => None,
+        name => look_for(name, folder),
+    }
+}
+
+/// Refuses a file that is there and holds another kind of text.
+fn require_kind<'n, A: Allocator + Copy, F: Folder>(
+    alloc: A,
+    file: Found<'n>,
+    wanted: TextKind,
+    folder: &F,
+) -> Result<(), Stop<'n>> {
+    if !file.is_there() {
+        return Ok(());
+    }
+    match kind_of(alloc, folder, file.name)? {
+        Some(held) if held != wanted => Err(Stop::OtherKind {
+            name: file.name,
+            held,
+            wanted,
+        }),
+        _ => Ok(()),
+    }
+}
