@@ -9,7 +9,9 @@ its exit status and the files that it makes with what stands in examples/. A fau
 An example that begins with a script in Python runs that, with the program as its first word; no case shows it. Then tries the program with what no example can say:
 odd words, a terminal, and files to be made in odd places. What the machine does not allow is left out, and standard error says so.
 
-Then checks README.md and docs/FORMATS.md: each block there says, in a comment before it, what it shows, and has to show just that; the table of codes has to be the
+Then it plays the commands of docs/telexplan.1, one after another.
+
+Then checks README.md, docs/FORMATS.md and docs/HEADLINE.md: each block there says, in a comment before it, what it shows, and has to show just that; the table of codes has to be the
 program's and to have the codes of the definitions, the map of the crates has to be that of crates.txt, what the pages name has to be there, each link of theirs has
 to lead to a file and a heading that are there, the player of the gate, crates/tx_worked, has to have the examples and the pictures as they stand, all pictures of the
 plans of crates/tx_worked have to be ones that can be read, and docs/telexplan.bash and docs/telexplan.1 have to have the commands and options that the program's help
@@ -26,7 +28,7 @@ The comments before a block:
   <!-- run: NAME -->      the command of an example, behind `$ `, and all that it prints
   <!-- session -->        several commands, each behind `$ `: that of an example, or `cat FILE`, and all that it prints
   <!-- lines: PATH -->    lines of the file that follow one another
-  <!-- not run -->        commands that no example shows
+  <!-- not run -->        commands that no example shows, and that are not those of the program
 and before a table:
   <!-- examples -->       each text in the last column is a line of some file in examples/
   <!-- codes -->          the table of codes"""
@@ -41,8 +43,8 @@ import sys
 import tempfile
 
 TOP = os.path.dirname(os.path.dirname(os.path.abspath(__file__)))
-PAGES = ["README.md", "docs/FORMATS.md"]
-NAMING = ["CHANGELOG.md", "CONTRIBUTING.md", "docs/ARCHITECTURE.md", "docs/DECISIONS.md", "docs/GLOSSARY.md", "docs/HEADLINE.md", "docs/MEASURED.md", "docs/PROOFS.md"]
+PAGES = ["README.md", "docs/FORMATS.md", "docs/HEADLINE.md"]
+NAMING = ["CHANGELOG.md", "CONTRIBUTING.md", "docs/ARCHITECTURE.md", "docs/DECISIONS.md", "docs/GLOSSARY.md", "docs/MEASURED.md", "docs/PROOFS.md"]
 MADE = ["crates/telexplan/out/telexplan"]
 PLAYED = "crates/tx_worked/data/cases"
 
@@ -253,7 +255,7 @@ def check_block(mark, text, known):
     """What is wrong with a block, if anything is."""
     kind, _, name = mark.partition(": ")
     if mark == "not run":
-        return None
+        return "a command of the program is not run" if re.search(r"(?m)^(\$ )?telexplan\b", text) else None
     if kind == "run" and name in known:
         wanted = f"$ {known[name].command}\n" + shown(known[name]).decode()
         return None if text == wanted else difference(wanted, text)
@@ -671,6 +673,20 @@ def check_order(program, tell):
 # THE WORDS OF THE PROGRAM
 
 
+def check_manual_commands(program, tell):
+    """The commands of the manual page, one after another, over a plan with a loop and named risks: each finds its files, and says nothing on standard
+    error. What stands behind a bar is left out."""
+    text = read("docs/telexplan.1").decode()
+    with tempfile.TemporaryDirectory() as room:
+        for name, path in [("plan", "three-loop.plan"), ("cables", "three.risks")]:
+            shutil.copy(os.path.join(TOP, "examples", path), os.path.join(room, name))
+        for it in re.findall(r"(?ms)^\.EX\n(.*?)\n\.EE$", text):
+            command = it.replace("\\-", "-").partition(" | ")[0].split()
+            ran = subprocess.run(program + command[1:], cwd=room, capture_output=True, timeout=60)
+            if command[0] != "telexplan" or ran.returncode not in (0, 1) or ran.stderr:
+                tell(f"docs/telexplan.1: {it}: the status is {ran.returncode}, and standard error has {ran.stderr!r}")
+
+
 def words_told():
     """The options of each command, as its help tells them in the cases of the program at its ends; None where no case prints that help."""
     told = {words: text for words, text, _ in told_at_ends() if "\nUsage: " in text}
@@ -735,7 +751,7 @@ def main(words):
     told = []
     if not only_pages:
         check_examples(program, told.append)
-        for check in (check_arguments, check_terminal, check_replaced, check_apart, check_outputs, check_pipe_and_device, check_no_leave, check_no_name, check_order):
+        for check in (check_arguments, check_terminal, check_replaced, check_apart, check_outputs, check_pipe_and_device, check_no_leave, check_no_name, check_order, check_manual_commands):
             check(program, told.append)
     check_pages(told.append)
     check_names(told.append)
