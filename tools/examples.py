@@ -6,7 +6,7 @@
 
 Runs each example of examples/list with a built program (crates/telexplan/out/telexplan where none is named), in a folder of its own, and compares what it prints,
 its exit status and the files that it makes with what stands in examples/. A fault stands on standard error, but for those that `lint` finds, and nothing else does.
-An example that begins with a script in Python runs that, with the program as its first word; no case shows it. Then tries the program with what no example can say:
+An example that begins with a script in Python runs that, with the program as its first word if the example says so; no case shows it. Then tries the program with what no example can say:
 odd words, a terminal, and files to be made in odd places. What the machine does not allow is left out, and standard error says so.
 
 Then it plays the commands of docs/telexplan.1, one after another.
@@ -58,8 +58,11 @@ class Example:
         bar = words.index("|") if "|" in words else -1
         self.input = words[1:bar] if bar > 0 else []
         self.driver = words[0] if words[0].endswith(".py") else None
-        self.words = words[words.index("telexplan") + 1 :]
+        self.drives = "telexplan" in words
+        self.words = words[words.index("telexplan") + 1 :] if self.drives else words[1:]
         made = [b for a, b in zip(self.words, self.words[1:]) if a in ("--counter", "--mixture", "--plan") or (a == "--cert" and self.words[0] != "run")]
+        if "--back" in self.words:
+            made = self.words[2:]
         self.made = made if self.status < 2 else []
         self.files = [it for it in self.words if it.startswith("examples/") and it not in self.made]
 
@@ -95,7 +98,7 @@ def run(program, example):
                 shutil.copyfile(os.path.join(TOP, it), os.path.join(room, it))
         given = b"".join(read(it) for it in example.input)
         driver = [sys.executable, os.path.join(TOP, example.driver)] if example.driver else []
-        ran = subprocess.run(driver + program + example.words, cwd=room, input=given, capture_output=True, timeout=60)
+        ran = subprocess.run(driver + program * (example.drives or not driver) + example.words, cwd=room, input=given, capture_output=True, timeout=60)
         made = {}
         for it in sorted(os.listdir(os.path.join(room, "examples"))):
             path = f"examples/{it}"
@@ -143,6 +146,13 @@ def in_examples(ending):
 def images():
     """The images that are made of pictures."""
     return in_examples(".svg")
+
+
+def check_tables(tell):
+    """The plan that is made of tables has the lines of the plan that these were made of."""
+    made, plan = (sorted(filter(None, map(plain, read(f"examples/{it}.plan").decode().splitlines()))) for it in ("national-tables", "national"))
+    if made != plan:
+        tell("examples/national-tables.plan: it has other lines than examples/national.plan")
 
 
 def check_images(tell):
@@ -758,6 +768,7 @@ def main(words):
     check_links(told.append)
     check_map(told.append)
     check_cases(told.append)
+    check_tables(told.append)
     check_images(told.append)
     check_pictures(told.append)
     check_ends(told.append)
