@@ -138,6 +138,33 @@ listed and each of them is down or has no free circuit",
     .value_parser(value_parser!(u8).range(0..=15))
 }
 
+/// How many stages an order has at the most.
+pub(crate) const MOST_STAGES: u8 = 128;
+
+fn stage<'a>(alloc: Global) -> Arg<'a>
+    ensures rule { rule_of result ≡ grammar.stage }
+    ensures local { result.global ≡ false }
+{
+    option(
+        alloc,
+        "stage",
+        "N: from 1",
+        "The stage of which --plan and --cert write",
+    )
+    .value_parser(value_parser!(u8).range(0..=128))
+}
+
+/// Adds the number of a stage.
+pub(crate) fn with_stage<'a>(
+    command: Result<clap::Command<'a>, AllocError>,
+    alloc: Global,
+) -> Result<clap::Command<'a>, AllocError>
+    ensures { (app : App) → IfOk command.entry (λ c. app_of c ≡ app)
+        → IfOk result (λ c. app_of c ≡ with_rule app grammar.stage) }
+{
+    with_arg(command, stage(alloc))
+}
+
 /// Adds a limit and a spare number, which may have to be given.
 pub(crate) fn with_bounds<'a>(
     command: Result<clap::Command<'a>, AllocError>,

@@ -57,6 +57,15 @@ pub enum Command {
         mixture: Option<String>,
         counter: Option<String>,
     },
+    /// `order OLD NEW --limit L --spare K`. With the number of a stage the plan after it goes to a
+    /// file, if one is named, and so does the certificate of the stage.
+    Order {
+        old: String,
+        new: String,
+        limit: u8,
+        spare: u8,
+        stage: Option<(u8, Option<String>, Option<String>)>,
+    },
     /// `mend PLAN --limit L --spare K`: the mended plan goes to a file, if one is named, and so
     /// does its certificate.
     Mend {
@@ -145,6 +154,13 @@ impl<'a> Files<'a> {
                 counter,
                 ..
             } => Files::new(two(old, new), mixture.as_deref(), cert, counter.as_deref()),
+            Command::Order {
+                old,
+                new,
+                stage: Some((_, plan, cert)),
+                ..
+            } => Files::new(two(old, new), plan.as_deref(), cert, None),
+            Command::Order { old, new, .. } => Files::reading(two(old, new)),
             Command::Mend {
                 plan,
                 mended,

@@ -4,7 +4,7 @@ ghost use Rattle.std.specs.Prelude.{◌≡◌, IfOk};
 ghost use Rattle.clap.specs.Words.{app_of};
 ghost use Rattle.tx_commands.specs.Grammar as grammar;
 
-use crate::arguments::{PLAN, over_plan, with_bounds, with_file, with_option};
+use crate::arguments::{PLAN, over_plan, with_bounds, with_file, with_option, with_stage};
 use crate::grammar::{top_grammar, with_command};
 use std::alloc::{AllocError, Global};
 
@@ -152,6 +152,42 @@ that plan, if there is one",
     )
 }
 
+const ORDER_HELP: &str =
+    "Example: telexplan order own.plan new.plan --limit 1 --spare 1 --stage 1 --plan first.plan
+
+Exit status: 0 after YES, 1 after NO, 2 for a refused text and for plans of two networks, 3 for a
+failed read or write, 4 when out of memory, 64 for refused words, and for a stage that the order
+does not have";
+
+fn order_grammar<'a>(alloc: Global) -> Result<clap::Command<'a>, AllocError>
+    ensures { IfOk result (λ c. app_of c ≡ grammar.order_words) }
+{
+    let order = clap::Command::new(alloc, "order")
+        .about(
+            "Say in which stages the lists of a plan can change into those of another, if any are safe",
+        )
+        .after_help(ORDER_HELP);
+    let order = with_file(Ok(order), alloc, "old", "OLD", OLD_PLAN);
+    let order = with_file(order, alloc, "new", "NEW", NEW_PLAN);
+    let order = with_bounds(order, alloc, true);
+    let order = with_stage(order, alloc);
+    let order = with_option(
+        order,
+        alloc,
+        "plan",
+        "OUT",
+        "After YES, write the plan after that stage to this file",
+    );
+    with_option(
+        order,
+        alloc,
+        "cert",
+        "CERT",
+        "After YES, write a certificate of the plans before and after that
+stage to this file",
+    )
+}
+
 const SURVIVE_HELP: &str =
     "Of an exchange that fails, the calls that start there and those for codes at home there are
 left out.
@@ -218,7 +254,10 @@ pub(crate) fn judging_grammar<'a>(alloc: Global) -> Result<clap::Command<'a>, Al
     );
     let program = with_command(
         with_command(program, change_grammar(alloc)),
-        survive_grammar(alloc),
+        order_grammar(alloc),
     );
-    with_command(program, check_grammar(alloc))
+    with_command(
+        with_command(program, survive_grammar(alloc)),
+        check_grammar(alloc),
+    )
 }
