@@ -147,14 +147,12 @@ pub(crate) fn order_of(alloc: Global, matches: &ArgMatches<'_>) -> Result<Comman
     let new = text(alloc, matches, "new")?;
     let plan = text(alloc, matches, "plan")?;
     let cert = text(alloc, matches, "cert")?;
-    let stage = match (is_given(matches, "stage"), plan, cert) {
-        (false, None, None) => None,
-        (false, _, _) => return Err(Refusal::StageMissing),
-        (true, plan, cert) => match number(matches, "stage", MOST_STAGES) {
-            Some(stage) => Some((stage, plan, cert)),
-            None => return Err(Refusal::Incomplete),
-        },
-    };
+    let stage = number(matches, "stage", MOST_STAGES);
+    match (is_given(matches, "stage"), stage) {
+        (true, None) => return Err(Refusal::Incomplete),
+        (false, _) if plan.is_some() || cert.is_some() => return Err(Refusal::StageMissing),
+        _ => {}
+    }
     match (old, new, bounds(matches)) {
         (Some(old), Some(new), Some((limit, spare))) => Ok(Command::Order {
             old,
@@ -162,6 +160,8 @@ pub(crate) fn order_of(alloc: Global, matches: &ArgMatches<'_>) -> Result<Comman
             limit,
             spare,
             stage,
+            plan,
+            cert,
         }),
         _ => Err(Refusal::Incomplete),
     }

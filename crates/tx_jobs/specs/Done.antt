@@ -132,9 +132,8 @@ module _ {P : Type 0} (rest : P → Option (List ℕ)) (failed : P → Bool)
     IsDone (Change before after limit spare cert mixture counter) result =
         Does Changed (ChangeEvidenceAnswers (is_some mixture || is_some counter) limit spare
         first second out) result × third.unread
-    IsDone (Order before after limit spare stage) result =
-        Does Ordered (OrderJobAnswers (option_map (λ s. s.0) stage) limit spare first second out)
-        result × third.unread
+    IsDone (Order before after limit spare stage plan cert) result =
+        Does Ordered (OrderJobAnswers stage limit spare first second out) result × third.unread
     IsDone (Mend plan limit spare mended cert) result =
         Does Mended (MendJobAnswers limit spare first out) result × Alone
     IsDone (Survive plan None) result = Does Survived (SurviveJobAnswers first out) result × Alone

@@ -146,8 +146,8 @@ fn do_texts<A: Allocator + Copy, P: Source, Q: Source, R: Source, W: Sink>(
             stage,
             ..
         } => {
-            let stage = stage.as_ref().map(|(stage, _, _)| *stage);
-            Ok(Done::Ordered(order_job(alloc, first, second, *limit, *spare, stage, out)?))
+            let staged = order_job(alloc, first, second, *limit, *spare, *stage, out)?;
+            Ok(Done::Ordered(staged))
         }
         Command::Survive { risks: Some(_), .. } => {
             Ok(Done::Survived(survive_risks_job(alloc, first, second, out)?))

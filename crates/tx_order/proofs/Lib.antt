@@ -8,3 +8,4 @@ pub mod Same
 pub mod TwoFronts
 pub mod Ordered
 pub mod StageCerts
+pub mod Confirming

@@ -11,16 +11,22 @@ use Rattle.tx_order.specs.Levels.{levels_of}
 use Rattle.tx_order.specs.Orders.{AreAlike, IsOrder, CanBothBeCertified}
 use Rattle.tx_order.specs.Ordered.{Order, plan_before, stages_in}
 
+-- a certificate to which the checker says Yes, for the plan before a stage and the plan after it,
+-- clears this change
+abbrev pub HasCleared : Order → ℕ → Type 0
+HasCleared o s = (cert : Certificate) × IsCleared (plan_before o s) (plan_before o (s + 1))
+    o.transition.limit o.transition.spare cert
+
 -- YES: an order in at most 2 (limit + 2) stages. Each switches something, and is a change that is
--- cleared by a certificate to which the checker says Yes, for the plan before it and the plan after
--- it.
+-- cleared.
 pub record IsOrdered (old new : Plan) (limit spare : ℕ) (o : Order) : Type 0 where
   pub old_plan : o.transition.old ≡ old
   pub new_plan : o.transition.new ≡ new
+  pub same_limit : o.transition.limit ≡ limit
+  pub same_spare : o.transition.spare ≡ spare
   pub order : IsOrder old new (plan_before o) (stages_in o) limit spare
-  pub cleared : (i : ℕ) → i < stages_in o → (cert : Certificate)
-      × IsCleared (plan_before o i) (plan_before o (i + 1)) limit spare cert
-  pub used : (i : ℕ) → i < stages_in o → AreAlike (plan_before o i) (plan_before o (i + 1)) → ⊥
+  pub cleared : (s : ℕ) → s < stages_in o → HasCleared o s
+  pub used : (s : ℕ) → s < stages_in o → AreAlike (plan_before o s) (plan_before o (s + 1)) → ⊥
   pub few : stages_in o ≤ levels_of limit
 
 module _ {A : Type 0} where

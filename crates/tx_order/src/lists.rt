@@ -3,6 +3,7 @@ ghost use Rattle.std.specs.Prelude.{◌≡◌, ◌≤◌, ◌++◌, ℕ, true, f
 ghost use Rattle.tx_plan.specs.declared.ids.Pair.{Pair as Bar};
 ghost use Rattle.tx_plan.specs.Plan.{Route};
 ghost use Rattle.tx_order.specs.Ordered.{plan_before};
+ghost use Rattle.tx_order.specs.inner.Asked.{AreListsOf};
 ghost use Rattle.tx_order.specs.inner.Kept.{listed, barred, keeps_route, keeps_bar, kept_alone, has_route_as, has_bar_as};
 
 use crate::orders::Order;
@@ -23,8 +24,7 @@ pub fn lists_before<A: Allocator + Copy>(
     order: &Order<A>,
     stage: usize,
 ) -> Result<Lists<A>, NoMemory>
-    ensures routes { IfOk result (λ l. l.routes ≡ (plan_before order.now stage).routes) }
-    ensures bars { IfOk result (λ l. l.bars ≡ (plan_before order.now stage).bars) }
+    ensures { IfOk result (AreListsOf (plan_before order.now stage)) }
 {
     let routes = routes_before(alloc, order, stage)?;
     let bars = bars_before(alloc, order, stage)?;

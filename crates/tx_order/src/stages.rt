@@ -1,5 +1,7 @@
 // The stages of an order: the plans before them, and their certificates.
 ghost use Rattle.std.specs.Prelude.{◌≡◌, ◌≢◌, ◌+◌, ◌<◌, ℕ, length, None, IfOk};
+ghost use Rattle.tx_plan.specs.Rules.{IsPlan};
+ghost use Rattle.tx_plan.specs.Mixed.{rerouted};
 ghost use Rattle.tx_plan.specs.Mixtures.{AreCommon};
 ghost use Rattle.tx_cert.specs.Certificate.{rank_at as ranked_at, ranks_of, IsCertificateOf};
 ghost use Rattle.tx_rank.specs.Judged.{AreOrigins};
@@ -9,7 +11,7 @@ ghost use Rattle.tx_order.specs.Ordered.{plan_before, stages_in};
 ghost use Rattle.tx_order.specs.inner.Between.{between_net};
 
 use crate::between::{BetweenRoutes, joined_lists};
-use crate::lists::lists_before;
+use crate::lists::{Lists, lists_before};
 use crate::orders::Order;
 use crate::transition::Transition;
 use std::alloc::Allocator;
@@ -95,6 +97,16 @@ impl<A: Allocator + Copy> Order<A> {
     {
         self.rules();
         let lists = lists_before(alloc, &self, stage)?;
-        Ok(self.transition.old.rerouted(lists.routes, lists.bars))
+        Ok(self.with_lists(lists))
+    }
+
+    /// The old plan with other lists.
+    fn with_lists(self, lists: Lists<A>) -> Plan<A>
+        requires { IsPlan (rerouted self.transition.old lists.routes lists.bars) }
+        ensures { result ≡ rerouted self.transition.old lists.routes lists.bars }
+    {
+        let Order { transition, .. } = self;
+        let Transition { old, .. } = transition;
+        old.rerouted(lists.routes, lists.bars)
     }
 }

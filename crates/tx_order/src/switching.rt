@@ -1,16 +1,15 @@
 // The search for an order.
-ghost use Rattle.std.specs.Prelude.{◌≡◌, ◌↔◌, ◌<◌, ◌+◌, ℕ, IfOk};
+ghost use Rattle.std.specs.Prelude.{◌≡◌, ◌↔◌, ◌<◌, ℕ, length, IfOk};
 ghost use Rattle.tx_plan.specs.Mixtures.{SameNetwork};
-ghost use Rattle.tx_plan.specs.Certified.{IsCertified};
-ghost use Rattle.tx_cert.specs.Certificate.{Certificate, ranks_of, IsCertificateOf};
-ghost use Rattle.tx_check.specs.Confirmed.{IsConfirmed};
-ghost use Rattle.tx_change.specs.ChangeAnswers.{IsCleared};
+ghost use Rattle.tx_audit.specs.Audits.{IsRightRanking};
 ghost use Rattle.tx_order.specs.Orders.{CanBothBeCertified};
-ghost use Rattle.tx_order.specs.Ordered.{plan_before, stages_in};
-ghost use Rattle.tx_order.specs.Switchings.{IsOrderFound, IsRightSwitching};
+ghost use Rattle.tx_order.specs.Ordered.{stages_in, AreStagesBelow};
+ghost use Rattle.tx_order.specs.Switchings.{HasCleared, IsOrderFound, IsRightSwitching};
+ghost use Rattle.tx_order.specs.inner.Asked.{IsAsked};
 
+use crate::fronts::Fronts;
 use crate::joining::stages_of_code;
-use crate::lists::lists_before;
+use crate::lists::{Lists, lists_before};
 use crate::orders::Order;
 use crate::transition::Transition;
 use std::alloc::{Allocator, Global};
@@ -31,37 +30,60 @@ pub enum Switching<A: Allocator = Global> {
     NoOrder(Plan<A>, Ranking<A>, Ranking<A>),
 }
 
-/// The stages of all codes.
-fn order_of<A: Allocator + Copy>(alloc: A, transition: Transition<A>) -> Result<Order<A>, NoMemory>
-    ensures { IfOk result (λ o. o.transition ≡ transition) }
+/// The stages of each code.
+fn stages_of<A: Allocator + Copy>(
+    alloc: A,
+    transition: &Transition<A>,
+) -> Result<Vec<Fronts<A>, A>, NoMemory>
+    ensures { IfOk result (λ ends. AreStagesBelow transition.now
+        (length transition.now.old.codes) ends.items) }
 {
-    transition.rules();
     let origins = origins_of(alloc, &transition.old)?;
     let mut ends = Vec::new(alloc);
     for place in 0..transition.codes() {
         let code = CodeId::of(place);
-        ends.push(stages_of_code(alloc, &transition, &origins, code)?)?;
+        ends.push(stages_of_code(alloc, transition, &origins, code)?)?;
     }
-    Ok(Order { transition, ends })
+    Ok(ends)
 }
 
-/// Asks the checker about a certificate of the plan before a stage.
-fn confirm_before<A: Allocator + Copy>(
+/// What the checker is asked about a stage: its certificate, the lists of the plans before and
+/// after it, and those of the old plan.
+#[derive(Drop)]
+struct Asked<A: Allocator> {
+    cert: Cert<A>,
+    before: Lists<A>,
+    after: Lists<A>,
+    old: Lists<A>,
+}
+
+fn asked_of<A: Allocator + Copy>(
     alloc: A,
-    order: Order<A>,
+    order: &Order<A>,
     stage: usize,
-    cert: &Cert<A>,
-) -> Result<Order<A>, NoMemory>
-    requires fits { IsCertificateOf order.transition.old cert.now }
-    requires certified { IsCertified (plan_before order stage) (ranks_of cert.now)
-        order.transition.limit order.transition.spare }
-    ensures same { IfOk result (λ o. o ≡ order) }
-    ensures confirmed { IfOk result (λ o. IsConfirmed (plan_before order stage) cert.now
-        order.transition.limit order.transition.spare) }
+) -> Result<Asked<A>, NoMemory>
+    requires { stage < stages_in order.now }
+    ensures { IfOk result (λ a. IsAsked order.now stage a) }
+{
+    let cert = order.cert(alloc, stage)?;
+    let before = lists_before(alloc, order, stage)?;
+    let after = lists_before(alloc, order, stage + 1)?;
+    let old = lists_before(alloc, order, 0)?;
+    Ok(Asked {
+        cert,
+        before,
+        after,
+        old,
+    })
+}
+
+/// Asks the checker about the certificate of a stage, for the plan before it and the plan after it.
+fn confirm_stage<A: Allocator>(order: Order<A>, stage: usize, asked: Asked<A>) -> Order<A>
+    requires { IsAsked order stage asked }
+    ensures same { result ≡ order }
+    ensures cleared { HasCleared order stage }
 {
     order.rules();
-    let own = lists_before(alloc, &order, 0)?;
-    let lists = lists_before(alloc, &order, stage)?;
     let Order { transition, ends } = order;
     let Transition {
         old,
@@ -70,34 +92,56 @@ fn confirm_before<A: Allocator + Copy>(
         after,
         limits,
     } = transition;
-    let plan = old.rerouted(lists.routes, lists.bars);
-    confirm(&plan, cert, limits);
+    let plan = old.rerouted(asked.before.routes, asked.before.bars);
+    confirm(&plan, &asked.cert, limits);
+    let plan = plan.rerouted(asked.after.routes, asked.after.bars);
+    confirm(&plan, &asked.cert, limits);
+    let old = plan.rerouted(asked.old.routes, asked.old.bars);
     let transition = Transition {
-        old: plan.rerouted(own.routes, own.bars),
+        old,
         new,
         before,
         after,
         limits,
     };
-    Ok(Order { transition, ends })
+    Order { transition, ends }
 }
 
-/// Asks the checker about the certificate of each stage, for the plan before it and the plan after
-/// it.
+/// Asks it about each stage.
 fn confirm_stages<A: Allocator + Copy>(alloc: A, order: Order<A>) -> Result<Order<A>, NoMemory>
     ensures same { IfOk result (λ o. o ≡ order) }
-    ensures cleared { IfOk result (λ o. (i : ℕ) → i < stages_in order → (cert : Certificate)
-        × IsCleared (plan_before order i) (plan_before order (i + 1))
-        order.transition.limit order.transition.spare cert) }
+    ensures cleared { IfOk result (λ o. (s : ℕ) → s < stages_in order → HasCleared order s) }
 {
-    order.rules();
     let mut order = order;
     for stage in 0..order.stages() {
-        let cert = order.cert(alloc, stage)?;
-        order = confirm_before(alloc, order, stage, &cert)?;
-        order = confirm_before(alloc, order, stage + 1, &cert)?;
+        let asked = asked_of(alloc, &order, stage)?;
+        order = confirm_stage(order, stage, asked);
     }
     Ok(order)
+}
+
+/// The order of two plans that are certified.
+fn order_of<A: Allocator + Copy>(alloc: A, transition: Transition<A>) -> Result<Order<A>, NoMemory>
+    ensures same { IfOk result (λ o. o.transition ≡ transition) }
+    ensures cleared { IfOk result (λ o. (s : ℕ) → s < stages_in o → HasCleared o s) }
+{
+    let ends = stages_of(alloc, &transition)?;
+    confirm_stages(alloc, Order { transition, ends })
+}
+
+/// The judgements on both plans.
+fn judge_both<A: Allocator + Copy>(
+    alloc: A,
+    old: &Plan<A>,
+    new: &Plan<A>,
+    limits: Limits,
+) -> Result<(Ranking<A>, Ranking<A>), NoMemory>
+    ensures old { IfOk result (λ r. IsRightRanking old.now limits.limit limits.spare r.0) }
+    ensures new { IfOk result (λ r. IsRightRanking new.now limits.limit limits.spare r.1) }
+{
+    let before = judge(alloc, old, limits)?;
+    let after = judge(alloc, new, limits)?;
+    Ok((before, after))
 }
 
 /// An order in which the lists and the bars of a plan are switched to those of another one of the
@@ -119,20 +163,21 @@ pub fn order<A: Allocator + Copy>(
 {
     old.rules();
     new.rules();
-    let before = judge(alloc, &old, limits)?;
-    let after = judge(alloc, &new, limits)?;
-    match (before, after) {
-        (Ranking::Found(before), Ranking::Found(after)) => {
-            let transition = Transition {
-                old,
-                new,
-                before,
-                after,
-                limits,
-            };
-            let order = order_of(alloc, transition)?;
-            Ok(Switching::Ordered(confirm_stages(alloc, order)?))
-        }
-        (before, after) => Ok(Switching::NoOrder(old, before, after)),
+    let (before, after) = judge_both(alloc, &old, &new, limits)?;
+    match before {
+        Ranking::Found(before) => match after {
+            Ranking::Found(after) => {
+                let transition = Transition {
+                    old,
+                    new,
+                    before,
+                    after,
+                    limits,
+                };
+                Ok(Switching::Ordered(order_of(alloc, transition)?))
+            }
+            after => Ok(Switching::NoOrder(old, Ranking::Found(before), after)),
+        },
+        before => Ok(Switching::NoOrder(old, before, after)),
     }
 }
