@@ -7,7 +7,7 @@ use Rattle.tx_order.specs.inner.Between.{between_net}
 use Rattle.tx_order.specs.inner.Certified.{IsCertifiedBelow}
 use Rattle.tx_order.proofs.Ordered.{code_safe}
 use Rattle.tx_order.proofs.StageCerts.{certified_first, certified_next, certified_all}
-use Rattle.tx_order.proofs.stages.Order.cert.Goals as goal
+use Rattle.tx_order.proofs.orders.Order.cert.Goals as goal
 
 pub loop-place-init : goal.loop-place-init
 loop-place-init g c = certified_first c.args.self.now.transition _ _ c.in_ok-cert.cert c.in_ok-cert.ensures

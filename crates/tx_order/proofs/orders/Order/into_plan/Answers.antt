@@ -2,7 +2,7 @@ use Rattle.std.proofs.Common.{sym, subst, ◌∙◌}
 use Rattle.tx_plan.specs.Rules.{IsPlan}
 use Rattle.tx_plan.specs.Mixed.{rerouted}
 use Rattle.tx_order.proofs.Confirming.{before_rules}
-use Rattle.tx_order.proofs.stages.Order.into_plan.Goals as goal
+use Rattle.tx_order.proofs.orders.Order.into_plan.Goals as goal
 
 pub with_lists-requires : goal.with_lists-requires
 with_lists-requires g c =
