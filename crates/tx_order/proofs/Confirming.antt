@@ -1,0 +1,41 @@
+-- The plans before and after a stage, and what the checker says of them.
+use Rattle.std.proofs.Common.{◌≡◌, ℕ, ◌+◌, ◌<◌, List, refl, sym, ap, ◌∙◌, subst}
+use Rattle.tx_plan.specs.declared.ids.Pair.{Pair}
+use Rattle.tx_plan.specs.Plan.{Plan, Route}
+use Rattle.tx_plan.specs.Rules.{IsPlan}
+use Rattle.tx_plan.specs.Mixed.{rerouted}
+use Rattle.tx_plan.specs.Mixtures.{SameNetwork, AreCommon}
+use Rattle.tx_plan.proofs.Networks.{same_back, same_along, rerouted-is}
+use Rattle.tx_cert.specs.Certificate.{Certificate, IsCertificateOf, ranks_of}
+use Rattle.tx_check.specs.Confirmed.{IsConfirmed}
+use Rattle.tx_change.proofs.Cleared.{certificate_along, cleared}
+use Rattle.tx_order.specs.Ordered.{Order, plan_before, IsOrderKept}
+use Rattle.tx_order.specs.Switchings.{HasCleared}
+use Rattle.tx_order.specs.declared.lists.Lists.{Lists}
+use Rattle.tx_order.specs.inner.Asked.{AreListsOf}
+use Rattle.tx_order.proofs.Ordered.{is_order_of}
+
+module _ (o : Order) (k : IsOrderKept o) where
+  pub before_rules : (s : ℕ) → IsPlan (plan_before o s)
+  before_rules s = ((is_order_of o k).mixtures s).rules
+
+  pub before_network : (s : ℕ) → SameNetwork o.transition.old (plan_before o s)
+  before_network s = ((is_order_of o k).mixtures s).network
+
+  pub before_fits : (s : ℕ) (t : Certificate) → IsCertificateOf o.transition.old t → IsCertificateOf (plan_before o s) t
+  before_fits s t h = certificate_along o.transition.old (plan_before o s) t (before_network s) h
+
+  -- what the checker says of both plans clears the stage
+  pub stage_cleared : (s : ℕ) (t : Certificate) → AreCommon (plan_before o s) (plan_before o (s + 1)) (ranks_of t) o.transition.limit o.transition.spare
+      → IsConfirmed (plan_before o s) t o.transition.limit o.transition.spare → IsConfirmed (plan_before o (s + 1)) t o.transition.limit o.transition.spare → HasCleared o s
+  stage_cleared s t common before after =
+      (t, cleared (plan_before o s) (plan_before o (s + 1)) o.transition.limit o.transition.spare t (same_along (plan_before o s) o.transition.old (plan_before o (s + 1)) (same_back o.transition.old (plan_before o s) (before_network s)) (before_network (s + 1))) common before after)
+
+-- the old plan with the lists of a plan on the way is that plan
+module _ {A : Type 0} (o : Order) where
+  pub with_lists : (s : ℕ) (l : Lists A) → AreListsOf (plan_before o s) l → rerouted o.transition.old l.routes l.bars ≡ plan_before o s
+  with_lists s l a = λ i. rerouted o.transition.old (a.routes i) (a.bars i)
+
+  -- and with its own it is itself
+  pub with_own : (p : Plan) (l : Lists A) → SameNetwork p o.transition.old → AreListsOf o.transition.old l → rerouted p l.routes l.bars ≡ o.transition.old
+  with_own p l same a = (λ i. rerouted p (a.routes i) (a.bars i)) ∙ rerouted-is p o.transition.old same

@@ -1,0 +1,59 @@
+use Rattle.std.proofs.Common.{◌≡◌, ℕ, ◌+◌, ◌<◌, List, length, true, false, refl, sym, ap, subst, ◌∙◌, arith}
+use Rattle.std.proofs.lemmas.Bool.{true≢false}
+use Rattle.tx_order.specs.Levels.{levels_of}
+use Rattle.tx_order.specs.Fronts.{front_of}
+use Rattle.tx_order.specs.Joined.{AreStages}
+use Rattle.tx_order.specs.inner.Between.{IsSameAt}
+use Rattle.tx_order.proofs.TwoFronts.{alike_same, same_alike, something_switched}
+use Rattle.tx_order.proofs.Ordered.{no_ends, one_end_more, reached_more}
+use Rattle.tx_order.proofs.joining.stages_of_code.Goals as goal
+use Rattle.tx_order.proofs.joining.stages_of_code.Goals.{then-loop-from-test+else-not-is_same, else-loop-from-test}
+
+pub loop-from-init : goal.loop-from-init
+loop-from-init g c =
+    let w = c.args.transition.now in
+    record {
+      stages = subst (λ (ends : List ℕ). AreStages w c.args.code ends) (sym c.new-ends.ensures) (no_ends w c.args.code);
+      reached = ap (λ (ends : List ℕ). front_of w.limit ends (length ends)) c.new-ends.ensures;
+      within = omega arith;
+    }
+
+pub loop-from-preserved : goal.loop-from-preserved
+loop-from-preserved g c =
+    let w = c.args.transition.now in
+    let code = c.args.code in
+    let from = c.loop-from.from in
+    let to = c.in_ok-to.to in
+    let i = c.loop-from.invariant in
+    let t = c.in_ok-to.ensures in
+    let is = c.is_same.ensures in
+    let last = c.levels-last.ensures in
+    let h = c.if-not-is_same in
+    let left : IsSameAt w code from (levels_of w.limit) → ⊥ = λ same.
+    let yes = is.1 (subst (λ n. IsSameAt w code from n) (sym last) same) in ? in
+    let used = λ alike. something_switched w c.rules.ensures code from to c.requires.code t.within t.furthest left (alike_same w code from to alike) in
+    let pushed = sym c.in_ok-push.ensures in
+    record {
+      stages = subst (λ (ends : List ℕ). AreStages w code ends) pushed (one_end_more w code c.loop-from.ends from to i.stages i.reached t.up t.within t.safe t.furthest used);
+      reached = subst (λ (ends : List ℕ). front_of w.limit ends (length ends) ≡ to) pushed (reached_more w code c.loop-from.ends to);
+      within = t.within;
+    }
+
+pub returns : goal.returns
+returns g c =
+    let w = c.args.transition.now in
+    let code = c.args.code in
+    let i = c.loop-from.invariant in
+    let last = c.levels-last.ensures in
+    let done = λ (same : IsSameAt w code c.loop-from.from (levels_of w.limit)). record {
+      stages = i.stages;
+      done = same_alike w code (front_of w.limit c.loop-from.ends (length c.loop-from.ends)) (levels_of w.limit) (subst (λ n. IsSameAt w code n (levels_of w.limit)) (sym i.reached) same);
+    } in
+    elim c.loop-from-test.branch [
+      | then-loop-from-test+else-not-is_same b ↦ let h = b.if-not-is_same in ?
+      | else-loop-from-test b ↦
+          let h = b.loop-from-test.false in
+          let within = i.within in
+          let e : c.loop-from.from ≡ levels_of w.limit = omega arith in
+          done (subst (λ n. IsSameAt w code n (levels_of w.limit)) (sym e) (record { lists = λ x. refl; bars = λ x. refl }))
+    ]

@@ -1,0 +1,44 @@
+use Rattle.std.proofs.Common.{◌≡◌, ℕ, ◌+◌, ◌<◌, length, sym, subst, ◌∙◌, arith}
+use Rattle.tx_cert.specs.Certificate.{rank_at, no_ranks_for}
+use Rattle.tx_rank.specs.Nets.{Certifies}
+use Rattle.tx_order.specs.Joined.{IsSafeBetween}
+use Rattle.tx_order.specs.Ordered.{fronts_before}
+use Rattle.tx_order.specs.inner.Between.{between_net}
+use Rattle.tx_order.specs.inner.Certified.{IsCertifiedBelow}
+use Rattle.tx_order.proofs.Ordered.{code_safe}
+use Rattle.tx_order.proofs.StageCerts.{certified_first, certified_next, certified_all}
+use Rattle.tx_order.proofs.orders.Order.cert.Goals as goal
+
+pub loop-place-init : goal.loop-place-init
+loop-place-init g c = certified_first c.args.self.now.transition _ _ c.in_ok-cert.cert c.in_ok-cert.ensures
+
+pub certify-requires-clause-safe : goal.certify-requires-clause-safe
+certify-requires-clause-safe g c =
+    let o = c.args.self.now in
+    let w = o.transition in
+    let h : c.of-code.result < length w.old.codes = let t = c.loop-place-test.true in let a = c.of-code.ensures in let e = c.codes-place-end.ensures.count in omega arith in
+    subst (λ (n : ℕ). IsSafeBetween w c.of-code.result n c.front-to.result) (sym c.front-from.ensures)
+    (subst (λ (n : ℕ). IsSafeBetween w c.of-code.result (fronts_before o c.args.stage c.of-code.result) n) (sym c.front-to.ensures)
+    (code_safe o c.rules.ensures c.args.stage c.of-code.result h))
+
+pub loop-place-preserved : goal.loop-place-preserved
+loop-place-preserved g c =
+    let o = c.args.self.now in
+    let w = o.transition in
+    let code = c.of-code.result in
+    let cert = c.certify.new.cert in
+    let e = c.of-code.ensures in
+    let r = c.in_ok-certify.ensures in
+    let one = subst (λ (n : ℕ). Certifies (between_net w code c.front-from.result n) (rank_at cert code) w.limit w.spare) c.front-to.ensures r.certified in
+    let two = subst (λ (n : ℕ). Certifies (between_net w code n (fronts_before o (c.args.stage + 1) code)) (rank_at cert code) w.limit w.spare) c.front-from.ensures one in
+    let here = subst (λ (k : ℕ). Certifies (between_net w k (fronts_before o c.args.stage k) (fronts_before o (c.args.stage + 1) k)) (rank_at cert k) w.limit w.spare) e two in
+    certified_next w (fronts_before o c.args.stage) (fronts_before o (c.args.stage + 1)) c.loop-place.place c.loop-place.cert cert c.loop-place.invariant here
+    (λ d x q. r.others d x (λ s. q (s ∙ e))) r.codes r.exchanges
+
+pub returns-clause-common : goal.returns-clause-common
+returns-clause-common g c =
+    let o = c.args.self.now in
+    let w = o.transition in
+    let all : c.loop-place.place ≡ length w.old.codes = let t = c.loop-place-test.false in let a = c.loop-place.auto.place-end in let e = c.codes-place-end.ensures.count in omega arith in
+    certified_all w (fronts_before o c.args.stage) (fronts_before o (c.args.stage + 1)) c.rules.ensures.transition c.loop-place.cert
+    (subst (λ (n : ℕ). IsCertifiedBelow w (fronts_before o c.args.stage) (fronts_before o (c.args.stage + 1)) n c.loop-place.cert) all c.loop-place.invariant)

@@ -1,0 +1,4 @@
+pub mod Between
+pub mod Certified
+pub mod Kept
+pub mod Asked

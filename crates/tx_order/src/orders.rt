@@ -1,0 +1,77 @@
+// An order of switching.
+ghost use Rattle.std.specs.Prelude.{◌≡◌};
+ghost use Rattle.tx_order.specs.Fronts.{count_of};
+
+use crate::fronts::Fronts;
+use crate::level::levels;
+use crate::transition::Transition;
+use std::alloc::{Allocator, Global};
+use std::marker::Model;
+use tx_plan::CodeId;
+
+/// An order in which the lists and the bars of an old plan are switched to those of a new one, in
+/// stages.
+#[derive(Debug, Drop)]
+pub struct Order<A: Allocator = Global> {
+    pub(crate) transition: Transition<A>,
+    pub(crate) ends: Vec<Fronts<A>, A>,
+}
+
+impl<A: Allocator> Model for Order<A> {
+    ghost use Rattle.std.specs.Coded.{codes};
+    ghost use Rattle.tx_cert.specs.inner.Table.{certificate_code};
+    ghost use Rattle.tx_order.specs.Ordered.{Order, IsOrderKept};
+
+    ghost Value = { Order };
+
+    ghost coded = { Prim.hlevel (codes, certificate_code) };
+
+    ghost view = { λ o. record { transition = o.transition; codes = o.ends.items } };
+
+    ghost invariant = { λ o. IsOrderKept (record {
+      transition = o.transition;
+      codes = o.ends.items;
+    }) };
+}
+
+impl<A: Allocator> Order<A> {
+    ghost use Rattle.std.specs.Prelude.{◌≡◌};
+    ghost use Rattle.tx_order.specs.Ordered.{stages_in, fronts_before, IsOrderKept};
+
+    /// Both plans are certified, and each code has its stages. Does nothing: its callers' proofs
+    /// name it.
+    pub(crate) fn rules(&self)
+        ensures { IsOrderKept self.now }
+    {
+        let _ = &self.ends;
+    }
+
+    /// How many stages there are.
+    pub fn stages(&self) -> usize
+        ensures { result ≡ stages_in self.now }
+    {
+        most(&self.ends)
+    }
+
+    /// The front of a code before a stage.
+    pub(crate) fn front(&self, stage: usize, code: CodeId) -> u16
+        ensures { result ≡ fronts_before self.now stage code }
+    {
+        let limit = self.transition.limits.limit;
+        match self.ends.get(code.index()) {
+            Some(fronts) => fronts.front(limit, stage),
+            None if stage == 0 => 0,
+            None => levels(limit),
+        }
+    }
+}
+
+/// How many stages the code has that has the most.
+fn most<A: Allocator>(codes: &[Fronts<A>]) -> usize
+    ensures { result ≡ count_of codes.now }
+{
+    match codes {
+        [] => 0,
+        [fronts, rest @ ..] => fronts.len().max(most(rest)),
+    }
+}

@@ -1,0 +1,112 @@
+// The stages of an order: the plans before them, and their certificates.
+ghost use Rattle.std.specs.Prelude.{◌≡◌, ◌≢◌, ◌+◌, ◌<◌, ℕ, length, None, IfOk};
+ghost use Rattle.tx_plan.specs.Rules.{IsPlan};
+ghost use Rattle.tx_plan.specs.Mixed.{rerouted};
+ghost use Rattle.tx_plan.specs.Mixtures.{AreCommon};
+ghost use Rattle.tx_cert.specs.Certificate.{rank_at as ranked_at, ranks_of, IsCertificateOf};
+ghost use Rattle.tx_rank.specs.Judged.{AreOrigins};
+ghost use Rattle.tx_rank.specs.Nets.{Certifies};
+ghost use Rattle.tx_order.specs.Joined.{IsSafeBetween};
+ghost use Rattle.tx_order.specs.Ordered.{plan_before, stages_in};
+ghost use Rattle.tx_order.specs.inner.Between.{between_net};
+
+use crate::between::{BetweenRoutes, joined_lists};
+use crate::lists::{Lists, lists_before};
+use crate::orders::Order;
+use crate::transition::Transition;
+use std::alloc::Allocator;
+use tx_cert::Cert;
+use tx_plan::{CodeId, Plan};
+use tx_rank::{Finding, origins_of, rank_code};
+use tx_text::NoMemory;
+
+/// Writes the ranks of a code, which is safe between two fronts, into a certificate.
+fn certify<A: Allocator + Copy>(
+    alloc: A,
+    transition: &Transition<A>,
+    origins: &[bool],
+    code: CodeId,
+    from: u16,
+    to: u16,
+    cert: &mut Cert<A>,
+) -> Result<(), NoMemory>
+    requires origins { AreOrigins transition.now.old origins.now }
+    requires code { code < length transition.now.old.codes }
+    requires safe { IsSafeBetween transition.now code from to }
+    requires blank { (x : ℕ) → ranked_at cert.old code x ≡ None }
+    requires codes { cert.old.codes ≡ length transition.now.old.codes }
+    requires exchanges { cert.old.exchanges ≡ length transition.now.old.exchanges }
+    ensures certified { IfOk result (λ _. Certifies (between_net transition.now code from to)
+        (ranked_at cert.new code) transition.now.limit transition.now.spare) }
+    ensures others { IfOk result (λ _. (d x : ℕ)
+        → d ≢ code → ranked_at cert.new d x ≡ ranked_at cert.old d x) }
+    ensures codes { cert.new.codes ≡ cert.old.codes }
+    ensures exchanges { cert.new.exchanges ≡ cert.old.exchanges }
+{
+    transition.rules();
+    let lists = joined_lists(alloc, transition, code, from, to)?;
+    let net = BetweenRoutes {
+        transition,
+        origins,
+        lists: &lists,
+        code,
+        from,
+        to,
+    };
+    let limits = transition.limits();
+    let mut findings: Vec<Finding<A>, A> = Vec::new(alloc);
+    rank_code(
+        alloc,
+        &net,
+        code,
+        limits.limit,
+        limits.spare,
+        cert,
+        &mut findings,
+    )
+}
+
+impl<A: Allocator + Copy> Order<A> {
+    /// A certificate for the plan before a stage, from 0, the plan after it, and all mixtures of
+    /// both. `Err` means out of memory.
+    pub fn cert(&self, alloc: A, stage: usize) -> Result<Cert<A>, NoMemory>
+        requires { stage < stages_in self.now }
+        ensures common { IfOk result (λ cert. AreCommon (plan_before self.now stage)
+            (plan_before self.now (stage + 1)) (ranks_of cert)
+            self.now.transition.limit self.now.transition.spare) }
+        ensures fits { IfOk result (IsCertificateOf self.now.transition.old) }
+    {
+        self.rules();
+        let transition = &self.transition;
+        let origins = origins_of(alloc, &transition.old)?;
+        let mut cert = Cert::new(alloc, &transition.old)?;
+        for place in 0..transition.codes() {
+            let code = CodeId::of(place);
+            let from = self.front(stage, code);
+            let to = self.front(stage + 1, code);
+            certify(alloc, transition, &origins, code, from, to, &mut cert)?;
+        }
+        cert.rules();
+        Ok(cert)
+    }
+
+    /// The plan before a stage, from 0. After the last stage it is the new plan. `Err` means out of
+    /// memory.
+    pub fn into_plan(self, alloc: A, stage: usize) -> Result<Plan<A>, NoMemory>
+        ensures { IfOk result (λ p. p ≡ plan_before self stage) }
+    {
+        self.rules();
+        let lists = lists_before(alloc, &self, stage)?;
+        Ok(self.with_lists(lists))
+    }
+
+    /// The old plan with other lists.
+    fn with_lists(self, lists: Lists<A>) -> Plan<A>
+        requires { IsPlan (rerouted self.transition.old lists.routes lists.bars) }
+        ensures { result ≡ rerouted self.transition.old lists.routes lists.bars }
+    {
+        let Order { transition, .. } = self;
+        let Transition { old, .. } = transition;
+        old.rerouted(lists.routes, lists.bars)
+    }
+}
