@@ -50,7 +50,7 @@ none_at [] i h = omega arith
 none_at (x ∷ xs) zero h = absurd (let z : ⊥ = cc in z)
 none_at (x ∷ xs) (suc i) h = let l = none_at xs i h in omega arith
 
--- what stands at a place
+-- what stands at an index
 pub lists_read : (w : Transition) (c from to : ℕ) (lists : List (List ℕ)) → AreLists w c from to lists → (x : ℕ) → option_map_or (λ (groups : List ℕ). groups) (slice_get lists x) [] ≡ list_at w from c x ++ list_at w to c x
 lists_read w c from to lists a x = by_get (slice_get lists x) refl
   where

@@ -7,7 +7,7 @@ use Rattle.std.proofs.lemmas.List.{length_push, get_or_past, get_or_append_left,
 use Rattle.tx_plan.specs.Plan.{Plan}
 use Rattle.tx_plan.specs.Certified.{Ranks}
 use Rattle.tx_plan.specs.Mixtures.{AreCommon}
-use Rattle.tx_plan.proofs.ByPlace.{entry_at}
+use Rattle.tx_plan.proofs.ByIndex.{entry_at}
 use Rattle.tx_cert.specs.Certificate.{ranks_of}
 use Rattle.tx_rank.proofs.Origins.{at_push}
 use Rattle.tx_order.specs.Levels.{levels_of}
@@ -111,26 +111,26 @@ module _ (w : Transition) (c : ℕ) where
     pub front_rising : (s : ℕ) → front_of w.limit ends s ≤ front_of w.limit ends (s + 1)
     front_rising s = elim (cases_lt s (length ends)) [
       | inl l ↦ let r = a.stages.rising s l in omega arith
-      | inr l ↦ let f = front_past (s + 1) (omega arith) (omega arith) in by_place s l f
+      | inr l ↦ let f = front_past (s + 1) (omega arith) (omega arith) in by_index s l f
     ]
       where
-        by_place : (s : ℕ) → length ends ≤ s → front_of w.limit ends (s + 1) ≡ levels_of w.limit → front_of w.limit ends s ≤ front_of w.limit ends (s + 1)
-        by_place zero l f = omega arith
-        by_place (suc s) l f = let e = front_past (suc s) (omega arith) l in omega arith
+        by_index : (s : ℕ) → length ends ≤ s → front_of w.limit ends (s + 1) ≡ levels_of w.limit → front_of w.limit ends s ≤ front_of w.limit ends (s + 1)
+        by_index zero l f = omega arith
+        by_index (suc s) l f = let e = front_past (suc s) (omega arith) l in omega arith
 
     pub front_safe : (s : ℕ) → IsSafeBetween w c (front_of w.limit ends s) (front_of w.limit ends (s + 1))
     front_safe s = elim (cases_lt s (length ends)) [
       | inl l ↦ a.stages.safe s l
-      | inr l ↦ by_place s l
+      | inr l ↦ by_index s l
     ]
       where
-        by_place : (s : ℕ) → length ends ≤ s → IsSafeBetween w c (front_of w.limit ends s) (front_of w.limit ends (s + 1))
-        by_place zero l =
+        by_index : (s : ℕ) → length ends ≤ s → IsSafeBetween w c (front_of w.limit ends s) (front_of w.limit ends (s + 1))
+        by_index zero l =
             let none : length ends ≡ 0 = omega arith in
             let f = front_past 1 (omega arith) (omega arith) in
             let same = subst (λ k. IsSameAt w c (front_of w.limit ends k) (levels_of w.limit)) none (alike_same w c (front_of w.limit ends (length ends)) (levels_of w.limit) a.done) in
             subst (λ k. IsSafeBetween w c 0 k) (sym f) (safe_to w c 0 (levels_of w.limit) 0 same (same_safe w is c 0 h))
-        by_place (suc s) l =
+        by_index (suc s) l =
             let e = front_past (suc s) (omega arith) l in
             let f = front_past (suc s + 1) (omega arith) (omega arith) in
             subst (λ k. IsSafeBetween w c k (front_of w.limit ends (suc s + 1))) (sym e) (subst (λ k. IsSafeBetween w c (levels_of w.limit) k) (sym f) (same_safe w is c (levels_of w.limit) h))
@@ -170,8 +170,8 @@ stages_more w c codes ends a e = record {
   each = λ d other h. elim (at_push codes ends other d h) [
     | inl q ↦ a.each d other q
     | inr q ↦
-        let place : c ≡ d = sym (q.0 ∙ a.long) in
-        subst (λ k. AreAllStages w k other) place (subst (λ (o : List ℕ). AreAllStages w c o) (sym q.1) e)
+        let index : c ≡ d = sym (q.0 ∙ a.long) in
+        subst (λ k. AreAllStages w k other) index (subst (λ (o : List ℕ). AreAllStages w c o) (sym q.1) e)
   ];
 }
 

@@ -9,7 +9,7 @@ abbrev pub front_of : (limit : ℕ) → List ℕ → ℕ → ℕ
 front_of limit ends zero = 0
 front_of limit ends (suc s) = slice_index_or ends s (levels_of limit)
 
--- the ends of the stages of the code at a place; none for a place that there is not
+-- the ends of the stages of the code at an index; none for an index that there is not
 abbrev pub ends_of : List (List ℕ) → ℕ → List ℕ
 ends_of codes c = option_map_or (λ ends. ends) (slice_get codes c) []
 

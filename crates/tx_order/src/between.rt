@@ -10,7 +10,7 @@ use crate::transition::Transition;
 use std::alloc::{Allocator, Global};
 use std::marker::Model;
 use tx_plan::{CodeId, ExchangeId, GroupId};
-use tx_rank::Routes;
+use tx_rank::CodeNet;
 use tx_text::NoMemory;
 
 /// The groups that an exchange may try.
@@ -73,18 +73,18 @@ pub fn joined_lists<A: Allocator + Copy>(
 {
     transition.rules();
     let mut lists = Vec::new(alloc);
-    for place in 0..transition.exchanges() {
-        let exchange = ExchangeId::of(place);
+    for index in 0..transition.exchanges() {
+        let exchange = ExchangeId::of(index);
         lists.push(joined(alloc, transition, code, from, to, exchange)?)?;
     }
     Ok(lists)
 }
 
-/// The list at a place.
-fn list_in<A: Allocator>(lists: &[Groups<A>], place: usize) -> &[GroupId]
-    ensures { result.now ≡ option_map_or (λ groups. groups) (slice_get lists.now place) [] }
+/// The list at an index.
+fn list_in<A: Allocator>(lists: &[Groups<A>], index: usize) -> &[GroupId]
+    ensures { result.now ≡ option_map_or (λ groups. groups) (slice_get lists.now index) [] }
 {
-    match lists.get(place) {
+    match lists.get(index) {
         Some(groups) => groups.as_slice(),
         None => &[],
     }
@@ -104,15 +104,15 @@ pub struct BetweenRoutes<'a, A: Allocator> {
     ghost net: { IsNet (between_net transition.now code from to) } by { IsNet-prop (between_net transition.now code from to) },
 }
 
-impl<'a, A: Allocator> Routes for BetweenRoutes<'a, A> {
+impl<'a, A: Allocator> CodeNet for BetweenRoutes<'a, A> {
     ghost net = { λ r. between_net r.transition.now r.code r.from r.to };
 
     fn exchanges(&self) -> usize {
         self.transition.exchanges()
     }
 
-    fn exchange(&self, place: usize) -> ExchangeId {
-        ExchangeId::of(place)
+    fn exchange(&self, index: usize) -> ExchangeId {
+        ExchangeId::of(index)
     }
 
     fn home(&self) -> ExchangeId {

@@ -39,8 +39,8 @@ pub fn is_same<A: Allocator>(transition: &Transition<A>, code: CodeId, from: u16
     ensures { result ≡ true ↔ IsSameAt transition.now code from to }
 {
     transition.rules();
-    for place in 0..transition.exchanges() {
-        let exchange = ExchangeId::of(place);
+    for index in 0..transition.exchanges() {
+        let exchange = ExchangeId::of(index);
         if !is_same_list(transition, code, from, to, exchange) {
             return false;
         }

@@ -54,35 +54,35 @@ fn add_routes<A: Allocator>(
     from_new: bool,
     routes: &mut Routes<A>,
 ) -> Result<(), NoMemory>
-    requires { (place : ℕ) (r : Route) → slice_get from.now.routes place ≡ Some r
+    requires { (index : ℕ) (r : Route) → slice_get from.now.routes index ≡ Some r
         → keeps_route from_new (listed order.now stage) r ≡ true
         → has_route_as r routes.old ≡ false }
     ensures { IfOk result (λ _. routes.new ≡ routes.old
         ++ filter (keeps_route from_new (listed order.now stage)) from.now.routes) }
 {
-    for place in 0..from.routes() {
-        add_route(from, order, stage, from_new, place, routes)?;
+    for index in 0..from.routes() {
+        add_route(from, order, stage, from_new, index, routes)?;
     }
     Ok(())
 }
 
-/// Adds the one at a place, if it is in the plan.
+/// Adds the one at an index, if it is in the plan.
 fn add_route<A: Allocator>(
     from: &Plan<A>,
     order: &Order<A>,
     stage: usize,
     from_new: bool,
-    place: usize,
+    index: usize,
     routes: &mut Routes<A>,
 ) -> Result<(), NoMemory>
-    requires { (r : Route) → slice_get from.now.routes place ≡ Some r
+    requires { (r : Route) → slice_get from.now.routes index ≡ Some r
         → keeps_route from_new (listed order.now stage) r ≡ true
         → has_route_as r routes.old ≡ false }
     ensures { IfOk result (λ _. routes.new ≡ routes.old
         ++ kept_alone (keeps_route from_new (listed order.now stage))
-        (slice_get from.now.routes place)) }
+        (slice_get from.now.routes index)) }
 {
-    match from.route_at(place) {
+    match from.route_at(index) {
         Some((exchange, code)) => {
             if takes_list(order, stage, exchange, code) != from_new {
                 return Ok(());
@@ -129,35 +129,35 @@ fn add_bars<A: Allocator>(
     from_new: bool,
     bars: &mut Bars<A>,
 ) -> Result<(), NoMemory>
-    requires { (place : ℕ) (b : Bar) → slice_get from.now.bars place ≡ Some b
+    requires { (index : ℕ) (b : Bar) → slice_get from.now.bars index ≡ Some b
         → keeps_bar from_new (barred order.now stage) b ≡ true
         → has_bar_as b bars.old ≡ false }
     ensures { IfOk result (λ _. bars.new ≡ bars.old
         ++ filter (keeps_bar from_new (barred order.now stage)) from.now.bars) }
 {
-    for place in 0..from.bars() {
-        add_bar(from, order, stage, from_new, place, bars)?;
+    for index in 0..from.bars() {
+        add_bar(from, order, stage, from_new, index, bars)?;
     }
     Ok(())
 }
 
-/// Adds the one at a place, if it is in the plan.
+/// Adds the one at an index, if it is in the plan.
 fn add_bar<A: Allocator>(
     from: &Plan<A>,
     order: &Order<A>,
     stage: usize,
     from_new: bool,
-    place: usize,
+    index: usize,
     bars: &mut Bars<A>,
 ) -> Result<(), NoMemory>
-    requires { (b : Bar) → slice_get from.now.bars place ≡ Some b
+    requires { (b : Bar) → slice_get from.now.bars index ≡ Some b
         → keeps_bar from_new (barred order.now stage) b ≡ true
         → has_bar_as b bars.old ≡ false }
     ensures { IfOk result (λ _. bars.new ≡ bars.old
         ++ kept_alone (keeps_bar from_new (barred order.now stage))
-        (slice_get from.now.bars place)) }
+        (slice_get from.now.bars index)) }
 {
-    match from.bar_at(place) {
+    match from.bar_at(index) {
         Some((exchange, code)) => {
             if takes_bar(order, stage, exchange, code) != from_new {
                 return Ok(());

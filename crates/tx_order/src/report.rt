@@ -84,8 +84,8 @@ fn write_exchanges<A: Allocator, W: Sink>(
         (switched_lines order.now.transition.new (plan_before order.now stage)
         (plan_before order.now (stage + 1))) result }
 {
-    for place in 0..order.transition.new.exchanges() {
-        write_exchange(order, stage, ExchangeId::of(place), sink)?;
+    for index in 0..order.transition.new.exchanges() {
+        write_exchange(order, stage, ExchangeId::of(index), sink)?;
     }
     Ok(())
 }
@@ -102,8 +102,8 @@ fn write_exchange<A: Allocator, W: Sink>(
         (exchange_lines order.now.transition.new (plan_before order.now stage)
         (plan_before order.now (stage + 1)) exchange) result }
 {
-    for place in 0..order.transition.new.codes() {
-        write_entry(order, stage, exchange, CodeId::of(place), sink)?;
+    for index in 0..order.transition.new.codes() {
+        write_entry(order, stage, exchange, CodeId::of(index), sink)?;
     }
     Ok(())
 }

@@ -80,8 +80,8 @@ impl<A: Allocator + Copy> Order<A> {
         let transition = &self.transition;
         let origins = origins_of(alloc, &transition.old)?;
         let mut cert = Cert::new(alloc, &transition.old)?;
-        for place in 0..transition.codes() {
-            let code = CodeId::of(place);
+        for index in 0..transition.codes() {
+            let code = CodeId::of(index);
             let from = self.front(stage, code);
             let to = self.front(stage + 1, code);
             certify(alloc, transition, &origins, code, from, to, &mut cert)?;

@@ -40,8 +40,8 @@ fn stages_of<A: Allocator + Copy>(
 {
     let origins = origins_of(alloc, &transition.old)?;
     let mut ends = Vec::new(alloc);
-    for place in 0..transition.codes() {
-        let code = CodeId::of(place);
+    for index in 0..transition.codes() {
+        let code = CodeId::of(index);
         ends.push(stages_of_code(alloc, transition, &origins, code)?)?;
     }
     Ok(ends)

@@ -3,5 +3,5 @@ use Rattle.std.specs.Prelude.{filter}
 use Rattle.tx_order.specs.inner.Kept.{keeps_bar, barred}
 use Rattle.tx_order.proofs.lists.add_bars.Given as goal
 
-abbrev pub invariant-loop-place : goal.invariant-loop-place
-invariant-loop-place g l = l.bars ≡ l.initial.bars ++ filter (keeps_bar l.from_new (barred l.order l.stage)) (take l.place l.from.bars)
+abbrev pub invariant-loop-index : goal.invariant-loop-index
+invariant-loop-index g l = l.bars ≡ l.initial.bars ++ filter (keeps_bar l.from_new (barred l.order l.stage)) (take l.index l.from.bars)

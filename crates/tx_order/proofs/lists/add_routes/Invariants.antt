@@ -3,5 +3,5 @@ use Rattle.std.specs.Prelude.{filter}
 use Rattle.tx_order.specs.inner.Kept.{keeps_route, listed}
 use Rattle.tx_order.proofs.lists.add_routes.Given as goal
 
-abbrev pub invariant-loop-place : goal.invariant-loop-place
-invariant-loop-place g l = l.routes ≡ l.initial.routes ++ filter (keeps_route l.from_new (listed l.order l.stage)) (take l.place l.from.routes)
+abbrev pub invariant-loop-index : goal.invariant-loop-index
+invariant-loop-index g l = l.routes ≡ l.initial.routes ++ filter (keeps_route l.from_new (listed l.order l.stage)) (take l.index l.from.routes)

@@ -9,20 +9,20 @@ use Rattle.tx_order.proofs.Ordered.{code_safe}
 use Rattle.tx_order.proofs.StageCerts.{certified_first, certified_next, certified_all}
 use Rattle.tx_order.proofs.orders.Order.cert.Goals as goal
 
-pub loop-place-init : goal.loop-place-init
-loop-place-init g c = certified_first c.args.self.now.transition _ _ c.in_ok-cert.cert c.in_ok-cert.ensures
+pub loop-index-init : goal.loop-index-init
+loop-index-init g c = certified_first c.args.self.now.transition _ _ c.in_ok-cert.cert c.in_ok-cert.ensures
 
 pub certify-requires-clause-safe : goal.certify-requires-clause-safe
 certify-requires-clause-safe g c =
     let o = c.args.self.now in
     let w = o.transition in
-    let h : c.of-code.result < length w.old.codes = let t = c.loop-place-test.true in let a = c.of-code.ensures in let e = c.codes-place-end.ensures.count in omega arith in
+    let h : c.of-code.result < length w.old.codes = let t = c.loop-index-test.true in let a = c.of-code.ensures in let e = c.codes-index-end.ensures.count in omega arith in
     subst (λ (n : ℕ). IsSafeBetween w c.of-code.result n c.front-to.result) (sym c.front-from.ensures)
     (subst (λ (n : ℕ). IsSafeBetween w c.of-code.result (fronts_before o c.args.stage c.of-code.result) n) (sym c.front-to.ensures)
     (code_safe o c.rules.ensures c.args.stage c.of-code.result h))
 
-pub loop-place-preserved : goal.loop-place-preserved
-loop-place-preserved g c =
+pub loop-index-preserved : goal.loop-index-preserved
+loop-index-preserved g c =
     let o = c.args.self.now in
     let w = o.transition in
     let code = c.of-code.result in
@@ -32,13 +32,13 @@ loop-place-preserved g c =
     let one = subst (λ (n : ℕ). Certifies (between_net w code c.front-from.result n) (rank_at cert code) w.limit w.spare) c.front-to.ensures r.certified in
     let two = subst (λ (n : ℕ). Certifies (between_net w code n (fronts_before o (c.args.stage + 1) code)) (rank_at cert code) w.limit w.spare) c.front-from.ensures one in
     let here = subst (λ (k : ℕ). Certifies (between_net w k (fronts_before o c.args.stage k) (fronts_before o (c.args.stage + 1) k)) (rank_at cert k) w.limit w.spare) e two in
-    certified_next w (fronts_before o c.args.stage) (fronts_before o (c.args.stage + 1)) c.loop-place.place c.loop-place.cert cert c.loop-place.invariant here
+    certified_next w (fronts_before o c.args.stage) (fronts_before o (c.args.stage + 1)) c.loop-index.index c.loop-index.cert cert c.loop-index.invariant here
     (λ d x q. r.others d x (λ s. q (s ∙ e))) r.codes r.exchanges
 
 pub returns-clause-common : goal.returns-clause-common
 returns-clause-common g c =
     let o = c.args.self.now in
     let w = o.transition in
-    let all : c.loop-place.place ≡ length w.old.codes = let t = c.loop-place-test.false in let a = c.loop-place.auto.place-end in let e = c.codes-place-end.ensures.count in omega arith in
-    certified_all w (fronts_before o c.args.stage) (fronts_before o (c.args.stage + 1)) c.rules.ensures.transition c.loop-place.cert
-    (subst (λ (n : ℕ). IsCertifiedBelow w (fronts_before o c.args.stage) (fronts_before o (c.args.stage + 1)) n c.loop-place.cert) all c.loop-place.invariant)
+    let all : c.loop-index.index ≡ length w.old.codes = let t = c.loop-index-test.false in let a = c.loop-index.auto.index-end in let e = c.codes-index-end.ensures.count in omega arith in
+    certified_all w (fronts_before o c.args.stage) (fronts_before o (c.args.stage + 1)) c.rules.ensures.transition c.loop-index.cert
+    (subst (λ (n : ℕ). IsCertifiedBelow w (fronts_before o c.args.stage) (fronts_before o (c.args.stage + 1)) n c.loop-index.cert) all c.loop-index.invariant)
