@@ -11,7 +11,7 @@ use Rattle.tx_check.specs.Confirmed.{IsConfirmed}
 use Rattle.tx_change.proofs.Cleared.{certificate_along, cleared}
 use Rattle.tx_order.specs.Ordered.{Order, plan_before, IsOrderKept}
 use Rattle.tx_order.specs.Switchings.{HasCleared}
-use Rattle.tx_order.specs.declared.lists.Lists.{Lists}
+use Rattle.tx_change.specs.declared.mixing.Lists.{Lists}
 use Rattle.tx_order.specs.inner.Asked.{AreListsOf}
 use Rattle.tx_order.proofs.Ordered.{is_order_of}
 

@@ -2,8 +2,6 @@ pub mod Levels
 pub mod Switched
 pub mod Staged
 pub mod Leading
-pub mod Kept
-pub mod JoinedLists
 pub mod Same
 pub mod TwoFronts
 pub mod Ordered

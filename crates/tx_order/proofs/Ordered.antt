@@ -5,6 +5,7 @@ use Rattle.std.specs.Option.{option_map_or}
 use Rattle.std.proofs.lemmas.Bool.{cases_lt, cases_eq}
 use Rattle.std.proofs.lemmas.List.{length_push, get_or_past, get_or_append_left, get_or_push}
 use Rattle.tx_plan.specs.Plan.{Plan}
+use Rattle.tx_plan.specs.Routes.{route_list}
 use Rattle.tx_plan.specs.Certified.{Ranks}
 use Rattle.tx_plan.specs.Mixtures.{AreCommon}
 use Rattle.tx_plan.proofs.ByIndex.{entry_at}
@@ -13,12 +14,11 @@ use Rattle.tx_rank.proofs.Origins.{at_push}
 use Rattle.tx_order.specs.Levels.{levels_of}
 use Rattle.tx_order.specs.Orders.{AreAlikeFor, AreAlike, IsOrder}
 use Rattle.tx_order.specs.Fronts.{front_of, ends_of, front_at, count_of}
-use Rattle.tx_order.specs.Transitions.{Transition, IsTransition, plan_with}
-use Rattle.tx_order.specs.Joined.{plan_front, IsSafeBetween, IsFurthest, AreStages, AreAllStages}
+use Rattle.tx_order.specs.Transitions.{Transition, IsTransition, plan_front}
+use Rattle.tx_order.specs.Joined.{IsSafeBetween, IsFurthest, AreStages, AreAllStages}
 use Rattle.tx_order.specs.Ordered.{Order, fronts_before, plan_before, stages_in, AreStagesBelow, IsOrderKept}
-use Rattle.tx_order.specs.inner.Between.{IsSameAt}
 use Rattle.tx_order.proofs.Leading.{AreAdvancing, order_by, no_order_needed, leads_from, leads_to, rises}
-use Rattle.tx_order.proofs.TwoFronts.{plan_list, plan_bar, same_safe, codes_common, later_safe, safe_to, alike_with, alike_same, same_alike, something_switched, nothing_left}
+use Rattle.tx_order.proofs.TwoFronts.{plan_list, newly_listed, alike_fronts, same_safe, codes_common, later_safe, safe_to, nothing_left}
 
 -- FRONTS OF ONE CODE
 
@@ -96,7 +96,7 @@ module _ (w : Transition) (c : ℕ) where
     last_front n e =
         let l : n < length ends = omega arith in
         let next : n + 1 ≡ length ends = omega arith in
-        let done = subst (λ k. IsSameAt w c (front_of w.limit ends k) (levels_of w.limit)) (sym next) (alike_same w c (front_of w.limit ends (length ends)) (levels_of w.limit) a.done) in
+        let done = subst (λ k. AreAlikeFor c (plan_front w (front_of w.limit ends k)) (plan_front w (levels_of w.limit))) (sym next) a.done in
         ap (front_of w.limit ends) (sym next)
         ∙ nothing_left w is c (front_of w.limit ends n) (front_of w.limit ends (n + 1)) h (a.stages.within (n + 1) (omega arith)) (a.stages.furthest n l) (a.stages.safe n l) done
 
@@ -128,7 +128,7 @@ module _ (w : Transition) (c : ℕ) where
         by_index zero l =
             let none : length ends ≡ 0 = omega arith in
             let f = front_past 1 (omega arith) (omega arith) in
-            let same = subst (λ k. IsSameAt w c (front_of w.limit ends k) (levels_of w.limit)) none (alike_same w c (front_of w.limit ends (length ends)) (levels_of w.limit) a.done) in
+            let same = subst (λ k. AreAlikeFor c (plan_front w (front_of w.limit ends k)) (plan_front w (levels_of w.limit))) none a.done in
             subst (λ k. IsSafeBetween w c 0 k) (sym f) (safe_to w c 0 (levels_of w.limit) 0 same (same_safe w is c 0 h))
         by_index (suc s) l =
             let e = front_past (suc s) (omega arith) l in
@@ -287,9 +287,17 @@ module _ (o : Order) (k : IsOrderKept o) where
       let q = code_ends c within in
       let same : q.0 ≡ r.1 = cc in
       let long = ap length same in
-      let here = alike_with w c (fronts_before o s) (fronts_before o (s + 1)) (alike c within) in
-      let moved = subst (λ n. IsSameAt w c n (front_of w.limit q.0 (s + 1))) (q.2 s) (subst (λ n. IsSameAt w c (fronts_before o s c) n) (q.2 (s + 1)) here) in
-      (k.stages.each c q.0 q.1).stages.used s (omega arith) (same_alike w c (front_of w.limit q.0 s) (front_of w.limit q.0 (s + 1)) moved)
+      let here = alike_fronts w c (fronts_before o s) (fronts_before o (s + 1)) (alike c within) in
+      let moved = subst (λ n. AreAlikeFor c (plan_front w n) (plan_front w (front_of w.limit q.0 (s + 1)))) (q.2 s) (subst (λ n. AreAlikeFor c (plan_front w (fronts_before o s c)) (plan_front w n)) (q.2 (s + 1)) here) in
+      (k.stages.each c q.0 q.1).stages.used s (omega arith) moved
 
   pub few_stages : stages_in o ≤ levels_of o.transition.limit
   few_stages = count_few o.codes (levels_of o.transition.limit) (λ c ends h. few_ends o.transition c ends (k.stages.each c ends h).stages)
+
+  -- a list that a stage switches is the new one after it
+  pub new_after : (s x c : ℕ) → s < stages_in o → (route_list (plan_before o s) x c ≡ route_list (plan_before o (s + 1)) x c → ⊥) → route_list (plan_before o (s + 1)) x c ≡ route_list o.transition.new x c
+  new_after s x c h apart =
+      let w = o.transition in
+      let u = fronts_before o s in
+      let v = fronts_before o (s + 1) in
+      plan_list w v x c ∙ newly_listed w c x (u c) (v c) (front_up s c h) (λ same. apart (plan_list w u x c ∙ (same ∙ sym (plan_list w v x c))))

@@ -1,16 +1,11 @@
 -- Stages of one code, each as long as it is safe.
 use Rattle.std.specs.Prelude.{◌≡◌, ℕ, ◌+◌, ◌<◌, ◌≤◌, List, length, Option}
-use Rattle.tx_plan.specs.Plan.{Plan}
 use Rattle.tx_rank.specs.Nets.{Certifies}
 use Rattle.tx_change.specs.ChangeNets.{change_net}
 use Rattle.tx_order.specs.Levels.{levels_of}
 use Rattle.tx_order.specs.Orders.{AreAlikeFor}
 use Rattle.tx_order.specs.Fronts.{front_of}
-use Rattle.tx_order.specs.Transitions.{Transition, plan_with}
-
--- the plan where the front of all codes is the same
-abbrev pub plan_front : Transition → ℕ → Plan
-plan_front w front = plan_with w (λ c. front)
+use Rattle.tx_order.specs.Transitions.{Transition, plan_front}
 
 -- the same ranks certify the code at two fronts
 abbrev pub IsSafeBetween : Transition → (c from to : ℕ) → Type 0

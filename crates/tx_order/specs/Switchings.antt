@@ -1,5 +1,5 @@
 -- What the search for an order answers.
-use Rattle.std.specs.Prelude.{◌≡◌, ℕ, ◌+◌, ◌<◌, ◌≤◌, List, length, slice_get, Some}
+use Rattle.std.specs.Prelude.{◌≡◌, ℕ, ◌+◌, ◌<◌, ◌≤◌}
 use Rattle.tx_plan.specs.Plan.{Plan}
 use Rattle.tx_cert.specs.Certificate.{Certificate}
 use Rattle.tx_rank.specs.declared.ranking.Ranking.{Ranking}
@@ -9,7 +9,7 @@ use Rattle.tx_order.specs.declared.switching.Switching.{Switching}
 use Rattle.tx_order.specs.declared.switching.Switching.TheVariants.{Ordered, NoOrder}
 use Rattle.tx_order.specs.Levels.{levels_of}
 use Rattle.tx_order.specs.Orders.{AreAlike, IsOrder, CanBothBeCertified}
-use Rattle.tx_order.specs.Ordered.{Order, plan_before, stages_in}
+use Rattle.tx_order.specs.Ordered.{Order, plan_before, stages_in, IsOrderKept}
 
 -- a certificate to which the checker says Yes, for the plan before a stage and the plan after it,
 -- clears this change
@@ -18,7 +18,7 @@ HasCleared o s = (cert : Certificate) × IsCleared (plan_before o s) (plan_befor
     o.transition.limit o.transition.spare cert
 
 -- YES: an order in at most 2 (limit + 2) stages. Each switches something, and is a change that is
--- cleared.
+-- cleared. The stages of each code are as long as they are safe.
 pub record IsOrdered (old new : Plan) (limit spare : ℕ) (o : Order) : Type 0 where
   pub old_plan : o.transition.old ≡ old
   pub new_plan : o.transition.new ≡ new
@@ -28,6 +28,7 @@ pub record IsOrdered (old new : Plan) (limit spare : ℕ) (o : Order) : Type 0 w
   pub cleared : (s : ℕ) → s < stages_in o → HasCleared o s
   pub used : (s : ℕ) → s < stages_in o → AreAlike (plan_before o s) (plan_before o (s + 1)) → ⊥
   pub few : stages_in o ≤ levels_of limit
+  pub kept : IsOrderKept o
 
 module _ {A : Type 0} where
   -- NO: what is wrong with the old plan, with the new one, or with both

@@ -1,4 +1,2 @@
-pub mod Between
 pub mod Certified
-pub mod Kept
 pub mod Asked

@@ -4,14 +4,13 @@ ghost use Rattle.tx_rank.specs.Judged.{AreOrigins};
 ghost use Rattle.tx_order.specs.Levels.{levels_of};
 ghost use Rattle.tx_order.specs.Joined.{IsSafeBetween, IsFurthest, AreAllStages};
 
-use crate::between::{BetweenRoutes, joined_lists};
+use crate::between::rank_between;
 use crate::entries::is_same;
 use crate::fronts::Fronts;
 use crate::transition::Transition;
 use std::alloc::Allocator;
 use tx_cert::Cert;
 use tx_plan::CodeId;
-use tx_rank::{Finding, rank_code};
 use tx_text::NoMemory;
 
 /// Whether the same ranks certify a code at two fronts.
@@ -28,24 +27,15 @@ fn joins<A: Allocator + Copy>(
     ensures { IfOk result (λ safe. safe ≡ true ↔ IsSafeBetween transition.now code from to) }
 {
     transition.rules();
-    let lists = joined_lists(alloc, transition, code, from, to)?;
-    let net = BetweenRoutes {
+    let mut cert = Cert::new(alloc, &transition.old)?;
+    let mut findings = Vec::new(alloc);
+    rank_between(
+        alloc,
         transition,
         origins,
-        lists: &lists,
         code,
         from,
         to,
-    };
-    let limits = transition.limits();
-    let mut cert = Cert::new(alloc, &transition.old)?;
-    let mut findings: Vec<Finding<A>, A> = Vec::new(alloc);
-    rank_code(
-        alloc,
-        &net,
-        code,
-        limits.limit,
-        limits.spare,
         &mut cert,
         &mut findings,
     )?;

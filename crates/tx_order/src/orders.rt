@@ -7,7 +7,7 @@ use crate::level::levels;
 use crate::transition::Transition;
 use std::alloc::{Allocator, Global};
 use std::marker::Model;
-use tx_plan::CodeId;
+use tx_plan::{CodeId, ExchangeId, GroupId};
 
 /// An order in which the lists and the bars of an old plan are switched to those of a new one, in
 /// stages.
@@ -36,7 +36,8 @@ impl<A: Allocator> Model for Order<A> {
 
 impl<A: Allocator> Order<A> {
     ghost use Rattle.std.specs.Prelude.{◌≡◌};
-    ghost use Rattle.tx_order.specs.Ordered.{stages_in, fronts_before, IsOrderKept};
+    ghost use Rattle.tx_plan.specs.Routes.{route_list, is_barred};
+    ghost use Rattle.tx_order.specs.Ordered.{stages_in, fronts_before, plan_before, IsOrderKept};
 
     /// Both plans are certified, and each code has its stages. Does nothing: its callers' proofs
     /// name it.
@@ -63,6 +64,22 @@ impl<A: Allocator> Order<A> {
             None if stage == 0 => 0,
             None => levels(limit),
         }
+    }
+
+    /// The list of an exchange for a code before a stage.
+    pub(crate) fn list(&self, stage: usize, exchange: ExchangeId, code: CodeId) -> &[GroupId]
+        ensures { result.now ≡ route_list (plan_before self.now stage) exchange code }
+    {
+        self.transition
+            .list(self.front(stage, code), exchange, code)
+    }
+
+    /// Whether the exchange is barred for the code before it.
+    pub(crate) fn is_barred(&self, stage: usize, exchange: ExchangeId, code: CodeId) -> bool
+        ensures { result ≡ is_barred (plan_before self.now stage) exchange code }
+    {
+        self.transition
+            .is_barred(self.front(stage, code), exchange, code)
     }
 }
 

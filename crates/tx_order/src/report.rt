@@ -1,16 +1,15 @@
 // The writer of the report of an order.
-ghost use Rattle.std.specs.Prelude.{◌≡◌, ◌<◌, ◌≤◌, ◌+◌};
+ghost use Rattle.std.specs.Prelude.{◌≡◌, ◌<◌, ◌+◌};
 ghost use Rattle.std.specs.List.{flat_map};
 ghost use Rattle.tx_text.specs.Wrote.{Wrote};
+ghost use Rattle.tx_plan.specs.Routes.{route_list, is_barred};
 ghost use Rattle.tx_mend.specs.MendText.{line_unless_same};
 ghost use Rattle.tx_rank.specs.Report.{findings_of};
 ghost use Rattle.tx_order.specs.Ordered.{plan_before, stages_in};
 ghost use Rattle.tx_order.specs.OrderText.{pair_line, bar_line, entry_lines, exchange_lines, switched_lines, stage_line, stage_text, stages_text, finding_of, no_order_text, order_report};
-ghost use Rattle.tx_order.specs.inner.Between.{list_at, barred_at};
 
 use crate::orders::Order;
 use crate::switching::Switching;
-use crate::transition::Transition;
 use itoa::Buffer;
 use std::alloc::Allocator;
 use tx_mend::write_list;
@@ -121,31 +120,29 @@ fn write_entry<A: Allocator, W: Sink>(
         (entry_lines order.now.transition.new (plan_before order.now stage)
         (plan_before order.now (stage + 1)) exchange code) result }
 {
-    order.rules();
-    let from = order.front(stage, code);
-    let to = order.front(stage + 1, code);
-    write_bar(&order.transition, code, from, to, exchange, sink)?;
-    write_switched_list(&order.transition, code, from, to, exchange, sink)
+    write_bar(order, stage, exchange, code, sink)?;
+    write_switched_list(order, stage, exchange, code, sink)
 }
 
 /// Writes that a bar is set or lifted, if it is.
 fn write_bar<A: Allocator, W: Sink>(
-    transition: &Transition<A>,
-    code: CodeId,
-    from: u16,
-    to: u16,
+    order: &Order<A>,
+    stage: usize,
     exchange: ExchangeId,
+    code: CodeId,
     sink: &mut W,
 ) -> Result<(), WriteFault>
     ensures { Wrote W.taken W.failed sink.old sink.new
-        (bar_line transition.now.new exchange code (barred_at transition.now from code exchange)
-        (barred_at transition.now to code exchange)) result }
+        (bar_line order.now.transition.new exchange code
+        (is_barred (plan_before order.now stage) exchange code)
+        (is_barred (plan_before order.now (stage + 1)) exchange code)) result }
 {
-    let before = transition.is_barred(from, exchange, code);
-    let now = transition.is_barred(to, exchange, code);
+    let plan = &order.transition.new;
+    let before = order.is_barred(stage, exchange, code);
+    let now = order.is_barred(stage + 1, exchange, code);
     match (before, now) {
-        (false, true) => write_pair(&transition.new, b"BAR ", exchange, code, sink),
-        (true, false) => write_pair(&transition.new, b"UNBAR ", exchange, code, sink),
+        (false, true) => write_pair(plan, b"BAR ", exchange, code, sink),
+        (true, false) => write_pair(plan, b"UNBAR ", exchange, code, sink),
         (false, false) | (true, true) => Ok(()),
     }
 }
@@ -167,24 +164,23 @@ fn write_pair<A: Allocator, W: Sink>(
 
 /// Writes the list that is set, if it is another one.
 fn write_switched_list<A: Allocator, W: Sink>(
-    transition: &Transition<A>,
-    code: CodeId,
-    from: u16,
-    to: u16,
+    order: &Order<A>,
+    stage: usize,
     exchange: ExchangeId,
+    code: CodeId,
     sink: &mut W,
 ) -> Result<(), WriteFault>
-    requires { from ≤ to }
+    requires { stage < stages_in order.now }
     ensures { Wrote W.taken W.failed sink.old sink.new
-        (line_unless_same transition.now.new code exchange
-        (list_at transition.now from code exchange)
-        (list_at transition.now to code exchange)) result }
+        (line_unless_same order.now.transition.new code exchange
+        (route_list (plan_before order.now stage) exchange code)
+        (route_list (plan_before order.now (stage + 1)) exchange code)) result }
 {
-    let before = transition.list(from, exchange, code);
-    if before == transition.list(to, exchange, code) {
+    order.rules();
+    if order.list(stage, exchange, code) == order.list(stage + 1, exchange, code) {
         return Ok(());
     }
-    write_list(&transition.new, code, exchange, sink)
+    write_list(&order.transition.new, code, exchange, sink)
 }
 
 /// Writes the findings of the old plan and of the new one, and NO with their number.

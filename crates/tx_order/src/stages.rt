@@ -6,18 +6,20 @@ ghost use Rattle.tx_plan.specs.Mixtures.{AreCommon};
 ghost use Rattle.tx_cert.specs.Certificate.{rank_at as ranked_at, ranks_of, IsCertificateOf};
 ghost use Rattle.tx_rank.specs.Judged.{AreOrigins};
 ghost use Rattle.tx_rank.specs.Nets.{Certifies};
+ghost use Rattle.tx_change.specs.ChangeNets.{change_net};
 ghost use Rattle.tx_order.specs.Joined.{IsSafeBetween};
 ghost use Rattle.tx_order.specs.Ordered.{plan_before, stages_in};
-ghost use Rattle.tx_order.specs.inner.Between.{between_net};
+ghost use Rattle.tx_order.specs.Transitions.{plan_front};
 
-use crate::between::{BetweenRoutes, joined_lists};
-use crate::lists::{Lists, lists_before};
+use crate::between::rank_between;
+use crate::lists::lists_before;
 use crate::orders::Order;
 use crate::transition::Transition;
 use std::alloc::Allocator;
 use tx_cert::Cert;
+use tx_change::Lists;
 use tx_plan::{CodeId, Plan};
-use tx_rank::{Finding, origins_of, rank_code};
+use tx_rank::origins_of;
 use tx_text::NoMemory;
 
 /// Writes the ranks of a code, which is safe between two fronts, into a certificate.
@@ -36,7 +38,8 @@ fn certify<A: Allocator + Copy>(
     requires blank { (x : ℕ) → ranked_at cert.old code x ≡ None }
     requires codes { cert.old.codes ≡ length transition.now.old.codes }
     requires exchanges { cert.old.exchanges ≡ length transition.now.old.exchanges }
-    ensures certified { IfOk result (λ _. Certifies (between_net transition.now code from to)
+    ensures certified { IfOk result (λ _. Certifies
+        (change_net (plan_front transition.now from) (plan_front transition.now to) code)
         (ranked_at cert.new code) transition.now.limit transition.now.spare) }
     ensures others { IfOk result (λ _. (d x : ℕ)
         → d ≢ code → ranked_at cert.new d x ≡ ranked_at cert.old d x) }
@@ -44,23 +47,14 @@ fn certify<A: Allocator + Copy>(
     ensures exchanges { cert.new.exchanges ≡ cert.old.exchanges }
 {
     transition.rules();
-    let lists = joined_lists(alloc, transition, code, from, to)?;
-    let net = BetweenRoutes {
+    let mut findings = Vec::new(alloc);
+    rank_between(
+        alloc,
         transition,
         origins,
-        lists: &lists,
         code,
         from,
         to,
-    };
-    let limits = transition.limits();
-    let mut findings: Vec<Finding<A>, A> = Vec::new(alloc);
-    rank_code(
-        alloc,
-        &net,
-        code,
-        limits.limit,
-        limits.spare,
         cert,
         &mut findings,
     )

@@ -9,12 +9,13 @@ ghost use Rattle.tx_order.specs.inner.Asked.{IsAsked};
 
 use crate::fronts::Fronts;
 use crate::joining::stages_of_code;
-use crate::lists::{Lists, lists_before};
+use crate::lists::lists_before;
 use crate::orders::Order;
 use crate::transition::Transition;
 use std::alloc::{Allocator, Global};
 use tx_audit::judge;
 use tx_cert::Cert;
+use tx_change::Lists;
 use tx_check::confirm;
 use tx_plan::{CodeId, Limits, Plan};
 use tx_rank::{Ranking, origins_of};

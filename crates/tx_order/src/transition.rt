@@ -46,12 +46,10 @@ impl<A: Allocator> Model for Transition<A> {
 
 impl<A: Allocator> Transition<A> {
     ghost use Rattle.std.specs.Prelude.{◌≡◌, ◌≤◌, length};
-    ghost use Rattle.tx_plan.specs.Plan.{home_of};
-    ghost use Rattle.tx_plan.specs.Circuits.{other_end};
+    ghost use Rattle.tx_plan.specs.Routes.{route_list, is_barred};
     ghost use Rattle.tx_cert.specs.Certificate.{ranks_of};
-    ghost use Rattle.tx_order.specs.Levels.{levels_of, level_at, is_bar_switched};
-    ghost use Rattle.tx_order.specs.Transitions.{IsTransition};
-    ghost use Rattle.tx_order.specs.inner.Between.{list_taken, list_at, barred_at};
+    ghost use Rattle.tx_order.specs.Levels.{levels_of, level_at};
+    ghost use Rattle.tx_order.specs.Transitions.{IsTransition, plan_front, has_list, has_bar};
 
     /// Both plans are certified. Does nothing: its callers' proofs name it.
     pub fn rules(&self)
@@ -92,20 +90,6 @@ impl<A: Allocator> Transition<A> {
         self.old.codes()
     }
 
-    /// The home of a code.
-    pub fn home(&self, code: CodeId) -> ExchangeId
-        ensures { result ≡ home_of self.now.old code }
-    {
-        self.old.home(code)
-    }
-
-    /// Where a group leads from an exchange.
-    pub fn other_end(&self, group: GroupId, exchange: ExchangeId) -> Option<ExchangeId>
-        ensures { result ≡ other_end self.now.old group exchange }
-    {
-        self.old.other_end(group, exchange)
-    }
-
     /// The level of a list.
     fn level(&self, exchange: ExchangeId, code: CodeId) -> u16
         ensures { result ≡ level_at (ranks_of self.now.before) (ranks_of self.now.after)
@@ -118,21 +102,21 @@ impl<A: Allocator> Transition<A> {
 
     /// Whether a list is switched at a front.
     pub fn has_list(&self, front: u16, exchange: ExchangeId, code: CodeId) -> bool
-        ensures { result ≡ list_taken self.now front code exchange }
+        ensures { result ≡ has_list self.now front exchange code }
     {
         self.level(exchange, code) < front
     }
 
     /// Whether a bar is, or that there is none.
     pub fn has_bar(&self, front: u16, exchange: ExchangeId, code: CodeId) -> bool
-        ensures { result ≡ is_bar_switched self.now.new self.now.limit front exchange code }
+        ensures { result ≡ has_bar self.now front exchange code }
     {
         bar_level(self.limits.limit, self.new.is_barred(exchange, code)) < front
     }
 
     /// The list that is in force at a front.
     pub fn list(&self, front: u16, exchange: ExchangeId, code: CodeId) -> &[GroupId]
-        ensures { result.now ≡ list_at self.now front code exchange }
+        ensures { result.now ≡ route_list (plan_front self.now front) exchange code }
     {
         if self.has_list(front, exchange, code) {
             self.new.list(exchange, code)
@@ -143,7 +127,7 @@ impl<A: Allocator> Transition<A> {
 
     /// Whether an exchange is barred for a code at a front.
     pub fn is_barred(&self, front: u16, exchange: ExchangeId, code: CodeId) -> bool
-        ensures { result ≡ barred_at self.now front code exchange }
+        ensures { result ≡ is_barred (plan_front self.now front) exchange code }
     {
         if self.has_bar(front, exchange, code) {
             self.new.is_barred(exchange, code)

@@ -4,7 +4,7 @@ use Rattle.tx_plan.specs.Plan.{Plan}
 use Rattle.tx_plan.specs.Mixtures.{AreCommon}
 use Rattle.tx_cert.specs.Certificate.{ranks_of, IsCertificateOf}
 use Rattle.tx_order.specs.declared.switching.Asked.{Asked}
-use Rattle.tx_order.specs.declared.lists.Lists.{Lists}
+use Rattle.tx_change.specs.declared.mixing.Lists.{Lists}
 use Rattle.tx_order.specs.Ordered.{Order, plan_before}
 
 -- the lists are those of the plan

@@ -1,35 +1,25 @@
-use Rattle.std.proofs.Common.{List, length, vec_len, sym, ap, subst, ◌∙◌, arith, eqb-true, eq-eqb}
+use Rattle.std.proofs.Common.{List, length, vec_len, sym, ap, ◌∙◌, arith, eqb-true, eq-eqb}
 use Rattle.tx_cert.specs.Certificate.{rank_at}
 use Rattle.tx_cert.proofs.Ranks.{none_ranked}
 use Rattle.tx_rank.proofs.Listing.{none_of}
-use Rattle.tx_order.specs.inner.Between.{AreLists}
-use Rattle.tx_order.proofs.TwoFronts.{is_between_net, judged_safe, none_more}
+use Rattle.tx_order.proofs.TwoFronts.{judged_safe, none_more}
 use Rattle.tx_order.proofs.joining.joins.Goals as goal
 
-pub invariant_of-net : goal.invariant_of-net
-invariant_of-net g c =
-    let w = c.args.transition.now in
-    record {
-      right = c.requires.origins;
-      joined = subst (AreLists w c.args.code c.args.from c.args.to) (sym c.deref.ensures.value) c.in_ok-lists.ensures;
-      net = is_between_net w c.rules.ensures c.args.code c.args.from c.args.to c.requires.code;
-    }
-
-pub rank_code-requires-clause-blank : goal.rank_code-requires-clause-blank
-rank_code-requires-clause-blank g c = λ x.
+pub rank_between-requires-clause-blank : goal.rank_between-requires-clause-blank
+rank_between-requires-clause-blank g c = λ x.
     ap (λ t. rank_at t c.args.code x) c.in_ok-cert.ensures ∙ none_ranked (length c.args.transition.now.old.codes) (length c.args.transition.now.old.exchanges) c.args.code x
 
 pub returns : goal.returns
 returns g c =
     let w = c.args.transition.now in
-    let findings = c.rank_code.new.findings in
-    let ranks = rank_at c.rank_code.new.cert c.args.code in (
+    let findings = c.rank_between.new.findings in
+    let ranks = rank_at c.rank_between.new.cert c.args.code in (
       λ h.
           let empty = eqb-true (vec_len findings) 0 (sym c.is_empty.ensures ∙ h) in
           let none = none_of findings.items (omega arith) in
-          judged_safe w c.args.code c.args.from c.args.to c.limits-limits.result.limit c.limits-limits.result.spare c.new-findings.result.items findings.items ranks c.limits-limits.ensures.limit c.limits-limits.ensures.spare c.new-findings.ensures.items none c.in_ok-rank_code.ensures.judged,
+          judged_safe w c.args.code c.args.from c.args.to c.new-findings.result.items findings.items ranks c.new-findings.ensures.items none c.in_ok-rank_between.ensures.judged,
       λ safe.
-          let none = none_more w c.rules.ensures c.args.code c.args.from c.args.to c.limits-limits.result.limit c.limits-limits.result.spare c.requires.code c.limits-limits.ensures.limit c.limits-limits.ensures.spare safe c.new-findings.result.items findings.items ranks c.in_ok-rank_code.ensures.judged c.new-findings.ensures.items in
+          let none = none_more w c.rules.ensures c.args.code c.args.from c.args.to c.requires.code safe c.new-findings.result.items findings.items ranks c.in_ok-rank_between.ensures.judged c.new-findings.ensures.items in
           let long = ap length none in
           c.is_empty.ensures ∙ eq-eqb (vec_len findings) 0 (omega arith),
     )

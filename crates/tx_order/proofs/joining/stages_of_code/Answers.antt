@@ -3,8 +3,9 @@ use Rattle.std.proofs.lemmas.Bool.{true≢false}
 use Rattle.tx_order.specs.Levels.{levels_of}
 use Rattle.tx_order.specs.Fronts.{front_of}
 use Rattle.tx_order.specs.Joined.{AreStages}
-use Rattle.tx_order.specs.inner.Between.{IsSameAt}
-use Rattle.tx_order.proofs.TwoFronts.{alike_same, same_alike, something_switched}
+use Rattle.tx_order.specs.Orders.{AreAlikeFor}
+use Rattle.tx_order.specs.Transitions.{plan_front}
+use Rattle.tx_order.proofs.TwoFronts.{something_switched}
 use Rattle.tx_order.proofs.Ordered.{no_ends, one_end_more, reached_more}
 use Rattle.tx_order.proofs.joining.stages_of_code.Goals as goal
 use Rattle.tx_order.proofs.joining.stages_of_code.Goals.{then-loop-from-test+else-not-is_same, else-loop-from-test}
@@ -29,9 +30,9 @@ loop-from-preserved g c =
     let is = c.is_same.ensures in
     let last = c.levels-last.ensures in
     let h = c.if-not-is_same in
-    let left : IsSameAt w code from (levels_of w.limit) → ⊥ = λ same.
-    let yes = is.1 (subst (λ n. IsSameAt w code from n) (sym last) same) in ? in
-    let used = λ alike. something_switched w c.rules.ensures code from to c.requires.code t.within t.furthest left (alike_same w code from to alike) in
+    let left : AreAlikeFor code (plan_front w from) (plan_front w (levels_of w.limit)) → ⊥ = λ same.
+    let yes = is.1 (subst (λ n. AreAlikeFor code (plan_front w from) (plan_front w n)) (sym last) same) in ? in
+    let used = something_switched w c.rules.ensures code from to c.requires.code t.within t.furthest left in
     let pushed = sym c.in_ok-push.ensures in
     record {
       stages = subst (λ (ends : List ℕ). AreStages w code ends) pushed (one_end_more w code c.loop-from.ends from to i.stages i.reached t.up t.within t.safe t.furthest used);
@@ -45,9 +46,9 @@ returns g c =
     let code = c.args.code in
     let i = c.loop-from.invariant in
     let last = c.levels-last.ensures in
-    let done = λ (same : IsSameAt w code c.loop-from.from (levels_of w.limit)). record {
+    let done = λ (same : AreAlikeFor code (plan_front w c.loop-from.from) (plan_front w (levels_of w.limit))). record {
       stages = i.stages;
-      done = same_alike w code (front_of w.limit c.loop-from.ends (length c.loop-from.ends)) (levels_of w.limit) (subst (λ n. IsSameAt w code n (levels_of w.limit)) (sym i.reached) same);
+      done = subst (λ n. AreAlikeFor code (plan_front w n) (plan_front w (levels_of w.limit))) (sym i.reached) same;
     } in
     elim c.loop-from-test.branch [
       | then-loop-from-test+else-not-is_same b ↦ let h = b.if-not-is_same in ?
@@ -55,5 +56,5 @@ returns g c =
           let h = b.loop-from-test.false in
           let within = i.within in
           let e : c.loop-from.from ≡ levels_of w.limit = omega arith in
-          done (subst (λ n. IsSameAt w code n (levels_of w.limit)) (sym e) (record { lists = λ x. refl; bars = λ x. refl }))
+          done (subst (λ n. AreAlikeFor code (plan_front w n) (plan_front w (levels_of w.limit))) (sym e) (record { lists = λ x. refl; bars = λ x. refl }))
     ]

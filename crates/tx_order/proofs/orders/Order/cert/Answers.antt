@@ -1,9 +1,10 @@
 use Rattle.std.proofs.Common.{◌≡◌, ℕ, ◌+◌, ◌<◌, length, sym, subst, ◌∙◌, arith}
 use Rattle.tx_cert.specs.Certificate.{rank_at, no_ranks_for}
 use Rattle.tx_rank.specs.Nets.{Certifies}
+use Rattle.tx_change.specs.ChangeNets.{change_net}
+use Rattle.tx_order.specs.Transitions.{plan_front}
 use Rattle.tx_order.specs.Joined.{IsSafeBetween}
 use Rattle.tx_order.specs.Ordered.{fronts_before}
-use Rattle.tx_order.specs.inner.Between.{between_net}
 use Rattle.tx_order.specs.inner.Certified.{IsCertifiedBelow}
 use Rattle.tx_order.proofs.Ordered.{code_safe}
 use Rattle.tx_order.proofs.StageCerts.{certified_first, certified_next, certified_all}
@@ -29,9 +30,9 @@ loop-index-preserved g c =
     let cert = c.certify.new.cert in
     let e = c.of-code.ensures in
     let r = c.in_ok-certify.ensures in
-    let one = subst (λ (n : ℕ). Certifies (between_net w code c.front-from.result n) (rank_at cert code) w.limit w.spare) c.front-to.ensures r.certified in
-    let two = subst (λ (n : ℕ). Certifies (between_net w code n (fronts_before o (c.args.stage + 1) code)) (rank_at cert code) w.limit w.spare) c.front-from.ensures one in
-    let here = subst (λ (k : ℕ). Certifies (between_net w k (fronts_before o c.args.stage k) (fronts_before o (c.args.stage + 1) k)) (rank_at cert k) w.limit w.spare) e two in
+    let one = subst (λ (n : ℕ). Certifies (change_net (plan_front w c.front-from.result) (plan_front w n) code) (rank_at cert code) w.limit w.spare) c.front-to.ensures r.certified in
+    let two = subst (λ (n : ℕ). Certifies (change_net (plan_front w n) (plan_front w (fronts_before o (c.args.stage + 1) code)) code) (rank_at cert code) w.limit w.spare) c.front-from.ensures one in
+    let here = subst (λ (k : ℕ). Certifies (change_net (plan_front w (fronts_before o c.args.stage k)) (plan_front w (fronts_before o (c.args.stage + 1) k)) k) (rank_at cert k) w.limit w.spare) e two in
     certified_next w (fronts_before o c.args.stage) (fronts_before o (c.args.stage + 1)) c.loop-index.index c.loop-index.cert cert c.loop-index.invariant here
     (λ d x q. r.others d x (λ s. q (s ∙ e))) r.codes r.exchanges
 
