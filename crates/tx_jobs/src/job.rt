@@ -151,7 +151,9 @@ fn do_texts<A: Allocator + Copy, P: Source, Q: Source, R: Source, W: Sink>(
             stage,
             ..
         } => {
-            let staged = order_job(alloc, first, second, *limit, *spare, *stage, out)?;
+            let (limit, spare) = (*limit, *spare);
+            let limits = Limits { limit, spare };
+            let staged = order_job(alloc, first, second, limits, *stage, out)?;
             Ok(Done::Ordered(staged))
         }
         Command::Survive { risks: Some(_), .. } => {

@@ -1,5 +1,5 @@
 // The job of `order OLD NEW --limit L --spare K`.
-ghost use Rattle.std.specs.Prelude.{◌≡◌, ◌≤◌, IfOk};
+ghost use Rattle.std.specs.Prelude.{◌≡◌, IfOk};
 ghost use Rattle.tx_text.specs.Calls.{CallsAtMost, source_calls};
 ghost use Rattle.tx_jobs.specs.JobFaults.{mark_after};
 ghost use Rattle.tx_text.specs.Ends.{input, output};
@@ -25,29 +25,27 @@ pub enum Staged<A: Allocator = Global> {
 }
 
 /// Reads an old plan and then a new one, and writes the report on an order in which the lists and
-/// the bars of the one are switched to those of the other, for at most `limit` transits (0 to 62)
-/// and `spare` groups to spare (0 to 15). Answers the plan after a stage and the certificate of the
-/// stage, if its number, from 1, is asked for. `Err` is the fault of the first call that failed.
-/// Where there is no memory for that plan, the report was written.
+/// the bars of the one are switched to those of the other, for the limits. Answers the plan after a
+/// stage and the certificate of the stage, if its number, from 1, is asked for.
+///
+/// `Err` is the fault of the first call that failed. Where there is no memory for that plan, the
+/// report was written.
 pub fn order_job<A: Allocator + Copy, P: Source, Q: Source, W: Sink>(
     alloc: A,
     old: &mut P,
     new: &mut Q,
-    limit: u8,
-    spare: u8,
+    limits: Limits,
     stage: Option<u8>,
     out: &mut W,
 ) -> Result<Staged<A>, JobFault>
-    requires limit { limit ≤ 62 }
-    requires spare { spare ≤ 15 }
-    ensures answers { OrderJobAnswers stage limit spare
+    ensures answers { OrderJobAnswers stage limits.limit limits.spare
         (input P.rest P.failed P.called old.old old.new)
         (input Q.rest Q.failed Q.called new.old new.new) (output W.taken out.old out.new) result }
     ensures mark { W.failed out.new ≡ mark_after (W.failed out.old) result }
     ensures old_calls { CallsAtMost P.called source_calls old.old old.new }
     ensures new_calls { CallsAtMost Q.called source_calls new.old new.new }
 {
-    let switching = told_job(alloc, old, new, Limits { limit, spare }, stage, out)?;
+    let switching = told_job(alloc, old, new, limits, stage, out)?;
     staged(alloc, switching, stage)
 }
 
