@@ -17,14 +17,8 @@ pub fn level_of(limit: u8, before: Option<u16>, after: Option<u16>) -> u16
     match (before, after) {
         (None, None) => 0,
         (None, Some(new)) => new,
-        (Some(old), None) => rising.saturating_sub(old),
-        (Some(old), Some(new)) => {
-            if new <= old {
-                new
-            } else {
-                rising.saturating_sub(old)
-            }
-        }
+        (Some(old), Some(new)) if new <= old => new,
+        (Some(old), _) => rising.saturating_sub(old),
     }
 }
 
