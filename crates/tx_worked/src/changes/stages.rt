@@ -74,7 +74,7 @@ fn put_way(
             return Ok(false);
         };
         let plan = order.into_plan(alloc, stage)?;
-        match ends.number_of(&plan, mixtures) {
+        match ends.number_of(&plan, mixtures.as_slice()) {
             Some(number) => way.push(number)?,
             None => return Ok(false),
         }
@@ -146,7 +146,7 @@ pub fn stages_differ(
     if !put_way(alloc, ends, order.stages(), mixtures, way)? {
         return Ok(Some(Difference::NoMixture));
     }
-    if !leads_over(ends, way) {
+    if !leads_over(ends, way.as_slice()) {
         return Ok(Some(Difference::Switched));
     }
     for stage in 0..order.stages() {
