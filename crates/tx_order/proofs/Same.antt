@@ -7,7 +7,7 @@ use Rattle.tx_plan.specs.Plan.{Plan}
 use Rattle.tx_plan.specs.Rules.{IsPlan, IsBar}
 use Rattle.tx_plan.specs.Routes.{route_list, is_barred}
 use Rattle.tx_plan.specs.Mixtures.{SameNetwork}
-use Rattle.tx_change.proofs.JoinedLists.{none_past}
+use Rattle.tx_change.proofs.JoinedNets.{none_past}
 use Rattle.tx_order.specs.Orders.{AreAlikeFor}
 
 -- an exchange that the plan has not is not barred

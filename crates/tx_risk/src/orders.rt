@@ -25,10 +25,9 @@ fn ranked<A: Allocator + Copy>(
         ≡ filter (λ x. is_some (ranks_of ranks.now code x))
         (range_with_len 0 (length plan.now.exchanges))) }
 {
-    let ranked = (0..plan.exchanges())
-        .map(ExchangeId::of)
-        .filter(|exchange| ranks.rank(code, *exchange).is_some())
-        .collect(alloc)?;
+    let mut ranked = Vec::with_capacity(alloc, plan.exchanges())?;
+    let exchanges = (0..plan.exchanges()).map(ExchangeId::of);
+    ranked.extend(exchanges.filter(|exchange| ranks.rank(code, *exchange).is_some()))?;
     Ok(ranked)
 }
 

@@ -5,7 +5,7 @@ use Rattle.tx_rank.specs.Nets.{IsNet}
 use Rattle.tx_rank.specs.Judged.{IsJudged}
 use Rattle.tx_change.specs.ChangeNets.{change_net}
 use Rattle.tx_change.specs.inner.Joined.{Joined, AreJoined}
-use Rattle.tx_change.proofs.JoinedLists.{joined_is}
+use Rattle.tx_change.proofs.JoinedNets.{joined_is}
 use Rattle.tx_order.specs.Transitions.{plan_front}
 use Rattle.tx_order.proofs.TwoFronts.{rules_with, network_with, is_between_net}
 use Rattle.tx_order.proofs.between.rank_between.Goals as goal
