@@ -26,8 +26,12 @@ fn ranked<A: Allocator + Copy>(
         (range_with_len 0 (length plan.now.exchanges))) }
 {
     let mut ranked = Vec::with_capacity(alloc, plan.exchanges())?;
-    let exchanges = (0..plan.exchanges()).map(ExchangeId::of);
-    ranked.extend(exchanges.filter(|exchange| ranks.rank(code, *exchange).is_some()))?;
+    for index in 0..plan.exchanges() {
+        let exchange = ExchangeId::of(index);
+        if ranks.rank(code, exchange).is_some() {
+            ranked.push_reserved(exchange);
+        }
+    }
     Ok(ranked)
 }
 
