@@ -58,6 +58,11 @@ impl<'a> Ends<'a> {
     }
 }
 
+fn note(number: u64, way: &mut Vec<u64>) -> Result<(), NoMemory> {
+    way.push(number)?;
+    Ok(())
+}
+
 /// Makes the list of the plans on the way, from the old one to the new one. Says whether all of
 /// them are mixtures.
 fn put_way(
@@ -75,7 +80,7 @@ fn put_way(
         };
         let plan = order.into_plan(alloc, stage)?;
         match ends.number_of(&plan, mixtures.as_slice()) {
-            Some(number) => way.push(number)?,
+            Some(number) => note(number, way)?,
             None => return Ok(false),
         }
     }

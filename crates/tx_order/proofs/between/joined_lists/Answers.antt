@@ -19,7 +19,7 @@ loop-index-preserved g c =
           w.barred-is ∙ (w.is_barred-barred.ensures ∙ sym (ap (λ (b : Bool). b && is_barred (plan_front c.args.transition.now to) x code) here))
       | else-is_barred w ↦
           let here = sym c.is_barred.ensures ∙ w.if-is_barred.false in
-          w.barred-is ∙ sym (ap (λ (b : Bool). b && is_barred (plan_front c.args.transition.now to) x code) here)
+          w.barred-is ∙ (w.if-is_barred.false ∙ sym (ap (λ (b : Bool). b && is_barred (plan_front c.args.transition.now to) x code) here))
     ] in
     let is = c.in_ok-of.ensures ∙ ((λ i. joined_of (c.list-before.ensures i) (c.list-after.ensures i) (barred i)) ∙ ap (joined_at (plan_front w from) (plan_front w to) code) c.of-exchange.ensures) in
     subst (λ (l : List Joined). AreJoinedBelow (plan_front w from) (plan_front w to) code (c.loop-index.index + 1) l) (sym c.in_ok-push.ensures.items)
