@@ -66,7 +66,7 @@ pub fn rank_between<A: Allocator + Copy>(
     transition.rules();
     let lists = joined_lists(alloc, transition, code, from, to)?;
     let net = ChangeRoutes {
-        plan: &transition.old,
+        plan: transition.old_plan(),
         origins,
         lists: &lists,
         code,

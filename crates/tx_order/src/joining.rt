@@ -27,7 +27,7 @@ fn joins<A: Allocator + Copy>(
     ensures { IfOk result (λ safe. safe ≡ true ↔ IsSafeBetween transition.now code from to) }
 {
     transition.rules();
-    let mut cert = Cert::new(alloc, &transition.old)?;
+    let mut cert = Cert::new(alloc, transition.old_plan())?;
     let mut findings = Vec::new(alloc);
     rank_between(
         alloc,

@@ -26,12 +26,12 @@ impl<'a, A: Allocator> Mixing for PlanBefore<'a, A> {
 
     fn has_list(&self, exchange: ExchangeId, code: CodeId) -> bool {
         let front = self.order.front(self.stage, code);
-        self.order.transition.has_list(front, exchange, code)
+        self.order.transition().has_list(front, exchange, code)
     }
 
     fn has_bar(&self, exchange: ExchangeId, code: CodeId) -> bool {
         let front = self.order.front(self.stage, code);
-        self.order.transition.has_bar(front, exchange, code)
+        self.order.transition().has_bar(front, exchange, code)
     }
 }
 
@@ -44,5 +44,5 @@ pub fn lists_before<A: Allocator + Copy>(
     ensures { IfOk result (AreListsOf (plan_before order.now stage)) }
 {
     let plan = PlanBefore { order, stage };
-    mixed_lists(alloc, &plan, &order.transition.old, &order.transition.new)
+    mixed_lists(alloc, &plan, order.old_plan(), order.new_plan())
 }

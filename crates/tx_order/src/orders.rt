@@ -7,7 +7,7 @@ use crate::level::levels;
 use crate::transition::Transition;
 use std::alloc::{Allocator, Global};
 use std::marker::Model;
-use tx_plan::{CodeId, ExchangeId, GroupId};
+use tx_plan::{CodeId, ExchangeId, GroupId, Plan};
 
 /// An order in which the lists and the bars of an old plan are switched to those of a new one, in
 /// stages.
@@ -35,16 +35,38 @@ impl<A: Allocator> Model for Order<A> {
 }
 
 impl<A: Allocator> Order<A> {
-    ghost use Rattle.std.specs.Prelude.{◌≡◌};
+    ghost use Rattle.std.specs.Prelude.{◌≡◌, ◌≤◌};
     ghost use Rattle.tx_plan.specs.Routes.{route_list, is_barred};
     ghost use Rattle.tx_order.specs.Ordered.{stages_in, fronts_before, plan_before, IsOrderKept};
 
-    /// Both plans are certified, and each code has its stages. Does nothing: its callers' proofs
-    /// name it.
+    /// Both plans are certified, and each code has its stages, which are few. Does nothing: its
+    /// callers' proofs name it.
     pub(crate) fn rules(&self)
-        ensures { IsOrderKept self.now }
+        ensures kept { IsOrderKept self.now }
+        ensures few { stages_in self.now ≤ 128 }
     {
-        let _ = &self.ends;
+        let _ = self.transition.limits();
+    }
+
+    /// The plans and their certificates.
+    pub(crate) fn transition(&self) -> &Transition<A>
+        ensures { result.now ≡ self.now.transition }
+    {
+        &self.transition
+    }
+
+    /// The old plan.
+    pub(crate) fn old_plan(&self) -> &Plan<A>
+        ensures { result.now ≡ self.now.transition.old }
+    {
+        self.transition.old_plan()
+    }
+
+    /// The new plan.
+    pub(crate) fn new_plan(&self) -> &Plan<A>
+        ensures { result.now ≡ self.now.transition.new }
+    {
+        self.transition.new_plan()
     }
 
     /// How many stages there are.

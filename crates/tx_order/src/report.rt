@@ -83,7 +83,8 @@ fn write_exchanges<A: Allocator, W: Sink>(
         (switched_lines order.now.transition.new (plan_before order.now stage)
         (plan_before order.now (stage + 1))) result }
 {
-    for index in 0..order.transition.new.exchanges() {
+    let plan = order.new_plan();
+    for index in 0..plan.exchanges() {
         write_exchange(order, stage, ExchangeId::of(index), sink)?;
     }
     Ok(())
@@ -101,7 +102,8 @@ fn write_exchange<A: Allocator, W: Sink>(
         (exchange_lines order.now.transition.new (plan_before order.now stage)
         (plan_before order.now (stage + 1)) exchange) result }
 {
-    for index in 0..order.transition.new.codes() {
+    let plan = order.new_plan();
+    for index in 0..plan.codes() {
         write_entry(order, stage, exchange, CodeId::of(index), sink)?;
     }
     Ok(())
@@ -132,12 +134,14 @@ fn write_bar<A: Allocator, W: Sink>(
     code: CodeId,
     sink: &mut W,
 ) -> Result<(), WriteFault>
+    requires { stage < stages_in order.now }
     ensures { Wrote W.taken W.failed sink.old sink.new
         (bar_line order.now.transition.new exchange code
         (is_barred (plan_before order.now stage) exchange code)
         (is_barred (plan_before order.now (stage + 1)) exchange code)) result }
 {
-    let plan = &order.transition.new;
+    order.rules();
+    let plan = order.new_plan();
     let before = order.is_barred(stage, exchange, code);
     let now = order.is_barred(stage + 1, exchange, code);
     match (before, now) {
@@ -180,7 +184,7 @@ fn write_switched_list<A: Allocator, W: Sink>(
     if order.list(stage, exchange, code) == order.list(stage + 1, exchange, code) {
         return Ok(());
     }
-    write_list(&order.transition.new, code, exchange, sink)
+    write_list(order.new_plan(), code, exchange, sink)
 }
 
 /// Writes the findings of the old plan and of the new one, and NO with their number.

@@ -7,8 +7,7 @@ ghost use Rattle.tx_cert.specs.Certificate.{rank_at as ranked_at, ranks_of, IsCe
 ghost use Rattle.tx_rank.specs.Judged.{AreOrigins};
 ghost use Rattle.tx_rank.specs.Nets.{Certifies};
 ghost use Rattle.tx_change.specs.ChangeNets.{change_net};
-ghost use Rattle.tx_order.specs.Joined.{IsSafeBetween};
-ghost use Rattle.tx_order.specs.Ordered.{plan_before, stages_in};
+ghost use Rattle.tx_order.specs.Ordered.{fronts_before, plan_before, stages_in};
 ghost use Rattle.tx_order.specs.Transitions.{plan_front};
 
 use crate::between::rank_between;
@@ -22,35 +21,37 @@ use tx_plan::{CodeId, Plan};
 use tx_rank::origins_of;
 use tx_text::NoMemory;
 
-/// Writes the ranks of a code, which is safe between two fronts, into a certificate.
+/// Writes the ranks of a code that certify it before a stage and after it into a certificate.
 fn certify<A: Allocator + Copy>(
     alloc: A,
-    transition: &Transition<A>,
+    order: &Order<A>,
     origins: &[bool],
+    stage: usize,
     code: CodeId,
-    from: u16,
-    to: u16,
     cert: &mut Cert<A>,
 ) -> Result<(), NoMemory>
-    requires origins { AreOrigins transition.now.old origins.now }
-    requires code { code < length transition.now.old.codes }
-    requires safe { IsSafeBetween transition.now code from to }
+    requires origins { AreOrigins order.now.transition.old origins.now }
+    requires stage { stage < stages_in order.now }
+    requires code { code < length order.now.transition.old.codes }
     requires blank { (x : ℕ) → ranked_at cert.old code x ≡ None }
-    requires codes { cert.old.codes ≡ length transition.now.old.codes }
-    requires exchanges { cert.old.exchanges ≡ length transition.now.old.exchanges }
+    requires codes { cert.old.codes ≡ length order.now.transition.old.codes }
+    requires exchanges { cert.old.exchanges ≡ length order.now.transition.old.exchanges }
     ensures certified { IfOk result (λ _. Certifies
-        (change_net (plan_front transition.now from) (plan_front transition.now to) code)
-        (ranked_at cert.new code) transition.now.limit transition.now.spare) }
+        (change_net (plan_front order.now.transition (fronts_before order.now stage code))
+        (plan_front order.now.transition (fronts_before order.now (stage + 1) code)) code)
+        (ranked_at cert.new code) order.now.transition.limit order.now.transition.spare) }
     ensures others { IfOk result (λ _. (d x : ℕ)
         → d ≢ code → ranked_at cert.new d x ≡ ranked_at cert.old d x) }
     ensures codes { cert.new.codes ≡ cert.old.codes }
     ensures exchanges { cert.new.exchanges ≡ cert.old.exchanges }
 {
-    transition.rules();
+    order.rules();
+    let from = order.front(stage, code);
+    let to = order.front(stage + 1, code);
     let mut findings = Vec::new(alloc);
     rank_between(
         alloc,
-        transition,
+        order.transition(),
         origins,
         code,
         from,
@@ -71,14 +72,11 @@ impl<A: Allocator + Copy> Order<A> {
         ensures fits { IfOk result (IsCertificateOf self.now.transition.old) }
     {
         self.rules();
-        let transition = &self.transition;
-        let origins = origins_of(alloc, &transition.old)?;
-        let mut cert = Cert::new(alloc, &transition.old)?;
-        for index in 0..transition.codes() {
-            let code = CodeId::of(index);
-            let from = self.front(stage, code);
-            let to = self.front(stage + 1, code);
-            certify(alloc, transition, &origins, code, from, to, &mut cert)?;
+        let old = self.old_plan();
+        let origins = origins_of(alloc, old)?;
+        let mut cert = Cert::new(alloc, old)?;
+        for index in 0..old.codes() {
+            certify(alloc, self, &origins, stage, CodeId::of(index), &mut cert)?;
         }
         cert.rules();
         Ok(cert)

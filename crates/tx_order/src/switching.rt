@@ -39,7 +39,7 @@ fn stages_of<A: Allocator + Copy>(
     ensures { IfOk result (λ ends. AreStagesBelow transition.now
         (length transition.now.old.codes) ends.items) }
 {
-    let origins = origins_of(alloc, &transition.old)?;
+    let origins = origins_of(alloc, transition.old_plan())?;
     let mut ends = Vec::new(alloc);
     for index in 0..transition.codes() {
         let code = CodeId::of(index);
@@ -66,6 +66,7 @@ fn asked_of<A: Allocator + Copy>(
     requires { stage < stages_in order.now }
     ensures { IfOk result (λ a. IsAsked order.now stage a) }
 {
+    order.rules();
     let cert = order.cert(alloc, stage)?;
     let before = lists_before(alloc, order, stage)?;
     let after = lists_before(alloc, order, stage + 1)?;

@@ -58,6 +58,20 @@ impl<A: Allocator> Transition<A> {
         let _ = &self.limits;
     }
 
+    /// The old plan.
+    pub fn old_plan(&self) -> &Plan<A>
+        ensures { result.now ≡ self.now.old }
+    {
+        &self.old
+    }
+
+    /// The new plan.
+    pub fn new_plan(&self) -> &Plan<A>
+        ensures { result.now ≡ self.now.new }
+    {
+        &self.new
+    }
+
     /// For what the plans are certified.
     pub fn limits(&self) -> Limits
         ensures limit { result.limit ≡ self.now.limit }

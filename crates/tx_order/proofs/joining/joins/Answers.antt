@@ -1,5 +1,6 @@
-use Rattle.std.proofs.Common.{List, length, vec_len, sym, ap, ◌∙◌, arith, eqb-true, eq-eqb}
-use Rattle.tx_cert.specs.Certificate.{rank_at}
+use Rattle.std.proofs.Common.{◌≡◌, ℕ, None, length, vec_len, sym, ap, ◌∙◌, arith, eqb-true, eq-eqb}
+use Rattle.tx_plan.specs.Plan.{Plan}
+use Rattle.tx_cert.specs.Certificate.{Certificate, rank_at, no_ranks_for}
 use Rattle.tx_cert.proofs.Ranks.{none_ranked}
 use Rattle.tx_rank.proofs.Listing.{none_of}
 use Rattle.tx_order.proofs.TwoFronts.{judged_safe, none_more}
@@ -7,7 +8,14 @@ use Rattle.tx_order.proofs.joining.joins.Goals as goal
 
 pub rank_between-requires-clause-blank : goal.rank_between-requires-clause-blank
 rank_between-requires-clause-blank g c = λ x.
-    ap (λ t. rank_at t c.args.code x) c.in_ok-cert.ensures ∙ none_ranked (length c.args.transition.now.old.codes) (length c.args.transition.now.old.exchanges) c.args.code x
+    ap (λ (t : Certificate). rank_at t c.args.code x) (c.in_ok-cert.ensures ∙ ap no_ranks_for c.old_plan.ensures)
+    ∙ none_ranked (length c.args.transition.now.old.codes) (length c.args.transition.now.old.exchanges) c.args.code x
+
+pub rank_between-requires-clause-codes : goal.rank_between-requires-clause-codes
+rank_between-requires-clause-codes g c = ap (λ (t : Certificate). t.codes) (c.in_ok-cert.ensures ∙ ap no_ranks_for c.old_plan.ensures)
+
+pub rank_between-requires-clause-exchanges : goal.rank_between-requires-clause-exchanges
+rank_between-requires-clause-exchanges g c = ap (λ (t : Certificate). t.exchanges) (c.in_ok-cert.ensures ∙ ap no_ranks_for c.old_plan.ensures)
 
 pub returns : goal.returns
 returns g c =

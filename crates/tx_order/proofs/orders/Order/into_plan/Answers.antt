@@ -8,7 +8,7 @@ pub with_lists-requires : goal.with_lists-requires
 with_lists-requires g c =
     let o = c.args.self in
     let l = c.in_ok-lists.ensures in
-    subst IsPlan (λ i. rerouted o.transition.old (sym l.routes i) (sym l.bars i)) (before_rules o c.rules.ensures c.args.stage)
+    subst IsPlan (λ i. rerouted o.transition.old (sym l.routes i) (sym l.bars i)) (before_rules o c.rules.ensures.kept c.args.stage)
 
 pub returns : goal.returns
 returns g c =
