@@ -2,7 +2,7 @@ use Rattle.std.proofs.Common.{◌≡◌, ℕ, ◌+◌, ◌<◌, List, length, tr
 use Rattle.std.proofs.lemmas.Bool.{true≢false}
 use Rattle.tx_order.specs.Levels.{levels_of}
 use Rattle.tx_order.specs.Fronts.{front_of}
-use Rattle.tx_order.specs.Joined.{AreStages}
+use Rattle.tx_order.specs.Joined.{AreStages, AreAllStages}
 use Rattle.tx_order.specs.Orders.{AreAlikeFor}
 use Rattle.tx_order.specs.Transitions.{plan_front}
 use Rattle.tx_order.proofs.TwoFronts.{something_switched}
@@ -27,11 +27,9 @@ loop-from-preserved g c =
     let to = c.in_ok-to.to in
     let i = c.loop-from.invariant in
     let t = c.in_ok-to.ensures in
-    let is = c.is_same.ensures in
-    let last = c.levels-last.ensures in
-    let h = c.if-not-is_same in
     let left : AreAlikeFor code (plan_front w from) (plan_front w (levels_of w.limit)) → ⊥ = λ same.
-    let yes = is.1 (subst (λ n. AreAlikeFor code (plan_front w from) (plan_front w n)) (sym last) same) in ? in
+    let alike = subst (λ n. AreAlikeFor code (plan_front w from) (plan_front w n)) (sym c.levels-last.ensures) same in
+    true≢false (sym (c.is_same.ensures.1 alike) ∙ c.if-not-is_same.true) in
     let used = something_switched w c.rules.ensures code from to c.requires.code t.within t.furthest left in
     let pushed = sym c.in_ok-push.ensures in
     record {
@@ -46,12 +44,12 @@ returns g c =
     let code = c.args.code in
     let i = c.loop-from.invariant in
     let last = c.levels-last.ensures in
-    let done = λ (same : AreAlikeFor code (plan_front w c.loop-from.from) (plan_front w (levels_of w.limit))). record {
+    let done : AreAlikeFor code (plan_front w c.loop-from.from) (plan_front w (levels_of w.limit)) → AreAllStages w code c.loop-from.ends = λ same. record {
       stages = i.stages;
       done = subst (λ n. AreAlikeFor code (plan_front w n) (plan_front w (levels_of w.limit))) (sym i.reached) same;
     } in
     elim c.loop-from-test.branch [
-      | then-loop-from-test+else-not-is_same b ↦ let h = b.if-not-is_same in ?
+      | then-loop-from-test+else-not-is_same b ↦ done (subst (λ n. AreAlikeFor code (plan_front w c.loop-from.from) (plan_front w n)) last (b.is_same.ensures.0 b.if-not-is_same.false))
       | else-loop-from-test b ↦
           let h = b.loop-from-test.false in
           let within = i.within in
