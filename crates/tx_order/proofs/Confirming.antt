@@ -1,5 +1,5 @@
 -- The plans before and after a stage, and what the checker says of them.
-use Rattle.std.proofs.Common.{◌≡◌, ℕ, ◌+◌, ◌<◌, List, refl, sym, ap, ◌∙◌, subst}
+use Rattle.std.proofs.Common.{◌≡◌, ℕ, ◌+◌, ◌<◌, ◌≤◌, List, refl, sym, ap, ◌∙◌, subst}
 use Rattle.tx_plan.specs.declared.ids.Pair.{Pair}
 use Rattle.tx_plan.specs.Plan.{Plan, Route}
 use Rattle.tx_plan.specs.Rules.{IsPlan}
@@ -9,11 +9,13 @@ use Rattle.tx_plan.proofs.Networks.{same_back, same_along, rerouted-is}
 use Rattle.tx_cert.specs.Certificate.{Certificate, IsCertificateOf, ranks_of}
 use Rattle.tx_check.specs.Confirmed.{IsConfirmed}
 use Rattle.tx_change.proofs.Cleared.{certificate_along, cleared}
-use Rattle.tx_order.specs.Ordered.{Order, plan_before, IsOrderKept}
-use Rattle.tx_order.specs.Switchings.{HasCleared}
+use Rattle.tx_order.specs.Levels.{levels_of}
+use Rattle.tx_order.specs.Orders.{IsOrder}
+use Rattle.tx_order.specs.Ordered.{Order, plan_before, stages_in, IsOrderKept}
+use Rattle.tx_order.specs.Switchings.{HasCleared, IsOrdered}
 use Rattle.tx_change.specs.declared.mixing.Lists.{Lists}
 use Rattle.tx_order.specs.inner.Asked.{AreListsOf}
-use Rattle.tx_order.proofs.Ordered.{is_order_of}
+use Rattle.tx_order.proofs.Ordered.{is_order_of, stage_used, few_stages}
 
 module _ (o : Order) (k : IsOrderKept o) where
   pub before_rules : (s : ℕ) → IsPlan (plan_before o s)
@@ -39,3 +41,21 @@ module _ {A : Type 0} (o : Order) where
   -- and with its own it is itself
   pub with_own : (p : Plan) (l : Lists A) → SameNetwork p o.transition.old → AreListsOf o.transition.old l → rerouted p l.routes l.bars ≡ o.transition.old
   with_own p l same a = (λ i. rerouted p (a.routes i) (a.bars i)) ∙ rerouted-is p o.transition.old same
+
+-- an order that is kept, and each stage of which is cleared
+pub ordered : (o : Order) → IsOrderKept o → (old new : Plan) (limit spare : ℕ) → o.transition.old ≡ old → o.transition.new ≡ new → o.transition.limit ≡ limit → o.transition.spare ≡ spare
+    → ((s : ℕ) → s < stages_in o → HasCleared o s) → IsOrdered old new limit spare o
+ordered o k old new limit spare a b c d cleared = record {
+  old_plan = a;
+  new_plan = b;
+  same_limit = c;
+  same_spare = d;
+  order = subst (λ (s : ℕ). IsOrder old new (plan_before o) (stages_in o) limit s) d
+      (subst (λ (l : ℕ). IsOrder old new (plan_before o) (stages_in o) l o.transition.spare) c
+      (subst (λ (p : Plan). IsOrder old p (plan_before o) (stages_in o) o.transition.limit o.transition.spare) b
+      (subst (λ (p : Plan). IsOrder p o.transition.new (plan_before o) (stages_in o) o.transition.limit o.transition.spare) a (is_order_of o k))));
+  cleared = cleared;
+  used = stage_used o k;
+  few = subst (λ (l : ℕ). stages_in o ≤ levels_of l) c (few_stages o k);
+  kept = k;
+}

@@ -3,7 +3,7 @@ ghost use Rattle.std.specs.Prelude.{◌≡◌, ◌↔◌, ◌<◌, ℕ, length, 
 ghost use Rattle.tx_plan.specs.Mixtures.{SameNetwork};
 ghost use Rattle.tx_audit.specs.Audits.{IsRightRanking};
 ghost use Rattle.tx_order.specs.Orders.{CanBothBeCertified};
-ghost use Rattle.tx_order.specs.Ordered.{stages_in, AreStagesBelow};
+ghost use Rattle.tx_order.specs.Ordered.{stages_in, AreStagesBelow, IsOrderKept};
 ghost use Rattle.tx_order.specs.Switchings.{HasCleared, IsOrderFound, IsRightSwitching};
 ghost use Rattle.tx_order.specs.inner.Asked.{IsAsked};
 
@@ -126,9 +126,12 @@ fn confirm_stages<A: Allocator + Copy>(alloc: A, order: Order<A>) -> Result<Orde
 fn order_of<A: Allocator + Copy>(alloc: A, transition: Transition<A>) -> Result<Order<A>, NoMemory>
     ensures same { IfOk result (λ o. o.transition ≡ transition) }
     ensures cleared { IfOk result (λ o. (s : ℕ) → s < stages_in o → HasCleared o s) }
+    ensures kept { IfOk result IsOrderKept }
 {
     let ends = stages_of(alloc, &transition)?;
-    confirm_stages(alloc, Order { transition, ends })
+    let order = confirm_stages(alloc, Order { transition, ends })?;
+    order.rules();
+    Ok(order)
 }
 
 /// The judgements on both plans.

@@ -11,9 +11,9 @@ returns-in_err-write_asked g c =
 pub returns-in-Ordered : goal.returns-in-Ordered
 returns-in-Ordered g c =
     rw c.in-Ordered.is
-    (wrote_then _ _ _ _ _ _ (asked_line (codes "ORDER") c.args.limits.limit c.args.limits.spare) (stages_text c.in-Ordered.order.now) _ c.in_ok-write_asked.ensures c.write_stages.ensures)
+    (wrote_then _ _ _ _ _ _ (asked_line (codes "ORDER") c.args.limits.limit c.args.limits.spare) (stages_text c.in-Ordered.order) _ c.in_ok-write_asked.ensures c.write_stages.ensures)
 
 pub returns-in-NoOrder : goal.returns-in-NoOrder
 returns-in-NoOrder g c =
     rw c.in-NoOrder.is
-    (wrote_then _ _ _ _ _ _ (asked_line (codes "ORDER") c.args.limits.limit c.args.limits.spare) (no_order_text c.in-NoOrder.plan.now (findings_of c.in-NoOrder.before.now) (findings_of c.in-NoOrder.after.now)) _ c.in_ok-write_asked.ensures c.write_no_order.ensures)
+    (wrote_then _ _ _ _ _ _ (asked_line (codes "ORDER") c.args.limits.limit c.args.limits.spare) (no_order_text c.in-NoOrder.plan (findings_of c.in-NoOrder.before) (findings_of c.in-NoOrder.after)) _ c.in_ok-write_asked.ensures c.write_no_order.ensures)
