@@ -8,11 +8,15 @@ use Rattle.tx_plan.specs.Mixtures.{SameNetwork, AreCommon}
 use Rattle.tx_plan.proofs.Networks.{same_back, same_along, rerouted-is}
 use Rattle.tx_cert.specs.Certificate.{Certificate, IsCertificateOf, ranks_of}
 use Rattle.tx_check.specs.Confirmed.{IsConfirmed}
+use Rattle.tx_rank.specs.declared.ranking.Ranking.{Ranking}
+use Rattle.tx_rank.specs.declared.ranking.Ranking.TheVariants.{Found, Fails}
+use Rattle.tx_rank.specs.Grades.{CanBeCertified}
+use Rattle.tx_audit.specs.Audits.{IsRightRanking}
 use Rattle.tx_change.proofs.Cleared.{certificate_along, cleared}
 use Rattle.tx_order.specs.Levels.{levels_of}
 use Rattle.tx_order.specs.Orders.{IsOrder}
 use Rattle.tx_order.specs.Ordered.{Order, plan_before, stages_in, IsOrderKept}
-use Rattle.tx_order.specs.Switchings.{HasCleared, IsOrdered}
+use Rattle.tx_order.specs.Switchings.{HasCleared, IsOrdered, HasNoOrder}
 use Rattle.tx_change.specs.declared.mixing.Lists.{Lists}
 use Rattle.tx_order.specs.inner.Asked.{AreListsOf}
 use Rattle.tx_order.proofs.Ordered.{is_order_of, stage_used, few_stages}
@@ -59,3 +63,16 @@ ordered o k old new limit spare a b c d cleared = record {
   few = subst (λ (l : ℕ). stages_in o ≤ levels_of l) c (few_stages o k);
   kept = k;
 }
+
+-- WHERE ONE OF THE PLANS CANNOT BE CERTIFIED
+
+module _ {A : Type 0} (old new : Plan) (limit spare : ℕ) (before after : Ranking A) (a : IsRightRanking old limit spare before) (b : IsRightRanking new limit spare after) where
+  not_found : (p : Plan) (r : Ranking A) → ((cert : Certificate) → r ≡ Found cert → ⊥) → IsRightRanking p limit spare r → CanBeCertified p limit spare → ⊥
+  not_found p (Found cert) none h = absurd (none cert refl)
+  not_found p (Fails findings) none h = h.2
+
+  pub old_denied : ((cert : Certificate) → before ≡ Found cert → ⊥) → HasNoOrder old new limit spare old before after
+  old_denied none = record { plan = refl; before_right = a; after_right = b; none = λ can. not_found old before none a can.0 }
+
+  pub new_denied : ((cert : Certificate) → after ≡ Found cert → ⊥) → HasNoOrder old new limit spare old before after
+  new_denied none = record { plan = refl; before_right = a; after_right = b; none = λ can. not_found new after none b can.1 }

@@ -8,12 +8,12 @@ pub loop-stage-preserved : goal.loop-stage-preserved
 loop-stage-preserved g c =
     let i = c.loop-stage.invariant in
     record {
-      same = c.confirm_stage.ensures.same ∙ i.same;
+      same = c.confirm_stage-order.ensures.same ∙ i.same;
       cleared = λ s h. elim (cases_lt s c.loop-stage.stage) [
         | inl l ↦ i.cleared s l
         | inr l ↦
             let e : c.loop-stage.stage ≡ s = omega arith in
-            subst (λ (o : Order). HasCleared o s) i.same (subst (λ (k : ℕ). HasCleared c.loop-stage.order k) e c.confirm_stage.ensures.cleared)
+            subst (λ (o : Order). HasCleared o s) i.same (subst (λ (k : ℕ). HasCleared c.loop-stage.order k) e c.confirm_stage-order.ensures.cleared)
       ];
     }
 
