@@ -46,7 +46,7 @@ pub fn order_job<A: Allocator + Copy, P: Source, Q: Source, W: Sink>(
     ensures new_calls { CallsAtMost Q.called source_calls new.old new.new }
 {
     let switching = told_job(alloc, old, new, limits, stage, out)?;
-    staged(alloc, switching, stage)
+    stage_of(alloc, switching, stage)
 }
 
 /// Reads both plans, and reports the order.
@@ -137,7 +137,7 @@ fn missing_stage<A: Allocator>(switching: &Switching<A>, stage: Option<u8>) -> O
 }
 
 /// The plan after a stage and the certificate of the stage, if one was asked for.
-fn staged<A: Allocator + Copy>(
+fn stage_of<A: Allocator + Copy>(
     alloc: A,
     switching: Switching<A>,
     stage: Option<u8>,

@@ -8,11 +8,11 @@ staged-requires g c = c.in_ok-switching.ensures.stage
 
 pub returns-clause-answers : goal.returns-clause-answers
 returns-clause-answers g c =
-    (Ok c.in_ok-switching.switching, c.in_ok-switching.ensures.answers, (c.in_ok-switching.ensures.stage, c.staged.ensures))
+    (Ok c.in_ok-switching.switching, c.in_ok-switching.ensures.answers, (c.in_ok-switching.ensures.stage, c.stage_of.ensures))
 
 pub returns-clause-mark : goal.returns-clause-mark
 returns-clause-mark g c =
-    c.in_ok-switching.ensures.mark ∙ staged_mark (g.W.Sink.failed c.args.out.now) c.args.stage c.in_ok-switching.switching c.staged.result c.staged.ensures
+    c.in_ok-switching.ensures.mark ∙ staged_mark (g.W.Sink.failed c.args.out.now) c.args.stage c.in_ok-switching.switching c.stage_of.result c.stage_of.ensures
 
 pub returns-in_err-switching-clause-answers : goal.returns-in_err-switching-clause-answers
 returns-in_err-switching-clause-answers g c =
