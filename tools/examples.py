@@ -6,10 +6,12 @@
 
 Runs each example of examples/list with a built program (crates/telexplan/out/telexplan where none is named), in a folder of its own, and compares what it prints,
 its exit status and the files that it makes with what stands in examples/. A fault stands on standard error, but for those that `lint` finds, and nothing else does.
-An example that begins with a script in Python runs that, with the program as its first word; no case shows it. Then tries the program with what no example can say:
+An example that begins with a script in Python runs that, with the program as its first word if the example says so; no case shows it. Then tries the program with what no example can say:
 odd words, a terminal, and files to be made in odd places. What the machine does not allow is left out, and standard error says so.
 
-Then checks README.md and docs/FORMATS.md: each block there says, in a comment before it, what it shows, and has to show just that; the table of codes has to be the
+Then it plays the commands of docs/telexplan.1, one after another.
+
+Then checks README.md, docs/FORMATS.md and docs/HEADLINE.md: each block there says, in a comment before it, what it shows, and has to show just that; the table of codes has to be the
 program's and to have the codes of the definitions, the map of the crates has to be that of crates.txt, what the pages name has to be there, each link of theirs has
 to lead to a file and a heading that are there, the player of the gate, crates/tx_worked, has to have the examples and the pictures as they stand, all pictures of the
 plans of crates/tx_worked have to be ones that can be read, and docs/telexplan.bash and docs/telexplan.1 have to have the commands and options that the program's help
@@ -26,7 +28,7 @@ The comments before a block:
   <!-- run: NAME -->      the command of an example, behind `$ `, and all that it prints
   <!-- session -->        several commands, each behind `$ `: that of an example, or `cat FILE`, and all that it prints
   <!-- lines: PATH -->    lines of the file that follow one another
-  <!-- not run -->        commands that no example shows
+  <!-- not run -->        commands that no example shows, and that are not those of the program
 and before a table:
   <!-- examples -->       each text in the last column is a line of some file in examples/
   <!-- codes -->          the table of codes"""
@@ -41,8 +43,8 @@ import sys
 import tempfile
 
 TOP = os.path.dirname(os.path.dirname(os.path.abspath(__file__)))
-PAGES = ["README.md", "docs/FORMATS.md"]
-NAMING = ["CHANGELOG.md", "CONTRIBUTING.md", "docs/ARCHITECTURE.md", "docs/DECISIONS.md", "docs/GLOSSARY.md", "docs/HEADLINE.md", "docs/MEASURED.md", "docs/PROOFS.md"]
+PAGES = ["README.md", "docs/FORMATS.md", "docs/HEADLINE.md"]
+NAMING = ["CHANGELOG.md", "CONTRIBUTING.md", "docs/ARCHITECTURE.md", "docs/DECISIONS.md", "docs/GLOSSARY.md", "docs/MEASURED.md", "docs/PROOFS.md"]
 MADE = ["crates/telexplan/out/telexplan"]
 PLAYED = "crates/tx_worked/data/cases"
 
@@ -56,8 +58,11 @@ class Example:
         bar = words.index("|") if "|" in words else -1
         self.input = words[1:bar] if bar > 0 else []
         self.driver = words[0] if words[0].endswith(".py") else None
-        self.words = words[words.index("telexplan") + 1 :]
+        self.drives = "telexplan" in words
+        self.words = words[words.index("telexplan") + 1 :] if self.drives else words[1:]
         made = [b for a, b in zip(self.words, self.words[1:]) if a in ("--counter", "--mixture", "--plan") or (a == "--cert" and self.words[0] != "run")]
+        if "--back" in self.words:
+            made = self.words[2:]
         self.made = made if self.status < 2 else []
         self.files = [it for it in self.words if it.startswith("examples/") and it not in self.made]
 
@@ -93,7 +98,7 @@ def run(program, example):
                 shutil.copyfile(os.path.join(TOP, it), os.path.join(room, it))
         given = b"".join(read(it) for it in example.input)
         driver = [sys.executable, os.path.join(TOP, example.driver)] if example.driver else []
-        ran = subprocess.run(driver + program + example.words, cwd=room, input=given, capture_output=True, timeout=60)
+        ran = subprocess.run(driver + program * (example.drives or not driver) + example.words, cwd=room, input=given, capture_output=True, timeout=60)
         made = {}
         for it in sorted(os.listdir(os.path.join(room, "examples"))):
             path = f"examples/{it}"
@@ -141,6 +146,13 @@ def in_examples(ending):
 def images():
     """The images that are made of pictures."""
     return in_examples(".svg")
+
+
+def check_tables(tell):
+    """The plan that is made of tables has the lines of the plan that these were made of."""
+    made, plan = (sorted(filter(None, map(plain, read(f"examples/{it}.plan").decode().splitlines()))) for it in ("national-tables", "national"))
+    if made != plan:
+        tell("examples/national-tables.plan: it has other lines than examples/national.plan")
 
 
 def check_images(tell):
@@ -253,7 +265,7 @@ def check_block(mark, text, known):
     """What is wrong with a block, if anything is."""
     kind, _, name = mark.partition(": ")
     if mark == "not run":
-        return None
+        return "a command of the program is not run" if re.search(r"(?m)^(\$ )?telexplan\b", text) else None
     if kind == "run" and name in known:
         wanted = f"$ {known[name].command}\n" + shown(known[name]).decode()
         return None if text == wanted else difference(wanted, text)
@@ -567,6 +579,29 @@ def check_replaced(program, tell):
             tell(f"a file that is made by a link leaves {sorted(os.listdir(room))}")
 
 
+def check_apart(program, tell):
+    """A plan that is read is not replaced by another name of it, and the first file that is made is not replaced by the second one."""
+    with tempfile.TemporaryDirectory() as room:
+        own = os.path.join(room, "own.plan")
+        shutil.copy(os.path.join(TOP, "examples/three.plan"), own)
+        os.symlink("own.plan", os.path.join(room, "link.plan"))
+        os.link(own, os.path.join(room, "hard.plan"))
+        above = f"../{os.path.basename(room)}/own.plan"
+        for plan, name in [("own.plan", it) for it in ("./own.plan", above, own, "link.plan", "hard.plan")] + [("link.plan", "own.plan"), ("-", "own.plan")]:
+            with open(own) as given:
+                words = ["audit", plan, "--limit", "1", "--spare", "1", "--cert", name]
+                ran = subprocess.run(program + words, cwd=room, stdin=given, capture_output=True, timeout=60)
+            if (ran.returncode, ran.stdout, ran.stderr.decode()) != (64, b"", f"telexplan: {name} and {plan} are one file\n"):
+                tell(f"a certificate to {name} of the plan {plan}: the status is {ran.returncode}, and standard error has {ran.stderr!r}")
+            if read(own) != read("examples/three.plan") or sorted(os.listdir(room)) != ["hard.plan", "link.plan", "own.plan"]:
+                tell(f"a certificate to {name} of the plan {plan} leaves {sorted(os.listdir(room))}")
+        os.symlink("new.plan", os.path.join(room, "late.cert"))
+        words = ["mend", "own.plan", "--limit", "1", "--spare", "1", "--plan", "new.plan", "--cert", "late.cert"]
+        ran = subprocess.run(program + words, cwd=room, capture_output=True, timeout=60)
+        if (ran.returncode, ran.stderr) != (64, b"telexplan: new.plan and late.cert are one file\n") or not read(os.path.join(room, "new.plan")).startswith(b"PLAN 1\n"):
+            tell(f"a second file that is a link to the first one: the status is {ran.returncode}, and standard error has {ran.stderr!r}")
+
+
 def check_outputs(program, tell):
     """A file to be made that is an output of the program, by whatever name, is written to at its end."""
     for output, number, before in [("stdout", 1, b"before\n" + report()), ("stderr", 2, b"before\n")]:
@@ -650,6 +685,20 @@ def check_order(program, tell):
 # THE WORDS OF THE PROGRAM
 
 
+def check_manual_commands(program, tell):
+    """The commands of the manual page, one after another, over a plan with a loop and named risks: each finds its files, and says nothing on standard
+    error. What stands behind a bar is left out."""
+    text = read("docs/telexplan.1").decode()
+    with tempfile.TemporaryDirectory() as room:
+        for name, path in [("plan", "three-loop.plan"), ("cables", "three.risks")]:
+            shutil.copy(os.path.join(TOP, "examples", path), os.path.join(room, name))
+        for it in re.findall(r"(?ms)^\.EX\n(.*?)\n\.EE$", text):
+            command = it.replace("\\-", "-").partition(" | ")[0].split()
+            ran = subprocess.run(program + command[1:], cwd=room, capture_output=True, timeout=60)
+            if command[0] != "telexplan" or ran.returncode not in (0, 1) or ran.stderr:
+                tell(f"docs/telexplan.1: {it}: the status is {ran.returncode}, and standard error has {ran.stderr!r}")
+
+
 def words_told():
     """The options of each command, as its help tells them in the cases of the program at its ends; None where no case prints that help."""
     told = {words: text for words, text, _ in told_at_ends() if "\nUsage: " in text}
@@ -714,13 +763,14 @@ def main(words):
     told = []
     if not only_pages:
         check_examples(program, told.append)
-        for check in (check_arguments, check_terminal, check_replaced, check_outputs, check_pipe_and_device, check_no_leave, check_no_name, check_order):
+        for check in (check_arguments, check_terminal, check_replaced, check_apart, check_outputs, check_pipe_and_device, check_no_leave, check_no_name, check_order, check_manual_commands):
             check(program, told.append)
     check_pages(told.append)
     check_names(told.append)
     check_links(told.append)
     check_map(told.append)
     check_cases(told.append)
+    check_tables(told.append)
     check_images(told.append)
     check_pictures(told.append)
     check_ends(told.append)

@@ -1,4 +1,4 @@
--- The exit status of words that ask for no command.
+-- The exit status of words that ask for no command, and of a command that was not done.
 use Rattle.std.specs.Prelude.{◌≡◌, ◌≢◌, ℕ, ◌⊎◌, List, []}
 use Rattle.std.specs.Borrow.{Bor}
 use Rattle.std.specs.declared.io.ErrorKind.{ErrorKind}
@@ -7,6 +7,9 @@ use Rattle.tx_commands.specs.Commands.{AskFor}
 use Rattle.tx_commands.specs.Faults.{IsRefusalOf, status_of}
 use Rattle.tx_commands.specs.declared.command.Command.{Command}
 use Rattle.tx_commands.specs.declared.fault.WordsFault.{WordsFault}
+use Rattle.tx_jobs.specs.JobFaults.{status_of as job_status}
+use Rattle.tx_program.specs.declared.stop.Stop.{Stop}
+use Rattle.tx_program.specs.declared.stop.Stop.TheVariants.{Job}
 
 -- of arguments that could not be taken as words: 4 when memory runs out, else 64
 abbrev pub status_of_arguments : ErrorKind → ℕ
@@ -24,3 +27,8 @@ pub record IsRefusedWith (words : List (Bor (List ℕ))) (status : ℕ) : Type 0
   pub fault : WordsFault
   pub told : IsRefusalOf words fault
   pub answers : (status ≡ status_of fault) ⊎ ((status_of fault ≡ 0) × (status ≡ 3))
+
+-- of a command that was not done: that of its job's fault, or 64 where a file must not be made
+abbrev pub status_of_stop : Stop → ℕ
+status_of_stop (Job fault) = job_status fault
+status_of_stop other = 64

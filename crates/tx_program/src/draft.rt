@@ -25,7 +25,7 @@ struct Names {
 }
 
 /// Whether a name is one of what the program has open, as standard output.
-fn is_open_already(name: &str) -> bool {
+pub(crate) fn is_open_already(name: &str) -> bool {
     name == "/dev/stdout"
         || name == "/dev/stderr"
         || name.starts_with("/dev/fd/")

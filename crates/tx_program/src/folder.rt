@@ -1,5 +1,6 @@
 // The files that commands name.
 use crate::draft::Draft;
+use crate::file_id::FileId;
 use std::fs::File;
 use std::io;
 use std::io::{Read, Write};
@@ -11,6 +12,10 @@ pub trait Folder {
 
     /// A file that is being made.
     type Output: Write + Drop;
+
+    /// Which file is meant by a name, if that is known: names of one file have one id. `-` means what
+    /// standard input was redirected from.
+    fn identify(&self, name: &str) -> Option<FileId>;
 
     /// Opens a file to be read.
     fn open(&self, name: &str) -> io::Result<Self::Input>;
@@ -30,6 +35,10 @@ impl Folder for HostRuntime {
     type Input = File;
 
     type Output = Draft;
+
+    fn identify(&self, name: &str) -> Option<FileId> {
+        FileId::of(self, name)
+    }
 
     fn open(&self, name: &str) -> io::Result<File> {
         File::open(self, name)

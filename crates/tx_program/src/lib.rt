@@ -4,14 +4,19 @@
 
 mod draft;
 mod ends;
+mod file_id;
 mod folder;
 mod input;
+mod kind;
 mod new_file;
 mod output_files;
 mod program;
+mod stop;
+mod targets;
 mod tell;
 
 pub use draft::Draft;
+pub use file_id::FileId;
 pub use folder::Folder;
 pub use program::{Ends, run_command, run_words};
 pub use tell::{refuse_arguments, tell_words};

@@ -1,5 +1,6 @@
 // A file to be made.
 use crate::folder::Folder;
+use crate::targets::Target;
 use std::io;
 use std::io::Write;
 
@@ -12,10 +13,10 @@ pub(crate) struct NewFile<'a, F: Folder> {
 }
 
 impl<'a, F: Folder> NewFile<'a, F> {
-    pub(crate) fn new(folder: &'a F, name: &'a str) -> NewFile<'a, F> {
+    pub(crate) fn new(folder: &'a F, target: Target<'a>) -> NewFile<'a, F> {
         NewFile {
             folder,
-            name,
+            name: target.name(),
             file: None,
         }
     }

@@ -2,25 +2,27 @@
 use crate::ends::Output;
 use crate::folder::Folder;
 use crate::new_file::NewFile;
+use crate::stop::Stop;
+use crate::targets::{Target, Targets};
 use std::alloc::Allocator;
 use std::io::Write;
-use tx_commands::Files;
 use tx_jobs::{Content, Done, JobFault, write_content};
 
 /// Makes the files that are named, one after another, of which the command came to what goes into
 /// them.
-pub(crate) fn write_files<A: Allocator + Copy, F: Folder, O: Write + Drop>(
+pub(crate) fn write_files<'n, A: Allocator + Copy, F: Folder, O: Write + Drop>(
     alloc: A,
     done: &Done<A>,
-    files: Files<'_>,
+    targets: &Targets<'n>,
     folder: &F,
     report: &Output<O, A>,
-) -> Result<(), JobFault> {
-    let names = files.makes();
+) -> Result<(), Stop<'n>> {
     let contents = done.contents();
     for i in 0..3usize {
-        if let (Some(name), Some(content)) = (names[i], contents[i]) {
-            write_file(alloc, content, name, folder, report)?;
+        if let Some(content) = contents[i] {
+            if let Some(target) = targets.get(i, folder)? {
+                write_file(alloc, content, target, folder, report)?;
+            }
         }
     }
     Ok(())
@@ -30,12 +32,12 @@ pub(crate) fn write_files<A: Allocator + Copy, F: Folder, O: Write + Drop>(
 fn write_file<A: Allocator + Copy, F: Folder, O: Write + Drop>(
     alloc: A,
     content: Content<'_, A>,
-    name: &str,
+    target: Target<'_>,
     folder: &F,
     report: &Output<O, A>,
 ) -> Result<(), JobFault> {
     report.let_out()?;
-    let mut file = NewFile::new(folder, name);
+    let mut file = NewFile::new(folder, target);
     match write_to(alloc, content, &mut file) {
         Ok(()) => file.finish().or(Err(JobFault::Write)),
         Err(fault) => {

@@ -1,20 +1,20 @@
 // The program, from its words to its exit status.
 ghost use Rattle.std.specs.Prelude.{◌≡◌, ◌⊎◌};
 ghost use Rattle.tx_commands.specs.Commands.{IsInRange};
-ghost use Rattle.tx_program.specs.Statuses.{AskNothing, IsRefusedWith};
-ghost use Rattle.tx_jobs.specs.JobFaults.{status_of};
+ghost use Rattle.tx_program.specs.Statuses.{AskNothing, IsRefusedWith, status_of_stop};
 ghost use Rattle.tx_commands.specs.Faults.{status_of as words_status};
 
 use crate::ends::Output;
 use crate::folder::Folder;
 use crate::input::Inputs;
 use crate::output_files::write_files;
+use crate::stop::Stop;
+use crate::targets::Targets;
 use crate::tell::{announce_input, tell_words};
 use std::alloc::{Allocator, Global};
 use std::io::{IsTerminal, Read, Write};
 use tx_commands::{Command, Files, WordsFault, read_command};
-use tx_jobs::{Done, JobFault, do_job, write_fault};
-use tx_text::ToWrite;
+use tx_jobs::{Done, JobFault, do_job};
 
 /// The ends of the program: a folder of files, standard input, standard output and standard error.
 #[derive(Debug, Drop)]
@@ -68,7 +68,7 @@ fn refuse_words<F: Folder, I: Read + Drop, O: Write + Drop, E: Write + Drop>(
     let told = tell_words(fault, &mut output, &mut errors);
     let status = fault.status();
     if told.is_err() && status == 0 {
-        return tell_fault(&JobFault::Write, errors);
+        return tell_stop(&Stop::Job(JobFault::Write), errors);
     }
     status
 }
@@ -91,49 +91,53 @@ pub fn run_command<
     } = ends;
     match perform(alloc, command, folder, input, output) {
         Ok(status) => status,
-        Err(fault) => tell_fault(&fault, errors),
+        Err(stop) => tell_stop(&stop, errors),
     }
 }
 
 /// Writes why a command was not done, in one line on standard error, and returns the exit status.
-fn tell_fault<E: Write + Drop>(fault: &JobFault, errors: E) -> u8
-    ensures { result ≡ status_of fault.now }
+fn tell_stop<E: Write + Drop>(stop: &Stop<'_>, errors: E) -> u8
+    ensures { result ≡ status_of_stop stop.now }
 {
-    let _ = write_fault(fault, &mut ToWrite::new(errors));
-    fault.status()
+    let _ = stop.tell(errors);
+    stop.status()
 }
 
-/// Opens the files of a command, does its job, and lets its output out. Answers the exit status. An
-/// output that fails is reported before any other fault.
-pub(crate) fn perform<A: Allocator + Copy, F: Folder, I: Read + Drop, O: Write + Drop>(
+/// Opens the files of a command, sees that those to be made take the place of no others, does its
+/// job, and lets its output out. Answers the exit status. An output that fails is reported before
+/// any other fault.
+pub(crate) fn perform<'c, A: Allocator + Copy, F: Folder, I: Read + Drop, O: Write + Drop>(
     alloc: A,
-    command: &Command,
+    command: &'c Command,
     folder: &F,
     input: I,
     output: O,
-) -> Result<u8, JobFault>
+) -> Result<u8, Stop<'c>>
     requires { IsInRange command.now }
 {
-    let inputs = Inputs::open(Files::of(command).reads, folder, input)?;
+    let files = Files::of(command);
+    let inputs = Inputs::open(files.reads, folder, input)?;
+    let targets = Targets::of(alloc, files, folder)?;
     let output = Output::new(alloc, output)?;
-    let done = carry_out(alloc, command, inputs, folder, &output);
+    let done = carry_out(alloc, command, inputs, &targets, folder, &output);
     output.let_out()?;
     done
 }
 
 /// Does the job of a command over its files, which are open, and closes them. Then it makes the files
 /// of what the command came to.
-fn carry_out<A: Allocator + Copy, F: Folder, I: Read + Drop, O: Write + Drop>(
+fn carry_out<'c, A: Allocator + Copy, F: Folder, I: Read + Drop, O: Write + Drop>(
     alloc: A,
     command: &Command,
     inputs: Inputs<I, F::Input>,
+    targets: &Targets<'c>,
     folder: &F,
     output: &Output<O, A>,
-) -> Result<u8, JobFault>
+) -> Result<u8, Stop<'c>>
     requires { IsInRange command.now }
 {
     let done = do_over(alloc, command, inputs, output)?;
-    let made = write_files(alloc, &done, Files::of(command), folder, output);
+    let made = write_files(alloc, &done, targets, folder, output);
     let status = done.status();
     drop(done);
     made?;

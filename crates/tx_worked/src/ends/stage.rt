@@ -2,7 +2,7 @@
 use crate::cases::{EndCase, Log, Reader, Writer};
 use std::fs::File;
 use std::io;
-use tx_program::{Draft, Ends, Folder};
+use tx_program::{Draft, Ends, Folder, FileId};
 
 /// The folder of a case, and its settings.
 #[derive(Drop)]
@@ -64,6 +64,10 @@ impl<'a> Folder for Stage<'a> {
     type Input = Reader<'a>;
 
     type Output = Writer<'a>;
+
+    fn identify(&self, name: &str) -> Option<FileId> {
+        Folder::identify(self.rt, if name == "-" { self.case.input } else { name })
+    }
 
     fn open(&self, name: &str) -> io::Result<Reader<'a>> {
         self.log.tell("open", name);

@@ -1,0 +1,80 @@
+// The kinds of texts, and how a file shows which it holds.
+use crate::folder::Folder;
+use std::alloc::Allocator;
+use tx_jobs::JobFault;
+use tx_text::{FrameReader, FrameStep, FromRead};
+
+/// A kind of text that the program reads.
+#[derive(Clone, Copy, Debug, PartialEq, Eq)]
+pub(crate) enum TextKind {
+    Plan,
+    Cert,
+    Script,
+    Risks,
+}
+
+/// The kinds of the files that a command makes, in the order in which it makes them.
+pub(crate) const MADE: [TextKind; 3] = [TextKind::Plan, TextKind::Cert, TextKind::Script];
+
+/// All kinds.
+const KINDS: [TextKind; 4] = [
+    TextKind::Plan,
+    TextKind::Cert,
+    TextKind::Script,
+    TextKind::Risks,
+];
+
+impl TextKind {
+    /// The word that begins its header, and the greatest version of it.
+    fn header(self) -> (&'static [u8], u8) {
+        match self {
+            TextKind::Plan => (b"PLAN", 2),
+            TextKind::Cert => (b"CERT", 1),
+            TextKind::Script => (b"SCRIPT", 1),
+            TextKind::Risks => (b"RISKS", 1),
+        }
+    }
+
+    /// What it is called.
+    pub(crate) fn name(self) -> &'static str {
+        match self {
+            TextKind::Plan => "plan",
+            TextKind::Cert => "certificate",
+            TextKind::Script => "script",
+            TextKind::Risks => "text of risks",
+        }
+    }
+
+    /// Whether the first line with words of a file is the header of this kind. Where the file cannot
+    /// be read, it is not.
+    fn begins<A: Allocator, F: Folder>(
+        self,
+        alloc: A,
+        folder: &F,
+        name: &str,
+    ) -> Result<bool, JobFault> {
+        let Ok(file) = folder.open(name) else {
+            return Ok(false);
+        };
+        let (key, most) = self.header();
+        let Ok(mut frame) = FrameReader::new(alloc, key, most) else {
+            return Err(JobFault::NoMemory);
+        };
+        let first = frame.advance(&mut FromRead::new(file));
+        Ok(matches!(first, Ok(FrameStep::Header(_))))
+    }
+}
+
+/// The kind of text that a file holds, if it begins as one.
+pub(crate) fn kind_of<A: Allocator + Copy, F: Folder>(
+    alloc: A,
+    folder: &F,
+    name: &str,
+) -> Result<Option<TextKind>, JobFault> {
+    for kind in KINDS {
+        if kind.begins(alloc, folder, name)? {
+            return Ok(Some(kind));
+        }
+    }
+    Ok(None)
+}

@@ -1,0 +1,128 @@
+// The files that a command makes, none of which is another file of it.
+ghost use Rattle.std.specs.Prelude.{◌≡◌, ◌<◌, false, IfOk};
+ghost use Rattle.tx_program.specs.SameFile.{has_clash, known};
+
+use crate::draft::is_open_already;
+use crate::file_id::{KnownFile, clash};
+use crate::folder::Folder;
+use crate::kind::{MADE, TextKind, kind_of};
+use crate::stop::Stop;
+use std::alloc::Allocator;
+use tx_commands::Files;
+
+/// The files that a command makes, by their names, and the files that it reads.
+#[derive(Clone, Copy, Debug)]
+pub(crate) struct Targets<'n> {
+    read: [Option<KnownFile<'n>>; 3],
+    names: [Option<&'n str>; 3],
+}
+
+/// The name of a file that is none of the other files of its command.
+#[derive(Clone, Copy, Debug)]
+pub(crate) struct Target<'n> {
+    name: &'n str,
+}
+
+impl<'n> Targets<'n> {
+    /// Those of a command that has opened what it reads. They are refused where one would be made
+    /// over another file of the command, or over another kind of text.
+    pub(crate) fn of<A: Allocator + Copy, F: Folder>(
+        alloc: A,
+        files: Files<'n>,
+        folder: &F,
+    ) -> Result<Targets<'n>, Stop<'n>> {
+        let [first, second, third] = files.reads;
+        let targets = Targets {
+            read: [
+                identify(first, folder),
+                identify(second, folder),
+                identify(third, folder),
+            ],
+            names: files.makes(),
+        };
+        let made = targets.made(folder);
+        targets.require_apart(&made)?;
+        for i in 0..3usize {
+            if let Some(file) = made[i] {
+                require_kind(alloc, file, MADE[i], folder)?;
+            }
+        }
+        Ok(targets)
+    }
+
+    /// The files to be made.
+    fn made<F: Folder>(&self, folder: &F) -> [Option<KnownFile<'n>>; 3] {
+        let [plan, cert, script] = self.names;
+        [
+            identify_target(plan, folder),
+            identify_target(cert, folder),
+            identify_target(script, folder),
+        ]
+    }
+
+    /// Refuses files to be made of which one is read, or is to be made by another name too.
+    fn require_apart(&self, made: &[Option<KnownFile<'n>>]) -> Result<(), Stop<'n>>
+        ensures { IfOk result (λ _. has_clash (known self.now.read) (known made.now) ≡ false) }
+    {
+        match clash(&self.read, made) {
+            Some((name, other)) => Err(Stop::OneFile(name, other)),
+            None => Ok(()),
+        }
+    }
+
+    /// The name of a file to be made, if it is named, found once more to be none of the others.
+    pub(crate) fn get<F: Folder>(
+        &self,
+        index: usize,
+        folder: &F,
+    ) -> Result<Option<Target<'n>>, Stop<'n>>
+        requires { index < 3 }
+    {
+        let Some(name) = self.names[index] else {
+            return Ok(None);
+        };
+        self.require_apart(&self.made(folder))?;
+        Ok(Some(Target { name }))
+    }
+}
+
+impl<'n> Target<'n> {
+    pub(crate) fn name(self) -> &'n str {
+        self.name
+    }
+}
+
+/// The file that is meant by a name, if it is known.
+fn identify<'n, F: Folder>(name: Option<&'n str>, folder: &F) -> Option<KnownFile<'n>> {
+    let name = name?;
+    let id = folder.identify(name)?;
+    Some(KnownFile::new(name, id))
+}
+
+/// The same of a file to be made. An output of the program takes the place of no file.
+fn identify_target<'n, F: Folder>(name: Option<&'n str>, folder: &F) -> Option<KnownFile<'n>> {
+    match name {
+        Some(name) if is_open_already(name) => None,
+        name => identify(name, folder),
+    }
+}
+
+/// Refuses a file that is there and holds another kind of text.
+fn require_kind<'n, A: Allocator + Copy, F: Folder>(
+    alloc: A,
+    file: KnownFile<'n>,
+    wanted: TextKind,
+    folder: &F,
+) -> Result<(), Stop<'n>> {
+    if !file.is_there() {
+        return Ok(());
+    }
+    match kind_of(alloc, folder, file.name)? {
+        Some(held) if held != wanted => Err(Stop::OtherKind {
+            name: file.name,
+            held,
+            wanted,
+        }),
+        _ => Ok(()),
+    }
+}
