@@ -1,6 +1,6 @@
 use Rattle.std.proofs.Common.{◌∙◌, Ok, Err}
 use Rattle.tx_text.proofs.Exits.{exits_with}
-use Rattle.tx_jobs.proofs.Staged.{staged_mark}
+use Rattle.tx_jobs.proofs.OrderMarks.{staged_mark}
 use Rattle.tx_jobs.proofs.order.order_job.Goals as goal
 
 pub staged-requires : goal.staged-requires
