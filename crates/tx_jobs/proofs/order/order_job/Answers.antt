@@ -3,8 +3,8 @@ use Rattle.tx_text.proofs.Exits.{exits_with}
 use Rattle.tx_jobs.proofs.OrderMarks.{staged_mark}
 use Rattle.tx_jobs.proofs.order.order_job.Goals as goal
 
-pub staged-requires : goal.staged-requires
-staged-requires g c = c.in_ok-switching.ensures.stage
+pub stage_of-requires : goal.stage_of-requires
+stage_of-requires g c = c.in_ok-switching.ensures.stage
 
 pub returns-clause-answers : goal.returns-clause-answers
 returns-clause-answers g c =
