@@ -2,7 +2,7 @@
 use crate::cases::{EndCase, Log, Reader, Writer};
 use std::fs::File;
 use std::io;
-use tx_program::{Draft, Ends, Folder, FileId};
+use tx_program::{Draft, Ends, FileId, Folder};
 
 /// The folder of a case, and its settings.
 #[derive(Drop)]
