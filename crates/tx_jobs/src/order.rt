@@ -5,6 +5,8 @@ ghost use Rattle.tx_jobs.specs.JobFaults.{mark_after};
 ghost use Rattle.tx_text.specs.Ends.{input, output};
 ghost use Rattle.tx_jobs.specs.OrderJobs.{OrderJobAnswers, NewPlanAnswers, ToldOrder, HasStage, IsStagedOf, OrderToldAnswers, StageAnswer};
 
+ghost use Rattle.tx_plan.specs.Mixtures.{SameNetwork};
+
 use crate::job_fault::JobFault;
 use std::alloc::{Allocator, Global};
 use tx_cert::Cert;
@@ -110,12 +112,39 @@ fn told<A: Allocator + Copy, W: Sink>(
     if let Some(difference) = first_difference(&old, &new) {
         return Err(JobFault::TwoNetworks(difference));
     }
+    ordered(alloc, old, new, limits, stage, out)
+}
+
+/// Reports the order of two plans of one network, if it has the stage.
+fn ordered<A: Allocator + Copy, W: Sink>(
+    alloc: A,
+    old: Plan<A>,
+    new: Plan<A>,
+    limits: Limits,
+    stage: Option<u8>,
+    out: &mut W,
+) -> Result<Switching<A>, JobFault>
+    requires { SameNetwork old new }
+{
     let switching = order(alloc, old, new, limits)?;
-    if let Some(stages) = missing_stage(&switching, stage) {
+    match report(&switching, limits, stage, out) {
+        Ok(()) => Ok(switching),
+        Err(fault) => Err(fault),
+    }
+}
+
+/// Writes the report of an order, if it has the stage.
+fn report<A: Allocator, W: Sink>(
+    switching: &Switching<A>,
+    limits: Limits,
+    stage: Option<u8>,
+    out: &mut W,
+) -> Result<(), JobFault> {
+    if let Some(stages) = missing_stage(switching, stage) {
         return Err(JobFault::NoSuchStage(stages));
     }
-    write_switching(&switching, limits, out)?;
-    Ok(switching)
+    write_switching(switching, limits, out)?;
+    Ok(())
 }
 
 /// How many stages there are, if the one that is asked for is not there.
