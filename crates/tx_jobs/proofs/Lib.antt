@@ -7,6 +7,7 @@ mod ToldRuns
 mod Evidenced
 mod ChangeTold
 mod ChangeEvidenced
+mod OrderMarks
 mod Grading
 mod LintTold
 mod Surviving

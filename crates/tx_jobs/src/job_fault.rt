@@ -49,6 +49,9 @@ pub enum JobFault {
     /// The text of risks is refused.
     #[error("risks {0}")]
     Risks(RiskFault),
+    /// The order does not have the stage that was asked for, but so many.
+    #[error("the order has no such stage")]
+    NoSuchStage(usize),
     /// The plan has no exchange of the name that was asked for.
     #[error("the plan has no such exchange")]
     NoSuchExchange,
@@ -209,7 +212,8 @@ impl From<LintFault> for JobFault {
 
 impl JobFault {
     /// The exit status: 2 for a refused text and for plans of two networks, 3 for a read or a write
-    /// fault, 4 when memory runs out, 64 for an exchange or a code that the plan does not have.
+    /// fault, 4 when memory runs out, 64 for an exchange or a code that the plan does not have, and
+    /// for a stage that the order does not have.
     pub fn status(&self) -> u8
         ensures { result ≡ status_of self.now }
     {
@@ -223,7 +227,7 @@ impl JobFault {
             | JobFault::Risks(_) => 2,
             JobFault::Read | JobFault::Write => 3,
             JobFault::NoMemory => 4,
-            JobFault::NoSuchExchange | JobFault::NoSuchCode => 64,
+            JobFault::NoSuchStage(_) | JobFault::NoSuchExchange | JobFault::NoSuchCode => 64,
         }
     }
 

@@ -1,0 +1,9 @@
+pub mod Levels
+pub mod Switched
+pub mod Staged
+pub mod Leading
+pub mod Same
+pub mod TwoFronts
+pub mod Ordered
+pub mod StageCerts
+pub mod Confirming
