@@ -70,13 +70,13 @@ fn order_differs(
     work: &mut OrderWork,
 ) -> Result<Option<Difference>, Stop> {
     add(&mut work.tally.asked, 1);
-    match ends.order(alloc)? {
-        Some(order) => {
-            work.tally.add_found(order.stages());
+    match ends.stages(alloc)? {
+        Some(stages) => {
+            work.tally.add_found(stages);
             if !are_ranked(ends) {
                 return Ok(Some(Difference::Found));
             }
-            stages_differ(alloc, ends, &order, &mut work.mixtures, &mut work.way)
+            stages_differ(alloc, ends, stages, &mut work.mixtures, &mut work.way)
         }
         None if are_ranked(ends) => Ok(Some(Difference::Count)),
         None => Ok(None),

@@ -7,11 +7,13 @@ use crate::changes::shown::Mixing;
 use crate::walks::Difference;
 use std::alloc::Global;
 use tx_cert::Cert;
-use tx_change::first_difference;
-use tx_order::{Order, Switching, order};
+use tx_jobs::{JobFault, order_job};
+use tx_order::Staged;
 use tx_plan::{Limits, Plan};
-use tx_plantext::read_plan;
-use tx_text::NoMemory;
+use tx_text::{MemorySink, NoMemory, SliceSource};
+
+/// How long a report may be.
+const ROOM: usize = 65_536;
 
 /// Two plans of a family between which an order is judged, by their numbers.
 #[derive(Clone, Copy)]
@@ -29,20 +31,35 @@ impl<'a> Ends<'a> {
         self.members.get(number as usize)
     }
 
-    /// The order, if there is one. It is made of plans that are read anew, since it takes them.
-    pub fn order(&self, alloc: Global) -> Result<Option<Order>, Stop> {
+    /// What the job of the order comes to for this stage of it.
+    fn staged(&self, alloc: Global, stage: u8) -> Result<Staged, JobFault> {
         let (Some(old), Some(new)) = (self.member(self.old), self.member(self.new)) else {
-            return Ok(None);
+            return Err(JobFault::Read);
         };
-        let old = read_plan(alloc, old.text.as_slice())?;
-        let new = read_plan(alloc, new.text.as_slice())?;
-        match first_difference(&old, &new) {
-            None => match order(alloc, old, new, self.limits)? {
-                Switching::Ordered(order) => Ok(Some(order)),
-                Switching::NoOrder(_, _, _) => Ok(None),
-            },
-            Some(_) => Ok(None),
-        }
+        let mut report = MemorySink::new(alloc, ROOM)?;
+        let mut old = SliceSource::new(old.text.as_slice());
+        let mut new = SliceSource::new(new.text.as_slice());
+        order_job(
+            alloc,
+            &mut old,
+            &mut new,
+            self.limits,
+            Some(stage),
+            &mut report,
+        )
+    }
+
+    /// How many stages the order has, if there is one. It has no stage 0.
+    pub fn stages(&self, alloc: Global) -> Result<Option<usize>, Stop> {
+        let staged = self.staged(alloc, 0);
+        let stages = match &staged {
+            Ok(Staged::NoOrder) => Ok(None),
+            Err(JobFault::NoSuchStage(stages)) => Ok(Some(*stages)),
+            Err(JobFault::NoMemory) => Err(Stop::NoMemory),
+            Ok(Staged::Ordered(_)) | Err(_) => Err(Stop::Differs),
+        };
+        drop(staged);
+        stages
     }
 
     /// The number of a plan among those of mixtures.
@@ -63,30 +80,6 @@ fn note(number: u64, way: &mut Vec<u64>) -> Result<(), NoMemory> {
     Ok(())
 }
 
-/// Makes the list of the plans on the way, from the old one to the new one. Says whether all of
-/// them are mixtures.
-fn put_way(
-    alloc: Global,
-    ends: Ends<'_>,
-    stages: usize,
-    mixtures: &mut Vec<u64>,
-    way: &mut Vec<u64>,
-) -> Result<bool, Stop> {
-    way.clear();
-    put_mixtures(ends.lines, ends.old, ends.new, mixtures)?;
-    for stage in 0..=stages {
-        let Some(order) = ends.order(alloc)? else {
-            return Ok(false);
-        };
-        let plan = order.into_plan(alloc, stage)?;
-        match ends.number_of(&plan, mixtures.as_slice()) {
-            Some(number) => note(number, way)?,
-            None => return Ok(false),
-        }
-    }
-    Ok(true)
-}
-
 /// Whether the way leads from the old plan to the new one.
 fn leads_over(ends: Ends<'_>, way: &[u64]) -> bool {
     match (way, ends.member(ends.old), ends.member(ends.new)) {
@@ -96,9 +89,9 @@ fn leads_over(ends: Ends<'_>, way: &[u64]) -> bool {
     }
 }
 
-/// How a stage differs from what it has to be: it switches some of what differs from the new plan,
-/// and its certificate serves each mixture of the plans before it and after it.
-fn stage_differs(
+/// How what a stage switches differs from what it has to be: it is some of what differs from the
+/// new plan, and its certificate serves each mixture of the plans before it and after it.
+fn switched_differs(
     ends: Ends<'_>,
     from: u64,
     to: u64,
@@ -139,35 +132,87 @@ fn is_one_stage(
     }))
 }
 
-/// How the stages of an order differ from what they have to be: no two that follow one another can
-/// be one.
-pub fn stages_differ(
+/// How the plan after a stage, and the certificate of the stage, differ from what they have to be.
+/// The way gets the plan.
+fn made_differs(
+    ends: Ends<'_>,
+    plan: &Plan,
+    cert: &Cert,
+    mixtures: &mut Vec<u64>,
+    way: &mut Vec<u64>,
+) -> Result<Option<Difference>, NoMemory> {
+    put_mixtures(ends.lines, ends.old, ends.new, mixtures)?;
+    let from = match way.as_slice() {
+        [.., last] => *last,
+        [] => ends.old,
+    };
+    match ends.number_of(plan, mixtures.as_slice()) {
+        Some(to) => {
+            note(to, way)?;
+            switched_differs(ends, from, to, cert, mixtures)
+        }
+        None => Ok(Some(Difference::NoMixture)),
+    }
+}
+
+/// How a stage differs from what it has to be.
+fn stage_differs(
     alloc: Global,
     ends: Ends<'_>,
-    order: &Order,
+    stage: u8,
     mixtures: &mut Vec<u64>,
     way: &mut Vec<u64>,
 ) -> Result<Option<Difference>, Stop> {
-    if !put_way(alloc, ends, order.stages(), mixtures, way)? {
-        return Ok(Some(Difference::NoMixture));
+    let staged = ends.staged(alloc, stage);
+    let differs = match &staged {
+        Ok(Staged::Ordered(Some((plan, cert)))) => made_differs(ends, plan, cert, mixtures, way),
+        Ok(Staged::Ordered(None) | Staged::NoOrder) | Err(_) => Ok(Some(Difference::Count)),
+    };
+    drop(staged);
+    Ok(differs?)
+}
+
+/// Whether two stages that follow one another could be one.
+fn has_joined(ends: Ends<'_>, way: &[u64], mixtures: &mut Vec<u64>) -> Result<bool, NoMemory> {
+    let mut from = None;
+    let mut middle = None;
+    for to in way {
+        if let Some(from) = from {
+            if is_one_stage(ends, from, *to, mixtures)? {
+                return Ok(true);
+            }
+        }
+        from = middle;
+        middle = Some(*to);
+    }
+    Ok(false)
+}
+
+/// How the stages of an order differ from what they have to be: they lead from the old plan to the
+/// new one, and no two that follow one another can be one.
+pub fn stages_differ(
+    alloc: Global,
+    ends: Ends<'_>,
+    stages: usize,
+    mixtures: &mut Vec<u64>,
+    way: &mut Vec<u64>,
+) -> Result<Option<Difference>, Stop> {
+    way.clear();
+    note(ends.old, way)?;
+    for stage in 1..=stages {
+        let Ok(stage) = u8::try_from(stage) else {
+            return Ok(Some(Difference::Count));
+        };
+        let differs = stage_differs(alloc, ends, stage, mixtures, way)?;
+        if differs.is_some() {
+            return Ok(differs);
+        }
     }
     if !leads_over(ends, way.as_slice()) {
         return Ok(Some(Difference::Switched));
     }
-    for stage in 0..order.stages() {
-        let cert = order.cert(alloc, stage)?;
-        let (Some(from), Some(to)) = (way.get(stage), way.get(stage + 1)) else {
-            return Ok(Some(Difference::Count));
-        };
-        let differs = stage_differs(ends, *from, *to, &cert, mixtures)?;
-        if differs.is_some() {
-            return Ok(differs);
-        }
-        if let Some(next) = way.get(stage + 2) {
-            if is_one_stage(ends, *from, *next, mixtures)? {
-                return Ok(Some(Difference::Joined));
-            }
-        }
+    if has_joined(ends, way.as_slice(), mixtures)? {
+        return Ok(Some(Difference::Joined));
     }
     Ok(None)
 }
