@@ -4,15 +4,17 @@ _telexplan() {
     case ${COMP_WORDS[COMP_CWORD - 1]} in
         --limit) words=$(echo {0..62}) ;;
         --spare) words=$(echo {0..15}) ;;
+        --stage) words=$(echo {1..128}) ;;
         --cert | --mixture | --plan | --risks | --counter | --code) ;;
         *)
             case $COMP_CWORD:${COMP_WORDS[1]}:$word in
-                1:*) words="lint audit grade mend change survive check run codes trace draw explain help --help --version" ;;
-                *:help:*) words="lint audit grade mend change survive check run codes trace draw explain" ;;
+                1:*) words="lint audit grade mend change order survive check run codes trace draw explain help --help --version" ;;
+                *:help:*) words="lint audit grade mend change order survive check run codes trace draw explain" ;;
                 *:explain:*) words="--help $(telexplan explain 2>/dev/null | cut -d ' ' -f 1)" ;;
                 *:audit:-*) words="--limit --spare --cert --counter --help" ;;
                 *:mend:-*) words="--limit --spare --plan --cert --help" ;;
                 *:change:-*) words="--limit --spare --cert --mixture --counter --help" ;;
+                *:order:-*) words="--limit --spare --stage --plan --cert --help" ;;
                 *:survive:-*) words="--risks --help" ;;
                 *:check:-*) words="--limit --spare --help" ;;
                 *:run:-*) words="--cert --limit --spare --strict --echo --summary --help" ;;

@@ -451,13 +451,15 @@ def case_of(example):
         return f"checked{bounds}", b"---\n".join([plan, cert, script])
     drawn = " ".join(["draw"] + [it for it in map(example.option, ["--code", "--limit", "--spare"]) if it])
     kinds = {"run": telling_of(example.words), "draw": drawn, "codes": "codes", "grade": "grade"} | {it: it + bounds for it in ("check", "audit", "change", "mend")}
+    staged = example.option("--stage")
+    kinds |= {"order": f"stage{bounds} {staged}" if staged else f"order{bounds}"}
     kinds |= {"survive": "survive" if example.option("--risks") else "survive alone", "trace": " ".join(["trace", *example.words[2:]]), "lint": " ".join(example.words)}
     return (kinds[verb], b"---\n".join(texts)) if verb in kinds else None
 
 
 def evidence_of(example):
-    """What the player prints behind the report of an audit, of a change or of a mending: the files that an example makes of the same one."""
-    asked = lambda it: it.words[:1] + it.files + [it.option("--limit"), it.option("--spare")]
+    """What the player prints behind the report of an audit, of a change, of an order or of a mending: the files that an example makes of the same one."""
+    asked = lambda it: it.words[:1] + it.files + [it.option("--limit"), it.option("--spare"), it.option("--stage")]
     made = [it.made for it in examples() if it.made and asked(it) == asked(example)]
     return b"".join(map(read, made[0])) if made else b""
 

@@ -1,5 +1,5 @@
 -- The network of a change obeys the rules of a plan.
-use Rattle.std.proofs.Common.{◌≡◌, ℕ, ◌<◌, ◌≤◌, List, [], ◌++◌, length, length-append, min, inl, inr, sym, ap, ◌∙◌, subst, arith}
+use Rattle.std.proofs.Common.{ℕ, ◌<◌, ◌≤◌, List, ◌++◌, length, length-append, min, inl, inr, sym, ap, ◌∙◌, subst, arith}
 use Rattle.std.proofs.lemmas.Bool.{or_cases}
 use Rattle.tx_plan.specs.Plan.{Plan}
 use Rattle.tx_plan.specs.Rules.{IsPlan}
@@ -10,7 +10,6 @@ use Rattle.tx_rank.proofs.Nets.{is_net}
 use Rattle.tx_plan.specs.Mixtures.{SameNetwork}
 use Rattle.tx_plan.proofs.Networks.{ends_same}
 use Rattle.tx_change.specs.ChangeNets.{change_net}
-use Rattle.tx_change.proofs.JoinedLists.{none_past}
 
 pub least_listed : (xs ys : List ℕ) → min (length xs) (length ys) ≤ length (xs ++ ys)
 least_listed xs ys = let l = length-append xs ys in omega arith
@@ -31,10 +30,3 @@ module _ (old new : Plan) (ok : IsPlan old) (new_ok : IsPlan new) (same : SameNe
         ];
         listed = λ x. least_listed (route_list old x c) (route_list new x c);
       }
-
-  pub no_lists : (x c : ℕ) → length old.exchanges ≤ x → [] ≡ route_list old x c ++ route_list new x c
-  no_lists x c past =
-      let long = ap length same.exchanges in
-      let a = none_past old ok x c past in
-      let b = none_past new new_ok x c (omega arith) in
-      λ i. sym a i ++ sym b i

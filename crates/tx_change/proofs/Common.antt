@@ -1,13 +1,13 @@
--- What certifies the network of a change for each code certifies both plans.
-use Rattle.std.proofs.Common.{ℕ, ◌<◌, length, Option, sym, ap, ◌∙◌, subst, arith}
-use Rattle.std.proofs.lemmas.Bool.{or_left, or_right}
+-- What certifies the network of a change for each code certifies both plans, and the other way
+use Rattle.std.proofs.Common.{ℕ, ◌<◌, length, inl, inr, Option, sym, ap, ◌∙◌, subst, arith}
+use Rattle.std.proofs.lemmas.Bool.{or_left, or_right, or_cases}
 use Rattle.tx_plan.specs.Plan.{Plan}
 use Rattle.tx_plan.specs.Certified.{Ranks}
 use Rattle.tx_plan.specs.Routes.{route_list, is_origin_for}
-use Rattle.tx_plan.proofs.Among.{among_left, among_right}
+use Rattle.tx_plan.proofs.Among.{among_left, among_right, among_cases}
 use Rattle.tx_rank.specs.Walks.{net_of}
 use Rattle.tx_rank.specs.Nets.{Certifies}
-use Rattle.tx_rank.proofs.Certifying.{AreDistinct, certified_codes}
+use Rattle.tx_rank.proofs.Certifying.{AreDistinct, certifies_code, certified_codes}
 use Rattle.tx_plan.specs.Mixtures.{SameNetwork, AreCommon}
 use Rattle.tx_plan.proofs.Networks.{homes_same, ends_same}
 use Rattle.tx_change.specs.ChangeNets.{change_net}
@@ -44,4 +44,22 @@ module _ (old new : Plan) (same : SameNetwork old new) (ranks : Ranks) (limit sp
         before = certified_codes old ranks limit spare distinct (λ c h. old_certified old new same (ranks c) limit spare c (each c h));
         after = certified_codes new ranks limit spare (subst AreDistinct same.codes distinct)
             (λ c h. new_certified old new same (ranks c) limit spare c (each c (subst (λ n. c < n) (ap length (sym same.codes)) h)));
+      }
+
+-- and what certifies both plans certifies that network
+module _ (old new : Plan) (same : SameNetwork old new) (ranks : Ranks) (limit spare : ℕ) (both : AreCommon old new ranks limit spare) (c : ℕ) (h : c < length old.codes) where
+  pub common_certifies : Certifies (change_net old new c) (ranks c) limit spare
+  common_certifies =
+      let a = certifies_code old ranks limit spare both.before c h in
+      let b = certifies_code new ranks limit spare both.after c (subst (λ n. c < n) (ap length same.codes) h) in
+      let home = homes_same old new same c in
+      record {
+        home = a.home;
+        origins = λ x o. elim (or_cases (is_origin_for old x c) (is_origin_for new x c) o) [ inl p ↦ a.origins x p | inr p ↦ b.origins x p ];
+        low = a.low;
+        enough = λ x r ranked away. let e = a.enough x r ranked away in let f = b.enough x r ranked (λ q. away (q ∙ home)) in omega arith;
+        lower = λ x r ranked away g m. elim (among_cases g (route_list old x c) (route_list new x c) m) [
+          | inl l ↦ let d = a.lower x r ranked away g l in record { to = d.to; rank = d.rank; leads = d.leads; ranked = d.ranked; below = d.below }
+          | inr l ↦ let d = b.lower x r ranked (λ q. away (q ∙ home)) g l in record { to = d.to; rank = d.rank; leads = sym (ends_same old new same g x) ∙ d.leads; ranked = d.ranked; below = d.below }
+        ];
       }

@@ -9,7 +9,6 @@ use Rattle.tx_plan.specs.declared.ids.Pair.{Pair}
 use Rattle.tx_plan.specs.Plan.{Plan, Route}
 use Rattle.tx_plan.specs.Rules.{EachPair, IsPlan}
 use Rattle.tx_plan.specs.Routes.{route_list}
-use Rattle.tx_plan.specs.Mixed.{is_route_there, is_bar_there}
 use Rattle.tx_plan.proofs.Filtered.{any_out}
 use Rattle.tx_plan.proofs.ListFound.{list_found}
 use Rattle.tx_machine.proofs.Lists.{at_index}
@@ -83,25 +82,25 @@ module _ (s : Pair → Bool) where
 
 -- WHAT STANDS IN THE NEW PLAN IS NOT KEPT OF THE OLD ONE
 
-pub route_not_before : (c : ℕ) (there : ℕ → Bool) (r : Route) → is_route_there c there r ≡ true → (rs : List Route) → has_route_as r (filter (λ q. not (is_route_there c there q)) rs) ≡ false
-route_not_before c there r h rs =
-    any_out (λ (q : Route). (q.exchange == r.exchange) && (q.code == r.code)) (λ q. not (is_route_there c there q))
+pub route_not_before : (taken : ℕ → ℕ → Bool) (r : Route) → taken r.exchange r.code ≡ true → (rs : List Route) → has_route_as r (filter (λ q. not (taken q.exchange q.code)) rs) ≡ false
+route_not_before taken r h rs =
+    any_out (λ (q : Route). (q.exchange == r.exchange) && (q.code == r.code)) (λ q. not (taken q.exchange q.code))
     (λ z q.
     let a = and_parts (z.exchange == r.exchange) (z.code == r.code) q in
     let e = eqb-true z.exchange r.exchange a.0 in
     let f = eqb-true z.code r.code a.1 in
-    let alike : is_route_there c there z ≡ is_route_there c there r = λ i. (f i == c) && there (e i) in
+    let alike : taken z.exchange z.code ≡ taken r.exchange r.code = λ i. taken (e i) (f i) in
     ap not (alike ∙ h))
     rs
 
-pub bar_not_before : (c : ℕ) (there : ℕ → Bool) (r : Pair) → is_bar_there c there r ≡ true → (rs : List Pair) → has_bar_as r (filter (λ q. not (is_bar_there c there q)) rs) ≡ false
-bar_not_before c there r h rs =
-    any_out (λ (q : Pair). (q.exchange == r.exchange) && (q.code == r.code)) (λ q. not (is_bar_there c there q))
+pub bar_not_before : (taken : ℕ → ℕ → Bool) (r : Pair) → taken r.exchange r.code ≡ true → (rs : List Pair) → has_bar_as r (filter (λ q. not (taken q.exchange q.code)) rs) ≡ false
+bar_not_before taken r h rs =
+    any_out (λ (q : Pair). (q.exchange == r.exchange) && (q.code == r.code)) (λ q. not (taken q.exchange q.code))
     (λ z q.
     let a = and_parts (z.exchange == r.exchange) (z.code == r.code) q in
     let e = eqb-true z.exchange r.exchange a.0 in
     let f = eqb-true z.code r.code a.1 in
-    let alike : is_bar_there c there z ≡ is_bar_there c there r = λ i. (f i == c) && there (e i) in
+    let alike : taken z.exchange z.code ≡ taken r.exchange r.code = λ i. taken (e i) (f i) in
     ap not (alike ∙ h))
     rs
 

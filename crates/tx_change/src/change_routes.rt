@@ -2,34 +2,29 @@
 ghost use Rattle.tx_rank.specs.Judged.{AreOrigins};
 ghost use Rattle.tx_rank.specs.Nets.{IsNet};
 ghost use Rattle.tx_rank.specs.inner.NetLaws.{IsNet-prop};
-ghost use Rattle.tx_plan.specs.Mixtures.{SameNetwork};
-ghost use Rattle.tx_change.specs.ChangeNets.{change_net};
-ghost use Rattle.tx_change.specs.inner.Joined.{AreJoined};
+ghost use Rattle.tx_change.specs.inner.Joined.{joined_net};
 
-use crate::joined::Groups;
+use crate::joined::JoinedLists;
 use std::alloc::Allocator;
 use tx_plan::{CodeId, ExchangeId, GroupId, Plan};
 use tx_rank::CodeNet;
 
-/// The routes of one code of an old and a new plan of one network.
+/// The routes of one code of two plans of one network, by the joined lists of each exchange.
 #[derive(Drop)]
 pub struct ChangeRoutes<'a, A: Allocator> {
-    pub old: &'a Plan<A>,
-    pub new: &'a Plan<A>,
+    pub plan: &'a Plan<A>,
     pub origins: &'a [bool],
-    pub lists: &'a [Groups<A>],
+    pub lists: &'a [JoinedLists<A>],
     pub code: CodeId,
-    ghost network: { SameNetwork old.now new.now },
-    ghost right: { AreOrigins old.now origins.now },
-    ghost joined: { AreJoined old.now new.now code lists.now },
-    ghost net: { IsNet (change_net old.now new.now code) } by { IsNet-prop (change_net old.now new.now code) },
+    ghost right: { AreOrigins plan.now origins.now },
+    ghost net: { IsNet (joined_net plan.now lists.now code) } by { IsNet-prop (joined_net plan.now lists.now code) },
 }
 
 impl<'a, A: Allocator> CodeNet for ChangeRoutes<'a, A> {
-    ghost net = { λ r. change_net r.old.now r.new.now r.code };
+    ghost net = { λ r. joined_net r.plan.now r.lists.now r.code };
 
     fn exchanges(&self) -> usize {
-        self.old.exchanges()
+        self.plan.exchanges()
     }
 
     fn exchange(&self, index: usize) -> ExchangeId {
@@ -37,29 +32,33 @@ impl<'a, A: Allocator> CodeNet for ChangeRoutes<'a, A> {
     }
 
     fn home(&self) -> ExchangeId {
-        self.old.home(self.code)
+        self.plan.home(self.code)
     }
 
     fn is_origin(&self, exchange: ExchangeId) -> bool {
         self.origins[exchange.index()]
-            && !(self.old.is_barred(exchange, self.code) && self.new.is_barred(exchange, self.code))
+            && match self.lists.get(exchange.index()) {
+                Some(joined) => !joined.is_barred(),
+                None => false,
+            }
     }
 
     fn list(&self, exchange: ExchangeId) -> &[GroupId] {
         match self.lists.get(exchange.index()) {
-            Some(groups) => groups.as_slice(),
+            Some(joined) => joined.groups(),
             None => &[],
         }
     }
 
     fn fewest(&self, exchange: ExchangeId) -> usize {
-        let first = self.old.list(exchange, self.code).len();
-        let second = self.new.list(exchange, self.code).len();
-        first.min(second)
+        match self.lists.get(exchange.index()) {
+            Some(joined) => joined.fewest(),
+            None => 0,
+        }
     }
 
     fn far(&self, group: GroupId, exchange: ExchangeId) -> ExchangeId {
-        match self.old.other_end(group, exchange) {
+        match self.plan.other_end(group, exchange) {
             Some(to) => to,
             None => unreachable!(),
         }

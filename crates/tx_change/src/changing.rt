@@ -46,8 +46,7 @@ fn change_code<A: Allocator + Copy>(
 {
     let lists = joined_lists(alloc, old, new, code)?;
     let net = ChangeRoutes {
-        old,
-        new,
+        plan: old,
         origins,
         lists: &lists,
         code,

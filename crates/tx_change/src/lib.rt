@@ -9,12 +9,16 @@ mod difference;
 mod entries;
 mod joined;
 mod law;
+mod mixing;
 mod mixture;
 mod showing;
 mod taking;
 
+pub use change_routes::ChangeRoutes;
 pub use changing::change;
 pub use difference::{Difference, NetworkList, first_difference};
+pub use joined::JoinedLists;
 pub use law::findings_show_mixtures;
+pub use mixing::{Lists, Mixing, mixed_lists};
 pub use mixture::{ShownMixture, first_mixture};
 pub use showing::shown;

@@ -2,8 +2,8 @@
 ghost use Rattle.std.specs.Prelude.{◌≡◌, ◌==◌, ◌&&◌};
 ghost use Rattle.tx_change.specs.Shown.{is_listed, at_end_of, listed_by, barred_by};
 
+use crate::mixing::Mixing;
 use std::alloc::Allocator;
-use std::marker::Model;
 use tx_plan::{CodeId, ExchangeId, GroupId, Plan};
 use tx_rank::Walk;
 
@@ -16,33 +16,16 @@ pub struct Taking<'a, A: Allocator> {
     pub spare: Option<u8>,
 }
 
-impl<'a, A: Allocator> Model for Taking<'a, A> {
-    ghost use Rattle.tx_change.specs.inner.Kept.{Takes};
+impl<'a, A: Allocator> Mixing for Taking<'a, A> {
+    ghost listed = { λ t x c. (c == t.code) && listed_by t.old.now t.code t.spare t.walk.now x };
 
-    ghost Value = { Takes };
+    ghost barred = { λ t x c. (c == t.code) && barred_by t.old.now t.code t.walk.now x };
 
-    ghost view = { λ t. record {
-      old = t.old.now;
-      code = t.code;
-      walk = t.walk.now;
-      spare = t.spare;
-    } };
-}
-
-impl<'a, A: Allocator> Taking<'a, A> {
-    ghost use Rattle.tx_change.specs.inner.Kept.{listed, barred};
-
-    /// Whether the list of an exchange for a code is taken from the new plan.
-    pub fn has_list(&self, exchange: ExchangeId, code: CodeId) -> bool
-        ensures { result ≡ ((code == self.now.code) && listed self.now exchange) }
-    {
+    fn has_list(&self, exchange: ExchangeId, code: CodeId) -> bool {
         code == self.code && takes_list(self.old, self.code, self.walk, self.spare, exchange)
     }
 
-    /// Whether its bar is.
-    pub fn has_bar(&self, exchange: ExchangeId, code: CodeId) -> bool
-        ensures { result ≡ ((code == self.now.code) && barred self.now exchange) }
-    {
+    fn has_bar(&self, exchange: ExchangeId, code: CodeId) -> bool {
         code == self.code && takes_bar(self.old, self.code, self.walk, exchange)
     }
 }

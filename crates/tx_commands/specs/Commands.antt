@@ -1,5 +1,5 @@
 -- What words ask for, and the files of it.
-use Rattle.std.specs.Prelude.{◌≡◌, ◌≤◌, ℕ, Bool, true, false, List, [], ◌∷◌, Option, None, Some, map, option_map, codes, string_bytes, String, ◌||◌}
+use Rattle.std.specs.Prelude.{◌≡◌, ◌≤◌, ℕ, Bool, true, false, List, [], ◌∷◌, Option, None, Some, is_some, map, option_map, codes, string_bytes, String, ◌||◌}
 use Rattle.std.specs.Borrow.{Bor}
 use Rattle.std.specs.Coded.{Unit-prop, le_prop, ×_prop}
 use Rattle.std.specs.Option.{option_map_or}
@@ -9,13 +9,14 @@ use Rattle.clap.specs.Words.{Row, first_of, one_of, subcommand_of}
 use Rattle.tx_explain.specs.Entries.{is_known}
 use Rattle.tx_commands.specs.Grammar.{program_words}
 use Rattle.tx_commands.specs.declared.command.Command.{Command}
-use Rattle.tx_commands.specs.declared.command.Command.TheVariants.{Pipe, Run, RunTelling, Check, Lint, Codes, Audit, Change, Mend, Survive, Grade, Trace, Draw, Explain}
+use Rattle.tx_commands.specs.declared.command.Command.TheVariants.{Pipe, Run, RunTelling, Check, Lint, Codes, Audit, Change, Order, Mend, Survive, Grade, Trace, Draw, Explain}
 
 -- a limit is at most 62, and a spare number at most 15
 abbrev pub IsInRange : Command → Type 0
 IsInRange (Run plan script (Some (cert, limit, spare))) = (limit ≤ 62) × (spare ≤ 15)
 IsInRange (Audit plan limit spare cert counter) = (limit ≤ 62) × (spare ≤ 15)
 IsInRange (Change old new limit spare cert mixture counter) = (limit ≤ 62) × (spare ≤ 15)
+IsInRange (Order old new limit spare stage plan cert) = (limit ≤ 62) × (spare ≤ 15)
 IsInRange (Mend plan limit spare mended cert) = (limit ≤ 62) × (spare ≤ 15)
 IsInRange (Check plan cert limit spare) = (limit ≤ 62) × (spare ≤ 15)
 IsInRange (Draw plan (Some (code, Some (limit, spare)))) = (limit ≤ 62) × (spare ≤ 15)
@@ -32,6 +33,7 @@ IsInRange-prop (Lint plan) = Unit-prop
 IsInRange-prop (Codes plan) = Unit-prop
 IsInRange-prop (Audit plan limit spare cert counter) = ×_prop le_prop le_prop
 IsInRange-prop (Change old new limit spare cert mixture counter) = ×_prop le_prop le_prop
+IsInRange-prop (Order old new limit spare stage plan cert) = ×_prop le_prop le_prop
 IsInRange-prop (Mend plan limit spare mended cert) = ×_prop le_prop le_prop
 IsInRange-prop (Survive plan risks) = Unit-prop
 IsInRange-prop (Grade plan) = Unit-prop
@@ -51,6 +53,16 @@ pub record Gives (found : List Row) (id : List ℕ) (n : ℕ) : Type 0 where
   pub given : one_of id found ≡ Some text
   pub numeral : IsNumeral 10 (without_leading_plus text)
   pub value : n ≡ digits_value 10 (without_leading_plus text)
+
+-- they give this number, or have no word for it
+abbrev pub GivesIfAny : List Row → List ℕ → Option ℕ → Type 0
+GivesIfAny found id None = first_of id found ≡ None
+GivesIfAny found id (Some n) = Gives found id n
+
+-- files are made of a stage that is named
+abbrev pub AreOfStage : {Z : Type 0} → Option ℕ → (plan cert : Option (String Z)) → Type 0
+AreOfStage (Some n) plan cert = Unit {0}
+AreOfStage None plan cert = (is_some plan || is_some cert) ≡ false
 
 -- the words of a command have this option, which takes no word
 abbrev pub is_set : List Row → List ℕ → Bool
@@ -96,6 +108,12 @@ Asks name found (Change old new limit spare cert mixture counter) =
     × (first_of (codes "cert") found ≡ option_map string_bytes cert)
     × (first_of (codes "mixture") found ≡ option_map string_bytes mixture)
     × (first_of (codes "counter") found ≡ option_map string_bytes counter)
+Asks name found (Order old new limit spare stage plan cert) =
+    (name ≡ codes "order") × Names found (codes "old") old × Names found (codes "new") new
+    × Gives found (codes "limit") limit × Gives found (codes "spare") spare
+    × GivesIfAny found (codes "stage") stage
+    × (first_of (codes "plan") found ≡ option_map string_bytes plan)
+    × (first_of (codes "cert") found ≡ option_map string_bytes cert) × AreOfStage stage plan cert
 Asks name found (Mend plan limit spare mended cert) =
     (name ≡ codes "mend") × Names found (codes "old") plan
     × Gives found (codes "limit") limit × Gives found (codes "spare") spare
@@ -177,6 +195,8 @@ reads_of (Codes plan) = one_read (string_bytes plan)
 reads_of (Audit plan limit spare cert counter) = one_read (string_bytes plan)
 reads_of (Change old new limit spare cert mixture counter) =
     two_read (string_bytes old) (string_bytes new)
+reads_of (Order old new limit spare stage plan cert) =
+    two_read (string_bytes old) (string_bytes new)
 reads_of (Mend plan limit spare mended cert) = one_read (string_bytes plan)
 reads_of (Survive plan risks) =
     Some (string_bytes plan) ∷ option_map string_bytes risks ∷ None ∷ []
@@ -206,6 +226,11 @@ made_by (Change old new limit spare cert mixture counter) = record {
   plan = option_map string_bytes mixture;
   cert = option_map string_bytes cert;
   script = option_map string_bytes counter;
+}
+made_by (Order old new limit spare stage plan cert) = record {
+  plan = option_map string_bytes plan;
+  cert = option_map string_bytes cert;
+  script = None;
 }
 made_by (Mend plan limit spare mended cert) = record {
   plan = option_map string_bytes mended;

@@ -29,6 +29,10 @@ limit = number_option (codes "limit") 62
 abbrev pub spare : Rule
 spare = number_option (codes "spare") 15
 
+-- the option of the number of a stage
+abbrev pub stage : Rule
+stage = number_option (codes "stage") 128
+
 -- an argument that has to be given
 abbrev pub needed : Rule → Rule
 needed r = record r { required = true }
@@ -92,6 +96,12 @@ change_words = with_rule (with_rule (with_rule (with_rule (with_rule (with_rule 
     (new_app (codes "change")) (file (codes "old"))) (file (codes "new"))) (needed limit))
     (needed spare)) (option (codes "cert"))) (option (codes "mixture"))) (option (codes "counter"))
 
+-- two plans, and what is to be made of a stage
+abbrev pub order_words : App
+order_words = with_rule (with_rule (with_rule (with_rule (with_rule (with_rule (with_rule
+    (new_app (codes "order")) (file (codes "old"))) (file (codes "new"))) (needed limit))
+    (needed spare)) stage) (option (codes "plan"))) (option (codes "cert"))
+
 -- the arguments of `draw`
 abbrev pub draw_words : App
 draw_words =
@@ -104,7 +114,7 @@ explain_words =
     with_rule (new_app (codes "explain"))
     (record (new_rule (codes "code")) { value_names = 1; action = Some Set })
 
--- the program takes its words from the first on, prints its version, and has twelve commands
+-- the program takes its words from the first on, and prints its version
 abbrev pub top_words : App
 top_words =
     let app = new_app (codes "telexplan") in
@@ -114,9 +124,9 @@ top_words =
 abbrev pub judging_words : App
 judging_words =
     with_subcommand (with_subcommand (with_subcommand (with_subcommand (with_subcommand
-    (with_subcommand (with_subcommand
+    (with_subcommand (with_subcommand (with_subcommand
     top_words lint_words.top) audit_words.top) grade_words.top) mend_words.top) change_words.top)
-    survive_words.top) check_words.top
+    order_words.top) survive_words.top) check_words.top
 
 -- the words of the program: all its commands
 abbrev pub program_words : App

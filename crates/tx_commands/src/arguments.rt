@@ -97,6 +97,14 @@ impl<'a> Syntax<'a> {
         let spare = spare(self.alloc).required(needed);
         self.arg(limit).arg(spare)
     }
+
+    /// Adds the number of a stage.
+    pub(crate) fn stage(self) -> Syntax<'a>
+        ensures { (app : App) → Takes self.entry app → Takes result (with_rule app grammar.stage) }
+    {
+        let stage = stage(self.alloc);
+        self.arg(stage)
+    }
 }
 
 /// A word that goes by position.
@@ -156,4 +164,20 @@ after a second head-on collision, or where more than K groups are
 listed and each of them is down or has no free circuit",
     )
     .value_parser(value_parser!(u8).range(0..=15))
+}
+
+/// How many stages an order has at the most.
+pub(crate) const MOST_STAGES: u8 = 128;
+
+fn stage<'a>(alloc: Global) -> Arg<'a>
+    ensures rule { rule_of result ≡ grammar.stage }
+    ensures local { result.global ≡ false }
+{
+    option(
+        alloc,
+        "stage",
+        "N: from 1",
+        "The stage of which --plan and --cert write",
+    )
+    .value_parser(value_parser!(u8).range(0..=128))
 }

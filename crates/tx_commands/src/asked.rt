@@ -5,6 +5,7 @@ ghost use Rattle.tx_commands.specs.Commands.{IsInRange, Names, Gives, is_set, As
 ghost use Rattle.tx_commands.specs.Faults.{has};
 ghost use Rattle.tx_commands.specs.inner.Refused.{IsRefused};
 
+use crate::arguments::MOST_STAGES;
 use crate::command::Command;
 use crate::misuse::Misuse;
 use clap::ArgMatches;
@@ -130,6 +131,37 @@ pub(crate) fn change_of(alloc: Global, matches: &ArgMatches<'_>) -> Result<Comma
             cert,
             mixture,
             counter,
+        }),
+        _ => Err(Misuse::Incomplete),
+    }
+}
+
+/// The words of `order`. A file is made of a stage that is named.
+pub(crate) fn order_of(alloc: Global, matches: &ArgMatches<'_>) -> Result<Command, Misuse>
+    ensures range { IfOk result IsInRange }
+    ensures asked { IfOk result (Asks (codes "order") (rows_of (found_of matches.now))) }
+    ensures refused { IfErr result
+        (IsRefused (Some (codes "order", rows_of (found_of matches.now)))) }
+{
+    let old = text(alloc, matches, "old")?;
+    let new = text(alloc, matches, "new")?;
+    let plan = text(alloc, matches, "plan")?;
+    let cert = text(alloc, matches, "cert")?;
+    let stage = number(matches, "stage", MOST_STAGES);
+    match (is_given(matches, "stage"), stage) {
+        (true, None) => return Err(Misuse::Incomplete),
+        (false, _) if plan.is_some() || cert.is_some() => return Err(Misuse::StageMissing),
+        _ => {}
+    }
+    match (old, new, limits(matches)) {
+        (Some(old), Some(new), Some((limit, spare))) => Ok(Command::Order {
+            old,
+            new,
+            limit,
+            spare,
+            stage,
+            plan,
+            cert,
         }),
         _ => Err(Misuse::Incomplete),
     }

@@ -57,6 +57,17 @@ pub enum Command {
         mixture: Option<String>,
         counter: Option<String>,
     },
+    /// `order OLD NEW --limit L --spare K`. With the number of a stage the plan after it goes to a
+    /// file, if one is named, and so does the certificate of the stage.
+    Order {
+        old: String,
+        new: String,
+        limit: u8,
+        spare: u8,
+        stage: Option<u8>,
+        plan: Option<String>,
+        cert: Option<String>,
+    },
     /// `mend PLAN --limit L --spare K`: the mended plan goes to a file, if one is named, and so
     /// does its certificate.
     Mend {
@@ -117,44 +128,27 @@ impl<'a> Files<'a> {
         ensures cert { option_map (λ f. f.now) result.cert ≡ (made_by command.now).cert }
         ensures script { option_map (λ f. f.now) result.script ≡ (made_by command.now).script }
     {
+        let reads = reads_of(command);
         match command {
-            Command::Pipe => Files::reading(one(STANDARD_INPUT)),
-            Command::Run {
-                plan,
-                script,
-                checked,
-            } => Files::reading(run_files(plan, script, checked)),
-            Command::RunTelling { plan, script, .. } => Files::reading(two(plan, script)),
-            Command::Check { plan, cert, .. } => Files::reading(two(plan, cert)),
-            Command::Lint { plan }
-            | Command::Codes { plan }
-            | Command::Grade { plan }
-            | Command::Trace { plan, .. }
-            | Command::Draw { plan, .. } => Files::reading(one(plan)),
-            Command::Audit {
-                plan,
-                cert,
-                counter,
-                ..
-            } => Files::new(one(plan), None, cert, counter.as_deref()),
+            Command::Audit { cert, counter, .. } => {
+                Files::new(reads, None, cert, counter.as_deref())
+            }
             Command::Change {
-                old,
-                new,
                 cert,
                 mixture,
                 counter,
                 ..
-            } => Files::new(two(old, new), mixture.as_deref(), cert, counter.as_deref()),
-            Command::Mend {
-                plan,
-                mended,
-                cert,
-                ..
-            } => Files::new(one(plan), mended.as_deref(), cert, None),
-            Command::Survive { plan, risks } => {
-                Files::reading([Some(plan.as_str()), risks.as_deref(), None])
+            } => Files::new(reads, mixture.as_deref(), cert, counter.as_deref()),
+            Command::Order { plan, cert, .. } => Files::new(reads, plan.as_deref(), cert, None),
+            Command::Mend { mended, cert, .. } => {
+                Files::new(reads, mended.as_deref(), cert, None)
             }
-            Command::Explain { .. } => Files::reading([None, None, None]),
+            _ => Files {
+                reads,
+                plan: None,
+                cert: None,
+                script: None,
+            },
         }
     }
 
@@ -178,26 +172,37 @@ impl<'a> Files<'a> {
         }
     }
 
-    /// Files that are read alone.
-    fn reading(reads: [Option<&'a str>; 3]) -> Files<'a>
-        ensures reads { named result.reads ≡ named reads.entry }
-        ensures plan { option_map (λ f. f.now) result.plan ≡ None }
-        ensures cert { option_map (λ f. f.now) result.cert ≡ None }
-        ensures script { option_map (λ f. f.now) result.script ≡ None }
-    {
-        Files {
-            reads,
-            plan: None,
-            cert: None,
-            script: None,
-        }
-    }
-
     /// Those that it may make, in the order in which they are made.
     pub fn makes(&self) -> [Option<&'a str>; 3]
         ensures { named result ≡ named (self.now.plan ∷ self.now.cert ∷ self.now.script ∷ []) }
     {
         [self.plan, self.cert, self.script]
+    }
+}
+
+/// The files that a command reads.
+fn reads_of(command: &Command) -> [Option<&str>; 3]
+    ensures { named result ≡ reads_of command.now }
+{
+    match command {
+        Command::Pipe => one(STANDARD_INPUT),
+        Command::Run {
+            plan,
+            script,
+            checked,
+        } => run_files(plan, script, checked),
+        Command::RunTelling { plan, script, .. } => two(plan, script),
+        Command::Check { plan, cert, .. } => two(plan, cert),
+        Command::Change { old, new, .. } | Command::Order { old, new, .. } => two(old, new),
+        Command::Lint { plan }
+        | Command::Codes { plan }
+        | Command::Audit { plan, .. }
+        | Command::Mend { plan, .. }
+        | Command::Grade { plan }
+        | Command::Trace { plan, .. }
+        | Command::Draw { plan, .. } => one(plan),
+        Command::Survive { plan, risks } => [Some(plan.as_str()), risks.as_deref(), None],
+        Command::Explain { .. } => [None, None, None],
     }
 }
 

@@ -145,6 +145,40 @@ that plan, if there is one",
     .command
 }
 
+const ORDER_HELP: &str =
+    "Example: telexplan order own.plan new.plan --limit 1 --spare 1 --stage 1 --plan first.plan
+
+Exit status: 0 after YES, 1 after NO, 2 for a refused text and for plans of two networks, 3 for a
+failed read or write, 4 when out of memory, 64 for refused words, and for a stage that the order
+does not have";
+
+fn order_grammar<'a>(alloc: Global) -> Result<clap::Command<'a>, AllocError>
+    ensures { IfOk result (λ c. app_of c ≡ grammar.order_words) }
+{
+    Syntax::new(
+        alloc,
+        "order",
+        "Say in which stages the lists of a plan can change into those of another, if any are safe",
+        ORDER_HELP,
+    )
+    .file("old", "OLD", OLD_PLAN)
+    .file("new", "NEW", NEW_PLAN)
+    .limits(true)
+    .stage()
+    .option(
+        "plan",
+        "OUT",
+        "After YES, write the plan after that stage to this file",
+    )
+    .option(
+        "cert",
+        "CERT",
+        "After YES, write a certificate of the plans before and after that
+stage to this file",
+    )
+    .command
+}
+
 const SURVIVE_HELP: &str =
     "Of an exchange that fails, the calls that start there and those for codes at home there are
 left out.
@@ -209,7 +243,10 @@ pub(crate) fn judging_grammar<'a>(alloc: Global) -> Result<clap::Command<'a>, Al
     );
     let program = with_command(
         with_command(program, change_grammar(alloc)),
-        survive_grammar(alloc),
+        order_grammar(alloc),
     );
-    with_command(program, check_grammar(alloc))
+    with_command(
+        with_command(program, survive_grammar(alloc)),
+        check_grammar(alloc),
+    )
 }

@@ -7,7 +7,7 @@ ghost use Rattle.tx_commands.specs.Grammar.{program_words};
 ghost use Rattle.tx_commands.specs.Faults.{IsRefusalIn, IsRefusalOf};
 ghost use Rattle.tx_commands.specs.inner.Refused.{IsRefused};
 
-use crate::asked::{change_of, explain_of, mend_of, plan_command, text};
+use crate::asked::{change_of, explain_of, mend_of, order_of, plan_command, text};
 use crate::command::Command;
 use crate::fault::WordsFault;
 use crate::files::clash;
@@ -26,6 +26,7 @@ fn command_of(alloc: Global, name: &str, matches: &ArgMatches<'_>) -> Result<Com
     match name {
         "mend" => return mend_of(alloc, matches),
         "change" => return change_of(alloc, matches),
+        "order" => return order_of(alloc, matches),
         "explain" => return explain_of(alloc, matches),
         _ => {}
     }
@@ -90,6 +91,11 @@ fn words_fault(grammar: &mut clap::Command<'_>, misuse: Misuse) -> Result<WordsF
             grammar,
             ErrorKind::MissingRequiredArgument,
             "--limit and --spare go together, and with --code",
+        ),
+        Misuse::StageMissing => in_its_words(
+            grammar,
+            ErrorKind::MissingRequiredArgument,
+            "--plan and --cert go with --stage",
         ),
         Misuse::NoSuchCode => in_its_words(
             grammar,

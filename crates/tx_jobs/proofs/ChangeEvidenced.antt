@@ -8,7 +8,7 @@ use Rattle.tx_change.specs.MixtureShown.{ShowsFirstWalk, MixtureAnswer}
 use Rattle.tx_jobs.specs.declared.change.Changed.{Changed}
 use Rattle.tx_jobs.specs.declared.change.Changed.TheVariants.{Sound as FoundSound, Unsound as FoundUnsound}
 use Rattle.tx_jobs.specs.declared.job_fault.JobFault.{JobFault}
-use Rattle.tx_jobs.specs.declared.job_fault.JobFault.TheVariants.{Plan as PlanFault, Cert, Script, Read, Write, NoMemory, OldPlan, NewPlan, TwoNetworks, Risks, NoSuchExchange, NoSuchCode}
+use Rattle.tx_jobs.specs.declared.job_fault.JobFault.TheVariants.{Plan as PlanFault, Cert, Script, Read, Write, NoMemory, OldPlan, NewPlan, TwoNetworks, Risks, NoSuchStage, NoSuchExchange, NoSuchCode}
 use Rattle.tx_jobs.specs.declared.mixture.ChangeEvidence.{ChangeEvidence}
 use Rattle.tx_jobs.specs.JobFaults.{mark_after}
 use Rattle.tx_jobs.specs.ChangeEvidences.{IsMixtureOf, IsChangeEvidenceOf}
@@ -43,6 +43,7 @@ module _ {A : Type 0} (mark : Bool) (limit spare : ℕ) where
   mixture_mark old new findings (Err (NewPlan f)) h = absurd h
   mixture_mark old new findings (Err (TwoNetworks d)) h = absurd h
   mixture_mark old new findings (Err (Risks f)) h = absurd h
+  mixture_mark old new findings (Err (NoSuchStage stages)) h = absurd h
   mixture_mark old new findings (Err NoSuchExchange) h = absurd h
   mixture_mark old new findings (Err NoSuchCode) h = absurd h
 

@@ -11,13 +11,14 @@ use Rattle.tx_audit.specs.Scripts.{script_written}
 use Rattle.tx_audit.specs.declared.checked.Checked.TheVariants.{Ran as RanAfterYes, Denied}
 use Rattle.tx_explain.specs.Written.{explanation_text}
 use Rattle.tx_commands.specs.declared.command.Command.{Command}
-use Rattle.tx_commands.specs.declared.command.Command.TheVariants.{Pipe, Run, RunTelling, Check, Lint, Codes, Audit, Change, Mend, Survive, Grade, Trace, Draw, Explain}
+use Rattle.tx_commands.specs.declared.command.Command.TheVariants.{Pipe, Run, RunTelling, Check, Lint, Codes, Audit, Change, Order, Mend, Survive, Grade, Trace, Draw, Explain}
 use Rattle.tx_jobs.specs.declared.evidence.Evidence.TheVariants.{Sound, Unsound}
 use Rattle.tx_jobs.specs.declared.mixture.ChangeEvidence.TheVariants.{Sound as SoundChange, Unsound as UnsoundChange}
+use Rattle.tx_order.specs.declared.staged.Staged.TheVariants.{Ordered as IsOrdered, NoOrder}
 use Rattle.tx_jobs.specs.declared.job_fault.JobFault.{JobFault}
 use Rattle.tx_jobs.specs.declared.job_fault.JobFault.TheVariants.{Read}
 use Rattle.tx_jobs.specs.declared.done.Done.{Done}
-use Rattle.tx_jobs.specs.declared.done.Done.TheVariants.{Ran, Told, Checked, Verified, Listed, Linted, Audited, Changed, Mended, Graded, Survived, Written}
+use Rattle.tx_jobs.specs.declared.done.Done.TheVariants.{Ran, Told, Checked, Verified, Listed, Linted, Audited, Changed, Ordered, Mended, Graded, Survived, Written}
 use Rattle.tx_jobs.specs.ChangeEvidences.{ChangeEvidenceAnswers, mixture_plan, mixture_events}
 use Rattle.tx_jobs.specs.CheckJobs.{CheckJobAnswers}
 use Rattle.tx_jobs.specs.CheckedJobs.{CheckedJobAnswers}
@@ -27,6 +28,7 @@ use Rattle.tx_jobs.specs.GradeJobs.{GradeJobAnswers}
 use Rattle.tx_jobs.specs.Jobs.{CodesJobAnswers, RunJobAnswers}
 use Rattle.tx_jobs.specs.LintJobs.{LintJobAnswers}
 use Rattle.tx_jobs.specs.MendJobs.{MendJobAnswers}
+use Rattle.tx_jobs.specs.OrderJobs.{OrderJobAnswers}
 use Rattle.tx_jobs.specs.PipeJobs.{PipeJobAnswers}
 use Rattle.tx_jobs.specs.SurviveJobs.{SurviveJobAnswers, SurviveRisksJobAnswers}
 use Rattle.tx_jobs.specs.TellingJobs.{TellingJobAnswers}
@@ -52,6 +54,8 @@ status_of_done (Audited (Sound plan cert)) = 0
 status_of_done (Audited (Unsound script)) = 1
 status_of_done (Changed (SoundChange plan cert)) = 0
 status_of_done (Changed (UnsoundChange mixture)) = 1
+status_of_done (Ordered (IsOrdered stage)) = 0
+status_of_done (Ordered NoOrder) = 1
 status_of_done (Mended (IsMended plan before cert)) = 0
 status_of_done (Mended (NoRouting plan unserved pair)) = 1
 status_of_done (Graded grade) = if is_some grade.plan then 0 else 1
@@ -67,6 +71,8 @@ texts_of (Audited (Unsound (Some s))) =
 texts_of (Changed (SoundChange p cert)) = None ∷ Some (cert_written p cert) ∷ None ∷ []
 texts_of (Changed (UnsoundChange (Some m))) = Some (plan_written (mixture_plan m)) ∷ None
     ∷ option_map (script_written (mixture_plan m)) (mixture_events m) ∷ []
+texts_of (Ordered (IsOrdered (Some (p, cert)))) =
+    Some (plan_written p) ∷ Some (cert_written p cert) ∷ None ∷ []
 texts_of (Mended (IsMended p before cert)) =
     Some (plan_written p) ∷ Some (cert_written p cert) ∷ None ∷ []
 texts_of other = None ∷ None ∷ None ∷ []
@@ -128,6 +134,8 @@ module _ {P : Type 0} (rest : P → Option (List ℕ)) (failed : P → Bool)
     IsDone (Change before after limit spare cert mixture counter) result =
         Does Changed (ChangeEvidenceAnswers (is_some mixture || is_some counter) limit spare
         first second out) result × third.unread
+    IsDone (Order before after limit spare stage plan cert) result =
+        Does Ordered (OrderJobAnswers stage limit spare first second out) result × third.unread
     IsDone (Mend plan limit spare mended cert) result =
         Does Mended (MendJobAnswers limit spare first out) result × Alone
     IsDone (Survive plan None) result = Does Survived (SurviveJobAnswers first out) result × Alone

@@ -23,10 +23,11 @@ use Rattle.tx_change.specs.declared.difference.NetworkList.{NetworkList}
 use Rattle.tx_change.specs.declared.difference.NetworkList.TheVariants.{Exchanges, Codes, Ranges, Groups}
 use Rattle.tx_change.specs.declared.difference.Difference.{Difference}
 use Rattle.tx_jobs.specs.declared.job_fault.JobFault.{JobFault}
-use Rattle.tx_jobs.specs.declared.job_fault.JobFault.TheVariants.{Plan, Cert, Script, Read, Write, NoMemory, OldPlan, NewPlan, TwoNetworks, Risks, NoSuchExchange, NoSuchCode}
+use Rattle.tx_jobs.specs.declared.job_fault.JobFault.TheVariants.{Plan, Cert, Script, Read, Write, NoMemory, OldPlan, NewPlan, TwoNetworks, Risks, NoSuchStage, NoSuchExchange, NoSuchCode}
 
 -- 2 for a refused text and for plans of two networks, 3 for a read or a write fault, 4 when memory
--- runs out, 64 for an exchange or a code that the plan does not have
+-- runs out, 64 for an exchange or a code that the plan does not have, and for a stage that the order
+-- does not have
 abbrev pub status_of : JobFault → ℕ
 status_of (Plan f) = 2
 status_of (Cert f) = 2
@@ -38,6 +39,7 @@ status_of (OldPlan f) = 2
 status_of (NewPlan f) = 2
 status_of (TwoNetworks d) = 2
 status_of (Risks f) = 2
+status_of (NoSuchStage stages) = 64
 status_of NoSuchExchange = 64
 status_of NoSuchCode = 64
 
@@ -135,6 +137,11 @@ difference_line d =
     codes "telexplan: plans of two networks: "
     ++ (list_word d.list ++ (codes " " ++ (decimal (d.index + 1) ++ codes " differs\n")))
 
+-- how many stages there are
+abbrev pub stage_count_line : ℕ → List ℕ
+stage_count_line n =
+    codes "telexplan: no such stage: the order has " ++ (decimal n ++ codes "\n")
+
 -- the line that says why a job stopped
 abbrev pub fault_line : JobFault → List ℕ
 fault_line (Plan f) = text_fault_line (codes "plan") f.line (plan_row f.kind)
@@ -147,5 +154,6 @@ fault_line (OldPlan f) = text_fault_line (codes "old plan") f.line (plan_row f.k
 fault_line (NewPlan f) = text_fault_line (codes "new plan") f.line (plan_row f.kind)
 fault_line (TwoNetworks d) = difference_line d
 fault_line (Risks f) = text_fault_line (codes "risks") f.line (risk_row f.kind)
+fault_line (NoSuchStage stages) = stage_count_line stages
 fault_line NoSuchExchange = codes "telexplan: no such exchange in the plan\n"
 fault_line NoSuchCode = codes "telexplan: no such code in the plan\n"

@@ -14,6 +14,7 @@ pub mod SurviveJobs
 pub mod Writables
 pub mod Evidences
 pub mod ChangeEvidences
+pub mod OrderJobs
 pub mod CheckedJobs
 pub mod Contents
 pub mod Done

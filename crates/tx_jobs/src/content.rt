@@ -13,7 +13,7 @@ use tx_text::{Sink, WriteFault};
 /// What goes into a file that a command makes.
 #[derive(Clone, Copy)]
 pub enum Content<'a, A: Allocator = Global> {
-    /// A plan that was mended, or a mixture of two plans.
+    /// A plan that was mended, a mixture of two plans, or a plan on the way of an order.
     Plan(&'a Plan<A>),
     /// A certificate of a plan.
     Cert(&'a Plan<A>, &'a Cert<A>),

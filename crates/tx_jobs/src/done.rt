@@ -9,6 +9,7 @@ use std::alloc::{Allocator, Global};
 use tx_audit::Checked;
 use tx_check::Verdict;
 use tx_mend::Mending;
+use tx_order::Staged;
 use tx_plan::CodeId;
 use tx_rank::Grade;
 use tx_risk::Survival;
@@ -34,6 +35,8 @@ pub enum Done<A: Allocator = Global> {
     Audited(Evidence<A>),
     /// A change of plan was judged.
     Changed(ChangeEvidence<A>),
+    /// An order of switching was found, or there is none.
+    Ordered(Staged<A>),
     /// A plan was mended, or cannot be.
     Mended(Mending<A>),
     /// A plan was graded.
@@ -61,12 +64,14 @@ impl<A: Allocator> Done<A> {
             | Done::Listed(None)
             | Done::Audited(Evidence::Sound(_, _))
             | Done::Changed(ChangeEvidence::Sound(_, _))
+            | Done::Ordered(Staged::Ordered(_))
             | Done::Mended(Mending::Mended(_, _, _)) => 0,
             Done::Checked(Checked::Denied(_))
             | Done::Verified(Verdict::No(_))
             | Done::Listed(Some(_))
             | Done::Audited(Evidence::Unsound(_))
             | Done::Changed(ChangeEvidence::Unsound(_))
+            | Done::Ordered(Staged::NoOrder)
             | Done::Mended(Mending::NoRouting(_, _, _))
             | Done::Survived(Survival::Ungraded(_)) => 1,
             Done::Told(strict, summary) => u8::from(*strict && summary.refused != 0),
@@ -99,7 +104,8 @@ impl<A: Allocator> Done<A> {
             Done::Changed(ChangeEvidence::Unsound(Some(Mixture::Unscripted(plan)))) => {
                 [Some(Content::Plan(plan)), None, None]
             }
-            Done::Mended(Mending::Mended(plan, _, cert)) => {
+            Done::Ordered(Staged::Ordered(Some((plan, cert))))
+            | Done::Mended(Mending::Mended(plan, _, cert)) => {
                 [
                     Some(Content::Plan(plan)),
                     Some(Content::Cert(plan, cert)),
@@ -114,6 +120,7 @@ impl<A: Allocator> Done<A> {
             | Done::Linted(_)
             | Done::Audited(Evidence::Unsound(None))
             | Done::Changed(ChangeEvidence::Unsound(None))
+            | Done::Ordered(Staged::Ordered(None) | Staged::NoOrder)
             | Done::Mended(Mending::NoRouting(_, _, _))
             | Done::Graded(_)
             | Done::Survived(_)

@@ -2,7 +2,7 @@
 ghost use Rattle.std.specs.Prelude.{◌≡◌};
 ghost use Rattle.tx_text.specs.Wrote.{Wrote};
 ghost use Rattle.tx_plantext.specs.PlanFaults.{fault_row};
-ghost use Rattle.tx_jobs.specs.JobFaults.{fault_line, text_fault_line, difference_line, list_word};
+ghost use Rattle.tx_jobs.specs.JobFaults.{fault_line, text_fault_line, difference_line, stage_count_line, list_word};
 
 use crate::job_fault::JobFault;
 use itoa::Buffer;
@@ -34,6 +34,7 @@ pub fn write_fault<W: Sink>(fault: &JobFault, sink: &mut W) -> Result<(), WriteF
         JobFault::Read => write_bytes(b"telexplan: read fault\n", sink),
         JobFault::Write => write_bytes(b"telexplan: write fault\n", sink),
         JobFault::NoMemory => write_bytes(b"telexplan: no memory\n", sink),
+        JobFault::NoSuchStage(stages) => write_stage_count(*stages, sink),
         JobFault::NoSuchExchange => {
             write_bytes(b"telexplan: no such exchange in the plan\n", sink)
         }
@@ -90,6 +91,18 @@ fn write_difference<W: Sink>(difference: &Difference, sink: &mut W) -> Result<()
             number.format(u32::from(difference.index) + 1).as_bytes(),
             b" differs\n",
         ],
+        sink,
+    )
+}
+
+/// Writes how many stages there are.
+fn write_stage_count<W: Sink>(stages: usize, sink: &mut W) -> Result<(), WriteFault>
+    ensures { Wrote W.taken W.failed sink.old sink.new (stage_count_line stages) result }
+{
+    let mut number = Buffer::new();
+    let stages = number.format(stages).as_bytes();
+    write_parts(
+        &[b"telexplan: no such stage: the order has ", stages, b"\n"],
         sink,
     )
 }

@@ -18,6 +18,7 @@ use crate::grade::grade_job;
 use crate::job_fault::JobFault;
 use crate::lint::lint_job;
 use crate::mend::mend_job;
+use crate::order::order_job;
 use crate::pipe::pipe_job;
 use crate::run::run_job;
 use crate::run_checked::run_checked_job;
@@ -60,6 +61,7 @@ pub fn do_job<A: Allocator + Copy, P: Source, Q: Source, R: Source, W: Sink>(
         | Command::RunTelling { .. }
         | Command::Check { .. }
         | Command::Change { .. }
+        | Command::Order { .. }
         | Command::Survive { risks: Some(_), .. } => {
             do_texts(alloc, command, first, second, third, out)
         }
@@ -142,6 +144,17 @@ fn do_texts<A: Allocator + Copy, P: Source, Q: Source, R: Source, W: Sink>(
             let shown = files.plan.or(files.script).is_some();
             let changed = change_evidence_job(alloc, first, second, limits, shown, out)?;
             Ok(Done::Changed(changed))
+        }
+        Command::Order {
+            limit,
+            spare,
+            stage,
+            ..
+        } => {
+            let (limit, spare) = (*limit, *spare);
+            let limits = Limits { limit, spare };
+            let staged = order_job(alloc, first, second, limits, *stage, out)?;
+            Ok(Done::Ordered(staged))
         }
         Command::Survive { risks: Some(_), .. } => {
             Ok(Done::Survived(survive_risks_job(alloc, first, second, out)?))

@@ -4,12 +4,14 @@ ghost use Rattle.tx_jobs.specs.declared.job_fault.JobFault.TheVariants.{NoMemory
 ghost use Rattle.tx_jobs.specs.JobFaults.{status_of, plan_fault, old_plan_fault, new_plan_fault, cert_fault, script_fault, risks_fault, run_fault};
 ghost use Rattle.tx_jobs.specs.AuditJobs.{audit_fault};
 ghost use Rattle.tx_jobs.specs.LintJobs.{lint_fault};
+ghost use Rattle.tx_jobs.specs.OrderJobs.{order_fault};
 
 use thiserror::Error;
 use tx_audit::AuditFault;
 use tx_cert::{CertFault, CertWord};
 use tx_change::Difference;
 use tx_lint::LintFault;
+use tx_order::OrderFault;
 use tx_plan::PlanRefusal;
 use tx_plantext::{PlanFault, PlanWord};
 use tx_risk::{RiskFault, RiskWord};
@@ -49,6 +51,9 @@ pub enum JobFault {
     /// The text of risks is refused.
     #[error("risks {0}")]
     Risks(RiskFault),
+    /// The order does not have the stage that was asked for, but so many.
+    #[error("the order has no such stage")]
+    NoSuchStage(usize),
     /// The plan has no exchange of the name that was asked for.
     #[error("the plan has no such exchange")]
     NoSuchExchange,
@@ -196,6 +201,18 @@ impl From<AuditFault> for JobFault {
     }
 }
 
+impl From<OrderFault> for JobFault {
+    ghost from_gives = { λ order fault. fault ≡ order_fault order };
+
+    fn from(fault: OrderFault) -> JobFault {
+        match fault {
+            OrderFault::NoSuchStage(stages) => JobFault::NoSuchStage(stages),
+            OrderFault::Write => JobFault::Write,
+            OrderFault::NoMemory => JobFault::NoMemory,
+        }
+    }
+}
+
 impl From<LintFault> for JobFault {
     ghost from_gives = { λ lint fault. fault ≡ lint_fault lint };
 
@@ -209,7 +226,8 @@ impl From<LintFault> for JobFault {
 
 impl JobFault {
     /// The exit status: 2 for a refused text and for plans of two networks, 3 for a read or a write
-    /// fault, 4 when memory runs out, 64 for an exchange or a code that the plan does not have.
+    /// fault, 4 when memory runs out, 64 for an exchange or a code that the plan does not have, and
+    /// for a stage that the order does not have.
     pub fn status(&self) -> u8
         ensures { result ≡ status_of self.now }
     {
@@ -223,7 +241,7 @@ impl JobFault {
             | JobFault::Risks(_) => 2,
             JobFault::Read | JobFault::Write => 3,
             JobFault::NoMemory => 4,
-            JobFault::NoSuchExchange | JobFault::NoSuchCode => 64,
+            JobFault::NoSuchStage(_) | JobFault::NoSuchExchange | JobFault::NoSuchCode => 64,
         }
     }
 

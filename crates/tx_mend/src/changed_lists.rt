@@ -73,7 +73,7 @@ fn write_change<A: Allocator, W: Sink>(
 }
 
 /// Writes the list of an exchange for a code, or that it needs none.
-fn write_list<A: Allocator, W: Sink>(
+pub fn write_list<A: Allocator, W: Sink>(
     plan: &Plan<A>,
     code: CodeId,
     exchange: ExchangeId,

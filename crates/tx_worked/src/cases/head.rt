@@ -35,6 +35,8 @@ pub enum Kind {
     Family,
     /// A family of plans, each of which is changed into each, judged by brute force.
     Pairs,
+    /// A family of plans, with the order from each to each, judged by brute force.
+    Orders,
     /// A family of plans, each of which is mended, judged by brute force.
     Mends,
     /// A family of plans, whose outages are judged by brute force.
@@ -81,11 +83,12 @@ static TEXTS: [(&str, TextKind); 9] = [
     ("starting", TextKind::Driven(Driven::Starting)),
 ];
 
-static OTHERS: [(&str, Kind); 7] = [
+static OTHERS: [(&str, Kind); 8] = [
     ("program", Kind::Program),
     ("arguments", Kind::Arguments),
     ("family", Kind::Family),
     ("pairs", Kind::Pairs),
+    ("orders", Kind::Orders),
     ("mends", Kind::Mends),
     ("outages", Kind::Outages),
     ("twins", Kind::Twins),

@@ -9,7 +9,7 @@ use tx_commands::{Command, Files, WordsFault, read_command};
 /// The words of a command by the kind of its case and, where it matters, the word after the kind.
 /// `@1`, `@2` and `@3` stand for the words after the kind: where there is no such word, what has it
 /// is left out. All that a command can print and make is asked for.
-static COMMANDS: [(&str, &str, &str); 17] = [
+static COMMANDS: [(&str, &str, &str); 19] = [
     ("pipe", "", ""),
     ("run", "", "run plan script"),
     (
@@ -36,6 +36,12 @@ static COMMANDS: [(&str, &str, &str); 17] = [
         "change",
         "",
         "change old new --limit=@1 --spare=@2 --cert=cert --mixture=plan --counter=script",
+    ),
+    ("order", "", "order old new --limit=@1 --spare=@2"),
+    (
+        "stage",
+        "",
+        "order old new --limit=@1 --spare=@2 --stage=@3 --plan=plan --cert=cert",
     ),
     (
         "mend",

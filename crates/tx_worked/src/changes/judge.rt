@@ -14,7 +14,7 @@ use tx_rank::{Finding, Ranking};
 use tx_text::NoMemory;
 
 /// Whether each mixture has ranks.
-fn all_are_ranked(mixing: Mixing<'_>) -> bool {
+pub fn all_are_ranked(mixing: Mixing<'_>) -> bool {
     for number in mixing.mixtures {
         match mixing.members.get(*number as usize) {
             Some(member) if member.is_ranked(mixing.limits) => {}
@@ -26,7 +26,7 @@ fn all_are_ranked(mixing: Mixing<'_>) -> bool {
 
 /// Whether the checker says Yes to a certificate for each mixture, the old plan and the new one
 /// among them.
-fn certifies_all(mixing: Mixing<'_>, cert: &Cert) -> bool {
+pub fn certifies_all(mixing: Mixing<'_>, cert: &Cert) -> bool {
     for number in mixing.mixtures {
         if let Some(member) = mixing.members.get(*number as usize) {
             match check(&member.plan, cert, mixing.limits.limit, mixing.limits.spare) {

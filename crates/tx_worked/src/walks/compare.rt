@@ -27,10 +27,14 @@ pub enum Difference {
     Grade,
     /// The two plans of a change are told to be of two networks.
     Networks,
-    /// What a finding of a change shows is no mixture.
+    /// What a finding of a change shows is no mixture, or a plan on the way of an order.
     NoMixture,
-    /// The audit of the mixture that a finding of a change shows.
+    /// The audit of the mixture that a finding of a change shows, or of one within a stage.
     Mixture,
+    /// What a stage of an order switches, or where an order leads.
+    Switched,
+    /// Two stages of an order could be one.
+    Joined,
     /// The walks of all routings of a network say otherwise than their audits what can be served.
     Routings,
     /// What cannot be served, or the ambiguous pair.

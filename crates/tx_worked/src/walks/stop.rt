@@ -1,4 +1,4 @@
-// Why the plans of a family, or their pairs, mendings or outages, are judged no further.
+// Why the plans of a family, or their pairs, orders, mendings or outages, are judged no further.
 use crate::cases::{Stop, Told, tell, tell_count};
 use crate::walks::compare::Difference;
 use tx_plan::Limits;
@@ -24,6 +24,8 @@ fn said(difference: Difference) -> (&'static [u8], u64) {
         Difference::Networks => (b"networks ", 0),
         Difference::NoMixture => (b"no mixture ", 0),
         Difference::Mixture => (b"mixture ", 0),
+        Difference::Switched => (b"switched ", 0),
+        Difference::Joined => (b"joined ", 0),
         Difference::Routings => (b"routings ", 0),
         Difference::Unserved => (b"unserved ", 0),
         Difference::Before => (b"before ", 0),

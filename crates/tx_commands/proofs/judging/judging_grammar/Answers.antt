@@ -14,6 +14,8 @@ returns c =
     c.with_command-program-2.ensures in
     let change = one_more _ _ _ _ _ mend c.change_grammar.ensures refl
     c.with_command-3.ensures in
-    let survive = one_more _ _ _ _ _ change c.survive_grammar.ensures refl
+    let order = one_more _ _ _ _ _ change c.order_grammar.ensures refl
     c.with_command-program-3.ensures in
-    one_more _ _ _ _ _ survive c.check_grammar.ensures refl c.with_command-4.ensures
+    let survive = one_more _ _ _ _ _ order c.survive_grammar.ensures refl
+    c.with_command-4.ensures in
+    one_more _ _ _ _ _ survive c.check_grammar.ensures refl c.with_command-5.ensures

@@ -49,5 +49,8 @@ returns-in-NoMemory g c = rw c.in-NoMemory.is c.write_bytes-in-NoMemory.ensures
 pub returns-in-NoSuchExchange : goal.returns-in-NoSuchExchange
 returns-in-NoSuchExchange g c = rw c.in-NoSuchExchange.is c.write_bytes-in-NoSuchExchange.ensures
 
+pub returns-in-NoSuchStage : goal.returns-in-NoSuchStage
+returns-in-NoSuchStage g c = rw c.in-NoSuchStage.is c.write_stage_count.ensures
+
 pub returns-in-NoSuchCode : goal.returns-in-NoSuchCode
 returns-in-NoSuchCode g c = rw c.in-NoSuchCode.is c.write_bytes-in-NoSuchCode.ensures

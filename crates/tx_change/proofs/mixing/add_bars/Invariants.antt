@@ -1,0 +1,7 @@
+use Rattle.std.proofs.Common.{◌≡◌, ◌++◌, take}
+use Rattle.std.specs.Prelude.{filter}
+use Rattle.tx_change.specs.inner.Kept.{keeps_bar}
+use Rattle.tx_change.proofs.mixing.add_bars.Given as goal
+
+abbrev pub invariant-loop-index : goal.invariant-loop-index
+invariant-loop-index g l = l.bars ≡ l.initial.bars ++ filter (keeps_bar l.from_new (g.M.Mixing.barred l.mixing)) (take l.index l.from.bars)

@@ -1,0 +1,12 @@
+use Rattle.std.proofs.Common.{ap, ◌∙◌, ◌++◌, not}
+use Rattle.std.specs.Prelude.{filter}
+use Rattle.tx_change.specs.inner.Kept.{has_bar_as}
+use Rattle.tx_change.proofs.Kept.{bar_not_before}
+use Rattle.tx_change.proofs.mixing.mixed_bars.Goals as goal
+
+pub add_bars-requires-2 : goal.add_bars-requires-2
+add_bars-requires-2 g c = λ r m there.
+    let old = c.args.old.now in
+    let barred = g.M.Mixing.barred c.args.mixing.now in
+    let kept = filter (λ q. not (barred q.exchange q.code)) old.bars in
+    ap (has_bar_as r) (c.in_ok-add_bars.ensures ∙ ap (λ l. l ++ kept) c.new-bars.ensures) ∙ bar_not_before barred r there old.bars

@@ -1,7 +1,0 @@
-use Rattle.std.proofs.Common.{◌≡◌, ◌++◌, take}
-use Rattle.std.specs.Prelude.{filter}
-use Rattle.tx_change.specs.inner.Kept.{keeps_route}
-use Rattle.tx_change.proofs.showing.add_routes.Given as goal
-
-abbrev pub invariant-loop-index : goal.invariant-loop-index
-invariant-loop-index g l = l.routes ≡ l.initial.routes ++ filter (keeps_route l.from_new l.taking) (take l.index l.from.routes)

@@ -1,0 +1,6 @@
+use Rattle.tx_change.proofs.JoinedNets.{AreJoinedBelow}
+use Rattle.tx_order.specs.Transitions.{plan_front}
+use Rattle.tx_order.proofs.between.joined_lists.Given as goal
+
+abbrev pub invariant-loop-index : goal.invariant-loop-index
+invariant-loop-index g l = AreJoinedBelow (plan_front l.transition l.from) (plan_front l.transition l.to) l.code l.index l.lists.items

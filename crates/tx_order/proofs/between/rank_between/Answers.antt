@@ -1,0 +1,40 @@
+use Rattle.std.proofs.Common.{◌≡◌, ℕ, ◌<◌, List, length, sym, subst, ◌∙◌, IfOk}
+use Rattle.tx_plan.specs.Plan.{Plan}
+use Rattle.tx_cert.specs.Certificate.{rank_at}
+use Rattle.tx_rank.specs.Walks.{Net}
+use Rattle.tx_rank.specs.Nets.{IsNet}
+use Rattle.tx_rank.specs.Judged.{AreOrigins, IsJudged}
+use Rattle.tx_change.specs.ChangeNets.{change_net}
+use Rattle.tx_change.specs.inner.Joined.{Joined, AreJoined, joined_net}
+use Rattle.tx_change.proofs.JoinedNets.{joined_is}
+use Rattle.tx_order.specs.Transitions.{Transition, IsTransition, plan_front}
+use Rattle.tx_order.proofs.TwoFronts.{rules_with, network_with, is_between_net}
+use Rattle.tx_order.proofs.between.rank_between.Goals as goal
+
+-- the network that the joined lists make over the old plan
+module _ (w : Transition) (is : IsTransition w) (p : Plan) (old : p ≡ w.old) (c from to : ℕ) (h : c < length w.old.codes) (lists : List Joined) (joined : AreJoined (plan_front w from) (plan_front w to) c lists) where
+  net_is : joined_net p lists c ≡ change_net (plan_front w from) (plan_front w to) c
+  net_is = (λ i. joined_net (old i) lists c) ∙ joined_is (plan_front w from) (plan_front w to) (rules_with w is (λ _. from)) (rules_with w is (λ _. to)) (network_with w is (λ _. from) (λ _. to)) c (is_between_net w is c from to h) lists joined
+
+  net_rules : IsNet (joined_net p lists c)
+  net_rules = subst IsNet (sym net_is) (is_between_net w is c from to h)
+
+pub invariant_of-net : goal.invariant_of-net
+invariant_of-net g c =
+    let w = c.args.transition.now in
+    let joined = subst (λ (j : List Joined). AreJoined (plan_front w c.args.from) (plan_front w c.args.to) c.args.code j) (sym c.deref.ensures.value) c.in_ok-lists.ensures in
+    record {
+      right = subst (λ (p : Plan). AreOrigins p c.args.origins.now) (sym c.old_plan.ensures) c.requires.origins;
+      net = net_rules w c.rules.ensures c.old_plan.result.now c.old_plan.ensures c.args.code c.args.from c.args.to c.requires.code c.deref.result.now joined;
+    }
+
+pub returns-clause-judged : goal.returns-clause-judged
+returns-clause-judged g c =
+    let w = c.args.transition.now in
+    let joined = subst (λ (j : List Joined). AreJoined (plan_front w c.args.from) (plan_front w c.args.to) c.args.code j) (sym c.deref.ensures.value) c.in_ok-lists.ensures in
+    let is = net_is w c.rules.ensures c.old_plan.result.now c.old_plan.ensures c.args.code c.args.from c.args.to c.requires.code c.deref.result.now joined in
+    let judged = λ (n : Net) (limit spare : ℕ). IfOk c.rank_code.result (λ _. IsJudged n c.args.code limit spare c.args.findings.now.items c.rank_code.new.findings.items (rank_at c.rank_code.new.cert c.args.code)) in
+    let net = change_net (plan_front w c.args.from) (plan_front w c.args.to) c.args.code in
+    subst (λ (k : ℕ). judged net w.limit k) c.limits-limits.ensures.spare
+    (subst (λ (l : ℕ). judged net l c.limits-limits.result.spare) c.limits-limits.ensures.limit
+    (subst (λ (n : Net). judged n c.limits-limits.result.limit c.limits-limits.result.spare) is c.rank_code.ensures.judged))

@@ -1,0 +1,7 @@
+use Rattle.std.proofs.Common.{◌+◌}
+use Rattle.tx_order.specs.Ordered.{fronts_before}
+use Rattle.tx_order.specs.inner.Certified.{IsCertifiedBelow}
+use Rattle.tx_order.proofs.orders.Order.cert.Given as goal
+
+abbrev pub invariant-loop-index : goal.invariant-loop-index
+invariant-loop-index g l = IsCertifiedBelow l.self.transition (fronts_before l.self l.stage) (fronts_before l.self (l.stage + 1)) l.index l.cert

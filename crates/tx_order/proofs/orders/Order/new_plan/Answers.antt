@@ -1,0 +1,6 @@
+use Rattle.std.proofs.Common.{ap, ◌∙◌}
+use Rattle.tx_order.specs.Ordered.{Order}
+use Rattle.tx_order.proofs.orders.Order.new_plan.Goals as goal
+
+pub returns : goal.returns
+returns g c = c.new_plan.ensures ∙ ap (λ (o : Order). o.transition.new) c.self.view_is

@@ -1,0 +1,23 @@
+use Rattle.std.proofs.Common.{ap, subst}
+use Rattle.tx_rank.specs.declared.ranking.Ranking.{Ranking}
+use Rattle.tx_audit.specs.Audits.{IsRightRanking}
+use Rattle.tx_order.specs.Transitions.{Transition}
+use Rattle.tx_order.proofs.Confirming.{ordered, old_denied, new_denied}
+use Rattle.tx_order.proofs.switching.order.Goals as goal
+
+pub returns-in_ok-order_of-in-Found-after-clause-right : goal.returns-in_ok-order_of-in-Found-after-clause-right
+returns-in_ok-order_of-in-Found-after-clause-right g c =
+    let e = c.in_ok-order_of-in-Found-after.ensures in
+    ordered c.in_ok-order_of-in-Found-after.field-0 e.kept c.args.old c.args.new c.args.limits.limit c.args.limits.spare
+    (ap (λ (w : Transition). w.old) e.same) (ap (λ (w : Transition). w.new) e.same) (ap (λ (w : Transition). w.limit) e.same) (ap (λ (w : Transition). w.spare) e.same) e.cleared
+
+pub returns-in_default-after-clause-right : goal.returns-in_default-after-clause-right
+returns-in_default-after-clause-right g c =
+    new_denied c.args.old c.args.new c.args.limits.limit c.args.limits.spare _ c.in_ok-before.after
+    (subst (λ (r : Ranking g.row.A.Denot). IsRightRanking c.args.old c.args.limits.limit c.args.limits.spare r) c.in-Found.is c.in_ok-before.ensures.old)
+    c.in_ok-before.ensures.new c.in_default-after.not-Found
+
+pub returns-in_default-clause-right : goal.returns-in_default-clause-right
+returns-in_default-clause-right g c =
+    old_denied c.args.old c.args.new c.args.limits.limit c.args.limits.spare c.in_ok-before.before c.in_ok-before.after
+    c.in_ok-before.ensures.old c.in_ok-before.ensures.new c.in_default.not-Found

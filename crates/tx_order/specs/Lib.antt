@@ -1,0 +1,11 @@
+pub mod Levels
+pub mod Stages
+pub mod Orders
+pub mod Fronts
+pub mod Transitions
+pub mod Joined
+pub mod Ordered
+pub mod Switchings
+pub mod OrderText
+pub mod OrderTold
+pub mod inner

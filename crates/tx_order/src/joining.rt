@@ -1,0 +1,100 @@
+// Levels of one code that are joined to a stage.
+ghost use Rattle.std.specs.Prelude.{◌≡◌, ◌<◌, ◌≤◌, ◌↔◌, true, length, IfOk};
+ghost use Rattle.tx_rank.specs.Judged.{AreOrigins};
+ghost use Rattle.tx_order.specs.Levels.{levels_of};
+ghost use Rattle.tx_order.specs.Joined.{IsSafeBetween, IsFurthest, AreAllStages};
+
+use crate::between::rank_between;
+use crate::entries::is_same;
+use crate::fronts::Fronts;
+use crate::transition::Transition;
+use std::alloc::Allocator;
+use tx_cert::Cert;
+use tx_plan::CodeId;
+use tx_text::NoMemory;
+
+/// Whether the same ranks certify a code at two fronts.
+fn joins<A: Allocator + Copy>(
+    alloc: A,
+    transition: &Transition<A>,
+    origins: &[bool],
+    code: CodeId,
+    from: u16,
+    to: u16,
+) -> Result<bool, NoMemory>
+    requires origins { AreOrigins transition.now.old origins.now }
+    requires code { code < length transition.now.old.codes }
+    ensures { IfOk result (λ safe. safe ≡ true ↔ IsSafeBetween transition.now code from to) }
+{
+    transition.rules();
+    let mut cert = Cert::new(alloc, transition.old_plan())?;
+    let mut findings = Vec::new(alloc);
+    rank_between(
+        alloc,
+        transition,
+        origins,
+        code,
+        from,
+        to,
+        &mut cert,
+        &mut findings,
+    )?;
+    Ok(findings.is_empty())
+}
+
+/// The greatest front up to which all levels of a code from another front on are safe in one stage.
+fn furthest<A: Allocator + Copy>(
+    alloc: A,
+    transition: &Transition<A>,
+    origins: &[bool],
+    code: CodeId,
+    from: u16,
+) -> Result<u16, NoMemory>
+    requires origins { AreOrigins transition.now.old origins.now }
+    requires code { code < length transition.now.old.codes }
+    requires from { from < levels_of transition.now.limit }
+    ensures up { IfOk result (λ to. from < to) }
+    ensures within { IfOk result (λ to. to ≤ levels_of transition.now.limit) }
+    ensures safe { IfOk result (λ to. IsSafeBetween transition.now code from to) }
+    ensures furthest { IfOk result (λ to. IsFurthest transition.now code from to) }
+{
+    transition.rules();
+    let last = transition.levels();
+    if joins(alloc, transition, origins, code, from, last)? {
+        return Ok(last);
+    }
+    let mut good = from + 1;
+    let mut bad = last;
+    while good + 1 < bad {
+        let middle = good + (bad - good) / 2;
+        if joins(alloc, transition, origins, code, from, middle)? {
+            good = middle;
+        } else {
+            bad = middle;
+        }
+    }
+    Ok(good)
+}
+
+/// The stages of a code, each as long as it is safe.
+pub fn stages_of_code<A: Allocator + Copy>(
+    alloc: A,
+    transition: &Transition<A>,
+    origins: &[bool],
+    code: CodeId,
+) -> Result<Fronts<A>, NoMemory>
+    requires origins { AreOrigins transition.now.old origins.now }
+    requires code { code < length transition.now.old.codes }
+    ensures { IfOk result (λ ends. AreAllStages transition.now code ends) }
+{
+    transition.rules();
+    let last = transition.levels();
+    let mut ends = Fronts::new(alloc);
+    let mut from = 0;
+    while from < last && !is_same(transition, code, from, last) {
+        let to = furthest(alloc, transition, origins, code, from)?;
+        ends.push(to)?;
+        from = to;
+    }
+    Ok(ends)
+}

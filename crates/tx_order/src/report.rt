@@ -1,0 +1,245 @@
+// The writer of the report of an order.
+ghost use Rattle.std.specs.Prelude.{◌≡◌, ◌<◌, ◌+◌};
+ghost use Rattle.std.specs.List.{flat_map};
+ghost use Rattle.tx_text.specs.Wrote.{Wrote};
+ghost use Rattle.tx_plan.specs.Routes.{route_list, is_barred};
+ghost use Rattle.tx_mend.specs.MendText.{line_unless_same};
+ghost use Rattle.tx_rank.specs.Report.{findings_of};
+ghost use Rattle.tx_order.specs.Ordered.{plan_before, stages_in};
+ghost use Rattle.tx_order.specs.OrderText.{pair_line, bar_line, entry_lines, exchange_lines, switched_lines, stage_line, stage_text, stages_text, finding_of, no_order_text, order_report};
+
+use crate::orders::Order;
+use crate::switching::Switching;
+use itoa::Buffer;
+use std::alloc::Allocator;
+use tx_mend::write_list;
+use tx_plan::{CodeId, ExchangeId, Limits, Plan};
+use tx_rank::{Finding, Ranking, write_asked, write_finding, write_no};
+use tx_text::{Sink, WriteFault, write_bytes, write_parts};
+
+/// Writes the report of the search for an order: the stages with what each switches and YES, or
+/// what is wrong with both plans and NO.
+pub fn write_switching<A: Allocator, W: Sink>(
+    switching: &Switching<A>,
+    limits: Limits,
+    sink: &mut W,
+) -> Result<(), WriteFault>
+    ensures { Wrote W.taken W.failed sink.old sink.new
+        (order_report limits.limit limits.spare switching.now) result }
+{
+    write_asked(b"ORDER", limits, sink)?;
+    match switching {
+        Switching::Ordered(order) => write_stages(order, sink),
+        Switching::NoOrder(plan, before, after) => write_no_order(plan, before, after, sink),
+    }
+}
+
+/// Writes the stages of an order, and YES.
+fn write_stages<A: Allocator, W: Sink>(order: &Order<A>, sink: &mut W) -> Result<(), WriteFault>
+    ensures { Wrote W.taken W.failed sink.old sink.new (stages_text order.now) result }
+{
+    for stage in 0..order.stages() {
+        write_stage(order, stage, sink)?;
+    }
+    write_parts(&[b"VERDICT YES\n"], sink)
+}
+
+/// Writes a stage with its number, from 1, and what it switches.
+fn write_stage<A: Allocator, W: Sink>(
+    order: &Order<A>,
+    stage: usize,
+    sink: &mut W,
+) -> Result<(), WriteFault>
+    requires { stage < stages_in order.now }
+    ensures { Wrote W.taken W.failed sink.old sink.new (stage_text order.now stage) result }
+{
+    write_number(order, stage, sink)?;
+    write_exchanges(order, stage, sink)
+}
+
+/// Writes the line that begins a stage.
+fn write_number<A: Allocator, W: Sink>(
+    order: &Order<A>,
+    stage: usize,
+    sink: &mut W,
+) -> Result<(), WriteFault>
+    requires { stage < stages_in order.now }
+    ensures { Wrote W.taken W.failed sink.old sink.new (stage_line stage) result }
+{
+    order.rules();
+    let mut buffer = Buffer::new();
+    let number = buffer.format(stage + 1).as_bytes();
+    write_parts(&[b"STAGE ", number, b"\n"], sink)
+}
+
+/// Writes what it switches, exchange by exchange.
+fn write_exchanges<A: Allocator, W: Sink>(
+    order: &Order<A>,
+    stage: usize,
+    sink: &mut W,
+) -> Result<(), WriteFault>
+    requires { stage < stages_in order.now }
+    ensures { Wrote W.taken W.failed sink.old sink.new
+        (switched_lines order.now.transition.new (plan_before order.now stage)
+        (plan_before order.now (stage + 1))) result }
+{
+    let plan = order.new_plan();
+    for index in 0..plan.exchanges() {
+        write_exchange(order, stage, ExchangeId::of(index), sink)?;
+    }
+    Ok(())
+}
+
+/// Writes what it switches at an exchange, code by code.
+fn write_exchange<A: Allocator, W: Sink>(
+    order: &Order<A>,
+    stage: usize,
+    exchange: ExchangeId,
+    sink: &mut W,
+) -> Result<(), WriteFault>
+    requires { stage < stages_in order.now }
+    ensures { Wrote W.taken W.failed sink.old sink.new
+        (exchange_lines order.now.transition.new (plan_before order.now stage)
+        (plan_before order.now (stage + 1)) exchange) result }
+{
+    let plan = order.new_plan();
+    for index in 0..plan.codes() {
+        write_entry(order, stage, exchange, CodeId::of(index), sink)?;
+    }
+    Ok(())
+}
+
+/// Writes what it switches at an exchange for a code: the bar and the list.
+fn write_entry<A: Allocator, W: Sink>(
+    order: &Order<A>,
+    stage: usize,
+    exchange: ExchangeId,
+    code: CodeId,
+    sink: &mut W,
+) -> Result<(), WriteFault>
+    requires { stage < stages_in order.now }
+    ensures { Wrote W.taken W.failed sink.old sink.new
+        (entry_lines order.now.transition.new (plan_before order.now stage)
+        (plan_before order.now (stage + 1)) exchange code) result }
+{
+    write_bar(order, stage, exchange, code, sink)?;
+    write_switched_list(order, stage, exchange, code, sink)
+}
+
+/// Writes that a bar is set or lifted, if it is.
+fn write_bar<A: Allocator, W: Sink>(
+    order: &Order<A>,
+    stage: usize,
+    exchange: ExchangeId,
+    code: CodeId,
+    sink: &mut W,
+) -> Result<(), WriteFault>
+    requires { stage < stages_in order.now }
+    ensures { Wrote W.taken W.failed sink.old sink.new
+        (bar_line order.now.transition.new exchange code
+        (is_barred (plan_before order.now stage) exchange code)
+        (is_barred (plan_before order.now (stage + 1)) exchange code)) result }
+{
+    order.rules();
+    let plan = order.new_plan();
+    let before = order.is_barred(stage, exchange, code);
+    let now = order.is_barred(stage + 1, exchange, code);
+    match (before, now) {
+        (false, true) => write_pair(plan, b"BAR ", exchange, code, sink),
+        (true, false) => write_pair(plan, b"UNBAR ", exchange, code, sink),
+        (false, false) | (true, true) => Ok(()),
+    }
+}
+
+/// Writes an exchange and a code after a word.
+fn write_pair<A: Allocator, W: Sink>(
+    plan: &Plan<A>,
+    word: &[u8],
+    exchange: ExchangeId,
+    code: CodeId,
+    sink: &mut W,
+) -> Result<(), WriteFault>
+    ensures { Wrote W.taken W.failed sink.old sink.new
+        (pair_line plan.now word.now exchange code) result }
+{
+    let name = plan.exchange_name(exchange);
+    write_parts(&[word, name, b" ", plan.code_figures(code), b"\n"], sink)
+}
+
+/// Writes the list that is set, if it is another one.
+fn write_switched_list<A: Allocator, W: Sink>(
+    order: &Order<A>,
+    stage: usize,
+    exchange: ExchangeId,
+    code: CodeId,
+    sink: &mut W,
+) -> Result<(), WriteFault>
+    requires { stage < stages_in order.now }
+    ensures { Wrote W.taken W.failed sink.old sink.new
+        (line_unless_same order.now.transition.new code exchange
+        (route_list (plan_before order.now stage) exchange code)
+        (route_list (plan_before order.now (stage + 1)) exchange code)) result }
+{
+    order.rules();
+    if order.list(stage, exchange, code) == order.list(stage + 1, exchange, code) {
+        return Ok(());
+    }
+    write_list(order.new_plan(), code, exchange, sink)
+}
+
+/// Writes the findings of the old plan and of the new one, and NO with their number.
+fn write_no_order<A: Allocator, W: Sink>(
+    plan: &Plan<A>,
+    before: &Ranking<A>,
+    after: &Ranking<A>,
+    sink: &mut W,
+) -> Result<(), WriteFault>
+    ensures { Wrote W.taken W.failed sink.old sink.new
+        (no_order_text plan.now (findings_of before.now) (findings_of after.now)) result }
+{
+    let before = findings(before);
+    let after = findings(after);
+    write_findings(plan, b"OLD ", before, sink)?;
+    write_findings(plan, b"NEW ", after, sink)?;
+    write_no(before.len() + after.len(), sink)
+}
+
+/// What a ranking found.
+fn findings<A: Allocator>(ranking: &Ranking<A>) -> &[Finding<A>]
+    ensures { result.now ≡ findings_of ranking.now }
+{
+    match ranking {
+        Ranking::Found(_) => &[],
+        Ranking::Fails(findings) => findings.as_slice(),
+    }
+}
+
+/// Writes the line of each finding after a word.
+fn write_findings<A: Allocator, W: Sink>(
+    plan: &Plan<A>,
+    word: &[u8],
+    findings: &[Finding<A>],
+    sink: &mut W,
+) -> Result<(), WriteFault>
+    ensures { Wrote W.taken W.failed sink.old sink.new
+        (flat_map (finding_of plan.now word.now) findings.now) result }
+{
+    for i in 0..findings.len() {
+        write_finding_of(plan, word, &findings[i], sink)?;
+    }
+    Ok(())
+}
+
+/// Writes the line of a finding after a word.
+fn write_finding_of<A: Allocator, W: Sink>(
+    plan: &Plan<A>,
+    word: &[u8],
+    finding: &Finding<A>,
+    sink: &mut W,
+) -> Result<(), WriteFault>
+    ensures { Wrote W.taken W.failed sink.old sink.new
+        (finding_of plan.now word.now finding.now) result }
+{
+    write_bytes(word, sink)?;
+    write_finding(plan, finding, sink)
+}
