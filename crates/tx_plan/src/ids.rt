@@ -60,13 +60,6 @@ impl Model for CodeId {
 }
 
 impl CodeId {
-    /// Its index.
-    pub(crate) fn index(self) -> u16
-        ensures { result ≡ self }
-    {
-        self.index
-    }
-
     /// The code at an index.
     pub fn of(index: usize) -> CodeId
         requires { index < 65536 }
@@ -240,7 +233,7 @@ impl Hash for Line {
     ghost respects_eq = { λ l m h. ap line_bytes (same_line-is l m h) };
 
     fn hash<H: Hasher>(&self, state: &mut H) {
-        state.write_u16(self.code.index());
+        state.write_u16(self.code.index);
         state.write(self.national.padded());
     }
 }
