@@ -1,5 +1,5 @@
 -- What is found in a plan's text: its faults, or if it has none its warnings.
-use Rattle.std.specs.Prelude.{◌≡◌, ℕ, List, [], ◌∷◌, map, Option}
+use Rattle.std.specs.Prelude.{◌≡◌, ◌≢◌, ℕ, List, [], ◌∷◌, map, Option}
 use Rattle.std.specs.List.{flat_map}
 use Rattle.std.specs.Option.{option_map}
 use Rattle.std.specs.Io.KnownBytes.{prepend_known, IsAtEnd}
@@ -7,6 +7,9 @@ use Rattle.tx_plan.specs.Plan.{Plan}
 use Rattle.tx_risk.specs.NamedRisks.{NamedRisk}
 use Rattle.tx_lint.specs.declared.fault.Fault.{Fault as FaultHeld}
 use Rattle.tx_lint.specs.declared.warning.Warning.{Warning}
+use Rattle.tx_lint.specs.declared.entry.Entry.{Entry}
+use Rattle.tx_lint.specs.declared.linting.Look.{Look}
+use Rattle.tx_lint.specs.declared.linting.Look.TheVariants.{Faults as HeldFaultsOf, Right}
 use Rattle.tx_lint.specs.declared.linting.Lint.{Lint as LintHeld}
 use Rattle.tx_lint.specs.declared.linting.Lint.TheVariants.{Faults as HeldFaults, Warnings as HeldWarnings}
 use Rattle.tx_lint.specs.AllFaults.{Fault, Progress, faults_of, progress_of}
@@ -31,6 +34,15 @@ IsLintBy (f ∷ fs) s risks l = l ≡ Faults (f ∷ fs)
 -- The lint of a text, with these risks
 abbrev pub IsLintOf : (text : List ℕ) → List NamedRisk → Lint → Type 0
 IsLintOf text risks l = IsLintBy (faults_of text) (progress_of text) risks l
+
+-- a text was looked through that has these faults, and of which this was read
+abbrev pub IsLookBy : {A : Type 0} → List Fault → Progress → Look A → Type 0
+IsLookBy faults s (HeldFaultsOf fs) = (map fault_held fs.items ≡ faults) × (faults ≢ [])
+IsLookBy faults s (Right t) = (faults ≡ []) × (t ≡ (s.plan, s.entries))
+
+-- The text was looked through
+abbrev pub IsLookOf : {A : Type 0} → (text : List ℕ) → Look A → Type 0
+IsLookOf text look = IsLookBy (faults_of text) (progress_of text) look
 
 -- What is written: a line for each fault or each warning
 abbrev pub lint_text : (file : List ℕ) → Lint → List ℕ

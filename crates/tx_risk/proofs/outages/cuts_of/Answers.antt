@@ -12,7 +12,7 @@ use Rattle.tx_risk.proofs.Marking.{same_risk}
 use Rattle.tx_risk.proofs.Ordering.{order_left}
 use Rattle.tx_risk.proofs.Unhit.{takes, unhit}
 use Rattle.tx_risk.proofs.AddedOutages.{codes_next}
-use Rattle.tx_risk.proofs.outages.add_outage.Goals as goal
+use Rattle.tx_risk.proofs.outages.cuts_of.Goals as goal
 
 pub loop-index-preserved-then-not-is_hit : goal.loop-index-preserved-then-not-is_hit
 loop-index-preserved-then-not-is_hit g c =
@@ -43,7 +43,7 @@ loop-index-preserved-then-not-is_hit g c =
       added = sym (append-nil old);
       these = subst (λ r. AreCutsOfCode {A = g.row.A.Denot} p r o c.of.result []) same none;
     } in
-    codes_next p risk o c.loop-index.index c.args.cuts.now.items old old c.loop-index.invariant
+    codes_next p risk o c.loop-index.index old old c.loop-index.invariant
     (subst (λ k. Adds (AreCutsOfCode p risk o k) old old) c.of.ensures mine)
 
 pub add_cuts-requires-clause-order : goal.add_cuts-requires-clause-order
@@ -75,7 +75,7 @@ loop-index-preserved g c =
     ∙ c.in_ok-gone.ensures h) in
     let mine = subst (λ r. Adds (AreCutsOfCode p r o c.of.result) old new) same
     c.in_ok-add_cuts.ensures in
-    codes_next p risk o c.loop-index.index c.args.cuts.now.items old new c.loop-index.invariant
+    codes_next p risk o c.loop-index.index old new c.loop-index.invariant
     (subst (λ k. Adds (AreCutsOfCode p risk o k) old new) c.of.ensures mine)
 
 pub returns : goal.returns
@@ -85,6 +85,5 @@ returns g c =
     let all : c.loop-index.index ≡ length p.codes =
     let t = c.loop-index-test.false in let a = c.loop-index.auto.index-end in
     let e = c.codes-index-end.ensures.count in omega arith in
-    subst (λ k. Adds (AreCutsBelow p (risk_of p c.args.risks.now o) o k) c.args.cuts.now.items
-    c.loop-index.cuts.items)
-    all c.loop-index.invariant
+    subst (λ k. AreCutsBelow p (risk_of p c.args.risks.now o) o k c.loop-index.cuts.items) all
+    c.loop-index.invariant
