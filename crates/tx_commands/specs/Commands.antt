@@ -28,12 +28,12 @@ IsInRange-prop (Run plan script None) = Unit-prop
 IsInRange-prop (Run plan script (Some (cert, limit, spare))) = ×_prop le_prop le_prop
 IsInRange-prop (RunTelling plan script strict echo summary) = Unit-prop
 IsInRange-prop (Check plan cert limit spare) = ×_prop le_prop le_prop
-IsInRange-prop (Lint plan) = Unit-prop
+IsInRange-prop (Lint plan risks) = Unit-prop
 IsInRange-prop (Codes plan) = Unit-prop
 IsInRange-prop (Audit plan limit spare cert counter) = ×_prop le_prop le_prop
 IsInRange-prop (Change old new limit spare cert mixture counter) = ×_prop le_prop le_prop
 IsInRange-prop (Mend plan limit spare mended cert) = ×_prop le_prop le_prop
-IsInRange-prop (Survive plan risks) = Unit-prop
+IsInRange-prop (Survive plan risks totals) = Unit-prop
 IsInRange-prop (Grade plan) = Unit-prop
 IsInRange-prop (Trace plan exchange code) = Unit-prop
 IsInRange-prop (Draw plan None) = Unit-prop
@@ -83,7 +83,9 @@ Asks name found (RunTelling plan script strict echo summary) =
 Asks name found (Check plan cert limit spare) =
     (name ≡ codes "check") × Names found (codes "plan") plan × Names found (codes "cert") cert
     × Gives found (codes "limit") limit × Gives found (codes "spare") spare
-Asks name found (Lint plan) = (name ≡ codes "lint") × Names found (codes "plan") plan
+Asks name found (Lint plan risks) =
+    (name ≡ codes "lint") × Names found (codes "plan") plan
+    × (first_of (codes "risks") found ≡ option_map string_bytes risks)
 Asks name found (Codes plan) = (name ≡ codes "codes") × Names found (codes "plan") plan
 Asks name found (Audit plan limit spare cert counter) =
     (name ≡ codes "audit") × Names found (codes "plan") plan
@@ -101,9 +103,14 @@ Asks name found (Mend plan limit spare mended cert) =
     × Gives found (codes "limit") limit × Gives found (codes "spare") spare
     × (first_of (codes "plan") found ≡ option_map string_bytes mended)
     × (first_of (codes "cert") found ≡ option_map string_bytes cert)
-Asks name found (Survive plan risks) =
+Asks name found (Survive plan None totals) =
     (name ≡ codes "survive") × Names found (codes "plan") plan
-    × (first_of (codes "risks") found ≡ option_map string_bytes risks)
+    × (first_of (codes "risks") found ≡ None) × (is_set found (codes "risks-only") ≡ false)
+    × (is_set found (codes "totals") ≡ totals)
+Asks name found (Survive plan (Some (risks, only)) totals) =
+    (name ≡ codes "survive") × Names found (codes "plan") plan
+    × Names found (codes "risks") risks × (is_set found (codes "risks-only") ≡ only)
+    × (is_set found (codes "totals") ≡ totals)
 Asks name found (Grade plan) = (name ≡ codes "grade") × Names found (codes "plan") plan
 Asks name found (Trace plan exchange code) =
     (name ≡ codes "trace") × Names found (codes "plan") plan
@@ -172,14 +179,16 @@ reads_of (Run plan script checked) = run_files (string_bytes plan) (string_bytes
 reads_of (RunTelling plan script strict echo summary) =
     two_read (string_bytes plan) (string_bytes script)
 reads_of (Check plan cert limit spare) = two_read (string_bytes plan) (string_bytes cert)
-reads_of (Lint plan) = one_read (string_bytes plan)
+reads_of (Lint plan None) = one_read (string_bytes plan)
+reads_of (Lint plan (Some risks)) = two_read (string_bytes plan) (string_bytes risks)
 reads_of (Codes plan) = one_read (string_bytes plan)
 reads_of (Audit plan limit spare cert counter) = one_read (string_bytes plan)
 reads_of (Change old new limit spare cert mixture counter) =
     two_read (string_bytes old) (string_bytes new)
 reads_of (Mend plan limit spare mended cert) = one_read (string_bytes plan)
-reads_of (Survive plan risks) =
-    Some (string_bytes plan) ∷ option_map string_bytes risks ∷ None ∷ []
+reads_of (Survive plan None totals) = one_read (string_bytes plan)
+reads_of (Survive plan (Some (risks, only)) totals) =
+    two_read (string_bytes plan) (string_bytes risks)
 reads_of (Grade plan) = one_read (string_bytes plan)
 reads_of (Trace plan exchange code) = one_read (string_bytes plan)
 reads_of (Draw plan routes) = one_read (string_bytes plan)

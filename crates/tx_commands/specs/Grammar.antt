@@ -52,7 +52,7 @@ check_words =
 
 -- the arguments of `lint`
 abbrev pub lint_words : App
-lint_words = plan_words (codes "lint")
+lint_words = with_rule (plan_words (codes "lint")) (option (codes "risks"))
 
 -- the arguments of `grade`
 abbrev pub grade_words : App
@@ -78,7 +78,10 @@ mend_words =
 
 -- the arguments of `survive`
 abbrev pub survive_words : App
-survive_words = with_rule (plan_words (codes "survive")) (option (codes "risks"))
+survive_words =
+    with_rule (with_rule (with_rule
+    (plan_words (codes "survive")) (option (codes "risks"))) (flag (codes "risks-only")))
+    (flag (codes "totals"))
 
 -- a command with a plan, and with two words that have to be given as it has
 abbrev pub trace_words : App

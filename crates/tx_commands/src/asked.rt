@@ -67,6 +67,18 @@ fn limits(matches: &ArgMatches<'_>) -> Option<(u8, u8)>
     }
 }
 
+/// The words of `lint` after the plan.
+fn lint_of(alloc: Global, plan: String, matches: &ArgMatches<'_>) -> Result<Command, Misuse>
+    requires { Names (rows_of (found_of matches.now)) (codes "plan") plan }
+    ensures range { IfOk result IsInRange }
+    ensures asked { IfOk result (Asks (codes "lint") (rows_of (found_of matches.now))) }
+    ensures refused { IfErr result
+        (IsRefused (Some (codes "lint", rows_of (found_of matches.now)))) }
+{
+    let risks = text(alloc, matches, "risks")?;
+    Ok(Command::Lint { plan, risks })
+}
+
 /// The words of `check` after the plan.
 fn check_of(alloc: Global, plan: String, matches: &ArgMatches<'_>) -> Result<Command, Misuse>
     requires { Names (rows_of (found_of matches.now)) (codes "plan") plan }
@@ -166,8 +178,18 @@ fn survive_of(alloc: Global, plan: String, matches: &ArgMatches<'_>) -> Result<C
     ensures refused { IfErr result
         (IsRefused (Some (codes "survive", rows_of (found_of matches.now)))) }
 {
-    let risks = text(alloc, matches, "risks")?;
-    Ok(Command::Survive { plan, risks })
+    let only = is_set(matches, "risks-only");
+    let totals = is_set(matches, "totals");
+    let risks = match text(alloc, matches, "risks")? {
+        Some(risks) => Some((risks, only)),
+        None if only => return Err(Misuse::RisksOnly),
+        None => None,
+    };
+    Ok(Command::Survive {
+        plan,
+        risks,
+        totals,
+    })
 }
 
 /// The words of `trace` after the plan.
@@ -284,7 +306,7 @@ pub(crate) fn plan_command(
     match name {
         "run" => run_of(alloc, plan, matches),
         "check" => check_of(alloc, plan, matches),
-        "lint" => Ok(Command::Lint { plan }),
+        "lint" => lint_of(alloc, plan, matches),
         "codes" => Ok(Command::Codes { plan }),
         "audit" => audit_of(alloc, plan, matches),
         "grade" => Ok(Command::Grade { plan }),

@@ -29,9 +29,11 @@ pub enum Command {
         limit: u8,
         spare: u8,
     },
-    /// `lint PLAN`: the faults or warnings of its text.
+    /// `lint PLAN`: the faults or warnings of its text, with the named risks of a file, if one is
+    /// named.
     Lint {
         plan: String,
+        risks: Option<String>,
     },
     /// `codes PLAN`.
     Codes {
@@ -66,10 +68,12 @@ pub enum Command {
         mended: Option<String>,
         cert: Option<String>,
     },
-    /// `survive PLAN`, with the named risks of a file, if one is named.
+    /// `survive PLAN`, with the named risks of a file, if one is named. The flag with them: these
+    /// alone. The other flag: totals alone.
     Survive {
         plan: String,
-        risks: Option<String>,
+        risks: Option<(String, bool)>,
+        totals: bool,
     },
     /// `grade PLAN`: with which limits and spare numbers the plan is safe.
     Grade {
@@ -126,7 +130,10 @@ impl<'a> Files<'a> {
             } => Files::reading(run_files(plan, script, checked)),
             Command::RunTelling { plan, script, .. } => Files::reading(two(plan, script)),
             Command::Check { plan, cert, .. } => Files::reading(two(plan, cert)),
-            Command::Lint { plan }
+            Command::Lint { plan, risks: None }
+            | Command::Survive {
+                plan, risks: None, ..
+            }
             | Command::Codes { plan }
             | Command::Grade { plan }
             | Command::Trace { plan, .. }
@@ -151,9 +158,15 @@ impl<'a> Files<'a> {
                 cert,
                 ..
             } => Files::new(one(plan), mended.as_deref(), cert, None),
-            Command::Survive { plan, risks } => {
-                Files::reading([Some(plan.as_str()), risks.as_deref(), None])
+            Command::Lint {
+                plan,
+                risks: Some(risks),
             }
+            | Command::Survive {
+                plan,
+                risks: Some((risks, _)),
+                ..
+            } => Files::reading(two(plan, risks)),
             Command::Explain { .. } => Files::reading([None, None, None]),
         }
     }

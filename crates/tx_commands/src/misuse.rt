@@ -15,6 +15,8 @@ pub(crate) enum Misuse {
     CheckedTelling,
     /// `draw` has one of `--limit` and `--spare` without the other, or both without `--code`.
     DrawTogether,
+    /// `survive` has `--risks-only` without `--risks`.
+    RisksOnly,
     /// `explain` has a word that is no code.
     NoSuchCode,
     /// Standard input is to be read for two files.

@@ -91,10 +91,15 @@ fn words_fault(grammar: &mut clap::Command<'_>, refusal: Misuse) -> Result<Words
             ErrorKind::MissingRequiredArgument,
             "--limit and --spare go together, and with --code",
         ),
+        Misuse::RisksOnly => in_its_words(
+            grammar,
+            ErrorKind::MissingRequiredArgument,
+            "--risks-only goes with --risks",
+        ),
         Misuse::NoSuchCode => in_its_words(
             grammar,
             ErrorKind::InvalidValue,
-            "no such code; there are X1 to X3, P3 to P22, A1 to A6, C1 to C10, S1 to S7, Q1 to Q11, M1 to M12, K1 to K7 and F1 to F5, those of a ticket, as NC or CLRA, and the names, as Overlap",
+            "no such code; there are X1 to X3, P3 to P22, A1 to A9, C1 to C10, S1 to S7, Q1 to Q11, M1 to M12, K1 to K7 and F1 to F5, those of a ticket, as NC or CLRA, and the names, as Overlap",
         ),
         Misuse::InputTwice => in_its_words(
             grammar,

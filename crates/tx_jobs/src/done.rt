@@ -71,7 +71,9 @@ impl<A: Allocator> Done<A> {
             | Done::Survived(Survival::Ungraded(_)) => 1,
             Done::Told(strict, summary) => u8::from(*strict && summary.refused != 0),
             Done::Graded(grade) => u8::from(grade.plan.is_none()),
-            Done::Survived(Survival::Tried(cuts)) => u8::from(!cuts.is_empty()),
+            Done::Survived(Survival::Tried(outcomes)) => {
+                u8::from(outcomes.iter().any(|outcome| !outcome.cuts.is_empty()))
+            }
             Done::Linted(status) => *status,
         }
     }

@@ -16,7 +16,7 @@ use crate::done::Done;
 use crate::draw::draw_job;
 use crate::grade::grade_job;
 use crate::job_fault::JobFault;
-use crate::lint::lint_job;
+use crate::lint::{lint_job, lint_risks_job};
 use crate::mend::mend_job;
 use crate::pipe::pipe_job;
 use crate::run::run_job;
@@ -60,10 +60,13 @@ pub fn do_job<A: Allocator + Copy, P: Source, Q: Source, R: Source, W: Sink>(
         | Command::RunTelling { .. }
         | Command::Check { .. }
         | Command::Change { .. }
+        | Command::Lint { risks: Some(_), .. }
         | Command::Survive { risks: Some(_), .. } => {
             do_texts(alloc, command, first, second, third, out)
         }
-        Command::Lint { plan } => Ok(Done::Linted(lint_job(alloc, first, plan.as_bytes(), out)?)),
+        Command::Lint { plan, risks: None } => {
+            Ok(Done::Linted(lint_job(alloc, first, plan.as_bytes(), out)?))
+        }
         Command::Codes { .. } => Ok(Done::Listed(codes_job(alloc, first, out)?)),
         Command::Audit { limit, spare, .. } => {
             let (limit, spare) = (*limit, *spare);
@@ -74,7 +77,11 @@ pub fn do_job<A: Allocator + Copy, P: Source, Q: Source, R: Source, W: Sink>(
             let (limit, spare) = (*limit, *spare);
             Ok(Done::Mended(mend_job(alloc, first, Limits { limit, spare }, out)?))
         }
-        Command::Survive { risks: None, .. } => Ok(Done::Survived(survive_job(alloc, first, out)?)),
+        Command::Survive {
+            risks: None,
+            totals,
+            ..
+        } => Ok(Done::Survived(survive_job(alloc, first, *totals, out)?)),
         Command::Grade { .. } => Ok(Done::Graded(grade_job(alloc, first, out)?)),
         Command::Trace { exchange, code, .. } => {
             trace_job(alloc, first, exchange.as_bytes(), code.as_bytes(), out)?;
@@ -143,8 +150,23 @@ fn do_texts<A: Allocator + Copy, P: Source, Q: Source, R: Source, W: Sink>(
             let changed = change_evidence_job(alloc, first, second, limits, shown, out)?;
             Ok(Done::Changed(changed))
         }
-        Command::Survive { risks: Some(_), .. } => {
-            Ok(Done::Survived(survive_risks_job(alloc, first, second, out)?))
+        Command::Lint {
+            plan,
+            risks: Some(_),
+        } => Ok(Done::Linted(lint_risks_job(
+            alloc,
+            first,
+            plan.as_bytes(),
+            second,
+            out,
+        )?)),
+        Command::Survive {
+            risks: Some((_, only)),
+            totals,
+            ..
+        } => {
+            let survival = survive_risks_job(alloc, first, second, *only, *totals, out)?;
+            Ok(Done::Survived(survival))
         }
         _ => unreachable!(),
     }

@@ -7,7 +7,7 @@ use Rattle.tx_commands.specs.Files.{reads_input_twice, overwrites}
 use Rattle.tx_commands.specs.Faults.{has, IsRunInPart}
 use Rattle.tx_commands.specs.declared.command.Command.{Command}
 use Rattle.tx_commands.specs.declared.misuse.Misuse.{Misuse}
-use Rattle.tx_commands.specs.declared.misuse.Misuse.TheVariants.{Together, CheckedTelling, DrawTogether, NoSuchCode, InputTwice, Overwrites}
+use Rattle.tx_commands.specs.declared.misuse.Misuse.TheVariants.{Together, CheckedTelling, DrawTogether, RisksOnly, NoSuchCode, InputTwice, Overwrites}
 
 -- `run` has a certificate, and an option by which it prints more
 pub record IsCheckedTelling (name : List ℕ) (found : List Row) : Type 0 where
@@ -22,6 +22,12 @@ pub record IsDrawInPart (name : List ℕ) (found : List Row) : Type 0 where
   pub some : (has found (codes "limit") || has found (codes "spare")) ≡ true
   pub not_all :
       (has found (codes "code") && (has found (codes "limit") && has found (codes "spare"))) ≡ false
+
+-- `survive` is to try the named risks alone, and none are named
+pub record IsRisksOnly (name : List ℕ) (found : List Row) : Type 0 where
+  pub survive : name ≡ codes "survive"
+  pub only : is_set found (codes "risks-only") ≡ true
+  pub none : has found (codes "risks") ≡ false
 
 -- `explain` has a word that asks for no entry of the table
 pub record IsNoCode (name : List ℕ) (found : List Row) : Type 0 where
@@ -44,6 +50,7 @@ abbrev pub IsRefused : Option (List ℕ × List Row) → Misuse → Type 0
 IsRefused command Together = IsSomeAnd command (λ c. IsRunInPart c.0 c.1)
 IsRefused command CheckedTelling = IsSomeAnd command (λ c. IsCheckedTelling c.0 c.1)
 IsRefused command DrawTogether = IsSomeAnd command (λ c. IsDrawInPart c.0 c.1)
+IsRefused command RisksOnly = IsSomeAnd command (λ c. IsRisksOnly c.0 c.1)
 IsRefused command NoSuchCode = IsSomeAnd command (λ c. IsNoCode c.0 c.1)
 IsRefused command InputTwice = AskForClash command InputTwice
 IsRefused command Overwrites = AskForClash command Overwrites
