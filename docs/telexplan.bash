@@ -13,10 +13,11 @@ _telexplan() {
                 *:audit:-*) words="--limit --spare --cert --counter --help" ;;
                 *:mend:-*) words="--limit --spare --plan --cert --help" ;;
                 *:change:-*) words="--limit --spare --cert --mixture --counter --help" ;;
-                *:survive:-*) words="--risks --help" ;;
+                *:lint:-*) words="--risks --help" ;;
+                *:survive:-*) words="--risks --risks-only --totals --help" ;;
                 *:check:-*) words="--limit --spare --help" ;;
                 *:run:-*) words="--cert --limit --spare --strict --echo --summary --help" ;;
-                *:lint:-* | *:grade:-* | *:codes:-* | *:trace:-*) words="--help" ;;
+                *:grade:-* | *:codes:-* | *:trace:-*) words="--help" ;;
                 *:draw:-*) words="--code --limit --spare --help" ;;
             esac
             ;;
