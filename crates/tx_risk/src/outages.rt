@@ -115,8 +115,8 @@ fn outages_of<A: Allocator + Copy>(
     Ok(outages)
 }
 
-/// What each named risk, each group and each exchange cuts off if it fails alone, in a plan that the
-/// ranks certify; or each named risk alone.
+/// What each named risk, each group and each exchange cuts off if it fails alone, in a plan that
+/// the ranks certify; or each named risk alone.
 pub fn all_outcomes<A: Allocator + Copy>(
     alloc: A,
     plan: &Plan<A>,
