@@ -83,11 +83,16 @@ survive_words =
     (plan_words (codes "survive")) (option (codes "risks"))) (flag (codes "risks-only")))
     (flag (codes "totals"))
 
--- a command with a plan, and with two words that have to be given as it has
+-- a word that goes by position, and need not be given
+abbrev pub word : List ℕ → Rule
+word id = record (new_rule id) { value_names = 1; action = Some Set }
+
+-- the arguments of `trace`
 abbrev pub trace_words : App
 trace_words =
-    with_rule (with_rule
-    (plan_words (codes "trace")) (file (codes "exchange"))) (file (codes "code"))
+    with_rule (with_rule (with_rule (with_rule
+    (plan_words (codes "trace")) (word (codes "exchange"))) (word (codes "code")))
+    (option (codes "down"))) (option (codes "group"))
 
 -- a command whose words are two plans
 abbrev pub change_words : App
@@ -103,9 +108,7 @@ draw_words =
 
 -- a code, which need not be given
 abbrev pub explain_words : App
-explain_words =
-    with_rule (new_app (codes "explain"))
-    (record (new_rule (codes "code")) { value_names = 1; action = Some Set })
+explain_words = with_rule (new_app (codes "explain")) (word (codes "code"))
 
 -- the program takes its words from the first on, prints its version, and has twelve commands
 abbrev pub top_words : App

@@ -202,13 +202,17 @@ fn trace_of(alloc: Global, plan: String, matches: &ArgMatches<'_>) -> Result<Com
 {
     let exchange = text(alloc, matches, "exchange")?;
     let code = text(alloc, matches, "code")?;
-    match (exchange, code) {
-        (Some(exchange), Some(code)) => Ok(Command::Trace {
+    let down = text(alloc, matches, "down")?;
+    let group = text(alloc, matches, "group")?;
+    match (exchange, code, down, group) {
+        (Some(exchange), Some(code), down, None) => Ok(Command::Trace {
             plan,
             exchange,
             code,
+            down,
         }),
-        _ => Err(Misuse::Incomplete),
+        (None, None, None, Some(group)) => Ok(Command::TraceGroup { plan, group }),
+        _ => Err(Misuse::TraceWords),
     }
 }
 

@@ -79,11 +79,18 @@ pub enum Command {
     Grade {
         plan: String,
     },
-    /// `trace PLAN EXCHANGE CODE`: how calls for the code go from the exchange.
+    /// `trace PLAN EXCHANGE CODE`: how calls for the code go from the exchange, while these groups
+    /// are down, if some are named.
     Trace {
         plan: String,
         exchange: String,
         code: String,
+        down: Option<String>,
+    },
+    /// `trace PLAN --group GROUP`: the lists that have the group.
+    TraceGroup {
+        plan: String,
+        group: String,
     },
     /// `draw PLAN [--code C [--limit L --spare K]]`: a picture of the plan, or of the routes for a
     /// code, with what an audit finds first if numbers are given.
@@ -132,11 +139,14 @@ impl<'a> Files<'a> {
             Command::Check { plan, cert, .. } => Files::reading(two(plan, cert)),
             Command::Lint { plan, risks: None }
             | Command::Survive {
-                plan, risks: None, ..
+                plan,
+                risks: None,
+                ..
             }
             | Command::Codes { plan }
             | Command::Grade { plan }
             | Command::Trace { plan, .. }
+            | Command::TraceGroup { plan, .. }
             | Command::Draw { plan, .. } => Files::reading(one(plan)),
             Command::Audit {
                 plan,

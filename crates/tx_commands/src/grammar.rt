@@ -66,10 +66,10 @@ fn codes_grammar<'a>(alloc: Global) -> Result<clap::Command<'a>, AllocError>
     .command
 }
 
-const TRACE_HELP: &str = "Example: telexplan trace own.plan NORTH 24
+const TRACE_HELP: &str = "Example: telexplan trace own.plan NORTH 24 --down CENO1,CENO2
 
 Exit status: 0 after the trace, 2 for a refused text, 3 for a failed read or write, 4 when out of
-memory, 64 for refused words, and for an exchange or a code that is not in the plan";
+memory, 64 for refused words, and for an exchange, a code or a group that is not in the plan";
 
 fn trace_grammar<'a>(alloc: Global) -> Result<clap::Command<'a>, AllocError>
     ensures { IfOk result (λ c. app_of c ≡ grammar.trace_words) }
@@ -80,12 +80,22 @@ fn trace_grammar<'a>(alloc: Global) -> Result<clap::Command<'a>, AllocError>
         "Show how calls for a code go from an exchange: the way while all is free, and the lists",
         TRACE_HELP,
     )
-    .file(
+    .word(
         "exchange",
         "EXCHANGE",
         "The exchange from which the calls go",
     )
-    .file("code", "CODE", "Their destination code")
+    .word("code", "CODE", "Their destination code")
+    .option(
+        "down",
+        "GROUP,..",
+        "The groups that are down, with a comma between two",
+    )
+    .option(
+        "group",
+        "GROUP",
+        "Show each list that has this group; without an exchange and a code",
+    )
     .command
 }
 

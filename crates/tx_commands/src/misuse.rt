@@ -17,6 +17,8 @@ pub(crate) enum Misuse {
     DrawTogether,
     /// `survive` has `--risks-only` without `--risks`.
     RisksOnly,
+    /// `trace` has neither an exchange and a code nor a group, or it has both.
+    TraceWords,
     /// `explain` has a word that is no code.
     NoSuchCode,
     /// Standard input is to be read for two files.

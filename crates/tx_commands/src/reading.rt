@@ -96,6 +96,11 @@ fn words_fault(grammar: &mut clap::Command<'_>, misuse: Misuse) -> Result<WordsF
             ErrorKind::MissingRequiredArgument,
             "--risks-only goes with --risks",
         ),
+        Misuse::TraceWords => in_its_words(
+            grammar,
+            ErrorKind::MissingRequiredArgument,
+            "trace takes an exchange and a code, or --group alone",
+        ),
         Misuse::NoSuchCode => in_its_words(
             grammar,
             ErrorKind::InvalidValue,

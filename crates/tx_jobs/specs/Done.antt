@@ -12,7 +12,7 @@ use Rattle.tx_audit.specs.Scripts.{script_written}
 use Rattle.tx_audit.specs.declared.checked.Checked.TheVariants.{Ran as RanAfterYes, Denied}
 use Rattle.tx_explain.specs.Written.{explanation_text}
 use Rattle.tx_commands.specs.declared.command.Command.{Command}
-use Rattle.tx_commands.specs.declared.command.Command.TheVariants.{Pipe, Run, RunTelling, Check, Lint, Codes, Audit, Change, Mend, Survive, Grade, Trace, Draw, Explain}
+use Rattle.tx_commands.specs.declared.command.Command.TheVariants.{Pipe, Run, RunTelling, Check, Lint, Codes, Audit, Change, Mend, Survive, Grade, Trace, TraceGroup, Draw, Explain}
 use Rattle.tx_jobs.specs.declared.evidence.Evidence.TheVariants.{Sound, Unsound}
 use Rattle.tx_jobs.specs.declared.mixture.ChangeEvidence.TheVariants.{Sound as SoundChange, Unsound as UnsoundChange}
 use Rattle.tx_jobs.specs.declared.job_fault.JobFault.{JobFault}
@@ -31,7 +31,7 @@ use Rattle.tx_jobs.specs.MendJobs.{MendJobAnswers}
 use Rattle.tx_jobs.specs.PipeJobs.{PipeJobAnswers}
 use Rattle.tx_jobs.specs.SurviveJobs.{SurviveJobAnswers, SurviveRisksJobAnswers}
 use Rattle.tx_jobs.specs.TellingJobs.{TellingJobAnswers}
-use Rattle.tx_jobs.specs.TraceJobs.{TraceJobAnswers}
+use Rattle.tx_jobs.specs.TraceJobs.{TraceJobAnswers, TraceGroupJobAnswers}
 
 -- the exit status
 abbrev pub status_of_done : {A : Type 0} → Done A → ℕ
@@ -135,9 +135,11 @@ module _ {P : Type 0} (rest : P → Option (List ℕ)) (failed : P → Bool)
     IsDone (Survive plan (Some (risks, only)) totals) result =
         Does Survived (SurviveRisksJobAnswers only totals first second out) result × third.unread
     IsDone (Grade plan) result = Does Graded (GradeJobAnswers first out) result × Alone
-    IsDone (Trace plan exchange code) result =
-        Does written (TraceJobAnswers (string_bytes exchange) (string_bytes code) first out) result
-        × Alone
+    IsDone (Trace plan exchange code down) result =
+        Does written (TraceJobAnswers (string_bytes exchange) (string_bytes code)
+        (option_map string_bytes down) first out) result × Alone
+    IsDone (TraceGroup plan group) result =
+        Does written (TraceGroupJobAnswers (string_bytes group) first out) result × Alone
     IsDone (Draw plan routes) result = HasDrawn first out routes result × Alone
     IsDone (Explain word) result =
         Does written (ToldText (explanation_text (option_map string_bytes word)) out) result

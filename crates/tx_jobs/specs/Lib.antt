@@ -8,6 +8,7 @@ pub mod ChangeJobs
 pub mod GradeJobs
 pub mod MendJobs
 pub mod LintJobs
+pub mod NamedGroups
 pub mod TraceJobs
 pub mod TellingJobs
 pub mod SurviveJobs

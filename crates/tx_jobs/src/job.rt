@@ -23,7 +23,7 @@ use crate::run::run_job;
 use crate::run_checked::run_checked_job;
 use crate::survive::{survive_job, survive_risks_job};
 use crate::telling::run_telling_job;
-use crate::trace::trace_job;
+use crate::trace::{trace_group_job, trace_job};
 use std::alloc::Allocator;
 use tx_commands::{Command, Files};
 use tx_explain::write_explanation;
@@ -83,8 +83,19 @@ pub fn do_job<A: Allocator + Copy, P: Source, Q: Source, R: Source, W: Sink>(
             ..
         } => Ok(Done::Survived(survive_job(alloc, first, *totals, out)?)),
         Command::Grade { .. } => Ok(Done::Graded(grade_job(alloc, first, out)?)),
-        Command::Trace { exchange, code, .. } => {
-            trace_job(alloc, first, exchange.as_bytes(), code.as_bytes(), out)?;
+        Command::Trace {
+            exchange,
+            code,
+            down,
+            ..
+        } => {
+            let (exchange, code) = (exchange.as_bytes(), code.as_bytes());
+            let down = down.as_deref().map(str::as_bytes);
+            trace_job(alloc, first, exchange, code, down, out)?;
+            Ok(Done::Written)
+        }
+        Command::TraceGroup { group, .. } => {
+            trace_group_job(alloc, first, group.as_bytes(), out)?;
             Ok(Done::Written)
         }
         Command::Draw { routes, .. } => draw(alloc, routes, first, out),
@@ -153,13 +164,7 @@ fn do_texts<A: Allocator + Copy, P: Source, Q: Source, R: Source, W: Sink>(
         Command::Lint {
             plan,
             risks: Some(_),
-        } => Ok(Done::Linted(lint_risks_job(
-            alloc,
-            first,
-            plan.as_bytes(),
-            second,
-            out,
-        )?)),
+        } => Ok(Done::Linted(lint_risks_job(alloc, first, plan.as_bytes(), second, out)?)),
         Command::Survive {
             risks: Some((_, only)),
             totals,

@@ -82,10 +82,7 @@ pub enum Look<'t, A: Allocator = Global> {
 }
 
 /// Looks a plan's text through. `Err` is lack of memory.
-pub fn look_through<A: Allocator + Copy>(
-    alloc: A,
-    text: &[u8],
-) -> Result<Look<'_, A>, LintFault>
+pub fn look_through<A: Allocator + Copy>(alloc: A, text: &[u8]) -> Result<Look<'_, A>, LintFault>
     ensures look { IfOk result (IsLookOf text.now) }
     ensures memory { IfErr result (λ fault. fault ≡ LintFault.NoMemory) }
 {

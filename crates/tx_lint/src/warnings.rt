@@ -84,7 +84,12 @@ fn add_code<A: Allocator>(
 {
     add_if(!has_lines(plan, code), line, Warning::NoLines(code), found)?;
     add_ambiguous(plan, code, line, found)?;
-    add_if(is_unlisted(plan, code), line, Warning::Unlisted(code), found)
+    add_if(
+        is_unlisted(plan, code),
+        line,
+        Warning::Unlisted(code),
+        found,
+    )
 }
 
 /// Adds the warnings of the list at an index.
@@ -251,12 +256,7 @@ fn add_shared_risks<A: Allocator>(
 }
 
 /// Whether all these groups go with the risk at an index.
-fn lie_in<A: Allocator>(
-    plan: &Plan<A>,
-    risks: &Risks<A>,
-    index: usize,
-    groups: &[GroupId],
-) -> bool
+fn lie_in<A: Allocator>(plan: &Plan<A>, risks: &Risks<A>, index: usize, groups: &[GroupId]) -> bool
     ensures { result ≡ lie_in plan.now risks.now index groups.now }
 {
     let risk = Outage::Named(index);

@@ -86,11 +86,7 @@ pub(crate) fn write_harmless<A: Allocator, W: Sink>(
     write_harmless_line(b"EXCHANGES ", count_exchanges(outcomes), sink)
 }
 
-fn write_harmless_line<W: Sink>(
-    kind: &[u8],
-    count: usize,
-    sink: &mut W,
-) -> Result<(), WriteFault>
+fn write_harmless_line<W: Sink>(kind: &[u8], count: usize, sink: &mut W) -> Result<(), WriteFault>
     ensures { Wrote W.taken W.failed sink.old sink.new
         (harmless_line kind.now count) result }
 {

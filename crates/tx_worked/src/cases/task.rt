@@ -45,7 +45,11 @@ static COMMANDS: [(&str, &str, &str); 21] = [
     ),
     ("survive", "alone", "survive plan"),
     ("survive", "totals", "survive plan --risks=risks --totals"),
-    ("survive", "named", "survive plan --risks=risks --risks-only"),
+    (
+        "survive",
+        "named",
+        "survive plan --risks=risks --risks-only",
+    ),
     (
         "survive",
         "named-totals",

@@ -34,7 +34,7 @@ returns-in_err-write_blocks g c =
     let outcomes = c.args.outcomes.now in
     let totals = flat_map (total_text c.args.plan.now c.args.risks.now) outcomes in
     let blocks = if c.args.totals_only then []
-        else flat_map (block_text c.args.plan.now c.args.risks.now) outcomes in
+    else flat_map (block_text c.args.plan.now c.args.risks.now) outcomes in
     wrote_then _ _ _ _ _ _ (head_line (length outcomes)) _ _
     (rw c.len.ensures at c.in_ok-write_head.ensures)
     (wrote_then _ _ _ _ _ _ totals _ _ c.in_ok-write_totals.ensures
@@ -48,7 +48,7 @@ returns g c =
     let outcomes = c.args.outcomes.now in
     let totals = flat_map (total_text c.args.plan.now c.args.risks.now) outcomes in
     let blocks = if c.args.totals_only then []
-        else flat_map (block_text c.args.plan.now c.args.risks.now) outcomes in
+    else flat_map (block_text c.args.plan.now c.args.risks.now) outcomes in
     wrote_then _ _ _ _ _ _ (head_line (length outcomes)) _ _
     (rw c.len.ensures at c.in_ok-write_head.ensures)
     (wrote_then _ _ _ _ _ _ totals _ _ c.in_ok-write_totals.ensures

@@ -12,5 +12,11 @@ pub returns : goal.returns
 returns g c =
     let words = outage_words c.args.plan.now c.args.risks.now c.args.outcome.now.outage in
     wrote_then _ _ _ _ _ _ words _ _ c.in_ok-write_outage.ensures
-    (rw (c.as_bytes-cut.ensures.value, c.format.ensures.text, c.as_bytes-stray.ensures.value,
-    c.format-2.ensures.text, c.count_cut.ensures, c.count_stray.ensures) at c.write_parts.ensures)
+    (rw (
+      c.as_bytes-cut.ensures.value,
+      c.format.ensures.text,
+      c.as_bytes-stray.ensures.value,
+      c.format-2.ensures.text,
+      c.count_cut.ensures,
+      c.count_stray.ensures,
+    ) at c.write_parts.ensures)
