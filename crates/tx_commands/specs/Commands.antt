@@ -9,7 +9,7 @@ use Rattle.clap.specs.Words.{Row, first_of, one_of, subcommand_of}
 use Rattle.tx_explain.specs.Entries.{is_known}
 use Rattle.tx_commands.specs.Grammar.{program_words}
 use Rattle.tx_commands.specs.declared.command.Command.{Command}
-use Rattle.tx_commands.specs.declared.command.Command.TheVariants.{Pipe, Run, RunTelling, Check, Lint, Codes, Audit, Change, Mend, Survive, Grade, Trace, TraceGroup, Draw, Explain}
+use Rattle.tx_commands.specs.declared.command.Command.TheVariants.{Pipe, Run, RunTelling, Check, Lint, Codes, Audit, Change, Mend, Survive, Grade, Trace, TraceGroup, Fill, Draw, Explain}
 
 -- a limit is at most 62, and a spare number at most 15
 abbrev pub IsInRange : Command → Type 0
@@ -37,6 +37,7 @@ IsInRange-prop (Survive plan risks totals) = Unit-prop
 IsInRange-prop (Grade plan) = Unit-prop
 IsInRange-prop (Trace plan exchange code down) = Unit-prop
 IsInRange-prop (TraceGroup plan group) = Unit-prop
+IsInRange-prop (Fill plan exchange code down) = Unit-prop
 IsInRange-prop (Draw plan None) = Unit-prop
 IsInRange-prop (Draw plan (Some (code, None))) = Unit-prop
 IsInRange-prop (Draw plan (Some (code, Some (limit, spare)))) = ×_prop le_prop le_prop
@@ -122,6 +123,10 @@ Asks name found (TraceGroup plan group) =
     (name ≡ codes "trace") × Names found (codes "plan") plan
     × Names found (codes "group") group × (first_of (codes "exchange") found ≡ None)
     × (first_of (codes "code") found ≡ None) × (first_of (codes "down") found ≡ None)
+Asks name found (Fill plan exchange code down) =
+    (name ≡ codes "fill") × Names found (codes "plan") plan
+    × Names found (codes "exchange") exchange × Names found (codes "code") code
+    × (first_of (codes "down") found ≡ option_map string_bytes down)
 Asks name found (Draw plan None) =
     (name ≡ codes "draw") × Names found (codes "plan") plan
     × (first_of (codes "code") found ≡ None) × (first_of (codes "limit") found ≡ None)
@@ -199,6 +204,7 @@ reads_of (Survive plan (Some (risks, only)) totals) =
 reads_of (Grade plan) = one_read (string_bytes plan)
 reads_of (Trace plan exchange code down) = one_read (string_bytes plan)
 reads_of (TraceGroup plan group) = one_read (string_bytes plan)
+reads_of (Fill plan exchange code down) = one_read (string_bytes plan)
 reads_of (Draw plan routes) = one_read (string_bytes plan)
 reads_of (Explain word) = None ∷ None ∷ None ∷ []
 

@@ -94,6 +94,13 @@ trace_words =
     (plan_words (codes "trace")) (word (codes "exchange"))) (word (codes "code")))
     (option (codes "down"))) (option (codes "group"))
 
+-- the arguments of `fill`
+abbrev pub fill_words : App
+fill_words =
+    with_rule (with_rule (with_rule
+    (plan_words (codes "fill")) (file (codes "exchange"))) (file (codes "code")))
+    (option (codes "down"))
+
 -- a command whose words are two plans
 abbrev pub change_words : App
 change_words = with_rule (with_rule (with_rule (with_rule (with_rule (with_rule (with_rule
@@ -110,7 +117,7 @@ draw_words =
 abbrev pub explain_words : App
 explain_words = with_rule (new_app (codes "explain")) (word (codes "code"))
 
--- the program takes its words from the first on, prints its version, and has twelve commands
+-- the program takes its words from the first on, prints its version, and has thirteen commands
 abbrev pub top_words : App
 top_words =
     let app = new_app (codes "telexplan") in
@@ -128,4 +135,5 @@ judging_words =
 abbrev pub program_words : App
 program_words =
     with_subcommand (with_subcommand (with_subcommand (with_subcommand (with_subcommand
-    judging_words run_words.top) codes_words.top) trace_words.top) draw_words.top) explain_words.top
+    (with_subcommand judging_words run_words.top) codes_words.top) trace_words.top) fill_words.top)
+    draw_words.top) explain_words.top

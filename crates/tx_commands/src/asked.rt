@@ -216,6 +216,28 @@ fn trace_of(alloc: Global, plan: String, matches: &ArgMatches<'_>) -> Result<Com
     }
 }
 
+/// The words of `fill` after the plan.
+fn fill_of(alloc: Global, plan: String, matches: &ArgMatches<'_>) -> Result<Command, Misuse>
+    requires { Names (rows_of (found_of matches.now)) (codes "plan") plan }
+    ensures range { IfOk result IsInRange }
+    ensures asked { IfOk result (Asks (codes "fill") (rows_of (found_of matches.now))) }
+    ensures refused { IfErr result
+        (IsRefused (Some (codes "fill", rows_of (found_of matches.now)))) }
+{
+    let exchange = text(alloc, matches, "exchange")?;
+    let code = text(alloc, matches, "code")?;
+    let down = text(alloc, matches, "down")?;
+    match (exchange, code) {
+        (Some(exchange), Some(code)) => Ok(Command::Fill {
+            plan,
+            exchange,
+            code,
+            down,
+        }),
+        _ => Err(Misuse::Incomplete),
+    }
+}
+
 /// The words of `run` after the plan.
 fn run_of(alloc: Global, plan: String, matches: &ArgMatches<'_>) -> Result<Command, Misuse>
     requires { Names (rows_of (found_of matches.now)) (codes "plan") plan }
@@ -316,6 +338,7 @@ pub(crate) fn plan_command(
         "grade" => Ok(Command::Grade { plan }),
         "survive" => survive_of(alloc, plan, matches),
         "trace" => trace_of(alloc, plan, matches),
+        "fill" => fill_of(alloc, plan, matches),
         "draw" => draw_of(alloc, plan, matches),
         _ => Err(Misuse::Incomplete),
     }

@@ -92,6 +92,14 @@ pub enum Command {
         plan: String,
         group: String,
     },
+    /// `fill PLAN EXCHANGE CODE`: how many calls for the code the exchange can have at once, while
+    /// these groups are down, if some are named.
+    Fill {
+        plan: String,
+        exchange: String,
+        code: String,
+        down: Option<String>,
+    },
     /// `draw PLAN [--code C [--limit L --spare K]]`: a picture of the plan, or of the routes for a
     /// code, with what an audit finds first if numbers are given.
     Draw {
@@ -147,6 +155,7 @@ impl<'a> Files<'a> {
             | Command::Grade { plan }
             | Command::Trace { plan, .. }
             | Command::TraceGroup { plan, .. }
+            | Command::Fill { plan, .. }
             | Command::Draw { plan, .. } => Files::reading(one(plan)),
             Command::Audit {
                 plan,

@@ -12,18 +12,19 @@ use Rattle.tx_audit.specs.Scripts.{script_written}
 use Rattle.tx_audit.specs.declared.checked.Checked.TheVariants.{Ran as RanAfterYes, Denied}
 use Rattle.tx_explain.specs.Written.{explanation_text}
 use Rattle.tx_commands.specs.declared.command.Command.{Command}
-use Rattle.tx_commands.specs.declared.command.Command.TheVariants.{Pipe, Run, RunTelling, Check, Lint, Codes, Audit, Change, Mend, Survive, Grade, Trace, TraceGroup, Draw, Explain}
+use Rattle.tx_commands.specs.declared.command.Command.TheVariants.{Pipe, Run, RunTelling, Check, Lint, Codes, Audit, Change, Mend, Survive, Grade, Trace, TraceGroup, Fill, Draw, Explain}
 use Rattle.tx_jobs.specs.declared.evidence.Evidence.TheVariants.{Sound, Unsound}
 use Rattle.tx_jobs.specs.declared.mixture.ChangeEvidence.TheVariants.{Sound as SoundChange, Unsound as UnsoundChange}
 use Rattle.tx_jobs.specs.declared.job_fault.JobFault.{JobFault}
 use Rattle.tx_jobs.specs.declared.job_fault.JobFault.TheVariants.{Read}
 use Rattle.tx_jobs.specs.declared.done.Done.{Done}
-use Rattle.tx_jobs.specs.declared.done.Done.TheVariants.{Ran, Told, Checked, Verified, Listed, Linted, Audited, Changed, Mended, Graded, Survived, Written}
+use Rattle.tx_jobs.specs.declared.done.Done.TheVariants.{Ran, Told, Checked, Verified, Listed, Linted, Audited, Changed, Mended, Graded, Survived, Filled, Written}
 use Rattle.tx_jobs.specs.ChangeEvidences.{ChangeEvidenceAnswers, mixture_plan, mixture_events}
 use Rattle.tx_jobs.specs.CheckJobs.{CheckJobAnswers}
 use Rattle.tx_jobs.specs.CheckedJobs.{CheckedJobAnswers}
 use Rattle.tx_jobs.specs.DrawJobs.{DrawJobAnswers, ToldText}
 use Rattle.tx_jobs.specs.Evidences.{EvidenceJobAnswers}
+use Rattle.tx_jobs.specs.FillJobs.{FillJobAnswers}
 use Rattle.tx_jobs.specs.GradeJobs.{GradeJobAnswers}
 use Rattle.tx_jobs.specs.Jobs.{CodesJobAnswers, RunJobAnswers}
 use Rattle.tx_jobs.specs.LintJobs.{LintJobAnswers, LintRisksJobAnswers}
@@ -54,6 +55,7 @@ status_of_done (Graded grade) = if is_some grade.plan then 0 else 1
 status_of_done (Survived (Tried outcomes)) =
     if list_any (λ o. not (length o.cuts.items == 0)) outcomes.items then 1 else 0
 status_of_done (Survived (Ungraded grade)) = 1
+status_of_done (Filled found) = 0
 status_of_done Written = 0
 
 -- what goes into the files: the texts of a plan, of a certificate and of a script, if there are any
@@ -140,6 +142,9 @@ module _ {P : Type 0} (rest : P → Option (List ℕ)) (failed : P → Bool)
         (option_map string_bytes down) first out) result × Alone
     IsDone (TraceGroup plan group) result =
         Does written (TraceGroupJobAnswers (string_bytes group) first out) result × Alone
+    IsDone (Fill plan exchange code down) result =
+        Does Filled (FillJobAnswers (string_bytes exchange) (string_bytes code)
+        (option_map string_bytes down) first out) result × Alone
     IsDone (Draw plan routes) result = HasDrawn first out routes result × Alone
     IsDone (Explain word) result =
         Does written (ToldText (explanation_text (option_map string_bytes word)) out) result

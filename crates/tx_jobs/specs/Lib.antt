@@ -10,6 +10,7 @@ pub mod MendJobs
 pub mod LintJobs
 pub mod NamedGroups
 pub mod TraceJobs
+pub mod FillJobs
 pub mod TellingJobs
 pub mod SurviveJobs
 pub mod Writables

@@ -8,6 +8,7 @@ use crate::mixture::{ChangeEvidence, Mixture};
 use std::alloc::{Allocator, Global};
 use tx_audit::Checked;
 use tx_check::Verdict;
+use tx_fill::Fill;
 use tx_mend::Mending;
 use tx_plan::CodeId;
 use tx_rank::Grade;
@@ -40,6 +41,8 @@ pub enum Done<A: Allocator = Global> {
     Graded(Grade<A>),
     /// The outages of a plan were tried.
     Survived(Survival<A>),
+    /// Calls were set up one after another.
+    Filled(Fill<A>),
     /// A trace, a picture or an explanation was written.
     Written,
 }
@@ -55,6 +58,7 @@ impl<A: Allocator> Done<A> {
     {
         match self {
             Done::Ran(_)
+            | Done::Filled(_)
             | Done::Written
             | Done::Checked(Checked::Ran(_))
             | Done::Verified(Verdict::Yes)
@@ -119,6 +123,7 @@ impl<A: Allocator> Done<A> {
             | Done::Mended(Mending::NoRouting(_, _, _))
             | Done::Graded(_)
             | Done::Survived(_)
+            | Done::Filled(_)
             | Done::Written => [None, None, None],
         }
     }

@@ -14,6 +14,7 @@ use crate::check::check_job;
 use crate::codes::codes_job;
 use crate::done::Done;
 use crate::draw::draw_job;
+use crate::fill::fill_job;
 use crate::grade::grade_job;
 use crate::job_fault::JobFault;
 use crate::lint::{lint_job, lint_risks_job};
@@ -93,6 +94,16 @@ pub fn do_job<A: Allocator + Copy, P: Source, Q: Source, R: Source, W: Sink>(
             let down = down.as_deref().map(str::as_bytes);
             trace_job(alloc, first, exchange, code, down, out)?;
             Ok(Done::Written)
+        }
+        Command::Fill {
+            exchange,
+            code,
+            down,
+            ..
+        } => {
+            let (exchange, code) = (exchange.as_bytes(), code.as_bytes());
+            let down = down.as_deref().map(str::as_bytes);
+            Ok(Done::Filled(fill_job(alloc, first, exchange, code, down, out)?))
         }
         Command::TraceGroup { group, .. } => {
             trace_group_job(alloc, first, group.as_bytes(), out)?;

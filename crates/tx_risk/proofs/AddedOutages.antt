@@ -36,7 +36,7 @@ pub mapped_next : {X : Type 0} (f : ℕ → X) (i : ℕ) (x : X) (front old new 
     → new ≡ front ++ map f (range_with_len 0 (i + 1))
 mapped_next f i x front old new so is more =
     more ∙ (λ j. so j ++ is j ∷ []) ∙ append_assoc front (map f (range_with_len 0 i)) (f i ∷ [])
-    ∙ ap (λ l. front ++ l) (sym (map-range_with_len_more f 0 i i refl))
+    ∙ ap (λ l. front ++ l) (sym (map-range_with_len_more f 0 i i (let e : 0 + i ≡ i = omega arith in e)))
 
 -- one outcome more
 pub outcomes_next : {A : Type 0} (p : Plan) (risks : List NamedRisk) (outages : List Outage) (i : ℕ)

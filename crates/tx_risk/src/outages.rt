@@ -1,9 +1,11 @@
 // What the outages of a plan cut off.
-ghost use Rattle.std.specs.Prelude.{◌≡◌, ◌<◌, ℕ, length, true, IfOk};
+ghost use Rattle.std.specs.Prelude.{◌≡◌, ◌<◌, ◌++◌, ℕ, map, length, true, IfOk, OnOk};
+ghost use Rattle.std.specs.List.{range_with_len};
 ghost use Rattle.tx_plan.specs.Certified.{IsCertified};
 ghost use Rattle.tx_cert.specs.Certificate.{ranks_of};
 ghost use Rattle.tx_rank.specs.Judged.{AreOrigins};
 ghost use Rattle.tx_risk.specs.NamedRisks.{AreRisksFor};
+ghost use Rattle.tx_risk.specs.declared.outage.Outage.TheVariants.{Group, Exchange, Named};
 ghost use Rattle.tx_risk.specs.Outages.{risk_of, all_outages, AreCutsOf, AreOutcomes};
 ghost use Rattle.tx_risk.specs.Survivals.{HasGrade};
 ghost use Rattle.tx_risk.specs.inner.Marked.{marked};
@@ -90,6 +92,39 @@ fn cuts_of<A: Allocator + Copy>(
     Ok(cuts)
 }
 
+/// Adds the named risks.
+fn add_named<A: Allocator>(risks: &Risks<A>, outages: &mut Vec<Outage, A>) -> Result<(), NoMemory>
+    ensures { OnOk result (outages.new.items ≡ outages.old.items
+        ++ map Named (range_with_len 0 (length risks.now))) }
+{
+    for index in 0..risks.len() {
+        outages.push(Outage::Named(index))?;
+    }
+    Ok(())
+}
+
+/// Adds the groups.
+fn add_groups<A: Allocator>(plan: &Plan<A>, outages: &mut Vec<Outage, A>) -> Result<(), NoMemory>
+    ensures { OnOk result (outages.new.items ≡ outages.old.items
+        ++ map Group (range_with_len 0 (length plan.now.groups))) }
+{
+    for index in 0..plan.groups() {
+        outages.push(Outage::Group(GroupId::of(index)))?;
+    }
+    Ok(())
+}
+
+/// Adds the exchanges.
+fn add_exchanges<A: Allocator>(plan: &Plan<A>, outages: &mut Vec<Outage, A>) -> Result<(), NoMemory>
+    ensures { OnOk result (outages.new.items ≡ outages.old.items
+        ++ map Exchange (range_with_len 0 (length plan.now.exchanges))) }
+{
+    for index in 0..plan.exchanges() {
+        outages.push(Outage::Exchange(ExchangeId::of(index)))?;
+    }
+    Ok(())
+}
+
 /// All outages, in order, or the named risks alone.
 fn outages_of<A: Allocator + Copy>(
     alloc: A,
@@ -100,18 +135,12 @@ fn outages_of<A: Allocator + Copy>(
     ensures { IfOk result (λ all. all.items ≡ all_outages plan.now risks.now named_only) }
 {
     let mut outages = Vec::new(alloc);
-    for index in 0..risks.len() {
-        outages.push(Outage::Named(index))?;
-    }
+    add_named(risks, &mut outages)?;
     if named_only {
         return Ok(outages);
     }
-    for index in 0..plan.groups() {
-        outages.push(Outage::Group(GroupId::of(index)))?;
-    }
-    for index in 0..plan.exchanges() {
-        outages.push(Outage::Exchange(ExchangeId::of(index)))?;
-    }
+    add_groups(plan, &mut outages)?;
+    add_exchanges(plan, &mut outages)?;
     Ok(outages)
 }
 

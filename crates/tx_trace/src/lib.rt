@@ -16,5 +16,5 @@ mod tracing;
 pub use group_text::write_group;
 pub use law::{heights_are_ranks, met_are_reached, only_call_goes_first_way};
 pub use left::plan_left;
-pub use trace_text::write_trace;
+pub use trace_text::{write_down, write_trace};
 pub use tracing::{Trace, trace_calls};

@@ -48,7 +48,7 @@ fn write_head<A: Allocator, W: Sink>(
 }
 
 /// Writes the groups that are down, if some are.
-fn write_down<A: Allocator, W: Sink>(
+pub fn write_down<A: Allocator, W: Sink>(
     plan: &Plan<A>,
     down: &[GroupId],
     sink: &mut W,

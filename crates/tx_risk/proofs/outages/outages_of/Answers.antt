@@ -1,28 +1,23 @@
-use Rattle.std.proofs.Common.{◌≡◌, ◌++◌, [], map, length, arith, refl}
+use Rattle.std.proofs.Common.{◌≡◌, ◌++◌, ◌∙◌, map, length, ap, sym, append_assoc, append-nil}
 use Rattle.std.specs.List.{range_with_len}
 use Rattle.tx_risk.specs.declared.outage.Outage.TheVariants.{Group, Exchange, Named}
-use Rattle.tx_risk.proofs.AddedOutages.{mapped_next}
 use Rattle.tx_risk.proofs.outages.outages_of.Goals as goal
 
-pub loop-index-preserved : goal.loop-index-preserved
-loop-index-preserved g c =
-    mapped_next Named c.loop-index.index (Named c.loop-index.index) [] c.loop-index.outages.items
-    c.push.new.self.items c.loop-index.invariant refl c.in_ok-push.ensures.items
-
 pub returns-then-named_only : goal.returns-then-named_only
-returns-then-named_only g c = ?
-
-pub loop-index-2-init : goal.loop-index-2-init
-loop-index-2-init g c = ?
-
-pub loop-index-2-preserved : goal.loop-index-2-preserved
-loop-index-2-preserved g c = ?
-
-pub loop-index-3-init : goal.loop-index-3-init
-loop-index-3-init g c = ?
-
-pub loop-index-3-preserved : goal.loop-index-3-preserved
-loop-index-3-preserved g c = ?
+returns-then-named_only g c =
+    let named = map Named (range_with_len 0 (length c.args.risks.now)) in
+    let first : c.add_named.new.outages.items ≡ named =
+    rw c.new-outages.ensures.items at c.in_ok-add_named.ensures in
+    rw c.if-named_only.true (first ∙ sym (append-nil named))
 
 pub returns : goal.returns
-returns g c = ?
+returns g c =
+    let p = c.args.plan.now in
+    let named = map Named (range_with_len 0 (length c.args.risks.now)) in
+    let groups = map Group (range_with_len 0 (length p.groups)) in
+    let exchanges = map Exchange (range_with_len 0 (length p.exchanges)) in
+    let first : c.add_named.new.outages.items ≡ named =
+    rw c.new-outages.ensures.items at c.in_ok-add_named.ensures in
+    rw c.if-named_only.false (c.in_ok-add_exchanges.ensures
+    ∙ ap (λ l. l ++ exchanges) (c.in_ok-add_groups.ensures ∙ ap (λ l. l ++ groups) first)
+    ∙ append_assoc named groups exchanges)
