@@ -4,11 +4,11 @@ _telexplan() {
     case ${COMP_WORDS[COMP_CWORD - 1]} in
         --limit) words=$(echo {0..62}) ;;
         --spare) words=$(echo {0..15}) ;;
-        --cert | --mixture | --plan | --risks | --counter | --code) ;;
+        --cert | --mixture | --plan | --risks | --counter | --code | --down | --group) ;;
         *)
             case $COMP_CWORD:${COMP_WORDS[1]}:$word in
-                1:*) words="lint audit grade mend change survive check run codes trace draw explain help --help --version" ;;
-                *:help:*) words="lint audit grade mend change survive check run codes trace draw explain" ;;
+                1:*) words="lint audit grade mend change survive check run codes trace fill draw explain help --help --version" ;;
+                *:help:*) words="lint audit grade mend change survive check run codes trace fill draw explain" ;;
                 *:explain:*) words="--help $(telexplan explain 2>/dev/null | cut -d ' ' -f 1)" ;;
                 *:audit:-*) words="--limit --spare --cert --counter --help" ;;
                 *:mend:-*) words="--limit --spare --plan --cert --help" ;;
@@ -17,7 +17,9 @@ _telexplan() {
                 *:survive:-*) words="--risks --risks-only --totals --help" ;;
                 *:check:-*) words="--limit --spare --help" ;;
                 *:run:-*) words="--cert --limit --spare --strict --echo --summary --help" ;;
-                *:grade:-* | *:codes:-* | *:trace:-*) words="--help" ;;
+                *:grade:-* | *:codes:-*) words="--help" ;;
+                *:trace:-*) words="--down --group --help" ;;
+                *:fill:-*) words="--down --help" ;;
                 *:draw:-*) words="--code --limit --spare --help" ;;
             esac
             ;;

@@ -109,7 +109,7 @@ fn fill_grammar<'a>(alloc: Global) -> Result<clap::Command<'a>, AllocError>
     Syntax::over_plan(
         alloc,
         "fill",
-        "Say how many calls for a code an exchange can have at once, and which groups are full then",
+        "Say how many calls for a code an exchange can have at once, and which groups are full",
         FILL_HELP,
     )
     .file("exchange", "EXCHANGE", "The exchange where the calls start")

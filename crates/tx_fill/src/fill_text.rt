@@ -67,7 +67,7 @@ fn write_next<A: Allocator, W: Sink>(
     let Some((service, exchange)) = next else {
         return write_parts(&[b"NO LINE\n"], sink);
     };
-    let word = cause_word(Cause::ByService(service));
+    let word = cause_word(Cause::Service(service));
     let name = plan.exchange_name(exchange);
     write_parts(&[b"ANSWERED ", word, b" AT ", name, b"\n"], sink)
 }

@@ -134,6 +134,17 @@ fn is_exchange(outage: &Outage) -> bool
     matches!(outage, Outage::Exchange(_))
 }
 
+/// How many starts all outages cut off.
+fn count_all<A: Allocator>(outcomes: &[Outcome<A>]) -> u128
+    ensures { result ≡ count_of outcomes.now }
+{
+    let mut count: u128 = 0;
+    for i in 0..outcomes.len() {
+        count += outcomes[i].cuts.len() as u128;
+    }
+    count
+}
+
 /// Writes the verdict: YES, or NO with how many starts are cut off, by all outages.
 pub(crate) fn write_count<A: Allocator, W: Sink>(
     outcomes: &[Outcome<A>],
@@ -142,10 +153,7 @@ pub(crate) fn write_count<A: Allocator, W: Sink>(
     ensures { Wrote W.taken W.failed sink.old sink.new
         (verdict_line (count_of outcomes.now)) result }
 {
-    let mut count: u128 = 0;
-    for i in 0..outcomes.len() {
-        count += outcomes[i].cuts.len() as u128;
-    }
+    let count = count_all(outcomes);
     if count == 0 {
         return write_parts(&[b"VERDICT YES\n"], sink);
     }

@@ -9,7 +9,7 @@ use tx_commands::{Command, Files, WordsFault, read_command};
 /// The words of a command by the kind of its case and, where it matters, the word after the kind.
 /// `@1`, `@2` and `@3` stand for the words after the kind: where there is no such word, what has it
 /// is left out. All that a command can print and make is asked for.
-static COMMANDS: [(&str, &str, &str); 21] = [
+static COMMANDS: [(&str, &str, &str); 23] = [
     ("pipe", "", ""),
     ("run", "", "run plan script"),
     (
@@ -57,7 +57,9 @@ static COMMANDS: [(&str, &str, &str); 21] = [
     ),
     ("survive", "", "survive plan --risks=risks"),
     ("grade", "", "grade plan"),
-    ("trace", "", "trace plan @1 @2"),
+    ("trace", "group", "trace plan --group=@2"),
+    ("trace", "", "trace plan @1 @2 --down=@3"),
+    ("fill", "", "fill plan @1 @2 --down=@3"),
     ("draw", "", "draw plan --code=@1 --limit=@2 --spare=@3"),
 ];
 
