@@ -2,7 +2,7 @@
 use Rattle.std.specs.Prelude.{◌≡◌, ◌↔◌, ℕ, ◌<◌, nat_lt, Bool, true, not, ◌&&◌, ◌==◌, if◌then◌else◌, List, [], ◌∷◌, ◌++◌, length, map, slice_get}
 use Rattle.std.specs.List.{list_any, list_all, flat_map, range_with_len}
 use Rattle.std.specs.Option.{option_map_or}
-use Rattle.tx_plan.specs.Plan.{Plan, Route, home_of, figures_of}
+use Rattle.tx_plan.specs.Plan.{Plan, Route as RouteRow, home_of, figures_of}
 use Rattle.tx_plan.specs.Codes.{is_prefix}
 use Rattle.tx_plan.specs.Routes.{route_list, is_origin, is_origin_for}
 use Rattle.tx_rank.specs.Walks.{net_of}
@@ -62,7 +62,7 @@ code_warnings p c =
     ++ warned_if (is_unlisted p c) (Unlisted c))
 
 -- the warnings of a list: those of risks come in order of the risks
-abbrev pub list_warnings : Plan → List NamedRisk → Coming → Route → List Warning
+abbrev pub list_warnings : Plan → List NamedRisk → Coming → RouteRow → List Warning
 list_warnings p risks comes r =
     warned_if (not (comes r.code r.exchange)) UnusedList
     ++ flat_map (λ k. warned_if (lie_in p risks k r.groups) (SharedRisk k))

@@ -23,3 +23,6 @@ returns-in_err-write_block g c =
     (texts_stopped (block_text c.args.plan.now c.args.risks.now) c.args.outcomes.now c.loop-i.i
     c.index-outcomes-i.result _ _ _ _ _ _ _ c.in_err-write_block.field-0.0 c.loop-i-test.true
     c.index-outcomes-i.is c.loop-i.invariant c.in_err-write_block.ensures c.from_residual.ensures.0)
+
+pub returns-then-totals_only : goal.returns-then-totals_only
+returns-then-totals_only g c = rw c.if-totals_only.true (wrote_none _ _)
