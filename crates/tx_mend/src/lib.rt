@@ -25,6 +25,7 @@ mod rules;
 mod serving;
 mod unserved;
 
+pub use copying::bars_of;
 pub use law::{
     certified_stays, keeps_what_can_be_kept, least_ranks_are_least, least_ranks_serve,
     mending_is_exact,

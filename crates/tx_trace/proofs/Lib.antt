@@ -8,3 +8,4 @@ pub mod Ranking
 pub mod FreeCircuits
 pub mod OnlyCall
 pub mod Texts
+pub mod Left

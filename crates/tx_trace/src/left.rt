@@ -4,7 +4,8 @@ ghost use Rattle.tx_plan.specs.Routes.{route_list};
 ghost use Rattle.tx_trace.specs.Left.{groups_left, routes_left, plan_left};
 
 use std::alloc::Allocator;
-use tx_plan::{Bars, CodeId, ExchangeId, GroupId, GroupList, Pair, Plan, Routes};
+use tx_mend::bars_of;
+use tx_plan::{CodeId, ExchangeId, GroupId, GroupList, Pair, Plan, Routes};
 use tx_text::NoMemory;
 
 /// The plan without these groups in its lists, and without the lists that have no others.
@@ -60,18 +61,4 @@ fn routes_left<A: Allocator + Copy>(
         }
     }
     Ok(routes)
-}
-
-/// The bars.
-fn bars_of<A: Allocator + Copy>(alloc: A, plan: &Plan<A>) -> Result<Bars<A>, NoMemory>
-    ensures { IfOk result (λ bars. bars ≡ plan.now.bars) }
-{
-    let mut bars = Bars::new(alloc);
-    for index in 0..plan.bars() {
-        match plan.bar_at(index) {
-            Some((exchange, code)) => bars.add(Pair { exchange, code })?,
-            None => unreachable!(),
-        }
-    }
-    Ok(bars)
 }
