@@ -9,3 +9,4 @@ pub mod FreeCircuits
 pub mod OnlyCall
 pub mod Texts
 pub mod Left
+pub mod GroupLines

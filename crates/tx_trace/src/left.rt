@@ -16,6 +16,7 @@ pub fn plan_left<A: Allocator + Copy>(
 ) -> Result<Plan<A>, NoMemory>
     ensures { IfOk result (λ left. left ≡ plan_left plan down.now) }
 {
+    plan.rules();
     let routes = routes_left(alloc, &plan, down)?;
     let bars = bars_of(alloc, &plan)?;
     Ok(plan.rerouted(routes, bars))

@@ -18,10 +18,16 @@ pub returns-in_err-write_cuts_at : goal.returns-in_err-write_cuts_at
 returns-in_err-write_cuts_at g c =
     indexes_stopped (cuts_at c.args.plan.now c.args.cuts.now) c.loop-index.index
     (length c.args.plan.now.exchanges) _ _ _ _ _ _ _ _ c.in_err-write_cuts_at.field-0.0
-    (omega arith) c.of.ensures c.loop-index.invariant c.in_err-write_cuts_at.ensures
+    (let t = c.loop-index-test.true in let n = c.exchanges-index-end.ensures.count in omega arith)
+    c.of.ensures c.loop-index.invariant c.in_err-write_cuts_at.ensures
     c.from_residual.ensures.0
 
 pub returns : goal.returns
 returns g c =
     indexes_done (cuts_at c.args.plan.now c.args.cuts.now) c.loop-index.index
-    (length c.args.plan.now.exchanges) _ _ _ _ (omega arith) c.loop-index.invariant
+    (length c.args.plan.now.exchanges) _ _ _ _ (
+      let t = c.loop-index-test.false in
+      let a = c.loop-index.auto.index-end in
+      let n = c.exchanges-index-end.ensures.count in
+      omega arith
+    ) c.loop-index.invariant
