@@ -136,57 +136,31 @@ impl<'a> Files<'a> {
         ensures cert { option_map (λ f. f.now) result.cert ≡ (made_by command.now).cert }
         ensures script { option_map (λ f. f.now) result.script ≡ (made_by command.now).script }
     {
+        let reads = reads_of(command);
         match command {
-            Command::Pipe => Files::reading(one(STANDARD_INPUT)),
-            Command::Run {
-                plan,
-                script,
-                checked,
-            } => Files::reading(run_files(plan, script, checked)),
-            Command::RunTelling { plan, script, .. } => Files::reading(two(plan, script)),
-            Command::Check { plan, cert, .. } => Files::reading(two(plan, cert)),
-            Command::Lint { plan, risks: None }
-            | Command::Survive {
-                plan,
-                risks: None,
-                ..
+            Command::Audit { cert, counter, .. } => {
+                Files::new(reads, None, cert, counter.as_deref())
             }
-            | Command::Codes { plan }
-            | Command::Grade { plan }
-            | Command::Trace { plan, .. }
-            | Command::TraceGroup { plan, .. }
-            | Command::Fill { plan, .. }
-            | Command::Draw { plan, .. } => Files::reading(one(plan)),
-            Command::Audit {
-                plan,
-                cert,
-                counter,
-                ..
-            } => Files::new(one(plan), None, cert, counter.as_deref()),
             Command::Change {
-                old,
-                new,
                 cert,
                 mixture,
                 counter,
                 ..
-            } => Files::new(two(old, new), mixture.as_deref(), cert, counter.as_deref()),
-            Command::Mend {
-                plan,
-                mended,
-                cert,
-                ..
-            } => Files::new(one(plan), mended.as_deref(), cert, None),
-            Command::Lint {
-                plan,
-                risks: Some(risks),
-            }
-            | Command::Survive {
-                plan,
-                risks: Some((risks, _)),
-                ..
-            } => Files::reading(two(plan, risks)),
-            Command::Explain { .. } => Files::reading([None, None, None]),
+            } => Files::new(reads, mixture.as_deref(), cert, counter.as_deref()),
+            Command::Mend { mended, cert, .. } => Files::new(reads, mended.as_deref(), cert, None),
+            Command::Pipe
+            | Command::Run { .. }
+            | Command::RunTelling { .. }
+            | Command::Check { .. }
+            | Command::Lint { .. }
+            | Command::Codes { .. }
+            | Command::Survive { .. }
+            | Command::Grade { .. }
+            | Command::Trace { .. }
+            | Command::TraceGroup { .. }
+            | Command::Fill { .. }
+            | Command::Draw { .. }
+            | Command::Explain { .. } => Files::reading(reads),
         }
     }
 
@@ -230,6 +204,47 @@ impl<'a> Files<'a> {
         ensures { named result ≡ named (self.now.plan ∷ self.now.cert ∷ self.now.script ∷ []) }
     {
         [self.plan, self.cert, self.script]
+    }
+}
+
+/// The files that a command reads. Without words it is standard input.
+fn reads_of(command: &Command) -> [Option<&str>; 3]
+    ensures { named result ≡ reads_of command.now }
+{
+    match command {
+        Command::Pipe => one(STANDARD_INPUT),
+        Command::Run {
+            plan,
+            script,
+            checked,
+        } => run_files(plan, script, checked),
+        Command::RunTelling { plan, script, .. } => two(plan, script),
+        Command::Check { plan, cert, .. } => two(plan, cert),
+        Command::Change { old, new, .. } => two(old, new),
+        Command::Lint {
+            plan,
+            risks: Some(risks),
+        }
+        | Command::Survive {
+            plan,
+            risks: Some((risks, _)),
+            ..
+        } => two(plan, risks),
+        Command::Lint { plan, risks: None }
+        | Command::Survive {
+            plan,
+            risks: None,
+            ..
+        }
+        | Command::Codes { plan }
+        | Command::Audit { plan, .. }
+        | Command::Mend { plan, .. }
+        | Command::Grade { plan }
+        | Command::Trace { plan, .. }
+        | Command::TraceGroup { plan, .. }
+        | Command::Fill { plan, .. }
+        | Command::Draw { plan, .. } => one(plan),
+        Command::Explain { .. } => [None, None, None],
     }
 }
 

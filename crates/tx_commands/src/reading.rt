@@ -68,6 +68,14 @@ fn in_its_words(
     Ok(WordsFault::of_clap(e))
 }
 
+/// A refusal of options without another one with which they go.
+fn missing(grammar: &mut clap::Command<'_>, message: &str) -> Result<WordsFault, AllocError>
+    ensures { IfOk result
+        (λ fault. (command : Option (List ℕ × List Row)) → IsRefusalIn command fault) }
+{
+    in_its_words(grammar, ErrorKind::MissingRequiredArgument, message)
+}
+
 /// Why the words are refused. What has no fault of its own is reported in the words of the library.
 fn words_fault(grammar: &mut clap::Command<'_>, misuse: Misuse) -> Result<WordsFault, AllocError>
     ensures { IfOk result (λ fault. (command : Option (List ℕ × List Row))
@@ -86,21 +94,16 @@ fn words_fault(grammar: &mut clap::Command<'_>, misuse: Misuse) -> Result<WordsF
             ErrorKind::ArgumentConflict,
             "--strict, --echo and --summary do not go with --cert",
         ),
-        Misuse::DrawTogether => in_its_words(
-            grammar,
-            ErrorKind::MissingRequiredArgument,
-            "--limit and --spare go together, and with --code",
-        ),
-        Misuse::RisksOnly => in_its_words(
-            grammar,
-            ErrorKind::MissingRequiredArgument,
-            "--risks-only goes with --risks",
-        ),
-        Misuse::TraceWords => in_its_words(
-            grammar,
-            ErrorKind::MissingRequiredArgument,
-            "trace takes an exchange and a code, or --group alone",
-        ),
+        Misuse::DrawTogether => {
+            missing(grammar, "--limit and --spare go together, and with --code")
+        }
+        Misuse::RisksOnly => { missing(grammar, "--risks-only goes with --risks") }
+        Misuse::TraceWords => {
+            missing(
+                grammar,
+                "trace takes an exchange and a code, or --group alone",
+            )
+        }
         Misuse::NoSuchCode => in_its_words(
             grammar,
             ErrorKind::InvalidValue,

@@ -1,12 +1,12 @@
 // The jobs of all commands, behind one call.
 ghost use Rattle.std.specs.Prelude.{◌≡◌, ◌≢◌, ◌≤◌, true, IfSome};
 ghost use Rattle.tx_text.specs.Calls.{CallsAtMost, source_calls};
-ghost use Rattle.tx_text.specs.Ends.{input, output};
+ghost use Rattle.tx_text.specs.Ends.{Input, input, output};
 ghost use Rattle.tx_commands.specs.Commands.{IsInRange};
 ghost use Rattle.tx_commands.specs.declared.command.Command.TheVariants.{Pipe};
 ghost use Rattle.tx_jobs.specs.JobFaults.{mark_after};
 ghost use Rattle.tx_jobs.specs.Done.{HasDrawn, IsDone};
-ghost use Rattle.tx_jobs.specs.inner.Texts.{has_more_texts};
+ghost use Rattle.tx_jobs.specs.inner.Texts.{has_more_texts, may_have_risks, is_of_calls};
 
 use crate::audit_evidence::evidence_job;
 use crate::change_evidence::change_evidence_job;
@@ -60,13 +60,12 @@ pub fn do_job<A: Allocator + Copy, P: Source, Q: Source, R: Source, W: Sink>(
         | Command::Run { .. }
         | Command::RunTelling { .. }
         | Command::Check { .. }
-        | Command::Change { .. }
-        | Command::Lint { risks: Some(_), .. }
-        | Command::Survive { risks: Some(_), .. } => {
-            do_texts(alloc, command, first, second, third, out)
+        | Command::Change { .. } => do_texts(alloc, command, first, second, third, out),
+        Command::Lint { .. } | Command::Survive { .. } => {
+            do_risks(alloc, command, first, second, out)
         }
-        Command::Lint { plan, risks: None } => {
-            Ok(Done::Linted(lint_job(alloc, first, plan.as_bytes(), out)?))
+        Command::Trace { .. } | Command::TraceGroup { .. } | Command::Fill { .. } => {
+            do_calls(alloc, command, first, out)
         }
         Command::Codes { .. } => Ok(Done::Listed(codes_job(alloc, first, out)?)),
         Command::Audit { limit, spare, .. } => {
@@ -78,37 +77,7 @@ pub fn do_job<A: Allocator + Copy, P: Source, Q: Source, R: Source, W: Sink>(
             let (limit, spare) = (*limit, *spare);
             Ok(Done::Mended(mend_job(alloc, first, Limits { limit, spare }, out)?))
         }
-        Command::Survive {
-            risks: None,
-            totals,
-            ..
-        } => Ok(Done::Survived(survive_job(alloc, first, *totals, out)?)),
         Command::Grade { .. } => Ok(Done::Graded(grade_job(alloc, first, out)?)),
-        Command::Trace {
-            exchange,
-            code,
-            down,
-            ..
-        } => {
-            let (exchange, code) = (exchange.as_bytes(), code.as_bytes());
-            let down = down.as_deref().map(str::as_bytes);
-            trace_job(alloc, first, exchange, code, down, out)?;
-            Ok(Done::Written)
-        }
-        Command::Fill {
-            exchange,
-            code,
-            down,
-            ..
-        } => {
-            let (exchange, code) = (exchange.as_bytes(), code.as_bytes());
-            let down = down.as_deref().map(str::as_bytes);
-            Ok(Done::Filled(fill_job(alloc, first, exchange, code, down, out)?))
-        }
-        Command::TraceGroup { group, .. } => {
-            trace_group_job(alloc, first, group.as_bytes(), out)?;
-            Ok(Done::Written)
-        }
         Command::Draw { routes, .. } => draw(alloc, routes, first, out),
         Command::Explain { word } => {
             write_explanation(word.as_deref(), out)?;
@@ -172,17 +141,91 @@ fn do_texts<A: Allocator + Copy, P: Source, Q: Source, R: Source, W: Sink>(
             let changed = change_evidence_job(alloc, first, second, limits, shown, out)?;
             Ok(Done::Changed(changed))
         }
+        _ => unreachable!(),
+    }
+}
+
+/// Does the job of a command over a plan and its named risks, if they are asked for.
+fn do_risks<A: Allocator + Copy, P: Source, Q: Source, W: Sink>(
+    alloc: A,
+    command: &Command,
+    plan: &mut P,
+    risks: &mut Q,
+    out: &mut W,
+) -> Result<Done<A>, JobFault>
+    requires { may_have_risks command.now ≡ true }
+    ensures done { (third : Input) → third.unread → IsDone P.rest P.failed P.called plan.old plan.new
+        (input Q.rest Q.failed Q.called risks.old risks.new) third
+        (output W.taken out.old out.new) command.now result }
+    ensures mark { W.failed out.new ≡ mark_after (W.failed out.old) result }
+    ensures plan_calls { CallsAtMost P.called source_calls plan.old plan.new }
+    ensures risks_calls { CallsAtMost Q.called source_calls risks.old risks.new }
+{
+    match command {
         Command::Lint {
-            plan,
+            plan: file,
+            risks: None,
+        } => Ok(Done::Linted(lint_job(alloc, plan, file.as_bytes(), out)?)),
+        Command::Lint {
+            plan: file,
             risks: Some(_),
-        } => Ok(Done::Linted(lint_risks_job(alloc, first, plan.as_bytes(), second, out)?)),
+        } => Ok(Done::Linted(lint_risks_job(alloc, plan, file.as_bytes(), risks, out)?)),
         Command::Survive {
             risks: Some((_, only)),
             totals,
             ..
         } => {
-            let survival = survive_risks_job(alloc, first, second, *only, *totals, out)?;
+            let survival = survive_risks_job(alloc, plan, risks, *only, *totals, out)?;
             Ok(Done::Survived(survival))
+        }
+        Command::Survive {
+            risks: None,
+            totals,
+            ..
+        } => Ok(Done::Survived(survive_job(alloc, plan, *totals, out)?)),
+        _ => unreachable!(),
+    }
+}
+
+/// Does the job of a command over calls of a plan: which ways they go, or how many there can be.
+fn do_calls<A: Allocator + Copy, P: Source, W: Sink>(
+    alloc: A,
+    command: &Command,
+    plan: &mut P,
+    out: &mut W,
+) -> Result<Done<A>, JobFault>
+    requires { is_of_calls command.now ≡ true }
+    ensures done { (second third : Input) → second.unread → third.unread
+        → IsDone P.rest P.failed P.called plan.old plan.new second third
+        (output W.taken out.old out.new) command.now result }
+    ensures mark { W.failed out.new ≡ mark_after (W.failed out.old) result }
+    ensures calls { CallsAtMost P.called source_calls plan.old plan.new }
+{
+    match command {
+        Command::Trace {
+            exchange,
+            code,
+            down,
+            ..
+        } => {
+            let (exchange, code) = (exchange.as_bytes(), code.as_bytes());
+            let down = down.as_deref().map(str::as_bytes);
+            trace_job(alloc, plan, exchange, code, down, out)?;
+            Ok(Done::Written)
+        }
+        Command::Fill {
+            exchange,
+            code,
+            down,
+            ..
+        } => {
+            let (exchange, code) = (exchange.as_bytes(), code.as_bytes());
+            let down = down.as_deref().map(str::as_bytes);
+            Ok(Done::Filled(fill_job(alloc, plan, exchange, code, down, out)?))
+        }
+        Command::TraceGroup { group, .. } => {
+            trace_group_job(alloc, plan, group.as_bytes(), out)?;
+            Ok(Done::Written)
         }
         _ => unreachable!(),
     }
