@@ -14,6 +14,10 @@ abbrev pub head_line : Plan → (c x : ℕ) → List ℕ
 head_line p c x =
     codes "FILL " ++ (figures_of p c ++ (codes " FROM " ++ (exchange_name p x ++ codes "\n")))
 
+-- how many calls stand, as in `CALLS 30`
+abbrev pub calls_line : ℕ → List ℕ
+calls_line n = codes "CALLS " ++ (decimal n ++ codes "\n")
+
 -- how the next call was answered, and where; or that no line was left to call or to be called
 abbrev pub next_line : Plan → Option (Service × ℕ) → List ℕ
 next_line p None = codes "NO LINE\n"
@@ -29,6 +33,5 @@ full_line p taken g =
 -- What was asked, how many calls stand, how the next one was answered, and the groups that are full
 abbrev pub fill_text : {A : Type 0} → Plan → (down : List ℕ) → (c x : ℕ) → Fill A → List ℕ
 fill_text p down c x f =
-    head_line p c x ++ (down_line p down ++ (codes "CALLS " ++ (decimal f.calls ++ (codes "\n"
-    ++ (next_line p f.next ++ flat_map (full_line p f.taken.items)
-    (range_with_len 0 (length p.groups)))))))
+    head_line p c x ++ (down_line p down ++ (calls_line f.calls ++ (next_line p f.next
+    ++ flat_map (full_line p f.taken.items) (range_with_len 0 (length p.groups)))))

@@ -1,8 +1,8 @@
 // The writer of what calls came to that were set up one after another.
-ghost use Rattle.std.specs.Prelude.{◌++◌, codes, decimal, length};
+ghost use Rattle.std.specs.Prelude.{length};
 ghost use Rattle.std.specs.List.{flat_map, range_with_len};
 ghost use Rattle.tx_text.specs.Wrote.{Wrote};
-ghost use Rattle.tx_fill.specs.FillText.{head_line, next_line, full_line, fill_text};
+ghost use Rattle.tx_fill.specs.FillText.{head_line, calls_line, next_line, full_line, fill_text};
 
 use crate::filling::Fill;
 use itoa::Buffer;
@@ -49,7 +49,7 @@ fn write_head<A: Allocator, W: Sink>(
 
 fn write_calls<W: Sink>(calls: u64, sink: &mut W) -> Result<(), WriteFault>
     ensures { Wrote W.taken W.failed sink.old sink.new
-        (codes "CALLS " ++ (decimal calls ++ codes "\n")) result }
+        (calls_line calls) result }
 {
     let mut buffer = Buffer::new();
     let calls = buffer.format(calls).as_bytes();
