@@ -26,8 +26,8 @@ pub returns : goal.returns
 returns g c =
     indexes_done (cuts_at c.args.plan.now c.args.cuts.now) c.loop-index.index
     (length c.args.plan.now.exchanges) _ _ _ _ (
-      let t = c.loop-index-test.false in
-      let a = c.loop-index.auto.index-end in
-      let n = c.exchanges-index-end.ensures.count in
-      omega arith
+    let t = c.loop-index-test.false in
+    let a = c.loop-index.auto.index-end in
+    let n = c.exchanges-index-end.ensures.count in
+    omega arith
     ) c.loop-index.invariant

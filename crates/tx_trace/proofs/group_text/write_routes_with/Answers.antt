@@ -16,10 +16,10 @@ pub returns : goal.returns
 returns g c =
     indexes_done (routes_at c.args.plan.now c.args.group) c.loop-index.index
     (length c.args.plan.now.exchanges) _ _ _ _ (
-      let t = c.loop-index-test.false in
-      let a = c.loop-index.auto.index-end in
-      let n = c.exchanges-index-end.ensures.count in
-      omega arith
+    let t = c.loop-index-test.false in
+    let a = c.loop-index.auto.index-end in
+    let n = c.exchanges-index-end.ensures.count in
+    omega arith
     ) c.loop-index.invariant
 
 pub returns-in_err-write_routes_at : goal.returns-in_err-write_routes_at
