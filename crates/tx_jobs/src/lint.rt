@@ -67,7 +67,7 @@ fn warn_with_risks<A: Allocator + Copy, R: Source, W: Sink>(
     risks: &mut R,
     out: &mut W,
 ) -> Result<u8, JobFault>
-    ensures answers { WarnedWithRisks right.entry file.now
+    ensures answers { WarnedWithRisks right file.now
         (input R.rest R.failed R.called risks.old risks.new) (output W.taken out.old out.new)
         result }
     ensures mark { W.failed out.new ≡ mark_after (W.failed out.old) result }

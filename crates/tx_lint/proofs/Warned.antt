@@ -120,20 +120,23 @@ code_told p c line lines unlisted a b d e some none f g h =
 
 -- ---- a route, by its pair
 
+abbrev pub pair_of : Route → ℕ × ℕ
+pair_of r = (r.exchange, r.code)
+
 pub route_of_pair : (p : Plan) (i : ℕ) (k : ℕ × ℕ)
-    → Some k ≡ option_map (λ (r : Route). (r.exchange, r.code)) (slice_get p.routes i)
+    → Some k ≡ option_map pair_of (slice_get p.routes i)
     → (r : Route) × (slice_get p.routes i ≡ Some r) × (k ≡ (r.exchange, r.code))
 route_of_pair p i k got = by (slice_get p.routes i) refl got
   where
     by : (o : Option Route) → slice_get p.routes i ≡ o
-        → Some k ≡ option_map (λ (r : Route). (r.exchange, r.code)) o
+        → Some k ≡ option_map pair_of o
         → (r : Route) × (slice_get p.routes i ≡ Some r) × (k ≡ (r.exchange, r.code))
     by None e h = absurd (let bad : ⊥ = cc in bad)
     by (Some r) e h = (r, e, (let same : k ≡ (r.exchange, r.code) = cc in same))
 
 -- a list for the code
 pub listed_there : (p : Plan) (i c : ℕ) (k : ℕ × ℕ)
-    → Some k ≡ option_map (λ (r : Route). (r.exchange, r.code)) (slice_get p.routes i)
+    → Some k ≡ option_map pair_of (slice_get p.routes i)
     → (k.1 == c) ≡ true → false ≡ is_unlisted p c
 listed_there p i c k got same =
     let there = route_of_pair p i k got in
@@ -143,7 +146,7 @@ listed_there p i c k got same =
 
 -- none so far
 pub unlisted_more : (p : Plan) (i c : ℕ) (k : ℕ × ℕ)
-    → Some k ≡ option_map (λ (r : Route). (r.exchange, r.code)) (slice_get p.routes i)
+    → Some k ≡ option_map pair_of (slice_get p.routes i)
     → (k.1 == c) ≡ false → list_any (λ (r : Route). r.code == c) (take i p.routes) ≡ false
     → list_any (λ (r : Route). r.code == c) (take (i + 1) p.routes) ≡ false
 unlisted_more p i c k got other before =
@@ -164,7 +167,7 @@ unlisted_all p i c more all none is =
 
 pub list_told : (p : Plan) (risks : List NamedRisk) (comes : Coming) (i line : ℕ) (k : ℕ × ℕ)
     (groups : List ℕ) (coming : Bool) (a b e : List (ℕ × Warning)) → IsPlan p
-    → Some k ≡ option_map (λ (r : Route). (r.exchange, r.code)) (slice_get p.routes i)
+    → Some k ≡ option_map pair_of (slice_get p.routes i)
     → groups ≡ route_list p k.0 k.1 → coming ≡ comes k.1 k.0
     → b ≡ a ++ map (λ w. (line, w)) (warned_if (not coming) UnusedList)
     → e ≡ b ++ map (λ w. (line, w))
@@ -193,12 +196,12 @@ list_told p risks comes i line k groups coming a b e ok got list is f g =
 -- an index without a route
 pub none_told : (p : Plan) (risks : List NamedRisk) (comes : Coming) (i line : ℕ)
     (a : List (ℕ × Warning))
-    → None ≡ option_map (λ (r : Route). (r.exchange, r.code)) (slice_get p.routes i)
+    → None ≡ option_map pair_of (slice_get p.routes i)
     → a ≡ a ++ map (λ w. (line, w))
     (option_map_or (list_warnings p risks comes) (slice_get p.routes i) [])
 none_told p risks comes i line a none = by (slice_get p.routes i) none
   where
-    by : (o : Option Route) → None ≡ option_map (λ (r : Route). (r.exchange, r.code)) o
+    by : (o : Option Route) → None ≡ option_map pair_of o
         → a ≡ a ++ map (λ w. (line, w)) (option_map_or (list_warnings p risks comes) o [])
     by None e = sym (append-nil a)
     by (Some r) e = absurd (let bad : ⊥ = cc in bad)

@@ -35,6 +35,10 @@ IsLintBy (f ∷ fs) s risks l = l ≡ Faults (f ∷ fs)
 abbrev pub IsLintOf : (text : List ℕ) → List NamedRisk → Lint → Type 0
 IsLintOf text risks l = IsLintBy (faults_of text) (progress_of text) risks l
 
+-- a fault, with the word that it borrows
+abbrev pub fault_held : FaultHeld → Fault
+fault_held f = record { line = f.line; kind = f.kind; word = option_map (λ w. w.now) f.word }
+
 -- a text was looked through that has these faults, and of which this was read
 abbrev pub IsLookBy : {A : Type 0} → List Fault → Progress → Look A → Type 0
 IsLookBy faults s (HeldFaultsOf fs) = (map fault_held fs.items ≡ faults) × (faults ≢ [])
@@ -58,10 +62,6 @@ warnings_status (w ∷ ws) = 1
 abbrev pub lint_status : Lint → ℕ
 lint_status (Faults fs) = 2
 lint_status (Warnings p risks ws) = warnings_status ws
-
--- a fault, with the word that it borrows
-abbrev pub fault_held : FaultHeld → Fault
-fault_held f = record { line = f.line; kind = f.kind; word = option_map (λ w. w.now) f.word }
 
 -- the faults or warnings, as they are held
 abbrev pub lint_held : {A : Type 0} → LintHeld A → Lint

@@ -64,8 +64,7 @@ impl<A: Allocator> RightText<A> {
 impl<A: Allocator + Copy> RightText<A> {
     /// The warnings of the plan, with these risks. `Err` is lack of memory.
     pub fn warned(self, alloc: A, risks: Risks<A>) -> Result<Lint<'static, A>, NoMemory>
-        ensures { IfOk result (λ l. AreWarningsOf self.entry.0 self.entry.1 risks.entry
-            (lint_held l)) }
+        ensures { IfOk result (λ l. AreWarningsOf self.0 self.1 risks (lint_held l)) }
     {
         let warnings = warnings_of(alloc, &self.plan, &self.entries, &risks)?;
         Ok(Lint::Warnings(self.plan, risks, warnings))

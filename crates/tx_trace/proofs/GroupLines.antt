@@ -13,6 +13,7 @@ use Rattle.tx_plan.specs.Rules.{IsPlan}
 use Rattle.tx_plan.specs.Routes.{route_list}
 use Rattle.tx_plan.proofs.ByIndex.{entry_at}
 use Rattle.tx_plantext.specs.PlanWritten.{route_words}
+use Rattle.tx_mend.proofs.Adding.{pair_of}
 use Rattle.tx_mend.proofs.Copied.{route_got}
 use Rattle.tx_trace.specs.Ways.{is_in}
 use Rattle.tx_trace.specs.GroupText.{route_with}
@@ -51,17 +52,17 @@ module _ (p : Plan) (g x i : ℕ) where
   abbrev there : List ℕ
   there = option_map_or (route_with p g x) (slice_get p.routes i) []
 
-  pub none_there : None ≡ option_map (λ (r : Route). (r.exchange, r.code)) (slice_get p.routes i)
+  pub none_there : None ≡ option_map pair_of (slice_get p.routes i)
       → there ≡ []
   none_there none = by (slice_get p.routes i) none
     where
-      by : (o : Option Route) → None ≡ option_map (λ (r : Route). (r.exchange, r.code)) o
+      by : (o : Option Route) → None ≡ option_map pair_of o
           → option_map_or (route_with p g x) o [] ≡ []
       by None e = refl
       by (Some r) e = absurd (let bad : ⊥ = cc in bad)
 
   module _ (ok : IsPlan p) (k : ℕ × ℕ)
-      (got : Some k ≡ option_map (λ (r : Route). (r.exchange, r.code)) (slice_get p.routes i)) where
+      (got : Some k ≡ option_map pair_of (slice_get p.routes i)) where
     abbrev route : Route
     route = record { exchange = k.0; code = k.1; groups = route_list p k.0 k.1 }
 

@@ -8,7 +8,7 @@ use Rattle.tx_lint.proofs.warnings.is_unlisted.Goals as goal
 
 pub returns-then-eq : goal.returns-then-eq
 returns-then-eq g c =
-    let same : (c.in-Some.listed == c.args.code) ≡ true = search rules in
+    let same : (c.in-Some.listed-1-given.0.0.1 == c.args.code) ≡ true = search rules in
     listed_there c.args.plan.now c.loop-index.index c.args.code _ c.in-Some.ensures.value same
 
 pub unreachable-requires : goal.unreachable-requires
@@ -22,7 +22,7 @@ unreachable-requires g c =
 
 pub loop-index-preserved : goal.loop-index-preserved
 loop-index-preserved g c =
-    let other : (c.in-Some.listed == c.args.code) ≡ false = search rules in
+    let other : (c.in-Some.listed-1-given.0.0.1 == c.args.code) ≡ false = search rules in
     unlisted_more c.args.plan.now c.loop-index.index c.args.code _ c.in-Some.ensures.value other
     c.loop-index.invariant
 
