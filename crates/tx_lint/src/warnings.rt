@@ -225,8 +225,8 @@ fn is_unlisted<A: Allocator>(plan: &Plan<A>, code: CodeId) -> bool
 {
     for index in 0..plan.routes() {
         match plan.route_at(index) {
-            Some((_, listed)) => {
-                if listed == code {
+            Some(pair) => {
+                if pair.1 == code {
                     return false;
                 }
             }

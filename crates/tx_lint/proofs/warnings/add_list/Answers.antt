@@ -7,7 +7,7 @@ use Rattle.tx_lint.proofs.warnings.add_list.Goals as goal
 pub returns : goal.returns
 returns g c =
     IfOk-weaker c.add_shared_risks.result _ _ (λ x more. list_told c.args.plan.now c.args.risks.now
-    (coming_of c.args.marks.now) c.args.index c.args.line (c.in-Some.exchange, c.in-Some.code)
+    (coming_of c.args.marks.now) c.args.index c.args.line _
     c.list.result.now c.comes-unused.result c.args.found.now.items c.add_if.new.found.items
     c.add_shared_risks.new.found.items c.list.ensures.rules c.in-Some.ensures.value
     c.list.ensures.value c.comes-unused.ensures c.in_ok-add_if.ensures more)

@@ -8,8 +8,8 @@ use Rattle.tx_lint.proofs.warnings.is_unlisted.Goals as goal
 
 pub returns-then-eq : goal.returns-then-eq
 returns-then-eq g c =
-    let same : (c.in-Some.listed-1-given.0.0.1 == c.args.code) ≡ true = search rules in
-    listed_there c.args.plan.now c.loop-index.index c.args.code _ c.in-Some.ensures.value same
+    let same : (c.in-Some.pair.1 == c.args.code) ≡ true = search rules in
+    listed_there c.args.plan.now c.loop-index.index c.args.code c.in-Some.pair (sym c.in-Some.is ∙ c.route_at.ensures.value) same
 
 pub unreachable-requires : goal.unreachable-requires
 unreachable-requires g c =
@@ -22,8 +22,8 @@ unreachable-requires g c =
 
 pub loop-index-preserved : goal.loop-index-preserved
 loop-index-preserved g c =
-    let other : (c.in-Some.listed-1-given.0.0.1 == c.args.code) ≡ false = search rules in
-    unlisted_more c.args.plan.now c.loop-index.index c.args.code _ c.in-Some.ensures.value other
+    let other : (c.in-Some.pair.1 == c.args.code) ≡ false = search rules in
+    unlisted_more c.args.plan.now c.loop-index.index c.args.code c.in-Some.pair (sym c.in-Some.is ∙ c.route_at.ensures.value) other
     c.loop-index.invariant
 
 pub returns : goal.returns
