@@ -5,20 +5,23 @@ _telexplan() {
         --limit) words=$(echo {0..62}) ;;
         --spare) words=$(echo {0..15}) ;;
         --stage) words=$(echo {1..128}) ;;
-        --cert | --mixture | --plan | --risks | --counter | --code) ;;
+        --cert | --mixture | --plan | --risks | --counter | --code | --down | --group) ;;
         *)
             case $COMP_CWORD:${COMP_WORDS[1]}:$word in
-                1:*) words="lint audit grade mend change order survive check run codes trace draw explain help --help --version" ;;
-                *:help:*) words="lint audit grade mend change order survive check run codes trace draw explain" ;;
+                1:*) words="lint audit grade mend change order survive check run codes trace fill draw explain help --help --version" ;;
+                *:help:*) words="lint audit grade mend change order survive check run codes trace fill draw explain" ;;
                 *:explain:*) words="--help $(telexplan explain 2>/dev/null | cut -d ' ' -f 1)" ;;
                 *:audit:-*) words="--limit --spare --cert --counter --help" ;;
                 *:mend:-*) words="--limit --spare --plan --cert --help" ;;
                 *:change:-*) words="--limit --spare --cert --mixture --counter --help" ;;
                 *:order:-*) words="--limit --spare --stage --plan --cert --help" ;;
-                *:survive:-*) words="--risks --help" ;;
+                *:lint:-*) words="--risks --help" ;;
+                *:survive:-*) words="--risks --risks-only --totals --help" ;;
                 *:check:-*) words="--limit --spare --help" ;;
                 *:run:-*) words="--cert --limit --spare --strict --echo --summary --help" ;;
-                *:lint:-* | *:grade:-* | *:codes:-* | *:trace:-*) words="--help" ;;
+                *:grade:-* | *:codes:-*) words="--help" ;;
+                *:trace:-*) words="--down --group --help" ;;
+                *:fill:-*) words="--down --help" ;;
                 *:draw:-*) words="--code --limit --spare --help" ;;
             esac
             ;;

@@ -453,8 +453,16 @@ def case_of(example):
     kinds = {"run": telling_of(example.words), "draw": drawn, "codes": "codes", "grade": "grade"} | {it: it + bounds for it in ("check", "audit", "change", "mend")}
     staged = example.option("--stage")
     kinds |= {"order": f"stage{bounds} {staged}" if staged else f"order{bounds}"}
-    kinds |= {"survive": "survive" if example.option("--risks") else "survive alone", "trace": " ".join(["trace", *example.words[2:]]), "lint": " ".join(example.words)}
+    kinds |= {"survive": "survive" if example.option("--risks") else "survive alone", "trace": asked_of(example, "--down"), "fill": asked_of(example, "--down"), "lint": " ".join(["lint", *["risks"] * bool(example.option("--risks")), *example.words[1:2]])}
+    if example.option("--group"):
+        kinds["trace"] = f"trace group {example.option('--group')}"
     return (kinds[verb], b"---\n".join(texts)) if verb in kinds else None
+
+
+def asked_of(example, last):
+    """The kind of a case for a command over a plan: the words behind it, and the word of its last option."""
+    words = [it for it in example.words[2:4] if not it.startswith("--")]
+    return " ".join([example.words[0], *words, *filter(None, [example.option(last)])])
 
 
 def evidence_of(example):
@@ -704,7 +712,7 @@ def words_told():
     told = {words: text for words, text, _ in told_at_ends() if "\nUsage: " in text}
     commands = re.findall(r"(?m)^  ([a-z]+) ", told["--help"].partition("Commands:")[2])
     helps = {it: told.get(f"{it} --help", told.get(f"help {it}")) for it in commands if it != "help"}
-    return {it: text and set(re.findall(r"(?m)^ +(?:-\w, )?(--\w+)", text)) for it, text in helps.items()}
+    return {it: text and set(re.findall(r"(?m)^ +(?:-\w, )?(--[\w-]+)", text)) for it, text in helps.items()}
 
 
 def check_completion(tell, told):
@@ -723,15 +731,19 @@ def check_manual(tell, told):
     """The manual page has each command with the options that its help tells, and says what each of them is."""
     text = read("docs/telexplan.1").decode()
     lines = re.findall(r"(?ms)^\.SY telexplan\n(.*?)^\.YS", text)
-    shown = {found[1]: set(re.findall(r"\\-\\-\w+", it)) for it in lines for found in [re.match(r"\.B (\w+)\n", it)] if found}
+    spelled = lambda option: option.replace("-", "\\-")
+    shown = {}
+    for it in lines:
+        if found := re.match(r"\.B (\w+)\n", it):
+            shown.setdefault(found[1], set()).update(re.findall(r"\\-\\-\w+(?:\\-\w+)*", it))
     for it in [*told, "help"]:
-        wanted = {f"\\-\\-{option[2:]}" for option in told.get(it, ()) if option != "--help"}
+        wanted = {spelled(option) for option in told.get(it, ()) if option != "--help"}
         if shown.get(it) != wanted:
             tell(f"docs/telexplan.1: the synopsis of {it} is missing or has other options than its help")
         if it != "help" and f"\n.TP\n.B {it}\n" not in text:
             tell(f"docs/telexplan.1: it does not say what {it} is")
     for option in sorted(set().union(*told.values())):
-        if not re.search(rf"(?m)^\.TP\n\.B\w? .*\\-\\-{option[2:]}\b", text):
+        if not re.search(rf"(?m)^\.TP\n\.B\w? .*{re.escape(spelled(option))}\b", text):
             tell(f"docs/telexplan.1: it does not say what {option} is")
 
 

@@ -56,7 +56,7 @@ check_words =
 
 -- the arguments of `lint`
 abbrev pub lint_words : App
-lint_words = plan_words (codes "lint")
+lint_words = with_rule (plan_words (codes "lint")) (option (codes "risks"))
 
 -- the arguments of `grade`
 abbrev pub grade_words : App
@@ -82,13 +82,28 @@ mend_words =
 
 -- the arguments of `survive`
 abbrev pub survive_words : App
-survive_words = with_rule (plan_words (codes "survive")) (option (codes "risks"))
+survive_words =
+    with_rule (with_rule (with_rule
+    (plan_words (codes "survive")) (option (codes "risks"))) (flag (codes "risks-only")))
+    (flag (codes "totals"))
 
--- a command with a plan, and with two words that have to be given as it has
+-- a word that goes by position, and need not be given
+abbrev pub word : List ℕ → Rule
+word id = record (new_rule id) { value_names = 1; action = Some Set }
+
+-- the arguments of `trace`
 abbrev pub trace_words : App
 trace_words =
-    with_rule (with_rule
-    (plan_words (codes "trace")) (file (codes "exchange"))) (file (codes "code"))
+    with_rule (with_rule (with_rule (with_rule
+    (plan_words (codes "trace")) (word (codes "exchange"))) (word (codes "code")))
+    (option (codes "down"))) (option (codes "group"))
+
+-- the arguments of `fill`
+abbrev pub fill_words : App
+fill_words =
+    with_rule (with_rule (with_rule
+    (plan_words (codes "fill")) (file (codes "exchange"))) (file (codes "code")))
+    (option (codes "down"))
 
 -- a command whose words are two plans
 abbrev pub change_words : App
@@ -110,9 +125,7 @@ draw_words =
 
 -- a code, which need not be given
 abbrev pub explain_words : App
-explain_words =
-    with_rule (new_app (codes "explain"))
-    (record (new_rule (codes "code")) { value_names = 1; action = Some Set })
+explain_words = with_rule (new_app (codes "explain")) (word (codes "code"))
 
 -- the program takes its words from the first on, and prints its version
 abbrev pub top_words : App
@@ -132,4 +145,5 @@ judging_words =
 abbrev pub program_words : App
 program_words =
     with_subcommand (with_subcommand (with_subcommand (with_subcommand (with_subcommand
-    judging_words run_words.top) codes_words.top) trace_words.top) draw_words.top) explain_words.top
+    (with_subcommand judging_words run_words.top) codes_words.top) trace_words.top) fill_words.top)
+    draw_words.top) explain_words.top

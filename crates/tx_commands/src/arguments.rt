@@ -69,6 +69,15 @@ impl<'a> Syntax<'a> {
         self.arg(file)
     }
 
+    /// Adds a word that goes by position, and need not be given.
+    pub(crate) fn word(self, id: &'a str, shown: &'a str, help: &'a str) -> Syntax<'a>
+        ensures { (app : App) → Takes self.entry app
+            → Takes result (with_rule app (grammar.word id.now)) }
+    {
+        let word = word(self.alloc, id, shown, help);
+        self.arg(word)
+    }
+
     /// Adds an option with a word.
     pub(crate) fn option(self, id: &'a str, shown: &'a str, help: &'a str) -> Syntax<'a>
         ensures { (app : App) → Takes self.entry app
@@ -109,8 +118,7 @@ impl<'a> Syntax<'a> {
 
 /// A word that goes by position.
 pub(crate) fn word<'a>(alloc: Global, id: &'a str, shown: &'a str, help: &'a str) -> Arg<'a>
-    ensures rule { rule_of result
-        ≡ record (new_rule id.now) { value_names = 1; action = Some Set } }
+    ensures rule { rule_of result ≡ grammar.word id.now }
     ensures local { result.global ≡ false }
 {
     Arg::new(alloc, id)

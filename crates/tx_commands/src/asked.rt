@@ -68,6 +68,18 @@ fn limits(matches: &ArgMatches<'_>) -> Option<(u8, u8)>
     }
 }
 
+/// The words of `lint` after the plan.
+fn lint_of(alloc: Global, plan: String, matches: &ArgMatches<'_>) -> Result<Command, Misuse>
+    requires { Names (rows_of (found_of matches.now)) (codes "plan") plan }
+    ensures range { IfOk result IsInRange }
+    ensures asked { IfOk result (Asks (codes "lint") (rows_of (found_of matches.now))) }
+    ensures refused { IfErr result
+        (IsRefused (Some (codes "lint", rows_of (found_of matches.now)))) }
+{
+    let risks = text(alloc, matches, "risks")?;
+    Ok(Command::Lint { plan, risks })
+}
+
 /// The words of `check` after the plan.
 fn check_of(alloc: Global, plan: String, matches: &ArgMatches<'_>) -> Result<Command, Misuse>
     requires { Names (rows_of (found_of matches.now)) (codes "plan") plan }
@@ -198,8 +210,18 @@ fn survive_of(alloc: Global, plan: String, matches: &ArgMatches<'_>) -> Result<C
     ensures refused { IfErr result
         (IsRefused (Some (codes "survive", rows_of (found_of matches.now)))) }
 {
-    let risks = text(alloc, matches, "risks")?;
-    Ok(Command::Survive { plan, risks })
+    let only = is_set(matches, "risks-only");
+    let totals = is_set(matches, "totals");
+    let risks = match text(alloc, matches, "risks")? {
+        Some(risks) => Some((risks, only)),
+        None if only => return Err(Misuse::RisksOnly),
+        None => None,
+    };
+    Ok(Command::Survive {
+        plan,
+        risks,
+        totals,
+    })
 }
 
 /// The words of `trace` after the plan.
@@ -212,11 +234,37 @@ fn trace_of(alloc: Global, plan: String, matches: &ArgMatches<'_>) -> Result<Com
 {
     let exchange = text(alloc, matches, "exchange")?;
     let code = text(alloc, matches, "code")?;
-    match (exchange, code) {
-        (Some(exchange), Some(code)) => Ok(Command::Trace {
+    let down = text(alloc, matches, "down")?;
+    let group = text(alloc, matches, "group")?;
+    match (exchange, code, down, group) {
+        (Some(exchange), Some(code), down, None) => Ok(Command::Trace {
             plan,
             exchange,
             code,
+            down,
+        }),
+        (None, None, None, Some(group)) => Ok(Command::TraceGroup { plan, group }),
+        _ => Err(Misuse::TraceWords),
+    }
+}
+
+/// The words of `fill` after the plan.
+fn fill_of(alloc: Global, plan: String, matches: &ArgMatches<'_>) -> Result<Command, Misuse>
+    requires { Names (rows_of (found_of matches.now)) (codes "plan") plan }
+    ensures range { IfOk result IsInRange }
+    ensures asked { IfOk result (Asks (codes "fill") (rows_of (found_of matches.now))) }
+    ensures refused { IfErr result
+        (IsRefused (Some (codes "fill", rows_of (found_of matches.now)))) }
+{
+    let exchange = text(alloc, matches, "exchange")?;
+    let code = text(alloc, matches, "code")?;
+    let down = text(alloc, matches, "down")?;
+    match (exchange, code) {
+        (Some(exchange), Some(code)) => Ok(Command::Fill {
+            plan,
+            exchange,
+            code,
+            down,
         }),
         _ => Err(Misuse::Incomplete),
     }
@@ -316,12 +364,13 @@ pub(crate) fn plan_command(
     match name {
         "run" => run_of(alloc, plan, matches),
         "check" => check_of(alloc, plan, matches),
-        "lint" => Ok(Command::Lint { plan }),
+        "lint" => lint_of(alloc, plan, matches),
         "codes" => Ok(Command::Codes { plan }),
         "audit" => audit_of(alloc, plan, matches),
         "grade" => Ok(Command::Grade { plan }),
         "survive" => survive_of(alloc, plan, matches),
         "trace" => trace_of(alloc, plan, matches),
+        "fill" => fill_of(alloc, plan, matches),
         "draw" => draw_of(alloc, plan, matches),
         _ => Err(Misuse::Incomplete),
     }

@@ -66,10 +66,10 @@ fn codes_grammar<'a>(alloc: Global) -> Result<clap::Command<'a>, AllocError>
     .command
 }
 
-const TRACE_HELP: &str = "Example: telexplan trace own.plan NORTH 24
+const TRACE_HELP: &str = "Example: telexplan trace own.plan NORTH 24 --down CENO1,CENO2
 
 Exit status: 0 after the trace, 2 for a refused text, 3 for a failed read or write, 4 when out of
-memory, 64 for refused words, and for an exchange or a code that is not in the plan";
+memory, 64 for refused words, and for an exchange, a code or a group that is not in the plan";
 
 fn trace_grammar<'a>(alloc: Global) -> Result<clap::Command<'a>, AllocError>
     ensures { IfOk result (λ c. app_of c ≡ grammar.trace_words) }
@@ -80,12 +80,41 @@ fn trace_grammar<'a>(alloc: Global) -> Result<clap::Command<'a>, AllocError>
         "Show how calls for a code go from an exchange: the way while all is free, and the lists",
         TRACE_HELP,
     )
-    .file(
+    .word(
         "exchange",
         "EXCHANGE",
         "The exchange from which the calls go",
     )
+    .word("code", "CODE", "Their destination code")
+    .option("down", "GROUP,..", DOWN)
+    .option(
+        "group",
+        "GROUP",
+        "Show each list that has this group; without an exchange and a code",
+    )
+    .command
+}
+
+/// What the help says of the groups that are down.
+const DOWN: &str = "The groups that are down, with a comma between two";
+
+const FILL_HELP: &str = "Example: telexplan fill own.plan NORTH 24 --down CENO1,CENO2
+
+Exit status: 0 after the report, 2 for a refused text, 3 for a failed read or write, 4 when out of
+memory, 64 for refused words, and for an exchange, a code or a group that is not in the plan";
+
+fn fill_grammar<'a>(alloc: Global) -> Result<clap::Command<'a>, AllocError>
+    ensures { IfOk result (λ c. app_of c ≡ grammar.fill_words) }
+{
+    Syntax::over_plan(
+        alloc,
+        "fill",
+        "Say how many calls for a code an exchange can have at once, and which groups are full",
+        FILL_HELP,
+    )
+    .file("exchange", "EXCHANGE", "The exchange where the calls start")
     .file("code", "CODE", "Their destination code")
+    .option("down", "GROUP,..", DOWN)
     .command
 }
 
@@ -176,7 +205,10 @@ pub(crate) fn grammar<'a>(alloc: Global) -> Result<clap::Command<'a>, AllocError
     );
     let program = with_command(
         with_command(program, trace_grammar(alloc)),
-        draw_grammar(alloc),
+        fill_grammar(alloc),
     );
-    with_command(program, explain_grammar(alloc))
+    with_command(
+        with_command(program, draw_grammar(alloc)),
+        explain_grammar(alloc),
+    )
 }

@@ -8,7 +8,11 @@ use crate::arguments::{PLAN, Syntax};
 use crate::grammar::{top_grammar, with_command};
 use std::alloc::{AllocError, Global};
 
-const LINT_HELP: &str = "Example: telexplan lint own.plan
+/// What the help says of the named risks.
+const RISKS: &str = "The named risks, such as cables: lines RISK name group .., between
+RISKS 1 and END; - is standard input";
+
+const LINT_HELP: &str = "Example: telexplan lint own.plan --risks cables
 
 Exit status: 0 without any line, 1 after warnings, 2 after faults, 3 for a failed read or write, 4
 when out of memory, 64 for refused words";
@@ -22,6 +26,7 @@ fn lint_grammar<'a>(alloc: Global) -> Result<clap::Command<'a>, AllocError>
         "Report all faults of a plan's text, or else what in it is of no use or likely not meant",
         LINT_HELP,
     )
+    .option("risks", "RISKS", RISKS)
     .command
 }
 
@@ -197,11 +202,11 @@ fn survive_grammar<'a>(alloc: Global) -> Result<clap::Command<'a>, AllocError>
         "Say whom each group, exchange and named risk of a plan cuts off if it fails alone",
         SURVIVE_HELP,
     )
-    .option(
-        "risks",
-        "RISKS",
-        "The named risks, such as cables: lines RISK name group .., between
-RISKS 1 and END; - is standard input",
+    .option("risks", "RISKS", RISKS)
+    .flag("risks-only", "Try the named risks alone")
+    .flag(
+        "totals",
+        "Print how many starts each outage cuts off, and not which ones",
     )
     .command
 }

@@ -17,6 +17,10 @@ pub(crate) enum Misuse {
     DrawTogether,
     /// `order` has a file to be made, and no stage.
     StageMissing,
+    /// `survive` has `--risks-only` without `--risks`.
+    RisksOnly,
+    /// `trace` has neither an exchange and a code nor a group, or it has both.
+    TraceWords,
     /// `explain` has a word that is no code.
     NoSuchCode,
     /// Standard input is to be read for two files.

@@ -69,6 +69,14 @@ fn in_its_words(
     Ok(WordsFault::of_clap(e))
 }
 
+/// A refusal of options without another one with which they go.
+fn missing(grammar: &mut clap::Command<'_>, message: &str) -> Result<WordsFault, AllocError>
+    ensures { IfOk result
+        (λ fault. (command : Option (List ℕ × List Row)) → IsRefusalIn command fault) }
+{
+    in_its_words(grammar, ErrorKind::MissingRequiredArgument, message)
+}
+
 /// Why the words are refused. What has no fault of its own is reported in the words of the library.
 fn words_fault(grammar: &mut clap::Command<'_>, misuse: Misuse) -> Result<WordsFault, AllocError>
     ensures { IfOk result (λ fault. (command : Option (List ℕ × List Row))
@@ -87,11 +95,16 @@ fn words_fault(grammar: &mut clap::Command<'_>, misuse: Misuse) -> Result<WordsF
             ErrorKind::ArgumentConflict,
             "--strict, --echo and --summary do not go with --cert",
         ),
-        Misuse::DrawTogether => in_its_words(
-            grammar,
-            ErrorKind::MissingRequiredArgument,
-            "--limit and --spare go together, and with --code",
-        ),
+        Misuse::DrawTogether => {
+            missing(grammar, "--limit and --spare go together, and with --code")
+        }
+        Misuse::RisksOnly => { missing(grammar, "--risks-only goes with --risks") }
+        Misuse::TraceWords => {
+            missing(
+                grammar,
+                "trace takes an exchange and a code, or --group alone",
+            )
+        }
         Misuse::StageMissing => in_its_words(
             grammar,
             ErrorKind::MissingRequiredArgument,
@@ -100,7 +113,7 @@ fn words_fault(grammar: &mut clap::Command<'_>, misuse: Misuse) -> Result<WordsF
         Misuse::NoSuchCode => in_its_words(
             grammar,
             ErrorKind::InvalidValue,
-            "no such code; there are X1 to X3, P3 to P22, A1 to A6, C1 to C10, S1 to S7, Q1 to Q11, M1 to M12, K1 to K7 and F1 to F5, those of a ticket, as NC or CLRA, and the names, as Overlap",
+            "no such code; there are X1 to X3, P3 to P22, A1 to A9, C1 to C10, S1 to S7, Q1 to Q11, M1 to M12, K1 to K7 and F1 to F5, those of a ticket, as NC or CLRA, and the names, as Overlap",
         ),
         Misuse::InputTwice => in_its_words(
             grammar,

@@ -58,6 +58,9 @@ pub enum JobFault {
     /// The plan has no code of the figures that were asked for.
     #[error("the plan has no such code")]
     NoSuchCode,
+    /// The plan has no group of a name that was asked for.
+    #[error("the plan has no such group")]
+    NoSuchGroup,
 }
 
 impl From<NoMemory> for JobFault {
@@ -227,7 +230,7 @@ impl JobFault {
             | JobFault::Risks(_) => 2,
             JobFault::Read | JobFault::Write => 3,
             JobFault::NoMemory => 4,
-            JobFault::NoSuchStage(_) | JobFault::NoSuchExchange | JobFault::NoSuchCode => 64,
+            JobFault::NoSuchStage(_) | JobFault::NoSuchExchange | JobFault::NoSuchCode | JobFault::NoSuchGroup => 64,
         }
     }
 

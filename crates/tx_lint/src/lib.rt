@@ -19,6 +19,6 @@ mod word_tests;
 pub use fault::{Fault, LintFault};
 pub use law::faults_agree_with_reader;
 pub use lint_text::write_lint;
-pub use linting::{Lint, lint_plan};
+pub use linting::{Lint, Look, RightText, lint_plan, look_through};
 pub use reading::read_text;
 pub use warning::Warning;

@@ -8,3 +8,5 @@ pub mod Ranking
 pub mod FreeCircuits
 pub mod OnlyCall
 pub mod Texts
+pub mod Left
+pub mod GroupLines

@@ -1,5 +1,5 @@
 -- Why the words of a command that was found are refused.
-use Rattle.std.specs.Prelude.{◌≡◌, ℕ, true, false, ◌&&◌, ◌||◌, List, Option, Some, option_map, codes, IsSomeAnd}
+use Rattle.std.specs.Prelude.{◌≡◌, ℕ, true, false, not, ◌&&◌, ◌||◌, List, Option, Some, option_map, codes, IsSomeAnd}
 use Rattle.clap.specs.Words.{Row, first_of}
 use Rattle.tx_explain.specs.Entries.{is_known}
 use Rattle.tx_commands.specs.Commands.{IsFoundIn, is_set}
@@ -7,7 +7,7 @@ use Rattle.tx_commands.specs.Files.{reads_input_twice, overwrites}
 use Rattle.tx_commands.specs.Faults.{has, IsRunInPart}
 use Rattle.tx_commands.specs.declared.command.Command.{Command}
 use Rattle.tx_commands.specs.declared.misuse.Misuse.{Misuse}
-use Rattle.tx_commands.specs.declared.misuse.Misuse.TheVariants.{Together, CheckedTelling, DrawTogether, StageMissing, NoSuchCode, InputTwice, Overwrites}
+use Rattle.tx_commands.specs.declared.misuse.Misuse.TheVariants.{Together, CheckedTelling, DrawTogether, StageMissing, RisksOnly, TraceWords, NoSuchCode, InputTwice, Overwrites}
 
 -- `run` has a certificate, and an option by which it prints more
 pub record IsCheckedTelling (name : List ℕ) (found : List Row) : Type 0 where
@@ -28,6 +28,22 @@ pub record IsStageMissing (name : List ℕ) (found : List Row) : Type 0 where
   pub order : name ≡ codes "order"
   pub some : (has found (codes "plan") || has found (codes "cert")) ≡ true
   pub none : has found (codes "stage") ≡ false
+
+-- `survive` is to try the named risks alone, and none are named
+pub record IsRisksOnly (name : List ℕ) (found : List Row) : Type 0 where
+  pub survive : name ≡ codes "survive"
+  pub only : is_set found (codes "risks-only") ≡ true
+  pub none : has found (codes "risks") ≡ false
+
+-- `trace` has neither an exchange and a code without a group, nor a group alone
+pub record IsTraceInPart (name : List ℕ) (found : List Row) : Type 0 where
+  pub trace : name ≡ codes "trace"
+  pub not_calls :
+      (has found (codes "exchange") && (has found (codes "code") && not (has found (codes "group"))))
+      ≡ false
+  pub not_group :
+      (has found (codes "group") && not (has found (codes "exchange")
+      || (has found (codes "code") || has found (codes "down")))) ≡ false
 
 -- `explain` has a word that asks for no entry of the table
 pub record IsNoCode (name : List ℕ) (found : List Row) : Type 0 where
@@ -51,6 +67,8 @@ IsRefused command Together = IsSomeAnd command (λ c. IsRunInPart c.0 c.1)
 IsRefused command CheckedTelling = IsSomeAnd command (λ c. IsCheckedTelling c.0 c.1)
 IsRefused command DrawTogether = IsSomeAnd command (λ c. IsDrawInPart c.0 c.1)
 IsRefused command StageMissing = IsSomeAnd command (λ c. IsStageMissing c.0 c.1)
+IsRefused command RisksOnly = IsSomeAnd command (λ c. IsRisksOnly c.0 c.1)
+IsRefused command TraceWords = IsSomeAnd command (λ c. IsTraceInPart c.0 c.1)
 IsRefused command NoSuchCode = IsSomeAnd command (λ c. IsNoCode c.0 c.1)
 IsRefused command InputTwice = AskForClash command InputTwice
 IsRefused command Overwrites = AskForClash command Overwrites
