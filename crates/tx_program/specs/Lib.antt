@@ -1,2 +1,2 @@
 pub mod Statuses
-pub mod Places
+pub mod SameFile

@@ -1,6 +1,6 @@
 // The files that commands name.
 use crate::draft::Draft;
-use crate::place::Place;
+use crate::file_id::FileId;
 use std::fs::File;
 use std::io;
 use std::io::{Read, Write};
@@ -13,9 +13,9 @@ pub trait Folder {
     /// A file that is being made.
     type Output: Write + Drop;
 
-    /// Where a name leads, if a file is there or can be made there. Names of one file lead to one
-    /// place. `-` leads to what standard input was redirected from.
-    fn find(&self, name: &str) -> Option<Place>;
+    /// Which file is meant by a name, if that is known: names of one file have one id. `-` means what
+    /// standard input was redirected from.
+    fn identify(&self, name: &str) -> Option<FileId>;
 
     /// Opens a file to be read.
     fn open(&self, name: &str) -> io::Result<Self::Input>;
@@ -23,7 +23,7 @@ pub trait Folder {
     /// Begins to make a file. What has its name stays as it is until the file is finished.
     fn begin(&self, name: &str) -> io::Result<Self::Output>;
 
-    /// Gives the file, which is whole, its name, in names of what had it.
+    /// Gives the file, which is whole, its name, in place of what had it.
     fn finish(&self, file: Self::Output) -> io::Result<()>;
 
     /// Gives the file up. What has its name stays.
@@ -36,8 +36,8 @@ impl Folder for HostRuntime {
 
     type Output = Draft;
 
-    fn find(&self, name: &str) -> Option<Place> {
-        Place::of(self, name)
+    fn identify(&self, name: &str) -> Option<FileId> {
+        FileId::of(self, name)
     }
 
     fn open(&self, name: &str) -> io::Result<File> {

@@ -4,20 +4,20 @@
 
 mod draft;
 mod ends;
+mod file_id;
 mod folder;
 mod input;
 mod kind;
 mod new_file;
 mod output_files;
-mod place;
 mod program;
 mod stop;
 mod targets;
 mod tell;
 
 pub use draft::Draft;
+pub use file_id::FileId;
 pub use folder::Folder;
-pub use place::Place;
 pub use program::{Ends, run_command, run_words};
 pub use tell::{refuse_arguments, tell_words};
 pub use tx_commands::{Command, WordsFault, read_command};

@@ -1,19 +1,19 @@
-// The files that a command makes, and what they would take the place of.
+// The files that a command makes, none of which is another file of it.
 ghost use Rattle.std.specs.Prelude.{◌≡◌, false, IfOk};
-ghost use Rattle.tx_program.specs.Places.{found, has_clash};
+ghost use Rattle.tx_program.specs.SameFile.{has_clash, known};
 
 use crate::draft::is_open_already;
+use crate::file_id::{KnownFile, clash};
 use crate::folder::Folder;
 use crate::kind::{MADE, TextKind, kind_of};
-use crate::place::{Found, clash};
 use crate::stop::Stop;
 use std::alloc::Allocator;
 use tx_commands::Files;
 
-/// The files that a command makes, by their names, and where those are that it reads.
+/// The files that a command makes, by their names, and the files that it reads.
 #[derive(Clone, Copy, Debug)]
 pub(crate) struct Targets<'n> {
-    read: [Option<Found<'n>>; 3],
+    read: [Option<KnownFile<'n>>; 3],
     names: [Option<&'n str>; 3],
 }
 
@@ -34,13 +34,13 @@ impl<'n> Targets<'n> {
         let [first, second, third] = files.reads;
         let targets = Targets {
             read: [
-                look_for(first, folder),
-                look_for(second, folder),
-                look_for(third, folder),
+                identify(first, folder),
+                identify(second, folder),
+                identify(third, folder),
             ],
             names: files.makes(),
         };
-        let made = targets.find(folder)?;
+        let made = targets.identify(folder)?;
         for i in 0..3usize {
             if let Some(file) = made[i] {
                 require_kind(alloc, file, MADE[i], folder)?;
@@ -49,16 +49,16 @@ impl<'n> Targets<'n> {
         Ok(targets)
     }
 
-    /// Where the files to be made are, each of which is none of the other files.
-    fn find<F: Folder>(&self, folder: &F) -> Result<[Option<Found<'n>>; 3], Stop<'n>>
+    /// The files to be made, each of which is none of the other files.
+    fn identify<F: Folder>(&self, folder: &F) -> Result<[Option<KnownFile<'n>>; 3], Stop<'n>>
         ensures { IfOk result (λ made.
-            has_clash (found self.now.read) (found made) ≡ false) }
+            has_clash (known self.now.read) (known made) ≡ false) }
     {
         let [plan, cert, script] = self.names;
         let made = [
-            look_for_target(plan, folder),
-            look_for_target(cert, folder),
-            look_for_target(script, folder),
+            identify_target(plan, folder),
+            identify_target(cert, folder),
+            identify_target(script, folder),
         ];
         match clash(&self.read, &made) {
             Some((name, other)) => Err(Stop::OneFile(name, other)),
@@ -77,7 +77,7 @@ impl<'n> Targets<'n> {
         let Some(name) = self.names[index] else {
             return Ok(None);
         };
-        self.find(folder)?;
+        self.identify(folder)?;
         Ok(Some(Target { name }))
     }
 }
@@ -88,25 +88,25 @@ impl<'n> Target<'n> {
     }
 }
 
-/// A file that is named, and where it is.
-fn look_for<'n, F: Folder>(name: Option<&'n str>, folder: &F) -> Option<Found<'n>> {
+/// The file that is meant by a name, if it is known.
+fn identify<'n, F: Folder>(name: Option<&'n str>, folder: &F) -> Option<KnownFile<'n>> {
     let name = name?;
-    let place = folder.find(name)?;
-    Some(Found::new(name, place))
+    let id = folder.identify(name)?;
+    Some(KnownFile::new(name, id))
 }
 
 /// The same of a file to be made. An output of the program takes the place of no file.
-fn look_for_target<'n, F: Folder>(name: Option<&'n str>, folder: &F) -> Option<Found<'n>> {
+fn identify_target<'n, F: Folder>(name: Option<&'n str>, folder: &F) -> Option<KnownFile<'n>> {
     match name {
         Some(name) if is_open_already(name) => None,
-        name => look_for(name, folder),
+        name => identify(name, folder),
     }
 }
 
 /// Refuses a file that is there and holds another kind of text.
 fn require_kind<'n, A: Allocator + Copy, F: Folder>(
     alloc: A,
-    file: Found<'n>,
+    file: KnownFile<'n>,
     wanted: TextKind,
     folder: &F,
 ) -> Result<(), Stop<'n>> {

@@ -2,7 +2,7 @@
 use crate::cases::{EndCase, Log, Reader, Writer};
 use std::fs::File;
 use std::io;
-use tx_program::{Draft, Ends, Folder, Place};
+use tx_program::{Draft, Ends, Folder, FileId};
 
 /// The folder of a case, and its settings.
 #[derive(Drop)]
@@ -65,8 +65,8 @@ impl<'a> Folder for Stage<'a> {
 
     type Output = Writer<'a>;
 
-    fn find(&self, name: &str) -> Option<Place> {
-        Folder::find(self.rt, if name == "-" { self.case.input } else { name })
+    fn identify(&self, name: &str) -> Option<FileId> {
+        Folder::identify(self.rt, if name == "-" { self.case.input } else { name })
     }
 
     fn open(&self, name: &str) -> io::Result<Reader<'a>> {

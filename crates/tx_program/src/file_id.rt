@@ -1,6 +1,6 @@
-// Where the names of files lead, and whether two of them lead to one file.
+// Which files are meant by names, and whether two names mean one file.
 ghost use Rattle.std.specs.Prelude.{◌≡◌, is_some};
-ghost use Rattle.tx_program.specs.Places.{is_one, is_among, has_clash, found};
+ghost use Rattle.tx_program.specs.SameFile.{is_same_file, is_among, has_clash, known};
 
 use std::fs;
 use std::fs::Metadata;
@@ -9,36 +9,36 @@ use std::os::unix::fs::MetadataExt;
 use std::path::Path;
 use tx_commands::STANDARD_INPUT;
 
-/// Where a name leads: to a file, by the device that it is on and its number there, or to nothing in
-/// a folder.
+/// The device that a file is on, and its number there. Where no file is, it is those of the folder in
+/// which one can be made.
 #[derive(Clone, Copy, Debug)]
-pub struct Place {
+pub struct FileId {
     device: u64,
     number: u64,
     is_free: bool,
 }
 
-impl Place {
-    /// Where a name leads on the machine. A device, a pipe and a folder are no such place, and
-    /// neither is what cannot be looked at. A link that leads nowhere is itself a place for a file.
-    pub(crate) fn of(rt: &HostRuntime, name: &str) -> Option<Place> {
+impl FileId {
+    /// That of a name on the machine. A device, a pipe and a folder have none, nor has what cannot be
+    /// looked at. Where a link leads nowhere, a file can be made in its place.
+    pub(crate) fn of(rt: &HostRuntime, name: &str) -> Option<FileId> {
         let name = if name == STANDARD_INPUT {
             "/dev/stdin"
         } else {
             name
         };
         match fs::metadata(rt, name) {
-            Ok(file) if file.is_file() => Some(Place::at(&file, false)),
+            Ok(file) if file.is_file() => Some(FileId::at(&file, false)),
             Err(e) if e.kind() == ErrorKind::NotFound => {
                 let folder = fs::metadata(rt, folder_of(name)).ok()?;
-                Some(Place::at(&folder, true))
+                Some(FileId::at(&folder, true))
             }
             _ => None,
         }
     }
 
-    fn at(metadata: &Metadata, is_free: bool) -> Place {
-        Place {
+    fn at(metadata: &Metadata, is_free: bool) -> FileId {
+        FileId {
             device: metadata.dev(),
             number: metadata.ino(),
             is_free,
@@ -54,47 +54,47 @@ fn folder_of(name: &str) -> &str {
     }
 }
 
-/// A file of a command, and where its name leads.
+/// A file of a command, with its id.
 #[derive(Clone, Copy, Debug)]
-pub(crate) struct Found<'n> {
+pub(crate) struct KnownFile<'n> {
     pub name: &'n str,
-    place: Place,
-    /// Its name in its folder, where no such file is there.
+    id: FileId,
+    /// Its name in its folder, where it is not there.
     free: Option<&'n str>,
 }
 
-impl<'n> Found<'n> {
-    /// The file of a name that leads to this place.
-    pub(crate) fn new(name: &'n str, place: Place) -> Found<'n> {
-        let free = if place.is_free {
+impl<'n> KnownFile<'n> {
+    /// The file that is meant by a name.
+    pub(crate) fn new(name: &'n str, id: FileId) -> KnownFile<'n> {
+        let free = if id.is_free {
             Path::new(name).file_name()
         } else {
             None
         };
-        Found { name, place, free }
+        KnownFile { name, id, free }
     }
 
-    /// Whether a file is there.
+    /// Whether it is there.
     pub(crate) fn is_there(&self) -> bool {
-        !self.place.is_free
+        !self.id.is_free
     }
 
-    /// Whether both names lead to one file.
-    fn is_one(&self, other: &Found<'_>) -> bool
-        ensures { result ≡ is_one self.now other.now }
+    /// Whether both names mean one file.
+    fn is_same_file(&self, other: &KnownFile<'_>) -> bool
+        ensures { result ≡ is_same_file self.now other.now }
     {
-        self.place.device == other.place.device
-            && self.place.number == other.place.number
+        self.id.device == other.id.device
+            && self.id.number == other.id.number
             && self.free == other.free
     }
 }
 
 /// The first of these files that is this one, by its name.
-fn first_as<'n>(files: &[Option<Found<'n>>], file: Found<'_>) -> Option<&'n str>
-    ensures { is_some result ≡ is_among (found files.now) file }
+fn first_as<'n>(files: &[Option<KnownFile<'n>>], file: KnownFile<'_>) -> Option<&'n str>
+    ensures { is_some result ≡ is_among (known files.now) file }
 {
     for other in files.iter().flatten() {
-        if other.is_one(&file) {
+        if other.is_same_file(&file) {
             return Some(other.name);
         }
     }
@@ -104,10 +104,10 @@ fn first_as<'n>(files: &[Option<Found<'n>>], file: Found<'_>) -> Option<&'n str>
 /// Two names of one file: that of a file to be made, and one of a file that is read or to be made
 /// too.
 pub(crate) fn clash<'n>(
-    read: &[Option<Found<'n>>],
-    made: &[Option<Found<'n>>],
+    read: &[Option<KnownFile<'n>>],
+    made: &[Option<KnownFile<'n>>],
 ) -> Option<(&'n str, &'n str)>
-    ensures { is_some result ≡ has_clash (found read.now) (found made.now) }
+    ensures { is_some result ≡ has_clash (known read.now) (known made.now) }
 {
     for i in 0..made.len() {
         if let Some(file) = made[i] {
