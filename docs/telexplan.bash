@@ -1,14 +1,19 @@
 # Completion of telexplan for bash: `source docs/telexplan.bash`, with telexplan on the path.
+# The names that the lines of a kind declare in the plan that is named behind the command.
+_telexplan_names() {
+    [ -f "${COMP_WORDS[2]}" ] && sed -n "s/^[[:blank:]]*$1[[:blank:]]\{1,\}\([A-Z0-9]*\).*/\1/p" "${COMP_WORDS[2]}"
+}
 _telexplan() {
     local word=${COMP_WORDS[COMP_CWORD]} words=
     case ${COMP_WORDS[COMP_CWORD - 1]} in
         --limit) words=$(echo {0..62}) ;;
         --spare) words=$(echo {0..15}) ;;
-        --cert | --mixture | --plan | --risks | --counter | --code) ;;
+        --code) words=$(_telexplan_names CODE) ;;
+        --cert | --mixture | --plan | --risks | --counter) ;;
         *)
             case $COMP_CWORD:${COMP_WORDS[1]}:$word in
-                1:*) words="lint audit grade mend change survive check run codes trace draw explain help --help --version" ;;
-                *:help:*) words="lint audit grade mend change survive check run codes trace draw explain" ;;
+                1:*) words="lint audit grade mend change survive check run codes trace draw explain version help --help --version" ;;
+                *:help:*) words="lint audit grade mend change survive check run codes trace draw explain version" ;;
                 *:explain:*) words="--help $(telexplan explain 2>/dev/null | cut -d ' ' -f 1)" ;;
                 *:audit:-*) words="--limit --spare --cert --counter --help" ;;
                 *:mend:-*) words="--limit --spare --plan --cert --help" ;;
@@ -16,7 +21,9 @@ _telexplan() {
                 *:survive:-*) words="--risks --help" ;;
                 *:check:-*) words="--limit --spare --help" ;;
                 *:run:-*) words="--cert --limit --spare --strict --echo --summary --help" ;;
-                *:lint:-* | *:grade:-* | *:codes:-* | *:trace:-*) words="--help" ;;
+                *:lint:-* | *:grade:-* | *:codes:-* | *:trace:-* | *:version:-*) words="--help" ;;
+                3:trace:*) words=$(_telexplan_names EXCHANGE) ;;
+                4:trace:*) words=$(_telexplan_names CODE) ;;
                 *:draw:-*) words="--code --limit --spare --help" ;;
             esac
             ;;

@@ -104,7 +104,11 @@ explain_words =
     with_rule (new_app (codes "explain"))
     (record (new_rule (codes "code")) { value_names = 1; action = Some Set })
 
--- the program takes its words from the first on, prints its version, and has twelve commands
+-- it asks for the version, as `--version` does
+abbrev pub version_words : App
+version_words = new_app (codes "version")
+
+-- the program takes its words from the first on, and prints its version
 abbrev pub top_words : App
 top_words =
     let app = new_app (codes "telexplan") in
@@ -122,4 +126,6 @@ judging_words =
 abbrev pub program_words : App
 program_words =
     with_subcommand (with_subcommand (with_subcommand (with_subcommand (with_subcommand
-    judging_words run_words.top) codes_words.top) trace_words.top) draw_words.top) explain_words.top
+    (with_subcommand
+    judging_words run_words.top) codes_words.top) trace_words.top) draw_words.top) explain_words.top)
+    version_words.top

@@ -1,6 +1,5 @@
 // Texts on one line of a terminal.
-ghost use Rattle.std.specs.Prelude.{◌≡◌};
-ghost use Rattle.std.specs.List.{flat_map};
+ghost use Rattle.std.specs.Prelude.{◌≡◌, ◌<◌};
 ghost use Rattle.tx_text.specs.Wrote.{Wrote};
 ghost use Rattle.tx_lint.specs.Escaped.{escaped, escaped_byte, hex_digit};
 

@@ -139,7 +139,10 @@ fn write_failure<A: Allocator, W: Sink>(
     write_parts(&[b"telexplan: ", fault, b": "], sink)?;
     write_escaped(name.as_bytes(), sink)?;
     if let Ok(said) = format!(in alloc; "{error}") {
-        let (said, _number) = said.as_str().split_once(" (os error ").unwrap_or((&said, ""));
+        let (said, _number) = said
+            .as_str()
+            .split_once(" (os error ")
+            .unwrap_or((&said, ""));
         write_parts(&[b": ", said.as_bytes()], sink)?;
     }
     write_bytes(b"\n", sink)

@@ -20,7 +20,7 @@ returns-in_err-write_parts g c =
     wrote_then _ _ _ _ _ _ (escaped c.args.file.now) _ _ c.in_ok-write_escaped.ensures
     (text_is _ _ _ _ _ _ _ (told_cut line c.args.row.0.now c.args.row.1.now rest)
     (wrote_first _ _ _ _ (told_front line c.args.row.0.now c.args.row.1.now) rest _ c.in_err-write_parts.field-0.0
-    (rw (c.as_bytes-line.ensures.value, c.format.ensures.text) at c.in_err-write_parts.ensures) c.from_residual.ensures.0))
+    (rw (c.as_bytes-line.ensures.value, c.format.ensures.text) at c.in_err-write_parts.ensures) c.from_residual-in_err-write_parts.ensures.0))
 
 pub returns : goal.returns
 returns g c =
