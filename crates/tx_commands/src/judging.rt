@@ -127,7 +127,8 @@ fn change_grammar<'a>(alloc: Global) -> Result<clap::Command<'a>, AllocError>
     .option(
         "cert",
         "CERT",
-        "After YES, write a certificate of both plans to this file",
+        "After YES, write a certificate of both plans to this
+file",
     )
     .option(
         "mixture",
@@ -166,8 +167,8 @@ fn survive_grammar<'a>(alloc: Global) -> Result<clap::Command<'a>, AllocError>
     .option(
         "risks",
         "RISKS",
-        "The named risks, such as cables: lines RISK name group ..,
-between RISKS 1 and END; - is standard input",
+        "The named risks, such as cables: lines RISK name
+group .., between RISKS 1 and END; - is standard input",
     )
     .command
 }

@@ -84,9 +84,9 @@ fn version(alloc: Global) -> Result<WordsFault, AllocError>
 const INCOMPLETE: &str = "a command is missing";
 
 /// The codes that are explained.
-const CODES: &str =
-    "There are X1 to X3, P3 to P22, A1 to A6, C1 to C10, S1 to S7, Q1 to Q11, M1 to M12,
-K1 to K7 and F1 to F5, those of a ticket, as NC or CLRA, and the names, as Overlap";
+const CODES: &str = "There are X1 to X3, P3 to P22, A1 to A6, C1 to C10, S1 to S7, Q1 to Q11,
+M1 to M12, K1 to K7 and F1 to F5, those of a ticket, as NC or CLRA, and the
+names, as Overlap";
 
 /// Why the words of the command of this name are refused.
 fn words_fault(alloc: Global, name: &str, misuse: Misuse) -> Result<WordsFault, AllocError>
