@@ -93,9 +93,11 @@ impl<'n> KnownFile<'n> {
 fn first_as<'n>(files: &[Option<KnownFile<'n>>], file: KnownFile<'_>) -> Option<&'n str>
     ensures { is_some result ≡ is_among (known files.now) file }
 {
-    for other in files.iter().flatten() {
-        if other.is_same_file(&file) {
-            return Some(other.name);
+    for i in 0..files.len() {
+        if let Some(other) = files[i] {
+            if other.is_same_file(&file) {
+                return Some(other.name);
+            }
         }
     }
     None
