@@ -91,7 +91,7 @@ impl<'n> KnownFile<'n> {
 
 /// The first of these files that is this one, by its name.
 fn first_as<'n>(files: &[Option<KnownFile<'n>>], file: KnownFile<'_>) -> Option<&'n str>
-    ensures { is_some result ≡ is_among (known files.now) file }
+    ensures { is_some result ≡ is_among (known files.now) file.entry }
 {
     for i in 0..files.len() {
         if let Some(other) = files[i] {

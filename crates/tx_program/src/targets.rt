@@ -1,5 +1,5 @@
 // The files that a command makes, none of which is another file of it.
-ghost use Rattle.std.specs.Prelude.{◌≡◌, false, IfOk};
+ghost use Rattle.std.specs.Prelude.{◌≡◌, ◌<◌, false, IfOk};
 ghost use Rattle.tx_program.specs.SameFile.{has_clash, known};
 
 use crate::draft::is_open_already;
@@ -40,7 +40,8 @@ impl<'n> Targets<'n> {
             ],
             names: files.makes(),
         };
-        let made = targets.identify(folder)?;
+        let made = targets.made(folder);
+        targets.require_apart(&made)?;
         for i in 0..3usize {
             if let Some(file) = made[i] {
                 require_kind(alloc, file, MADE[i], folder)?;
@@ -49,20 +50,23 @@ impl<'n> Targets<'n> {
         Ok(targets)
     }
 
-    /// The files to be made, each of which is none of the other files.
-    fn identify<F: Folder>(&self, folder: &F) -> Result<[Option<KnownFile<'n>>; 3], Stop<'n>>
-        ensures { IfOk result (λ made.
-            has_clash (known self.now.read) (known made) ≡ false) }
-    {
+    /// The files to be made.
+    fn made<F: Folder>(&self, folder: &F) -> [Option<KnownFile<'n>>; 3] {
         let [plan, cert, script] = self.names;
-        let made = [
+        [
             identify_target(plan, folder),
             identify_target(cert, folder),
             identify_target(script, folder),
-        ];
-        match clash(&self.read, &made) {
+        ]
+    }
+
+    /// Refuses files to be made of which one is read, or is to be made by another name too.
+    fn require_apart(&self, made: &[Option<KnownFile<'n>>]) -> Result<(), Stop<'n>>
+        ensures { IfOk result (λ _. has_clash (known self.now.read) (known made.now) ≡ false) }
+    {
+        match clash(&self.read, made) {
             Some((name, other)) => Err(Stop::OneFile(name, other)),
-            None => Ok(made),
+            None => Ok(()),
         }
     }
 
@@ -77,7 +81,7 @@ impl<'n> Targets<'n> {
         let Some(name) = self.names[index] else {
             return Ok(None);
         };
-        self.identify(folder)?;
+        self.require_apart(&self.made(folder))?;
         Ok(Some(Target { name }))
     }
 }
