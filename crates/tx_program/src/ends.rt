@@ -15,6 +15,8 @@ const ROOM: usize = 65_536;
 #[derive(Drop)]
 struct Steady<W: Write + Drop> {
     writer: W,
+    failed: bool,
+    /// Why it failed, until that is taken out.
     failure: Option<io::Error>,
 }
 
@@ -23,6 +25,7 @@ impl<W: Write + Drop> Steady<W> {
     fn keep(&mut self, error: io::Error) -> io::Error {
         let kind = error.kind();
         if kind != io::ErrorKind::Interrupted {
+            self.failed = true;
             self.failure = Some(error);
         }
         io::Error::from(kind)
@@ -31,7 +34,7 @@ impl<W: Write + Drop> Steady<W> {
 
 impl<W: Write + Drop> Write for Steady<W> {
     fn write(&mut self, bytes: &[u8]) -> io::Result<usize> {
-        if self.failure.is_some() {
+        if self.failed {
             return Err(io::Error::from(io::ErrorKind::Other));
         }
         match self.writer.write(bytes) {
@@ -42,7 +45,7 @@ impl<W: Write + Drop> Write for Steady<W> {
     }
 
     fn flush(&mut self) -> io::Result<()> {
-        if self.failure.is_some() {
+        if self.failed {
             return Err(io::Error::from(io::ErrorKind::Other));
         }
         match self.writer.flush() {
@@ -67,6 +70,7 @@ impl<W: Write + Drop, A: Allocator> Output<W, A> {
     pub(crate) fn new(alloc: A, writer: W) -> Result<Output<W, A>, JobFault> {
         let steady = Steady {
             writer,
+            failed: false,
             failure: None,
         };
         let writer = BufWriter::with_capacity(alloc, ROOM, steady).or(Err(JobFault::NoMemory))?;
