@@ -727,6 +727,17 @@ def check_completion(tell, told):
             tell(f"docs/telexplan.bash: behind {head} it offers {' '.join(sorted(given)) or 'nothing'} and not {' '.join(sorted(words))}")
 
 
+def check_offers(program, tell):
+    """The completion offers the exchanges and the codes of the plan that is named."""
+    asked = [(["trace", "examples/three.plan", "N"], "NORTH"), (["trace", "examples/three.plan", "NORTH", ""], "22 20 24"), (["draw", "examples/three.plan", "--code", "24"], "24")]
+    for words, offered in asked:
+        line = " ".join(f"'{it}'" for it in ["telexplan", *words])
+        script = f"source docs/telexplan.bash; COMP_WORDS=({line}); COMP_CWORD={len(words)}; _telexplan; echo ${{COMPREPLY[*]}}"
+        ran = subprocess.run(["bash", "-c", script], cwd=TOP, capture_output=True, timeout=60)
+        if ran.stdout.decode() != offered + "\n":
+            tell(f"docs/telexplan.bash: behind {' '.join(words)} it offers {ran.stdout!r}")
+
+
 def check_manual(tell, told):
     """The manual page has each command with the options that its help tells, and says what each of them is."""
     text = read("docs/telexplan.1").decode()
@@ -752,6 +763,10 @@ def check_words(tell):
     lacking = [it for it, options in told.items() if options is None]
     for it in lacking:
         tell(f"crates/tx_worked: no case has the help of {it}")
+    for words, text, _ in told_at_ends():
+        for line in text.splitlines() if "\nUsage: " in text else []:
+            if len(line) > 80 and not line.startswith("error: "):
+                tell(f"crates/tx_worked: the help of {words} has a line of {len(line)} columns")
     if not lacking:
         check_completion(tell, told)
         check_manual(tell, told)
@@ -775,7 +790,7 @@ def main(words):
     told = []
     if not only_pages:
         check_examples(program, told.append)
-        for check in (check_arguments, check_terminal, check_replaced, check_apart, check_outputs, check_pipe_and_device, check_no_leave, check_no_name, check_order, check_manual_commands):
+        for check in (check_arguments, check_terminal, check_replaced, check_apart, check_outputs, check_pipe_and_device, check_no_leave, check_no_name, check_order, check_manual_commands, check_offers):
             check(program, told.append)
     check_pages(told.append)
     check_names(told.append)

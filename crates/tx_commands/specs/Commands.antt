@@ -4,8 +4,8 @@ use Rattle.std.specs.Borrow.{Bor}
 use Rattle.std.specs.Coded.{Unit-prop, le_prop, ×_prop}
 use Rattle.std.specs.Option.{option_map_or}
 use Rattle.std.specs.Str.{bytes_eq}
-use Rattle.std.specs.Str.Parse.{IsNumeral, digits_value, without_leading_plus}
-use Rattle.clap.specs.Words.{Row, first_of, one_of, subcommand_of}
+use Rattle.clap.specs.Words.{Row, first_of, subcommand_of}
+use Rattle.tx_text.specs.Words.{number_of}
 use Rattle.tx_explain.specs.Entries.{is_known}
 use Rattle.tx_commands.specs.Grammar.{program_words}
 use Rattle.tx_commands.specs.declared.command.Command.{Command}
@@ -49,12 +49,11 @@ IsInRange-prop (Explain word) = Unit-prop
 abbrev pub Names : {Z : Type 0} → List Row → List ℕ → String Z → Type 0
 Names found id name = first_of id found ≡ Some (string_bytes name)
 
--- the words of a command give this number
+-- the words of a command give this number, which is spelled as in a text
 pub record Gives (found : List Row) (id : List ℕ) (n : ℕ) : Type 0 where
   pub text : List ℕ
-  pub given : one_of id found ≡ Some text
-  pub numeral : IsNumeral 10 (without_leading_plus text)
-  pub value : n ≡ digits_value 10 (without_leading_plus text)
+  pub given : first_of id found ≡ Some text
+  pub number : number_of 4294967295 text ≡ Some n
 
 -- they give this number, or have no word for it
 abbrev pub GivesIfAny : List Row → List ℕ → Option ℕ → Type 0

@@ -127,6 +127,10 @@ draw_words =
 abbrev pub explain_words : App
 explain_words = with_rule (new_app (codes "explain")) (word (codes "code"))
 
+-- it asks for the version, as `--version` does
+abbrev pub version_words : App
+version_words = new_app (codes "version")
+
 -- the program takes its words from the first on, and prints its version
 abbrev pub top_words : App
 top_words =
@@ -145,5 +149,5 @@ judging_words =
 abbrev pub program_words : App
 program_words =
     with_subcommand (with_subcommand (with_subcommand (with_subcommand (with_subcommand
-    (with_subcommand judging_words run_words.top) codes_words.top) trace_words.top) fill_words.top)
-    draw_words.top) explain_words.top
+    (with_subcommand (with_subcommand judging_words run_words.top) codes_words.top)
+    trace_words.top) fill_words.top) draw_words.top) explain_words.top) version_words.top

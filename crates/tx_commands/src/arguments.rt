@@ -8,8 +8,8 @@ use clap::{Arg, ArgAction, value_parser};
 use std::alloc::{AllocError, Global};
 
 /// What the help says of a plan.
-pub(crate) const PLAN: &str =
-    "The route plan: exchanges, codes, lines, groups, routes and bars; - is standard input";
+pub(crate) const PLAN: &str = "The route plan: exchanges, codes, lines, groups, routes and
+bars; - is standard input";
 
 /// A command with its arguments so far, unless memory ran out.
 #[derive(Drop)]
@@ -153,8 +153,8 @@ fn limit<'a>(alloc: Global) -> Arg<'a>
     option(
         alloc,
         "limit",
-        "L: 0 to 62",
-        "At most how many transits a call may pass",
+        "L",
+        "At most how many transits a call may pass: 0 to 62",
     )
     .value_parser(value_parser!(u8).range(0..=62))
 }
@@ -166,10 +166,11 @@ fn spare<'a>(alloc: Global) -> Arg<'a>
     option(
         alloc,
         "spare",
-        "K: 0 to 15",
-        "How many groups may be down. After YES, a call is answered NC only
-after a second head-on collision, or where more than K groups are
-listed and each of them is down or has no free circuit",
+        "K",
+        "How many groups may be down: 0 to 15. After YES, a
+call is answered NC only after a second head-on
+collision, or where more than K groups are listed and
+each of them is down or has no free circuit",
     )
     .value_parser(value_parser!(u8).range(0..=15))
 }
@@ -184,8 +185,8 @@ fn stage<'a>(alloc: Global) -> Arg<'a>
     option(
         alloc,
         "stage",
-        "N: from 1",
-        "The stage of which --plan and --cert write",
+        "N",
+        "The stage of which --plan and --cert write: from 1",
     )
     .value_parser(value_parser!(u8).range(0..=128))
 }

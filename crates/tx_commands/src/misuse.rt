@@ -5,7 +5,7 @@ ghost use Rattle.tx_commands.specs.declared.misuse.Misuse.TheVariants.{NoMemory 
 use std::alloc::AllocError;
 
 /// Why the words of a command are refused, beside what the library of command lines refuses.
-#[derive(Clone, Copy)]
+#[derive(Debug, Drop)]
 pub(crate) enum Misuse {
     /// A word that it needs is missing, which the grammar rules out.
     Incomplete,
@@ -15,18 +15,23 @@ pub(crate) enum Misuse {
     CheckedTelling,
     /// `draw` has one of `--limit` and `--spare` without the other, or both without `--code`.
     DrawTogether,
+    /// The number of this option has a sign or leading zeros.
+    Number(&'static str, String),
     /// `order` has a file to be made, and no stage.
     StageMissing,
     /// `survive` has `--risks-only` without `--risks`.
     RisksOnly,
     /// `trace` has neither an exchange and a code nor a group, or it has both.
     TraceWords,
-    /// `explain` has a word that is no code.
-    NoSuchCode,
+    /// `explain` has this word, which is no code.
+    NoSuchCode(String),
     /// Standard input is to be read for two files.
     InputTwice,
-    /// A file to be made has the name of another file of the command, or of standard input.
-    Overwrites,
+    /// A file to be made has this name, which is that of another file of the command, or of standard
+    /// input.
+    Overwrites(String),
+    /// The version is asked for.
+    Version,
     /// No memory was left.
     NoMemory,
 }

@@ -10,8 +10,8 @@ ghost use Rattle.tx_commands.specs.inner.Refused.{IsRefused};
 use crate::asked::{change_of, explain_of, mend_of, order_of, plan_command, text};
 use crate::command::Command;
 use crate::fault::WordsFault;
-use crate::files::clash;
-use crate::grammar::grammar;
+use crate::files::refuse_clash;
+use crate::grammar::{asked_grammar, grammar};
 use crate::misuse::Misuse;
 use clap::ArgMatches;
 use clap::error::ErrorKind;
@@ -28,6 +28,7 @@ fn command_of(alloc: Global, name: &str, matches: &ArgMatches<'_>) -> Result<Com
         "change" => return change_of(alloc, matches),
         "order" => return order_of(alloc, matches),
         "explain" => return explain_of(alloc, matches),
+        "version" => return Err(Misuse::Version),
         _ => {}
     }
     match text(alloc, matches, "plan")? {
@@ -47,84 +48,97 @@ fn found_command(alloc: Global, matches: &ArgMatches<'_>) -> Result<Command, Mis
     match matches.subcommand() {
         Some((name, matches)) => {
             let command = command_of(alloc, name, matches)?;
-            match clash(&command) {
-                None => Ok(command),
-                Some(misuse) => Err(misuse),
-            }
+            refuse_clash(alloc, &command)?;
+            Ok(command)
         }
         None => Err(Misuse::Incomplete),
     }
 }
 
-/// A refusal in the words of the library of command lines.
-fn in_its_words(
-    grammar: &mut clap::Command<'_>,
+/// A refusal in the form of the library of command lines, with the usage of this command.
+fn in_its_form(
+    alloc: Global,
+    name: &str,
     kind: ErrorKind,
     message: &str,
 ) -> Result<WordsFault, AllocError>
     ensures { IfOk result
         (λ fault. (command : Option (List ℕ × List Row)) → IsRefusalIn command fault) }
 {
-    let e = grammar.error(kind, message)?;
+    let mut asked = asked_grammar(alloc, name)?;
+    let e = asked.error(kind, message)?;
     Ok(WordsFault::of_clap(e))
 }
 
-/// A refusal of options without another one with which they go.
-fn missing(grammar: &mut clap::Command<'_>, message: &str) -> Result<WordsFault, AllocError>
+/// What the library answers to `--version`.
+fn version(alloc: Global) -> Result<WordsFault, AllocError>
     ensures { IfOk result
         (λ fault. (command : Option (List ℕ × List Row)) → IsRefusalIn command fault) }
 {
-    in_its_words(grammar, ErrorKind::MissingRequiredArgument, message)
+    match grammar(alloc)?.try_get_matches_from(&["--version"]) {
+        Ok(_) => in_its_form(alloc, "version", ErrorKind::MissingSubcommand, INCOMPLETE),
+        Err(e) => Ok(WordsFault::of_clap(e)),
+    }
 }
 
-/// Why the words are refused. What has no fault of its own is reported in the words of the library.
-fn words_fault(grammar: &mut clap::Command<'_>, misuse: Misuse) -> Result<WordsFault, AllocError>
+/// What is said where the library found no command.
+const INCOMPLETE: &str = "a command is missing";
+
+/// The codes that are explained.
+const CODES: &str = "There are X1 to X3, P3 to P22, A1 to A9, C1 to C10, S1 to S7, Q1 to Q11,
+M1 to M12, K1 to K7 and F1 to F5, those of a ticket, as NC or CLRA, and the
+names, as Overlap";
+
+/// Why the words of the command of this name are refused.
+fn words_fault(alloc: Global, name: &str, misuse: Misuse) -> Result<WordsFault, AllocError>
     ensures { IfOk result (λ fault. (command : Option (List ℕ × List Row))
         → IsRefused command misuse → IsRefusalIn command fault) }
 {
     match misuse {
         Misuse::Together => Ok(WordsFault::Together),
         Misuse::NoMemory => Ok(WordsFault::NoMemory),
-        Misuse::Incomplete => in_its_words(
-            grammar,
-            ErrorKind::MissingSubcommand,
-            "a command is missing",
-        ),
-        Misuse::CheckedTelling => in_its_words(
-            grammar,
-            ErrorKind::ArgumentConflict,
-            "--strict, --echo and --summary do not go with --cert",
-        ),
+        Misuse::Version => version(alloc),
+        Misuse::Incomplete => { in_its_form(alloc, name, ErrorKind::MissingSubcommand, INCOMPLETE) }
+        Misuse::CheckedTelling => {
+            let message = "--strict, --echo and --summary do not go with --cert";
+            in_its_form(alloc, name, ErrorKind::ArgumentConflict, message)
+        }
         Misuse::DrawTogether => {
-            missing(grammar, "--limit and --spare go together, and with --code")
+            let message = "--limit and --spare go together, and with --code";
+            in_its_form(alloc, name, ErrorKind::MissingRequiredArgument, message)
         }
-        Misuse::RisksOnly => { missing(grammar, "--risks-only goes with --risks") }
+        Misuse::StageMissing => {
+            let message = "--plan and --cert go with --stage";
+            in_its_form(alloc, name, ErrorKind::MissingRequiredArgument, message)
+        }
+        Misuse::RisksOnly => {
+            let message = "--risks-only goes with --risks";
+            in_its_form(alloc, name, ErrorKind::MissingRequiredArgument, message)
+        }
         Misuse::TraceWords => {
-            missing(
-                grammar,
-                "trace takes an exchange and a code, or --group alone",
-            )
+            let message = "trace takes an exchange and a code, or --group alone";
+            in_its_form(alloc, name, ErrorKind::MissingRequiredArgument, message)
         }
-        Misuse::StageMissing => in_its_words(
-            grammar,
-            ErrorKind::MissingRequiredArgument,
-            "--plan and --cert go with --stage",
-        ),
-        Misuse::NoSuchCode => in_its_words(
-            grammar,
-            ErrorKind::InvalidValue,
-            "no such code; there are X1 to X3, P3 to P22, A1 to A9, C1 to C10, S1 to S7, Q1 to Q11, M1 to M12, K1 to K7 and F1 to F5, those of a ticket, as NC or CLRA, and the names, as Overlap",
-        ),
-        Misuse::InputTwice => in_its_words(
-            grammar,
-            ErrorKind::ArgumentConflict,
-            "standard input, which is named -, can be read for one file alone",
-        ),
-        Misuse::Overwrites => in_its_words(
-            grammar,
-            ErrorKind::ArgumentConflict,
-            "a file to be made has the name of another file of the command, or is named -",
-        ),
+        Misuse::Number(option, word) => {
+            let message = format!(in alloc;
+                "invalid value '{word}' for '--{option}': a number has no sign and no leading zeros"
+            )?;
+            in_its_form(alloc, name, ErrorKind::InvalidValue, message.as_str())
+        }
+        Misuse::NoSuchCode(word) => {
+            let message = format!(in alloc; "no such code: {word:?}\n\n{CODES}")?;
+            in_its_form(alloc, name, ErrorKind::InvalidValue, message.as_str())
+        }
+        Misuse::InputTwice => {
+            let message = "standard input, which is named -, can be read for one file alone";
+            in_its_form(alloc, name, ErrorKind::ArgumentConflict, message)
+        }
+        Misuse::Overwrites(file) => {
+            let message = format!(in alloc;
+                "a file to be made has the name of another file of the command, or is named -: {file:?}"
+            )?;
+            in_its_form(alloc, name, ErrorKind::ArgumentConflict, message.as_str())
+        }
     }
 }
 
@@ -149,7 +163,8 @@ fn command_in<'a>(
         Ok(command) => return Ok(command),
         Err(misuse) => misuse,
     };
-    Err(words_fault(grammar, misuse)?)
+    let name = matches.subcommand_name().unwrap_or("");
+    Err(words_fault(alloc, name, misuse)?)
 }
 
 /// Reads the words after the program's name. `Err` is refused words, a request for help or for the

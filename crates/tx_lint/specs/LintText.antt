@@ -7,6 +7,7 @@ use Rattle.tx_lint.specs.declared.warning.Warning.{Warning}
 use Rattle.tx_lint.specs.declared.warning.Warning.TheVariants.{NothingToJudge, NoLines, UnusedGroup, UnusedList, NoList, UnusedBar, Ambiguous, SharedRisk, Unlisted}
 use Rattle.tx_risk.specs.NamedRisks.{NamedRisk, risk_name}
 use Rattle.tx_lint.specs.AllFaults.{Fault}
+use Rattle.tx_lint.specs.Escaped.{escaped}
 
 -- the codes and names of the warnings
 abbrev pub warning_row : Warning → Row
@@ -38,11 +39,11 @@ abbrev pub word_text : Option (List ℕ) → List ℕ
 word_text None = []
 word_text (Some w) = codes " " ++ w
 
--- A line, as `PLAN.txt:5: P9 Unknown SOUTH`: the words for the file, the line, the code and the
--- name of what is reported, and a word
+-- A line, as `PLAN.txt:5: P9 Unknown SOUTH`: the name of the file, the line, the code and the name
+-- of what is reported, and a word
 abbrev pub told_line : (file : List ℕ) → (line : ℕ) → Row → Option (List ℕ) → List ℕ
 told_line file line row word =
-    file ++ (codes ":" ++ (decimal line ++ (codes ": "
+    escaped file ++ (codes ":" ++ (decimal line ++ (codes ": "
     ++ (row.0 ++ (codes " " ++ (row.1 ++ (word_text word ++ codes "\n")))))))
 
 -- the line of a fault

@@ -5,6 +5,7 @@
 
 mod at_fault;
 mod entry;
+mod escaped;
 mod fault;
 mod law;
 mod lines;
@@ -16,6 +17,7 @@ mod warning;
 mod warnings;
 mod word_tests;
 
+pub use escaped::write_escaped;
 pub use fault::{Fault, LintFault};
 pub use law::faults_agree_with_reader;
 pub use lint_text::write_lint;

@@ -5,6 +5,7 @@ ghost use Rattle.tx_text.specs.Wrote.{Wrote};
 ghost use Rattle.tx_lint.specs.LintText.{word_text, told_line, fault_line, warning_word, warning_line};
 ghost use Rattle.tx_lint.specs.Lints.{fault_held, lint_held, lint_text};
 
+use crate::escaped::write_escaped;
 use crate::fault::Fault;
 use crate::linting::Lint;
 use crate::warning::Warning;
@@ -15,8 +16,8 @@ use tx_plantext::code_and_name;
 use tx_risk::Risks;
 use tx_text::{Sink, WriteFault, write_parts};
 
-/// Writes a line for each fault or each warning, as `PLAN.txt:5: P9 Unknown SOUTH`, with the words
-/// for the file of the text.
+/// Writes a line for each fault or each warning, as `PLAN.txt:5: P9 Unknown SOUTH`, with the name of
+/// the file of the text.
 pub fn write_lint<A: Allocator, W: Sink>(
     lint: &Lint<'_, A>,
     file: &[u8],
@@ -118,7 +119,8 @@ fn write_line<'a, W: Sink>(
 {
     let mut number = Buffer::new();
     let line = number.format(line).as_bytes();
-    write_parts(&[file, b":", line, b": ", row.0, b" ", row.1], sink)?;
+    write_escaped(file, sink)?;
+    write_parts(&[b":", line, b": ", row.0, b" ", row.1], sink)?;
     write_end(word, sink)
 }
 

@@ -7,7 +7,7 @@ use Rattle.tx_commands.specs.Files.{reads_input_twice, overwrites}
 use Rattle.tx_commands.specs.Faults.{has, IsRunInPart}
 use Rattle.tx_commands.specs.declared.command.Command.{Command}
 use Rattle.tx_commands.specs.declared.misuse.Misuse.{Misuse}
-use Rattle.tx_commands.specs.declared.misuse.Misuse.TheVariants.{Together, CheckedTelling, DrawTogether, StageMissing, RisksOnly, TraceWords, NoSuchCode, InputTwice, Overwrites}
+use Rattle.tx_commands.specs.declared.misuse.Misuse.TheVariants.{Together, CheckedTelling, DrawTogether, StageMissing, RisksOnly, TraceWords, NoSuchCode, InputTwice, Overwrites, NoMemory}
 
 -- `run` has a certificate, and an option by which it prints more
 pub record IsCheckedTelling (name : List ℕ) (found : List Row) : Type 0 where
@@ -50,10 +50,11 @@ pub record IsNoCode (name : List ℕ) (found : List Row) : Type 0 where
   pub explain : name ≡ codes "explain"
   pub unknown : option_map is_known (first_of (codes "code") found) ≡ Some false
 
--- two files of the command clash in this way
+-- two files of the command clash in this way, or memory ran out for the name of one
 abbrev pub IsClash : Command → Misuse → Type 0
 IsClash command InputTwice = reads_input_twice command ≡ true
-IsClash command Overwrites = overwrites command ≡ true
+IsClash command (Overwrites name) = overwrites command ≡ true
+IsClash command NoMemory = Unit {0}
 IsClash command other = ⊥
 
 -- the words that were found ask for a command of which two files clash in this way
@@ -69,7 +70,7 @@ IsRefused command DrawTogether = IsSomeAnd command (λ c. IsDrawInPart c.0 c.1)
 IsRefused command StageMissing = IsSomeAnd command (λ c. IsStageMissing c.0 c.1)
 IsRefused command RisksOnly = IsSomeAnd command (λ c. IsRisksOnly c.0 c.1)
 IsRefused command TraceWords = IsSomeAnd command (λ c. IsTraceInPart c.0 c.1)
-IsRefused command NoSuchCode = IsSomeAnd command (λ c. IsNoCode c.0 c.1)
+IsRefused command (NoSuchCode word) = IsSomeAnd command (λ c. IsNoCode c.0 c.1)
 IsRefused command InputTwice = AskForClash command InputTwice
-IsRefused command Overwrites = AskForClash command Overwrites
+IsRefused command (Overwrites name) = AskForClash command (Overwrites name)
 IsRefused command other = Unit {0}
