@@ -147,24 +147,26 @@ fn draw_grammar<'a>(alloc: Global) -> Result<clap::Command<'a>, AllocError>
     .command
 }
 
-const EXPLAIN_HELP: &str = "Example: telexplan explain P11
+const EXPLAIN_HELP: &str = "Example: telexplan explain F2 LOOP 24 VIA NORTH
 
-Exit status: 0 for a code or a name of the table and without one, 3 for a failed
+Exit status: 0 where a word is explained and without words, 3 for a failed
 write, 4 when out of memory, 64 for refused words";
 
 fn explain_grammar<'a>(alloc: Global) -> Result<clap::Command<'a>, AllocError>
     ensures { IfOk result (λ c. app_of c ≡ grammar.explain_words) }
 {
-    let code = word(
+    let words = word(
         alloc,
-        "code",
-        "CODE",
-        "A code or a name that was printed, as P11, F2, NC or Overlap",
-    );
+        "word",
+        "WORD",
+        "A code, a name or a word that was printed, as P11, NC,
+Overlap or CUT, or a whole line of a report",
+    )
+    .num_args(1..);
     clap::Command::new(alloc, "explain")
-        .about("Say what a printed code means, and what to do; or list all codes")
+        .about("Say what printed codes and words mean; or list all of them")
         .after_help(EXPLAIN_HELP)
-        .arg(code)
+        .arg(words)
 }
 
 fn version_grammar<'a>(alloc: Global) -> clap::Command<'a>

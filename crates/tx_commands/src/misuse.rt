@@ -23,7 +23,7 @@ pub(crate) enum Misuse {
     RisksOnly,
     /// `trace` has neither an exchange and a code nor a group, or it has both.
     TraceWords,
-    /// `explain` has this word, which is no code.
+    /// `explain` has these words, of which none is explained.
     NoSuchCode(String),
     /// Standard input is to be read for two files.
     InputTwice,

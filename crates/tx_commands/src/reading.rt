@@ -86,8 +86,8 @@ const INCOMPLETE: &str = "a command is missing";
 
 /// The codes that are explained.
 const CODES: &str = "There are X1 to X3, P3 to P22, A1 to A9, C1 to C10, S1 to S7, Q1 to Q11,
-M1 to M12, K1 to K7 and F1 to F5, those of a ticket, as NC or CLRA, and the
-names, as Overlap";
+M1 to M12, K1 to K7 and F1 to F5, those of a ticket, as NC or CLRA, the names,
+as Overlap, and the words of reports, as CUT";
 
 /// Why the words of the command of this name are refused.
 fn words_fault(alloc: Global, name: &str, misuse: Misuse) -> Result<WordsFault, AllocError>
@@ -125,8 +125,8 @@ fn words_fault(alloc: Global, name: &str, misuse: Misuse) -> Result<WordsFault, 
             )?;
             in_its_form(alloc, name, ErrorKind::InvalidValue, message.as_str())
         }
-        Misuse::NoSuchCode(word) => {
-            let message = format!(in alloc; "no such code: {word:?}\n\n{CODES}")?;
+        Misuse::NoSuchCode(line) => {
+            let message = format!(in alloc; "no such code: {line:?}\n\n{CODES}")?;
             in_its_form(alloc, name, ErrorKind::InvalidValue, message.as_str())
         }
         Misuse::InputTwice => {

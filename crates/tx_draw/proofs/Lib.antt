@@ -1,3 +1,2 @@
 pub mod Before
-pub mod Choices
 mod FirstShown

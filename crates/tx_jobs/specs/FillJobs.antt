@@ -7,9 +7,9 @@ use Rattle.tx_fill.specs.declared.filling.Fill.{Fill}
 use Rattle.tx_fill.specs.Fills.{IsFill}
 use Rattle.tx_fill.specs.FillText.{fill_text}
 use Rattle.tx_jobs.specs.declared.job_fault.JobFault.{JobFault}
-use Rattle.tx_jobs.specs.declared.job_fault.JobFault.TheVariants.{Write, NoMemory, NoSuchExchange, NoSuchCode, NoSuchGroup}
+use Rattle.tx_jobs.specs.declared.job_fault.JobFault.TheVariants.{Write, NoMemory, NoSuchExchange, NoSuchCode}
 use Rattle.tx_jobs.specs.Jobs.{PlanRead, PlanRefused}
-use Rattle.tx_jobs.specs.NamedGroups.{groups_in}
+use Rattle.tx_jobs.specs.NamedGroups.{groups_in, IsUnnamed}
 
 -- the calls were set up, but a write failed within the text
 pub record FillToldInPart (A : Type 0) (p : Plan) (down : List ℕ) (x c : ℕ) (out : Output)
@@ -30,11 +30,11 @@ ToldFill p down x c out (Err other) = ⊥
 -- the calls for a code from an exchange; or the plan does not have what was asked for, and nothing
 -- was written
 abbrev pub FilledNamed : {A : Type 0} → Plan → (exchange code : Option ℕ)
-    → (down : Option (List ℕ)) → Output → Result (Fill A) JobFault → Type 0
+    → (down : Result (List ℕ) ℕ) → Output → Result (Fill A) JobFault → Type 0
 FilledNamed p None code down out result = (result ≡ Err NoSuchExchange) × out.silent
 FilledNamed p (Some x) None down out result = (result ≡ Err NoSuchCode) × out.silent
-FilledNamed p (Some x) (Some c) None out result = (result ≡ Err NoSuchGroup) × out.silent
-FilledNamed p (Some x) (Some c) (Some down) out result = ToldFill p down x c out result
+FilledNamed p (Some x) (Some c) (Err place) out result = IsUnnamed place result × out.silent
+FilledNamed p (Some x) (Some c) (Ok down) out result = ToldFill p down x c out result
 
 -- `fill PLAN EXCHANGE CODE --down GROUP,..`, by the words for the exchange, the code and the
 -- groups, if there is one for these

@@ -1,25 +1,32 @@
 -- The groups that a word names, with a comma between two names.
-use Rattle.std.specs.Prelude.{ℕ, ◌==◌, if◌then◌else◌, List, [], ◌∷◌, Option, None, Some, option_and_then}
-use Rattle.std.specs.Option.{option_map}
+use Rattle.std.specs.Prelude.{◌≡◌, ⊥, ℕ, suc, ◌==◌, List, [], ◌∷◌, Option, None, Some, Result, Ok, Err}
+use Rattle.std.specs.List.{slice_split}
 use Rattle.tx_plan.specs.Plan.{Plan, group_named}
+use Rattle.tx_jobs.specs.declared.job_fault.JobFault.{JobFault}
+use Rattle.tx_jobs.specs.declared.job_fault.JobFault.TheVariants.{NoMemory, NoSuchGroup}
 
--- a byte before the first of some words
-abbrev pub byte_before : ℕ → List (List ℕ) → List (List ℕ)
-byte_before b [] = (b ∷ []) ∷ []
-byte_before b (w ∷ ws) = (b ∷ w) ∷ ws
+-- the names in a word, one or more; 44 is the comma
+abbrev pub names_in : List ℕ → List (List ℕ)
+names_in = slice_split (λ b. b == 44)
 
--- the words between the commas, one or more; 44 is the comma
-pub names_in : List ℕ → List (List ℕ)
-names_in [] = [] ∷ []
-names_in (b ∷ bs) = if b == 44 then [] ∷ names_in bs else byte_before b (names_in bs)
+-- the group of a name and those of the names behind it, or the place of the first name without one
+abbrev pub group_before : Option ℕ → Result (List ℕ) ℕ → Result (List ℕ) ℕ
+group_before None behind = Err 0
+group_before (Some g) (Ok gs) = Ok (g ∷ gs)
+group_before (Some g) (Err place) = Err (suc place)
 
--- the groups of these names, if the plan has each of them
-abbrev pub groups_named : Plan → List (List ℕ) → Option (List ℕ)
-groups_named p [] = Some []
-groups_named p (w ∷ ws) =
-    option_and_then (λ g. option_map (λ gs. g ∷ gs) (groups_named p ws)) (group_named p w)
+-- the groups of these names, or the place of the first name of which the plan has none, from 0
+pub groups_named : Plan → List (List ℕ) → Result (List ℕ) ℕ
+groups_named p [] = Ok []
+groups_named p (w ∷ ws) = group_before (group_named p w) (groups_named p ws)
 
 -- those of a word; none without one
-abbrev pub groups_in : Plan → Option (List ℕ) → Option (List ℕ)
-groups_in p None = Some []
+abbrev pub groups_in : Plan → Option (List ℕ) → Result (List ℕ) ℕ
+groups_in p None = Ok []
 groups_in p (Some word) = groups_named p (names_in word)
+
+-- it is told that there is no group of the name at this place, unless memory ran out before
+abbrev pub IsUnnamed : {X : Type 0} → ℕ → Result X JobFault → Type 0
+IsUnnamed place (Err (NoSuchGroup told)) = told ≡ place
+IsUnnamed place (Err NoMemory) = Unit {0}
+IsUnnamed place other = ⊥

@@ -8,7 +8,7 @@ use Rattle.tx_trace.specs.TraceText.{trace_text}
 use Rattle.tx_trace.specs.GroupText.{group_text}
 use Rattle.tx_jobs.specs.declared.job_fault.JobFault.{JobFault}
 use Rattle.tx_jobs.specs.declared.job_fault.JobFault.TheVariants.{Write, NoMemory, NoSuchExchange, NoSuchCode, NoSuchGroup}
-use Rattle.tx_jobs.specs.NamedGroups.{groups_in}
+use Rattle.tx_jobs.specs.NamedGroups.{groups_in, IsUnnamed}
 use Rattle.tx_jobs.specs.Jobs.{PlanRead, PlanRefused}
 
 -- the text was written, or a front of it before the sink failed, or there was no memory for it, and
@@ -21,12 +21,12 @@ ToldTrace text out (Err other) = ⊥
 
 -- the trace of a code from an exchange, while these groups are down; or the plan has no such
 -- exchange, or no such code, or not all of these groups, and nothing was written
-abbrev pub TracedNamed : Plan → (exchange code : Option ℕ) → (down : Option (List ℕ)) → Output
+abbrev pub TracedNamed : Plan → (exchange code : Option ℕ) → (down : Result (List ℕ) ℕ) → Output
     → Result (Unit {0}) JobFault → Type 0
 TracedNamed p None code down out result = (result ≡ Err NoSuchExchange) × out.silent
 TracedNamed p (Some x) None down out result = (result ≡ Err NoSuchCode) × out.silent
-TracedNamed p (Some x) (Some c) None out result = (result ≡ Err NoSuchGroup) × out.silent
-TracedNamed p (Some x) (Some c) (Some down) out result =
+TracedNamed p (Some x) (Some c) (Err place) out result = IsUnnamed place result × out.silent
+TracedNamed p (Some x) (Some c) (Ok down) out result =
     ToldTrace (trace_text (plan_left p down) down c x) out result
 
 -- `trace PLAN EXCHANGE CODE --down GROUP,..`, by the words for the exchange, the code and the
@@ -40,7 +40,7 @@ TraceJobAnswers exchange code down plan out result =
 
 -- the lists that have a group; or the plan has no such group, and nothing was written
 abbrev pub TracedGroup : Plan → (group : Option ℕ) → Output → Result (Unit {0}) JobFault → Type 0
-TracedGroup p None out result = (result ≡ Err NoSuchGroup) × out.silent
+TracedGroup p None out result = (result ≡ Err (NoSuchGroup 0)) × out.silent
 TracedGroup p (Some g) out result = ToldTrace (group_text p g) out result
 
 -- `trace PLAN --group GROUP`, by the word for the group

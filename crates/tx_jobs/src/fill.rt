@@ -25,7 +25,7 @@ pub fn fill_job<A: Allocator + Copy, P: Source, W: Sink>(
     plan: &mut P,
     exchange: &[u8],
     code: &[u8],
-    down: Option<&[u8]>,
+    down: Option<&str>,
     out: &mut W,
 ) -> Result<Fill<A>, JobFault>
     ensures answers { FillJobAnswers exchange.now code.now
@@ -44,7 +44,7 @@ fn fill_named<A: Allocator + Copy, W: Sink>(
     plan: &Plan<A>,
     exchange: &[u8],
     code: &[u8],
-    down: Option<&[u8]>,
+    down: Option<&str>,
     out: &mut W,
 ) -> Result<Fill<A>, JobFault>
     ensures filled { FilledNamed plan.now (exchange_named plan.now exchange.now)
@@ -59,9 +59,7 @@ fn fill_named<A: Allocator + Copy, W: Sink>(
     let Some(code) = plan.code_named(code) else {
         return Err(JobFault::NoSuchCode);
     };
-    let Some(down) = groups_in(alloc, plan, down)? else {
-        return Err(JobFault::NoSuchGroup);
-    };
+    let down = groups_in(alloc, plan, down)?;
     tell_fill(alloc, plan, &down, exchange, code, out)
 }
 

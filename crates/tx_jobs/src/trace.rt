@@ -27,7 +27,7 @@ pub fn trace_job<A: Allocator + Copy, P: Source, W: Sink>(
     plan: &mut P,
     exchange: &[u8],
     code: &[u8],
-    down: Option<&[u8]>,
+    down: Option<&str>,
     out: &mut W,
 ) -> Result<(), JobFault>
     ensures answers { TraceJobAnswers exchange.now code.now
@@ -46,7 +46,7 @@ fn trace_named<A: Allocator + Copy, W: Sink>(
     plan: Plan<A>,
     exchange: &[u8],
     code: &[u8],
-    down: Option<&[u8]>,
+    down: Option<&str>,
     out: &mut W,
 ) -> Result<(), JobFault>
     ensures traced { TracedNamed plan (exchange_named plan exchange.now)
@@ -60,9 +60,7 @@ fn trace_named<A: Allocator + Copy, W: Sink>(
     let Some(code) = plan.code_named(code) else {
         return Err(JobFault::NoSuchCode);
     };
-    let Some(down) = groups_in(alloc, &plan, down)? else {
-        return Err(JobFault::NoSuchGroup);
-    };
+    let down = groups_in(alloc, &plan, down)?;
     trace_down(alloc, plan, &down, code, exchange, out)
 }
 
@@ -116,7 +114,7 @@ fn trace_group<A: Allocator, W: Sink>(
     ensures mark { W.failed out.new ≡ mark_after (W.failed out.old) result }
 {
     let Some(group) = plan.group_named(group) else {
-        return Err(JobFault::NoSuchGroup);
+        return Err(JobFault::NoSuchGroup(0));
     };
     write_group(plan, group, out)?;
     Ok(())
