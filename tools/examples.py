@@ -175,7 +175,7 @@ def played():
 
 
 def lines_wanted(plan):
-    """How each line for an exchange, a group or a place of a list begins: in the picture of a plan, and in that of each code."""
+    """How each line for an exchange, a group or the groups of a list that lead to one exchange begins: in the picture of a plan, and in that of each code."""
     said = [it.partition("#")[0].split() for it in plan.splitlines()]
     of = lambda verb: [it[1:] for it in said if it[:1] == [verb]]
     line = lambda a, b, label: f'"{a}" -> "{b}" [label="{label}'
@@ -183,9 +183,14 @@ def lines_wanted(plan):
     other = lambda group, x: ends[group][ends[group][0] == x]
     boxes = [f'"{x}" [label="{x}' for (x,) in of("EXCHANGE")]
     yield boxes + [line(a, b, f"{name} ") for name, (a, b) in ends.items()]
-    for code, _ in of("CODE"):
-        lists = [(x, groups) for x, c, *groups in of("ROUTE") if c == code]
-        yield boxes + [line(x, other(group, x), f'{order + 1} {group}"') for x, groups in lists for order, group in enumerate(groups)]
+    for code, home in of("CODE"):
+        arrows = {}
+        for x, c, *groups in of("ROUTE"):
+            for order, group in enumerate(groups if c == code else []):
+                arrows.setdefault((x, other(group, x)), []).append((str(order + 1), group))
+        labels = {pair: ": ".join(map(" ".join, zip(*choices))) for pair, choices in arrows.items()}
+        rows = [it + ("\\n" + code if it == f'"{home}" [label="{home}' else "") + '"' for it in boxes]
+        yield rows + [line(x, y, f'{label}"') for (x, y), label in labels.items()]
 
 
 def faults_of_picture(picture, wanted):

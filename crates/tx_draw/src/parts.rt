@@ -14,7 +14,7 @@ pub fn write_head<W: Sink>(sink: &mut W) -> Result<(), WriteFault>
     write_parts(
         &[
             b"digraph \"plan\" {\n",
-            b"graph [fontname=\"Helvetica\", rankdir=\"LR\"];\n",
+            b"graph [fontname=\"Helvetica\", rankdir=\"LR\", nodesep=\"0.1\"];\n",
             b"node [shape=\"box\", fontname=\"Helvetica\"];\n",
             b"edge [fontname=\"Helvetica\", fontsize=\"10\"];\n",
         ],

@@ -59,7 +59,10 @@ fn fill_named<A: Allocator + Copy, W: Sink>(
     let Some(code) = plan.code_named(code) else {
         return Err(JobFault::NoSuchCode);
     };
-    let down = groups_in(alloc, plan, down)?;
+    let down = match groups_in(alloc, plan, down)? {
+        Ok(down) => down,
+        Err(place) => return Err(JobFault::NoSuchGroup(place)),
+    };
     tell_fill(alloc, plan, &down, exchange, code, out)
 }
 

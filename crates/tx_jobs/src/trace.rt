@@ -60,7 +60,10 @@ fn trace_named<A: Allocator + Copy, W: Sink>(
     let Some(code) = plan.code_named(code) else {
         return Err(JobFault::NoSuchCode);
     };
-    let down = groups_in(alloc, &plan, down)?;
+    let down = match groups_in(alloc, &plan, down)? {
+        Ok(down) => down,
+        Err(place) => return Err(JobFault::NoSuchGroup(place)),
+    };
     trace_down(alloc, plan, &down, code, exchange, out)
 }
 
