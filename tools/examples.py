@@ -31,7 +31,8 @@ The comments before a block:
   <!-- not run -->        commands that no example shows, and that are not those of the program
 and before a table:
   <!-- examples -->       each text in the last column is a line of some file in examples/
-  <!-- codes -->          the table of codes"""
+  <!-- codes -->          the table of codes
+  <!-- words -->          the table of words"""
 import os
 import pty
 import re
@@ -312,10 +313,26 @@ def lines_quoted(page):
     return [it for it in re.findall(r"`([A-Z]+(?: [A-Z0-9.]+)+)`", text) if re.search("[0-9]", it)]
 
 
-def codes_explained():
-    """The program's table of codes: a code, its name, what it means and what to do."""
-    texts = [read(f"crates/tx_explain/src/{name}.rt").decode() for name in ("text_faults", "run_codes", "plan_codes")]
+def codes_explained(*names):
+    """The program's tables of codes, or these ones: a code, its name, what it means and what to do."""
+    texts = [read(f"crates/tx_explain/src/{name}.rt").decode() for name in names or ("text_faults", "run_codes", "plan_codes")]
     return re.findall(r'\[\s*"(.*?)",\s*"(.*?)",\s*"(.*?)",\s*"(.*?)",?\s*\]', "".join(texts))
+
+
+def words_explained():
+    """The program's tables of words."""
+    return codes_explained("report_words", "run_words")
+
+
+def check_words_printed(tell):
+    """The tables have each word in capitals that a command of the player of the gate prints, but for names that its texts declare. (`lint` prints words at fault too.)"""
+    reports = {"audit", "both", "certified", "change", "check", "checked", "codes", "fill", "grade", "mend", "order", "pipe", "run", "stage", "survive", "telling", "trace"}
+    known = {it.upper() for row in codes_explained() + words_explained() for it in row[:2]}
+    for head, texts, prints in played():
+        names = set(re.findall(r"(?m)^\s*(?:EXCHANGE|GROUP|RISK)\s+(\w+)", texts))
+        words = set(re.findall(r'(?<![\w".])[A-Z]{2,}(?![\w".])', prints)) if reports & set(head.split()[1:3]) else set()
+        for word in sorted(words - known - names):
+            tell(f"crates/tx_explain: {word}, which {head.split()[0]} prints, is not explained")
 
 
 def codes_defined():
@@ -340,8 +357,8 @@ def check_table(mark, rows, known_lines):
     if mark == "examples":
         texts = [it for row in rows for it in re.findall(r"`([^`]+)`", row[-1])]
         return [f"no example has the line {it!r}" for it in texts if plain(it) not in known_lines] + ([] if texts else ["no examples stand in it"])
-    if mark == "codes":
-        told, wanted = [tuple(it.replace("`", "") for it in row) for row in rows], codes_explained()
+    if mark in ("codes", "words"):
+        told, wanted = [tuple(it.replace("`", "") for it in row) for row in rows], codes_explained() if mark == "codes" else words_explained()
         return [f"{row[0]} is not what the program explains" for row in told if row not in wanted] + ([] if told == wanted else ["the rows are not those of the program's table"])
     return [f"no such comment: {mark}"]
 
@@ -349,7 +366,7 @@ def check_table(mark, rows, known_lines):
 def check_pages(tell):
     known = {it.name: it for it in examples()}
     known_lines = lines_of_examples()
-    is_shown = False
+    shown = set()
     for page in PAGES:
         for line, mark, text in blocks(page):
             wrong = check_block(mark, text, known)
@@ -361,10 +378,9 @@ def check_pages(tell):
         for line, mark, rows in tables(page):
             for wrong in check_table(mark, rows, known_lines):
                 tell(f"{page} line {line}: {wrong}")
-            if mark == "codes":
-                is_shown = True
-    if not is_shown:
-        tell("docs/FORMATS.md: the table of codes is missing")
+            shown.add(mark)
+    for it in sorted({"codes", "words"} - shown):
+        tell(f"docs/FORMATS.md: the table of {it} is missing")
     for it in sorted(codes_defined() ^ {row[:2] for row in codes_explained()}):
         tell(f"crates/tx_explain: {' '.join(it)} stands in the table or in the definitions alone")
 
@@ -803,6 +819,7 @@ def main(words):
     check_map(told.append)
     check_cases(told.append)
     check_tables(told.append)
+    check_words_printed(told.append)
     check_images(told.append)
     check_pictures(told.append)
     check_ends(told.append)
