@@ -5,7 +5,7 @@ ghost use Rattle.clap.specs.Words.{AddsSubcommand, app_of};
 ghost use Rattle.clap.specs.declared.builder.command.Command.{Command};
 ghost use Rattle.tx_commands.specs.Grammar as grammar;
 
-use crate::arguments::{Syntax, word};
+use crate::arguments::Syntax;
 use crate::judging::{judging_command, judging_grammar};
 use std::alloc::{AllocError, Global};
 
@@ -155,18 +155,19 @@ write, 4 when out of memory, 64 for refused words";
 fn explain_grammar<'a>(alloc: Global) -> Result<clap::Command<'a>, AllocError>
     ensures { IfOk result (λ c. app_of c ≡ grammar.explain_words) }
 {
-    let words = word(
+    Syntax::new(
         alloc,
+        "explain",
+        "Say what printed codes and words mean; or list all of them",
+        EXPLAIN_HELP,
+    )
+    .words(
         "word",
         "WORD",
         "A code, a name or a word that was printed, as P11, NC,
 Overlap or CUT, or a whole line of a report",
     )
-    .num_args(1..);
-    clap::Command::new(alloc, "explain")
-        .about("Say what printed codes and words mean; or list all of them")
-        .after_help(EXPLAIN_HELP)
-        .arg(words)
+    .command
 }
 
 fn version_grammar<'a>(alloc: Global) -> clap::Command<'a>

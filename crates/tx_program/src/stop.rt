@@ -93,7 +93,8 @@ fn has_plain_faults(command: &Command) -> bool {
     )
 }
 
-/// Writes the line of a job's fault, with the word that was asked for where the plan does not have it.
+/// Writes the line of a job's fault, with the word that was asked for where the plan does not have
+/// it.
 fn write_job_fault<W: Sink>(
     fault: &JobFault,
     command: &Command,
