@@ -28,7 +28,15 @@ pub fn write_arrows<A: Allocator, W: Sink>(
         result }
 {
     for index in 0..plan.exchanges() {
-        write_arrow(plan, reached, shown, from, list, ExchangeId::of(index), sink)?;
+        write_arrow(
+            plan,
+            reached,
+            shown,
+            from,
+            list,
+            ExchangeId::of(index),
+            sink,
+        )?;
     }
     Ok(())
 }

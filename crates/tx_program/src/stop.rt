@@ -117,10 +117,12 @@ fn write_job_fault<W: Sink>(
         (
             JobFault::NoSuchGroup(place),
             Command::Trace {
-                down: Some(names), ..
+                down: Some(names),
+                ..
             }
             | Command::Fill {
-                down: Some(names), ..
+                down: Some(names),
+                ..
             },
         ) => {
             let name = names.split(',').nth(*place).unwrap_or(names);
