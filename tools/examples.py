@@ -749,8 +749,9 @@ def check_completion(tell, told):
 
 
 def check_offers(program, tell):
-    """The completion offers the exchanges and the codes of the plan that is named."""
-    asked = [(["trace", "examples/three.plan", "N"], "NORTH"), (["trace", "examples/three.plan", "NORTH", ""], "22 20 24"), (["draw", "examples/three.plan", "--code", "24"], "24")]
+    """The completion offers the exchanges, the codes and the groups of the plan that is named."""
+    asked = [(["trace", "examples/three.plan", "N"], "NORTH"), (["fill", "examples/three.plan", "NORTH", ""], "22 20 24"), (["draw", "examples/three.plan", "--code", "24"], "24")]
+    asked += [(["trace", "examples/three.plan", "--group", "N"], "NOSO1"), (["trace", "examples/three.plan", "NORTH", "24", "--down", "NOSO1,CES"], "NOSO1,CESO1 NOSO1,CESO2")]
     for words, offered in asked:
         line = " ".join(f"'{it}'" for it in ["telexplan", *words])
         script = f"source docs/telexplan.bash; COMP_WORDS=({line}); COMP_CWORD={len(words)}; _telexplan; echo ${{COMPREPLY[*]}}"
