@@ -568,7 +568,11 @@ def waiting(end):
 
 
 def check_arguments(program, tell):
-    """A word that is no UTF-8 text is refused, and so is an empty one, which is no command."""
+    """A word that is no UTF-8 text is refused, and so is an empty one, which is no command. A line of a report may be one word with blanks."""
+    line = "F2 LOOP 24 VIA NORTH"
+    ran = [subprocess.run(program + ["explain", *words], capture_output=True, timeout=60) for words in (line.split(), [line])]
+    if ran[0].returncode or ran[0].stdout != ran[1].stdout or b"F2 LOOP\n" not in ran[0].stdout:
+        tell(f"explain {line!r} prints {ran[1].stdout!r}")
     given = read("examples/three.plan") + read("examples/three.script")
     for word, why in [(b"\xff", b"telexplan: a word is no UTF-8 text\n"), (b"", b"error: unrecognized subcommand ''\n")]:
         ran = subprocess.run(program + [word], input=given, capture_output=True, timeout=60)
