@@ -1,2 +1,3 @@
 pub mod Before
 mod FirstShown
+pub mod Arrowed

@@ -1,5 +1,5 @@
 -- The arrows of a list: one for the groups that lead to one exchange.
-use Rattle.std.specs.Prelude.{ℕ, ◌+◌, Bool, ◌==◌, if◌then◌else◌, List, [], ◌++◌, length, take, get_or, codes, decimal}
+use Rattle.std.specs.Prelude.{ℕ, ◌+◌, Bool, true, false, ◌==◌, if◌then◌else◌, List, [], ◌++◌, length, take, get_or, codes, decimal}
 use Rattle.std.specs.List.{list_any}
 use Rattle.std.specs.Option.{option_map_or}
 use Rattle.tx_plan.specs.Plan.{Plan, group_name}
@@ -16,11 +16,16 @@ leads p x y g = option_map_or (λ z. z == y) (other_end p g x) false
 abbrev pub some_leads : Plan → (x : ℕ) → (list : List ℕ) → (y : ℕ) → Bool
 some_leads p x list y = list_any (leads p x y) list
 
--- the place of a group that leads to y, from 1, by its index in the list; with a blank after another
+-- a blank, if it comes after another place
+abbrev pub gap_text : Bool → List ℕ
+gap_text true = codes " "
+gap_text false = []
+
+-- the place of a group that leads to y, from 1, by its index in the list
 abbrev pub place_text : Plan → (x : ℕ) → (list : List ℕ) → (y i : ℕ) → List ℕ
 place_text p x list y i =
     if leads p x y (get_or list i 0)
-    then (if some_leads p x (take i list) y then codes " " else []) ++ decimal (i + 1)
+    then gap_text (some_leads p x (take i list) y) ++ decimal (i + 1)
     else []
 
 -- the name of a group that leads to y

@@ -3,7 +3,7 @@ ghost use Rattle.std.specs.Prelude.{◌≡◌, ◌<◌, length, get_or};
 ghost use Rattle.std.specs.List.{list_any};
 ghost use Rattle.tx_text.specs.Wrote.{Wrote};
 ghost use Rattle.tx_draw.specs.Drawing.{each_before};
-ghost use Rattle.tx_draw.specs.Arrows.{leads, some_leads, place_text, name_text, choices_text, arrow_line};
+ghost use Rattle.tx_draw.specs.Arrows.{leads, some_leads, gap_text, place_text, name_text, choices_text, arrow_line};
 ghost use Rattle.tx_draw.specs.Shown.{goes_by};
 
 use crate::parts::write_line_between;
@@ -141,13 +141,16 @@ fn write_place<A: Allocator, W: Sink>(
     if !leads(plan, from, to, list[index]) {
         return Ok(());
     }
-    let gap: &[u8] = if some_leads(plan, from, &list[..index], to) {
-        b" "
-    } else {
-        b""
-    };
+    let gap = gap_text(some_leads(plan, from, &list[..index], to));
     let mut buffer = Buffer::new();
     write_parts(&[gap, buffer.format(index + 1).as_bytes()], sink)
+}
+
+/// A blank, if it comes after another place.
+fn gap_text(is_after: bool) -> &'static [u8]
+    ensures { result.now ≡ gap_text is_after }
+{
+    if is_after { b" " } else { b"" }
 }
 
 fn write_names<A: Allocator, W: Sink>(
