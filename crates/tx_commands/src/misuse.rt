@@ -65,16 +65,21 @@ impl Misuse {
 
     /// What is said of it.
     pub(crate) fn message(&self, alloc: Global) -> Result<String, AllocError> {
-        let message = match self {
-            Misuse::Number(option, word) => return format!(in alloc;
+        match self {
+            Misuse::Number(option, word) => format!(in alloc;
                 "invalid value '{word}' for '--{option}': a number has no sign and no leading zeros"
             ),
-            Misuse::NoSuchCode(line) => return format!(in alloc;
-                "no such code: {line:?}\n\n{EXPLAINED}"
-            ),
-            Misuse::Overwrites(file) => return format!(in alloc;
+            Misuse::NoSuchCode(line) => format!(in alloc; "no such code: {line:?}\n\n{EXPLAINED}"),
+            Misuse::Overwrites(file) => format!(in alloc;
                 "a file to be made has the name of another file of the command, or is named -: {file:?}"
             ),
+            _ => String::from_str(alloc, self.reason()),
+        }
+    }
+
+    /// What is said of it, where no word of the command line is said too.
+    fn reason(&self) -> &'static str {
+        match self {
             Misuse::CheckedTelling => "--strict, --echo and --summary do not go with --cert",
             Misuse::DrawTogether => "--limit and --spare go together, and with --code",
             Misuse::StageMissing => "--plan and --cert go with --stage",
@@ -84,7 +89,6 @@ impl Misuse {
                 "standard input, which is named -, can be read for one file alone"
             }
             _ => "a command is missing",
-        };
-        String::from_str(alloc, message)
+        }
     }
 }

@@ -149,13 +149,12 @@ fn write_failure<A: Allocator, W: Sink>(
     error: &io::Error,
     sink: &mut W,
 ) -> Result<(), WriteFault> {
-    let name = if name == STANDARD_INPUT {
-        "standard input"
-    } else {
-        name
-    };
     write_parts(&[b"telexplan: ", fault, b": "], sink)?;
-    write_escaped(name.as_bytes(), sink)?;
+    if name == STANDARD_INPUT {
+        write_bytes(b"standard input", sink)?;
+    } else {
+        write_escaped(name.as_bytes(), sink)?;
+    }
     if let Ok(said) = format!(in alloc; "{error}") {
         let (said, _number) = said
             .as_str()
