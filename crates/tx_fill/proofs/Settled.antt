@@ -1,8 +1,13 @@
 -- Events that are applied in turn, and groups that are full.
-use Rattle.std.proofs.Common.{◌≡◌, ℕ, ◌+◌, ◌<◌, Bool, true, false, not, ◌&&◌, ◌||◌, List, [], ◌∷◌, ◌++◌, map, take, length, get_or, refl, sym, ap, ◌∙◌}
-use Rattle.std.proofs.lemmas.List.{take_more, map-append}
+use Rattle.std.proofs.Common.{◌≡◌, ℕ, ◌+◌, ◌<◌, Bool, true, false, cond, not, ◌&&◌, ◌||◌, List, [], ◌∷◌, ◌++◌, map, take, length, get_or, refl, sym, ap, ◌∙◌, arith, append-nil}
+use Rattle.std.specs.Prelude.{filter}
+use Rattle.std.specs.List.{range_with_len}
+use Rattle.std.proofs.lemmas.List.{take_more, map-append, map-id}
+use Rattle.std.proofs.lemmas.List.FromFn.{filter_of_map_range_with_len_more}
 use Rattle.tx_plan.specs.Plan.{Plan}
 use Rattle.tx_machine.specs.declared.event.Event.{Event}
+use Rattle.tx_machine.specs.declared.event.Event.TheVariants.{Released}
+use Rattle.tx_machine.specs.declared.open_call.Hop.{Hop}
 use Rattle.tx_machine.specs.declared.reply.Reply.{Reply}
 use Rattle.tx_machine.specs.State.{State}
 use Rattle.tx_machine.specs.Runs.{state_after}
@@ -12,6 +17,10 @@ state_push : (p : Plan) (s : State) (es : List Event) (e : Event)
     → state_after p s (es ++ e ∷ []) ≡ (step p (state_after p s es) e).1
 state_push p s [] e = refl
 state_push p s (d ∷ es) e = state_push p (step p s d).1 es e
+
+-- the release of a hop's circuit
+abbrev pub release_of : Hop → Event
+release_of h = Released h.circuit
 
 -- one event more of a list
 pub events_more : {X : Type 0} (event : X → Event) (p q : Plan) (s t u : State) (xs : List X)
@@ -33,3 +42,24 @@ pub is_up : (failed blocked none : Bool)
     → ((not failed && not blocked) && none) ≡ (not (failed || blocked) && none)
 is_up true blocked none = refl
 is_up false blocked none = refl
+
+-- the groups before an index that pass a test, and one more
+module _ (t : ℕ → Bool) (i : ℕ) (old new : List ℕ)
+    (so_far : old ≡ filter t (range_with_len 0 i)) where
+  one_more : filter t (range_with_len 0 (i + 1))
+      ≡ filter t (range_with_len 0 i) ++ cond (t i) (i ∷ []) []
+  one_more =
+      let same : (n : ℕ) → filter t (range_with_len 0 n) ≡ filter t (map (λ x. x) (range_with_len 0 n)) =
+      λ n. ap (filter t) (sym (map-id (range_with_len 0 n))) in
+      same (i + 1) ∙ filter_of_map_range_with_len_more t (λ x. x) 0 i i (omega arith)
+      ∙ ap (λ l. l ++ cond (t i) (i ∷ []) []) (sym (same i))
+
+  pub group_put : t i ≡ true → new ≡ old ++ i ∷ [] → new ≡ filter t (range_with_len 0 (i + 1))
+  group_put passes put =
+      put ∙ ap (λ l. l ++ i ∷ []) so_far
+      ∙ ap (λ b. filter t (range_with_len 0 i) ++ cond b (i ∷ []) []) (sym passes) ∙ sym one_more
+
+  pub group_passed : t i ≡ false → new ≡ old → new ≡ filter t (range_with_len 0 (i + 1))
+  group_passed fails same =
+      same ∙ so_far ∙ sym (append-nil (filter t (range_with_len 0 i)))
+      ∙ ap (λ b. filter t (range_with_len 0 i) ++ cond b (i ∷ []) []) (sym fails) ∙ sym one_more

@@ -94,8 +94,9 @@ fn value_of(number: &National) -> u64
     ensures small { result < 10 ^ length number.now }
     ensures few { result < 10 ^ 9 }
 {
+    let text = number.bytes();
     let mut value: u64 = 0;
-    for figure in number.bytes() {
+    for figure in text {
         value = value * 10 + u64::from(*figure - b'0');
     }
     value
@@ -136,6 +137,7 @@ fn padded(number: u64, width: usize) -> National
 pub(crate) fn full_number<A: Allocator>(plan: &Plan<A>, line: &Line) -> Figures
     ensures { result ≡ full_number plan.now line.now }
 {
+    plan.rules();
     let mut keyed: ArrayVec<u8, 12> = ArrayVec::new();
     put(&mut keyed, plan.code_figures(line.code));
     put(&mut keyed, line.national.bytes());

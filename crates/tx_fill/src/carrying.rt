@@ -53,7 +53,7 @@ fn call<A: Allocator + Copy>(
 {
     let keyed = full_number(plan, other);
     match network.apply(Event::Key { line, keyed })? {
-        Reply::Keyed(call) => carry(network, call, 240 * plan.groups() + 1),
+        Reply::Keyed(number) => carry(network, number, 240 * plan.groups() + 1),
         _ => Ok(()),
     }
 }
