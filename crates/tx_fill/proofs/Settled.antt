@@ -1,26 +1,26 @@
 -- Events that are applied in turn, and groups that are full.
-use Rattle.std.proofs.Common.{◌≡◌, ℕ, ◌+◌, ◌<◌, Bool, true, false, cond, not, ◌&&◌, ◌||◌, List, [], ◌∷◌, ◌++◌, map, take, length, get_or, refl, sym, ap, ◌∙◌, arith, append-nil}
+use Rattle.std.proofs.Common.{◌≡◌, ℕ, ◌+◌, ◌<◌, Bool, true, false, cond, not, ◌&&◌, ◌||◌, List, [], ◌∷◌, ◌++◌, map, take, length, get_or, refl, sym, ap, ◌∙◌, arith, append-nil, Option, Some, None}
 use Rattle.std.specs.Prelude.{filter}
 use Rattle.std.specs.List.{range_with_len}
 use Rattle.std.proofs.lemmas.List.{take_more, map-append, map-id}
 use Rattle.std.proofs.lemmas.List.FromFn.{filter_of_map_range_with_len_more}
 use Rattle.tx_plan.specs.Plan.{Plan}
 use Rattle.tx_machine.specs.declared.event.Event.{Event}
-use Rattle.tx_machine.specs.declared.event.Event.TheVariants.{Released}
-use Rattle.tx_machine.specs.declared.open_call.Hop.{Hop}
+use Rattle.tx_machine.specs.declared.event.Event.TheVariants.{Block}
+use Rattle.tx_machine.specs.declared.refusal.Refusal.{Refusal}
 use Rattle.tx_machine.specs.declared.reply.Reply.{Reply}
-use Rattle.tx_machine.specs.State.{State}
+use Rattle.tx_machine.specs.Ended.{Ended}
+use Rattle.tx_machine.specs.Refusals.{refusal}
+use Rattle.tx_machine.specs.State.{State, Net, opening}
 use Rattle.tx_machine.specs.Runs.{state_after}
-use Rattle.tx_machine.specs.Step.{step}
+use Rattle.tx_machine.specs.Step.{step, accepted, counted, unless_refused}
+use Rattle.tx_fill.specs.CallLines.{line_pairs}
+use Rattle.tx_fill.specs.Fills.{filled, fill_state}
 
 state_push : (p : Plan) (s : State) (es : List Event) (e : Event)
     → state_after p s (es ++ e ∷ []) ≡ (step p (state_after p s es) e).1
 state_push p s [] e = refl
 state_push p s (d ∷ es) e = state_push p (step p s d).1 es e
-
--- the release of a hop's circuit
-abbrev pub release_of : Hop → Event
-release_of h = Released h.circuit
 
 -- one event more of a list
 pub events_more : {X : Type 0} (event : X → Event) (p q : Plan) (s t u : State) (xs : List X)
@@ -36,6 +36,30 @@ events_more event p q s t u xs i x r low is plan so stepped =
     ∙ ap (state_after p s) (ap (λ y. front ++ event y ∷ []) is
     ∙ sym (map-append event (take i xs) (get_or xs i x ∷ []))
     ∙ ap (map event) (sym (take_more xs i x low)))
+
+-- a network whose groups were blocked
+blocks_fresh : (p : Plan) (s : State) (groups : List ℕ)
+    → (state_after p s (map Block groups)).tickets ≡ s.tickets
+blocks_fresh p s [] = refl
+blocks_fresh p s (g ∷ groups) =
+    blocks_fresh p (step p s (Block g)).1 groups ∙ by (refusal p s (Block g))
+  where
+    by : (o : Option Refusal)
+        → (unless_refused o s (counted (accepted p s (Block g)))).1.tickets ≡ s.tickets
+    by None = refl
+    by (Some r) = refl
+
+module _ (p : Plan) (down : List ℕ) (x c : ℕ) (n : Net)
+    (fresh : n ≡ record { plan = p; state = opening 0 0 }) (b : State)
+    (blocked : b ≡ state_after n.plan n.state (map Block down)) where
+  blocked_is : b ≡ state_after p (opening 0 0) (map Block down)
+  blocked_is = blocked ∙ ap (λ (m : Net). state_after m.plan m.state (map Block down)) fresh
+
+  pub no_tickets : b.tickets ≡ []
+  no_tickets = ap (λ (s : State). s.tickets) blocked_is ∙ blocks_fresh p (opening 0 0) down
+
+  pub filled_is : filled p (line_pairs p x c) b ≡ fill_state p down x c
+  filled_is = ap (filled p (line_pairs p x c)) blocked_is
 
 -- a group is neither failed nor blocked
 pub is_up : (failed blocked none : Bool)

@@ -1,7 +1,7 @@
 -- Calls that are set up one after another.
-use Rattle.std.specs.Prelude.{◌≡◌, ℕ, zero, suc, ◌+◌, ◌*◌, Bool, true, false, not, ◌&&◌, ◌==◌, if◌then◌else◌, List, [], ◌∷◌, length, map, filter, slice_get, is_some}
+use Rattle.std.specs.Prelude.{◌≡◌, ℕ, zero, suc, ◌+◌, ◌*◌, Bool, true, false, not, ◌&&◌, ◌==◌, if◌then◌else◌, List, [], ◌∷◌, length, map, filter, slice_get, is_some, Option, None, Some}
 use Rattle.std.specs.List.{range_with_len}
-use Rattle.std.specs.Option.{option_map, option_map_or}
+use Rattle.std.specs.Option.{option_map}
 use Rattle.tx_plan.specs.Plan.{Plan}
 use Rattle.tx_plan.specs.Circuits.{ends_of}
 use Rattle.tx_plan.specs.Lines.{full_number}
@@ -9,6 +9,7 @@ use Rattle.tx_plan.specs.declared.ids.Line.{Line}
 use Rattle.tx_machine.specs.declared.cause.Cause.{Cause}
 use Rattle.tx_machine.specs.declared.event.Event.{Event}
 use Rattle.tx_machine.specs.declared.event.Event.TheVariants.{Key, Route, Confirm, Block, Released}
+use Rattle.tx_machine.specs.declared.open_call.Hop.{Hop}
 use Rattle.tx_machine.specs.declared.reply.Reply.{Reply}
 use Rattle.tx_machine.specs.declared.reply.Reply.TheVariants.{Keyed, Seized}
 use Rattle.tx_machine.specs.Call.{last_exchange}
@@ -58,10 +59,17 @@ abbrev pub fill_state : Plan → (down : List ℕ) → (x c : ℕ) → State
 fill_state p down x c =
     filled p (line_pairs p x c) (state_after p (opening 0 0) (map Block down))
 
+-- the circuits of a call that has ended are released
+abbrev pub release_of : Hop → Event
+release_of h = Released h.circuit
+
+abbrev pub releases : Option Ended → List Event
+releases None = []
+releases (Some t) = map release_of t.path
+
 -- the ticket of the call that has ended is taken, and its circuits are released
 abbrev pub settled : Plan → State → State
-settled p s = state_after p (ticket_taken s) (option_map_or
-    (λ (t : Ended). map (λ h. Released h.circuit) t.path) (slice_get s.tickets 0) [])
+settled p s = state_after p (ticket_taken s) (releases (slice_get s.tickets 0))
 
 -- how a call ended, and where
 abbrev pub end_of : Ended → Cause × ℕ

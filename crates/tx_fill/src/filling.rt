@@ -1,11 +1,12 @@
 // Calls that are set up one after another.
-ghost use Rattle.std.specs.Prelude.{◌≡◌, ◌<◌, length, map, filter, slice_get, IfOk, OnOk};
+ghost use Rattle.std.specs.Prelude.{◌≡◌, ◌<◌, length, map, filter, IfOk, OnOk};
 ghost use Rattle.std.specs.List.{range_with_len};
+ghost use Rattle.std.specs.Option.{option_map};
 ghost use Rattle.tx_machine.specs.Call.{last_exchange};
 ghost use Rattle.tx_machine.specs.State.{opening};
 ghost use Rattle.tx_machine.specs.Runs.{state_after};
-ghost use Rattle.tx_machine.specs.declared.event.Event.TheVariants.{Block, Released};
-ghost use Rattle.tx_fill.specs.Fills.{IsFill, end_of, is_full};
+ghost use Rattle.tx_machine.specs.declared.event.Event.TheVariants.{Block};
+ghost use Rattle.tx_fill.specs.Fills.{IsFill, end_of, release_of, releases, is_full};
 
 use crate::carrying::call_in_turn;
 use std::alloc::{Allocator, Global};
@@ -57,10 +58,7 @@ fn fill_network<A: Allocator + Copy>(
     block(network, down)?;
     let ended = call_in_turn(plan, network, exchange, code)?;
     let calls = network.open_calls();
-    let next = match ended {
-        Some(ticket) => Some(settle(network, ticket)?),
-        None => None,
-    };
+    let next = settle(network, ended)?;
     let full = full_groups(alloc, plan, network)?;
     Ok(Fill { calls, next, full })
 }
@@ -80,26 +78,29 @@ fn block<A: Allocator + Copy>(
     Ok(())
 }
 
-/// Releases the circuits of a call that has ended. Answers how it ended, and where.
+/// Releases the circuits of a call that has ended, if one has. Answers how it ended, and where.
 fn settle<A: Allocator + Copy>(
     network: &mut Engine<'_, A>,
-    ticket: Ticket<A>,
-) -> Result<(Cause, ExchangeId), NoMemory>
+    ended: Option<Ticket<A>>,
+) -> Result<Option<(Cause, ExchangeId)>, NoMemory>
     ensures plan { OnOk result (network.new.plan ≡ network.old.plan) }
-    ensures ended { IfOk result (λ ended. ended ≡ end_of ticket) }
-    ensures state { OnOk result (network.new.state ≡ state_after network.old.plan
-        network.old.state (map (λ h. Released h.circuit) ticket.path)) }
+    ensures next { IfOk result (λ next. next ≡ option_map end_of ended) }
+    ensures state { OnOk result (network.new.state
+        ≡ state_after network.old.plan network.old.state (releases ended)) }
 {
+    let Some(ticket) = ended else {
+        return Ok(None);
+    };
     let hops = ticket.path.hops();
     release(network, hops)?;
-    Ok((ticket.cause, last_exchange(ticket.start, hops)))
+    Ok(Some((ticket.cause, last_exchange(ticket.start, hops))))
 }
 
 /// Releases circuits.
 fn release<A: Allocator + Copy>(network: &mut Engine<'_, A>, hops: &[Hop]) -> Result<(), NoMemory>
     ensures plan { OnOk result (network.new.plan ≡ network.old.plan) }
-    ensures state { OnOk result (network.new.state ≡ state_after network.old.plan
-        network.old.state (map (λ h. Released h.circuit) hops.now)) }
+    ensures state { OnOk result (network.new.state
+        ≡ state_after network.old.plan network.old.state (map release_of hops.now)) }
 {
     for hop in hops {
         network.apply(Event::Released(hop.circuit))?;

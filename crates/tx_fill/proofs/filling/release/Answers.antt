@@ -1,7 +1,8 @@
 use Rattle.std.proofs.Common.{◌∙◌, ap, map}
 use Rattle.std.proofs.lemmas.List.{take_all}
 use Rattle.tx_machine.specs.Runs.{state_after}
-use Rattle.tx_fill.proofs.Settled.{release_of, events_more}
+use Rattle.tx_fill.specs.Fills.{release_of}
+use Rattle.tx_fill.proofs.Settled.{events_more}
 use Rattle.tx_fill.proofs.filling.release.Goals as goal
 
 pub loop-hop-preserved : goal.loop-hop-preserved

@@ -1,6 +1,6 @@
 use Rattle.std.proofs.Common.{◌≡◌, map, take}
 use Rattle.tx_machine.specs.Runs.{state_after}
-use Rattle.tx_fill.proofs.Settled.{release_of}
+use Rattle.tx_fill.specs.Fills.{release_of}
 use Rattle.tx_fill.proofs.filling.release.Given as goal
 
 abbrev pub invariant-loop-hop : goal.invariant-loop-hop
