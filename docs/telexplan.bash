@@ -4,13 +4,18 @@ _telexplan_names() {
     [ -f "${COMP_WORDS[2]}" ] && sed -n "s/^[[:blank:]]*$1[[:blank:]]\{1,\}\([A-Z0-9]*\).*/\1/p" "${COMP_WORDS[2]}"
 }
 _telexplan() {
-    local word=${COMP_WORDS[COMP_CWORD]} words=
+    local word=${COMP_WORDS[COMP_CWORD]} words= before=
     case ${COMP_WORDS[COMP_CWORD - 1]} in
         --limit) words=$(echo {0..62}) ;;
         --spare) words=$(echo {0..15}) ;;
         --stage) words=$(echo {1..128}) ;;
         --code) words=$(_telexplan_names CODE) ;;
-        --group | --down) words=$(_telexplan_names GROUP) ;;
+        --group) words=$(_telexplan_names GROUP) ;;
+        --down)
+            # one more name behind the last comma
+            case $word in *,*) before=${word%,*}, ;; esac
+            words=$(_telexplan_names GROUP | sed "s/^/$before/")
+            ;;
         --cert | --mixture | --plan | --risks | --counter) ;;
         *)
             case $COMP_CWORD:${COMP_WORDS[1]}:$word in

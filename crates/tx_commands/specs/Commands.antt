@@ -1,10 +1,11 @@
 -- What words ask for, and the files of it.
 use Rattle.std.specs.Prelude.{◌≡◌, ◌≤◌, ℕ, Bool, true, false, List, [], ◌∷◌, Option, None, Some, is_some, map, option_map, codes, string_bytes, String, ◌||◌}
 use Rattle.std.specs.Borrow.{Bor}
+use Rattle.std.specs.List.{join_by}
 use Rattle.std.specs.Coded.{Unit-prop, le_prop, ×_prop}
 use Rattle.std.specs.Option.{option_map_or}
 use Rattle.std.specs.Str.{bytes_eq}
-use Rattle.clap.specs.Words.{Row, first_of, subcommand_of}
+use Rattle.clap.specs.Words.{Row, all_of, first_of, subcommand_of}
 use Rattle.tx_text.specs.Words.{number_of}
 use Rattle.tx_explain.specs.Entries.{is_known}
 use Rattle.tx_commands.specs.Grammar.{program_words}
@@ -43,7 +44,7 @@ IsInRange-prop (Fill plan exchange code down) = Unit-prop
 IsInRange-prop (Draw plan None) = Unit-prop
 IsInRange-prop (Draw plan (Some (code, None))) = Unit-prop
 IsInRange-prop (Draw plan (Some (code, Some (limit, spare)))) = ×_prop le_prop le_prop
-IsInRange-prop (Explain word) = Unit-prop
+IsInRange-prop (Explain line) = Unit-prop
 
 -- the words of a command name this file
 abbrev pub Names : {Z : Type 0} → List Row → List ℕ → String Z → Type 0
@@ -59,6 +60,10 @@ pub record Gives (found : List Row) (id : List ℕ) (n : ℕ) : Type 0 where
 abbrev pub GivesIfAny : List Row → List ℕ → Option ℕ → Type 0
 GivesIfAny found id None = first_of id found ≡ None
 GivesIfAny found id (Some n) = Gives found id n
+
+-- the words for this, with a blank between two
+abbrev pub line_of : List Row → List ℕ → Option (List ℕ)
+line_of found id = option_map (join_by (λ w. w) (codes " ")) (all_of id found)
 
 -- files are made of a stage that is named
 abbrev pub AreOfStage : {Z : Type 0} → Option ℕ → (plan cert : Option (String Z)) → Type 0
@@ -154,10 +159,10 @@ Asks name found (Draw plan (Some (code, None))) =
 Asks name found (Draw plan (Some (code, Some (limit, spare)))) =
     (name ≡ codes "draw") × Names found (codes "plan") plan × Names found (codes "code") code
     × Gives found (codes "limit") limit × Gives found (codes "spare") spare
-Asks name found (Explain None) = (name ≡ codes "explain") × (first_of (codes "code") found ≡ None)
-Asks name found (Explain (Some word)) =
-    (name ≡ codes "explain") × Names found (codes "code") word
-    × (is_known (string_bytes word) ≡ true)
+Asks name found (Explain None) = (name ≡ codes "explain") × (line_of found (codes "word") ≡ None)
+Asks name found (Explain (Some line)) =
+    (name ≡ codes "explain") × (line_of found (codes "word") ≡ Some (string_bytes line))
+    × (is_known (string_bytes line) ≡ true)
 
 -- the command that was found, with its files and options, asks for this
 abbrev pub IsFoundIn : Option (List ℕ × List Row) → Command → Type 0
@@ -225,7 +230,7 @@ reads_of (Trace plan exchange code down) = one_read (string_bytes plan)
 reads_of (TraceGroup plan group) = one_read (string_bytes plan)
 reads_of (Fill plan exchange code down) = one_read (string_bytes plan)
 reads_of (Draw plan routes) = one_read (string_bytes plan)
-reads_of (Explain word) = None ∷ None ∷ None ∷ []
+reads_of (Explain line) = None ∷ None ∷ None ∷ []
 
 -- their names
 abbrev pub files_read : Command → List (List ℕ)

@@ -1,6 +1,7 @@
 -- The words that the program takes, as the library of command lines sees them: commands, whose
 -- files go by position and whose options go by name.
 use Rattle.std.specs.Prelude.{ℕ, List, Some, true, codes, pos}
+use Rattle.clap.specs.Lexer.{usize_max}
 use Rattle.clap.specs.Words.{App, Rule, new_app, new_rule, with_rule, with_subcommand}
 use Rattle.clap.specs.declared.builder.action.ArgAction.TheVariants.{Set, SetTrue}
 use Rattle.clap.specs.declared.builder.value_parser.ValueParser.TheVariants.{Signed}
@@ -123,9 +124,15 @@ draw_words =
     with_rule (with_rule (with_rule
     (plan_words (codes "draw")) (option (codes "code"))) limit) spare
 
--- a code, which need not be given
+-- one or more words, which need not be given
+abbrev pub some_words : List ℕ → Rule
+some_words id = record (word id) {
+  range = Some (record { start_inclusive = 1; end_inclusive = usize_max });
+}
+
+-- the words of a line
 abbrev pub explain_words : App
-explain_words = with_rule (new_app (codes "explain")) (word (codes "code"))
+explain_words = with_rule (new_app (codes "explain")) (some_words (codes "word"))
 
 -- it asks for the version, as `--version` does
 abbrev pub version_words : App

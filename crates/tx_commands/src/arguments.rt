@@ -78,6 +78,15 @@ impl<'a> Syntax<'a> {
         self.arg(word)
     }
 
+    /// Adds words that go by position, and need not be given.
+    pub(crate) fn words(self, id: &'a str, shown: &'a str, help: &'a str) -> Syntax<'a>
+        ensures { (app : App) → Takes self.entry app
+            → Takes result (with_rule app (grammar.some_words id.now)) }
+    {
+        let words = word(self.alloc, id, shown, help).num_args(1..);
+        self.arg(words)
+    }
+
     /// Adds an option with a word.
     pub(crate) fn option(self, id: &'a str, shown: &'a str, help: &'a str) -> Syntax<'a>
         ensures { (app : App) → Takes self.entry app
@@ -117,7 +126,7 @@ impl<'a> Syntax<'a> {
 }
 
 /// A word that goes by position.
-pub(crate) fn word<'a>(alloc: Global, id: &'a str, shown: &'a str, help: &'a str) -> Arg<'a>
+fn word<'a>(alloc: Global, id: &'a str, shown: &'a str, help: &'a str) -> Arg<'a>
     ensures rule { rule_of result ≡ grammar.word id.now }
     ensures local { result.global ≡ false }
 {

@@ -343,20 +343,22 @@ fn draw_of(alloc: Global, plan: String, matches: &ArgMatches<'_>) -> Result<Comm
     Ok(Command::Draw { plan, routes })
 }
 
-/// The words of `explain`. A word that is no code and no name is refused.
+/// The words of `explain`, with a blank between two. A line without any code, name or word of the
+/// table is refused.
 pub(crate) fn explain_of(alloc: Global, matches: &ArgMatches<'_>) -> Result<Command, Misuse>
     ensures range { IfOk result IsInRange }
     ensures asked { IfOk result (Asks (codes "explain") (rows_of (found_of matches.now))) }
     ensures refused { IfErr result
         (IsRefused (Some (codes "explain", rows_of (found_of matches.now)))) }
 {
-    let Some(word) = text(alloc, matches, "code")? else {
-        return Ok(Command::Explain { word: None });
+    let Some(words) = matches.get_strs("word") else {
+        return Ok(Command::Explain { line: None });
     };
-    if is_known(word.as_str()) {
-        Ok(Command::Explain { word: Some(word) })
+    let line = words.join(alloc, " ")?;
+    if is_known(line.as_str()) {
+        Ok(Command::Explain { line: Some(line) })
     } else {
-        Err(Misuse::NoSuchCode(word))
+        Err(Misuse::NoSuchCode(line))
     }
 }
 

@@ -117,9 +117,9 @@ pub enum Command {
         plan: String,
         routes: Option<(String, Option<(u8, u8)>)>,
     },
-    /// `explain [CODE]`: what a code or a name means, or all codes.
+    /// `explain [WORD]..`: what the codes, names and words of a line mean, or all codes.
     Explain {
-        word: Option<String>,
+        line: Option<String>,
     },
 }
 
@@ -160,19 +160,12 @@ impl<'a> Files<'a> {
             } => Files::new(reads, mixture.as_deref(), cert, counter.as_deref()),
             Command::Order { plan, cert, .. } => Files::new(reads, plan.as_deref(), cert, None),
             Command::Mend { mended, cert, .. } => Files::new(reads, mended.as_deref(), cert, None),
-            Command::Pipe
-            | Command::Run { .. }
-            | Command::RunTelling { .. }
-            | Command::Check { .. }
-            | Command::Lint { .. }
-            | Command::Codes { .. }
-            | Command::Survive { .. }
-            | Command::Grade { .. }
-            | Command::Trace { .. }
-            | Command::TraceGroup { .. }
-            | Command::Fill { .. }
-            | Command::Draw { .. }
-            | Command::Explain { .. } => Files::reading(reads),
+            _ => Files {
+                reads,
+                plan: None,
+                cert: None,
+                script: None,
+            },
         }
     }
 

@@ -5,7 +5,7 @@ ghost use Rattle.clap.specs.Words.{AddsSubcommand, app_of};
 ghost use Rattle.clap.specs.declared.builder.command.Command.{Command};
 ghost use Rattle.tx_commands.specs.Grammar as grammar;
 
-use crate::arguments::{Syntax, word};
+use crate::arguments::Syntax;
 use crate::judging::{judging_command, judging_grammar};
 use std::alloc::{AllocError, Global};
 
@@ -147,24 +147,27 @@ fn draw_grammar<'a>(alloc: Global) -> Result<clap::Command<'a>, AllocError>
     .command
 }
 
-const EXPLAIN_HELP: &str = "Example: telexplan explain P11
+const EXPLAIN_HELP: &str = "Example: telexplan explain F2 LOOP 24 VIA NORTH
 
-Exit status: 0 for a code or a name of the table and without one, 3 for a failed
+Exit status: 0 where a word is explained and without words, 3 for a failed
 write, 4 when out of memory, 64 for refused words";
 
 fn explain_grammar<'a>(alloc: Global) -> Result<clap::Command<'a>, AllocError>
     ensures { IfOk result (λ c. app_of c ≡ grammar.explain_words) }
 {
-    let code = word(
+    Syntax::new(
         alloc,
-        "code",
-        "CODE",
-        "A code or a name that was printed, as P11, F2, NC or Overlap",
-    );
-    clap::Command::new(alloc, "explain")
-        .about("Say what a printed code means, and what to do; or list all codes")
-        .after_help(EXPLAIN_HELP)
-        .arg(code)
+        "explain",
+        "Say what printed codes and words mean; or list all of them",
+        EXPLAIN_HELP,
+    )
+    .words(
+        "word",
+        "WORD",
+        "A code, a name or a word that was printed, as P11, NC,
+Overlap or CUT, or a whole line of a report",
+    )
+    .command
 }
 
 fn version_grammar<'a>(alloc: Global) -> clap::Command<'a>

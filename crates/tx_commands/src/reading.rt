@@ -14,7 +14,6 @@ use crate::files::refuse_clash;
 use crate::grammar::{asked_grammar, grammar};
 use crate::misuse::Misuse;
 use clap::ArgMatches;
-use clap::error::ErrorKind;
 use std::alloc::{AllocError, Global};
 
 /// The command of a subcommand's words.
@@ -56,17 +55,13 @@ fn found_command(alloc: Global, matches: &ArgMatches<'_>) -> Result<Command, Mis
 }
 
 /// A refusal in the form of the library of command lines, with the usage of this command.
-fn in_its_form(
-    alloc: Global,
-    name: &str,
-    kind: ErrorKind,
-    message: &str,
-) -> Result<WordsFault, AllocError>
+fn in_its_form(alloc: Global, name: &str, misuse: &Misuse) -> Result<WordsFault, AllocError>
     ensures { IfOk result
         (λ fault. (command : Option (List ℕ × List Row)) → IsRefusalIn command fault) }
 {
     let mut asked = asked_grammar(alloc, name)?;
-    let e = asked.error(kind, message)?;
+    let message = misuse.message(alloc)?;
+    let e = asked.error(misuse.kind(), message.as_str())?;
     Ok(WordsFault::of_clap(e))
 }
 
@@ -76,18 +71,10 @@ fn version(alloc: Global) -> Result<WordsFault, AllocError>
         (λ fault. (command : Option (List ℕ × List Row)) → IsRefusalIn command fault) }
 {
     match grammar(alloc)?.try_get_matches_from(&["--version"]) {
-        Ok(_) => in_its_form(alloc, "version", ErrorKind::MissingSubcommand, INCOMPLETE),
+        Ok(_) => in_its_form(alloc, "version", &Misuse::Incomplete),
         Err(e) => Ok(WordsFault::of_clap(e)),
     }
 }
-
-/// What is said where the library found no command.
-const INCOMPLETE: &str = "a command is missing";
-
-/// The codes that are explained.
-const CODES: &str = "There are X1 to X3, P3 to P22, A1 to A9, C1 to C10, S1 to S7, Q1 to Q11,
-M1 to M12, K1 to K7 and F1 to F5, those of a ticket, as NC or CLRA, and the
-names, as Overlap";
 
 /// Why the words of the command of this name are refused.
 fn words_fault(alloc: Global, name: &str, misuse: Misuse) -> Result<WordsFault, AllocError>
@@ -98,47 +85,7 @@ fn words_fault(alloc: Global, name: &str, misuse: Misuse) -> Result<WordsFault, 
         Misuse::Together => Ok(WordsFault::Together),
         Misuse::NoMemory => Ok(WordsFault::NoMemory),
         Misuse::Version => version(alloc),
-        Misuse::Incomplete => { in_its_form(alloc, name, ErrorKind::MissingSubcommand, INCOMPLETE) }
-        Misuse::CheckedTelling => {
-            let message = "--strict, --echo and --summary do not go with --cert";
-            in_its_form(alloc, name, ErrorKind::ArgumentConflict, message)
-        }
-        Misuse::DrawTogether => {
-            let message = "--limit and --spare go together, and with --code";
-            in_its_form(alloc, name, ErrorKind::MissingRequiredArgument, message)
-        }
-        Misuse::StageMissing => {
-            let message = "--plan and --cert go with --stage";
-            in_its_form(alloc, name, ErrorKind::MissingRequiredArgument, message)
-        }
-        Misuse::RisksOnly => {
-            let message = "--risks-only goes with --risks";
-            in_its_form(alloc, name, ErrorKind::MissingRequiredArgument, message)
-        }
-        Misuse::TraceWords => {
-            let message = "trace takes an exchange and a code, or --group alone";
-            in_its_form(alloc, name, ErrorKind::MissingRequiredArgument, message)
-        }
-        Misuse::Number(option, word) => {
-            let message = format!(in alloc;
-                "invalid value '{word}' for '--{option}': a number has no sign and no leading zeros"
-            )?;
-            in_its_form(alloc, name, ErrorKind::InvalidValue, message.as_str())
-        }
-        Misuse::NoSuchCode(word) => {
-            let message = format!(in alloc; "no such code: {word:?}\n\n{CODES}")?;
-            in_its_form(alloc, name, ErrorKind::InvalidValue, message.as_str())
-        }
-        Misuse::InputTwice => {
-            let message = "standard input, which is named -, can be read for one file alone";
-            in_its_form(alloc, name, ErrorKind::ArgumentConflict, message)
-        }
-        Misuse::Overwrites(file) => {
-            let message = format!(in alloc;
-                "a file to be made has the name of another file of the command, or is named -: {file:?}"
-            )?;
-            in_its_form(alloc, name, ErrorKind::ArgumentConflict, message.as_str())
-        }
+        misuse => in_its_form(alloc, name, &misuse),
     }
 }
 

@@ -43,4 +43,4 @@ change_stopped A old new limit spare same out (Risks f) h = absurd h
 change_stopped A old new limit spare same out (NoSuchStage stages) h = absurd h
 change_stopped A old new limit spare same out NoSuchExchange h = absurd h
 change_stopped A old new limit spare same out NoSuchCode h = absurd h
-change_stopped A old new limit spare same out NoSuchGroup h = absurd h
+change_stopped A old new limit spare same out (NoSuchGroup place) h = absurd h

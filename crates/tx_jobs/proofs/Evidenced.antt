@@ -26,7 +26,7 @@ module _ {A : Type 0} (old : Bool) (limit spare : ℕ) where
   script_mark p findings (Err (NoSuchStage stages)) h = absurd h
   script_mark p findings (Err NoSuchExchange) h = absurd h
   script_mark p findings (Err NoSuchCode) h = absurd h
-  script_mark p findings (Err NoSuchGroup) h = absurd h
+  script_mark p findings (Err (NoSuchGroup place)) h = absurd h
 
   pub evidence_mark : (with_script : Bool) (audited : Audited A) (r : Result (Evidence A) JobFault) → IsEvidenceOf with_script limit spare audited r → old ≡ mark_after old r
   evidence_mark with_script (FoundSound p cert) r h = ap (mark_after old) (sym h)

@@ -75,7 +75,7 @@ in_plan_mark which leaves old (Risks f) = refl
 in_plan_mark which leaves old (NoSuchStage stages) = refl
 in_plan_mark which leaves old NoSuchExchange = refl
 in_plan_mark which leaves old NoSuchCode = refl
-in_plan_mark which leaves old NoSuchGroup = refl
+in_plan_mark which leaves old (NoSuchGroup place) = refl
 
 -- the same of the two plans of a change
 pub old_plan_mark : (old : Bool) (f : FaultAt PlanWord) → old ≡ mark_by old (old_plan_fault f)

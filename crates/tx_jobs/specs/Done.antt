@@ -154,6 +154,6 @@ module _ {P : Type 0} (rest : P → Option (List ℕ)) (failed : P → Bool)
         Does Filled (FillJobAnswers (string_bytes exchange) (string_bytes code)
         (option_map string_bytes down) first out) result × Alone
     IsDone (Draw plan routes) result = HasDrawn first out routes result × Alone
-    IsDone (Explain word) result =
-        Does written (ToldText (explanation_text (option_map string_bytes word)) out) result
+    IsDone (Explain line) result =
+        Does written (ToldText (explanation_text (option_map string_bytes line)) out) result
         × first.unread × Alone

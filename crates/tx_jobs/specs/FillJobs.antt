@@ -1,15 +1,15 @@
 -- What `fill PLAN EXCHANGE CODE` answers.
-use Rattle.std.specs.Prelude.{◌≡◌, ◌⊎◌, ℕ, List, Option, None, Some, Result, Ok, Err}
+use Rattle.std.specs.Prelude.{◌≡◌, ◌⊎◌, ℕ, List, Option, Result, Ok, Err}
 use Rattle.std.specs.Io.KnownBytes.{append_known}
 use Rattle.tx_text.specs.Ends.{StopsIn, Input, Output}
-use Rattle.tx_plan.specs.Plan.{Plan, exchange_named, code_named}
+use Rattle.tx_plan.specs.Plan.{Plan}
 use Rattle.tx_fill.specs.declared.filling.Fill.{Fill}
 use Rattle.tx_fill.specs.Fills.{IsFill}
 use Rattle.tx_fill.specs.FillText.{fill_text}
 use Rattle.tx_jobs.specs.declared.job_fault.JobFault.{JobFault}
-use Rattle.tx_jobs.specs.declared.job_fault.JobFault.TheVariants.{Write, NoMemory, NoSuchExchange, NoSuchCode, NoSuchGroup}
+use Rattle.tx_jobs.specs.declared.job_fault.JobFault.TheVariants.{Write, NoMemory}
 use Rattle.tx_jobs.specs.Jobs.{PlanRead, PlanRefused}
-use Rattle.tx_jobs.specs.NamedGroups.{groups_in}
+use Rattle.tx_jobs.specs.Asked.{asked_of, GoesOnWith}
 
 -- the calls were set up, but a write failed within the text
 pub record FillToldInPart (A : Type 0) (p : Plan) (down : List ℕ) (x c : ℕ) (out : Output)
@@ -27,20 +27,11 @@ ToldFill {A} p down x c out (Err Write) = FillToldInPart A p down x c out
 ToldFill p down x c out (Err NoMemory) = out.silent
 ToldFill p down x c out (Err other) = ⊥
 
--- the calls for a code from an exchange; or the plan does not have what was asked for, and nothing
--- was written
-abbrev pub FilledNamed : {A : Type 0} → Plan → (exchange code : Option ℕ)
-    → (down : Option (List ℕ)) → Output → Result (Fill A) JobFault → Type 0
-FilledNamed p None code down out result = (result ≡ Err NoSuchExchange) × out.silent
-FilledNamed p (Some x) None down out result = (result ≡ Err NoSuchCode) × out.silent
-FilledNamed p (Some x) (Some c) None out result = (result ≡ Err NoSuchGroup) × out.silent
-FilledNamed p (Some x) (Some c) (Some down) out result = ToldFill p down x c out result
-
 -- `fill PLAN EXCHANGE CODE --down GROUP,..`, by the words for the exchange, the code and the
 -- groups, if there is one for these
 abbrev pub FillJobAnswers : {A : Type 0} → (exchange code : List ℕ) → (down : Option (List ℕ))
     → Input → Output → Result (Fill A) JobFault → Type 0
 FillJobAnswers exchange code down plan out result =
-    PlanRead plan (λ p. FilledNamed p (exchange_named p exchange) (code_named p code)
-    (groups_in p down) out result)
+    PlanRead plan (λ p. GoesOnWith (asked_of p exchange code down)
+    (λ a. ToldFill p a.2 a.0 a.1 out result) out result)
     ⊎ PlanRefused plan out.silent result

@@ -8,7 +8,7 @@ pub mod ChangeJobs
 pub mod GradeJobs
 pub mod MendJobs
 pub mod LintJobs
-pub mod NamedGroups
+pub mod Asked
 pub mod TraceJobs
 pub mod FillJobs
 pub mod TellingJobs

@@ -1,14 +1,13 @@
 // The job of `fill PLAN EXCHANGE CODE`.
 ghost use Rattle.std.specs.Prelude.{◌≡◌, ◌<◌, length, option_map};
 ghost use Rattle.tx_text.specs.Calls.{CallsAtMost, source_calls};
-ghost use Rattle.tx_plan.specs.Plan.{exchange_named, code_named};
 ghost use Rattle.tx_jobs.specs.JobFaults.{mark_after};
 ghost use Rattle.tx_text.specs.Ends.{input, output};
-ghost use Rattle.tx_jobs.specs.NamedGroups.{groups_in};
-ghost use Rattle.tx_jobs.specs.FillJobs.{ToldFill, FilledNamed, FillJobAnswers};
+ghost use Rattle.tx_jobs.specs.Asked.{asked_of, GoesOnWith};
+ghost use Rattle.tx_jobs.specs.FillJobs.{ToldFill, FillJobAnswers};
 
+use crate::asked::asked_of;
 use crate::job_fault::JobFault;
-use crate::named_groups::groups_in;
 use std::alloc::Allocator;
 use tx_fill::{Fill, fill, write_fill};
 use tx_plan::{CodeId, ExchangeId, GroupId, Plan};
@@ -25,7 +24,7 @@ pub fn fill_job<A: Allocator + Copy, P: Source, W: Sink>(
     plan: &mut P,
     exchange: &[u8],
     code: &[u8],
-    down: Option<&[u8]>,
+    down: Option<&str>,
     out: &mut W,
 ) -> Result<Fill<A>, JobFault>
     ensures answers { FillJobAnswers exchange.now code.now
@@ -38,30 +37,22 @@ pub fn fill_job<A: Allocator + Copy, P: Source, W: Sink>(
     fill_named(alloc, &plan, exchange, code, down, out)
 }
 
-/// Sets up calls for the code of some figures from the exchange of a name.
+/// Sets up calls for what is asked for by names.
 fn fill_named<A: Allocator + Copy, W: Sink>(
     alloc: A,
     plan: &Plan<A>,
     exchange: &[u8],
     code: &[u8],
-    down: Option<&[u8]>,
+    down: Option<&str>,
     out: &mut W,
 ) -> Result<Fill<A>, JobFault>
-    ensures filled { FilledNamed plan.now (exchange_named plan.now exchange.now)
-        (code_named plan.now code.now)
-        (groups_in plan.now (option_map (λ w. w.now) down.entry))
+    ensures filled { GoesOnWith
+        (asked_of plan.now exchange.now code.now (option_map (λ w. w.now) down.entry))
+        (λ a. ToldFill plan.now a.2 a.0 a.1 (output W.taken out.old out.new) result)
         (output W.taken out.old out.new) result }
     ensures mark { W.failed out.new ≡ mark_after (W.failed out.old) result }
 {
-    let Some(exchange) = plan.exchange_named(exchange) else {
-        return Err(JobFault::NoSuchExchange);
-    };
-    let Some(code) = plan.code_named(code) else {
-        return Err(JobFault::NoSuchCode);
-    };
-    let Some(down) = groups_in(alloc, plan, down)? else {
-        return Err(JobFault::NoSuchGroup);
-    };
+    let (exchange, code, down) = asked_of(alloc, plan, exchange, code, down)?;
     tell_fill(alloc, plan, &down, exchange, code, out)
 }
 

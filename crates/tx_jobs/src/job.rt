@@ -81,8 +81,8 @@ pub fn do_job<A: Allocator + Copy, P: Source, Q: Source, R: Source, W: Sink>(
         }
         Command::Grade { .. } => Ok(Done::Graded(grade_job(alloc, first, out)?)),
         Command::Draw { routes, .. } => draw(alloc, routes, first, out),
-        Command::Explain { word } => {
-            write_explanation(word.as_deref(), out)?;
+        Command::Explain { line } => {
+            write_explanation(line.as_deref(), out)?;
             Ok(Done::Written)
         }
     }
@@ -222,8 +222,7 @@ fn do_calls<A: Allocator + Copy, P: Source, W: Sink>(
             ..
         } => {
             let (exchange, code) = (exchange.as_bytes(), code.as_bytes());
-            let down = down.as_deref().map(str::as_bytes);
-            trace_job(alloc, plan, exchange, code, down, out)?;
+            trace_job(alloc, plan, exchange, code, down.as_deref(), out)?;
             Ok(Done::Written)
         }
         Command::Fill {
@@ -233,8 +232,8 @@ fn do_calls<A: Allocator + Copy, P: Source, W: Sink>(
             ..
         } => {
             let (exchange, code) = (exchange.as_bytes(), code.as_bytes());
-            let down = down.as_deref().map(str::as_bytes);
-            Ok(Done::Filled(fill_job(alloc, plan, exchange, code, down, out)?))
+            let filled = fill_job(alloc, plan, exchange, code, down.as_deref(), out)?;
+            Ok(Done::Filled(filled))
         }
         Command::TraceGroup { group, .. } => {
             trace_group_job(alloc, plan, group.as_bytes(), out)?;

@@ -2,6 +2,7 @@
 #![tactic(auto)]
 
 mod ahead;
+mod asked;
 mod audit;
 mod audit_evidence;
 mod change;
@@ -21,7 +22,6 @@ mod job_fault;
 mod lint;
 mod mend;
 mod mixture;
-mod named_groups;
 mod order;
 mod pipe;
 mod plan_part;

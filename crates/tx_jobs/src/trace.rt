@@ -1,16 +1,16 @@
 // The jobs of `trace PLAN EXCHANGE CODE` and `trace PLAN --group GROUP`.
 ghost use Rattle.std.specs.Prelude.{◌≡◌, ◌<◌, length, option_map};
 ghost use Rattle.tx_text.specs.Calls.{CallsAtMost, source_calls};
-ghost use Rattle.tx_plan.specs.Plan.{exchange_named, code_named, group_named};
+ghost use Rattle.tx_plan.specs.Plan.{group_named};
 ghost use Rattle.tx_trace.specs.Left.{plan_left};
 ghost use Rattle.tx_trace.specs.TraceText.{trace_text};
 ghost use Rattle.tx_jobs.specs.JobFaults.{mark_after};
 ghost use Rattle.tx_text.specs.Ends.{input, output};
-ghost use Rattle.tx_jobs.specs.NamedGroups.{groups_in};
-ghost use Rattle.tx_jobs.specs.TraceJobs.{ToldTrace, TracedNamed, TracedGroup, TraceJobAnswers, TraceGroupJobAnswers};
+ghost use Rattle.tx_jobs.specs.Asked.{asked_of, GoesOnWith};
+ghost use Rattle.tx_jobs.specs.TraceJobs.{ToldTrace, TracedGroup, TraceJobAnswers, TraceGroupJobAnswers};
 
+use crate::asked::asked_of;
 use crate::job_fault::JobFault;
-use crate::named_groups::groups_in;
 use std::alloc::Allocator;
 use tx_plan::{CodeId, ExchangeId, GroupId, Plan};
 use tx_plantext::read_plan_from;
@@ -27,7 +27,7 @@ pub fn trace_job<A: Allocator + Copy, P: Source, W: Sink>(
     plan: &mut P,
     exchange: &[u8],
     code: &[u8],
-    down: Option<&[u8]>,
+    down: Option<&str>,
     out: &mut W,
 ) -> Result<(), JobFault>
     ensures answers { TraceJobAnswers exchange.now code.now
@@ -40,29 +40,22 @@ pub fn trace_job<A: Allocator + Copy, P: Source, W: Sink>(
     trace_named(alloc, plan, exchange, code, down, out)
 }
 
-/// Traces the code of some figures from the exchange of a name.
+/// Traces what is asked for by names.
 fn trace_named<A: Allocator + Copy, W: Sink>(
     alloc: A,
     plan: Plan<A>,
     exchange: &[u8],
     code: &[u8],
-    down: Option<&[u8]>,
+    down: Option<&str>,
     out: &mut W,
 ) -> Result<(), JobFault>
-    ensures traced { TracedNamed plan (exchange_named plan exchange.now)
-        (code_named plan code.now) (groups_in plan (option_map (λ w. w.now) down.entry))
-        (output W.taken out.old out.new) result }
+    ensures traced { GoesOnWith
+        (asked_of plan exchange.now code.now (option_map (λ w. w.now) down.entry))
+        (λ a. ToldTrace (trace_text (plan_left plan a.2) a.2 a.1 a.0)
+        (output W.taken out.old out.new) result) (output W.taken out.old out.new) result }
     ensures mark { W.failed out.new ≡ mark_after (W.failed out.old) result }
 {
-    let Some(exchange) = plan.exchange_named(exchange) else {
-        return Err(JobFault::NoSuchExchange);
-    };
-    let Some(code) = plan.code_named(code) else {
-        return Err(JobFault::NoSuchCode);
-    };
-    let Some(down) = groups_in(alloc, &plan, down)? else {
-        return Err(JobFault::NoSuchGroup);
-    };
+    let (exchange, code, down) = asked_of(alloc, &plan, exchange, code, down)?;
     trace_down(alloc, plan, &down, code, exchange, out)
 }
 
@@ -116,7 +109,7 @@ fn trace_group<A: Allocator, W: Sink>(
     ensures mark { W.failed out.new ≡ mark_after (W.failed out.old) result }
 {
     let Some(group) = plan.group_named(group) else {
-        return Err(JobFault::NoSuchGroup);
+        return Err(JobFault::NoSuchGroup(0));
     };
     write_group(plan, group, out)?;
     Ok(())

@@ -126,9 +126,9 @@ impl<W: Write + Drop, A: Allocator> Output<W, A> {
         }
     }
 
-    /// A source over one of the inputs, before each of whose reads the output goes out. An output that fails
-    /// then is a failure of the source too: the program reports it as the output's. Without a
-    /// reader the source has no bytes.
+    /// A source over one of the inputs, before each of whose reads the output goes out. An output
+    /// that fails then is a failure of the source too: the program reports it as the output's.
+    /// Without a reader the source has no bytes.
     pub(crate) fn source<R: Read + Drop>(
         &self,
         alloc: A,

@@ -29,11 +29,11 @@ pub struct Ends<'a, F, I: Drop, O: Drop, E: Drop> {
 /// Does what the words after the program's name ask for, and answers the exit status: 0, or 1 after
 /// a No (of `codes`: where codes are ambiguous; of `grade` and `survive`: where there is no grade
 /// too; of `lint`: after warnings), 2 for a refused text (of `lint`: after faults), 3 for a failed
-/// read or write (of help too), 4 when memory runs out, 64 for refused words, and for a code to
-/// draw, or an exchange or a code to trace, that the plan does not have. Without words it reads a
-/// plan and then a script, and on a terminal it says so first. A fault is one line on standard
-/// error, and refused words are reported by what the library of command lines says. The words are
-/// read with `alloc`, and what they ask for is done with `memory`.
+/// read or write (of help too), 4 when memory runs out, 64 for refused words, for an exchange, a
+/// code, a group or a stage that is not there, and where a file must not be made. Without words it
+/// reads a plan and then a script, and on a terminal it says so first. A fault is one line on
+/// standard error, and refused words are reported by what the library of command lines says. The
+/// words are read with `alloc`, and what they ask for is done with `memory`.
 pub fn run_words<
     A: Allocator + Copy,
     F: Folder,

@@ -93,26 +93,44 @@ fn has_plain_faults(command: &Command) -> bool {
     )
 }
 
-/// Writes the line of a job's fault, with the word of an exchange or a code that is not in the plan.
+/// Writes the line of a job's fault, with the word that was asked for where the plan does not have
+/// it.
 fn write_job_fault<W: Sink>(
     fault: &JobFault,
     command: &Command,
     sink: &mut W,
 ) -> Result<(), WriteFault> {
     match (fault, command) {
-        (JobFault::NoSuchExchange, Command::Trace { exchange, .. }) => {
-            write_word(b"telexplan: no such exchange in the plan: ", exchange, sink)
-        }
-        (JobFault::NoSuchCode, Command::Trace { code, .. }) => {
-            write_word(b"telexplan: no such code in the plan: ", code, sink)
-        }
+        (
+            JobFault::NoSuchExchange,
+            Command::Trace { exchange, .. } | Command::Fill { exchange, .. },
+        ) => write_word(b"telexplan: no such exchange in the plan: ", exchange, sink),
         (
             JobFault::NoSuchCode,
-            Command::Draw {
+            Command::Trace { code, .. }
+            | Command::Fill { code, .. }
+            | Command::Draw {
                 routes: Some((code, _)),
                 ..
             },
         ) => write_word(b"telexplan: no such code in the plan: ", code, sink),
+        (
+            JobFault::NoSuchGroup(place),
+            Command::Trace {
+                down: Some(names),
+                ..
+            }
+            | Command::Fill {
+                down: Some(names),
+                ..
+            },
+        ) => {
+            let name = names.split(',').nth(*place).unwrap_or(names);
+            write_word(b"telexplan: no such group in the plan: ", name, sink)
+        }
+        (JobFault::NoSuchGroup(_), Command::TraceGroup { group, .. }) => {
+            write_word(b"telexplan: no such group in the plan: ", group, sink)
+        }
         _ => write_fault(fault, sink),
     }
 }
@@ -131,13 +149,12 @@ fn write_failure<A: Allocator, W: Sink>(
     error: &io::Error,
     sink: &mut W,
 ) -> Result<(), WriteFault> {
-    let name = if name == STANDARD_INPUT {
-        "standard input"
-    } else {
-        name
-    };
     write_parts(&[b"telexplan: ", fault, b": "], sink)?;
-    write_escaped(name.as_bytes(), sink)?;
+    if name == STANDARD_INPUT {
+        write_bytes(b"standard input", sink)?;
+    } else {
+        write_escaped(name.as_bytes(), sink)?;
+    }
     if let Ok(said) = format!(in alloc; "{error}") {
         let (said, _number) = said
             .as_str()

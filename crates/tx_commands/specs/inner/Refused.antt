@@ -1,8 +1,8 @@
 -- Why the words of a command that was found are refused.
 use Rattle.std.specs.Prelude.{◌≡◌, ℕ, true, false, not, ◌&&◌, ◌||◌, List, Option, Some, option_map, codes, IsSomeAnd}
-use Rattle.clap.specs.Words.{Row, first_of}
+use Rattle.clap.specs.Words.{Row}
 use Rattle.tx_explain.specs.Entries.{is_known}
-use Rattle.tx_commands.specs.Commands.{IsFoundIn, is_set}
+use Rattle.tx_commands.specs.Commands.{IsFoundIn, is_set, line_of}
 use Rattle.tx_commands.specs.Files.{reads_input_twice, overwrites}
 use Rattle.tx_commands.specs.Faults.{has, IsRunInPart}
 use Rattle.tx_commands.specs.declared.command.Command.{Command}
@@ -45,10 +45,10 @@ pub record IsTraceInPart (name : List ℕ) (found : List Row) : Type 0 where
       (has found (codes "group") && not (has found (codes "exchange")
       || (has found (codes "code") || has found (codes "down")))) ≡ false
 
--- `explain` has a word that asks for no entry of the table
+-- `explain` has words that ask for no entry of the table
 pub record IsNoCode (name : List ℕ) (found : List Row) : Type 0 where
   pub explain : name ≡ codes "explain"
-  pub unknown : option_map is_known (first_of (codes "code") found) ≡ Some false
+  pub unknown : option_map is_known (line_of found (codes "word")) ≡ Some false
 
 -- two files of the command clash in this way, or memory ran out for the name of one
 abbrev pub IsClash : Command → Misuse → Type 0

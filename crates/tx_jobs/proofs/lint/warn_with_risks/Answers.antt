@@ -27,8 +27,11 @@ returns-in_err-lint-clause-answers g c = inl (record {
   risks = c.in_ok-risks.risks;
   fit = rw c.plan.ensures at c.in_ok-risks.ensures.fits;
   read = rw c.plan.ensures at c.in_ok-risks.ensures.answer;
-  goes_on = inr (exits_with c.from_residual-in_err-lint.result NoMemory
-      c.from_residual-in_err-lint.ensures.1, refl);
+  goes_on = inr (
+    exits_with c.from_residual-in_err-lint.result NoMemory
+        c.from_residual-in_err-lint.ensures.1,
+    refl,
+  );
 })
 
 pub returns-clause-answers : goal.returns-clause-answers
