@@ -1,7 +1,12 @@
 // The lines that call and are called, in order.
-ghost use Rattle.std.specs.Prelude.{◌≡◌, ◌≤◌, option_map, true};
-ghost use Rattle.tx_fill.specs.CallLines.{line_in, size_of};
+ghost use Rattle.std.specs.Prelude.{◌≡◌, ◌+◌, ◌<◌, ◌≤◌, ◌^◌, ◌++◌, length, slice_get, IfSome};
+ghost use Rattle.std.specs.Str.Parse.{digits_value};
+ghost use Rattle.arrayvec.specs.ArrayVec.{array_vec_len};
+ghost use Rattle.tx_plan.specs.Lines.{full_number};
+ghost use Rattle.tx_fill.specs.CallLines.{figures, size_of, line_in, is_meant, lines_in, lines_of, line_pairs};
 
+use arrayvec::ArrayVec;
+use itoa::Buffer;
 use std::alloc::Allocator;
 use tx_plan::{CodeId, ExchangeId, Line, LineRange, National, Plan};
 use tx_text::Figures;
@@ -17,7 +22,9 @@ pub(crate) enum Whose {
 
 impl Whose {
     /// Whether those of a range are.
-    fn has<A: Allocator>(self, plan: &Plan<A>, range: &LineRange) -> bool {
+    fn has<A: Allocator>(self, plan: &Plan<A>, range: &LineRange) -> bool
+        ensures { result ≡ is_meant plan.now self range.now }
+    {
         match self {
             Whose::At(exchange) => plan.home(range.code) == exchange,
             Whose::Of(code) => range.code == code,
@@ -25,88 +32,129 @@ impl Whose {
     }
 }
 
-/// The lines that are left: from one of a range on.
-#[derive(Clone, Copy)]
-pub(crate) struct LinesLeft {
-    whose: Whose,
-    /// The index of the range.
-    range: usize,
-    /// How many lines of it were taken.
-    taken: u32,
+/// The line at an index that calls from the exchange, and the one of the code that it calls.
+pub(crate) fn pair_at<A: Allocator>(
+    plan: &Plan<A>,
+    exchange: ExchangeId,
+    code: CodeId,
+    index: u64,
+) -> Option<(Line, Line)>
+    ensures pair { result ≡ slice_get (line_pairs plan.now exchange code) index }
+    ensures few { IfSome result (λ _. index < 2 ^ 63) }
+{
+    let line = line_at(plan, Whose::At(exchange), index)?;
+    let called = line_at(plan, Whose::Of(code), index)?;
+    Some((line, called))
 }
 
-impl LinesLeft {
-    /// All of them.
-    pub fn all(whose: Whose) -> LinesLeft {
-        LinesLeft {
-            whose,
-            range: 0,
-            taken: 0,
-        }
-    }
-
-    /// Takes the next line, if one is left.
-    pub fn next<A: Allocator>(&mut self, plan: &Plan<A>) -> Option<Line> {
-        while self.range < plan.ranges() {
-            if let Some(range) = plan.range_at(self.range) {
-                if self.whose.has(plan, &range) && self.taken < size_of(&range) {
-                    let line = line_in(&range, self.taken);
-                    self.taken += 1;
-                    return line;
+/// The line at an index of those that are meant.
+fn line_at<A: Allocator>(plan: &Plan<A>, whose: Whose, index: u64) -> Option<Line>
+    ensures line { result ≡ slice_get (lines_of plan.now whose) index }
+    ensures few { IfSome result (λ _. index < 2 ^ 63) }
+{
+    let mut left = index;
+    for i in 0..plan.ranges() {
+        match plan.range_at(i) {
+            Some(range) => {
+                let count = count_in(plan, whose, &range);
+                if left < count {
+                    return Some(line_in(&range, left));
                 }
+                left -= count;
             }
-            self.range += 1;
-            self.taken = 0;
+            None => unreachable!(),
         }
-        None
+    }
+    None
+}
+
+/// How many lines a range has, if they are meant.
+fn count_in<A: Allocator>(plan: &Plan<A>, whose: Whose, range: &LineRange) -> u64
+    ensures count { result ≡ length (lines_in plan.now whose range.now) }
+    ensures few { result ≤ 10 ^ 9 }
+{
+    if whose.has(plan, range) {
+        size_of(range)
+    } else {
+        0
     }
 }
 
-/// The number that some figures spell.
-fn value_of(figures: &[u8]) -> u32 {
-    let mut value: u32 = 0;
-    for figure in figures {
-        value = value
-            .saturating_mul(10)
-            .saturating_add(u32::from(figure.saturating_sub(b'0')));
+/// How many lines a range has.
+fn size_of(range: &LineRange) -> u64
+    ensures size { result ≡ size_of range.now }
+    ensures few { result ≤ 10 ^ 9 }
+{
+    (value_of(&range.high) + 1).saturating_sub(value_of(&range.low))
+}
+
+/// The value of a national number.
+fn value_of(number: &National) -> u64
+    ensures value { result ≡ digits_value 10 number.now }
+    ensures small { result < 10 ^ length number.now }
+    ensures few { result < 10 ^ 9 }
+{
+    let text = number.bytes();
+    let mut value: u64 = 0;
+    for figure in text {
+        value = value * 10 + u64::from(*figure - b'0');
     }
     value
 }
 
-/// How many lines a range has.
-fn size_of(range: &LineRange) -> u32 {
-    let (low, high) = (value_of(range.low.bytes()), value_of(range.high.bytes()));
-    high.saturating_sub(low).saturating_add(1)
+/// The line at an index of a range.
+fn line_in(range: &LineRange, index: u64) -> Line
+    requires within { index < size_of range.now }
+    requires width { length range.now.low ≡ length range.now.high }
+    ensures { result ≡ line_in range.now index }
+{
+    let width = range.low.bytes().len();
+    Line {
+        code: range.code,
+        national: padded(value_of(&range.low) + index, width),
+    }
 }
 
-/// The line at an index of a range.
-fn line_in(range: &LineRange, index: u32) -> Option<Line> {
-    let width = range.low.bytes().len();
-    let mut value = value_of(range.low.bytes()).saturating_add(index);
-    let mut figures = [b'0'; 9];
-    for place in (0..width.min(9)).rev() {
-        figures[place] = b'0' + (value % 10) as u8;
-        value /= 10;
+/// A number in so many figures, with zeros before it.
+fn padded(number: u64, width: usize) -> National
+    requires some { 1 ≤ width }
+    requires few { width ≤ 9 }
+    requires fits { number < 10 ^ width }
+    ensures { result ≡ figures width number }
+{
+    let mut buffer = Buffer::new();
+    let digits = buffer.format(number).as_bytes();
+    let mut figures: ArrayVec<u8, 9> = ArrayVec::new();
+    put(&mut figures, &b"000000000"[..width - digits.len()]);
+    put(&mut figures, digits);
+    match National::read(&figures) {
+        Some(national) => national,
+        None => unreachable!(),
     }
-    let national = National::read(&figures[..width.min(9)])?;
-    Some(Line {
-        code: range.code,
-        national,
-    })
 }
 
 /// What is keyed for a line: its code and its national number.
-pub(crate) fn keyed_for<A: Allocator>(plan: &Plan<A>, line: &Line) -> Option<Figures> {
-    let code = plan.code_figures(line.code);
-    let national = line.national.bytes();
-    let mut keyed = [b'0'; 12];
-    let length = code.len().saturating_add(national.len()).min(12);
-    for place in 0..length {
-        keyed[place] = if place < code.len() {
-            code[place]
-        } else {
-            national[place - code.len()]
-        };
+pub(crate) fn full_number<A: Allocator>(plan: &Plan<A>, line: &Line) -> Figures
+    ensures { result ≡ full_number plan.now line.now }
+{
+    plan.rules();
+    let mut keyed: ArrayVec<u8, 12> = ArrayVec::new();
+    put(&mut keyed, plan.code_figures(line.code));
+    put(&mut keyed, line.national.bytes());
+    match Figures::read(&keyed) {
+        Some(figures) => figures,
+        None => unreachable!(),
     }
-    Figures::read(&keyed[..length])
+}
+
+/// Appends bytes to a text that has room for them.
+fn put<const N: usize>(text: &mut ArrayVec<u8, N>, bytes: &[u8])
+    requires { array_vec_len text.old + length bytes.now ≤ N }
+    ensures text { text.new.items ≡ text.old.items ++ bytes.now }
+    ensures width { array_vec_len text.new ≡ array_vec_len text.old + length bytes.now }
+{
+    match text.try_extend_from_slice(bytes) {
+        Ok(()) => {}
+        Err(_) => unreachable!(),
+    }
 }

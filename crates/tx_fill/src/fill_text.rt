@@ -1,13 +1,12 @@
 // The writer of what calls came to that were set up one after another.
-ghost use Rattle.std.specs.Prelude.{length};
-ghost use Rattle.std.specs.List.{flat_map, range_with_len};
+ghost use Rattle.std.specs.List.{flat_map};
 ghost use Rattle.tx_text.specs.Wrote.{Wrote};
 ghost use Rattle.tx_fill.specs.FillText.{head_line, calls_line, next_line, full_line, fill_text};
 
 use crate::filling::Fill;
 use itoa::Buffer;
 use std::alloc::Allocator;
-use tx_machine::{Cause, Service};
+use tx_machine::Cause;
 use tx_plan::{CodeId, ExchangeId, GroupId, Plan};
 use tx_text::{Sink, WriteFault, write_parts};
 use tx_tickets::cause_word;
@@ -30,7 +29,7 @@ pub fn write_fill<A: Allocator, W: Sink>(
     write_down(plan, down, sink)?;
     write_calls(found.calls, sink)?;
     write_next(plan, found.next, sink)?;
-    write_all_full(plan, &found.taken, sink)
+    write_all_full(plan, &found.full, sink)
 }
 
 fn write_head<A: Allocator, W: Sink>(
@@ -59,48 +58,28 @@ fn write_calls<W: Sink>(calls: u64, sink: &mut W) -> Result<(), WriteFault>
 /// Writes how the next call was answered, and where; or that no line was left for it.
 fn write_next<A: Allocator, W: Sink>(
     plan: &Plan<A>,
-    next: Option<(Service, ExchangeId)>,
+    next: Option<(Cause, ExchangeId)>,
     sink: &mut W,
 ) -> Result<(), WriteFault>
     ensures { Wrote W.taken W.failed sink.old sink.new (next_line plan.now next) result }
 {
-    let Some((service, exchange)) = next else {
+    let Some((cause, exchange)) = next else {
         return write_parts(&[b"NO LINE\n"], sink);
     };
-    let word = cause_word(Cause::Service(service));
     let name = plan.exchange_name(exchange);
-    write_parts(&[b"ANSWERED ", word, b" AT ", name, b"\n"], sink)
+    write_parts(&[b"ANSWERED ", cause_word(cause), b" AT ", name, b"\n"], sink)
 }
 
 fn write_all_full<A: Allocator, W: Sink>(
     plan: &Plan<A>,
-    taken: &[u64],
+    full: &[GroupId],
     sink: &mut W,
 ) -> Result<(), WriteFault>
     ensures { Wrote W.taken W.failed sink.old sink.new
-        (flat_map (full_line plan.now taken.now) (range_with_len 0 (length plan.now.groups)))
-        result }
+        (flat_map (full_line plan.now) full.now) result }
 {
-    for index in 0..plan.groups() {
-        write_full(plan, taken, GroupId::of(index), sink)?;
+    for i in 0..full.len() {
+        write_parts(&[b"FULL ", plan.group_name(full[i]), b"\n"], sink)?;
     }
     Ok(())
-}
-
-/// Writes a group of which all circuits are taken.
-fn write_full<A: Allocator, W: Sink>(
-    plan: &Plan<A>,
-    taken: &[u64],
-    group: GroupId,
-    sink: &mut W,
-) -> Result<(), WriteFault>
-    ensures { Wrote W.taken W.failed sink.old sink.new
-        (full_line plan.now taken.now group) result }
-{
-    match taken.get(group.index()) {
-        Some(count) if *count == u64::from(plan.group_count(group)) => {
-            write_parts(&[b"FULL ", plan.group_name(group), b"\n"], sink)
-        }
-        _ => Ok(()),
-    }
 }

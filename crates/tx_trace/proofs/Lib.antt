@@ -9,4 +9,5 @@ pub mod FreeCircuits
 pub mod OnlyCall
 pub mod Texts
 pub mod Left
+pub mod Blocked
 pub mod GroupLines

@@ -1,12 +1,14 @@
 // The writer of the lists that have a group.
-ghost use Rattle.std.specs.Prelude.{[], length, slice_get};
+ghost use Rattle.std.specs.Prelude.{◌≡◌, ◌==◌, ◌&&◌, [], length, slice_get};
 ghost use Rattle.std.specs.List.{flat_map, range_with_len};
 ghost use Rattle.std.specs.Option.{option_map_or};
 ghost use Rattle.tx_text.specs.Wrote.{Wrote};
+ghost use Rattle.tx_plan.specs.Routes.{route_list};
+ghost use Rattle.tx_trace.specs.Ways.{is_in};
 ghost use Rattle.tx_trace.specs.GroupText.{route_with, group_text};
 
 use std::alloc::Allocator;
-use tx_plan::{ExchangeId, GroupId, Plan};
+use tx_plan::{CodeId, ExchangeId, GroupId, Plan};
 use tx_plantext::write_route;
 use tx_text::{Sink, WriteFault, write_parts};
 
@@ -69,8 +71,21 @@ fn write_route_with<A: Allocator, W: Sink>(
     let Some((at, code)) = plan.route_at(index) else {
         return Ok(());
     };
-    if at == exchange && plan.list(at, code).contains(&group) {
+    if is_meant(plan, group, exchange, at, code) {
         return write_route(plan, at, code, sink);
     }
     Ok(())
+}
+
+/// Whether the route of an exchange for a code is of the one that is meant, and has the group.
+fn is_meant<A: Allocator>(
+    plan: &Plan<A>,
+    group: GroupId,
+    exchange: ExchangeId,
+    at: ExchangeId,
+    code: CodeId,
+) -> bool
+    ensures { result ≡ ((at == exchange) && is_in group (route_list plan.now at code)) }
+{
+    at == exchange && plan.list(at, code).contains(&group)
 }

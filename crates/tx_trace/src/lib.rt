@@ -14,7 +14,9 @@ mod trace_text;
 mod tracing;
 
 pub use group_text::write_group;
-pub use law::{heights_are_ranks, met_are_reached, only_call_goes_first_way};
+pub use law::{
+    blocked_replies_as_left, heights_are_ranks, met_are_reached, only_call_goes_first_way,
+};
 pub use left::plan_left;
 pub use trace_text::{write_down, write_trace};
 pub use tracing::{Trace, trace_calls};

@@ -1,5 +1,4 @@
-use Rattle.std.proofs.Common.{◌++◌, length}
-use Rattle.std.specs.List.{flat_map, range_with_len}
+use Rattle.std.specs.List.{flat_map}
 use Rattle.tx_text.proofs.Wrote.{wrote_then, wrote_first}
 use Rattle.tx_trace.specs.TraceText.{down_line}
 use Rattle.tx_fill.specs.FillText.{head_line, calls_line, next_line, full_line}
@@ -39,8 +38,7 @@ returns-in_err-write_next g c =
 pub returns : goal.returns
 returns g c =
     let p = c.args.plan.now in
-    let full = flat_map (full_line p c.args.found.now.taken.items)
-    (range_with_len 0 (length p.groups)) in
+    let full = flat_map (full_line p) c.args.found.now.full.items in
     wrote_then _ _ _ _ _ _ (head_line p c.args.code c.args.exchange) _ _ c.in_ok-write_head.ensures
     (wrote_then _ _ _ _ _ _ (down_line p c.args.down.now) _ _ c.in_ok-write_down.ensures
     (wrote_then _ _ _ _ _ _ (calls_line c.args.found.now.calls) _ _ c.in_ok-write_calls.ensures

@@ -15,7 +15,7 @@ loop-i-preserved g c =
     let before = c.loop-i.invariant.so_far in
     let few = c.loop-i.invariant.few in
     let k = one.cuts.ok.0 in
-    record { so_far = ?; few = ? }
+    record { so_far = omega arith; few = omega arith }
 
 pub returns : goal.returns
 returns g c =
