@@ -83,48 +83,53 @@ module _ (p q : Plan) (k : Line × Line) (s t : State) (r : Reply) (figures : Li
   call_refused stays = sym stays ∙ sym after_is
 
 -- ONE CALL AFTER ANOTHER
+none_dropped : (xs : List (Line × Line)) (j : ℕ) → slice_get xs j ≡ None → drop j xs ≡ []
+none_dropped [] j h = drop-nil j
+none_dropped (x ∷ xs) zero h = absurd (let bad : ⊥ = cc in bad)
+none_dropped (x ∷ xs) (suc j) h = none_dropped xs j h
+
+-- nothing is taken where no ticket is
+none_taken : (s : State) → s.tickets ≡ [] → ticket_taken s ≡ s
+none_taken s none = ap (λ (l : List Ended). record s { tickets = l }) (ap (drop 1) none ∙ sym none)
+
 module _ (p : Plan) (pairs : List (Line × Line)) (i : ℕ) where
   left_at : (k : Line × Line) → slice_get pairs i ≡ Some k → drop i pairs ≡ k ∷ drop (i + 1) pairs
   left_at k at =
       drop_more pairs i k (slice_get_within pairs i k at)
       ∙ ap (λ x. x ∷ drop (i + 1) pairs) (get_or_from_slice_get pairs i k k at)
 
-  module _ (k : Line × Line) (at : slice_get pairs i ≡ Some k) (s t : State) (called_is : t ≡ called p k s) where
-    abbrev by_tickets : State → State
-    by_tickets u = if length u.tickets == 0 then filled p (drop (i + 1) pairs) u else u
+  module _ (k : Line × Line) (at : slice_get pairs i ≡ Some k) (s t z : State)
+      (so_far : filled p (drop i pairs) s ≡ z) (called_is : t ≡ called p k s) where
+    abbrev by_tickets : List Ended → State
+    by_tickets l = if length l == 0 then filled p (drop (i + 1) pairs) t else t
 
-    next_is : filled p (drop i pairs) s ≡ by_tickets t
+    next_is : z ≡ by_tickets t.tickets
     unfolding filled
-    next_is = ap (λ l. filled p l s) (left_at k at) ∙ ap by_tickets (sym called_is)
+    next_is =
+        sym so_far ∙ ap (λ l. filled p l s) (left_at k at)
+        ∙ ap (λ (u : State). if length u.tickets == 0 then filled p (drop (i + 1) pairs) u else u)
+        (sym called_is)
 
-    -- it has ended
-    pub filled_ended : (x : Ended) → slice_get t.tickets 0 ≡ Some x → filled p (drop i pairs) s ≡ t
-    filled_ended x some =
-        next_is
-        ∙ ap (λ (l : List Ended). if length l == 0 then filled p (drop (i + 1) pairs) t else t)
-        (first_of t.tickets x some)
+    -- the call has ended
+    pub has_ended : (x : Ended) → slice_get t.tickets 0 ≡ Some x → t ≡ z
+    has_ended x some = sym (next_is ∙ ap by_tickets (first_of t.tickets x some))
 
     -- it stands
-    pub filled_on : slice_get t.tickets 0 ≡ None
-        → filled p (drop i pairs) s ≡ filled p (drop (i + 1) pairs) t
-    filled_on none =
-        next_is
-        ∙ ap (λ (l : List Ended). if length l == 0 then filled p (drop (i + 1) pairs) t else t)
-        (none_in t.tickets none)
+    pub stands : (u : State) → u ≡ ticket_taken t → slice_get t.tickets 0 ≡ None
+        → (u.tickets ≡ []) × (filled p (drop (i + 1) pairs) u ≡ z)
+    stands u taken none =
+        let fresh = none_in t.tickets none in
+        let same : u ≡ t = taken ∙ none_taken t fresh in (
+          ap (λ (w : State). w.tickets) same ∙ fresh,
+          ap (filled p (drop (i + 1) pairs)) same ∙ sym (next_is ∙ ap by_tickets fresh),
+        )
 
--- no pair is left
-pub filled_all : (p : Plan) (pairs : List (Line × Line)) (i : ℕ) (s : State)
-    → slice_get pairs i ≡ None → filled p (drop i pairs) s ≡ s
-unfolding filled
-filled_all p pairs i s none = ap (λ l. filled p l s) (none_left pairs i none)
-  where
-    none_left : (xs : List (Line × Line)) (j : ℕ) → slice_get xs j ≡ None → drop j xs ≡ []
-    none_left [] j h = drop-nil j
-    none_left (x ∷ xs) zero h = absurd (let bad : ⊥ = cc in bad)
-    none_left (x ∷ xs) (suc j) h = none_left xs j h
-
--- no ticket is taken
-pub none_taken : (s t : State) → t ≡ ticket_taken s → slice_get s.tickets 0 ≡ None → t ≡ s
-none_taken s t taken none =
-    taken ∙ ap (λ (l : List Ended). record s { tickets = drop 1 l }) (none_in s.tickets none)
-    ∙ ap (λ (l : List Ended). record s { tickets = l }) (sym (none_in s.tickets none))
+  -- no pair is left
+  pub all_called : (s z : State) → filled p (drop i pairs) s ≡ z → s.tickets ≡ []
+      → slice_get pairs i ≡ None → (None ≡ slice_get z.tickets 0) × (s ≡ ticket_taken z)
+  unfolding filled
+  all_called s z so_far fresh none =
+      let same : s ≡ z = ap (λ l. filled p l s) (sym (none_dropped pairs i none)) ∙ so_far in (
+        ap (λ l. slice_get l 0) (sym fresh) ∙ ap (λ (w : State). slice_get w.tickets 0) same,
+        sym (none_taken s fresh) ∙ ap ticket_taken same,
+      )

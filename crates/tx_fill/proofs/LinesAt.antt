@@ -1,24 +1,27 @@
 -- Lines by their indexes, and what is keyed for them.
-use Rattle.std.proofs.Common.{◌≡◌, ℕ, zero, suc, ◌+◌, ◌-◌, ◌^◌, ◌<◌, ◌≤◌, ◌&&◌, nat_le, Bool, true, false, List, [], ◌∷◌, ◌++◌, map, drop, length, Option, Some, None, refl, sym, ap, ◌∙◌, arith}
+use Rattle.std.proofs.Common.{◌≡◌, ℕ, zero, suc, ◌+◌, ◌-◌, ◌^◌, ◌<◌, ◌≤◌, ◌&&◌, nat_le, Bool, true, false, List, [], ◌∷◌, ◌++◌, map, take, drop, length, Option, Some, None, refl, sym, ap, ◌∙◌, arith, length-append}
 use Rattle.std.specs.Prelude.{slice_get, if◌then◌else◌, replicate, decimal}
 use Rattle.std.specs.List.{flat_map, range_with_len, list_all, zip}
 use Rattle.std.specs.Option.{option_map_or}
 use Rattle.std.specs.Str.Parse.{digits_value}
 use Rattle.std.proofs.Math.Seq.{drop-nil}
 use Rattle.std.proofs.lemmas.Bool.{and_parts, and_from, le-leb, leb-true}
-use Rattle.std.proofs.lemmas.List.{drop_more}
+use Rattle.std.proofs.Math.Nat.{pow-le-pow_right}
+use Rattle.std.proofs.lemmas.Fmt.{length-decimal-le}
+use Rattle.std.proofs.lemmas.List.{drop_more, take-replicate, length-replicate}
 use Rattle.std.proofs.lemmas.List.Folds.{list_all-append}
 use Rattle.std.proofs.lemmas.List.FromFn.{get_or-map-range_with_len, length-map-range_with_len}
 use Rattle.std.proofs.lemmas.Option.{cond_some, slice_get_within, get_or_from_slice_get, slice_get-get_or}
 use Rattle.tx_text.specs.Words.{is_figure, are_figures, is_numeral}
 use Rattle.tx_text.proofs.WrittenWords.{number_back}
 use Rattle.tx_plan.specs.Plan.{Plan, Code, figures_of}
+use Rattle.tx_plan.specs.Numbers.{is_national}
 use Rattle.tx_plan.specs.Rules.{IsPlan, IsCode}
 use Rattle.tx_plan.specs.declared.ids.Line.{Line}
 use Rattle.tx_plan.specs.declared.range.LineRange.{LineRange}
 use Rattle.tx_plan.proofs.ByIndex.{all_at}
 use Rattle.tx_fill.specs.declared.call_lines.Whose.{Whose}
-use Rattle.tx_fill.specs.CallLines.{size_of, line_in, is_meant, lines_in}
+use Rattle.tx_fill.specs.CallLines.{figures, size_of, line_in, is_meant, lines_in}
 
 -- TEXTS OF FIGURES
 pub figures_joined : (xs ys : List ℕ) → list_all is_figure xs ≡ true → list_all is_figure ys ≡ true
@@ -72,6 +75,39 @@ code_in p c ok = by (slice_get p.codes c) refl
     by (Some r) e =
         let f = figures_in 2 3 r.figures (all_at (IsCode p) p.codes c r ok.codes e).figures in
         (f.1, f.2)
+
+-- what is keyed for a line
+pub full_figures : (p : Plan) (c : ℕ) (number : List ℕ) → IsPlan p → is_national number ≡ true
+    → are_figures 1 12 (figures_of p c ++ number) ≡ true
+full_figures p c number ok national =
+    let front = code_in p c ok in
+    let back = figures_in 1 9 number national in
+    let few = front.0 in
+    let some = back.0 in
+    let short = back.1 in
+    let long = length-append (figures_of p c) number in
+    figures_from 1 12 (figures_of p c ++ number) (omega arith) (omega arith)
+    (figures_joined (figures_of p c) number front.1 back.2)
+
+-- a number, with zeros before it
+pub padded_is : (width n : ℕ) (digits text : List ℕ) → 1 ≤ width → width ≤ 9 → n < 10 ^ width
+    → digits ≡ decimal n → text ≡ take (width - length digits) (replicate 9 48) ++ digits
+    → (text ≡ figures width n) × (is_national text ≡ true)
+padded_is width n digits text some few fits is so =
+    let zeros = width - length (decimal n) in
+    let within : zeros ≤ 9 = omega arith in
+    let same : text ≡ figures width n =
+    so ∙ ap (λ l. take (width - length l) (replicate 9 48) ++ l) is
+    ∙ ap (λ l. l ++ decimal n) (take-replicate zeros 9 48 within) in
+    let least : 10 ^ width ≤ 10 ^ 9 = pow-le-pow_right (omega arith) few in
+    let small : n < 2 ^ 32 = omega arith in
+    let short = length-decimal-le width n some fits (omega arith) in
+    let long = length-append (replicate zeros 48) (decimal n) in
+    let count = length-replicate zeros 48 in (
+      same,
+      ap is_national same ∙ figures_from 1 9 (figures width n) (omega arith) (omega arith)
+      (padded_figures zeros n small),
+    )
 
 -- AN ENTRY OF TWO LISTS
 module _ {A : Type 0} where

@@ -1,10 +1,14 @@
 -- Events that are applied in turn, and groups that are full.
-use Rattle.std.proofs.Common.{◌≡◌, ℕ, ◌+◌, ◌<◌, Bool, true, false, cond, not, ◌&&◌, ◌||◌, List, [], ◌∷◌, ◌++◌, map, take, length, get_or, refl, sym, ap, ◌∙◌, arith, append-nil, Option, Some, None}
+use Rattle.std.proofs.Common.{◌≡◌, ℕ, ◌+◌, ◌<◌, Bool, true, false, cond, ◌==◌, ◌&&◌, ◌||◌, List, [], ◌∷◌, ◌++◌, map, take, length, get_or, refl, sym, ap, ◌∙◌, arith, append-nil, Option, Some, None}
 use Rattle.std.specs.Prelude.{filter}
 use Rattle.std.specs.List.{range_with_len}
+use Rattle.std.specs.Option.{option_map_or}
+use Rattle.std.proofs.lemmas.Bool.{eq-eqb}
 use Rattle.std.proofs.lemmas.List.{take_more, map-append, map-id}
 use Rattle.std.proofs.lemmas.List.FromFn.{filter_of_map_range_with_len_more}
-use Rattle.tx_plan.specs.Plan.{Plan}
+use Rattle.tx_plan.specs.Plan.{Plan, Group}
+use Rattle.tx_plan.specs.Circuits.{is_both, ends_of, may_seize, may_seize_row}
+use Rattle.tx_plan.proofs.ByIndex.{entry_at}
 use Rattle.tx_machine.specs.declared.event.Event.{Event}
 use Rattle.tx_machine.specs.declared.event.Event.TheVariants.{Block}
 use Rattle.tx_machine.specs.declared.refusal.Refusal.{Refusal}
@@ -61,11 +65,14 @@ module _ (p : Plan) (down : List ℕ) (x c : ℕ) (n : Net)
   pub filled_is : filled p (line_pairs p x c) b ≡ fill_state p down x c
   filled_is = ap (filled p (line_pairs p x c)) blocked_is
 
--- a group is neither failed nor blocked
-pub is_up : (failed blocked none : Bool)
-    → ((not failed && not blocked) && none) ≡ (not (failed || blocked) && none)
-is_up true blocked none = refl
-is_up false blocked none = refl
+-- the first end of a group may seize it
+pub first_end : (p : Plan) (g : ℕ) → g < length p.groups → may_seize p g (ends_of p g).0 ≡ true
+first_end p g low =
+    let r = entry_at p.groups g low in
+    let same = eq-eqb r.0.a r.0.a refl in
+    ap (λ (o : Option Group). option_map_or (λ k. may_seize_row k
+    (option_map_or (λ (k : Group). (k.a, k.b)) o (0, 0)).0) o false) r.1
+    ∙ ap (λ b. b || (is_both r.0.direction && (r.0.b == r.0.a))) same
 
 -- the groups before an index that pass a test, and one more
 module _ (t : ℕ → Bool) (i : ℕ) (old new : List ℕ)

@@ -1,5 +1,5 @@
 -- Calls that are set up one after another.
-use Rattle.std.specs.Prelude.{◌≡◌, ℕ, zero, suc, ◌+◌, ◌*◌, Bool, true, false, not, ◌&&◌, ◌==◌, if◌then◌else◌, List, [], ◌∷◌, length, map, filter, slice_get, is_some, Option, None, Some}
+use Rattle.std.specs.Prelude.{◌≡◌, ℕ, zero, suc, ◌+◌, ◌*◌, Bool, true, false, not, ◌&&◌, ◌==◌, if◌then◌else◌, List, [], ◌∷◌, length, map, filter, slice_get, is_none, Option, None, Some}
 use Rattle.std.specs.List.{range_with_len}
 use Rattle.std.specs.Option.{option_map}
 use Rattle.tx_plan.specs.Plan.{Plan}
@@ -77,7 +77,7 @@ end_of t = (t.cause, last_exchange t.start t.path)
 
 -- a group is full: it is not down, and its first end finds no circuit free
 abbrev pub is_full : Plan → State → (g : ℕ) → Bool
-is_full p s g = not (is_down s g) && not (is_some (first_free p s (ends_of p g).0 g))
+is_full p s g = not (is_down s g) && is_none (first_free p s (ends_of p g).0 g)
 
 -- What the calls came to: how many stand, how the next one ended and where, and which groups are
 -- full

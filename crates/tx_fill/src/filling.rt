@@ -3,6 +3,7 @@ ghost use Rattle.std.specs.Prelude.{◌≡◌, ◌<◌, length, map, filter, IfO
 ghost use Rattle.std.specs.List.{range_with_len};
 ghost use Rattle.std.specs.Option.{option_map};
 ghost use Rattle.tx_machine.specs.Call.{last_exchange};
+ghost use Rattle.tx_machine.specs.InUse.{is_down};
 ghost use Rattle.tx_machine.specs.State.{opening};
 ghost use Rattle.tx_machine.specs.Runs.{state_after};
 ghost use Rattle.tx_machine.specs.declared.event.Event.TheVariants.{Block};
@@ -145,7 +146,11 @@ fn is_full<A: Allocator + Copy>(plan: &Plan<A>, network: &Engine<'_, A>, group: 
     ensures { result ≡ is_full plan.now network.now.state group }
 {
     let (end, _) = plan.ends(group);
-    !network.is_failed(group)
-        && !network.is_blocked(group)
-        && network.first_free(group, end).is_none()
+    !is_down(network, group) && network.first_free(group, end).is_none()
+}
+
+fn is_down<A: Allocator + Copy>(network: &Engine<'_, A>, group: GroupId) -> bool
+    ensures { result ≡ is_down network.now.state group }
+{
+    network.is_failed(group) || network.is_blocked(group)
 }
