@@ -1,7 +1,7 @@
 // What the words of each command ask for.
 ghost use Rattle.std.specs.Prelude.{◌≡◌, ◌≤◌, ℕ, List, Some, IfOk, IfErr, codes, option_map, string_bytes};
 ghost use Rattle.clap.specs.Words.{first_of, found_of, rows_of};
-ghost use Rattle.tx_commands.specs.Commands.{IsInRange, Names, Gives, is_set, Asks};
+ghost use Rattle.tx_commands.specs.Commands.{IsInRange, Names, Gives, is_set, line_of, Asks};
 ghost use Rattle.tx_commands.specs.Faults.{has};
 ghost use Rattle.tx_commands.specs.inner.Refused.{IsRefused};
 
@@ -24,6 +24,17 @@ pub(crate) fn text(
 {
     match matches.get_str(id) {
         Some(word) => Ok(Some(String::from_str(alloc, word)?)),
+        None => Ok(None),
+    }
+}
+
+/// The words of an id, with a blank between two.
+fn line(alloc: Global, matches: &ArgMatches<'_>, id: &str) -> Result<Option<String>, AllocError>
+    ensures { IfOk result (λ line. line_of (rows_of (found_of matches.now)) id.now
+        ≡ option_map string_bytes line) }
+{
+    match matches.get_strs(id) {
+        Some(words) => Ok(Some(words.join(alloc, " ")?)),
         None => Ok(None),
     }
 }
@@ -351,10 +362,9 @@ pub(crate) fn explain_of(alloc: Global, matches: &ArgMatches<'_>) -> Result<Comm
     ensures refused { IfErr result
         (IsRefused (Some (codes "explain", rows_of (found_of matches.now)))) }
 {
-    let Some(words) = matches.get_strs("word") else {
+    let Some(line) = line(alloc, matches, "word")? else {
         return Ok(Command::Explain { line: None });
     };
-    let line = words.join(alloc, " ")?;
     if is_known(line.as_str()) {
         Ok(Command::Explain { line: Some(line) })
     } else {
