@@ -106,7 +106,7 @@ padded_is width n digits text some few fits is so =
     let count = length-replicate zeros 48 in (
       same,
       ap is_national same ∙ figures_from 1 9 (figures width n) (omega arith) (omega arith)
-      (padded_figures zeros n small),
+          (padded_figures zeros n small),
     )
 
 -- AN ENTRY OF TWO LISTS
@@ -172,8 +172,8 @@ module _ (p : Plan) (whose : Whose) where
             let within : k < size_of r = omega arith in (
               within,
               slice_get-get_or (map (line_in r) (range_with_len 0 (size_of r))) k (line_in r k) h
-              ∙ ap (λ l. Some l) (get_or-map-range_with_len (line_in r) 0 (size_of r) k k (line_in r k)
-              within (omega arith)),
+                  ∙ ap (λ l. Some l) (get_or-map-range_with_len (line_in r) 0 (size_of r) k k (line_in r k)
+                  within (omega arith)),
             )
         | false ↦ λ h. absurd (omega arith)
       ] low
