@@ -68,19 +68,19 @@ module _ (p : Plan) (n most i : ℕ) (s z : State) (so_far : carried p n (most -
 -- a call that was keyed, and one that was not
 module _ (p q : Plan) (k : Line × Line) (s t : State) (r : Reply) (figures : List ℕ)
     (plan : q ≡ p) (full : figures ≡ full_number p k.1) (keyed : step q s (Key k.0 figures) ≡ (r, t))
-    where
-  after_is : called p k s ≡ after_key p r t
-  after_is =
-      ap (λ (w : Reply × State). after_key p w.0 w.1)
-      (ap (λ l. step p s (Key k.0 l)) (sym full) ∙ at_plan p q s (Key k.0 figures) (r, t) plan keyed)
+  where
+    after_is : called p k s ≡ after_key p r t
+    after_is =
+        ap (λ (w : Reply × State). after_key p w.0 w.1)
+        (ap (λ l. step p s (Key k.0 l)) (sym full) ∙ at_plan p q s (Key k.0 figures) (r, t) plan keyed)
 
-  pub call_keyed : (u : State) (n : ℕ) → r ≡ Keyed n → u ≡ carried p n (most_circuits p) t
-      → u ≡ called p k s
-  call_keyed u n is carried_is =
-      carried_is ∙ ap (λ v. after_key p v t) (sym is) ∙ sym after_is
+    pub call_keyed : (u : State) (n : ℕ) → r ≡ Keyed n → u ≡ carried p n (most_circuits p) t
+        → u ≡ called p k s
+    call_keyed u n is carried_is =
+        carried_is ∙ ap (λ v. after_key p v t) (sym is) ∙ sym after_is
 
-  pub call_refused : after_key p r t ≡ t → t ≡ called p k s
-  call_refused stays = sym stays ∙ sym after_is
+    pub call_refused : after_key p r t ≡ t → t ≡ called p k s
+    call_refused stays = sym stays ∙ sym after_is
 
 -- ONE CALL AFTER ANOTHER
 none_dropped : (xs : List (Line × Line)) (j : ℕ) → slice_get xs j ≡ None → drop j xs ≡ []

@@ -3,11 +3,13 @@ use Rattle.std.proofs.Common.{◌≡◌, ℕ, zero, suc, ◌+◌, ◌-◌, ◌^�
 use Rattle.std.specs.Prelude.{slice_get, if◌then◌else◌, replicate, decimal}
 use Rattle.std.specs.List.{flat_map, range_with_len, list_all, zip}
 use Rattle.std.specs.Option.{option_map_or}
-use Rattle.std.specs.Str.Parse.{digits_value}
+use Rattle.std.specs.Str.Parse.{digits_value, AllDigits}
 use Rattle.std.proofs.Math.Seq.{drop-nil}
 use Rattle.std.proofs.lemmas.Bool.{and_parts, and_from, le-leb, leb-true}
 use Rattle.std.proofs.Math.Nat.{pow-le-pow_right}
 use Rattle.std.proofs.lemmas.Fmt.{length-decimal-le}
+use Rattle.std.proofs.lemmas.Int.Digits.{digits_value-lt}
+use Rattle.std.proofs.lemmas.Str.{digit_value_digit}
 use Rattle.std.proofs.lemmas.List.{drop_more, take-replicate, length-replicate}
 use Rattle.std.proofs.lemmas.List.Folds.{list_all-append}
 use Rattle.std.proofs.lemmas.List.FromFn.{get_or-map-range_with_len, length-map-range_with_len}
@@ -44,6 +46,22 @@ figures_in least most text h =
     (list_all is_figure text) h in
     let q = and_parts (nat_le least (length text)) (nat_le (length text) most) r.0 in
     (leb-true least (length text) q.0, leb-true (length text) most q.1, r.1)
+
+-- their value
+all_digits : (text : List ℕ) → list_all is_figure text ≡ true → AllDigits 10 text
+all_digits [] h = tt
+all_digits (b ∷ text) h =
+    let r = and_parts (is_figure b) (list_all is_figure text) h in
+    let q = and_parts (nat_le 48 b) (nat_le b 57) r.0 in
+    let high = leb-true b 57 q.1 in
+    let d = digit_value_digit b (leb-true 48 b q.0, high) in
+    (omega arith, all_digits text r.1)
+
+pub value_small : (text : List ℕ) → is_national text ≡ true
+    → (digits_value 10 text < 10 ^ length text) × (10 ^ length text ≤ 10 ^ 9)
+value_small text h =
+    let f = figures_in 1 9 text h in
+    (digits_value-lt 10 text (all_digits text f.2), pow-le-pow_right (omega arith) f.1)
 
 -- those of a number
 decimal_figures : (n : ℕ) → n < 2 ^ 32 → list_all is_figure (decimal n) ≡ true
@@ -106,7 +124,7 @@ padded_is width n digits text some few fits is so =
     let count = length-replicate zeros 48 in (
       same,
       ap is_national same ∙ figures_from 1 9 (figures width n) (omega arith) (omega arith)
-      (padded_figures zeros n small),
+          (padded_figures zeros n small),
     )
 
 -- AN ENTRY OF TWO LISTS
@@ -172,8 +190,8 @@ module _ (p : Plan) (whose : Whose) where
             let within : k < size_of r = omega arith in (
               within,
               slice_get-get_or (map (line_in r) (range_with_len 0 (size_of r))) k (line_in r k) h
-              ∙ ap (λ l. Some l) (get_or-map-range_with_len (line_in r) 0 (size_of r) k k (line_in r k)
-              within (omega arith)),
+                  ∙ ap (λ l. Some l) (get_or-map-range_with_len (line_in r) 0 (size_of r) k k (line_in r k)
+                  within (omega arith)),
             )
         | false ↦ λ h. absurd (omega arith)
       ] low

@@ -91,7 +91,6 @@ fn size_of(range: &LineRange) -> u64
 /// The value of a national number.
 fn value_of(number: &National) -> u64
     ensures value { result ≡ digits_value 10 number.now }
-    ensures small { result < 10 ^ length number.now }
     ensures few { result < 10 ^ 9 }
 {
     let text = number.bytes();
@@ -104,8 +103,7 @@ fn value_of(number: &National) -> u64
 
 /// The line at an index of a range.
 fn line_in(range: &LineRange, index: u64) -> Line
-    requires within { index < size_of range.now }
-    requires width { length range.now.low ≡ length range.now.high }
+    requires { digits_value 10 range.now.low + index < 10 ^ length range.now.low }
     ensures { result ≡ line_in range.now index }
 {
     let width = range.low.bytes().len();

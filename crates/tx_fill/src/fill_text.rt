@@ -67,7 +67,10 @@ fn write_next<A: Allocator, W: Sink>(
         return write_parts(&[b"NO LINE\n"], sink);
     };
     let name = plan.exchange_name(exchange);
-    write_parts(&[b"ANSWERED ", cause_word(cause), b" AT ", name, b"\n"], sink)
+    write_parts(
+        &[b"ANSWERED ", cause_word(cause), b" AT ", name, b"\n"],
+        sink,
+    )
 }
 
 fn write_all_full<A: Allocator, W: Sink>(

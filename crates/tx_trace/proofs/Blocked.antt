@@ -259,7 +259,7 @@ module _ (p : Plan) (ok : IsPlan p) (down : List ℕ) where
         let a = unless_left (refusal p s e) (accepted q (unblocked s) e) (accepted p s e)
         (accepted_left e h) in (
           ap (λ o. unless_refused o (unblocked s) (counted (accepted q (unblocked s) e)))
-          (refusal_left e h) ∙ a.0,
+              (refusal_left e h) ∙ a.0,
           a.1,
         )
 

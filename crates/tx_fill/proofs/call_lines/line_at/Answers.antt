@@ -1,8 +1,9 @@
-use Rattle.std.proofs.Common.{◌+◌, ◌-◌, ap, sym, ◌∙◌, Some, arith}
+use Rattle.std.proofs.Common.{ℕ, ◌+◌, ◌-◌, ◌<◌, ◌^◌, ap, subst, sym, ◌∙◌, Some, arith}
 use Rattle.std.specs.Prelude.{slice_get}
+use Rattle.std.specs.Str.Parse.{digits_value}
 use Rattle.tx_plan.specs.Rules.{IsRange}
 use Rattle.tx_plan.proofs.ByIndex.{entry_at, all_at}
-use Rattle.tx_fill.proofs.LinesAt.{lines_from, in_range, line_here, line_later, no_line}
+use Rattle.tx_fill.proofs.LinesAt.{lines_from, value_small, in_range, line_here, line_later, no_line}
 use Rattle.tx_fill.proofs.call_lines.line_at.Goals as goal
 
 pub unreachable-requires : goal.unreachable-requires
@@ -16,13 +17,14 @@ unreachable-requires g c =
 pub line_in-requires : goal.line_in-requires
 line_in-requires g c =
     let p = c.args.plan.now in
+    let r = c.in-Some.range in
     let low = c.if-left-ltcount.true in
     let n = c.count_in-count.ensures.count in
-    record {
-      within = (in_range p c.args.whose c.in-Some.range c.loop-i.left (omega arith)).0;
-      width = (all_at (IsRange p) p.ranges c.loop-i.i c.in-Some.range
-          c.ranges-i-end.ensures.rules.ranges (sym c.in-Some.ensures)).width;
-    }
+    let rules = all_at (IsRange p) p.ranges c.loop-i.i r c.ranges-i-end.ensures.rules.ranges
+    (sym c.in-Some.ensures) in
+    let within = (in_range p c.args.whose r c.loop-i.left (omega arith)).0 in
+    let high = (value_small r.high rules.high).0 in
+    subst (λ (n : ℕ). digits_value 10 r.low + c.loop-i.left < 10 ^ n) (sym rules.width) (omega arith)
 
 pub returns-then-left-ltcount-clause-line : goal.returns-then-left-ltcount-clause-line
 returns-then-left-ltcount-clause-line g c =

@@ -33,7 +33,7 @@ pub returns-in_err-write_blocks : goal.returns-in_err-write_blocks
 returns-in_err-write_blocks g c =
     let outcomes = c.args.outcomes.now in
     let totals = flat_map (total_text c.args.plan.now c.args.risks.now) outcomes in
-    let blocks = if c.args.totals_only then []
+    let blocks : List ℕ = if c.args.totals_only then []
     else flat_map (block_text c.args.plan.now c.args.risks.now) outcomes in
     wrote_then _ _ _ _ _ _ (head_line (length outcomes)) _ _
     (rw c.len.ensures at c.in_ok-write_head.ensures)
@@ -47,7 +47,7 @@ pub returns : goal.returns
 returns g c =
     let outcomes = c.args.outcomes.now in
     let totals = flat_map (total_text c.args.plan.now c.args.risks.now) outcomes in
-    let blocks = if c.args.totals_only then []
+    let blocks : List ℕ = if c.args.totals_only then []
     else flat_map (block_text c.args.plan.now c.args.risks.now) outcomes in
     wrote_then _ _ _ _ _ _ (head_line (length outcomes)) _ _
     (rw c.len.ensures at c.in_ok-write_head.ensures)
