@@ -1,7 +1,7 @@
 use Rattle.std.proofs.Common.{◌∙◌, ◌+◌, ◌*◌, ap, refl, sym}
 use Rattle.std.proofs.lemmas.Result.{IfOk-weaker}
 use Rattle.tx_fill.specs.Fills.{carried}
-use Rattle.tx_fill.proofs.Carried.{call_keyed, call_refused}
+use Rattle.tx_fill.proofs.Carried.{call_keyed, call_refused, not_keyed}
 use Rattle.tx_fill.proofs.carrying.call.Goals as goal
 
 pub returns-in-Keyed-clause-plan : goal.returns-in-Keyed-clause-plan
@@ -26,4 +26,5 @@ returns-in_default-clause-state g c =
     let a = c.in_ok-apply.ensures in
     call_refused c.args.plan.now c.args.network.now.plan (c.args.line, c.args.other.now)
     c.args.network.now.state c.apply.new.self.state _ c.full_number-keyed.result c.requires
-    c.full_number-keyed.ensures a.step ?
+    c.full_number-keyed.ensures a.step
+    (not_keyed c.args.plan.now c.apply.new.self.state _ c.in_default.not-Keyed)
