@@ -8,6 +8,7 @@ use crate::mixture::{ChangeEvidence, Mixture};
 use std::alloc::{Allocator, Global};
 use tx_audit::Checked;
 use tx_check::Verdict;
+use tx_fill::Fill;
 use tx_mend::Mending;
 use tx_order::Staged;
 use tx_plan::CodeId;
@@ -43,6 +44,8 @@ pub enum Done<A: Allocator = Global> {
     Graded(Grade<A>),
     /// The outages of a plan were tried.
     Survived(Survival<A>),
+    /// Calls were set up one after another.
+    Filled(Fill<A>),
     /// A trace, a picture or an explanation was written.
     Written,
 }
@@ -58,6 +61,7 @@ impl<A: Allocator> Done<A> {
     {
         match self {
             Done::Ran(_)
+            | Done::Filled(_)
             | Done::Written
             | Done::Checked(Checked::Ran(_))
             | Done::Verified(Verdict::Yes)
@@ -76,7 +80,9 @@ impl<A: Allocator> Done<A> {
             | Done::Survived(Survival::Ungraded(_)) => 1,
             Done::Told(strict, summary) => u8::from(*strict && summary.refused != 0),
             Done::Graded(grade) => u8::from(grade.plan.is_none()),
-            Done::Survived(Survival::Tried(cuts)) => u8::from(!cuts.is_empty()),
+            Done::Survived(Survival::Tried(outcomes)) => {
+                u8::from(outcomes.iter().any(|outcome| !outcome.cuts.is_empty()))
+            }
             Done::Linted(status) => *status,
         }
     }
@@ -124,6 +130,7 @@ impl<A: Allocator> Done<A> {
             | Done::Mended(Mending::NoRouting(_, _, _))
             | Done::Graded(_)
             | Done::Survived(_)
+            | Done::Filled(_)
             | Done::Written => [None, None, None],
         }
     }

@@ -4,8 +4,8 @@ use Rattle.tx_commands.specs.Commands.{IsFoundIn}
 use Rattle.tx_commands.proofs.Found.{refused_for_clash}
 use Rattle.tx_commands.proofs.reading.found_command.Goals as goal
 
-pub returns-in-Some-clash-clause-refused : goal.returns-in-Some-clash-clause-refused
-returns-in-Some-clash-clause-refused c =
+pub returns-in_err-refuse_clash-clause-refused : goal.returns-in_err-refuse_clash-clause-refused
+returns-in_err-refuse_clash-clause-refused c =
     let command = c.in_ok-command-in-Some.command in
     let asked : IsFoundIn (subcommand_rows_of c.args.matches.now) command = search rules in
-    refused_for_clash _ command c.in-Some-clash.misuse asked c.in-Some-clash.ensures.some
+    refused_for_clash _ command c.in_err-refuse_clash.field-0 asked c.in_err-refuse_clash.ensures.refused

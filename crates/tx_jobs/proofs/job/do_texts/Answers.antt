@@ -147,23 +147,3 @@ returns-in_ok-staged-in-Order-clause-third_calls g c = uncalled g.R.Source.calle
 
 pub returns-in_err-staged-in-Order-clause-third_calls : goal.returns-in_err-staged-in-Order-clause-third_calls
 returns-in_err-staged-in-Order-clause-third_calls g c = uncalled g.R.Source.called c.args.third.now
-
-pub returns-in_ok-survive_risks_job-in-Survive-default-Some-clause-done : goal.returns-in_ok-survive_risks_job-in-Survive-default-Some-clause-done
-returns-in_ok-survive_risks_job-in-Survive-default-Some-clause-done g c =
-    rw (c.in-Survive-default-Some.is, rw c.in-Survive-default-Some.is at c.in-Survive-default-Some.risks-is) (did c.in_ok-survive_risks_job-in-Survive-default-Some.field-0 c.in_ok-survive_risks_job-in-Survive-default-Some.ensures.answers, refl)
-
-pub returns-in_err-survive_risks_job-in-Survive-default-Some-clause-done : goal.returns-in_err-survive_risks_job-in-Survive-default-Some-clause-done
-returns-in_err-survive_risks_job-in-Survive-default-Some-clause-done g c =
-    let f = c.in_err-survive_risks_job-in-Survive-default-Some.field-0.0 in
-    rw (c.in-Survive-default-Some.is, rw c.in-Survive-default-Some.is at c.in-Survive-default-Some.risks-is)
-    (stopped f c.from_residual-in_err-survive_risks_job-in-Survive-default-Some.result c.in_err-survive_risks_job-in-Survive-default-Some.ensures.answers c.from_residual-in_err-survive_risks_job-in-Survive-default-Some.ensures.1, refl)
-
-pub returns-in_err-survive_risks_job-in-Survive-default-Some-clause-mark : goal.returns-in_err-survive_risks_job-in-Survive-default-Some-clause-mark
-returns-in_err-survive_risks_job-in-Survive-default-Some-clause-mark g c =
-    stopped_mark _ _ c.in_err-survive_risks_job-in-Survive-default-Some.field-0.0 c.from_residual-in_err-survive_risks_job-in-Survive-default-Some.result c.in_err-survive_risks_job-in-Survive-default-Some.ensures.mark c.from_residual-in_err-survive_risks_job-in-Survive-default-Some.ensures.1
-
-pub returns-in_ok-survive_risks_job-in-Survive-default-Some-clause-third_calls : goal.returns-in_ok-survive_risks_job-in-Survive-default-Some-clause-third_calls
-returns-in_ok-survive_risks_job-in-Survive-default-Some-clause-third_calls g c = uncalled g.R.Source.called c.args.third.now
-
-pub returns-in_err-survive_risks_job-in-Survive-default-Some-clause-third_calls : goal.returns-in_err-survive_risks_job-in-Survive-default-Some-clause-third_calls
-returns-in_err-survive_risks_job-in-Survive-default-Some-clause-third_calls g c = uncalled g.R.Source.called c.args.third.now

@@ -1,0 +1,5 @@
+use Rattle.std.proofs.Common.{rules}
+use Rattle.tx_risk_report.proofs.totals.count_groups.Goals as goal
+
+pub returns : goal.returns
+returns g c = search rules
