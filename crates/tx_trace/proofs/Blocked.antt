@@ -31,7 +31,7 @@ use Rattle.tx_machine.specs.State.{State}
 use Rattle.tx_machine.specs.Step.{step, accepted, counted, unless_refused, with_call}
 use Rattle.tx_trace.specs.Ways.{is_in}
 use Rattle.tx_trace.specs.Left.{groups_left, route_left, routes_left, plan_left, AreBlocked, unblocked, is_blocking}
-use Rattle.tx_trace.proofs.Left.{has_some}
+use Rattle.tx_trace.proofs.LeftRoutes.{has_some}
 
 -- THE LIST OF AN EXCHANGE FOR A CODE
 module _ (down : List ℕ) (x c : ℕ) where

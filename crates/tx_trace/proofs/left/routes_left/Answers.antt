@@ -6,7 +6,7 @@ use Rattle.tx_plan.proofs.ByIndex.{entry_at}
 use Rattle.tx_mend.proofs.Adding.{pair_of, no_none}
 use Rattle.tx_mend.proofs.Copied.{none_before, none_filtered, route_got}
 use Rattle.tx_trace.specs.Left.{route_left}
-use Rattle.tx_trace.proofs.Left.{has_some, left_next, left_gone, none_left}
+use Rattle.tx_trace.proofs.LeftRoutes.{has_some, left_next, left_gone, none_left}
 use Rattle.tx_trace.proofs.left.routes_left.Goals as goal
 use Rattle.tx_trace.proofs.left.routes_left.Goals.{then-not-is_empty+in_ok-add-in-Some, else-not-is_empty}
 
