@@ -9,7 +9,7 @@ ghost use Rattle.tx_jobs.specs.FillJobs.{ToldFill, FillJobAnswers};
 use crate::asked::asked_of;
 use crate::job_fault::JobFault;
 use std::alloc::Allocator;
-use tx_fill::{Fill, fill, write_fill};
+use tx_fill::{Fill, set_up_calls, write_fill};
 use tx_plan::{CodeId, ExchangeId, GroupId, Plan};
 use tx_plantext::read_plan_from;
 use tx_text::{Sink, Source};
@@ -71,7 +71,7 @@ fn tell_fill<A: Allocator + Copy, W: Sink>(
         result }
     ensures mark { W.failed out.new ≡ mark_after (W.failed out.old) result }
 {
-    let found = fill(alloc, plan, down, exchange, code)?;
+    let found = set_up_calls(alloc, plan, down, exchange, code)?;
     write_fill(plan, down, code, exchange, &found, out)?;
     Ok(found)
 }
