@@ -1,5 +1,5 @@
 // The job of `fill PLAN EXCHANGE CODE`.
-ghost use Rattle.std.specs.Prelude.{◌≡◌, ◌<◌, length, option_map};
+ghost use Rattle.std.specs.Prelude.{◌≡◌, option_map};
 ghost use Rattle.tx_text.specs.Calls.{CallsAtMost, source_calls};
 ghost use Rattle.tx_jobs.specs.JobFaults.{mark_after};
 ghost use Rattle.tx_text.specs.Ends.{input, output};
@@ -65,8 +65,6 @@ fn tell_fill<A: Allocator + Copy, W: Sink>(
     code: CodeId,
     out: &mut W,
 ) -> Result<Fill<A>, JobFault>
-    requires exchange { exchange < length plan.now.exchanges }
-    requires code { code < length plan.now.codes }
     ensures told { ToldFill plan.now down.now exchange code (output W.taken out.old out.new)
         result }
     ensures mark { W.failed out.new ≡ mark_after (W.failed out.old) result }
