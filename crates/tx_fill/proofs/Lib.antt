@@ -1,3 +1,4 @@
 pub mod Carried
+pub mod Connected
 pub mod LinesAt
 pub mod Settled
