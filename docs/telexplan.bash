@@ -1,24 +1,40 @@
 # Completion of telexplan for bash: `source docs/telexplan.bash`, with telexplan on the path.
+# The names that the lines of a kind declare in the plan that is named behind the command.
+_telexplan_names() {
+    [ -f "${COMP_WORDS[2]}" ] && sed -n "s/^[[:blank:]]*$1[[:blank:]]\{1,\}\([A-Z0-9]*\).*/\1/p" "${COMP_WORDS[2]}"
+}
 _telexplan() {
-    local word=${COMP_WORDS[COMP_CWORD]} words=
+    local word=${COMP_WORDS[COMP_CWORD]} words= before=
     case ${COMP_WORDS[COMP_CWORD - 1]} in
         --limit) words=$(echo {0..62}) ;;
         --spare) words=$(echo {0..15}) ;;
         --stage) words=$(echo {1..128}) ;;
-        --cert | --mixture | --plan | --risks | --counter | --code) ;;
+        --code) words=$(_telexplan_names CODE) ;;
+        --group) words=$(_telexplan_names GROUP) ;;
+        --down)
+            # one more name behind the last comma
+            case $word in *,*) before=${word%,*}, ;; esac
+            words=$(_telexplan_names GROUP | sed "s/^/$before/")
+            ;;
+        --cert | --mixture | --plan | --risks | --counter) ;;
         *)
             case $COMP_CWORD:${COMP_WORDS[1]}:$word in
-                1:*) words="lint audit grade mend change order survive check run codes trace draw explain help --help --version" ;;
-                *:help:*) words="lint audit grade mend change order survive check run codes trace draw explain" ;;
+                1:*) words="lint audit grade mend change order survive check run codes trace fill draw explain version help --help --version" ;;
+                *:help:*) words="lint audit grade mend change order survive check run codes trace fill draw explain version" ;;
                 *:explain:*) words="--help $(telexplan explain 2>/dev/null | cut -d ' ' -f 1)" ;;
                 *:audit:-*) words="--limit --spare --cert --counter --help" ;;
                 *:mend:-*) words="--limit --spare --plan --cert --help" ;;
                 *:change:-*) words="--limit --spare --cert --mixture --counter --help" ;;
                 *:order:-*) words="--limit --spare --stage --plan --cert --help" ;;
-                *:survive:-*) words="--risks --help" ;;
+                *:lint:-*) words="--risks --help" ;;
+                *:survive:-*) words="--risks --risks-only --totals --help" ;;
                 *:check:-*) words="--limit --spare --help" ;;
                 *:run:-*) words="--cert --limit --spare --strict --echo --summary --help" ;;
-                *:lint:-* | *:grade:-* | *:codes:-* | *:trace:-*) words="--help" ;;
+                *:grade:-* | *:codes:-* | *:version:-*) words="--help" ;;
+                *:trace:-*) words="--down --group --help" ;;
+                *:fill:-*) words="--down --help" ;;
+                3:trace:* | 3:fill:*) words=$(_telexplan_names EXCHANGE) ;;
+                4:trace:* | 4:fill:*) words=$(_telexplan_names CODE) ;;
                 *:draw:-*) words="--code --limit --spare --help" ;;
             esac
             ;;

@@ -31,7 +31,8 @@ The comments before a block:
   <!-- not run -->        commands that no example shows, and that are not those of the program
 and before a table:
   <!-- examples -->       each text in the last column is a line of some file in examples/
-  <!-- codes -->          the table of codes"""
+  <!-- codes -->          the table of codes
+  <!-- words -->          the table of words"""
 import os
 import pty
 import re
@@ -175,7 +176,7 @@ def played():
 
 
 def lines_wanted(plan):
-    """How each line for an exchange, a group or a place of a list begins: in the picture of a plan, and in that of each code."""
+    """How each line for an exchange, a group or the groups of a list that lead to one exchange begins: in the picture of a plan, and in that of each code."""
     said = [it.partition("#")[0].split() for it in plan.splitlines()]
     of = lambda verb: [it[1:] for it in said if it[:1] == [verb]]
     line = lambda a, b, label: f'"{a}" -> "{b}" [label="{label}'
@@ -183,9 +184,14 @@ def lines_wanted(plan):
     other = lambda group, x: ends[group][ends[group][0] == x]
     boxes = [f'"{x}" [label="{x}' for (x,) in of("EXCHANGE")]
     yield boxes + [line(a, b, f"{name} ") for name, (a, b) in ends.items()]
-    for code, _ in of("CODE"):
-        lists = [(x, groups) for x, c, *groups in of("ROUTE") if c == code]
-        yield boxes + [line(x, other(group, x), f'{order + 1} {group}"') for x, groups in lists for order, group in enumerate(groups)]
+    for code, home in of("CODE"):
+        arrows = {}
+        for x, c, *groups in of("ROUTE"):
+            for order, group in enumerate(groups if c == code else []):
+                arrows.setdefault((x, other(group, x)), []).append((str(order + 1), group))
+        labels = {pair: ": ".join(map(" ".join, zip(*choices))) for pair, choices in arrows.items()}
+        rows = [it + ("\\n" + code if it == f'"{home}" [label="{home}' else "") + '"' for it in boxes]
+        yield rows + [line(x, y, f'{label}"') for (x, y), label in labels.items()]
 
 
 def faults_of_picture(picture, wanted):
@@ -307,10 +313,26 @@ def lines_quoted(page):
     return [it for it in re.findall(r"`([A-Z]+(?: [A-Z0-9.]+)+)`", text) if re.search("[0-9]", it)]
 
 
-def codes_explained():
-    """The program's table of codes: a code, its name, what it means and what to do."""
-    texts = [read(f"crates/tx_explain/src/{name}.rt").decode() for name in ("text_faults", "run_codes", "plan_codes")]
+def codes_explained(*names):
+    """The program's tables of codes, or these ones: a code, its name, what it means and what to do."""
+    texts = [read(f"crates/tx_explain/src/{name}.rt").decode() for name in names or ("text_faults", "run_codes", "plan_codes")]
     return re.findall(r'\[\s*"(.*?)",\s*"(.*?)",\s*"(.*?)",\s*"(.*?)",?\s*\]', "".join(texts))
+
+
+def words_explained():
+    """The program's tables of words."""
+    return codes_explained("report_words", "run_words")
+
+
+def check_words_printed(tell):
+    """The tables have each word in capitals that a command of the player of the gate prints, but for names that its texts declare. (`lint` prints words at fault too.)"""
+    reports = {"audit", "both", "certified", "change", "check", "checked", "codes", "fill", "grade", "mend", "order", "pipe", "run", "stage", "survive", "telling", "trace"}
+    known = {it.upper() for row in codes_explained() + words_explained() for it in row[:2]}
+    for head, texts, prints in played():
+        names = set(re.findall(r"(?m)^\s*(?:EXCHANGE|GROUP|RISK)\s+(\w+)", texts))
+        words = set(re.findall(r'(?<![\w".])[A-Z]{2,}(?![\w".])', prints)) if reports & set(head.split()[1:3]) else set()
+        for word in sorted(words - known - names):
+            tell(f"crates/tx_explain: {word}, which {head.split()[0]} prints, is not explained")
 
 
 def codes_defined():
@@ -335,8 +357,8 @@ def check_table(mark, rows, known_lines):
     if mark == "examples":
         texts = [it for row in rows for it in re.findall(r"`([^`]+)`", row[-1])]
         return [f"no example has the line {it!r}" for it in texts if plain(it) not in known_lines] + ([] if texts else ["no examples stand in it"])
-    if mark == "codes":
-        told, wanted = [tuple(it.replace("`", "") for it in row) for row in rows], codes_explained()
+    if mark in ("codes", "words"):
+        told, wanted = [tuple(it.replace("`", "") for it in row) for row in rows], codes_explained() if mark == "codes" else words_explained()
         return [f"{row[0]} is not what the program explains" for row in told if row not in wanted] + ([] if told == wanted else ["the rows are not those of the program's table"])
     return [f"no such comment: {mark}"]
 
@@ -344,7 +366,7 @@ def check_table(mark, rows, known_lines):
 def check_pages(tell):
     known = {it.name: it for it in examples()}
     known_lines = lines_of_examples()
-    is_shown = False
+    shown = set()
     for page in PAGES:
         for line, mark, text in blocks(page):
             wrong = check_block(mark, text, known)
@@ -356,10 +378,9 @@ def check_pages(tell):
         for line, mark, rows in tables(page):
             for wrong in check_table(mark, rows, known_lines):
                 tell(f"{page} line {line}: {wrong}")
-            if mark == "codes":
-                is_shown = True
-    if not is_shown:
-        tell("docs/FORMATS.md: the table of codes is missing")
+            shown.add(mark)
+    for it in sorted({"codes", "words"} - shown):
+        tell(f"docs/FORMATS.md: the table of {it} is missing")
     for it in sorted(codes_defined() ^ {row[:2] for row in codes_explained()}):
         tell(f"crates/tx_explain: {' '.join(it)} stands in the table or in the definitions alone")
 
@@ -453,8 +474,16 @@ def case_of(example):
     kinds = {"run": telling_of(example.words), "draw": drawn, "codes": "codes", "grade": "grade"} | {it: it + bounds for it in ("check", "audit", "change", "mend")}
     staged = example.option("--stage")
     kinds |= {"order": f"stage{bounds} {staged}" if staged else f"order{bounds}"}
-    kinds |= {"survive": "survive" if example.option("--risks") else "survive alone", "trace": " ".join(["trace", *example.words[2:]]), "lint": " ".join(example.words)}
+    kinds |= {"survive": "survive" if example.option("--risks") else "survive alone", "trace": asked_of(example, "--down"), "fill": asked_of(example, "--down"), "lint": " ".join(["lint", *["risks"] * bool(example.option("--risks")), *example.words[1:2]])}
+    if example.option("--group"):
+        kinds["trace"] = f"trace group {example.option('--group')}"
     return (kinds[verb], b"---\n".join(texts)) if verb in kinds else None
+
+
+def asked_of(example, last):
+    """The kind of a case for a command over a plan: the words behind it, and the word of its last option."""
+    words = [it for it in example.words[2:4] if not it.startswith("--")]
+    return " ".join([example.words[0], *words, *filter(None, [example.option(last)])])
 
 
 def evidence_of(example):
@@ -539,7 +568,11 @@ def waiting(end):
 
 
 def check_arguments(program, tell):
-    """A word that is no UTF-8 text is refused, and so is an empty one, which is no command."""
+    """A word that is no UTF-8 text is refused, and so is an empty one, which is no command. A line of a report may be one word with blanks."""
+    line = "F2 LOOP 24 VIA NORTH"
+    ran = [subprocess.run(program + ["explain", *words], capture_output=True, timeout=60) for words in (line.split(), [line])]
+    if ran[0].returncode or ran[0].stdout != ran[1].stdout or b"F2 LOOP\n" not in ran[0].stdout:
+        tell(f"explain {line!r} prints {ran[1].stdout!r}")
     given = read("examples/three.plan") + read("examples/three.script")
     for word, why in [(b"\xff", b"telexplan: a word is no UTF-8 text\n"), (b"", b"error: unrecognized subcommand ''\n")]:
         ran = subprocess.run(program + [word], input=given, capture_output=True, timeout=60)
@@ -704,7 +737,7 @@ def words_told():
     told = {words: text for words, text, _ in told_at_ends() if "\nUsage: " in text}
     commands = re.findall(r"(?m)^  ([a-z]+) ", told["--help"].partition("Commands:")[2])
     helps = {it: told.get(f"{it} --help", told.get(f"help {it}")) for it in commands if it != "help"}
-    return {it: text and set(re.findall(r"(?m)^ +(?:-\w, )?(--\w+)", text)) for it, text in helps.items()}
+    return {it: text and set(re.findall(r"(?m)^ +(?:-\w, )?(--[\w-]+)", text)) for it, text in helps.items()}
 
 
 def check_completion(tell, told):
@@ -719,19 +752,35 @@ def check_completion(tell, told):
             tell(f"docs/telexplan.bash: behind {head} it offers {' '.join(sorted(given)) or 'nothing'} and not {' '.join(sorted(words))}")
 
 
+def check_offers(program, tell):
+    """The completion offers the exchanges, the codes and the groups of the plan that is named."""
+    asked = [(["trace", "examples/three.plan", "N"], "NORTH"), (["fill", "examples/three.plan", "NORTH", ""], "22 20 24"), (["draw", "examples/three.plan", "--code", "24"], "24")]
+    asked += [(["trace", "examples/three.plan", "--group", "N"], "NOSO1"), (["trace", "examples/three.plan", "NORTH", "24", "--down", "NOSO1,CES"], "NOSO1,CESO1 NOSO1,CESO2")]
+    for words, offered in asked:
+        line = " ".join(f"'{it}'" for it in ["telexplan", *words])
+        script = f"source docs/telexplan.bash; COMP_WORDS=({line}); COMP_CWORD={len(words)}; _telexplan; echo ${{COMPREPLY[*]}}"
+        ran = subprocess.run(["bash", "-c", script], cwd=TOP, capture_output=True, timeout=60)
+        if ran.stdout.decode() != offered + "\n":
+            tell(f"docs/telexplan.bash: behind {' '.join(words)} it offers {ran.stdout!r}")
+
+
 def check_manual(tell, told):
     """The manual page has each command with the options that its help tells, and says what each of them is."""
     text = read("docs/telexplan.1").decode()
     lines = re.findall(r"(?ms)^\.SY telexplan\n(.*?)^\.YS", text)
-    shown = {found[1]: set(re.findall(r"\\-\\-\w+", it)) for it in lines for found in [re.match(r"\.B (\w+)\n", it)] if found}
+    spelled = lambda option: option.replace("-", "\\-")
+    shown = {}
+    for it in lines:
+        if found := re.match(r"\.B (\w+)\n", it):
+            shown.setdefault(found[1], set()).update(re.findall(r"\\-\\-\w+(?:\\-\w+)*", it))
     for it in [*told, "help"]:
-        wanted = {f"\\-\\-{option[2:]}" for option in told.get(it, ()) if option != "--help"}
+        wanted = {spelled(option) for option in told.get(it, ()) if option != "--help"}
         if shown.get(it) != wanted:
             tell(f"docs/telexplan.1: the synopsis of {it} is missing or has other options than its help")
         if it != "help" and f"\n.TP\n.B {it}\n" not in text:
             tell(f"docs/telexplan.1: it does not say what {it} is")
     for option in sorted(set().union(*told.values())):
-        if not re.search(rf"(?m)^\.TP\n\.B\w? .*\\-\\-{option[2:]}\b", text):
+        if not re.search(rf"(?m)^\.TP\n\.B\w? .*{re.escape(spelled(option))}\b", text):
             tell(f"docs/telexplan.1: it does not say what {option} is")
 
 
@@ -740,6 +789,10 @@ def check_words(tell):
     lacking = [it for it, options in told.items() if options is None]
     for it in lacking:
         tell(f"crates/tx_worked: no case has the help of {it}")
+    for words, text, _ in told_at_ends():
+        for line in text.splitlines() if "\nUsage: " in text else []:
+            if len(line) > 80 and not line.startswith("error: "):
+                tell(f"crates/tx_worked: the help of {words} has a line of {len(line)} columns")
     if not lacking:
         check_completion(tell, told)
         check_manual(tell, told)
@@ -763,7 +816,7 @@ def main(words):
     told = []
     if not only_pages:
         check_examples(program, told.append)
-        for check in (check_arguments, check_terminal, check_replaced, check_apart, check_outputs, check_pipe_and_device, check_no_leave, check_no_name, check_order, check_manual_commands):
+        for check in (check_arguments, check_terminal, check_replaced, check_apart, check_outputs, check_pipe_and_device, check_no_leave, check_no_name, check_order, check_manual_commands, check_offers):
             check(program, told.append)
     check_pages(told.append)
     check_names(told.append)
@@ -771,6 +824,7 @@ def main(words):
     check_map(told.append)
     check_cases(told.append)
     check_tables(told.append)
+    check_words_printed(told.append)
     check_images(told.append)
     check_pictures(told.append)
     check_ends(told.append)

@@ -17,7 +17,7 @@ pub struct ChangeRoutes<'a, A: Allocator> {
     pub lists: &'a [JoinedLists<A>],
     pub code: CodeId,
     ghost right: { AreOrigins plan.now origins.now },
-    ghost net: { IsNet (joined_net plan.now lists.now code) } by { IsNet-prop (joined_net plan.now lists.now code) },
+    ghost net: { IsNet (joined_net plan.now lists.now code) } by { IsNet-prop _ },
 }
 
 impl<'a, A: Allocator> CodeNet for ChangeRoutes<'a, A> {

@@ -1,18 +1,18 @@
 -- What a parse of words found, as the commands that it asks for.
-use Rattle.std.proofs.Common.{◌≡◌, ◌∙◌, ℕ, ◌<◌, ◌^◌, true, List, Option, None, Some, option_map, refl, sym, ap, subst}
+use Rattle.std.proofs.Common.{◌≡◌, ◌∙◌, ℕ, true, List, [], ◌∷◌, ◌++◌, map, Option, None, Some, option_map, codes, refl, sym, ap, subst}
 use Rattle.std.specs.Borrow.{Bor}
-use Rattle.std.specs.Str.Parse.{IsNumeral, digits_value, without_leading_plus}
-use Rattle.clap.specs.Words.{App, HasMatchesOf, Row, Text, first_of, found_of, is_simple, one_text, rows_of, subcommand_of, subcommand_rows_of}
+use Rattle.std.specs.List.{flat_map, join_by}
+use Rattle.clap.specs.Words.{App, HasMatchesOf, Row, Text, first_of, found_of, is_simple, rows_of, subcommand_of, subcommand_rows_of}
 use Rattle.clap.specs.declared.parser.matches.ArgMatches.{ArgMatches}
-use Rattle.clap.specs.Matches.{first_value}
-use Rattle.clap.proofs.WalkLemmas.{first_value-rows, one_text-rows}
+use Rattle.clap.specs.Matches.{first_value, matched_of, raw_values}
+use Rattle.clap.proofs.WalkLemmas.{first_value-rows, raw_values-rows}
 use Rattle.clap.proofs.OnLiterals.{clap_on_literals}
 use Rattle.tx_commands.specs.Grammar.{program_words}
-use Rattle.tx_commands.specs.Commands.{Gives, IsFoundIn}
+use Rattle.tx_commands.specs.Commands.{IsFoundIn, line_of}
 use Rattle.tx_commands.specs.inner.Refused.{IsClash, IsRefused}
 use Rattle.tx_commands.specs.declared.command.Command.{Command}
 use Rattle.tx_commands.specs.declared.misuse.Misuse.{Misuse}
-use Rattle.tx_commands.specs.declared.misuse.Misuse.TheVariants.{Incomplete, Together, CheckedTelling, DrawTogether, StageMissing, NoSuchCode, InputTwice, Overwrites, NoMemory}
+use Rattle.tx_commands.specs.declared.misuse.Misuse.TheVariants.{Incomplete, Together, CheckedTelling, DrawTogether, StageMissing, RisksOnly, TraceWords, Number, NoSuchCode, InputTwice, Overwrites, NoMemory, Version}
 
 -- the word that was read for an id is the first that was found for it
 pub first_found : (m : ArgMatches) (id : List ℕ) (word : Option (Bor (List ℕ)))
@@ -20,13 +20,27 @@ pub first_found : (m : ArgMatches) (id : List ℕ) (word : Option (Bor (List ℕ
     → first_of id (rows_of (found_of m)) ≡ option_map (λ w. w.now) word
 first_found m id word is = sym (first_value-rows (found_of m) id) ∙ sym is
 
--- a number that was read was given
-pub given_by : (m : ArgMatches) (id : List ℕ) (n : ℕ) (one : Option (List ℕ)) → one_text (found_of m) id ≡ one
-    → (one_text (found_of m) id ≡ None → ◌≡◌ {A = Option ℕ} (Some n) None)
-    → ((t : List ℕ) → one_text (found_of m) id ≡ Some t → (IsNumeral 10 (without_leading_plus t) × (digits_value 10 (without_leading_plus t) < 2 ^ 8)) × (n ≡ digits_value 10 (without_leading_plus t)))
-    → Gives (rows_of (found_of m)) id n
-given_by m id n None e none value = let bad = none e in cc
-given_by m id n (Some t) e none value = let v = value t e in record { text = t; given = sym (one_text-rows (found_of m) id) ∙ e; numeral = v.0.0; value = v.1 }
+-- texts as a function sees them are joined as they are
+pub joined : (gap : List ℕ) (words : List (Bor (List ℕ)))
+    → join_by (λ w. w.now) gap words ≡ join_by (λ w. w) gap (map (λ w. w.now) words)
+joined gap [] = refl
+joined gap (w ∷ words) = ap (λ l. w.now ++ l) (behind words)
+  where
+    behind : (ws : List (Bor (List ℕ))) → flat_map (λ v. gap ++ v.now) ws ≡ flat_map (λ v. gap ++ v) (map (λ v. v.now) ws)
+    behind [] = refl
+    behind (v ∷ ws) = ap (λ l. (gap ++ v.now) ++ l) (behind ws)
+
+-- the words that were read for an id are those that were found for it
+pub line_found : (m : ArgMatches) (id : List ℕ) (words : Option (Bor (List (Bor (List ℕ)))))
+    → option_map (λ s. map (λ w. w.now) s.now) words ≡ option_map raw_values (matched_of (found_of m) id)
+    → line_of (rows_of (found_of m)) id ≡ option_map (λ s. join_by (λ w. w.now) (codes " ") s.now) words
+line_found m id words is =
+    ap (option_map (join_by (λ w. w) (codes " "))) (sym (raw_values-rows (found_of m) id) ∙ sym is)
+    ∙ over words
+  where
+    over : (o : Option (Bor (List (Bor (List ℕ))))) → option_map (join_by (λ w. w) (codes " ")) (option_map (λ s. map (λ w. w.now) s.now) o) ≡ option_map (λ s. join_by (λ w. w.now) (codes " ") s.now) o
+    over None = refl
+    over (Some s) = ap Some (sym (joined (codes " ") s.now))
 
 -- the library says what it finds for words like the program's
 simple : is_simple program_words ≡ true
@@ -43,11 +57,15 @@ found_by P app words m is has found =
 pub refused_for_clash : (found : Option (Text × List Row)) (command : Command) (misuse : Misuse)
     → IsFoundIn found command → IsClash command misuse → IsRefused found misuse
 refused_for_clash found command InputTwice asked clash = (command, asked, clash)
-refused_for_clash found command Overwrites asked clash = (command, asked, clash)
+refused_for_clash found command (Overwrites name) asked clash = (command, asked, clash)
 refused_for_clash found command Incomplete asked clash = tt
 refused_for_clash found command Together asked clash = absurd clash
 refused_for_clash found command CheckedTelling asked clash = absurd clash
 refused_for_clash found command DrawTogether asked clash = absurd clash
 refused_for_clash found command StageMissing asked clash = absurd clash
-refused_for_clash found command NoSuchCode asked clash = absurd clash
+refused_for_clash found command RisksOnly asked clash = absurd clash
+refused_for_clash found command TraceWords asked clash = absurd clash
+refused_for_clash found command (Number option word) asked clash = absurd clash
+refused_for_clash found command (NoSuchCode word) asked clash = absurd clash
 refused_for_clash found command NoMemory asked clash = tt
+refused_for_clash found command Version asked clash = absurd clash

@@ -1,9 +1,10 @@
 -- What a command has once a command is added.
-use Rattle.std.proofs.Common.{◌≡◌, ◌∙◌, Bool, true, Result, Ok, IfOk, ap, ap₂, subst}
+use Rattle.std.proofs.Common.{◌≡◌, ◌∙◌, Bool, true, Option, None, Some, Result, Ok, IfOk, IsSomeAnd, ap, ap₂, subst}
 use Rattle.std.proofs.lemmas.Result.{IfOk-weaker}
 use Rattle.clap.specs.Words.{AddsSubcommand, App, Rule, app_of, rule_of, with_subcommand}
 use Rattle.clap.specs.declared.builder.arg.Arg.{Arg}
 use Rattle.clap.specs.declared.builder.command.Command.{Command}
+use Rattle.clap.specs.declared.builder.range.ValueRange.{ValueRange}
 use Rattle.clap.proofs.SimpleLemmas.{plain_fields}
 
 pub with_command : (old new sub : Command) (app words : App) → app_of old ≡ app → app_of sub ≡ words → words.top.is_plain ≡ true → AddsSubcommand old sub new → app_of new ≡ with_subcommand app words.top
@@ -19,3 +20,11 @@ one_more made words next app sub is same plain adds =
 -- an option that may have to be given
 pub needs : (a b : Arg) (r : Rule) (needed : Bool) → b ≡ record a { required = needed } → rule_of a ≡ r → rule_of b ≡ record r { required = needed }
 needs a b r needed is rule = ap rule_of is ∙ ap (λ (x : Rule). record x { required = needed }) rule
+
+-- an argument that takes so many values
+pub several : (a b : Arg) (r : Rule) (range : ValueRange) → b ≡ record a { num_vals = b.num_vals } → IsSomeAnd b.num_vals (λ v. v ≡ range) → rule_of a ≡ r → rule_of b ≡ record r { range = Some range }
+several a b r range is some rule = ap rule_of is ∙ ap₂ (λ (x : Rule) n. record x { range = n }) rule (only b.num_vals some)
+  where
+    only : (o : Option ValueRange) → IsSomeAnd o (λ v. v ≡ range) → o ≡ Some range
+    only None h = absurd h
+    only (Some v) h = ap Some h

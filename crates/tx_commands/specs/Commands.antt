@@ -1,15 +1,16 @@
 -- What words ask for, and the files of it.
 use Rattle.std.specs.Prelude.{◌≡◌, ◌≤◌, ℕ, Bool, true, false, List, [], ◌∷◌, Option, None, Some, is_some, map, option_map, codes, string_bytes, String, ◌||◌}
 use Rattle.std.specs.Borrow.{Bor}
+use Rattle.std.specs.List.{join_by}
 use Rattle.std.specs.Coded.{Unit-prop, le_prop, ×_prop}
 use Rattle.std.specs.Option.{option_map_or}
 use Rattle.std.specs.Str.{bytes_eq}
-use Rattle.std.specs.Str.Parse.{IsNumeral, digits_value, without_leading_plus}
-use Rattle.clap.specs.Words.{Row, first_of, one_of, subcommand_of}
+use Rattle.clap.specs.Words.{Row, all_of, first_of, subcommand_of}
+use Rattle.tx_text.specs.Words.{number_of}
 use Rattle.tx_explain.specs.Entries.{is_known}
 use Rattle.tx_commands.specs.Grammar.{program_words}
 use Rattle.tx_commands.specs.declared.command.Command.{Command}
-use Rattle.tx_commands.specs.declared.command.Command.TheVariants.{Pipe, Run, RunTelling, Check, Lint, Codes, Audit, Change, Order, Mend, Survive, Grade, Trace, Draw, Explain}
+use Rattle.tx_commands.specs.declared.command.Command.TheVariants.{Pipe, Run, RunTelling, Check, Lint, Codes, Audit, Change, Order, Mend, Survive, Grade, Trace, TraceGroup, Fill, Draw, Explain}
 
 -- a limit is at most 62, and a spare number at most 15
 abbrev pub IsInRange : Command → Type 0
@@ -29,35 +30,40 @@ IsInRange-prop (Run plan script None) = Unit-prop
 IsInRange-prop (Run plan script (Some (cert, limit, spare))) = ×_prop le_prop le_prop
 IsInRange-prop (RunTelling plan script strict echo summary) = Unit-prop
 IsInRange-prop (Check plan cert limit spare) = ×_prop le_prop le_prop
-IsInRange-prop (Lint plan) = Unit-prop
+IsInRange-prop (Lint plan risks) = Unit-prop
 IsInRange-prop (Codes plan) = Unit-prop
 IsInRange-prop (Audit plan limit spare cert counter) = ×_prop le_prop le_prop
 IsInRange-prop (Change old new limit spare cert mixture counter) = ×_prop le_prop le_prop
 IsInRange-prop (Order old new limit spare stage plan cert) = ×_prop le_prop le_prop
 IsInRange-prop (Mend plan limit spare mended cert) = ×_prop le_prop le_prop
-IsInRange-prop (Survive plan risks) = Unit-prop
+IsInRange-prop (Survive plan risks totals) = Unit-prop
 IsInRange-prop (Grade plan) = Unit-prop
-IsInRange-prop (Trace plan exchange code) = Unit-prop
+IsInRange-prop (Trace plan exchange code down) = Unit-prop
+IsInRange-prop (TraceGroup plan group) = Unit-prop
+IsInRange-prop (Fill plan exchange code down) = Unit-prop
 IsInRange-prop (Draw plan None) = Unit-prop
 IsInRange-prop (Draw plan (Some (code, None))) = Unit-prop
 IsInRange-prop (Draw plan (Some (code, Some (limit, spare)))) = ×_prop le_prop le_prop
-IsInRange-prop (Explain word) = Unit-prop
+IsInRange-prop (Explain line) = Unit-prop
 
 -- the words of a command name this file
 abbrev pub Names : {Z : Type 0} → List Row → List ℕ → String Z → Type 0
 Names found id name = first_of id found ≡ Some (string_bytes name)
 
--- the words of a command give this number
+-- the words of a command give this number, which is spelled as in a text
 pub record Gives (found : List Row) (id : List ℕ) (n : ℕ) : Type 0 where
   pub text : List ℕ
-  pub given : one_of id found ≡ Some text
-  pub numeral : IsNumeral 10 (without_leading_plus text)
-  pub value : n ≡ digits_value 10 (without_leading_plus text)
+  pub given : first_of id found ≡ Some text
+  pub number : number_of 4294967295 text ≡ Some n
 
 -- they give this number, or have no word for it
 abbrev pub GivesIfAny : List Row → List ℕ → Option ℕ → Type 0
 GivesIfAny found id None = first_of id found ≡ None
 GivesIfAny found id (Some n) = Gives found id n
+
+-- the words for this, with a blank between two
+abbrev pub line_of : List Row → List ℕ → Option (List ℕ)
+line_of found id = option_map (join_by (λ w. w) (codes " ")) (all_of id found)
 
 -- files are made of a stage that is named
 abbrev pub AreOfStage : {Z : Type 0} → Option ℕ → (plan cert : Option (String Z)) → Type 0
@@ -95,7 +101,9 @@ Asks name found (RunTelling plan script strict echo summary) =
 Asks name found (Check plan cert limit spare) =
     (name ≡ codes "check") × Names found (codes "plan") plan × Names found (codes "cert") cert
     × Gives found (codes "limit") limit × Gives found (codes "spare") spare
-Asks name found (Lint plan) = (name ≡ codes "lint") × Names found (codes "plan") plan
+Asks name found (Lint plan risks) =
+    (name ≡ codes "lint") × Names found (codes "plan") plan
+    × (first_of (codes "risks") found ≡ option_map string_bytes risks)
 Asks name found (Codes plan) = (name ≡ codes "codes") × Names found (codes "plan") plan
 Asks name found (Audit plan limit spare cert counter) =
     (name ≡ codes "audit") × Names found (codes "plan") plan
@@ -119,13 +127,28 @@ Asks name found (Mend plan limit spare mended cert) =
     × Gives found (codes "limit") limit × Gives found (codes "spare") spare
     × (first_of (codes "plan") found ≡ option_map string_bytes mended)
     × (first_of (codes "cert") found ≡ option_map string_bytes cert)
-Asks name found (Survive plan risks) =
+Asks name found (Survive plan None totals) =
     (name ≡ codes "survive") × Names found (codes "plan") plan
-    × (first_of (codes "risks") found ≡ option_map string_bytes risks)
+    × (first_of (codes "risks") found ≡ None) × (is_set found (codes "risks-only") ≡ false)
+    × (is_set found (codes "totals") ≡ totals)
+Asks name found (Survive plan (Some (risks, only)) totals) =
+    (name ≡ codes "survive") × Names found (codes "plan") plan
+    × Names found (codes "risks") risks × (is_set found (codes "risks-only") ≡ only)
+    × (is_set found (codes "totals") ≡ totals)
 Asks name found (Grade plan) = (name ≡ codes "grade") × Names found (codes "plan") plan
-Asks name found (Trace plan exchange code) =
+Asks name found (Trace plan exchange code down) =
     (name ≡ codes "trace") × Names found (codes "plan") plan
     × Names found (codes "exchange") exchange × Names found (codes "code") code
+    × (first_of (codes "down") found ≡ option_map string_bytes down)
+    × (first_of (codes "group") found ≡ None)
+Asks name found (TraceGroup plan group) =
+    (name ≡ codes "trace") × Names found (codes "plan") plan
+    × Names found (codes "group") group × (first_of (codes "exchange") found ≡ None)
+    × (first_of (codes "code") found ≡ None) × (first_of (codes "down") found ≡ None)
+Asks name found (Fill plan exchange code down) =
+    (name ≡ codes "fill") × Names found (codes "plan") plan
+    × Names found (codes "exchange") exchange × Names found (codes "code") code
+    × (first_of (codes "down") found ≡ option_map string_bytes down)
 Asks name found (Draw plan None) =
     (name ≡ codes "draw") × Names found (codes "plan") plan
     × (first_of (codes "code") found ≡ None) × (first_of (codes "limit") found ≡ None)
@@ -136,10 +159,10 @@ Asks name found (Draw plan (Some (code, None))) =
 Asks name found (Draw plan (Some (code, Some (limit, spare)))) =
     (name ≡ codes "draw") × Names found (codes "plan") plan × Names found (codes "code") code
     × Gives found (codes "limit") limit × Gives found (codes "spare") spare
-Asks name found (Explain None) = (name ≡ codes "explain") × (first_of (codes "code") found ≡ None)
-Asks name found (Explain (Some word)) =
-    (name ≡ codes "explain") × Names found (codes "code") word
-    × (is_known (string_bytes word) ≡ true)
+Asks name found (Explain None) = (name ≡ codes "explain") × (line_of found (codes "word") ≡ None)
+Asks name found (Explain (Some line)) =
+    (name ≡ codes "explain") × (line_of found (codes "word") ≡ Some (string_bytes line))
+    × (is_known (string_bytes line) ≡ true)
 
 -- the command that was found, with its files and options, asks for this
 abbrev pub IsFoundIn : Option (List ℕ × List Row) → Command → Type 0
@@ -190,7 +213,8 @@ reads_of (Run plan script checked) = run_files (string_bytes plan) (string_bytes
 reads_of (RunTelling plan script strict echo summary) =
     two_read (string_bytes plan) (string_bytes script)
 reads_of (Check plan cert limit spare) = two_read (string_bytes plan) (string_bytes cert)
-reads_of (Lint plan) = one_read (string_bytes plan)
+reads_of (Lint plan None) = one_read (string_bytes plan)
+reads_of (Lint plan (Some risks)) = two_read (string_bytes plan) (string_bytes risks)
 reads_of (Codes plan) = one_read (string_bytes plan)
 reads_of (Audit plan limit spare cert counter) = one_read (string_bytes plan)
 reads_of (Change old new limit spare cert mixture counter) =
@@ -198,12 +222,15 @@ reads_of (Change old new limit spare cert mixture counter) =
 reads_of (Order old new limit spare stage plan cert) =
     two_read (string_bytes old) (string_bytes new)
 reads_of (Mend plan limit spare mended cert) = one_read (string_bytes plan)
-reads_of (Survive plan risks) =
-    Some (string_bytes plan) ∷ option_map string_bytes risks ∷ None ∷ []
+reads_of (Survive plan None totals) = one_read (string_bytes plan)
+reads_of (Survive plan (Some (risks, only)) totals) =
+    two_read (string_bytes plan) (string_bytes risks)
 reads_of (Grade plan) = one_read (string_bytes plan)
-reads_of (Trace plan exchange code) = one_read (string_bytes plan)
+reads_of (Trace plan exchange code down) = one_read (string_bytes plan)
+reads_of (TraceGroup plan group) = one_read (string_bytes plan)
+reads_of (Fill plan exchange code down) = one_read (string_bytes plan)
 reads_of (Draw plan routes) = one_read (string_bytes plan)
-reads_of (Explain word) = None ∷ None ∷ None ∷ []
+reads_of (Explain line) = None ∷ None ∷ None ∷ []
 
 -- their names
 abbrev pub files_read : Command → List (List ℕ)

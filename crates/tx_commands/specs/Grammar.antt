@@ -1,6 +1,7 @@
 -- The words that the program takes, as the library of command lines sees them: commands, whose
 -- files go by position and whose options go by name.
 use Rattle.std.specs.Prelude.{ℕ, List, Some, true, codes, pos}
+use Rattle.clap.specs.Lexer.{usize_max}
 use Rattle.clap.specs.Words.{App, Rule, new_app, new_rule, with_rule, with_subcommand}
 use Rattle.clap.specs.declared.builder.action.ArgAction.TheVariants.{Set, SetTrue}
 use Rattle.clap.specs.declared.builder.value_parser.ValueParser.TheVariants.{Signed}
@@ -56,7 +57,7 @@ check_words =
 
 -- the arguments of `lint`
 abbrev pub lint_words : App
-lint_words = plan_words (codes "lint")
+lint_words = with_rule (plan_words (codes "lint")) (option (codes "risks"))
 
 -- the arguments of `grade`
 abbrev pub grade_words : App
@@ -82,13 +83,28 @@ mend_words =
 
 -- the arguments of `survive`
 abbrev pub survive_words : App
-survive_words = with_rule (plan_words (codes "survive")) (option (codes "risks"))
+survive_words =
+    with_rule (with_rule (with_rule
+    (plan_words (codes "survive")) (option (codes "risks"))) (flag (codes "risks-only")))
+    (flag (codes "totals"))
 
--- a command with a plan, and with two words that have to be given as it has
+-- a word that goes by position, and need not be given
+abbrev pub word : List ℕ → Rule
+word id = record (new_rule id) { value_names = 1; action = Some Set }
+
+-- the arguments of `trace`
 abbrev pub trace_words : App
 trace_words =
-    with_rule (with_rule
-    (plan_words (codes "trace")) (file (codes "exchange"))) (file (codes "code"))
+    with_rule (with_rule (with_rule (with_rule
+    (plan_words (codes "trace")) (word (codes "exchange"))) (word (codes "code")))
+    (option (codes "down"))) (option (codes "group"))
+
+-- the arguments of `fill`
+abbrev pub fill_words : App
+fill_words =
+    with_rule (with_rule (with_rule
+    (plan_words (codes "fill")) (file (codes "exchange"))) (file (codes "code")))
+    (option (codes "down"))
 
 -- a command whose words are two plans
 abbrev pub change_words : App
@@ -108,11 +124,19 @@ draw_words =
     with_rule (with_rule (with_rule
     (plan_words (codes "draw")) (option (codes "code"))) limit) spare
 
--- a code, which need not be given
+-- one or more words, which need not be given
+abbrev pub some_words : List ℕ → Rule
+some_words id = record (word id) {
+  range = Some (record { start_inclusive = 1; end_inclusive = usize_max });
+}
+
+-- the words of a line
 abbrev pub explain_words : App
-explain_words =
-    with_rule (new_app (codes "explain"))
-    (record (new_rule (codes "code")) { value_names = 1; action = Some Set })
+explain_words = with_rule (new_app (codes "explain")) (some_words (codes "word"))
+
+-- it asks for the version, as `--version` does
+abbrev pub version_words : App
+version_words = new_app (codes "version")
 
 -- the program takes its words from the first on, and prints its version
 abbrev pub top_words : App
@@ -132,4 +156,5 @@ judging_words =
 abbrev pub program_words : App
 program_words =
     with_subcommand (with_subcommand (with_subcommand (with_subcommand (with_subcommand
-    judging_words run_words.top) codes_words.top) trace_words.top) draw_words.top) explain_words.top
+    (with_subcommand (with_subcommand judging_words run_words.top) codes_words.top)
+    trace_words.top) fill_words.top) draw_words.top) explain_words.top) version_words.top

@@ -8,8 +8,8 @@ use clap::{Arg, ArgAction, value_parser};
 use std::alloc::{AllocError, Global};
 
 /// What the help says of a plan.
-pub(crate) const PLAN: &str =
-    "The route plan: exchanges, codes, lines, groups, routes and bars; - is standard input";
+pub(crate) const PLAN: &str = "The route plan: exchanges, codes, lines, groups, routes and
+bars; - is standard input";
 
 /// A command with its arguments so far, unless memory ran out.
 #[derive(Drop)]
@@ -69,6 +69,24 @@ impl<'a> Syntax<'a> {
         self.arg(file)
     }
 
+    /// Adds a word that goes by position, and need not be given.
+    pub(crate) fn word(self, id: &'a str, shown: &'a str, help: &'a str) -> Syntax<'a>
+        ensures { (app : App) → Takes self.entry app
+            → Takes result (with_rule app (grammar.word id.now)) }
+    {
+        let word = word(self.alloc, id, shown, help);
+        self.arg(word)
+    }
+
+    /// Adds words that go by position, and need not be given.
+    pub(crate) fn words(self, id: &'a str, shown: &'a str, help: &'a str) -> Syntax<'a>
+        ensures { (app : App) → Takes self.entry app
+            → Takes result (with_rule app (grammar.some_words id.now)) }
+    {
+        let words = word(self.alloc, id, shown, help).num_args(1..);
+        self.arg(words)
+    }
+
     /// Adds an option with a word.
     pub(crate) fn option(self, id: &'a str, shown: &'a str, help: &'a str) -> Syntax<'a>
         ensures { (app : App) → Takes self.entry app
@@ -108,9 +126,8 @@ impl<'a> Syntax<'a> {
 }
 
 /// A word that goes by position.
-pub(crate) fn word<'a>(alloc: Global, id: &'a str, shown: &'a str, help: &'a str) -> Arg<'a>
-    ensures rule { rule_of result
-        ≡ record (new_rule id.now) { value_names = 1; action = Some Set } }
+fn word<'a>(alloc: Global, id: &'a str, shown: &'a str, help: &'a str) -> Arg<'a>
+    ensures rule { rule_of result ≡ grammar.word id.now }
     ensures local { result.global ≡ false }
 {
     Arg::new(alloc, id)
@@ -145,8 +162,8 @@ fn limit<'a>(alloc: Global) -> Arg<'a>
     option(
         alloc,
         "limit",
-        "L: 0 to 62",
-        "At most how many transits a call may pass",
+        "L",
+        "At most how many transits a call may pass: 0 to 62",
     )
     .value_parser(value_parser!(u8).range(0..=62))
 }
@@ -158,10 +175,11 @@ fn spare<'a>(alloc: Global) -> Arg<'a>
     option(
         alloc,
         "spare",
-        "K: 0 to 15",
-        "How many groups may be down. After YES, a call is answered NC only
-after a second head-on collision, or where more than K groups are
-listed and each of them is down or has no free circuit",
+        "K",
+        "How many groups may be down: 0 to 15. After YES, a
+call is answered NC only after a second head-on
+collision, or where more than K groups are listed and
+each of them is down or has no free circuit",
     )
     .value_parser(value_parser!(u8).range(0..=15))
 }
@@ -176,8 +194,8 @@ fn stage<'a>(alloc: Global) -> Arg<'a>
     option(
         alloc,
         "stage",
-        "N: from 1",
-        "The stage of which --plan and --cert write",
+        "N",
+        "The stage of which --plan and --cert write: from 1",
     )
     .value_parser(value_parser!(u8).range(0..=128))
 }

@@ -1,7 +1,7 @@
 // What the words of each command ask for.
-ghost use Rattle.std.specs.Prelude.{◌≡◌, ◌≤◌, Some, IfOk, IfErr, IfSome, codes, option_map, string_bytes};
+ghost use Rattle.std.specs.Prelude.{◌≡◌, ◌≤◌, ℕ, List, Some, IfOk, IfErr, codes, option_map, string_bytes};
 ghost use Rattle.clap.specs.Words.{first_of, found_of, rows_of};
-ghost use Rattle.tx_commands.specs.Commands.{IsInRange, Names, Gives, is_set, Asks};
+ghost use Rattle.tx_commands.specs.Commands.{IsInRange, Names, Gives, is_set, line_of, Asks};
 ghost use Rattle.tx_commands.specs.Faults.{has};
 ghost use Rattle.tx_commands.specs.inner.Refused.{IsRefused};
 
@@ -11,6 +11,7 @@ use crate::misuse::Misuse;
 use clap::ArgMatches;
 use std::alloc::{AllocError, Global};
 use tx_explain::is_known;
+use tx_text::number;
 
 /// The word of an id.
 pub(crate) fn text(
@@ -23,6 +24,17 @@ pub(crate) fn text(
 {
     match matches.get_str(id) {
         Some(word) => Ok(Some(String::from_str(alloc, word)?)),
+        None => Ok(None),
+    }
+}
+
+/// The words of an id, with a blank between two.
+fn line(alloc: Global, matches: &ArgMatches<'_>, id: &str) -> Result<Option<String>, AllocError>
+    ensures { IfOk result (λ line. line_of (rows_of (found_of matches.now)) id.now
+        ≡ option_map string_bytes line) }
+{
+    match matches.get_strs(id) {
+        Some(words) => Ok(Some(words.join(alloc, " ")?)),
         None => Ok(None),
     }
 }
@@ -44,28 +56,51 @@ fn is_set(matches: &ArgMatches<'_>, id: &str) -> bool
     }
 }
 
-/// The number of an option, tested once more against its range.
-fn number(matches: &ArgMatches<'_>, id: &str, most: u8) -> Option<u8>
-    ensures range { IfSome result (λ n. n ≤ most) }
-    ensures given { IfSome result (Gives (rows_of (found_of matches.now)) id.now) }
+/// The number of an option, which is spelled as in a text.
+fn number_of(
+    alloc: Global,
+    matches: &ArgMatches<'_>,
+    id: &'static str,
+    most: u8,
+) -> Result<u8, Misuse>
+    ensures range { IfOk result (λ n. n ≤ most) }
+    ensures given { IfOk result (Gives (rows_of (found_of matches.now)) id.now) }
+    ensures refused { IfErr result
+        (λ e. (name : List ℕ) → IsRefused (Some (name, rows_of (found_of matches.now))) e) }
 {
-    match matches.get_one::<u8>(id) {
-        Some(n) if n <= most => Some(n),
-        _ => None,
+    let Some(word) = matches.get_str(id) else {
+        return Err(Misuse::Incomplete);
+    };
+    match number(word.as_bytes(), u32::MAX) {
+        Some(n) if n <= u32::from(most) => Ok(n as u8),
+        _ => Err(Misuse::Number(id, String::from_str(alloc, word)?)),
     }
 }
 
-/// The limit and the spare number, if both are given.
-fn limits(matches: &ArgMatches<'_>) -> Option<(u8, u8)>
-    ensures range { IfSome result (λ b. (b.0 ≤ 62) × (b.1 ≤ 15)) }
-    ensures given { IfSome result (λ b.
+/// The limit and the spare number.
+fn limits(alloc: Global, matches: &ArgMatches<'_>) -> Result<(u8, u8), Misuse>
+    ensures range { IfOk result (λ b. (b.0 ≤ 62) × (b.1 ≤ 15)) }
+    ensures given { IfOk result (λ b.
         Gives (rows_of (found_of matches.now)) (codes "limit") b.0
         × Gives (rows_of (found_of matches.now)) (codes "spare") b.1) }
+    ensures refused { IfErr result
+        (λ e. (name : List ℕ) → IsRefused (Some (name, rows_of (found_of matches.now))) e) }
 {
-    match (number(matches, "limit", 62), number(matches, "spare", 15)) {
-        (Some(limit), Some(spare)) => Some((limit, spare)),
-        _ => None,
-    }
+    let limit = number_of(alloc, matches, "limit", 62)?;
+    let spare = number_of(alloc, matches, "spare", 15)?;
+    Ok((limit, spare))
+}
+
+/// The words of `lint` after the plan.
+fn lint_of(alloc: Global, plan: String, matches: &ArgMatches<'_>) -> Result<Command, Misuse>
+    requires { Names (rows_of (found_of matches.now)) (codes "plan") plan }
+    ensures range { IfOk result IsInRange }
+    ensures asked { IfOk result (Asks (codes "lint") (rows_of (found_of matches.now))) }
+    ensures refused { IfErr result
+        (IsRefused (Some (codes "lint", rows_of (found_of matches.now)))) }
+{
+    let risks = text(alloc, matches, "risks")?;
+    Ok(Command::Lint { plan, risks })
 }
 
 /// The words of `check` after the plan.
@@ -76,16 +111,16 @@ fn check_of(alloc: Global, plan: String, matches: &ArgMatches<'_>) -> Result<Com
     ensures refused { IfErr result
         (IsRefused (Some (codes "check", rows_of (found_of matches.now)))) }
 {
-    let cert = text(alloc, matches, "cert")?;
-    match (cert, limits(matches)) {
-        (Some(cert), Some((limit, spare))) => Ok(Command::Check {
-            plan,
-            cert,
-            limit,
-            spare,
-        }),
-        _ => Err(Misuse::Incomplete),
-    }
+    let Some(cert) = text(alloc, matches, "cert")? else {
+        return Err(Misuse::Incomplete);
+    };
+    let (limit, spare) = limits(alloc, matches)?;
+    Ok(Command::Check {
+        plan,
+        cert,
+        limit,
+        spare,
+    })
 }
 
 /// The words of `audit` after the plan.
@@ -98,16 +133,14 @@ fn audit_of(alloc: Global, plan: String, matches: &ArgMatches<'_>) -> Result<Com
 {
     let cert = text(alloc, matches, "cert")?;
     let counter = text(alloc, matches, "counter")?;
-    match limits(matches) {
-        Some((limit, spare)) => Ok(Command::Audit {
-            plan,
-            limit,
-            spare,
-            cert,
-            counter,
-        }),
-        None => Err(Misuse::Incomplete),
-    }
+    let (limit, spare) = limits(alloc, matches)?;
+    Ok(Command::Audit {
+        plan,
+        limit,
+        spare,
+        cert,
+        counter,
+    })
 }
 
 /// The words of `change`.
@@ -122,8 +155,9 @@ pub(crate) fn change_of(alloc: Global, matches: &ArgMatches<'_>) -> Result<Comma
     let cert = text(alloc, matches, "cert")?;
     let mixture = text(alloc, matches, "mixture")?;
     let counter = text(alloc, matches, "counter")?;
-    match (old, new, limits(matches)) {
-        (Some(old), Some(new), Some((limit, spare))) => Ok(Command::Change {
+    let (limit, spare) = limits(alloc, matches)?;
+    match (old, new) {
+        (Some(old), Some(new)) => Ok(Command::Change {
             old,
             new,
             limit,
@@ -147,14 +181,16 @@ pub(crate) fn order_of(alloc: Global, matches: &ArgMatches<'_>) -> Result<Comman
     let new = text(alloc, matches, "new")?;
     let plan = text(alloc, matches, "plan")?;
     let cert = text(alloc, matches, "cert")?;
-    let stage = number(matches, "stage", MOST_STAGES);
-    match (is_given(matches, "stage"), stage) {
-        (true, None) => return Err(Misuse::Incomplete),
-        (false, _) if plan.is_some() || cert.is_some() => return Err(Misuse::StageMissing),
-        _ => {}
-    }
-    match (old, new, limits(matches)) {
-        (Some(old), Some(new), Some((limit, spare))) => Ok(Command::Order {
+    let stage = if is_given(matches, "stage") {
+        Some(number_of(alloc, matches, "stage", MOST_STAGES)?)
+    } else if plan.is_some() || cert.is_some() {
+        return Err(Misuse::StageMissing);
+    } else {
+        None
+    };
+    let (limit, spare) = limits(alloc, matches)?;
+    match (old, new) {
+        (Some(old), Some(new)) => Ok(Command::Order {
             old,
             new,
             limit,
@@ -178,15 +214,16 @@ pub(crate) fn mend_of(alloc: Global, matches: &ArgMatches<'_>) -> Result<Command
     let plan = text(alloc, matches, "old")?;
     let mended = text(alloc, matches, "plan")?;
     let cert = text(alloc, matches, "cert")?;
-    match (plan, limits(matches)) {
-        (Some(plan), Some((limit, spare))) => Ok(Command::Mend {
+    let (limit, spare) = limits(alloc, matches)?;
+    match plan {
+        Some(plan) => Ok(Command::Mend {
             plan,
             limit,
             spare,
             mended,
             cert,
         }),
-        _ => Err(Misuse::Incomplete),
+        None => Err(Misuse::Incomplete),
     }
 }
 
@@ -198,8 +235,18 @@ fn survive_of(alloc: Global, plan: String, matches: &ArgMatches<'_>) -> Result<C
     ensures refused { IfErr result
         (IsRefused (Some (codes "survive", rows_of (found_of matches.now)))) }
 {
-    let risks = text(alloc, matches, "risks")?;
-    Ok(Command::Survive { plan, risks })
+    let only = is_set(matches, "risks-only");
+    let totals = is_set(matches, "totals");
+    let risks = match text(alloc, matches, "risks")? {
+        Some(risks) => Some((risks, only)),
+        None if only => return Err(Misuse::RisksOnly),
+        None => None,
+    };
+    Ok(Command::Survive {
+        plan,
+        risks,
+        totals,
+    })
 }
 
 /// The words of `trace` after the plan.
@@ -212,11 +259,37 @@ fn trace_of(alloc: Global, plan: String, matches: &ArgMatches<'_>) -> Result<Com
 {
     let exchange = text(alloc, matches, "exchange")?;
     let code = text(alloc, matches, "code")?;
-    match (exchange, code) {
-        (Some(exchange), Some(code)) => Ok(Command::Trace {
+    let down = text(alloc, matches, "down")?;
+    let group = text(alloc, matches, "group")?;
+    match (exchange, code, down, group) {
+        (Some(exchange), Some(code), down, None) => Ok(Command::Trace {
             plan,
             exchange,
             code,
+            down,
+        }),
+        (None, None, None, Some(group)) => Ok(Command::TraceGroup { plan, group }),
+        _ => Err(Misuse::TraceWords),
+    }
+}
+
+/// The words of `fill` after the plan.
+fn fill_of(alloc: Global, plan: String, matches: &ArgMatches<'_>) -> Result<Command, Misuse>
+    requires { Names (rows_of (found_of matches.now)) (codes "plan") plan }
+    ensures range { IfOk result IsInRange }
+    ensures asked { IfOk result (Asks (codes "fill") (rows_of (found_of matches.now))) }
+    ensures refused { IfErr result
+        (IsRefused (Some (codes "fill", rows_of (found_of matches.now)))) }
+{
+    let exchange = text(alloc, matches, "exchange")?;
+    let code = text(alloc, matches, "code")?;
+    let down = text(alloc, matches, "down")?;
+    match (exchange, code) {
+        (Some(exchange), Some(code)) => Ok(Command::Fill {
+            plan,
+            exchange,
+            code,
+            down,
         }),
         _ => Err(Misuse::Incomplete),
     }
@@ -236,10 +309,10 @@ fn run_of(alloc: Global, plan: String, matches: &ArgMatches<'_>) -> Result<Comma
     let cert = text(alloc, matches, "cert")?;
     let checked = match (cert, is_given(matches, "limit"), is_given(matches, "spare")) {
         (None, false, false) => None,
-        (Some(cert), true, true) => match limits(matches) {
-            Some((limit, spare)) => Some((cert, limit, spare)),
-            None => return Err(Misuse::Incomplete),
-        },
+        (Some(cert), true, true) => {
+            let (limit, spare) = limits(alloc, matches)?;
+            Some((cert, limit, spare))
+        }
         _ => return Err(Misuse::Together),
     };
     let strict = is_set(matches, "strict");
@@ -275,29 +348,27 @@ fn draw_of(alloc: Global, plan: String, matches: &ArgMatches<'_>) -> Result<Comm
     let routes = match (code, is_given(matches, "limit"), is_given(matches, "spare")) {
         (None, false, false) => None,
         (Some(code), false, false) => Some((code, None)),
-        (Some(code), true, true) => match limits(matches) {
-            Some(limits) => Some((code, Some(limits))),
-            None => return Err(Misuse::Incomplete),
-        },
+        (Some(code), true, true) => Some((code, Some(limits(alloc, matches)?))),
         _ => return Err(Misuse::DrawTogether),
     };
     Ok(Command::Draw { plan, routes })
 }
 
-/// The words of `explain`. A word that is no code and no name is refused.
+/// The words of `explain`, with a blank between two. A line without any code, name or word of the
+/// table is refused.
 pub(crate) fn explain_of(alloc: Global, matches: &ArgMatches<'_>) -> Result<Command, Misuse>
     ensures range { IfOk result IsInRange }
     ensures asked { IfOk result (Asks (codes "explain") (rows_of (found_of matches.now))) }
     ensures refused { IfErr result
         (IsRefused (Some (codes "explain", rows_of (found_of matches.now)))) }
 {
-    let Some(word) = text(alloc, matches, "code")? else {
-        return Ok(Command::Explain { word: None });
+    let Some(line) = line(alloc, matches, "word")? else {
+        return Ok(Command::Explain { line: None });
     };
-    if is_known(word.as_str()) {
-        Ok(Command::Explain { word: Some(word) })
+    if is_known(line.as_str()) {
+        Ok(Command::Explain { line: Some(line) })
     } else {
-        Err(Misuse::NoSuchCode)
+        Err(Misuse::NoSuchCode(line))
     }
 }
 
@@ -316,12 +387,13 @@ pub(crate) fn plan_command(
     match name {
         "run" => run_of(alloc, plan, matches),
         "check" => check_of(alloc, plan, matches),
-        "lint" => Ok(Command::Lint { plan }),
+        "lint" => lint_of(alloc, plan, matches),
         "codes" => Ok(Command::Codes { plan }),
         "audit" => audit_of(alloc, plan, matches),
         "grade" => Ok(Command::Grade { plan }),
         "survive" => survive_of(alloc, plan, matches),
         "trace" => trace_of(alloc, plan, matches),
+        "fill" => fill_of(alloc, plan, matches),
         "draw" => draw_of(alloc, plan, matches),
         _ => Err(Misuse::Incomplete),
     }

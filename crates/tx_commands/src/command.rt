@@ -29,9 +29,11 @@ pub enum Command {
         limit: u8,
         spare: u8,
     },
-    /// `lint PLAN`: the faults or warnings of its text.
+    /// `lint PLAN`: the faults or warnings of its text, with the named risks of a file, if one is
+    /// named.
     Lint {
         plan: String,
+        risks: Option<String>,
     },
     /// `codes PLAN`.
     Codes {
@@ -77,20 +79,37 @@ pub enum Command {
         mended: Option<String>,
         cert: Option<String>,
     },
-    /// `survive PLAN`, with the named risks of a file, if one is named.
+    /// `survive PLAN`, with the named risks of a file, if one is named. The flag with them: these
+    /// alone. The other flag: totals alone.
     Survive {
         plan: String,
-        risks: Option<String>,
+        risks: Option<(String, bool)>,
+        totals: bool,
     },
     /// `grade PLAN`: with which limits and spare numbers the plan is safe.
     Grade {
         plan: String,
     },
-    /// `trace PLAN EXCHANGE CODE`: how calls for the code go from the exchange.
+    /// `trace PLAN EXCHANGE CODE`: how calls for the code go from the exchange, while these groups
+    /// are down, if some are named.
     Trace {
         plan: String,
         exchange: String,
         code: String,
+        down: Option<String>,
+    },
+    /// `trace PLAN --group GROUP`: the lists that have the group.
+    TraceGroup {
+        plan: String,
+        group: String,
+    },
+    /// `fill PLAN EXCHANGE CODE`: how many calls for the code the exchange can have at once, while
+    /// these groups are down, if some are named.
+    Fill {
+        plan: String,
+        exchange: String,
+        code: String,
+        down: Option<String>,
     },
     /// `draw PLAN [--code C [--limit L --spare K]]`: a picture of the plan, or of the routes for a
     /// code, with what an audit finds first if numbers are given.
@@ -98,9 +117,9 @@ pub enum Command {
         plan: String,
         routes: Option<(String, Option<(u8, u8)>)>,
     },
-    /// `explain [CODE]`: what a code or a name means, or all codes.
+    /// `explain [WORD]..`: what the codes, names and words of a line mean, or all codes.
     Explain {
-        word: Option<String>,
+        line: Option<String>,
     },
 }
 
@@ -140,9 +159,7 @@ impl<'a> Files<'a> {
                 ..
             } => Files::new(reads, mixture.as_deref(), cert, counter.as_deref()),
             Command::Order { plan, cert, .. } => Files::new(reads, plan.as_deref(), cert, None),
-            Command::Mend { mended, cert, .. } => {
-                Files::new(reads, mended.as_deref(), cert, None)
-            }
+            Command::Mend { mended, cert, .. } => Files::new(reads, mended.as_deref(), cert, None),
             _ => Files {
                 reads,
                 plan: None,
@@ -180,7 +197,7 @@ impl<'a> Files<'a> {
     }
 }
 
-/// The files that a command reads.
+/// The files that a command reads. Without words it is standard input.
 fn reads_of(command: &Command) -> [Option<&str>; 3]
     ensures { named result ≡ reads_of command.now }
 {
@@ -194,14 +211,29 @@ fn reads_of(command: &Command) -> [Option<&str>; 3]
         Command::RunTelling { plan, script, .. } => two(plan, script),
         Command::Check { plan, cert, .. } => two(plan, cert),
         Command::Change { old, new, .. } | Command::Order { old, new, .. } => two(old, new),
-        Command::Lint { plan }
+        Command::Lint {
+            plan,
+            risks: Some(risks),
+        }
+        | Command::Survive {
+            plan,
+            risks: Some((risks, _)),
+            ..
+        } => two(plan, risks),
+        Command::Lint { plan, risks: None }
+        | Command::Survive {
+            plan,
+            risks: None,
+            ..
+        }
         | Command::Codes { plan }
         | Command::Audit { plan, .. }
         | Command::Mend { plan, .. }
         | Command::Grade { plan }
         | Command::Trace { plan, .. }
+        | Command::TraceGroup { plan, .. }
+        | Command::Fill { plan, .. }
         | Command::Draw { plan, .. } => one(plan),
-        Command::Survive { plan, risks } => [Some(plan.as_str()), risks.as_deref(), None],
         Command::Explain { .. } => [None, None, None],
     }
 }

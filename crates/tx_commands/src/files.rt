@@ -1,5 +1,5 @@
 // Where two files of a command clash.
-ghost use Rattle.std.specs.Prelude.{◌≡◌, true, false, None, Some, ◌∷◌, IfSome};
+ghost use Rattle.std.specs.Prelude.{◌≡◌, true, false, ◌∷◌, Err, IfOk, IfErr, is_some};
 ghost use Rattle.tx_commands.specs.Commands.{names, standard_input};
 ghost use Rattle.tx_commands.specs.Files.{is_among, has_input_twice, has_clash, reads_input_twice, overwrites};
 ghost use Rattle.tx_commands.specs.inner.Refused.{IsClash};
@@ -7,6 +7,7 @@ ghost use Rattle.tx_commands.specs.declared.misuse.Misuse.TheVariants.{InputTwic
 
 use crate::command::{Command, Files, STANDARD_INPUT};
 use crate::misuse::Misuse;
+use std::alloc::Global;
 
 /// Whether a file is one of these.
 fn is_among(files: &[Option<&str>], file: &str) -> bool
@@ -27,34 +28,34 @@ fn has_input_twice(files: &[Option<&str>]) -> bool
     false
 }
 
-/// Whether a file to be made is standard input, or one that is read, or another one to be made.
-fn has_clash(read: &[Option<&str>], made: &[Option<&str>]) -> bool
-    ensures { result ≡ has_clash (standard_input ∷ names read.now) (names made.now) }
+/// A file to be made that is standard input, or one that is read, or another one to be made.
+fn clashing<'n>(read: &[Option<&str>], made: &[Option<&'n str>]) -> Option<&'n str>
+    ensures { is_some result ≡ has_clash (standard_input ∷ names read.now) (names made.now) }
 {
     for i in 0..made.len() {
         if let Some(file) = made[i] {
             if file == STANDARD_INPUT || is_among(read, file) || is_among(&made[i + 1..], file) {
-                return true;
+                return Some(file);
             }
         }
     }
-    false
+    None
 }
 
-/// Why a command is refused of which two files clash. Standard input that is read twice is told
-/// before a file that is made over another one.
-pub(crate) fn clash(command: &Command) -> Option<Misuse>
-    ensures some { IfSome result (IsClash command.now) }
-    ensures input_first { reads_input_twice command.now ≡ true → result ≡ Some InputTwice }
-    ensures read_once { result ≡ None → reads_input_twice command.now ≡ false }
-    ensures apart { result ≡ None → overwrites command.now ≡ false }
+/// Refuses a command of which two files clash. Standard input that is read twice is told before a
+/// file that is made over another one.
+pub(crate) fn refuse_clash(alloc: Global, command: &Command) -> Result<(), Misuse>
+    ensures refused { IfErr result (IsClash command.now) }
+    ensures input_first { reads_input_twice command.now ≡ true → result ≡ Err InputTwice }
+    ensures read_once { IfOk result (λ _. reads_input_twice command.now ≡ false) }
+    ensures apart { IfOk result (λ _. overwrites command.now ≡ false) }
 {
     let files = Files::of(command);
     if has_input_twice(&files.reads) {
-        Some(Misuse::InputTwice)
-    } else if has_clash(&files.reads, &files.makes()) {
-        Some(Misuse::Overwrites)
-    } else {
-        None
+        return Err(Misuse::InputTwice);
+    }
+    match clashing(&files.reads, &files.makes()) {
+        Some(file) => Err(Misuse::Overwrites(String::from_str(alloc, file)?)),
+        None => Ok(()),
     }
 }

@@ -8,10 +8,14 @@ use crate::arguments::{PLAN, Syntax};
 use crate::grammar::{top_grammar, with_command};
 use std::alloc::{AllocError, Global};
 
-const LINT_HELP: &str = "Example: telexplan lint own.plan
+/// What the help says of the named risks.
+const RISKS: &str = "The named risks, such as cables: lines RISK name
+group .., between RISKS 1 and END; - is standard input";
 
-Exit status: 0 without any line, 1 after warnings, 2 after faults, 3 for a failed read or write, 4
-when out of memory, 64 for refused words";
+const LINT_HELP: &str = "Example: telexplan lint own.plan --risks cables
+
+Exit status: 0 without any line, 1 after warnings, 2 after faults, 3 for a
+failed read or write, 4 when out of memory, 64 for refused words";
 
 fn lint_grammar<'a>(alloc: Global) -> Result<clap::Command<'a>, AllocError>
     ensures { IfOk result (λ c. app_of c ≡ grammar.lint_words) }
@@ -19,17 +23,17 @@ fn lint_grammar<'a>(alloc: Global) -> Result<clap::Command<'a>, AllocError>
     Syntax::over_plan(
         alloc,
         "lint",
-        "Report all faults of a plan's text, or else what in it is of no use or likely not meant",
+        "Report all faults of a plan's text, or warn of likely mistakes",
         LINT_HELP,
     )
+    .option("risks", "RISKS", RISKS)
     .command
 }
 
-const AUDIT_HELP: &str =
-    "Example: telexplan audit own.plan --limit 1 --spare 1 --cert own.cert --counter own.script
+const AUDIT_HELP: &str = "Example: telexplan audit own.plan --limit 1 --spare 1 --cert own.cert
 
-Exit status: 0 after YES, 1 after NO, 2 for a refused text, 3 for a failed read or write, 4 when
-out of memory, 64 for refused words";
+Exit status: 0 after YES, 1 after NO, 2 for a refused text, 3 for a failed read
+or write, 4 when out of memory, 64 for refused words";
 
 fn audit_grammar<'a>(alloc: Global) -> Result<clap::Command<'a>, AllocError>
     ensures { IfOk result (λ c. app_of c ≡ grammar.audit_words) }
@@ -37,7 +41,7 @@ fn audit_grammar<'a>(alloc: Global) -> Result<clap::Command<'a>, AllocError>
     Syntax::over_plan(
         alloc,
         "audit",
-        "Say whether a plan is safe: YES, or NO with what is wrong and the walks that show it",
+        "Say whether a plan is safe: YES, or NO with what is wrong",
         AUDIT_HELP,
     )
     .limits(true)
@@ -49,16 +53,17 @@ fn audit_grammar<'a>(alloc: Global) -> Result<clap::Command<'a>, AllocError>
     .option(
         "counter",
         "SCRIPT",
-        "After NO, write a script to this file that shows the first finding
-that has one",
+        "After NO, write a script to this file that shows the
+first finding that has one",
     )
     .command
 }
 
 const GRADE_HELP: &str = "Example: telexplan grade own.plan
 
-Exit status: 0 for a plan that has a grade, 1 for one that has none, 2 for a refused text, 3 for
-a failed read or write, 4 when out of memory, 64 for refused words";
+Exit status: 0 for a plan that has a grade, 1 for one that has none, 2 for a
+refused text, 3 for a failed read or write, 4 when out of memory, 64 for refused
+words";
 
 fn grade_grammar<'a>(alloc: Global) -> Result<clap::Command<'a>, AllocError>
     ensures { IfOk result (λ c. app_of c ≡ grammar.grade_words) }
@@ -66,17 +71,16 @@ fn grade_grammar<'a>(alloc: Global) -> Result<clap::Command<'a>, AllocError>
     Syntax::over_plan(
         alloc,
         "grade",
-        "Say with which transit limits and spare numbers a plan is safe, and each of its codes",
+        "Say with which transit limits and spare numbers a plan is safe",
         GRADE_HELP,
     )
     .command
 }
 
-const MEND_HELP: &str =
-    "Example: telexplan mend own.plan --limit 1 --spare 1 --plan new.plan --cert new.cert
+const MEND_HELP: &str = "Example: telexplan mend own.plan --limit 1 --spare 1 --plan new.plan
 
-Exit status: 0 after YES, 1 after NO, 2 for a refused text, 3 for a failed read or write, 4 when
-out of memory, 64 for refused words";
+Exit status: 0 after YES, 1 after NO, 2 for a refused text, 3 for a failed read
+or write, 4 when out of memory, 64 for refused words";
 
 fn mend_grammar<'a>(alloc: Global) -> Result<clap::Command<'a>, AllocError>
     ensures { IfOk result (λ c. app_of c ≡ grammar.mend_words) }
@@ -84,7 +88,7 @@ fn mend_grammar<'a>(alloc: Global) -> Result<clap::Command<'a>, AllocError>
     Syntax::new(
         alloc,
         "mend",
-        "Find lists with which a plan is safe: YES with each new list, or NO with whom none serve",
+        "Find lists with which a plan is safe, or whom no lists serve",
         MEND_HELP,
     )
     .file("old", "PLAN", PLAN)
@@ -104,14 +108,14 @@ fn mend_grammar<'a>(alloc: Global) -> Result<clap::Command<'a>, AllocError>
 
 const OLD_PLAN: &str = "The plan that is in force; - is standard input";
 
-const NEW_PLAN: &str =
-    "The plan that is to be: the same network with other routes and bars; - is standard input";
+const NEW_PLAN: &str = "The plan that is to be: the same network with other routes and
+bars; - is standard input";
 
-const CHANGE_HELP: &str =
-    "Example: telexplan change own.plan new.plan --limit 1 --spare 1 --mixture between.plan
+const CHANGE_HELP: &str = "Example: telexplan change own.plan new.plan --limit 1 --spare 1
 
-Exit status: 0 after YES, 1 after NO, 2 for a refused text and for plans of two networks, 3 for a
-failed read or write, 4 when out of memory, 64 for refused words";
+Exit status: 0 after YES, 1 after NO, 2 for a refused text and for plans of two
+networks, 3 for a failed read or write, 4 when out of memory, 64 for refused
+words";
 
 fn change_grammar<'a>(alloc: Global) -> Result<clap::Command<'a>, AllocError>
     ensures { IfOk result (λ c. app_of c ≡ grammar.change_words) }
@@ -119,7 +123,7 @@ fn change_grammar<'a>(alloc: Global) -> Result<clap::Command<'a>, AllocError>
     Syntax::new(
         alloc,
         "change",
-        "Say whether a plan is safe at every moment while its lists change into those of another",
+        "Say whether a plan is safe while its lists change into others",
         CHANGE_HELP,
     )
     .file("old", "OLD", OLD_PLAN)
@@ -128,29 +132,29 @@ fn change_grammar<'a>(alloc: Global) -> Result<clap::Command<'a>, AllocError>
     .option(
         "cert",
         "CERT",
-        "After YES, write a certificate of both plans to this file",
+        "After YES, write a certificate of both plans to this
+file",
     )
     .option(
         "mixture",
         "PLAN",
-        "After NO, write a plan of old and new lists to this file that shows
-the first finding that has a walk",
+        "After NO, write a plan of old and new lists to this
+file that shows the first finding that has a walk",
     )
     .option(
         "counter",
         "SCRIPT",
-        "After NO, write a script to this file that shows the same finding in
-that plan, if there is one",
+        "After NO, write a script to this file that shows the
+same finding in that plan, if there is one",
     )
     .command
 }
 
-const ORDER_HELP: &str =
-    "Example: telexplan order own.plan new.plan --limit 1 --spare 1 --stage 1 --plan first.plan
+const ORDER_HELP: &str = "Example: telexplan order own.plan new.plan --limit 1 --spare 1
 
-Exit status: 0 after YES, 1 after NO, 2 for a refused text and for plans of two networks, 3 for a
-failed read or write, 4 when out of memory, 64 for refused words, and for a stage that the order
-does not have";
+Exit status: 0 after YES, 1 after NO, 2 for a refused text and for plans of two
+networks, 3 for a failed read or write, 4 when out of memory, 64 for refused
+words, and for a stage that the order does not have";
 
 fn order_grammar<'a>(alloc: Global) -> Result<clap::Command<'a>, AllocError>
     ensures { IfOk result (λ c. app_of c ≡ grammar.order_words) }
@@ -158,7 +162,7 @@ fn order_grammar<'a>(alloc: Global) -> Result<clap::Command<'a>, AllocError>
     Syntax::new(
         alloc,
         "order",
-        "Say in which stages the lists of a plan can change into those of another, if any are safe",
+        "Say in which stages a plan can change into another, if it can",
         ORDER_HELP,
     )
     .file("old", "OLD", OLD_PLAN)
@@ -173,20 +177,21 @@ fn order_grammar<'a>(alloc: Global) -> Result<clap::Command<'a>, AllocError>
     .option(
         "cert",
         "CERT",
-        "After YES, write a certificate of the plans before and after that
-stage to this file",
+        "After YES, write a certificate of the plans before and
+after that stage to this file",
     )
     .command
 }
 
 const SURVIVE_HELP: &str =
-    "Of an exchange that fails, the calls that start there and those for codes at home there are
-left out.
+    "Of an exchange that fails, the calls that start there and those for codes at
+home there are left out.
 
 Example: telexplan survive own.plan --risks cables
 
-Exit status: 0 after YES, 1 after NO and for a plan that has no grade, 2 for a refused text, 3 for
-a failed read or write, 4 when out of memory, 64 for refused words";
+Exit status: 0 after YES, 1 after NO and for a plan that has no grade, 2 for a
+refused text, 3 for a failed read or write, 4 when out of memory, 64 for refused
+words";
 
 fn survive_grammar<'a>(alloc: Global) -> Result<clap::Command<'a>, AllocError>
     ensures { IfOk result (λ c. app_of c ≡ grammar.survive_words) }
@@ -194,22 +199,23 @@ fn survive_grammar<'a>(alloc: Global) -> Result<clap::Command<'a>, AllocError>
     Syntax::over_plan(
         alloc,
         "survive",
-        "Say whom each group, exchange and named risk of a plan cuts off if it fails alone",
+        "Say whom each group, exchange and named risk cuts off if it fails",
         SURVIVE_HELP,
     )
-    .option(
-        "risks",
-        "RISKS",
-        "The named risks, such as cables: lines RISK name group .., between
-RISKS 1 and END; - is standard input",
+    .option("risks", "RISKS", RISKS)
+    .flag("risks-only", "Try the named risks alone")
+    .flag(
+        "totals",
+        "Print how many starts each outage cuts off, and not which
+ones",
     )
     .command
 }
 
 const CHECK_HELP: &str = "Example: telexplan check own.plan own.cert --limit 1 --spare 1
 
-Exit status: 0 after YES, 1 after NO, 2 for a refused text, 3 for a failed read or write, 4 when
-out of memory, 64 for refused words";
+Exit status: 0 after YES, 1 after NO, 2 for a refused text, 3 for a failed read
+or write, 4 when out of memory, 64 for refused words";
 
 fn check_grammar<'a>(alloc: Global) -> Result<clap::Command<'a>, AllocError>
     ensures { IfOk result (λ c. app_of c ≡ grammar.check_words) }
@@ -217,7 +223,7 @@ fn check_grammar<'a>(alloc: Global) -> Result<clap::Command<'a>, AllocError>
     Syntax::over_plan(
         alloc,
         "check",
-        "Say whether a certificate shows that a plan is safe: YES, or NO with the first reason",
+        "Say whether a certificate shows that a plan is safe",
         CHECK_HELP,
     )
     .file(
@@ -249,4 +255,21 @@ pub(crate) fn judging_grammar<'a>(alloc: Global) -> Result<clap::Command<'a>, Al
         with_command(program, survive_grammar(alloc)),
         check_grammar(alloc),
     )
+}
+
+/// One of these commands alone.
+pub(crate) fn judging_command<'a>(
+    alloc: Global,
+    name: &str,
+) -> Result<clap::Command<'a>, AllocError> {
+    match name {
+        "lint" => lint_grammar(alloc),
+        "audit" => audit_grammar(alloc),
+        "grade" => grade_grammar(alloc),
+        "mend" => mend_grammar(alloc),
+        "change" => change_grammar(alloc),
+        "order" => order_grammar(alloc),
+        "survive" => survive_grammar(alloc),
+        _ => check_grammar(alloc),
+    }
 }

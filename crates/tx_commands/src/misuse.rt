@@ -2,10 +2,11 @@
 ghost use Rattle.std.specs.Prelude.{◌≡◌};
 ghost use Rattle.tx_commands.specs.declared.misuse.Misuse.TheVariants.{NoMemory as OutOfMemory};
 
-use std::alloc::AllocError;
+use clap::error::ErrorKind;
+use std::alloc::{AllocError, Global};
 
 /// Why the words of a command are refused, beside what the library of command lines refuses.
-#[derive(Clone, Copy)]
+#[derive(Debug, Drop)]
 pub(crate) enum Misuse {
     /// A word that it needs is missing, which the grammar rules out.
     Incomplete,
@@ -15,14 +16,23 @@ pub(crate) enum Misuse {
     CheckedTelling,
     /// `draw` has one of `--limit` and `--spare` without the other, or both without `--code`.
     DrawTogether,
+    /// The number of this option has a sign or leading zeros.
+    Number(&'static str, String),
     /// `order` has a file to be made, and no stage.
     StageMissing,
-    /// `explain` has a word that is no code.
-    NoSuchCode,
+    /// `survive` has `--risks-only` without `--risks`.
+    RisksOnly,
+    /// `trace` has neither an exchange and a code nor a group, or it has both.
+    TraceWords,
+    /// `explain` has these words, of which none is explained.
+    NoSuchCode(String),
     /// Standard input is to be read for two files.
     InputTwice,
-    /// A file to be made has the name of another file of the command, or of standard input.
-    Overwrites,
+    /// A file to be made has this name, which is that of another file of the command, or of
+    /// standard input.
+    Overwrites(String),
+    /// The version is asked for.
+    Version,
     /// No memory was left.
     NoMemory,
 }
@@ -32,5 +42,53 @@ impl From<AllocError> for Misuse {
 
     fn from(_e: AllocError) -> Misuse {
         Misuse::NoMemory
+    }
+}
+
+/// The codes and words that are explained.
+const EXPLAINED: &str = "There are X1 to X3, P3 to P22, A1 to A9, C1 to C10, S1 to S7, Q1 to Q11,
+M1 to M12, K1 to K7 and F1 to F5, those of a ticket, as NC or CLRA, the names,
+as Overlap, and the words of reports, as CUT";
+
+impl Misuse {
+    /// What kind of refusal it is, as the library of command lines has them.
+    pub(crate) fn kind(&self) -> ErrorKind {
+        match self {
+            Misuse::CheckedTelling | Misuse::InputTwice | Misuse::Overwrites(_) =>
+                ErrorKind::ArgumentConflict,
+            Misuse::Number(..) | Misuse::NoSuchCode(_) => ErrorKind::InvalidValue,
+            Misuse::DrawTogether | Misuse::StageMissing | Misuse::RisksOnly | Misuse::TraceWords =>
+                ErrorKind::MissingRequiredArgument,
+            _ => ErrorKind::MissingSubcommand,
+        }
+    }
+
+    /// What is said of it.
+    pub(crate) fn message(&self, alloc: Global) -> Result<String, AllocError> {
+        match self {
+            Misuse::Number(option, word) => format!(in alloc;
+                "invalid value '{word}' for '--{option}': a number has no sign and no leading zeros"
+            ),
+            Misuse::NoSuchCode(line) => format!(in alloc; "no such code: {line:?}\n\n{EXPLAINED}"),
+            Misuse::Overwrites(file) => format!(in alloc;
+                "a file to be made has the name of another file of the command, or is named -: {file:?}"
+            ),
+            _ => String::from_str(alloc, self.reason()),
+        }
+    }
+
+    /// What is said of it, where no word of the command line is said too.
+    fn reason(&self) -> &'static str {
+        match self {
+            Misuse::CheckedTelling => "--strict, --echo and --summary do not go with --cert",
+            Misuse::DrawTogether => "--limit and --spare go together, and with --code",
+            Misuse::StageMissing => "--plan and --cert go with --stage",
+            Misuse::RisksOnly => "--risks-only goes with --risks",
+            Misuse::TraceWords => "trace takes an exchange and a code, or --group alone",
+            Misuse::InputTwice => {
+                "standard input, which is named -, can be read for one file alone"
+            }
+            _ => "a command is missing",
+        }
     }
 }

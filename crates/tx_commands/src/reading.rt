@@ -10,11 +10,10 @@ ghost use Rattle.tx_commands.specs.inner.Refused.{IsRefused};
 use crate::asked::{change_of, explain_of, mend_of, order_of, plan_command, text};
 use crate::command::Command;
 use crate::fault::WordsFault;
-use crate::files::clash;
-use crate::grammar::grammar;
+use crate::files::refuse_clash;
+use crate::grammar::{asked_grammar, grammar};
 use crate::misuse::Misuse;
 use clap::ArgMatches;
-use clap::error::ErrorKind;
 use std::alloc::{AllocError, Global};
 
 /// The command of a subcommand's words.
@@ -28,6 +27,7 @@ fn command_of(alloc: Global, name: &str, matches: &ArgMatches<'_>) -> Result<Com
         "change" => return change_of(alloc, matches),
         "order" => return order_of(alloc, matches),
         "explain" => return explain_of(alloc, matches),
+        "version" => return Err(Misuse::Version),
         _ => {}
     }
     match text(alloc, matches, "plan")? {
@@ -47,71 +47,45 @@ fn found_command(alloc: Global, matches: &ArgMatches<'_>) -> Result<Command, Mis
     match matches.subcommand() {
         Some((name, matches)) => {
             let command = command_of(alloc, name, matches)?;
-            match clash(&command) {
-                None => Ok(command),
-                Some(misuse) => Err(misuse),
-            }
+            refuse_clash(alloc, &command)?;
+            Ok(command)
         }
         None => Err(Misuse::Incomplete),
     }
 }
 
-/// A refusal in the words of the library of command lines.
-fn in_its_words(
-    grammar: &mut clap::Command<'_>,
-    kind: ErrorKind,
-    message: &str,
-) -> Result<WordsFault, AllocError>
+/// A refusal in the form of the library of command lines, with the usage of this command.
+fn in_its_form(alloc: Global, name: &str, misuse: &Misuse) -> Result<WordsFault, AllocError>
     ensures { IfOk result
         (λ fault. (command : Option (List ℕ × List Row)) → IsRefusalIn command fault) }
 {
-    let e = grammar.error(kind, message)?;
+    let mut asked = asked_grammar(alloc, name)?;
+    let message = misuse.message(alloc)?;
+    let e = asked.error(misuse.kind(), message.as_str())?;
     Ok(WordsFault::of_clap(e))
 }
 
-/// Why the words are refused. What has no fault of its own is reported in the words of the library.
-fn words_fault(grammar: &mut clap::Command<'_>, misuse: Misuse) -> Result<WordsFault, AllocError>
+/// What the library answers to `--version`.
+fn version(alloc: Global) -> Result<WordsFault, AllocError>
+    ensures { IfOk result
+        (λ fault. (command : Option (List ℕ × List Row)) → IsRefusalIn command fault) }
+{
+    match grammar(alloc)?.try_get_matches_from(&["--version"]) {
+        Ok(_) => in_its_form(alloc, "version", &Misuse::Incomplete),
+        Err(e) => Ok(WordsFault::of_clap(e)),
+    }
+}
+
+/// Why the words of the command of this name are refused.
+fn words_fault(alloc: Global, name: &str, misuse: Misuse) -> Result<WordsFault, AllocError>
     ensures { IfOk result (λ fault. (command : Option (List ℕ × List Row))
         → IsRefused command misuse → IsRefusalIn command fault) }
 {
     match misuse {
         Misuse::Together => Ok(WordsFault::Together),
         Misuse::NoMemory => Ok(WordsFault::NoMemory),
-        Misuse::Incomplete => in_its_words(
-            grammar,
-            ErrorKind::MissingSubcommand,
-            "a command is missing",
-        ),
-        Misuse::CheckedTelling => in_its_words(
-            grammar,
-            ErrorKind::ArgumentConflict,
-            "--strict, --echo and --summary do not go with --cert",
-        ),
-        Misuse::DrawTogether => in_its_words(
-            grammar,
-            ErrorKind::MissingRequiredArgument,
-            "--limit and --spare go together, and with --code",
-        ),
-        Misuse::StageMissing => in_its_words(
-            grammar,
-            ErrorKind::MissingRequiredArgument,
-            "--plan and --cert go with --stage",
-        ),
-        Misuse::NoSuchCode => in_its_words(
-            grammar,
-            ErrorKind::InvalidValue,
-            "no such code; there are X1 to X3, P3 to P22, A1 to A6, C1 to C10, S1 to S7, Q1 to Q11, M1 to M12, K1 to K7 and F1 to F5, those of a ticket, as NC or CLRA, and the names, as Overlap",
-        ),
-        Misuse::InputTwice => in_its_words(
-            grammar,
-            ErrorKind::ArgumentConflict,
-            "standard input, which is named -, can be read for one file alone",
-        ),
-        Misuse::Overwrites => in_its_words(
-            grammar,
-            ErrorKind::ArgumentConflict,
-            "a file to be made has the name of another file of the command, or is named -",
-        ),
+        Misuse::Version => version(alloc),
+        misuse => in_its_form(alloc, name, &misuse),
     }
 }
 
@@ -136,7 +110,8 @@ fn command_in<'a>(
         Ok(command) => return Ok(command),
         Err(misuse) => misuse,
     };
-    Err(words_fault(grammar, misuse)?)
+    let name = matches.subcommand_name().unwrap_or("");
+    Err(words_fault(alloc, name, misuse)?)
 }
 
 /// Reads the words after the program's name. `Err` is refused words, a request for help or for the

@@ -1,5 +1,5 @@
 -- Writing the texts of indexes, one after another.
-use Rattle.std.proofs.Common.{◌≡◌, ℕ, zero, suc, ◌+◌, ◌-◌, ◌<◌, Bool, List, [], ◌∷◌, ◌++◌, length, get_or, Option, Ok, Err, subst, arith, append_assoc, append-nil}
+use Rattle.std.proofs.Common.{◌≡◌, ℕ, zero, suc, ◌+◌, ◌-◌, ◌<◌, Bool, List, [], ◌∷◌, ◌++◌, length, get_or, Option, Ok, Err, subst, arith}
 use Rattle.std.specs.Prelude.{IsErr}
 use Rattle.std.specs.List.{flat_map, range_with_len}
 use Rattle.tx_text.specs.declared.sink.WriteFault.{WriteFault}
@@ -26,10 +26,6 @@ module _ (text : ℕ → List ℕ) where
   -- the texts of all indexes were written
   pub before_done : (i n : ℕ) (a b : Option (List ℕ)) (f g : Bool) → i ≡ n → WroteBy a b f g (each_before i text) (Ok tt) → WroteBy a b f g (each_before n text) (Ok tt)
   before_done i n a b f g e v = subst (λ k. WroteBy a b f g (each_before k text) (Ok tt)) e v
-
--- a box, as it is written
-pub box_cut : (a name b rows : List ℕ) → a ++ (name ++ (b ++ (name ++ rows))) ≡ (a ++ (name ++ (b ++ (name ++ [])))) ++ rows
-box_cut a name b rows = simp (append_assoc, append-nil)
 
 -- what an index reads
 pub got : (xs : List ℕ) (i x : ℕ) → i < length xs → x ≡ get_or xs i x → x ≡ get_or xs i 0

@@ -1,3 +1,3 @@
 pub mod Before
-pub mod Choices
 mod FirstShown
+pub mod Arrowed

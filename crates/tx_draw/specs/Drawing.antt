@@ -11,9 +11,11 @@ use Rattle.tx_plan.specs.declared.ids.Direction.TheVariants.{OneWay, BothWay}
 abbrev pub each_before : ℕ → (ℕ → List ℕ) → List ℕ
 each_before n text = flat_map text (range_with_len 0 n)
 
--- the first lines: exchanges are boxes, and what is written at a line between two of them is small
+-- the first lines: the picture goes from left to right, exchanges are boxes, and what is written at
+-- a line between two of them is small
 abbrev pub head : List ℕ
-head = codes "digraph \"plan\" {\n" ++ (codes "graph [fontname=\"Helvetica\"];\n"
+head = codes "digraph \"plan\" {\n"
+    ++ (codes "graph [fontname=\"Helvetica\", rankdir=\"LR\", nodesep=\"0.1\"];\n"
     ++ (codes "node [shape=\"box\", fontname=\"Helvetica\"];\n"
     ++ codes "edge [fontname=\"Helvetica\", fontsize=\"10\"];\n"))
 
@@ -21,19 +23,19 @@ head = codes "digraph \"plan\" {\n" ++ (codes "graph [fontname=\"Helvetica\"];\n
 abbrev pub home_row : Plan → ℕ → ℕ → List ℕ
 home_row p x code = if home_of p code == x then codes "\\n" ++ figures_of p code else []
 
--- an exchange, as far as its label: its name, and below it the codes that are at home there
-abbrev pub box : Plan → ℕ → List ℕ
-box p x = codes "\"" ++ (exchange_name p x
-    ++ (codes "\" [label=\"" ++ (exchange_name p x ++ each_before (length p.codes) (home_row p x))))
+-- an exchange, as far as its name in its label
+abbrev pub named_box : Plan → ℕ → List ℕ
+named_box p x = codes "\"" ++ (exchange_name p x ++ (codes "\" [label=\"" ++ exchange_name p x))
 
--- a line from x to y, as far as its label
+-- a line from x to y, as far as the quote of its label
 abbrev pub line_between : Plan → ℕ → ℕ → List ℕ
 line_between p x y = codes "\""
-    ++ (exchange_name p x ++ (codes "\" -> \"" ++ (exchange_name p y ++ codes "\" [label=")))
+    ++ (exchange_name p x ++ (codes "\" -> \"" ++ (exchange_name p y ++ codes "\" [label=\"")))
 
--- an exchange with the codes that are at home there
+-- an exchange, with the codes that are at home there below its name
 abbrev pub exchange_line : Plan → ℕ → List ℕ
-exchange_line p x = box p x ++ codes "\"];\n"
+exchange_line p x =
+    named_box p x ++ (each_before (length p.codes) (home_row p x) ++ codes "\"];\n")
 
 -- a both-way group has no arrow
 abbrev pub arrow_text : Direction → List ℕ
@@ -42,8 +44,8 @@ arrow_text BothWay = codes ", dir=\"none\""
 
 -- the name of a group, and how many circuits it has
 abbrev pub group_label : Plan → ℕ → List ℕ
-group_label p g = codes "\"" ++ (group_name p g ++ (codes " "
-    ++ (decimal (count_of p g) ++ (codes "\"" ++ (arrow_text (direction_of p g) ++ codes "];\n")))))
+group_label p g = group_name p g ++ (codes " "
+    ++ (decimal (count_of p g) ++ (codes "\"" ++ (arrow_text (direction_of p g) ++ codes "];\n"))))
 
 -- a group, from its first end to the other
 abbrev pub group_line : Plan → ℕ → List ℕ

@@ -1,3 +1,4 @@
 pub mod Drawing
 pub mod Shown
 pub mod CodeDrawing
+pub mod Arrows

@@ -1,20 +1,20 @@
 // The picture of the routes for a code.
-ghost use Rattle.std.specs.Prelude.{◌≡◌, ◌+◌, length, get_or};
+ghost use Rattle.std.specs.Prelude.{◌≡◌, length};
 ghost use Rattle.tx_text.specs.Wrote.{Wrote};
 ghost use Rattle.tx_draw.specs.Shown.{first_shown};
 ghost use Rattle.tx_draw.specs.Drawing.{each_before};
-ghost use Rattle.tx_draw.specs.CodeDrawing.{title, home_text, exchange_line, order_label, choice_line, list_lines, code_drawing};
+ghost use Rattle.tx_draw.specs.CodeDrawing.{title, home_text, exchange_line, list_lines, code_drawing};
 
-use crate::parts::{write_box, write_head, write_line_between};
+use crate::arrows::write_arrows;
+use crate::parts::{write_head, write_home_row, write_named_box};
 use crate::shown::{Shown, color_text, first_shown};
-use itoa::Buffer;
 use std::alloc::Allocator;
-use tx_plan::{CodeId, ExchangeId, GroupId, Plan};
+use tx_plan::{CodeId, ExchangeId, Plan};
 use tx_rank::{Finding, is_marked};
 use tx_text::{Sink, WriteFault, write_parts};
 
-/// Writes the picture of the routes for a code as a Graphviz text: the exchanges, and for each
-/// group of a list an arrow with its place in that list.
+/// Writes the picture of the routes for a code as a Graphviz text: the exchanges, and for each list
+/// an arrow to each exchange where groups of it lead, with their places in the list.
 ///
 /// The home has a double border, what is not marked as reached is grey, and the walk of the first
 /// finding of the code is red. What went out before a failure is a front of the text.
@@ -94,7 +94,8 @@ fn write_exchange<A: Allocator, W: Sink>(
 {
     let home = home_text(plan.home(code) == exchange);
     let color = color_text(shown.passes(exchange), is_marked(reached, exchange));
-    write_box(plan, exchange, sink)?;
+    write_named_box(plan, exchange, sink)?;
+    write_home_row(plan, exchange, code, sink)?;
     write_parts(&[b"\"", home, color, b"];\n"], sink)
 }
 
@@ -120,64 +121,7 @@ fn write_lists<A: Allocator, W: Sink>(
     for index in 0..plan.exchanges() {
         let exchange = ExchangeId::of(index);
         let list = plan.list(exchange, code);
-        write_list(plan, reached, shown, exchange, list, sink)?;
+        write_arrows(plan, reached, shown, exchange, list, sink)?;
     }
     Ok(())
-}
-
-/// Writes a line for each group of a list.
-fn write_list<A: Allocator, W: Sink>(
-    plan: &Plan<A>,
-    reached: &[bool],
-    shown: &Shown<'_>,
-    exchange: ExchangeId,
-    list: &[GroupId],
-    sink: &mut W,
-) -> Result<(), WriteFault>
-    ensures { Wrote W.taken W.failed sink.old sink.new (each_before (length list.now) (λ i.
-        choice_line plan.now reached.now shown.now exchange (i + 1) (get_or list.now i 0))) result }
-{
-    for i in 0..list.len() {
-        write_choice(plan, reached, shown, exchange, i + 1, list[i], sink)?;
-    }
-    Ok(())
-}
-
-/// Writes the line of the group at a place in the list of an exchange.
-fn write_choice<A: Allocator, W: Sink>(
-    plan: &Plan<A>,
-    reached: &[bool],
-    shown: &Shown<'_>,
-    exchange: ExchangeId,
-    order: usize,
-    group: GroupId,
-    sink: &mut W,
-) -> Result<(), WriteFault>
-    ensures { Wrote W.taken W.failed sink.old sink.new
-        (choice_line plan.now reached.now shown.now exchange order group) result }
-{
-    match plan.other_end(group, exchange) {
-        Some(to) => {
-            let color = color_text(shown.goes_by(group, to), is_marked(reached, exchange));
-            write_line_between(plan, exchange, to, sink)?;
-            write_order(plan, order, group, color, sink)
-        }
-        None => Ok(()),
-    }
-}
-
-fn write_order<A: Allocator, W: Sink>(
-    plan: &Plan<A>,
-    order: usize,
-    group: GroupId,
-    color: &[u8],
-    sink: &mut W,
-) -> Result<(), WriteFault>
-    ensures { Wrote W.taken W.failed sink.old sink.new
-        (order_label plan.now order group color.now) result }
-{
-    let mut buffer = Buffer::new();
-    let order = buffer.format(order).as_bytes();
-    let name = plan.group_name(group);
-    write_parts(&[b"\"", order, b" ", name, b"\"", color, b"];\n"], sink)
 }

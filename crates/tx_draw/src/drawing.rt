@@ -3,7 +3,7 @@ ghost use Rattle.std.specs.Prelude.{◌≡◌, length};
 ghost use Rattle.tx_text.specs.Wrote.{Wrote};
 ghost use Rattle.tx_draw.specs.Drawing.{each_before, exchange_line, arrow_text, group_label, group_line, drawing};
 
-use crate::parts::{write_box, write_head, write_line_between};
+use crate::parts::{write_head, write_home_rows, write_line_between, write_named_box};
 use itoa::Buffer;
 use std::alloc::Allocator;
 use tx_plan::{Direction, ExchangeId, GroupId, Plan};
@@ -40,7 +40,8 @@ fn write_exchange<A: Allocator, W: Sink>(
 ) -> Result<(), WriteFault>
     ensures { Wrote W.taken W.failed sink.old sink.new (exchange_line plan.now exchange) result }
 {
-    write_box(plan, exchange, sink)?;
+    write_named_box(plan, exchange, sink)?;
+    write_home_rows(plan, exchange, sink)?;
     write_parts(&[b"\"];\n"], sink)
 }
 
@@ -77,7 +78,7 @@ fn write_group_label<A: Allocator, W: Sink>(
     let count = buffer.format(plan.group_count(group)).as_bytes();
     let name = plan.group_name(group);
     let arrow = arrow_text(plan.direction(group));
-    write_parts(&[b"\"", name, b" ", count, b"\"", arrow, b"];\n"], sink)
+    write_parts(&[name, b" ", count, b"\"", arrow, b"];\n"], sink)
 }
 
 /// A both-way group has no arrow.

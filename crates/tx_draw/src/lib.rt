@@ -1,6 +1,7 @@
 //! Pictures of a plan, and of the routes for a code, as Graphviz texts.
 #![tactic(auto)]
 
+mod arrows;
 mod code_drawing;
 mod drawing;
 mod parts;

@@ -1,20 +1,20 @@
 // What both pictures have.
 ghost use Rattle.std.specs.Prelude.{length};
 ghost use Rattle.tx_text.specs.Wrote.{Wrote};
-ghost use Rattle.tx_draw.specs.Drawing.{head, home_row, box, line_between, each_before};
+ghost use Rattle.tx_draw.specs.Drawing.{head, home_row, named_box, line_between, each_before};
 
 use std::alloc::Allocator;
 use tx_plan::{CodeId, ExchangeId, Plan};
 use tx_text::{Sink, WriteFault, write_parts};
 
-/// Writes the first lines: what all exchanges and all groups look like.
+/// Writes the first lines: what all exchanges and all groups look like, from left to right.
 pub fn write_head<W: Sink>(sink: &mut W) -> Result<(), WriteFault>
     ensures { Wrote W.taken W.failed sink.old sink.new head result }
 {
     write_parts(
         &[
             b"digraph \"plan\" {\n",
-            b"graph [fontname=\"Helvetica\"];\n",
+            b"graph [fontname=\"Helvetica\", rankdir=\"LR\", nodesep=\"0.1\"];\n",
             b"node [shape=\"box\", fontname=\"Helvetica\"];\n",
             b"edge [fontname=\"Helvetica\", fontsize=\"10\"];\n",
         ],
@@ -22,20 +22,20 @@ pub fn write_head<W: Sink>(sink: &mut W) -> Result<(), WriteFault>
     )
 }
 
-/// Writes an exchange as far as its label: its name, and the codes that are at home there.
-pub fn write_box<A: Allocator, W: Sink>(
+/// Writes an exchange as far as its name in its label.
+pub fn write_named_box<A: Allocator, W: Sink>(
     plan: &Plan<A>,
     exchange: ExchangeId,
     sink: &mut W,
 ) -> Result<(), WriteFault>
-    ensures { Wrote W.taken W.failed sink.old sink.new (box plan.now exchange) result }
+    ensures { Wrote W.taken W.failed sink.old sink.new (named_box plan.now exchange) result }
 {
     let name = plan.exchange_name(exchange);
-    write_parts(&[b"\"", name, b"\" [label=\"", name], sink)?;
-    write_home_rows(plan, exchange, sink)
+    write_parts(&[b"\"", name, b"\" [label=\"", name], sink)
 }
 
-fn write_home_rows<A: Allocator, W: Sink>(
+/// Writes the codes that are at home at an exchange, each in a row of the label.
+pub fn write_home_rows<A: Allocator, W: Sink>(
     plan: &Plan<A>,
     exchange: ExchangeId,
     sink: &mut W,
@@ -49,7 +49,8 @@ fn write_home_rows<A: Allocator, W: Sink>(
     Ok(())
 }
 
-fn write_home_row<A: Allocator, W: Sink>(
+/// Writes a code in a row of the label of an exchange, if it is at home there.
+pub fn write_home_row<A: Allocator, W: Sink>(
     plan: &Plan<A>,
     exchange: ExchangeId,
     code: CodeId,
@@ -64,7 +65,7 @@ fn write_home_row<A: Allocator, W: Sink>(
     }
 }
 
-/// Writes a line between two exchanges, as far as its label.
+/// Writes a line between two exchanges, as far as the quote of its label.
 pub fn write_line_between<A: Allocator, W: Sink>(
     plan: &Plan<A>,
     from: ExchangeId,
@@ -79,7 +80,7 @@ pub fn write_line_between<A: Allocator, W: Sink>(
             plan.exchange_name(from),
             b"\" -> \"",
             plan.exchange_name(to),
-            b"\" [label=",
+            b"\" [label=\"",
         ],
         sink,
     )

@@ -56,6 +56,9 @@ warnings (warning.UnusedGroup g) = refl
 warnings warning.UnusedList = refl
 warnings (warning.NoList c) = refl
 warnings warning.UnusedBar = refl
+warnings (warning.Ambiguous c) = refl
+warnings (warning.SharedRisk k) = refl
+warnings (warning.Unlisted c) = refl
 
 pub certificates : CertFaultsAreExplained
 unfolding table

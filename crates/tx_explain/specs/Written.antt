@@ -13,11 +13,11 @@ entry_text t =
     t.0 ++ (codes " " ++ (t.1 ++ (codes "\n"
     ++ (t.2 ++ (codes "\nWhat to do: " ++ (t.3 ++ codes "\n"))))))
 
--- what is written of an entry: all of it if the word asks for it; without a word, its line
+-- what is written of an entry: all of it if the line asks for it; without one, its own line
 abbrev pub told_text : Option (List ℕ) → Texts → List ℕ
 told_text None t = entry_line t
-told_text (Some word) t = if is_asked word t then entry_text t else []
+told_text (Some line) t = if is_asked line t then entry_text t else []
 
--- what is written: of each entry that the word asks for, or of all
+-- what is written: of each entry that the line asks for, or of all
 abbrev pub explanation_text : Option (List ℕ) → List ℕ
-explanation_text word = flat_map (told_text word) table
+explanation_text line = flat_map (told_text line) table

@@ -1,8 +1,8 @@
-// What a word asks for.
+// What a line asks for.
 ghost use Rattle.std.specs.Prelude.{◌≡◌};
 ghost use Rattle.std.specs.List.{list_any};
 ghost use Rattle.std.specs.Str.{str_eq_ignore_ascii_case};
-ghost use Rattle.tx_explain.specs.Entries.{texts, is_asked, is_known};
+ghost use Rattle.tx_explain.specs.Entries.{texts, is_asked_by, is_asked, is_known};
 
 use crate::code_table::{Entry, tables};
 
@@ -14,28 +14,35 @@ fn is_same_word(one: &str, other: &str) -> bool
 }
 
 /// Whether a word asks for an entry: by its code or its name, in capitals or small letters.
-pub fn is_asked(word: &str, entry: &Entry) -> bool
-    ensures { result ≡ is_asked word.now (texts entry.now) }
+fn is_asked_by(word: &str, entry: &Entry) -> bool
+    ensures { result ≡ is_asked_by word.now (texts entry.now) }
 {
     is_same_word(entry[0], word) || is_same_word(entry[1], word)
 }
 
-/// Whether a word asks for some entry.
-pub fn is_known(word: &str) -> bool
-    ensures { result ≡ is_known word.now }
+/// Whether a line asks for an entry: by one of its words, which have blanks between them.
+pub fn is_asked(line: &str, entry: &Entry) -> bool
+    ensures { result ≡ is_asked line.now (texts entry.now) }
 {
-    asks_in_some(&tables(), word)
+    line.split(' ').any(|word| is_asked_by(word, entry))
 }
 
-fn asks_in_some(tables: &[&[Entry]], word: &str) -> bool
+/// Whether a line asks for some entry.
+pub fn is_known(line: &str) -> bool
+    ensures { result ≡ is_known line.now }
+{
+    asks_in_some(&tables(), line)
+}
+
+fn asks_in_some(tables: &[&[Entry]], line: &str) -> bool
     ensures { result
-        ≡ list_any (λ t. list_any (λ e. is_asked word.now (texts e)) t.now) tables.now }
+        ≡ list_any (λ t. list_any (λ e. is_asked line.now (texts e)) t.now) tables.now }
 {
-    tables.iter().any(|entries| asks_in(entries, word))
+    tables.iter().any(|entries| asks_in(entries, line))
 }
 
-fn asks_in(entries: &[Entry], word: &str) -> bool
-    ensures { result ≡ list_any (λ e. is_asked word.now (texts e)) entries.now }
+fn asks_in(entries: &[Entry], line: &str) -> bool
+    ensures { result ≡ list_any (λ e. is_asked line.now (texts e)) entries.now }
 {
-    entries.iter().any(|entry| is_asked(word, entry))
+    entries.iter().any(|entry| is_asked(line, entry))
 }

@@ -9,51 +9,51 @@ use crate::asked::is_asked;
 use crate::code_table::{Entry, tables};
 use tx_text::{Sink, WriteFault, write_parts};
 
-/// Writes each entry that a word asks for: its code with its name, what it means and what to do
-/// about it; without a word, a line for each code with its meaning.
-pub fn write_explanation<W: Sink>(word: Option<&str>, sink: &mut W) -> Result<(), WriteFault>
+/// Writes each entry that a line asks for by a word: its code with its name, what it means and what
+/// to do about it; without a line to explain, a line for each code with its meaning.
+pub fn write_explanation<W: Sink>(line: Option<&str>, sink: &mut W) -> Result<(), WriteFault>
     ensures { Wrote W.taken W.failed sink.old sink.new
-        (explanation_text (option_map (λ w. w.now) word.entry)) result }
+        (explanation_text (option_map (λ l. l.now) line.entry)) result }
 {
-    write_tables(&tables(), word, sink)
+    write_tables(&tables(), line, sink)
 }
 
 fn write_tables<W: Sink>(
     tables: &[&[Entry]],
-    word: Option<&str>,
+    line: Option<&str>,
     sink: &mut W,
 ) -> Result<(), WriteFault>
     ensures { Wrote W.taken W.failed sink.old sink.new
-        (flat_map (λ t. flat_map (λ e. told_text (option_map (λ w. w.now) word.entry) (texts e))
+        (flat_map (λ t. flat_map (λ e. told_text (option_map (λ l. l.now) line.entry) (texts e))
         t.now) tables.now) result }
 {
     for i in 0..tables.len() {
-        write_entries(tables[i], word, sink)?;
+        write_entries(tables[i], line, sink)?;
     }
     Ok(())
 }
 
 fn write_entries<W: Sink>(
     entries: &[Entry],
-    word: Option<&str>,
+    line: Option<&str>,
     sink: &mut W,
 ) -> Result<(), WriteFault>
     ensures { Wrote W.taken W.failed sink.old sink.new
-        (flat_map (λ e. told_text (option_map (λ w. w.now) word.entry) (texts e)) entries.now)
+        (flat_map (λ e. told_text (option_map (λ l. l.now) line.entry) (texts e)) entries.now)
         result }
 {
     for i in 0..entries.len() {
-        write_told(&entries[i], word, sink)?;
+        write_told(&entries[i], line, sink)?;
     }
     Ok(())
 }
 
-fn write_told<W: Sink>(entry: &Entry, word: Option<&str>, sink: &mut W) -> Result<(), WriteFault>
+fn write_told<W: Sink>(entry: &Entry, line: Option<&str>, sink: &mut W) -> Result<(), WriteFault>
     ensures { Wrote W.taken W.failed sink.old sink.new
-        (told_text (option_map (λ w. w.now) word.entry) (texts entry.now)) result }
+        (told_text (option_map (λ l. l.now) line.entry) (texts entry.now)) result }
 {
-    match word {
-        Some(word) if is_asked(word, entry) => write_entry(entry, sink),
+    match line {
+        Some(line) if is_asked(line, entry) => write_entry(entry, sink),
         Some(_) => Ok(()),
         None => write_line(entry, sink),
     }

@@ -2,7 +2,7 @@
 use crate::code_table::Entry;
 
 /// The codes of warnings (A), of a check (K) and of findings (F).
-pub static PLAN_CODES: [Entry; 18] = [
+pub static PLAN_CODES: [Entry; 21] = [
     [
         "A1",
         "NothingToJudge",
@@ -38,6 +38,24 @@ pub static PLAN_CODES: [Entry; 18] = [
         "UnusedBar",
         "No call can start at the exchange of the bar: no code that is at home there has LINES.",
         "Drop the bar, or declare the lines.",
+    ],
+    [
+        "A7",
+        "Ambiguous",
+        "Another code begins the code, so a call for the shorter code may be taken for one for the longer.",
+        "Give one of them another code.",
+    ],
+    [
+        "A8",
+        "SharedRisk",
+        "All groups of the list are in one named risk, so they may fail at once. The spare number counts groups, and takes them for separate.",
+        "Add a group to the list that is not in the risk. Ask telexplan survive whom the risk cuts off.",
+    ],
+    [
+        "A9",
+        "Unlisted",
+        "No exchange has a list for the code, so calls for it come no further than where they start.",
+        "Write ROUTE lines for it, or drop the code.",
     ],
     [
         "K1",

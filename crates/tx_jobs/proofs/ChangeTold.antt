@@ -9,7 +9,7 @@ use Rattle.tx_change.specs.Shown.{IsShown}
 use Rattle.tx_change.specs.ChangeAnswers.{IsRightChange}
 use Rattle.tx_text.specs.Ends.{Output}
 use Rattle.tx_jobs.specs.declared.job_fault.JobFault.{JobFault}
-use Rattle.tx_jobs.specs.declared.job_fault.JobFault.TheVariants.{Plan as PlanFault, Cert, Script, Read, Write, NoMemory, OldPlan, NewPlan, TwoNetworks, Risks, NoSuchStage, NoSuchExchange, NoSuchCode}
+use Rattle.tx_jobs.specs.declared.job_fault.JobFault.TheVariants.{Plan as PlanFault, Cert, Script, Read, Write, NoMemory, OldPlan, NewPlan, TwoNetworks, Risks, NoSuchStage, NoSuchExchange, NoSuchCode, NoSuchGroup}
 use Rattle.tx_jobs.specs.ChangeJobs.{ToldChange, OnUnsoundChange}
 use Rattle.tx_jobs.specs.inner.Changing.{changed_of, ToldRanking}
 
@@ -43,3 +43,4 @@ change_stopped A old new limit spare same out (Risks f) h = absurd h
 change_stopped A old new limit spare same out (NoSuchStage stages) h = absurd h
 change_stopped A old new limit spare same out NoSuchExchange h = absurd h
 change_stopped A old new limit spare same out NoSuchCode h = absurd h
+change_stopped A old new limit spare same out (NoSuchGroup place) h = absurd h

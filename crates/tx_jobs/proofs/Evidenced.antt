@@ -6,7 +6,7 @@ use Rattle.tx_audit.specs.declared.audited.Audited.{Audited}
 use Rattle.tx_audit.specs.declared.audited.Audited.TheVariants.{Sound as FoundSound, Unsound as FoundUnsound}
 use Rattle.tx_jobs.specs.declared.evidence.Evidence.{Evidence}
 use Rattle.tx_jobs.specs.declared.job_fault.JobFault.{JobFault}
-use Rattle.tx_jobs.specs.declared.job_fault.JobFault.TheVariants.{Plan as PlanFault, Cert, Script, Read, Write, NoMemory, OldPlan, NewPlan, TwoNetworks, Risks, NoSuchStage, NoSuchExchange, NoSuchCode}
+use Rattle.tx_jobs.specs.declared.job_fault.JobFault.TheVariants.{Plan as PlanFault, Cert, Script, Read, Write, NoMemory, OldPlan, NewPlan, TwoNetworks, Risks, NoSuchStage, NoSuchExchange, NoSuchCode, NoSuchGroup}
 use Rattle.tx_jobs.specs.JobFaults.{mark_after}
 use Rattle.tx_jobs.specs.Evidences.{IsScriptOf, IsEvidenceOf}
 
@@ -26,6 +26,7 @@ module _ {A : Type 0} (old : Bool) (limit spare : ℕ) where
   script_mark p findings (Err (NoSuchStage stages)) h = absurd h
   script_mark p findings (Err NoSuchExchange) h = absurd h
   script_mark p findings (Err NoSuchCode) h = absurd h
+  script_mark p findings (Err (NoSuchGroup place)) h = absurd h
 
   pub evidence_mark : (with_script : Bool) (audited : Audited A) (r : Result (Evidence A) JobFault) → IsEvidenceOf with_script limit spare audited r → old ≡ mark_after old r
   evidence_mark with_script (FoundSound p cert) r h = ap (mark_after old) (sym h)

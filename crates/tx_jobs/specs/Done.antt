@@ -1,43 +1,46 @@
 -- What a command comes to: the answer of its job, its exit status, and what goes into its files.
-use Rattle.std.specs.Prelude.{◌≡◌, ℕ, ◌==◌, not, ◌&&◌, Bool, true, List, [], ◌∷◌, Option, None, Some, option_map, is_some, ◌||◌, if◌then◌else◌, string_bytes, String, Result, Ok, Err}
+use Rattle.std.specs.List.{list_any}
+use Rattle.std.specs.Prelude.{◌≡◌, ℕ, ◌==◌, not, length, ◌&&◌, Bool, true, List, [], ◌∷◌, Option, None, Some, option_map, is_some, ◌||◌, if◌then◌else◌, string_bytes, String, Result, Ok, Err}
 use Rattle.tx_text.specs.declared.source.ReadFault.{ReadFault}
 use Rattle.tx_text.specs.Ends.{Input, Output, input}
 use Rattle.tx_plantext.specs.PlanWritten.{plan_written}
 use Rattle.tx_cert.specs.CertText.{cert_written}
 use Rattle.tx_check.specs.declared.verdict.Verdict.TheVariants.{Yes, No}
 use Rattle.tx_mend.specs.declared.mending.Mending.TheVariants.{Mended as IsMended, NoRouting}
+use Rattle.tx_risk.specs.declared.surviving.Survival.{Survival}
 use Rattle.tx_risk.specs.declared.surviving.Survival.TheVariants.{Tried, Ungraded}
 use Rattle.tx_audit.specs.Scripts.{script_written}
 use Rattle.tx_audit.specs.declared.checked.Checked.TheVariants.{Ran as RanAfterYes, Denied}
 use Rattle.tx_explain.specs.Written.{explanation_text}
 use Rattle.tx_commands.specs.declared.command.Command.{Command}
-use Rattle.tx_commands.specs.declared.command.Command.TheVariants.{Pipe, Run, RunTelling, Check, Lint, Codes, Audit, Change, Order, Mend, Survive, Grade, Trace, Draw, Explain}
+use Rattle.tx_commands.specs.declared.command.Command.TheVariants.{Pipe, Run, RunTelling, Check, Lint, Codes, Audit, Change, Order, Mend, Survive, Grade, Trace, TraceGroup, Fill, Draw, Explain}
 use Rattle.tx_jobs.specs.declared.evidence.Evidence.TheVariants.{Sound, Unsound}
 use Rattle.tx_jobs.specs.declared.mixture.ChangeEvidence.TheVariants.{Sound as SoundChange, Unsound as UnsoundChange}
 use Rattle.tx_order.specs.declared.staged.Staged.TheVariants.{Ordered as IsOrdered, NoOrder}
 use Rattle.tx_jobs.specs.declared.job_fault.JobFault.{JobFault}
 use Rattle.tx_jobs.specs.declared.job_fault.JobFault.TheVariants.{Read}
 use Rattle.tx_jobs.specs.declared.done.Done.{Done}
-use Rattle.tx_jobs.specs.declared.done.Done.TheVariants.{Ran, Told, Checked, Verified, Listed, Linted, Audited, Changed, Ordered, Mended, Graded, Survived, Written}
+use Rattle.tx_jobs.specs.declared.done.Done.TheVariants.{Ran, Told, Checked, Verified, Listed, Linted, Audited, Changed, Ordered, Mended, Graded, Survived, Filled, Written}
 use Rattle.tx_jobs.specs.ChangeEvidences.{ChangeEvidenceAnswers, mixture_plan, mixture_events}
 use Rattle.tx_jobs.specs.CheckJobs.{CheckJobAnswers}
 use Rattle.tx_jobs.specs.CheckedJobs.{CheckedJobAnswers}
 use Rattle.tx_jobs.specs.DrawJobs.{DrawJobAnswers, ToldText}
 use Rattle.tx_jobs.specs.Evidences.{EvidenceJobAnswers}
+use Rattle.tx_jobs.specs.FillJobs.{FillJobAnswers}
 use Rattle.tx_jobs.specs.GradeJobs.{GradeJobAnswers}
 use Rattle.tx_jobs.specs.Jobs.{CodesJobAnswers, RunJobAnswers}
-use Rattle.tx_jobs.specs.LintJobs.{LintJobAnswers}
+use Rattle.tx_jobs.specs.LintJobs.{LintJobAnswers, LintRisksJobAnswers}
 use Rattle.tx_jobs.specs.MendJobs.{MendJobAnswers}
 use Rattle.tx_jobs.specs.OrderJobs.{OrderJobAnswers}
 use Rattle.tx_jobs.specs.PipeJobs.{PipeJobAnswers}
 use Rattle.tx_jobs.specs.SurviveJobs.{SurviveJobAnswers, SurviveRisksJobAnswers}
 use Rattle.tx_jobs.specs.TellingJobs.{TellingJobAnswers}
-use Rattle.tx_jobs.specs.TraceJobs.{TraceJobAnswers}
+use Rattle.tx_jobs.specs.TraceJobs.{TraceJobAnswers, TraceGroupJobAnswers}
 
--- 1 where some are cut off
-abbrev pub status_of_cuts : {X : Type 0} → List X → ℕ
-status_of_cuts [] = 0
-status_of_cuts (cut ∷ cuts) = 1
+-- an outage cuts somebody off, or the plan has no grade
+abbrev pub is_denied : {A : Type 0} → Survival A → Bool
+is_denied (Tried outcomes) = list_any (λ o. not (length o.cuts.items == 0)) outcomes.items
+is_denied (Ungraded grade) = true
 
 -- the exit status
 abbrev pub status_of_done : {A : Type 0} → Done A → ℕ
@@ -59,8 +62,8 @@ status_of_done (Ordered NoOrder) = 1
 status_of_done (Mended (IsMended plan before cert)) = 0
 status_of_done (Mended (NoRouting plan unserved pair)) = 1
 status_of_done (Graded grade) = if is_some grade.plan then 0 else 1
-status_of_done (Survived (Tried cuts)) = status_of_cuts cuts.items
-status_of_done (Survived (Ungraded grade)) = 1
+status_of_done (Survived survival) = if is_denied survival then 1 else 0
+status_of_done (Filled found) = 0
 status_of_done Written = 0
 
 -- what goes into the files: the texts of a plan, of a certificate and of a script, if there are any
@@ -125,9 +128,12 @@ module _ {P : Type 0} (rest : P → Option (List ℕ)) (failed : P → Bool)
         first second out) result × third.unread
     IsDone (Check plan cert limit spare) result =
         Does Verified (CheckJobAnswers limit spare first second out) result × third.unread
-    IsDone (Lint plan) result =
+    IsDone (Lint plan None) result =
         Does Linted (LintJobAnswers (string_bytes plan) first out) result
         × (failed new ≡ true → result ≡ Err Read) × Alone
+    IsDone (Lint plan (Some risks)) result =
+        Does Linted (LintRisksJobAnswers (string_bytes plan) first second out) result
+        × (failed new ≡ true → result ≡ Err Read) × third.unread
     IsDone (Codes plan) result = Does Listed (CodesJobAnswers first out) result × Alone
     IsDone (Audit plan limit spare cert counter) result =
         Does Audited (EvidenceJobAnswers (is_some counter) limit spare first out) result × Alone
@@ -138,14 +144,20 @@ module _ {P : Type 0} (rest : P → Option (List ℕ)) (failed : P → Bool)
         Does Ordered (OrderJobAnswers stage limit spare first second out) result × third.unread
     IsDone (Mend plan limit spare mended cert) result =
         Does Mended (MendJobAnswers limit spare first out) result × Alone
-    IsDone (Survive plan None) result = Does Survived (SurviveJobAnswers first out) result × Alone
-    IsDone (Survive plan (Some risks)) result =
-        Does Survived (SurviveRisksJobAnswers first second out) result × third.unread
+    IsDone (Survive plan None totals) result =
+        Does Survived (SurviveJobAnswers totals first out) result × Alone
+    IsDone (Survive plan (Some (risks, only)) totals) result =
+        Does Survived (SurviveRisksJobAnswers only totals first second out) result × third.unread
     IsDone (Grade plan) result = Does Graded (GradeJobAnswers first out) result × Alone
-    IsDone (Trace plan exchange code) result =
-        Does written (TraceJobAnswers (string_bytes exchange) (string_bytes code) first out) result
-        × Alone
+    IsDone (Trace plan exchange code down) result =
+        Does written (TraceJobAnswers (string_bytes exchange) (string_bytes code)
+        (option_map string_bytes down) first out) result × Alone
+    IsDone (TraceGroup plan group) result =
+        Does written (TraceGroupJobAnswers (string_bytes group) first out) result × Alone
+    IsDone (Fill plan exchange code down) result =
+        Does Filled (FillJobAnswers (string_bytes exchange) (string_bytes code)
+        (option_map string_bytes down) first out) result × Alone
     IsDone (Draw plan routes) result = HasDrawn first out routes result × Alone
-    IsDone (Explain word) result =
-        Does written (ToldText (explanation_text (option_map string_bytes word)) out) result
+    IsDone (Explain line) result =
+        Does written (ToldText (explanation_text (option_map string_bytes line)) out) result
         × first.unread × Alone

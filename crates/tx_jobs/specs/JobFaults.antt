@@ -23,11 +23,11 @@ use Rattle.tx_change.specs.declared.difference.NetworkList.{NetworkList}
 use Rattle.tx_change.specs.declared.difference.NetworkList.TheVariants.{Exchanges, Codes, Ranges, Groups}
 use Rattle.tx_change.specs.declared.difference.Difference.{Difference}
 use Rattle.tx_jobs.specs.declared.job_fault.JobFault.{JobFault}
-use Rattle.tx_jobs.specs.declared.job_fault.JobFault.TheVariants.{Plan, Cert, Script, Read, Write, NoMemory, OldPlan, NewPlan, TwoNetworks, Risks, NoSuchStage, NoSuchExchange, NoSuchCode}
+use Rattle.tx_jobs.specs.declared.job_fault.JobFault.TheVariants.{Plan, Cert, Script, Read, Write, NoMemory, OldPlan, NewPlan, TwoNetworks, Risks, NoSuchStage, NoSuchExchange, NoSuchCode, NoSuchGroup}
 
 -- 2 for a refused text and for plans of two networks, 3 for a read or a write fault, 4 when memory
--- runs out, 64 for an exchange or a code that the plan does not have, and for a stage that the order
--- does not have
+-- runs out, 64 for an exchange, a code or a group that the plan does not have, and for a stage that
+-- the order does not have
 abbrev pub status_of : JobFault → ℕ
 status_of (Plan f) = 2
 status_of (Cert f) = 2
@@ -42,6 +42,7 @@ status_of (Risks f) = 2
 status_of (NoSuchStage stages) = 64
 status_of NoSuchExchange = 64
 status_of NoSuchCode = 64
+status_of (NoSuchGroup place) = 64
 
 -- A failure to read and a lack of memory are reported as such.
 abbrev pub plan_fault_by : FaultAt PlanWord → FaultKind PlanWord → JobFault
@@ -157,3 +158,4 @@ fault_line (Risks f) = text_fault_line (codes "risks") f.line (risk_row f.kind)
 fault_line (NoSuchStage stages) = stage_count_line stages
 fault_line NoSuchExchange = codes "telexplan: no such exchange in the plan\n"
 fault_line NoSuchCode = codes "telexplan: no such code in the plan\n"
+fault_line (NoSuchGroup place) = codes "telexplan: no such group in the plan\n"

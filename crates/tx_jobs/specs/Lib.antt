@@ -8,7 +8,9 @@ pub mod ChangeJobs
 pub mod GradeJobs
 pub mod MendJobs
 pub mod LintJobs
+pub mod Asked
 pub mod TraceJobs
+pub mod FillJobs
 pub mod TellingJobs
 pub mod SurviveJobs
 pub mod Writables

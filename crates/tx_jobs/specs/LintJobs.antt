@@ -1,10 +1,15 @@
--- What `lint PLAN` answers.
-use Rattle.std.specs.Prelude.{◌≡◌, ◌⊎◌, ℕ, List, Result, Ok, Err}
+-- What `lint PLAN` and `lint PLAN --risks FILE` answer.
+use Rattle.std.specs.Prelude.{◌≡◌, ◌⊎◌, ℕ, List, [], ◌∷◌, Result, Ok, Err}
 use Rattle.std.specs.Io.KnownBytes.{append_known}
 use Rattle.tx_text.specs.Ends.{StopsIn, Input, Output}
 use Rattle.tx_lint.specs.declared.fault.LintFault.{LintFault}
 use Rattle.tx_lint.specs.declared.fault.LintFault.TheVariants.{Read as LintRead, NoMemory as LintNoMemory}
-use Rattle.tx_lint.specs.Lints.{Lint, IsLintOf, lint_text, lint_status, IsWholeText}
+use Rattle.tx_plan.specs.Plan.{Plan}
+use Rattle.tx_risk.specs.NamedRisks.{NamedRisk}
+use Rattle.tx_lint.specs.declared.entry.Entry.{Entry}
+use Rattle.tx_lint.specs.AllFaults.{Fault, Progress, faults_of, progress_of}
+use Rattle.tx_lint.specs.Lints.{Lint, Faults, AreWarningsOf, IsLintOf, lint_text, lint_status, IsWholeText}
+use Rattle.tx_jobs.specs.SurviveJobs.{RisksRead, RisksRefused}
 use Rattle.tx_jobs.specs.declared.job_fault.JobFault.{JobFault}
 use Rattle.tx_jobs.specs.declared.job_fault.JobFault.TheVariants.{Read, Write, NoMemory}
 
@@ -20,16 +25,18 @@ ToldLint file l out (Ok status) =
 ToldLint file l out (Err Write) = StopsIn out.old out.new (lint_text file l)
 ToldLint file l out (Err other) = ⊥
 
--- the text was looked through
-pub record Linted (text file : List ℕ) (out : Output) (result : Result ℕ JobFault) : Type 0 where
+-- the text was looked through, with these risks
+pub record Linted (text : List ℕ) (risks : List NamedRisk) (file : List ℕ) (out : Output)
+    (result : Result ℕ JobFault) : Type 0 where
   pub lint : Lint
-  pub is : IsLintOf text lint
+  pub is : IsLintOf text risks lint
   pub told : ToldLint file lint out result
 
 -- it was, or there was no memory for that, and nothing was written
-abbrev pub LintedInRoom : (text file : List ℕ) → Output → Result ℕ JobFault → Type 0
-LintedInRoom text file out result =
-    Linted text file out result ⊎ ((result ≡ Err NoMemory) × out.silent)
+abbrev pub LintedInRoom : (text : List ℕ) → List NamedRisk → (file : List ℕ) → Output
+    → Result ℕ JobFault → Type 0
+LintedInRoom text risks file out result =
+    Linted text risks file out result ⊎ ((result ≡ Err NoMemory) × out.silent)
 
 -- the text was read to its end, and then looked through
 pub record TextRead (plan : Input) (after : List ℕ → Type 0) : Type 0 where
@@ -47,4 +54,41 @@ NotRead plan out (Err other) = ⊥
 -- `lint PLAN`, by the words for the file of the plan
 abbrev pub LintJobAnswers : (file : List ℕ) → Input → Output → Result ℕ JobFault → Type 0
 LintJobAnswers file plan out result =
-    TextRead plan (λ text. LintedInRoom text file out result) ⊎ NotRead plan out result
+    TextRead plan (λ text. LintedInRoom text [] file out result) ⊎ NotRead plan out result
+
+-- the warnings of a plan with these entries, with these risks
+pub record Warned (text : Plan × List (ℕ × Entry)) (risks : List NamedRisk) (file : List ℕ)
+    (out : Output) (result : Result ℕ JobFault) : Type 0 where
+  pub lint : Lint
+  pub is : AreWarningsOf text.0 text.1 risks lint
+  pub told : ToldLint file lint out result
+
+-- the named risks of a plan were read, and its warnings written, unless there was no memory for
+-- them; or the risks were refused
+abbrev pub WarnedWithRisks : Plan × List (ℕ × Entry) → (file : List ℕ) → Input → Output
+    → Result ℕ JobFault → Type 0
+WarnedWithRisks text file risks out result =
+    RisksRead text.0 risks
+    (λ rs. Warned text rs file out result ⊎ ((result ≡ Err NoMemory) × out.silent))
+    ⊎ RisksRefused text.0 risks out.silent result
+
+-- a text with these faults, of which this was read, was looked through: only where it has none,
+-- the risks are read
+abbrev pub LookedThrough : List Fault → Progress → (file : List ℕ) → Input → Output
+    → Result ℕ JobFault → Type 0
+LookedThrough [] s file risks out result = WarnedWithRisks (s.plan, s.entries) file risks out result
+LookedThrough (f ∷ fs) s file risks out result =
+    ToldLint file (Faults (f ∷ fs)) out result × risks.unread
+
+-- it was, or there was no memory for that, and nothing was written
+abbrev pub LookedInRoom : (text file : List ℕ) → Input → Output → Result ℕ JobFault → Type 0
+LookedInRoom text file risks out result =
+    LookedThrough (faults_of text) (progress_of text) file risks out result
+    ⊎ ((result ≡ Err NoMemory) × out.silent × risks.unread)
+
+-- `lint PLAN --risks FILE`
+abbrev pub LintRisksJobAnswers : (file : List ℕ) → (plan risks : Input) → Output
+    → Result ℕ JobFault → Type 0
+LintRisksJobAnswers file plan risks out result =
+    TextRead plan (λ text. LookedInRoom text file risks out result)
+    ⊎ (NotRead plan out result × risks.unread)

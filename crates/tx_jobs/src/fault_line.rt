@@ -39,6 +39,7 @@ pub fn write_fault<W: Sink>(fault: &JobFault, sink: &mut W) -> Result<(), WriteF
             write_bytes(b"telexplan: no such exchange in the plan\n", sink)
         }
         JobFault::NoSuchCode => write_bytes(b"telexplan: no such code in the plan\n", sink),
+        JobFault::NoSuchGroup(_) => write_bytes(b"telexplan: no such group in the plan\n", sink),
     }
 }
 

@@ -6,7 +6,7 @@ ghost use Rattle.tx_commands.specs.Commands.{IsInRange};
 ghost use Rattle.tx_commands.specs.declared.command.Command.TheVariants.{Pipe};
 ghost use Rattle.tx_jobs.specs.JobFaults.{mark_after};
 ghost use Rattle.tx_jobs.specs.Done.{HasDrawn, IsDone};
-ghost use Rattle.tx_jobs.specs.inner.Texts.{has_more_texts};
+ghost use Rattle.tx_jobs.specs.inner.Texts.{no_text, runs_a_script, has_two_texts, may_have_risks, is_of_calls};
 
 use crate::audit_evidence::evidence_job;
 use crate::change_evidence::change_evidence_job;
@@ -14,9 +14,10 @@ use crate::check::check_job;
 use crate::codes::codes_job;
 use crate::done::Done;
 use crate::draw::draw_job;
+use crate::fill::fill_job;
 use crate::grade::grade_job;
 use crate::job_fault::JobFault;
-use crate::lint::lint_job;
+use crate::lint::{lint_job, lint_risks_job};
 use crate::mend::mend_job;
 use crate::order::order_job;
 use crate::pipe::pipe_job;
@@ -24,7 +25,7 @@ use crate::run::run_job;
 use crate::run_checked::run_checked_job;
 use crate::survive::{survive_job, survive_risks_job};
 use crate::telling::run_telling_job;
-use crate::trace::trace_job;
+use crate::trace::{trace_group_job, trace_job};
 use std::alloc::Allocator;
 use tx_commands::{Command, Files};
 use tx_explain::write_explanation;
@@ -56,16 +57,18 @@ pub fn do_job<A: Allocator + Copy, P: Source, Q: Source, R: Source, W: Sink>(
 {
     let files = Files::of(command);
     match command {
-        Command::Pipe
-        | Command::Run { .. }
-        | Command::RunTelling { .. }
-        | Command::Check { .. }
-        | Command::Change { .. }
-        | Command::Order { .. }
-        | Command::Survive { risks: Some(_), .. } => {
-            do_texts(alloc, command, first, second, third, out)
+        Command::Pipe | Command::Run { .. } | Command::RunTelling { .. } => {
+            do_run(alloc, command, first, second, third, out)
         }
-        Command::Lint { plan } => Ok(Done::Linted(lint_job(alloc, first, plan.as_bytes(), out)?)),
+        Command::Check { .. } | Command::Change { .. } | Command::Order { .. } => {
+            do_pair(alloc, command, first, second, out)
+        }
+        Command::Lint { .. } | Command::Survive { .. } => {
+            do_risks(alloc, command, first, second, out)
+        }
+        Command::Trace { .. } | Command::TraceGroup { .. } | Command::Fill { .. } => {
+            do_calls(alloc, command, first, out)
+        }
         Command::Codes { .. } => Ok(Done::Listed(codes_job(alloc, first, out)?)),
         Command::Audit { limit, spare, .. } => {
             let (limit, spare) = (*limit, *spare);
@@ -76,22 +79,17 @@ pub fn do_job<A: Allocator + Copy, P: Source, Q: Source, R: Source, W: Sink>(
             let (limit, spare) = (*limit, *spare);
             Ok(Done::Mended(mend_job(alloc, first, Limits { limit, spare }, out)?))
         }
-        Command::Survive { risks: None, .. } => Ok(Done::Survived(survive_job(alloc, first, out)?)),
         Command::Grade { .. } => Ok(Done::Graded(grade_job(alloc, first, out)?)),
-        Command::Trace { exchange, code, .. } => {
-            trace_job(alloc, first, exchange.as_bytes(), code.as_bytes(), out)?;
-            Ok(Done::Written)
-        }
         Command::Draw { routes, .. } => draw(alloc, routes, first, out),
-        Command::Explain { word } => {
-            write_explanation(word.as_deref(), out)?;
+        Command::Explain { line } => {
+            write_explanation(line.as_deref(), out)?;
             Ok(Done::Written)
         }
     }
 }
 
-/// Does the job of a command over more than one text.
-fn do_texts<A: Allocator + Copy, P: Source, Q: Source, R: Source, W: Sink>(
+/// Does the job of a command that runs a script.
+fn do_run<A: Allocator + Copy, P: Source, Q: Source, R: Source, W: Sink>(
     alloc: A,
     command: &Command,
     first: &mut P,
@@ -100,7 +98,7 @@ fn do_texts<A: Allocator + Copy, P: Source, Q: Source, R: Source, W: Sink>(
     out: &mut W,
 ) -> Result<Done<A>, JobFault>
     requires range { IsInRange command.now }
-    requires texts { has_more_texts command.now ≡ true }
+    requires script { runs_a_script command.now ≡ true }
     ensures done { IsDone P.rest P.failed P.called first.old first.new
         (input Q.rest Q.failed Q.called second.old second.new)
         (input R.rest R.failed R.called third.old third.new)
@@ -111,7 +109,6 @@ fn do_texts<A: Allocator + Copy, P: Source, Q: Source, R: Source, W: Sink>(
     ensures second_calls { CallsAtMost Q.called source_calls second.old second.new }
     ensures third_calls { CallsAtMost R.called source_calls third.old third.new }
 {
-    let files = Files::of(command);
     match command {
         Command::Pipe => Ok(Done::Ran(pipe_job(alloc, first, out)?)),
         Command::Run { checked: None, .. } => Ok(Done::Ran(run_job(alloc, first, second, out)?)),
@@ -135,6 +132,29 @@ fn do_texts<A: Allocator + Copy, P: Source, Q: Source, R: Source, W: Sink>(
             let summary = run_telling_job(alloc, telling, first, second, out)?;
             Ok(Done::Told(*strict, summary))
         }
+        _ => unreachable!(),
+    }
+}
+
+/// Does the job of a command over two texts: a plan and a certificate, or two plans.
+fn do_pair<A: Allocator + Copy, P: Source, Q: Source, W: Sink>(
+    alloc: A,
+    command: &Command,
+    first: &mut P,
+    second: &mut Q,
+    out: &mut W,
+) -> Result<Done<A>, JobFault>
+    requires range { IsInRange command.now }
+    requires texts { has_two_texts command.now ≡ true }
+    ensures done { IsDone P.rest P.failed P.called first.old first.new
+        (input Q.rest Q.failed Q.called second.old second.new) no_text
+        (output W.taken out.old out.new) command.now result }
+    ensures mark { W.failed out.new ≡ mark_after (W.failed out.old) result }
+    ensures first_calls { CallsAtMost P.called source_calls first.old first.new }
+    ensures second_calls { CallsAtMost Q.called source_calls second.old second.new }
+{
+    let files = Files::of(command);
+    match command {
         Command::Check { limit, spare, .. } => {
             Ok(Done::Verified(check_job(alloc, first, second, *limit, *spare, out)?))
         }
@@ -156,8 +176,89 @@ fn do_texts<A: Allocator + Copy, P: Source, Q: Source, R: Source, W: Sink>(
             let staged = order_job(alloc, first, second, limits, *stage, out)?;
             Ok(Done::Ordered(staged))
         }
-        Command::Survive { risks: Some(_), .. } => {
-            Ok(Done::Survived(survive_risks_job(alloc, first, second, out)?))
+        _ => unreachable!(),
+    }
+}
+
+/// Does the job of a command over a plan and its named risks, if they are asked for.
+fn do_risks<A: Allocator + Copy, P: Source, Q: Source, W: Sink>(
+    alloc: A,
+    command: &Command,
+    plan: &mut P,
+    risks: &mut Q,
+    out: &mut W,
+) -> Result<Done<A>, JobFault>
+    requires { may_have_risks command.now ≡ true }
+    ensures done { IsDone P.rest P.failed P.called plan.old plan.new
+        (input Q.rest Q.failed Q.called risks.old risks.new) no_text
+        (output W.taken out.old out.new) command.now result }
+    ensures mark { W.failed out.new ≡ mark_after (W.failed out.old) result }
+    ensures plan_calls { CallsAtMost P.called source_calls plan.old plan.new }
+    ensures risks_calls { CallsAtMost Q.called source_calls risks.old risks.new }
+{
+    match command {
+        Command::Lint {
+            plan: file,
+            risks: None,
+        } => Ok(Done::Linted(lint_job(alloc, plan, file.as_bytes(), out)?)),
+        Command::Lint {
+            plan: file,
+            risks: Some(_),
+        } => Ok(Done::Linted(lint_risks_job(alloc, plan, file.as_bytes(), risks, out)?)),
+        Command::Survive {
+            risks: Some((_, only)),
+            totals,
+            ..
+        } => {
+            let survival = survive_risks_job(alloc, plan, risks, *only, *totals, out)?;
+            Ok(Done::Survived(survival))
+        }
+        Command::Survive {
+            risks: None,
+            totals,
+            ..
+        } => Ok(Done::Survived(survive_job(alloc, plan, *totals, out)?)),
+        _ => unreachable!(),
+    }
+}
+
+/// Does the job of a command over calls of a plan: which ways they go, or how many there can be.
+fn do_calls<A: Allocator + Copy, P: Source, W: Sink>(
+    alloc: A,
+    command: &Command,
+    plan: &mut P,
+    out: &mut W,
+) -> Result<Done<A>, JobFault>
+    requires { is_of_calls command.now ≡ true }
+    ensures done { IsDone P.rest P.failed P.called plan.old plan.new no_text no_text
+        (output W.taken out.old out.new) command.now result }
+    ensures mark { W.failed out.new ≡ mark_after (W.failed out.old) result }
+    ensures calls { CallsAtMost P.called source_calls plan.old plan.new }
+{
+    match command {
+        Command::Trace {
+            exchange,
+            code,
+            down,
+            ..
+        } => {
+            let (exchange, code) = (exchange.as_bytes(), code.as_bytes());
+            trace_job(alloc, plan, exchange, code, down.as_deref(), out)?;
+            Ok(Done::Written)
+        }
+        Command::Fill {
+            exchange,
+            code,
+            down,
+            ..
+        } => {
+            let (exchange, code) = (exchange.as_bytes(), code.as_bytes());
+            let filled = fill_job(alloc, plan, exchange, code, down.as_deref(), out)?;
+            Ok(Done::Filled(filled))
+        }
+        Command::TraceGroup { group, .. } => {
+            trace_group_job(alloc, plan, group.as_bytes(), out)?;
+            Ok(Done::Written)
         }
         _ => unreachable!(),
     }

@@ -60,6 +60,9 @@ pub enum JobFault {
     /// The plan has no code of the figures that were asked for.
     #[error("the plan has no such code")]
     NoSuchCode,
+    /// The plan has no group of a name that was asked for: of this one, counted from 0.
+    #[error("the plan has no such group")]
+    NoSuchGroup(usize),
 }
 
 impl From<NoMemory> for JobFault {
@@ -226,8 +229,8 @@ impl From<LintFault> for JobFault {
 
 impl JobFault {
     /// The exit status: 2 for a refused text and for plans of two networks, 3 for a read or a write
-    /// fault, 4 when memory runs out, 64 for an exchange or a code that the plan does not have, and
-    /// for a stage that the order does not have.
+    /// fault, 4 when memory runs out, 64 for an exchange, a code or a group that the plan does not
+    /// have, and for a stage that the order does not have.
     pub fn status(&self) -> u8
         ensures { result ≡ status_of self.now }
     {
@@ -241,7 +244,10 @@ impl JobFault {
             | JobFault::Risks(_) => 2,
             JobFault::Read | JobFault::Write => 3,
             JobFault::NoMemory => 4,
-            JobFault::NoSuchStage(_) | JobFault::NoSuchExchange | JobFault::NoSuchCode => 64,
+            JobFault::NoSuchStage(_)
+            | JobFault::NoSuchExchange
+            | JobFault::NoSuchCode
+            | JobFault::NoSuchGroup(_) => 64,
         }
     }
 

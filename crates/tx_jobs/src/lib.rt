@@ -2,6 +2,7 @@
 #![tactic(auto)]
 
 mod ahead;
+mod asked;
 mod audit;
 mod audit_evidence;
 mod change;
@@ -13,6 +14,7 @@ mod done;
 mod draw;
 mod evidence;
 mod fault_line;
+mod fill;
 mod grade;
 mod held;
 mod job;
@@ -42,10 +44,11 @@ pub use done::Done;
 pub use draw::draw_job;
 pub use evidence::{CounterScript, Evidence};
 pub use fault_line::write_fault;
+pub use fill::fill_job;
 pub use grade::grade_job;
 pub use job::do_job;
 pub use job_fault::JobFault;
-pub use lint::lint_job;
+pub use lint::{lint_job, lint_risks_job};
 pub use mend::mend_job;
 pub use mixture::{ChangeEvidence, Mixture};
 pub use order::order_job;
@@ -54,4 +57,4 @@ pub use run::run_job;
 pub use run_checked::run_checked_job;
 pub use survive::{survive_job, survive_risks_job};
 pub use telling::run_telling_job;
-pub use trace::trace_job;
+pub use trace::{trace_group_job, trace_job};

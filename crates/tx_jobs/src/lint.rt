@@ -1,14 +1,15 @@
-// The job of `lint PLAN`.
-ghost use Rattle.std.specs.Prelude.{◌≡◌, true, Err};
+// The jobs of `lint PLAN` and `lint PLAN --risks FILE`.
+ghost use Rattle.std.specs.Prelude.{◌≡◌, [], true, Err};
 ghost use Rattle.tx_text.specs.Calls.{CallsAtMost, source_calls};
 ghost use Rattle.tx_lint.specs.Lints.{lint_held};
 ghost use Rattle.tx_jobs.specs.JobFaults.{mark_after};
 ghost use Rattle.tx_text.specs.Ends.{input, output};
-ghost use Rattle.tx_jobs.specs.LintJobs.{ToldLint, LintedInRoom, LintJobAnswers};
+ghost use Rattle.tx_jobs.specs.LintJobs.{ToldLint, LintedInRoom, LintJobAnswers, LintRisksJobAnswers, WarnedWithRisks};
 
 use crate::job_fault::JobFault;
 use std::alloc::Allocator;
-use tx_lint::{Lint, lint_plan, read_text, write_lint};
+use tx_lint::{Lint, Look, RightText, lint_plan, look_through, read_text, write_lint};
+use tx_risk::read_risks_from;
 use tx_text::{Sink, Source};
 
 /// Reads a plan's text to its end, and writes all its faults; or where it has none, the warnings of
@@ -33,6 +34,50 @@ pub fn lint_job<A: Allocator + Copy, P: Source, W: Sink>(
     lint_text(alloc, &text, file, out)
 }
 
+/// The same with the named risks of a second text, which is read where the plan's text has no
+/// faults.
+pub fn lint_risks_job<A: Allocator + Copy, P: Source, R: Source, W: Sink>(
+    alloc: A,
+    plan: &mut P,
+    file: &[u8],
+    risks: &mut R,
+    out: &mut W,
+) -> Result<u8, JobFault>
+    ensures answers { LintRisksJobAnswers file.now
+        (input P.rest P.failed P.called plan.old plan.new)
+        (input R.rest R.failed R.called risks.old risks.new) (output W.taken out.old out.new)
+        result }
+    ensures failed { P.failed plan.new ≡ true → result ≡ Err JobFault.Read }
+    ensures mark { W.failed out.new ≡ mark_after (W.failed out.old) result }
+    ensures plan_calls { CallsAtMost P.called source_calls plan.old plan.new }
+    ensures risks_calls { CallsAtMost R.called source_calls risks.old risks.new }
+{
+    let text = read_text(alloc, plan)?;
+    match look_through(alloc, &text)? {
+        Look::Faults(faults) => tell_lint(&Lint::Faults(faults), file, out),
+        Look::Right(right) => warn_with_risks(alloc, right, file, risks, out),
+    }
+}
+
+/// Reads the named risks of a plan, and writes its warnings.
+fn warn_with_risks<A: Allocator + Copy, R: Source, W: Sink>(
+    alloc: A,
+    right: RightText<A>,
+    file: &[u8],
+    risks: &mut R,
+    out: &mut W,
+) -> Result<u8, JobFault>
+    ensures answers { WarnedWithRisks right file.now
+        (input R.rest R.failed R.called risks.old risks.new) (output W.taken out.old out.new)
+        result }
+    ensures mark { W.failed out.new ≡ mark_after (W.failed out.old) result }
+    ensures calls { CallsAtMost R.called source_calls risks.old risks.new }
+{
+    let risks = read_risks_from(alloc, risks, right.plan())?;
+    let lint = right.warned(alloc, risks)?;
+    tell_lint(&lint, file, out)
+}
+
 /// Looks a text through, and writes its faults or warnings.
 fn lint_text<A: Allocator + Copy, W: Sink>(
     alloc: A,
@@ -40,7 +85,7 @@ fn lint_text<A: Allocator + Copy, W: Sink>(
     file: &[u8],
     out: &mut W,
 ) -> Result<u8, JobFault>
-    ensures linted { LintedInRoom text.now file.now (output W.taken out.old out.new) result }
+    ensures linted { LintedInRoom text.now [] file.now (output W.taken out.old out.new) result }
     ensures mark { W.failed out.new ≡ mark_after (W.failed out.old) result }
 {
     let lint = lint_plan(alloc, text)?;

@@ -1,5 +1,5 @@
 // The jobs of `survive PLAN` and `survive PLAN --risks FILE`.
-ghost use Rattle.std.specs.Prelude.{◌≡◌, []};
+ghost use Rattle.std.specs.Prelude.{◌≡◌, false, []};
 ghost use Rattle.tx_text.specs.Calls.{CallsAtMost, source_calls};
 ghost use Rattle.tx_risk.specs.NamedRisks.{AreRisksFor};
 ghost use Rattle.tx_jobs.specs.JobFaults.{mark_after};
@@ -15,34 +15,39 @@ use tx_risk_report::write_survival;
 use tx_text::{Sink, Source};
 
 /// Reads a plan, and writes whom each of its groups and each of its exchanges cuts off if it fails
-/// alone; or why the plan has no grade. Answers what was found.
+/// alone, or totals alone; or why the plan has no grade. Answers what was found.
 ///
 /// Nothing is written where the plan is refused or memory runs out.
 pub fn survive_job<A: Allocator + Copy, P: Source, W: Sink>(
     alloc: A,
     plan: &mut P,
+    totals: bool,
     out: &mut W,
 ) -> Result<Survival<A>, JobFault>
-    ensures answers { SurviveJobAnswers (input P.rest P.failed P.called plan.old plan.new)
+    ensures answers { SurviveJobAnswers totals (input P.rest P.failed P.called plan.old plan.new)
         (output W.taken out.old out.new) result }
     ensures mark { W.failed out.new ≡ mark_after (W.failed out.old) result }
     ensures calls { CallsAtMost P.called source_calls plan.old plan.new }
 {
     let plan = read_plan_from(alloc, plan)?;
-    tell_unnamed(alloc, &plan, out)
+    let risks = Risks::none(alloc);
+    tell_survival(alloc, &plan, &risks, false, totals, out)
 }
 
-/// Reads a plan and then a text of named risks, and writes whom each group, each exchange and each
-/// of these risks cuts off; or why the plan has no grade. Answers what was found.
+/// Reads a plan and then a text of named risks, and writes whom each of these risks, each group and
+/// each exchange cuts off, or each of these risks alone, or totals alone; or why the plan has no
+/// grade. Answers what was found.
 ///
 /// Nothing is written where one of the texts is refused or memory runs out.
 pub fn survive_risks_job<A: Allocator + Copy, P: Source, R: Source, W: Sink>(
     alloc: A,
     plan: &mut P,
     risks: &mut R,
+    only: bool,
+    totals: bool,
     out: &mut W,
 ) -> Result<Survival<A>, JobFault>
-    ensures answers { SurviveRisksJobAnswers
+    ensures answers { SurviveRisksJobAnswers only totals
         (input P.rest P.failed P.called plan.old plan.new)
         (input R.rest R.failed R.called risks.old risks.new)
         (output W.taken out.old out.new) result }
@@ -51,20 +56,7 @@ pub fn survive_risks_job<A: Allocator + Copy, P: Source, R: Source, W: Sink>(
     ensures risks_calls { CallsAtMost R.called source_calls risks.old risks.new }
 {
     let plan = read_plan_from(alloc, plan)?;
-    tell_named(alloc, &plan, risks, out)
-}
-
-/// Reports outages without named risks.
-fn tell_unnamed<A: Allocator + Copy, W: Sink>(
-    alloc: A,
-    plan: &Plan<A>,
-    out: &mut W,
-) -> Result<Survival<A>, JobFault>
-    ensures told { ToldSurvival plan.now [] (output W.taken out.old out.new) result }
-    ensures mark { W.failed out.new ≡ mark_after (W.failed out.old) result }
-{
-    let risks = Risks::none(alloc);
-    tell_survival(alloc, plan, &risks, out)
+    tell_named(alloc, &plan, risks, only, totals, out)
 }
 
 /// Reads the named risks of the plan, and reports outages with them.
@@ -72,29 +64,35 @@ fn tell_named<A: Allocator + Copy, R: Source, W: Sink>(
     alloc: A,
     plan: &Plan<A>,
     risks: &mut R,
+    only: bool,
+    totals: bool,
     out: &mut W,
 ) -> Result<Survival<A>, JobFault>
-    ensures answers { RisksAnswers plan.now (input R.rest R.failed R.called risks.old risks.new)
+    ensures answers { RisksAnswers only totals plan.now
+        (input R.rest R.failed R.called risks.old risks.new)
         (output W.taken out.old out.new) result }
     ensures mark { W.failed out.new ≡ mark_after (W.failed out.old) result }
     ensures calls { CallsAtMost R.called source_calls risks.old risks.new }
 {
     let risks = read_risks_from(alloc, risks, plan)?;
-    tell_survival(alloc, plan, &risks, out)
+    tell_survival(alloc, plan, &risks, only, totals, out)
 }
 
-/// Tries all outages, and writes the report.
+/// Tries the outages, and writes the report.
 fn tell_survival<A: Allocator + Copy, W: Sink>(
     alloc: A,
     plan: &Plan<A>,
     risks: &Risks<A>,
+    only: bool,
+    totals: bool,
     out: &mut W,
 ) -> Result<Survival<A>, JobFault>
     requires { AreRisksFor plan.now risks.now }
-    ensures told { ToldSurvival plan.now risks.now (output W.taken out.old out.new) result }
+    ensures told { ToldSurvival plan.now risks.now only totals
+        (output W.taken out.old out.new) result }
     ensures mark { W.failed out.new ≡ mark_after (W.failed out.old) result }
 {
-    let survival = survive(alloc, plan, risks)?;
-    write_survival(plan, risks, &survival, out)?;
+    let survival = survive(alloc, plan, risks, only)?;
+    write_survival(plan, risks, &survival, totals, out)?;
     Ok(survival)
 }

@@ -7,19 +7,19 @@ use Rattle.tx_text.specs.declared.sink.WriteFault.{WriteFault}
 use Rattle.tx_text.specs.Wrote.{WroteBy}
 use Rattle.tx_text.proofs.Wrote.{Outcome, texts_more, texts_stopped}
 
-cut : (a b c d e f g rest : List ℕ) → a ++ (b ++ (c ++ (d ++ (e ++ (f ++ (g ++ rest))))))
-    ≡ (a ++ (b ++ (c ++ (d ++ (e ++ (f ++ (g ++ []))))))) ++ rest
-cut a b c d e f g rest = simp (append_assoc, append-nil)
+cut : (a b c d e f rest : List ℕ) → a ++ (b ++ (c ++ (d ++ (e ++ (f ++ rest)))))
+    ≡ (a ++ (b ++ (c ++ (d ++ (e ++ (f ++ [])))))) ++ rest
+cut a b c d e f rest = simp (append_assoc, append-nil)
 
--- a line as far as the name of what is told
-abbrev pub told_front : (file line code name : List ℕ) → List ℕ
-told_front file line code name =
-    file ++ (codes ":" ++ (line ++ (codes ": " ++ (code ++ (codes " " ++ (name ++ []))))))
+-- a line from behind the file's name as far as the name of what is told
+abbrev pub told_front : (line code name : List ℕ) → List ℕ
+told_front line code name =
+    codes ":" ++ (line ++ (codes ": " ++ (code ++ (codes " " ++ (name ++ [])))))
 
-pub told_cut : (file line code name rest : List ℕ)
-    → file ++ (codes ":" ++ (line ++ (codes ": " ++ (code ++ (codes " " ++ (name ++ rest))))))
-    ≡ told_front file line code name ++ rest
-told_cut file line code name rest = cut file (codes ":") line (codes ": ") code (codes " ") name rest
+pub told_cut : (line code name rest : List ℕ)
+    → codes ":" ++ (line ++ (codes ": " ++ (code ++ (codes " " ++ (name ++ rest)))))
+    ≡ told_front line code name ++ rest
+told_cut line code name rest = cut (codes ":") line (codes ": ") code (codes " ") name rest
 
 -- The texts of a list, whose member at an index is read with a default.
 module _ {X : Type 0} (text : X → List ℕ) where

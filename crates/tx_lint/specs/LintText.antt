@@ -4,8 +4,10 @@ use Rattle.tx_text.specs.Rows.{Row}
 use Rattle.tx_plan.specs.Plan.{Plan, figures_of, group_name}
 use Rattle.tx_plantext.specs.PlanFaults.{fault_row}
 use Rattle.tx_lint.specs.declared.warning.Warning.{Warning}
-use Rattle.tx_lint.specs.declared.warning.Warning.TheVariants.{NothingToJudge, NoLines, UnusedGroup, UnusedList, NoList, UnusedBar}
+use Rattle.tx_lint.specs.declared.warning.Warning.TheVariants.{NothingToJudge, NoLines, UnusedGroup, UnusedList, NoList, UnusedBar, Ambiguous, SharedRisk, Unlisted}
+use Rattle.tx_risk.specs.NamedRisks.{NamedRisk, risk_name}
 use Rattle.tx_lint.specs.AllFaults.{Fault}
+use Rattle.tx_lint.specs.Escaped.{escaped}
 
 -- the codes and names of the warnings
 abbrev pub warning_row : Warning → Row
@@ -15,26 +17,33 @@ warning_row (UnusedGroup g) = (codes "A3", codes "UnusedGroup")
 warning_row UnusedList = (codes "A4", codes "UnusedList")
 warning_row (NoList c) = (codes "A5", codes "NoList")
 warning_row UnusedBar = (codes "A6", codes "UnusedBar")
+warning_row (Ambiguous c) = (codes "A7", codes "Ambiguous")
+warning_row (SharedRisk k) = (codes "A8", codes "SharedRisk")
+warning_row (Unlisted c) = (codes "A9", codes "Unlisted")
 
--- the code or the group that a warning speaks of. A list and a bar are known by their line.
-abbrev pub warning_word : Plan → Warning → Option (List ℕ)
-warning_word p NothingToJudge = None
-warning_word p (NoLines c) = Some (figures_of p c)
-warning_word p (UnusedGroup g) = Some (group_name p g)
-warning_word p UnusedList = None
-warning_word p (NoList c) = Some (figures_of p c)
-warning_word p UnusedBar = None
+-- the code, the group or the risk that a warning speaks of. A list and a bar are known by their
+-- line.
+abbrev pub warning_word : Plan → List NamedRisk → Warning → Option (List ℕ)
+warning_word p risks NothingToJudge = None
+warning_word p risks (NoLines c) = Some (figures_of p c)
+warning_word p risks (UnusedGroup g) = Some (group_name p g)
+warning_word p risks UnusedList = None
+warning_word p risks (NoList c) = Some (figures_of p c)
+warning_word p risks UnusedBar = None
+warning_word p risks (Ambiguous c) = Some (figures_of p c)
+warning_word p risks (SharedRisk k) = Some (risk_name risks k)
+warning_word p risks (Unlisted c) = Some (figures_of p c)
 
 -- a word with a space before it, if there is one
 abbrev pub word_text : Option (List ℕ) → List ℕ
 word_text None = []
 word_text (Some w) = codes " " ++ w
 
--- A line, as `PLAN.txt:5: P9 Unknown SOUTH`: the words for the file, the line, the code and the
--- name of what is reported, and a word
+-- A line, as `PLAN.txt:5: P9 Unknown SOUTH`: the name of the file, the line, the code and the name
+-- of what is reported, and a word
 abbrev pub told_line : (file : List ℕ) → (line : ℕ) → Row → Option (List ℕ) → List ℕ
 told_line file line row word =
-    file ++ (codes ":" ++ (decimal line ++ (codes ": "
+    escaped file ++ (codes ":" ++ (decimal line ++ (codes ": "
     ++ (row.0 ++ (codes " " ++ (row.1 ++ (word_text word ++ codes "\n")))))))
 
 -- the line of a fault
@@ -42,5 +51,5 @@ abbrev pub fault_line : (file : List ℕ) → Fault → List ℕ
 fault_line file f = told_line file f.line (fault_row f.kind) f.word
 
 -- the line of a warning
-abbrev pub warning_line : (file : List ℕ) → Plan → ℕ × Warning → List ℕ
-warning_line file p w = told_line file w.0 (warning_row w.1) (warning_word p w.1)
+abbrev pub warning_line : (file : List ℕ) → Plan → List NamedRisk → ℕ × Warning → List ℕ
+warning_line file p risks w = told_line file w.0 (warning_row w.1) (warning_word p risks w.1)

@@ -5,6 +5,7 @@
 
 mod at_fault;
 mod entry;
+mod escaped;
 mod fault;
 mod law;
 mod lines;
@@ -16,9 +17,10 @@ mod warning;
 mod warnings;
 mod word_tests;
 
+pub use escaped::write_escaped;
 pub use fault::{Fault, LintFault};
 pub use law::faults_agree_with_reader;
 pub use lint_text::write_lint;
-pub use linting::{Lint, lint_plan};
+pub use linting::{Lint, Look, RightText, lint_plan, look_through};
 pub use reading::read_text;
 pub use warning::Warning;

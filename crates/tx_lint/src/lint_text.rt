@@ -5,6 +5,7 @@ ghost use Rattle.tx_text.specs.Wrote.{Wrote};
 ghost use Rattle.tx_lint.specs.LintText.{word_text, told_line, fault_line, warning_word, warning_line};
 ghost use Rattle.tx_lint.specs.Lints.{fault_held, lint_held, lint_text};
 
+use crate::escaped::write_escaped;
 use crate::fault::Fault;
 use crate::linting::Lint;
 use crate::warning::Warning;
@@ -12,10 +13,11 @@ use itoa::Buffer;
 use std::alloc::Allocator;
 use tx_plan::Plan;
 use tx_plantext::code_and_name;
+use tx_risk::Risks;
 use tx_text::{Sink, WriteFault, write_parts};
 
-/// Writes a line for each fault or each warning, as `PLAN.txt:5: P9 Unknown SOUTH`, with the words
-/// for the file of the text.
+/// Writes a line for each fault or each warning, as `PLAN.txt:5: P9 Unknown SOUTH`, with the name
+/// of the file of the text.
 pub fn write_lint<A: Allocator, W: Sink>(
     lint: &Lint<'_, A>,
     file: &[u8],
@@ -26,7 +28,7 @@ pub fn write_lint<A: Allocator, W: Sink>(
 {
     match lint {
         Lint::Faults(faults) => write_faults(faults, file, sink),
-        Lint::Warnings(plan, warnings) => write_warnings(plan, warnings, file, sink),
+        Lint::Warnings(plan, risks, warnings) => write_warnings(plan, risks, warnings, file, sink),
     }
 }
 
@@ -55,40 +57,50 @@ fn write_fault<W: Sink>(fault: Fault<'_>, file: &[u8], sink: &mut W) -> Result<(
 
 fn write_warnings<A: Allocator, W: Sink>(
     plan: &Plan<A>,
+    risks: &Risks<A>,
     warnings: &[(u64, Warning)],
     file: &[u8],
     sink: &mut W,
 ) -> Result<(), WriteFault>
     ensures { Wrote W.taken W.failed sink.old sink.new
-        (flat_map (warning_line file.now plan.now) warnings.now) result }
+        (flat_map (warning_line file.now plan.now risks.now) warnings.now) result }
 {
     for i in 0..warnings.len() {
-        write_warning(plan, warnings[i], file, sink)?;
+        write_warning(plan, risks, warnings[i], file, sink)?;
     }
     Ok(())
 }
 
 fn write_warning<A: Allocator, W: Sink>(
     plan: &Plan<A>,
+    risks: &Risks<A>,
     warning: (u64, Warning),
     file: &[u8],
     sink: &mut W,
 ) -> Result<(), WriteFault>
     ensures { Wrote W.taken W.failed sink.old sink.new
-        (warning_line file.now plan.now warning) result }
+        (warning_line file.now plan.now risks.now warning) result }
 {
     let (line, warning) = warning;
-    let word = warning_word(plan, warning);
+    let word = warning_word(plan, risks, warning);
     write_line(file, line, warning.code_and_name(), word, sink)
 }
 
-/// The code or the group that a warning speaks of.
-fn warning_word<A: Allocator>(plan: &Plan<A>, warning: Warning) -> Option<&[u8]>
-    ensures { option_map (λ w. w.now) result ≡ warning_word plan.now warning }
+/// The code, the group or the risk that a warning speaks of.
+fn warning_word<'a, A: Allocator>(
+    plan: &'a Plan<A>,
+    risks: &'a Risks<A>,
+    warning: Warning,
+) -> Option<&'a [u8]>
+    ensures { option_map (λ w. w.now) result ≡ warning_word plan.now risks.now warning }
 {
     match warning {
-        Warning::NoLines(code) | Warning::NoList(code) => Some(plan.code_figures(code)),
+        Warning::NoLines(code)
+        | Warning::NoList(code)
+        | Warning::Ambiguous(code)
+        | Warning::Unlisted(code) => Some(plan.code_figures(code)),
         Warning::UnusedGroup(group) => Some(plan.group_name(group)),
+        Warning::SharedRisk(index) => Some(risks.name(index)),
         Warning::NothingToJudge | Warning::UnusedList | Warning::UnusedBar => None,
     }
 }
@@ -107,7 +119,8 @@ fn write_line<'a, W: Sink>(
 {
     let mut number = Buffer::new();
     let line = number.format(line).as_bytes();
-    write_parts(&[file, b":", line, b": ", row.0, b" ", row.1], sink)?;
+    write_escaped(file, sink)?;
+    write_parts(&[b":", line, b": ", row.0, b" ", row.1], sink)?;
     write_end(word, sink)
 }
 

@@ -19,6 +19,12 @@ pub enum Warning {
     NoList(CodeId),
     /// A6: no call can start where the bar is.
     UnusedBar,
+    /// A7: this shorter code begins the code.
+    Ambiguous(CodeId),
+    /// A8: all groups of the list go with the named risk at this index.
+    SharedRisk(usize),
+    /// A9: no exchange has a list for the code.
+    Unlisted(CodeId),
 }
 
 impl Warning {
@@ -33,6 +39,9 @@ impl Warning {
             Warning::UnusedList => (b"A4", b"UnusedList"),
             Warning::NoList(_) => (b"A5", b"NoList"),
             Warning::UnusedBar => (b"A6", b"UnusedBar"),
+            Warning::Ambiguous(_) => (b"A7", b"Ambiguous"),
+            Warning::SharedRisk(_) => (b"A8", b"SharedRisk"),
+            Warning::Unlisted(_) => (b"A9", b"Unlisted"),
         }
     }
 }

@@ -1,33 +1,37 @@
 // The warnings of a plan.
-ghost use Rattle.std.specs.Prelude.{◌≡◌, ◌++◌, map, length, IfOk, OnOk};
+ghost use Rattle.std.specs.Prelude.{◌≡◌, ◌++◌, map, length, slice_get, [], IfOk, OnOk};
 ghost use Rattle.std.specs.List.{flat_map, range_with_len};
+ghost use Rattle.std.specs.Option.{option_map_or};
+ghost use Rattle.tx_plan.specs.Codes.{is_prefix};
 ghost use Rattle.tx_plan.specs.Routes.{is_origin};
-ghost use Rattle.tx_lint.specs.declared.warning.Warning.TheVariants.{NoList};
-ghost use Rattle.tx_lint.specs.Warnings.{Coming, TellsWhereCallsCome, has_lines, wants_list, warned_if, entry_warnings, warnings};
+ghost use Rattle.tx_lint.specs.declared.warning.Warning.TheVariants.{NoList, Ambiguous, SharedRisk};
+ghost use Rattle.tx_lint.specs.Warnings.{Coming, TellsWhereCallsCome, has_lines, wants_list, begins, is_unlisted, lie_in, warned_if, code_warnings, list_warnings, entry_warnings, warnings};
 ghost use Rattle.tx_lint.specs.inner.Marks.{coming_of, AreMarksOf};
 
 use crate::entry::Entry;
 use crate::marks::Marks;
 use crate::warning::Warning;
 use std::alloc::Allocator;
-use tx_plan::{CodeId, ExchangeId, Plan};
+use tx_plan::{CodeId, ExchangeId, GroupId, Plan};
+use tx_risk::{Outage, Risks, goes_with};
 use tx_text::NoMemory;
 
-/// The warnings of a plan, in order of its entries, which are given with the numbers of their
-/// lines.
+/// The warnings of a plan with these risks, in order of its entries, which are given with the
+/// numbers of their lines.
 pub(crate) fn warnings_of<A: Allocator + Copy>(
     alloc: A,
     plan: &Plan<A>,
     entries: &[(u64, Entry)],
+    risks: &Risks<A>,
 ) -> Result<Vec<(u64, Warning), A>, NoMemory>
     ensures { IfOk result (λ found. (comes : Coming) × TellsWhereCallsCome plan.now comes
-        × (found.items ≡ warnings plan.now comes entries.now)) }
+        × (found.items ≡ warnings plan.now risks.now comes entries.now)) }
 {
     let marks = Marks::of(alloc, plan)?;
     let mut found = Vec::new(alloc);
     for i in 0..entries.len() {
         let (line, entry) = entries[i];
-        add_warnings(plan, &marks, line, entry, &mut found)?;
+        add_warnings(plan, risks, &marks, line, entry, &mut found)?;
     }
     Ok(found)
 }
@@ -35,6 +39,7 @@ pub(crate) fn warnings_of<A: Allocator + Copy>(
 /// Adds the warnings of an entry.
 fn add_warnings<A: Allocator>(
     plan: &Plan<A>,
+    risks: &Risks<A>,
     marks: &Marks<A>,
     line: u64,
     entry: Entry,
@@ -42,7 +47,7 @@ fn add_warnings<A: Allocator>(
 ) -> Result<(), NoMemory>
     requires { AreMarksOf plan.now marks.now }
     ensures { OnOk result (found.new.items ≡ found.old.items
-        ++ map (λ w. (line, w)) (entry_warnings plan.now (coming_of marks.now) entry)) }
+        ++ map (λ w. (line, w)) (entry_warnings plan.now risks.now (coming_of marks.now) entry)) }
 {
     match entry {
         Entry::Header => add_if(plan.ranges() == 0, line, Warning::NothingToJudge, found),
@@ -50,19 +55,13 @@ fn add_warnings<A: Allocator>(
             let origin = marks.is_origin(exchange);
             add_missing_lists(plan, exchange, origin, line, found)
         }
-        Entry::Code(code) => add_if(!has_lines(plan, code), line, Warning::NoLines(code), found),
+        Entry::Code(code) => add_code(plan, code, line, found),
         Entry::Lines(_) => Ok(()),
         Entry::Group(group) => {
             let unused = !marks.is_listed(group);
             add_if(unused, line, Warning::UnusedGroup(group), found)
         }
-        Entry::Route(index) => match plan.route_at(index) {
-            Some((exchange, code)) => {
-                let unused = !marks.comes(code, exchange);
-                add_if(unused, line, Warning::UnusedList, found)
-            }
-            None => Ok(()),
-        },
+        Entry::Route(index) => add_list(plan, risks, marks, index, line, found),
         Entry::Bar(index) => match plan.bar_at(index) {
             Some((exchange, _)) => {
                 let unused = !marks.is_origin(exchange);
@@ -71,6 +70,47 @@ fn add_warnings<A: Allocator>(
             None => Ok(()),
         },
     }
+}
+
+/// Adds the warnings of a code.
+fn add_code<A: Allocator>(
+    plan: &Plan<A>,
+    code: CodeId,
+    line: u64,
+    found: &mut Vec<(u64, Warning), A>,
+) -> Result<(), NoMemory>
+    ensures { OnOk result (found.new.items
+        ≡ found.old.items ++ map (λ w. (line, w)) (code_warnings plan.now code)) }
+{
+    add_if(!has_lines(plan, code), line, Warning::NoLines(code), found)?;
+    add_ambiguous(plan, code, line, found)?;
+    add_if(
+        is_unlisted(plan, code),
+        line,
+        Warning::Unlisted(code),
+        found,
+    )
+}
+
+/// Adds the warnings of the list at an index.
+fn add_list<A: Allocator>(
+    plan: &Plan<A>,
+    risks: &Risks<A>,
+    marks: &Marks<A>,
+    index: usize,
+    line: u64,
+    found: &mut Vec<(u64, Warning), A>,
+) -> Result<(), NoMemory>
+    ensures { OnOk result (found.new.items ≡ found.old.items ++ map (λ w. (line, w))
+        (option_map_or (list_warnings plan.now risks.now (coming_of marks.now))
+        (slice_get plan.now.routes index) [])) }
+{
+    let Some((exchange, code)) = plan.route_at(index) else {
+        return Ok(());
+    };
+    let unused = !marks.comes(code, exchange);
+    add_if(unused, line, Warning::UnusedList, found)?;
+    add_shared_risks(plan, risks, plan.list(exchange, code), line, found)
 }
 
 /// Adds a warning, if there is reason for it.
@@ -142,4 +182,85 @@ fn wants_list<A: Allocator>(
         && !plan.is_barred(exchange, code)
         && plan.home(code) != exchange
         && plan.list(exchange, code).is_empty()
+}
+
+/// Adds a warning for each shorter code that begins the code.
+fn add_ambiguous<A: Allocator>(
+    plan: &Plan<A>,
+    code: CodeId,
+    line: u64,
+    found: &mut Vec<(u64, Warning), A>,
+) -> Result<(), NoMemory>
+    ensures { OnOk result (found.new.items ≡ found.old.items ++ map (λ w. (line, w))
+        (flat_map (λ d. warned_if (begins plan.now d code) (Ambiguous d))
+        (range_with_len 0 (length plan.now.codes)))) }
+{
+    for index in 0..plan.codes() {
+        let shorter = CodeId::of(index);
+        let begun = begins(plan, shorter, code);
+        add_if(begun, line, Warning::Ambiguous(shorter), found)?;
+    }
+    Ok(())
+}
+
+/// Whether the first code is shorter than the second, and begins it.
+fn begins<A: Allocator>(plan: &Plan<A>, shorter: CodeId, code: CodeId) -> bool
+    ensures { result ≡ begins plan.now shorter code }
+{
+    let front = plan.code_figures(shorter);
+    let figures = plan.code_figures(code);
+    is_prefix(front, figures) && front.len() < figures.len()
+}
+
+/// Whether the one text begins the other.
+fn is_prefix(front: &[u8], text: &[u8]) -> bool
+    ensures { result ≡ is_prefix front.now text.now }
+{
+    text.starts_with(front)
+}
+
+/// Whether no exchange has a list for the code, and its home is not the only exchange.
+fn is_unlisted<A: Allocator>(plan: &Plan<A>, code: CodeId) -> bool
+    ensures { result ≡ is_unlisted plan.now code }
+{
+    for index in 0..plan.routes() {
+        match plan.route_at(index) {
+            Some(pair) => {
+                if pair.1 == code {
+                    return false;
+                }
+            }
+            None => unreachable!(),
+        }
+    }
+    plan.exchanges() > 1
+}
+
+/// Adds a warning for each risk with which all these groups go.
+fn add_shared_risks<A: Allocator>(
+    plan: &Plan<A>,
+    risks: &Risks<A>,
+    groups: &[GroupId],
+    line: u64,
+    found: &mut Vec<(u64, Warning), A>,
+) -> Result<(), NoMemory>
+    ensures { OnOk result (found.new.items ≡ found.old.items ++ map (λ w. (line, w))
+        (flat_map (λ k. warned_if (lie_in plan.now risks.now k groups.now) (SharedRisk k))
+        (range_with_len 0 (length risks.now)))) }
+{
+    for index in 0..risks.len() {
+        let shared = lie_in(plan, risks, index, groups);
+        add_if(shared, line, Warning::SharedRisk(index), found)?;
+    }
+    Ok(())
+}
+
+/// Whether all these groups go with the risk at an index.
+fn lie_in<A: Allocator>(plan: &Plan<A>, risks: &Risks<A>, index: usize, groups: &[GroupId]) -> bool
+    ensures { result ≡ lie_in plan.now risks.now index groups.now }
+{
+    let risk = Outage::Named(index);
+    groups
+        .iter()
+        .all(|group| goes_with(plan, risks, &risk, *group))
 }

@@ -3,8 +3,8 @@
 //! switched, with calls up.
 //!
 //! `order` finds one wherever both plans can be certified. Else it answers what is wrong with each
-//! of them. An `Order` gives the plan before each stage, and a certificate of each stage.
-//! `write_switching` writes what was found. `tell_order` does all of this for one stage.
+//! of them. `write_switching` writes what was found. `tell_order` is both, and gives the plan after
+//! a stage with a certificate of the stage.
 #![tactic(auto)]
 
 mod between;

@@ -70,7 +70,7 @@ impl<A: Allocator> Order<A> {
     }
 
     /// How many stages there are.
-    pub fn stages(&self) -> usize
+    pub(crate) fn stages(&self) -> usize
         ensures { result ≡ stages_in self.now }
     {
         most(&self.ends)

@@ -1,4 +1,4 @@
-// The stages of an order: the plans before them, and their certificates.
+// The certificates of the stages of an order.
 ghost use Rattle.std.specs.Prelude.{◌≡◌, ◌≢◌, ◌+◌, ◌<◌, ℕ, length, None, IfOk};
 ghost use Rattle.tx_plan.specs.Rules.{IsPlan};
 ghost use Rattle.tx_plan.specs.Mixed.{rerouted};
@@ -11,7 +11,6 @@ ghost use Rattle.tx_order.specs.Ordered.{fronts_before, plan_before, stages_in};
 ghost use Rattle.tx_order.specs.Transitions.{plan_front};
 
 use crate::between::rank_between;
-use crate::lists::lists_before;
 use crate::orders::Order;
 use crate::transition::Transition;
 use std::alloc::Allocator;
@@ -64,7 +63,7 @@ fn certify<A: Allocator + Copy>(
 impl<A: Allocator + Copy> Order<A> {
     /// A certificate for the plan before a stage, from 0, the plan after it, and all mixtures of
     /// both. `Err` means out of memory.
-    pub fn cert(&self, alloc: A, stage: usize) -> Result<Cert<A>, NoMemory>
+    pub(crate) fn cert(&self, alloc: A, stage: usize) -> Result<Cert<A>, NoMemory>
         requires { stage < stages_in self.now }
         ensures common { IfOk result (λ cert. AreCommon (plan_before self.now stage)
             (plan_before self.now (stage + 1)) (ranks_of cert)
@@ -80,16 +79,6 @@ impl<A: Allocator + Copy> Order<A> {
         }
         cert.rules();
         Ok(cert)
-    }
-
-    /// The plan before a stage, from 0. After the last stage it is the new plan. `Err` means out of
-    /// memory.
-    pub fn into_plan(self, alloc: A, stage: usize) -> Result<Plan<A>, NoMemory>
-        ensures { IfOk result (λ p. p ≡ plan_before self stage) }
-    {
-        self.rules();
-        let lists = lists_before(alloc, &self, stage)?;
-        Ok(self.with_lists(lists))
     }
 
     /// The old plan with other lists.

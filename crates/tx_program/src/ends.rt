@@ -16,6 +16,20 @@ const ROOM: usize = 65_536;
 struct Steady<W: Write + Drop> {
     writer: W,
     failed: bool,
+    /// Why it failed, until that is taken out.
+    failure: Option<io::Error>,
+}
+
+impl<W: Write + Drop> Steady<W> {
+    /// Keeps the error of a call, unless it was interrupted, and answers one of its kind.
+    fn keep(&mut self, error: io::Error) -> io::Error {
+        let kind = error.kind();
+        if kind != io::ErrorKind::Interrupted {
+            self.failed = true;
+            self.failure = Some(error);
+        }
+        io::Error::from(kind)
+    }
 }
 
 impl<W: Write + Drop> Write for Steady<W> {
@@ -23,31 +37,33 @@ impl<W: Write + Drop> Write for Steady<W> {
         if self.failed {
             return Err(io::Error::from(io::ErrorKind::Other));
         }
-        let written = self.writer.write(bytes);
-        self.failed = match &written {
-            Ok(n) => *n == 0,
-            Err(e) => e.kind() != io::ErrorKind::Interrupted,
-        };
-        written
+        match self.writer.write(bytes) {
+            Ok(0) => Err(self.keep(io::Error::from(io::ErrorKind::WriteZero))),
+            Ok(n) => Ok(n),
+            Err(e) => Err(self.keep(e)),
+        }
     }
 
     fn flush(&mut self) -> io::Result<()> {
         if self.failed {
             return Err(io::Error::from(io::ErrorKind::Other));
         }
-        let flushed = self.writer.flush();
-        self.failed = match &flushed {
-            Ok(()) => false,
-            Err(e) => e.kind() != io::ErrorKind::Interrupted,
-        };
-        flushed
+        match self.writer.flush() {
+            Ok(()) => Ok(()),
+            Err(e) => Err(self.keep(e)),
+        }
     }
 }
+
+/// A read that failed: which of the inputs, from 0, and what the system said.
+pub(crate) type FailedRead = (usize, io::Error);
 
 /// An output, which a sink writes to and a source lets out.
 #[derive(Drop)]
 pub(crate) struct Output<W: Write + Drop, A: Allocator> {
     writer: RefCell<BufWriter<Steady<W>, A>>,
+    /// The first read that failed of a source over it.
+    failed_read: RefCell<Option<FailedRead>>,
 }
 
 impl<W: Write + Drop, A: Allocator> Output<W, A> {
@@ -55,11 +71,41 @@ impl<W: Write + Drop, A: Allocator> Output<W, A> {
         let steady = Steady {
             writer,
             failed: false,
+            failure: None,
         };
         let writer = BufWriter::with_capacity(alloc, ROOM, steady).or(Err(JobFault::NoMemory))?;
         Ok(Output {
             writer: RefCell::new(writer),
+            failed_read: RefCell::new(None),
         })
+    }
+
+    /// Takes out why it failed, if it has.
+    pub(crate) fn take_failure(&self) -> Option<io::Error> {
+        match self.writer.try_borrow_mut() {
+            Ok(mut writer) => writer.get_mut().failure.take(),
+            Err(_) => None,
+        }
+    }
+
+    /// Takes out the first read that failed of a source over it.
+    pub(crate) fn take_failed_read(&self) -> Option<FailedRead> {
+        match self.failed_read.try_borrow_mut() {
+            Ok(mut failed) => failed.take(),
+            Err(_) => None,
+        }
+    }
+
+    /// Keeps why a read of an input failed, if it is the first one, and answers an error of its
+    /// kind.
+    fn keep_failed_read(&self, index: usize, error: io::Error) -> io::Error {
+        let kind = error.kind();
+        if let Ok(mut failed) = self.failed_read.try_borrow_mut() {
+            if failed.is_none() {
+                *failed = Some((index, error));
+            }
+        }
+        io::Error::from(kind)
     }
 
     /// Lets out what was written.
@@ -81,12 +127,13 @@ impl<W: Write + Drop, A: Allocator> Output<W, A> {
         }
     }
 
-    /// A source over a reader, before each of whose reads the output goes out. An output that fails
-    /// then is a failure of the source too: the program reports it as the output's. Without a
-    /// reader the source has no bytes.
+    /// A source over one of the inputs, before each of whose reads the output goes out. An output
+    /// that fails then is a failure of the source too: the program reports it as the output's.
+    /// Without a reader the source has no bytes.
     pub(crate) fn source<R: Read + Drop>(
         &self,
         alloc: A,
+        index: usize,
         reader: Option<R>,
     ) -> Result<FromRead<Flushing<'_, R, W, A>>, JobFault> {
         let reader = match reader {
@@ -98,6 +145,7 @@ impl<W: Write + Drop, A: Allocator> Output<W, A> {
         };
         Ok(FromRead::new(Flushing {
             reader,
+            index,
             output: self,
         }))
     }
@@ -138,6 +186,8 @@ impl<'a, W: Write + Drop, A: Allocator> Sink for OutputSink<'a, W, A> {
 #[derive(Drop)]
 pub(crate) struct Flushing<'a, R: Read + Drop, W: Write + Drop, A: Allocator> {
     reader: Option<BufReader<R, A>>,
+    /// Which of the inputs it is.
+    index: usize,
     output: &'a Output<W, A>,
 }
 
@@ -148,7 +198,10 @@ impl<'a, R: Read + Drop, W: Write + Drop, A: Allocator> Read for Flushing<'a, R,
                 if reader.buffer().is_empty() {
                     self.output.flush()?;
                 }
-                reader.read(buf)
+                match reader.read(buf) {
+                    Ok(n) => Ok(n),
+                    Err(e) => Err(self.output.keep_failed_read(self.index, e)),
+                }
             }
             None => Ok(0),
         }

@@ -1,5 +1,6 @@
 // What a command reads.
 use crate::folder::Folder;
+use crate::stop::Stop;
 use std::io;
 use std::io::Read;
 use tx_commands::STANDARD_INPUT;
@@ -31,11 +32,11 @@ pub(crate) struct Inputs<I: Read + Drop, R: Read + Drop> {
 
 impl<I: Read + Drop, R: Read + Drop> Inputs<I, R> {
     /// Opens the files of these names, the first one first.
-    pub(crate) fn open<F: Folder<Input = R>>(
-        names: [Option<&str>; 3],
+    pub(crate) fn open<'n, F: Folder<Input = R>>(
+        names: [Option<&'n str>; 3],
         folder: &F,
         standard: I,
-    ) -> Result<Inputs<I, R>, JobFault> {
+    ) -> Result<Inputs<I, R>, Stop<'n>> {
         let mut standard = Some(standard);
         Ok(Inputs {
             first: open(names[0], folder, &mut standard)?,
@@ -46,19 +47,19 @@ impl<I: Read + Drop, R: Read + Drop> Inputs<I, R> {
 }
 
 /// Opens a file, or takes standard input where `-` is named, which can be read once.
-fn open<F: Folder, I: Read + Drop>(
-    name: Option<&str>,
+fn open<'n, F: Folder, I: Read + Drop>(
+    name: Option<&'n str>,
     folder: &F,
     standard: &mut Option<I>,
-) -> Result<Option<Input<I, F::Input>>, JobFault> {
+) -> Result<Option<Input<I, F::Input>>, Stop<'n>> {
     match name {
         Some(STANDARD_INPUT) => match standard.take() {
             Some(input) => Ok(Some(Input::Standard(input))),
-            None => Err(JobFault::Read),
+            None => Err(Stop::Job(JobFault::Read)),
         },
         Some(name) => match folder.open(name) {
             Ok(file) => Ok(Some(Input::File(file))),
-            Err(_) => Err(JobFault::Read),
+            Err(error) => Err(Stop::Read(name, error)),
         },
         None => Ok(None),
     }

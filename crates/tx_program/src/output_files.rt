@@ -29,31 +29,41 @@ pub(crate) fn write_files<'n, A: Allocator + Copy, F: Folder, O: Write + Drop>(
 }
 
 /// Once the report is out, makes the file of this name: whole, or not at all.
-fn write_file<A: Allocator + Copy, F: Folder, O: Write + Drop>(
+fn write_file<'n, A: Allocator + Copy, F: Folder, O: Write + Drop>(
     alloc: A,
     content: Content<'_, A>,
-    target: Target<'_>,
+    target: Target<'n>,
     folder: &F,
     report: &Output<O, A>,
-) -> Result<(), JobFault> {
+) -> Result<(), Stop<'n>> {
     report.let_out()?;
     let mut file = NewFile::new(folder, target);
-    match write_to(alloc, content, &mut file) {
-        Ok(()) => file.finish().or(Err(JobFault::Write)),
-        Err(fault) => {
+    match write_to(alloc, content, target.name(), &mut file) {
+        Ok(()) => match file.finish() {
+            Ok(()) => Ok(()),
+            Err(error) => Err(Stop::Write(target.name(), error)),
+        },
+        Err(stop) => {
             file.give_up();
-            Err(fault)
+            Err(stop)
         }
     }
 }
 
 /// Writes what a file holds, once there is room for its output.
-fn write_to<A: Allocator + Copy, W: Write + Drop>(
+fn write_to<'n, A: Allocator + Copy, W: Write + Drop>(
     alloc: A,
     content: Content<'_, A>,
+    name: &'n str,
     file: W,
-) -> Result<(), JobFault> {
+) -> Result<(), Stop<'n>> {
     let output = Output::new(alloc, file)?;
     let written = write_content(content, &mut output.sink());
-    output.let_out().and(written.or(Err(JobFault::Write)))
+    if output.let_out().is_ok() && written.is_ok() {
+        return Ok(());
+    }
+    match output.take_failure() {
+        Some(error) => Err(Stop::Write(name, error)),
+        None => Err(Stop::Job(JobFault::Write)),
+    }
 }

@@ -4,17 +4,18 @@ ghost use Rattle.tx_commands.specs.Commands.{IsInRange};
 ghost use Rattle.tx_program.specs.Statuses.{AskNothing, IsRefusedWith, status_of_stop};
 ghost use Rattle.tx_commands.specs.Faults.{status_of as words_status};
 
-use crate::ends::Output;
+use crate::ends::{FailedRead, Output};
 use crate::folder::Folder;
 use crate::input::Inputs;
 use crate::output_files::write_files;
-use crate::stop::Stop;
+use crate::stop::{Stop, write_stop};
 use crate::targets::Targets;
 use crate::tell::{announce_input, tell_words};
 use std::alloc::{Allocator, Global};
 use std::io::{IsTerminal, Read, Write};
 use tx_commands::{Command, Files, WordsFault, read_command};
-use tx_jobs::{Done, JobFault, do_job};
+use tx_jobs::{Done, JobFault, do_job, write_fault};
+use tx_text::ToWrite;
 
 /// The ends of the program: a folder of files, standard input, standard output and standard error.
 #[derive(Debug, Drop)]
@@ -28,11 +29,11 @@ pub struct Ends<'a, F, I: Drop, O: Drop, E: Drop> {
 /// Does what the words after the program's name ask for, and answers the exit status: 0, or 1 after
 /// a No (of `codes`: where codes are ambiguous; of `grade` and `survive`: where there is no grade
 /// too; of `lint`: after warnings), 2 for a refused text (of `lint`: after faults), 3 for a failed
-/// read or write (of help too), 4 when memory runs out, 64 for refused words, and for a code to
-/// draw, or an exchange or a code to trace, that the plan does not have. Without words it reads a
-/// plan and then a script, and on a terminal it says so first. A fault is one line on standard
-/// error, and refused words are reported by what the library of command lines says. The words are
-/// read with `alloc`, and what they ask for is done with `memory`.
+/// read or write (of help too), 4 when memory runs out, 64 for refused words, for an exchange, a
+/// code, a group or a stage that is not there, and where a file must not be made. Without words it
+/// reads a plan and then a script, and on a terminal it says so first. A fault is one line on
+/// standard error, and refused words are reported by what the library of command lines says. The
+/// words are read with `alloc`, and what they ask for is done with `memory`.
 pub fn run_words<
     A: Allocator + Copy,
     F: Folder,
@@ -68,7 +69,8 @@ fn refuse_words<F: Folder, I: Read + Drop, O: Write + Drop, E: Write + Drop>(
     let told = tell_words(fault, &mut output, &mut errors);
     let status = fault.status();
     if told.is_err() && status == 0 {
-        return tell_stop(&Stop::Job(JobFault::Write), errors);
+        let _ = write_fault(&JobFault::Write, &mut ToWrite::new(errors));
+        return JobFault::Write.status();
     }
     status
 }
@@ -91,15 +93,20 @@ pub fn run_command<
     } = ends;
     match perform(alloc, command, folder, input, output) {
         Ok(status) => status,
-        Err(stop) => tell_stop(&stop, errors),
+        Err(stop) => tell_stop(alloc, &stop, command, errors),
     }
 }
 
 /// Writes why a command was not done, in one line on standard error, and returns the exit status.
-fn tell_stop<E: Write + Drop>(stop: &Stop<'_>, errors: E) -> u8
+fn tell_stop<A: Allocator, E: Write + Drop>(
+    alloc: A,
+    stop: &Stop<'_>,
+    command: &Command,
+    errors: E,
+) -> u8
     ensures { result ≡ status_of_stop stop.now }
 {
-    let _ = stop.tell(errors);
+    let _ = write_stop(alloc, stop, command, &mut ToWrite::new(errors));
     stop.status()
 }
 
@@ -120,12 +127,31 @@ pub(crate) fn perform<'c, A: Allocator + Copy, F: Folder, I: Read + Drop, O: Wri
     let targets = Targets::of(alloc, files, folder)?;
     let output = Output::new(alloc, output)?;
     let done = carry_out(alloc, command, inputs, &targets, folder, &output);
-    output.let_out()?;
-    done
+    if output.let_out().is_err() {
+        return Err(match output.take_failure() {
+            Some(error) => Stop::Write("standard output", error),
+            None => Stop::Job(JobFault::Write),
+        });
+    }
+    match done {
+        Err(Stop::Job(JobFault::Read)) => Err(failed_read(&files, output.take_failed_read())),
+        done => done,
+    }
 }
 
-/// Does the job of a command over its files, which are open, and closes them. Then it makes the files
-/// of what the command came to.
+/// Why a read failed: which file it was of, if that is known.
+fn failed_read<'n>(files: &Files<'n>, failed: Option<FailedRead>) -> Stop<'n> {
+    match failed {
+        Some((index, error)) => match files.reads.get(index) {
+            Some(Some(name)) => Stop::Read(name, error),
+            _ => Stop::Job(JobFault::Read),
+        },
+        None => Stop::Job(JobFault::Read),
+    }
+}
+
+/// Does the job of a command over its files, which are open, and closes them. Then it makes the
+/// files of what the command came to.
 fn carry_out<'c, A: Allocator + Copy, F: Folder, I: Read + Drop, O: Write + Drop>(
     alloc: A,
     command: &Command,
@@ -153,9 +179,9 @@ fn do_over<A: Allocator + Copy, I: Read + Drop, J: Read + Drop, O: Write + Drop>
 ) -> Result<Done<A>, JobFault>
     requires { IsInRange command.now }
 {
-    let mut first = output.source(alloc, inputs.first)?;
-    let mut second = output.source(alloc, inputs.second)?;
-    let mut third = output.source(alloc, inputs.third)?;
+    let mut first = output.source(alloc, 0, inputs.first)?;
+    let mut second = output.source(alloc, 1, inputs.second)?;
+    let mut third = output.source(alloc, 2, inputs.third)?;
     do_job(
         alloc,
         command,

@@ -4,16 +4,22 @@ ghost use Rattle.tx_program.specs.Statuses.{status_of_stop};
 ghost use Rattle.tx_program.specs.declared.stop.Stop.TheVariants.{Job as JobFailed};
 
 use crate::kind::TextKind;
+use std::alloc::Allocator;
 use std::io;
-use std::io::Write;
+use tx_commands::{Command, STANDARD_INPUT};
 use tx_jobs::{JobFault, write_fault};
-use tx_text::ToWrite;
+use tx_lint::write_escaped;
+use tx_text::{Sink, WriteFault, write_bytes, write_parts};
 
 /// Why the program stopped before a command was done.
-#[derive(Clone, Copy, Debug)]
+#[derive(Debug, Drop)]
 pub(crate) enum Stop<'n> {
-    /// The job, or one of its ends, failed.
+    /// The job stopped.
     Job(JobFault),
+    /// A file could not be opened or read, and what the system said.
+    Read(&'n str, io::Error),
+    /// A file could not be made, or standard output not be written to.
+    Write(&'n str, io::Error),
     /// A file is to be made, and is read or to be made by another name too.
     OneFile(&'n str, &'n str),
     /// A file that is to be made is there, and holds another kind of text.
@@ -33,30 +39,137 @@ impl<'n> From<JobFault> for Stop<'n> {
 }
 
 impl<'n> Stop<'n> {
-    /// The exit status: that of the job, or 64 where a file must not be made.
+    /// The exit status: that of the job, 3 where an end failed, or 64 where a file must not be
+    /// made.
     pub(crate) fn status(&self) -> u8
         ensures { result ≡ status_of_stop self.now }
     {
         match self {
             Stop::Job(fault) => fault.status(),
+            Stop::Read(..) | Stop::Write(..) => 3,
             Stop::OneFile(..) | Stop::OtherKind { .. } => 64,
         }
     }
+}
 
-    /// Writes why, in one line.
-    pub(crate) fn tell<E: Write + Drop>(&self, mut errors: E) -> io::Result<()> {
-        match self {
-            Stop::Job(fault) => {
-                let _ = write_fault(fault, &mut ToWrite::new(errors));
-                Ok(())
-            }
-            Stop::OneFile(name, other) => {
-                writeln!(errors, "telexplan: {name} and {other} are one file")
-            }
-            Stop::OtherKind { name, held, wanted } => {
-                let (held, wanted) = (held.name(), wanted.name());
-                writeln!(errors, "telexplan: {name} is a {held}, not a {wanted}")
-            }
+/// Writes why a command was not done, in one line.
+pub(crate) fn write_stop<A: Allocator, W: Sink>(
+    alloc: A,
+    stop: &Stop<'_>,
+    command: &Command,
+    sink: &mut W,
+) -> Result<(), WriteFault> {
+    match stop {
+        Stop::Job(fault) => write_job_fault(fault, command, sink),
+        Stop::Read(..) if has_plain_faults(command) => write_fault(&JobFault::Read, sink),
+        Stop::Write(..) if has_plain_faults(command) => write_fault(&JobFault::Write, sink),
+        Stop::Read(name, error) => write_failure(alloc, b"read fault", name, error, sink),
+        Stop::Write(name, error) => write_failure(alloc, b"write fault", name, error, sink),
+        Stop::OneFile(name, other) => {
+            write_bytes(b"telexplan: ", sink)?;
+            write_escaped(name.as_bytes(), sink)?;
+            write_bytes(b" and ", sink)?;
+            write_escaped(other.as_bytes(), sink)?;
+            write_bytes(b" are one file\n", sink)
         }
+        Stop::OtherKind { name, held, wanted } => {
+            write_bytes(b"telexplan: ", sink)?;
+            write_escaped(name.as_bytes(), sink)?;
+            let (held, wanted) = (held.name().as_bytes(), wanted.name().as_bytes());
+            write_parts(&[b" is a ", held, b", not a ", wanted, b"\n"], sink)
+        }
+    }
+}
+
+/// Whether a failed read or write is told without the file, in the same words each time.
+fn has_plain_faults(command: &Command) -> bool {
+    matches!(
+        command,
+        Command::Pipe
+            | Command::Run { .. }
+            | Command::RunTelling { .. }
+            | Command::Check { .. }
+            | Command::Codes { .. }
+            | Command::Audit { .. }
+    )
+}
+
+/// Writes the line of a job's fault, with the word that was asked for where the plan does not have
+/// it.
+fn write_job_fault<W: Sink>(
+    fault: &JobFault,
+    command: &Command,
+    sink: &mut W,
+) -> Result<(), WriteFault> {
+    match (fault, command) {
+        (
+            JobFault::NoSuchExchange,
+            Command::Trace { exchange, .. } | Command::Fill { exchange, .. },
+        ) => write_word(b"telexplan: no such exchange in the plan: ", exchange, sink),
+        (
+            JobFault::NoSuchCode,
+            Command::Trace { code, .. }
+            | Command::Fill { code, .. }
+            | Command::Draw {
+                routes: Some((code, _)),
+                ..
+            },
+        ) => write_word(b"telexplan: no such code in the plan: ", code, sink),
+        (
+            JobFault::NoSuchGroup(place),
+            Command::Trace {
+                down: Some(names),
+                ..
+            }
+            | Command::Fill {
+                down: Some(names),
+                ..
+            },
+        ) => {
+            let name = names.split(',').nth(*place).unwrap_or(names);
+            write_word(b"telexplan: no such group in the plan: ", name, sink)
+        }
+        (JobFault::NoSuchGroup(_), Command::TraceGroup { group, .. }) => {
+            write_word(b"telexplan: no such group in the plan: ", group, sink)
+        }
+        _ => write_fault(fault, sink),
+    }
+}
+
+fn write_word<W: Sink>(why: &[u8], word: &str, sink: &mut W) -> Result<(), WriteFault> {
+    write_bytes(why, sink)?;
+    write_escaped(word.as_bytes(), sink)?;
+    write_bytes(b"\n", sink)
+}
+
+/// Writes which end failed, and what the system said, unless there is no memory for that.
+fn write_failure<A: Allocator, W: Sink>(
+    alloc: A,
+    fault: &[u8],
+    name: &str,
+    error: &io::Error,
+    sink: &mut W,
+) -> Result<(), WriteFault> {
+    write_parts(&[b"telexplan: ", fault, b": "], sink)?;
+    if name == STANDARD_INPUT {
+        write_bytes(b"standard input", sink)?;
+    } else {
+        write_escaped(name.as_bytes(), sink)?;
+    }
+    if let Ok(said) = format!(in alloc; "{error}") {
+        write_said(said.as_str(), sink)?;
+    }
+    write_bytes(b"\n", sink)
+}
+
+/// Writes what the system said, without the number of the error.
+fn write_said<W: Sink>(said: &str, sink: &mut W) -> Result<(), WriteFault> {
+    write_parts(&[b": ", without_number(said).as_bytes()], sink)
+}
+
+fn without_number(said: &str) -> &str {
+    match said.split_once(" (os error ") {
+        Some((text, _number)) => text,
+        None => said,
     }
 }

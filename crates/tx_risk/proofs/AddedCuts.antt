@@ -80,7 +80,7 @@ module _ {A : Type 0} (l : Left) (o : Outage) where
 
   -- its cut was added
   pub before_more : (old new : List (Cut A)) (i : ℕ) (c : Cut A) → Adds (Before i) old new
-      → start_at c ≡ i → IsCutAs (left_net l) o l.code c → is_asked l.plan o l.code i ≡ true
+      → start_at c ≡ i → IsCutAs (left_net l) l.code c → is_asked l.plan o l.code i ≡ true
       → Adds (Before (i + 1)) old (new ++ c ∷ [])
   before_more old new i c b at is ask =
       let t = b.these in
@@ -94,7 +94,7 @@ module _ {A : Type 0} (l : Left) (o : Outage) where
             | inl a ↦ t.each d a
             | inr k ↦
                 elim k [
-                  | inl q ↦ subst (IsCutAs (left_net l) o l.code) q is
+                  | inl q ↦ subst (IsCutAs (left_net l) l.code) q is
                   | inr z ↦
                       absurd z
                 ]
@@ -133,12 +133,11 @@ none_cut n x o steps h e c =
     let m = h.least steps c.dead.goes (c.dead.away, c.dead.none) in none-some _ (sym e ∙ m.1)
 
 -- a cut by a shortest way to a dead end
-pub cut_as : {A : Type 0} (n : Net) (c : Cut A) (o : Outage) (code x : ℕ) (home : Option ℕ)
-    → c.outage ≡ o → c.code ≡ code → c.walk.start ≡ x → IsCut n x c.walk.steps
+pub cut_as : {A : Type 0} (n : Net) (c : Cut A) (code x : ℕ) (home : Option ℕ)
+    → c.code ≡ code → c.walk.start ≡ x → IsCut n x c.walk.steps
     → IsDistance n DeadEnd x (Some (length c.walk.steps)) → IsDistance n Home x home
-    → c.stray ≡ is_some home → IsCutAs n o code c
-cut_as n c o code x home fails of start cut dead leads stray = record {
-  outage = fails;
+    → c.stray ≡ is_some home → IsCutAs n code c
+cut_as n c code x home of start cut dead leads stray = record {
   of_code = of;
   cut = subst (λ y. IsCut n y c.walk.steps) (sym start) cut;
   shortest = λ steps k.

@@ -1,39 +1,57 @@
--- The cuts of one outage after another, and of one code after another.
-use Rattle.std.proofs.Common.{◌≡◌, ℕ, suc, ◌+◌, ◌-◌, ◌<◌, Bool, true, false, List, [], ◌++◌, length, Option, Some, None, refl, ap, subst, ◌∙◌, arith, append_assoc, eqb-true}
-use Rattle.std.proofs.lemmas.Bool.{false≢true, ltb-true}
+-- One outage after another, and one code after another.
+use Rattle.std.proofs.Common.{◌≡◌, ℕ, zero, suc, ◌+◌, ◌<◌, Bool, true, false, List, [], ◌∷◌, ◌++◌, map, take, get_or, length, Option, Some, None, refl, sym, ap, subst, ◌∙◌, arith, append_assoc, append-nil, eqb-true}
+use Rattle.std.proofs.lemmas.Bool.{false≢true}
+use Rattle.std.proofs.lemmas.List.{map-append, take_more}
+use Rattle.std.proofs.lemmas.List.FromFn.{map-range_with_len_more}
 use Rattle.std.proofs.lemmas.Option.{slice_get_within}
-use Rattle.std.specs.Prelude.{slice_get, is_some, ◌==◌, nat_lt, if◌then◌else◌}
+use Rattle.std.specs.Prelude.{slice_get, is_some, ◌==◌, if◌then◌else◌}
 use Rattle.std.specs.Option.{option_map_or, option_and_then}
-use Rattle.std.specs.List.{list_any}
+use Rattle.std.specs.List.{list_any, range_with_len, AllByRecursion}
 use Rattle.tx_plan.specs.Plan.{Plan, Group as Row}
+use Rattle.tx_plan.proofs.Lists.{all_put}
 use Rattle.tx_plan.specs.Circuits.{far_end}
 use Rattle.tx_machine.proofs.Lists.{any_mem}
 use Rattle.tx_rank.proofs.Ways.{all_among}
 use Rattle.tx_rank.proofs.Looks.{among_at}
 use Rattle.tx_risk.specs.declared.cut.Cut.{Cut}
+use Rattle.tx_risk.specs.declared.cut.Outcome.{Outcome}
 use Rattle.tx_risk.specs.declared.outage.Outage.{Outage}
 use Rattle.tx_risk.specs.declared.outage.Outage.TheVariants.{Group, Exchange, Named}
 use Rattle.tx_risk.specs.Risks.{Risk}
 use Rattle.tx_risk.specs.NamedRisks.{NamedRisk, IsNamedRisk, AreRisksFor, named_groups}
-use Rattle.tx_risk.specs.Outages.{risk_of, outage_at, AreCutsOfCode, AreCutsBelow, AreCutsOf, AreCutsOfFirst}
+use Rattle.tx_risk.specs.Outages.{risk_of, all_outages, AreCutsOfCode, AreCutsBelow, IsOutcome}
 use Rattle.tx_risk.specs.inner.Cutting.{Adds}
 
 module _ {A : Type 0} (p : Plan) (risk : Risk) (o : Outage) where
-  pub codes_next : (i : ℕ) (old mid new : List (Cut A)) → Adds (AreCutsBelow p risk o i) old mid
-      → Adds (AreCutsOfCode p risk o i) mid new → Adds (AreCutsBelow p risk o (i + 1)) old new
-  codes_next i old mid new a b = record {
-    mine = a.mine ++ b.mine;
-    added = b.added ∙ ap (λ l. l ++ b.mine) a.added ∙ append_assoc old a.mine b.mine;
-    these = subst (λ k. AreCutsBelow p risk o k (a.mine ++ b.mine))
-        (let e : suc i ≡ i + 1 = omega arith in e) (a.mine, b.mine, refl, a.these, b.these);
-  }
+  -- the cuts of one code more
+  pub codes_next : (i : ℕ) (old new : List (Cut A)) → AreCutsBelow p risk o i old
+      → Adds (AreCutsOfCode p risk o i) old new → AreCutsBelow p risk o (i + 1) new
+  codes_next i old new a b =
+      subst (λ k. AreCutsBelow p risk o k new) (let e : suc i ≡ i + 1 = omega arith in e)
+      (old, b.mine, b.added, a, b.these)
 
-pub outages_next : {A : Type 0} (p : Plan) (risks : List NamedRisk) (i : ℕ) (old new : List (Cut A))
-    → AreCutsOfFirst p risks i old → Adds (AreCutsOf p risks (outage_at p i)) old new
-    → AreCutsOfFirst p risks (i + 1) new
-outages_next p risks i old new a b =
-    subst (λ k. AreCutsOfFirst p risks k new) (let e : suc i ≡ i + 1 = omega arith in e)
-    (old, b.mine, b.added, a, b.these)
+-- what stands at one index more
+pub mapped_next : {X : Type 0} (f : ℕ → X) (i : ℕ) (x : X) (front old new : List X)
+    → old ≡ front ++ map f (range_with_len 0 i) → x ≡ f i → new ≡ old ++ x ∷ []
+    → new ≡ front ++ map f (range_with_len 0 (i + 1))
+mapped_next f i x front old new so is more =
+    more ∙ (λ j. so j ++ is j ∷ []) ∙ append_assoc front (map f (range_with_len 0 i)) (f i ∷ [])
+    ∙ ap (λ l. front ++ l) (sym (map-range_with_len_more f 0 i i (let e : 0 + i ≡ i = omega arith in e)))
+
+-- one outcome more
+pub outcomes_next : {A : Type 0} (p : Plan) (risks : List NamedRisk) (outages : List Outage) (i : ℕ)
+    (old : List (Outcome A)) (one : Outcome A)
+    → i < length outages → one.outage ≡ get_or outages i one.outage
+    → map (λ (k : Outcome A). k.outage) old ≡ take i outages
+    → AllByRecursion (IsOutcome p risks) old → IsOutcome p risks one
+    → (map (λ (k : Outcome A). k.outage) (old ++ one ∷ []) ≡ take (i + 1) outages)
+    × AllByRecursion (IsOutcome p risks) (old ++ one ∷ [])
+outcomes_next p risks outages i old one low is so each last = (
+  map-append (λ k. k.outage) old (one ∷ [])
+      ∙ (λ j. so j ++ is j ∷ [])
+      ∙ sym (take_more outages i one.outage low),
+  all_put (IsOutcome p risks) old one each last,
+)
 
 -- THE GROUPS OF AN OUTAGE ARE THE PLAN'S
 pub end_known : (p : Plan) (g x : ℕ)
@@ -61,28 +79,41 @@ named_known p risks ok i g t = at (slice_get risks i) refl t
         let l = all_among (λ h. h < length p.groups) r.groups m.0 k.known m.1 in
         omega arith
 
--- the group at an index of the list of all outages
-pub outage_group : (p : Plan) (i g : ℕ) → outage_at p i ≡ Group g → g < length p.groups
-outage_group p i g = at (nat_lt i (length p.groups)) refl
+-- a group that fails alone is one of the plan
+abbrev pub IsKnown : Plan → Outage → Type 0
+IsKnown p (Group g) = g < length p.groups
+IsKnown p o = Unit {0}
+
+mapped_known : (p : Plan) (f : ℕ → Outage) (a n : ℕ)
+    → ((k : ℕ) → k < a + n → IsKnown p (f k))
+    → (rest : List Outage) → AllByRecursion (IsKnown p) rest
+    → AllByRecursion (IsKnown p) (map f (range_with_len a n) ++ rest)
+mapped_known p f a zero known rest ok = ok
+mapped_known p f a (suc n) known rest ok = (
+  known a (omega arith),
+  mapped_known p f (a + 1) n (λ k low. known k (omega arith)) rest ok,
+)
+
+pub all_known : (p : Plan) (risks : List NamedRisk) (named_only : Bool)
+    → AllByRecursion (IsKnown p) (all_outages p risks named_only)
+all_known p risks named_only =
+    mapped_known p Named 0 (length risks) (λ k low. tt) _ (others named_only)
   where
-    other : Outage
-    other = if nat_lt i (length p.groups + length p.exchanges) then Exchange (i - length p.groups)
-        else Named (i - (length p.groups + length p.exchanges))
+    exchanges : AllByRecursion (IsKnown p) (map Exchange (range_with_len 0 (length p.exchanges)))
+    exchanges = subst (AllByRecursion (IsKnown p))
+        (append-nil (map Exchange (range_with_len 0 (length p.exchanges))))
+        (mapped_known p Exchange 0 (length p.exchanges) (λ k low. tt) [] tt)
 
-    no_other : (b : Bool) → (if b then Exchange (i - length p.groups)
-        else Named (i - (length p.groups + length p.exchanges))) ≡ Group g → ⊥
-    no_other true e = cc
-    no_other false e = cc
-
-    at : (b : Bool) → nat_lt i (length p.groups) ≡ b
-        → (if b then Group i else other) ≡ Group g → g < length p.groups
-    at true t e = let same : i ≡ g = cc in let l = ltb-true i (length p.groups) t in omega arith
-    at false t e = absurd (no_other (nat_lt i (length p.groups + length p.exchanges)) e)
+    others : (b : Bool) → AllByRecursion (IsKnown p) (if b then []
+        else map Group (range_with_len 0 (length p.groups))
+        ++ map Exchange (range_with_len 0 (length p.exchanges)))
+    others true = tt
+    others false =
+        mapped_known p Group 0 (length p.groups) (λ k low. omega arith) _ exchanges
 
 pub outage_known : (p : Plan) (risks : List NamedRisk) → AreRisksFor p risks → (o : Outage)
-    → ((g : ℕ) → o ≡ Group g → g < length p.groups) → (g : ℕ) → risk_of p risks o g ≡ true
-    → g < length p.groups
+    → IsKnown p o → (g : ℕ) → risk_of p risks o g ≡ true → g < length p.groups
 outage_known p risks ok (Group h) known g t =
-    let same = eqb-true g h t in let l = known h refl in omega arith
+    let same = eqb-true g h t in omega arith
 outage_known p risks ok (Exchange x) known g t = end_known p g x t
 outage_known p risks ok (Named i) known g t = named_known p risks ok i g t

@@ -11,6 +11,10 @@ pub record NamedRisk : Type 0 where
   pub name : List ℕ
   pub groups : List ℕ
 
+-- the name of the risk at an index; nothing for an index that has none
+abbrev pub risk_name : List NamedRisk → ℕ → List ℕ
+risk_name risks i = option_map_or (λ r. r.name) (slice_get risks i) []
+
 -- the groups of the risk at an index
 abbrev pub named_groups : List NamedRisk → ℕ → List ℕ
 named_groups risks i = option_map_or (λ r. r.groups) (slice_get risks i) []

@@ -1,6 +1,6 @@
 -- Outages: what each group, each exchange and each named risk cuts off if it goes alone.
-use Rattle.std.specs.Prelude.{◌≡◌, ◌↔◌, ℕ, zero, suc, ◌+◌, ◌-◌, ◌<◌, ◌≤◌, Bool, true, false, not, ◌&&◌, ◌==◌, nat_lt, if◌then◌else◌, List, [], ◌++◌, map, length}
-use Rattle.std.specs.List.{list_any}
+use Rattle.std.specs.Prelude.{◌≡◌, ◌↔◌, ℕ, zero, suc, ◌<◌, ◌≤◌, Bool, true, false, not, ◌&&◌, ◌==◌, if◌then◌else◌, List, [], ◌++◌, map, length}
+use Rattle.std.specs.List.{list_any, range_with_len, AllByRecursion}
 use Rattle.tx_plan.specs.Plan.{Plan, home_of}
 use Rattle.tx_plan.specs.Rules.{EachPair}
 use Rattle.tx_plan.specs.Routes.{is_origin_for}
@@ -9,6 +9,7 @@ use Rattle.tx_rank.specs.Walks.{Net}
 use Rattle.tx_risk.specs.declared.outage.Outage.{Outage}
 use Rattle.tx_risk.specs.declared.outage.Outage.TheVariants.{Group, Exchange, Named}
 use Rattle.tx_risk.specs.declared.cut.Cut.{Cut}
+use Rattle.tx_risk.specs.declared.cut.Outcome.{Outcome}
 use Rattle.tx_risk.specs.Risks.{Risk, groups_of, net_without, IsCut, LeadsHome}
 use Rattle.tx_risk.specs.NamedRisks.{NamedRisk, named_groups}
 
@@ -33,8 +34,7 @@ is_asked p o code x =
 module _ {A : Type 0} where
   -- What is cut off: where calls start, and a shortest way from there to a dead end; stray, if a
   -- way home is left too.
-  pub record IsCutAs (n : Net) (o : Outage) (code : ℕ) (c : Cut A) : Type 0 where
-    pub outage : c.outage ≡ o
+  pub record IsCutAs (n : Net) (code : ℕ) (c : Cut A) : Type 0 where
     pub of_code : c.code ≡ code
     pub cut : IsCut n c.walk.start c.walk.steps
     pub shortest : (steps : List (ℕ × ℕ)) → IsCut n c.walk.start steps
@@ -49,7 +49,7 @@ module _ {A : Type 0} where
   -- exchanges
   pub record AreCutsOfCode (p : Plan) (risk : Risk) (o : Outage) (code : ℕ)
       (cuts : List (Cut A)) : Type 0 where
-    pub each : (c : Cut A) → Among c cuts → IsCutAs (net_without p risk code) o code c
+    pub each : (c : Cut A) → Among c cuts → IsCutAs (net_without p risk code) code c
     pub asked : (c : Cut A) → Among c cuts → is_asked p o code (start_at c) ≡ true
     pub order : EachPair (λ x y. x < y) (map start_at cuts)
     pub all : (x : ℕ) (steps : List (ℕ × ℕ)) → is_asked p o code x ≡ true
@@ -66,25 +66,20 @@ module _ {A : Type 0} where
   abbrev pub AreCutsOf : Plan → List NamedRisk → Outage → List (Cut A) → Type 0
   AreCutsOf p risks o cuts = AreCutsBelow p (risk_of p risks o) o (length p.codes) cuts
 
--- All outages, in order: the groups, the exchanges, the named risks
-abbrev pub outage_at : Plan → ℕ → Outage
-outage_at p i =
-    if nat_lt i (length p.groups) then Group i
-    else if nat_lt i (length p.groups + length p.exchanges) then Exchange (i - length p.groups)
-    else Named (i - (length p.groups + length p.exchanges))
-
--- how many there are
-abbrev pub outages : Plan → List NamedRisk → ℕ
-outages p risks = (length p.groups + length p.exchanges) + length risks
+-- All outages, in order: the named risks, the groups, the exchanges; or the named risks alone
+abbrev pub all_outages : Plan → List NamedRisk → (named_only : Bool) → List Outage
+all_outages p risks named_only =
+    map Named (range_with_len 0 (length risks))
+    ++ (if named_only then [] else map Group (range_with_len 0 (length p.groups))
+    ++ map Exchange (range_with_len 0 (length p.exchanges)))
 
 module _ {A : Type 0} where
-  -- what the first outages cut off, in order
-  abbrev pub AreCutsOfFirst : Plan → List NamedRisk → (i : ℕ) → List (Cut A) → Type 0
-  AreCutsOfFirst p risks zero cuts = cuts ≡ []
-  AreCutsOfFirst p risks (suc i) cuts =
-      (front : List (Cut A)) × (last : List (Cut A)) × (cuts ≡ front ++ last)
-      × AreCutsOfFirst p risks i front × AreCutsOf p risks (outage_at p i) last
+  -- whom its outage cuts off
+  abbrev pub IsOutcome : Plan → List NamedRisk → Outcome A → Type 0
+  IsOutcome p risks o = AreCutsOf p risks o.outage o.cuts.items
 
-  -- The answer: what each outage cuts off
-  abbrev pub AreAllCuts : Plan → List NamedRisk → List (Cut A) → Type 0
-  AreAllCuts p risks cuts = AreCutsOfFirst p risks (outages p risks) cuts
+  -- The answer: each outage, and whom it cuts off
+  pub record AreOutcomes (p : Plan) (risks : List NamedRisk) (named_only : Bool)
+      (outcomes : List (Outcome A)) : Type 0 where
+    pub outages : map (λ o. o.outage) outcomes ≡ all_outages p risks named_only
+    pub each : AllByRecursion (IsOutcome p risks) outcomes

@@ -56,7 +56,6 @@ fn add_cut<A: Allocator + Copy>(
     }
     let walk = walk_from(alloc, left, dead_ends, exchange)?;
     cuts.push(Cut {
-        outage: *outage,
         code: left.code,
         stray: distance_at(homes, exchange).is_some(),
         walk,

@@ -21,13 +21,14 @@ mod risks;
 mod shortest;
 mod surviving;
 
-pub use cut::Cut;
+pub use cut::{Cut, Outcome};
 pub use fault::{RiskFault, RiskWord, code_and_name};
 pub use law::{
     clear_calls_get_through, cut_is_short, dead_ends_cut, failed_cuts_no_other,
     keyed_since_get_through, none_on_failed, ranked_is_uncut, uncut_is_closed, uncut_is_served,
 };
 pub use outage::Outage;
+pub use outages::goes_with;
 pub use risk_reader::{read_risks, read_risks_from};
 pub use risks::Risks;
 pub use surviving::{Survival, survive};

@@ -1,16 +1,17 @@
 // What the outages of a plan cut off.
-ghost use Rattle.std.specs.Prelude.{◌≡◌, ◌<◌, ℕ, length, true, IfOk};
+ghost use Rattle.std.specs.Prelude.{◌≡◌, ◌<◌, ◌++◌, ℕ, map, length, true, IfOk, OnOk};
+ghost use Rattle.std.specs.List.{range_with_len};
 ghost use Rattle.tx_plan.specs.Certified.{IsCertified};
 ghost use Rattle.tx_cert.specs.Certificate.{ranks_of};
 ghost use Rattle.tx_rank.specs.Judged.{AreOrigins};
 ghost use Rattle.tx_risk.specs.NamedRisks.{AreRisksFor};
-ghost use Rattle.tx_risk.specs.Outages.{risk_of, outage_at, AreCutsOf, AreAllCuts};
+ghost use Rattle.tx_risk.specs.declared.outage.Outage.TheVariants.{Group, Exchange, Named};
+ghost use Rattle.tx_risk.specs.Outages.{risk_of, all_outages, AreCutsOf, AreOutcomes};
 ghost use Rattle.tx_risk.specs.Survivals.{HasGrade};
 ghost use Rattle.tx_risk.specs.inner.Marked.{marked};
 ghost use Rattle.tx_risk.specs.inner.Orders.{AreOrders};
-ghost use Rattle.tx_risk.specs.inner.Cutting.{Adds};
 
-use crate::cut::Cut;
+use crate::cut::{Cut, Outcome};
 use crate::cutting::add_cuts;
 use crate::hits::{ends_of, is_hit};
 use crate::left::Left;
@@ -24,7 +25,7 @@ use tx_rank::origins_of;
 use tx_text::NoMemory;
 
 /// Whether a group goes with an outage.
-fn goes_with<A: Allocator>(
+pub fn goes_with<A: Allocator>(
     plan: &Plan<A>,
     risks: &Risks<A>,
     outage: &Outage,
@@ -58,26 +59,25 @@ fn marks_of<A: Allocator + Copy>(
     Ok(marks)
 }
 
-/// Adds all that an outage cuts off, code by code: nothing, where no list of the code is hit.
-fn add_outage<A: Allocator + Copy>(
+/// Whom an outage cuts off, code by code: nobody, where no list of the code is hit.
+fn cuts_of<A: Allocator + Copy>(
     alloc: A,
     plan: &Plan<A>,
     risks: &Risks<A>,
     orders: &[Vec<ExchangeId, A>],
     origins: &[bool],
     outage: &Outage,
-    cuts: &mut Vec<Cut<A>, A>,
-) -> Result<(), NoMemory>
+) -> Result<Vec<Cut<A>, A>, NoMemory>
     requires orders { AreOrders plan.now orders.now }
     requires origins { AreOrigins plan.now origins.now }
     requires grade { HasGrade plan.now }
     requires known { (g : ℕ) → risk_of plan.now risks.now outage.now g ≡ true
         → g < length plan.now.groups }
-    ensures { IfOk result (λ _. Adds (AreCutsOf plan.now risks.now outage.now) cuts.old.items
-        cuts.new.items) }
+    ensures { IfOk result (λ cuts. AreCutsOf plan.now risks.now outage.now cuts.items) }
 {
     let gone = marks_of(alloc, plan, risks, outage)?;
     let ends = ends_of(alloc, plan, &gone)?;
+    let mut cuts = Vec::new(alloc);
     for index in 0..plan.codes() {
         let left = Left {
             plan,
@@ -87,45 +87,85 @@ fn add_outage<A: Allocator + Copy>(
         if !is_hit(&left, &ends, outage) {
             continue;
         }
-        add_cuts(alloc, &left, &orders[index], origins, outage, cuts)?;
+        add_cuts(alloc, &left, &orders[index], origins, outage, &mut cuts)?;
+    }
+    Ok(cuts)
+}
+
+/// Adds the named risks.
+fn add_named<A: Allocator>(risks: &Risks<A>, outages: &mut Vec<Outage, A>) -> Result<(), NoMemory>
+    ensures { OnOk result (outages.new.items ≡ outages.old.items
+        ++ map Named (range_with_len 0 (length risks.now))) }
+{
+    for index in 0..risks.len() {
+        outages.push(Outage::Named(index))?;
     }
     Ok(())
 }
 
-/// The outage at an index: of the groups, then the exchanges, then the named risks.
-fn outage_at<A: Allocator>(plan: &Plan<A>, index: usize) -> Outage
-    ensures { result ≡ outage_at plan.now index }
+/// Adds the groups.
+fn add_groups<A: Allocator>(plan: &Plan<A>, outages: &mut Vec<Outage, A>) -> Result<(), NoMemory>
+    ensures { OnOk result (outages.new.items ≡ outages.old.items
+        ++ map Group (range_with_len 0 (length plan.now.groups))) }
 {
-    let exchanges = plan.groups() + plan.exchanges();
-    if index < plan.groups() {
-        Outage::Group(GroupId::of(index))
-    } else if index < exchanges {
-        Outage::Exchange(ExchangeId::of(index - plan.groups()))
-    } else {
-        Outage::Named(index - exchanges)
+    for index in 0..plan.groups() {
+        outages.push(Outage::Group(GroupId::of(index)))?;
     }
+    Ok(())
 }
 
-/// What each group, each exchange and each named risk cuts off if it fails alone, in a plan that
-/// the ranks certify.
-pub fn all_cuts<A: Allocator + Copy>(
+/// Adds the exchanges.
+fn add_exchanges<A: Allocator>(plan: &Plan<A>, outages: &mut Vec<Outage, A>) -> Result<(), NoMemory>
+    ensures { OnOk result (outages.new.items ≡ outages.old.items
+        ++ map Exchange (range_with_len 0 (length plan.now.exchanges))) }
+{
+    for index in 0..plan.exchanges() {
+        outages.push(Outage::Exchange(ExchangeId::of(index)))?;
+    }
+    Ok(())
+}
+
+/// All outages, in order, or the named risks alone.
+fn outages_of<A: Allocator + Copy>(
+    alloc: A,
+    plan: &Plan<A>,
+    risks: &Risks<A>,
+    named_only: bool,
+) -> Result<Vec<Outage, A>, NoMemory>
+    ensures { IfOk result (λ all. all.items ≡ all_outages plan.now risks.now named_only) }
+{
+    let mut outages = Vec::new(alloc);
+    add_named(risks, &mut outages)?;
+    if named_only {
+        return Ok(outages);
+    }
+    add_groups(plan, &mut outages)?;
+    add_exchanges(plan, &mut outages)?;
+    Ok(outages)
+}
+
+/// What each named risk, each group and each exchange cuts off if it fails alone, in a plan that
+/// the ranks certify; or each named risk alone.
+pub fn all_outcomes<A: Allocator + Copy>(
     alloc: A,
     plan: &Plan<A>,
     ranks: &Cert<A>,
     risks: &Risks<A>,
-) -> Result<Vec<Cut<A>, A>, NoMemory>
+    named_only: bool,
+) -> Result<Vec<Outcome<A>, A>, NoMemory>
     requires certified { (limit : ℕ) × (spare : ℕ)
         × IsCertified plan.now (ranks_of ranks.now) limit spare }
     requires risks { AreRisksFor plan.now risks.now }
-    ensures { IfOk result (λ cuts. AreAllCuts plan.now risks.now cuts.items) }
+    ensures { IfOk result (λ all. AreOutcomes plan.now risks.now named_only all.items) }
 {
     let orders = orders_of(alloc, plan, ranks)?;
     let origins = origins_of(alloc, plan)?;
-    let mut cuts = Vec::new(alloc);
-    let count = plan.groups() + plan.exchanges() + risks.len();
-    for index in 0..count {
-        let outage = outage_at(plan, index);
-        add_outage(alloc, plan, risks, &orders, &origins, &outage, &mut cuts)?;
+    let outages = outages_of(alloc, plan, risks, named_only)?;
+    let mut outcomes = Vec::new(alloc);
+    for i in 0..outages.len() {
+        let outage = outages[i];
+        let cuts = cuts_of(alloc, plan, risks, &orders, &origins, &outage)?;
+        outcomes.push(Outcome { outage, cuts })?;
     }
-    Ok(cuts)
+    Ok(outcomes)
 }

@@ -3,7 +3,7 @@ ghost use Rattle.std.specs.Prelude.{◌≡◌, ◌<◌, ◌^◌, ◌++◌, ◌�
 ghost use Rattle.std.specs.List.{list_any};
 ghost use Rattle.std.specs.Option.{option_map_or};
 ghost use Rattle.std.specs.Str.{bytes_eq};
-ghost use Rattle.tx_risk.specs.NamedRisks.{named_groups};
+ghost use Rattle.tx_risk.specs.NamedRisks.{risk_name, named_groups};
 
 use indexmap::IndexMap;
 use std::alloc::{Allocator, Global};
@@ -56,7 +56,7 @@ impl<A: Allocator> Risks<A> {
 
     /// The name of the risk at an index; no bytes, if there is none.
     pub fn name(&self, index: usize) -> &[u8]
-        ensures { result.now ≡ option_map_or (λ r. r.name) (slice_get self.now index) [] }
+        ensures { result.now ≡ risk_name self.now index }
     {
         match self.rows.get_index(index) {
             Some((name, _)) => name.bytes(),

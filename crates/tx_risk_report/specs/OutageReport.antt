@@ -1,16 +1,15 @@
 -- What the outages of a plan cut off, as it is written.
-use Rattle.std.specs.Prelude.{ℕ, Bool, false, ◌==◌, List, [], ◌∷◌, ◌++◌, Option, Some, None, if◌then◌else◌, length, codes, decimal, slice_get}
-use Rattle.std.specs.List.{flat_map}
-use Rattle.std.specs.Option.{option_map_or}
+use Rattle.std.specs.Prelude.{ℕ, Bool, true, false, not, ◌&&◌, ◌||◌, ◌==◌, List, [], ◌++◌, if◌then◌else◌, length, count_by, sum_by, codes, decimal}
+use Rattle.std.specs.List.{flat_map, range_with_len}
 use Rattle.tx_plan.specs.Plan.{Plan, exchange_name, figures_of, group_name}
-use Rattle.tx_rank.specs.Walks.{Walk}
+use Rattle.tx_rank.specs.Walks.{Walk, end_of}
 use Rattle.tx_risk.specs.declared.outage.Outage.{Outage}
 use Rattle.tx_risk.specs.declared.outage.Outage.TheVariants.{Group, Exchange, Named}
 use Rattle.tx_risk.specs.declared.cut.Cut.{Cut}
+use Rattle.tx_risk.specs.declared.cut.Outcome.{Outcome}
 use Rattle.tx_risk.specs.declared.surviving.Survival.{Survival}
 use Rattle.tx_risk.specs.declared.surviving.Survival.TheVariants.{Tried, Ungraded}
-use Rattle.tx_risk.specs.NamedRisks.{NamedRisk}
-use Rattle.tx_risk.specs.Outages.{outages}
+use Rattle.tx_risk.specs.NamedRisks.{NamedRisk, risk_name}
 use Rattle.tx_rank.specs.Report.{step_text, verdict_line}
 use Rattle.tx_rank.specs.GradeText.{grade_text}
 
@@ -18,27 +17,26 @@ use Rattle.tx_rank.specs.GradeText.{grade_text}
 abbrev pub head_line : ℕ → List ℕ
 head_line n = codes "SURVIVE RISKS " ++ (decimal n ++ codes "\n")
 
--- the name of the risk at an index; nothing for an index that has none
-abbrev pub risk_name : List NamedRisk → ℕ → List ℕ
-risk_name risks i = option_map_or (λ r. r.name) (slice_get risks i) []
-
 -- what fails
-abbrev pub outage_line : Plan → List NamedRisk → Outage → List ℕ
-outage_line p risks (Group g) = codes "GROUP " ++ (group_name p g ++ codes "\n")
-outage_line p risks (Exchange x) = codes "EXCHANGE " ++ (exchange_name p x ++ codes "\n")
-outage_line p risks (Named i) = codes "RISK " ++ (risk_name risks i ++ codes "\n")
+abbrev pub outage_words : Plan → List NamedRisk → Outage → List ℕ
+outage_words p risks (Group g) = codes "GROUP " ++ group_name p g
+outage_words p risks (Exchange x) = codes "EXCHANGE " ++ exchange_name p x
+outage_words p risks (Named i) = codes "RISK " ++ risk_name risks i
 
--- the same fails
-abbrev pub same_outage : Outage → Outage → Bool
-same_outage (Group g) (Group h) = g == h
-same_outage (Exchange x) (Exchange y) = x == y
-same_outage (Named i) (Named j) = i == j
-same_outage o q = false
+-- it is a named risk
+abbrev pub is_named : Outage → Bool
+is_named (Named i) = true
+is_named o = false
 
--- the same fails as in the line before, if there is one
-abbrev pub is_same_as : (before : Option Outage) → Outage → Bool
-is_same_as None o = false
-is_same_as (Some q) o = same_outage q o
+-- it is a group
+abbrev pub is_group : Outage → Bool
+is_group (Group g) = true
+is_group o = false
+
+-- it is an exchange
+abbrev pub is_exchange : Outage → Bool
+is_exchange (Exchange x) = true
+is_exchange o = false
 
 -- the first word of a cut, and its blank
 abbrev pub cut_word : (stray : Bool) → List ℕ
@@ -50,29 +48,66 @@ start_text p code w =
     figures_of p code ++ (codes " " ++ (exchange_name p w.start ++ (codes " VIA "
     ++ (exchange_name p w.start ++ (flat_map (step_text p) w.steps ++ codes "\n")))))
 
+-- how many outages of a kind cut nobody off, if some do not
+abbrev pub harmless_line : List ℕ → ℕ → List ℕ
+harmless_line kind n = if n == 0 then [] else kind ++ (decimal n ++ codes " CUT 0\n")
+
 module _ {A : Type 0} where
+  -- nobody is cut off
+  abbrev pub is_harmless : Outcome A → Bool
+  is_harmless o = length o.cuts.items == 0
+
+  -- what fails, and how many starts it cuts off, without a way home and with one
+  abbrev pub total_line : Plan → List NamedRisk → Outcome A → List ℕ
+  total_line p risks o =
+      outage_words p risks o.outage
+      ++ (codes " CUT " ++ (decimal (count_by (λ c. not c.stray) o.cuts.items)
+      ++ (codes " STRAY " ++ (decimal (count_by (λ c. c.stray) o.cuts.items) ++ codes "\n"))))
+
+  -- that, of a named risk, and of a group or an exchange that cuts somebody off
+  abbrev pub total_text : Plan → List NamedRisk → Outcome A → List ℕ
+  total_text p risks o =
+      if is_named o.outage || not (is_harmless o) then total_line p risks o else []
+
+  -- the groups and the exchanges that cut nobody off
+  abbrev pub harmless_text : List (Outcome A) → List ℕ
+  harmless_text outcomes =
+      harmless_line (codes "GROUPS ")
+      (count_by (λ o. is_group o.outage && is_harmless o) outcomes)
+      ++ harmless_line (codes "EXCHANGES ")
+      (count_by (λ o. is_exchange o.outage && is_harmless o) outcomes)
+
   -- whom it cuts off
   abbrev pub cut_line : Plan → Cut A → List ℕ
   cut_line p c = cut_word c.stray ++ start_text p c.code c.walk
 
-  -- a cut, after what fails if that is not the same as before
-  abbrev pub cut_text : Plan → List NamedRisk → (before : Option Outage) → Cut A → List ℕ
-  cut_text p risks before c =
-      (if is_same_as before c.outage then [] else outage_line p risks c.outage) ++ cut_line p c
+  -- those of which the walk ends at the exchange x
+  abbrev pub cuts_at : Plan → List (Cut A) → (x : ℕ) → List ℕ
+  cuts_at p cuts x =
+      flat_map (λ c. if end_of c.walk.start c.walk.steps == x then cut_line p c else []) cuts
 
-  -- all cuts, one after another
-  abbrev pub cuts_text : Plan → List NamedRisk → (before : Option Outage) → List (Cut A) → List ℕ
-  cuts_text p risks before [] = []
-  cuts_text p risks before (c ∷ cuts) =
-      cut_text p risks before c ++ cuts_text p risks (Some c.outage) cuts
+  -- what fails, and whom it cuts off, by where their walks end; nothing, if it cuts nobody off
+  abbrev pub block_text : Plan → List NamedRisk → Outcome A → List ℕ
+  block_text p risks o =
+      if is_harmless o then []
+      else outage_words p risks o.outage ++ (codes "\n"
+      ++ flat_map (cuts_at p o.cuts.items) (range_with_len 0 (length p.exchanges)))
 
-  -- how many outages were tried, the cuts, and the verdict
-  abbrev pub tried_text : Plan → List NamedRisk → List (Cut A) → List ℕ
-  tried_text p risks cuts =
-      head_line (outages p risks) ++ (cuts_text p risks None cuts ++ verdict_line (length cuts))
+  -- how many starts are cut off, by all outages
+  abbrev pub count_of : List (Outcome A) → ℕ
+  count_of outcomes = sum_by (λ o. length o.cuts.items) outcomes
 
-  -- the report: how many outages were tried, what each cuts off, and the verdict; or the text of
-  -- the grade, where the plan has none
-  abbrev pub survival_text : Plan → List NamedRisk → Survival A → List ℕ
-  survival_text p risks (Tried cuts) = tried_text p risks cuts.items
-  survival_text p risks (Ungraded grade) = grade_text p grade
+  -- how many outages were tried, how many starts each cuts off, whom, and the verdict
+  abbrev pub tried_text : Plan → List NamedRisk → (totals_only : Bool) → List (Outcome A) → List ℕ
+  tried_text p risks totals_only outcomes =
+      head_line (length outcomes)
+      ++ (flat_map (total_text p risks) outcomes
+      ++ (harmless_text outcomes
+      ++ ((if totals_only then [] else flat_map (block_text p risks) outcomes)
+      ++ verdict_line (count_of outcomes))))
+
+  -- the report: of the outages that were tried; or the text of the grade, where the plan has none
+  abbrev pub survival_text : Plan → List NamedRisk → (totals_only : Bool) → Survival A → List ℕ
+  survival_text p risks totals_only (Tried outcomes) =
+      tried_text p risks totals_only outcomes.items
+  survival_text p risks totals_only (Ungraded grade) = grade_text p grade

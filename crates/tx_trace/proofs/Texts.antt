@@ -3,7 +3,7 @@ use Rattle.std.proofs.Common.{◌≡◌, ◌≢◌, ℕ, ◌+◌, ◌<◌, true,
 use Rattle.std.specs.Prelude.{decimal}
 use Rattle.std.specs.List.{flat_map, enumerate_from}
 use Rattle.std.specs.Option.{option_map_or}
-use Rattle.std.proofs.lemmas.Bool.{eqb-false}
+use Rattle.std.proofs.lemmas.Bool.{eqb-true, eqb-false}
 use Rattle.std.proofs.lemmas.List.FromFn.{get_or-enumerate_from}
 use Rattle.tx_plan.specs.Plan.{Plan, home_of, exchange_name, group_name}
 use Rattle.tx_plan.specs.Circuits.{other_end}
@@ -14,9 +14,29 @@ use Rattle.tx_rank.proofs.Looks.{among_at}
 use Rattle.tx_trace.specs.declared.tracing.Trace.{Trace}
 use Rattle.tx_trace.specs.Ways.{all_met}
 use Rattle.tx_trace.specs.Heights.{rank_from}
-use Rattle.tx_trace.specs.TraceText.{rank_text, home_line, place_text, place_line, list_lines, met_lines}
+use Rattle.tx_trace.specs.TraceText.{down_line, rank_text, home_line, place_text, place_line, list_lines, met_lines}
 use Rattle.tx_trace.specs.Traces.{rank_told, IsTraceOf}
 use Rattle.tx_trace.proofs.Ends.{among_ends}
+
+-- a blank and the name of a group
+abbrev pub name_after : Plan → ℕ → List ℕ
+name_after p g = codes " " ++ group_name p g
+
+pub name_cut : (p : Plan) (g : ℕ) → name_after p g ≡ codes " " ++ (group_name p g ++ [])
+name_cut p g = ap (λ l. codes " " ++ l) (sym (append-nil (group_name p g)))
+
+-- the line of groups that are down
+pub down_none : (p : Plan) (down : List ℕ) → eqb (length down) 0 ≡ true → down_line p down ≡ []
+down_none p [] none = refl
+down_none p (g ∷ gs) none = let long = eqb-true (length (g ∷ gs)) 0 none in absurd (omega arith)
+
+pub down_some : (p : Plan) (down : List ℕ) → eqb (length down) 0 ≡ false
+    → down_line p down ≡ codes "DOWN" ++ (flat_map (name_after p) down ++ codes "\n")
+down_some p [] some = let bad : ⊥ = cc in absurd bad
+down_some p (g ∷ gs) some = refl
+
+pub group_cut : (a b c rest : List ℕ) → a ++ (b ++ (c ++ rest)) ≡ (a ++ (b ++ (c ++ []))) ++ rest
+group_cut a b c rest = simp (append_assoc, append-nil)
 
 pub way_cut : (a b rest : List ℕ) → a ++ (b ++ rest) ≡ (a ++ (b ++ [])) ++ rest
 way_cut a b rest = simp (append_assoc, append-nil)

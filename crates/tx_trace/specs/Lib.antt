@@ -2,6 +2,8 @@ pub mod Ways
 pub mod Heights
 pub mod Ranked
 pub mod OnlyCall
+pub mod Left
 pub mod TraceText
+pub mod GroupText
 pub mod Traces
 pub mod inner

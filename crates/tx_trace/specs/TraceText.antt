@@ -1,5 +1,5 @@
 -- The trace of calls for a code from an exchange, as it is written.
-use Rattle.std.specs.Prelude.{ℕ, ◌==◌, if◌then◌else◌, List, [], ◌++◌, codes, decimal, Option, Some, None}
+use Rattle.std.specs.Prelude.{ℕ, ◌==◌, if◌then◌else◌, List, [], ◌∷◌, ◌++◌, codes, decimal, Option, Some, None}
 use Rattle.std.specs.List.{flat_map, enumerate_from}
 use Rattle.std.specs.Option.{option_map_or}
 use Rattle.tx_plan.specs.Plan.{Plan, exchange_name, figures_of, group_name, home_of}
@@ -13,6 +13,12 @@ use Rattle.tx_trace.specs.Heights.{rank_from}
 abbrev pub head_line : Plan → (c x : ℕ) → List ℕ
 head_line p c x =
     codes "TRACE " ++ (figures_of p c ++ (codes " FROM " ++ (exchange_name p x ++ codes "\n")))
+
+-- the groups that are down, as in `DOWN NOSO1`, if some are
+abbrev pub down_line : Plan → (down : List ℕ) → List ℕ
+down_line p [] = []
+down_line p (g ∷ gs) =
+    codes "DOWN" ++ (flat_map (λ h. codes " " ++ group_name p h) (g ∷ gs) ++ codes "\n")
 
 -- that a bar keeps calls for the code from starting at x, as in `BARRED NORTH 24`; else nothing
 abbrev pub bar_line : Plan → (c x : ℕ) → List ℕ
@@ -56,8 +62,9 @@ list_lines p c ranks y =
 abbrev pub met_lines : Plan → (c : ℕ) → (ranks : ℕ → Option ℕ) → (y : ℕ) → List ℕ
 met_lines p c ranks y = if y == home_of p c then home_line p y else list_lines p c ranks y
 
--- The trace: what was asked, the first way, and each exchange that is met
-abbrev pub trace_text : Plan → (c x : ℕ) → List ℕ
-trace_text p c x =
-    head_line p c x ++ (bar_line p c x ++ (way_line p x (first_way p c x)
-    ++ flat_map (met_lines p c (rank_from p c x)) (all_met p c x)))
+-- The trace: what was asked, the first way, and each exchange that is met. The plan has no list
+-- with a group that is down.
+abbrev pub trace_text : Plan → (down : List ℕ) → (c x : ℕ) → List ℕ
+trace_text p down c x =
+    head_line p c x ++ (down_line p down ++ (bar_line p c x ++ (way_line p x (first_way p c x)
+    ++ flat_map (met_lines p c (rank_from p c x)) (all_met p c x))))

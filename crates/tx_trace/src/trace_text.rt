@@ -2,7 +2,8 @@
 ghost use Rattle.std.specs.Prelude.{◌++◌, codes, Option};
 ghost use Rattle.std.specs.List.{flat_map};
 ghost use Rattle.tx_text.specs.Wrote.{Wrote};
-ghost use Rattle.tx_trace.specs.TraceText.{head_line, bar_line, way_line, home_line, rank_text, place_line, list_lines, met_lines, trace_text};
+ghost use Rattle.tx_plan.specs.Plan.{group_name};
+ghost use Rattle.tx_trace.specs.TraceText.{head_line, down_line, bar_line, way_line, home_line, rank_text, place_line, list_lines, met_lines, trace_text};
 ghost use Rattle.tx_trace.specs.Traces.{IsTraceOf, rank_told};
 
 use crate::tracing::Trace;
@@ -12,18 +13,21 @@ use tx_plan::{CodeId, ExchangeId, GroupId, Plan};
 use tx_rank::write_steps;
 use tx_text::{Sink, WriteFault, write_parts};
 
-/// Writes a trace: what was asked, the way while all is free, and for each exchange that is met its
-/// list, or that it is the home.
+/// Writes a trace, in the plan that is left while some groups are down: what was asked, these
+/// groups, the way while all else is free, and for each exchange that is met its list, or that it
+/// is the home.
 pub fn write_trace<A: Allocator, W: Sink>(
     plan: &Plan<A>,
+    down: &[GroupId],
     trace: &Trace<A>,
     sink: &mut W,
 ) -> Result<(), WriteFault>
     requires { IsTraceOf plan.now trace.now }
     ensures { Wrote W.taken W.failed sink.old sink.new
-        (trace_text plan.now trace.now.code trace.now.exchange) result }
+        (trace_text plan.now down.now trace.now.code trace.now.exchange) result }
 {
     write_head(plan, trace.code, trace.exchange, sink)?;
+    write_down(plan, down, sink)?;
     write_bar(plan, trace.code, trace.exchange, sink)?;
     write_way(plan, trace.exchange, &trace.first, sink)?;
     write_all_met(plan, trace, sink)
@@ -41,6 +45,37 @@ fn write_head<A: Allocator, W: Sink>(
     let figures = plan.code_figures(code);
     let name = plan.exchange_name(exchange);
     write_parts(&[b"TRACE ", figures, b" FROM ", name, b"\n"], sink)
+}
+
+/// Writes the groups that are down, if some are.
+pub fn write_down<A: Allocator, W: Sink>(
+    plan: &Plan<A>,
+    down: &[GroupId],
+    sink: &mut W,
+) -> Result<(), WriteFault>
+    ensures { Wrote W.taken W.failed sink.old sink.new (down_line plan.now down.now) result }
+{
+    if down.is_empty() {
+        return Ok(());
+    }
+    write_parts(&[b"DOWN"], sink)?;
+    write_names(plan, down, sink)?;
+    write_parts(&[b"\n"], sink)
+}
+
+/// Writes a space and a name for each group.
+fn write_names<A: Allocator, W: Sink>(
+    plan: &Plan<A>,
+    groups: &[GroupId],
+    sink: &mut W,
+) -> Result<(), WriteFault>
+    ensures { Wrote W.taken W.failed sink.old sink.new
+        (flat_map (λ g. codes " " ++ group_name plan.now g) groups.now) result }
+{
+    for i in 0..groups.len() {
+        write_parts(&[b" ", plan.group_name(groups[i])], sink)?;
+    }
+    Ok(())
 }
 
 /// Writes that calls for the code may not start at the exchange, if a bar says so.

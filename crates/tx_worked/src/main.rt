@@ -19,8 +19,8 @@
 //!   `stage L K N` writes after its report the plan after stage N and its certificate. `mend L K`
 //!   has a plan, and writes after its report the mended plan and its certificate. `trace EXCHANGE
 //!   CODE` has a plan, and `lint FILE` one that is named so. `survive` has a plan and a text of
-//!   risks, and `survive alone` a plan. Each is played by sources of 1, 2, 7 and 4,096 bytes a call,
-//!   which has to make no difference. `draw`, `draw CODE` and `draw CODE L K` have a plan.
+//!   risks, and `survive alone` a plan. Each is played by sources of 1, 2, 7 and 4,096 bytes a
+//!   call, which has to make no difference. `draw`, `draw CODE` and `draw CODE L K` have a plan.
 //! - `pictures` and `pictures L K` have a plan, which is drawn, and each of its codes, with the
 //!   walk of the code's first finding where there are numbers.
 //! - `each-end` before such a kind also refuses each request for memory, gives each smaller room,
@@ -44,9 +44,9 @@
 //! - `program` plays the program at its ends, over the files beside the folder `cases`:
 //!   `cases/end_case.rt` has what is in its head. `arguments` tells how it refuses its arguments.
 //! - `family` judges the ranking over a family of plans, `pairs` the change of each into each,
-//!   `orders` the order from each to each, `mends` the mending of each, and `outages` what each group, each exchange and each two groups
-//!   cut off in each. `twins` plays the engine beside the plain network. The calls of the crates
-//!   below have the kinds of `tests`.
+//!   `orders` the order from each to each, `mends` the mending of each, and `outages` what each
+//!   group, each exchange and each two groups cut off in each. `twins` plays the engine beside the
+//!   plain network. The calls of the crates below have the kinds of `tests`.
 #![tactic(auto)]
 
 mod cases;

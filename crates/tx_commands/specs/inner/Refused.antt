@@ -1,13 +1,13 @@
 -- Why the words of a command that was found are refused.
-use Rattle.std.specs.Prelude.{◌≡◌, ℕ, true, false, ◌&&◌, ◌||◌, List, Option, Some, option_map, codes, IsSomeAnd}
-use Rattle.clap.specs.Words.{Row, first_of}
+use Rattle.std.specs.Prelude.{◌≡◌, ℕ, true, false, not, ◌&&◌, ◌||◌, List, Option, Some, option_map, codes, IsSomeAnd}
+use Rattle.clap.specs.Words.{Row}
 use Rattle.tx_explain.specs.Entries.{is_known}
-use Rattle.tx_commands.specs.Commands.{IsFoundIn, is_set}
+use Rattle.tx_commands.specs.Commands.{IsFoundIn, is_set, line_of}
 use Rattle.tx_commands.specs.Files.{reads_input_twice, overwrites}
 use Rattle.tx_commands.specs.Faults.{has, IsRunInPart}
 use Rattle.tx_commands.specs.declared.command.Command.{Command}
 use Rattle.tx_commands.specs.declared.misuse.Misuse.{Misuse}
-use Rattle.tx_commands.specs.declared.misuse.Misuse.TheVariants.{Together, CheckedTelling, DrawTogether, StageMissing, NoSuchCode, InputTwice, Overwrites}
+use Rattle.tx_commands.specs.declared.misuse.Misuse.TheVariants.{Together, CheckedTelling, DrawTogether, StageMissing, RisksOnly, TraceWords, NoSuchCode, InputTwice, Overwrites, NoMemory}
 
 -- `run` has a certificate, and an option by which it prints more
 pub record IsCheckedTelling (name : List ℕ) (found : List Row) : Type 0 where
@@ -29,15 +29,32 @@ pub record IsStageMissing (name : List ℕ) (found : List Row) : Type 0 where
   pub some : (has found (codes "plan") || has found (codes "cert")) ≡ true
   pub none : has found (codes "stage") ≡ false
 
--- `explain` has a word that asks for no entry of the table
+-- `survive` is to try the named risks alone, and none are named
+pub record IsRisksOnly (name : List ℕ) (found : List Row) : Type 0 where
+  pub survive : name ≡ codes "survive"
+  pub only : is_set found (codes "risks-only") ≡ true
+  pub none : has found (codes "risks") ≡ false
+
+-- `trace` has neither an exchange and a code without a group, nor a group alone
+pub record IsTraceInPart (name : List ℕ) (found : List Row) : Type 0 where
+  pub trace : name ≡ codes "trace"
+  pub not_calls :
+      (has found (codes "exchange")
+      && (has found (codes "code") && not (has found (codes "group")))) ≡ false
+  pub not_group :
+      (has found (codes "group") && not (has found (codes "exchange")
+      || (has found (codes "code") || has found (codes "down")))) ≡ false
+
+-- `explain` has words that ask for no entry of the table
 pub record IsNoCode (name : List ℕ) (found : List Row) : Type 0 where
   pub explain : name ≡ codes "explain"
-  pub unknown : option_map is_known (first_of (codes "code") found) ≡ Some false
+  pub unknown : option_map is_known (line_of found (codes "word")) ≡ Some false
 
--- two files of the command clash in this way
+-- two files of the command clash in this way, or memory ran out for the name of one
 abbrev pub IsClash : Command → Misuse → Type 0
 IsClash command InputTwice = reads_input_twice command ≡ true
-IsClash command Overwrites = overwrites command ≡ true
+IsClash command (Overwrites name) = overwrites command ≡ true
+IsClash command NoMemory = Unit {0}
 IsClash command other = ⊥
 
 -- the words that were found ask for a command of which two files clash in this way
@@ -51,7 +68,9 @@ IsRefused command Together = IsSomeAnd command (λ c. IsRunInPart c.0 c.1)
 IsRefused command CheckedTelling = IsSomeAnd command (λ c. IsCheckedTelling c.0 c.1)
 IsRefused command DrawTogether = IsSomeAnd command (λ c. IsDrawInPart c.0 c.1)
 IsRefused command StageMissing = IsSomeAnd command (λ c. IsStageMissing c.0 c.1)
-IsRefused command NoSuchCode = IsSomeAnd command (λ c. IsNoCode c.0 c.1)
+IsRefused command RisksOnly = IsSomeAnd command (λ c. IsRisksOnly c.0 c.1)
+IsRefused command TraceWords = IsSomeAnd command (λ c. IsTraceInPart c.0 c.1)
+IsRefused command (NoSuchCode word) = IsSomeAnd command (λ c. IsNoCode c.0 c.1)
 IsRefused command InputTwice = AskForClash command InputTwice
-IsRefused command Overwrites = AskForClash command Overwrites
+IsRefused command (Overwrites name) = AskForClash command (Overwrites name)
 IsRefused command other = Unit {0}

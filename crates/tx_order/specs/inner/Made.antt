@@ -13,6 +13,12 @@ use Rattle.tx_order.specs.OrderTold.{IsStageOf, IsStageCert}
 use Rattle.tx_order.specs.OrderText.{order_report}
 use Rattle.tx_order.specs.inner.Asked.{AreListsOf}
 
+-- what is answered where nothing is made of a stage
+abbrev pub IsNotMadeOf : Order → ℕ → OrderFault → Type 0
+IsNotMadeOf o n (NoSuchStage stages) = (stages ≡ stages_in o) × (IsStageOf o n → ⊥)
+IsNotMadeOf o n Write = ⊥
+IsNotMadeOf o n NoMemory = Unit {0}
+
 module _ {A : Type 0} where
   -- the lists of the plan after a stage, and its certificate
   pub record IsMadeOf (o : Order) (n : ℕ) (made : Lists A × Certificate) : Type 0 where
@@ -21,12 +27,10 @@ module _ {A : Type 0} where
     pub lists : AreListsOf (plan_before o n) made.0
     pub cert : IsStageCert o n made.1
 
-  -- or the stage is not there, or there was no memory
+  -- what is made of a stage
   abbrev pub IsStageMade : Order → ℕ → Result (Lists A × Certificate) OrderFault → Type 0
   IsStageMade o n (Ok made) = IsMadeOf o n made
-  IsStageMade o n (Err (NoSuchStage stages)) = (stages ≡ stages_in o) × (IsStageOf o n → ⊥)
-  IsStageMade o n (Err Write) = ⊥
-  IsStageMade o n (Err NoMemory) = Unit {0}
+  IsStageMade o n (Err f) = IsNotMadeOf o n f
 
   -- what is made of the stage that is asked for, if one is
   abbrev pub IsMade : Option ℕ → Switching A → Option (Lists A × Certificate) → Type 0
@@ -41,8 +45,7 @@ module _ {A : Type 0} where
 
   -- what is answered where nothing is made
   abbrev pub IsNotMade : Option ℕ → Switching A → OrderFault → Type 0
-  IsNotMade (Some n) (Ordered o) (NoSuchStage stages) = (stages ≡ stages_in o) × (IsStageOf o n → ⊥)
-  IsNotMade (Some n) (Ordered o) NoMemory = Unit {0}
+  IsNotMade (Some n) (Ordered o) f = IsNotMadeOf o n f
   IsNotMade stage switching f = ⊥
 
   -- what is answered of the stage

@@ -21,7 +21,7 @@ module _ {A : Type 0} where
 
   -- those from the exchanges before index i
   pub record AreCutsBefore (l : Left) (o : Outage) (i : ℕ) (cuts : List (Cut A)) : Type 0 where
-    pub each : (c : Cut A) → Among c cuts → IsCutAs (left_net l) o l.code c
+    pub each : (c : Cut A) → Among c cuts → IsCutAs (left_net l) l.code c
     pub asked : (c : Cut A) → Among c cuts → is_asked l.plan o l.code (start_at c) ≡ true
     pub order : EachPair (λ x y. x < y) (map start_at cuts)
     pub below : (y : ℕ) → Among y (map start_at cuts) → y < i

@@ -9,7 +9,7 @@ use tx_commands::{Command, Files, WordsFault, read_command};
 /// The words of a command by the kind of its case and, where it matters, the word after the kind.
 /// `@1`, `@2` and `@3` stand for the words after the kind: where there is no such word, what has it
 /// is left out. All that a command can print and make is asked for.
-static COMMANDS: [(&str, &str, &str); 19] = [
+static COMMANDS: [(&str, &str, &str); 25] = [
     ("pipe", "", ""),
     ("run", "", "run plan script"),
     (
@@ -25,6 +25,7 @@ static COMMANDS: [(&str, &str, &str); 19] = [
     ),
     ("telling", "", "run plan script --strict --echo"),
     ("check", "", "check plan cert --limit=@1 --spare=@2"),
+    ("lint", "risks", "lint @2 --risks=risks"),
     ("lint", "", "lint @1"),
     ("codes", "", "codes plan"),
     (
@@ -49,9 +50,22 @@ static COMMANDS: [(&str, &str, &str); 19] = [
         "mend old --limit=@1 --spare=@2 --plan=plan --cert=cert",
     ),
     ("survive", "alone", "survive plan"),
+    ("survive", "totals", "survive plan --risks=risks --totals"),
+    (
+        "survive",
+        "named",
+        "survive plan --risks=risks --risks-only",
+    ),
+    (
+        "survive",
+        "named-totals",
+        "survive plan --risks=risks --risks-only --totals",
+    ),
     ("survive", "", "survive plan --risks=risks"),
     ("grade", "", "grade plan"),
-    ("trace", "", "trace plan @1 @2"),
+    ("trace", "group", "trace plan --group=@2"),
+    ("trace", "", "trace plan @1 @2 --down=@3"),
+    ("fill", "", "fill plan @1 @2 --down=@3"),
     ("draw", "", "draw plan --code=@1 --limit=@2 --spare=@3"),
 ];
 

@@ -73,12 +73,11 @@ fn add_each(plan: &Plan, all: &mut Vec<Failing>) -> Result<(), NoMemory> {
 
 /// Adds each group of a plan with each that is declared after it.
 fn add_both(plan: &Plan, all: &mut Vec<Failing>) -> Result<(), NoMemory> {
-    let before = all.len();
     for i in 0..plan.groups() {
         for j in i..plan.groups() {
             if let (Some(one), Some(other)) = (plan.group_at(i), plan.group_at(j)) {
                 if one != other {
-                    let index = all.len().saturating_sub(before);
+                    let index = all.len();
                     all.push(Failing::Both(index, one, other))?;
                 }
             }
@@ -90,8 +89,8 @@ fn add_both(plan: &Plan, all: &mut Vec<Failing>) -> Result<(), NoMemory> {
 /// Makes the list of all that fails in a plan, in order.
 pub fn put_failing(plan: &Plan, all: &mut Vec<Failing>) -> Result<(), NoMemory> {
     all.clear();
-    add_each(plan, all)?;
-    add_both(plan, all)
+    add_both(plan, all)?;
+    add_each(plan, all)
 }
 
 /// Adds the line of a named risk.

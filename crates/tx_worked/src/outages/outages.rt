@@ -64,7 +64,14 @@ fn outages_differ(
     work: &OutageWork,
 ) -> Result<Option<Difference>, Stop> {
     let risks = read_risks(alloc, work.risks.as_slice(), plan)?;
-    Ok(survival_differs(alloc, plan, &risks, &work.findings, &work.cuts)?)
+    Ok(survival_differs(
+        alloc,
+        plan,
+        &risks,
+        &work.findings,
+        &work.failing,
+        &work.cuts,
+    )?)
 }
 
 /// Judges the outages of a plan.

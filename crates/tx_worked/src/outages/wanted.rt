@@ -3,7 +3,7 @@ use crate::outages::failing::Failing;
 use crate::outages::ways::{Left, NO_WAYS, note_ways};
 use crate::walks::Trail;
 use tx_plan::{CodeId, ExchangeId, Plan};
-use tx_risk::Cut;
+use tx_risk::{Cut, Outage};
 use tx_text::NoMemory;
 
 /// What an outage cuts off: calls for a code that start at an exchange. Stray, where a walk leads
@@ -18,14 +18,14 @@ pub struct WantedCut {
 }
 
 impl WantedCut {
-    /// Whether this is what is told.
-    pub fn is(&self, plan: &Plan, cut: &Cut) -> bool {
+    /// Whether this is what an outage is told to cut off.
+    pub fn is(&self, plan: &Plan, outage: Outage, cut: &Cut) -> bool {
         let left = Left {
             plan,
             code: self.code,
             failing: self.failing,
         };
-        self.failing.is(cut.outage)
+        self.failing.is(outage)
             && cut.code == self.code
             && cut.walk.start == self.start
             && cut.stray == self.stray

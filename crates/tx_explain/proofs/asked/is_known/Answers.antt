@@ -6,5 +6,5 @@ use Rattle.tx_explain.proofs.asked.is_known.Goals as goal
 
 pub returns : goal.returns
 returns c =
-    let asked = is_asked c.args.word.now in
+    let asked = is_asked c.args.line.now in
     c.asks_in_some.ensures ∙ any_of asked c.tables.result ∙ ap (list_any asked) c.tables.ensures

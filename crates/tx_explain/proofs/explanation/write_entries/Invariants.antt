@@ -9,7 +9,7 @@ use Rattle.tx_explain.proofs.explanation.write_entries.Given as goal
 abbrev pub invariant-loop-i : goal.invariant-loop-i
 invariant-loop-i g l =
     let text : List (Bor (List ℕ)) → List ℕ =
-    λ e. told_text (option_map (λ w. w.now) l.word) (texts e) in
+    λ e. told_text (option_map (λ l. l.now) l.line) (texts e) in
     WroteBy (g.W.Sink.taken l.initial.sink) (g.W.Sink.taken l.sink)
     (g.W.Sink.failed l.initial.sink) (g.W.Sink.failed l.sink)
     (flat_map text (take l.i l.entries)) (Ok tt)

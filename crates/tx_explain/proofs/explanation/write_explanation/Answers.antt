@@ -6,6 +6,6 @@ use Rattle.tx_explain.proofs.explanation.write_explanation.Goals as goal
 
 pub returns : goal.returns
 returns g c =
-    let text = told_text (option_map (λ w. w.now) c.args.word) in
+    let text = told_text (option_map (λ l. l.now) c.args.line) in
     rw (text_of text c.tables.result ∙ ap (flat_map text) c.tables.ensures)
     at c.write_tables.ensures

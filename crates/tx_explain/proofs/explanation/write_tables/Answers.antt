@@ -11,7 +11,7 @@ use Rattle.tx_explain.proofs.explanation.write_tables.Goals as goal
 pub returns-in_err-write_entries : goal.returns-in_err-write_entries
 returns-in_err-write_entries g c =
     let text : Bor Entries → List ℕ =
-    λ t. flat_map (λ e. told_text (option_map (λ w. w.now) c.args.word) (texts e)) t.now in
+    λ t. flat_map (λ e. told_text (option_map (λ l. l.now) c.args.line) (texts e)) t.now in
     let failed = c.in_err-write_entries in
     texts_stopped text c.args.tables.now c.loop-i.i _ _ _ _ _ _ _ _ failed.field-0.0
     c.loop-i-test.true (get_or_default _ _ _ _ c.loop-i-test.true) c.loop-i.invariant

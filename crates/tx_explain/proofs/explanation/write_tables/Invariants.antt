@@ -10,7 +10,7 @@ use Rattle.tx_explain.proofs.explanation.write_tables.Given as goal
 abbrev pub invariant-loop-i : goal.invariant-loop-i
 invariant-loop-i g l =
     let text : Bor Entries → List ℕ =
-    λ t. flat_map (λ e. told_text (option_map (λ w. w.now) l.word) (texts e)) t.now in
+    λ t. flat_map (λ e. told_text (option_map (λ l. l.now) l.line) (texts e)) t.now in
     WroteBy (g.W.Sink.taken l.initial.sink) (g.W.Sink.taken l.sink)
     (g.W.Sink.failed l.initial.sink) (g.W.Sink.failed l.sink)
     (flat_map text (take l.i l.tables)) (Ok tt)

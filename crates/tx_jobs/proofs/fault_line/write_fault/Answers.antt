@@ -54,3 +54,6 @@ returns-in-NoSuchStage g c = rw c.in-NoSuchStage.is c.write_stage_count.ensures
 
 pub returns-in-NoSuchCode : goal.returns-in-NoSuchCode
 returns-in-NoSuchCode g c = rw c.in-NoSuchCode.is c.write_bytes-in-NoSuchCode.ensures
+
+pub returns-in-NoSuchGroup : goal.returns-in-NoSuchGroup
+returns-in-NoSuchGroup g c = rw c.in-NoSuchGroup.is c.write_bytes-in-NoSuchGroup.ensures

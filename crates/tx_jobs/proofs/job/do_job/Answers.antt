@@ -1,35 +1,7 @@
-use Rattle.std.proofs.Common.{◌∙◌, Ok, Err, string_bytes, refl}
-use Rattle.tx_text.proofs.Exits.{exits_with}
-use Rattle.tx_jobs.specs.declared.done.Done.TheVariants.{Linted}
+use Rattle.std.proofs.Common.{◌∙◌, string_bytes, refl}
 use Rattle.tx_jobs.specs.declared.job_fault.JobFault.TheVariants.{Write}
-use Rattle.tx_jobs.proofs.Did.{did, stopped, stopped_mark, read_failed, uncalled, is_named}
+use Rattle.tx_jobs.proofs.Did.{did, stopped, stopped_mark, uncalled, is_named}
 use Rattle.tx_jobs.proofs.job.do_job.Goals as goal
-
-pub returns-in_ok-lint_job-in-Lint-clause-done : goal.returns-in_ok-lint_job-in-Lint-clause-done
-returns-in_ok-lint_job-in-Lint-clause-done g c =
-    rw c.in-Lint.is (did c.in_ok-lint_job-in-Lint.field-0 (rw c.as_bytes.ensures.value at c.in_ok-lint_job-in-Lint.ensures.answers), read_failed Linted (Ok c.in_ok-lint_job-in-Lint.field-0) _ refl c.in_ok-lint_job-in-Lint.ensures.failed, (refl, refl))
-
-pub returns-in_err-lint_job-in-Lint-clause-done : goal.returns-in_err-lint_job-in-Lint-clause-done
-returns-in_err-lint_job-in-Lint-clause-done g c =
-    let f = c.in_err-lint_job-in-Lint.field-0.0 in
-    rw c.in-Lint.is
-    (stopped f c.from_residual-in_err-lint_job-in-Lint.result (rw c.as_bytes.ensures.value at c.in_err-lint_job-in-Lint.ensures.answers) c.from_residual-in_err-lint_job-in-Lint.ensures.1, read_failed Linted (Err f) c.from_residual-in_err-lint_job-in-Lint.result (exits_with c.from_residual-in_err-lint_job-in-Lint.result f c.from_residual-in_err-lint_job-in-Lint.ensures.1) c.in_err-lint_job-in-Lint.ensures.failed, (refl, refl))
-
-pub returns-in_err-lint_job-in-Lint-clause-mark : goal.returns-in_err-lint_job-in-Lint-clause-mark
-returns-in_err-lint_job-in-Lint-clause-mark g c =
-    stopped_mark _ _ c.in_err-lint_job-in-Lint.field-0.0 c.from_residual-in_err-lint_job-in-Lint.result c.in_err-lint_job-in-Lint.ensures.mark c.from_residual-in_err-lint_job-in-Lint.ensures.1
-
-pub returns-in_ok-lint_job-in-Lint-clause-second_calls : goal.returns-in_ok-lint_job-in-Lint-clause-second_calls
-returns-in_ok-lint_job-in-Lint-clause-second_calls g c = uncalled g.Q.Source.called c.args.second.now
-
-pub returns-in_err-lint_job-in-Lint-clause-second_calls : goal.returns-in_err-lint_job-in-Lint-clause-second_calls
-returns-in_err-lint_job-in-Lint-clause-second_calls g c = uncalled g.Q.Source.called c.args.second.now
-
-pub returns-in_ok-lint_job-in-Lint-clause-third_calls : goal.returns-in_ok-lint_job-in-Lint-clause-third_calls
-returns-in_ok-lint_job-in-Lint-clause-third_calls g c = uncalled g.R.Source.called c.args.third.now
-
-pub returns-in_err-lint_job-in-Lint-clause-third_calls : goal.returns-in_err-lint_job-in-Lint-clause-third_calls
-returns-in_err-lint_job-in-Lint-clause-third_calls g c = uncalled g.R.Source.called c.args.third.now
 
 pub returns-in_ok-codes_job-in-Codes-clause-done : goal.returns-in_ok-codes_job-in-Codes-clause-done
 returns-in_ok-codes_job-in-Codes-clause-done g c =
@@ -39,11 +11,11 @@ pub returns-in_err-codes_job-in-Codes-clause-done : goal.returns-in_err-codes_jo
 returns-in_err-codes_job-in-Codes-clause-done g c =
     let f = c.in_err-codes_job-in-Codes.field-0.0 in
     rw c.in-Codes.is
-    (stopped f c.from_residual-in_err-codes_job-in-Codes.result c.in_err-codes_job-in-Codes.ensures.answers c.from_residual-in_err-codes_job-in-Codes.ensures.1, (refl, refl))
+    (stopped f c.from_residual.result c.in_err-codes_job-in-Codes.ensures.answers c.from_residual.ensures.1, (refl, refl))
 
 pub returns-in_err-codes_job-in-Codes-clause-mark : goal.returns-in_err-codes_job-in-Codes-clause-mark
 returns-in_err-codes_job-in-Codes-clause-mark g c =
-    stopped_mark _ _ c.in_err-codes_job-in-Codes.field-0.0 c.from_residual-in_err-codes_job-in-Codes.result c.in_err-codes_job-in-Codes.ensures.mark c.from_residual-in_err-codes_job-in-Codes.ensures.1
+    stopped_mark _ _ c.in_err-codes_job-in-Codes.field-0.0 c.from_residual.result c.in_err-codes_job-in-Codes.ensures.mark c.from_residual.ensures.1
 
 pub returns-in_ok-codes_job-in-Codes-clause-second_calls : goal.returns-in_ok-codes_job-in-Codes-clause-second_calls
 returns-in_ok-codes_job-in-Codes-clause-second_calls g c = uncalled g.Q.Source.called c.args.second.now
@@ -111,32 +83,6 @@ returns-in_ok-mend_job-in-Mend-clause-third_calls g c = uncalled g.R.Source.call
 pub returns-in_err-mend_job-in-Mend-clause-third_calls : goal.returns-in_err-mend_job-in-Mend-clause-third_calls
 returns-in_err-mend_job-in-Mend-clause-third_calls g c = uncalled g.R.Source.called c.args.third.now
 
-pub returns-in_ok-survive_job-in-Survive-default-None-clause-done : goal.returns-in_ok-survive_job-in-Survive-default-None-clause-done
-returns-in_ok-survive_job-in-Survive-default-None-clause-done g c =
-    rw (c.in-Survive-default-None.is, rw c.in-Survive-default-None.is at c.in-Survive-default-None.risks-is) (did c.in_ok-survive_job-in-Survive-default-None.field-0 c.in_ok-survive_job-in-Survive-default-None.ensures.answers, (refl, refl))
-
-pub returns-in_err-survive_job-in-Survive-default-None-clause-done : goal.returns-in_err-survive_job-in-Survive-default-None-clause-done
-returns-in_err-survive_job-in-Survive-default-None-clause-done g c =
-    let f = c.in_err-survive_job-in-Survive-default-None.field-0.0 in
-    rw (c.in-Survive-default-None.is, rw c.in-Survive-default-None.is at c.in-Survive-default-None.risks-is)
-    (stopped f c.from_residual.result c.in_err-survive_job-in-Survive-default-None.ensures.answers c.from_residual.ensures.1, (refl, refl))
-
-pub returns-in_err-survive_job-in-Survive-default-None-clause-mark : goal.returns-in_err-survive_job-in-Survive-default-None-clause-mark
-returns-in_err-survive_job-in-Survive-default-None-clause-mark g c =
-    stopped_mark _ _ c.in_err-survive_job-in-Survive-default-None.field-0.0 c.from_residual.result c.in_err-survive_job-in-Survive-default-None.ensures.mark c.from_residual.ensures.1
-
-pub returns-in_ok-survive_job-in-Survive-default-None-clause-second_calls : goal.returns-in_ok-survive_job-in-Survive-default-None-clause-second_calls
-returns-in_ok-survive_job-in-Survive-default-None-clause-second_calls g c = uncalled g.Q.Source.called c.args.second.now
-
-pub returns-in_err-survive_job-in-Survive-default-None-clause-second_calls : goal.returns-in_err-survive_job-in-Survive-default-None-clause-second_calls
-returns-in_err-survive_job-in-Survive-default-None-clause-second_calls g c = uncalled g.Q.Source.called c.args.second.now
-
-pub returns-in_ok-survive_job-in-Survive-default-None-clause-third_calls : goal.returns-in_ok-survive_job-in-Survive-default-None-clause-third_calls
-returns-in_ok-survive_job-in-Survive-default-None-clause-third_calls g c = uncalled g.R.Source.called c.args.third.now
-
-pub returns-in_err-survive_job-in-Survive-default-None-clause-third_calls : goal.returns-in_err-survive_job-in-Survive-default-None-clause-third_calls
-returns-in_err-survive_job-in-Survive-default-None-clause-third_calls g c = uncalled g.R.Source.called c.args.third.now
-
 pub returns-in_ok-grade_job-in-Grade-clause-done : goal.returns-in_ok-grade_job-in-Grade-clause-done
 returns-in_ok-grade_job-in-Grade-clause-done g c =
     rw c.in-Grade.is (did c.in_ok-grade_job-in-Grade.field-0 c.in_ok-grade_job-in-Grade.ensures.answers, (refl, refl))
@@ -162,32 +108,6 @@ returns-in_ok-grade_job-in-Grade-clause-third_calls g c = uncalled g.R.Source.ca
 
 pub returns-in_err-grade_job-in-Grade-clause-third_calls : goal.returns-in_err-grade_job-in-Grade-clause-third_calls
 returns-in_err-grade_job-in-Grade-clause-third_calls g c = uncalled g.R.Source.called c.args.third.now
-
-pub returns-in_ok-trace_job-in-Trace-clause-done : goal.returns-in_ok-trace_job-in-Trace-clause-done
-returns-in_ok-trace_job-in-Trace-clause-done g c =
-    rw c.in-Trace.is (did tt (rw (c.as_bytes-in-Trace.ensures.value, c.as_bytes-in-Trace-2.ensures.value) at c.in_ok-trace_job-in-Trace.ensures.answers), (refl, refl))
-
-pub returns-in_err-trace_job-in-Trace-clause-done : goal.returns-in_err-trace_job-in-Trace-clause-done
-returns-in_err-trace_job-in-Trace-clause-done g c =
-    let f = c.in_err-trace_job-in-Trace.field-0.0 in
-    rw c.in-Trace.is
-    (stopped f c.from_residual-in_err-trace_job-in-Trace.result (rw (c.as_bytes-in-Trace.ensures.value, c.as_bytes-in-Trace-2.ensures.value) at c.in_err-trace_job-in-Trace.ensures.answers) c.from_residual-in_err-trace_job-in-Trace.ensures.1, (refl, refl))
-
-pub returns-in_err-trace_job-in-Trace-clause-mark : goal.returns-in_err-trace_job-in-Trace-clause-mark
-returns-in_err-trace_job-in-Trace-clause-mark g c =
-    stopped_mark _ _ c.in_err-trace_job-in-Trace.field-0.0 c.from_residual-in_err-trace_job-in-Trace.result c.in_err-trace_job-in-Trace.ensures.mark c.from_residual-in_err-trace_job-in-Trace.ensures.1
-
-pub returns-in_ok-trace_job-in-Trace-clause-second_calls : goal.returns-in_ok-trace_job-in-Trace-clause-second_calls
-returns-in_ok-trace_job-in-Trace-clause-second_calls g c = uncalled g.Q.Source.called c.args.second.now
-
-pub returns-in_err-trace_job-in-Trace-clause-second_calls : goal.returns-in_err-trace_job-in-Trace-clause-second_calls
-returns-in_err-trace_job-in-Trace-clause-second_calls g c = uncalled g.Q.Source.called c.args.second.now
-
-pub returns-in_ok-trace_job-in-Trace-clause-third_calls : goal.returns-in_ok-trace_job-in-Trace-clause-third_calls
-returns-in_ok-trace_job-in-Trace-clause-third_calls g c = uncalled g.R.Source.called c.args.third.now
-
-pub returns-in_err-trace_job-in-Trace-clause-third_calls : goal.returns-in_err-trace_job-in-Trace-clause-third_calls
-returns-in_err-trace_job-in-Trace-clause-third_calls g c = uncalled g.R.Source.called c.args.third.now
 
 pub returns-in_ok-write_explanation-in-Explain-clause-done : goal.returns-in_ok-write_explanation-in-Explain-clause-done
 returns-in_ok-write_explanation-in-Explain-clause-done g c =
@@ -227,3 +147,15 @@ returns-in-Draw-clause-second_calls g c = uncalled g.Q.Source.called c.args.seco
 
 pub returns-in-Draw-clause-third_calls : goal.returns-in-Draw-clause-third_calls
 returns-in-Draw-clause-third_calls g c = uncalled g.R.Source.called c.args.third.now
+
+pub returns-in-Trace-clause-second_calls : goal.returns-in-Trace-clause-second_calls
+returns-in-Trace-clause-second_calls g c = uncalled g.Q.Source.called c.args.second.now
+
+pub returns-in-Trace-clause-third_calls : goal.returns-in-Trace-clause-third_calls
+returns-in-Trace-clause-third_calls g c = uncalled g.R.Source.called c.args.third.now
+
+pub returns-in-Lint-clause-third_calls : goal.returns-in-Lint-clause-third_calls
+returns-in-Lint-clause-third_calls g c = uncalled g.R.Source.called c.args.third.now
+
+pub returns-in-Check-clause-third_calls : goal.returns-in-Check-clause-third_calls
+returns-in-Check-clause-third_calls g c = uncalled g.R.Source.called c.args.third.now

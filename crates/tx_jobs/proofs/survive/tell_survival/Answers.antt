@@ -10,15 +10,15 @@ returns-in_err-write_survival-clause-told g c =
     c.from_residual-in_err-write_survival.ensures.1)
     (record {
       survival = c.in_ok-survival.survival;
-      right = survival_is _ c.args.plan.now c.args.risks.now c.in_ok-survival.survival
-          e.tried e.cuts e.ungraded e.codes e.fails e.each e.listed;
+      right = survival_is _ c.args.plan.now c.args.risks.now c.args.only c.in_ok-survival.survival
+          e.tried e.outcomes e.ungraded e.codes e.fails e.each e.listed;
       wrote = c.in_err-write_survival.ensures.0;
     })
 
 pub returns-clause-told : goal.returns-clause-told
 returns-clause-told g c =
     let e = c.in_ok-survival.ensures in (
-      survival_is _ c.args.plan.now c.args.risks.now c.in_ok-survival.survival
-          e.tried e.cuts e.ungraded e.codes e.fails e.each e.listed,
+      survival_is _ c.args.plan.now c.args.risks.now c.args.only c.in_ok-survival.survival
+          e.tried e.outcomes e.ungraded e.codes e.fails e.each e.listed,
       c.in_ok-write_survival.ensures.0,
     )

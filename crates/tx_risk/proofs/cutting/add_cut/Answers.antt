@@ -47,12 +47,11 @@ returns g c = λ first b.
     let asked = sym c.is_asked.ensures ∙ c.if-not-is_asked.false in
     let reached = asked_reached l o x asked in
     let cut : Cut g.row.A.Denot = record {
-      outage = o;
       code = c.left.inside.code;
       stray = c.is_some.result;
       walk = w;
     } in
-    let is = cut_as n cut o l.code x (distance_in c.args.homes.now x) refl
+    let is = cut_as n cut l.code x (distance_in c.args.homes.now x)
     (ap (λ (m : Left). m.code) c.left.view_is) k.start
     (record {
       dead = k.dead;

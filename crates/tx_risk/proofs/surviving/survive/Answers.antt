@@ -1,13 +1,13 @@
 use Rattle.tx_cert.specs.Certificate.{ranks_of}
 use Rattle.tx_risk.proofs.surviving.survive.Goals as goal
 
-pub all_cuts-requires-clause-certified : goal.all_cuts-requires-clause-certified
-all_cuts-requires-clause-certified g c =
+pub all_outcomes-requires-clause-certified : goal.all_outcomes-requires-clause-certified
+all_outcomes-requires-clause-certified g c =
     let b = c.in-Some.field-0 in
     (b.limit, b.spare, rw c.in-Some.is at c.in_ok-grade.ensures.ranks)
 
-pub returns-in_ok-all_cuts-in-Some-clause-tried : goal.returns-in_ok-all_cuts-in-Some-clause-tried
-returns-in_ok-all_cuts-in-Some-clause-tried g c =
+pub returns-in_ok-outcomes-in-Some-clause-tried : goal.returns-in_ok-outcomes-in-Some-clause-tried
+returns-in_ok-outcomes-in-Some-clause-tried g c =
     let b = c.in-Some.field-0 in
     let cert = rw c.in-Some.is at c.in_ok-grade.ensures.ranks in
     (λ t. (b.limit, b.spare, (ranks_of c.in_ok-grade.grade.ranks, cert)), λ h. tt)

@@ -1,0 +1,3 @@
+pub mod CallLines
+pub mod Fills
+pub mod FillText

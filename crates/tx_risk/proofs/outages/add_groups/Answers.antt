@@ -1,0 +1,22 @@
+use Rattle.std.proofs.Common.{◌≡◌, ◌++◌, ◌∙◌, map, length, refl, ap, sym, append-nil, arith}
+use Rattle.std.specs.List.{range_with_len}
+use Rattle.tx_risk.specs.declared.outage.Outage.TheVariants.{Group}
+use Rattle.tx_risk.proofs.AddedOutages.{mapped_next}
+use Rattle.tx_risk.proofs.outages.add_groups.Goals as goal
+
+pub loop-index-init : goal.loop-index-init
+loop-index-init g c = sym (append-nil c.args.outages.now.items)
+
+pub loop-index-preserved : goal.loop-index-preserved
+loop-index-preserved g c =
+    mapped_next Group c.loop-index.index (Group c.of.result) c.args.outages.now.items
+    c.loop-index.outages.items c.push.new.self.items c.loop-index.invariant (ap Group c.of.ensures)
+    c.in_ok-push.ensures.items
+
+pub returns : goal.returns
+returns g c =
+    let all : c.loop-index.index ≡ length c.args.plan.now.groups =
+    let t = c.loop-index-test.false in let a = c.loop-index.auto.index-end in
+    let e = c.groups-index-end.ensures.count in omega arith in
+    c.loop-index.invariant
+    ∙ ap (λ n. c.args.outages.now.items ++ map Group (range_with_len 0 n)) all

@@ -1,0 +1,115 @@
+// The lines of those who are cut off.
+ghost use Rattle.std.specs.Prelude.{◌≡◌, ◌++◌, ◌==◌, [], if◌then◌else◌, length};
+ghost use Rattle.std.specs.List.{flat_map, range_with_len};
+ghost use Rattle.tx_text.specs.Wrote.{Wrote};
+ghost use Rattle.tx_rank.specs.Walks.{end_of};
+ghost use Rattle.tx_risk_report.specs.OutageReport.{start_text, cut_line, cuts_at};
+
+use std::alloc::Allocator;
+use tx_plan::{CodeId, ExchangeId, Plan};
+use tx_rank::{Walk, write_steps};
+use tx_risk::Cut;
+use tx_text::{Sink, WriteFault, write_parts};
+
+/// Writes those who are cut off, by the exchanges where their walks end.
+pub(crate) fn write_cuts<A: Allocator, W: Sink>(
+    plan: &Plan<A>,
+    cuts: &[Cut<A>],
+    sink: &mut W,
+) -> Result<(), WriteFault>
+    ensures { Wrote W.taken W.failed sink.old sink.new
+        (flat_map (cuts_at plan.now cuts.now) (range_with_len 0 (length plan.now.exchanges)))
+        result }
+{
+    for index in 0..plan.exchanges() {
+        write_cuts_at(plan, cuts, ExchangeId::of(index), sink)?;
+    }
+    Ok(())
+}
+
+/// Writes those of which the walk ends at the exchange.
+fn write_cuts_at<A: Allocator, W: Sink>(
+    plan: &Plan<A>,
+    cuts: &[Cut<A>],
+    exchange: ExchangeId,
+    sink: &mut W,
+) -> Result<(), WriteFault>
+    ensures { Wrote W.taken W.failed sink.old sink.new
+        (cuts_at plan.now cuts.now exchange) result }
+{
+    for i in 0..cuts.len() {
+        write_cut_at(plan, &cuts[i], exchange, sink)?;
+    }
+    Ok(())
+}
+
+/// Writes one, if its walk ends at the exchange.
+fn write_cut_at<A: Allocator, W: Sink>(
+    plan: &Plan<A>,
+    cut: &Cut<A>,
+    exchange: ExchangeId,
+    sink: &mut W,
+) -> Result<(), WriteFault>
+    ensures { Wrote W.taken W.failed sink.old sink.new
+        (if end_of cut.now.walk.start cut.now.walk.steps == exchange
+        then cut_line plan.now cut.now else []) result }
+{
+    if end_of(&cut.walk) != exchange {
+        return Ok(());
+    }
+    write_line(plan, cut, sink)
+}
+
+/// The exchange where a walk ends.
+fn end_of<A: Allocator>(walk: &Walk<A>) -> ExchangeId
+    ensures { result ≡ end_of walk.now.start walk.now.steps }
+{
+    let steps = walk.steps.as_slice();
+    if steps.is_empty() {
+        walk.start
+    } else {
+        steps[steps.len() - 1].1
+    }
+}
+
+/// Writes whom it cuts off, with the walk.
+fn write_line<A: Allocator, W: Sink>(
+    plan: &Plan<A>,
+    cut: &Cut<A>,
+    sink: &mut W,
+) -> Result<(), WriteFault>
+    ensures { Wrote W.taken W.failed sink.old sink.new
+        (cut_line plan.now cut.now) result }
+{
+    if cut.stray {
+        return write_walk(b"STRAY ", plan, cut.code, &cut.walk, sink);
+    }
+    write_walk(b"CUT ", plan, cut.code, &cut.walk, sink)
+}
+
+/// Writes the head of a line, a code, where calls start, and the walk from there.
+fn write_walk<A: Allocator, W: Sink>(
+    head: &[u8],
+    plan: &Plan<A>,
+    code: CodeId,
+    walk: &Walk<A>,
+    sink: &mut W,
+) -> Result<(), WriteFault>
+    ensures { Wrote W.taken W.failed sink.old sink.new
+        (head.now ++ start_text plan.now code walk.now) result }
+{
+    let code = plan.code_figures(code);
+    let start = plan.exchange_name(walk.start);
+    write_parts(
+        &[
+            head,
+            code,
+            b" ",
+            start,
+            b" VIA ",
+            plan.exchange_name(walk.start),
+        ],
+        sink,
+    )?;
+    write_steps(plan, walk.steps.as_slice(), sink)
+}

@@ -1,0 +1,170 @@
+// How many starts each outage cuts off, and all of them.
+ghost use Rattle.std.specs.Prelude.{◌≡◌, ◌&&◌, ◌||◌, not, ◌++◌, [], if◌then◌else◌, count_by};
+ghost use Rattle.std.specs.List.{flat_map};
+ghost use Rattle.tx_text.specs.Wrote.{Wrote};
+ghost use Rattle.tx_rank.specs.Report.{verdict_line};
+ghost use Rattle.tx_risk_report.specs.OutageReport.{is_named, is_group, is_exchange, is_harmless, harmless_line, harmless_text, total_line, total_text, count_of};
+
+use crate::outage_report::write_outage;
+use itoa::Buffer;
+use std::alloc::Allocator;
+use tx_plan::Plan;
+use tx_risk::{Outage, Outcome, Risks};
+use tx_text::{Sink, WriteFault, write_parts};
+
+/// Writes the totals of each named risk, and of each other outage that cuts somebody off.
+pub(crate) fn write_totals<A: Allocator, W: Sink>(
+    plan: &Plan<A>,
+    risks: &Risks<A>,
+    outcomes: &[Outcome<A>],
+    sink: &mut W,
+) -> Result<(), WriteFault>
+    ensures { Wrote W.taken W.failed sink.old sink.new
+        (flat_map (total_text plan.now risks.now) outcomes.now) result }
+{
+    for i in 0..outcomes.len() {
+        write_total(plan, risks, &outcomes[i], sink)?;
+    }
+    Ok(())
+}
+
+fn write_total<A: Allocator, W: Sink>(
+    plan: &Plan<A>,
+    risks: &Risks<A>,
+    outcome: &Outcome<A>,
+    sink: &mut W,
+) -> Result<(), WriteFault>
+    ensures { Wrote W.taken W.failed sink.old sink.new
+        (total_text plan.now risks.now outcome.now) result }
+{
+    if is_named(&outcome.outage) || !is_harmless(outcome) {
+        return write_total_line(plan, risks, outcome, sink);
+    }
+    Ok(())
+}
+
+fn write_total_line<A: Allocator, W: Sink>(
+    plan: &Plan<A>,
+    risks: &Risks<A>,
+    outcome: &Outcome<A>,
+    sink: &mut W,
+) -> Result<(), WriteFault>
+    ensures { Wrote W.taken W.failed sink.old sink.new
+        (total_line plan.now risks.now outcome.now) result }
+{
+    let mut cut = Buffer::new();
+    let mut stray = Buffer::new();
+    let cut = cut.format(count_cut(outcome)).as_bytes();
+    let stray = stray.format(count_stray(outcome)).as_bytes();
+    write_outage(plan, risks, &outcome.outage, sink)?;
+    write_parts(&[b" CUT ", cut, b" STRAY ", stray, b"\n"], sink)
+}
+
+/// How many starts it cuts off without a way home.
+fn count_cut<A: Allocator>(outcome: &Outcome<A>) -> usize
+    ensures { result ≡ count_by (λ c. not c.stray) outcome.now.cuts.items }
+{
+    outcome.cuts.iter().filter(|cut| !cut.stray).count()
+}
+
+/// How many with one.
+fn count_stray<A: Allocator>(outcome: &Outcome<A>) -> usize
+    ensures { result ≡ count_by (λ c. c.stray) outcome.now.cuts.items }
+{
+    outcome.cuts.iter().filter(|cut| cut.stray).count()
+}
+
+/// Writes how many groups and how many exchanges cut nobody off.
+pub(crate) fn write_harmless<A: Allocator, W: Sink>(
+    outcomes: &[Outcome<A>],
+    sink: &mut W,
+) -> Result<(), WriteFault>
+    ensures { Wrote W.taken W.failed sink.old sink.new
+        (harmless_text outcomes.now) result }
+{
+    write_harmless_line(b"GROUPS ", count_groups(outcomes), sink)?;
+    write_harmless_line(b"EXCHANGES ", count_exchanges(outcomes), sink)
+}
+
+fn write_harmless_line<W: Sink>(kind: &[u8], count: usize, sink: &mut W) -> Result<(), WriteFault>
+    ensures { Wrote W.taken W.failed sink.old sink.new
+        (harmless_line kind.now count) result }
+{
+    if count == 0 {
+        return Ok(());
+    }
+    let mut buffer = Buffer::new();
+    let count = buffer.format(count).as_bytes();
+    write_parts(&[kind, count, b" CUT 0\n"], sink)
+}
+
+fn count_groups<A: Allocator>(outcomes: &[Outcome<A>]) -> usize
+    ensures { result ≡ count_by (λ o. is_group o.outage && is_harmless o) outcomes.now }
+{
+    outcomes
+        .iter()
+        .filter(|outcome| is_group(&outcome.outage) && is_harmless(outcome))
+        .count()
+}
+
+fn count_exchanges<A: Allocator>(outcomes: &[Outcome<A>]) -> usize
+    ensures { result ≡ count_by (λ o. is_exchange o.outage && is_harmless o) outcomes.now }
+{
+    outcomes
+        .iter()
+        .filter(|outcome| is_exchange(&outcome.outage) && is_harmless(outcome))
+        .count()
+}
+
+fn is_named(outage: &Outage) -> bool
+    ensures { result ≡ is_named outage.now }
+{
+    matches!(outage, Outage::Named(_))
+}
+
+fn is_group(outage: &Outage) -> bool
+    ensures { result ≡ is_group outage.now }
+{
+    matches!(outage, Outage::Group(_))
+}
+
+fn is_exchange(outage: &Outage) -> bool
+    ensures { result ≡ is_exchange outage.now }
+{
+    matches!(outage, Outage::Exchange(_))
+}
+
+/// Whether it cuts nobody off.
+pub fn is_harmless<A: Allocator>(outcome: &Outcome<A>) -> bool
+    ensures { result ≡ is_harmless outcome.now }
+{
+    outcome.cuts.is_empty()
+}
+
+/// How many starts all outages cut off.
+fn count_all<A: Allocator>(outcomes: &[Outcome<A>]) -> u128
+    ensures { result ≡ count_of outcomes.now }
+{
+    let mut count: u128 = 0;
+    for i in 0..outcomes.len() {
+        count += outcomes[i].cuts.len() as u128;
+    }
+    count
+}
+
+/// Writes the verdict: YES, or NO with how many starts are cut off, by all outages.
+pub(crate) fn write_count<A: Allocator, W: Sink>(
+    outcomes: &[Outcome<A>],
+    sink: &mut W,
+) -> Result<(), WriteFault>
+    ensures { Wrote W.taken W.failed sink.old sink.new
+        (verdict_line (count_of outcomes.now)) result }
+{
+    let count = count_all(outcomes);
+    if count == 0 {
+        return write_parts(&[b"VERDICT YES\n"], sink);
+    }
+    let mut buffer = Buffer::new();
+    let count = buffer.format(count).as_bytes();
+    write_parts(&[b"VERDICT NO ", count, b"\n"], sink)
+}

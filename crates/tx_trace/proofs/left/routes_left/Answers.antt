@@ -1,0 +1,52 @@
+use Rattle.std.proofs.Common.{◌≡◌, ℕ, ◌==◌, ◌∙◌, List, true, false, not, ap, sym, arith, take, map, length, refl, rules}
+use Rattle.std.specs.Prelude.{slice_get}
+use Rattle.std.specs.List.{list_any}
+use Rattle.tx_plan.specs.Plan.{Route}
+use Rattle.tx_plan.proofs.ByIndex.{entry_at}
+use Rattle.tx_mend.proofs.Adding.{pair_of, no_none}
+use Rattle.tx_mend.proofs.Copied.{none_before, none_filtered, route_got}
+use Rattle.tx_trace.specs.Left.{route_left}
+use Rattle.tx_trace.proofs.LeftRoutes.{has_some, left_next, left_gone, none_left}
+use Rattle.tx_trace.proofs.left.routes_left.Goals as goal
+use Rattle.tx_trace.proofs.left.routes_left.Goals.{then-not-is_empty+in_ok-add-in-Some, else-not-is_empty}
+
+pub unreachable-requires : goal.unreachable-requires
+unreachable-requires g c =
+    let p = c.args.plan.now in
+    let t = c.loop-index-test.true in
+    let n = c.routes-index-end.ensures.count in
+    let e = entry_at p.routes c.loop-index.index (omega arith) in
+    no_none pair_of (slice_get p.routes c.loop-index.index) e.0 e.1
+    (sym c.in-None.is ∙ c.route_at.ensures.value)
+
+pub add-requires : goal.add-requires
+add-requires g c =
+    let p = c.args.plan.now in
+    let down = c.args.down.now in
+    let before = take c.loop-index.index p.routes in
+    let rules = c.routes-index-end.ensures.rules in
+    let at = route_got p rules c.loop-index.index _ c.in-Some.ensures.value _ refl in
+    ap (list_any _) c.loop-index.invariant
+    ∙ none_filtered _ has_some (map (route_left down) before) (none_left down _ _ before
+    (none_before (λ (r : Route). r.exchange) (λ (r : Route). r.code) p.routes c.loop-index.index _
+    rules.routes_differ at))
+
+pub loop-index-preserved : goal.loop-index-preserved
+loop-index-preserved g c =
+    let p = c.args.plan.now in
+    let down = c.args.down.now in
+    let at = route_got p c.routes-index-end.ensures.rules c.loop-index.index _
+    c.in-Some.ensures.value _ refl in
+    let left = c.groups_left-left.result.items in
+    let any = ap (λ (gs : List ℕ). not (length gs == 0)) (sym c.groups_left-left.ensures) in
+    elim c.if-not-is_empty.branch [
+      | then-not-is_empty+in_ok-add-in-Some w ↦ (
+          let some : (length left == 0) ≡ false = search rules in
+          left_next down p.routes c.loop-index.routes _ c.loop-index.index _ at left
+          c.groups_left-left.ensures (any ∙ ap not some) c.loop-index.invariant
+          (w.routes-is ∙ w.in_ok-add-in-Some.ensures.ok))
+      | else-not-is_empty w ↦ (
+          let none : (length left == 0) ≡ true = search rules in
+          left_gone down p.routes c.loop-index.routes _ c.loop-index.index _ at
+          (any ∙ ap not none) c.loop-index.invariant w.routes-is)
+    ]
