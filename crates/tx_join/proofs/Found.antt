@@ -1,12 +1,15 @@
 -- What a search by a test finds, and lists of which some members are kept.
-use Rattle.std.proofs.Common.{◌≡◌, ◌≢◌, ℕ, zero, suc, ◌+◌, ◌<◌, Bool, true, false, not, cond, ◌||◌, List, [], ◌∷◌, ◌++◌, length, map, Option, Some, None, unwrap_or, refl, sym, ap, ◌∙◌, subst}
-use Rattle.std.specs.Prelude.{find, filter, position, slice_get}
-use Rattle.std.specs.List.{list_any, position_or_len, AllByRecursion}
+use Rattle.std.proofs.Common.{◌≡◌, ◌≢◌, ℕ, zero, suc, ◌+◌, ◌<◌, ◌≤◌, inl, inr, Bool, true, false, not, cond, ◌||◌, List, [], ◌∷◌, ◌++◌, length, map, Option, Some, None, is_some, unwrap_or, refl, sym, ap, ◌∙◌, arith}
+use Rattle.std.specs.Prelude.{find, filter, flat_map, position, slice_get}
+use Rattle.std.specs.List.{list_any, position_or_len, range_with_len, AllByRecursion}
 use Rattle.std.specs.Option.{option_map}
 use Rattle.std.proofs.lemmas.Option.{slice_get_within}
-use Rattle.std.proofs.lemmas.Bool.{true≢false, false≢true}
+use Rattle.std.proofs.lemmas.Bool.{or_parts, cases_eq, true≢false, false≢true}
+use Rattle.std.proofs.Math.Bool.{or-true}
+use Rattle.std.proofs.lemmas.List.Folds.{list_any-append}
 use Rattle.tx_plan.specs.Rules.{EachPair}
-use Rattle.tx_plan.proofs.Lists.{below, all_map, all_mapped}
+use Rattle.tx_plan.proofs.Filtered.{all_joined}
+use Rattle.tx_plan.proofs.Lists.{below, all_mapped}
 
 -- AN ENTRY THAT IS FOUND
 
@@ -19,13 +22,14 @@ pub record IsEntry {A : Type 0} (t : A → Bool) (xs : List A) (i : ℕ) (z : A)
 module _ {A : Type 0} (t : A → Bool) where
   entry_from : (xs : List A) → list_any t xs ≡ true → (z : A) × IsEntry t xs (position_or_len t xs) z
   entry_from [] h = absurd (false≢true h)
-  entry_from (x ∷ xs) h = by (t x) refl h
+  entry_from (x ∷ xs) h = by (t x) refl h (entry_from xs)
     where
-      by : (b : Bool) → t x ≡ b → (b || list_any t xs) ≡ true → (z : A) × IsEntry t (x ∷ xs) (cond (not (t x)) (1 + position_or_len t xs) 0) z
-      by true e h = (x, rw e (record { at = refl; found = rw e refl; passes = e }))
-      by false e h =
-          let r = entry_from xs h in
-          (r.0, rw e (record { at = r.1.at; found = rw e r.1.found; passes = r.1.passes }))
+      by : (b : Bool) → t x ≡ b → (b || list_any t xs) ≡ true → (list_any t xs ≡ true → (z : A) × IsEntry t xs (position_or_len t xs) z) → (z : A) × IsEntry t (x ∷ xs) (cond (not (t x)) (1 + position_or_len t xs) 0) z
+      by true e h k = (x, record { at = ap (λ b. slice_get (x ∷ xs) (cond (not b) (1 + position_or_len t xs) 0)) e; found = ap (λ b. cond b (Some x) (find t xs)) e; passes = e })
+      by false e h k =
+          let r = k h in
+          let next : 1 + position_or_len t xs ≡ suc (position_or_len t xs) = omega arith in
+          (r.0, record { at = ap (λ b. slice_get (x ∷ xs) (cond (not b) (1 + position_or_len t xs) 0)) e ∙ ap (slice_get (x ∷ xs)) next ∙ r.1.at; found = ap (λ b. cond b (Some x) (find t xs)) e ∙ r.1.found; passes = r.1.passes })
 
   pub entry_found : (xs : List A) → list_any t xs ≡ true → (z : A) × IsEntry t xs (unwrap_or (position t xs) 0) z
   entry_found xs h =
@@ -35,19 +39,17 @@ module _ {A : Type 0} (t : A → Bool) where
 
   pub none_found : (xs : List A) → list_any t xs ≡ false → find t xs ≡ None
   none_found [] h = refl
-  none_found (x ∷ xs) h = by (t x) refl h
-    where
-      by : (b : Bool) → t x ≡ b → (b || list_any t xs) ≡ false → cond (t x) (Some x) (find t xs) ≡ None
-      by true e h = absurd (true≢false h)
-      by false e h = rw e (none_found xs h)
+  none_found (x ∷ xs) h =
+      let n = or_parts (t x) (list_any t xs) h in
+      ap (λ b. cond b (Some x) (find t xs)) n.0 ∙ none_found xs n.1
 
   pub find-map : {B : Type 0} (f : B → A) (xs : List B) → find t (map f xs) ≡ option_map f (find (λ x. t (f x)) xs)
   find-map f [] = refl
-  find-map f (x ∷ xs) = by (t (f x)) refl
+  find-map {B} f (x ∷ xs) = by (t (f x)) (find-map f xs)
     where
-      by : (b : Bool) → t (f x) ≡ b → cond (t (f x)) (Some (f x)) (find t (map f xs)) ≡ option_map f (cond (t (f x)) (Some x) (find (λ x. t (f x)) xs))
-      by true e = rw e refl
-      by false e = rw e (find-map f xs)
+      by : (b : Bool) → find t (map f xs) ≡ option_map f (find (λ x. t (f x)) xs) → cond b (Some (f x)) (find t (map f xs)) ≡ option_map f (cond b (Some x) (find (λ x. t (f x)) xs))
+      by true k = refl
+      by false k = k
 
 -- MEMBERS
 
@@ -74,11 +76,11 @@ module _ {A : Type 0} where
 
   pub filter-map : {B : Type 0} (s : B → Bool) (f : A → B) (xs : List A) → filter s (map f xs) ≡ map f (filter (λ x. s (f x)) xs)
   filter-map s f [] = refl
-  filter-map s f (x ∷ xs) = by (s (f x)) refl
+  filter-map s f (x ∷ xs) = by (s (f x)) (filter-map s f xs)
     where
-      by : (b : Bool) → s (f x) ≡ b → cond (s (f x)) (f x ∷ filter s (map f xs)) (filter s (map f xs)) ≡ map f (cond (s (f x)) (x ∷ filter (λ x. s (f x)) xs) (filter (λ x. s (f x)) xs))
-      by true e = rw e (ap (λ l. f x ∷ l) (filter-map s f xs))
-      by false e = rw e (filter-map s f xs)
+      by : (b : Bool) → filter s (map f xs) ≡ map f (filter (λ x. s (f x)) xs) → cond b (f x ∷ filter s (map f xs)) (filter s (map f xs)) ≡ map f (cond b (x ∷ filter (λ x. s (f x)) xs) (filter (λ x. s (f x)) xs))
+      by true k = ap (λ l. f x ∷ l) k
+      by false k = k
 
   -- what holds of all members, and of each by itself
   pub all_of : (P : A → Type 0) (xs : List A) → ((i : ℕ) (x : A) → slice_get xs i ≡ Some x → P x) → AllByRecursion P xs
@@ -96,3 +98,66 @@ module _ {A : Type 0} where
   pub pairs_mapped : {B : Type 0} (f : A → B) (R : B → B → Type 0) (xs : List A) → EachPair (λ x y. R (f x) (f y)) xs → EachPair R (map f xs)
   pairs_mapped f R [] h = tt
   pairs_mapped f R (x ∷ xs) h = (all_mapped f (R (f x)) xs h.0, pairs_mapped f R xs h.1)
+
+  pub pairs_unmapped : {B : Type 0} (f : A → B) (R : B → B → Type 0) (xs : List A) → EachPair R (map f xs) → EachPair (λ x y. R (f x) (f y)) xs
+  pairs_unmapped f R [] h = tt
+  pairs_unmapped f R (x ∷ xs) h = (all_unmapped xs h.0, pairs_unmapped f R xs h.1)
+    where
+      all_unmapped : (ys : List A) → AllByRecursion (R (f x)) (map f ys) → AllByRecursion (λ y. R (f x) (f y)) ys
+      all_unmapped [] k = tt
+      all_unmapped (y ∷ ys) k = (k.0, all_unmapped ys k.1)
+
+  -- searches by two tests that agree on all members
+  pub find_same : (t s : A → Bool) (xs : List A) → AllByRecursion (λ x. t x ≡ s x) xs → find t xs ≡ find s xs
+  find_same t s [] h = refl
+  find_same t s (x ∷ xs) h = λ i. cond (h.0 i) (Some x) (find_same t s xs h.1 i)
+
+  pub any_find : (t : A → Bool) (xs : List A) → list_any t xs ≡ is_some (find t xs)
+  any_find t [] = refl
+  any_find t (x ∷ xs) = by (t x) (any_find t xs)
+    where
+      by : (b : Bool) → list_any t xs ≡ is_some (find t xs) → (b || list_any t xs) ≡ is_some (cond b (Some x) (find t xs))
+      by true k = refl
+      by false k = k
+
+  -- none passes
+  pub find_fails : (t : A → Bool) (xs : List A) → AllByRecursion (λ x. t x ≡ false) xs → find t xs ≡ None
+  find_fails t [] h = refl
+  find_fails t (x ∷ xs) h = ap (λ b. cond b (Some x) (find t xs)) h.0 ∙ find_fails t xs h.1
+
+  -- all that pass are kept
+  pub find_kept : (t s : A → Bool) (xs : List A) → AllByRecursion (λ x. t x ≡ true → s x ≡ true) xs → find t (filter s xs) ≡ find t xs
+  find_kept t s [] h = refl
+  find_kept t s (x ∷ xs) h = by (t x) (s x) h.0 (find_kept t s xs h.1) refl refl
+    where
+      by : (b c : Bool) → (t x ≡ true → s x ≡ true) → find t (filter s xs) ≡ find t xs → t x ≡ b → s x ≡ c → find t (cond c (x ∷ filter s xs) (filter s xs)) ≡ cond b (Some x) (find t xs)
+      by true true k r e f = ap (λ b. cond b (Some x) (find t (filter s xs))) e
+      by true false k r e f = absurd (true≢false (sym (k e) ∙ f))
+      by false true k r e f = ap (λ b. cond b (Some x) (find t (filter s xs))) e ∙ r
+      by false false k r e f = r
+
+-- NUMBERS IN A ROW
+
+pub range_all : (P : ℕ → Type 0) (a n : ℕ) → ((i : ℕ) → a ≤ i → i < a + n → P i) → AllByRecursion P (range_with_len a n)
+range_all P a zero h = tt
+range_all P a (suc n) h = (h a (omega arith) (omega arith), range_all P (a + 1) n (λ i l m. h i (omega (arith, l)) (omega (arith, m))))
+
+pub range_differ : (a n : ℕ) → EachPair (λ x y. x ≢ y) (range_with_len a n)
+range_differ a zero = tt
+range_differ a (suc n) = (range_all (λ y. a ≢ y) (a + 1) n (λ i l m e. omega (arith, l, e)), range_differ (a + 1) n)
+
+pub range_any : (t : ℕ → Bool) (a n i : ℕ) → a ≤ i → i < a + n → t i ≡ true → list_any t (range_with_len a n) ≡ true
+range_any t a zero i l m h = absurd (omega (arith, l, m))
+range_any t a (suc n) i l m h = elim (cases_eq a i) [
+  | inl e ↦ ap (λ b. b || list_any t (range_with_len (a + 1) n)) (ap t e ∙ h)
+  | inr e ↦ ap (λ b. t a || b) (range_any t (a + 1) n i (omega (arith, l, e)) (omega (arith, m)) h) ∙ or-true (t a)
+]
+
+-- what holds of the members of joined lists
+pub all_flat : {A B : Type 0} (P : B → Type 0) (f : A → List B) (xs : List A) → AllByRecursion (λ x. AllByRecursion P (f x)) xs → AllByRecursion P (flat_map f xs)
+all_flat P f [] h = tt
+all_flat P f (x ∷ xs) h = all_joined P (f x) (flat_map f xs) h.0 (all_flat P f xs h.1)
+
+pub any_flat : {A B : Type 0} (t : B → Bool) (f : A → List B) (xs : List A) → list_any t (flat_map f xs) ≡ list_any (λ x. list_any t (f x)) xs
+any_flat t f [] = refl
+any_flat t f (x ∷ xs) = list_any-append t (f x) (flat_map f xs) ∙ ap (λ b. list_any t (f x) || b) (any_flat t f xs)

@@ -13,7 +13,10 @@ use Rattle.tx_join.specs.Joined.{exchange_in, code_in, group_in}
 use Rattle.tx_join.specs.inner.Declared.{KnowsExchanges, KnowsCodes, KnowsGroups}
 use Rattle.tx_join.proofs.Found.{entry_found}
 
-same_word : (w z : List ℕ) → bytes_eq w z ≡ true → z ≡ w
+pub only : {A : Type 0} {x y : A} → Some x ≡ Some y → x ≡ y
+only e = cc
+
+pub same_word : (w z : List ℕ) → bytes_eq w z ≡ true → z ≡ w
 same_word w z h = sym ((bytes_eq-Decides w z).0 h)
 
 module _ (q p : Plan) where
@@ -47,25 +50,25 @@ module _ (q p : Plan) where
 
   -- NO TWO ARE ONE
   module _ (ok : IsPlan p) where
-    pub exchanges_apart : KnowsExchanges q p → (x y : ℕ) → x < length p.exchanges → y < length p.exchanges → exchange_in q p x ≡ exchange_in q p y → x ≡ y
-    exchanges_apart knows x y l m e =
-        let names : exchange_name p x ≡ exchange_name p y = sym (exchange_named_so knows x l) ∙ ap (exchange_name q) e ∙ exchange_named_so knows y m in
+    pub exchanges_apart : ((x : ℕ) → x < length p.exchanges → exchange_name q (exchange_in q p x) ≡ exchange_name p x) → (x y : ℕ) → x < length p.exchanges → y < length p.exchanges → exchange_in q p x ≡ exchange_in q p y → x ≡ y
+    exchanges_apart named x y l m e =
+        let names : exchange_name p x ≡ exchange_name p y = sym (named x l) ∙ ap (exchange_name q) e ∙ named y m in
         let b = (exchange_back p ok x l).back in
         let d = (exchange_back p ok y m).back in
         let s : Some x ≡ Some y = sym b ∙ ap (exchange_named p) names ∙ d in
         cc
 
-    pub codes_apart : KnowsCodes q p → (c d : ℕ) → c < length p.codes → d < length p.codes → code_in q p c ≡ code_in q p d → c ≡ d
-    codes_apart knows x y l m e =
-        let names : figures_of p x ≡ figures_of p y = sym (code_named_so knows x l) ∙ ap (figures_of q) e ∙ code_named_so knows y m in
+    pub codes_apart : ((c : ℕ) → c < length p.codes → figures_of q (code_in q p c) ≡ figures_of p c) → (c d : ℕ) → c < length p.codes → d < length p.codes → code_in q p c ≡ code_in q p d → c ≡ d
+    codes_apart named x y l m e =
+        let names : figures_of p x ≡ figures_of p y = sym (named x l) ∙ ap (figures_of q) e ∙ named y m in
         let b = (code_back p ok x l).back in
         let d = (code_back p ok y m).back in
         let s : Some x ≡ Some y = sym b ∙ ap (code_named p) names ∙ d in
         cc
 
-    pub groups_apart : KnowsGroups q p → (g h : ℕ) → g < length p.groups → h < length p.groups → group_in q p g ≡ group_in q p h → g ≡ h
-    groups_apart knows x y l m e =
-        let names : group_name p x ≡ group_name p y = sym (group_named_so knows x l) ∙ ap (group_name q) e ∙ group_named_so knows y m in
+    pub groups_apart : ((g : ℕ) → g < length p.groups → group_name q (group_in q p g) ≡ group_name p g) → (g h : ℕ) → g < length p.groups → h < length p.groups → group_in q p g ≡ group_in q p h → g ≡ h
+    groups_apart named x y l m e =
+        let names : group_name p x ≡ group_name p y = sym (named x l) ∙ ap (group_name q) e ∙ named y m in
         let b = (group_back p ok x l).back in
         let d = (group_back p ok y m).back in
         let s : Some x ≡ Some y = sym b ∙ ap (group_named p) names ∙ d in

@@ -1,5 +1,5 @@
 -- What the joined plans have of the old plan and of the new one.
-use Rattle.std.specs.Prelude.{◌≡◌, ◌≢◌, ◌⊎◌, ℕ, ◌<◌, ◌≤◌, true, false, length, map, None}
+use Rattle.std.specs.Prelude.{◌≡◌, ◌≢◌, ℕ, ◌<◌, ◌≤◌, nat_lt, if◌then◌else◌, true, false, length, map, None}
 use Rattle.tx_plan.specs.Plan.{Plan, exchange_name, figures_of, group_name, home_of}
 use Rattle.tx_plan.specs.Rules.{IsPlan}
 use Rattle.tx_plan.specs.Routes.{route_list, is_barred}
@@ -110,7 +110,13 @@ pub record AreOwnJoined (old new : Plan) : Type 0 where
   pub before : joined_old old new ≡ old
   pub after : joined_new old new ≡ new
 
--- what certifies the old plan over the joined network certifies the old plan as it is
+-- the ranks of exchanges that a plan has
+abbrev pub ranks_within : Plan → Ranks → Ranks
+ranks_within p ranks c x = if nat_lt x (length p.exchanges) then ranks c x else None
+
+-- what certifies the old plan over the joined network certifies, at its own exchanges, the old plan
+-- as it is
 abbrev pub CertifiesOld : (old new before after : Plan) → Type 0
 CertifiesOld old new before after = (ranks : Ranks) (limit spare : ℕ)
-    → IsCertified before ranks limit spare → IsCertified old ranks limit spare
+    → IsCertified before ranks limit spare
+    → IsCertified old (ranks_within old ranks) limit spare
