@@ -1,10 +1,12 @@
 -- What a search by a test finds, and lists of which some members are kept.
-use Rattle.std.proofs.Common.{◌≡◌, ◌≢◌, ℕ, zero, suc, ◌+◌, ◌<◌, ◌≤◌, inl, inr, Bool, true, false, not, cond, ◌||◌, List, [], ◌∷◌, ◌++◌, length, map, Option, Some, None, is_some, unwrap_or, refl, sym, ap, ◌∙◌, arith}
+use Rattle.std.proofs.Common.{◌≡◌, ◌≢◌, ℕ, zero, suc, ◌+◌, ◌<◌, ◌≤◌, inl, inr, Bool, true, false, not, cond, ◌||◌, List, [], ◌∷◌, ◌++◌, length, length-append, append-nil, map, take, drop, nat_le, Option, Some, None, is_some, unwrap_or, refl, sym, ap, ◌∙◌, arith}
 use Rattle.std.specs.Prelude.{find, filter, flat_map, position, slice_get}
 use Rattle.std.specs.List.{list_any, position_or_len, range_with_len, AllByRecursion}
 use Rattle.std.specs.Option.{option_map}
-use Rattle.std.proofs.lemmas.Option.{slice_get_within}
-use Rattle.std.proofs.lemmas.Bool.{or_parts, cases_eq, true≢false, false≢true}
+use Rattle.std.proofs.lemmas.Option.{slice_get_within, get_or_from_slice_get}
+use Rattle.std.proofs.lemmas.List.{take_all, take_more, take-append-drop}
+use Rattle.std.proofs.lemmas.List.Elements.{filter-append}
+use Rattle.std.proofs.lemmas.Bool.{or_parts, cases_eq, leb-true, false_from_ne_true, true≢false, false≢true}
 use Rattle.std.proofs.Math.Bool.{or-true}
 use Rattle.std.proofs.lemmas.List.Folds.{list_any-append}
 use Rattle.tx_plan.specs.Rules.{EachPair}
@@ -161,3 +163,74 @@ all_flat P f (x ∷ xs) h = all_joined P (f x) (flat_map f xs) h.0 (all_flat P f
 pub any_flat : {A B : Type 0} (t : B → Bool) (f : A → List B) (xs : List A) → list_any t (flat_map f xs) ≡ list_any (λ x. list_any t (f x)) xs
 any_flat t f [] = refl
 any_flat t f (x ∷ xs) = list_any-append t (f x) (flat_map f xs) ∙ ap (λ b. list_any t (f x) || b) (any_flat t f xs)
+
+-- LISTS THAT GROW
+
+module _ {A : Type 0} where
+  pub take_next : (xs : List A) (i : ℕ) (x : A) → slice_get xs i ≡ Some x → take (i + 1) xs ≡ take i xs ++ x ∷ []
+  take_next xs i x e = take_more xs i x (slice_get_within xs i x e) ∙ ap (λ z. take i xs ++ z ∷ []) (get_or_from_slice_get xs i x x e)
+
+  -- the next member is kept
+  pub kept_next : (s : A → Bool) (xs : List A) (i : ℕ) (x : A) → slice_get xs i ≡ Some x → s x ≡ true → filter s (take (i + 1) xs) ≡ filter s (take i xs) ++ x ∷ []
+  kept_next s xs i x e h = ap (filter s) (take_next xs i x e) ∙ filter-append s (take i xs) (x ∷ []) ∙ ap (λ b. filter s (take i xs) ++ cond b (x ∷ []) []) h
+
+  -- it is not
+  pub left_next : (s : A → Bool) (xs : List A) (i : ℕ) (x : A) → slice_get xs i ≡ Some x → s x ≡ false → filter s (take (i + 1) xs) ≡ filter s (take i xs)
+  left_next s xs i x e h = ap (filter s) (take_next xs i x e) ∙ filter-append s (take i xs) (x ∷ []) ∙ ap (λ b. filter s (take i xs) ++ cond b (x ∷ []) []) h ∙ append-nil (filter s (take i xs))
+
+  -- what is kept in all is what was kept before, and the rest
+  pub kept_split : (s : A → Bool) (xs : List A) (i : ℕ) → filter s xs ≡ filter s (take i xs) ++ filter s (drop i xs)
+  kept_split s xs i = ap (filter s) (sym (take-append-drop i xs)) ∙ filter-append s (take i xs) (drop i xs)
+
+  pub drop_next : (xs : List A) (i : ℕ) (x : A) → slice_get xs i ≡ Some x → drop i xs ≡ x ∷ drop (suc i) xs
+  drop_next [] i x e = absurd (let bad : ⊥ = cc in bad)
+  drop_next (y ∷ xs) zero x e = let s : y ≡ x = cc in ap (λ z. z ∷ xs) s
+  drop_next (y ∷ xs) (suc i) x e = drop_next xs i x e
+
+  -- where the next member is kept
+  pub kept_at : (s : A → Bool) (xs : List A) (i : ℕ) (x : A) → slice_get xs i ≡ Some x → s x ≡ true → filter s xs ≡ filter s (take i xs) ++ x ∷ filter s (drop (suc i) xs)
+  kept_at s xs i x e h = kept_split s xs i ∙ ap (λ l. filter s (take i xs) ++ filter s l) (drop_next xs i x e) ∙ ap (λ b. filter s (take i xs) ++ cond b (x ∷ filter s (drop (suc i) xs)) (filter s (drop (suc i) xs))) h
+
+  pub taken_last : (xs : List A) (i : ℕ) → i ≡ length xs → take i xs ≡ xs
+  taken_last xs i e = ap (λ n. take n xs) e ∙ take_all (length xs) xs (omega arith)
+
+  -- each member before one is related to it
+  pub pairs_before : (R : A → A → Type 0) (xs : List A) (y : A) (ys : List A) → EachPair R (xs ++ y ∷ ys) → AllByRecursion (λ x. R x y) xs
+  pairs_before R [] y ys h = tt
+  pairs_before R (x ∷ xs) y ys h = (at_end xs h.0, pairs_before R xs y ys h.1)
+    where
+      at_end : (zs : List A) → AllByRecursion (R x) (zs ++ y ∷ ys) → R x y
+      at_end [] k = k.0
+      at_end (z ∷ zs) k = at_end zs k.1
+
+  -- one member of many
+  pub middle : (P : A → Type 0) (xs : List A) (y : A) (ys : List A) → AllByRecursion P (xs ++ y ∷ ys) → P y
+  middle P [] y ys h = h.0
+  middle P (x ∷ xs) y ys h = middle P xs y ys h.1
+
+  pub length_before : (xs : List A) (y : A) (ys : List A) (n : ℕ) → length (xs ++ y ∷ ys) ≤ n → nat_le n (length xs) ≡ false
+  length_before xs y ys n h =
+      let l : length (xs ++ y ∷ ys) ≡ length xs + suc (length ys) = length-append xs (y ∷ ys) in
+      false_from_ne_true (nat_le n (length xs)) (λ e. let m = leb-true n (length xs) e in omega (arith, l, h, m))
+
+-- SEARCHES OF INDEXES
+
+pub found_at : (t : ℕ → Bool) (n i : ℕ) → ((k : ℕ) → k < i → t k ≡ false) → i < n → t i ≡ true → find t (range_with_len 0 n) ≡ Some i
+found_at t n i before l h = from 0 n i (λ k a b. before k b) (omega arith) (omega (arith, l)) h
+  where
+    from : (a n i : ℕ) → ((k : ℕ) → a ≤ k → k < i → t k ≡ false) → a ≤ i → i < a + n → t i ≡ true → find t (range_with_len a n) ≡ Some i
+    from a zero i before l m h = absurd (omega (arith, l, m))
+    from a (suc n) i before l m h = elim (cases_eq a i) [
+      | inl e ↦ ap (λ b. cond b (Some a) (find t (range_with_len (a + 1) n))) (ap t e ∙ h) ∙ ap Some e
+      | inr e ↦ ap (λ b. cond b (Some a) (find t (range_with_len (a + 1) n))) (before a (omega arith) (omega (arith, l, e))) ∙ from (a + 1) n i (λ k c d. before k (omega (arith, c)) d) (omega (arith, l, e)) (omega (arith, m)) h
+    ]
+
+pub none_at : (t : ℕ → Bool) (n : ℕ) → ((k : ℕ) → k < n → t k ≡ false) → find t (range_with_len 0 n) ≡ None
+none_at t n h = find_fails t (range_with_len 0 n) (range_all (λ k. t k ≡ false) 0 n (λ k l m. h k (omega (arith, m))))
+
+-- one index more fails
+pub fails_next : (t : ℕ → Bool) (i x : ℕ) (r : Bool) → ((k : ℕ) → k < i → t k ≡ false) → x ≡ i → r ≡ t x → r ≡ false → (k : ℕ) → k < i + 1 → t k ≡ false
+fails_next t i x r before e is fails k l = elim (cases_eq k i) [
+  | inl s ↦ ap t (s ∙ sym e) ∙ sym is ∙ fails
+  | inr s ↦ before k (omega (arith, l, s))
+]

@@ -106,7 +106,7 @@ module _ (old new : Plan) (can : CanBeJoined old new) where
       by false h =
           let f = entry_found t new.codes (code_back new new_ok c l).there in
           let found : find t joined.codes ≡ Some (joined_code old new f.0) =
-              found_second (λ (r : Code). r.figures) w old.codes old.codes new.codes (joined_code old new) (λ r. refl) h h ∙ ap (option_map (joined_code old new)) f.1.found in
+          found_second (λ (r : Code). r.figures) w old.codes old.codes new.codes (joined_code old new) (λ r. refl) h h ∙ ap (option_map (joined_code old new)) f.1.found in
           let same : Some e.0 ≡ Some (joined_code old new f.0) = sym e.1.found ∙ found in
           let at : slice_get new.codes c ≡ Some f.0 = ap (λ o. slice_get new.codes (unwrap_or o 0)) (sym (code_back new new_ok c l).back) ∙ f.1.at in
           ap (λ (o : Option Code). option_map_or (λ (r : Code). r.home) o 0) same
@@ -155,7 +155,7 @@ module _ (old new : Plan) (can : CanBeJoined old new) where
           let f = entry_found t new.groups (group_back new new_ok g l).there in
           let none : has_key (λ (r : Group). r.name) (map (widened new) old.groups) w ≡ false = list_any-map (λ (r : Group). bytes_eq w r.name) (widened new) old.groups ∙ h in
           let found : find t joined.groups ≡ Some (joined_group old new f.0) =
-              found_second (λ (r : Group). r.name) w (map (widened new) old.groups) old.groups new.groups (joined_group old new) (λ r. refl) none h ∙ ap (option_map (joined_group old new)) f.1.found in
+          found_second (λ (r : Group). r.name) w (map (widened new) old.groups) old.groups new.groups (joined_group old new) (λ r. refl) none h ∙ ap (option_map (joined_group old new)) f.1.found in
           let same : e.0 ≡ joined_group old new f.0 = only (sym e.1.found ∙ found) in
           let at : slice_get new.groups g ≡ Some f.0 = ap (λ o. slice_get new.groups (unwrap_or o 0)) (sym back) ∙ f.1.at in
           let count : count_of new g ≡ f.0.count = ap (λ (o : Option Group). option_map_or (λ (r : Group). r.count) o 0) at in

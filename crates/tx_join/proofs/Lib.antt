@@ -9,4 +9,4 @@ pub mod PlansOver
 pub mod TheirLists
 pub mod OldCertified
 pub mod OneNetwork
-
+pub mod NextDeclared

@@ -108,9 +108,9 @@ module _ (p : Plan) (ok : IsPlan p) where
     pub unrefused : join_refusal p other ≡ None
     unrefused =
         ap (λ o. option_or (option_map OtherHome o) (option_or (option_map OtherGroup (find (has_other_group p other) (range_with_len 0 (length p.groups)))) (refused_if (has_too_many (joined_network p other)) TooMany)))
-            (find_fails (has_other_home p other) (range_with_len 0 (length p.codes)) (range_all (λ c. has_other_home p other c ≡ false) 0 (length p.codes) (λ c l m. one_home c (omega (arith, m)))))
+        (find_fails (has_other_home p other) (range_with_len 0 (length p.codes)) (range_all (λ c. has_other_home p other c ≡ false) 0 (length p.codes) (λ c l m. one_home c (omega (arith, m)))))
         ∙ ap (λ o. option_or (option_map OtherGroup o) (refused_if (has_too_many (joined_network p other)) TooMany))
-            (find_fails (has_other_group p other) (range_with_len 0 (length p.groups)) (range_all (λ g. has_other_group p other g ≡ false) 0 (length p.groups) (λ g l m. one_group g (omega (arith, m)))))
+        (find_fails (has_other_group p other) (range_with_len 0 (length p.groups)) (range_all (λ g. has_other_group p other g ≡ false) 0 (length p.groups) (λ g l m. one_group g (omega (arith, m)))))
         ∙ ap (λ j. refused_if (has_too_many j) TooMany) own_network
         ∙ ap (λ b. refused_if b TooMany) few
 
@@ -140,14 +140,14 @@ module _ (p : Plan) (routes others : List Route) (bars bans : List Pair) (ok : I
   own_routes : routes_over bare own other_plan ≡ routes
   own_routes =
       let none : filter (λ (r : Route). not (has_both own other_plan r.exchange r.code)) others ≡ [] =
-          filter_none (λ (r : Route). not (has_both own other_plan r.exchange r.code)) others (all_map others (λ r h. both_known own ok r.exchange r.code h.exchange h.code) other_ok.routes) in
+      filter_none (λ (r : Route). not (has_both own other_plan r.exchange r.code)) others (all_map others (λ r h. both_known own ok r.exchange r.code h.exchange h.code) other_ok.routes) in
       ap (λ l. map (route_in bare own) routes ++ map (route_in bare other_plan) l) none ∙ append-nil (map (route_in bare own) routes)
       ∙ map_same (route_in bare own) routes (all_map routes same_route ok.routes)
 
   own_shared : shared_bars bare own other_plan ≡ bars
   own_shared =
       let none : filter (λ (b : Pair). not (has_both own other_plan b.exchange b.code)) bans ≡ [] =
-          filter_none (λ (b : Pair). not (has_both own other_plan b.exchange b.code)) bans (all_map bans (λ b h. both_known own ok b.exchange b.code h.exchange h.code) other_ok.bars) in
+      filter_none (λ (b : Pair). not (has_both own other_plan b.exchange b.code)) bans (all_map bans (λ b h. both_known own ok b.exchange b.code h.exchange h.code) other_ok.bars) in
       ap (λ l. map (bar_in bare own) bars ++ map (bar_in bare other_plan) l) none ∙ append-nil (map (bar_in bare own) bars)
       ∙ map_same (bar_in bare own) bars (all_map bars same_bar ok.bars)
 

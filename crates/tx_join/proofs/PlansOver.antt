@@ -55,15 +55,15 @@ module _ (j p q : Plan) (ok : IsPlan p) (has_p : HasNetwork j p) (has_q : HasNet
       let a : exchange_name p x ≡ exchange_name q y = sym (has_p.exchanges.named x h.exchange) ∙ ap (exchange_name j) e ∙ has_q.exchanges.named y k.exchange in
       let b : figures_of p c ≡ figures_of q d = sym (has_p.codes.named c h.code) ∙ ap (figures_of j) f ∙ has_q.codes.named d k.code in
       and_from (has_exchange p (exchange_name q y)) (has_code p (figures_of q d))
-          (ap (has_exchange p) (sym a) ∙ (exchange_back p ok x h.exchange).there) (ap (has_code p) (sym b) ∙ (code_back p ok c h.code).there)
+      (ap (has_exchange p) (sym a) ∙ (exchange_back p ok x h.exchange).there) (ap (has_code p) (sym b) ∙ (code_back p ok c h.code).there)
 
 module _ (j p : Plan) (ok : IsPlan p) (has : HasNetwork j p) where
   -- a pair of p in j
   pub known_in : (x c y d : ℕ) → IsPair p x c → y ≡ exchange_in j p x → d ≡ code_in j p c → has_both p j y d ≡ true
   known_in x c y d h e f =
       and_from (has_exchange p (exchange_name j y)) (has_code p (figures_of j d))
-          (ap (λ z. has_exchange p (exchange_name j z)) e ∙ ap (has_exchange p) (has.exchanges.named x h.exchange) ∙ (exchange_back p ok x h.exchange).there)
-          (ap (λ z. has_code p (figures_of j z)) f ∙ ap (has_code p) (has.codes.named c h.code) ∙ (code_back p ok c h.code).there)
+      (ap (λ z. has_exchange p (exchange_name j z)) e ∙ ap (has_exchange p) (has.exchanges.named x h.exchange) ∙ (exchange_back p ok x h.exchange).there)
+      (ap (λ z. has_code p (figures_of j z)) f ∙ ap (has_code p) (has.codes.named c h.code) ∙ (code_back p ok c h.code).there)
 
   pub exchange_test : (x y : ℕ) → x < length p.exchanges → y < length p.exchanges → (exchange_in j p x == exchange_in j p y) ≡ (x == y)
   exchange_test x y l m = same_tests (exchange_in j p x == exchange_in j p y) (x == y)
@@ -109,8 +109,8 @@ module _ {A : Type 0} (exchange code : A → ℕ) where
         (all_mapped f P xs (all_map xs (λ a h. (a, (h, refl))) of_p))
         (all_mapped g Q (filter others ys) (all_with (filter others ys) (λ a h k. (a, (h, (k, refl)))) of_others (all_pass others ys)))
         (λ z w a b e i.
-            let known = known_pair j p q ok has_p has_q _ _ _ _ a.1.0 b.1.0 (sym (mf.exchange a.0) ∙ ap exchange (sym a.1.1) ∙ e ∙ ap exchange b.1.1.1 ∙ mg.exchange b.0) (sym (mf.code a.0) ∙ ap code (sym a.1.1) ∙ i ∙ ap code b.1.1.1 ∙ mg.code b.0) in
-            true≢false (sym known ∙ not-true _ b.1.1.0))
+        let known = known_pair j p q ok has_p has_q _ _ _ _ a.1.0 b.1.0 (sym (mf.exchange a.0) ∙ ap exchange (sym a.1.1) ∙ e ∙ ap exchange b.1.1.1 ∙ mg.exchange b.0) (sym (mf.code a.0) ∙ ap code (sym a.1.1) ∙ i ∙ ap code b.1.1.1 ∙ mg.code b.0) in
+        true≢false (sym known ∙ not-true _ b.1.1.0))
       where
         P : A → Type 0
         P z = (a : A) × (IsOf p a × (z ≡ f a))
@@ -124,14 +124,14 @@ module _ {A : Type 0} (exchange code : A → ℕ) where
         let t = at_pair (exchange_in j p x) (code_in j p c) in
         find-append t (map f xs) (map g (filter others ys))
         ∙ ap (option_or (find t (map f xs))) (find_fails t (map g (filter others ys)) (all_mapped g (λ z. t z ≡ false) (filter others ys) (all_with (filter others ys) (λ b k o. false_from_ne_true (t (g b)) (λ e.
-            let s = and_parts (exchange (g b) == exchange_in j p x) (code (g b) == code_in j p c) e in
-            let known = known_pair j p q ok has_p has_q x c _ _ h k (sym (eqb-true _ _ s.0) ∙ mg.exchange b) (sym (eqb-true _ _ s.1) ∙ mg.code b) in
-            true≢false (sym known ∙ not-true _ o))) of_others (all_pass others ys))))
+        let s = and_parts (exchange (g b) == exchange_in j p x) (code (g b) == code_in j p c) e in
+        let known = known_pair j p q ok has_p has_q x c _ _ h k (sym (eqb-true _ _ s.0) ∙ mg.exchange b) (sym (eqb-true _ _ s.1) ∙ mg.code b) in
+        true≢false (sym known ∙ not-true _ o))) of_others (all_pass others ys))))
         ∙ or_none (find t (map f xs))
         ∙ find-map t f xs
         ∙ ap (option_map f) (find_same (λ a. t (f a)) (at_pair x c) xs (all_map xs (λ a k.
-            ap (λ z. (z == exchange_in j p x) && (code (f a) == code_in j p c)) (mf.exchange a) ∙ ap (λ z. (exchange_in j p (exchange a) == exchange_in j p x) && (z == code_in j p c)) (mf.code a)
-            ∙ (λ i. exchange_test j p ok has_p (exchange a) x k.exchange h.exchange i && code_test j p ok has_p (code a) c k.code h.code i)) of_p))
+        ap (λ z. (z == exchange_in j p x) && (code (f a) == code_in j p c)) (mf.exchange a) ∙ ap (λ z. (exchange_in j p (exchange a) == exchange_in j p x) && (z == code_in j p c)) (mf.code a)
+        ∙ (λ i. exchange_test j p ok has_p (exchange a) x k.exchange h.exchange i && code_test j p ok has_p (code a) c k.code h.code i)) of_p))
 
     -- none of p is for a pair that p does not have
     pub none_own : (y d : ℕ) → has_both p j y d ≡ false → (s : A → Bool) → find (at_pair y d) (map f (filter s xs)) ≡ None
@@ -145,14 +145,14 @@ module _ {A : Type 0} (exchange code : A → ℕ) where
         let t = at_pair y d in
         find-append t (map f xs) (map g (filter others ys))
         ∙ ap (λ o. option_or o (find t (map g (filter others ys)))) (find_fails t (map f xs) (all_mapped f (λ z. t z ≡ false) xs (all_map xs (λ a k. false_from_ne_true (t (f a)) (λ e.
-            let s = and_parts (exchange (f a) == y) (code (f a) == d) e in
-            true≢false (sym (known_in j p ok has_p _ _ y d k (sym (eqb-true _ _ s.0) ∙ mf.exchange a) (sym (eqb-true _ _ s.1) ∙ mf.code a)) ∙ none))) of_p)))
+        let s = and_parts (exchange (f a) == y) (code (f a) == d) e in
+        true≢false (sym (known_in j p ok has_p _ _ y d k (sym (eqb-true _ _ s.0) ∙ mf.exchange a) (sym (eqb-true _ _ s.1) ∙ mf.code a)) ∙ none))) of_p)))
         ∙ find-map t g (filter others ys)
         ∙ ap (option_map g) (find_kept (λ b. t (g b)) others ys (all_map ys (λ b k e.
-            let s = and_parts (exchange (g b) == y) (code (g b) == d) e in
-            let a : exchange_name q (exchange b) ≡ exchange_name j y = sym (has_q.exchanges.named _ k.exchange) ∙ ap (exchange_name j) (sym (mg.exchange b) ∙ eqb-true _ _ s.0) in
-            let n : figures_of q (code b) ≡ figures_of j d = sym (has_q.codes.named _ k.code) ∙ ap (figures_of j) (sym (mg.code b) ∙ eqb-true _ _ s.1) in
-            ap not ((λ i. has_exchange p (a i) && has_code p (n i)) ∙ none)) of_q))
+        let s = and_parts (exchange (g b) == y) (code (g b) == d) e in
+        let a : exchange_name q (exchange b) ≡ exchange_name j y = sym (has_q.exchanges.named _ k.exchange) ∙ ap (exchange_name j) (sym (mg.exchange b) ∙ eqb-true _ _ s.0) in
+        let n : figures_of q (code b) ≡ figures_of j d = sym (has_q.codes.named _ k.code) ∙ ap (figures_of j) (sym (mg.code b) ∙ eqb-true _ _ s.1) in
+        ap not ((λ i. has_exchange p (a i) && has_code p (n i)) ∙ none)) of_q))
         ∙ sym (find-map t g ys)
 
 -- BARS OF NEW CODES
@@ -164,8 +164,8 @@ module _ (j : Plan) where
       let s = λ (x : ℕ). not (home_of j c == x) in
       let xs = range_with_len 0 (length j.exchanges) in
       all_mapped (λ x. record { exchange = x; code = c }) P (filter s xs)
-          (all_with (filter s xs) (λ x l k. h x l (eqb-false (home_of j c) x (not-true _ k)))
-          (all_kept (λ x. x < length j.exchanges) s xs (range_all (λ x. x < length j.exchanges) 0 (length j.exchanges) (λ i l m. omega (arith, m)))) (all_pass s xs))
+      (all_with (filter s xs) (λ x l k. h x l (eqb-false (home_of j c) x (not-true _ k)))
+      (all_kept (λ x. x < length j.exchanges) s xs (range_all (λ x. x < length j.exchanges) 0 (length j.exchanges) (λ i l m. omega (arith, m)))) (all_pass s xs))
 
   pub each_from : (P : Pair → Type 0) (n m : ℕ) → ((x c : ℕ) → x < length j.exchanges → n ≤ c → c < n + m → home_of j c ≢ x → P (record { exchange = x; code = c })) → AllByRecursion P (flat_map (bars_of_code j) (range_with_len n m))
   each_from P n m h = all_flat P (bars_of_code j) (range_with_len n m) (range_all (λ c. AllByRecursion P (bars_of_code j c)) n m (λ c l k. each_of_code P c (λ x i away. h x c i l k away)))
@@ -175,7 +175,7 @@ module _ (j : Plan) where
       let s = λ (x : ℕ). not (home_of j c == x) in
       let xs = range_with_len 0 (length j.exchanges) in
       pairs_mapped (λ x. record { exchange = x; code = c }) (Apart (λ (b : Pair). b.exchange) (λ (b : Pair). b.code)) (filter s xs)
-          (pairs_map {R = λ x y. x ≢ y} (λ (x : ℕ). Unit {0}) (filter s xs) (λ x y u v d e i. d e) (all_unit (filter s xs)) (pairs_kept (λ x y. x ≢ y) s xs (range_differ 0 (length j.exchanges))))
+      (pairs_map {R = λ x y. x ≢ y} (λ (x : ℕ). Unit {0}) (filter s xs) (λ x y u v d e i. d e) (all_unit (filter s xs)) (pairs_kept (λ x y. x ≢ y) s xs (range_differ 0 (length j.exchanges))))
     where
       all_unit : (xs : List ℕ) → AllByRecursion (λ x. Unit {0}) xs
       all_unit [] = tt
@@ -225,7 +225,7 @@ module _ (j p q : Plan) (n : ℕ) (ok : IsPlan p) (q_ok : IsPlan q) (has_p : Has
   pub bars_apart : BarsDiffer (bars_over j p q n)
   bars_apart = pairs_joined (λ (b : Pair). nat_lt b.code n ≡ true) (λ (b : Pair). n ≤ b.code) (Apart (λ (b : Pair). b.exchange) (λ (b : Pair). b.code)) (filter (λ (b : Pair). nat_lt b.code n) (shared_bars j p q)) (bars_from j n)
       (pairs_kept (Apart (λ (b : Pair). b.exchange) (λ (b : Pair). b.code)) (λ (b : Pair). nat_lt b.code n) (shared_bars j p q)
-          (over_apart (λ (b : Pair). b.exchange) (λ (b : Pair). b.code) j p q ok q_ok has_p has_q (bar_in j p) (bar_in j q) (bar_moves j p) (bar_moves j q) p.bars q.bars (bars_of p ok) (bars_of q q_ok) ok.bars_differ q_ok.bars_differ))
+      (over_apart (λ (b : Pair). b.exchange) (λ (b : Pair). b.code) j p q ok q_ok has_p has_q (bar_in j p) (bar_in j q) (bar_moves j p) (bar_moves j q) p.bars q.bars (bars_of p ok) (bars_of q q_ok) ok.bars_differ q_ok.bars_differ))
       (from_apart j n (length j.codes - n))
       (all_pass (λ (b : Pair). nat_lt b.code n) (shared_bars j p q))
       (each_from j (λ (b : Pair). n ≤ b.code) n (length j.codes - n) (λ x c l k i away. k))
@@ -261,9 +261,9 @@ module _ (j p q : Plan) (n : ℕ) (ok : IsPlan p) (q_ok : IsPlan q) (has_p : Has
       routes_differ = routes_apart;
       bars = all_joined (IsBar made) (filter (λ b. nat_lt b.code n) (shared_bars j p q)) (bars_from j n)
           (all_kept (IsBar made) (λ b. nat_lt b.code n) (shared_bars j p q)
-              (all_joined (IsBar made) (map (bar_in j p) p.bars) (map (bar_in j q) (filter (λ b. not (has_both p q b.exchange b.code)) q.bars))
-              (all_mapped (bar_in j p) (IsBar made) p.bars (own_bars p ok has_p))
-              (all_mapped (bar_in j q) (IsBar made) (filter (λ b. not (has_both p q b.exchange b.code)) q.bars) (all_kept (λ b. IsBar made (bar_in j q b)) (λ b. not (has_both p q b.exchange b.code)) q.bars (own_bars q q_ok has_q)))))
+          (all_joined (IsBar made) (map (bar_in j p) p.bars) (map (bar_in j q) (filter (λ b. not (has_both p q b.exchange b.code)) q.bars))
+          (all_mapped (bar_in j p) (IsBar made) p.bars (own_bars p ok has_p))
+          (all_mapped (bar_in j q) (IsBar made) (filter (λ b. not (has_both p q b.exchange b.code)) q.bars) (all_kept (λ b. IsBar made (bar_in j q b)) (λ b. not (has_both p q b.exchange b.code)) q.bars (own_bars q q_ok has_q)))))
           (each_from j (IsBar made) n (length j.codes - n) (λ x c l k i away. record { exchange = l; code = omega (arith, k, i); away = away }));
       bars_differ = bars_apart;
     }
@@ -291,7 +291,7 @@ module _ (j p q : Plan) (n : ℕ) (ok : IsPlan p) (q_ok : IsPlan q) (has_p : Has
       let s = λ (b : Pair). nat_lt b.code n in
       list_any-append t (filter s (shared_bars j p q)) (bars_from j n)
       ∙ ap (λ b. list_any t (filter s (shared_bars j p q)) || b)
-          (any_find t (bars_from j n) ∙ ap is_some (find_fails t (bars_from j n) (each_from j (λ b. t b ≡ false) n (length j.codes - n) (λ x c i k m away. false_from_ne_true (t (record { exchange = x; code = c })) (λ e. let f = eqb-true c d (and_parts (x == y) (c == d) e).1 in omega (arith, f, k, l))))))
+      (any_find t (bars_from j n) ∙ ap is_some (find_fails t (bars_from j n) (each_from j (λ b. t b ≡ false) n (length j.codes - n) (λ x c i k m away. false_from_ne_true (t (record { exchange = x; code = c })) (λ e. let f = eqb-true c d (and_parts (x == y) (c == d) e).1 in omega (arith, f, k, l))))))
       ∙ or-false (list_any t (filter s (shared_bars j p q)))
       ∙ any_in t s (λ b e. ap (λ z. nat_lt z n) (eqb-true b.code d (and_parts (b.exchange == y) (b.code == d) e).1) ∙ lt-ltb d n l) (shared_bars j p q)
       ∙ any_find t (shared_bars j p q)

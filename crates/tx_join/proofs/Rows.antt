@@ -37,8 +37,8 @@ module _ {A : Type 0} (key : A → List ℕ) where
   keys_joined zs xs ys g k e =
       let same : (w : List ℕ) → has_key xs w ≡ named (map key xs) w = λ w. sym (list_any-map (bytes_eq w) key xs) in
       let rest : map key (map g (filter (λ y. not (has_key xs (key y))) ys)) ≡ filter (λ w. not (named (map key xs) w)) (map key ys) =
-          keys_kept g k (filter (λ y. not (has_key xs (key y))) ys)
-          ∙ (ap (λ (s : A → Bool). map key (filter s ys)) (λ j y. not (same (key y) j)) ∙ sym (filter-map (λ w. not (named (map key xs) w)) key ys)) in
+      keys_kept g k (filter (λ y. not (has_key xs (key y))) ys)
+      ∙ (ap (λ (s : A → Bool). map key (filter s ys)) (λ j y. not (same (key y) j)) ∙ sym (filter-map (λ w. not (named (map key xs) w)) key ys)) in
       map-append key zs (map g (filter (λ y. not (has_key xs (key y))) ys)) ∙ (λ i. e i ++ rest i)
 
   module _ (js xs ys : List A) (keys : map key js ≡ united (map key xs) (map key ys)) where

@@ -1,6 +1,7 @@
 // What two plans know by the same names.
 ghost use Rattle.std.specs.Prelude.{◌≡◌, map};
 ghost use Rattle.tx_plan.specs.Routes.{route_list};
+ghost use Rattle.tx_plan.specs.Declaring.{has_exchange, has_code, has_group};
 ghost use Rattle.tx_join.specs.Joined.{exchange_in, code_in, group_in, has_both, circuits_named};
 
 use std::alloc::Allocator;
@@ -57,6 +58,27 @@ pub(crate) fn list_in<A: Allocator>(
     list
 }
 
+/// Whether a plan has an exchange of this name.
+pub(crate) fn has_exchange<A: Allocator>(plan: &Plan<A>, name: &[u8]) -> bool
+    ensures { result ≡ has_exchange plan.now name.now }
+{
+    plan.exchange_named(name).is_some()
+}
+
+/// Whether it has a code of these figures.
+pub(crate) fn has_code<A: Allocator>(plan: &Plan<A>, figures: &[u8]) -> bool
+    ensures { result ≡ has_code plan.now figures.now }
+{
+    plan.code_named(figures).is_some()
+}
+
+/// Whether it has a group of this name.
+pub(crate) fn has_group<A: Allocator>(plan: &Plan<A>, name: &[u8]) -> bool
+    ensures { result ≡ has_group plan.now name.now }
+{
+    plan.group_named(name).is_some()
+}
+
 /// Whether a plan has an exchange and a code of another one.
 pub(crate) fn has_both<A: Allocator>(
     plan: &Plan<A>,
@@ -66,8 +88,7 @@ pub(crate) fn has_both<A: Allocator>(
 ) -> bool
     ensures { result ≡ has_both plan.now from.now exchange code }
 {
-    plan.exchange_named(from.exchange_name(exchange)).is_some()
-        && plan.code_named(from.code_figures(code)).is_some()
+    has_exchange(plan, from.exchange_name(exchange)) && has_code(plan, from.code_figures(code))
 }
 
 /// How many circuits the group of a name has; none where there is no such group.

@@ -6,7 +6,7 @@ ghost use Rattle.tx_join.specs.Joined.{joined_network};
 ghost use Rattle.tx_join.specs.Laws.{CanBeJoined};
 ghost use Rattle.tx_join.specs.inner.Declared.{with_exchanges, with_codes, with_ranges, with_groups, KnowsExchanges, KnowsCodes, IsTaken};
 
-use crate::naming::circuits_named;
+use crate::naming::{circuits_named, has_code, has_exchange, has_group};
 use crate::refusal::JoinRefusal;
 use std::alloc::Allocator;
 use tx_plan::{CodeId, ExchangeId, GroupId, Plan, PlanBuilder, PlanRefusal};
@@ -43,7 +43,7 @@ fn add_exchanges<A: Allocator>(
 {
     for index in 0..from.exchanges() {
         let name = from.exchange_name(ExchangeId::of(index));
-        if builder.plan().exchange_named(name).is_none() {
+        if !has_exchange(builder.plan(), name) {
             taken(builder.exchange(name))?;
         }
     }
@@ -60,7 +60,7 @@ fn add_codes<A: Allocator>(from: &Plan<A>, builder: &mut PlanBuilder<A>) -> Resu
     for index in 0..from.codes() {
         let code = CodeId::of(index);
         let figures = from.code_figures(code);
-        if builder.plan().code_named(figures).is_none() {
+        if !has_code(builder.plan(), figures) {
             let home = from.exchange_name(from.home(code));
             taken(builder.code(figures, home))?;
         }
@@ -101,7 +101,7 @@ fn add_groups<A: Allocator>(
     for index in 0..from.groups() {
         let group = GroupId::of(index);
         let name = from.group_name(group);
-        if builder.plan().group_named(name).is_none() {
+        if !has_group(builder.plan(), name) {
             let (a, b) = from.ends(group);
             let count = from.group_count(group).max(circuits_named(other, name));
             let direction = from.direction(group);

@@ -1,10 +1,10 @@
 // What of two plans refuses a joined network.
-ghost use Rattle.std.specs.Prelude.{◌≡◌, length, find, map, filter, not};
+ghost use Rattle.std.specs.Prelude.{◌≡◌, length, find};
 ghost use Rattle.std.specs.List.{range_with_len};
-ghost use Rattle.tx_plan.specs.Declaring.{has_code, has_group};
 ghost use Rattle.tx_join.specs.Joined.{joined_exchanges, joined_network};
 ghost use Rattle.tx_join.specs.Refusals.{is_same_exchange, is_same_direction, is_same_group, has_other_home, has_other_group, has_too_many, join_refusal};
 
+use crate::naming::{has_code, has_exchange, has_group};
 use crate::refusal::JoinRefusal;
 use std::alloc::Allocator;
 use tx_plan::{CodeId, Direction, ExchangeId, GroupId, Plan};
@@ -74,12 +74,7 @@ fn has_other_group<A: Allocator>(old: &Plan<A>, new: &Plan<A>, group: GroupId) -
 }
 
 /// Whether two groups have the same ends and the same direction.
-fn is_same_group<A: Allocator>(
-    old: &Plan<A>,
-    new: &Plan<A>,
-    known: GroupId,
-    group: GroupId,
-) -> bool
+fn is_same_group<A: Allocator>(old: &Plan<A>, new: &Plan<A>, known: GroupId, group: GroupId) -> bool
     ensures { result ≡ is_same_group old.now new.now known group }
 {
     let (a, b) = old.ends(known);
@@ -111,7 +106,8 @@ fn is_same_direction(known: Direction, direction: Direction) -> bool
 fn has_too_many<A: Allocator>(old: &Plan<A>, new: &Plan<A>) -> bool
     ensures { result ≡ has_too_many (joined_network old.now new.now) }
 {
-    exchanges_of_both(old, new) > 256 || codes_of_both(old, new) > 1100
+    exchanges_of_both(old, new) > 256
+        || codes_of_both(old, new) > 1100
         || groups_of_both(old, new) > 4096
 }
 
@@ -122,7 +118,7 @@ fn exchanges_of_both<A: Allocator>(old: &Plan<A>, new: &Plan<A>) -> usize
     let mut count = old.exchanges();
     for index in 0..new.exchanges() {
         let name = new.exchange_name(ExchangeId::of(index));
-        if old.exchange_named(name).is_none() {
+        if !has_exchange(old, name) {
             count += 1;
         }
     }
@@ -136,7 +132,7 @@ fn codes_of_both<A: Allocator>(old: &Plan<A>, new: &Plan<A>) -> usize
     let mut count = old.codes();
     for index in 0..new.codes() {
         let figures = new.code_figures(CodeId::of(index));
-        if old.code_named(figures).is_none() {
+        if !has_code(old, figures) {
             count += 1;
         }
     }
@@ -150,7 +146,7 @@ fn groups_of_both<A: Allocator>(old: &Plan<A>, new: &Plan<A>) -> usize
     let mut count = old.groups();
     for index in 0..new.groups() {
         let name = new.group_name(GroupId::of(index));
-        if old.group_named(name).is_none() {
+        if !has_group(old, name) {
             count += 1;
         }
     }
