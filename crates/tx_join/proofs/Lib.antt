@@ -10,3 +10,5 @@ pub mod TheirLists
 pub mod OldCertified
 pub mod OneNetwork
 pub mod NextDeclared
+pub mod NextTaken
+pub mod Stages

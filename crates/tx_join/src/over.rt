@@ -1,8 +1,8 @@
 // A plan over the joined network.
-ghost use Rattle.std.specs.Prelude.{◌≡◌, ◌++◌, IfOk, OnOk};
+ghost use Rattle.std.specs.Prelude.{◌≡◌, ◌++◌, ◌∷◌, [], nat_lt, filter, true, false, IfOk, OnOk};
 ghost use Rattle.tx_plan.specs.Rules.{IsPlan};
 ghost use Rattle.tx_join.specs.Joined.{exchange_in, code_in, plan_over, routes_over, bars_over, bars_of_code, bars_from};
-ghost use Rattle.tx_join.specs.inner.Taken.{taken_routes, taken_bars, RoutesDiffer, BarsDiffer};
+ghost use Rattle.tx_join.specs.inner.Taken.{takes, taken_routes, taken_bars, has_bar, RoutesDiffer, BarsDiffer};
 
 use crate::naming::{code_in, exchange_in, has_both, list_in};
 use std::alloc::Allocator;
@@ -58,9 +58,9 @@ fn add_routes<A: Allocator>(
     for index in 0..from.routes() {
         match from.route_at(index) {
             Some((exchange, code)) => {
-                if whole || !has_both(own, from, exchange, code) {
-                    let list = list_in(network, from, exchange, code);
-                    routes.add(pair_in(network, from, exchange, code), list)?;
+                if takes(own, from, whole, exchange, code) {
+                    let pair = pair_in(network, from, exchange, code);
+                    routes.add(pair, list_in(network, from, exchange, code))?;
                 }
             }
             None => unreachable!(),
@@ -103,15 +103,40 @@ fn add_bars<A: Allocator>(
     for index in 0..from.bars() {
         match from.bar_at(index) {
             Some((exchange, code)) => {
-                let pair = pair_in(network, from, exchange, code);
-                if pair.code.index() < codes && (whole || !has_both(own, from, exchange, code)) {
-                    bars.add(pair)?;
+                if takes(own, from, whole, exchange, code) {
+                    add_bar(pair_in(network, from, exchange, code), codes, bars)?;
                 }
             }
             None => unreachable!(),
         }
     }
     Ok(())
+}
+
+/// Adds a bar, if it is for a code before an index.
+fn add_bar<A: Allocator>(pair: Pair, codes: usize, bars: &mut Bars<A>) -> Result<(), NoMemory>
+    requires { nat_lt pair.code codes ≡ true → has_bar bars.old pair ≡ false }
+    ensures { OnOk result (bars.new
+        ≡ bars.old ++ filter (λ b. nat_lt b.code codes) (pair ∷ [])) }
+{
+    if pair.code.index() < codes {
+        bars.add(pair)?;
+    }
+    Ok(())
+}
+
+/// Whether a list or a bar of a plan is taken: the plan is taken whole, or the other one does not
+/// have the exchange or the code.
+fn takes<A: Allocator>(
+    own: &Plan<A>,
+    from: &Plan<A>,
+    whole: bool,
+    exchange: ExchangeId,
+    code: CodeId,
+) -> bool
+    ensures { result ≡ takes own.now from.now whole exchange code }
+{
+    whole || !has_both(own, from, exchange, code)
 }
 
 /// An exchange and a code of a plan, in the joined network.

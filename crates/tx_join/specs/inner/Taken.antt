@@ -1,5 +1,6 @@
 -- The routes and bars that a plan over the joined network takes from one plan.
-use Rattle.std.specs.Prelude.{◌≡◌, ◌≢◌, ℕ, Bool, not, ◌||◌, nat_lt, List, map, filter}
+use Rattle.std.specs.Prelude.{◌≡◌, ◌≢◌, ℕ, Bool, not, ◌||◌, ◌&&◌, ◌==◌, nat_lt, List, map, filter}
+use Rattle.std.specs.List.{list_any}
 use Rattle.tx_plan.specs.declared.ids.Pair.{Pair}
 use Rattle.tx_plan.specs.Plan.{Plan, Route}
 use Rattle.tx_plan.specs.Rules.{EachPair}
@@ -26,3 +27,7 @@ RoutesDiffer routes = EachPair (λ r q. r.exchange ≡ q.exchange → r.code ≢
 -- the same of bars
 abbrev pub BarsDiffer : List Pair → Type 0
 BarsDiffer bars = EachPair (λ b c. b.exchange ≡ c.exchange → b.code ≢ c.code) bars
+
+-- there is a bar for the pair
+abbrev pub has_bar : List Pair → Pair → Bool
+has_bar bars pair = list_any (λ b. (b.exchange == pair.exchange) && (b.code == pair.code)) bars
