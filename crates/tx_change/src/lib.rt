@@ -15,6 +15,6 @@ mod taking;
 
 pub use changing::change;
 pub use difference::{Difference, NetworkList, first_difference};
-pub use law::findings_show_mixtures;
+pub use law::{closed_codes_stay, findings_show_mixtures};
 pub use mixture::{ShownMixture, first_mixture};
 pub use showing::shown;
