@@ -104,7 +104,7 @@ module _ {A B : Type 0} (key : A → List ℕ) (name : B → List ℕ) (front : 
       let ys = filter t (take i xs) in
       list_any-append is_named front (map f ys)
       ∙ ap (λ b. list_any is_named front || b) (any_find is_named (map f ys) ∙ ap is_some (find_fails is_named (map f ys) (all_mapped f (λ b. is_named b ≡ false) ys
-          (all_map ys (λ a n. ap (bytes_eq (key x)) (kept a) ∙ bytes_apart (key x) (key a) (λ e. n (sym e))) (all_kept (λ a. key a ≢ key x) t (take i xs) unseen)))))
+      (all_map ys (λ a n. ap (bytes_eq (key x)) (kept a) ∙ bytes_apart (key x) (key a) (λ e. n (sym e))) (all_kept (λ a. key a ≢ key x) t (take i xs) unseen)))))
       ∙ or-false (list_any is_named front)
 
 -- EXCHANGES
@@ -142,7 +142,7 @@ module _ (p from : Plan) where
           let t = λ (w : List ℕ). not (has_exchange p w) in
           let whole_list = ap (λ l. p.exchanges ++ l) (sym (same_exchanges (filter t from.exchanges))) ∙ whole p.exchanges t (λ w. w) from.exchanges i x at (ap not (sym exchange_known ∙ h)) in
           exchange_free (exchanges_to p from i) x (all_at (λ w. is_name w ≡ true) from.exchanges i x from_ok.exchanges at) h
-              (length_before (so_far p.exchanges t (λ w. w) from.exchanges i) x (map (λ w. w) (filter t (drop (suc i) from.exchanges))) 256 (subst (λ (l : List (List ℕ)). length l ≤ 256) whole_list rules.few_exchanges))
+          (length_before (so_far p.exchanges t (λ w. w) from.exchanges i) x (map (λ w. w) (filter t (drop (suc i) from.exchanges))) 256 (subst (λ (l : List (List ℕ)). length l ≤ 256) whole_list rules.few_exchanges))
 
 -- CODES
 
@@ -172,8 +172,8 @@ module _ (p from : Plan) where
           let r = all_at (IsCode from) from.codes i c from_ok.codes at in
           let t = λ (k : Code). not (has_code p k.figures) in
           code_free (codes_to p from i) c.figures (exchange_name from c.home) (exchange_is_name from from_ok c.home r.home) r.figures h (knows c.home r.home)
-              (length_before (so_far p.codes t (known_code p from) from.codes i) (known_code p from c) (map (known_code p from) (filter t (drop (suc i) from.codes))) 1100
-              (subst (λ (l : List Code). length l ≤ 1100) (whole p.codes t (known_code p from) from.codes i c at (ap not (sym code_known ∙ h))) rules.few_codes))
+          (length_before (so_far p.codes t (known_code p from) from.codes i) (known_code p from c) (map (known_code p from) (filter t (drop (suc i) from.codes))) 1100
+          (subst (λ (l : List Code). length l ≤ 1100) (whole p.codes t (known_code p from) from.codes i c at (ap not (sym code_known ∙ h))) rules.few_codes))
 
 -- RANGES
 
@@ -221,9 +221,9 @@ module _ (p from : Plan) where
     range_taken =
         let own = all_at (IsRange from) from.ranges i r from_ok.ranges at in
         lines_free (ranges_to p from i) (figures_of from r.code) r.low r.high (figures_are_code from from_ok r.code own.code) own.low own.high (knows r.code own.code)
-            (and_from (length r.low == length r.high) (at_most r.low r.high) (eq-eqb (length r.low) (length r.high) own.width) own.order)
-            no_overlap
-            (length_before (so_far p.ranges (λ r. true) (known_range p from) from.ranges i) (known_range p from r) (map (known_range p from) (filter (λ r. true) (drop (suc i) from.ranges))) 4096 (subst (λ (l : List LineRange). length l ≤ 4096) whole_ranges rules.few_ranges))
+        (and_from (length r.low == length r.high) (at_most r.low r.high) (eq-eqb (length r.low) (length r.high) own.width) own.order)
+        no_overlap
+        (length_before (so_far p.ranges (λ r. true) (known_range p from) from.ranges i) (known_range p from r) (map (known_range p from) (filter (λ r. true) (drop (suc i) from.ranges))) 4096 (subst (λ (l : List LineRange). length l ≤ 4096) whole_ranges rules.few_ranges))
 
 -- GROUPS
 
@@ -259,6 +259,6 @@ module _ (p from other : Plan) where
           let whole_list = whole p.groups t f from.groups i g at (ap not (sym group_known ∙ h)) in
           let made = middle (IsGroup (with_groups p from other)) (so_far p.groups t f from.groups i) (f g) (map f (filter t (drop (suc i) from.groups))) (subst (AllByRecursion (IsGroup (with_groups p from other))) whole_list rules.groups) in
           group_free (groups_to p from other i) g.name (exchange_name from g.a) (exchange_name from g.b) (max g.count (circuits_named other g.name)) own.name
-              (exchange_is_name from from_ok g.a own.first) (exchange_is_name from from_ok g.b own.second) (in_range_count (max g.count (circuits_named other g.name)) made.some made.few) h (knows g.a own.first) (knows g.b own.second)
-              (bytes_apart (exchange_name from g.a) (exchange_name from g.b) (λ e. own.ends_differ (only (sym (exchange_back from from_ok g.a own.first).back ∙ ap (exchange_named from) e ∙ (exchange_back from from_ok g.b own.second).back))))
-              (length_before (so_far p.groups t f from.groups i) (f g) (map f (filter t (drop (suc i) from.groups))) 4096 (subst (λ (l : List Group). length l ≤ 4096) whole_list rules.few_groups))
+          (exchange_is_name from from_ok g.a own.first) (exchange_is_name from from_ok g.b own.second) (in_range_count (max g.count (circuits_named other g.name)) made.some made.few) h (knows g.a own.first) (knows g.b own.second)
+          (bytes_apart (exchange_name from g.a) (exchange_name from g.b) (λ e. own.ends_differ (only (sym (exchange_back from from_ok g.a own.first).back ∙ ap (exchange_named from) e ∙ (exchange_back from from_ok g.b own.second).back))))
+          (length_before (so_far p.groups t f from.groups i) (f g) (map f (filter t (drop (suc i) from.groups))) 4096 (subst (λ (l : List Group). length l ≤ 4096) whole_list rules.few_groups))

@@ -94,11 +94,11 @@ module _ (j own from : Plan) (w : Bool) (n : ℕ) (front now : List Pair) (i : �
       let ys = map (bar_in j from) (filter u (take i from.bars)) in
       let zs = map (bar_in j from) (filter u (drop (suc i) from.bars)) in
       let split : front ++ taken_bars j own from w n ≡ (front ++ filter s ys) ++ bar_in j from b ∷ filter s zs =
-          ap (λ l. front ++ filter s (map (bar_in j from) l)) (kept_at u from.bars i b at h)
-          ∙ ap (λ l. front ++ filter s l) (map-append (bar_in j from) (filter u (take i from.bars)) (b ∷ filter u (drop (suc i) from.bars)))
-          ∙ ap (λ l. front ++ l) (filter-append s ys (bar_in j from b ∷ zs))
-          ∙ ap (λ c. front ++ (filter s ys ++ cond c (bar_in j from b ∷ filter s zs) (filter s zs))) k
-          ∙ sym (append_assoc front (filter s ys) (bar_in j from b ∷ filter s zs)) in
+      ap (λ l. front ++ filter s (map (bar_in j from) l)) (kept_at u from.bars i b at h)
+      ∙ ap (λ l. front ++ filter s l) (map-append (bar_in j from) (filter u (take i from.bars)) (b ∷ filter u (drop (suc i) from.bars)))
+      ∙ ap (λ l. front ++ l) (filter-append s ys (bar_in j from b ∷ zs))
+      ∙ ap (λ c. front ++ (filter s ys ++ cond c (bar_in j from b ∷ filter s zs) (filter s zs))) k
+      ∙ sym (append_assoc front (filter s ys) (bar_in j from b ∷ filter s zs)) in
       ap (λ l. has_bar l (bar_in j from b)) is
       ∙ none_before (λ (a : Pair). a.exchange) (λ (a : Pair). a.code) (front ++ filter s ys) (bar_in j from b) (filter s zs) (subst BarsDiffer split d)
 

@@ -88,8 +88,8 @@ module _ {A : Type 0} (exchange code : A → ℕ) where
 
   -- what a map makes of the pair of an entry
   pub record Moves (j p : Plan) (f : A → A) : Type 0 where
-    pub exchange : (a : A) → exchange (f a) ≡ exchange_in j p (exchange a)
-    pub code : (a : A) → code (f a) ≡ code_in j p (code a)
+    pub to_exchange : (a : A) → exchange (f a) ≡ exchange_in j p (exchange a)
+    pub to_code : (a : A) → code (f a) ≡ code_in j p (code a)
 
   module _ (j p q : Plan) (ok : IsPlan p) (q_ok : IsPlan q) (has_p : HasNetwork j p) (has_q : HasNetwork j q) (f g : A → A) (mf : Moves j p f) (mg : Moves j q g) (xs ys : List A) (of_p : AllByRecursion (IsOf p) xs) (of_q : AllByRecursion (IsOf q) ys) where
     -- an entry of q is not one of p
@@ -104,12 +104,12 @@ module _ {A : Type 0} (exchange code : A → ℕ) where
 
     pub over_apart : EachPair Apart xs → EachPair Apart ys → EachPair Apart over
     over_apart dx dy = pairs_joined P Q Apart (map f xs) (map g (filter others ys))
-        (pairs_mapped f Apart xs (pairs_map (IsOf p) xs (λ a b h k d e i. d (exchange_once j p ok has_p _ _ h.exchange k.exchange (sym (mf.exchange a) ∙ e ∙ mf.exchange b)) (code_once j p ok has_p _ _ h.code k.code (sym (mf.code a) ∙ i ∙ mf.code b))) of_p dx))
-        (pairs_mapped g Apart (filter others ys) (pairs_map (IsOf q) (filter others ys) (λ a b h k d e i. d (exchange_once j q q_ok has_q _ _ h.exchange k.exchange (sym (mg.exchange a) ∙ e ∙ mg.exchange b)) (code_once j q q_ok has_q _ _ h.code k.code (sym (mg.code a) ∙ i ∙ mg.code b))) of_others (pairs_kept Apart others ys dy)))
+        (pairs_mapped f Apart xs (pairs_map (IsOf p) xs (λ a b h k d e i. d (exchange_once j p ok has_p _ _ h.exchange k.exchange (sym (mf.to_exchange a) ∙ e ∙ mf.to_exchange b)) (code_once j p ok has_p _ _ h.code k.code (sym (mf.to_code a) ∙ i ∙ mf.to_code b))) of_p dx))
+        (pairs_mapped g Apart (filter others ys) (pairs_map (IsOf q) (filter others ys) (λ a b h k d e i. d (exchange_once j q q_ok has_q _ _ h.exchange k.exchange (sym (mg.to_exchange a) ∙ e ∙ mg.to_exchange b)) (code_once j q q_ok has_q _ _ h.code k.code (sym (mg.to_code a) ∙ i ∙ mg.to_code b))) of_others (pairs_kept Apart others ys dy)))
         (all_mapped f P xs (all_map xs (λ a h. (a, (h, refl))) of_p))
         (all_mapped g Q (filter others ys) (all_with (filter others ys) (λ a h k. (a, (h, (k, refl)))) of_others (all_pass others ys)))
         (λ z w a b e i.
-        let known = known_pair j p q ok has_p has_q _ _ _ _ a.1.0 b.1.0 (sym (mf.exchange a.0) ∙ ap exchange (sym a.1.1) ∙ e ∙ ap exchange b.1.1.1 ∙ mg.exchange b.0) (sym (mf.code a.0) ∙ ap code (sym a.1.1) ∙ i ∙ ap code b.1.1.1 ∙ mg.code b.0) in
+        let known = known_pair j p q ok has_p has_q _ _ _ _ a.1.0 b.1.0 (sym (mf.to_exchange a.0) ∙ ap exchange (sym a.1.1) ∙ e ∙ ap exchange b.1.1.1 ∙ mg.to_exchange b.0) (sym (mf.to_code a.0) ∙ ap code (sym a.1.1) ∙ i ∙ ap code b.1.1.1 ∙ mg.to_code b.0) in
         true≢false (sym known ∙ not-true _ b.1.1.0))
       where
         P : A → Type 0
@@ -125,19 +125,19 @@ module _ {A : Type 0} (exchange code : A → ℕ) where
         find-append t (map f xs) (map g (filter others ys))
         ∙ ap (option_or (find t (map f xs))) (find_fails t (map g (filter others ys)) (all_mapped g (λ z. t z ≡ false) (filter others ys) (all_with (filter others ys) (λ b k o. false_from_ne_true (t (g b)) (λ e.
         let s = and_parts (exchange (g b) == exchange_in j p x) (code (g b) == code_in j p c) e in
-        let known = known_pair j p q ok has_p has_q x c _ _ h k (sym (eqb-true _ _ s.0) ∙ mg.exchange b) (sym (eqb-true _ _ s.1) ∙ mg.code b) in
+        let known = known_pair j p q ok has_p has_q x c _ _ h k (sym (eqb-true _ _ s.0) ∙ mg.to_exchange b) (sym (eqb-true _ _ s.1) ∙ mg.to_code b) in
         true≢false (sym known ∙ not-true _ o))) of_others (all_pass others ys))))
         ∙ or_none (find t (map f xs))
         ∙ find-map t f xs
         ∙ ap (option_map f) (find_same (λ a. t (f a)) (at_pair x c) xs (all_map xs (λ a k.
-        ap (λ z. (z == exchange_in j p x) && (code (f a) == code_in j p c)) (mf.exchange a) ∙ ap (λ z. (exchange_in j p (exchange a) == exchange_in j p x) && (z == code_in j p c)) (mf.code a)
+        ap (λ z. (z == exchange_in j p x) && (code (f a) == code_in j p c)) (mf.to_exchange a) ∙ ap (λ z. (exchange_in j p (exchange a) == exchange_in j p x) && (z == code_in j p c)) (mf.to_code a)
         ∙ (λ i. exchange_test j p ok has_p (exchange a) x k.exchange h.exchange i && code_test j p ok has_p (code a) c k.code h.code i)) of_p))
 
     -- none of p is for a pair that p does not have
     pub none_own : (y d : ℕ) → has_both p j y d ≡ false → (s : A → Bool) → find (at_pair y d) (map f (filter s xs)) ≡ None
     none_own y d none s = find_fails (at_pair y d) (map f (filter s xs)) (all_mapped f (λ z. at_pair y d z ≡ false) (filter s xs) (all_map (filter s xs) (λ a k. false_from_ne_true (at_pair y d (f a)) (λ e.
         let t = and_parts (exchange (f a) == y) (code (f a) == d) e in
-        true≢false (sym (known_in j p ok has_p _ _ y d k (sym (eqb-true _ _ t.0) ∙ mf.exchange a) (sym (eqb-true _ _ t.1) ∙ mf.code a)) ∙ none))) (all_kept (IsOf p) s xs of_p)))
+        true≢false (sym (known_in j p ok has_p _ _ y d k (sym (eqb-true _ _ t.0) ∙ mf.to_exchange a) (sym (eqb-true _ _ t.1) ∙ mf.to_code a)) ∙ none))) (all_kept (IsOf p) s xs of_p)))
 
     -- for such a pair what is found is what q has
     pub found_other : (y d : ℕ) → has_both p j y d ≡ false → find (at_pair y d) over ≡ find (at_pair y d) (map g ys)
@@ -146,35 +146,38 @@ module _ {A : Type 0} (exchange code : A → ℕ) where
         find-append t (map f xs) (map g (filter others ys))
         ∙ ap (λ o. option_or o (find t (map g (filter others ys)))) (find_fails t (map f xs) (all_mapped f (λ z. t z ≡ false) xs (all_map xs (λ a k. false_from_ne_true (t (f a)) (λ e.
         let s = and_parts (exchange (f a) == y) (code (f a) == d) e in
-        true≢false (sym (known_in j p ok has_p _ _ y d k (sym (eqb-true _ _ s.0) ∙ mf.exchange a) (sym (eqb-true _ _ s.1) ∙ mf.code a)) ∙ none))) of_p)))
+        true≢false (sym (known_in j p ok has_p _ _ y d k (sym (eqb-true _ _ s.0) ∙ mf.to_exchange a) (sym (eqb-true _ _ s.1) ∙ mf.to_code a)) ∙ none))) of_p)))
         ∙ find-map t g (filter others ys)
         ∙ ap (option_map g) (find_kept (λ b. t (g b)) others ys (all_map ys (λ b k e.
         let s = and_parts (exchange (g b) == y) (code (g b) == d) e in
-        let a : exchange_name q (exchange b) ≡ exchange_name j y = sym (has_q.exchanges.named _ k.exchange) ∙ ap (exchange_name j) (sym (mg.exchange b) ∙ eqb-true _ _ s.0) in
-        let n : figures_of q (code b) ≡ figures_of j d = sym (has_q.codes.named _ k.code) ∙ ap (figures_of j) (sym (mg.code b) ∙ eqb-true _ _ s.1) in
+        let a : exchange_name q (exchange b) ≡ exchange_name j y = sym (has_q.exchanges.named _ k.exchange) ∙ ap (exchange_name j) (sym (mg.to_exchange b) ∙ eqb-true _ _ s.0) in
+        let n : figures_of q (code b) ≡ figures_of j d = sym (has_q.codes.named _ k.code) ∙ ap (figures_of j) (sym (mg.to_code b) ∙ eqb-true _ _ s.1) in
         ap not ((λ i. has_exchange p (a i) && has_code p (n i)) ∙ none)) of_q))
         ∙ sym (find-map t g ys)
 
 -- BARS OF NEW CODES
 
+abbrev pair_at : (c x : ℕ) → Pair
+pair_at c x = record { exchange = x; code = c }
+
 module _ (j : Plan) where
   -- what holds of a pair away from the home holds of each bar of a code
-  pub each_of_code : (P : Pair → Type 0) (c : ℕ) → ((x : ℕ) → x < length j.exchanges → home_of j c ≢ x → P (record { exchange = x; code = c })) → AllByRecursion P (bars_of_code j c)
+  pub each_of_code : (P : Pair → Type 0) (c : ℕ) → ((x : ℕ) → x < length j.exchanges → home_of j c ≢ x → P (pair_at c x)) → AllByRecursion P (bars_of_code j c)
   each_of_code P c h =
       let s = λ (x : ℕ). not (home_of j c == x) in
       let xs = range_with_len 0 (length j.exchanges) in
-      all_mapped (λ x. record { exchange = x; code = c }) P (filter s xs)
+      all_mapped (pair_at c) P (filter s xs)
       (all_with (filter s xs) (λ x l k. h x l (eqb-false (home_of j c) x (not-true _ k)))
       (all_kept (λ x. x < length j.exchanges) s xs (range_all (λ x. x < length j.exchanges) 0 (length j.exchanges) (λ i l m. omega (arith, m)))) (all_pass s xs))
 
-  pub each_from : (P : Pair → Type 0) (n m : ℕ) → ((x c : ℕ) → x < length j.exchanges → n ≤ c → c < n + m → home_of j c ≢ x → P (record { exchange = x; code = c })) → AllByRecursion P (flat_map (bars_of_code j) (range_with_len n m))
+  pub each_from : (P : Pair → Type 0) (n m : ℕ) → ((x c : ℕ) → x < length j.exchanges → n ≤ c → c < n + m → home_of j c ≢ x → P (pair_at c x)) → AllByRecursion P (flat_map (bars_of_code j) (range_with_len n m))
   each_from P n m h = all_flat P (bars_of_code j) (range_with_len n m) (range_all (λ c. AllByRecursion P (bars_of_code j c)) n m (λ c l k. each_of_code P c (λ x i away. h x c i l k away)))
 
   pub code_apart : (c : ℕ) → BarsDiffer (bars_of_code j c)
   code_apart c =
       let s = λ (x : ℕ). not (home_of j c == x) in
       let xs = range_with_len 0 (length j.exchanges) in
-      pairs_mapped (λ x. record { exchange = x; code = c }) (Apart (λ (b : Pair). b.exchange) (λ (b : Pair). b.code)) (filter s xs)
+      pairs_mapped (pair_at c) (Apart (λ (b : Pair). b.exchange) (λ (b : Pair). b.code)) (filter s xs)
       (pairs_map {R = λ x y. x ≢ y} (λ (x : ℕ). Unit {0}) (filter s xs) (λ x y u v d e i. d e) (all_unit (filter s xs)) (pairs_kept (λ x y. x ≢ y) s xs (range_differ 0 (length j.exchanges))))
     where
       all_unit : (xs : List ℕ) → AllByRecursion (λ x. Unit {0}) xs
@@ -195,7 +198,7 @@ module _ (j : Plan) where
       let s = λ (x : ℕ). not (home_of j c == x) in
       let xs = range_with_len 0 (length j.exchanges) in
       let t = λ (y : ℕ). (y == x) && (c == c) in
-      list_any-map (λ (b : Pair). (b.exchange == x) && (b.code == c)) (λ y. record { exchange = y; code = c }) (filter s xs)
+      list_any-map (λ (b : Pair). (b.exchange == x) && (b.code == c)) (pair_at c) (filter s xs)
       ∙ any_in t s (λ z h. ap (λ y. not (home_of j c == y)) (eqb-true z x (and_parts (z == x) (c == c) h).0) ∙ ap not (ne_eqb (home_of j c) x away)) xs
       ∙ range_any t 0 (length j.exchanges) x (omega arith) (omega (arith, l)) (and_from (x == x) (c == c) (eq-eqb x x refl) (eq-eqb c c refl))
 
@@ -207,10 +210,10 @@ module _ (j : Plan) where
 -- A PLAN OVER A NETWORK
 
 route_moves : (j p : Plan) → Moves (λ (r : Route). r.exchange) (λ (r : Route). r.code) j p (route_in j p)
-route_moves j p = record { exchange = λ r. refl; code = λ r. refl }
+route_moves j p = record { to_exchange = λ r. refl; to_code = λ r. refl }
 
 bar_moves : (j p : Plan) → Moves (λ (b : Pair). b.exchange) (λ (b : Pair). b.code) j p (bar_in j p)
-bar_moves j p = record { exchange = λ b. refl; code = λ b. refl }
+bar_moves j p = record { to_exchange = λ b. refl; to_code = λ b. refl }
 
 routes_of : (p : Plan) → IsPlan p → AllByRecursion (IsOf (λ (r : Route). r.exchange) (λ (r : Route). r.code) p) p.routes
 routes_of p ok = all_map p.routes (λ r h. record { exchange = h.exchange; code = h.code }) ok.routes
@@ -264,7 +267,7 @@ module _ (j p q : Plan) (n : ℕ) (ok : IsPlan p) (q_ok : IsPlan q) (has_p : Has
           (all_joined (IsBar made) (map (bar_in j p) p.bars) (map (bar_in j q) (filter (λ b. not (has_both p q b.exchange b.code)) q.bars))
           (all_mapped (bar_in j p) (IsBar made) p.bars (own_bars p ok has_p))
           (all_mapped (bar_in j q) (IsBar made) (filter (λ b. not (has_both p q b.exchange b.code)) q.bars) (all_kept (λ b. IsBar made (bar_in j q b)) (λ b. not (has_both p q b.exchange b.code)) q.bars (own_bars q q_ok has_q)))))
-          (each_from j (IsBar made) n (length j.codes - n) (λ x c l k i away. record { exchange = l; code = omega (arith, k, i); away = away }));
+          (each_from j (IsBar made) n (length j.codes - n) (λ x c l k i away. let w : c < length j.codes = omega (arith, k, i) in record { exchange = l; code = w; away = away }));
       bars_differ = bars_apart;
     }
 
@@ -291,7 +294,7 @@ module _ (j p q : Plan) (n : ℕ) (ok : IsPlan p) (q_ok : IsPlan q) (has_p : Has
       let s = λ (b : Pair). nat_lt b.code n in
       list_any-append t (filter s (shared_bars j p q)) (bars_from j n)
       ∙ ap (λ b. list_any t (filter s (shared_bars j p q)) || b)
-      (any_find t (bars_from j n) ∙ ap is_some (find_fails t (bars_from j n) (each_from j (λ b. t b ≡ false) n (length j.codes - n) (λ x c i k m away. false_from_ne_true (t (record { exchange = x; code = c })) (λ e. let f = eqb-true c d (and_parts (x == y) (c == d) e).1 in omega (arith, f, k, l))))))
+      (any_find t (bars_from j n) ∙ ap is_some (find_fails t (bars_from j n) (each_from j (λ b. t b ≡ false) n (length j.codes - n) (λ x c i k m away. false_from_ne_true (t (pair_at c x)) (λ e. let f = eqb-true c d (and_parts (x == y) (c == d) e).1 in omega (arith, f, k, l))))))
       ∙ or-false (list_any t (filter s (shared_bars j p q)))
       ∙ any_in t s (λ b e. ap (λ z. nat_lt z n) (eqb-true b.code d (and_parts (b.exchange == y) (b.code == d) e).1) ∙ lt-ltb d n l) (shared_bars j p q)
       ∙ any_find t (shared_bars j p q)

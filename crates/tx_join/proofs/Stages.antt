@@ -77,8 +77,10 @@ module _ (old new : Plan) (can : CanBeJoined old new) where
   new_exchanges = refl
 
   pub old_codes : with_codes stage_2 old ≡ stage_3
-  old_codes = λ i. record stage_2 { codes = (ap (map (known_code stage_2 old)) (filter_all (λ (c : Code). not (has_code stage_2 c.figures)) old.codes (all_true old.codes))
-      ∙ map_same (known_code stage_2 old) old.codes (all_map old.codes (λ c h. λ k. record { figures = c.figures; home = exchange_stays old new ok new_ok c.home h.home k }) ok.codes)) i }
+  old_codes = λ i. record stage_2 {
+    codes = (ap (map (known_code stage_2 old)) (filter_all (λ (c : Code). not (has_code stage_2 c.figures)) old.codes (all_true old.codes))
+        ∙ map_same (known_code stage_2 old) old.codes (all_map old.codes (λ c h. λ k. record { figures = c.figures; home = exchange_stays old new ok new_ok c.home h.home k }) ok.codes)) i;
+  }
 
   pub new_codes : with_codes stage_3 new ≡ stage_4
   new_codes = refl
@@ -105,63 +107,130 @@ module _ (old new : Plan) (can : CanBeJoined old new) where
       rest : map (known_group stage_6 new old) (filter (λ g. not (has_group stage_6 g.name)) new.groups) ≡ map (joined_group old new) (filter t new.groups)
       rest = ap (λ (s : Group → Bool). map (known_group stage_6 new old) (filter s new.groups)) (λ k g. not (list_any-map (λ (h : Group). bytes_eq g.name h.name) (widened new) old.groups k))
           ∙ maps_agree t (known_group stage_6 new old) (joined_group old new) new.groups (λ g e.
-              let none = none_named g.name (not-true (has_group old g.name) e) in
-              let count : max g.count (circuits_named old g.name) ≡ g.count = omega (arith, none) in
-              λ k. record (joined_group old new g) { count = count k })
+          let none = none_named g.name (not-true (has_group old g.name) e) in
+          let count : max g.count (circuits_named old g.name) ≡ g.count = omega (arith, none) in
+          λ k. record (joined_group old new g) { count = count k })
 
   -- THEIR RULES
 
   pub rules_1 : IsPlan stage_1
   rules_1 = record {
-    exchanges = ok.exchanges; exchanges_differ = ok.exchanges_differ; few_exchanges = ok.few_exchanges;
-    codes = tt; codes_differ = tt; few_codes = omega arith; ranges = tt; ranges_apart = tt; few_ranges = omega arith;
-    groups = tt; groups_differ = tt; few_groups = omega arith; routes = tt; routes_differ = tt; bars = tt; bars_differ = tt;
+    exchanges = ok.exchanges;
+    exchanges_differ = ok.exchanges_differ;
+    few_exchanges = ok.few_exchanges;
+    codes = tt;
+    codes_differ = tt;
+    few_codes = omega arith;
+    ranges = tt;
+    ranges_apart = tt;
+    few_ranges = omega arith;
+    groups = tt;
+    groups_differ = tt;
+    few_groups = omega arith;
+    routes = tt;
+    routes_differ = tt;
+    bars = tt;
+    bars_differ = tt;
   }
 
   pub rules_2 : IsPlan stage_2
   rules_2 = record {
-    exchanges = rules.exchanges; exchanges_differ = rules.exchanges_differ; few_exchanges = rules.few_exchanges;
-    codes = tt; codes_differ = tt; few_codes = omega arith; ranges = tt; ranges_apart = tt; few_ranges = omega arith;
-    groups = tt; groups_differ = tt; few_groups = omega arith; routes = tt; routes_differ = tt; bars = tt; bars_differ = tt;
+    exchanges = rules.exchanges;
+    exchanges_differ = rules.exchanges_differ;
+    few_exchanges = rules.few_exchanges;
+    codes = tt;
+    codes_differ = tt;
+    few_codes = omega arith;
+    ranges = tt;
+    ranges_apart = tt;
+    few_ranges = omega arith;
+    groups = tt;
+    groups_differ = tt;
+    few_groups = omega arith;
+    routes = tt;
+    routes_differ = tt;
+    bars = tt;
+    bars_differ = tt;
   }
 
   pub rules_3 : IsPlan stage_3
   rules_3 = record {
-    exchanges = rules.exchanges; exchanges_differ = rules.exchanges_differ; few_exchanges = rules.few_exchanges;
+    exchanges = rules.exchanges;
+    exchanges_differ = rules.exchanges_differ;
+    few_exchanges = rules.few_exchanges;
     codes = all_map old.codes (λ c h. record { figures = h.figures; home = h.home }) (front_all (IsCode joined) old.codes _ rules.codes);
-    codes_differ = ok.codes_differ; few_codes = ok.few_codes; ranges = tt; ranges_apart = tt; few_ranges = omega arith;
-    groups = tt; groups_differ = tt; few_groups = omega arith; routes = tt; routes_differ = tt; bars = tt; bars_differ = tt;
+    codes_differ = ok.codes_differ;
+    few_codes = ok.few_codes;
+    ranges = tt;
+    ranges_apart = tt;
+    few_ranges = omega arith;
+    groups = tt;
+    groups_differ = tt;
+    few_groups = omega arith;
+    routes = tt;
+    routes_differ = tt;
+    bars = tt;
+    bars_differ = tt;
   }
 
   pub rules_4 : IsPlan stage_4
   rules_4 = record {
-    exchanges = rules.exchanges; exchanges_differ = rules.exchanges_differ; few_exchanges = rules.few_exchanges;
+    exchanges = rules.exchanges;
+    exchanges_differ = rules.exchanges_differ;
+    few_exchanges = rules.few_exchanges;
     codes = all_map joined.codes (λ c h. record { figures = h.figures; home = h.home }) rules.codes;
-    codes_differ = rules.codes_differ; few_codes = rules.few_codes; ranges = tt; ranges_apart = tt; few_ranges = omega arith;
-    groups = tt; groups_differ = tt; few_groups = omega arith; routes = tt; routes_differ = tt; bars = tt; bars_differ = tt;
+    codes_differ = rules.codes_differ;
+    few_codes = rules.few_codes;
+    ranges = tt;
+    ranges_apart = tt;
+    few_ranges = omega arith;
+    groups = tt;
+    groups_differ = tt;
+    few_groups = omega arith;
+    routes = tt;
+    routes_differ = tt;
+    bars = tt;
+    bars_differ = tt;
   }
 
   pub rules_5 : IsPlan stage_5
   rules_5 = record {
-    exchanges = rules.exchanges; exchanges_differ = rules.exchanges_differ; few_exchanges = rules.few_exchanges;
+    exchanges = rules.exchanges;
+    exchanges_differ = rules.exchanges_differ;
+    few_exchanges = rules.few_exchanges;
     codes = all_map joined.codes (λ c h. record { figures = h.figures; home = h.home }) rules.codes;
-    codes_differ = rules.codes_differ; few_codes = rules.few_codes;
+    codes_differ = rules.codes_differ;
+    few_codes = rules.few_codes;
     ranges = all_map old.ranges (λ r h. record { code = h.code; low = h.low; high = h.high; width = h.width; order = h.order }) rules.ranges;
-    ranges_apart = rules.ranges_apart; few_ranges = rules.few_ranges;
-    groups = tt; groups_differ = tt; few_groups = omega arith; routes = tt; routes_differ = tt; bars = tt; bars_differ = tt;
+    ranges_apart = rules.ranges_apart;
+    few_ranges = rules.few_ranges;
+    groups = tt;
+    groups_differ = tt;
+    few_groups = omega arith;
+    routes = tt;
+    routes_differ = tt;
+    bars = tt;
+    bars_differ = tt;
   }
 
   pub rules_6 : IsPlan stage_6
   rules_6 = record {
-    exchanges = rules.exchanges; exchanges_differ = rules.exchanges_differ; few_exchanges = rules.few_exchanges;
+    exchanges = rules.exchanges;
+    exchanges_differ = rules.exchanges_differ;
+    few_exchanges = rules.few_exchanges;
     codes = all_map joined.codes (λ c h. record { figures = h.figures; home = h.home }) rules.codes;
-    codes_differ = rules.codes_differ; few_codes = rules.few_codes;
+    codes_differ = rules.codes_differ;
+    few_codes = rules.few_codes;
     ranges = all_map old.ranges (λ r h. record { code = h.code; low = h.low; high = h.high; width = h.width; order = h.order }) rules.ranges;
-    ranges_apart = rules.ranges_apart; few_ranges = rules.few_ranges;
+    ranges_apart = rules.ranges_apart;
+    few_ranges = rules.few_ranges;
     groups = all_map (map (widened new) old.groups) (λ g h. record { name = h.name; first = h.first; second = h.second; ends_differ = h.ends_differ; some = h.some; few = h.few }) (front_all (IsGroup joined) (map (widened new) old.groups) _ rules.groups);
     groups_differ = front_pairs (λ (g h : Group). g.name ≢ h.name) (map (widened new) old.groups) _ rules.groups_differ;
     few_groups = (let l = longer_by (map (widened new) old.groups) (map (joined_group old new) (filter (λ g. not (has_group old g.name)) new.groups)) in let m = rules.few_groups in omega (arith, l, m));
-    routes = tt; routes_differ = tt; bars = tt; bars_differ = tt;
+    routes = tt;
+    routes_differ = tt;
+    bars = tt;
+    bars_differ = tt;
   }
 
   -- WHAT IS KNOWN
