@@ -40,7 +40,7 @@ some_mapped : {A B : Type 0} (f : A → B) (o : Option A) → is_some (option_ma
 some_mapped f None = refl
 some_mapped f (Some x) = refl
 
-home_within : (p : Plan) → IsPlan p → (c : ℕ) → c < length p.codes → home_of p c < length p.exchanges
+pub home_within : (p : Plan) → IsPlan p → (c : ℕ) → c < length p.codes → home_of p c < length p.exchanges
 home_within p ok c l =
     let e = entry_at p.codes c l in
     let r = all_at (IsCode p) p.codes c e.0 ok.codes e.1 in

@@ -22,12 +22,12 @@ use Rattle.tx_join.proofs.Found.{pairs_map, pairs_mapped}
 use Rattle.tx_join.proofs.Knows.{exchanges_apart, codes_apart, groups_apart}
 
 -- a group of the plan that an exchange may seize
-record Seized (p : Plan) (g x : ℕ) : Type 0 where
-  row : Group
-  at : slice_get p.groups g ≡ Some row
-  by : may_seize_row row x ≡ true
+pub record Seized (p : Plan) (g x : ℕ) : Type 0 where
+  pub row : Group
+  pub at : slice_get p.groups g ≡ Some row
+  pub by : may_seize_row row x ≡ true
 
-seized : (p : Plan) (g x : ℕ) → may_seize p g x ≡ true → Seized p g x
+pub seized : (p : Plan) (g x : ℕ) → may_seize p g x ≡ true → Seized p g x
 seized p g x h = from (slice_get p.groups g) refl h
   where
     from : (o : Option Group) → slice_get p.groups g ≡ o → option_map_or (λ r. may_seize_row r x) o false ≡ true → Seized p g x
