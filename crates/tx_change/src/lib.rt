@@ -18,7 +18,7 @@ pub use change_routes::ChangeRoutes;
 pub use changing::change;
 pub use difference::{Difference, NetworkList, first_difference};
 pub use joined::JoinedLists;
-pub use law::findings_show_mixtures;
+pub use law::{closed_codes_stay, findings_show_mixtures};
 pub use mixing::{Lists, Mixing, mixed_lists};
 pub use mixture::{ShownMixture, first_mixture};
 pub use showing::shown;

@@ -1,0 +1,5 @@
+pub mod Joined
+pub mod Refusals
+pub mod Differences
+pub mod Laws
+pub mod inner
