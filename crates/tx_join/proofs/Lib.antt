@@ -12,3 +12,6 @@ pub mod OneNetwork
 pub mod NextDeclared
 pub mod NextTaken
 pub mod Stages
+pub mod StepsDeclared
+pub mod Splits
+pub mod Counts

@@ -25,7 +25,7 @@ front_all : {A : Type 0} (P : A → Type 0) (xs ys : List A) → AllByRecursion 
 front_all P [] ys h = tt
 front_all P (x ∷ xs) ys h = (h.0, front_all P xs ys h.1)
 
-front_pairs : {A : Type 0} (R : A → A → Type 0) (xs ys : List A) → EachPair R (xs ++ ys) → EachPair R xs
+pub front_pairs : {A : Type 0} (R : A → A → Type 0) (xs ys : List A) → EachPair R (xs ++ ys) → EachPair R xs
 front_pairs R [] ys h = tt
 front_pairs R (x ∷ xs) ys h = (front_all (R x) xs ys h.0, front_pairs R xs ys h.1)
 

@@ -52,7 +52,8 @@ pub(crate) fn list_in<A: Allocator>(
     ensures { result.items ≡ map (group_in plan.now from.now) (route_list from.now exchange code) }
 {
     let mut list = GroupList::new();
-    for group in from.list(exchange, code) {
+    let tried = from.list(exchange, code);
+    for group in tried {
         list.push(group_in(plan, from, *group));
     }
     list

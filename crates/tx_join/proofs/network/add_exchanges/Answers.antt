@@ -1,12 +1,24 @@
-use Rattle.std.proofs.Common.{◌≡◌, None, ◌∙◌, ap, sym, subst, arith}
-use Rattle.std.specs.Option.{option_map_or}
-use Rattle.tx_plan.specs.Declaring.{first_true, exchange_refusals, with_exchange, has_exchange}
-use Rattle.tx_plan.proofs.ByIndex.{entry_at}
-use Rattle.tx_join.proofs.NextDeclared.{no_exchange, all_exchanges, exchange_left, exchange_next, exchange_taken, is_taken, is_next}
+use Rattle.std.proofs.Common.{◌≡◌, ◌∙◌, ap, sym, false, true, arith}
+use Rattle.tx_plan.specs.Plan.{exchange_name}
+use Rattle.tx_plan.specs.Declaring.{has_exchange}
+use Rattle.tx_join.proofs.NextDeclared.{no_exchange, all_exchanges, is_taken, is_next}
+use Rattle.tx_join.proofs.StepsDeclared.{exchange_fits, exchange_added, exchange_passed}
 use Rattle.tx_join.proofs.network.add_exchanges.Goals as goal
+use Rattle.tx_join.proofs.network.add_exchanges.Goals.{then-not-has_exchange+in_ok-taken, else-not-has_exchange}
 
 pub loop-index-init : goal.loop-index-init
 loop-index-init g c = no_exchange _ _
+
+pub taken-requires : goal.taken-requires
+taken-requires g c =
+    let t = c.loop-index-test.true in
+    let n = c.exchanges-index-end.ensures.count in
+    let named = c.exchange_name-name.ensures.value ∙ ap (exchange_name c.args.from.now) c.of.ensures in
+    let unknown = sym (c.has_exchange.ensures ∙ ap (λ p. has_exchange p c.exchange_name-name.result.now) c.plan.ensures) ∙ c.if-not-has_exchange.true in
+    is_taken _ _ _ _ c.exchange.result (exchange_fits c.args.builder.now c.args.from.now c.loop-index.builder _ c.loop-index.index c.exchanges-index-end.ensures.rules (omega arith) c.loop-index.invariant named c.requires.rules unknown) c.exchange.ensures
+
+pub loop-index-preserved : goal.loop-index-preserved
+loop-index-preserved g c = ?
 
 pub returns : goal.returns
 returns g c =
