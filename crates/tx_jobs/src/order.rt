@@ -4,7 +4,6 @@ ghost use Rattle.tx_text.specs.Calls.{CallsAtMost, source_calls};
 ghost use Rattle.tx_jobs.specs.JobFaults.{mark_after};
 ghost use Rattle.tx_text.specs.Ends.{input, output};
 ghost use Rattle.tx_jobs.specs.OrderJobs.{OrderJobAnswers, NewPlanAnswers, ToldOrder, HasStage, IsStagedOf, OrderToldAnswers, StageAnswer};
-
 ghost use Rattle.tx_plan.specs.Mixtures.{SameNetwork};
 
 use crate::job_fault::JobFault;

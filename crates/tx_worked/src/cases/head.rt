@@ -55,6 +55,8 @@ pub enum TextKind {
     Pictures,
     Plan,
     Cert,
+    /// An old plan and a new one, over their joined network.
+    Joined,
     Driven(Driven),
 }
 
@@ -71,11 +73,12 @@ pub enum Driven {
     Starting,
 }
 
-static TEXTS: [(&str, TextKind); 9] = [
+static TEXTS: [(&str, TextKind); 10] = [
     ("both", TextKind::Both),
     ("pictures", TextKind::Pictures),
     ("plan", TextKind::Plan),
     ("cert", TextKind::Cert),
+    ("joined", TextKind::Joined),
     ("certified", TextKind::Driven(Driven::Certified)),
     ("rooms", TextKind::Driven(Driven::Rooms)),
     ("calls", TextKind::Driven(Driven::Calls)),
