@@ -6,7 +6,7 @@ use Rattle.tx_order.specs.Ordered.{Order}
 use Rattle.tx_jobs.specs.declared.order.Staged.{Staged}
 use Rattle.tx_jobs.specs.declared.order.Staged.TheVariants.{Ordered, NoOrder}
 use Rattle.tx_jobs.specs.declared.job_fault.JobFault.{JobFault}
-use Rattle.tx_jobs.specs.declared.job_fault.JobFault.TheVariants.{Plan as PlanFault, Cert, Script, Read, Write, NoMemory, OldPlan, NewPlan, TwoNetworks, Risks, NoSuchStage, NoSuchExchange, NoSuchCode}
+use Rattle.tx_jobs.specs.declared.job_fault.JobFault.TheVariants.{Plan as PlanFault, Cert, Script, Read, Write, NoMemory, OldPlan, NewPlan, TwoNetworks, Contradiction, TooManyTogether, Risks, NoSuchStage, NoSuchExchange, NoSuchCode}
 use Rattle.tx_jobs.specs.JobFaults.{mark_after}
 use Rattle.tx_jobs.specs.OrderJobs.{IsMadeOf, IsStagedOf}
 
@@ -22,6 +22,8 @@ module _ {A : Type 0} (mark : Bool) where
   made_mark o n (Err (OldPlan f)) h = absurd h
   made_mark o n (Err (NewPlan f)) h = absurd h
   made_mark o n (Err (TwoNetworks d)) h = absurd h
+  made_mark o n (Err (Contradiction k)) h = absurd h
+  made_mark o n (Err TooManyTogether) h = absurd h
   made_mark o n (Err (Risks f)) h = absurd h
   made_mark o n (Err (NoSuchStage stages)) h = absurd h
   made_mark o n (Err NoSuchExchange) h = absurd h

@@ -22,7 +22,7 @@ use Rattle.tx_audit.specs.declared.audited.AuditFault.{AuditFault}
 use Rattle.tx_audit.specs.declared.audited.AuditFault.TheVariants.{Plan as AuditPlan, Write as AuditWrite, NoMemory as AuditNoMemory}
 use Rattle.tx_audit.specs.Audits.{mark_by as audit_mark_by}
 use Rattle.tx_jobs.specs.declared.job_fault.JobFault.{JobFault}
-use Rattle.tx_jobs.specs.declared.job_fault.JobFault.TheVariants.{Plan, Cert, Script, Read, Write, NoMemory, OldPlan, NewPlan, TwoNetworks, Risks, NoSuchStage, NoSuchExchange, NoSuchCode}
+use Rattle.tx_jobs.specs.declared.job_fault.JobFault.TheVariants.{Plan, Cert, Script, Read, Write, NoMemory, OldPlan, NewPlan, TwoNetworks, Contradiction, TooManyTogether, Risks, NoSuchStage, NoSuchExchange, NoSuchCode}
 use Rattle.tx_jobs.specs.JobFaults.{plan_fault, plan_fault_by, in_plan, old_plan_fault, new_plan_fault, cert_fault, cert_fault_by, risks_fault, risks_fault_by, script_fault_by, cause_fault, run_fault, mark_by, mark_after}
 use Rattle.tx_jobs.specs.AuditJobs.{audit_fault}
 
@@ -67,6 +67,8 @@ in_plan_mark which leaves old NoMemory = refl
 in_plan_mark which leaves old (OldPlan f) = refl
 in_plan_mark which leaves old (NewPlan f) = refl
 in_plan_mark which leaves old (TwoNetworks d) = refl
+in_plan_mark which leaves old (Contradiction k) = refl
+in_plan_mark which leaves old TooManyTogether = refl
 in_plan_mark which leaves old (Risks f) = refl
 in_plan_mark which leaves old (NoSuchStage stages) = refl
 in_plan_mark which leaves old NoSuchExchange = refl

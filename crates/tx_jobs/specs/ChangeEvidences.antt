@@ -34,13 +34,16 @@ module _ {A : Type 0} where
   ShowsWalk old new limit spare findings (Some m) =
       ShowsFirstWalk old new limit spare findings (mixture_plan m) (mixture_events m)
 
+  -- what shows it is kept after a No, or there was no memory for it
+  abbrev pub IsKept : (Option (Mixture A) → Type 0) → Result (ChangeEvidence A) JobFault → Type 0
+  IsKept Shows (Ok (Unsound mixture)) = Shows mixture
+  IsKept Shows (Err NoMemory) = Unit {0}
+  IsKept Shows other = ⊥
+
   -- the mixture of some findings, or there was no memory for it
   abbrev pub IsMixtureOf : (old new : Plan) → (limit spare : ℕ) → List (Finding A)
       → Result (ChangeEvidence A) JobFault → Type 0
-  IsMixtureOf old new limit spare findings (Ok (Unsound mixture)) =
-      ShowsWalk old new limit spare findings mixture
-  IsMixtureOf old new limit spare findings (Err NoMemory) = Unit {0}
-  IsMixtureOf old new limit spare findings other = ⊥
+  IsMixtureOf old new limit spare findings = IsKept (ShowsWalk old new limit spare findings)
 
   -- The plan is the new one as it is, with the events of its first finding that has a walk. There
   -- is none where no finding has a walk.
@@ -53,10 +56,7 @@ module _ {A : Type 0} where
   -- the new plan of some findings, or there was no memory for their events
   abbrev pub IsNewPlanOf : (new : Plan) → (limit spare : ℕ) → List (Finding A)
       → Result (ChangeEvidence A) JobFault → Type 0
-  IsNewPlanOf new limit spare findings (Ok (Unsound mixture)) =
-      ShowsNew new limit spare findings mixture
-  IsNewPlanOf new limit spare findings (Err NoMemory) = Unit {0}
-  IsNewPlanOf new limit spare findings other = ⊥
+  IsNewPlanOf new limit spare findings = IsKept (ShowsNew new limit spare findings)
 
   -- the certificate after a Yes, and the mixture after a No where it is asked for
   abbrev pub IsChangeEvidenceOf : (with_mixture : Bool) → (limit spare : ℕ) → Changed A

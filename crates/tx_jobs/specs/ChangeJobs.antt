@@ -49,14 +49,20 @@ pub record IsTold {A : Type 0} (p q : Plan) (limit spare : ℕ) (out : Output)
   pub wrote : out.new
       ≡ append_known out.old (change_report p q (joined_old p q) limit spare verdict)
 
+-- the report of a change stopped within it, or there was no memory and nothing was written
+abbrev pub StopsTelling : (A : Type 0) → (old new before after : Plan) → (limit spare : ℕ)
+    → Output → JobFault → Type 0
+StopsTelling A old new before after limit spare out Write =
+    ChangeToldInPart A old new before after limit spare out
+StopsTelling A old new before after limit spare out NoMemory = out.silent
+StopsTelling A old new before after limit spare out other = ⊥
+
 -- what is answered of two plans that have a joined network
 abbrev pub ToldChange : {A : Type 0} → (p q : Plan) → (limit spare : ℕ) → Output
     → Result (Changed A) JobFault → Type 0
 ToldChange p q limit spare out (Ok changed) = IsTold p q limit spare out changed
-ToldChange {A} p q limit spare out (Err Write) =
-    ChangeToldInPart A p q (joined_old p q) (joined_new p q) limit spare out
-ToldChange p q limit spare out (Err NoMemory) = out.silent
-ToldChange p q limit spare out (Err other) = ⊥
+ToldChange {A} p q limit spare out (Err fault) =
+    StopsTelling A p q (joined_old p q) (joined_new p q) limit spare out fault
 
 -- a plan was refused, and nothing else was read or written
 pub record RefusedAs {X : Type 0} (tell : FaultAt PlanWord → JobFault) (text : Input)

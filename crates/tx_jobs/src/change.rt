@@ -9,6 +9,7 @@ ghost use Rattle.tx_change.specs.Shown.{IsShown};
 ghost use Rattle.tx_jobs.specs.JobFaults.{mark_after};
 ghost use Rattle.tx_jobs.specs.ChangeJobs.{ChangeJobAnswers, OnUnsoundChange, OnUnsoundNew};
 ghost use Rattle.tx_jobs.specs.inner.Changing.{changed_of, ToldVerdict, ToldPlans};
+ghost use Rattle.tx_jobs.specs.inner.TwoPlans.{IsJoinOf};
 
 use crate::job_fault::JobFault;
 use crate::two_plans::{TwoPlans, read_plans};
@@ -81,9 +82,14 @@ fn change_of<A: Allocator + Copy, W: Sink>(
     limits: Limits,
     out: &mut W,
 ) -> Result<Changed<A>, JobFault>
-    requires { SameNetwork plans.joined.old plans.joined.new }
+    requires { IsJoinOf plans.old plans.new plans }
     ensures told { ToldPlans plans limits.limit limits.spare
         (output W.taken out.old out.new) result }
+    ensures network { IfOk result (OnUnsoundChange (λ p q findings. SameNetwork p q)) }
+    ensures each { IfOk result (OnUnsoundChange (λ p q findings.
+        AllByRecursion (IsShown p q limits.limit limits.spare) findings)) }
+    ensures each_new { IfOk result (OnUnsoundNew (λ p findings.
+        AllByRecursion (IsTrueOf p limits.limit limits.spare) findings)) }
     ensures mark { W.failed out.new ≡ mark_after (W.failed out.old) result }
 {
     let verdict = tell_change(alloc, &plans, limits, out)?;

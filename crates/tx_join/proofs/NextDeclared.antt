@@ -1,5 +1,5 @@
 -- The next entry of a plan that is declared: nothing but lack of memory refuses it.
-use Rattle.std.proofs.Common.{◌≡◌, ◌≢◌, ℕ, suc, ◌+◌, ◌<◌, ◌≤◌, Bool, true, false, not, cond, ◌||◌, ◌&&◌, ◌==◌, nat_le, nat_lt, max, List, [], ◌∷◌, ◌++◌, length, map, take, drop, Option, Some, None, Result, Ok, Err, OnOk, inl, inr, unwrap_or, refl, sym, ap, ◌∙◌, subst, arith, append_assoc, append-nil, eq-eqb, eqb-true, is_some}
+use Rattle.std.proofs.Common.{◌≡◌, ◌≢◌, ℕ, suc, ◌+◌, ◌<◌, ◌≤◌, Bool, true, false, not, cond, ◌||◌, ◌&&◌, ◌==◌, nat_le, nat_lt, max, List, [], ◌∷◌, ◌++◌, length, map, take, drop, Option, Some, None, Result, Ok, Err, OnOk, IsOk, inl, inr, unwrap_or, refl, sym, ap, ◌∙◌, subst, arith, append_assoc, append-nil, eq-eqb, eqb-true, is_some}
 use Rattle.std.specs.Prelude.{filter, position, slice_get, if◌then◌else◌}
 use Rattle.std.specs.List.{list_any, AllByRecursion}
 use Rattle.std.specs.Option.{option_map, option_map_or}
@@ -39,6 +39,14 @@ module _ (refusal : Option PlanRefusal) (old next new : Plan) where
   pub is_next : (r : Result (Unit {0}) PlanRefusal) → Declares refusal old next new r → OnOk r (new ≡ next)
   is_next (Ok x) h = h.1
   is_next (Err f) h = tt
+
+  pub taken_next : (r : Result (Unit {0}) PlanRefusal) → IsOk r → Declares refusal old next new r → new ≡ next
+  taken_next (Ok x) k h = h.1
+  taken_next (Err f) k h = absurd k
+
+-- an entry that is there
+pub not_none : {A : Type 0} (o : Option A) (r : A) → o ≡ Some r → None ≡ o → ⊥
+not_none o r e h = let bad : ⊥ = cc in bad
 
 -- the first of some tests, where the next one fails
 on : {R : Type 0} (b : Bool) (r : R) (ts : List (Bool × R)) → b ≡ false → first_true ((b, r) ∷ ts) ≡ first_true ts

@@ -6,12 +6,12 @@ use Rattle.tx_plan.specs.Plan.{Plan}
 use Rattle.tx_change.specs.declared.judging.ChangeVerdict.{ChangeVerdict}
 use Rattle.tx_change.specs.declared.judging.ChangeVerdict.TheVariants.{Sound as IsSound, Unsound as IsUnsound, NewUnsound as IsNewUnsound}
 use Rattle.tx_change.specs.ChangeReport.{change_report}
-use Rattle.tx_change.specs.ChangeAnswers.{IsRightVerdict, ChangeToldInPart}
+use Rattle.tx_change.specs.ChangeAnswers.{IsRightVerdict}
 use Rattle.tx_jobs.specs.declared.two_plans.TwoPlans.{TwoPlans}
 use Rattle.tx_jobs.specs.declared.change.Changed.{Changed}
 use Rattle.tx_jobs.specs.declared.change.Changed.TheVariants.{Sound, Unsound, NewUnsound}
 use Rattle.tx_jobs.specs.declared.job_fault.JobFault.{JobFault}
-use Rattle.tx_jobs.specs.declared.job_fault.JobFault.TheVariants.{Write, NoMemory}
+use Rattle.tx_jobs.specs.ChangeJobs.{StopsTelling}
 
 -- the plans, with the verdict
 abbrev pub changed_of : {A : Type 0} → TwoPlans A → ChangeVerdict A → Changed A
@@ -25,18 +25,16 @@ abbrev pub ToldVerdict : {A : Type 0} → (old new before after : Plan) → (lim
 ToldVerdict old new before after limit spare out (Ok verdict) =
     IsRightVerdict before after new limit spare verdict
     × (out.new ≡ append_known out.old (change_report old new before limit spare verdict))
-ToldVerdict {A} old new before after limit spare out (Err Write) =
-    ChangeToldInPart A old new before after limit spare out
-ToldVerdict old new before after limit spare out (Err NoMemory) = out.silent
-ToldVerdict old new before after limit spare out (Err other) = ⊥
+ToldVerdict {A} old new before after limit spare out (Err fault) =
+    StopsTelling A old new before after limit spare out fault
 
 -- what is answered of both plans with their verdict
 abbrev pub ToldPlans : {A : Type 0} → TwoPlans A → (limit spare : ℕ) → Output
     → Result (Changed A) JobFault → Type 0
 ToldPlans {A} plans limit spare out (Ok changed) = (verdict : ChangeVerdict A)
     × (changed ≡ changed_of plans verdict)
-    × ToldVerdict plans.old plans.new plans.joined.old plans.joined.new limit spare out
-    (Ok verdict)
+    × IsRightVerdict plans.joined.old plans.joined.new plans.new limit spare verdict
+    × (out.new ≡ append_known out.old
+    (change_report plans.old plans.new plans.joined.old limit spare verdict))
 ToldPlans {A} plans limit spare out (Err fault) =
-    ToldVerdict {A = A} plans.old plans.new plans.joined.old plans.joined.new limit spare out
-    (Err fault)
+    StopsTelling A plans.old plans.new plans.joined.old plans.joined.new limit spare out fault
