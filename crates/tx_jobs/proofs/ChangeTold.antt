@@ -28,10 +28,10 @@ all_true p limit spare [] h = tt
 all_true p limit spare (f ∷ fs) h = h.0
 
 module _ {A : Type 0} (plans : TwoPlans A) (j : IsJoinOf plans.old plans.new plans) (limit spare : ℕ) where
-  abbrev p : Plan
+  abbrev pub p : Plan
   p = plans.old
 
-  abbrev q : Plan
+  abbrev pub q : Plan
   q = plans.new
 
   right_over : (verdict : ChangeVerdict A) → IsRightVerdict plans.joined.old plans.joined.new q limit spare verdict → IsRightVerdict (joined_old p q) (joined_new p q) q limit spare verdict

@@ -18,7 +18,7 @@ take_shorter i xs = let e = length-take i xs in omega (arith, e)
 
 -- the entries of which a test by their key fails
 module _ {A : Type 0} (key : A → List ℕ) (known : List ℕ → Bool) (xs : List A) (i base now : ℕ) (is : now ≡ base + length (filter (λ x. not (known (key x))) (take i xs))) where
-  abbrev t : A → Bool
+  abbrev pub t : A → Bool
   t x = not (known (key x))
 
   pub counted_few : now ≤ base + length xs

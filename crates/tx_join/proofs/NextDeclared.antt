@@ -1,6 +1,6 @@
 -- The next entry of a plan that is declared: nothing but lack of memory refuses it.
-use Rattle.std.proofs.Common.{◌≡◌, ◌≢◌, ℕ, suc, ◌+◌, ◌<◌, ◌≤◌, Bool, true, false, not, cond, ◌||◌, ◌&&◌, ◌==◌, nat_le, nat_lt, max, List, [], ◌∷◌, ◌++◌, length, map, take, drop, Option, Some, None, Result, Ok, Err, OnOk, IsOk, inl, inr, unwrap_or, refl, sym, ap, ◌∙◌, subst, arith, append_assoc, append-nil, eq-eqb, eqb-true, is_some}
-use Rattle.std.specs.Prelude.{filter, position, slice_get, if◌then◌else◌}
+use Rattle.std.proofs.Common.{◌≡◌, ◌≢◌, ℕ, suc, ◌+◌, ◌<◌, ◌≤◌, Bool, true, false, not, cond, ◌||◌, ◌&&◌, ◌==◌, nat_le, nat_lt, max, List, [], ◌∷◌, ◌++◌, length, map, take, drop, Option, Some, None, Result, Ok, Err, OnOk, inl, inr, unwrap_or, refl, sym, ap, ◌∙◌, subst, arith, append_assoc, append-nil, eq-eqb, eqb-true, is_some}
+use Rattle.std.specs.Prelude.{filter, position, slice_get, if◌then◌else◌, IsOk}
 use Rattle.std.specs.List.{list_any, AllByRecursion}
 use Rattle.std.specs.Option.{option_map, option_map_or}
 use Rattle.std.specs.Str.{bytes_eq}
@@ -101,7 +101,7 @@ module _ {A B : Type 0} (front : List B) (t : A → Bool) (f : A → B) (xs : Li
 
 -- none of those before has the key of the next one
 module _ {A B : Type 0} (key : A → List ℕ) (name : B → List ℕ) (front : List B) (t : A → Bool) (f : A → B) (kept : (a : A) → name (f a) ≡ key a) (xs : List A) (i : ℕ) (x : A) (at : slice_get xs i ≡ Some x) (differ : EachPair (λ a b. key a ≢ key b) xs) where
-  abbrev is_named : B → Bool
+  abbrev pub is_named : B → Bool
   is_named b = bytes_eq (key x) (name b)
 
   pub unseen : AllByRecursion (λ a. key a ≢ key x) (take i xs)
@@ -188,7 +188,7 @@ module _ (p from : Plan) where
 abbrev pub ranges_to : (p from : Plan) → ℕ → Plan
 ranges_to p from i = record p { ranges = so_far p.ranges (λ r. true) (known_range p from) from.ranges i }
 
-all_true : {A : Type 0} (xs : List A) → AllByRecursion (λ x. true ≡ true) xs
+pub all_true : {A : Type 0} (xs : List A) → AllByRecursion (λ x. true ≡ true) xs
 all_true [] = tt
 all_true (x ∷ xs) = (refl, all_true xs)
 

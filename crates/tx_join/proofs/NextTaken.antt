@@ -54,7 +54,7 @@ bar_got bars i k got = by (slice_get bars i) refl got
 -- ROUTES
 
 module _ (j own from : Plan) (w : Bool) (front now : List Route) (i : ℕ) (r : Route) (at : slice_get from.routes i ≡ Some r) (is : now ≡ front ++ map (route_in j from) (filter (λ r. takes own from w r.exchange r.code) (take i from.routes))) where
-  abbrev t : Route → Bool
+  abbrev pub t : Route → Bool
   t r = takes own from w r.exchange r.code
 
   pub route_next : (new : List Route) → t r ≡ true → new ≡ now ++ route_in j from r ∷ [] → new ≡ front ++ map (route_in j from) (filter t (take (i + 1) from.routes))
@@ -74,10 +74,10 @@ routes_taken j own from w front now i e is = is ∙ ap (λ l. front ++ map (rout
 -- BARS
 
 module _ (j own from : Plan) (w : Bool) (n : ℕ) (front now : List Pair) (i : ℕ) (b : Pair) (at : slice_get from.bars i ≡ Some b) (is : now ≡ front ++ filter (λ b. nat_lt b.code n) (map (bar_in j from) (filter (λ b. takes own from w b.exchange b.code) (take i from.bars)))) where
-  abbrev u : Pair → Bool
+  abbrev pub u : Pair → Bool
   u b = takes own from w b.exchange b.code
 
-  abbrev s : Pair → Bool
+  abbrev pub s : Pair → Bool
   s b = nat_lt b.code n
 
   pub bar_next : (new : List Pair) → u b ≡ true → new ≡ now ++ filter (λ b. nat_lt b.code n) (bar_in j from b ∷ []) → new ≡ front ++ filter s (map (bar_in j from) (filter u (take (i + 1) from.bars)))

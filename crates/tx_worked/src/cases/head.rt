@@ -35,6 +35,9 @@ pub enum Kind {
     Family,
     /// A family of plans, each of which is changed into each, judged by brute force.
     Pairs,
+    /// Two families of plans: the change from each of the one to each of the other is judged by brute
+    /// force.
+    Networks,
     /// A family of plans, with the order from each to each, judged by brute force.
     Orders,
     /// A family of plans, each of which is mended, judged by brute force.
@@ -86,11 +89,12 @@ static TEXTS: [(&str, TextKind); 10] = [
     ("starting", TextKind::Driven(Driven::Starting)),
 ];
 
-static OTHERS: [(&str, Kind); 8] = [
+static OTHERS: [(&str, Kind); 9] = [
     ("program", Kind::Program),
     ("arguments", Kind::Arguments),
     ("family", Kind::Family),
     ("pairs", Kind::Pairs),
+    ("networks", Kind::Networks),
     ("orders", Kind::Orders),
     ("mends", Kind::Mends),
     ("outages", Kind::Outages),

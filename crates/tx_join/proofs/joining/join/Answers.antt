@@ -19,11 +19,11 @@ plan_over-requires g c =
     subst (λ (j : Plan). IsPlan (plan_over j old new c.codes.result)) (sym c.in_ok-network.ensures.plan)
     (subst (λ (n : ℕ). IsPlan (plan_over (joined_network old new) old new n)) (sym c.codes.ensures.count) rules)
 
-pub joined_network-2-requires : goal.joined_network-2-requires
-joined_network-2-requires g c = record { old_rules = c.rules.ensures; new_rules = c.rules-2.ensures; unrefused = sym c.in_default.ensures }
+pub joined_network-requires-2 : goal.joined_network-requires-2
+joined_network-requires-2 g c = record { old_rules = c.rules.ensures; new_rules = c.rules-2.ensures; unrefused = sym c.in_default.ensures }
 
-pub plan_over-2-requires : goal.plan_over-2-requires
-plan_over-2-requires g c =
+pub plan_over-requires-2 : goal.plan_over-requires-2
+plan_over-requires-2 g c =
     let old = c.args.old.now in
     let new = c.args.new.now in
     let rules = after_rules old new (record { old_rules = c.rules.ensures; new_rules = c.rules-2.ensures; unrefused = sym c.in_default.ensures }) in

@@ -35,11 +35,11 @@ loop-index-preserved g c =
     let known = sym (c.has_group.ensures ∙ ap (λ (p : Plan). has_group p c.group_name-name.result.now) c.plan.ensures) in
     elim c.if-not-has_group.branch [
       | then-not-has_group+in_ok-taken w ↦ (let first = w.exchange_name.ensures.value ∙ ap (λ (q : ℕ × ℕ). exchange_name from q.0) (w.ends-a.ensures ∙ ap (ends_of from) c.of-group.ensures) in
-    let second = w.exchange_name-2.ensures.value ∙ ap (λ (q : ℕ × ℕ). exchange_name from q.1) (w.ends-a.ensures ∙ ap (ends_of from) c.of-group.ensures) in
-    let way = w.direction-direction.ensures ∙ ap (direction_of from) c.of-group.ensures in
-    let own = w.group_count.ensures.value ∙ ap (count_of from) c.of-group.ensures in
-    let many = w.max-count.ensures ∙ (λ j. max (own j) (w.circuits_named.ensures j)) in
-    group_added c.args.builder.now from other c.loop-index.builder _ _ _ _ _ c.loop-index.index c.groups-index-end.ensures.rules (omega arith) c.loop-index.invariant named first second way many c.requires.rules c.requires.ends (known ∙ w.if-not-has_group.true) _ (w.builder-is ∙ taken_next _ _ _ _ _ w.in_ok-taken.ensures.ok w.group.ensures))
+          let second = w.exchange_name-2.ensures.value ∙ ap (λ (q : ℕ × ℕ). exchange_name from q.1) (w.ends-a.ensures ∙ ap (ends_of from) c.of-group.ensures) in
+          let way = w.direction-direction.ensures ∙ ap (direction_of from) c.of-group.ensures in
+          let own = w.group_count.ensures.value ∙ ap (count_of from) c.of-group.ensures in
+          let many = w.max-count.ensures ∙ (λ j. max (own j) (w.circuits_named.ensures j)) in
+          group_added c.args.builder.now from other c.loop-index.builder _ _ _ _ _ c.loop-index.index c.groups-index-end.ensures.rules (omega arith) c.loop-index.invariant named first second way many c.requires.rules c.requires.ends (known ∙ w.if-not-has_group.true) _ (w.builder-is ∙ taken_next _ _ _ _ _ w.in_ok-taken.ensures.ok w.group.ensures))
       | else-not-has_group w ↦ group_passed c.args.builder.now from other c.loop-index.builder _ (exchange_name from (ends_of from c.loop-index.index).0) (exchange_name from (ends_of from c.loop-index.index).1) (direction_of from c.loop-index.index) (count_of from c.loop-index.index) c.loop-index.index c.groups-index-end.ensures.rules (omega arith) c.loop-index.invariant named (known ∙ w.if-not-has_group.false) _ w.builder-is
     ]
 

@@ -13,8 +13,8 @@ add_exchanges-requires g c =
     let b0 = c.new-builder.ensures in
     record { rules = subst (λ (b : Plan). IsPlan (with_exchanges b old)) (sym b0) (subst IsPlan (sym (old_exchanges old new c.requires)) (rules_1 old new c.requires)) }
 
-pub add_exchanges-2-requires : goal.add_exchanges-2-requires
-add_exchanges-2-requires g c =
+pub add_exchanges-requires-2 : goal.add_exchanges-requires-2
+add_exchanges-requires-2 g c =
     let old = c.args.old.now in
     let new = c.args.new.now in
     let b0 = c.new-builder.ensures in
@@ -30,8 +30,8 @@ add_codes-requires g c =
     let b2 = c.in_ok-add_exchanges-2.ensures.added ∙ ap (λ (b : Plan). with_exchanges b new) b1 ∙ new_exchanges old new c.requires in
     record { rules = subst (λ (b : Plan). IsPlan (with_codes b old)) (sym b2) (subst IsPlan (sym (old_codes old new c.requires)) (rules_3 old new c.requires)); homes = subst (λ (b : Plan). KnowsExchanges b old) (sym b2) (old_exchanges_known old new c.requires) }
 
-pub add_codes-2-requires : goal.add_codes-2-requires
-add_codes-2-requires g c =
+pub add_codes-requires-2 : goal.add_codes-requires-2
+add_codes-requires-2 g c =
     let old = c.args.old.now in
     let new = c.args.new.now in
     let b0 = c.new-builder.ensures in
@@ -63,8 +63,8 @@ add_groups-requires g c =
     let b5 = c.in_ok-add_ranges.ensures.added ∙ ap (λ (b : Plan). with_ranges b old) b4 ∙ old_ranges old new c.requires in
     record { rules = subst (λ (b : Plan). IsPlan (with_groups b old new)) (sym b5) (subst IsPlan (sym (old_groups old new c.requires)) (rules_6 old new c.requires)); ends = subst (λ (b : Plan). KnowsExchanges b old) (sym b5) (old_exchanges_known old new c.requires) }
 
-pub add_groups-2-requires : goal.add_groups-2-requires
-add_groups-2-requires g c =
+pub add_groups-requires-2 : goal.add_groups-requires-2
+add_groups-requires-2 g c =
     let old = c.args.old.now in
     let new = c.args.new.now in
     let b0 = c.new-builder.ensures in

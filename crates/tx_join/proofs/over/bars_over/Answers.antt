@@ -12,8 +12,8 @@ add_bars-requires g c =
     let n = c.args.codes in
     subst (λ (l : List Pair). BarsDiffer (l ++ taken_bars j own own true n)) (sym c.new-bars.ensures) (own_bars_differ j own c.args.other.now n c.requires)
 
-pub add_bars-2-requires : goal.add_bars-2-requires
-add_bars-2-requires g c =
+pub add_bars-requires-2 : goal.add_bars-requires-2
+add_bars-requires-2 g c =
     let j = c.args.network.now in
     let own = c.args.own.now in
     let other = c.args.other.now in

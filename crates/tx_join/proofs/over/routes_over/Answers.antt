@@ -10,8 +10,8 @@ add_routes-requires g c =
     let own = c.args.own.now in
     subst (λ (l : List Route). RoutesDiffer (l ++ taken_routes j own own true)) (sym c.new-routes.ensures) (own_routes_differ j own c.args.other.now c.requires)
 
-pub add_routes-2-requires : goal.add_routes-2-requires
-add_routes-2-requires g c =
+pub add_routes-requires-2 : goal.add_routes-requires-2
+add_routes-requires-2 g c =
     let j = c.args.network.now in
     let own = c.args.own.now in
     let other = c.args.other.now in
