@@ -1,9 +1,10 @@
 pub mod Levels
 pub mod Switched
-pub mod Staged
+pub mod OnTheWay
 pub mod Leading
 pub mod Same
 pub mod TwoFronts
 pub mod Ordered
 pub mod StageCerts
 pub mod Confirming
+pub mod Staging
