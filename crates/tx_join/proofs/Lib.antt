@@ -15,3 +15,4 @@ pub mod Stages
 pub mod StepsDeclared
 pub mod Splits
 pub mod Counts
+pub mod DeclaredLines

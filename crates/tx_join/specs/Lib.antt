@@ -1,4 +1,5 @@
 pub mod Joined
+pub mod Contradictions
 pub mod Refusals
 pub mod Differences
 pub mod Laws

@@ -2,6 +2,7 @@
 //! groups of both, known by their names. And in what they differ beside lists and bars.
 #![tactic(auto)]
 
+mod contradiction;
 mod differences;
 mod joining;
 mod law;
@@ -11,6 +12,7 @@ mod over;
 mod refusal;
 mod refusing;
 
+pub use contradiction::{Contradiction, Kind};
 pub use differences::write_differences;
 pub use joining::{Joined, join};
 pub use refusal::JoinRefusal;
