@@ -61,18 +61,22 @@ fn try_refusals(alloc: Global, old: &[u8], new: &[u8], out: &mut Told) {
 }
 
 /// Writes in what two plans differ beside lists and bars, and both over their joined network, or
-/// why they have none. Refuses each request for memory in turn.
-pub(crate) fn play_joined(alloc: Global, old: &[u8], new: &[u8], out: &mut Told) {
-    let (Ok(before), Ok(after)) = (read_plan(alloc, old), read_plan(alloc, new)) else {
-        tell_broken(b"no plan", 0, out);
-        return;
-    };
-    match join(alloc, &before, &after) {
+/// why they have none.
+fn tell_join(alloc: Global, old: &Plan, new: &Plan, out: &mut Told) {
+    match join(alloc, old, new) {
         Ok(joined) => {
-            let _ = write_differences(&before, &after, out);
+            let _ = write_differences(old, new, out);
             tell_joined(alloc, &joined, out);
         }
-        Err(refusal) => tell_refusal(refusal, &after, out),
+        Err(refusal) => tell_refusal(refusal, new, out),
+    }
+}
+
+/// Joins two plans, and tells what comes of it. Refuses each request for memory in turn.
+pub(crate) fn play_joined(alloc: Global, old: &[u8], new: &[u8], out: &mut Told) {
+    match (read_plan(alloc, old), read_plan(alloc, new)) {
+        (Ok(before), Ok(after)) => tell_join(alloc, &before, &after, out),
+        _ => tell_broken(b"no plan", 0, out),
     }
     try_refusals(alloc, old, new, out);
 }

@@ -23,7 +23,7 @@ fn put_switches_at(
     code: CodeId,
     switches: &mut Vec<Switch>,
 ) -> Result<(), NoMemory> {
-    let Joined { old, new } = joined;
+    let (old, new) = (&joined.old, &joined.new);
     let switch = Switch {
         exchange,
         code,
@@ -55,7 +55,7 @@ pub fn switches_of(alloc: Global, joined: &Joined) -> Result<Vec<Switch>, NoMemo
 
 /// Goes on to the next of all ways to switch. After the last one there is none.
 pub fn switch_next(switches: &mut [Switch]) -> bool {
-    for switch in switches {
+    for switch in switches.iter_mut() {
         switch.is_new = !switch.is_new;
         if switch.is_new {
             return true;
@@ -73,13 +73,21 @@ fn plan_at<'a>(
     is_bar: bool,
 ) -> &'a Plan {
     for switch in switches {
-        if switch.exchange == exchange && switch.code == code && switch.is_bar == is_bar {
-            if switch.is_new {
-                return &joined.new;
-            }
+        let is_here = switch.exchange == exchange && switch.code == code;
+        if is_here && switch.is_bar == is_bar && switch.is_new {
+            return &joined.new;
         }
     }
     &joined.old
+}
+
+/// Whether a line of a plan is one of its network.
+fn is_of_network(line: &[u8]) -> bool {
+    let word = next_word(&mut words(line));
+    word == b"EXCHANGE".as_slice()
+        || word == b"CODE".as_slice()
+        || word == b"LINES".as_slice()
+        || word == b"GROUP".as_slice()
 }
 
 /// Adds the lines of the network of a plan.
@@ -92,12 +100,9 @@ fn put_network(alloc: Global, plan: &Plan, text: &mut Vec<u8>) -> Result<(), NoM
         let Some((line, after)) = next_line(rest) else {
             break;
         };
-        match next_word(&mut words(line)) {
-            b"PLAN" | b"ROUTE" | b"BAR" | b"END" => {}
-            _ => {
-                text.extend_from_slice(line)?;
-                text.push(b'\n')?;
-            }
+        if is_of_network(line) {
+            text.extend_from_slice(line)?;
+            text.push(b'\n')?;
         }
         rest = after;
     }
