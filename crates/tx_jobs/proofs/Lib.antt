@@ -1,4 +1,5 @@
 mod RefusedTexts
+mod JoinedPlans
 mod Piping
 mod Breaking
 mod CheckedRun

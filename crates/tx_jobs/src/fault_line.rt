@@ -2,11 +2,12 @@
 ghost use Rattle.std.specs.Prelude.{◌≡◌};
 ghost use Rattle.tx_text.specs.Wrote.{Wrote};
 ghost use Rattle.tx_plantext.specs.PlanFaults.{fault_row};
-ghost use Rattle.tx_jobs.specs.JobFaults.{fault_line, text_fault_line, difference_line, stage_count_line, list_word};
+ghost use Rattle.tx_jobs.specs.JobFaults.{fault_line, text_fault_line, difference_line, contradiction_line, stage_count_line, list_word};
 
 use crate::job_fault::JobFault;
 use itoa::Buffer;
 use tx_change::{Difference, NetworkList};
+use tx_join::Contradiction;
 use tx_plantext::PlanFault;
 use tx_text::{Sink, WriteFault, write_bytes, write_parts};
 
@@ -31,6 +32,13 @@ pub fn write_fault<W: Sink>(fault: &JobFault, sink: &mut W) -> Result<(), WriteF
             write_text_fault(b"risks", fault.line, row, sink)
         }
         JobFault::TwoNetworks(difference) => write_difference(difference, sink),
+        JobFault::Contradiction(contradiction) => write_contradiction(contradiction, sink),
+        JobFault::TooManyTogether => {
+            write_bytes(
+                b"telexplan: both plans together have too many exchanges, codes or groups\n",
+                sink,
+            )
+        }
         JobFault::Read => write_bytes(b"telexplan: read fault\n", sink),
         JobFault::Write => write_bytes(b"telexplan: write fault\n", sink),
         JobFault::NoMemory => write_bytes(b"telexplan: no memory\n", sink),
@@ -90,6 +98,32 @@ fn write_difference<W: Sink>(difference: &Difference, sink: &mut W) -> Result<()
             list_word(difference.list),
             b" ",
             number.format(u32::from(difference.index) + 1).as_bytes(),
+            b" differs\n",
+        ],
+        sink,
+    )
+}
+
+/// Writes what two plans declare in contradiction, and the line of each text that does.
+fn write_contradiction<W: Sink>(
+    contradiction: &Contradiction,
+    sink: &mut W,
+) -> Result<(), WriteFault>
+    ensures { Wrote W.taken W.failed sink.old sink.new (contradiction_line contradiction.now)
+        result }
+{
+    let mut old = Buffer::new();
+    let mut new = Buffer::new();
+    write_parts(
+        &[
+            b"telexplan: old plan line ",
+            old.format(contradiction.old_line).as_bytes(),
+            b" and new plan line ",
+            new.format(contradiction.new_line).as_bytes(),
+            b": ",
+            contradiction.kind.word(),
+            b" ",
+            contradiction.name.bytes(),
             b" differs\n",
         ],
         sink,

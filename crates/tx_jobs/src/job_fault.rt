@@ -10,6 +10,7 @@ use thiserror::Error;
 use tx_audit::AuditFault;
 use tx_cert::{CertFault, CertWord};
 use tx_change::Difference;
+use tx_join::Contradiction;
 use tx_lint::LintFault;
 use tx_order::OrderFault;
 use tx_plan::PlanRefusal;
@@ -48,6 +49,12 @@ pub enum JobFault {
     /// The plans of a change are of two networks: the first entry that differs.
     #[error("the plans are of two networks")]
     TwoNetworks(Difference),
+    /// The plans of a change contradict each other.
+    #[error("the plans contradict each other")]
+    Contradiction(Contradiction),
+    /// The plans of a change have together more exchanges, codes or groups than a plan may have.
+    #[error("both plans together have too many exchanges, codes or groups")]
+    TooManyTogether,
     /// The text of risks is refused.
     #[error("risks {0}")]
     Risks(RiskFault),
@@ -241,6 +248,8 @@ impl JobFault {
             | JobFault::OldPlan(_)
             | JobFault::NewPlan(_)
             | JobFault::TwoNetworks(_)
+            | JobFault::Contradiction(_)
+            | JobFault::TooManyTogether
             | JobFault::Risks(_) => 2,
             JobFault::Read | JobFault::Write => 3,
             JobFault::NoMemory => 4,

@@ -37,6 +37,9 @@ returns-in-Risks g c =
 pub returns-in-TwoNetworks : goal.returns-in-TwoNetworks
 returns-in-TwoNetworks g c = rw c.in-TwoNetworks.is c.write_difference.ensures
 
+pub returns-in-Contradiction : goal.returns-in-Contradiction
+returns-in-Contradiction g c = rw c.in-Contradiction.is c.write_contradiction.ensures
+
 pub returns-in-Read : goal.returns-in-Read
 returns-in-Read g c = rw c.in-Read.is c.write_bytes.ensures
 
