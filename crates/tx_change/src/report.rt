@@ -48,7 +48,7 @@ fn write_findings<A: Allocator, W: Sink>(
 }
 
 /// Writes the line of a finding after a word.
-fn write_finding_after<A: Allocator, W: Sink>(
+pub fn write_finding_after<A: Allocator, W: Sink>(
     word: &[u8],
     plan: &Plan<A>,
     finding: &Finding<A>,

@@ -8,7 +8,7 @@ use Rattle.tx_change.specs.MixtureShown.{ShowsFirstWalk, MixtureAnswer, ShowsNew
 use Rattle.tx_jobs.specs.declared.change.Changed.{Changed}
 use Rattle.tx_jobs.specs.declared.change.Changed.TheVariants.{Sound as FoundSound, Unsound as FoundUnsound, NewUnsound as FoundNewUnsound}
 use Rattle.tx_jobs.specs.declared.job_fault.JobFault.{JobFault}
-use Rattle.tx_jobs.specs.declared.job_fault.JobFault.TheVariants.{Plan as PlanFault, Cert, Script, Read, Write, NoMemory, OldPlan, NewPlan, TwoNetworks, Contradiction, TooManyTogether, Risks, NoSuchStage, NoSuchExchange, NoSuchCode}
+use Rattle.tx_jobs.specs.declared.job_fault.JobFault.TheVariants.{Plan as PlanFault, Cert, Script, Read, Write, NoMemory, OldPlan, NewPlan, Contradiction, TooManyTogether, Risks, NoSuchStage, NoSuchExchange, NoSuchCode, NoSuchGroup}
 use Rattle.tx_jobs.specs.declared.mixture.ChangeEvidence.{ChangeEvidence}
 use Rattle.tx_jobs.specs.declared.mixture.Mixture.{Mixture}
 use Rattle.tx_jobs.specs.JobFaults.{mark_after}
@@ -53,13 +53,13 @@ module _ {A : Type 0} (mark : Bool) (limit spare : ℕ) where
   kept_mark Shows (Err NoMemory) h = refl
   kept_mark Shows (Err (OldPlan f)) h = absurd h
   kept_mark Shows (Err (NewPlan f)) h = absurd h
-  kept_mark Shows (Err (TwoNetworks d)) h = absurd h
   kept_mark Shows (Err (Contradiction k)) h = absurd h
   kept_mark Shows (Err TooManyTogether) h = absurd h
   kept_mark Shows (Err (Risks f)) h = absurd h
   kept_mark Shows (Err (NoSuchStage stages)) h = absurd h
   kept_mark Shows (Err NoSuchExchange) h = absurd h
   kept_mark Shows (Err NoSuchCode) h = absurd h
+  kept_mark Shows (Err (NoSuchGroup place)) h = absurd h
 
   pub change_evidence_mark : (with_mixture : Bool) (changed : Changed A) (r : Result (ChangeEvidence A) JobFault) → IsChangeEvidenceOf with_mixture limit spare changed r → mark ≡ mark_after mark r
   change_evidence_mark with_mixture (FoundSound p cert) r h = ap (mark_after mark) (sym h)

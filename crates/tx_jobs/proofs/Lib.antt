@@ -8,6 +8,7 @@ mod ToldRuns
 mod Evidenced
 mod ChangeTold
 mod ChangeEvidenced
+mod OrderTold
 mod Grading
 mod LintTold
 mod Surviving

@@ -2,10 +2,7 @@
 use Rattle.std.specs.Prelude.{◌≡◌, ◌⊎◌, ℕ, List, Result, Ok, Err}
 use Rattle.std.specs.Io.KnownBytes.{append_known}
 use Rattle.tx_text.specs.Ends.{Input, Output}
-use Rattle.tx_text.specs.declared.frame.FaultAt.{FaultAt}
 use Rattle.tx_plan.specs.Plan.{Plan}
-use Rattle.tx_plantext.specs.declared.fault.PlanWord.{PlanWord}
-use Rattle.tx_plantext.specs.PlanText.{ReadsPlan}
 use Rattle.tx_rank.specs.declared.finding.Finding.{Finding}
 use Rattle.tx_join.specs.Joined.{joined_old, joined_new}
 use Rattle.tx_change.specs.declared.judging.ChangeVerdict.{ChangeVerdict}
@@ -63,14 +60,6 @@ abbrev pub ToldChange : {A : Type 0} → (p q : Plan) → (limit spare : ℕ) �
 ToldChange p q limit spare out (Ok changed) = IsTold p q limit spare out changed
 ToldChange {A} p q limit spare out (Err fault) =
     StopsTelling A p q (joined_old p q) (joined_new p q) limit spare out fault
-
--- a plan was refused, and nothing else was read or written
-pub record RefusedAs {X : Type 0} (tell : FaultAt PlanWord → JobFault) (text : Input)
-    (untouched : Type 0) (result : Result X JobFault) : Type 0 where
-  pub fault : FaultAt PlanWord
-  pub read : ReadsPlan text (Err (fault.line, fault.kind))
-  pub told : result ≡ Err (tell fault)
-  pub rest : untouched
 
 -- `change OLD NEW --limit L --spare K`: the plans are joined, and the change is judged
 abbrev pub ChangeJobAnswers : {A : Type 0} → (limit spare : ℕ) → (old new : Input) → Output

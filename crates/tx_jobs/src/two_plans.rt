@@ -1,10 +1,9 @@
-// The two plans of a change, and both over their joined network.
+// The two plans of a change or an order, and both over their joined network.
 ghost use Rattle.std.specs.Prelude.{◌≡◌, IfOk, IfErr};
 ghost use Rattle.tx_text.specs.Calls.{CallsAtMost, source_calls};
 ghost use Rattle.tx_text.specs.Ends.{input};
-ghost use Rattle.tx_jobs.specs.JobFaults.{old_plan_fault, new_plan_fault};
 ghost use Rattle.tx_jobs.specs.TwoPlans.{SaysWhole, GivesNoPlan, join_fault, AreNotJoined};
-ghost use Rattle.tx_jobs.specs.inner.TwoPlans.{AreReadAndJoined, IsJoinOf, IsNoJoinOf};
+ghost use Rattle.tx_jobs.specs.inner.TwoPlans.{fault_of, AreReadAndJoined, IsJoinOf, IsNoJoinOf};
 
 use crate::job_fault::JobFault;
 use std::alloc::{Allocator, Global};
@@ -13,6 +12,13 @@ use tx_lint::read_text;
 use tx_plan::Plan;
 use tx_plantext::read_plan;
 use tx_text::Source;
+
+/// Which of the two plans of a change or an order.
+#[derive(Clone, Copy, Debug)]
+pub(crate) enum Which {
+    Old,
+    New,
+}
 
 /// Two plans, and both over their joined network.
 #[derive(Debug, Drop)]
@@ -44,44 +50,30 @@ pub(crate) fn read_plans<A: Allocator + Copy, P: Source, Q: Source>(
     ensures old_calls { CallsAtMost P.called source_calls old.old old.new }
     ensures new_calls { CallsAtMost Q.called source_calls new.old new.new }
 {
-    let old = read_old(alloc, old)?;
-    let new = read_new(alloc, new)?;
+    let old = read_whole(alloc, Which::Old, old)?;
+    let new = read_whole(alloc, Which::New, new)?;
     join_plans(alloc, old, new)
 }
 
-/// Reads the old plan.
-fn read_old<A: Allocator + Copy, P: Source>(alloc: A, old: &mut P) -> Result<PlanText<A>, JobFault>
+/// Reads one of the two plans, to the end of its text.
+fn read_whole<A: Allocator + Copy, S: Source>(
+    alloc: A,
+    which: Which,
+    source: &mut S,
+) -> Result<PlanText<A>, JobFault>
     ensures says { IfOk result (λ t. SaysWhole
-        (input P.rest P.failed P.called old.old old.new) t.text.items t.plan) }
-    ensures refused { IfErr result (GivesNoPlan old_plan_fault
-        (input P.rest P.failed P.called old.old old.new)) }
-    ensures calls { CallsAtMost P.called source_calls old.old old.new }
+        (input S.rest S.failed S.called source.old source.new) t.text.items t.plan) }
+    ensures refused { IfErr result (GivesNoPlan (fault_of which)
+        (input S.rest S.failed S.called source.old source.new)) }
+    ensures calls { CallsAtMost S.called source_calls source.old source.new }
 {
-    let text = read_text(alloc, old)?;
+    let text = read_text(alloc, source)?;
     match read_plan(alloc, &text) {
         Ok(plan) => {
             plan.rules();
             Ok(PlanText { text, plan })
         }
-        Err(fault) => Err(JobFault::of_old_plan(fault)),
-    }
-}
-
-/// Reads the new plan.
-fn read_new<A: Allocator + Copy, Q: Source>(alloc: A, new: &mut Q) -> Result<PlanText<A>, JobFault>
-    ensures says { IfOk result (λ t. SaysWhole
-        (input Q.rest Q.failed Q.called new.old new.new) t.text.items t.plan) }
-    ensures refused { IfErr result (GivesNoPlan new_plan_fault
-        (input Q.rest Q.failed Q.called new.old new.new)) }
-    ensures calls { CallsAtMost Q.called source_calls new.old new.new }
-{
-    let text = read_text(alloc, new)?;
-    match read_plan(alloc, &text) {
-        Ok(plan) => {
-            plan.rules();
-            Ok(PlanText { text, plan })
-        }
-        Err(fault) => Err(JobFault::of_new_plan(fault)),
+        Err(fault) => Err(JobFault::of_plan(which, fault)),
     }
 }
 

@@ -1,14 +1,24 @@
 -- Two plans that were read, and both over their joined network.
 use Rattle.std.specs.Prelude.{◌≡◌, ℕ, List, None}
+use Rattle.tx_text.specs.declared.frame.FaultAt.{FaultAt}
 use Rattle.tx_text.specs.Ends.{Input}
 use Rattle.tx_plan.specs.Plan.{Plan}
+use Rattle.tx_plantext.specs.declared.fault.PlanWord.{PlanWord}
 use Rattle.tx_join.specs.declared.refusal.JoinRefusal.{JoinRefusal}
 use Rattle.tx_join.specs.Joined.{joined_old, joined_new}
 use Rattle.tx_join.specs.Refusals.{join_refusal, IsRefusedAs}
 use Rattle.tx_join.specs.Laws.{AreOverBoth, HaveTheirLists}
 use Rattle.tx_jobs.specs.declared.job_fault.JobFault.{JobFault}
+use Rattle.tx_jobs.specs.JobFaults.{old_plan_fault, new_plan_fault}
 use Rattle.tx_jobs.specs.declared.two_plans.TwoPlans.{TwoPlans}
+use Rattle.tx_jobs.specs.declared.two_plans.Which.{Which}
+use Rattle.tx_jobs.specs.declared.two_plans.Which.TheVariants.{Old, New}
 use Rattle.tx_jobs.specs.TwoPlans.{SaysWhole, join_fault}
+
+-- a fault of the text of one of the two plans
+abbrev pub fault_of : Which → FaultAt PlanWord → JobFault
+fault_of Old = old_plan_fault
+fault_of New = new_plan_fault
 
 -- these plans, and both over their joined network
 pub record IsJoinOf {A : Type 0} (p q : Plan) (plans : TwoPlans A) : Type 0 where

@@ -2,7 +2,7 @@ use Rattle.std.proofs.Common.{inl, inr, refl}
 use Rattle.tx_text.specs.Ends.{output}
 use Rattle.tx_text.proofs.Exits.{exits_with}
 use Rattle.tx_jobs.proofs.ChangeTold.{told_over}
-use Rattle.tx_jobs.proofs.JoinedPlans.{unjoined_mark}
+use Rattle.tx_jobs.proofs.JoinedPlans.{are_joined, unjoined_mark}
 use Rattle.tx_jobs.proofs.change.change_job.Goals as goal
 
 pub change_of-requires : goal.change_of-requires
@@ -10,19 +10,9 @@ change_of-requires g c = c.in_ok-plans.ensures.joined.joined
 
 pub returns-clause-answers : goal.returns-clause-answers
 returns-clause-answers g c =
+    let plans = c.in_ok-plans.plans in
     let r = c.in_ok-plans.ensures.joined in
-    inl (record {
-      old_text = r.old_text;
-      new_text = r.new_text;
-      old_plan = c.in_ok-plans.plans.old;
-      new_plan = c.in_ok-plans.plans.new;
-      old_says = r.old_says;
-      new_says = r.new_says;
-      unrefused = r.joined.unrefused;
-      network = r.joined.network;
-      lists = r.joined.lists;
-      goes_on = told_over c.in_ok-plans.plans r.joined c.args.limits.limit c.args.limits.spare (output g.W.Sink.taken c.args.out.now c.change_of.new.out) c.change_of.result c.change_of.ensures.told;
-    })
+    inl (are_joined _ _ plans r _ (told_over plans r.joined c.args.limits.limit c.args.limits.spare (output g.W.Sink.taken c.args.out.now c.change_of.new.out) c.change_of.result c.change_of.ensures.told))
 
 pub returns-in_err-plans-clause-answers : goal.returns-in_err-plans-clause-answers
 returns-in_err-plans-clause-answers g c =

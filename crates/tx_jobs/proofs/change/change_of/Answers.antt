@@ -1,16 +1,10 @@
-use Rattle.std.proofs.Common.{sym, subst}
 use Rattle.tx_text.proofs.Exits.{exits_with}
-use Rattle.tx_plan.specs.Plan.{Plan}
-use Rattle.tx_plan.specs.Mixtures.{SameNetwork}
-use Rattle.tx_join.specs.Joined.{joined_old}
+use Rattle.tx_jobs.proofs.JoinedPlans.{joined_network}
 use Rattle.tx_jobs.proofs.ChangeTold.{change_network, change_shown, new_true}
 use Rattle.tx_jobs.proofs.change.change_of.Goals as goal
 
 pub tell_change-requires : goal.tell_change-requires
-tell_change-requires g c =
-    let plans = c.args.plans in
-    let j = c.requires in
-    subst (λ (b : Plan). SameNetwork b plans.joined.new) (sym j.before) (subst (λ (a : Plan). SameNetwork (joined_old plans.old plans.new) a) (sym j.after) j.network.same)
+tell_change-requires g c = joined_network c.args.plans c.requires
 
 pub returns-clause-told : goal.returns-clause-told
 returns-clause-told g c =
