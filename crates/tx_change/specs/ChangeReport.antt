@@ -18,8 +18,8 @@ module _ {A : Type 0} where
   findings_after word p findings =
       flat_map (finding_after word p) findings ++ verdict_line (length findings)
 
-  -- what was found of the mixtures, by the names of the joined network, or of the new plan as it is,
-  -- by its own names after the word NEW, and the verdict
+  -- what was found of the mixtures, by the names of the joined network, or of the new plan as it
+  -- is, by its own names after the word NEW, and the verdict
   abbrev pub verdict_text : (before new : Plan) → ChangeVerdict A → List ℕ
   verdict_text before new (Sound cert) = codes "VERDICT YES\n"
   verdict_text before new (Unsound findings) = findings_after [] before findings.items

@@ -15,8 +15,8 @@ use tx_text::NoMemory;
 /// What the change of a plan into another one comes to.
 #[derive(Debug, Drop)]
 pub enum ChangeVerdict<A: Allocator = Global> {
-    /// It is sound, as this certificate of both plans over their joined network shows, and so is the
-    /// new plan as it is.
+    /// It is sound, as this certificate of both plans over their joined network shows, and so is
+    /// the new plan as it is.
     Sound(Cert<A>),
     /// Not every mixture can be certified: the findings, in their order.
     Unsound(Vec<Finding<A>, A>),

@@ -1,5 +1,5 @@
-//! The change of a plan into another one, list by list: ranks that certify every plan that may be in
-//! force during the change, or what is wrong with one of them, and the mixture that shows it.
+//! The change of a plan into another one, list by list: ranks that certify every plan that may be
+//! in force during the change, or what is wrong with one of them, and the mixture that shows it.
 #![tactic(auto)]
 
 mod change_routes;

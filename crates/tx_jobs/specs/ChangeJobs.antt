@@ -29,8 +29,8 @@ module _ {A : Type 0} where
   OnUnsoundNew Holds (Unsound p q findings) = Unit {0}
   OnUnsoundNew Holds (NewUnsound q findings) = Holds q findings.items
 
-  -- the answer is this verdict on the change from p to q: with the old plan over the joined network,
-  -- or with both over it, or with the new plan as it is
+  -- the answer is this verdict on the change from p to q: with the old plan over the joined
+  -- network, or with both over it, or with the new plan as it is
   abbrev pub IsVerdictOf : (p q : Plan) → ChangeVerdict A → Changed A → Type 0
   IsVerdictOf p q (IsSound cert) changed = changed ≡ Sound (joined_old p q) cert
   IsVerdictOf p q (IsUnsound findings) changed =

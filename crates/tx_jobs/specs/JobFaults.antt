@@ -25,8 +25,8 @@ use Rattle.tx_jobs.specs.declared.job_fault.JobFault.{JobFault}
 use Rattle.tx_jobs.specs.declared.job_fault.JobFault.TheVariants.{Plan, Cert, Script, Read, Write, NoMemory, OldPlan, NewPlan, Contradiction, TooManyTogether, Risks, NoSuchStage, NoSuchExchange, NoSuchCode, NoSuchGroup}
 
 -- 2 for a refused text and for plans that have no joined network, 3 for a read or a write fault, 4
--- when memory runs out, 64 for an exchange, a code or a group that the plan does not have, and for a
--- stage that the order does not have
+-- when memory runs out, 64 for an exchange, a code or a group that the plan does not have, and for
+-- a stage that the order does not have
 abbrev pub status_of : JobFault → ℕ
 status_of (Plan f) = 2
 status_of (Cert f) = 2

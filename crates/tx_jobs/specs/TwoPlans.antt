@@ -1,4 +1,5 @@
--- The two plans of a change or an order: both texts are read to their ends, and the plans are joined.
+-- The two plans of a change or an order: both texts are read to their ends, and the plans are
+-- joined.
 use Rattle.std.specs.Prelude.{◌≡◌, ◌⊎◌, List, ℕ, None, Result, Ok, Err}
 use Rattle.tx_text.specs.declared.frame.FaultAt.{FaultAt}
 use Rattle.tx_text.specs.declared.frame.FaultKind.{FaultKind}
@@ -94,7 +95,8 @@ pub record AreRefused (old new : Input) (fault : JobFault) : Type 0 where
   pub refused : IsRefusedAs old_plan new_plan refusal
   pub told : fault ≡ join_fault old_text new_text new_plan refusal
 
--- The plans are not joined: the first of these reasons. Without the old plan the new one is not read.
+-- The plans are not joined: the first of these reasons. Without the old plan the new one is not
+-- read.
 abbrev pub AreNotJoined : (old new : Input) → JobFault → Type 0
 AreNotJoined old new fault = (GivesNoPlan old_plan_fault old fault × new.unread)
     ⊎ (LacksNew old new fault ⊎ AreRefused old new fault)

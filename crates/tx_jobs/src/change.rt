@@ -26,11 +26,11 @@ pub enum Changed<A: Allocator = Global> {
     /// The change is sound: the old plan over the joined network, and a certificate of it, which is
     /// one of the new plan over this network too.
     Sound(Plan<A>, Cert<A>),
-    /// Not every mixture can be certified: the old plan and the new one over the joined network, and
-    /// the findings, in their order.
+    /// Not every mixture can be certified: the old plan and the new one over the joined network,
+    /// and the findings, in their order.
     Unsound(Plan<A>, Plan<A>, Vec<Finding<A>, A>),
-    /// Each mixture can be certified, but not the new plan as it is: this plan, and its findings, in
-    /// their order.
+    /// Each mixture can be certified, but not the new plan as it is: this plan, and its findings,
+    /// in their order.
     NewUnsound(Plan<A>, Vec<Finding<A>, A>),
 }
 

@@ -20,9 +20,10 @@ use tx_rank::Finding;
 use tx_text::{Sink, Source};
 
 /// Reads an old plan and then a new one, each to the end of its text, and writes the report on the
-/// change of the one into the other, list by list over their joined network, for the limits. Answers
-/// what shows the verdict: the certificate after a Yes, and after a No, if it is asked for, the
-/// mixture of the first finding that has a walk, or the new plan as it is, if this was found of it.
+/// change of the one into the other, list by list over their joined network, for the limits.
+/// Answers what shows the verdict: the certificate after a Yes, and after a No, if it is asked for,
+/// the mixture of the first finding that has a walk, or the new plan as it is, if this was found of
+/// it.
 ///
 /// `Err` is the fault of the first call that failed. Where there is no memory for that mixture, the
 /// report was written.

@@ -50,7 +50,8 @@ pub enum JobFault {
     /// The plans of a change or an order contradict each other.
     #[error("the plans contradict each other")]
     Contradiction(Contradiction),
-    /// The plans of a change or an order have together more exchanges, codes or groups than a plan may have.
+    /// The plans of a change or an order have together more exchanges, codes or groups than a plan
+    /// may have.
     #[error("both plans together have too many exchanges, codes or groups")]
     TooManyTogether,
     /// The text of risks is refused.
@@ -233,9 +234,9 @@ impl From<LintFault> for JobFault {
 }
 
 impl JobFault {
-    /// The exit status: 2 for a refused text and for plans that have no joined network, 3 for a read
-    /// or a write fault, 4 when memory runs out, 64 for an exchange, a code or a group that the plan
-    /// does not have, and for a stage that the order does not have.
+    /// The exit status: 2 for a refused text and for plans that have no joined network, 3 for a
+    /// read or a write fault, 4 when memory runs out, 64 for an exchange, a code or a group that
+    /// the plan does not have, and for a stage that the order does not have.
     pub fn status(&self) -> u8
         ensures { result ≡ status_of self.now }
     {

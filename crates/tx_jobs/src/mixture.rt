@@ -39,8 +39,8 @@ impl<A: Allocator> Mixture<A> {
 /// What shows the verdict on a change.
 #[derive(Debug, Drop)]
 pub enum ChangeEvidence<A: Allocator = Global> {
-    /// After a Yes, the old plan over the joined network and its certificate, which is one of the new
-    /// plan over this network too.
+    /// After a Yes, the old plan over the joined network and its certificate, which is one of the
+    /// new plan over this network too.
     Sound(Plan<A>, Cert<A>),
     /// After a No, the mixture of the first finding that has a walk, if it was asked for.
     Unsound(Option<Mixture<A>>),

@@ -59,7 +59,8 @@ each_written lines n = flat_map line_written (flat_map lines (range_with_len 0 n
 
 -- the exchanges that are new, and then those that go
 abbrev pub exchange_changes : (old new : Plan) → List ℕ
-exchange_changes old new = each_written (exchange_lines (codes "NEW") new old) (length new.exchanges)
+exchange_changes old new =
+    each_written (exchange_lines (codes "NEW") new old) (length new.exchanges)
     ++ each_written (exchange_lines (codes "GONE") old new) (length old.exchanges)
 
 -- the codes

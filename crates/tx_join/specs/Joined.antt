@@ -1,5 +1,6 @@
--- Two plans over one network. It has the exchanges, codes and groups of the old plan, and then those
--- that the new plan has more. They are known by their names, and the lines are the old plan's.
+-- Two plans over one network. It has the exchanges, codes and groups of the old plan, and then
+-- those that the new plan has more. They are known by their names, and the lines are the old
+-- plan's.
 use Rattle.std.specs.Prelude.{ℕ, ◌-◌, max, Bool, not, ◌&&◌, ◌==◌, nat_lt, List, [], ◌++◌, length, map, filter, flat_map, position, unwrap_or}
 use Rattle.std.specs.List.{range_with_len}
 use Rattle.std.specs.Option.{option_map_or}
@@ -104,8 +105,8 @@ shared_bars j p q = map (bar_in j p) p.bars
 abbrev pub bars_over : (j p q : Plan) → (n : ℕ) → List Pair
 bars_over j p q n = filter (λ b. nat_lt b.code n) (shared_bars j p q) ++ bars_from j n
 
--- The plan p over the network j, with the lists and bars of q for what p does not have, and with the
--- codes from n on closed
+-- The plan p over the network j, with the lists and bars of q for what p does not have, and with
+-- the codes from n on closed
 abbrev pub plan_over : (j p q : Plan) → (n : ℕ) → Plan
 plan_over j p q n = rerouted j (routes_over j p q) (bars_over j p q n)
 

@@ -90,8 +90,8 @@ abbrev pub BarsNewCodes : (old p : Plan) → Type 0
 BarsNewCodes old p = (x c : ℕ) → length old.codes ≤ c → x < length p.exchanges
     → c < length p.codes → home_of p c ≢ x → is_barred p x c ≡ true
 
--- The old plan over the joined network has the lists and bars of the old plan, and the new plan over
--- it those of the new one. What one plan alone has is in both.
+-- The old plan over the joined network has the lists and bars of the old plan, and the new plan
+-- over it those of the new one. What one plan alone has is in both.
 pub record HaveTheirLists (old new before after : Plan) : Type 0 where
   pub old_lists : HasLists before old
   pub old_bars : HasBars old before old

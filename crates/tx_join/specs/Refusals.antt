@@ -49,8 +49,8 @@ has_too_many p = nat_lt 256 (length p.exchanges)
 abbrev pub refused_if : Bool → JoinRefusal → Option JoinRefusal
 refused_if b refusal = if b then Some refusal else None
 
--- The first refusal that applies: of the codes of the new plan, then of its groups, and then of what
--- both plans have together
+-- The first refusal that applies: of the codes of the new plan, then of its groups, and then of
+-- what both plans have together
 abbrev pub join_refusal : (old new : Plan) → Option JoinRefusal
 join_refusal old new =
     option_or (option_map OtherHome

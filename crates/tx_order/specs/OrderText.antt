@@ -67,7 +67,8 @@ module _ {A : Type 0} where
   no_order_text p before after = findings_after (codes "OLD ") p before
       ++ (findings_after (codes "NEW ") p after ++ no_line (length before + length after))
 
-  -- where the new plan as it is is not safe: its findings, by its own names, and NO with their number
+  -- where the new plan as it is is not safe: its findings, by its own names, and NO with their
+  -- number
   abbrev pub new_unsound_text : Plan → List (Finding A) → List ℕ
   new_unsound_text new findings =
       findings_after (codes "NEW ") new findings ++ no_line (length findings)

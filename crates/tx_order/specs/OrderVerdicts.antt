@@ -12,9 +12,10 @@ use Rattle.tx_order.specs.Switchings.{IsOrdered, HasNoOrder}
 
 module _ {A : Type 0} where
   -- Over the joined network and of the new plan as it is: YES with an order, where a certificate
-  -- clears the new plan too. NO with what is wrong with both plans over the joined network, or where
-  -- nothing is with findings of the new plan.
-  abbrev pub IsRightVerdict : (before after new : Plan) → (limit spare : ℕ) → OrderVerdict A → Type 0
+  -- clears the new plan too. NO with what is wrong with both plans over the joined network, or
+  -- where nothing is with findings of the new plan.
+  abbrev pub IsRightVerdict : (before after new : Plan) → (limit spare : ℕ) → OrderVerdict A
+      → Type 0
   IsRightVerdict before after new limit spare (Ordered o) =
       IsOrdered before after limit spare o × IsClearedPlan new limit spare
   IsRightVerdict before after new limit spare (NoOrder p b a) =

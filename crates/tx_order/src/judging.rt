@@ -18,16 +18,16 @@ use tx_text::NoMemory;
 pub enum OrderVerdict<A: Allocator = Global> {
     /// An order over the joined network, and the new plan as it is is sound.
     Ordered(Order<A>),
-    /// There is none over the joined network: the old plan over it, and what its ranking came to and
-    /// that of the new one over it. One of them has findings.
+    /// There is none over the joined network: the old plan over it, and what its ranking came to
+    /// and that of the new one over it. One of them has findings.
     NoOrder(Plan<A>, Ranking<A>, Ranking<A>),
     /// There is one, but the new plan as it is is not sound: its findings, in their order.
     NewUnsound(Vec<Finding<A>, A>),
 }
 
 /// Looks for an order in which the lists and the bars of a plan are switched to those of another
-/// one, over their joined network. Where there is one, judges the new plan as it is. `Err` means out
-/// of memory.
+/// one, over their joined network. Where there is one, judges the new plan as it is. `Err` means
+/// out of memory.
 pub(crate) fn judge_order<A: Allocator + Copy>(
     alloc: A,
     joined: Joined<A>,

@@ -6,7 +6,8 @@ use Rattle.tx_plan.specs.Plan.{Plan, Route}
 use Rattle.tx_plan.specs.Rules.{EachPair}
 use Rattle.tx_join.specs.Joined.{has_both, route_in, bar_in}
 
--- a list or bar of `from` is taken: the plan is taken whole, or `own` lacks the exchange or the code
+-- a list or bar of `from` is taken: the plan is taken whole, or `own` lacks the exchange or the
+-- code
 abbrev pub takes : (own from : Plan) → (whole : Bool) → (x c : ℕ) → Bool
 takes own from whole x c = whole || not (has_both own from x c)
 

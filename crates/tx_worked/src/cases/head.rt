@@ -35,8 +35,8 @@ pub enum Kind {
     Family,
     /// A family of plans, each of which is changed into each, judged by brute force.
     Pairs,
-    /// Two families of plans: the change from each of the one to each of the other is judged by brute
-    /// force.
+    /// Two families of plans: the change from each of the one to each of the other is judged by
+    /// brute force.
     Networks,
     /// A family of plans, with the order from each to each, judged by brute force.
     Orders,
