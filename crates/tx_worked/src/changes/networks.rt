@@ -1,5 +1,5 @@
-// The changes from the plans of one family to those of another, of different networks, judged one
-// after another.
+// The changes and orders from the plans of one family to those of another, of different networks,
+// judged one after another.
 ghost use Rattle.tx_plan.specs.Mixtures.{SameNetwork};
 
 use crate::cases::{Stop, Told, tell, tell_count, two_texts};
@@ -10,6 +10,7 @@ use crate::walks::{Difference, NUMBERS, WalksDiffer, add, tell_stop, tried_befor
 use std::alloc::Global;
 use tx_change::{ChangeVerdict, judge_change};
 use tx_join::{Joined, join};
+use tx_order::{Staged, tell_order};
 use tx_plan::{Limits, Plan};
 use tx_plantext::read_plan;
 use tx_text::NoMemory;
@@ -99,10 +100,39 @@ fn count_verdict(verdict: &ChangeVerdict, tally: &mut NetworkTally) {
     }
 }
 
-/// Judges the verdicts on the change into a new plan, for each of the limits that are tried.
+/// Whether an order is found.
+fn has_order(alloc: Global, old: &Plan, new: &Plan, limits: Limits) -> Result<bool, Stop> {
+    let Ok(joined) = join(alloc, old, new) else {
+        return Err(Stop::Differs);
+    };
+    let mut out = Told::new(alloc);
+    match tell_order(alloc, old, new, joined, limits, None, &mut out) {
+        Ok(Staged::Ordered(_)) => Ok(true),
+        Ok(Staged::NoOrder) => Ok(false),
+        Err(_) => Err(Stop::NoMemory),
+    }
+}
+
+/// Whether there is one: both plans over the joined network have ranks, and the new plan as it is.
+fn wants_order(
+    alloc: Global,
+    joined: &Joined,
+    new: &Plan,
+    limits: Limits,
+) -> Result<bool, NoMemory> {
+    Ok(
+        is_ranked(alloc, &joined.old, limits)?
+            && is_ranked(alloc, &joined.new, limits)?
+            && is_ranked(alloc, new, limits)?,
+    )
+}
+
+/// Judges the verdicts on the change from an old plan into a new one, and whether an order is
+/// found, for each of the limits that are tried.
 fn judge_verdicts(
     alloc: Global,
     joined: &Joined,
+    old: &Plan,
     new: &Plan,
     work: &mut NetworkWork,
 ) -> Result<(), Stop>
@@ -115,7 +145,10 @@ fn judge_verdicts(
             let mixtures = ranked.get(tried_before(limits)).copied().unwrap_or(false);
             let verdict = judge_change(alloc, joined, new, limits)?;
             count_verdict(&verdict, &mut work.tally);
-            if !lead_to(&verdict, mixtures, is_ranked(alloc, new, limits)?) {
+            let orders = has_order(alloc, old, new, limits)?;
+            if !lead_to(&verdict, mixtures, is_ranked(alloc, new, limits)?)
+                || orders != wants_order(alloc, joined, new, limits)?
+            {
                 work.differs = Some(WalksDiffer {
                     limits,
                     difference: Difference::Found,
@@ -127,13 +160,13 @@ fn judge_verdicts(
     Ok(())
 }
 
-/// Judges the change of one plan into another one.
+/// Judges the change of one plan into another one, and the order.
 fn judge_pair(alloc: Global, work: &mut NetworkWork) -> Result<(), Stop> {
     let old = read_plan(alloc, work.old.as_slice())?;
     let new = read_plan(alloc, work.new.as_slice())?;
     add(&mut work.tally.pairs, 1);
     match join(alloc, &old, &new) {
-        Ok(joined) => judge_verdicts(alloc, &joined, &new, work),
+        Ok(joined) => judge_verdicts(alloc, &joined, &old, &new, work),
         Err(_) => Err(Stop::Differs),
     }
 }
