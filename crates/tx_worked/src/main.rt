@@ -45,10 +45,10 @@
 //! - `program` plays the program at its ends, over the files beside the folder `cases`:
 //!   `cases/end_case.rt` has what is in its head. `arguments` tells how it refuses its arguments.
 //! - `family` judges the ranking over a family of plans, `pairs` the change of each into each,
-//!   `networks` the change of each plan of a family into each of another one, of another network,
-//!   and the order, `orders` the order from each to each, `mends` the mending of each, and `outages` what each
-//!   group, each exchange and each two groups cut off in each. `twins` plays the engine beside the
-//!   plain network. The calls of the crates below have the kinds of `tests`.
+//!   `networks` the change and the order from each plan of a family to each of another one, of
+//!   another network, `orders` the order from each to each, `mends` the mending of each, and
+//!   `outages` what each group, each exchange and each two groups cut off in each. `twins` plays
+//!   the engine beside the plain network. The calls of the crates below have the kinds of `tests`.
 #![tactic(auto)]
 
 mod cases;
