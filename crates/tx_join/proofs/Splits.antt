@@ -145,7 +145,7 @@ module _ (j : Plan) (code : ℕ) where
 
   module _ (front now : List Pair) (i : ℕ) (l : i < length j.exchanges) (is : now ≡ so_far front away bar_at xs i) where
     at : slice_get xs i ≡ Some i
-    at = slice_range 0 (length j.exchanges) i l
+    at = let e : 0 + i ≡ i = omega arith in slice_range 0 (length j.exchanges) i l ∙ ap Some e
 
     pub home_passed : (home_of j code == i) ≡ true → (new : List Pair) → new ≡ now → new ≡ so_far front away bar_at xs (i + 1)
     home_passed h new e = e ∙ is ∙ passed front away bar_at xs i i at (ap not h)

@@ -7,7 +7,7 @@ use Rattle.tx_join.proofs.network.add_codes.Goals as goal
 use Rattle.tx_join.proofs.network.add_codes.Goals.{then-not-has_code+in_ok-taken, else-not-has_code}
 
 pub loop-index-init : goal.loop-index-init
-loop-index-init g c = no_code _ _
+loop-index-init g c = no_code c.args.builder.now c.args.from.now
 
 pub taken-requires : goal.taken-requires
 taken-requires g c =
