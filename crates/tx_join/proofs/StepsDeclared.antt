@@ -1,6 +1,6 @@
 -- A step of each loop that declares the entries of a plan, by the words that are handed to the
 -- builder.
-use Rattle.std.proofs.Common.{◌≡◌, ℕ, ◌+◌, ◌<◌, Bool, true, false, max, List, [], length, Option, Some, None, sym, ap, ◌∙◌}
+use Rattle.std.proofs.Common.{◌≡◌, ℕ, ◌+◌, ◌<◌, true, false, max, List, [], length, Some, None, sym, ap, ◌∙◌}
 use Rattle.std.specs.Prelude.{slice_get}
 use Rattle.std.specs.Option.{option_map_or}
 use Rattle.tx_plan.specs.declared.ids.Direction.{Direction}

@@ -1,7 +1,7 @@
-use Rattle.std.proofs.Common.{◌≡◌, sym, subst, inl, inr}
+use Rattle.std.proofs.Common.{sym, subst, inl, inr}
 use Rattle.tx_text.proofs.Exits.{exits_with}
 use Rattle.tx_plan.specs.Plan.{Plan}
-use Rattle.tx_join.specs.Joined.{joined_old, joined_new}
+use Rattle.tx_join.specs.Joined.{joined_old}
 use Rattle.tx_join.specs.Laws.{AreOverBoth, HaveTheirLists}
 use Rattle.tx_join.proofs.TheirLists.{over_both, their_lists}
 use Rattle.tx_join.proofs.joining.join.Goals as goal

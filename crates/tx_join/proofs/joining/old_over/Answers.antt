@@ -1,4 +1,4 @@
-use Rattle.std.proofs.Common.{◌≡◌, ℕ, ◌∙◌, sym, subst, refl}
+use Rattle.std.proofs.Common.{ℕ, ◌∙◌, sym, subst, refl}
 use Rattle.tx_text.proofs.Exits.{exits_with}
 use Rattle.tx_plan.specs.Plan.{Plan}
 use Rattle.tx_plan.specs.Rules.{IsPlan}

@@ -1,4 +1,4 @@
-use Rattle.std.proofs.Common.{◌≡◌, ◌∙◌, ap, sym, arith}
+use Rattle.std.proofs.Common.{◌∙◌, ap, sym, arith}
 use Rattle.tx_plan.specs.Plan.{Plan, exchange_name}
 use Rattle.tx_plan.specs.Declaring.{has_exchange}
 use Rattle.tx_join.proofs.NextDeclared.{no_exchange, all_exchanges, is_taken, taken_next}

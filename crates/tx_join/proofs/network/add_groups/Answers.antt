@@ -1,4 +1,4 @@
-use Rattle.std.proofs.Common.{◌≡◌, ◌∙◌, ℕ, max, ap, sym, arith}
+use Rattle.std.proofs.Common.{◌∙◌, ℕ, max, ap, sym, arith}
 use Rattle.tx_plan.specs.Plan.{Plan, exchange_name, group_name}
 use Rattle.tx_plan.specs.Circuits.{ends_of, direction_of, count_of}
 use Rattle.tx_plan.specs.Declaring.{has_group}

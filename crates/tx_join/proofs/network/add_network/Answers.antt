@@ -1,4 +1,4 @@
-use Rattle.std.proofs.Common.{◌≡◌, ◌∙◌, ap, sym, subst}
+use Rattle.std.proofs.Common.{◌∙◌, ap, sym, subst}
 use Rattle.tx_plan.specs.Plan.{Plan}
 use Rattle.tx_plan.specs.Rules.{IsPlan}
 use Rattle.tx_join.specs.inner.Declared.{with_exchanges, with_codes, with_ranges, with_groups, KnowsExchanges, KnowsCodes}

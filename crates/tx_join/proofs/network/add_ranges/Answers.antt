@@ -1,6 +1,5 @@
-use Rattle.std.proofs.Common.{◌≡◌, ◌∙◌, ap, sym, arith}
+use Rattle.std.proofs.Common.{◌∙◌, sym, arith}
 use Rattle.std.specs.Prelude.{slice_get}
-use Rattle.tx_plan.specs.Plan.{figures_of}
 use Rattle.tx_plan.proofs.ByIndex.{entry_at}
 use Rattle.tx_join.proofs.NextDeclared.{no_range, all_ranges, is_taken, taken_next, not_none}
 use Rattle.tx_join.proofs.StepsDeclared.{range_fits, range_added}
