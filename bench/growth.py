@@ -309,13 +309,13 @@ def times_of(runs):
 
 def is_marked(runs):
     """Whether the time grows with the wrong thing."""
-    *_, before, last = runs
+    before, last = runs[-2:][0], runs[-1]
     grown = max(exponent(before.read, last.read), exponent(before.written, last.written))
     return last.seconds is None or last.seconds > LONG and exponent(before.seconds, last.seconds) > grown + ABOVE
 
 
 def row(family, words, runs):
-    *_, before, last = runs
+    before, last = runs[-2:][0], runs[-1]
     seconds = ", ".join("given up" if it.seconds is None else f"{it.seconds:.3f}" for it in runs)
     exponents = ", ".join("-" if it is None else f"{it:.1f}" for it in times_of(runs))
     grown = [f"{exponent(before.read, last.read):.1f}", f"{exponent(before.written, last.written):.1f}", f"{last.written:,}"]
