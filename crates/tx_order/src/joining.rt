@@ -63,7 +63,8 @@ fn furthest<A: Allocator + Copy>(
     let mut good = from + 1;
     let mut bad = last;
     while good + 1 < bad {
-        let middle = good + (bad - good) / 2;
+        // The step doubles while it is safe, and then halves: most stages have few levels.
+        let middle = good + ((bad - good) / 2).min(good - from);
         if joins(alloc, transition, origins, code, from, middle)? {
             good = middle;
         } else {
