@@ -269,6 +269,8 @@ def run(command, folder, seconds):
     program.stdout.close()
     _, status, used = os.wait4(program.pid, 0)
     program.returncode = os.waitstatus_to_exitcode(status)
+    if program.returncode > (2 if "lint" in command else 1):
+        raise RuntimeError(f"the status of {' '.join(command[1:])} is {program.returncode}")
     made = [os.path.join(folder, it) for it in command if it.startswith("out.")]
     written += sum(os.path.getsize(it) for it in made if os.path.exists(it))
     return (used.ru_utime + used.ru_stime if program.returncode >= 0 else None), written
