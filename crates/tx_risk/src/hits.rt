@@ -1,5 +1,5 @@
-// Which codes an outage may cut off at all.
-ghost use Rattle.std.specs.Prelude.{◌≡◌, ◌<◌, ◌+◌, ◌==◌, ℕ, length, IfOk};
+// Of which lists an outage leaves nothing.
+ghost use Rattle.std.specs.Prelude.{◌≡◌, ◌<◌, ◌+◌, ◌==◌, ℕ, filter, length, IfOk};
 ghost use Rattle.std.specs.List.{list_any};
 ghost use Rattle.tx_plan.specs.Among.{Among};
 ghost use Rattle.tx_risk.specs.inner.Marked.{marked};
@@ -79,9 +79,20 @@ fn is_emptied<A: Allocator>(left: &Left<'_, A>, outage: &Outage, exchange: Excha
     !list.is_empty() && !is_failing(outage, exchange) && left.are_gone(list)
 }
 
-/// Whether nothing is left of a list for the code, of an exchange among these.
-pub fn is_hit<A: Allocator>(left: &Left<'_, A>, ends: &[ExchangeId], outage: &Outage) -> bool
-    ensures { result ≡ list_any (is_emptied left.now outage.now) ends.now }
+/// The exchanges among these of whose lists for the code nothing is left.
+pub fn emptied<A: Allocator + Copy>(
+    alloc: A,
+    left: &Left<'_, A>,
+    ends: &[ExchangeId],
+    outage: &Outage,
+) -> Result<Vec<ExchangeId, A>, NoMemory>
+    ensures { IfOk result (λ dead. dead.items ≡ filter (is_emptied left.now outage.now) ends.now) }
 {
-    ends.iter().any(|end| is_emptied(left, outage, *end))
+    let mut dead_ends = Vec::new(alloc);
+    for end in ends {
+        if is_emptied(left, outage, *end) {
+            dead_ends.push(*end)?;
+        }
+    }
+    Ok(dead_ends)
 }

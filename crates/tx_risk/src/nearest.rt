@@ -1,20 +1,12 @@
-// How far exchanges are from a goal.
-ghost use Rattle.std.specs.Prelude.{◌≡◌, ◌↔◌, true, IfOk};
+// How far exchanges are from a dead end, and which of them have a way home.
+ghost use Rattle.std.specs.Prelude.{◌≡◌, IfOk};
 ghost use Rattle.tx_risk.specs.inner.Left.{left_net};
-ghost use Rattle.tx_risk.specs.inner.Orders.{IsOrder};
-ghost use Rattle.tx_risk.specs.inner.Nearest.{IsGoal, IsDistance, IsKnownFrom, AreNearest, distance_in, nearer, nearest_step, step_by};
+ghost use Rattle.tx_risk.specs.inner.Nearest.{AreDeadEnds, AreBehind, AreNearest, AreWaysHome, distance_in, nearer, nearest_step, step_by, has_way};
 
 use crate::left::Left;
 use std::alloc::Allocator;
 use tx_plan::{ExchangeId, GroupId};
 use tx_text::NoMemory;
-
-/// What a walk is to come to: an exchange where no group is left, or the home.
-#[derive(Clone, Copy)]
-pub enum Goal {
-    DeadEnd,
-    Home,
-}
 
 /// A step by a group to an exchange, and how far a goal is from there.
 #[derive(Clone, Copy)]
@@ -22,17 +14,6 @@ pub struct Step {
     pub group: GroupId,
     pub to: ExchangeId,
     pub distance: usize,
-}
-
-/// Whether a walk may end at an exchange.
-fn is_goal<A: Allocator>(left: &Left<'_, A>, goal: Goal, exchange: ExchangeId) -> bool
-    ensures { result ≡ true ↔ IsGoal (left_net left.now) goal exchange }
-{
-    let is_home = exchange == left.home();
-    match goal {
-        Goal::DeadEnd => { !is_home && left.are_gone(left.list(exchange)) }
-        Goal::Home => is_home,
-    }
 }
 
 /// The distance of an exchange, if one is kept.
@@ -88,41 +69,67 @@ pub fn nearest_step<A: Allocator>(
         .fold(None, nearer)
 }
 
-/// The distance of an exchange, where those of the exchanges to which its list leads are kept.
-fn distance_of<A: Allocator>(
-    left: &Left<'_, A>,
-    goal: Goal,
-    distances: &[Option<usize>],
-    exchange: ExchangeId,
-) -> Option<usize>
-    requires { IsKnownFrom (left_net left.now) goal distances.now exchange }
-    ensures { IsDistance (left_net left.now) goal exchange result }
-{
-    if is_goal(left, goal, exchange) {
-        return Some(0);
-    }
-    if exchange == left.home() {
-        return None;
-    }
-    let step = nearest_step(left, distances, exchange)?;
-    Some(step.distance + 1)
-}
-
-/// The steps of a shortest way to a goal from each exchange of a walk, if there is one.
+/// The steps of a shortest way to a dead end from each exchange of a walk, if there is one, where
+/// these are the dead ends and the exchanges behind them.
 pub fn distances_to<A: Allocator + Copy>(
     alloc: A,
     left: &Left<'_, A>,
-    goal: Goal,
-    order: &[ExchangeId],
+    dead_ends: &[ExchangeId],
+    behind: &[ExchangeId],
 ) -> Result<Vec<Option<usize>, A>, NoMemory>
-    requires { IsOrder (left_net left.now) order.now }
-    ensures { IfOk result (λ d. AreNearest (left_net left.now) goal d.items) }
+    requires dead_ends { AreDeadEnds (left_net left.now) dead_ends.now }
+    requires behind { AreBehind (left_net left.now) dead_ends.now behind.now }
+    ensures { IfOk result (λ d. AreNearest (left_net left.now) d.items) }
 {
     let mut distances = vec![in alloc; None; left.exchanges()]?;
-    for index in 0..order.len() {
-        let exchange = order[index];
-        let distance = distance_of(left, goal, &distances, exchange);
-        distances[exchange.index()] = distance;
+    for end in dead_ends {
+        distances[end.index()] = Some(0);
+    }
+    for exchange in behind {
+        if distances[exchange.index()].is_some() {
+            continue;
+        }
+        if let Some(step) = nearest_step(left, &distances, *exchange) {
+            distances[exchange.index()] = Some(step.distance + 1);
+        }
     }
     Ok(distances)
+}
+
+/// Whether a group that is left leads from an exchange to one that has a way home.
+fn has_way<A: Allocator>(left: &Left<'_, A>, homes: &[bool], exchange: ExchangeId) -> bool
+    ensures { result ≡ has_way (left_net left.now) homes.now exchange }
+{
+    left.list(exchange)
+        .iter()
+        .filter(|group| !left.is_gone(**group))
+        .any(|group| left
+            .far(*group, exchange)
+            .is_some_and(|to| homes[to.index()]))
+}
+
+/// Whether a way home is left from each exchange of a walk. One from which no way leads to a dead
+/// end has one.
+pub fn ways_home<A: Allocator + Copy>(
+    alloc: A,
+    left: &Left<'_, A>,
+    distances: &[Option<usize>],
+    dead_ends: &[ExchangeId],
+    behind: &[ExchangeId],
+) -> Result<Vec<bool, A>, NoMemory>
+    requires nearest { AreNearest (left_net left.now) distances.now }
+    requires dead_ends { AreDeadEnds (left_net left.now) dead_ends.now }
+    requires behind { AreBehind (left_net left.now) dead_ends.now behind.now }
+    ensures { IfOk result (λ homes. AreWaysHome (left_net left.now) homes.items) }
+{
+    let mut homes = vec![in alloc; true; left.exchanges()]?;
+    for end in dead_ends {
+        homes[end.index()] = false;
+    }
+    for exchange in behind {
+        if distance_at(distances, *exchange).is_some() {
+            homes[exchange.index()] = has_way(left, &homes, *exchange);
+        }
+    }
+    Ok(homes)
 }

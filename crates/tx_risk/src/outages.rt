@@ -13,7 +13,7 @@ ghost use Rattle.tx_risk.specs.inner.Orders.{AreOrders};
 
 use crate::cut::{Cut, Outcome};
 use crate::cutting::add_cuts;
-use crate::hits::{ends_of, is_hit};
+use crate::hits::{emptied, ends_of};
 use crate::left::Left;
 use crate::orders::orders_of;
 use crate::outage::Outage;
@@ -63,11 +63,14 @@ fn marks_of<A: Allocator + Copy>(
 fn cuts_of<A: Allocator + Copy>(
     alloc: A,
     plan: &Plan<A>,
+    ranks: &Cert<A>,
     risks: &Risks<A>,
     orders: &[Vec<ExchangeId, A>],
     origins: &[bool],
     outage: &Outage,
 ) -> Result<Vec<Cut<A>, A>, NoMemory>
+    requires certified { (limit : ℕ) × (spare : ℕ)
+        × IsCertified plan.now (ranks_of ranks.now) limit spare }
     requires orders { AreOrders plan.now orders.now }
     requires origins { AreOrigins plan.now origins.now }
     requires grade { HasGrade plan.now }
@@ -84,10 +87,14 @@ fn cuts_of<A: Allocator + Copy>(
             gone: &gone,
             code: CodeId::of(index),
         };
-        if !is_hit(&left, &ends, outage) {
+        let dead_ends = emptied(alloc, &left, &ends, outage)?;
+        if dead_ends.is_empty() {
             continue;
         }
-        add_cuts(alloc, &left, &orders[index], origins, outage, &mut cuts)?;
+        let order = &orders[index];
+        add_cuts(
+            alloc, &left, ranks, &dead_ends, order, origins, outage, &mut cuts,
+        )?;
     }
     Ok(cuts)
 }
@@ -164,7 +171,7 @@ pub fn all_outcomes<A: Allocator + Copy>(
     let mut outcomes = Vec::new(alloc);
     for i in 0..outages.len() {
         let outage = outages[i];
-        let cuts = cuts_of(alloc, plan, risks, &orders, &origins, &outage)?;
+        let cuts = cuts_of(alloc, plan, ranks, risks, &orders, &origins, &outage)?;
         outcomes.push(Outcome { outage, cuts })?;
     }
     Ok(outcomes)

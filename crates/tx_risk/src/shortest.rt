@@ -1,7 +1,6 @@
 // A shortest walk to a dead end.
 ghost use Rattle.std.specs.Prelude.{◌≡◌, ℕ, length, Some, true, IfOk};
 ghost use Rattle.tx_risk.specs.Risks.{IsDeadEnd};
-ghost use Rattle.tx_risk.specs.declared.nearest.Goal.{Goal};
 ghost use Rattle.tx_risk.specs.inner.Left.{left_net};
 ghost use Rattle.tx_risk.specs.inner.Nearest.{AreNearest, distance_in};
 
@@ -19,7 +18,7 @@ pub fn walk_from<A: Allocator + Copy>(
     dead_ends: &[Option<usize>],
     start: ExchangeId,
 ) -> Result<Walk<A>, NoMemory>
-    requires nearest { AreNearest (left_net left.now) Goal.DeadEnd dead_ends.now }
+    requires nearest { AreNearest (left_net left.now) dead_ends.now }
     requires origin { (left_net left.now).is_origin start ≡ true }
     requires cut { (d : ℕ) × (distance_in dead_ends.now start ≡ Some d) }
     ensures start { IfOk result (λ w. w.start ≡ start) }
