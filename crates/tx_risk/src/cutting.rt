@@ -1,24 +1,25 @@
 // From where a risk cuts off a code.
-ghost use Rattle.std.specs.Prelude.{◌≡◌, ◌<◌, ◌+◌, ℕ, List, length, IfOk};
+ghost use Rattle.std.specs.Prelude.{◌≡◌, ◌<◌, ◌+◌, ℕ, List, length, take, IfOk};
+ghost use Rattle.tx_plan.specs.Among.{Among};
+ghost use Rattle.tx_plan.specs.Certified.{IsCertified};
+ghost use Rattle.tx_cert.specs.Certificate.{ranks_of};
 ghost use Rattle.tx_rank.specs.Judged.{AreOrigins};
 ghost use Rattle.tx_risk.specs.Outages.{is_asked, fails_at};
 ghost use Rattle.tx_risk.specs.Survivals.{HasGrade};
 ghost use Rattle.tx_risk.specs.declared.cut.Cut.{Cut};
 ghost use Rattle.tx_risk.specs.inner.Left.{left_net};
-ghost use Rattle.tx_plan.specs.Certified.{IsCertified};
-ghost use Rattle.tx_cert.specs.Certificate.{ranks_of};
-ghost use Rattle.tx_risk.specs.inner.Orders.{IsOrder, IsSortedByRank};
-ghost use Rattle.tx_risk.specs.inner.Nearest.{AreDeadEnds, AreBehind, AreNearest, AreWaysHome};
+ghost use Rattle.tx_risk.specs.inner.Orders.{IsOrder, IsByRank, is_above};
+ghost use Rattle.tx_risk.specs.inner.Nearest.{AreDeadEnds, LeadsToDeadEnd, AreNearest};
 ghost use Rattle.tx_risk.specs.inner.Cutting.{Adds, AreCuts, AreCutsBefore};
 
 use crate::cut::Cut;
 use crate::left::Left;
-use crate::nearest::{distance_at, distances_to, ways_home};
+use crate::nearest::{Ways, ways_at, ways_of};
 use crate::outage::Outage;
 use crate::shortest::walk_from;
 use std::alloc::Allocator;
 use tx_cert::Cert;
-use tx_plan::ExchangeId;
+use tx_plan::{CodeId, ExchangeId};
 use tx_text::NoMemory;
 
 /// Whether an exchange is the one that fails.
@@ -31,36 +32,35 @@ pub fn is_failing(outage: &Outage, exchange: ExchangeId) -> bool
     }
 }
 
-/// Adds the cut from an exchange, if it is in question and there is one.
+/// Adds the cut from an exchange, if there is one and it is in question.
 fn add_cut<A: Allocator + Copy>(
     alloc: A,
     left: &Left<'_, A>,
     origins: &[bool],
     outage: &Outage,
-    dead_ends: &[Option<usize>],
-    homes: &[bool],
+    kept: &[Ways],
     exchange: ExchangeId,
     cuts: &mut Vec<Cut<A>, A>,
 ) -> Result<(), NoMemory>
     requires exchange { exchange < length left.now.plan.exchanges }
     requires grade { HasGrade left.now.plan }
     requires origins { AreOrigins left.now.plan origins.now }
-    requires dead_ends { AreNearest (left_net left.now) dead_ends.now }
-    requires homes { AreWaysHome (left_net left.now) homes.now }
+    requires nearest { AreNearest (left_net left.now) kept.now }
     ensures { IfOk result (λ _. (first : List (Cut A))
         → Adds (AreCutsBefore left.now outage.now exchange) first cuts.old.items
         → Adds (AreCutsBefore left.now outage.now (exchange + 1)) first cuts.new.items) }
 {
-    if distance_at(dead_ends, exchange).is_none() {
+    let ways = ways_at(kept, exchange);
+    if ways.dead_end.is_none() {
         return Ok(());
     }
     if !is_asked(left, origins, outage, exchange) {
         return Ok(());
     }
-    let walk = walk_from(alloc, left, dead_ends, exchange)?;
+    let walk = walk_from(alloc, left, kept, exchange)?;
     cuts.push(Cut {
         code: left.code,
-        stray: homes[exchange.index()],
+        stray: ways.home,
         walk,
     })?;
     Ok(())
@@ -81,28 +81,41 @@ fn is_asked<A: Allocator>(
         && (!is_failing(outage, exchange) && !is_failing(outage, left.plan.home(left.code)))
 }
 
-/// The part of the order that is ranked above the least of the dead ends: all other exchanges lead
-/// to none of them.
-fn behind<'o, A: Allocator>(
+/// Whether an exchange is ranked above one of these.
+fn is_above<A: Allocator>(
+    ranks: &Cert<A>,
+    code: CodeId,
+    exchange: ExchangeId,
+    others: &[ExchangeId],
+) -> bool
+    ensures { result ≡ is_above (ranks_of ranks.now code) others.now exchange }
+{
+    let rank = ranks.rank(code, exchange).unwrap_or(0);
+    others
+        .iter()
+        .any(|other| ranks.rank(code, *other).unwrap_or(0) < rank)
+}
+
+/// How many exchanges of the order come before all that are ranked above a dead end. From none of
+/// them a way leads to a dead end, but from the dead ends themselves.
+fn not_above<A: Allocator>(
     ranks: &Cert<A>,
     left: &Left<'_, A>,
     dead_ends: &[ExchangeId],
-    order: &'o [ExchangeId],
-) -> &'o [ExchangeId]
+    order: &[ExchangeId],
+) -> usize
+    requires certified { (limit : ℕ) × (spare : ℕ)
+        × IsCertified left.now.plan (ranks_of ranks.now) limit spare }
     requires order { IsOrder (left_net left.now) order.now }
-    requires certified { (limit : ℕ) × (spare : ℕ) × IsCertified left.now.plan (ranks_of ranks.now)
-        limit spare }
-    requires sorted { IsSortedByRank (ranks_of ranks.now left.now.code) order.now }
-    requires dead_ends { AreDeadEnds (left_net left.now) dead_ends.now }
-    ensures { AreBehind (left_net left.now) dead_ends.now result.now }
+    requires by_rank { IsByRank (ranks_of ranks.now left.now.code) order.now }
+    requires dead_ends { AreDeadEnds (left_net left.now) order.now dead_ends.now }
+    ensures { (x : ℕ) → Among x (take result order.now)
+        → LeadsToDeadEnd (left_net left.now) x → Among x dead_ends.now }
 {
-    let rank = |exchange: &ExchangeId| ranks.rank(left.code, *exchange);
-    let least = dead_ends.iter().filter_map(rank).min();
-    let from = order.partition_point(|exchange| rank(exchange) <= least);
-    &order[from..]
+    order.partition_point(|exchange| !is_above(ranks, left.code, *exchange, dead_ends))
 }
 
-/// Adds the cuts of one code, in order of the exchanges, where these are the dead ends.
+/// Adds the cuts of one code, in order of the exchanges.
 pub fn add_cuts<A: Allocator + Copy>(
     alloc: A,
     left: &Left<'_, A>,
@@ -113,23 +126,19 @@ pub fn add_cuts<A: Allocator + Copy>(
     outage: &Outage,
     cuts: &mut Vec<Cut<A>, A>,
 ) -> Result<(), NoMemory>
-    requires grade { HasGrade left.now.plan }
-    requires certified { (limit : ℕ) × (spare : ℕ) × IsCertified left.now.plan (ranks_of ranks.now)
-        limit spare }
+    requires certified { (limit : ℕ) × (spare : ℕ)
+        × IsCertified left.now.plan (ranks_of ranks.now) limit spare }
     requires order { IsOrder (left_net left.now) order.now }
-    requires sorted { IsSortedByRank (ranks_of ranks.now left.now.code) order.now }
-    requires dead_ends { AreDeadEnds (left_net left.now) dead_ends.now }
+    requires by_rank { IsByRank (ranks_of ranks.now left.now.code) order.now }
+    requires dead_ends { AreDeadEnds (left_net left.now) order.now dead_ends.now }
     requires origins { AreOrigins left.now.plan origins.now }
     ensures { IfOk result (λ _. Adds (AreCuts left.now outage.now) cuts.old.items cuts.new.items) }
 {
-    let behind = behind(ranks, left, dead_ends, order);
-    let distances = distances_to(alloc, left, dead_ends, behind)?;
-    let homes = ways_home(alloc, left, &distances, dead_ends, behind)?;
+    let from = not_above(ranks, left, dead_ends, order);
+    let kept = ways_of(alloc, left, dead_ends, order, from)?;
     for index in 0..left.exchanges() {
         let exchange = ExchangeId::of(index);
-        add_cut(
-            alloc, left, origins, outage, &distances, &homes, exchange, cuts,
-        )?;
+        add_cut(alloc, left, origins, outage, &kept, exchange, cuts)?;
     }
     Ok(())
 }

@@ -1,7 +1,8 @@
 // Of which lists an outage leaves nothing.
-ghost use Rattle.std.specs.Prelude.{◌≡◌, ◌<◌, ◌+◌, ◌==◌, ℕ, filter, length, IfOk};
+ghost use Rattle.std.specs.Prelude.{◌≡◌, ◌<◌, ◌+◌, ◌==◌, ℕ, filter, length, not, IfOk};
 ghost use Rattle.std.specs.List.{list_any};
 ghost use Rattle.tx_plan.specs.Among.{Among};
+ghost use Rattle.tx_risk.specs.Outages.{fails_at};
 ghost use Rattle.tx_risk.specs.inner.Marked.{marked};
 ghost use Rattle.tx_risk.specs.inner.Hits.{AreEnds, is_emptied};
 
@@ -71,28 +72,36 @@ pub fn ends_of<A: Allocator + Copy>(
     Ok(ends)
 }
 
-/// Whether nothing is left of the list of an exchange that has one, and does not fail.
-fn is_emptied<A: Allocator>(left: &Left<'_, A>, outage: &Outage, exchange: ExchangeId) -> bool
-    ensures { result ≡ is_emptied left.now outage.now exchange }
+/// Whether an exchange has a list for the code, and nothing is left of it.
+fn is_emptied<A: Allocator>(left: &Left<'_, A>, exchange: ExchangeId) -> bool
+    ensures { result ≡ is_emptied left.now exchange }
 {
     let list = left.list(exchange);
-    !list.is_empty() && !is_failing(outage, exchange) && left.are_gone(list)
+    !list.is_empty() && left.are_gone(list)
 }
 
-/// The exchanges among these of whose lists for the code nothing is left.
+/// Those of these exchanges that are emptied.
 pub fn emptied<A: Allocator + Copy>(
     alloc: A,
     left: &Left<'_, A>,
     ends: &[ExchangeId],
-    outage: &Outage,
 ) -> Result<Vec<ExchangeId, A>, NoMemory>
-    ensures { IfOk result (λ dead. dead.items ≡ filter (is_emptied left.now outage.now) ends.now) }
+    ensures { IfOk result (λ emptied. emptied.items ≡ filter (is_emptied left.now) ends.now) }
 {
-    let mut dead_ends = Vec::new(alloc);
+    let mut emptied = Vec::new(alloc);
     for end in ends {
-        if is_emptied(left, outage, *end) {
-            dead_ends.push(*end)?;
+        if is_emptied(left, *end) {
+            emptied.push(*end)?;
         }
     }
-    Ok(dead_ends)
+    Ok(emptied)
+}
+
+/// Whether one of these exchanges does not fail.
+pub fn is_hit(emptied: &[ExchangeId], outage: &Outage) -> bool
+    ensures { result ≡ list_any (λ x. not (fails_at outage.now x)) emptied.now }
+{
+    emptied
+        .iter()
+        .any(|exchange| !is_failing(outage, *exchange))
 }

@@ -7,13 +7,12 @@ ghost use Rattle.tx_rank.specs.Judged.{AreOrigins};
 ghost use Rattle.tx_risk.specs.NamedRisks.{AreRisksFor};
 ghost use Rattle.tx_risk.specs.declared.outage.Outage.TheVariants.{Group, Exchange, Named};
 ghost use Rattle.tx_risk.specs.Outages.{risk_of, all_outages, AreCutsOf, AreOutcomes};
-ghost use Rattle.tx_risk.specs.Survivals.{HasGrade};
 ghost use Rattle.tx_risk.specs.inner.Marked.{marked};
 ghost use Rattle.tx_risk.specs.inner.Orders.{AreOrders};
 
 use crate::cut::{Cut, Outcome};
 use crate::cutting::add_cuts;
-use crate::hits::{emptied, ends_of};
+use crate::hits::{emptied, ends_of, is_hit};
 use crate::left::Left;
 use crate::orders::orders_of;
 use crate::outage::Outage;
@@ -59,7 +58,7 @@ fn marks_of<A: Allocator + Copy>(
     Ok(marks)
 }
 
-/// Whom an outage cuts off, code by code: nobody, where no list of the code is hit.
+/// Whom an outage cuts off, code by code: nobody, where only the exchange that fails is emptied.
 fn cuts_of<A: Allocator + Copy>(
     alloc: A,
     plan: &Plan<A>,
@@ -71,9 +70,8 @@ fn cuts_of<A: Allocator + Copy>(
 ) -> Result<Vec<Cut<A>, A>, NoMemory>
     requires certified { (limit : ℕ) × (spare : ℕ)
         × IsCertified plan.now (ranks_of ranks.now) limit spare }
-    requires orders { AreOrders plan.now orders.now }
+    requires orders { AreOrders plan.now (ranks_of ranks.now) orders.now }
     requires origins { AreOrigins plan.now origins.now }
-    requires grade { HasGrade plan.now }
     requires known { (g : ℕ) → risk_of plan.now risks.now outage.now g ≡ true
         → g < length plan.now.groups }
     ensures { IfOk result (λ cuts. AreCutsOf plan.now risks.now outage.now cuts.items) }
@@ -87,8 +85,8 @@ fn cuts_of<A: Allocator + Copy>(
             gone: &gone,
             code: CodeId::of(index),
         };
-        let dead_ends = emptied(alloc, &left, &ends, outage)?;
-        if dead_ends.is_empty() {
+        let dead_ends = emptied(alloc, &left, &ends)?;
+        if !is_hit(&dead_ends, outage) {
             continue;
         }
         let order = &orders[index];

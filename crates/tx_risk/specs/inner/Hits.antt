@@ -16,11 +16,11 @@ abbrev pub AreEnds : Plan → Risk → ℕ → List ℕ → Type 0
 AreEnds p risk i ends =
     (g x : ℕ) → g < i → risk g ≡ true → is_some (other_end p g x) ≡ true → Among x ends
 
--- nothing is left of the list of x for the code; it has one, and does not fail
-abbrev pub is_emptied : Left → Outage → (x : ℕ) → Bool
-is_emptied l o x =
+-- x has a list for the code, and nothing is left of it
+abbrev pub is_emptied : Left → (x : ℕ) → Bool
+is_emptied l x =
     not (length (route_list l.plan x l.code) == 0)
-    && (not (fails_at o x) && list_all (gone l) (route_list l.plan x l.code))
+    && list_all (gone l) (route_list l.plan x l.code)
 
 -- where an exchange fails, all groups of which it is an end go
 abbrev pub TakesItsGroups : Plan → Risk → Outage → Type 0

@@ -1,16 +1,18 @@
-use Rattle.std.proofs.Common.{◌≡◌, ◌<◌, ◌∙◌, [], Some, sym, ap, subst, length, arith, append-nil}
+use Rattle.std.proofs.Common.{◌≡◌, ◌<◌, ◌∙◌, [], List, Some, filter, sym, ap, subst, length, arith, append-nil, refl}
 use Rattle.std.specs.Prelude.{slice_get}
 use Rattle.std.proofs.lemmas.Option.{slice_get-get_or}
+use Rattle.tx_cert.specs.Certificate.{ranks_of}
 use Rattle.tx_rank.specs.Walks.{net_of}
 use Rattle.tx_risk.specs.Outages.{risk_of, AreCutsBelow, AreCutsOfCode}
 use Rattle.tx_risk.specs.inner.Left.{Left, IsLeft, left_net}
-use Rattle.tx_risk.specs.inner.Orders.{IsOrder}
+use Rattle.tx_risk.specs.inner.Orders.{IsOrder, IsByRank}
+use Rattle.tx_risk.specs.inner.Nearest.{AreDeadEnds}
 use Rattle.tx_risk.specs.inner.Cutting.{Adds}
 use Rattle.tx_risk.specs.inner.Marked.{marked}
 use Rattle.tx_risk.specs.inner.Hits.{AreEnds, TakesItsGroups}
 use Rattle.tx_risk.proofs.Marking.{same_risk}
 use Rattle.tx_risk.proofs.Ordering.{order_left}
-use Rattle.tx_risk.proofs.Unhit.{takes, unhit}
+use Rattle.tx_risk.proofs.Unhit.{takes, unhit, emptied_dead}
 use Rattle.tx_risk.proofs.AddedOutages.{codes_next}
 use Rattle.tx_risk.proofs.outages.cuts_of.Goals as goal
 
@@ -35,9 +37,10 @@ loop-index-preserved-then-not-is_hit g c =
     (sym c.deref-in-loop-index-2.ensures.value)
     (subst (λ l. AreEnds p (marked l) (length p.groups) c.in_ok-ends.ends.items) gone
     c.in_ok-ends.ensures) in
-    let none = unhit left is o c.requires.grade
-    (subst (λ r. TakesItsGroups p r o) (sym same) (takes p c.args.risks.now o))
-    c.deref-in-loop-index-2.result.now ends (sym c.is_hit.ensures ∙ c.if-not-is_hit.true) in
+    let k = c.requires.certified in
+    let dead = sym c.deref-in-loop-index-3.ensures.value in
+    let none = unhit left is c.deref-in-loop-index-2.result.now ends (ranks_of c.args.ranks.now) k.0 k.1 k.2 o
+    (subst (λ r. TakesItsGroups p r o) (sym same) (takes p c.args.risks.now o)) ? in
     let mine : Adds (AreCutsOfCode p risk o c.of.result) old old = record {
       mine = [];
       added = sym (append-nil old);
