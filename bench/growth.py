@@ -212,7 +212,7 @@ def of_risks(risks):
 SAFE = "--limit 1 --spare 0"
 CODES, LINT, GRADE, SURVIVE, RUN = "codes a.plan", "lint a.plan", "grade a.plan", "survive a.plan", "run a.plan a.script"
 READ = [CODES, LINT]
-DRAWN = ["draw a.plan", f"draw a.plan --code 001 {SAFE}", "trace a.plan X1 000"]
+DRAWN = ["draw a.plan", f"draw a.plan --code 001 {SAFE}", "trace a.plan X1 000", "fill a.plan X1 000"]
 JUDGED = [f"audit a.plan {SAFE}", GRADE, f"mend a.plan {SAFE}", SURVIVE]
 CHANGED = [f"change a.plan b.plan {SAFE}", f"order a.plan b.plan {SAFE}"]
 MADE = [f"audit a.plan {SAFE} --cert out.cert", f"mend a.plan {SAFE} --plan out.plan --cert out.cert", f"change a.plan b.plan {SAFE} --cert out.cert"]

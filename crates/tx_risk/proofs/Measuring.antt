@@ -1,9 +1,9 @@
 -- Where the ways from an exchange lead, by those of the exchanges to which its list leads.
-use Rattle.std.proofs.Common.{◌≡◌, ◌≢◌, ◌↔◌, ℕ, zero, suc, ◌+◌, ◌^◌, ◌<◌, ◌≤◌, true, false, nat_lt, List, [], ◌∷◌, ◌++◌, ◌⊎◌, map, fold, inl, inr, length, get_or, take, Option, Some, None, refl, sym, ap, ◌∙◌, subst, arith}
+use Rattle.std.proofs.Common.{◌≡◌, ◌≢◌, ◌↔◌, ℕ, Bool, zero, suc, ◌+◌, ◌<◌, ◌≤◌, true, false, nat_lt, List, [], ◌∷◌, ◌++◌, ◌⊎◌, map, fold, inl, inr, length, get_or, take, Option, Some, None, refl, sym, ap, ◌∙◌, subst, arith}
 use Rattle.std.specs.Prelude.{slice_get, replicate, if◌then◌else◌}
 use Rattle.std.specs.Option.{option_and_then, option_map, option_map_or}
 use Rattle.std.proofs.lemmas.Bool.{cases_eq, ltb-true, ltb-false, false≢true}
-use Rattle.std.proofs.lemmas.List.{get_or-set_same, get_or-set_other, get_or-replicate, length-set, length-replicate}
+use Rattle.std.proofs.lemmas.List.{get_or-set_same, get_or-set_other, length-set, length-replicate}
 use Rattle.std.proofs.lemmas.Option.{none-some, same_Some}
 use Rattle.std.proofs.Math.ListN.{set}
 use Rattle.tx_plan.specs.Among.{Among}
@@ -331,6 +331,21 @@ module _ (n : Net) (order ends : List ℕ) (o : IsOrder n order) (dead : AreDead
           | inr ne ↦ subst (AreWaysFrom n y)
               (sym (get_or-set_other kept x y w home_alone ne)) (old ne)
         ]
+
+    -- with the nearest step to a dead end
+    pub kept_step : x ≢ n.home → (s : Step) → nearest_step n kept x ≡ Some s → (home : Bool)
+        → home ≡ has_way_home n kept x
+        → AreKept n order ends (i + 1) (set kept x (record {
+          dead_end = Some (s.distance + 1);
+          home = home;
+        }))
+    kept_step away s is home says =
+        let on = known away in
+        let led = led_home n kept x on away in
+        kept_next (record { dead_end = Some (s.distance + 1); home = home }) (record {
+          distance = measured n kept x on away s is;
+          home = (λ t. led.0 (sym says ∙ t), λ h. says ∙ led.1 h);
+        })
 
     -- without a step to a dead end it leads to none, or is one
     pub kept_same : nearest_step n kept x ≡ None → AreKept n order ends (i + 1) kept

@@ -9,12 +9,11 @@ use Rattle.std.proofs.lemmas.List.Sorted.{Contains-permutation, IsPermutation-sy
 use Rattle.tx_plan.specs.Among.{Among}
 use Rattle.tx_plan.proofs.Among.{among_filter, filter_among, among_at}
 use Rattle.tx_rank.specs.Walks.{Net, Goes, end_of}
-use Rattle.tx_rank.specs.Nets.{IsNet, Certifies, LeadsBelow}
-use Rattle.tx_rank.specs.Heights.{IsReached}
+use Rattle.tx_rank.specs.Nets.{IsNet, Certifies}
 use Rattle.tx_rank.proofs.Ranks.{Falls, one_down, all_down}
 use Rattle.tx_rank.proofs.Looks.{leads_within, among_at as listed}
 use Rattle.tx_machine.proofs.Lists.{none_any, any_mem}
-use Rattle.tx_risk.specs.Risks.{Risk, left_of, without, IsDeadEnd, LeadsHome}
+use Rattle.tx_risk.specs.Risks.{Risk, left_of, without, LeadsHome}
 use Rattle.tx_risk.specs.inner.Orders.{IsOrder, IsByRank, rank_or_0, is_above}
 use Rattle.tx_risk.specs.inner.Nearest.{AreDeadEnds, LeadsToDeadEnd}
 use Rattle.tx_risk.proofs.LeftLists.{index_among}
@@ -217,14 +216,14 @@ module _ (n : Net) (net : IsNet n) (ranks : ℕ → Option ℕ) (limit spare : �
 -- THE FIRST OF AN ORDER, RANKED ABOVE NO DEAD END
 not_above_less : (ranks : ℕ → Option ℕ) (others : List ℕ) (x y : ℕ) → rank_or_0 ranks x ≤ rank_or_0 ranks y
     → is_above ranks others y ≡ false → is_above ranks others x ≡ false
-not_above_less ranks others x y low no =
+not_above_less ranks others x y low none =
     elim (is_above ranks others x) as (λ b. is_above ranks others x ≡ b → b ≡ false) [
       | false ↦ λ e. refl
       | true ↦ λ e.
           let a = any_mem (λ z. nat_lt (rank_or_0 ranks z) (rank_or_0 ranks x)) others e in
           let less = ltb-true (rank_or_0 ranks a.0) (rank_or_0 ranks x) a.2 in
           let least = ltb-false (rank_or_0 ranks a.0) (rank_or_0 ranks y)
-          (none_any (λ z. nat_lt (rank_or_0 ranks z) (rank_or_0 ranks y)) others a.0 no a.1) in
+          (none_any (λ z. nat_lt (rank_or_0 ranks z) (rank_or_0 ranks y)) others a.0 none a.1) in
           absurd (omega arith)
     ] refl
 

@@ -7,12 +7,14 @@ ghost use Rattle.tx_rank.specs.Judged.{AreOrigins};
 ghost use Rattle.tx_risk.specs.Outages.{is_asked, fails_at};
 ghost use Rattle.tx_risk.specs.Survivals.{HasGrade};
 ghost use Rattle.tx_risk.specs.declared.cut.Cut.{Cut};
-ghost use Rattle.tx_risk.specs.inner.Left.{left_net};
+ghost use Rattle.tx_risk.specs.inner.Left.{gone, left_net};
 ghost use Rattle.tx_risk.specs.inner.Orders.{IsOrder, IsByRank, is_above};
+ghost use Rattle.tx_risk.specs.inner.Hits.{AreEnds, TakesItsGroups};
 ghost use Rattle.tx_risk.specs.inner.Nearest.{AreDeadEnds, LeadsToDeadEnd, AreNearest};
 ghost use Rattle.tx_risk.specs.inner.Cutting.{Adds, AreCuts, AreCutsBefore};
 
 use crate::cut::Cut;
+use crate::hits::{emptied, is_hit};
 use crate::left::Left;
 use crate::nearest::{Ways, ways_at, ways_of};
 use crate::outage::Outage;
@@ -112,16 +114,18 @@ fn not_above<A: Allocator>(
     ensures { (x : ℕ) → Among x (take result order.now)
         → LeadsToDeadEnd (left_net left.now) x → Among x dead_ends.now }
 {
-    order.partition_point(|exchange| !is_above(ranks, left.code, *exchange, dead_ends))
+    let code = left.code;
+    order.partition_point(|exchange| !is_above(ranks, code, *exchange, dead_ends))
 }
 
-/// Adds the cuts of one code, in order of the exchanges.
+/// Adds the cuts of one code, in order of the exchanges, where these are the ends of groups that go.
+/// There are none where only the exchange that fails is emptied.
 pub fn add_cuts<A: Allocator + Copy>(
     alloc: A,
     left: &Left<'_, A>,
     ranks: &Cert<A>,
-    dead_ends: &[ExchangeId],
     order: &[ExchangeId],
+    ends: &[ExchangeId],
     origins: &[bool],
     outage: &Outage,
     cuts: &mut Vec<Cut<A>, A>,
@@ -130,13 +134,19 @@ pub fn add_cuts<A: Allocator + Copy>(
         × IsCertified left.now.plan (ranks_of ranks.now) limit spare }
     requires order { IsOrder (left_net left.now) order.now }
     requires by_rank { IsByRank (ranks_of ranks.now left.now.code) order.now }
-    requires dead_ends { AreDeadEnds (left_net left.now) order.now dead_ends.now }
+    requires ends { AreEnds left.now.plan (gone left.now) (length left.now.plan.groups) ends.now }
+    requires takes { TakesItsGroups left.now.plan (gone left.now) outage.now }
     requires origins { AreOrigins left.now.plan origins.now }
     ensures { IfOk result (λ _. Adds (AreCuts left.now outage.now) cuts.old.items cuts.new.items) }
 {
-    let from = not_above(ranks, left, dead_ends, order);
-    let kept = ways_of(alloc, left, dead_ends, order, from)?;
-    for index in 0..left.exchanges() {
+    let exchanges = left.exchanges();
+    let dead_ends = emptied(alloc, left, ends)?;
+    if !is_hit(&dead_ends, outage) {
+        return Ok(());
+    }
+    let from = not_above(ranks, left, &dead_ends, order);
+    let kept = ways_of(alloc, left, &dead_ends, order, from)?;
+    for index in 0..exchanges {
         let exchange = ExchangeId::of(index);
         add_cut(alloc, left, origins, outage, &kept, exchange, cuts)?;
     }

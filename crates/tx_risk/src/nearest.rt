@@ -1,7 +1,7 @@
 // Where the ways from exchanges lead: how far a dead end is, and whether a way home is left.
-ghost use Rattle.std.specs.Prelude.{◌≡◌, ℕ, take, IfOk};
+ghost use Rattle.std.specs.Prelude.{◌≡◌, ◌<◌, ℕ, take, IfOk};
 ghost use Rattle.tx_plan.specs.Among.{Among};
-ghost use Rattle.tx_risk.specs.inner.Left.{left_net};
+ghost use Rattle.tx_risk.specs.inner.Left.{IsLeft, left_net};
 ghost use Rattle.tx_risk.specs.inner.Orders.{IsOrder};
 ghost use Rattle.tx_risk.specs.inner.Nearest.{AreDeadEnds, LeadsToDeadEnd, AreDeadEndsKept, AreNearest, ways_in, nearer, nearest_step, step_by, leads_home, has_way_home};
 
@@ -118,7 +118,8 @@ fn dead_ends_kept<A: Allocator + Copy>(
     dead_ends: &[ExchangeId],
 ) -> Result<Vec<Ways, A>, NoMemory>
     requires { (x : ℕ) → Among x dead_ends.now → x < (left_net left.now).exchanges }
-    ensures { IfOk result (λ kept.
+    ensures rules { IsLeft left.now }
+    ensures kept { IfOk result (λ kept.
         AreDeadEndsKept (left_net left.now) dead_ends.now kept.items) }
 {
     let mut kept = vec![in alloc; HOME_ALONE; left.exchanges()]?;

@@ -12,7 +12,7 @@ ghost use Rattle.tx_risk.specs.inner.Orders.{AreOrders};
 
 use crate::cut::{Cut, Outcome};
 use crate::cutting::add_cuts;
-use crate::hits::{emptied, ends_of, is_hit};
+use crate::hits::ends_of;
 use crate::left::Left;
 use crate::orders::orders_of;
 use crate::outage::Outage;
@@ -58,7 +58,7 @@ fn marks_of<A: Allocator + Copy>(
     Ok(marks)
 }
 
-/// Whom an outage cuts off, code by code: nobody, where only the exchange that fails is emptied.
+/// Whom an outage cuts off, code by code.
 fn cuts_of<A: Allocator + Copy>(
     alloc: A,
     plan: &Plan<A>,
@@ -85,13 +85,15 @@ fn cuts_of<A: Allocator + Copy>(
             gone: &gone,
             code: CodeId::of(index),
         };
-        let dead_ends = emptied(alloc, &left, &ends)?;
-        if !is_hit(&dead_ends, outage) {
-            continue;
-        }
-        let order = &orders[index];
         add_cuts(
-            alloc, &left, ranks, &dead_ends, order, origins, outage, &mut cuts,
+            alloc,
+            &left,
+            ranks,
+            &orders[index],
+            &ends,
+            origins,
+            outage,
+            &mut cuts,
         )?;
     }
     Ok(cuts)

@@ -8,7 +8,6 @@ use Rattle.tx_plan.specs.Routes.{route_list}
 use Rattle.tx_risk.specs.declared.outage.Outage.{Outage}
 use Rattle.tx_risk.specs.declared.outage.Outage.TheVariants.{Exchange}
 use Rattle.tx_risk.specs.Risks.{Risk, groups_of}
-use Rattle.tx_risk.specs.Outages.{fails_at}
 use Rattle.tx_risk.specs.inner.Left.{Left, gone}
 
 -- the ends of the first groups, if they go, are among these

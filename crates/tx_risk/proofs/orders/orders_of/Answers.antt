@@ -1,4 +1,4 @@
-use Rattle.std.proofs.Common.{◌≡◌, ◌+◌, ◌<◌, ◌∷◌, ◌++◌, [], ◌∙◌, inl, inr, sym, ap, subst, length, length-append, arith}
+use Rattle.std.proofs.Common.{◌≡◌, ◌+◌, ◌<◌, ◌∷◌, [], ◌∙◌, inl, inr, sym, ap, subst, length, length-append, arith}
 use Rattle.std.specs.Prelude.{slice_get}
 use Rattle.tx_cert.specs.Certificate.{ranks_of}
 use Rattle.tx_rank.specs.Walks.{net_of}

@@ -1,4 +1,3 @@
-use Rattle.std.proofs.Common.{◌+◌}
 use Rattle.std.specs.Prelude.{unwrap_or}
 use Rattle.tx_risk.specs.inner.Left.{left_net}
 use Rattle.tx_risk.specs.inner.Nearest.{distance_in}
