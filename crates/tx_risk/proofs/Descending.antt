@@ -7,7 +7,7 @@ use Rattle.tx_rank.proofs.Ways.{goes_push, end_push}
 use Rattle.tx_risk.specs.declared.nearest.Ways.{Ways}
 use Rattle.tx_risk.specs.declared.nearest.Step.{Step}
 use Rattle.tx_risk.specs.Risks.{IsDeadEnd}
-use Rattle.tx_risk.specs.inner.Nearest.{IsDistance, AreWaysFrom, AreNearest, ways_in, distance_in, nearest_step}
+use Rattle.tx_risk.specs.inner.Nearest.{IsDistance, AreWaysFrom, AreAllWays, ways_in, distance_in, nearest_step}
 use Rattle.tx_risk.proofs.Measuring.{nearest_is, nearest_least, measured}
 
 -- the walk in hand
@@ -20,7 +20,7 @@ pub record IsDescent (n : Net) (kept : List Ways) (x : ℕ) (steps : List (ℕ �
   pub here : distance_in kept at ≡ Some away
   pub first : distance_in kept x ≡ Some (length steps + away)
 
-module _ (n : Net) (kept : List Ways) (nearest : AreNearest n kept) (x at : ℕ)
+module _ (n : Net) (kept : List Ways) (nearest : AreAllWays n kept) (x at : ℕ)
     (steps : List (ℕ × ℕ)) (h : IsDescent n kept x steps at) where
   is : IsDistance n at (distance_in kept at)
   is = (nearest at (record {

@@ -10,7 +10,7 @@ ghost use Rattle.tx_risk.specs.declared.cut.Cut.{Cut};
 ghost use Rattle.tx_risk.specs.inner.Left.{gone, left_net};
 ghost use Rattle.tx_risk.specs.inner.Orders.{IsOrder, IsByRank, is_above};
 ghost use Rattle.tx_risk.specs.inner.Hits.{AreEnds, TakesItsGroups};
-ghost use Rattle.tx_risk.specs.inner.Nearest.{AreDeadEnds, LeadsToDeadEnd, AreNearest};
+ghost use Rattle.tx_risk.specs.inner.Nearest.{AreDeadEnds, LeadsToDeadEnd, AreAllWays};
 ghost use Rattle.tx_risk.specs.inner.Cutting.{Adds, AreCuts, AreCutsBefore};
 
 use crate::cut::Cut;
@@ -47,7 +47,7 @@ fn add_cut<A: Allocator + Copy>(
     requires exchange { exchange < length left.now.plan.exchanges }
     requires grade { HasGrade left.now.plan }
     requires origins { AreOrigins left.now.plan origins.now }
-    requires nearest { AreNearest (left_net left.now) kept.now }
+    requires ways { AreAllWays (left_net left.now) kept.now }
     ensures { IfOk result (λ _. (first : List (Cut A))
         → Adds (AreCutsBefore left.now outage.now exchange) first cuts.old.items
         → Adds (AreCutsBefore left.now outage.now (exchange + 1)) first cuts.new.items) }

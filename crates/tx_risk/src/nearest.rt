@@ -3,7 +3,7 @@ ghost use Rattle.std.specs.Prelude.{◌≡◌, ◌<◌, ℕ, take, IfOk};
 ghost use Rattle.tx_plan.specs.Among.{Among};
 ghost use Rattle.tx_risk.specs.inner.Left.{IsLeft, left_net};
 ghost use Rattle.tx_risk.specs.inner.Orders.{IsOrder};
-ghost use Rattle.tx_risk.specs.inner.Nearest.{AreDeadEnds, LeadsToDeadEnd, AreDeadEndsKept, AreNearest, ways_in, nearer, nearest_step, step_by, leads_home, has_way_home};
+ghost use Rattle.tx_risk.specs.inner.Nearest.{AreDeadEnds, LeadsToDeadEnd, AreDeadEndsKept, AreAllWays, ways_in, nearer, nearest_step, step_by, leads_home, has_way_home};
 
 use crate::left::Left;
 use std::alloc::Allocator;
@@ -145,7 +145,7 @@ pub fn ways_of<A: Allocator + Copy>(
     requires dead_ends { AreDeadEnds (left_net left.now) order.now dead_ends.now }
     requires before { (x : ℕ) → Among x (take from order.now)
         → LeadsToDeadEnd (left_net left.now) x → Among x dead_ends.now }
-    ensures { IfOk result (λ kept. AreNearest (left_net left.now) kept.items) }
+    ensures { IfOk result (λ kept. AreAllWays (left_net left.now) kept.items) }
 {
     let mut kept = dead_ends_kept(alloc, left, dead_ends)?;
     for index in from..order.len() {

@@ -2,7 +2,7 @@
 ghost use Rattle.std.specs.Prelude.{◌≡◌, ℕ, length, Some, true, IfOk};
 ghost use Rattle.tx_risk.specs.Risks.{IsDeadEnd};
 ghost use Rattle.tx_risk.specs.inner.Left.{left_net};
-ghost use Rattle.tx_risk.specs.inner.Nearest.{AreNearest, distance_in};
+ghost use Rattle.tx_risk.specs.inner.Nearest.{AreAllWays, distance_in};
 
 use crate::left::Left;
 use crate::nearest::{Ways, nearest_step};
@@ -18,7 +18,7 @@ pub fn walk_from<A: Allocator + Copy>(
     kept: &[Ways],
     start: ExchangeId,
 ) -> Result<Walk<A>, NoMemory>
-    requires nearest { AreNearest (left_net left.now) kept.now }
+    requires ways { AreAllWays (left_net left.now) kept.now }
     requires origin { (left_net left.now).is_origin start ≡ true }
     requires cut { (d : ℕ) × (distance_in kept.now start ≡ Some d) }
     ensures start { IfOk result (λ w. w.start ≡ start) }

@@ -9,7 +9,7 @@ use Rattle.tx_risk.specs.Risks.{IsDeadEnd, LeadsHome}
 use Rattle.tx_risk.specs.declared.nearest.Ways.{Ways}
 use Rattle.tx_risk.specs.declared.nearest.Step.{Step}
 
--- these are the dead ends, as far as exchanges of the order are
+-- all of these are dead ends, and all dead ends of the order are among them
 pub record AreDeadEnds (n : Net) (order ends : List ℕ) : Type 0 where
   pub dead : (x : ℕ) → Among x ends → (x < n.exchanges) × (x ≢ n.home) × (n.list x ≡ [])
   pub all : (x : ℕ) → Among x order → x ≢ n.home → n.list x ≡ [] → Among x ends
@@ -45,9 +45,9 @@ ways_in kept x = get_or kept x home_alone
 abbrev pub distance_in : List Ways → ℕ → Option ℕ
 distance_in kept x = (ways_in kept x).dead_end
 
--- they are kept of all exchanges of walks
-abbrev pub AreNearest : Net → List Ways → Type 0
-AreNearest n kept = (x : ℕ) → IsReached n x → AreWaysFrom n x (ways_in kept x)
+-- the ways from each exchange of a walk are kept
+abbrev pub AreAllWays : Net → List Ways → Type 0
+AreAllWays n kept = (x : ℕ) → IsReached n x → AreWaysFrom n x (ways_in kept x)
 
 -- the dead ends alone are marked
 pub record AreDeadEndsKept (n : Net) (ends : List ℕ) (kept : List Ways) : Type 0 where

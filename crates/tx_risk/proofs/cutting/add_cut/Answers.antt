@@ -18,7 +18,7 @@ returns-then-is_none g c = λ first b.
     let none = ap (λ (w : Ways). w.dead_end) (sym c.ways_at-ways.ensures)
     ∙ none_of c.ways_at-ways.result.dead_end c.if-is_none.ensures in
     before_skip l o first c.args.cuts.now.items x b (λ steps a k. none_cut (left_net l) x w steps
-    (c.requires.nearest x (asked_reached l o x a)) none k)
+    (c.requires.ways x (asked_reached l o x a)) none k)
 
 pub returns-then-not-is_asked : goal.returns-then-not-is_asked
 returns-then-not-is_asked g c = λ first b.
@@ -52,7 +52,7 @@ returns g c = λ first b.
       walk = w;
     } in
     let is = cut_as n cut l.code x ways
-    (subst (AreWaysFrom n x) (sym c.ways_at-ways.ensures) (c.requires.nearest x (asked_reached l o x asked)))
+    (subst (AreWaysFrom n x) (sym c.ways_at-ways.ensures) (c.requires.ways x (asked_reached l o x asked)))
     (ap (λ (m : Left). m.code) c.left.view_is) k.start
     (record {
       dead = k.dead;
