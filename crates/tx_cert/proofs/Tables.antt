@@ -87,7 +87,7 @@ module _ (t : Table) where
     own_exchanges = λ c x r h. (ranked_at c x r h).0.1;
     small = λ c x r h.
         let b = ranked_at c x r h in
-        let entries = w.indexes in
+        let entries = w.entries in
         let low = mul-add-lt c t.exchanges x t.codes b.0.0 b.0.1 in
         subst (λ o. IfSome o (λ n. n ≤ 65535)) b.1 (w.small (index_of t.exchanges (c, x)) None (omega arith));
   }
@@ -95,7 +95,7 @@ module _ (t : Table) where
   module _ (w : IsTable t) (c x i : ℕ) (code : c < t.codes) (exchange : x < t.exchanges) (at : i ≡ c * t.exchanges + x) where
     -- the index of a code and an exchange is in the table
     within : i < length t.ranks
-    within = let entries = w.indexes in let low = mul-add-lt c t.exchanges x t.codes code exchange in omega arith
+    within = let entries = w.entries in let low = mul-add-lt c t.exchanges x t.codes code exchange in omega arith
 
     -- what stands there is its rank
     pub rank_read : (o : Option ℕ) → o ≡ get_or t.ranks i o → o ≡ rank_at (certificate_of t) c x
@@ -112,7 +112,7 @@ module _ (t : Table) where
 -- A RANK IS WRITTEN
 pub table_set : (t : Table) (i r : ℕ) → IsTable t → r ≤ 65535 → IsTable (record t { ranks = slice_set t.ranks i (Some r) })
 table_set t i r w l = record {
-  entries = length-set t.ranks i (Some r) ∙ w.indexes;
+  entries = length-set t.ranks i (Some r) ∙ w.entries;
   small = All-set (λ o. IfSome o (λ n. n ≤ 65535)) t.ranks i (Some r) l w.small;
 }
 

@@ -106,7 +106,7 @@ impl<A: Allocator> Counts<A> {
               self.old.groups;
         } }
     {
-        let number = circuit.group.index();
+        let index = circuit.group.index();
         if index < self.groups.len() {
             let group = &mut self.groups[index];
             group.seize(circuit.number, plan.group_count(circuit.group));
@@ -119,7 +119,7 @@ impl<A: Allocator> Counts<A> {
               (marked circuit.now.number false) self.old.groups;
         } }
     {
-        let number = circuit.group.index();
+        let index = circuit.group.index();
         if index < self.groups.len() {
             let group = &mut self.groups[index];
             group.mark(circuit.number, false);
@@ -129,7 +129,7 @@ impl<A: Allocator> Counts<A> {
     fn clear(&mut self, group: GroupId)
         ensures { self.new ≡ record self.old { groups = change_at group cleared self.old.groups } }
     {
-        let number = group.index();
+        let index = group.index();
         if index < self.groups.len() {
             let group = &mut self.groups[index];
             group.clear();

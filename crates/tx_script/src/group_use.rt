@@ -33,7 +33,7 @@ impl GroupUse {
     pub(crate) fn mark(&mut self, number: u32, taken: bool)
         ensures { self.new ≡ marked number taken self.old }
     {
-        let number = number as usize;
+        let index = number as usize;
         if index < 241 {
             self.taken[index] = taken;
         }

@@ -1,0 +1,9 @@
+use Rattle.std.proofs.Common.{◌∙◌, ap}
+use Rattle.tx_plan.specs.Plan.{Plan}
+use Rattle.tx_plan.specs.Routes.{route_list}
+use Rattle.tx_plan.proofs.plan.Plan.group_list.Goals as goal
+
+pub returns : goal.returns
+returns g c =
+    c.in-Ok.ensures.0 ∙ c.list.ensures.value
+    ∙ ap (λ (p : Plan). route_list p c.args.exchange c.args.code) c.self.view_is
