@@ -17,7 +17,8 @@ pub mod Copied
 pub mod Comes
 pub mod Trimmed
 pub mod Changing
-pub mod Causes
+pub mod Trying
+pub mod TrueCauses
 pub mod Staying
 pub mod Local
 pub mod Written

@@ -1,4 +1,4 @@
-use Rattle.tx_mend.proofs.Causes.{causes}
+use Rattle.tx_mend.proofs.TrueCauses.{causes}
 use Rattle.tx_mend.proofs.law.causes_are_true.Goals as goal
 
 pub returns : goal.returns
