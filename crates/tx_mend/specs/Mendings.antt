@@ -45,10 +45,10 @@ pub record IsMendedInto (p q : Plan) (routes : List Route) (cert : Certificate) 
 
 -- NO: no routes of the network are certified by any ranks; what cannot be served and why, where
 -- groups are missing, and the pair
-pub record HasNoRouting (p q : Plan) (told : List Unserved) (gaps : List Missing)
+pub record HasNoRouting (p q : Plan) (origins : List Unserved) (gaps : List Missing)
     (both : Option (ℕ × ℕ)) (limit spare : ℕ) : Type 0 where
   pub same : q ≡ p
-  pub told : told ≡ unserved p limit spare
+  pub told : origins ≡ unserved p limit spare
   pub missing : gaps ≡ missing p limit spare
   pub pair : both ≡ ambiguous_of p.codes
   pub none : CanBeMended p limit spare → ⊥

@@ -121,11 +121,11 @@ pub struct Lacking<A: Allocator> {
 }
 
 /// Appends what a code lacks, if an origin for it has no least rank.
-fn add_lacking<A: Allocator + Copy>(
+fn add_lacking<'x, A: Allocator + Copy>(
     alloc: A,
-    task: &Task<'_, A>,
+    task: &'x Task<'x, A>,
     code: CodeId,
-    least: &[Option<u8>],
+    least: &'x [Option<u8>],
     lacking: &mut Lacking<A>,
 ) -> Result<(), NoMemory>
     requires { least.now ≡ rank_list task.now.plan.now (least_rank task.now.plan.now code

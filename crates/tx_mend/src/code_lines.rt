@@ -53,7 +53,10 @@ fn write_code<A: Allocator, W: Sink>(
     }
     let mut buffer = Buffer::new();
     let count = buffer.format(count).as_bytes();
-    write_parts(&[b"CODE ", plan.code_figures(code), b" UNSERVED ", count], sink)?;
+    write_parts(
+        &[b"CODE ", plan.code_figures(code), b" UNSERVED ", count],
+        sink,
+    )?;
     write_missing(plan, missing, code, sink)?;
     write_parts(&[b"\n"], sink)
 }

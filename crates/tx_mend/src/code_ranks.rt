@@ -59,6 +59,7 @@ fn ranks_for<A: Allocator + Copy>(
         task.now.limits.limit task.now.limits.spare code) }
 {
     let plan = task.plan;
+    plan.rules();
     let spare = task.limits.spare;
     let rounds = task.limits.limit + 1;
     let home = plan.home(code);
@@ -88,6 +89,7 @@ pub fn least_ranks<A: Allocator + Copy>(
         (ranked_in (home_of task.now.plan.now code)
         (can_follow task.now.plan.now task.now.limits.spare) rounds)) }
 {
+    task.plan.rules();
     let by_groups = AnyRoutes {
         plan: task.plan,
         seizable: task.seizable,

@@ -42,12 +42,7 @@ pub enum Mending<A: Allocator = Global> {
     /// No routes can be certified. The plan as it was, each code with the origins that cannot be
     /// served for it, the exchanges where groups are missing for these codes, and the ambiguous pair
     /// of codes.
-    NoRouting(
-        Plan<A>,
-        Vec<Unserved, A>,
-        Vec<Missing, A>,
-        Option<(CodeId, CodeId)>,
-    ),
+    NoRouting(Plan<A>, Vec<Unserved, A>, Vec<Missing, A>, Option<(CodeId, CodeId)>),
 }
 
 /// What is found of a plan: the groups that each exchange may seize, where calls may start, the least
@@ -216,12 +211,7 @@ pub fn mend<A: Allocator + Copy>(
     };
     if found.pair.is_some() || !found.lacking.unserved.is_empty() {
         let lacking = found.lacking;
-        return Ok(Mending::NoRouting(
-            plan,
-            lacking.unserved,
-            lacking.missing,
-            found.pair,
-        ));
+        return Ok(Mending::NoRouting(plan, lacking.unserved, lacking.missing, found.pair));
     }
     let filled = match fill(alloc, &plan, &found, limits) {
         Ok(filled) => filled,

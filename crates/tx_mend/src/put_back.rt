@@ -33,6 +33,7 @@ fn put_back<A: Allocator + Copy>(
         task.now.limits.limit task.now.limits.spare of (exchange, group))) }
 {
     let plan = task.plan;
+    plan.rules();
     if stays(plan, ranks, exchange, group) {
         return Ok(());
     }

@@ -1,6 +1,5 @@
 // What a plan is mended by.
 ghost use Rattle.std.specs.Prelude.{◌≡◌, map, length};
-ghost use Rattle.tx_plan.specs.Rules.{IsPlan};
 ghost use Rattle.tx_rank.specs.Judged.{AreOrigins};
 ghost use Rattle.tx_mend.specs.LeastRanks.{indexes, outgoing};
 
@@ -16,7 +15,6 @@ pub struct Task<'a, A: Allocator> {
     pub seizable: &'a [Outgoing<A>],
     pub origins: &'a [bool],
     pub limits: Limits,
-    ghost rules: { IsPlan plan.now },
     ghost groups: { seizable.now ≡ map (outgoing plan.now) (indexes (length plan.now.exchanges)) },
     ghost starts: { AreOrigins plan.now origins.now },
 }

@@ -77,11 +77,25 @@ fn write_one<A: Allocator, W: Sink>(
     match unserved.cause {
         Cause::Rank(rank) => {
             let rank = buffer.format(rank).as_bytes();
-            write_parts(&[b"F5 UNSERVED ", figures, b" ", name, b" RANK ", rank, b"\n"], sink)
+            write_parts(
+                &[b"F5 UNSERVED ", figures, b" ", name, b" RANK ", rank, b"\n"],
+                sink,
+            )
         }
         Cause::Groups(groups) => {
             let groups = buffer.format(groups).as_bytes();
-            write_parts(&[b"F5 UNSERVED ", figures, b" ", name, b" GROUPS ", groups, b"\n"], sink)
+            write_parts(
+                &[
+                    b"F5 UNSERVED ",
+                    figures,
+                    b" ",
+                    name,
+                    b" GROUPS ",
+                    groups,
+                    b"\n",
+                ],
+                sink,
+            )
         }
     }
 }

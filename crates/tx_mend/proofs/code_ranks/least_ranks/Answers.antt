@@ -7,7 +7,7 @@ use Rattle.tx_mend.proofs.code_ranks.least_ranks.Goals as goal
 pub invariant_of-by_groups : goal.invariant_of-by_groups
 invariant_of-by_groups g c =
     let t = c.args.task.now in
-    record { right = t.groups; local = λ a b e x. can_follow_same t.plan.now t.rules a b e t.limits.spare x }
+    record { right = t.groups; local = λ a b e x. can_follow_same t.plan.now c.rules.ensures a b e t.limits.spare x }
 
 pub returns : goal.returns
 returns g c =
