@@ -44,7 +44,7 @@ pub struct AnyRoutes<'a, A: Allocator> {
 }
 
 /// How many of the groups lead to ranked exchanges.
-fn count_on<A: Allocator>(
+pub fn count_on<A: Allocator>(
     plan: &Plan<A>,
     ranks: &[Option<u8>],
     exchange: ExchangeId,
