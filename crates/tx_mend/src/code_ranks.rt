@@ -5,6 +5,7 @@ ghost use Rattle.tx_plan.specs.Plan.{home_of};
 ghost use Rattle.tx_mend.specs.LeastRanks.{indexes, ranked_in, can_follow};
 ghost use Rattle.tx_mend.specs.inner.CodeRanks.{rank_list, code_ranks, kept_ranks};
 
+use crate::nearest::nearest_first;
 use crate::put_back::put_back_all;
 use crate::rounds::ranks_after;
 use crate::rules::{AnyRoutes, PresentRoutes};
@@ -125,13 +126,19 @@ fn kept_for<A: Allocator + Copy>(
     ensures { IfOk result (λ ranks. ranks ≡ kept_ranks task.now.plan.now
         task.now.limits.limit task.now.limits.spare code) }
 {
-    let mut ranks = Vec::new(alloc);
-    let kept = least.is_none();
-    if let Some(least) = least {
-        ranks.extend_from_slice(least)?;
-        put_back_all(alloc, task, code, &mut ranks)?;
+    match least {
+        Some(least) => {
+            let nearest = nearest_first(alloc, task.plan, least, task.limits)?;
+            let mut ranks = Vec::new(alloc);
+            ranks.extend_from_slice(least)?;
+            put_back_all(alloc, task, code, &nearest, &mut ranks)?;
+            Ok(CodeRanks { kept: false, ranks })
+        }
+        None => Ok(CodeRanks {
+            kept: true,
+            ranks: Vec::new(alloc),
+        }),
     }
-    Ok(CodeRanks { kept, ranks })
 }
 
 /// The kept ranks of each code.

@@ -21,6 +21,7 @@ mod copying;
 mod filling;
 mod law;
 mod mending;
+mod nearest;
 mod outgoing;
 mod put_back;
 mod report;

@@ -1,7 +1,6 @@
 // The groups that a code keeps.
 ghost use Rattle.std.specs.Prelude.{◌≡◌, ◌<◌, ℕ, Option, length, OnOk};
 ghost use Rattle.std.specs.List.{flat_map, fold};
-ghost use Rattle.tx_mend.specs.LeastRanks.{indexes};
 ghost use Rattle.tx_mend.specs.KeptRanks.{put_back, choice_at, choices};
 ghost use Rattle.tx_mend.specs.inner.CodeRanks.{rank_list};
 
@@ -53,11 +52,13 @@ fn put_back<A: Allocator + Copy>(
     Ok(())
 }
 
-/// Puts back the group of each exchange's list that has this place in it, where that can be.
+/// Puts back, of the list of each of these exchanges in turn, the group at one place in it, where
+/// that can be.
 fn put_back_choice<A: Allocator + Copy>(
     alloc: A,
     task: &Task<'_, A>,
     code: CodeId,
+    exchanges: &[ExchangeId],
     choice: usize,
     ranks: &mut Vec<Option<u8>, A>,
 ) -> Result<(), NoMemory>
@@ -65,33 +66,34 @@ fn put_back_choice<A: Allocator + Copy>(
     ensures { OnOk result ((of : ℕ → Option ℕ) → ranks.old.items ≡ rank_list task.now.plan.now of
         → ranks.new.items ≡ rank_list task.now.plan.now (fold (put_back task.now.plan.now code
         task.now.limits.limit task.now.limits.spare) of
-        (flat_map (choice_at task.now.plan.now code choice)
-        (indexes (length task.now.plan.now.exchanges))))) }
+        (flat_map (choice_at task.now.plan.now code choice) exchanges.now))) }
 {
-    for index in 0..task.plan.exchanges() {
-        let exchange = ExchangeId::of(index);
-        match task.plan.list(exchange, code).get(choice) {
-            Some(group) => put_back(alloc, task, code, exchange, *group, ranks)?,
+    for exchange in exchanges {
+        match task.plan.list(*exchange, code).get(choice) {
+            Some(group) => put_back(alloc, task, code, *exchange, *group, ranks)?,
             None => {}
         }
     }
     Ok(())
 }
 
-/// Puts back each group of each list that can be.
+/// Puts back each group of the lists of these exchanges that can be: all first choices, then all
+/// second ones, and so on.
 pub fn put_back_all<A: Allocator + Copy>(
     alloc: A,
     task: &Task<'_, A>,
     code: CodeId,
+    exchanges: &[ExchangeId],
     ranks: &mut Vec<Option<u8>, A>,
 ) -> Result<(), NoMemory>
     requires { length ranks.old.items ≡ length task.now.plan.now.exchanges }
     ensures { OnOk result ((of : ℕ → Option ℕ) → ranks.old.items ≡ rank_list task.now.plan.now of
         → ranks.new.items ≡ rank_list task.now.plan.now (fold (put_back task.now.plan.now code
-        task.now.limits.limit task.now.limits.spare) of (choices task.now.plan.now code))) }
+        task.now.limits.limit task.now.limits.spare) of
+        (choices task.now.plan.now code exchanges.now))) }
 {
     for choice in 0..CHOICES {
-        put_back_choice(alloc, task, code, choice, ranks)?;
+        put_back_choice(alloc, task, code, exchanges, choice, ranks)?;
     }
     Ok(())
 }

@@ -34,12 +34,17 @@ impl Asked<'_> {
         true
     }
 
-    /// Adds each group of each list for a code: the first choices of all exchanges, then the second
-    /// ones, and so on.
-    fn add_choices(&self, code: CodeId, choices: &mut Vec<Listed>) -> Result<(), NoMemory> {
-        for choice in 0..self.plan.groups() {
-            for index in 0..self.plan.exchanges() {
-                if let Some(exchange) = self.plan.exchange_at(index) {
+    /// Adds the group at this place in the list of each exchange that has this least rank.
+    fn add_choice(
+        &self,
+        code: CodeId,
+        choice: usize,
+        rank: Option<usize>,
+        choices: &mut Vec<Listed>,
+    ) -> Result<(), NoMemory> {
+        for index in 0..self.plan.exchanges() {
+            if let Some(exchange) = self.plan.exchange_at(index) {
+                if self.rank(code, exchange) == rank {
                     if let Some(group) = self.plan.list(exchange, code).get(choice) {
                         choices.push(Listed {
                             exchange,
@@ -48,6 +53,18 @@ impl Asked<'_> {
                     }
                 }
             }
+        }
+        Ok(())
+    }
+
+    /// Adds each group of each list for a code: the first choices of all exchanges, nearest the home
+    /// first, then the second ones, and so on.
+    fn add_choices(&self, code: CodeId, choices: &mut Vec<Listed>) -> Result<(), NoMemory> {
+        for choice in 0..self.plan.groups() {
+            for rank in 0..self.plan.exchanges() {
+                self.add_choice(code, choice, Some(rank), choices)?;
+            }
+            self.add_choice(code, choice, None, choices)?;
         }
         Ok(())
     }
