@@ -1,5 +1,5 @@
 -- The kept ranks: groups that are put back stay, and no other group could stay.
-use Rattle.std.proofs.Common.{◌≡◌, ◌≢◌, ℕ, zero, suc, ◌<◌, ◌≤◌, ◌⊎◌, Bool, true, false, not, ◌&&◌, ◌||◌, ◌==◌, nat_lt, eq-eqb, eqb-true, List, [], ◌∷◌, length, Option, Some, None, inl, inr, refl, sym, ap, subst, ◌∙◌, arith}
+use Rattle.std.proofs.Common.{◌≡◌, ◌≢◌, ℕ, zero, suc, ◌+◌, ◌<◌, ◌≤◌, ◌⊎◌, Bool, true, false, not, ◌&&◌, ◌||◌, ◌==◌, nat_lt, eq-eqb, eqb-true, List, [], ◌∷◌, length, Option, Some, None, inl, inr, refl, sym, ap, subst, ◌∙◌, arith}
 use Rattle.std.specs.Prelude.{filter, is_some, slice_get, if◌then◌else◌}
 use Rattle.std.specs.List.{list_all, flat_map, fold}
 use Rattle.std.specs.Option.{option_map_or}
@@ -10,11 +10,11 @@ use Rattle.tx_plan.specs.Routes.{route_list, is_origin_for}
 use Rattle.tx_plan.specs.Among.{Among}
 use Rattle.tx_plan.proofs.Among.{among_filter, filter_among, among_flat}
 use Rattle.tx_rank.proofs.Nets.{is_net}
-use Rattle.tx_mend.specs.LeastRanks.{indexes, RanksOfCode, leads_on, can_follow, least_rank, ranks_origins}
-use Rattle.tx_mend.specs.KeptRanks.{leads_below, stays_by, list_with, can_follow_keeping, rank_keeping, put_back, choice_at, choices, kept_rank}
-use Rattle.tx_mend.proofs.Distinct.{among_range, all_holds, holds_all}
-use Rattle.tx_mend.proofs.RoundRanks.{Ranked, why}
-use Rattle.tx_mend.proofs.Least.{list_few}
+use Rattle.tx_mend.specs.LeastRanks.{indexes, RanksOfCode, outgoing, leads_on, can_follow, least_rank, ranks_origins}
+use Rattle.tx_mend.specs.KeptRanks.{leads_below, stays_by, list_with, can_follow_keeping, rank_keeping, put_back, has_rank, nearest_first, choice_at, choices, kept_rank}
+use Rattle.tx_mend.proofs.Distinct.{some_among, fits, among_range, all_holds, holds_all}
+use Rattle.tx_mend.proofs.RoundRanks.{Ranked, why, no_greater}
+use Rattle.tx_mend.proofs.Least.{list_few, leads}
 use Rattle.tx_mend.proofs.LeastLists.{Leads, IsRanking, present_list, rank_over, on_leads, round_ranking}
 
 -- WHERE ALL ORIGINS ARE RANKED
@@ -45,14 +45,45 @@ among_index [] g m = absurd m
 among_index (x ∷ xs) g (inl e) = (0, omega arith, ap (λ (y : ℕ). Some y) e)
 among_index (x ∷ xs) g (inr m) = let i = among_index xs g m in let h = i.1 in (suc i.0, omega arith, i.2)
 
-pub choices_have : (p : Plan) → IsPlan p → (c x g : ℕ) → x < length p.exchanges → Among g (route_list p x c) → Among {A = ℕ × ℕ} (x, g) (choices p c)
-choices_have p ok c x g h m =
+pub choices_have : (p : Plan) → IsPlan p → (c x g : ℕ) (xs : List ℕ) → Among x xs → Among g (route_list p x c) → Among {A = ℕ × ℕ} (x, g) (choices p c xs)
+choices_have p ok c x g xs h m =
     let i = among_index (route_list p x c) g m in
     let at = i.1 in
     let few = list_few p ok x c in
     let here : Among {A = ℕ × ℕ} (x, g) (choice_at p c i.0 x) = subst (λ (o : Option ℕ). Among {A = ℕ × ℕ} (x, g) (option_map_or (λ g. (x, g) ∷ []) o [])) (sym i.2) (inl refl) in
-    among_flat (λ j. flat_map (choice_at p c j) (indexes (length p.exchanges))) i.0 (x, g) (indexes 16) (among_range 0 16 i.0 (omega arith) (omega arith))
-    (among_flat (choice_at p c i.0) x (x, g) (indexes (length p.exchanges)) (among_range 0 (length p.exchanges) x (omega arith) (omega arith)) here)
+    among_flat (λ j. flat_map (choice_at p c j) xs) i.0 (x, g) (indexes 16) (among_range 0 16 i.0 (omega arith) (omega arith))
+    (among_flat (choice_at p c i.0) x (x, g) xs h here)
+
+nearest_have : (p : Plan) (limit : ℕ) (ranks : RanksOfCode) (x r : ℕ) → x < length p.exchanges → ranks x ≡ Some r → r ≤ suc limit → Among x (nearest_first p limit ranks)
+nearest_have p limit ranks x r h e low =
+    among_flat (λ r. filter (has_rank ranks r) (indexes (length p.exchanges))) r x (indexes (limit + 2)) (among_range 0 (limit + 2) r (omega arith) (omega arith))
+    (among_filter (has_rank ranks r) x (indexes (length p.exchanges)) (among_range 0 (length p.exchanges) x (omega arith) (omega arith))
+    (ap (λ (o : Option ℕ). option_map_or (λ m. m == r) o false) e ∙ eq-eqb r r refl))
+
+-- NO RANKS ARE LESS THAN THE LEAST ONES
+
+module _ (p : Plan) (c limit spare : ℕ) (ranks : RanksOfCode) (k : IsRanking p c limit spare ranks) where
+  positive : (x r : ℕ) → ranks x ≡ Some r → x ≢ home_of p c → 0 < r
+  positive x r e away =
+      let n = k.enough x r e away in
+      let s = some_among n.groups spare n.more in
+      let b = (n.lower s.0 s.1).below in
+      omega arith
+
+  fed : (x r : ℕ) → ranks x ≡ Some r → x ≢ home_of p c → (other : RanksOfCode) → ((y m : ℕ) → ranks y ≡ Some m → m < r → (n : ℕ) × (other y ≡ Some n)) → can_follow p spare other x ≡ true
+  fed x r e away other h =
+      let n = k.enough x r e away in
+      let on : List ℕ = filter (λ g. leads_on p other x g) (outgoing p x) in
+      let each : (g : ℕ) → Among g n.groups → Among g on = λ g m.
+      let l = n.lower g m in
+      let o = h l.to l.rank l.ranked l.below in
+      among_filter (λ g. leads_on p other x g) g (outgoing p x) (n.seized g m) (leads p other x g l.to o.0 l.leads o.1) in
+      let long = fits n.groups on n.differ each in
+      let more = n.more in
+      lt-ltb spare (length on) (omega arith)
+
+  pub ranking_least : (x r : ℕ) → ranks x ≡ Some r → (n : ℕ) × (least_rank p c limit spare x ≡ Some n) × (n ≤ r)
+  ranking_least x r e = no_greater (home_of p c) (can_follow p spare) ranks positive fed (suc limit) x r (k.low x r e) e
 
 -- RANKS THAT KEEP SOME LISTS
 
@@ -104,9 +135,13 @@ module _ (p : Plan) (ok : IsPlan p) (c limit spare : ℕ) where
         ] refl
       ] refl
 
+  -- all choices that are tried
+  abbrev All : List (ℕ × ℕ)
+  All = choices p c (nearest_first p limit (least_rank p c limit spare))
+
   -- what the least ranks have, and the tried ones that rank all origins, the kept ranks have
   pub kept_has : (P : RanksOfCode → Type 0) → P (least_rank p c limit spare) → ((kept : ℕ → List ℕ) → ranks_origins p c (Keeping kept) ≡ true → P (Keeping kept)) → P (kept_rank p c limit spare)
-  kept_has P start tried = on (choices p c) (least_rank p c limit spare) start
+  kept_has P start tried = on All (least_rank p c limit spare) start
     where
       step : (ranks : RanksOfCode) (e : ℕ × ℕ) → P ranks → P (Put ranks e)
       step ranks e h = elim (put_ends ranks e) [
@@ -170,4 +205,13 @@ module _ (p : Plan) (ok : IsPlan p) (c limit spare : ℕ) where
 
   -- each group of a list stays by the kept ranks, or was lost
   pub stays_or_lost : (x g : ℕ) → x < length p.exchanges → Among g (route_list p x c) → (stays_by p (kept_rank p c limit spare) x g ≡ true) ⊎ IsLost (kept_rank p c limit spare) x g
-  stays_or_lost x g h m = tried (choices p c) (least_rank p c limit spare) x g m (choices_have p ok c x g h m)
+  stays_or_lost x g h m = by (kept_rank p c limit spare x) refl
+    where
+      by : (o : Option ℕ) → kept_rank p c limit spare x ≡ o → (stays_by p (kept_rank p c limit spare) x g ≡ true) ⊎ IsLost (kept_rank p c limit spare) x g
+      by None e = inl (ap (λ (o : Option ℕ). option_map_or (λ r. leads_below p (kept_rank p c limit spare) r x g) o true) e)
+      by (Some r) e =
+          let n = ranking_least p c limit spare (kept_rank p c limit spare) kept_ranking x r e in
+          let low = kept_ranking.low x r e in
+          let less = n.2 in
+          tried All (least_rank p c limit spare) x g m
+          (choices_have p ok c x g (nearest_first p limit (least_rank p c limit spare)) (nearest_have p limit (least_rank p c limit spare) x n.0 h n.1 (omega arith)) m)

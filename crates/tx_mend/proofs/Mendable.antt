@@ -19,7 +19,7 @@ use Rattle.tx_rank.proofs.Looks.{among_at}
 use Rattle.tx_rank.proofs.Certifying.{distinct_none}
 use Rattle.tx_plan.specs.Mixed.{rerouted}
 use Rattle.tx_mend.specs.Routings.{IsRouting, IsFalling, CanBeServed, CanBeKept, CanBeMended}
-use Rattle.tx_mend.specs.LeastRanks.{indexes, RanksOfCode, outgoing, leads_on, can_follow, does_follow, least_rank, present_rank, keeps_routes}
+use Rattle.tx_mend.specs.LeastRanks.{indexes, RanksOfCode, outgoing, leads_on, can_follow, does_follow, least_rank, present_rank, ranks_origins, keeps_routes}
 use Rattle.tx_mend.specs.KeptRanks.{kept_rank}
 use Rattle.tx_mend.specs.Mended.{routes_of}
 use Rattle.tx_mend.specs.declared.cause.Unserved.{Unserved}
@@ -36,12 +36,13 @@ use Rattle.tx_mend.proofs.LeastLists.{Leads, IsList, IsRanking, outgoing_seizes,
 use Rattle.tx_mend.proofs.Kept.{origin_ranked, origins_ranked, kept_ranking, kept_ranks_origins}
 use Rattle.tx_mend.proofs.Routed.{routed_list, routes_rules, routes_differ}
 use Rattle.tx_mend.proofs.Rerouted.{kept_rerouted}
+use Rattle.tx_mend.proofs.Unranked.{or_of}
 
-none_mapped : {B : Type 0} (f : ℕ → B) (t : ℕ → Bool) (xs : List ℕ) → ((x : ℕ) → t x ≡ true → ⊥) → map f (filter t xs) ≡ []
+none_mapped : {B : Type 0} (f : ℕ → B) (t : ℕ → Bool) (xs : List ℕ) → ((x : ℕ) → Among x xs → t x ≡ true → ⊥) → map f (filter t xs) ≡ []
 none_mapped f t [] h = refl
 none_mapped f t (x ∷ xs) h = elim (t x) as (λ b. t x ≡ b → map f (cond b (x ∷ filter t xs) (filter t xs)) ≡ []) [
-  | true ↦ λ e. absurd (h x e)
-  | false ↦ λ e. none_mapped f t xs h
+  | true ↦ λ e. absurd (h x (inl refl) e)
+  | false ↦ λ e. none_mapped f t xs (λ y m. h y (inr m))
 ] refl
 
 -- what is told of an exchange that cannot be served
@@ -307,7 +308,7 @@ module _ (p : Plan) (ok : IsPlan p) where
         let w = (range_among 0 (length p.codes) c m).1 in
         let known : c < length p.codes = omega arith in
         let fall : IsFalling (rerouted p k.routing.routes p.bars) k.ranks c limit spare = record { home = cert.homes c known; low = λ x r e. cert.low c x r known e; lists = λ x r e away. cert.lists c x r known e away } in
-        none_mapped (told p limit spare c) (λ x. is_origin_for p x c && is_none (least_rank p c limit spare x)) (indexes (length p.exchanges)) (λ x t.
+        none_mapped (told p limit spare c) (λ x. is_origin_for p x c && is_none (least_rank p c limit spare x)) (indexes (length p.exchanges)) (λ x n t.
         let a = and_parts (is_origin_for p x c) (is_none (least_rank p c limit spare x)) t in
         let r = cert.origins c x known a.0 in
         let n = least p (rerouted p k.routing.routes p.bars) (record { plan = subst (λ (q : Plan). IsPlan q) same k.same.plan; same = refl }) k.ranks c limit spare fall x r.0 r.1 in
@@ -351,14 +352,19 @@ keeps_exactly p ok code limit spare known = (
       };
     }
 
--- a code that keeps its routes has no origin without a least rank
-pub kept_served : (p : Plan) → IsPlan p → (code limit spare : ℕ) → code < length p.codes → keeps_routes p code limit spare ≡ true → unserved_for p limit spare code ≡ []
-kept_served p ok code limit spare known h =
-    let k = (keeps_exactly p ok code limit spare known).0 h in
-    none_mapped (told p limit spare code) (λ x. is_origin_for p x code && is_none (least_rank p code limit spare x)) (indexes (length p.exchanges)) (λ x t.
-    let a = and_parts (is_origin_for p x code) (is_none (least_rank p code limit spare x)) t in
-    let r = k.origins x a.0 in
-    let n = least p p (record { plan = ok; same = refl }) k.ranks code limit spare k.falling x r.0 r.1 in
-    let some : is_none (least_rank p code limit spare x) ≡ false = ap is_none n.1 in
-    let t1 = a.1 in
+-- where each origin has a least rank, none is told as unserved
+pub ranked_served : (p : Plan) (code limit spare : ℕ) → ranks_origins p code (least_rank p code limit spare) ≡ true → unserved_for p limit spare code ≡ []
+ranked_served p code limit spare h =
+    none_mapped (told p limit spare code) (λ x. is_origin_for p x code && is_none (least_rank p code limit spare x)) (indexes (length p.exchanges)) (λ x m t.
+    let holds = all_holds (λ x. not (is_origin_for p x code) || is_some (least_rank p code limit spare x)) (indexes (length p.exchanges)) x h m in
+    let fails = or_of (is_origin_for p x code) (least_rank p code limit spare x) (is_origin_for p x code && is_none (least_rank p code limit spare x)) refl ∙ ap not t in
     let bad : ⊥ = cc in bad)
+
+-- where a code keeps its routes, each origin has a least rank
+pub kept_ranked : (p : Plan) → IsPlan p → (code limit spare : ℕ) → code < length p.codes → keeps_routes p code limit spare ≡ true → ranks_origins p code (least_rank p code limit spare) ≡ true
+kept_ranked p ok code limit spare known h =
+    let k = (keeps_exactly p ok code limit spare known).0 h in
+    origins_ranked p ok code known (least_rank p code limit spare) (λ x o.
+    let r = k.origins x o in
+    let n = least p p (record { plan = ok; same = refl }) k.ranks code limit spare k.falling x r.0 r.1 in
+    (n.0, n.1))

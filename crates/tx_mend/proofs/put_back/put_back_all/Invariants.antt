@@ -10,5 +10,5 @@ invariant-loop-choice g l = record {
   long : length l.ranks.items ≡ length l.task.plan.now.exchanges;
   put : (of : ℕ → Option ℕ) → l.initial.ranks.items ≡ rank_list l.task.plan.now of
       → l.ranks.items ≡ rank_list l.task.plan.now (fold (put_back l.task.plan.now l.code l.task.limits.limit l.task.limits.spare) of
-      (flat_map (λ j. flat_map (choice_at l.task.plan.now l.code j) (indexes (length l.task.plan.now.exchanges))) (indexes l.choice)));
+      (flat_map (λ j. flat_map (choice_at l.task.plan.now l.code j) l.exchanges) (indexes l.choice)));
 }
