@@ -20,7 +20,7 @@ use Rattle.tx_mend.specs.Lists.{filled, groups_below, list_of_rank, list_by, ful
 use Rattle.tx_mend.specs.Mended.{mended}
 use Rattle.tx_mend.specs.Laws.{CouldStay, KeepsAllThatCouldStay, AddsWhatIsNeeded, KeepsOrder, ChangesLeast, MendingChangesLeast}
 use Rattle.tx_mend.proofs.Filled.{stands_any, filled_few, filled_keeps, filled_full, filled_extends}
-use Rattle.tx_mend.proofs.Least.{list_cases, least_keeping}
+use Rattle.tx_mend.proofs.Least.{listed_within, least_keeping}
 use Rattle.tx_mend.proofs.LeastLists.{kept, below_leads, filled_enough}
 use Rattle.tx_mend.proofs.Kept.{IsLost, below_of, kept_ranking, origins_ranked, stays_or_lost}
 use Rattle.tx_mend.proofs.Trimmed.{is_mended, full_there, called_reached, kept_mended}
@@ -37,13 +37,6 @@ filter_all t (x ∷ xs) h = ap (λ b. cond b (x ∷ filter t xs) (filter t xs)) 
 any_stands : (g : ℕ) (xs : List ℕ) → list_any (λ h. h == g) xs ≡ true → Among g xs
 any_stands g [] h = let bad : ⊥ = cc in absurd bad
 any_stands g (x ∷ xs) h = elim (or_cases (x == g) (list_any (λ h. h == g) xs) h) [ inl a ↦ inl (eqb-true x g a) | inr b ↦ inr (any_stands g xs b) ]
-
--- an exchange with a list is one of the plan
-listed_within : (p : Plan) → IsPlan p → (x c g : ℕ) → Among g (route_list p x c) → x < length p.exchanges
-listed_within p ok x c g m = elim (list_cases p x c) [
-  | inl e ↦ absurd (subst (λ (l : List ℕ). Among g l) e m)
-  | inr f ↦ (let w = (all_among (IsRoute p) p.routes f.route ok.routes f.among).exchange in let s = f.exchange in omega arith)
-]
 
 module _ (p : Plan) (ok : IsPlan p) (limit spare : ℕ) (small : spare ≤ 15) (c : ℕ) (known : c < length p.codes) where
   abbrev M : Plan

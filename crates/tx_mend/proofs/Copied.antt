@@ -10,6 +10,7 @@ use Rattle.tx_plan.specs.Plan.{Plan, Route}
 use Rattle.tx_plan.specs.Rules.{EachPair, IsPlan}
 use Rattle.tx_plan.specs.Routes.{route_list}
 use Rattle.tx_plan.specs.Among.{Among}
+use Rattle.tx_mend.specs.Mended.{route_if}
 use Rattle.tx_plan.proofs.ListFound.{list_found}
 use Rattle.tx_rank.proofs.Ways.{all_among}
 use Rattle.tx_rank.proofs.Looks.{among_at, take_next}
@@ -31,6 +32,12 @@ module _ {A : Type 0} (exchange code : A → ℕ) where
         | inl m ↦ and_right (exchange q == exchange r) (code q == code r) (ne_eqb (code q) (code r) (apart m))
       ] in
       ap (λ b. b || list_any (alike r) (take i rs)) t ∙ none_before rs i r d.1 at
+
+-- a route of a pair is for that pair
+pub of_pair : (k : ℕ × ℕ) (l : List ℕ) (q : Route) → Among q (route_if k l) → (k.0 ≡ q.exchange) × (k.1 ≡ q.code)
+of_pair k [] q m = absurd m
+of_pair k (g ∷ gs) q (inl e) = (ap (λ (r : Route). r.exchange) e, ap (λ (r : Route). r.code) e)
+of_pair k (g ∷ gs) q (inr bad) = absurd bad
 
 -- what routes become has no route of a pair that none of them is of
 pub none_settled : (t : Route → Bool) (f : Route → List Route) (xs : List Route) → ((r : Route) (q : Route) → Among q (f r) → t q ≡ t r) → list_any t xs ≡ false → list_any t (flat_map f xs) ≡ false

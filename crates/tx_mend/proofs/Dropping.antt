@@ -1,5 +1,5 @@
 -- Steps of loops over groups, by what is left.
-use Rattle.std.proofs.Common.{◌≡◌, ℕ, suc, ◌+◌, ◌<◌, ◌⊎◌, Bool, true, false, cond, ◌&&◌, List, [], ◌∷◌, ◌++◌, length, get_or, drop, inl, inr, refl, sym, ap, ◌∙◌, arith, add-one, drop-cons, append_assoc}
+use Rattle.std.proofs.Common.{◌≡◌, ℕ, suc, ◌+◌, ◌<◌, Bool, true, false, cond, not, ◌&&◌, ◌||◌, List, [], ◌∷◌, ◌++◌, length, get_or, drop, refl, sym, ap, ◌∙◌, arith, add-one, drop-cons, append_assoc}
 use Rattle.std.specs.Prelude.{filter}
 use Rattle.std.specs.List.{list_all}
 use mir.Val.{bool_byte}
@@ -19,18 +19,6 @@ module _ (xs : List ℕ) (i x : ℕ) (h : i < length xs) (e : x ≡ get_or xs i 
   count_step t n all true a k = let s = ap length (filter_step t true k) in omega arith
   count_step t n all false a k = let s = ap length (filter_step t false k) in omega arith
 
-  -- of those that pass a test, all pass another one
-  module _ (t on : ℕ → Bool) (a : list_all on (filter t xs) ≡ list_all on (filter t (drop i xs))) where
-    pub kept_step : (t x ≡ false) ⊎ (on x ≡ true) → list_all on (filter t xs) ≡ list_all on (filter t (drop (i + 1) xs))
-    kept_step (inl k) = a ∙ ap (list_all on) (filter_step t false k)
-    kept_step (inr k) = a ∙ elim (t x) as (λ b. t x ≡ b → list_all on (filter t (drop i xs)) ≡ list_all on (filter t (drop (i + 1) xs))) [
-      | true ↦ λ k2. ap (list_all on) (filter_step t true k2) ∙ ap (λ b. b && list_all on (filter t (drop (i + 1) xs))) k
-      | false ↦ λ k2. ap (list_all on) (filter_step t false k2)
-    ] refl
-
-    pub kept_fails : t x ≡ true → on x ≡ false → list_all on (filter t xs) ≡ false
-    kept_fails k off = a ∙ ap (list_all on) (filter_step t true k) ∙ ap (λ b. b && list_all on (filter t (drop (i + 1) xs))) off
-
   module _ (spare : ℕ) (t : ℕ → Bool) (list all : List ℕ) (a : all ≡ filled spare list (filter t (drop i xs))) where
     pub fill_put : (new : List ℕ) → t x ≡ true → new ≡ put spare list x → all ≡ filled spare new (filter t (drop (i + 1) xs))
     fill_put new k n = a ∙ ap (filled spare list) (filter_step t true k) ∙ ap (λ l. filled spare l (filter t (drop (i + 1) xs))) (sym n)
@@ -44,6 +32,14 @@ module _ (xs : List ℕ) (i x : ℕ) (h : i < length xs) (e : x ≡ get_or xs i 
 
     pub keep_passed : (new : List ℕ) → t x ≡ false → new ≡ list → new ++ filter t (drop (i + 1) xs) ≡ all
     keep_passed new k n = ap (λ l. l ++ filter t (drop (i + 1) xs)) n ∙ ap (λ l. list ++ l) (sym (filter_step t false k)) ∙ a
+
+-- all that pass one test pass another one
+pub all_kept : (t on : ℕ → Bool) (xs : List ℕ) → list_all (λ x. not (t x) || on x) xs ≡ list_all on (filter t xs)
+all_kept t on [] = refl
+all_kept t on (x ∷ xs) = elim (t x) as (λ b. ((not b || on x) && list_all (λ y. not (t y) || on y) xs) ≡ list_all on (cond b (x ∷ filter t xs) (filter t xs))) [
+  | true ↦ ap (λ r. on x && r) (all_kept t on xs)
+  | false ↦ all_kept t on xs
+]
 
 pub filled_append : (spare : ℕ) (list a b : List ℕ) → filled spare list (a ++ b) ≡ filled spare (filled spare list a) b
 filled_append spare list [] b = refl

@@ -49,6 +49,13 @@ list_cases p x c = by_find (find (λ r. (r.exchange == x) && (r.code == c)) p.ro
         let b = and_parts (r.exchange == x) (r.code == c) f.1 in
         inr (record { route = r; among = f.0; exchange = eqb-true r.exchange x b.0; code = eqb-true r.code c b.1; groups = ap (λ (o : Option Route). option_map_or (λ (r : Route). r.groups) o []) e })
 
+-- an exchange with a list is one of the plan
+pub listed_within : (p : Plan) → IsPlan p → (x c g : ℕ) → Among g (route_list p x c) → x < length p.exchanges
+listed_within p ok x c g m = elim (list_cases p x c) [
+  | inl e ↦ absurd (subst (λ (l : List ℕ). Among g l) e m)
+  | inr f ↦ (let w = (all_among (IsRoute p) p.routes f.route ok.routes f.among).exchange in let s = f.exchange in omega arith)
+]
+
 -- what the rules say of lists
 module _ (p : Plan) (ok : IsPlan p) (x c : ℕ) where
   pub list_differs : AllDiffer (route_list p x c)

@@ -1,15 +1,15 @@
 -- Why an exchange cannot be served.
 use Rattle.std.proofs.Common.{◌≡◌, ℕ, suc, ◌+◌, ◌<◌, ◌≤◌, true, nat_lt, List, length, Option, Some, None, inl, inr, refl, sym, ap, subst, ◌∙◌, arith}
-use Rattle.std.specs.Prelude.{◌↔◌, filter, is_some}
+use Rattle.std.specs.Prelude.{◌↔◌, filter, is_some, is_none}
 use Rattle.std.specs.Option.{option_map_or}
-use Rattle.std.proofs.lemmas.Bool.{cases_lt, lt-ltb, false≢true}
+use Rattle.std.proofs.lemmas.Bool.{and_parts, cases_lt, lt-ltb, false≢true}
 use Rattle.tx_plan.specs.Plan.{Plan, home_of}
 use Rattle.tx_plan.specs.Rules.{IsPlan}
 use Rattle.tx_mend.specs.declared.cause.Cause.{Cause}
 use Rattle.tx_mend.specs.declared.cause.Cause.TheVariants.{Rank, Groups}
 use Rattle.tx_mend.specs.Routings.{CanBeServed}
 use Rattle.tx_mend.specs.LeastRanks.{RanksOfCode, outgoing, leads_on, can_follow, least_rank}
-use Rattle.tx_mend.specs.Unserved.{groups_on, unlimited_rank, cause_of}
+use Rattle.tx_mend.specs.Unserved.{groups_on, unlimited_rank, cause_of, lacks_groups}
 use Rattle.tx_mend.specs.Laws.{IsTrueCause, CausesAreTrue}
 use Rattle.tx_mend.proofs.RoundRanks.{Ranked, within, stays_on, in_round, follows_next}
 use Rattle.tx_mend.proofs.Mendable.{serves}
@@ -31,6 +31,14 @@ module _ (p : Plan) (code spare : ℕ) where
         absurd (not_both (suc (suc limit)) x f.0 (omega arith) f.1 none))
     | inr l ↦ l
   ]
+
+  -- where groups are missing, there are too few
+  pub lacks_few : (limit x : ℕ) → limit ≤ 253 → lacks_groups p code limit spare x ≡ true → groups_on p code limit spare x ≤ spare
+  lacks_few limit x h t = few_on limit x h (none (unlimited_rank p code spare x) (and_parts (is_none (unlimited_rank p code spare x)) (nat_lt 0 (groups_on p code limit spare x)) t).0)
+    where
+      none : (o : Option ℕ) → is_none o ≡ true → o ≡ None
+      none None e = refl
+      none (Some r) e = let bad : ⊥ = cc in absurd bad
 
   module _ (ok : IsPlan p) (known : code < length p.codes) (small : spare ≤ 15) where
     served : (limit x r : ℕ) → Round (suc limit) x ≡ Some r → CanBeServed p code limit spare x

@@ -77,11 +77,18 @@ abbrev pub missing_text : Plan → Missing → List ℕ
 missing_text p m =
     codes " " ++ (exchange_name p m.exchange ++ (codes " " ++ decimal m.groups))
 
--- where groups are missing for a code, if they are anywhere
+-- the same, if it is of this code
+abbrev pub missing_for_code : Plan → (code : ℕ) → Missing → List ℕ
+missing_for_code p code m = if m.code == code then missing_text p m else []
+
+-- the word before those of a code, if there are any
+abbrev pub missing_word : List Missing → (code : ℕ) → List ℕ
+missing_word missing code = if list_any (λ m. m.code == code) missing then codes " MISSING" else []
+
+-- where groups are missing for a code
 abbrev pub missing_of : Plan → List Missing → (code : ℕ) → List ℕ
 missing_of p missing code =
-    (if list_any (λ m. m.code == code) missing then codes " MISSING" else [])
-    ++ flat_map (missing_text p) (filter (λ m. m.code == code) missing)
+    missing_word missing code ++ flat_map (missing_for_code p code) missing
 
 -- A code of which so many origins cannot be served, and where groups are missing for it; no line if
 -- there is none

@@ -1,5 +1,6 @@
 // What cannot be served, why, and where groups are missing.
 ghost use Rattle.std.specs.Prelude.{◌≡◌, ◌<◌, ◌++◌, map, length, IfOk, OnOk};
+ghost use Rattle.std.specs.Option.{option_copied};
 ghost use Rattle.tx_mend.specs.LeastRanks.{indexes, least_rank};
 ghost use Rattle.tx_mend.specs.Unserved.{groups_on, unlimited_rank, cause_of, unserved_for, unserved, lacks_groups, lacking_at, missing_for, missing};
 ghost use Rattle.tx_mend.specs.inner.CodeRanks.{rank_list, code_ranks};
@@ -149,6 +150,29 @@ fn add_lacking<'x, A: Allocator + Copy>(
     add_missing(&reach, &mut lacking.missing)
 }
 
+/// Appends what a code lacks. One that keeps its routes lacks nothing.
+fn add_for_code<'x, A: Allocator + Copy>(
+    alloc: A,
+    task: &'x Task<'x, A>,
+    code: CodeId,
+    least: Option<&'x [Option<u8>]>,
+    lacking: &mut Lacking<A>,
+) -> Result<(), NoMemory>
+    requires code { code < length task.now.plan.now.codes }
+    requires least { option_copied least ≡ code_ranks task.now.plan.now
+        task.now.limits.limit task.now.limits.spare code }
+    ensures unserved { OnOk result (lacking.new.unserved.items ≡ lacking.old.unserved.items
+        ++ unserved_for task.now.plan.now task.now.limits.limit task.now.limits.spare code) }
+    ensures missing { OnOk result (lacking.new.missing.items ≡ lacking.old.missing.items
+        ++ missing_for task.now.plan.now task.now.limits.limit task.now.limits.spare code) }
+{
+    task.plan.rules();
+    match least {
+        Some(least) => add_lacking(alloc, task, code, least, lacking),
+        None => Ok(()),
+    }
+}
+
 /// What all codes lack.
 pub fn lacking_of<A: Allocator + Copy>(
     alloc: A,
@@ -167,10 +191,8 @@ pub fn lacking_of<A: Allocator + Copy>(
         missing: Vec::new(alloc),
     };
     for index in 0..task.plan.codes() {
-        match ranks_at(table, index) {
-            Some(least) => add_lacking(alloc, task, CodeId::of(index), least, &mut lacking)?,
-            None => {}
-        }
+        let code = CodeId::of(index);
+        add_for_code(alloc, task, code, ranks_at(table, index), &mut lacking)?;
     }
     Ok(lacking)
 }

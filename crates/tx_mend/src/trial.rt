@@ -1,14 +1,15 @@
 // A group that is tried in a list.
-ghost use Rattle.std.specs.Prelude.{◌≡◌, ◌<◌, ◌||◌, ◌&&◌, ◌==◌, ℕ, Option, map, length};
+ghost use Rattle.std.specs.Prelude.{◌≡◌, ◌<◌, ◌||◌, ◌&&◌, ◌==◌, not, ℕ, Option, map, length};
 ghost use Rattle.std.specs.List.{list_all};
+ghost use Rattle.tx_plan.specs.Routes.{route_list};
 ghost use Rattle.tx_mend.specs.LeastRanks.{indexes, outgoing, leads_on};
 ghost use Rattle.tx_mend.specs.KeptRanks.{stays_by, list_with, can_follow_keeping};
 ghost use Rattle.tx_mend.specs.inner.CodeRanks.{rank_list, ranked};
 ghost use Rattle.tx_mend.specs.inner.Local.{IsLocal};
 
 use crate::across::{leads_on, stays};
-use crate::outgoing::{Outgoing, groups_at};
-use crate::rules::{Rule, count_on};
+use crate::outgoing::Outgoing;
+use crate::rules::{Rule, can_follow};
 use std::alloc::Allocator;
 use tx_plan::{CodeId, ExchangeId, GroupId, Plan};
 
@@ -31,14 +32,35 @@ pub struct Trial<'a, A: Allocator> {
 }
 
 impl<'a, A: Allocator> Trial<'a, A> {
+    /// Whether it is the group that is tried.
+    fn is_tried(&self, exchange: ExchangeId, group: GroupId) -> bool
+        ensures { result ≡ ((exchange == self.now.exchange) && (group == self.now.group)) }
+    {
+        exchange == self.exchange && group == self.group
+    }
+
     /// Whether a group stays in the list of an exchange.
     fn keeps(&self, exchange: ExchangeId, group: GroupId) -> bool
         requires { exchange < length self.now.plan.now.exchanges }
         ensures { result ≡ (stays_by self.now.plan.now (ranked self.now.ranks.now) exchange group
             || ((exchange == self.now.exchange) && (group == self.now.group))) }
     {
-        stays(self.plan, self.ranks, exchange, group)
-            || exchange == self.exchange && group == self.group
+        stays(self.plan, self.ranks, exchange, group) || self.is_tried(exchange, group)
+    }
+
+    /// Whether a group leads to a ranked exchange, if it stays.
+    fn is_on(&self, ranks: &[Option<u8>], exchange: ExchangeId, group: GroupId) -> bool
+        requires long { length ranks.now ≡ length self.now.plan.now.exchanges }
+        requires exchange { exchange < length self.now.plan.now.exchanges }
+        ensures { (of : ℕ → Option ℕ) → ranks.now ≡ rank_list self.now.plan.now of → result
+            ≡ (not (stays_by self.now.plan.now (ranked self.now.ranks.now) exchange group
+            || ((exchange == self.now.exchange) && (group == self.now.group)))
+            || leads_on self.now.plan.now of exchange group) }
+    {
+        if self.keeps(exchange, group) {
+            return leads_on(self.plan, ranks, exchange, group);
+        }
+        true
     }
 
     /// Whether all groups that stay in the list of an exchange lead to ranked exchanges.
@@ -46,12 +68,14 @@ impl<'a, A: Allocator> Trial<'a, A> {
         requires long { length ranks.now ≡ length self.now.plan.now.exchanges }
         requires exchange { exchange < length self.now.plan.now.exchanges }
         ensures { (of : ℕ → Option ℕ) → ranks.now ≡ rank_list self.now.plan.now of → result
-            ≡ list_all (λ g. leads_on self.now.plan.now of exchange g)
-            (list_with self.now.plan.now self.now.code (ranked self.now.ranks.now)
-            self.now.exchange self.now.group exchange) }
+            ≡ list_all (λ g. not (stays_by self.now.plan.now (ranked self.now.ranks.now) exchange g
+            || ((exchange == self.now.exchange) && (g == self.now.group)))
+            || leads_on self.now.plan.now of exchange g)
+            (route_list self.now.plan.now exchange self.now.code) }
     {
-        for group in self.plan.list(exchange, self.code) {
-            if self.keeps(exchange, *group) && !leads_on(self.plan, ranks, exchange, *group) {
+        let list = self.plan.list(exchange, self.code);
+        for group in list {
+            if !self.is_on(ranks, exchange, *group) {
                 return false;
             }
         }
@@ -70,8 +94,7 @@ impl<'a, A: Allocator> Rule for Trial<'a, A> {
     }
 
     fn follows(&self, ranks: &[Option<u8>], exchange: ExchangeId) -> bool {
-        let groups = groups_at(self.seizable, exchange);
-        count_on(self.plan, ranks, exchange, groups) > usize::from(self.spare)
+        can_follow(self.plan, self.seizable, self.spare, ranks, exchange)
             && self.all_on(ranks, exchange)
     }
 
