@@ -25,6 +25,7 @@ struct Reach<'a, A: Allocator> {
     code: CodeId,
     least: &'a [Option<u8>],
     unlimited: &'a [Option<u8>],
+    ghost long: { length unlimited.now ≡ length task.now.plan.now.exchanges },
     ghost within: { least.now ≡ rank_list task.now.plan.now (least_rank task.now.plan.now code
         task.now.limits.limit task.now.limits.spare) },
     ghost without: { unlimited.now ≡ rank_list task.now.plan.now

@@ -1,9 +1,10 @@
-use Rattle.std.proofs.Common.{◌≡◌, ℕ, suc, ◌++◌, ◌∙◌, List, sym, ap, subst, append-nil}
+use Rattle.std.proofs.Common.{◌≡◌, ◌++◌, ◌∙◌, List, sym, ap, subst, append-nil}
 use Rattle.std.specs.Prelude.{[], if◌then◌else◌, OnOk}
 use Rattle.tx_mend.specs.declared.cause.Missing.{Missing}
 use Rattle.tx_mend.specs.declared.cause.Unserved.{Unserved}
 use Rattle.tx_mend.specs.LeastRanks.{least_rank}
-use Rattle.tx_mend.specs.Unserved.{lacking_at}
+use Rattle.tx_mend.specs.Unserved.{unlimited_rank, lacking_at}
+use Rattle.tx_mend.specs.inner.CodeRanks.{rank_list}
 use Rattle.tx_mend.proofs.Tables.{length_ranks}
 use Rattle.tx_mend.proofs.Mendable.{ranked_served}
 use Rattle.tx_mend.proofs.causes.add_lacking.Goals as goal
@@ -30,7 +31,11 @@ returns-then-all_ranked-clause-missing g c =
     sym (ap (λ b. had ++ (if b then [] else lacking_at p t.limits.limit t.limits.spare c.args.code)) k ∙ append-nil had)
 
 pub invariant_of-reach : goal.invariant_of-reach
-invariant_of-reach g c = record { within = c.requires; without = c.deref.ensures.value ∙ c.in_ok-unlimited.ensures }
+invariant_of-reach g c =
+    let t = c.args.task.now in
+    let p = t.plan.now in
+    let all : c.deref.result.now ≡ rank_list p (unlimited_rank p c.args.code t.limits.spare) = c.deref.ensures.value ∙ c.in_ok-unlimited.ensures in
+    record { long = length_ranks p c.deref.result.now (unlimited_rank p c.args.code t.limits.spare) all; within = c.requires; without = all }
 
 pub returns-clause-missing : goal.returns-clause-missing
 returns-clause-missing g c =

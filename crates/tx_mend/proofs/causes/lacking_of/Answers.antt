@@ -28,4 +28,3 @@ loop-index-preserved g c =
       unserved = flat_grown u n c.loop-index.lacking.unserved.items c.add_for_code.new.lacking.unserved.items i.unserved (u c.of-code.result) c.in_ok-add_for_code.ensures.unserved (ap u c.of-code.ensures);
       missing = flat_grown m n c.loop-index.lacking.missing.items c.add_for_code.new.lacking.missing.items i.missing (m c.of-code.result) c.in_ok-add_for_code.ensures.missing (ap m c.of-code.ensures);
     }
-
