@@ -36,7 +36,7 @@ loop-index-preserved g c =
           let e : c.from.result + 1 ≡ suc t.limits.spare = let s = c.from.ensures in omega arith in
           let k = w.groups_on.ensures ∙ ap on at in
           let groups : (c.from.result + 1) - w.groups_on.result ≡ suc t.limits.spare - on n = (λ i. e i - k i) in
-          some_pushed gap u n c.args.missing.now.items c.loop-index.missing.items c.if-lacks_groups.missing.items _ c.loop-index.invariant (let a = w.missing-is in let b = w.in_ok-push.ensures.items in cc)
+          some_pushed gap u n c.args.missing.now.items c.loop-index.missing.items c.if-lacks_groups.missing.items (record { code = code; exchange = c.of-exchange.result; groups = (c.from.result + 1) - w.groups_on.result }) c.loop-index.invariant (let a = w.missing-is in let b = w.in_ok-push.ensures.items in cc)
           (λ i. record { code = code; exchange = at i; groups = groups i }) (says ∙ w.if-lacks_groups.true))
       | else-lacks_groups w ↦ some_passed gap u n c.args.missing.now.items c.loop-index.missing.items c.if-lacks_groups.missing.items c.loop-index.invariant (let a = w.missing-is in cc) (says ∙ w.if-lacks_groups.false)
     ]

@@ -31,7 +31,7 @@ loop-index-preserved g c =
     let at = c.of-exchange.ensures in
     let says = sym (ap u at) ∙ sym (c.is_unranked.ensures least r.within) in
     elim c.if-is_unranked.branch [
-      | then-is_unranked+in_ok-push w ↦ some_pushed told u n c.args.unserved.now.items c.loop-index.unserved.items c.if-is_unranked.unserved.items _ c.loop-index.invariant (let a = w.unserved-is in let b = w.in_ok-push.ensures.items in cc)
+      | then-is_unranked+in_ok-push w ↦ some_pushed told u n c.args.unserved.now.items c.loop-index.unserved.items c.if-is_unranked.unserved.items (record { code = code; exchange = c.of-exchange.result; cause = w.cause_of-cause.result }) c.loop-index.invariant (let a = w.unserved-is in let b = w.in_ok-push.ensures.items in cc)
           (λ i. record { code = code; exchange = at i; cause = (w.cause_of-cause.ensures ∙ ap (cause_of p code t.limits.limit t.limits.spare) at) i }) (says ∙ w.if-is_unranked.true)
       | else-is_unranked w ↦ some_passed told u n c.args.unserved.now.items c.loop-index.unserved.items c.if-is_unranked.unserved.items c.loop-index.invariant (let a = w.unserved-is in cc) (says ∙ w.if-is_unranked.false)
     ]
