@@ -9,10 +9,14 @@ use Rattle.tx_mend.specs.declared.cause.Cause.{Cause}
 use Rattle.tx_mend.specs.declared.cause.Cause.TheVariants.{Rank, Groups}
 use Rattle.tx_mend.specs.Routings.{CanBeServed}
 use Rattle.tx_mend.specs.LeastRanks.{RanksOfCode, outgoing, leads_on, can_follow, least_rank}
-use Rattle.tx_mend.specs.Unserved.{groups_on, unlimited_rank, cause_of, lacks_groups}
+use Rattle.tx_mend.specs.Unserved.{groups_on, no_limit, unlimited_rank, cause_of, lacks_groups}
 use Rattle.tx_mend.specs.Laws.{IsTrueCause, CausesAreTrue}
 use Rattle.tx_mend.proofs.RoundRanks.{Ranked, within, stays_on, in_round, follows_next}
 use Rattle.tx_mend.proofs.Mendable.{serves}
+
+limit_is : no_limit ≡ 254
+unfolding no_limit
+limit_is = refl
 
 module _ (p : Plan) (code spare : ℕ) where
   abbrev Round : ℕ → RanksOfCode
@@ -21,8 +25,12 @@ module _ (p : Plan) (code spare : ℕ) where
   later : (n m x r : ℕ) → n ≤ m → Round n x ≡ Some r → Round m x ≡ Some r
   later n m x r h e = stays_on (home_of p code) (can_follow p spare) m n x r h e
 
-  not_both : (n x r : ℕ) → n ≤ 255 → Round n x ≡ Some r → Round 255 x ≡ None → ⊥
-  not_both n x r h e none = let k = later n 255 x r h e in let bad : ⊥ = cc in bad
+  -- the rounds that rank whatever can be ranked
+  abbrev last : ℕ
+  last = suc no_limit
+
+  not_both : (n x r : ℕ) → n ≤ 255 → Round n x ≡ Some r → Round last x ≡ None → ⊥
+  not_both n x r h e none = let m = limit_is in let k = later n last x r (omega arith) e in let bad : Some r ≡ None = sym k ∙ none in let no : ⊥ = cc in no
 
   -- without a rank at any limit too few groups lead on
   pub few_on : (limit x : ℕ) → limit ≤ 253 → unlimited_rank p code spare x ≡ None → groups_on p code limit spare x ≤ spare
@@ -52,9 +60,9 @@ module _ (p : Plan) (code spare : ℕ) where
         by (Some r) e s = (r, e)
 
     module _ (limit x : ℕ) (few : limit ≤ 253) (not_served : CanBeServed p code limit spare x → ⊥) where
-      by_rank : (r : ℕ) → Round 255 x ≡ Some r → IsTrueCause p code limit spare x (Rank r)
+      by_rank : (r : ℕ) → Round last x ≡ Some r → IsTrueCause p code limit spare x (Rank r)
       by_rank r e =
-          let own = in_round (home_of p code) (can_follow p spare) 255 x r e in
+          let own = in_round (home_of p code) (can_follow p spare) last x r e in
           let beyond : limit + 1 < r = elim (cases_lt (suc limit) r) [
             | inl l ↦ omega arith
             | inr l ↦ absurd (not_served (served limit x r (later r (suc limit) x r l own)))
@@ -63,20 +71,20 @@ module _ (p : Plan) (code spare : ℕ) where
             λ other h. (
               λ k.
                   let s = ranked other x k in
-                  let same : s.0 ≡ r = let a = later (suc other) 255 x s.0 (omega arith) s.1 in let b : Some s.0 ≡ Some r = sym a ∙ e in cc in
+                  let same : s.0 ≡ r = let a = later (suc other) last x s.0 (let m = limit_is in omega arith) s.1 in let b : Some s.0 ≡ Some r = sym a ∙ e in cc in
                   let w = within (home_of p code) (can_follow p spare) (suc other) x s.0 s.1 in
                   omega arith,
               λ l. served other x r (later r (suc other) x r (omega arith) own),
             ),
           )
 
-      by_groups : Round 255 x ≡ None → IsTrueCause p code limit spare x (Groups (groups_on p code limit spare x))
+      by_groups : Round last x ≡ None → IsTrueCause p code limit spare x (Groups (groups_on p code limit spare x))
       by_groups e = (few_on limit x few e, λ other h k. let s = ranked other x k in not_both (suc other) x s.0 (omega arith) s.1 e)
 
       pub true_cause : IsTrueCause p code limit spare x (cause_of p code limit spare x)
-      true_cause = by (Round 255 x) refl
+      true_cause = by (Round last x) refl
         where
-          by : (o : Option ℕ) → Round 255 x ≡ o → IsTrueCause p code limit spare x (option_map_or (λ r. Rank r) o (Groups (groups_on p code limit spare x)))
+          by : (o : Option ℕ) → Round last x ≡ o → IsTrueCause p code limit spare x (option_map_or (λ r. Rank r) o (Groups (groups_on p code limit spare x)))
           by None e = by_groups e
           by (Some r) e = by_rank r e
 

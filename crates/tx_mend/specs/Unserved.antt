@@ -15,9 +15,13 @@ abbrev pub groups_on : Plan → (code limit spare x : ℕ) → ℕ
 groups_on p code limit spare x =
     length (filter (λ g. leads_on p (least_rank p code limit spare) x g) (outgoing p x))
 
--- the least rank of an exchange with a limit that bounds none, since there are at most 256 exchanges
+-- a limit that bounds no rank, since there are at most 256 exchanges
+unfoldable pub no_limit : ℕ
+no_limit = 254
+
+-- the least rank of an exchange without a limit
 abbrev pub unlimited_rank : Plan → (code spare : ℕ) → RanksOfCode
-unlimited_rank p code spare = least_rank p code 254 spare
+unlimited_rank p code spare = least_rank p code no_limit spare
 
 -- Why an exchange without a least rank cannot be served: the limit is too small for its rank, or it
 -- has none whatever the limit, since too few groups lead on.

@@ -7,15 +7,13 @@ use Rattle.tx_mend.proofs.causes.groups_on.Goals as goal
 pub count_on-requires : goal.count_on-requires
 count_on-requires g c =
     let r = c.args.reach.now in
-    let t = r.task.now in
-    length_ranks t.plan.now r.least.now (least_rank t.plan.now r.code t.limits.limit t.limits.spare) r.within
+    length_ranks r.plan.now r.least.now (least_rank r.plan.now r.code r.limits.limit r.limits.spare) r.within
 
 pub returns : goal.returns
 returns g c =
     let r = c.args.reach.now in
-    let t = r.task.now in
-    let p = t.plan.now in
+    let p = r.plan.now in
     let x = c.args.exchange in
-    let least = least_rank p r.code t.limits.limit t.limits.spare in
-    let groups : c.groups_at-groups.result.now ≡ outgoing p x = c.groups_at-groups.ensures ∙ list_got (outgoing p) (length p.exchanges) x t.seizable.now t.groups c.requires in
+    let least = least_rank p r.code r.limits.limit r.limits.spare in
+    let groups : c.groups_at-groups.result.now ≡ outgoing p x = c.groups_at-groups.ensures ∙ list_got (outgoing p) (length p.exchanges) x r.seizable.now r.groups c.requires in
     c.count_on.ensures least r.within ∙ ap (λ (l : List ℕ). length (filter (λ g. leads_on p least x g) l)) groups

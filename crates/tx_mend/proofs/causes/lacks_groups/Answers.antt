@@ -8,23 +8,21 @@ use Rattle.tx_mend.proofs.causes.lacks_groups.Goals as goal
 pub returns-then-is_none : goal.returns-then-is_none
 returns-then-is_none g c =
     let r = c.args.reach.now in
-    let t = r.task.now in
-    let p = t.plan.now in
+    let p = r.plan.now in
     let x = c.args.exchange in
     let at = c.index.ensures in
     let h = c.requires in
-    let on = groups_on p r.code t.limits.limit t.limits.spare x in
-    let here = none_is (get_or r.unlimited.now c.index.result None) c.is_none.result c.is_none.ensures ∙ ap is_none (value_at (unlimited_rank p r.code t.limits.spare) (length p.exchanges) c.index.result None r.unlimited.now r.without (omega arith) ∙ ap (unlimited_rank p r.code t.limits.spare) at) in
+    let on = groups_on p r.code r.limits.limit r.limits.spare x in
+    let here = none_is (get_or r.unlimited.now c.index.result None) c.is_none.result c.is_none.ensures ∙ ap is_none (value_at (unlimited_rank p r.code r.limits.spare) (length p.exchanges) c.index.result None r.unlimited.now r.without (omega arith) ∙ ap (unlimited_rank p r.code r.limits.spare) at) in
     ap (nat_lt 0) c.groups_on.ensures ∙ sym (ap (λ b. b && nat_lt 0 on) (sym here ∙ c.if-is_none.true))
 
 pub returns-else-is_none : goal.returns-else-is_none
 returns-else-is_none g c =
     let r = c.args.reach.now in
-    let t = r.task.now in
-    let p = t.plan.now in
+    let p = r.plan.now in
     let x = c.args.exchange in
     let at = c.index.ensures in
     let h = c.requires in
-    let on = groups_on p r.code t.limits.limit t.limits.spare x in
-    let here = none_is (get_or r.unlimited.now c.index.result None) c.is_none.result c.is_none.ensures ∙ ap is_none (value_at (unlimited_rank p r.code t.limits.spare) (length p.exchanges) c.index.result None r.unlimited.now r.without (omega arith) ∙ ap (unlimited_rank p r.code t.limits.spare) at) in
+    let on = groups_on p r.code r.limits.limit r.limits.spare x in
+    let here = none_is (get_or r.unlimited.now c.index.result None) c.is_none.result c.is_none.ensures ∙ ap is_none (value_at (unlimited_rank p r.code r.limits.spare) (length p.exchanges) c.index.result None r.unlimited.now r.without (omega arith) ∙ ap (unlimited_rank p r.code r.limits.spare) at) in
     c.if-is_none.false ∙ sym (ap (λ b. b && nat_lt 0 on) (sym here ∙ c.if-is_none.false))
