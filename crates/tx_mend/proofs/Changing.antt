@@ -9,6 +9,7 @@ use Rattle.tx_plan.specs.Rules.{IsPlan, IsRoute}
 use Rattle.tx_plan.specs.Routes.{route_list, is_origin_for}
 use Rattle.tx_plan.specs.Mixed.{rerouted}
 use Rattle.tx_plan.specs.Among.{Among}
+use Rattle.tx_plan.proofs.Lists.{same_tests}
 use Rattle.tx_plan.proofs.Among.{among_left, among_right, among_cases, among_filter, filter_among}
 use Rattle.tx_rank.specs.Walks.{net_of}
 use Rattle.tx_rank.specs.Heights.{IsReached}
@@ -163,18 +164,13 @@ module _ (p : Plan) (ok : IsPlan p) (limit spare : ℕ) (small : spare ≤ 15) (
           let more = groups_below p R r x in
           let all = filled spare had more in
           let k = filled_extends spare had more in
-          let same : (g : ℕ) → Among g (present x) → t g ≡ list_any (λ h. h == g) all = λ g m. alike (t g) (list_any (λ h. h == g) all)
+          let same : (g : ℕ) → Among g (present x) → t g ≡ list_any (λ h. h == g) all = λ g m. same_tests (t g) (list_any (λ h. h == g) all)
           (λ a. stands_any g all (filled_keeps spare had more g (among_filter t g (present x) m a)))
           (λ b. elim (among_cases g had k.added (subst (λ (l : List ℕ). Among g l) k.is (any_stands g all b))) [
             | inl n ↦ (filter_among t g (present x) n).1
             | inr n ↦ below_of p ok c limit spare R x r g (below_leads p ok limit spare c small R (kept_ranking p ok c limit spare) r x g (k.of g n))
           ]) in
           (k.added, k.is ∙ ap (λ (l : List ℕ). l ++ k.added) (filter_alike t (λ g. list_any (λ h. h == g) all) (present x) same))
-        where
-          alike : (a b : Bool) → (a ≡ true → b ≡ true) → (b ≡ true → a ≡ true) → a ≡ b
-          alike true b f g = sym (f refl)
-          alike false true f g = g refl
-          alike false false f g = refl
 
   pub keeps_order : (x : ℕ) → x < length p.exchanges → Begins x (route_list M x c)
   keeps_order x h = holds (Begins x) x h (begins_present x) (λ k t. begins_by_ranks x)
