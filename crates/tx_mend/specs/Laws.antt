@@ -98,7 +98,7 @@ AddsWhatIsNeeded p q spare = (x code g : ℕ) → x < length p.exchanges → cod
     → Among g (route_list q x code) → (Among g (route_list p x code) → ⊥)
     → IsReached (net_of q code) x × (length (route_list q x code) ≡ suc spare)
 
--- each list of the plan q begins with the groups of the list in the plan p that stay, in their order
+-- each list of the plan q begins with the groups of the list in the plan p that stay, in order
 abbrev pub KeepsOrder : (p q : Plan) → Type 0
 KeepsOrder p q = (x code : ℕ) → x < length p.exchanges → code < length p.codes
     → (added : List ℕ) × (route_list q x code

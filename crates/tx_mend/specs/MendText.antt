@@ -107,9 +107,9 @@ abbrev pub code_lines : Plan → List Unserved → List Missing → List ℕ
 code_lines p unserved missing =
     flat_map (code_line p unserved missing) (range_with_len 0 (length p.codes))
 
--- The report of a plan for which no routes can be certified: what was asked, a line for the pair and
--- one for each that cannot be served, a line for each code of these, and NO with the number of the
--- lines but those of codes
+-- The report of a plan for which no routes can be certified: what was asked, a line for the pair
+-- and one for each that cannot be served, a line for each code of these, and NO with the number of
+-- the lines but those of codes
 abbrev pub unserved_text : Plan → (limit spare : ℕ) → List Unserved → List Missing
     → Option (ℕ × ℕ) → List ℕ
 unserved_text p limit spare unserved missing pair = head_line limit spare

@@ -24,8 +24,8 @@ module _ {A : Type 0} where
   OnMended Holds (Mended plan before cert) = Holds plan before cert
   OnMended Holds (NoRouting plan unserved missing pair) = Unit {0}
 
-  -- it holds of the plan, of what cannot be served, of where groups are missing and of the ambiguous
-  -- pair, if no routes of the network are certified
+  -- it holds of the plan, of what cannot be served, of where groups are missing and of the
+  -- ambiguous pair, if no routes of the network are certified
   abbrev pub OnNoRouting : (Plan → List Unserved → List Missing → Option (ℕ × ℕ) → Type 0)
       → Mending A → Type 0
   OnNoRouting Holds (Mended plan before cert) = Unit {0}

@@ -46,8 +46,8 @@ abbrev pub lacks_groups : Plan → (code limit spare x : ℕ) → Bool
 lacks_groups p code limit spare x =
     is_none (unlimited_rank p code spare x) && nat_lt 0 (groups_on p code limit spare x)
 
--- each exchange, origin or not, from which too few groups lead on for a code, but some, and how many
--- more it would need
+-- each exchange, origin or not, from which too few groups lead on for a code, but some, and how
+-- many more it would need
 abbrev pub lacking_at : Plan → (limit spare code : ℕ) → List Missing
 lacking_at p limit spare code = map (λ x. record {
   code = code;

@@ -30,14 +30,14 @@ pub fn mending_is_exact()
     ensures called { NoListWithoutCalls }
 {}
 
-/// A mended plan keeps all groups of its lists that can stay beside each other, and adds only what is
-/// needed. Does nothing: its contract is a law.
+/// A mended plan keeps all groups of its lists that can stay beside each other, and adds only what
+/// is needed. Does nothing: its contract is a law.
 pub fn mending_changes_least()
     ensures { MendingChangesLeast }
 {}
 
-/// The cause that is told of an exchange that cannot be served is true. Does nothing: its contract is
-/// a law.
+/// The cause that is told of an exchange that cannot be served is true. Does nothing: its contract
+/// is a law.
 pub fn causes_are_true()
     ensures { CausesAreTrue }
 {}

@@ -6,8 +6,8 @@
 //! exchanges are found, which show whether any routes can be certified. They are raised as far as
 //! needed so that the lists keep as many of their groups as can stay beside each other, and only
 //! lists that are then too short get others. Where no routes can be certified, `mend` says which
-//! exchanges cannot be served for which code, and why. `write_mending` writes the lists that change,
-//! or what cannot be served.
+//! exchanges cannot be served for which code, and why. `write_mending` writes the lists that
+//! change, or what cannot be served.
 #![tactic(auto)]
 
 mod across;

@@ -40,13 +40,13 @@ pub enum Mending<A: Allocator = Global> {
     /// certified.
     Mended(Plan<A>, Routes<A>, Cert<A>),
     /// No routes can be certified. The plan as it was, each code with the origins that cannot be
-    /// served for it, the exchanges where groups are missing for these codes, and the ambiguous pair
-    /// of codes.
+    /// served for it, the exchanges where groups are missing for these codes, and the ambiguous
+    /// pair of codes.
     NoRouting(Plan<A>, Vec<Unserved, A>, Vec<Missing, A>, Option<(CodeId, CodeId)>),
 }
 
-/// What is found of a plan: the groups that each exchange may seize, where calls may start, the least
-/// ranks of each code, what cannot be served, and the ambiguous pair.
+/// What is found of a plan: the groups that each exchange may seize, where calls may start, the
+/// least ranks of each code, what cannot be served, and the ambiguous pair.
 #[derive(Drop)]
 struct Found<A: Allocator> {
     seizable: Vec<Outgoing<A>, A>,
@@ -167,9 +167,9 @@ fn settle<A: Allocator + Copy>(
 }
 
 /// Mends a plan: routes over its groups that are certified for the limits, wherever any are. A code
-/// whose present routes can be certified keeps them, and any other keeps all groups of its lists that
-/// can stay beside each other. The mended plan is given after the checker has said Yes to it. Else it
-/// says which exchanges cannot be served for which code, and why. `Err` is lack of memory.
+/// whose present routes can be certified keeps them, and any other keeps all groups of its lists
+/// that can stay beside each other. The mended plan is given after the checker has said Yes to it.
+/// Else it says which exchanges cannot be served for which code, and why. `Err` is lack of memory.
 pub fn mend<A: Allocator + Copy>(
     alloc: A,
     plan: Plan<A>,

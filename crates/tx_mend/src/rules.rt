@@ -69,7 +69,8 @@ pub fn can_follow<A: Allocator>(
     ranks: &[Option<u8>],
     exchange: ExchangeId,
 ) -> bool
-    requires seizable { seizable.now ≡ map (outgoing plan.now) (indexes (length plan.now.exchanges)) }
+    requires seizable { seizable.now
+        ≡ map (outgoing plan.now) (indexes (length plan.now.exchanges)) }
     requires long { length ranks.now ≡ length plan.now.exchanges }
     requires exchange { exchange < length plan.now.exchanges }
     ensures { (of : ℕ → Option ℕ) → ranks.now ≡ rank_list plan.now of
