@@ -14,8 +14,8 @@ use std::alloc::Allocator;
 use tx_plan::{CodeId, ExchangeId, GroupId, Plan};
 
 /// A group that is tried in the list of an exchange for a code, beside all that stay by these
-/// ranks. By routes that keep them, an exchange follows that may seize more than `spare` groups that
-/// lead to ranked exchanges, if those that it keeps do so too.
+/// ranks. By routes that keep them, an exchange follows that may seize more than `spare` groups
+/// that lead to ranked exchanges, if those that it keeps do so too.
 #[derive(Drop)]
 pub struct Trial<'a, A: Allocator> {
     pub plan: &'a Plan<A>,

@@ -106,8 +106,7 @@ fn is_least(ranked: Ranked<'_>, mended: &Plan, survey: &Survey, exchange: Exchan
     }
     let is_longer = list.iter().any(|it| !before.contains(it));
     !is_longer
-        || is_reached(survey, exchange)
-            && list.len() == usize::from(ranked.asked.limits.spare) + 1
+        || is_reached(survey, exchange) && list.len() == usize::from(ranked.asked.limits.spare) + 1
 }
 
 /// How the list of an exchange in a mended plan, or its rank, differs from what it has to be.
@@ -177,9 +176,7 @@ fn lists_differ(
 ) -> Result<Option<Difference>, NoMemory> {
     let list = &mut answers.list;
     for (present, survey) in asked.surveys.iter().zip(&answers.surveys) {
-        let differs = code_differs(
-            alloc, asked, mended, present, survey, list, wanted, tally,
-        )?;
+        let differs = code_differs(alloc, asked, mended, present, survey, list, wanted, tally)?;
         if differs.is_some() {
             return Ok(differs);
         }

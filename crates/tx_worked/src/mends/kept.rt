@@ -57,8 +57,8 @@ impl Asked<'_> {
         Ok(())
     }
 
-    /// Adds each group of each list for a code: the first choices of all exchanges, nearest the home
-    /// first, then the second ones, and so on.
+    /// Adds each group of each list for a code: the first choices of all exchanges, nearest the
+    /// home first, then the second ones, and so on.
     fn add_choices(&self, code: CodeId, choices: &mut Vec<Listed>) -> Result<(), NoMemory> {
         for choice in 0..self.plan.groups() {
             for rank in 0..self.plan.exchanges() {
@@ -116,7 +116,8 @@ fn keeps(ranked: Ranked<'_>, tried: Listed, routing: &Plan, choices: &[Listed]) 
     true
 }
 
-/// The least ranks by routings that have each group that stays by some ranks, and one that is tried.
+/// The least ranks by routings that have each group that stays by some ranks, and one that is
+/// tried.
 fn ranks_with(
     alloc: Global,
     ranked: Ranked<'_>,

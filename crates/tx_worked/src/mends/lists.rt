@@ -119,11 +119,7 @@ impl<'a> Ranked<'a> {
     }
 
     /// Adds the list of an exchange by these ranks.
-    fn add_by_rank(
-        &self,
-        exchange: ExchangeId,
-        list: &mut Vec<GroupId>,
-    ) -> Result<(), NoMemory> {
+    fn add_by_rank(&self, exchange: ExchangeId, list: &mut Vec<GroupId>) -> Result<(), NoMemory> {
         if let Some(rank) = self.rank(exchange) {
             self.add_kept(exchange, rank, list)?;
             for far in 0..rank {

@@ -102,10 +102,7 @@ fn none_served(alloc: Global, plan: &Plan) -> Result<Served, NoMemory> {
 
 /// The greatest limit that can be asked for, and a spare number.
 fn without_limit(spare: u8) -> Limits {
-    Limits {
-        limit: 62,
-        spare,
-    }
+    Limits { limit: 62, spare }
 }
 
 impl CodeServed {
@@ -117,7 +114,9 @@ impl CodeServed {
             routings: Vec::new(alloc),
         };
         for _ in 0..NUMBERS {
-            served.unlimited.push(vec![in alloc; None; plan.exchanges()]?)?;
+            served
+                .unlimited
+                .push(vec![in alloc; None; plan.exchanges()]?)?;
             for _ in 0..NUMBERS {
                 served.numbers.push(none_served(alloc, plan)?)?;
             }
