@@ -1,4 +1,5 @@
-use Rattle.std.proofs.Common.{◌≡◌, ℕ, ◌+◌, ◌∙◌, List, Option, length, take, sym, ap}
+use Rattle.std.proofs.Common.{◌≡◌, ℕ, ◌+◌, ◌≤◌, ◌∙◌, List, Option, length, take, sym, ap, arith}
+use Rattle.std.proofs.lemmas.List.{take_all}
 use Rattle.std.specs.List.{flat_map, fold}
 use Rattle.tx_mend.specs.LeastRanks.{RanksOfCode}
 use Rattle.tx_mend.specs.KeptRanks.{put_back, choice_at}
@@ -20,3 +21,11 @@ loop-exchange-preserved g c =
           c.in_ok-put_back_at.ensures (fold put of (flat_map rows (take c.loop-exchange.exchange-index xs))) (i.put of e)
           ∙ sym (ap (rank_list p) (fold_taken put of rows xs c.loop-exchange.exchange-index c.exchange-item.result c.loop-exchange-test.true c.exchange-item.is));
     }
+
+pub returns : goal.returns
+returns g c = λ of e.
+    let t = c.args.task.now in
+    let p = t.plan.now in
+    let put = put_back p c.args.code t.limits.limit t.limits.spare in
+    c.loop-exchange.invariant.put of e
+    ∙ ap (λ l. rank_list p (fold put of (flat_map (choice_at p c.args.code c.args.choice) l))) (take_all c.args.exchanges.now c.loop-exchange.exchange-index (let t = c.loop-exchange-test.false in omega arith))
