@@ -54,7 +54,7 @@ status_of_done (Changed (UnsoundChange mixture)) = 1
 status_of_done (Ordered (IsOrdered stage)) = 0
 status_of_done (Ordered NoOrder) = 1
 status_of_done (Mended (IsMended plan before cert)) = 0
-status_of_done (Mended (NoRouting plan unserved pair)) = 1
+status_of_done (Mended (NoRouting plan unserved missing pair)) = 1
 status_of_done (Graded grade) = if is_some grade.plan then 0 else 1
 status_of_done (Survived (Tried outcomes)) =
     if list_any (λ o. not (length o.cuts.items == 0)) outcomes.items then 1 else 0

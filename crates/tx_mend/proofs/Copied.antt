@@ -1,14 +1,16 @@
 -- Entries that are copied one after another.
-use Rattle.std.proofs.Common.{◌≡◌, ◌≢◌, ℕ, zero, suc, ◌+◌, ◌==◌, Bool, true, false, cond, ◌&&◌, ◌||◌, List, [], ◌∷◌, ◌++◌, take, Option, Some, None, inl, inr, refl, sym, ap, ◌∙◌, append-nil}
-use Rattle.std.specs.Prelude.{filter, slice_get}
-use Rattle.std.specs.List.{list_any}
+use Rattle.std.proofs.Common.{◌≡◌, ◌≢◌, ℕ, zero, suc, ◌+◌, ◌==◌, Bool, true, false, ◌&&◌, ◌||◌, List, [], ◌∷◌, ◌++◌, take, Option, Some, None, inl, inr, refl, sym, ap, ◌∙◌, append-nil}
+use Rattle.std.specs.Prelude.{slice_get}
+use Rattle.std.specs.List.{list_any, flat_map}
 use Rattle.std.specs.Option.{option_map}
 use Rattle.std.proofs.lemmas.Bool.{ne_eqb, cases_eq, and_left, and_right}
-use Rattle.std.proofs.lemmas.List.Elements.{filter-append}
+use Rattle.std.proofs.lemmas.List.Concat.{flat_map-append}
 use Rattle.tx_plan.specs.declared.ids.Pair.{Pair}
 use Rattle.tx_plan.specs.Plan.{Plan, Route}
 use Rattle.tx_plan.specs.Rules.{EachPair, IsPlan}
 use Rattle.tx_plan.specs.Routes.{route_list}
+use Rattle.tx_plan.specs.Among.{Among}
+use Rattle.tx_mend.specs.Mended.{route_if}
 use Rattle.tx_plan.proofs.ListFound.{list_found}
 use Rattle.tx_rank.proofs.Ways.{all_among}
 use Rattle.tx_rank.proofs.Looks.{among_at, take_next}
@@ -31,15 +33,23 @@ module _ {A : Type 0} (exchange code : A → ℕ) where
       ] in
       ap (λ b. b || list_any (alike r) (take i rs)) t ∙ none_before rs i r d.1 at
 
-pub none_filtered : {A : Type 0} (t s : A → Bool) (xs : List A) → list_any t xs ≡ false → list_any t (filter s xs) ≡ false
-none_filtered t s [] h = refl
-none_filtered t s (x ∷ xs) h = elim (t x) as (λ b. t x ≡ b → (b || list_any t xs) ≡ false → list_any t (cond (s x) (x ∷ filter s xs) (filter s xs)) ≡ false) [
-  | true ↦ λ e k. let bad : ⊥ = cc in absurd bad
-  | false ↦ λ e k. elim (s x) as (λ c. list_any t (cond c (x ∷ filter s xs) (filter s xs)) ≡ false) [
-    | true ↦ ap (λ b. b || list_any t (filter s xs)) e ∙ none_filtered t s xs k
-    | false ↦ none_filtered t s xs k
-  ]
-] refl h
+-- a route of a pair is for that pair
+pub of_pair : (k : ℕ × ℕ) (l : List ℕ) (q : Route) → Among q (route_if k l) → (k.0 ≡ q.exchange) × (k.1 ≡ q.code)
+of_pair k [] q m = absurd m
+of_pair k (g ∷ gs) q (inl e) = (ap (λ (r : Route). r.exchange) e, ap (λ (r : Route). r.code) e)
+of_pair k (g ∷ gs) q (inr bad) = absurd bad
+
+-- what routes become has no route of a pair that none of them is of
+pub none_settled : (t : Route → Bool) (f : Route → List Route) (xs : List Route) → ((r : Route) (q : Route) → Among q (f r) → t q ≡ t r) → list_any t xs ≡ false → list_any t (flat_map f xs) ≡ false
+none_settled t f [] of h = refl
+none_settled t f (r ∷ rs) of h =
+    let own : t r ≡ false = elim (t r) as (λ b. (b || list_any t rs) ≡ false → b ≡ false) [ true ↦ λ k. let bad : ⊥ = cc in absurd bad | false ↦ λ k. refl ] h in
+    let rest : list_any t rs ≡ false = sym (ap (λ b. b || list_any t rs) own) ∙ h in
+    on (f r) (flat_map f rs) (λ q m. of r q m ∙ own) (none_settled t f rs of rest)
+  where
+    on : (qs more : List Route) → ((q : Route) → Among q qs → t q ≡ false) → list_any t more ≡ false → list_any t (qs ++ more) ≡ false
+    on [] more k m = m
+    on (q ∷ qs) more k m = ap (λ b. b || list_any t (qs ++ more)) (k q (inl refl)) ∙ on qs more (λ p n. k p (inr n)) m
 
 -- ONE MORE
 
@@ -47,14 +57,9 @@ module _ {A : Type 0} (xs : List A) (i : ℕ) (x : A) (at : slice_get xs i ≡ S
   pub copied_next : (old new : List A) → old ≡ take i xs → new ≡ old ++ x ∷ [] → new ≡ take (i + 1) xs
   copied_next old new a b = b ∙ ap (λ l. l ++ x ∷ []) a ∙ sym (take_next xs i x at)
 
-  filtered_next : (s : A → Bool) (b : Bool) → s x ≡ b → filter s (take (i + 1) xs) ≡ filter s (take i xs) ++ cond b (x ∷ []) []
-  filtered_next s b e = ap (filter s) (take_next xs i x at) ∙ filter-append s (take i xs) (x ∷ []) ∙ ap (λ c. filter s (take i xs) ++ cond c (x ∷ []) []) e
-
-  pub stays_next : (s : A → Bool) (old new : List A) → old ≡ filter s (take i xs) → s x ≡ true → new ≡ old ++ x ∷ [] → new ≡ filter s (take (i + 1) xs)
-  stays_next s old new a e b = b ∙ ap (λ l. l ++ x ∷ []) a ∙ sym (filtered_next s true e)
-
-  pub goes_next : (s : A → Bool) (old new : List A) → old ≡ filter s (take i xs) → s x ≡ false → new ≡ old → new ≡ filter s (take (i + 1) xs)
-  goes_next s old new a e b = b ∙ a ∙ sym (filtered_next s false e ∙ append-nil (filter s (take i xs)))
+  -- of what entries become
+  pub mapped_next : {B : Type 0} (f : A → List B) (old new : List B) → old ≡ flat_map f (take i xs) → new ≡ old ++ f x → new ≡ flat_map f (take (i + 1) xs)
+  mapped_next f old new a b = b ∙ ap (λ l. l ++ f x) a ∙ sym (ap (flat_map f) (take_next xs i x at) ∙ flat_map-append f (take i xs) (x ∷ []) ∙ ap (λ l. flat_map f (take i xs) ++ l) (append-nil (f x)))
 
 -- THE ENTRY AT AN INDEX
 

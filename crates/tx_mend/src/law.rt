@@ -1,6 +1,6 @@
 // The laws of mending.
 ghost use Rattle.tx_mend.specs.LeastRanks.{LeastRanksAreLeast};
-ghost use Rattle.tx_mend.specs.Laws.{LeastRanksAreAttained, LeastRanksServe, KeepsWhatCanBeKept, MendedIsMended, MendingIsExact, NoListWithoutCalls, CertifiedStays};
+ghost use Rattle.tx_mend.specs.Laws.{LeastRanksAreAttained, LeastRanksServe, KeepsWhatCanBeKept, MendedIsMended, MendingIsExact, NoListWithoutCalls, MendingChangesLeast, CertifiedStays, CausesAreTrue};
 
 /// No ranks of any routes of a network are smaller than its least ranks, and along some routes the
 /// least ranks fall. Does nothing: its contract is a law.
@@ -28,6 +28,18 @@ pub fn mending_is_exact()
     ensures mended { MendedIsMended }
     ensures exact { MendingIsExact }
     ensures called { NoListWithoutCalls }
+{}
+
+/// A mended plan keeps all groups of its lists that can stay beside each other, and adds only what
+/// is needed. Does nothing: its contract is a law.
+pub fn mending_changes_least()
+    ensures { MendingChangesLeast }
+{}
+
+/// The cause that is told of an exchange that cannot be served is true. Does nothing: its contract
+/// is a law.
+pub fn causes_are_true()
+    ensures { CausesAreTrue }
 {}
 
 /// A plan that is certified is its own mended plan. Does nothing: its contract is a law.
