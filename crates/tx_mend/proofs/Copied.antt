@@ -1,6 +1,6 @@
 -- Entries that are copied one after another.
-use Rattle.std.proofs.Common.{◌≡◌, ◌≢◌, ℕ, zero, suc, ◌+◌, ◌==◌, Bool, true, false, ◌&&◌, ◌||◌, List, [], ◌∷◌, ◌++◌, take, Option, Some, None, inl, inr, refl, sym, ap, ◌∙◌, append-nil}
-use Rattle.std.specs.Prelude.{slice_get}
+use Rattle.std.proofs.Common.{◌≡◌, ◌≢◌, ℕ, zero, suc, ◌+◌, ◌==◌, Bool, true, false, cond, ◌&&◌, ◌||◌, List, [], ◌∷◌, ◌++◌, take, Option, Some, None, inl, inr, refl, sym, ap, ◌∙◌, append-nil}
+use Rattle.std.specs.Prelude.{filter, slice_get}
 use Rattle.std.specs.List.{list_any, flat_map}
 use Rattle.std.specs.Option.{option_map}
 use Rattle.std.proofs.lemmas.Bool.{ne_eqb, cases_eq, and_left, and_right}
@@ -32,6 +32,16 @@ module _ {A : Type 0} (exchange code : A → ℕ) where
         | inl m ↦ and_right (exchange q == exchange r) (code q == code r) (ne_eqb (code q) (code r) (apart m))
       ] in
       ap (λ b. b || list_any (alike r) (take i rs)) t ∙ none_before rs i r d.1 at
+
+pub none_filtered : {A : Type 0} (t s : A → Bool) (xs : List A) → list_any t xs ≡ false → list_any t (filter s xs) ≡ false
+none_filtered t s [] h = refl
+none_filtered t s (x ∷ xs) h = elim (t x) as (λ b. t x ≡ b → (b || list_any t xs) ≡ false → list_any t (cond (s x) (x ∷ filter s xs) (filter s xs)) ≡ false) [
+  | true ↦ λ e k. let bad : ⊥ = cc in absurd bad
+  | false ↦ λ e k. elim (s x) as (λ c. list_any t (cond c (x ∷ filter s xs) (filter s xs)) ≡ false) [
+    | true ↦ ap (λ b. b || list_any t (filter s xs)) e ∙ none_filtered t s xs k
+    | false ↦ none_filtered t s xs k
+  ]
+] refl h
 
 -- a route of a pair is for that pair
 pub of_pair : (k : ℕ × ℕ) (l : List ℕ) (q : Route) → Among q (route_if k l) → (k.0 ≡ q.exchange) × (k.1 ≡ q.code)

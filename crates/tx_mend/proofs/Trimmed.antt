@@ -25,7 +25,7 @@ use Rattle.tx_mend.specs.KeptRanks.{kept_rank}
 use Rattle.tx_mend.specs.Lists.{list_of_rank, list_by, full_list, comes_in, comes_to, mended_list}
 use Rattle.tx_mend.specs.Mended.{pairs_of, route_if, mended_routes, mended}
 use Rattle.tx_mend.specs.Unserved.{unserved}
-use Rattle.tx_mend.specs.Laws.{IsMendedPlan, MendedIsMended, MendingIsExact, NoListWithoutCalls}
+use Rattle.tx_mend.specs.Laws.{IsMendedPlan, MendedIsMended, MendingIsExact}
 use Rattle.tx_mend.specs.inner.Full.{full_routes, full, settled_list, settled_route}
 use Rattle.tx_mend.proofs.Least.{list_cases}
 use Rattle.tx_mend.proofs.LeastLists.{IsList, present_list}
@@ -130,12 +130,6 @@ module _ (p : Plan) (ok : IsPlan p) (limit spare : ℕ) (small : spare ≤ 15) w
 
     pub called_reached : (x : ℕ) → comes_to p limit spare c x ≡ true → IsReached (net_of M c) x
     called_reached x h = comes_reached p (full_list p limit spare c) c known (mended_routes p limit spare) limit away_from has_there (suc limit) x (omega arith) h
-
-    new_reached : (x : ℕ) → x < length p.exchanges → route_list p x c ≡ [] → route_list M x c ≢ [] → IsReached (net_of M c) x
-    new_reached x h none some = elim (comes_to p limit spare c x) as (λ b. comes_to p limit spare c x ≡ b → IsReached (net_of M c) x) [
-      | true ↦ λ e. called_reached x e
-      | false ↦ λ e. absurd (some (is_mended.lists x c h known ∙ ap (λ b. if b then full_list p limit spare c x else route_list p x c) e ∙ none))
-    ] refl
 
   -- WHERE IT IS CERTIFIED
 
@@ -257,6 +251,3 @@ mended_is p ok limit spare small = is_mended p ok limit spare small
 
 pub mending_exact : MendingIsExact
 mending_exact p ok limit spare small = record { mends = λ none distinct. certified_there p ok limit spare small distinct none; can_be = λ k. (served_all p ok limit spare small k, distinct_all p ok limit spare small k) }
-
-pub no_list_without_calls : NoListWithoutCalls
-no_list_without_calls p ok limit spare small x code h known none some = new_reached p ok limit spare small code known x h none some

@@ -1,5 +1,5 @@
 -- The laws of mending.
-use Rattle.std.specs.Prelude.{◌≡◌, ◌≢◌, ◌↔◌, ◌<◌, ◌≤◌, ◌+◌, ◌==◌, ℕ, suc, true, List, [], ◌++◌, length, filter, None, is_some}
+use Rattle.std.specs.Prelude.{◌≡◌, ◌↔◌, ◌<◌, ◌≤◌, ◌+◌, ◌==◌, ℕ, suc, true, List, [], ◌++◌, length, filter, None, is_some}
 use Rattle.std.specs.List.{list_any}
 use Rattle.tx_plan.specs.Plan.{Plan}
 use Rattle.tx_plan.specs.Routes.{route_list}
@@ -63,17 +63,6 @@ MendingIsExact = (p : Plan) → IsPlan p → (limit spare : ℕ) → spare ≤ 1
 abbrev pub KeepsSafeLists : (p q : Plan) → (limit spare : ℕ) → Type 0
 KeepsSafeLists p q limit spare = (x code : ℕ) → x < length p.exchanges → code < length p.codes
     → CanBeKept p code limit spare → route_list q x code ≡ route_list p x code
-
--- a walk for the code by the lists of the plan q ends at each exchange that has a list there and
--- none in the plan p
-abbrev pub NewListsAreReached : (p q : Plan) → Type 0
-NewListsAreReached p q = (x code : ℕ) → x < length p.exchanges → code < length p.codes
-    → route_list p x code ≡ [] → route_list q x code ≢ [] → IsReached (net_of q code) x
-
--- A list is new only where calls come by the mended lists.
-abbrev pub NoListWithoutCalls : Type 0
-NoListWithoutCalls = (p : Plan) → IsPlan p → (limit spare : ℕ) → spare ≤ 15
-    → NewListsAreReached p (mended p limit spare)
 
 -- A group g of the list of x in the plan p could stay beside those that stay in the plan q: some
 -- routes of the network, which some ranks certify for the code, have all of these in their lists.

@@ -11,7 +11,7 @@ use Rattle.tx_mend.specs.declared.cause.Missing.{Missing}
 use Rattle.tx_mend.specs.declared.cause.Unserved.{Unserved}
 use Rattle.tx_mend.specs.Mended.{mended}
 use Rattle.tx_mend.specs.Unserved.{unserved, missing}
-use Rattle.tx_mend.specs.Laws.{KeepsSafeLists, NewListsAreReached, ChangesLeast}
+use Rattle.tx_mend.specs.Laws.{KeepsSafeLists, ChangesLeast}
 
 module _ {A : Type 0} where
   -- the plan was mended
@@ -39,7 +39,6 @@ pub record IsMendedInto (p q : Plan) (routes : List Route) (cert : Certificate) 
   pub mended : q ≡ mended p limit spare
   pub before : routes ≡ p.routes
   pub kept : KeepsSafeLists p q limit spare
-  pub called : NewListsAreReached p q
   pub least : ChangesLeast p q limit spare
   pub confirmed : IsConfirmed q cert limit spare
 

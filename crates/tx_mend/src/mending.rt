@@ -12,7 +12,7 @@ ghost use Rattle.tx_mend.specs.Routings.{IsRouting, CanBeMended};
 ghost use Rattle.tx_mend.specs.LeastRanks.{indexes, outgoing};
 ghost use Rattle.tx_mend.specs.Mended.{mended};
 ghost use Rattle.tx_mend.specs.Unserved.{unserved, missing};
-ghost use Rattle.tx_mend.specs.Laws.{KeepsSafeLists, NewListsAreReached, ChangesLeast};
+ghost use Rattle.tx_mend.specs.Laws.{KeepsSafeLists, ChangesLeast};
 ghost use Rattle.tx_mend.specs.Mendings.{IsMended, OnMended, OnNoRouting};
 ghost use Rattle.tx_mend.specs.inner.CodeRanks.{code_ranks};
 ghost use Rattle.tx_mend.specs.inner.Full.{full_routes, settled_route};
@@ -186,7 +186,6 @@ pub fn mend<A: Allocator + Copy>(
         IsConfirmed q cert limits.limit limits.spare)) }
     ensures kept { IfOk result (OnMended (λ q before cert.
         KeepsSafeLists plan q limits.limit limits.spare)) }
-    ensures called { IfOk result (OnMended (λ q before cert. NewListsAreReached plan q)) }
     ensures least { IfOk result (OnMended (λ q before cert.
         ChangesLeast plan q limits.limit limits.spare)) }
     ensures mended { IfOk result (OnMended (λ q before cert.
