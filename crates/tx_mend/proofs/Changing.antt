@@ -20,7 +20,7 @@ use Rattle.tx_mend.specs.KeptRanks.{leads_below, stays_by, list_with, rank_keepi
 use Rattle.tx_mend.specs.Lists.{filled, groups_below, list_of_rank, list_by, full_list, comes_to, mended_list}
 use Rattle.tx_mend.specs.Mended.{mended}
 use Rattle.tx_mend.specs.Laws.{CouldStay, KeepsAllThatCouldStay, AddsWhatIsNeeded, KeepsOrder, ChangesLeast, MendingChangesLeast}
-use Rattle.tx_mend.proofs.Filled.{stands_any, filled_few, filled_keeps, filled_full, filled_extends}
+use Rattle.tx_mend.proofs.Filled.{stands, stands_any, filled_few, filled_keeps, filled_full, filled_extends}
 use Rattle.tx_mend.proofs.Least.{listed_within, least_keeping}
 use Rattle.tx_mend.proofs.LeastLists.{kept, below_leads, filled_enough}
 use Rattle.tx_mend.proofs.Kept.{IsLost, below_of, kept_ranking, origins_ranked, stays_or_lost}
@@ -34,10 +34,6 @@ filter_alike s t (x ∷ xs) h = ap (λ b. cond b (x ∷ filter s xs) (filter s x
 filter_all : (t : ℕ → Bool) (xs : List ℕ) → ((x : ℕ) → Among x xs → t x ≡ true) → filter t xs ≡ xs
 filter_all t [] h = refl
 filter_all t (x ∷ xs) h = ap (λ b. cond b (x ∷ filter t xs) (filter t xs)) (h x (inl refl)) ∙ ap (λ l. x ∷ l) (filter_all t xs (λ y m. h y (inr m)))
-
-any_stands : (g : ℕ) (xs : List ℕ) → list_any (λ h. h == g) xs ≡ true → Among g xs
-any_stands g [] h = let bad : ⊥ = cc in absurd bad
-any_stands g (x ∷ xs) h = elim (or_cases (x == g) (list_any (λ h. h == g) xs) h) [ inl a ↦ inl (eqb-true x g a) | inr b ↦ inr (any_stands g xs b) ]
 
 module _ (p : Plan) (ok : IsPlan p) (limit spare : ℕ) (small : spare ≤ 15) (c : ℕ) (known : c < length p.codes) where
   abbrev M : Plan
@@ -166,7 +162,7 @@ module _ (p : Plan) (ok : IsPlan p) (limit spare : ℕ) (small : spare ≤ 15) (
           let k = filled_extends spare had more in
           let same : (g : ℕ) → Among g (present x) → t g ≡ list_any (λ h. h == g) all = λ g m. same_tests (t g) (list_any (λ h. h == g) all)
           (λ a. stands_any g all (filled_keeps spare had more g (among_filter t g (present x) m a)))
-          (λ b. elim (among_cases g had k.added (subst (λ (l : List ℕ). Among g l) k.is (any_stands g all b))) [
+          (λ b. elim (among_cases g had k.added (subst (λ (l : List ℕ). Among g l) k.is (stands g all b))) [
             | inl n ↦ (filter_among t g (present x) n).1
             | inr n ↦ below_of p ok c limit spare R x r g (below_leads p ok limit spare c small R (kept_ranking p ok c limit spare) r x g (k.of g n))
           ]) in

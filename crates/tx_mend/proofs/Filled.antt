@@ -12,7 +12,7 @@ use Rattle.tx_mend.specs.Lists.{put, filled}
 use Rattle.tx_rank.specs.Walks.{AllDiffer}
 use Rattle.tx_rank.proofs.Ways.{among_all}
 
-stands : (g : ℕ) (xs : List ℕ) → list_any (λ h. h == g) xs ≡ true → Among g xs
+pub stands : (g : ℕ) (xs : List ℕ) → list_any (λ h. h == g) xs ≡ true → Among g xs
 stands g [] h = absurd (false≢true h)
 stands g (x ∷ xs) h = elim (or_cases (x == g) (list_any (λ h. h == g) xs) h) [ inl a ↦ inl (eqb-true x g a) | inr b ↦ inr (stands g xs b) ]
 

@@ -94,8 +94,8 @@ impl<'a, A: Allocator> Rule for Trial<'a, A> {
     }
 
     fn follows(&self, ranks: &[Option<u8>], exchange: ExchangeId) -> bool {
-        can_follow(self.plan, self.seizable, self.spare, ranks, exchange)
-            && self.all_on(ranks, exchange)
+        self.all_on(ranks, exchange)
+            && can_follow(self.plan, self.seizable, self.spare, ranks, exchange)
     }
 
     ghost local = { λ t. t.local };
