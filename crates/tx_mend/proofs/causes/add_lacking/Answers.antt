@@ -35,7 +35,7 @@ invariant_of-reach g c =
     let t = c.args.task.now in
     let p = t.plan.now in
     let all : c.deref.result.now ≡ rank_list p (unlimited_rank p c.args.code t.limits.spare) = c.deref.ensures.value ∙ c.in_ok-unlimited.ensures in
-    record { long = length_ranks p c.deref.result.now (unlimited_rank p c.args.code t.limits.spare) all; within = c.requires; without = all }
+    record { groups = t.groups; long = length_ranks p c.deref.result.now (unlimited_rank p c.args.code t.limits.spare) all; within = c.requires; without = all }
 
 pub returns-clause-missing : goal.returns-clause-missing
 returns-clause-missing g c =

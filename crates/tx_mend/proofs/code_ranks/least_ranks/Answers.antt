@@ -1,4 +1,5 @@
 use Rattle.std.proofs.Common.{ℕ, ◌∙◌, ap}
+use Rattle.std.proofs.lemmas.Result.{IfOk-weaker}
 use Rattle.tx_mend.specs.LeastRanks.{ranked_in, can_follow}
 use Rattle.tx_mend.specs.inner.CodeRanks.{rank_list}
 use Rattle.tx_mend.proofs.Local.{can_follow_same}
@@ -12,4 +13,4 @@ invariant_of-by_groups g c =
 pub returns : goal.returns
 returns g c =
     let t = c.args.task.now in
-    c.ranks_after.ensures ∙ ap (λ (h : ℕ). rank_list t.plan.now (ranked_in h (can_follow t.plan.now t.limits.spare) c.args.rounds)) c.home.ensures
+    IfOk-weaker c.ranks_after.result _ _ (λ ranks is. is ∙ ap (λ (h : ℕ). rank_list t.plan.now (ranked_in h (can_follow t.plan.now t.limits.spare) c.args.rounds)) c.home.ensures) c.ranks_after.ensures

@@ -28,4 +28,4 @@ returns g c = λ of e.
     let p = t.plan.now in
     let put = put_back p c.args.code t.limits.limit t.limits.spare in
     c.loop-exchange.invariant.put of e
-    ∙ ap (λ l. rank_list p (fold put of (flat_map (choice_at p c.args.code c.args.choice) l))) (take_all c.args.exchanges.now c.loop-exchange.exchange-index (let t = c.loop-exchange-test.false in omega arith))
+    ∙ ap (λ l. rank_list p (fold put of (flat_map (choice_at p c.args.code c.args.choice) l))) (take_all c.loop-exchange.exchange-index c.args.exchanges.now (let t = c.loop-exchange-test.false in omega arith))

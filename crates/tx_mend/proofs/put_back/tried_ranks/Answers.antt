@@ -1,5 +1,5 @@
 use Rattle.std.proofs.Common.{◌≡◌, ℕ, suc, ◌+◌, ◌∙◌, arith}
-use Rattle.tx_plan.specs.Plan.{home_of}
+use Rattle.std.proofs.lemmas.Result.{IfOk-weaker}
 use Rattle.tx_mend.specs.LeastRanks.{ranked_in}
 use Rattle.tx_mend.specs.KeptRanks.{list_with, can_follow_keeping}
 use Rattle.tx_mend.specs.inner.CodeRanks.{rank_list, ranked}
@@ -17,10 +17,11 @@ invariant_of-trial g c =
     }
 
 pub returns : goal.returns
-returns g c = λ of e.
+returns g c =
     let t = c.args.task.now in
     let p = t.plan.now in
     let next : t.limits.limit + 1 ≡ suc t.limits.limit = omega arith in
-    c.ranks_after.ensures
+    IfOk-weaker c.ranks_after.result _ _ (λ tried made of e.
+    made
     ∙ (λ i. rank_list p (ranked_in (c.home.ensures i) (can_follow_keeping p t.limits.spare (list_with p c.args.code (ranked c.args.ranks.now) c.args.exchange c.args.group)) (next i)))
-    ∙ tried_is p c.rules.ensures c.args.ranks.now of e c.args.code t.limits.limit t.limits.spare c.args.exchange c.args.group
+    ∙ tried_is p c.rules.ensures c.args.ranks.now of e c.args.code t.limits.limit t.limits.spare c.args.exchange c.args.group) c.ranks_after.ensures
