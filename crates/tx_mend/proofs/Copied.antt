@@ -43,23 +43,21 @@ none_filtered t s (x ∷ xs) h = elim (t x) as (λ b. t x ≡ b → (b || list_a
   ]
 ] refl h
 
--- a route of a pair is for that pair
-pub of_pair : (k : ℕ × ℕ) (l : List ℕ) (q : Route) → Among q (route_if k l) → (k.0 ≡ q.exchange) × (k.1 ≡ q.code)
-of_pair k [] q m = absurd m
-of_pair k (g ∷ gs) q (inl e) = (ap (λ (r : Route). r.exchange) e, ap (λ (r : Route). r.code) e)
-of_pair k (g ∷ gs) q (inr bad) = absurd bad
-
 -- what routes become has no route of a pair that none of them is of
-pub none_settled : (t : Route → Bool) (f : Route → List Route) (xs : List Route) → ((r : Route) (q : Route) → Among q (f r) → t q ≡ t r) → list_any t xs ≡ false → list_any t (flat_map f xs) ≡ false
-none_settled t f [] of h = refl
-none_settled t f (r ∷ rs) of h =
-    let own : t r ≡ false = elim (t r) as (λ b. (b || list_any t rs) ≡ false → b ≡ false) [ true ↦ λ k. let bad : ⊥ = cc in absurd bad | false ↦ λ k. refl ] h in
-    let rest : list_any t rs ≡ false = sym (ap (λ b. b || list_any t rs) own) ∙ h in
-    on (f r) (flat_map f rs) (λ q m. of r q m ∙ own) (none_settled t f rs of rest)
-  where
-    on : (qs more : List Route) → ((q : Route) → Among q qs → t q ≡ false) → list_any t more ≡ false → list_any t (qs ++ more) ≡ false
-    on [] more k m = m
-    on (q ∷ qs) more k m = ap (λ b. b || list_any t (qs ++ more)) (k q (inl refl)) ∙ on qs more (λ p n. k p (inr n)) m
+module _ (exchange code : ℕ) (list : Route → List ℕ) where
+  abbrev for : Route → Bool
+  for r = (r.exchange == exchange) && (r.code == code)
+
+  none_more : (r : Route) (l : List ℕ) (more : List Route) → for r ≡ false → list_any for more ≡ false → list_any for (route_if (r.exchange, r.code) l ++ more) ≡ false
+  none_more r [] more k m = m
+  none_more r (g ∷ gs) more k m = ap (λ b. b || list_any for more) k ∙ m
+
+  pub none_settled : (rs : List Route) → list_any for rs ≡ false → list_any for (flat_map (λ r. route_if (r.exchange, r.code) (list r)) rs) ≡ false
+  none_settled [] h = refl
+  none_settled (r ∷ rs) h =
+      let own : for r ≡ false = elim (for r) as (λ b. (b || list_any for rs) ≡ false → b ≡ false) [ true ↦ λ k. let bad : ⊥ = cc in absurd bad | false ↦ λ k. refl ] h in
+      let rest : list_any for rs ≡ false = sym (ap (λ b. b || list_any for rs) own) ∙ h in
+      none_more r (list r) (flat_map (λ r. route_if (r.exchange, r.code) (list r)) rs) own (none_settled rs rest)
 
 -- ONE MORE
 
@@ -68,8 +66,13 @@ module _ {A : Type 0} (xs : List A) (i : ℕ) (x : A) (at : slice_get xs i ≡ S
   copied_next old new a b = b ∙ ap (λ l. l ++ x ∷ []) a ∙ sym (take_next xs i x at)
 
   -- of what entries become
-  pub mapped_next : {B : Type 0} (f : A → List B) (old new : List B) → old ≡ flat_map f (take i xs) → new ≡ old ++ f x → new ≡ flat_map f (take (i + 1) xs)
+  mapped_next : {B : Type 0} (f : A → List B) (old new : List B) → old ≡ flat_map f (take i xs) → new ≡ old ++ f x → new ≡ flat_map f (take (i + 1) xs)
   mapped_next f old new a b = b ∙ ap (λ l. l ++ f x) a ∙ sym (ap (flat_map f) (take_next xs i x at) ∙ flat_map-append f (take i xs) (x ∷ []) ∙ ap (λ l. flat_map f (take i xs) ++ l) (append-nil (f x)))
+
+-- of routes that get other lists
+pub settled_next : (list : Route → List ℕ) (rs : List Route) (i : ℕ) (r : Route) → slice_get rs i ≡ Some r → (old new : List Route) (l : List ℕ) → old ≡ flat_map (λ r. route_if (r.exchange, r.code) (list r)) (take i rs)
+    → new ≡ old ++ route_if (r.exchange, r.code) l → l ≡ list r → new ≡ flat_map (λ r. route_if (r.exchange, r.code) (list r)) (take (i + 1) rs)
+settled_next list rs i r at old new l a b e = mapped_next rs i r at (λ r. route_if (r.exchange, r.code) (list r)) old new a (b ∙ ap (λ (k : List ℕ). old ++ route_if (r.exchange, r.code) k) e)
 
 -- THE ENTRY AT AN INDEX
 

@@ -1,27 +1,20 @@
-use Rattle.std.proofs.Common.{◌≡◌, ◌∙◌, ◌==◌, ◌&&◌, ◌++◌, List, ℕ, Bool, ap, sym, refl, arith}
+use Rattle.std.proofs.Common.{◌∙◌, List, ℕ, ap, sym, refl, arith}
 use Rattle.std.specs.Prelude.{slice_get}
 use Rattle.std.specs.List.{list_any}
 use Rattle.tx_plan.specs.Plan.{Route}
-use Rattle.tx_plan.specs.Routes.{route_list}
 use Rattle.tx_plan.proofs.ByIndex.{entry_at}
-use Rattle.tx_mend.specs.Mended.{route_if}
-use Rattle.tx_mend.specs.inner.Full.{settled_list, settled_route}
+use Rattle.tx_mend.specs.inner.Full.{settled_list}
 use Rattle.tx_mend.proofs.Adding.{pair_of, no_none}
-use Rattle.tx_mend.proofs.Copied.{none_before, none_settled, of_pair, mapped_next, route_got}
+use Rattle.tx_mend.proofs.Copied.{none_before, none_settled, settled_next, route_got}
 use Rattle.tx_mend.proofs.copying.settled_routes.Goals as goal
 
 pub add_route-requires : goal.add_route-requires
 add_route-requires g c =
     let p = c.args.plan.now in
-    let x = c.in-Some.exchange in
-    let d = c.in-Some.code in
-    let t : Route → Bool = λ r. (r.exchange == x) && (r.code == d) in
-    let f = settled_route c.args.before.now c.args.cert.now in
-    let at = route_got p c.routes-index-end.ensures.rules c.loop-index.index (x, d) c.in-Some.ensures.value (route_list p x d) refl in
-    ap (list_any t) c.loop-index.invariant
-    ∙ none_settled t f _ (λ r q m.
-    let k = of_pair (r.exchange, r.code) (settled_list c.args.before.now c.args.cert.now r.exchange r.code r.groups) q m in
-    sym (λ i. (k.0 i == x) && (k.1 i == d)))
+    let settled : Route → List ℕ = λ r. settled_list c.args.before.now c.args.cert.now r.exchange r.code r.groups in
+    let at = route_got p c.routes-index-end.ensures.rules c.loop-index.index _ c.in-Some.ensures.value _ refl in
+    ap (list_any _) c.loop-index.invariant
+    ∙ none_settled _ _ settled _
     (none_before (λ (r : Route). r.exchange) (λ (r : Route). r.code) p.routes c.loop-index.index _ c.routes-index-end.ensures.rules.routes_differ at)
 
 pub unreachable-requires : goal.unreachable-requires
@@ -35,8 +28,6 @@ unreachable-requires g c =
 pub loop-index-preserved : goal.loop-index-preserved
 loop-index-preserved g c =
     let p = c.args.plan.now in
-    let x = c.in-Some.exchange in
-    let d = c.in-Some.code in
-    let at = route_got p c.routes-index-end.ensures.rules c.loop-index.index (x, d) c.in-Some.ensures.value (route_list p x d) refl in
-    mapped_next p.routes c.loop-index.index _ at (settled_route c.args.before.now c.args.cert.now) c.loop-index.routes c.add_route.new.routes c.loop-index.invariant
-    (c.in_ok-add_route-in-Some.ensures ∙ ap (λ (l : List ℕ). c.loop-index.routes ++ route_if (x, d) l) c.settled_list-list.ensures)
+    let settled : Route → List ℕ = λ r. settled_list c.args.before.now c.args.cert.now r.exchange r.code r.groups in
+    let at = route_got p c.routes-index-end.ensures.rules c.loop-index.index _ c.in-Some.ensures.value _ refl in
+    settled_next settled p.routes c.loop-index.index _ at c.loop-index.routes c.add_route.new.routes _ c.loop-index.invariant c.in_ok-add_route-in-Some.ensures c.settled_list-list.ensures
