@@ -1,30 +1,29 @@
 -- A mended plan changes least.
-use Rattle.std.proofs.Common.{◌≡◌, ◌≢◌, ℕ, suc, ◌<◌, ◌≤◌, ◌⊎◌, Bool, true, false, cond, ◌&&◌, ◌||◌, ◌==◌, eqb-true, List, [], ◌∷◌, ◌++◌, length, Option, Some, None, inl, inr, refl, sym, ap, subst, ◌∙◌, arith, append-nil}
+use Rattle.std.proofs.Common.{◌≡◌, ◌≢◌, ℕ, suc, ◌<◌, ◌≤◌, Bool, true, false, cond, ◌&&◌, ◌||◌, ◌==◌, eqb-true, List, [], ◌∷◌, ◌++◌, length, Option, Some, None, inl, inr, refl, sym, ap, subst, ◌∙◌, arith, append-nil}
 use Rattle.std.specs.Prelude.{filter, if◌then◌else◌}
 use Rattle.std.specs.List.{list_any}
 use Rattle.std.specs.Option.{option_map_or}
 use Rattle.std.proofs.lemmas.Bool.{and_parts, or_cases, cases_lt}
-use Rattle.tx_plan.specs.Plan.{Plan, Route, home_of}
-use Rattle.tx_plan.specs.Rules.{IsPlan, IsRoute}
+use Rattle.tx_plan.specs.Plan.{Plan, home_of}
+use Rattle.tx_plan.specs.Rules.{IsPlan}
 use Rattle.tx_plan.specs.Routes.{route_list, is_origin_for}
 use Rattle.tx_plan.specs.Mixed.{rerouted}
 use Rattle.tx_plan.specs.Among.{Among}
 use Rattle.tx_plan.proofs.Lists.{same_tests}
-use Rattle.tx_plan.proofs.Among.{among_left, among_right, among_cases, among_filter, filter_among}
+use Rattle.tx_plan.proofs.Among.{among_cases, among_filter, filter_among}
 use Rattle.tx_rank.specs.Walks.{net_of}
 use Rattle.tx_rank.specs.Heights.{IsReached}
-use Rattle.tx_rank.proofs.Ways.{all_among}
-use Rattle.tx_mend.specs.Routings.{IsRouting, IsFalling, CanBeKept}
+use Rattle.tx_mend.specs.Routings.{IsFalling}
 use Rattle.tx_mend.specs.LeastRanks.{RanksOfCode, keeps_routes, ranks_origins}
 use Rattle.tx_mend.specs.KeptRanks.{leads_below, stays_by, list_with, rank_keeping, kept_rank}
 use Rattle.tx_mend.specs.Lists.{filled, groups_below, list_of_rank, list_by, full_list, comes_to, mended_list}
 use Rattle.tx_mend.specs.Mended.{mended}
-use Rattle.tx_mend.specs.Laws.{CouldStay, KeepsAllThatCouldStay, AddsWhatIsNeeded, KeepsOrder, ChangesLeast, MendingChangesLeast}
+use Rattle.tx_mend.specs.Laws.{CouldStay, ChangesLeast, MendingChangesLeast}
 use Rattle.tx_mend.proofs.Filled.{stands, stands_any, filled_few, filled_keeps, filled_full, filled_extends}
 use Rattle.tx_mend.proofs.Least.{listed_within, least_keeping}
-use Rattle.tx_mend.proofs.LeastLists.{kept, below_leads, filled_enough}
+use Rattle.tx_mend.proofs.LeastLists.{below_leads, filled_enough}
 use Rattle.tx_mend.proofs.Kept.{IsLost, below_of, kept_ranking, origins_ranked, stays_or_lost}
-use Rattle.tx_mend.proofs.Trimmed.{is_mended, full_there, called_reached, kept_mended}
+use Rattle.tx_mend.proofs.Trimmed.{is_mended, called_reached, kept_mended}
 
 -- the same is kept by two tests that agree on the list
 filter_alike : (s t : ℕ → Bool) (xs : List ℕ) → ((x : ℕ) → Among x xs → s x ≡ t x) → filter s xs ≡ filter t xs

@@ -9,7 +9,6 @@ use Rattle.tx_plan.specs.declared.ids.Pair.{Pair}
 use Rattle.tx_plan.specs.Plan.{Plan, Route}
 use Rattle.tx_plan.specs.Rules.{EachPair, IsPlan}
 use Rattle.tx_plan.specs.Routes.{route_list}
-use Rattle.tx_plan.specs.Among.{Among}
 use Rattle.tx_mend.specs.Mended.{route_if}
 use Rattle.tx_plan.proofs.ListFound.{list_found}
 use Rattle.tx_rank.proofs.Ways.{all_among}

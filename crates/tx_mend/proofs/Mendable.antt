@@ -11,7 +11,7 @@ use Rattle.tx_plan.specs.Circuits.{may_seize, may_seize_row, is_both}
 use Rattle.tx_plan.specs.Ambiguous.{ambiguous_of}
 use Rattle.tx_plan.specs.Certified.{Ranks, IsBelow, LeadsLower, IsCertified}
 use Rattle.tx_plan.specs.Among.{Among}
-use Rattle.tx_plan.proofs.Among.{among_filter, filter_among, among_flat, among_map}
+use Rattle.tx_plan.proofs.Among.{among_filter, among_flat, among_map}
 use Rattle.tx_rank.specs.Walks.{net_of}
 use Rattle.tx_rank.specs.Nets.{Certifies}
 use Rattle.tx_rank.proofs.Nets.{is_net}
@@ -19,7 +19,7 @@ use Rattle.tx_rank.proofs.Looks.{among_at}
 use Rattle.tx_rank.proofs.Certifying.{distinct_none}
 use Rattle.tx_plan.specs.Mixed.{rerouted}
 use Rattle.tx_mend.specs.Routings.{IsRouting, IsFalling, CanBeServed, CanBeKept, CanBeMended}
-use Rattle.tx_mend.specs.LeastRanks.{indexes, RanksOfCode, outgoing, leads_on, can_follow, does_follow, least_rank, present_rank, ranks_origins, keeps_routes}
+use Rattle.tx_mend.specs.LeastRanks.{indexes, RanksOfCode, leads_on, can_follow, does_follow, least_rank, present_rank, ranks_origins, keeps_routes}
 use Rattle.tx_mend.specs.KeptRanks.{kept_rank}
 use Rattle.tx_mend.specs.Mended.{routes_of}
 use Rattle.tx_mend.specs.declared.cause.Unserved.{Unserved}

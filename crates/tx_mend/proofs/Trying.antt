@@ -1,6 +1,6 @@
 -- A group that is tried beside all that stay by ranks in a list.
-use Rattle.std.proofs.Common.{◌≡◌, ℕ, suc, ◌+◌, ◌<◌, Bool, true, false, ◌||◌, ◌&&◌, ◌==◌, nat_lt, List, [], ◌∷◌, ◌++◌, length, map, take, get_or, Option, Some, None, refl, sym, ap, ◌∙◌, arith, append-nil}
-use Rattle.std.specs.Prelude.{filter, slice_get, option_and_then, if◌then◌else◌}
+use Rattle.std.proofs.Common.{◌≡◌, ℕ, suc, ◌+◌, ◌<◌, Bool, true, false, ◌||◌, ◌&&◌, ◌==◌, nat_lt, List, [], ◌∷◌, ◌++◌, length, map, take, get_or, Option, refl, sym, ap, ◌∙◌, arith, append-nil}
+use Rattle.std.specs.Prelude.{filter, option_and_then, if◌then◌else◌}
 use Rattle.std.specs.List.{fold, flat_map, range_with_len}
 use Rattle.std.specs.Option.{option_map_or}
 use Rattle.std.proofs.lemmas.List.{take_more}
@@ -10,7 +10,7 @@ use Rattle.tx_plan.specs.Plan.{Plan, home_of}
 use Rattle.tx_plan.specs.Rules.{IsPlan}
 use Rattle.tx_plan.specs.Routes.{route_list}
 use Rattle.tx_mend.specs.LeastRanks.{indexes, RanksOfCode, ranked_in, ranks_origins}
-use Rattle.tx_mend.specs.KeptRanks.{leads_below, stays_by, list_with, can_follow_keeping, rank_keeping, put_back}
+use Rattle.tx_mend.specs.KeptRanks.{stays_by, list_with, can_follow_keeping, rank_keeping, put_back}
 use Rattle.tx_mend.specs.inner.CodeRanks.{rank_list, ranked}
 use Rattle.tx_mend.proofs.Placed.{got_index, flat_more}
 use Rattle.tx_mend.proofs.Tables.{length_ranks}

@@ -1,7 +1,7 @@
-use Rattle.std.proofs.Common.{◌≡◌, ◌++◌, ◌∙◌, List, [], sym, ap, append-nil}
+use Rattle.std.proofs.Common.{◌++◌, ◌∙◌, List, [], sym, ap, append-nil}
 use Rattle.std.specs.Prelude.{if◌then◌else◌}
 use Rattle.std.specs.Option.{option_copied}
-use Rattle.tx_mend.specs.LeastRanks.{RanksOfCode, least_rank}
+use Rattle.tx_mend.specs.LeastRanks.{least_rank}
 use Rattle.tx_mend.specs.Unserved.{lacking_at}
 use Rattle.tx_mend.specs.declared.cause.Unserved.{Unserved}
 use Rattle.tx_mend.proofs.Mendable.{ranked_served, kept_ranked}

@@ -1,5 +1,4 @@
-use Rattle.std.proofs.Common.{◌≡◌, ℕ, suc, ◌+◌, ◌-◌, ◌≤◌, ◌++◌, ◌∷◌, [], ◌∙◌, List, length, map, sym, ap, arith, append-nil}
-use Rattle.std.specs.Prelude.{filter}
+use Rattle.std.proofs.Common.{◌≡◌, ℕ, suc, ◌+◌, ◌-◌, ◌∙◌, sym, ap, arith, append-nil}
 use Rattle.tx_mend.specs.Unserved.{groups_on, lacks_groups}
 use Rattle.tx_mend.specs.declared.cause.Missing.{Missing}
 use Rattle.tx_mend.proofs.TrueCauses.{lacks_few}

@@ -1,7 +1,7 @@
-use Rattle.std.proofs.Common.{◌≡◌, ℕ, ◌&&◌, ◌++◌, ◌∷◌, [], ◌∙◌, List, length, map, sym, ap, arith, append-nil}
-use Rattle.std.specs.Prelude.{is_none, filter}
+use Rattle.std.proofs.Common.{ℕ, ◌&&◌, ◌∙◌, sym, ap, append-nil}
+use Rattle.std.specs.Prelude.{is_none}
 use Rattle.tx_plan.specs.Routes.{is_origin_for}
-use Rattle.tx_mend.specs.LeastRanks.{indexes, least_rank}
+use Rattle.tx_mend.specs.LeastRanks.{least_rank}
 use Rattle.tx_mend.specs.Unserved.{cause_of}
 use Rattle.tx_mend.specs.declared.cause.Unserved.{Unserved}
 use Rattle.tx_mend.proofs.Tables.{length_ranks}

@@ -1,4 +1,4 @@
-use Rattle.std.proofs.Common.{◌≡◌, ◌∙◌, length, sym, ap, refl, arith}
+use Rattle.std.proofs.Common.{◌∙◌, length, sym, ap, refl, arith}
 use Rattle.tx_mend.specs.Unserved.{unserved_for, missing_for}
 use Rattle.tx_mend.specs.inner.CodeRanks.{code_ranks}
 use Rattle.tx_mend.proofs.Tables.{ranks_got, flat_grown}

@@ -1,4 +1,4 @@
-use Rattle.std.proofs.Common.{◌≡◌, ℕ, ◌∙◌, ◌&&◌, None, length, get_or, sym, ap, arith}
+use Rattle.std.proofs.Common.{◌∙◌, ◌&&◌, None, length, get_or, sym, ap, arith}
 use Rattle.std.specs.Prelude.{is_none, nat_lt}
 use Rattle.tx_plan.proofs.Longest.{none_is}
 use Rattle.tx_mend.specs.Unserved.{groups_on, unlimited_rank}

@@ -1,6 +1,6 @@
-use Rattle.std.proofs.Common.{◌≡◌, ℕ, ◌∙◌, List, Option, length, sym, ap, arith}
+use Rattle.std.proofs.Common.{◌≡◌, ℕ, ◌∙◌, List, sym, ap, arith}
 use Rattle.std.specs.List.{flat_map, fold}
-use Rattle.tx_mend.specs.LeastRanks.{indexes, RanksOfCode}
+use Rattle.tx_mend.specs.LeastRanks.{indexes}
 use Rattle.tx_mend.specs.KeptRanks.{put_back, choice_at}
 use Rattle.tx_mend.specs.inner.CodeRanks.{rank_list}
 use Rattle.tx_mend.proofs.Trying.{fold_more, still_long}

@@ -1,8 +1,7 @@
-use Rattle.std.proofs.Common.{◌≡◌, ℕ, ◌∷◌, [], ◌∙◌, List, Option, Some, None, sym, ap, subst}
+use Rattle.std.proofs.Common.{◌≡◌, ℕ, ◌∷◌, [], ◌∙◌, List, Option, sym, ap, subst}
 use Rattle.std.specs.Prelude.{OnOk}
 use Rattle.std.specs.List.{fold}
 use Rattle.std.specs.Option.{option_map_or}
-use Rattle.tx_plan.specs.Among.{Among}
 use Rattle.tx_plan.specs.Routes.{route_list}
 use Rattle.tx_rank.proofs.Looks.{among_at}
 use Rattle.tx_mend.specs.LeastRanks.{RanksOfCode}

@@ -1,7 +1,6 @@
-use Rattle.std.proofs.Common.{◌≡◌, ℕ, ◌+◌, ◌≤◌, ◌∙◌, List, Option, length, take, sym, ap, arith}
+use Rattle.std.proofs.Common.{◌∙◌, take, sym, ap, arith}
 use Rattle.std.proofs.lemmas.List.{take_all}
 use Rattle.std.specs.List.{flat_map, fold}
-use Rattle.tx_mend.specs.LeastRanks.{RanksOfCode}
 use Rattle.tx_mend.specs.KeptRanks.{put_back, choice_at}
 use Rattle.tx_mend.specs.inner.CodeRanks.{rank_list}
 use Rattle.tx_mend.proofs.Trying.{fold_taken, still_long}

@@ -1,5 +1,4 @@
-use Rattle.std.proofs.Common.{◌≡◌, ℕ, ◌∙◌, ◌||◌, ◌&&◌, ◌==◌, not, Bool, List, sym, ap}
-use Rattle.std.specs.List.{list_all}
+use Rattle.std.proofs.Common.{ℕ, ◌∙◌, ◌||◌, ◌&&◌, ◌==◌, not, Bool, sym}
 use Rattle.tx_mend.specs.LeastRanks.{leads_on}
 use Rattle.tx_mend.specs.KeptRanks.{stays_by}
 use Rattle.tx_mend.specs.inner.CodeRanks.{ranked}
