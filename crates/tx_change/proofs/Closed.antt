@@ -18,7 +18,7 @@ use Rattle.tx_plan.proofs.ByIndex.{entry_at, all_at}
 use Rattle.tx_plan.proofs.Networks.{same_back, homes_same}
 use Rattle.tx_machine.specs.declared.event.Event.{Event}
 use Rattle.tx_machine.specs.declared.open_call.Phase.TheVariants.{Calling}
-use Rattle.tx_machine.specs.Call.{Phase, Call, circuit_called, exchange_of, last_exchange, start_of, is_first}
+use Rattle.tx_machine.specs.Call.{Call, circuit_called, exchange_of, last_exchange, start_of, is_first}
 use Rattle.tx_machine.specs.State.{State, opening}
 use Rattle.tx_machine.specs.Step.{step}
 use Rattle.tx_machine.specs.ChangingRuns.{Turn, changing_run, AreMixtures}
