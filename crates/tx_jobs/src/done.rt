@@ -4,6 +4,7 @@ ghost use Rattle.tx_jobs.specs.Contents.{content_text};
 
 use crate::content::Content;
 use crate::evidence::Evidence;
+use crate::mend::MendedText;
 use crate::mixture::{ChangeEvidence, Mixture};
 use std::alloc::{Allocator, Global};
 use tx_audit::Checked;
@@ -35,7 +36,7 @@ pub enum Done<A: Allocator = Global> {
     /// A change of plan was judged.
     Changed(ChangeEvidence<A>),
     /// A plan was mended, or cannot be.
-    Mended(Mending<A>),
+    Mended(MendedText<A>),
     /// A plan was graded.
     Graded(Grade<A>),
     /// The outages of a plan were tried.
@@ -61,13 +62,19 @@ impl<A: Allocator> Done<A> {
             | Done::Listed(None)
             | Done::Audited(Evidence::Sound(_, _))
             | Done::Changed(ChangeEvidence::Sound(_, _))
-            | Done::Mended(Mending::Mended(_, _, _)) => 0,
+            | Done::Mended(MendedText {
+                mending: Mending::Mended(_, _, _),
+                ..
+            }) => 0,
             Done::Checked(Checked::Denied(_))
             | Done::Verified(Verdict::No(_))
             | Done::Listed(Some(_))
             | Done::Audited(Evidence::Unsound(_))
             | Done::Changed(ChangeEvidence::Unsound(_))
-            | Done::Mended(Mending::NoRouting(_, _, _))
+            | Done::Mended(MendedText {
+                mending: Mending::NoRouting(_, _, _),
+                ..
+            })
             | Done::Survived(Survival::Ungraded(_)) => 1,
             Done::Told(strict, summary) => u8::from(*strict && summary.refused != 0),
             Done::Graded(grade) => u8::from(grade.plan.is_none()),
@@ -99,9 +106,12 @@ impl<A: Allocator> Done<A> {
             Done::Changed(ChangeEvidence::Unsound(Some(Mixture::Unscripted(plan)))) => {
                 [Some(Content::Plan(plan)), None, None]
             }
-            Done::Mended(Mending::Mended(plan, _, cert)) => {
+            Done::Mended(MendedText {
+                mending: Mending::Mended(plan, _, cert),
+                text,
+            }) => {
                 [
-                    Some(Content::Plan(plan)),
+                    text.as_ref().map(|text| Content::Text(text.as_slice())),
                     Some(Content::Cert(plan, cert)),
                     None,
                 ]
@@ -114,7 +124,10 @@ impl<A: Allocator> Done<A> {
             | Done::Linted(_)
             | Done::Audited(Evidence::Unsound(None))
             | Done::Changed(ChangeEvidence::Unsound(None))
-            | Done::Mended(Mending::NoRouting(_, _, _))
+            | Done::Mended(MendedText {
+                mending: Mending::NoRouting(_, _, _),
+                ..
+            })
             | Done::Graded(_)
             | Done::Survived(_)
             | Done::Written => [None, None, None],

@@ -45,7 +45,7 @@ pub use grade::grade_job;
 pub use job::do_job;
 pub use job_fault::JobFault;
 pub use lint::lint_job;
-pub use mend::mend_job;
+pub use mend::{MendedText, mend_job, mend_text_job};
 pub use mixture::{ChangeEvidence, Mixture};
 pub use pipe::pipe_job;
 pub use run::run_job;

@@ -1,0 +1,74 @@
+-- Lines that are joined by LFs, and cut at them again.
+use Rattle.std.proofs.Common.{◌≡◌, ℕ, zero, suc, ◌+◌, ◌-◌, ◌<◌, ◌==◌, Bool, true, false, cond, None, List, [], ◌∷◌, ◌++◌, length, get_or, take, refl, sym, ap, ◌∙◌, subst, append_assoc, append-nil, arith}
+use Rattle.std.specs.List.{All, AllByRecursion, slice_split, list_all, join_with_byte}
+use Rattle.std.proofs.lemmas.Bool.{eqb-true}
+use Rattle.std.proofs.lemmas.Bool.Decides.{nat_tests}
+use Rattle.std.proofs.lemmas.List.{take_all}
+use Rattle.std.proofs.lemmas.List.Splits.{slice_split_at, slice_split_none}
+use Rattle.std.proofs.lemmas.List.Elements.{All-nil, All-more}
+use Rattle.std.proofs.lemmas.List.Sums.{AllPass-from_list_all}
+use Rattle.tx_text.specs.Text.{is_lf, is_text_byte, without_cr, bytes_fault}
+use Rattle.tx_plan.specs.Plan.{Plan}
+use Rattle.tx_revise.specs.Lines.{words_in, ended}
+use Rattle.tx_revise.proofs.Tails.{IsRight, right_from}
+use Rattle.tx_revise.proofs.Parts.{Says, Starts, Ends, Line, Goes, at_end, goes_on, Before}
+
+abbrev pub HasNoLf : List ℕ → Type 0
+HasNoLf bytes = All (λ b. is_lf b ≡ false) bytes
+
+-- lines of which none has an LF, joined by LFs, are these lines
+pub cut_joined : (line : List ℕ) (lines : List (List ℕ)) → AllByRecursion HasNoLf (line ∷ lines) → slice_split is_lf (join_with_byte 10 (line ∷ lines)) ≡ line ∷ lines
+cut_joined line [] h = slice_split_none is_lf line h.0
+cut_joined line (next ∷ lines) h = slice_split_at is_lf line 10 (join_with_byte 10 (next ∷ lines)) h.0 refl ∙ ap (λ l. line ∷ l) (cut_joined next lines h.1)
+
+-- ---- NO LF
+
+text_no_lf : (b : ℕ) → is_text_byte b ≡ true → is_lf b ≡ false
+text_no_lf b h = grind (arith, nat_tests)
+
+right_no_lf : (line : List ℕ) → bytes_fault line ≡ None → HasNoLf line
+right_no_lf line h = λ k d l. text_no_lf (get_or line k d) (AllPass-from_list_all is_text_byte line (right_from line h).bytes k d l)
+
+cr_no_lf : (part : List ℕ) (t : Bool) → (get_or part (length part - 1) 0 == 13) ≡ t → HasNoLf (cond t (take (length part - 1) part) part) → HasNoLf part
+cr_no_lf part false e h = h
+cr_no_lf [] true e h = All-nil (λ b. is_lf b ≡ false)
+cr_no_lf (b ∷ bs) true e h =
+    let i = length (b ∷ bs) - 1 in
+    let at : is_lf (get_or (b ∷ bs) i 0) ≡ false = ap is_lf (eqb-true (get_or (b ∷ bs) i 0) 13 e) in
+    subst HasNoLf (take_all (i + 1) (b ∷ bs) (omega arith)) (All-more (λ c. is_lf c ≡ false) (b ∷ bs) i 0 (omega arith) h at)
+
+part_no_lf : (part : List ℕ) → bytes_fault (without_cr part) ≡ None → HasNoLf part
+unfolding without_cr
+part_no_lf part h = cr_no_lf part (get_or part (length part - 1) 0 == 13) refl (right_no_lf (without_cr part) h)
+
+ends_no_lf : (parts : List (List ℕ)) → Ends parts → AllByRecursion HasNoLf parts
+ends_no_lf [] h = tt
+ends_no_lf (part ∷ []) h = (right_no_lf part h.0, tt)
+ends_no_lf (part ∷ next ∷ parts) h = (part_no_lf part h.0, ends_no_lf (next ∷ parts) h.2)
+
+says_no_lf : (v : ℕ) (r : Plan) (parts : List (List ℕ)) (p : Plan) → Says v r parts p → AllByRecursion HasNoLf parts
+says_no_lf v r [] p h = absurd h
+says_no_lf v r (part ∷ []) p h = (right_no_lf part h.0, tt)
+says_no_lf v r (part ∷ next ∷ parts) p h = (part_no_lf part h.0, worded (words_in part) h.1)
+  where
+    worded : (ws : List (List ℕ)) → Line v p r ws (Says v r (next ∷ parts)) (Ends (next ∷ parts)) → AllByRecursion HasNoLf (next ∷ parts)
+    worded [] k = says_no_lf v r (next ∷ parts) p k
+    worded (w ∷ ws) (at_end e same ends) = ends_no_lf (next ∷ parts) ends
+    worded (w ∷ ws) (goes_on m e d k) = says_no_lf v r (next ∷ parts) m k
+
+-- a text that is read has no LF in its parts
+pub starts_no_lf : (r no : Plan) (parts : List (List ℕ)) → Starts r no parts → AllByRecursion HasNoLf parts
+starts_no_lf r no [] h = absurd h
+starts_no_lf r no (part ∷ []) h = absurd h
+starts_no_lf r no (part ∷ next ∷ parts) h = (part_no_lf part h.0, worded (words_in part) h.1)
+  where
+    worded : (ws : List (List ℕ)) → Before r no ws (next ∷ parts) (Starts r no (next ∷ parts)) → AllByRecursion HasNoLf (next ∷ parts)
+    worded [] k = starts_no_lf r no (next ∷ parts) k
+    worded (w ∷ ws) k = says_no_lf k.version r (next ∷ parts) no k.says
+
+-- ---- AN LF BEHIND EACH LINE
+
+pub ended_joined : (line : List ℕ) (lines : List (List ℕ)) → ended (line ∷ lines) ≡ join_with_byte 10 (line ∷ lines) ++ 10 ∷ []
+ended_joined line [] = append-nil (line ++ 10 ∷ [])
+ended_joined line (next ∷ lines) =
+    append_assoc line (10 ∷ []) (ended (next ∷ lines)) ∙ ap (λ l. line ++ 10 ∷ l) (ended_joined next lines) ∙ sym (append_assoc line (10 ∷ join_with_byte 10 (next ∷ lines)) (10 ∷ []))

@@ -1,0 +1,8 @@
+// The law of texts that are revised.
+ghost use Rattle.tx_revise.specs.Laws.{RevisedTextsSayThePlan};
+
+/// The text of a plan, revised for another plan of its network, says that one, but for the order of
+/// its lists and bars. Does nothing: its contract is a law.
+pub fn revised_texts_say_the_plan()
+    ensures { RevisedTextsSayThePlan }
+{}
