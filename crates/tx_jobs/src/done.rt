@@ -4,7 +4,7 @@ ghost use Rattle.tx_jobs.specs.Contents.{content_text};
 
 use crate::content::Content;
 use crate::evidence::Evidence;
-use crate::mend::MendedText;
+use crate::mend_text::MendedText;
 use crate::mixture::{ChangeEvidence, Mixture};
 use std::alloc::{Allocator, Global};
 use tx_audit::Checked;

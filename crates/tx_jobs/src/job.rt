@@ -17,7 +17,7 @@ use crate::draw::draw_job;
 use crate::grade::grade_job;
 use crate::job_fault::JobFault;
 use crate::lint::lint_job;
-use crate::mend::{MendedText, mend_job, mend_text_job};
+use crate::mend_text::mend_text_job;
 use crate::pipe::pipe_job;
 use crate::run::run_job;
 use crate::run_checked::run_checked_job;
@@ -70,9 +70,10 @@ pub fn do_job<A: Allocator + Copy, P: Source, Q: Source, R: Source, W: Sink>(
             let shown = files.script.is_some();
             Ok(Done::Audited(evidence_job(alloc, first, Limits { limit, spare }, shown, out)?))
         }
-        Command::Mend { limit, spare, mended, .. } => {
+        Command::Mend { limit, spare, .. } => {
             let (limit, spare) = (*limit, *spare);
-            mend_with(alloc, first, Limits { limit, spare }, mended.is_some(), out)
+            let kept = files.plan.is_some();
+            Ok(Done::Mended(mend_text_job(alloc, first, Limits { limit, spare }, kept, out)?))
         }
         Command::Survive { risks: None, .. } => Ok(Done::Survived(survive_job(alloc, first, out)?)),
         Command::Grade { .. } => Ok(Done::Graded(grade_job(alloc, first, out)?)),
@@ -86,27 +87,6 @@ pub fn do_job<A: Allocator + Copy, P: Source, Q: Source, R: Source, W: Sink>(
             Ok(Done::Written)
         }
     }
-}
-
-/// Mends a plan, and keeps the text of the mended one if it is asked for.
-fn mend_with<A: Allocator + Copy, P: Source, W: Sink>(
-    alloc: A,
-    plan: &mut P,
-    limits: Limits,
-    with_text: bool,
-    out: &mut W,
-) -> Result<Done<A>, JobFault>
-    ensures mark { W.failed out.new ≡ mark_after (W.failed out.old) result }
-    ensures calls { CallsAtMost P.called source_calls plan.old plan.new }
-{
-    if with_text {
-        return Ok(Done::Mended(mend_text_job(alloc, plan, limits, out)?));
-    }
-    let mending = mend_job(alloc, plan, limits, out)?;
-    Ok(Done::Mended(MendedText {
-        mending,
-        text: None,
-    }))
 }
 
 /// Does the job of a command over more than one text.

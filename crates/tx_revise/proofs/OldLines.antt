@@ -18,7 +18,7 @@ use Rattle.tx_plantext.proofs.ListLines.{none_true, unless-none}
 use Rattle.tx_revise.specs.Revised.{Reached, nothing, stands, has, bar_turn}
 use Rattle.tx_revise.proofs.Tails.{IsLine, alone}
 use Rattle.tx_revise.proofs.LineKinds.{Begins}
-use Rattle.tx_revise.proofs.Turns.{so_far, IsReached, Leads, Carries, blank_leads, spelled_leads, nothing_carries, some_bars, still_allowed}
+use Rattle.tx_revise.proofs.Carrying.{so_far, IsReached, Leads, Carries, blank_leads, spelled_leads, nothing_carries, some_bars, still_allowed}
 
 cancel : {A : Type 0} (xs ys zs : List A) → xs ++ ys ≡ xs ++ zs → ys ≡ zs
 cancel [] ys zs e = e

@@ -30,7 +30,7 @@ use Rattle.tx_revise.proofs.Tails.{IsLine, Spells, alone, below, IsSpelled, IsCr
 use Rattle.tx_revise.proofs.Parts.{header, Says, Ends, Starts, Line, Goes, at_end, goes_on, Heads, Before, starts_from, starts_read}
 use Rattle.tx_revise.proofs.LineKinds.{Kind, exchange, code, range, group, route, bar, kind_of, Begins, begins_itself, IsFront, front_of}
 use Rattle.tx_revise.proofs.Rows.{spelled_of, list_is_route, route_for}
-use Rattle.tx_revise.proofs.Turns.{IsSame, so_far, IsReached, Leads, Carries, blank_leads, then_carries, each_carries, each_bar_carries, IsBarHere, route_carries, nothing_carries}
+use Rattle.tx_revise.proofs.Carrying.{IsSame, so_far, IsReached, Leads, Carries, blank_leads, then_carries, each_carries, each_bar_carries, IsBarHere, route_carries, nothing_carries}
 use Rattle.tx_revise.proofs.OldLines.{blank_carries, exchange_carries, code_carries, range_carries, group_carries, bar_carries}
 use Rattle.tx_revise.proofs.AtEnd.{IsReady, each_stands, bars_stand, bars_written, lists_same, bars_same}
 use Rattle.tx_revise.proofs.Joins.{cut_joined, starts_no_lf}

@@ -23,7 +23,8 @@ fn list_text<A: Allocator + Copy>(
     add(&mut text, plan.exchange_name(pair.exchange))?;
     add(&mut text, b" ")?;
     add(&mut text, plan.code_figures(pair.code))?;
-    for group in plan.list(pair.exchange, pair.code) {
+    let list = plan.list(pair.exchange, pair.code);
+    for group in list {
         add(&mut text, b" ")?;
         add(&mut text, plan.group_name(*group))?;
     }
@@ -68,9 +69,10 @@ impl<'p, A: Allocator> Draft<'p, A> {
         if list.is_empty() || self.written.has(pair) {
             return false;
         }
-        pair.exchange.index() < self.exchanges
-            && pair.code.index() < self.codes
-            && list.iter().all(|group| group.index() < self.groups)
+        if pair.exchange.index() >= self.exchanges || pair.code.index() >= self.codes {
+            return false;
+        }
+        list.iter().all(|group| group.index() < self.groups)
     }
 }
 
