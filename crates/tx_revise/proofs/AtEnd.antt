@@ -13,7 +13,7 @@ use Rattle.tx_plan.specs.Mixtures.{SameNetwork}
 use Rattle.tx_plan.specs.Mixed.{rerouted}
 use Rattle.tx_plan.proofs.Growing.{seizes_within}
 use Rattle.tx_plantext.proofs.Indexes.{all_weaker}
-use Rattle.tx_revise.specs.Revised.{Reached, Turn, nothing, stands, then_turn, has, list_of, list_text, can_stand, is_at, listed_at, new_line, each, new_bar, each_bar}
+use Rattle.tx_revise.specs.Revised.{Reached, Turn, nothing, stands, then_turn, has, list_of, list_text, bar_text, can_stand, is_at, listed_at, new_line, each, new_bar, each_bar}
 use Rattle.tx_revise.proofs.Rows.{route_for}
 
 -- what is among some pairs stays among more
@@ -89,7 +89,7 @@ module _ (q : Plan) (cr : List ℕ) where
 
   bar_keeps : (b : Pair) (s : Reached) (k : Pair) → has s.barred k ≡ true → has (new_bar q cr b s).next.barred k ≡ true
   bar_keeps b s k h =
-      elim (has s.barred b) as (λ t. has (cond t (nothing s) (stands _ (record s { barred = s.barred ++ b ∷ [] }))).next.barred k ≡ true) [ true ↦ h | false ↦ has_more s.barred (b ∷ []) k h ]
+      elim (has s.barred b) as (λ t. has (cond t (nothing s) (stands (bar_text q b ++ cr) (record s { barred = s.barred ++ b ∷ [] }))).next.barred k ≡ true) [ true ↦ h | false ↦ has_more s.barred (b ∷ []) k h ]
 
   bars_keep : (bs : List Pair) (s : Reached) (k : Pair) → has s.barred k ≡ true → has (each_bar q cr bs s).next.barred k ≡ true
   bars_keep [] s k h = h
@@ -97,14 +97,14 @@ module _ (q : Plan) (cr : List ℕ) where
 
   bar_stands : (b : Pair) (s : Reached) → has (new_bar q cr b s).next.barred b ≡ true
   bar_stands b s =
-      elim (has s.barred b) as (λ t. has s.barred b ≡ t → has (cond t (nothing s) (stands _ (record s { barred = s.barred ++ b ∷ [] }))).next.barred b ≡ true) [ true ↦ λ e. e | false ↦ λ e. has_last s.barred b ] refl
+      elim (has s.barred b) as (λ t. has s.barred b ≡ t → has (cond t (nothing s) (stands (bar_text q b ++ cr) (record s { barred = s.barred ++ b ∷ [] }))).next.barred b ≡ true) [ true ↦ λ e. e | false ↦ λ e. has_last s.barred b ] refl
 
   pub bars_stand : (bs : List Pair) (s : Reached) → AllByRecursion (λ b. has (each_bar q cr bs s).next.barred b ≡ true) bs
   bars_stand [] s = tt
   bars_stand (b ∷ bs) s = (bars_keep bs (new_bar q cr b s).next b (bar_stands b s), bars_stand bs (new_bar q cr b s).next)
 
   bar_written : (b : Pair) (s : Reached) → (new_bar q cr b s).next.written ≡ s.written
-  bar_written b s = elim (has s.barred b) as (λ t. (cond t (nothing s) (stands _ (record s { barred = s.barred ++ b ∷ [] }))).next.written ≡ s.written) [ true ↦ refl | false ↦ refl ]
+  bar_written b s = elim (has s.barred b) as (λ t. (cond t (nothing s) (stands (bar_text q b ++ cr) (record s { barred = s.barred ++ b ∷ [] }))).next.written ≡ s.written) [ true ↦ refl | false ↦ refl ]
 
   pub bars_written : (bs : List Pair) (s : Reached) → (each_bar q cr bs s).next.written ≡ s.written
   bars_written [] s = refl

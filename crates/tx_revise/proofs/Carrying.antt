@@ -37,6 +37,11 @@ pub record IsSame (q : Plan) (r : Plan) : Type 0 where
   pub lists : (x c : ℕ) → route_list r x c ≡ route_list q x c
   pub bars : (x c : ℕ) → is_barred r x c ≡ is_barred q x c
 
+-- no words declare nothing
+no_words : (v : ℕ) (p m : Plan) → declare v p [] ≡ Ok m → ⊥
+unfolding declare
+no_words v p m h = cc
+
 module _ (v : ℕ) (r q : Plan) (hq : IsPlan q) (second : has_bars q ≡ true → v ≡ 2) where
   -- what is declared by the lines so far: what the old ones declare, with the new lists and bars
   abbrev pub so_far : Plan → Reached → Plan
@@ -81,11 +86,7 @@ module _ (v : ℕ) (r q : Plan) (hq : IsPlan q) (second : has_bars q ≡ true �
 
   pub spelled_leads : (p m : Plan) (s t : Reached) (ws : List (List ℕ)) (found lines : List (List ℕ)) → declare v (so_far p s) ws ≡ Ok (so_far m t) → is_end ws ≡ false
       → Spells ws found → Leads lines m t → Leads (found ++ lines) p s
-  spelled_leads p m s t [] found lines d e h g = let z : ⊥ = no_words d in absurd z
-    where
-      no_words : declare v (so_far p s) [] ≡ Ok (so_far m t) → ⊥
-      unfolding declare
-      no_words k = cc
+  spelled_leads p m s t [] found lines d e h g = absurd (no_words v (so_far p s) (so_far m t) d)
   spelled_leads p m s t (w ∷ ws) found lines d e (alone line h) g = worded_leads p m s t w ws line lines d e h g
   spelled_leads p m s t (w ∷ ws) found lines d e (below line blank b h) g = blank_leads p s blank (line ∷ lines) b (worded_leads p m s t w ws line lines d e h g)
 

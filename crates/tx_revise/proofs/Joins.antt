@@ -49,22 +49,22 @@ ends_no_lf (part ∷ next ∷ parts) h = (part_no_lf part h.0, ends_no_lf (next 
 says_no_lf : (v : ℕ) (r : Plan) (parts : List (List ℕ)) (p : Plan) → Says v r parts p → AllByRecursion HasNoLf parts
 says_no_lf v r [] p h = absurd h
 says_no_lf v r (part ∷ []) p h = (right_no_lf part h.0, tt)
-says_no_lf v r (part ∷ next ∷ parts) p h = (part_no_lf part h.0, worded (words_in part) h.1)
+says_no_lf v r (part ∷ next ∷ parts) p h = (part_no_lf part h.0, worded (λ m k. says_no_lf v r (next ∷ parts) m k) (words_in part) h.1)
   where
-    worded : (ws : List (List ℕ)) → Line v p r ws (Says v r (next ∷ parts)) (Ends (next ∷ parts)) → AllByRecursion HasNoLf (next ∷ parts)
-    worded [] k = says_no_lf v r (next ∷ parts) p k
-    worded (w ∷ ws) (at_end e same ends) = ends_no_lf (next ∷ parts) ends
-    worded (w ∷ ws) (goes_on m e d k) = says_no_lf v r (next ∷ parts) m k
+    worded : ((m : Plan) → Says v r (next ∷ parts) m → AllByRecursion HasNoLf (next ∷ parts)) → (ws : List (List ℕ)) → Line v p r ws (Says v r (next ∷ parts)) (Ends (next ∷ parts)) → AllByRecursion HasNoLf (next ∷ parts)
+    worded go [] k = go p k
+    worded go (w ∷ ws) (at_end e same ends) = ends_no_lf (next ∷ parts) ends
+    worded go (w ∷ ws) (goes_on m e d k) = go m k
 
 -- a text that is read has no LF in its parts
-pub starts_no_lf : (r no : Plan) (parts : List (List ℕ)) → Starts r no parts → AllByRecursion HasNoLf parts
-starts_no_lf r no [] h = absurd h
-starts_no_lf r no (part ∷ []) h = absurd h
-starts_no_lf r no (part ∷ next ∷ parts) h = (part_no_lf part h.0, worded (words_in part) h.1)
+pub starts_no_lf : (r begin : Plan) (parts : List (List ℕ)) → Starts r begin parts → AllByRecursion HasNoLf parts
+starts_no_lf r begin [] h = absurd h
+starts_no_lf r begin (part ∷ []) h = absurd h
+starts_no_lf r begin (part ∷ next ∷ parts) h = (part_no_lf part h.0, worded (λ k. starts_no_lf r begin (next ∷ parts) k) (words_in part) h.1)
   where
-    worded : (ws : List (List ℕ)) → Before r no ws (next ∷ parts) (Starts r no (next ∷ parts)) → AllByRecursion HasNoLf (next ∷ parts)
-    worded [] k = starts_no_lf r no (next ∷ parts) k
-    worded (w ∷ ws) k = says_no_lf k.version r (next ∷ parts) no k.says
+    worded : (Starts r begin (next ∷ parts) → AllByRecursion HasNoLf (next ∷ parts)) → (ws : List (List ℕ)) → Before r begin ws (next ∷ parts) (Starts r begin (next ∷ parts)) → AllByRecursion HasNoLf (next ∷ parts)
+    worded go [] k = go k
+    worded go (w ∷ ws) k = says_no_lf k.version r (next ∷ parts) begin k.says
 
 -- ---- AN LF BEHIND EACH LINE
 

@@ -10,3 +10,4 @@ pub mod Said
 pub mod Steps
 pub mod Spelling
 pub mod Counts
+pub mod Others

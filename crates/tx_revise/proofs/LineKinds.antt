@@ -135,9 +135,9 @@ front_before v p m q ws (bar a b two e none is) f = let g = subst (λ k. IsFront
 pub front_of : (v : ℕ) (r : Plan) (parts : List (List ℕ)) (p : Plan) → Says v r parts p → IsFront p r
 front_of v r [] p h = absurd h
 front_of v r (part ∷ []) p h = subst (λ k. IsFront p k) h.2 (front_itself p)
-front_of v r (part ∷ next ∷ parts) p h = worded (words_in part) h.1
+front_of v r (part ∷ next ∷ parts) p h = worded (λ m k. front_of v r (next ∷ parts) m k) (words_in part) h.1
   where
-    worded : (ws : List (List ℕ)) → Line v p r ws (Says v r (next ∷ parts)) (Ends (next ∷ parts)) → IsFront p r
-    worded [] k = front_of v r (next ∷ parts) p k
-    worded (w ∷ ws) (at_end e same ends) = subst (λ k. IsFront p k) same (front_itself p)
-    worded (w ∷ ws) (goes_on m e d k) = front_before v p m r (w ∷ ws) (kind_of v p m (w ∷ ws) d) (front_of v r (next ∷ parts) m k)
+    worded : ((m : Plan) → Says v r (next ∷ parts) m → IsFront m r) → (ws : List (List ℕ)) → Line v p r ws (Says v r (next ∷ parts)) (Ends (next ∷ parts)) → IsFront p r
+    worded go [] k = go p k
+    worded go (w ∷ ws) (at_end e same ends) = subst (λ k. IsFront p k) same (front_itself p)
+    worded go (w ∷ ws) (goes_on m e d k) = front_before v p m r (w ∷ ws) (kind_of v p m (w ∷ ws) d) (go m k)

@@ -17,7 +17,7 @@ use Rattle.tx_plantext.specs.declared.fault.PlanWord.{PlanWord}
 use Rattle.std.specs.Prelude.{if◌then◌else◌}
 use Rattle.tx_revise.specs.Lines.{words_in}
 
-abbrev header : List (List ℕ) → Option ℕ
+abbrev pub header : List (List ℕ) → Option ℕ
 header = header_of (codes "PLAN") 2
 
 -- the frame of a text of these parts, from a phase on
@@ -71,21 +71,21 @@ Says v r (part ∷ []) p = (bytes_fault part ≡ None) × (is_end (words_of part
 Says v r (part ∷ next ∷ parts) p = (bytes_fault (without_cr part) ≡ None) × Line v p r (words_in part) (Says v r (next ∷ parts)) (Ends (next ∷ parts))
 
 -- the header, and then the lines after it
-pub record Heads (r : Plan) (no : Plan) (words : List (List ℕ)) (parts : List (List ℕ)) : Type 0 where
+pub record Heads (r : Plan) (begin : Plan) (words : List (List ℕ)) (parts : List (List ℕ)) : Type 0 where
   pub version : ℕ
   pub is : header words ≡ Some version
-  pub says : Says version r parts no
+  pub says : Says version r parts begin
 
 -- a line up to the header
-abbrev pub Before : (r no : Plan) → List (List ℕ) → List (List ℕ) → Type 0 → Type 0
-Before r no [] parts rest = rest
-Before r no (w ∷ ws) parts rest = Heads r no (w ∷ ws) parts
+abbrev pub Before : (r begin : Plan) → List (List ℕ) → List (List ℕ) → Type 0 → Type 0
+Before r begin [] parts rest = rest
+Before r begin (w ∷ ws) parts rest = Heads r begin (w ∷ ws) parts
 
 -- a whole text
-abbrev pub Starts : (r no : Plan) → List (List ℕ) → Type 0
-Starts r no [] = ⊥
-Starts r no (part ∷ []) = ⊥
-Starts r no (part ∷ next ∷ parts) = (bytes_fault (without_cr part) ≡ None) × Before r no (words_in part) (next ∷ parts) (Starts r no (next ∷ parts))
+abbrev pub Starts : (r begin : Plan) → List (List ℕ) → Type 0
+Starts r begin [] = ⊥
+Starts r begin (part ∷ []) = ⊥
+Starts r begin (part ∷ next ∷ parts) = (bytes_fault (without_cr part) ≡ None) × Before r begin (words_in part) (next ∷ parts) (Starts r begin (next ∷ parts))
 
 -- ---- FROM THE READER
 
@@ -130,16 +130,16 @@ ends_from u p r n s (part ∷ []) h = by (bytes_fault part) refl
     by : (o : Option TextFault) → bytes_fault part ≡ o → (p ≡ r) × Ends (part ∷ [])
     by None e = worded (words_of part) e refl (along u p r _ _ (last Ended n s part e) h)
     by (Some x) e = absurd (no_stop u n p r (frame_fault x) (along u p r _ _ (last_faulty Ended n s part x e) h))
-ends_from u p r n s (part ∷ next ∷ parts) h = by (bytes_fault (without_cr part)) refl
+ends_from u p r n s (part ∷ next ∷ parts) h = by (λ k. ends_from u p r (n + 1) (s + length part + 1) (next ∷ parts) k) (bytes_fault (without_cr part)) refl
   where
-    worded : (ws : List (List ℕ)) → bytes_fault (without_cr part) ≡ None → words_in part ≡ ws
+    worded : (Reads u p r (frame Ended (n + 1) (s + length part + 1) (next ∷ parts)) → (p ≡ r) × Ends (next ∷ parts)) → (ws : List (List ℕ)) → bytes_fault (without_cr part) ≡ None → words_in part ≡ ws
         → Reads u p r (as_said (looked header Ended ws) Ended n ws (λ q. frame q (n + 1) (s + length part + 1) (next ∷ parts))) → (p ≡ r) × Ends (part ∷ next ∷ parts)
-    worded [] e f k = let t = ends_from u p r (n + 1) (s + length part + 1) (next ∷ parts) k in (t.0, (e, f, t.1))
-    worded (w ∷ ws) e f k = absurd (no_stop u n p r AfterEnd k)
+    worded go [] e f k = let t = go k in (t.0, (e, f, t.1))
+    worded go (w ∷ ws) e f k = absurd (no_stop u n p r AfterEnd k)
 
-    by : (o : Option TextFault) → bytes_fault (without_cr part) ≡ o → (p ≡ r) × Ends (part ∷ next ∷ parts)
-    by None e = worded (words_in part) e refl (along u p r _ _ (whole Ended n s part next parts e) h)
-    by (Some x) e = absurd (no_stop u n p r (frame_fault x) (along u p r _ _ (faulty Ended n s part next parts x e) h))
+    by : (Reads u p r (frame Ended (n + 1) (s + length part + 1) (next ∷ parts)) → (p ≡ r) × Ends (next ∷ parts)) → (o : Option TextFault) → bytes_fault (without_cr part) ≡ o → (p ≡ r) × Ends (part ∷ next ∷ parts)
+    by go None e = worded go (words_in part) e refl (along u p r _ _ (whole Ended n s part next parts e) h)
+    by go (Some x) e = absurd (no_stop u n p r (frame_fault x) (along u p r _ _ (faulty Ended n s part next parts x e) h))
 
 -- a line that declares something, and what follows it
 record Declares (v : ℕ) (p r : Plan) (ws : List (List ℕ)) (f : Framed) : Type 0 where
@@ -170,52 +170,52 @@ says_from v r (part ∷ []) p n s h = by (bytes_fault part) refl
     by : (o : Option TextFault) → bytes_fault part ≡ o → Says v r (part ∷ []) p
     by None e = worded (words_of part) e refl (along v p r _ _ (last Body n s part e) h)
     by (Some x) e = absurd (no_stop v n p r (frame_fault x) (along v p r _ _ (last_faulty Body n s part x e) h))
-says_from v r (part ∷ next ∷ parts) p n s h = by (bytes_fault (without_cr part)) refl
+says_from v r (part ∷ next ∷ parts) p n s h = by (λ m k. says_from v r (next ∷ parts) m (n + 1) (s + length part + 1) k) (bytes_fault (without_cr part)) refl
   where
-    ended : (b : Bool) (w : List ℕ) (ws : List (List ℕ)) → is_end (w ∷ ws) ≡ b → Reads v p r (as_said (if b then End else Plain) Body n (w ∷ ws) (λ q. frame q (n + 1) (s + length part + 1) (next ∷ parts))) → Line v p r (w ∷ ws) (Says v r (next ∷ parts)) (Ends (next ∷ parts))
-    ended true w ws q k = let t = ends_from v p r (n + 1) (s + length part + 1) (next ∷ parts) k in at_end q t.0 t.1
-    ended false w ws q k = let d = declares_from v n p r (w ∷ ws) (frame Body (n + 1) (s + length part + 1) (next ∷ parts)) k in goes_on d.plan q d.is (says_from v r (next ∷ parts) d.plan (n + 1) (s + length part + 1) d.rest)
+    ended : ((m : Plan) → Reads v m r (frame Body (n + 1) (s + length part + 1) (next ∷ parts)) → Says v r (next ∷ parts) m) → (b : Bool) (w : List ℕ) (ws : List (List ℕ)) → is_end (w ∷ ws) ≡ b → Reads v p r (as_said (if b then End else Plain) Body n (w ∷ ws) (λ q. frame q (n + 1) (s + length part + 1) (next ∷ parts))) → Line v p r (w ∷ ws) (Says v r (next ∷ parts)) (Ends (next ∷ parts))
+    ended go true w ws q k = let t = ends_from v p r (n + 1) (s + length part + 1) (next ∷ parts) k in at_end q t.0 t.1
+    ended go false w ws q k = let d = declares_from v n p r (w ∷ ws) (frame Body (n + 1) (s + length part + 1) (next ∷ parts)) k in goes_on d.plan q d.is (go d.plan d.rest)
 
-    worded : (ws : List (List ℕ)) → Reads v p r (as_said (looked header Body ws) Body n ws (λ q. frame q (n + 1) (s + length part + 1) (next ∷ parts))) → Line v p r ws (Says v r (next ∷ parts)) (Ends (next ∷ parts))
-    worded [] k = says_from v r (next ∷ parts) p (n + 1) (s + length part + 1) k
-    worded (w ∷ ws) k = ended (is_end (w ∷ ws)) w ws refl k
+    worded : ((m : Plan) → Reads v m r (frame Body (n + 1) (s + length part + 1) (next ∷ parts)) → Says v r (next ∷ parts) m) → (ws : List (List ℕ)) → Reads v p r (as_said (looked header Body ws) Body n ws (λ q. frame q (n + 1) (s + length part + 1) (next ∷ parts))) → Line v p r ws (Says v r (next ∷ parts)) (Ends (next ∷ parts))
+    worded go [] k = go p k
+    worded go (w ∷ ws) k = ended go (is_end (w ∷ ws)) w ws refl k
 
-    by : (o : Option TextFault) → bytes_fault (without_cr part) ≡ o → Says v r (part ∷ next ∷ parts) p
-    by None e = (e, worded (words_in part) (along v p r _ _ (whole Body n s part next parts e) h))
-    by (Some x) e = absurd (no_stop v n p r (frame_fault x) (along v p r _ _ (faulty Body n s part next parts x e) h))
+    by : ((m : Plan) → Reads v m r (frame Body (n + 1) (s + length part + 1) (next ∷ parts)) → Says v r (next ∷ parts) m) → (o : Option TextFault) → bytes_fault (without_cr part) ≡ o → Says v r (part ∷ next ∷ parts) p
+    by go None e = (e, worded go (words_in part) (along v p r _ _ (whole Body n s part next parts e) h))
+    by go (Some x) e = absurd (no_stop v n p r (frame_fault x) (along v p r _ _ (faulty Body n s part next parts x e) h))
 
 headed_from : (u v : ℕ) (p r : Plan) (f : Framed) → Reads u p r (Headed v f) → Reads v p r f
 unfolding said
 headed_from u v p r f h = h
 
-pub starts_from : (u : ℕ) (r no : Plan) (parts : List (List ℕ)) (n s : ℕ) → Reads u no r (frame Start n s parts) → Starts r no parts
-starts_from u r no [] n s h = no_stop u n no r NoHeader (along u no r _ _ (no_start n s) h)
-starts_from u r no (part ∷ []) n s h = by (bytes_fault part) refl
+pub starts_from : (u : ℕ) (r begin : Plan) (parts : List (List ℕ)) (n s : ℕ) → Reads u begin r (frame Start n s parts) → Starts r begin parts
+starts_from u r begin [] n s h = no_stop u n begin r NoHeader (along u begin r _ _ (no_start n s) h)
+starts_from u r begin (part ∷ []) n s h = by (bytes_fault part) refl
   where
-    ended : (b : Bool) → Reads u no r (ended_by n (last_by b Start)) → ⊥
-    ended true k = no_stop u n no r NoHeader k
-    ended false k = no_stop u n no r NoEnd k
+    ended : (b : Bool) → Reads u begin r (ended_by n (last_by b Start)) → ⊥
+    ended true k = no_stop u n begin r NoHeader k
+    ended false k = no_stop u n begin r NoEnd k
 
-    worded : (ws : List (List ℕ)) → Reads u no r (ended_by n (last_fault Start ws)) → ⊥
-    worded [] k = no_stop u n no r NoHeader k
+    worded : (ws : List (List ℕ)) → Reads u begin r (ended_by n (last_fault Start ws)) → ⊥
+    worded [] k = no_stop u n begin r NoHeader k
     worded (w ∷ ws) k = ended (is_end (w ∷ ws)) k
 
     by : (o : Option TextFault) → bytes_fault part ≡ o → ⊥
-    by None e = worded (words_of part) (along u no r _ _ (last Start n s part e) h)
-    by (Some x) e = no_stop u n no r (frame_fault x) (along u no r _ _ (last_faulty Start n s part x e) h)
-starts_from u r no (part ∷ next ∷ parts) n s h = by (bytes_fault (without_cr part)) refl
+    by None e = worded (words_of part) (along u begin r _ _ (last Start n s part e) h)
+    by (Some x) e = no_stop u n begin r (frame_fault x) (along u begin r _ _ (last_faulty Start n s part x e) h)
+starts_from u r begin (part ∷ next ∷ parts) n s h = by (λ k. starts_from u r begin (next ∷ parts) (n + 1) (s + length part + 1) k) (bytes_fault (without_cr part)) refl
   where
-    kept : (o : Option ℕ) (w : List ℕ) (ws : List (List ℕ)) → header (w ∷ ws) ≡ o → Reads u no r (as_said (headed o) Start n (w ∷ ws) (λ q. frame q (n + 1) (s + length part + 1) (next ∷ parts))) → Heads r no (w ∷ ws) (next ∷ parts)
-    kept None w ws e k = absurd (no_stop u n no r NoHeader k)
-    kept (Some v) w ws e k = record { version = v; is = e; says = says_from v r (next ∷ parts) no (n + 1) (s + length part + 1) (headed_from u v no r (frame Body (n + 1) (s + length part + 1) (next ∷ parts)) k) }
+    kept : (o : Option ℕ) (w : List ℕ) (ws : List (List ℕ)) → header (w ∷ ws) ≡ o → Reads u begin r (as_said (headed o) Start n (w ∷ ws) (λ q. frame q (n + 1) (s + length part + 1) (next ∷ parts))) → Heads r begin (w ∷ ws) (next ∷ parts)
+    kept None w ws e k = absurd (no_stop u n begin r NoHeader k)
+    kept (Some v) w ws e k = record { version = v; is = e; says = says_from v r (next ∷ parts) begin (n + 1) (s + length part + 1) (headed_from u v begin r (frame Body (n + 1) (s + length part + 1) (next ∷ parts)) k) }
 
-    worded : (ws : List (List ℕ)) → Reads u no r (as_said (looked header Start ws) Start n ws (λ q. frame q (n + 1) (s + length part + 1) (next ∷ parts))) → Before r no ws (next ∷ parts) (Starts r no (next ∷ parts))
-    worded [] k = starts_from u r no (next ∷ parts) (n + 1) (s + length part + 1) k
-    worded (w ∷ ws) k = kept (header (w ∷ ws)) w ws refl k
+    worded : (Reads u begin r (frame Start (n + 1) (s + length part + 1) (next ∷ parts)) → Starts r begin (next ∷ parts)) → (ws : List (List ℕ)) → Reads u begin r (as_said (looked header Start ws) Start n ws (λ q. frame q (n + 1) (s + length part + 1) (next ∷ parts))) → Before r begin ws (next ∷ parts) (Starts r begin (next ∷ parts))
+    worded go [] k = go k
+    worded go (w ∷ ws) k = kept (header (w ∷ ws)) w ws refl k
 
-    by : (o : Option TextFault) → bytes_fault (without_cr part) ≡ o → Starts r no (part ∷ next ∷ parts)
-    by None e = (e, worded (words_in part) (along u no r _ _ (whole Start n s part next parts e) h))
-    by (Some x) e = absurd (no_stop u n no r (frame_fault x) (along u no r _ _ (faulty Start n s part next parts x e) h))
+    by : (Reads u begin r (frame Start (n + 1) (s + length part + 1) (next ∷ parts)) → Starts r begin (next ∷ parts)) → (o : Option TextFault) → bytes_fault (without_cr part) ≡ o → Starts r begin (part ∷ next ∷ parts)
+    by go None e = (e, worded go (words_in part) (along u begin r _ _ (whole Start n s part next parts e) h))
+    by go (Some x) e = absurd (no_stop u n begin r (frame_fault x) (along u begin r _ _ (faulty Start n s part next parts x e) h))
 
 -- ---- TO THE READER
 
@@ -239,25 +239,25 @@ says_read v r (part ∷ []) p n s h = along v p r _ _ (sym (last Body n s part h
     worded : (ws : List (List ℕ)) → words_of part ≡ ws → is_end ws ≡ true → Reads v p r (ended_by n (last_fault Body ws))
     worded [] e f = let z : ⊥ = cc in absurd z
     worded (w ∷ ws) e f = rw f (is_done v p r h.2)
-says_read v r (part ∷ next ∷ parts) p n s h = along v p r _ _ (sym (whole Body n s part next parts h.0)) (worded (words_in part) h.1)
+says_read v r (part ∷ next ∷ parts) p n s h = along v p r _ _ (sym (whole Body n s part next parts h.0)) (worded (λ m k. says_read v r (next ∷ parts) m (n + 1) (s + length part + 1) k) (words_in part) h.1)
   where
-    goes : (w : List ℕ) (ws : List (List ℕ)) → Goes v p r (w ∷ ws) (Says v r (next ∷ parts)) (Ends (next ∷ parts)) → Reads v p r (as_said (looked header Body (w ∷ ws)) Body n (w ∷ ws) (λ q. frame q (n + 1) (s + length part + 1) (next ∷ parts)))
-    goes w ws (at_end e same ends) = rw e (subst (λ q. Reads v p q (frame Ended (n + 1) (s + length part + 1) (next ∷ parts))) same (ends_read v p (n + 1) (s + length part + 1) (next ∷ parts) ends))
-    goes w ws (goes_on m e d k) = rw e (has_read v n p m r (w ∷ ws) (frame Body (n + 1) (s + length part + 1) (next ∷ parts)) d (says_read v r (next ∷ parts) m (n + 1) (s + length part + 1) k))
+    goes : ((m : Plan) → Says v r (next ∷ parts) m → Reads v m r (frame Body (n + 1) (s + length part + 1) (next ∷ parts))) → (w : List ℕ) (ws : List (List ℕ)) → Goes v p r (w ∷ ws) (Says v r (next ∷ parts)) (Ends (next ∷ parts)) → Reads v p r (as_said (looked header Body (w ∷ ws)) Body n (w ∷ ws) (λ q. frame q (n + 1) (s + length part + 1) (next ∷ parts)))
+    goes go w ws (at_end e same ends) = rw e (subst (λ q. Reads v p q (frame Ended (n + 1) (s + length part + 1) (next ∷ parts))) same (ends_read v p (n + 1) (s + length part + 1) (next ∷ parts) ends))
+    goes go w ws (goes_on m e d k) = rw e (has_read v n p m r (w ∷ ws) (frame Body (n + 1) (s + length part + 1) (next ∷ parts)) d (go m k))
 
-    worded : (ws : List (List ℕ)) → Line v p r ws (Says v r (next ∷ parts)) (Ends (next ∷ parts)) → Reads v p r (as_said (looked header Body ws) Body n ws (λ q. frame q (n + 1) (s + length part + 1) (next ∷ parts)))
-    worded [] k = says_read v r (next ∷ parts) p (n + 1) (s + length part + 1) k
-    worded (w ∷ ws) k = goes w ws k
+    worded : ((m : Plan) → Says v r (next ∷ parts) m → Reads v m r (frame Body (n + 1) (s + length part + 1) (next ∷ parts))) → (ws : List (List ℕ)) → Line v p r ws (Says v r (next ∷ parts)) (Ends (next ∷ parts)) → Reads v p r (as_said (looked header Body ws) Body n ws (λ q. frame q (n + 1) (s + length part + 1) (next ∷ parts)))
+    worded go [] k = go p k
+    worded go (w ∷ ws) k = goes go w ws k
 
 headed_read : (u v : ℕ) (p r : Plan) (f : Framed) → Reads v p r f → Reads u p r (Headed v f)
 unfolding said
 headed_read u v p r f h = h
 
-pub starts_read : (u : ℕ) (r no : Plan) (parts : List (List ℕ)) (n s : ℕ) → Starts r no parts → Reads u no r (frame Start n s parts)
-starts_read u r no [] n s h = absurd h
-starts_read u r no (part ∷ []) n s h = absurd h
-starts_read u r no (part ∷ next ∷ parts) n s h = along u no r _ _ (sym (whole Start n s part next parts h.0)) (worded (words_in part) h.1)
+pub starts_read : (u : ℕ) (r begin : Plan) (parts : List (List ℕ)) (n s : ℕ) → Starts r begin parts → Reads u begin r (frame Start n s parts)
+starts_read u r begin [] n s h = absurd h
+starts_read u r begin (part ∷ []) n s h = absurd h
+starts_read u r begin (part ∷ next ∷ parts) n s h = along u begin r _ _ (sym (whole Start n s part next parts h.0)) (worded (λ k. starts_read u r begin (next ∷ parts) (n + 1) (s + length part + 1) k) (words_in part) h.1)
   where
-    worded : (ws : List (List ℕ)) → Before r no ws (next ∷ parts) (Starts r no (next ∷ parts)) → Reads u no r (as_said (looked header Start ws) Start n ws (λ q. frame q (n + 1) (s + length part + 1) (next ∷ parts)))
-    worded [] k = starts_read u r no (next ∷ parts) (n + 1) (s + length part + 1) k
-    worded (w ∷ ws) k = let e = k.is in rw e (headed_read u k.version no r (frame Body (n + 1) (s + length part + 1) (next ∷ parts)) (says_read k.version r (next ∷ parts) no (n + 1) (s + length part + 1) k.says))
+    worded : (Starts r begin (next ∷ parts) → Reads u begin r (frame Start (n + 1) (s + length part + 1) (next ∷ parts))) → (ws : List (List ℕ)) → Before r begin ws (next ∷ parts) (Starts r begin (next ∷ parts)) → Reads u begin r (as_said (looked header Start ws) Start n ws (λ q. frame q (n + 1) (s + length part + 1) (next ∷ parts)))
+    worded go [] k = go k
+    worded go (w ∷ ws) k = let e = k.is in rw e (headed_read u k.version begin r (frame Body (n + 1) (s + length part + 1) (next ∷ parts)) (says_read k.version r (next ∷ parts) begin (n + 1) (s + length part + 1) k.says))

@@ -133,12 +133,12 @@ module _ (r q : Plan) (hq : IsPlan q) (net : SameNetwork r q) (cr : List ℕ) (c
     ready_of : (s : Reached) → Reaches r s → (k : Pair) → list_any (λ o. (o.exchange == k.exchange) && (o.code == k.code)) q.routes ≡ true → IsReady q cr s k
     ready_of s h k there =
         let some = found_some k q.routes hq.routes there in
-        let route = list_is_route q hq k some in
+        let way = list_is_route q hq k some in
         let a = ap length net.exchanges in
         let b = ap length net.codes in
         let c = ap length net.groups in
-        let x = route.exchange in
-        let y = route.code in
+        let x = way.exchange in
+        let y = way.code in
         let d = h.exchanges in
         let e = h.codes in
         let f = h.groups in
@@ -146,7 +146,7 @@ module _ (r q : Plan) (hq : IsPlan q) (net : SameNetwork r q) (cr : List ℕ) (c
           some = some;
           exchange = lt-ltb k.exchange s.exchanges (omega arith);
           code = lt-ltb k.code s.codes (omega arith);
-          groups = groups_declared s.groups k.exchange (list_of q k) (omega arith) route.outgoing;
+          groups = groups_declared s.groups k.exchange (list_of q k) (omega arith) way.outgoing;
         }
 
     all_ready : (s : Reached) → Reaches r s → AllByRecursion (IsReady q cr s) (listed_at q None)
@@ -255,17 +255,17 @@ module _ (r q : Plan) (hq : IsPlan q) (net : SameNetwork r q) (cr : List ℕ) (c
         let e : words_in part ≡ codes "END" ∷ [] = ap words_of (no_cr part (right_from part h.0).bytes) ∙ end_is (words_of part) h.1 in
         subst (λ k. Leads v r q hq second (lines_of q cr (part ∷ []) s) k s) (sym h.2)
         (end_leads s part [] e (subst (λ k. Reaches k s) h.2 i) (λ t. lines_none t) (λ k. (h.0, h.1, refl)))
-    lines_lead u (part ∷ next ∷ parts) p s h i = worded (words_in part) refl h.1
+    lines_lead u (part ∷ next ∷ parts) p s h i = worded (λ m t k j. lines_lead u (next ∷ parts) m t k j) (words_in part) refl h.1
       where
-        worded : (ws : List (List ℕ)) → words_in part ≡ ws → Line u p r ws (Says u r (next ∷ parts)) (Ends (next ∷ parts)) → Leads v r q hq second (lines_of q cr (part ∷ next ∷ parts) s) p s
-        worded [] e k =
-            carried p p s (stands part s) part (next ∷ parts) (turn_is part s [] e) (blank_carries v r q hq second p s part (record { right = h.0; words = e }) i) (lines_lead u (next ∷ parts) p s k)
-        worded (w ∷ ws) e (at_end f same ends) =
+        worded : ((m : Plan) (t : Reached) → Says u r (next ∷ parts) m → Reaches m t → Leads v r q hq second (lines_of q cr (next ∷ parts) t) m t) → (ws : List (List ℕ)) → words_in part ≡ ws → Line u p r ws (Says u r (next ∷ parts)) (Ends (next ∷ parts)) → Leads v r q hq second (lines_of q cr (part ∷ next ∷ parts) s) p s
+        worded go [] e k =
+            carried p p s (stands part s) part (next ∷ parts) (turn_is part s [] e) (blank_carries v r q hq second p s part (record { right = h.0; words = e }) i) (go p s k)
+        worded go (w ∷ ws) e (at_end f same ends) =
             let g = end_is (w ∷ ws) f in
             subst (λ k. Leads v r q hq second (lines_of q cr (part ∷ next ∷ parts) s) k s) (sym same)
             (end_leads s part (next ∷ parts) (e ∙ g) (subst (λ k. Reaches k s) same i) (λ t. ended_stand (next ∷ parts) t ends) (λ k. (h.0, subst (λ l. Line v k k l (Says v k (next ∷ parts)) (Ends (next ∷ parts))) (sym e) (at_end f refl ends))))
-        worded (w ∷ ws) e (goes_on m f d k) =
-            kind_leads u p m s (w ∷ ws) part (next ∷ parts) h.0 e i (front_of u r (part ∷ next ∷ parts) p h) (front_of u r (next ∷ parts) m k) (λ t j. lines_lead u (next ∷ parts) m t k j) (kind_of u p m (w ∷ ws) d)
+        worded go (w ∷ ws) e (goes_on m f d k) =
+            kind_leads u p m s (w ∷ ws) part (next ∷ parts) h.0 e i (front_of u r (part ∷ next ∷ parts) p h) (front_of u r (next ∷ parts) m k) (λ t j. go m t k j) (kind_of u p m (w ∷ ws) d)
 
   -- ---- THE HEADER
 
@@ -328,7 +328,7 @@ module _ (r q : Plan) (hq : IsPlan q) (net : SameNetwork r q) (cr : List ℕ) (c
   texts_begin : (parts : List (List ℕ)) → Starts r no_plan parts → Begun (lines_of q cr parts start)
   texts_begin [] h = absurd h
   texts_begin (part ∷ []) h = absurd h
-  texts_begin (part ∷ next ∷ parts) h = worded (words_in part) refl h.1
+  texts_begin (part ∷ next ∷ parts) h = worded (λ k. texts_begin (next ∷ parts) k) (words_in part) refl h.1
     where
       under : (u : ℕ) (w : List ℕ) (ws : List (List ℕ)) → words_in part ≡ w ∷ ws → header (w ∷ ws) ≡ Some u → bytes_eq w (codes "PLAN") ≡ true → Says u r (next ∷ parts) no_plan
           → (b : Bool) → has_bars q ≡ b → Begun (cond b (respelled (joined (head_of true)) part) (part ∷ []) ++ lines_of q cr (next ∷ parts) start)
@@ -337,11 +337,11 @@ module _ (r q : Plan) (hq : IsPlan q) (net : SameNetwork r q) (cr : List ℕ) (c
           let second : has_bars q ≡ true → u ≡ 2 = λ k. absurd (true≢false (sym k ∙ f)) in
           header_begun u second w ws part (lines_of q cr (next ∷ parts) start) (record { right = h.0; words = e }) head (lines_lead u second u (next ∷ parts) no_plan start says (reached_at_start u second))
 
-      worded : (ws : List (List ℕ)) → words_in part ≡ ws → Before r no_plan ws (next ∷ parts) (Starts r no_plan (next ∷ parts)) → Begun (lines_of q cr (part ∷ next ∷ parts) start)
-      worded [] e k =
+      worded : (Starts r no_plan (next ∷ parts) → Begun (lines_of q cr (next ∷ parts) start)) → (ws : List (List ℕ)) → words_in part ≡ ws → Before r no_plan ws (next ∷ parts) (Starts r no_plan (next ∷ parts)) → Begun (lines_of q cr (part ∷ next ∷ parts) start)
+      worded go [] e k =
           subst Begun (sym (lines_by part (next ∷ parts) start (stands part start) (turn_is part start [] e)))
-          (blank_begun part (lines_of q cr (next ∷ parts) start) (record { right = h.0; words = e }) (texts_begin (next ∷ parts) k))
-      worded (w ∷ ws) e k =
+          (blank_begun part (lines_of q cr (next ∷ parts) start) (record { right = h.0; words = e }) (go k))
+      worded go (w ∷ ws) e k =
           let plan = head_word w ws k.version k.is in
           let turned : turn_by q cr (w ∷ ws) part start ≡ header_turn q part start = rw plan refl in
           subst Begun (sym (lines_by part (next ∷ parts) start (header_turn q part start) (turn_is part start (w ∷ ws) e ∙ turned)))
@@ -352,10 +352,9 @@ first_is [] = no_byte
 first_is (part ∷ parts) = is_cr part
 
 -- a text that begins so says the plan
-said_from : (q : Plan) (lines : List (List ℕ)) (plan : Plan) → Starts plan no_plan lines → IsSame q plan → SaysAs q (join_with_byte 10 lines)
+said_from : (q : Plan) (line : List ℕ) (lines : List (List ℕ)) (plan : Plan) → Starts plan no_plan (line ∷ lines) → IsSame q plan → SaysAs q (join_with_byte 10 (line ∷ lines))
 unfolding lines_from
-said_from q [] plan h s = absurd h
-said_from q (line ∷ lines) plan h s =
+said_from q line lines plan h s =
     let e = cut_joined line lines (starts_no_lf plan no_plan (line ∷ lines) h) in
     record {
       plan = plan;
@@ -367,10 +366,26 @@ said_from q (line ∷ lines) plan h s =
     }
 
 -- THE LAW
-pub revised_says : RevisedTextsSayThePlan
+pub record IsSaid (text : List ℕ) (old new : Plan) : Type 0 where
+  pub says : SaysAs new (revised text old new)
+  pub lines : slice_split is_lf (revised text old new) ≡ lines_of new (first_cr (slice_split is_lf text)) (slice_split is_lf text) (at_start old)
+
+said_of : (text : List ℕ) (old new : Plan) (lines : List (List ℕ)) → lines_of new (first_cr (slice_split is_lf text)) (slice_split is_lf text) (at_start old) ≡ lines → (plan : Plan) → Starts plan no_plan lines → IsSame new plan → IsSaid text old new
+said_of text old new [] e plan h s = absurd h
+said_of text old new (line ∷ lines) e plan h s =
+    let joined : revised text old new ≡ join_with_byte 10 (line ∷ lines) = ap (join_with_byte 10) e in
+    record {
+      says = subst (SaysAs new) (sym joined) (said_from new line lines plan h s);
+      lines = ap (slice_split is_lf) joined ∙ cut_joined line lines (starts_no_lf plan no_plan (line ∷ lines) h) ∙ sym e;
+    }
+
+pub revised_is : (text : List ℕ) (old new : Plan) → plan_of AtEnd text ≡ Ok old → IsPlan new → SameNetwork old new → IsSaid text old new
 unfolding lines_from
-revised_says text old new read rules net =
+revised_is text old new read rules net =
     let parts = slice_split is_lf text in
     let starts = starts_from 1 old no_plan parts 1 0 read in
     let b = texts_begin old new rules net (first_cr parts) (first_is parts) parts starts in
-    said_from new (lines_of new (first_cr parts) parts (at_start old)) b.plan b.starts b.same
+    said_of text old new (lines_of new (first_cr parts) parts (at_start old)) refl b.plan b.starts b.same
+
+pub revised_says : RevisedTextsSayThePlan
+revised_says text old new read rules net = (revised_is text old new read rules net).says

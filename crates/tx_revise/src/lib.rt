@@ -10,5 +10,5 @@ mod lists;
 mod revising;
 mod turns;
 
-pub use law::revised_texts_say_the_plan;
+pub use law::{other_lines_stand, revised_texts_say_the_plan};
 pub use revising::revise;
