@@ -40,8 +40,8 @@ found_by P app words m is has found =
     subst P (h.1 ∙ ap (λ (a : App). subcommand_of a words) is) found
 
 -- words that ask for a command of which two files clash are refused for that
-pub refused_for_clash : (found : Option (Text × List Row)) (command : Command) (refusal : Misuse)
-    → IsFoundIn found command → IsClash command refusal → IsRefused found refusal
+pub refused_for_clash : (found : Option (Text × List Row)) (command : Command) (misuse : Misuse)
+    → IsFoundIn found command → IsClash command misuse → IsRefused found misuse
 refused_for_clash found command InputTwice asked clash = (command, asked, clash)
 refused_for_clash found command Overwrites asked clash = (command, asked, clash)
 refused_for_clash found command Incomplete asked clash = tt

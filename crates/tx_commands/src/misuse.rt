@@ -26,7 +26,7 @@ pub(crate) enum Misuse {
 }
 
 impl From<AllocError> for Misuse {
-    ghost from_gives = { λ _ refusal. refusal ≡ OutOfMemory };
+    ghost from_gives = { λ _ misuse. misuse ≡ OutOfMemory };
 
     fn from(_e: AllocError) -> Misuse {
         Misuse::NoMemory

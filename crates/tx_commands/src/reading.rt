@@ -48,7 +48,7 @@ fn found_command(alloc: Global, matches: &ArgMatches<'_>) -> Result<Command, Mis
             let command = command_of(alloc, name, matches)?;
             match clash(&command) {
                 None => Ok(command),
-                Some(refusal) => Err(refusal),
+                Some(misuse) => Err(misuse),
             }
         }
         None => Err(Misuse::Incomplete),
@@ -69,11 +69,11 @@ fn in_its_words(
 }
 
 /// Why the words are refused. What has no fault of its own is reported in the words of the library.
-fn words_fault(grammar: &mut clap::Command<'_>, refusal: Misuse) -> Result<WordsFault, AllocError>
+fn words_fault(grammar: &mut clap::Command<'_>, misuse: Misuse) -> Result<WordsFault, AllocError>
     ensures { IfOk result (λ fault. (command : Option (List ℕ × List Row))
-        → IsRefused command refusal → IsRefusalIn command fault) }
+        → IsRefused command misuse → IsRefusalIn command fault) }
 {
-    match refusal {
+    match misuse {
         Misuse::Together => Ok(WordsFault::Together),
         Misuse::NoMemory => Ok(WordsFault::NoMemory),
         Misuse::Incomplete => in_its_words(
@@ -126,11 +126,11 @@ fn command_in<'a>(
         Ok(matches) => matches,
         Err(e) => return Err(WordsFault::of_clap(e)),
     };
-    let refusal = match found_command(alloc, &matches) {
+    let misuse = match found_command(alloc, &matches) {
         Ok(command) => return Ok(command),
-        Err(refusal) => refusal,
+        Err(misuse) => misuse,
     };
-    Err(words_fault(grammar, refusal)?)
+    Err(words_fault(grammar, misuse)?)
 }
 
 /// Reads the words after the program's name. `Err` is refused words, a request for help or for the

@@ -22,7 +22,7 @@ abbrev pub exchange_line : Plan → ℕ → List Bool → Shown → ℕ → List
 exchange_line p c reached s x = box p x ++ (codes "\"" ++ (home_text (home_of p c == x)
     ++ (color_text (passes s x) (is_marked reached x) ++ codes "];\n")))
 
--- which index a group has in a list, its name, and its colour
+-- which place a group has in a list, its name, and its colour
 abbrev pub order_label : Plan → (order g : ℕ) → List ℕ → List ℕ
 order_label p order g color = codes "\""
     ++ (decimal order ++ (codes " " ++ (group_name p g ++ (codes "\"" ++ (color ++ codes "];\n")))))

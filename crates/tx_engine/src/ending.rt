@@ -1,4 +1,4 @@
-// KeptCalls that end.
+// Calls that end.
 ghost use Rattle.std.specs.Prelude.{◌≡◌, ◌≢◌, ℕ, ◌<◌, ◌-◌, ◌^◌, is_some, Some, None, true};
 ghost use Rattle.tx_machine.specs.declared.event.Event.TheVariants.{Clear};
 ghost use Rattle.tx_machine.specs.Ending.{end_call, ticket_of};

@@ -129,7 +129,7 @@ list_word Codes = codes "CODE"
 list_word Ranges = codes "LINES"
 list_word Groups = codes "GROUP"
 
--- the list, and the index of its first entry that differs, from 1
+-- the list, and the number of its first entry that differs, from 1
 abbrev pub difference_line : Difference → List ℕ
 difference_line d =
     codes "telexplan: plans of two networks: "

@@ -77,7 +77,7 @@ fn write_text_fault<'a, W: Sink>(
     )
 }
 
-/// Writes the first entry in which two plans are not of one network, by its index from 1.
+/// Writes the first entry in which two plans are not of one network, by its number from 1.
 fn write_difference<W: Sink>(difference: &Difference, sink: &mut W) -> Result<(), WriteFault>
     ensures { Wrote W.taken W.failed sink.old sink.new (difference_line difference.now) result }
 {

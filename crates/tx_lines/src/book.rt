@@ -82,8 +82,8 @@ impl Status {
 /// The lines of a plan, and which of them are faulty (out of order), away (their subscriber is
 /// absent) or engaged.
 ///
-/// A line's first status takes one of the book's room, which `reserve_one` makes; a further
-/// one takes none. `build` and `reserve_one` alone take memory.
+/// A line's first status takes room for one line, which `reserve_one` makes; a further one takes
+/// none. `build` and `reserve_one` alone take memory.
 #[derive(Debug, Drop)]
 pub struct LineBook<A: Allocator = Global> {
     ranges: Ranges<A>,

@@ -60,8 +60,8 @@ impl<A: Allocator> Ranges<A> {
         reaches(range, code, number)
     }
 
-    /// From which index and up to which the ranges of the code are; all indexes for a code that
-    /// the plan does not have.
+    /// From which index and up to which the ranges of the code are; all indexes for a code that the
+    /// plan does not have.
     fn indexes(&self, code: CodeId) -> (usize, usize)
         ensures order { result.0 ≤ result.1 }
         ensures within { result.1 ≤ length self.now }

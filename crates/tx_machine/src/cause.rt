@@ -1,5 +1,5 @@
 // Why calls end.
-ghost use Rattle.std.specs.Prelude.{◌≡◌};
+ghost use Rattle.std.specs.Prelude.{◌≡◌, Some, slice_get};
 ghost use Rattle.tx_machine.specs.Causes.{index_of};
 
 /// A service code: why a call was not put through.
@@ -48,7 +48,8 @@ impl Cause {
 
     /// Its index among them.
     pub fn index(self) -> usize
-        ensures { result ≡ index_of self }
+        ensures index { result ≡ index_of self }
+        ensures there { slice_get Cause.ALL result ≡ Some self }
     {
         match self {
             Cause::Service(Service::Occ) => 0,

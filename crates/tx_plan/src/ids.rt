@@ -249,8 +249,8 @@ const MULTIPLIER: u64 = 0x9E37_79B9_7F4A_7C15;
 
 /// Hashes the keys of a map word by word. The lower bits, by which a map finds a slot, are those
 /// above the lower half of a product: each bit of a key reaches them, and numbers that follow one
-/// another come to slots that do. The upper eight of 32, by which it distinguishes the
-/// keys of one slot, are of the lower half too.
+/// another come to slots that do. The upper eight of 32, by which it distinguishes the keys of one
+/// slot, are of the lower half too.
 #[derive(Clone, Copy, Debug)]
 pub struct ByWord;
 

@@ -15,7 +15,7 @@ pub struct Draft {
     names: Option<Names>,
 }
 
-/// Where a file is until it is whole.
+/// The names of a file until it is whole.
 #[derive(Debug, Drop)]
 struct Names {
     /// The name of a new file in the same folder.
@@ -47,7 +47,7 @@ impl Draft {
         }
     }
 
-    /// Begins a file that is to take the names of an old one, and has its permissions. A link to
+    /// Begins a file that is to take the place of an old one, and has its permissions. A link to
     /// the old one stays one.
     fn in_place_of(rt: &HostRuntime, old: File, name: &str) -> io::Result<Draft> {
         let metadata = old.metadata()?;

@@ -18,7 +18,7 @@ pub trait Folder {
     /// Begins to make a file. What has its name stays as it is until the file is finished.
     fn begin(&self, name: &str) -> io::Result<Self::Output>;
 
-    /// Gives the file, which is whole, its name, in names of what had it.
+    /// Gives the file, which is whole, its name, in place of what had it.
     fn finish(&self, file: Self::Output) -> io::Result<()>;
 
     /// Gives the file up. What has its name stays.

@@ -4,6 +4,7 @@ pub mod Clear
 pub mod Failed
 pub mod Through
 pub mod LeftLists
+pub mod Kept
 pub mod Ordering
 pub mod Measuring
 pub mod Descending

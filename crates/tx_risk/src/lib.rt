@@ -1,8 +1,8 @@
 //! Groups that fail at once, for example by the failure of a cable or an exchange: who is cut off
 //! then, and what is promised of all others.
 //!
-//! A text names such risks. Its reader takes it exactly where it keeps to the format, and else reports
-//! its first fault with its line.
+//! A text names such risks. Its reader takes it exactly where it keeps to the format, and else
+//! reports its first fault with its line.
 #![tactic(auto)]
 
 mod cut;

@@ -25,10 +25,13 @@ fn ranked<A: Allocator + Copy>(
         ≡ filter (λ x. is_some (ranks_of ranks.now code x))
         (range_with_len 0 (length plan.now.exchanges))) }
 {
-    let ranked = (0..plan.exchanges())
-        .map(ExchangeId::of)
-        .filter(|exchange| ranks.rank(code, *exchange).is_some())
-        .collect(alloc)?;
+    let mut ranked = Vec::with_capacity(alloc, plan.exchanges())?;
+    for index in 0..plan.exchanges() {
+        let exchange = ExchangeId::of(index);
+        if ranks.rank(code, exchange).is_some() {
+            ranked.push_reserved(exchange);
+        }
+    }
     Ok(ranked)
 }
 

@@ -106,8 +106,8 @@ fn outage_at<A: Allocator>(plan: &Plan<A>, index: usize) -> Outage
     }
 }
 
-/// What each group, each exchange and each named risk cuts off if it fails alone, in a plan that the
-/// ranks certify.
+/// What each group, each exchange and each named risk cuts off if it fails alone, in a plan that
+/// the ranks certify.
 pub fn all_cuts<A: Allocator + Copy>(
     alloc: A,
     plan: &Plan<A>,

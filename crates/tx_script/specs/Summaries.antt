@@ -5,8 +5,7 @@ use Rattle.std.specs.List.{flat_map, count_by, range_with_len}
 use Rattle.tx_plan.specs.Plan.{Plan, group_name}
 use Rattle.tx_plan.specs.Circuits.{count_of}
 use Rattle.tx_machine.specs.declared.cause.Cause.{Cause}
-use Rattle.tx_machine.specs.declared.cause.TheConstants.Cause.{ALL}
-use Rattle.tx_machine.specs.Causes.{index_of}
+use Rattle.tx_machine.specs.Causes.{causes, index_of}
 use Rattle.tx_machine.specs.Ended.{Ended}
 use Rattle.tx_machine.specs.State.{State}
 use Rattle.tx_machine.specs.Runs.{Moment}
@@ -36,7 +35,7 @@ peak_line p g n = if n == 0 then [] else codes "PEAK " ++ (group_name p g
 -- by how many calls ended by each cause and are open, and by the most circuits of each group
 abbrev pub summary_by : Plan → (Cause → ℕ) → ℕ → (ℕ → ℕ) → List ℕ
 summary_by p ended opened most = flat_map (λ cause. calls_line (cause_text cause) (ended cause))
-    ALL ++ (calls_line (codes "OPEN") opened ++ (flat_map
+    causes ++ (calls_line (codes "OPEN") opened ++ (flat_map
     (λ g. peak_line p g (most g)) (range_with_len 0 (length p.groups)) ++ codes "END SUMMARY\n"))
 
 -- The summary of a run, and of the state after it

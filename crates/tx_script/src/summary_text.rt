@@ -2,6 +2,7 @@
 ghost use Rattle.std.specs.Prelude.{◌≡◌, ◌<◌, length};
 ghost use Rattle.std.specs.List.{flat_map, range_with_len};
 ghost use Rattle.tx_text.specs.Wrote.{Wrote};
+ghost use Rattle.tx_machine.specs.Causes.{causes};
 ghost use Rattle.tx_tickets.specs.Texts.{cause_text};
 ghost use Rattle.tx_script.specs.Summaries.{calls_line, peak_line};
 ghost use Rattle.tx_script.specs.inner.Counting.{count_for, counts_text, use_at};
@@ -33,7 +34,8 @@ pub(crate) fn write_summary<A: Allocator, B: Allocator, W: Sink>(
 /// Writes how many calls ended by each cause.
 fn write_ended<A: Allocator, W: Sink>(counts: &Counts<A>, sink: &mut W) -> Result<(), WriteFault>
     ensures { Wrote W.taken W.failed sink.old sink.new (flat_map
-        (λ cause. calls_line (cause_text cause) (count_for counts.now.calls cause)) Cause.ALL) result }
+        (λ cause. calls_line (cause_text cause) (count_for counts.now.calls cause)) causes)
+        result }
 {
     for cause in Cause::ALL {
         write_calls(cause_word(cause), counts.ended_by(cause), sink)?;

@@ -35,7 +35,7 @@ lines_of_parts number start (part ∷ next ∷ parts) =
       finished = true;
     } ∷ lines_of_parts (number + 1) (start + length part + 1) (next ∷ parts)
 
--- the lines of a text that begins with this line there
+-- the lines of a text that begins with a line of this number, at this index
 unfoldable pub lines_from : ℕ → ℕ → List ℕ → List Line
 lines_from number start text = lines_of_parts number start (slice_split is_lf text)
 

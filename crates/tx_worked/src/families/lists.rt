@@ -22,8 +22,8 @@ pub fn put_words(words: &[&[u8]], text: &mut Vec<u8>) -> Result<(), NoMemory> {
     Ok(())
 }
 
-/// Takes the word at an index among those that are not taken yet: the first word has the mark 1, the
-/// next one 2, the next 4.
+/// Takes the word at an index among those that are not taken yet: the first word has the mark 1,
+/// the next one 2, the next 4.
 fn take_free<'a>(words: Words<'a>, taken: &mut u32, index: u64) -> Option<&'a [u8]> {
     let mut before = index;
     let mut mark = 1u32;

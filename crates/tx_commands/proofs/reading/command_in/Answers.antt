@@ -8,4 +8,4 @@ returns-in-Ok-found_command-clause-asked c = found_by (λ o. IsFoundIn o c.in-Ok
 
 pub returns-clause-refused : goal.returns-clause-refused
 returns-clause-refused c =
-    c.in_ok-words_fault.ensures _ (found_by (λ o. IsRefused o c.in-Err-found_command.refusal) _ _ _ c.requires c.in-Ok.ensures.ok.2 c.in-Err-found_command.ensures.refused)
+    c.in_ok-words_fault.ensures _ (found_by (λ o. IsRefused o c.in-Err-found_command.misuse) _ _ _ c.requires c.in-Ok.ensures.ok.2 c.in-Err-found_command.ensures.refused)

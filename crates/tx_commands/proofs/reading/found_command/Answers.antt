@@ -8,4 +8,4 @@ pub returns-in-Some-clash-clause-refused : goal.returns-in-Some-clash-clause-ref
 returns-in-Some-clash-clause-refused c =
     let command = c.in_ok-command-in-Some.command in
     let asked : IsFoundIn (subcommand_rows_of c.args.matches.now) command = search rules in
-    refused_for_clash _ command c.in-Some-clash.refusal asked c.in-Some-clash.ensures.some
+    refused_for_clash _ command c.in-Some-clash.misuse asked c.in-Some-clash.ensures.some

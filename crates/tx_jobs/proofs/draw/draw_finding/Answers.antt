@@ -29,7 +29,7 @@ returns-in_err-write_code_drawing-clause-drew g c =
         found = c.requires.found;
         is = refl;
       };
-      told = rw c.deref.ensures.value at c.in_err-write_code_drawing.ensures.0;
+      told = rw c.deref-2.ensures.value at c.in_err-write_code_drawing.ensures.0;
     }))
 
 pub returns-clause-drew : goal.returns-clause-drew
@@ -46,5 +46,5 @@ returns-clause-drew g c =
         found = c.requires.found;
         is = refl;
       };
-      told = rw c.deref.ensures.value at c.in_ok-write_code_drawing.ensures.0;
+      told = rw c.deref-2.ensures.value at c.in_ok-write_code_drawing.ensures.0;
     })

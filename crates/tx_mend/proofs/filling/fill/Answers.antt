@@ -19,8 +19,8 @@ loop-lower-preserved g c = λ of e.
     c.fill_at.ensures of e ∙ ap (λ (l : List ℕ). filled s c.loop-lower.list.items (filter (λ g. leads_to p of n x g) l)) c.requires.seizable ∙ ap (λ (l : List ℕ). filled s l (f n)) (c.loop-lower.invariant of e)
     ∙ sym (filled_append s c.args.list.now.items (flat_map f (indexes n)) (f n)) ∙ ap (filled s c.args.list.now.items) (sym (flat_more f n))
 
-pub returns-then-list-from : goal.returns-then-list-from
-returns-then-list-from g c = λ of e.
+pub returns-then-len-from : goal.returns-then-len-from
+returns-then-len-from g c = λ of e.
     let p = c.args.plan.now in
     let x = c.args.exchange in
     let s = c.args.limits.spare in
@@ -32,8 +32,8 @@ returns-then-list-from g c = λ of e.
     let a = flat_map f (indexes n) in
     let b = flat_map f k.0 in
     let here = c.loop-lower.invariant of e in
-    let same = c.list-len.ensures.value in
-    let more = c.if-list-from.true in
+    let same = c.len.ensures in
+    let more = c.if-len-from.true in
     let at = c.from.ensures in
     let full : s < length c.loop-lower.list.items = omega arith in
     sym (ap (filled s start) (ap (flat_map f) k.1 ∙ flat_map-append f (indexes n) k.0) ∙ filled_append s start a b ∙ ap (λ (l : List ℕ). filled s l b) (sym here) ∙ filled_full s c.loop-lower.list.items b full)

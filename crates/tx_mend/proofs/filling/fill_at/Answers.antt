@@ -1,4 +1,4 @@
-use Rattle.std.proofs.Common.{ℕ, ◌∙◌, Bool, List, sym}
+use Rattle.std.proofs.Common.{ℕ, ◌∙◌, Bool, List, ap, sym}
 use Rattle.std.specs.Prelude.{filter}
 use Rattle.arrayvec.specs.ArrayVec.{ArrayVec}
 use Rattle.tx_mend.specs.Lists.{leads_to, filled}
@@ -14,5 +14,5 @@ loop-group-preserved g c = λ of e.
     let says = sym (c.leads_to.ensures of e) in
     elim c.if-leads_to.branch [
       | then-leads_to w ↦ fill_put xs c.loop-group.group-index c.group-item.result c.loop-group-test.true c.group-item.is c.args.limits.spare t c.loop-group.list.items all (c.loop-group.invariant of e) c.if-leads_to.list.items (says ∙ w.if-leads_to.true) (ap (λ (l : ArrayVec ℕ). l.items) w.list-is ∙ w.put.ensures)
-      | else-leads_to w ↦ fill_passed xs c.loop-group.group-index c.group-item.result c.loop-group-test.true c.group-item.is c.args.limits.spare t c.loop-group.list.items all (c.loop-group.invariant of e) c.if-leads_to.list.items (says ∙ w.if-leads_to.false) ap (λ (l : ArrayVec ℕ). l.items) w.list-is
+      | else-leads_to w ↦ fill_passed xs c.loop-group.group-index c.group-item.result c.loop-group-test.true c.group-item.is c.args.limits.spare t c.loop-group.list.items all (c.loop-group.invariant of e) c.if-leads_to.list.items (says ∙ w.if-leads_to.false) (ap (λ (l : ArrayVec ℕ). l.items) w.list-is)
     ]
