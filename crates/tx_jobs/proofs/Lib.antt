@@ -17,3 +17,4 @@ mod Taking
 mod Did
 pub mod PartCalls
 pub mod PlanCalls
+pub mod MendedTexts

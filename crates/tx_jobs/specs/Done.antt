@@ -5,8 +5,6 @@ use Rattle.tx_text.specs.Ends.{Input, Output, input}
 use Rattle.tx_plantext.specs.PlanWritten.{plan_written}
 use Rattle.tx_cert.specs.CertText.{cert_written}
 use Rattle.tx_check.specs.declared.verdict.Verdict.TheVariants.{Yes, No}
-use Rattle.tx_mend.specs.declared.mending.Mending.{Mending}
-use Rattle.tx_mend.specs.declared.mending.Mending.TheVariants.{Mended as IsMended, NoRouting}
 use Rattle.tx_risk.specs.declared.surviving.Survival.TheVariants.{Tried, Ungraded}
 use Rattle.tx_audit.specs.Scripts.{script_written}
 use Rattle.tx_audit.specs.declared.checked.Checked.TheVariants.{Ran as RanAfterYes, Denied}
@@ -27,7 +25,7 @@ use Rattle.tx_jobs.specs.Evidences.{EvidenceJobAnswers}
 use Rattle.tx_jobs.specs.GradeJobs.{GradeJobAnswers}
 use Rattle.tx_jobs.specs.Jobs.{CodesJobAnswers, RunJobAnswers}
 use Rattle.tx_jobs.specs.LintJobs.{LintJobAnswers}
-use Rattle.tx_jobs.specs.MendTexts.{MendTextAnswers, text_of}
+use Rattle.tx_jobs.specs.MendTexts.{MendTextAnswers, text_of, status_of_mending, mended_texts}
 use Rattle.tx_jobs.specs.PipeJobs.{PipeJobAnswers}
 use Rattle.tx_jobs.specs.SurviveJobs.{SurviveJobAnswers, SurviveRisksJobAnswers}
 use Rattle.tx_jobs.specs.TellingJobs.{TellingJobAnswers}
@@ -37,11 +35,6 @@ use Rattle.tx_jobs.specs.TraceJobs.{TraceJobAnswers}
 abbrev pub status_of_cuts : {X : Type 0} → List X → ℕ
 status_of_cuts [] = 0
 status_of_cuts (cut ∷ cuts) = 1
-
--- 1 where no routes can be certified
-abbrev pub status_of_mending : {A : Type 0} → Mending A → ℕ
-status_of_mending (IsMended plan before cert) = 0
-status_of_mending (NoRouting plan unserved pair) = 1
 
 -- the exit status
 abbrev pub status_of_done : {A : Type 0} → Done A → ℕ
@@ -63,11 +56,6 @@ status_of_done (Graded grade) = if is_some grade.plan then 0 else 1
 status_of_done (Survived (Tried cuts)) = status_of_cuts cuts.items
 status_of_done (Survived (Ungraded grade)) = 1
 status_of_done Written = 0
-
--- those of a mending: the text of the plan, if it was kept, and the certificate
-abbrev pub mended_texts : {A : Type 0} → Mending A → Option (List ℕ) → List (Option (List ℕ))
-mended_texts (IsMended p before cert) text = text ∷ Some (cert_written p cert) ∷ None ∷ []
-mended_texts (NoRouting p unserved pair) text = None ∷ None ∷ None ∷ []
 
 -- what goes into the files: the texts of a plan, of a certificate and of a script, if there are any
 abbrev pub texts_of : {A : Type 0} → Done A → List (Option (List ℕ))

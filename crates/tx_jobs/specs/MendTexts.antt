@@ -1,5 +1,5 @@
 -- What `mend PLAN` answers where the text of the mended plan may be kept.
-use Rattle.std.specs.Prelude.{◌≡◌, ◌⊎◌, ℕ, Bool, true, false, List, Option, None, Some, option_map, Result, Ok, Err}
+use Rattle.std.specs.Prelude.{◌≡◌, ◌⊎◌, ℕ, Bool, true, false, List, [], ◌∷◌, Option, None, Some, option_map, Result, Ok, Err}
 use Rattle.std.specs.Io.KnownBytes.{append_known}
 use Rattle.tx_text.specs.declared.frame.FaultAt.{FaultAt}
 use Rattle.tx_text.specs.Ends.{Input, Output}
@@ -8,6 +8,7 @@ use Rattle.tx_text.specs.Told.{AtEnd}
 use Rattle.tx_plan.specs.Plan.{Plan}
 use Rattle.tx_plantext.specs.declared.fault.PlanWord.{PlanWord}
 use Rattle.tx_plantext.specs.PlanText.{plan_of, declares_line, is_memory}
+use Rattle.tx_cert.specs.CertText.{cert_written}
 use Rattle.tx_revise.specs.Revised.{revised}
 use Rattle.tx_revise.specs.Laws.{SaysAs}
 use Rattle.tx_mend.specs.declared.mending.Mending.{Mending}
@@ -25,6 +26,16 @@ use Rattle.tx_jobs.specs.MendJobs.{MendJobAnswers}
 pub record IsTextOf (text : List ℕ) (p q : Plan) (found : List ℕ) : Type 0 where
   pub revised : found ≡ revised text p q
   pub says : SaysAs q found
+
+-- 1 where no routes can be certified
+abbrev pub status_of_mending : {A : Type 0} → Mending A → ℕ
+status_of_mending (Mended plan before cert) = 0
+status_of_mending (NoRouting plan unserved pair) = 1
+
+-- those of a mending: the text of the plan, if it was kept, and the certificate
+abbrev pub mended_texts : {A : Type 0} → Mending A → Option (List ℕ) → List (Option (List ℕ))
+mended_texts (Mended p before cert) text = text ∷ Some (cert_written p cert) ∷ None ∷ []
+mended_texts (NoRouting p unserved pair) text = None ∷ None ∷ None ∷ []
 
 module _ {A : Type 0} where
   -- that text, where the plan was mended

@@ -9,7 +9,6 @@ use crate::mixture::{ChangeEvidence, Mixture};
 use std::alloc::{Allocator, Global};
 use tx_audit::Checked;
 use tx_check::Verdict;
-use tx_mend::Mending;
 use tx_plan::CodeId;
 use tx_rank::Grade;
 use tx_risk::Survival;
@@ -61,21 +60,14 @@ impl<A: Allocator> Done<A> {
             | Done::Verified(Verdict::Yes)
             | Done::Listed(None)
             | Done::Audited(Evidence::Sound(_, _))
-            | Done::Changed(ChangeEvidence::Sound(_, _))
-            | Done::Mended(MendedText {
-                mending: Mending::Mended(_, _, _),
-                ..
-            }) => 0,
+            | Done::Changed(ChangeEvidence::Sound(_, _)) => 0,
             Done::Checked(Checked::Denied(_))
             | Done::Verified(Verdict::No(_))
             | Done::Listed(Some(_))
             | Done::Audited(Evidence::Unsound(_))
             | Done::Changed(ChangeEvidence::Unsound(_))
-            | Done::Mended(MendedText {
-                mending: Mending::NoRouting(_, _, _),
-                ..
-            })
             | Done::Survived(Survival::Ungraded(_)) => 1,
+            Done::Mended(mended) => mended.status(),
             Done::Told(strict, summary) => u8::from(*strict && summary.refused != 0),
             Done::Graded(grade) => u8::from(grade.plan.is_none()),
             Done::Survived(Survival::Tried(cuts)) => u8::from(!cuts.is_empty()),
@@ -106,16 +98,7 @@ impl<A: Allocator> Done<A> {
             Done::Changed(ChangeEvidence::Unsound(Some(Mixture::Unscripted(plan)))) => {
                 [Some(Content::Plan(plan)), None, None]
             }
-            Done::Mended(MendedText {
-                mending: Mending::Mended(plan, _, cert),
-                text,
-            }) => {
-                [
-                    text.as_ref().map(|text| Content::Text(text.as_slice())),
-                    Some(Content::Cert(plan, cert)),
-                    None,
-                ]
-            }
+            Done::Mended(mended) => mended.contents(),
             Done::Ran(_)
             | Done::Told(_, _)
             | Done::Checked(_)
@@ -124,10 +107,6 @@ impl<A: Allocator> Done<A> {
             | Done::Linted(_)
             | Done::Audited(Evidence::Unsound(None))
             | Done::Changed(ChangeEvidence::Unsound(None))
-            | Done::Mended(MendedText {
-                mending: Mending::NoRouting(_, _, _),
-                ..
-            })
             | Done::Graded(_)
             | Done::Survived(_)
             | Done::Written => [None, None, None],

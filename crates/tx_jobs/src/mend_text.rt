@@ -1,5 +1,5 @@
 // The job of `mend PLAN --limit L --spare K` where the text of the mended plan may be kept.
-ghost use Rattle.std.specs.Prelude.{◌≡◌, IfOk, option_map};
+ghost use Rattle.std.specs.Prelude.{◌≡◌, IfOk, map, option_map};
 ghost use Rattle.tx_text.specs.Calls.{CallsAtMost, source_calls};
 ghost use Rattle.tx_text.specs.Ends.{input, output};
 ghost use Rattle.tx_plantext.specs.PlanText.{plan_of};
@@ -7,8 +7,10 @@ ghost use Rattle.tx_text.specs.Told.{AtEnd};
 ghost use Rattle.tx_mend.specs.Routings.{IsRouting};
 ghost use Rattle.tx_mend.specs.Mendings.{OnMended};
 ghost use Rattle.tx_jobs.specs.JobFaults.{mark_after};
-ghost use Rattle.tx_jobs.specs.MendTexts.{MendTextAnswers, TextMended, ToldMendedText, HasText};
+ghost use Rattle.tx_jobs.specs.MendTexts.{MendTextAnswers, TextMended, ToldMendedText, HasText, text_of, status_of_mending, mended_texts};
+ghost use Rattle.tx_jobs.specs.Contents.{content_text};
 
+use crate::content::Content;
 use crate::job_fault::JobFault;
 use crate::mend::mend_job;
 use std::alloc::{Allocator, Global};
@@ -24,6 +26,37 @@ use tx_text::{NoMemory, Sink, Source};
 pub struct MendedText<A: Allocator = Global> {
     pub mending: Mending<A>,
     pub text: Option<Vec<u8, A>>,
+}
+
+impl<A: Allocator> MendedText<A> {
+    /// The exit status: 0, or 1 where no routes can be certified.
+    pub(crate) fn status(&self) -> u8
+        ensures { result ≡ status_of_mending self.now.mending }
+    {
+        match self.mending {
+            Mending::Mended(..) => 0,
+            Mending::NoRouting(..) => 1,
+        }
+    }
+
+    /// What goes into the files: the text of the plan, if it was kept, and the certificate.
+    pub(crate) fn contents(&self) -> [Option<Content<'_, A>>; 3]
+        ensures { map (option_map content_text) result
+            ≡ mended_texts self.now.mending (text_of self.now) }
+    {
+        match &self.mending {
+            Mending::Mended(plan, _, cert) => {
+                [
+                    self.text
+                        .as_ref()
+                        .map(|text| Content::Text(text.as_slice())),
+                    Some(Content::Cert(plan, cert)),
+                    None,
+                ]
+            }
+            Mending::NoRouting(..) => [None, None, None],
+        }
+    }
 }
 
 /// Reads a plan, and writes the report of its mending for the limits. Answers the mended plan with
@@ -107,6 +140,6 @@ fn mended_text<A: Allocator + Copy>(
 {
     match mending {
         Mending::Mended(plan, _, _) => Ok(Some(revise(alloc, text, old, plan)?)),
-        Mending::NoRouting(_, _, _) => Ok(None),
+        Mending::NoRouting(..) => Ok(None),
     }
 }

@@ -136,7 +136,7 @@ module _ (v : ℕ) (r q : Plan) (hq : IsPlan q) (second : has_bars q ≡ true �
         groups = subst (λ n. list_all (λ g. nat_lt g n) (list_of q k) ≡ true) h.groups c.groups;
       } in
       let new : list_any (λ o. (o.exchange == k.exchange) && (o.code == k.code)) (map (route_for q) s.written) ≡ false =
-          list_any-map (λ (o : Route). (o.exchange == k.exchange) && (o.code == k.code)) (route_for q) s.written ∙ c.new in
+      list_any-map (λ (o : Route). (o.exchange == k.exchange) && (o.code == k.code)) (route_for q) s.written ∙ c.new in
       subst (λ rs. Adds v (so_far p s) (rerouted p rs s.barred) (route_words q (route_for q k))) (sym (map_push (route_for q) s.written k))
       (route_adds (so_far p s) q xs cs gs v h.rules (route_for q k) (list_is_route q hq k c.some) d new)
 

@@ -39,8 +39,8 @@ route_found : (q : Plan) (k : Pair) (rows : List Route) → AllByRecursion (IsRo
 route_found q k [] h some = let z : ⊥ = cc in absurd z
 route_found q k (r ∷ rows) h some =
     elim ((r.exchange == k.exchange) && (r.code == k.code)) as (λ b. ((r.exchange == k.exchange) && (r.code == k.code)) ≡ b
-        → (length (option_map_or (λ (o : Route). o.groups) (cond b (Some r) (find (λ o. (o.exchange == k.exchange) && (o.code == k.code)) rows)) []) == 0) ≡ false
-        → IsRoute q (record { exchange = k.exchange; code = k.code; groups = option_map_or (λ (o : Route). o.groups) (cond b (Some r) (find (λ o. (o.exchange == k.exchange) && (o.code == k.code)) rows)) [] })) [
+    → (length (option_map_or (λ (o : Route). o.groups) (cond b (Some r) (find (λ o. (o.exchange == k.exchange) && (o.code == k.code)) rows)) []) == 0) ≡ false
+    → IsRoute q (record { exchange = k.exchange; code = k.code; groups = option_map_or (λ (o : Route). o.groups) (cond b (Some r) (find (λ o. (o.exchange == k.exchange) && (o.code == k.code)) rows)) [] })) [
       | true ↦ λ e s.
           let t = and_parts (r.exchange == k.exchange) (r.code == k.code) e in
           subst (λ x. IsRoute q (record { exchange = x; code = k.code; groups = r.groups })) (eqb-true r.exchange k.exchange t.0)
@@ -204,9 +204,9 @@ module _ (p q : Plan) (xs : Begins p.exchanges q.exchanges) (cs : Begins p.codes
     route_adds r route d new =
         let here = route_here r route d in
         let rules = rerouted_rules p h (p.routes ++ r ∷ []) p.bars
-            (all_joined (IsRoute p) p.routes (r ∷ []) h.routes (here, tt))
-            (pairs_put (λ (o s : Route). o.exchange ≡ s.exchange → o.code ≢ s.code) p.routes r h.routes_differ (apart_from (λ (o : Route). o.exchange) (λ o. o.code) r.exchange r.code p.routes new))
-            h.bars h.bars_differ in
+        (all_joined (IsRoute p) p.routes (r ∷ []) h.routes (here, tt))
+        (pairs_put (λ (o s : Route). o.exchange ≡ s.exchange → o.code ≢ s.code) p.routes r h.routes_differ (apart_from (λ (o : Route). o.exchange) (λ o. o.code) r.exchange r.code p.routes new))
+        h.bars h.bars_differ in
         let line = route_declared v (with_one p r) rules p.routes r [] refl in
         subst (Adds v p (with_one p r)) (words_here r d) (record {
           adds = rebarred r p.bars line.adds;
@@ -220,8 +220,8 @@ module _ (p q : Plan) (xs : Begins p.exchanges q.exchanges) (cs : Begins p.codes
     bar_adds two b bar x c new =
         let here = bar_here b bar x c in
         let rules = rerouted_rules p h p.routes (p.bars ++ b ∷ []) h.routes h.routes_differ
-            (all_joined (IsBar p) p.bars (b ∷ []) h.bars (here, tt))
-            (pairs_put (λ (o s : Pair). o.exchange ≡ s.exchange → o.code ≢ s.code) p.bars b h.bars_differ (apart_from (λ (o : Pair). o.exchange) (λ o. o.code) b.exchange b.code p.bars new)) in
+        (all_joined (IsBar p) p.bars (b ∷ []) h.bars (here, tt))
+        (pairs_put (λ (o s : Pair). o.exchange ≡ s.exchange → o.code ≢ s.code) p.bars b h.bars_differ (apart_from (λ (o : Pair). o.exchange) (λ o. o.code) b.exchange b.code p.bars new)) in
         let line = bar_declared v (with_one_bar p b) rules two p.bars b [] refl in
         subst (Adds v p (with_one_bar p b)) (bar_words_here b x c) (record {
           adds = line.adds;

@@ -50,7 +50,7 @@ found_some : {q : Plan} (k : Pair) (rows : List Route) → AllByRecursion (IsRou
 found_some k [] h there = let z : ⊥ = cc in absurd z
 found_some k (o ∷ rows) h there =
     elim ((o.exchange == k.exchange) && (o.code == k.code)) as (λ b. (b || list_any (λ p. (p.exchange == k.exchange) && (p.code == k.code)) rows) ≡ true
-        → (length (option_map_or (λ (p : Route). p.groups) (cond b (Some o) (find (λ p. (p.exchange == k.exchange) && (p.code == k.code)) rows)) []) == 0) ≡ false) [
+    → (length (option_map_or (λ (p : Route). p.groups) (cond b (Some o) (find (λ p. (p.exchange == k.exchange) && (p.code == k.code)) rows)) []) == 0) ≡ false) [
       | true ↦ λ e. let s = h.0.some in ne_eqb (length o.groups) 0 (omega arith)
       | false ↦ λ e. found_some k rows h.1 e
     ] there
@@ -186,7 +186,7 @@ module _ (r q : Plan) (hq : IsPlan q) (net : SameNetwork r q) (cr : List ℕ) (c
         let stand = each_stands q cr (listed_at q None) s (all_ready s h) in
         let w = bars_written q cr q.bars (all_lists s).next in
         let all : AllByRecursion (λ (o : Route). has t.written (pair_of o) ≡ true) q.routes =
-            all_unmapped (λ k. has t.written k ≡ true) pair_of q.routes (subst (AllByRecursion (λ k. has t.written k ≡ true)) (all_at (map pair_of q.routes)) (subst (λ l. AllByRecursion (λ k. has l k ≡ true) (listed_at q None)) (sym w) stand)) in
+        all_unmapped (λ k. has t.written k ≡ true) pair_of q.routes (subst (AllByRecursion (λ k. has t.written k ≡ true)) (all_at (map pair_of q.routes)) (subst (λ l. AllByRecursion (λ k. has l k ≡ true) (listed_at q None)) (sym w) stand)) in
         record {
           rules = c.rules;
           network = record { exchanges = sym net.exchanges; codes = sym net.codes; ranges = sym net.ranges; groups = sym net.groups };

@@ -14,11 +14,7 @@ pub fn add<A: Allocator>(text: &mut Vec<u8, A>, bytes: &[u8]) -> Result<(), NoMe
 }
 
 /// Appends a line and its LF.
-pub fn add_line<A: Allocator>(
-    text: &mut Vec<u8, A>,
-    line: &[u8],
-    cr: &[u8],
-) -> Result<(), NoMemory>
+pub fn add_line<A: Allocator>(text: &mut Vec<u8, A>, line: &[u8], cr: &[u8]) -> Result<(), NoMemory>
     ensures { OnOk result (text.new.items ≡ text.old.items ++ ended ((line.now ++ cr.now) ∷ [])) }
 {
     add(text, line)?;

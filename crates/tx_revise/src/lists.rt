@@ -104,11 +104,7 @@ impl<'p, A: Allocator + Copy> Draft<'p, A> {
     }
 
     /// Writes each list that can stand here, of one exchange or of all, in new lines.
-    pub fn put_left(
-        &mut self,
-        alloc: A,
-        asked: &Option<ExchangeId>,
-    ) -> Result<(), NoMemory>
+    pub fn put_left(&mut self, alloc: A, asked: &Option<ExchangeId>) -> Result<(), NoMemory>
         ensures { OnOk result (self.new ≡ drafted self.old
             (each self.old.plan self.old.cr (listed_at self.old.plan asked.now) self.old.reached)) }
     {
