@@ -1,12 +1,12 @@
 -- Lines that are joined by LFs, and cut at them again.
-use Rattle.std.proofs.Common.{◌≡◌, ℕ, zero, suc, ◌+◌, ◌-◌, ◌<◌, ◌==◌, Bool, true, false, cond, None, List, [], ◌∷◌, ◌++◌, length, get_or, take, refl, sym, ap, ◌∙◌, subst, append_assoc, append-nil, arith}
-use Rattle.std.specs.List.{All, AllByRecursion, slice_split, list_all, join_with_byte}
+use Rattle.std.proofs.Common.{◌≡◌, ℕ, zero, suc, ◌+◌, ◌-◌, ◌<◌, ◌==◌, Bool, true, false, cond, None, List, [], ◌∷◌, ◌++◌, length, get_or, take, drop, add-one, refl, sym, ap, ◌∙◌, subst, append_assoc, append-nil, arith}
+use Rattle.std.specs.List.{All, AllByRecursion, slice_split, list_all, join_with_byte, position_or_len, before_first, after_first}
 use Rattle.std.proofs.lemmas.Bool.{eqb-true}
 use Rattle.std.proofs.lemmas.Bool.Decides.{nat_tests}
-use Rattle.std.proofs.lemmas.List.{take_all}
-use Rattle.std.proofs.lemmas.List.Splits.{slice_split_at, slice_split_none}
+use Rattle.std.proofs.lemmas.List.{take_all, length-append, length-drop}
+use Rattle.std.proofs.lemmas.List.Splits.{slice_split_at, slice_split_none, slice_split_first}
 use Rattle.std.proofs.lemmas.List.Elements.{All-nil, All-more}
-use Rattle.std.proofs.lemmas.List.Sums.{AllPass-from_list_all}
+use Rattle.std.proofs.lemmas.List.Sums.{AllPass-from_list_all, fails_before_first}
 use Rattle.tx_text.specs.Text.{is_lf, is_text_byte, without_cr, bytes_fault}
 use Rattle.tx_plan.specs.Plan.{Plan}
 use Rattle.tx_revise.specs.Lines.{words_in, ended}
@@ -72,3 +72,39 @@ pub ended_joined : (line : List ℕ) (lines : List (List ℕ)) → ended (line �
 ended_joined line [] = append-nil (line ++ 10 ∷ [])
 ended_joined line (next ∷ lines) =
     append_assoc line (10 ∷ []) (ended (next ∷ lines)) ∙ ap (λ l. line ++ 10 ∷ l) (ended_joined next lines) ∙ sym (append_assoc line (10 ∷ join_with_byte 10 (next ∷ lines)) (10 ∷ []))
+
+take_at : (x : List ℕ) (b : ℕ) → take (length x) (x ++ b ∷ []) ≡ x
+take_at [] b = refl
+take_at (c ∷ x) b = ap (λ l. c ∷ l) (take_at x b)
+
+-- without the last LF
+pub popped : (lines : List (List ℕ)) (text next : List ℕ) (n : ℕ) → text ≡ ended lines → n ≡ length text → next ≡ take (n - 1) text → next ≡ join_with_byte 10 lines
+popped [] text next n e f g = g ∙ (λ i. take (n - 1) (e i)) ∙ take_all (n - 1) [] (omega arith)
+popped (line ∷ lines) text next n e f g =
+    let j = join_with_byte 10 (line ∷ lines) in
+    let all : text ≡ j ++ 10 ∷ [] = e ∙ ended_joined line lines in
+    let m : n - 1 ≡ length j = omega (arith, f, ap length all, length-append j (10 ∷ [])) in
+    g ∙ (λ i. take (m i) (all i)) ∙ take_at j 10
+
+-- ---- CUT AT THE FIRST LF
+
+drop_one : (xs : List ℕ) (n : ℕ) → drop 1 (drop n xs) ≡ drop (n + 1) xs
+drop_one xs n = more xs n ∙ ap (λ m. drop m xs) (sym (add-one n))
+  where
+    more : (xs : List ℕ) (n : ℕ) → drop 1 (drop n xs) ≡ drop (suc n) xs
+    more [] zero = refl
+    more [] (suc n) = refl
+    more (x ∷ xs) zero = refl
+    more (x ∷ xs) (suc n) = more xs n
+
+pub cut_at : (text line rest after : List ℕ) (n : ℕ) → n ≡ position_or_len is_lf text → line ≡ take n text → rest ≡ drop n text → 0 < length rest → after ≡ drop 1 rest → slice_split is_lf text ≡ line ∷ slice_split is_lf after
+cut_at text line rest after n e f g some h =
+    let lt : position_or_len is_lf text < length text = omega (arith, e, ap length g, length-drop n text) in
+    let front : before_first is_lf text ≡ line = (λ i. take (sym e i) text) ∙ sym f in
+    let back : after_first is_lf text ≡ after = (λ i. drop (sym e i + 1) text) ∙ sym (h ∙ ap (drop 1) g ∙ drop_one text n) in
+    slice_split_first is_lf text 0 lt ∙ (λ i. front i ∷ slice_split is_lf (back i))
+
+pub no_cut : (text rest : List ℕ) (n : ℕ) → n ≡ position_or_len is_lf text → rest ≡ drop n text → length rest ≡ 0 → slice_split is_lf text ≡ text ∷ []
+no_cut text rest n e g none =
+    let far : length text ≤ position_or_len is_lf text = omega (arith, e, ap length g, length-drop n text) in
+    slice_split_none is_lf text (λ k d l. fails_before_first is_lf text k d (omega arith))

@@ -24,7 +24,7 @@ use Rattle.tx_plantext.specs.PlanText.{declare, plan_of}
 use Rattle.tx_plantext.specs.PlanWritten.{has_bars, head_of}
 use Rattle.tx_plantext.proofs.Indexes.{all_weaker}
 use Rattle.tx_revise.specs.Lines.{words_in, cr_of, respelled}
-use Rattle.tx_revise.specs.Revised.{Reached, Turn, at_start, nothing, stands, then_turn, has, list_of, listed_at, is_at, each, each_bar, end_turn, route_turn, header_turn, turn, turn_by, lines_of, first_cr, revised}
+use Rattle.tx_revise.specs.Revised.{Reached, Turn, at_start, nothing, stands, then_turn, has, list_of, listed_at, is_at, each, each_bar, end_turn, route_turn, bar_turn, header_turn, turn, turn_by, lines_of, first_cr, revised}
 use Rattle.tx_revise.specs.Laws.{SaysAs, RevisedTextsSayThePlan}
 use Rattle.tx_revise.proofs.Tails.{IsLine, Spells, alone, below, IsSpelled, IsCr, no_byte, is_cr, right_from, no_cr, respelled_spells}
 use Rattle.tx_revise.proofs.Parts.{header, Says, Ends, Starts, Line, Goes, at_end, goes_on, Heads, Before, starts_from, starts_read}
@@ -45,14 +45,14 @@ abbrev pair_of : Route → Pair
 pair_of o = record { exchange = o.exchange; code = o.code }
 
 -- a pair that a route has has a list
-found_some : {q : Plan} (k : Pair) (rows : List Route) → AllByRecursion (IsRoute q) rows → list_any (λ o. (o.exchange == k.exchange) && (o.code == k.code)) rows ≡ true
+found_some : (q : Plan) (k : Pair) (rows : List Route) → AllByRecursion (IsRoute q) rows → list_any (λ o. (o.exchange == k.exchange) && (o.code == k.code)) rows ≡ true
     → (length (option_map_or (λ (o : Route). o.groups) (find (λ o. (o.exchange == k.exchange) && (o.code == k.code)) rows) []) == 0) ≡ false
-found_some k [] h there = let z : ⊥ = cc in absurd z
-found_some k (o ∷ rows) h there =
+found_some q k [] h there = let z : ⊥ = cc in absurd z
+found_some q k (o ∷ rows) h there =
     elim ((o.exchange == k.exchange) && (o.code == k.code)) as (λ b. (b || list_any (λ p. (p.exchange == k.exchange) && (p.code == k.code)) rows) ≡ true
     → (length (option_map_or (λ (p : Route). p.groups) (cond b (Some o) (find (λ p. (p.exchange == k.exchange) && (p.code == k.code)) rows)) []) == 0) ≡ false) [
       | true ↦ λ e. let s = h.0.some in ne_eqb (length o.groups) 0 (omega arith)
-      | false ↦ λ e. found_some k rows h.1 e
+      | false ↦ λ e. found_some q k rows h.1 e
     ] there
 
 -- each of some pairs is one of them
@@ -132,7 +132,7 @@ module _ (r q : Plan) (hq : IsPlan q) (net : SameNetwork r q) (cr : List ℕ) (c
     -- the list of a pair that a route has can stand where all is declared
     ready_of : (s : Reached) → Reaches r s → (k : Pair) → list_any (λ o. (o.exchange == k.exchange) && (o.code == k.code)) q.routes ≡ true → IsReady q cr s k
     ready_of s h k there =
-        let some = found_some k q.routes hq.routes there in
+        let some = found_some q k q.routes hq.routes there in
         let way = list_is_route q hq k some in
         let a = ap length net.exchanges in
         let b = ap length net.codes in
@@ -226,27 +226,27 @@ module _ (r q : Plan) (hq : IsPlan q) (net : SameNetwork r q) (cr : List ℕ) (c
         → IsFront p r → IsFront m r → Rest lines m → Kind u p ws m → Leads v r q hq second (lines_of q cr (line ∷ lines) s) p s
     kind_leads u p m s ws line lines right e h front after rest (exchange name w none is) =
         let c = exchange_carries v r q hq second p s line name (record { right = right; words = e ∙ w }) none h in
-        carried p m s _ line lines (turn_is line s _ (e ∙ w)) (subst (λ n. Carries v r q hq second p s n _) is c) (rest _)
+        carried p m s (stands line (record s { exchanges = s.exchanges + 1 })) line lines (turn_is line s (codes "EXCHANGE" ∷ name ∷ []) (e ∙ w)) (subst (λ n. Carries v r q hq second p s n (stands line (record s { exchanges = s.exchanges + 1 }))) is c) (rest _)
     kind_leads u p m s ws line lines right e h front after rest (code a b w none is) =
         let c = code_carries v r q hq second p s line a b (record { right = right; words = e ∙ w }) none h in
-        carried p m s _ line lines (turn_is line s _ (e ∙ w)) (subst (λ n. Carries v r q hq second p s n _) is c) (rest _)
+        carried p m s (stands line (record s { codes = s.codes + 1 })) line lines (turn_is line s (codes "CODE" ∷ a ∷ b ∷ []) (e ∙ w)) (subst (λ n. Carries v r q hq second p s n (stands line (record s { codes = s.codes + 1 }))) is c) (rest _)
     kind_leads u p m s ws line lines right e h front after rest (range a b d w none is) =
         let c = range_carries v r q hq second p s line a b d (record { right = right; words = e ∙ w }) none h in
-        carried p m s _ line lines (turn_is line s _ (e ∙ w)) (subst (λ n. Carries v r q hq second p s n _) is c) (rest _)
+        carried p m s (stands line s) line lines (turn_is line s (codes "LINES" ∷ a ∷ b ∷ d ∷ []) (e ∙ w)) (subst (λ n. Carries v r q hq second p s n (stands line s)) is c) (rest _)
     kind_leads u p m s ws line lines right e h front after rest (group n a b d x y w known none is) =
         let c = group_carries v r q hq second p s line n a b d x y (record { right = right; words = e ∙ w }) known none h in
-        carried p m s _ line lines (turn_is line s _ (e ∙ w)) (subst (λ n. Carries v r q hq second p s n _) is c) (rest _)
+        carried p m s (stands line (record s { groups = s.groups + 1 })) line lines (turn_is line s (codes "GROUP" ∷ n ∷ a ∷ b ∷ d ∷ x ∷ []) (e ∙ w)) (subst (λ n. Carries v r q hq second p s n (stands line (record s { groups = s.groups + 1 }))) is c) (rest _)
     kind_leads u p m s ws line lines right e h front after rest (route a b gs w none is) =
         let xs = along front.exchanges net.exchanges in
         let cs = along front.codes net.codes in
         let os = along front.groups net.groups in
         let c = route_carries v r q hq second cr cr_is line p s s.lists right h xs cs os in
         let d = subst (λ n. Carries v r q hq second p s n (route_turn q cr line s s.lists)) is (over_route_line p s a b gs (route_turn q cr line s s.lists) c) in
-        carried p m s _ line lines (turn_is line s _ (e ∙ w)) d (rest _)
+        carried p m s (route_turn q cr line s s.lists) line lines (turn_is line s (codes "ROUTE" ∷ a ∷ b ∷ gs) (e ∙ w)) d (rest _)
     kind_leads u p m s ws line lines right e h front after rest (bar a b two w none is) =
         let f = subst (λ n. IsFront n r) (sym is) after in
         let c = bar_carries v r q hq second p s line a b (record { right = right; words = e ∙ w }) none h f.bars in
-        carried p m s _ line lines (turn_is line s _ (e ∙ w)) (subst (λ n. Carries v r q hq second p s n _) is c) (rest _)
+        carried p m s (bar_turn q line s s.bars) line lines (turn_is line s (codes "BAR" ∷ a ∷ b ∷ []) (e ∙ w)) (subst (λ n. Carries v r q hq second p s n (bar_turn q line s s.bars)) is c) (rest _)
 
     -- THE LINES AFTER THE HEADER
     lines_lead : (u : ℕ) (parts : List (List ℕ)) (p : Plan) (s : Reached) → Says u r parts p → Reaches p s → Leads v r q hq second (lines_of q cr parts s) p s

@@ -1,9 +1,33 @@
 // A line, and the same line with other words.
-ghost use Rattle.std.specs.Prelude.{◌≡◌, ◌++◌, ◌∷◌, [], OnOk};
+ghost use Rattle.std.specs.Prelude.{◌≡◌, ◌<◌, ◌≤◌, ◌++◌, ◌∷◌, [], OnOk, IfSome, MatchOption, length};
+ghost use Rattle.std.specs.List.{slice_split, position_or_len};
+ghost use Rattle.tx_text.specs.Text.{is_lf};
 ghost use Rattle.tx_revise.specs.Lines.{tail_of, cr_of, same_words, respelled, ended};
 
+use memchr::memchr;
 use std::alloc::Allocator;
 use tx_text::{NoMemory, Words, without_cr, words};
+
+/// Where the first LF is, or the length.
+fn lf_or_len(text: &[u8]) -> usize
+    ensures within { result ≤ length text.now }
+    ensures index { result ≡ position_or_len is_lf text.now }
+{
+    memchr(b'\n', text).unwrap_or(text.len())
+}
+
+/// The first line and what follows its LF, if it has one.
+pub fn cut_line(text: &[u8]) -> Option<(&[u8], &[u8])>
+    ensures cut { MatchOption result (slice_split is_lf text.now ≡ text.now ∷ [])
+        (λ x. slice_split is_lf text.now ≡ x.0.now ∷ slice_split is_lf x.1.now) }
+    ensures shorter { IfSome result (λ x. length x.1.now < length text.now) }
+{
+    let (line, rest) = text.split_at(lf_or_len(text));
+    match rest.split_first() {
+        Some((_, after)) => Some((line, after)),
+        None => None,
+    }
+}
 
 /// Appends bytes to a text.
 pub fn add<A: Allocator>(text: &mut Vec<u8, A>, bytes: &[u8]) -> Result<(), NoMemory>

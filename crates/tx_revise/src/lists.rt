@@ -1,13 +1,13 @@
 // The lists of the new plan.
-ghost use Rattle.std.specs.Prelude.{◌≡◌, ◌==◌, ℕ, OnOk, IfOk, drop};
-ghost use Rattle.std.specs.List.{list_any};
+ghost use Rattle.std.specs.Prelude.{◌≡◌, ◌==◌, ℕ, OnOk, IfOk, drop, nat_lt};
+ghost use Rattle.std.specs.List.{list_any, list_all};
 ghost use Rattle.tx_revise.specs.Revised.{list_text, can_stand, new_line, in_place, each, is_at, listed_at, behind};
 ghost use Rattle.tx_revise.specs.inner.Drafts.{drafted};
 
 use crate::draft::Draft;
 use crate::lines::{add, add_line, respell};
 use std::alloc::Allocator;
-use tx_plan::{ExchangeId, Pair, Plan};
+use tx_plan::{ExchangeId, GroupId, Pair, Plan};
 use tx_text::NoMemory;
 
 /// The words of the line of a pair's list, with a space between two.
@@ -29,6 +29,13 @@ fn list_text<A: Allocator + Copy>(
         add(&mut text, plan.group_name(*group))?;
     }
     Ok(text)
+}
+
+/// Whether all groups of a list are among the first ones, so many.
+fn are_declared(list: &[GroupId], groups: usize) -> bool
+    ensures { result ≡ list_all (λ g. nat_lt g groups) list.now }
+{
+    list.iter().all(|group| group.index() < groups)
 }
 
 /// Whether an exchange is the one that is asked for, if one is.
@@ -72,7 +79,7 @@ impl<'p, A: Allocator> Draft<'p, A> {
         if pair.exchange.index() >= self.exchanges || pair.code.index() >= self.codes {
             return false;
         }
-        list.iter().all(|group| group.index() < self.groups)
+        are_declared(list, self.groups)
     }
 }
 

@@ -1,12 +1,11 @@
 // The text of a plan, revised for another plan of its network.
-ghost use Rattle.std.specs.Prelude.{◌≡◌, ◌++◌, ◌==◌, IfOk};
+ghost use Rattle.std.specs.Prelude.{◌≡◌, IfOk};
 ghost use Rattle.std.specs.List.{slice_split};
 ghost use Rattle.tx_text.specs.Text.{is_lf};
-ghost use Rattle.tx_revise.specs.Revised.{revised, first_cr, at_start, lines_of};
-ghost use Rattle.tx_revise.specs.Lines.{ended};
+ghost use Rattle.tx_revise.specs.Revised.{revised, first_cr};
 
 use crate::draft::Draft;
-use crate::lines::cr_of;
+use crate::lines::{cr_of, cut_line};
 use std::alloc::Allocator;
 use tx_plan::Plan;
 use tx_text::NoMemory;
@@ -22,9 +21,12 @@ pub fn revise<A: Allocator + Copy>(
     ensures { IfOk result (λ t. t.items ≡ revised text.now old.now new.now) }
 {
     let mut draft = Draft::new(alloc, old, new, first_cr(text));
-    for line in text.split(|byte| *byte == b'\n') {
+    let mut rest = text;
+    'lines: while let Some((line, after)) = cut_line(rest) {
         draft.take(alloc, line)?;
+        rest = after;
     }
+    draft.take(alloc, rest)?;
     let mut revised = draft.text;
     let _ = revised.pop();
     Ok(revised)
@@ -34,8 +36,8 @@ pub fn revise<A: Allocator + Copy>(
 fn first_cr(text: &[u8]) -> &[u8]
     ensures { result.now ≡ first_cr (slice_split is_lf text.now) }
 {
-    match text.split(|byte| *byte == b'\n').next() {
-        Some(line) => cr_of(line),
-        None => b"",
+    match cut_line(text) {
+        Some((line, _)) => cr_of(line),
+        None => cr_of(text),
     }
 }

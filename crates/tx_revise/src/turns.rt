@@ -1,6 +1,6 @@
 // What becomes of each line of a text.
 ghost use Rattle.std.specs.Prelude.{◌≡◌, ◌<◌, ◌^◌, ◌∷◌, [], OnOk};
-ghost use Rattle.tx_revise.specs.Revised.{header_turn, route_turn, end_turn, turn};
+ghost use Rattle.tx_revise.specs.Revised.{header_turn, route_turn, end_turn, word_turn, turn};
 ghost use Rattle.tx_revise.specs.inner.Drafts.{drafted, IsShort};
 
 use crate::draft::Draft;
@@ -53,9 +53,18 @@ impl<'p, A: Allocator + Copy> Draft<'p, A> {
         ensures { OnOk result (self.new ≡ drafted self.old
             (turn self.old.plan self.old.cr line.now self.old.reached)) }
     {
-        let Some(word) = words(without_cr(line)).next() else {
-            return self.stand(line);
-        };
+        match words(without_cr(line)).next() {
+            Some(word) => self.take_words(alloc, word, line),
+            None => self.stand(line),
+        }
+    }
+
+    /// The same, by its first word.
+    fn take_words(&mut self, alloc: A, word: &[u8], line: &[u8]) -> Result<(), NoMemory>
+        requires { IsShort self.old.reached (2 ^ 63) }
+        ensures { OnOk result (self.new ≡ drafted self.old
+            (word_turn self.old.plan self.old.cr word.now line.now self.old.reached)) }
+    {
         if word == b"PLAN".as_slice() {
             self.take_header(line)
         } else if word == b"EXCHANGE".as_slice() {
