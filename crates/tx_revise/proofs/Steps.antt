@@ -168,7 +168,7 @@ module _ (old plan : Plan) (cr text : List ℕ) (x c g l b : ℕ) (written barre
       let first : f ≡ drafted (drafted past t) (behind plan cr at.0 t.next) = put ∙ ap (λ (z : Draft). drafted z (behind z.plan z.cr at.0 z.reached)) placed in
       let whole : f ≡ drafted past (then_turn t (behind plan cr at.0)) = first ∙ drafted_then past t (behind plan cr at.0) in
       let same : then_turn t (behind plan cr at.0) ≡ route_turn plan cr line begun.reached (r.entry ∷ drop (l + 1) old.routes) =
-          (λ i. then_turn (in_place plan line (record { exchange = r.exchange_is i; code = r.code_is i }) past.reached) (behind plan cr (r.exchange_is i))) in
+      (λ i. then_turn (in_place plan line (record { exchange = r.exchange_is i; code = r.code_is i }) past.reached) (behind plan cr (r.exchange_is i))) in
       whole ∙ ap (λ u. drafted begun u) (same ∙ ap (λ rows. route_turn plan cr line begun.reached rows) (sym (lists_here old.routes l at there)))
 
   module _ (there : ◌≡◌ {A = Option (ℕ × ℕ)} (Some at) (option_map (λ (k : Pair). (k.exchange, k.code)) (slice_get old.bars b))) where
