@@ -18,3 +18,4 @@ mod Taking
 mod Did
 pub mod PartCalls
 pub mod PlanCalls
+pub mod MendedTexts

@@ -1,0 +1,4 @@
+use Rattle.tx_revise.proofs.draft.Draft.put_bars.Goals as goal
+
+pub loop-index-preserved : goal.loop-index-preserved
+loop-index-preserved g c = ?
