@@ -23,9 +23,9 @@ use Rattle.tx_plan.proofs.Tables.{list_any-map}
 use Rattle.tx_plantext.specs.PlanText.{declare}
 use Rattle.tx_plantext.specs.PlanWritten.{route_words, bar_words, has_bars}
 use Rattle.tx_plantext.proofs.ListLines.{none_true, unless-none}
-use Rattle.tx_revise.specs.Lines.{words_in, respelled}
+use Rattle.tx_revise.specs.Lines.{words_in, cr_of, tail_of, tail_line, respelled}
 use Rattle.tx_revise.specs.Revised.{Reached, Turn, nothing, stands, then_turn, has, list_of, list_text, bar_text, can_stand, is_at, listed_at, in_place, bar_turn, new_line, each, new_bar, each_bar, behind, route_turn, end_turn}
-use Rattle.tx_revise.proofs.Tails.{IsLine, Spells, alone, below, IsSpelled, IsCr, line_with_cr, respelled_spells}
+use Rattle.tx_revise.proofs.Tails.{IsLine, Spells, alone, below, IsSpelled, IsCr, is_cr as line_cr, line_with_cr, tail_spelled, respelled_spells}
 use Rattle.tx_revise.proofs.Parts.{Says, Goes, goes_on}
 use Rattle.tx_revise.proofs.LineKinds.{Begins, IsFront, begins_itself}
 use Rattle.tx_revise.proofs.Rows.{route_for, list_is_route, Adds, IsDeclared, route_adds, bar_adds, with_one, with_one_bar}
@@ -154,12 +154,26 @@ module _ (v : ℕ) (r q : Plan) (hq : IsPlan q) (second : has_bars q ≡ true �
       → IsSpelled (route_words q (route_for q k)) (list_text q k)
   list_spelled p s k h xs cs gs c = (list_adds p s k h xs cs gs c).spelled
 
+  -- the tail of a line has no words
+  tail_carries : (p : Plan) (s : Reached) (line : List ℕ) → bytes_fault (without_cr line) ≡ None → IsReached p s → Carries p s p (record { lines = tail_line line; next = s })
+  tail_carries p s line right h =
+      elim (length (tail_of (without_cr line)) == 0) as (λ b. Carries p s p (record { lines = cond b [] ((tail_of (without_cr line) ++ cr_of line) ∷ []); next = s })) [
+        | true ↦ nothing_carries p s h
+        | false ↦ record {
+          reached = h;
+          back = λ lines g. blank_leads p s (tail_of (without_cr line) ++ cr_of line) lines (line_with_cr [] (tail_of (without_cr line)) (cr_of line) (line_cr line) (tail_spelled (without_cr line) right)) g;
+        }
+      ]
+
   in_place_carries : (p : Plan) (s : Reached) (k : Pair) (line : List ℕ) → bytes_fault (without_cr line) ≡ None → IsReached p s
       → (xs : Begins p.exchanges q.exchanges) (cs : Begins p.codes q.codes) (gs : Begins p.groups q.groups) → Carries p s p (in_place q line k s)
   in_place_carries p s k line right h xs cs gs =
-      elim (can_stand q s k) as (λ b. can_stand q s k ≡ b → Carries p s p (cond b (record { lines = respelled (list_text q k) line; next = with_list s k }) (nothing s))) [
+      elim (can_stand q s k) as (λ b. can_stand q s k ≡ b → Carries p s p (cond b (record { lines = respelled (list_text q k) line; next = with_list s k }) (cond (length (list_of q k) == 0) (nothing s) (record { lines = tail_line line; next = s })))) [
         | true ↦ λ e. let c = can_from s k e in list_carries p s k _ h xs cs gs c (respelled_spells _ _ line (list_spelled p s k h xs cs gs c) right)
-        | false ↦ λ e. nothing_carries p s h
+        | false ↦ λ e. elim (length (list_of q k) == 0) as (λ b. Carries p s p (cond b (nothing s) (record { lines = tail_line line; next = s }))) [
+          | true ↦ nothing_carries p s h
+          | false ↦ tail_carries p s line right h
+        ]
       ] refl
 
   module _ (cr : List ℕ) (is_cr : IsCr cr) where

@@ -1,12 +1,12 @@
 -- A line counts at most one exchange, code or group more.
-use Rattle.std.proofs.Common.{◌≡◌, ℕ, ◌+◌, ◌≤◌, ◌==◌, Bool, true, false, cond, List, [], ◌∷◌, ◌++◌, Option, None, Some, codes, refl, arith}
+use Rattle.std.proofs.Common.{◌≡◌, ℕ, ◌+◌, ◌≤◌, ◌==◌, Bool, true, false, cond, List, [], ◌∷◌, ◌++◌, length, Option, None, Some, codes, refl, arith}
 use Rattle.std.specs.List.{list_any}
 use Rattle.std.specs.Str.{bytes_eq}
 use Rattle.tx_plan.specs.declared.ids.Pair.{Pair}
 use Rattle.tx_plan.specs.Plan.{Plan, Route}
 use Rattle.tx_plan.specs.Routes.{is_barred}
 use Rattle.tx_revise.specs.Lines.{words_in, respelled}
-use Rattle.tx_revise.specs.Revised.{Reached, Turn, nothing, stands, then_turn, has, list_text, bar_text, can_stand, listed_at, header_turn, in_place, bar_turn, new_line, each, new_bar, each_bar, behind, route_turn, end_turn, word_turn, turn_by, turn}
+use Rattle.tx_revise.specs.Revised.{Reached, Turn, nothing, stands, then_turn, has, list_of, list_text, bar_text, can_stand, listed_at, header_turn, in_place, bar_turn, new_line, each, new_bar, each_bar, behind, route_turn, end_turn, word_turn, turn_by, turn}
 use Rattle.tx_revise.specs.inner.Drafts.{IsShort}
 
 -- the counts of a turn are those before it
@@ -27,7 +27,8 @@ either false s t u h k = k
 
 module _ (q : Plan) where
   in_place_counts : (line : List ℕ) (k : Pair) (s : Reached) → Counts s (in_place q line k s).next
-  in_place_counts line k s = either (can_stand q s k) s _ _ (record { exchanges = refl; codes = refl; groups = refl }) (itself s)
+  in_place_counts line k s =
+      either (can_stand q s k) s _ _ (record { exchanges = refl; codes = refl; groups = refl }) (either (length (list_of q k) == 0) s _ _ (itself s) (itself s))
 
   bar_counts : (line : List ℕ) (s : Reached) (bars : List Pair) → Counts s (bar_turn q line s bars).next
   bar_counts line s [] = itself s

@@ -204,7 +204,7 @@ same_from (v ∷ vs) (w ∷ ws) h =
     let f = same_from vs ws r.1 in
     cc
 
-tail_spelled : (line : List ℕ) → bytes_fault line ≡ None → IsSpelled [] (tail_of line)
+pub tail_spelled : (line : List ℕ) → bytes_fault line ≡ None → IsSpelled [] (tail_of line)
 tail_spelled line h =
     let r = right_from line h in
     record { right = right_fault (tail_of line) (record { bytes = tail_all is_text_byte line r.bytes; short = omega (arith, short line, r.short) }); words = tail_words line }

@@ -39,6 +39,11 @@ respelled spelled line =
     if same_words (words_in line) (words_of spelled) then line ∷ []
     else with_tail spelled (tail_of (without_cr line)) (cr_of line)
 
+-- What stands behind the words of a line, in a line of its own, if anything does
+abbrev pub tail_line : (line : List ℕ) → List (List ℕ)
+tail_line line = if length (tail_of (without_cr line)) == 0 then []
+    else (tail_of (without_cr line) ++ cr_of line) ∷ []
+
 -- lines, each with an LF behind it
 abbrev pub ended : List (List ℕ) → List ℕ
 ended lines = flat_map (λ line. line ++ 10 ∷ []) lines

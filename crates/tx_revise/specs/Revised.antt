@@ -8,7 +8,7 @@ use Rattle.tx_plan.specs.declared.ids.Pair.{Pair}
 use Rattle.tx_plan.specs.Plan.{Plan, Route}
 use Rattle.tx_plan.specs.Routes.{route_list, is_barred}
 use Rattle.tx_plantext.specs.PlanWritten.{route_words, bar_words, has_bars, head_of}
-use Rattle.tx_revise.specs.Lines.{words_in, cr_of, respelled}
+use Rattle.tx_revise.specs.Lines.{words_in, cr_of, respelled, tail_line}
 
 -- What was reached in a text: how many exchanges, codes and groups the lines so far declare; the
 -- lists of the old plan that are still to come, and its bars; the pairs whose lists of the new plan
@@ -92,14 +92,16 @@ module _ (q : Plan) where
     next = s;
   }
 
-  -- the list of a pair in the place of its old one, if it can stand there
+  -- The list of a pair in the place of its old one. If it cannot stand there yet, what stood behind
+  -- the words of the old one stays. If the pair has no list any more, nothing does.
   abbrev pub in_place : List ℕ → Pair → Reached → Turn
   in_place line k s = if can_stand q s k
       then record {
         lines = respelled (list_text q k) line;
         next = record s { written = s.written ++ k ∷ [] };
       }
-      else nothing s
+      else if length (list_of q k) == 0 then nothing s
+      else record { lines = tail_line line; next = s }
 
   -- BAR: the line stands where the new plan has the bar
   abbrev pub bar_turn : List ℕ → Reached → List Pair → Turn

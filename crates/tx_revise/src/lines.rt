@@ -2,7 +2,7 @@
 ghost use Rattle.std.specs.Prelude.{◌≡◌, ◌<◌, ◌≤◌, ◌++◌, ◌∷◌, [], OnOk, IfSome, MatchOption, length};
 ghost use Rattle.std.specs.List.{slice_split, position_or_len};
 ghost use Rattle.tx_text.specs.Text.{is_lf};
-ghost use Rattle.tx_revise.specs.Lines.{tail_of, cr_of, same_words, respelled, ended};
+ghost use Rattle.tx_revise.specs.Lines.{tail_of, cr_of, same_words, respelled, tail_line, ended};
 
 use memchr::memchr;
 use std::alloc::Allocator;
@@ -83,6 +83,17 @@ fn same_words(first: Words<'_>, second: Words<'_>) -> bool
         }
     }
     second.next().is_none()
+}
+
+/// Appends what stands behind the words of a line, in a line of its own, if anything does.
+pub fn add_tail<A: Allocator>(text: &mut Vec<u8, A>, line: &[u8]) -> Result<(), NoMemory>
+    ensures { OnOk result (text.new.items ≡ text.old.items ++ ended (tail_line line.now)) }
+{
+    let tail = tail_of(without_cr(line));
+    if tail.is_empty() {
+        return Ok(());
+    }
+    add_line(text, tail, cr_of(line))
 }
 
 /// Appends a line with these words in place of its own; its tail and its CR stay. Appends the line

@@ -5,7 +5,7 @@ ghost use Rattle.tx_revise.specs.Revised.{list_text, can_stand, new_line, in_pla
 ghost use Rattle.tx_revise.specs.inner.Drafts.{drafted};
 
 use crate::draft::Draft;
-use crate::lines::{add, add_line, respell};
+use crate::lines::{add, add_line, add_tail, respell};
 use std::alloc::Allocator;
 use tx_plan::{ExchangeId, GroupId, Pair, Plan};
 use tx_text::NoMemory;
@@ -84,7 +84,8 @@ impl<'p, A: Allocator> Draft<'p, A> {
 }
 
 impl<'p, A: Allocator + Copy> Draft<'p, A> {
-    /// Writes the list of a pair in the place of this line, if it can stand there.
+    /// Writes the list of a pair in the place of this line. If it cannot stand there yet, only what
+    /// stands behind the words of the line stays.
     pub fn put_in_place(&mut self, alloc: A, line: &[u8], pair: Pair) -> Result<(), NoMemory>
         ensures { OnOk result
             (self.new ≡ drafted self.old (in_place self.old.plan line.now pair self.old.reached)) }
@@ -93,6 +94,8 @@ impl<'p, A: Allocator + Copy> Draft<'p, A> {
             let spelled = list_text(alloc, self.plan, &pair)?;
             respell(&mut self.text, spelled.as_slice(), line)?;
             self.written.add(pair)?;
+        } else if !self.plan.list(pair.exchange, pair.code).is_empty() {
+            add_tail(&mut self.text, line)?;
         }
         Ok(())
     }
