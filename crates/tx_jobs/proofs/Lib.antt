@@ -7,7 +7,6 @@ mod ToldRuns
 mod Evidenced
 mod ChangeTold
 mod ChangeEvidenced
-mod OrderMarks
 mod Grading
 mod LintTold
 mod Surviving
@@ -18,4 +17,3 @@ mod Taking
 mod Did
 pub mod PartCalls
 pub mod PlanCalls
-pub mod MendedTexts

@@ -5,6 +5,7 @@ use Rattle.tx_text.specs.Ends.{Input, Output, input}
 use Rattle.tx_plantext.specs.PlanWritten.{plan_written}
 use Rattle.tx_cert.specs.CertText.{cert_written}
 use Rattle.tx_check.specs.declared.verdict.Verdict.TheVariants.{Yes, No}
+use Rattle.tx_mend.specs.declared.mending.Mending.TheVariants.{Mended as IsMended, NoRouting}
 use Rattle.tx_risk.specs.declared.surviving.Survival.TheVariants.{Tried, Ungraded}
 use Rattle.tx_audit.specs.Scripts.{script_written}
 use Rattle.tx_audit.specs.declared.checked.Checked.TheVariants.{Ran as RanAfterYes, Denied}
@@ -13,7 +14,7 @@ use Rattle.tx_commands.specs.declared.command.Command.{Command}
 use Rattle.tx_commands.specs.declared.command.Command.TheVariants.{Pipe, Run, RunTelling, Check, Lint, Codes, Audit, Change, Order, Mend, Survive, Grade, Trace, Draw, Explain}
 use Rattle.tx_jobs.specs.declared.evidence.Evidence.TheVariants.{Sound, Unsound}
 use Rattle.tx_jobs.specs.declared.mixture.ChangeEvidence.TheVariants.{Sound as SoundChange, Unsound as UnsoundChange}
-use Rattle.tx_jobs.specs.declared.order.Staged.TheVariants.{Ordered as IsOrdered, NoOrder}
+use Rattle.tx_order.specs.declared.staged.Staged.TheVariants.{Ordered as IsOrdered, NoOrder}
 use Rattle.tx_jobs.specs.declared.job_fault.JobFault.{JobFault}
 use Rattle.tx_jobs.specs.declared.job_fault.JobFault.TheVariants.{Read}
 use Rattle.tx_jobs.specs.declared.done.Done.{Done}
@@ -26,7 +27,7 @@ use Rattle.tx_jobs.specs.Evidences.{EvidenceJobAnswers}
 use Rattle.tx_jobs.specs.GradeJobs.{GradeJobAnswers}
 use Rattle.tx_jobs.specs.Jobs.{CodesJobAnswers, RunJobAnswers}
 use Rattle.tx_jobs.specs.LintJobs.{LintJobAnswers}
-use Rattle.tx_jobs.specs.MendTexts.{MendTextAnswers, text_of, status_of_mending, mended_texts}
+use Rattle.tx_jobs.specs.MendJobs.{MendJobAnswers}
 use Rattle.tx_jobs.specs.OrderJobs.{OrderJobAnswers}
 use Rattle.tx_jobs.specs.PipeJobs.{PipeJobAnswers}
 use Rattle.tx_jobs.specs.SurviveJobs.{SurviveJobAnswers, SurviveRisksJobAnswers}
@@ -55,7 +56,8 @@ status_of_done (Changed (SoundChange plan cert)) = 0
 status_of_done (Changed (UnsoundChange mixture)) = 1
 status_of_done (Ordered (IsOrdered stage)) = 0
 status_of_done (Ordered NoOrder) = 1
-status_of_done (Mended m) = status_of_mending m.mending
+status_of_done (Mended (IsMended plan before cert)) = 0
+status_of_done (Mended (NoRouting plan unserved pair)) = 1
 status_of_done (Graded grade) = if is_some grade.plan then 0 else 1
 status_of_done (Survived (Tried cuts)) = status_of_cuts cuts.items
 status_of_done (Survived (Ungraded grade)) = 1
@@ -71,7 +73,8 @@ texts_of (Changed (UnsoundChange (Some m))) = Some (plan_written (mixture_plan m
     ∷ option_map (script_written (mixture_plan m)) (mixture_events m) ∷ []
 texts_of (Ordered (IsOrdered (Some (p, cert)))) =
     Some (plan_written p) ∷ Some (cert_written p cert) ∷ None ∷ []
-texts_of (Mended m) = mended_texts m.mending (text_of m)
+texts_of (Mended (IsMended p before cert)) =
+    Some (plan_written p) ∷ Some (cert_written p cert) ∷ None ∷ []
 texts_of other = None ∷ None ∷ None ∷ []
 
 -- a job's answer, as what was done
@@ -134,7 +137,7 @@ module _ {P : Type 0} (rest : P → Option (List ℕ)) (failed : P → Bool)
     IsDone (Order before after limit spare stage plan cert) result =
         Does Ordered (OrderJobAnswers stage limit spare first second out) result × third.unread
     IsDone (Mend plan limit spare mended cert) result =
-        Does Mended (MendTextAnswers (is_some mended) limit spare first out) result × Alone
+        Does Mended (MendJobAnswers limit spare first out) result × Alone
     IsDone (Survive plan None) result = Does Survived (SurviveJobAnswers first out) result × Alone
     IsDone (Survive plan (Some risks)) result =
         Does Survived (SurviveRisksJobAnswers first second out) result × third.unread

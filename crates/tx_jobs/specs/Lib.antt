@@ -7,7 +7,6 @@ pub mod AuditJobs
 pub mod ChangeJobs
 pub mod GradeJobs
 pub mod MendJobs
-pub mod MendTexts
 pub mod LintJobs
 pub mod TraceJobs
 pub mod TellingJobs

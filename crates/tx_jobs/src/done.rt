@@ -4,12 +4,12 @@ ghost use Rattle.tx_jobs.specs.Contents.{content_text};
 
 use crate::content::Content;
 use crate::evidence::Evidence;
-use crate::mend_text::MendedText;
 use crate::mixture::{ChangeEvidence, Mixture};
-use crate::order::Staged;
 use std::alloc::{Allocator, Global};
 use tx_audit::Checked;
 use tx_check::Verdict;
+use tx_mend::Mending;
+use tx_order::Staged;
 use tx_plan::CodeId;
 use tx_rank::Grade;
 use tx_risk::Survival;
@@ -38,7 +38,7 @@ pub enum Done<A: Allocator = Global> {
     /// An order of switching was found, or there is none.
     Ordered(Staged<A>),
     /// A plan was mended, or cannot be.
-    Mended(MendedText<A>),
+    Mended(Mending<A>),
     /// A plan was graded.
     Graded(Grade<A>),
     /// The outages of a plan were tried.
@@ -64,15 +64,16 @@ impl<A: Allocator> Done<A> {
             | Done::Listed(None)
             | Done::Audited(Evidence::Sound(_, _))
             | Done::Changed(ChangeEvidence::Sound(_, _))
-            | Done::Ordered(Staged::Ordered(_)) => 0,
+            | Done::Ordered(Staged::Ordered(_))
+            | Done::Mended(Mending::Mended(_, _, _)) => 0,
             Done::Checked(Checked::Denied(_))
             | Done::Verified(Verdict::No(_))
             | Done::Listed(Some(_))
             | Done::Audited(Evidence::Unsound(_))
             | Done::Changed(ChangeEvidence::Unsound(_))
             | Done::Ordered(Staged::NoOrder)
+            | Done::Mended(Mending::NoRouting(_, _, _))
             | Done::Survived(Survival::Ungraded(_)) => 1,
-            Done::Mended(mended) => mended.status(),
             Done::Told(strict, summary) => u8::from(*strict && summary.refused != 0),
             Done::Graded(grade) => u8::from(grade.plan.is_none()),
             Done::Survived(Survival::Tried(cuts)) => u8::from(!cuts.is_empty()),
@@ -103,14 +104,14 @@ impl<A: Allocator> Done<A> {
             Done::Changed(ChangeEvidence::Unsound(Some(Mixture::Unscripted(plan)))) => {
                 [Some(Content::Plan(plan)), None, None]
             }
-            Done::Ordered(Staged::Ordered(Some((plan, cert)))) => {
+            Done::Ordered(Staged::Ordered(Some((plan, cert))))
+            | Done::Mended(Mending::Mended(plan, _, cert)) => {
                 [
                     Some(Content::Plan(plan)),
                     Some(Content::Cert(plan, cert)),
                     None,
                 ]
             }
-            Done::Mended(mended) => mended.contents(),
             Done::Ran(_)
             | Done::Told(_, _)
             | Done::Checked(_)
@@ -120,6 +121,7 @@ impl<A: Allocator> Done<A> {
             | Done::Audited(Evidence::Unsound(None))
             | Done::Changed(ChangeEvidence::Unsound(None))
             | Done::Ordered(Staged::Ordered(None) | Staged::NoOrder)
+            | Done::Mended(Mending::NoRouting(_, _, _))
             | Done::Graded(_)
             | Done::Survived(_)
             | Done::Written => [None, None, None],

@@ -17,7 +17,7 @@ use crate::draw::draw_job;
 use crate::grade::grade_job;
 use crate::job_fault::JobFault;
 use crate::lint::lint_job;
-use crate::mend_text::mend_text_job;
+use crate::mend::mend_job;
 use crate::order::order_job;
 use crate::pipe::pipe_job;
 use crate::run::run_job;
@@ -74,8 +74,7 @@ pub fn do_job<A: Allocator + Copy, P: Source, Q: Source, R: Source, W: Sink>(
         }
         Command::Mend { limit, spare, .. } => {
             let (limit, spare) = (*limit, *spare);
-            let kept = files.plan.is_some();
-            Ok(Done::Mended(mend_text_job(alloc, first, Limits { limit, spare }, kept, out)?))
+            Ok(Done::Mended(mend_job(alloc, first, Limits { limit, spare }, out)?))
         }
         Command::Survive { risks: None, .. } => Ok(Done::Survived(survive_job(alloc, first, out)?)),
         Command::Grade { .. } => Ok(Done::Graded(grade_job(alloc, first, out)?)),

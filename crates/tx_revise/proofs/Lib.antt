@@ -10,4 +10,5 @@ pub mod Said
 pub mod Steps
 pub mod Spelling
 pub mod Counts
+pub mod Whole
 pub mod Others

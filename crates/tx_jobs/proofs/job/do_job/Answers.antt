@@ -85,33 +85,31 @@ returns-in_ok-evidence_job-in-Audit-clause-third_calls g c = uncalled g.R.Source
 pub returns-in_err-evidence_job-in-Audit-clause-third_calls : goal.returns-in_err-evidence_job-in-Audit-clause-third_calls
 returns-in_err-evidence_job-in-Audit-clause-third_calls g c = uncalled g.R.Source.called c.args.third.now
 
-pub returns-in_ok-mend_text_job-in-Mend-clause-done : goal.returns-in_ok-mend_text_job-in-Mend-clause-done
-returns-in_ok-mend_text_job-in-Mend-clause-done g c =
-    let kept = c.is_some-kept.ensures ∙ is_named (λ x. x.now) string_bytes c.of-files.result.plan c.in-Mend.mended (rw c.in-Mend.is at c.of-files.ensures.plan) in
-    rw c.in-Mend.is (did c.in_ok-mend_text_job-in-Mend.field-0 (rw kept at c.in_ok-mend_text_job-in-Mend.ensures.answers), (refl, refl))
+pub returns-in_ok-mend_job-in-Mend-clause-done : goal.returns-in_ok-mend_job-in-Mend-clause-done
+returns-in_ok-mend_job-in-Mend-clause-done g c =
+    rw c.in-Mend.is (did c.in_ok-mend_job-in-Mend.field-0 c.in_ok-mend_job-in-Mend.ensures.answers, (refl, refl))
 
-pub returns-in_err-mend_text_job-in-Mend-clause-done : goal.returns-in_err-mend_text_job-in-Mend-clause-done
-returns-in_err-mend_text_job-in-Mend-clause-done g c =
-    let f = c.in_err-mend_text_job-in-Mend.field-0.0 in
-    let kept = c.is_some-kept.ensures ∙ is_named (λ x. x.now) string_bytes c.of-files.result.plan c.in-Mend.mended (rw c.in-Mend.is at c.of-files.ensures.plan) in
+pub returns-in_err-mend_job-in-Mend-clause-done : goal.returns-in_err-mend_job-in-Mend-clause-done
+returns-in_err-mend_job-in-Mend-clause-done g c =
+    let f = c.in_err-mend_job-in-Mend.field-0.0 in
     rw c.in-Mend.is
-    (stopped f c.from_residual-in_err-mend_text_job-in-Mend.result (rw kept at c.in_err-mend_text_job-in-Mend.ensures.answers) c.from_residual-in_err-mend_text_job-in-Mend.ensures.1, (refl, refl))
+    (stopped f c.from_residual-in_err-mend_job-in-Mend.result c.in_err-mend_job-in-Mend.ensures.answers c.from_residual-in_err-mend_job-in-Mend.ensures.1, (refl, refl))
 
-pub returns-in_err-mend_text_job-in-Mend-clause-mark : goal.returns-in_err-mend_text_job-in-Mend-clause-mark
-returns-in_err-mend_text_job-in-Mend-clause-mark g c =
-    stopped_mark _ _ c.in_err-mend_text_job-in-Mend.field-0.0 c.from_residual-in_err-mend_text_job-in-Mend.result c.in_err-mend_text_job-in-Mend.ensures.mark c.from_residual-in_err-mend_text_job-in-Mend.ensures.1
+pub returns-in_err-mend_job-in-Mend-clause-mark : goal.returns-in_err-mend_job-in-Mend-clause-mark
+returns-in_err-mend_job-in-Mend-clause-mark g c =
+    stopped_mark _ _ c.in_err-mend_job-in-Mend.field-0.0 c.from_residual-in_err-mend_job-in-Mend.result c.in_err-mend_job-in-Mend.ensures.mark c.from_residual-in_err-mend_job-in-Mend.ensures.1
 
-pub returns-in_ok-mend_text_job-in-Mend-clause-second_calls : goal.returns-in_ok-mend_text_job-in-Mend-clause-second_calls
-returns-in_ok-mend_text_job-in-Mend-clause-second_calls g c = uncalled g.Q.Source.called c.args.second.now
+pub returns-in_ok-mend_job-in-Mend-clause-second_calls : goal.returns-in_ok-mend_job-in-Mend-clause-second_calls
+returns-in_ok-mend_job-in-Mend-clause-second_calls g c = uncalled g.Q.Source.called c.args.second.now
 
-pub returns-in_err-mend_text_job-in-Mend-clause-second_calls : goal.returns-in_err-mend_text_job-in-Mend-clause-second_calls
-returns-in_err-mend_text_job-in-Mend-clause-second_calls g c = uncalled g.Q.Source.called c.args.second.now
+pub returns-in_err-mend_job-in-Mend-clause-second_calls : goal.returns-in_err-mend_job-in-Mend-clause-second_calls
+returns-in_err-mend_job-in-Mend-clause-second_calls g c = uncalled g.Q.Source.called c.args.second.now
 
-pub returns-in_ok-mend_text_job-in-Mend-clause-third_calls : goal.returns-in_ok-mend_text_job-in-Mend-clause-third_calls
-returns-in_ok-mend_text_job-in-Mend-clause-third_calls g c = uncalled g.R.Source.called c.args.third.now
+pub returns-in_ok-mend_job-in-Mend-clause-third_calls : goal.returns-in_ok-mend_job-in-Mend-clause-third_calls
+returns-in_ok-mend_job-in-Mend-clause-third_calls g c = uncalled g.R.Source.called c.args.third.now
 
-pub returns-in_err-mend_text_job-in-Mend-clause-third_calls : goal.returns-in_err-mend_text_job-in-Mend-clause-third_calls
-returns-in_err-mend_text_job-in-Mend-clause-third_calls g c = uncalled g.R.Source.called c.args.third.now
+pub returns-in_err-mend_job-in-Mend-clause-third_calls : goal.returns-in_err-mend_job-in-Mend-clause-third_calls
+returns-in_err-mend_job-in-Mend-clause-third_calls g c = uncalled g.R.Source.called c.args.third.now
 
 pub returns-in_ok-survive_job-in-Survive-default-None-clause-done : goal.returns-in_ok-survive_job-in-Survive-default-None-clause-done
 returns-in_ok-survive_job-in-Survive-default-None-clause-done g c =
