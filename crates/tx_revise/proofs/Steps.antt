@@ -61,6 +61,10 @@ entry_there exchange code xs i at (Some r) e h =
     let same : ◌≡◌ {A = ℕ × ℕ} at (exchange r, code r) = cc in
     record { entry = r; is = e; exchange_is = ap (λ (z : ℕ × ℕ). z.0) same; code_is = ap (λ (z : ℕ × ℕ). z.1) same }
 
+-- the pairs of the lists from here on
+abbrev pub pairs_from : List Route → ℕ → List Pair
+pairs_from rows n = map (λ (r : Route). record { exchange = r.exchange; code = r.code }) (drop n rows)
+
 module _ (rows : List Route) (i : ℕ) (at : ℕ × ℕ) (there : ◌≡◌ {A = Option (ℕ × ℕ)} (Some at) (option_map (λ (r : Route). (r.exchange, r.code)) (slice_get rows i))) where
   pub route_at : IsAt (λ (r : Route). r.exchange) (λ r. r.code) rows i at
   route_at = entry_there (λ (r : Route). r.exchange) (λ r. r.code) rows i at (slice_get rows i) refl there
@@ -80,16 +84,13 @@ module _ (rows : List Route) (i : ℕ) (at : ℕ × ℕ) (there : ◌≡◌ {A =
       ap (list_any (λ (r : Route). r.exchange == x)) (drop_at rows i r.entry r.is) ∙ ap (λ b. b || list_any (λ (r : Route). r.exchange == x) (drop (suc i) rows)) f
       ∙ ap (λ n. list_any (λ (r : Route). r.exchange == x) (drop n rows)) (sym (add-one i))
 
-  abbrev pub pairs_from : ℕ → List Pair
-  pairs_from n = map (λ (r : Route). record { exchange = r.exchange; code = r.code }) (drop n rows)
-
   -- the pairs from here on
-  pub pairs_here : pairs_from i ≡ record { exchange = at.0; code = at.1 } ∷ pairs_from (i + 1)
+  pub pairs_here : pairs_from rows i ≡ record { exchange = at.0; code = at.1 } ∷ pairs_from rows (i + 1)
   pairs_here =
       let r = route_at in
       let same : ◌≡◌ {A = Pair} (record { exchange = at.0; code = at.1 }) (record { exchange = r.entry.exchange; code = r.entry.code }) = λ k. record { exchange = r.exchange_is k; code = r.code_is k } in
       ap (map (λ (r : Route). record { exchange = r.exchange; code = r.code })) (drop_at rows i r.entry r.is)
-      ∙ ap (λ k. k ∷ pairs_from (suc i)) (sym same) ∙ ap (λ n. record { exchange = at.0; code = at.1 } ∷ pairs_from n) (sym (add-one i))
+      ∙ ap (λ k. k ∷ pairs_from rows (suc i)) (sym same) ∙ ap (λ n. record { exchange = at.0; code = at.1 } ∷ pairs_from rows n) (sym (add-one i))
 
   -- the lists that are still to come in a plan
   pub lists_here : drop i rows ≡ route_at.entry ∷ drop (i + 1) rows

@@ -25,19 +25,19 @@ module _ (q : Plan) (cr : List ℕ) (old : Plan) (text : List ℕ) where
   -- the draft after all lines before the rest
   pub record IsBefore (d : Draft) (rest : List ℕ) : Type 0 where
     pub plan : d.plan ≡ q
-    pub cr : d.cr ≡ cr
+    pub same_cr : d.cr ≡ cr
     pub less : length rest ≤ length text
     pub short : IsShort d.reached (length text - length rest)
     pub whole : whole_of q cr d (slice_split is_lf rest) ≡ all_of
 
   -- a turn of this plan
   turned : (d e : Draft) (line rest : List ℕ) → IsBefore d rest → e ≡ drafted d (turn d.plan d.cr line d.reached) → e ≡ drafted d (turn q cr line d.reached)
-  turned d e line rest h is = is ∙ (λ i. drafted d (turn (h.plan i) (h.cr i) line d.reached))
+  turned d e line rest h is = is ∙ (λ i. drafted d (turn (h.plan i) (h.same_cr i) line d.reached))
 
   pub begins : (d : Draft) → d ≡ record { plan = q; cr = cr; text = []; reached = at_start old } → IsBefore d text
   begins d is =
       let start : Draft = record { plan = q; cr = cr; text = []; reached = at_start old } in
-      let base : IsBefore start text = record { plan = refl; cr = refl; less = omega arith; short = record { exchanges = omega arith; codes = omega arith; groups = omega arith }; whole = refl } in
+      let base : IsBefore start text = record { plan = refl; same_cr = refl; less = omega arith; short = record { exchanges = omega arith; codes = omega arith; groups = omega arith }; whole = refl } in
       subst (λ (x : Draft). IsBefore x text) (sym is) base
 
   pub goes_on : (d e : Draft) (line rest after : List ℕ) → IsBefore d rest → slice_split is_lf rest ≡ line ∷ slice_split is_lf after → length after < length rest → e ≡ drafted d (turn d.plan d.cr line d.reached) → IsBefore e after
@@ -49,7 +49,7 @@ module _ (q : Plan) (cr : List ℕ) (old : Plan) (text : List ℕ) where
       let one : IsShort (turn q cr line d.reached).next m = short_within (turn q cr line d.reached).next (n + 1) m (turn_short q cr line d.reached n h.short) (omega arith) in
       record {
         plan = ap (λ (x : Draft). x.plan) same ∙ h.plan;
-        cr = ap (λ (x : Draft). x.cr) same ∙ h.cr;
+        same_cr = ap (λ (x : Draft). x.cr) same ∙ h.same_cr;
         less = omega arith;
         short = subst (λ (x : Draft). IsShort x.reached m) (sym same) one;
         whole = sym (line_taken q cr d e line (slice_split is_lf after) same) ∙ ap (whole_of q cr d) (sym cut) ∙ h.whole;
