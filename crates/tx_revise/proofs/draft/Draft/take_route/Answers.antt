@@ -9,6 +9,6 @@ pub returns : goal.returns
 returns g c =
     let n = c.self.inside in
     on_ok_weaker c.put_behind.result (λ p.
-      route_taken n.before.now n.plan.now n.cr.now n.text.items n.exchanges n.codes n.groups n.lists n.bars n.written n.barred c.args.line.now _ c.in-Some.ensures.value _ _ c.in_ok-put_in_place.ensures p
-      ∙ ap (λ (d : Draft). drafted d (route_turn d.plan d.cr c.args.line.now d.reached d.reached.lists)) c.self.view_is)
+    route_taken n.before.now n.plan.now n.cr.now n.text.items n.exchanges n.codes n.groups n.lists n.bars n.written n.barred c.args.line.now _ c.in-Some.ensures.value _ _ c.in_ok-put_in_place.ensures p
+    ∙ ap (λ (d : Draft). drafted d (route_turn d.plan d.cr c.args.line.now d.reached d.reached.lists)) c.self.view_is)
     c.put_behind.ensures
