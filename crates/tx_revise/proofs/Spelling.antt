@@ -29,16 +29,6 @@ front_is q k a b c d name figures e f g h n m =
     ∙ (λ i. codes "ROUTE" ++ 32 ∷ (n i ++ 32 ∷ (m i ++ names q (list_of q k))))
     ∙ ap (λ l. codes "ROUTE" ++ 32 ∷ (exchange_name q k.exchange ++ 32 ∷ l)) (sym (joined_after q (figures_of q k.code) (list_of q k)))
 
--- one name more
-pub name_next : (q : Plan) (gs : List ℕ) (i d : ℕ) (text a b total name : List ℕ) → i < length gs → text ++ names q (drop i gs) ≡ total → a ≡ text ++ codes " " → b ≡ a ++ name → name ≡ group_name q (get_or gs i d)
-    → b ++ names q (drop (i + 1) gs) ≡ total
-name_next q gs i d text a b total name l h e f n =
-    let all : b ≡ text ++ (codes " " ++ group_name q (get_or gs i d)) = f ∙ (λ k. e k ++ n k) ∙ append_assoc text (codes " ") (group_name q (get_or gs i d)) in
-    ap (λ t. t ++ names q (drop (i + 1) gs)) all
-    ∙ append_assoc text (codes " " ++ group_name q (get_or gs i d)) (names q (drop (i + 1) gs))
-    ∙ ap (λ t. text ++ t) (ap (λ n. (codes " " ++ group_name q (get_or gs i d)) ++ names q (drop n gs)) (add-one i) ∙ ap (names q) (sym (drop-cons gs i d l)))
-    ∙ h
-
 -- no name more
 pub name_end : (q : Plan) (gs : List ℕ) (i : ℕ) (text total : List ℕ) → length gs ≤ i → text ++ names q (drop i gs) ≡ total → text ≡ total
 name_end q gs i text total l h = sym (append-nil text) ∙ ap (λ o. text ++ names q o) (sym (drop_end gs i l)) ∙ h

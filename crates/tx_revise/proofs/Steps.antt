@@ -21,10 +21,6 @@ pub drafted_then : (d : Draft) (t : Turn) (k : Reached → Turn) → drafted (dr
 drafted_then d t k =
     ap (λ (text : List ℕ). record d { text = text; reached = (k t.next).next }) (append_assoc d.text (ended t.lines) (ended (k t.next).lines) ∙ ap (λ l. d.text ++ l) (sym (ended_append t.lines (k t.next).lines)))
 
--- nothing was done
-pub drafted_nothing : (d : Draft) → drafted d (nothing d.reached) ≡ d
-drafted_nothing d = ap (λ (text : List ℕ). record d { text = text }) (append-nil d.text)
-
 -- ---- WHAT IS LEFT OF A LIST
 
 module _ {A : Type 0} where
