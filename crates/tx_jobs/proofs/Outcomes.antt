@@ -131,7 +131,7 @@ module _ (text left : List ℕ) (second third : Input) (out : Output) {A : Type 
       → TellsChangeEvidence with_mixture limit spare answer (Ok (UnsoundChange (Some m))) → IsOfNetwork text (mixture_plan m)
   change_makes_by true limit spare (Ok (FoundUnsound p q findings)) m (inl h) t = elim h.goes_on as (λ _. IsOfNetwork text (mixture_plan m)) [
     | inl k ↦
-        let shows = t.2.2 in
+        let shows = t.2 in
         mixed_network text h.plan p q (mixture_plan m) (said_whole h.plan h.read) k.goes_on.0 (subst (IsMixture p q) (sym shows.plan) shows.shown.0)
     | inr k ↦ absurd (let e = k.told in let z : ⊥ = cc in z)
   ]

@@ -93,7 +93,19 @@ impl<A: Allocator> Done<A> {
             Done::Changed(ChangeEvidence::Unsound(Some(Mixture::Unscripted(plan))))
             | Done::Ordered(Staged::Ordered(Some((plan, _))))
             | Done::Mended(Mending::Mended(plan, _, _)) => Some(plan),
-            _ => None,
+            Done::Ran(_)
+            | Done::Told(_, _)
+            | Done::Checked(_)
+            | Done::Verified(_)
+            | Done::Listed(_)
+            | Done::Linted(_)
+            | Done::Audited(_)
+            | Done::Changed(ChangeEvidence::Sound(_, _) | ChangeEvidence::Unsound(None))
+            | Done::Ordered(Staged::Ordered(None) | Staged::NoOrder)
+            | Done::Mended(Mending::NoRouting(_, _, _))
+            | Done::Graded(_)
+            | Done::Survived(_)
+            | Done::Written => None,
         }
     }
 
