@@ -1,0 +1,120 @@
+// What a command comes to, with the text of the plan that it makes.
+ghost use Rattle.std.specs.Prelude.{◌≡◌, ◌≢◌, map, option_map, IfSome, IfOk, IfErr};
+ghost use Rattle.tx_text.specs.Calls.{CallsAtMost, source_calls};
+ghost use Rattle.tx_text.specs.Ends.{input, output};
+ghost use Rattle.tx_commands.specs.Commands.{IsInRange};
+ghost use Rattle.tx_commands.specs.declared.command.Command.TheVariants.{Pipe};
+ghost use Rattle.tx_jobs.specs.JobFaults.{mark_after};
+ghost use Rattle.tx_jobs.specs.Contents.{content_text};
+ghost use Rattle.tx_jobs.specs.Done.{plan_made};
+ghost use Rattle.tx_jobs.specs.Outcomes.{IsOutcome, IsOutcomeOver, HasRevision, outcome_texts};
+ghost use Rattle.tx_jobs.specs.inner.Revising.{IsOfNetwork};
+
+use crate::content::Content;
+use crate::done::Done;
+use crate::job::do_job;
+use crate::job_fault::JobFault;
+use std::alloc::{Allocator, Global};
+use tx_commands::{Command, Files};
+use tx_lint::read_text;
+use tx_plantext::read_plan;
+use tx_revise::revise;
+use tx_text::{Sink, SliceSource, Source};
+
+/// What a command came to, and the text of the plan that it makes, if that goes into a file.
+#[derive(Debug, Drop)]
+pub struct Outcome<A: Allocator = Global> {
+    pub done: Done<A>,
+    pub text: Option<Vec<u8, A>>,
+}
+
+impl<A: Allocator> Outcome<A> {
+    /// What goes into the files that the command may make: the text of the plan, the certificate
+    /// and the script, each if there is one.
+    pub fn contents(&self) -> [Option<Content<'_, A>>; 3]
+        ensures { map (option_map content_text) result ≡ outcome_texts self.now }
+    {
+        let text = match &self.text {
+            Some(text) => Some(Content::Text(text.as_slice())),
+            None => None,
+        };
+        let [cert, script] = self.done.contents();
+        [text, cert, script]
+    }
+}
+
+/// Does the job of a command, as `do_job` does. Where the plan that it makes goes into a file, the
+/// text of its first plan is read to its end first, and revised for the plan that was made.
+///
+/// `Err` is the fault of the first call that failed. Where there is no memory for the revised text,
+/// the job was done, and what it prints was written.
+pub fn do_command<A: Allocator + Copy, P: Source, Q: Source, R: Source, W: Sink>(
+    alloc: A,
+    command: &Command,
+    first: &mut P,
+    second: &mut Q,
+    third: &mut R,
+    out: &mut W,
+) -> Result<Outcome<A>, JobFault>
+    requires { IsInRange command.now }
+    ensures done { IsOutcome P.rest P.failed P.called first.old first.new
+        (input Q.rest Q.failed Q.called second.old second.new)
+        (input R.rest R.failed R.called third.old third.new)
+        (output W.taken out.old out.new) command.now result }
+    ensures mark { W.failed out.new ≡ mark_after (W.failed out.old) result }
+    ensures first_calls { command.now ≢ Pipe
+        → CallsAtMost P.called source_calls first.old first.new }
+    ensures second_calls { CallsAtMost Q.called source_calls second.old second.new }
+    ensures third_calls { CallsAtMost R.called source_calls third.old third.new }
+{
+    if Files::of(command).plan.is_some() {
+        let text = read_text(alloc, first)?;
+        return do_over_text(alloc, command, text.as_slice(), second, third, out);
+    }
+    let done = do_job(alloc, command, first, second, third, out)?;
+    Ok(Outcome { done, text: None })
+}
+
+/// Does the job of a command over the text of its first plan, and revises this text.
+fn do_over_text<A: Allocator + Copy, Q: Source, R: Source, W: Sink>(
+    alloc: A,
+    command: &Command,
+    text: &[u8],
+    second: &mut Q,
+    third: &mut R,
+    out: &mut W,
+) -> Result<Outcome<A>, JobFault>
+    requires { IsInRange command.now }
+    ensures done { IsOutcomeOver text.now
+        (input Q.rest Q.failed Q.called second.old second.new)
+        (input R.rest R.failed R.called third.old third.new)
+        (output W.taken out.old out.new) command.now result }
+    ensures mark { W.failed out.new ≡ mark_after (W.failed out.old) result }
+    ensures second_calls { CallsAtMost Q.called source_calls second.old second.new }
+    ensures third_calls { CallsAtMost R.called source_calls third.old third.new }
+{
+    let mut first = SliceSource::new(text);
+    let done = do_job(alloc, command, &mut first, second, third, out)?;
+    let text = revision(alloc, text, &done)?;
+    Ok(Outcome { done, text })
+}
+
+/// The text of a plan, revised for the plan that a command made of it, if it made one.
+fn revision<A: Allocator + Copy>(
+    alloc: A,
+    text: &[u8],
+    done: &Done<A>,
+) -> Result<Option<Vec<u8, A>>, JobFault>
+    requires { IfSome (plan_made done.now) (IsOfNetwork text.now) }
+    ensures ok { IfOk result (λ t.
+        HasRevision text.now (plan_made done.now) (option_map (λ v. v.items) t)) }
+    ensures err { IfErr result (λ fault. fault ≡ JobFault.NoMemory) }
+{
+    match done.plan() {
+        Some(plan) => {
+            let old = read_plan(alloc, text)?;
+            Ok(Some(revise(alloc, text, &old, plan)?))
+        }
+        None => Ok(None),
+    }
+}
