@@ -7,13 +7,16 @@ use std::alloc::{Allocator, Global};
 use tx_audit::write_counter;
 use tx_cert::{Cert, write_cert};
 use tx_plan::Plan;
+use tx_plantext::write_plan;
 use tx_text::{Sink, WriteFault, write_bytes};
 
 /// What goes into a file that a command makes.
 #[derive(Clone, Copy)]
 pub enum Content<'a, A: Allocator = Global> {
-    /// The text of a plan that was made.
+    /// The text of a plan, revised for the plan that was made.
     Text(&'a [u8]),
+    /// The plan that was made, as it is written.
+    Plan(&'a Plan<A>),
     /// A certificate of a plan.
     Cert(&'a Plan<A>, &'a Cert<A>),
     /// The script of a call that goes along the walk of a finding.
@@ -29,6 +32,7 @@ pub fn write_content<A: Allocator, W: Sink>(
 {
     match content {
         Content::Text(text) => write_bytes(text, sink),
+        Content::Plan(plan) => write_plan(plan, sink),
         Content::Cert(plan, cert) => write_cert(cert, plan, sink),
         Content::Script(script) => write_counter(&script.plan, script.events.as_slice(), sink),
     }

@@ -7,21 +7,23 @@ ghost use Rattle.tx_commands.specs.declared.command.Command.TheVariants.{Pipe};
 ghost use Rattle.tx_jobs.specs.JobFaults.{mark_after};
 ghost use Rattle.tx_jobs.specs.Contents.{content_text};
 ghost use Rattle.tx_jobs.specs.Done.{plan_made};
-ghost use Rattle.tx_jobs.specs.Outcomes.{IsOutcome, IsOutcomeOver, HasRevision, outcome_texts};
-ghost use Rattle.tx_jobs.specs.inner.Revising.{IsOfNetwork};
+ghost use Rattle.tx_jobs.specs.Outcomes.{IsOutcome, IsOutcomeOver, HasText, kept_text, plan_text, outcome_texts};
+ghost use Rattle.tx_jobs.specs.inner.Revising.{IsOfText};
 
 use crate::content::Content;
 use crate::done::Done;
 use crate::job::do_job;
 use crate::job_fault::JobFault;
 use std::alloc::{Allocator, Global};
+use tx_change::first_difference;
 use tx_commands::{Command, Files};
 use tx_lint::read_text;
 use tx_plantext::read_plan;
 use tx_revise::revise;
 use tx_text::{Sink, SliceSource, Source};
 
-/// What a command came to, and the text of the plan that it makes, if that goes into a file.
+/// What a command came to, and the revised text of the plan that it made, if that goes into a file
+/// and is of the network of the text.
 #[derive(Debug, Drop)]
 pub struct Outcome<A: Allocator = Global> {
     pub done: Done<A>,
@@ -34,20 +36,28 @@ impl<A: Allocator> Outcome<A> {
     pub fn contents(&self) -> [Option<Content<'_, A>>; 3]
         ensures { map (option_map content_text) result ≡ outcome_texts self.now }
     {
-        let text = match &self.text {
-            Some(text) => Some(Content::Text(text.as_slice())),
-            None => None,
-        };
         let [cert, script] = self.done.contents();
-        [text, cert, script]
+        [self.plan_content(), cert, script]
+    }
+
+    /// The text of the plan that was made: the revised one that is kept, or that of the plan as it
+    /// is written.
+    fn plan_content(&self) -> Option<Content<'_, A>>
+        ensures { option_map content_text result ≡ plan_text self.now }
+    {
+        match &self.text {
+            Some(text) => Some(Content::Text(text.as_slice())),
+            None => Some(Content::Plan(self.done.plan()?)),
+        }
     }
 }
 
 /// Does the job of a command, as `do_job` does. Where the plan that it makes goes into a file, the
-/// text of its first plan is read to its end first, and revised for the plan that was made.
+/// text of its first plan is read to its end first, and revised for the plan that was made if both
+/// are of one network.
 ///
-/// `Err` is the fault of the first call that failed. Where there is no memory for the revised text,
-/// the job was done, and what it prints was written.
+/// `Err` is the fault of the first call that failed, and then there is nothing for any file. Where
+/// there is no memory for the revised text, the job was done, and all that it prints was written.
 pub fn do_command<A: Allocator + Copy, P: Source, Q: Source, R: Source, W: Sink>(
     alloc: A,
     command: &Command,
@@ -99,22 +109,23 @@ fn do_over_text<A: Allocator + Copy, Q: Source, R: Source, W: Sink>(
     Ok(Outcome { done, text })
 }
 
-/// The text of a plan, revised for the plan that a command made of it, if it made one.
+/// The text of a plan, revised for the plan that a command made, if it made one of the same network.
 fn revision<A: Allocator + Copy>(
     alloc: A,
     text: &[u8],
     done: &Done<A>,
 ) -> Result<Option<Vec<u8, A>>, JobFault>
-    requires { IfSome (plan_made done.now) (IsOfNetwork text.now) }
+    requires { IfSome (plan_made done.now) (IsOfText text.now) }
     ensures ok { IfOk result (λ t.
-        HasRevision text.now (plan_made done.now) (option_map (λ v. v.items) t)) }
+        HasText text.now (plan_made done.now) (kept_text t (plan_made done.now))) }
     ensures err { IfErr result (λ fault. fault ≡ JobFault.NoMemory) }
 {
-    match done.plan() {
-        Some(plan) => {
-            let old = read_plan(alloc, text)?;
-            Ok(Some(revise(alloc, text, &old, plan)?))
-        }
-        None => Ok(None),
+    let Some(plan) = done.plan() else {
+        return Ok(None);
+    };
+    let old = read_plan(alloc, text)?;
+    match first_difference(&old, plan) {
+        None => Ok(Some(revise(alloc, text, &old, plan)?)),
+        Some(_) => Ok(None),
     }
 }
