@@ -1,4 +1,5 @@
 mod RefusedTexts
+mod JoinedPlans
 mod Piping
 mod Breaking
 mod CheckedRun
@@ -8,6 +9,7 @@ mod Outcomes
 mod Evidenced
 mod ChangeTold
 mod ChangeEvidenced
+mod OrderTold
 mod Grading
 mod LintTold
 mod Surviving

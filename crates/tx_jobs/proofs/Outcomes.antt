@@ -1,5 +1,5 @@
 -- The plan that a command makes of the plan of a text, and that text, revised for it.
-use Rattle.std.proofs.Common.{◌≡◌, ◌∙◌, ◌×◌, ◌⊎◌, ℕ, Bool, true, false, List, Option, None, Some, Result, Ok, Err, inl, inr, refl, sym, ap, slice_get, subst}
+use Rattle.std.proofs.Common.{◌≡◌, ◌∙◌, ◌×◌, ◌⊎◌, ◌++◌, ℕ, Bool, true, false, List, [], append-nil, Vec, Option, None, Some, Result, Ok, Err, inl, inr, refl, sym, ap, slice_get, subst}
 use Rattle.std.specs.Option.{IfSome}
 use Rattle.tx_text.specs.declared.frame.FrameFault.TheVariants.{LineTooLong, BadByte, NoMemory as TextNoMemory, Read as LineRead, NoHeader, NoEnd, AfterEnd}
 use Rattle.tx_text.specs.declared.frame.FaultAt.{FaultAt}
@@ -13,6 +13,7 @@ use Rattle.tx_text.proofs.SliceAnswers.{slice_answered}
 use Rattle.tx_plan.specs.declared.refusal.PlanRefusal.{PlanRefusal}
 use Rattle.tx_plan.specs.declared.refusal.PlanRefusal.TheVariants.{WrongCount, BadName, BadCode, BadNumber, Duplicate, Unknown, RangeOrder, Overlap, SameEnds, NotOutgoing, RepeatedGroup, RouteAtHome, TooMany, BarAtHome, NoMemory as PlanNoMemory}
 use Rattle.tx_plan.specs.Plan.{Plan}
+use Rattle.tx_plan.specs.Rules.{IsPlan}
 use Rattle.tx_plan.specs.Mixtures.{SameNetwork, IsMixture}
 use Rattle.tx_plantext.specs.declared.fault.PlanWord.{PlanWord}
 use Rattle.tx_plantext.specs.declared.fault.PlanWord.TheVariants.{UnknownWord, Refused}
@@ -25,20 +26,25 @@ use Rattle.tx_change.specs.declared.difference.NetworkList.{NetworkList}
 use Rattle.tx_change.specs.declared.difference.NetworkList.TheVariants.{Exchanges, Codes, Ranges, Groups}
 use Rattle.tx_change.specs.declared.difference.Difference.{Difference}
 use Rattle.tx_change.specs.Difference.{SameAt, DifferenceAnswer}
+use Rattle.tx_change.specs.declared.judging.ChangeVerdict.{ChangeVerdict}
+use Rattle.tx_change.specs.declared.judging.ChangeVerdict.TheVariants.{Sound as IsSound, Unsound as IsUnsound, NewUnsound as IsNewUnsound}
+use Rattle.tx_join.specs.Joined.{joined_old, joined_new}
+use Rattle.tx_lint.specs.Lints.{IsWholeText}
+use Rattle.tx_rank.specs.declared.finding.Finding.{Finding}
 use Rattle.tx_mend.specs.Routings.{IsRouting}
 use Rattle.tx_mend.specs.declared.mending.Mending.{Mending}
 use Rattle.tx_mend.specs.declared.mending.Mending.TheVariants.{Mended as IsMended, NoRouting}
 use Rattle.tx_order.specs.declared.staged.Staged.{Staged}
 use Rattle.tx_order.specs.declared.staged.Staged.TheVariants.{Ordered as IsOrdered, NoOrder}
-use Rattle.tx_order.specs.declared.switching.Switching.{Switching}
-use Rattle.tx_order.specs.declared.switching.Switching.TheVariants.{Ordered as FoundOrdered, NoOrder as FoundNoOrder}
-use Rattle.tx_order.specs.Switchings.{IsRightSwitching}
+use Rattle.tx_order.specs.declared.judging.OrderVerdict.{OrderVerdict}
+use Rattle.tx_order.specs.declared.judging.OrderVerdict.TheVariants.{Ordered as FoundOrdered, NoOrder as FoundNoOrder, NewUnsound as FoundNewUnsafe}
+use Rattle.tx_order.specs.OrderVerdicts.{IsRightVerdict}
 use Rattle.tx_order.specs.OrderTold.{IsStagedOf, IsOrderTold}
 use Rattle.tx_order.specs.declared.order_fault.OrderFault.{OrderFault}
 use Rattle.tx_commands.specs.declared.command.Command.{Command}
 use Rattle.tx_commands.specs.declared.command.Command.TheVariants.{Pipe, Run, RunTelling, Check, Lint, Codes, Audit, Change, Order, Mend, Survive, Grade, Trace, TraceGroup, Fill, Draw, Explain}
 use Rattle.tx_jobs.specs.declared.change.Changed.{Changed}
-use Rattle.tx_jobs.specs.declared.change.Changed.TheVariants.{Sound as FoundSound, Unsound as FoundUnsound}
+use Rattle.tx_jobs.specs.declared.change.Changed.TheVariants.{Sound as FoundSound, Unsound as FoundUnsound, NewUnsound as FoundNewUnsound}
 use Rattle.tx_jobs.specs.declared.mixture.ChangeEvidence.{ChangeEvidence}
 use Rattle.tx_jobs.specs.declared.mixture.ChangeEvidence.TheVariants.{Sound as SoundChange, Unsound as UnsoundChange}
 use Rattle.tx_jobs.specs.declared.mixture.Mixture.{Mixture}
@@ -48,7 +54,8 @@ use Rattle.tx_jobs.specs.declared.done.Done.{Done}
 use Rattle.tx_jobs.specs.declared.done.Done.TheVariants.{Ran, Told, Checked, Verified, Listed, Linted, Audited, Changed as ChangedInto, Ordered, Mended, Graded, Survived, Filled, Written}
 use Rattle.tx_jobs.specs.JobFaults.{plan_fault, plan_fault_by}
 use Rattle.tx_jobs.specs.ChangeEvidences.{ChangeEvidenceAnswers, TellsChangeEvidence, ShowsWalk, mixture_plan}
-use Rattle.tx_jobs.specs.ChangeJobs.{ChangeJobAnswers}
+use Rattle.tx_jobs.specs.ChangeJobs.{ChangeJobAnswers, IsVerdictOf}
+use Rattle.tx_jobs.specs.TwoPlans.{SaysWhole}
 use Rattle.tx_jobs.specs.MendJobs.{MendJobAnswers}
 use Rattle.tx_jobs.specs.OrderJobs.{OrderJobAnswers, told_order}
 use Rattle.tx_jobs.specs.Done.{Does, IsDone, told_done, plan_made, written}
@@ -127,6 +134,12 @@ for_memory text made wanted f h a = for_memory_by h.old wanted f f.line f.kind (
 mixed_says : (text : List ℕ) (old p q m : Plan) → plan_of AtEnd text ≡ Ok old → IsMixture p q m → IsOfText text m
 mixed_says text old p q m read h = record { old = old; read = read; rules = h.rules }
 
+-- a new plan as it is
+new_is : {A : Type 0} (p q r : Plan) (findings : Vec (Finding A) A) (verdict : ChangeVerdict A) → IsVerdictOf p q verdict (FoundNewUnsound r findings) → r ≡ q
+new_is p q r findings (IsSound cert) h = absurd (let z : ⊥ = cc in z)
+new_is p q r findings (IsUnsound fs) h = absurd (let z : ⊥ = cc in z)
+new_is p q r findings (IsNewUnsound fs) h = cc
+
 module _ (text left : List ℕ) (second third : Input) (out : Output) {A : Type 0} where
   abbrev first : Input
   first = input (λ (bytes : List ℕ). Some bytes) (λ _. false) slice_called text left
@@ -137,6 +150,16 @@ module _ (text left : List ℕ) (second third : Input) (out : Output) {A : Type 
 
   said_whole : (p : Plan) → SaysPlan first p → plan_of AtEnd text ≡ Ok p
   said_whole p h = slice_answered is_memory text (Some left) plan_of ⊥ (Unit {0}) (λ n. ⊥) (λ n. ⊥) (λ z. z) (λ n z. z) (Ok p) h
+
+  -- a text that was read to its end
+  whole_read : (t : List ℕ) → IsWholeText (Some text) (Some left) t → t ≡ text
+  whole_read t h =
+      let none : left ≡ [] = let e = h.ends in cc in
+      let all : text ≡ t ++ left = let e = h.moves in cc in
+      sym (all ∙ ap (λ l. t ++ l) none ∙ append-nil t)
+
+  joined_says : (p : Plan) (t : List ℕ) → SaysWhole first t p → plan_of AtEnd text ≡ Ok p
+  joined_says p t h = subst (λ (l : List ℕ). plan_of AtEnd l ≡ Ok p) (whole_read t h.whole) h.says
 
   mended_says : (p q : Plan) → plan_of AtEnd text ≡ Ok p → IsRouting p q → IsOfText text q
   mended_says p q read h = record { old = p; read = read; rules = h.plan }
@@ -149,14 +172,17 @@ module _ (text left : List ℕ) (second third : Input) (out : Output) {A : Type 
   -- the mixture of a change
   change_makes_by : (with_mixture : Bool) (limit spare : ℕ) (answer : Result (Changed A) JobFault) (m : Mixture A) → ChangeJobAnswers limit spare first second out answer
       → TellsChangeEvidence with_mixture limit spare answer (Ok (UnsoundChange (Some m))) → IsOfText text (mixture_plan m)
-  change_makes_by true limit spare (Ok (FoundUnsound p q findings)) m (inl h) t = elim h.goes_on as (λ _. IsOfText text (mixture_plan m)) [
-    | inl k ↦
-        let shows = t.2 in
-        mixed_says text h.plan p q (mixture_plan m) (said_whole h.plan h.read) (subst (IsMixture p q) (sym shows.plan) shows.shown.0)
-    | inr k ↦ absurd (let e = k.told in let z : ⊥ = cc in z)
-  ]
-  change_makes_by true limit spare (Ok (FoundUnsound p q findings)) m (inr h) t = absurd (let e = h.told in let z : ⊥ = cc in z)
+  change_makes_by true limit spare (Ok (FoundUnsound p q findings)) m (inl h) t =
+      let shows = t.2 in
+      mixed_says text h.old_plan p q (mixture_plan m) (joined_says h.old_plan h.old_text h.old_says) (subst (IsMixture p q) (sym shows.plan) shows.shown.0)
+  change_makes_by true limit spare (Ok (FoundNewUnsound q findings)) m (inl h) t =
+      let told = h.goes_on in
+      let is : mixture_plan m ≡ h.new_plan = t.plan ∙ new_is h.old_plan h.new_plan q findings told.verdict told.answer in
+      record { old = h.old_plan; read = joined_says h.old_plan h.old_text h.old_says; rules = subst IsPlan (sym is) h.new_says.rules }
+  change_makes_by true limit spare (Ok (FoundUnsound p q findings)) m (inr h) t = absurd h
+  change_makes_by true limit spare (Ok (FoundNewUnsound q findings)) m (inr h) t = absurd h
   change_makes_by false limit spare (Ok (FoundUnsound p q findings)) m h t = absurd (let z : ⊥ = cc in z)
+  change_makes_by false limit spare (Ok (FoundNewUnsound q findings)) m h t = absurd (let z : ⊥ = cc in z)
   change_makes_by with_mixture limit spare (Ok (FoundSound p cert)) m h t = absurd (let z : ⊥ = cc in z)
   change_makes_by with_mixture limit spare (Err f) m h t = absurd (let z : ⊥ = cc in z)
 
@@ -166,31 +192,27 @@ module _ (text left : List ℕ) (second third : Input) (out : Output) {A : Type 
   change_makes with_mixture limit spare (UnsoundChange (Some m)) h = change_makes_by with_mixture limit spare h.0 m h.1 h.2
 
   -- the plan after a stage of an order
-  stage_makes : (p q : Plan) → plan_of AtEnd text ≡ Ok p → (stage : Option ℕ) (limit spare : ℕ) (switching : Switching A) (staged : Staged A)
-      → IsRightSwitching p q limit spare switching → IsStagedOf stage switching staged → IsMadeOfIt (Ordered staged)
-  stage_makes p q read stage limit spare switching NoOrder right h = tt
-  stage_makes p q read stage limit spare switching (IsOrdered None) right h = tt
-  stage_makes p q read (Some n) limit spare (FoundOrdered o) (IsOrdered (Some (m, cert))) right h =
-      mixed_says text p p q m read (subst (IsMixture p q) (sym h.1) (right.order.mixtures n))
-  stage_makes p q read None limit spare (FoundOrdered o) (IsOrdered (Some (m, cert))) right h = absurd h
-  stage_makes p q read stage limit spare (FoundNoOrder r before after) (IsOrdered (Some (m, cert))) right h = absurd h
+  stage_makes : (old p q new : Plan) → plan_of AtEnd text ≡ Ok old → (stage : Option ℕ) (limit spare : ℕ) (verdict : OrderVerdict A) (staged : Staged A)
+      → IsRightVerdict p q new limit spare verdict → IsStagedOf stage verdict staged → IsMadeOfIt (Ordered staged)
+  stage_makes old p q new read stage limit spare verdict NoOrder right h = tt
+  stage_makes old p q new read stage limit spare verdict (IsOrdered None) right h = tt
+  stage_makes old p q new read (Some n) limit spare (FoundOrdered o) (IsOrdered (Some (m, cert))) right h =
+      mixed_says text old p q m read (subst (IsMixture p q) (sym h.1) (right.0.order.mixtures n))
+  stage_makes old p q new read None limit spare (FoundOrdered o) (IsOrdered (Some (m, cert))) right h = absurd h
+  stage_makes old p q new read stage limit spare (FoundNoOrder r before after) (IsOrdered (Some (m, cert))) right h = absurd h
+  stage_makes old p q new read stage limit spare (FoundNewUnsafe findings) (IsOrdered (Some (m, cert))) right h = absurd h
 
-  order_told : (p q : Plan) → plan_of AtEnd text ≡ Ok p → (stage : Option ℕ) (limit spare : ℕ) (staged : Staged A) (answer : Result (Staged A) OrderFault)
-      → IsOrderTold p q stage limit spare out answer → Ok staged ≡ told_order answer → IsMadeOfIt (Ordered staged)
-  order_told p q read stage limit spare staged (Ok found) h e =
+  order_told : (old new p q : Plan) → plan_of AtEnd text ≡ Ok old → (stage : Option ℕ) (limit spare : ℕ) (staged : Staged A) (answer : Result (Staged A) OrderFault)
+      → IsOrderTold old new p q stage limit spare out answer → Ok staged ≡ told_order answer → IsMadeOfIt (Ordered staged)
+  order_told old new p q read stage limit spare staged (Ok found) h e =
       let same : found ≡ staged = cc in
-      subst (λ s. IsMadeOfIt (Ordered s)) same (stage_makes p q read stage limit spare h.switching found h.right h.staged_of)
-  order_told p q read stage limit spare staged (Err f) h e = absurd (let z : ⊥ = cc in z)
+      subst (λ s. IsMadeOfIt (Ordered s)) same (stage_makes old p q new read stage limit spare h.verdict found h.right h.staged_of)
+  order_told old new p q read stage limit spare staged (Err f) h e = absurd (let z : ⊥ = cc in z)
 
   order_makes : (stage : Option ℕ) (limit spare : ℕ) (staged : Staged A) → OrderJobAnswers stage limit spare first second out (Ok staged) → IsMadeOfIt (Ordered staged)
-  order_makes stage limit spare staged (inl h) = elim h.goes_on as (λ _. IsMadeOfIt (Ordered staged)) [
-    | inl k ↦ elim k.goes_on as (λ _. IsMadeOfIt (Ordered staged)) [
-      | inl r ↦ order_told h.plan k.plan (said_whole h.plan h.read) stage limit spare staged r.answer r.told r.same
-      | inr r ↦ absurd (let e = r.same in let z : ⊥ = cc in z)
-    ]
-    | inr k ↦ absurd (let e = k.told in let z : ⊥ = cc in z)
-  ]
-  order_makes stage limit spare staged (inr h) = absurd (let e = h.told in let z : ⊥ = cc in z)
+  order_makes stage limit spare staged (inl h) =
+      order_told h.old_plan h.new_plan (joined_old h.old_plan h.new_plan) (joined_new h.old_plan h.new_plan) (joined_says h.old_plan h.old_text h.old_says) stage limit spare staged h.goes_on.answer h.goes_on.told h.goes_on.same
+  order_makes stage limit spare staged (inr h) = absurd h
 
   -- ---- ALL COMMANDS
 

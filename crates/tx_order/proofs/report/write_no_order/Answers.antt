@@ -1,11 +1,10 @@
 use Rattle.std.proofs.Common.{◌≡◌, ◌+◌, ◌++◌, List, length, sym}
 use Rattle.std.specs.Prelude.{codes}
-use Rattle.std.specs.List.{flat_map}
 use Rattle.tx_text.proofs.Wrote.{wrote_then, wrote_first, text_is}
 use Rattle.tx_plan.specs.Plan.{Plan}
 use Rattle.tx_rank.specs.declared.finding.Finding.{Finding}
 use Rattle.tx_rank.specs.Report.{findings_of, no_line}
-use Rattle.tx_order.specs.OrderText.{finding_of, no_order_text}
+use Rattle.tx_order.specs.OrderText.{findings_after, no_order_text}
 use Rattle.tx_order.proofs.report.write_no_order.Goals as goal
 
 -- the text of findings is that of lists that are the same
@@ -18,7 +17,7 @@ returns-in_err-write_findings g c =
     let xs = c.findings-before.result.now in
     let ys = c.findings-after.result.now in
     text_is _ _ _ _ _ _ _ (same_text p (findings_of c.args.before.now) (findings_of c.args.after.now) xs ys c.findings-before.ensures c.findings-after.ensures)
-    (wrote_first _ _ _ _ (flat_map (finding_of p (codes "OLD ")) xs) (flat_map (finding_of p (codes "NEW ")) ys ++ no_line (length xs + length ys)) _ c.in_err-write_findings.field-0.0 c.in_err-write_findings.ensures c.from_residual.ensures.0)
+    (wrote_first _ _ _ _ (findings_after (codes "OLD ") p xs) (findings_after (codes "NEW ") p ys ++ no_line (length xs + length ys)) _ c.in_err-write_findings.field-0.0 c.in_err-write_findings.ensures c.from_residual.ensures.0)
 
 pub returns-in_err-write_findings-2 : goal.returns-in_err-write_findings-2
 returns-in_err-write_findings-2 g c =
@@ -26,8 +25,8 @@ returns-in_err-write_findings-2 g c =
     let xs = c.findings-before.result.now in
     let ys = c.findings-after.result.now in
     text_is _ _ _ _ _ _ _ (same_text p (findings_of c.args.before.now) (findings_of c.args.after.now) xs ys c.findings-before.ensures c.findings-after.ensures)
-    (wrote_then _ _ _ _ _ _ (flat_map (finding_of p (codes "OLD ")) xs) (flat_map (finding_of p (codes "NEW ")) ys ++ no_line (length xs + length ys)) _ c.in_ok-write_findings.ensures
-    (wrote_first _ _ _ _ (flat_map (finding_of p (codes "NEW ")) ys) (no_line (length xs + length ys)) _ c.in_err-write_findings-2.field-0.0 c.in_err-write_findings-2.ensures c.from_residual-in_err-write_findings-2.ensures.0))
+    (wrote_then _ _ _ _ _ _ (findings_after (codes "OLD ") p xs) (findings_after (codes "NEW ") p ys ++ no_line (length xs + length ys)) _ c.in_ok-write_findings.ensures
+    (wrote_first _ _ _ _ (findings_after (codes "NEW ") p ys) (no_line (length xs + length ys)) _ c.in_err-write_findings-2.field-0.0 c.in_err-write_findings-2.ensures c.from_residual-in_err-write_findings-2.ensures.0))
 
 pub returns : goal.returns
 returns g c =
@@ -35,5 +34,5 @@ returns g c =
     let xs = c.findings-before.result.now in
     let ys = c.findings-after.result.now in
     text_is _ _ _ _ _ _ _ (same_text p (findings_of c.args.before.now) (findings_of c.args.after.now) xs ys c.findings-before.ensures c.findings-after.ensures)
-    (wrote_then _ _ _ _ _ _ (flat_map (finding_of p (codes "OLD ")) xs) (flat_map (finding_of p (codes "NEW ")) ys ++ no_line (length xs + length ys)) _ c.in_ok-write_findings.ensures
-    (wrote_then _ _ _ _ _ _ (flat_map (finding_of p (codes "NEW ")) ys) (no_line (length xs + length ys)) _ c.in_ok-write_findings-2.ensures c.write_no.ensures))
+    (wrote_then _ _ _ _ _ _ (findings_after (codes "OLD ") p xs) (findings_after (codes "NEW ") p ys ++ no_line (length xs + length ys)) _ c.in_ok-write_findings.ensures
+    (wrote_then _ _ _ _ _ _ (findings_after (codes "NEW ") p ys) (no_line (length xs + length ys)) _ c.in_ok-write_findings-2.ensures c.write_no.ensures))
