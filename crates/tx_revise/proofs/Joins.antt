@@ -1,6 +1,6 @@
 -- Lines that are joined by LFs, and cut at them again.
 use Rattle.std.proofs.Common.{◌≡◌, ℕ, zero, suc, ◌+◌, ◌-◌, ◌<◌, ◌≤◌, ◌==◌, Bool, true, false, cond, None, List, [], ◌∷◌, ◌++◌, length, get_or, take, drop, add-one, refl, sym, ap, ◌∙◌, subst, append_assoc, append-nil, arith}
-use Rattle.std.specs.List.{All, AllByRecursion, slice_split, list_all, join_with_byte, position_or_len, before_first, after_first}
+use Rattle.std.specs.List.{All, AllByRecursion, slice_split, join_with_byte, position_or_len, before_first, after_first}
 use Rattle.std.proofs.lemmas.Bool.{eqb-true}
 use Rattle.std.proofs.lemmas.Bool.Decides.{nat_tests}
 use Rattle.std.proofs.lemmas.List.{take_all, length-append, length-drop}
@@ -10,8 +10,8 @@ use Rattle.std.proofs.lemmas.List.Sums.{AllPass-from_list_all, fails_before_firs
 use Rattle.tx_text.specs.Text.{is_lf, is_text_byte, without_cr, bytes_fault}
 use Rattle.tx_plan.specs.Plan.{Plan}
 use Rattle.tx_revise.specs.Lines.{words_in, ended}
-use Rattle.tx_revise.proofs.Tails.{IsRight, right_from}
-use Rattle.tx_revise.proofs.Parts.{Says, Starts, Ends, Line, Goes, at_end, goes_on, Before}
+use Rattle.tx_revise.proofs.Tails.{right_from}
+use Rattle.tx_revise.proofs.Parts.{Says, Starts, Ends, Line, at_end, goes_on, Before}
 
 abbrev pub HasNoLf : List ℕ → Type 0
 HasNoLf bytes = All (λ b. is_lf b ≡ false) bytes

@@ -1,10 +1,10 @@
 -- A revised text says the new plan.
-use Rattle.std.proofs.Common.{◌≡◌, ℕ, ◌+◌, ◌<◌, ◌==◌, Bool, true, false, ◌&&◌, ◌||◌, nat_lt, cond, List, [], ◌∷◌, ◌++◌, map, filter, length, Option, None, Some, Result, Ok, codes, refl, sym, ap, ◌∙◌, subst, append_assoc, append-nil, arith}
+use Rattle.std.proofs.Common.{◌≡◌, ℕ, ◌+◌, ◌==◌, Bool, true, false, ◌&&◌, ◌||◌, nat_lt, cond, List, [], ◌∷◌, ◌++◌, map, filter, length, None, Some, Ok, codes, refl, sym, ap, ◌∙◌, subst, append_assoc, arith}
 use Rattle.std.specs.Prelude.{find}
 use Rattle.std.specs.Option.{option_map_or}
 use Rattle.std.specs.List.{AllByRecursion, list_all, list_any, slice_split, join_with_byte}
 use Rattle.std.specs.Str.{bytes_eq}
-use Rattle.std.proofs.lemmas.Bool.{lt-ltb, ne_eqb, eqb-true, eq-eqb, and_parts, and_from, or_left, or_right, true≢false}
+use Rattle.std.proofs.lemmas.Bool.{lt-ltb, ne_eqb, eq-eqb, and_from, or_left, or_right, true≢false}
 use Rattle.std.proofs.lemmas.Slice.Eq.{bytes_eq-Decides}
 use Rattle.tx_text.specs.Frame.{is_end, version_of}
 use Rattle.tx_text.specs.Text.{is_lf, lines_from, without_cr, bytes_fault}
@@ -15,22 +15,21 @@ use Rattle.tx_text.proofs.WrittenWords.{line_of_short, fixed_word}
 use Rattle.tx_plan.specs.declared.ids.Pair.{Pair}
 use Rattle.tx_plan.specs.Plan.{Plan, Route, no_plan}
 use Rattle.tx_plan.specs.Rules.{IsPlan, IsRoute, IsBar}
-use Rattle.tx_plan.specs.Routes.{route_list, is_barred}
 use Rattle.tx_plan.specs.Circuits.{may_seize}
 use Rattle.tx_plan.specs.Mixtures.{SameNetwork}
 use Rattle.tx_plan.specs.Declaring.{with_route}
 use Rattle.tx_plan.proofs.Growing.{seizes_within}
-use Rattle.tx_plantext.specs.PlanText.{declare, plan_of}
+use Rattle.tx_plantext.specs.PlanText.{plan_of}
 use Rattle.tx_plantext.specs.PlanWritten.{has_bars, head_of}
 use Rattle.tx_plantext.proofs.Indexes.{all_weaker}
-use Rattle.tx_revise.specs.Lines.{words_in, cr_of, respelled}
-use Rattle.tx_revise.specs.Revised.{Reached, Turn, at_start, nothing, stands, then_turn, has, list_of, listed_at, is_at, each, each_bar, end_turn, route_turn, bar_turn, header_turn, turn, turn_by, lines_of, first_cr, revised}
+use Rattle.tx_revise.specs.Lines.{words_in, respelled}
+use Rattle.tx_revise.specs.Revised.{Reached, Turn, at_start, stands, then_turn, has, list_of, listed_at, is_at, each, each_bar, end_turn, route_turn, bar_turn, header_turn, turn, turn_by, lines_of, first_cr, revised}
 use Rattle.tx_revise.specs.Laws.{SaysAs, RevisedTextsSayThePlan}
 use Rattle.tx_revise.proofs.Tails.{IsLine, Spells, alone, below, IsSpelled, IsCr, no_byte, is_cr, right_from, no_cr, respelled_spells}
-use Rattle.tx_revise.proofs.Parts.{header, Says, Ends, Starts, Line, Goes, at_end, goes_on, Heads, Before, starts_from, starts_read}
+use Rattle.tx_revise.proofs.Parts.{header, Says, Ends, Starts, Line, at_end, goes_on, Before, starts_from, starts_read}
 use Rattle.tx_revise.proofs.LineKinds.{Kind, exchange, code, range, group, route, bar, kind_of, Begins, begins_itself, IsFront, front_of}
-use Rattle.tx_revise.proofs.Rows.{spelled_of, list_is_route, route_for}
-use Rattle.tx_revise.proofs.Carrying.{IsSame, so_far, IsReached, Leads, Carries, blank_leads, then_carries, each_carries, each_bar_carries, IsBarHere, route_carries, nothing_carries}
+use Rattle.tx_revise.proofs.Rows.{spelled_of, list_is_route}
+use Rattle.tx_revise.proofs.Carrying.{IsSame, so_far, IsReached, Leads, Carries, then_carries, each_carries, each_bar_carries, IsBarHere, route_carries}
 use Rattle.tx_revise.proofs.OldLines.{blank_carries, exchange_carries, code_carries, range_carries, group_carries, bar_carries}
 use Rattle.tx_revise.proofs.AtEnd.{IsReady, each_stands, bars_stand, bars_written, lists_same, bars_same}
 use Rattle.tx_revise.proofs.Joins.{cut_joined, starts_no_lf}
