@@ -33,6 +33,7 @@ use Rattle.tx_revise.proofs.Carrying.{IsSame, so_far, IsReached, Leads, Carries,
 use Rattle.tx_revise.proofs.OldLines.{blank_carries, exchange_carries, code_carries, range_carries, group_carries, bar_carries}
 use Rattle.tx_revise.proofs.AtEnd.{IsReady, each_stands, bars_stand, bars_written, lists_same, bars_same}
 use Rattle.tx_revise.proofs.Joins.{cut_joined, starts_no_lf}
+use Rattle.tx_revise.proofs.Steps.{lines_cons, lines_none}
 
 -- the one word END
 end_is : (ws : List (List ℕ)) → is_end ws ≡ true → ws ≡ codes "END" ∷ []
@@ -92,27 +93,19 @@ along b e = record { more = b.more; is = sym e ∙ b.is }
 module _ (r q : Plan) (hq : IsPlan q) (net : SameNetwork r q) (cr : List ℕ) (cr_is : IsCr cr) where
   -- ---- WHAT STANDS FOR LINES
 
-  lines_cons : (line : List ℕ) (lines : List (List ℕ)) (s : Reached) → lines_of q cr (line ∷ lines) s ≡ (turn q cr line s).lines ++ lines_of q cr lines (turn q cr line s).next
-  unfolding lines_of
-  lines_cons line lines s = refl
-
-  lines_none : (s : Reached) → lines_of q cr [] s ≡ []
-  unfolding lines_of
-  lines_none s = refl
-
   turn_is : (line : List ℕ) (s : Reached) (ws : List (List ℕ)) → words_in line ≡ ws → turn q cr line s ≡ turn_by q cr ws line s
   unfolding turn
   turn_is line s ws e = ap (λ w. turn_by q cr w line s) e
 
   lines_by : (line : List ℕ) (lines : List (List ℕ)) (s : Reached) (t : Turn) → turn q cr line s ≡ t → lines_of q cr (line ∷ lines) s ≡ t.lines ++ lines_of q cr lines t.next
-  lines_by line lines s t e = lines_cons line lines s ∙ ap (λ (u : Turn). u.lines ++ lines_of q cr lines u.next) e
+  lines_by line lines s t e = lines_cons q cr line lines s ∙ ap (λ (u : Turn). u.lines ++ lines_of q cr lines u.next) e
 
   -- lines behind END stand
   ended_stand : (parts : List (List ℕ)) (s : Reached) → Ends parts → lines_of q cr parts s ≡ parts
-  ended_stand [] s h = lines_none s
+  ended_stand [] s h = lines_none q cr s
   ended_stand (part ∷ []) s h =
       let e : words_in part ≡ [] = ap words_of (no_cr part (right_from part h.0).bytes) ∙ h.1 in
-      lines_by part [] s (stands part s) (turn_is part s [] e) ∙ ap (λ l. part ∷ l) (lines_none s)
+      lines_by part [] s (stands part s) (turn_is part s [] e) ∙ ap (λ l. part ∷ l) (lines_none q cr s)
   ended_stand (part ∷ next ∷ parts) s h =
       lines_by part (next ∷ parts) s (stands part s) (turn_is part s [] h.1) ∙ ap (λ l. part ∷ l) (ended_stand (next ∷ parts) s h.2)
 
@@ -253,7 +246,7 @@ module _ (r q : Plan) (hq : IsPlan q) (net : SameNetwork r q) (cr : List ℕ) (c
     lines_lead u (part ∷ []) p s h i =
         let e : words_in part ≡ codes "END" ∷ [] = ap words_of (no_cr part (right_from part h.0).bytes) ∙ end_is (words_of part) h.1 in
         subst (λ k. Leads v r q hq second (lines_of q cr (part ∷ []) s) k s) (sym h.2)
-        (end_leads s part [] e (subst (λ k. Reaches k s) h.2 i) (λ t. lines_none t) (λ k. (h.0, h.1, refl)))
+        (end_leads s part [] e (subst (λ k. Reaches k s) h.2 i) (λ t. lines_none q cr t) (λ k. (h.0, h.1, refl)))
     lines_lead u (part ∷ next ∷ parts) p s h i = worded (λ m t k j. lines_lead u (next ∷ parts) m t k j) (words_in part) refl h.1
       where
         worded : ((m : Plan) (t : Reached) → Says u r (next ∷ parts) m → Reaches m t → Leads v r q hq second (lines_of q cr (next ∷ parts) t) m t) → (ws : List (List ℕ)) → words_in part ≡ ws → Line u p r ws (Says u r (next ∷ parts)) (Ends (next ∷ parts)) → Leads v r q hq second (lines_of q cr (part ∷ next ∷ parts) s) p s

@@ -197,11 +197,11 @@ module _ (old plan : Plan) (cr text : List ℕ) (x c g l b : ℕ) (written barre
 -- ---- ALL LINES
 
 module _ (q : Plan) (cr : List ℕ) where
-  lines_cons : (line : List ℕ) (lines : List (List ℕ)) (s : Reached) → lines_of q cr (line ∷ lines) s ≡ (turn q cr line s).lines ++ lines_of q cr lines (turn q cr line s).next
+  pub lines_cons : (line : List ℕ) (lines : List (List ℕ)) (s : Reached) → lines_of q cr (line ∷ lines) s ≡ (turn q cr line s).lines ++ lines_of q cr lines (turn q cr line s).next
   unfolding lines_of
   lines_cons line lines s = refl
 
-  lines_none : (s : Reached) → lines_of q cr [] s ≡ []
+  pub lines_none : (s : Reached) → lines_of q cr [] s ≡ []
   unfolding lines_of
   lines_none s = refl
 

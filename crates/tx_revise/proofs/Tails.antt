@@ -148,7 +148,7 @@ last_at : (x : List ℕ) (b : ℕ) → get_or (x ++ b ∷ []) (length x) 0 ≡ b
 last_at [] b = refl
 last_at (c ∷ x) b = last_at x b
 
-take_at : (x : List ℕ) (b : ℕ) → take (length x) (x ++ b ∷ []) ≡ x
+pub take_at : (x : List ℕ) (b : ℕ) → take (length x) (x ++ b ∷ []) ≡ x
 take_at [] b = refl
 take_at (c ∷ x) b = ap (λ l. c ∷ l) (take_at x b)
 
