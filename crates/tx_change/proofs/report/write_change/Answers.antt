@@ -3,7 +3,7 @@ use Rattle.std.specs.Prelude.{codes}
 use Rattle.tx_text.proofs.Wrote.{wrote_then, wrote_first}
 use Rattle.tx_rank.specs.Report.{asked_line}
 use Rattle.tx_join.specs.Differences.{difference_text}
-use Rattle.tx_change.specs.ChangeReport.{findings_after, verdict_text}
+use Rattle.tx_change.specs.ChangeReport.{verdict_after, verdict_text}
 use Rattle.tx_change.proofs.report.write_change.Goals as goal
 
 pub returns-in_err-write_asked : goal.returns-in_err-write_asked
@@ -28,15 +28,15 @@ returns-in-Sound g c =
 pub returns-in-Unsound : goal.returns-in-Unsound
 returns-in-Unsound g c =
     let differ = difference_text c.args.old.now c.args.new.now in
-    let rest = findings_after [] c.args.joined.now.old c.deref.result.now in
+    let rest = verdict_after [] c.args.joined.now.old c.deref.result.now in
     rw (c.in-Unsound.is, ← c.deref.ensures.value)
     (wrote_then _ _ _ _ _ _ (asked_line (codes "CHANGE") c.args.limits.limit c.args.limits.spare) (differ ++ rest) _ c.in_ok-write_asked.ensures
-    (wrote_then _ _ _ _ _ _ differ rest _ c.in_ok-write_differences.ensures c.write_findings.ensures))
+    (wrote_then _ _ _ _ _ _ differ rest _ c.in_ok-write_differences.ensures c.write_verdict_after.ensures))
 
 pub returns-in-NewUnsound : goal.returns-in-NewUnsound
 returns-in-NewUnsound g c =
     let differ = difference_text c.args.old.now c.args.new.now in
-    let rest = findings_after (codes "NEW ") c.args.new.now c.deref-in-NewUnsound.result.now in
+    let rest = verdict_after (codes "NEW ") c.args.new.now c.deref-in-NewUnsound.result.now in
     rw (c.in-NewUnsound.is, ← c.deref-in-NewUnsound.ensures.value)
     (wrote_then _ _ _ _ _ _ (asked_line (codes "CHANGE") c.args.limits.limit c.args.limits.spare) (differ ++ rest) _ c.in_ok-write_asked.ensures
-    (wrote_then _ _ _ _ _ _ differ rest _ c.in_ok-write_differences.ensures c.write_findings-in-NewUnsound.ensures))
+    (wrote_then _ _ _ _ _ _ differ rest _ c.in_ok-write_differences.ensures c.write_verdict_after-in-NewUnsound.ensures))
