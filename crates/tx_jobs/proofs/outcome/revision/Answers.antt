@@ -1,4 +1,4 @@
-use Rattle.std.proofs.Common.{◌≡◌, Some, true, subst, sym}
+use Rattle.std.proofs.Common.{◌≡◌, true, refl, subst, sym}
 use Rattle.std.specs.Option.{IfSome}
 use Rattle.tx_text.specs.Told.{AtEnd}
 use Rattle.tx_text.proofs.Exits.{exits_with}
@@ -9,11 +9,11 @@ use Rattle.tx_jobs.proofs.Outcomes.{for_memory}
 use Rattle.tx_jobs.proofs.RefusedTexts.{refused}
 use Rattle.tx_jobs.proofs.outcome.revision.Goals as goal
 
-pub revised_for-requires-clause-said : goal.revised_for-requires-clause-said
-revised_for-requires-clause-said g c = c.in_ok-old.ensures
+pub revised_for-revised-requires-clause-said : goal.revised_for-revised-requires-clause-said
+revised_for-revised-requires-clause-said g c = c.in_ok-old.ensures
 
-pub revised_for-requires-clause-rules : goal.revised_for-requires-clause-rules
-revised_for-requires-clause-rules g c =
+pub revised_for-revised-requires-clause-rules : goal.revised_for-revised-requires-clause-rules
+revised_for-revised-requires-clause-rules g c =
     let of = subst (λ o. IfSome o (IsOfText c.args.text.now)) (sym c.in-Some.ensures) c.requires in
     of.rules
 
@@ -22,7 +22,7 @@ returns-clause-ok g c = rw (sym c.in-Some.ensures) c.in_ok-revised.ensures
 
 pub returns-in_err-revised-clause-err : goal.returns-in_err-revised-clause-err
 returns-in_err-revised-clause-err g c =
-    exits_with c.from_residual-in_err-revised.result NoMemory c.from_residual-in_err-revised.ensures.1
+    rw (exits_with c.from_residual-in_err-revised.result NoMemory c.from_residual-in_err-revised.ensures.1) refl
 
 pub returns-in_err-old-clause-err : goal.returns-in_err-old-clause-err
 returns-in_err-old-clause-err g c =
