@@ -109,8 +109,13 @@ fn do_over_text<A: Allocator + Copy, Q: Source, R: Source, W: Sink>(
 {
     let mut first = SliceSource::new(text);
     let done = do_job(alloc, command, &mut first, second, third, out)?;
-    let text = revision(alloc, text, &done)?;
-    Ok(Outcome { done, text })
+    match revision(alloc, text, &done) {
+        Ok(text) => Ok(Outcome { done, text }),
+        Err(fault) => {
+            drop(done);
+            Err(fault)
+        }
+    }
 }
 
 /// The text of a plan, revised for the plan that a command made, if it made one of the same network.
