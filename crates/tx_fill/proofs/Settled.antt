@@ -13,7 +13,6 @@ use Rattle.tx_machine.specs.declared.event.Event.{Event}
 use Rattle.tx_machine.specs.declared.event.Event.TheVariants.{Block}
 use Rattle.tx_machine.specs.declared.refusal.Refusal.{Refusal}
 use Rattle.tx_machine.specs.declared.reply.Reply.{Reply}
-use Rattle.tx_machine.specs.Ended.{Ended}
 use Rattle.tx_machine.specs.Refusals.{refusal}
 use Rattle.tx_machine.specs.State.{State, Net, opening}
 use Rattle.tx_machine.specs.Runs.{state_after}

@@ -1,5 +1,5 @@
 -- The plan that a command makes of the plan of a text, and that text, revised for it.
-use Rattle.std.proofs.Common.{◌≡◌, ◌∙◌, ◌×◌, ◌⊎◌, ◌++◌, ℕ, Bool, true, false, List, [], append-nil, Vec, Option, None, Some, Result, Ok, Err, inl, inr, refl, sym, ap, slice_get, subst}
+use Rattle.std.proofs.Common.{◌≡◌, ◌∙◌, ◌⊎◌, ℕ, Bool, true, false, List, Option, None, Some, Result, Ok, Err, inl, inr, refl, sym, ap, slice_get, subst, ◌++◌, [], append-nil, Vec}
 use Rattle.std.specs.Option.{IfSome}
 use Rattle.tx_text.specs.declared.frame.FrameFault.TheVariants.{LineTooLong, BadByte, NoMemory as TextNoMemory, Read as LineRead, NoHeader, NoEnd, AfterEnd}
 use Rattle.tx_text.specs.declared.frame.FaultAt.{FaultAt}
@@ -26,19 +26,11 @@ use Rattle.tx_change.specs.declared.difference.NetworkList.{NetworkList}
 use Rattle.tx_change.specs.declared.difference.NetworkList.TheVariants.{Exchanges, Codes, Ranges, Groups}
 use Rattle.tx_change.specs.declared.difference.Difference.{Difference}
 use Rattle.tx_change.specs.Difference.{SameAt, DifferenceAnswer}
-use Rattle.tx_change.specs.declared.judging.ChangeVerdict.{ChangeVerdict}
-use Rattle.tx_change.specs.declared.judging.ChangeVerdict.TheVariants.{Sound as IsSound, Unsound as IsUnsound, NewUnsound as IsNewUnsound}
-use Rattle.tx_join.specs.Joined.{joined_old, joined_new}
-use Rattle.tx_lint.specs.Lints.{IsWholeText}
-use Rattle.tx_rank.specs.declared.finding.Finding.{Finding}
 use Rattle.tx_mend.specs.Routings.{IsRouting}
 use Rattle.tx_mend.specs.declared.mending.Mending.{Mending}
 use Rattle.tx_mend.specs.declared.mending.Mending.TheVariants.{Mended as IsMended, NoRouting}
 use Rattle.tx_order.specs.declared.staged.Staged.{Staged}
 use Rattle.tx_order.specs.declared.staged.Staged.TheVariants.{Ordered as IsOrdered, NoOrder}
-use Rattle.tx_order.specs.declared.judging.OrderVerdict.{OrderVerdict}
-use Rattle.tx_order.specs.declared.judging.OrderVerdict.TheVariants.{Ordered as FoundOrdered, NoOrder as FoundNoOrder, NewUnsound as FoundNewUnsafe}
-use Rattle.tx_order.specs.OrderVerdicts.{IsRightVerdict}
 use Rattle.tx_order.specs.OrderTold.{IsStagedOf, IsOrderTold}
 use Rattle.tx_order.specs.declared.order_fault.OrderFault.{OrderFault}
 use Rattle.tx_commands.specs.declared.command.Command.{Command}
@@ -55,21 +47,29 @@ use Rattle.tx_jobs.specs.declared.done.Done.TheVariants.{Ran, Told, Checked, Ver
 use Rattle.tx_jobs.specs.JobFaults.{plan_fault, plan_fault_by}
 use Rattle.tx_jobs.specs.ChangeEvidences.{ChangeEvidenceAnswers, TellsChangeEvidence, ShowsWalk, mixture_plan}
 use Rattle.tx_jobs.specs.ChangeJobs.{ChangeJobAnswers, IsVerdictOf}
-use Rattle.tx_jobs.specs.TwoPlans.{SaysWhole}
 use Rattle.tx_jobs.specs.MendJobs.{MendJobAnswers}
 use Rattle.tx_jobs.specs.OrderJobs.{OrderJobAnswers, told_order}
 use Rattle.tx_jobs.specs.Done.{Does, IsDone, told_done, plan_made, written}
 use Rattle.tx_jobs.specs.Outcomes.{IsTextOfMade}
 use Rattle.tx_jobs.specs.inner.Revising.{IsOfText}
+use Rattle.tx_change.specs.declared.judging.ChangeVerdict.{ChangeVerdict}
+use Rattle.tx_change.specs.declared.judging.ChangeVerdict.TheVariants.{Sound as IsSound, Unsound as IsUnsound, NewUnsound as IsNewUnsound}
+use Rattle.tx_join.specs.Joined.{joined_old, joined_new}
+use Rattle.tx_lint.specs.Lints.{IsWholeText}
+use Rattle.tx_rank.specs.declared.finding.Finding.{Finding}
+use Rattle.tx_order.specs.declared.judging.OrderVerdict.{OrderVerdict}
+use Rattle.tx_order.specs.declared.judging.OrderVerdict.TheVariants.{Ordered as FoundOrdered, NoOrder as FoundNoOrder, NewUnsound as FoundNewUnsafe}
+use Rattle.tx_order.specs.OrderVerdicts.{IsRightVerdict}
+use Rattle.tx_jobs.specs.TwoPlans.{SaysWhole}
 
 -- the revised text is the text of a plan of its network
-pub revised_text : (text : List ℕ) (old made : Plan) (found : List ℕ) → IsOfText text made → plan_of AtEnd text ≡ Ok old → SameNetwork old made → found ≡ revised text old made → IsTextOfMade text made found
+pub revised_text : (text : List ℕ) (old made : Plan) (found : List ℕ) → IsPlan made → plan_of AtEnd text ≡ Ok old → SameNetwork old made → found ≡ revised text old made → IsTextOfMade text made found
 revised_text text old made found h read same is = record {
   old = old;
   read = read;
   of_one_network = λ _. is;
   of_another = λ apart. absurd (apart same);
-  says = rw is (revised_says text old made read h.rules same);
+  says = rw is (revised_says text old made read h same);
 }
 
 same_at : (list : NetworkList) (p q : Plan) (i : ℕ) → SameNetwork p q → SameAt list p q i
@@ -79,7 +79,7 @@ same_at Ranges p q i h = ap (λ xs. slice_get xs i) h.ranges
 same_at Groups p q i h = ap (λ xs. slice_get xs i) h.groups
 
 -- what is written for a plan of another network is its text
-pub written_text : (text : List ℕ) (old made : Plan) (d : Difference) → IsOfText text made → plan_of AtEnd text ≡ Ok old → DifferenceAnswer old made (Some d) → IsTextOfMade text made (plan_written made)
+pub written_text : (text : List ℕ) (old made : Plan) (d : Difference) → IsPlan made → plan_of AtEnd text ≡ Ok old → DifferenceAnswer old made (Some d) → IsTextOfMade text made (plan_written made)
 written_text text old made d h read differs =
     let apart : SameNetwork old made → ⊥ = λ same. differs.1.here (same_at d.list old made d.index same) in
     record {
@@ -89,8 +89,8 @@ written_text text old made d h read differs =
       of_another = λ _. refl;
       says = record {
         plan = made;
-        read = plan_back made h.rules;
-        rules = h.rules;
+        read = plan_back made h;
+        rules = h;
         network = record { exchanges = refl; codes = refl; ranges = refl; groups = refl };
         lists = λ x c. refl;
         bars = λ x c. refl;
@@ -140,13 +140,9 @@ new_is p q r findings (IsSound cert) h = absurd (let z : ⊥ = cc in z)
 new_is p q r findings (IsUnsound fs) h = absurd (let z : ⊥ = cc in z)
 new_is p q r findings (IsNewUnsound fs) h = cc
 
-module _ (text left : List ℕ) (second third : Input) (out : Output) {A : Type 0} where
+module _ (text left : List ℕ) (second third : Input) (out : Output) where
   abbrev first : Input
   first = input (λ (bytes : List ℕ). Some bytes) (λ _. false) slice_called text left
-
-  -- the text says a plan, and what a command makes is one
-  abbrev IsMadeOfIt : Done A → Type 0
-  IsMadeOfIt d = IfSome (plan_made d) (IsOfText text)
 
   said_whole : (p : Plan) → SaysPlan first p → plan_of AtEnd text ≡ Ok p
   said_whole p h = slice_answered is_memory text (Some left) plan_of ⊥ (Unit {0}) (λ n. ⊥) (λ n. ⊥) (λ z. z) (λ n z. z) (Ok p) h
@@ -164,85 +160,92 @@ module _ (text left : List ℕ) (second third : Input) (out : Output) {A : Type 
   mended_says : (p q : Plan) → plan_of AtEnd text ≡ Ok p → IsRouting p q → IsOfText text q
   mended_says p q read h = record { old = p; read = read; rules = h.plan }
 
-  mend_makes : (limit spare : ℕ) (m : Mending A) → MendJobAnswers limit spare first out (Ok m) → IsMadeOfIt (Mended m)
-  mend_makes limit spare (IsMended q before cert) (inl h) = mended_says h.plan q (said_whole h.plan h.read) h.goes_on.0.routing
-  mend_makes limit spare (IsMended q before cert) (inr h) = absurd (let e = h.told in let z : ⊥ = cc in z)
-  mend_makes limit spare (NoRouting q unserved pair) h = tt
+  module _ {A : Type 0} where
+    -- the text says a plan, and what a command makes is one
+    abbrev IsMadeOfIt : Done A → Type 0
+    IsMadeOfIt d = IfSome (plan_made d) (IsOfText text)
 
-  -- the mixture of a change
-  change_makes_by : (with_mixture : Bool) (limit spare : ℕ) (answer : Result (Changed A) JobFault) (m : Mixture A) → ChangeJobAnswers limit spare first second out answer
-      → TellsChangeEvidence with_mixture limit spare answer (Ok (UnsoundChange (Some m))) → IsOfText text (mixture_plan m)
-  change_makes_by true limit spare (Ok (FoundUnsound p q findings)) m (inl h) t =
-      let shows = t.2 in
-      mixed_says text h.old_plan p q (mixture_plan m) (joined_says h.old_plan h.old_text h.old_says) (subst (IsMixture p q) (sym shows.plan) shows.shown.0)
-  change_makes_by true limit spare (Ok (FoundNewUnsound q findings)) m (inl h) t =
-      let told = h.goes_on in
-      let is : mixture_plan m ≡ h.new_plan = t.plan ∙ new_is h.old_plan h.new_plan q findings told.verdict told.answer in
-      record { old = h.old_plan; read = joined_says h.old_plan h.old_text h.old_says; rules = subst IsPlan (sym is) h.new_says.rules }
-  change_makes_by true limit spare (Ok (FoundUnsound p q findings)) m (inr h) t = absurd h
-  change_makes_by true limit spare (Ok (FoundNewUnsound q findings)) m (inr h) t = absurd h
-  change_makes_by false limit spare (Ok (FoundUnsound p q findings)) m h t = absurd (let z : ⊥ = cc in z)
-  change_makes_by false limit spare (Ok (FoundNewUnsound q findings)) m h t = absurd (let z : ⊥ = cc in z)
-  change_makes_by with_mixture limit spare (Ok (FoundSound p cert)) m h t = absurd (let z : ⊥ = cc in z)
-  change_makes_by with_mixture limit spare (Err f) m h t = absurd (let z : ⊥ = cc in z)
+    mend_makes : (limit spare : ℕ) (m : Mending A) → MendJobAnswers limit spare first out (Ok m) → IsMadeOfIt (Mended m)
+    mend_makes limit spare (IsMended q before cert) (inl h) = mended_says h.plan q (said_whole h.plan h.read) h.goes_on.0.routing
+    mend_makes limit spare (IsMended q before cert) (inr h) = absurd (let e = h.told in let z : ⊥ = cc in z)
+    mend_makes limit spare (NoRouting q unserved missing pair) h = tt
 
-  change_makes : (with_mixture : Bool) (limit spare : ℕ) (e : ChangeEvidence A) → ChangeEvidenceAnswers with_mixture limit spare first second out (Ok e) → IsMadeOfIt (ChangedInto e)
-  change_makes with_mixture limit spare (SoundChange p cert) h = tt
-  change_makes with_mixture limit spare (UnsoundChange None) h = tt
-  change_makes with_mixture limit spare (UnsoundChange (Some m)) h = change_makes_by with_mixture limit spare h.0 m h.1 h.2
+    -- the mixture of a change
+    change_makes_by : (with_mixture : Bool) (limit spare : ℕ) (answer : Result (Changed A) JobFault) (m : Mixture A) → ChangeJobAnswers limit spare first second out answer
+        → TellsChangeEvidence with_mixture limit spare answer (Ok (UnsoundChange (Some m))) → IsOfText text (mixture_plan m)
+    change_makes_by true limit spare (Ok (FoundUnsound p q findings)) m (inl h) t =
+        let shows = t.2 in
+        mixed_says text h.old_plan p q (mixture_plan m) (joined_says h.old_plan h.old_text h.old_says) (subst (IsMixture p q) (sym shows.plan) shows.shown.0)
+    change_makes_by true limit spare (Ok (FoundNewUnsound q findings)) m (inl h) t =
+        let told = h.goes_on in
+        let is : mixture_plan m ≡ h.new_plan = t.plan ∙ new_is h.old_plan h.new_plan q findings told.verdict told.answer in
+        record { old = h.old_plan; read = joined_says h.old_plan h.old_text h.old_says; rules = subst IsPlan (sym is) h.new_says.rules }
+    change_makes_by true limit spare (Ok (FoundUnsound p q findings)) m (inr h) t = absurd h
+    change_makes_by true limit spare (Ok (FoundNewUnsound q findings)) m (inr h) t = absurd h
+    change_makes_by false limit spare (Ok (FoundUnsound p q findings)) m h t = absurd (let z : ⊥ = cc in z)
+    change_makes_by false limit spare (Ok (FoundNewUnsound q findings)) m h t = absurd (let z : ⊥ = cc in z)
+    change_makes_by with_mixture limit spare (Ok (FoundSound p cert)) m h t = absurd (let z : ⊥ = cc in z)
+    change_makes_by with_mixture limit spare (Err f) m h t = absurd (let z : ⊥ = cc in z)
 
-  -- the plan after a stage of an order
-  stage_makes : (old p q new : Plan) → plan_of AtEnd text ≡ Ok old → (stage : Option ℕ) (limit spare : ℕ) (verdict : OrderVerdict A) (staged : Staged A)
-      → IsRightVerdict p q new limit spare verdict → IsStagedOf stage verdict staged → IsMadeOfIt (Ordered staged)
-  stage_makes old p q new read stage limit spare verdict NoOrder right h = tt
-  stage_makes old p q new read stage limit spare verdict (IsOrdered None) right h = tt
-  stage_makes old p q new read (Some n) limit spare (FoundOrdered o) (IsOrdered (Some (m, cert))) right h =
-      mixed_says text old p q m read (subst (IsMixture p q) (sym h.1) (right.0.order.mixtures n))
-  stage_makes old p q new read None limit spare (FoundOrdered o) (IsOrdered (Some (m, cert))) right h = absurd h
-  stage_makes old p q new read stage limit spare (FoundNoOrder r before after) (IsOrdered (Some (m, cert))) right h = absurd h
-  stage_makes old p q new read stage limit spare (FoundNewUnsafe findings) (IsOrdered (Some (m, cert))) right h = absurd h
+    change_makes : (with_mixture : Bool) (limit spare : ℕ) (e : ChangeEvidence A) → ChangeEvidenceAnswers with_mixture limit spare first second out (Ok e) → IsMadeOfIt (ChangedInto e)
+    change_makes with_mixture limit spare (SoundChange p cert) h = tt
+    change_makes with_mixture limit spare (UnsoundChange None) h = tt
+    change_makes with_mixture limit spare (UnsoundChange (Some m)) h = change_makes_by with_mixture limit spare h.0 m h.1 h.2
 
-  order_told : (old new p q : Plan) → plan_of AtEnd text ≡ Ok old → (stage : Option ℕ) (limit spare : ℕ) (staged : Staged A) (answer : Result (Staged A) OrderFault)
-      → IsOrderTold old new p q stage limit spare out answer → Ok staged ≡ told_order answer → IsMadeOfIt (Ordered staged)
-  order_told old new p q read stage limit spare staged (Ok found) h e =
-      let same : found ≡ staged = cc in
-      subst (λ s. IsMadeOfIt (Ordered s)) same (stage_makes old p q new read stage limit spare h.verdict found h.right h.staged_of)
-  order_told old new p q read stage limit spare staged (Err f) h e = absurd (let z : ⊥ = cc in z)
+    -- the plan after a stage of an order
+    stage_makes : (old p q new : Plan) → plan_of AtEnd text ≡ Ok old → (stage : Option ℕ) (limit spare : ℕ) (verdict : OrderVerdict A) (staged : Staged A)
+        → IsRightVerdict p q new limit spare verdict → IsStagedOf stage verdict staged → IsMadeOfIt (Ordered staged)
+    stage_makes old p q new read stage limit spare verdict NoOrder right h = tt
+    stage_makes old p q new read stage limit spare verdict (IsOrdered None) right h = tt
+    stage_makes old p q new read (Some n) limit spare (FoundOrdered o) (IsOrdered (Some (m, cert))) right h =
+        mixed_says text old p q m read (subst (IsMixture p q) (sym h.1) (right.0.order.mixtures n))
+    stage_makes old p q new read None limit spare (FoundOrdered o) (IsOrdered (Some (m, cert))) right h = absurd h
+    stage_makes old p q new read (Some n) limit spare (FoundNoOrder r before after) (IsOrdered (Some (m, cert))) right h = absurd h
+    stage_makes old p q new read None limit spare (FoundNoOrder r before after) (IsOrdered (Some (m, cert))) right h = absurd h
+    stage_makes old p q new read (Some n) limit spare (FoundNewUnsafe findings) (IsOrdered (Some (m, cert))) right h = absurd h
+    stage_makes old p q new read None limit spare (FoundNewUnsafe findings) (IsOrdered (Some (m, cert))) right h = absurd h
 
-  order_makes : (stage : Option ℕ) (limit spare : ℕ) (staged : Staged A) → OrderJobAnswers stage limit spare first second out (Ok staged) → IsMadeOfIt (Ordered staged)
-  order_makes stage limit spare staged (inl h) =
-      order_told h.old_plan h.new_plan (joined_old h.old_plan h.new_plan) (joined_new h.old_plan h.new_plan) (joined_says h.old_plan h.old_text h.old_says) stage limit spare staged h.goes_on.answer h.goes_on.told h.goes_on.same
-  order_makes stage limit spare staged (inr h) = absurd h
+    order_told : (old new p q : Plan) → plan_of AtEnd text ≡ Ok old → (stage : Option ℕ) (limit spare : ℕ) (staged : Staged A) (answer : Result (Staged A) OrderFault)
+        → IsOrderTold old new p q stage limit spare out answer → Ok staged ≡ told_order answer → IsMadeOfIt (Ordered staged)
+    order_told old new p q read stage limit spare staged (Ok found) h e =
+        let same : found ≡ staged = cc in
+        subst (λ s. IsMadeOfIt (Ordered s)) same (stage_makes old p q new read stage limit spare h.verdict found h.right h.staged_of)
+    order_told old new p q read stage limit spare staged (Err f) h e = absurd (let z : ⊥ = cc in z)
 
-  -- ---- ALL COMMANDS
+    order_makes : (stage : Option ℕ) (limit spare : ℕ) (staged : Staged A) → OrderJobAnswers stage limit spare first second out (Ok staged) → IsMadeOfIt (Ordered staged)
+    order_makes stage limit spare staged (inl h) =
+        order_told h.old_plan h.new_plan (joined_old h.old_plan h.new_plan) (joined_new h.old_plan h.new_plan) (joined_says h.old_plan h.old_text h.old_says) stage limit spare staged h.goes_on.answer h.goes_on.told h.goes_on.same
+    order_makes stage limit spare staged (inr h) = absurd h
 
-  by_answer : {X : Type 0} (done : X → Done A) (answers : Result X JobFault → Type 0) (d : Done A) → ((x : X) → answers (Ok x) → IsMadeOfIt (done x))
-      → (r : Result X JobFault) → answers r → Ok d ≡ told_done done r → IsMadeOfIt d
-  by_answer done answers d f (Ok x) a e = let same : done x ≡ d = cc in subst IsMadeOfIt same (f x a)
-  by_answer done answers d f (Err g) a e = absurd (let z : ⊥ = cc in z)
+    -- ---- ALL COMMANDS
 
-  makes : {X : Type 0} (done : X → Done A) (answers : Result X JobFault → Type 0) (d : Done A) → ((x : X) → answers (Ok x) → IsMadeOfIt (done x)) → Does done answers (Ok d) → IsMadeOfIt d
-  makes done answers d f h = by_answer done answers d f h.answer h.by h.told
+    by_answer : {X : Type 0} (done : X → Done A) (answers : Result X JobFault → Type 0) (d : Done A) → ((x : X) → answers (Ok x) → IsMadeOfIt (done x))
+        → (r : Result X JobFault) → answers r → Ok d ≡ told_done done r → IsMadeOfIt d
+    by_answer done answers d f (Ok x) a e = let same : done x ≡ d = cc in subst IsMadeOfIt same (f x a)
+    by_answer done answers d f (Err g) a e = absurd (let z : ⊥ = cc in z)
 
-  pub makes_plan : (command : Command) (d : Done A) → IsDone (λ (bytes : List ℕ). Some bytes) (λ _. false) slice_called text left second third out command (Ok d) → IsMadeOfIt d
-  makes_plan Pipe d h = makes Ran _ d (λ x _. tt) h.0
-  makes_plan (Run plan script None) d h = makes Ran _ d (λ x _. tt) h.0
-  makes_plan (Run plan script (Some (cert, limit, spare))) d h = makes Checked _ d (λ x _. tt) h
-  makes_plan (RunTelling plan script strict echo summary) d h = makes (Told strict) _ d (λ x _. tt) h.0
-  makes_plan (Check plan cert limit spare) d h = makes Verified _ d (λ x _. tt) h.0
-  makes_plan (Lint plan None) d h = makes Linted _ d (λ x _. tt) h.0
-  makes_plan (Lint plan (Some risks)) d h = makes Linted _ d (λ x _. tt) h.0
-  makes_plan (Codes plan) d h = makes Listed _ d (λ x _. tt) h.0
-  makes_plan (Audit plan limit spare cert counter) d h = makes Audited _ d (λ x _. tt) h.0
-  makes_plan (Change before after limit spare cert mixture counter) d h = makes ChangedInto _ d (λ x a. change_makes _ limit spare x a) h.0
-  makes_plan (Order before after limit spare stage plan cert) d h = makes Ordered _ d (λ x a. order_makes stage limit spare x a) h.0
-  makes_plan (Mend plan limit spare mended cert) d h = makes Mended _ d (λ x a. mend_makes limit spare x a) h.0
-  makes_plan (Survive plan None totals) d h = makes Survived _ d (λ x _. tt) h.0
-  makes_plan (Survive plan (Some (risks, only)) totals) d h = makes Survived _ d (λ x _. tt) h.0
-  makes_plan (Grade plan) d h = makes Graded _ d (λ x _. tt) h.0
-  makes_plan (Trace plan exchange code down) d h = makes written _ d (λ x _. tt) h.0
-  makes_plan (TraceGroup plan group) d h = makes written _ d (λ x _. tt) h.0
-  makes_plan (Fill plan exchange code down) d h = makes Filled _ d (λ x _. tt) h.0
-  makes_plan (Draw plan None) d h = makes written _ d (λ x _. tt) h.0
-  makes_plan (Draw plan (Some (code, numbers))) d h = makes written _ d (λ x _. tt) h.0
-  makes_plan (Explain line) d h = makes written _ d (λ x _. tt) h.0
+    makes : {X : Type 0} (done : X → Done A) (answers : Result X JobFault → Type 0) (d : Done A) → ((x : X) → answers (Ok x) → IsMadeOfIt (done x)) → Does done answers (Ok d) → IsMadeOfIt d
+    makes done answers d f h = by_answer done answers d f h.answer h.by h.told
+
+    pub makes_plan : (command : Command) (d : Done A) → IsDone (λ (bytes : List ℕ). Some bytes) (λ _. false) slice_called text left second third out command (Ok d) → IsMadeOfIt d
+    makes_plan Pipe d h = makes Ran _ d (λ x _. tt) h.0
+    makes_plan (Run plan script None) d h = makes Ran _ d (λ x _. tt) h.0
+    makes_plan (Run plan script (Some (cert, limit, spare))) d h = makes Checked _ d (λ x _. tt) h
+    makes_plan (RunTelling plan script strict echo summary) d h = makes (Told strict) _ d (λ x _. tt) h.0
+    makes_plan (Check plan cert limit spare) d h = makes Verified _ d (λ x _. tt) h.0
+    makes_plan (Lint plan None) d h = makes Linted _ d (λ x _. tt) h.0
+    makes_plan (Lint plan (Some risks)) d h = makes Linted _ d (λ x _. tt) h.0
+    makes_plan (Codes plan) d h = makes Listed _ d (λ x _. tt) h.0
+    makes_plan (Audit plan limit spare cert counter) d h = makes Audited _ d (λ x _. tt) h.0
+    makes_plan (Change before after limit spare cert mixture counter) d h = makes ChangedInto _ d (λ x a. change_makes _ limit spare x a) h.0
+    makes_plan (Order before after limit spare stage plan cert) d h = makes Ordered _ d (λ x a. order_makes stage limit spare x a) h.0
+    makes_plan (Mend plan limit spare mended cert) d h = makes Mended _ d (λ x a. mend_makes limit spare x a) h.0
+    makes_plan (Survive plan None totals) d h = makes Survived _ d (λ x _. tt) h.0
+    makes_plan (Survive plan (Some (risks, only)) totals) d h = makes Survived _ d (λ x _. tt) h.0
+    makes_plan (Grade plan) d h = makes Graded _ d (λ x _. tt) h.0
+    makes_plan (Trace plan exchange code down) d h = makes written _ d (λ x _. tt) h.0
+    makes_plan (TraceGroup plan group) d h = makes written _ d (λ x _. tt) h.0
+    makes_plan (Fill plan exchange code down) d h = makes Filled _ d (λ x _. tt) h.0
+    makes_plan (Draw plan None) d h = makes written _ d (λ x _. tt) h.0
+    makes_plan (Draw plan (Some (code, numbers))) d h = makes written _ d (λ x _. tt) h.0
+    makes_plan (Explain line) d h = makes written _ d (λ x _. tt) h.0

@@ -1,5 +1,6 @@
 // What a command came to.
-ghost use Rattle.std.specs.Prelude.{◌≡◌, map, option_map};
+ghost use Rattle.std.specs.List.{list_any};
+ghost use Rattle.std.specs.Prelude.{◌≡◌, ◌==◌, not, length, map, option_map};
 ghost use Rattle.tx_jobs.specs.Contents.{content_text};
 
 use crate::content::Content;
@@ -13,7 +14,8 @@ use tx_mend::Mending;
 use tx_order::Staged;
 use tx_plan::{CodeId, Plan};
 use tx_rank::Grade;
-use tx_risk::Survival;
+use tx_risk::{Outcome, Survival};
+use tx_risk_report::is_harmless;
 use tx_script::Summary;
 
 /// What a command came to: the answer of its job.
@@ -80,9 +82,7 @@ impl<A: Allocator> Done<A> {
             | Done::Survived(Survival::Ungraded(_)) => 1,
             Done::Told(strict, summary) => u8::from(*strict && summary.refused != 0),
             Done::Graded(grade) => u8::from(grade.plan.is_none()),
-            Done::Survived(Survival::Tried(outcomes)) => {
-                u8::from(outcomes.iter().any(|outcome| !outcome.cuts.is_empty()))
-            }
+            Done::Survived(Survival::Tried(outcomes)) => u8::from(cuts_somebody_off(outcomes)),
             Done::Linted(status) => *status,
         }
     }
@@ -148,4 +148,11 @@ impl<A: Allocator> Done<A> {
             | Done::Written => [None, None],
         }
     }
+}
+
+/// Whether one of these outages cuts somebody off.
+fn cuts_somebody_off<A: Allocator>(outcomes: &[Outcome<A>]) -> bool
+    ensures { result ≡ list_any (λ o. not (length o.cuts.items == 0)) outcomes.now }
+{
+    outcomes.iter().any(|outcome| !is_harmless(outcome))
 }

@@ -1,7 +1,10 @@
 // What a command comes to, with the text of the plan that it makes.
-ghost use Rattle.std.specs.Prelude.{◌≡◌, ◌≢◌, map, option_map, IfSome, IfOk, IfErr};
+ghost use Rattle.std.specs.Prelude.{◌≡◌, ◌≢◌, Ok, Some, map, option_map, IfSome, IfOk, IfErr};
 ghost use Rattle.tx_text.specs.Calls.{CallsAtMost, source_calls};
 ghost use Rattle.tx_text.specs.Ends.{input, output};
+ghost use Rattle.tx_text.specs.Told.{AtEnd};
+ghost use Rattle.tx_plan.specs.Rules.{IsPlan};
+ghost use Rattle.tx_plantext.specs.PlanText.{plan_of};
 ghost use Rattle.tx_commands.specs.Commands.{IsInRange};
 ghost use Rattle.tx_commands.specs.declared.command.Command.TheVariants.{Pipe};
 ghost use Rattle.tx_jobs.specs.JobFaults.{mark_after};
@@ -18,9 +21,10 @@ use std::alloc::{Allocator, Global};
 use tx_change::first_difference;
 use tx_commands::{Command, Files};
 use tx_lint::read_text;
+use tx_plan::Plan;
 use tx_plantext::read_plan;
 use tx_revise::revise;
-use tx_text::{Sink, SliceSource, Source};
+use tx_text::{NoMemory, Sink, SliceSource, Source};
 
 /// What a command came to, and the revised text of the plan that it made, if that goes into a file
 /// and is of the network of the text.
@@ -105,8 +109,13 @@ fn do_over_text<A: Allocator + Copy, Q: Source, R: Source, W: Sink>(
 {
     let mut first = SliceSource::new(text);
     let done = do_job(alloc, command, &mut first, second, third, out)?;
-    let text = revision(alloc, text, &done)?;
-    Ok(Outcome { done, text })
+    match revision(alloc, text, &done) {
+        Ok(text) => Ok(Outcome { done, text }),
+        Err(fault) => {
+            drop(done);
+            Err(fault)
+        }
+    }
 }
 
 /// The text of a plan, revised for the plan that a command made, if it made one of the same network.
@@ -124,8 +133,24 @@ fn revision<A: Allocator + Copy>(
         return Ok(None);
     };
     let old = read_plan(alloc, text)?;
-    match first_difference(&old, plan) {
-        None => Ok(Some(revise(alloc, text, &old, plan)?)),
+    let revised = revised_for(alloc, text, &old, plan);
+    drop(old);
+    Ok(revised?)
+}
+
+/// The text of a plan, revised for another plan, if both are of one network.
+fn revised_for<A: Allocator + Copy>(
+    alloc: A,
+    text: &[u8],
+    old: &Plan<A>,
+    made: &Plan<A>,
+) -> Result<Option<Vec<u8, A>>, NoMemory>
+    requires said { plan_of AtEnd text.now ≡ Ok old.now }
+    requires rules { IsPlan made.now }
+    ensures { IfOk result (λ t. HasText text.now (Some made.now) (kept_text t (Some made.now))) }
+{
+    match first_difference(old, made) {
+        None => Ok(Some(revise(alloc, text, old, made)?)),
         Some(_) => Ok(None),
     }
 }

@@ -1,4 +1,4 @@
-use Rattle.std.proofs.Common.{◌∙◌, ◌+◌, ◌*◌, ap, refl, sym}
+use Rattle.std.proofs.Common.{◌∙◌, ◌+◌, ◌*◌, ap}
 use Rattle.std.proofs.lemmas.Result.{IfOk-weaker}
 use Rattle.tx_fill.specs.Fills.{carried}
 use Rattle.tx_fill.proofs.Carried.{call_keyed, call_refused, not_keyed}

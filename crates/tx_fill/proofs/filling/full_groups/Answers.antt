@@ -1,4 +1,4 @@
-use Rattle.std.proofs.Common.{ℕ, List, ◌++◌, ◌∷◌, [], ◌∙◌, ap, sym, Vec}
+use Rattle.std.proofs.Common.{ℕ, ◌++◌, ◌∷◌, [], ◌∙◌, ap, sym, Vec}
 use Rattle.tx_fill.specs.Fills.{is_full}
 use Rattle.tx_fill.proofs.Settled.{group_put, group_passed}
 use Rattle.tx_fill.proofs.filling.full_groups.Goals as goal
