@@ -4,6 +4,7 @@ use Rattle.std.specs.Prelude.{◌↔◌, Vec}
 use Rattle.std.specs.List.{AllByRecursion}
 use Rattle.tx_plan.specs.Plan.{Plan}
 use Rattle.tx_cert.specs.Certificate.{Certificate, IsCertificateOf, ranks_of}
+use Rattle.tx_rank.specs.declared.finding.Finding.{Finding}
 use Rattle.tx_rank.specs.declared.ranking.Ranking.{Ranking}
 use Rattle.tx_rank.specs.declared.ranking.Ranking.TheVariants.{Found, Fails}
 use Rattle.tx_rank.specs.Grades.{CanBeCertified}
@@ -53,7 +54,7 @@ module _ (A : Type 0) (before after new : Plan) (limit spare : ℕ) (r : Ranking
   verdict_denied findings e = subst (IsRightChange before after limit spare) e right
 
   module _ (cert : Certificate) (e : r ≡ Found cert) (s : Ranking A) (of_new : IsRightRanking new limit spare s) where
-    pub verdict_cleared : (t : Certificate) → s ≡ Found t → IsRightVerdict before after new limit spare (Sound cert)
+    pub verdict_cleared : (t : Certificate) → s ≡ Found t → IsRightVerdict {A = A} before after new limit spare (Sound cert)
     verdict_cleared t f = (subst (IsRightChange before after limit spare) e right, (t, (subst (IsRightRanking new limit spare) f of_new).1))
 
     pub verdict_new_denied : (findings : Vec (Finding A) A) → s ≡ Fails findings → IsRightVerdict before after new limit spare (NewUnsound findings)

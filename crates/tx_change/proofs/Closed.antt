@@ -1,8 +1,8 @@
 -- No call for a code that is closed leaves the exchange where it started.
-use Rattle.std.proofs.Common.{◌≡◌, ◌≢◌, ℕ, ◌<◌, Bool, true, false, ◌&&◌, ◌==◌, List, [], ◌∷◌, length, Option, Some, None, inl, inr, refl, sym, ap, ◌∙◌, subst, eqb-true, eq-eqb}
+use Rattle.std.proofs.Common.{◌≡◌, ◌≢◌, ℕ, ◌<◌, true, ◌&&◌, ◌==◌, List, [], ◌∷◌, length, Option, Some, inl, inr, refl, sym, ap, ◌∙◌, subst, eqb-true, eq-eqb}
 use Rattle.std.specs.List.{list_any, AllByRecursion}
 use Rattle.std.specs.Option.{option_map_or}
-use Rattle.std.proofs.lemmas.Bool.{and_parts, eqb-false, true≢false}
+use Rattle.std.proofs.lemmas.Bool.{and_parts, true≢false}
 use Rattle.tx_text.specs.Words.{are_figures}
 use Rattle.tx_plan.specs.declared.range.LineRange.{LineRange}
 use Rattle.tx_plan.specs.declared.ids.Line.{Line}
@@ -18,7 +18,7 @@ use Rattle.tx_plan.proofs.ByIndex.{entry_at, all_at}
 use Rattle.tx_plan.proofs.Networks.{same_back, homes_same}
 use Rattle.tx_machine.specs.declared.event.Event.{Event}
 use Rattle.tx_machine.specs.declared.open_call.Phase.TheVariants.{Calling}
-use Rattle.tx_machine.specs.Call.{Phase, Call, circuit_called, exchange_of, last_exchange, start_of, is_first}
+use Rattle.tx_machine.specs.Call.{Call, circuit_called, exchange_of, last_exchange, start_of, is_first}
 use Rattle.tx_machine.specs.State.{State, opening}
 use Rattle.tx_machine.specs.Step.{step}
 use Rattle.tx_machine.specs.ChangingRuns.{Turn, changing_run, AreMixtures}
@@ -27,7 +27,7 @@ use Rattle.tx_machine.proofs.Lists.{any_mem}
 use Rattle.tx_machine.proofs.Invariant.{inv_opening}
 use Rattle.tx_machine.proofs.Steps.{step_keeps}
 use Rattle.tx_machine.proofs.ByNetwork.{holds_by}
-use Rattle.tx_machine.proofs.Moves.{Moves, stays, connects, seizes_one, goes_on, falls_back, IsNew, came}
+use Rattle.tx_machine.proofs.Moves.{Moves, stays, connects, seizes_one, goes_on, falls_back, came}
 use Rattle.tx_change.specs.ClosedCodes.{IsClosed, HasNotLeft, NoneHasLeft}
 
 -- a call that has seized a circuit has left

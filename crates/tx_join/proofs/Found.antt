@@ -1,5 +1,5 @@
 -- What a search by a test finds, and lists of which some members are kept.
-use Rattle.std.proofs.Common.{◌≡◌, ◌≢◌, ℕ, zero, suc, ◌+◌, ◌<◌, ◌≤◌, inl, inr, Bool, true, false, not, cond, ◌||◌, List, [], ◌∷◌, ◌++◌, length, length-append, append-nil, map, take, drop, nat_le, Option, Some, None, is_some, unwrap_or, refl, sym, ap, ◌∙◌, arith}
+use Rattle.std.proofs.Common.{◌≡◌, ◌≢◌, ℕ, zero, suc, ◌+◌, ◌<◌, ◌≤◌, inl, inr, Bool, true, false, not, cond, ◌||◌, List, [], ◌∷◌, ◌++◌, length, length-append, append-nil, map, take, drop, nat_le, Some, None, is_some, unwrap_or, refl, sym, ap, ◌∙◌, arith}
 use Rattle.std.specs.Prelude.{find, filter, flat_map, position, slice_get}
 use Rattle.std.specs.List.{list_any, position_or_len, range_with_len, AllByRecursion}
 use Rattle.std.specs.Option.{option_map}

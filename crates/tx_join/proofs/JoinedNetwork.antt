@@ -1,15 +1,14 @@
 -- The joined network is a plan, and it has the network of both plans.
-use Rattle.std.proofs.Common.{◌≡◌, ◌≢◌, ℕ, ◌+◌, ◌<◌, ◌≤◌, Bool, true, false, not, List, [], ◌∷◌, ◌++◌, length, map, max, Option, Some, None, unwrap_or, refl, sym, ap, ◌∙◌, subst, arith}
+use Rattle.std.proofs.Common.{◌≡◌, ℕ, ◌<◌, ◌≤◌, Bool, true, false, not, List, length, map, max, Option, Some, None, unwrap_or, refl, sym, ap, ◌∙◌, subst, arith}
 use Rattle.std.specs.Prelude.{filter, find, slice_get}
-use Rattle.std.specs.List.{list_any, AllByRecursion}
 use Rattle.std.specs.Option.{option_map, option_map_or}
 use Rattle.std.specs.Str.{bytes_eq}
 use Rattle.std.proofs.lemmas.Option.{slice_get-map}
 use Rattle.std.proofs.lemmas.List.{length-map}
 use Rattle.tx_plan.specs.declared.ids.Direction.TheVariants.{OneWay}
 use Rattle.tx_text.specs.Words.{is_name}
-use Rattle.tx_plan.specs.Plan.{Plan, Code, Group, exchange_named, code_named, group_named, exchange_name, figures_of, group_name, home_of}
-use Rattle.tx_plan.specs.Rules.{IsPlan, IsCode, IsRange, IsGroup}
+use Rattle.tx_plan.specs.Plan.{Plan, Code, Group, group_named, figures_of, group_name, home_of}
+use Rattle.tx_plan.specs.Rules.{IsPlan, IsCode, IsGroup}
 use Rattle.tx_plan.specs.Circuits.{ends_of, direction_of, count_of}
 use Rattle.tx_plan.specs.Declaring.{has_exchange, has_code, has_group, exchange_at, code_at, group_at}
 use Rattle.tx_plan.proofs.ByIndex.{entry_at, all_at}
@@ -19,12 +18,11 @@ use Rattle.tx_plan.proofs.Lists.{all_map, all_mapped, longer_by, slice_get_left,
 use Rattle.tx_plan.proofs.NamesBack.{code_back, group_back}
 use Rattle.tx_plan.proofs.Tables.{list_any-map}
 use Rattle.tx_join.specs.Joined.{joined_network, joined_exchange, joined_code, joined_group, widened, circuits_named, exchange_in, code_in, group_in}
-use Rattle.tx_join.specs.Refusals.{join_refusal}
-use Rattle.tx_join.specs.Laws.{CanBeJoined, HasExchanges, HasCodes, HasGroups, HasNetwork}
+use Rattle.tx_join.specs.Laws.{CanBeJoined, HasNetwork}
 use Rattle.tx_join.specs.inner.Declared.{KnowsExchanges}
-use Rattle.tx_join.proofs.Found.{IsEntry, entry_found, find-map, none_found}
+use Rattle.tx_join.proofs.Found.{IsEntry, entry_found, find-map}
 use Rattle.tx_join.proofs.Knows.{same_word, only, exchange_there, exchange_named_so, exchanges_apart, code_there, code_named_so, group_there, group_named_so}
-use Rattle.tx_join.proofs.Rows.{code_keys, group_keys, keys_differ, found_first, found_second, keys_kept, has_key, knows_old_exchanges, knows_new_exchanges, knows_old_codes, knows_new_codes, knows_old_groups, knows_new_groups, exchange_stays, code_stays, group_stays}
+use Rattle.tx_join.proofs.Rows.{code_keys, group_keys, keys_differ, found_first, found_second, has_key, knows_old_exchanges, knows_new_exchanges, knows_old_codes, knows_new_codes, knows_old_groups, knows_new_groups, exchange_stays, code_stays, group_stays}
 use Rattle.tx_join.proofs.United.{united_differ}
 use Rattle.tx_join.proofs.Unrefused.{one_home, one_group, few_exchanges, few_codes, few_groups}
 

@@ -15,4 +15,3 @@ pub mod Stages
 pub mod StepsDeclared
 pub mod Splits
 pub mod Counts
-pub mod DeclaredLines

@@ -1,29 +1,25 @@
 -- The next entry of a plan that is declared: nothing but lack of memory refuses it.
-use Rattle.std.proofs.Common.{◌≡◌, ◌≢◌, ℕ, suc, ◌+◌, ◌<◌, ◌≤◌, Bool, true, false, not, cond, ◌||◌, ◌&&◌, ◌==◌, nat_le, nat_lt, max, List, [], ◌∷◌, ◌++◌, length, map, take, drop, Option, Some, None, Result, Ok, Err, OnOk, inl, inr, unwrap_or, refl, sym, ap, ◌∙◌, subst, arith, append_assoc, append-nil, eq-eqb, eqb-true, is_some}
-use Rattle.std.specs.Prelude.{filter, position, slice_get, if◌then◌else◌, IsOk}
+use Rattle.std.proofs.Common.{◌≡◌, ◌≢◌, ℕ, suc, ◌+◌, ◌≤◌, Bool, true, false, not, ◌||◌, ◌&&◌, ◌==◌, nat_le, max, List, [], ◌∷◌, ◌++◌, length, map, take, drop, Option, Some, None, Result, Ok, Err, OnOk, inl, inr, refl, sym, ap, ◌∙◌, subst, arith, append_assoc, append-nil, eq-eqb, eqb-true, is_some}
+use Rattle.std.specs.Prelude.{filter, slice_get, if◌then◌else◌, IsOk}
 use Rattle.std.specs.List.{list_any, AllByRecursion}
-use Rattle.std.specs.Option.{option_map, option_map_or}
 use Rattle.std.specs.Str.{bytes_eq}
-use Rattle.std.proofs.lemmas.Bool.{and_from, and_parts, cases_eq, ne_eqb, leb-true, false_from_ne_true, true≢false, not-true}
+use Rattle.std.proofs.lemmas.Bool.{and_from, and_parts, false_from_ne_true, true≢false, false≢true}
 use Rattle.std.proofs.lemmas.Bool.Decides.{nat_tests}
 use Rattle.std.proofs.lemmas.List.{map-append, take-append-drop}
 use Rattle.std.proofs.lemmas.List.Folds.{list_any-append}
 use Rattle.std.proofs.Math.Bool.{or-false}
-use Rattle.std.proofs.lemmas.Option.{slice_get_within}
 use Rattle.tx_text.specs.Words.{is_name}
-use Rattle.tx_plan.specs.declared.ids.Direction.{Direction}
 use Rattle.tx_plan.specs.declared.range.LineRange.{LineRange}
 use Rattle.tx_plan.specs.declared.refusal.PlanRefusal.{PlanRefusal}
-use Rattle.tx_plan.specs.declared.refusal.PlanRefusal.TheVariants.{BadName, BadCode, BadNumber, Duplicate, Unknown, RangeOrder, Overlap, SameEnds, TooMany, NoMemory}
-use Rattle.tx_plan.specs.Plan.{Plan, Code, Group, exchange_named, code_named, exchange_name, figures_of, group_name, home_of}
+use Rattle.tx_plan.specs.Plan.{Plan, Code, Group, exchange_named, code_named, exchange_name, figures_of}
 use Rattle.tx_plan.specs.Rules.{IsPlan, IsCode, IsRange, IsGroup, EachPair, AreSeparate}
 use Rattle.tx_plan.specs.Numbers.{is_code, is_national, at_most, shares}
-use Rattle.tx_plan.specs.Declaring.{Declares, first_true, exchange_refusals, code_refusals, lines_refusals, group_refusals, with_exchange, with_code, with_lines, with_group, has_exchange, has_code, has_group, overlaps, is_ordered, exchange_at, code_at}
+use Rattle.tx_plan.specs.Declaring.{Declares, first_true, exchange_refusals, code_refusals, lines_refusals, group_refusals, with_exchange, with_code, with_lines, with_group, has_exchange, has_code, has_group, overlaps, is_ordered}
 use Rattle.tx_plan.proofs.ByIndex.{bytes_apart, all_at}
 use Rattle.tx_plan.proofs.Filtered.{all_kept}
 use Rattle.tx_plan.proofs.Lists.{all_map, all_mapped, placed}
-use Rattle.tx_plan.proofs.NamesBack.{exchange_is_name, exchange_back, figures_are_code, group_is_name}
-use Rattle.tx_join.specs.Joined.{exchange_in, code_in, circuits_named}
+use Rattle.tx_plan.proofs.NamesBack.{exchange_is_name, exchange_back, figures_are_code}
+use Rattle.tx_join.specs.Joined.{code_in, circuits_named}
 use Rattle.tx_join.specs.inner.Declared.{with_exchanges, known_code, with_codes, known_range, with_ranges, known_group, with_groups, KnowsExchanges, KnowsCodes, IsTaken}
 use Rattle.tx_join.proofs.Found.{kept_next, left_next, kept_at, drop_next, pairs_before, middle, length_before, taken_last, find_fails, any_find, filter_all, map_same}
 use Rattle.tx_join.proofs.Knows.{only}
@@ -42,15 +38,19 @@ module _ (refusal : Option PlanRefusal) (old next new : Plan) where
 
   pub taken_next : (r : Result (Unit {0}) PlanRefusal) → IsOk r → Declares refusal old next new r → new ≡ next
   taken_next (Ok x) k h = h.1
-  taken_next (Err f) k h = absurd k
+  taken_next (Err f) k h = absurd (false≢true k)
 
 -- an entry that is there
 pub not_none : {A : Type 0} (o : Option A) (r : A) → o ≡ Some r → None ≡ o → ⊥
 not_none o r e h = let bad : ⊥ = cc in bad
 
--- the first of some tests, where the next one fails
+-- none of some tests is passed
 on : {R : Type 0} (b : Bool) (r : R) (ts : List (Bool × R)) → b ≡ false → first_true ((b, r) ∷ ts) ≡ first_true ts
 on b r ts e = ap (λ c. if c then Some r else first_true ts) e
+
+none_true : {R : Type 0} (ts : List (Bool × R)) → AllByRecursion (λ t. t.0 ≡ false) ts → first_true ts ≡ None
+none_true [] h = refl
+none_true (t ∷ ts) h = on t.0 t.1 ts h.0 ∙ none_true ts h.1
 
 right : (b : Bool) → b ≡ true → not b ≡ false
 right b e = ap not e
@@ -59,26 +59,19 @@ both_right : (a b : Bool) → a ≡ true → b ≡ true → (not a || not b) ≡
 both_right a b e f = λ i. not (e i) || not (f i)
 
 pub exchange_free : (p : Plan) (name : List ℕ) → is_name name ≡ true → has_exchange p name ≡ false → nat_le 256 (length p.exchanges) ≡ false → first_true (exchange_refusals p name) ≡ None
-exchange_free p name a b c =
-    on (not (is_name name)) BadName _ (right (is_name name) a) ∙ on (has_exchange p name) Duplicate _ b ∙ on (nat_le 256 (length p.exchanges)) TooMany [] c
+exchange_free p name a b c = none_true (exchange_refusals p name) (right (is_name name) a, (b, (c, tt)))
 
 pub code_free : (p : Plan) (code home : List ℕ) → is_name home ≡ true → is_code code ≡ true → has_code p code ≡ false → has_exchange p home ≡ true → nat_le 1100 (length p.codes) ≡ false → first_true (code_refusals p code home) ≡ None
 code_free p code home a b c d e =
-    on (not (is_name home)) BadName _ (right (is_name home) a) ∙ on (not (is_code code)) BadCode _ (right (is_code code) b) ∙ on (has_code p code) Duplicate _ c
-    ∙ on (not (has_exchange p home)) Unknown _ (right (has_exchange p home) d) ∙ on (nat_le 1100 (length p.codes)) TooMany [] e
+    none_true (code_refusals p code home) (right (is_name home) a, (right (is_code code) b, (c, (right (has_exchange p home) d, (e, tt)))))
 
 pub lines_free : (p : Plan) (code low high : List ℕ) → is_code code ≡ true → is_national low ≡ true → is_national high ≡ true → has_code p code ≡ true → is_ordered low high ≡ true → overlaps p (code_named p code) low high ≡ false → nat_le 4096 (length p.ranges) ≡ false → first_true (lines_refusals p code low high) ≡ None
 lines_free p code low high a b c d e f g =
-    on (not (is_code code)) BadCode _ (right (is_code code) a) ∙ on (not (is_national low) || not (is_national high)) BadNumber _ (both_right (is_national low) (is_national high) b c)
-    ∙ on (not (has_code p code)) Unknown _ (right (has_code p code) d) ∙ on (not (is_ordered low high)) RangeOrder _ (right (is_ordered low high) e)
-    ∙ on (overlaps p (code_named p code) low high) Overlap _ f ∙ on (nat_le 4096 (length p.ranges)) TooMany [] g
+    none_true (lines_refusals p code low high) (right (is_code code) a, (both_right (is_national low) (is_national high) b c, (right (has_code p code) d, (right (is_ordered low high) e, (f, (g, tt))))))
 
 pub group_free : (p : Plan) (name a b : List ℕ) (count : ℕ) → is_name name ≡ true → is_name a ≡ true → is_name b ≡ true → (nat_le 1 count && nat_le count 240) ≡ true → has_group p name ≡ false → has_exchange p a ≡ true → has_exchange p b ≡ true → bytes_eq a b ≡ false → nat_le 4096 (length p.groups) ≡ false → first_true (group_refusals p name a b count) ≡ None
 group_free p name a b count h i j k l m n o q =
-    on (not (is_name name) || (not (is_name a) || not (is_name b))) BadName _ (λ t. not (h t) || both_right (is_name a) (is_name b) i j t)
-    ∙ on (not (nat_le 1 count && nat_le count 240)) BadNumber _ (right (nat_le 1 count && nat_le count 240) k) ∙ on (has_group p name) Duplicate _ l
-    ∙ on (not (has_exchange p a) || not (has_exchange p b)) Unknown _ (both_right (has_exchange p a) (has_exchange p b) m n)
-    ∙ on (bytes_eq a b) SameEnds _ o ∙ on (nat_le 4096 (length p.groups)) TooMany [] q
+    none_true (group_refusals p name a b count) ((λ t. not (h t) || both_right (is_name a) (is_name b) i j t), (right (nat_le 1 count && nat_le count 240) k, (l, (both_right (has_exchange p a) (has_exchange p b) m n, (o, (q, tt))))))
 
 -- ENTRIES THAT ARE DECLARED ONE AFTER ANOTHER
 

@@ -1,7 +1,7 @@
 -- What certifies the old plan over the joined network certifies the old plan as it is.
-use Rattle.std.proofs.Common.{◌≡◌, ℕ, ◌+◌, ◌<◌, ◌≤◌, ◌⊎◌, Bool, true, false, not, cond, ◌&&◌, ◌==◌, nat_lt, List, [], ◌∷◌, length, map, inl, inr, Option, Some, None, is_some, refl, sym, ap, ◌∙◌, subst, arith, eqb-true}
+use Rattle.std.proofs.Common.{◌≡◌, ℕ, ◌<◌, ◌⊎◌, Bool, true, false, not, cond, ◌&&◌, ◌==◌, nat_lt, List, [], ◌∷◌, length, map, inl, inr, Option, Some, None, is_some, refl, sym, ap, ◌∙◌, subst, eqb-true}
 use Rattle.std.specs.Prelude.{slice_get, find, option_and_then, if◌then◌else◌}
-use Rattle.std.specs.List.{list_any, AllByRecursion}
+use Rattle.std.specs.List.{AllByRecursion}
 use Rattle.std.specs.Option.{option_map, option_map_or}
 use Rattle.std.proofs.lemmas.Bool.{and_parts, and_from, lt-ltb, ltb-true}
 use Rattle.std.proofs.lemmas.List.{length-map}
@@ -9,18 +9,18 @@ use Rattle.std.proofs.lemmas.Option.{slice_get-map, slice_get_within}
 use Rattle.tx_plan.specs.declared.range.LineRange.{LineRange}
 use Rattle.tx_plan.specs.Plan.{Plan, Code, Group, Route, home_of}
 use Rattle.tx_plan.specs.Rules.{IsPlan, IsRoute, IsRange, IsGroup}
-use Rattle.tx_plan.specs.Circuits.{other_end, far_end, may_seize}
-use Rattle.tx_plan.specs.Routes.{route_list, is_barred, is_origin, is_origin_for}
+use Rattle.tx_plan.specs.Circuits.{other_end, far_end}
+use Rattle.tx_plan.specs.Routes.{route_list, is_barred, is_origin}
 use Rattle.tx_plan.specs.Certified.{Ranks, IsBelow, LeadsLower, LeadsDown, IsCertified}
 use Rattle.tx_plan.proofs.ByIndex.{entry_at, all_at}
 use Rattle.tx_plan.proofs.Lists.{all_map, all_with, slice_get_left}
-use Rattle.tx_join.specs.Joined.{joined_network, joined_old, widened, exchange_in, code_in, group_in}
+use Rattle.tx_join.specs.Joined.{joined_network, joined_old, widened, group_in}
 use Rattle.tx_join.specs.Laws.{CanBeJoined, ranks_within}
 use Rattle.tx_join.proofs.Found.{entry_found, find_same, any_find, map_same}
 use Rattle.tx_join.proofs.JoinedNetwork.{has_old, has_new}
 use Rattle.tx_join.proofs.PlansOver.{home_within, own_list, own_bar}
 use Rattle.tx_join.proofs.Rows.{exchange_stays, code_stays, group_stays}
-use Rattle.tx_join.proofs.Taking.{Seized, seized}
+use Rattle.tx_join.proofs.Taking.{seized}
 
 -- what holds of the groups of each route, and of none, holds of each list
 list_all : (P : Route → Type 0) (Q : List ℕ → Type 0) (t : Route → Bool) (rs : List Route) → Q [] → ((r : Route) → P r → Q r.groups) → AllByRecursion P rs → Q (option_map_or (λ (r : Route). r.groups) (find t rs) [])

@@ -1,18 +1,17 @@
 -- Plans over a network that has those of two plans: they obey the rules of a plan, and have their
 -- lists and bars.
-use Rattle.std.proofs.Common.{◌≡◌, ◌≢◌, ℕ, zero, suc, ◌+◌, ◌-◌, ◌<◌, ◌≤◌, Bool, true, false, not, cond, ◌||◌, ◌&&◌, ◌==◌, nat_lt, List, [], ◌∷◌, ◌++◌, length, map, Option, Some, None, is_some, inl, inr, refl, sym, ap, ◌∙◌, subst, arith, eq-eqb, eqb-true}
-use Rattle.std.specs.Prelude.{filter, find, flat_map, slice_get}
+use Rattle.std.proofs.Common.{◌≡◌, ◌≢◌, ℕ, zero, suc, ◌+◌, ◌-◌, ◌<◌, ◌≤◌, Bool, true, false, not, ◌||◌, ◌&&◌, ◌==◌, nat_lt, List, [], ◌∷◌, ◌++◌, length, map, Option, Some, None, is_some, inl, inr, refl, sym, ap, ◌∙◌, subst, arith, eq-eqb, eqb-true}
+use Rattle.std.specs.Prelude.{filter, find, flat_map}
 use Rattle.std.specs.List.{list_any, range_with_len, AllByRecursion}
 use Rattle.std.specs.Option.{option_map, option_map_or, option_or}
 use Rattle.std.proofs.lemmas.Bool.{cases_lt, and_parts, and_from, false_from_ne_true, true≢false, not-true, ne_eqb, eqb-false, lt-ltb, ltb-true}
 use Rattle.std.proofs.lemmas.List.Folds.{find-append, list_any-append}
-use Rattle.std.proofs.Math.Bool.{or-true, or-false}
+use Rattle.std.proofs.Math.Bool.{or-false}
 use Rattle.tx_plan.specs.declared.ids.Pair.{Pair}
 use Rattle.tx_plan.specs.Plan.{Plan, Code, Route, exchange_name, figures_of, home_of}
 use Rattle.tx_plan.specs.Rules.{IsPlan, IsCode, IsRoute, IsBar, EachPair}
 use Rattle.tx_plan.specs.Routes.{route_list, is_barred}
 use Rattle.tx_plan.specs.Declaring.{has_exchange, has_code}
-use Rattle.tx_plan.specs.Mixed.{rerouted}
 use Rattle.tx_plan.proofs.ByIndex.{entry_at, all_at}
 use Rattle.tx_plan.proofs.Filtered.{any_in, any_out, all_kept, all_joined, all_pass, pairs_kept, pairs_joined}
 use Rattle.tx_plan.proofs.Lists.{all_map, all_mapped, all_with, same_tests}

@@ -1,5 +1,5 @@
 -- The routes and bars over the joined network, part by part, and numbers in a row.
-use Rattle.std.proofs.Common.{◌≡◌, ◌≢◌, ℕ, zero, suc, ◌+◌, ◌-◌, ◌<◌, ◌≤◌, Bool, true, false, not, cond, ◌==◌, ◌&&◌, ◌||◌, nat_lt, List, [], ◌∷◌, ◌++◌, length, map, take, drop, Option, Some, None, refl, sym, ap, ◌∙◌, subst, arith, append_assoc, append-nil, get_or}
+use Rattle.std.proofs.Common.{◌≡◌, ◌≢◌, ℕ, zero, suc, ◌+◌, ◌-◌, ◌<◌, ◌≤◌, Bool, true, false, not, cond, ◌==◌, ◌&&◌, nat_lt, List, [], ◌∷◌, ◌++◌, length, map, take, drop, Some, sym, ap, ◌∙◌, subst, arith, append_assoc, append-nil, get_or}
 use Rattle.std.specs.Prelude.{find, filter, flat_map, slice_get}
 use Rattle.std.specs.List.{list_any, range_with_len, AllByRecursion}
 use Rattle.std.specs.Option.{option_map_or}
@@ -13,7 +13,7 @@ use Rattle.tx_plan.specs.Rules.{IsPlan}
 use Rattle.tx_plan.specs.Routes.{route_list}
 use Rattle.tx_plan.proofs.Lists.{all_map}
 use Rattle.tx_join.specs.Joined.{has_both, route_in, bar_in, bars_of_code, bars_from, routes_over, bars_over}
-use Rattle.tx_join.specs.inner.Taken.{takes, taken_routes, taken_bars, RoutesDiffer, BarsDiffer}
+use Rattle.tx_join.specs.inner.Taken.{taken_routes, taken_bars, RoutesDiffer, BarsDiffer}
 use Rattle.tx_join.proofs.Found.{filter_all, taken_last}
 use Rattle.tx_join.proofs.NextDeclared.{all_true, so_far, grown, passed, whole}
 use Rattle.tx_join.proofs.NextTaken.{none_before}
@@ -145,7 +145,7 @@ module _ (j : Plan) (code : ℕ) where
 
   module _ (front now : List Pair) (i : ℕ) (l : i < length j.exchanges) (is : now ≡ so_far front away bar_at xs i) where
     at : slice_get xs i ≡ Some i
-    at = slice_range 0 (length j.exchanges) i l
+    at = let e : 0 + i ≡ i = omega arith in slice_range 0 (length j.exchanges) i l ∙ ap Some e
 
     pub home_passed : (home_of j code == i) ≡ true → (new : List Pair) → new ≡ now → new ≡ so_far front away bar_at xs (i + 1)
     home_passed h new e = e ∙ is ∙ passed front away bar_at xs i i at (ap not h)

@@ -1,13 +1,12 @@
 -- The joined network as it is declared, list by list.
-use Rattle.std.proofs.Common.{◌≡◌, ◌≢◌, ℕ, ◌+◌, ◌<◌, ◌≤◌, Bool, true, false, not, cond, List, [], ◌∷◌, ◌++◌, length, map, max, Option, Some, None, refl, sym, ap, ◌∙◌, subst, arith}
-use Rattle.std.specs.Prelude.{filter, position}
-use Rattle.std.specs.List.{list_any, AllByRecursion}
+use Rattle.std.proofs.Common.{◌≡◌, ◌≢◌, ℕ, Bool, true, false, not, cond, List, [], ◌∷◌, ◌++◌, map, max, refl, ap, ◌∙◌, arith}
+use Rattle.std.specs.Prelude.{filter}
+use Rattle.std.specs.List.{AllByRecursion}
 use Rattle.std.specs.Option.{option_map_or}
 use Rattle.std.specs.Str.{bytes_eq}
-use Rattle.std.proofs.lemmas.Bool.{true≢false, not-true}
-use Rattle.tx_plan.specs.declared.range.LineRange.{LineRange}
+use Rattle.std.proofs.lemmas.Bool.{not-true}
 use Rattle.tx_plan.specs.Plan.{Plan, Code, Group, no_plan}
-use Rattle.tx_plan.specs.Rules.{IsPlan, IsCode, IsRange, IsGroup, EachPair}
+use Rattle.tx_plan.specs.Rules.{IsPlan, IsCode, IsGroup, EachPair}
 use Rattle.tx_plan.specs.Circuits.{count_of}
 use Rattle.tx_plan.specs.Declaring.{has_exchange, has_code, has_group}
 use Rattle.tx_plan.proofs.Lists.{all_map, longer_by, no_index, none_passes}

@@ -1,6 +1,6 @@
 -- A step of each loop that declares the entries of a plan, by the words that are handed to the
 -- builder.
-use Rattle.std.proofs.Common.{◌≡◌, ℕ, ◌+◌, ◌<◌, Bool, true, false, max, List, [], length, Option, Some, None, sym, ap, ◌∙◌}
+use Rattle.std.proofs.Common.{◌≡◌, ℕ, ◌+◌, ◌<◌, true, false, max, List, [], length, Some, None, sym, ap, ◌∙◌}
 use Rattle.std.specs.Prelude.{slice_get}
 use Rattle.std.specs.Option.{option_map_or}
 use Rattle.tx_plan.specs.declared.ids.Direction.{Direction}
@@ -88,10 +88,10 @@ module _ (p from other now : Plan) (name a b : List ℕ) (direction : Direction)
 
   module _ (first : a ≡ exchange_name from (ends_of from i).0) (second : b ≡ exchange_name from (ends_of from i).1) (way : direction ≡ direction_of from i) (many : count ≡ max (count_of from i) (circuits_named other name)) where
     first_by : a ≡ exchange_name from group_row.0.a
-    first_by = first ∙ ap (λ o. exchange_name from (option_map_or (λ (g : Group). (g.a, g.b)) o (0, 0)).0) group_row.1
+    first_by = first ∙ ap (λ o. exchange_name from (option_map_or {U = ℕ × ℕ} (λ (g : Group). (g.a, g.b)) o (0, 0)).0) group_row.1
 
     second_by : b ≡ exchange_name from group_row.0.b
-    second_by = second ∙ ap (λ o. exchange_name from (option_map_or (λ (g : Group). (g.a, g.b)) o (0, 0)).1) group_row.1
+    second_by = second ∙ ap (λ o. exchange_name from (option_map_or {U = ℕ × ℕ} (λ (g : Group). (g.a, g.b)) o (0, 0)).1) group_row.1
 
     way_by : direction ≡ group_row.0.direction
     way_by = way ∙ ap (λ o. option_map_or (λ (g : Group). g.direction) o OneWay) group_row.1

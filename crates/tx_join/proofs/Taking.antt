@@ -1,7 +1,6 @@
 -- Routes and bars of a plan, in another plan that has its network.
-use Rattle.std.proofs.Common.{◌≡◌, ◌≢◌, ℕ, ◌<◌, ◌≤◌, Bool, true, false, ◌||◌, ◌&&◌, ◌==◌, List, [], length, map, Option, Some, None, inl, inr, refl, sym, ap, ◌∙◌, subst, eq-eqb, eqb-true}
+use Rattle.std.proofs.Common.{◌≡◌, ◌≢◌, ℕ, ◌<◌, ◌≤◌, true, false, ◌||◌, ◌&&◌, ◌==◌, List, length, Option, Some, None, inl, inr, refl, sym, ap, ◌∙◌, subst, eq-eqb, eqb-true}
 use Rattle.std.specs.Prelude.{slice_get}
-use Rattle.std.specs.List.{AllByRecursion}
 use Rattle.std.specs.Option.{option_map_or}
 use Rattle.std.proofs.lemmas.Bool.{and_parts, and_from, or_cases}
 use Rattle.std.proofs.lemmas.List.{length-map}
@@ -11,8 +10,8 @@ use Rattle.tx_plan.specs.declared.ids.Direction.{Direction}
 use Rattle.tx_plan.specs.declared.ids.Direction.TheVariants.{OneWay}
 use Rattle.tx_plan.specs.declared.ids.Pair.{Pair}
 use Rattle.tx_plan.specs.Plan.{Plan, Group, Route, home_of}
-use Rattle.tx_plan.specs.Rules.{IsPlan, IsRoute, IsBar, EachPair}
-use Rattle.tx_plan.specs.Circuits.{may_seize, may_seize_row, is_both, ends_of, direction_of}
+use Rattle.tx_plan.specs.Rules.{IsPlan, IsRoute, IsBar}
+use Rattle.tx_plan.specs.Circuits.{may_seize, may_seize_row, is_both}
 use Rattle.tx_plan.specs.Mixed.{rerouted}
 use Rattle.tx_plan.proofs.ByIndex.{entry_at}
 use Rattle.tx_plan.proofs.Lists.{all_map, all_mapped}

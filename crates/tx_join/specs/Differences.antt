@@ -8,6 +8,8 @@ use Rattle.tx_plan.specs.declared.range.LineRange.{LineRange}
 use Rattle.tx_plan.specs.Plan.{Plan, exchange_name, figures_of, group_name, group_named}
 use Rattle.tx_plan.specs.Circuits.{count_of}
 use Rattle.tx_plan.specs.Declaring.{has_exchange, has_code, has_group}
+use Rattle.tx_join.specs.declared.differences.Entries.{Entries}
+use Rattle.tx_join.specs.declared.differences.Entries.TheVariants.{Exchanges, Codes, Ranges, Groups}
 
 -- the lines of an exchange: one with this word, if p has it and q does not
 abbrev pub exchange_lines : (word : List ℕ) → (p q : Plan) → ℕ → List (List (List ℕ))
@@ -57,29 +59,28 @@ circuits_lines old new g =
 abbrev pub each_written : (ℕ → List (List (List ℕ))) → ℕ → List ℕ
 each_written lines n = flat_map line_written (flat_map lines (range_with_len 0 n))
 
--- the exchanges that are new, and then those that go
-abbrev pub exchange_changes : (old new : Plan) → List ℕ
-exchange_changes old new =
-    each_written (exchange_lines (codes "NEW") new old) (length new.exchanges)
-    ++ each_written (exchange_lines (codes "GONE") old new) (length old.exchanges)
+-- of the entry of a list at an index
+abbrev pub entry_lines : Entries → (word : List ℕ) → (p q : Plan) → ℕ → List (List (List ℕ))
+entry_lines Exchanges = exchange_lines
+entry_lines Codes = code_lines
+entry_lines Ranges = range_lines
+entry_lines Groups = group_lines
 
--- the codes
-abbrev pub code_changes : (old new : Plan) → List ℕ
-code_changes old new = each_written (code_lines (codes "NEW") new old) (length new.codes)
-    ++ each_written (code_lines (codes "GONE") old new) (length old.codes)
+-- how many entries the list has
+abbrev pub count_of_entries : Entries → Plan → ℕ
+count_of_entries Exchanges p = length p.exchanges
+count_of_entries Codes p = length p.codes
+count_of_entries Ranges p = length p.ranges
+count_of_entries Groups p = length p.groups
 
--- the ranges
-abbrev pub range_changes : (old new : Plan) → List ℕ
-range_changes old new = each_written (range_lines (codes "NEW") new old) (length new.ranges)
-    ++ each_written (range_lines (codes "GONE") old new) (length old.ranges)
-
--- the groups
-abbrev pub group_changes : (old new : Plan) → List ℕ
-group_changes old new = each_written (group_lines (codes "NEW") new old) (length new.groups)
-    ++ each_written (group_lines (codes "GONE") old new) (length old.groups)
+-- the entries that are new, and then those that go
+abbrev pub changes : Entries → (old new : Plan) → List ℕ
+changes entries old new =
+    each_written (entry_lines entries (codes "NEW") new old) (count_of_entries entries new)
+    ++ each_written (entry_lines entries (codes "GONE") old new) (count_of_entries entries old)
 
 -- What differs, by lists: what is new, what goes, and which groups have another number of circuits
 abbrev pub difference_text : (old new : Plan) → List ℕ
-difference_text old new = exchange_changes old new ++ (code_changes old new
-    ++ (range_changes old new ++ (group_changes old new
+difference_text old new = changes Exchanges old new ++ (changes Codes old new
+    ++ (changes Ranges old new ++ (changes Groups old new
     ++ each_written (circuits_lines old new) (length old.groups))))

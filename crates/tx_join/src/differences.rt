@@ -1,10 +1,10 @@
 // The writer of the differences of two plans beside their lists and bars.
-ghost use Rattle.std.specs.Prelude.{◌≡◌, false, length, slice_get};
+ghost use Rattle.std.specs.Prelude.{◌≡◌, ◌<◌, ◌≤◌, false, length, slice_get};
 ghost use Rattle.std.specs.List.{flat_map};
 ghost use Rattle.std.specs.Option.{option_map_or};
 ghost use Rattle.tx_text.specs.Wrote.{Wrote};
 ghost use Rattle.tx_text.specs.Written.{line_written};
-ghost use Rattle.tx_join.specs.Differences.{exchange_lines, code_lines, is_range, has_range, lines_of_range, range_lines, group_lines, lines_of_circuits, circuits_lines, each_written, exchange_changes, code_changes, range_changes, group_changes, difference_text};
+ghost use Rattle.tx_join.specs.Differences.{exchange_lines, code_lines, is_range, has_range, lines_of_range, range_lines, group_lines, lines_of_circuits, circuits_lines, entry_lines, count_of_entries, each_written, changes, difference_text};
 
 use crate::naming::{has_code, has_exchange, has_group};
 use itoa::Buffer;
@@ -21,39 +21,84 @@ pub fn write_differences<A: Allocator, W: Sink>(
 ) -> Result<(), WriteFault>
     ensures { Wrote W.taken W.failed sink.old sink.new (difference_text old.now new.now) result }
 {
-    write_exchange_changes(old, new, sink)?;
-    write_code_changes(old, new, sink)?;
-    write_range_changes(old, new, sink)?;
-    write_group_changes(old, new, sink)?;
+    write_changes(Entries::Exchanges, old, new, sink)?;
+    write_changes(Entries::Codes, old, new, sink)?;
+    write_changes(Entries::Ranges, old, new, sink)?;
+    write_changes(Entries::Groups, old, new, sink)?;
     write_circuits(old, new, sink)
 }
 
-/// Writes the exchanges that are new, and then those that go.
-fn write_exchange_changes<A: Allocator, W: Sink>(
+/// The entries of one of the lists of a network.
+#[derive(Clone, Copy)]
+enum Entries {
+    Exchanges,
+    Codes,
+    Ranges,
+    Groups,
+}
+
+/// Writes the entries that are new, and then those that go.
+fn write_changes<A: Allocator, W: Sink>(
+    entries: Entries,
     old: &Plan<A>,
     new: &Plan<A>,
     sink: &mut W,
 ) -> Result<(), WriteFault>
-    ensures { Wrote W.taken W.failed sink.old sink.new (exchange_changes old.now new.now) result }
+    ensures { Wrote W.taken W.failed sink.old sink.new (changes entries old.now new.now) result }
 {
-    write_exchanges(b"NEW", new, old, sink)?;
-    write_exchanges(b"GONE", old, new, sink)
+    write_alone(entries, b"NEW", new, old, sink)?;
+    write_alone(entries, b"GONE", old, new, sink)
 }
 
-/// Writes the exchanges that the other plan does not have.
-fn write_exchanges<A: Allocator, W: Sink>(
+/// Writes the entries that the other plan does not have.
+fn write_alone<A: Allocator, W: Sink>(
+    entries: Entries,
     word: &[u8],
     plan: &Plan<A>,
     other: &Plan<A>,
     sink: &mut W,
 ) -> Result<(), WriteFault>
     ensures { Wrote W.taken W.failed sink.old sink.new (each_written
-        (exchange_lines word.now plan.now other.now) (length plan.now.exchanges)) result }
+        (entry_lines entries word.now plan.now other.now) (count_of_entries entries plan.now)) result }
 {
-    for index in 0..plan.exchanges() {
-        write_exchange(word, plan, other, ExchangeId::of(index), sink)?;
+    for index in 0..count_of_entries(entries, plan) {
+        write_entry(entries, word, plan, other, index, sink)?;
     }
     Ok(())
+}
+
+/// How many entries a plan has.
+fn count_of_entries<A: Allocator>(entries: Entries, plan: &Plan<A>) -> usize
+    ensures count { result ≡ count_of_entries entries plan.now }
+    ensures few { result ≤ 4096 }
+{
+    match entries {
+        Entries::Exchanges => plan.exchanges(),
+        Entries::Codes => plan.codes(),
+        Entries::Ranges => plan.ranges(),
+        Entries::Groups => plan.groups(),
+    }
+}
+
+/// Writes the entry at an index, unless the other plan has it.
+fn write_entry<A: Allocator, W: Sink>(
+    entries: Entries,
+    word: &[u8],
+    plan: &Plan<A>,
+    other: &Plan<A>,
+    index: usize,
+    sink: &mut W,
+) -> Result<(), WriteFault>
+    requires { index < 65536 }
+    ensures { Wrote W.taken W.failed sink.old sink.new (flat_map line_written
+        (entry_lines entries word.now plan.now other.now index)) result }
+{
+    match entries {
+        Entries::Exchanges => write_exchange(word, plan, other, ExchangeId::of(index), sink),
+        Entries::Codes => write_code(word, plan, other, CodeId::of(index), sink),
+        Entries::Ranges => write_range_at(word, plan, other, index, sink),
+        Entries::Groups => write_group(word, plan, other, GroupId::of(index), sink),
+    }
 }
 
 /// Writes an exchange, unless the other plan has it.
@@ -74,34 +119,6 @@ fn write_exchange<A: Allocator, W: Sink>(
     write_parts(&[word, b" EXCHANGE ", name, b"\n"], sink)
 }
 
-/// Writes the codes.
-fn write_code_changes<A: Allocator, W: Sink>(
-    old: &Plan<A>,
-    new: &Plan<A>,
-    sink: &mut W,
-) -> Result<(), WriteFault>
-    ensures { Wrote W.taken W.failed sink.old sink.new (code_changes old.now new.now) result }
-{
-    write_codes(b"NEW", new, old, sink)?;
-    write_codes(b"GONE", old, new, sink)
-}
-
-/// Writes the codes that the other plan does not have.
-fn write_codes<A: Allocator, W: Sink>(
-    word: &[u8],
-    plan: &Plan<A>,
-    other: &Plan<A>,
-    sink: &mut W,
-) -> Result<(), WriteFault>
-    ensures { Wrote W.taken W.failed sink.old sink.new (each_written
-        (code_lines word.now plan.now other.now) (length plan.now.codes)) result }
-{
-    for index in 0..plan.codes() {
-        write_code(word, plan, other, CodeId::of(index), sink)?;
-    }
-    Ok(())
-}
-
 /// Writes a code, unless the other plan has it.
 fn write_code<A: Allocator, W: Sink>(
     word: &[u8],
@@ -120,35 +137,7 @@ fn write_code<A: Allocator, W: Sink>(
     write_parts(&[word, b" CODE ", figures, b"\n"], sink)
 }
 
-/// Writes the ranges.
-fn write_range_changes<A: Allocator, W: Sink>(
-    old: &Plan<A>,
-    new: &Plan<A>,
-    sink: &mut W,
-) -> Result<(), WriteFault>
-    ensures { Wrote W.taken W.failed sink.old sink.new (range_changes old.now new.now) result }
-{
-    write_ranges(b"NEW", new, old, sink)?;
-    write_ranges(b"GONE", old, new, sink)
-}
-
-/// Writes the ranges that the other plan does not have.
-fn write_ranges<A: Allocator, W: Sink>(
-    word: &[u8],
-    plan: &Plan<A>,
-    other: &Plan<A>,
-    sink: &mut W,
-) -> Result<(), WriteFault>
-    ensures { Wrote W.taken W.failed sink.old sink.new (each_written
-        (range_lines word.now plan.now other.now) (length plan.now.ranges)) result }
-{
-    for index in 0..plan.ranges() {
-        write_range_at(word, plan, other, index, sink)?;
-    }
-    Ok(())
-}
-
-/// Writes the one at an index, unless the other plan has it.
+/// Writes the range at an index, unless the other plan has it.
 fn write_range_at<A: Allocator, W: Sink>(
     word: &[u8],
     plan: &Plan<A>,
@@ -218,34 +207,6 @@ fn is_range_at<A: Allocator>(
         }
         None => false,
     }
-}
-
-/// Writes the groups.
-fn write_group_changes<A: Allocator, W: Sink>(
-    old: &Plan<A>,
-    new: &Plan<A>,
-    sink: &mut W,
-) -> Result<(), WriteFault>
-    ensures { Wrote W.taken W.failed sink.old sink.new (group_changes old.now new.now) result }
-{
-    write_groups(b"NEW", new, old, sink)?;
-    write_groups(b"GONE", old, new, sink)
-}
-
-/// Writes the groups that the other plan does not have.
-fn write_groups<A: Allocator, W: Sink>(
-    word: &[u8],
-    plan: &Plan<A>,
-    other: &Plan<A>,
-    sink: &mut W,
-) -> Result<(), WriteFault>
-    ensures { Wrote W.taken W.failed sink.old sink.new (each_written
-        (group_lines word.now plan.now other.now) (length plan.now.groups)) result }
-{
-    for index in 0..plan.groups() {
-        write_group(word, plan, other, GroupId::of(index), sink)?;
-    }
-    Ok(())
 }
 
 /// Writes a group, unless the other plan has it.

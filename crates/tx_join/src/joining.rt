@@ -3,7 +3,8 @@ ghost use Rattle.std.specs.Prelude.{◌≡◌, None, IfOk, IfErr, OnOk};
 ghost use Rattle.tx_plan.specs.Mixtures.{SameNetwork};
 ghost use Rattle.tx_join.specs.Joined.{joined_old, joined_new};
 ghost use Rattle.tx_join.specs.Refusals.{join_refusal, IsRefusedAs};
-ghost use Rattle.tx_join.specs.Laws.{AreOverBoth, HaveTheirLists};
+ghost use Rattle.tx_join.specs.declared.refusal.JoinRefusal.TheVariants.{NoMemory};
+ghost use Rattle.tx_join.specs.Laws.{CanBeJoined, AreOverBoth, HaveTheirLists};
 
 use crate::network::joined_network;
 use crate::over::plan_over;
@@ -43,12 +44,38 @@ pub fn join<A: Allocator + Copy>(
     if let Some(refusal) = refusal_of(old, new) {
         return Err(refusal);
     }
-    let network = joined_network(alloc, old, new)?;
-    let before = plan_over(alloc, network, old, new, old.codes())?;
-    let network = joined_network(alloc, old, new)?;
-    let after = plan_over(alloc, network, new, old, old.codes())?;
+    let before = old_over(alloc, old, new)?;
+    let after = new_over(alloc, old, new)?;
     Ok(Joined {
         old: before,
         new: after,
     })
+}
+
+/// The old plan over the joined network.
+fn old_over<A: Allocator + Copy>(
+    alloc: A,
+    old: &Plan<A>,
+    new: &Plan<A>,
+) -> Result<Plan<A>, JoinRefusal>
+    requires { CanBeJoined old.now new.now }
+    ensures plan { IfOk result (λ p. p ≡ joined_old old.now new.now) }
+    ensures memory { IfErr result (λ e. e ≡ NoMemory) }
+{
+    let network = joined_network(alloc, old, new)?;
+    Ok(plan_over(alloc, network, old, new, old.codes())?)
+}
+
+/// The new plan over it.
+fn new_over<A: Allocator + Copy>(
+    alloc: A,
+    old: &Plan<A>,
+    new: &Plan<A>,
+) -> Result<Plan<A>, JoinRefusal>
+    requires { CanBeJoined old.now new.now }
+    ensures plan { IfOk result (λ p. p ≡ joined_new old.now new.now) }
+    ensures memory { IfErr result (λ e. e ≡ NoMemory) }
+{
+    let network = joined_network(alloc, old, new)?;
+    Ok(plan_over(alloc, network, new, old, old.codes())?)
 }

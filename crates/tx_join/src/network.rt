@@ -1,5 +1,6 @@
 // The joined network of two plans.
 ghost use Rattle.std.specs.Prelude.{◌≡◌, IfOk, IfErr, IsOk, OnOk};
+ghost use Rattle.tx_plan.specs.Plan.{no_plan};
 ghost use Rattle.tx_plan.specs.Rules.{IsPlan};
 ghost use Rattle.tx_join.specs.declared.refusal.JoinRefusal.TheVariants.{NoMemory};
 ghost use Rattle.tx_join.specs.Joined.{joined_network};
@@ -22,14 +23,34 @@ pub(crate) fn joined_network<A: Allocator + Copy>(
     ensures memory { IfErr result (λ e. e ≡ NoMemory) }
 {
     let mut builder = PlanBuilder::new(alloc);
-    add_exchanges(old, &mut builder)?;
-    add_exchanges(new, &mut builder)?;
-    add_codes(old, &mut builder)?;
-    add_codes(new, &mut builder)?;
-    add_ranges(old, &mut builder)?;
-    add_groups(old, new, &mut builder)?;
-    add_groups(new, old, &mut builder)?;
-    Ok(builder.finish())
+    match add_network(old, new, &mut builder) {
+        Ok(()) => Ok(builder.finish()),
+        Err(refusal) => {
+            drop(builder);
+            Err(refusal)
+        }
+    }
+}
+
+/// Declares the network, list by list.
+fn add_network<A: Allocator>(
+    old: &Plan<A>,
+    new: &Plan<A>,
+    builder: &mut PlanBuilder<A>,
+) -> Result<(), JoinRefusal>
+    requires plans { CanBeJoined old.now new.now }
+    requires none { builder.old ≡ no_plan }
+    ensures added { OnOk result (builder.new ≡ joined_network old.now new.now) }
+    ensures memory { IfErr result (λ e. e ≡ NoMemory) }
+{
+    add_exchanges(old, builder)?;
+    add_exchanges(new, builder)?;
+    add_codes(old, builder)?;
+    add_codes(new, builder)?;
+    add_ranges(old, builder)?;
+    add_groups(old, new, builder)?;
+    add_groups(new, old, builder)?;
+    Ok(())
 }
 
 /// Declares the exchanges of a plan that are not declared yet.

@@ -21,9 +21,31 @@ pub(crate) fn plan_over<A: Allocator + Copy>(
     requires { IsPlan (plan_over network own.now other.now codes) }
     ensures { IfOk result (λ p. p ≡ plan_over network own.now other.now codes) }
 {
-    let routes = routes_over(alloc, &network, own, other)?;
-    let bars = bars_over(alloc, &network, own, other, codes)?;
-    Ok(network.rerouted(routes, bars))
+    match lists_over(alloc, &network, own, other, codes) {
+        Ok((routes, bars)) => Ok(network.rerouted(routes, bars)),
+        Err(fault) => {
+            drop(network);
+            Err(fault)
+        }
+    }
+}
+
+/// The routes and the bars.
+fn lists_over<A: Allocator + Copy>(
+    alloc: A,
+    network: &Plan<A>,
+    own: &Plan<A>,
+    other: &Plan<A>,
+    codes: usize,
+) -> Result<(Routes<A>, Bars<A>), NoMemory>
+    requires routes { RoutesDiffer (routes_over network.now own.now other.now) }
+    requires bars { BarsDiffer (bars_over network.now own.now other.now codes) }
+    ensures routes { IfOk result (λ l. l.0 ≡ routes_over network.now own.now other.now) }
+    ensures bars { IfOk result (λ l. l.1 ≡ bars_over network.now own.now other.now codes) }
+{
+    let routes = routes_over(alloc, network, own, other)?;
+    let bars = bars_over(alloc, network, own, other, codes)?;
+    Ok((routes, bars))
 }
 
 /// The routes.

@@ -29,19 +29,18 @@ module _ (before after : Plan) (limit spare : ℕ) where
         for_limits w.new after w.limit w.spare h.new_plan h.same_limit h.same_spare (ranks_of w.after, t.new_certified),
       )
 
-  module _ {A : Type 0} (new : Plan) where
-    -- by what the search over the joined network came to
-    module _ (s : Switching A) (right : IsRightSwitching before after limit spare s) where
-      pub was_ordered : (o : Order) → s ≡ FoundOrdered o → IsOrdered before after limit spare o
-      was_ordered o e = subst (IsRightSwitching before after limit spare) e right
+  -- by the judgement on the new plan as it is
+  module _ {A : Type 0} (new : Plan) (o : Order) (h : IsOrdered before after limit spare o) (r : Ranking A) (right : IsRightRanking new limit spare r) where
+    pub new_sound : (cert : Certificate) → r ≡ Found cert → IsRightVerdict {A = A} before after new limit spare (Ordered o)
+    new_sound cert e = (h, (cert, (subst (IsRightRanking new limit spare) e right).1))
 
-      pub none_found : (p : Plan) (b a : Ranking A) → s ≡ FoundNoOrder p b a → IsRightVerdict before after new limit spare (NoOrder p b a)
-      none_found p b a e = subst (IsRightSwitching before after limit spare) e right
+    pub new_unsound : (findings : Vec (Finding A) A) → r ≡ Fails findings → IsRightVerdict before after new limit spare (NewUnsound findings)
+    new_unsound findings e = (both_certified o h, subst (IsRightRanking new limit spare) e right)
 
-    -- by the judgement on the new plan as it is
-    module _ (o : Order) (h : IsOrdered before after limit spare o) (r : Ranking A) (right : IsRightRanking new limit spare r) where
-      pub new_sound : (cert : Certificate) → r ≡ Found cert → IsRightVerdict {A = A} before after new limit spare (Ordered o)
-      new_sound cert e = (h, (cert, (subst (IsRightRanking new limit spare) e right).1))
+  -- by what the search over the joined network came to
+  module _ {A : Type 0} (s : Switching A) (right : IsRightSwitching before after limit spare s) where
+    pub was_ordered : (o : Order) → s ≡ FoundOrdered o → IsOrdered before after limit spare o
+    was_ordered o e = subst (IsRightSwitching before after limit spare) e right
 
-      pub new_unsound : (findings : Vec (Finding A) A) → r ≡ Fails findings → IsRightVerdict before after new limit spare (NewUnsound findings)
-      new_unsound findings e = (both_certified o h, subst (IsRightRanking new limit spare) e right)
+    pub none_found : (new p : Plan) (b a : Ranking A) → s ≡ FoundNoOrder p b a → IsRightVerdict before after new limit spare (NoOrder p b a)
+    none_found new p b a e = subst (IsRightSwitching before after limit spare) e right

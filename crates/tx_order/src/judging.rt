@@ -1,6 +1,8 @@
 // The judgement on an order into a plan of any network.
-ghost use Rattle.std.specs.Prelude.{IfOk};
+ghost use Rattle.std.specs.Prelude.{ℕ, IfOk};
+ghost use Rattle.tx_plan.specs.Plan.{Plan};
 ghost use Rattle.tx_plan.specs.Mixtures.{SameNetwork};
+ghost use Rattle.tx_audit.specs.Audits.{IsRightRanking};
 ghost use Rattle.tx_order.specs.OrderVerdicts.{IsRightVerdict};
 ghost use Rattle.tx_order.specs.Switchings.{IsOrdered};
 
@@ -54,16 +56,23 @@ fn judge_new<A: Allocator + Copy>(
     ensures { (before after : Plan) → IsOrdered before after limits.limit limits.spare order
         → IfOk result (IsRightVerdict before after new.now limits.limit limits.spare) }
 {
-    let judged = judge(alloc, new, limits);
-    match judged {
-        Ok(Ranking::Found(_)) => Ok(OrderVerdict::Ordered(order)),
-        Ok(Ranking::Fails(findings)) => {
-            drop(order);
-            Ok(OrderVerdict::NewUnsound(findings))
-        }
+    match judge(alloc, new, limits) {
+        Ok(ranking) => Ok(verdict_of(order, ranking)),
         Err(fault) => {
             drop(order);
             Err(fault)
         }
+    }
+}
+
+/// The verdict where there is an order, by the ranking of the new plan as it is.
+fn verdict_of<A: Allocator>(order: Order<A>, ranking: Ranking<A>) -> OrderVerdict<A>
+    ensures { (before after new : Plan) (limit spare : ℕ) → IsOrdered before after limit spare order
+        → IsRightRanking new limit spare ranking
+        → IsRightVerdict before after new limit spare result }
+{
+    match ranking {
+        Ranking::Found(_) => OrderVerdict::Ordered(order),
+        Ranking::Fails(findings) => OrderVerdict::NewUnsound(findings),
     }
 }

@@ -1,4 +1,3 @@
-use Rattle.std.proofs.Common.{length}
 use Rattle.tx_join.specs.Joined.{joined_old, joined_new}
 use Rattle.tx_join.proofs.TheirLists.{over_both, their_lists}
 use Rattle.tx_change.proofs.Closed.{none_leaves}

@@ -1,4 +1,4 @@
-use Rattle.std.proofs.Common.{sym, refl}
+use Rattle.std.proofs.Common.{sym}
 use Rattle.tx_plan.proofs.Absent.{has_exchange-is}
 use Rattle.tx_join.proofs.naming.has_exchange.Goals as goal
 

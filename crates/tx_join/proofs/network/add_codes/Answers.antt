@@ -1,4 +1,4 @@
-use Rattle.std.proofs.Common.{◌≡◌, ◌∙◌, ap, sym, refl, arith}
+use Rattle.std.proofs.Common.{◌∙◌, ap, sym, refl, arith}
 use Rattle.tx_plan.specs.Plan.{Plan, exchange_name, figures_of, home_of}
 use Rattle.tx_plan.specs.Declaring.{has_code}
 use Rattle.tx_join.proofs.NextDeclared.{no_code, all_codes, is_taken, taken_next}
@@ -7,7 +7,7 @@ use Rattle.tx_join.proofs.network.add_codes.Goals as goal
 use Rattle.tx_join.proofs.network.add_codes.Goals.{then-not-has_code+in_ok-taken, else-not-has_code}
 
 pub loop-index-init : goal.loop-index-init
-loop-index-init g c = no_code _ _
+loop-index-init g c = no_code c.args.builder.now c.args.from.now
 
 pub taken-requires : goal.taken-requires
 taken-requires g c =

@@ -1,4 +1,4 @@
-use Rattle.std.proofs.Common.{◌≡◌, ◌∙◌, ap, sym, arith}
+use Rattle.std.proofs.Common.{◌∙◌, ap, sym, arith}
 use Rattle.tx_plan.specs.Plan.{Plan, exchange_name}
 use Rattle.tx_plan.specs.Declaring.{has_exchange}
 use Rattle.tx_join.proofs.NextDeclared.{no_exchange, all_exchanges, is_taken, taken_next}
@@ -7,7 +7,7 @@ use Rattle.tx_join.proofs.network.add_exchanges.Goals as goal
 use Rattle.tx_join.proofs.network.add_exchanges.Goals.{then-not-has_exchange+in_ok-taken, else-not-has_exchange}
 
 pub loop-index-init : goal.loop-index-init
-loop-index-init g c = no_exchange _ _
+loop-index-init g c = no_exchange c.args.builder.now c.args.from.now
 
 pub taken-requires : goal.taken-requires
 taken-requires g c =

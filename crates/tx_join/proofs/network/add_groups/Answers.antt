@@ -1,4 +1,4 @@
-use Rattle.std.proofs.Common.{◌≡◌, ◌∙◌, ℕ, max, ap, sym, arith}
+use Rattle.std.proofs.Common.{◌∙◌, ℕ, max, ap, sym, arith}
 use Rattle.tx_plan.specs.Plan.{Plan, exchange_name, group_name}
 use Rattle.tx_plan.specs.Circuits.{ends_of, direction_of, count_of}
 use Rattle.tx_plan.specs.Declaring.{has_group}
@@ -8,7 +8,7 @@ use Rattle.tx_join.proofs.network.add_groups.Goals as goal
 use Rattle.tx_join.proofs.network.add_groups.Goals.{then-not-has_group+in_ok-taken, else-not-has_group}
 
 pub loop-index-init : goal.loop-index-init
-loop-index-init g c = no_group _ _ _
+loop-index-init g c = no_group c.args.builder.now c.args.from.now c.args.other.now
 
 pub taken-requires : goal.taken-requires
 taken-requires g c =
@@ -18,8 +18,8 @@ taken-requires g c =
     let n = c.groups-index-end.ensures.count in
     let named = c.group_name-name.ensures.value ∙ ap (group_name from) c.of-group.ensures in
     let known = sym (c.has_group.ensures ∙ ap (λ (p : Plan). has_group p c.group_name-name.result.now) c.plan.ensures) in
-    let first = c.exchange_name.ensures.value ∙ ap (λ (q : ℕ × ℕ). exchange_name from q.0) (c.ends-a.ensures ∙ ap (ends_of from) c.of-group.ensures) in
-    let second = c.exchange_name-2.ensures.value ∙ ap (λ (q : ℕ × ℕ). exchange_name from q.1) (c.ends-a.ensures ∙ ap (ends_of from) c.of-group.ensures) in
+    let first = c.exchange_name-a.ensures.value ∙ ap (λ (q : ℕ × ℕ). exchange_name from q.0) (c.ends-a.ensures ∙ ap (ends_of from) c.of-group.ensures) in
+    let second = c.exchange_name-b.ensures.value ∙ ap (λ (q : ℕ × ℕ). exchange_name from q.1) (c.ends-a.ensures ∙ ap (ends_of from) c.of-group.ensures) in
     let way = c.direction-direction.ensures ∙ ap (direction_of from) c.of-group.ensures in
     let own = c.group_count.ensures.value ∙ ap (count_of from) c.of-group.ensures in
     let many = c.max-count.ensures ∙ (λ j. max (own j) (c.circuits_named.ensures j)) in
@@ -34,8 +34,8 @@ loop-index-preserved g c =
     let named = c.group_name-name.ensures.value ∙ ap (group_name from) c.of-group.ensures in
     let known = sym (c.has_group.ensures ∙ ap (λ (p : Plan). has_group p c.group_name-name.result.now) c.plan.ensures) in
     elim c.if-not-has_group.branch [
-      | then-not-has_group+in_ok-taken w ↦ (let first = w.exchange_name.ensures.value ∙ ap (λ (q : ℕ × ℕ). exchange_name from q.0) (w.ends-a.ensures ∙ ap (ends_of from) c.of-group.ensures) in
-          let second = w.exchange_name-2.ensures.value ∙ ap (λ (q : ℕ × ℕ). exchange_name from q.1) (w.ends-a.ensures ∙ ap (ends_of from) c.of-group.ensures) in
+      | then-not-has_group+in_ok-taken w ↦ (let first = w.exchange_name-a.ensures.value ∙ ap (λ (q : ℕ × ℕ). exchange_name from q.0) (w.ends-a.ensures ∙ ap (ends_of from) c.of-group.ensures) in
+          let second = w.exchange_name-b.ensures.value ∙ ap (λ (q : ℕ × ℕ). exchange_name from q.1) (w.ends-a.ensures ∙ ap (ends_of from) c.of-group.ensures) in
           let way = w.direction-direction.ensures ∙ ap (direction_of from) c.of-group.ensures in
           let own = w.group_count.ensures.value ∙ ap (count_of from) c.of-group.ensures in
           let many = w.max-count.ensures ∙ (λ j. max (own j) (w.circuits_named.ensures j)) in

@@ -1,17 +1,16 @@
-use Rattle.std.proofs.Common.{◌≡◌, ◌∙◌, ap, sym, arith}
+use Rattle.std.proofs.Common.{◌∙◌, sym, arith}
 use Rattle.std.specs.Prelude.{slice_get}
-use Rattle.tx_plan.specs.Plan.{figures_of}
 use Rattle.tx_plan.proofs.ByIndex.{entry_at}
 use Rattle.tx_join.proofs.NextDeclared.{no_range, all_ranges, is_taken, taken_next, not_none}
 use Rattle.tx_join.proofs.StepsDeclared.{range_fits, range_added}
 use Rattle.tx_join.proofs.network.add_ranges.Goals as goal
 
 pub loop-index-init : goal.loop-index-init
-loop-index-init g c = no_range _ _
+loop-index-init g c = no_range c.args.builder.now c.args.from.now
 
 pub taken-requires : goal.taken-requires
 taken-requires g c =
-    is_taken _ _ _ _ c.lines.result (range_fits c.args.builder.now c.args.from.now c.loop-index.builder c.in-Some.range _ _ _ c.loop-index.index c.ranges-index-end.ensures.rules (sym c.in-Some.ensures) c.loop-index.invariant c.code_figures-figures.ensures.value c.bytes.ensures.value c.bytes-2.ensures.value c.requires.rules c.requires.codes) c.lines.ensures
+    is_taken _ _ _ _ c.lines.result (range_fits c.args.builder.now c.args.from.now c.loop-index.builder c.in-Some.range _ _ _ c.loop-index.index c.ranges-index-end.ensures.rules (sym c.in-Some.ensures) c.loop-index.invariant c.code_figures-figures.ensures.value c.bytes.ensures.value c.bytes-in-Some.ensures.value c.requires.rules c.requires.codes) c.lines.ensures
 
 pub unreachable-requires : goal.unreachable-requires
 unreachable-requires g c =
@@ -23,7 +22,7 @@ unreachable-requires g c =
 
 pub loop-index-preserved : goal.loop-index-preserved
 loop-index-preserved g c =
-    range_added c.args.builder.now c.args.from.now c.loop-index.builder c.in-Some.range _ _ _ c.loop-index.index c.ranges-index-end.ensures.rules (sym c.in-Some.ensures) c.loop-index.invariant c.code_figures-figures.ensures.value c.bytes.ensures.value c.bytes-2.ensures.value c.requires.rules c.requires.codes _ (taken_next _ _ _ _ _ c.in_ok-taken-in-Some.ensures.ok c.lines.ensures)
+    range_added c.args.builder.now c.args.from.now c.loop-index.builder c.in-Some.range _ _ _ c.loop-index.index c.ranges-index-end.ensures.rules (sym c.in-Some.ensures) c.loop-index.invariant c.code_figures-figures.ensures.value c.bytes.ensures.value c.bytes-in-Some.ensures.value c.requires.rules c.requires.codes _ (taken_next _ _ _ _ _ c.in_ok-taken-in-Some.ensures.ok c.lines.ensures)
 
 pub returns-clause-added : goal.returns-clause-added
 returns-clause-added g c =

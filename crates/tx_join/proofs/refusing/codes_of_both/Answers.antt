@@ -1,7 +1,5 @@
-use Rattle.std.proofs.Common.{◌∙◌, ℕ, List, [], length, ap, sym, arith}
+use Rattle.std.proofs.Common.{◌∙◌, [], ap, sym, arith}
 use Rattle.std.specs.Option.{option_map_or}
-use Rattle.std.specs.Prelude.{filter}
-use Rattle.std.proofs.lemmas.List.{take_all}
 use Rattle.tx_plan.specs.Plan.{figures_of, Code}
 use Rattle.tx_plan.specs.Declaring.{has_code}
 use Rattle.tx_join.proofs.Counts.{counted_few, counted, uncounted}
