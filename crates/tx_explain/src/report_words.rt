@@ -2,7 +2,7 @@
 use crate::code_table::Entry;
 
 /// The words of reports, of a plan and of a certificate.
-pub static REPORT_WORDS: [Entry; 45] = [
+pub static REPORT_WORDS: [Entry; 47] = [
     [
         "VERDICT",
         "Verdict",
@@ -78,8 +78,20 @@ pub static REPORT_WORDS: [Entry; 45] = [
     [
         "NEW",
         "NewPlan",
-        "The finding is of the plan that is to be.",
+        "The finding is of the plan that is to be, or that plan has it and the old one has not.",
         "Mend that plan first: telexplan mend finds lists.",
+    ],
+    [
+        "GONE",
+        "Gone",
+        "The old plan has it, and the new one has not.",
+        "Look at it: it is taken away after the last switch.",
+    ],
+    [
+        "CIRCUITS",
+        "CircuitsChanged",
+        "Both plans have the group, with so many circuits in the old one and in the new one.",
+        "Nothing: both plans are judged with the greater number.",
     ],
     [
         "MEND",

@@ -1,4 +1,5 @@
 mod RefusedTexts
+mod JoinedPlans
 mod Piping
 mod Breaking
 mod CheckedRun
@@ -7,6 +8,7 @@ mod ToldRuns
 mod Evidenced
 mod ChangeTold
 mod ChangeEvidenced
+mod OrderTold
 mod Grading
 mod LintTold
 mod Surviving

@@ -4,6 +4,7 @@ pub mod PipeJobs
 pub mod CheckJobs
 pub mod DrawJobs
 pub mod AuditJobs
+pub mod TwoPlans
 pub mod ChangeJobs
 pub mod GradeJobs
 pub mod MendJobs

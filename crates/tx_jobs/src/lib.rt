@@ -32,6 +32,7 @@ mod seen;
 mod survive;
 mod telling;
 mod trace;
+mod two_plans;
 
 pub use audit::audit_job;
 pub use audit_evidence::evidence_job;

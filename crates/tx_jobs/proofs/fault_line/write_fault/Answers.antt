@@ -34,8 +34,8 @@ returns-in-Risks g c =
     (text_fault_line (codes "risks") c.in-Risks.fault.line r) c.write_text_fault-in-Risks.result)
     c.code_and_name-row-in-Risks.ensures c.write_text_fault-in-Risks.ensures)
 
-pub returns-in-TwoNetworks : goal.returns-in-TwoNetworks
-returns-in-TwoNetworks g c = rw c.in-TwoNetworks.is c.write_difference.ensures
+pub returns-in-Contradiction : goal.returns-in-Contradiction
+returns-in-Contradiction g c = rw c.in-Contradiction.is c.write_contradiction.ensures
 
 pub returns-in-Read : goal.returns-in-Read
 returns-in-Read g c = rw c.in-Read.is c.write_bytes.ensures
