@@ -93,18 +93,22 @@ fn write_contradiction<W: Sink>(
     ensures { Wrote W.taken W.failed sink.old sink.new (contradiction_line contradiction.now)
         result }
 {
-    let mut old = Buffer::new();
-    let mut new = Buffer::new();
+    let mut first = Buffer::new();
+    let mut second = Buffer::new();
+    let old = first.format(contradiction.old_line).as_bytes();
+    let new = second.format(contradiction.new_line).as_bytes();
+    let word = contradiction.kind.word();
+    let name = contradiction.name.bytes();
     write_parts(
         &[
             b"telexplan: old plan line ",
-            old.format(contradiction.old_line).as_bytes(),
+            old,
             b" and new plan line ",
-            new.format(contradiction.new_line).as_bytes(),
+            new,
             b": ",
-            contradiction.kind.word(),
+            word,
             b" ",
-            contradiction.name.bytes(),
+            name,
             b" differs\n",
         ],
         sink,
