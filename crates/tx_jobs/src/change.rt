@@ -16,6 +16,7 @@ use crate::two_plans::{TwoPlans, read_plans};
 use std::alloc::{Allocator, Global};
 use tx_cert::Cert;
 use tx_change::{ChangeVerdict, judge_change, write_change};
+use tx_join::Joined;
 use tx_plan::{Limits, Plan};
 use tx_rank::Finding;
 use tx_text::{Sink, Source};
@@ -39,12 +40,15 @@ impl<A: Allocator> Changed<A> {
     fn of(plans: TwoPlans<A>, verdict: ChangeVerdict<A>) -> Changed<A>
         ensures { result ≡ changed_of plans verdict }
     {
+        let TwoPlans { new, joined, .. } = plans;
+        let Joined {
+            old: before,
+            new: after,
+        } = joined;
         match verdict {
-            ChangeVerdict::Sound(cert) => Changed::Sound(plans.joined.old, cert),
-            ChangeVerdict::Unsound(findings) => {
-                Changed::Unsound(plans.joined.old, plans.joined.new, findings)
-            }
-            ChangeVerdict::NewUnsound(findings) => Changed::NewUnsound(plans.new, findings),
+            ChangeVerdict::Sound(cert) => Changed::Sound(before, cert),
+            ChangeVerdict::Unsound(findings) => Changed::Unsound(before, after, findings),
+            ChangeVerdict::NewUnsound(findings) => Changed::NewUnsound(new, findings),
         }
     }
 }

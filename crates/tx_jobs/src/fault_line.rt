@@ -1,5 +1,5 @@
 // The line that says why a job stopped.
-ghost use Rattle.std.specs.Prelude.{◌≡◌};
+ghost use Rattle.std.specs.Prelude.{◌≡◌, ◌++◌, codes, decimal};
 ghost use Rattle.tx_text.specs.Wrote.{Wrote};
 ghost use Rattle.tx_plantext.specs.PlanFaults.{fault_row};
 ghost use Rattle.tx_jobs.specs.JobFaults.{fault_line, text_fault_line, contradiction_line, stage_count_line};
@@ -93,18 +93,38 @@ fn write_contradiction<W: Sink>(
     ensures { Wrote W.taken W.failed sink.old sink.new (contradiction_line contradiction.now)
         result }
 {
-    let mut old = Buffer::new();
-    let mut new = Buffer::new();
+    let word = contradiction.kind.word();
+    let (old, new) = (contradiction.old_line, contradiction.new_line);
+    write_differing(old, new, word, contradiction.name.bytes(), sink)
+}
+
+/// Writes that a line of the old plan and one of the new plan differ, with the word that begins
+/// them and the name in them.
+fn write_differing<'a, W: Sink>(
+    old: u64,
+    new: u64,
+    word: &'a [u8],
+    name: &'a [u8],
+    sink: &mut W,
+) -> Result<(), WriteFault>
+    ensures { Wrote W.taken W.failed sink.old sink.new (codes "telexplan: old plan line "
+        ++ (decimal old ++ (codes " and new plan line " ++ (decimal new ++ (codes ": "
+        ++ (word.now ++ (codes " " ++ (name.now ++ codes " differs\n")))))))) result }
+{
+    let mut first = Buffer::new();
+    let mut second = Buffer::new();
+    let old = first.format(old).as_bytes();
+    let new = second.format(new).as_bytes();
     write_parts(
         &[
             b"telexplan: old plan line ",
-            old.format(contradiction.old_line).as_bytes(),
+            old,
             b" and new plan line ",
-            new.format(contradiction.new_line).as_bytes(),
+            new,
             b": ",
-            contradiction.kind.word(),
+            word,
             b" ",
-            contradiction.name.bytes(),
+            name,
             b" differs\n",
         ],
         sink,
