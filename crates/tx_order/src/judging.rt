@@ -1,6 +1,6 @@
 // The judgement on an order into a plan of any network.
 ghost use Rattle.std.specs.Prelude.{ℕ, IfOk};
-ghost use Rattle.tx_plan.specs.Plan.{Plan};
+ghost use Rattle.tx_plan.specs.Plan.{Plan as PlanNow};
 ghost use Rattle.tx_plan.specs.Mixtures.{SameNetwork};
 ghost use Rattle.tx_audit.specs.Audits.{IsRightRanking};
 ghost use Rattle.tx_order.specs.OrderVerdicts.{IsRightVerdict};
@@ -53,7 +53,7 @@ fn judge_new<A: Allocator + Copy>(
     new: &Plan<A>,
     limits: Limits,
 ) -> Result<OrderVerdict<A>, NoMemory>
-    ensures { (before after : Plan) → IsOrdered before after limits.limit limits.spare order
+    ensures { (before after : PlanNow) → IsOrdered before after limits.limit limits.spare order
         → IfOk result (IsRightVerdict before after new.now limits.limit limits.spare) }
 {
     match judge(alloc, new, limits) {
@@ -67,7 +67,7 @@ fn judge_new<A: Allocator + Copy>(
 
 /// The verdict where there is an order, by the ranking of the new plan as it is.
 fn verdict_of<A: Allocator>(order: Order<A>, ranking: Ranking<A>) -> OrderVerdict<A>
-    ensures { (before after new : Plan) (limit spare : ℕ) → IsOrdered before after limit spare order
+    ensures { (before after new : PlanNow) (limit spare : ℕ) → IsOrdered before after limit spare order
         → IsRightRanking new limit spare ranking
         → IsRightVerdict before after new limit spare result }
 {

@@ -122,6 +122,7 @@ fn staged_of<A: Allocator + Copy>(
             Some((lists, cert)) => Staged::Ordered(Some((order.with_lists(lists), cert))),
             None => Staged::Ordered(None),
         },
-        OrderVerdict::NoOrder(_, _, _) | OrderVerdict::NewUnsound(_) => Staged::NoOrder,
+        OrderVerdict::NoOrder(_, _, _) => Staged::NoOrder,
+        OrderVerdict::NewUnsound(_) => Staged::NoOrder,
     }
 }

@@ -15,5 +15,5 @@ returns-in-Ordered g c = λ stage h. staged_none stage c.args.verdict c.args.mad
 pub returns-in-NoOrder : goal.returns-in-NoOrder
 returns-in-NoOrder g c = λ stage h. staged_without stage c.args.verdict c.in-NoOrder.field-0 c.in-NoOrder.field-1 c.in-NoOrder.field-2 c.in-NoOrder.is
 
-pub returns-in-NewUnsound : goal.returns-in-NewUnsound
-returns-in-NewUnsound g c = λ stage h. staged_unsound stage c.args.verdict c.in-NewUnsound.field-0 c.in-NewUnsound.is
+pub returns : goal.returns
+returns g c = λ stage h. staged_unsound stage c.args.verdict c.in-NewUnsound.field-0 c.in-NewUnsound.is
