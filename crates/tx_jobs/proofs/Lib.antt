@@ -4,6 +4,7 @@ mod Breaking
 mod CheckedRun
 mod Simulating
 mod ToldRuns
+mod Outcomes
 mod Evidenced
 mod ChangeTold
 mod ChangeEvidenced

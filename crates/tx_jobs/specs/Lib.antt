@@ -20,5 +20,6 @@ pub mod OrderJobs
 pub mod CheckedJobs
 pub mod Contents
 pub mod Done
+pub mod Outcomes
 pub mod inner
 pub mod Parts

@@ -1,0 +1,48 @@
+use Rattle.std.proofs.Common.{◌≡◌, ◌∙◌, Ok, Err, refl}
+use Rattle.tx_text.proofs.Exits.{exits_with}
+use Rattle.tx_jobs.proofs.Outcomes.{makes_plan}
+use Rattle.tx_jobs.proofs.outcome.do_over_text.Goals as goal
+
+pub revision-requires : goal.revision-requires
+revision-requires g c =
+    let done = rw c.new-first.ensures.rest at c.in_ok-done.ensures.done in
+    makes_plan c.args.text.now c.do_job.new.first _ _ _ c.args.command.now c.in_ok-done.done done
+
+pub returns-clause-done : goal.returns-clause-done
+returns-clause-done g c = record {
+  left = c.do_job.new.first;
+  answer = Ok c.in_ok-done.done;
+  done = rw c.new-first.ensures.rest at c.in_ok-done.ensures.done;
+  revises = (refl, c.in_ok-text.ensures.ok);
+}
+
+pub returns-in_err-done-clause-done : goal.returns-in_err-done-clause-done
+returns-in_err-done-clause-done g c =
+    let f = c.in_err-done.field-0.0 in
+    record {
+      left = c.do_job.new.first;
+      answer = Err f;
+      done = rw c.new-first.ensures.rest at c.in_err-done.ensures.done;
+      revises = exits_with c.from_residual.result f c.from_residual.ensures.1;
+    }
+
+pub returns-in_err-done-clause-mark : goal.returns-in_err-done-clause-mark
+returns-in_err-done-clause-mark g c =
+    let f = c.in_err-done.field-0.0 in
+    rw (exits_with c.from_residual.result f c.from_residual.ensures.1) c.in_err-done.ensures.mark
+
+pub returns-in_err-text-clause-done : goal.returns-in_err-text-clause-done
+returns-in_err-text-clause-done g c =
+    let f = c.in_err-text.field-0.0 in
+    record {
+      left = c.do_job.new.first;
+      answer = Ok c.in_ok-done.done;
+      done = rw c.new-first.ensures.rest at c.in_ok-done.ensures.done;
+      revises = rw (exits_with c.from_residual-in_err-text.result f c.from_residual-in_err-text.ensures.1) c.in_err-text.ensures.err;
+    }
+
+pub returns-in_err-text-clause-mark : goal.returns-in_err-text-clause-mark
+returns-in_err-text-clause-mark g c =
+    let f = c.in_err-text.field-0.0 in
+    let memory = c.in_err-text.ensures.err in
+    rw (exits_with c.from_residual-in_err-text.result f c.from_residual-in_err-text.ensures.1, memory) c.in_ok-done.ensures.mark

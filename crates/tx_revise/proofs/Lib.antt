@@ -1,0 +1,14 @@
+pub mod Tails
+pub mod Parts
+pub mod LineKinds
+pub mod Rows
+pub mod Carrying
+pub mod OldLines
+pub mod AtEnd
+pub mod Joins
+pub mod Said
+pub mod Steps
+pub mod Spelling
+pub mod Counts
+pub mod Whole
+pub mod Others
