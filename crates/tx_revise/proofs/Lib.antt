@@ -12,3 +12,9 @@ pub mod Spelling
 pub mod Counts
 pub mod Whole
 pub mod Others
+pub mod Comments
+pub mod CommentTurns
+pub mod CommentsKept
+pub mod NamesRead
+pub mod SameLines
+pub mod RoutesFront

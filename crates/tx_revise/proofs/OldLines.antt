@@ -18,7 +18,7 @@ use Rattle.tx_revise.proofs.Tails.{IsLine, alone}
 use Rattle.tx_revise.proofs.LineKinds.{Begins}
 use Rattle.tx_revise.proofs.Carrying.{so_far, IsReached, Carries, blank_leads, spelled_leads, some_bars, still_allowed}
 
-cancel : {A : Type 0} (xs ys zs : List A) → xs ++ ys ≡ xs ++ zs → ys ≡ zs
+pub cancel : {A : Type 0} (xs ys zs : List A) → xs ++ ys ≡ xs ++ zs → ys ≡ zs
 cancel [] ys zs e = e
 cancel (x ∷ xs) ys zs e = cancel xs ys zs (let f : xs ++ ys ≡ xs ++ zs = cc in f)
 

@@ -12,7 +12,7 @@ use Rattle.tx_revise.specs.Laws.{is_other, is_other_by, StandAmong, none, this, 
 use Rattle.tx_revise.proofs.Said.{revised_is}
 
 -- lines in front change nothing
-behind_others : (xs front ys : List (List ℕ)) → StandAmong xs ys → StandAmong xs (front ++ ys)
+pub behind_others : (xs front ys : List (List ℕ)) → StandAmong xs ys → StandAmong xs (front ++ ys)
 behind_others xs [] ys h = h
 behind_others xs (y ∷ front) ys h = later y xs (front ++ ys) (behind_others xs front ys h)
 

@@ -86,7 +86,7 @@ module _ (p : Plan) (h : IsPlan p) (rs : List Route) (bs : List Pair) where
   over_bar : (b : Pair) → IsBar p b → IsBar (rerouted p rs bs) b
   over_bar b k = record { exchange = k.exchange; code = k.code; away = k.away }
 
-  rerouted_rules : AllByRecursion (IsRoute p) rs → EachPair (λ r o. r.exchange ≡ o.exchange → r.code ≢ o.code) rs
+  pub rerouted_rules : AllByRecursion (IsRoute p) rs → EachPair (λ r o. r.exchange ≡ o.exchange → r.code ≢ o.code) rs
       → AllByRecursion (IsBar p) bs → EachPair (λ b c. b.exchange ≡ c.exchange → b.code ≢ c.code) bs → IsPlan (rerouted p rs bs)
   rerouted_rules routes differ bars apart = record {
     exchanges = h.exchanges;
@@ -170,7 +170,7 @@ module _ (p q : Plan) (xs : Begins p.exchanges q.exchanges) (cs : Begins p.codes
     differ = h.differ;
   }
 
-  words_here : (r : Route) → IsDeclared r → route_words p r ≡ route_words q r
+  pub words_here : (r : Route) → IsDeclared r → route_words p r ≡ route_words q r
   words_here r d =
       let a = exchange_here r.exchange d.exchange in
       let b = figures_here r.code d.code in

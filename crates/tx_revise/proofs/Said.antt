@@ -36,7 +36,7 @@ use Rattle.tx_revise.proofs.Joins.{cut_joined, starts_no_lf}
 use Rattle.tx_revise.proofs.Steps.{lines_cons, lines_none}
 
 -- the one word END
-end_is : (ws : List (List ℕ)) → is_end ws ≡ true → ws ≡ codes "END" ∷ []
+pub end_is : (ws : List (List ℕ)) → is_end ws ≡ true → ws ≡ codes "END" ∷ []
 end_is [] h = let z : ⊥ = cc in absurd z
 end_is (w ∷ []) h = ap (λ x. x ∷ []) ((bytes_eq-Decides w (codes "END")).0 h)
 end_is (w ∷ y ∷ ws) h = let z : ⊥ = cc in absurd z
@@ -93,15 +93,15 @@ along b e = record { more = b.more; is = sym e ∙ b.is }
 module _ (r q : Plan) (hq : IsPlan q) (net : SameNetwork r q) (cr : List ℕ) (cr_is : IsCr cr) where
   -- ---- WHAT STANDS FOR LINES
 
-  turn_is : (line : List ℕ) (s : Reached) (ws : List (List ℕ)) → words_in line ≡ ws → turn q cr line s ≡ turn_by q cr ws line s
+  pub turn_is : (line : List ℕ) (s : Reached) (ws : List (List ℕ)) → words_in line ≡ ws → turn q cr line s ≡ turn_by q cr ws line s
   unfolding turn
   turn_is line s ws e = ap (λ w. turn_by q cr w line s) e
 
-  lines_by : (line : List ℕ) (lines : List (List ℕ)) (s : Reached) (t : Turn) → turn q cr line s ≡ t → lines_of q cr (line ∷ lines) s ≡ t.lines ++ lines_of q cr lines t.next
+  pub lines_by : (line : List ℕ) (lines : List (List ℕ)) (s : Reached) (t : Turn) → turn q cr line s ≡ t → lines_of q cr (line ∷ lines) s ≡ t.lines ++ lines_of q cr lines t.next
   lines_by line lines s t e = lines_cons q cr line lines s ∙ ap (λ (u : Turn). u.lines ++ lines_of q cr lines u.next) e
 
   -- lines behind END stand
-  ended_stand : (parts : List (List ℕ)) (s : Reached) → Ends parts → lines_of q cr parts s ≡ parts
+  pub ended_stand : (parts : List (List ℕ)) (s : Reached) → Ends parts → lines_of q cr parts s ≡ parts
   ended_stand [] s h = lines_none q cr s
   ended_stand (part ∷ []) s h =
       let e : words_in part ≡ [] = ap words_of (no_cr part (right_from part h.0).bytes) ∙ h.1 in
@@ -312,7 +312,7 @@ module _ (r q : Plan) (hq : IsPlan q) (net : SameNetwork r q) (cr : List ℕ) (c
   second_begun found lines (alone line h) g = header_begun 2 (λ e. refl) (codes "PLAN") (codes "2" ∷ []) line lines h refl g
   second_begun found lines (below line blank b h) g = blank_begun blank (line ∷ lines) b (header_begun 2 (λ e. refl) (codes "PLAN") (codes "2" ∷ []) line lines h refl g)
 
-  head_word : (w : List ℕ) (ws : List (List ℕ)) (v : ℕ) → header (w ∷ ws) ≡ Some v → bytes_eq w (codes "PLAN") ≡ true
+  pub head_word : (w : List ℕ) (ws : List (List ℕ)) (v : ℕ) → header (w ∷ ws) ≡ Some v → bytes_eq w (codes "PLAN") ≡ true
   head_word w [] v h = let z : ⊥ = cc in absurd z
   head_word w (y ∷ []) v h = elim (bytes_eq w (codes "PLAN")) as (λ b. cond b (version_of 2 y) None ≡ Some v → b ≡ true) [ true ↦ λ e. refl | false ↦ λ e. absurd (let z : ⊥ = cc in z) ] h
   head_word w (y ∷ z ∷ ws) v h = let z : ⊥ = cc in absurd z
@@ -339,7 +339,7 @@ module _ (r q : Plan) (hq : IsPlan q) (net : SameNetwork r q) (cr : List ℕ) (c
           subst Begun (sym (lines_by part (next ∷ parts) start (header_turn q part start) (turn_is part start (w ∷ ws) e ∙ turned)))
           (under k.version w ws e k.is plan k.says (has_bars q) refl)
 
-first_is : (parts : List (List ℕ)) → IsCr (first_cr parts)
+pub first_is : (parts : List (List ℕ)) → IsCr (first_cr parts)
 first_is [] = no_byte
 first_is (part ∷ parts) = is_cr part
 
