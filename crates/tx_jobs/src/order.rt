@@ -9,8 +9,9 @@ ghost use Rattle.tx_jobs.specs.inner.TwoPlans.{IsJoinOf};
 use crate::job_fault::JobFault;
 use crate::two_plans::{TwoPlans, read_plans};
 use std::alloc::Allocator;
+use tx_join::Joined;
 use tx_order::{Staged, tell_order};
-use tx_plan::Limits;
+use tx_plan::{Limits, Plan};
 use tx_text::{Sink, Source};
 
 /// Reads an old plan and then a new one, each to the end of its text, and writes the report on an
@@ -50,8 +51,29 @@ fn order_of<A: Allocator + Copy, W: Sink>(
     ensures mark { W.failed out.new ≡ mark_after (W.failed out.old) result }
 {
     let TwoPlans { old, new, joined } = plans;
-    let told = tell_order(alloc, &old, &new, joined, limits, stage, out);
-    match told {
+    let told = order_over(alloc, &old, &new, joined, limits, stage, out);
+    drop(old);
+    drop(new);
+    told
+}
+
+/// Reports the order of two plans over their joined network.
+fn order_over<A: Allocator + Copy, W: Sink>(
+    alloc: A,
+    old: &Plan<A>,
+    new: &Plan<A>,
+    joined: Joined<A>,
+    limits: Limits,
+    stage: Option<u8>,
+    out: &mut W,
+) -> Result<Staged<A>, JobFault>
+    requires { IsJoinOf old.now new.now
+        (record { old = old.now; new = new.now; joined = joined }) }
+    ensures told { ToldOrder old.now new.now stage limits.limit limits.spare
+        (output W.taken out.old out.new) result }
+    ensures mark { W.failed out.new ≡ mark_after (W.failed out.old) result }
+{
+    match tell_order(alloc, old, new, joined, limits, stage, out) {
         Ok(staged) => Ok(staged),
         Err(fault) => Err(JobFault::from(fault)),
     }
