@@ -40,15 +40,16 @@ impl<A: Allocator> Changed<A> {
     fn of(plans: TwoPlans<A>, verdict: ChangeVerdict<A>) -> Changed<A>
         ensures { result ≡ changed_of plans verdict }
     {
-        let TwoPlans { new, joined, .. } = plans;
-        let Joined {
-            old: before,
-            new: after,
-        } = joined;
         match verdict {
-            ChangeVerdict::Sound(cert) => Changed::Sound(before, cert),
-            ChangeVerdict::Unsound(findings) => Changed::Unsound(before, after, findings),
-            ChangeVerdict::NewUnsound(findings) => Changed::NewUnsound(new, findings),
+            ChangeVerdict::Sound(cert) => {
+                let Joined { old, .. } = plans.into_joined();
+                Changed::Sound(old, cert)
+            }
+            ChangeVerdict::Unsound(findings) => {
+                let Joined { old, new } = plans.into_joined();
+                Changed::Unsound(old, new, findings)
+            }
+            ChangeVerdict::NewUnsound(findings) => Changed::NewUnsound(plans.into_new(), findings),
         }
     }
 }

@@ -28,6 +28,24 @@ pub(crate) struct TwoPlans<A: Allocator = Global> {
     pub joined: Joined<A>,
 }
 
+impl<A: Allocator> TwoPlans<A> {
+    /// Both over the joined network.
+    pub fn into_joined(self) -> Joined<A>
+        ensures { result ≡ self.joined }
+    {
+        let TwoPlans { joined, .. } = self;
+        joined
+    }
+
+    /// The new plan as it is.
+    pub fn into_new(self) -> Plan<A>
+        ensures { result ≡ self.new }
+    {
+        let TwoPlans { new, .. } = self;
+        new
+    }
+}
+
 /// A plan, and the text that says it.
 #[derive(Debug, Drop)]
 struct PlanText<A: Allocator = Global> {
