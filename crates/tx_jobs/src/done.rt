@@ -2,6 +2,7 @@
 ghost use Rattle.std.specs.List.{list_any};
 ghost use Rattle.std.specs.Prelude.{◌≡◌, ◌==◌, not, length, map, option_map};
 ghost use Rattle.tx_jobs.specs.Contents.{content_text};
+ghost use Rattle.tx_jobs.specs.Done.{is_denied};
 
 use crate::content::Content;
 use crate::evidence::Evidence;
@@ -78,11 +79,10 @@ impl<A: Allocator> Done<A> {
             | Done::Audited(Evidence::Unsound(_))
             | Done::Changed(ChangeEvidence::Unsound(_))
             | Done::Ordered(Staged::NoOrder)
-            | Done::Mended(Mending::NoRouting(_, _, _))
-            | Done::Survived(Survival::Ungraded(_)) => 1,
+            | Done::Mended(Mending::NoRouting(_, _, _)) => 1,
             Done::Told(strict, summary) => u8::from(*strict && summary.refused != 0),
             Done::Graded(grade) => u8::from(grade.plan.is_none()),
-            Done::Survived(Survival::Tried(outcomes)) => u8::from(cuts_somebody_off(outcomes)),
+            Done::Survived(survival) => u8::from(is_denied(survival)),
             Done::Linted(status) => *status,
         }
     }
@@ -147,6 +147,16 @@ impl<A: Allocator> Done<A> {
             | Done::Filled(_)
             | Done::Written => [None, None],
         }
+    }
+}
+
+/// Whether an outage cuts somebody off, or the plan has no grade.
+fn is_denied<A: Allocator>(survival: &Survival<A>) -> bool
+    ensures { result ≡ is_denied survival.now }
+{
+    match survival {
+        Survival::Tried(outcomes) => cuts_somebody_off(outcomes),
+        Survival::Ungraded(_) => true,
     }
 }
 

@@ -19,22 +19,23 @@ fn outcomes_differ(
     if outcomes.len() != failing.len() {
         return Some(Difference::Count);
     }
-    let mut rest = wanted.iter().enumerate();
+    let mut at = 0;
     for (outcome, it) in outcomes.iter().zip(failing) {
         if !it.is(outcome.outage) {
             return Some(Difference::Count);
         }
         for cut in &outcome.cuts {
-            match rest.next() {
-                Some((_, it)) if it.is(plan, outcome.outage, cut) => {}
-                Some((index, _)) => return Some(Difference::CutAt(index)),
+            match wanted.get(at) {
+                Some(it) if it.is(plan, outcome.outage, cut) => at += 1,
+                Some(_) => return Some(Difference::CutAt(at)),
                 None => return Some(Difference::Count),
             }
         }
     }
-    match rest.next() {
-        Some(_) => Some(Difference::Count),
-        None => None,
+    if at == wanted.len() {
+        None
+    } else {
+        Some(Difference::Count)
     }
 }
 
