@@ -6,8 +6,8 @@ use Rattle.tx_jobs.proofs.change_evidence.new_plan_of.Goals as goal
 pub of-requires : goal.of-requires
 of-requires g c =
     new_writable c.args.new c.args.limits.limit c.args.limits.spare c.as_slice.result.now
-    c.in_ok-new_plan_shown.field-0 c.in-Some.shown c.in-Some.is c.in_ok-new_plan_shown.ensures
+    c.in_ok-shown.field-0 c.in-Some.shown c.in-Some.is c.in_ok-shown.ensures
 
-pub returns-in_err-new_plan_shown : goal.returns-in_err-new_plan_shown
-returns-in_err-new_plan_shown g c =
+pub returns-in_err-shown : goal.returns-in_err-shown
+returns-in_err-shown g c =
     rw (exits_with c.from_residual.result NoMemory c.from_residual.ensures.1) tt
