@@ -27,3 +27,15 @@ returns-in_err-verdict-clause-told g c =
 pub returns-in_err-verdict-clause-mark : goal.returns-in_err-verdict-clause-mark
 returns-in_err-verdict-clause-mark g c =
     rw (exits_with c.from_residual.result c.in_err-verdict.field-0.0 c.from_residual.ensures.1) c.in_err-verdict.ensures.mark
+
+pub returns-in_err-verdict-clause-network : goal.returns-in_err-verdict-clause-network
+returns-in_err-verdict-clause-network g c =
+    rw (exits_with c.from_residual.result c.in_err-verdict.field-0.0 c.from_residual.ensures.1) tt
+
+pub returns-in_err-verdict-clause-each : goal.returns-in_err-verdict-clause-each
+returns-in_err-verdict-clause-each g c =
+    rw (exits_with c.from_residual.result c.in_err-verdict.field-0.0 c.from_residual.ensures.1) tt
+
+pub returns-in_err-verdict-clause-each_new : goal.returns-in_err-verdict-clause-each_new
+returns-in_err-verdict-clause-each_new g c =
+    rw (exits_with c.from_residual.result c.in_err-verdict.field-0.0 c.from_residual.ensures.1) tt
