@@ -62,9 +62,20 @@ fn change_evidence_of<A: Allocator + Copy>(
 {
     match changed {
         Changed::Sound(plan, cert) => Ok(ChangeEvidence::Sound(plan, cert)),
-        _ if !with_mixture => Ok(ChangeEvidence::Unsound(None)),
-        Changed::Unsound(old, new, findings) => mixture_of(alloc, old, new, findings, limits),
-        Changed::NewUnsound(new, findings) => new_plan_of(alloc, new, findings, limits),
+        Changed::Unsound(old, new, findings) => {
+            if with_mixture {
+                mixture_of(alloc, old, new, findings, limits)
+            } else {
+                Ok(ChangeEvidence::Unsound(None))
+            }
+        }
+        Changed::NewUnsound(new, findings) => {
+            if with_mixture {
+                new_plan_of(alloc, new, findings, limits)
+            } else {
+                Ok(ChangeEvidence::Unsound(None))
+            }
+        }
     }
 }
 
