@@ -108,14 +108,13 @@ fn mend_grammar<'a>(alloc: Global) -> Result<clap::Command<'a>, AllocError>
 
 const OLD_PLAN: &str = "The plan that is in force; - is standard input";
 
-const NEW_PLAN: &str = "The plan that is to be: the same network with other routes and
-bars; - is standard input";
+const NEW_PLAN: &str = "The plan that is to be; - is standard input";
 
 const CHANGE_HELP: &str = "Example: telexplan change own.plan new.plan --limit 1 --spare 1
 
-Exit status: 0 after YES, 1 after NO, 2 for a refused text and for plans of two
-networks, 3 for a failed read or write, 4 when out of memory, 64 for refused
-words";
+Exit status: 0 after YES, 1 after NO, 2 for a refused text and for plans that
+contradict each other, 3 for a failed read or write, 4 when out of memory, 64
+for refused words";
 
 fn change_grammar<'a>(alloc: Global) -> Result<clap::Command<'a>, AllocError>
     ensures { IfOk result (λ c. app_of c ≡ grammar.change_words) }
@@ -152,9 +151,9 @@ same finding in that plan, if there is one",
 
 const ORDER_HELP: &str = "Example: telexplan order own.plan new.plan --limit 1 --spare 1
 
-Exit status: 0 after YES, 1 after NO, 2 for a refused text and for plans of two
-networks, 3 for a failed read or write, 4 when out of memory, 64 for refused
-words, and for a stage that the order does not have";
+Exit status: 0 after YES, 1 after NO, 2 for a refused text and for plans that
+contradict each other, 3 for a failed read or write, 4 when out of memory, 64
+for refused words, and for a stage that the order does not have";
 
 fn order_grammar<'a>(alloc: Global) -> Result<clap::Command<'a>, AllocError>
     ensures { IfOk result (λ c. app_of c ≡ grammar.order_words) }

@@ -2,7 +2,7 @@
 use crate::code_table::Entry;
 
 /// The words of reports, of a plan and of a certificate.
-pub static REPORT_WORDS: [Entry; 44] = [
+pub static REPORT_WORDS: [Entry; 47] = [
     [
         "VERDICT",
         "Verdict",
@@ -78,8 +78,20 @@ pub static REPORT_WORDS: [Entry; 44] = [
     [
         "NEW",
         "NewPlan",
-        "The finding is of the plan that is to be.",
+        "The finding is of the plan that is to be, or that plan has it and the old one has not.",
         "Mend that plan first: telexplan mend finds lists.",
+    ],
+    [
+        "GONE",
+        "Gone",
+        "The old plan has it, and the new one has not.",
+        "Look at it: it is taken away after the last switch.",
+    ],
+    [
+        "CIRCUITS",
+        "CircuitsChanged",
+        "Both plans have the group, with so many circuits in the old one and in the new one.",
+        "Nothing: both plans are judged with the greater number.",
     ],
     [
         "MEND",
@@ -144,7 +156,7 @@ pub static REPORT_WORDS: [Entry; 44] = [
     [
         "GROUPS",
         "OtherGroups",
-        "So many groups cut off nobody if they fail alone.",
+        "So many groups cut off nobody if they fail alone. In a line UNSERVED, so many groups lead to exchanges that can be served.",
         "Nothing: calls go by other groups.",
     ],
     [
@@ -198,7 +210,7 @@ pub static REPORT_WORDS: [Entry; 44] = [
     [
         "RANK",
         "Rank",
-        "A number of an exchange for a code. Each group of each list leads to a smaller one, so no call comes back. In a trace it is the number of steps of the longest way home.",
+        "A number of an exchange for a code. Each group of each list leads to a smaller one, so no call comes back. In a trace it is the number of steps of the longest way home. In a line UNSERVED, the smallest that the exchange can have.",
         "telexplan audit --cert writes the ranks of a safe plan.",
     ],
     [
@@ -228,8 +240,14 @@ pub static REPORT_WORDS: [Entry; 44] = [
     [
         "CODE",
         "DestinationCode",
-        "A destination code, with its home or its grade.",
+        "A destination code, with its home, its grade, or how many exchanges cannot be served for it.",
         "telexplan trace shows how calls for it go.",
+    ],
+    [
+        "MISSING",
+        "GroupsMissing",
+        "From each exchange behind it some groups lead to exchanges that can be served, and so many more are needed.",
+        "Add groups from there to an exchange that can be served.",
     ],
     [
         "DISTINCT",

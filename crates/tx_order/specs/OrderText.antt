@@ -5,12 +5,14 @@ use Rattle.tx_text.specs.Ends.{StopsIn, Output}
 use Rattle.tx_plan.specs.Plan.{Plan, figures_of, exchange_name}
 use Rattle.tx_plan.specs.Routes.{route_list, is_barred}
 use Rattle.tx_rank.specs.declared.finding.Finding.{Finding}
-use Rattle.tx_rank.specs.Report.{asked_line, findings_of, finding_line, no_line}
+use Rattle.tx_rank.specs.Report.{asked_line, findings_of, no_line}
+use Rattle.tx_join.specs.Differences.{difference_text}
 use Rattle.tx_mend.specs.MendText.{line_unless_same}
-use Rattle.tx_order.specs.declared.switching.Switching.{Switching}
-use Rattle.tx_order.specs.declared.switching.Switching.TheVariants.{Ordered, NoOrder}
+use Rattle.tx_change.specs.ChangeReport.{findings_after, verdict_after}
+use Rattle.tx_order.specs.declared.judging.OrderVerdict.{OrderVerdict}
+use Rattle.tx_order.specs.declared.judging.OrderVerdict.TheVariants.{Ordered, NoOrder, NewUnsound}
 use Rattle.tx_order.specs.Ordered.{Order, plan_before, stages_in}
-use Rattle.tx_order.specs.Switchings.{IsRightSwitching}
+use Rattle.tx_order.specs.OrderVerdicts.{IsRightVerdict}
 
 -- an exchange and a code after a word
 abbrev pub pair_line : Plan → (word : List ℕ) → (x c : ℕ) → List ℕ
@@ -55,29 +57,28 @@ abbrev pub stages_text : Order → List ℕ
 stages_text o = flat_map (stage_text o) (range_with_len 0 (stages_in o)) ++ codes "VERDICT YES\n"
 
 module _ {A : Type 0} where
-  -- a finding of one of the plans, after the word for it
-  abbrev pub finding_of : Plan → (word : List ℕ) → Finding A → List ℕ
-  finding_of p word f = word ++ finding_line p f
-
   -- where there is no order: the findings of the old plan and of the new one, and NO with their
   -- number
   abbrev pub no_order_text : Plan → (before after : List (Finding A)) → List ℕ
-  no_order_text p before after = flat_map (finding_of p (codes "OLD ")) before
-      ++ (flat_map (finding_of p (codes "NEW ")) after ++ no_line (length before + length after))
+  no_order_text p before after = findings_after (codes "OLD ") p before
+      ++ (findings_after (codes "NEW ") p after ++ no_line (length before + length after))
 
-  -- all lines after the first
-  abbrev pub switching_text : Switching A → List ℕ
-  switching_text (Ordered o) = stages_text o
-  switching_text (NoOrder p before after) =
+  -- the stages, or what is wrong with both plans over the joined network, or with the new plan as it
+  -- is, by its own names
+  abbrev pub verdict_text : (new : Plan) → OrderVerdict A → List ℕ
+  verdict_text new (Ordered o) = stages_text o
+  verdict_text new (NoOrder p before after) =
       no_order_text p (findings_of before) (findings_of after)
+  verdict_text new (NewUnsound findings) = verdict_after (codes "NEW ") new findings.items
 
-  -- The report: what was asked, and what the search for an order answers
-  abbrev pub order_report : (limit spare : ℕ) → Switching A → List ℕ
-  order_report limit spare s = asked_line (codes "ORDER") limit spare ++ switching_text s
+  -- The report: what was asked, in what the plans differ beside lists and bars, and the verdict
+  abbrev pub order_report : (old new : Plan) → (limit spare : ℕ) → OrderVerdict A → List ℕ
+  order_report old new limit spare verdict = asked_line (codes "ORDER") limit spare
+      ++ (difference_text old new ++ verdict_text new verdict)
 
--- an answer that is right, whose report was written in part
-pub record OrderToldInPart (A : Type 0) (old new : Plan) (limit spare : ℕ) (out : Output)
-    : Type 0 where
-  pub switching : Switching A
-  pub right : IsRightSwitching old new limit spare switching
-  pub wrote : StopsIn out.old out.new (order_report limit spare switching)
+-- a verdict that is right, whose report was written in part
+pub record OrderToldInPart (A : Type 0) (old new before after : Plan) (limit spare : ℕ)
+    (out : Output) : Type 0 where
+  pub verdict : OrderVerdict A
+  pub right : IsRightVerdict before after new limit spare verdict
+  pub wrote : StopsIn out.old out.new (order_report old new limit spare verdict)

@@ -1,36 +1,52 @@
 // The writer of the report of an order.
 ghost use Rattle.std.specs.Prelude.{◌≡◌, ◌<◌, ◌+◌};
-ghost use Rattle.std.specs.List.{flat_map};
 ghost use Rattle.tx_text.specs.Wrote.{Wrote};
 ghost use Rattle.tx_plan.specs.Routes.{route_list, is_barred};
 ghost use Rattle.tx_mend.specs.MendText.{line_unless_same};
 ghost use Rattle.tx_rank.specs.Report.{findings_of};
 ghost use Rattle.tx_order.specs.Ordered.{plan_before, stages_in};
-ghost use Rattle.tx_order.specs.OrderText.{pair_line, bar_line, entry_lines, exchange_lines, switched_lines, stage_line, stage_text, stages_text, finding_of, no_order_text, order_report};
+ghost use Rattle.tx_order.specs.OrderText.{pair_line, bar_line, entry_lines, exchange_lines, switched_lines, stage_line, stage_text, stages_text, no_order_text, verdict_text, order_report};
 
+use crate::judging::OrderVerdict;
 use crate::orders::Order;
-use crate::switching::Switching;
 use itoa::Buffer;
 use std::alloc::Allocator;
+use tx_change::{write_findings_after, write_verdict_after};
+use tx_join::write_differences;
 use tx_mend::write_list;
 use tx_plan::{CodeId, ExchangeId, Limits, Plan};
-use tx_rank::{Finding, Ranking, write_asked, write_finding, write_no};
-use tx_text::{Sink, WriteFault, write_bytes, write_parts};
+use tx_rank::{Finding, Ranking, write_asked, write_no};
+use tx_text::{Sink, WriteFault, write_parts};
 
-/// Writes the report of the search for an order: the stages with what each switches and YES, or
-/// what is wrong with both plans and NO.
-pub fn write_switching<A: Allocator, W: Sink>(
-    switching: &Switching<A>,
+/// Writes the report of the search for an order: what was asked, in what the plans differ beside
+/// lists and bars, and then the stages with what each switches and YES, or what is wrong and NO.
+pub(crate) fn write_order<A: Allocator, W: Sink>(
+    old: &Plan<A>,
+    new: &Plan<A>,
+    verdict: &OrderVerdict<A>,
     limits: Limits,
     sink: &mut W,
 ) -> Result<(), WriteFault>
     ensures { Wrote W.taken W.failed sink.old sink.new
-        (order_report limits.limit limits.spare switching.now) result }
+        (order_report old.now new.now limits.limit limits.spare verdict.now) result }
 {
     write_asked(b"ORDER", limits, sink)?;
-    match switching {
-        Switching::Ordered(order) => write_stages(order, sink),
-        Switching::NoOrder(plan, before, after) => write_no_order(plan, before, after, sink),
+    write_differences(old, new, sink)?;
+    write_verdict(new, verdict, sink)
+}
+
+/// Writes the lines of the verdict.
+fn write_verdict<A: Allocator, W: Sink>(
+    new: &Plan<A>,
+    verdict: &OrderVerdict<A>,
+    sink: &mut W,
+) -> Result<(), WriteFault>
+    ensures { Wrote W.taken W.failed sink.old sink.new (verdict_text new.now verdict.now) result }
+{
+    match verdict {
+        OrderVerdict::Ordered(order) => write_stages(order, sink),
+        OrderVerdict::NoOrder(plan, before, after) => write_no_order(plan, before, after, sink),
+        OrderVerdict::NewUnsound(findings) => write_verdict_after(b"NEW ", new, findings, sink),
     }
 }
 
@@ -187,7 +203,7 @@ fn write_switched_list<A: Allocator, W: Sink>(
     write_list(order.new_plan(), code, exchange, sink)
 }
 
-/// Writes the findings of the old plan and of the new one, and NO with their number.
+/// Writes the findings of both plans over the joined network, and NO with their number.
 fn write_no_order<A: Allocator, W: Sink>(
     plan: &Plan<A>,
     before: &Ranking<A>,
@@ -199,8 +215,8 @@ fn write_no_order<A: Allocator, W: Sink>(
 {
     let before = findings(before);
     let after = findings(after);
-    write_findings(plan, b"OLD ", before, sink)?;
-    write_findings(plan, b"NEW ", after, sink)?;
+    write_findings_after(b"OLD ", plan, before, sink)?;
+    write_findings_after(b"NEW ", plan, after, sink)?;
     write_no(before.len() + after.len(), sink)
 }
 
@@ -212,34 +228,4 @@ fn findings<A: Allocator>(ranking: &Ranking<A>) -> &[Finding<A>]
         Ranking::Found(_) => &[],
         Ranking::Fails(findings) => findings.as_slice(),
     }
-}
-
-/// Writes the line of each finding after a word.
-fn write_findings<A: Allocator, W: Sink>(
-    plan: &Plan<A>,
-    word: &[u8],
-    findings: &[Finding<A>],
-    sink: &mut W,
-) -> Result<(), WriteFault>
-    ensures { Wrote W.taken W.failed sink.old sink.new
-        (flat_map (finding_of plan.now word.now) findings.now) result }
-{
-    for i in 0..findings.len() {
-        write_finding_of(plan, word, &findings[i], sink)?;
-    }
-    Ok(())
-}
-
-/// Writes the line of a finding after a word.
-fn write_finding_of<A: Allocator, W: Sink>(
-    plan: &Plan<A>,
-    word: &[u8],
-    finding: &Finding<A>,
-    sink: &mut W,
-) -> Result<(), WriteFault>
-    ensures { Wrote W.taken W.failed sink.old sink.new
-        (finding_of plan.now word.now finding.now) result }
-{
-    write_bytes(word, sink)?;
-    write_finding(plan, finding, sink)
 }

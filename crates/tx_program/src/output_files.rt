@@ -6,18 +6,18 @@ use crate::stop::Stop;
 use crate::targets::{Target, Targets};
 use std::alloc::Allocator;
 use std::io::Write;
-use tx_jobs::{Content, Done, JobFault, write_content};
+use tx_jobs::{Content, JobFault, Outcome, write_content};
 
 /// Makes the files that are named, one after another, of which the command came to what goes into
 /// them.
 pub(crate) fn write_files<'n, A: Allocator + Copy, F: Folder, O: Write + Drop>(
     alloc: A,
-    done: &Done<A>,
+    outcome: &Outcome<A>,
     targets: &Targets<'n>,
     folder: &F,
     report: &Output<O, A>,
 ) -> Result<(), Stop<'n>> {
-    let contents = done.contents();
+    let contents = outcome.contents();
     for i in 0..3usize {
         if let Some(content) = contents[i] {
             if let Some(target) = targets.get(i, folder)? {

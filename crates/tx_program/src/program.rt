@@ -14,7 +14,7 @@ use crate::tell::{announce_input, tell_words};
 use std::alloc::{Allocator, Global};
 use std::io::{IsTerminal, Read, Write};
 use tx_commands::{Command, Files, WordsFault, read_command};
-use tx_jobs::{Done, JobFault, do_job, write_fault};
+use tx_jobs::{JobFault, Outcome, do_command, write_fault};
 use tx_text::ToWrite;
 
 /// The ends of the program: a folder of files, standard input, standard output and standard error.
@@ -162,10 +162,10 @@ fn carry_out<'c, A: Allocator + Copy, F: Folder, I: Read + Drop, O: Write + Drop
 ) -> Result<u8, Stop<'c>>
     requires { IsInRange command.now }
 {
-    let done = do_over(alloc, command, inputs, output)?;
-    let made = write_files(alloc, &done, targets, folder, output);
-    let status = done.status();
-    drop(done);
+    let outcome = do_over(alloc, command, inputs, output)?;
+    let made = write_files(alloc, &outcome, targets, folder, output);
+    let status = outcome.done.status();
+    drop(outcome);
     made?;
     Ok(status)
 }
@@ -176,13 +176,13 @@ fn do_over<A: Allocator + Copy, I: Read + Drop, J: Read + Drop, O: Write + Drop>
     command: &Command,
     inputs: Inputs<I, J>,
     output: &Output<O, A>,
-) -> Result<Done<A>, JobFault>
+) -> Result<Outcome<A>, JobFault>
     requires { IsInRange command.now }
 {
     let mut first = output.source(alloc, 0, inputs.first)?;
     let mut second = output.source(alloc, 1, inputs.second)?;
     let mut third = output.source(alloc, 2, inputs.third)?;
-    do_job(
+    do_command(
         alloc,
         command,
         &mut first,

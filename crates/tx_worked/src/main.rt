@@ -40,13 +40,15 @@
 //! - The kinds of these two points, and the laws of a run of `both`, are played over the plain
 //!   network and over the engine, which has to tell the same.
 //! - `cert` has a plan and a certificate, and `plan` a plan, which are written and read back. A new
-//!   certificate of the plan is written before.
+//!   certificate of the plan is written before. `joined` has an old plan and a new one, which are
+//!   written over their joined network.
 //! - `program` plays the program at its ends, over the files beside the folder `cases`:
 //!   `cases/end_case.rt` has what is in its head. `arguments` tells how it refuses its arguments.
 //! - `family` judges the ranking over a family of plans, `pairs` the change of each into each,
-//!   `orders` the order from each to each, `mends` the mending of each, and `outages` what each
-//!   group, each exchange and each two groups cut off in each. `twins` plays the engine beside the
-//!   plain network. The calls of the crates below have the kinds of `tests`.
+//!   `networks` the change and the order from each plan of a family to each of another one, of
+//!   another network, `orders` the order from each to each, `mends` the mending of each, and
+//!   `outages` what each group, each exchange and each two groups cut off in each. `twins` plays
+//!   the engine beside the plain network. The calls of the crates below have the kinds of `tests`.
 #![tactic(auto)]
 
 mod cases;
@@ -56,6 +58,7 @@ mod driven;
 mod ends;
 mod families;
 mod jobs;
+mod joined;
 mod mends;
 mod outages;
 mod play;

@@ -8,6 +8,7 @@ use crate::jobs::{
     Whole, count_calls, do_in_room, list_prefixes, play_pictures, try_ends, try_pieces,
     try_refusals,
 };
+use crate::joined::play_joined;
 use crate::runs::{Over, Script, run_beside};
 use crate::whole_runs::{Part, play_run};
 use crate::written::{play_cert, play_plan};
@@ -33,6 +34,7 @@ pub(crate) fn play_texts(
         TextKind::Pictures => play_pictures(alloc, head, texts, out),
         TextKind::Plan => play_plan(alloc, texts, out),
         TextKind::Cert => play_cert(alloc, first, second, out),
+        TextKind::Joined => play_joined(alloc, first, second, out),
         TextKind::Driven(driven) => play_over_both(alloc, driven, head, first, second, out),
     }
 }
