@@ -8,7 +8,7 @@ use crate::ends::{FailedRead, Output};
 use crate::folder::Folder;
 use crate::input::Inputs;
 use crate::output_files::write_files;
-use crate::stop::{Stop, write_stop};
+use crate::stop::{Place, Stop, write_stop};
 use crate::targets::Targets;
 use crate::tell::{announce_input, tell_words};
 use std::alloc::{Allocator, Global};
@@ -100,7 +100,7 @@ pub fn run_command<
 /// Writes why a command was not done, in one line on standard error, and returns the exit status.
 fn tell_stop<A: Allocator, E: Write + Drop>(
     alloc: A,
-    stop: &Stop<'_>,
+    stop: &Stop,
     command: &Command,
     errors: E,
 ) -> u8
@@ -113,13 +113,13 @@ fn tell_stop<A: Allocator, E: Write + Drop>(
 /// Opens the files of a command, sees that those to be made take the place of no others, does its
 /// job, and lets its output out. Answers the exit status. An output that fails is reported before
 /// any other fault.
-pub(crate) fn perform<'c, A: Allocator + Copy, F: Folder, I: Read + Drop, O: Write + Drop>(
+pub(crate) fn perform<A: Allocator + Copy, F: Folder, I: Read + Drop, O: Write + Drop>(
     alloc: A,
-    command: &'c Command,
+    command: &Command,
     folder: &F,
     input: I,
     output: O,
-) -> Result<u8, Stop<'c>>
+) -> Result<u8, Stop>
     requires { IsInRange command.now }
 {
     let files = Files::of(command);
@@ -129,37 +129,34 @@ pub(crate) fn perform<'c, A: Allocator + Copy, F: Folder, I: Read + Drop, O: Wri
     let done = carry_out(alloc, command, inputs, &targets, folder, &output);
     if output.let_out().is_err() {
         return Err(match output.take_failure() {
-            Some(error) => Stop::Write("standard output", error),
+            Some(error) => Stop::Write(Place::Output, error),
             None => Stop::Job(JobFault::Write),
         });
     }
     match done {
-        Err(Stop::Job(JobFault::Read)) => Err(failed_read(&files, output.take_failed_read())),
+        Err(Stop::Job(JobFault::Read)) => Err(failed_read(output.take_failed_read())),
         done => done,
     }
 }
 
 /// Why a read failed: which file it was of, if that is known.
-fn failed_read<'n>(files: &Files<'n>, failed: Option<FailedRead>) -> Stop<'n> {
+fn failed_read(failed: Option<FailedRead>) -> Stop {
     match failed {
-        Some((index, error)) => match files.reads.get(index) {
-            Some(Some(name)) => Stop::Read(name, error),
-            _ => Stop::Job(JobFault::Read),
-        },
+        Some((index, error)) => Stop::Read(Place::Read(index), error),
         None => Stop::Job(JobFault::Read),
     }
 }
 
 /// Does the job of a command over its files, which are open, and closes them. Then it makes the
 /// files of what the command came to.
-fn carry_out<'c, A: Allocator + Copy, F: Folder, I: Read + Drop, O: Write + Drop>(
+fn carry_out<A: Allocator + Copy, F: Folder, I: Read + Drop, O: Write + Drop>(
     alloc: A,
     command: &Command,
     inputs: Inputs<I, F::Input>,
-    targets: &Targets<'c>,
+    targets: &Targets<'_>,
     folder: &F,
     output: &Output<O, A>,
-) -> Result<u8, Stop<'c>>
+) -> Result<u8, Stop>
     requires { IsInRange command.now }
 {
     let outcome = do_over(alloc, command, inputs, output)?;
