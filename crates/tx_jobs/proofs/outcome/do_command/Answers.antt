@@ -2,6 +2,7 @@ use Rattle.std.proofs.Common.{◌≡◌, ◌∙◌, true, false, Ok, Err, ap, in
 use Rattle.tx_text.specs.Ends.{input, output}
 use Rattle.tx_text.proofs.Exits.{exits_with}
 use Rattle.tx_commands.specs.Commands.{made_by}
+use Rattle.tx_jobs.specs.declared.outcome.Outcome.{Outcome}
 use Rattle.tx_jobs.specs.LintJobs.{lint_fault}
 use Rattle.tx_jobs.proofs.LintTold.{not_read, lint_marked}
 use Rattle.tx_jobs.proofs.Did.{uncalled, some_mapped}
@@ -19,7 +20,7 @@ returns-in_err-text-clause-done g c =
     let out = c.args.out.now in
     let read = input g.P.Source.rest g.P.Source.failed g.P.Source.called c.args.first.now c.read_text.new.source in
     rw (kept, exits_with c.from_residual.result (lint_fault f) c.from_residual.ensures.1)
-    (inr (not_read _ read (output g.W.Sink.taken out out) f (λ e. c.in_err-text.ensures.fault (ap Err e)) refl, refl, refl))
+    (inr (not_read (Outcome g.row.A.Denot) read (output g.W.Sink.taken out out) f (λ e. c.in_err-text.ensures.fault (ap Err e)) refl, refl, refl))
 
 pub returns-in_err-text-clause-mark : goal.returns-in_err-text-clause-mark
 returns-in_err-text-clause-mark g c =
