@@ -121,10 +121,10 @@ module _ (text left : List ℕ) (second third : Input) (out : Output) {A : Type 
     };
   }
 
-  mend_makes : (limit spare : ℕ) (m : Mending A) → MendJobAnswers limit spare first out (Ok m) → IsMadeOfIt (Mended m)
-  mend_makes limit spare (IsMended q before cert) (inl h) = mended_network h.plan q (said_whole h.plan h.read) h.goes_on.0.routing
-  mend_makes limit spare (IsMended q before cert) (inr h) = absurd (let e = h.told in let z : ⊥ = cc in z)
-  mend_makes limit spare (NoRouting q unserved pair) h = tt
+  mend_makes : (with_old : Bool) (limit spare : ℕ) (m : Mending A) → MendJobAnswers with_old limit spare first out (Ok m) → IsMadeOfIt (Mended m)
+  mend_makes with_old limit spare (IsMended q before cert) (inl h) = mended_network h.plan q (said_whole h.plan h.read) h.goes_on.0.routing
+  mend_makes with_old limit spare (IsMended q before cert) (inr h) = absurd (let e = h.told in let z : ⊥ = cc in z)
+  mend_makes with_old limit spare (NoRouting q unserved pair) h = tt
 
   -- the mixture of a change
   change_makes_by : (with_mixture : Bool) (limit spare : ℕ) (answer : Result (Changed A) JobFault) (m : Mixture A) → ChangeJobAnswers limit spare first second out answer
@@ -155,22 +155,22 @@ module _ (text left : List ℕ) (second third : Input) (out : Output) {A : Type 
   stage_makes old p q read same None limit spare (FoundOrdered o) (IsOrdered (Some (m, cert))) right h = absurd h
   stage_makes old p q read same stage limit spare (FoundNoOrder r before after) (IsOrdered (Some (m, cert))) right h = absurd h
 
-  order_told : (p q : Plan) → plan_of AtEnd text ≡ Ok p → (stage : Option ℕ) (limit spare : ℕ) (staged : Staged A) (answer : Result (Staged A) OrderFault)
-      → IsOrderTold p q stage limit spare out answer → Ok staged ≡ told_order answer → IsMadeOfIt (Ordered staged)
-  order_told p q read stage limit spare staged (Ok found) h e =
+  order_told : (p q : Plan) → plan_of AtEnd text ≡ Ok p → (stage : Option ℕ) (with_old : Bool) (limit spare : ℕ) (staged : Staged A) (answer : Result (Staged A) OrderFault)
+      → IsOrderTold p q stage with_old limit spare out answer → Ok staged ≡ told_order answer → IsMadeOfIt (Ordered staged)
+  order_told p q read stage with_old limit spare staged (Ok found) h e =
       let same : found ≡ staged = cc in
       subst (λ s. IsMadeOfIt (Ordered s)) same (stage_makes p p q read refl stage limit spare h.switching found h.right h.staged_of)
-  order_told p q read stage limit spare staged (Err f) h e = absurd (let z : ⊥ = cc in z)
+  order_told p q read stage with_old limit spare staged (Err f) h e = absurd (let z : ⊥ = cc in z)
 
-  order_makes : (stage : Option ℕ) (limit spare : ℕ) (staged : Staged A) → OrderJobAnswers stage limit spare first second out (Ok staged) → IsMadeOfIt (Ordered staged)
-  order_makes stage limit spare staged (inl h) = elim h.goes_on as (λ _. IsMadeOfIt (Ordered staged)) [
+  order_makes : (stage : Option ℕ) (with_old : Bool) (limit spare : ℕ) (staged : Staged A) → OrderJobAnswers stage with_old limit spare first second out (Ok staged) → IsMadeOfIt (Ordered staged)
+  order_makes stage with_old limit spare staged (inl h) = elim h.goes_on as (λ _. IsMadeOfIt (Ordered staged)) [
     | inl k ↦ elim k.goes_on as (λ _. IsMadeOfIt (Ordered staged)) [
-      | inl r ↦ order_told h.plan k.plan (said_whole h.plan h.read) stage limit spare staged r.answer r.told r.same
+      | inl r ↦ order_told h.plan k.plan (said_whole h.plan h.read) stage with_old limit spare staged r.answer r.told r.same
       | inr r ↦ absurd (let e = r.same in let z : ⊥ = cc in z)
     ]
     | inr k ↦ absurd (let e = k.told in let z : ⊥ = cc in z)
   ]
-  order_makes stage limit spare staged (inr h) = absurd (let e = h.told in let z : ⊥ = cc in z)
+  order_makes stage with_old limit spare staged (inr h) = absurd (let e = h.told in let z : ⊥ = cc in z)
 
   -- ---- ALL COMMANDS
 
@@ -192,8 +192,8 @@ module _ (text left : List ℕ) (second third : Input) (out : Output) {A : Type 
   makes_plan (Codes plan) d h = makes Listed _ d (λ x _. tt) h.0
   makes_plan (Audit plan limit spare cert counter) d h = makes Audited _ d (λ x _. tt) h.0
   makes_plan (Change before after limit spare cert mixture counter) d h = makes ChangedInto _ d (λ x a. change_makes _ limit spare x a) h.0
-  makes_plan (Order before after limit spare stage plan cert) d h = makes Ordered _ d (λ x a. order_makes stage limit spare x a) h.0
-  makes_plan (Mend plan limit spare mended cert) d h = makes Mended _ d (λ x a. mend_makes limit spare x a) h.0
+  makes_plan (Order before after limit spare stage plan cert with_old) d h = makes Ordered _ d (λ x a. order_makes stage with_old limit spare x a) h.0
+  makes_plan (Mend plan limit spare mended cert with_old) d h = makes Mended _ d (λ x a. mend_makes with_old limit spare x a) h.0
   makes_plan (Survive plan None) d h = makes Survived _ d (λ x _. tt) h.0
   makes_plan (Survive plan (Some risks)) d h = makes Survived _ d (λ x _. tt) h.0
   makes_plan (Grade plan) d h = makes Graded _ d (λ x _. tt) h.0

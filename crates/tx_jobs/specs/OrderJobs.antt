@@ -1,5 +1,5 @@
 -- What `order OLD NEW` answers: what its calls do, one after another.
-use Rattle.std.specs.Prelude.{◌≡◌, ◌⊎◌, ℕ, Option, Some, Result, Ok, Err}
+use Rattle.std.specs.Prelude.{◌≡◌, ◌⊎◌, ℕ, Bool, Option, Some, Result, Ok, Err}
 use Rattle.tx_text.specs.Ends.{Input, Output}
 use Rattle.tx_plan.specs.Plan.{Plan}
 use Rattle.tx_plan.specs.Mixtures.{SameNetwork}
@@ -28,11 +28,11 @@ module _ {A : Type 0} where
   told_order (Err f) = Err (order_fault f)
 
   -- two plans are of one network, and an order was reported
-  pub record OrderReported (p q : Plan) (stage : Option ℕ) (limit spare : ℕ) (out : Output)
-      (result : Result (Staged A) JobFault) : Type 0 where
+  pub record OrderReported (p q : Plan) (stage : Option ℕ) (with_old : Bool) (limit spare : ℕ)
+      (out : Output) (result : Result (Staged A) JobFault) : Type 0 where
     pub network : SameNetwork p q
     pub answer : Result (Staged A) OrderFault
-    pub told : IsOrderTold p q stage limit spare out answer
+    pub told : IsOrderTold p q stage with_old limit spare out answer
     pub same : result ≡ told_order answer
 
   -- they are of two networks: the first entry that differs is answered
@@ -44,21 +44,21 @@ module _ {A : Type 0} where
     pub same : result ≡ Err (TwoNetworks difference)
 
   -- what is answered of two plans
-  abbrev pub ToldOrder : (p q : Plan) → (stage : Option ℕ) → (limit spare : ℕ) → Output
-      → Result (Staged A) JobFault → Type 0
-  ToldOrder p q stage limit spare out result =
-      OrderReported p q stage limit spare out result ⊎ NetworksDiffer p q out result
+  abbrev pub ToldOrder : (p q : Plan) → (stage : Option ℕ) → (with_old : Bool)
+      → (limit spare : ℕ) → Output → Result (Staged A) JobFault → Type 0
+  ToldOrder p q stage with_old limit spare out result =
+      OrderReported p q stage with_old limit spare out result ⊎ NetworksDiffer p q out result
 
   -- the new plan was read, and an order into it reported
-  abbrev pub OrderIntoAnswers : Plan → (stage : Option ℕ) → (limit spare : ℕ) → Input → Output
-      → Result (Staged A) JobFault → Type 0
-  OrderIntoAnswers p stage limit spare new out result =
-      PlanRead new (λ q. ToldOrder p q stage limit spare out result)
+  abbrev pub OrderIntoAnswers : Plan → (stage : Option ℕ) → (with_old : Bool)
+      → (limit spare : ℕ) → Input → Output → Result (Staged A) JobFault → Type 0
+  OrderIntoAnswers p stage with_old limit spare new out result =
+      PlanRead new (λ q. ToldOrder p q stage with_old limit spare out result)
       ⊎ RefusedAs new_plan_fault new out.silent result
 
-  -- `order OLD NEW --limit L --spare K`
-  abbrev pub OrderJobAnswers : (stage : Option ℕ) → (limit spare : ℕ) → (old new : Input)
-      → Output → Result (Staged A) JobFault → Type 0
-  OrderJobAnswers stage limit spare old new out result =
-      PlanRead old (λ p. OrderIntoAnswers p stage limit spare new out result)
+  -- `order OLD NEW --limit L --spare K`, with the lists that are replaced if they are asked for
+  abbrev pub OrderJobAnswers : (stage : Option ℕ) → (with_old : Bool) → (limit spare : ℕ)
+      → (old new : Input) → Output → Result (Staged A) JobFault → Type 0
+  OrderJobAnswers stage with_old limit spare old new out result =
+      PlanRead old (λ p. OrderIntoAnswers p stage with_old limit spare new out result)
       ⊎ RefusedAs old_plan_fault old (new.unread × out.silent) result

@@ -14,18 +14,19 @@ use tx_plantext::read_plan_from;
 use tx_text::{Sink, Source};
 
 /// Reads an old plan and then a new one, and writes the report on an order in which the lists and
-/// the bars of the one are switched to those of the other, for the limits. Answers the plan after a
-/// stage and the certificate of the stage, if its number, from 1, is asked for. `Err` is the fault
-/// of the first call that failed.
+/// the bars of the one are switched to those of the other, for the limits, with the lists that are
+/// replaced if they are asked for. Answers the plan after a stage and the certificate of the stage,
+/// if its number, from 1, is asked for. `Err` is the fault of the first call that failed.
 pub fn order_job<A: Allocator + Copy, P: Source, Q: Source, W: Sink>(
     alloc: A,
     old: &mut P,
     new: &mut Q,
     limits: Limits,
     stage: Option<u8>,
+    with_old: bool,
     out: &mut W,
 ) -> Result<Staged<A>, JobFault>
-    ensures answers { OrderJobAnswers stage limits.limit limits.spare
+    ensures answers { OrderJobAnswers stage with_old limits.limit limits.spare
         (input P.rest P.failed P.called old.old old.new)
         (input Q.rest Q.failed Q.called new.old new.new) (output W.taken out.old out.new) result }
     ensures mark { W.failed out.new ≡ mark_after (W.failed out.old) result }
@@ -33,7 +34,7 @@ pub fn order_job<A: Allocator + Copy, P: Source, Q: Source, W: Sink>(
     ensures new_calls { CallsAtMost Q.called source_calls new.old new.new }
 {
     match read_plan_from(alloc, old) {
-        Ok(plan) => order_from(alloc, plan, new, limits, stage, out),
+        Ok(plan) => order_from(alloc, plan, new, limits, stage, with_old, out),
         Err(fault) => Err(JobFault::of_old_plan(fault)),
     }
 }
@@ -45,15 +46,16 @@ fn order_from<A: Allocator + Copy, Q: Source, W: Sink>(
     new: &mut Q,
     limits: Limits,
     stage: Option<u8>,
+    with_old: bool,
     out: &mut W,
 ) -> Result<Staged<A>, JobFault>
-    ensures answers { OrderIntoAnswers old stage limits.limit limits.spare
+    ensures answers { OrderIntoAnswers old stage with_old limits.limit limits.spare
         (input Q.rest Q.failed Q.called new.old new.new) (output W.taken out.old out.new) result }
     ensures mark { W.failed out.new ≡ mark_after (W.failed out.old) result }
     ensures calls { CallsAtMost Q.called source_calls new.old new.new }
 {
     match read_plan_from(alloc, new) {
-        Ok(plan) => order_into(alloc, old, plan, limits, stage, out),
+        Ok(plan) => order_into(alloc, old, plan, limits, stage, with_old, out),
         Err(fault) => Err(JobFault::of_new_plan(fault)),
     }
 }
@@ -65,14 +67,15 @@ fn order_into<A: Allocator + Copy, W: Sink>(
     new: Plan<A>,
     limits: Limits,
     stage: Option<u8>,
+    with_old: bool,
     out: &mut W,
 ) -> Result<Staged<A>, JobFault>
-    ensures told { ToldOrder old new stage limits.limit limits.spare
+    ensures told { ToldOrder old new stage with_old limits.limit limits.spare
         (output W.taken out.old out.new) result }
     ensures mark { W.failed out.new ≡ mark_after (W.failed out.old) result }
 {
     if let Some(difference) = first_difference(&old, &new) {
         return Err(JobFault::TwoNetworks(difference));
     }
-    Ok(tell_order(alloc, old, new, limits, stage, out)?)
+    Ok(tell_order(alloc, old, new, limits, stage, with_old, out)?)
 }

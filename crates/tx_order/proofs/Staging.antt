@@ -30,14 +30,14 @@ stage_cert o k n t some common fits = record {
 
 -- where nothing was made, nothing is written
 module _ {A : Type 0} where
-  pub not_made : (limit spare : ℕ) (out : Output) → out.silent → (stage : Option ℕ) (s : Switching A) (f : OrderFault) → IsNotMade stage s f
-      → IsReported stage limit spare out s (Err f)
-  not_made limit spare out silent (Some n) (FoundOrdered o) (NoSuchStage stages) h = (h, silent)
-  not_made limit spare out silent (Some n) (FoundOrdered o) Write h = absurd h
-  not_made limit spare out silent (Some n) (FoundOrdered o) NoMemory h = (h, silent)
-  not_made limit spare out silent None (FoundOrdered o) f h = absurd h
-  not_made limit spare out silent (Some n) (FoundNoOrder p before after) f h = absurd h
-  not_made limit spare out silent None (FoundNoOrder p before after) f h = absurd h
+  pub not_made : (with_old : Bool) (limit spare : ℕ) (out : Output) → out.silent → (stage : Option ℕ) (s : Switching A) (f : OrderFault) → IsNotMade stage s f
+      → IsReported stage with_old limit spare out s (Err f)
+  not_made with_old limit spare out silent (Some n) (FoundOrdered o) (NoSuchStage stages) h = (h, silent)
+  not_made with_old limit spare out silent (Some n) (FoundOrdered o) Write h = absurd h
+  not_made with_old limit spare out silent (Some n) (FoundOrdered o) NoMemory h = (h, silent)
+  not_made with_old limit spare out silent None (FoundOrdered o) f h = absurd h
+  not_made with_old limit spare out silent (Some n) (FoundNoOrder p before after) f h = absurd h
+  not_made with_old limit spare out silent None (FoundNoOrder p before after) f h = absurd h
 
   pub not_made_mark : (mark : Bool) (stage : Option ℕ) (s : Switching A) (f : OrderFault) → IsNotMade stage s f → mark ≡ mark_by mark f
   not_made_mark mark (Some n) (FoundOrdered o) (NoSuchStage stages) h = refl
@@ -48,15 +48,15 @@ module _ {A : Type 0} where
   not_made_mark mark None (FoundNoOrder p before after) f h = absurd h
 
   -- what is answered where no stage is given
-  pub not_staged : (old new : Plan) (limit spare : ℕ) (out : Output) (stage : Option ℕ) (s : Switching A) (f : OrderFault) → IsRightSwitching old new limit spare s
-      → IsReported stage limit spare out s (Err f) → IsOrderTold {A = A} old new stage limit spare out (Err f)
-  not_staged old new limit spare out stage s Write right h = record { switching = s; right = right; wrote = h }
-  not_staged old new limit spare out (Some n) (FoundOrdered o) (NoSuchStage stages) right h =
+  pub not_staged : (old new : Plan) (with_old : Bool) (limit spare : ℕ) (out : Output) (stage : Option ℕ) (s : Switching A) (f : OrderFault) → IsRightSwitching old new limit spare s
+      → IsReported stage with_old limit spare out s (Err f) → IsOrderTold {A = A} old new stage with_old limit spare out (Err f)
+  not_staged old new with_old limit spare out stage s Write right h = record { switching = s; right = right; wrote = h }
+  not_staged old new with_old limit spare out (Some n) (FoundOrdered o) (NoSuchStage stages) right h =
       (record { order = o; right = right; count = h.0.0; asked = n; stage_asked = refl; missing = h.0.1 }, h.1)
-  not_staged old new limit spare out None (FoundOrdered o) (NoSuchStage stages) right h = absurd h.0
-  not_staged old new limit spare out (Some n) (FoundNoOrder p before after) (NoSuchStage stages) right h = absurd h.0
-  not_staged old new limit spare out None (FoundNoOrder p before after) (NoSuchStage stages) right h = absurd h.0
-  not_staged old new limit spare out stage s NoMemory right h = h.1
+  not_staged old new with_old limit spare out None (FoundOrdered o) (NoSuchStage stages) right h = absurd h.0
+  not_staged old new with_old limit spare out (Some n) (FoundNoOrder p before after) (NoSuchStage stages) right h = absurd h.0
+  not_staged old new with_old limit spare out None (FoundNoOrder p before after) (NoSuchStage stages) right h = absurd h.0
+  not_staged old new with_old limit spare out stage s NoMemory right h = h.1
 
 none_staged : (A : Type 0) (stage : Option ℕ) (o : Order) → IsMade {A = A} stage (FoundOrdered o) None → IsStagedOf {A = A} stage (FoundOrdered o) (Ordered None)
 none_staged A (Some n) o h = absurd h

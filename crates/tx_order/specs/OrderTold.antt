@@ -44,24 +44,24 @@ module _ {A : Type 0} where
   IsStagedOf stage switching staged = ⊥
 
   -- the answer is right, and the report was written
-  pub record IsStaged (old new : Plan) (stage : Option ℕ) (limit spare : ℕ) (out : Output)
-      (staged : Staged A) : Type 0 where
+  pub record IsStaged (old new : Plan) (stage : Option ℕ) (with_old : Bool) (limit spare : ℕ)
+      (out : Output) (staged : Staged A) : Type 0 where
     pub switching : Switching A
     pub right : IsRightSwitching old new limit spare switching
-    pub wrote : out.new ≡ append_known out.old (order_report limit spare switching)
+    pub wrote : out.new ≡ append_known out.old (order_report with_old limit spare switching)
     pub staged_of : IsStagedOf stage switching staged
 
   -- What is answered of two plans. Nothing is written where the stage is not there, and where
   -- memory runs out.
-  abbrev pub IsOrderTold : (old new : Plan) → (stage : Option ℕ) → (limit spare : ℕ) → Output
-      → Result (Staged A) OrderFault → Type 0
-  IsOrderTold old new stage limit spare out (Ok staged) =
-      IsStaged old new stage limit spare out staged
-  IsOrderTold old new stage limit spare out (Err (NoSuchStage stages)) =
+  abbrev pub IsOrderTold : (old new : Plan) → (stage : Option ℕ) → (with_old : Bool)
+      → (limit spare : ℕ) → Output → Result (Staged A) OrderFault → Type 0
+  IsOrderTold old new stage with_old limit spare out (Ok staged) =
+      IsStaged old new stage with_old limit spare out staged
+  IsOrderTold old new stage with_old limit spare out (Err (NoSuchStage stages)) =
       LacksStage old new stage limit spare stages × out.silent
-  IsOrderTold old new stage limit spare out (Err Write) =
-      OrderToldInPart A old new limit spare out
-  IsOrderTold old new stage limit spare out (Err NoMemory) = out.silent
+  IsOrderTold old new stage with_old limit spare out (Err Write) =
+      OrderToldInPart A old new with_old limit spare out
+  IsOrderTold old new stage with_old limit spare out (Err NoMemory) = out.silent
 
 -- the mark of the sink after such a fault: set by a write that failed, and otherwise as before
 abbrev pub mark_by : Bool → OrderFault → Bool

@@ -27,8 +27,8 @@ pub enum Staged<A: Allocator = Global> {
 }
 
 /// Looks for an order in which the lists and the bars of a plan are switched to those of another
-/// one of the same network, and writes its report. Answers the plan after a stage and the
-/// certificate of the stage, if its number, from 1, is asked for.
+/// one of the same network, and writes its report, with the old lists if they are asked for. Answers
+/// the plan after a stage and the certificate of the stage, if its number, from 1, is asked for.
 ///
 /// Nothing is written where the order does not have the stage, and where memory runs out.
 pub fn tell_order<A: Allocator + Copy, W: Sink>(
@@ -37,15 +37,16 @@ pub fn tell_order<A: Allocator + Copy, W: Sink>(
     new: Plan<A>,
     limits: Limits,
     stage: Option<u8>,
+    with_old: bool,
     out: &mut W,
 ) -> Result<Staged<A>, OrderFault>
     requires network { SameNetwork old new }
-    ensures told { IsOrderTold old new stage limits.limit limits.spare
+    ensures told { IsOrderTold old new stage with_old limits.limit limits.spare
         (output W.taken out.old out.new) result }
     ensures mark { W.failed out.new ≡ mark_after (W.failed out.old) result }
 {
     let switching = order(alloc, old, new, limits)?;
-    match report(alloc, &switching, limits, stage, out) {
+    match report(alloc, &switching, limits, stage, with_old, out) {
         Ok(made) => Ok(staged_of(switching, made)),
         Err(fault) => {
             drop(switching);
@@ -60,14 +61,15 @@ fn report<A: Allocator + Copy, W: Sink>(
     switching: &Switching<A>,
     limits: Limits,
     stage: Option<u8>,
+    with_old: bool,
     out: &mut W,
 ) -> Result<Option<(Lists<A>, Cert<A>)>, OrderFault>
-    ensures reported { IsReported stage limits.limit limits.spare (output W.taken out.old out.new)
-        switching.now result }
+    ensures reported { IsReported stage with_old limits.limit limits.spare
+        (output W.taken out.old out.new) switching.now result }
     ensures mark { W.failed out.new ≡ mark_after (W.failed out.old) result }
 {
     let made = made_of(alloc, switching, stage)?;
-    write_switching(switching, limits, out)?;
+    write_switching(switching, limits, with_old, out)?;
     Ok(made)
 }
 

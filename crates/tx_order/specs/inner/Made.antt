@@ -1,5 +1,5 @@
 -- What is made of a stage before the report is written.
-use Rattle.std.specs.Prelude.{◌≡◌, ℕ, Option, Some, None, Result, Ok, Err}
+use Rattle.std.specs.Prelude.{◌≡◌, ℕ, Bool, Option, Some, None, Result, Ok, Err}
 use Rattle.std.specs.Io.KnownBytes.{append_known}
 use Rattle.tx_text.specs.Ends.{StopsIn, Output}
 use Rattle.tx_cert.specs.Certificate.{Certificate}
@@ -55,10 +55,11 @@ module _ {A : Type 0} where
   IsMadeAnswer stage switching (Err f) = IsNotMade stage switching f
 
   -- what is answered where it is made, and then the report is written
-  abbrev pub IsReported : Option ℕ → (limit spare : ℕ) → Output → Switching A
+  abbrev pub IsReported : Option ℕ → (with_old : Bool) → (limit spare : ℕ) → Output → Switching A
       → Result (Option (Lists A × Certificate)) OrderFault → Type 0
-  IsReported stage limit spare out switching (Ok made) = IsMade stage switching made
-      × (out.new ≡ append_known out.old (order_report limit spare switching))
-  IsReported stage limit spare out switching (Err Write) =
-      StopsIn out.old out.new (order_report limit spare switching)
-  IsReported stage limit spare out switching (Err f) = IsNotMade stage switching f × out.silent
+  IsReported stage with_old limit spare out switching (Ok made) = IsMade stage switching made
+      × (out.new ≡ append_known out.old (order_report with_old limit spare switching))
+  IsReported stage with_old limit spare out switching (Err Write) =
+      StopsIn out.old out.new (order_report with_old limit spare switching)
+  IsReported stage with_old limit spare out switching (Err f) =
+      IsNotMade stage switching f × out.silent

@@ -6,12 +6,12 @@ use Rattle.tx_order.proofs.report.write_switching.Goals as goal
 
 pub returns-in_err-write_asked : goal.returns-in_err-write_asked
 returns-in_err-write_asked g c =
-    wrote_first _ _ _ _ (asked_line (codes "ORDER") c.args.limits.limit c.args.limits.spare) (switching_text c.args.switching.now) _ c.in_err-write_asked.field-0.0 c.in_err-write_asked.ensures c.from_residual.ensures.0
+    wrote_first _ _ _ _ (asked_line (codes "ORDER") c.args.limits.limit c.args.limits.spare) (switching_text c.args.with_old c.args.switching.now) _ c.in_err-write_asked.field-0.0 c.in_err-write_asked.ensures c.from_residual.ensures.0
 
 pub returns-in-Ordered : goal.returns-in-Ordered
 returns-in-Ordered g c =
     rw c.in-Ordered.is
-    (wrote_then _ _ _ _ _ _ (asked_line (codes "ORDER") c.args.limits.limit c.args.limits.spare) (stages_text c.in-Ordered.order) _ c.in_ok-write_asked.ensures c.write_stages.ensures)
+    (wrote_then _ _ _ _ _ _ (asked_line (codes "ORDER") c.args.limits.limit c.args.limits.spare) (stages_text c.args.with_old c.in-Ordered.order) _ c.in_ok-write_asked.ensures c.write_stages.ensures)
 
 pub returns-in-NoOrder : goal.returns-in-NoOrder
 returns-in-NoOrder g c =

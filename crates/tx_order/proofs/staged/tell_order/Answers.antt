@@ -19,7 +19,7 @@ staged_of-requires g c = (c.args.stage, c.in-Ok.ensures.reported.0)
 
 pub returns-in-Err-clause-told : goal.returns-in-Err-clause-told
 returns-in-Err-clause-told g c =
-    not_staged c.args.old c.args.new c.args.limits.limit c.args.limits.spare (output g.W.Sink.taken c.args.out.now c.report.new.out) c.args.stage c.in_ok-switching.switching c.in-Err.fault c.in_ok-switching.ensures.right c.in-Err.ensures.reported
+    not_staged c.args.old c.args.new c.args.with_old c.args.limits.limit c.args.limits.spare (output g.W.Sink.taken c.args.out.now c.report.new.out) c.args.stage c.in_ok-switching.switching c.in-Err.fault c.in_ok-switching.ensures.right c.in-Err.ensures.reported
 
 pub returns-in_err-switching-clause-told : goal.returns-in_err-switching-clause-told
 returns-in_err-switching-clause-told g c =
