@@ -59,8 +59,9 @@ pub enum Command {
         mixture: Option<String>,
         counter: Option<String>,
     },
-    /// `order OLD NEW --limit L --spare K`. With the number of a stage the plan after it goes to a
-    /// file, if one is named, and so does the certificate of the stage.
+    /// `order OLD NEW --limit L --spare K`, with the lists that are replaced if they are asked for.
+    /// With the number of a stage the plan after it goes to a file, if one is named, and so does
+    /// the certificate of the stage.
     Order {
         old: String,
         new: String,
@@ -69,15 +70,17 @@ pub enum Command {
         stage: Option<u8>,
         plan: Option<String>,
         cert: Option<String>,
+        with_old: bool,
     },
-    /// `mend PLAN --limit L --spare K`: the mended plan goes to a file, if one is named, and so
-    /// does its certificate.
+    /// `mend PLAN --limit L --spare K`, with the lists that are replaced if they are asked for: the
+    /// mended plan goes to a file, if one is named, and so does its certificate.
     Mend {
         plan: String,
         limit: u8,
         spare: u8,
         mended: Option<String>,
         cert: Option<String>,
+        with_old: bool,
     },
     /// `survive PLAN`, with the named risks of a file, if one is named. The flag with them: these
     /// alone. The other flag: totals alone.

@@ -164,10 +164,10 @@ module _ (text left : List ℕ) (second third : Input) (out : Output) {A : Type 
   mended_says : (p q : Plan) → plan_of AtEnd text ≡ Ok p → IsRouting p q → IsOfText text q
   mended_says p q read h = record { old = p; read = read; rules = h.plan }
 
-  mend_makes : (limit spare : ℕ) (m : Mending A) → MendJobAnswers limit spare first out (Ok m) → IsMadeOfIt (Mended m)
-  mend_makes limit spare (IsMended q before cert) (inl h) = mended_says h.plan q (said_whole h.plan h.read) h.goes_on.0.routing
-  mend_makes limit spare (IsMended q before cert) (inr h) = absurd (let e = h.told in let z : ⊥ = cc in z)
-  mend_makes limit spare (NoRouting q unserved pair) h = tt
+  mend_makes : (with_old : Bool) (limit spare : ℕ) (m : Mending A) → MendJobAnswers with_old limit spare first out (Ok m) → IsMadeOfIt (Mended m)
+  mend_makes with_old limit spare (IsMended q before cert) (inl h) = mended_says h.plan q (said_whole h.plan h.read) h.goes_on.0.routing
+  mend_makes with_old limit spare (IsMended q before cert) (inr h) = absurd (let e = h.told in let z : ⊥ = cc in z)
+  mend_makes with_old limit spare (NoRouting q unserved pair) h = tt
 
   -- the mixture of a change
   change_makes_by : (with_mixture : Bool) (limit spare : ℕ) (answer : Result (Changed A) JobFault) (m : Mixture A) → ChangeJobAnswers limit spare first second out answer
@@ -202,17 +202,17 @@ module _ (text left : List ℕ) (second third : Input) (out : Output) {A : Type 
   stage_makes old p q new read stage limit spare (FoundNoOrder r before after) (IsOrdered (Some (m, cert))) right h = absurd h
   stage_makes old p q new read stage limit spare (FoundNewUnsafe findings) (IsOrdered (Some (m, cert))) right h = absurd h
 
-  order_told : (old new p q : Plan) → plan_of AtEnd text ≡ Ok old → (stage : Option ℕ) (limit spare : ℕ) (staged : Staged A) (answer : Result (Staged A) OrderFault)
-      → IsOrderTold old new p q stage limit spare out answer → Ok staged ≡ told_order answer → IsMadeOfIt (Ordered staged)
-  order_told old new p q read stage limit spare staged (Ok found) h e =
+  order_told : (old new p q : Plan) → plan_of AtEnd text ≡ Ok old → (stage : Option ℕ) (with_old : Bool) (limit spare : ℕ) (staged : Staged A) (answer : Result (Staged A) OrderFault)
+      → IsOrderTold old new p q stage with_old limit spare out answer → Ok staged ≡ told_order answer → IsMadeOfIt (Ordered staged)
+  order_told old new p q read stage with_old limit spare staged (Ok found) h e =
       let same : found ≡ staged = cc in
       subst (λ s. IsMadeOfIt (Ordered s)) same (stage_makes old p q new read stage limit spare h.verdict found h.right h.staged_of)
-  order_told old new p q read stage limit spare staged (Err f) h e = absurd (let z : ⊥ = cc in z)
+  order_told old new p q read stage with_old limit spare staged (Err f) h e = absurd (let z : ⊥ = cc in z)
 
-  order_makes : (stage : Option ℕ) (limit spare : ℕ) (staged : Staged A) → OrderJobAnswers stage limit spare first second out (Ok staged) → IsMadeOfIt (Ordered staged)
-  order_makes stage limit spare staged (inl h) =
-      order_told h.old_plan h.new_plan (joined_old h.old_plan h.new_plan) (joined_new h.old_plan h.new_plan) (joined_says h.old_plan h.old_text h.old_says) stage limit spare staged h.goes_on.answer h.goes_on.told h.goes_on.same
-  order_makes stage limit spare staged (inr h) = absurd h
+  order_makes : (stage : Option ℕ) (with_old : Bool) (limit spare : ℕ) (staged : Staged A) → OrderJobAnswers stage with_old limit spare first second out (Ok staged) → IsMadeOfIt (Ordered staged)
+  order_makes stage with_old limit spare staged (inl h) =
+      order_told h.old_plan h.new_plan (joined_old h.old_plan h.new_plan) (joined_new h.old_plan h.new_plan) (joined_says h.old_plan h.old_text h.old_says) stage with_old limit spare staged h.goes_on.answer h.goes_on.told h.goes_on.same
+  order_makes stage with_old limit spare staged (inr h) = absurd h
 
   -- ---- ALL COMMANDS
 
@@ -235,8 +235,8 @@ module _ (text left : List ℕ) (second third : Input) (out : Output) {A : Type 
   makes_plan (Codes plan) d h = makes Listed _ d (λ x _. tt) h.0
   makes_plan (Audit plan limit spare cert counter) d h = makes Audited _ d (λ x _. tt) h.0
   makes_plan (Change before after limit spare cert mixture counter) d h = makes ChangedInto _ d (λ x a. change_makes _ limit spare x a) h.0
-  makes_plan (Order before after limit spare stage plan cert) d h = makes Ordered _ d (λ x a. order_makes stage limit spare x a) h.0
-  makes_plan (Mend plan limit spare mended cert) d h = makes Mended _ d (λ x a. mend_makes limit spare x a) h.0
+  makes_plan (Order before after limit spare stage plan cert with_old) d h = makes Ordered _ d (λ x a. order_makes stage with_old limit spare x a) h.0
+  makes_plan (Mend plan limit spare mended cert with_old) d h = makes Mended _ d (λ x a. mend_makes with_old limit spare x a) h.0
   makes_plan (Survive plan None totals) d h = makes Survived _ d (λ x _. tt) h.0
   makes_plan (Survive plan (Some (risks, only)) totals) d h = makes Survived _ d (λ x _. tt) h.0
   makes_plan (Grade plan) d h = makes Graded _ d (λ x _. tt) h.0

@@ -75,9 +75,15 @@ pub fn do_job<A: Allocator + Copy, P: Source, Q: Source, R: Source, W: Sink>(
             let shown = files.script.is_some();
             Ok(Done::Audited(evidence_job(alloc, first, Limits { limit, spare }, shown, out)?))
         }
-        Command::Mend { limit, spare, .. } => {
+        Command::Mend {
+            limit,
+            spare,
+            with_old,
+            ..
+        } => {
             let (limit, spare) = (*limit, *spare);
-            Ok(Done::Mended(mend_job(alloc, first, Limits { limit, spare }, out)?))
+            let limits = Limits { limit, spare };
+            Ok(Done::Mended(mend_job(alloc, first, limits, *with_old, out)?))
         }
         Command::Grade { .. } => Ok(Done::Graded(grade_job(alloc, first, out)?)),
         Command::Draw { routes, .. } => draw(alloc, routes, first, out),
@@ -147,11 +153,12 @@ fn do_texts<A: Allocator + Copy, P: Source, Q: Source, R: Source, W: Sink>(
             limit,
             spare,
             stage,
+            with_old,
             ..
         } => {
             let (limit, spare) = (*limit, *spare);
             let limits = Limits { limit, spare };
-            let staged = order_job(alloc, first, second, limits, *stage, out)?;
+            let staged = order_job(alloc, first, second, limits, *stage, *with_old, out)?;
             Ok(Done::Ordered(staged))
         }
         _ => unreachable!(),

@@ -38,7 +38,7 @@ static COMMANDS: [(&str, &str, &str); 25] = [
         "",
         "change old new --limit=@1 --spare=@2 --cert=cert --mixture=plan --counter=script",
     ),
-    ("order", "", "order old new --limit=@1 --spare=@2"),
+    ("order", "", "order old new --limit=@1 --spare=@2 @3"),
     (
         "stage",
         "",
@@ -47,7 +47,7 @@ static COMMANDS: [(&str, &str, &str); 25] = [
     (
         "mend",
         "",
-        "mend old --limit=@1 --spare=@2 --plan=plan --cert=cert",
+        "mend old --limit=@1 --spare=@2 --plan=plan --cert=cert @3",
     ),
     ("survive", "alone", "survive plan"),
     ("survive", "totals", "survive plan --risks=risks --totals"),
