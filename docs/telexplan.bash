@@ -24,7 +24,7 @@ _telexplan() {
                 *:explain:*) words="--help $(telexplan explain 2>/dev/null | cut -d ' ' -f 1)" ;;
                 *:audit:-*) words="--limit --spare --cert --counter --help" ;;
                 *:mend:-*) words="--limit --spare --plan --cert --old --help" ;;
-                *:change:-*) words="--limit --spare --cert --mixture --counter --help" ;;
+                *:change:-*) words="--limit --spare --cert --mixture --counter --old --help" ;;
                 *:order:-*) words="--limit --spare --stage --plan --cert --old --help" ;;
                 *:lint:-*) words="--risks --help" ;;
                 *:survive:-*) words="--risks --risks-only --totals --help" ;;

@@ -108,9 +108,11 @@ fill_words =
 
 -- a command whose words are two plans
 abbrev pub change_words : App
-change_words = with_rule (with_rule (with_rule (with_rule (with_rule (with_rule (with_rule
+change_words =
+    with_rule (with_rule (with_rule (with_rule (with_rule (with_rule (with_rule (with_rule
     (new_app (codes "change")) (file (codes "before"))) (file (codes "after"))) (needed limit))
-    (needed spare)) (option (codes "cert"))) (option (codes "mixture"))) (option (codes "counter"))
+    (needed spare)) (option (codes "cert"))) (option (codes "mixture"))) (option (codes "counter")))
+    (flag (codes "old"))
 
 -- two plans, and what is to be made of a stage
 abbrev pub order_words : App

@@ -155,6 +155,7 @@ pub(crate) fn change_of(alloc: Global, matches: &ArgMatches<'_>) -> Result<Comma
     let cert = text(alloc, matches, "cert")?;
     let mixture = text(alloc, matches, "mixture")?;
     let counter = text(alloc, matches, "counter")?;
+    let with_old = is_set(matches, "old");
     let (limit, spare) = limits(alloc, matches)?;
     match (old, new) {
         (Some(old), Some(new)) => Ok(Command::Change {
@@ -165,6 +166,7 @@ pub(crate) fn change_of(alloc: Global, matches: &ArgMatches<'_>) -> Result<Comma
             cert,
             mixture,
             counter,
+            with_old,
         }),
         _ => Err(Misuse::Incomplete),
     }

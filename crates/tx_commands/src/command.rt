@@ -48,8 +48,9 @@ pub enum Command {
         cert: Option<String>,
         counter: Option<String>,
     },
-    /// `change OLD NEW --limit L --spare K`: the certificate goes to a file, if one is named, and
-    /// so do the mixture and the counter script.
+    /// `change OLD NEW --limit L --spare K`, with the lists that change and those that they replace
+    /// if they are asked for: the certificate goes to a file, if one is named, and so do the
+    /// mixture and the counter script.
     Change {
         old: String,
         new: String,
@@ -58,6 +59,7 @@ pub enum Command {
         cert: Option<String>,
         mixture: Option<String>,
         counter: Option<String>,
+        with_old: bool,
     },
     /// `order OLD NEW --limit L --spare K`, with the lists that are replaced if they are asked for.
     /// With the number of a stage the plan after it goes to a file, if one is named, and so does

@@ -151,6 +151,11 @@ file that shows the first finding that has a walk",
         "After NO, write a script to this file that shows the
 same finding in that plan, if there is one",
     )
+    .flag(
+        "old",
+        "Print each list that changes, and after it a line
+WAS group .. with the list that it replaces",
+    )
     .command
 }
 

@@ -170,26 +170,26 @@ module _ (text left : List ℕ) (second third : Input) (out : Output) {A : Type 
   mend_makes with_old limit spare (NoRouting q unserved pair) h = tt
 
   -- the mixture of a change
-  change_makes_by : (with_mixture : Bool) (limit spare : ℕ) (answer : Result (Changed A) JobFault) (m : Mixture A) → ChangeJobAnswers limit spare first second out answer
+  change_makes_by : (with_mixture with_old : Bool) (limit spare : ℕ) (answer : Result (Changed A) JobFault) (m : Mixture A) → ChangeJobAnswers with_old limit spare first second out answer
       → TellsChangeEvidence with_mixture limit spare answer (Ok (UnsoundChange (Some m))) → IsOfText text (mixture_plan m)
-  change_makes_by true limit spare (Ok (FoundUnsound p q findings)) m (inl h) t =
+  change_makes_by true with_old limit spare (Ok (FoundUnsound p q findings)) m (inl h) t =
       let shows = t.2 in
       mixed_says text h.old_plan p q (mixture_plan m) (joined_says h.old_plan h.old_text h.old_says) (subst (IsMixture p q) (sym shows.plan) shows.shown.0)
-  change_makes_by true limit spare (Ok (FoundNewUnsound q findings)) m (inl h) t =
+  change_makes_by true with_old limit spare (Ok (FoundNewUnsound q findings)) m (inl h) t =
       let told = h.goes_on in
       let is : mixture_plan m ≡ h.new_plan = t.plan ∙ new_is h.old_plan h.new_plan q findings told.verdict told.answer in
       record { old = h.old_plan; read = joined_says h.old_plan h.old_text h.old_says; rules = subst IsPlan (sym is) h.new_says.rules }
-  change_makes_by true limit spare (Ok (FoundUnsound p q findings)) m (inr h) t = absurd h
-  change_makes_by true limit spare (Ok (FoundNewUnsound q findings)) m (inr h) t = absurd h
-  change_makes_by false limit spare (Ok (FoundUnsound p q findings)) m h t = absurd (let z : ⊥ = cc in z)
-  change_makes_by false limit spare (Ok (FoundNewUnsound q findings)) m h t = absurd (let z : ⊥ = cc in z)
-  change_makes_by with_mixture limit spare (Ok (FoundSound p cert)) m h t = absurd (let z : ⊥ = cc in z)
-  change_makes_by with_mixture limit spare (Err f) m h t = absurd (let z : ⊥ = cc in z)
+  change_makes_by true with_old limit spare (Ok (FoundUnsound p q findings)) m (inr h) t = absurd h
+  change_makes_by true with_old limit spare (Ok (FoundNewUnsound q findings)) m (inr h) t = absurd h
+  change_makes_by false with_old limit spare (Ok (FoundUnsound p q findings)) m h t = absurd (let z : ⊥ = cc in z)
+  change_makes_by false with_old limit spare (Ok (FoundNewUnsound q findings)) m h t = absurd (let z : ⊥ = cc in z)
+  change_makes_by with_mixture with_old limit spare (Ok (FoundSound p cert)) m h t = absurd (let z : ⊥ = cc in z)
+  change_makes_by with_mixture with_old limit spare (Err f) m h t = absurd (let z : ⊥ = cc in z)
 
-  change_makes : (with_mixture : Bool) (limit spare : ℕ) (e : ChangeEvidence A) → ChangeEvidenceAnswers with_mixture limit spare first second out (Ok e) → IsMadeOfIt (ChangedInto e)
-  change_makes with_mixture limit spare (SoundChange p cert) h = tt
-  change_makes with_mixture limit spare (UnsoundChange None) h = tt
-  change_makes with_mixture limit spare (UnsoundChange (Some m)) h = change_makes_by with_mixture limit spare h.0 m h.1 h.2
+  change_makes : (with_mixture with_old : Bool) (limit spare : ℕ) (e : ChangeEvidence A) → ChangeEvidenceAnswers with_mixture with_old limit spare first second out (Ok e) → IsMadeOfIt (ChangedInto e)
+  change_makes with_mixture with_old limit spare (SoundChange p cert) h = tt
+  change_makes with_mixture with_old limit spare (UnsoundChange None) h = tt
+  change_makes with_mixture with_old limit spare (UnsoundChange (Some m)) h = change_makes_by with_mixture with_old limit spare h.0 m h.1 h.2
 
   -- the plan after a stage of an order
   stage_makes : (old p q new : Plan) → plan_of AtEnd text ≡ Ok old → (stage : Option ℕ) (limit spare : ℕ) (verdict : OrderVerdict A) (staged : Staged A)
@@ -234,7 +234,7 @@ module _ (text left : List ℕ) (second third : Input) (out : Output) {A : Type 
   makes_plan (Lint plan (Some risks)) d h = makes Linted _ d (λ x _. tt) h.0
   makes_plan (Codes plan) d h = makes Listed _ d (λ x _. tt) h.0
   makes_plan (Audit plan limit spare cert counter) d h = makes Audited _ d (λ x _. tt) h.0
-  makes_plan (Change before after limit spare cert mixture counter) d h = makes ChangedInto _ d (λ x a. change_makes _ limit spare x a) h.0
+  makes_plan (Change before after limit spare cert mixture counter with_old) d h = makes ChangedInto _ d (λ x a. change_makes _ with_old limit spare x a) h.0
   makes_plan (Order before after limit spare stage plan cert with_old) d h = makes Ordered _ d (λ x a. order_makes stage with_old limit spare x a) h.0
   makes_plan (Mend plan limit spare mended cert with_old) d h = makes Mended _ d (λ x a. mend_makes with_old limit spare x a) h.0
   makes_plan (Survive plan None totals) d h = makes Survived _ d (λ x _. tt) h.0

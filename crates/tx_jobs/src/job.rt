@@ -142,11 +142,16 @@ fn do_texts<A: Allocator + Copy, P: Source, Q: Source, R: Source, W: Sink>(
         Command::Check { limit, spare, .. } => {
             Ok(Done::Verified(check_job(alloc, first, second, *limit, *spare, out)?))
         }
-        Command::Change { limit, spare, .. } => {
+        Command::Change {
+            limit,
+            spare,
+            with_old,
+            ..
+        } => {
             let (limit, spare) = (*limit, *spare);
             let limits = Limits { limit, spare };
             let shown = files.plan.or(files.script).is_some();
-            let changed = change_evidence_job(alloc, first, second, limits, shown, out)?;
+            let changed = change_evidence_job(alloc, first, second, limits, shown, *with_old, out)?;
             Ok(Done::Changed(changed))
         }
         Command::Order {

@@ -29,7 +29,9 @@ pub fn write_mended<A: Allocator, W: Sink>(
     write_parts(&[b"VERDICT YES\n"], sink)
 }
 
-fn write_changes<A: Allocator, W: Sink>(
+/// Writes each list of a plan that is another one than before, with the one before if that is asked
+/// for.
+pub fn write_changes<A: Allocator, W: Sink>(
     before: &Routes<A>,
     plan: &Plan<A>,
     with_old: bool,

@@ -25,7 +25,7 @@ mod rules;
 mod serving;
 mod unserved;
 
-pub use changed_lists::write_new_list;
+pub use changed_lists::{write_changes, write_new_list};
 pub use copying::bars_of;
 pub use law::{
     certified_stays, keeps_what_can_be_kept, least_ranks_are_least, least_ranks_serve,

@@ -9,7 +9,7 @@ has_more_texts Pipe = true
 has_more_texts (Run plan script checked) = true
 has_more_texts (RunTelling plan script strict echo summary) = true
 has_more_texts (Check plan cert limit spare) = true
-has_more_texts (Change before after limit spare cert mixture counter) = true
+has_more_texts (Change before after limit spare cert mixture counter with_old) = true
 has_more_texts (Order before after limit spare stage plan cert with_old) = true
 has_more_texts other = false
 

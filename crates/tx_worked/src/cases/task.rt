@@ -36,7 +36,7 @@ static COMMANDS: [(&str, &str, &str); 25] = [
     (
         "change",
         "",
-        "change old new --limit=@1 --spare=@2 --cert=cert --mixture=plan --counter=script",
+        "change old new --limit=@1 --spare=@2 --cert=cert --mixture=plan --counter=script @3",
     ),
     ("order", "", "order old new --limit=@1 --spare=@2 @3"),
     (
