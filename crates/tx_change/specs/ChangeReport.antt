@@ -19,17 +19,21 @@ module _ {A : Type 0} where
   abbrev pub finding_after : (word : List ℕ) → Plan → Finding A → List ℕ
   finding_after word p f = word ++ finding_line p f
 
-  -- a line for each finding, after a word, and the verdict
+  -- a line for each finding, after a word
   abbrev pub findings_after : (word : List ℕ) → Plan → List (Finding A) → List ℕ
-  findings_after word p findings =
-      flat_map (finding_after word p) findings ++ verdict_line (length findings)
+  findings_after word p findings = flat_map (finding_after word p) findings
+
+  -- these lines, and the verdict
+  abbrev pub verdict_after : (word : List ℕ) → Plan → List (Finding A) → List ℕ
+  verdict_after word p findings =
+      findings_after word p findings ++ verdict_line (length findings)
 
   -- what was found of the mixtures, by the names of the joined network, or of the new plan as it
   -- is, by its own names after the word NEW, and the verdict
   abbrev pub verdict_text : (before new : Plan) → ChangeVerdict A → List ℕ
   verdict_text before new (Sound cert) = codes "VERDICT YES\n"
-  verdict_text before new (Unsound findings) = findings_after [] before findings.items
-  verdict_text before new (NewUnsound findings) = findings_after (codes "NEW ") new findings.items
+  verdict_text before new (Unsound findings) = verdict_after [] before findings.items
+  verdict_text before new (NewUnsound findings) = verdict_after (codes "NEW ") new findings.items
 
   -- The report: what was asked, in what the plans differ beside lists, the lists that are switched
   -- if they are asked for, a line for each finding, and the verdict

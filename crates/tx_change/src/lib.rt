@@ -23,5 +23,5 @@ pub use judging::{ChangeVerdict, judge_change};
 pub use law::{closed_codes_stay, findings_show_mixtures};
 pub use mixing::{Lists, Mixing, mixed_lists};
 pub use mixture::{ShownMixture, first_mixture, new_plan_shown};
-pub use report::{write_change, write_finding_after};
+pub use report::{write_change, write_findings_after, write_verdict_after};
 pub use showing::shown;

@@ -1,6 +1,6 @@
 // The writer of the report of a change.
 ghost use Rattle.tx_text.specs.Wrote.{Wrote};
-ghost use Rattle.tx_change.specs.ChangeReport.{switched_lists, finding_after, findings_after, verdict_text, change_report};
+ghost use Rattle.tx_change.specs.ChangeReport.{switched_lists, finding_after, findings_after, verdict_after, verdict_text, change_report};
 
 use crate::judging::ChangeVerdict;
 use std::alloc::Allocator;
@@ -59,13 +59,27 @@ fn write_found<A: Allocator, W: Sink>(
 {
     match verdict {
         ChangeVerdict::Sound(_) => write_verdict(0, sink),
-        ChangeVerdict::Unsound(findings) => write_findings(b"", &joined.old, findings, sink),
-        ChangeVerdict::NewUnsound(findings) => write_findings(b"NEW ", new, findings, sink),
+        ChangeVerdict::Unsound(findings) => write_verdict_after(b"", &joined.old, findings, sink),
+        ChangeVerdict::NewUnsound(findings) => write_verdict_after(b"NEW ", new, findings, sink),
     }
 }
 
 /// Writes the line of each finding after a word, and the verdict.
-fn write_findings<A: Allocator, W: Sink>(
+pub fn write_verdict_after<A: Allocator, W: Sink>(
+    word: &[u8],
+    plan: &Plan<A>,
+    findings: &[Finding<A>],
+    sink: &mut W,
+) -> Result<(), WriteFault>
+    ensures { Wrote W.taken W.failed sink.old sink.new
+        (verdict_after word.now plan.now findings.now) result }
+{
+    write_findings_after(word, plan, findings, sink)?;
+    write_verdict(findings.len(), sink)
+}
+
+/// Writes the line of each finding after a word.
+pub fn write_findings_after<A: Allocator, W: Sink>(
     word: &[u8],
     plan: &Plan<A>,
     findings: &[Finding<A>],
@@ -77,11 +91,11 @@ fn write_findings<A: Allocator, W: Sink>(
     for i in 0..findings.len() {
         write_finding_after(word, plan, &findings[i], sink)?;
     }
-    write_verdict(findings.len(), sink)
+    Ok(())
 }
 
 /// Writes the line of a finding after a word.
-pub fn write_finding_after<A: Allocator, W: Sink>(
+fn write_finding_after<A: Allocator, W: Sink>(
     word: &[u8],
     plan: &Plan<A>,
     finding: &Finding<A>,

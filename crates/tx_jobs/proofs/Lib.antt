@@ -14,6 +14,7 @@ mod Grading
 mod LintTold
 mod Surviving
 mod DrawnCode
+mod Asking
 mod EndLines
 mod Cutting
 mod Taking

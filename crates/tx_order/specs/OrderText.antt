@@ -8,7 +8,7 @@ use Rattle.tx_rank.specs.declared.finding.Finding.{Finding}
 use Rattle.tx_rank.specs.Report.{asked_line, findings_of, no_line}
 use Rattle.tx_join.specs.Differences.{difference_text}
 use Rattle.tx_mend.specs.MendText.{line_unless_same}
-use Rattle.tx_change.specs.ChangeReport.{finding_after}
+use Rattle.tx_change.specs.ChangeReport.{findings_after, verdict_after}
 use Rattle.tx_order.specs.declared.judging.OrderVerdict.{OrderVerdict}
 use Rattle.tx_order.specs.declared.judging.OrderVerdict.TheVariants.{Ordered, NoOrder, NewUnsound}
 use Rattle.tx_order.specs.Ordered.{Order, plan_before, stages_in}
@@ -59,28 +59,20 @@ stages_text with_old o =
     flat_map (stage_text with_old o) (range_with_len 0 (stages_in o)) ++ codes "VERDICT YES\n"
 
 module _ {A : Type 0} where
-  -- findings, each after a word
-  abbrev pub findings_after : (word : List ℕ) → Plan → List (Finding A) → List ℕ
-  findings_after word p findings = flat_map (finding_after word p) findings
-
   -- where there is no order: the findings of the old plan and of the new one, and NO with their
   -- number
   abbrev pub no_order_text : Plan → (before after : List (Finding A)) → List ℕ
   no_order_text p before after = findings_after (codes "OLD ") p before
       ++ (findings_after (codes "NEW ") p after ++ no_line (length before + length after))
 
-  -- where the new plan as it is is not safe: its findings, by its own names, and NO with their
-  -- number
-  abbrev pub new_unsound_text : Plan → List (Finding A) → List ℕ
-  new_unsound_text new findings =
-      findings_after (codes "NEW ") new findings ++ no_line (length findings)
-
-  -- the lines of a verdict
+  -- the stages, or what is wrong with both plans over the joined network, or with the new plan as it
+  -- is, by its own names
   abbrev pub verdict_text : (with_old : Bool) → (new : Plan) → OrderVerdict A → List ℕ
   verdict_text with_old new (Ordered o) = stages_text with_old o
   verdict_text with_old new (NoOrder p before after) =
       no_order_text p (findings_of before) (findings_of after)
-  verdict_text with_old new (NewUnsound findings) = new_unsound_text new findings.items
+  verdict_text with_old new (NewUnsound findings) =
+      verdict_after (codes "NEW ") new findings.items
 
   -- The report: what was asked, in what the plans differ beside lists and bars, and the verdict,
   -- with the lists that are replaced if they are asked for

@@ -5,13 +5,13 @@ ghost use Rattle.tx_plan.specs.Routes.{route_list, is_barred};
 ghost use Rattle.tx_mend.specs.MendText.{line_unless_same};
 ghost use Rattle.tx_rank.specs.Report.{findings_of};
 ghost use Rattle.tx_order.specs.Ordered.{plan_before, stages_in};
-ghost use Rattle.tx_order.specs.OrderText.{pair_line, bar_line, entry_lines, exchange_lines, switched_lines, stage_line, stage_text, stages_text, findings_after, no_order_text, new_unsound_text, verdict_text, order_report};
+ghost use Rattle.tx_order.specs.OrderText.{pair_line, bar_line, entry_lines, exchange_lines, switched_lines, stage_line, stage_text, stages_text, no_order_text, verdict_text, order_report};
 
 use crate::judging::OrderVerdict;
 use crate::orders::Order;
 use itoa::Buffer;
 use std::alloc::Allocator;
-use tx_change::write_finding_after;
+use tx_change::{write_findings_after, write_verdict_after};
 use tx_join::write_differences;
 use tx_mend::write_new_list;
 use tx_plan::{CodeId, ExchangeId, Limits, Plan};
@@ -50,7 +50,7 @@ fn write_verdict<A: Allocator, W: Sink>(
     match verdict {
         OrderVerdict::Ordered(order) => write_stages(order, with_old, sink),
         OrderVerdict::NoOrder(plan, before, after) => write_no_order(plan, before, after, sink),
-        OrderVerdict::NewUnsound(findings) => write_new_unsound(new, findings, sink),
+        OrderVerdict::NewUnsound(findings) => write_verdict_after(b"NEW ", new, findings, sink),
     }
 }
 
@@ -229,8 +229,8 @@ fn write_no_order<A: Allocator, W: Sink>(
 {
     let before = findings(before);
     let after = findings(after);
-    write_findings(b"OLD ", plan, before, sink)?;
-    write_findings(b"NEW ", plan, after, sink)?;
+    write_findings_after(b"OLD ", plan, before, sink)?;
+    write_findings_after(b"NEW ", plan, after, sink)?;
     write_no(before.len() + after.len(), sink)
 }
 
@@ -242,33 +242,4 @@ fn findings<A: Allocator>(ranking: &Ranking<A>) -> &[Finding<A>]
         Ranking::Found(_) => &[],
         Ranking::Fails(findings) => findings.as_slice(),
     }
-}
-
-/// Writes the findings of the new plan as it is, and NO with their number.
-fn write_new_unsound<A: Allocator, W: Sink>(
-    new: &Plan<A>,
-    findings: &[Finding<A>],
-    sink: &mut W,
-) -> Result<(), WriteFault>
-    ensures { Wrote W.taken W.failed sink.old sink.new
-        (new_unsound_text new.now findings.now) result }
-{
-    write_findings(b"NEW ", new, findings, sink)?;
-    write_no(findings.len(), sink)
-}
-
-/// Writes the line of each finding after a word.
-fn write_findings<A: Allocator, W: Sink>(
-    word: &[u8],
-    plan: &Plan<A>,
-    findings: &[Finding<A>],
-    sink: &mut W,
-) -> Result<(), WriteFault>
-    ensures { Wrote W.taken W.failed sink.old sink.new
-        (findings_after word.now plan.now findings.now) result }
-{
-    for i in 0..findings.len() {
-        write_finding_after(word, plan, &findings[i], sink)?;
-    }
-    Ok(())
 }

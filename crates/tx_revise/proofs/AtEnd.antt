@@ -1,19 +1,14 @@
 -- At END all lists and bars of the new plan stand.
-use Rattle.std.proofs.Common.{◌≡◌, ℕ, ◌+◌, ◌<◌, ◌==◌, Bool, true, false, not, ◌&&◌, ◌||◌, nat_lt, cond, List, [], ◌∷◌, ◌++◌, map, length, Option, None, Some, refl, sym, ap, ◌∙◌, subst, append_assoc, arith}
-use Rattle.std.specs.Prelude.{find, filter}
-use Rattle.std.specs.List.{AllByRecursion, list_all, list_any}
+use Rattle.std.proofs.Common.{◌≡◌, ℕ, ◌==◌, Bool, true, false, ◌&&◌, ◌||◌, nat_lt, cond, List, [], ◌∷◌, ◌++◌, map, length, Option, Some, refl, sym, ◌∙◌, subst}
+use Rattle.std.specs.Prelude.{find}
+use Rattle.std.specs.List.{AllByRecursion, list_all}
 use Rattle.std.specs.Option.{option_map_or}
-use Rattle.std.proofs.lemmas.Bool.{and_parts, and_from, or_left, or_right, not_from_false, not_from_true, eq-eqb, ne_eqb, eqb-true, lt-ltb, true≢false, not-true}
+use Rattle.std.proofs.lemmas.Bool.{and_parts, and_from, or_left, or_right, not_from_false, eq-eqb, eqb-true, true≢false}
 use Rattle.tx_plan.specs.declared.ids.Pair.{Pair}
 use Rattle.tx_plan.specs.Plan.{Plan, Route}
-use Rattle.tx_plan.specs.Rules.{IsPlan, IsRoute, IsBar}
 use Rattle.tx_plan.specs.Routes.{route_list, is_barred}
-use Rattle.tx_plan.specs.Circuits.{may_seize}
-use Rattle.tx_plan.specs.Mixtures.{SameNetwork}
-use Rattle.tx_plan.specs.Mixed.{rerouted}
-use Rattle.tx_plan.proofs.Growing.{seizes_within}
 use Rattle.tx_plantext.proofs.Indexes.{all_weaker}
-use Rattle.tx_revise.specs.Revised.{Reached, Turn, nothing, stands, then_turn, has, list_of, list_text, bar_text, can_stand, is_at, listed_at, new_line, each, new_bar, each_bar}
+use Rattle.tx_revise.specs.Revised.{Reached, nothing, stands, has, list_of, list_text, bar_text, can_stand, new_line, each, new_bar, each_bar}
 use Rattle.tx_revise.proofs.Rows.{route_for}
 
 -- what is among some pairs stays among more

@@ -1,34 +1,25 @@
 -- The lines that stand for each line of a text declare what the new plan has.
-use Rattle.std.proofs.Common.{◌≡◌, ◌≢◌, ℕ, ◌+◌, ◌<◌, ◌==◌, Bool, true, false, not, ◌&&◌, ◌||◌, nat_lt, cond, List, [], ◌∷◌, ◌++◌, map, length, Option, None, Some, Result, Ok, Err, codes, refl, sym, ap, ◌∙◌, subst, append_assoc, append-nil, arith, unwrap_or}
-use Rattle.std.specs.Prelude.{slice_get, find, filter, is_none}
+use Rattle.std.proofs.Common.{◌≡◌, ℕ, ◌<◌, ◌==◌, Bool, true, false, ◌&&◌, ◌||◌, nat_lt, cond, List, [], ◌∷◌, ◌++◌, map, length, None, Some, Ok, refl, sym, ap, ◌∙◌, subst, append_assoc, arith}
 use Rattle.std.specs.List.{AllByRecursion, list_all, list_any}
-use Rattle.std.specs.Option.{option_map_or}
-use Rattle.std.specs.Str.{bytes_eq}
-use Rattle.std.proofs.lemmas.Bool.{and_parts, and_from, not-true, not-false, or_parts, or_left, or_right, eq-eqb, eqb-true, lt-ltb, ltb-true, true≢false}
-use Rattle.std.proofs.lemmas.List.{map_push, length-append}
-use Rattle.std.proofs.lemmas.Slice.Eq.{bytes_eq-Decides}
+use Rattle.std.proofs.lemmas.Bool.{and_parts, not-true, eqb-true, lt-ltb, ltb-true, true≢false}
+use Rattle.std.proofs.lemmas.List.{map_push}
 use Rattle.tx_text.specs.Frame.{is_end}
 use Rattle.tx_text.specs.Text.{without_cr, bytes_fault}
-use Rattle.tx_text.specs.Words.{words_of}
-use Rattle.tx_text.specs.Written.{joined}
 use Rattle.tx_plan.specs.declared.ids.Pair.{Pair}
-use Rattle.tx_plan.specs.Plan.{Plan, Route, home_of, exchange_named, code_named}
-use Rattle.tx_plan.specs.Rules.{IsPlan, IsRoute, IsBar}
+use Rattle.tx_plan.specs.Plan.{Plan, Route}
+use Rattle.tx_plan.specs.Rules.{IsPlan, IsBar}
 use Rattle.tx_plan.specs.Routes.{route_list, is_barred}
 use Rattle.tx_plan.specs.Mixed.{rerouted}
 use Rattle.tx_plan.specs.Mixtures.{SameNetwork}
-use Rattle.tx_plan.specs.Declaring.{first_true, bar_refusals, holds_at, pair_of, pair_named, exchange_at, code_at}
-use Rattle.tx_plan.proofs.Growing.{passed, kept_exchange, kept_code, kept_lines, kept_group, kept_bar}
 use Rattle.tx_plan.proofs.Tables.{list_any-map}
 use Rattle.tx_plantext.specs.PlanText.{declare}
 use Rattle.tx_plantext.specs.PlanWritten.{route_words, bar_words, has_bars}
-use Rattle.tx_plantext.proofs.ListLines.{none_true, unless-none}
-use Rattle.tx_revise.specs.Lines.{words_in, cr_of, tail_of, tail_line, respelled}
-use Rattle.tx_revise.specs.Revised.{Reached, Turn, nothing, stands, then_turn, has, list_of, list_text, bar_text, can_stand, is_at, listed_at, in_place, bar_turn, new_line, each, new_bar, each_bar, behind, route_turn, end_turn}
+use Rattle.tx_revise.specs.Lines.{cr_of, tail_of, tail_line, respelled}
+use Rattle.tx_revise.specs.Revised.{Reached, Turn, nothing, stands, then_turn, has, list_of, list_text, bar_text, can_stand, listed_at, in_place, new_line, each, new_bar, each_bar, behind, route_turn}
 use Rattle.tx_revise.proofs.Tails.{IsLine, Spells, alone, below, IsSpelled, IsCr, is_cr as line_cr, line_with_cr, tail_spelled, respelled_spells}
-use Rattle.tx_revise.proofs.Parts.{Says, Goes, goes_on}
-use Rattle.tx_revise.proofs.LineKinds.{Begins, IsFront, begins_itself}
-use Rattle.tx_revise.proofs.Rows.{route_for, list_is_route, Adds, IsDeclared, route_adds, bar_adds, with_one, with_one_bar}
+use Rattle.tx_revise.proofs.Parts.{Says, goes_on}
+use Rattle.tx_revise.proofs.LineKinds.{Begins}
+use Rattle.tx_revise.proofs.Rows.{route_for, list_is_route, Adds, IsDeclared, route_adds, bar_adds}
 
 -- what a plan says that is the new one but for the order of lists and bars
 pub record IsSame (q : Plan) (r : Plan) : Type 0 where

@@ -1,12 +1,11 @@
 -- A line counts at most one exchange, code or group more.
-use Rattle.std.proofs.Common.{◌≡◌, ℕ, ◌+◌, ◌≤◌, ◌==◌, Bool, true, false, cond, List, [], ◌∷◌, ◌++◌, length, Option, None, Some, codes, refl, arith}
+use Rattle.std.proofs.Common.{◌≡◌, ℕ, ◌+◌, ◌==◌, Bool, true, false, cond, List, [], ◌∷◌, length, None, Some, codes, refl, arith}
 use Rattle.std.specs.List.{list_any}
 use Rattle.std.specs.Str.{bytes_eq}
 use Rattle.tx_plan.specs.declared.ids.Pair.{Pair}
 use Rattle.tx_plan.specs.Plan.{Plan, Route}
-use Rattle.tx_plan.specs.Routes.{is_barred}
-use Rattle.tx_revise.specs.Lines.{words_in, respelled}
-use Rattle.tx_revise.specs.Revised.{Reached, Turn, nothing, stands, then_turn, has, list_of, list_text, bar_text, can_stand, listed_at, header_turn, in_place, bar_turn, new_line, each, new_bar, each_bar, behind, route_turn, end_turn, word_turn, turn_by, turn}
+use Rattle.tx_revise.specs.Lines.{words_in}
+use Rattle.tx_revise.specs.Revised.{Reached, Turn, has, list_of, can_stand, listed_at, in_place, bar_turn, new_line, each, new_bar, each_bar, behind, route_turn, end_turn, turn_by, turn}
 use Rattle.tx_revise.specs.inner.Drafts.{IsShort}
 
 -- the counts of a turn are those before it

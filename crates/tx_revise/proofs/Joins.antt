@@ -1,6 +1,6 @@
 -- Lines that are joined by LFs, and cut at them again.
 use Rattle.std.proofs.Common.{◌≡◌, ℕ, zero, suc, ◌+◌, ◌-◌, ◌<◌, ◌≤◌, ◌==◌, Bool, true, false, cond, None, List, [], ◌∷◌, ◌++◌, length, get_or, take, drop, add-one, refl, sym, ap, ◌∙◌, subst, append_assoc, append-nil, arith}
-use Rattle.std.specs.List.{All, AllByRecursion, slice_split, list_all, join_with_byte, position_or_len, before_first, after_first}
+use Rattle.std.specs.List.{All, AllByRecursion, slice_split, join_with_byte, position_or_len, before_first, after_first}
 use Rattle.std.proofs.lemmas.Bool.{eqb-true}
 use Rattle.std.proofs.lemmas.Bool.Decides.{nat_tests}
 use Rattle.std.proofs.lemmas.List.{take_all, length-append, length-drop}
@@ -10,8 +10,8 @@ use Rattle.std.proofs.lemmas.List.Sums.{AllPass-from_list_all, fails_before_firs
 use Rattle.tx_text.specs.Text.{is_lf, is_text_byte, without_cr, bytes_fault}
 use Rattle.tx_plan.specs.Plan.{Plan}
 use Rattle.tx_revise.specs.Lines.{words_in, ended}
-use Rattle.tx_revise.proofs.Tails.{IsRight, right_from}
-use Rattle.tx_revise.proofs.Parts.{Says, Starts, Ends, Line, Goes, at_end, goes_on, Before}
+use Rattle.tx_revise.proofs.Tails.{right_from, take_at}
+use Rattle.tx_revise.proofs.Parts.{Says, Starts, Ends, Line, at_end, goes_on, Before}
 
 abbrev pub HasNoLf : List ℕ → Type 0
 HasNoLf bytes = All (λ b. is_lf b ≡ false) bytes
@@ -72,10 +72,6 @@ pub ended_joined : (line : List ℕ) (lines : List (List ℕ)) → ended (line �
 ended_joined line [] = append-nil (line ++ 10 ∷ [])
 ended_joined line (next ∷ lines) =
     append_assoc line (10 ∷ []) (ended (next ∷ lines)) ∙ ap (λ l. line ++ 10 ∷ l) (ended_joined next lines) ∙ sym (append_assoc line (10 ∷ join_with_byte 10 (next ∷ lines)) (10 ∷ []))
-
-take_at : (x : List ℕ) (b : ℕ) → take (length x) (x ++ b ∷ []) ≡ x
-take_at [] b = refl
-take_at (c ∷ x) b = ap (λ l. c ∷ l) (take_at x b)
 
 -- without the last LF
 pub popped : (lines : List (List ℕ)) (text next : List ℕ) (n : ℕ) → text ≡ ended lines → n ≡ length text → next ≡ take (n - 1) text → next ≡ join_with_byte 10 lines

@@ -1,24 +1,22 @@
 -- Each line of the old text, between its header and END, goes on as it should.
-use Rattle.std.proofs.Common.{◌≡◌, ℕ, ◌+◌, ◌==◌, Bool, true, false, not, ◌&&◌, cond, List, [], ◌∷◌, ◌++◌, map, length, Option, None, Some, Result, Ok, codes, refl, sym, ap, ◌∙◌, subst, append_assoc, arith, unwrap_or}
-use Rattle.std.specs.Prelude.{is_none}
+use Rattle.std.proofs.Common.{◌≡◌, ℕ, ◌+◌, Bool, true, false, not, ◌&&◌, cond, List, [], ◌∷◌, ◌++◌, Option, None, Some, Ok, codes, refl, sym, ap, ◌∙◌, subst, append_assoc, arith, unwrap_or}
 use Rattle.std.proofs.lemmas.Bool.{and_parts, not-true}
 use Rattle.std.proofs.lemmas.List.{length-append}
-use Rattle.tx_text.specs.Text.{without_cr, bytes_fault}
 use Rattle.tx_text.specs.Frame.{is_end}
 use Rattle.tx_plan.specs.declared.ids.Pair.{Pair}
 use Rattle.tx_plan.specs.declared.ids.Direction.{Direction}
-use Rattle.tx_plan.specs.Plan.{Plan, home_of, exchange_named, code_named}
+use Rattle.tx_plan.specs.Plan.{Plan, exchange_named, code_named}
 use Rattle.tx_plan.specs.Rules.{IsPlan}
 use Rattle.tx_plan.specs.Routes.{is_barred}
-use Rattle.tx_plan.specs.Declaring.{first_true, exchange_refusals, code_refusals, lines_refusals, group_refusals, bar_refusals, holds_at, pair_of, pair_named, exchange_at, code_at, with_exchange, with_code, with_lines, with_group, with_bar}
+use Rattle.tx_plan.specs.Declaring.{first_true, exchange_refusals, code_refusals, lines_refusals, group_refusals, bar_refusals, holds_at, pair_of, exchange_at, code_at, with_exchange, with_code, with_lines, with_group, with_bar}
 use Rattle.tx_plan.proofs.Growing.{passed, kept_exchange, kept_code, kept_lines, kept_group, kept_bar}
-use Rattle.tx_plantext.specs.PlanText.{declare, direction_of, count_of, group_by, unless}
+use Rattle.tx_plantext.specs.PlanText.{declare, direction_of, count_of, group_by}
 use Rattle.tx_plantext.specs.PlanWritten.{has_bars}
 use Rattle.tx_plantext.proofs.ListLines.{none_true, unless-none}
 use Rattle.tx_revise.specs.Revised.{Reached, nothing, stands, has, bar_turn}
 use Rattle.tx_revise.proofs.Tails.{IsLine, alone}
 use Rattle.tx_revise.proofs.LineKinds.{Begins}
-use Rattle.tx_revise.proofs.Carrying.{so_far, IsReached, Leads, Carries, blank_leads, spelled_leads, nothing_carries, some_bars, still_allowed}
+use Rattle.tx_revise.proofs.Carrying.{so_far, IsReached, Carries, blank_leads, spelled_leads, some_bars, still_allowed}
 
 cancel : {A : Type 0} (xs ys zs : List A) → xs ++ ys ≡ xs ++ zs → ys ≡ zs
 cancel [] ys zs e = e

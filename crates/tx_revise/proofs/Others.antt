@@ -1,12 +1,12 @@
 -- The lines of a text that are no header, list or bar stand in the revised one.
 use Rattle.std.proofs.Common.{◌≡◌, ℕ, ◌+◌, ◌||◌, Bool, true, false, not, cond, List, [], ◌∷◌, ◌++◌, filter, codes, refl, sym, ap, ◌∙◌, subst, append_assoc}
-use Rattle.std.specs.List.{list_any, slice_split}
+use Rattle.std.specs.List.{slice_split}
 use Rattle.std.specs.Str.{bytes_eq}
 use Rattle.std.proofs.lemmas.Bool.{true≢false}
 use Rattle.tx_text.specs.Text.{is_lf}
 use Rattle.tx_plan.specs.Plan.{Plan}
 use Rattle.tx_revise.specs.Lines.{words_in}
-use Rattle.tx_revise.specs.Revised.{Reached, Turn, at_start, stands, then_turn, listed_at, header_turn, bar_turn, each, each_bar, route_turn, end_turn, turn, turn_by, word_turn, lines_of, first_cr}
+use Rattle.tx_revise.specs.Revised.{Reached, Turn, at_start, stands, then_turn, listed_at, header_turn, bar_turn, each, each_bar, route_turn, end_turn, turn, turn_by, lines_of, first_cr}
 use Rattle.std.specs.Prelude.{None}
 use Rattle.tx_revise.specs.Laws.{is_other, is_other_by, StandAmong, none, this, later, OtherLinesStand}
 use Rattle.tx_revise.proofs.Said.{revised_is}

@@ -1,5 +1,5 @@
 -- The lines of new lists and bars declare them where all that they name is declared.
-use Rattle.std.proofs.Common.{◌≡◌, ◌≢◌, ℕ, zero, suc, ◌<◌, ◌==◌, Bool, true, false, not, ◌&&◌, nat_lt, cond, List, [], ◌∷◌, ◌++◌, map, length, Option, None, Some, Result, Ok, codes, refl, sym, ap, ◌∙◌, subst, arith}
+use Rattle.std.proofs.Common.{◌≡◌, ◌≢◌, ℕ, ◌<◌, ◌==◌, true, false, ◌&&◌, nat_lt, cond, List, [], ◌∷◌, ◌++◌, map, length, Option, Some, Ok, refl, sym, ap, ◌∙◌, subst}
 use Rattle.std.specs.Prelude.{slice_get, find}
 use Rattle.std.specs.List.{AllByRecursion, list_all, list_any}
 use Rattle.std.specs.Option.{option_map_or}
@@ -24,6 +24,7 @@ use Rattle.tx_plantext.proofs.Indexes.{all_weaker}
 use Rattle.tx_plantext.proofs.ListLines.{unless-none}
 use Rattle.tx_plantext.proofs.RouteLines.{route_declared, bar_declared}
 use Rattle.tx_revise.specs.Revised.{list_of}
+use Rattle.tx_plan.proofs.Lists.{slice_get_left}
 use Rattle.tx_revise.proofs.Tails.{IsSpelled}
 use Rattle.tx_revise.proofs.LineKinds.{Begins, unless_ok}
 
@@ -53,13 +54,8 @@ list_is_route q h k some = route_found q k q.routes h.routes some
 
 -- ---- A FRONT OF A LIST
 
-get_front : {A : Type 0} (xs more : List A) (i : ℕ) → i < length xs → slice_get (xs ++ more) i ≡ slice_get xs i
-get_front [] more i l = absurd (omega arith)
-get_front (x ∷ xs) more zero l = refl
-get_front (x ∷ xs) more (suc i) l = get_front xs more i (omega arith)
-
 pub get_begun : {A : Type 0} (xs ys : List A) → Begins xs ys → (i : ℕ) → i < length xs → slice_get xs i ≡ slice_get ys i
-get_begun xs ys b i l = sym (ap (λ l. slice_get l i) b.is ∙ get_front xs b.more i l)
+get_begun xs ys b i l = sym (ap (λ l. slice_get l i) b.is ∙ slice_get_left xs b.more i l)
 
 -- ---- WHAT A LINE ADDS
 

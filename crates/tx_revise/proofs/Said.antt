@@ -1,10 +1,10 @@
 -- A revised text says the new plan.
-use Rattle.std.proofs.Common.{◌≡◌, ℕ, ◌+◌, ◌<◌, ◌==◌, Bool, true, false, ◌&&◌, ◌||◌, nat_lt, cond, List, [], ◌∷◌, ◌++◌, map, filter, length, Option, None, Some, Result, Ok, codes, refl, sym, ap, ◌∙◌, subst, append_assoc, append-nil, arith}
+use Rattle.std.proofs.Common.{◌≡◌, ℕ, ◌+◌, ◌==◌, Bool, true, false, ◌&&◌, ◌||◌, nat_lt, cond, List, [], ◌∷◌, ◌++◌, map, filter, length, None, Some, Ok, codes, refl, sym, ap, ◌∙◌, subst, append_assoc, arith}
 use Rattle.std.specs.Prelude.{find}
 use Rattle.std.specs.Option.{option_map_or}
 use Rattle.std.specs.List.{AllByRecursion, list_all, list_any, slice_split, join_with_byte}
 use Rattle.std.specs.Str.{bytes_eq}
-use Rattle.std.proofs.lemmas.Bool.{lt-ltb, ne_eqb, eqb-true, eq-eqb, and_parts, and_from, or_left, or_right, true≢false}
+use Rattle.std.proofs.lemmas.Bool.{lt-ltb, ne_eqb, eq-eqb, and_from, or_left, or_right, true≢false}
 use Rattle.std.proofs.lemmas.Slice.Eq.{bytes_eq-Decides}
 use Rattle.tx_text.specs.Frame.{is_end, version_of}
 use Rattle.tx_text.specs.Text.{is_lf, lines_from, without_cr, bytes_fault}
@@ -15,25 +15,25 @@ use Rattle.tx_text.proofs.WrittenWords.{line_of_short, fixed_word}
 use Rattle.tx_plan.specs.declared.ids.Pair.{Pair}
 use Rattle.tx_plan.specs.Plan.{Plan, Route, no_plan}
 use Rattle.tx_plan.specs.Rules.{IsPlan, IsRoute, IsBar}
-use Rattle.tx_plan.specs.Routes.{route_list, is_barred}
 use Rattle.tx_plan.specs.Circuits.{may_seize}
 use Rattle.tx_plan.specs.Mixtures.{SameNetwork}
 use Rattle.tx_plan.specs.Declaring.{with_route}
 use Rattle.tx_plan.proofs.Growing.{seizes_within}
-use Rattle.tx_plantext.specs.PlanText.{declare, plan_of}
+use Rattle.tx_plantext.specs.PlanText.{plan_of}
 use Rattle.tx_plantext.specs.PlanWritten.{has_bars, head_of}
 use Rattle.tx_plantext.proofs.Indexes.{all_weaker}
-use Rattle.tx_revise.specs.Lines.{words_in, cr_of, respelled}
-use Rattle.tx_revise.specs.Revised.{Reached, Turn, at_start, nothing, stands, then_turn, has, list_of, listed_at, is_at, each, each_bar, end_turn, route_turn, bar_turn, header_turn, turn, turn_by, lines_of, first_cr, revised}
+use Rattle.tx_revise.specs.Lines.{words_in, respelled}
+use Rattle.tx_revise.specs.Revised.{Reached, Turn, at_start, stands, then_turn, has, list_of, listed_at, is_at, each, each_bar, end_turn, route_turn, bar_turn, header_turn, turn, turn_by, lines_of, first_cr, revised}
 use Rattle.tx_revise.specs.Laws.{SaysAs, RevisedTextsSayThePlan}
 use Rattle.tx_revise.proofs.Tails.{IsLine, Spells, alone, below, IsSpelled, IsCr, no_byte, is_cr, right_from, no_cr, respelled_spells}
-use Rattle.tx_revise.proofs.Parts.{header, Says, Ends, Starts, Line, Goes, at_end, goes_on, Heads, Before, starts_from, starts_read}
+use Rattle.tx_revise.proofs.Parts.{header, Says, Ends, Starts, Line, at_end, goes_on, Before, starts_from, starts_read}
 use Rattle.tx_revise.proofs.LineKinds.{Kind, exchange, code, range, group, route, bar, kind_of, Begins, begins_itself, IsFront, front_of}
-use Rattle.tx_revise.proofs.Rows.{spelled_of, list_is_route, route_for}
-use Rattle.tx_revise.proofs.Carrying.{IsSame, so_far, IsReached, Leads, Carries, blank_leads, then_carries, each_carries, each_bar_carries, IsBarHere, route_carries, nothing_carries}
+use Rattle.tx_revise.proofs.Rows.{spelled_of, list_is_route}
+use Rattle.tx_revise.proofs.Carrying.{IsSame, so_far, IsReached, Leads, Carries, then_carries, each_carries, each_bar_carries, IsBarHere, route_carries}
 use Rattle.tx_revise.proofs.OldLines.{blank_carries, exchange_carries, code_carries, range_carries, group_carries, bar_carries}
 use Rattle.tx_revise.proofs.AtEnd.{IsReady, each_stands, bars_stand, bars_written, lists_same, bars_same}
 use Rattle.tx_revise.proofs.Joins.{cut_joined, starts_no_lf}
+use Rattle.tx_revise.proofs.Steps.{lines_cons, lines_none}
 
 -- the one word END
 end_is : (ws : List (List ℕ)) → is_end ws ≡ true → ws ≡ codes "END" ∷ []
@@ -93,27 +93,19 @@ along b e = record { more = b.more; is = sym e ∙ b.is }
 module _ (r q : Plan) (hq : IsPlan q) (net : SameNetwork r q) (cr : List ℕ) (cr_is : IsCr cr) where
   -- ---- WHAT STANDS FOR LINES
 
-  lines_cons : (line : List ℕ) (lines : List (List ℕ)) (s : Reached) → lines_of q cr (line ∷ lines) s ≡ (turn q cr line s).lines ++ lines_of q cr lines (turn q cr line s).next
-  unfolding lines_of
-  lines_cons line lines s = refl
-
-  lines_none : (s : Reached) → lines_of q cr [] s ≡ []
-  unfolding lines_of
-  lines_none s = refl
-
   turn_is : (line : List ℕ) (s : Reached) (ws : List (List ℕ)) → words_in line ≡ ws → turn q cr line s ≡ turn_by q cr ws line s
   unfolding turn
   turn_is line s ws e = ap (λ w. turn_by q cr w line s) e
 
   lines_by : (line : List ℕ) (lines : List (List ℕ)) (s : Reached) (t : Turn) → turn q cr line s ≡ t → lines_of q cr (line ∷ lines) s ≡ t.lines ++ lines_of q cr lines t.next
-  lines_by line lines s t e = lines_cons line lines s ∙ ap (λ (u : Turn). u.lines ++ lines_of q cr lines u.next) e
+  lines_by line lines s t e = lines_cons q cr line lines s ∙ ap (λ (u : Turn). u.lines ++ lines_of q cr lines u.next) e
 
   -- lines behind END stand
   ended_stand : (parts : List (List ℕ)) (s : Reached) → Ends parts → lines_of q cr parts s ≡ parts
-  ended_stand [] s h = lines_none s
+  ended_stand [] s h = lines_none q cr s
   ended_stand (part ∷ []) s h =
       let e : words_in part ≡ [] = ap words_of (no_cr part (right_from part h.0).bytes) ∙ h.1 in
-      lines_by part [] s (stands part s) (turn_is part s [] e) ∙ ap (λ l. part ∷ l) (lines_none s)
+      lines_by part [] s (stands part s) (turn_is part s [] e) ∙ ap (λ l. part ∷ l) (lines_none q cr s)
   ended_stand (part ∷ next ∷ parts) s h =
       lines_by part (next ∷ parts) s (stands part s) (turn_is part s [] h.1) ∙ ap (λ l. part ∷ l) (ended_stand (next ∷ parts) s h.2)
 
@@ -254,7 +246,7 @@ module _ (r q : Plan) (hq : IsPlan q) (net : SameNetwork r q) (cr : List ℕ) (c
     lines_lead u (part ∷ []) p s h i =
         let e : words_in part ≡ codes "END" ∷ [] = ap words_of (no_cr part (right_from part h.0).bytes) ∙ end_is (words_of part) h.1 in
         subst (λ k. Leads v r q hq second (lines_of q cr (part ∷ []) s) k s) (sym h.2)
-        (end_leads s part [] e (subst (λ k. Reaches k s) h.2 i) (λ t. lines_none t) (λ k. (h.0, h.1, refl)))
+        (end_leads s part [] e (subst (λ k. Reaches k s) h.2 i) (λ t. lines_none q cr t) (λ k. (h.0, h.1, refl)))
     lines_lead u (part ∷ next ∷ parts) p s h i = worded (λ m t k j. lines_lead u (next ∷ parts) m t k j) (words_in part) refl h.1
       where
         worded : ((m : Plan) (t : Reached) → Says u r (next ∷ parts) m → Reaches m t → Leads v r q hq second (lines_of q cr (next ∷ parts) t) m t) → (ws : List (List ℕ)) → words_in part ≡ ws → Line u p r ws (Says u r (next ∷ parts)) (Ends (next ∷ parts)) → Leads v r q hq second (lines_of q cr (part ∷ next ∷ parts) s) p s

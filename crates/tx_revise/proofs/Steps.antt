@@ -1,8 +1,9 @@
 -- Turns that are taken one after another.
 use Rattle.std.proofs.Common.{◌≡◌, ◌≢◌, ℕ, zero, suc, ◌+◌, ◌≤◌, ◌<◌, ◌==◌, ◌||◌, ◌&&◌, not, nat_lt, Bool, true, false, cond, List, [], ◌∷◌, ◌++◌, map, filter, length, drop, Option, None, Some, refl, sym, ap, ◌∙◌, append_assoc, append-nil, add-one, arith}
 use Rattle.std.specs.Prelude.{slice_get}
-use Rattle.std.specs.List.{flat_map, list_any, list_all}
+use Rattle.std.specs.List.{list_any, list_all}
 use Rattle.std.specs.Option.{option_map}
+use Rattle.std.proofs.Math.Bool.{and-false}
 use Rattle.std.proofs.lemmas.Bool.{eq-eqb, ne_eqb, lt-ltb}
 use Rattle.tx_plan.proofs.ByIndex.{entry_at}
 use Rattle.std.proofs.lemmas.Grind.{flat_map-append}
@@ -10,7 +11,7 @@ use Rattle.tx_plan.specs.declared.ids.Pair.{Pair}
 use Rattle.tx_plan.specs.Plan.{Plan, Route}
 use Rattle.tx_revise.specs.Lines.{ended}
 use Rattle.tx_plan.specs.Routes.{is_barred}
-use Rattle.tx_revise.specs.Revised.{Reached, Turn, nothing, stands, then_turn, has, list_of, can_stand, is_at, in_place, bar_turn, new_line, each, new_bar, each_bar, behind, route_turn, turn, lines_of}
+use Rattle.tx_revise.specs.Revised.{Reached, Turn, stands, then_turn, has, list_of, can_stand, is_at, in_place, bar_turn, new_line, each, new_bar, each_bar, behind, route_turn, turn, lines_of}
 use Rattle.tx_revise.specs.inner.Drafts.{Draft, draft_of, drafted}
 
 pub ended_append : (xs ys : List (List ℕ)) → ended (xs ++ ys) ≡ ended xs ++ ended ys
@@ -178,20 +179,29 @@ module _ (old plan : Plan) (cr text : List ℕ) (x c g l b : ℕ) (written barre
         ∙ sym (ap (λ bs. drafted begun (bar_turn plan line begun.reached bs)) (bars_here old.bars b at there) ∙ rw (yes_bar, new) refl)
 
     -- one that it does not have
-    pub bar_dropped : (is_barred plan at.0 at.1 && not (has barred (pair_at at))) ≡ false
+    bar_dropped : (is_barred plan at.0 at.1 && not (has barred (pair_at at))) ≡ false
         → draft_of old plan cr text x c g l (b + 1) written barred ≡ drafted begun (bar_turn plan line begun.reached begun.reached.bars)
     bar_dropped none_bar =
         ap (λ o. draft_of old plan cr o x c g l (b + 1) written barred) (sym (append-nil text))
         ∙ sym (ap (λ bs. drafted begun (bar_turn plan line begun.reached bs)) (bars_here old.bars b at there) ∙ rw none_bar refl)
 
+    pub bar_gone : is_barred plan at.0 at.1 ≡ false
+        → draft_of old plan cr text x c g l (b + 1) written barred ≡ drafted begun (bar_turn plan line begun.reached begun.reached.bars)
+    bar_gone none = bar_dropped (ap (λ (t : Bool). t && not (has barred (pair_at at))) none)
+
+    -- one that stands already
+    pub bar_again : has barred (pair_at at) ≡ true
+        → draft_of old plan cr text x c g l (b + 1) written barred ≡ drafted begun (bar_turn plan line begun.reached begun.reached.bars)
+    bar_again stands = bar_dropped (ap (λ (t : Bool). is_barred plan at.0 at.1 && not t) stands ∙ and-false (is_barred plan at.0 at.1))
+
 -- ---- ALL LINES
 
 module _ (q : Plan) (cr : List ℕ) where
-  lines_cons : (line : List ℕ) (lines : List (List ℕ)) (s : Reached) → lines_of q cr (line ∷ lines) s ≡ (turn q cr line s).lines ++ lines_of q cr lines (turn q cr line s).next
+  pub lines_cons : (line : List ℕ) (lines : List (List ℕ)) (s : Reached) → lines_of q cr (line ∷ lines) s ≡ (turn q cr line s).lines ++ lines_of q cr lines (turn q cr line s).next
   unfolding lines_of
   lines_cons line lines s = refl
 
-  lines_none : (s : Reached) → lines_of q cr [] s ≡ []
+  pub lines_none : (s : Reached) → lines_of q cr [] s ≡ []
   unfolding lines_of
   lines_none s = refl
 

@@ -1,12 +1,11 @@
 -- A line with other words before its tail.
-use Rattle.std.proofs.Common.{◌≡◌, ℕ, ◌+◌, ◌-◌, ◌<◌, ◌≤◌, ◌==◌, Bool, true, false, ◌&&◌, nat_le, nat_lt, cond, Option, None, Some, List, [], ◌∷◌, ◌++◌, length, take, get_or, filter, refl, sym, ap, ◌∙◌, arith, append_assoc, append-nil, length-append, subst}
-use Rattle.std.specs.List.{slice_split, onto_first, list_all, All}
-use Rattle.std.proofs.lemmas.Bool.{and_parts, and_from, lt-ltb, ltb-false, eqb-true, true≢false}
+use Rattle.std.proofs.Common.{◌≡◌, ℕ, ◌+◌, ◌-◌, ◌≤◌, ◌==◌, Bool, true, false, nat_le, nat_lt, cond, None, Some, List, [], ◌∷◌, ◌++◌, length, take, get_or, filter, refl, sym, ap, ◌∙◌, arith, append_assoc, append-nil, length-append, subst}
+use Rattle.std.specs.List.{slice_split, onto_first, list_all}
+use Rattle.std.proofs.lemmas.Bool.{and_parts, and_from, ltb-false, eqb-true}
 use Rattle.std.proofs.lemmas.Bool.Decides.{nat_tests}
 use Rattle.std.proofs.lemmas.List.Sums.{AllPass-from_list_all}
 use Rattle.std.proofs.lemmas.Slice.Eq.{bytes_eq-Decides}
 use Rattle.std.specs.Str.{bytes_eq}
-use Rattle.tx_text.specs.declared.text_fault.TextFault.{TextFault}
 use Rattle.tx_text.specs.declared.text_fault.TextFault.TheVariants.{LineTooLong, BadByte}
 use Rattle.tx_text.specs.Text.{is_text_byte, without_cr, bytes_fault}
 use Rattle.tx_text.specs.Words.{words_of, is_blank, is_hash, is_filled, before}
@@ -149,7 +148,7 @@ last_at : (x : List ℕ) (b : ℕ) → get_or (x ++ b ∷ []) (length x) 0 ≡ b
 last_at [] b = refl
 last_at (c ∷ x) b = last_at x b
 
-take_at : (x : List ℕ) (b : ℕ) → take (length x) (x ++ b ∷ []) ≡ x
+pub take_at : (x : List ℕ) (b : ℕ) → take (length x) (x ++ b ∷ []) ≡ x
 take_at [] b = refl
 take_at (c ∷ x) b = ap (λ l. c ∷ l) (take_at x b)
 

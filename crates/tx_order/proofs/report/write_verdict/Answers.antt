@@ -7,4 +7,4 @@ pub returns-in-NoOrder : goal.returns-in-NoOrder
 returns-in-NoOrder g c = rw c.in-NoOrder.is c.write_no_order.ensures
 
 pub returns-in-NewUnsound : goal.returns-in-NewUnsound
-returns-in-NewUnsound g c = rw (c.in-NewUnsound.is, ← c.deref.ensures.value) c.write_new_unsound.ensures
+returns-in-NewUnsound g c = rw (c.in-NewUnsound.is, ← c.deref.ensures.value) c.write_verdict_after.ensures

@@ -1,6 +1,4 @@
-use Rattle.std.proofs.Common.{◌≡◌, ◌∙◌, ap, ℕ, List, ◌++◌, codes}
-use Rattle.tx_plan.specs.declared.ids.Pair.{Pair}
-use Rattle.tx_revise.specs.Revised.{list_of}
+use Rattle.std.proofs.Common.{◌∙◌, ap, ℕ, List, ◌++◌, codes}
 use Rattle.tx_revise.proofs.Spelling.{names, name_end, front_is}
 use Rattle.tx_revise.proofs.lists.list_text.Goals as goal
 

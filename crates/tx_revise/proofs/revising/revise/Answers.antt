@@ -1,4 +1,4 @@
-use Rattle.std.proofs.Common.{◌≡◌, ◌∙◌, ◌-◌, ◌≤◌, ◌^◌, ℕ, List, [], length, ap, sym, vec_len, arith}
+use Rattle.std.proofs.Common.{◌≡◌, ◌∙◌, ◌-◌, ◌^◌, ℕ, List, [], length, ap, vec_len, arith}
 use Rattle.std.specs.List.{slice_split}
 use Rattle.tx_text.specs.Text.{is_lf}
 use Rattle.tx_revise.specs.Revised.{first_cr, lines_of, at_start}

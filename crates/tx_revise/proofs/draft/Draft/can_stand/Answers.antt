@@ -1,4 +1,4 @@
-use Rattle.std.proofs.Common.{◌≡◌, ◌∙◌, ℕ, List, ap, sym, length, nat_lt, ◌==◌, arith}
+use Rattle.std.proofs.Common.{◌∙◌, ℕ, List, ap, sym, length, nat_lt, ◌==◌, arith}
 use Rattle.std.specs.List.{list_all}
 use Rattle.tx_revise.specs.Revised.{can_stand}
 use Rattle.tx_revise.specs.inner.Drafts.{Draft, draft_of}

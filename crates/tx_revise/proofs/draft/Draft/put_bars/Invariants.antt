@@ -1,5 +1,4 @@
 use Rattle.std.proofs.Common.{◌≡◌, drop}
-use Rattle.tx_plan.specs.Plan.{Plan}
 use Rattle.tx_revise.specs.Revised.{each_bar}
 use Rattle.tx_revise.specs.inner.Drafts.{drafted}
 use Rattle.tx_revise.proofs.draft.Draft.put_bars.Given as goal

@@ -1,9 +1,7 @@
-use Rattle.std.proofs.Common.{◌≡◌, ◌∙◌, ◌&&◌, not, true, false, Bool, ap, sym, refl}
-use Rattle.std.proofs.Math.Bool.{and-false}
-use Rattle.tx_plan.specs.Routes.{is_barred}
-use Rattle.tx_revise.specs.Revised.{bar_turn, has}
+use Rattle.std.proofs.Common.{◌∙◌, ap, sym}
+use Rattle.tx_revise.specs.Revised.{bar_turn}
 use Rattle.tx_revise.specs.inner.Drafts.{Draft, drafted}
-use Rattle.tx_revise.proofs.Steps.{bar_taken, bar_dropped}
+use Rattle.tx_revise.proofs.Steps.{bar_taken, bar_gone, bar_again}
 use Rattle.tx_revise.proofs.draft.Draft.take_bar.Goals as goal
 use Rattle.tx_revise.proofs.draft.Draft.take_bar.Goals.{else-is_barred-via-then-is_barred+else-not-has, else-is_barred-via-else-is_barred}
 
@@ -20,10 +18,7 @@ returns-else-is_barred g c =
     let same = ap (λ (d : Draft). drafted d (bar_turn d.plan c.args.line.now d.reached d.reached.bars)) c.self.view_is in
     elim c.else-is_barred.branch [
       | else-is_barred-via-then-is_barred+else-not-has w ↦
-          let stands = sym w.has.ensures ∙ w.if-not-has.false in
-          let none = (λ i. is_barred n.plan.now _ _ && not (stands i)) ∙ and-false (is_barred n.plan.now _ _) in
-          w.self-is ∙ bar_dropped n.before.now n.plan.now n.cr.now n.text.items n.exchanges n.codes n.groups n.lists n.bars n.written n.barred c.args.line.now _ c.in-Some.ensures none ∙ same
+          w.self-is ∙ bar_again n.before.now n.plan.now n.cr.now n.text.items n.exchanges n.codes n.groups n.lists n.bars n.written n.barred c.args.line.now _ c.in-Some.ensures (sym w.has.ensures ∙ w.if-not-has.false) ∙ same
       | else-is_barred-via-else-is_barred w ↦
-          let none = (λ i. (sym c.is_barred.ensures ∙ w.if-is_barred.false) i && not (has n.barred _)) in
-          w.self-is ∙ bar_dropped n.before.now n.plan.now n.cr.now n.text.items n.exchanges n.codes n.groups n.lists n.bars n.written n.barred c.args.line.now _ c.in-Some.ensures none ∙ same
+          w.self-is ∙ bar_gone n.before.now n.plan.now n.cr.now n.text.items n.exchanges n.codes n.groups n.lists n.bars n.written n.barred c.args.line.now _ c.in-Some.ensures (sym c.is_barred.ensures ∙ w.if-is_barred.false) ∙ same
     ]

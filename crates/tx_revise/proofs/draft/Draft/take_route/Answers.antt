@@ -1,6 +1,6 @@
-use Rattle.std.proofs.Common.{◌≡◌, ◌∙◌, ap}
+use Rattle.std.proofs.Common.{◌∙◌, ap}
 use Rattle.std.proofs.lemmas.Result.{on_ok_weaker}
-use Rattle.tx_revise.specs.Revised.{behind, route_turn}
+use Rattle.tx_revise.specs.Revised.{route_turn}
 use Rattle.tx_revise.specs.inner.Drafts.{Draft, drafted}
 use Rattle.tx_revise.proofs.Steps.{route_taken}
 use Rattle.tx_revise.proofs.draft.Draft.take_route.Goals as goal

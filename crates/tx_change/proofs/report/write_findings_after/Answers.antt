@@ -1,6 +1,6 @@
 use Rattle.tx_text.proofs.Wrote.{wrote_none, texts_more, texts_stopped, texts_done}
 use Rattle.tx_change.specs.ChangeReport.{finding_after}
-use Rattle.tx_order.proofs.report.write_findings.Goals as goal
+use Rattle.tx_change.proofs.report.write_findings_after.Goals as goal
 
 pub loop-i-init : goal.loop-i-init
 loop-i-init g c = wrote_none _ _
