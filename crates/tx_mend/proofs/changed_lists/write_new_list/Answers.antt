@@ -1,0 +1,20 @@
+use Rattle.std.proofs.Common.{[], Ok, ap}
+use Rattle.tx_text.proofs.Wrote.{wrote_none, wrote_then, wrote_first}
+use Rattle.tx_plan.specs.Routes.{route_list}
+use Rattle.tx_mend.specs.MendText.{list_line, old_line}
+use Rattle.tx_mend.proofs.changed_lists.write_new_list.Goals as goal
+
+pub returns-in_err-write_list : goal.returns-in_err-write_list
+returns-in_err-write_list g c =
+    let list = list_line c.args.plan.now c.args.code c.args.exchange (route_list c.args.plan.now c.args.exchange c.args.code) in
+    wrote_first _ _ _ _ list (old_line c.args.with_old c.args.plan.now c.args.old.now) _ c.in_err-write_list.field-0.0 c.in_err-write_list.ensures c.from_residual.ensures.0
+
+pub returns-then-with_old : goal.returns-then-with_old
+returns-then-with_old g c =
+    let list = list_line c.args.plan.now c.args.code c.args.exchange (route_list c.args.plan.now c.args.exchange c.args.code) in
+    wrote_then _ _ _ _ _ _ list (old_line c.args.with_old c.args.plan.now c.args.old.now) _ c.in_ok-write_list.ensures (rw c.if-with_old.true c.write_was.ensures)
+
+pub returns-else-with_old : goal.returns-else-with_old
+returns-else-with_old g c =
+    let list = list_line c.args.plan.now c.args.code c.args.exchange (route_list c.args.plan.now c.args.exchange c.args.code) in
+    wrote_then _ _ _ _ _ _ list (old_line c.args.with_old c.args.plan.now c.args.old.now) _ c.in_ok-write_list.ensures (rw c.if-with_old.false (wrote_none _ _))
