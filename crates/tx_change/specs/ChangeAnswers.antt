@@ -64,8 +64,9 @@ module _ {A : Type 0} where
       × IsRightRanking new limit spare (Fails findings)
 
 -- a verdict that is right, whose report was written in part
-pub record ChangeToldInPart (A : Type 0) (old new before after : Plan) (limit spare : ℕ)
-    (out : Output) : Type 0 where
+pub record ChangeToldInPart (A : Type 0) (old new before after : Plan) (with_old : Bool)
+    (limit spare : ℕ) (out : Output) : Type 0 where
   pub verdict : ChangeVerdict A
   pub right : IsRightVerdict before after new limit spare verdict
-  pub wrote : StopsIn out.old out.new (change_report old new before limit spare verdict)
+  pub wrote : StopsIn out.old out.new
+      (change_report with_old old new before after limit spare verdict)

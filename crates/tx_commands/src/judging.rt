@@ -77,6 +77,10 @@ fn grade_grammar<'a>(alloc: Global) -> Result<clap::Command<'a>, AllocError>
     .command
 }
 
+/// What the help says of the old lists.
+const WITH_OLD: &str = "Print a line WAS group .. after each ROUTE or DROP, with
+the list that it replaces";
+
 const MEND_HELP: &str = "Example: telexplan mend own.plan --limit 1 --spare 1 --plan new.plan
 
 Exit status: 0 after YES, 1 after NO, 2 for a refused text, 3 for a failed read
@@ -91,7 +95,7 @@ fn mend_grammar<'a>(alloc: Global) -> Result<clap::Command<'a>, AllocError>
         "Find lists with which a plan is safe, or whom no lists serve",
         MEND_HELP,
     )
-    .file("old", "PLAN", PLAN)
+    .file("before", "PLAN", PLAN)
     .limits(true)
     .option(
         "plan",
@@ -103,6 +107,7 @@ fn mend_grammar<'a>(alloc: Global) -> Result<clap::Command<'a>, AllocError>
         "CERT",
         "After YES, write a certificate of that plan to this file",
     )
+    .flag("old", WITH_OLD)
     .command
 }
 
@@ -125,8 +130,8 @@ fn change_grammar<'a>(alloc: Global) -> Result<clap::Command<'a>, AllocError>
         "Say whether a plan is safe while its lists change into others",
         CHANGE_HELP,
     )
-    .file("old", "OLD", OLD_PLAN)
-    .file("new", "NEW", NEW_PLAN)
+    .file("before", "OLD", OLD_PLAN)
+    .file("after", "NEW", NEW_PLAN)
     .limits(true)
     .option(
         "cert",
@@ -146,6 +151,11 @@ file that shows the first finding that has a walk",
         "After NO, write a script to this file that shows the
 same finding in that plan, if there is one",
     )
+    .flag(
+        "old",
+        "Print each list that changes, and after it a line
+WAS group .. with the list that it replaces",
+    )
     .command
 }
 
@@ -164,8 +174,8 @@ fn order_grammar<'a>(alloc: Global) -> Result<clap::Command<'a>, AllocError>
         "Say in which stages a plan can change into another, if it can",
         ORDER_HELP,
     )
-    .file("old", "OLD", OLD_PLAN)
-    .file("new", "NEW", NEW_PLAN)
+    .file("before", "OLD", OLD_PLAN)
+    .file("after", "NEW", NEW_PLAN)
     .limits(true)
     .stage()
     .option(
@@ -179,6 +189,7 @@ fn order_grammar<'a>(alloc: Global) -> Result<clap::Command<'a>, AllocError>
         "After YES, write a certificate of the plans before and
 after that stage to this file",
     )
+    .flag("old", WITH_OLD)
     .command
 }
 

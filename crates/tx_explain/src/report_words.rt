@@ -2,7 +2,7 @@
 use crate::code_table::Entry;
 
 /// The words of reports, of a plan and of a certificate.
-pub static REPORT_WORDS: [Entry; 47] = [
+pub static REPORT_WORDS: [Entry; 48] = [
     [
         "VERDICT",
         "Verdict",
@@ -110,6 +110,12 @@ pub static REPORT_WORDS: [Entry; 47] = [
         "DropList",
         "The exchange has a list for the code, and is to have none.",
         "Take the ROUTE line out of the plan.",
+    ],
+    [
+        "WAS",
+        "OldList",
+        "The list that the line above replaces. Without groups: there was none.",
+        "Nothing: it was asked for by --old.",
     ],
     [
         "BAR",

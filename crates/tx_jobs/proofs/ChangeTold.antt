@@ -42,17 +42,17 @@ module _ {A : Type 0} (plans : TwoPlans A) (j : IsJoinOf plans.old plans.new pla
   is_verdict (IsUnsound findings) changed e = e ∙ (λ i. Unsound (j.before i) (j.after i) findings)
   is_verdict (IsNewUnsound findings) changed e = e
 
-  stops_over : (out : Output) (fault : JobFault) → StopsTelling A p q plans.joined.old plans.joined.new limit spare out fault → StopsTelling A p q (joined_old p q) (joined_new p q) limit spare out fault
-  stops_over out fault h = subst (λ (b : Plan). StopsTelling A p q b (joined_new p q) limit spare out fault) j.before (subst (λ (a : Plan). StopsTelling A p q plans.joined.old a limit spare out fault) j.after h)
+  stops_over : (with_old : Bool) (out : Output) (fault : JobFault) → StopsTelling A p q plans.joined.old plans.joined.new with_old limit spare out fault → StopsTelling A p q (joined_old p q) (joined_new p q) with_old limit spare out fault
+  stops_over with_old out fault h = subst (λ (b : Plan). StopsTelling A p q b (joined_new p q) with_old limit spare out fault) j.before (subst (λ (a : Plan). StopsTelling A p q plans.joined.old a with_old limit spare out fault) j.after h)
 
-  pub told_over : (out : Output) (result : Result (Changed A) JobFault) → ToldPlans plans limit spare out result → ToldChange p q limit spare out result
-  told_over out (Ok changed) (verdict, is, right, wrote) = record {
+  pub told_over : (with_old : Bool) (out : Output) (result : Result (Changed A) JobFault) → ToldPlans plans with_old limit spare out result → ToldChange p q with_old limit spare out result
+  told_over with_old out (Ok changed) (verdict, is, right, wrote) = record {
     verdict = verdict;
     right = right_over verdict right;
     answer = is_verdict verdict changed is;
-    wrote = wrote ∙ ap (λ (b : Plan). append_known out.old (change_report p q b limit spare verdict)) j.before;
+    wrote = wrote ∙ (λ i. append_known out.old (change_report with_old p q (j.before i) (j.after i) limit spare verdict));
   }
-  told_over out (Err fault) h = stops_over out fault h
+  told_over with_old out (Err fault) h = stops_over with_old out fault h
 
   -- what follows from findings
   pub change_network : (verdict : ChangeVerdict A) → OnUnsoundChange (λ a b findings. SameNetwork a b) (changed_of plans verdict)

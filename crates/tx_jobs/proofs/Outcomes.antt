@@ -165,32 +165,32 @@ module _ (text left : List ℕ) (second third : Input) (out : Output) where
     abbrev IsMadeOfIt : Done A → Type 0
     IsMadeOfIt d = IfSome (plan_made d) (IsOfText text)
 
-    mend_makes : (limit spare : ℕ) (m : Mending A) → MendJobAnswers limit spare first out (Ok m) → IsMadeOfIt (Mended m)
-    mend_makes limit spare (IsMended q before cert) (inl h) = mended_says h.plan q (said_whole h.plan h.read) h.goes_on.0.routing
-    mend_makes limit spare (IsMended q before cert) (inr h) = absurd (let e = h.told in let z : ⊥ = cc in z)
-    mend_makes limit spare (NoRouting q unserved missing pair) h = tt
+    mend_makes : (with_old : Bool) (limit spare : ℕ) (m : Mending A) → MendJobAnswers with_old limit spare first out (Ok m) → IsMadeOfIt (Mended m)
+    mend_makes with_old limit spare (IsMended q before cert) (inl h) = mended_says h.plan q (said_whole h.plan h.read) h.goes_on.0.routing
+    mend_makes with_old limit spare (IsMended q before cert) (inr h) = absurd (let e = h.told in let z : ⊥ = cc in z)
+    mend_makes with_old limit spare (NoRouting q unserved missing pair) h = tt
 
     -- the mixture of a change
-    change_makes_by : (with_mixture : Bool) (limit spare : ℕ) (answer : Result (Changed A) JobFault) (m : Mixture A) → ChangeJobAnswers limit spare first second out answer
+    change_makes_by : (with_mixture with_old : Bool) (limit spare : ℕ) (answer : Result (Changed A) JobFault) (m : Mixture A) → ChangeJobAnswers with_old limit spare first second out answer
         → TellsChangeEvidence with_mixture limit spare answer (Ok (UnsoundChange (Some m))) → IsOfText text (mixture_plan m)
-    change_makes_by true limit spare (Ok (FoundUnsound p q findings)) m (inl h) t =
+    change_makes_by true with_old limit spare (Ok (FoundUnsound p q findings)) m (inl h) t =
         let shows = t.2 in
         mixed_says text h.old_plan p q (mixture_plan m) (joined_says h.old_plan h.old_text h.old_says) (subst (IsMixture p q) (sym shows.plan) shows.shown.0)
-    change_makes_by true limit spare (Ok (FoundNewUnsound q findings)) m (inl h) t =
+    change_makes_by true with_old limit spare (Ok (FoundNewUnsound q findings)) m (inl h) t =
         let told = h.goes_on in
         let is : mixture_plan m ≡ h.new_plan = t.plan ∙ new_is h.old_plan h.new_plan q findings told.verdict told.answer in
         record { old = h.old_plan; read = joined_says h.old_plan h.old_text h.old_says; rules = subst IsPlan (sym is) h.new_says.rules }
-    change_makes_by true limit spare (Ok (FoundUnsound p q findings)) m (inr h) t = absurd h
-    change_makes_by true limit spare (Ok (FoundNewUnsound q findings)) m (inr h) t = absurd h
-    change_makes_by false limit spare (Ok (FoundUnsound p q findings)) m h t = absurd (let z : ⊥ = cc in z)
-    change_makes_by false limit spare (Ok (FoundNewUnsound q findings)) m h t = absurd (let z : ⊥ = cc in z)
-    change_makes_by with_mixture limit spare (Ok (FoundSound p cert)) m h t = absurd (let z : ⊥ = cc in z)
-    change_makes_by with_mixture limit spare (Err f) m h t = absurd (let z : ⊥ = cc in z)
+    change_makes_by true with_old limit spare (Ok (FoundUnsound p q findings)) m (inr h) t = absurd h
+    change_makes_by true with_old limit spare (Ok (FoundNewUnsound q findings)) m (inr h) t = absurd h
+    change_makes_by false with_old limit spare (Ok (FoundUnsound p q findings)) m h t = absurd (let z : ⊥ = cc in z)
+    change_makes_by false with_old limit spare (Ok (FoundNewUnsound q findings)) m h t = absurd (let z : ⊥ = cc in z)
+    change_makes_by with_mixture with_old limit spare (Ok (FoundSound p cert)) m h t = absurd (let z : ⊥ = cc in z)
+    change_makes_by with_mixture with_old limit spare (Err f) m h t = absurd (let z : ⊥ = cc in z)
 
-    change_makes : (with_mixture : Bool) (limit spare : ℕ) (e : ChangeEvidence A) → ChangeEvidenceAnswers with_mixture limit spare first second out (Ok e) → IsMadeOfIt (ChangedInto e)
-    change_makes with_mixture limit spare (SoundChange p cert) h = tt
-    change_makes with_mixture limit spare (UnsoundChange None) h = tt
-    change_makes with_mixture limit spare (UnsoundChange (Some m)) h = change_makes_by with_mixture limit spare h.0 m h.1 h.2
+    change_makes : (with_mixture with_old : Bool) (limit spare : ℕ) (e : ChangeEvidence A) → ChangeEvidenceAnswers with_mixture with_old limit spare first second out (Ok e) → IsMadeOfIt (ChangedInto e)
+    change_makes with_mixture with_old limit spare (SoundChange p cert) h = tt
+    change_makes with_mixture with_old limit spare (UnsoundChange None) h = tt
+    change_makes with_mixture with_old limit spare (UnsoundChange (Some m)) h = change_makes_by with_mixture with_old limit spare h.0 m h.1 h.2
 
     -- the plan after a stage of an order
     stage_makes : (old p q new : Plan) → plan_of AtEnd text ≡ Ok old → (stage : Option ℕ) (limit spare : ℕ) (verdict : OrderVerdict A) (staged : Staged A)
@@ -205,17 +205,17 @@ module _ (text left : List ℕ) (second third : Input) (out : Output) where
     stage_makes old p q new read (Some n) limit spare (FoundNewUnsafe findings) (IsOrdered (Some (m, cert))) right h = absurd h
     stage_makes old p q new read None limit spare (FoundNewUnsafe findings) (IsOrdered (Some (m, cert))) right h = absurd h
 
-    order_told : (old new p q : Plan) → plan_of AtEnd text ≡ Ok old → (stage : Option ℕ) (limit spare : ℕ) (staged : Staged A) (answer : Result (Staged A) OrderFault)
-        → IsOrderTold old new p q stage limit spare out answer → Ok staged ≡ told_order answer → IsMadeOfIt (Ordered staged)
-    order_told old new p q read stage limit spare staged (Ok found) h e =
+    order_told : (old new p q : Plan) → plan_of AtEnd text ≡ Ok old → (stage : Option ℕ) (with_old : Bool) (limit spare : ℕ) (staged : Staged A) (answer : Result (Staged A) OrderFault)
+        → IsOrderTold old new p q stage with_old limit spare out answer → Ok staged ≡ told_order answer → IsMadeOfIt (Ordered staged)
+    order_told old new p q read stage with_old limit spare staged (Ok found) h e =
         let same : found ≡ staged = cc in
         subst (λ s. IsMadeOfIt (Ordered s)) same (stage_makes old p q new read stage limit spare h.verdict found h.right h.staged_of)
-    order_told old new p q read stage limit spare staged (Err f) h e = absurd (let z : ⊥ = cc in z)
+    order_told old new p q read stage with_old limit spare staged (Err f) h e = absurd (let z : ⊥ = cc in z)
 
-    order_makes : (stage : Option ℕ) (limit spare : ℕ) (staged : Staged A) → OrderJobAnswers stage limit spare first second out (Ok staged) → IsMadeOfIt (Ordered staged)
-    order_makes stage limit spare staged (inl h) =
-        order_told h.old_plan h.new_plan (joined_old h.old_plan h.new_plan) (joined_new h.old_plan h.new_plan) (joined_says h.old_plan h.old_text h.old_says) stage limit spare staged h.goes_on.answer h.goes_on.told h.goes_on.same
-    order_makes stage limit spare staged (inr h) = absurd h
+    order_makes : (stage : Option ℕ) (with_old : Bool) (limit spare : ℕ) (staged : Staged A) → OrderJobAnswers stage with_old limit spare first second out (Ok staged) → IsMadeOfIt (Ordered staged)
+    order_makes stage with_old limit spare staged (inl h) =
+        order_told h.old_plan h.new_plan (joined_old h.old_plan h.new_plan) (joined_new h.old_plan h.new_plan) (joined_says h.old_plan h.old_text h.old_says) stage with_old limit spare staged h.goes_on.answer h.goes_on.told h.goes_on.same
+    order_makes stage with_old limit spare staged (inr h) = absurd h
 
     -- ---- ALL COMMANDS
 
@@ -237,9 +237,9 @@ module _ (text left : List ℕ) (second third : Input) (out : Output) where
     makes_plan (Lint plan (Some risks)) d h = makes Linted _ d (λ x _. tt) h.0
     makes_plan (Codes plan) d h = makes Listed _ d (λ x _. tt) h.0
     makes_plan (Audit plan limit spare cert counter) d h = makes Audited _ d (λ x _. tt) h.0
-    makes_plan (Change before after limit spare cert mixture counter) d h = makes ChangedInto _ d (λ x a. change_makes _ limit spare x a) h.0
-    makes_plan (Order before after limit spare stage plan cert) d h = makes Ordered _ d (λ x a. order_makes stage limit spare x a) h.0
-    makes_plan (Mend plan limit spare mended cert) d h = makes Mended _ d (λ x a. mend_makes limit spare x a) h.0
+    makes_plan (Change before after limit spare cert mixture counter with_old) d h = makes ChangedInto _ d (λ x a. change_makes _ with_old limit spare x a) h.0
+    makes_plan (Order before after limit spare stage plan cert with_old) d h = makes Ordered _ d (λ x a. order_makes stage with_old limit spare x a) h.0
+    makes_plan (Mend plan limit spare mended cert with_old) d h = makes Mended _ d (λ x a. mend_makes with_old limit spare x a) h.0
     makes_plan (Survive plan None totals) d h = makes Survived _ d (λ x _. tt) h.0
     makes_plan (Survive plan (Some (risks, only)) totals) d h = makes Survived _ d (λ x _. tt) h.0
     makes_plan (Grade plan) d h = makes Graded _ d (λ x _. tt) h.0

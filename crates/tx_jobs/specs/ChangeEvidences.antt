@@ -80,8 +80,8 @@ module _ {A : Type 0} where
   TellsChangeEvidence with_mixture limit spare (Err fault) result = result ≡ Err fault
 
   -- The change was judged, and then what shows the verdict was made.
-  abbrev pub ChangeEvidenceAnswers : (with_mixture : Bool) → (limit spare : ℕ)
+  abbrev pub ChangeEvidenceAnswers : (with_mixture with_old : Bool) → (limit spare : ℕ)
       → (old new : Input) → Output → Result (ChangeEvidence A) JobFault → Type 0
-  ChangeEvidenceAnswers with_mixture limit spare old new out result =
-      (answer : Result (Changed A) JobFault) × ChangeJobAnswers limit spare old new out answer
+  ChangeEvidenceAnswers with_mixture with_old limit spare old new out result =
+      (answer : Result (Changed A) JobFault) × ChangeJobAnswers with_old limit spare old new out answer
       × TellsChangeEvidence with_mixture limit spare answer result

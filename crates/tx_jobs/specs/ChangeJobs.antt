@@ -1,5 +1,5 @@
 -- What `change OLD NEW` answers: what its calls do, one after another.
-use Rattle.std.specs.Prelude.{◌≡◌, ◌⊎◌, ℕ, List, Result, Ok, Err}
+use Rattle.std.specs.Prelude.{◌≡◌, ◌⊎◌, ℕ, Bool, List, Result, Ok, Err}
 use Rattle.std.specs.Io.KnownBytes.{append_known}
 use Rattle.tx_text.specs.Ends.{Input, Output}
 use Rattle.tx_plan.specs.Plan.{Plan}
@@ -38,32 +38,33 @@ module _ {A : Type 0} where
   IsVerdictOf p q (IsNewUnsound findings) changed = changed ≡ NewUnsound q findings
 
 -- the change from p to q was judged right, and the report was written
-pub record IsTold {A : Type 0} (p q : Plan) (limit spare : ℕ) (out : Output)
+pub record IsTold {A : Type 0} (p q : Plan) (with_old : Bool) (limit spare : ℕ) (out : Output)
     (changed : Changed A) : Type 0 where
   pub verdict : ChangeVerdict A
   pub right : IsRightVerdict (joined_old p q) (joined_new p q) q limit spare verdict
   pub answer : IsVerdictOf p q verdict changed
-  pub wrote : out.new
-      ≡ append_known out.old (change_report p q (joined_old p q) limit spare verdict)
+  pub wrote : out.new ≡ append_known out.old
+      (change_report with_old p q (joined_old p q) (joined_new p q) limit spare verdict)
 
 -- the report of a change stopped within it, or there was no memory and nothing was written
-abbrev pub StopsTelling : (A : Type 0) → (old new before after : Plan) → (limit spare : ℕ)
-    → Output → JobFault → Type 0
-StopsTelling A old new before after limit spare out Write =
-    ChangeToldInPart A old new before after limit spare out
-StopsTelling A old new before after limit spare out NoMemory = out.silent
-StopsTelling A old new before after limit spare out other = ⊥
+abbrev pub StopsTelling : (A : Type 0) → (old new before after : Plan) → (with_old : Bool)
+    → (limit spare : ℕ) → Output → JobFault → Type 0
+StopsTelling A old new before after with_old limit spare out Write =
+    ChangeToldInPart A old new before after with_old limit spare out
+StopsTelling A old new before after with_old limit spare out NoMemory = out.silent
+StopsTelling A old new before after with_old limit spare out other = ⊥
 
 -- what is answered of two plans that have a joined network
-abbrev pub ToldChange : {A : Type 0} → (p q : Plan) → (limit spare : ℕ) → Output
-    → Result (Changed A) JobFault → Type 0
-ToldChange p q limit spare out (Ok changed) = IsTold p q limit spare out changed
-ToldChange {A} p q limit spare out (Err fault) =
-    StopsTelling A p q (joined_old p q) (joined_new p q) limit spare out fault
+abbrev pub ToldChange : {A : Type 0} → (p q : Plan) → (with_old : Bool) → (limit spare : ℕ)
+    → Output → Result (Changed A) JobFault → Type 0
+ToldChange p q with_old limit spare out (Ok changed) = IsTold p q with_old limit spare out changed
+ToldChange {A} p q with_old limit spare out (Err fault) =
+    StopsTelling A p q (joined_old p q) (joined_new p q) with_old limit spare out fault
 
--- `change OLD NEW --limit L --spare K`: the plans are joined, and the change is judged
-abbrev pub ChangeJobAnswers : {A : Type 0} → (limit spare : ℕ) → (old new : Input) → Output
-    → Result (Changed A) JobFault → Type 0
-ChangeJobAnswers limit spare old new out result =
-    AreJoined old new (λ p q. ToldChange p q limit spare out result)
+-- `change OLD NEW --limit L --spare K`: the plans are joined, and the change is judged, with the
+-- lists that are switched if they are asked for
+abbrev pub ChangeJobAnswers : {A : Type 0} → (with_old : Bool) → (limit spare : ℕ)
+    → (old new : Input) → Output → Result (Changed A) JobFault → Type 0
+ChangeJobAnswers with_old limit spare old new out result =
+    AreJoined old new (λ p q. ToldChange p q with_old limit spare out result)
     ⊎ AnswersNotJoined old new out.silent result

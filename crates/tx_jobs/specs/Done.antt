@@ -141,13 +141,14 @@ module _ {P : Type 0} (rest : P → Option (List ℕ)) (failed : P → Bool)
     IsDone (Codes plan) result = Does Listed (CodesJobAnswers first out) result × Alone
     IsDone (Audit plan limit spare cert counter) result =
         Does Audited (EvidenceJobAnswers (is_some counter) limit spare first out) result × Alone
-    IsDone (Change before after limit spare cert mixture counter) result =
-        Does Changed (ChangeEvidenceAnswers (is_some mixture || is_some counter) limit spare
+    IsDone (Change before after limit spare cert mixture counter with_old) result =
+        Does Changed (ChangeEvidenceAnswers (is_some mixture || is_some counter) with_old limit spare
         first second out) result × third.unread
-    IsDone (Order before after limit spare stage plan cert) result =
-        Does Ordered (OrderJobAnswers stage limit spare first second out) result × third.unread
-    IsDone (Mend plan limit spare mended cert) result =
-        Does Mended (MendJobAnswers limit spare first out) result × Alone
+    IsDone (Order before after limit spare stage plan cert with_old) result =
+        Does Ordered (OrderJobAnswers stage with_old limit spare first second out) result
+        × third.unread
+    IsDone (Mend plan limit spare mended cert with_old) result =
+        Does Mended (MendJobAnswers with_old limit spare first out) result × Alone
     IsDone (Survive plan None totals) result =
         Does Survived (SurviveJobAnswers totals first out) result × Alone
     IsDone (Survive plan (Some (risks, only)) totals) result =

@@ -1,5 +1,5 @@
 -- What `order OLD NEW` answers: what its calls do, one after another.
-use Rattle.std.specs.Prelude.{◌≡◌, ◌⊎◌, ℕ, Option, Result, Ok, Err}
+use Rattle.std.specs.Prelude.{◌≡◌, ◌⊎◌, ℕ, Bool, Option, Result, Ok, Err}
 use Rattle.tx_text.specs.Ends.{Input, Output}
 use Rattle.tx_plan.specs.Plan.{Plan}
 use Rattle.tx_join.specs.Joined.{joined_old, joined_new}
@@ -24,15 +24,17 @@ module _ {A : Type 0} where
   told_order (Err f) = Err (order_fault f)
 
   -- an order of two plans was reported, over their joined network
-  pub record ToldOrder (p q : Plan) (stage : Option ℕ) (limit spare : ℕ) (out : Output)
-      (result : Result (Staged A) JobFault) : Type 0 where
+  pub record ToldOrder (p q : Plan) (stage : Option ℕ) (with_old : Bool) (limit spare : ℕ)
+      (out : Output) (result : Result (Staged A) JobFault) : Type 0 where
     pub answer : Result (Staged A) OrderFault
-    pub told : IsOrderTold p q (joined_old p q) (joined_new p q) stage limit spare out answer
+    pub told : IsOrderTold p q (joined_old p q) (joined_new p q) stage with_old limit spare
+        out answer
     pub same : result ≡ told_order answer
 
-  -- `order OLD NEW --limit L --spare K`: the plans are joined, and the order is reported
-  abbrev pub OrderJobAnswers : (stage : Option ℕ) → (limit spare : ℕ) → (old new : Input)
-      → Output → Result (Staged A) JobFault → Type 0
-  OrderJobAnswers stage limit spare old new out result =
-      AreJoined old new (λ p q. ToldOrder p q stage limit spare out result)
+  -- `order OLD NEW --limit L --spare K`: the plans are joined, and the order is reported, with the
+  -- lists that are replaced if they are asked for
+  abbrev pub OrderJobAnswers : (stage : Option ℕ) → (with_old : Bool) → (limit spare : ℕ)
+      → (old new : Input) → Output → Result (Staged A) JobFault → Type 0
+  OrderJobAnswers stage with_old limit spare old new out result =
+      AreJoined old new (λ p q. ToldOrder p q stage with_old limit spare out result)
       ⊎ AnswersNotJoined old new out.silent result

@@ -55,16 +55,18 @@ impl<A: Allocator> Changed<A> {
 }
 
 /// Reads an old plan and then a new one, each to the end of its text, and writes the report on the
-/// change of the one into the other, list by list over their joined network, for the limits. `Err`
-/// is the fault of the first call that failed.
+/// change of the one into the other, list by list over their joined network, for the limits, with
+/// the lists that are switched if they are asked for. `Err` is the fault of the first call that
+/// failed.
 pub fn change_job<A: Allocator + Copy, P: Source, Q: Source, W: Sink>(
     alloc: A,
     old: &mut P,
     new: &mut Q,
     limits: Limits,
+    with_old: bool,
     out: &mut W,
 ) -> Result<Changed<A>, JobFault>
-    ensures answers { ChangeJobAnswers limits.limit limits.spare
+    ensures answers { ChangeJobAnswers with_old limits.limit limits.spare
         (input P.rest P.failed P.called old.old old.new)
         (input Q.rest Q.failed Q.called new.old new.new) (output W.taken out.old out.new) result }
     ensures network { IfOk result (OnUnsoundChange (λ p q findings. SameNetwork p q)) }
@@ -77,7 +79,7 @@ pub fn change_job<A: Allocator + Copy, P: Source, Q: Source, W: Sink>(
     ensures new_calls { CallsAtMost Q.called source_calls new.old new.new }
 {
     let plans = read_plans(alloc, old, new)?;
-    change_of(alloc, plans, limits, out)
+    change_of(alloc, plans, limits, with_old, out)
 }
 
 /// Judges the change of one plan into another, and writes the report.
@@ -85,10 +87,11 @@ fn change_of<A: Allocator + Copy, W: Sink>(
     alloc: A,
     plans: TwoPlans<A>,
     limits: Limits,
+    with_old: bool,
     out: &mut W,
 ) -> Result<Changed<A>, JobFault>
     requires { IsJoinOf plans.old plans.new plans }
-    ensures told { ToldPlans plans limits.limit limits.spare
+    ensures told { ToldPlans plans with_old limits.limit limits.spare
         (output W.taken out.old out.new) result }
     ensures network { IfOk result (OnUnsoundChange (λ p q findings. SameNetwork p q)) }
     ensures each { IfOk result (OnUnsoundChange (λ p q findings.
@@ -97,7 +100,7 @@ fn change_of<A: Allocator + Copy, W: Sink>(
         AllByRecursion (IsTrueOf p limits.limit limits.spare) findings)) }
     ensures mark { W.failed out.new ≡ mark_after (W.failed out.old) result }
 {
-    let verdict = tell_change(alloc, &plans, limits, out)?;
+    let verdict = tell_change(alloc, &plans, limits, with_old, out)?;
     Ok(Changed::of(plans, verdict))
 }
 
@@ -106,14 +109,23 @@ fn tell_change<A: Allocator + Copy, W: Sink>(
     alloc: A,
     plans: &TwoPlans<A>,
     limits: Limits,
+    with_old: bool,
     out: &mut W,
 ) -> Result<ChangeVerdict<A>, JobFault>
     requires { SameNetwork plans.now.joined.old plans.now.joined.new }
     ensures told { ToldVerdict plans.now.old plans.now.new plans.now.joined.old
-        plans.now.joined.new limits.limit limits.spare (output W.taken out.old out.new) result }
+        plans.now.joined.new with_old limits.limit limits.spare (output W.taken out.old out.new) result }
     ensures mark { W.failed out.new ≡ mark_after (W.failed out.old) result }
 {
     let verdict = judge_change(alloc, &plans.joined, &plans.new, limits)?;
-    write_change(&plans.old, &plans.new, &plans.joined, &verdict, limits, out)?;
+    write_change(
+        &plans.old,
+        &plans.new,
+        &plans.joined,
+        &verdict,
+        limits,
+        with_old,
+        out,
+    )?;
     Ok(verdict)
 }

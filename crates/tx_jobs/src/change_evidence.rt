@@ -33,16 +33,17 @@ pub fn change_evidence_job<A: Allocator + Copy, P: Source, Q: Source, W: Sink>(
     new: &mut Q,
     limits: Limits,
     with_mixture: bool,
+    with_old: bool,
     out: &mut W,
 ) -> Result<ChangeEvidence<A>, JobFault>
-    ensures answers { ChangeEvidenceAnswers with_mixture limits.limit limits.spare
+    ensures answers { ChangeEvidenceAnswers with_mixture with_old limits.limit limits.spare
         (input P.rest P.failed P.called old.old old.new)
         (input Q.rest Q.failed Q.called new.old new.new) (output W.taken out.old out.new) result }
     ensures mark { W.failed out.new ≡ mark_after (W.failed out.old) result }
     ensures old_calls { CallsAtMost P.called source_calls old.old old.new }
     ensures new_calls { CallsAtMost Q.called source_calls new.old new.new }
 {
-    let changed = change_job(alloc, old, new, limits, out)?;
+    let changed = change_job(alloc, old, new, limits, with_old, out)?;
     change_evidence_of(alloc, changed, limits, with_mixture)
 }
 

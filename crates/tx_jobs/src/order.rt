@@ -16,17 +16,19 @@ use tx_text::{Sink, Source};
 
 /// Reads an old plan and then a new one, each to the end of its text, and writes the report on an
 /// order in which the lists and the bars of the one are switched to those of the other, over their
-/// joined network, for the limits. Answers the plan after a stage and the certificate of the stage,
-/// if its number, from 1, is asked for. `Err` is the fault of the first call that failed.
+/// joined network, for the limits, with the lists that are replaced if they are asked for. Answers
+/// the plan after a stage and the certificate of the stage, if its number, from 1, is asked for.
+/// `Err` is the fault of the first call that failed.
 pub fn order_job<A: Allocator + Copy, P: Source, Q: Source, W: Sink>(
     alloc: A,
     old: &mut P,
     new: &mut Q,
     limits: Limits,
     stage: Option<u8>,
+    with_old: bool,
     out: &mut W,
 ) -> Result<Staged<A>, JobFault>
-    ensures answers { OrderJobAnswers stage limits.limit limits.spare
+    ensures answers { OrderJobAnswers stage with_old limits.limit limits.spare
         (input P.rest P.failed P.called old.old old.new)
         (input Q.rest Q.failed Q.called new.old new.new) (output W.taken out.old out.new) result }
     ensures mark { W.failed out.new ≡ mark_after (W.failed out.old) result }
@@ -34,7 +36,7 @@ pub fn order_job<A: Allocator + Copy, P: Source, Q: Source, W: Sink>(
     ensures new_calls { CallsAtMost Q.called source_calls new.old new.new }
 {
     let plans = read_plans(alloc, old, new)?;
-    order_of(alloc, plans, limits, stage, out)
+    order_of(alloc, plans, limits, stage, with_old, out)
 }
 
 /// Reports the order of two plans.
@@ -43,15 +45,16 @@ fn order_of<A: Allocator + Copy, W: Sink>(
     plans: TwoPlans<A>,
     limits: Limits,
     stage: Option<u8>,
+    with_old: bool,
     out: &mut W,
 ) -> Result<Staged<A>, JobFault>
     requires { IsJoinOf plans.old plans.new plans }
-    ensures told { ToldOrder plans.old plans.new stage limits.limit limits.spare
+    ensures told { ToldOrder plans.old plans.new stage with_old limits.limit limits.spare
         (output W.taken out.old out.new) result }
     ensures mark { W.failed out.new ≡ mark_after (W.failed out.old) result }
 {
     let TwoPlans { old, new, joined } = plans;
-    let told = order_over(alloc, &old, &new, joined, limits, stage, out);
+    let told = order_over(alloc, &old, &new, joined, limits, stage, with_old, out);
     drop(old);
     drop(new);
     told
@@ -65,15 +68,16 @@ fn order_over<A: Allocator + Copy, W: Sink>(
     joined: Joined<A>,
     limits: Limits,
     stage: Option<u8>,
+    with_old: bool,
     out: &mut W,
 ) -> Result<Staged<A>, JobFault>
     requires { IsJoinOf old.now new.now
         (record { old = old.now; new = new.now; joined = joined }) }
-    ensures told { ToldOrder old.now new.now stage limits.limit limits.spare
+    ensures told { ToldOrder old.now new.now stage with_old limits.limit limits.spare
         (output W.taken out.old out.new) result }
     ensures mark { W.failed out.new ≡ mark_after (W.failed out.old) result }
 {
-    match tell_order(alloc, old, new, joined, limits, stage, out) {
+    match tell_order(alloc, old, new, joined, limits, stage, with_old, out) {
         Ok(staged) => Ok(staged),
         Err(fault) => Err(JobFault::from(fault)),
     }

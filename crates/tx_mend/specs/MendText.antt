@@ -1,10 +1,10 @@
 -- The report of a mending, as it is written.
-use Rattle.std.specs.Prelude.{ℕ, ◌+◌, ◌==◌, if◌then◌else◌, List, [], ◌∷◌, ◌++◌, length, filter, codes, decimal, Option, Some, None}
+use Rattle.std.specs.Prelude.{ℕ, ◌+◌, ◌==◌, Bool, true, false, if◌then◌else◌, List, [], ◌∷◌, ◌++◌, length, filter, codes, decimal, Option, Some, None}
 use Rattle.std.specs.List.{flat_map, list_any, range_with_len}
 use Rattle.std.specs.Str.{bytes_eq}
 use Rattle.tx_text.specs.Ends.{StopsIn, Output}
 use Rattle.tx_text.specs.Written.{line_written}
-use Rattle.tx_plan.specs.Plan.{Plan, Route, figures_of, exchange_name}
+use Rattle.tx_plan.specs.Plan.{Plan, Route, figures_of, exchange_name, group_name}
 use Rattle.tx_plan.specs.Routes.{route_list}
 use Rattle.tx_plan.specs.Mixed.{rerouted}
 use Rattle.tx_plantext.specs.PlanWritten.{route_words}
@@ -29,28 +29,42 @@ list_line p code x [] =
 list_line p code x (g ∷ gs) =
     line_written (route_words p (record { exchange = x; code = code; groups = g ∷ gs }))
 
--- a line for a list, unless it has the groups that it had before, in the same order
-abbrev pub line_unless_same : Plan → (code x : ℕ) → (before now : List ℕ) → List ℕ
-line_unless_same p code x before now = if bytes_eq before now then [] else list_line p code x now
+-- the list that was there before, as in `WAS CENO1 CENO2`
+abbrev pub was_line : Plan → List ℕ → List ℕ
+was_line p before =
+    codes "WAS" ++ (flat_map (λ g. codes " " ++ group_name p g) before ++ codes "\n")
 
--- that of the list of an exchange for a code, where other routes were before
-abbrev pub change_line : List Route → Plan → (code x : ℕ) → List ℕ
-change_line before p code x = line_unless_same p code x
+-- the same where old lists are asked for
+abbrev pub old_line : (with_old : Bool) → Plan → List ℕ → List ℕ
+old_line true p before = was_line p before
+old_line false p before = []
+
+-- a line for a list, and one for the list that it replaces, unless it has the groups that it had
+-- before, in the same order
+abbrev pub line_unless_same : (with_old : Bool) → Plan → (code x : ℕ) → (before now : List ℕ)
+    → List ℕ
+line_unless_same with_old p code x before now = if bytes_eq before now then []
+    else (list_line p code x now ++ old_line with_old p before)
+
+-- those of the list of an exchange for a code, where other routes were before
+abbrev pub change_line : (with_old : Bool) → List Route → Plan → (code x : ℕ) → List ℕ
+change_line with_old before p code x = line_unless_same with_old p code x
     (route_list (rerouted p before p.bars) x code) (route_list p x code)
 
 -- the lines of all lists for a code, by exchanges
-abbrev pub code_changes : List Route → Plan → (code : ℕ) → List ℕ
-code_changes before p code =
-    flat_map (change_line before p code) (range_with_len 0 (length p.exchanges))
+abbrev pub code_changes : (with_old : Bool) → List Route → Plan → (code : ℕ) → List ℕ
+code_changes with_old before p code =
+    flat_map (change_line with_old before p code) (range_with_len 0 (length p.exchanges))
 
 -- those of all codes
-abbrev pub changes : List Route → Plan → List ℕ
-changes before p = flat_map (code_changes before p) (range_with_len 0 (length p.codes))
+abbrev pub changes : (with_old : Bool) → List Route → Plan → List ℕ
+changes with_old before p =
+    flat_map (code_changes with_old before p) (range_with_len 0 (length p.codes))
 
 -- The report of a plan that was mended, and had these routes before
-abbrev pub mended_text : List Route → Plan → (limit spare : ℕ) → List ℕ
-mended_text before p limit spare =
-    head_line limit spare ++ (changes before p ++ codes "VERDICT YES\n")
+abbrev pub mended_text : (with_old : Bool) → List Route → Plan → (limit spare : ℕ) → List ℕ
+mended_text with_old before p limit spare =
+    head_line limit spare ++ (changes with_old before p ++ codes "VERDICT YES\n")
 
 -- the ambiguous pair of codes, if there is one
 abbrev pub pair_line : Plan → Option (ℕ × ℕ) → List ℕ
@@ -116,15 +130,15 @@ unserved_text p limit spare unserved missing pair = head_line limit spare
     ++ (pair_line p pair ++ (flat_map (unserved_line p) unserved
     ++ (code_lines p unserved missing ++ no_line (pair_count pair + length unserved))))
 
--- The report of a mending
-abbrev pub mend_report : {A : Type 0} → (limit spare : ℕ) → Mending A → List ℕ
-mend_report limit spare (Mended q before cert) = mended_text before q limit spare
-mend_report limit spare (NoRouting q unserved missing pair) =
+-- The report of a mending, with the lists that are replaced if they are asked for
+abbrev pub mend_report : {A : Type 0} → (with_old : Bool) → (limit spare : ℕ) → Mending A → List ℕ
+mend_report with_old limit spare (Mended q before cert) = mended_text with_old before q limit spare
+mend_report with_old limit spare (NoRouting q unserved missing pair) =
     unserved_text q limit spare unserved.items missing.items pair
 
 -- a mending that is right, whose report was written in part
-pub record MendToldInPart (A : Type 0) (p : Plan) (limit spare : ℕ) (out : Output)
+pub record MendToldInPart (A : Type 0) (p : Plan) (with_old : Bool) (limit spare : ℕ) (out : Output)
     : Type 0 where
   pub mending : Mending A
   pub right : IsRightMending p limit spare mending
-  pub wrote : StopsIn out.old out.new (mend_report limit spare mending)
+  pub wrote : StopsIn out.old out.new (mend_report with_old limit spare mending)

@@ -34,7 +34,7 @@ mod trial;
 mod unserved;
 
 pub use cause::{Cause, Missing, Unserved};
-pub use changed_lists::write_list;
+pub use changed_lists::{write_changes, write_new_list};
 pub use copying::bars_of;
 pub use law::{
     causes_are_true, certified_stays, keeps_what_can_be_kept, least_ranks_are_least,

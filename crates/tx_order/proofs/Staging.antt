@@ -32,16 +32,16 @@ stage_cert o k n t some common fits = record {
 
 -- where nothing was made, nothing is written
 module _ {A : Type 0} where
-  pub not_made : (old new : Plan) (limit spare : ℕ) (out : Output) → out.silent → (stage : Option ℕ) (s : OrderVerdict A) (f : OrderFault) → IsNotMade stage s f
-      → IsReported old new stage limit spare out s (Err f)
-  not_made old new limit spare out silent (Some n) (FoundOrdered o) (NoSuchStage stages) h = (h, silent)
-  not_made old new limit spare out silent (Some n) (FoundOrdered o) Write h = absurd h
-  not_made old new limit spare out silent (Some n) (FoundOrdered o) NoMemory h = (h, silent)
-  not_made old new limit spare out silent None (FoundOrdered o) f h = absurd h
-  not_made old new limit spare out silent (Some n) (FoundNoOrder p before after) f h = absurd h
-  not_made old new limit spare out silent None (FoundNoOrder p before after) f h = absurd h
-  not_made old new limit spare out silent (Some n) (NewUnsound findings) f h = absurd h
-  not_made old new limit spare out silent None (NewUnsound findings) f h = absurd h
+  pub not_made : (old new : Plan) (with_old : Bool) (limit spare : ℕ) (out : Output) → out.silent → (stage : Option ℕ) (s : OrderVerdict A) (f : OrderFault) → IsNotMade stage s f
+      → IsReported old new stage with_old limit spare out s (Err f)
+  not_made old new with_old limit spare out silent (Some n) (FoundOrdered o) (NoSuchStage stages) h = (h, silent)
+  not_made old new with_old limit spare out silent (Some n) (FoundOrdered o) Write h = absurd h
+  not_made old new with_old limit spare out silent (Some n) (FoundOrdered o) NoMemory h = (h, silent)
+  not_made old new with_old limit spare out silent None (FoundOrdered o) f h = absurd h
+  not_made old new with_old limit spare out silent (Some n) (FoundNoOrder p before after) f h = absurd h
+  not_made old new with_old limit spare out silent None (FoundNoOrder p before after) f h = absurd h
+  not_made old new with_old limit spare out silent (Some n) (NewUnsound findings) f h = absurd h
+  not_made old new with_old limit spare out silent None (NewUnsound findings) f h = absurd h
 
   pub not_made_mark : (mark : Bool) (stage : Option ℕ) (s : OrderVerdict A) (f : OrderFault) → IsNotMade stage s f → mark ≡ mark_by mark f
   not_made_mark mark (Some n) (FoundOrdered o) (NoSuchStage stages) h = refl
@@ -54,17 +54,17 @@ module _ {A : Type 0} where
   not_made_mark mark None (NewUnsound findings) f h = absurd h
 
   -- what is answered where no stage is given
-  pub not_staged : (old new before after : Plan) (limit spare : ℕ) (out : Output) (stage : Option ℕ) (s : OrderVerdict A) (f : OrderFault) → IsRightVerdict before after new limit spare s
-      → IsReported old new stage limit spare out s (Err f) → IsOrderTold {A = A} old new before after stage limit spare out (Err f)
-  not_staged old new before after limit spare out stage s Write right h = record { verdict = s; right = right; wrote = h }
-  not_staged old new before after limit spare out (Some n) (FoundOrdered o) (NoSuchStage stages) right h =
+  pub not_staged : (old new before after : Plan) (with_old : Bool) (limit spare : ℕ) (out : Output) (stage : Option ℕ) (s : OrderVerdict A) (f : OrderFault) → IsRightVerdict before after new limit spare s
+      → IsReported old new stage with_old limit spare out s (Err f) → IsOrderTold {A = A} old new before after stage with_old limit spare out (Err f)
+  not_staged old new before after with_old limit spare out stage s Write right h = record { verdict = s; right = right; wrote = h }
+  not_staged old new before after with_old limit spare out (Some n) (FoundOrdered o) (NoSuchStage stages) right h =
       (record { order = o; right = right.0; new_right = right.1; count = h.0.0; asked = n; stage_asked = refl; missing = h.0.1 }, h.1)
-  not_staged old new before after limit spare out None (FoundOrdered o) (NoSuchStage stages) right h = absurd h.0
-  not_staged old new before after limit spare out (Some n) (FoundNoOrder p b a) (NoSuchStage stages) right h = absurd h.0
-  not_staged old new before after limit spare out None (FoundNoOrder p b a) (NoSuchStage stages) right h = absurd h.0
-  not_staged old new before after limit spare out (Some n) (NewUnsound findings) (NoSuchStage stages) right h = absurd h.0
-  not_staged old new before after limit spare out None (NewUnsound findings) (NoSuchStage stages) right h = absurd h.0
-  not_staged old new before after limit spare out stage s NoMemory right h = h.1
+  not_staged old new before after with_old limit spare out None (FoundOrdered o) (NoSuchStage stages) right h = absurd h.0
+  not_staged old new before after with_old limit spare out (Some n) (FoundNoOrder p b a) (NoSuchStage stages) right h = absurd h.0
+  not_staged old new before after with_old limit spare out None (FoundNoOrder p b a) (NoSuchStage stages) right h = absurd h.0
+  not_staged old new before after with_old limit spare out (Some n) (NewUnsound findings) (NoSuchStage stages) right h = absurd h.0
+  not_staged old new before after with_old limit spare out None (NewUnsound findings) (NoSuchStage stages) right h = absurd h.0
+  not_staged old new before after with_old limit spare out stage s NoMemory right h = h.1
 
 none_staged : (A : Type 0) (stage : Option ℕ) (o : Order) → IsMade {A = A} stage (FoundOrdered o) None → IsStagedOf {A = A} stage (FoundOrdered o) (Ordered None)
 none_staged A (Some n) o h = absurd h

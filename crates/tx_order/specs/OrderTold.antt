@@ -49,24 +49,24 @@ module _ {A : Type 0} where
   IsStagedOf stage verdict staged = ⊥
 
   -- the verdict is right, and the report was written
-  pub record IsStaged (old new before after : Plan) (stage : Option ℕ) (limit spare : ℕ)
-      (out : Output) (staged : Staged A) : Type 0 where
+  pub record IsStaged (old new before after : Plan) (stage : Option ℕ) (with_old : Bool)
+      (limit spare : ℕ) (out : Output) (staged : Staged A) : Type 0 where
     pub verdict : OrderVerdict A
     pub right : IsRightVerdict before after new limit spare verdict
-    pub wrote : out.new ≡ append_known out.old (order_report old new limit spare verdict)
+    pub wrote : out.new ≡ append_known out.old (order_report with_old old new limit spare verdict)
     pub staged_of : IsStagedOf stage verdict staged
 
   -- What is answered of two plans, and of both over their joined network. Nothing is written where
   -- the stage is not there, and where memory runs out.
-  abbrev pub IsOrderTold : (old new before after : Plan) → (stage : Option ℕ) → (limit spare : ℕ)
-      → Output → Result (Staged A) OrderFault → Type 0
-  IsOrderTold old new before after stage limit spare out (Ok staged) =
-      IsStaged old new before after stage limit spare out staged
-  IsOrderTold old new before after stage limit spare out (Err (NoSuchStage stages)) =
+  abbrev pub IsOrderTold : (old new before after : Plan) → (stage : Option ℕ) → (with_old : Bool)
+      → (limit spare : ℕ) → Output → Result (Staged A) OrderFault → Type 0
+  IsOrderTold old new before after stage with_old limit spare out (Ok staged) =
+      IsStaged old new before after stage with_old limit spare out staged
+  IsOrderTold old new before after stage with_old limit spare out (Err (NoSuchStage stages)) =
       LacksStage before after new stage limit spare stages × out.silent
-  IsOrderTold old new before after stage limit spare out (Err Write) =
-      OrderToldInPart A old new before after limit spare out
-  IsOrderTold old new before after stage limit spare out (Err NoMemory) = out.silent
+  IsOrderTold old new before after stage with_old limit spare out (Err Write) =
+      OrderToldInPart A old new before after with_old limit spare out
+  IsOrderTold old new before after stage with_old limit spare out (Err NoMemory) = out.silent
 
 -- the mark of the sink after such a fault: set by a write that failed, and otherwise as before
 abbrev pub mark_by : Bool → OrderFault → Bool

@@ -28,8 +28,9 @@ pub enum Staged<A: Allocator = Global> {
 }
 
 /// Looks for an order in which the lists and the bars of a plan are switched to those of another
-/// one, over their joined network, and writes its report. Answers the plan after a stage and the
-/// certificate of the stage, if its number, from 1, is asked for.
+/// one, over their joined network, and writes its report, with the old lists if they are asked for.
+/// Answers the plan after a stage and the certificate of the stage, if its number, from 1, is asked
+/// for.
 ///
 /// Nothing is written where the order does not have the stage, and where memory runs out.
 pub fn tell_order<A: Allocator + Copy, W: Sink>(
@@ -39,15 +40,16 @@ pub fn tell_order<A: Allocator + Copy, W: Sink>(
     joined: Joined<A>,
     limits: Limits,
     stage: Option<u8>,
+    with_old: bool,
     out: &mut W,
 ) -> Result<Staged<A>, OrderFault>
     requires network { SameNetwork joined.old joined.new }
-    ensures told { IsOrderTold old.now new.now joined.old joined.new stage
+    ensures told { IsOrderTold old.now new.now joined.old joined.new stage with_old
         limits.limit limits.spare (output W.taken out.old out.new) result }
     ensures mark { W.failed out.new ≡ mark_after (W.failed out.old) result }
 {
     let verdict = judge_order(alloc, joined, new, limits)?;
-    match report(alloc, old, new, &verdict, limits, stage, out) {
+    match report(alloc, old, new, &verdict, limits, stage, with_old, out) {
         Ok(made) => Ok(staged_of(verdict, made)),
         Err(fault) => {
             drop(verdict);
@@ -64,14 +66,15 @@ fn report<A: Allocator + Copy, W: Sink>(
     verdict: &OrderVerdict<A>,
     limits: Limits,
     stage: Option<u8>,
+    with_old: bool,
     out: &mut W,
 ) -> Result<Option<(Lists<A>, Cert<A>)>, OrderFault>
-    ensures reported { IsReported old.now new.now stage limits.limit limits.spare
+    ensures reported { IsReported old.now new.now stage with_old limits.limit limits.spare
         (output W.taken out.old out.new) verdict.now result }
     ensures mark { W.failed out.new ≡ mark_after (W.failed out.old) result }
 {
     let made = made_of(alloc, verdict, stage)?;
-    write_order(old, new, verdict, limits, out)?;
+    write_order(old, new, verdict, limits, with_old, out)?;
     Ok(made)
 }
 

@@ -1,5 +1,5 @@
 -- What the verdict on a change comes to.
-use Rattle.std.specs.Prelude.{◌≡◌, ℕ, Result, Ok, Err}
+use Rattle.std.specs.Prelude.{◌≡◌, ℕ, Bool, Result, Ok, Err}
 use Rattle.std.specs.Io.KnownBytes.{append_known}
 use Rattle.tx_text.specs.Ends.{Output}
 use Rattle.tx_plan.specs.Plan.{Plan}
@@ -20,21 +20,24 @@ changed_of plans (IsUnsound findings) = Unsound plans.joined.old plans.joined.ne
 changed_of plans (IsNewUnsound findings) = NewUnsound plans.new findings
 
 -- the verdict is right, and its report was written
-abbrev pub ToldVerdict : {A : Type 0} → (old new before after : Plan) → (limit spare : ℕ)
-    → Output → Result (ChangeVerdict A) JobFault → Type 0
-ToldVerdict old new before after limit spare out (Ok verdict) =
+abbrev pub ToldVerdict : {A : Type 0} → (old new before after : Plan) → (with_old : Bool)
+    → (limit spare : ℕ) → Output → Result (ChangeVerdict A) JobFault → Type 0
+ToldVerdict old new before after with_old limit spare out (Ok verdict) =
     IsRightVerdict before after new limit spare verdict
-    × (out.new ≡ append_known out.old (change_report old new before limit spare verdict))
-ToldVerdict {A} old new before after limit spare out (Err fault) =
-    StopsTelling A old new before after limit spare out fault
+    × (out.new ≡ append_known out.old
+    (change_report with_old old new before after limit spare verdict))
+ToldVerdict {A} old new before after with_old limit spare out (Err fault) =
+    StopsTelling A old new before after with_old limit spare out fault
 
 -- what is answered of both plans with their verdict
-abbrev pub ToldPlans : {A : Type 0} → TwoPlans A → (limit spare : ℕ) → Output
-    → Result (Changed A) JobFault → Type 0
-ToldPlans {A} plans limit spare out (Ok changed) = (verdict : ChangeVerdict A)
+abbrev pub ToldPlans : {A : Type 0} → TwoPlans A → (with_old : Bool) → (limit spare : ℕ)
+    → Output → Result (Changed A) JobFault → Type 0
+ToldPlans {A} plans with_old limit spare out (Ok changed) = (verdict : ChangeVerdict A)
     × (changed ≡ changed_of plans verdict)
     × IsRightVerdict plans.joined.old plans.joined.new plans.new limit spare verdict
     × (out.new ≡ append_known out.old
-    (change_report plans.old plans.new plans.joined.old limit spare verdict))
-ToldPlans {A} plans limit spare out (Err fault) =
-    StopsTelling A plans.old plans.new plans.joined.old plans.joined.new limit spare out fault
+    (change_report with_old plans.old plans.new plans.joined.old plans.joined.new limit spare
+    verdict))
+ToldPlans {A} plans with_old limit spare out (Err fault) =
+    StopsTelling A plans.old plans.new plans.joined.old plans.joined.new with_old limit spare out
+    fault

@@ -1,5 +1,5 @@
 -- What is made of a stage before the report is written.
-use Rattle.std.specs.Prelude.{◌≡◌, ℕ, Option, Some, None, Result, Ok, Err}
+use Rattle.std.specs.Prelude.{◌≡◌, ℕ, Bool, Option, Some, None, Result, Ok, Err}
 use Rattle.std.specs.Io.KnownBytes.{append_known}
 use Rattle.tx_text.specs.Ends.{StopsIn, Output}
 use Rattle.tx_cert.specs.Certificate.{Certificate}
@@ -57,10 +57,11 @@ module _ {A : Type 0} where
   IsMadeAnswer stage verdict (Err f) = IsNotMade stage verdict f
 
   -- what is answered where it is made, and then the report is written
-  abbrev pub IsReported : (old new : Plan) → Option ℕ → (limit spare : ℕ) → Output → OrderVerdict A
-      → Result (Option (Lists A × Certificate)) OrderFault → Type 0
-  IsReported old new stage limit spare out verdict (Ok made) = IsMade stage verdict made
-      × (out.new ≡ append_known out.old (order_report old new limit spare verdict))
-  IsReported old new stage limit spare out verdict (Err Write) =
-      StopsIn out.old out.new (order_report old new limit spare verdict)
-  IsReported old new stage limit spare out verdict (Err f) = IsNotMade stage verdict f × out.silent
+  abbrev pub IsReported : (old new : Plan) → Option ℕ → (with_old : Bool) → (limit spare : ℕ)
+      → Output → OrderVerdict A → Result (Option (Lists A × Certificate)) OrderFault → Type 0
+  IsReported old new stage with_old limit spare out verdict (Ok made) = IsMade stage verdict made
+      × (out.new ≡ append_known out.old (order_report with_old old new limit spare verdict))
+  IsReported old new stage with_old limit spare out verdict (Err Write) =
+      StopsIn out.old out.new (order_report with_old old new limit spare verdict)
+  IsReported old new stage with_old limit spare out verdict (Err f) =
+      IsNotMade stage verdict f × out.silent

@@ -106,7 +106,7 @@ fn has_order(alloc: Global, old: &Plan, new: &Plan, limits: Limits) -> Result<bo
         return Err(Stop::Differs);
     };
     let mut out = Told::new(alloc);
-    match tell_order(alloc, old, new, joined, limits, None, &mut out) {
+    match tell_order(alloc, old, new, joined, limits, None, false, &mut out) {
         Ok(Staged::Ordered(_)) => Ok(true),
         Ok(Staged::NoOrder) => Ok(false),
         Err(_) => Err(Stop::NoMemory),

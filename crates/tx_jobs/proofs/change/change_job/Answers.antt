@@ -12,7 +12,7 @@ pub returns-clause-answers : goal.returns-clause-answers
 returns-clause-answers g c =
     let plans = c.in_ok-plans.plans in
     let r = c.in_ok-plans.ensures.joined in
-    inl (are_joined _ _ plans r _ (told_over plans r.joined c.args.limits.limit c.args.limits.spare (output g.W.Sink.taken c.args.out.now c.change_of.new.out) c.change_of.result c.change_of.ensures.told))
+    inl (are_joined _ _ plans r _ (told_over plans r.joined c.args.limits.limit c.args.limits.spare c.args.with_old (output g.W.Sink.taken c.args.out.now c.change_of.new.out) c.change_of.result c.change_of.ensures.told))
 
 pub returns-in_err-plans-clause-answers : goal.returns-in_err-plans-clause-answers
 returns-in_err-plans-clause-answers g c =

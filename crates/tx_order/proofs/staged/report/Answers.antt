@@ -12,7 +12,7 @@ pub returns-in_err-made-clause-reported : goal.returns-in_err-made-clause-report
 returns-in_err-made-clause-reported g c =
     let f = c.in_err-made.field-0.0 in
     rw (exits_with c.from_residual.result f c.from_residual.ensures.1)
-    (not_made c.args.old.now c.args.new.now c.args.limits.limit c.args.limits.spare (output g.W.Sink.taken c.args.out.now c.args.out.now) refl c.args.stage c.args.verdict.now f c.in_err-made.ensures)
+    (not_made c.args.old.now c.args.new.now c.args.with_old c.args.limits.limit c.args.limits.spare (output g.W.Sink.taken c.args.out.now c.args.out.now) refl c.args.stage c.args.verdict.now f c.in_err-made.ensures)
 
 pub returns-in_err-made-clause-mark : goal.returns-in_err-made-clause-mark
 returns-in_err-made-clause-mark g c =

@@ -19,7 +19,7 @@ staged_of-requires g c = (c.args.stage, c.in-Ok.ensures.reported.0)
 
 pub returns-in-Err-clause-told : goal.returns-in-Err-clause-told
 returns-in-Err-clause-told g c =
-    not_staged c.args.old.now c.args.new.now c.args.joined.old c.args.joined.new c.args.limits.limit c.args.limits.spare (output g.W.Sink.taken c.args.out.now c.report.new.out) c.args.stage c.in_ok-verdict.verdict c.in-Err.fault c.in_ok-verdict.ensures c.in-Err.ensures.reported
+    not_staged c.args.old.now c.args.new.now c.args.joined.old c.args.joined.new c.args.with_old c.args.limits.limit c.args.limits.spare (output g.W.Sink.taken c.args.out.now c.report.new.out) c.args.stage c.in_ok-verdict.verdict c.in-Err.fault c.in_ok-verdict.ensures c.in-Err.ensures.reported
 
 pub returns-in_err-verdict-clause-told : goal.returns-in_err-verdict-clause-told
 returns-in_err-verdict-clause-told g c =
