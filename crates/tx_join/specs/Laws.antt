@@ -1,5 +1,5 @@
 -- What the joined plans have of the old plan and of the new one.
-use Rattle.std.specs.Prelude.{◌≡◌, ◌≢◌, ℕ, ◌<◌, ◌≤◌, nat_lt, if◌then◌else◌, true, false, length, map, None}
+use Rattle.std.specs.Prelude.{◌≡◌, ◌≢◌, ℕ, ◌<◌, ◌≤◌, nat_lt, if◌then◌else◌, true, false, [], length, map, None}
 use Rattle.tx_plan.specs.Plan.{Plan, exchange_name, figures_of, group_name, home_of}
 use Rattle.tx_plan.specs.Rules.{IsPlan}
 use Rattle.tx_plan.specs.Routes.{route_list, is_barred}
@@ -7,6 +7,7 @@ use Rattle.tx_plan.specs.Circuits.{ends_of, direction_of, count_of}
 use Rattle.tx_plan.specs.Certified.{Ranks, IsCertified}
 use Rattle.tx_plan.specs.Mixtures.{SameNetwork}
 use Rattle.tx_join.specs.Joined.{exchange_in, code_in, group_in, has_both, joined_old, joined_new}
+use Rattle.tx_join.specs.Differences.{difference_text}
 use Rattle.tx_join.specs.Refusals.{join_refusal}
 
 -- Two plans that have a joined network
@@ -104,11 +105,12 @@ pub record HaveTheirLists (old new before after : Plan) : Type 0 where
 
 -- ONE NETWORK
 
--- plans of one network are their own joined plans
+-- plans of one network are their own joined plans, and no line tells of a difference
 pub record AreOwnJoined (old new : Plan) : Type 0 where
   pub none : join_refusal old new ≡ None
   pub before : joined_old old new ≡ old
   pub after : joined_new old new ≡ new
+  pub nothing : difference_text old new ≡ []
 
 -- the ranks of exchanges that a plan has
 abbrev pub ranks_within : Plan → Ranks → Ranks

@@ -12,7 +12,7 @@ pub fn joined_plans_are_of_both()
     ensures lists { OfJoined HaveTheirLists }
 {}
 
-/// Plans of one network are their own joined plans.
+/// Plans of one network are their own joined plans, and no line tells of a difference.
 pub fn plans_of_one_network_stay()
     ensures { (old new : Plan) → IsPlan old → IsPlan new → SameNetwork old new
         → AreOwnJoined old new }
