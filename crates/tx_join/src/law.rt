@@ -6,8 +6,8 @@ ghost use Rattle.tx_plan.specs.Mixtures.{SameNetwork};
 ghost use Rattle.tx_join.specs.Laws.{OfJoined, AreOverBoth, HaveTheirLists, AreOwnJoined, CertifiesOld};
 
 /// The joined plans are plans of one network, which has that of both plans, and each group with the
-/// greater of both numbers of circuits. Each has the lists and bars of its own plan, and those of the
-/// other one for what its own does not have, and no more.
+/// greater of both numbers of circuits. Each has the lists and bars of its own plan, and those of
+/// the other one for what its own does not have, and no more.
 pub fn joined_plans_are_of_both()
     ensures network { OfJoined AreOverBoth }
     ensures lists { OfJoined HaveTheirLists }
