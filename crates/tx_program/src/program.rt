@@ -124,7 +124,8 @@ pub(crate) fn perform<A: Allocator + Copy, F: Folder, I: Read + Drop, O: Write +
 {
     let files = Files::of(command);
     let inputs = Inputs::open(files.reads, folder, input)?;
-    let targets = Targets::of(alloc, files, folder)?;
+    let targets = Targets::of(files, folder);
+    targets.require_free(alloc, folder)?;
     let output = Output::new(alloc, output)?;
     let done = carry_out(alloc, command, inputs, &targets, folder, &output);
     if output.let_out().is_err() {
