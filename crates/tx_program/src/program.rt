@@ -12,7 +12,6 @@ use crate::stop::{Place, Stop, write_stop};
 use crate::targets::Targets;
 use crate::tell::{announce_input, tell_words};
 use std::alloc::{Allocator, Global};
-use std::io;
 use std::io::{IsTerminal, Read, Write};
 use tx_commands::{Command, Files, WordsFault, read_command};
 use tx_jobs::{JobFault, Outcome, do_command, write_fault};
@@ -112,7 +111,8 @@ fn tell_stop<A: Allocator, E: Write + Drop>(
 }
 
 /// Opens the files of a command, sees that those to be made take the place of no others, does its
-/// job, and lets its output out. Answers the exit status.
+/// job, and lets its output out. Answers the exit status. An output that fails is reported before
+/// any other fault.
 pub(crate) fn perform<A: Allocator + Copy, F: Folder, I: Read + Drop, O: Write + Drop>(
     alloc: A,
     command: &Command,
@@ -126,46 +126,17 @@ pub(crate) fn perform<A: Allocator + Copy, F: Folder, I: Read + Drop, O: Write +
     let inputs = Inputs::open(files.reads, folder, input)?;
     let targets = Targets::of(files, folder);
     targets.require_free(alloc, folder)?;
-    do_and_let_out(alloc, command, inputs, &targets, folder, output)
-}
-
-/// Does the job of a command over its files, which are open, and lets its output out.
-fn do_and_let_out<A: Allocator + Copy, F: Folder, I: Read + Drop, O: Write + Drop>(
-    alloc: A,
-    command: &Command,
-    inputs: Inputs<I, F::Input>,
-    targets: &Targets<'_>,
-    folder: &F,
-    output: O,
-) -> Result<u8, Stop>
-    requires { IsInRange command.now }
-{
     let output = Output::new(alloc, output)?;
-    let done = carry_out(alloc, command, inputs, targets, folder, &output);
-    let_out(done, &output)
-}
-
-/// What a command came to, once its output is out. An output that fails is reported before any
-/// other fault.
-fn let_out<A: Allocator, O: Write + Drop>(
-    done: Result<u8, Stop>,
-    output: &Output<O, A>,
-) -> Result<u8, Stop> {
+    let done = carry_out(alloc, command, inputs, &targets, folder, &output);
     if output.let_out().is_err() {
-        drop(done);
-        return Err(failed_write(output.take_failure()));
+        return Err(match output.take_failure() {
+            Some(error) => Stop::Write(Place::Output, error),
+            None => Stop::Job(JobFault::Write),
+        });
     }
     match done {
         Err(Stop::Job(JobFault::Read)) => Err(failed_read(output.take_failed_read())),
         done => done,
-    }
-}
-
-/// Why the output failed: what the system said, if that is known.
-fn failed_write(failure: Option<io::Error>) -> Stop {
-    match failure {
-        Some(error) => Stop::Write(Place::Output, error),
-        None => Stop::Job(JobFault::Write),
     }
 }
 
