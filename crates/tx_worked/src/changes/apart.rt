@@ -16,6 +16,18 @@ pub struct Switch {
     is_new: bool,
 }
 
+impl Switch {
+    /// One that is not switched.
+    fn new(exchange: ExchangeId, code: CodeId, is_bar: bool) -> Switch {
+        Switch {
+            exchange,
+            code,
+            is_bar,
+            is_new: false,
+        }
+    }
+}
+
 /// Adds what an exchange does not have alike for a code, not switched.
 fn put_switches_at(
     joined: &Joined,
@@ -24,20 +36,11 @@ fn put_switches_at(
     switches: &mut Vec<Switch>,
 ) -> Result<(), NoMemory> {
     let (old, new) = (&joined.old, &joined.new);
-    let switch = Switch {
-        exchange,
-        code,
-        is_bar: false,
-        is_new: false,
-    };
     if old.list(exchange, code) != new.list(exchange, code) {
-        switches.push(switch)?;
+        switches.push(Switch::new(exchange, code, false))?;
     }
     if old.is_barred(exchange, code) != new.is_barred(exchange, code) {
-        switches.push(Switch {
-            is_bar: true,
-            ..switch
-        })?;
+        switches.push(Switch::new(exchange, code, true))?;
     }
     Ok(())
 }

@@ -6,7 +6,6 @@ use tx_text::{MemorySink, WriteFault};
 
 /// What a whole job does, beside which others are judged: its exit status or its fault, and what it
 /// writes.
-#[derive(Clone, Copy)]
 pub(crate) struct Whole<'a> {
     pub answer: Result<u8, JobFault>,
     pub text: &'a [u8],
@@ -24,7 +23,7 @@ pub(crate) struct Did {
 
 impl Did {
     /// Whether it did all that the whole job does.
-    pub(crate) fn is_as(&self, whole: Whole<'_>) -> bool {
+    pub(crate) fn is_as(&self, whole: &Whole<'_>) -> bool {
         self.is_front && self.written == whole.text.len() && self.answer == whole.answer
     }
 
