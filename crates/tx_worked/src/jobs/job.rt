@@ -6,6 +6,7 @@ use tx_text::{MemorySink, WriteFault};
 
 /// What a whole job does, beside which others are judged: its exit status or its fault, and what it
 /// writes.
+#[derive(Clone, Copy)]
 pub(crate) struct Whole<'a> {
     pub answer: Result<u8, JobFault>,
     pub text: &'a [u8],
