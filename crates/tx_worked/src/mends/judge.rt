@@ -85,14 +85,14 @@ fn is_reached(survey: &Survey, exchange: ExchangeId) -> bool {
 }
 
 /// Whether the rank of an exchange in a mended plan, if a call comes there, is its kept one.
-fn is_kept(ranked: Ranked<'_>, survey: &Survey, exchange: ExchangeId) -> bool {
+fn is_kept(ranked: &Ranked<'_>, survey: &Survey, exchange: ExchangeId) -> bool {
     let height = count_at(&survey.heights, exchange.index());
     height.is_none() || height == ranked.rank(exchange)
 }
 
 /// Whether each group that a list of a mended plan has lost could not stay, and each that is new is
 /// needed.
-fn is_least(ranked: Ranked<'_>, mended: &Plan, survey: &Survey, exchange: ExchangeId) -> bool {
+fn is_least(ranked: &Ranked<'_>, mended: &Plan, survey: &Survey, exchange: ExchangeId) -> bool {
     let before = ranked.asked.plan.list(exchange, ranked.code);
     let list = mended.list(exchange, ranked.code);
     for group in before {
@@ -100,7 +100,7 @@ fn is_least(ranked: Ranked<'_>, mended: &Plan, survey: &Survey, exchange: Exchan
             exchange,
             group: *group,
         };
-        if !list.contains(group) && ranked.asked.could_stay(ranked.code, mended, listed) {
+        if !list.contains(group) && ranked.asked.could_stay(ranked.code, mended, &listed) {
             return false;
         }
     }
@@ -111,7 +111,7 @@ fn is_least(ranked: Ranked<'_>, mended: &Plan, survey: &Survey, exchange: Exchan
 
 /// How the list of an exchange in a mended plan, or its rank, differs from what it has to be.
 fn list_differs(
-    ranked: Ranked<'_>,
+    ranked: &Ranked<'_>,
     mended: &Plan,
     survey: &Survey,
     keeps: bool,
@@ -156,7 +156,7 @@ fn code_differs(
     };
     for index in 0..asked.plan.exchanges() {
         if let Some(exchange) = asked.plan.exchange_at(index) {
-            let differs = list_differs(ranked, mended, survey, keeps, exchange, list, tally)?;
+            let differs = list_differs(&ranked, mended, survey, keeps, exchange, list, tally)?;
             if differs.is_some() {
                 return Ok(differs);
             }

@@ -71,7 +71,7 @@ impl Asked<'_> {
 
     /// Whether some routing that serves all origins for a code has a group in its lists, and all
     /// that two plans share.
-    pub fn could_stay(&self, code: CodeId, mended: &Plan, listed: Listed) -> bool {
+    pub fn could_stay(&self, code: CodeId, mended: &Plan, listed: &Listed) -> bool {
         for routing in self.routings(code) {
             if self.ranks_origins(code, routing.ranks(self.limits))
                 && has_group(&routing.plan, code, listed)
@@ -84,7 +84,7 @@ impl Asked<'_> {
     }
 }
 
-fn has_group(routing: &Plan, code: CodeId, listed: Listed) -> bool {
+fn has_group(routing: &Plan, code: CodeId, listed: &Listed) -> bool {
     routing.list(listed.exchange, code).contains(&listed.group)
 }
 
@@ -105,10 +105,10 @@ fn has_shared(routing: &Plan, code: CodeId, plan: &Plan, mended: &Plan) -> bool 
 }
 
 /// Whether a routing has each group that stays by some ranks, and one that is tried.
-fn keeps(ranked: Ranked<'_>, tried: Listed, routing: &Plan, choices: &[Listed]) -> bool {
+fn keeps(ranked: &Ranked<'_>, tried: &Listed, routing: &Plan, choices: &[Listed]) -> bool {
     for choice in choices {
-        if (*choice == tried || ranked.stays(choice.exchange, choice.group))
-            && !has_group(routing, ranked.code, *choice)
+        if (choice == tried || ranked.stays(choice.exchange, choice.group))
+            && !has_group(routing, ranked.code, choice)
         {
             return false;
         }
@@ -120,15 +120,14 @@ fn keeps(ranked: Ranked<'_>, tried: Listed, routing: &Plan, choices: &[Listed]) 
 /// tried.
 fn ranks_with(
     alloc: Global,
-    ranked: Ranked<'_>,
-    tried: Listed,
+    ranked: &Ranked<'_>,
+    tried: &Listed,
     choices: &[Listed],
 ) -> Result<Vec<Option<usize>>, NoMemory> {
-    let asked = ranked.asked;
-    let mut least = vec![in alloc; None; asked.plan.exchanges()]?;
-    for routing in asked.routings(ranked.code) {
+    let mut least = vec![in alloc; None; ranked.asked.plan.exchanges()]?;
+    for routing in ranked.asked.routings(ranked.code) {
         if keeps(ranked, tried, &routing.plan, choices) {
-            note_ranks(routing.ranks(asked.limits), &mut least);
+            note_ranks(routing.ranks(ranked.asked.limits), &mut least);
         }
     }
     Ok(least)
@@ -139,7 +138,7 @@ fn put_back(
     alloc: Global,
     asked: Asked<'_>,
     code: CodeId,
-    tried: Listed,
+    tried: &Listed,
     choices: &[Listed],
     ranks: &mut Vec<Option<usize>>,
 ) -> Result<(), NoMemory> {
@@ -147,7 +146,7 @@ fn put_back(
     if ranked.stays(tried.exchange, tried.group) {
         return Ok(());
     }
-    let least = ranks_with(alloc, ranked, tried, choices)?;
+    let least = ranks_with(alloc, &ranked, tried, choices)?;
     if asked.ranks_origins(code, &least) {
         *ranks = least;
     }
@@ -167,7 +166,7 @@ pub fn kept_ranks(
         ranks.extend_from_slice(&served.ranks)?;
     }
     for tried in &choices {
-        put_back(alloc, asked, code, *tried, &choices, &mut ranks)?;
+        put_back(alloc, asked, code, tried, &choices, &mut ranks)?;
     }
     Ok(ranks)
 }
