@@ -210,12 +210,7 @@ fn judge_verdicts(
 }
 
 /// Judges the change of one plan into another one, and the order, over their joined network.
-fn judge_joined(
-    alloc: Global,
-    old: &Plan,
-    new: &Plan,
-    work: &mut NetworkWork,
-) -> Result<(), Stop> {
+fn judge_joined(alloc: Global, old: &Plan, new: &Plan, work: &mut NetworkWork) -> Result<(), Stop> {
     match join(alloc, old, new) {
         Ok(joined) => judge_verdicts(alloc, &joined, old, new, work),
         Err(_) => Err(Stop::Differs),
