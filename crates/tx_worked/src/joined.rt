@@ -38,11 +38,19 @@ fn tell_refusal(refusal: JoinRefusal, new: &Plan, out: &mut Told) {
     tell(b"\n", out);
 }
 
+/// Whether memory runs out where a plan is joined with that of a text.
+fn wants_with<A: Allocator + Copy>(alloc: A, old: &Plan<A>, new: &[u8]) -> bool {
+    match read_plan(alloc, new) {
+        Ok(new) => matches!(join(alloc, old, &new), Err(JoinRefusal::NoMemory)),
+        Err(_) => true,
+    }
+}
+
 /// Whether memory runs out where two plans are read and joined.
 fn wants<A: Allocator + Copy>(alloc: A, old: &[u8], new: &[u8]) -> bool {
-    match (read_plan(alloc, old), read_plan(alloc, new)) {
-        (Ok(old), Ok(new)) => { matches!(join(alloc, &old, &new), Err(JoinRefusal::NoMemory)) }
-        _ => true,
+    match read_plan(alloc, old) {
+        Ok(old) => wants_with(alloc, &old, new),
+        Err(_) => true,
     }
 }
 
@@ -72,11 +80,19 @@ fn tell_join(alloc: Global, old: &Plan, new: &Plan, out: &mut Told) {
     }
 }
 
+/// Joins a plan with that of a text, and tells what comes of it.
+fn tell_with(alloc: Global, old: &Plan, new: &[u8], out: &mut Told) {
+    match read_plan(alloc, new) {
+        Ok(new) => tell_join(alloc, old, &new, out),
+        Err(_) => tell_broken(b"no plan", 0, out),
+    }
+}
+
 /// Joins two plans, and tells what comes of it. Refuses each request for memory in turn.
 pub(crate) fn play_joined(alloc: Global, old: &[u8], new: &[u8], out: &mut Told) {
-    match (read_plan(alloc, old), read_plan(alloc, new)) {
-        (Ok(before), Ok(after)) => tell_join(alloc, &before, &after, out),
-        _ => tell_broken(b"no plan", 0, out),
+    match read_plan(alloc, old) {
+        Ok(before) => tell_with(alloc, &before, new, out),
+        Err(_) => tell_broken(b"no plan", 0, out),
     }
     try_refusals(alloc, old, new, out);
 }

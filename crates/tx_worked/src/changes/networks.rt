@@ -209,15 +209,25 @@ fn judge_verdicts(
     Ok(())
 }
 
-/// Judges the change of one plan into another one, and the order.
-fn judge_pair(alloc: Global, work: &mut NetworkWork) -> Result<(), Stop> {
-    let old = read_plan(alloc, work.old.as_slice())?;
-    let new = read_plan(alloc, work.new.as_slice())?;
-    add(&mut work.tally.pairs, 1);
-    match join(alloc, &old, &new) {
-        Ok(joined) => judge_verdicts(alloc, &joined, &old, &new, work),
+/// Judges the change of one plan into another one, and the order, over their joined network.
+fn judge_joined(alloc: Global, old: &Plan, new: &Plan, work: &mut NetworkWork) -> Result<(), Stop> {
+    match join(alloc, old, new) {
+        Ok(joined) => judge_verdicts(alloc, &joined, old, new, work),
         Err(_) => Err(Stop::Differs),
     }
+}
+
+/// Judges the change of a plan into the new one in hand.
+fn judge_from(alloc: Global, old: &Plan, work: &mut NetworkWork) -> Result<(), Stop> {
+    let new = read_plan(alloc, work.new.as_slice())?;
+    add(&mut work.tally.pairs, 1);
+    judge_joined(alloc, old, &new, work)
+}
+
+/// Judges the change of the old plan in hand into the new one.
+fn judge_pair(alloc: Global, work: &mut NetworkWork) -> Result<(), Stop> {
+    let old = read_plan(alloc, work.old.as_slice())?;
+    judge_from(alloc, &old, work)
 }
 
 /// Judges the changes from each plan of a family to each of another one.

@@ -55,28 +55,54 @@ impl Asked<'_> {
         Ok(())
     }
 
+    /// Adds an exchange, if calls for the code may start there and it cannot be served.
+    fn add_unserved(
+        &self,
+        code: CodeId,
+        exchange: ExchangeId,
+        unserved: &mut Vec<Unserved>,
+    ) -> Result<(), NoMemory> {
+        if self.plan.is_origin_for(exchange, code) && self.rank(code, exchange).is_none() {
+            let cause = self.cause(code, exchange);
+            unserved.push(Unserved {
+                code,
+                exchange,
+                cause,
+            })?;
+        }
+        Ok(())
+    }
+
+    /// Adds each exchange that cannot be served for a code.
+    fn add_each_unserved(
+        &self,
+        code: CodeId,
+        unserved: &mut Vec<Unserved>,
+    ) -> Result<(), NoMemory> {
+        for index in 0..self.plan.exchanges() {
+            if let Some(exchange) = self.plan.exchange_at(index) {
+                self.add_unserved(code, exchange, unserved)?;
+            }
+        }
+        Ok(())
+    }
+
+    /// Adds each exchange where groups are missing for a code.
+    fn add_each_missing(&self, code: CodeId, missing: &mut Vec<Missing>) -> Result<(), NoMemory> {
+        for index in 0..self.plan.exchanges() {
+            if let Some(exchange) = self.plan.exchange_at(index) {
+                self.add_missing(code, exchange, missing)?;
+            }
+        }
+        Ok(())
+    }
+
     /// Adds what is not served for a code, and then where groups are missing for it.
     fn add_lacking(&self, code: CodeId, lacking: &mut Lacking) -> Result<(), NoMemory> {
         let before = lacking.unserved.len();
-        for index in 0..self.plan.exchanges() {
-            if let Some(exchange) = self.plan.exchange_at(index) {
-                if self.plan.is_origin_for(exchange, code) && self.rank(code, exchange).is_none() {
-                    let cause = self.cause(code, exchange);
-                    lacking.unserved.push(Unserved {
-                        code,
-                        exchange,
-                        cause,
-                    })?;
-                }
-            }
-        }
-        if lacking.unserved.len() == before {
-            return Ok(());
-        }
-        for index in 0..self.plan.exchanges() {
-            if let Some(exchange) = self.plan.exchange_at(index) {
-                self.add_missing(code, exchange, &mut lacking.missing)?;
-            }
+        self.add_each_unserved(code, &mut lacking.unserved)?;
+        if lacking.unserved.len() > before {
+            self.add_each_missing(code, &mut lacking.missing)?;
         }
         Ok(())
     }

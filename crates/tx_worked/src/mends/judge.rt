@@ -192,6 +192,31 @@ fn is_certified(alloc: Global, plan: &Plan, cert: &Cert, limits: Limits) -> Resu
     }
 }
 
+/// How a mended plan beside its lists, its certificate, or the routes that it is told to have had,
+/// differ from what they have to be.
+fn told_differs(
+    alloc: Global,
+    asked: Asked<'_>,
+    mended: &Plan,
+    before: &Routes,
+    cert: &Cert,
+    routed: &mut Vec<Routed>,
+) -> Result<Option<Difference>, NoMemory> {
+    if first_difference(asked.plan, mended).is_some() || !bars_alike(asked.plan, mended) {
+        return Ok(Some(Difference::Networks));
+    }
+    if !are_routes_of(asked.plan, before) {
+        return Ok(Some(Difference::Before));
+    }
+    if !is_certified(alloc, mended, cert, asked.limits)? {
+        return Ok(Some(Difference::Refused));
+    }
+    if !are_in_order(asked.plan, mended, routed)? {
+        return Ok(Some(Difference::Order));
+    }
+    Ok(None)
+}
+
 /// How a mended plan, its certificate, or the routes that it is told to have had, differ from what
 /// they have to be.
 fn mended_differs(
@@ -204,17 +229,9 @@ fn mended_differs(
     work: &mut RoutingWork,
     tally: &mut MendTally,
 ) -> Result<Option<Difference>, NoMemory> {
-    if first_difference(asked.plan, mended).is_some() || !bars_alike(asked.plan, mended) {
-        return Ok(Some(Difference::Networks));
-    }
-    if !are_routes_of(asked.plan, before) {
-        return Ok(Some(Difference::Before));
-    }
-    if !is_certified(alloc, mended, cert, asked.limits)? {
-        return Ok(Some(Difference::Refused));
-    }
-    if !are_in_order(asked.plan, mended, &mut answers.routed)? {
-        return Ok(Some(Difference::Order));
+    let differs = told_differs(alloc, asked, mended, before, cert, &mut answers.routed)?;
+    if differs.is_some() {
+        return Ok(differs);
     }
     survey_codes(alloc, mended, &mut work.steps, &mut answers.surveys)?;
     tally.add_mended(&answers.surveys);
