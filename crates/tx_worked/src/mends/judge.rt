@@ -310,7 +310,7 @@ fn refusal_differs(
 pub fn mending_differs(
     alloc: Global,
     asked: Asked<'_>,
-    mending: Mending,
+    mending: &Mending,
     answers: &mut Answers,
     work: &mut RoutingWork,
     tally: &mut MendTally,
@@ -319,18 +319,17 @@ pub fn mending_differs(
     match mending {
         Mending::Mended(mended, before, cert) => {
             if can_be {
-                mended_differs(alloc, asked, &mended, &before, &cert, answers, work, tally)
+                mended_differs(alloc, asked, mended, before, cert, answers, work, tally)
             } else {
                 Ok(Some(Difference::Found))
             }
         }
         Mending::NoRouting(plan, unserved, missing, pair) => {
-            let wanted = &answers.lacking;
             tally.add_refused(pair.is_some(), unserved.len());
             if can_be {
                 Ok(Some(Difference::Count))
             } else {
-                Ok(refusal_differs(asked, &plan, &unserved, &missing, pair, wanted))
+                Ok(refusal_differs(asked, plan, unserved, missing, *pair, &answers.lacking))
             }
         }
     }

@@ -69,7 +69,9 @@ fn answer_differs(
         return Ok(Some(Difference::Routings));
     }
     let mending = mending_of(alloc, work.text.as_slice(), limits)?;
-    Ok(mending_differs(alloc, asked, mending, answers, &mut work.routing, tally)?)
+    let differs = mending_differs(alloc, asked, &mending, answers, &mut work.routing, tally);
+    drop(mending);
+    Ok(differs?)
 }
 
 /// Judges the mending of the plan in hand for a limit and a spare number.
