@@ -7,7 +7,9 @@ use crate::mends::order::{Routed, are_in_order};
 use crate::mends::serving::RoutingWork;
 use crate::mends::starts::count_at;
 use crate::mends::tally::MendTally;
-use crate::walks::{Difference, Survey, Wanted, ambiguous, put_code, ranks_differ, survey_codes};
+use crate::walks::{
+    Difference, Steps, Survey, Wanted, ambiguous, put_code, ranks_differ, survey_codes,
+};
 use std::alloc::Global;
 use tx_cert::Cert;
 use tx_change::first_difference;
@@ -217,6 +219,43 @@ fn told_differs(
     Ok(None)
 }
 
+/// How the ranks of a mended plan differ from what its walks show.
+fn walks_differ(
+    alloc: Global,
+    mended: &Plan,
+    cert: &Cert,
+    steps: &mut Steps,
+    surveys: &mut Vec<Survey>,
+    tally: &mut MendTally,
+) -> Result<Option<Difference>, NoMemory> {
+    survey_codes(alloc, mended, steps, surveys)?;
+    tally.add_mended(surveys.as_slice());
+    Ok(ranks_differ(mended, surveys.as_slice(), cert))
+}
+
+/// How the ranks or the lists of a mended plan differ from what they have to be.
+fn made_differs(
+    alloc: Global,
+    asked: Asked<'_>,
+    mended: &Plan,
+    cert: &Cert,
+    answers: &mut Answers,
+    work: &mut RoutingWork,
+    tally: &mut MendTally,
+) -> Result<Option<Difference>, NoMemory> {
+    match walks_differ(
+        alloc,
+        mended,
+        cert,
+        &mut work.steps,
+        &mut answers.surveys,
+        tally,
+    )? {
+        Some(differs) => Ok(Some(differs)),
+        None => lists_differ(alloc, asked, mended, answers, &mut work.wanted, tally),
+    }
+}
+
 /// How a mended plan, its certificate, or the routes that it is told to have had, differ from what
 /// they have to be.
 fn mended_differs(
@@ -229,17 +268,10 @@ fn mended_differs(
     work: &mut RoutingWork,
     tally: &mut MendTally,
 ) -> Result<Option<Difference>, NoMemory> {
-    let differs = told_differs(alloc, asked, mended, before, cert, &mut answers.routed)?;
-    if differs.is_some() {
-        return Ok(differs);
+    match told_differs(alloc, asked, mended, before, cert, &mut answers.routed)? {
+        Some(differs) => Ok(Some(differs)),
+        None => made_differs(alloc, asked, mended, cert, answers, work, tally),
     }
-    survey_codes(alloc, mended, &mut work.steps, &mut answers.surveys)?;
-    tally.add_mended(&answers.surveys);
-    let differs = ranks_differ(mended, &answers.surveys, cert);
-    if differs.is_some() {
-        return Ok(differs);
-    }
-    lists_differ(alloc, asked, mended, answers, &mut work.wanted, tally)
 }
 
 /// Whether the pair of codes is the ambiguous one that is wanted.
@@ -293,12 +325,11 @@ pub fn mending_differs(
             }
         }
         Mending::NoRouting(plan, unserved, missing, pair) => {
-            let wanted = &answers.lacking;
             tally.add_refused(pair.is_some(), unserved.len());
             if can_be {
                 Ok(Some(Difference::Count))
             } else {
-                Ok(refusal_differs(asked, plan, unserved, missing, *pair, wanted))
+                Ok(refusal_differs(asked, plan, unserved, missing, *pair, &answers.lacking))
             }
         }
     }
