@@ -41,7 +41,12 @@ fn tell_refusal(refusal: JoinRefusal, new: &Plan, out: &mut Told) {
 /// Whether memory runs out where a plan is joined with that of a text.
 fn wants_with<A: Allocator + Copy>(alloc: A, old: &Plan<A>, new: &[u8]) -> bool {
     match read_plan(alloc, new) {
-        Ok(new) => matches!(join(alloc, old, &new), Err(JoinRefusal::NoMemory)),
+        Ok(new) => {
+            let joined = join(alloc, old, &new);
+            let wants = matches!(&joined, Err(JoinRefusal::NoMemory));
+            drop(joined);
+            wants
+        }
         Err(_) => true,
     }
 }

@@ -108,10 +108,8 @@ fn none_served(alloc: Global, plan: &Plan) -> Result<Served, NoMemory> {
     })
 }
 
-/// The greatest limit that can be asked for, and a spare number.
-fn without_limit(spare: u8) -> Limits {
-    Limits { limit: 62, spare }
-}
+/// The greatest limit that can be asked for.
+const GREATEST: u8 = 62;
 
 impl CodeServed {
     /// What no routings serve.
@@ -194,9 +192,15 @@ impl CodeServed {
         wanted: &mut Vec<Wanted>,
     ) -> Result<(), NoMemory> {
         let mut ranks = Vec::new(alloc);
-        for (spare, least) in (0..NUMBERS).zip(self.unlimited.iter_mut()) {
-            put_ranks(routing, starts, without_limit(spare), wanted, &mut ranks)?;
-            note_ranks(&ranks, least);
+        for spare in 0..NUMBERS {
+            let limits = Limits {
+                limit: GREATEST,
+                spare,
+            };
+            put_ranks(routing, starts, limits, wanted, &mut ranks)?;
+            if let Some(least) = self.unlimited.get_mut(usize::from(spare)) {
+                note_ranks(&ranks, least);
+            }
         }
         Ok(())
     }
