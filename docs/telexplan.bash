@@ -23,9 +23,9 @@ _telexplan() {
                 *:help:*) words="lint audit grade mend change order survive check run codes trace fill draw explain version" ;;
                 *:explain:*) words="--help $(telexplan explain 2>/dev/null | cut -d ' ' -f 1)" ;;
                 *:audit:-*) words="--limit --spare --cert --counter --help" ;;
-                *:mend:-*) words="--limit --spare --plan --cert --help" ;;
-                *:change:-*) words="--limit --spare --cert --mixture --counter --help" ;;
-                *:order:-*) words="--limit --spare --stage --plan --cert --help" ;;
+                *:mend:-*) words="--limit --spare --plan --cert --old --help" ;;
+                *:change:-*) words="--limit --spare --cert --mixture --counter --old --help" ;;
+                *:order:-*) words="--limit --spare --stage --plan --cert --old --help" ;;
                 *:lint:-*) words="--risks --help" ;;
                 *:survive:-*) words="--risks --risks-only --totals --help" ;;
                 *:check:-*) words="--limit --spare --help" ;;

@@ -471,9 +471,10 @@ def case_of(example):
         plan, script, cert = texts
         return f"checked{bounds}", b"---\n".join([plan, cert, script])
     drawn = " ".join(["draw"] + [it for it in map(example.option, ["--code", "--limit", "--spare"]) if it])
-    kinds = {"run": telling_of(example.words), "draw": drawn, "codes": "codes", "grade": "grade"} | {it: it + bounds for it in ("check", "audit", "change", "mend")}
+    kinds = {"run": telling_of(example.words), "draw": drawn, "codes": "codes", "grade": "grade"} | {it: it + bounds for it in ("check", "audit")}
     staged = example.option("--stage")
-    kinds |= {"order": f"stage{bounds} {staged}" if staged else f"order{bounds}"}
+    old = " --old" * ("--old" in example.words)
+    kinds |= {"mend": f"mend{bounds}{old}", "change": f"change{bounds}{old}", "order": f"stage{bounds} {staged}" if staged else f"order{bounds}{old}"}
     kinds |= {"survive": "survive" if example.option("--risks") else "survive alone", "trace": asked_of(example, "--down"), "fill": asked_of(example, "--down"), "lint": " ".join(["lint", *["risks"] * bool(example.option("--risks")), *example.words[1:2]])}
     if example.option("--group"):
         kinds["trace"] = f"trace group {example.option('--group')}"

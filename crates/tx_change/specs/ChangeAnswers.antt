@@ -1,5 +1,5 @@
--- What the ranking of a change answers.
-use Rattle.std.specs.Prelude.{◌≡◌, ◌≢◌, ℕ, List, []}
+-- What the judgement on a change answers.
+use Rattle.std.specs.Prelude.{◌≡◌, ◌≢◌, ℕ, Bool, List, []}
 use Rattle.std.specs.List.{AllByRecursion}
 use Rattle.tx_text.specs.Ends.{StopsIn, Output}
 use Rattle.tx_plan.specs.Plan.{Plan}
@@ -8,12 +8,13 @@ use Rattle.tx_machine.specs.Sound.{IsSound}
 use Rattle.tx_check.specs.declared.verdict.Verdict.TheVariants.{Yes}
 use Rattle.tx_check.specs.Checks.{check_faults, ranks_for, verdict_of}
 use Rattle.tx_rank.specs.declared.finding.Finding.{Finding}
-use Rattle.tx_rank.specs.declared.ranking.Ranking.{Ranking}
-use Rattle.tx_rank.specs.declared.ranking.Ranking.TheVariants.{Found, Fails}
+use Rattle.tx_rank.specs.declared.ranking.Ranking.TheVariants.{Fails}
 use Rattle.tx_rank.specs.Grades.{CanBeCertified}
-use Rattle.tx_rank.specs.Report.{findings_of}
 use Rattle.tx_plan.specs.Mixtures.{EachMixture, AreCommon}
 use Rattle.tx_machine.specs.ChangingRuns.{IsSoundChange, HasFewRoutesMeanwhile, SufficesMeanwhile}
+use Rattle.tx_audit.specs.Audits.{IsRightRanking, IsCleared as PlanIsCleared}
+use Rattle.tx_change.specs.declared.judging.ChangeVerdict.{ChangeVerdict}
+use Rattle.tx_change.specs.declared.judging.ChangeVerdict.TheVariants.{Sound, Unsound, NewUnsound}
 use Rattle.tx_change.specs.ChangeFindings.{AreChangeFindings}
 use Rattle.tx_change.specs.Shown.{IsShown}
 use Rattle.tx_change.specs.ChangeReport.{change_report}
@@ -40,15 +41,32 @@ pub record IsDenied {A : Type 0} (old new : Plan) (limit spare : ℕ)
   pub shown : AllByRecursion (IsShown old new limit spare) findings
   pub uncertified : EachMixture old new (λ m. CanBeCertified m limit spare) → ⊥
 
-module _ {A : Type 0} where
-  -- YES with a certificate that clears the change, or NO with findings that deny it
-  abbrev pub IsRightChange : (old new : Plan) → (limit spare : ℕ) → Ranking A → Type 0
-  IsRightChange old new limit spare (Found cert) = IsCleared old new limit spare cert
-  IsRightChange old new limit spare (Fails findings) = IsDenied old new limit spare findings.items
+-- some certificate clears the change
+abbrev pub IsClearedChange : (old new : Plan) → (limit spare : ℕ) → Type 0
+IsClearedChange old new limit spare = (cert : Certificate) × IsCleared old new limit spare cert
 
--- a ranking that is right, whose report was written in part
-pub record ChangeToldInPart (A : Type 0) (old new : Plan) (limit spare : ℕ) (out : Output)
-    : Type 0 where
-  pub ranking : Ranking A
-  pub right : IsRightChange old new limit spare ranking
-  pub wrote : StopsIn out.old out.new (change_report old limit spare (findings_of ranking))
+-- some certificate clears the plan as it is
+abbrev pub IsClearedPlan : Plan → (limit spare : ℕ) → Type 0
+IsClearedPlan p limit spare = (cert : Certificate) × PlanIsCleared p cert limit spare
+
+module _ {A : Type 0} where
+  -- Over the joined network and of the new plan as it is: YES with a certificate that clears the
+  -- change, where one clears the new plan too. NO with findings that deny the change, or where it
+  -- is cleared with findings of the new plan.
+  abbrev pub IsRightVerdict : (before after new : Plan) → (limit spare : ℕ) → ChangeVerdict A
+      → Type 0
+  IsRightVerdict before after new limit spare (Sound cert) =
+      IsCleared before after limit spare cert × IsClearedPlan new limit spare
+  IsRightVerdict before after new limit spare (Unsound findings) =
+      IsDenied before after limit spare findings.items
+  IsRightVerdict before after new limit spare (NewUnsound findings) =
+      IsClearedChange before after limit spare
+      × IsRightRanking new limit spare (Fails findings)
+
+-- a verdict that is right, whose report was written in part
+pub record ChangeToldInPart (A : Type 0) (old new before after : Plan) (with_old : Bool)
+    (limit spare : ℕ) (out : Output) : Type 0 where
+  pub verdict : ChangeVerdict A
+  pub right : IsRightVerdict before after new limit spare verdict
+  pub wrote : StopsIn out.old out.new
+      (change_report with_old old new before after limit spare verdict)

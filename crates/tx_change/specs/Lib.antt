@@ -5,4 +5,5 @@ pub mod MixtureShown
 pub mod Difference
 pub mod ChangeReport
 pub mod ChangeAnswers
+pub mod ClosedCodes
 pub mod inner

@@ -48,3 +48,22 @@ module _ {A : Type 0} where
   MixtureAnswer old new limit spare findings None = first_walked findings ≡ None
   MixtureAnswer old new limit spare findings (Some m) =
       ShowsFirstWalk old new limit spare findings m.plan (option_map (λ v. v.items) m.events)
+
+  -- The plan is the new one as it is, and a finding of it is the first that has a walk. The events
+  -- are those of this finding, and show it there. A loop that turns back on one circuit has none.
+  pub record ShowsNewPlan (new : Plan) (limit spare : ℕ) (findings : List (Finding A)) (m : Plan)
+      (events : Option (List Event)) : Type 0 where
+    pub plan : m ≡ new
+    pub finding : Finding A
+    pub first : first_walked findings ≡ Some finding
+    pub counter : events ≡ counter_of m finding
+    pub which : is_some events ≡ has_counter m finding
+    pub shows : IfSome events (λ es. Shows m limit spare finding es)
+    pub writable : IfSome events (λ es. AllByRecursion (IsWritable m) es)
+
+  -- The new plan as it is with these events: there is none where no finding of it has a walk
+  abbrev pub NewPlanAnswer : (new : Plan) → (limit spare : ℕ) → List (Finding A)
+      → Option (ShownMixture A) → Type 0
+  NewPlanAnswer new limit spare findings None = first_walked findings ≡ None
+  NewPlanAnswer new limit spare findings (Some m) =
+      ShowsNewPlan new limit spare findings m.plan (option_map (λ v. v.items) m.events)

@@ -1,4 +1,4 @@
-// What a finding of a change shows.
+// The laws of a change.
 ghost use Rattle.std.specs.Prelude.{ℕ};
 ghost use Rattle.tx_plan.specs.Plan.{Plan};
 ghost use Rattle.tx_plan.specs.Rules.{IsPlan};
@@ -6,6 +6,7 @@ ghost use Rattle.tx_rank.specs.declared.finding.Finding.{Finding};
 ghost use Rattle.tx_rank.specs.Grades.{CanBeCertified};
 ghost use Rattle.tx_plan.specs.Mixtures.{SameNetwork};
 ghost use Rattle.tx_change.specs.ChangeNets.{IsTrueOfChange};
+ghost use Rattle.tx_change.specs.ClosedCodes.{ClosedCodesStay, NewCodesStay};
 ghost use Rattle.tx_change.specs.Shown.{shown_by, IsShown};
 
 use std::alloc::Allocator;
@@ -20,4 +21,11 @@ pub fn findings_show_mixtures<A: Allocator>()
         → IsPlan old → IsPlan new → SameNetwork old new
         → IsTrueOfChange old new limit spare f
         → CanBeCertified (shown_by old new spare f) limit spare → ⊥ }
+{}
+
+/// No call for a code that both plans have closed leaves the exchange where it started, whichever
+/// mixture is in force. Over a joined network the codes that the new plan alone has are such.
+pub fn closed_codes_stay()
+    ensures closed { ClosedCodesStay }
+    ensures new { NewCodesStay }
 {}

@@ -3,8 +3,9 @@ ghost use Rattle.std.specs.Prelude.{◌≡◌, IfOk};
 ghost use Rattle.std.specs.List.{AllByRecursion};
 ghost use Rattle.std.specs.Option.{option_map};
 ghost use Rattle.tx_plan.specs.Mixtures.{SameNetwork};
+ghost use Rattle.tx_rank.specs.Findings.{IsTrueOf};
 ghost use Rattle.tx_change.specs.Shown.{IsShown};
-ghost use Rattle.tx_change.specs.MixtureShown.{has_walk, first_walked, ShowsMixture, MixtureAnswer};
+ghost use Rattle.tx_change.specs.MixtureShown.{has_walk, first_walked, ShowsMixture, MixtureAnswer, NewPlanAnswer};
 
 use crate::showing::shown;
 use std::alloc::{Allocator, Global};
@@ -62,6 +63,26 @@ fn show_mixture<A: Allocator + Copy>(
     let plan = shown(alloc, old, new, limits.spare, finding)?;
     let events = counter(alloc, &plan, finding, limits.limit, limits.spare)?;
     Ok(ShownMixture { plan, events })
+}
+
+/// The new plan as it is, and the events that show there the first of its findings that has a walk.
+/// `None` where no finding has a walk. `Err` means out of memory.
+pub fn new_plan_shown<A: Allocator + Copy>(
+    alloc: A,
+    new: Plan<A>,
+    findings: &[Finding<A>],
+    limits: Limits,
+) -> Result<Option<ShownMixture<A>>, NoMemory>
+    requires { AllByRecursion (IsTrueOf new limits.limit limits.spare) findings.now }
+    ensures { IfOk result (NewPlanAnswer new limits.limit limits.spare findings.now) }
+{
+    match first_walked(findings) {
+        Some(finding) => {
+            let events = counter(alloc, &new, finding, limits.limit, limits.spare)?;
+            Ok(Some(ShownMixture { plan: new, events }))
+        }
+        None => Ok(None),
+    }
 }
 
 /// The first finding that has a walk.

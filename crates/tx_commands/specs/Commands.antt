@@ -16,9 +16,9 @@ use Rattle.tx_commands.specs.declared.command.Command.TheVariants.{Pipe, Run, Ru
 abbrev pub IsInRange : Command → Type 0
 IsInRange (Run plan script (Some (cert, limit, spare))) = (limit ≤ 62) × (spare ≤ 15)
 IsInRange (Audit plan limit spare cert counter) = (limit ≤ 62) × (spare ≤ 15)
-IsInRange (Change old new limit spare cert mixture counter) = (limit ≤ 62) × (spare ≤ 15)
-IsInRange (Order old new limit spare stage plan cert) = (limit ≤ 62) × (spare ≤ 15)
-IsInRange (Mend plan limit spare mended cert) = (limit ≤ 62) × (spare ≤ 15)
+IsInRange (Change old new limit spare cert mixture counter with_old) = (limit ≤ 62) × (spare ≤ 15)
+IsInRange (Order old new limit spare stage plan cert with_old) = (limit ≤ 62) × (spare ≤ 15)
+IsInRange (Mend plan limit spare mended cert with_old) = (limit ≤ 62) × (spare ≤ 15)
 IsInRange (Check plan cert limit spare) = (limit ≤ 62) × (spare ≤ 15)
 IsInRange (Draw plan (Some (code, Some (limit, spare)))) = (limit ≤ 62) × (spare ≤ 15)
 IsInRange other = Unit {0}
@@ -33,9 +33,9 @@ IsInRange-prop (Check plan cert limit spare) = ×_prop le_prop le_prop
 IsInRange-prop (Lint plan risks) = Unit-prop
 IsInRange-prop (Codes plan) = Unit-prop
 IsInRange-prop (Audit plan limit spare cert counter) = ×_prop le_prop le_prop
-IsInRange-prop (Change old new limit spare cert mixture counter) = ×_prop le_prop le_prop
-IsInRange-prop (Order old new limit spare stage plan cert) = ×_prop le_prop le_prop
-IsInRange-prop (Mend plan limit spare mended cert) = ×_prop le_prop le_prop
+IsInRange-prop (Change old new limit spare cert mixture counter with_old) = ×_prop le_prop le_prop
+IsInRange-prop (Order old new limit spare stage plan cert with_old) = ×_prop le_prop le_prop
+IsInRange-prop (Mend plan limit spare mended cert with_old) = ×_prop le_prop le_prop
 IsInRange-prop (Survive plan risks totals) = Unit-prop
 IsInRange-prop (Grade plan) = Unit-prop
 IsInRange-prop (Trace plan exchange code down) = Unit-prop
@@ -110,23 +110,28 @@ Asks name found (Audit plan limit spare cert counter) =
     × Gives found (codes "limit") limit × Gives found (codes "spare") spare
     × (first_of (codes "cert") found ≡ option_map string_bytes cert)
     × (first_of (codes "counter") found ≡ option_map string_bytes counter)
-Asks name found (Change old new limit spare cert mixture counter) =
-    (name ≡ codes "change") × Names found (codes "old") old × Names found (codes "new") new
+Asks name found (Change old new limit spare cert mixture counter with_old) =
+    (name ≡ codes "change") × Names found (codes "before") old
+    × Names found (codes "after") new
     × Gives found (codes "limit") limit × Gives found (codes "spare") spare
     × (first_of (codes "cert") found ≡ option_map string_bytes cert)
     × (first_of (codes "mixture") found ≡ option_map string_bytes mixture)
     × (first_of (codes "counter") found ≡ option_map string_bytes counter)
-Asks name found (Order old new limit spare stage plan cert) =
-    (name ≡ codes "order") × Names found (codes "old") old × Names found (codes "new") new
+    × (is_set found (codes "old") ≡ with_old)
+Asks name found (Order old new limit spare stage plan cert with_old) =
+    (name ≡ codes "order") × Names found (codes "before") old
+    × Names found (codes "after") new
     × Gives found (codes "limit") limit × Gives found (codes "spare") spare
     × GivesIfAny found (codes "stage") stage
     × (first_of (codes "plan") found ≡ option_map string_bytes plan)
     × (first_of (codes "cert") found ≡ option_map string_bytes cert) × AreOfStage stage plan cert
-Asks name found (Mend plan limit spare mended cert) =
-    (name ≡ codes "mend") × Names found (codes "old") plan
+    × (is_set found (codes "old") ≡ with_old)
+Asks name found (Mend plan limit spare mended cert with_old) =
+    (name ≡ codes "mend") × Names found (codes "before") plan
     × Gives found (codes "limit") limit × Gives found (codes "spare") spare
     × (first_of (codes "plan") found ≡ option_map string_bytes mended)
     × (first_of (codes "cert") found ≡ option_map string_bytes cert)
+    × (is_set found (codes "old") ≡ with_old)
 Asks name found (Survive plan None totals) =
     (name ≡ codes "survive") × Names found (codes "plan") plan
     × (first_of (codes "risks") found ≡ None) × (is_set found (codes "risks-only") ≡ false)
@@ -217,11 +222,11 @@ reads_of (Lint plan None) = one_read (string_bytes plan)
 reads_of (Lint plan (Some risks)) = two_read (string_bytes plan) (string_bytes risks)
 reads_of (Codes plan) = one_read (string_bytes plan)
 reads_of (Audit plan limit spare cert counter) = one_read (string_bytes plan)
-reads_of (Change old new limit spare cert mixture counter) =
+reads_of (Change old new limit spare cert mixture counter with_old) =
     two_read (string_bytes old) (string_bytes new)
-reads_of (Order old new limit spare stage plan cert) =
+reads_of (Order old new limit spare stage plan cert with_old) =
     two_read (string_bytes old) (string_bytes new)
-reads_of (Mend plan limit spare mended cert) = one_read (string_bytes plan)
+reads_of (Mend plan limit spare mended cert with_old) = one_read (string_bytes plan)
 reads_of (Survive plan None totals) = one_read (string_bytes plan)
 reads_of (Survive plan (Some (risks, only)) totals) =
     two_read (string_bytes plan) (string_bytes risks)
@@ -249,17 +254,17 @@ made_by (Audit plan limit spare cert counter) = record {
   cert = option_map string_bytes cert;
   script = option_map string_bytes counter;
 }
-made_by (Change old new limit spare cert mixture counter) = record {
+made_by (Change old new limit spare cert mixture counter with_old) = record {
   plan = option_map string_bytes mixture;
   cert = option_map string_bytes cert;
   script = option_map string_bytes counter;
 }
-made_by (Order old new limit spare stage plan cert) = record {
+made_by (Order old new limit spare stage plan cert with_old) = record {
   plan = option_map string_bytes plan;
   cert = option_map string_bytes cert;
   script = None;
 }
-made_by (Mend plan limit spare mended cert) = record {
+made_by (Mend plan limit spare mended cert with_old) = record {
   plan = option_map string_bytes mended;
   cert = option_map string_bytes cert;
   script = None;

@@ -77,9 +77,9 @@ audit_words =
 -- a command with a plan, and an option that names another one, so the plan goes by another id
 abbrev pub mend_words : App
 mend_words =
-    with_rule (with_rule (with_rule (with_rule (with_rule
-    (new_app (codes "mend")) (file (codes "old"))) (needed limit)) (needed spare))
-    (option (codes "plan"))) (option (codes "cert"))
+    with_rule (with_rule (with_rule (with_rule (with_rule (with_rule
+    (new_app (codes "mend")) (file (codes "before"))) (needed limit)) (needed spare))
+    (option (codes "plan"))) (option (codes "cert"))) (flag (codes "old"))
 
 -- the arguments of `survive`
 abbrev pub survive_words : App
@@ -108,15 +108,18 @@ fill_words =
 
 -- a command whose words are two plans
 abbrev pub change_words : App
-change_words = with_rule (with_rule (with_rule (with_rule (with_rule (with_rule (with_rule
-    (new_app (codes "change")) (file (codes "old"))) (file (codes "new"))) (needed limit))
-    (needed spare)) (option (codes "cert"))) (option (codes "mixture"))) (option (codes "counter"))
+change_words =
+    with_rule (with_rule (with_rule (with_rule (with_rule (with_rule (with_rule (with_rule
+    (new_app (codes "change")) (file (codes "before"))) (file (codes "after"))) (needed limit))
+    (needed spare)) (option (codes "cert"))) (option (codes "mixture"))) (option (codes "counter")))
+    (flag (codes "old"))
 
 -- two plans, and what is to be made of a stage
 abbrev pub order_words : App
-order_words = with_rule (with_rule (with_rule (with_rule (with_rule (with_rule (with_rule
-    (new_app (codes "order")) (file (codes "old"))) (file (codes "new"))) (needed limit))
-    (needed spare)) stage) (option (codes "plan"))) (option (codes "cert"))
+order_words =
+    with_rule (with_rule (with_rule (with_rule (with_rule (with_rule (with_rule (with_rule
+    (new_app (codes "order")) (file (codes "before"))) (file (codes "after"))) (needed limit))
+    (needed spare)) stage) (option (codes "plan"))) (option (codes "cert"))) (flag (codes "old"))
 
 -- the arguments of `draw`
 abbrev pub draw_words : App

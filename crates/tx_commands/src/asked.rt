@@ -150,11 +150,12 @@ pub(crate) fn change_of(alloc: Global, matches: &ArgMatches<'_>) -> Result<Comma
     ensures refused { IfErr result
         (IsRefused (Some (codes "change", rows_of (found_of matches.now)))) }
 {
-    let old = text(alloc, matches, "old")?;
-    let new = text(alloc, matches, "new")?;
+    let old = text(alloc, matches, "before")?;
+    let new = text(alloc, matches, "after")?;
     let cert = text(alloc, matches, "cert")?;
     let mixture = text(alloc, matches, "mixture")?;
     let counter = text(alloc, matches, "counter")?;
+    let with_old = is_set(matches, "old");
     let (limit, spare) = limits(alloc, matches)?;
     match (old, new) {
         (Some(old), Some(new)) => Ok(Command::Change {
@@ -165,6 +166,7 @@ pub(crate) fn change_of(alloc: Global, matches: &ArgMatches<'_>) -> Result<Comma
             cert,
             mixture,
             counter,
+            with_old,
         }),
         _ => Err(Misuse::Incomplete),
     }
@@ -177,8 +179,8 @@ pub(crate) fn order_of(alloc: Global, matches: &ArgMatches<'_>) -> Result<Comman
     ensures refused { IfErr result
         (IsRefused (Some (codes "order", rows_of (found_of matches.now)))) }
 {
-    let old = text(alloc, matches, "old")?;
-    let new = text(alloc, matches, "new")?;
+    let old = text(alloc, matches, "before")?;
+    let new = text(alloc, matches, "after")?;
     let plan = text(alloc, matches, "plan")?;
     let cert = text(alloc, matches, "cert")?;
     let stage = if is_given(matches, "stage") {
@@ -188,6 +190,7 @@ pub(crate) fn order_of(alloc: Global, matches: &ArgMatches<'_>) -> Result<Comman
     } else {
         None
     };
+    let with_old = is_set(matches, "old");
     let (limit, spare) = limits(alloc, matches)?;
     match (old, new) {
         (Some(old), Some(new)) => Ok(Command::Order {
@@ -198,6 +201,7 @@ pub(crate) fn order_of(alloc: Global, matches: &ArgMatches<'_>) -> Result<Comman
             stage,
             plan,
             cert,
+            with_old,
         }),
         _ => Err(Misuse::Incomplete),
     }
@@ -211,9 +215,10 @@ pub(crate) fn mend_of(alloc: Global, matches: &ArgMatches<'_>) -> Result<Command
     ensures refused { IfErr result
         (IsRefused (Some (codes "mend", rows_of (found_of matches.now)))) }
 {
-    let plan = text(alloc, matches, "old")?;
+    let plan = text(alloc, matches, "before")?;
     let mended = text(alloc, matches, "plan")?;
     let cert = text(alloc, matches, "cert")?;
+    let with_old = is_set(matches, "old");
     let (limit, spare) = limits(alloc, matches)?;
     match plan {
         Some(plan) => Ok(Command::Mend {
@@ -222,6 +227,7 @@ pub(crate) fn mend_of(alloc: Global, matches: &ArgMatches<'_>) -> Result<Command
             spare,
             mended,
             cert,
+            with_old,
         }),
         None => Err(Misuse::Incomplete),
     }

@@ -48,8 +48,9 @@ pub enum Command {
         cert: Option<String>,
         counter: Option<String>,
     },
-    /// `change OLD NEW --limit L --spare K`: the certificate goes to a file, if one is named, and
-    /// so do the mixture and the counter script.
+    /// `change OLD NEW --limit L --spare K`, with the lists that change and those that they replace
+    /// if they are asked for: the certificate goes to a file, if one is named, and so do the
+    /// mixture and the counter script.
     Change {
         old: String,
         new: String,
@@ -58,9 +59,11 @@ pub enum Command {
         cert: Option<String>,
         mixture: Option<String>,
         counter: Option<String>,
+        with_old: bool,
     },
-    /// `order OLD NEW --limit L --spare K`. With the number of a stage the plan after it goes to a
-    /// file, if one is named, and so does the certificate of the stage.
+    /// `order OLD NEW --limit L --spare K`, with the lists that are replaced if they are asked for.
+    /// With the number of a stage the plan after it goes to a file, if one is named, and so does
+    /// the certificate of the stage.
     Order {
         old: String,
         new: String,
@@ -69,15 +72,17 @@ pub enum Command {
         stage: Option<u8>,
         plan: Option<String>,
         cert: Option<String>,
+        with_old: bool,
     },
-    /// `mend PLAN --limit L --spare K`: the mended plan goes to a file, if one is named, and so
-    /// does its certificate.
+    /// `mend PLAN --limit L --spare K`, with the lists that are replaced if they are asked for: the
+    /// mended plan goes to a file, if one is named, and so does its certificate.
     Mend {
         plan: String,
         limit: u8,
         spare: u8,
         mended: Option<String>,
         cert: Option<String>,
+        with_old: bool,
     },
     /// `survive PLAN`, with the named risks of a file, if one is named. The flag with them: these
     /// alone. The other flag: totals alone.

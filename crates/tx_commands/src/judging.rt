@@ -77,6 +77,10 @@ fn grade_grammar<'a>(alloc: Global) -> Result<clap::Command<'a>, AllocError>
     .command
 }
 
+/// What the help says of the old lists.
+const WITH_OLD: &str = "Print a line WAS group .. after each ROUTE or DROP, with
+the list that it replaces";
+
 const MEND_HELP: &str = "Example: telexplan mend own.plan --limit 1 --spare 1 --plan new.plan
 
 Exit status: 0 after YES, 1 after NO, 2 for a refused text, 3 for a failed read
@@ -91,7 +95,7 @@ fn mend_grammar<'a>(alloc: Global) -> Result<clap::Command<'a>, AllocError>
         "Find lists with which a plan is safe, or whom no lists serve",
         MEND_HELP,
     )
-    .file("old", "PLAN", PLAN)
+    .file("before", "PLAN", PLAN)
     .limits(true)
     .option(
         "plan",
@@ -103,19 +107,19 @@ fn mend_grammar<'a>(alloc: Global) -> Result<clap::Command<'a>, AllocError>
         "CERT",
         "After YES, write a certificate of that plan to this file",
     )
+    .flag("old", WITH_OLD)
     .command
 }
 
 const OLD_PLAN: &str = "The plan that is in force; - is standard input";
 
-const NEW_PLAN: &str = "The plan that is to be: the same network with other routes and
-bars; - is standard input";
+const NEW_PLAN: &str = "The plan that is to be; - is standard input";
 
 const CHANGE_HELP: &str = "Example: telexplan change own.plan new.plan --limit 1 --spare 1
 
-Exit status: 0 after YES, 1 after NO, 2 for a refused text and for plans of two
-networks, 3 for a failed read or write, 4 when out of memory, 64 for refused
-words";
+Exit status: 0 after YES, 1 after NO, 2 for a refused text and for plans that
+contradict each other, 3 for a failed read or write, 4 when out of memory, 64
+for refused words";
 
 fn change_grammar<'a>(alloc: Global) -> Result<clap::Command<'a>, AllocError>
     ensures { IfOk result (λ c. app_of c ≡ grammar.change_words) }
@@ -126,8 +130,8 @@ fn change_grammar<'a>(alloc: Global) -> Result<clap::Command<'a>, AllocError>
         "Say whether a plan is safe while its lists change into others",
         CHANGE_HELP,
     )
-    .file("old", "OLD", OLD_PLAN)
-    .file("new", "NEW", NEW_PLAN)
+    .file("before", "OLD", OLD_PLAN)
+    .file("after", "NEW", NEW_PLAN)
     .limits(true)
     .option(
         "cert",
@@ -147,14 +151,19 @@ file that shows the first finding that has a walk",
         "After NO, write a script to this file that shows the
 same finding in that plan, if there is one",
     )
+    .flag(
+        "old",
+        "Print each list that changes, and after it a line
+WAS group .. with the list that it replaces",
+    )
     .command
 }
 
 const ORDER_HELP: &str = "Example: telexplan order own.plan new.plan --limit 1 --spare 1
 
-Exit status: 0 after YES, 1 after NO, 2 for a refused text and for plans of two
-networks, 3 for a failed read or write, 4 when out of memory, 64 for refused
-words, and for a stage that the order does not have";
+Exit status: 0 after YES, 1 after NO, 2 for a refused text and for plans that
+contradict each other, 3 for a failed read or write, 4 when out of memory, 64
+for refused words, and for a stage that the order does not have";
 
 fn order_grammar<'a>(alloc: Global) -> Result<clap::Command<'a>, AllocError>
     ensures { IfOk result (λ c. app_of c ≡ grammar.order_words) }
@@ -165,8 +174,8 @@ fn order_grammar<'a>(alloc: Global) -> Result<clap::Command<'a>, AllocError>
         "Say in which stages a plan can change into another, if it can",
         ORDER_HELP,
     )
-    .file("old", "OLD", OLD_PLAN)
-    .file("new", "NEW", NEW_PLAN)
+    .file("before", "OLD", OLD_PLAN)
+    .file("after", "NEW", NEW_PLAN)
     .limits(true)
     .stage()
     .option(
@@ -180,6 +189,7 @@ fn order_grammar<'a>(alloc: Global) -> Result<clap::Command<'a>, AllocError>
         "After YES, write a certificate of the plans before and
 after that stage to this file",
     )
+    .flag("old", WITH_OLD)
     .command
 }
 

@@ -2,7 +2,7 @@
 use crate::code_table::Entry;
 
 /// The words of reports, of a plan and of a certificate.
-pub static REPORT_WORDS: [Entry; 44] = [
+pub static REPORT_WORDS: [Entry; 48] = [
     [
         "VERDICT",
         "Verdict",
@@ -73,13 +73,25 @@ pub static REPORT_WORDS: [Entry; 44] = [
         "OLD",
         "OldPlan",
         "The finding is of the plan that is in force.",
-        "Mend that plan first: telexplan mend finds lists.",
+        "Mend that plan first: telexplan mend finds lists. With F1, a code of one plan begins one of the other.",
     ],
     [
         "NEW",
         "NewPlan",
-        "The finding is of the plan that is to be.",
-        "Mend that plan first: telexplan mend finds lists.",
+        "The finding is of the plan that is to be, or that plan has it and the old one has not.",
+        "Mend that plan first: telexplan mend finds lists. If an audit of it says YES, calls still start at lines of the old plan where it has no list: keep the list there, and let it go in a change of its own.",
+    ],
+    [
+        "GONE",
+        "Gone",
+        "The old plan has it, and the new one has not.",
+        "Look at it: it is taken away after the last switch.",
+    ],
+    [
+        "CIRCUITS",
+        "CircuitsChanged",
+        "Both plans have the group, with so many circuits in the old one and in the new one.",
+        "Nothing: both plans are judged with the greater number.",
     ],
     [
         "MEND",
@@ -98,6 +110,12 @@ pub static REPORT_WORDS: [Entry; 44] = [
         "DropList",
         "The exchange has a list for the code, and is to have none.",
         "Take the ROUTE line out of the plan.",
+    ],
+    [
+        "WAS",
+        "OldList",
+        "The list that the line above replaces. Without groups: there was none.",
+        "Nothing: it was asked for by --old.",
     ],
     [
         "BAR",
@@ -144,7 +162,7 @@ pub static REPORT_WORDS: [Entry; 44] = [
     [
         "GROUPS",
         "OtherGroups",
-        "So many groups cut off nobody if they fail alone.",
+        "So many groups cut off nobody if they fail alone. In a line UNSERVED, so many groups lead to exchanges that can be served within the limit.",
         "Nothing: calls go by other groups.",
     ],
     [
@@ -198,7 +216,7 @@ pub static REPORT_WORDS: [Entry; 44] = [
     [
         "RANK",
         "Rank",
-        "A number of an exchange for a code. Each group of each list leads to a smaller one, so no call comes back. In a trace it is the number of steps of the longest way home.",
+        "A number of an exchange for a code. Each group of each list leads to a smaller one, so no call comes back. In a trace it is the number of steps of the longest way home. In a line UNSERVED, the smallest that the exchange can have.",
         "telexplan audit --cert writes the ranks of a safe plan.",
     ],
     [
@@ -228,8 +246,14 @@ pub static REPORT_WORDS: [Entry; 44] = [
     [
         "CODE",
         "DestinationCode",
-        "A destination code, with its home or its grade.",
+        "A destination code, with its home, its grade, or how many exchanges cannot be served for it.",
         "telexplan trace shows how calls for it go.",
+    ],
+    [
+        "MISSING",
+        "GroupsMissing",
+        "From each exchange behind it some groups lead to exchanges that can be served within the limit, and so many more are needed.",
+        "Add groups from there to an exchange that can be served within the limit.",
     ],
     [
         "DISTINCT",

@@ -33,14 +33,14 @@ read_failed done answer r told fails f = told ∙ ap (told_done done) (fails f)
 pub uncalled : {S : Type 0} (called : ℕ → Result ℕ ReadFault → S → S → Type 0) (s : S) → CallsAtMost called source_calls s s
 uncalled called s = calls_so_far called source_calls source_calls s s (went_none called source_calls s)
 
+pub some_mapped : {T U : Type 0} (h : T → U) (o : Option T) → is_some o ≡ is_some (option_map h o)
+some_mapped h None = refl
+some_mapped h (Some x) = refl
+
 -- a file is named exactly where the command has a name for it
 pub is_named : {X Y Z : Type 0} (f : X → Z) (g : Y → Z) (a : Option X) (b : Option Y)
     → option_map f a ≡ option_map g b → is_some a ≡ is_some b
 is_named f g a b same = some_mapped f a ∙ ap is_some same ∙ sym (some_mapped g b)
-  where
-    some_mapped : {T U : Type 0} (h : T → U) (o : Option T) → is_some o ≡ is_some (option_map h o)
-    some_mapped h None = refl
-    some_mapped h (Some x) = refl
 
 -- one of two files is named
 pub one_named : {X : Type 0} (a b : Option X) → is_some (option_or a b) ≡ (is_some a || is_some b)

@@ -6,7 +6,7 @@ use Rattle.tx_audit.specs.declared.audited.Audited.{Audited}
 use Rattle.tx_audit.specs.declared.audited.Audited.TheVariants.{Sound as FoundSound, Unsound as FoundUnsound}
 use Rattle.tx_jobs.specs.declared.evidence.Evidence.{Evidence}
 use Rattle.tx_jobs.specs.declared.job_fault.JobFault.{JobFault}
-use Rattle.tx_jobs.specs.declared.job_fault.JobFault.TheVariants.{Plan as PlanFault, Cert, Script, Read, Write, NoMemory, OldPlan, NewPlan, TwoNetworks, Risks, NoSuchStage, NoSuchExchange, NoSuchCode, NoSuchGroup}
+use Rattle.tx_jobs.specs.declared.job_fault.JobFault.TheVariants.{Plan as PlanFault, Cert, Script, Read, Write, NoMemory, OldPlan, NewPlan, Contradiction, TooManyTogether, Risks, NoSuchStage, NoSuchExchange, NoSuchCode, NoSuchGroup}
 use Rattle.tx_jobs.specs.JobFaults.{mark_after}
 use Rattle.tx_jobs.specs.Evidences.{IsScriptOf, IsEvidenceOf}
 
@@ -21,7 +21,8 @@ module _ {A : Type 0} (old : Bool) (limit spare : ℕ) where
   script_mark p findings (Err NoMemory) h = refl
   script_mark p findings (Err (OldPlan f)) h = absurd h
   script_mark p findings (Err (NewPlan f)) h = absurd h
-  script_mark p findings (Err (TwoNetworks d)) h = absurd h
+  script_mark p findings (Err (Contradiction k)) h = absurd h
+  script_mark p findings (Err TooManyTogether) h = absurd h
   script_mark p findings (Err (Risks f)) h = absurd h
   script_mark p findings (Err (NoSuchStage stages)) h = absurd h
   script_mark p findings (Err NoSuchExchange) h = absurd h

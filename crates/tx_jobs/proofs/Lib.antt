@@ -1,12 +1,15 @@
 mod RefusedTexts
+mod JoinedPlans
 mod Piping
 mod Breaking
 mod CheckedRun
 mod Simulating
 mod ToldRuns
+mod Outcomes
 mod Evidenced
 mod ChangeTold
 mod ChangeEvidenced
+mod OrderTold
 mod Grading
 mod LintTold
 mod Surviving

@@ -11,10 +11,10 @@ use Rattle.tx_jobs.specs.JobFaults.{mark_by}
 use Rattle.tx_jobs.specs.LintJobs.{lint_fault, ToldLint, NotRead, WarnedWithRisks, LookedThrough}
 use Rattle.tx_jobs.specs.declared.job_fault.JobFault.{JobFault}
 
-pub not_read : (plan : Input) (out : Output) (f : LintFault) → (f ≡ Read → plan.broken)
-    → out.silent → NotRead plan out (Err (lint_fault f))
-not_read plan out Read broken silent = (broken refl, silent)
-not_read plan out NoMemory broken silent = silent
+pub not_read : (X : Type 0) (plan : Input) (out : Output) (f : LintFault) → (f ≡ Read → plan.broken)
+    → out.silent → NotRead {X = X} plan out (Err (lint_fault f))
+not_read X plan out Read broken silent = (broken refl, silent)
+not_read X plan out NoMemory broken silent = silent
 
 pub lint_marked : (old : Bool) (f : LintFault) → old ≡ mark_by old (lint_fault f)
 lint_marked old Read = refl

@@ -22,7 +22,7 @@ use Rattle.tx_audit.specs.declared.audited.AuditFault.{AuditFault}
 use Rattle.tx_audit.specs.declared.audited.AuditFault.TheVariants.{Plan as AuditPlan, Write as AuditWrite, NoMemory as AuditNoMemory}
 use Rattle.tx_audit.specs.Audits.{mark_by as audit_mark_by}
 use Rattle.tx_jobs.specs.declared.job_fault.JobFault.{JobFault}
-use Rattle.tx_jobs.specs.declared.job_fault.JobFault.TheVariants.{Plan, Cert, Script, Read, Write, NoMemory, OldPlan, NewPlan, TwoNetworks, Risks, NoSuchStage, NoSuchExchange, NoSuchCode, NoSuchGroup}
+use Rattle.tx_jobs.specs.declared.job_fault.JobFault.TheVariants.{Plan, Cert, Script, Read, Write, NoMemory, OldPlan, NewPlan, Contradiction, TooManyTogether, Risks, NoSuchStage, NoSuchExchange, NoSuchCode, NoSuchGroup}
 use Rattle.tx_order.specs.declared.order_fault.OrderFault.{OrderFault}
 use Rattle.tx_order.specs.declared.order_fault.OrderFault.TheVariants.{NoSuchStage as OrderLacksStage, Write as OrderWrite, NoMemory as OrderNoMemory}
 use Rattle.tx_order.specs.OrderTold.{mark_by as order_mark_by}
@@ -70,7 +70,8 @@ in_plan_mark which leaves old Write = refl
 in_plan_mark which leaves old NoMemory = refl
 in_plan_mark which leaves old (OldPlan f) = refl
 in_plan_mark which leaves old (NewPlan f) = refl
-in_plan_mark which leaves old (TwoNetworks d) = refl
+in_plan_mark which leaves old (Contradiction k) = refl
+in_plan_mark which leaves old TooManyTogether = refl
 in_plan_mark which leaves old (Risks f) = refl
 in_plan_mark which leaves old (NoSuchStage stages) = refl
 in_plan_mark which leaves old NoSuchExchange = refl

@@ -3,9 +3,9 @@ use Rattle.std.specs.Prelude.{◌≡◌, ℕ, Bool, true, false, List, Option, N
 use Rattle.tx_plan.specs.Plan.{Plan}
 use Rattle.tx_machine.specs.declared.event.Event.{Event}
 use Rattle.tx_rank.specs.declared.finding.Finding.{Finding}
-use Rattle.tx_change.specs.MixtureShown.{first_walked, ShowsFirstWalk}
+use Rattle.tx_change.specs.MixtureShown.{first_walked, ShowsFirstWalk, ShowsNewPlan}
 use Rattle.tx_jobs.specs.declared.change.Changed.{Changed}
-use Rattle.tx_jobs.specs.declared.change.Changed.TheVariants.{Sound as FoundSound, Unsound as FoundUnsound}
+use Rattle.tx_jobs.specs.declared.change.Changed.TheVariants.{Sound as FoundSound, Unsound as FoundUnsound, NewUnsound as FoundNewUnsound}
 use Rattle.tx_jobs.specs.declared.job_fault.JobFault.{JobFault}
 use Rattle.tx_jobs.specs.declared.job_fault.JobFault.TheVariants.{NoMemory}
 use Rattle.tx_jobs.specs.declared.mixture.Mixture.{Mixture}
@@ -34,13 +34,29 @@ module _ {A : Type 0} where
   ShowsWalk old new limit spare findings (Some m) =
       ShowsFirstWalk old new limit spare findings (mixture_plan m) (mixture_events m)
 
+  -- what shows it is kept after a No, or there was no memory for it
+  abbrev pub IsKept : (Option (Mixture A) → Type 0) → Result (ChangeEvidence A) JobFault → Type 0
+  IsKept Shows (Ok (Unsound mixture)) = Shows mixture
+  IsKept Shows (Err NoMemory) = Unit {0}
+  IsKept Shows other = ⊥
+
   -- the mixture of some findings, or there was no memory for it
   abbrev pub IsMixtureOf : (old new : Plan) → (limit spare : ℕ) → List (Finding A)
       → Result (ChangeEvidence A) JobFault → Type 0
-  IsMixtureOf old new limit spare findings (Ok (Unsound mixture)) =
-      ShowsWalk old new limit spare findings mixture
-  IsMixtureOf old new limit spare findings (Err NoMemory) = Unit {0}
-  IsMixtureOf old new limit spare findings other = ⊥
+  IsMixtureOf old new limit spare findings = IsKept (ShowsWalk old new limit spare findings)
+
+  -- The plan is the new one as it is, with the events of its first finding that has a walk. There
+  -- is none where no finding has a walk.
+  abbrev pub ShowsNew : (new : Plan) → (limit spare : ℕ) → List (Finding A) → Option (Mixture A)
+      → Type 0
+  ShowsNew new limit spare findings None = first_walked findings ≡ None
+  ShowsNew new limit spare findings (Some m) =
+      ShowsNewPlan new limit spare findings (mixture_plan m) (mixture_events m)
+
+  -- the new plan of some findings, or there was no memory for their events
+  abbrev pub IsNewPlanOf : (new : Plan) → (limit spare : ℕ) → List (Finding A)
+      → Result (ChangeEvidence A) JobFault → Type 0
+  IsNewPlanOf new limit spare findings = IsKept (ShowsNew new limit spare findings)
 
   -- the certificate after a Yes, and the mixture after a No where it is asked for
   abbrev pub IsChangeEvidenceOf : (with_mixture : Bool) → (limit spare : ℕ) → Changed A
@@ -51,6 +67,10 @@ module _ {A : Type 0} where
       IsMixtureOf p q limit spare findings.items result
   IsChangeEvidenceOf false limit spare (FoundUnsound p q findings) result =
       result ≡ Ok (Unsound None)
+  IsChangeEvidenceOf true limit spare (FoundNewUnsound q findings) result =
+      IsNewPlanOf q limit spare findings.items result
+  IsChangeEvidenceOf false limit spare (FoundNewUnsound q findings) result =
+      result ≡ Ok (Unsound None)
 
   -- what shows the verdict on a change, or the fault that stopped it
   abbrev pub TellsChangeEvidence : (with_mixture : Bool) → (limit spare : ℕ)
@@ -60,8 +80,8 @@ module _ {A : Type 0} where
   TellsChangeEvidence with_mixture limit spare (Err fault) result = result ≡ Err fault
 
   -- The change was judged, and then what shows the verdict was made.
-  abbrev pub ChangeEvidenceAnswers : (with_mixture : Bool) → (limit spare : ℕ)
+  abbrev pub ChangeEvidenceAnswers : (with_mixture with_old : Bool) → (limit spare : ℕ)
       → (old new : Input) → Output → Result (ChangeEvidence A) JobFault → Type 0
-  ChangeEvidenceAnswers with_mixture limit spare old new out result =
-      (answer : Result (Changed A) JobFault) × ChangeJobAnswers limit spare old new out answer
+  ChangeEvidenceAnswers with_mixture with_old limit spare old new out result =
+      (answer : Result (Changed A) JobFault) × ChangeJobAnswers with_old limit spare old new out answer
       × TellsChangeEvidence with_mixture limit spare answer result

@@ -3,7 +3,7 @@ use Rattle.std.specs.List.{list_any}
 use Rattle.std.specs.Prelude.{◌≡◌, ℕ, ◌==◌, not, length, ◌&&◌, Bool, true, List, [], ◌∷◌, Option, None, Some, option_map, is_some, ◌||◌, if◌then◌else◌, string_bytes, String, Result, Ok, Err}
 use Rattle.tx_text.specs.declared.source.ReadFault.{ReadFault}
 use Rattle.tx_text.specs.Ends.{Input, Output, input}
-use Rattle.tx_plantext.specs.PlanWritten.{plan_written}
+use Rattle.tx_plan.specs.Plan.{Plan}
 use Rattle.tx_cert.specs.CertText.{cert_written}
 use Rattle.tx_check.specs.declared.verdict.Verdict.TheVariants.{Yes, No}
 use Rattle.tx_mend.specs.declared.mending.Mending.TheVariants.{Mended as IsMended, NoRouting}
@@ -60,25 +60,29 @@ status_of_done (Changed (UnsoundChange mixture)) = 1
 status_of_done (Ordered (IsOrdered stage)) = 0
 status_of_done (Ordered NoOrder) = 1
 status_of_done (Mended (IsMended plan before cert)) = 0
-status_of_done (Mended (NoRouting plan unserved pair)) = 1
+status_of_done (Mended (NoRouting plan unserved missing pair)) = 1
 status_of_done (Graded grade) = if is_some grade.plan then 0 else 1
 status_of_done (Survived survival) = if is_denied survival then 1 else 0
 status_of_done (Filled found) = 0
 status_of_done Written = 0
 
--- what goes into the files: the texts of a plan, of a certificate and of a script, if there are any
+-- the plan that a command makes, if it makes one
+abbrev pub plan_made : {A : Type 0} → Done A → Option Plan
+plan_made (Changed (UnsoundChange (Some m))) = Some (mixture_plan m)
+plan_made (Ordered (IsOrdered (Some (p, cert)))) = Some p
+plan_made (Mended (IsMended p before cert)) = Some p
+plan_made other = None
+
+-- what else goes into files: the texts of a certificate and of a script, if there are any
 abbrev pub texts_of : {A : Type 0} → Done A → List (Option (List ℕ))
-texts_of (Audited (Sound p cert)) = None ∷ Some (cert_written p cert) ∷ None ∷ []
-texts_of (Audited (Unsound (Some s))) =
-    None ∷ None ∷ Some (script_written s.plan s.events.items) ∷ []
-texts_of (Changed (SoundChange p cert)) = None ∷ Some (cert_written p cert) ∷ None ∷ []
-texts_of (Changed (UnsoundChange (Some m))) = Some (plan_written (mixture_plan m)) ∷ None
-    ∷ option_map (script_written (mixture_plan m)) (mixture_events m) ∷ []
-texts_of (Ordered (IsOrdered (Some (p, cert)))) =
-    Some (plan_written p) ∷ Some (cert_written p cert) ∷ None ∷ []
-texts_of (Mended (IsMended p before cert)) =
-    Some (plan_written p) ∷ Some (cert_written p cert) ∷ None ∷ []
-texts_of other = None ∷ None ∷ None ∷ []
+texts_of (Audited (Sound p cert)) = Some (cert_written p cert) ∷ None ∷ []
+texts_of (Audited (Unsound (Some s))) = None ∷ Some (script_written s.plan s.events.items) ∷ []
+texts_of (Changed (SoundChange p cert)) = Some (cert_written p cert) ∷ None ∷ []
+texts_of (Changed (UnsoundChange (Some m))) =
+    None ∷ option_map (script_written (mixture_plan m)) (mixture_events m) ∷ []
+texts_of (Ordered (IsOrdered (Some (p, cert)))) = Some (cert_written p cert) ∷ None ∷ []
+texts_of (Mended (IsMended p before cert)) = Some (cert_written p cert) ∷ None ∷ []
+texts_of other = None ∷ None ∷ []
 
 -- a job's answer, as what was done
 abbrev pub told_done : {X D : Type 0} → (X → D) → Result X JobFault → Result D JobFault
@@ -137,13 +141,14 @@ module _ {P : Type 0} (rest : P → Option (List ℕ)) (failed : P → Bool)
     IsDone (Codes plan) result = Does Listed (CodesJobAnswers first out) result × Alone
     IsDone (Audit plan limit spare cert counter) result =
         Does Audited (EvidenceJobAnswers (is_some counter) limit spare first out) result × Alone
-    IsDone (Change before after limit spare cert mixture counter) result =
-        Does Changed (ChangeEvidenceAnswers (is_some mixture || is_some counter) limit spare
+    IsDone (Change before after limit spare cert mixture counter with_old) result =
+        Does Changed (ChangeEvidenceAnswers (is_some mixture || is_some counter) with_old limit spare
         first second out) result × third.unread
-    IsDone (Order before after limit spare stage plan cert) result =
-        Does Ordered (OrderJobAnswers stage limit spare first second out) result × third.unread
-    IsDone (Mend plan limit spare mended cert) result =
-        Does Mended (MendJobAnswers limit spare first out) result × Alone
+    IsDone (Order before after limit spare stage plan cert with_old) result =
+        Does Ordered (OrderJobAnswers stage with_old limit spare first second out) result
+        × third.unread
+    IsDone (Mend plan limit spare mended cert with_old) result =
+        Does Mended (MendJobAnswers with_old limit spare first out) result × Alone
     IsDone (Survive plan None totals) result =
         Does Survived (SurviveJobAnswers totals first out) result × Alone
     IsDone (Survive plan (Some (risks, only)) totals) result =

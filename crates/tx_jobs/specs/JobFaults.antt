@@ -19,15 +19,14 @@ use Rattle.tx_script.specs.ScriptFaults.{fault_row as script_row}
 use Rattle.tx_risk.specs.declared.fault.RiskWord.{RiskWord}
 use Rattle.tx_risk.specs.declared.fault.RiskWord.TheVariants.{NoMemory as RiskNoMemory}
 use Rattle.tx_risk.specs.RiskFaults.{fault_row as risk_row}
-use Rattle.tx_change.specs.declared.difference.NetworkList.{NetworkList}
-use Rattle.tx_change.specs.declared.difference.NetworkList.TheVariants.{Exchanges, Codes, Ranges, Groups}
-use Rattle.tx_change.specs.declared.difference.Difference.{Difference}
+use Rattle.tx_join.specs.declared.contradiction.Contradiction.{Contradiction as ContradictionOf}
+use Rattle.tx_join.specs.Contradictions.{kind_word}
 use Rattle.tx_jobs.specs.declared.job_fault.JobFault.{JobFault}
-use Rattle.tx_jobs.specs.declared.job_fault.JobFault.TheVariants.{Plan, Cert, Script, Read, Write, NoMemory, OldPlan, NewPlan, TwoNetworks, Risks, NoSuchStage, NoSuchExchange, NoSuchCode, NoSuchGroup}
+use Rattle.tx_jobs.specs.declared.job_fault.JobFault.TheVariants.{Plan, Cert, Script, Read, Write, NoMemory, OldPlan, NewPlan, Contradiction, TooManyTogether, Risks, NoSuchStage, NoSuchExchange, NoSuchCode, NoSuchGroup}
 
--- 2 for a refused text and for plans of two networks, 3 for a read or a write fault, 4 when memory
--- runs out, 64 for an exchange, a code or a group that the plan does not have, and for a stage that
--- the order does not have
+-- 2 for a refused text and for plans that have no joined network, 3 for a read or a write fault, 4
+-- when memory runs out, 64 for an exchange, a code or a group that the plan does not have, and for
+-- a stage that the order does not have
 abbrev pub status_of : JobFault → ℕ
 status_of (Plan f) = 2
 status_of (Cert f) = 2
@@ -37,7 +36,8 @@ status_of Write = 3
 status_of NoMemory = 4
 status_of (OldPlan f) = 2
 status_of (NewPlan f) = 2
-status_of (TwoNetworks d) = 2
+status_of (Contradiction c) = 2
+status_of TooManyTogether = 2
 status_of (Risks f) = 2
 status_of (NoSuchStage stages) = 64
 status_of NoSuchExchange = 64
@@ -125,18 +125,11 @@ abbrev pub text_fault_line : List ℕ → ℕ → List ℕ × List ℕ → List 
 text_fault_line text n row = codes "telexplan: " ++ (text ++ (codes " line "
     ++ (decimal n ++ (codes ": " ++ (row.0 ++ (codes " " ++ (row.1 ++ codes "\n")))))))
 
--- the word that begins the lines of a list
-abbrev pub list_word : NetworkList → List ℕ
-list_word Exchanges = codes "EXCHANGE"
-list_word Codes = codes "CODE"
-list_word Ranges = codes "LINES"
-list_word Groups = codes "GROUP"
-
--- the list, and the number of its first entry that differs, from 1
-abbrev pub difference_line : Difference → List ℕ
-difference_line d =
-    codes "telexplan: plans of two networks: "
-    ++ (list_word d.list ++ (codes " " ++ (decimal (d.index + 1) ++ codes " differs\n")))
+-- what two plans declare in contradiction, by the line of each text that does
+abbrev pub contradiction_line : ContradictionOf → List ℕ
+contradiction_line c = codes "telexplan: old plan line "
+    ++ (decimal c.old_line ++ (codes " and new plan line " ++ (decimal c.new_line
+    ++ (codes ": " ++ (kind_word c.kind ++ (codes " " ++ (c.name ++ codes " differs\n")))))))
 
 -- how many stages there are
 abbrev pub stage_count_line : ℕ → List ℕ
@@ -153,7 +146,9 @@ fault_line Write = codes "telexplan: write fault\n"
 fault_line NoMemory = codes "telexplan: no memory\n"
 fault_line (OldPlan f) = text_fault_line (codes "old plan") f.line (plan_row f.kind)
 fault_line (NewPlan f) = text_fault_line (codes "new plan") f.line (plan_row f.kind)
-fault_line (TwoNetworks d) = difference_line d
+fault_line (Contradiction c) = contradiction_line c
+fault_line TooManyTogether =
+    codes "telexplan: both plans together have too many exchanges, codes or groups\n"
 fault_line (Risks f) = text_fault_line (codes "risks") f.line (risk_row f.kind)
 fault_line (NoSuchStage stages) = stage_count_line stages
 fault_line NoSuchExchange = codes "telexplan: no such exchange in the plan\n"

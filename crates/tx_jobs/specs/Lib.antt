@@ -4,6 +4,7 @@ pub mod PipeJobs
 pub mod CheckJobs
 pub mod DrawJobs
 pub mod AuditJobs
+pub mod TwoPlans
 pub mod ChangeJobs
 pub mod GradeJobs
 pub mod MendJobs
@@ -20,5 +21,6 @@ pub mod OrderJobs
 pub mod CheckedJobs
 pub mod Contents
 pub mod Done
+pub mod Outcomes
 pub mod inner
 pub mod Parts

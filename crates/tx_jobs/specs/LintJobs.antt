@@ -45,8 +45,8 @@ pub record TextRead (plan : Input) (after : List ℕ → Type 0) : Type 0 where
   pub goes_on : after text
 
 -- the text could not be read to its end, or there was no memory for it; nothing was written
-abbrev pub NotRead : Input → Output → Result ℕ JobFault → Type 0
-NotRead plan out (Ok status) = ⊥
+abbrev pub NotRead : {X : Type 0} → Input → Output → Result X JobFault → Type 0
+NotRead plan out (Ok x) = ⊥
 NotRead plan out (Err Read) = plan.broken × out.silent
 NotRead plan out (Err NoMemory) = out.silent
 NotRead plan out (Err other) = ⊥

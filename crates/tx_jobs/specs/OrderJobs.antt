@@ -1,19 +1,15 @@
 -- What `order OLD NEW` answers: what its calls do, one after another.
-use Rattle.std.specs.Prelude.{◌≡◌, ◌⊎◌, ℕ, Option, Some, Result, Ok, Err}
+use Rattle.std.specs.Prelude.{◌≡◌, ◌⊎◌, ℕ, Bool, Option, Result, Ok, Err}
 use Rattle.tx_text.specs.Ends.{Input, Output}
 use Rattle.tx_plan.specs.Plan.{Plan}
-use Rattle.tx_plan.specs.Mixtures.{SameNetwork}
-use Rattle.tx_change.specs.declared.difference.Difference.{Difference}
-use Rattle.tx_change.specs.Difference.{DifferenceAnswer}
+use Rattle.tx_join.specs.Joined.{joined_old, joined_new}
 use Rattle.tx_order.specs.declared.staged.Staged.{Staged}
 use Rattle.tx_order.specs.declared.order_fault.OrderFault.{OrderFault}
 use Rattle.tx_order.specs.declared.order_fault.OrderFault.TheVariants.{NoSuchStage as OrderLacksStage, Write as OrderWrite, NoMemory as OrderNoMemory}
 use Rattle.tx_order.specs.OrderTold.{IsOrderTold}
 use Rattle.tx_jobs.specs.declared.job_fault.JobFault.{JobFault}
-use Rattle.tx_jobs.specs.declared.job_fault.JobFault.TheVariants.{Write, NoMemory, TwoNetworks, NoSuchStage}
-use Rattle.tx_jobs.specs.JobFaults.{old_plan_fault, new_plan_fault}
-use Rattle.tx_jobs.specs.Jobs.{PlanRead}
-use Rattle.tx_jobs.specs.ChangeJobs.{RefusedAs}
+use Rattle.tx_jobs.specs.declared.job_fault.JobFault.TheVariants.{Write, NoMemory, NoSuchStage}
+use Rattle.tx_jobs.specs.TwoPlans.{AreJoined, AnswersNotJoined}
 
 -- why an order was not reported, as a job reports it
 abbrev pub order_fault : OrderFault → JobFault
@@ -27,38 +23,18 @@ module _ {A : Type 0} where
   told_order (Ok staged) = Ok staged
   told_order (Err f) = Err (order_fault f)
 
-  -- two plans are of one network, and an order was reported
-  pub record OrderReported (p q : Plan) (stage : Option ℕ) (limit spare : ℕ) (out : Output)
-      (result : Result (Staged A) JobFault) : Type 0 where
-    pub network : SameNetwork p q
+  -- an order of two plans was reported, over their joined network
+  pub record ToldOrder (p q : Plan) (stage : Option ℕ) (with_old : Bool) (limit spare : ℕ)
+      (out : Output) (result : Result (Staged A) JobFault) : Type 0 where
     pub answer : Result (Staged A) OrderFault
-    pub told : IsOrderTold p q stage limit spare out answer
+    pub told : IsOrderTold p q (joined_old p q) (joined_new p q) stage with_old limit spare
+        out answer
     pub same : result ≡ told_order answer
 
-  -- they are of two networks: the first entry that differs is answered
-  pub record NetworksDiffer (p q : Plan) (out : Output) (result : Result (Staged A) JobFault)
-      : Type 0 where
-    pub difference : Difference
-    pub first : DifferenceAnswer p q (Some difference)
-    pub silent : out.silent
-    pub same : result ≡ Err (TwoNetworks difference)
-
-  -- what is answered of two plans
-  abbrev pub ToldOrder : (p q : Plan) → (stage : Option ℕ) → (limit spare : ℕ) → Output
-      → Result (Staged A) JobFault → Type 0
-  ToldOrder p q stage limit spare out result =
-      OrderReported p q stage limit spare out result ⊎ NetworksDiffer p q out result
-
-  -- the new plan was read, and an order into it reported
-  abbrev pub OrderIntoAnswers : Plan → (stage : Option ℕ) → (limit spare : ℕ) → Input → Output
-      → Result (Staged A) JobFault → Type 0
-  OrderIntoAnswers p stage limit spare new out result =
-      PlanRead new (λ q. ToldOrder p q stage limit spare out result)
-      ⊎ RefusedAs new_plan_fault new out.silent result
-
-  -- `order OLD NEW --limit L --spare K`
-  abbrev pub OrderJobAnswers : (stage : Option ℕ) → (limit spare : ℕ) → (old new : Input)
-      → Output → Result (Staged A) JobFault → Type 0
-  OrderJobAnswers stage limit spare old new out result =
-      PlanRead old (λ p. OrderIntoAnswers p stage limit spare new out result)
-      ⊎ RefusedAs old_plan_fault old (new.unread × out.silent) result
+  -- `order OLD NEW --limit L --spare K`: the plans are joined, and the order is reported, with the
+  -- lists that are replaced if they are asked for
+  abbrev pub OrderJobAnswers : (stage : Option ℕ) → (with_old : Bool) → (limit spare : ℕ)
+      → (old new : Input) → Output → Result (Staged A) JobFault → Type 0
+  OrderJobAnswers stage with_old limit spare old new out result =
+      AreJoined old new (λ p q. ToldOrder p q stage with_old limit spare out result)
+      ⊎ AnswersNotJoined old new out.silent result

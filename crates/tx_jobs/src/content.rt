@@ -8,12 +8,14 @@ use tx_audit::write_counter;
 use tx_cert::{Cert, write_cert};
 use tx_plan::Plan;
 use tx_plantext::write_plan;
-use tx_text::{Sink, WriteFault};
+use tx_text::{Sink, WriteFault, write_bytes};
 
 /// What goes into a file that a command makes.
 #[derive(Clone, Copy)]
 pub enum Content<'a, A: Allocator = Global> {
-    /// A plan that was mended, a mixture of two plans, or a plan on the way of an order.
+    /// The text of a plan, revised for the plan that was made.
+    Text(&'a [u8]),
+    /// The plan that was made, as it is written.
     Plan(&'a Plan<A>),
     /// A certificate of a plan.
     Cert(&'a Plan<A>, &'a Cert<A>),
@@ -29,6 +31,7 @@ pub fn write_content<A: Allocator, W: Sink>(
     ensures { Wrote W.taken W.failed sink.old sink.new (content_text content.entry) result }
 {
     match content {
+        Content::Text(text) => write_bytes(text, sink),
         Content::Plan(plan) => write_plan(plan, sink),
         Content::Cert(plan, cert) => write_cert(cert, plan, sink),
         Content::Script(script) => write_counter(&script.plan, script.events.as_slice(), sink),

@@ -13,7 +13,7 @@ use tx_check::Verdict;
 use tx_fill::Fill;
 use tx_mend::Mending;
 use tx_order::Staged;
-use tx_plan::CodeId;
+use tx_plan::{CodeId, Plan};
 use tx_rank::Grade;
 use tx_risk::{Outcome, Survival};
 use tx_risk_report::is_harmless;
@@ -54,7 +54,7 @@ pub enum Done<A: Allocator = Global> {
 }
 
 impl<A: Allocator> Done<A> {
-    ghost use Rattle.tx_jobs.specs.Done.{status_of_done, texts_of};
+    ghost use Rattle.tx_jobs.specs.Done.{status_of_done, plan_made, texts_of};
 
     /// The exit status: 0, or 1 after a No (where codes are ambiguous; where a plan has no grade;
     /// after warnings of a text; after a refused event, if that is to show), 2 after faults of a
@@ -79,7 +79,7 @@ impl<A: Allocator> Done<A> {
             | Done::Audited(Evidence::Unsound(_))
             | Done::Changed(ChangeEvidence::Unsound(_))
             | Done::Ordered(Staged::NoOrder)
-            | Done::Mended(Mending::NoRouting(_, _, _)) => 1,
+            | Done::Mended(Mending::NoRouting(_, _, _, _)) => 1,
             Done::Told(strict, summary) => u8::from(*strict && summary.refused != 0),
             Done::Graded(grade) => u8::from(grade.plan.is_none()),
             Done::Survived(survival) => u8::from(is_denied(survival)),
@@ -87,36 +87,50 @@ impl<A: Allocator> Done<A> {
         }
     }
 
-    /// What goes into the files that the command may make: the plan, the certificate and the
-    /// script, each if there is one.
-    pub fn contents(&self) -> [Option<Content<'_, A>>; 3]
+    /// The plan that the command made, if it made one: a mixture of two plans, a plan on the way of an
+    /// order, or a plan that was mended.
+    pub fn plan(&self) -> Option<&Plan<A>>
+        ensures { option_map (λ p. p.now) result ≡ plan_made self.now }
+    {
+        match self {
+            Done::Changed(ChangeEvidence::Unsound(Some(Mixture::Scripted(script)))) => {
+                Some(&script.plan)
+            }
+            Done::Changed(ChangeEvidence::Unsound(Some(Mixture::Unscripted(plan))))
+            | Done::Ordered(Staged::Ordered(Some((plan, _))))
+            | Done::Mended(Mending::Mended(plan, _, _)) => Some(plan),
+            Done::Ran(_)
+            | Done::Told(_, _)
+            | Done::Checked(_)
+            | Done::Verified(_)
+            | Done::Listed(_)
+            | Done::Linted(_)
+            | Done::Audited(_)
+            | Done::Changed(ChangeEvidence::Sound(_, _) | ChangeEvidence::Unsound(None))
+            | Done::Ordered(Staged::Ordered(None) | Staged::NoOrder)
+            | Done::Mended(Mending::NoRouting(_, _, _, _))
+            | Done::Graded(_)
+            | Done::Survived(_)
+            | Done::Filled(_)
+            | Done::Written => None,
+        }
+    }
+
+    /// What else goes into the files that the command may make: the certificate and the script, each
+    /// if there is one.
+    pub fn contents(&self) -> [Option<Content<'_, A>>; 2]
         ensures { map (option_map content_text) result ≡ texts_of self.now }
     {
         match self {
             Done::Audited(Evidence::Sound(plan, cert))
-            | Done::Changed(ChangeEvidence::Sound(plan, cert)) => {
-                [None, Some(Content::Cert(plan, cert)), None]
-            }
-            Done::Audited(Evidence::Unsound(Some(script))) => {
-                [None, None, Some(Content::Script(script))]
-            }
-            Done::Changed(ChangeEvidence::Unsound(Some(Mixture::Scripted(script)))) => {
-                [
-                    Some(Content::Plan(&script.plan)),
-                    None,
-                    Some(Content::Script(script)),
-                ]
-            }
-            Done::Changed(ChangeEvidence::Unsound(Some(Mixture::Unscripted(plan)))) => {
-                [Some(Content::Plan(plan)), None, None]
-            }
-            Done::Ordered(Staged::Ordered(Some((plan, cert))))
+            | Done::Changed(ChangeEvidence::Sound(plan, cert))
+            | Done::Ordered(Staged::Ordered(Some((plan, cert))))
             | Done::Mended(Mending::Mended(plan, _, cert)) => {
-                [
-                    Some(Content::Plan(plan)),
-                    Some(Content::Cert(plan, cert)),
-                    None,
-                ]
+                [Some(Content::Cert(plan, cert)), None]
+            }
+            Done::Audited(Evidence::Unsound(Some(script)))
+            | Done::Changed(ChangeEvidence::Unsound(Some(Mixture::Scripted(script)))) => {
+                [None, Some(Content::Script(script))]
             }
             Done::Ran(_)
             | Done::Told(_, _)
@@ -125,13 +139,13 @@ impl<A: Allocator> Done<A> {
             | Done::Listed(_)
             | Done::Linted(_)
             | Done::Audited(Evidence::Unsound(None))
-            | Done::Changed(ChangeEvidence::Unsound(None))
+            | Done::Changed(ChangeEvidence::Unsound(None | Some(Mixture::Unscripted(_))))
             | Done::Ordered(Staged::Ordered(None) | Staged::NoOrder)
-            | Done::Mended(Mending::NoRouting(_, _, _))
+            | Done::Mended(Mending::NoRouting(_, _, _, _))
             | Done::Graded(_)
             | Done::Survived(_)
             | Done::Filled(_)
-            | Done::Written => [None, None, None],
+            | Done::Written => [None, None],
         }
     }
 }

@@ -1,12 +1,12 @@
 // The line that says why a job stopped.
-ghost use Rattle.std.specs.Prelude.{◌≡◌};
+ghost use Rattle.std.specs.Prelude.{◌≡◌, ◌++◌, codes, decimal};
 ghost use Rattle.tx_text.specs.Wrote.{Wrote};
 ghost use Rattle.tx_plantext.specs.PlanFaults.{fault_row};
-ghost use Rattle.tx_jobs.specs.JobFaults.{fault_line, text_fault_line, difference_line, stage_count_line, list_word};
+ghost use Rattle.tx_jobs.specs.JobFaults.{fault_line, text_fault_line, contradiction_line, stage_count_line};
 
 use crate::job_fault::JobFault;
 use itoa::Buffer;
-use tx_change::{Difference, NetworkList};
+use tx_join::Contradiction;
 use tx_plantext::PlanFault;
 use tx_text::{Sink, WriteFault, write_bytes, write_parts};
 
@@ -30,7 +30,13 @@ pub fn write_fault<W: Sink>(fault: &JobFault, sink: &mut W) -> Result<(), WriteF
             let row = tx_risk::code_and_name(fault.kind);
             write_text_fault(b"risks", fault.line, row, sink)
         }
-        JobFault::TwoNetworks(difference) => write_difference(difference, sink),
+        JobFault::Contradiction(contradiction) => write_contradiction(contradiction, sink),
+        JobFault::TooManyTogether => {
+            write_bytes(
+                b"telexplan: both plans together have too many exchanges, codes or groups\n",
+                sink,
+            )
+        }
         JobFault::Read => write_bytes(b"telexplan: read fault\n", sink),
         JobFault::Write => write_bytes(b"telexplan: write fault\n", sink),
         JobFault::NoMemory => write_bytes(b"telexplan: no memory\n", sink),
@@ -79,17 +85,46 @@ fn write_text_fault<'a, W: Sink>(
     )
 }
 
-/// Writes the first entry in which two plans are not of one network, by its number from 1.
-fn write_difference<W: Sink>(difference: &Difference, sink: &mut W) -> Result<(), WriteFault>
-    ensures { Wrote W.taken W.failed sink.old sink.new (difference_line difference.now) result }
+/// Writes what two plans declare in contradiction, and the line of each text that does.
+fn write_contradiction<W: Sink>(
+    contradiction: &Contradiction,
+    sink: &mut W,
+) -> Result<(), WriteFault>
+    ensures { Wrote W.taken W.failed sink.old sink.new (contradiction_line contradiction.now)
+        result }
 {
-    let mut number = Buffer::new();
+    let word = contradiction.kind.word();
+    let (old, new) = (contradiction.old_line, contradiction.new_line);
+    write_differing(old, new, word, contradiction.name.bytes(), sink)
+}
+
+/// Writes that a line of the old plan and one of the new plan differ, with the word that begins
+/// them and the name in them.
+fn write_differing<'a, W: Sink>(
+    old: u64,
+    new: u64,
+    word: &'a [u8],
+    name: &'a [u8],
+    sink: &mut W,
+) -> Result<(), WriteFault>
+    ensures { Wrote W.taken W.failed sink.old sink.new (codes "telexplan: old plan line "
+        ++ (decimal old ++ (codes " and new plan line " ++ (decimal new ++ (codes ": "
+        ++ (word.now ++ (codes " " ++ (name.now ++ codes " differs\n")))))))) result }
+{
+    let mut first = Buffer::new();
+    let mut second = Buffer::new();
+    let old = first.format(old).as_bytes();
+    let new = second.format(new).as_bytes();
     write_parts(
         &[
-            b"telexplan: plans of two networks: ",
-            list_word(difference.list),
+            b"telexplan: old plan line ",
+            old,
+            b" and new plan line ",
+            new,
+            b": ",
+            word,
             b" ",
-            number.format(u32::from(difference.index) + 1).as_bytes(),
+            name,
             b" differs\n",
         ],
         sink,
@@ -106,16 +141,4 @@ fn write_stage_count<W: Sink>(stages: usize, sink: &mut W) -> Result<(), WriteFa
         &[b"telexplan: no such stage: the order has ", stages, b"\n"],
         sink,
     )
-}
-
-/// The word that begins the lines of a list.
-fn list_word(list: NetworkList) -> &'static [u8]
-    ensures { result.now ≡ list_word list }
-{
-    match list {
-        NetworkList::Exchanges => b"EXCHANGE",
-        NetworkList::Codes => b"CODE",
-        NetworkList::Ranges => b"LINES",
-        NetworkList::Groups => b"GROUP",
-    }
 }

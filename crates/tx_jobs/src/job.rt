@@ -75,9 +75,15 @@ pub fn do_job<A: Allocator + Copy, P: Source, Q: Source, R: Source, W: Sink>(
             let shown = files.script.is_some();
             Ok(Done::Audited(evidence_job(alloc, first, Limits { limit, spare }, shown, out)?))
         }
-        Command::Mend { limit, spare, .. } => {
+        Command::Mend {
+            limit,
+            spare,
+            with_old,
+            ..
+        } => {
             let (limit, spare) = (*limit, *spare);
-            Ok(Done::Mended(mend_job(alloc, first, Limits { limit, spare }, out)?))
+            let limits = Limits { limit, spare };
+            Ok(Done::Mended(mend_job(alloc, first, limits, *with_old, out)?))
         }
         Command::Grade { .. } => Ok(Done::Graded(grade_job(alloc, first, out)?)),
         Command::Draw { routes, .. } => draw(alloc, routes, first, out),
@@ -158,22 +164,28 @@ fn do_pair<A: Allocator + Copy, P: Source, Q: Source, W: Sink>(
         Command::Check { limit, spare, .. } => {
             Ok(Done::Verified(check_job(alloc, first, second, *limit, *spare, out)?))
         }
-        Command::Change { limit, spare, .. } => {
+        Command::Change {
+            limit,
+            spare,
+            with_old,
+            ..
+        } => {
             let (limit, spare) = (*limit, *spare);
             let limits = Limits { limit, spare };
             let shown = files.plan.or(files.script).is_some();
-            let changed = change_evidence_job(alloc, first, second, limits, shown, out)?;
+            let changed = change_evidence_job(alloc, first, second, limits, shown, *with_old, out)?;
             Ok(Done::Changed(changed))
         }
         Command::Order {
             limit,
             spare,
             stage,
+            with_old,
             ..
         } => {
             let (limit, spare) = (*limit, *spare);
             let limits = Limits { limit, spare };
-            let staged = order_job(alloc, first, second, limits, *stage, out)?;
+            let staged = order_job(alloc, first, second, limits, *stage, *with_old, out)?;
             Ok(Done::Ordered(staged))
         }
         _ => unreachable!(),

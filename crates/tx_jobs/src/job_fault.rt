@@ -1,15 +1,17 @@
 // Why a job stopped.
 ghost use Rattle.std.specs.Prelude.{◌≡◌};
 ghost use Rattle.tx_jobs.specs.declared.job_fault.JobFault.TheVariants.{NoMemory as OutOfMemory, Write as WriteFailed};
-ghost use Rattle.tx_jobs.specs.JobFaults.{status_of, plan_fault, old_plan_fault, new_plan_fault, cert_fault, script_fault, risks_fault, run_fault};
+ghost use Rattle.tx_jobs.specs.JobFaults.{status_of, plan_fault, cert_fault, script_fault, risks_fault, run_fault};
 ghost use Rattle.tx_jobs.specs.AuditJobs.{audit_fault};
 ghost use Rattle.tx_jobs.specs.LintJobs.{lint_fault};
 ghost use Rattle.tx_jobs.specs.OrderJobs.{order_fault};
+ghost use Rattle.tx_jobs.specs.inner.TwoPlans.{fault_of};
 
+use crate::two_plans::Which;
 use thiserror::Error;
 use tx_audit::AuditFault;
 use tx_cert::{CertFault, CertWord};
-use tx_change::Difference;
+use tx_join::Contradiction;
 use tx_lint::LintFault;
 use tx_order::OrderFault;
 use tx_plan::PlanRefusal;
@@ -45,9 +47,13 @@ pub enum JobFault {
     /// The text of the plan that is to be is refused.
     #[error("new plan {0}")]
     NewPlan(PlanFault),
-    /// The plans of a change are of two networks: the first entry that differs.
-    #[error("the plans are of two networks")]
-    TwoNetworks(Difference),
+    /// The plans of a change or an order contradict each other.
+    #[error("the plans contradict each other")]
+    Contradiction(Contradiction),
+    /// The plans of a change or an order have together more exchanges, codes or groups than a plan
+    /// may have.
+    #[error("both plans together have too many exchanges, codes or groups")]
+    TooManyTogether,
     /// The text of risks is refused.
     #[error("risks {0}")]
     Risks(RiskFault),
@@ -228,9 +234,9 @@ impl From<LintFault> for JobFault {
 }
 
 impl JobFault {
-    /// The exit status: 2 for a refused text and for plans of two networks, 3 for a read or a write
-    /// fault, 4 when memory runs out, 64 for an exchange, a code or a group that the plan does not
-    /// have, and for a stage that the order does not have.
+    /// The exit status: 2 for a refused text and for plans that have no joined network, 3 for a
+    /// read or a write fault, 4 when memory runs out, 64 for an exchange, a code or a group that
+    /// the plan does not have, and for a stage that the order does not have.
     pub fn status(&self) -> u8
         ensures { result ≡ status_of self.now }
     {
@@ -240,7 +246,8 @@ impl JobFault {
             | JobFault::Script(_)
             | JobFault::OldPlan(_)
             | JobFault::NewPlan(_)
-            | JobFault::TwoNetworks(_)
+            | JobFault::Contradiction(_)
+            | JobFault::TooManyTogether
             | JobFault::Risks(_) => 2,
             JobFault::Read | JobFault::Write => 3,
             JobFault::NoMemory => 4,
@@ -251,22 +258,15 @@ impl JobFault {
         }
     }
 
-    /// A fault of the old plan of a change.
-    pub(crate) fn of_old_plan(fault: PlanFault) -> JobFault
-        ensures { result ≡ old_plan_fault fault }
+    /// A fault of one of the two plans of a change or an order.
+    pub(crate) fn of_plan(which: Which, fault: PlanFault) -> JobFault
+        ensures { result ≡ fault_of which fault }
     {
         match JobFault::from(fault) {
-            JobFault::Plan(fault) => JobFault::OldPlan(fault),
-            other => other,
-        }
-    }
-
-    /// A fault of the new plan of a change.
-    pub(crate) fn of_new_plan(fault: PlanFault) -> JobFault
-        ensures { result ≡ new_plan_fault fault }
-    {
-        match JobFault::from(fault) {
-            JobFault::Plan(fault) => JobFault::NewPlan(fault),
+            JobFault::Plan(fault) => match which {
+                Which::Old => JobFault::OldPlan(fault),
+                Which::New => JobFault::NewPlan(fault),
+            },
             other => other,
         }
     }

@@ -5,7 +5,8 @@ use tx_cert::Cert;
 use tx_change::ShownMixture;
 use tx_plan::Plan;
 
-/// A mixture of two plans that shows what is wrong with the change. `change_evidence_job` says so.
+/// A mixture of two plans that shows what is wrong with the change, or the new plan as it is.
+/// `change_evidence_job` says so.
 #[derive(Debug, Drop)]
 pub enum Mixture<A: Allocator = Global> {
     /// With the script of a call that goes along the walk.
@@ -38,7 +39,8 @@ impl<A: Allocator> Mixture<A> {
 /// What shows the verdict on a change.
 #[derive(Debug, Drop)]
 pub enum ChangeEvidence<A: Allocator = Global> {
-    /// After a Yes, the old plan and its certificate, which is one of the new plan too.
+    /// After a Yes, the old plan over the joined network and its certificate, which is one of the
+    /// new plan over this network too.
     Sound(Plan<A>, Cert<A>),
     /// After a No, the mixture of the first finding that has a walk, if it was asked for.
     Unsound(Option<Mixture<A>>),

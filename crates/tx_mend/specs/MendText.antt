@@ -1,15 +1,19 @@
 -- The report of a mending, as it is written.
-use Rattle.std.specs.Prelude.{ℕ, ◌+◌, if◌then◌else◌, List, [], ◌∷◌, ◌++◌, length, codes, Option, Some, None}
-use Rattle.std.specs.List.{flat_map, range_with_len}
+use Rattle.std.specs.Prelude.{ℕ, ◌+◌, ◌==◌, Bool, true, false, if◌then◌else◌, List, [], ◌∷◌, ◌++◌, length, filter, codes, decimal, Option, Some, None}
+use Rattle.std.specs.List.{flat_map, list_any, range_with_len}
 use Rattle.std.specs.Str.{bytes_eq}
 use Rattle.tx_text.specs.Ends.{StopsIn, Output}
 use Rattle.tx_text.specs.Written.{line_written}
-use Rattle.tx_plan.specs.Plan.{Plan, Route, figures_of, exchange_name}
+use Rattle.tx_plan.specs.Plan.{Plan, Route, figures_of, exchange_name, group_name}
 use Rattle.tx_plan.specs.Routes.{route_list}
 use Rattle.tx_plan.specs.Mixed.{rerouted}
 use Rattle.tx_plantext.specs.PlanWritten.{route_words}
 use Rattle.tx_rank.specs.declared.finding.Finding.TheVariants.{Ambiguous}
 use Rattle.tx_rank.specs.Report.{asked_line, finding_line, no_line}
+use Rattle.tx_mend.specs.declared.cause.Cause.{Cause}
+use Rattle.tx_mend.specs.declared.cause.Cause.TheVariants.{Rank, Groups}
+use Rattle.tx_mend.specs.declared.cause.Missing.{Missing}
+use Rattle.tx_mend.specs.declared.cause.Unserved.{Unserved}
 use Rattle.tx_mend.specs.declared.mending.Mending.{Mending}
 use Rattle.tx_mend.specs.declared.mending.Mending.TheVariants.{Mended, NoRouting}
 use Rattle.tx_mend.specs.Mendings.{IsRightMending}
@@ -25,28 +29,42 @@ list_line p code x [] =
 list_line p code x (g ∷ gs) =
     line_written (route_words p (record { exchange = x; code = code; groups = g ∷ gs }))
 
--- a line for a list, unless it has the groups that it had before, in the same order
-abbrev pub line_unless_same : Plan → (code x : ℕ) → (before now : List ℕ) → List ℕ
-line_unless_same p code x before now = if bytes_eq before now then [] else list_line p code x now
+-- the list that was there before, as in `WAS CENO1 CENO2`
+abbrev pub was_line : Plan → List ℕ → List ℕ
+was_line p before =
+    codes "WAS" ++ (flat_map (λ g. codes " " ++ group_name p g) before ++ codes "\n")
 
--- that of the list of an exchange for a code, where other routes were before
-abbrev pub change_line : List Route → Plan → (code x : ℕ) → List ℕ
-change_line before p code x = line_unless_same p code x
+-- the same where old lists are asked for
+abbrev pub old_line : (with_old : Bool) → Plan → List ℕ → List ℕ
+old_line true p before = was_line p before
+old_line false p before = []
+
+-- a line for a list, and one for the list that it replaces, unless it has the groups that it had
+-- before, in the same order
+abbrev pub line_unless_same : (with_old : Bool) → Plan → (code x : ℕ) → (before now : List ℕ)
+    → List ℕ
+line_unless_same with_old p code x before now = if bytes_eq before now then []
+    else (list_line p code x now ++ old_line with_old p before)
+
+-- those of the list of an exchange for a code, where other routes were before
+abbrev pub change_line : (with_old : Bool) → List Route → Plan → (code x : ℕ) → List ℕ
+change_line with_old before p code x = line_unless_same with_old p code x
     (route_list (rerouted p before p.bars) x code) (route_list p x code)
 
 -- the lines of all lists for a code, by exchanges
-abbrev pub code_changes : List Route → Plan → (code : ℕ) → List ℕ
-code_changes before p code =
-    flat_map (change_line before p code) (range_with_len 0 (length p.exchanges))
+abbrev pub code_changes : (with_old : Bool) → List Route → Plan → (code : ℕ) → List ℕ
+code_changes with_old before p code =
+    flat_map (change_line with_old before p code) (range_with_len 0 (length p.exchanges))
 
 -- those of all codes
-abbrev pub changes : List Route → Plan → List ℕ
-changes before p = flat_map (code_changes before p) (range_with_len 0 (length p.codes))
+abbrev pub changes : (with_old : Bool) → List Route → Plan → List ℕ
+changes with_old before p =
+    flat_map (code_changes with_old before p) (range_with_len 0 (length p.codes))
 
 -- The report of a plan that was mended, and had these routes before
-abbrev pub mended_text : List Route → Plan → (limit spare : ℕ) → List ℕ
-mended_text before p limit spare =
-    head_line limit spare ++ (changes before p ++ codes "VERDICT YES\n")
+abbrev pub mended_text : (with_old : Bool) → List Route → Plan → (limit spare : ℕ) → List ℕ
+mended_text with_old before p limit spare =
+    head_line limit spare ++ (changes with_old before p ++ codes "VERDICT YES\n")
 
 -- the ambiguous pair of codes, if there is one
 abbrev pub pair_line : Plan → Option (ℕ × ℕ) → List ℕ
@@ -58,26 +76,69 @@ abbrev pub pair_count : Option (ℕ × ℕ) → ℕ
 pair_count None = 0
 pair_count (Some q) = 1
 
--- a code, and an exchange that cannot be served for it
-abbrev pub unserved_line : Plan → ℕ × ℕ → List ℕ
-unserved_line p k = codes "F5 UNSERVED "
-    ++ (figures_of p k.0 ++ (codes " " ++ (exchange_name p k.1 ++ codes "\n")))
+-- why an exchange cannot be served
+abbrev pub cause_words : Cause → List ℕ
+cause_words (Rank r) = codes " RANK " ++ decimal r
+cause_words (Groups n) = codes " GROUPS " ++ decimal n
 
--- the report of a plan for which no routes can be certified: what was asked, a line for the pair
--- and one for each that cannot be served, and NO with their number
-abbrev pub unserved_text : Plan → (limit spare : ℕ) → List (ℕ × ℕ) → Option (ℕ × ℕ) → List ℕ
-unserved_text p limit spare unserved pair = head_line limit spare
+-- a code, an exchange that cannot be served for it, and why
+abbrev pub unserved_line : Plan → Unserved → List ℕ
+unserved_line p u = codes "F5 UNSERVED " ++ (figures_of p u.code ++ (codes " "
+    ++ (exchange_name p u.exchange ++ (cause_words u.cause ++ codes "\n"))))
+
+-- an exchange, and how many groups it would need
+abbrev pub missing_text : Plan → Missing → List ℕ
+missing_text p m =
+    codes " " ++ (exchange_name p m.exchange ++ (codes " " ++ decimal m.groups))
+
+-- the same, if it is of this code
+abbrev pub missing_for_code : Plan → (code : ℕ) → Missing → List ℕ
+missing_for_code p code m = if m.code == code then missing_text p m else []
+
+-- the word before those of a code, if there are any
+abbrev pub missing_word : List Missing → (code : ℕ) → List ℕ
+missing_word missing code = if list_any (λ m. m.code == code) missing then codes " MISSING" else []
+
+-- where groups are missing for a code
+abbrev pub missing_of : Plan → List Missing → (code : ℕ) → List ℕ
+missing_of p missing code =
+    missing_word missing code ++ flat_map (missing_for_code p code) missing
+
+-- A code of which so many origins cannot be served, and where groups are missing for it; no line if
+-- there is none
+abbrev pub line_of_code : Plan → List Missing → (code count : ℕ) → List ℕ
+line_of_code p missing code count = if count == 0 then [] else
+    codes "CODE " ++ (figures_of p code ++ (codes " UNSERVED "
+    ++ (decimal count ++ (missing_of p missing code ++ codes "\n"))))
+
+-- that of a code
+abbrev pub code_line : Plan → List Unserved → List Missing → (code : ℕ) → List ℕ
+code_line p unserved missing code =
+    line_of_code p missing code (length (filter (λ u. u.code == code) unserved))
+
+-- those of all codes
+abbrev pub code_lines : Plan → List Unserved → List Missing → List ℕ
+code_lines p unserved missing =
+    flat_map (code_line p unserved missing) (range_with_len 0 (length p.codes))
+
+-- The report of a plan for which no routes can be certified: what was asked, a line for the pair
+-- and one for each that cannot be served, a line for each code of these, and NO with the number of
+-- the lines but those of codes
+abbrev pub unserved_text : Plan → (limit spare : ℕ) → List Unserved → List Missing
+    → Option (ℕ × ℕ) → List ℕ
+unserved_text p limit spare unserved missing pair = head_line limit spare
     ++ (pair_line p pair ++ (flat_map (unserved_line p) unserved
-    ++ no_line (pair_count pair + length unserved)))
+    ++ (code_lines p unserved missing ++ no_line (pair_count pair + length unserved))))
 
--- The report of a mending
-abbrev pub mend_report : {A : Type 0} → (limit spare : ℕ) → Mending A → List ℕ
-mend_report limit spare (Mended q before cert) = mended_text before q limit spare
-mend_report limit spare (NoRouting q pairs pair) = unserved_text q limit spare pairs.items pair
+-- The report of a mending, with the lists that are replaced if they are asked for
+abbrev pub mend_report : {A : Type 0} → (with_old : Bool) → (limit spare : ℕ) → Mending A → List ℕ
+mend_report with_old limit spare (Mended q before cert) = mended_text with_old before q limit spare
+mend_report with_old limit spare (NoRouting q unserved missing pair) =
+    unserved_text q limit spare unserved.items missing.items pair
 
 -- a mending that is right, whose report was written in part
-pub record MendToldInPart (A : Type 0) (p : Plan) (limit spare : ℕ) (out : Output)
+pub record MendToldInPart (A : Type 0) (p : Plan) (with_old : Bool) (limit spare : ℕ) (out : Output)
     : Type 0 where
   pub mending : Mending A
   pub right : IsRightMending p limit spare mending
-  pub wrote : StopsIn out.old out.new (mend_report limit spare mending)
+  pub wrote : StopsIn out.old out.new (mend_report with_old limit spare mending)

@@ -1,40 +1,45 @@
 // The report of a plan that was mended.
-ghost use Rattle.std.specs.Prelude.{◌<◌, codes};
+ghost use Rattle.std.specs.Prelude.{◌<◌, ◌++◌, codes};
 ghost use Rattle.tx_text.specs.Wrote.{Wrote};
 ghost use Rattle.tx_plan.specs.Routes.{route_list};
-ghost use Rattle.tx_mend.specs.MendText.{list_line, change_line, code_changes, changes, mended_text};
+ghost use Rattle.tx_mend.specs.MendText.{list_line, was_line, old_line, change_line, code_changes, changes, mended_text};
 
 use std::alloc::Allocator;
-use tx_plan::{CodeId, ExchangeId, Limits, Pair, Plan, Routes};
-use tx_plantext::write_route;
+use tx_plan::{CodeId, ExchangeId, GroupId, Limits, Pair, Plan, Routes};
+use tx_plantext::{write_group_names, write_route};
 use tx_rank::write_asked;
 use tx_text::{Sink, WriteFault, write_parts};
 
-/// Writes what was asked, each list of a plan that is another one than before, and YES.
+/// Writes what was asked, each list of a plan that is another one than before, with the one before
+/// if that is asked for, and YES.
 pub fn write_mended<A: Allocator, W: Sink>(
     before: &Routes<A>,
     plan: &Plan<A>,
     limits: Limits,
+    with_old: bool,
     sink: &mut W,
 ) -> Result<(), WriteFault>
     ensures { Wrote W.taken W.failed sink.old sink.new
-        (mended_text before.now plan.now limits.limit limits.spare) result }
+        (mended_text with_old before.now plan.now limits.limit limits.spare) result }
 {
     write_asked(b"MEND", limits, sink)?;
-    write_changes(before, plan, sink)?;
+    write_changes(before, plan, with_old, sink)?;
     write_parts(&[b"VERDICT YES\n"], sink)
 }
 
-fn write_changes<A: Allocator, W: Sink>(
+/// Writes each list of a plan that is another one than before, with the one before if that is asked
+/// for.
+pub fn write_changes<A: Allocator, W: Sink>(
     before: &Routes<A>,
     plan: &Plan<A>,
+    with_old: bool,
     sink: &mut W,
 ) -> Result<(), WriteFault>
     ensures { Wrote W.taken W.failed sink.old sink.new
-        (changes before.now plan.now) result }
+        (changes with_old before.now plan.now) result }
 {
     for index in 0..plan.codes() {
-        write_code_changes(before, plan, CodeId::of(index), sink)?;
+        write_code_changes(before, plan, CodeId::of(index), with_old, sink)?;
     }
     Ok(())
 }
@@ -44,13 +49,14 @@ fn write_code_changes<A: Allocator, W: Sink>(
     before: &Routes<A>,
     plan: &Plan<A>,
     code: CodeId,
+    with_old: bool,
     sink: &mut W,
 ) -> Result<(), WriteFault>
     ensures { Wrote W.taken W.failed sink.old sink.new
-        (code_changes before.now plan.now code) result }
+        (code_changes with_old before.now plan.now code) result }
 {
     for index in 0..plan.exchanges() {
-        write_change(before, plan, code, ExchangeId::of(index), sink)?;
+        write_change(before, plan, code, ExchangeId::of(index), with_old, sink)?;
     }
     Ok(())
 }
@@ -61,19 +67,43 @@ fn write_change<A: Allocator, W: Sink>(
     plan: &Plan<A>,
     code: CodeId,
     exchange: ExchangeId,
+    with_old: bool,
     sink: &mut W,
 ) -> Result<(), WriteFault>
     ensures { Wrote W.taken W.failed sink.old sink.new
-        (change_line before.now plan.now code exchange) result }
+        (change_line with_old before.now plan.now code exchange) result }
 {
-    if before.list(&Pair { exchange, code }) == plan.list(exchange, code) {
+    let old = before.list(&Pair { exchange, code });
+    if old == plan.list(exchange, code) {
         return Ok(());
     }
-    write_list(plan, code, exchange, sink)
+    write_new_list(plan, code, exchange, old, with_old, sink)
+}
+
+/// Writes the list of an exchange for a code, or that it needs none, and the list that it replaces,
+/// if that is asked for.
+pub fn write_new_list<A: Allocator, W: Sink>(
+    plan: &Plan<A>,
+    code: CodeId,
+    exchange: ExchangeId,
+    old: &[GroupId],
+    with_old: bool,
+    sink: &mut W,
+) -> Result<(), WriteFault>
+    ensures { Wrote W.taken W.failed sink.old sink.new
+        (list_line plan.now code exchange (route_list plan.now exchange code)
+        ++ old_line with_old plan.now old.now) result }
+{
+    write_list(plan, code, exchange, sink)?;
+    if with_old {
+        write_was(plan, old, sink)
+    } else {
+        Ok(())
+    }
 }
 
 /// Writes the list of an exchange for a code, or that it needs none.
-pub fn write_list<A: Allocator, W: Sink>(
+fn write_list<A: Allocator, W: Sink>(
     plan: &Plan<A>,
     code: CodeId,
     exchange: ExchangeId,
@@ -88,4 +118,16 @@ pub fn write_list<A: Allocator, W: Sink>(
         return write_parts(&[b"DROP ", name, b" ", figures, b"\n"], sink);
     }
     write_route(plan, exchange, code, sink)
+}
+
+/// Writes the list that was there before.
+fn write_was<A: Allocator, W: Sink>(
+    plan: &Plan<A>,
+    groups: &[GroupId],
+    sink: &mut W,
+) -> Result<(), WriteFault>
+    ensures { Wrote W.taken W.failed sink.old sink.new (was_line plan.now groups.now) result }
+{
+    write_parts(&[b"WAS"], sink)?;
+    write_group_names(plan, groups, sink)
 }

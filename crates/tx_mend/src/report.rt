@@ -9,19 +9,21 @@ use std::alloc::Allocator;
 use tx_plan::Limits;
 use tx_text::{Sink, WriteFault};
 
-/// Writes the report of a mending: the lists that change and YES, or what cannot be served and NO.
+/// Writes the report of a mending: the lists that change, with the old ones if they are asked for,
+/// and YES, or what cannot be served and NO.
 pub fn write_mending<A: Allocator, W: Sink>(
     mending: &Mending<A>,
     limits: Limits,
+    with_old: bool,
     sink: &mut W,
 ) -> Result<(), WriteFault>
     ensures { Wrote W.taken W.failed sink.old sink.new
-        (mend_report limits.limit limits.spare mending.now) result }
+        (mend_report with_old limits.limit limits.spare mending.now) result }
 {
     match mending {
-        Mending::Mended(plan, before, _) => write_mended(before, plan, limits, sink),
-        Mending::NoRouting(plan, unserved, pair) => {
-            write_unserved(plan, limits, unserved, pair, sink)
+        Mending::Mended(plan, before, _) => write_mended(before, plan, limits, with_old, sink),
+        Mending::NoRouting(plan, unserved, missing, pair) => {
+            write_unserved(plan, limits, unserved, missing, pair, sink)
         }
     }
 }

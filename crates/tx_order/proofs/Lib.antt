@@ -8,3 +8,4 @@ pub mod Ordered
 pub mod StageCerts
 pub mod Confirming
 pub mod Staging
+pub mod Verdicts

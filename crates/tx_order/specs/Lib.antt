@@ -6,6 +6,7 @@ pub mod Transitions
 pub mod Joined
 pub mod Ordered
 pub mod Switchings
+pub mod OrderVerdicts
 pub mod OrderText
 pub mod OrderTold
 pub mod inner

@@ -3,14 +3,15 @@
 //! switched, with calls up.
 //!
 //! `order` finds one wherever both plans can be certified. Else it answers what is wrong with each
-//! of them. `write_switching` writes what was found. `tell_order` is both, and gives the plan after
-//! a stage with a certificate of the stage.
+//! of them. `tell_order` takes plans of any two networks, over their joined network. It writes what
+//! was found, and gives the plan after a stage with a certificate of the stage.
 #![tactic(auto)]
 
 mod between;
 mod entries;
 mod fronts;
 mod joining;
+mod judging;
 mod law;
 mod level;
 mod lists;
@@ -22,12 +23,12 @@ mod stages;
 mod switching;
 mod transition;
 
+pub use judging::{OrderVerdict, judge_order};
 pub use law::{
     each_level_is_common, each_plan_is_certified, levels_lead_over, ordered_exactly,
     orders_are_sound, stages_are_fewest,
 };
 pub use order_fault::OrderFault;
 pub use orders::Order;
-pub use report::write_switching;
 pub use staged::{Staged, tell_order};
 pub use switching::{Switching, order};

@@ -1,45 +1,69 @@
 // The writer of the report of an order.
 ghost use Rattle.std.specs.Prelude.{◌≡◌, ◌<◌, ◌+◌};
-ghost use Rattle.std.specs.List.{flat_map};
 ghost use Rattle.tx_text.specs.Wrote.{Wrote};
 ghost use Rattle.tx_plan.specs.Routes.{route_list, is_barred};
 ghost use Rattle.tx_mend.specs.MendText.{line_unless_same};
 ghost use Rattle.tx_rank.specs.Report.{findings_of};
 ghost use Rattle.tx_order.specs.Ordered.{plan_before, stages_in};
-ghost use Rattle.tx_order.specs.OrderText.{pair_line, bar_line, entry_lines, exchange_lines, switched_lines, stage_line, stage_text, stages_text, finding_of, no_order_text, order_report};
+ghost use Rattle.tx_order.specs.OrderText.{pair_line, bar_line, entry_lines, exchange_lines, switched_lines, stage_line, stage_text, stages_text, no_order_text, verdict_text, order_report};
 
+use crate::judging::OrderVerdict;
 use crate::orders::Order;
-use crate::switching::Switching;
 use itoa::Buffer;
 use std::alloc::Allocator;
-use tx_mend::write_list;
+use tx_change::{write_findings_after, write_verdict_after};
+use tx_join::write_differences;
+use tx_mend::write_new_list;
 use tx_plan::{CodeId, ExchangeId, Limits, Plan};
-use tx_rank::{Finding, Ranking, write_asked, write_finding, write_no};
-use tx_text::{Sink, WriteFault, write_bytes, write_parts};
+use tx_rank::{Finding, Ranking, write_asked, write_no};
+use tx_text::{Sink, WriteFault, write_parts};
 
-/// Writes the report of the search for an order: the stages with what each switches and YES, or
-/// what is wrong with both plans and NO.
-pub fn write_switching<A: Allocator, W: Sink>(
-    switching: &Switching<A>,
+/// Writes the report of the search for an order: what was asked, in what the plans differ beside
+/// lists and bars, and then the stages with what each switches, with the old lists if they are asked
+/// for, and YES, or what is wrong and NO.
+pub(crate) fn write_order<A: Allocator, W: Sink>(
+    old: &Plan<A>,
+    new: &Plan<A>,
+    verdict: &OrderVerdict<A>,
     limits: Limits,
+    with_old: bool,
     sink: &mut W,
 ) -> Result<(), WriteFault>
     ensures { Wrote W.taken W.failed sink.old sink.new
-        (order_report limits.limit limits.spare switching.now) result }
+        (order_report with_old old.now new.now limits.limit limits.spare verdict.now) result }
 {
     write_asked(b"ORDER", limits, sink)?;
-    match switching {
-        Switching::Ordered(order) => write_stages(order, sink),
-        Switching::NoOrder(plan, before, after) => write_no_order(plan, before, after, sink),
+    write_differences(old, new, sink)?;
+    write_verdict(new, verdict, with_old, sink)
+}
+
+/// Writes the lines of the verdict.
+fn write_verdict<A: Allocator, W: Sink>(
+    new: &Plan<A>,
+    verdict: &OrderVerdict<A>,
+    with_old: bool,
+    sink: &mut W,
+) -> Result<(), WriteFault>
+    ensures { Wrote W.taken W.failed sink.old sink.new
+        (verdict_text with_old new.now verdict.now) result }
+{
+    match verdict {
+        OrderVerdict::Ordered(order) => write_stages(order, with_old, sink),
+        OrderVerdict::NoOrder(plan, before, after) => write_no_order(plan, before, after, sink),
+        OrderVerdict::NewUnsound(findings) => write_verdict_after(b"NEW ", new, findings, sink),
     }
 }
 
 /// Writes the stages of an order, and YES.
-fn write_stages<A: Allocator, W: Sink>(order: &Order<A>, sink: &mut W) -> Result<(), WriteFault>
-    ensures { Wrote W.taken W.failed sink.old sink.new (stages_text order.now) result }
+fn write_stages<A: Allocator, W: Sink>(
+    order: &Order<A>,
+    with_old: bool,
+    sink: &mut W,
+) -> Result<(), WriteFault>
+    ensures { Wrote W.taken W.failed sink.old sink.new (stages_text with_old order.now) result }
 {
     for stage in 0..order.stages() {
-        write_stage(order, stage, sink)?;
+        write_stage(order, stage, with_old, sink)?;
     }
     write_parts(&[b"VERDICT YES\n"], sink)
 }
@@ -48,13 +72,14 @@ fn write_stages<A: Allocator, W: Sink>(order: &Order<A>, sink: &mut W) -> Result
 fn write_stage<A: Allocator, W: Sink>(
     order: &Order<A>,
     stage: usize,
+    with_old: bool,
     sink: &mut W,
 ) -> Result<(), WriteFault>
     requires { stage < stages_in order.now }
-    ensures { Wrote W.taken W.failed sink.old sink.new (stage_text order.now stage) result }
+    ensures { Wrote W.taken W.failed sink.old sink.new (stage_text with_old order.now stage) result }
 {
     write_number(order, stage, sink)?;
-    write_exchanges(order, stage, sink)
+    write_exchanges(order, stage, with_old, sink)
 }
 
 /// Writes the line that begins a stage.
@@ -76,16 +101,17 @@ fn write_number<A: Allocator, W: Sink>(
 fn write_exchanges<A: Allocator, W: Sink>(
     order: &Order<A>,
     stage: usize,
+    with_old: bool,
     sink: &mut W,
 ) -> Result<(), WriteFault>
     requires { stage < stages_in order.now }
     ensures { Wrote W.taken W.failed sink.old sink.new
-        (switched_lines order.now.transition.new (plan_before order.now stage)
+        (switched_lines with_old order.now.transition.new (plan_before order.now stage)
         (plan_before order.now (stage + 1))) result }
 {
     let plan = order.new_plan();
     for index in 0..plan.exchanges() {
-        write_exchange(order, stage, ExchangeId::of(index), sink)?;
+        write_exchange(order, stage, ExchangeId::of(index), with_old, sink)?;
     }
     Ok(())
 }
@@ -95,16 +121,17 @@ fn write_exchange<A: Allocator, W: Sink>(
     order: &Order<A>,
     stage: usize,
     exchange: ExchangeId,
+    with_old: bool,
     sink: &mut W,
 ) -> Result<(), WriteFault>
     requires { stage < stages_in order.now }
     ensures { Wrote W.taken W.failed sink.old sink.new
-        (exchange_lines order.now.transition.new (plan_before order.now stage)
+        (exchange_lines with_old order.now.transition.new (plan_before order.now stage)
         (plan_before order.now (stage + 1)) exchange) result }
 {
     let plan = order.new_plan();
     for index in 0..plan.codes() {
-        write_entry(order, stage, exchange, CodeId::of(index), sink)?;
+        write_entry(order, stage, exchange, CodeId::of(index), with_old, sink)?;
     }
     Ok(())
 }
@@ -115,15 +142,16 @@ fn write_entry<A: Allocator, W: Sink>(
     stage: usize,
     exchange: ExchangeId,
     code: CodeId,
+    with_old: bool,
     sink: &mut W,
 ) -> Result<(), WriteFault>
     requires { stage < stages_in order.now }
     ensures { Wrote W.taken W.failed sink.old sink.new
-        (entry_lines order.now.transition.new (plan_before order.now stage)
+        (entry_lines with_old order.now.transition.new (plan_before order.now stage)
         (plan_before order.now (stage + 1)) exchange code) result }
 {
     write_bar(order, stage, exchange, code, sink)?;
-    write_switched_list(order, stage, exchange, code, sink)
+    write_switched_list(order, stage, exchange, code, with_old, sink)
 }
 
 /// Writes that a bar is set or lifted, if it is.
@@ -166,28 +194,30 @@ fn write_pair<A: Allocator, W: Sink>(
     write_parts(&[word, name, b" ", plan.code_figures(code), b"\n"], sink)
 }
 
-/// Writes the list that is set, if it is another one.
+/// Writes the list that is set, if it is another one, and the old one if that is asked for.
 fn write_switched_list<A: Allocator, W: Sink>(
     order: &Order<A>,
     stage: usize,
     exchange: ExchangeId,
     code: CodeId,
+    with_old: bool,
     sink: &mut W,
 ) -> Result<(), WriteFault>
     requires { stage < stages_in order.now }
     ensures { Wrote W.taken W.failed sink.old sink.new
-        (line_unless_same order.now.transition.new code exchange
+        (line_unless_same with_old order.now.transition.new code exchange
         (route_list (plan_before order.now stage) exchange code)
         (route_list (plan_before order.now (stage + 1)) exchange code)) result }
 {
     order.rules();
-    if order.list(stage, exchange, code) == order.list(stage + 1, exchange, code) {
+    let old = order.list(stage, exchange, code);
+    if old == order.list(stage + 1, exchange, code) {
         return Ok(());
     }
-    write_list(order.new_plan(), code, exchange, sink)
+    write_new_list(order.new_plan(), code, exchange, old, with_old, sink)
 }
 
-/// Writes the findings of the old plan and of the new one, and NO with their number.
+/// Writes the findings of both plans over the joined network, and NO with their number.
 fn write_no_order<A: Allocator, W: Sink>(
     plan: &Plan<A>,
     before: &Ranking<A>,
@@ -199,8 +229,8 @@ fn write_no_order<A: Allocator, W: Sink>(
 {
     let before = findings(before);
     let after = findings(after);
-    write_findings(plan, b"OLD ", before, sink)?;
-    write_findings(plan, b"NEW ", after, sink)?;
+    write_findings_after(b"OLD ", plan, before, sink)?;
+    write_findings_after(b"NEW ", plan, after, sink)?;
     write_no(before.len() + after.len(), sink)
 }
 
@@ -212,34 +242,4 @@ fn findings<A: Allocator>(ranking: &Ranking<A>) -> &[Finding<A>]
         Ranking::Found(_) => &[],
         Ranking::Fails(findings) => findings.as_slice(),
     }
-}
-
-/// Writes the line of each finding after a word.
-fn write_findings<A: Allocator, W: Sink>(
-    plan: &Plan<A>,
-    word: &[u8],
-    findings: &[Finding<A>],
-    sink: &mut W,
-) -> Result<(), WriteFault>
-    ensures { Wrote W.taken W.failed sink.old sink.new
-        (flat_map (finding_of plan.now word.now) findings.now) result }
-{
-    for i in 0..findings.len() {
-        write_finding_of(plan, word, &findings[i], sink)?;
-    }
-    Ok(())
-}
-
-/// Writes the line of a finding after a word.
-fn write_finding_of<A: Allocator, W: Sink>(
-    plan: &Plan<A>,
-    word: &[u8],
-    finding: &Finding<A>,
-    sink: &mut W,
-) -> Result<(), WriteFault>
-    ensures { Wrote W.taken W.failed sink.old sink.new
-        (finding_of plan.now word.now finding.now) result }
-{
-    write_bytes(word, sink)?;
-    write_finding(plan, finding, sink)
 }

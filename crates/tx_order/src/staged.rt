@@ -5,50 +5,54 @@ ghost use Rattle.tx_plan.specs.Mixtures.{SameNetwork};
 ghost use Rattle.tx_order.specs.OrderTold.{IsStagedOf, IsOrderTold, mark_after};
 ghost use Rattle.tx_order.specs.inner.Made.{IsMade, CanBeStaged, IsMadeAnswer, IsStageMade, IsReported};
 
+use crate::judging::{OrderVerdict, judge_order};
 use crate::lists::lists_before;
 use crate::order_fault::OrderFault;
 use crate::orders::Order;
-use crate::report::write_switching;
-use crate::switching::{Switching, order};
+use crate::report::write_order;
 use std::alloc::{Allocator, Global};
 use tx_cert::Cert;
 use tx_change::Lists;
+use tx_join::Joined;
 use tx_plan::{Limits, Plan};
 use tx_text::Sink;
 
 /// What the search for an order comes to, when its report is written.
 #[derive(Debug, Drop)]
 pub enum Staged<A: Allocator = Global> {
-    /// There is one. If a stage was asked for, the plan after it, and a certificate for this plan
-    /// and the one before the stage.
+    /// There is one. If a stage was asked for, the plan after it over the joined network, and a
+    /// certificate for this plan and the one before the stage.
     Ordered(Option<(Plan<A>, Cert<A>)>),
-    /// There is none.
+    /// There is none, or the new plan as it is is not sound.
     NoOrder,
 }
 
 /// Looks for an order in which the lists and the bars of a plan are switched to those of another
-/// one of the same network, and writes its report. Answers the plan after a stage and the
-/// certificate of the stage, if its number, from 1, is asked for.
+/// one, over their joined network, and writes its report, with the old lists if they are asked for.
+/// Answers the plan after a stage and the certificate of the stage, if its number, from 1, is asked
+/// for.
 ///
 /// Nothing is written where the order does not have the stage, and where memory runs out.
 pub fn tell_order<A: Allocator + Copy, W: Sink>(
     alloc: A,
-    old: Plan<A>,
-    new: Plan<A>,
+    old: &Plan<A>,
+    new: &Plan<A>,
+    joined: Joined<A>,
     limits: Limits,
     stage: Option<u8>,
+    with_old: bool,
     out: &mut W,
 ) -> Result<Staged<A>, OrderFault>
-    requires network { SameNetwork old new }
-    ensures told { IsOrderTold old new stage limits.limit limits.spare
-        (output W.taken out.old out.new) result }
+    requires network { SameNetwork joined.old joined.new }
+    ensures told { IsOrderTold old.now new.now joined.old joined.new stage with_old
+        limits.limit limits.spare (output W.taken out.old out.new) result }
     ensures mark { W.failed out.new ≡ mark_after (W.failed out.old) result }
 {
-    let switching = order(alloc, old, new, limits)?;
-    match report(alloc, &switching, limits, stage, out) {
-        Ok(made) => Ok(staged_of(switching, made)),
+    let verdict = judge_order(alloc, joined, new, limits)?;
+    match report(alloc, old, new, &verdict, limits, stage, with_old, out) {
+        Ok(made) => Ok(staged_of(verdict, made)),
         Err(fault) => {
-            drop(switching);
+            drop(verdict);
             Err(fault)
         }
     }
@@ -57,30 +61,33 @@ pub fn tell_order<A: Allocator + Copy, W: Sink>(
 /// Makes what takes memory of the stage that is asked for, and writes the report.
 fn report<A: Allocator + Copy, W: Sink>(
     alloc: A,
-    switching: &Switching<A>,
+    old: &Plan<A>,
+    new: &Plan<A>,
+    verdict: &OrderVerdict<A>,
     limits: Limits,
     stage: Option<u8>,
+    with_old: bool,
     out: &mut W,
 ) -> Result<Option<(Lists<A>, Cert<A>)>, OrderFault>
-    ensures reported { IsReported stage limits.limit limits.spare (output W.taken out.old out.new)
-        switching.now result }
+    ensures reported { IsReported old.now new.now stage with_old limits.limit limits.spare
+        (output W.taken out.old out.new) verdict.now result }
     ensures mark { W.failed out.new ≡ mark_after (W.failed out.old) result }
 {
-    let made = made_of(alloc, switching, stage)?;
-    write_switching(switching, limits, out)?;
+    let made = made_of(alloc, verdict, stage)?;
+    write_order(old, new, verdict, limits, with_old, out)?;
     Ok(made)
 }
 
 /// Makes what takes memory of the stage that is asked for, if one is.
 fn made_of<A: Allocator + Copy>(
     alloc: A,
-    switching: &Switching<A>,
+    verdict: &OrderVerdict<A>,
     stage: Option<u8>,
 ) -> Result<Option<(Lists<A>, Cert<A>)>, OrderFault>
-    ensures { IsMadeAnswer stage switching.now result }
+    ensures { IsMadeAnswer stage verdict.now result }
 {
-    match (switching, stage) {
-        (Switching::Ordered(order), Some(stage)) => {
+    match (verdict, stage) {
+        (OrderVerdict::Ordered(order), Some(stage)) => {
             Ok(Some(stage_of(alloc, order, usize::from(stage))?))
         }
         _ => Ok(None),
@@ -107,17 +114,18 @@ fn stage_of<A: Allocator + Copy>(
 
 /// What the search came to, with what was made of the stage.
 fn staged_of<A: Allocator + Copy>(
-    switching: Switching<A>,
+    verdict: OrderVerdict<A>,
     made: Option<(Lists<A>, Cert<A>)>,
 ) -> Staged<A>
-    requires { CanBeStaged switching made }
-    ensures { (stage : Option ℕ) → IsMade stage switching made → IsStagedOf stage switching result }
+    requires { CanBeStaged verdict made }
+    ensures { (stage : Option ℕ) → IsMade stage verdict made → IsStagedOf stage verdict result }
 {
-    match switching {
-        Switching::Ordered(order) => match made {
+    match verdict {
+        OrderVerdict::Ordered(order) => match made {
             Some((lists, cert)) => Staged::Ordered(Some((order.with_lists(lists), cert))),
             None => Staged::Ordered(None),
         },
-        Switching::NoOrder(_, _, _) => Staged::NoOrder,
+        OrderVerdict::NoOrder(_, _, _) => Staged::NoOrder,
+        OrderVerdict::NewUnsound(_) => Staged::NoOrder,
     }
 }

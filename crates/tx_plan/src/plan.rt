@@ -56,6 +56,13 @@ impl<A: Allocator> Plan<A> {
         let _ = &self.exchanges;
     }
 
+    /// Its routes.
+    pub fn all_routes(&self) -> &Routes<A>
+        ensures { result.now ≡ self.now.routes }
+    {
+        &self.routes
+    }
+
     /// How many exchanges.
     pub fn exchanges(&self) -> usize
         ensures count { result ≡ length self.now.exchanges }

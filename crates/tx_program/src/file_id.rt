@@ -2,6 +2,7 @@
 ghost use Rattle.std.specs.Prelude.{◌≡◌, is_some};
 ghost use Rattle.tx_program.specs.SameFile.{is_same_file, is_among, has_clash, known};
 
+use crate::stop::Place;
 use std::fs;
 use std::fs::Metadata;
 use std::io::ErrorKind;
@@ -57,6 +58,7 @@ fn folder_of(name: &str) -> &str {
 /// A file of a command, with its id.
 #[derive(Clone, Copy, Debug)]
 pub(crate) struct KnownFile<'n> {
+    pub place: Place,
     pub name: &'n str,
     id: FileId,
     /// Its name in its folder, where it is not there.
@@ -64,14 +66,19 @@ pub(crate) struct KnownFile<'n> {
 }
 
 impl<'n> KnownFile<'n> {
-    /// The file that is meant by a name.
-    pub(crate) fn new(name: &'n str, id: FileId) -> KnownFile<'n> {
+    /// The file at a place, which is meant by a name.
+    pub(crate) fn new(place: Place, name: &'n str, id: FileId) -> KnownFile<'n> {
         let free = if id.is_free {
             Path::new(name).file_name()
         } else {
             None
         };
-        KnownFile { name, id, free }
+        KnownFile {
+            place,
+            name,
+            id,
+            free,
+        }
     }
 
     /// Whether it is there.
@@ -89,33 +96,33 @@ impl<'n> KnownFile<'n> {
     }
 }
 
-/// The first of these files that is this one, by its name.
-fn first_as<'n>(files: &[Option<KnownFile<'n>>], file: KnownFile<'_>) -> Option<&'n str>
+/// The place of the first of these files that is this one.
+fn first_as(files: &[Option<KnownFile<'_>>], file: KnownFile<'_>) -> Option<Place>
     ensures { is_some result ≡ is_among (known files.now) file.entry }
 {
     for i in 0..files.len() {
         if let Some(other) = files[i] {
             if other.is_same_file(&file) {
-                return Some(other.name);
+                return Some(other.place);
             }
         }
     }
     None
 }
 
-/// Two names of one file: that of a file to be made, and one of a file that is read or to be made
+/// Two places of one file: that of a file to be made, and one of a file that is read or to be made
 /// too.
-pub(crate) fn clash<'n>(
-    read: &[Option<KnownFile<'n>>],
-    made: &[Option<KnownFile<'n>>],
-) -> Option<(&'n str, &'n str)>
+pub(crate) fn clash(
+    read: &[Option<KnownFile<'_>>],
+    made: &[Option<KnownFile<'_>>],
+) -> Option<(Place, Place)>
     ensures { is_some result ≡ has_clash (known read.now) (known made.now) }
 {
     for i in 0..made.len() {
         if let Some(file) = made[i] {
             let other = first_as(read, file).or(first_as(&made[i + 1..], file));
             if let Some(other) = other {
-                return Some((file.name, other));
+                return Some((file.place, other));
             }
         }
     }

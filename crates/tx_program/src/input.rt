@@ -1,6 +1,6 @@
 // What a command reads.
 use crate::folder::Folder;
-use crate::stop::Stop;
+use crate::stop::{Place, Stop};
 use std::io;
 use std::io::Read;
 use tx_commands::STANDARD_INPUT;
@@ -32,26 +32,27 @@ pub(crate) struct Inputs<I: Read + Drop, R: Read + Drop> {
 
 impl<I: Read + Drop, R: Read + Drop> Inputs<I, R> {
     /// Opens the files of these names, the first one first.
-    pub(crate) fn open<'n, F: Folder<Input = R>>(
-        names: [Option<&'n str>; 3],
+    pub(crate) fn open<F: Folder<Input = R>>(
+        names: [Option<&str>; 3],
         folder: &F,
         standard: I,
-    ) -> Result<Inputs<I, R>, Stop<'n>> {
+    ) -> Result<Inputs<I, R>, Stop> {
         let mut standard = Some(standard);
         Ok(Inputs {
-            first: open(names[0], folder, &mut standard)?,
-            second: open(names[1], folder, &mut standard)?,
-            third: open(names[2], folder, &mut standard)?,
+            first: open(0, names[0], folder, &mut standard)?,
+            second: open(1, names[1], folder, &mut standard)?,
+            third: open(2, names[2], folder, &mut standard)?,
         })
     }
 }
 
 /// Opens a file, or takes standard input where `-` is named, which can be read once.
-fn open<'n, F: Folder, I: Read + Drop>(
-    name: Option<&'n str>,
+fn open<F: Folder, I: Read + Drop>(
+    index: usize,
+    name: Option<&str>,
     folder: &F,
     standard: &mut Option<I>,
-) -> Result<Option<Input<I, F::Input>>, Stop<'n>> {
+) -> Result<Option<Input<I, F::Input>>, Stop> {
     match name {
         Some(STANDARD_INPUT) => match standard.take() {
             Some(input) => Ok(Some(Input::Standard(input))),
@@ -59,7 +60,7 @@ fn open<'n, F: Folder, I: Read + Drop>(
         },
         Some(name) => match folder.open(name) {
             Ok(file) => Ok(Some(Input::File(file))),
-            Err(error) => Err(Stop::Read(name, error)),
+            Err(error) => Err(Stop::Read(Place::Read(index), error)),
         },
         None => Ok(None),
     }

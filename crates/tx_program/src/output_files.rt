@@ -2,22 +2,22 @@
 use crate::ends::Output;
 use crate::folder::Folder;
 use crate::new_file::NewFile;
-use crate::stop::Stop;
+use crate::stop::{Place, Stop};
 use crate::targets::{Target, Targets};
 use std::alloc::Allocator;
 use std::io::Write;
-use tx_jobs::{Content, Done, JobFault, write_content};
+use tx_jobs::{Content, JobFault, Outcome, write_content};
 
 /// Makes the files that are named, one after another, of which the command came to what goes into
 /// them.
-pub(crate) fn write_files<'n, A: Allocator + Copy, F: Folder, O: Write + Drop>(
+pub(crate) fn write_files<A: Allocator + Copy, F: Folder, O: Write + Drop>(
     alloc: A,
-    done: &Done<A>,
-    targets: &Targets<'n>,
+    outcome: &Outcome<A>,
+    targets: &Targets<'_>,
     folder: &F,
     report: &Output<O, A>,
-) -> Result<(), Stop<'n>> {
-    let contents = done.contents();
+) -> Result<(), Stop> {
+    let contents = outcome.contents();
     for i in 0..3usize {
         if let Some(content) = contents[i] {
             if let Some(target) = targets.get(i, folder)? {
@@ -29,19 +29,19 @@ pub(crate) fn write_files<'n, A: Allocator + Copy, F: Folder, O: Write + Drop>(
 }
 
 /// Once the report is out, makes the file of this name: whole, or not at all.
-fn write_file<'n, A: Allocator + Copy, F: Folder, O: Write + Drop>(
+fn write_file<A: Allocator + Copy, F: Folder, O: Write + Drop>(
     alloc: A,
     content: Content<'_, A>,
-    target: Target<'n>,
+    target: Target<'_>,
     folder: &F,
     report: &Output<O, A>,
-) -> Result<(), Stop<'n>> {
+) -> Result<(), Stop> {
     report.let_out()?;
     let mut file = NewFile::new(folder, target);
-    match write_to(alloc, content, target.name(), &mut file) {
+    match write_to(alloc, content, target.place(), &mut file) {
         Ok(()) => match file.finish() {
             Ok(()) => Ok(()),
-            Err(error) => Err(Stop::Write(target.name(), error)),
+            Err(error) => Err(Stop::Write(target.place(), error)),
         },
         Err(stop) => {
             file.give_up();
@@ -51,19 +51,19 @@ fn write_file<'n, A: Allocator + Copy, F: Folder, O: Write + Drop>(
 }
 
 /// Writes what a file holds, once there is room for its output.
-fn write_to<'n, A: Allocator + Copy, W: Write + Drop>(
+fn write_to<A: Allocator + Copy, W: Write + Drop>(
     alloc: A,
     content: Content<'_, A>,
-    name: &'n str,
+    place: Place,
     file: W,
-) -> Result<(), Stop<'n>> {
+) -> Result<(), Stop> {
     let output = Output::new(alloc, file)?;
     let written = write_content(content, &mut output.sink());
     if output.let_out().is_ok() && written.is_ok() {
         return Ok(());
     }
     match output.take_failure() {
-        Some(error) => Err(Stop::Write(name, error)),
+        Some(error) => Err(Stop::Write(place, error)),
         None => Err(Stop::Job(JobFault::Write)),
     }
 }

@@ -8,13 +8,13 @@ use crate::ends::{FailedRead, Output};
 use crate::folder::Folder;
 use crate::input::Inputs;
 use crate::output_files::write_files;
-use crate::stop::{Stop, write_stop};
+use crate::stop::{Place, Stop, write_stop};
 use crate::targets::Targets;
 use crate::tell::{announce_input, tell_words};
 use std::alloc::{Allocator, Global};
 use std::io::{IsTerminal, Read, Write};
 use tx_commands::{Command, Files, WordsFault, read_command};
-use tx_jobs::{Done, JobFault, do_job, write_fault};
+use tx_jobs::{JobFault, Outcome, do_command, write_fault};
 use tx_text::ToWrite;
 
 /// The ends of the program: a folder of files, standard input, standard output and standard error.
@@ -100,7 +100,7 @@ pub fn run_command<
 /// Writes why a command was not done, in one line on standard error, and returns the exit status.
 fn tell_stop<A: Allocator, E: Write + Drop>(
     alloc: A,
-    stop: &Stop<'_>,
+    stop: &Stop,
     command: &Command,
     errors: E,
 ) -> u8
@@ -113,59 +113,57 @@ fn tell_stop<A: Allocator, E: Write + Drop>(
 /// Opens the files of a command, sees that those to be made take the place of no others, does its
 /// job, and lets its output out. Answers the exit status. An output that fails is reported before
 /// any other fault.
-pub(crate) fn perform<'c, A: Allocator + Copy, F: Folder, I: Read + Drop, O: Write + Drop>(
+pub(crate) fn perform<A: Allocator + Copy, F: Folder, I: Read + Drop, O: Write + Drop>(
     alloc: A,
-    command: &'c Command,
+    command: &Command,
     folder: &F,
     input: I,
     output: O,
-) -> Result<u8, Stop<'c>>
+) -> Result<u8, Stop>
     requires { IsInRange command.now }
 {
     let files = Files::of(command);
     let inputs = Inputs::open(files.reads, folder, input)?;
-    let targets = Targets::of(alloc, files, folder)?;
+    let targets = Targets::of(files, folder);
+    targets.require_free(alloc, folder)?;
     let output = Output::new(alloc, output)?;
     let done = carry_out(alloc, command, inputs, &targets, folder, &output);
     if output.let_out().is_err() {
         return Err(match output.take_failure() {
-            Some(error) => Stop::Write("standard output", error),
+            Some(error) => Stop::Write(Place::Output, error),
             None => Stop::Job(JobFault::Write),
         });
     }
     match done {
-        Err(Stop::Job(JobFault::Read)) => Err(failed_read(&files, output.take_failed_read())),
+        Err(Stop::Job(JobFault::Read)) => Err(failed_read(output.take_failed_read())),
         done => done,
     }
 }
 
 /// Why a read failed: which file it was of, if that is known.
-fn failed_read<'n>(files: &Files<'n>, failed: Option<FailedRead>) -> Stop<'n> {
+fn failed_read(failed: Option<FailedRead>) -> Stop {
     match failed {
-        Some((index, error)) => match files.reads.get(index) {
-            Some(Some(name)) => Stop::Read(name, error),
-            _ => Stop::Job(JobFault::Read),
-        },
+        Some((index, error)) => Stop::Read(Place::Read(index), error),
         None => Stop::Job(JobFault::Read),
     }
 }
 
 /// Does the job of a command over its files, which are open, and closes them. Then it makes the
 /// files of what the command came to.
-fn carry_out<'c, A: Allocator + Copy, F: Folder, I: Read + Drop, O: Write + Drop>(
+fn carry_out<A: Allocator + Copy, F: Folder, I: Read + Drop, O: Write + Drop>(
     alloc: A,
     command: &Command,
     inputs: Inputs<I, F::Input>,
-    targets: &Targets<'c>,
+    targets: &Targets<'_>,
     folder: &F,
     output: &Output<O, A>,
-) -> Result<u8, Stop<'c>>
+) -> Result<u8, Stop>
     requires { IsInRange command.now }
 {
-    let done = do_over(alloc, command, inputs, output)?;
-    let made = write_files(alloc, &done, targets, folder, output);
-    let status = done.status();
-    drop(done);
+    let outcome = do_over(alloc, command, inputs, output)?;
+    let made = write_files(alloc, &outcome, targets, folder, output);
+    let status = outcome.done.status();
+    drop(outcome);
     made?;
     Ok(status)
 }
@@ -176,13 +174,13 @@ fn do_over<A: Allocator + Copy, I: Read + Drop, J: Read + Drop, O: Write + Drop>
     command: &Command,
     inputs: Inputs<I, J>,
     output: &Output<O, A>,
-) -> Result<Done<A>, JobFault>
+) -> Result<Outcome<A>, JobFault>
     requires { IsInRange command.now }
 {
     let mut first = output.source(alloc, 0, inputs.first)?;
     let mut second = output.source(alloc, 1, inputs.second)?;
     let mut third = output.source(alloc, 2, inputs.third)?;
-    do_job(
+    do_command(
         alloc,
         command,
         &mut first,

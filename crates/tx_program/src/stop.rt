@@ -6,39 +6,59 @@ ghost use Rattle.tx_program.specs.declared.stop.Stop.TheVariants.{Job as JobFail
 use crate::kind::TextKind;
 use std::alloc::Allocator;
 use std::io;
-use tx_commands::{Command, STANDARD_INPUT};
+use tx_commands::{Command, Files, STANDARD_INPUT};
 use tx_jobs::{JobFault, write_fault};
 use tx_lint::write_escaped;
 use tx_text::{Sink, WriteFault, write_bytes, write_parts};
 
+/// A file of a command, by its place among those that it reads or makes, or standard output.
+#[derive(Clone, Copy, Debug)]
+pub(crate) enum Place {
+    Read(usize),
+    Made(usize),
+    Output,
+}
+
+impl Place {
+    /// Its name.
+    fn name<'n>(self, files: &Files<'n>) -> &'n str {
+        let name = match self {
+            Place::Read(index) => files.reads.get(index).copied().flatten(),
+            Place::Made(index) => files.makes().get(index).copied().flatten(),
+            Place::Output => None,
+        };
+        name.unwrap_or("standard output")
+    }
+}
+
 /// Why the program stopped before a command was done.
 #[derive(Debug, Drop)]
-pub(crate) enum Stop<'n> {
+pub(crate) enum Stop {
     /// The job stopped.
     Job(JobFault),
     /// A file could not be opened or read, and what the system said.
-    Read(&'n str, io::Error),
+    Read(Place, io::Error),
     /// A file could not be made, or standard output not be written to.
-    Write(&'n str, io::Error),
+    Write(Place, io::Error),
     /// A file is to be made, and is read or to be made by another name too.
-    OneFile(&'n str, &'n str),
+    OneFile(Place, Place),
     /// A file that is to be made is there, and holds another kind of text.
     OtherKind {
-        name: &'n str,
+        file: Place,
         held: TextKind,
         wanted: TextKind,
     },
 }
 
-impl<'n> From<JobFault> for Stop<'n> {
+impl From<JobFault> for Stop {
     ghost from_gives = { λ fault stop. stop ≡ JobFailed fault };
 
-    fn from(fault: JobFault) -> Stop<'n> {
+    fn from(fault: JobFault) -> Stop {
         Stop::Job(fault)
     }
 }
 
-impl<'n> Stop<'n> {
+impl Stop {
     /// The exit status: that of the job, 3 where an end failed, or 64 where a file must not be
     /// made.
     pub(crate) fn status(&self) -> u8
@@ -55,26 +75,31 @@ impl<'n> Stop<'n> {
 /// Writes why a command was not done, in one line.
 pub(crate) fn write_stop<A: Allocator, W: Sink>(
     alloc: A,
-    stop: &Stop<'_>,
+    stop: &Stop,
     command: &Command,
     sink: &mut W,
 ) -> Result<(), WriteFault> {
+    let files = Files::of(command);
     match stop {
         Stop::Job(fault) => write_job_fault(fault, command, sink),
         Stop::Read(..) if has_plain_faults(command) => write_fault(&JobFault::Read, sink),
         Stop::Write(..) if has_plain_faults(command) => write_fault(&JobFault::Write, sink),
-        Stop::Read(name, error) => write_failure(alloc, b"read fault", name, error, sink),
-        Stop::Write(name, error) => write_failure(alloc, b"write fault", name, error, sink),
-        Stop::OneFile(name, other) => {
+        Stop::Read(file, error) => {
+            write_failure(alloc, b"read fault", file.name(&files), error, sink)
+        }
+        Stop::Write(file, error) => {
+            write_failure(alloc, b"write fault", file.name(&files), error, sink)
+        }
+        Stop::OneFile(file, other) => {
             write_bytes(b"telexplan: ", sink)?;
-            write_escaped(name.as_bytes(), sink)?;
+            write_escaped(file.name(&files).as_bytes(), sink)?;
             write_bytes(b" and ", sink)?;
-            write_escaped(other.as_bytes(), sink)?;
+            write_escaped(other.name(&files).as_bytes(), sink)?;
             write_bytes(b" are one file\n", sink)
         }
-        Stop::OtherKind { name, held, wanted } => {
+        Stop::OtherKind { file, held, wanted } => {
             write_bytes(b"telexplan: ", sink)?;
-            write_escaped(name.as_bytes(), sink)?;
+            write_escaped(file.name(&files).as_bytes(), sink)?;
             let (held, wanted) = (held.name().as_bytes(), wanted.name().as_bytes());
             write_parts(&[b" is a ", held, b", not a ", wanted, b"\n"], sink)
         }

@@ -6,7 +6,7 @@ use crate::draft::is_open_already;
 use crate::file_id::{KnownFile, clash};
 use crate::folder::Folder;
 use crate::kind::{MADE, TextKind, kind_of};
-use crate::stop::Stop;
+use crate::stop::{Place, Stop};
 use std::alloc::Allocator;
 use tx_commands::Files;
 
@@ -20,52 +20,57 @@ pub(crate) struct Targets<'n> {
 /// The name of a file that is none of the other files of its command.
 #[derive(Clone, Copy, Debug)]
 pub(crate) struct Target<'n> {
+    place: Place,
     name: &'n str,
 }
 
 impl<'n> Targets<'n> {
-    /// Those of a command that has opened what it reads. They are refused where one would be made
-    /// over another file of the command, or over another kind of text.
-    pub(crate) fn of<A: Allocator + Copy, F: Folder>(
-        alloc: A,
-        files: Files<'n>,
-        folder: &F,
-    ) -> Result<Targets<'n>, Stop<'n>> {
+    /// Those of a command that has opened what it reads.
+    pub(crate) fn of<F: Folder>(files: Files<'n>, folder: &F) -> Targets<'n> {
         let [first, second, third] = files.reads;
-        let targets = Targets {
+        Targets {
             read: [
-                identify(first, folder),
-                identify(second, folder),
-                identify(third, folder),
+                identify(Place::Read(0), first, folder),
+                identify(Place::Read(1), second, folder),
+                identify(Place::Read(2), third, folder),
             ],
             names: files.makes(),
-        };
-        let made = targets.made(folder);
-        targets.require_apart(&made)?;
+        }
+    }
+
+    /// Refuses them where one would be made over another file of the command, or over another kind
+    /// of text.
+    pub(crate) fn require_free<A: Allocator + Copy, F: Folder>(
+        &self,
+        alloc: A,
+        folder: &F,
+    ) -> Result<(), Stop> {
+        let made = self.made(folder);
+        self.require_apart(&made)?;
         for i in 0..3usize {
             if let Some(file) = made[i] {
                 require_kind(alloc, file, MADE[i], folder)?;
             }
         }
-        Ok(targets)
+        Ok(())
     }
 
     /// The files to be made.
     fn made<F: Folder>(&self, folder: &F) -> [Option<KnownFile<'n>>; 3] {
         let [plan, cert, script] = self.names;
         [
-            identify_target(plan, folder),
-            identify_target(cert, folder),
-            identify_target(script, folder),
+            identify_target(Place::Made(0), plan, folder),
+            identify_target(Place::Made(1), cert, folder),
+            identify_target(Place::Made(2), script, folder),
         ]
     }
 
     /// Refuses files to be made of which one is read, or is to be made by another name too.
-    fn require_apart(&self, made: &[Option<KnownFile<'n>>]) -> Result<(), Stop<'n>>
+    fn require_apart(&self, made: &[Option<KnownFile<'n>>]) -> Result<(), Stop>
         ensures { IfOk result (λ _. has_clash (known self.now.read) (known made.now) ≡ false) }
     {
         match clash(&self.read, made) {
-            Some((name, other)) => Err(Stop::OneFile(name, other)),
+            Some((file, other)) => Err(Stop::OneFile(file, other)),
             None => Ok(()),
         }
     }
@@ -75,51 +80,66 @@ impl<'n> Targets<'n> {
         &self,
         index: usize,
         folder: &F,
-    ) -> Result<Option<Target<'n>>, Stop<'n>>
+    ) -> Result<Option<Target<'n>>, Stop>
         requires { index < 3 }
     {
         let Some(name) = self.names[index] else {
             return Ok(None);
         };
         self.require_apart(&self.made(folder))?;
-        Ok(Some(Target { name }))
+        Ok(Some(Target {
+            place: Place::Made(index),
+            name,
+        }))
     }
 }
 
 impl<'n> Target<'n> {
+    pub(crate) fn place(self) -> Place {
+        self.place
+    }
+
     pub(crate) fn name(self) -> &'n str {
         self.name
     }
 }
 
 /// The file that is meant by a name, if it is known.
-fn identify<'n, F: Folder>(name: Option<&'n str>, folder: &F) -> Option<KnownFile<'n>> {
+fn identify<'n, F: Folder>(
+    place: Place,
+    name: Option<&'n str>,
+    folder: &F,
+) -> Option<KnownFile<'n>> {
     let name = name?;
     let id = folder.identify(name)?;
-    Some(KnownFile::new(name, id))
+    Some(KnownFile::new(place, name, id))
 }
 
 /// The same of a file to be made. An output of the program takes the place of no file.
-fn identify_target<'n, F: Folder>(name: Option<&'n str>, folder: &F) -> Option<KnownFile<'n>> {
+fn identify_target<'n, F: Folder>(
+    place: Place,
+    name: Option<&'n str>,
+    folder: &F,
+) -> Option<KnownFile<'n>> {
     match name {
         Some(name) if is_open_already(name) => None,
-        name => identify(name, folder),
+        name => identify(place, name, folder),
     }
 }
 
 /// Refuses a file that is there and holds another kind of text.
-fn require_kind<'n, A: Allocator + Copy, F: Folder>(
+fn require_kind<A: Allocator + Copy, F: Folder>(
     alloc: A,
-    file: KnownFile<'n>,
+    file: KnownFile<'_>,
     wanted: TextKind,
     folder: &F,
-) -> Result<(), Stop<'n>> {
+) -> Result<(), Stop> {
     if !file.is_there() {
         return Ok(());
     }
     match kind_of(alloc, folder, file.name)? {
         Some(held) if held != wanted => Err(Stop::OtherKind {
-            name: file.name,
+            file: file.place,
             held,
             wanted,
         }),

@@ -17,10 +17,11 @@
 //!   an old plan and a new one, and writes after its report the certificate, or the mixture of the
 //!   first finding that has a walk, and its script. `order L K` has an old plan and a new one, and
 //!   `stage L K N` writes after its report the plan after stage N and its certificate. `mend L K`
-//!   has a plan, and writes after its report the mended plan and its certificate. `trace EXCHANGE
-//!   CODE` has a plan, and `lint FILE` one that is named so. `survive` has a plan and a text of
-//!   risks, and `survive alone` a plan. Each is played by sources of 1, 2, 7 and 4,096 bytes a
-//!   call, which has to make no difference. `draw`, `draw CODE` and `draw CODE L K` have a plan.
+//!   has a plan, and writes after its report the mended plan and its certificate. `change`, `order`
+//!   and `mend` may have `--old` after their numbers. `trace EXCHANGE CODE` has a plan, and
+//!   `lint FILE` one that is named so. `survive` has a plan and a text of risks, and `survive
+//!   alone` a plan. Each is played by sources of 1, 2, 7 and 4,096 bytes a call, which has to make
+//!   no difference. `draw`, `draw CODE` and `draw CODE L K` have a plan.
 //! - `pictures` and `pictures L K` have a plan, which is drawn, and each of its codes, with the
 //!   walk of the code's first finding where there are numbers.
 //! - `each-end` before such a kind also refuses each request for memory, gives each smaller room,
@@ -40,13 +41,15 @@
 //! - The kinds of these two points, and the laws of a run of `both`, are played over the plain
 //!   network and over the engine, which has to tell the same.
 //! - `cert` has a plan and a certificate, and `plan` a plan, which are written and read back. A new
-//!   certificate of the plan is written before.
+//!   certificate of the plan is written before. `joined` has an old plan and a new one, which are
+//!   written over their joined network.
 //! - `program` plays the program at its ends, over the files beside the folder `cases`:
 //!   `cases/end_case.rt` has what is in its head. `arguments` tells how it refuses its arguments.
 //! - `family` judges the ranking over a family of plans, `pairs` the change of each into each,
-//!   `orders` the order from each to each, `mends` the mending of each, and `outages` what each
-//!   group, each exchange and each two groups cut off in each. `twins` plays the engine beside the
-//!   plain network. The calls of the crates below have the kinds of `tests`.
+//!   `networks` the change and the order from each plan of a family to each of another one, of
+//!   another network, `orders` the order from each to each, `mends` the mending of each, and
+//!   `outages` what each group, each exchange and each two groups cut off in each. `twins` plays
+//!   the engine beside the plain network. The calls of the crates below have the kinds of `tests`.
 #![tactic(auto)]
 
 mod cases;
@@ -56,6 +59,7 @@ mod driven;
 mod ends;
 mod families;
 mod jobs;
+mod joined;
 mod mends;
 mod outages;
 mod play;

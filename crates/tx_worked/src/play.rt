@@ -8,6 +8,7 @@ use crate::jobs::{
     Whole, count_calls, do_in_room, list_prefixes, play_pictures, try_ends, try_pieces,
     try_refusals,
 };
+use crate::joined::play_joined;
 use crate::runs::{Over, Script, run_beside};
 use crate::whole_runs::{Part, play_run};
 use crate::written::{play_cert, play_plan};
@@ -33,6 +34,7 @@ pub(crate) fn play_texts(
         TextKind::Pictures => play_pictures(alloc, head, texts, out),
         TextKind::Plan => play_plan(alloc, texts, out),
         TextKind::Cert => play_cert(alloc, first, second, out),
+        TextKind::Joined => play_joined(alloc, first, second, out),
         TextKind::Driven(driven) => play_over_both(alloc, driven, head, first, second, out),
     }
 }
@@ -102,18 +104,18 @@ fn try_plain(alloc: Global, run: Task<'_>, job: &[u8], out: &mut Told) {
 
 /// Writes what a task wrote, and its fault. That the plan has no such exchange or code is told by
 /// the exit status alone.
-fn tell_whole(whole: Whole<'_>, out: &mut Told) {
+fn tell_whole(whole: &Whole<'_>, out: &mut Told) {
     tell(whole.text, out);
-    match whole.answer {
+    match &whole.answer {
         Err(JobFault::NoSuchExchange | JobFault::NoSuchCode) | Ok(_) => {}
         Err(fault) => {
-            let _ = write_fault(&fault, out);
+            let _ = write_fault(fault, out);
         }
     }
 }
 
 /// Tells a task that was done whole, and tries its laws, or plays each front of its last text.
-fn play_whole(alloc: Global, task: Task<'_>, whole: Whole<'_>, mode: Mode, out: &mut Told) {
+fn play_whole(alloc: Global, task: Task<'_>, whole: &Whole<'_>, mode: Mode, out: &mut Told) {
     if let Mode::Once = mode {
         return tell_whole(whole, out);
     }
@@ -164,7 +166,7 @@ fn play_task(alloc: Global, task: Task<'_>, mode: Mode, out: &mut Told) {
         answer: did.answer,
         text: written.taken(),
     };
-    play_whole(alloc, task, whole, mode, out);
+    play_whole(alloc, task, &whole, mode, out);
 }
 
 /// Tries that a plan and a script in two texts and in one do the same, and the laws of the run.
@@ -172,7 +174,7 @@ fn try_both(
     alloc: Global,
     run: Task<'_>,
     pipe: Task<'_>,
-    whole: Whole<'_>,
+    whole: &Whole<'_>,
     head: Head<'_>,
     out: &mut Told,
 ) {
@@ -212,5 +214,5 @@ fn play_both(alloc: Global, head: Head<'_>, input: &[u8], out: &mut Told) {
         answer: did.answer,
         text: written.taken(),
     };
-    try_both(alloc, run, pipe, whole, head, out);
+    try_both(alloc, run, pipe, &whole, head, out);
 }

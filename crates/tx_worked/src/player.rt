@@ -3,7 +3,7 @@ use crate::cases::{
     Case, Kind, Told, cases_of, head_of, next_case, spell, tell, tell_broken, tell_count,
     tell_differing,
 };
-use crate::changes::{play_orders, play_pairs};
+use crate::changes::{play_networks, play_orders, play_pairs};
 use crate::ends::{play_arguments, play_program};
 use crate::mends::play_mends;
 use crate::outages::play_outages;
@@ -69,6 +69,7 @@ impl<'a> Player<'a> {
             Some(Kind::Arguments) => play_arguments(alloc, head.first, out),
             Some(Kind::Family) => play_family(alloc, texts, out),
             Some(Kind::Pairs) => play_pairs(alloc, texts, out),
+            Some(Kind::Networks) => play_networks(alloc, texts, out),
             Some(Kind::Orders) => play_orders(alloc, texts, out),
             Some(Kind::Mends) => play_mends(alloc, texts, out),
             Some(Kind::Outages) => play_outages(alloc, texts, out),

@@ -18,8 +18,8 @@ runs_a_script other = false
 -- it is over two texts: a plan and a certificate, or two plans
 abbrev pub has_two_texts : Command → Bool
 has_two_texts (Check plan cert limit spare) = true
-has_two_texts (Change before after limit spare cert mixture counter) = true
-has_two_texts (Order before after limit spare stage plan cert) = true
+has_two_texts (Change before after limit spare cert mixture counter with_old) = true
+has_two_texts (Order before after limit spare stage plan cert with_old) = true
 has_two_texts other = false
 
 -- it is over a plan, and may be over its named risks

@@ -35,6 +35,9 @@ pub enum Kind {
     Family,
     /// A family of plans, each of which is changed into each, judged by brute force.
     Pairs,
+    /// Two families of plans: the change from each of the one to each of the other is judged by
+    /// brute force.
+    Networks,
     /// A family of plans, with the order from each to each, judged by brute force.
     Orders,
     /// A family of plans, each of which is mended, judged by brute force.
@@ -55,6 +58,8 @@ pub enum TextKind {
     Pictures,
     Plan,
     Cert,
+    /// An old plan and a new one, over their joined network.
+    Joined,
     Driven(Driven),
 }
 
@@ -71,11 +76,12 @@ pub enum Driven {
     Starting,
 }
 
-static TEXTS: [(&str, TextKind); 9] = [
+static TEXTS: [(&str, TextKind); 10] = [
     ("both", TextKind::Both),
     ("pictures", TextKind::Pictures),
     ("plan", TextKind::Plan),
     ("cert", TextKind::Cert),
+    ("joined", TextKind::Joined),
     ("certified", TextKind::Driven(Driven::Certified)),
     ("rooms", TextKind::Driven(Driven::Rooms)),
     ("calls", TextKind::Driven(Driven::Calls)),
@@ -83,11 +89,12 @@ static TEXTS: [(&str, TextKind); 9] = [
     ("starting", TextKind::Driven(Driven::Starting)),
 ];
 
-static OTHERS: [(&str, Kind); 8] = [
+static OTHERS: [(&str, Kind); 9] = [
     ("program", Kind::Program),
     ("arguments", Kind::Arguments),
     ("family", Kind::Family),
     ("pairs", Kind::Pairs),
+    ("networks", Kind::Networks),
     ("orders", Kind::Orders),
     ("mends", Kind::Mends),
     ("outages", Kind::Outages),

@@ -36,9 +36,9 @@ static COMMANDS: [(&str, &str, &str); 25] = [
     (
         "change",
         "",
-        "change old new --limit=@1 --spare=@2 --cert=cert --mixture=plan --counter=script",
+        "change old new --limit=@1 --spare=@2 --cert=cert --mixture=plan --counter=script @3",
     ),
-    ("order", "", "order old new --limit=@1 --spare=@2"),
+    ("order", "", "order old new --limit=@1 --spare=@2 @3"),
     (
         "stage",
         "",
@@ -47,7 +47,7 @@ static COMMANDS: [(&str, &str, &str); 25] = [
     (
         "mend",
         "",
-        "mend old --limit=@1 --spare=@2 --plan=plan --cert=cert",
+        "mend old --limit=@1 --spare=@2 --plan=plan --cert=cert @3",
     ),
     ("survive", "alone", "survive plan"),
     ("survive", "totals", "survive plan --risks=risks --totals"),

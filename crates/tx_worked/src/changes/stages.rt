@@ -45,6 +45,7 @@ impl<'a> Ends<'a> {
             &mut new,
             self.limits,
             Some(stage),
+            false,
             &mut report,
         )
     }

@@ -1,7 +1,7 @@
 // A command over texts, and what it does.
 use crate::cases::{End, Ends, ROOM, Refusing, Task, Told, tell, tell_broken};
 use std::alloc::{Allocator, Global};
-use tx_jobs::{Done, JobFault, do_job, write_content};
+use tx_jobs::{JobFault, Outcome, do_command, write_content};
 use tx_text::{MemorySink, WriteFault};
 
 /// What a whole job does, beside which others are judged: its exit status or its fault, and what it
@@ -24,7 +24,7 @@ pub(crate) struct Did {
 
 impl Did {
     /// Whether it did all that the whole job does.
-    pub(crate) fn is_as(&self, whole: Whole<'_>) -> bool {
+    pub(crate) fn is_as(&self, whole: &Whole<'_>) -> bool {
         self.is_front && self.written == whole.text.len() && self.answer == whole.answer
     }
 
@@ -35,8 +35,11 @@ impl Did {
 }
 
 /// Writes what goes into the files that a command makes.
-fn write_contents<A: Allocator>(done: &Done<A>, out: &mut MemorySink) -> Result<(), WriteFault> {
-    for content in done.contents() {
+fn write_contents<A: Allocator>(
+    outcome: &Outcome<A>,
+    out: &mut MemorySink,
+) -> Result<(), WriteFault> {
+    for content in outcome.contents() {
         if let Some(content) = content {
             write_content(content, out)?;
         }
@@ -54,7 +57,7 @@ fn do_task<A: Allocator + Copy>(
     let mut first = ends.source(End::First, task.first);
     let mut second = ends.source(End::Second, task.second);
     let mut third = ends.source(End::Third, task.third);
-    let done = do_job(
+    let outcome = do_command(
         alloc,
         task.command,
         &mut first,
@@ -62,9 +65,9 @@ fn do_task<A: Allocator + Copy>(
         &mut third,
         out,
     )?;
-    let written = write_contents(&done, out);
-    let status = done.status();
-    drop(done);
+    let written = write_contents(&outcome, out);
+    let status = outcome.done.status();
+    drop(outcome);
     written?;
     Ok(status)
 }

@@ -88,7 +88,7 @@ pub(crate) fn count_calls(alloc: Global, text: Script<'_>, room: usize, out: &mu
 }
 
 /// What a job does with each front of its last text, from none of it to the whole.
-pub(crate) fn list_prefixes(alloc: Global, task: Task<'_>, whole: Whole<'_>, out: &mut Told) {
+pub(crate) fn list_prefixes(alloc: Global, task: Task<'_>, whole: &Whole<'_>, out: &mut Told) {
     let mut stretches = Stretches::new();
     let last = task.last();
     for length in 0..=last.len() {

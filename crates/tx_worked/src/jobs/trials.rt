@@ -8,7 +8,7 @@ use tx_jobs::JobFault;
 const MANY: u64 = 1_000_000;
 
 /// Plays a task by sources of 1, 2, 7 and 4,096 bytes a call, which has to make no difference.
-pub(crate) fn try_pieces(alloc: Global, task: Task<'_>, whole: Whole<'_>, out: &mut Told) {
+pub(crate) fn try_pieces(alloc: Global, task: Task<'_>, whole: &Whole<'_>, out: &mut Told) {
     for piece in [1usize, 2, 7, 4096] {
         if !done(alloc, task, Ends::pieces(piece), whole.text).is_as(whole) {
             tell_broken(b"not the same in pieces of", piece as u64, out);
@@ -19,7 +19,7 @@ pub(crate) fn try_pieces(alloc: Global, task: Task<'_>, whole: Whole<'_>, out: &
 
 /// How many calls of a source a task makes, at one byte a call. Each of them, where it fails, has
 /// to make it a read fault.
-fn reads(alloc: Global, task: Task<'_>, end: End, whole: Whole<'_>, out: &mut Told) -> u64 {
+fn reads(alloc: Global, task: Task<'_>, end: End, whole: &Whole<'_>, out: &mut Told) -> u64 {
     for made in 0..MANY {
         let ends = Ends::failing(end, made.saturating_add(1));
         let did = done(alloc, task, ends, whole.text);
@@ -35,7 +35,7 @@ fn reads(alloc: Global, task: Task<'_>, end: End, whole: Whole<'_>, out: &mut To
 
 /// Gives a task each room, up to one for all: where it is too small, the task has to stop with a
 /// write fault after so many bytes.
-fn try_rooms(alloc: Global, task: Task<'_>, whole: Whole<'_>, out: &mut Told) {
+fn try_rooms(alloc: Global, task: Task<'_>, whole: &Whole<'_>, out: &mut Told) {
     for room in 0..=whole.text.len() {
         let ends = Ends {
             room,
@@ -56,7 +56,7 @@ fn try_rooms(alloc: Global, task: Task<'_>, whole: Whole<'_>, out: &mut Told) {
 
 /// Refuses each request for memory in turn, which has to make the task run out of memory, until
 /// none is refused.
-pub(crate) fn try_refusals(alloc: Global, task: Task<'_>, whole: Whole<'_>, out: &mut Told) {
+pub(crate) fn try_refusals(alloc: Global, task: Task<'_>, whole: &Whole<'_>, out: &mut Told) {
     for refused in 1..MANY {
         let ends = Ends {
             refused,
@@ -79,10 +79,10 @@ pub(crate) fn try_refusals(alloc: Global, task: Task<'_>, whole: Whole<'_>, out:
 
 /// Gives each room, and makes each call of each source fail. Tells a task's status, how many calls
 /// of its sources it makes and how many bytes it writes.
-pub(crate) fn try_ends(alloc: Global, task: Task<'_>, whole: Whole<'_>, out: &mut Told) {
+pub(crate) fn try_ends(alloc: Global, task: Task<'_>, whole: &Whole<'_>, out: &mut Told) {
     try_rooms(alloc, task, whole, out);
-    let status = match whole.answer {
-        Ok(status) => status,
+    let status = match &whole.answer {
+        Ok(status) => *status,
         Err(fault) => fault.status(),
     };
     tell_parts(&[b"-- ", task.kind], out);

@@ -1,32 +1,25 @@
-use Rattle.std.proofs.Common.{Err, ap, inl, inr, refl}
-use Rattle.tx_text.specs.Calls.{source_calls}
-use Rattle.tx_text.proofs.CallCounts.{went_none, calls_so_far}
-use Rattle.tx_jobs.proofs.RefusedTexts.{old_plan_mark}
+use Rattle.std.proofs.Common.{inl, inr, refl}
+use Rattle.tx_text.specs.Ends.{output}
+use Rattle.tx_text.proofs.Exits.{exits_with}
+use Rattle.tx_jobs.proofs.ChangeTold.{told_over}
+use Rattle.tx_jobs.proofs.JoinedPlans.{are_joined, unjoined_mark}
 use Rattle.tx_jobs.proofs.change.change_job.Goals as goal
 
-pub returns-in-Ok-clause-answers : goal.returns-in-Ok-clause-answers
-returns-in-Ok-clause-answers g c =
-    inl (record {
-      plan = c.in-Ok.plan;
-      rules = c.in-Ok.ensures.rules;
-      read = c.in-Ok.ensures.answer;
-      goes_on = c.change_from.ensures.answers;
-    })
+pub change_of-requires : goal.change_of-requires
+change_of-requires g c = c.in_ok-plans.ensures.joined.joined
 
-pub returns-in-Err-clause-answers : goal.returns-in-Err-clause-answers
-returns-in-Err-clause-answers g c =
-    inr (record {
-      fault = c.in-Err.fault;
-      read = c.in-Err.ensures.answer;
-      told = ap Err c.of_old_plan.ensures;
-      rest = (refl, refl);
-    })
+pub returns-clause-answers : goal.returns-clause-answers
+returns-clause-answers g c =
+    let plans = c.in_ok-plans.plans in
+    let r = c.in_ok-plans.ensures.joined in
+    inl (are_joined _ _ plans r _ (told_over plans r.joined c.args.limits.limit c.args.limits.spare c.args.with_old (output g.W.Sink.taken c.args.out.now c.change_of.new.out) c.change_of.result c.change_of.ensures.told))
 
-pub returns-in-Err-clause-mark : goal.returns-in-Err-clause-mark
-returns-in-Err-clause-mark g c =
-    rw c.of_old_plan.ensures (old_plan_mark (g.W.Sink.failed c.args.out.now) c.in-Err.fault)
+pub returns-in_err-plans-clause-answers : goal.returns-in_err-plans-clause-answers
+returns-in_err-plans-clause-answers g c =
+    let f = c.in_err-plans.field-0.0 in
+    rw (exits_with c.from_residual.result f c.from_residual.ensures.1) (inr (c.in_err-plans.ensures.refused, refl))
 
-pub returns-in-Err-clause-new_calls : goal.returns-in-Err-clause-new_calls
-returns-in-Err-clause-new_calls g c =
-    calls_so_far g.Q.Source.called source_calls source_calls _ _
-    (went_none g.Q.Source.called source_calls _)
+pub returns-in_err-plans-clause-mark : goal.returns-in_err-plans-clause-mark
+returns-in_err-plans-clause-mark g c =
+    let f = c.in_err-plans.field-0.0 in
+    rw (exits_with c.from_residual.result f c.from_residual.ensures.1) (unjoined_mark (g.W.Sink.failed c.args.out.now) _ _ f c.in_err-plans.ensures.refused)

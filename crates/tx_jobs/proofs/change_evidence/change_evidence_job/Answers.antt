@@ -9,6 +9,9 @@ change_evidence_of-requires-clause-network g c = c.in_ok-changed.ensures.network
 pub change_evidence_of-requires-clause-each : goal.change_evidence_of-requires-clause-each
 change_evidence_of-requires-clause-each g c = c.in_ok-changed.ensures.each
 
+pub change_evidence_of-requires-clause-each_new : goal.change_evidence_of-requires-clause-each_new
+change_evidence_of-requires-clause-each_new g c = c.in_ok-changed.ensures.each_new
+
 pub returns-clause-answers : goal.returns-clause-answers
 returns-clause-answers g c =
     (Ok c.in_ok-changed.changed, c.in_ok-changed.ensures.answers, c.change_evidence_of.ensures)

@@ -6,5 +6,5 @@ mixture_of-requires-clause-network g c = rw c.in-Unsound.is at c.requires.networ
 pub mixture_of-requires-clause-each : goal.mixture_of-requires-clause-each
 mixture_of-requires-clause-each g c = rw c.in-Unsound.is at c.requires.each
 
-pub returns-then-with_mixture : goal.returns-then-with_mixture
-returns-then-with_mixture g c = rw (c.in-Unsound.is, c.if-with_mixture.true) c.mixture_of.ensures
+pub new_plan_of-requires : goal.new_plan_of-requires
+new_plan_of-requires g c = rw c.in-NewUnsound.is at c.requires.each_new

@@ -34,11 +34,14 @@ returns-in-Risks g c =
     (text_fault_line (codes "risks") c.in-Risks.fault.line r) c.write_text_fault-in-Risks.result)
     c.code_and_name-row-in-Risks.ensures c.write_text_fault-in-Risks.ensures)
 
-pub returns-in-TwoNetworks : goal.returns-in-TwoNetworks
-returns-in-TwoNetworks g c = rw c.in-TwoNetworks.is c.write_difference.ensures
+pub returns-in-Contradiction : goal.returns-in-Contradiction
+returns-in-Contradiction g c = rw c.in-Contradiction.is c.write_contradiction.ensures
+
+pub returns-in-TooManyTogether : goal.returns-in-TooManyTogether
+returns-in-TooManyTogether g c = rw c.in-TooManyTogether.is c.write_bytes.ensures
 
 pub returns-in-Read : goal.returns-in-Read
-returns-in-Read g c = rw c.in-Read.is c.write_bytes.ensures
+returns-in-Read g c = rw c.in-Read.is c.write_bytes-in-Read.ensures
 
 pub returns-in-Write : goal.returns-in-Write
 returns-in-Write g c = rw c.in-Write.is c.write_bytes-in-Write.ensures

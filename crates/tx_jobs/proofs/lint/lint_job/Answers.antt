@@ -1,4 +1,4 @@
-use Rattle.std.proofs.Common.{Err, ap, inl, inr, refl}
+use Rattle.std.proofs.Common.{ℕ, Err, ap, inl, inr, refl}
 use Rattle.tx_text.specs.Ends.{input, output}
 use Rattle.tx_text.proofs.Exits.{exits_with}
 use Rattle.tx_jobs.specs.LintJobs.{lint_fault}
@@ -21,7 +21,7 @@ returns-in_err-text-clause-answers g c =
     c.read_text.new.source in
     rw (exits_with c.from_residual.result (lint_fault f) c.from_residual.ensures.1)
     (inr
-    (not_read read (output g.W.Sink.taken out out) f (λ e. c.in_err-text.ensures.fault (ap Err e)) refl))
+    (not_read ℕ read (output g.W.Sink.taken out out) f (λ e. c.in_err-text.ensures.fault (ap Err e)) refl))
 
 pub returns-in_err-text-clause-mark : goal.returns-in_err-text-clause-mark
 returns-in_err-text-clause-mark g c =

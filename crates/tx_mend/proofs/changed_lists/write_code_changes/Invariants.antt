@@ -5,4 +5,4 @@ use Rattle.tx_mend.specs.MendText.{change_line}
 use Rattle.tx_mend.proofs.changed_lists.write_code_changes.Given as goal
 
 abbrev pub invariant-loop-index : goal.invariant-loop-index
-invariant-loop-index g l = WroteBy (g.W.Sink.taken l.initial.sink) (g.W.Sink.taken l.sink) (g.W.Sink.failed l.initial.sink) (g.W.Sink.failed l.sink) (flat_map (change_line l.before l.plan l.code) (range_with_len 0 l.index)) (Ok tt)
+invariant-loop-index g l = WroteBy (g.W.Sink.taken l.initial.sink) (g.W.Sink.taken l.sink) (g.W.Sink.failed l.initial.sink) (g.W.Sink.failed l.sink) (flat_map (change_line l.with_old l.before l.plan l.code) (range_with_len 0 l.index)) (Ok tt)

@@ -12,14 +12,14 @@ loop-index-init g c = wrote_none _ _
 pub loop-index-preserved : goal.loop-index-preserved
 loop-index-preserved g c =
     let o = c.args.order.now in
-    index_more (exchange_lines o.transition.new (plan_before o c.args.stage) (plan_before o (c.args.stage + 1))) c.loop-index.index c.of.result _ _ _ _ _ _ c.of.ensures c.loop-index.invariant c.in_ok-write_exchange.ensures
+    index_more (exchange_lines c.args.with_old o.transition.new (plan_before o c.args.stage) (plan_before o (c.args.stage + 1))) c.loop-index.index c.of.result _ _ _ _ _ _ c.of.ensures c.loop-index.invariant c.in_ok-write_exchange.ensures
 
 pub returns : goal.returns
 returns g c =
     let o = c.args.order.now in
-    indexes_done (exchange_lines o.transition.new (plan_before o c.args.stage) (plan_before o (c.args.stage + 1))) c.loop-index.index (length o.transition.new.exchanges) _ _ _ _ (let t = c.loop-index-test.false in let a = c.loop-index.auto.index-end in let e = c.exchanges-index-end.ensures.count in let n = ap (λ (p : Plan). length p.exchanges) c.new_plan-plan.ensures in omega arith) c.loop-index.invariant
+    indexes_done (exchange_lines c.args.with_old o.transition.new (plan_before o c.args.stage) (plan_before o (c.args.stage + 1))) c.loop-index.index (length o.transition.new.exchanges) _ _ _ _ (let t = c.loop-index-test.false in let a = c.loop-index.auto.index-end in let e = c.exchanges-index-end.ensures.count in let n = ap (λ (p : Plan). length p.exchanges) c.new_plan-plan.ensures in omega arith) c.loop-index.invariant
 
 pub returns-in_err-write_exchange : goal.returns-in_err-write_exchange
 returns-in_err-write_exchange g c =
     let o = c.args.order.now in
-    index_stopped (exchange_lines o.transition.new (plan_before o c.args.stage) (plan_before o (c.args.stage + 1))) c.loop-index.index (length o.transition.new.exchanges) c.of.result _ _ _ _ _ _ _ c.in_err-write_exchange.field-0.0 (let t = c.loop-index-test.true in let e = c.exchanges-index-end.ensures.count in let n = ap (λ (p : Plan). length p.exchanges) c.new_plan-plan.ensures in omega arith) c.of.ensures c.loop-index.invariant c.in_err-write_exchange.ensures c.from_residual.ensures.0
+    index_stopped (exchange_lines c.args.with_old o.transition.new (plan_before o c.args.stage) (plan_before o (c.args.stage + 1))) c.loop-index.index (length o.transition.new.exchanges) c.of.result _ _ _ _ _ _ _ c.in_err-write_exchange.field-0.0 (let t = c.loop-index-test.true in let e = c.exchanges-index-end.ensures.count in let n = ap (λ (p : Plan). length p.exchanges) c.new_plan-plan.ensures in omega arith) c.of.ensures c.loop-index.invariant c.in_err-write_exchange.ensures c.from_residual.ensures.0

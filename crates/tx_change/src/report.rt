@@ -1,0 +1,109 @@
+// The writer of the report of a change.
+ghost use Rattle.tx_text.specs.Wrote.{Wrote};
+ghost use Rattle.tx_change.specs.ChangeReport.{switched_lists, finding_after, findings_after, verdict_after, verdict_text, change_report};
+
+use crate::judging::ChangeVerdict;
+use std::alloc::Allocator;
+use tx_join::{Joined, write_differences};
+use tx_mend::write_changes;
+use tx_plan::{Limits, Plan};
+use tx_rank::{Finding, write_asked, write_finding, write_verdict};
+use tx_text::{Sink, WriteFault, write_bytes};
+
+/// Writes the report of a change: what was asked, in what the plans differ beside lists, the lists
+/// that are switched with those that they replace if they are asked for, a line for each finding,
+/// and the verdict. The findings of the new plan as it is come after the word NEW.
+pub fn write_change<A: Allocator, W: Sink>(
+    old: &Plan<A>,
+    new: &Plan<A>,
+    joined: &Joined<A>,
+    verdict: &ChangeVerdict<A>,
+    limits: Limits,
+    with_old: bool,
+    sink: &mut W,
+) -> Result<(), WriteFault>
+    ensures { Wrote W.taken W.failed sink.old sink.new (change_report with_old old.now new.now
+        joined.now.old joined.now.new limits.limit limits.spare verdict.now) result }
+{
+    write_asked(b"CHANGE", limits, sink)?;
+    write_differences(old, new, sink)?;
+    write_switched_lists(joined, with_old, sink)?;
+    write_found(new, joined, verdict, sink)
+}
+
+/// Writes each list that is switched, and the list that it replaces, if they are asked for.
+fn write_switched_lists<A: Allocator, W: Sink>(
+    joined: &Joined<A>,
+    with_old: bool,
+    sink: &mut W,
+) -> Result<(), WriteFault>
+    ensures { Wrote W.taken W.failed sink.old sink.new
+        (switched_lists with_old joined.now.old joined.now.new) result }
+{
+    if with_old {
+        write_changes(joined.old.all_routes(), &joined.new, true, sink)
+    } else {
+        Ok(())
+    }
+}
+
+/// Writes a line for each finding, and the verdict.
+fn write_found<A: Allocator, W: Sink>(
+    new: &Plan<A>,
+    joined: &Joined<A>,
+    verdict: &ChangeVerdict<A>,
+    sink: &mut W,
+) -> Result<(), WriteFault>
+    ensures { Wrote W.taken W.failed sink.old sink.new
+        (verdict_text joined.now.old new.now verdict.now) result }
+{
+    match verdict {
+        ChangeVerdict::Sound(_) => write_verdict(0, sink),
+        ChangeVerdict::Unsound(findings) => write_verdict_after(b"", &joined.old, findings, sink),
+        ChangeVerdict::NewUnsound(findings) => write_verdict_after(b"NEW ", new, findings, sink),
+    }
+}
+
+/// Writes the line of each finding after a word, and the verdict.
+pub fn write_verdict_after<A: Allocator, W: Sink>(
+    word: &[u8],
+    plan: &Plan<A>,
+    findings: &[Finding<A>],
+    sink: &mut W,
+) -> Result<(), WriteFault>
+    ensures { Wrote W.taken W.failed sink.old sink.new
+        (verdict_after word.now plan.now findings.now) result }
+{
+    write_findings_after(word, plan, findings, sink)?;
+    write_verdict(findings.len(), sink)
+}
+
+/// Writes the line of each finding after a word.
+pub fn write_findings_after<A: Allocator, W: Sink>(
+    word: &[u8],
+    plan: &Plan<A>,
+    findings: &[Finding<A>],
+    sink: &mut W,
+) -> Result<(), WriteFault>
+    ensures { Wrote W.taken W.failed sink.old sink.new
+        (findings_after word.now plan.now findings.now) result }
+{
+    for i in 0..findings.len() {
+        write_finding_after(word, plan, &findings[i], sink)?;
+    }
+    Ok(())
+}
+
+/// Writes the line of a finding after a word.
+fn write_finding_after<A: Allocator, W: Sink>(
+    word: &[u8],
+    plan: &Plan<A>,
+    finding: &Finding<A>,
+    sink: &mut W,
+) -> Result<(), WriteFault>
+    ensures { Wrote W.taken W.failed sink.old sink.new
+        (finding_after word.now plan.now finding.now) result }
+{
+    write_bytes(word, sink)?;
+    write_finding(plan, finding, sink)
+}

@@ -1,0 +1,106 @@
+-- The next route or bar that is taken.
+use Rattle.std.proofs.Common.{◌≡◌, ◌≢◌, ℕ, suc, ◌+◌, Bool, true, false, cond, ◌&&◌, ◌==◌, nat_lt, List, [], ◌∷◌, ◌++◌, length, map, take, drop, Option, Some, None, is_some, refl, sym, ap, ◌∙◌, subst, append_assoc, eqb-true}
+use Rattle.std.specs.Prelude.{filter, slice_get}
+use Rattle.std.specs.List.{list_any}
+use Rattle.std.specs.Option.{option_map}
+use Rattle.std.proofs.lemmas.Bool.{and_parts, false_from_ne_true}
+use Rattle.std.proofs.lemmas.List.{map-append}
+use Rattle.std.proofs.lemmas.List.Elements.{filter-append}
+use Rattle.tx_plan.specs.declared.ids.Pair.{Pair}
+use Rattle.tx_plan.specs.Plan.{Plan, Route}
+use Rattle.tx_plan.specs.Rules.{IsPlan, EachPair}
+use Rattle.tx_plan.specs.Routes.{route_list}
+use Rattle.tx_plan.proofs.ListFound.{list_found}
+use Rattle.tx_plan.proofs.Lists.{all_map}
+use Rattle.tx_join.specs.Joined.{route_in, bar_in}
+use Rattle.tx_join.specs.inner.Taken.{takes, taken_routes, taken_bars, has_bar, RoutesDiffer, BarsDiffer}
+use Rattle.tx_join.proofs.Found.{kept_next, left_next, kept_at, pairs_before, find_fails, any_find, taken_last}
+use Rattle.tx_join.proofs.NextDeclared.{so_far, grown, passed, whole}
+
+-- none before is for the pair of the next one
+module _ {A : Type 0} (exchange code : A → ℕ) where
+  pub none_before : (xs : List A) (y : A) (ys : List A) → EachPair (λ a b. exchange a ≡ exchange b → code a ≢ code b) (xs ++ y ∷ ys) → list_any (λ a. (exchange a == exchange y) && (code a == code y)) xs ≡ false
+  none_before xs y ys h =
+      let t = λ (a : A). (exchange a == exchange y) && (code a == code y) in
+      any_find t xs ∙ ap is_some (find_fails t xs (all_map xs (λ a d. false_from_ne_true (t a) (λ e. let s = and_parts (exchange a == exchange y) (code a == code y) e in d (eqb-true _ _ s.0) (eqb-true _ _ s.1))) (pairs_before (λ a b. exchange a ≡ exchange b → code a ≢ code b) xs y ys h)))
+
+-- the entry at an index, by its pair
+pub route_got : (p : Plan) → IsPlan p → (i : ℕ) (k : ℕ × ℕ) → Some k ≡ option_map (λ (r : Route). (r.exchange, r.code)) (slice_get p.routes i) → slice_get p.routes i ≡ Some (record { exchange = k.0; code = k.1; groups = route_list p k.0 k.1 })
+route_got p ok i k got = by (slice_get p.routes i) refl got
+  where
+    by : (o : Option Route) → slice_get p.routes i ≡ o → Some k ≡ option_map (λ (r : Route). (r.exchange, r.code)) o → slice_get p.routes i ≡ Some (record { exchange = k.0; code = k.1; groups = route_list p k.0 k.1 })
+    by None e h = absurd (let bad : ⊥ = cc in bad)
+    by (Some r) e h =
+        let same : k ≡ (r.exchange, r.code) = cc in
+        let x : k.0 ≡ r.exchange = ap (λ (q : ℕ × ℕ). q.0) same in
+        let c : k.1 ≡ r.code = ap (λ (q : ℕ × ℕ). q.1) same in
+        let groups : route_list p k.0 k.1 ≡ r.groups = (λ j. route_list p (x j) (c j)) ∙ list_found p i r ok e in
+        e ∙ sym (λ j. Some (record { exchange = x j; code = c j; groups = groups j }))
+
+-- an index of a list has an entry
+pub no_pair : {A : Type 0} (f : A → ℕ × ℕ) (o : Option A) (r : A) → o ≡ Some r → None ≡ option_map f o → ⊥
+no_pair f None r e h = let bad : ⊥ = cc in bad
+no_pair f (Some q) r e h = let bad : ⊥ = cc in bad
+
+pub bar_got : (bars : List Pair) (i : ℕ) (k : ℕ × ℕ) → Some k ≡ option_map (λ (b : Pair). (b.exchange, b.code)) (slice_get bars i) → slice_get bars i ≡ Some (record { exchange = k.0; code = k.1 })
+bar_got bars i k got = by (slice_get bars i) refl got
+  where
+    by : (o : Option Pair) → slice_get bars i ≡ o → Some k ≡ option_map (λ (b : Pair). (b.exchange, b.code)) o → slice_get bars i ≡ Some (record { exchange = k.0; code = k.1 })
+    by None e h = absurd (let bad : ⊥ = cc in bad)
+    by (Some b) e h =
+        let same : k ≡ (b.exchange, b.code) = cc in
+        e ∙ sym (λ j. Some (record { exchange = (same j).0; code = (same j).1 }))
+
+-- ROUTES
+
+module _ (j own from : Plan) (w : Bool) (front now : List Route) (i : ℕ) (r : Route) (at : slice_get from.routes i ≡ Some r) (is : now ≡ front ++ map (route_in j from) (filter (λ r. takes own from w r.exchange r.code) (take i from.routes))) where
+  abbrev pub t : Route → Bool
+  t r = takes own from w r.exchange r.code
+
+  pub route_next : (new : List Route) → t r ≡ true → new ≡ now ++ route_in j from r ∷ [] → new ≡ front ++ map (route_in j from) (filter t (take (i + 1) from.routes))
+  route_next new h e = e ∙ ap (λ l. l ++ route_in j from r ∷ []) is ∙ grown front t (route_in j from) from.routes i r at h
+
+  pub route_left : (new : List Route) → t r ≡ false → new ≡ now → new ≡ front ++ map (route_in j from) (filter t (take (i + 1) from.routes))
+  route_left new h e = e ∙ is ∙ passed front t (route_in j from) from.routes i r at h
+
+  pub route_free : RoutesDiffer (front ++ taken_routes j own from w) → t r ≡ true → list_any (λ a. (a.exchange == (route_in j from r).exchange) && (a.code == (route_in j from r).code)) now ≡ false
+  route_free d h = ap (list_any (λ (a : Route). (a.exchange == (route_in j from r).exchange) && (a.code == (route_in j from r).code))) is
+      ∙ none_before (λ (a : Route). a.exchange) (λ (a : Route). a.code) (so_far front t (route_in j from) from.routes i) (route_in j from r) (map (route_in j from) (filter t (drop (suc i) from.routes)))
+      (subst RoutesDiffer (whole front t (route_in j from) from.routes i r at h) d)
+
+pub routes_taken : (j own from : Plan) (w : Bool) (front now : List Route) (i : ℕ) → i ≡ length from.routes → now ≡ front ++ map (route_in j from) (filter (λ r. takes own from w r.exchange r.code) (take i from.routes)) → now ≡ front ++ taken_routes j own from w
+routes_taken j own from w front now i e is = is ∙ ap (λ l. front ++ map (route_in j from) (filter (λ (r : Route). takes own from w r.exchange r.code) l)) (taken_last from.routes i e)
+
+-- BARS
+
+module _ (j own from : Plan) (w : Bool) (n : ℕ) (front now : List Pair) (i : ℕ) (b : Pair) (at : slice_get from.bars i ≡ Some b) (is : now ≡ front ++ filter (λ b. nat_lt b.code n) (map (bar_in j from) (filter (λ b. takes own from w b.exchange b.code) (take i from.bars)))) where
+  abbrev pub u : Pair → Bool
+  u b = takes own from w b.exchange b.code
+
+  abbrev pub s : Pair → Bool
+  s b = nat_lt b.code n
+
+  pub bar_next : (new : List Pair) → u b ≡ true → new ≡ now ++ filter (λ b. nat_lt b.code n) (bar_in j from b ∷ []) → new ≡ front ++ filter s (map (bar_in j from) (filter u (take (i + 1) from.bars)))
+  bar_next new h e =
+      let ys = map (bar_in j from) (filter u (take i from.bars)) in
+      e ∙ ap (λ l. l ++ filter s (bar_in j from b ∷ [])) is ∙ append_assoc front (filter s ys) (filter s (bar_in j from b ∷ []))
+      ∙ ap (λ l. front ++ l) (sym (filter-append s ys (bar_in j from b ∷ [])) ∙ ap (filter s) (sym (map-append (bar_in j from) (filter u (take i from.bars)) (b ∷ [])) ∙ ap (map (bar_in j from)) (sym (kept_next u from.bars i b at h))))
+
+  pub bar_left : (new : List Pair) → u b ≡ false → new ≡ now → new ≡ front ++ filter s (map (bar_in j from) (filter u (take (i + 1) from.bars)))
+  bar_left new h e = e ∙ is ∙ ap (λ l. front ++ filter s (map (bar_in j from) l)) (sym (left_next u from.bars i b at h))
+
+  pub bar_free : BarsDiffer (front ++ taken_bars j own from w n) → u b ≡ true → nat_lt (bar_in j from b).code n ≡ true → has_bar now (bar_in j from b) ≡ false
+  bar_free d h k =
+      let ys = map (bar_in j from) (filter u (take i from.bars)) in
+      let zs = map (bar_in j from) (filter u (drop (suc i) from.bars)) in
+      let split : front ++ taken_bars j own from w n ≡ (front ++ filter s ys) ++ bar_in j from b ∷ filter s zs =
+      ap (λ l. front ++ filter s (map (bar_in j from) l)) (kept_at u from.bars i b at h)
+      ∙ ap (λ l. front ++ filter s l) (map-append (bar_in j from) (filter u (take i from.bars)) (b ∷ filter u (drop (suc i) from.bars)))
+      ∙ ap (λ l. front ++ l) (filter-append s ys (bar_in j from b ∷ zs))
+      ∙ ap (λ c. front ++ (filter s ys ++ cond c (bar_in j from b ∷ filter s zs) (filter s zs))) k
+      ∙ sym (append_assoc front (filter s ys) (bar_in j from b ∷ filter s zs)) in
+      ap (λ l. has_bar l (bar_in j from b)) is
+      ∙ none_before (λ (a : Pair). a.exchange) (λ (a : Pair). a.code) (front ++ filter s ys) (bar_in j from b) (filter s zs) (subst BarsDiffer split d)
+
+pub bars_taken : (j own from : Plan) (w : Bool) (n : ℕ) (front now : List Pair) (i : ℕ) → i ≡ length from.bars → now ≡ front ++ filter (λ b. nat_lt b.code n) (map (bar_in j from) (filter (λ b. takes own from w b.exchange b.code) (take i from.bars))) → now ≡ front ++ taken_bars j own from w n
+bars_taken j own from w n front now i e is = is ∙ ap (λ l. front ++ filter (λ (b : Pair). nat_lt b.code n) (map (bar_in j from) (filter (λ (b : Pair). takes own from w b.exchange b.code) l))) (taken_last from.bars i e)

@@ -1,0 +1,19 @@
+use Rattle.std.proofs.Common.{◌∙◌, ap, sym, length, Some, arith}
+use Rattle.tx_join.specs.Refusals.{has_other_home}
+use Rattle.tx_join.proofs.Found.{found_at, none_at, fails_next}
+use Rattle.tx_join.proofs.refusing.other_home.Goals as goal
+
+pub loop-index-preserved : goal.loop-index-preserved
+loop-index-preserved g c = fails_next (has_other_home c.args.old.now c.args.new.now) c.loop-index.index _ _ c.loop-index.invariant c.of-code.ensures c.has_other_home.ensures c.if-has_other_home.false
+
+pub returns-then-has_other_home : goal.returns-then-has_other_home
+returns-then-has_other_home g c =
+    let t = c.loop-index-test.true in
+    let n = c.codes-index-end.ensures.count in
+    ap Some c.of-code.ensures ∙ sym (found_at (has_other_home c.args.old.now c.args.new.now) (length c.args.new.now.codes) c.loop-index.index c.loop-index.invariant (omega arith) (ap (has_other_home c.args.old.now c.args.new.now) (sym c.of-code.ensures) ∙ sym c.has_other_home.ensures ∙ c.if-has_other_home.true))
+
+pub returns : goal.returns
+returns g c =
+    let t = c.loop-index-test.false in
+    let n = c.codes-index-end.ensures.count in
+    sym (none_at (has_other_home c.args.old.now c.args.new.now) (length c.args.new.now.codes) (λ k l. c.loop-index.invariant k (omega (arith, t, n, l))))

@@ -1,0 +1,6 @@
+use Rattle.std.proofs.Common.{◌≡◌, ℕ, ◌<◌, false}
+use Rattle.tx_join.specs.Refusals.{has_other_home}
+use Rattle.tx_join.proofs.refusing.other_home.Given as goal
+
+abbrev pub invariant-loop-index : goal.invariant-loop-index
+invariant-loop-index g l = (k : ℕ) → k < l.index → has_other_home l.old l.new k ≡ false

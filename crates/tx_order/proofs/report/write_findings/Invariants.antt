@@ -1,8 +1,0 @@
-use Rattle.std.proofs.Common.{Ok, take}
-use Rattle.std.specs.List.{flat_map}
-use Rattle.tx_text.specs.Wrote.{WroteBy}
-use Rattle.tx_order.specs.OrderText.{finding_of}
-use Rattle.tx_order.proofs.report.write_findings.Given as goal
-
-abbrev pub invariant-loop-i : goal.invariant-loop-i
-invariant-loop-i g l = WroteBy (g.W.Sink.taken l.initial.sink) (g.W.Sink.taken l.sink) (g.W.Sink.failed l.initial.sink) (g.W.Sink.failed l.sink) (flat_map (finding_of l.plan l.word) (take l.i l.findings)) (Ok tt)

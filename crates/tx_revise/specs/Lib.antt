@@ -1,0 +1,4 @@
+pub mod Lines
+pub mod Revised
+pub mod Laws
+pub mod inner
