@@ -1,0 +1,190 @@
+// What was judged, and the verdict.
+use crate::part::{Part, set};
+use crate::style::STYLE;
+use crate::subject::Subject;
+use hex::encode_to_slice;
+use std::alloc::Allocator;
+use tx_plan::{CodeId, ExchangeId, Limits, Plan};
+use tx_text::{Sink, WriteFault};
+
+const START: &str = "<!doctype html>\n<html lang=\"en\"><head><meta charset=\"utf-8\"><meta \
+name=\"viewport\" content=\"width=device-width\"><title>";
+
+/// The ends of the arrows of all pictures.
+const HEADS: &str = "</style></head><body><svg width=\"0\" height=\"0\" class=\"defs\" \
+aria-hidden=\"true\"><defs><marker id=\"m0\" viewBox=\"0 0 8 8\" refX=\"6\" refY=\"4\" \
+markerWidth=\"10\" markerHeight=\"10\" orient=\"auto\" markerUnits=\"userSpaceOnUse\"><path \
+d=\"M0,0L8,4L0,8z\"/></marker><marker id=\"m1\" viewBox=\"0 0 8 8\" refX=\"6\" refY=\"4\" \
+markerWidth=\"9\" markerHeight=\"9\" orient=\"auto\" markerUnits=\"userSpaceOnUse\"><path \
+d=\"M0,0L8,4L0,8z\"/></marker><marker id=\"m2\" viewBox=\"0 0 8 8\" refX=\"6\" refY=\"4\" \
+markerWidth=\"8\" markerHeight=\"8\" orient=\"auto\" markerUnits=\"userSpaceOnUse\"><path \
+d=\"M0,0L8,4L0,8z\"/></marker><marker id=\"m3\" viewBox=\"0 0 8 8\" refX=\"6\" refY=\"4\" \
+markerWidth=\"12\" markerHeight=\"12\" orient=\"auto\" markerUnits=\"userSpaceOnUse\"><path \
+d=\"M0,0L8,4L0,8z\"/></marker></defs></svg><main><h1>";
+
+/// Writes the head of a page: the file's name, the verdict, and what was judged.
+pub fn write_heading<A: Allocator, W: Sink>(
+    subject: &Subject<'_, A>,
+    yes: bool,
+    sink: &mut W,
+) -> Result<(), WriteFault> {
+    write_start(subject.name, yes, sink)?;
+    write_verdict(yes, subject.limits, sink)?;
+    if count_lines(subject.plan) == 0 {
+        set(&[Part::Own(NO_LINES)], sink)?;
+    }
+    write_promise(yes, subject.limits, sink)?;
+    write_counts(subject.plan, sink)?;
+    write_digest(&subject.digest, subject.version, sink)
+}
+
+const NO_LINES: &str = "<p class=\"warn\">This plan has no line. So no call starts, and a YES says \
+nothing of its lists.</p>";
+
+/// The verdict in a word.
+fn verdict_word(yes: bool) -> &'static str {
+    if yes { "YES" } else { "NO" }
+}
+
+fn write_start<W: Sink>(name: &[u8], yes: bool, sink: &mut W) -> Result<(), WriteFault> {
+    set(
+        &[
+            Part::Own(START),
+            Part::Text(name),
+            Part::Own(": "),
+            Part::Text(verdict_word(yes).as_bytes()),
+            Part::Own("</title><style>"),
+            Part::Own(STYLE),
+            Part::Own(HEADS),
+            Part::Text(name),
+            Part::Own("</h1>"),
+        ],
+        sink,
+    )
+}
+
+fn write_verdict<W: Sink>(yes: bool, limits: Limits, sink: &mut W) -> Result<(), WriteFault> {
+    set(
+        &[
+            Part::Own("<p class=\"v "),
+            Part::Own(if yes { "yes" } else { "no" }),
+            Part::Own("\"><strong>"),
+            Part::Text(verdict_word(yes).as_bytes()),
+            Part::Own("</strong> transit limit <b>"),
+            Part::Count(u64::from(limits.limit)),
+            Part::Own("</b>, spare number <b>"),
+            Part::Count(u64::from(limits.spare)),
+            Part::Own("</b></p>"),
+        ],
+        sink,
+    )
+}
+
+/// Writes in a sentence what the verdict says.
+fn write_promise<W: Sink>(yes: bool, limits: Limits, sink: &mut W) -> Result<(), WriteFault> {
+    if !yes {
+        return set(&[Part::Own(NO_PROMISE)], sink);
+    }
+    set(
+        &[
+            Part::Own(
+                "<p>Whatever happens, and in whatever order, no call passes an exchange twice, or \
+                 more transit exchanges than ",
+            ),
+            Part::Count(u64::from(limits.limit)),
+            Part::Own(". As long as at most "),
+            Part::Count(u64::from(limits.spare)),
+            Part::Own(
+                " of the groups are down, and every other group has a free circuit at the end \
+                 that seizes it, a call is answered NC (no circuits) only after a second head-on \
+                 collision.</p>",
+            ),
+        ],
+        sink,
+    )
+}
+
+const NO_PROMISE: &str = "<p>With these lists calls can go wrong, in each of the ways below.</p>";
+
+/// How many lines a plan has.
+fn count_lines<A: Allocator>(plan: &Plan<A>) -> u64 {
+    let mut count = 0u64;
+    for index in 0..plan.codes() {
+        count = count.saturating_add(lines_of(plan, CodeId::of(index)));
+    }
+    count
+}
+
+/// The value of some figures.
+fn value_of(figures: &[u8]) -> u64 {
+    let mut value = 0u64;
+    for figure in figures {
+        value = value.saturating_mul(10).saturating_add(u64::from(*figure) & 15);
+    }
+    value
+}
+
+/// How many lines a code has.
+pub fn lines_of<A: Allocator>(plan: &Plan<A>, code: CodeId) -> u64 {
+    let mut count = 0u64;
+    for index in 0..plan.ranges() {
+        if let Some(range) = plan.range_at(index) {
+            if range.code == code {
+                let (low, high) = (value_of(range.low.bytes()), value_of(range.high.bytes()));
+                count = count.saturating_add(high.saturating_sub(low)).saturating_add(1);
+            }
+        }
+    }
+    count
+}
+
+/// How many exchanges calls start at.
+fn count_origins<A: Allocator>(plan: &Plan<A>) -> u64 {
+    let mut count = 0u64;
+    for index in 0..plan.exchanges() {
+        if plan.is_origin(ExchangeId::of(index)) {
+            count = count.saturating_add(1);
+        }
+    }
+    count
+}
+
+fn write_counts<A: Allocator, W: Sink>(plan: &Plan<A>, sink: &mut W) -> Result<(), WriteFault> {
+    set(
+        &[
+            Part::Own("<dl><div><dt>Exchanges</dt><dd>"),
+            Part::Count(plan.exchanges() as u64),
+            Part::Own("</dd></div><div><dt>Codes</dt><dd>"),
+            Part::Count(plan.codes() as u64),
+            Part::Own("</dd></div><div><dt>Groups</dt><dd>"),
+            Part::Count(plan.groups() as u64),
+            Part::Own("</dd></div><div><dt>Lists</dt><dd>"),
+            Part::Count(plan.routes() as u64),
+            Part::Own("</dd></div><div><dt>Lines</dt><dd>"),
+            Part::Count(count_lines(plan)),
+            Part::Own("</dd></div><div><dt>Exchanges where calls start</dt><dd>"),
+            Part::Count(count_origins(plan)),
+            Part::Own("</dd></div></dl>"),
+        ],
+        sink,
+    )
+}
+
+fn write_digest<W: Sink>(
+    digest: &[u8; 32],
+    version: &'static str,
+    sink: &mut W,
+) -> Result<(), WriteFault> {
+    let mut figures = [0u8; 64];
+    let _ = encode_to_slice(digest.as_slice(), figures.as_mut_slice());
+    set(
+        &[
+            Part::Own("<p class=\"m\">SHA-256 of the plan <code>"),
+            Part::Text(&figures),
+            Part::Own("</code><br>judged by telexplan "),
+            Part::Own(version),
+            Part::Own("</p>"),
+        ],
+        sink,
+    )
+}
