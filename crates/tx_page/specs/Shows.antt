@@ -1,6 +1,7 @@
 -- What a page shows.
 use Rattle.std.specs.Prelude.{◌≡◌, ℕ, Bool, true, List, [], ◌∷◌, ◌++◌, Option, Result, Ok, Err, decimal}
 use Rattle.std.specs.Io.KnownBytes.{append_known}
+use Rattle.std.specs.List.{flat_map, range_with_len}
 use Rattle.tx_text.specs.declared.sink.WriteFault.{WriteFault}
 use Rattle.tx_page.specs.declared.part.Part.{Part}
 use Rattle.tx_page.specs.declared.part.Part.TheVariants.{Own, Place, Text, Count}
@@ -13,6 +14,10 @@ part_texts (Place number) = []
 part_texts (Text text) = text.now ∷ []
 part_texts (Count number) = decimal number ∷ []
 
+-- the texts of the indexes below n, in order
+abbrev pub texts_below : ℕ → (ℕ → List (List ℕ)) → List (List ℕ)
+texts_below n texts = flat_map texts (range_with_len 0 n)
+
 -- These texts stand in the bytes one after another, each escaped. Between them may be anything,
 -- such as markup.
 abbrev pub Shows : List (List ℕ) → List ℕ → Type 0
@@ -20,12 +25,19 @@ Shows [] bytes = Unit {0}
 Shows (t ∷ texts) bytes = (before : List ℕ) × (after : List ℕ)
     × (bytes ≡ before ++ (escaped t ++ after)) × Shows texts after
 
--- By the bytes that a sink has taken and its mark, both before and after. Ok: what was written
--- shows the texts. Err: the sink failed.
+-- By the bytes that a sink has taken and its mark, both before and after: what it took shows the
+-- texts, and it did not fail.
+pub record HasShown (old new : Option (List ℕ)) (marked_old marked_new : Bool)
+    (texts : List (List ℕ)) : Type 0 where
+  pub bytes : List ℕ
+  pub added : new ≡ append_known old bytes
+  pub shows : Shows texts bytes
+  pub mark : marked_new ≡ marked_old
+
+-- Ok: what was written shows the texts. Err: the sink failed.
 abbrev pub ShowedBy : Option (List ℕ) → Option (List ℕ)
     → Bool → Bool → List (List ℕ) → Result (Unit {0}) WriteFault → Type 0
-ShowedBy old new marked_old marked_new texts (Ok x) = (bytes : List ℕ)
-    × (new ≡ append_known old bytes) × Shows texts bytes × (marked_new ≡ marked_old)
+ShowedBy old new marked_old marked_new texts (Ok x) = HasShown old new marked_old marked_new texts
 ShowedBy old new marked_old marked_new texts (Err e) = marked_new ≡ true
 
 -- What a call that shows texts does to a sink.

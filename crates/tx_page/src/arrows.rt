@@ -1,4 +1,7 @@
 // The arrows in the picture of a code.
+ghost use Rattle.std.specs.Prelude.{[]};
+ghost use Rattle.tx_page.specs.Shows.{Showed};
+
 use crate::part::{Part, set};
 use crate::picture::Picture;
 use crate::spot::{Spot, TOP, passing};
@@ -53,7 +56,9 @@ pub fn write_arrows<A: Allocator, W: Sink>(
     picture: &Picture<A>,
     findings: &[Finding<A>],
     sink: &mut W,
-) -> Result<(), WriteFault> {
+) -> Result<(), WriteFault>
+    ensures { Showed W.taken W.failed sink.old sink.new [] result }
+{
     for i in 0..LAYERS.len() {
         for index in 0..plan.exchanges() {
             let exchange = ExchangeId::of(index);
@@ -71,7 +76,9 @@ fn write_list<A: Allocator, W: Sink>(
     layer: Choice,
     exchange: ExchangeId,
     sink: &mut W,
-) -> Result<(), WriteFault> {
+) -> Result<(), WriteFault>
+    ensures { Showed W.taken W.failed sink.old sink.new [] result }
+{
     if exchange == plan.home(picture.code) {
         return Ok(());
     }
@@ -115,7 +122,9 @@ fn write_arrow<A: Allocator, W: Sink>(
     from: ExchangeId,
     to: ExchangeId,
     sink: &mut W,
-) -> Result<(), WriteFault> {
+) -> Result<(), WriteFault>
+    ensures { Showed W.taken W.failed sink.old sink.new [] result }
+{
     let (Some(tail), Some(head)) = (picture.spot(from), picture.spot(to)) else {
         return Ok(());
     };
@@ -128,7 +137,14 @@ fn write_arrow<A: Allocator, W: Sink>(
     } else {
         head
     };
-    set(&[Part::Own("<path class=\""), Part::Own(choice.class()), Part::Own("\" d=\"M")], sink)?;
+    set(
+        &[
+            Part::Own("<path class=\""),
+            Part::Own(choice.class()),
+            Part::Own("\" d=\"M"),
+        ],
+        sink,
+    )?;
     if tail.column > head.column {
         write_forward(picture, tail, head, sink)?;
     } else if tail.column == head.column {
@@ -153,7 +169,9 @@ fn write_forward<A: Allocator, W: Sink>(
     tail: Spot,
     head: Spot,
     sink: &mut W,
-) -> Result<(), WriteFault> {
+) -> Result<(), WriteFault>
+    ensures { Showed W.taken W.failed sink.old sink.new [] result }
+{
     let mut at = Point {
         x: picture.right(tail.column),
         y: TOP + u64::from(tail.middle),
@@ -183,7 +201,9 @@ fn write_back<A: Allocator, W: Sink>(
     tail: Spot,
     head: Spot,
     sink: &mut W,
-) -> Result<(), WriteFault> {
+) -> Result<(), WriteFault>
+    ensures { Showed W.taken W.failed sink.old sink.new [] result }
+{
     let mut at = Point {
         x: picture.left(tail.column),
         y: TOP + u64::from(tail.middle) + 6,
@@ -213,10 +233,16 @@ fn write_beside<A: Allocator, W: Sink>(
     tail: Spot,
     head: Spot,
     sink: &mut W,
-) -> Result<(), WriteFault> {
+) -> Result<(), WriteFault>
+    ensures { Showed W.taken W.failed sink.old sink.new [] result }
+{
     let right = picture.right(tail.column);
     let (from, to) = (TOP + u64::from(tail.middle), TOP + u64::from(head.middle));
-    let (from, to) = if from < to { (from + 4, to - 4) } else { (from - 4, to + 4) };
+    let (from, to) = if from < to {
+        (from + 4, to - 4)
+    } else {
+        (from - 4, to + 4)
+    };
     write_point(Point { x: right, y: from }, sink)?;
     let aside = right.saturating_add(50);
     write_curve(
@@ -230,12 +256,19 @@ fn write_beside<A: Allocator, W: Sink>(
     )
 }
 
-fn write_point<W: Sink>(point: Point, sink: &mut W) -> Result<(), WriteFault> {
-    set(&[Part::Place(point.x), Part::Own(","), Part::Place(point.y)], sink)
+fn write_point<W: Sink>(point: Point, sink: &mut W) -> Result<(), WriteFault>
+    ensures { Showed W.taken W.failed sink.old sink.new [] result }
+{
+    set(
+        &[Part::Place(point.x), Part::Own(","), Part::Place(point.y)],
+        sink,
+    )
 }
 
 /// Writes the way from one place to another, level at both.
-fn write_bend<W: Sink>(from: Point, to: Point, sink: &mut W) -> Result<(), WriteFault> {
+fn write_bend<W: Sink>(from: Point, to: Point, sink: &mut W) -> Result<(), WriteFault>
+    ensures { Showed W.taken W.failed sink.old sink.new [] result }
+{
     if from.y == to.y {
         return set(&[Part::Own("H"), Part::Place(to.x)], sink);
     }
@@ -256,7 +289,9 @@ fn write_curve<W: Sink>(
     second: Point,
     end: Point,
     sink: &mut W,
-) -> Result<(), WriteFault> {
+) -> Result<(), WriteFault>
+    ensures { Showed W.taken W.failed sink.old sink.new [] result }
+{
     set(
         &[
             Part::Own("C"),

@@ -1,4 +1,9 @@
 // The boxes in the picture of a code.
+ghost use Rattle.std.specs.Prelude.{[], ◌∷◌, length, map};
+ghost use Rattle.tx_plan.specs.Plan.{group_name};
+ghost use Rattle.tx_page.specs.Shows.{Showed, texts_below};
+ghost use Rattle.tx_page.specs.ListTexts.{box_texts};
+
 use crate::part::{Part, set};
 use crate::picture::Picture;
 use crate::spot::{BOX, LEFT, TALL, TOP};
@@ -8,6 +13,7 @@ use tx_text::{Sink, WriteFault};
 
 /// From one box to the next, of the exchanges where no calls come.
 const ASIDE: u64 = 104;
+
 const BELOW: u64 = 28;
 
 /// What an exchange is in a picture.
@@ -64,7 +70,8 @@ pub fn picture_height<A: Allocator>(plan: &Plan<A>, picture: &Picture<A>) -> u64
         high
     } else {
         let rows = (aside - 1) / boxes_aside(picture) + 1;
-        high.saturating_add(rows.saturating_mul(BELOW)).saturating_add(24)
+        high.saturating_add(rows.saturating_mul(BELOW))
+            .saturating_add(24)
     }
 }
 
@@ -91,8 +98,9 @@ fn frame_of<A: Allocator>(plan: &Plan<A>, picture: &Picture<A>, exchange: Exchan
             Frame {
                 kind: Kind::Aside,
                 left: LEFT.saturating_add((aside % row).saturating_mul(ASIDE)),
-                top: (TOP + u64::from(picture.high) + 24)
-                    .saturating_add((aside / row).saturating_mul(BELOW)),
+                top: (TOP + u64::from(picture.high) + 24).saturating_add(
+                    (aside / row).saturating_mul(BELOW),
+                ),
                 high: TALL,
             }
         }
@@ -104,7 +112,10 @@ pub fn write_boxes<A: Allocator, W: Sink>(
     plan: &Plan<A>,
     picture: &Picture<A>,
     sink: &mut W,
-) -> Result<(), WriteFault> {
+) -> Result<(), WriteFault>
+    ensures { Showed W.taken W.failed sink.old sink.new
+        (texts_below (length plan.now.exchanges) (box_texts plan.now picture.now.code)) result }
+{
     for index in 0..plan.exchanges() {
         write_box(plan, picture, ExchangeId::of(index), sink)?;
     }
@@ -116,7 +127,10 @@ fn write_box<A: Allocator, W: Sink>(
     picture: &Picture<A>,
     exchange: ExchangeId,
     sink: &mut W,
-) -> Result<(), WriteFault> {
+) -> Result<(), WriteFault>
+    ensures { Showed W.taken W.failed sink.old sink.new
+        (box_texts plan.now picture.now.code exchange) result }
+{
     let frame = frame_of(plan, picture, exchange);
     let name = plan.exchange_name(exchange);
     let list = plan.list(exchange, picture.code);
@@ -150,16 +164,24 @@ pub fn write_groups<A: Allocator, W: Sink>(
     plan: &Plan<A>,
     groups: &[GroupId],
     sink: &mut W,
-) -> Result<(), WriteFault> {
+) -> Result<(), WriteFault>
+    ensures { Showed W.taken W.failed sink.old sink.new
+        (map (group_name plan.now) groups.now) result }
+{
     for i in 0..groups.len() {
         let between = if i == 0 { "" } else { ", " };
-        set(&[Part::Own(between), Part::Text(plan.group_name(groups[i]))], sink)?;
+        set(
+            &[Part::Own(between), Part::Text(plan.group_name(groups[i]))],
+            sink,
+        )?;
     }
     Ok(())
 }
 
 /// Writes the end of the title, and the box itself.
-fn write_frame<W: Sink>(frame: Frame, name: &[u8], sink: &mut W) -> Result<(), WriteFault> {
+fn write_frame<W: Sink>(frame: Frame, name: &[u8], sink: &mut W) -> Result<(), WriteFault>
+    ensures { Showed W.taken W.failed sink.old sink.new (name.now ∷ []) result }
+{
     set(
         &[
             Part::Own("</title><rect x=\""),

@@ -1,5 +1,11 @@
 // The codes of a plan.
-use crate::heading::lines_of;
+ghost use Rattle.std.specs.Prelude.{[], ◌∷◌, decimal};
+ghost use Rattle.tx_plan.specs.Plan.{exchange_name, figures_of, home_of};
+ghost use Rattle.tx_page.specs.Shows.{Showed};
+ghost use Rattle.tx_page.specs.Heading.{lines_of};
+ghost use Rattle.tx_page.specs.CodeTexts.{bounds_texts, code_texts, codes_texts};
+
+use crate::counts::lines_of;
 use crate::part::{Part, set};
 use std::alloc::Allocator;
 use tx_plan::{CodeId, Plan};
@@ -16,21 +22,48 @@ pub fn write_codes<A: Allocator, W: Sink>(
     plan: &Plan<A>,
     grade: &Grade<A>,
     sink: &mut W,
-) -> Result<(), WriteFault> {
+) -> Result<(), WriteFault>
+    ensures { Showed W.taken W.failed sink.old sink.new
+        (codes_texts plan.now grade.now.codes.items) result }
+{
     set(&[Part::Own(HEAD)], sink)?;
-    for i in 0..grade.codes.len() {
-        let (code, bounds) = grade.codes[i];
-        write_code(plan, code, sink)?;
-        write_bounds(bounds, sink)?;
-    }
+    write_rows(plan, &grade.codes, sink)?;
     set(&[Part::Own("</tbody></table></div>")], sink)
+}
+
+fn write_rows<A: Allocator, W: Sink>(
+    plan: &Plan<A>,
+    grades: &[(CodeId, Option<Bounds>)],
+    sink: &mut W,
+) -> Result<(), WriteFault>
+    ensures { Showed W.taken W.failed sink.old sink.new (codes_texts plan.now grades.now) result }
+{
+    for i in 0..grades.len() {
+        write_row(plan, grades[i], sink)?;
+    }
+    Ok(())
+}
+
+fn write_row<A: Allocator, W: Sink>(
+    plan: &Plan<A>,
+    grade: (CodeId, Option<Bounds>),
+    sink: &mut W,
+) -> Result<(), WriteFault>
+    ensures { Showed W.taken W.failed sink.old sink.new (code_texts plan.now grade) result }
+{
+    write_code(plan, grade.0, sink)?;
+    write_bounds(grade.1, sink)
 }
 
 fn write_code<A: Allocator, W: Sink>(
     plan: &Plan<A>,
     code: CodeId,
     sink: &mut W,
-) -> Result<(), WriteFault> {
+) -> Result<(), WriteFault>
+    ensures { Showed W.taken W.failed sink.old sink.new
+        (figures_of plan.now code ∷ exchange_name plan.now (home_of plan.now code)
+        ∷ decimal (lines_of plan.now code) ∷ []) result }
+{
     set(
         &[
             Part::Own("<tr><th scope=\"row\"><a href=\"#c"),
@@ -46,7 +79,9 @@ fn write_code<A: Allocator, W: Sink>(
     )
 }
 
-fn write_bounds<W: Sink>(bounds: Option<Bounds>, sink: &mut W) -> Result<(), WriteFault> {
+fn write_bounds<W: Sink>(bounds: Option<Bounds>, sink: &mut W) -> Result<(), WriteFault>
+    ensures { Showed W.taken W.failed sink.old sink.new (bounds_texts bounds) result }
+{
     match bounds {
         Some(bounds) => set(
             &[
@@ -60,6 +95,9 @@ fn write_bounds<W: Sink>(bounds: Option<Bounds>, sink: &mut W) -> Result<(), Wri
             ],
             sink,
         ),
-        None => set(&[Part::Own("</td><td colspan=\"3\" class=\"warn\">no grade</td></tr>")], sink),
+        None => set(
+            &[Part::Own("</td><td colspan=\"3\" class=\"warn\">no grade</td></tr>")],
+            sink,
+        ),
     }
 }

@@ -19,7 +19,11 @@ pub fn columns_by_rank<A: Allocator + Copy>(
     for index in 0..plan.exchanges() {
         let exchange = ExchangeId::of(index);
         let shown = is_marked(marks, exchange) || exchange == plan.home(code);
-        columns.push(if shown { ranks.rank(code, exchange) } else { None })?;
+        columns.push(if shown {
+            ranks.rank(code, exchange)
+        } else {
+            None
+        })?;
     }
     Ok(columns)
 }

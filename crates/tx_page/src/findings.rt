@@ -1,4 +1,10 @@
 // What is wrong with a plan.
+ghost use Rattle.std.specs.Prelude.{◌≡◌, [], ◌∷◌, length, map, decimal};
+ghost use Rattle.tx_plan.specs.Plan.{exchange_name, figures_of, group_name, home_of};
+ghost use Rattle.tx_rank.specs.Walks.{end_of};
+ghost use Rattle.tx_page.specs.Shows.{Showed};
+ghost use Rattle.tx_page.specs.WrongTexts.{step_texts, steps_texts, walk_texts, finding_texts, findings_texts};
+
 use crate::boxes::write_groups;
 use crate::part::{Part, set};
 use crate::walks::listed_before;
@@ -13,12 +19,28 @@ pub fn write_findings<A: Allocator, W: Sink>(
     findings: &[Finding<A>],
     limits: Limits,
     sink: &mut W,
-) -> Result<(), WriteFault> {
+) -> Result<(), WriteFault>
+    ensures { Showed W.taken W.failed sink.old sink.new
+        (findings_texts plan.now limits.spare findings.now) result }
+{
     set(&[Part::Own("<h2>What is wrong</h2><ol class=\"f\">")], sink)?;
+    write_all(plan, findings, limits, sink)?;
+    set(&[Part::Own("</ol>")], sink)
+}
+
+fn write_all<A: Allocator, W: Sink>(
+    plan: &Plan<A>,
+    findings: &[Finding<A>],
+    limits: Limits,
+    sink: &mut W,
+) -> Result<(), WriteFault>
+    ensures { Showed W.taken W.failed sink.old sink.new
+        (findings_texts plan.now limits.spare findings.now) result }
+{
     for i in 0..findings.len() {
         write_finding(plan, &findings[i], limits, sink)?;
     }
-    set(&[Part::Own("</ol>")], sink)
+    Ok(())
 }
 
 fn write_finding<A: Allocator, W: Sink>(
@@ -26,7 +48,10 @@ fn write_finding<A: Allocator, W: Sink>(
     finding: &Finding<A>,
     limits: Limits,
     sink: &mut W,
-) -> Result<(), WriteFault> {
+) -> Result<(), WriteFault>
+    ensures { Showed W.taken W.failed sink.old sink.new
+        (finding_texts plan.now limits.spare finding.now) result }
+{
     match finding {
         Finding::Ambiguous(shorter, longer) => write_pair(plan, *shorter, *longer, sink),
         Finding::Loop(code, walk) => {
@@ -46,11 +71,15 @@ fn write_finding<A: Allocator, W: Sink>(
 }
 
 /// The exchange where a walk ends.
-fn end_of<A: Allocator>(walk: &Walk<A>) -> ExchangeId {
-    match walk.steps.as_slice().last() {
-        Some(step) => step.1,
-        None => walk.start,
+fn end_of<A: Allocator>(walk: &Walk<A>) -> ExchangeId
+    ensures { result ≡ end_of walk.now.start walk.now.steps }
+{
+    let steps = walk.steps.as_slice();
+    if steps.is_empty() {
+        return walk.start;
     }
+    let last = steps[steps.len() - 1];
+    last.1
 }
 
 fn write_pair<A: Allocator, W: Sink>(
@@ -58,7 +87,10 @@ fn write_pair<A: Allocator, W: Sink>(
     shorter: CodeId,
     longer: CodeId,
     sink: &mut W,
-) -> Result<(), WriteFault> {
+) -> Result<(), WriteFault>
+    ensures { Showed W.taken W.failed sink.old sink.new
+        (figures_of plan.now shorter ∷ figures_of plan.now longer ∷ []) result }
+{
     set(
         &[
             Part::Own("<li>Code "),
@@ -76,7 +108,10 @@ fn write_loop<A: Allocator, W: Sink>(
     code: CodeId,
     end: ExchangeId,
     sink: &mut W,
-) -> Result<(), WriteFault> {
+) -> Result<(), WriteFault>
+    ensures { Showed W.taken W.failed sink.old sink.new
+        (figures_of plan.now code ∷ exchange_name plan.now end ∷ []) result }
+{
     set(
         &[
             Part::Own("<li>A call for "),
@@ -96,7 +131,11 @@ fn write_short<A: Allocator, W: Sink>(
     groups: usize,
     spare: u8,
     sink: &mut W,
-) -> Result<(), WriteFault> {
+) -> Result<(), WriteFault>
+    ensures { Showed W.taken W.failed sink.old sink.new
+        (figures_of plan.now code ∷ exchange_name plan.now end ∷ decimal groups
+        ∷ decimal spare ∷ []) result }
+{
     set(
         &[
             Part::Own("<li>A call for "),
@@ -118,7 +157,12 @@ fn write_long<A: Allocator, W: Sink>(
     code: CodeId,
     walk: &Walk<A>,
     sink: &mut W,
-) -> Result<(), WriteFault> {
+) -> Result<(), WriteFault>
+    ensures { Showed W.taken W.failed sink.old sink.new
+        (figures_of plan.now code ∷ decimal (length walk.now.steps)
+        ∷ exchange_name plan.now (end_of walk.now.start walk.now.steps)
+        ∷ exchange_name plan.now (home_of plan.now code) ∷ []) result }
+{
     set(
         &[
             Part::Own("<li>A call for "),
@@ -143,18 +187,40 @@ fn write_walk<A: Allocator, W: Sink>(
     walk: &Walk<A>,
     full: &[GroupId],
     sink: &mut W,
-) -> Result<(), WriteFault> {
+) -> Result<(), WriteFault>
+    ensures { Showed W.taken W.failed sink.old sink.new
+        (walk_texts plan.now code walk.now full.now) result }
+{
     set(&[Part::Own("<ol class=\"w\">")], sink)?;
+    write_steps(plan, code, walk, sink)?;
+    write_full(plan, full, sink)?;
+    set(&[Part::Own("</li></ol></li>")], sink)
+}
+
+/// Writes the steps of a walk, and the exchange where it ends.
+fn write_steps<A: Allocator, W: Sink>(
+    plan: &Plan<A>,
+    code: CodeId,
+    walk: &Walk<A>,
+    sink: &mut W,
+) -> Result<(), WriteFault>
+    ensures { Showed W.taken W.failed sink.old sink.new
+        (steps_texts plan.now code walk.now.start walk.now.steps) result }
+{
     let mut at = walk.start;
     let steps = walk.steps.as_slice();
     for i in 0..steps.len() {
-        let (group, to) = steps[i];
-        write_step(plan, code, at, group, sink)?;
-        at = to;
+        write_step(plan, code, at, steps[i].0, sink)?;
+        at = steps[i].1;
     }
-    set(&[Part::Own("<li><b>"), Part::Text(plan.exchange_name(at)), Part::Own("</b>")], sink)?;
-    write_full(plan, full, sink)?;
-    set(&[Part::Own("</li></ol></li>")], sink)
+    set(
+        &[
+            Part::Own("<li><b>"),
+            Part::Text(plan.exchange_name(at)),
+            Part::Own("</b>"),
+        ],
+        sink,
+    )
 }
 
 fn write_step<A: Allocator, W: Sink>(
@@ -163,7 +229,10 @@ fn write_step<A: Allocator, W: Sink>(
     from: ExchangeId,
     group: GroupId,
     sink: &mut W,
-) -> Result<(), WriteFault> {
+) -> Result<(), WriteFault>
+    ensures { Showed W.taken W.failed sink.old sink.new
+        (step_texts plan.now code from group) result }
+{
     set(
         &[
             Part::Own("<li><b>"),
@@ -183,7 +252,10 @@ fn write_full<A: Allocator, W: Sink>(
     plan: &Plan<A>,
     groups: &[GroupId],
     sink: &mut W,
-) -> Result<(), WriteFault> {
+) -> Result<(), WriteFault>
+    ensures { Showed W.taken W.failed sink.old sink.new
+        (map (group_name plan.now) groups.now) result }
+{
     if groups.is_empty() {
         return Ok(());
     }

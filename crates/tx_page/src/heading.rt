@@ -1,10 +1,16 @@
 // What was judged, and the verdict.
+ghost use Rattle.std.specs.Prelude.{◌≡◌, [], ◌∷◌};
+ghost use Rattle.hex.specs.Hex.{encode_lower};
+ghost use Rattle.tx_page.specs.Shows.{Showed};
+ghost use Rattle.tx_page.specs.Heading.{verdict_word, start_texts, verdict_texts, promise_texts, count_texts, heading_texts};
+
+use crate::counts::{count_lines, count_origins};
 use crate::part::{Part, set};
 use crate::style::STYLE;
 use crate::subject::Subject;
 use hex::encode_to_slice;
 use std::alloc::Allocator;
-use tx_plan::{CodeId, ExchangeId, Limits, Plan};
+use tx_plan::{Limits, Plan};
 use tx_text::{Sink, WriteFault};
 
 const START: &str = "<!doctype html>\n<html lang=\"en\"><head><meta charset=\"utf-8\"><meta \
@@ -27,13 +33,15 @@ pub fn write_heading<A: Allocator, W: Sink>(
     subject: &Subject<'_, A>,
     yes: bool,
     sink: &mut W,
-) -> Result<(), WriteFault> {
+) -> Result<(), WriteFault>
+    ensures { Showed W.taken W.failed sink.old sink.new
+        (heading_texts subject.now.name.now subject.now.digest subject.now.plan.now yes
+        subject.now.limits.limit subject.now.limits.spare) result }
+{
     write_start(subject.name, yes, sink)?;
     write_verdict(yes, subject.limits, sink)?;
-    if count_lines(subject.plan) == 0 {
-        set(&[Part::Own(NO_LINES)], sink)?;
-    }
     write_promise(yes, subject.limits, sink)?;
+    write_warning(count_lines(subject.plan), sink)?;
     write_counts(subject.plan, sink)?;
     write_digest(&subject.digest, subject.version, sink)
 }
@@ -41,18 +49,30 @@ pub fn write_heading<A: Allocator, W: Sink>(
 const NO_LINES: &str = "<p class=\"warn\">This plan has no line. So no call starts, and a YES says \
 nothing of its lists.</p>";
 
-/// The verdict in a word.
-fn verdict_word(yes: bool) -> &'static str {
-    if yes { "YES" } else { "NO" }
+/// Writes that a YES says nothing, if there is no line.
+fn write_warning<W: Sink>(lines: u64, sink: &mut W) -> Result<(), WriteFault>
+    ensures { Showed W.taken W.failed sink.old sink.new [] result }
+{
+    let warning = if lines == 0 { NO_LINES } else { "" };
+    set(&[Part::Own(warning)], sink)
 }
 
-fn write_start<W: Sink>(name: &[u8], yes: bool, sink: &mut W) -> Result<(), WriteFault> {
+/// The verdict in a word.
+fn verdict_word(yes: bool) -> &'static [u8]
+    ensures { result.now ≡ verdict_word yes }
+{
+    if yes { b"YES" } else { b"NO" }
+}
+
+fn write_start<W: Sink>(name: &[u8], yes: bool, sink: &mut W) -> Result<(), WriteFault>
+    ensures { Showed W.taken W.failed sink.old sink.new (start_texts name.now yes) result }
+{
     set(
         &[
             Part::Own(START),
             Part::Text(name),
             Part::Own(": "),
-            Part::Text(verdict_word(yes).as_bytes()),
+            Part::Text(verdict_word(yes)),
             Part::Own("</title><style>"),
             Part::Own(STYLE),
             Part::Own(HEADS),
@@ -63,13 +83,16 @@ fn write_start<W: Sink>(name: &[u8], yes: bool, sink: &mut W) -> Result<(), Writ
     )
 }
 
-fn write_verdict<W: Sink>(yes: bool, limits: Limits, sink: &mut W) -> Result<(), WriteFault> {
+fn write_verdict<W: Sink>(yes: bool, limits: Limits, sink: &mut W) -> Result<(), WriteFault>
+    ensures { Showed W.taken W.failed sink.old sink.new
+        (verdict_texts yes limits.limit limits.spare) result }
+{
     set(
         &[
             Part::Own("<p class=\"v "),
             Part::Own(if yes { "yes" } else { "no" }),
             Part::Own("\"><strong>"),
-            Part::Text(verdict_word(yes).as_bytes()),
+            Part::Text(verdict_word(yes)),
             Part::Own("</strong> transit limit <b>"),
             Part::Count(u64::from(limits.limit)),
             Part::Own("</b>, spare number <b>"),
@@ -81,7 +104,10 @@ fn write_verdict<W: Sink>(yes: bool, limits: Limits, sink: &mut W) -> Result<(),
 }
 
 /// Writes in a sentence what the verdict says.
-fn write_promise<W: Sink>(yes: bool, limits: Limits, sink: &mut W) -> Result<(), WriteFault> {
+fn write_promise<W: Sink>(yes: bool, limits: Limits, sink: &mut W) -> Result<(), WriteFault>
+    ensures { Showed W.taken W.failed sink.old sink.new
+        (promise_texts yes limits.limit limits.spare) result }
+{
     if !yes {
         return set(&[Part::Own(NO_PROMISE)], sink);
     }
@@ -106,50 +132,9 @@ fn write_promise<W: Sink>(yes: bool, limits: Limits, sink: &mut W) -> Result<(),
 
 const NO_PROMISE: &str = "<p>With these lists calls can go wrong, in each of the ways below.</p>";
 
-/// How many lines a plan has.
-fn count_lines<A: Allocator>(plan: &Plan<A>) -> u64 {
-    let mut count = 0u64;
-    for index in 0..plan.codes() {
-        count = count.saturating_add(lines_of(plan, CodeId::of(index)));
-    }
-    count
-}
-
-/// The value of some figures.
-fn value_of(figures: &[u8]) -> u64 {
-    let mut value = 0u64;
-    for figure in figures {
-        value = value.saturating_mul(10).saturating_add(u64::from(*figure) & 15);
-    }
-    value
-}
-
-/// How many lines a code has.
-pub fn lines_of<A: Allocator>(plan: &Plan<A>, code: CodeId) -> u64 {
-    let mut count = 0u64;
-    for index in 0..plan.ranges() {
-        if let Some(range) = plan.range_at(index) {
-            if range.code == code {
-                let (low, high) = (value_of(range.low.bytes()), value_of(range.high.bytes()));
-                count = count.saturating_add(high.saturating_sub(low)).saturating_add(1);
-            }
-        }
-    }
-    count
-}
-
-/// How many exchanges calls start at.
-fn count_origins<A: Allocator>(plan: &Plan<A>) -> u64 {
-    let mut count = 0u64;
-    for index in 0..plan.exchanges() {
-        if plan.is_origin(ExchangeId::of(index)) {
-            count = count.saturating_add(1);
-        }
-    }
-    count
-}
-
-fn write_counts<A: Allocator, W: Sink>(plan: &Plan<A>, sink: &mut W) -> Result<(), WriteFault> {
+fn write_counts<A: Allocator, W: Sink>(plan: &Plan<A>, sink: &mut W) -> Result<(), WriteFault>
+    ensures { Showed W.taken W.failed sink.old sink.new (count_texts plan.now) result }
+{
     set(
         &[
             Part::Own("<dl><div><dt>Exchanges</dt><dd>"),
@@ -174,9 +159,13 @@ fn write_digest<W: Sink>(
     digest: &[u8; 32],
     version: &'static str,
     sink: &mut W,
-) -> Result<(), WriteFault> {
+) -> Result<(), WriteFault>
+    ensures { Showed W.taken W.failed sink.old sink.new (encode_lower digest.now ∷ []) result }
+{
     let mut figures = [0u8; 64];
-    let _ = encode_to_slice(digest.as_slice(), figures.as_mut_slice());
+    if encode_to_slice(digest.as_slice(), figures.as_mut_slice()).is_err() {
+        unreachable!();
+    }
     set(
         &[
             Part::Own("<p class=\"m\">SHA-256 of the plan <code>"),

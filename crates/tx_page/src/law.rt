@@ -4,5 +4,4 @@ ghost use Rattle.tx_page.specs.Escaped.{NoTextIsMarkup};
 /// No byte of an escaped text begins or ends a tag, or ends an attribute, whatever the text is.
 pub fn no_text_is_markup()
     ensures { NoTextIsMarkup }
-{
-}
+{}

@@ -5,6 +5,7 @@ mod arrows;
 mod boxes;
 mod codes;
 mod columns;
+mod counts;
 mod escaped;
 mod findings;
 mod heading;
@@ -21,7 +22,7 @@ mod style;
 mod subject;
 mod walks;
 
-pub use law::{no_text_is_markup};
+pub use law::no_text_is_markup;
 pub use page::write_page;
 pub use picture::{Picture, picture_of};
 pub use subject::Subject;

@@ -1,4 +1,8 @@
 // The exchanges and groups of a plan.
+ghost use Rattle.std.specs.Prelude.{length};
+ghost use Rattle.tx_page.specs.Shows.{Showed, texts_below};
+ghost use Rattle.tx_page.specs.NetworkTexts.{home_texts, exchange_texts, group_texts, network_texts};
+
 use crate::part::{Part, set};
 use std::alloc::Allocator;
 use tx_plan::{CodeId, Direction, ExchangeId, GroupId, Plan};
@@ -12,26 +16,43 @@ const GROUPS: &str = "</tbody></table><table><thead><tr><th scope=\"col\">Group<
 <th scope=\"col\" class=\"k\">Circuits</th></tr></thead><tbody>";
 
 /// Writes the tables of exchanges and of groups.
-pub fn write_network<A: Allocator, W: Sink>(
-    plan: &Plan<A>,
-    sink: &mut W,
-) -> Result<(), WriteFault> {
+pub fn write_network<A: Allocator, W: Sink>(plan: &Plan<A>, sink: &mut W) -> Result<(), WriteFault>
+    ensures { Showed W.taken W.failed sink.old sink.new (network_texts plan.now) result }
+{
     set(&[Part::Own(EXCHANGES)], sink)?;
+    write_exchanges(plan, sink)?;
+    set(&[Part::Own(GROUPS)], sink)?;
+    write_groups(plan, sink)?;
+    set(&[Part::Own("</tbody></table></div>")], sink)
+}
+
+fn write_exchanges<A: Allocator, W: Sink>(plan: &Plan<A>, sink: &mut W) -> Result<(), WriteFault>
+    ensures { Showed W.taken W.failed sink.old sink.new
+        (texts_below (length plan.now.exchanges) (exchange_texts plan.now)) result }
+{
     for index in 0..plan.exchanges() {
         write_exchange(plan, ExchangeId::of(index), sink)?;
     }
-    set(&[Part::Own(GROUPS)], sink)?;
+    Ok(())
+}
+
+fn write_groups<A: Allocator, W: Sink>(plan: &Plan<A>, sink: &mut W) -> Result<(), WriteFault>
+    ensures { Showed W.taken W.failed sink.old sink.new
+        (texts_below (length plan.now.groups) (group_texts plan.now)) result }
+{
     for index in 0..plan.groups() {
         write_group(plan, GroupId::of(index), sink)?;
     }
-    set(&[Part::Own("</tbody></table></div>")], sink)
+    Ok(())
 }
 
 fn write_exchange<A: Allocator, W: Sink>(
     plan: &Plan<A>,
     exchange: ExchangeId,
     sink: &mut W,
-) -> Result<(), WriteFault> {
+) -> Result<(), WriteFault>
+    ensures { Showed W.taken W.failed sink.old sink.new (exchange_texts plan.now exchange) result }
+{
     set(
         &[
             Part::Own("<tr><th scope=\"row\">"),
@@ -40,20 +61,48 @@ fn write_exchange<A: Allocator, W: Sink>(
         ],
         sink,
     )?;
-    for index in 0..plan.codes() {
-        let code = CodeId::of(index);
-        if plan.home(code) == exchange {
-            set(&[Part::Text(plan.code_figures(code)), Part::Own(" ")], sink)?;
-        }
-    }
+    write_codes(plan, exchange, sink)?;
     set(&[Part::Own("</td></tr>")], sink)
+}
+
+/// Writes the codes that are at home at an exchange.
+fn write_codes<A: Allocator, W: Sink>(
+    plan: &Plan<A>,
+    exchange: ExchangeId,
+    sink: &mut W,
+) -> Result<(), WriteFault>
+    ensures { Showed W.taken W.failed sink.old sink.new
+        (texts_below (length plan.now.codes) (home_texts plan.now exchange)) result }
+{
+    for index in 0..plan.codes() {
+        write_home(plan, exchange, CodeId::of(index), sink)?;
+    }
+    Ok(())
+}
+
+/// Writes a code, if it is at home at an exchange.
+fn write_home<A: Allocator, W: Sink>(
+    plan: &Plan<A>,
+    exchange: ExchangeId,
+    code: CodeId,
+    sink: &mut W,
+) -> Result<(), WriteFault>
+    ensures { Showed W.taken W.failed sink.old sink.new (home_texts plan.now exchange code) result }
+{
+    if plan.home(code) == exchange {
+        set(&[Part::Text(plan.code_figures(code)), Part::Own(" ")], sink)
+    } else {
+        Ok(())
+    }
 }
 
 fn write_group<A: Allocator, W: Sink>(
     plan: &Plan<A>,
     group: GroupId,
     sink: &mut W,
-) -> Result<(), WriteFault> {
+) -> Result<(), WriteFault>
+    ensures { Showed W.taken W.failed sink.old sink.new (group_texts plan.now group) result }
+{
     let (from, to) = plan.ends(group);
     let seized = match plan.direction(group) {
         Direction::OneWay => "</td><td>its first end</td><td class=\"k\">",

@@ -1,4 +1,10 @@
 // What outages cut off.
+ghost use Rattle.std.specs.Prelude.{◌≡◌, [], ◌∷◌, length, decimal};
+ghost use Rattle.std.specs.List.{flat_map};
+ghost use Rattle.tx_risk.specs.declared.outage.Outage.TheVariants.{Group, Exchange, Named};
+ghost use Rattle.tx_page.specs.Shows.{Showed, texts_below};
+ghost use Rattle.tx_page.specs.OutageTexts.{same_outage, outage_name, cut_off_by, astray_by, cut_texts, cut_texts_of, outage_texts, harmful_texts, outages_texts};
+
 use crate::part::{Part, set};
 use std::alloc::Allocator;
 use tx_plan::{ExchangeId, GroupId, Plan};
@@ -6,107 +12,222 @@ use tx_risk::{Cut, Outage, Risks};
 use tx_text::{Sink, WriteFault};
 
 /// Writes each named risk, and each exchange and each group that cuts somebody off, with those that
-/// it cuts off.
+/// it cuts off; or that the plan has no grade.
 pub fn write_outages<A: Allocator, W: Sink>(
     plan: &Plan<A>,
     risks: &Risks<A>,
     cuts: &[Cut<A>],
     graded: bool,
     sink: &mut W,
-) -> Result<(), WriteFault> {
+) -> Result<(), WriteFault>
+    ensures { Showed W.taken W.failed sink.old sink.new
+        (outages_texts plan.now risks.now cuts.now graded) result }
+{
     if !graded {
         return set(&[Part::Own(UNGRADED)], sink);
     }
-    let tried = plan.groups().saturating_add(plan.exchanges()).saturating_add(risks.len());
-    set(
-        &[
-            Part::Own("<h2>Outages</h2><p>"),
-            Part::Count(tried as u64),
-            Part::Own(" outages were tried: each group, each exchange and each named risk alone. "),
-            Part::Own("Those that cut a call off, or may lead one astray, are below."),
-            Part::Own("</p>"),
-        ],
-        sink,
-    )?;
-    for index in 0..risks.len() {
-        write_outage(risks.name(index), "Risk ", Outage::Named(index), true, cuts, plan, sink)?;
-    }
-    for index in 0..plan.exchanges() {
-        let exchange = ExchangeId::of(index);
-        let name = plan.exchange_name(exchange);
-        write_outage(name, "Exchange ", Outage::Exchange(exchange), false, cuts, plan, sink)?;
-    }
-    for index in 0..plan.groups() {
-        let group = GroupId::of(index);
-        let name = plan.group_name(group);
-        write_outage(name, "Group ", Outage::Group(group), false, cuts, plan, sink)?;
-    }
-    Ok(())
+    write_tried(plan.groups() + plan.exchanges() + risks.len(), sink)?;
+    write_named(plan, risks, cuts, sink)?;
+    write_exchanges(plan, risks, cuts, sink)?;
+    write_groups(plan, risks, cuts, sink)
 }
 
 const UNGRADED: &str = "<h2>Outages</h2><p>The plan has no grade: it is safe for no limit and no \
 spare number. So no outage was tried.</p>";
 
-/// How many cuts of an outage are astray, or are not.
-fn count_cuts<A: Allocator>(cuts: &[Cut<A>], outage: Outage, stray: bool) -> u64 {
-    let mut count = 0u64;
-    for cut in cuts {
-        if cut.outage == outage && cut.stray == stray {
-            count = count.saturating_add(1);
-        }
-    }
-    count
+fn write_tried<W: Sink>(tried: usize, sink: &mut W) -> Result<(), WriteFault>
+    ensures { Showed W.taken W.failed sink.old sink.new (decimal tried ∷ []) result }
+{
+    set(
+        &[
+            Part::Own("<h2>Outages</h2><p>"),
+            Part::Count(tried as u64),
+            Part::Own(
+                " outages were tried: each group, each exchange and each named risk alone. Below \
+                 are the named risks, and what else cuts calls off, or may lead them astray.</p>",
+            ),
+        ],
+        sink,
+    )
 }
 
-/// Writes an outage with its cuts; or nothing, if it has none and is not to be written always.
-fn write_outage<A: Allocator, W: Sink>(
-    name: &[u8],
-    kind: &'static str,
-    outage: Outage,
-    always: bool,
-    cuts: &[Cut<A>],
+fn write_named<A: Allocator, W: Sink>(
     plan: &Plan<A>,
+    risks: &Risks<A>,
+    cuts: &[Cut<A>],
     sink: &mut W,
-) -> Result<(), WriteFault> {
-    let cut = count_cuts(cuts, outage, false);
-    let astray = count_cuts(cuts, outage, true);
-    if cut == 0 && astray == 0 && !always {
-        return Ok(());
+) -> Result<(), WriteFault>
+    ensures { Showed W.taken W.failed sink.old sink.new (texts_below (length risks.now)
+        (λ i. outage_texts plan.now risks.now cuts.now (Named i))) result }
+{
+    for index in 0..risks.len() {
+        write_outage(plan, risks, cuts, Outage::Named(index), sink)?;
     }
+    Ok(())
+}
+
+fn write_exchanges<A: Allocator, W: Sink>(
+    plan: &Plan<A>,
+    risks: &Risks<A>,
+    cuts: &[Cut<A>],
+    sink: &mut W,
+) -> Result<(), WriteFault>
+    ensures { Showed W.taken W.failed sink.old sink.new (texts_below (length plan.now.exchanges)
+        (λ x. harmful_texts plan.now risks.now cuts.now (Exchange x))) result }
+{
+    for index in 0..plan.exchanges() {
+        let exchange = ExchangeId::of(index);
+        write_harmful(plan, risks, cuts, Outage::Exchange(exchange), sink)?;
+    }
+    Ok(())
+}
+
+fn write_groups<A: Allocator, W: Sink>(
+    plan: &Plan<A>,
+    risks: &Risks<A>,
+    cuts: &[Cut<A>],
+    sink: &mut W,
+) -> Result<(), WriteFault>
+    ensures { Showed W.taken W.failed sink.old sink.new (texts_below (length plan.now.groups)
+        (λ g. harmful_texts plan.now risks.now cuts.now (Group g))) result }
+{
+    for index in 0..plan.groups() {
+        let group = GroupId::of(index);
+        write_harmful(plan, risks, cuts, Outage::Group(group), sink)?;
+    }
+    Ok(())
+}
+
+/// Whether a cut is of the outage.
+fn is_of<A: Allocator>(cut: &Cut<A>, outage: Outage) -> bool
+    ensures { result ≡ same_outage cut.now.outage outage }
+{
+    cut.outage == outage
+}
+
+/// From how many starts an outage leaves no way.
+fn count_cut_off<A: Allocator>(cuts: &[Cut<A>], outage: Outage) -> usize
+    ensures { result ≡ cut_off_by outage cuts.now }
+{
+    cuts.iter()
+        .filter(|cut| is_of(cut, outage) && !cut.stray)
+        .count()
+}
+
+/// From how many starts an outage leaves a way, and may lead astray.
+fn count_astray<A: Allocator>(cuts: &[Cut<A>], outage: Outage) -> usize
+    ensures { result ≡ astray_by outage cuts.now }
+{
+    cuts.iter()
+        .filter(|cut| is_of(cut, outage) && cut.stray)
+        .count()
+}
+
+/// What kind of thing fails.
+fn kind_of(outage: Outage) -> &'static str {
+    match outage {
+        Outage::Group(_) => "Group ",
+        Outage::Exchange(_) => "Exchange ",
+        Outage::Named(_) => "Risk ",
+    }
+}
+
+/// The name of what fails.
+fn name_of<'a, A: Allocator>(plan: &'a Plan<A>, risks: &'a Risks<A>, outage: Outage) -> &'a [u8]
+    ensures { result.now ≡ outage_name plan.now risks.now outage }
+{
+    match outage {
+        Outage::Group(group) => plan.group_name(group),
+        Outage::Exchange(exchange) => plan.exchange_name(exchange),
+        Outage::Named(index) => risks.name(index),
+    }
+}
+
+/// Writes an outage with its cuts, if it has any.
+fn write_harmful<A: Allocator, W: Sink>(
+    plan: &Plan<A>,
+    risks: &Risks<A>,
+    cuts: &[Cut<A>],
+    outage: Outage,
+    sink: &mut W,
+) -> Result<(), WriteFault>
+    ensures { Showed W.taken W.failed sink.old sink.new
+        (harmful_texts plan.now risks.now cuts.now outage) result }
+{
+    if cuts.iter().any(|cut| is_of(cut, outage)) {
+        write_outage(plan, risks, cuts, outage, sink)
+    } else {
+        Ok(())
+    }
+}
+
+/// Writes an outage with its cuts.
+fn write_outage<A: Allocator, W: Sink>(
+    plan: &Plan<A>,
+    risks: &Risks<A>,
+    cuts: &[Cut<A>],
+    outage: Outage,
+    sink: &mut W,
+) -> Result<(), WriteFault>
+    ensures { Showed W.taken W.failed sink.old sink.new
+        (outage_texts plan.now risks.now cuts.now outage) result }
+{
     set(
         &[
             Part::Own("<details><summary>"),
-            Part::Own(kind),
+            Part::Own(kind_of(outage)),
             Part::Own("<b>"),
-            Part::Text(name),
+            Part::Text(name_of(plan, risks, outage)),
             Part::Own("</b>: "),
-            Part::Count(cut),
+            Part::Count(count_cut_off(cuts, outage) as u64),
             Part::Own(" cut off, "),
-            Part::Count(astray),
+            Part::Count(count_astray(cuts, outage) as u64),
             Part::Own(" astray</summary><ul class=\"c\">"),
         ],
         sink,
     )?;
+    write_cuts(plan, cuts, outage, sink)?;
+    set(&[Part::Own("</ul></details>")], sink)
+}
+
+/// Writes the cuts of an outage.
+fn write_cuts<A: Allocator, W: Sink>(
+    plan: &Plan<A>,
+    cuts: &[Cut<A>],
+    outage: Outage,
+    sink: &mut W,
+) -> Result<(), WriteFault>
+    ensures { Showed W.taken W.failed sink.old sink.new
+        (flat_map (cut_texts_of plan.now outage) cuts.now) result }
+{
     for i in 0..cuts.len() {
-        if cuts[i].outage == outage {
+        if is_of(&cuts[i], outage) {
             write_cut(plan, &cuts[i], sink)?;
         }
     }
-    set(&[Part::Own("</ul></details>")], sink)
+    Ok(())
 }
 
 fn write_cut<A: Allocator, W: Sink>(
     plan: &Plan<A>,
     cut: &Cut<A>,
     sink: &mut W,
-) -> Result<(), WriteFault> {
+) -> Result<(), WriteFault>
+    ensures { Showed W.taken W.failed sink.old sink.new (cut_texts plan.now cut.now) result }
+{
     set(
         &[
-            Part::Own(if cut.stray { "<li class=\"s\">" } else { "<li>" }),
+            Part::Own(if cut.stray {
+                "<li class=\"s\">"
+            } else {
+                "<li>"
+            }),
             Part::Text(plan.code_figures(cut.code)),
             Part::Own(" from "),
             Part::Text(plan.exchange_name(cut.walk.start)),
-            Part::Own(if cut.stray { " astray</li>" } else { "</li>" }),
+            Part::Own(" "),
+            Part::Text(if cut.stray { b"astray" } else { b"" }),
+            Part::Own("</li>"),
         ],
         sink,
     )

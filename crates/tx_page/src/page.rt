@@ -1,4 +1,7 @@
 // A page.
+ghost use Rattle.tx_page.specs.Shows.{Showed};
+ghost use Rattle.tx_page.specs.Page.{rest_texts, page_texts};
+
 use crate::codes::write_codes;
 use crate::findings::write_findings;
 use crate::heading::write_heading;
@@ -15,7 +18,9 @@ use tx_text::{Sink, WriteFault};
 pub fn write_page<A: Allocator, W: Sink>(
     subject: &Subject<'_, A>,
     sink: &mut W,
-) -> Result<(), WriteFault> {
+) -> Result<(), WriteFault>
+    ensures { Showed W.taken W.failed sink.old sink.new (page_texts subject.now) result }
+{
     match subject.ranking {
         Ranking::Found(_) => {
             write_heading(subject, true, sink)?;
@@ -34,7 +39,9 @@ fn write_rest<A: Allocator, W: Sink>(
     subject: &Subject<'_, A>,
     findings: &[Finding<A>],
     sink: &mut W,
-) -> Result<(), WriteFault> {
+) -> Result<(), WriteFault>
+    ensures { Showed W.taken W.failed sink.old sink.new (rest_texts subject.now) result }
+{
     let plan = subject.plan;
     write_codes(plan, subject.grade, sink)?;
     let graded = subject.grade.plan.is_some();

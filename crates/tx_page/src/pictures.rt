@@ -1,4 +1,8 @@
 // The lists, code by code.
+ghost use Rattle.std.specs.Prelude.{[]};
+ghost use Rattle.tx_page.specs.Shows.{Showed};
+ghost use Rattle.tx_page.specs.ListTexts.{picture_texts, pictures_texts};
+
 use crate::arrows::write_arrows;
 use crate::boxes::{picture_height, write_boxes};
 use crate::part::{Part, set};
@@ -10,7 +14,8 @@ use tx_plan::Plan;
 use tx_rank::Finding;
 use tx_text::{Sink, WriteFault};
 
-const KEY: &str = "<h2>Code by code</h2><p class=\"m key\">Each arrow is a group, or several to one \
+const KEY: &str =
+    "<h2>Code by code</h2><p class=\"m key\">Each arrow is a group, or several to one \
 exchange: <svg width=\"34\" height=\"10\" aria-hidden=\"true\"><path class=\"a0\" d=\"M0,5H30\"/>\
 </svg> tried first, <svg width=\"34\" height=\"10\" aria-hidden=\"true\"><path class=\"a1\" \
 d=\"M0,5H30\"/></svg> second, <svg width=\"34\" height=\"10\" aria-hidden=\"true\"><path \
@@ -23,8 +28,23 @@ pub fn write_pictures<A: Allocator, W: Sink>(
     pictures: &[Picture<A>],
     findings: &[Finding<A>],
     sink: &mut W,
-) -> Result<(), WriteFault> {
+) -> Result<(), WriteFault>
+    ensures { Showed W.taken W.failed sink.old sink.new
+        (pictures_texts plan.now pictures.now) result }
+{
     set(&[Part::Own(KEY)], sink)?;
+    write_all(plan, pictures, findings, sink)
+}
+
+fn write_all<A: Allocator, W: Sink>(
+    plan: &Plan<A>,
+    pictures: &[Picture<A>],
+    findings: &[Finding<A>],
+    sink: &mut W,
+) -> Result<(), WriteFault>
+    ensures { Showed W.taken W.failed sink.old sink.new
+        (pictures_texts plan.now pictures.now) result }
+{
     for i in 0..pictures.len() {
         let open = i == 0 || pictures.len() < 4 || has_finding(findings, pictures[i].code);
         write_picture(plan, &pictures[i], findings, open, sink)?;
@@ -39,7 +59,10 @@ fn write_picture<A: Allocator, W: Sink>(
     findings: &[Finding<A>],
     open: bool,
     sink: &mut W,
-) -> Result<(), WriteFault> {
+) -> Result<(), WriteFault>
+    ensures { Showed W.taken W.failed sink.old sink.new
+        (picture_texts plan.now picture.now.code) result }
+{
     set(
         &[
             Part::Own("<details id=\"c"),
@@ -64,7 +87,9 @@ fn write_canvas<A: Allocator, W: Sink>(
     plan: &Plan<A>,
     picture: &Picture<A>,
     sink: &mut W,
-) -> Result<(), WriteFault> {
+) -> Result<(), WriteFault>
+    ensures { Showed W.taken W.failed sink.old sink.new [] result }
+{
     let width = picture.right(0).saturating_add(LEFT);
     let height = picture_height(plan, picture);
     set(
@@ -88,20 +113,35 @@ fn write_heads<A: Allocator, W: Sink>(
     plan: &Plan<A>,
     picture: &Picture<A>,
     sink: &mut W,
-) -> Result<(), WriteFault> {
+) -> Result<(), WriteFault>
+    ensures { Showed W.taken W.failed sink.old sink.new [] result }
+{
     write_head(picture.left(0), sink)?;
-    if picture.ranked {
-        for rank in 1..picture.boxes.len().min(65536) {
-            write_rank(picture.left(rank as u16), rank as u64, sink)?;
-        }
+    write_ranks(picture, sink)?;
+    let below = TOP + u64::from(picture.high) + 16;
+    if picture_height(plan, picture) > below {
+        write_aside(below, sink)
+    } else {
+        Ok(())
     }
-    if picture_height(plan, picture) > TOP + u64::from(picture.high) + 4 {
-        write_aside(TOP + u64::from(picture.high) + 16, sink)?;
+}
+
+/// Writes the ranks above their columns, if the columns are ranks.
+fn write_ranks<A: Allocator, W: Sink>(picture: &Picture<A>, sink: &mut W) -> Result<(), WriteFault>
+    ensures { Showed W.taken W.failed sink.old sink.new [] result }
+{
+    if !picture.ranked {
+        return Ok(());
+    }
+    for rank in 1..picture.boxes.len().min(65536) {
+        write_rank(picture.left(rank as u16), rank as u64, sink)?;
     }
     Ok(())
 }
 
-fn write_head<W: Sink>(left: u64, sink: &mut W) -> Result<(), WriteFault> {
+fn write_head<W: Sink>(left: u64, sink: &mut W) -> Result<(), WriteFault>
+    ensures { Showed W.taken W.failed sink.old sink.new [] result }
+{
     set(
         &[
             Part::Own("<text class=\"r\" x=\""),
@@ -112,7 +152,9 @@ fn write_head<W: Sink>(left: u64, sink: &mut W) -> Result<(), WriteFault> {
     )
 }
 
-fn write_rank<W: Sink>(left: u64, rank: u64, sink: &mut W) -> Result<(), WriteFault> {
+fn write_rank<W: Sink>(left: u64, rank: u64, sink: &mut W) -> Result<(), WriteFault>
+    ensures { Showed W.taken W.failed sink.old sink.new [] result }
+{
     set(
         &[
             Part::Own("<text class=\"r\" x=\""),
@@ -125,7 +167,9 @@ fn write_rank<W: Sink>(left: u64, rank: u64, sink: &mut W) -> Result<(), WriteFa
     )
 }
 
-fn write_aside<W: Sink>(top: u64, sink: &mut W) -> Result<(), WriteFault> {
+fn write_aside<W: Sink>(top: u64, sink: &mut W) -> Result<(), WriteFault>
+    ensures { Showed W.taken W.failed sink.old sink.new [] result }
+{
     set(
         &[
             Part::Own("<text class=\"l\" x=\"6\" y=\""),

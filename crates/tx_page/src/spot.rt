@@ -2,14 +2,17 @@
 
 /// How wide and how high a box is.
 pub const BOX: u64 = 92;
+
 pub const TALL: u64 = 22;
 
 /// From one column to the next, and from one row to the next.
 pub const COLUMN: u64 = 190;
+
 pub const ROW: u64 = 32;
 
 /// What is left free at the left, and above the boxes.
 pub const LEFT: u64 = 6;
+
 pub const TOP: u64 = 30;
 
 /// How far from the middle of a box an arrow passes it.

@@ -1,4 +1,7 @@
 // Which steps the findings take.
+ghost use Rattle.std.specs.Prelude.{◌≡◌};
+ghost use Rattle.tx_page.specs.WrongTexts.{listed_before};
+
 use std::alloc::Allocator;
 use tx_plan::{CodeId, ExchangeId, GroupId, Plan};
 use tx_rank::{Finding, Walk};
@@ -55,7 +58,9 @@ pub fn finding_goes<A: Allocator>(
 }
 
 /// The groups that a list has before one of them.
-pub fn listed_before(list: &[GroupId], group: GroupId) -> &[GroupId] {
+pub fn listed_before(list: &[GroupId], group: GroupId) -> &[GroupId]
+    ensures { result.now ≡ listed_before group list.now }
+{
     for i in 0..list.len() {
         if list[i] == group {
             return &list[..i];
