@@ -132,10 +132,10 @@ module _ (p : Plan) (echo : Bool) (first now : Option Counted) (a b : Option (Li
 
     untold_ends : (f : RunFault) (n : ℕ) (ws : List (List ℕ)) (U : Ending → List ℕ → Framed) (e : Event) (k : ℕ) (cause : RunCause) → ReadsOn b c T (λ e more. Has n ws (U e more)) → event_of p ws ≡ Ok e
         → k ≡ tally.answered + 1 → Untold p echo k e t r v w cause → f ≡ record { event = tally.answered + 1; cause = cause } → StoppedTelling p tel source net sink f.event f.cause
-    untold_ends f n ws U e k cause q h number untold i =
+    untold_ends f n ws U e k cause q h counted untold i =
         let text : Begins p source (es ++ e ∷ []) = record { to_come = λ e more. script_said p (U e more); reads = event_said p a b c es T on.said n ws U e q h } in
         let here = subst (λ (z : Option (List ℕ)). Untold p echo k e (settled p s es) r z w cause) on.wrote (subst (λ (z : State). Untold p echo k e z r v w cause) on.network untold) in
-        subst (λ (z : RunFault). StoppedTelling p tel source net sink z.event z.cause) (ap (λ n. record { event = n; cause = cause }) number ∙ sym i) (untold_by e k text (number ∙ index) cause here)
+        subst (λ (z : RunFault). StoppedTelling p tel source net sink z.event z.cause) (ap (λ n. record { event = n; cause = cause }) counted ∙ sym i) (untold_by e k text (counted ∙ number) cause here)
 
     -- the text is whole
     module _ (ok : IsPlan p) (fresh : IsFresh s) (new : AreNew p s first) (kept : r ≡ t) where

@@ -31,7 +31,8 @@ overflow_add-result g c =
     eqb-false _ _ (sym c.eq.ensures ∙ c.if-eq.false) (e ∙ sym c.home.ensures) in
     let step = c.in_ok-step.step in
     let k = nearest_is n c.args.distances.now x step (sym c.nearest_step.ensures ∙ c.in_ok-step.was) in
-    (c.requires away step.group step.to k.listed k.leads).1 step.distance k.at
+    let low = (c.requires away step.group step.to k.listed k.leads).1 step.distance k.at in
+    omega arith
 
 pub returns : goal.returns
 returns g c =
