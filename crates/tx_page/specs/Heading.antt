@@ -7,17 +7,17 @@ use Rattle.tx_plan.specs.Plan.{Plan}
 use Rattle.tx_plan.specs.Routes.{is_origin}
 use Rattle.tx_plan.specs.declared.range.LineRange.{LineRange}
 
-abbrev pub verdict_word : (yes : Bool) → List ℕ
+abbrev pub verdict_word : (safe : Bool) → List ℕ
 verdict_word true = codes "YES"
 verdict_word false = codes "NO"
 
 -- the title, and the name of the file
 abbrev pub start_texts : List ℕ → Bool → List (List ℕ)
-start_texts name yes = name ∷ verdict_word yes ∷ name ∷ []
+start_texts name safe = name ∷ verdict_word safe ∷ name ∷ []
 
 -- the verdict, and the numbers for which it was asked
 abbrev pub verdict_texts : Bool → (limit spare : ℕ) → List (List ℕ)
-verdict_texts yes limit spare = verdict_word yes ∷ decimal limit ∷ decimal spare ∷ []
+verdict_texts safe limit spare = verdict_word safe ∷ decimal limit ∷ decimal spare ∷ []
 
 -- the numbers in the sentence that says what a YES promises
 abbrev pub promise_texts : Bool → (limit spare : ℕ) → List (List ℕ)
@@ -51,6 +51,6 @@ count_texts p = map decimal (length p.exchanges ∷ length p.codes ∷ length p.
 
 -- the file, the verdict, the counts, and the digest of the plan's text
 abbrev pub heading_texts : List ℕ → List ℕ → Plan → Bool → (limit spare : ℕ) → List (List ℕ)
-heading_texts name digest p yes limit spare = start_texts name yes
-    ++ (verdict_texts yes limit spare ++ (promise_texts yes limit spare
+heading_texts name digest p safe limit spare = start_texts name safe
+    ++ (verdict_texts safe limit spare ++ (promise_texts safe limit spare
     ++ (count_texts p ++ encode_lower digest ∷ [])))

@@ -18,12 +18,18 @@ part_texts (Count number) = decimal number ∷ []
 abbrev pub texts_below : ℕ → (ℕ → List (List ℕ)) → List (List ℕ)
 texts_below n texts = flat_map texts (range_with_len 0 n)
 
--- These texts stand in the bytes one after another, each escaped. Between them may be anything,
--- such as markup.
+-- A text stands in the bytes, escaped, and Rest holds of what comes after it.
+pub record StandsIn (text : List ℕ) (Rest : List ℕ → Type 0) (bytes : List ℕ) : Type 0 where
+  pub before : List ℕ
+  pub after : List ℕ
+  pub cut : bytes ≡ before ++ (escaped text ++ after)
+  pub rest : Rest after
+
+-- These texts stand in the bytes one after another, each escaped. Before, between and after them
+-- may be anything, such as markup.
 abbrev pub Shows : List (List ℕ) → List ℕ → Type 0
 Shows [] bytes = Unit {0}
-Shows (t ∷ texts) bytes = (before : List ℕ) × (after : List ℕ)
-    × (bytes ≡ before ++ (escaped t ++ after)) × Shows texts after
+Shows (t ∷ texts) bytes = StandsIn t (Shows texts) bytes
 
 -- By the bytes that a sink has taken and its mark, both before and after: what it took shows the
 -- texts, and it did not fail.

@@ -7,6 +7,8 @@ use Rattle.tx_plan.specs.Routes.{route_list}
 use Rattle.tx_rank.specs.Walks.{Walk, end_of}
 use Rattle.tx_rank.specs.declared.finding.Finding.{Finding}
 use Rattle.tx_rank.specs.declared.finding.Finding.TheVariants.{Ambiguous, Loop, Short, Long}
+use Rattle.tx_rank.specs.declared.ranking.Ranking.{Ranking}
+use Rattle.tx_rank.specs.declared.ranking.Ranking.TheVariants.{Found, Fails}
 
 -- the groups that a list has before one of them
 abbrev pub listed_before : ℕ → List ℕ → List ℕ
@@ -45,3 +47,8 @@ finding_texts p spare (Long c w) = (figures_of p c ∷ decimal (length w.steps)
 -- all findings, in their order
 abbrev pub findings_texts : {A : Type 0} → Plan → (spare : ℕ) → List (Finding A) → List (List ℕ)
 findings_texts p spare findings = flat_map (finding_texts p spare) findings
+
+-- nothing for a certificate that was found
+abbrev pub wrong_texts : {A : Type 0} → Plan → (spare : ℕ) → Ranking A → List (List ℕ)
+wrong_texts p spare (Found cert) = []
+wrong_texts p spare (Fails findings) = findings_texts p spare findings.items

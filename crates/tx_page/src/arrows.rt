@@ -7,7 +7,7 @@ use crate::picture::Picture;
 use crate::spot::{Spot, TOP, passing};
 use crate::walks::finding_goes;
 use std::alloc::Allocator;
-use tx_plan::{ExchangeId, GroupId, Plan};
+use tx_plan::{CodeId, ExchangeId, GroupId, Plan};
 use tx_rank::Finding;
 use tx_text::{Sink, WriteFault};
 
@@ -84,18 +84,33 @@ fn write_list<A: Allocator, W: Sink>(
     }
     let list = plan.list(exchange, picture.code);
     for i in 0..list.len() {
-        if let Some(to) = first_to(plan, exchange, list, i) {
-            let choice = if finding_goes(findings, picture.code, exchange, to) {
-                Choice::Wrong
-            } else {
-                Choice::at(i)
-            };
-            if choice == layer {
-                write_arrow(plan, picture, choice, exchange, to, sink)?;
-            }
+        if let Some(to) = arrow_to(plan, picture.code, findings, layer, exchange, list, i) {
+            write_arrow(plan, picture, layer, exchange, to, sink)?;
         }
     }
     Ok(())
+}
+
+/// Where the arrow of the group at an index of a list leads, if it has one and that is in the layer.
+fn arrow_to<A: Allocator>(
+    plan: &Plan<A>,
+    code: CodeId,
+    findings: &[Finding<A>],
+    layer: Choice,
+    exchange: ExchangeId,
+    list: &[GroupId],
+    index: usize,
+) -> Option<ExchangeId> {
+    if findings.is_empty() && layer != Choice::at(index) {
+        return None;
+    }
+    let to = first_to(plan, exchange, list, index)?;
+    let choice = if finding_goes(findings, code, exchange, to) {
+        Choice::Wrong
+    } else {
+        Choice::at(index)
+    };
+    if choice == layer { Some(to) } else { None }
 }
 
 /// Where the group at an index of a list leads, if none before it leads there.

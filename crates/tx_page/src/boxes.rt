@@ -1,5 +1,5 @@
 // The boxes in the picture of a code.
-ghost use Rattle.std.specs.Prelude.{[], ◌∷◌, length, map};
+ghost use Rattle.std.specs.Prelude.{◌<◌, [], ◌∷◌, length, map};
 ghost use Rattle.tx_plan.specs.Plan.{group_name};
 ghost use Rattle.tx_page.specs.Shows.{Showed, texts_below};
 ghost use Rattle.tx_page.specs.ListTexts.{box_texts};
@@ -47,7 +47,9 @@ struct Frame {
 }
 
 /// How many boxes of exchanges without calls stand side by side.
-fn boxes_aside<A: Allocator>(picture: &Picture<A>) -> u64 {
+fn boxes_aside<A: Allocator>(picture: &Picture<A>) -> u64
+    ensures { 0 < result }
+{
     (picture.right(0) / ASIDE).max(1)
 }
 
@@ -94,7 +96,7 @@ fn frame_of<A: Allocator>(plan: &Plan<A>, picture: &Picture<A>, exchange: Exchan
         },
         None => {
             let aside = count_aside(picture, exchange.index());
-            let row = boxes_aside(picture).max(1);
+            let row = boxes_aside(picture);
             Frame {
                 kind: Kind::Aside,
                 left: LEFT.saturating_add((aside % row).saturating_mul(ASIDE)),

@@ -1,29 +1,23 @@
 // The columns of the picture of a code.
 ghost use Rattle.std.specs.Prelude.{◌<◌, length};
+ghost use Rattle.tx_rank.specs.Judged.{AreOrigins};
 
 use std::alloc::Allocator;
 use tx_cert::Cert;
 use tx_plan::{CodeId, ExchangeId, Plan};
-use tx_rank::is_marked;
+use tx_rank::{is_marked, reached};
 use tx_text::NoMemory;
 
-/// The ranks of the home and of the exchanges to which calls come.
+/// The ranks that exchanges have for a code.
 pub fn columns_by_rank<A: Allocator + Copy>(
     alloc: A,
     plan: &Plan<A>,
     code: CodeId,
-    marks: &[bool],
     ranks: &Cert<A>,
 ) -> Result<Vec<Option<u16>, A>, NoMemory> {
     let mut columns = Vec::with_capacity(alloc, plan.exchanges())?;
     for index in 0..plan.exchanges() {
-        let exchange = ExchangeId::of(index);
-        let shown = is_marked(marks, exchange) || exchange == plan.home(code);
-        columns.push(if shown {
-            ranks.rank(code, exchange)
-        } else {
-            None
-        })?;
+        columns.push(ranks.rank(code, ExchangeId::of(index)))?;
     }
     Ok(columns)
 }
@@ -76,9 +70,13 @@ fn fill_column<A: Allocator>(
 pub fn columns_by_distance<A: Allocator + Copy>(
     alloc: A,
     plan: &Plan<A>,
+    origins: &[bool],
     code: CodeId,
-    marks: &[bool],
-) -> Result<Vec<Option<u16>, A>, NoMemory> {
+) -> Result<Vec<Option<u16>, A>, NoMemory>
+    requires code { code < length plan.now.codes }
+    requires origins { AreOrigins plan.now origins.now }
+{
+    let marks = reached(alloc, plan, origins, code)?;
     let mut columns = vec![in alloc; None; plan.exchanges()]?;
     if let Some(home) = columns.get_mut(plan.home(code).index()) {
         *home = Some(0);
@@ -86,11 +84,11 @@ pub fn columns_by_distance<A: Allocator + Copy>(
     let mut column = 1;
     for next in 1..u16::MAX {
         column = next;
-        if !fill_column(plan, code, marks, &mut columns, next) {
+        if !fill_column(plan, code, &marks, &mut columns, next) {
             break;
         }
     }
-    fill_last(marks, &mut columns, column);
+    fill_last(&marks, &mut columns, column);
     Ok(columns)
 }
 

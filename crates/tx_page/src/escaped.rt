@@ -1,15 +1,13 @@
 // Texts on a page.
-ghost use Rattle.std.specs.Prelude.{◌≡◌, IfSome, IfNone, [], ◌∷◌};
-ghost use Rattle.std.specs.List.{list_all};
+ghost use Rattle.std.specs.Prelude.{◌≡◌};
 ghost use Rattle.tx_text.specs.Wrote.{Wrote};
-ghost use Rattle.tx_page.specs.Escaped.{escaped, escaped_byte, is_plain};
+ghost use Rattle.tx_page.specs.Escaped.{escaped, escaped_byte, entity, is_markup, is_plain};
 
 use tx_text::{Sink, WriteFault, write_bytes};
 
-/// What stands for a byte that is no plain one.
+/// What stands for a byte that is not plain.
 fn entity(byte: u8) -> &'static [u8]
-    requires { is_plain byte ≡ false }
-    ensures { result.now ≡ escaped_byte byte }
+    ensures { result.now ≡ entity byte }
 {
     match byte {
         b'<' => b"&lt;",
@@ -21,12 +19,18 @@ fn entity(byte: u8) -> &'static [u8]
     }
 }
 
-/// Whether a byte stands for itself: it is no control byte, and none of those that markup is made
-/// of.
+/// Whether a byte begins or ends a tag, or the value of an attribute.
+fn is_markup(byte: u8) -> bool
+    ensures { result ≡ is_markup byte }
+{
+    byte == b'<' || byte == b'>' || byte == b'"' || byte == b'\''
+}
+
+/// Whether a byte stands for itself.
 fn is_plain(byte: u8) -> bool
     ensures { result ≡ is_plain byte }
 {
-    byte >= 32 && byte != 127 && !matches!(byte, b'<' | b'>' | b'&' | b'"' | b'\'')
+    !is_markup(byte) && byte != b'&' && byte >= b' ' && byte != 127
 }
 
 /// Writes a text so that none of it is taken for markup.

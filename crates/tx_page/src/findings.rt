@@ -3,18 +3,34 @@ ghost use Rattle.std.specs.Prelude.{◌≡◌, [], ◌∷◌, length, map, decim
 ghost use Rattle.tx_plan.specs.Plan.{exchange_name, figures_of, group_name, home_of};
 ghost use Rattle.tx_rank.specs.Walks.{end_of};
 ghost use Rattle.tx_page.specs.Shows.{Showed};
-ghost use Rattle.tx_page.specs.WrongTexts.{step_texts, steps_texts, walk_texts, finding_texts, findings_texts};
+ghost use Rattle.tx_page.specs.WrongTexts.{step_texts, steps_texts, walk_texts, finding_texts, findings_texts, wrong_texts};
 
 use crate::boxes::write_groups;
 use crate::part::{Part, set};
 use crate::walks::listed_before;
 use std::alloc::Allocator;
 use tx_plan::{CodeId, ExchangeId, GroupId, Limits, Plan};
-use tx_rank::{Finding, Walk};
+use tx_rank::{Finding, Ranking, Walk};
 use tx_text::{Sink, WriteFault};
 
+/// Writes what is wrong, if anything is.
+pub fn write_wrong<A: Allocator, W: Sink>(
+    plan: &Plan<A>,
+    ranking: &Ranking<A>,
+    limits: Limits,
+    sink: &mut W,
+) -> Result<(), WriteFault>
+    ensures { Showed W.taken W.failed sink.old sink.new
+        (wrong_texts plan.now limits.spare ranking.now) result }
+{
+    match ranking {
+        Ranking::Found(_) => Ok(()),
+        Ranking::Fails(findings) => write_findings(plan, findings, limits, sink),
+    }
+}
+
 /// Writes each finding in a sentence, with its walk.
-pub fn write_findings<A: Allocator, W: Sink>(
+fn write_findings<A: Allocator, W: Sink>(
     plan: &Plan<A>,
     findings: &[Finding<A>],
     limits: Limits,

@@ -7,7 +7,6 @@ ghost use Rattle.tx_page.specs.Heading.{verdict_word, start_texts, verdict_texts
 use crate::counts::{count_lines, count_origins};
 use crate::part::{Part, set};
 use crate::style::STYLE;
-use crate::subject::Subject;
 use hex::encode_to_slice;
 use std::alloc::Allocator;
 use tx_plan::{Limits, Plan};
@@ -30,20 +29,23 @@ d=\"M0,0L8,4L0,8z\"/></marker></defs></svg><main><h1>";
 
 /// Writes the head of a page: the file's name, the verdict, and what was judged.
 pub fn write_heading<A: Allocator, W: Sink>(
-    subject: &Subject<'_, A>,
-    yes: bool,
+    name: &[u8],
+    digest: &[u8; 32],
+    version: &'static str,
+    plan: &Plan<A>,
+    limits: Limits,
+    safe: bool,
     sink: &mut W,
 ) -> Result<(), WriteFault>
     ensures { Showed W.taken W.failed sink.old sink.new
-        (heading_texts subject.now.name.now subject.now.digest subject.now.plan.now yes
-        subject.now.limits.limit subject.now.limits.spare) result }
+        (heading_texts name.now digest.now plan.now safe limits.limit limits.spare) result }
 {
-    write_start(subject.name, yes, sink)?;
-    write_verdict(yes, subject.limits, sink)?;
-    write_promise(yes, subject.limits, sink)?;
-    write_warning(count_lines(subject.plan), sink)?;
-    write_counts(subject.plan, sink)?;
-    write_digest(&subject.digest, subject.version, sink)
+    write_start(name, safe, sink)?;
+    write_verdict(safe, limits, sink)?;
+    write_promise(safe, limits, sink)?;
+    write_warning(count_lines(plan), sink)?;
+    write_counts(plan, sink)?;
+    write_digest(digest, version, sink)
 }
 
 const NO_LINES: &str = "<p class=\"warn\">This plan has no line. So no call starts, and a YES says \
@@ -58,21 +60,21 @@ fn write_warning<W: Sink>(lines: u64, sink: &mut W) -> Result<(), WriteFault>
 }
 
 /// The verdict in a word.
-fn verdict_word(yes: bool) -> &'static [u8]
-    ensures { result.now ≡ verdict_word yes }
+fn verdict_word(safe: bool) -> &'static [u8]
+    ensures { result.now ≡ verdict_word safe }
 {
-    if yes { b"YES" } else { b"NO" }
+    if safe { b"YES" } else { b"NO" }
 }
 
-fn write_start<W: Sink>(name: &[u8], yes: bool, sink: &mut W) -> Result<(), WriteFault>
-    ensures { Showed W.taken W.failed sink.old sink.new (start_texts name.now yes) result }
+fn write_start<W: Sink>(name: &[u8], safe: bool, sink: &mut W) -> Result<(), WriteFault>
+    ensures { Showed W.taken W.failed sink.old sink.new (start_texts name.now safe) result }
 {
     set(
         &[
             Part::Own(START),
             Part::Text(name),
             Part::Own(": "),
-            Part::Text(verdict_word(yes)),
+            Part::Text(verdict_word(safe)),
             Part::Own("</title><style>"),
             Part::Own(STYLE),
             Part::Own(HEADS),
@@ -83,16 +85,16 @@ fn write_start<W: Sink>(name: &[u8], yes: bool, sink: &mut W) -> Result<(), Writ
     )
 }
 
-fn write_verdict<W: Sink>(yes: bool, limits: Limits, sink: &mut W) -> Result<(), WriteFault>
+fn write_verdict<W: Sink>(safe: bool, limits: Limits, sink: &mut W) -> Result<(), WriteFault>
     ensures { Showed W.taken W.failed sink.old sink.new
-        (verdict_texts yes limits.limit limits.spare) result }
+        (verdict_texts safe limits.limit limits.spare) result }
 {
     set(
         &[
             Part::Own("<p class=\"v "),
-            Part::Own(if yes { "yes" } else { "no" }),
+            Part::Own(if safe { "yes" } else { "no" }),
             Part::Own("\"><strong>"),
-            Part::Text(verdict_word(yes)),
+            Part::Text(verdict_word(safe)),
             Part::Own("</strong> transit limit <b>"),
             Part::Count(u64::from(limits.limit)),
             Part::Own("</b>, spare number <b>"),
@@ -104,11 +106,11 @@ fn write_verdict<W: Sink>(yes: bool, limits: Limits, sink: &mut W) -> Result<(),
 }
 
 /// Writes in a sentence what the verdict says.
-fn write_promise<W: Sink>(yes: bool, limits: Limits, sink: &mut W) -> Result<(), WriteFault>
+fn write_promise<W: Sink>(safe: bool, limits: Limits, sink: &mut W) -> Result<(), WriteFault>
     ensures { Showed W.taken W.failed sink.old sink.new
-        (promise_texts yes limits.limit limits.spare) result }
+        (promise_texts safe limits.limit limits.spare) result }
 {
-    if !yes {
+    if !safe {
         return set(&[Part::Own(NO_PROMISE)], sink);
     }
     set(

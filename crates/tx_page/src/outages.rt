@@ -61,7 +61,7 @@ fn write_named<A: Allocator, W: Sink>(
         (λ i. outage_texts plan.now risks.now cuts.now (Named i))) result }
 {
     for index in 0..risks.len() {
-        write_outage(plan, risks, cuts, Outage::Named(index), sink)?;
+        write_outage(plan, risks, cuts, &Outage::Named(index), sink)?;
     }
     Ok(())
 }
@@ -77,7 +77,7 @@ fn write_exchanges<A: Allocator, W: Sink>(
 {
     for index in 0..plan.exchanges() {
         let exchange = ExchangeId::of(index);
-        write_harmful(plan, risks, cuts, Outage::Exchange(exchange), sink)?;
+        write_harmful(plan, risks, cuts, &Outage::Exchange(exchange), sink)?;
     }
     Ok(())
 }
@@ -93,21 +93,21 @@ fn write_groups<A: Allocator, W: Sink>(
 {
     for index in 0..plan.groups() {
         let group = GroupId::of(index);
-        write_harmful(plan, risks, cuts, Outage::Group(group), sink)?;
+        write_harmful(plan, risks, cuts, &Outage::Group(group), sink)?;
     }
     Ok(())
 }
 
 /// Whether a cut is of the outage.
-fn is_of<A: Allocator>(cut: &Cut<A>, outage: Outage) -> bool
-    ensures { result ≡ same_outage cut.now.outage outage }
+fn is_of<A: Allocator>(cut: &Cut<A>, outage: &Outage) -> bool
+    ensures { result ≡ same_outage cut.now.outage outage.now }
 {
-    cut.outage == outage
+    cut.outage == *outage
 }
 
 /// From how many starts an outage leaves no way.
-fn count_cut_off<A: Allocator>(cuts: &[Cut<A>], outage: Outage) -> usize
-    ensures { result ≡ cut_off_by outage cuts.now }
+fn count_cut_off<A: Allocator>(cuts: &[Cut<A>], outage: &Outage) -> usize
+    ensures { result ≡ cut_off_by outage.now cuts.now }
 {
     cuts.iter()
         .filter(|cut| is_of(cut, outage) && !cut.stray)
@@ -115,8 +115,8 @@ fn count_cut_off<A: Allocator>(cuts: &[Cut<A>], outage: Outage) -> usize
 }
 
 /// From how many starts an outage leaves a way, and may lead astray.
-fn count_astray<A: Allocator>(cuts: &[Cut<A>], outage: Outage) -> usize
-    ensures { result ≡ astray_by outage cuts.now }
+fn count_astray<A: Allocator>(cuts: &[Cut<A>], outage: &Outage) -> usize
+    ensures { result ≡ astray_by outage.now cuts.now }
 {
     cuts.iter()
         .filter(|cut| is_of(cut, outage) && cut.stray)
@@ -124,7 +124,7 @@ fn count_astray<A: Allocator>(cuts: &[Cut<A>], outage: Outage) -> usize
 }
 
 /// What kind of thing fails.
-fn kind_of(outage: Outage) -> &'static str {
+fn kind_of(outage: &Outage) -> &'static str {
     match outage {
         Outage::Group(_) => "Group ",
         Outage::Exchange(_) => "Exchange ",
@@ -133,26 +133,26 @@ fn kind_of(outage: Outage) -> &'static str {
 }
 
 /// The name of what fails.
-fn name_of<'a, A: Allocator>(plan: &'a Plan<A>, risks: &'a Risks<A>, outage: Outage) -> &'a [u8]
-    ensures { result.now ≡ outage_name plan.now risks.now outage }
+fn name_of<'a, A: Allocator>(plan: &'a Plan<A>, risks: &'a Risks<A>, outage: &Outage) -> &'a [u8]
+    ensures { result.now ≡ outage_name plan.now risks.now outage.now }
 {
     match outage {
-        Outage::Group(group) => plan.group_name(group),
-        Outage::Exchange(exchange) => plan.exchange_name(exchange),
-        Outage::Named(index) => risks.name(index),
+        Outage::Group(group) => plan.group_name(*group),
+        Outage::Exchange(exchange) => plan.exchange_name(*exchange),
+        Outage::Named(index) => risks.name(*index),
     }
 }
 
 /// Writes an outage with its cuts, if it has any.
-fn write_harmful<A: Allocator, W: Sink>(
-    plan: &Plan<A>,
-    risks: &Risks<A>,
+fn write_harmful<'a, A: Allocator, W: Sink>(
+    plan: &'a Plan<A>,
+    risks: &'a Risks<A>,
     cuts: &[Cut<A>],
-    outage: Outage,
+    outage: &Outage,
     sink: &mut W,
 ) -> Result<(), WriteFault>
     ensures { Showed W.taken W.failed sink.old sink.new
-        (harmful_texts plan.now risks.now cuts.now outage) result }
+        (harmful_texts plan.now risks.now cuts.now outage.now) result }
 {
     if cuts.iter().any(|cut| is_of(cut, outage)) {
         write_outage(plan, risks, cuts, outage, sink)
@@ -162,15 +162,15 @@ fn write_harmful<A: Allocator, W: Sink>(
 }
 
 /// Writes an outage with its cuts.
-fn write_outage<A: Allocator, W: Sink>(
-    plan: &Plan<A>,
-    risks: &Risks<A>,
+fn write_outage<'a, A: Allocator, W: Sink>(
+    plan: &'a Plan<A>,
+    risks: &'a Risks<A>,
     cuts: &[Cut<A>],
-    outage: Outage,
+    outage: &Outage,
     sink: &mut W,
 ) -> Result<(), WriteFault>
     ensures { Showed W.taken W.failed sink.old sink.new
-        (outage_texts plan.now risks.now cuts.now outage) result }
+        (outage_texts plan.now risks.now cuts.now outage.now) result }
 {
     set(
         &[
@@ -194,11 +194,11 @@ fn write_outage<A: Allocator, W: Sink>(
 fn write_cuts<A: Allocator, W: Sink>(
     plan: &Plan<A>,
     cuts: &[Cut<A>],
-    outage: Outage,
+    outage: &Outage,
     sink: &mut W,
 ) -> Result<(), WriteFault>
     ensures { Showed W.taken W.failed sink.old sink.new
-        (flat_map (cut_texts_of plan.now outage) cuts.now) result }
+        (flat_map (cut_texts_of plan.now outage.now) cuts.now) result }
 {
     for i in 0..cuts.len() {
         if is_of(&cuts[i], outage) {

@@ -30,7 +30,7 @@ pub fn set<W: Sink>(parts: &[Part<'_>], sink: &mut W) -> Result<(), WriteFault>
 }
 
 fn set_part<W: Sink>(part: Part<'_>, sink: &mut W) -> Result<(), WriteFault>
-    ensures { Showed W.taken W.failed sink.old sink.new (part_texts part) result }
+    ensures { Showed W.taken W.failed sink.old sink.new (part_texts part.entry) result }
 {
     match part {
         Part::Own(words) => write_bytes(words.as_bytes(), sink),

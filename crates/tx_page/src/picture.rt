@@ -7,7 +7,7 @@ use crate::rows::{count_boxes, height_of, place_rows, spot_of};
 use crate::spot::{BOX, COLUMN, LEFT, Spot};
 use std::alloc::{Allocator, Global};
 use tx_plan::{CodeId, ExchangeId, Plan};
-use tx_rank::{Grade, reached};
+use tx_rank::Grade;
 use tx_text::NoMemory;
 
 /// The picture of a code: its exchanges in columns, with the home at the right.
@@ -35,15 +35,14 @@ pub fn picture_of<A: Allocator + Copy>(
     requires origins { AreOrigins plan.now origins.now }
     ensures { IfOk result (λ picture. picture.code ≡ code) }
 {
-    let marks = reached(alloc, plan, origins, code)?;
     let ranked = match grade.codes.get(code.index()) {
         Some(graded) => graded.1.is_some(),
         None => false,
     };
     let columns = if ranked {
-        columns_by_rank(alloc, plan, code, &marks, &grade.ranks)?
+        columns_by_rank(alloc, plan, code, &grade.ranks)?
     } else {
-        columns_by_distance(alloc, plan, code, &marks)?
+        columns_by_distance(alloc, plan, origins, code)?
     };
     let boxes = count_boxes(alloc, &columns)?;
     let high = height_of(&boxes);

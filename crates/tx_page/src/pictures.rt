@@ -8,7 +8,7 @@ use crate::boxes::{picture_height, write_boxes};
 use crate::part::{Part, set};
 use crate::picture::Picture;
 use crate::spot::{BOX, LEFT, TOP};
-use crate::walks::has_finding;
+use crate::walks::findings_of;
 use std::alloc::Allocator;
 use tx_plan::Plan;
 use tx_rank::Finding;
@@ -46,8 +46,9 @@ fn write_all<A: Allocator, W: Sink>(
         (pictures_texts plan.now pictures.now) result }
 {
     for i in 0..pictures.len() {
-        let open = i == 0 || pictures.len() < 4 || has_finding(findings, pictures[i].code);
-        write_picture(plan, &pictures[i], findings, open, sink)?;
+        let wrong = findings_of(findings, pictures[i].code);
+        let open = i == 0 || pictures.len() < 4 || !wrong.is_empty();
+        write_picture(plan, &pictures[i], wrong, open, sink)?;
     }
     Ok(())
 }

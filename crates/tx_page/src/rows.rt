@@ -9,7 +9,7 @@ pub fn count_boxes<A: Allocator + Copy>(
     alloc: A,
     columns: &[Option<u16>],
 ) -> Result<Vec<u16, A>, NoMemory> {
-    let mut last = 0;
+    let mut last: u16 = 0;
     for column in columns {
         last = last.max(column.unwrap_or(0));
     }
@@ -26,11 +26,11 @@ pub fn count_boxes<A: Allocator + Copy>(
 
 /// How high the columns are: as high as the one with the most boxes needs to be.
 pub fn height_of(boxes: &[u16]) -> u16 {
-    let mut most = 1;
+    let mut most: u16 = 1;
     for count in boxes {
-        most = most.max(u64::from(*count));
+        most = most.max(*count);
     }
-    (most * ROW).min(65535) as u16
+    (u64::from(most) * ROW).min(65535) as u16
 }
 
 /// Where an exchange stands, if it has a place already.

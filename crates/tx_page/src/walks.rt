@@ -16,16 +16,29 @@ pub fn walk_of<A: Allocator>(finding: &Finding<A>) -> Option<(CodeId, &Walk<A>)>
     }
 }
 
-/// Whether a finding is of the code.
-pub fn has_finding<A: Allocator>(findings: &[Finding<A>], code: CodeId) -> bool {
-    for finding in findings {
-        if let Some((of, _)) = walk_of(finding) {
-            if of == code {
-                return true;
-            }
+/// Whether a finding is of the code and has a walk.
+fn is_of<A: Allocator>(finding: &Finding<A>, code: CodeId) -> bool {
+    match walk_of(finding) {
+        Some((of, _)) => of == code,
+        None => false,
+    }
+}
+
+/// The findings from the first to the last of the code that have walks.
+pub fn findings_of<A: Allocator>(findings: &[Finding<A>], code: CodeId) -> &[Finding<A>] {
+    let mut start = findings.len();
+    let mut end = 0;
+    for i in 0..findings.len() {
+        if is_of(&findings[i], code) {
+            start = start.min(i);
+            end = i + 1;
         }
     }
-    false
+    if start < end && end <= findings.len() {
+        &findings[start..end]
+    } else {
+        &[]
+    }
 }
 
 /// Whether a walk goes from one exchange to another.
