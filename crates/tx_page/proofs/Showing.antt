@@ -58,6 +58,10 @@ showed_stopped a b f g t (Err y) mark bad = mark
 pub showed_is : (a b : Option (List ℕ)) (f g : Bool) (s t : List (List ℕ)) → s ≡ t → HasShown a b f g t → HasShown a b f g s
 showed_is a b f g s t e w = subst (λ (l : List (List ℕ)). HasShown a b f g l) (sym e) w
 
+-- texts, and then nothing but markup
+pub showed_end : (a b c : Option (List ℕ)) (f g h : Bool) (s : List (List ℕ)) (r : Outcome) → HasShown a b f g s → ShowedBy b c g h [] r → ShowedBy a c f h s r
+showed_end a b c f g h s r v w = subst (λ l. ShowedBy a c f h l r) (append-nil s) (showed_then a b c f g h s [] r v w)
+
 -- markup was written
 pub own_showed : (a b : Option (List ℕ)) (f g : Bool) (bytes : List ℕ) (r : Outcome) → WroteBy a b f g bytes r → ShowedBy a b f g [] r
 own_showed a b f g bytes (Ok x) w = record { bytes = bytes; added = w.0; shows = tt; mark = w.1 }

@@ -32,17 +32,29 @@ walk_texts p c w full = steps_texts p c w.start w.steps ++ map (group_name p) fu
 abbrev pub last_list : Plan → ℕ → Walk → List ℕ
 last_list p c w = route_list p (end_of w.start w.steps) c
 
--- a sentence for each kind of finding, and then its walk
-abbrev pub finding_texts : {A : Type 0} → Plan → (spare : ℕ) → Finding A → List (List ℕ)
-finding_texts p spare (Ambiguous a b) = figures_of p a ∷ figures_of p b ∷ []
-finding_texts p spare (Loop c w) =
+-- where a call can come back, and how
+abbrev pub loop_texts : Plan → ℕ → Walk → List (List ℕ)
+loop_texts p c w =
     (figures_of p c ∷ exchange_name p (end_of w.start w.steps) ∷ []) ++ walk_texts p c w []
-finding_texts p spare (Short c w) = (figures_of p c ∷ exchange_name p (end_of w.start w.steps)
+
+-- where a call can find too few groups: how many there are, and how many are to spare
+abbrev pub short_texts : Plan → (spare : ℕ) → ℕ → Walk → List (List ℕ)
+short_texts p spare c w = (figures_of p c ∷ exchange_name p (end_of w.start w.steps)
     ∷ decimal (length (last_list p c w)) ∷ decimal spare ∷ [])
     ++ walk_texts p c w (last_list p c w)
-finding_texts p spare (Long c w) = (figures_of p c ∷ decimal (length w.steps)
+
+-- by how many groups a call can go, how far, and where it does not come then
+abbrev pub long_texts : Plan → ℕ → Walk → List (List ℕ)
+long_texts p c w = (figures_of p c ∷ decimal (length w.steps)
     ∷ exchange_name p (end_of w.start w.steps) ∷ exchange_name p (home_of p c) ∷ [])
     ++ walk_texts p c w []
+
+-- what is wrong, and the walk that shows it
+abbrev pub finding_texts : {A : Type 0} → Plan → (spare : ℕ) → Finding A → List (List ℕ)
+finding_texts p spare (Ambiguous a b) = figures_of p a ∷ figures_of p b ∷ []
+finding_texts p spare (Loop c w) = loop_texts p c w
+finding_texts p spare (Short c w) = short_texts p spare c w
+finding_texts p spare (Long c w) = long_texts p c w
 
 -- all findings, in their order
 abbrev pub findings_texts : {A : Type 0} → Plan → (spare : ℕ) → List (Finding A) → List (List ℕ)

@@ -20,9 +20,6 @@ enum Choice {
     Wrong,
 }
 
-/// From the arrows below to those above.
-const LAYERS: [Choice; 4] = [Choice::Later, Choice::Second, Choice::First, Choice::Wrong];
-
 impl Choice {
     fn class(self) -> &'static str {
         match self {
@@ -59,16 +56,29 @@ pub fn write_arrows<A: Allocator, W: Sink>(
 ) -> Result<(), WriteFault>
     ensures { Showed W.taken W.failed sink.old sink.new [] result }
 {
-    for i in 0..LAYERS.len() {
-        for index in 0..plan.exchanges() {
-            let exchange = ExchangeId::of(index);
-            write_list(plan, picture, findings, LAYERS[i], exchange, sink)?;
-        }
+    write_layer(plan, picture, findings, Choice::Later, sink)?;
+    write_layer(plan, picture, findings, Choice::Second, sink)?;
+    write_layer(plan, picture, findings, Choice::First, sink)?;
+    write_layer(plan, picture, findings, Choice::Wrong, sink)
+}
+
+/// Writes the arrows of one kind. Those that are written later lie above.
+fn write_layer<A: Allocator, W: Sink>(
+    plan: &Plan<A>,
+    picture: &Picture<A>,
+    findings: &[Finding<A>],
+    layer: Choice,
+    sink: &mut W,
+) -> Result<(), WriteFault>
+    ensures { Showed W.taken W.failed sink.old sink.new [] result }
+{
+    for index in 0..plan.exchanges() {
+        write_list(plan, picture, findings, layer, ExchangeId::of(index), sink)?;
     }
     Ok(())
 }
 
-/// Writes the arrows of a layer that an exchange has.
+/// Writes the arrows of one kind that an exchange has.
 fn write_list<A: Allocator, W: Sink>(
     plan: &Plan<A>,
     picture: &Picture<A>,
@@ -79,14 +89,10 @@ fn write_list<A: Allocator, W: Sink>(
 ) -> Result<(), WriteFault>
     ensures { Showed W.taken W.failed sink.old sink.new [] result }
 {
-    if exchange == plan.home(picture.code) {
-        return Ok(());
-    }
     let list = plan.list(exchange, picture.code);
     for i in 0..list.len() {
-        if let Some(to) = arrow_to(plan, picture.code, findings, layer, exchange, list, i) {
-            write_arrow(plan, picture, layer, exchange, to, sink)?;
-        }
+        let to = arrow_to(plan, picture.code, findings, layer, exchange, list, i);
+        write_arrow(plan, picture, layer, exchange, to, sink)?;
     }
     Ok(())
 }
@@ -129,29 +135,52 @@ fn first_to<A: Allocator>(
     Some(to)
 }
 
-/// Writes an arrow, if both exchanges have a place.
+/// Writes an arrow, if it leads somewhere and both exchanges have a place.
 fn write_arrow<A: Allocator, W: Sink>(
     plan: &Plan<A>,
     picture: &Picture<A>,
     choice: Choice,
     from: ExchangeId,
-    to: ExchangeId,
+    to: Option<ExchangeId>,
     sink: &mut W,
 ) -> Result<(), WriteFault>
     ensures { Showed W.taken W.failed sink.old sink.new [] result }
 {
-    let (Some(tail), Some(head)) = (picture.spot(from), picture.spot(to)) else {
-        return Ok(());
-    };
-    // The home is as high as its column, so an arrow comes to it level.
-    let head = if to == plan.home(picture.code) {
-        Spot {
-            column: head.column,
-            middle: tail.middle,
-        }
-    } else {
-        head
-    };
+    match (picture.spot(from), head_of(plan, picture, from, to)) {
+        (Some(tail), Some(head)) => write_between(picture, choice, tail, head, sink),
+        _ => Ok(()),
+    }
+}
+
+/// Where an arrow ends. The home is as high as its column, so an arrow comes to it level.
+fn head_of<A: Allocator>(
+    plan: &Plan<A>,
+    picture: &Picture<A>,
+    from: ExchangeId,
+    to: Option<ExchangeId>,
+) -> Option<Spot> {
+    let to = to?;
+    let head = picture.spot(to)?;
+    if to != plan.home(picture.code) {
+        return Some(head);
+    }
+    let tail = picture.spot(from)?;
+    Some(Spot {
+        column: head.column,
+        middle: tail.middle,
+    })
+}
+
+/// Writes an arrow between two places.
+fn write_between<A: Allocator, W: Sink>(
+    picture: &Picture<A>,
+    choice: Choice,
+    tail: Spot,
+    head: Spot,
+    sink: &mut W,
+) -> Result<(), WriteFault>
+    ensures { Showed W.taken W.failed sink.old sink.new [] result }
+{
     set(
         &[
             Part::Own("<path class=\""),
@@ -160,17 +189,45 @@ fn write_arrow<A: Allocator, W: Sink>(
         ],
         sink,
     )?;
-    if tail.column > head.column {
-        write_forward(picture, tail, head, sink)?;
-    } else if tail.column == head.column {
-        write_beside(picture, tail, head, sink)?;
-    } else {
-        write_back(picture, tail, head, sink)?;
-    }
+    write_way(picture, tail, head, sink)?;
     set(&[Part::Own("\"/>")], sink)
 }
 
-/// How far below the top an arrow passes a column between its ends.
+fn write_way<A: Allocator, W: Sink>(
+    picture: &Picture<A>,
+    tail: Spot,
+    head: Spot,
+    sink: &mut W,
+) -> Result<(), WriteFault>
+    ensures { Showed W.taken W.failed sink.old sink.new [] result }
+{
+    if tail.column == head.column {
+        write_aside(picture, tail, head, sink)
+    } else {
+        write_across(picture, tail, head, sink)
+    }
+}
+
+/// Whether an arrow goes to the left.
+fn goes_back(tail: Spot, head: Spot) -> bool {
+    tail.column < head.column
+}
+
+/// The column that an arrow passes after so many others.
+fn column_at(tail: Spot, head: Spot, passed: u16) -> u16 {
+    if goes_back(tail, head) {
+        tail.column.saturating_add(passed)
+    } else {
+        tail.column.saturating_sub(passed)
+    }
+}
+
+/// How high an end of an arrow is. One to the left is a little lower than one to the right.
+fn level_of(spot: Spot, back: bool) -> u64 {
+    TOP + u64::from(spot.middle) + if back { 6 } else { 0 }
+}
+
+/// How high an arrow passes a column between its ends.
 fn crossing<A: Allocator>(picture: &Picture<A>, tail: Spot, head: Spot, column: u16) -> u64 {
     let span = u64::from(tail.column.abs_diff(head.column)).max(1);
     let done = u64::from(tail.column.abs_diff(column)).min(span);
@@ -178,40 +235,56 @@ fn crossing<A: Allocator>(picture: &Picture<A>, tail: Spot, head: Spot, column: 
     passing(straight, picture.boxes_in(column), u64::from(picture.high)).saturating_add(TOP)
 }
 
-/// Writes an arrow to the right, which passes each column between its ends beside its boxes.
-fn write_forward<A: Allocator, W: Sink>(
-    picture: &Picture<A>,
-    tail: Spot,
-    head: Spot,
-    sink: &mut W,
-) -> Result<(), WriteFault>
-    ensures { Showed W.taken W.failed sink.old sink.new [] result }
-{
-    let mut at = Point {
-        x: picture.right(tail.column),
-        y: TOP + u64::from(tail.middle),
-    };
-    write_point(at, sink)?;
-    for passed in 1..tail.column.saturating_sub(head.column) {
-        let column = tail.column.saturating_sub(passed);
-        let y = crossing(picture, tail, head, column);
-        let x = picture.left(column).saturating_sub(4);
-        write_bend(at, Point { x, y }, sink)?;
-        at = Point {
-            x: picture.right(column).saturating_add(4),
-            y,
-        };
-        set(&[Part::Own("H"), Part::Place(at.x)], sink)?;
+/// A little beside a column.
+fn beside<A: Allocator>(picture: &Picture<A>, column: u16, right: bool) -> u64 {
+    if right {
+        picture.right(column).saturating_add(4)
+    } else {
+        picture.left(column).saturating_sub(4)
     }
-    let end = Point {
-        x: picture.left(head.column).saturating_sub(3),
-        y: TOP + u64::from(head.middle),
-    };
-    write_bend(at, end, sink)
 }
 
-/// Writes an arrow to the left. It is a little lower than one between the same boxes to the right.
-fn write_back<A: Allocator, W: Sink>(
+/// Where an arrow comes to a column that it passes.
+fn entry_of<A: Allocator>(picture: &Picture<A>, tail: Spot, head: Spot, passed: u16) -> Point {
+    let column = column_at(tail, head, passed);
+    Point {
+        x: beside(picture, column, goes_back(tail, head)),
+        y: crossing(picture, tail, head, column),
+    }
+}
+
+/// Where an arrow leaves a column that it passes, or the box from which it comes.
+fn exit_of<A: Allocator>(picture: &Picture<A>, tail: Spot, head: Spot, passed: u16) -> Point {
+    let back = goes_back(tail, head);
+    let column = column_at(tail, head, passed);
+    if passed > 0 {
+        return Point {
+            x: beside(picture, column, !back),
+            y: crossing(picture, tail, head, column),
+        };
+    }
+    Point {
+        x: if back {
+            picture.left(column)
+        } else {
+            picture.right(column)
+        },
+        y: level_of(tail, back),
+    }
+}
+
+/// Where the head of an arrow is.
+fn tip_of<A: Allocator>(picture: &Picture<A>, tail: Spot, head: Spot) -> Point {
+    let back = goes_back(tail, head);
+    Point {
+        x: beside(picture, head.column, back),
+        y: level_of(head, back),
+    }
+}
+
+/// Writes an arrow from one column to another, which passes each column between them beside its
+/// boxes.
+fn write_across<A: Allocator, W: Sink>(
     picture: &Picture<A>,
     tail: Spot,
     head: Spot,
@@ -219,31 +292,54 @@ fn write_back<A: Allocator, W: Sink>(
 ) -> Result<(), WriteFault>
     ensures { Showed W.taken W.failed sink.old sink.new [] result }
 {
-    let mut at = Point {
-        x: picture.left(tail.column),
-        y: TOP + u64::from(tail.middle) + 6,
-    };
-    write_point(at, sink)?;
-    for passed in 1..head.column.saturating_sub(tail.column) {
-        let column = tail.column.saturating_add(passed);
-        let y = crossing(picture, tail, head, column);
-        let x = picture.right(column).saturating_add(4);
-        write_bend(at, Point { x, y }, sink)?;
-        at = Point {
-            x: picture.left(column).saturating_sub(4),
-            y,
-        };
-        set(&[Part::Own("H"), Part::Place(at.x)], sink)?;
+    let last = tail.column.abs_diff(head.column).saturating_sub(1);
+    write_point(exit_of(picture, tail, head, 0), sink)?;
+    write_passings(picture, tail, head, last, sink)?;
+    write_bend(
+        exit_of(picture, tail, head, last),
+        tip_of(picture, tail, head),
+        sink,
+    )
+}
+
+/// Writes the way of an arrow past so many columns.
+fn write_passings<A: Allocator, W: Sink>(
+    picture: &Picture<A>,
+    tail: Spot,
+    head: Spot,
+    last: u16,
+    sink: &mut W,
+) -> Result<(), WriteFault>
+    ensures { Showed W.taken W.failed sink.old sink.new [] result }
+{
+    for before in 0..last {
+        write_passing(picture, tail, head, before, sink)?;
     }
-    let end = Point {
-        x: picture.right(head.column).saturating_add(3),
-        y: TOP + u64::from(head.middle) + 6,
-    };
-    write_bend(at, end, sink)
+    Ok(())
+}
+
+/// Writes the way of an arrow past one column more.
+fn write_passing<A: Allocator, W: Sink>(
+    picture: &Picture<A>,
+    tail: Spot,
+    head: Spot,
+    before: u16,
+    sink: &mut W,
+) -> Result<(), WriteFault>
+    ensures { Showed W.taken W.failed sink.old sink.new [] result }
+{
+    let passed = before.saturating_add(1);
+    write_bend(
+        exit_of(picture, tail, head, before),
+        entry_of(picture, tail, head, passed),
+        sink,
+    )?;
+    let exit = exit_of(picture, tail, head, passed);
+    set(&[Part::Own("H"), Part::Place(exit.x)], sink)
 }
 
 /// Writes an arrow from one box to another of its column, beside the boxes between them.
-fn write_beside<A: Allocator, W: Sink>(
+fn write_aside<A: Allocator, W: Sink>(
     picture: &Picture<A>,
     tail: Spot,
     head: Spot,
@@ -252,21 +348,16 @@ fn write_beside<A: Allocator, W: Sink>(
     ensures { Showed W.taken W.failed sink.old sink.new [] result }
 {
     let right = picture.right(tail.column);
-    let (from, to) = (TOP + u64::from(tail.middle), TOP + u64::from(head.middle));
-    let (from, to) = if from < to {
-        (from + 4, to - 4)
-    } else {
-        (from - 4, to + 4)
-    };
-    write_point(Point { x: right, y: from }, sink)?;
+    let down = tail.middle < head.middle;
+    let from = TOP + u64::from(tail.middle) + if down { 4 } else { 0 };
+    let to = TOP + u64::from(head.middle) + if down { 0 } else { 4 };
     let aside = right.saturating_add(50);
+    let end = right.saturating_add(4);
+    write_point(Point { x: right, y: from }, sink)?;
     write_curve(
         Point { x: aside, y: from },
         Point { x: aside, y: to },
-        Point {
-            x: right.saturating_add(3),
-            y: to,
-        },
+        Point { x: end, y: to },
         sink,
     )
 }
@@ -284,9 +375,6 @@ fn write_point<W: Sink>(point: Point, sink: &mut W) -> Result<(), WriteFault>
 fn write_bend<W: Sink>(from: Point, to: Point, sink: &mut W) -> Result<(), WriteFault>
     ensures { Showed W.taken W.failed sink.old sink.new [] result }
 {
-    if from.y == to.y {
-        return set(&[Part::Own("H"), Part::Place(to.x)], sink);
-    }
     let middle = from.x / 2 + to.x / 2;
     write_curve(
         Point {

@@ -12,8 +12,9 @@ fn value_of(number: &National) -> u64
     ensures value { result ≡ digits_value 10 number.now }
     ensures bound { result < 1000000000 }
 {
+    let figures = number.bytes();
     let mut value: u64 = 0;
-    for figure in number.bytes() {
+    for figure in figures {
         value = value * 10 + u64::from(*figure - b'0');
     }
     value
@@ -49,15 +50,24 @@ pub fn lines_of<A: Allocator>(plan: &Plan<A>, code: CodeId) -> u64
     count
 }
 
+/// How many lines the range at an index has.
+fn lines_of_range<A: Allocator>(plan: &Plan<A>, index: usize) -> u64
+    ensures count { result ≡ option_map_or range_lines (slice_get plan.now.ranges index) 0 }
+    ensures bound { result ≤ 1000000000 }
+{
+    match plan.range_at(index) {
+        Some(range) => range_lines(range),
+        None => 0,
+    }
+}
+
 /// How many lines a plan has.
 pub fn count_lines<A: Allocator>(plan: &Plan<A>) -> u64
     ensures { result ≡ lines_in plan.now }
 {
     let mut count: u64 = 0;
     for index in 0..plan.ranges() {
-        if let Some(range) = plan.range_at(index) {
-            count += range_lines(range);
-        }
+        count += lines_of_range(plan, index);
     }
     count
 }

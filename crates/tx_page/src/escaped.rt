@@ -1,5 +1,6 @@
 // Texts on a page.
 ghost use Rattle.std.specs.Prelude.{◌≡◌};
+ghost use Rattle.std.specs.List.{list_all};
 ghost use Rattle.tx_text.specs.Wrote.{Wrote};
 ghost use Rattle.tx_page.specs.Escaped.{escaped, escaped_byte, entity, is_markup, is_plain};
 
@@ -33,13 +34,28 @@ fn is_plain(byte: u8) -> bool
     !is_markup(byte) && byte != b'&' && byte >= b' ' && byte != 127
 }
 
+/// Whether each byte of a text stands for itself.
+fn are_plain(text: &[u8]) -> bool
+    ensures { result ≡ list_all is_plain text.now }
+{
+    text.iter().all(|byte| is_plain(*byte))
+}
+
 /// Writes a text so that none of it is taken for markup.
 pub fn write_escaped<W: Sink>(text: &[u8], sink: &mut W) -> Result<(), WriteFault>
     ensures { Wrote W.taken W.failed sink.old sink.new (escaped text.now) result }
 {
-    if text.iter().all(|byte| is_plain(*byte)) {
-        return write_bytes(text, sink);
+    if are_plain(text) {
+        write_bytes(text, sink)
+    } else {
+        write_each(text, sink)
     }
+}
+
+/// Writes what stands for each byte of a text.
+fn write_each<W: Sink>(text: &[u8], sink: &mut W) -> Result<(), WriteFault>
+    ensures { Wrote W.taken W.failed sink.old sink.new (escaped text.now) result }
+{
     for i in 0..text.len() {
         write_byte(text[i], sink)?;
     }

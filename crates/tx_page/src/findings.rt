@@ -1,13 +1,12 @@
 // What is wrong with a plan.
-ghost use Rattle.std.specs.Prelude.{◌≡◌, [], ◌∷◌, length, map, decimal};
-ghost use Rattle.tx_plan.specs.Plan.{exchange_name, figures_of, group_name, home_of};
-ghost use Rattle.tx_rank.specs.Walks.{end_of};
+ghost use Rattle.std.specs.Prelude.{[], ◌∷◌, map};
+ghost use Rattle.tx_plan.specs.Plan.{figures_of, group_name};
 ghost use Rattle.tx_page.specs.Shows.{Showed};
-ghost use Rattle.tx_page.specs.WrongTexts.{step_texts, steps_texts, walk_texts, finding_texts, findings_texts, wrong_texts};
+ghost use Rattle.tx_page.specs.WrongTexts.{step_texts, steps_texts, walk_texts, loop_texts, short_texts, long_texts, finding_texts, findings_texts, wrong_texts};
 
 use crate::boxes::write_groups;
 use crate::part::{Part, set};
-use crate::walks::listed_before;
+use crate::walks::{end_of, listed_before, start_of, steps_of};
 use std::alloc::Allocator;
 use tx_plan::{CodeId, ExchangeId, GroupId, Limits, Plan};
 use tx_rank::{Finding, Ranking, Walk};
@@ -70,32 +69,10 @@ fn write_finding<A: Allocator, W: Sink>(
 {
     match finding {
         Finding::Ambiguous(shorter, longer) => write_pair(plan, *shorter, *longer, sink),
-        Finding::Loop(code, walk) => {
-            write_loop(plan, *code, end_of(walk), sink)?;
-            write_walk(plan, *code, walk, &[], sink)
-        }
-        Finding::Short(code, walk) => {
-            let list = plan.list(end_of(walk), *code);
-            write_short(plan, *code, end_of(walk), list.len(), limits.spare, sink)?;
-            write_walk(plan, *code, walk, list, sink)
-        }
-        Finding::Long(code, walk) => {
-            write_long(plan, *code, walk, sink)?;
-            write_walk(plan, *code, walk, &[], sink)
-        }
+        Finding::Loop(code, walk) => write_loop(plan, *code, walk, sink),
+        Finding::Short(code, walk) => write_short(plan, *code, walk, limits.spare, sink),
+        Finding::Long(code, walk) => write_long(plan, *code, walk, sink),
     }
-}
-
-/// The exchange where a walk ends.
-fn end_of<A: Allocator>(walk: &Walk<A>) -> ExchangeId
-    ensures { result ≡ end_of walk.now.start walk.now.steps }
-{
-    let steps = walk.steps.as_slice();
-    if steps.is_empty() {
-        return walk.start;
-    }
-    let last = steps[steps.len() - 1];
-    last.1
 }
 
 fn write_pair<A: Allocator, W: Sink>(
@@ -122,36 +99,36 @@ fn write_pair<A: Allocator, W: Sink>(
 fn write_loop<A: Allocator, W: Sink>(
     plan: &Plan<A>,
     code: CodeId,
-    end: ExchangeId,
+    walk: &Walk<A>,
     sink: &mut W,
 ) -> Result<(), WriteFault>
-    ensures { Showed W.taken W.failed sink.old sink.new
-        (figures_of plan.now code ∷ exchange_name plan.now end ∷ []) result }
+    ensures { Showed W.taken W.failed sink.old sink.new (loop_texts plan.now code walk.now) result }
 {
     set(
         &[
             Part::Own("<li>A call for "),
             Part::Text(plan.code_figures(code)),
             Part::Own(" can come back to "),
-            Part::Text(plan.exchange_name(end)),
+            Part::Text(plan.exchange_name(end_of(walk))),
             Part::Own("."),
         ],
         sink,
-    )
+    )?;
+    write_walk(plan, code, walk, &[], sink)
 }
 
 fn write_short<A: Allocator, W: Sink>(
     plan: &Plan<A>,
     code: CodeId,
-    end: ExchangeId,
-    groups: usize,
+    walk: &Walk<A>,
     spare: u8,
     sink: &mut W,
 ) -> Result<(), WriteFault>
     ensures { Showed W.taken W.failed sink.old sink.new
-        (figures_of plan.now code ∷ exchange_name plan.now end ∷ decimal groups
-        ∷ decimal spare ∷ []) result }
+        (short_texts plan.now spare code walk.now) result }
 {
+    let end = end_of(walk);
+    let list = plan.list(end, code);
     set(
         &[
             Part::Own("<li>A call for "),
@@ -159,13 +136,14 @@ fn write_short<A: Allocator, W: Sink>(
             Part::Own(" can come to "),
             Part::Text(plan.exchange_name(end)),
             Part::Own(", which does not have more groups to try than are to spare: it has "),
-            Part::Count(groups as u64),
+            Part::Count(list.len() as u64),
             Part::Own(", and the spare number is "),
             Part::Count(u64::from(spare)),
             Part::Own("."),
         ],
         sink,
-    )
+    )?;
+    write_walk(plan, code, walk, list, sink)
 }
 
 fn write_long<A: Allocator, W: Sink>(
@@ -174,17 +152,14 @@ fn write_long<A: Allocator, W: Sink>(
     walk: &Walk<A>,
     sink: &mut W,
 ) -> Result<(), WriteFault>
-    ensures { Showed W.taken W.failed sink.old sink.new
-        (figures_of plan.now code ∷ decimal (length walk.now.steps)
-        ∷ exchange_name plan.now (end_of walk.now.start walk.now.steps)
-        ∷ exchange_name plan.now (home_of plan.now code) ∷ []) result }
+    ensures { Showed W.taken W.failed sink.old sink.new (long_texts plan.now code walk.now) result }
 {
     set(
         &[
             Part::Own("<li>A call for "),
             Part::Text(plan.code_figures(code)),
             Part::Own(" can go by "),
-            Part::Count(walk.steps.as_slice().len() as u64),
+            Part::Count(steps_of(walk).len() as u64),
             Part::Own(" groups as far as "),
             Part::Text(plan.exchange_name(end_of(walk))),
             Part::Own(" and not be at its home "),
@@ -192,7 +167,8 @@ fn write_long<A: Allocator, W: Sink>(
             Part::Own("."),
         ],
         sink,
-    )
+    )?;
+    write_walk(plan, code, walk, &[], sink)
 }
 
 /// Writes a walk as boxes with arrows. Below each exchange are the groups that have no free circuit
@@ -208,7 +184,7 @@ fn write_walk<A: Allocator, W: Sink>(
         (walk_texts plan.now code walk.now full.now) result }
 {
     set(&[Part::Own("<ol class=\"w\">")], sink)?;
-    write_steps(plan, code, walk, sink)?;
+    write_steps(plan, code, start_of(walk), steps_of(walk), sink)?;
     write_full(plan, full, sink)?;
     set(&[Part::Own("</li></ol></li>")], sink)
 }
@@ -217,17 +193,18 @@ fn write_walk<A: Allocator, W: Sink>(
 fn write_steps<A: Allocator, W: Sink>(
     plan: &Plan<A>,
     code: CodeId,
-    walk: &Walk<A>,
+    start: ExchangeId,
+    steps: &[(GroupId, ExchangeId)],
     sink: &mut W,
 ) -> Result<(), WriteFault>
     ensures { Showed W.taken W.failed sink.old sink.new
-        (steps_texts plan.now code walk.now.start walk.now.steps) result }
+        (steps_texts plan.now code start steps.now) result }
 {
-    let mut at = walk.start;
-    let steps = walk.steps.as_slice();
+    let mut at = start;
     for i in 0..steps.len() {
-        write_step(plan, code, at, steps[i].0, sink)?;
-        at = steps[i].1;
+        let step = steps[i];
+        write_step(plan, code, at, step.0, sink)?;
+        at = step.1;
     }
     set(
         &[

@@ -3,9 +3,10 @@ ghost use Rattle.std.specs.Prelude.{◌≡◌, [], ◌∷◌, length, decimal};
 ghost use Rattle.std.specs.List.{flat_map};
 ghost use Rattle.tx_risk.specs.declared.outage.Outage.TheVariants.{Group, Exchange, Named};
 ghost use Rattle.tx_page.specs.Shows.{Showed, texts_below};
-ghost use Rattle.tx_page.specs.OutageTexts.{same_outage, outage_name, cut_off_by, astray_by, cut_texts, cut_texts_of, outage_texts, harmful_texts, outages_texts};
+ghost use Rattle.tx_page.specs.OutageTexts.{same_outage, outage_name, cut_off_by, astray_by, cut_texts, cut_texts_of, outage_texts, harmful_texts, tried_texts, outages_texts};
 
 use crate::part::{Part, set};
+use crate::walks::start_of;
 use std::alloc::Allocator;
 use tx_plan::{ExchangeId, GroupId, Plan};
 use tx_risk::{Cut, Outage, Risks};
@@ -23,9 +24,23 @@ pub fn write_outages<A: Allocator, W: Sink>(
     ensures { Showed W.taken W.failed sink.old sink.new
         (outages_texts plan.now risks.now cuts.now graded) result }
 {
-    if !graded {
-        return set(&[Part::Own(UNGRADED)], sink);
+    if graded {
+        write_graded(plan, risks, cuts, sink)
+    } else {
+        set(&[Part::Own(UNGRADED)], sink)
     }
+}
+
+/// Writes the outages of a plan that has a grade.
+fn write_graded<A: Allocator, W: Sink>(
+    plan: &Plan<A>,
+    risks: &Risks<A>,
+    cuts: &[Cut<A>],
+    sink: &mut W,
+) -> Result<(), WriteFault>
+    ensures { Showed W.taken W.failed sink.old sink.new
+        (tried_texts plan.now risks.now cuts.now) result }
+{
     write_tried(plan.groups() + plan.exchanges() + risks.len(), sink)?;
     write_named(plan, risks, cuts, sink)?;
     write_exchanges(plan, risks, cuts, sink)?;
@@ -201,11 +216,26 @@ fn write_cuts<A: Allocator, W: Sink>(
         (flat_map (cut_texts_of plan.now outage.now) cuts.now) result }
 {
     for i in 0..cuts.len() {
-        if is_of(&cuts[i], outage) {
-            write_cut(plan, &cuts[i], sink)?;
-        }
+        write_cut_of(plan, &cuts[i], outage, sink)?;
     }
     Ok(())
+}
+
+/// Writes a cut, if it is of the outage.
+fn write_cut_of<A: Allocator, W: Sink>(
+    plan: &Plan<A>,
+    cut: &Cut<A>,
+    outage: &Outage,
+    sink: &mut W,
+) -> Result<(), WriteFault>
+    ensures { Showed W.taken W.failed sink.old sink.new
+        (cut_texts_of plan.now outage.now cut.now) result }
+{
+    if is_of(cut, outage) {
+        write_cut(plan, cut, sink)
+    } else {
+        Ok(())
+    }
 }
 
 fn write_cut<A: Allocator, W: Sink>(
@@ -224,7 +254,7 @@ fn write_cut<A: Allocator, W: Sink>(
             }),
             Part::Text(plan.code_figures(cut.code)),
             Part::Own(" from "),
-            Part::Text(plan.exchange_name(cut.walk.start)),
+            Part::Text(plan.exchange_name(start_of(&cut.walk))),
             Part::Own(" "),
             Part::Text(if cut.stray { b"astray" } else { b"" }),
             Part::Own("</li>"),

@@ -1,4 +1,5 @@
 // What a page is made of.
+ghost use Rattle.std.specs.Prelude.{[], ◌∷◌};
 ghost use Rattle.std.specs.List.{flat_map};
 ghost use Rattle.tx_page.specs.Shows.{Showed, part_texts};
 
@@ -32,16 +33,25 @@ pub fn set<W: Sink>(parts: &[Part<'_>], sink: &mut W) -> Result<(), WriteFault>
 fn set_part<W: Sink>(part: Part<'_>, sink: &mut W) -> Result<(), WriteFault>
     ensures { Showed W.taken W.failed sink.old sink.new (part_texts part.entry) result }
 {
+    let mut buffer = Buffer::new();
     match part {
-        Part::Own(words) => write_bytes(words.as_bytes(), sink),
-        Part::Place(number) => {
-            let mut buffer = Buffer::new();
-            write_bytes(buffer.format(number).as_bytes(), sink)
-        }
-        Part::Text(text) => write_escaped(text, sink),
-        Part::Count(number) => {
-            let mut buffer = Buffer::new();
-            write_escaped(buffer.format(number).as_bytes(), sink)
-        }
+        Part::Own(words) => set_own(words.as_bytes(), sink),
+        Part::Place(number) => set_own(buffer.format(number).as_bytes(), sink),
+        Part::Text(text) => set_text(text, sink),
+        Part::Count(number) => set_text(buffer.format(number).as_bytes(), sink),
     }
+}
+
+/// Writes markup.
+fn set_own<W: Sink>(bytes: &[u8], sink: &mut W) -> Result<(), WriteFault>
+    ensures { Showed W.taken W.failed sink.old sink.new [] result }
+{
+    write_bytes(bytes, sink)
+}
+
+/// Writes a text, escaped.
+fn set_text<W: Sink>(text: &[u8], sink: &mut W) -> Result<(), WriteFault>
+    ensures { Showed W.taken W.failed sink.old sink.new (text.now ∷ []) result }
+{
+    write_escaped(text, sink)
 }

@@ -71,10 +71,15 @@ impl<A: Allocator> Picture<A> {
         }
     }
 
+    /// How many columns there are.
+    pub(crate) fn columns(&self) -> u16 {
+        self.boxes.len().min(65535) as u16
+    }
+
     /// The left edge of a column.
     pub(crate) fn left(&self, column: u16) -> u64 {
-        let last = self.boxes.len().saturating_sub(1).min(65535) as u64;
-        LEFT + last.saturating_sub(u64::from(column)) * COLUMN
+        let last = self.columns().saturating_sub(1);
+        LEFT + u64::from(last.saturating_sub(column)) * COLUMN
     }
 
     /// The right edge of a column.

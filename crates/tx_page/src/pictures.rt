@@ -117,25 +117,20 @@ fn write_heads<A: Allocator, W: Sink>(
 ) -> Result<(), WriteFault>
     ensures { Showed W.taken W.failed sink.old sink.new [] result }
 {
+    let below = TOP + u64::from(picture.high) + 16;
+    let has_aside = picture_height(plan, picture) > below;
     write_head(picture.left(0), sink)?;
     write_ranks(picture, sink)?;
-    let below = TOP + u64::from(picture.high) + 16;
-    if picture_height(plan, picture) > below {
-        write_aside(below, sink)
-    } else {
-        Ok(())
-    }
+    write_aside(has_aside, below, sink)
 }
 
 /// Writes the ranks above their columns, if the columns are ranks.
 fn write_ranks<A: Allocator, W: Sink>(picture: &Picture<A>, sink: &mut W) -> Result<(), WriteFault>
     ensures { Showed W.taken W.failed sink.old sink.new [] result }
 {
-    if !picture.ranked {
-        return Ok(());
-    }
-    for rank in 1..picture.boxes.len().min(65536) {
-        write_rank(picture.left(rank as u16), rank as u64, sink)?;
+    let ranks = if picture.ranked { picture.columns() } else { 0 };
+    for rank in 1..ranks {
+        write_rank(picture.left(rank), u64::from(rank), sink)?;
     }
     Ok(())
 }
@@ -168,9 +163,13 @@ fn write_rank<W: Sink>(left: u64, rank: u64, sink: &mut W) -> Result<(), WriteFa
     )
 }
 
-fn write_aside<W: Sink>(top: u64, sink: &mut W) -> Result<(), WriteFault>
+/// Writes what stands above the exchanges where no calls come, if there are any.
+fn write_aside<W: Sink>(has_aside: bool, top: u64, sink: &mut W) -> Result<(), WriteFault>
     ensures { Showed W.taken W.failed sink.old sink.new [] result }
 {
+    if !has_aside {
+        return Ok(());
+    }
     set(
         &[
             Part::Own("<text class=\"l\" x=\"6\" y=\""),

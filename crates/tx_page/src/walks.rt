@@ -1,10 +1,37 @@
 // Which steps the findings take.
 ghost use Rattle.std.specs.Prelude.{◌≡◌};
+ghost use Rattle.tx_rank.specs.Walks.{end_of};
 ghost use Rattle.tx_page.specs.WrongTexts.{listed_before};
 
 use std::alloc::Allocator;
 use tx_plan::{CodeId, ExchangeId, GroupId, Plan};
 use tx_rank::{Finding, Walk};
+
+/// Where a walk starts.
+pub fn start_of<A: Allocator>(walk: &Walk<A>) -> ExchangeId
+    ensures { result ≡ walk.now.start }
+{
+    walk.start
+}
+
+/// The steps of a walk.
+pub fn steps_of<A: Allocator>(walk: &Walk<A>) -> &[(GroupId, ExchangeId)]
+    ensures { result.now ≡ walk.now.steps }
+{
+    walk.steps.as_slice()
+}
+
+/// The exchange where a walk ends.
+pub fn end_of<A: Allocator>(walk: &Walk<A>) -> ExchangeId
+    ensures { result ≡ end_of walk.now.start walk.now.steps }
+{
+    let steps = steps_of(walk);
+    if steps.is_empty() {
+        return start_of(walk);
+    }
+    let last = steps[steps.len() - 1];
+    last.1
+}
 
 /// The code of a finding that has a walk, with the walk.
 pub fn walk_of<A: Allocator>(finding: &Finding<A>) -> Option<(CodeId, &Walk<A>)> {
@@ -43,8 +70,8 @@ pub fn findings_of<A: Allocator>(findings: &[Finding<A>], code: CodeId) -> &[Fin
 
 /// Whether a walk goes from one exchange to another.
 fn goes<A: Allocator>(walk: &Walk<A>, from: ExchangeId, to: ExchangeId) -> bool {
-    let mut at = walk.start;
-    for step in walk.steps.as_slice() {
+    let mut at = start_of(walk);
+    for step in steps_of(walk) {
         if at == from && step.1 == to {
             return true;
         }
