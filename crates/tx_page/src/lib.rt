@@ -16,6 +16,7 @@ mod page;
 mod part;
 mod picture;
 mod pictures;
+mod ring;
 mod rows;
 mod spot;
 mod style;

@@ -4,11 +4,12 @@ ghost use Rattle.tx_page.specs.Shows.{Showed, texts_below};
 ghost use Rattle.tx_page.specs.NetworkTexts.{home_texts, exchange_texts, group_texts, network_texts};
 
 use crate::part::{Part, set};
+use crate::ring::write_ring;
 use std::alloc::Allocator;
 use tx_plan::{CodeId, Direction, ExchangeId, GroupId, Plan};
 use tx_text::{Sink, WriteFault};
 
-const EXCHANGES: &str = "<h2>The network</h2><div class=\"t\"><table><thead><tr><th scope=\"col\">\
+const EXCHANGES: &str = "<div class=\"t\"><table><thead><tr><th scope=\"col\">\
 Exchange</th><th scope=\"col\">Home of</th></tr></thead><tbody>";
 
 const GROUPS: &str = "</tbody></table><table><thead><tr><th scope=\"col\">Group</th>\
@@ -19,6 +20,8 @@ const GROUPS: &str = "</tbody></table><table><thead><tr><th scope=\"col\">Group<
 pub fn write_network<A: Allocator, W: Sink>(plan: &Plan<A>, sink: &mut W) -> Result<(), WriteFault>
     ensures { Showed W.taken W.failed sink.old sink.new (network_texts plan.now) result }
 {
+    set(&[Part::Own("<h2>The network</h2>")], sink)?;
+    write_ring(plan, sink)?;
     set(&[Part::Own(EXCHANGES)], sink)?;
     write_exchanges(plan, sink)?;
     set(&[Part::Own(GROUPS)], sink)?;
