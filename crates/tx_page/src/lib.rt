@@ -22,6 +22,7 @@ mod spot;
 mod style;
 mod subject;
 mod walks;
+mod ways;
 
 pub use law::no_text_is_markup;
 pub use page::write_page;
