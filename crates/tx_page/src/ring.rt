@@ -1,5 +1,5 @@
 // The picture of the network: its exchanges round a rectangle, and lines between them.
-ghost use Rattle.std.specs.Prelude.{[], length};
+ghost use Rattle.std.specs.Prelude.{◌≤◌, [], length};
 ghost use Rattle.tx_page.specs.Shows.{Showed, texts_below};
 ghost use Rattle.tx_page.specs.NetworkTexts.{name_texts, ring_texts};
 
@@ -40,7 +40,10 @@ struct Seat {
 }
 
 /// The size of the picture of so many exchanges.
-fn size_of(count: usize) -> Size {
+fn size_of(count: usize) -> Size
+    ensures wide { 244 ≤ result.wide }
+    ensures high { 120 ≤ result.high }
+{
     let count = count.min(MOST) as u64;
     Size {
         wide: 2 * SIDE + (count + 3) / 4 * WIDE,
