@@ -1,0 +1,4 @@
+pub mod Showing
+pub mod Escapes
+pub mod StepsOfWalks
+pub mod Sums

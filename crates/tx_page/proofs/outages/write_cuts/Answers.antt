@@ -1,0 +1,15 @@
+use Rattle.tx_page.specs.OutageTexts.{cut_texts_of}
+use Rattle.tx_page.proofs.Showing.{showed_none, showed_stopped, list_more, list_done}
+use Rattle.tx_page.proofs.outages.write_cuts.Goals as goal
+
+pub loop-i-init : goal.loop-i-init
+loop-i-init g c = showed_none _ _
+
+pub loop-i-preserved : goal.loop-i-preserved
+loop-i-preserved g c = list_more (cut_texts_of c.args.plan.now c.args.outage.now) c.args.cuts.now c.loop-i.i c.index-cuts-i.result _ _ _ _ _ _ c.loop-i-test.true c.index-cuts-i.is c.loop-i.invariant c.in_ok-write_cut_of.ensures
+
+pub returns : goal.returns
+returns g c = list_done (cut_texts_of c.args.plan.now c.args.outage.now) c.args.cuts.now c.loop-i.i _ _ _ _ c.loop-i-test.false c.loop-i.invariant
+
+pub returns-in_err-write_cut_of : goal.returns-in_err-write_cut_of
+returns-in_err-write_cut_of g c = showed_stopped _ _ _ _ _ _ c.in_err-write_cut_of.ensures c.from_residual.ensures.0

@@ -1,0 +1,17 @@
+use Rattle.std.proofs.Common.{[], ◌∷◌}
+use Rattle.std.specs.Prelude.{decimal}
+use Rattle.std.specs.List.{flat_map}
+use Rattle.tx_page.specs.OutageTexts.{outage_name, cut_off_by, astray_by, cut_texts_of}
+use Rattle.tx_page.proofs.Showing.{showed_then, showed_end, showed_stopped}
+use Rattle.tx_page.proofs.outages.write_outage.Goals as goal
+
+pub returns-in_err-set : goal.returns-in_err-set
+returns-in_err-set g c = showed_stopped _ _ _ _ _ _ c.in_err-set.ensures c.from_residual.ensures.0
+
+pub returns-in_err-write_cuts : goal.returns-in_err-write_cuts
+returns-in_err-write_cuts g c = showed_stopped _ _ _ _ _ _ c.in_err-write_cuts.ensures c.from_residual-in_err-write_cuts.ensures.0
+
+pub returns : goal.returns
+returns g c =
+    showed_then _ _ _ _ _ _ (outage_name c.args.plan.now c.args.risks.now c.args.outage.now ∷ decimal (cut_off_by c.args.outage.now c.args.cuts.now) ∷ decimal (astray_by c.args.outage.now c.args.cuts.now) ∷ []) _ _ (rw (c.name_of.ensures, c.count_cut_off.ensures, c.count_astray.ensures) at c.in_ok-set.ensures)
+    (showed_end _ _ _ _ _ _ (flat_map (cut_texts_of c.args.plan.now c.args.outage.now) c.args.cuts.now) _ c.in_ok-write_cuts.ensures c.set-2.ensures)

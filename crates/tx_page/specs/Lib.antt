@@ -1,0 +1,9 @@
+pub mod Escaped
+pub mod Shows
+pub mod Heading
+pub mod WrongTexts
+pub mod CodeTexts
+pub mod OutageTexts
+pub mod ListTexts
+pub mod NetworkTexts
+pub mod Page
