@@ -1,4 +1,3 @@
-pub mod Showing
-pub mod Escapes
+pub mod Indexed
 pub mod StepsOfWalks
 pub mod Sums

@@ -3,9 +3,9 @@ use Rattle.std.proofs.Common.{◌≡◌, ℕ, ◌+◌, ◌<◌, ◌≤◌, Bool,
 use Rattle.std.proofs.lemmas.List.{at_drop_more, drop_all}
 use Rattle.tx_plan.specs.Plan.{Plan, exchange_name}
 use Rattle.tx_text.proofs.Wrote.{Outcome}
-use Rattle.tx_page.specs.Shows.{HasShown, ShowedBy}
+use Rattle.tx_html.specs.Shows.{HasShown, ShowedBy}
 use Rattle.tx_page.specs.WrongTexts.{step_texts, steps_texts}
-use Rattle.tx_page.proofs.Showing.{showed_none, showed_then}
+use Rattle.tx_html.proofs.Showing.{showed_none, showed_then}
 
 -- what stands before the steps that are left was shown, up to the exchange `at`
 pub record StepsShown (p : Plan) (c start : ℕ) (steps : List (ℕ × ℕ)) (at i : ℕ) (a b : Option (List ℕ)) (f g : Bool) : Type 0 where

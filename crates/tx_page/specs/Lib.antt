@@ -1,5 +1,4 @@
-pub mod Escaped
-pub mod Shows
+pub mod Indexed
 pub mod Heading
 pub mod WrongTexts
 pub mod CodeTexts

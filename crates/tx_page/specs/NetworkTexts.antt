@@ -2,7 +2,7 @@
 use Rattle.std.specs.Prelude.{ℕ, ◌==◌, nat_le, if◌then◌else◌, List, [], ◌∷◌, ◌++◌, length, decimal}
 use Rattle.tx_plan.specs.Plan.{Plan, exchange_name, figures_of, group_name, home_of}
 use Rattle.tx_plan.specs.Circuits.{ends_of, count_of}
-use Rattle.tx_page.specs.Shows.{texts_below}
+use Rattle.tx_page.specs.Indexed.{texts_below}
 
 -- a code, if it is at home at x
 abbrev pub home_texts : Plan → (x c : ℕ) → List (List ℕ)

@@ -8,7 +8,7 @@ use Rattle.tx_risk.specs.Outages.{outages}
 use Rattle.tx_risk.specs.declared.outage.Outage.{Outage}
 use Rattle.tx_risk.specs.declared.outage.Outage.TheVariants.{Group, Exchange, Named}
 use Rattle.tx_risk.specs.declared.cut.Cut.{Cut}
-use Rattle.tx_page.specs.Shows.{texts_below}
+use Rattle.tx_page.specs.Indexed.{texts_below}
 
 -- the same fails
 abbrev pub same_outage : Outage → Outage → Bool

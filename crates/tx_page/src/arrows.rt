@@ -1,13 +1,11 @@
 // The arrows in the picture of a code.
 ghost use Rattle.std.specs.Prelude.{[]};
-ghost use Rattle.tx_page.specs.Shows.{Showed};
+ghost use Rattle.tx_html.specs.Shows.{Showed};
 
-use crate::part::{Part, set};
-use crate::picture::Picture;
-use crate::spot::{Spot, TOP};
 use crate::walks::finding_goes;
-use crate::ways::{Point, entry_of, exit_of, head_of, tip_of};
 use std::alloc::Allocator;
+use tx_html::{Part, set};
+use tx_layout::{Picture, Point, Spot, TOP, entry_of, exit_of, head_of, tip_of};
 use tx_plan::{CodeId, ExchangeId, GroupId, Plan};
 use tx_rank::Finding;
 use tx_text::{Sink, WriteFault};

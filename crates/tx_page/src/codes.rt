@@ -1,13 +1,13 @@
 // The codes of a plan.
 ghost use Rattle.std.specs.Prelude.{[], ◌∷◌, decimal};
 ghost use Rattle.tx_plan.specs.Plan.{exchange_name, figures_of, home_of};
-ghost use Rattle.tx_page.specs.Shows.{Showed};
+ghost use Rattle.tx_html.specs.Shows.{Showed};
 ghost use Rattle.tx_page.specs.Heading.{lines_of};
 ghost use Rattle.tx_page.specs.CodeTexts.{bounds_texts, code_texts, codes_texts};
 
 use crate::counts::lines_of;
-use crate::part::{Part, set};
 use std::alloc::Allocator;
+use tx_html::{Part, set};
 use tx_plan::{CodeId, Plan};
 use tx_rank::{Bounds, Grade};
 use tx_text::{Sink, WriteFault};

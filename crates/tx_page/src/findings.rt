@@ -1,13 +1,13 @@
 // What is wrong with a plan.
 ghost use Rattle.std.specs.Prelude.{[], ◌∷◌, map};
 ghost use Rattle.tx_plan.specs.Plan.{figures_of, group_name};
-ghost use Rattle.tx_page.specs.Shows.{Showed};
+ghost use Rattle.tx_html.specs.Shows.{Showed};
 ghost use Rattle.tx_page.specs.WrongTexts.{step_texts, steps_texts, walk_texts, loop_texts, short_texts, long_texts, finding_texts, findings_texts, wrong_texts};
 
 use crate::boxes::write_groups;
-use crate::part::{Part, set};
 use crate::walks::{end_of, listed_before, start_of, steps_of};
 use std::alloc::Allocator;
+use tx_html::{Part, set};
 use tx_plan::{CodeId, ExchangeId, GroupId, Limits, Plan};
 use tx_rank::{Finding, Ranking, Walk};
 use tx_text::{Sink, WriteFault};

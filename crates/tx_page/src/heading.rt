@@ -1,14 +1,14 @@
 // What was judged, and the verdict.
 ghost use Rattle.std.specs.Prelude.{◌≡◌, [], ◌∷◌};
 ghost use Rattle.hex.specs.Hex.{encode_lower};
-ghost use Rattle.tx_page.specs.Shows.{Showed};
+ghost use Rattle.tx_html.specs.Shows.{Showed};
 ghost use Rattle.tx_page.specs.Heading.{verdict_word, start_texts, verdict_texts, promise_texts, count_texts, heading_texts};
 
 use crate::counts::{count_lines, count_origins};
-use crate::part::{Part, set};
 use crate::style::STYLE;
 use hex::encode_to_slice;
 use std::alloc::Allocator;
+use tx_html::{Part, set};
 use tx_plan::{Limits, Plan};
 use tx_text::{Sink, WriteFault};
 

@@ -2,12 +2,13 @@
 ghost use Rattle.std.specs.Prelude.{◌≡◌, [], ◌∷◌, length, decimal};
 ghost use Rattle.std.specs.List.{flat_map};
 ghost use Rattle.tx_risk.specs.declared.outage.Outage.TheVariants.{Group, Exchange, Named};
-ghost use Rattle.tx_page.specs.Shows.{Showed, texts_below};
+ghost use Rattle.tx_html.specs.Shows.{Showed};
+ghost use Rattle.tx_page.specs.Indexed.{texts_below};
 ghost use Rattle.tx_page.specs.OutageTexts.{same_outage, outage_name, cut_off_by, astray_by, cut_texts, cut_texts_of, outage_texts, harmful_texts, tried_texts, outages_texts};
 
-use crate::part::{Part, set};
 use crate::walks::start_of;
 use std::alloc::Allocator;
+use tx_html::{Part, set};
 use tx_plan::{ExchangeId, GroupId, Plan};
 use tx_risk::{Cut, Outage, Risks};
 use tx_text::{Sink, WriteFault};

@@ -1,6 +1,6 @@
 // A page.
 ghost use Rattle.std.specs.Prelude.{◌≡◌};
-ghost use Rattle.tx_page.specs.Shows.{Showed};
+ghost use Rattle.tx_html.specs.Shows.{Showed};
 ghost use Rattle.tx_page.specs.Page.{is_safe, page_texts};
 
 use crate::codes::write_codes;
@@ -8,10 +8,10 @@ use crate::findings::write_wrong;
 use crate::heading::write_heading;
 use crate::network::write_network;
 use crate::outages::write_outages;
-use crate::part::{Part, set};
 use crate::pictures::write_pictures;
 use crate::subject::Subject;
 use std::alloc::Allocator;
+use tx_html::{Part, set};
 use tx_rank::{Finding, Ranking};
 use tx_text::{Sink, WriteFault};
 

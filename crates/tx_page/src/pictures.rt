@@ -1,15 +1,14 @@
 // The lists, code by code.
 ghost use Rattle.std.specs.Prelude.{[]};
-ghost use Rattle.tx_page.specs.Shows.{Showed};
+ghost use Rattle.tx_html.specs.Shows.{Showed};
 ghost use Rattle.tx_page.specs.ListTexts.{picture_texts, pictures_texts};
 
 use crate::arrows::write_arrows;
-use crate::boxes::{picture_height, write_boxes};
-use crate::part::{Part, set};
-use crate::picture::Picture;
-use crate::spot::{BOX, LEFT, TOP};
+use crate::boxes::write_boxes;
 use crate::walks::findings_of;
 use std::alloc::Allocator;
+use tx_html::{Part, set};
+use tx_layout::{BOX, LEFT, Picture, TOP, picture_height};
 use tx_plan::Plan;
 use tx_rank::Finding;
 use tx_text::{Sink, WriteFault};

@@ -1,6 +1,6 @@
 // What a page is about.
-use crate::picture::Picture;
 use std::alloc::Allocator;
+use tx_layout::Picture;
 use tx_plan::{Limits, Plan};
 use tx_rank::{Grade, Ranking};
 use tx_risk::{Cut, Risks};

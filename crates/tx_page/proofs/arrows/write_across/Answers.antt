@@ -1,5 +1,5 @@
 use Rattle.std.proofs.Common.{[]}
-use Rattle.tx_page.proofs.Showing.{showed_then, showed_stopped}
+use Rattle.tx_html.proofs.Showing.{showed_then, showed_stopped}
 use Rattle.tx_page.proofs.arrows.write_across.Goals as goal
 
 pub returns-in_err-write_point : goal.returns-in_err-write_point

@@ -1,5 +1,5 @@
 use Rattle.std.proofs.Common.{[]}
-use Rattle.tx_page.proofs.Showing.{showed_then, showed_end, showed_stopped}
+use Rattle.tx_html.proofs.Showing.{showed_then, showed_end, showed_stopped}
 use Rattle.tx_page.proofs.arrows.write_between.Goals as goal
 
 pub returns-in_err-set : goal.returns-in_err-set

@@ -1,5 +1,5 @@
 use Rattle.std.proofs.Common.{[]}
-use Rattle.tx_page.proofs.Showing.{showed_none, showed_then, showed_stopped}
+use Rattle.tx_html.proofs.Showing.{showed_none, showed_then, showed_stopped}
 use Rattle.tx_page.proofs.arrows.write_list.Goals as goal
 
 pub loop-i-init : goal.loop-i-init

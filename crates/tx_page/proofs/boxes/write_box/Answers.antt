@@ -1,7 +1,7 @@
 use Rattle.std.proofs.Common.{map, [], ◌∷◌}
 use Rattle.tx_plan.specs.Plan.{exchange_name, group_name}
 use Rattle.tx_plan.specs.Routes.{route_list}
-use Rattle.tx_page.proofs.Showing.{showed_then, showed_stopped}
+use Rattle.tx_html.proofs.Showing.{showed_then, showed_stopped}
 use Rattle.tx_page.proofs.boxes.write_box.Goals as goal
 
 pub returns-in_err-set : goal.returns-in_err-set

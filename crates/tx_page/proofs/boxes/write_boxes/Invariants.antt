@@ -1,4 +1,5 @@
-use Rattle.tx_page.specs.Shows.{HasShown, texts_below}
+use Rattle.tx_html.specs.Shows.{HasShown}
+use Rattle.tx_page.specs.Indexed.{texts_below}
 use Rattle.tx_page.specs.ListTexts.{box_texts}
 use Rattle.tx_page.proofs.boxes.write_boxes.Given as goal
 

@@ -1,5 +1,5 @@
 use Rattle.tx_plan.specs.Plan.{group_name}
-use Rattle.tx_page.proofs.Showing.{showed_none, showed_stopped, names_more, names_done}
+use Rattle.tx_html.proofs.Showing.{showed_none, showed_stopped, names_more, names_done}
 use Rattle.tx_page.proofs.boxes.write_groups.Goals as goal
 
 pub loop-i-init : goal.loop-i-init

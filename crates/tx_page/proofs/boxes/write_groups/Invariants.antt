@@ -1,6 +1,6 @@
 use Rattle.std.proofs.Common.{map, take}
 use Rattle.tx_plan.specs.Plan.{group_name}
-use Rattle.tx_page.specs.Shows.{HasShown}
+use Rattle.tx_html.specs.Shows.{HasShown}
 use Rattle.tx_page.proofs.boxes.write_groups.Given as goal
 
 abbrev pub invariant-loop-i : goal.invariant-loop-i

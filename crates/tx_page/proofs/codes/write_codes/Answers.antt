@@ -1,6 +1,6 @@
 use Rattle.std.proofs.Common.{[]}
 use Rattle.tx_page.specs.CodeTexts.{codes_texts}
-use Rattle.tx_page.proofs.Showing.{showed_then, showed_end, showed_stopped}
+use Rattle.tx_html.proofs.Showing.{showed_then, showed_end, showed_stopped}
 use Rattle.tx_page.proofs.codes.write_codes.Goals as goal
 
 pub returns-in_err-set : goal.returns-in_err-set

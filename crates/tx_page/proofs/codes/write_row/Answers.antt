@@ -2,7 +2,7 @@ use Rattle.std.proofs.Common.{[], ◌∷◌}
 use Rattle.std.specs.Prelude.{decimal}
 use Rattle.tx_plan.specs.Plan.{exchange_name, figures_of, home_of}
 use Rattle.tx_page.specs.Heading.{lines_of}
-use Rattle.tx_page.proofs.Showing.{showed_then, showed_stopped}
+use Rattle.tx_html.proofs.Showing.{showed_then, showed_stopped}
 use Rattle.tx_page.proofs.codes.write_row.Goals as goal
 
 pub returns-in_err-write_code : goal.returns-in_err-write_code

@@ -1,5 +1,5 @@
 use Rattle.tx_page.specs.CodeTexts.{code_texts}
-use Rattle.tx_page.proofs.Showing.{showed_none, showed_stopped, list_more, list_done}
+use Rattle.tx_html.proofs.Showing.{showed_none, showed_stopped, list_more, list_done}
 use Rattle.tx_page.proofs.codes.write_rows.Goals as goal
 
 pub loop-i-init : goal.loop-i-init

@@ -1,6 +1,6 @@
 use Rattle.std.proofs.Common.{take}
 use Rattle.std.specs.List.{flat_map}
-use Rattle.tx_page.specs.Shows.{HasShown}
+use Rattle.tx_html.specs.Shows.{HasShown}
 use Rattle.tx_page.specs.CodeTexts.{code_texts}
 use Rattle.tx_page.proofs.codes.write_rows.Given as goal
 

@@ -1,6 +1,6 @@
 use Rattle.std.proofs.Common.{take}
 use Rattle.std.specs.List.{flat_map}
-use Rattle.tx_page.specs.Shows.{HasShown}
+use Rattle.tx_html.specs.Shows.{HasShown}
 use Rattle.tx_page.specs.WrongTexts.{finding_texts}
 use Rattle.tx_page.proofs.findings.write_all.Given as goal
 

@@ -2,7 +2,7 @@ use Rattle.std.proofs.Common.{length, [], ◌∷◌}
 use Rattle.std.specs.Prelude.{decimal}
 use Rattle.tx_plan.specs.Plan.{exchange_name, figures_of, home_of}
 use Rattle.tx_rank.specs.Walks.{end_of}
-use Rattle.tx_page.proofs.Showing.{showed_then, showed_stopped}
+use Rattle.tx_html.proofs.Showing.{showed_then, showed_stopped}
 use Rattle.tx_page.proofs.findings.write_long.Goals as goal
 
 pub returns-in_err-set : goal.returns-in_err-set

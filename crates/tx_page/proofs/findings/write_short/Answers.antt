@@ -3,7 +3,7 @@ use Rattle.std.specs.Prelude.{decimal}
 use Rattle.tx_plan.specs.Plan.{exchange_name, figures_of}
 use Rattle.tx_rank.specs.Walks.{end_of}
 use Rattle.tx_page.specs.WrongTexts.{last_list}
-use Rattle.tx_page.proofs.Showing.{showed_then, showed_stopped}
+use Rattle.tx_html.proofs.Showing.{showed_then, showed_stopped}
 use Rattle.tx_page.proofs.findings.write_short.Goals as goal
 
 pub returns-in_err-set : goal.returns-in_err-set

@@ -2,7 +2,7 @@ use Rattle.std.proofs.Common.{map, [], ◌∷◌}
 use Rattle.tx_plan.specs.Plan.{exchange_name, group_name}
 use Rattle.tx_plan.specs.Routes.{route_list}
 use Rattle.tx_page.specs.WrongTexts.{listed_before}
-use Rattle.tx_page.proofs.Showing.{showed_then, showed_end, showed_stopped}
+use Rattle.tx_html.proofs.Showing.{showed_then, showed_end, showed_stopped}
 use Rattle.tx_page.proofs.findings.write_step.Goals as goal
 
 pub returns-in_err-set : goal.returns-in_err-set

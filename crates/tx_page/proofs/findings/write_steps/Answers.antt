@@ -1,4 +1,4 @@
-use Rattle.tx_page.proofs.Showing.{showed_stopped}
+use Rattle.tx_html.proofs.Showing.{showed_stopped}
 use Rattle.tx_page.proofs.StepsOfWalks.{no_steps_shown, step_shown, all_steps_shown}
 use Rattle.tx_page.proofs.findings.write_steps.Goals as goal
 

@@ -1,7 +1,7 @@
 use Rattle.std.proofs.Common.{map, []}
 use Rattle.tx_plan.specs.Plan.{group_name}
 use Rattle.tx_page.specs.WrongTexts.{steps_texts}
-use Rattle.tx_page.proofs.Showing.{showed_then, showed_end, showed_stopped}
+use Rattle.tx_html.proofs.Showing.{showed_then, showed_end, showed_stopped}
 use Rattle.tx_page.proofs.findings.write_walk.Goals as goal
 
 pub returns-in_err-set : goal.returns-in_err-set

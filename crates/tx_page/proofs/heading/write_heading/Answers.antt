@@ -1,6 +1,6 @@
 use Rattle.std.proofs.Common.{[]}
 use Rattle.tx_page.specs.Heading.{start_texts, verdict_texts, promise_texts, count_texts}
-use Rattle.tx_page.proofs.Showing.{showed_then, showed_stopped}
+use Rattle.tx_html.proofs.Showing.{showed_then, showed_stopped}
 use Rattle.tx_page.proofs.heading.write_heading.Goals as goal
 
 pub returns-in_err-write_start : goal.returns-in_err-write_start

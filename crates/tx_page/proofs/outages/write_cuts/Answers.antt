@@ -1,5 +1,5 @@
 use Rattle.tx_page.specs.OutageTexts.{cut_texts_of}
-use Rattle.tx_page.proofs.Showing.{showed_none, showed_stopped, list_more, list_done}
+use Rattle.tx_html.proofs.Showing.{showed_none, showed_stopped, list_more, list_done}
 use Rattle.tx_page.proofs.outages.write_cuts.Goals as goal
 
 pub loop-i-init : goal.loop-i-init

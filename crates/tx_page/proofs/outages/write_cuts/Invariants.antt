@@ -1,6 +1,6 @@
 use Rattle.std.proofs.Common.{take}
 use Rattle.std.specs.List.{flat_map}
-use Rattle.tx_page.specs.Shows.{HasShown}
+use Rattle.tx_html.specs.Shows.{HasShown}
 use Rattle.tx_page.specs.OutageTexts.{cut_texts_of}
 use Rattle.tx_page.proofs.outages.write_cuts.Given as goal
 

@@ -1,7 +1,8 @@
 use Rattle.std.proofs.Common.{length, arith}
 use Rattle.tx_risk.specs.declared.outage.Outage.TheVariants.{Exchange}
 use Rattle.tx_page.specs.OutageTexts.{harmful_texts}
-use Rattle.tx_page.proofs.Showing.{showed_none, showed_stopped, below_more, below_done}
+use Rattle.tx_html.proofs.Showing.{showed_none, showed_stopped}
+use Rattle.tx_page.proofs.Indexed.{below_more, below_done}
 use Rattle.tx_page.proofs.outages.write_exchanges.Goals as goal
 
 pub loop-index-init : goal.loop-index-init

@@ -2,9 +2,9 @@ use Rattle.std.proofs.Common.{length, [], ◌∷◌}
 use Rattle.std.specs.Prelude.{decimal}
 use Rattle.tx_risk.specs.Outages.{outages}
 use Rattle.tx_risk.specs.declared.outage.Outage.TheVariants.{Named, Exchange}
-use Rattle.tx_page.specs.Shows.{texts_below}
+use Rattle.tx_page.specs.Indexed.{texts_below}
 use Rattle.tx_page.specs.OutageTexts.{outage_texts, harmful_texts}
-use Rattle.tx_page.proofs.Showing.{showed_then, showed_stopped}
+use Rattle.tx_html.proofs.Showing.{showed_then, showed_stopped}
 use Rattle.tx_page.proofs.outages.write_graded.Goals as goal
 
 pub returns-in_err-write_tried : goal.returns-in_err-write_tried

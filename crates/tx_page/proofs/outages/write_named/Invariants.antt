@@ -1,5 +1,6 @@
 use Rattle.tx_risk.specs.declared.outage.Outage.TheVariants.{Named}
-use Rattle.tx_page.specs.Shows.{HasShown, texts_below}
+use Rattle.tx_html.specs.Shows.{HasShown}
+use Rattle.tx_page.specs.Indexed.{texts_below}
 use Rattle.tx_page.specs.OutageTexts.{outage_texts}
 use Rattle.tx_page.proofs.outages.write_named.Given as goal
 

@@ -2,7 +2,7 @@ use Rattle.std.proofs.Common.{[], ◌∷◌}
 use Rattle.std.specs.Prelude.{decimal}
 use Rattle.std.specs.List.{flat_map}
 use Rattle.tx_page.specs.OutageTexts.{outage_name, cut_off_by, astray_by, cut_texts_of}
-use Rattle.tx_page.proofs.Showing.{showed_then, showed_end, showed_stopped}
+use Rattle.tx_html.proofs.Showing.{showed_then, showed_end, showed_stopped}
 use Rattle.tx_page.proofs.outages.write_outage.Goals as goal
 
 pub returns-in_err-set : goal.returns-in_err-set

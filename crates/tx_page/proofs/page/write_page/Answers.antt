@@ -6,7 +6,7 @@ use Rattle.tx_page.specs.OutageTexts.{outages_texts}
 use Rattle.tx_page.specs.ListTexts.{pictures_texts}
 use Rattle.tx_page.specs.NetworkTexts.{network_texts}
 use Rattle.tx_page.specs.Page.{is_safe}
-use Rattle.tx_page.proofs.Showing.{showed_then, showed_end, showed_stopped}
+use Rattle.tx_html.proofs.Showing.{showed_then, showed_end, showed_stopped}
 use Rattle.tx_page.proofs.page.write_page.Goals as goal
 
 pub returns-in_err-write_heading : goal.returns-in_err-write_heading

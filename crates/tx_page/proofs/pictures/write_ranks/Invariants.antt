@@ -1,5 +1,5 @@
 use Rattle.std.proofs.Common.{[]}
-use Rattle.tx_page.specs.Shows.{HasShown}
+use Rattle.tx_html.specs.Shows.{HasShown}
 use Rattle.tx_page.proofs.pictures.write_ranks.Given as goal
 
 abbrev pub invariant-loop-rank : goal.invariant-loop-rank

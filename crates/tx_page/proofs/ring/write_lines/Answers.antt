@@ -1,5 +1,5 @@
 use Rattle.std.proofs.Common.{[]}
-use Rattle.tx_page.proofs.Showing.{showed_none, showed_then, showed_stopped}
+use Rattle.tx_html.proofs.Showing.{showed_none, showed_then, showed_stopped}
 use Rattle.tx_page.proofs.ring.write_lines.Goals as goal
 
 pub loop-index-init : goal.loop-index-init

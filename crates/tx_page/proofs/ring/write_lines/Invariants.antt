@@ -1,5 +1,5 @@
 use Rattle.std.proofs.Common.{[]}
-use Rattle.tx_page.specs.Shows.{HasShown}
+use Rattle.tx_html.specs.Shows.{HasShown}
 use Rattle.tx_page.proofs.ring.write_lines.Given as goal
 
 abbrev pub invariant-loop-index : goal.invariant-loop-index

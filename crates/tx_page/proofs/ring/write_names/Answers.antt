@@ -1,5 +1,6 @@
 use Rattle.std.proofs.Common.{length, arith}
-use Rattle.tx_page.proofs.Showing.{showed_none, showed_stopped, below_more, below_done}
+use Rattle.tx_html.proofs.Showing.{showed_none, showed_stopped}
+use Rattle.tx_page.proofs.Indexed.{below_more, below_done}
 use Rattle.tx_page.specs.NetworkTexts.{name_texts}
 use Rattle.tx_page.proofs.ring.write_names.Goals as goal
 

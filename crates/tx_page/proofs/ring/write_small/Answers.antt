@@ -1,6 +1,6 @@
 use Rattle.std.proofs.Common.{length, []}
-use Rattle.tx_page.specs.Shows.{texts_below}
-use Rattle.tx_page.proofs.Showing.{showed_then, showed_end, showed_stopped}
+use Rattle.tx_page.specs.Indexed.{texts_below}
+use Rattle.tx_html.proofs.Showing.{showed_then, showed_end, showed_stopped}
 use Rattle.tx_page.specs.NetworkTexts.{name_texts}
 use Rattle.tx_page.proofs.ring.write_small.Goals as goal
 

@@ -1,5 +1,0 @@
-use Rattle.tx_page.proofs.Escapes.{none_is_markup}
-use Rattle.tx_page.proofs.law.no_text_is_markup.Goals as goal
-
-pub returns : goal.returns
-returns c = none_is_markup

@@ -1,5 +1,0 @@
-use Rattle.tx_page.proofs.Showing.{own_showed}
-use Rattle.tx_page.proofs.part.set_own.Goals as goal
-
-pub returns : goal.returns
-returns g c = own_showed _ _ _ _ c.args.bytes.now _ c.write_bytes.ensures
