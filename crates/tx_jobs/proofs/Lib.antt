@@ -7,7 +7,6 @@ mod ToldRuns
 mod Evidenced
 mod ChangeTold
 mod ChangeEvidenced
-mod OrderMarks
 mod Grading
 mod LintTold
 mod Surviving

@@ -23,6 +23,10 @@ use Rattle.tx_audit.specs.declared.audited.AuditFault.TheVariants.{Plan as Audit
 use Rattle.tx_audit.specs.Audits.{mark_by as audit_mark_by}
 use Rattle.tx_jobs.specs.declared.job_fault.JobFault.{JobFault}
 use Rattle.tx_jobs.specs.declared.job_fault.JobFault.TheVariants.{Plan, Cert, Script, Read, Write, NoMemory, OldPlan, NewPlan, TwoNetworks, Risks, NoSuchStage, NoSuchExchange, NoSuchCode}
+use Rattle.tx_order.specs.declared.order_fault.OrderFault.{OrderFault}
+use Rattle.tx_order.specs.declared.order_fault.OrderFault.TheVariants.{NoSuchStage as OrderLacksStage, Write as OrderWrite, NoMemory as OrderNoMemory}
+use Rattle.tx_order.specs.OrderTold.{mark_by as order_mark_by}
+use Rattle.tx_jobs.specs.OrderJobs.{order_fault}
 use Rattle.tx_jobs.specs.JobFaults.{plan_fault, plan_fault_by, in_plan, old_plan_fault, new_plan_fault, cert_fault, cert_fault_by, risks_fault, risks_fault_by, script_fault_by, cause_fault, run_fault, mark_by, mark_after}
 use Rattle.tx_jobs.specs.AuditJobs.{audit_fault}
 
@@ -152,3 +156,8 @@ pub audit_marked : (old : Bool) (f : AuditFault) → audit_mark_by old f ≡ mar
 audit_marked old (AuditPlan f) = plan_mark old f
 audit_marked old AuditWrite = refl
 audit_marked old AuditNoMemory = refl
+
+pub order_marked : (old : Bool) (f : OrderFault) → order_mark_by old f ≡ mark_by old (order_fault f)
+order_marked old (OrderLacksStage stages) = refl
+order_marked old OrderWrite = refl
+order_marked old OrderNoMemory = refl

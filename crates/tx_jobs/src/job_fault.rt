@@ -4,12 +4,14 @@ ghost use Rattle.tx_jobs.specs.declared.job_fault.JobFault.TheVariants.{NoMemory
 ghost use Rattle.tx_jobs.specs.JobFaults.{status_of, plan_fault, old_plan_fault, new_plan_fault, cert_fault, script_fault, risks_fault, run_fault};
 ghost use Rattle.tx_jobs.specs.AuditJobs.{audit_fault};
 ghost use Rattle.tx_jobs.specs.LintJobs.{lint_fault};
+ghost use Rattle.tx_jobs.specs.OrderJobs.{order_fault};
 
 use thiserror::Error;
 use tx_audit::AuditFault;
 use tx_cert::{CertFault, CertWord};
 use tx_change::Difference;
 use tx_lint::LintFault;
+use tx_order::OrderFault;
 use tx_plan::PlanRefusal;
 use tx_plantext::{PlanFault, PlanWord};
 use tx_risk::{RiskFault, RiskWord};
@@ -195,6 +197,18 @@ impl From<AuditFault> for JobFault {
             AuditFault::Plan(fault) => JobFault::from(fault),
             AuditFault::Write => JobFault::Write,
             AuditFault::NoMemory => JobFault::NoMemory,
+        }
+    }
+}
+
+impl From<OrderFault> for JobFault {
+    ghost from_gives = { λ order fault. fault ≡ order_fault order };
+
+    fn from(fault: OrderFault) -> JobFault {
+        match fault {
+            OrderFault::NoSuchStage(stages) => JobFault::NoSuchStage(stages),
+            OrderFault::Write => JobFault::Write,
+            OrderFault::NoMemory => JobFault::NoMemory,
         }
     }
 }

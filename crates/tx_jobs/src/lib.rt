@@ -48,7 +48,7 @@ pub use job_fault::JobFault;
 pub use lint::lint_job;
 pub use mend::mend_job;
 pub use mixture::{ChangeEvidence, Mixture};
-pub use order::{Staged, order_job};
+pub use order::order_job;
 pub use pipe::pipe_job;
 pub use run::run_job;
 pub use run_checked::run_checked_job;

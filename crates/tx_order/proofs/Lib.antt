@@ -7,3 +7,4 @@ pub mod TwoFronts
 pub mod Ordered
 pub mod StageCerts
 pub mod Confirming
+pub mod Staging

@@ -7,4 +7,5 @@ pub mod Joined
 pub mod Ordered
 pub mod Switchings
 pub mod OrderText
+pub mod OrderTold
 pub mod inner

@@ -4,7 +4,7 @@
 //!
 //! `order` finds one wherever both plans can be certified. Else it answers what is wrong with each
 //! of them. An `Order` gives the plan before each stage, and a certificate of each stage.
-//! `write_switching` writes what was found.
+//! `write_switching` writes what was found. `tell_order` does all of this for one stage.
 #![tactic(auto)]
 
 mod between;
@@ -14,8 +14,10 @@ mod joining;
 mod law;
 mod level;
 mod lists;
+mod order_fault;
 mod orders;
 mod report;
+mod staged;
 mod stages;
 mod switching;
 mod transition;
@@ -24,6 +26,8 @@ pub use law::{
     each_level_is_common, each_plan_is_certified, levels_lead_over, ordered_exactly,
     orders_are_sound, stages_are_fewest,
 };
+pub use order_fault::OrderFault;
 pub use orders::Order;
 pub use report::write_switching;
+pub use staged::{Staged, tell_order};
 pub use switching::{Switching, order};

@@ -93,7 +93,7 @@ impl<A: Allocator + Copy> Order<A> {
     }
 
     /// The old plan with other lists.
-    fn with_lists(self, lists: Lists<A>) -> Plan<A>
+    pub(crate) fn with_lists(self, lists: Lists<A>) -> Plan<A>
         requires { IsPlan (rerouted self.transition.old lists.routes lists.bars) }
         ensures { result ≡ rerouted self.transition.old lists.routes lists.bars }
     {

@@ -1,28 +1,32 @@
-use Rattle.std.proofs.Common.{◌∙◌, Ok, Err}
-use Rattle.tx_text.proofs.Exits.{exits_with}
-use Rattle.tx_jobs.proofs.OrderMarks.{staged_mark}
+use Rattle.std.proofs.Common.{Err, ap, inl, inr, refl}
+use Rattle.tx_text.specs.Calls.{source_calls}
+use Rattle.tx_text.proofs.CallCounts.{went_none, calls_so_far}
+use Rattle.tx_jobs.proofs.RefusedTexts.{old_plan_mark}
 use Rattle.tx_jobs.proofs.order.order_job.Goals as goal
 
-pub stage_of-requires : goal.stage_of-requires
-stage_of-requires g c = c.in_ok-switching.ensures.stage
+pub returns-in-Ok-clause-answers : goal.returns-in-Ok-clause-answers
+returns-in-Ok-clause-answers g c =
+    inl (record {
+      plan = c.in-Ok.plan;
+      rules = c.in-Ok.ensures.rules;
+      read = c.in-Ok.ensures.answer;
+      goes_on = c.order_from.ensures.answers;
+    })
 
-pub returns-clause-answers : goal.returns-clause-answers
-returns-clause-answers g c =
-    (Ok c.in_ok-switching.switching, c.in_ok-switching.ensures.answers, (c.in_ok-switching.ensures.stage, c.stage_of.ensures))
+pub returns-in-Err-clause-answers : goal.returns-in-Err-clause-answers
+returns-in-Err-clause-answers g c =
+    inr (record {
+      fault = c.in-Err.fault;
+      read = c.in-Err.ensures.answer;
+      told = ap Err c.of_old_plan.ensures;
+      rest = (refl, refl);
+    })
 
-pub returns-clause-mark : goal.returns-clause-mark
-returns-clause-mark g c =
-    c.in_ok-switching.ensures.mark ∙ staged_mark (g.W.Sink.failed c.args.out.now) c.args.stage c.in_ok-switching.switching c.stage_of.result c.stage_of.ensures
+pub returns-in-Err-clause-mark : goal.returns-in-Err-clause-mark
+returns-in-Err-clause-mark g c =
+    rw c.of_old_plan.ensures (old_plan_mark (g.W.Sink.failed c.args.out.now) c.in-Err.fault)
 
-pub returns-in_err-switching-clause-answers : goal.returns-in_err-switching-clause-answers
-returns-in_err-switching-clause-answers g c =
-    let f = c.in_err-switching.field-0.0 in (
-      Err f,
-      c.in_err-switching.ensures.answers,
-      exits_with c.from_residual.result f c.from_residual.ensures.1,
-    )
-
-pub returns-in_err-switching-clause-mark : goal.returns-in_err-switching-clause-mark
-returns-in_err-switching-clause-mark g c =
-    rw (exits_with c.from_residual.result c.in_err-switching.field-0.0 c.from_residual.ensures.1)
-    c.in_err-switching.ensures.mark
+pub returns-in-Err-clause-new_calls : goal.returns-in-Err-clause-new_calls
+returns-in-Err-clause-new_calls g c =
+    calls_so_far g.Q.Source.called source_calls source_calls _ _
+    (went_none g.Q.Source.called source_calls _)

@@ -1,6 +1,6 @@
 use Rattle.std.proofs.Common.{Err, ap, inl, inr, refl}
 use Rattle.tx_jobs.proofs.RefusedTexts.{new_plan_mark}
-use Rattle.tx_jobs.proofs.order.told_from.Goals as goal
+use Rattle.tx_jobs.proofs.order.order_from.Goals as goal
 
 pub returns-in-Ok-clause-answers : goal.returns-in-Ok-clause-answers
 returns-in-Ok-clause-answers g c =
@@ -8,7 +8,7 @@ returns-in-Ok-clause-answers g c =
       plan = c.in-Ok.plan;
       rules = c.in-Ok.ensures.rules;
       read = c.in-Ok.ensures.answer;
-      goes_on = c.told.ensures.told;
+      goes_on = c.order_into.ensures.told;
     })
 
 pub returns-in-Err-clause-answers : goal.returns-in-Err-clause-answers

@@ -1,0 +1,101 @@
+// An order that is reported to somebody who asks for one of its stages.
+ghost use Rattle.std.specs.Prelude.{◌≡◌, ℕ, Option};
+ghost use Rattle.tx_text.specs.Ends.{output};
+ghost use Rattle.tx_plan.specs.Mixtures.{SameNetwork};
+ghost use Rattle.tx_order.specs.OrderTold.{IsStagedOf, IsOrderTold, mark_after};
+ghost use Rattle.tx_order.specs.inner.Made.{IsMade, CanBeStaged, IsMadeAnswer, IsStageMade};
+
+use crate::lists::lists_before;
+use crate::order_fault::OrderFault;
+use crate::orders::Order;
+use crate::report::write_switching;
+use crate::switching::{Switching, order};
+use std::alloc::{Allocator, Global};
+use tx_cert::Cert;
+use tx_change::Lists;
+use tx_plan::{Limits, Plan};
+use tx_text::Sink;
+
+/// What the search for an order comes to, when its report is written.
+#[derive(Debug, Drop)]
+pub enum Staged<A: Allocator = Global> {
+    /// There is one. If a stage was asked for, the plan after it, and a certificate for this plan
+    /// and the one before the stage.
+    Ordered(Option<(Plan<A>, Cert<A>)>),
+    /// There is none.
+    NoOrder,
+}
+
+/// Looks for an order in which the lists and the bars of a plan are switched to those of another
+/// one of the same network, and writes its report. Answers the plan after a stage and the
+/// certificate of the stage, if its number, from 1, is asked for.
+///
+/// Nothing is written where the order does not have the stage, and where memory runs out.
+pub fn tell_order<A: Allocator + Copy, W: Sink>(
+    alloc: A,
+    old: Plan<A>,
+    new: Plan<A>,
+    limits: Limits,
+    stage: Option<u8>,
+    out: &mut W,
+) -> Result<Staged<A>, OrderFault>
+    requires network { SameNetwork old new }
+    ensures told { IsOrderTold old new stage limits.limit limits.spare
+        (output W.taken out.old out.new) result }
+    ensures mark { W.failed out.new ≡ mark_after (W.failed out.old) result }
+{
+    let switching = order(alloc, old, new, limits)?;
+    let made = made_of(alloc, &switching, stage)?;
+    write_switching(&switching, limits, out)?;
+    Ok(staged_of(switching, made))
+}
+
+/// Makes what takes memory of the stage that is asked for, if one is.
+fn made_of<A: Allocator + Copy>(
+    alloc: A,
+    switching: &Switching<A>,
+    stage: Option<u8>,
+) -> Result<Option<(Lists<A>, Cert<A>)>, OrderFault>
+    ensures { IsMadeAnswer stage switching.now result }
+{
+    match (switching, stage) {
+        (Switching::Ordered(order), Some(stage)) => {
+            Ok(Some(stage_of(alloc, order, usize::from(stage))?))
+        }
+        _ => Ok(None),
+    }
+}
+
+/// The lists of the plan after a stage, and the certificate of the stage.
+fn stage_of<A: Allocator + Copy>(
+    alloc: A,
+    order: &Order<A>,
+    stage: usize,
+) -> Result<(Lists<A>, Cert<A>), OrderFault>
+    ensures { IsStageMade order.now stage result }
+{
+    let stages = order.stages();
+    if stage == 0 || stages < stage {
+        return Err(OrderFault::NoSuchStage(stages));
+    }
+    let lists = lists_before(alloc, order, stage)?;
+    let cert = order.cert(alloc, stage - 1)?;
+    Ok((lists, cert))
+}
+
+/// What the search came to, with what was made of the stage.
+fn staged_of<A: Allocator + Copy>(
+    switching: Switching<A>,
+    made: Option<(Lists<A>, Cert<A>)>,
+) -> Staged<A>
+    requires { CanBeStaged switching made }
+    ensures { (stage : Option ℕ) → IsMade stage switching made → IsStagedOf stage switching result }
+{
+    match switching {
+        Switching::Ordered(order) => match made {
+            Some((lists, cert)) => Staged::Ordered(Some((order.with_lists(lists), cert))),
+            None => Staged::Ordered(None),
+        },
+        Switching::NoOrder(_, _, _) => Staged::NoOrder,
+    }
+}
