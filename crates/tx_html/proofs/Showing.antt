@@ -1,5 +1,5 @@
 -- Texts that are shown one after another.
-use Rattle.std.proofs.Common.{◌≡◌, ℕ, ◌+◌, ◌<◌, ◌≤◌, Bool, List, [], ◌∷◌, ◌++◌, length, map, take, drop, get_or, Option, Ok, Err, refl, sym, ap, ◌∙◌, subst, append_assoc, append-nil}
+use Rattle.std.proofs.Common.{◌≡◌, ℕ, ◌+◌, ◌<◌, ◌≤◌, Bool, List, [], ◌∷◌, ◌++◌, length, map, take, get_or, Option, Ok, Err, refl, sym, ap, ◌∙◌, subst, append_assoc, append-nil}
 use Rattle.std.specs.Prelude.{true, IsErr}
 use Rattle.std.specs.List.{flat_map}
 use Rattle.std.proofs.lemmas.Bool.{false≢true}
@@ -10,7 +10,7 @@ use Rattle.tx_text.specs.Wrote.{WroteBy}
 use Rattle.tx_text.proofs.Writing.{append_known-nil, append_known_twice}
 use Rattle.tx_text.proofs.Wrote.{Outcome}
 use Rattle.tx_html.specs.Escaped.{escaped}
-use Rattle.tx_html.specs.Shows.{StandsIn, Shows, HasShown, ShowedBy}
+use Rattle.tx_html.specs.Shows.{Shows, HasShown, ShowedBy}
 
 -- ---- bytes that show texts
 

@@ -1,4 +1,4 @@
-use Rattle.std.proofs.Common.{length, arith}
+use Rattle.std.proofs.Common.{length, refl, arith}
 use Rattle.tx_risk.specs.declared.outage.Outage.TheVariants.{Named}
 use Rattle.tx_page.specs.OutageTexts.{outage_texts}
 use Rattle.tx_html.proofs.Showing.{showed_none, showed_stopped}
