@@ -9,15 +9,17 @@ pub fn count_boxes<A: Allocator + Copy>(
     alloc: A,
     columns: &[Option<u16>],
 ) -> Result<Vec<u16, A>, NoMemory> {
-    let mut last: u16 = 0;
-    for column in columns {
-        last = last.max(column.unwrap_or(0));
-    }
-    let mut boxes = vec![in alloc; 0u16; usize::from(last) + 1]?;
+    let mut count: usize = 1;
     for column in columns {
         if let Some(column) = column {
-            if let Some(count) = boxes.get_mut(usize::from(*column)) {
-                *count = count.saturating_add(1);
+            count = count.max(usize::from(*column) + 1);
+        }
+    }
+    let mut boxes = vec![in alloc; 0u16; count]?;
+    for column in columns {
+        if let Some(column) = column {
+            if let Some(boxes) = boxes.get_mut(usize::from(*column)) {
+                *boxes = boxes.saturating_add(1);
             }
         }
     }
@@ -30,7 +32,7 @@ pub fn height_of(boxes: &[u16]) -> u16 {
     for count in boxes {
         most = most.max(*count);
     }
-    (u64::from(most) * ROW).min(65535) as u16
+    u64::from(most).saturating_mul(ROW).min(65535) as u16
 }
 
 /// Where an exchange stands, if it has a place already.
