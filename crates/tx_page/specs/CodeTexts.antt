@@ -5,7 +5,7 @@ use Rattle.tx_plan.specs.Plan.{Plan, exchange_name, figures_of, home_of}
 use Rattle.tx_rank.specs.declared.bounds.Bounds.{Bounds}
 use Rattle.tx_page.specs.Heading.{lines_of}
 
--- the least limit, the greatest spare number, and how many groups the longest way has
+-- the least limit, the greatest spare number, and how many groups a way has at the most
 abbrev pub bounds_texts : Option Bounds → List (List ℕ)
 bounds_texts (Some b) = decimal b.limit ∷ decimal b.spare ∷ decimal (b.limit + 1) ∷ []
 bounds_texts None = []

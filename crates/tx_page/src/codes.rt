@@ -15,7 +15,7 @@ use tx_text::{Sink, WriteFault};
 const HEAD: &str = "<h2>Codes</h2><div class=\"t\"><table><thead><tr><th scope=\"col\">Code</th>\
 <th scope=\"col\">Home</th><th scope=\"col\" class=\"k\">Lines</th><th scope=\"col\" \
 class=\"k\">Least limit</th><th scope=\"col\" class=\"k\">Greatest spare</th><th scope=\"col\" \
-class=\"k\">Longest way, in groups</th></tr></thead><tbody>";
+class=\"k\">Groups on a way, at most</th></tr></thead><tbody>";
 
 /// Writes the table of codes.
 pub fn write_codes<A: Allocator, W: Sink>(
