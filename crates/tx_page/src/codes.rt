@@ -17,29 +17,31 @@ const HEAD: &str = "<h2>Codes</h2><div class=\"t\"><table><thead><tr><th scope=\
 class=\"k\">Least limit</th><th scope=\"col\" class=\"k\">Greatest spare</th><th scope=\"col\" \
 class=\"k\">Groups on a way, at most</th></tr></thead><tbody>";
 
-/// Writes the table of codes.
+/// Writes the table of codes, each linked to its picture if all have one.
 pub fn write_codes<A: Allocator, W: Sink>(
     plan: &Plan<A>,
     grade: &Grade<A>,
+    linked: bool,
     sink: &mut W,
 ) -> Result<(), WriteFault>
     ensures { Showed W.taken W.failed sink.old sink.new
         (codes_texts plan.now grade.now.codes.items) result }
 {
     set(&[Part::Own(HEAD)], sink)?;
-    write_rows(plan, &grade.codes, sink)?;
+    write_rows(plan, &grade.codes, linked, sink)?;
     set(&[Part::Own("</tbody></table></div>")], sink)
 }
 
 fn write_rows<A: Allocator, W: Sink>(
     plan: &Plan<A>,
     grades: &[(CodeId, Option<Bounds>)],
+    linked: bool,
     sink: &mut W,
 ) -> Result<(), WriteFault>
     ensures { Showed W.taken W.failed sink.old sink.new (codes_texts plan.now grades.now) result }
 {
     for i in 0..grades.len() {
-        write_row(plan, grades[i], sink)?;
+        write_row(plan, grades[i], linked, sink)?;
     }
     Ok(())
 }
@@ -47,33 +49,60 @@ fn write_rows<A: Allocator, W: Sink>(
 fn write_row<A: Allocator, W: Sink>(
     plan: &Plan<A>,
     grade: (CodeId, Option<Bounds>),
+    linked: bool,
     sink: &mut W,
 ) -> Result<(), WriteFault>
     ensures { Showed W.taken W.failed sink.old sink.new (code_texts plan.now grade) result }
 {
-    write_code(plan, grade.0, sink)?;
+    write_code(plan, grade.0, linked, sink)?;
     write_bounds(grade.1, sink)
 }
 
 fn write_code<A: Allocator, W: Sink>(
     plan: &Plan<A>,
     code: CodeId,
+    linked: bool,
     sink: &mut W,
 ) -> Result<(), WriteFault>
     ensures { Showed W.taken W.failed sink.old sink.new
         (figures_of plan.now code ∷ exchange_name plan.now (home_of plan.now code)
         ∷ decimal (lines_of plan.now code) ∷ []) result }
 {
+    write_figures(plan, code, linked, sink)?;
+    set(
+        &[
+            Part::Own("</th><td>"),
+            Part::Text(plan.exchange_name(plan.home(code))),
+            Part::Own("</td><td class=\"k\">"),
+            Part::Count(lines_of(plan, code)),
+        ],
+        sink,
+    )
+}
+
+/// Writes the figures of a code, which may be a link to its picture.
+fn write_figures<A: Allocator, W: Sink>(
+    plan: &Plan<A>,
+    code: CodeId,
+    linked: bool,
+    sink: &mut W,
+) -> Result<(), WriteFault>
+    ensures { Showed W.taken W.failed sink.old sink.new (figures_of plan.now code ∷ []) result }
+{
+    let figures = plan.code_figures(code);
+    if !linked {
+        return set(
+            &[Part::Own("<tr><th scope=\"row\">"), Part::Text(figures)],
+            sink,
+        );
+    }
     set(
         &[
             Part::Own("<tr><th scope=\"row\"><a href=\"#c"),
             Part::Place(code.index() as u64),
             Part::Own("\">"),
-            Part::Text(plan.code_figures(code)),
-            Part::Own("</a></th><td>"),
-            Part::Text(plan.exchange_name(plan.home(code))),
-            Part::Own("</td><td class=\"k\">"),
-            Part::Count(lines_of(plan, code)),
+            Part::Text(figures),
+            Part::Own("</a>"),
         ],
         sink,
     )

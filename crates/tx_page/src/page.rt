@@ -43,6 +43,7 @@ pub fn write_page<A: Allocator, W: Sink>(
     let plan = subject.plan;
     let limits = subject.limits;
     let safe = is_safe(subject.ranking);
+    let linked = subject.pictures.len() == plan.codes();
     let graded = subject.grade.plan.is_some();
     let findings = findings_in(subject.ranking);
     write_heading(
@@ -55,7 +56,7 @@ pub fn write_page<A: Allocator, W: Sink>(
         sink,
     )?;
     write_wrong(plan, subject.ranking, limits, sink)?;
-    write_codes(plan, subject.grade, sink)?;
+    write_codes(plan, subject.grade, linked, sink)?;
     write_outages(plan, subject.risks, subject.cuts, graded, sink)?;
     write_pictures(plan, subject.pictures, findings, sink)?;
     write_network(plan, sink)?;
