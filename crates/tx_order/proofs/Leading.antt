@@ -5,7 +5,7 @@ use Rattle.std.specs.List.{AllByRecursion}
 use Rattle.std.proofs.lemmas.Bool.{ltb-true, lt-ltb, cases_lt}
 use Rattle.tx_plan.specs.declared.ids.Pair.{Pair}
 use Rattle.tx_plan.proofs.Lists.{all_map}
-use Rattle.tx_plan.specs.Plan.{Plan, Route, Code, home_of}
+use Rattle.tx_plan.specs.Plan.{Plan, Route, Code}
 use Rattle.tx_plan.specs.Codes.{is_prefix}
 use Rattle.tx_plan.specs.Rules.{IsPlan}
 use Rattle.tx_plan.specs.Certified.{Ranks, IsCertified}
@@ -13,17 +13,16 @@ use Rattle.tx_rank.specs.Walks.{Net, net_of}
 use Rattle.tx_rank.specs.Nets.{Certifies}
 use Rattle.tx_rank.specs.Grades.{CanBeCertified}
 use Rattle.tx_rank.proofs.Certifying.{certifies_code, certified_codes}
-use Rattle.tx_plan.specs.Routes.{route_list, is_barred, is_origin, is_origin_for}
-use Rattle.tx_plan.specs.Circuits.{other_end}
+use Rattle.tx_plan.specs.Routes.{is_barred}
 use Rattle.tx_plan.specs.Mixed.{rerouted, replaced}
 use Rattle.tx_plan.specs.Mixtures.{SameNetwork, IsMixture, AreCommon}
 use Rattle.tx_plan.proofs.Networks.{rerouted-is, homes_same, ends_same, origin_as}
-use Rattle.tx_order.specs.Levels.{levels_of, level_of, level_at, is_switched, bar_level, is_bar_switched}
+use Rattle.tx_order.specs.Levels.{levels_of, level_at, is_switched, bar_level, is_bar_switched}
 use Rattle.tx_order.specs.Stages.{AreBothCertified, plan_of, plan_at, ranks_by, ranks_at}
-use Rattle.tx_order.specs.Orders.{AreAlikeFor, AreAlike, IsListSwitched, IsBarSwitched, IsOrder, HasOrder, CanBothBeCertified}
+use Rattle.tx_order.specs.Orders.{AreAlike, IsListSwitched, IsBarSwitched, IsOrder, HasOrder, CanBothBeCertified}
 use Rattle.tx_order.proofs.Levels.{level_within}
 use Rattle.tx_order.proofs.Switched.{list_new, list_old, bar_new, bar_old, switched_mixture}
-use Rattle.tx_order.proofs.Staged.{low_before, low_after, front_certified, falling_common, rising_common}
+use Rattle.tx_order.proofs.OnTheWay.{low_before, low_after, front_certified, falling_common, rising_common}
 
 not_before : (m n : ℕ) → n ≤ m → nat_lt m n ≡ false
 not_before m n w = elim (nat_lt m n) as (λ b. nat_lt m n ≡ b → b ≡ false) [ true ↦ λ e. let l = ltb-true m n e in absurd (omega arith) | false ↦ λ e. refl ] refl

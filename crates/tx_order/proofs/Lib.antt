@@ -1,6 +1,6 @@
 pub mod Levels
 pub mod Switched
-pub mod Staged
+pub mod OnTheWay
 pub mod Leading
 pub mod Same
 pub mod TwoFronts

@@ -1,5 +1,5 @@
 -- The certificate of a stage, code after code.
-use Rattle.std.proofs.Common.{◌≡◌, ◌≢◌, ℕ, ◌+◌, ◌<◌, ◌≤◌, true, false, eqb, eqb-true, length, Option, None, refl, sym, ap, subst, ◌∙◌, arith}
+use Rattle.std.proofs.Common.{◌≡◌, ◌≢◌, ℕ, ◌+◌, true, false, eqb, eqb-true, length, Option, refl, sym, ap, subst, ◌∙◌, arith}
 use Rattle.std.proofs.lemmas.Bool.{eqb-false}
 use Rattle.tx_plan.specs.Mixtures.{AreCommon}
 use Rattle.tx_cert.specs.Certificate.{Certificate, rank_at, ranks_of, no_ranks_for}

@@ -1,7 +1,7 @@
 -- What certifies a code at two fronts.
 use Rattle.std.proofs.Common.{◌≡◌, ◌⊎◌, ℕ, ◌||◌, ◌+◌, ◌<◌, ◌≤◌, Bool, true, false, not, ◌&&◌, cond, nat_lt, min, List, [], ◌∷◌, ◌++◌, length, map, Result, Ok, Err, IfOk, Option, Some, None, inl, inr, refl, sym, ap, ◌∙◌, subst, arith}
 use Rattle.std.proofs.lemmas.Bool.{or_left, or_right, or_cases, cases_lt, lt-ltb, le-ltb}
-use Rattle.tx_plan.specs.Plan.{Plan, home_of}
+use Rattle.tx_plan.specs.Plan.{home_of}
 use Rattle.tx_plan.specs.Rules.{IsPlan}
 use Rattle.tx_plan.specs.Certified.{Ranks}
 use Rattle.tx_plan.specs.Routes.{route_list, is_barred, is_origin, is_origin_for}
@@ -29,7 +29,7 @@ use Rattle.tx_order.specs.Transitions.{Transition, IsTransition, plan_with, plan
 use Rattle.tx_order.specs.Joined.{IsSafeBetween, IsFurthest}
 use Rattle.tx_order.proofs.Switched.{list_new, list_old, bar_new, bar_old}
 use Rattle.tx_order.proofs.Leading.{by_mixtures, stage_safe}
-use Rattle.tx_order.proofs.Staged.{plan_certified}
+use Rattle.tx_order.proofs.OnTheWay.{plan_certified}
 
 -- THE LISTS AND BARS OF A PLAN ON THE WAY
 

@@ -1,5 +1,5 @@
 -- Stages of one code, each as long as it is safe.
-use Rattle.std.specs.Prelude.{◌≡◌, ℕ, ◌+◌, ◌<◌, ◌≤◌, List, length, Option}
+use Rattle.std.specs.Prelude.{ℕ, ◌+◌, ◌<◌, ◌≤◌, List, length, Option}
 use Rattle.tx_rank.specs.Nets.{Certifies}
 use Rattle.tx_change.specs.ChangeNets.{change_net}
 use Rattle.tx_order.specs.Levels.{levels_of}

@@ -3,7 +3,7 @@ ghost use Rattle.std.specs.Prelude.{◌≡◌, ℕ, Option};
 ghost use Rattle.tx_text.specs.Ends.{output};
 ghost use Rattle.tx_plan.specs.Mixtures.{SameNetwork};
 ghost use Rattle.tx_order.specs.OrderTold.{IsStagedOf, IsOrderTold, mark_after};
-ghost use Rattle.tx_order.specs.inner.Made.{IsMade, CanBeStaged, IsMadeAnswer, IsStageMade};
+ghost use Rattle.tx_order.specs.inner.Made.{IsMade, CanBeStaged, IsMadeAnswer, IsStageMade, IsReported};
 
 use crate::lists::lists_before;
 use crate::order_fault::OrderFault;
@@ -45,9 +45,30 @@ pub fn tell_order<A: Allocator + Copy, W: Sink>(
     ensures mark { W.failed out.new ≡ mark_after (W.failed out.old) result }
 {
     let switching = order(alloc, old, new, limits)?;
-    let made = made_of(alloc, &switching, stage)?;
-    write_switching(&switching, limits, out)?;
-    Ok(staged_of(switching, made))
+    match report(alloc, &switching, limits, stage, out) {
+        Ok(made) => Ok(staged_of(switching, made)),
+        Err(fault) => {
+            drop(switching);
+            Err(fault)
+        }
+    }
+}
+
+/// Makes what takes memory of the stage that is asked for, and writes the report.
+fn report<A: Allocator + Copy, W: Sink>(
+    alloc: A,
+    switching: &Switching<A>,
+    limits: Limits,
+    stage: Option<u8>,
+    out: &mut W,
+) -> Result<Option<(Lists<A>, Cert<A>)>, OrderFault>
+    ensures reported { IsReported stage limits.limit limits.spare (output W.taken out.old out.new)
+        switching.now result }
+    ensures mark { W.failed out.new ≡ mark_after (W.failed out.old) result }
+{
+    let made = made_of(alloc, switching, stage)?;
+    write_switching(switching, limits, out)?;
+    Ok(made)
 }
 
 /// Makes what takes memory of the stage that is asked for, if one is.
@@ -74,6 +95,7 @@ fn stage_of<A: Allocator + Copy>(
 ) -> Result<(Lists<A>, Cert<A>), OrderFault>
     ensures { IsStageMade order.now stage result }
 {
+    order.rules();
     let stages = order.stages();
     if stage == 0 || stages < stage {
         return Err(OrderFault::NoSuchStage(stages));

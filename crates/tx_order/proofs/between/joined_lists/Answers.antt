@@ -1,4 +1,4 @@
-use Rattle.std.proofs.Common.{◌≡◌, ℕ, ◌+◌, ◌&&◌, Bool, List, length, sym, ap, subst, ◌∙◌, arith}
+use Rattle.std.proofs.Common.{◌≡◌, ◌+◌, ◌&&◌, Bool, List, length, sym, ap, subst, ◌∙◌, arith}
 use Rattle.tx_plan.specs.Routes.{is_barred}
 use Rattle.tx_change.specs.inner.Joined.{Joined, joined_of, joined_at}
 use Rattle.tx_change.proofs.JoinedNets.{AreJoinedBelow, joined_next}

@@ -1,5 +1,4 @@
-use Rattle.std.proofs.Common.{◌≡◌, ℕ, None, length, vec_len, sym, ap, ◌∙◌, arith, eqb-true, eq-eqb}
-use Rattle.tx_plan.specs.Plan.{Plan}
+use Rattle.std.proofs.Common.{length, vec_len, sym, ap, ◌∙◌, arith, eqb-true, eq-eqb}
 use Rattle.tx_cert.specs.Certificate.{Certificate, rank_at, no_ranks_for}
 use Rattle.tx_cert.proofs.Ranks.{none_ranked}
 use Rattle.tx_rank.proofs.Listing.{none_of}

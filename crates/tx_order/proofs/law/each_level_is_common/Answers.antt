@@ -1,4 +1,4 @@
-use Rattle.tx_order.proofs.Staged.{falling_common, rising_common}
+use Rattle.tx_order.proofs.OnTheWay.{falling_common, rising_common}
 use Rattle.tx_order.proofs.law.each_level_is_common.Goals as goal
 
 pub returns : goal.returns

@@ -1,4 +1,4 @@
-use Rattle.std.proofs.Common.{◌≡◌, ◌<◌, ◌+◌, length, ap, arith}
+use Rattle.std.proofs.Common.{◌+◌, length, ap, arith}
 use Rattle.tx_plan.specs.Plan.{Plan}
 use Rattle.tx_text.proofs.Wrote.{wrote_none}
 use Rattle.tx_mend.proofs.Written.{index_more, index_stopped, indexes_done}

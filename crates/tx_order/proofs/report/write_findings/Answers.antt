@@ -1,4 +1,3 @@
-use Rattle.std.proofs.Common.{Err, refl}
 use Rattle.tx_text.proofs.Wrote.{wrote_none, texts_more, texts_stopped, texts_done}
 use Rattle.tx_order.specs.OrderText.{finding_of}
 use Rattle.tx_order.proofs.report.write_findings.Goals as goal

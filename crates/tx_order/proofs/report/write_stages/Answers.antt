@@ -1,4 +1,4 @@
-use Rattle.std.proofs.Common.{◌≡◌, ◌<◌, ◌++◌, Err, refl, arith}
+use Rattle.std.proofs.Common.{◌≡◌, ◌<◌, Err, refl, arith}
 use Rattle.std.specs.Prelude.{codes}
 use Rattle.std.specs.List.{flat_map, range_with_len}
 use Rattle.tx_text.proofs.Wrote.{wrote_none, wrote_then, wrote_first}

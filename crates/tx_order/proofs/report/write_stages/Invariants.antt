@@ -1,7 +1,6 @@
-use Rattle.std.proofs.Common.{Ok, ◌+◌}
+use Rattle.std.proofs.Common.{Ok}
 use Rattle.std.specs.List.{flat_map, range_with_len}
 use Rattle.tx_text.specs.Wrote.{WroteBy}
-use Rattle.tx_order.specs.Ordered.{plan_before}
 use Rattle.tx_order.specs.OrderText.{stage_text}
 use Rattle.tx_order.proofs.report.write_stages.Given as goal
 

@@ -1,4 +1,4 @@
-use Rattle.std.proofs.Common.{◌≡◌, ℕ, ◌+◌, length, sym, ap, subst, ◌∙◌, arith, IfOk}
+use Rattle.std.proofs.Common.{ℕ, ◌+◌, length, sym, ap, subst, ◌∙◌, arith, IfOk}
 use Rattle.tx_cert.specs.Certificate.{rank_at}
 use Rattle.tx_rank.specs.Judged.{AreOrigins, IsJudged}
 use Rattle.tx_change.specs.ChangeNets.{change_net}

@@ -7,7 +7,7 @@ use Rattle.tx_cert.specs.Certificate.{Certificate, IsCertificateOf}
 use Rattle.tx_check.specs.Confirmed.{IsConfirmed}
 use Rattle.tx_change.specs.declared.mixing.Lists.{Lists}
 use Rattle.tx_order.specs.Transitions.{Transition}
-use Rattle.tx_order.specs.Ordered.{Order, IsOrderKept, plan_before}
+use Rattle.tx_order.specs.Ordered.{Order, plan_before}
 use Rattle.tx_order.specs.inner.Asked.{AreListsOf}
 use Rattle.tx_order.proofs.Confirming.{before_rules, before_network, before_fits, stage_cleared, with_lists, with_own}
 use Rattle.tx_order.proofs.switching.confirm_stage.Goals as goal

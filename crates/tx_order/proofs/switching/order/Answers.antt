@@ -1,4 +1,4 @@
-use Rattle.std.proofs.Common.{◌≡◌, ap, subst}
+use Rattle.std.proofs.Common.{ap, subst}
 use Rattle.tx_rank.specs.declared.ranking.Ranking.{Ranking}
 use Rattle.tx_audit.specs.Audits.{IsRightRanking}
 use Rattle.tx_order.specs.Transitions.{Transition}

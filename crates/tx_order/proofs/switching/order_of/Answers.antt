@@ -1,4 +1,4 @@
-use Rattle.std.proofs.Common.{◌≡◌, ℕ, ◌<◌, sym, subst}
+use Rattle.std.proofs.Common.{ℕ, ◌<◌, sym, subst}
 use Rattle.tx_order.specs.Ordered.{Order, stages_in}
 use Rattle.tx_order.specs.Switchings.{HasCleared}
 use Rattle.tx_order.proofs.switching.order_of.Goals as goal

@@ -1,4 +1,4 @@
-use Rattle.std.proofs.Common.{◌≡◌, ℕ, ◌+◌, Bool, List, length, sym, subst, ◌∙◌, arith}
+use Rattle.std.proofs.Common.{◌≡◌, ℕ, ◌+◌, Bool, List, length, sym, subst, arith}
 use Rattle.tx_plan.specs.Plan.{Plan}
 use Rattle.tx_rank.specs.Judged.{AreOrigins}
 use Rattle.tx_order.specs.Joined.{AreAllStages}

@@ -1,6 +1,6 @@
-use Rattle.std.proofs.Common.{◌≡◌, ◌≢◌, ℕ, ◌+◌, ◌<◌, Bool, List, None, length, sym, ap, subst, ◌∙◌, arith}
+use Rattle.std.proofs.Common.{◌≡◌, ℕ, ◌+◌, Bool, List, length, sym, ap, subst, ◌∙◌, arith}
 use Rattle.tx_plan.specs.Plan.{Plan}
-use Rattle.tx_cert.specs.Certificate.{Certificate, rank_at, no_ranks_for}
+use Rattle.tx_cert.specs.Certificate.{rank_at, no_ranks_for}
 use Rattle.tx_rank.specs.Judged.{AreOrigins}
 use Rattle.tx_rank.specs.Nets.{Certifies}
 use Rattle.tx_change.specs.ChangeNets.{change_net}
