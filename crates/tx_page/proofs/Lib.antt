@@ -1,0 +1,3 @@
+pub mod Indexed
+pub mod StepsOfWalks
+pub mod Sums

@@ -1,0 +1,181 @@
+// What was judged, and the verdict.
+ghost use Rattle.std.specs.Prelude.{◌≡◌, [], ◌∷◌};
+ghost use Rattle.hex.specs.Hex.{encode_lower};
+ghost use Rattle.tx_html.specs.Shows.{Showed};
+ghost use Rattle.tx_page.specs.Heading.{verdict_word, start_texts, verdict_texts, promise_texts, count_texts, heading_texts};
+
+use crate::counts::{count_lines, count_origins};
+use crate::style::STYLE;
+use hex::encode_to_slice;
+use std::alloc::Allocator;
+use tx_html::{Part, set};
+use tx_plan::{Limits, Plan};
+use tx_text::{Sink, WriteFault};
+
+const START: &str = "<!doctype html>\n<html lang=\"en\"><head><meta charset=\"utf-8\"><meta \
+name=\"viewport\" content=\"width=device-width\"><title>";
+
+/// The ends of the arrows of all pictures.
+const HEADS: &str = "</style></head><body><svg width=\"0\" height=\"0\" class=\"defs\" \
+aria-hidden=\"true\"><defs><marker id=\"m0\" viewBox=\"0 0 8 8\" refX=\"6\" refY=\"4\" \
+markerWidth=\"10\" markerHeight=\"10\" orient=\"auto\" markerUnits=\"userSpaceOnUse\"><path \
+d=\"M0,0L8,4L0,8z\"/></marker><marker id=\"m1\" viewBox=\"0 0 8 8\" refX=\"6\" refY=\"4\" \
+markerWidth=\"9\" markerHeight=\"9\" orient=\"auto\" markerUnits=\"userSpaceOnUse\"><path \
+d=\"M0,0L8,4L0,8z\"/></marker><marker id=\"m2\" viewBox=\"0 0 8 8\" refX=\"6\" refY=\"4\" \
+markerWidth=\"8\" markerHeight=\"8\" orient=\"auto\" markerUnits=\"userSpaceOnUse\"><path \
+d=\"M0,0L8,4L0,8z\"/></marker><marker id=\"m3\" viewBox=\"0 0 8 8\" refX=\"6\" refY=\"4\" \
+markerWidth=\"12\" markerHeight=\"12\" orient=\"auto\" markerUnits=\"userSpaceOnUse\"><path \
+d=\"M0,0L8,4L0,8z\"/></marker></defs></svg><main><h1>";
+
+/// Writes the head of a page: the file's name, the verdict, and what was judged.
+pub fn write_heading<A: Allocator, W: Sink>(
+    name: &[u8],
+    digest: &[u8; 32],
+    version: &'static str,
+    plan: &Plan<A>,
+    limits: Limits,
+    safe: bool,
+    sink: &mut W,
+) -> Result<(), WriteFault>
+    ensures { Showed W.taken W.failed sink.old sink.new
+        (heading_texts name.now digest.now plan.now safe limits.limit limits.spare) result }
+{
+    write_start(name, safe, sink)?;
+    write_verdict(safe, limits, sink)?;
+    write_promise(safe, limits, sink)?;
+    write_warning(count_lines(plan), sink)?;
+    write_counts(plan, sink)?;
+    write_digest(digest, version, sink)
+}
+
+const NO_LINES: &str = "<p class=\"warn\">This plan has no line. So no call starts, and a YES says \
+nothing of its lists.</p>";
+
+/// Writes that a YES says nothing, if there is no line.
+fn write_warning<W: Sink>(lines: u64, sink: &mut W) -> Result<(), WriteFault>
+    ensures { Showed W.taken W.failed sink.old sink.new [] result }
+{
+    let warning = if lines == 0 { NO_LINES } else { "" };
+    set(&[Part::Own(warning)], sink)
+}
+
+/// The verdict in a word.
+fn verdict_word(safe: bool) -> &'static [u8]
+    ensures { result.now ≡ verdict_word safe }
+{
+    if safe { b"YES" } else { b"NO" }
+}
+
+fn write_start<W: Sink>(name: &[u8], safe: bool, sink: &mut W) -> Result<(), WriteFault>
+    ensures { Showed W.taken W.failed sink.old sink.new (start_texts name.now safe) result }
+{
+    set(
+        &[
+            Part::Own(START),
+            Part::Text(name),
+            Part::Own(": "),
+            Part::Text(verdict_word(safe)),
+            Part::Own("</title><style>"),
+            Part::Own(STYLE),
+            Part::Own(HEADS),
+            Part::Text(name),
+            Part::Own("</h1>"),
+        ],
+        sink,
+    )
+}
+
+fn write_verdict<W: Sink>(safe: bool, limits: Limits, sink: &mut W) -> Result<(), WriteFault>
+    ensures { Showed W.taken W.failed sink.old sink.new
+        (verdict_texts safe limits.limit limits.spare) result }
+{
+    set(
+        &[
+            Part::Own("<p class=\"v "),
+            Part::Own(if safe { "yes" } else { "no" }),
+            Part::Own("\"><strong>"),
+            Part::Text(verdict_word(safe)),
+            Part::Own("</strong> transit limit <b>"),
+            Part::Count(u64::from(limits.limit)),
+            Part::Own("</b>, spare number <b>"),
+            Part::Count(u64::from(limits.spare)),
+            Part::Own("</b></p>"),
+        ],
+        sink,
+    )
+}
+
+/// Writes in a sentence what the verdict says.
+fn write_promise<W: Sink>(safe: bool, limits: Limits, sink: &mut W) -> Result<(), WriteFault>
+    ensures { Showed W.taken W.failed sink.old sink.new
+        (promise_texts safe limits.limit limits.spare) result }
+{
+    if !safe {
+        return set(&[Part::Own(NO_PROMISE)], sink);
+    }
+    set(
+        &[
+            Part::Own(
+                "<p>Whatever happens, and in whatever order, no call passes an exchange twice, or \
+                 more transit exchanges than ",
+            ),
+            Part::Count(u64::from(limits.limit)),
+            Part::Own(". As long as at most "),
+            Part::Count(u64::from(limits.spare)),
+            Part::Own(
+                " of the groups are down, and every other group has a free circuit at the end \
+                 that seizes it, a call is answered NC (no circuits) only after a second head-on \
+                 collision.</p>",
+            ),
+        ],
+        sink,
+    )
+}
+
+const NO_PROMISE: &str = "<p>With these lists calls can go wrong, in each of the ways below.</p>";
+
+fn write_counts<A: Allocator, W: Sink>(plan: &Plan<A>, sink: &mut W) -> Result<(), WriteFault>
+    ensures { Showed W.taken W.failed sink.old sink.new (count_texts plan.now) result }
+{
+    set(
+        &[
+            Part::Own("<dl><div><dt>Exchanges</dt><dd>"),
+            Part::Count(plan.exchanges() as u64),
+            Part::Own("</dd></div><div><dt>Codes</dt><dd>"),
+            Part::Count(plan.codes() as u64),
+            Part::Own("</dd></div><div><dt>Groups</dt><dd>"),
+            Part::Count(plan.groups() as u64),
+            Part::Own("</dd></div><div><dt>Lists</dt><dd>"),
+            Part::Count(plan.routes() as u64),
+            Part::Own("</dd></div><div><dt>Lines</dt><dd>"),
+            Part::Count(count_lines(plan)),
+            Part::Own("</dd></div><div><dt>Exchanges where calls start</dt><dd>"),
+            Part::Count(count_origins(plan)),
+            Part::Own("</dd></div></dl>"),
+        ],
+        sink,
+    )
+}
+
+fn write_digest<W: Sink>(
+    digest: &[u8; 32],
+    version: &'static str,
+    sink: &mut W,
+) -> Result<(), WriteFault>
+    ensures { Showed W.taken W.failed sink.old sink.new (encode_lower digest.now ∷ []) result }
+{
+    let mut figures = [0u8; 64];
+    if encode_to_slice(digest.as_slice(), figures.as_mut_slice()).is_err() {
+        unreachable!();
+    }
+    set(
+        &[
+            Part::Own("<p class=\"m\">SHA-256 of the plan <code>"),
+            Part::Text(&figures),
+            Part::Own("</code><br>judged by telexplan "),
+            Part::Own(version),
+            Part::Own("</p>"),
+        ],
+        sink,
+    )
+}

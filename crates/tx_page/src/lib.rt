@@ -1,0 +1,20 @@
+//! A page about a plan: one HTML file without script, which fetches nothing.
+#![tactic(auto)]
+
+mod arrows;
+mod boxes;
+mod codes;
+mod counts;
+mod findings;
+mod heading;
+mod network;
+mod outages;
+mod page;
+mod pictures;
+mod ring;
+mod style;
+mod subject;
+mod walks;
+
+pub use page::write_page;
+pub use subject::Subject;
