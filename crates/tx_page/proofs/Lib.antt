@@ -1,3 +1,2 @@
-pub mod Indexed
 pub mod StepsOfWalks
 pub mod Sums

@@ -1,8 +1,9 @@
 -- What a page shows of the network.
-use Rattle.std.specs.Prelude.{ℕ, ◌==◌, nat_le, if◌then◌else◌, List, [], ◌∷◌, ◌++◌, length, decimal}
+use Rattle.std.specs.Prelude.{ℕ, ◌==◌, if◌then◌else◌, List, [], ◌∷◌, ◌++◌, length, decimal}
 use Rattle.tx_plan.specs.Plan.{Plan, exchange_name, figures_of, group_name, home_of}
 use Rattle.tx_plan.specs.Circuits.{ends_of, count_of}
-use Rattle.tx_page.specs.Indexed.{texts_below}
+use Rattle.tx_svg.specs.Indexed.{texts_below}
+use Rattle.tx_svg.specs.RingTexts.{ring_texts}
 
 -- a code, if it is at home at x
 abbrev pub home_texts : Plan → (x c : ℕ) → List (List ℕ)
@@ -16,15 +17,6 @@ exchange_texts p x = exchange_name p x ∷ texts_below (length p.codes) (home_te
 abbrev pub group_texts : Plan → ℕ → List (List ℕ)
 group_texts p g = group_name p g ∷ exchange_name p (ends_of p g).0
     ∷ exchange_name p (ends_of p g).1 ∷ decimal (count_of p g) ∷ []
-
--- the name of an exchange, in the picture
-abbrev pub name_texts : Plan → ℕ → List (List ℕ)
-name_texts p x = exchange_name p x ∷ []
-
--- the exchanges in the picture, which a network of more than 24 exchanges does not have
-abbrev pub ring_texts : Plan → List (List ℕ)
-ring_texts p = if nat_le (length p.exchanges) 24
-    then texts_below (length p.exchanges) (name_texts p) else []
 
 -- the picture, the exchanges, and then the groups, in order of declaration
 abbrev pub network_texts : Plan → List (List ℕ)

@@ -7,7 +7,7 @@ use Rattle.tx_page.specs.Heading.{heading_texts}
 use Rattle.tx_page.specs.WrongTexts.{wrong_texts}
 use Rattle.tx_page.specs.CodeTexts.{codes_texts}
 use Rattle.tx_page.specs.OutageTexts.{outages_texts}
-use Rattle.tx_page.specs.ListTexts.{pictures_texts}
+use Rattle.tx_svg.specs.ListTexts.{pictures_texts}
 use Rattle.tx_page.specs.NetworkTexts.{network_texts}
 
 module _ {A : Type 0} where

@@ -10,22 +10,11 @@ use hex::encode_to_slice;
 use std::alloc::Allocator;
 use tx_html::{Part, set};
 use tx_plan::{Limits, Plan};
+use tx_svg::HEADS;
 use tx_text::{Sink, WriteFault};
 
 const START: &str = "<!doctype html>\n<html lang=\"en\"><head><meta charset=\"utf-8\"><meta \
 name=\"viewport\" content=\"width=device-width\"><title>";
-
-/// The ends of the arrows of all pictures.
-const HEADS: &str = "</style></head><body><svg width=\"0\" height=\"0\" class=\"defs\" \
-aria-hidden=\"true\"><defs><marker id=\"m0\" viewBox=\"0 0 8 8\" refX=\"6\" refY=\"4\" \
-markerWidth=\"10\" markerHeight=\"10\" orient=\"auto\" markerUnits=\"userSpaceOnUse\"><path \
-d=\"M0,0L8,4L0,8z\"/></marker><marker id=\"m1\" viewBox=\"0 0 8 8\" refX=\"6\" refY=\"4\" \
-markerWidth=\"9\" markerHeight=\"9\" orient=\"auto\" markerUnits=\"userSpaceOnUse\"><path \
-d=\"M0,0L8,4L0,8z\"/></marker><marker id=\"m2\" viewBox=\"0 0 8 8\" refX=\"6\" refY=\"4\" \
-markerWidth=\"8\" markerHeight=\"8\" orient=\"auto\" markerUnits=\"userSpaceOnUse\"><path \
-d=\"M0,0L8,4L0,8z\"/></marker><marker id=\"m3\" viewBox=\"0 0 8 8\" refX=\"6\" refY=\"4\" \
-markerWidth=\"12\" markerHeight=\"12\" orient=\"auto\" markerUnits=\"userSpaceOnUse\"><path \
-d=\"M0,0L8,4L0,8z\"/></marker></defs></svg><main><h1>";
 
 /// Writes the head of a page: the file's name, the verdict, and what was judged.
 pub fn write_heading<A: Allocator, W: Sink>(
@@ -77,7 +66,9 @@ fn write_start<W: Sink>(name: &[u8], safe: bool, sink: &mut W) -> Result<(), Wri
             Part::Text(verdict_word(safe)),
             Part::Own("</title><style>"),
             Part::Own(STYLE),
+            Part::Own("</style></head><body>"),
             Part::Own(HEADS),
+            Part::Own("<main><h1>"),
             Part::Text(name),
             Part::Own("</h1>"),
         ],

@@ -1,8 +1,6 @@
 //! A page about a plan: one HTML file without script, which fetches nothing.
 #![tactic(auto)]
 
-mod arrows;
-mod boxes;
 mod codes;
 mod counts;
 mod findings;
@@ -10,8 +8,6 @@ mod heading;
 mod network;
 mod outages;
 mod page;
-mod pictures;
-mod ring;
 mod style;
 mod subject;
 mod walks;

@@ -1,13 +1,13 @@
 // The exchanges and groups of a plan.
 ghost use Rattle.std.specs.Prelude.{length};
 ghost use Rattle.tx_html.specs.Shows.{Showed};
-ghost use Rattle.tx_page.specs.Indexed.{texts_below};
+ghost use Rattle.tx_svg.specs.Indexed.{texts_below};
 ghost use Rattle.tx_page.specs.NetworkTexts.{home_texts, exchange_texts, group_texts, network_texts};
 
-use crate::ring::write_ring;
 use std::alloc::Allocator;
 use tx_html::{Part, set};
 use tx_plan::{CodeId, Direction, ExchangeId, GroupId, Plan};
+use tx_svg::write_ring;
 use tx_text::{Sink, WriteFault};
 
 const EXCHANGES: &str = "<div class=\"t\"><table><thead><tr><th scope=\"col\">\

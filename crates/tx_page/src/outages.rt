@@ -4,7 +4,6 @@ ghost use Rattle.std.specs.List.{flat_map};
 ghost use Rattle.tx_html.specs.Shows.{Showed};
 ghost use Rattle.tx_page.specs.OutageTexts.{outage_name, cut_off, astray, cut_texts, outcome_texts, is_shown, shown_texts, tried_texts, outages_texts};
 
-use crate::walks::start_of;
 use std::alloc::Allocator;
 use tx_html::{Part, set};
 use tx_plan::Plan;
@@ -199,7 +198,7 @@ fn write_cut<A: Allocator, W: Sink>(
             }),
             Part::Text(plan.code_figures(cut.code)),
             Part::Own(" from "),
-            Part::Text(plan.exchange_name(start_of(&cut.walk))),
+            Part::Text(plan.exchange_name(cut.walk.start)),
             Part::Own(" "),
             Part::Text(if cut.stray { b"astray" } else { b"" }),
             Part::Own("</li>"),

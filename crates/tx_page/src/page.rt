@@ -8,11 +8,11 @@ use crate::findings::write_wrong;
 use crate::heading::write_heading;
 use crate::network::write_network;
 use crate::outages::write_outages;
-use crate::pictures::write_pictures;
 use crate::subject::Subject;
 use std::alloc::Allocator;
 use tx_html::{Part, set};
 use tx_rank::{Finding, Ranking};
+use tx_svg::write_pictures;
 use tx_text::{Sink, WriteFault};
 
 /// Whether a certificate was found.

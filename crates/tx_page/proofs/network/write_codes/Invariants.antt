@@ -1,5 +1,5 @@
 use Rattle.tx_html.specs.Shows.{HasShown}
-use Rattle.tx_page.specs.Indexed.{texts_below}
+use Rattle.tx_svg.specs.Indexed.{texts_below}
 use Rattle.tx_page.specs.NetworkTexts.{home_texts}
 use Rattle.tx_page.proofs.network.write_codes.Given as goal
 

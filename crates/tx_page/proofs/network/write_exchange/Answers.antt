@@ -1,6 +1,6 @@
 use Rattle.std.proofs.Common.{length, [], ◌∷◌}
 use Rattle.tx_plan.specs.Plan.{exchange_name}
-use Rattle.tx_page.specs.Indexed.{texts_below}
+use Rattle.tx_svg.specs.Indexed.{texts_below}
 use Rattle.tx_page.specs.NetworkTexts.{home_texts}
 use Rattle.tx_html.proofs.Showing.{showed_then, showed_end, showed_stopped}
 use Rattle.tx_page.proofs.network.write_exchange.Goals as goal

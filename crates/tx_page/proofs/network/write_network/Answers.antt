@@ -1,6 +1,7 @@
 use Rattle.std.proofs.Common.{length, []}
-use Rattle.tx_page.specs.Indexed.{texts_below}
-use Rattle.tx_page.specs.NetworkTexts.{exchange_texts, group_texts, ring_texts}
+use Rattle.tx_svg.specs.Indexed.{texts_below}
+use Rattle.tx_page.specs.NetworkTexts.{exchange_texts, group_texts}
+use Rattle.tx_svg.specs.RingTexts.{ring_texts}
 use Rattle.tx_html.proofs.Showing.{showed_then, showed_end, showed_stopped}
 use Rattle.tx_page.proofs.network.write_network.Goals as goal
 

@@ -3,7 +3,7 @@ use Rattle.tx_page.specs.Heading.{heading_texts}
 use Rattle.tx_page.specs.WrongTexts.{wrong_texts}
 use Rattle.tx_page.specs.CodeTexts.{codes_texts}
 use Rattle.tx_page.specs.OutageTexts.{outages_texts}
-use Rattle.tx_page.specs.ListTexts.{pictures_texts}
+use Rattle.tx_svg.specs.ListTexts.{pictures_texts}
 use Rattle.tx_page.specs.NetworkTexts.{network_texts}
 use Rattle.tx_page.specs.Page.{is_safe}
 use Rattle.tx_html.proofs.Showing.{showed_then, showed_end, showed_stopped}

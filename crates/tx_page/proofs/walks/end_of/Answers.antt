@@ -7,8 +7,8 @@ use Rattle.tx_page.proofs.walks.end_of.Goals as goal
 
 pub returns : goal.returns
 returns g c =
-    let steps = c.steps_of-steps.result.now in
+    let steps = c.as_slice-steps.result.now in
     let last = c.index-steps-steps.result in
     let some = eqb-false (length steps) 0 (sym c.is_empty.ensures ∙ c.if-is_empty.false) in
     let at = slice_get_read steps (length steps) (length steps - 1) last refl (omega arith) c.index-steps-steps.is in
-    subst (λ (l : List (ℕ × ℕ)). last.1 ≡ end_of c.args.walk.now.start l) c.steps_of-steps.ensures (end_last c.args.walk.now.start steps (length steps - 1) last (omega arith) at)
+    subst (λ (l : List (ℕ × ℕ)). last.1 ≡ end_of c.args.walk.now.start l) c.as_slice-steps.ensures (end_last c.args.walk.now.start steps (length steps - 1) last (omega arith) at)

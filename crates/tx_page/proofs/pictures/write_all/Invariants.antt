@@ -1,8 +1,0 @@
-use Rattle.std.proofs.Common.{take}
-use Rattle.std.specs.List.{flat_map}
-use Rattle.tx_html.specs.Shows.{HasShown}
-use Rattle.tx_page.specs.ListTexts.{picture_texts}
-use Rattle.tx_page.proofs.pictures.write_all.Given as goal
-
-abbrev pub invariant-loop-i : goal.invariant-loop-i
-invariant-loop-i g l = HasShown (g.W.Sink.taken l.initial.sink) (g.W.Sink.taken l.sink) (g.W.Sink.failed l.initial.sink) (g.W.Sink.failed l.sink) (flat_map (λ q. picture_texts l.plan q.code) (take l.i l.pictures))

@@ -1,7 +1,0 @@
-use Rattle.tx_html.specs.Shows.{HasShown}
-use Rattle.tx_page.specs.Indexed.{texts_below}
-use Rattle.tx_page.specs.NetworkTexts.{name_texts}
-use Rattle.tx_page.proofs.ring.write_names.Given as goal
-
-abbrev pub invariant-loop-index : goal.invariant-loop-index
-invariant-loop-index g l = HasShown (g.W.Sink.taken l.initial.sink) (g.W.Sink.taken l.sink) (g.W.Sink.failed l.initial.sink) (g.W.Sink.failed l.sink) (texts_below l.index (name_texts l.plan))
