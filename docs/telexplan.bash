@@ -8,14 +8,15 @@ _telexplan() {
         --cert | --mixture | --plan | --risks | --counter | --code) ;;
         *)
             case $COMP_CWORD:${COMP_WORDS[1]}:$word in
-                1:*) words="lint audit grade mend change order survive check run codes trace draw explain help --help --version" ;;
-                *:help:*) words="lint audit grade mend change order survive check run codes trace draw explain" ;;
+                1:*) words="lint audit grade mend change order survive page check run codes trace draw explain help --help --version" ;;
+                *:help:*) words="lint audit grade mend change order survive page check run codes trace draw explain" ;;
                 *:explain:*) words="--help $(telexplan explain 2>/dev/null | cut -d ' ' -f 1)" ;;
                 *:audit:-*) words="--limit --spare --cert --counter --help" ;;
                 *:mend:-*) words="--limit --spare --plan --cert --help" ;;
                 *:change:-*) words="--limit --spare --cert --mixture --counter --help" ;;
                 *:order:-*) words="--limit --spare --stage --plan --cert --help" ;;
                 *:survive:-*) words="--risks --help" ;;
+                *:page:-*) words="--limit --spare --risks --code --help" ;;
                 *:check:-*) words="--limit --spare --help" ;;
                 *:run:-*) words="--cert --limit --spare --strict --echo --summary --help" ;;
                 *:lint:-* | *:grade:-* | *:codes:-* | *:trace:-*) words="--help" ;;

@@ -436,6 +436,14 @@ def telling_of(words):
     return {(True, False): "telling", (False, True): "telling summary", (True, True): "telling both"}.get(("--echo" in words, "--summary" in words), "run")
 
 
+def page_of(example):
+    """The kind of the case of a page: with named risks, with the lists of one code, or neither."""
+    file, limit, spare, risks, code = *example.words[1:2], *map(example.option, ("--limit", "--spare", "--risks", "--code"))
+    if code:
+        return f"page-code {file} {limit} {code}"
+    return f"{'page-risks' if risks else 'page'} {file} {limit} {spare}"
+
+
 def case_of(example):
     """The kind of a case, and its texts; None where no case shows the example."""
     if example.input and not example.words:
@@ -454,6 +462,8 @@ def case_of(example):
     staged = example.option("--stage")
     kinds |= {"order": f"stage{bounds} {staged}" if staged else f"order{bounds}"}
     kinds |= {"survive": "survive" if example.option("--risks") else "survive alone", "trace": " ".join(["trace", *example.words[2:]]), "lint": " ".join(example.words)}
+    if verb == "page":
+        kinds |= {"page": page_of(example)}
     return (kinds[verb], b"---\n".join(texts)) if verb in kinds else None
 
 

@@ -9,7 +9,7 @@ use Rattle.clap.specs.Words.{Row, first_of, one_of, subcommand_of}
 use Rattle.tx_explain.specs.Entries.{is_known}
 use Rattle.tx_commands.specs.Grammar.{program_words}
 use Rattle.tx_commands.specs.declared.command.Command.{Command}
-use Rattle.tx_commands.specs.declared.command.Command.TheVariants.{Pipe, Run, RunTelling, Check, Lint, Codes, Audit, Change, Order, Mend, Survive, Grade, Trace, Draw, Explain}
+use Rattle.tx_commands.specs.declared.command.Command.TheVariants.{Pipe, Run, RunTelling, Check, Lint, Codes, Audit, Change, Order, Mend, Survive, Page, Grade, Trace, Draw, Explain}
 
 -- a limit is at most 62, and a spare number at most 15
 abbrev pub IsInRange : Command → Type 0
@@ -18,6 +18,7 @@ IsInRange (Audit plan limit spare cert counter) = (limit ≤ 62) × (spare ≤ 1
 IsInRange (Change old new limit spare cert mixture counter) = (limit ≤ 62) × (spare ≤ 15)
 IsInRange (Order old new limit spare stage plan cert) = (limit ≤ 62) × (spare ≤ 15)
 IsInRange (Mend plan limit spare mended cert) = (limit ≤ 62) × (spare ≤ 15)
+IsInRange (Page plan limit spare risks code) = (limit ≤ 62) × (spare ≤ 15)
 IsInRange (Check plan cert limit spare) = (limit ≤ 62) × (spare ≤ 15)
 IsInRange (Draw plan (Some (code, Some (limit, spare)))) = (limit ≤ 62) × (spare ≤ 15)
 IsInRange other = Unit {0}
@@ -36,6 +37,7 @@ IsInRange-prop (Change old new limit spare cert mixture counter) = ×_prop le_pr
 IsInRange-prop (Order old new limit spare stage plan cert) = ×_prop le_prop le_prop
 IsInRange-prop (Mend plan limit spare mended cert) = ×_prop le_prop le_prop
 IsInRange-prop (Survive plan risks) = Unit-prop
+IsInRange-prop (Page plan limit spare risks code) = ×_prop le_prop le_prop
 IsInRange-prop (Grade plan) = Unit-prop
 IsInRange-prop (Trace plan exchange code) = Unit-prop
 IsInRange-prop (Draw plan None) = Unit-prop
@@ -122,6 +124,11 @@ Asks name found (Mend plan limit spare mended cert) =
 Asks name found (Survive plan risks) =
     (name ≡ codes "survive") × Names found (codes "plan") plan
     × (first_of (codes "risks") found ≡ option_map string_bytes risks)
+Asks name found (Page plan limit spare risks code) =
+    (name ≡ codes "page") × Names found (codes "plan") plan
+    × Gives found (codes "limit") limit × Gives found (codes "spare") spare
+    × (first_of (codes "risks") found ≡ option_map string_bytes risks)
+    × (first_of (codes "code") found ≡ option_map string_bytes code)
 Asks name found (Grade plan) = (name ≡ codes "grade") × Names found (codes "plan") plan
 Asks name found (Trace plan exchange code) =
     (name ≡ codes "trace") × Names found (codes "plan") plan
@@ -199,6 +206,8 @@ reads_of (Order old new limit spare stage plan cert) =
     two_read (string_bytes old) (string_bytes new)
 reads_of (Mend plan limit spare mended cert) = one_read (string_bytes plan)
 reads_of (Survive plan risks) =
+    Some (string_bytes plan) ∷ option_map string_bytes risks ∷ None ∷ []
+reads_of (Page plan limit spare risks code) =
     Some (string_bytes plan) ∷ option_map string_bytes risks ∷ None ∷ []
 reads_of (Grade plan) = one_read (string_bytes plan)
 reads_of (Trace plan exchange code) = one_read (string_bytes plan)

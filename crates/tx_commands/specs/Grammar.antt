@@ -84,6 +84,13 @@ mend_words =
 abbrev pub survive_words : App
 survive_words = with_rule (plan_words (codes "survive")) (option (codes "risks"))
 
+-- the arguments of `page`
+abbrev pub page_words : App
+page_words =
+    with_rule (with_rule (with_rule (with_rule
+    (plan_words (codes "page")) (needed limit)) (needed spare))
+    (option (codes "risks"))) (option (codes "code"))
+
 -- a command with a plan, and with two words that have to be given as it has
 abbrev pub trace_words : App
 trace_words =
@@ -124,9 +131,9 @@ top_words =
 abbrev pub judging_words : App
 judging_words =
     with_subcommand (with_subcommand (with_subcommand (with_subcommand (with_subcommand
-    (with_subcommand (with_subcommand (with_subcommand
+    (with_subcommand (with_subcommand (with_subcommand (with_subcommand
     top_words lint_words.top) audit_words.top) grade_words.top) mend_words.top) change_words.top)
-    order_words.top) survive_words.top) check_words.top
+    order_words.top) survive_words.top) page_words.top) check_words.top
 
 -- the words of the program: all its commands
 abbrev pub program_words : App

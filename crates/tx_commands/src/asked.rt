@@ -284,6 +284,28 @@ fn draw_of(alloc: Global, plan: String, matches: &ArgMatches<'_>) -> Result<Comm
     Ok(Command::Draw { plan, routes })
 }
 
+/// The words of `page` after the plan.
+fn page_of(alloc: Global, plan: String, matches: &ArgMatches<'_>) -> Result<Command, Misuse>
+    requires { Names (rows_of (found_of matches.now)) (codes "plan") plan }
+    ensures range { IfOk result IsInRange }
+    ensures asked { IfOk result (Asks (codes "page") (rows_of (found_of matches.now))) }
+    ensures refused { IfErr result
+        (IsRefused (Some (codes "page", rows_of (found_of matches.now)))) }
+{
+    let risks = text(alloc, matches, "risks")?;
+    let code = text(alloc, matches, "code")?;
+    match limits(matches) {
+        Some((limit, spare)) => Ok(Command::Page {
+            plan,
+            limit,
+            spare,
+            risks,
+            code,
+        }),
+        None => Err(Misuse::Incomplete),
+    }
+}
+
 /// The words of `explain`. A word that is no code and no name is refused.
 pub(crate) fn explain_of(alloc: Global, matches: &ArgMatches<'_>) -> Result<Command, Misuse>
     ensures range { IfOk result IsInRange }
@@ -321,6 +343,7 @@ pub(crate) fn plan_command(
         "audit" => audit_of(alloc, plan, matches),
         "grade" => Ok(Command::Grade { plan }),
         "survive" => survive_of(alloc, plan, matches),
+        "page" => page_of(alloc, plan, matches),
         "trace" => trace_of(alloc, plan, matches),
         "draw" => draw_of(alloc, plan, matches),
         _ => Err(Misuse::Incomplete),

@@ -82,6 +82,15 @@ pub enum Command {
         plan: String,
         risks: Option<String>,
     },
+    /// `page PLAN --limit L --spare K`: a page about the plan, with the named risks of a file, if
+    /// one is named, and with the lists of one code alone, if its figures are given.
+    Page {
+        plan: String,
+        limit: u8,
+        spare: u8,
+        risks: Option<String>,
+        code: Option<String>,
+    },
     /// `grade PLAN`: with which limits and spare numbers the plan is safe.
     Grade {
         plan: String,
@@ -201,7 +210,9 @@ fn reads_of(command: &Command) -> [Option<&str>; 3]
         | Command::Grade { plan }
         | Command::Trace { plan, .. }
         | Command::Draw { plan, .. } => one(plan),
-        Command::Survive { plan, risks } => [Some(plan.as_str()), risks.as_deref(), None],
+        Command::Survive { plan, risks } | Command::Page { plan, risks, .. } => {
+            [Some(plan.as_str()), risks.as_deref(), None]
+        }
         Command::Explain { .. } => [None, None, None],
     }
 }

@@ -43,6 +43,8 @@ pub enum Done<A: Allocator = Global> {
     Graded(Grade<A>),
     /// The outages of a plan were tried.
     Survived(Survival<A>),
+    /// A page was written: whether a certificate was found.
+    Paged(bool),
     /// A trace, a picture or an explanation was written.
     Written,
 }
@@ -75,6 +77,7 @@ impl<A: Allocator> Done<A> {
             | Done::Mended(Mending::NoRouting(_, _, _))
             | Done::Survived(Survival::Ungraded(_)) => 1,
             Done::Told(strict, summary) => u8::from(*strict && summary.refused != 0),
+            Done::Paged(safe) => u8::from(!*safe),
             Done::Graded(grade) => u8::from(grade.plan.is_none()),
             Done::Survived(Survival::Tried(cuts)) => u8::from(!cuts.is_empty()),
             Done::Linted(status) => *status,
@@ -124,6 +127,7 @@ impl<A: Allocator> Done<A> {
             | Done::Mended(Mending::NoRouting(_, _, _))
             | Done::Graded(_)
             | Done::Survived(_)
+            | Done::Paged(_)
             | Done::Written => [None, None, None],
         }
     }

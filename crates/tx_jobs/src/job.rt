@@ -19,6 +19,7 @@ use crate::job_fault::JobFault;
 use crate::lint::lint_job;
 use crate::mend::mend_job;
 use crate::order::order_job;
+use crate::page::{Asked, page_job, page_risks_job};
 use crate::pipe::pipe_job;
 use crate::run::run_job;
 use crate::run_checked::run_checked_job;
@@ -62,7 +63,8 @@ pub fn do_job<A: Allocator + Copy, P: Source, Q: Source, R: Source, W: Sink>(
         | Command::Check { .. }
         | Command::Change { .. }
         | Command::Order { .. }
-        | Command::Survive { risks: Some(_), .. } => {
+        | Command::Survive { risks: Some(_), .. }
+        | Command::Page { risks: Some(_), .. } => {
             do_texts(alloc, command, first, second, third, out)
         }
         Command::Lint { plan } => Ok(Done::Linted(lint_job(alloc, first, plan.as_bytes(), out)?)),
@@ -77,6 +79,17 @@ pub fn do_job<A: Allocator + Copy, P: Source, Q: Source, R: Source, W: Sink>(
             Ok(Done::Mended(mend_job(alloc, first, Limits { limit, spare }, out)?))
         }
         Command::Survive { risks: None, .. } => Ok(Done::Survived(survive_job(alloc, first, out)?)),
+        Command::Page {
+            plan,
+            limit,
+            spare,
+            code,
+            risks: None,
+        } => {
+            let (limit, spare) = (*limit, *spare);
+            let asked = Asked::of(plan, Limits { limit, spare }, code);
+            Ok(Done::Paged(page_job(alloc, first, asked, out)?))
+        }
         Command::Grade { .. } => Ok(Done::Graded(grade_job(alloc, first, out)?)),
         Command::Trace { exchange, code, .. } => {
             trace_job(alloc, first, exchange.as_bytes(), code.as_bytes(), out)?;
@@ -158,6 +171,17 @@ fn do_texts<A: Allocator + Copy, P: Source, Q: Source, R: Source, W: Sink>(
         }
         Command::Survive { risks: Some(_), .. } => {
             Ok(Done::Survived(survive_risks_job(alloc, first, second, out)?))
+        }
+        Command::Page {
+            plan,
+            limit,
+            spare,
+            code,
+            ..
+        } => {
+            let (limit, spare) = (*limit, *spare);
+            let asked = Asked::of(plan, Limits { limit, spare }, code);
+            Ok(Done::Paged(page_risks_job(alloc, first, second, asked, out)?))
         }
         _ => unreachable!(),
     }
