@@ -1,10 +1,12 @@
 #!/usr/bin/env python3
 """Looks at pages of `telexplan page` as a browser shows them, with Debian's chromium.
 
-    tools/page.py PAGE..                  # refuses what is wrong with a page; the exit status is 1 if there is anything
+    tools/page.py PAGE..                      # refuses what is wrong with a page; the exit status is 1 if there is anything
+    tools/page.py --program PROGRAM PAGE..    # and so with pages of the examples and of networks of 60 and of 256 exchanges, as the program writes them
     tools/page.py --pictures FOLDER PAGE..    # makes a picture of each page in the folder too
 
-Of each page: its elements are closed in their order, its headings go down one step at a time, its tables have heads, nothing is fetched, and nothing is on the console.
+Of each page: its elements are closed in their order, its headings go down one step at a time, its tables have heads, its links lead to what is there, nothing is fetched,
+and nothing is on the console.
 In its pictures no box is over another, no arrow runs through a box, and where the columns are ranks no arrow goes to the left. Its colours have the contrast of
 WCAG 2, level AA, in the light and in the dark scheme."""
 import html.parser
@@ -18,6 +20,7 @@ import tempfile
 
 VOID = {"meta", "br", "link", "hr", "img", "input"}
 CHROMIUM = shutil.which("chromium")
+TOP = pathlib.Path(__file__).resolve().parent.parent
 
 # What is written on what, with the least contrast: 4.5 for text, 3 for lines and boxes.
 CONTRASTS = [(a, b, 4.5) for a in ("ink", "soft", "bad", "first", "second") for b in ("paper", "panel")]
@@ -68,7 +71,7 @@ class Elements(html.parser.HTMLParser):
 
     def __init__(self):
         super().__init__()
-        self.open, self.faults, self.heading, self.ids = [], [], 0, set()
+        self.open, self.faults, self.heading, self.ids, self.links = [], [], 0, set(), set()
         self.heads = []
 
     def handle_starttag(self, tag, attributes):
@@ -78,6 +81,8 @@ class Elements(html.parser.HTMLParser):
         for name in {"src", "href", "xlink:href", "style"} & attributes.keys():
             if name != "href" or not attributes[name].startswith("#"):
                 self.faults.append(f"<{tag} {name}={attributes[name]!r}>")
+        if "href" in attributes:
+            self.links.add(attributes["href"][1:])
         if "id" in attributes:
             if attributes["id"] in self.ids:
                 self.faults.append(f"the id {attributes['id']} twice")
@@ -122,19 +127,29 @@ def contrast_faults(page):
                 yield f"{scheme}: the contrast of {a} on {b} is {contrast:.2f}, and not {least}"
 
 
+def requests(log):
+    """The addresses for which a page asks, by the browser's log of the network. What the browser asks for itself has no origin."""
+    for event in json.loads(log.read_text())["events"]:
+        it = event.get("params", {})
+        if it.get("initiator", "not an origin") != "not an origin":
+            yield it["url"]
+
+
 def chromium(*words):
     with tempfile.TemporaryDirectory() as home:
         done = subprocess.run(
-            [CHROMIUM, "--headless", "--no-sandbox", "--disable-gpu", "--hide-scrollbars", "--force-device-scale-factor=1", f"--user-data-dir={home}",
+            [CHROMIUM, "--headless", "--no-sandbox", "--disable-gpu", "--hide-scrollbars", "--disable-background-networking", "--force-device-scale-factor=1", f"--user-data-dir={home}",
              "--enable-logging=stderr", "--window-size=1150,1800", *words], capture_output=True, text=True, timeout=300)
     return done.stdout, [it for it in done.stderr.splitlines() if "CONSOLE" in it]
 
 
 def browser_faults(page, folder):
     """What the browser finds."""
-    _, console = chromium("--dump-dom", page.resolve().as_uri())
+    log = folder / "network.json"
+    _, console = chromium("--dump-dom", f"--log-net-log={log}", page.resolve().as_uri())
+    yield from (f"it asks for {it}" for it in sorted(set(requests(log))))
     yield from (f"on the console: {it}" for it in console)
-    measured = folder / page.name
+    measured = folder / f"measured-{page.name}"
     measured.write_text(page.read_text().replace("</body>", MEASURE + "</body>"))
     shown, _ = chromium("--dump-dom", "--virtual-time-budget=60000", measured.as_uri())
     found = re.search(r'<pre id="measured">(.*?)</pre>', shown, re.S)
@@ -152,29 +167,54 @@ def faults_of(page, folder):
     elements.feed(text)
     yield from elements.faults
     yield from (f"<{it}> is not closed" for it in elements.open)
+    yield from (f"a link leads to {it}, which is not there" for it in sorted(elements.links - elements.ids))
     yield from (f"it fetches: {it}" for it in re.findall(r"@import[^;]*|url\([^#)][^)]*\)|https?:[^\"' ]*", text))
     yield from contrast_faults(text)
     yield from browser_faults(page, folder)
 
 
+def network(layers, codes):
+    """The plan of a network of the benchmark."""
+    sys.path.insert(0, str(TOP / "bench"))
+    from inputs import Network
+    made = Network(7, layers, codes, codes, layers * 64, 7)
+    return "\n".join(made.plan()) + "\n"
+
+
+def pages_made(program, folder):
+    """Pages of the examples and of two networks, as a program writes them."""
+    asked = [("national", "--limit 2 --spare 1 --risks examples/national.risks"), ("national-loop", "--limit 2 --spare 1"), ("national-short", "--limit 2 --spare 1"),
+             ("national-long", "--limit 2 --spare 1"), ("national-ambiguous", "--limit 2 --spare 1"), ("gateway-loop", "--limit 1 --spare 0")]
+    plans = [(name, f"examples/{name}.plan", options) for name, options in asked]
+    for name, layers, codes in (("exchanges-60", 15, 12), ("exchanges-256", 64, 4)):
+        (folder / f"{name}.plan").write_text(network(layers, codes))
+        plans.append((name, folder / f"{name}.plan", "--limit 40 --spare 3"))
+    for name, plan, options in plans:
+        page = folder / f"{name}.html"
+        page.write_bytes(subprocess.run([pathlib.Path(program).resolve(), "page", plan, *options.split()], cwd=TOP, capture_output=True).stdout)
+        yield page
+
+
 def main(words):
-    pictures = None
-    if words[:1] == ["--pictures"]:
-        pictures, words = pathlib.Path(words[1]), words[2:]
-    if not words:
+    options = {}
+    while words[:1] and words[0] in ("--pictures", "--program"):
+        options[words[0]], words = words[1], words[2:]
+    if not words and "--program" not in options:
         sys.exit(__doc__)
     if CHROMIUM is None:
         print("tools/page.py: chromium is not here, so no page was looked at")
         return 0
-    wrong = 0
+    wrong = count = 0
     with tempfile.TemporaryDirectory() as folder:
-        for page in map(pathlib.Path, words):
+        made = pages_made(options["--program"], pathlib.Path(folder)) if "--program" in options else []
+        for page in [*map(pathlib.Path, words), *made]:
+            count += 1
             for fault in faults_of(page, pathlib.Path(folder)):
                 wrong += 1
                 print(f"{page.name}: {fault}")
-            if pictures:
-                chromium(f"--screenshot={pictures.resolve() / (page.stem + '.png')}", page.resolve().as_uri())
-    print(f"{len(words)} pages, {wrong} faults")
+            if "--pictures" in options:
+                chromium(f"--screenshot={pathlib.Path(options['--pictures']).resolve() / (page.stem + '.png')}", page.resolve().as_uri())
+    print(f"{count} pages, {wrong} faults")
     return 1 if wrong else 0
 
 

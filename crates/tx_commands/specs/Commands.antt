@@ -10,7 +10,7 @@ use Rattle.tx_text.specs.Words.{number_of}
 use Rattle.tx_explain.specs.Entries.{is_known}
 use Rattle.tx_commands.specs.Grammar.{program_words}
 use Rattle.tx_commands.specs.declared.command.Command.{Command}
-use Rattle.tx_commands.specs.declared.command.Command.TheVariants.{Pipe, Run, RunTelling, Check, Lint, Codes, Audit, Change, Order, Mend, Survive, Grade, Trace, TraceGroup, Fill, Draw, Explain}
+use Rattle.tx_commands.specs.declared.command.Command.TheVariants.{Pipe, Run, RunTelling, Check, Lint, Codes, Audit, Change, Order, Mend, Survive, Page, Grade, Trace, TraceGroup, Fill, Draw, Explain}
 
 -- a limit is at most 62, and a spare number at most 15
 abbrev pub IsInRange : Command → Type 0
@@ -19,6 +19,7 @@ IsInRange (Audit plan limit spare cert counter) = (limit ≤ 62) × (spare ≤ 1
 IsInRange (Change old new limit spare cert mixture counter) = (limit ≤ 62) × (spare ≤ 15)
 IsInRange (Order old new limit spare stage plan cert) = (limit ≤ 62) × (spare ≤ 15)
 IsInRange (Mend plan limit spare mended cert) = (limit ≤ 62) × (spare ≤ 15)
+IsInRange (Page plan limit spare risks code) = (limit ≤ 62) × (spare ≤ 15)
 IsInRange (Check plan cert limit spare) = (limit ≤ 62) × (spare ≤ 15)
 IsInRange (Draw plan (Some (code, Some (limit, spare)))) = (limit ≤ 62) × (spare ≤ 15)
 IsInRange other = Unit {0}
@@ -37,6 +38,7 @@ IsInRange-prop (Change old new limit spare cert mixture counter) = ×_prop le_pr
 IsInRange-prop (Order old new limit spare stage plan cert) = ×_prop le_prop le_prop
 IsInRange-prop (Mend plan limit spare mended cert) = ×_prop le_prop le_prop
 IsInRange-prop (Survive plan risks totals) = Unit-prop
+IsInRange-prop (Page plan limit spare risks code) = ×_prop le_prop le_prop
 IsInRange-prop (Grade plan) = Unit-prop
 IsInRange-prop (Trace plan exchange code down) = Unit-prop
 IsInRange-prop (TraceGroup plan group) = Unit-prop
@@ -135,6 +137,11 @@ Asks name found (Survive plan (Some (risks, only)) totals) =
     (name ≡ codes "survive") × Names found (codes "plan") plan
     × Names found (codes "risks") risks × (is_set found (codes "risks-only") ≡ only)
     × (is_set found (codes "totals") ≡ totals)
+Asks name found (Page plan limit spare risks code) =
+    (name ≡ codes "page") × Names found (codes "plan") plan
+    × Gives found (codes "limit") limit × Gives found (codes "spare") spare
+    × (first_of (codes "risks") found ≡ option_map string_bytes risks)
+    × (first_of (codes "code") found ≡ option_map string_bytes code)
 Asks name found (Grade plan) = (name ≡ codes "grade") × Names found (codes "plan") plan
 Asks name found (Trace plan exchange code down) =
     (name ≡ codes "trace") × Names found (codes "plan") plan
@@ -224,6 +231,9 @@ reads_of (Order old new limit spare stage plan cert) =
 reads_of (Mend plan limit spare mended cert) = one_read (string_bytes plan)
 reads_of (Survive plan None totals) = one_read (string_bytes plan)
 reads_of (Survive plan (Some (risks, only)) totals) =
+    two_read (string_bytes plan) (string_bytes risks)
+reads_of (Page plan limit spare None code) = one_read (string_bytes plan)
+reads_of (Page plan limit spare (Some risks) code) =
     two_read (string_bytes plan) (string_bytes risks)
 reads_of (Grade plan) = one_read (string_bytes plan)
 reads_of (Trace plan exchange code down) = one_read (string_bytes plan)

@@ -354,6 +354,26 @@ fn draw_of(alloc: Global, plan: String, matches: &ArgMatches<'_>) -> Result<Comm
     Ok(Command::Draw { plan, routes })
 }
 
+/// The words of `page` after the plan.
+fn page_of(alloc: Global, plan: String, matches: &ArgMatches<'_>) -> Result<Command, Misuse>
+    requires { Names (rows_of (found_of matches.now)) (codes "plan") plan }
+    ensures range { IfOk result IsInRange }
+    ensures asked { IfOk result (Asks (codes "page") (rows_of (found_of matches.now))) }
+    ensures refused { IfErr result
+        (IsRefused (Some (codes "page", rows_of (found_of matches.now)))) }
+{
+    let risks = text(alloc, matches, "risks")?;
+    let code = text(alloc, matches, "code")?;
+    let (limit, spare) = limits(alloc, matches)?;
+    Ok(Command::Page {
+        plan,
+        limit,
+        spare,
+        risks,
+        code,
+    })
+}
+
 /// The words of `explain`, with a blank between two. A line without any code, name or word of the
 /// table is refused.
 pub(crate) fn explain_of(alloc: Global, matches: &ArgMatches<'_>) -> Result<Command, Misuse>
@@ -392,6 +412,7 @@ pub(crate) fn plan_command(
         "audit" => audit_of(alloc, plan, matches),
         "grade" => Ok(Command::Grade { plan }),
         "survive" => survive_of(alloc, plan, matches),
+        "page" => page_of(alloc, plan, matches),
         "trace" => trace_of(alloc, plan, matches),
         "fill" => fill_of(alloc, plan, matches),
         "draw" => draw_of(alloc, plan, matches),

@@ -86,6 +86,15 @@ pub enum Command {
         risks: Option<(String, bool)>,
         totals: bool,
     },
+    /// `page PLAN --limit L --spare K`: a page about the plan, with the named risks of a file, if
+    /// one is named, and with the lists of one code alone, if its figures are given.
+    Page {
+        plan: String,
+        limit: u8,
+        spare: u8,
+        risks: Option<String>,
+        code: Option<String>,
+    },
     /// `grade PLAN`: with which limits and spare numbers the plan is safe.
     Grade {
         plan: String,
@@ -219,9 +228,19 @@ fn reads_of(command: &Command) -> [Option<&str>; 3]
             plan,
             risks: Some((risks, _)),
             ..
+        }
+        | Command::Page {
+            plan,
+            risks: Some(risks),
+            ..
         } => two(plan, risks),
         Command::Lint { plan, risks: None }
         | Command::Survive {
+            plan,
+            risks: None,
+            ..
+        }
+        | Command::Page {
             plan,
             risks: None,
             ..

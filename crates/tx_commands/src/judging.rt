@@ -212,6 +212,35 @@ ones",
     .command
 }
 
+const PAGE_HELP: &str = "The page is one file, which needs no other and fetches nothing. It has the
+verdict, what is wrong, the grade, outages, the lists of each code as a picture,
+and the network.
+
+Example: telexplan page own.plan --limit 1 --spare 1 --risks cables > own.html
+
+Exit status: 0 after YES, 1 after NO, 2 for a refused text, 3 for a failed read
+or write, 4 when out of memory, 64 for refused words, and for a code that the
+plan does not have";
+
+fn page_grammar<'a>(alloc: Global) -> Result<clap::Command<'a>, AllocError>
+    ensures { IfOk result (λ c. app_of c ≡ grammar.page_words) }
+{
+    Syntax::over_plan(
+        alloc,
+        "page",
+        "Write a page of HTML about a plan, for those who decide on it",
+        PAGE_HELP,
+    )
+    .limits(true)
+    .option("risks", "RISKS", RISKS)
+    .option(
+        "code",
+        "CODE",
+        "Show the lists of this code alone, by its figures",
+    )
+    .command
+}
+
 const CHECK_HELP: &str = "Example: telexplan check own.plan own.cert --limit 1 --spare 1
 
 Exit status: 0 after YES, 1 after NO, 2 for a refused text, 3 for a failed read
@@ -251,10 +280,11 @@ pub(crate) fn judging_grammar<'a>(alloc: Global) -> Result<clap::Command<'a>, Al
         with_command(program, change_grammar(alloc)),
         order_grammar(alloc),
     );
-    with_command(
+    let program = with_command(
         with_command(program, survive_grammar(alloc)),
-        check_grammar(alloc),
-    )
+        page_grammar(alloc),
+    );
+    with_command(program, check_grammar(alloc))
 }
 
 /// One of these commands alone.
@@ -270,6 +300,7 @@ pub(crate) fn judging_command<'a>(
         "change" => change_grammar(alloc),
         "order" => order_grammar(alloc),
         "survive" => survive_grammar(alloc),
+        "page" => page_grammar(alloc),
         _ => check_grammar(alloc),
     }
 }

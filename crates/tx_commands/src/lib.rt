@@ -13,4 +13,5 @@ mod reading;
 
 pub use command::{Command, Files, STANDARD_INPUT};
 pub use fault::WordsFault;
+pub use grammar::VERSION;
 pub use reading::read_command;

@@ -46,6 +46,8 @@ pub enum Done<A: Allocator = Global> {
     Survived(Survival<A>),
     /// Calls were set up one after another.
     Filled(Fill<A>),
+    /// A page was written: whether a certificate was found.
+    Paged(bool),
     /// A trace, a picture or an explanation was written.
     Written,
 }
@@ -79,6 +81,7 @@ impl<A: Allocator> Done<A> {
             | Done::Mended(Mending::NoRouting(_, _, _))
             | Done::Survived(Survival::Ungraded(_)) => 1,
             Done::Told(strict, summary) => u8::from(*strict && summary.refused != 0),
+            Done::Paged(safe) => u8::from(!*safe),
             Done::Graded(grade) => u8::from(grade.plan.is_none()),
             Done::Survived(Survival::Tried(outcomes)) => {
                 u8::from(outcomes.iter().any(|outcome| !outcome.cuts.is_empty()))
@@ -131,6 +134,7 @@ impl<A: Allocator> Done<A> {
             | Done::Graded(_)
             | Done::Survived(_)
             | Done::Filled(_)
+            | Done::Paged(_)
             | Done::Written => [None, None, None],
         }
     }

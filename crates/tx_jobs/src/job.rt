@@ -20,6 +20,7 @@ use crate::job_fault::JobFault;
 use crate::lint::{lint_job, lint_risks_job};
 use crate::mend::mend_job;
 use crate::order::order_job;
+use crate::page::{Asked, page_job, page_risks_job};
 use crate::pipe::pipe_job;
 use crate::run::run_job;
 use crate::run_checked::run_checked_job;
@@ -63,7 +64,7 @@ pub fn do_job<A: Allocator + Copy, P: Source, Q: Source, R: Source, W: Sink>(
         | Command::Check { .. }
         | Command::Change { .. }
         | Command::Order { .. } => do_texts(alloc, command, first, second, third, out),
-        Command::Lint { .. } | Command::Survive { .. } => {
+        Command::Lint { .. } | Command::Survive { .. } | Command::Page { .. } => {
             do_risks(alloc, command, first, second, out)
         }
         Command::Trace { .. } | Command::TraceGroup { .. } | Command::Fill { .. } => {
@@ -196,6 +197,21 @@ fn do_risks<A: Allocator + Copy, P: Source, Q: Source, W: Sink>(
             totals,
             ..
         } => Ok(Done::Survived(survive_job(alloc, plan, *totals, out)?)),
+        Command::Page {
+            plan: file,
+            limit,
+            spare,
+            code,
+            risks: named,
+        } => {
+            let (limit, spare) = (*limit, *spare);
+            let asked = Asked::of(file, Limits { limit, spare }, code);
+            let safe = match named {
+                Some(_) => page_risks_job(alloc, plan, risks, asked, out)?,
+                None => page_job(alloc, plan, asked, out)?,
+            };
+            Ok(Done::Paged(safe))
+        }
         _ => unreachable!(),
     }
 }

@@ -28,7 +28,7 @@ pub use law::{
     keyed_since_get_through, none_on_failed, ranked_is_uncut, uncut_is_closed, uncut_is_served,
 };
 pub use outage::Outage;
-pub use outages::goes_with;
+pub use outages::{all_outcomes, goes_with};
 pub use risk_reader::{read_risks, read_risks_from};
 pub use risks::Risks;
 pub use surviving::{Survival, survive};
