@@ -232,9 +232,8 @@ reads_of (Mend plan limit spare mended cert) = one_read (string_bytes plan)
 reads_of (Survive plan None totals) = one_read (string_bytes plan)
 reads_of (Survive plan (Some (risks, only)) totals) =
     two_read (string_bytes plan) (string_bytes risks)
-reads_of (Page plan limit spare None code) = one_read (string_bytes plan)
-reads_of (Page plan limit spare (Some risks) code) =
-    two_read (string_bytes plan) (string_bytes risks)
+reads_of (Page plan limit spare risks code) =
+    Some (string_bytes plan) ∷ option_map string_bytes risks ∷ None ∷ []
 reads_of (Grade plan) = one_read (string_bytes plan)
 reads_of (Trace plan exchange code down) = one_read (string_bytes plan)
 reads_of (TraceGroup plan group) = one_read (string_bytes plan)

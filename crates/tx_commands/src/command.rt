@@ -228,19 +228,9 @@ fn reads_of(command: &Command) -> [Option<&str>; 3]
             plan,
             risks: Some((risks, _)),
             ..
-        }
-        | Command::Page {
-            plan,
-            risks: Some(risks),
-            ..
         } => two(plan, risks),
         Command::Lint { plan, risks: None }
         | Command::Survive {
-            plan,
-            risks: None,
-            ..
-        }
-        | Command::Page {
             plan,
             risks: None,
             ..
@@ -253,6 +243,7 @@ fn reads_of(command: &Command) -> [Option<&str>; 3]
         | Command::TraceGroup { plan, .. }
         | Command::Fill { plan, .. }
         | Command::Draw { plan, .. } => one(plan),
+        Command::Page { plan, risks, .. } => [Some(plan.as_str()), risks.as_deref(), None],
         Command::Explain { .. } => [None, None, None],
     }
 }

@@ -31,7 +31,7 @@ use Rattle.tx_jobs.specs.Jobs.{CodesJobAnswers, RunJobAnswers}
 use Rattle.tx_jobs.specs.LintJobs.{LintJobAnswers, LintRisksJobAnswers}
 use Rattle.tx_jobs.specs.MendJobs.{MendJobAnswers}
 use Rattle.tx_jobs.specs.OrderJobs.{OrderJobAnswers}
-use Rattle.tx_jobs.specs.PageJobs.{page_request, PageJobAnswers, PageRisksJobAnswers}
+use Rattle.tx_jobs.specs.PageJobs.{page_request, PageJobAnswers}
 use Rattle.tx_jobs.specs.PipeJobs.{PipeJobAnswers}
 use Rattle.tx_jobs.specs.SurviveJobs.{SurviveJobAnswers, SurviveRisksJobAnswers}
 use Rattle.tx_jobs.specs.TellingJobs.{TellingJobAnswers}
@@ -146,12 +146,9 @@ module _ {P : Type 0} (rest : P → Option (List ℕ)) (failed : P → Bool)
         Does Survived (SurviveJobAnswers totals first out) result × Alone
     IsDone (Survive plan (Some (risks, only)) totals) result =
         Does Survived (SurviveRisksJobAnswers only totals first second out) result × third.unread
-    IsDone (Page plan limit spare None code) result =
-        Does Paged (PageJobAnswers A (page_request (string_bytes plan) limit spare code) first out)
-        result × Alone
-    IsDone (Page plan limit spare (Some risks) code) result =
-        Does Paged (PageRisksJobAnswers A (page_request (string_bytes plan) limit spare code)
-        first second out) result × third.unread
+    IsDone (Page plan limit spare risks code) result = Does Paged (PageJobAnswers A
+        (page_request (string_bytes plan) limit spare code (is_some risks)) first second out)
+        result × third.unread
     IsDone (Grade plan) result = Does Graded (GradeJobAnswers first out) result × Alone
     IsDone (Trace plan exchange code down) result =
         Does written (TraceJobAnswers (string_bytes exchange) (string_bytes code)

@@ -27,12 +27,13 @@ use Rattle.tx_jobs.specs.JobFaults.{plan_fault}
 use Rattle.tx_jobs.specs.SurviveJobs.{RisksRead, RisksRefused}
 
 -- what a page is asked for: the words for the file of the plan, the numbers, and the figures of the
--- code whose lists it shows, or none for those of all codes
+-- code whose lists it shows, or none for those of all codes; and whether there are named risks
 pub record Request : Type 0 where
   pub file : List ℕ
   pub limit : ℕ
   pub spare : ℕ
   pub code : Option (List ℕ)
+  pub has_risks : Bool
 
 -- as a function sees it
 abbrev pub request_of : Asked → Request
@@ -41,16 +42,18 @@ request_of a = record {
   limit = a.limits.limit;
   spare = a.limits.spare;
   code = option_map (λ f. f.now) a.code;
+  has_risks = a.has_risks;
 }
 
 -- what the words of `page` ask for
 abbrev pub page_request : {Z : Type 0} → (file : List ℕ) → (limit spare : ℕ)
-    → Option (String Z) → Request
-page_request file limit spare code = record {
+    → Option (String Z) → (has_risks : Bool) → Request
+page_request file limit spare code has_risks = record {
   file = file;
   limit = limit;
   spare = spare;
   code = option_map string_bytes code;
+  has_risks = has_risks;
 }
 
 -- the codes of which a page has the lists: the one that is asked for, or all
@@ -146,23 +149,25 @@ abbrev pub TextNotRead : Input → (untouched : Type 0) → Result Bool JobFault
 TextNotRead plan untouched result =
     ((result ≡ Err Read) × plan.broken × untouched) ⊎ ((result ≡ Err NoMemory) × untouched)
 
--- `page PLAN --limit L --spare K`: there are no named risks
-abbrev pub PageJobAnswers : (A : Type 0) → Request → Input → Output → Result Bool JobFault → Type 0
-PageJobAnswers A asked plan out result =
-    TextSays plan (λ text p. PagedFor A asked text p [] out result)
-    ⊎ (TextRefused plan out.silent result ⊎ TextNotRead plan out.silent result)
-
--- the text of risks was read and the page written, or that text was refused
-abbrev pub RisksPaged : (A : Type 0) → Request → (text : List ℕ) → Plan → Input → Output
-    → Result Bool JobFault → Type 0
-RisksPaged A asked text p risks out result =
+-- the named risks are read, if they are asked for, and the page written; or they are refused
+abbrev pub PagedByRisks : (A : Type 0) → (has_risks : Bool) → Request → (text : List ℕ) → Plan
+    → Input → Output → Result Bool JobFault → Type 0
+PagedByRisks A true asked text p risks out result =
     RisksRead p risks (λ rs. PagedFor A asked text p rs out result)
     ⊎ RisksRefused p risks out.silent result
+PagedByRisks A false asked text p risks out result =
+    PagedFor A asked text p [] out result × risks.unread
 
--- `page PLAN --limit L --spare K --risks FILE`
-abbrev pub PageRisksJobAnswers : (A : Type 0) → Request → (plan risks : Input) → Output
+-- by what is asked for
+abbrev pub PagedWithRisks : (A : Type 0) → Request → (text : List ℕ) → Plan → Input → Output
     → Result Bool JobFault → Type 0
-PageRisksJobAnswers A asked plan risks out result =
-    TextSays plan (λ text p. RisksPaged A asked text p risks out result)
+PagedWithRisks A asked text p risks out result =
+    PagedByRisks A asked.has_risks asked text p risks out result
+
+-- `page PLAN --limit L --spare K`
+abbrev pub PageJobAnswers : (A : Type 0) → Request → (plan risks : Input) → Output
+    → Result Bool JobFault → Type 0
+PageJobAnswers A asked plan risks out result =
+    TextSays plan (λ text p. PagedWithRisks A asked text p risks out result)
     ⊎ (TextRefused plan (risks.unread × out.silent) result
     ⊎ TextNotRead plan (risks.unread × out.silent) result)

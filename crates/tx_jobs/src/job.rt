@@ -20,7 +20,7 @@ use crate::job_fault::JobFault;
 use crate::lint::{lint_job, lint_risks_job};
 use crate::mend::mend_job;
 use crate::order::order_job;
-use crate::page::{Asked, page_job, page_risks_job};
+use crate::page::{Asked, page_job};
 use crate::pipe::pipe_job;
 use crate::run::run_job;
 use crate::run_checked::run_checked_job;
@@ -205,12 +205,8 @@ fn do_risks<A: Allocator + Copy, P: Source, Q: Source, W: Sink>(
             risks: named,
         } => {
             let (limit, spare) = (*limit, *spare);
-            let asked = Asked::of(file, Limits { limit, spare }, code);
-            let safe = match named {
-                Some(_) => page_risks_job(alloc, plan, risks, asked, out)?,
-                None => page_job(alloc, plan, asked, out)?,
-            };
-            Ok(Done::Paged(safe))
+            let asked = Asked::of(file, Limits { limit, spare }, code, named.is_some());
+            Ok(Done::Paged(page_job(alloc, plan, risks, asked, out)?))
         }
         _ => unreachable!(),
     }

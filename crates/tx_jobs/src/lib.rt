@@ -53,7 +53,7 @@ pub use lint::{lint_job, lint_risks_job};
 pub use mend::mend_job;
 pub use mixture::{ChangeEvidence, Mixture};
 pub use order::order_job;
-pub use page::{Asked, page_job, page_risks_job};
+pub use page::{Asked, page_job};
 pub use pipe::pipe_job;
 pub use run::run_job;
 pub use run_checked::run_checked_job;

@@ -1,4 +1,4 @@
-// The jobs of `page PLAN --limit L --spare K` and of the same with `--risks FILE`.
+// The job of `page PLAN --limit L --spare K`.
 ghost use Rattle.std.specs.Prelude.{◌≡◌, ◌<◌, ℕ, List, length, map, false, IfOk, IfSome};
 ghost use Rattle.tx_text.specs.Calls.{CallsAtMost, source_calls};
 ghost use Rattle.tx_text.specs.Ends.{input, output};
@@ -7,7 +7,7 @@ ghost use Rattle.tx_cert.specs.Certificate.{ranks_of};
 ghost use Rattle.tx_risk.specs.NamedRisks.{AreRisksFor};
 ghost use Rattle.tx_risk.specs.Outages.{AreOutcomes};
 ghost use Rattle.tx_jobs.specs.JobFaults.{mark_after};
-ghost use Rattle.tx_jobs.specs.PageJobs.{PageJobAnswers, PageRisksJobAnswers, RisksPaged, PagedFor, ToldPage, IsFound, request_of, shown_codes};
+ghost use Rattle.tx_jobs.specs.PageJobs.{PageJobAnswers, PagedWithRisks, PagedFor, ToldPage, IsFound, request_of, shown_codes};
 
 use crate::job_fault::JobFault;
 use sha2::{Digest, Sha256};
@@ -31,59 +31,45 @@ pub struct Asked<'a> {
     pub limits: Limits,
     /// The figures of the code whose lists it shows; none for those of all codes.
     pub code: Option<&'a [u8]>,
+    /// Whether there is a text of named risks.
+    pub has_risks: bool,
 }
 
 impl<'a> Asked<'a> {
     ghost use Rattle.tx_jobs.specs.PageJobs.{page_request, request_of};
 
     /// What the words of the command ask for.
-    pub(crate) fn of(file: &'a str, limits: Limits, code: &'a Option<String>) -> Asked<'a>
+    pub(crate) fn of(
+        file: &'a str,
+        limits: Limits,
+        code: &'a Option<String>,
+        has_risks: bool,
+    ) -> Asked<'a>
         ensures { request_of result
-            ≡ page_request file.now limits.limit limits.spare code.now }
+            ≡ page_request file.now limits.limit limits.spare code.now has_risks }
     {
         Asked {
             file: file.as_bytes(),
             limits,
             code: code.as_deref().map(|figures| figures.as_bytes()),
+            has_risks,
         }
     }
 }
 
-/// Reads a plan's text to its end, and writes a page about its plan. Answers whether a certificate
-/// was found.
+/// Reads a plan's text to its end and then, if they are asked for, its named risks, and writes a page
+/// about the plan. Answers whether a certificate was found.
 ///
-/// Nothing is written where the plan is refused or has no such code, or where memory runs out.
-pub fn page_job<A: Allocator + Copy, P: Source, W: Sink>(
-    alloc: A,
-    plan: &mut P,
-    asked: Asked<'_>,
-    out: &mut W,
-) -> Result<bool, JobFault>
-    ensures answers { PageJobAnswers A (request_of asked.entry)
-        (input P.rest P.failed P.called plan.old plan.new) (output W.taken out.old out.new) result }
-    ensures mark { W.failed out.new ≡ mark_after (W.failed out.old) result }
-    ensures calls { CallsAtMost P.called source_calls plan.old plan.new }
-{
-    let text = read_text(alloc, plan)?;
-    let plan = read_plan(alloc, &text)?;
-    plan.rules();
-    let risks = Risks::none(alloc);
-    page_of(alloc, asked, &text, &plan, &risks, out)
-}
-
-/// Reads a plan's text to its end and then a text of named risks, and writes a page about its plan
-/// and these risks. Answers whether a certificate was found.
-///
-/// Nothing is written where one of the texts is refused or the plan has no such code, or where
-/// memory runs out.
-pub fn page_risks_job<A: Allocator + Copy, P: Source, R: Source, W: Sink>(
+/// Nothing is written where a text is refused or the plan has no such code, or where memory runs
+/// out.
+pub fn page_job<A: Allocator + Copy, P: Source, R: Source, W: Sink>(
     alloc: A,
     plan: &mut P,
     risks: &mut R,
     asked: Asked<'_>,
     out: &mut W,
 ) -> Result<bool, JobFault>
-    ensures answers { PageRisksJobAnswers A (request_of asked.entry)
+    ensures answers { PageJobAnswers A (request_of asked.entry)
         (input P.rest P.failed P.called plan.old plan.new)
         (input R.rest R.failed R.called risks.old risks.new)
         (output W.taken out.old out.new) result }
@@ -97,7 +83,7 @@ pub fn page_risks_job<A: Allocator + Copy, P: Source, R: Source, W: Sink>(
     page_with(alloc, asked, &text, &plan, risks, out)
 }
 
-/// Reads the named risks of a plan, and writes the page.
+/// Reads the named risks of a plan, if they are asked for, and writes the page.
 fn page_with<A: Allocator + Copy, R: Source, W: Sink>(
     alloc: A,
     asked: Asked<'_>,
@@ -106,14 +92,18 @@ fn page_with<A: Allocator + Copy, R: Source, W: Sink>(
     risks: &mut R,
     out: &mut W,
 ) -> Result<bool, JobFault>
-    ensures answers { RisksPaged A (request_of asked.entry) text.now plan.now
+    ensures answers { PagedWithRisks A (request_of asked.entry) text.now plan.now
         (input R.rest R.failed R.called risks.old risks.new)
         (output W.taken out.old out.new) result }
     ensures mark { W.failed out.new ≡ mark_after (W.failed out.old) result }
     ensures calls { CallsAtMost R.called source_calls risks.old risks.new }
 {
-    let risks = read_risks_from(alloc, risks, plan)?;
-    page_of(alloc, asked, text, plan, &risks, out)
+    if asked.has_risks {
+        let risks = read_risks_from(alloc, risks, plan)?;
+        page_of(alloc, asked, text, plan, &risks, out)
+    } else {
+        page_of(alloc, asked, text, plan, &Risks::none(alloc), out)
+    }
 }
 
 /// Writes the page, if the plan has the code that is asked for.
@@ -212,16 +202,37 @@ fn found_of<A: Allocator + Copy>(
     ensures { IfOk result (IsFound plan.now limits.limit limits.spare risks.now
         (shown_codes plan.now code)) }
 {
-    let ranking = judge(alloc, plan, limits)?;
     let grade = grade(alloc, plan)?;
-    let outcomes = outcomes_of(alloc, plan, &grade, risks)?;
-    let pictures = pictures_of(alloc, plan, &grade, code)?;
+    let (outcomes, pictures) = shown_of(alloc, plan, &grade, risks, code)?;
+    let ranking = judge(alloc, plan, limits)?;
     Ok(Found {
         ranking,
         grade,
         outcomes,
         pictures,
     })
+}
+
+/// What outages cut off, and the picture of a code or of all codes.
+fn shown_of<A: Allocator + Copy>(
+    alloc: A,
+    plan: &Plan<A>,
+    grade: &Grade<A>,
+    risks: &Risks<A>,
+    code: Option<CodeId>,
+) -> Result<(Vec<Outcome<A>, A>, Vec<Picture<A>, A>), NoMemory>
+    requires code { IfSome code (λ c. c < length plan.now.codes) }
+    requires ranks { IfSome grade.now.plan (λ b.
+        IsCertified plan.now (ranks_of grade.now.ranks) b.limit b.spare) }
+    requires risks { AreRisksFor plan.now risks.now }
+    ensures outcomes { IfOk result (λ shown. IfSome grade.now.plan (λ _.
+        AreOutcomes plan.now risks.now false shown.0.items)) }
+    ensures pictures { IfOk result (λ shown.
+        map (λ q. q.code) shown.1.items ≡ shown_codes plan.now code) }
+{
+    let outcomes = outcomes_of(alloc, plan, grade, risks)?;
+    let pictures = pictures_of(alloc, plan, grade, code)?;
+    Ok((outcomes, pictures))
 }
 
 /// What outages cut off of a plan that has a grade; nothing of one that has none.
