@@ -8,6 +8,7 @@ ghost use Rattle.tx_commands.specs.inner.Refused.{IsRefused};
 use crate::arguments::MOST_STAGES;
 use crate::command::Command;
 use crate::misuse::Misuse;
+use crate::page_words::page_of;
 use clap::ArgMatches;
 use std::alloc::{AllocError, Global};
 use tx_explain::is_known;
@@ -78,7 +79,7 @@ fn number_of(
 }
 
 /// The limit and the spare number.
-fn limits(alloc: Global, matches: &ArgMatches<'_>) -> Result<(u8, u8), Misuse>
+pub(crate) fn limits(alloc: Global, matches: &ArgMatches<'_>) -> Result<(u8, u8), Misuse>
     ensures range { IfOk result (λ b. (b.0 ≤ 62) × (b.1 ≤ 15)) }
     ensures given { IfOk result (λ b.
         Gives (rows_of (found_of matches.now)) (codes "limit") b.0
@@ -352,26 +353,6 @@ fn draw_of(alloc: Global, plan: String, matches: &ArgMatches<'_>) -> Result<Comm
         _ => return Err(Misuse::DrawTogether),
     };
     Ok(Command::Draw { plan, routes })
-}
-
-/// The words of `page` after the plan.
-fn page_of(alloc: Global, plan: String, matches: &ArgMatches<'_>) -> Result<Command, Misuse>
-    requires { Names (rows_of (found_of matches.now)) (codes "plan") plan }
-    ensures range { IfOk result IsInRange }
-    ensures asked { IfOk result (Asks (codes "page") (rows_of (found_of matches.now))) }
-    ensures refused { IfErr result
-        (IsRefused (Some (codes "page", rows_of (found_of matches.now)))) }
-{
-    let risks = text(alloc, matches, "risks")?;
-    let code = text(alloc, matches, "code")?;
-    let (limit, spare) = limits(alloc, matches)?;
-    Ok(Command::Page {
-        plan,
-        limit,
-        spare,
-        risks,
-        code,
-    })
 }
 
 /// The words of `explain`, with a blank between two. A line without any code, name or word of the

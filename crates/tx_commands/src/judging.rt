@@ -6,10 +6,11 @@ ghost use Rattle.tx_commands.specs.Grammar as grammar;
 
 use crate::arguments::{PLAN, Syntax};
 use crate::grammar::{top_grammar, with_command};
+use crate::page_words::page_grammar;
 use std::alloc::{AllocError, Global};
 
 /// What the help says of the named risks.
-const RISKS: &str = "The named risks, such as cables: lines RISK name
+pub(crate) const RISKS: &str = "The named risks, such as cables: lines RISK name
 group .., between RISKS 1 and END; - is standard input";
 
 const LINT_HELP: &str = "Example: telexplan lint own.plan --risks cables
@@ -208,35 +209,6 @@ fn survive_grammar<'a>(alloc: Global) -> Result<clap::Command<'a>, AllocError>
         "totals",
         "Print how many starts each outage cuts off, and not which
 ones",
-    )
-    .command
-}
-
-const PAGE_HELP: &str = "The page is one file, which needs no other and fetches nothing. It has the
-verdict, what is wrong, the grade, outages, the lists of each code as a picture,
-and the network.
-
-Example: telexplan page own.plan --limit 1 --spare 1 --risks cables > own.html
-
-Exit status: 0 after YES, 1 after NO, 2 for a refused text, 3 for a failed read
-or write, 4 when out of memory, 64 for refused words, and for a code that the
-plan does not have";
-
-fn page_grammar<'a>(alloc: Global) -> Result<clap::Command<'a>, AllocError>
-    ensures { IfOk result (λ c. app_of c ≡ grammar.page_words) }
-{
-    Syntax::over_plan(
-        alloc,
-        "page",
-        "Write a page of HTML about a plan, for those who decide on it",
-        PAGE_HELP,
-    )
-    .limits(true)
-    .option("risks", "RISKS", RISKS)
-    .option(
-        "code",
-        "CODE",
-        "Show the lists of this code alone, by its figures",
     )
     .command
 }

@@ -9,6 +9,7 @@ mod files;
 mod grammar;
 mod judging;
 mod misuse;
+mod page_words;
 mod reading;
 
 pub use command::{Command, Files, STANDARD_INPUT};
