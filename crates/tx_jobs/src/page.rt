@@ -30,7 +30,7 @@ pub struct Asked<'a> {
     pub file: &'a [u8],
     pub limits: Limits,
     /// The figures of the code whose lists it shows; none for those of all codes.
-    pub code: Option<&'a [u8]>,
+    pub code: Option<&'a str>,
     /// Whether there is a text of named risks.
     pub has_risks: bool,
 }
@@ -51,7 +51,7 @@ impl<'a> Asked<'a> {
         Asked {
             file: file.as_bytes(),
             limits,
-            code: code.as_deref().map(|figures| figures.as_bytes()),
+            code: code.as_deref(),
             has_risks,
         }
     }
@@ -122,7 +122,7 @@ fn page_of<A: Allocator + Copy, W: Sink>(
 {
     match asked.code {
         None => tell_page(alloc, asked, None, text, plan, risks, out),
-        Some(figures) => match plan.code_named(figures) {
+        Some(figures) => match plan.code_named(figures.as_bytes()) {
             Some(code) => tell_page(alloc, asked, Some(code), text, plan, risks, out),
             None => Err(JobFault::NoSuchCode),
         },
