@@ -41,7 +41,7 @@ impl<A: Allocator> Order<A> {
 
     /// Both plans are certified, and each code has its stages, which are few. Does nothing: its
     /// callers' proofs name it.
-    pub(crate) fn rules(&self)
+    pub fn rules(&self)
         ensures kept { IsOrderKept self.now }
         ensures few { stages_in self.now ≤ 128 }
     {
@@ -63,14 +63,14 @@ impl<A: Allocator> Order<A> {
     }
 
     /// The new plan.
-    pub(crate) fn new_plan(&self) -> &Plan<A>
+    pub fn new_plan(&self) -> &Plan<A>
         ensures { result.now ≡ self.now.transition.new }
     {
         self.transition.new_plan()
     }
 
     /// How many stages there are.
-    pub(crate) fn stages(&self) -> usize
+    pub fn stages(&self) -> usize
         ensures { result ≡ stages_in self.now }
     {
         most(&self.ends)
@@ -89,7 +89,7 @@ impl<A: Allocator> Order<A> {
     }
 
     /// The list of an exchange for a code before a stage.
-    pub(crate) fn list(&self, stage: usize, exchange: ExchangeId, code: CodeId) -> &[GroupId]
+    pub fn list(&self, stage: usize, exchange: ExchangeId, code: CodeId) -> &[GroupId]
         ensures { result.now ≡ route_list (plan_before self.now stage) exchange code }
     {
         self.transition
@@ -97,7 +97,7 @@ impl<A: Allocator> Order<A> {
     }
 
     /// Whether the exchange is barred for the code before it.
-    pub(crate) fn is_barred(&self, stage: usize, exchange: ExchangeId, code: CodeId) -> bool
+    pub fn is_barred(&self, stage: usize, exchange: ExchangeId, code: CodeId) -> bool
         ensures { result ≡ is_barred (plan_before self.now stage) exchange code }
     {
         self.transition
