@@ -91,9 +91,10 @@ survive_words =
 -- the arguments of `page`
 abbrev pub page_words : App
 page_words =
-    with_rule (with_rule (with_rule (with_rule
+    with_rule (with_rule (with_rule (with_rule (with_rule (with_rule
     (plan_words (codes "page")) (needed limit)) (needed spare))
-    (option (codes "risks"))) (option (codes "code"))
+    (option (codes "risks"))) (option (codes "from"))) (option (codes "code")))
+    (option (codes "html"))
 
 -- a word that goes by position, and need not be given
 abbrev pub word : List ℕ → Rule

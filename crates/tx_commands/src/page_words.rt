@@ -14,10 +14,10 @@ use clap::ArgMatches;
 use std::alloc::{AllocError, Global};
 
 const PAGE_HELP: &str = "The page is one file, which needs no other and fetches nothing. It has the
-verdict, what is wrong, the grade, outages, the lists of each code as a picture,
-and the network.
+verdict, what is wrong, the stages of a change, the grade, outages, the lists of
+each code as a picture, and the network.
 
-Example: telexplan page own.plan --limit 1 --spare 1 --risks cables > own.html
+Example: telexplan page own.plan --limit 1 --spare 1 --html own.html
 
 Exit status: 0 after YES, 1 after NO, 2 for a refused text, 3 for a failed read
 or write, 4 when out of memory, 64 for refused words, and for a code that the
@@ -35,10 +35,17 @@ pub(crate) fn page_grammar<'a>(alloc: Global) -> Result<clap::Command<'a>, Alloc
     .limits(true)
     .option("risks", "RISKS", RISKS)
     .option(
+        "from",
+        "OLD",
+        "The plan that is in force: show in which stages its lists
+change into those of the plan; - is standard input",
+    )
+    .option(
         "code",
         "CODE",
         "Show the lists of this code alone, by its figures",
     )
+    .option("html", "OUT", "Write the page to this file")
     .command
 }
 
@@ -55,13 +62,17 @@ pub(crate) fn page_of(
         (IsRefused (Some (codes "page", rows_of (found_of matches.now)))) }
 {
     let risks = text(alloc, matches, "risks")?;
+    let old = text(alloc, matches, "from")?;
     let code = text(alloc, matches, "code")?;
+    let html = text(alloc, matches, "html")?;
     let (limit, spare) = limits(alloc, matches)?;
     Ok(Command::Page {
         plan,
         limit,
         spare,
         risks,
+        old,
         code,
+        html,
     })
 }

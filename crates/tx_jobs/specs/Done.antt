@@ -146,9 +146,9 @@ module _ {P : Type 0} (rest : P → Option (List ℕ)) (failed : P → Bool)
         Does Survived (SurviveJobAnswers totals first out) result × Alone
     IsDone (Survive plan (Some (risks, only)) totals) result =
         Does Survived (SurviveRisksJobAnswers only totals first second out) result × third.unread
-    IsDone (Page plan limit spare risks code) result = Does Paged (PageJobAnswers A
-        (page_request (string_bytes plan) limit spare code (is_some risks)) first second out)
-        result × third.unread
+    IsDone (Page plan limit spare risks old code html) result = Does Paged (PageJobAnswers A
+        (page_request (string_bytes plan) limit spare code (is_some risks) (is_some old))
+        first second third out) result
     IsDone (Grade plan) result = Does Graded (GradeJobAnswers first out) result × Alone
     IsDone (Trace plan exchange code down) result =
         Does written (TraceJobAnswers (string_bytes exchange) (string_bytes code)

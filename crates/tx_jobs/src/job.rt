@@ -64,7 +64,7 @@ pub fn do_job<A: Allocator + Copy, P: Source, Q: Source, R: Source, W: Sink>(
         | Command::Check { .. }
         | Command::Change { .. }
         | Command::Order { .. } => do_texts(alloc, command, first, second, third, out),
-        Command::Lint { .. } | Command::Survive { .. } | Command::Page { .. } => {
+        Command::Lint { .. } | Command::Survive { .. } => {
             do_risks(alloc, command, first, second, out)
         }
         Command::Trace { .. } | Command::TraceGroup { .. } | Command::Fill { .. } => {
@@ -79,6 +79,22 @@ pub fn do_job<A: Allocator + Copy, P: Source, Q: Source, R: Source, W: Sink>(
         Command::Mend { limit, spare, .. } => {
             let (limit, spare) = (*limit, *spare);
             Ok(Done::Mended(mend_job(alloc, first, Limits { limit, spare }, out)?))
+        }
+        Command::Page {
+            plan,
+            limit,
+            spare,
+            risks,
+            old,
+            code,
+            ..
+        } => {
+            let limits = Limits {
+                limit: *limit,
+                spare: *spare,
+            };
+            let asked = Asked::of(plan, limits, code, risks.is_some(), old.is_some());
+            Ok(Done::Paged(page_job(alloc, first, second, third, asked, out)?))
         }
         Command::Grade { .. } => Ok(Done::Graded(grade_job(alloc, first, out)?)),
         Command::Draw { routes, .. } => draw(alloc, routes, first, out),
@@ -197,17 +213,6 @@ fn do_risks<A: Allocator + Copy, P: Source, Q: Source, W: Sink>(
             totals,
             ..
         } => Ok(Done::Survived(survive_job(alloc, plan, *totals, out)?)),
-        Command::Page {
-            plan: file,
-            limit,
-            spare,
-            code,
-            risks: named,
-        } => {
-            let (limit, spare) = (*limit, *spare);
-            let asked = Asked::of(file, Limits { limit, spare }, code, named.is_some());
-            Ok(Done::Paged(page_job(alloc, plan, risks, asked, out)?))
-        }
         _ => unreachable!(),
     }
 }

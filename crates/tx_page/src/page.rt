@@ -1,7 +1,7 @@
 // A page.
 ghost use Rattle.std.specs.Prelude.{◌≡◌};
 ghost use Rattle.tx_html.specs.Shows.{Showed};
-ghost use Rattle.tx_page.specs.Page.{is_safe, page_texts};
+ghost use Rattle.tx_page.specs.Page.{is_safe, change_texts, page_texts};
 
 use crate::codes::write_codes;
 use crate::findings::write_wrong;
@@ -11,6 +11,9 @@ use crate::outages::write_outages;
 use crate::subject::Subject;
 use std::alloc::Allocator;
 use tx_html::{Part, set};
+use tx_order::Switching;
+use tx_order_page::write_order;
+use tx_plan::Plan;
 use tx_rank::{Finding, Ranking};
 use tx_svg::write_pictures;
 use tx_text::{Sink, WriteFault};
@@ -30,6 +33,21 @@ fn findings_in<A: Allocator>(ranking: &Ranking<A>) -> &[Finding<A>] {
     match ranking {
         Ranking::Found(_) => &[],
         Ranking::Fails(findings) => findings.as_slice(),
+    }
+}
+
+/// Writes the order of switching to a plan, if there is one.
+fn write_change<A: Allocator, W: Sink>(
+    plan: &Plan<A>,
+    switching: Option<&Switching<A>>,
+    sink: &mut W,
+) -> Result<(), WriteFault>
+    ensures { Showed W.taken W.failed sink.old sink.new
+        (change_texts plan.now switching.entry) result }
+{
+    match switching {
+        Some(switching) => write_order(plan, switching, sink),
+        None => Ok(()),
     }
 }
 
@@ -56,6 +74,7 @@ pub fn write_page<A: Allocator, W: Sink>(
         sink,
     )?;
     write_wrong(plan, subject.ranking, limits, sink)?;
+    write_change(plan, subject.switching, sink)?;
     write_codes(plan, subject.grade, linked, sink)?;
     write_outages(plan, subject.risks, subject.outcomes, graded, sink)?;
     write_pictures(plan, subject.pictures, findings, sink)?;

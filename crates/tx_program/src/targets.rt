@@ -10,11 +10,14 @@ use crate::stop::Stop;
 use std::alloc::Allocator;
 use tx_commands::Files;
 
+/// The index of a page among the files that a command makes.
+pub(crate) const PAGE: usize = 3;
+
 /// The files that a command makes, by their names, and the files that it reads.
 #[derive(Clone, Copy, Debug)]
 pub(crate) struct Targets<'n> {
     read: [Option<KnownFile<'n>>; 3],
-    names: [Option<&'n str>; 3],
+    names: [Option<&'n str>; 4],
 }
 
 /// The name of a file that is none of the other files of its command.
@@ -42,7 +45,7 @@ impl<'n> Targets<'n> {
         };
         let made = targets.made(folder);
         targets.require_apart(&made)?;
-        for i in 0..3usize {
+        for i in 0..4usize {
             if let Some(file) = made[i] {
                 require_kind(alloc, file, MADE[i], folder)?;
             }
@@ -51,12 +54,13 @@ impl<'n> Targets<'n> {
     }
 
     /// The files to be made.
-    fn made<F: Folder>(&self, folder: &F) -> [Option<KnownFile<'n>>; 3] {
-        let [plan, cert, script] = self.names;
+    fn made<F: Folder>(&self, folder: &F) -> [Option<KnownFile<'n>>; 4] {
+        let [plan, cert, script, page] = self.names;
         [
             identify_target(plan, folder),
             identify_target(cert, folder),
             identify_target(script, folder),
+            identify_target(page, folder),
         ]
     }
 
@@ -76,7 +80,7 @@ impl<'n> Targets<'n> {
         index: usize,
         folder: &F,
     ) -> Result<Option<Target<'n>>, Stop<'n>>
-        requires { index < 3 }
+        requires { index < 4 }
     {
         let Some(name) = self.names[index] else {
             return Ok(None);

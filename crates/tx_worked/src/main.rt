@@ -20,9 +20,10 @@
 //!   has a plan, and writes after its report the mended plan and its certificate. `trace EXCHANGE
 //!   CODE` has a plan, and `lint FILE` one that is named so. `survive` has a plan and a text of
 //!   risks, and `survive alone` a plan. `page FILE L K` has a plan that is named so, `page-risks` a
-//!   text of risks too, and `page-code FILE L CODE` a plan of which the lists for a code are shown,
-//!   with the spare number 1. Each is played by sources of 1, 2, 7 and 4,096 bytes a call, which has
-//!   to make no difference. `draw`, `draw CODE` and `draw CODE L K` have a plan.
+//!   text of risks too, `page-change` an old plan after that, and `page-code FILE L CODE` a plan of
+//!   which the lists for a code are shown, with the spare number 1. Each is played by sources of 1,
+//!   2, 7 and 4,096 bytes a call, which has to make no difference. `draw`, `draw CODE` and `draw
+//!   CODE L K` have a plan.
 //! - `pictures` and `pictures L K` have a plan, which is drawn, and each of its codes, with the
 //!   walk of the code's first finding where there are numbers.
 //! - `each-end` before such a kind also refuses each request for memory, gives each smaller room,

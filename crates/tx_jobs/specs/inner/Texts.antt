@@ -1,7 +1,7 @@
 -- The commands by the texts that they are over.
 use Rattle.std.specs.Prelude.{Bool, true, false}
 use Rattle.tx_commands.specs.declared.command.Command.{Command}
-use Rattle.tx_commands.specs.declared.command.Command.TheVariants.{Pipe, Run, RunTelling, Check, Lint, Change, Order, Survive, Page, Trace, TraceGroup, Fill}
+use Rattle.tx_commands.specs.declared.command.Command.TheVariants.{Pipe, Run, RunTelling, Check, Lint, Change, Order, Survive, Trace, TraceGroup, Fill}
 
 -- it is over more than one text, as a plan and a script in one input are, and not over named risks
 abbrev pub has_more_texts : Command → Bool
@@ -17,7 +17,6 @@ has_more_texts other = false
 abbrev pub may_have_risks : Command → Bool
 may_have_risks (Lint plan risks) = true
 may_have_risks (Survive plan risks totals) = true
-may_have_risks (Page plan limit spare risks code) = true
 may_have_risks other = false
 
 -- it is over calls of a plan
