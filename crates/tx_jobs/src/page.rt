@@ -202,6 +202,7 @@ fn found_of<A: Allocator + Copy>(
     ensures { IfOk result (IsFound plan.now limits.limit limits.spare risks.now
         (shown_codes plan.now code)) }
 {
+    plan.rules();
     let grade = grade(alloc, plan)?;
     let (outcomes, pictures) = shown_of(alloc, plan, &grade, risks, code)?;
     let ranking = judge(alloc, plan, limits)?;
