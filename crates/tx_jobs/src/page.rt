@@ -16,7 +16,7 @@ use tx_audit::judge;
 use tx_commands::VERSION;
 use tx_layout::{Picture, picture_of};
 use tx_lint::read_text;
-use tx_page::{Subject, write_page};
+use tx_page::{Subject, is_safe, write_page};
 use tx_plan::{CodeId, Limits, Plan};
 use tx_plantext::read_plan;
 use tx_rank::{Grade, Ranking, grade, origins_of};
@@ -186,7 +186,7 @@ fn write_found<A: Allocator, W: Sink>(
         pictures: &found.pictures,
     };
     write_page(&subject, out)?;
-    Ok(matches!(found.ranking, Ranking::Found(_)))
+    Ok(is_safe(&found.ranking))
 }
 
 /// What is found of a plan, with the picture of a code or of all codes.

@@ -22,7 +22,7 @@ returns-clause-told g c = λ codes found. record {
     outcomes = found.outcomes;
     pictures = found.pictures;
   };
-  verdict = ?;
+  verdict = c.is_safe.ensures;
   bytes = c.in_ok-write_page.ensures.bytes;
   added = c.in_ok-write_page.ensures.added;
   shows = c.in_ok-write_page.ensures.shows;
