@@ -1,14 +1,19 @@
--- The place of a group in a list, as it is written.
-use Rattle.std.proofs.Common.{◌≡◌, ◌∙◌, ℕ, ◌+◌, true, false, if◌then◌else◌, List, [], ◌++◌, take, get_or, decimal, sym, ap}
+-- The arrow to an exchange where groups of a list lead.
+use Rattle.std.proofs.Common.{◌≡◌, ℕ, Bool, true, if◌then◌else◌, List, [], ◌++◌, codes, ap}
+use Rattle.std.specs.List.{list_any}
 use Rattle.tx_plan.specs.Plan.{Plan}
-use Rattle.tx_draw.specs.Arrows.{leads, some_leads, gap_text, place_text}
+use Rattle.tx_rank.specs.Reached.{is_marked}
+use Rattle.tx_draw.specs.Shown.{Shown, goes_by, color_text}
+use Rattle.tx_draw.specs.Drawing.{line_between}
+use Rattle.tx_draw.specs.Arrows.{some_leads, choices_text, arrow_line}
 
-module _ (p : Plan) (x : ℕ) (list : List ℕ) (y i g : ℕ) (at : g ≡ get_or list i 0) where
-  -- the group at this index leads to y
-  pub place_is : leads p x y g ≡ true
-      → place_text p x list y i ≡ gap_text (some_leads p x (take i list) y) ++ decimal (i + 1)
-  place_is leading = ap (λ b. if b then gap_text (some_leads p x (take i list) y) ++ decimal (i + 1) else []) (ap (leads p x y) (sym at) ∙ leading)
+module _ (p : Plan) (reached : List Bool) (s : Shown) (x : ℕ) (list : List ℕ) (y : ℕ) where
+  abbrev pub arrow_end : List ℕ
+  arrow_end = codes "\""
+      ++ (color_text (list_any (λ g. goes_by s g y) list) (is_marked reached x) ++ codes "];\n")
 
-  -- it does not
-  pub no_place : leads p x y g ≡ false → place_text p x list y i ≡ []
-  no_place leading = ap (λ b. if b then gap_text (some_leads p x (take i list) y) ++ decimal (i + 1) else []) (ap (leads p x y) (sym at) ∙ leading)
+  abbrev pub arrow : List ℕ
+  arrow = line_between p x y ++ (choices_text p x list y ++ arrow_end)
+
+  pub arrow_is : some_leads p x list y ≡ true → arrow_line p reached s x list y ≡ arrow
+  arrow_is leading = ap (λ b. if b then arrow else []) leading

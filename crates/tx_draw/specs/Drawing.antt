@@ -11,10 +11,11 @@ use Rattle.tx_plan.specs.declared.ids.Direction.TheVariants.{OneWay, BothWay}
 abbrev pub each_before : ℕ → (ℕ → List ℕ) → List ℕ
 each_before n text = flat_map text (range_with_len 0 n)
 
--- the first lines: the picture goes from left to right, exchanges are boxes, and what is written at a
--- line between two of them is small
+-- the first lines: the picture goes from left to right, exchanges are boxes, and what is written at
+-- a line between two of them is small
 abbrev pub head : List ℕ
-head = codes "digraph \"plan\" {\n" ++ (codes "graph [fontname=\"Helvetica\", rankdir=\"LR\", nodesep=\"0.1\"];\n"
+head = codes "digraph \"plan\" {\n"
+    ++ (codes "graph [fontname=\"Helvetica\", rankdir=\"LR\", nodesep=\"0.1\"];\n"
     ++ (codes "node [shape=\"box\", fontname=\"Helvetica\"];\n"
     ++ codes "edge [fontname=\"Helvetica\", fontsize=\"10\"];\n"))
 

@@ -41,8 +41,8 @@ pub fn write_arrows<A: Allocator, W: Sink>(
     Ok(())
 }
 
-/// Writes the arrow to an exchange, if groups of a list lead there. It is red where the walk goes by
-/// one of them.
+/// Writes the arrow to an exchange, if groups of a list lead there. It is red where the walk goes
+/// by one of them.
 fn write_arrow<A: Allocator, W: Sink>(
     plan: &Plan<A>,
     reached: &[bool],

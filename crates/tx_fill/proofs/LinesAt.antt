@@ -4,16 +4,15 @@ use Rattle.std.specs.Prelude.{slice_get, if◌then◌else◌, replicate, decimal
 use Rattle.std.specs.List.{flat_map, range_with_len, list_all, zip}
 use Rattle.std.specs.Option.{option_map_or}
 use Rattle.std.specs.Str.Parse.{digits_value, AllDigits}
-use Rattle.std.proofs.Math.Seq.{drop-nil}
 use Rattle.std.proofs.lemmas.Bool.{and_parts, and_from, le-leb, leb-true}
 use Rattle.std.proofs.Math.Nat.{pow-le-pow_right}
 use Rattle.std.proofs.lemmas.Fmt.{length-decimal-le}
 use Rattle.std.proofs.lemmas.Int.Digits.{digits_value-lt}
 use Rattle.std.proofs.lemmas.Str.{digit_value_digit}
-use Rattle.std.proofs.lemmas.List.{drop_more, take-replicate, length-replicate}
+use Rattle.std.proofs.lemmas.List.{drop_all, drop_more, take-replicate, length-replicate}
 use Rattle.std.proofs.lemmas.List.Folds.{list_all-append}
 use Rattle.std.proofs.lemmas.List.FromFn.{get_or-map-range_with_len, length-map-range_with_len}
-use Rattle.std.proofs.lemmas.Option.{cond_some, slice_get_within, get_or_from_slice_get, slice_get-get_or}
+use Rattle.std.proofs.lemmas.Option.{cond_some, slice_get_within, slice_get_past, get_or_from_slice_get, slice_get-get_or}
 use Rattle.tx_text.specs.Words.{is_figure, are_figures, is_numeral}
 use Rattle.tx_text.proofs.WrittenWords.{number_back}
 use Rattle.tx_plan.specs.Plan.{Plan, Code, figures_of}
@@ -22,6 +21,7 @@ use Rattle.tx_plan.specs.Rules.{IsPlan, IsCode}
 use Rattle.tx_plan.specs.declared.ids.Line.{Line}
 use Rattle.tx_plan.specs.declared.range.LineRange.{LineRange}
 use Rattle.tx_plan.proofs.ByIndex.{all_at}
+use Rattle.tx_plan.proofs.Lists.{slice_get_left}
 use Rattle.tx_fill.specs.declared.call_lines.Whose.{Whose}
 use Rattle.tx_fill.specs.CallLines.{figures, size_of, line_in, is_meant, lines_in}
 
@@ -107,6 +107,13 @@ full_figures p c number ok national =
     figures_from 1 12 (figures_of p c ++ number) (omega arith) (omega arith)
     (figures_joined (figures_of p c) number front.1 back.2)
 
+-- a number below a power of ten has no more figures than that
+pub decimal_short : (width n : ℕ) → 1 ≤ width → width ≤ 9 → n < 10 ^ width
+    → length (decimal n) ≤ width
+decimal_short width n some few fits =
+    let least : 10 ^ width ≤ 10 ^ 9 = pow-le-pow_right (omega arith) few in
+    length-decimal-le width n some fits (omega arith)
+
 -- a number, with zeros before it
 pub padded_is : (width n : ℕ) (digits text : List ℕ) → 1 ≤ width → width ≤ 9 → n < 10 ^ width
     → digits ≡ decimal n → text ≡ take (width - length digits) (replicate 9 48) ++ digits
@@ -119,36 +126,27 @@ padded_is width n digits text some few fits is so =
     ∙ ap (λ l. l ++ decimal n) (take-replicate zeros 9 48 within) in
     let least : 10 ^ width ≤ 10 ^ 9 = pow-le-pow_right (omega arith) few in
     let small : n < 2 ^ 32 = omega arith in
-    let short = length-decimal-le width n some fits (omega arith) in
+    let short = decimal_short width n some few fits in
     let long = length-append (replicate zeros 48) (decimal n) in
-    let count = length-replicate zeros 48 in (
+    let count : length (replicate zeros 48) ≡ zeros = length-replicate zeros 48 in (
       same,
       ap is_national same ∙ figures_from 1 9 (figures width n) (omega arith) (omega arith)
           (padded_figures zeros n small),
     )
 
+-- what is read of a text
+pub read_some : (text number : List ℕ) → is_national text ≡ true
+    → Some number ≡ (if is_national text then Some text else None) → number ≡ text
+read_some text number ok e =
+    sym (cond_some (is_national text) text number (sym e)).1
+
 -- AN ENTRY OF TWO LISTS
 module _ {A : Type 0} where
-  got_front : (xs ys : List A) (i : ℕ) → i < length xs → slice_get (xs ++ ys) i ≡ slice_get xs i
-  got_front [] ys i low = absurd (omega arith)
-  got_front (x ∷ xs) ys zero low = refl
-  got_front (x ∷ xs) ys (suc i) low = got_front xs ys i (omega arith)
-
   got_back : (xs ys : List A) (i : ℕ) → length xs ≤ i
       → slice_get (xs ++ ys) i ≡ slice_get ys (i - length xs)
   got_back [] ys i far = ap (slice_get ys) (omega arith)
   got_back (x ∷ xs) ys zero far = absurd (omega arith)
   got_back (x ∷ xs) ys (suc i) far = got_back xs ys i (omega arith) ∙ ap (slice_get ys) (omega arith)
-
-  none_got : (i : ℕ) → slice_get {X = A} [] i ≡ None
-  none_got zero = refl
-  none_got (suc i) = refl
-
-  -- a list of no entries from an index on
-  all_dropped : (xs : List A) (i : ℕ) → length xs ≤ i → drop i xs ≡ []
-  all_dropped [] i all = drop-nil i
-  all_dropped (x ∷ xs) zero all = absurd (omega arith)
-  all_dropped (x ∷ xs) (suc i) all = all_dropped xs i (omega arith)
 
 -- of both at once
 module _ {A B : Type 0} where
@@ -161,15 +159,15 @@ module _ {A B : Type 0} where
 
   pub zip_first : (xs : List A) (ys : List B) (i : ℕ) → slice_get xs i ≡ None
       → slice_get (zip xs ys) i ≡ None
-  zip_first [] ys i e = none_got i
-  zip_first (a ∷ xs) [] i e = none_got i
+  zip_first [] ys i e = slice_get_past [] i (omega arith)
+  zip_first (a ∷ xs) [] i e = slice_get_past [] i (omega arith)
   zip_first (a ∷ xs) (b ∷ ys) zero e = absurd (let bad : ⊥ = cc in bad)
   zip_first (a ∷ xs) (b ∷ ys) (suc i) e = zip_first xs ys i e
 
   pub zip_second : (xs : List A) (ys : List B) (i : ℕ) → slice_get ys i ≡ None
       → slice_get (zip xs ys) i ≡ None
-  zip_second [] ys i e = none_got i
-  zip_second (a ∷ xs) [] i e = none_got i
+  zip_second [] ys i e = slice_get_past [] i (omega arith)
+  zip_second (a ∷ xs) [] i e = slice_get_past [] i (omega arith)
   zip_second (a ∷ xs) (b ∷ ys) zero e = absurd (let bad : ⊥ = cc in bad)
   zip_second (a ∷ xs) (b ∷ ys) (suc i) e = zip_second xs ys i e
 
@@ -214,7 +212,7 @@ module _ (p : Plan) (whose : Whose) where
     pub line_here : k < length (lines_in p whose r) → slice_get (lines_from i) k ≡ Some (line_in r k)
     line_here low =
         ap (λ l. slice_get l k) from_is
-        ∙ got_front (lines_in p whose r) (lines_from (i + 1)) k low ∙ (in_range r k low).1
+        ∙ slice_get_left (lines_in p whose r) (lines_from (i + 1)) k low ∙ (in_range r k low).1
 
     pub line_later : length (lines_in p whose r) ≤ k → slice_get (lines_from i) k
         ≡ slice_get (lines_from (i + 1)) (k - length (lines_in p whose r))
@@ -223,5 +221,5 @@ module _ (p : Plan) (whose : Whose) where
 
   pub no_line : (i k : ℕ) → length p.ranges ≤ i → slice_get (lines_from i) k ≡ None
   no_line i k all =
-      ap (λ rs. slice_get (flat_map (lines_in p whose) rs) k) (all_dropped p.ranges i all)
-      ∙ none_got k
+      ap (λ rs. slice_get (flat_map (lines_in p whose) rs) k) (drop_all i p.ranges all)
+      ∙ slice_get_past [] k (omega arith)

@@ -12,7 +12,6 @@ use tx_plan::{CodeId, ExchangeId, Line, LineRange, National, Plan};
 use tx_text::Figures;
 
 /// Whose lines are meant.
-#[derive(Clone, Copy)]
 pub(crate) enum Whose {
     /// Those at home at an exchange.
     At(ExchangeId),
@@ -22,12 +21,12 @@ pub(crate) enum Whose {
 
 impl Whose {
     /// Whether those of a range are.
-    fn has<A: Allocator>(self, plan: &Plan<A>, range: &LineRange) -> bool
-        ensures { result ≡ is_meant plan.now self range.now }
+    fn has<A: Allocator>(&self, plan: &Plan<A>, range: &LineRange) -> bool
+        ensures { result ≡ is_meant plan.now self.now range.now }
     {
         match self {
-            Whose::At(exchange) => plan.home(range.code) == exchange,
-            Whose::Of(code) => range.code == code,
+            Whose::At(exchange) => plan.home(range.code) == *exchange,
+            Whose::Of(code) => range.code == *code,
         }
     }
 }
@@ -42,14 +41,14 @@ pub(crate) fn pair_at<A: Allocator>(
     ensures pair { result ≡ slice_get (line_pairs plan.now exchange code) index }
     ensures few { IfSome result (λ _. index < 2 ^ 63) }
 {
-    let line = line_at(plan, Whose::At(exchange), index)?;
-    let called = line_at(plan, Whose::Of(code), index)?;
+    let line = line_at(plan, &Whose::At(exchange), index)?;
+    let called = line_at(plan, &Whose::Of(code), index)?;
     Some((line, called))
 }
 
 /// The line at an index of those that are meant.
-fn line_at<A: Allocator>(plan: &Plan<A>, whose: Whose, index: u64) -> Option<Line>
-    ensures line { result ≡ slice_get (lines_of plan.now whose) index }
+fn line_at<A: Allocator>(plan: &Plan<A>, whose: &Whose, index: u64) -> Option<Line>
+    ensures line { result ≡ slice_get (lines_of plan.now whose.now) index }
     ensures few { IfSome result (λ _. index < 2 ^ 63) }
 {
     let mut left = index;
@@ -69,8 +68,8 @@ fn line_at<A: Allocator>(plan: &Plan<A>, whose: Whose, index: u64) -> Option<Lin
 }
 
 /// How many lines a range has, if they are meant.
-fn count_in<A: Allocator>(plan: &Plan<A>, whose: Whose, range: &LineRange) -> u64
-    ensures count { result ≡ length (lines_in plan.now whose range.now) }
+fn count_in<A: Allocator>(plan: &Plan<A>, whose: &Whose, range: &LineRange) -> u64
+    ensures count { result ≡ length (lines_in plan.now whose.now range.now) }
     ensures few { result ≤ 10 ^ 9 }
 {
     if whose.has(plan, range) {

@@ -9,6 +9,7 @@ mod ChangeTold
 mod ChangeEvidenced
 mod Grading
 mod LintTold
+mod PageTold
 mod Surviving
 mod DrawnCode
 mod EndLines

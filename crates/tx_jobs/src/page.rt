@@ -22,7 +22,7 @@ use tx_commands::VERSION;
 use tx_layout::{Picture, picture_of};
 use tx_lint::read_text;
 use tx_order::{Switching, order};
-use tx_page::{Subject, write_page};
+use tx_page::{Subject, is_safe, write_page};
 use tx_plan::{CodeId, Limits, Plan};
 use tx_plantext::{read_plan, read_plan_from};
 use tx_rank::{Grade, Ranking, grade, origins_of};
@@ -270,7 +270,7 @@ fn write_found<A: Allocator, W: Sink>(
         pictures: &found.pictures,
     };
     write_page(&subject, out)?;
-    Ok(matches!(found.ranking, Ranking::Found(_)))
+    Ok(is_safe(&found.ranking))
 }
 
 /// What is found of a plan, with the picture of a code or of all codes.
@@ -286,6 +286,7 @@ fn found_of<A: Allocator + Copy>(
     ensures { IfOk result (IsFound plan.now limits.limit limits.spare risks.now
         (shown_codes plan.now code)) }
 {
+    plan.rules();
     let grade = grade(alloc, plan)?;
     let (outcomes, pictures) = shown_of(alloc, plan, &grade, risks, code)?;
     let ranking = judge(alloc, plan, limits)?;

@@ -9,7 +9,8 @@ hex_digit n = if nat_lt n 10 then 48 + n else 97 + (n - 10)
 -- a byte that is none of a control is itself, an LF is `\n`, and any other one is as `\x1b`
 abbrev pub escaped_byte : ℕ → List ℕ
 escaped_byte b = if b == 10 then codes "\\n"
-    else if nat_lt b 32 || b == 127 then codes "\\x" ++ (hex_digit (b / 16) ∷ hex_digit (b % 16) ∷ [])
+    else if nat_lt b 32 || b == 127
+    then codes "\\x" ++ (hex_digit (b / 16) ∷ hex_digit (b % 16) ∷ [])
     else b ∷ []
 
 -- a text whose control bytes are spelled

@@ -16,8 +16,8 @@ use tx_plantext::code_and_name;
 use tx_risk::Risks;
 use tx_text::{Sink, WriteFault, write_parts};
 
-/// Writes a line for each fault or each warning, as `PLAN.txt:5: P9 Unknown SOUTH`, with the name of
-/// the file of the text.
+/// Writes a line for each fault or each warning, as `PLAN.txt:5: P9 Unknown SOUTH`, with the name
+/// of the file of the text.
 pub fn write_lint<A: Allocator, W: Sink>(
     lint: &Lint<'_, A>,
     file: &[u8],

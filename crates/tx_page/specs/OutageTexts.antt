@@ -34,14 +34,18 @@ module _ {A : Type 0} where
   outcome_texts p risks o = (outage_name p risks o.outage ∷ decimal (cut_off o.cuts.items)
       ∷ decimal (astray o.cuts.items) ∷ []) ++ flat_map (cut_texts p) o.cuts.items
 
+  -- it cuts nobody off
+  abbrev pub is_harmless : Outcome A → Bool
+  is_harmless o = length o.cuts.items == 0
+
   -- a named risk is shown, and what else cuts somebody off
-  abbrev pub is_shown_by : Outage → List (Cut A) → Bool
-  is_shown_by (Named i) cuts = true
-  is_shown_by (Group g) cuts = not (length cuts == 0)
-  is_shown_by (Exchange x) cuts = not (length cuts == 0)
+  abbrev pub is_shown_by : Outage → (harmless : Bool) → Bool
+  is_shown_by (Named i) harmless = true
+  is_shown_by (Group g) harmless = not harmless
+  is_shown_by (Exchange x) harmless = not harmless
 
   abbrev pub is_shown : Outcome A → Bool
-  is_shown o = is_shown_by o.outage o.cuts.items
+  is_shown o = is_shown_by o.outage (is_harmless o)
 
   -- the same, if it is shown
   abbrev pub shown_texts : Plan → List NamedRisk → Outcome A → List (List ℕ)

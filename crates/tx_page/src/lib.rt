@@ -12,5 +12,5 @@ mod style;
 mod subject;
 mod walks;
 
-pub use page::write_page;
+pub use page::{is_safe, write_page};
 pub use subject::Subject;

@@ -2,7 +2,7 @@
 ghost use Rattle.std.specs.Prelude.{◌≡◌, [], ◌∷◌, decimal};
 ghost use Rattle.std.specs.List.{flat_map};
 ghost use Rattle.tx_html.specs.Shows.{Showed};
-ghost use Rattle.tx_page.specs.OutageTexts.{outage_name, cut_off, astray, cut_texts, outcome_texts, is_shown, shown_texts, tried_texts, outages_texts};
+ghost use Rattle.tx_page.specs.OutageTexts.{outage_name, cut_off, astray, cut_texts, outcome_texts, is_harmless, is_shown, shown_texts, tried_texts, outages_texts};
 
 use std::alloc::Allocator;
 use tx_html::{Part, set};
@@ -92,13 +92,20 @@ fn count_astray<A: Allocator>(cuts: &[Cut<A>]) -> usize
     cuts.iter().filter(|cut| cut.stray).count()
 }
 
+/// Whether an outcome cuts nobody off.
+fn is_harmless<A: Allocator>(outcome: &Outcome<A>) -> bool
+    ensures { result ≡ is_harmless outcome.now }
+{
+    outcome.cuts.is_empty()
+}
+
 /// Whether an outcome is shown: that of a named risk, or one that cuts somebody off.
 fn is_shown<A: Allocator>(outcome: &Outcome<A>) -> bool
     ensures { result ≡ is_shown outcome.now }
 {
     match outcome.outage {
         Outage::Named(_) => true,
-        Outage::Group(_) | Outage::Exchange(_) => !outcome.cuts.is_empty(),
+        Outage::Group(_) | Outage::Exchange(_) => !is_harmless(outcome),
     }
 }
 

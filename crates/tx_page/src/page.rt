@@ -19,7 +19,7 @@ use tx_svg::write_pictures;
 use tx_text::{Sink, WriteFault};
 
 /// Whether a certificate was found.
-fn is_safe<A: Allocator>(ranking: &Ranking<A>) -> bool
+pub fn is_safe<A: Allocator>(ranking: &Ranking<A>) -> bool
     ensures { result ≡ is_safe ranking.now }
 {
     match ranking {

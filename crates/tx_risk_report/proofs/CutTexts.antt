@@ -1,6 +1,6 @@
 -- Texts that are written one after another.
-use Rattle.std.proofs.Common.{◌≡◌, ℕ, ◌+◌, ◌-◌, ◌<◌, Bool, List, [], ◌++◌, length, Option, Ok, Err, codes, ap, sym, ◌∙◌, subst, append_assoc, append-nil}
-use Rattle.std.specs.Prelude.{◌==◌, IsErr}
+use Rattle.std.proofs.Common.{◌≡◌, ℕ, ◌+◌, ◌-◌, ◌<◌, Bool, List, [], ◌++◌, Option, Ok, Err, codes, subst, append_assoc, append-nil}
+use Rattle.std.specs.Prelude.{IsErr}
 use Rattle.std.specs.List.{flat_map, range_with_len}
 use Rattle.tx_text.specs.declared.sink.WriteFault.{WriteFault}
 use Rattle.tx_text.specs.Wrote.{WroteBy}
@@ -12,11 +12,6 @@ pub line_parts : (head code start name steps : List ℕ)
     → head ++ (code ++ (codes " " ++ (start ++ (codes " VIA " ++ (name ++ steps)))))
     ≡ (head ++ (code ++ (codes " " ++ (start ++ (codes " VIA " ++ (name ++ [])))))) ++ steps
 line_parts head code start name steps = simp (append_assoc, append-nil)
-
--- whether there are any, by their number
-pub some_by : {X : Type 0} (xs : List X) (n : ℕ) (b : Bool) → n ≡ length xs → (n == 0) ≡ b
-    → (length xs == 0) ≡ b
-some_by xs n b long is = ap (λ k. k == 0) (sym long) ∙ is
 
 -- the texts of indexes
 module _ (text : ℕ → List ℕ) where

@@ -5,7 +5,7 @@ ghost use Rattle.tx_text.specs.Wrote.{Wrote};
 ghost use Rattle.tx_risk_report.specs.OutageReport.{head_line, outage_words, block_text, tried_text, survival_text};
 
 use crate::cut_lines::write_cuts;
-use crate::totals::{write_count, write_harmless, write_totals};
+use crate::totals::{is_harmless, write_count, write_harmless, write_totals};
 use itoa::Buffer;
 use std::alloc::Allocator;
 use tx_plan::Plan;
@@ -107,7 +107,7 @@ fn write_block<A: Allocator, W: Sink>(
     ensures { Wrote W.taken W.failed sink.old sink.new
         (block_text plan.now risks.now outcome.now) result }
 {
-    if outcome.cuts.is_empty() {
+    if is_harmless(outcome) {
         return Ok(());
     }
     write_outage(plan, risks, &outcome.outage, sink)?;

@@ -37,7 +37,7 @@ fn write_total<A: Allocator, W: Sink>(
     ensures { Wrote W.taken W.failed sink.old sink.new
         (total_text plan.now risks.now outcome.now) result }
 {
-    if is_named(&outcome.outage) || !outcome.cuts.is_empty() {
+    if is_named(&outcome.outage) || !is_harmless(outcome) {
         return write_total_line(plan, risks, outcome, sink);
     }
     Ok(())
@@ -103,7 +103,7 @@ fn count_groups<A: Allocator>(outcomes: &[Outcome<A>]) -> usize
 {
     outcomes
         .iter()
-        .filter(|outcome| is_group(&outcome.outage) && outcome.cuts.is_empty())
+        .filter(|outcome| is_group(&outcome.outage) && is_harmless(outcome))
         .count()
 }
 
@@ -112,7 +112,7 @@ fn count_exchanges<A: Allocator>(outcomes: &[Outcome<A>]) -> usize
 {
     outcomes
         .iter()
-        .filter(|outcome| is_exchange(&outcome.outage) && outcome.cuts.is_empty())
+        .filter(|outcome| is_exchange(&outcome.outage) && is_harmless(outcome))
         .count()
 }
 
@@ -132,6 +132,13 @@ fn is_exchange(outage: &Outage) -> bool
     ensures { result ≡ is_exchange outage.now }
 {
     matches!(outage, Outage::Exchange(_))
+}
+
+/// Whether it cuts nobody off.
+pub(crate) fn is_harmless<A: Allocator>(outcome: &Outcome<A>) -> bool
+    ensures { result ≡ is_harmless outcome.now }
+{
+    outcome.cuts.is_empty()
 }
 
 /// How many starts all outages cut off.

@@ -1,11 +1,11 @@
 -- Replies where groups are blocked, and in the plan that is left.
-use Rattle.std.proofs.Common.{◌≡◌, ◌≢◌, ℕ, Bool, true, false, cond, not, ◌||◌, ◌==◌, ◌&&◌, List, [], ◌∷◌, map, find, length, Option, Some, None, refl, sym, ap, ◌∙◌}
+use Rattle.std.proofs.Common.{◌≡◌, ◌≢◌, ℕ, Bool, true, false, cond, not, ◌||◌, ◌==◌, ◌&&◌, List, [], ◌∷◌, map, find, length, Option, Some, None, refl, sym, ap, ◌∙◌, arith}
 use Rattle.std.specs.Prelude.{filter, if◌then◌else◌, is_some}
 use Rattle.std.specs.List.{AllByRecursion}
 use Rattle.std.specs.Option.{option_map_or}
 use Rattle.std.specs.Ordering.{nat_cmp}
 use Rattle.std.specs.FinSet as set
-use Rattle.std.proofs.lemmas.Bool.{and_parts, eqb-true, false≢true}
+use Rattle.std.proofs.lemmas.Bool.{and_parts, eqb-true, false≢true, not-false}
 use Rattle.tx_plan.specs.Plan.{Plan, Route as RouteRow, home_of}
 use Rattle.tx_plan.specs.Rules.{EachPair, IsPlan}
 use Rattle.tx_plan.specs.Routes.{route_list, is_barred}
@@ -16,11 +16,13 @@ use Rattle.tx_plan.specs.declared.ids.Line.{Line}
 use Rattle.tx_machine.specs.declared.event.Event.{Event}
 use Rattle.tx_machine.specs.declared.event.Event.TheVariants.{Key, Route, Confirm, Clear, Released, Fail, Restore, Block, Unblock, CircuitOut, CircuitIn, LineFault, LineMend, LineAway, LineBack}
 use Rattle.tx_machine.specs.declared.open_call.Party.TheVariants.{Caller, Called}
+use Rattle.tx_machine.specs.declared.open_call.Phase.{Phase}
+use Rattle.tx_machine.specs.declared.open_call.Phase.TheVariants.{Standing, Calling, Connected}
 use Rattle.tx_machine.specs.declared.refusal.Refusal.{Refusal}
 use Rattle.tx_machine.specs.declared.reply.Reply.{Reply}
 use Rattle.tx_machine.specs.declared.cause.Service.{Service}
 use Rattle.tx_machine.specs.declared.cause.Service.TheVariants.{Na}
-use Rattle.tx_machine.specs.Call.{Call, Phase, Standing, Calling, Connected, call_of, exchange_of, is_first}
+use Rattle.tx_machine.specs.Call.{Call, call_of, exchange_of, is_first}
 use Rattle.tx_machine.specs.Confirming.{confirmed, confirmed_by, rival}
 use Rattle.tx_machine.specs.InUse.{first_free, first_in, choice, is_free_at}
 use Rattle.tx_machine.specs.Lines.{line_answer}
@@ -31,7 +33,7 @@ use Rattle.tx_machine.specs.State.{State}
 use Rattle.tx_machine.specs.Step.{step, accepted, counted, unless_refused, with_call}
 use Rattle.tx_trace.specs.Ways.{is_in}
 use Rattle.tx_trace.specs.Left.{groups_left, route_left, routes_left, plan_left, AreBlocked, unblocked, is_blocking}
-use Rattle.tx_trace.proofs.Left.{has_some}
+use Rattle.tx_trace.proofs.LeftRoutes.{has_some}
 
 -- THE LIST OF AN EXCHANGE FOR A CODE
 module _ (down : List ℕ) (x c : ℕ) where
@@ -89,7 +91,9 @@ module _ (down : List ℕ) (x c : ℕ) where
     where
       none_of : (gs : List ℕ) → not (length gs == 0) ≡ false → gs ≡ []
       none_of [] e = refl
-      none_of (g ∷ gs) e = absurd (false≢true (sym e))
+      none_of (g ∷ gs) e =
+          let none = eqb-true (length (g ∷ gs)) 0 (not-false (length (g ∷ gs) == 0) e) in
+          absurd (omega arith)
 
       by : (b : Bool) → has_some (route_left down r) ≡ b → here r ≡ true
           → found (cond b (route_left down r ∷ routes_left down rs) (routes_left down rs))

@@ -8,6 +8,6 @@ pub mod Ranking
 pub mod FreeCircuits
 pub mod OnlyCall
 pub mod Texts
-pub mod Left
+pub mod LeftRoutes
 pub mod Blocked
 pub mod GroupLines

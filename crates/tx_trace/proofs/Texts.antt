@@ -3,7 +3,7 @@ use Rattle.std.proofs.Common.{◌≡◌, ◌≢◌, ℕ, ◌+◌, ◌<◌, true,
 use Rattle.std.specs.Prelude.{decimal}
 use Rattle.std.specs.List.{flat_map, enumerate_from}
 use Rattle.std.specs.Option.{option_map_or}
-use Rattle.std.proofs.lemmas.Bool.{eqb-false}
+use Rattle.std.proofs.lemmas.Bool.{eqb-true, eqb-false}
 use Rattle.std.proofs.lemmas.List.FromFn.{get_or-enumerate_from}
 use Rattle.tx_plan.specs.Plan.{Plan, home_of, exchange_name, group_name}
 use Rattle.tx_plan.specs.Circuits.{other_end}
@@ -28,7 +28,7 @@ name_cut p g = ap (λ l. codes " " ++ l) (sym (append-nil (group_name p g)))
 -- the line of groups that are down
 pub down_none : (p : Plan) (down : List ℕ) → eqb (length down) 0 ≡ true → down_line p down ≡ []
 down_none p [] none = refl
-down_none p (g ∷ gs) none = let bad : ⊥ = cc in absurd bad
+down_none p (g ∷ gs) none = let long = eqb-true (length (g ∷ gs)) 0 none in absurd (omega arith)
 
 pub down_some : (p : Plan) (down : List ℕ) → eqb (length down) 0 ≡ false
     → down_line p down ≡ codes "DOWN" ++ (flat_map (name_after p) down ++ codes "\n")

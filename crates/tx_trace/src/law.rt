@@ -1,5 +1,5 @@
-// How a call goes by the first way, also where groups are blocked, what a height says of ranks and of
-// ways, and which exchanges are met.
+// How a call goes by the first way, also where groups are blocked, what a height says of ranks and
+// of ways, and which exchanges are met.
 ghost use Rattle.std.specs.Prelude.{◌≡◌, ◌↔◌, ℕ, ◌<◌, true, false, List, length, Some, IsSome};
 ghost use Rattle.std.specs.List.{AllByRecursion};
 ghost use Rattle.tx_plan.specs.Plan.{Plan, home_of};
@@ -21,8 +21,8 @@ ghost use Rattle.tx_trace.specs.Ways.{first_way, all_met};
 ghost use Rattle.tx_trace.specs.OnlyCall.{GoesBy};
 
 /// From the opening state a line that is at home at an exchange keys a code, for which calls may
-/// start there, and perhaps a number. Its call goes by the first way. One more Route, unless the way has
-/// come back, is answered by the line that is called at the home, and elsewhere with NC.
+/// start there, and perhaps a number. Its call goes by the first way. One more Route, unless the
+/// way has come back, is answered by the line that is called at the home, and elsewhere with NC.
 pub fn only_call_goes_first_way()
     ensures { (p : Plan) (c x : ℕ) (line : Line) (keyed : List ℕ) → IsPlan p
         → is_line p line ≡ true → home_of p line.code ≡ x → code_of p keyed ≡ Some c

@@ -1,6 +1,6 @@
-//! How calls for a code go from an exchange, also while some groups are down: the way while all else
-//! is free, the exchanges that they may come to, with their lists, and how far these are from the
-//! home; and the lists that have a group.
+//! How calls for a code go from an exchange, also while some groups are down: the way while all
+//! else is free, the exchanges that they may come to, with their lists, and how far these are from
+//! the home; and the lists that have a group.
 #![tactic(auto)]
 
 mod first_way;

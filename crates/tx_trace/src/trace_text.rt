@@ -14,8 +14,8 @@ use tx_rank::write_steps;
 use tx_text::{Sink, WriteFault, write_parts};
 
 /// Writes a trace, in the plan that is left while some groups are down: what was asked, these
-/// groups, the way while all else is free, and for each exchange that is met its list, or that it is
-/// the home.
+/// groups, the way while all else is free, and for each exchange that is met its list, or that it
+/// is the home.
 pub fn write_trace<A: Allocator, W: Sink>(
     plan: &Plan<A>,
     down: &[GroupId],

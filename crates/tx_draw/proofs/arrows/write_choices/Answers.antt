@@ -1,4 +1,4 @@
-use Rattle.std.proofs.Common.{length, get_or, codes}
+use Rattle.std.proofs.Common.{length, codes}
 use Rattle.tx_text.proofs.Wrote.{wrote_then, wrote_first}
 use Rattle.tx_draw.specs.Drawing.{each_before}
 use Rattle.tx_draw.specs.Arrows.{place_text}

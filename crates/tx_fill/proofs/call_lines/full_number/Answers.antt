@@ -2,8 +2,8 @@ use Rattle.std.proofs.Common.{◌≡◌, ◌∙◌, ◌++◌, length, ap, sym, a
 use Rattle.tx_fill.proofs.LinesAt.{code_in, full_figures}
 use Rattle.tx_fill.proofs.call_lines.full_number.Goals as goal
 
-pub returns-in-Some : goal.returns-in-Some
-returns-in-Some g c = ?
+pub returns : goal.returns
+returns g c = ?
 
 pub unreachable-requires : goal.unreachable-requires
 unreachable-requires g c = ?

@@ -22,7 +22,7 @@ line_in-requires g c =
     let n = c.count_in-count.ensures.count in
     let rules = all_at (IsRange p) p.ranges c.loop-i.i r c.ranges-i-end.ensures.rules.ranges
     (sym c.in-Some.ensures) in
-    let within = (in_range p c.args.whose r c.loop-i.left (omega arith)).0 in
+    let within = (in_range p c.args.whose.now r c.loop-i.left (omega arith)).0 in
     let high = (value_small r.high rules.high).0 in
     subst (λ (n : ℕ). digits_value 10 r.low + c.loop-i.left < 10 ^ n) (sym rules.width) (omega arith)
 
@@ -32,14 +32,14 @@ returns-then-left-ltcount-clause-line g c =
     let low = c.if-left-ltcount.true in
     let n = c.count_in-count.ensures.count in
     ap (λ l. Some l) c.line_in.ensures
-    ∙ sym (line_here p c.args.whose c.loop-i.i c.in-Some.range (sym c.in-Some.ensures) c.loop-i.left
+    ∙ sym (line_here p c.args.whose.now c.loop-i.i c.in-Some.range (sym c.in-Some.ensures) c.loop-i.left
     (omega arith))
     ∙ c.loop-i.invariant.line
 
 pub loop-i-preserved : goal.loop-i-preserved
 loop-i-preserved g c =
     let p = c.args.plan.now in
-    let w = c.args.whose in
+    let w = c.args.whose.now in
     let far = c.if-left-ltcount.false in
     let n = c.count_in-count.ensures.count in
     let few = c.count_in-count.ensures.few in
@@ -56,5 +56,5 @@ pub returns-clause-line : goal.returns-clause-line
 returns-clause-line g c =
     let n = c.ranges-i-end.ensures.count in
     let t = c.loop-i-test.false in
-    sym (no_line c.args.plan.now c.args.whose c.loop-i.i c.loop-i.left (omega arith))
+    sym (no_line c.args.plan.now c.args.whose.now c.loop-i.i c.loop-i.left (omega arith))
     ∙ c.loop-i.invariant.line

@@ -11,4 +11,4 @@ returns g c =
     let last = c.index-steps-steps.result in
     let some = eqb-false (length steps) 0 (sym c.is_empty.ensures ∙ c.if-is_empty.false) in
     let at = slice_get_read steps (length steps) (length steps - 1) last refl (omega arith) c.index-steps-steps.is in
-    subst (λ (l : List (ℕ × ℕ)). last.1 ≡ end_of c.args.walk.now.start l) c.as_slice-steps.ensures (end_last c.args.walk.now.start steps (length steps - 1) last (omega arith) at)
+    rw (← c.walk.view_is) (subst (λ (l : List (ℕ × ℕ)). last.1 ≡ end_of c.walk.inside.start l) c.as_slice-steps.ensures (end_last c.walk.inside.start steps (length steps - 1) last (omega arith) at))

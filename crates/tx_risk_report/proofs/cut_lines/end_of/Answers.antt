@@ -1,4 +1,4 @@
-use Rattle.std.proofs.Common.{◌≡◌, ◌-◌, ◌∙◌, ℕ, List, refl, sym, subst, length, arith}
+use Rattle.std.proofs.Common.{◌≡◌, ◌-◌, ◌∙◌, ℕ, List, refl, sym, ap, subst, length, arith}
 use Rattle.std.proofs.lemmas.Bool.{eqb-false}
 use Rattle.std.proofs.lemmas.Option.{slice_get_read}
 use Rattle.tx_rank.specs.Walks.{end_of}
@@ -12,6 +12,7 @@ returns-else-is_empty g c =
     let some = eqb-false (length steps) 0 (sym c.is_empty.ensures ∙ c.if-is_empty.false) in
     let at = slice_get_read steps (length steps) (length steps - 1) last refl (omega arith)
     c.index-steps-steps.is in
-    rw (← c.walk.view_is) (subst (λ (l : List (ℕ × ℕ)). last.1 ≡ end_of c.walk.inside.start l)
+    rw (← c.walk.view_is) (ap (λ (s : ℕ × ℕ). s.1) (sym c.index-steps-steps.is)
+    ∙ subst (λ (l : List (ℕ × ℕ)). last.1 ≡ end_of c.walk.inside.start l)
     c.as_slice-steps.ensures
     (end_last c.walk.inside.start steps (length steps - 1) last (omega arith) at))

@@ -1,6 +1,4 @@
-use Rattle.std.proofs.Common.{◌≡◌, Ok, length, arith, subst}
-use Rattle.std.specs.List.{flat_map, range_with_len}
-use Rattle.tx_text.specs.Wrote.{WroteBy}
+use Rattle.std.proofs.Common.{length, arith}
 use Rattle.tx_text.proofs.Wrote.{wrote_none}
 use Rattle.tx_risk_report.specs.OutageReport.{cuts_at}
 use Rattle.tx_risk_report.proofs.CutTexts.{indexes_more, indexes_stopped, indexes_done}

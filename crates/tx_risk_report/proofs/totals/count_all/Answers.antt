@@ -1,4 +1,4 @@
-use Rattle.std.proofs.Common.{◌≡◌, ◌<◌, ◌≤◌, ◌+◌, length, take, get_or, refl, sym, ap, arith}
+use Rattle.std.proofs.Common.{◌∙◌, length, get_or, ap, arith}
 use Rattle.std.specs.Prelude.{sum_by}
 use Rattle.std.proofs.lemmas.List.{take_all}
 use Rattle.std.proofs.lemmas.List.Sums.{sum_by_more}
@@ -9,9 +9,8 @@ pub loop-i-preserved : goal.loop-i-preserved
 loop-i-preserved g c =
     let f = λ (o : Outcome g.row.A.Denot). length o.cuts.items in
     let all = c.args.outcomes.now in
-    let one = c.index-outcomes-i.result in
-    let more = sum_by_more f all c.loop-i.i one c.loop-i-test.true in
-    let here : f (get_or all c.loop-i.i one) ≡ f one = ap f (sym c.index-outcomes-i.is) in
+    let one = get_or all c.loop-i.i c.index-outcomes-i.result in
+    let more = sum_by_more f all c.loop-i.i c.index-outcomes-i.result c.loop-i-test.true in
     let before = c.loop-i.invariant.so_far in
     let few = c.loop-i.invariant.few in
     let k = one.cuts.ok.0 in

@@ -1,6 +1,5 @@
 use Rattle.std.proofs.Common.{◌≡◌, ◌*◌, ◌^◌, ◌≤◌, take, length}
 use Rattle.std.specs.Prelude.{sum_by}
-use Rattle.tx_risk.specs.declared.cut.Outcome.{Outcome}
 use Rattle.tx_risk_report.proofs.totals.count_all.Given as goal
 
 abbrev pub invariant-loop-i : goal.invariant-loop-i

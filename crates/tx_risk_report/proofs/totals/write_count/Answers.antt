@@ -1,6 +1,5 @@
 use Rattle.std.proofs.Common.{arith}
 use Rattle.std.proofs.lemmas.Bool.{ne_eqb}
-use Rattle.tx_risk_report.specs.OutageReport.{count_of}
 use Rattle.tx_risk_report.proofs.totals.write_count.Goals as goal
 
 pub returns-then-count-eq0 : goal.returns-then-count-eq0

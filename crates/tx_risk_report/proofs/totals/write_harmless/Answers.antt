@@ -1,7 +1,7 @@
 use Rattle.std.proofs.Common.{codes}
 use Rattle.std.specs.Prelude.{◌&&◌, count_by}
 use Rattle.tx_text.proofs.Wrote.{wrote_then, wrote_first}
-use Rattle.tx_risk_report.specs.OutageReport.{harmless_line, is_group, is_exchange, is_harmless}
+use Rattle.tx_risk_report.specs.OutageReport.{harmless_line, is_group, is_harmless}
 use Rattle.tx_risk_report.proofs.totals.write_harmless.Goals as goal
 
 pub returns-in_err-write_harmless_line : goal.returns-in_err-write_harmless_line

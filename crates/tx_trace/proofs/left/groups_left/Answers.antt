@@ -9,15 +9,15 @@ use Rattle.tx_trace.proofs.left.groups_left.Goals.{then-not-contains, else-not-c
 
 pub push-requires : goal.push-requires
 push-requires g c =
-    let few = list_few c.args.plan.now c.list.ensures.rules c.args.exchange c.args.code in
-    let same = ap length c.list.ensures.value in
+    let few = list_few c.args.plan.now c.list-list.ensures.rules c.args.exchange c.args.code in
+    let same = ap length c.list-list.ensures.value in
     let at = c.loop-group-test.true in
     let within = c.loop-group.invariant.few in
     omega arith
 
 pub loop-group-preserved : goal.loop-group-preserved
 loop-group-preserved g c =
-    let xs = c.list.result.now in
+    let xs = c.list-list.result.now in
     let all = groups_left c.args.down.now xs in
     let t : ℕ → Bool = λ h. not (is_in h c.args.down.now) in
     let i = c.loop-group.invariant in

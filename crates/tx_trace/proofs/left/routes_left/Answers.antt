@@ -6,7 +6,7 @@ use Rattle.tx_plan.proofs.ByIndex.{entry_at}
 use Rattle.tx_mend.proofs.Adding.{pair_of, no_none}
 use Rattle.tx_mend.proofs.Copied.{none_before, none_filtered, route_got}
 use Rattle.tx_trace.specs.Left.{route_left}
-use Rattle.tx_trace.proofs.Left.{has_some, left_next, left_gone, none_left}
+use Rattle.tx_trace.proofs.LeftRoutes.{has_some, left_next, left_gone, none_left}
 use Rattle.tx_trace.proofs.left.routes_left.Goals as goal
 use Rattle.tx_trace.proofs.left.routes_left.Goals.{then-not-is_empty+in_ok-add-in-Some, else-not-is_empty}
 
@@ -42,13 +42,9 @@ loop-index-preserved g c =
     elim c.if-not-is_empty.branch [
       | then-not-is_empty+in_ok-add-in-Some w ↦ (
           let some : (length left == 0) ≡ false = search rules in
-          left_next down p.routes c.loop-index.routes _ c.loop-index.index _ at
-          (any ∙ ap not some) c.loop-index.invariant (w.routes-is ∙ w.in_ok-add-in-Some.ensures.ok
-          ∙ ap (λ (gs : List ℕ). c.loop-index.routes ++ record {
-            exchange = c.in-Some.exchange;
-            code = c.in-Some.code;
-            groups = gs;
-          } ∷ []) c.groups_left-left.ensures))
+          left_next down p.routes c.loop-index.routes _ c.loop-index.index _ at left
+          c.groups_left-left.ensures (any ∙ ap not some) c.loop-index.invariant
+          (w.routes-is ∙ w.in_ok-add-in-Some.ensures.ok))
       | else-not-is_empty w ↦ (
           let none : (length left == 0) ≡ true = search rules in
           left_gone down p.routes c.loop-index.routes _ c.loop-index.index _ at

@@ -1,4 +1,4 @@
-use Rattle.std.proofs.Common.{◌++◌, ◌∙◌, [], codes, sym}
+use Rattle.std.proofs.Common.{◌++◌, ◌∙◌, [], Ok, codes, sym}
 use Rattle.std.specs.List.{flat_map}
 use Rattle.tx_text.proofs.Wrote.{wrote_none, wrote_then, wrote_first, text_is}
 use Rattle.tx_trace.proofs.Texts.{name_after, down_none, down_some}
@@ -7,7 +7,7 @@ use Rattle.tx_trace.proofs.trace_text.write_down.Goals as goal
 pub returns-then-is_empty : goal.returns-then-is_empty
 returns-then-is_empty g c =
     let none = down_none c.args.plan.now c.args.down.now (sym c.is_empty.ensures ∙ c.if-is_empty.true) in
-    text_is _ _ _ _ _ [] _ none (wrote_none _ _)
+    text_is (g.W.Sink.taken c.args.sink.now) (g.W.Sink.taken c.args.sink.now) (g.W.Sink.failed c.args.sink.now) (g.W.Sink.failed c.args.sink.now) _ [] (Ok tt) none (wrote_none _ _)
 
 pub returns-in_err-write_parts : goal.returns-in_err-write_parts
 returns-in_err-write_parts g c =

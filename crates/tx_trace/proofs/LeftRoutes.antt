@@ -87,10 +87,12 @@ module _ (down : List ℕ) where
       ∙ filter-append has_some (map (route_left down) (take i rs)) (route_left down r ∷ [])
 
   pub left_next : (rs old new : List Route) (i : ℕ) (r : Route) → slice_get rs i ≡ Some r
-      → has_some (route_left down r) ≡ true → old ≡ routes_left down (take i rs)
-      → new ≡ old ++ route_left down r ∷ [] → new ≡ routes_left down (take (i + 1) rs)
-  left_next rs old new i r at some so more =
-      more ∙ ap (λ l. l ++ route_left down r ∷ []) so
+      → (left : List ℕ) → left ≡ groups_left down r.groups → has_some (route_left down r) ≡ true
+      → old ≡ routes_left down (take i rs) → new ≡ old ++ record r { groups = left } ∷ []
+      → new ≡ routes_left down (take (i + 1) rs)
+  left_next rs old new i r at left is some so more =
+      more ∙ ap (λ gs. old ++ record r { groups = gs } ∷ []) is
+      ∙ ap (λ l. l ++ route_left down r ∷ []) so
       ∙ ap (λ b. routes_left down (take i rs) ++ cond b (route_left down r ∷ []) []) (sym some)
       ∙ sym (left_more rs i r at)
 
