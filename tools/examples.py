@@ -458,10 +458,12 @@ def telling_of(words):
 
 
 def page_of(example):
-    """The kind of the case of a page: with named risks, with the lists of one code, or neither."""
-    file, limit, spare, risks, code = *example.words[1:2], *map(example.option, ("--limit", "--spare", "--risks", "--code"))
+    """The kind of the case of a page: with named risks, with an old plan too, with the lists of one code, or none of them."""
+    file, limit, spare, risks, old, code = *example.words[1:2], *map(example.option, ("--limit", "--spare", "--risks", "--from", "--code"))
     if code:
         return f"page-code {file} {limit} {code}"
+    if old:
+        return f"page-change {file} {limit} {spare}"
     return f"{'page-risks' if risks else 'page'} {file} {limit} {spare}"
 
 
