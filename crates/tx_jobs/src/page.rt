@@ -10,7 +10,8 @@ ghost use Rattle.tx_cert.specs.Certificate.{ranks_of};
 ghost use Rattle.tx_risk.specs.NamedRisks.{AreRisksFor};
 ghost use Rattle.tx_risk.specs.Outages.{AreOutcomes};
 ghost use Rattle.tx_jobs.specs.JobFaults.{mark_after};
-ghost use Rattle.tx_jobs.specs.PageJobs.{PageJobAnswers, PagedWithRisks, PagedFrom, PagedAfter, PagedFor, ToldPage, IsRightChange, IsFound, request_of, shown_codes};
+ghost use Rattle.tx_jobs.specs.PageJobs.{PageJobAnswers, PagedWithRisks, PagedFrom, PagedAfter, PagedFor, ToldPage, IsRightChange, request_of, shown_codes};
+ghost use Rattle.tx_jobs.specs.inner.PageFound.{IsFound};
 ghost use Rattle.tx_jobs.specs.inner.Switched.{SwitchingAnswers};
 
 use crate::job_fault::JobFault;
