@@ -19,7 +19,6 @@ use Rattle.tx_html.specs.Shows.{Shows}
 use Rattle.tx_page.specs.Page.{is_safe, page_texts}
 use Rattle.tx_page.specs.declared.subject.Subject.{Subject}
 use Rattle.tx_jobs.specs.declared.page.Asked.{Asked}
-use Rattle.tx_jobs.specs.declared.page.Found.{Found}
 use Rattle.tx_jobs.specs.declared.job_fault.JobFault.{JobFault}
 use Rattle.tx_jobs.specs.declared.job_fault.JobFault.TheVariants.{Read, Write, NoMemory, NoSuchCode}
 use Rattle.tx_jobs.specs.GradeJobs.{IsGradeOf}
@@ -61,29 +60,20 @@ abbrev pub shown_codes : Plan → Option ℕ → List ℕ
 shown_codes p (Some c) = c ∷ []
 shown_codes p None = range_with_len 0 (length p.codes)
 
-module _ {A : Type 0} where
-  -- what is found of a plan is right
-  pub record IsFound (p : Plan) (limit spare : ℕ) (risks : List NamedRisk) (codes : List ℕ)
-      (f : Found A) : Type 0 where
-    pub ranking : IsRightRanking p limit spare f.ranking
-    pub grade : IsGradeOf p f.grade
-    pub outcomes : IfSome f.grade.plan (λ b. AreOutcomes p risks false f.outcomes.items)
-    pub pictures : map (λ q. q.code) f.pictures.items ≡ codes
-
-  -- what a page is about is right: the file's name, the digest of the plan's text, and what was
-  -- found
-  pub record IsRightSubject (asked : Request) (text : List ℕ) (p : Plan) (risks : List NamedRisk)
-      (codes : List ℕ) (s : Subject A) : Type 0 where
-    pub name : s.name.now ≡ asked.file
-    pub digest : s.digest ≡ sha256 text
-    pub plan : s.plan.now ≡ p
-    pub limit : s.limits.limit ≡ asked.limit
-    pub spare : s.limits.spare ≡ asked.spare
-    pub risks_named : s.risks.now ≡ risks
-    pub ranking : IsRightRanking p asked.limit asked.spare s.ranking.now
-    pub grade : IsGradeOf p s.grade.now
-    pub outcomes : IfSome s.grade.now.plan (λ b. AreOutcomes p risks false s.outcomes.now)
-    pub pictures : map (λ q. q.code) s.pictures.now ≡ codes
+-- what a page is about is right: the file's name, the digest of the plan's text, and what was
+-- found
+pub record IsRightSubject {A : Type 0} (asked : Request) (text : List ℕ) (p : Plan) (risks : List NamedRisk)
+    (codes : List ℕ) (s : Subject A) : Type 0 where
+  pub name : s.name.now ≡ asked.file
+  pub digest : s.digest ≡ sha256 text
+  pub plan : s.plan.now ≡ p
+  pub limit : s.limits.limit ≡ asked.limit
+  pub spare : s.limits.spare ≡ asked.spare
+  pub risks_named : s.risks.now ≡ risks
+  pub ranking : IsRightRanking p asked.limit asked.spare s.ranking.now
+  pub grade : IsGradeOf p s.grade.now
+  pub outcomes : IfSome s.grade.now.plan (λ b. AreOutcomes p risks false s.outcomes.now)
+  pub pictures : map (λ q. q.code) s.pictures.now ≡ codes
 
 -- a page was written that shows what is right, and whether a certificate was found is the answer
 pub record IsPaged (A : Type 0) (asked : Request) (text : List ℕ) (p : Plan)

@@ -7,7 +7,8 @@ ghost use Rattle.tx_cert.specs.Certificate.{ranks_of};
 ghost use Rattle.tx_risk.specs.NamedRisks.{AreRisksFor};
 ghost use Rattle.tx_risk.specs.Outages.{AreOutcomes};
 ghost use Rattle.tx_jobs.specs.JobFaults.{mark_after};
-ghost use Rattle.tx_jobs.specs.PageJobs.{PageJobAnswers, PagedWithRisks, PagedFor, ToldPage, IsFound, request_of, shown_codes};
+ghost use Rattle.tx_jobs.specs.PageJobs.{PageJobAnswers, PagedWithRisks, PagedFor, ToldPage, request_of, shown_codes};
+ghost use Rattle.tx_jobs.specs.inner.PageFound.{IsFound};
 
 use crate::job_fault::JobFault;
 use sha2::{Digest, Sha256};
