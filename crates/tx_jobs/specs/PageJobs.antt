@@ -73,16 +73,16 @@ shown_codes p (Some c) = c ∷ []
 shown_codes p None = range_with_len 0 (length p.codes)
 
 -- the order of switching from an old plan is right, if one is asked for
-abbrev pub IsRightChange : {A : Type 0} → Option Plan → Plan → (limit spare : ℕ) → Option (Bor (Switching A))
-    → Type 0
+abbrev pub IsRightChange : {A : Type 0} → Option Plan → Plan → (limit spare : ℕ)
+    → Option (Bor (Switching A)) → Type 0
 IsRightChange None p limit spare None = Unit {0}
 IsRightChange (Some old) p limit spare (Some s) = IsRightSwitching old p limit spare s.now
 IsRightChange old p limit spare other = ⊥
 
 -- what a page is about is right: the file's name, the digest of the plan's text, and what was
 -- found
-pub record IsRightSubject {A : Type 0} (asked : Request) (text : List ℕ) (p : Plan) (risks : List NamedRisk)
-    (old : Option Plan) (codes : List ℕ) (s : Subject A) : Type 0 where
+pub record IsRightSubject {A : Type 0} (asked : Request) (text : List ℕ) (p : Plan)
+    (risks : List NamedRisk) (old : Option Plan) (codes : List ℕ) (s : Subject A) : Type 0 where
   pub name : s.name.now ≡ asked.file
   pub digest : s.digest ≡ sha256 text
   pub plan : s.plan.now ≡ p
