@@ -62,8 +62,8 @@ shown_codes p None = range_with_len 0 (length p.codes)
 
 -- what a page is about is right: the file's name, the digest of the plan's text, and what was
 -- found
-pub record IsRightSubject {A : Type 0} (asked : Request) (text : List ℕ) (p : Plan) (risks : List NamedRisk)
-    (codes : List ℕ) (s : Subject A) : Type 0 where
+pub record IsRightSubject {A : Type 0} (asked : Request) (text : List ℕ) (p : Plan)
+    (risks : List NamedRisk) (codes : List ℕ) (s : Subject A) : Type 0 where
   pub name : s.name.now ≡ asked.file
   pub digest : s.digest ≡ sha256 text
   pub plan : s.plan.now ≡ p
