@@ -8,4 +8,4 @@ mod fill_text;
 mod filling;
 
 pub use fill_text::write_fill;
-pub use filling::{Fill, fill};
+pub use filling::{Fill, set_up_calls};

@@ -12,6 +12,7 @@ mod LintTold
 mod PageTold
 mod Surviving
 mod DrawnCode
+mod Asking
 mod EndLines
 mod Cutting
 mod Taking

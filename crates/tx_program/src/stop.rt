@@ -39,7 +39,8 @@ impl<'n> From<JobFault> for Stop<'n> {
 }
 
 impl<'n> Stop<'n> {
-    /// The exit status: that of the job, 3 where an end failed, or 64 where a file must not be made.
+    /// The exit status: that of the job, 3 where an end failed, or 64 where a file must not be
+    /// made.
     pub(crate) fn status(&self) -> u8
         ensures { result ≡ status_of_stop self.now }
     {
