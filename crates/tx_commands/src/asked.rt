@@ -355,8 +355,7 @@ fn draw_of(alloc: Global, plan: String, matches: &ArgMatches<'_>) -> Result<Comm
     Ok(Command::Draw { plan, routes })
 }
 
-/// The words of `explain`, with a blank between two. A line without any code, name or word of the
-/// table is refused.
+/// The words of `explain`, with a blank between two; refused where the table has none of them.
 pub(crate) fn explain_of(alloc: Global, matches: &ArgMatches<'_>) -> Result<Command, Misuse>
     ensures range { IfOk result IsInRange }
     ensures asked { IfOk result (Asks (codes "explain") (rows_of (found_of matches.now))) }
@@ -366,11 +365,10 @@ pub(crate) fn explain_of(alloc: Global, matches: &ArgMatches<'_>) -> Result<Comm
     let Some(line) = line(alloc, matches, "word")? else {
         return Ok(Command::Explain { line: None });
     };
-    if is_known(line.as_str()) {
-        Ok(Command::Explain { line: Some(line) })
-    } else {
-        Err(Misuse::NoSuchCode(line))
+    if !is_known(line.as_str()) {
+        return Err(Misuse::NoSuchCode(line));
     }
+    Ok(Command::Explain { line: Some(line) })
 }
 
 /// The command of a subcommand whose first word is a plan.
