@@ -9,7 +9,6 @@ use tx_order::Order;
 use tx_plan::{CodeId, ExchangeId, Plan};
 
 /// Two plans of one network, of which one follows the other.
-#[derive(Clone, Copy)]
 pub enum Between<'a, A: Allocator> {
     /// The plans before and after a stage of an order, by its number from 0.
     Stage(&'a Order<A>, usize),
@@ -19,17 +18,17 @@ pub enum Between<'a, A: Allocator> {
 
 /// What an exchange has for a code in both.
 pub fn entry_of<'a, A: Allocator>(
-    between: Between<'a, A>,
+    between: &Between<'a, A>,
     exchange: ExchangeId,
     code: CodeId,
 ) -> Entry<'a>
-    requires { IsThere between }
+    requires { IsThere between.now }
     ensures exchange { result.exchange ≡ exchange }
     ensures code { result.code ≡ code }
-    ensures before { result.before.now ≡ route_list (before_of between) exchange code }
-    ensures now { result.now.now ≡ route_list (after_of between) exchange code }
-    ensures was_barred { result.was_barred ≡ is_barred (before_of between) exchange code }
-    ensures is_barred { result.is_barred ≡ is_barred (after_of between) exchange code }
+    ensures before { result.before.now ≡ route_list (before_of between.now) exchange code }
+    ensures now { result.now.now ≡ route_list (after_of between.now) exchange code }
+    ensures was_barred { result.was_barred ≡ is_barred (before_of between.now) exchange code }
+    ensures is_barred { result.is_barred ≡ is_barred (after_of between.now) exchange code }
 {
     match between {
         Between::Stage(order, stage) => {

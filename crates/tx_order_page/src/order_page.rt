@@ -45,7 +45,7 @@ fn write_difference<A: Allocator, W: Sink>(
         (table_texts new.now old.now new.now) result }
 {
     set(&[Part::Own(NO_ORDER)], sink)?;
-    write_table(new, Between::Plans(old, new), sink)
+    write_table(new, &Between::Plans(old, new), sink)
 }
 
 /// Writes the stages of an order.
@@ -95,6 +95,6 @@ fn write_stage<A: Allocator, W: Sink>(
         ],
         sink,
     )?;
-    write_table(new, Between::Stage(order, stage), sink)?;
+    write_table(new, &Between::Stage(order, stage), sink)?;
     set(&[Part::Own("</section>")], sink)
 }

@@ -19,12 +19,12 @@ const HEAD: &str = "<div class=\"t\"><table><thead><tr><th scope=\"col\">Exchang
 /// Writes the table of what differs between two plans, by the names of one of them.
 pub fn write_table<A: Allocator, W: Sink>(
     plan: &Plan<A>,
-    between: Between<'_, A>,
+    between: &Between<'_, A>,
     sink: &mut W,
 ) -> Result<(), WriteFault>
-    requires { IsThere between }
+    requires { IsThere between.now }
     ensures { Showed W.taken W.failed sink.old sink.new
-        (table_texts plan.now (before_of between) (after_of between)) result }
+        (table_texts plan.now (before_of between.now) (after_of between.now)) result }
 {
     set(&[Part::Own(HEAD)], sink)?;
     write_rows(plan, between, sink)?;
@@ -34,12 +34,12 @@ pub fn write_table<A: Allocator, W: Sink>(
 /// Writes its rows, exchange by exchange.
 fn write_rows<A: Allocator, W: Sink>(
     plan: &Plan<A>,
-    between: Between<'_, A>,
+    between: &Between<'_, A>,
     sink: &mut W,
 ) -> Result<(), WriteFault>
-    requires { IsThere between }
+    requires { IsThere between.now }
     ensures { Showed W.taken W.failed sink.old sink.new
-        (table_texts plan.now (before_of between) (after_of between)) result }
+        (table_texts plan.now (before_of between.now) (after_of between.now)) result }
 {
     for index in 0..plan.exchanges() {
         write_exchange(plan, between, ExchangeId::of(index), sink)?;
@@ -50,13 +50,13 @@ fn write_rows<A: Allocator, W: Sink>(
 /// Writes the rows of an exchange, code by code.
 fn write_exchange<A: Allocator, W: Sink>(
     plan: &Plan<A>,
-    between: Between<'_, A>,
+    between: &Between<'_, A>,
     exchange: ExchangeId,
     sink: &mut W,
 ) -> Result<(), WriteFault>
-    requires { IsThere between }
+    requires { IsThere between.now }
     ensures { Showed W.taken W.failed sink.old sink.new
-        (exchange_texts plan.now (before_of between) (after_of between) exchange) result }
+        (exchange_texts plan.now (before_of between.now) (after_of between.now) exchange) result }
 {
     for index in 0..plan.codes() {
         let entry = entry_of(between, exchange, CodeId::of(index));

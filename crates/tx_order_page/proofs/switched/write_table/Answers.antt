@@ -13,4 +13,4 @@ returns-in_err-write_rows g c = showed_stopped _ _ _ _ _ _ c.in_err-write_rows.e
 pub returns : goal.returns
 returns g c =
     showed_then _ _ _ _ _ _ ([]) _ _ c.in_ok-set.ensures
-    (showed_end _ _ _ _ _ _ (table_texts c.args.plan.now (before_of c.args.between) (after_of c.args.between)) _ c.in_ok-write_rows.ensures c.set-2.ensures)
+    (showed_end _ _ _ _ _ _ (table_texts c.args.plan.now (before_of c.args.between.now) (after_of c.args.between.now)) _ c.in_ok-write_rows.ensures c.set-2.ensures)
