@@ -30,7 +30,7 @@ pub fn entry_of<'a, A: Allocator>(
     ensures was_barred { result.was_barred ≡ is_barred (before_of between.now) exchange code }
     ensures is_barred { result.is_barred ≡ is_barred (after_of between.now) exchange code }
 {
-    match between {
+    match *between {
         Between::Stage(order, stage) => {
             order.rules();
             Entry {
