@@ -9,6 +9,7 @@ use tx_order::Order;
 use tx_plan::{CodeId, ExchangeId, Plan};
 
 /// Two plans of one network, of which one follows the other.
+#[derive(Drop)]
 pub enum Between<'a, A: Allocator> {
     /// The plans before and after a stage of an order, by its number from 0.
     Stage(&'a Order<A>, usize),
