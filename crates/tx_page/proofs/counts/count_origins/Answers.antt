@@ -1,4 +1,4 @@
-use Rattle.std.proofs.Common.{◌≡◌, ◌+◌, length, take, ap, sym, ◌∙◌, arith}
+use Rattle.std.proofs.Common.{◌≡◌, ◌+◌, ◌<◌, length, take, ap, sym, ◌∙◌, arith}
 use Rattle.std.specs.Prelude.{count_by, if◌then◌else◌}
 use Rattle.std.specs.List.{range_with_len}
 use Rattle.std.proofs.lemmas.List.{take_all}
@@ -11,7 +11,7 @@ use Rattle.tx_page.proofs.counts.count_origins.Goals.{then-is_origin, else-is_or
 pub loop-index-preserved : goal.loop-index-preserved
 loop-index-preserved g c =
     let n = length c.args.plan.now.exchanges in
-    let low = omega (arith, c.loop-index-test.true, c.exchanges-index-end.ensures.count) in
+    let low : c.loop-index.index < n = omega (arith, c.loop-index-test.true, c.exchanges-index-end.ensures.count) in
     let now : c.if-is_origin.count ≡ c.loop-index.count + (if c.is_origin.result then 1 else 0) = elim c.if-is_origin.branch [
       | then-is_origin w ↦ w.count-is ∙ ap (λ t. c.loop-index.count + (if t then 1 else 0)) (sym w.if-is_origin.true)
       | else-is_origin w ↦ w.count-is ∙ ap (λ t. c.loop-index.count + (if t then 1 else 0)) (sym w.if-is_origin.false)
