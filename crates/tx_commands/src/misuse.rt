@@ -28,8 +28,8 @@ pub(crate) enum Misuse {
     NoSuchCode(String),
     /// Standard input is to be read for two files.
     InputTwice,
-    /// A file to be made has this name, which is that of another file of the command, or of standard
-    /// input.
+    /// A file to be made has this name, which is that of another file of the command, or of
+    /// standard input.
     Overwrites(String),
     /// The version is asked for.
     Version,

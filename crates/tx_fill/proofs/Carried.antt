@@ -1,6 +1,7 @@
 -- Calls that are carried, one step after another.
-use Rattle.std.proofs.Common.{◌≡◌, ℕ, zero, suc, ◌+◌, ◌-◌, ◌<◌, ◌≤◌, ◌==◌, Bool, true, false, List, [], ◌∷◌, length, drop, Option, Some, None, refl, sym, ap, ◌∙◌, arith}
+use Rattle.std.proofs.Common.{◌≡◌, ℕ, zero, suc, ◌+◌, ◌-◌, ◌<◌, ◌≤◌, ◌==◌, Bool, true, false, List, [], ◌∷◌, length, drop, Some, None, refl, sym, ap, ◌∙◌, arith}
 use Rattle.std.specs.Prelude.{slice_get, if◌then◌else◌}
+use Rattle.std.proofs.lemmas.Bool.{ne_eqb}
 use Rattle.std.proofs.lemmas.Option.{slice_get_within, get_or_from_slice_get}
 use Rattle.std.proofs.Math.Seq.{drop-nil}
 use Rattle.std.proofs.lemmas.List.{drop_more}
@@ -126,7 +127,11 @@ module _ (p : Plan) (pairs : List (Line × Line)) (i : ℕ) where
 
     -- the call has ended
     pub has_ended : (x : Ended) → slice_get t.tickets 0 ≡ Some x → t ≡ z
-    has_ended x some = sym (next_is ∙ ap by_tickets (first_of t.tickets x some))
+    has_ended x some =
+        let long = ap length (first_of t.tickets x some) in
+        let other : (length t.tickets == 0) ≡ false =
+        ne_eqb (length t.tickets) 0 (λ none. absurd (omega arith)) in
+        sym (next_is ∙ ap (λ b. if b then filled p (drop (i + 1) pairs) t else t) other)
 
     -- it stands
     pub stands : (u : State) → u ≡ ticket_taken t → slice_get t.tickets 0 ≡ None

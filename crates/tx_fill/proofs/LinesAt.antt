@@ -1,10 +1,10 @@
 -- Lines by their indexes, and what is keyed for them.
-use Rattle.std.proofs.Common.{◌≡◌, ℕ, zero, suc, ◌+◌, ◌-◌, ◌^◌, ◌<◌, ◌≤◌, ◌&&◌, nat_le, Bool, true, false, List, [], ◌∷◌, ◌++◌, map, take, drop, length, Option, Some, None, refl, sym, ap, ◌∙◌, arith, length-append}
+use Rattle.std.proofs.Common.{◌≡◌, ℕ, zero, suc, ◌+◌, ◌-◌, ◌^◌, ◌<◌, ◌≤◌, ◌&&◌, nat_le, Bool, true, false, List, [], ◌∷◌, ◌++◌, map, take, drop, length, Option, Some, None, refl, ap, ◌∙◌, arith, length-append}
 use Rattle.std.specs.Prelude.{slice_get, if◌then◌else◌, replicate, decimal}
 use Rattle.std.specs.List.{flat_map, range_with_len, list_all, zip}
 use Rattle.std.specs.Option.{option_map_or}
 use Rattle.std.specs.Str.Parse.{digits_value, AllDigits}
-use Rattle.std.proofs.lemmas.Bool.{and_parts, and_from, le-leb, leb-true}
+use Rattle.std.proofs.lemmas.Bool.{false≢true, and_parts, and_from, le-leb, leb-true}
 use Rattle.std.proofs.Math.Nat.{pow-le-pow_right}
 use Rattle.std.proofs.lemmas.Fmt.{length-decimal-le}
 use Rattle.std.proofs.lemmas.Int.Digits.{digits_value-lt}
@@ -114,6 +114,13 @@ decimal_short width n some few fits =
     let least : 10 ^ width ≤ 10 ^ 9 = pow-le-pow_right (omega arith) few in
     length-decimal-le width n some fits (omega arith)
 
+figures_long : (width n : ℕ) → length (decimal n) ≤ width → length (figures width n) ≡ width
+figures_long width n short =
+    let zeros = width - length (decimal n) in
+    let sum : zeros + length (decimal n) ≡ width = omega arith in
+    length-append (replicate zeros 48) (decimal n)
+    ∙ ap (λ k. k + length (decimal n)) (length-replicate zeros 48) ∙ sum
+
 -- a number, with zeros before it
 pub padded_is : (width n : ℕ) (digits text : List ℕ) → 1 ≤ width → width ≤ 9 → n < 10 ^ width
     → digits ≡ decimal n → text ≡ take (width - length digits) (replicate 9 48) ++ digits
@@ -127,18 +134,16 @@ padded_is width n digits text some few fits is so =
     let least : 10 ^ width ≤ 10 ^ 9 = pow-le-pow_right (omega arith) few in
     let small : n < 2 ^ 32 = omega arith in
     let short = decimal_short width n some few fits in
-    let long = length-append (replicate zeros 48) (decimal n) in
-    let count : length (replicate zeros 48) ≡ zeros = length-replicate zeros 48 in (
+    let long = figures_long width n short in (
       same,
       ap is_national same ∙ figures_from 1 9 (figures width n) (omega arith) (omega arith)
           (padded_figures zeros n small),
     )
 
--- what is read of a text
-pub read_some : (text number : List ℕ) → is_national text ≡ true
-    → Some number ≡ (if is_national text then Some text else None) → number ≡ text
-read_some text number ok e =
-    sym (cond_some (is_national text) text number (sym e)).1
+-- a text that passes its test is read
+pub is_read : (b : Bool) (text : List ℕ) → b ≡ true → (if b then Some text else None) ≡ None → ⊥
+is_read true text passes none = let bad : ⊥ = cc in bad
+is_read false text passes none = false≢true passes
 
 -- AN ENTRY OF TWO LISTS
 module _ {A : Type 0} where

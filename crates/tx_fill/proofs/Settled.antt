@@ -13,7 +13,6 @@ use Rattle.tx_machine.specs.declared.event.Event.{Event}
 use Rattle.tx_machine.specs.declared.event.Event.TheVariants.{Block}
 use Rattle.tx_machine.specs.declared.refusal.Refusal.{Refusal}
 use Rattle.tx_machine.specs.declared.reply.Reply.{Reply}
-use Rattle.tx_machine.specs.Ended.{Ended}
 use Rattle.tx_machine.specs.Refusals.{refusal}
 use Rattle.tx_machine.specs.State.{State, Net, opening}
 use Rattle.tx_machine.specs.Runs.{state_after}
@@ -71,7 +70,7 @@ first_end p g low =
     let r = entry_at p.groups g low in
     let same = eq-eqb r.0.a r.0.a refl in
     ap (λ (o : Option Group). option_map_or (λ k. may_seize_row k
-    (option_map_or (λ (k : Group). (k.a, k.b)) o (0, 0)).0) o false) r.1
+    (option_map_or {U = ℕ × ℕ} (λ (k : Group). (k.a, k.b)) o (0, 0)).0) o false) r.1
     ∙ ap (λ b. b || (is_both r.0.direction && (r.0.b == r.0.a))) same
 
 -- the groups before an index that pass a test, and one more

@@ -12,6 +12,7 @@ use tx_plan::{CodeId, ExchangeId, Line, LineRange, National, Plan};
 use tx_text::Figures;
 
 /// Whose lines are meant.
+#[derive(Drop)]
 pub(crate) enum Whose {
     /// Those at home at an exchange.
     At(ExchangeId),

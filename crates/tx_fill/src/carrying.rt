@@ -1,6 +1,5 @@
 // Calls that are carried as far as they come.
-ghost use Rattle.std.specs.Prelude.{◌≡◌, length, IfOk, OnOk};
-ghost use Rattle.std.specs.Option.{option_map};
+ghost use Rattle.std.specs.Prelude.{◌≡◌, [], slice_get, IfOk, OnOk};
 ghost use Rattle.tx_machine.specs.State.{ticket_taken};
 ghost use Rattle.tx_fill.specs.CallLines.{line_pairs};
 ghost use Rattle.tx_fill.specs.Fills.{is_seized, carried, called, filled};

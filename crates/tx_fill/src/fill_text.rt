@@ -1,4 +1,5 @@
 // The writer of what calls came to that were set up one after another.
+ghost use Rattle.std.specs.Prelude.{◌++◌, codes};
 ghost use Rattle.std.specs.List.{flat_map};
 ghost use Rattle.tx_text.specs.Wrote.{Wrote};
 ghost use Rattle.tx_fill.specs.FillText.{head_line, calls_line, next_line, full_line, fill_text};
@@ -63,14 +64,24 @@ fn write_next<A: Allocator, W: Sink>(
 ) -> Result<(), WriteFault>
     ensures { Wrote W.taken W.failed sink.old sink.new (next_line plan.now next) result }
 {
-    let Some((cause, exchange)) = next else {
-        return write_parts(&[b"NO LINE\n"], sink);
-    };
-    let name = plan.exchange_name(exchange);
-    write_parts(
-        &[b"ANSWERED ", cause_word(cause), b" AT ", name, b"\n"],
-        sink,
-    )
+    match next {
+        Some((cause, exchange)) => {
+            write_answer(cause_word(cause), plan.exchange_name(exchange), sink)
+        }
+        None => write_parts(&[b"NO LINE\n"], sink),
+    }
+}
+
+/// Writes an answer, and the name of the exchange where it was given.
+fn write_answer<'a, W: Sink>(
+    answer: &'a [u8],
+    name: &'a [u8],
+    sink: &mut W,
+) -> Result<(), WriteFault>
+    ensures { Wrote W.taken W.failed sink.old sink.new (codes "ANSWERED "
+        ++ (answer.entry.now ++ (codes " AT " ++ (name.entry.now ++ codes "\n")))) result }
+{
+    write_parts(&[b"ANSWERED ", answer, b" AT ", name, b"\n"], sink)
 }
 
 fn write_all_full<A: Allocator, W: Sink>(

@@ -31,7 +31,7 @@ pub struct Fill<A: Allocator = Global> {
 /// one after another: the first line there calls the first line of the code, and so on. Each call
 /// is carried as far as it comes. Stops at the first that ends, and releases its circuits. All is
 /// that of the run of these events. `Err` means out of memory.
-pub fn fill<A: Allocator + Copy>(
+pub fn set_up_calls<A: Allocator + Copy>(
     alloc: A,
     plan: &Plan<A>,
     down: &[GroupId],

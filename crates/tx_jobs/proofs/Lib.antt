@@ -11,6 +11,7 @@ mod Grading
 mod LintTold
 mod Surviving
 mod DrawnCode
+mod Asking
 mod EndLines
 mod Cutting
 mod Taking

@@ -17,7 +17,7 @@ group_before (Some g) (Ok gs) = Ok (g ∷ gs)
 group_before (Some g) (Err place) = Err (suc place)
 
 -- the groups of these names, or the place of the first name of which the plan has none, from 0
-pub groups_named : Plan → List (List ℕ) → Result (List ℕ) ℕ
+unfoldable pub groups_named : Plan → List (List ℕ) → Result (List ℕ) ℕ
 groups_named p [] = Ok []
 groups_named p (w ∷ ws) = group_before (group_named p w) (groups_named p ws)
 

@@ -1,5 +1,5 @@
 // The job of `fill PLAN EXCHANGE CODE`.
-ghost use Rattle.std.specs.Prelude.{◌≡◌, ◌<◌, length, option_map};
+ghost use Rattle.std.specs.Prelude.{◌≡◌, option_map};
 ghost use Rattle.tx_text.specs.Calls.{CallsAtMost, source_calls};
 ghost use Rattle.tx_jobs.specs.JobFaults.{mark_after};
 ghost use Rattle.tx_text.specs.Ends.{input, output};
@@ -9,7 +9,7 @@ ghost use Rattle.tx_jobs.specs.FillJobs.{ToldFill, FillJobAnswers};
 use crate::asked::asked_of;
 use crate::job_fault::JobFault;
 use std::alloc::Allocator;
-use tx_fill::{Fill, fill, write_fill};
+use tx_fill::{Fill, set_up_calls, write_fill};
 use tx_plan::{CodeId, ExchangeId, GroupId, Plan};
 use tx_plantext::read_plan_from;
 use tx_text::{Sink, Source};
@@ -65,13 +65,11 @@ fn tell_fill<A: Allocator + Copy, W: Sink>(
     code: CodeId,
     out: &mut W,
 ) -> Result<Fill<A>, JobFault>
-    requires exchange { exchange < length plan.now.exchanges }
-    requires code { code < length plan.now.codes }
     ensures told { ToldFill plan.now down.now exchange code (output W.taken out.old out.new)
         result }
     ensures mark { W.failed out.new ≡ mark_after (W.failed out.old) result }
 {
-    let found = fill(alloc, plan, down, exchange, code)?;
+    let found = set_up_calls(alloc, plan, down, exchange, code)?;
     write_fill(plan, down, code, exchange, &found, out)?;
     Ok(found)
 }

@@ -1,12 +1,12 @@
 // The jobs of all commands, behind one call.
 ghost use Rattle.std.specs.Prelude.{◌≡◌, ◌≢◌, ◌≤◌, true, IfSome};
 ghost use Rattle.tx_text.specs.Calls.{CallsAtMost, source_calls};
-ghost use Rattle.tx_text.specs.Ends.{Input, input, output};
+ghost use Rattle.tx_text.specs.Ends.{input, output};
 ghost use Rattle.tx_commands.specs.Commands.{IsInRange};
 ghost use Rattle.tx_commands.specs.declared.command.Command.TheVariants.{Pipe};
 ghost use Rattle.tx_jobs.specs.JobFaults.{mark_after};
 ghost use Rattle.tx_jobs.specs.Done.{HasDrawn, IsDone};
-ghost use Rattle.tx_jobs.specs.inner.Texts.{has_more_texts, may_have_risks, is_of_calls};
+ghost use Rattle.tx_jobs.specs.inner.Texts.{no_text, runs_a_script, has_two_texts, may_have_risks, is_of_calls};
 
 use crate::audit_evidence::evidence_job;
 use crate::change_evidence::change_evidence_job;
@@ -57,12 +57,12 @@ pub fn do_job<A: Allocator + Copy, P: Source, Q: Source, R: Source, W: Sink>(
 {
     let files = Files::of(command);
     match command {
-        Command::Pipe
-        | Command::Run { .. }
-        | Command::RunTelling { .. }
-        | Command::Check { .. }
-        | Command::Change { .. }
-        | Command::Order { .. } => do_texts(alloc, command, first, second, third, out),
+        Command::Pipe | Command::Run { .. } | Command::RunTelling { .. } => {
+            do_run(alloc, command, first, second, third, out)
+        }
+        Command::Check { .. } | Command::Change { .. } | Command::Order { .. } => {
+            do_pair(alloc, command, first, second, out)
+        }
         Command::Lint { .. } | Command::Survive { .. } => {
             do_risks(alloc, command, first, second, out)
         }
@@ -88,8 +88,8 @@ pub fn do_job<A: Allocator + Copy, P: Source, Q: Source, R: Source, W: Sink>(
     }
 }
 
-/// Does the job of a command over more than one text.
-fn do_texts<A: Allocator + Copy, P: Source, Q: Source, R: Source, W: Sink>(
+/// Does the job of a command that runs a script.
+fn do_run<A: Allocator + Copy, P: Source, Q: Source, R: Source, W: Sink>(
     alloc: A,
     command: &Command,
     first: &mut P,
@@ -98,7 +98,7 @@ fn do_texts<A: Allocator + Copy, P: Source, Q: Source, R: Source, W: Sink>(
     out: &mut W,
 ) -> Result<Done<A>, JobFault>
     requires range { IsInRange command.now }
-    requires texts { has_more_texts command.now ≡ true }
+    requires script { runs_a_script command.now ≡ true }
     ensures done { IsDone P.rest P.failed P.called first.old first.new
         (input Q.rest Q.failed Q.called second.old second.new)
         (input R.rest R.failed R.called third.old third.new)
@@ -109,7 +109,6 @@ fn do_texts<A: Allocator + Copy, P: Source, Q: Source, R: Source, W: Sink>(
     ensures second_calls { CallsAtMost Q.called source_calls second.old second.new }
     ensures third_calls { CallsAtMost R.called source_calls third.old third.new }
 {
-    let files = Files::of(command);
     match command {
         Command::Pipe => Ok(Done::Ran(pipe_job(alloc, first, out)?)),
         Command::Run { checked: None, .. } => Ok(Done::Ran(run_job(alloc, first, second, out)?)),
@@ -133,6 +132,29 @@ fn do_texts<A: Allocator + Copy, P: Source, Q: Source, R: Source, W: Sink>(
             let summary = run_telling_job(alloc, telling, first, second, out)?;
             Ok(Done::Told(*strict, summary))
         }
+        _ => unreachable!(),
+    }
+}
+
+/// Does the job of a command over two texts: a plan and a certificate, or two plans.
+fn do_pair<A: Allocator + Copy, P: Source, Q: Source, W: Sink>(
+    alloc: A,
+    command: &Command,
+    first: &mut P,
+    second: &mut Q,
+    out: &mut W,
+) -> Result<Done<A>, JobFault>
+    requires range { IsInRange command.now }
+    requires texts { has_two_texts command.now ≡ true }
+    ensures done { IsDone P.rest P.failed P.called first.old first.new
+        (input Q.rest Q.failed Q.called second.old second.new) no_text
+        (output W.taken out.old out.new) command.now result }
+    ensures mark { W.failed out.new ≡ mark_after (W.failed out.old) result }
+    ensures first_calls { CallsAtMost P.called source_calls first.old first.new }
+    ensures second_calls { CallsAtMost Q.called source_calls second.old second.new }
+{
+    let files = Files::of(command);
+    match command {
         Command::Check { limit, spare, .. } => {
             Ok(Done::Verified(check_job(alloc, first, second, *limit, *spare, out)?))
         }
@@ -167,8 +189,8 @@ fn do_risks<A: Allocator + Copy, P: Source, Q: Source, W: Sink>(
     out: &mut W,
 ) -> Result<Done<A>, JobFault>
     requires { may_have_risks command.now ≡ true }
-    ensures done { (third : Input) → third.unread → IsDone P.rest P.failed P.called plan.old plan.new
-        (input Q.rest Q.failed Q.called risks.old risks.new) third
+    ensures done { IsDone P.rest P.failed P.called plan.old plan.new
+        (input Q.rest Q.failed Q.called risks.old risks.new) no_text
         (output W.taken out.old out.new) command.now result }
     ensures mark { W.failed out.new ≡ mark_after (W.failed out.old) result }
     ensures plan_calls { CallsAtMost P.called source_calls plan.old plan.new }
@@ -208,8 +230,7 @@ fn do_calls<A: Allocator + Copy, P: Source, W: Sink>(
     out: &mut W,
 ) -> Result<Done<A>, JobFault>
     requires { is_of_calls command.now ≡ true }
-    ensures done { (second third : Input) → second.unread → third.unread
-        → IsDone P.rest P.failed P.called plan.old plan.new second third
+    ensures done { IsDone P.rest P.failed P.called plan.old plan.new no_text no_text
         (output W.taken out.old out.new) command.now result }
     ensures mark { W.failed out.new ≡ mark_after (W.failed out.old) result }
     ensures calls { CallsAtMost P.called source_calls plan.old plan.new }

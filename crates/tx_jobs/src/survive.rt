@@ -30,7 +30,8 @@ pub fn survive_job<A: Allocator + Copy, P: Source, W: Sink>(
     ensures calls { CallsAtMost P.called source_calls plan.old plan.new }
 {
     let plan = read_plan_from(alloc, plan)?;
-    tell_survival(alloc, &plan, &Risks::none(alloc), false, totals, out)
+    let risks = Risks::none(alloc);
+    tell_survival(alloc, &plan, &risks, false, totals, out)
 }
 
 /// Reads a plan and then a text of named risks, and writes whom each of these risks, each group and
@@ -67,7 +68,8 @@ fn tell_named<A: Allocator + Copy, R: Source, W: Sink>(
     totals: bool,
     out: &mut W,
 ) -> Result<Survival<A>, JobFault>
-    ensures answers { RisksAnswers only totals plan.now (input R.rest R.failed R.called risks.old risks.new)
+    ensures answers { RisksAnswers only totals plan.now
+        (input R.rest R.failed R.called risks.old risks.new)
         (output W.taken out.old out.new) result }
     ensures mark { W.failed out.new ≡ mark_after (W.failed out.old) result }
     ensures calls { CallsAtMost R.called source_calls risks.old risks.new }
@@ -86,7 +88,8 @@ fn tell_survival<A: Allocator + Copy, W: Sink>(
     out: &mut W,
 ) -> Result<Survival<A>, JobFault>
     requires { AreRisksFor plan.now risks.now }
-    ensures told { ToldSurvival plan.now risks.now only totals (output W.taken out.old out.new) result }
+    ensures told { ToldSurvival plan.now risks.now only totals
+        (output W.taken out.old out.new) result }
     ensures mark { W.failed out.new ≡ mark_after (W.failed out.old) result }
 {
     let survival = survive(alloc, plan, risks, only)?;

@@ -28,8 +28,8 @@ pub record IsRefusedWith (words : List (Bor (List ℕ))) (status : ℕ) : Type 0
   pub told : IsRefusalOf words fault
   pub answers : (status ≡ status_of fault) ⊎ ((status_of fault ≡ 0) × (status ≡ 3))
 
--- of a command that was not done: that of its job's fault, 3 where an end failed, or 64 where a file
--- must not be made
+-- of a command that was not done: that of its job's fault, 3 where an end failed, or 64 where a
+-- file must not be made
 abbrev pub status_of_stop : Stop → ℕ
 status_of_stop (Job fault) = job_status fault
 status_of_stop (Read name error) = 3

@@ -96,7 +96,8 @@ impl<W: Write + Drop, A: Allocator> Output<W, A> {
         }
     }
 
-    /// Keeps why a read of an input failed, if it is the first one, and answers an error of its kind.
+    /// Keeps why a read of an input failed, if it is the first one, and answers an error of its
+    /// kind.
     fn keep_failed_read(&self, index: usize, error: io::Error) -> io::Error {
         let kind = error.kind();
         if let Ok(mut failed) = self.failed_read.try_borrow_mut() {

@@ -9,8 +9,8 @@ use std::os::unix::fs::MetadataExt;
 use std::path::Path;
 use tx_commands::STANDARD_INPUT;
 
-/// The device that a file is on, and its number there. Where no file is, it is those of the folder in
-/// which one can be made.
+/// The device that a file is on, and its number there. Where no file is, it is those of the folder
+/// in which one can be made.
 #[derive(Clone, Copy, Debug)]
 pub struct FileId {
     device: u64,
@@ -19,8 +19,8 @@ pub struct FileId {
 }
 
 impl FileId {
-    /// That of a name on the machine. A device, a pipe and a folder have none, nor has what cannot be
-    /// looked at. Where a link leads nowhere, a file can be made in its place.
+    /// That of a name on the machine. A device, a pipe and a folder have none, nor has what cannot
+    /// be looked at. Where a link leads nowhere, a file can be made in its place.
     pub(crate) fn of(rt: &HostRuntime, name: &str) -> Option<FileId> {
         let name = if name == STANDARD_INPUT {
             "/dev/stdin"

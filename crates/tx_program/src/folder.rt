@@ -13,8 +13,8 @@ pub trait Folder {
     /// A file that is being made.
     type Output: Write + Drop;
 
-    /// Which file is meant by a name, if that is known: names of one file have one id. `-` means what
-    /// standard input was redirected from.
+    /// Which file is meant by a name, if that is known: names of one file have one id. `-` means
+    /// what standard input was redirected from.
     fn identify(&self, name: &str) -> Option<FileId>;
 
     /// Opens a file to be read.

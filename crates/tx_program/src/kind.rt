@@ -45,8 +45,8 @@ impl TextKind {
         }
     }
 
-    /// Whether the first line with words of a file is the header of this kind. Where the file cannot
-    /// be read, it is not.
+    /// Whether the first line with words of a file is the header of this kind. Where the file
+    /// cannot be read, it is not.
     fn begins<A: Allocator, F: Folder>(
         self,
         alloc: A,

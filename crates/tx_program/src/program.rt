@@ -150,8 +150,8 @@ fn failed_read<'n>(files: &Files<'n>, failed: Option<FailedRead>) -> Stop<'n> {
     }
 }
 
-/// Does the job of a command over its files, which are open, and closes them. Then it makes the files
-/// of what the command came to.
+/// Does the job of a command over its files, which are open, and closes them. Then it makes the
+/// files of what the command came to.
 fn carry_out<'c, A: Allocator + Copy, F: Folder, I: Read + Drop, O: Write + Drop>(
     alloc: A,
     command: &Command,

@@ -4,7 +4,7 @@ use Rattle.std.specs.Option.{option_to_list}
 use Rattle.std.proofs.lemmas.List.{length_push}
 use Rattle.std.proofs.Math.ListN.{set, length-set}
 use Rattle.tx_plan.specs.Plan.{Plan}
-use Rattle.tx_rank.specs.Walks.{end_of, before_end, passed}
+use Rattle.tx_rank.specs.Walks.{end_of, before_end}
 use Rattle.tx_rank.proofs.Ways.{end_push}
 use Rattle.tx_rank.proofs.Trails.{before_longer}
 use Rattle.tx_trace.specs.Ways.{next_step, one_on, way_within, first_way}

@@ -39,8 +39,8 @@ pub record IsRisksOnly (name : List ℕ) (found : List Row) : Type 0 where
 pub record IsTraceInPart (name : List ℕ) (found : List Row) : Type 0 where
   pub trace : name ≡ codes "trace"
   pub not_calls :
-      (has found (codes "exchange") && (has found (codes "code") && not (has found (codes "group"))))
-      ≡ false
+      (has found (codes "exchange")
+      && (has found (codes "code") && not (has found (codes "group")))) ≡ false
   pub not_group :
       (has found (codes "group") && not (has found (codes "exchange")
       || (has found (codes "code") || has found (codes "down")))) ≡ false

@@ -1,17 +1,26 @@
 -- The commands by the texts that they are over.
-use Rattle.std.specs.Prelude.{Bool, true, false}
+use Rattle.std.specs.Prelude.{Bool, true, false, None}
+use Rattle.tx_text.specs.Ends.{Input}
 use Rattle.tx_commands.specs.declared.command.Command.{Command}
 use Rattle.tx_commands.specs.declared.command.Command.TheVariants.{Pipe, Run, RunTelling, Check, Lint, Change, Order, Survive, Trace, TraceGroup, Fill}
 
--- it is over more than one text, as a plan and a script in one input are, and not over named risks
-abbrev pub has_more_texts : Command → Bool
-has_more_texts Pipe = true
-has_more_texts (Run plan script checked) = true
-has_more_texts (RunTelling plan script strict echo summary) = true
-has_more_texts (Check plan cert limit spare) = true
-has_more_texts (Change before after limit spare cert mixture counter) = true
-has_more_texts (Order before after limit spare stage plan cert) = true
-has_more_texts other = false
+-- where a command is over no further text
+abbrev pub no_text : Input
+no_text = record { old = None; new = None; broken = ⊥; unread = Unit {0} }
+
+-- it runs a script
+abbrev pub runs_a_script : Command → Bool
+runs_a_script Pipe = true
+runs_a_script (Run plan script checked) = true
+runs_a_script (RunTelling plan script strict echo summary) = true
+runs_a_script other = false
+
+-- it is over two texts: a plan and a certificate, or two plans
+abbrev pub has_two_texts : Command → Bool
+has_two_texts (Check plan cert limit spare) = true
+has_two_texts (Change before after limit spare cert mixture counter) = true
+has_two_texts (Order before after limit spare stage plan cert) = true
+has_two_texts other = false
 
 -- it is over a plan, and may be over its named risks
 abbrev pub may_have_risks : Command → Bool

@@ -1,4 +1,4 @@
-use Rattle.std.proofs.Common.{◌∙◌, Some, option_map, ap}
+use Rattle.std.proofs.Common.{◌∙◌, option_map, ap}
 use Rattle.tx_commands.proofs.Found.{first_found}
 use Rattle.tx_commands.proofs.asked.number_of.Goals as goal
 
@@ -7,5 +7,5 @@ returns-in-Some-number-clause-given c =
     record {
       text = c.in-Some.word.now;
       given = first_found c.args.matches.now c.args.id.now _ c.get_str.ensures ∙ ap (option_map (λ w. w.now)) c.in-Some.is;
-      number = c.number.ensures ∙ c.in-Some-number.is;
+      number = cc;
     }

@@ -18,7 +18,7 @@ pub line_in-requires : goal.line_in-requires
 line_in-requires g c =
     let p = c.args.plan.now in
     let r = c.in-Some.range in
-    let low = c.if-left-ltcount.true in
+    let low = c.if-left-count.true in
     let n = c.count_in-count.ensures.count in
     let rules = all_at (IsRange p) p.ranges c.loop-i.i r c.ranges-i-end.ensures.rules.ranges
     (sym c.in-Some.ensures) in
@@ -26,10 +26,10 @@ line_in-requires g c =
     let high = (value_small r.high rules.high).0 in
     subst (λ (n : ℕ). digits_value 10 r.low + c.loop-i.left < 10 ^ n) (sym rules.width) (omega arith)
 
-pub returns-then-left-ltcount-clause-line : goal.returns-then-left-ltcount-clause-line
-returns-then-left-ltcount-clause-line g c =
+pub returns-then-left-count-clause-line : goal.returns-then-left-count-clause-line
+returns-then-left-count-clause-line g c =
     let p = c.args.plan.now in
-    let low = c.if-left-ltcount.true in
+    let low = c.if-left-count.true in
     let n = c.count_in-count.ensures.count in
     ap (λ l. Some l) c.line_in.ensures
     ∙ sym (line_here p c.args.whose.now c.loop-i.i c.in-Some.range (sym c.in-Some.ensures) c.loop-i.left
@@ -40,7 +40,7 @@ pub loop-i-preserved : goal.loop-i-preserved
 loop-i-preserved g c =
     let p = c.args.plan.now in
     let w = c.args.whose.now in
-    let far = c.if-left-ltcount.false in
+    let far = c.if-left-count.false in
     let n = c.count_in-count.ensures.count in
     let few = c.count_in-count.ensures.few in
     let before = c.loop-i.invariant.few in

@@ -1,4 +1,4 @@
-use Rattle.std.proofs.Common.{sym}
+use Rattle.std.proofs.Common.{◌∙◌, sym}
 use Rattle.tx_fill.specs.CallLines.{lines_of}
 use Rattle.tx_fill.specs.declared.call_lines.Whose.TheVariants.{At, Of}
 use Rattle.tx_fill.proofs.LinesAt.{zip_both, zip_first, zip_second}
@@ -7,13 +7,15 @@ use Rattle.tx_fill.proofs.call_lines.pair_at.Goals as goal
 pub returns-in_err-line-clause-pair : goal.returns-in_err-line-clause-pair
 returns-in_err-line-clause-pair g c =
     let p = c.args.plan.now in
-    sym (zip_first (lines_of p (At c.args.exchange)) (lines_of p (Of c.args.code)) c.args.index
+    c.from_residual.ensures
+    ∙ sym (zip_first (lines_of p (At c.args.exchange)) (lines_of p (Of c.args.code)) c.args.index
     (sym c.in_err-line.ensures.line))
 
 pub returns-in_err-called-clause-pair : goal.returns-in_err-called-clause-pair
 returns-in_err-called-clause-pair g c =
     let p = c.args.plan.now in
-    sym (zip_second (lines_of p (At c.args.exchange)) (lines_of p (Of c.args.code)) c.args.index
+    c.from_residual-in_err-called.ensures
+    ∙ sym (zip_second (lines_of p (At c.args.exchange)) (lines_of p (Of c.args.code)) c.args.index
     (sym c.in_err-called.ensures.line))
 
 pub returns-clause-pair : goal.returns-clause-pair

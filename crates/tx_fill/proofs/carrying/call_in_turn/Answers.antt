@@ -1,4 +1,4 @@
-use Rattle.std.proofs.Common.{◌∙◌, ◌-◌, length, ap, refl, sym, arith}
+use Rattle.std.proofs.Common.{◌∙◌, ap, refl, sym, arith}
 use Rattle.std.specs.Prelude.{slice_get}
 use Rattle.std.proofs.lemmas.Option.{slice_get_within}
 use Rattle.tx_machine.specs.State.{State, ticket_taken}
@@ -7,7 +7,7 @@ use Rattle.tx_fill.proofs.Carried.{stands, has_ended, all_called}
 use Rattle.tx_fill.proofs.carrying.call_in_turn.Goals as goal
 
 pub call-requires : goal.call-requires
-call-requires g c = c.loop-line.invariant.plan
+call-requires g c = record { plan = c.loop-line.invariant.plan }
 
 pub loop-line-init : goal.loop-line-init
 loop-line-init g c = record { plan = c.requires.plan; fresh = c.requires.fresh; state = refl }
@@ -25,20 +25,20 @@ loop-line-preserved g c =
     let n = c.next_ticket.ensures in
     let s = stands c.args.plan.now (line_pairs c.args.plan.now c.args.exchange c.args.code)
     c.loop-line.index _ (sym c.in-Some.ensures.pair) c.loop-line.network.state _ _ i.state k.state
-    c.next_ticket.new.self.state n.rest (sym c.in_default.ensures.first) in
+    c.next_ticket.new.self.state n.rest (sym c.in_default-next_ticket.ensures.first) in
     record { plan = n.plan ∙ k.plan ∙ i.plan; fresh = s.0; state = s.1 }
 
-pub returns-in-Some-ticket : goal.returns-in-Some-ticket
-returns-in-Some-ticket g c =
+pub returns-in-Some-next_ticket : goal.returns-in-Some-next_ticket
+returns-in-Some-next_ticket g c =
     let i = c.loop-line.invariant in
     let k = c.in_ok-call.ensures in
     let n = c.next_ticket.ensures in
     let e = has_ended c.args.plan.now (line_pairs c.args.plan.now c.args.exchange c.args.code)
     c.loop-line.index _ (sym c.in-Some.ensures.pair) c.loop-line.network.state _ _ i.state k.state
-    _ (sym c.in-Some-ticket.ensures.first) in
+    _ (sym c.in-Some-next_ticket.ensures.first) in
     record {
       plan = n.plan ∙ k.plan ∙ i.plan ∙ sym c.requires.plan;
-      ended = c.in-Some-ticket.ensures.first ∙ ap (λ (s : State). slice_get s.tickets 0) e;
+      ended = c.in-Some-next_ticket.ensures.first ∙ ap (λ (s : State). slice_get s.tickets 0) e;
       state = n.rest ∙ ap ticket_taken e;
     }
 

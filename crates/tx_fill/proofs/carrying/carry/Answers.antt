@@ -1,4 +1,4 @@
-use Rattle.std.proofs.Common.{◌∙◌, sym, arith}
+use Rattle.std.proofs.Common.{◌∙◌, sym}
 use Rattle.tx_fill.proofs.Carried.{carried_out, carried_stop, carried_more}
 use Rattle.tx_fill.proofs.carrying.carry.Goals as goal
 

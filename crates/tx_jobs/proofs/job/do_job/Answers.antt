@@ -11,11 +11,11 @@ pub returns-in_err-codes_job-in-Codes-clause-done : goal.returns-in_err-codes_jo
 returns-in_err-codes_job-in-Codes-clause-done g c =
     let f = c.in_err-codes_job-in-Codes.field-0.0 in
     rw c.in-Codes.is
-    (stopped f c.from_residual-in_err-codes_job-in-Codes.result c.in_err-codes_job-in-Codes.ensures.answers c.from_residual-in_err-codes_job-in-Codes.ensures.1, (refl, refl))
+    (stopped f c.from_residual.result c.in_err-codes_job-in-Codes.ensures.answers c.from_residual.ensures.1, (refl, refl))
 
 pub returns-in_err-codes_job-in-Codes-clause-mark : goal.returns-in_err-codes_job-in-Codes-clause-mark
 returns-in_err-codes_job-in-Codes-clause-mark g c =
-    stopped_mark _ _ c.in_err-codes_job-in-Codes.field-0.0 c.from_residual-in_err-codes_job-in-Codes.result c.in_err-codes_job-in-Codes.ensures.mark c.from_residual-in_err-codes_job-in-Codes.ensures.1
+    stopped_mark _ _ c.in_err-codes_job-in-Codes.field-0.0 c.from_residual.result c.in_err-codes_job-in-Codes.ensures.mark c.from_residual.ensures.1
 
 pub returns-in_ok-codes_job-in-Codes-clause-second_calls : goal.returns-in_ok-codes_job-in-Codes-clause-second_calls
 returns-in_ok-codes_job-in-Codes-clause-second_calls g c = uncalled g.Q.Source.called c.args.second.now
@@ -147,3 +147,15 @@ returns-in-Draw-clause-second_calls g c = uncalled g.Q.Source.called c.args.seco
 
 pub returns-in-Draw-clause-third_calls : goal.returns-in-Draw-clause-third_calls
 returns-in-Draw-clause-third_calls g c = uncalled g.R.Source.called c.args.third.now
+
+pub returns-in-Trace-clause-second_calls : goal.returns-in-Trace-clause-second_calls
+returns-in-Trace-clause-second_calls g c = uncalled g.Q.Source.called c.args.second.now
+
+pub returns-in-Trace-clause-third_calls : goal.returns-in-Trace-clause-third_calls
+returns-in-Trace-clause-third_calls g c = uncalled g.R.Source.called c.args.third.now
+
+pub returns-in-Lint-clause-third_calls : goal.returns-in-Lint-clause-third_calls
+returns-in-Lint-clause-third_calls g c = uncalled g.R.Source.called c.args.third.now
+
+pub returns-in-Check-clause-third_calls : goal.returns-in-Check-clause-third_calls
+returns-in-Check-clause-third_calls g c = uncalled g.R.Source.called c.args.third.now

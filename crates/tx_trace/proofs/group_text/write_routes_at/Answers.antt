@@ -1,4 +1,4 @@
-use Rattle.std.proofs.Common.{◌<◌, length, arith}
+use Rattle.std.proofs.Common.{arith}
 use Rattle.tx_text.proofs.Wrote.{wrote_none, texts_done}
 use Rattle.tx_trace.specs.GroupText.{route_with}
 use Rattle.tx_trace.proofs.GroupLines.{more_at, stopped_at}

@@ -1,4 +1,4 @@
-use Rattle.std.proofs.Common.{◌≡◌, ℕ, ◌==◌, ◌∙◌, ◌++◌, ◌∷◌, [], List, true, false, not, ap, sym, arith, take, map, length, refl, rules}
+use Rattle.std.proofs.Common.{◌≡◌, ℕ, ◌==◌, ◌∙◌, List, true, false, not, ap, sym, arith, take, map, length, refl, rules}
 use Rattle.std.specs.Prelude.{slice_get}
 use Rattle.std.specs.List.{list_any}
 use Rattle.tx_plan.specs.Plan.{Route}
