@@ -184,7 +184,8 @@ def network(layers, codes):
 def pages_made(program, folder):
     """Pages of the examples and of two networks, as a program writes them."""
     asked = [("national", "--limit 2 --spare 1 --risks examples/national.risks"), ("national-loop", "--limit 2 --spare 1"), ("national-short", "--limit 2 --spare 1"),
-             ("national-long", "--limit 2 --spare 1"), ("national-ambiguous", "--limit 2 --spare 1"), ("gateway-loop", "--limit 1 --spare 0")]
+             ("national-long", "--limit 2 --spare 1"), ("national-ambiguous", "--limit 2 --spare 1"), ("gateway-loop", "--limit 1 --spare 0"),
+             ("three-barred-mended", "--limit 1 --spare 1 --from examples/three.plan"), ("national-loop-mended", "--limit 2 --spare 1 --from examples/national-loop.plan")]
     plans = [(name, f"examples/{name}.plan", options) for name, options in asked]
     for name, layers, codes in (("exchanges-60", 15, 12), ("exchanges-256", 64, 4)):
         (folder / f"{name}.plan").write_text(network(layers, codes))
