@@ -1,3 +1,6 @@
 pub mod Carried
+pub mod Connected
+pub mod FewHops
 pub mod LinesAt
+pub mod OneRouted
 pub mod Settled

@@ -6,6 +6,8 @@ mod call_lines;
 mod carrying;
 mod fill_text;
 mod filling;
+mod law;
 
 pub use fill_text::write_fill;
 pub use filling::{Fill, set_up_calls};
+pub use law::open_calls_are_connected;

@@ -8,7 +8,7 @@ use Rattle.tx_change.specs.MixtureShown.{ShowsFirstWalk, MixtureAnswer}
 use Rattle.tx_jobs.specs.declared.change.Changed.{Changed}
 use Rattle.tx_jobs.specs.declared.change.Changed.TheVariants.{Sound as FoundSound, Unsound as FoundUnsound}
 use Rattle.tx_jobs.specs.declared.job_fault.JobFault.{JobFault}
-use Rattle.tx_jobs.specs.declared.job_fault.JobFault.TheVariants.{Plan as PlanFault, Cert, Script, Read, Write, NoMemory, OldPlan, NewPlan, TwoNetworks, Risks, NoSuchStage, NoSuchExchange, NoSuchCode}
+use Rattle.tx_jobs.specs.declared.job_fault.JobFault.TheVariants.{Plan as PlanFault, Cert, Script, Read, Write, NoMemory, OldPlan, NewPlan, TwoNetworks, Risks, NoSuchStage, NoSuchExchange, NoSuchCode, NoSuchGroup}
 use Rattle.tx_jobs.specs.declared.mixture.ChangeEvidence.{ChangeEvidence}
 use Rattle.tx_jobs.specs.JobFaults.{mark_after}
 use Rattle.tx_jobs.specs.ChangeEvidences.{IsMixtureOf, IsChangeEvidenceOf}
@@ -46,6 +46,7 @@ module _ {A : Type 0} (mark : Bool) (limit spare : ℕ) where
   mixture_mark old new findings (Err (NoSuchStage stages)) h = absurd h
   mixture_mark old new findings (Err NoSuchExchange) h = absurd h
   mixture_mark old new findings (Err NoSuchCode) h = absurd h
+  mixture_mark old new findings (Err (NoSuchGroup place)) h = absurd h
 
   pub change_evidence_mark : (with_mixture : Bool) (changed : Changed A) (r : Result (ChangeEvidence A) JobFault) → IsChangeEvidenceOf with_mixture limit spare changed r → mark ≡ mark_after mark r
   change_evidence_mark with_mixture (FoundSound p cert) r h = ap (mark_after mark) (sym h)

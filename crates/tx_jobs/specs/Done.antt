@@ -7,6 +7,7 @@ use Rattle.tx_plantext.specs.PlanWritten.{plan_written}
 use Rattle.tx_cert.specs.CertText.{cert_written}
 use Rattle.tx_check.specs.declared.verdict.Verdict.TheVariants.{Yes, No}
 use Rattle.tx_mend.specs.declared.mending.Mending.TheVariants.{Mended as IsMended, NoRouting}
+use Rattle.tx_risk.specs.declared.surviving.Survival.{Survival}
 use Rattle.tx_risk.specs.declared.surviving.Survival.TheVariants.{Tried, Ungraded}
 use Rattle.tx_audit.specs.Scripts.{script_written}
 use Rattle.tx_audit.specs.declared.checked.Checked.TheVariants.{Ran as RanAfterYes, Denied}
@@ -37,6 +38,11 @@ use Rattle.tx_jobs.specs.SurviveJobs.{SurviveJobAnswers, SurviveRisksJobAnswers}
 use Rattle.tx_jobs.specs.TellingJobs.{TellingJobAnswers}
 use Rattle.tx_jobs.specs.TraceJobs.{TraceJobAnswers, TraceGroupJobAnswers}
 
+-- an outage cuts somebody off, or the plan has no grade
+abbrev pub is_denied : {A : Type 0} → Survival A → Bool
+is_denied (Tried outcomes) = list_any (λ o. not (length o.cuts.items == 0)) outcomes.items
+is_denied (Ungraded grade) = true
+
 -- the exit status
 abbrev pub status_of_done : {A : Type 0} → Done A → ℕ
 status_of_done (Ran summary) = 0
@@ -57,9 +63,7 @@ status_of_done (Ordered NoOrder) = 1
 status_of_done (Mended (IsMended plan before cert)) = 0
 status_of_done (Mended (NoRouting plan unserved pair)) = 1
 status_of_done (Graded grade) = if is_some grade.plan then 0 else 1
-status_of_done (Survived (Tried outcomes)) =
-    if list_any (λ o. not (length o.cuts.items == 0)) outcomes.items then 1 else 0
-status_of_done (Survived (Ungraded grade)) = 1
+status_of_done (Survived survival) = if is_denied survival then 1 else 0
 status_of_done (Filled found) = 0
 status_of_done (Paged safe) = if safe then 0 else 1
 status_of_done Written = 0

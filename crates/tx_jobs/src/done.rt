@@ -1,6 +1,8 @@
 // What a command came to.
-ghost use Rattle.std.specs.Prelude.{◌≡◌, map, option_map};
+ghost use Rattle.std.specs.List.{list_any};
+ghost use Rattle.std.specs.Prelude.{◌≡◌, ◌==◌, not, length, map, option_map};
 ghost use Rattle.tx_jobs.specs.Contents.{content_text};
+ghost use Rattle.tx_jobs.specs.Done.{is_denied};
 
 use crate::content::Content;
 use crate::evidence::Evidence;
@@ -13,7 +15,8 @@ use tx_mend::Mending;
 use tx_order::Staged;
 use tx_plan::CodeId;
 use tx_rank::Grade;
-use tx_risk::Survival;
+use tx_risk::{Outcome, Survival};
+use tx_risk_report::is_harmless;
 use tx_script::Summary;
 
 /// What a command came to: the answer of its job.
@@ -78,14 +81,11 @@ impl<A: Allocator> Done<A> {
             | Done::Audited(Evidence::Unsound(_))
             | Done::Changed(ChangeEvidence::Unsound(_))
             | Done::Ordered(Staged::NoOrder)
-            | Done::Mended(Mending::NoRouting(_, _, _))
-            | Done::Survived(Survival::Ungraded(_)) => 1,
+            | Done::Mended(Mending::NoRouting(_, _, _)) => 1,
             Done::Told(strict, summary) => u8::from(*strict && summary.refused != 0),
             Done::Paged(safe) => u8::from(!*safe),
             Done::Graded(grade) => u8::from(grade.plan.is_none()),
-            Done::Survived(Survival::Tried(outcomes)) => {
-                u8::from(outcomes.iter().any(|outcome| !outcome.cuts.is_empty()))
-            }
+            Done::Survived(survival) => u8::from(is_denied(survival)),
             Done::Linted(status) => *status,
         }
     }
@@ -138,4 +138,21 @@ impl<A: Allocator> Done<A> {
             | Done::Written => [None, None, None],
         }
     }
+}
+
+/// Whether an outage cuts somebody off, or the plan has no grade.
+fn is_denied<A: Allocator>(survival: &Survival<A>) -> bool
+    ensures { result ≡ is_denied survival.now }
+{
+    match survival {
+        Survival::Tried(outcomes) => cuts_somebody_off(outcomes),
+        Survival::Ungraded(_) => true,
+    }
+}
+
+/// Whether one of these outages cuts somebody off.
+fn cuts_somebody_off<A: Allocator>(outcomes: &[Outcome<A>]) -> bool
+    ensures { result ≡ list_any (λ o. not (length o.cuts.items == 0)) outcomes.now }
+{
+    outcomes.iter().any(|outcome| !is_harmless(outcome))
 }

@@ -30,7 +30,8 @@ pub fn survive_job<A: Allocator + Copy, P: Source, W: Sink>(
     ensures calls { CallsAtMost P.called source_calls plan.old plan.new }
 {
     let plan = read_plan_from(alloc, plan)?;
-    tell_survival(alloc, &plan, &Risks::none(alloc), false, totals, out)
+    let risks = Risks::none(alloc);
+    tell_survival(alloc, &plan, &risks, false, totals, out)
 }
 
 /// Reads a plan and then a text of named risks, and writes whom each of these risks, each group and

@@ -75,8 +75,28 @@ fn trace_down<A: Allocator + Copy, W: Sink>(
     ensures mark { W.failed out.new ≡ mark_after (W.failed out.old) result }
 {
     let left = plan_left(alloc, plan, down)?;
-    let trace = trace_calls(alloc, &left, code, exchange)?;
-    write_trace(&left, down, &trace, out)?;
+    let told = trace_left(alloc, &left, down, code, exchange, out);
+    drop(left);
+    told
+}
+
+/// Traces a code from an exchange in a plan that has no list with a group that is down.
+fn trace_left<A: Allocator + Copy, W: Sink>(
+    alloc: A,
+    plan: &Plan<A>,
+    down: &[GroupId],
+    code: CodeId,
+    exchange: ExchangeId,
+    out: &mut W,
+) -> Result<(), JobFault>
+    requires code { code < length plan.now.codes }
+    requires exchange { exchange < length plan.now.exchanges }
+    ensures told { ToldTrace (trace_text plan.now down.now code exchange)
+        (output W.taken out.old out.new) result }
+    ensures mark { W.failed out.new ≡ mark_after (W.failed out.old) result }
+{
+    let trace = trace_calls(alloc, plan, code, exchange)?;
+    write_trace(plan, down, &trace, out)?;
     Ok(())
 }
 

@@ -157,11 +157,19 @@ fn write_failure<A: Allocator, W: Sink>(
         write_escaped(name.as_bytes(), sink)?;
     }
     if let Ok(said) = format!(in alloc; "{error}") {
-        let (said, _number) = said
-            .as_str()
-            .split_once(" (os error ")
-            .unwrap_or((&said, ""));
-        write_parts(&[b": ", said.as_bytes()], sink)?;
+        write_said(said.as_str(), sink)?;
     }
     write_bytes(b"\n", sink)
+}
+
+/// Writes what the system said, without the number of the error.
+fn write_said<W: Sink>(said: &str, sink: &mut W) -> Result<(), WriteFault> {
+    write_parts(&[b": ", without_number(said).as_bytes()], sink)
+}
+
+fn without_number(said: &str) -> &str {
+    match said.split_once(" (os error ") {
+        Some((text, _number)) => text,
+        None => said,
+    }
 }

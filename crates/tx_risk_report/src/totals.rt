@@ -135,7 +135,7 @@ fn is_exchange(outage: &Outage) -> bool
 }
 
 /// Whether it cuts nobody off.
-pub(crate) fn is_harmless<A: Allocator>(outcome: &Outcome<A>) -> bool
+pub fn is_harmless<A: Allocator>(outcome: &Outcome<A>) -> bool
     ensures { result ≡ is_harmless outcome.now }
 {
     outcome.cuts.is_empty()

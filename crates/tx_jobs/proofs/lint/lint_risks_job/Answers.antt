@@ -31,9 +31,12 @@ returns-in_err-text-clause-mark g c =
 pub returns-in_err-text-clause-risks_calls : goal.returns-in_err-text-clause-risks_calls
 returns-in_err-text-clause-risks_calls g c = uncalled g.R.Source.called c.args.risks.now
 
+pub returns-in_err-faults-clause-risks_calls : goal.returns-in_err-faults-clause-risks_calls
+returns-in_err-faults-clause-risks_calls g c = uncalled g.R.Source.called c.args.risks.now
+
 pub returns-in-Faults-clause-answers : goal.returns-in-Faults-clause-answers
 returns-in-Faults-clause-answers g c =
-    let text = rw c.deref.ensures.value at c.in_ok-look_through.ensures.look in
+    let text = rw c.deref.ensures.value at c.in_ok-faults.ensures.look in
     let look = rw c.in-Faults.is at text in
     inl (record {
       text = c.in_ok-text.text.items;
@@ -46,9 +49,9 @@ returns-in-Faults-clause-answers g c =
 pub returns-in-Faults-clause-risks_calls : goal.returns-in-Faults-clause-risks_calls
 returns-in-Faults-clause-risks_calls g c = uncalled g.R.Source.called c.args.risks.now
 
-pub returns-in-Right-clause-answers : goal.returns-in-Right-clause-answers
-returns-in-Right-clause-answers g c =
-    let text = rw c.deref.ensures.value at c.in_ok-look_through.ensures.look in
+pub returns-clause-answers : goal.returns-clause-answers
+returns-clause-answers g c =
+    let text = rw c.deref.ensures.value at c.in_ok-faults.ensures.look in
     let look = rw c.in-Right.is at text in
     inl (record {
       text = c.in_ok-text.text.items;

@@ -8,7 +8,7 @@ returns-clause-answers g c = inl (record {
   plan = c.in_ok-plan.plan;
   rules = c.in_ok-plan.ensures.rules;
   read = c.in_ok-plan.ensures.answer;
-  goes_on = rw c.none.ensures at c.tell_survival.ensures.told;
+  goes_on = rw c.none-risks.ensures at c.tell_survival.ensures.told;
 })
 
 pub returns-in_err-plan-clause-answers : goal.returns-in_err-plan-clause-answers
@@ -24,4 +24,4 @@ returns-in_err-plan-clause-mark g c =
     refused_mark (g.W.Sink.failed c.args.out.now) c.from_residual.result c.in_err-plan.field-0.0 c.from_residual.ensures.1
 
 pub tell_survival-requires : goal.tell_survival-requires
-tell_survival-requires g c = no_risks c.in_ok-plan.plan c.none.result c.none.ensures
+tell_survival-requires g c = no_risks c.in_ok-plan.plan c.none-risks.result c.none-risks.ensures
