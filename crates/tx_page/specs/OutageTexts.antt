@@ -1,5 +1,5 @@
 -- What a page shows of outages.
-use Rattle.std.specs.Prelude.{ℕ, Bool, true, not, ◌==◌, if◌then◌else◌, List, [], ◌∷◌, ◌++◌, length, codes, decimal, count_by, slice_get}
+use Rattle.std.specs.Prelude.{ℕ, Bool, true, false, not, ◌||◌, ◌==◌, if◌then◌else◌, List, [], ◌∷◌, ◌++◌, length, codes, decimal, count_by, slice_get}
 use Rattle.std.specs.List.{flat_map}
 use Rattle.std.specs.Option.{option_map_or}
 use Rattle.tx_plan.specs.Plan.{Plan, exchange_name, figures_of, group_name}
@@ -14,6 +14,12 @@ abbrev pub outage_name : Plan → List NamedRisk → Outage → List ℕ
 outage_name p risks (Group g) = group_name p g
 outage_name p risks (Exchange x) = exchange_name p x
 outage_name p risks (Named i) = option_map_or (λ r. r.name) (slice_get risks i) []
+
+-- it is a named risk that fails
+abbrev pub is_named : Outage → Bool
+is_named (Named i) = true
+is_named (Group g) = false
+is_named (Exchange x) = false
 
 module _ {A : Type 0} where
   -- from how many starts no way is left
@@ -39,13 +45,8 @@ module _ {A : Type 0} where
   is_harmless o = length o.cuts.items == 0
 
   -- a named risk is shown, and what else cuts somebody off
-  abbrev pub is_shown_by : Outage → (harmless : Bool) → Bool
-  is_shown_by (Named i) harmless = true
-  is_shown_by (Group g) harmless = not harmless
-  is_shown_by (Exchange x) harmless = not harmless
-
   abbrev pub is_shown : Outcome A → Bool
-  is_shown o = is_shown_by o.outage (is_harmless o)
+  is_shown o = is_named o.outage || not (is_harmless o)
 
   -- the same, if it is shown
   abbrev pub shown_texts : Plan → List NamedRisk → Outcome A → List (List ℕ)

@@ -4,7 +4,7 @@ ghost use Rattle.tx_plan.specs.Plan.{figures_of, group_name};
 ghost use Rattle.tx_html.specs.Shows.{Showed};
 ghost use Rattle.tx_page.specs.WrongTexts.{step_texts, steps_texts, walk_texts, loop_texts, short_texts, long_texts, finding_texts, findings_texts, wrong_texts};
 
-use crate::walks::{end_of, listed_before};
+use crate::walks::{end_of, listed_before, start_of, steps_of};
 use std::alloc::Allocator;
 use tx_html::{Part, set};
 use tx_plan::{CodeId, ExchangeId, GroupId, Limits, Plan};
@@ -159,7 +159,7 @@ fn write_long<A: Allocator, W: Sink>(
             Part::Own("<li>A call for "),
             Part::Text(plan.code_figures(code)),
             Part::Own(" can go by "),
-            Part::Count(walk.steps.as_slice().len() as u64),
+            Part::Count(steps_of(walk).len() as u64),
             Part::Own(" groups as far as "),
             Part::Text(plan.exchange_name(end_of(walk))),
             Part::Own(" and not be at its home "),
@@ -184,7 +184,7 @@ fn write_walk<A: Allocator, W: Sink>(
         (walk_texts plan.now code walk.now full.now) result }
 {
     set(&[Part::Own("<ol class=\"w\">")], sink)?;
-    write_steps(plan, code, walk.start, walk.steps.as_slice(), sink)?;
+    write_steps(plan, code, start_of(walk), steps_of(walk), sink)?;
     write_full(plan, full, sink)?;
     set(&[Part::Own("</li></ol></li>")], sink)
 }

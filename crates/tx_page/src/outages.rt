@@ -2,7 +2,7 @@
 ghost use Rattle.std.specs.Prelude.{◌≡◌, [], ◌∷◌, decimal};
 ghost use Rattle.std.specs.List.{flat_map};
 ghost use Rattle.tx_html.specs.Shows.{Showed};
-ghost use Rattle.tx_page.specs.OutageTexts.{outage_name, cut_off, astray, cut_texts, outcome_texts, is_harmless, is_shown, shown_texts, tried_texts, outages_texts};
+ghost use Rattle.tx_page.specs.OutageTexts.{outage_name, cut_off, astray, cut_texts, outcome_texts, is_named, is_harmless, is_shown, shown_texts, tried_texts, outages_texts};
 
 use std::alloc::Allocator;
 use tx_html::{Part, set};
@@ -92,6 +92,13 @@ fn count_astray<A: Allocator>(cuts: &[Cut<A>]) -> usize
     cuts.iter().filter(|cut| cut.stray).count()
 }
 
+/// Whether it is a named risk that fails.
+fn is_named(outage: &Outage) -> bool
+    ensures { result ≡ is_named outage.now }
+{
+    matches!(outage, Outage::Named(_))
+}
+
 /// Whether an outcome cuts nobody off.
 fn is_harmless<A: Allocator>(outcome: &Outcome<A>) -> bool
     ensures { result ≡ is_harmless outcome.now }
@@ -103,10 +110,7 @@ fn is_harmless<A: Allocator>(outcome: &Outcome<A>) -> bool
 fn is_shown<A: Allocator>(outcome: &Outcome<A>) -> bool
     ensures { result ≡ is_shown outcome.now }
 {
-    match outcome.outage {
-        Outage::Named(_) => true,
-        Outage::Group(_) | Outage::Exchange(_) => !is_harmless(outcome),
-    }
+    is_named(&outcome.outage) || !is_harmless(outcome)
 }
 
 /// What kind of thing fails.
@@ -130,9 +134,9 @@ fn name_of<'a, A: Allocator>(plan: &'a Plan<A>, risks: &'a Risks<A>, outage: &Ou
 }
 
 /// Writes an outcome, if it is shown.
-fn write_shown<A: Allocator, W: Sink>(
-    plan: &Plan<A>,
-    risks: &Risks<A>,
+fn write_shown<'a, A: Allocator, W: Sink>(
+    plan: &'a Plan<A>,
+    risks: &'a Risks<A>,
     outcome: &Outcome<A>,
     sink: &mut W,
 ) -> Result<(), WriteFault>
@@ -147,9 +151,9 @@ fn write_shown<A: Allocator, W: Sink>(
 }
 
 /// Writes an outage with its cuts.
-fn write_outcome<A: Allocator, W: Sink>(
-    plan: &Plan<A>,
-    risks: &Risks<A>,
+fn write_outcome<'a, A: Allocator, W: Sink>(
+    plan: &'a Plan<A>,
+    risks: &'a Risks<A>,
     outcome: &Outcome<A>,
     sink: &mut W,
 ) -> Result<(), WriteFault>

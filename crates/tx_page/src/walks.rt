@@ -7,6 +7,20 @@ use std::alloc::Allocator;
 use tx_plan::{ExchangeId, GroupId};
 use tx_rank::Walk;
 
+/// Where a walk starts.
+pub fn start_of<A: Allocator>(walk: &Walk<A>) -> ExchangeId
+    ensures { result ≡ walk.now.start }
+{
+    walk.start
+}
+
+/// The steps of a walk.
+pub fn steps_of<A: Allocator>(walk: &Walk<A>) -> &[(GroupId, ExchangeId)]
+    ensures { result.now ≡ walk.now.steps }
+{
+    walk.steps.as_slice()
+}
+
 /// The exchange where a walk ends.
 pub fn end_of<A: Allocator>(walk: &Walk<A>) -> ExchangeId
     ensures { result ≡ end_of walk.now.start walk.now.steps }

@@ -12,4 +12,4 @@ returns-in_err-write_rows g c = showed_stopped _ _ _ _ _ _ c.in_err-write_rows.e
 pub returns : goal.returns
 returns g c =
     showed_then _ _ _ _ _ _ ([]) _ _ c.in_ok-set.ensures
-    (showed_end _ _ _ _ _ _ (codes_texts c.args.plan.now c.args.grade.now.codes.items) _ c.in_ok-write_rows.ensures c.set-2.ensures)
+    (showed_end _ _ _ _ _ _ (codes_texts c.args.plan.now c.args.grade.now.codes.items) _ (rw c.deref.ensures.value at c.in_ok-write_rows.ensures) c.set-2.ensures)

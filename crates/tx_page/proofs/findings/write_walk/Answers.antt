@@ -16,5 +16,5 @@ returns-in_err-write_full g c = showed_stopped _ _ _ _ _ _ c.in_err-write_full.e
 pub returns : goal.returns
 returns g c =
     showed_then _ _ _ _ _ _ ([]) _ _ c.in_ok-set.ensures
-    (showed_then _ _ _ _ _ _ (steps_texts c.args.plan.now c.args.code c.args.walk.now.start c.args.walk.now.steps) _ _ (rw (c.as_slice.ensures) at c.in_ok-write_steps.ensures)
+    (showed_then _ _ _ _ _ _ (steps_texts c.args.plan.now c.args.code c.args.walk.now.start c.args.walk.now.steps) _ _ (rw (c.start_of.ensures, c.steps_of.ensures) at c.in_ok-write_steps.ensures)
     (showed_end _ _ _ _ _ _ (map (group_name c.args.plan.now) c.args.full.now) _ c.in_ok-write_full.ensures c.set-2.ensures))

@@ -13,5 +13,5 @@ returns-in_err-write_cuts g c = showed_stopped _ _ _ _ _ _ c.in_err-write_cuts.e
 
 pub returns : goal.returns
 returns g c =
-    showed_then _ _ _ _ _ _ (outage_name c.args.plan.now c.args.risks.now c.args.outcome.now.outage ∷ decimal (cut_off c.args.outcome.now.cuts.items) ∷ decimal (astray c.args.outcome.now.cuts.items) ∷ []) _ _ (rw (c.name_of.ensures, c.count_cut_off.ensures, c.count_astray.ensures) at c.in_ok-set.ensures)
-    (showed_end _ _ _ _ _ _ (flat_map (cut_texts c.args.plan.now) c.args.outcome.now.cuts.items) _ c.in_ok-write_cuts.ensures c.set-2.ensures)
+    showed_then _ _ _ _ _ _ (outage_name c.args.plan.now c.args.risks.now c.args.outcome.now.outage ∷ decimal (cut_off c.args.outcome.now.cuts.items) ∷ decimal (astray c.args.outcome.now.cuts.items) ∷ []) _ _ (rw (c.name_of.ensures, c.count_cut_off.ensures, c.count_astray.ensures, c.deref.ensures.value, c.deref-2.ensures.value) at c.in_ok-set.ensures)
+    (showed_end _ _ _ _ _ _ (flat_map (cut_texts c.args.plan.now) c.args.outcome.now.cuts.items) _ (rw c.deref-3.ensures.value at c.in_ok-write_cuts.ensures) c.set-2.ensures)

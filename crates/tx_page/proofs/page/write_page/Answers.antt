@@ -32,6 +32,6 @@ returns g c =
     showed_then _ _ _ _ _ _ (heading_texts c.args.subject.now.name.now c.args.subject.now.digest c.args.subject.now.plan.now (is_safe c.args.subject.now.ranking.now) c.args.subject.now.limits.limit c.args.subject.now.limits.spare) _ _ (rw (c.is_safe-safe.ensures) at c.in_ok-write_heading.ensures)
     (showed_then _ _ _ _ _ _ (wrong_texts c.args.subject.now.plan.now c.args.subject.now.limits.spare c.args.subject.now.ranking.now) _ _ c.in_ok-write_wrong.ensures
     (showed_then _ _ _ _ _ _ (codes_texts c.args.subject.now.plan.now c.args.subject.now.grade.now.codes.items) _ _ c.in_ok-write_codes.ensures
-    (showed_then _ _ _ _ _ _ (outages_texts c.args.subject.now.plan.now c.args.subject.now.risks.now c.args.subject.now.outcomes.now (is_some c.args.subject.now.grade.now.plan)) _ _ c.in_ok-write_outages.ensures
+    (showed_then _ _ _ _ _ _ (outages_texts c.args.subject.now.plan.now c.args.subject.now.risks.now c.args.subject.now.outcomes.now (is_some c.args.subject.now.grade.now.plan)) _ _ (rw c.is_some-graded.ensures at c.in_ok-write_outages.ensures)
     (showed_then _ _ _ _ _ _ (pictures_texts c.args.subject.now.plan.now c.args.subject.now.pictures.now) _ _ c.in_ok-write_pictures.ensures
     (showed_end _ _ _ _ _ _ (network_texts c.args.subject.now.plan.now) _ c.in_ok-write_network.ensures c.set.ensures)))))

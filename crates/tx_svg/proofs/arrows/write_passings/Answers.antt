@@ -1,12 +1,12 @@
-use Rattle.std.proofs.Common.{[]}
-use Rattle.tx_html.proofs.Showing.{showed_none, showed_then, showed_stopped}
+use Rattle.tx_html.proofs.Showing.{showed_none, showed_stopped}
+use Rattle.tx_svg.proofs.Markup.{markup_more}
 use Rattle.tx_svg.proofs.arrows.write_passings.Goals as goal
 
 pub loop-before-init : goal.loop-before-init
 loop-before-init g c = showed_none _ _
 
 pub loop-before-preserved : goal.loop-before-preserved
-loop-before-preserved g c = showed_then _ _ _ _ _ _ [] _ _ c.loop-before.invariant c.in_ok-write_passing.ensures
+loop-before-preserved g c = markup_more _ _ _ _ _ _ c.loop-before.invariant c.in_ok-write_passing.ensures
 
 pub returns : goal.returns
 returns g c = c.loop-before.invariant

@@ -6,7 +6,7 @@ pub loop-i-init : goal.loop-i-init
 loop-i-init g c = showed_none _ _
 
 pub loop-i-preserved : goal.loop-i-preserved
-loop-i-preserved g c = names_more (group_name c.args.plan.now) c.args.groups.now c.loop-i.i c.index-groups-i.result _ _ _ _ _ _ c.loop-i-test.true c.index-groups-i.is c.loop-i.invariant c.in_ok-set.ensures
+loop-i-preserved g c = names_more (group_name c.args.plan.now) c.args.groups.now c.loop-i.i c.index-groups-i.result _ _ _ _ _ _ c.loop-i-test.true c.index-groups-i.is c.loop-i.invariant (rw c.group_name.ensures.value at c.in_ok-set.ensures)
 
 pub returns : goal.returns
 returns g c = names_done (group_name c.args.plan.now) c.args.groups.now c.loop-i.i _ _ _ _ c.loop-i-test.false c.loop-i.invariant

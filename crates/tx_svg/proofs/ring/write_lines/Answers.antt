@@ -1,12 +1,12 @@
-use Rattle.std.proofs.Common.{[]}
-use Rattle.tx_html.proofs.Showing.{showed_none, showed_then, showed_stopped}
+use Rattle.tx_html.proofs.Showing.{showed_none, showed_stopped}
+use Rattle.tx_svg.proofs.Markup.{markup_more}
 use Rattle.tx_svg.proofs.ring.write_lines.Goals as goal
 
 pub loop-index-init : goal.loop-index-init
 loop-index-init g c = showed_none _ _
 
 pub loop-index-preserved : goal.loop-index-preserved
-loop-index-preserved g c = showed_then _ _ _ _ _ _ [] _ _ c.loop-index.invariant c.in_ok-write_line.ensures
+loop-index-preserved g c = markup_more _ _ _ _ _ _ c.loop-index.invariant c.in_ok-write_line.ensures
 
 pub returns : goal.returns
 returns g c = c.loop-index.invariant
