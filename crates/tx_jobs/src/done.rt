@@ -79,7 +79,7 @@ impl<A: Allocator> Done<A> {
             | Done::Audited(Evidence::Unsound(_))
             | Done::Changed(ChangeEvidence::Unsound(_))
             | Done::Ordered(Staged::NoOrder)
-            | Done::Mended(Mending::NoRouting(_, _, _)) => 1,
+            | Done::Mended(Mending::NoRouting(_, _, _, _)) => 1,
             Done::Told(strict, summary) => u8::from(*strict && summary.refused != 0),
             Done::Graded(grade) => u8::from(grade.plan.is_none()),
             Done::Survived(survival) => u8::from(is_denied(survival)),
@@ -127,7 +127,7 @@ impl<A: Allocator> Done<A> {
             | Done::Audited(Evidence::Unsound(None))
             | Done::Changed(ChangeEvidence::Unsound(None))
             | Done::Ordered(Staged::Ordered(None) | Staged::NoOrder)
-            | Done::Mended(Mending::NoRouting(_, _, _))
+            | Done::Mended(Mending::NoRouting(_, _, _, _))
             | Done::Graded(_)
             | Done::Survived(_)
             | Done::Filled(_)
