@@ -19,7 +19,8 @@ module _ {A : Type 0} where
   -- the verdict, what is wrong, the codes, the outages, the lists and the network
   abbrev pub page_texts : Subject A → List (List ℕ)
   page_texts s =
-      heading_texts s.name.now s.digest s.plan.now (is_safe s.ranking.now) s.limits.limit s.limits.spare
+      heading_texts s.name.now s.digest s.version.now s.plan.now (is_safe s.ranking.now)
+      s.limits.limit s.limits.spare
       ++ (wrong_texts s.plan.now s.limits.spare s.ranking.now
       ++ (codes_texts s.plan.now s.grade.now.codes.items
       ++ (outages_texts s.plan.now s.risks.now s.outcomes.now (is_some s.grade.now.plan)
