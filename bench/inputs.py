@@ -188,6 +188,80 @@ class Traffic:
             yield from lines
 
 
+class Overflow:
+    """A network whose lists are those of a telephone network, where a transit overflows to the other two: seven local exchanges at each of three transits, two gateways,
+    and eight exchanges abroad. So calls for many codes can go round."""
+
+    def __init__(self):
+        self.transits = ["TA", "TB", "TC"]
+        self.locals = {f"L{it:02}": (it // 7, (it // 7 + 1 + it % 2) % 3) for it in range(21)}
+        self.gateways = ["GA", "GB"]
+        self.abroad = [f"O{it}" for it in range(8)]
+        self.exchanges = [*self.transits, *self.locals, *self.gateways, *self.abroad]
+        self.homes = {f"{100 + it}": x for it, x in enumerate(self.exchanges)}
+        self.homes.update({f"{200 + it}": self.gateways[it % 2] for it in range(20)})
+        self.groups, self.between = [], {}
+        self.join()
+
+    def add(self, a, b, count):
+        """So many groups between two exchanges."""
+        for number in range(1, count + 1):
+            group = f"{a}{b}{number}"
+            self.groups.append((group, a, b))
+            self.between.setdefault((a, b), []).append(group)
+            self.between.setdefault((b, a), []).append(group)
+
+    def join(self):
+        for a, b in ((0, 1), (0, 2), (1, 2)):
+            self.add(self.transits[a], self.transits[b], 2)
+        for x, (first, second) in self.locals.items():
+            self.add(x, self.transits[first], 2)
+            self.add(x, self.transits[second], 1)
+        for it in range(0, 20, 2):
+            self.add(f"L{it:02}", f"L{it + 1:02}", 1)
+        for it, transit in enumerate(self.transits):
+            for gateway in self.gateways:
+                self.add(transit, gateway, 2 if gateway == self.gateways[min(it, 1)] else 1)
+        self.add("GA", "GB", 1)
+        for gateway in self.gateways:
+            for x in self.abroad:
+                self.add(gateway, x, 2)
+
+    def ways(self, exchange, home):
+        """The exchanges to which calls from one go in turn, for a code of the home, after the home itself."""
+        if exchange in self.locals:
+            return [self.transits[it] for it in self.locals[exchange]]
+        if exchange in self.abroad:
+            return self.gateways
+        if exchange in self.gateways:
+            near = [self.transits[it] for it in self.locals[home]] if home in self.locals else self.transits
+            return [other for other in self.gateways if other != exchange] if home in self.abroad else near
+        if home in self.abroad:
+            return self.gateways
+        return [self.transits[it] for it in self.locals[home]] if home in self.locals else self.transits
+
+    def list_of(self, exchange, home):
+        ways = [home, *(it for it in self.ways(exchange, home) if it not in (exchange, home))]
+        return [group for to in ways for group in self.between.get((exchange, to), [])]
+
+    def plan(self):
+        """The lines of the plan."""
+        yield "PLAN 1"
+        for it in self.exchanges:
+            yield f"EXCHANGE {it}"
+        for code, home in self.homes.items():
+            yield f"CODE {code} {home}"
+        for code in self.homes:
+            yield f"LINES {code} 10000 10999"
+        for group, a, b in self.groups:
+            yield f"GROUP {group} {a} {b} BOTHWAY 12"
+        for code, home in self.homes.items():
+            for x in self.exchanges:
+                if x != home:
+                    yield f"ROUTE {x} {code} {' '.join(self.list_of(x, home))}"
+        yield "END"
+
+
 def local_plan():
     return ["PLAN 1", "EXCHANGE ALFA", "CODE 41 ALFA", "LINES 41 10000 19999", "END"]
 
@@ -255,6 +329,8 @@ class Inputs:
             return script(local_events(self.seed, self.events) if kind == "local" else Traffic(self.network(kind), self.seed).events(self.events, int(open_)))
         if kind == "local":
             return local_plan()
+        if kind == "overflow":
+            return Overflow().plan()
         return self.network(kind).plan() if end == "plan" else self.network(kind).cert()
 
     def path(self, file):

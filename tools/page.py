@@ -6,7 +6,7 @@
     tools/page.py --pictures FOLDER PAGE..    # makes a picture of each page in the folder too
 
 Of each page: its elements are closed in their order, its headings go down one step at a time, its tables have heads, its links lead to what is there, nothing is fetched,
-and nothing is on the console.
+and nothing is on the console. Its verdict has its own colour.
 In its pictures no box is over another, no arrow runs through a box, and where the columns are ranks no arrow goes to the left. Its colours have the contrast of
 WCAG 2, level AA, in the light and in the dark scheme."""
 import html.parser
@@ -169,6 +169,8 @@ def faults_of(page, folder):
     yield from (f"<{it}> is not closed" for it in elements.open)
     yield from (f"a link leads to {it}, which is not there" for it in sorted(elements.links - elements.ids))
     yield from (f"it fetches: {it}" for it in re.findall(r"@import[^;]*|url\([^#)][^)]*\)|https?:[^\"' ]*", text))
+    if not re.search(r'<p class="v yes"><strong>YES<|<p class="v no"><strong>NO<', text):
+        yield "the colour of the verdict is that of the other one"
     yield from contrast_faults(text)
     yield from browser_faults(page, folder)
 

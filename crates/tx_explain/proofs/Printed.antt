@@ -13,6 +13,7 @@ use Rattle.tx_machine.specs.declared.cause.Service.TheVariants as service
 use Rattle.tx_machine.specs.declared.cause.Cause.TheVariants as cause
 use Rattle.tx_check.specs.declared.fault.CheckFault.TheVariants as fault
 use Rattle.tx_rank.specs.declared.finding.Finding.TheVariants as finding
+use Rattle.tx_mend.specs.declared.cause.Unserved.{Unserved}
 use Rattle.tx_mend.specs.MendText.{pair_line, unserved_line}
 use Rattle.tx_risk.specs.declared.fault.RiskWord.TheVariants as risk
 use Rattle.tx_explain.specs.Entries.{table}
@@ -155,7 +156,7 @@ pairs : (p : Plan) (q : ℕ × ℕ) → BeginsExplained (pair_line p (Some q))
 unfolding table
 pairs p q = record { row = (codes "F1", codes "AMBIGUOUS"); rest = _; explained = refl; begins = refl }
 
-unserved : (p : Plan) (k : ℕ × ℕ) → BeginsExplained (unserved_line p k)
+unserved : (p : Plan) (u : Unserved) → BeginsExplained (unserved_line p u)
 unfolding table
 unserved p k = record { row = (codes "F5", codes "UNSERVED"); rest = _; explained = refl; begins = refl }
 

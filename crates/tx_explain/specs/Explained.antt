@@ -19,6 +19,7 @@ use Rattle.tx_check.specs.declared.fault.CheckFault.{CheckFault}
 use Rattle.tx_check.specs.Verdicts.{fault_words}
 use Rattle.tx_rank.specs.declared.finding.Finding.{Finding}
 use Rattle.tx_rank.specs.Report.{finding_line}
+use Rattle.tx_mend.specs.declared.cause.Unserved.{Unserved}
 use Rattle.tx_mend.specs.MendText.{pair_line, unserved_line}
 use Rattle.tx_risk.specs.declared.fault.RiskWord.{RiskWord}
 use Rattle.tx_risk.specs.RiskFaults.{fault_row as risk_row}
@@ -81,4 +82,4 @@ FindingsAreExplained A = (p : Plan) (finding : Finding A) → BeginsExplained (f
 -- what the report of a mending names after a NO: the ambiguous pair, and whom no lists can serve
 pub record MendingsAreExplained : Type 0 where
   pub pair : (p : Plan) (q : ℕ × ℕ) → BeginsExplained (pair_line p (Some q))
-  pub unserved : (p : Plan) (k : ℕ × ℕ) → BeginsExplained (unserved_line p k)
+  pub unserved : (p : Plan) (u : Unserved) → BeginsExplained (unserved_line p u)

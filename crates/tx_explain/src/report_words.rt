@@ -2,7 +2,7 @@
 use crate::code_table::Entry;
 
 /// The words of reports, of a plan and of a certificate.
-pub static REPORT_WORDS: [Entry; 44] = [
+pub static REPORT_WORDS: [Entry; 45] = [
     [
         "VERDICT",
         "Verdict",
@@ -144,7 +144,7 @@ pub static REPORT_WORDS: [Entry; 44] = [
     [
         "GROUPS",
         "OtherGroups",
-        "So many groups cut off nobody if they fail alone.",
+        "So many groups cut off nobody if they fail alone. In a line UNSERVED, so many groups lead to exchanges that can be served.",
         "Nothing: calls go by other groups.",
     ],
     [
@@ -198,7 +198,7 @@ pub static REPORT_WORDS: [Entry; 44] = [
     [
         "RANK",
         "Rank",
-        "A number of an exchange for a code. Each group of each list leads to a smaller one, so no call comes back. In a trace it is the number of steps of the longest way home.",
+        "A number of an exchange for a code. Each group of each list leads to a smaller one, so no call comes back. In a trace it is the number of steps of the longest way home. In a line UNSERVED, the smallest that the exchange can have.",
         "telexplan audit --cert writes the ranks of a safe plan.",
     ],
     [
@@ -228,8 +228,14 @@ pub static REPORT_WORDS: [Entry; 44] = [
     [
         "CODE",
         "DestinationCode",
-        "A destination code, with its home or its grade.",
+        "A destination code, with its home, its grade, or how many exchanges cannot be served for it.",
         "telexplan trace shows how calls for it go.",
+    ],
+    [
+        "MISSING",
+        "GroupsMissing",
+        "From each exchange behind it some groups lead to exchanges that can be served, and so many more are needed.",
+        "Add groups from there to an exchange that can be served.",
     ],
     [
         "DISTINCT",

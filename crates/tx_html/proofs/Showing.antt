@@ -1,5 +1,5 @@
 -- Texts that are shown one after another.
-use Rattle.std.proofs.Common.{◌≡◌, ℕ, ◌+◌, ◌<◌, ◌≤◌, Bool, List, [], ◌∷◌, ◌++◌, length, map, take, get_or, Option, Ok, Err, refl, sym, ap, ◌∙◌, subst, append_assoc, append-nil}
+use Rattle.std.proofs.Common.{◌≡◌, ℕ, ◌+◌, ◌<◌, ◌≤◌, Bool, List, [], ◌∷◌, ◌++◌, length, map, take, get_or, Option, None, Some, Ok, Err, refl, sym, ap, ◌∙◌, subst, append_assoc, append-nil}
 use Rattle.std.specs.Prelude.{true, IsErr}
 use Rattle.std.specs.List.{flat_map}
 use Rattle.std.proofs.lemmas.Bool.{false≢true}
@@ -10,7 +10,7 @@ use Rattle.tx_text.specs.Wrote.{WroteBy}
 use Rattle.tx_text.proofs.Writing.{append_known-nil, append_known_twice}
 use Rattle.tx_text.proofs.Wrote.{Outcome}
 use Rattle.tx_html.specs.Escaped.{escaped}
-use Rattle.tx_html.specs.Shows.{Shows, HasShown, ShowedBy}
+use Rattle.tx_html.specs.Shows.{Shows, Seen, append_texts, HasShown, ShowedBy}
 
 -- ---- bytes that show texts
 
@@ -37,41 +37,57 @@ shows_then (x ∷ s) t a b v w = record {
 
 -- ---- calls that show texts
 
-pub showed_none : (a : Option (List ℕ)) (f : Bool) → HasShown a a f f []
-showed_none a f = record { bytes = []; added = append_known-nil a; shows = tt; mark = refl }
+append_texts-nil : (o : Option (List (List ℕ))) → o ≡ append_texts o []
+append_texts-nil None = refl
+append_texts-nil (Some xs) = ap Some (sym (append-nil xs))
 
-pub showed_then : (a b c : Option (List ℕ)) (f g h : Bool) (s t : List (List ℕ)) (r : Outcome) → HasShown a b f g s → ShowedBy b c g h t r → ShowedBy a c f h (s ++ t) r
-showed_then a b c f g h s t (Ok x) v w = record {
+append_texts_twice : (o : Option (List (List ℕ))) (s t : List (List ℕ)) → append_texts (append_texts o s) t ≡ append_texts o (s ++ t)
+append_texts_twice None s t = refl
+append_texts_twice (Some xs) s t = ap Some (append_assoc xs s t)
+
+pub showed_none : (a : Seen) → HasShown a a []
+showed_none a = record {
+  bytes = [];
+  added = append_known-nil a.taken;
+  shows = tt;
+  exactly = append_texts-nil a.shown;
+  mark = refl;
+}
+
+pub showed_then : (a b c : Seen) (s t : List (List ℕ)) (r : Outcome) → HasShown a b s → ShowedBy b c t r → ShowedBy a c (s ++ t) r
+showed_then a b c s t (Ok x) v w = record {
   bytes = v.bytes ++ w.bytes;
-  added = w.added ∙ ap (λ l. append_known l w.bytes) v.added ∙ append_known_twice a v.bytes w.bytes;
+  added = w.added ∙ ap (λ l. append_known l w.bytes) v.added ∙ append_known_twice a.taken v.bytes w.bytes;
   shows = shows_then s t v.bytes w.bytes v.shows w.shows;
+  exactly = w.exactly ∙ ap (λ l. append_texts l t) v.exactly ∙ append_texts_twice a.shown s t;
   mark = w.mark ∙ v.mark;
 }
-showed_then a b c f g h s t (Err x) v w = w
+showed_then a b c s t (Err x) v w = w
 
 -- the sink failed
-pub showed_stopped : (a b : Option (List ℕ)) (f g : Bool) (t : List (List ℕ)) (r : Outcome) → g ≡ true → IsErr r → ShowedBy a b f g t r
-showed_stopped a b f g t (Ok y) mark bad = absurd (false≢true bad)
-showed_stopped a b f g t (Err y) mark bad = mark
+pub showed_stopped : (a b : Seen) (t : List (List ℕ)) (r : Outcome) → b.failed ≡ true → IsErr r → ShowedBy a b t r
+showed_stopped a b t (Ok y) mark bad = absurd (false≢true bad)
+showed_stopped a b t (Err y) mark bad = mark
 
-pub showed_is : (a b : Option (List ℕ)) (f g : Bool) (s t : List (List ℕ)) → s ≡ t → HasShown a b f g t → HasShown a b f g s
-showed_is a b f g s t e w = subst (λ (l : List (List ℕ)). HasShown a b f g l) (sym e) w
+pub showed_is : (a b : Seen) (s t : List (List ℕ)) → s ≡ t → HasShown a b t → HasShown a b s
+showed_is a b s t e w = subst (λ (l : List (List ℕ)). HasShown a b l) (sym e) w
 
 -- texts, and then nothing but markup
-pub showed_end : (a b c : Option (List ℕ)) (f g h : Bool) (s : List (List ℕ)) (r : Outcome) → HasShown a b f g s → ShowedBy b c g h [] r → ShowedBy a c f h s r
-showed_end a b c f g h s r v w = subst (λ l. ShowedBy a c f h l r) (append-nil s) (showed_then a b c f g h s [] r v w)
+pub showed_end : (a b c : Seen) (s : List (List ℕ)) (r : Outcome) → HasShown a b s → ShowedBy b c [] r → ShowedBy a c s r
+showed_end a b c s r v w = subst (λ l. ShowedBy a c l r) (append-nil s) (showed_then a b c s [] r v w)
 
 -- markup was written
-pub own_showed : (a b : Option (List ℕ)) (f g : Bool) (bytes : List ℕ) (r : Outcome) → WroteBy a b f g bytes r → ShowedBy a b f g [] r
-own_showed a b f g bytes (Ok x) w = record { bytes = bytes; added = w.0; shows = tt; mark = w.1 }
+pub own_showed : (a b : Option (List ℕ)) (f g : Bool) (bytes : List ℕ) (r : Outcome) → WroteBy a b f g bytes r → ShowedBy (record { taken = a; shown = None; failed = f }) (record { taken = b; shown = None; failed = g }) [] r
+own_showed a b f g bytes (Ok x) w = record { bytes = bytes; added = w.0; shows = tt; exactly = refl; mark = w.1 }
 own_showed a b f g bytes (Err x) w = w.1
 
 -- a text was written, escaped
-pub text_showed : (a b : Option (List ℕ)) (f g : Bool) (text : List ℕ) (r : Outcome) → WroteBy a b f g (escaped text) r → ShowedBy a b f g (text ∷ []) r
+pub text_showed : (a b : Option (List ℕ)) (f g : Bool) (text : List ℕ) (r : Outcome) → WroteBy a b f g (escaped text) r → ShowedBy (record { taken = a; shown = None; failed = f }) (record { taken = b; shown = None; failed = g }) (text ∷ []) r
 text_showed a b f g text (Ok x) w = record {
   bytes = escaped text;
   added = w.0;
   shows = record { before = []; after = []; cut = sym (append-nil (escaped text)); rest = tt };
+  exactly = refl;
   mark = w.1;
 }
 text_showed a b f g text (Err x) w = w.1
@@ -80,28 +96,28 @@ text_showed a b f g text (Err x) w = w.1
 
 module _ {A : Type 0} (texts : A → List (List ℕ)) where
   -- those of one more
-  pub list_more : (xs : List A) (i : ℕ) (x : A) (a b c : Option (List ℕ)) (f g h : Bool) → i < length xs → x ≡ get_or xs i x
-      → HasShown a b f g (flat_map texts (take i xs)) → HasShown b c g h (texts x) → HasShown a c f h (flat_map texts (take (i + 1) xs))
-  list_more xs i x a b c f g h low is v w =
+  pub list_more : (xs : List A) (i : ℕ) (x : A) (a b c : Seen) → i < length xs → x ≡ get_or xs i x
+      → HasShown a b (flat_map texts (take i xs)) → HasShown b c (texts x) → HasShown a c (flat_map texts (take (i + 1) xs))
+  list_more xs i x a b c low is v w =
       let before = flat_map texts (take i xs) in
       let more : flat_map texts (take (i + 1) xs) ≡ before ++ texts x =
       ap (flat_map texts) (take_more xs i x low) ∙ flat_map-append texts (take i xs) (get_or xs i x ∷ []) ∙ ap (λ l. before ++ l) (append-nil (texts (get_or xs i x))) ∙ ap (λ y. before ++ texts y) (sym is) in
-      showed_is a c f h (flat_map texts (take (i + 1) xs)) (before ++ texts x) more (showed_then a b c f g h before (texts x) (Ok tt) v w)
+      showed_is a c (flat_map texts (take (i + 1) xs)) (before ++ texts x) more (showed_then a b c before (texts x) (Ok tt) v w)
 
   -- those of all
-  pub list_done : (xs : List A) (i : ℕ) (a b : Option (List ℕ)) (f g : Bool) → length xs ≤ i → HasShown a b f g (flat_map texts (take i xs)) → HasShown a b f g (flat_map texts xs)
-  list_done xs i a b f g all v = subst (λ (l : List A). HasShown a b f g (flat_map texts l)) (take_all i xs all) v
+  pub list_done : (xs : List A) (i : ℕ) (a b : Seen) → length xs ≤ i → HasShown a b (flat_map texts (take i xs)) → HasShown a b (flat_map texts xs)
+  list_done xs i a b all v = subst (λ (l : List A). HasShown a b (flat_map texts l)) (take_all i xs all) v
 
 -- ---- one text for each of a list
 
 module _ {A : Type 0} (text : A → List ℕ) where
-  pub names_more : (xs : List A) (i : ℕ) (x : A) (a b c : Option (List ℕ)) (f g h : Bool) → i < length xs → x ≡ get_or xs i x
-      → HasShown a b f g (map text (take i xs)) → HasShown b c g h (text x ∷ []) → HasShown a c f h (map text (take (i + 1) xs))
-  names_more xs i x a b c f g h low is v w =
+  pub names_more : (xs : List A) (i : ℕ) (x : A) (a b c : Seen) → i < length xs → x ≡ get_or xs i x
+      → HasShown a b (map text (take i xs)) → HasShown b c (text x ∷ []) → HasShown a c (map text (take (i + 1) xs))
+  names_more xs i x a b c low is v w =
       let before = map text (take i xs) in
       let more : map text (take (i + 1) xs) ≡ before ++ text x ∷ [] =
       ap (map text) (take_more xs i x low) ∙ map-append text (take i xs) (get_or xs i x ∷ []) ∙ ap (λ y. before ++ text y ∷ []) (sym is) in
-      showed_is a c f h (map text (take (i + 1) xs)) (before ++ text x ∷ []) more (showed_then a b c f g h before (text x ∷ []) (Ok tt) v w)
+      showed_is a c (map text (take (i + 1) xs)) (before ++ text x ∷ []) more (showed_then a b c before (text x ∷ []) (Ok tt) v w)
 
-  pub names_done : (xs : List A) (i : ℕ) (a b : Option (List ℕ)) (f g : Bool) → length xs ≤ i → HasShown a b f g (map text (take i xs)) → HasShown a b f g (map text xs)
-  names_done xs i a b f g all v = subst (λ (l : List A). HasShown a b f g (map text l)) (take_all i xs all) v
+  pub names_done : (xs : List A) (i : ℕ) (a b : Seen) → length xs ≤ i → HasShown a b (map text (take i xs)) → HasShown a b (map text xs)
+  names_done xs i a b all v = subst (λ (l : List A). HasShown a b (map text l)) (take_all i xs all) v

@@ -3,7 +3,9 @@
 
 mod escaped;
 mod law;
+mod page_sink;
 mod part;
 
 pub use law::no_text_is_markup;
-pub use part::{Part, set};
+pub use page_sink::{PageSink, set};
+pub use part::Part;

@@ -1,7 +1,6 @@
 // What a page is made of.
 ghost use Rattle.std.specs.Prelude.{[], ◌∷◌};
-ghost use Rattle.std.specs.List.{flat_map};
-ghost use Rattle.tx_html.specs.Shows.{Showed, part_texts};
+ghost use Rattle.tx_html.specs.Shows.{Showed, seen_by, part_texts};
 
 use crate::escaped::write_escaped;
 use itoa::Buffer;
@@ -20,18 +19,9 @@ pub enum Part<'a> {
     Count(u64),
 }
 
-/// Writes parts of a page, one after another.
-pub fn set<W: Sink>(parts: &[Part<'_>], sink: &mut W) -> Result<(), WriteFault>
-    ensures { Showed W.taken W.failed sink.old sink.new (flat_map part_texts parts.now) result }
-{
-    for i in 0..parts.len() {
-        set_part(parts[i], sink)?;
-    }
-    Ok(())
-}
-
-fn set_part<W: Sink>(part: Part<'_>, sink: &mut W) -> Result<(), WriteFault>
-    ensures { Showed W.taken W.failed sink.old sink.new (part_texts part.entry) result }
+/// Writes a part of a page.
+pub(crate) fn set_part<W: Sink>(part: Part<'_>, sink: &mut W) -> Result<(), WriteFault>
+    ensures { Showed (seen_by W.taken W.failed) sink.old sink.new (part_texts part.entry) result }
 {
     let mut buffer = Buffer::new();
     match part {
@@ -44,14 +34,14 @@ fn set_part<W: Sink>(part: Part<'_>, sink: &mut W) -> Result<(), WriteFault>
 
 /// Writes markup.
 fn set_own<W: Sink>(bytes: &[u8], sink: &mut W) -> Result<(), WriteFault>
-    ensures { Showed W.taken W.failed sink.old sink.new [] result }
+    ensures { Showed (seen_by W.taken W.failed) sink.old sink.new [] result }
 {
     write_bytes(bytes, sink)
 }
 
 /// Writes a text, escaped.
 fn set_text<W: Sink>(text: &[u8], sink: &mut W) -> Result<(), WriteFault>
-    ensures { Showed W.taken W.failed sink.old sink.new (text.now ∷ []) result }
+    ensures { Showed (seen_by W.taken W.failed) sink.old sink.new (text.now ∷ []) result }
 {
     write_escaped(text, sink)
 }

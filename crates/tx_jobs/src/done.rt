@@ -81,7 +81,7 @@ impl<A: Allocator> Done<A> {
             | Done::Audited(Evidence::Unsound(_))
             | Done::Changed(ChangeEvidence::Unsound(_))
             | Done::Ordered(Staged::NoOrder)
-            | Done::Mended(Mending::NoRouting(_, _, _)) => 1,
+            | Done::Mended(Mending::NoRouting(_, _, _, _)) => 1,
             Done::Told(strict, summary) => u8::from(*strict && summary.refused != 0),
             Done::Paged(safe) => u8::from(!*safe),
             Done::Graded(grade) => u8::from(grade.plan.is_none()),
@@ -130,7 +130,7 @@ impl<A: Allocator> Done<A> {
             | Done::Audited(Evidence::Unsound(None))
             | Done::Changed(ChangeEvidence::Unsound(None))
             | Done::Ordered(Staged::Ordered(None) | Staged::NoOrder)
-            | Done::Mended(Mending::NoRouting(_, _, _))
+            | Done::Mended(Mending::NoRouting(_, _, _, _))
             | Done::Graded(_)
             | Done::Survived(_)
             | Done::Filled(_)

@@ -1,14 +1,15 @@
 -- Entries that are copied one after another.
 use Rattle.std.proofs.Common.{◌≡◌, ◌≢◌, ℕ, zero, suc, ◌+◌, ◌==◌, Bool, true, false, cond, ◌&&◌, ◌||◌, List, [], ◌∷◌, ◌++◌, take, Option, Some, None, inl, inr, refl, sym, ap, ◌∙◌, append-nil}
 use Rattle.std.specs.Prelude.{filter, slice_get}
-use Rattle.std.specs.List.{list_any}
+use Rattle.std.specs.List.{list_any, flat_map}
 use Rattle.std.specs.Option.{option_map}
 use Rattle.std.proofs.lemmas.Bool.{ne_eqb, cases_eq, and_left, and_right}
-use Rattle.std.proofs.lemmas.List.Elements.{filter-append}
+use Rattle.std.proofs.lemmas.List.Concat.{flat_map-append}
 use Rattle.tx_plan.specs.declared.ids.Pair.{Pair}
 use Rattle.tx_plan.specs.Plan.{Plan, Route}
 use Rattle.tx_plan.specs.Rules.{EachPair, IsPlan}
 use Rattle.tx_plan.specs.Routes.{route_list}
+use Rattle.tx_mend.specs.Mended.{route_if}
 use Rattle.tx_plan.proofs.ListFound.{list_found}
 use Rattle.tx_rank.proofs.Ways.{all_among}
 use Rattle.tx_rank.proofs.Looks.{among_at, take_next}
@@ -41,20 +42,36 @@ none_filtered t s (x ∷ xs) h = elim (t x) as (λ b. t x ≡ b → (b || list_a
   ]
 ] refl h
 
+-- what routes become has no route of a pair that none of them is of
+module _ (exchange code : ℕ) (list : Route → List ℕ) where
+  abbrev for : Route → Bool
+  for r = (r.exchange == exchange) && (r.code == code)
+
+  none_more : (r : Route) (l : List ℕ) (more : List Route) → for r ≡ false → list_any for more ≡ false → list_any for (route_if (r.exchange, r.code) l ++ more) ≡ false
+  none_more r [] more k m = m
+  none_more r (g ∷ gs) more k m = ap (λ b. b || list_any for more) k ∙ m
+
+  pub none_settled : (rs : List Route) → list_any for rs ≡ false → list_any for (flat_map (λ r. route_if (r.exchange, r.code) (list r)) rs) ≡ false
+  none_settled [] h = refl
+  none_settled (r ∷ rs) h =
+      let own : for r ≡ false = elim (for r) as (λ b. (b || list_any for rs) ≡ false → b ≡ false) [ true ↦ λ k. let bad : ⊥ = cc in absurd bad | false ↦ λ k. refl ] h in
+      let rest : list_any for rs ≡ false = sym (ap (λ b. b || list_any for rs) own) ∙ h in
+      none_more r (list r) (flat_map (λ r. route_if (r.exchange, r.code) (list r)) rs) own (none_settled rs rest)
+
 -- ONE MORE
 
 module _ {A : Type 0} (xs : List A) (i : ℕ) (x : A) (at : slice_get xs i ≡ Some x) where
   pub copied_next : (old new : List A) → old ≡ take i xs → new ≡ old ++ x ∷ [] → new ≡ take (i + 1) xs
   copied_next old new a b = b ∙ ap (λ l. l ++ x ∷ []) a ∙ sym (take_next xs i x at)
 
-  filtered_next : (s : A → Bool) (b : Bool) → s x ≡ b → filter s (take (i + 1) xs) ≡ filter s (take i xs) ++ cond b (x ∷ []) []
-  filtered_next s b e = ap (filter s) (take_next xs i x at) ∙ filter-append s (take i xs) (x ∷ []) ∙ ap (λ c. filter s (take i xs) ++ cond c (x ∷ []) []) e
+  -- of what entries become
+  mapped_next : {B : Type 0} (f : A → List B) (old new : List B) → old ≡ flat_map f (take i xs) → new ≡ old ++ f x → new ≡ flat_map f (take (i + 1) xs)
+  mapped_next f old new a b = b ∙ ap (λ l. l ++ f x) a ∙ sym (ap (flat_map f) (take_next xs i x at) ∙ flat_map-append f (take i xs) (x ∷ []) ∙ ap (λ l. flat_map f (take i xs) ++ l) (append-nil (f x)))
 
-  pub stays_next : (s : A → Bool) (old new : List A) → old ≡ filter s (take i xs) → s x ≡ true → new ≡ old ++ x ∷ [] → new ≡ filter s (take (i + 1) xs)
-  stays_next s old new a e b = b ∙ ap (λ l. l ++ x ∷ []) a ∙ sym (filtered_next s true e)
-
-  pub goes_next : (s : A → Bool) (old new : List A) → old ≡ filter s (take i xs) → s x ≡ false → new ≡ old → new ≡ filter s (take (i + 1) xs)
-  goes_next s old new a e b = b ∙ a ∙ sym (filtered_next s false e ∙ append-nil (filter s (take i xs)))
+-- of routes that get other lists
+pub settled_next : (list : Route → List ℕ) (rs : List Route) (i : ℕ) (r : Route) → slice_get rs i ≡ Some r → (old new : List Route) (l : List ℕ) → old ≡ flat_map (λ r. route_if (r.exchange, r.code) (list r)) (take i rs)
+    → new ≡ old ++ route_if (r.exchange, r.code) l → l ≡ list r → new ≡ flat_map (λ r. route_if (r.exchange, r.code) (list r)) (take (i + 1) rs)
+settled_next list rs i r at old new l a b e = mapped_next rs i r at (λ r. route_if (r.exchange, r.code) (list r)) old new a (b ∙ ap (λ (k : List ℕ). old ++ route_if (r.exchange, r.code) k) e)
 
 -- THE ENTRY AT AN INDEX
 

@@ -1,8 +1,8 @@
 -- Lists of numbers in which nothing stands twice.
-use Rattle.std.proofs.Common.{◌≡◌, ◌≢◌, ℕ, zero, suc, ◌+◌, ◌<◌, ◌≤◌, ◌⊎◌, true, eqb, eq-eqb, List, [], ◌∷◌, ◌++◌, length, inl, inr, refl, sym, arith}
+use Rattle.std.proofs.Common.{◌≡◌, ◌≢◌, ℕ, zero, suc, ◌+◌, ◌<◌, ◌≤◌, ◌⊎◌, Bool, true, eqb, eq-eqb, List, [], ◌∷◌, ◌++◌, length, inl, inr, refl, sym, ap, ◌∙◌, arith}
 use Rattle.std.specs.Cmp.{nat_eq_equiv}
-use Rattle.std.specs.List.{list_any, AllByRecursion, range_with_len}
-use Rattle.std.proofs.lemmas.Bool.{cases_lt, or_left, or_right}
+use Rattle.std.specs.List.{list_any, list_all, AllByRecursion, range_with_len}
+use Rattle.std.proofs.lemmas.Bool.{cases_lt, or_left, or_right, and_parts, and_from}
 use Rattle.std.proofs.lemmas.Map.Made.{length-le_from_is_member}
 use Rattle.tx_plan.specs.Rules.{EachPair}
 use Rattle.tx_plan.specs.Among.{Among}
@@ -51,3 +51,14 @@ range_among a (suc n) g (inr m) = let i = range_among (a + 1) n g m in let x = i
 pub range_differs : (a n : ℕ) → AllDiffer (range_with_len a n)
 range_differs a zero = tt
 range_differs a (suc n) = (among_all (λ y. a ≢ y) (range_with_len (a + 1) n) (λ y m e. let i = range_among (a + 1) n y m in let x = i.0 in absurd (omega arith)), range_differs (a + 1) n)
+
+-- TESTS OF ALL
+
+pub all_holds : (t : ℕ → Bool) (xs : List ℕ) (x : ℕ) → list_all t xs ≡ true → Among x xs → t x ≡ true
+all_holds t [] x h m = absurd m
+all_holds t (y ∷ xs) x h (inl e) = ap t (sym e) ∙ (and_parts (t y) (list_all t xs) h).0
+all_holds t (y ∷ xs) x h (inr m) = all_holds t xs x (and_parts (t y) (list_all t xs) h).1 m
+
+pub holds_all : (t : ℕ → Bool) (xs : List ℕ) → ((x : ℕ) → Among x xs → t x ≡ true) → list_all t xs ≡ true
+holds_all t [] h = refl
+holds_all t (y ∷ xs) h = and_from (t y) (list_all t xs) (h y (inl refl)) (holds_all t xs (λ x m. h x (inr m)))

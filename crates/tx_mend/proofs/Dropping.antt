@@ -1,5 +1,5 @@
 -- Steps of loops over groups, by what is left.
-use Rattle.std.proofs.Common.{◌≡◌, ℕ, suc, ◌+◌, ◌<◌, Bool, true, false, cond, ◌&&◌, List, [], ◌∷◌, ◌++◌, length, get_or, drop, refl, sym, ap, ◌∙◌, arith, add-one, drop-cons, append_assoc}
+use Rattle.std.proofs.Common.{◌≡◌, ℕ, suc, ◌+◌, ◌<◌, Bool, true, false, cond, not, ◌&&◌, ◌||◌, List, [], ◌∷◌, ◌++◌, length, get_or, drop, refl, sym, ap, ◌∙◌, arith, add-one, drop-cons, append_assoc}
 use Rattle.std.specs.Prelude.{filter}
 use Rattle.std.specs.List.{list_all}
 use mir.Val.{bool_byte}
@@ -32,6 +32,14 @@ module _ (xs : List ℕ) (i x : ℕ) (h : i < length xs) (e : x ≡ get_or xs i 
 
     pub keep_passed : (new : List ℕ) → t x ≡ false → new ≡ list → new ++ filter t (drop (i + 1) xs) ≡ all
     keep_passed new k n = ap (λ l. l ++ filter t (drop (i + 1) xs)) n ∙ ap (λ l. list ++ l) (sym (filter_step t false k)) ∙ a
+
+-- all that pass one test pass another one
+pub all_kept : (t on : ℕ → Bool) (xs : List ℕ) → list_all (λ x. not (t x) || on x) xs ≡ list_all on (filter t xs)
+all_kept t on [] = refl
+all_kept t on (x ∷ xs) = elim (t x) as (λ b. ((not b || on x) && list_all (λ y. not (t y) || on y) xs) ≡ list_all on (cond b (x ∷ filter t xs) (filter t xs))) [
+  | true ↦ ap (λ r. on x && r) (all_kept t on xs)
+  | false ↦ all_kept t on xs
+]
 
 pub filled_append : (spare : ℕ) (list a b : List ℕ) → filled spare list (a ++ b) ≡ filled spare (filled spare list a) b
 filled_append spare list [] b = refl

@@ -1,18 +1,18 @@
 -- Lists that are filled up.
-use Rattle.std.proofs.Common.{◌≡◌, ◌≢◌, ℕ, ◌<◌, ◌≤◌, true, false, nat_lt, ◌==◌, eqb-true, eq-eqb, List, [], ◌∷◌, ◌++◌, length, inl, inr, refl, sym, ap, subst, arith, length-append, Bool, ◌∙◌}
+use Rattle.std.proofs.Common.{◌≡◌, ◌≢◌, ℕ, ◌<◌, ◌≤◌, true, false, nat_lt, ◌==◌, eqb-true, eq-eqb, List, [], ◌∷◌, ◌++◌, length, inl, inr, refl, sym, ap, subst, arith, length-append, append-nil, append_assoc, Bool, ◌∙◌}
 use Rattle.std.specs.Prelude.{if◌then◌else◌}
 use Rattle.std.specs.List.{list_any, AllByRecursion}
 use Rattle.std.proofs.lemmas.Bool.{or_cases, or_left, or_right, false≢true, ltb-true, lt-ltb}
 use borrow.Author.Tests.{ltb-false}
 use Rattle.tx_plan.specs.Among.{Among}
-use Rattle.tx_plan.proofs.Among.{among_left, among_right}
+use Rattle.tx_plan.proofs.Among.{among_left, among_right, among_cases}
 use Rattle.tx_plan.proofs.Lists.{all_put}
 use Rattle.tx_plan.proofs.ByIndex.{pairs_put}
 use Rattle.tx_mend.specs.Lists.{put, filled}
 use Rattle.tx_rank.specs.Walks.{AllDiffer}
 use Rattle.tx_rank.proofs.Ways.{among_all}
 
-stands : (g : ℕ) (xs : List ℕ) → list_any (λ h. h == g) xs ≡ true → Among g xs
+pub stands : (g : ℕ) (xs : List ℕ) → list_any (λ h. h == g) xs ≡ true → Among g xs
 stands g [] h = absurd (false≢true h)
 stands g (x ∷ xs) h = elim (or_cases (x == g) (list_any (λ h. h == g) xs) h) [ inl a ↦ inl (eqb-true x g a) | inr b ↦ inr (stands g xs b) ]
 
@@ -85,7 +85,7 @@ module _ (spare : ℕ) where
   filled_grows list [] = omega arith
   filled_grows list (g ∷ gs) = let a = put_grows list g (put spare list g) (is_put list g) in let b = filled_grows (put spare list g) gs in omega arith
 
-  filled_keeps : (list gs : List ℕ) (h : ℕ) → Among h list → Among h (filled spare list gs)
+  pub filled_keeps : (list gs : List ℕ) (h : ℕ) → Among h list → Among h (filled spare list gs)
   filled_keeps list [] h m = m
   filled_keeps list (g ∷ gs) h m = filled_keeps (put spare list g) gs h (put_keeps list g (put spare list g) (is_put list g) h m)
 
@@ -101,3 +101,28 @@ module _ (spare : ℕ) where
   pub filled_full : (list gs : List ℕ) → spare < length list → filled spare list gs ≡ list
   filled_full list [] h = refl
   filled_full list (g ∷ gs) h = ap (λ (b : Bool). filled spare (if b then list else (if list_any (λ h. h == g) list then list else list ++ g ∷ [])) gs) (lt-ltb spare (length list) h) ∙ filled_full list gs h
+
+  -- what is filled up begins with the list, and goes on with some of the groups
+  pub record Extends (list gs new : List ℕ) : Type 0 where
+    pub added : List ℕ
+    pub is : new ≡ list ++ added
+    pub of : (h : ℕ) → Among h added → Among h gs
+
+  put_extends : (list : List ℕ) (g : ℕ) (k : List ℕ) → IsPut list g k → Extends list (g ∷ []) k
+  put_extends list g k (full _ e) = record { added = []; is = e ∙ sym (append-nil list); of = λ h m. absurd m }
+  put_extends list g k (there _ e) = record { added = []; is = e ∙ sym (append-nil list); of = λ h m. absurd m }
+  put_extends list g k (new _ _ e) = record { added = g ∷ []; is = e; of = λ h m. m }
+
+  pub filled_extends : (list gs : List ℕ) → Extends list gs (filled spare list gs)
+  filled_extends list [] = record { added = []; is = sym (append-nil list); of = λ h m. absurd m }
+  filled_extends list (g ∷ gs) =
+      let a = put_extends list g (put spare list g) (is_put list g) in
+      let b = filled_extends (put spare list g) gs in
+      record {
+        added = a.added ++ b.added;
+        is = b.is ∙ ap (λ l. l ++ b.added) a.is ∙ append_assoc list a.added b.added;
+        of = λ h m. elim (among_cases h a.added b.added m) [
+          | inl k ↦ elim (a.of h k) [ inl e ↦ inl e | inr bad ↦ absurd bad ]
+          | inr k ↦ inr (b.of h k)
+        ];
+      }

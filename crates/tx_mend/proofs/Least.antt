@@ -2,7 +2,8 @@
 use Rattle.std.proofs.Common.{◌≡◌, ◌≢◌, ℕ, suc, ◌<◌, ◌≤◌, ◌⊎◌, Bool, true, false, ◌==◌, ◌&&◌, cond, eqb-true, List, [], ◌∷◌, length, Option, Some, None, inl, inr, refl, sym, ap, subst, ◌∙◌, arith}
 use Rattle.std.specs.Prelude.{find, filter, is_some, option_and_then}
 use Rattle.std.specs.Option.{option_map_or}
-use Rattle.std.proofs.lemmas.Bool.{and_parts, lt-ltb}
+use Rattle.std.specs.List.{list_all}
+use Rattle.std.proofs.lemmas.Bool.{and_parts, and_from, lt-ltb}
 use Rattle.tx_plan.specs.Plan.{Plan, Route, home_of}
 use Rattle.tx_plan.specs.Rules.{IsPlan, IsRoute}
 use Rattle.tx_plan.specs.Routes.{route_list}
@@ -14,7 +15,8 @@ use Rattle.tx_plan.proofs.Growing.{seizes_within}
 use Rattle.tx_plan.specs.Mixed.{rerouted}
 use Rattle.tx_mend.specs.Routings.{IsFalling}
 use Rattle.tx_mend.specs.LeastRanks.{indexes, RanksOfCode, outgoing, leads_on, can_follow, least_rank, LeastRanksAreLeast}
-use Rattle.tx_mend.proofs.Distinct.{some_among, fits, among_range}
+use Rattle.tx_mend.specs.KeptRanks.{can_follow_keeping, rank_keeping}
+use Rattle.tx_mend.proofs.Distinct.{some_among, fits, among_range, holds_all}
 use Rattle.tx_rank.specs.Walks.{AllDiffer}
 use Rattle.tx_rank.proofs.Ways.{all_among}
 use Rattle.tx_rank.proofs.Certifying.{below_rank}
@@ -46,6 +48,13 @@ list_cases p x c = by_find (find (λ r. (r.exchange == x) && (r.code == c)) p.ro
         let f = found_among (λ (k : Route). (k.exchange == x) && (k.code == c)) p.routes r e in
         let b = and_parts (r.exchange == x) (r.code == c) f.1 in
         inr (record { route = r; among = f.0; exchange = eqb-true r.exchange x b.0; code = eqb-true r.code c b.1; groups = ap (λ (o : Option Route). option_map_or (λ (r : Route). r.groups) o []) e })
+
+-- an exchange with a list is one of the plan
+pub listed_within : (p : Plan) → IsPlan p → (x c g : ℕ) → Among g (route_list p x c) → x < length p.exchanges
+listed_within p ok x c g m = elim (list_cases p x c) [
+  | inl e ↦ absurd (subst (λ (l : List ℕ). Among g l) e m)
+  | inr f ↦ (let w = (all_among (IsRoute p) p.routes f.route ok.routes f.among).exchange in let s = f.exchange in omega arith)
+]
 
 -- what the rules say of lists
 module _ (p : Plan) (ok : IsPlan p) (x c : ℕ) where
@@ -104,6 +113,20 @@ module _ (p : Plan) (routes : List Route) where
 
     pub least_with : (x r : ℕ) → ranks code x ≡ Some r → (n : ℕ) × (least_rank p code limit spare x ≡ Some n) × (n ≤ r)
     least_with x r e = let low = f.low x r e in no_greater (home_of p code) (can_follow p spare) (ranks code) positive fed (suc limit) x r (omega arith) e
+
+    -- the same along routes that keep some lists
+    module _ (kept : ℕ → List ℕ) (within : (x g : ℕ) → Among g (kept x) → Among g (route_list Q x code)) where
+      fed_keeping : (x r : ℕ) → ranks code x ≡ Some r → x ≢ home_of p code → (other : RanksOfCode) → ((y m : ℕ) → ranks code y ≡ Some m → m < r → (n : ℕ) × (other y ≡ Some n)) → can_follow_keeping p spare kept other x ≡ true
+      fed_keeping x r e away other h =
+          and_from (can_follow p spare other x) (list_all (λ g. leads_on p other x g) (kept x)) (fed x r e away other h)
+          (holds_all (λ g. leads_on p other x g) (kept x) (λ g m.
+          let l = all_among (LeadsLower Q ranks code x r) (route_list Q x code) g (f.lists x r e away).each (within x g m) in
+          let b = below_rank (ranks code l.to) r l.lower in
+          let o = h l.to b.0 b.1 b.2 in
+          leads p other x g l.to o.0 l.leads o.1))
+
+      pub least_keeping : (x r : ℕ) → ranks code x ≡ Some r → (n : ℕ) × (rank_keeping p code limit spare kept x ≡ Some n) × (n ≤ r)
+      least_keeping x r e = let low = f.low x r e in no_greater (home_of p code) (can_follow_keeping p spare kept) (ranks code) positive fed_keeping (suc limit) x r (omega arith) e
 
 pub least : LeastRanksAreLeast
 least p q s ranks code limit spare f =

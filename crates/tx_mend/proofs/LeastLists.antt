@@ -1,5 +1,5 @@
--- The lists by the least ranks lead down.
-use Rattle.std.proofs.Common.{◌≡◌, ◌≢◌, ℕ, suc, ◌<◌, ◌≤◌, true, false, nat_lt, ◌==◌, eqb-true, eq-eqb, List, [], length, Option, Some, None, inl, inr, refl, sym, ap, subst, ◌∙◌, arith}
+-- Lists by ranks lead down.
+use Rattle.std.proofs.Common.{◌≡◌, ◌≢◌, ℕ, suc, ◌<◌, ◌≤◌, Bool, true, false, nat_lt, ◌==◌, eqb-true, eq-eqb, List, [], length, Option, Some, None, inl, inr, refl, sym, ap, subst, ◌∙◌, arith}
 use Rattle.std.specs.Prelude.{filter, is_some, option_and_then}
 use Rattle.std.specs.Option.{option_map_or}
 use Rattle.std.proofs.lemmas.Bool.{cases_lt, ltb-true, false≢true}
@@ -9,13 +9,14 @@ use Rattle.tx_plan.specs.Routes.{route_list}
 use Rattle.tx_plan.specs.Circuits.{may_seize, other_end}
 use Rattle.tx_plan.specs.Among.{Among}
 use Rattle.tx_plan.proofs.Among.{among_filter, filter_among, among_flat, flat_among}
-use Rattle.tx_mend.specs.LeastRanks.{indexes, RanksOfCode, outgoing, rank_across, leads_on, can_follow, least_rank}
-use Rattle.tx_mend.specs.Lists.{filled, leads_below, leads_to, groups_below, list_of_rank, least_list}
+use Rattle.tx_mend.specs.LeastRanks.{indexes, RanksOfCode, outgoing, rank_across, leads_on, can_follow, ranked_in}
+use Rattle.tx_mend.specs.KeptRanks.{leads_below}
+use Rattle.tx_mend.specs.Lists.{filled, leads_to, groups_below, list_of_rank, list_by}
 use Rattle.tx_mend.proofs.Distinct.{fits, among_range, range_among, range_differs}
 use Rattle.tx_plan.proofs.Filtered.{pairs_kept}
 use Rattle.tx_rank.specs.Walks.{AllDiffer}
 use Rattle.tx_rank.proofs.Ways.{all_among, among_all}
-use Rattle.tx_mend.proofs.RoundRanks.{Ranked, at_home, stays_on, within, why}
+use Rattle.tx_mend.proofs.RoundRanks.{Ranked, IsRankedAfter, at_home, stays_on, within, why}
 use Rattle.tx_mend.proofs.Least.{list_cases, list_differs, list_seizes, list_few}
 use Rattle.tx_mend.proofs.Filled.{filled_all, filled_differs, filled_few, filled_has}
 
@@ -83,16 +84,64 @@ present_list p ok x c = record {
   ];
 }
 
-module _ (p : Plan) (ok : IsPlan p) (limit spare c : ℕ) (small : spare ≤ 15) where
-  abbrev pub Least : RanksOfCode
-  Least = least_rank p c limit spare
+-- more than spare groups lead from x below r
+pub record HasEnough (p : Plan) (ranks : RanksOfCode) (spare x r : ℕ) : Type 0 where
+  pub groups : List ℕ
+  pub differ : AllDiffer groups
+  pub more : spare < length groups
+  pub seized : (g : ℕ) → Among g groups → Among g (outgoing p x)
+  pub lower : (g : ℕ) → Among g groups → Leads p ranks x r g
 
+-- ranks by which lists can be made
+pub record IsRanking (p : Plan) (c limit spare : ℕ) (ranks : RanksOfCode) : Type 0 where
+  pub home : ranks (home_of p c) ≡ Some 0
+  pub low : (x r : ℕ) → ranks x ≡ Some r → r ≤ suc limit
+  pub enough : (x r : ℕ) → ranks x ≡ Some r → x ≢ home_of p c → HasEnough p ranks spare x r
+
+-- RANKS OF ROUNDS
+
+module _ (p : Plan) (c limit : ℕ) (follows : RanksOfCode → ℕ → Bool) where
+  abbrev Round : RanksOfCode
+  Round x = ranked_in (home_of p c) follows (suc limit) x
+
+  abbrev before : ℕ → RanksOfCode
+  before n = Ranked (home_of p c) follows n
+
+  -- a group that led on when x was ranked leads to a smaller rank
+  pub on_leads : (x r g : ℕ) → (w : IsRankedAfter (home_of p c) follows (suc limit) x r) → leads_on p (before w.round) x g ≡ true → Leads p Round x r g
+  on_leads x r g w h =
+      let n = on_rank p (before w.round) x g h in
+      let a = across_to p (before w.round) x g n.0 n.1 in
+      let lower = within (home_of p c) follows w.round a.0 n.0 a.2 in
+      let b = w.before in
+      let next = w.next in
+      record { to = a.0; rank = n.0; leads = a.1; ranked = stays_on (home_of p c) follows (suc limit) w.round a.0 n.0 (omega arith) a.2; below = omega arith }
+
+  pub round_ranking : (spare : ℕ) → ((ranks : RanksOfCode) (x : ℕ) → follows ranks x ≡ true → can_follow p spare ranks x ≡ true) → IsRanking p c limit spare Round
+  round_ranking spare can = record {
+    home = at_home (home_of p c) follows (suc limit);
+    low = within (home_of p c) follows (suc limit);
+    enough = λ x r e away.
+        let w = why (home_of p c) follows (suc limit) x r e away in
+        let t : ℕ → Bool = λ g. leads_on p (before w.round) x g in
+        record {
+          groups = filter t (outgoing p x);
+          differ = pairs_kept (λ x y. x ≢ y) t (outgoing p x) (pairs_kept (λ x y. x ≢ y) (λ g. may_seize p g x) (indexes (length p.groups)) (range_differs 0 (length p.groups)));
+          more = ltb-true spare (length (filter t (outgoing p x))) (can (before w.round) x w.admitted);
+          seized = λ g m. (filter_among t g (outgoing p x) m).0;
+          lower = λ g m. on_leads x r g w (filter_among t g (outgoing p x) m).1;
+        };
+  }
+
+-- THE LISTS BY THEM
+
+module _ (p : Plan) (ok : IsPlan p) (limit spare c : ℕ) (small : spare ≤ 15) (Least : RanksOfCode) (ranking : IsRanking p c limit spare Least) where
   below_seizes : (r x g : ℕ) → Among g (groups_below p Least r x) → may_seize p g x ≡ true
   below_seizes r x g m =
       let f = flat_among (λ m. filter (λ g. leads_to p Least m x g) (outgoing p x)) g (indexes r) m in
       outgoing_seizes p g x (filter_among (λ g. leads_to p Least f.0 x g) g (outgoing p x) f.2).0
 
-  below_leads : (r x g : ℕ) → Among g (groups_below p Least r x) → Leads p Least x r g
+  pub below_leads : (r x g : ℕ) → Among g (groups_below p Least r x) → Leads p Least x r g
   below_leads r x g m =
       let f = flat_among (λ m. filter (λ g. leads_to p Least m x g) (outgoing p x)) g (indexes r) m in
       let w = (range_among 0 r f.0 f.1).1 in
@@ -101,24 +150,17 @@ module _ (p : Plan) (ok : IsPlan p) (limit spare c : ℕ) (small : spare ≤ 15)
   -- an exchange of rank r may seize more than spare groups that lead below
   has_below : (x r : ℕ) → Least x ≡ Some r → x ≢ home_of p c → (list : List ℕ) → ((g : ℕ) → Among g (groups_below p Least r x) → Among g list) → spare < length list
   has_below x r e away list has =
-      let w = why (home_of p c) (can_follow p spare) (suc limit) x r e away in
-      let before : RanksOfCode = Ranked (home_of p c) (can_follow p spare) w.round in
-      let follow : List ℕ = filter (λ g. leads_on p before x g) (outgoing p x) in
-      let each : (g : ℕ) → Among g follow → Among g list = λ g m.
-      let q = filter_among (λ g. leads_on p before x g) g (outgoing p x) m in
-      let n = on_rank p before x g q.1 in
-      let a = across_to p before x g n.0 n.1 in
-      let lower = within (home_of p c) (can_follow p spare) w.round a.0 n.0 a.2 in
-      let b = w.before in
-      let next = w.next in
-      let at : Least a.0 ≡ Some n.0 = stays_on (home_of p c) (can_follow p spare) (suc limit) w.round a.0 n.0 (omega arith) a.2 in
-      has g (among_flat (λ m. filter (λ g. leads_to p Least m x g) (outgoing p x)) n.0 g (indexes r) (among_range 0 r n.0 (omega arith) (omega arith))
-      (among_filter (λ g. leads_to p Least n.0 x g) g (outgoing p x) q.0 (to_this p Least x g n.0 (rank_over p Least x g a.0 n.0 a.1 at)))) in
-      let long = fits follow list (pairs_kept (λ x y. x ≢ y) (λ g. leads_on p before x g) (outgoing p x) (pairs_kept (λ x y. x ≢ y) (λ g. may_seize p g x) (indexes (length p.groups)) (range_differs 0 (length p.groups)))) each in
-      let more = ltb-true spare (length follow) w.admitted in
+      let k = ranking.enough x r e away in
+      let each : (g : ℕ) → Among g k.groups → Among g list = λ g m.
+      let l = k.lower g m in
+      let b = l.below in
+      has g (among_flat (λ m. filter (λ g. leads_to p Least m x g) (outgoing p x)) l.rank g (indexes r) (among_range 0 r l.rank (omega arith) (omega arith))
+      (among_filter (λ g. leads_to p Least l.rank x g) g (outgoing p x) (k.seized g m) (to_this p Least x g l.rank (rank_over p Least x g l.to l.rank l.leads l.ranked)))) in
+      let long = fits k.groups list k.differ each in
+      let more = k.more in
       omega arith
 
-  abbrev kept : (r x : ℕ) → List ℕ
+  abbrev pub kept : (r x : ℕ) → List ℕ
   kept r x = filter (λ g. leads_below p Least r x g) (route_list p x c)
 
   pub filled_enough : (x r : ℕ) → Least x ≡ Some r → x ≢ home_of p c → spare < length (filled spare (kept r x) (groups_below p Least r x))
@@ -150,20 +192,20 @@ module _ (p : Plan) (ok : IsPlan p) (limit spare c : ℕ) (small : spare ≤ 15)
       omega arith
 
   -- the home has no list
-  home_empty : (x : ℕ) → home_of p c ≡ x → least_list p limit spare c x ≡ []
+  home_empty : (x : ℕ) → home_of p c ≡ x → list_by p Least c spare x ≡ []
   home_empty x h =
-      let zero_rank : Least x ≡ Some 0 = subst (λ (y : ℕ). Least y ≡ Some 0) h (at_home (home_of p c) (can_follow p spare) (suc limit)) in
+      let zero_rank : Least x ≡ Some 0 = subst (λ (y : ℕ). Least y ≡ Some 0) h ranking.home in
       let none : route_list p x c ≡ [] = elim (list_cases p x c) [
         | inl e ↦ e
         | inr f ↦ absurd ((all_among (IsRoute p) p.routes f.route ok.routes f.among).away (ap (home_of p) f.code ∙ h ∙ sym f.exchange))
       ] in
       ap (λ (o : Option ℕ). list_of_rank p Least c spare x o) zero_rank ∙ ap (λ (l : List ℕ). filter (λ g. leads_below p Least 0 x g) l) none
 
-  pub is_least_list : (x : ℕ) → IsList p x c (least_list p limit spare c x)
-  is_least_list x = by (Least x) refl
+  pub is_list_by : (x : ℕ) → IsList p x c (list_by p Least c spare x)
+  is_list_by x = by (Least x) refl
     where
       by : (o : Option ℕ) → Least x ≡ o → IsList p x c (list_of_rank p Least c spare x o)
-      by None e = record { differs = tt; seizes = λ g m. absurd m; few = omega arith; away = λ some. absurd (some refl) }
+      by None e = present_list p ok x c
       by (Some r) e = record {
         differs = filled_differs spare (kept r x) (groups_below p Least r x) (pairs_kept (λ x y. x ≢ y) (λ g. leads_below p Least r x g) (route_list p x c) (list_differs p ok x c));
         seizes = filled_seizes x r;

@@ -4,6 +4,7 @@ pub mod RoundRanks
 pub mod Least
 pub mod Filled
 pub mod LeastLists
+pub mod Kept
 pub mod Routed
 pub mod Mendable
 pub mod Placed
@@ -15,6 +16,9 @@ pub mod Adding
 pub mod Copied
 pub mod Comes
 pub mod Trimmed
+pub mod Changing
+pub mod Trying
+pub mod TrueCauses
 pub mod Staying
 pub mod Local
 pub mod Written

@@ -3,7 +3,7 @@ use Rattle.std.proofs.Common.{◌≡◌, ◌≢◌, ℕ, suc, ◌<◌, ◌≤◌
 use Rattle.std.specs.Prelude.{filter, slice_get, is_some, if◌then◌else◌}
 use Rattle.std.specs.List.{flat_map, list_all}
 use Rattle.std.specs.Option.{option_map_or}
-use Rattle.std.proofs.lemmas.Bool.{and_parts, and_from, or_cases, false≢true, ltb-true, lt-ltb, not-true}
+use Rattle.std.proofs.lemmas.Bool.{and_parts, and_from, or_cases, false≢true, ltb-true, lt-ltb}
 use Rattle.tx_plan.specs.Plan.{Plan, Group, home_of}
 use Rattle.tx_plan.specs.Rules.{IsPlan, IsGroup, IsRoute}
 use Rattle.tx_plan.specs.Routes.{route_list, is_origin_for}
@@ -11,7 +11,7 @@ use Rattle.tx_plan.specs.Circuits.{may_seize, may_seize_row, is_both}
 use Rattle.tx_plan.specs.Ambiguous.{ambiguous_of}
 use Rattle.tx_plan.specs.Certified.{Ranks, IsBelow, LeadsLower, IsCertified}
 use Rattle.tx_plan.specs.Among.{Among}
-use Rattle.tx_plan.proofs.Among.{among_filter, filter_among, among_flat, among_map}
+use Rattle.tx_plan.proofs.Among.{among_filter, among_flat, among_map}
 use Rattle.tx_rank.specs.Walks.{net_of}
 use Rattle.tx_rank.specs.Nets.{Certifies}
 use Rattle.tx_rank.proofs.Nets.{is_net}
@@ -19,35 +19,35 @@ use Rattle.tx_rank.proofs.Looks.{among_at}
 use Rattle.tx_rank.proofs.Certifying.{distinct_none}
 use Rattle.tx_plan.specs.Mixed.{rerouted}
 use Rattle.tx_mend.specs.Routings.{IsRouting, IsFalling, CanBeServed, CanBeKept, CanBeMended}
-use Rattle.tx_mend.specs.LeastRanks.{indexes, RanksOfCode, outgoing, leads_on, can_follow, does_follow, least_rank, present_rank, keeps_routes}
-use Rattle.tx_mend.specs.Mended.{routes_of, unserved_for, unserved}
+use Rattle.tx_mend.specs.LeastRanks.{indexes, RanksOfCode, leads_on, can_follow, does_follow, least_rank, present_rank, ranks_origins, keeps_routes}
+use Rattle.tx_mend.specs.KeptRanks.{kept_rank}
+use Rattle.tx_mend.specs.Mended.{routes_of}
+use Rattle.tx_mend.specs.declared.cause.Unserved.{Unserved}
+use Rattle.tx_mend.specs.Unserved.{cause_of, unserved_for, unserved}
 use Rattle.tx_mend.specs.Laws.{LeastRanksAreAttained, LeastRanksServe, KeepsWhatCanBeKept}
-use Rattle.tx_mend.specs.Lists.{least_list, list_of_rank, full_list}
+use Rattle.tx_mend.specs.Lists.{list_of_rank, list_by, full_list}
 use Rattle.tx_mend.specs.inner.Full.{full}
-use Rattle.tx_mend.proofs.Distinct.{some_among, among_range, range_among}
+use Rattle.tx_mend.proofs.Distinct.{some_among, among_range, range_among, all_holds, holds_all}
 use Rattle.tx_rank.proofs.Ways.{all_among, among_all}
 use Rattle.tx_rank.proofs.Certifying.{below_rank}
-use Rattle.tx_mend.proofs.RoundRanks.{Ranked, at_home, stays_on, within, why, no_greater}
+use Rattle.tx_mend.proofs.RoundRanks.{Ranked, at_home, within, why, no_greater}
 use Rattle.tx_mend.proofs.Least.{list_cases, leads, least}
-use Rattle.tx_mend.proofs.LeastLists.{Leads, IsList, on_rank, across_to, outgoing_seizes, present_list, is_least_list, filled_enough, filled_leads}
+use Rattle.tx_mend.proofs.LeastLists.{Leads, IsList, IsRanking, outgoing_seizes, present_list, on_leads, round_ranking, is_list_by, filled_enough, filled_leads}
+use Rattle.tx_mend.proofs.Kept.{origin_ranked, origins_ranked, kept_ranking, kept_ranks_origins}
 use Rattle.tx_mend.proofs.Routed.{routed_list, routes_rules, routes_differ}
 use Rattle.tx_mend.proofs.Rerouted.{kept_rerouted}
+use Rattle.tx_mend.proofs.Unranked.{or_of}
 
-pub all_holds : (t : ℕ → Bool) (xs : List ℕ) (x : ℕ) → list_all t xs ≡ true → Among x xs → t x ≡ true
-all_holds t [] x h m = absurd m
-all_holds t (y ∷ xs) x h (inl e) = ap t (sym e) ∙ (and_parts (t y) (list_all t xs) h).0
-all_holds t (y ∷ xs) x h (inr m) = all_holds t xs x (and_parts (t y) (list_all t xs) h).1 m
-
-pub holds_all : (t : ℕ → Bool) (xs : List ℕ) → ((x : ℕ) → Among x xs → t x ≡ true) → list_all t xs ≡ true
-holds_all t [] h = refl
-holds_all t (y ∷ xs) h = and_from (t y) (list_all t xs) (h y (inl refl)) (holds_all t xs (λ x m. h x (inr m)))
-
-none_mapped : (c : ℕ) (t : ℕ → Bool) (xs : List ℕ) → ((x : ℕ) → t x ≡ true → ⊥) → map {B = ℕ × ℕ} (λ x. (c, x)) (filter t xs) ≡ []
-none_mapped c t [] h = refl
-none_mapped c t (x ∷ xs) h = elim (t x) as (λ b. t x ≡ b → map {B = ℕ × ℕ} (λ x. (c, x)) (cond b (x ∷ filter t xs) (filter t xs)) ≡ []) [
-  | true ↦ λ e. absurd (h x e)
-  | false ↦ λ e. none_mapped c t xs h
+none_mapped : {B : Type 0} (f : ℕ → B) (t : ℕ → Bool) (xs : List ℕ) → ((x : ℕ) → Among x xs → t x ≡ true → ⊥) → map f (filter t xs) ≡ []
+none_mapped f t [] h = refl
+none_mapped f t (x ∷ xs) h = elim (t x) as (λ b. t x ≡ b → map f (cond b (x ∷ filter t xs) (filter t xs)) ≡ []) [
+  | true ↦ λ e. absurd (h x (inl refl) e)
+  | false ↦ λ e. none_mapped f t xs (λ y m. h y (inr m))
 ] refl
+
+-- what is told of an exchange that cannot be served
+abbrev told : Plan → (limit spare code x : ℕ) → Unserved
+told p limit spare code x = record { code = code; exchange = x; cause = cause_of p code limit spare x }
 
 -- an exchange that may seize a group is one of the plan
 seizes_at : (p : Plan) → IsPlan p → (g x : ℕ) → may_seize p g x ≡ true → x < length p.exchanges
@@ -90,33 +90,15 @@ module _ (p : Plan) (ok : IsPlan p) where
     present_leads x r g e away m =
         let w = why (home_of p c) (does_follow p c spare) (suc limit) x r e away in
         let a = and_parts (nat_lt spare (length (route_list p x c))) (list_all (λ g. leads_on p (before w.round) x g) (route_list p x c)) w.admitted in
-        let n = on_rank p (before w.round) x g (all_holds (λ g. leads_on p (before w.round) x g) (route_list p x c) g a.1 m) in
-        let to = across_to p (before w.round) x g n.0 n.1 in
-        let low = within (home_of p c) (does_follow p c spare) w.round to.0 n.0 to.2 in
-        let b = w.before in
-        let next = w.next in
-        record { to = to.0; rank = n.0; leads = to.1; ranked = stays_on (home_of p c) (does_follow p c spare) (suc limit) w.round to.0 n.0 (omega arith) to.2; below = omega arith }
-
-    -- an origin is ranked by the present routes, if the code keeps them
-    kept_origins : keeps_routes p c limit spare ≡ true → (x : ℕ) → is_origin_for p x c ≡ true → (r : ℕ) × (Present x ≡ Some r)
-    kept_origins k x o =
-        let w = (is_net p ok c known).origins x o in
-        let t = all_holds (λ x. not (is_origin_for p x c) || is_some (Present x)) (indexes (length p.exchanges)) x k (among_range 0 (length p.exchanges) x (omega arith) (omega arith)) in
-        by (Present x) refl (elim (or_cases (not (is_origin_for p x c)) (is_some (Present x)) t) [ inl n ↦ (let f = not-true (is_origin_for p x c) n in let bad : ⊥ = cc in absurd bad) | inr s ↦ s ])
-      where
-        by : (o : Option ℕ) → Present x ≡ o → is_some o ≡ true → (r : ℕ) × (Present x ≡ Some r)
-        by None e s = absurd (false≢true s)
-        by (Some r) e s = (r, e)
+        on_leads p c limit (does_follow p c spare) x r g w (all_holds (λ g. leads_on p (before w.round) x g) (route_list p x c) g a.1 m)
 
     pub keeps : CanBeKept p c limit spare → keeps_routes p c limit spare ≡ true
     keeps k =
-        holds_all (λ x. not (is_origin_for p x c) || is_some (Present x)) (indexes (length p.exchanges)) (λ x m.
-        elim (is_origin_for p x c) as (λ b. is_origin_for p x c ≡ b → (not b || is_some (Present x)) ≡ true) [
-          | true ↦ λ o. (let r = k.origins x o in let low = k.falling.low x r.0 r.1 in
-              let n = no_greater (home_of p c) (does_follow p c spare) (k.ranks c) positive fed (suc limit) x r.0 (omega arith) r.1 in
-              ap is_some n.1)
-          | false ↦ λ o. refl
-        ] refl)
+        origins_ranked p ok c known Present (λ x o.
+        let r = k.origins x o in
+        let low = k.falling.low x r.0 r.1 in
+        let n = no_greater (home_of p c) (does_follow p c spare) (k.ranks c) positive fed (suc limit) x r.0 (omega arith) r.1 in
+        (n.0, n.1))
       where
         positive : (x r : ℕ) → k.ranks c x ≡ Some r → x ≢ home_of p c → 0 < r
         positive x r e away =
@@ -170,34 +152,46 @@ module _ (p : Plan) (ok : IsPlan p) where
         }
 
   module _ (limit spare : ℕ) (small : spare ≤ 15) where
-    least_inside : (c x r : ℕ) → least_rank p c limit spare x ≡ Some r → x ≢ home_of p c → x < length p.exchanges
-    least_inside c x r e away =
-        let w = why (home_of p c) (can_follow p spare) (suc limit) x r e away in
-        let follow : List ℕ = filter (λ g. leads_on p (Ranked (home_of p c) (can_follow p spare) w.round) x g) (outgoing p x) in
-        let s = some_among follow spare (ltb-true spare (length follow) w.admitted) in
-        seizes_at p ok s.0 x (outgoing_seizes p s.0 x (filter_among (λ g. leads_on p (Ranked (home_of p c) (can_follow p spare) w.round) x g) s.0 (outgoing p x) s.1).0)
+    module _ (c : ℕ) (ranks : RanksOfCode) (k : IsRanking p c limit spare ranks) where
+      by_inside : (x r : ℕ) → ranks x ≡ Some r → x ≢ home_of p c → x < length p.exchanges
+      by_inside x r e away =
+          let n = k.enough x r e away in
+          let s = some_among n.groups spare n.more in
+          seizes_at p ok s.0 x (outgoing_seizes p s.0 x (n.seized s.0 s.1))
 
-    least_enough : (c x r : ℕ) → least_rank p c limit spare x ≡ Some r → x ≢ home_of p c → spare < length (least_list p limit spare c x)
-    least_enough c x r e away = subst (λ (o : Option ℕ). spare < length (list_of_rank p (least_rank p c limit spare) c spare x o)) (sym e) (filled_enough p ok limit spare c small x r e away)
+      pub by_enough : (x r : ℕ) → ranks x ≡ Some r → x ≢ home_of p c → spare < length (list_by p ranks c spare x)
+      by_enough x r e away = subst (λ (o : Option ℕ). spare < length (list_of_rank p ranks c spare x o)) (sym e) (filled_enough p ok limit spare c small ranks k x r e away)
 
-    least_leads : (c x r g : ℕ) → least_rank p c limit spare x ≡ Some r → Among g (least_list p limit spare c x) → Leads p (least_rank p c limit spare) x r g
-    least_leads c x r g e m = filled_leads p ok limit spare c small x r g (subst (λ (o : Option ℕ). Among g (list_of_rank p (least_rank p c limit spare) c spare x o)) e m)
+      by_leads : (x r g : ℕ) → ranks x ≡ Some r → Among g (list_by p ranks c spare x) → Leads p ranks x r g
+      by_leads x r g e m = filled_leads p ok limit spare c small ranks k x r g (subst (λ (o : Option ℕ). Among g (list_of_rank p ranks c spare x o)) e m)
+
+    least_ranking : (c : ℕ) → IsRanking p c limit spare (least_rank p c limit spare)
+    least_ranking c = round_ranking p c limit (can_follow p spare) spare (λ ranks x h. h)
+
+    abbrev least_list : (c x : ℕ) → List ℕ
+    least_list c x = list_by p (least_rank p c limit spare) c spare x
+
+    least_good : (x c : ℕ) → IsList p x c (least_list c x)
+    least_good x c = is_list_by p ok limit spare c small (least_rank p c limit spare) (least_ranking c) x
 
     abbrev Attaining : Plan
-    Attaining = rerouted p (routes_of p (least_list p limit spare)) p.bars
+    Attaining = rerouted p (routes_of p least_list) p.bars
 
     attaining : IsRouting p Attaining
-    attaining = routing (least_list p limit spare) (λ x c. is_least_list p ok limit spare c small x)
+    attaining = routing least_list least_good
 
     -- the least ranks fall along the lists by them
     least_falls : (c : ℕ) → c < length p.codes → IsFalling Attaining (λ d. least_rank p d limit spare) c limit spare
-    least_falls c known = falling (least_list p limit spare) (λ x c. is_least_list p ok limit spare c small x) (λ d. least_rank p d limit spare) c limit spare known (record {
-      home = at_home (home_of p c) (can_follow p spare) (suc limit);
-      low = within (home_of p c) (can_follow p spare) (suc limit);
-      inside = least_inside c;
-      enough = least_enough c;
-      leads = λ x r g e away m. least_leads c x r g e m;
-    })
+    least_falls c known =
+        let R = least_rank p c limit spare in
+        let k = least_ranking c in
+        falling least_list least_good (λ d. least_rank p d limit spare) c limit spare known (record {
+          home = k.home;
+          low = k.low;
+          inside = by_inside c R k;
+          enough = by_enough c R k;
+          leads = λ x r g e away m. by_leads c R k x r g e m;
+        })
 
     served : (c x : ℕ) → c < length p.codes → is_some (least_rank p c limit spare x) ≡ true → CanBeServed p c limit spare x
     served c x known h = by (least_rank p c limit spare x) refl h
@@ -216,7 +210,7 @@ module _ (p : Plan) (ok : IsPlan p) where
     -- THE PLAN WITH ALL FULL LISTS
 
     good : (x c : ℕ) → IsList p x c (full_list p limit spare c x)
-    good x c = elim (keeps_routes p c limit spare) as (λ b. IsList p x c (if b then route_list p x c else least_list p limit spare c x)) [ true ↦ present_list p ok x c | false ↦ is_least_list p ok limit spare c small x ]
+    good x c = elim (keeps_routes p c limit spare) as (λ b. IsList p x c (if b then route_list p x c else list_by p (kept_rank p c limit spare) c spare x)) [ true ↦ present_list p ok x c | false ↦ is_list_by p ok limit spare c small (kept_rank p c limit spare) (kept_ranking p ok c limit spare) x ]
 
     pub full_rules : IsRouting p (full p limit spare)
     full_rules = routing (full_list p limit spare) good
@@ -225,14 +219,14 @@ module _ (p : Plan) (ok : IsPlan p) where
     full_good = good
 
     abbrev pub full_ranks : Ranks
-    full_ranks c = if keeps_routes p c limit spare then present_rank p c limit spare else least_rank p c limit spare
+    full_ranks c = if keeps_routes p c limit spare then present_rank p c limit spare else kept_rank p c limit spare
 
     abbrev Down : ℕ → RanksOfCode → Type 0
     Down c ranks = LeadDown (full_list p limit spare) good ranks c limit spare
 
     kept_down : (c : ℕ) → c < length p.codes → keeps_routes p c limit spare ≡ true → Down c (present_rank p c limit spare)
     kept_down c known k =
-        let same : (x : ℕ) → full_list p limit spare c x ≡ route_list p x c = λ x. ap (λ b. if b then route_list p x c else least_list p limit spare c x) k in
+        let same : (x : ℕ) → full_list p limit spare c x ≡ route_list p x c = λ x. ap (λ b. if b then route_list p x c else list_by p (kept_rank p c limit spare) c spare x) k in
         record {
           home = at_home (home_of p c) (does_follow p c spare) (suc limit);
           low = within (home_of p c) (does_follow p c spare) (suc limit);
@@ -241,22 +235,24 @@ module _ (p : Plan) (ok : IsPlan p) where
           leads = λ x r g e away m. present_leads c limit spare known x r g e away (subst (λ (l : List ℕ). Among g l) (same x) m);
         }
 
-    least_down : (c : ℕ) → keeps_routes p c limit spare ≡ false → Down c (least_rank p c limit spare)
-    least_down c k =
-        let same : (x : ℕ) → full_list p limit spare c x ≡ least_list p limit spare c x = λ x. ap (λ b. if b then route_list p x c else least_list p limit spare c x) k in
+    put_back_down : (c : ℕ) → keeps_routes p c limit spare ≡ false → Down c (kept_rank p c limit spare)
+    put_back_down c k =
+        let R = kept_rank p c limit spare in
+        let w = kept_ranking p ok c limit spare in
+        let same : (x : ℕ) → full_list p limit spare c x ≡ list_by p R c spare x = λ x. ap (λ b. if b then route_list p x c else list_by p R c spare x) k in
         record {
-          home = at_home (home_of p c) (can_follow p spare) (suc limit);
-          low = within (home_of p c) (can_follow p spare) (suc limit);
-          inside = least_inside c;
-          enough = λ x r e away. subst (λ (l : List ℕ). spare < length l) (sym (same x)) (least_enough c x r e away);
-          leads = λ x r g e away m. least_leads c x r g e (subst (λ (l : List ℕ). Among g l) (same x) m);
+          home = w.home;
+          low = w.low;
+          inside = by_inside c R w;
+          enough = λ x r e away. subst (λ (l : List ℕ). spare < length l) (sym (same x)) (by_enough c R w x r e away);
+          leads = λ x r g e away m. by_leads c R w x r g e (subst (λ (l : List ℕ). Among g l) (same x) m);
         }
 
     leads_down : (c : ℕ) → c < length p.codes → Down c (full_ranks c)
     leads_down c known =
-        elim (keeps_routes p c limit spare) as (λ b. keeps_routes p c limit spare ≡ b → Down c (full_ranks c)) [
-          | true ↦ λ k. subst (Down c) (sym (ap (λ b. if b then present_rank p c limit spare else least_rank p c limit spare) k)) (kept_down c known k)
-          | false ↦ λ k. subst (Down c) (sym (ap (λ b. if b then present_rank p c limit spare else least_rank p c limit spare) k)) (least_down c k)
+        elim (keeps_routes p c limit spare) as (λ b. keeps_routes p c limit spare ≡ b → Down c (if b then present_rank p c limit spare else kept_rank p c limit spare)) [
+          | true ↦ λ k. kept_down c known k
+          | false ↦ λ k. put_back_down c k
         ] refl
 
     -- an origin that is not told as unserved has a least rank
@@ -269,24 +265,24 @@ module _ (p : Plan) (ok : IsPlan p) where
         by None e =
             let w = (is_net p ok c known).origins x o in
             let f = among_filter (λ x. is_origin_for p x c && is_none (least_rank p c limit spare x)) x (indexes (length p.exchanges)) (among_range 0 (length p.exchanges) x (omega arith) (omega arith)) (and_from (is_origin_for p x c) (is_none (least_rank p c limit spare x)) o (ap is_none e)) in
-            let m = among_map (λ (x : ℕ). (c, x)) x (filter (λ x. is_origin_for p x c && is_none (least_rank p c limit spare x)) (indexes (length p.exchanges))) f in
-            absurd (subst (λ (l : List (ℕ × ℕ)). Among (c, x) l) none m)
+            let m = among_map (told p limit spare c) x (filter (λ x. is_origin_for p x c && is_none (least_rank p c limit spare x)) (indexes (length p.exchanges))) f in
+            absurd (subst (λ (l : List Unserved). Among (told p limit spare c x) l) none m)
 
     ranked_origins : (c : ℕ) → c < length p.codes → unserved_for p limit spare c ≡ [] → (x : ℕ) → is_origin_for p x c ≡ true → (r : ℕ) × (full_ranks c x ≡ Some r)
     ranked_origins c known none x o =
-        elim (keeps_routes p c limit spare) as (λ b. keeps_routes p c limit spare ≡ b → (r : ℕ) × ((if b then present_rank p c limit spare else least_rank p c limit spare) x ≡ Some r)) [
-          | true ↦ λ k. kept_origins c limit spare known k x o
-          | false ↦ λ k. least_origins c known none x o
+        elim (keeps_routes p c limit spare) as (λ b. keeps_routes p c limit spare ≡ b → (r : ℕ) × ((if b then present_rank p c limit spare else kept_rank p c limit spare) x ≡ Some r)) [
+          | true ↦ λ k. origin_ranked p ok c known (present_rank p c limit spare) k x o
+          | false ↦ λ k. origin_ranked p ok c known (kept_rank p c limit spare) (kept_ranks_origins p ok c limit spare (origins_ranked p ok c known (least_rank p c limit spare) (least_origins c known none))) x o
         ] refl
 
     pub none_for : (c : ℕ) → c < length p.codes → unserved p limit spare ≡ [] → unserved_for p limit spare c ≡ []
     none_for c known none = by (unserved_for p limit spare c) refl
       where
-        by : (l : List (ℕ × ℕ)) → unserved_for p limit spare c ≡ l → unserved_for p limit spare c ≡ []
+        by : (l : List Unserved) → unserved_for p limit spare c ≡ l → unserved_for p limit spare c ≡ []
         by [] e = e
         by (k ∷ ks) e =
-            let m : Among k (unserved_for p limit spare c) = subst (λ (l : List (ℕ × ℕ)). Among k l) (sym e) (inl refl) in
-            absurd (subst (λ (l : List (ℕ × ℕ)). Among k l) none (among_flat (unserved_for p limit spare) c k (indexes (length p.codes)) (among_range 0 (length p.codes) c (omega arith) (omega arith)) m))
+            let m : Among k (unserved_for p limit spare c) = subst (λ (l : List Unserved). Among k l) (sym e) (inl refl) in
+            absurd (subst (λ (l : List Unserved). Among k l) none (among_flat (unserved_for p limit spare) c k (indexes (length p.codes)) (among_range 0 (length p.codes) c (omega arith) (omega arith)) m))
 
     -- the ranks of a code of which no origin is unserved certify it
     pub full_certifies : (c : ℕ) → c < length p.codes → unserved_for p limit spare c ≡ [] → Certifies (net_of (full p limit spare) c) (full_ranks c) limit spare
@@ -312,7 +308,7 @@ module _ (p : Plan) (ok : IsPlan p) where
         let w = (range_among 0 (length p.codes) c m).1 in
         let known : c < length p.codes = omega arith in
         let fall : IsFalling (rerouted p k.routing.routes p.bars) k.ranks c limit spare = record { home = cert.homes c known; low = λ x r e. cert.low c x r known e; lists = λ x r e away. cert.lists c x r known e away } in
-        none_mapped c (λ x. is_origin_for p x c && is_none (least_rank p c limit spare x)) (indexes (length p.exchanges)) (λ x t.
+        none_mapped (told p limit spare c) (λ x. is_origin_for p x c && is_none (least_rank p c limit spare x)) (indexes (length p.exchanges)) (λ x n t.
         let a = and_parts (is_origin_for p x c) (is_none (least_rank p c limit spare x)) t in
         let r = cert.origins c x known a.0 in
         let n = least p (rerouted p k.routing.routes p.bars) (record { plan = subst (λ (q : Plan). IsPlan q) same k.same.plan; same = refl }) k.ranks c limit spare fall x r.0 r.1 in
@@ -320,7 +316,7 @@ module _ (p : Plan) (ok : IsPlan p) where
         let t1 = a.1 in
         let bad : ⊥ = cc in bad))
       where
-        none_flat : (f : ℕ → List (ℕ × ℕ)) (cs : List ℕ) → ((c : ℕ) → Among c cs → f c ≡ []) → flat_map f cs ≡ []
+        none_flat : (f : ℕ → List Unserved) (cs : List ℕ) → ((c : ℕ) → Among c cs → f c ≡ []) → flat_map f cs ≡ []
         none_flat f [] h = refl
         none_flat f (c ∷ cs) h = ap (λ l. l ++ flat_map f cs) (h c (inl refl)) ∙ none_flat f cs (λ d m. h d (inr m))
 
@@ -340,7 +336,7 @@ serves p ok code limit spare x known small = (
 
 pub keeps_exactly : KeepsWhatCanBeKept
 keeps_exactly p ok code limit spare known = (
-  λ h. record { ranks = λ d. present_rank p d limit spare; falling = present_falls; origins = kept_origins p ok code limit spare known h },
+  λ h. record { ranks = λ d. present_rank p d limit spare; falling = present_falls; origins = origin_ranked p ok code known (present_rank p code limit spare) h },
   λ k. keeps p ok code limit spare known k,
 )
   where
@@ -356,14 +352,19 @@ keeps_exactly p ok code limit spare known = (
       };
     }
 
--- a code that keeps its routes has no origin without a least rank
-pub kept_served : (p : Plan) → IsPlan p → (code limit spare : ℕ) → code < length p.codes → keeps_routes p code limit spare ≡ true → unserved_for p limit spare code ≡ []
-kept_served p ok code limit spare known h =
-    let k = (keeps_exactly p ok code limit spare known).0 h in
-    none_mapped code (λ x. is_origin_for p x code && is_none (least_rank p code limit spare x)) (indexes (length p.exchanges)) (λ x t.
-    let a = and_parts (is_origin_for p x code) (is_none (least_rank p code limit spare x)) t in
-    let r = k.origins x a.0 in
-    let n = least p p (record { plan = ok; same = refl }) k.ranks code limit spare k.falling x r.0 r.1 in
-    let some : is_none (least_rank p code limit spare x) ≡ false = ap is_none n.1 in
-    let t1 = a.1 in
+-- where each origin has a least rank, none is told as unserved
+pub ranked_served : (p : Plan) (code limit spare : ℕ) → ranks_origins p code (least_rank p code limit spare) ≡ true → unserved_for p limit spare code ≡ []
+ranked_served p code limit spare h =
+    none_mapped (told p limit spare code) (λ x. is_origin_for p x code && is_none (least_rank p code limit spare x)) (indexes (length p.exchanges)) (λ x m t.
+    let holds = all_holds (λ x. not (is_origin_for p x code) || is_some (least_rank p code limit spare x)) (indexes (length p.exchanges)) x h m in
+    let fails = or_of (is_origin_for p x code) (least_rank p code limit spare x) (is_origin_for p x code && is_none (least_rank p code limit spare x)) refl ∙ ap not t in
     let bad : ⊥ = cc in bad)
+
+-- where a code keeps its routes, each origin has a least rank
+pub kept_ranked : (p : Plan) → IsPlan p → (code limit spare : ℕ) → code < length p.codes → keeps_routes p code limit spare ≡ true → ranks_origins p code (least_rank p code limit spare) ≡ true
+kept_ranked p ok code limit spare known h =
+    let k = (keeps_exactly p ok code limit spare known).0 h in
+    origins_ranked p ok code known (least_rank p code limit spare) (λ x o.
+    let r = k.origins x o in
+    let n = least p p (record { plan = ok; same = refl }) k.ranks code limit spare k.falling x r.0 r.1 in
+    (n.0, n.1))

@@ -1,13 +1,12 @@
--- The mended plan: the one of all full lists, without those that are new and to which no call comes.
-use Rattle.std.proofs.Common.{◌≡◌, ◌≢◌, ℕ, suc, ◌<◌, ◌≤◌, Bool, true, false, cond, ◌||◌, ◌==◌, eqb-true, eq-eqb, List, [], ◌∷◌, ◌++◌, length, Option, Some, None, inl, inr, refl, sym, ap, subst, ◌∙◌, arith}
-use Rattle.std.specs.Prelude.{filter, is_some, if◌then◌else◌}
+-- The mended plan: the full lists where calls come, and the present ones elsewhere.
+use Rattle.std.proofs.Common.{◌≡◌, ◌≢◌, ℕ, suc, ◌<◌, ◌≤◌, Bool, true, false, ◌||◌, ◌==◌, eqb-true, eq-eqb, List, [], ◌∷◌, ◌++◌, length, Option, Some, None, inl, inr, refl, sym, ap, subst, ◌∙◌, arith, append-nil}
+use Rattle.std.specs.Prelude.{is_some, if◌then◌else◌}
 use Rattle.std.specs.List.{flat_map}
-use Rattle.std.proofs.lemmas.Bool.{or_cases, or_left, or_right, not-true}
-use Rattle.std.proofs.lemmas.List.Elements.{filter-append}
+use Rattle.std.proofs.lemmas.Bool.{or_cases, or_left, or_right}
+use Rattle.std.proofs.lemmas.List.Concat.{flat_map-append}
 use Rattle.tx_plan.specs.Plan.{Plan, Route, home_of}
 use Rattle.tx_plan.specs.Rules.{IsPlan, IsRoute}
 use Rattle.tx_plan.specs.Routes.{route_list}
-use Rattle.tx_plan.specs.Declaring.{has_route}
 use Rattle.tx_plan.specs.Ambiguous.{ambiguous_of}
 use Rattle.tx_plan.specs.Certified.{Ranks, IsCertified}
 use Rattle.tx_plan.specs.Among.{Among}
@@ -22,15 +21,17 @@ use Rattle.tx_rank.proofs.Ways.{all_among}
 use Rattle.tx_rank.proofs.Certifying.{none_distinct, certifies_code, certified_codes}
 use Rattle.tx_mend.specs.Routings.{CanBeKept}
 use Rattle.tx_mend.specs.LeastRanks.{keeps_routes}
-use Rattle.tx_mend.specs.Lists.{least_list, full_list, comes_in, comes_to, mended_list}
-use Rattle.tx_mend.specs.Mended.{pairs_of, route_if, mended_routes, mended, unserved}
-use Rattle.tx_mend.specs.Laws.{IsMendedPlan, MendedIsMended, MendingIsExact, NoListWithoutCalls}
-use Rattle.tx_mend.specs.inner.Full.{full_routes, full, stays}
+use Rattle.tx_mend.specs.KeptRanks.{kept_rank}
+use Rattle.tx_mend.specs.Lists.{list_of_rank, list_by, full_list, comes_in, comes_to, mended_list}
+use Rattle.tx_mend.specs.Mended.{pairs_of, route_if, mended_routes, mended}
+use Rattle.tx_mend.specs.Unserved.{unserved}
+use Rattle.tx_mend.specs.Laws.{IsMendedPlan, MendedIsMended, MendingIsExact}
+use Rattle.tx_mend.specs.inner.Full.{full_routes, full, settled_list, settled_route}
 use Rattle.tx_mend.proofs.Least.{list_cases}
-use Rattle.tx_mend.proofs.LeastLists.{IsList}
-use Rattle.tx_mend.proofs.Routed.{routed_list, has_any}
-use Rattle.tx_mend.proofs.Adding.{is_absent_if}
-use Rattle.tx_mend.proofs.Mendable.{routing, full_good, full_rules, full_ranks, full_certifies, none_for, served_all, distinct_all, keeps}
+use Rattle.tx_mend.proofs.LeastLists.{IsList, present_list}
+use Rattle.tx_mend.proofs.Kept.{kept_ranking}
+use Rattle.tx_mend.proofs.Routed.{routed_list, pair_within}
+use Rattle.tx_mend.proofs.Mendable.{routing, by_enough, full_good, full_rules, full_ranks, full_certifies, none_for, served_all, distinct_all, keeps}
 use Rattle.tx_mend.proofs.Comes.{comes_more, reached_next, reached_comes, comes_reached}
 
 module _ (p : Plan) (ok : IsPlan p) (limit spare : ℕ) (small : spare ≤ 15) where
@@ -46,17 +47,14 @@ module _ (p : Plan) (ok : IsPlan p) (limit spare : ℕ) (small : spare ≤ 15) w
   -- ITS LISTS
 
   good : (x c : ℕ) → IsList p x c (mended_list p limit spare c x)
-  good x c = elim (has_route p x c || comes_to p limit spare c x) as (λ b. IsList p x c (if b then full_list p limit spare c x else [])) [
-    | true ↦ full_good p ok limit spare small x c
-    | false ↦ record { differs = tt; seizes = λ g m. absurd m; few = omega arith; away = λ some. absurd (some refl) }
-  ]
+  good x c = elim (comes_to p limit spare c x) as (λ b. IsList p x c (if b then full_list p limit spare c x else route_list p x c)) [ true ↦ full_good p ok limit spare small x c | false ↦ present_list p ok x c ]
 
   pub is_mended : IsMendedPlan p limit spare M
   is_mended = record { routing = routing p ok (mended_list p limit spare) good; lists = λ x c h l. routed_list p (mended_list p limit spare) x c h l }
 
   -- an exchange to which calls come has its full list
-  full_there : (x c : ℕ) → comes_to p limit spare c x ≡ true → mended_list p limit spare c x ≡ full_list p limit spare c x
-  full_there x c h = ap (λ b. if b then full_list p limit spare c x else []) (or_right (has_route p x c) (comes_to p limit spare c x) h)
+  pub full_there : (x c : ℕ) → comes_to p limit spare c x ≡ true → mended_list p limit spare c x ≡ full_list p limit spare c x
+  full_there x c h = ap (λ b. if b then full_list p limit spare c x else route_list p x c) h
 
   -- the same ranks where calls come, and at the home
   abbrev there : ℕ → (ℕ → Option ℕ) → ℕ → Option ℕ
@@ -125,21 +123,13 @@ module _ (p : Plan) (ok : IsPlan p) (limit spare : ℕ) (small : spare ≤ 15) w
           record { to = l.to; rank = l.rank; leads = l.leads; ranked = there_called ranks l.to next ∙ l.ranked; below = l.below };
     }
 
-    -- A NEW LIST
+    -- WHERE CALLS COME
     has_there : (n x : ℕ) → n ≤ limit → comes_in p (full_list p limit spare c) c n x ≡ true → x < length p.exchanges → route_list M x c ≡ full_list p limit spare c x
     has_there n x few h w =
         is_mended.lists x c w known ∙ full_there x c (comes_more p (full_list p limit spare c) c known n (suc limit) x (omega arith) h)
 
-    new_reached : (x : ℕ) → x < length p.exchanges → route_list p x c ≡ [] → route_list M x c ≢ [] → IsReached (net_of M c) x
-    new_reached x h none some =
-        let absent = not-true (has_route p x c) (is_absent_if p ok x c none) in
-        let called : comes_to p limit spare c x ≡ true = elim (comes_to p limit spare c x) as (λ b. comes_to p limit spare c x ≡ b → b ≡ true) [
-          | true ↦ λ e. refl
-          | false ↦ λ e.
-              let both : (has_route p x c || comes_to p limit spare c x) ≡ false = ap (λ b. b || comes_to p limit spare c x) absent ∙ e in
-              absurd (some (is_mended.lists x c h known ∙ ap (λ b. if b then full_list p limit spare c x else []) both))
-        ] refl in
-        comes_reached p (full_list p limit spare c) c known (mended_routes p limit spare) limit away_from has_there (suc limit) x (omega arith) called
+    pub called_reached : (x : ℕ) → comes_to p limit spare c x ≡ true → IsReached (net_of M c) x
+    called_reached x h = comes_reached p (full_list p limit spare c) c known (mended_routes p limit spare) limit away_from has_there (suc limit) x (omega arith) h
 
   -- WHERE IT IS CERTIFIED
 
@@ -160,41 +150,58 @@ module _ (p : Plan) (ok : IsPlan p) (limit spare : ℕ) (small : spare ≤ 15) w
       let each = certifies_code F (ranks_of cert) limit spare certified c h in
       trims c h (rank_at cert c) each (λ x r e away. to_comes c h (rank_at cert c) each x ((heights c h).ranked x r e away)))
 
-  -- WHICH ROUTES STAY
+  -- WHAT BECOMES OF THE ROUTES
 
-  abbrev stands : Route → Bool
-  stands r = has_route p r.exchange r.code || comes_to p limit spare r.code r.exchange
-
-  one_stands : (k : ℕ × ℕ) (l : List ℕ) → filter stands (route_if k l) ≡ route_if k (if has_route p k.0 k.1 || comes_to p limit spare k.1 k.0 then l else [])
-  one_stands k [] = elim (has_route p k.0 k.1 || comes_to p limit spare k.1 k.0) as (λ b. [] ≡ route_if k (if b then [] else [])) [ true ↦ refl | false ↦ refl ]
-  one_stands k (g ∷ gs) = elim (has_route p k.0 k.1 || comes_to p limit spare k.1 k.0) as (λ b. cond b (record { exchange = k.0; code = k.1; groups = g ∷ gs } ∷ []) [] ≡ route_if k (if b then g ∷ gs else [])) [ true ↦ refl | false ↦ refl ]
-
-  all_stand : (ks : List (ℕ × ℕ)) → filter stands (flat_map (λ k. route_if k (full_list p limit spare k.1 k.0)) ks) ≡ flat_map (λ k. route_if k (mended_list p limit spare k.1 k.0)) ks
-  all_stand [] = refl
-  all_stand (k ∷ ks) =
-      filter-append stands (route_if k (full_list p limit spare k.1 k.0)) (flat_map (λ k. route_if k (full_list p limit spare k.1 k.0)) ks)
-      ∙ ap (λ l. l ++ filter stands (flat_map (λ k. route_if k (full_list p limit spare k.1 k.0)) ks)) (one_stands k (full_list p limit spare k.1 k.0))
-      ∙ ap (λ l. route_if k (mended_list p limit spare k.1 k.0) ++ l) (all_stand ks)
-
-  filter_as : (s t : Route → Bool) (rs : List Route) → ((r : Route) → Among r rs → s r ≡ t r) → filter s rs ≡ filter t rs
-  filter_as s t [] h = refl
-  filter_as s t (r ∷ rs) h = ap (λ b. cond b (r ∷ filter s rs) (filter s rs)) (h r (inl refl)) ∙ ap (λ l. cond (t r) (r ∷ l) l) (filter_as s t rs (λ q m. h q (inr m)))
+  -- a full list is empty only where the present one is
+  full_empty : (x c : ℕ) → full_list p limit spare c x ≡ [] → route_list p x c ≡ []
+  full_empty x c = elim (keeps_routes p c limit spare) as (λ b. (if b then route_list p x c else list_by p (kept_rank p c limit spare) c spare x) ≡ [] → route_list p x c ≡ []) [
+    | true ↦ λ e. e
+    | false ↦ λ e. elim (list_cases p x c) [
+      | inl none ↦ none
+      | inr f ↦
+          let R = kept_rank p c limit spare in
+          let away : x ≢ home_of p c = λ h. (all_among (IsRoute p) p.routes f.route ok.routes f.among).away (ap (home_of p) f.code ∙ sym h ∙ sym f.exchange) in
+          elim (R x) as (λ o. R x ≡ o → route_list p x c ≡ []) [
+            | None ↦ λ k. sym (ap (λ (o : Option ℕ). list_of_rank p R c spare x o) k) ∙ e
+            | Some r ↦ λ k. absurd (let l = by_enough p ok limit spare small c R (kept_ranking p ok c limit spare) x r k away in let n = ap length e in omega arith)
+          ] refl
+    ]
+  ]
 
   same_truth : (o : Option ℕ) (b : Bool) → ((m : ℕ) → o ≡ Some m → b ≡ true) → (b ≡ true → (r : ℕ) × (o ≡ Some r)) → is_some o ≡ b
   same_truth None true f g = absurd (let i = g refl in let e = i.1 in let bad : ⊥ = cc in bad)
   same_truth None false f g = refl
   same_truth (Some m) b f g = sym (f m refl)
 
-  pub routes_stay : (cert : Certificate) → IsCertified F (ranks_of cert) limit spare → AreHeights F (ranks_of cert) → filter (stays p.routes cert) F.routes ≡ mended_routes p limit spare
-  routes_stay cert certified heights =
-      filter_as (stays p.routes cert) stands F.routes (λ r m.
-      let rule = all_among (IsRoute F) F.routes r f_ok.routes m in
-      let h = rule.code in
-      let each = certifies_code F (ranks_of cert) limit spare certified r.code h in
-      ap (λ b. has_route p r.exchange r.code || b) (same_truth (rank_at cert r.code r.exchange) (comes_to p limit spare r.code r.exchange)
-      (λ n e. to_comes r.code h (rank_at cert r.code) each r.exchange ((heights r.code h).ranked r.exchange n e (λ q. rule.away (sym q))))
-      (λ called. (heights r.code h).reached r.exchange (to_reached r.code h r.exchange called))))
-      ∙ all_stand (pairs_of p)
+  module _ (cert : Certificate) (certified : IsCertified F (ranks_of cert) limit spare) (heights : AreHeights F (ranks_of cert)) where
+    -- where calls come by the full lists, the certificate ranks, and nowhere else but at the home
+    ranked_called : (x c : ℕ) → c < length p.codes → x ≢ home_of p c → is_some (rank_at cert c x) ≡ comes_to p limit spare c x
+    ranked_called x c h away =
+        same_truth (rank_at cert c x) (comes_to p limit spare c x)
+        (λ n e. to_comes c h (rank_at cert c) (certifies_code F (ranks_of cert) limit spare certified c h) x ((heights c h).ranked x n e away))
+        (λ called. (heights c h).reached x (to_reached c h x called))
+
+    one_settled : (k : ℕ × ℕ) → k.1 < length p.codes → flat_map (settled_route p.routes cert) (route_if k (full_list p limit spare k.1 k.0)) ≡ route_if k (mended_list p limit spare k.1 k.0)
+    one_settled k h = by (full_list p limit spare k.1 k.0) refl
+      where
+        by : (l : List ℕ) → full_list p limit spare k.1 k.0 ≡ l → flat_map (settled_route p.routes cert) (route_if k l) ≡ route_if k (mended_list p limit spare k.1 k.0)
+        by [] e =
+            let none : mended_list p limit spare k.1 k.0 ≡ [] = elim (comes_to p limit spare k.1 k.0) as (λ b. (if b then full_list p limit spare k.1 k.0 else route_list p k.0 k.1) ≡ []) [ true ↦ e | false ↦ full_empty k.0 k.1 e ] in
+            ap (route_if k) (sym none)
+        by (g ∷ gs) e =
+            let away : k.0 ≢ home_of p k.1 = λ q. (full_good p ok limit spare small k.0 k.1).away (λ none. let bad : ⊥ = cc in bad) (sym q) in
+            append-nil (route_if k (settled_list p.routes cert k.0 k.1 (g ∷ gs)))
+            ∙ ap (λ b. route_if k (if b then g ∷ gs else route_list p k.0 k.1)) (ranked_called k.0 k.1 h away)
+            ∙ ap (λ l. route_if k (if comes_to p limit spare k.1 k.0 then l else route_list p k.0 k.1)) (sym e)
+
+    all_settled : (ks : List (ℕ × ℕ)) → ((k : ℕ × ℕ) → Among k ks → k.1 < length p.codes) → flat_map (settled_route p.routes cert) (flat_map (λ k. route_if k (full_list p limit spare k.1 k.0)) ks) ≡ flat_map (λ k. route_if k (mended_list p limit spare k.1 k.0)) ks
+    all_settled [] h = refl
+    all_settled (k ∷ ks) h =
+        flat_map-append (settled_route p.routes cert) (route_if k (full_list p limit spare k.1 k.0)) (flat_map (λ k. route_if k (full_list p limit spare k.1 k.0)) ks)
+        ∙ (λ i. one_settled k (h k (inl refl)) i ++ all_settled ks (λ j m. h j (inr m)) i)
+
+    pub routes_settle : flat_map (settled_route p.routes cert) F.routes ≡ mended_routes p limit spare
+    routes_settle = all_settled (pairs_of p) (λ k m. (pair_within p ok k m).1)
 
 -- WHAT IS ANSWERED
 
@@ -212,14 +219,14 @@ pub record IsDone (p q : Plan) (cert : Certificate) (limit spare : ℕ) : Type 0
 
 pub done : (p : Plan) → IsPlan p → (limit spare : ℕ) → spare ≤ 15 → (f : Plan) → f ≡ full p limit spare → (before : List Route) → before ≡ p.routes
     → (cert : Certificate) → IsCertified f (ranks_of cert) limit spare → AreHeights f (ranks_of cert) → IsCertificateOf f cert
-    → (routes : List Route) → routes ≡ filter (stays before cert) f.routes → (bars : List Pair) → bars ≡ f.bars → IsDone p (rerouted f routes bars) cert limit spare
+    → (routes : List Route) → routes ≡ flat_map (settled_route before cert) f.routes → (bars : List Pair) → bars ≡ f.bars → IsDone p (rerouted f routes bars) cert limit spare
 done p ok limit spare small f e before b cert certified heights fits routes r bars s =
     let F = full p limit spare in
     let M = mended p limit spare in
     let k = subst (λ (q : Plan). IsCertified q (ranks_of cert) limit spare) e certified in
     let h = subst (λ (q : Plan). AreHeights q (ranks_of cert)) e heights in
     let own = subst (λ (q : Plan). IsCertificateOf q cert) e fits in
-    let all : routes ≡ mended_routes p limit spare = r ∙ ap (λ (q : Plan). filter (stays before cert) q.routes) e ∙ ap (λ (l : List Route). filter (stays l cert) F.routes) b ∙ routes_stay p ok limit spare small cert k h in
+    let all : routes ≡ mended_routes p limit spare = r ∙ ap (λ (q : Plan). flat_map (settled_route before cert) q.routes) e ∙ ap (λ (l : List Route). flat_map (settled_route l cert) F.routes) b ∙ routes_settle p ok limit spare small cert k h in
     let barred : bars ≡ p.bars = s ∙ ap (λ (q : Plan). q.bars) e in
     let same : rerouted f routes bars ≡ M = λ i. rerouted (e i) (all i) (barred i) in
     record {
@@ -231,14 +238,8 @@ done p ok limit spare small f e before b cert certified heights fits routes r ba
 -- the mended list of a code that keeps its routes
 pub kept_mended : (p : Plan) → IsPlan p → (limit spare x code : ℕ) → keeps_routes p code limit spare ≡ true → mended_list p limit spare code x ≡ route_list p x code
 kept_mended p ok limit spare x code k =
-    let same : full_list p limit spare code x ≡ route_list p x code = ap (λ b. if b then route_list p x code else least_list p limit spare code x) k in
-    elim (has_route p x code || comes_to p limit spare code x) as (λ b. (has_route p x code || comes_to p limit spare code x) ≡ b → (if b then full_list p limit spare code x else []) ≡ route_list p x code) [
-      | true ↦ λ e. same
-      | false ↦ λ e. elim (list_cases p x code) [
-        | inl none ↦ sym none
-        | inr f ↦ (let t = or_left (has_route p x code) (comes_to p limit spare code x) (has_any x code p.routes f.route f.among f.exchange f.code) in let bad : ⊥ = cc in absurd bad)
-      ]
-    ] refl
+    let same : full_list p limit spare code x ≡ route_list p x code = ap (λ b. if b then route_list p x code else list_by p (kept_rank p code limit spare) code spare x) k in
+    elim (comes_to p limit spare code x) as (λ b. (if b then full_list p limit spare code x else route_list p x code) ≡ route_list p x code) [ true ↦ same | false ↦ refl ]
 
 -- a code whose routes can be kept has its lists
 pub kept_list : (p : Plan) → IsPlan p → (limit spare : ℕ) → spare ≤ 15 → (x code : ℕ) → x < length p.exchanges → code < length p.codes → CanBeKept p code limit spare → route_list (mended p limit spare) x code ≡ route_list p x code
@@ -250,7 +251,3 @@ mended_is p ok limit spare small = is_mended p ok limit spare small
 
 pub mending_exact : MendingIsExact
 mending_exact p ok limit spare small = record { mends = λ none distinct. certified_there p ok limit spare small distinct none; can_be = λ k. (served_all p ok limit spare small k, distinct_all p ok limit spare small k) }
-
-pub no_list_without_calls : NoListWithoutCalls
-no_list_without_calls p ok limit spare small x code h known none some =
-    new_reached p ok limit spare small code known x h none some

@@ -63,11 +63,14 @@ abbrev pub present_rank : Plan → (code limit spare : ℕ) → RanksOfCode
 present_rank p code limit spare x =
     ranked_in (home_of p code) (does_follow p code spare) (suc limit) x
 
+-- each origin for a code has a rank
+abbrev pub ranks_origins : Plan → (code : ℕ) → RanksOfCode → Bool
+ranks_origins p code ranks = list_all (λ x. not (is_origin_for p x code) || is_some (ranks x))
+    (indexes (length p.exchanges))
+
 -- a code keeps its routes: by them each origin has a rank
 abbrev pub keeps_routes : Plan → (code limit spare : ℕ) → Bool
-keeps_routes p code limit spare = list_all
-    (λ x. not (is_origin_for p x code) || is_some (present_rank p code limit spare x))
-    (indexes (length p.exchanges))
+keeps_routes p code limit spare = ranks_origins p code (present_rank p code limit spare)
 
 -- Least ranks are least: wherever ranks that fall along any routes of the network rank an exchange,
 -- it has a least rank, and that is no greater.

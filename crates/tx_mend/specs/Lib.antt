@@ -1,7 +1,9 @@
 pub mod Routings
 pub mod LeastRanks
+pub mod KeptRanks
 pub mod Lists
 pub mod Mended
+pub mod Unserved
 pub mod Laws
 pub mod Mendings
 pub mod MendText

@@ -5,8 +5,8 @@ use Rattle.std.specs.Option.{option_map_or}
 use Rattle.tx_plan.specs.Plan.{Plan}
 use Rattle.tx_plan.specs.Routes.{route_list, is_origin_for}
 use Rattle.tx_plan.specs.Circuits.{other_end}
-use Rattle.tx_plan.specs.Declaring.{has_route}
-use Rattle.tx_mend.specs.LeastRanks.{indexes, RanksOfCode, outgoing, rank_across, least_rank, keeps_routes}
+use Rattle.tx_mend.specs.LeastRanks.{indexes, RanksOfCode, outgoing, rank_across, keeps_routes}
+use Rattle.tx_mend.specs.KeptRanks.{leads_below, kept_rank}
 
 -- a group is appended, unless it is there already or there are more than spare
 abbrev pub put : (spare : ℕ) → List ℕ → ℕ → List ℕ
@@ -19,10 +19,6 @@ abbrev pub filled : (spare : ℕ) → List ℕ → List ℕ → List ℕ
 filled spare list [] = list
 filled spare list (g ∷ gs) = filled spare (put spare list g) gs
 
--- a group leads from x to a rank below r
-abbrev pub leads_below : Plan → RanksOfCode → (r x g : ℕ) → Bool
-leads_below p ranks r x g = option_map_or (λ m. nat_lt m r) (rank_across p ranks x g) false
-
 -- a group leads from x to this very rank
 abbrev pub leads_to : Plan → RanksOfCode → (m x g : ℕ) → Bool
 leads_to p ranks m x g = option_map_or (λ k. k == m) (rank_across p ranks x g) false
@@ -34,23 +30,22 @@ groups_below p ranks r x =
     flat_map (λ m. filter (λ g. leads_to p ranks m x g) (outgoing p x)) (indexes r)
 
 -- The list of an exchange of some rank: the groups of its present list that lead to smaller ranks,
--- and then others until there are more than spare.
+-- and then others until there are more than spare. Without a rank it is the present list.
 abbrev pub list_of_rank : Plan → RanksOfCode → (code spare x : ℕ) → Option ℕ → List ℕ
-list_of_rank p ranks code spare x None = []
+list_of_rank p ranks code spare x None = route_list p x code
 list_of_rank p ranks code spare x (Some r) = filled spare
     (filter (λ g. leads_below p ranks r x g) (route_list p x code)) (groups_below p ranks r x)
 
--- the list of an exchange by the least ranks
-abbrev pub least_list : Plan → (limit spare code x : ℕ) → List ℕ
-least_list p limit spare code x = list_of_rank p (least_rank p code limit spare) code spare x
-    (least_rank p code limit spare x)
+-- the list of an exchange by some ranks
+abbrev pub list_by : Plan → RanksOfCode → (code spare x : ℕ) → List ℕ
+list_by p ranks code spare x = list_of_rank p ranks code spare x (ranks x)
 
 -- The list of an exchange for a code if a call may come there: its present list where the code
--- keeps its routes.
+-- keeps its routes, and otherwise that by the kept ranks.
 abbrev pub full_list : Plan → (limit spare code x : ℕ) → List ℕ
 full_list p limit spare code x =
     if keeps_routes p code limit spare then route_list p x code
-    else least_list p limit spare code x
+    else list_by p (kept_rank p code limit spare) code spare x
 
 -- a group leads from y to x
 abbrev pub leads_between : Plan → (y x g : ℕ) → Bool
@@ -68,8 +63,7 @@ comes_in p lists code (suc n) x = comes_in p lists code n x
 abbrev pub comes_to : Plan → (limit spare code x : ℕ) → Bool
 comes_to p limit spare code x = comes_in p (full_list p limit spare code) code (suc limit) x
 
--- The mended list of an exchange for a code: none where it had none and no call comes to it
+-- The mended list of an exchange for a code: the present one where no call comes to it
 abbrev pub mended_list : Plan → (limit spare code x : ℕ) → List ℕ
 mended_list p limit spare code x =
-    if has_route p x code || comes_to p limit spare code x then full_list p limit spare code x
-    else []
+    if comes_to p limit spare code x then full_list p limit spare code x else route_list p x code

@@ -1,6 +1,6 @@
 -- The report of a mending, as it is written.
-use Rattle.std.specs.Prelude.{ℕ, ◌+◌, if◌then◌else◌, List, [], ◌∷◌, ◌++◌, length, codes, Option, Some, None}
-use Rattle.std.specs.List.{flat_map, range_with_len}
+use Rattle.std.specs.Prelude.{ℕ, ◌+◌, ◌==◌, if◌then◌else◌, List, [], ◌∷◌, ◌++◌, length, filter, codes, decimal, Option, Some, None}
+use Rattle.std.specs.List.{flat_map, list_any, range_with_len}
 use Rattle.std.specs.Str.{bytes_eq}
 use Rattle.tx_text.specs.Ends.{StopsIn, Output}
 use Rattle.tx_text.specs.Written.{line_written}
@@ -10,6 +10,10 @@ use Rattle.tx_plan.specs.Mixed.{rerouted}
 use Rattle.tx_plantext.specs.PlanWritten.{route_words}
 use Rattle.tx_rank.specs.declared.finding.Finding.TheVariants.{Ambiguous}
 use Rattle.tx_rank.specs.Report.{asked_line, finding_line, no_line}
+use Rattle.tx_mend.specs.declared.cause.Cause.{Cause}
+use Rattle.tx_mend.specs.declared.cause.Cause.TheVariants.{Rank, Groups}
+use Rattle.tx_mend.specs.declared.cause.Missing.{Missing}
+use Rattle.tx_mend.specs.declared.cause.Unserved.{Unserved}
 use Rattle.tx_mend.specs.declared.mending.Mending.{Mending}
 use Rattle.tx_mend.specs.declared.mending.Mending.TheVariants.{Mended, NoRouting}
 use Rattle.tx_mend.specs.Mendings.{IsRightMending}
@@ -58,22 +62,65 @@ abbrev pub pair_count : Option (ℕ × ℕ) → ℕ
 pair_count None = 0
 pair_count (Some q) = 1
 
--- a code, and an exchange that cannot be served for it
-abbrev pub unserved_line : Plan → ℕ × ℕ → List ℕ
-unserved_line p k = codes "F5 UNSERVED "
-    ++ (figures_of p k.0 ++ (codes " " ++ (exchange_name p k.1 ++ codes "\n")))
+-- why an exchange cannot be served
+abbrev pub cause_words : Cause → List ℕ
+cause_words (Rank r) = codes " RANK " ++ decimal r
+cause_words (Groups n) = codes " GROUPS " ++ decimal n
 
--- the report of a plan for which no routes can be certified: what was asked, a line for the pair
--- and one for each that cannot be served, and NO with their number
-abbrev pub unserved_text : Plan → (limit spare : ℕ) → List (ℕ × ℕ) → Option (ℕ × ℕ) → List ℕ
-unserved_text p limit spare unserved pair = head_line limit spare
+-- a code, an exchange that cannot be served for it, and why
+abbrev pub unserved_line : Plan → Unserved → List ℕ
+unserved_line p u = codes "F5 UNSERVED " ++ (figures_of p u.code ++ (codes " "
+    ++ (exchange_name p u.exchange ++ (cause_words u.cause ++ codes "\n"))))
+
+-- an exchange, and how many groups it would need
+abbrev pub missing_text : Plan → Missing → List ℕ
+missing_text p m =
+    codes " " ++ (exchange_name p m.exchange ++ (codes " " ++ decimal m.groups))
+
+-- the same, if it is of this code
+abbrev pub missing_for_code : Plan → (code : ℕ) → Missing → List ℕ
+missing_for_code p code m = if m.code == code then missing_text p m else []
+
+-- the word before those of a code, if there are any
+abbrev pub missing_word : List Missing → (code : ℕ) → List ℕ
+missing_word missing code = if list_any (λ m. m.code == code) missing then codes " MISSING" else []
+
+-- where groups are missing for a code
+abbrev pub missing_of : Plan → List Missing → (code : ℕ) → List ℕ
+missing_of p missing code =
+    missing_word missing code ++ flat_map (missing_for_code p code) missing
+
+-- A code of which so many origins cannot be served, and where groups are missing for it; no line if
+-- there is none
+abbrev pub line_of_code : Plan → List Missing → (code count : ℕ) → List ℕ
+line_of_code p missing code count = if count == 0 then [] else
+    codes "CODE " ++ (figures_of p code ++ (codes " UNSERVED "
+    ++ (decimal count ++ (missing_of p missing code ++ codes "\n"))))
+
+-- that of a code
+abbrev pub code_line : Plan → List Unserved → List Missing → (code : ℕ) → List ℕ
+code_line p unserved missing code =
+    line_of_code p missing code (length (filter (λ u. u.code == code) unserved))
+
+-- those of all codes
+abbrev pub code_lines : Plan → List Unserved → List Missing → List ℕ
+code_lines p unserved missing =
+    flat_map (code_line p unserved missing) (range_with_len 0 (length p.codes))
+
+-- The report of a plan for which no routes can be certified: what was asked, a line for the pair
+-- and one for each that cannot be served, a line for each code of these, and NO with the number of
+-- the lines but those of codes
+abbrev pub unserved_text : Plan → (limit spare : ℕ) → List Unserved → List Missing
+    → Option (ℕ × ℕ) → List ℕ
+unserved_text p limit spare unserved missing pair = head_line limit spare
     ++ (pair_line p pair ++ (flat_map (unserved_line p) unserved
-    ++ no_line (pair_count pair + length unserved)))
+    ++ (code_lines p unserved missing ++ no_line (pair_count pair + length unserved))))
 
 -- The report of a mending
 abbrev pub mend_report : {A : Type 0} → (limit spare : ℕ) → Mending A → List ℕ
 mend_report limit spare (Mended q before cert) = mended_text before q limit spare
-mend_report limit spare (NoRouting q pairs pair) = unserved_text q limit spare pairs.items pair
+mend_report limit spare (NoRouting q unserved missing pair) =
+    unserved_text q limit spare unserved.items missing.items pair
 
 -- a mending that is right, whose report was written in part
 pub record MendToldInPart (A : Type 0) (p : Plan) (limit spare : ℕ) (out : Output)

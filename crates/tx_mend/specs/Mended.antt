@@ -1,11 +1,10 @@
--- The mended plan, and what no routes of the network can serve.
-use Rattle.std.specs.Prelude.{ℕ, not, ◌&&◌, List, [], ◌∷◌, ◌++◌, length, map, filter, is_none}
+-- The mended plan.
+use Rattle.std.specs.Prelude.{ℕ, not, List, [], ◌∷◌, ◌++◌, length, map, filter}
 use Rattle.std.specs.List.{flat_map}
 use Rattle.tx_plan.specs.Plan.{Plan, Route}
-use Rattle.tx_plan.specs.Routes.{is_origin_for}
 use Rattle.tx_plan.specs.Declaring.{has_route}
 use Rattle.tx_plan.specs.Mixed.{rerouted}
-use Rattle.tx_mend.specs.LeastRanks.{indexes, least_rank}
+use Rattle.tx_mend.specs.LeastRanks.{indexes}
 use Rattle.tx_mend.specs.Lists.{mended_list}
 
 -- an exchange and a code
@@ -38,14 +37,3 @@ mended_routes p limit spare = routes_of p (mended_list p limit spare)
 -- the plan with its mended routes
 abbrev pub mended : Plan → (limit spare : ℕ) → Plan
 mended p limit spare = rerouted p (mended_routes p limit spare) p.bars
-
--- What cannot be served: each code with each origin for it that has no least rank, in order of
--- declaration
-abbrev pub unserved_for : Plan → (limit spare code : ℕ) → List (ℕ × ℕ)
-unserved_for p limit spare code = map (λ x. (code, x))
-    (filter (λ x. is_origin_for p x code && is_none (least_rank p code limit spare x))
-    (indexes (length p.exchanges)))
-
--- what cannot be served, for all codes
-abbrev pub unserved : Plan → (limit spare : ℕ) → List (ℕ × ℕ)
-unserved p limit spare = flat_map (unserved_for p limit spare) (indexes (length p.codes))

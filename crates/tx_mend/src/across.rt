@@ -1,7 +1,8 @@
 // Where groups lead, by ranks.
-ghost use Rattle.std.specs.Prelude.{◌≡◌, ℕ, Option, length};
+ghost use Rattle.std.specs.Prelude.{◌≡◌, ◌<◌, ℕ, Option, length};
 ghost use Rattle.tx_mend.specs.LeastRanks.{rank_across, leads_on};
-ghost use Rattle.tx_mend.specs.Lists.{leads_to, leads_below};
+ghost use Rattle.tx_mend.specs.KeptRanks.{leads_below, stays_by};
+ghost use Rattle.tx_mend.specs.Lists.{leads_to};
 ghost use Rattle.tx_mend.specs.inner.CodeRanks.{rank_list};
 
 use std::alloc::Allocator;
@@ -71,5 +72,24 @@ pub fn leads_below<A: Allocator>(
     match rank_across(plan, ranks, exchange, group) {
         Some(to) => to < rank,
         None => false,
+    }
+}
+
+/// Whether by these ranks a group stays in the list of an exchange: it leads to a smaller rank, or
+/// the exchange has none.
+pub fn stays<A: Allocator>(
+    plan: &Plan<A>,
+    ranks: &[Option<u8>],
+    exchange: ExchangeId,
+    group: GroupId,
+) -> bool
+    requires long { length ranks.now ≡ length plan.now.exchanges }
+    requires exchange { exchange < length plan.now.exchanges }
+    ensures { (of : ℕ → Option ℕ) → ranks.now ≡ rank_list plan.now of
+        → result ≡ stays_by plan.now of exchange group }
+{
+    match ranks[exchange.index()] {
+        Some(rank) => leads_below(plan, ranks, exchange, rank, group),
+        None => true,
     }
 }

@@ -1,7 +1,7 @@
 // What full lists are made of.
 ghost use Rattle.std.specs.Prelude.{◌≡◌, map, length};
 ghost use Rattle.tx_mend.specs.LeastRanks.{indexes, outgoing};
-ghost use Rattle.tx_mend.specs.inner.CodeRanks.{code_ranks};
+ghost use Rattle.tx_mend.specs.inner.CodeRanks.{kept_ranks};
 
 use crate::code_ranks::CodeRanks;
 use crate::outgoing::Outgoing;
@@ -17,6 +17,6 @@ pub struct Basis<'a, A: Allocator> {
     pub table: &'a [CodeRanks<A>],
     pub limits: Limits,
     ghost groups: { seizable.now ≡ map (outgoing plan.now) (indexes (length plan.now.exchanges)) },
-    ghost ranks: { table.now ≡ map (code_ranks plan.now limits.limit limits.spare)
+    ghost ranks: { table.now ≡ map (kept_ranks plan.now limits.limit limits.spare)
         (indexes (length plan.now.codes)) },
 }

@@ -1,10 +1,13 @@
 // The routes and the bars of a plan, once more.
-ghost use Rattle.std.specs.Prelude.{◌≡◌, ℕ, List, IfOk, filter};
-ghost use Rattle.tx_mend.specs.inner.Full.{stays};
+ghost use Rattle.std.specs.Prelude.{◌≡◌, IfOk};
+ghost use Rattle.std.specs.List.{flat_map};
+ghost use Rattle.tx_plan.specs.Routes.{route_list};
+ghost use Rattle.tx_mend.specs.inner.Full.{settled_list, settled_route};
 
+use crate::rerouting::add_route;
 use std::alloc::Allocator;
 use tx_cert::Cert;
-use tx_plan::{Bars, CodeId, ExchangeId, Pair, Plan, Routes};
+use tx_plan::{Bars, CodeId, ExchangeId, GroupList, Pair, Plan, Routes};
 use tx_text::NoMemory;
 
 /// The routes.
@@ -38,41 +41,43 @@ pub fn bars_of<A: Allocator + Copy>(alloc: A, plan: &Plan<A>) -> Result<Bars<A>,
     Ok(bars)
 }
 
-/// Whether the route of an exchange for a code stays.
-fn is_staying<A: Allocator>(
+/// The list that an exchange is to have for a code: that of the plan if a certificate ranks the
+/// exchange for the code, and otherwise the one that it had before.
+fn settled_list<A: Allocator>(
+    plan: &Plan<A>,
     before: &Routes<A>,
     cert: &Cert<A>,
     exchange: ExchangeId,
     code: CodeId,
-) -> bool
-    ensures { (groups : List ℕ) → result ≡ stays before.now cert.now (record {
-      exchange = exchange;
-      code = code;
-      groups = groups;
-    }) }
+) -> GroupList
+    ensures { result.items ≡ settled_list before.now cert.now exchange code
+        (route_list plan.now exchange code) }
 {
-    before.has(&Pair { exchange, code }) || cert.rank(code, exchange).is_some()
+    if cert.rank(code, exchange).is_some() {
+        return plan.group_list(exchange, code);
+    }
+    match GroupList::try_from(before.list(&Pair { exchange, code })) {
+        Ok(list) => list,
+        Err(_) => unreachable!(),
+    }
 }
 
-/// The routes that were there before, and those of exchanges that a certificate ranks for their
-/// codes.
-pub fn staying_routes<A: Allocator + Copy>(
+/// The routes with these lists.
+pub fn settled_routes<A: Allocator + Copy>(
     alloc: A,
     plan: &Plan<A>,
     before: &Routes<A>,
     cert: &Cert<A>,
 ) -> Result<Routes<A>, NoMemory>
     ensures { IfOk result (λ routes. routes
-        ≡ filter (stays before.now cert.now) plan.now.routes) }
+        ≡ flat_map (settled_route before.now cert.now) plan.now.routes) }
 {
     let mut routes = Routes::new(alloc);
     for index in 0..plan.routes() {
         match plan.route_at(index) {
             Some((exchange, code)) => {
-                if is_staying(before, cert, exchange, code) {
-                    let list = plan.group_list(exchange, code);
-                    routes.add(Pair { exchange, code }, list)?;
-                }
+                let list = settled_list(plan, before, cert, exchange, code);
+                add_route(&mut routes, exchange, code, list)?;
             }
             None => unreachable!(),
         }

@@ -2,12 +2,13 @@
 ghost use Rattle.std.specs.Prelude.{◌≡◌, ◌<◌, ℕ, Option, length, filter};
 ghost use Rattle.tx_plan.specs.Routes.{route_list};
 ghost use Rattle.tx_mend.specs.LeastRanks.{outgoing};
-ghost use Rattle.tx_mend.specs.Lists.{put, filled, leads_below, leads_to, groups_below, list_of_rank, full_list};
+ghost use Rattle.tx_mend.specs.KeptRanks.{leads_below};
+ghost use Rattle.tx_mend.specs.Lists.{put, filled, leads_to, groups_below, list_by, full_list};
 ghost use Rattle.tx_mend.specs.inner.CodeRanks.{rank_list};
 
 use crate::across::{leads_below, leads_to};
 use crate::basis::Basis;
-use crate::code_ranks::least_at;
+use crate::code_ranks::ranks_at;
 use crate::outgoing::groups_at;
 use std::alloc::Allocator;
 use tx_plan::{CodeId, ExchangeId, GroupId, GroupList, Limits, Plan};
@@ -105,7 +106,7 @@ fn list_by_ranks<A: Allocator>(
     requires long { length ranks.now ≡ length plan.now.exchanges }
     requires exchange { exchange < length plan.now.exchanges }
     ensures { (of : ℕ → Option ℕ) → ranks.now ≡ rank_list plan.now of
-        → result.items ≡ list_of_rank plan.now of code limits.spare exchange (of exchange) }
+        → result.items ≡ list_by plan.now of code limits.spare exchange }
 {
     match ranks[exchange.index()] {
         Some(rank) => {
@@ -113,7 +114,7 @@ fn list_by_ranks<A: Allocator>(
             fill(plan, seizable, ranks, exchange, rank, limits, &mut list);
             list
         }
-        None => GroupList::new(),
+        None => plan.group_list(exchange, code),
     }
 }
 
@@ -128,7 +129,7 @@ pub fn full_list<A: Allocator>(
     ensures { result.items ≡ full_list basis.now.plan.now
         basis.now.limits.limit basis.now.limits.spare code exchange }
 {
-    match least_at(basis.table, code.index()) {
+    match ranks_at(basis.table, code.index()) {
         None => basis.plan.group_list(exchange, code),
         Some(ranks) => list_by_ranks(
             basis.plan,

@@ -20,8 +20,8 @@ pub fn write_mending<A: Allocator, W: Sink>(
 {
     match mending {
         Mending::Mended(plan, before, _) => write_mended(before, plan, limits, sink),
-        Mending::NoRouting(plan, unserved, pair) => {
-            write_unserved(plan, limits, unserved, pair, sink)
+        Mending::NoRouting(plan, unserved, missing, pair) => {
+            write_unserved(plan, limits, unserved, missing, pair, sink)
         }
     }
 }

@@ -12,7 +12,7 @@ use tx_plan::{CodeId, ExchangeId, GroupList, Pair, Plan, Routes};
 use tx_text::NoMemory;
 
 /// Adds a route, unless it has no groups.
-fn add_route<A: Allocator>(
+pub fn add_route<A: Allocator>(
     routes: &mut Routes<A>,
     exchange: ExchangeId,
     code: CodeId,

@@ -1,10 +1,10 @@
 // Ranks, round by round.
-ghost use Rattle.std.specs.Prelude.{◌≡◌, ◌<◌, ℕ, suc, Option, Some, None, ◌==◌, if◌then◌else◌, map, length, IfOk};
+ghost use Rattle.std.specs.Prelude.{◌≡◌, ◌<◌, ℕ, Option, Some, None, ◌==◌, if◌then◌else◌, map, length, IfOk};
 ghost use Rattle.tx_mend.specs.LeastRanks.{indexes, kept_or, ranked_in};
 
 use crate::rules::Rule;
 use std::alloc::Allocator;
-use tx_plan::{ExchangeId, Limits};
+use tx_plan::ExchangeId;
 use tx_text::NoMemory;
 
 /// The home has rank 0, and no other exchange has a rank.
@@ -69,20 +69,18 @@ fn next_ranks<A: Allocator + Copy, R: Rule>(
     Ok(next)
 }
 
-/// The ranks after `limits.limit + 1` rounds. A round that ranks no exchange is the last that is
-/// gone through.
+/// The ranks after so many rounds. A round that ranks no exchange is the last that is gone through.
 pub fn ranks_after<A: Allocator + Copy, R: Rule>(
     alloc: A,
     rule: &R,
     home: ExchangeId,
-    limits: Limits,
+    rounds: u8,
 ) -> Result<Vec<Option<u8>, A>, NoMemory>
     ensures { IfOk result (λ ranks. ranks.items
-        ≡ map (ranked_in home (R.follows rule.now) (suc limits.limit))
-        (indexes (R.exchanges rule.now))) }
+        ≡ map (ranked_in home (R.follows rule.now) rounds) (indexes (R.exchanges rule.now))) }
 {
     let mut ranks = home_alone(alloc, rule.exchanges(), home)?;
-    for done in 0..limits.limit + 1 {
+    for done in 0..rounds {
         let next = next_ranks(alloc, rule, &ranks, done + 1)?;
         if ranks == next {
             return Ok(next);

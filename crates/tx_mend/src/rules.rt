@@ -44,7 +44,7 @@ pub struct AnyRoutes<'a, A: Allocator> {
 }
 
 /// How many of the groups lead to ranked exchanges.
-fn count_on<A: Allocator>(
+pub fn count_on<A: Allocator>(
     plan: &Plan<A>,
     ranks: &[Option<u8>],
     exchange: ExchangeId,
@@ -61,6 +61,24 @@ fn count_on<A: Allocator>(
     count
 }
 
+/// Whether an exchange may seize more than `spare` groups that lead to ranked exchanges.
+pub fn can_follow<A: Allocator>(
+    plan: &Plan<A>,
+    seizable: &[Outgoing<A>],
+    spare: u8,
+    ranks: &[Option<u8>],
+    exchange: ExchangeId,
+) -> bool
+    requires seizable { seizable.now
+        ≡ map (outgoing plan.now) (indexes (length plan.now.exchanges)) }
+    requires long { length ranks.now ≡ length plan.now.exchanges }
+    requires exchange { exchange < length plan.now.exchanges }
+    ensures { (of : ℕ → Option ℕ) → ranks.now ≡ rank_list plan.now of
+        → result ≡ can_follow plan.now spare of exchange }
+{
+    count_on(plan, ranks, exchange, groups_at(seizable, exchange)) > usize::from(spare)
+}
+
 impl<'a, A: Allocator> Rule for AnyRoutes<'a, A> {
     ghost exchanges = { λ r. length r.plan.now.exchanges };
 
@@ -71,8 +89,7 @@ impl<'a, A: Allocator> Rule for AnyRoutes<'a, A> {
     }
 
     fn follows(&self, ranks: &[Option<u8>], exchange: ExchangeId) -> bool {
-        let groups = groups_at(self.seizable, exchange);
-        count_on(self.plan, ranks, exchange, groups) > usize::from(self.spare)
+        can_follow(self.plan, self.seizable, self.spare, ranks, exchange)
     }
 
     ghost local = { λ rule. rule.local };

@@ -4,26 +4,31 @@ ghost use Rattle.std.specs.List.{flat_map};
 ghost use Rattle.tx_text.specs.Wrote.{Wrote};
 ghost use Rattle.tx_mend.specs.MendText.{pair_line, pair_count, unserved_line, unserved_text};
 
+use crate::cause::{Cause, Missing, Unserved};
+use crate::code_lines::write_codes;
+use itoa::Buffer;
 use std::alloc::Allocator;
-use tx_plan::{CodeId, ExchangeId, Limits, Plan};
+use tx_plan::{CodeId, Limits, Plan};
 use tx_rank::{Finding, write_asked, write_finding, write_no};
 use tx_text::{Sink, WriteFault, write_parts};
 
 /// Writes what was asked, the ambiguous pair of codes, each code with the origins that cannot be
-/// served for it, and NO with the number of these lines.
+/// served for it, a line for each of these codes, and NO with the number of the lines before those.
 pub fn write_unserved<A: Allocator, W: Sink>(
     plan: &Plan<A>,
     limits: Limits,
-    unserved: &[(CodeId, ExchangeId)],
+    unserved: &[Unserved],
+    missing: &[Missing],
     pair: &Option<(CodeId, CodeId)>,
     sink: &mut W,
 ) -> Result<(), WriteFault>
-    ensures { Wrote W.taken W.failed sink.old sink.new
-        (unserved_text plan.now limits.limit limits.spare unserved.now pair.now) result }
+    ensures { Wrote W.taken W.failed sink.old sink.new (unserved_text plan.now
+        limits.limit limits.spare unserved.now missing.now pair.now) result }
 {
     write_asked(b"MEND", limits, sink)?;
     write_pair(plan, pair, sink)?;
     write_each(plan, unserved, sink)?;
+    write_codes(plan, unserved, missing, sink)?;
     write_no(pair_count(pair) + unserved.len(), sink)
 }
 
@@ -46,7 +51,7 @@ fn write_pair<A: Allocator, W: Sink>(
 
 fn write_each<A: Allocator, W: Sink>(
     plan: &Plan<A>,
-    unserved: &[(CodeId, ExchangeId)],
+    unserved: &[Unserved],
     sink: &mut W,
 ) -> Result<(), WriteFault>
     ensures { Wrote W.taken W.failed sink.old sink.new
@@ -60,15 +65,39 @@ fn write_each<A: Allocator, W: Sink>(
 
 fn write_one<A: Allocator, W: Sink>(
     plan: &Plan<A>,
-    pair: (CodeId, ExchangeId),
+    unserved: Unserved,
     sink: &mut W,
 ) -> Result<(), WriteFault>
     ensures { Wrote W.taken W.failed sink.old sink.new
-        (unserved_line plan.now pair) result }
+        (unserved_line plan.now unserved) result }
 {
-    let figures = plan.code_figures(pair.0);
-    let name = plan.exchange_name(pair.1);
-    write_parts(&[b"F5 UNSERVED ", figures, b" ", name, b"\n"], sink)
+    let figures = plan.code_figures(unserved.code);
+    let name = plan.exchange_name(unserved.exchange);
+    let mut buffer = Buffer::new();
+    match unserved.cause {
+        Cause::Rank(rank) => {
+            let rank = buffer.format(rank).as_bytes();
+            write_parts(
+                &[b"F5 UNSERVED ", figures, b" ", name, b" RANK ", rank, b"\n"],
+                sink,
+            )
+        }
+        Cause::Groups(groups) => {
+            let groups = buffer.format(groups).as_bytes();
+            write_parts(
+                &[
+                    b"F5 UNSERVED ",
+                    figures,
+                    b" ",
+                    name,
+                    b" GROUPS ",
+                    groups,
+                    b"\n",
+                ],
+                sink,
+            )
+        }
+    }
 }
 
 /// How many lines the ambiguous pair has.

@@ -1,7 +1,7 @@
 -- What certifies a code at two fronts.
 use Rattle.std.proofs.Common.{◌≡◌, ◌⊎◌, ℕ, ◌||◌, ◌+◌, ◌<◌, ◌≤◌, Bool, true, false, not, ◌&&◌, cond, nat_lt, min, List, [], ◌∷◌, ◌++◌, length, map, Result, Ok, Err, IfOk, Option, Some, None, inl, inr, refl, sym, ap, ◌∙◌, subst, arith}
 use Rattle.std.proofs.lemmas.Bool.{or_left, or_right, or_cases, cases_lt, lt-ltb, le-ltb}
-use Rattle.tx_plan.specs.Plan.{home_of}
+use Rattle.tx_plan.specs.Plan.{Plan, home_of}
 use Rattle.tx_plan.specs.Rules.{IsPlan}
 use Rattle.tx_plan.specs.Certified.{Ranks}
 use Rattle.tx_plan.specs.Routes.{route_list, is_barred, is_origin, is_origin_for}
@@ -18,9 +18,10 @@ use Rattle.tx_rank.specs.Findings.{AreFindingsOfCode, IsLongIfAny, long_findings
 use Rattle.tx_rank.specs.Findings.AreFindingsOfCode.{looped, straight}
 use Rattle.tx_rank.specs.Judged.{IsJudged}
 use Rattle.tx_rank.proofs.Walked.{certified_no_loop, certified_no_short, certified_no_long}
-use Rattle.tx_rank.proofs.Listing.{back_none}
 use Rattle.tx_change.specs.ChangeNets.{change_net}
+use Rattle.tx_change.specs.inner.Joined.{Joined, AreJoined, joined_net}
 use Rattle.tx_change.proofs.ChangeNets.{is_change_net}
+use Rattle.tx_change.proofs.JoinedNets.{joined_is}
 use Rattle.tx_change.proofs.Common.{common_codes, common_certifies}
 use Rattle.tx_order.specs.Levels.{levels_of, level_at, bar_level}
 use Rattle.tx_order.specs.Stages.{ranks_at}
@@ -127,12 +128,15 @@ module _ (w : Transition) (is : IsTransition w) where
     fronts_common u v (λ c. pick w c (u c) (v c) (each c) (cases_lt c (length w.old.codes))) (λ c h. picked w c (u c) (v c) (each c) (cases_lt c (length w.old.codes)) h),
   )
 
--- NOTHING IS FOUND EXACTLY WHERE RANKS CERTIFY THE CODE
+-- the network that the joined lists make over the old plan
+module _ (w : Transition) (is : IsTransition w) (p : Plan) (old : p ≡ w.old) (c from to : ℕ) (h : c < length w.old.codes) (lists : List Joined) (joined : AreJoined (plan_front w from) (plan_front w to) c lists) where
+  pub net_is : joined_net p lists c ≡ change_net (plan_front w from) (plan_front w to) c
+  net_is = (λ i. joined_net (old i) lists c) ∙ joined_is (plan_front w from) (plan_front w to) (rules_with w is (λ _. from)) (rules_with w is (λ _. to)) (network_with w is (λ _. from) (λ _. to)) c (is_between_net w is c from to h) lists joined
 
--- a code was judged, and nothing was found
-pub judged_safe : {A : Type 0} (w : Transition) (c from to : ℕ) (before after : List (Finding A)) (ranks : ℕ → Option ℕ) → before ≡ [] → after ≡ []
-    → IsJudged (change_net (plan_front w from) (plan_front w to) c) c w.limit w.spare before after ranks → IsSafeBetween w c from to
-judged_safe w c from to before after ranks none found j = (ranks, j.certified (back_none before j.mine (sym j.added ∙ found)))
+  pub net_rules : IsNet (joined_net p lists c)
+  net_rules = subst IsNet (sym net_is) (is_between_net w is c from to h)
+
+-- NOTHING IS FOUND EXACTLY WHERE RANKS CERTIFY THE CODE
 
 module _ {A : Type 0} (n : Net) (ranks : ℕ → Option ℕ) (c limit spare : ℕ) (cert : Certifies n ranks limit spare) (listed : (x : ℕ) → n.fewest x ≤ length (n.list x)) where
   no_shorts : (shorts : List Walk) → ((v : Walk) → Among v shorts → IsShort n spare v.start v.steps) → ◌≡◌ {A = List (Finding A)} (map (Short c) shorts) []
@@ -151,9 +155,6 @@ module _ {A : Type 0} (w : Transition) (is : IsTransition w) (c from to : ℕ) (
   module _ (before after : List (Finding A)) (ranks : ℕ → Option ℕ) (j : IsJudged (change_net (plan_front w from) (plan_front w to) c) c w.limit w.spare before after ranks) where
     none_mine : j.mine ≡ []
     none_mine = none_of_code (change_net (plan_front w from) (plan_front w to) c) safe.0 c w.limit w.spare safe.1 (is_between_net w is c from to h).listed j.mine j.listed
-
-    pub none_more : before ≡ [] → after ≡ []
-    none_more e = j.added ∙ (λ i. e i ++ none_mine i)
 
   -- so where it can be certified, the ranks that were given certify it
   pub result_certified : {E : Type 0} (before after : List (Finding A)) (ranks : ℕ → Option ℕ) (result : Result (Unit {0}) E) → IfOk result (λ _. IsJudged (change_net (plan_front w from) (plan_front w to) c) c w.limit w.spare before after ranks)

@@ -15,7 +15,7 @@ use tx_rank::{Finding, rank_code};
 use tx_text::NoMemory;
 
 /// The lists of all exchanges for a code at two fronts, joined.
-fn joined_lists<A: Allocator + Copy>(
+pub fn joined_lists<A: Allocator + Copy>(
     alloc: A,
     transition: &Transition<A>,
     code: CodeId,

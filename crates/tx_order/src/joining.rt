@@ -4,13 +4,14 @@ ghost use Rattle.tx_rank.specs.Judged.{AreOrigins};
 ghost use Rattle.tx_order.specs.Levels.{levels_of};
 ghost use Rattle.tx_order.specs.Joined.{IsSafeBetween, IsFurthest, AreAllStages};
 
-use crate::between::rank_between;
+use crate::between::joined_lists;
 use crate::entries::is_same;
 use crate::fronts::Fronts;
 use crate::transition::Transition;
 use std::alloc::Allocator;
-use tx_cert::Cert;
+use tx_change::ChangeRoutes;
 use tx_plan::CodeId;
+use tx_rank::can_be_certified;
 use tx_text::NoMemory;
 
 /// Whether the same ranks certify a code at two fronts.
@@ -27,19 +28,15 @@ fn joins<A: Allocator + Copy>(
     ensures { IfOk result (λ safe. safe ≡ true ↔ IsSafeBetween transition.now code from to) }
 {
     transition.rules();
-    let mut cert = Cert::new(alloc, transition.old_plan())?;
-    let mut findings = Vec::new(alloc);
-    rank_between(
-        alloc,
-        transition,
+    let lists = joined_lists(alloc, transition, code, from, to)?;
+    let net = ChangeRoutes {
+        plan: transition.old_plan(),
         origins,
+        lists: &lists,
         code,
-        from,
-        to,
-        &mut cert,
-        &mut findings,
-    )?;
-    Ok(findings.is_empty())
+    };
+    let limits = transition.limits();
+    can_be_certified(alloc, &net, limits.limit, limits.spare)
 }
 
 /// The greatest front up to which all levels of a code from another front on are safe in one stage.
@@ -66,7 +63,8 @@ fn furthest<A: Allocator + Copy>(
     let mut good = from + 1;
     let mut bad = last;
     while good + 1 < bad {
-        let middle = good + (bad - good) / 2;
+        // The step doubles while it is safe, and then halves: most stages have few levels.
+        let middle = good + ((bad - good) / 2).min(good - from);
         if joins(alloc, transition, origins, code, from, middle)? {
             good = middle;
         } else {

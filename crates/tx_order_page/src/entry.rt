@@ -4,10 +4,10 @@ ghost use Rattle.tx_html.specs.Shows.{Showed};
 ghost use Rattle.tx_order_page.specs.OrderTexts.{bar_word, entry_texts, switched_texts};
 
 use std::alloc::Allocator;
-use tx_html::{Part, set};
+use tx_html::{PageSink, Part, set};
 use tx_plan::{CodeId, ExchangeId, GroupId, Plan};
 use tx_svg::write_groups;
-use tx_text::{Sink, WriteFault};
+use tx_text::WriteFault;
 
 /// What an exchange has for a code before a stage and after it.
 #[derive(Clone, Copy, Debug)]
@@ -32,12 +32,12 @@ fn bar_word(was: bool, is: bool) -> &'static [u8]
 }
 
 /// Writes a row, if the list or the bar is another one.
-pub fn write_switched<A: Allocator, W: Sink>(
+pub fn write_switched<A: Allocator, W: PageSink>(
     plan: &Plan<A>,
     entry: Entry<'_>,
     sink: &mut W,
 ) -> Result<(), WriteFault>
-    ensures { Showed W.taken W.failed sink.old sink.new
+    ensures { Showed W.seen sink.old sink.new
         (switched_texts plan.now entry.entry.exchange entry.entry.code entry.entry.before.now
         entry.entry.now.now entry.entry.was_barred entry.entry.is_barred) result }
 {
@@ -48,12 +48,12 @@ pub fn write_switched<A: Allocator, W: Sink>(
     write_entry(plan, entry, sink)
 }
 
-fn write_entry<A: Allocator, W: Sink>(
+fn write_entry<A: Allocator, W: PageSink>(
     plan: &Plan<A>,
     entry: Entry<'_>,
     sink: &mut W,
 ) -> Result<(), WriteFault>
-    ensures { Showed W.taken W.failed sink.old sink.new
+    ensures { Showed W.seen sink.old sink.new
         (entry_texts plan.now entry.entry.exchange entry.entry.code entry.entry.before.now
         entry.entry.now.now entry.entry.was_barred entry.entry.is_barred) result }
 {

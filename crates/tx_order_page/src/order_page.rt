@@ -8,10 +8,10 @@ ghost use Rattle.tx_order_page.specs.OrderTexts.{table_texts, stage_texts, order
 use crate::between::Between;
 use crate::switched::write_table;
 use std::alloc::Allocator;
-use tx_html::{Part, set};
+use tx_html::{PageSink, Part, set};
 use tx_order::{Order, Switching};
 use tx_plan::Plan;
-use tx_text::{Sink, WriteFault};
+use tx_text::WriteFault;
 
 const ORDERED: &str = "<h2>The change</h2><p>The lists and bars of the old plan can be switched to \
 those of this one stage by stage. Within a stage they can be switched in any order, with calls up. \
@@ -21,12 +21,12 @@ const NO_ORDER: &str = "<h2>The change</h2><p>There is no safe order of switchin
 plan or this one is not safe for these numbers. Below is all that differs.</p>";
 
 /// Writes the stages of an order of switching to a plan, or what differs where there is none.
-pub fn write_order<A: Allocator, W: Sink>(
+pub fn write_order<A: Allocator, W: PageSink>(
     new: &Plan<A>,
     switching: &Switching<A>,
     sink: &mut W,
 ) -> Result<(), WriteFault>
-    ensures { Showed W.taken W.failed sink.old sink.new
+    ensures { Showed W.seen sink.old sink.new
         (order_texts new.now switching.now) result }
 {
     match switching {
@@ -36,12 +36,12 @@ pub fn write_order<A: Allocator, W: Sink>(
 }
 
 /// Writes what differs, where there is no order.
-fn write_difference<A: Allocator, W: Sink>(
+fn write_difference<A: Allocator, W: PageSink>(
     old: &Plan<A>,
     new: &Plan<A>,
     sink: &mut W,
 ) -> Result<(), WriteFault>
-    ensures { Showed W.taken W.failed sink.old sink.new
+    ensures { Showed W.seen sink.old sink.new
         (table_texts new.now old.now new.now) result }
 {
     set(&[Part::Own(NO_ORDER)], sink)?;
@@ -49,24 +49,24 @@ fn write_difference<A: Allocator, W: Sink>(
 }
 
 /// Writes the stages of an order.
-fn write_stages<A: Allocator, W: Sink>(
+fn write_stages<A: Allocator, W: PageSink>(
     new: &Plan<A>,
     order: &Order<A>,
     sink: &mut W,
 ) -> Result<(), WriteFault>
-    ensures { Showed W.taken W.failed sink.old sink.new
+    ensures { Showed W.seen sink.old sink.new
         (texts_below (stages_in order.now) (stage_texts new.now order.now)) result }
 {
     set(&[Part::Own(ORDERED)], sink)?;
     write_all(new, order, sink)
 }
 
-fn write_all<A: Allocator, W: Sink>(
+fn write_all<A: Allocator, W: PageSink>(
     new: &Plan<A>,
     order: &Order<A>,
     sink: &mut W,
 ) -> Result<(), WriteFault>
-    ensures { Showed W.taken W.failed sink.old sink.new
+    ensures { Showed W.seen sink.old sink.new
         (texts_below (stages_in order.now) (stage_texts new.now order.now)) result }
 {
     for stage in 0..order.stages() {
@@ -76,14 +76,14 @@ fn write_all<A: Allocator, W: Sink>(
 }
 
 /// Writes a stage with its number, from 1.
-fn write_stage<A: Allocator, W: Sink>(
+fn write_stage<A: Allocator, W: PageSink>(
     new: &Plan<A>,
     order: &Order<A>,
     stage: usize,
     sink: &mut W,
 ) -> Result<(), WriteFault>
     requires { stage < stages_in order.now }
-    ensures { Showed W.taken W.failed sink.old sink.new
+    ensures { Showed W.seen sink.old sink.new
         (stage_texts new.now order.now stage) result }
 {
     order.rules();

@@ -49,8 +49,17 @@ abbrev pub count_texts : Plan → List (List ℕ)
 count_texts p = map decimal (length p.exchanges ∷ length p.codes ∷ length p.groups
     ∷ length p.routes ∷ lines_in p ∷ origins_in p ∷ [])
 
--- the file, the verdict, the counts, and the digest of the plan's text
-abbrev pub heading_texts : List ℕ → List ℕ → Plan → Bool → (limit spare : ℕ) → List (List ℕ)
-heading_texts name digest p safe limit spare = start_texts name safe
+-- a warning, if there is no line
+abbrev pub warning_texts : (lines : ℕ) → List (List ℕ)
+warning_texts lines = if lines == 0 then codes "no line" ∷ [] else []
+
+-- the digest of the plan's text, and the version of the program
+abbrev pub digest_texts : (digest version : List ℕ) → List (List ℕ)
+digest_texts digest version = encode_lower digest ∷ version ∷ []
+
+-- the file, the verdict, the counts, and how the plan was judged
+abbrev pub heading_texts : (name digest version : List ℕ) → Plan → Bool → (limit spare : ℕ)
+    → List (List ℕ)
+heading_texts name digest version p safe limit spare = start_texts name safe
     ++ (verdict_texts safe limit spare ++ (promise_texts safe limit spare
-    ++ (count_texts p ++ encode_lower digest ∷ [])))
+    ++ (warning_texts (lines_in p) ++ (count_texts p ++ digest_texts digest version))))

@@ -9,6 +9,12 @@ use Rattle.tx_risk.specs.declared.outage.Outage.TheVariants.{Group, Exchange, Na
 use Rattle.tx_risk.specs.declared.cut.Cut.{Cut}
 use Rattle.tx_risk.specs.declared.cut.Outcome.{Outcome}
 
+-- what kind of thing fails
+abbrev pub outage_kind : Outage → List ℕ
+outage_kind (Group g) = codes "Group"
+outage_kind (Exchange x) = codes "Exchange"
+outage_kind (Named i) = codes "Risk"
+
 -- the name of what fails
 abbrev pub outage_name : Plan → List NamedRisk → Outage → List ℕ
 outage_name p risks (Group g) = group_name p g
@@ -30,15 +36,15 @@ module _ {A : Type 0} where
   abbrev pub astray : List (Cut A) → ℕ
   astray cuts = count_by (λ c. c.stray) cuts
 
-  -- a code, where calls for it start, and whether they may go astray
+  -- a code, where calls for it start, and whether they are cut off or may go astray
   abbrev pub cut_texts : Plan → Cut A → List (List ℕ)
   cut_texts p c = figures_of p c.code ∷ exchange_name p c.walk.start
-      ∷ (if c.stray then codes "astray" else []) ∷ []
+      ∷ (if c.stray then codes "astray" else codes "cut off") ∷ []
 
-  -- an outage, how many it cuts off, and whom
+  -- an outage, how many starts it cuts off and may lead astray, and which
   abbrev pub outcome_texts : Plan → List NamedRisk → Outcome A → List (List ℕ)
-  outcome_texts p risks o = (outage_name p risks o.outage ∷ decimal (cut_off o.cuts.items)
-      ∷ decimal (astray o.cuts.items) ∷ []) ++ flat_map (cut_texts p) o.cuts.items
+  outcome_texts p risks o = (outage_kind o.outage ∷ outage_name p risks o.outage
+      ∷ decimal (cut_off o.cuts.items) ∷ decimal (astray o.cuts.items) ∷ []) ++ flat_map (cut_texts p) o.cuts.items
 
   -- it cuts nobody off
   abbrev pub is_harmless : Outcome A → Bool

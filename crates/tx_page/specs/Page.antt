@@ -28,7 +28,8 @@ module _ {A : Type 0} where
   -- the verdict, what is wrong, the change, the codes, the outages, the lists and the network
   abbrev pub page_texts : Subject A → List (List ℕ)
   page_texts s =
-      heading_texts s.name.now s.digest s.plan.now (is_safe s.ranking.now) s.limits.limit s.limits.spare
+      heading_texts s.name.now s.digest s.version.now s.plan.now (is_safe s.ranking.now)
+      s.limits.limit s.limits.spare
       ++ (wrong_texts s.plan.now s.limits.spare s.ranking.now
       ++ (change_texts s.plan.now s.switching
       ++ (codes_texts s.plan.now s.grade.now.codes.items

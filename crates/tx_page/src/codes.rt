@@ -7,10 +7,10 @@ ghost use Rattle.tx_page.specs.CodeTexts.{bounds_texts, code_texts, codes_texts}
 
 use crate::counts::lines_of;
 use std::alloc::Allocator;
-use tx_html::{Part, set};
+use tx_html::{PageSink, Part, set};
 use tx_plan::{CodeId, Plan};
 use tx_rank::{Bounds, Grade};
-use tx_text::{Sink, WriteFault};
+use tx_text::WriteFault;
 
 const HEAD: &str = "<h2>Codes</h2><div class=\"t\"><table><thead><tr><th scope=\"col\">Code</th>\
 <th scope=\"col\">Home</th><th scope=\"col\" class=\"k\">Lines</th><th scope=\"col\" \
@@ -18,13 +18,13 @@ class=\"k\">Least limit</th><th scope=\"col\" class=\"k\">Greatest spare</th><th
 class=\"k\">Groups on a way, at most</th></tr></thead><tbody>";
 
 /// Writes the table of codes, each linked to its picture if all have one.
-pub fn write_codes<A: Allocator, W: Sink>(
+pub fn write_codes<A: Allocator, W: PageSink>(
     plan: &Plan<A>,
     grade: &Grade<A>,
     linked: bool,
     sink: &mut W,
 ) -> Result<(), WriteFault>
-    ensures { Showed W.taken W.failed sink.old sink.new
+    ensures { Showed W.seen sink.old sink.new
         (codes_texts plan.now grade.now.codes.items) result }
 {
     set(&[Part::Own(HEAD)], sink)?;
@@ -32,13 +32,13 @@ pub fn write_codes<A: Allocator, W: Sink>(
     set(&[Part::Own("</tbody></table></div>")], sink)
 }
 
-fn write_rows<A: Allocator, W: Sink>(
+fn write_rows<A: Allocator, W: PageSink>(
     plan: &Plan<A>,
     grades: &[(CodeId, Option<Bounds>)],
     linked: bool,
     sink: &mut W,
 ) -> Result<(), WriteFault>
-    ensures { Showed W.taken W.failed sink.old sink.new (codes_texts plan.now grades.now) result }
+    ensures { Showed W.seen sink.old sink.new (codes_texts plan.now grades.now) result }
 {
     for i in 0..grades.len() {
         write_row(plan, grades[i], linked, sink)?;
@@ -46,25 +46,25 @@ fn write_rows<A: Allocator, W: Sink>(
     Ok(())
 }
 
-fn write_row<A: Allocator, W: Sink>(
+fn write_row<A: Allocator, W: PageSink>(
     plan: &Plan<A>,
     grade: (CodeId, Option<Bounds>),
     linked: bool,
     sink: &mut W,
 ) -> Result<(), WriteFault>
-    ensures { Showed W.taken W.failed sink.old sink.new (code_texts plan.now grade) result }
+    ensures { Showed W.seen sink.old sink.new (code_texts plan.now grade) result }
 {
     write_code(plan, grade.0, linked, sink)?;
     write_bounds(grade.1, sink)
 }
 
-fn write_code<A: Allocator, W: Sink>(
+fn write_code<A: Allocator, W: PageSink>(
     plan: &Plan<A>,
     code: CodeId,
     linked: bool,
     sink: &mut W,
 ) -> Result<(), WriteFault>
-    ensures { Showed W.taken W.failed sink.old sink.new
+    ensures { Showed W.seen sink.old sink.new
         (figures_of plan.now code ∷ exchange_name plan.now (home_of plan.now code)
         ∷ decimal (lines_of plan.now code) ∷ []) result }
 {
@@ -81,13 +81,13 @@ fn write_code<A: Allocator, W: Sink>(
 }
 
 /// Writes the figures of a code, which may be a link to its picture.
-fn write_figures<A: Allocator, W: Sink>(
+fn write_figures<A: Allocator, W: PageSink>(
     plan: &Plan<A>,
     code: CodeId,
     linked: bool,
     sink: &mut W,
 ) -> Result<(), WriteFault>
-    ensures { Showed W.taken W.failed sink.old sink.new (figures_of plan.now code ∷ []) result }
+    ensures { Showed W.seen sink.old sink.new (figures_of plan.now code ∷ []) result }
 {
     let figures = plan.code_figures(code);
     if !linked {
@@ -108,8 +108,8 @@ fn write_figures<A: Allocator, W: Sink>(
     )
 }
 
-fn write_bounds<W: Sink>(bounds: Option<Bounds>, sink: &mut W) -> Result<(), WriteFault>
-    ensures { Showed W.taken W.failed sink.old sink.new (bounds_texts bounds) result }
+fn write_bounds<W: PageSink>(bounds: Option<Bounds>, sink: &mut W) -> Result<(), WriteFault>
+    ensures { Showed W.seen sink.old sink.new (bounds_texts bounds) result }
 {
     match bounds {
         Some(bounds) => set(
@@ -125,7 +125,11 @@ fn write_bounds<W: Sink>(bounds: Option<Bounds>, sink: &mut W) -> Result<(), Wri
             sink,
         ),
         None => set(
-            &[Part::Own("</td><td colspan=\"3\" class=\"warn\">no grade</td></tr>")],
+            &[
+                Part::Own("</td><td colspan=\"3\" class=\"warn\">"),
+                Part::Text(b"no grade"),
+                Part::Own("</td></tr>"),
+            ],
             sink,
         ),
     }

@@ -6,20 +6,20 @@ ghost use Rattle.tx_page.specs.WrongTexts.{step_texts, steps_texts, walk_texts, 
 
 use crate::walks::{end_of, listed_before, start_of, steps_of};
 use std::alloc::Allocator;
-use tx_html::{Part, set};
+use tx_html::{PageSink, Part, set};
 use tx_plan::{CodeId, ExchangeId, GroupId, Limits, Plan};
 use tx_rank::{Finding, Ranking, Walk};
 use tx_svg::write_groups;
-use tx_text::{Sink, WriteFault};
+use tx_text::WriteFault;
 
 /// Writes what is wrong, if anything is.
-pub fn write_wrong<A: Allocator, W: Sink>(
+pub fn write_wrong<A: Allocator, W: PageSink>(
     plan: &Plan<A>,
     ranking: &Ranking<A>,
     limits: Limits,
     sink: &mut W,
 ) -> Result<(), WriteFault>
-    ensures { Showed W.taken W.failed sink.old sink.new
+    ensures { Showed W.seen sink.old sink.new
         (wrong_texts plan.now limits.spare ranking.now) result }
 {
     match ranking {
@@ -29,13 +29,13 @@ pub fn write_wrong<A: Allocator, W: Sink>(
 }
 
 /// Writes each finding in a sentence, with its walk.
-fn write_findings<A: Allocator, W: Sink>(
+fn write_findings<A: Allocator, W: PageSink>(
     plan: &Plan<A>,
     findings: &[Finding<A>],
     limits: Limits,
     sink: &mut W,
 ) -> Result<(), WriteFault>
-    ensures { Showed W.taken W.failed sink.old sink.new
+    ensures { Showed W.seen sink.old sink.new
         (findings_texts plan.now limits.spare findings.now) result }
 {
     set(&[Part::Own("<h2>What is wrong</h2><ol class=\"f\">")], sink)?;
@@ -43,13 +43,13 @@ fn write_findings<A: Allocator, W: Sink>(
     set(&[Part::Own("</ol>")], sink)
 }
 
-fn write_all<A: Allocator, W: Sink>(
+fn write_all<A: Allocator, W: PageSink>(
     plan: &Plan<A>,
     findings: &[Finding<A>],
     limits: Limits,
     sink: &mut W,
 ) -> Result<(), WriteFault>
-    ensures { Showed W.taken W.failed sink.old sink.new
+    ensures { Showed W.seen sink.old sink.new
         (findings_texts plan.now limits.spare findings.now) result }
 {
     for i in 0..findings.len() {
@@ -58,13 +58,13 @@ fn write_all<A: Allocator, W: Sink>(
     Ok(())
 }
 
-fn write_finding<A: Allocator, W: Sink>(
+fn write_finding<A: Allocator, W: PageSink>(
     plan: &Plan<A>,
     finding: &Finding<A>,
     limits: Limits,
     sink: &mut W,
 ) -> Result<(), WriteFault>
-    ensures { Showed W.taken W.failed sink.old sink.new
+    ensures { Showed W.seen sink.old sink.new
         (finding_texts plan.now limits.spare finding.now) result }
 {
     match finding {
@@ -75,13 +75,13 @@ fn write_finding<A: Allocator, W: Sink>(
     }
 }
 
-fn write_pair<A: Allocator, W: Sink>(
+fn write_pair<A: Allocator, W: PageSink>(
     plan: &Plan<A>,
     shorter: CodeId,
     longer: CodeId,
     sink: &mut W,
 ) -> Result<(), WriteFault>
-    ensures { Showed W.taken W.failed sink.old sink.new
+    ensures { Showed W.seen sink.old sink.new
         (figures_of plan.now shorter ∷ figures_of plan.now longer ∷ []) result }
 {
     set(
@@ -96,13 +96,13 @@ fn write_pair<A: Allocator, W: Sink>(
     )
 }
 
-fn write_loop<A: Allocator, W: Sink>(
+fn write_loop<A: Allocator, W: PageSink>(
     plan: &Plan<A>,
     code: CodeId,
     walk: &Walk<A>,
     sink: &mut W,
 ) -> Result<(), WriteFault>
-    ensures { Showed W.taken W.failed sink.old sink.new (loop_texts plan.now code walk.now) result }
+    ensures { Showed W.seen sink.old sink.new (loop_texts plan.now code walk.now) result }
 {
     set(
         &[
@@ -117,14 +117,14 @@ fn write_loop<A: Allocator, W: Sink>(
     write_walk(plan, code, walk, &[], sink)
 }
 
-fn write_short<A: Allocator, W: Sink>(
+fn write_short<A: Allocator, W: PageSink>(
     plan: &Plan<A>,
     code: CodeId,
     walk: &Walk<A>,
     spare: u8,
     sink: &mut W,
 ) -> Result<(), WriteFault>
-    ensures { Showed W.taken W.failed sink.old sink.new
+    ensures { Showed W.seen sink.old sink.new
         (short_texts plan.now spare code walk.now) result }
 {
     let end = end_of(walk);
@@ -146,13 +146,13 @@ fn write_short<A: Allocator, W: Sink>(
     write_walk(plan, code, walk, list, sink)
 }
 
-fn write_long<A: Allocator, W: Sink>(
+fn write_long<A: Allocator, W: PageSink>(
     plan: &Plan<A>,
     code: CodeId,
     walk: &Walk<A>,
     sink: &mut W,
 ) -> Result<(), WriteFault>
-    ensures { Showed W.taken W.failed sink.old sink.new (long_texts plan.now code walk.now) result }
+    ensures { Showed W.seen sink.old sink.new (long_texts plan.now code walk.now) result }
 {
     set(
         &[
@@ -173,14 +173,14 @@ fn write_long<A: Allocator, W: Sink>(
 
 /// Writes a walk as boxes with arrows. Below each exchange are the groups that have no free circuit
 /// while the call stands there: those before the one by which it goes on, and where it ends these.
-fn write_walk<A: Allocator, W: Sink>(
+fn write_walk<A: Allocator, W: PageSink>(
     plan: &Plan<A>,
     code: CodeId,
     walk: &Walk<A>,
     full: &[GroupId],
     sink: &mut W,
 ) -> Result<(), WriteFault>
-    ensures { Showed W.taken W.failed sink.old sink.new
+    ensures { Showed W.seen sink.old sink.new
         (walk_texts plan.now code walk.now full.now) result }
 {
     set(&[Part::Own("<ol class=\"w\">")], sink)?;
@@ -190,14 +190,14 @@ fn write_walk<A: Allocator, W: Sink>(
 }
 
 /// Writes the steps of a walk, and the exchange where it ends.
-fn write_steps<A: Allocator, W: Sink>(
+fn write_steps<A: Allocator, W: PageSink>(
     plan: &Plan<A>,
     code: CodeId,
     start: ExchangeId,
     steps: &[(GroupId, ExchangeId)],
     sink: &mut W,
 ) -> Result<(), WriteFault>
-    ensures { Showed W.taken W.failed sink.old sink.new
+    ensures { Showed W.seen sink.old sink.new
         (steps_texts plan.now code start steps.now) result }
 {
     let mut at = start;
@@ -216,14 +216,14 @@ fn write_steps<A: Allocator, W: Sink>(
     )
 }
 
-fn write_step<A: Allocator, W: Sink>(
+fn write_step<A: Allocator, W: PageSink>(
     plan: &Plan<A>,
     code: CodeId,
     from: ExchangeId,
     group: GroupId,
     sink: &mut W,
 ) -> Result<(), WriteFault>
-    ensures { Showed W.taken W.failed sink.old sink.new
+    ensures { Showed W.seen sink.old sink.new
         (step_texts plan.now code from group) result }
 {
     set(
@@ -241,12 +241,12 @@ fn write_step<A: Allocator, W: Sink>(
 }
 
 /// Writes that these groups have no free circuit, if there are any.
-fn write_full<A: Allocator, W: Sink>(
+fn write_full<A: Allocator, W: PageSink>(
     plan: &Plan<A>,
     groups: &[GroupId],
     sink: &mut W,
 ) -> Result<(), WriteFault>
-    ensures { Showed W.taken W.failed sink.old sink.new
+    ensures { Showed W.seen sink.old sink.new
         (map (group_name plan.now) groups.now) result }
 {
     if groups.is_empty() {

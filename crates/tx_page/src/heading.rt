@@ -1,23 +1,22 @@
 // What was judged, and the verdict.
 ghost use Rattle.std.specs.Prelude.{◌≡◌, [], ◌∷◌};
-ghost use Rattle.hex.specs.Hex.{encode_lower};
 ghost use Rattle.tx_html.specs.Shows.{Showed};
-ghost use Rattle.tx_page.specs.Heading.{verdict_word, start_texts, verdict_texts, promise_texts, count_texts, heading_texts};
+ghost use Rattle.tx_page.specs.Heading.{verdict_word, start_texts, verdict_texts, promise_texts, warning_texts, count_texts, digest_texts, heading_texts};
 
 use crate::counts::{count_lines, count_origins};
 use crate::style::STYLE;
 use hex::encode_to_slice;
 use std::alloc::Allocator;
-use tx_html::{Part, set};
+use tx_html::{PageSink, Part, set};
 use tx_plan::{Limits, Plan};
 use tx_svg::HEADS;
-use tx_text::{Sink, WriteFault};
+use tx_text::WriteFault;
 
 const START: &str = "<!doctype html>\n<html lang=\"en\"><head><meta charset=\"utf-8\"><meta \
 name=\"viewport\" content=\"width=device-width\"><title>";
 
 /// Writes the head of a page: the file's name, the verdict, and what was judged.
-pub fn write_heading<A: Allocator, W: Sink>(
+pub fn write_heading<A: Allocator, W: PageSink>(
     name: &[u8],
     digest: &[u8; 32],
     version: &'static str,
@@ -26,8 +25,9 @@ pub fn write_heading<A: Allocator, W: Sink>(
     safe: bool,
     sink: &mut W,
 ) -> Result<(), WriteFault>
-    ensures { Showed W.taken W.failed sink.old sink.new
-        (heading_texts name.now digest.now plan.now safe limits.limit limits.spare) result }
+    ensures { Showed W.seen sink.old sink.new
+        (heading_texts name.now digest.now version.now plan.now safe limits.limit limits.spare)
+        result }
 {
     write_start(name, safe, sink)?;
     write_verdict(safe, limits, sink)?;
@@ -37,15 +37,21 @@ pub fn write_heading<A: Allocator, W: Sink>(
     write_digest(digest, version, sink)
 }
 
-const NO_LINES: &str = "<p class=\"warn\">This plan has no line. So no call starts, and a YES says \
-nothing of its lists.</p>";
-
 /// Writes that a YES says nothing, if there is no line.
-fn write_warning<W: Sink>(lines: u64, sink: &mut W) -> Result<(), WriteFault>
-    ensures { Showed W.taken W.failed sink.old sink.new [] result }
+fn write_warning<W: PageSink>(lines: u64, sink: &mut W) -> Result<(), WriteFault>
+    ensures { Showed W.seen sink.old sink.new (warning_texts lines) result }
 {
-    let warning = if lines == 0 { NO_LINES } else { "" };
-    set(&[Part::Own(warning)], sink)
+    if lines > 0 {
+        return Ok(());
+    }
+    set(
+        &[
+            Part::Own("<p class=\"warn\">This plan has "),
+            Part::Text(b"no line"),
+            Part::Own(". So no call starts, and a YES says nothing of its lists.</p>"),
+        ],
+        sink,
+    )
 }
 
 /// The verdict in a word.
@@ -55,8 +61,8 @@ fn verdict_word(safe: bool) -> &'static [u8]
     if safe { b"YES" } else { b"NO" }
 }
 
-fn write_start<W: Sink>(name: &[u8], safe: bool, sink: &mut W) -> Result<(), WriteFault>
-    ensures { Showed W.taken W.failed sink.old sink.new (start_texts name.now safe) result }
+fn write_start<W: PageSink>(name: &[u8], safe: bool, sink: &mut W) -> Result<(), WriteFault>
+    ensures { Showed W.seen sink.old sink.new (start_texts name.now safe) result }
 {
     set(
         &[
@@ -76,8 +82,8 @@ fn write_start<W: Sink>(name: &[u8], safe: bool, sink: &mut W) -> Result<(), Wri
     )
 }
 
-fn write_verdict<W: Sink>(safe: bool, limits: Limits, sink: &mut W) -> Result<(), WriteFault>
-    ensures { Showed W.taken W.failed sink.old sink.new
+fn write_verdict<W: PageSink>(safe: bool, limits: Limits, sink: &mut W) -> Result<(), WriteFault>
+    ensures { Showed W.seen sink.old sink.new
         (verdict_texts safe limits.limit limits.spare) result }
 {
     set(
@@ -97,8 +103,8 @@ fn write_verdict<W: Sink>(safe: bool, limits: Limits, sink: &mut W) -> Result<()
 }
 
 /// Writes in a sentence what the verdict says.
-fn write_promise<W: Sink>(safe: bool, limits: Limits, sink: &mut W) -> Result<(), WriteFault>
-    ensures { Showed W.taken W.failed sink.old sink.new
+fn write_promise<W: PageSink>(safe: bool, limits: Limits, sink: &mut W) -> Result<(), WriteFault>
+    ensures { Showed W.seen sink.old sink.new
         (promise_texts safe limits.limit limits.spare) result }
 {
     if !safe {
@@ -125,8 +131,8 @@ fn write_promise<W: Sink>(safe: bool, limits: Limits, sink: &mut W) -> Result<()
 
 const NO_PROMISE: &str = "<p>With these lists calls can go wrong, in each of the ways below.</p>";
 
-fn write_counts<A: Allocator, W: Sink>(plan: &Plan<A>, sink: &mut W) -> Result<(), WriteFault>
-    ensures { Showed W.taken W.failed sink.old sink.new (count_texts plan.now) result }
+fn write_counts<A: Allocator, W: PageSink>(plan: &Plan<A>, sink: &mut W) -> Result<(), WriteFault>
+    ensures { Showed W.seen sink.old sink.new (count_texts plan.now) result }
 {
     set(
         &[
@@ -148,12 +154,12 @@ fn write_counts<A: Allocator, W: Sink>(plan: &Plan<A>, sink: &mut W) -> Result<(
     )
 }
 
-fn write_digest<W: Sink>(
+fn write_digest<W: PageSink>(
     digest: &[u8; 32],
     version: &'static str,
     sink: &mut W,
 ) -> Result<(), WriteFault>
-    ensures { Showed W.taken W.failed sink.old sink.new (encode_lower digest.now ∷ []) result }
+    ensures { Showed W.seen sink.old sink.new (digest_texts digest.now version.now) result }
 {
     let mut figures = [0u8; 64];
     if encode_to_slice(digest.as_slice(), figures.as_mut_slice()).is_err() {
@@ -164,7 +170,7 @@ fn write_digest<W: Sink>(
             Part::Own("<p class=\"m\">SHA-256 of the plan <code>"),
             Part::Text(&figures),
             Part::Own("</code><br>judged by telexplan "),
-            Part::Own(version),
+            Part::Text(version.as_bytes()),
             Part::Own("</p>"),
         ],
         sink,

@@ -2,24 +2,24 @@
 ghost use Rattle.std.specs.Prelude.{◌≡◌, [], ◌∷◌, decimal};
 ghost use Rattle.std.specs.List.{flat_map};
 ghost use Rattle.tx_html.specs.Shows.{Showed};
-ghost use Rattle.tx_page.specs.OutageTexts.{outage_name, cut_off, astray, cut_texts, outcome_texts, is_named, is_harmless, is_shown, shown_texts, tried_texts, outages_texts};
+ghost use Rattle.tx_page.specs.OutageTexts.{outage_kind, outage_name, cut_off, astray, cut_texts, outcome_texts, is_named, is_harmless, is_shown, shown_texts, tried_texts, outages_texts};
 
 use std::alloc::Allocator;
-use tx_html::{Part, set};
+use tx_html::{PageSink, Part, set};
 use tx_plan::Plan;
 use tx_risk::{Cut, Outage, Outcome, Risks};
-use tx_text::{Sink, WriteFault};
+use tx_text::WriteFault;
 
 /// Writes each named risk, and each group and each exchange that cuts somebody off, with those that
 /// it cuts off; or that the plan has no grade.
-pub fn write_outages<A: Allocator, W: Sink>(
+pub fn write_outages<A: Allocator, W: PageSink>(
     plan: &Plan<A>,
     risks: &Risks<A>,
     outcomes: &[Outcome<A>],
     graded: bool,
     sink: &mut W,
 ) -> Result<(), WriteFault>
-    ensures { Showed W.taken W.failed sink.old sink.new
+    ensures { Showed W.seen sink.old sink.new
         (outages_texts plan.now risks.now outcomes.now graded) result }
 {
     if graded {
@@ -30,13 +30,13 @@ pub fn write_outages<A: Allocator, W: Sink>(
 }
 
 /// Writes the outages of a plan that has a grade.
-fn write_graded<A: Allocator, W: Sink>(
+fn write_graded<A: Allocator, W: PageSink>(
     plan: &Plan<A>,
     risks: &Risks<A>,
     outcomes: &[Outcome<A>],
     sink: &mut W,
 ) -> Result<(), WriteFault>
-    ensures { Showed W.taken W.failed sink.old sink.new
+    ensures { Showed W.seen sink.old sink.new
         (tried_texts plan.now risks.now outcomes.now) result }
 {
     write_tried(outcomes.len(), sink)?;
@@ -46,8 +46,8 @@ fn write_graded<A: Allocator, W: Sink>(
 const UNGRADED: &str = "<h2>Outages</h2><p>The plan has no grade: it is safe for no limit and no \
 spare number. So no outage was tried.</p>";
 
-fn write_tried<W: Sink>(tried: usize, sink: &mut W) -> Result<(), WriteFault>
-    ensures { Showed W.taken W.failed sink.old sink.new (decimal tried ∷ []) result }
+fn write_tried<W: PageSink>(tried: usize, sink: &mut W) -> Result<(), WriteFault>
+    ensures { Showed W.seen sink.old sink.new (decimal tried ∷ []) result }
 {
     set(
         &[
@@ -63,13 +63,13 @@ fn write_tried<W: Sink>(tried: usize, sink: &mut W) -> Result<(), WriteFault>
 }
 
 /// Writes each outcome that is shown.
-fn write_outcomes<A: Allocator, W: Sink>(
+fn write_outcomes<A: Allocator, W: PageSink>(
     plan: &Plan<A>,
     risks: &Risks<A>,
     outcomes: &[Outcome<A>],
     sink: &mut W,
 ) -> Result<(), WriteFault>
-    ensures { Showed W.taken W.failed sink.old sink.new
+    ensures { Showed W.seen sink.old sink.new
         (flat_map (shown_texts plan.now risks.now) outcomes.now) result }
 {
     for i in 0..outcomes.len() {
@@ -114,11 +114,13 @@ fn is_shown<A: Allocator>(outcome: &Outcome<A>) -> bool
 }
 
 /// What kind of thing fails.
-fn kind_of(outage: &Outage) -> &'static str {
+fn kind_of(outage: &Outage) -> &'static [u8]
+    ensures { result.now ≡ outage_kind outage.now }
+{
     match outage {
-        Outage::Group(_) => "Group ",
-        Outage::Exchange(_) => "Exchange ",
-        Outage::Named(_) => "Risk ",
+        Outage::Group(_) => b"Group",
+        Outage::Exchange(_) => b"Exchange",
+        Outage::Named(_) => b"Risk",
     }
 }
 
@@ -134,13 +136,13 @@ fn name_of<'a, A: Allocator>(plan: &'a Plan<A>, risks: &'a Risks<A>, outage: &Ou
 }
 
 /// Writes an outcome, if it is shown.
-fn write_shown<'a, A: Allocator, W: Sink>(
+fn write_shown<'a, A: Allocator, W: PageSink>(
     plan: &'a Plan<A>,
     risks: &'a Risks<A>,
     outcome: &Outcome<A>,
     sink: &mut W,
 ) -> Result<(), WriteFault>
-    ensures { Showed W.taken W.failed sink.old sink.new
+    ensures { Showed W.seen sink.old sink.new
         (shown_texts plan.now risks.now outcome.now) result }
 {
     if is_shown(outcome) {
@@ -151,20 +153,20 @@ fn write_shown<'a, A: Allocator, W: Sink>(
 }
 
 /// Writes an outage with its cuts.
-fn write_outcome<'a, A: Allocator, W: Sink>(
+fn write_outcome<'a, A: Allocator, W: PageSink>(
     plan: &'a Plan<A>,
     risks: &'a Risks<A>,
     outcome: &Outcome<A>,
     sink: &mut W,
 ) -> Result<(), WriteFault>
-    ensures { Showed W.taken W.failed sink.old sink.new
+    ensures { Showed W.seen sink.old sink.new
         (outcome_texts plan.now risks.now outcome.now) result }
 {
     set(
         &[
             Part::Own("<details><summary>"),
-            Part::Own(kind_of(&outcome.outage)),
-            Part::Own("<b>"),
+            Part::Text(kind_of(&outcome.outage)),
+            Part::Own(" <b>"),
             Part::Text(name_of(plan, risks, &outcome.outage)),
             Part::Own("</b>: "),
             Part::Count(count_cut_off(&outcome.cuts) as u64),
@@ -179,12 +181,12 @@ fn write_outcome<'a, A: Allocator, W: Sink>(
 }
 
 /// Writes the cuts of an outage.
-fn write_cuts<A: Allocator, W: Sink>(
+fn write_cuts<A: Allocator, W: PageSink>(
     plan: &Plan<A>,
     cuts: &[Cut<A>],
     sink: &mut W,
 ) -> Result<(), WriteFault>
-    ensures { Showed W.taken W.failed sink.old sink.new
+    ensures { Showed W.seen sink.old sink.new
         (flat_map (cut_texts plan.now) cuts.now) result }
 {
     for i in 0..cuts.len() {
@@ -193,12 +195,12 @@ fn write_cuts<A: Allocator, W: Sink>(
     Ok(())
 }
 
-fn write_cut<A: Allocator, W: Sink>(
+fn write_cut<A: Allocator, W: PageSink>(
     plan: &Plan<A>,
     cut: &Cut<A>,
     sink: &mut W,
 ) -> Result<(), WriteFault>
-    ensures { Showed W.taken W.failed sink.old sink.new (cut_texts plan.now cut.now) result }
+    ensures { Showed W.seen sink.old sink.new (cut_texts plan.now cut.now) result }
 {
     set(
         &[
@@ -211,7 +213,7 @@ fn write_cut<A: Allocator, W: Sink>(
             Part::Own(" from "),
             Part::Text(plan.exchange_name(cut.walk.start)),
             Part::Own(" "),
-            Part::Text(if cut.stray { b"astray" } else { b"" }),
+            Part::Text(if cut.stray { b"astray" } else { b"cut off" }),
             Part::Own("</li>"),
         ],
         sink,

@@ -10,13 +10,13 @@ use crate::network::write_network;
 use crate::outages::write_outages;
 use crate::subject::Subject;
 use std::alloc::Allocator;
-use tx_html::{Part, set};
+use tx_html::{PageSink, Part, set};
 use tx_order::Switching;
 use tx_order_page::write_order;
 use tx_plan::Plan;
 use tx_rank::{Finding, Ranking};
 use tx_svg::write_pictures;
-use tx_text::{Sink, WriteFault};
+use tx_text::WriteFault;
 
 /// Whether a certificate was found.
 pub fn is_safe<A: Allocator>(ranking: &Ranking<A>) -> bool
@@ -37,12 +37,12 @@ fn findings_in<A: Allocator>(ranking: &Ranking<A>) -> &[Finding<A>] {
 }
 
 /// Writes the order of switching to a plan, if there is one.
-fn write_change<A: Allocator, W: Sink>(
+fn write_change<A: Allocator, W: PageSink>(
     plan: &Plan<A>,
     switching: Option<&Switching<A>>,
     sink: &mut W,
 ) -> Result<(), WriteFault>
-    ensures { Showed W.taken W.failed sink.old sink.new
+    ensures { Showed W.seen sink.old sink.new
         (change_texts plan.now switching.entry) result }
 {
     match switching {
@@ -52,11 +52,11 @@ fn write_change<A: Allocator, W: Sink>(
 }
 
 /// Writes a page about a plan and what was found of it.
-pub fn write_page<A: Allocator, W: Sink>(
+pub fn write_page<A: Allocator, W: PageSink>(
     subject: &Subject<'_, A>,
     sink: &mut W,
 ) -> Result<(), WriteFault>
-    ensures { Showed W.taken W.failed sink.old sink.new (page_texts subject.now) result }
+    ensures { Showed W.seen sink.old sink.new (page_texts subject.now) result }
 {
     let plan = subject.plan;
     let limits = subject.limits;

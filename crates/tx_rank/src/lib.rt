@@ -21,6 +21,7 @@
 
 mod back_links;
 mod bounds;
+mod certifiable;
 mod code_bounds;
 mod code_ranking;
 mod code_routes;
@@ -43,6 +44,7 @@ mod walk;
 mod written;
 
 pub use bounds::Bounds;
+pub use certifiable::can_be_certified;
 pub use code_ranking::rank_code;
 pub use code_routes::origins_of;
 pub use finding::Finding;

@@ -33,9 +33,12 @@ fn is_short<N: CodeNet>(net: &N, marks: &[Mark], exchange: ExchangeId, spare: u8
 }
 
 /// Whether there is such an exchange.
-fn has_short<N: CodeNet>(net: &N, marks: &[Mark], spare: u8) -> bool
+pub fn has_short<N: CodeNet>(net: &N, marks: &[Mark], spare: u8) -> bool
     requires { length marks.now ≡ (N.net net.now).exchanges }
-    ensures { result ≡ false → (x : ℕ) → IsShortAt (N.net net.now) (rank_in marks.now) spare x → ⊥ }
+    ensures yes { result ≡ true
+        → (x : ℕ) × IsShortAt (N.net net.now) (rank_in marks.now) spare x }
+    ensures not_so { result ≡ false
+        → (x : ℕ) → IsShortAt (N.net net.now) (rank_in marks.now) spare x → ⊥ }
 {
     for index in 0..net.exchanges() {
         if is_short(net, marks, net.exchange(index), spare) {

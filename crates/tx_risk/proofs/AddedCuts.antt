@@ -1,9 +1,8 @@
 -- The cuts of one code, one exchange after another.
-use Rattle.std.proofs.Common.{◌≡◌, ◌↔◌, ℕ, ◌+◌, ◌<◌, true, List, [], ◌∷◌, ◌++◌, map, inl, inr, length, Option, Some, None, refl, sym, ap, subst, ◌∙◌, arith, append_assoc, append-nil}
-use Rattle.std.proofs.lemmas.Bool.{false≢true, cases_eq, and_parts}
+use Rattle.std.proofs.Common.{◌≡◌, ◌↔◌, ℕ, ◌+◌, ◌<◌, true, List, [], ◌∷◌, ◌++◌, map, inl, inr, length, Some, None, refl, sym, ap, subst, ◌∙◌, arith, append_assoc, append-nil}
+use Rattle.std.proofs.lemmas.Bool.{cases_eq, and_parts}
 use Rattle.std.proofs.lemmas.Option.{none-some, same_Some}
 use Rattle.std.proofs.lemmas.List.{map-append}
-use Rattle.std.specs.Prelude.{is_some}
 use Rattle.tx_plan.specs.Plan.{Plan}
 use Rattle.tx_plan.specs.Rules.{IsPlan, EachPair}
 use Rattle.tx_plan.specs.Routes.{is_origin_for}
@@ -16,14 +15,14 @@ use Rattle.tx_rank.specs.Heights.{IsReached}
 use Rattle.tx_rank.proofs.Ways.{among_all}
 use Rattle.tx_rank.proofs.Ranks.{once_down}
 use Rattle.tx_rank.proofs.Certifying.{certifies_code}
-use Rattle.tx_risk.specs.declared.nearest.Goal.TheVariants.{DeadEnd, Home}
+use Rattle.tx_risk.specs.declared.nearest.Ways.{Ways}
 use Rattle.tx_risk.specs.declared.cut.Cut.{Cut}
 use Rattle.tx_risk.specs.declared.outage.Outage.{Outage}
 use Rattle.tx_risk.specs.Risks.{Risk, net_without, IsCut, LeadsHome}
 use Rattle.tx_risk.specs.Outages.{is_asked, IsCutAs, start_at}
 use Rattle.tx_risk.specs.Survivals.{HasGrade}
 use Rattle.tx_risk.specs.inner.Left.{Left, left_net}
-use Rattle.tx_risk.specs.inner.Nearest.{IsDistance}
+use Rattle.tx_risk.specs.inner.Nearest.{AreWaysFrom}
 use Rattle.tx_risk.specs.inner.Cutting.{Adds, AreCuts, AreCutsBefore}
 use Rattle.tx_risk.proofs.Ordering.{goes_left}
 
@@ -126,37 +125,26 @@ module _ {A : Type 0} (l : Left) (o : Outage) where
         };
       }
 
--- without a dead end there is no cut
-pub none_cut : (n : Net) (x : ℕ) (o : Option ℕ) (steps : List (ℕ × ℕ)) → IsDistance n DeadEnd x o
-    → o ≡ None → IsCut n x steps → ⊥
-none_cut n x o steps h e c =
-    let m = h.least steps c.dead.goes (c.dead.away, c.dead.none) in none-some _ (sym e ∙ m.1)
+-- without a way to a dead end there is no cut
+pub none_cut : (n : Net) (x : ℕ) (w : Ways) (steps : List (ℕ × ℕ)) → AreWaysFrom n x w
+    → w.dead_end ≡ None → IsCut n x steps → ⊥
+none_cut n x w steps h e c = none-some _ (sym e ∙ (h.distance.least steps c.dead).1)
 
 -- a cut by a shortest way to a dead end
-pub cut_as : {A : Type 0} (n : Net) (c : Cut A) (code x : ℕ) (home : Option ℕ)
+pub cut_as : {A : Type 0} (n : Net) (c : Cut A) (code x : ℕ) (w : Ways) → AreWaysFrom n x w
     → c.code ≡ code → c.walk.start ≡ x → IsCut n x c.walk.steps
-    → IsDistance n DeadEnd x (Some (length c.walk.steps)) → IsDistance n Home x home
-    → c.stray ≡ is_some home → IsCutAs n code c
-cut_as n c code x home of start cut dead leads stray = record {
+    → w.dead_end ≡ Some (length c.walk.steps) → c.stray ≡ w.home → IsCutAs n code c
+cut_as n c code x w h of start cut dead stray = record {
   of_code = of;
   cut = subst (λ y. IsCut n y c.walk.steps) (sym start) cut;
   shortest = λ steps k.
-      let d = (subst (λ y. IsCut n y steps) start k).dead in
-      let m = dead.least steps d.goes (d.away, d.none) in
-      let same = same_Some _ _ m.1 in
+      let m = h.distance.least steps (subst (λ y. IsCut n y steps) start k).dead in
+      let same = same_Some _ _ (sym dead ∙ m.1) in
       let few = m.2 in
       omega arith;
   stray = subst (λ y. (c.stray ≡ true) ↔ LeadsHome n y) (sym start)
-      (λ t. back home leads (sym stray ∙ t), λ h. stray ∙ there home leads h);
+      (λ t. h.home.0 (sym stray ∙ t), λ k. stray ∙ h.home.1 k);
 }
-  where
-    back : (o : Option ℕ) → IsDistance n Home x o → is_some o ≡ true → LeadsHome n x
-    back None k t = absurd (false≢true t)
-    back (Some d) k t =
-        let w = k.way d refl in record { steps = w.steps; goes = w.goes; home = w.ends }
-
-    there : (o : Option ℕ) → IsDistance n Home x o → LeadsHome n x → is_some o ≡ true
-    there o k h = let m = k.least h.steps h.goes h.home in ap is_some m.1
 
 -- where a plan has a grade no walk passes an exchange twice
 pub graded_once : (p : Plan) (risk : Risk) (code x : ℕ) (steps : List (ℕ × ℕ)) → HasGrade p

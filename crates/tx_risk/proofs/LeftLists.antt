@@ -1,10 +1,16 @@
 -- What is left of a list.
-use Rattle.std.proofs.Common.{◌≡◌, ℕ, suc, true, false, not, ◌&&◌, cond, List, [], ◌∷◌, inl, inr, Some, refl, sym, ap, ◌∙◌, subst}
-use Rattle.std.specs.Prelude.{slice_get}
+use Rattle.std.proofs.Common.{◌≡◌, ◌≢◌, ℕ, suc, ◌<◌, Bool, true, false, not, ◌&&◌, ◌==◌, cond, List, [], ◌∷◌, inl, inr, length, Option, Some, None, refl, sym, ap, ◌∙◌, subst, eqb-true}
+use Rattle.std.specs.Prelude.{slice_get, find}
+use Rattle.std.specs.Option.{option_map_or}
 use Rattle.std.specs.List.{list_all}
 use Rattle.std.proofs.lemmas.Bool.{and_parts}
+use Rattle.tx_plan.specs.Plan.{Plan, Route, home_of}
+use Rattle.tx_plan.specs.Rules.{IsPlan, IsRoute}
+use Rattle.tx_plan.specs.Routes.{route_list}
 use Rattle.tx_plan.specs.Among.{Among}
 use Rattle.tx_plan.proofs.Among.{among_filter}
+use Rattle.tx_machine.proofs.Lists.{find_mem}
+use Rattle.tx_machine.proofs.Steps.{all_mem}
 use Rattle.tx_risk.specs.Risks.{Risk, left_of}
 
 -- the index of what is in a list
@@ -37,3 +43,23 @@ none_left risk (g ∷ gs) e =
     let t = left_goes risk (g ∷ gs) g e (inl refl) in
     ap (λ b. b && list_all risk gs) t
     ∙ none_left risk gs (sym (ap (λ b. cond (not b) (g ∷ left_of risk gs) (left_of risk gs)) t) ∙ e)
+
+-- an exchange with a list is one of the plan, and not the home
+pub listed_away : (p : Plan) → IsPlan p → (c x g : ℕ) → Among g (route_list p x c)
+    → (x < length p.exchanges) × (x ≢ home_of p c)
+listed_away p ok c x g m = at (find here p.routes) refl m
+  where
+    here : Route → Bool
+    here r = (r.exchange == x) && (r.code == c)
+
+    at : (o : Option Route) → find here p.routes ≡ o → Among g (option_map_or (λ (r : Route). r.groups) o [])
+        → (x < length p.exchanges) × (x ≢ home_of p c)
+    at None e m = absurd m
+    at (Some r) e m =
+        let f = find_mem here p.routes r e in
+        let k = and_parts (r.exchange == x) (r.code == c) f.1 in
+        let same = eqb-true r.exchange x k.0 in
+        let route = all_mem (IsRoute p) p.routes r ok.routes f.0 in (
+          subst (λ y. y < length p.exchanges) same route.exchange,
+          λ home. route.away (ap (home_of p) (eqb-true r.code c k.1) ∙ sym home ∙ sym same),
+        )

@@ -1,21 +1,23 @@
--- How far an exchange is from a goal, by the distances of those to which its list leads.
-use Rattle.std.proofs.Common.{◌≡◌, ◌≢◌, ℕ, ◌+◌, ◌^◌, ◌<◌, ◌≤◌, true, false, nat_lt, List, [], ◌∷◌, ◌⊎◌, map, fold, inl, inr, length, take, Option, Some, None, refl, sym, ap, ◌∙◌, subst, arith}
-use Rattle.std.specs.Prelude.{slice_get, if◌then◌else◌}
-use Rattle.std.specs.Option.{option_and_then, option_map}
-use Rattle.std.proofs.lemmas.Bool.{cases_eq, ltb-true}
+-- Where the ways from an exchange lead, by those of the exchanges to which its list leads.
+use Rattle.std.proofs.Common.{◌≡◌, ◌≢◌, ◌↔◌, ℕ, Bool, zero, suc, ◌+◌, ◌<◌, ◌≤◌, true, false, nat_lt, List, [], ◌∷◌, ◌++◌, ◌⊎◌, map, fold, inl, inr, length, get_or, take, Option, Some, None, refl, sym, ap, ◌∙◌, subst, arith}
+use Rattle.std.specs.Prelude.{slice_get, replicate, if◌then◌else◌}
+use Rattle.std.specs.Option.{option_and_then, option_map, option_map_or}
+use Rattle.std.proofs.lemmas.Bool.{cases_eq, ltb-true, ltb-false, false≢true}
+use Rattle.std.proofs.lemmas.List.{get_or-set_same, get_or-set_other, length-set, length-replicate}
 use Rattle.std.proofs.lemmas.Option.{none-some, same_Some}
 use Rattle.std.proofs.Math.ListN.{set}
-use borrow.Author.Tests.{ltb-false}
 use Rattle.tx_plan.specs.Among.{Among}
-use Rattle.tx_plan.proofs.Among.{among_cases, among_map, map_among}
+use Rattle.tx_plan.proofs.Among.{among_left, among_right, among_cases, among_map, map_among}
+use Rattle.tx_machine.proofs.Lists.{any_mem, mem_any}
 use Rattle.tx_rank.specs.Walks.{Net, Goes, end_of}
-use Rattle.tx_rank.proofs.Looks.{take_next}
-use Rattle.tx_trie.proofs.Stepping.{set_same, set_other}
-use Rattle.tx_risk.specs.declared.nearest.Goal.{Goal}
+use Rattle.tx_rank.proofs.Looks.{among_at, take_next}
+use Rattle.tx_risk.specs.declared.nearest.Ways.{Ways}
 use Rattle.tx_risk.specs.declared.nearest.Step.{Step}
+use Rattle.tx_risk.specs.Risks.{IsDeadEnd, LeadsHome}
 use Rattle.tx_risk.specs.inner.Orders.{IsOrder}
-use Rattle.tx_risk.specs.inner.Nearest.{IsGoal, IsWayTo, IsDistance, AreKept, IsKnownFrom, distance_in, nearer, nearest_step, step_by}
-use Rattle.tx_risk.proofs.Ordering.{way_few}
+use Rattle.tx_risk.specs.inner.Nearest.{AreDeadEnds, LeadsToDeadEnd, IsDistance, AreWaysFrom, AreDeadEndsKept, home_alone, dead_end_alone, ways_in, distance_in, nearer, nearest_step, step_by, leads_home, has_way_home}
+use Rattle.tx_risk.proofs.Ways.{is_among}
+use Rattle.tx_risk.proofs.Ordering.{way_few, among_first, uncut_home}
 
 -- THE NEAREST STEP
 
@@ -77,120 +79,301 @@ fold_nearest (p ∷ os) o =
     }
 
 -- what is known of a step
-pub record IsStep (n : Net) (ds : List (Option ℕ)) (x : ℕ) (s : Step) : Type 0 where
+pub record IsStep (n : Net) (kept : List Ways) (x : ℕ) (s : Step) : Type 0 where
   pub listed : Among s.group (n.list x)
   pub leads : n.far s.group x ≡ Some s.to
-  pub at : distance_in ds s.to ≡ Some s.distance
+  pub at : distance_in kept s.to ≡ Some s.distance
 
-module _ (n : Net) (ds : List (Option ℕ)) (x : ℕ) where
-  step_of : (g : ℕ) (s : Step) → Among g (n.list x) → step_by n ds x g ≡ Some s → IsStep n ds x s
+module _ (n : Net) (kept : List Ways) (x : ℕ) where
+  step_of : (g : ℕ) (s : Step) → Among g (n.list x) → step_by n kept x g ≡ Some s → IsStep n kept x s
   step_of g s m e = at (n.far g x) refl e
     where
-      on : (y : ℕ) → n.far g x ≡ Some y → (o : Option ℕ) → distance_in ds y ≡ o
+      on : (y : ℕ) → n.far g x ≡ Some y → (o : Option ℕ) → distance_in kept y ≡ o
           → option_map (λ d. record { group = g; to = y; distance = d }) o ≡ Some s
-          → IsStep n ds x s
+          → IsStep n kept x s
       on y f None q e = absurd (none-some _ e)
       on y f (Some d) q e =
-          subst (IsStep n ds x) (same_Some _ _ e) (record { listed = m; leads = f; at = q })
+          subst (IsStep n kept x) (same_Some _ _ e) (record { listed = m; leads = f; at = q })
 
       at : (o : Option ℕ) → n.far g x ≡ o
           → option_and_then (λ y. option_map (λ d. record { group = g; to = y; distance = d })
-          (distance_in ds y)) o ≡ Some s → IsStep n ds x s
+          (distance_in kept y)) o ≡ Some s → IsStep n kept x s
       at None f e = absurd (none-some _ e)
-      at (Some y) f e = on y f (distance_in ds y) refl e
+      at (Some y) f e = on y f (distance_in kept y) refl e
 
-  nearest : IsNearestOf (None ∷ map (step_by n ds x) (n.list x)) (nearest_step n ds x)
-  nearest = fold_nearest (map (step_by n ds x) (n.list x)) None
+  nearest : IsNearestOf (None ∷ map (step_by n kept x) (n.list x)) (nearest_step n kept x)
+  nearest = fold_nearest (map (step_by n kept x) (n.list x)) None
 
   -- the nearest step is one
-  pub nearest_is : (s : Step) → nearest_step n ds x ≡ Some s → IsStep n ds x s
+  pub nearest_is : (s : Step) → nearest_step n kept x ≡ Some s → IsStep n kept x s
   nearest_is s e = elim (nearest.one s e) [
     | inl q ↦ absurd (none-some _ q)
     | inr m ↦
-        let r = map_among (step_by n ds x) (Some s) (n.list x) m in step_of r.0 s r.1 r.2
+        let r = map_among (step_by n kept x) (Some s) (n.list x) m in step_of r.0 s r.1 r.2
   ]
 
-  module _ (goal : Goal) (known : (g y : ℕ) → Among g (n.list x) → n.far g x ≡ Some y
-      → IsDistance n goal y (distance_in ds y)) where
-    -- and no way is shorter than by it
-    pub nearest_least : (t : ℕ × ℕ) (rest : List (ℕ × ℕ)) → Goes n x (t ∷ rest)
-        → IsGoal n goal (end_of t.1 rest)
-        → (s : Step) × (nearest_step n ds x ≡ Some s) × (s.distance ≤ length rest)
-    nearest_least t rest go end =
-        let k = (known t.0 t.1 go.1 go.2).least rest go.3 end in
+  module _ (known : (g y : ℕ) → Among g (n.list x) → n.far g x ≡ Some y
+      → AreWaysFrom n y (ways_in kept y)) where
+    -- and no way to a dead end is shorter than by it
+    pub nearest_least : (t : ℕ × ℕ) (rest : List (ℕ × ℕ)) → IsDeadEnd n x (t ∷ rest)
+        → (s : Step) × (nearest_step n kept x ≡ Some s) × (s.distance ≤ length rest)
+    nearest_least t rest d =
+        let go = d.goes in
+        let k = (known t.0 t.1 go.1 go.2).distance.least rest
+        (record { goes = go.3; away = d.away; none = d.none }) in
         let s : Step = record { group = t.0; to = t.1; distance = k.0 } in
-        let is : step_by n ds x t.0 ≡ Some s = let f = go.2 in let q = k.1 in rw (f, q) refl in
-        let m = subst (λ o. Among o (map (step_by n ds x) (n.list x))) is
-        (among_map (step_by n ds x) t.0 (n.list x) go.1) in
+        let is : step_by n kept x t.0 ≡ Some s = let f = go.2 in let q = k.1 in rw (f, q) refl in
+        let m = subst (λ o. Among o (map (step_by n kept x) (n.list x))) is
+        (among_map (step_by n kept x) t.0 (n.list x) go.1) in
         let r = nearest.least s (inr m) in
         (r.0, r.1, let a = r.2 in let b = k.2 in omega arith)
 
-    pub step_way : x ≢ n.home → (s : Step) → IsStep n ds x s → IsWayTo n goal x (s.distance + 1)
+    pub step_way : x ≢ n.home → (s : Step) → IsStep n kept x s
+        → (steps : List (ℕ × ℕ)) × IsDeadEnd n x steps × (length steps ≡ s.distance + 1)
     step_way away s h =
-        let w = (known s.group s.to h.listed h.leads).way s.distance h.at in
-        record {
-          steps = (s.group, s.to) ∷ w.steps;
-          goes = (away, h.listed, h.leads, w.goes);
-          ends = w.ends;
-          count = let c = w.count in omega arith;
-        }
+        let w = (known s.group s.to h.listed h.leads).distance.way s.distance h.at in
+        let d = w.1 in (
+          (s.group, s.to) ∷ w.0,
+          record {
+            goes = (away, h.listed, h.leads, d.goes);
+            away = d.away;
+            none = d.none;
+          },
+          let c = w.2 in omega arith,
+        )
 
-    pub measured : x ≢ n.home → (IsGoal n goal x → ⊥) → (o : Option Step)
-        → nearest_step n ds x ≡ o → IsDistance n goal x (option_map (λ s. s.distance + 1) o)
-    measured away off o is = record { way = way o is; least = few }
+    -- one step more than from there
+    pub measured : x ≢ n.home → (s : Step) → nearest_step n kept x ≡ Some s
+        → IsDistance n x (Some (s.distance + 1))
+    measured away s is = record { way = way; least = few }
       where
-        way : (o : Option Step) → nearest_step n ds x ≡ o → (d : ℕ)
-            → option_map (λ s. s.distance + 1) o ≡ Some d → IsWayTo n goal x d
-        way None q d e = absurd (none-some _ e)
-        way (Some s) q d e =
-            subst (IsWayTo n goal x) (same_Some _ _ e) (step_way away s (nearest_is s q))
+        way : (d : ℕ) → Some (s.distance + 1) ≡ Some d
+            → (steps : List (ℕ × ℕ)) × IsDeadEnd n x steps × (length steps ≡ d)
+        way d e =
+            let w = step_way away s (nearest_is s is) in
+            (w.0, w.1, w.2 ∙ same_Some _ _ e)
 
-        few : (steps : List (ℕ × ℕ)) → Goes n x steps → IsGoal n goal (end_of x steps)
-            → (d : ℕ) × (option_map (λ s. s.distance + 1) o ≡ Some d) × (d ≤ length steps)
-        few [] go end = absurd (off end)
-        few (t ∷ rest) go end =
-            let r = nearest_least t rest go end in (
-              r.0.distance + 1,
-              ap (option_map (λ s. s.distance + 1)) (sym is ∙ r.1),
-              let l = r.2 in omega arith,
-            )
+        few : (steps : List (ℕ × ℕ)) → IsDeadEnd n x steps
+            → (d : ℕ) × (Some (s.distance + 1) ≡ Some d) × (d ≤ length steps)
+        few [] d = absurd (subst (Among s.group) d.none (nearest_is s is).listed)
+        few (t ∷ rest) d =
+            let r = nearest_least t rest d in
+            let same = ap (λ (s : Step). s.distance) (same_Some _ _ (sym is ∙ r.1)) in
+            (s.distance + 1, refl, let l = r.2 in omega arith)
 
-module _ (n : Net) (goal : Goal) (x : ℕ) where
-  -- no way leads on from the home
-  pub measured_home : x ≡ n.home → (IsGoal n goal x → ⊥) → IsDistance n goal x None
-  measured_home here off = record { way = λ d e. absurd (none-some _ e); least = no_way }
+    -- a way leads home exactly where one does from an exchange to which a group leads
+    pub led_home : x ≢ n.home → has_way_home n kept x ≡ true ↔ LeadsHome n x
+    led_home away = (there, back)
+      where
+        by : (g : ℕ) → Among g (n.list x) → (o : Option ℕ) → n.far g x ≡ o
+            → option_map_or (λ y. (ways_in kept y).home) o false ≡ true → LeadsHome n x
+        by g m None f t = absurd (false≢true t)
+        by g m (Some y) f t =
+            let h = (known g y m f).home.0 t in
+            record { steps = (g, y) ∷ h.steps; goes = (away, m, f, h.goes); home = h.home }
+
+        there : has_way_home n kept x ≡ true → LeadsHome n x
+        there t =
+            let g = any_mem (leads_home n kept x) (n.list x) t in
+            by g.0 g.1 (n.far g.0 x) refl g.2
+
+        on : (steps : List (ℕ × ℕ)) → Goes n x steps → end_of x steps ≡ n.home
+            → has_way_home n kept x ≡ true
+        on [] go home = absurd (away home)
+        on (t ∷ rest) go home =
+            let k = (known t.0 t.1 go.1 go.2).home.1
+            (record { steps = rest; goes = go.3; home = home }) in
+            mem_any (leads_home n kept x) (n.list x) t.0 go.1
+            (let f = go.2 in rw f k)
+
+        back : LeadsHome n x → has_way_home n kept x ≡ true
+        back h = on h.steps h.goes h.home
+
+-- THE WAYS FROM ALL EXCHANGES
+
+-- the marks of the dead ends alone
+pub marks_first : (n : Net) (kept : List Ways) → kept ≡ replicate n.exchanges home_alone
+    → AreDeadEndsKept n [] kept
+marks_first n kept e = record {
+  long = ap length e ∙ length-replicate n.exchanges home_alone;
+  dead = λ x m. absurd m;
+  other = λ x m. ap (λ k. ways_in k x) e ∙ none n.exchanges x;
+}
+  where
+    none : (k x : ℕ) → get_or (replicate k home_alone) x home_alone ≡ home_alone
+    none zero x = refl
+    none (suc k) zero = refl
+    none (suc k) (suc x) = none k x
+
+pub marks_next : (n : Net) (ends : List ℕ) (kept : List Ways) (x : ℕ) → x < n.exchanges
+    → AreDeadEndsKept n ends kept
+    → AreDeadEndsKept n (ends ++ x ∷ []) (set kept x dead_end_alone)
+marks_next n ends kept x within k = record {
+  long = length-set kept x dead_end_alone ∙ k.long;
+  dead = λ y m. elim (cases_eq y x) [
+    | inl q ↦ ap (ways_in (set kept x dead_end_alone)) q ∙ here
+    | inr ne ↦ other y ne ∙ k.dead y (elim (among_cases y ends (x ∷ []) m) [
+      | inl a ↦ a
+      | inr l ↦ elim l [ inl e ↦ absurd (ne (sym e)) | inr z ↦ absurd z ]
+    ])
+  ];
+  other = λ y apart. elim (cases_eq y x) [
+    | inl q ↦ absurd (apart (among_right y ends (x ∷ []) (inl (sym q))))
+    | inr ne ↦ other y ne ∙ k.other y (λ m. apart (among_left y ends (x ∷ []) m))
+  ];
+}
+  where
+    here : ways_in (set kept x dead_end_alone) x ≡ dead_end_alone
+    here = get_or-set_same kept x dead_end_alone home_alone (let l = k.long in omega arith)
+
+    other : (y : ℕ) → y ≢ x → ways_in (set kept x dead_end_alone) y ≡ ways_in kept y
+    other y ne = get_or-set_other kept x y dead_end_alone home_alone ne
+
+-- the ways that are kept: of the dead ends, of the first exchanges of the order, and of each that
+-- leads to no dead end
+pub record AreKept (n : Net) (order ends : List ℕ) (i : ℕ) (kept : List Ways) : Type 0 where
+  pub long : length kept ≡ n.exchanges
+  pub dead : (x : ℕ) → Among x ends → AreWaysFrom n x (ways_in kept x)
+  pub first : (x : ℕ) → Among x (take i order) → AreWaysFrom n x (ways_in kept x)
+  pub uncut : (x : ℕ) → Among x order → (LeadsToDeadEnd n x → ⊥) → AreWaysFrom n x (ways_in kept x)
+
+module _ (n : Net) (order ends : List ℕ) (o : IsOrder n order) (dead : AreDeadEnds n order ends) where
+  ways_none : (x : ℕ) → Among x ends → AreWaysFrom n x dead_end_alone
+  ways_none x m =
+      let d = dead.dead x m in
+      record {
+        distance = record {
+          way = λ k e. ([], record { goes = tt; away = d.1; none = d.2 }, same_Some _ _ e);
+          least = λ steps w. (0, refl, omega arith);
+        };
+        home = (λ t. absurd (false≢true t), λ h. absurd (on h.steps h.goes h.home d.1 d.2));
+      }
     where
-      no_way : (steps : List (ℕ × ℕ)) → Goes n x steps → IsGoal n goal (end_of x steps)
-          → (d : ℕ) × (None ≡ Some d) × (d ≤ length steps)
-      no_way [] go end = absurd (off end)
-      no_way (t ∷ rest) go end = absurd (go.0 here)
+      on : (steps : List (ℕ × ℕ)) → Goes n x steps → end_of x steps ≡ n.home → x ≢ n.home
+          → n.list x ≡ [] → ⊥
+      on [] go home away none = away home
+      on (t ∷ rest) go home away none = subst (Among t.0) none go.1
 
--- what is measured in an order
-module _ (n : Net) (goal : Goal) (ds : List (Option ℕ)) (order : List ℕ) (i x : ℕ)
-    (at : slice_get order i ≡ Some x) (kept : AreKept n goal ds (take i order)) where
-  -- a distance that is kept of one before has fewer steps than exchanges come before
-  pub known_from : i < 2 ^ 64 → IsOrder n order → IsKnownFrom n goal ds x
-  known_from few o away g y m leads =
-      let before = o.back i x at away g y m leads in (
-        kept y before,
-        λ d e.
-            let w = (kept y before).way d e in
-            let f = way_few n order o i y w.steps before w.goes in
-            let c = w.count in
-            omega arith,
-      )
+  module _ (leads : (x g : ℕ) → Among g (n.list x) → (y : ℕ) × (n.far g x ≡ Some y)) where
+    ways_home : (x : ℕ) → Among x order → (LeadsToDeadEnd n x → ⊥) → AreWaysFrom n x home_alone
+    ways_home x m uncut = record {
+      distance = record {
+        way = λ k e. absurd (none-some _ e);
+        least = λ steps d. absurd (uncut (steps, d));
+      };
+      home = (λ t. uncut_home n leads order o x m uncut, λ h. refl);
+    }
 
-  pub kept_next : (d : Option ℕ) → x < length ds → IsDistance n goal x d
-      → AreKept n goal (set ds x d) (take (i + 1) order)
-  kept_next d within is y m = elim (cases_eq y x) [
-    | inl q ↦ subst (λ z. IsDistance n goal z (distance_in (set ds x d) z)) (sym q)
-        (subst (IsDistance n goal x) (sym (ap (option_and_then (λ o. o)) (set_same ds x d within)))
-        is)
-    | inr ne ↦ subst (IsDistance n goal y)
-        (sym (ap (option_and_then (λ o. o)) (set_other ds x y d ne)))
-        (kept y (elim (among_cases y (take i order) (x ∷ [])
-        (subst (Among y) (take_next order i x at) m)) [
-          | inl k ↦ k
-          | inr k ↦ elim k [ inl e ↦ absurd (ne (sym e)) | inr z ↦ absurd z ]
-        ]))
-  ]
+    -- from the marks of the dead ends
+    pub kept_first : (kept : List Ways) (from : ℕ) → AreDeadEndsKept n ends kept
+        → ((x : ℕ) → Among x (take from order) → LeadsToDeadEnd n x → Among x ends)
+        → AreKept n order ends from kept
+    kept_first kept from k before = record {
+      long = k.long;
+      dead = at_end;
+      first = λ x m. elim (is_among x ends) [
+        | inl a ↦ at_end x a
+        | inr apart ↦
+            let i = among_first order from x m in
+            free x (among_at order i.0 x i.1) (λ d. apart (before x m d))
+      ];
+      uncut = free;
+    }
+      where
+        at_end : (x : ℕ) → Among x ends → AreWaysFrom n x (ways_in kept x)
+        at_end x m = subst (AreWaysFrom n x) (sym (k.dead x m)) (ways_none x m)
+
+        free : (x : ℕ) → Among x order → (LeadsToDeadEnd n x → ⊥) → AreWaysFrom n x (ways_in kept x)
+        free x m uncut = subst (AreWaysFrom n x) (sym (k.other x (λ a.
+            let d = dead.dead x a in
+            uncut ([], record { goes = tt; away = d.1; none = d.2 }))))
+            (ways_home x m uncut)
+
+  module _ (kept : List Ways) (i x : ℕ) (at : slice_get order i ≡ Some x)
+      (k : AreKept n order ends i kept) where
+    -- the exchanges to which a list leads were looked at before
+    pub known : x ≢ n.home → (g y : ℕ) → Among g (n.list x) → n.far g x ≡ Some y
+        → AreWaysFrom n y (ways_in kept y)
+    known away g y m leads = k.first y (o.back i x at away g y m leads)
+
+    -- and are nearer than exchanges come before
+    pub few_steps : x ≢ n.home → (s : Step) → nearest_step n kept x ≡ Some s → s.distance < i
+    few_steps away s is =
+        let h = nearest_is n kept x s is in
+        let before = o.back i x at away s.group s.to h.listed h.leads in
+        let w = (k.first s.to before).distance.way s.distance h.at in
+        let d = w.1 in
+        let f = way_few n order o i s.to w.0 before d.goes in
+        let c = w.2 in
+        omega arith
+
+    -- one more
+    pub kept_next : (w : Ways) → AreWaysFrom n x w → AreKept n order ends (i + 1) (set kept x w)
+    kept_next w is = record {
+      long = length-set kept x w ∙ k.long;
+      dead = λ y m. one y (λ ne. k.dead y m);
+      first = λ y m. one y (λ ne. k.first y (elim (among_cases y (take i order) (x ∷ [])
+          (subst (Among y) (take_next order i x at) m)) [
+            | inl a ↦ a
+            | inr l ↦ elim l [ inl e ↦ absurd (ne (sym e)) | inr z ↦ absurd z ]
+          ]));
+      uncut = λ y m u. one y (λ ne. k.uncut y m u);
+    }
+      where
+        within : x < length kept
+        within = let l = k.long in let h = o.within x (among_at order i x at) in omega arith
+
+        one : (y : ℕ) → (y ≢ x → AreWaysFrom n y (ways_in kept y))
+            → AreWaysFrom n y (ways_in (set kept x w) y)
+        one y old = elim (cases_eq y x) [
+          | inl q ↦ subst (λ z. AreWaysFrom n z (ways_in (set kept x w) z)) (sym q)
+              (subst (AreWaysFrom n x) (sym (get_or-set_same kept x w home_alone within)) is)
+          | inr ne ↦ subst (AreWaysFrom n y)
+              (sym (get_or-set_other kept x y w home_alone ne)) (old ne)
+        ]
+
+    -- with the nearest step to a dead end
+    pub kept_step : x ≢ n.home → (s : Step) → nearest_step n kept x ≡ Some s → (home : Bool)
+        → home ≡ has_way_home n kept x
+        → AreKept n order ends (i + 1) (set kept x (record {
+          dead_end = Some (s.distance + 1);
+          home = home;
+        }))
+    kept_step away s is home says =
+        let on = known away in
+        let led = led_home n kept x on away in
+        kept_next (record { dead_end = Some (s.distance + 1); home = home }) (record {
+          distance = measured n kept x on away s is;
+          home = (λ t. led.0 (sym says ∙ t), λ h. says ∙ led.1 h);
+        })
+
+    -- without a step to a dead end it leads to none, or is one
+    pub kept_same : nearest_step n kept x ≡ None → AreKept n order ends (i + 1) kept
+    kept_same none = record {
+      long = k.long;
+      dead = k.dead;
+      first = λ y m. elim (among_cases y (take i order) (x ∷ [])
+          (subst (Among y) (take_next order i x at) m)) [
+            | inl a ↦ k.first y a
+            | inr l ↦ elim l [
+              | inl e ↦ subst (λ z. AreWaysFrom n z (ways_in kept z)) e here
+              | inr z ↦ absurd z
+            ]
+          ];
+      uncut = k.uncut;
+    }
+      where
+        m : Among x order
+        m = among_at order i x at
+
+        off : (Among x ends → ⊥) → (steps : List (ℕ × ℕ)) → IsDeadEnd n x steps → ⊥
+        off apart [] d = apart (dead.all x m d.away d.none)
+        off apart (t ∷ rest) d =
+            let go = d.goes in
+            none-some _ (sym none ∙ (nearest_least n kept x (known go.0) t rest d).1)
+
+        here : AreWaysFrom n x (ways_in kept x)
+        here = elim (is_among x ends) [
+          | inl a ↦ k.dead x a
+          | inr apart ↦ k.uncut x m (λ d. off apart d.0 d.1)
+        ]

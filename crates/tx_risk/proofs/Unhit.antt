@@ -1,14 +1,15 @@
 -- A code of which some group of each list is left is cut off from nowhere.
 use Rattle.std.proofs.Common.{◌≡◌, ◌≢◌, ℕ, ◌+◌, ◌<◌, ◌⊎◌, ◌==◌, true, false, not, ◌&&◌, List, [], ◌∷◌, inl, inr, length, Option, Some, None, refl, sym, ap, ◌∙◌, subst, arith, eq-eqb}
 use Rattle.std.proofs.lemmas.Bool.{and_parts, both_ways, not-true, ne_eqb, eqb-false, cases_eq}
-use Rattle.std.specs.Prelude.{slice_get, is_some, if◌then◌else◌}
+use Rattle.std.specs.Prelude.{slice_get, filter, is_some, if◌then◌else◌}
 use Rattle.std.specs.Option.{option_and_then, option_map_or}
 use Rattle.std.specs.List.{list_any}
 use Rattle.tx_plan.specs.Plan.{Plan, Group as Row, home_of}
 use Rattle.tx_plan.specs.Circuits.{other_end, far_end, ends_of}
 use Rattle.tx_plan.specs.Routes.{route_list, is_origin_for}
+use Rattle.tx_plan.specs.Certified.{Ranks, IsCertified}
 use Rattle.tx_plan.specs.Among.{Among}
-use Rattle.tx_plan.proofs.Among.{filter_among}
+use Rattle.tx_plan.proofs.Among.{filter_among, among_filter}
 use Rattle.tx_machine.proofs.Lists.{none_any}
 use Rattle.tx_rank.specs.Walks.{Goes, end_of}
 use Rattle.tx_rank.proofs.Nets.{is_net}
@@ -17,12 +18,13 @@ use Rattle.tx_risk.specs.declared.outage.Outage.TheVariants.{Group, Exchange, Na
 use Rattle.tx_risk.specs.Risks.{Risk, groups_of, left_of, net_without}
 use Rattle.tx_risk.specs.NamedRisks.{NamedRisk}
 use Rattle.tx_risk.specs.Outages.{risk_of, fails_at}
-use Rattle.tx_risk.specs.Survivals.{HasGrade}
-use Rattle.tx_risk.specs.inner.Left.{Left, IsLeft, gone}
+use Rattle.tx_risk.specs.inner.Left.{Left, IsLeft, gone, left_net}
+use Rattle.tx_risk.specs.inner.Orders.{IsByRank}
+use Rattle.tx_risk.specs.inner.Nearest.{AreDeadEnds}
 use Rattle.tx_risk.specs.inner.Cutting.{AreCuts}
 use Rattle.tx_risk.specs.inner.Hits.{AreEnds, TakesItsGroups, is_emptied}
 use Rattle.tx_risk.proofs.Ways.{ranked_on}
-use Rattle.tx_risk.proofs.LeftLists.{left_goes, none_left}
+use Rattle.tx_risk.proofs.LeftLists.{left_goes, left_none, none_left, listed_away}
 use Rattle.tx_risk.proofs.AddedOutages.{end_known}
 
 -- an exchange to which a group leads is an end of it
@@ -128,15 +130,14 @@ takes p risks (Group h) = tt
 takes p risks (Exchange x) = λ g t. t
 takes p risks (Named i) = tt
 
-module _ (l : Left) (is : IsLeft l) (o : Outage) where
+module _ (l : Left) (is : IsLeft l) (ends : List ℕ) (all : AreEnds l.plan (gone l) (length l.plan.groups) ends) where
   -- a list of which nothing is left is that of an end of a group that goes
-  missed : (ends : List ℕ) → AreEnds l.plan (gone l) (length l.plan.groups) ends
-      → list_any (is_emptied l o) ends ≡ false → (x : ℕ) → fails_at o x ≡ false
-      → route_list l.plan x l.code ≢ [] → left_of (gone l) (route_list l.plan x l.code) ≡ [] → ⊥
-  missed ends all hit x f some none = at (route_list l.plan x l.code) refl
+  emptied_there : (x : ℕ) → route_list l.plan x l.code ≢ []
+      → left_of (gone l) (route_list l.plan x l.code) ≡ [] → Among x (filter (is_emptied l) ends)
+  emptied_there x some none = at (route_list l.plan x l.code) refl
     where
-      at : (gs : List ℕ) → route_list l.plan x l.code ≡ gs → ⊥
-      at [] e = some e
+      at : (gs : List ℕ) → route_list l.plan x l.code ≡ gs → Among x (filter (is_emptied l) ends)
+      at [] e = absurd (some e)
       at (g ∷ gs) e =
           let m : Among g (route_list l.plan x l.code) = subst (Among g) (sym e) (inl refl) in
           let to = (is_net l.plan is.rules l.code is.code).leads x g m in
@@ -146,28 +147,52 @@ module _ (l : Left) (is : IsLeft l) (o : Outage) where
           let empty = none_left (gone l) (route_list l.plan x l.code) none in
           let long = ne_eqb (length (route_list l.plan x l.code)) 0
           (λ z. let k = ap length e in omega arith) in
-          both_ways _ (none_any (is_emptied l o) ends x hit here) (rw (f, empty, long) refl)
+          among_filter (is_emptied l) x ends here (rw (empty, long) refl)
 
-  -- so it is cut off from no exchange in question
-  pub unhit : {A : Type 0} → HasGrade l.plan → TakesItsGroups l.plan (gone l) o → (ends : List ℕ)
-      → AreEnds l.plan (gone l) (length l.plan.groups) ends
-      → list_any (is_emptied l o) ends ≡ false → AreCuts {A = A} l o []
-  unhit grade takes ends all hit = record {
-    each = λ c m. absurd m;
-    asked = λ c m. absurd m;
-    order = tt;
-    all = λ x steps a c.
-        let p = l.plan in
-        let code = l.code in
-        let cert = grade.2.1 in
-        let t = and_parts (is_origin_for p x code)
-        (not (fails_at o x) && not (fails_at o (home_of p code))) a in
-        let f = and_parts (not (fails_at o x)) (not (fails_at o (home_of p code))) t.1 in
-        let r = cert.origins code x is.code t.0 in
-        let q = ranked_on p (gone l) code grade.2.0 grade.0 grade.1 cert is.code x r.0 steps r.1
-        c.dead.goes in
-        let d = cert.lists code (end_of x steps) q.0 is.code q.1 c.dead.away in
-        absurd (missed ends all hit (end_of x steps)
-        (not_failing p (gone l) o code x steps takes (not-true _ f.0) c.dead.goes)
-        (λ e. let n = d.enough in let few = ap length e in omega arith) c.dead.none);
-  }
+  module _ (ranks : Ranks) (limit spare : ℕ) (cert : IsCertified l.plan ranks limit spare) where
+    ranked_there : (x r : ℕ) → ranks l.code x ≡ Some r → x ≢ home_of l.plan l.code
+        → left_of (gone l) (route_list l.plan x l.code) ≡ [] → Among x (filter (is_emptied l) ends)
+    ranked_there x r ranked away none =
+        let d = cert.lists l.code x r is.code ranked away in
+        emptied_there x (λ e. let n = d.enough in let few = ap length e in omega arith) none
+
+    -- those that are emptied are the dead ends
+    pub emptied_dead : (order : List ℕ) → IsByRank (ranks l.code) order
+        → AreDeadEnds (left_net l) order (filter (is_emptied l) ends)
+    emptied_dead order by = record {
+      dead = λ x m. at x (route_list l.plan x l.code) refl (filter_among (is_emptied l) x ends m).1;
+      all = λ x m away none. let r = by.ranked x m in ranked_there x r.0 r.1 away none;
+    }
+      where
+        at : (x : ℕ) (gs : List ℕ) → route_list l.plan x l.code ≡ gs → is_emptied l x ≡ true
+            → (x < length l.plan.exchanges) × (x ≢ home_of l.plan l.code)
+            × (left_of (gone l) (route_list l.plan x l.code) ≡ [])
+        at x [] e t = absurd (let q = ap length e in both_ways (not (length (route_list l.plan x l.code) == 0)) (rw q refl)
+            (and_parts (not (length (route_list l.plan x l.code) == 0)) _ t).0)
+        at x (g ∷ gs) e t =
+            let k = listed_away l.plan is.rules l.code x g (subst (Among g) (sym e) (inl refl)) in
+            let a = (and_parts (not (length (route_list l.plan x l.code) == 0)) _ t).1 in
+            (k.0, k.1, left_none (gone l) (route_list l.plan x l.code) a)
+
+    -- where none but the exchange that fails is emptied, nobody in question is cut off
+    pub unhit : {A : Type 0} (o : Outage) → TakesItsGroups l.plan (gone l) o
+        → list_any (λ x. not (fails_at o x)) (filter (is_emptied l) ends) ≡ false
+        → AreCuts {A = A} l o []
+    unhit o takes none = record {
+      each = λ c m. absurd m;
+      asked = λ c m. absurd m;
+      order = tt;
+      all = λ x steps a c.
+          let p = l.plan in
+          let code = l.code in
+          let t = and_parts (is_origin_for p x code)
+          (not (fails_at o x) && not (fails_at o (home_of p code))) a in
+          let f = and_parts (not (fails_at o x)) (not (fails_at o (home_of p code))) t.1 in
+          let r = cert.origins code x is.code t.0 in
+          let q = ranked_on p (gone l) code ranks limit spare cert is.code x r.0 steps r.1 c.dead.goes in
+          let m = ranked_there (end_of x steps) q.0 q.1 c.dead.away c.dead.none in
+          let stands = not_failing p (gone l) o code x steps takes (not-true _ f.0) c.dead.goes in
+          absurd (both_ways _
+          (none_any (λ x. not (fails_at o x)) (filter (is_emptied l) ends) (end_of x steps) none m)
+          (ap not stands));
+    }

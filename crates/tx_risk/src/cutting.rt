@@ -1,21 +1,27 @@
 // From where a risk cuts off a code.
-ghost use Rattle.std.specs.Prelude.{◌≡◌, ◌<◌, ◌+◌, List, length, IfOk};
+ghost use Rattle.std.specs.Prelude.{◌≡◌, ◌<◌, ◌+◌, ℕ, List, length, take, IfOk};
+ghost use Rattle.tx_plan.specs.Among.{Among};
+ghost use Rattle.tx_plan.specs.Certified.{IsCertified};
+ghost use Rattle.tx_cert.specs.Certificate.{ranks_of};
 ghost use Rattle.tx_rank.specs.Judged.{AreOrigins};
 ghost use Rattle.tx_risk.specs.Outages.{is_asked, fails_at};
 ghost use Rattle.tx_risk.specs.Survivals.{HasGrade};
 ghost use Rattle.tx_risk.specs.declared.cut.Cut.{Cut};
-ghost use Rattle.tx_risk.specs.inner.Left.{left_net};
-ghost use Rattle.tx_risk.specs.inner.Orders.{IsOrder};
-ghost use Rattle.tx_risk.specs.inner.Nearest.{AreNearest};
+ghost use Rattle.tx_risk.specs.inner.Left.{gone, left_net};
+ghost use Rattle.tx_risk.specs.inner.Orders.{IsOrder, IsByRank, is_above};
+ghost use Rattle.tx_risk.specs.inner.Hits.{AreEnds, TakesItsGroups};
+ghost use Rattle.tx_risk.specs.inner.Nearest.{AreDeadEnds, LeadsToDeadEnd, AreAllWays};
 ghost use Rattle.tx_risk.specs.inner.Cutting.{Adds, AreCuts, AreCutsBefore};
 
 use crate::cut::Cut;
+use crate::hits::{emptied, is_hit};
 use crate::left::Left;
-use crate::nearest::{Goal, distance_at, distances_to};
+use crate::nearest::{Ways, ways_at, ways_of};
 use crate::outage::Outage;
 use crate::shortest::walk_from;
 use std::alloc::Allocator;
-use tx_plan::ExchangeId;
+use tx_cert::Cert;
+use tx_plan::{CodeId, ExchangeId};
 use tx_text::NoMemory;
 
 /// Whether an exchange is the one that fails.
@@ -28,36 +34,35 @@ pub fn is_failing(outage: &Outage, exchange: ExchangeId) -> bool
     }
 }
 
-/// Adds the cut from an exchange, if it is in question and there is one.
+/// Adds the cut from an exchange, if there is one and it is in question.
 fn add_cut<A: Allocator + Copy>(
     alloc: A,
     left: &Left<'_, A>,
     origins: &[bool],
     outage: &Outage,
-    dead_ends: &[Option<usize>],
-    homes: &[Option<usize>],
+    kept: &[Ways],
     exchange: ExchangeId,
     cuts: &mut Vec<Cut<A>, A>,
 ) -> Result<(), NoMemory>
     requires exchange { exchange < length left.now.plan.exchanges }
     requires grade { HasGrade left.now.plan }
     requires origins { AreOrigins left.now.plan origins.now }
-    requires dead_ends { AreNearest (left_net left.now) Goal.DeadEnd dead_ends.now }
-    requires homes { AreNearest (left_net left.now) Goal.Home homes.now }
+    requires ways { AreAllWays (left_net left.now) kept.now }
     ensures { IfOk result (λ _. (first : List (Cut A))
         → Adds (AreCutsBefore left.now outage.now exchange) first cuts.old.items
         → Adds (AreCutsBefore left.now outage.now (exchange + 1)) first cuts.new.items) }
 {
+    let ways = ways_at(kept, exchange);
+    if ways.dead_end.is_none() {
+        return Ok(());
+    }
     if !is_asked(left, origins, outage, exchange) {
         return Ok(());
     }
-    if distance_at(dead_ends, exchange).is_none() {
-        return Ok(());
-    }
-    let walk = walk_from(alloc, left, dead_ends, exchange)?;
+    let walk = walk_from(alloc, left, kept, exchange)?;
     cuts.push(Cut {
         code: left.code,
-        stray: distance_at(homes, exchange).is_some(),
+        stray: ways.home,
         walk,
     })?;
     Ok(())
@@ -78,27 +83,72 @@ fn is_asked<A: Allocator>(
         && (!is_failing(outage, exchange) && !is_failing(outage, left.plan.home(left.code)))
 }
 
-/// Adds the cuts of one code, in order of the exchanges.
+/// Whether an exchange is ranked above one of these.
+fn is_above<A: Allocator>(
+    ranks: &Cert<A>,
+    code: CodeId,
+    exchange: ExchangeId,
+    others: &[ExchangeId],
+) -> bool
+    ensures { result ≡ is_above (ranks_of ranks.now code) others.now exchange }
+{
+    let rank = ranks.rank(code, exchange).unwrap_or(0);
+    others
+        .iter()
+        .any(|other| ranks.rank(code, *other).unwrap_or(0) < rank)
+}
+
+/// How many exchanges of the order come before all that are ranked above a dead end. From none of
+/// them a way leads to a dead end, but from the dead ends themselves.
+fn not_above<A: Allocator>(
+    ranks: &Cert<A>,
+    left: &Left<'_, A>,
+    dead_ends: &[ExchangeId],
+    order: &[ExchangeId],
+) -> usize
+    requires certified { (limit : ℕ) × (spare : ℕ)
+        × IsCertified left.now.plan (ranks_of ranks.now) limit spare }
+    requires order { IsOrder (left_net left.now) order.now }
+    requires by_rank { IsByRank (ranks_of ranks.now left.now.code) order.now }
+    requires dead_ends { AreDeadEnds (left_net left.now) order.now dead_ends.now }
+    ensures { (x : ℕ) → Among x (take result order.now)
+        → LeadsToDeadEnd (left_net left.now) x → Among x dead_ends.now }
+{
+    let code = left.code;
+    order.partition_point(|exchange| !is_above(ranks, code, *exchange, dead_ends))
+}
+
+/// Adds the cuts of one code, in order of the exchanges, where these are the ends of groups that go.
+/// There are none where only the exchange that fails is emptied.
 pub fn add_cuts<A: Allocator + Copy>(
     alloc: A,
     left: &Left<'_, A>,
+    ranks: &Cert<A>,
     order: &[ExchangeId],
+    ends: &[ExchangeId],
     origins: &[bool],
     outage: &Outage,
     cuts: &mut Vec<Cut<A>, A>,
 ) -> Result<(), NoMemory>
-    requires grade { HasGrade left.now.plan }
+    requires certified { (limit : ℕ) × (spare : ℕ)
+        × IsCertified left.now.plan (ranks_of ranks.now) limit spare }
     requires order { IsOrder (left_net left.now) order.now }
+    requires by_rank { IsByRank (ranks_of ranks.now left.now.code) order.now }
+    requires ends { AreEnds left.now.plan (gone left.now) (length left.now.plan.groups) ends.now }
+    requires takes { TakesItsGroups left.now.plan (gone left.now) outage.now }
     requires origins { AreOrigins left.now.plan origins.now }
     ensures { IfOk result (λ _. Adds (AreCuts left.now outage.now) cuts.old.items cuts.new.items) }
 {
-    let dead_ends = distances_to(alloc, left, Goal::DeadEnd, order)?;
-    let homes = distances_to(alloc, left, Goal::Home, order)?;
-    for index in 0..left.exchanges() {
+    let exchanges = left.exchanges();
+    let dead_ends = emptied(alloc, left, ends)?;
+    if !is_hit(&dead_ends, outage) {
+        return Ok(());
+    }
+    let from = not_above(ranks, left, &dead_ends, order);
+    let kept = ways_of(alloc, left, &dead_ends, order, from)?;
+    for index in 0..exchanges {
         let exchange = ExchangeId::of(index);
-        add_cut(
-            alloc, left, origins, outage, &dead_ends, &homes, exchange, cuts,
-        )?;
+        add_cut(alloc, left, origins, outage, &kept, exchange, cuts)?;
     }
     Ok(())
 }

@@ -1,7 +1,8 @@
-// Which codes an outage may cut off at all.
-ghost use Rattle.std.specs.Prelude.{◌≡◌, ◌<◌, ◌+◌, ◌==◌, ℕ, length, IfOk};
+// Of which lists an outage leaves nothing.
+ghost use Rattle.std.specs.Prelude.{◌≡◌, ◌<◌, ◌+◌, ◌==◌, ℕ, filter, length, not, IfOk};
 ghost use Rattle.std.specs.List.{list_any};
 ghost use Rattle.tx_plan.specs.Among.{Among};
+ghost use Rattle.tx_risk.specs.Outages.{fails_at};
 ghost use Rattle.tx_risk.specs.inner.Marked.{marked};
 ghost use Rattle.tx_risk.specs.inner.Hits.{AreEnds, is_emptied};
 
@@ -71,17 +72,36 @@ pub fn ends_of<A: Allocator + Copy>(
     Ok(ends)
 }
 
-/// Whether nothing is left of the list of an exchange that has one, and does not fail.
-fn is_emptied<A: Allocator>(left: &Left<'_, A>, outage: &Outage, exchange: ExchangeId) -> bool
-    ensures { result ≡ is_emptied left.now outage.now exchange }
+/// Whether an exchange has a list for the code, and nothing is left of it.
+fn is_emptied<A: Allocator>(left: &Left<'_, A>, exchange: ExchangeId) -> bool
+    ensures { result ≡ is_emptied left.now exchange }
 {
     let list = left.list(exchange);
-    !list.is_empty() && !is_failing(outage, exchange) && left.are_gone(list)
+    !list.is_empty() && left.are_gone(list)
 }
 
-/// Whether nothing is left of a list for the code, of an exchange among these.
-pub fn is_hit<A: Allocator>(left: &Left<'_, A>, ends: &[ExchangeId], outage: &Outage) -> bool
-    ensures { result ≡ list_any (is_emptied left.now outage.now) ends.now }
+/// Those of these exchanges that are emptied.
+pub fn emptied<A: Allocator + Copy>(
+    alloc: A,
+    left: &Left<'_, A>,
+    ends: &[ExchangeId],
+) -> Result<Vec<ExchangeId, A>, NoMemory>
+    ensures { IfOk result (λ emptied. emptied.items ≡ filter (is_emptied left.now) ends.now) }
 {
-    ends.iter().any(|end| is_emptied(left, outage, *end))
+    let mut emptied = Vec::new(alloc);
+    for end in ends {
+        if is_emptied(left, *end) {
+            emptied.push(*end)?;
+        }
+    }
+    Ok(emptied)
+}
+
+/// Whether one of these exchanges does not fail.
+pub fn is_hit(emptied: &[ExchangeId], outage: &Outage) -> bool
+    ensures { result ≡ list_any (λ x. not (fails_at outage.now x)) emptied.now }
+{
+    emptied
+        .iter()
+        .any(|exchange| !is_failing(outage, *exchange))
 }

@@ -1,22 +1,31 @@
-// How far exchanges are from a goal.
-ghost use Rattle.std.specs.Prelude.{◌≡◌, ◌↔◌, true, IfOk};
-ghost use Rattle.tx_risk.specs.inner.Left.{left_net};
+// Where the ways from exchanges lead: how far a dead end is, and whether a way home is left.
+ghost use Rattle.std.specs.Prelude.{◌≡◌, ◌<◌, ℕ, take, IfOk};
+ghost use Rattle.tx_plan.specs.Among.{Among};
+ghost use Rattle.tx_risk.specs.inner.Left.{IsLeft, left_net};
 ghost use Rattle.tx_risk.specs.inner.Orders.{IsOrder};
-ghost use Rattle.tx_risk.specs.inner.Nearest.{IsGoal, IsDistance, IsKnownFrom, AreNearest, distance_in, nearer, nearest_step, step_by};
+ghost use Rattle.tx_risk.specs.inner.Nearest.{AreDeadEnds, LeadsToDeadEnd, AreDeadEndsKept, AreAllWays, ways_in, nearer, nearest_step, step_by, leads_home, has_way_home};
 
 use crate::left::Left;
 use std::alloc::Allocator;
 use tx_plan::{ExchangeId, GroupId};
 use tx_text::NoMemory;
 
-/// What a walk is to come to: an exchange where no group is left, or the home.
+/// Where the ways from an exchange lead.
 #[derive(Clone, Copy)]
-pub enum Goal {
-    DeadEnd,
-    Home,
+pub struct Ways {
+    /// The steps of a shortest way to a dead end, if there is one.
+    pub dead_end: Option<usize>,
+    /// Whether a way leads home.
+    pub home: bool,
 }
 
-/// A step by a group to an exchange, and how far a goal is from there.
+/// All ways lead home.
+const HOME_ALONE: Ways = Ways {
+    dead_end: None,
+    home: true,
+};
+
+/// A step by a group to an exchange, and how far a dead end is from there.
 #[derive(Clone, Copy)]
 pub struct Step {
     pub group: GroupId,
@@ -24,38 +33,27 @@ pub struct Step {
     pub distance: usize,
 }
 
-/// Whether a walk may end at an exchange.
-fn is_goal<A: Allocator>(left: &Left<'_, A>, goal: Goal, exchange: ExchangeId) -> bool
-    ensures { result ≡ true ↔ IsGoal (left_net left.now) goal exchange }
+/// The ways from an exchange that are kept.
+pub fn ways_at(kept: &[Ways], exchange: ExchangeId) -> Ways
+    ensures { result ≡ ways_in kept.now exchange }
 {
-    let is_home = exchange == left.home();
-    match goal {
-        Goal::DeadEnd => { !is_home && left.are_gone(left.list(exchange)) }
-        Goal::Home => is_home,
+    match kept.get(exchange.index()) {
+        Some(ways) => *ways,
+        None => HOME_ALONE,
     }
 }
 
-/// The distance of an exchange, if one is kept.
-pub fn distance_at(distances: &[Option<usize>], exchange: ExchangeId) -> Option<usize>
-    ensures { result ≡ distance_in distances.now exchange }
-{
-    match distances.get(exchange.index()) {
-        Some(distance) => *distance,
-        None => None,
-    }
-}
-
-/// The step by a group, if a distance is kept of where it leads.
+/// The step by a group, if a way leads to a dead end from where it leads.
 fn step_by<A: Allocator>(
     left: &Left<'_, A>,
-    distances: &[Option<usize>],
+    kept: &[Ways],
     exchange: ExchangeId,
     group: GroupId,
 ) -> Option<Step>
-    ensures { result ≡ step_by (left_net left.now) distances.now exchange group }
+    ensures { result ≡ step_by (left_net left.now) kept.now exchange group }
 {
     let to = left.far(group, exchange)?;
-    let distance = distance_at(distances, to)?;
+    let distance = ways_at(kept, to).dead_end?;
     Some(Step {
         group,
         to,
@@ -73,56 +71,92 @@ fn nearer(one: Option<Step>, other: Option<Step>) -> Option<Step>
     }
 }
 
-/// The step from an exchange that leads nearest to a goal.
+/// The step from an exchange that leads nearest to a dead end.
 pub fn nearest_step<A: Allocator>(
     left: &Left<'_, A>,
-    distances: &[Option<usize>],
+    kept: &[Ways],
     exchange: ExchangeId,
 ) -> Option<Step>
-    ensures { result ≡ nearest_step (left_net left.now) distances.now exchange }
+    ensures { result ≡ nearest_step (left_net left.now) kept.now exchange }
 {
     left.list(exchange)
         .iter()
         .filter(|group| !left.is_gone(**group))
-        .map(|group| step_by(left, distances, exchange, *group))
+        .map(|group| step_by(left, kept, exchange, *group))
         .fold(None, nearer)
 }
 
-/// The distance of an exchange, where those of the exchanges to which its list leads are kept.
-fn distance_of<A: Allocator>(
+/// Whether a group leads from an exchange to one from which a way leads home.
+fn leads_home<A: Allocator>(
     left: &Left<'_, A>,
-    goal: Goal,
-    distances: &[Option<usize>],
+    kept: &[Ways],
     exchange: ExchangeId,
-) -> Option<usize>
-    requires { IsKnownFrom (left_net left.now) goal distances.now exchange }
-    ensures { IsDistance (left_net left.now) goal exchange result }
+    group: GroupId,
+) -> bool
+    ensures { result ≡ leads_home (left_net left.now) kept.now exchange group }
 {
-    if is_goal(left, goal, exchange) {
-        return Some(0);
+    match left.far(group, exchange) {
+        Some(to) => ways_at(kept, to).home,
+        None => false,
     }
-    if exchange == left.home() {
-        return None;
-    }
-    let step = nearest_step(left, distances, exchange)?;
-    Some(step.distance + 1)
 }
 
-/// The steps of a shortest way to a goal from each exchange of a walk, if there is one.
-pub fn distances_to<A: Allocator + Copy>(
+/// Whether a group that is left does.
+fn has_way_home<A: Allocator>(left: &Left<'_, A>, kept: &[Ways], exchange: ExchangeId) -> bool
+    ensures { result ≡ has_way_home (left_net left.now) kept.now exchange }
+{
+    left.list(exchange)
+        .iter()
+        .filter(|group| !left.is_gone(**group))
+        .any(|group| leads_home(left, kept, exchange, *group))
+}
+
+/// From dead ends no way leads on, and from all others each way leads home, as far as is known yet.
+fn dead_ends_kept<A: Allocator + Copy>(
     alloc: A,
     left: &Left<'_, A>,
-    goal: Goal,
-    order: &[ExchangeId],
-) -> Result<Vec<Option<usize>, A>, NoMemory>
-    requires { IsOrder (left_net left.now) order.now }
-    ensures { IfOk result (λ d. AreNearest (left_net left.now) goal d.items) }
+    dead_ends: &[ExchangeId],
+) -> Result<Vec<Ways, A>, NoMemory>
+    requires { (x : ℕ) → Among x dead_ends.now → x < (left_net left.now).exchanges }
+    ensures rules { IsLeft left.now }
+    ensures kept { IfOk result (λ kept.
+        AreDeadEndsKept (left_net left.now) dead_ends.now kept.items) }
 {
-    let mut distances = vec![in alloc; None; left.exchanges()]?;
-    for index in 0..order.len() {
-        let exchange = order[index];
-        let distance = distance_of(left, goal, &distances, exchange);
-        distances[exchange.index()] = distance;
+    let mut kept = vec![in alloc; HOME_ALONE; left.exchanges()]?;
+    for end in dead_ends {
+        kept[end.index()] = Ways {
+            dead_end: Some(0),
+            home: false,
+        };
     }
-    Ok(distances)
+    Ok(kept)
+}
+
+/// Where the ways from each exchange of a walk lead. These are the dead ends, and from the
+/// exchanges before an index of the order no way leads to one, but from the dead ends themselves.
+pub fn ways_of<A: Allocator + Copy>(
+    alloc: A,
+    left: &Left<'_, A>,
+    dead_ends: &[ExchangeId],
+    order: &[ExchangeId],
+    from: usize,
+) -> Result<Vec<Ways, A>, NoMemory>
+    requires order { IsOrder (left_net left.now) order.now }
+    requires dead_ends { AreDeadEnds (left_net left.now) order.now dead_ends.now }
+    requires before { (x : ℕ) → Among x (take from order.now)
+        → LeadsToDeadEnd (left_net left.now) x → Among x dead_ends.now }
+    ensures { IfOk result (λ kept. AreAllWays (left_net left.now) kept.items) }
+{
+    let mut kept = dead_ends_kept(alloc, left, dead_ends)?;
+    for index in from..order.len() {
+        let exchange = order[index];
+        if let Some(step) = nearest_step(left, &kept, exchange) {
+            let home = has_way_home(left, &kept, exchange);
+            kept[exchange.index()] = Ways {
+                dead_end: Some(step.distance + 1),
+                home,
+            };
+        }
+    }
+    Ok(kept)
 }

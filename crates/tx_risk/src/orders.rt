@@ -6,7 +6,7 @@ ghost use Rattle.tx_plan.specs.Certified.{IsCertified};
 ghost use Rattle.tx_cert.specs.Certificate.{ranks_of};
 ghost use Rattle.tx_rank.specs.Walks.{net_of};
 ghost use Rattle.tx_rank.specs.Nets.{Certifies};
-ghost use Rattle.tx_risk.specs.inner.Orders.{IsOrder, AreOrders};
+ghost use Rattle.tx_risk.specs.inner.Orders.{IsOrder, IsByRank, AreOrders};
 
 use std::alloc::Allocator;
 use tx_cert::Cert;
@@ -45,7 +45,8 @@ fn order_of<A: Allocator + Copy>(
     requires code { code < length plan.now.codes }
     requires certified { (limit : ℕ) × (spare : ℕ)
         × Certifies (net_of plan.now code) (ranks_of ranks.now code) limit spare }
-    ensures { IfOk result (λ order. IsOrder (net_of plan.now code) order.items) }
+    ensures order { IfOk result (λ order. IsOrder (net_of plan.now code) order.items) }
+    ensures by_rank { IfOk result (λ order. IsByRank (ranks_of ranks.now code) order.items) }
 {
     let mut order = ranked(alloc, plan, ranks, code)?;
     order.sort_unstable_by_key(|exchange| ranks.rank(code, *exchange).unwrap_or(0));
@@ -59,7 +60,7 @@ pub fn orders_of<A: Allocator + Copy>(
     ranks: &Cert<A>,
 ) -> Result<Vec<Vec<ExchangeId, A>, A>, NoMemory>
     requires { (limit : ℕ) × (spare : ℕ) × IsCertified plan.now (ranks_of ranks.now) limit spare }
-    ensures { IfOk result (λ orders. AreOrders plan.now orders.items) }
+    ensures { IfOk result (λ orders. AreOrders plan.now (ranks_of ranks.now) orders.items) }
 {
     let mut orders = Vec::with_capacity(alloc, plan.codes())?;
     for index in 0..plan.codes() {

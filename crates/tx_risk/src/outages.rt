@@ -7,13 +7,12 @@ ghost use Rattle.tx_rank.specs.Judged.{AreOrigins};
 ghost use Rattle.tx_risk.specs.NamedRisks.{AreRisksFor};
 ghost use Rattle.tx_risk.specs.declared.outage.Outage.TheVariants.{Group, Exchange, Named};
 ghost use Rattle.tx_risk.specs.Outages.{risk_of, all_outages, AreCutsOf, AreOutcomes};
-ghost use Rattle.tx_risk.specs.Survivals.{HasGrade};
 ghost use Rattle.tx_risk.specs.inner.Marked.{marked};
 ghost use Rattle.tx_risk.specs.inner.Orders.{AreOrders};
 
 use crate::cut::{Cut, Outcome};
 use crate::cutting::add_cuts;
-use crate::hits::{ends_of, is_hit};
+use crate::hits::ends_of;
 use crate::left::Left;
 use crate::orders::orders_of;
 use crate::outage::Outage;
@@ -59,18 +58,20 @@ fn marks_of<A: Allocator + Copy>(
     Ok(marks)
 }
 
-/// Whom an outage cuts off, code by code: nobody, where no list of the code is hit.
+/// Whom an outage cuts off, code by code.
 fn cuts_of<A: Allocator + Copy>(
     alloc: A,
     plan: &Plan<A>,
+    ranks: &Cert<A>,
     risks: &Risks<A>,
     orders: &[Vec<ExchangeId, A>],
     origins: &[bool],
     outage: &Outage,
 ) -> Result<Vec<Cut<A>, A>, NoMemory>
-    requires orders { AreOrders plan.now orders.now }
+    requires certified { (limit : ℕ) × (spare : ℕ)
+        × IsCertified plan.now (ranks_of ranks.now) limit spare }
+    requires orders { AreOrders plan.now (ranks_of ranks.now) orders.now }
     requires origins { AreOrigins plan.now origins.now }
-    requires grade { HasGrade plan.now }
     requires known { (g : ℕ) → risk_of plan.now risks.now outage.now g ≡ true
         → g < length plan.now.groups }
     ensures { IfOk result (λ cuts. AreCutsOf plan.now risks.now outage.now cuts.items) }
@@ -84,10 +85,16 @@ fn cuts_of<A: Allocator + Copy>(
             gone: &gone,
             code: CodeId::of(index),
         };
-        if !is_hit(&left, &ends, outage) {
-            continue;
-        }
-        add_cuts(alloc, &left, &orders[index], origins, outage, &mut cuts)?;
+        add_cuts(
+            alloc,
+            &left,
+            ranks,
+            &orders[index],
+            &ends,
+            origins,
+            outage,
+            &mut cuts,
+        )?;
     }
     Ok(cuts)
 }
@@ -164,7 +171,7 @@ pub fn all_outcomes<A: Allocator + Copy>(
     let mut outcomes = Vec::new(alloc);
     for i in 0..outages.len() {
         let outage = outages[i];
-        let cuts = cuts_of(alloc, plan, risks, &orders, &origins, &outage)?;
+        let cuts = cuts_of(alloc, plan, ranks, risks, &orders, &origins, &outage)?;
         outcomes.push(Outcome { outage, cuts })?;
     }
     Ok(outcomes)

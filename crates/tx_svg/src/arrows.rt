@@ -4,11 +4,11 @@ ghost use Rattle.tx_html.specs.Shows.{Showed};
 
 use crate::findings::finding_goes;
 use std::alloc::Allocator;
-use tx_html::{Part, set};
+use tx_html::{PageSink, Part, set};
 use tx_layout::{Picture, Point, Spot, TOP, entry_of, exit_of, head_of, tip_of};
 use tx_plan::{CodeId, ExchangeId, GroupId, Plan};
 use tx_rank::Finding;
-use tx_text::{Sink, WriteFault};
+use tx_text::WriteFault;
 
 /// The ends of the arrows of all pictures. They stand on a page once.
 pub const HEADS: &str = "<svg width=\"0\" height=\"0\" class=\"defs\" \
@@ -52,13 +52,13 @@ impl Choice {
 }
 
 /// Writes an arrow from each exchange to each one where its list leads.
-pub fn write_arrows<A: Allocator, W: Sink>(
+pub fn write_arrows<A: Allocator, W: PageSink>(
     plan: &Plan<A>,
     picture: &Picture<A>,
     findings: &[Finding<A>],
     sink: &mut W,
 ) -> Result<(), WriteFault>
-    ensures { Showed W.taken W.failed sink.old sink.new [] result }
+    ensures { Showed W.seen sink.old sink.new [] result }
 {
     write_layer(plan, picture, findings, Choice::Later, sink)?;
     write_layer(plan, picture, findings, Choice::Second, sink)?;
@@ -67,14 +67,14 @@ pub fn write_arrows<A: Allocator, W: Sink>(
 }
 
 /// Writes the arrows of one kind. Those that are written later lie above.
-fn write_layer<A: Allocator, W: Sink>(
+fn write_layer<A: Allocator, W: PageSink>(
     plan: &Plan<A>,
     picture: &Picture<A>,
     findings: &[Finding<A>],
     layer: Choice,
     sink: &mut W,
 ) -> Result<(), WriteFault>
-    ensures { Showed W.taken W.failed sink.old sink.new [] result }
+    ensures { Showed W.seen sink.old sink.new [] result }
 {
     for index in 0..plan.exchanges() {
         write_list(plan, picture, findings, layer, ExchangeId::of(index), sink)?;
@@ -83,7 +83,7 @@ fn write_layer<A: Allocator, W: Sink>(
 }
 
 /// Writes the arrows of one kind that an exchange has.
-fn write_list<A: Allocator, W: Sink>(
+fn write_list<A: Allocator, W: PageSink>(
     plan: &Plan<A>,
     picture: &Picture<A>,
     findings: &[Finding<A>],
@@ -91,7 +91,7 @@ fn write_list<A: Allocator, W: Sink>(
     exchange: ExchangeId,
     sink: &mut W,
 ) -> Result<(), WriteFault>
-    ensures { Showed W.taken W.failed sink.old sink.new [] result }
+    ensures { Showed W.seen sink.old sink.new [] result }
 {
     let list = plan.list(exchange, picture.code);
     for i in 0..list.len() {
@@ -140,7 +140,7 @@ fn first_to<A: Allocator>(
 }
 
 /// Writes an arrow, if it leads somewhere and both exchanges have a place.
-fn write_arrow<A: Allocator, W: Sink>(
+fn write_arrow<A: Allocator, W: PageSink>(
     plan: &Plan<A>,
     picture: &Picture<A>,
     choice: Choice,
@@ -148,7 +148,7 @@ fn write_arrow<A: Allocator, W: Sink>(
     to: Option<ExchangeId>,
     sink: &mut W,
 ) -> Result<(), WriteFault>
-    ensures { Showed W.taken W.failed sink.old sink.new [] result }
+    ensures { Showed W.seen sink.old sink.new [] result }
 {
     match (picture.spot(from), head_of(plan, picture, from, to)) {
         (Some(tail), Some(head)) => write_between(picture, choice, tail, head, sink),
@@ -157,14 +157,14 @@ fn write_arrow<A: Allocator, W: Sink>(
 }
 
 /// Writes an arrow between two places.
-fn write_between<A: Allocator, W: Sink>(
+fn write_between<A: Allocator, W: PageSink>(
     picture: &Picture<A>,
     choice: Choice,
     tail: Spot,
     head: Spot,
     sink: &mut W,
 ) -> Result<(), WriteFault>
-    ensures { Showed W.taken W.failed sink.old sink.new [] result }
+    ensures { Showed W.seen sink.old sink.new [] result }
 {
     set(
         &[
@@ -178,13 +178,13 @@ fn write_between<A: Allocator, W: Sink>(
     set(&[Part::Own("\"/>")], sink)
 }
 
-fn write_way<A: Allocator, W: Sink>(
+fn write_way<A: Allocator, W: PageSink>(
     picture: &Picture<A>,
     tail: Spot,
     head: Spot,
     sink: &mut W,
 ) -> Result<(), WriteFault>
-    ensures { Showed W.taken W.failed sink.old sink.new [] result }
+    ensures { Showed W.seen sink.old sink.new [] result }
 {
     if tail.column == head.column {
         write_aside(picture, tail, head, sink)
@@ -195,13 +195,13 @@ fn write_way<A: Allocator, W: Sink>(
 
 /// Writes an arrow from one column to another, which passes each column between them beside its
 /// boxes.
-fn write_across<A: Allocator, W: Sink>(
+fn write_across<A: Allocator, W: PageSink>(
     picture: &Picture<A>,
     tail: Spot,
     head: Spot,
     sink: &mut W,
 ) -> Result<(), WriteFault>
-    ensures { Showed W.taken W.failed sink.old sink.new [] result }
+    ensures { Showed W.seen sink.old sink.new [] result }
 {
     let last = tail.column.abs_diff(head.column).saturating_sub(1);
     write_point(exit_of(picture, tail, head, 0), sink)?;
@@ -214,14 +214,14 @@ fn write_across<A: Allocator, W: Sink>(
 }
 
 /// Writes the way of an arrow past so many columns.
-fn write_passings<A: Allocator, W: Sink>(
+fn write_passings<A: Allocator, W: PageSink>(
     picture: &Picture<A>,
     tail: Spot,
     head: Spot,
     last: u16,
     sink: &mut W,
 ) -> Result<(), WriteFault>
-    ensures { Showed W.taken W.failed sink.old sink.new [] result }
+    ensures { Showed W.seen sink.old sink.new [] result }
 {
     for before in 0..last {
         write_passing(picture, tail, head, before, sink)?;
@@ -230,14 +230,14 @@ fn write_passings<A: Allocator, W: Sink>(
 }
 
 /// Writes the way of an arrow past one column more.
-fn write_passing<A: Allocator, W: Sink>(
+fn write_passing<A: Allocator, W: PageSink>(
     picture: &Picture<A>,
     tail: Spot,
     head: Spot,
     before: u16,
     sink: &mut W,
 ) -> Result<(), WriteFault>
-    ensures { Showed W.taken W.failed sink.old sink.new [] result }
+    ensures { Showed W.seen sink.old sink.new [] result }
 {
     let passed = before.saturating_add(1);
     write_bend(
@@ -250,13 +250,13 @@ fn write_passing<A: Allocator, W: Sink>(
 }
 
 /// Writes an arrow from one box to another of its column, beside the boxes between them.
-fn write_aside<A: Allocator, W: Sink>(
+fn write_aside<A: Allocator, W: PageSink>(
     picture: &Picture<A>,
     tail: Spot,
     head: Spot,
     sink: &mut W,
 ) -> Result<(), WriteFault>
-    ensures { Showed W.taken W.failed sink.old sink.new [] result }
+    ensures { Showed W.seen sink.old sink.new [] result }
 {
     let right = picture.right(tail.column);
     let down = tail.middle < head.middle;
@@ -273,8 +273,8 @@ fn write_aside<A: Allocator, W: Sink>(
     )
 }
 
-fn write_point<W: Sink>(point: Point, sink: &mut W) -> Result<(), WriteFault>
-    ensures { Showed W.taken W.failed sink.old sink.new [] result }
+fn write_point<W: PageSink>(point: Point, sink: &mut W) -> Result<(), WriteFault>
+    ensures { Showed W.seen sink.old sink.new [] result }
 {
     set(
         &[Part::Place(point.x), Part::Own(","), Part::Place(point.y)],
@@ -283,8 +283,8 @@ fn write_point<W: Sink>(point: Point, sink: &mut W) -> Result<(), WriteFault>
 }
 
 /// Writes the way from one place to another, level at both.
-fn write_bend<W: Sink>(from: Point, to: Point, sink: &mut W) -> Result<(), WriteFault>
-    ensures { Showed W.taken W.failed sink.old sink.new [] result }
+fn write_bend<W: PageSink>(from: Point, to: Point, sink: &mut W) -> Result<(), WriteFault>
+    ensures { Showed W.seen sink.old sink.new [] result }
 {
     let middle = from.x / 2 + to.x / 2;
     write_curve(
@@ -298,13 +298,13 @@ fn write_bend<W: Sink>(from: Point, to: Point, sink: &mut W) -> Result<(), Write
     )
 }
 
-fn write_curve<W: Sink>(
+fn write_curve<W: PageSink>(
     first: Point,
     second: Point,
     end: Point,
     sink: &mut W,
 ) -> Result<(), WriteFault>
-    ensures { Showed W.taken W.failed sink.old sink.new [] result }
+    ensures { Showed W.seen sink.old sink.new [] result }
 {
     set(
         &[

@@ -6,10 +6,10 @@ ghost use Rattle.tx_svg.specs.ListTexts.{box_texts};
 
 use crate::names::write_groups;
 use std::alloc::Allocator;
-use tx_html::{Part, set};
+use tx_html::{PageSink, Part, set};
 use tx_layout::{BOX, Frame, Kind, Picture, frame_of};
 use tx_plan::{ExchangeId, GroupId, Plan};
-use tx_text::{Sink, WriteFault};
+use tx_text::WriteFault;
 
 /// The class of a box in the style sheet.
 fn class_of(kind: Kind) -> &'static str {
@@ -21,12 +21,12 @@ fn class_of(kind: Kind) -> &'static str {
 }
 
 /// Writes a box for each exchange. Its title has the list for the code.
-pub fn write_boxes<A: Allocator, W: Sink>(
+pub fn write_boxes<A: Allocator, W: PageSink>(
     plan: &Plan<A>,
     picture: &Picture<A>,
     sink: &mut W,
 ) -> Result<(), WriteFault>
-    ensures { Showed W.taken W.failed sink.old sink.new
+    ensures { Showed W.seen sink.old sink.new
         (texts_below (length plan.now.exchanges) (box_texts plan.now picture.now.code)) result }
 {
     for index in 0..plan.exchanges() {
@@ -35,13 +35,13 @@ pub fn write_boxes<A: Allocator, W: Sink>(
     Ok(())
 }
 
-fn write_box<A: Allocator, W: Sink>(
+fn write_box<A: Allocator, W: PageSink>(
     plan: &Plan<A>,
     picture: &Picture<A>,
     exchange: ExchangeId,
     sink: &mut W,
 ) -> Result<(), WriteFault>
-    ensures { Showed W.taken W.failed sink.old sink.new
+    ensures { Showed W.seen sink.old sink.new
         (box_texts plan.now picture.now.code exchange) result }
 {
     let frame = frame_of(plan, picture, exchange);
@@ -73,8 +73,8 @@ fn tries(kind: Kind, list: &[GroupId]) -> &'static str {
 }
 
 /// Writes the end of the title, and the box itself.
-fn write_frame<W: Sink>(frame: Frame, name: &[u8], sink: &mut W) -> Result<(), WriteFault>
-    ensures { Showed W.taken W.failed sink.old sink.new (name.now ∷ []) result }
+fn write_frame<W: PageSink>(frame: Frame, name: &[u8], sink: &mut W) -> Result<(), WriteFault>
+    ensures { Showed W.seen sink.old sink.new (name.now ∷ []) result }
 {
     set(
         &[

@@ -7,11 +7,11 @@ use crate::arrows::write_arrows;
 use crate::boxes::write_boxes;
 use crate::findings::findings_of;
 use std::alloc::Allocator;
-use tx_html::{Part, set};
+use tx_html::{PageSink, Part, set};
 use tx_layout::{BOX, LEFT, Picture, TOP, picture_height};
 use tx_plan::Plan;
 use tx_rank::Finding;
-use tx_text::{Sink, WriteFault};
+use tx_text::WriteFault;
 
 const KEY: &str =
     "<h2>Code by code</h2><p class=\"m key\">Each arrow is a group, or several to one \
@@ -22,26 +22,26 @@ class=\"a2\" d=\"M0,5H30\"/></svg> later, <svg width=\"34\" height=\"10\" aria-h
 <path class=\"a3\" d=\"M0,5H30\"/></svg> in a finding. Point at an exchange for its list.</p>";
 
 /// Writes the picture of each code.
-pub fn write_pictures<A: Allocator, W: Sink>(
+pub fn write_pictures<A: Allocator, W: PageSink>(
     plan: &Plan<A>,
     pictures: &[Picture<A>],
     findings: &[Finding<A>],
     sink: &mut W,
 ) -> Result<(), WriteFault>
-    ensures { Showed W.taken W.failed sink.old sink.new
+    ensures { Showed W.seen sink.old sink.new
         (pictures_texts plan.now pictures.now) result }
 {
     set(&[Part::Own(KEY)], sink)?;
     write_all(plan, pictures, findings, sink)
 }
 
-fn write_all<A: Allocator, W: Sink>(
+fn write_all<A: Allocator, W: PageSink>(
     plan: &Plan<A>,
     pictures: &[Picture<A>],
     findings: &[Finding<A>],
     sink: &mut W,
 ) -> Result<(), WriteFault>
-    ensures { Showed W.taken W.failed sink.old sink.new
+    ensures { Showed W.seen sink.old sink.new
         (pictures_texts plan.now pictures.now) result }
 {
     for i in 0..pictures.len() {
@@ -53,14 +53,14 @@ fn write_all<A: Allocator, W: Sink>(
 }
 
 /// Writes the picture of a code, which is open or closed at first.
-fn write_picture<A: Allocator, W: Sink>(
+fn write_picture<A: Allocator, W: PageSink>(
     plan: &Plan<A>,
     picture: &Picture<A>,
     findings: &[Finding<A>],
     open: bool,
     sink: &mut W,
 ) -> Result<(), WriteFault>
-    ensures { Showed W.taken W.failed sink.old sink.new
+    ensures { Showed W.seen sink.old sink.new
         (picture_texts plan.now picture.now.code) result }
 {
     set(
@@ -83,12 +83,12 @@ fn write_picture<A: Allocator, W: Sink>(
     set(&[Part::Own("</svg></details>")], sink)
 }
 
-fn write_canvas<A: Allocator, W: Sink>(
+fn write_canvas<A: Allocator, W: PageSink>(
     plan: &Plan<A>,
     picture: &Picture<A>,
     sink: &mut W,
 ) -> Result<(), WriteFault>
-    ensures { Showed W.taken W.failed sink.old sink.new [] result }
+    ensures { Showed W.seen sink.old sink.new [] result }
 {
     let width = picture.right(0).saturating_add(LEFT);
     let height = picture_height(plan, picture);
@@ -109,12 +109,12 @@ fn write_canvas<A: Allocator, W: Sink>(
 }
 
 /// Writes what stands above the columns, and above the exchanges where no calls come.
-fn write_heads<A: Allocator, W: Sink>(
+fn write_heads<A: Allocator, W: PageSink>(
     plan: &Plan<A>,
     picture: &Picture<A>,
     sink: &mut W,
 ) -> Result<(), WriteFault>
-    ensures { Showed W.taken W.failed sink.old sink.new [] result }
+    ensures { Showed W.seen sink.old sink.new [] result }
 {
     let below = TOP + u64::from(picture.high) + 16;
     let has_aside = picture_height(plan, picture) > below;
@@ -124,8 +124,11 @@ fn write_heads<A: Allocator, W: Sink>(
 }
 
 /// Writes the ranks above their columns, if the columns are ranks.
-fn write_ranks<A: Allocator, W: Sink>(picture: &Picture<A>, sink: &mut W) -> Result<(), WriteFault>
-    ensures { Showed W.taken W.failed sink.old sink.new [] result }
+fn write_ranks<A: Allocator, W: PageSink>(
+    picture: &Picture<A>,
+    sink: &mut W,
+) -> Result<(), WriteFault>
+    ensures { Showed W.seen sink.old sink.new [] result }
 {
     let ranks = if picture.ranked { picture.columns() } else { 0 };
     for rank in 1..ranks {
@@ -134,8 +137,8 @@ fn write_ranks<A: Allocator, W: Sink>(picture: &Picture<A>, sink: &mut W) -> Res
     Ok(())
 }
 
-fn write_head<W: Sink>(left: u64, sink: &mut W) -> Result<(), WriteFault>
-    ensures { Showed W.taken W.failed sink.old sink.new [] result }
+fn write_head<W: PageSink>(left: u64, sink: &mut W) -> Result<(), WriteFault>
+    ensures { Showed W.seen sink.old sink.new [] result }
 {
     set(
         &[
@@ -147,8 +150,8 @@ fn write_head<W: Sink>(left: u64, sink: &mut W) -> Result<(), WriteFault>
     )
 }
 
-fn write_rank<W: Sink>(left: u64, rank: u64, sink: &mut W) -> Result<(), WriteFault>
-    ensures { Showed W.taken W.failed sink.old sink.new [] result }
+fn write_rank<W: PageSink>(left: u64, rank: u64, sink: &mut W) -> Result<(), WriteFault>
+    ensures { Showed W.seen sink.old sink.new [] result }
 {
     set(
         &[
@@ -163,8 +166,8 @@ fn write_rank<W: Sink>(left: u64, rank: u64, sink: &mut W) -> Result<(), WriteFa
 }
 
 /// Writes what stands above the exchanges where no calls come, if there are any.
-fn write_aside<W: Sink>(has_aside: bool, top: u64, sink: &mut W) -> Result<(), WriteFault>
-    ensures { Showed W.taken W.failed sink.old sink.new [] result }
+fn write_aside<W: PageSink>(has_aside: bool, top: u64, sink: &mut W) -> Result<(), WriteFault>
+    ensures { Showed W.seen sink.old sink.new [] result }
 {
     if !has_aside {
         return Ok(());

@@ -5,14 +5,14 @@ ghost use Rattle.tx_svg.specs.Indexed.{texts_below};
 ghost use Rattle.tx_svg.specs.RingTexts.{name_texts, ring_texts};
 
 use std::alloc::Allocator;
-use tx_html::{Part, set};
+use tx_html::{PageSink, Part, set};
 use tx_layout::{BOX, MOST, Size, TALL, seat_of, size_of};
 use tx_plan::{ExchangeId, GroupId, Plan};
-use tx_text::{Sink, WriteFault};
+use tx_text::WriteFault;
 
 /// Writes the picture of a network that is not too large for one.
-pub fn write_ring<A: Allocator, W: Sink>(plan: &Plan<A>, sink: &mut W) -> Result<(), WriteFault>
-    ensures { Showed W.taken W.failed sink.old sink.new (ring_texts plan.now) result }
+pub fn write_ring<A: Allocator, W: PageSink>(plan: &Plan<A>, sink: &mut W) -> Result<(), WriteFault>
+    ensures { Showed W.seen sink.old sink.new (ring_texts plan.now) result }
 {
     if plan.exchanges() <= MOST {
         write_small(plan, sink)
@@ -21,8 +21,8 @@ pub fn write_ring<A: Allocator, W: Sink>(plan: &Plan<A>, sink: &mut W) -> Result
     }
 }
 
-fn write_small<A: Allocator, W: Sink>(plan: &Plan<A>, sink: &mut W) -> Result<(), WriteFault>
-    ensures { Showed W.taken W.failed sink.old sink.new
+fn write_small<A: Allocator, W: PageSink>(plan: &Plan<A>, sink: &mut W) -> Result<(), WriteFault>
+    ensures { Showed W.seen sink.old sink.new
         (texts_below (length plan.now.exchanges) (name_texts plan.now)) result }
 {
     write_canvas(size_of(plan.exchanges()), sink)?;
@@ -31,8 +31,8 @@ fn write_small<A: Allocator, W: Sink>(plan: &Plan<A>, sink: &mut W) -> Result<()
     set(&[Part::Own("</svg>")], sink)
 }
 
-fn write_canvas<W: Sink>(size: Size, sink: &mut W) -> Result<(), WriteFault>
-    ensures { Showed W.taken W.failed sink.old sink.new [] result }
+fn write_canvas<W: PageSink>(size: Size, sink: &mut W) -> Result<(), WriteFault>
+    ensures { Showed W.seen sink.old sink.new [] result }
 {
     set(
         &[
@@ -50,8 +50,8 @@ fn write_canvas<W: Sink>(size: Size, sink: &mut W) -> Result<(), WriteFault>
     )
 }
 
-fn write_lines<A: Allocator, W: Sink>(plan: &Plan<A>, sink: &mut W) -> Result<(), WriteFault>
-    ensures { Showed W.taken W.failed sink.old sink.new [] result }
+fn write_lines<A: Allocator, W: PageSink>(plan: &Plan<A>, sink: &mut W) -> Result<(), WriteFault>
+    ensures { Showed W.seen sink.old sink.new [] result }
 {
     for index in 0..plan.groups() {
         write_line(plan, GroupId::of(index), sink)?;
@@ -83,12 +83,12 @@ fn circuits_beside<A: Allocator>(plan: &Plan<A>, group: GroupId) -> u64 {
 
 /// Writes a line between the ends of a group, if it is the first between them. It is the wider, the
 /// more circuits are there.
-fn write_line<A: Allocator, W: Sink>(
+fn write_line<A: Allocator, W: PageSink>(
     plan: &Plan<A>,
     group: GroupId,
     sink: &mut W,
 ) -> Result<(), WriteFault>
-    ensures { Showed W.taken W.failed sink.old sink.new [] result }
+    ensures { Showed W.seen sink.old sink.new [] result }
 {
     let circuits = circuits_beside(plan, group);
     if circuits == 0 {
@@ -120,8 +120,8 @@ fn write_line<A: Allocator, W: Sink>(
     )
 }
 
-fn write_names<A: Allocator, W: Sink>(plan: &Plan<A>, sink: &mut W) -> Result<(), WriteFault>
-    ensures { Showed W.taken W.failed sink.old sink.new
+fn write_names<A: Allocator, W: PageSink>(plan: &Plan<A>, sink: &mut W) -> Result<(), WriteFault>
+    ensures { Showed W.seen sink.old sink.new
         (texts_below (length plan.now.exchanges) (name_texts plan.now)) result }
 {
     for index in 0..plan.exchanges() {
@@ -130,12 +130,12 @@ fn write_names<A: Allocator, W: Sink>(plan: &Plan<A>, sink: &mut W) -> Result<()
     Ok(())
 }
 
-fn write_name<A: Allocator, W: Sink>(
+fn write_name<A: Allocator, W: PageSink>(
     plan: &Plan<A>,
     exchange: ExchangeId,
     sink: &mut W,
 ) -> Result<(), WriteFault>
-    ensures { Showed W.taken W.failed sink.old sink.new (name_texts plan.now exchange) result }
+    ensures { Showed W.seen sink.old sink.new (name_texts plan.now exchange) result }
 {
     let seat = seat_of(exchange.index(), plan.exchanges());
     set(

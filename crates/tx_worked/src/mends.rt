@@ -3,9 +3,12 @@
 // its groups: what their walks show says which exchanges can be served, and by which least ranks.
 //
 // What a routing does for a code hangs on the lists for that code alone. So the routings of a
-// network are made code by code.
+// network are made code by code. Which groups of its lists a code keeps is found by trying each beside
+// those that stay, in all routings.
 
+mod causes;
 mod judge;
+mod kept;
 mod lists;
 mod mends;
 mod order;

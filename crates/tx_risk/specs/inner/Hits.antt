@@ -8,7 +8,6 @@ use Rattle.tx_plan.specs.Routes.{route_list}
 use Rattle.tx_risk.specs.declared.outage.Outage.{Outage}
 use Rattle.tx_risk.specs.declared.outage.Outage.TheVariants.{Exchange}
 use Rattle.tx_risk.specs.Risks.{Risk, groups_of}
-use Rattle.tx_risk.specs.Outages.{fails_at}
 use Rattle.tx_risk.specs.inner.Left.{Left, gone}
 
 -- the ends of the first groups, if they go, are among these
@@ -16,11 +15,11 @@ abbrev pub AreEnds : Plan → Risk → ℕ → List ℕ → Type 0
 AreEnds p risk i ends =
     (g x : ℕ) → g < i → risk g ≡ true → is_some (other_end p g x) ≡ true → Among x ends
 
--- nothing is left of the list of x for the code; it has one, and does not fail
-abbrev pub is_emptied : Left → Outage → (x : ℕ) → Bool
-is_emptied l o x =
+-- x has a list for the code, and nothing is left of it
+abbrev pub is_emptied : Left → (x : ℕ) → Bool
+is_emptied l x =
     not (length (route_list l.plan x l.code) == 0)
-    && (not (fails_at o x) && list_all (gone l) (route_list l.plan x l.code))
+    && list_all (gone l) (route_list l.plan x l.code)
 
 -- where an exchange fails, all groups of which it is an end go
 abbrev pub TakesItsGroups : Plan → Risk → Outage → Type 0

@@ -1,57 +1,65 @@
--- How far exchanges are from a goal.
-use Rattle.std.specs.Prelude.{◌≡◌, ◌≢◌, ℕ, ◌+◌, ◌^◌, ◌<◌, ◌≤◌, nat_lt, if◌then◌else◌, List, [], length, map, fold, Option, Some, None, slice_get}
-use Rattle.std.specs.Option.{option_and_then, option_map}
+-- Where the ways from exchanges lead: how far a dead end is, and whether a way home is left.
+use Rattle.std.specs.Prelude.{◌≡◌, ◌≢◌, ◌↔◌, ℕ, ◌<◌, ◌≤◌, nat_lt, if◌then◌else◌, Bool, true, false, List, [], length, map, fold, Option, Some, None, get_or}
+use Rattle.std.specs.List.{list_any}
+use Rattle.std.specs.Option.{option_and_then, option_map, option_map_or}
 use Rattle.tx_plan.specs.Among.{Among}
-use Rattle.tx_rank.specs.Walks.{Net, Goes, end_of}
+use Rattle.tx_rank.specs.Walks.{Net}
 use Rattle.tx_rank.specs.Heights.{IsReached}
-use Rattle.tx_risk.specs.declared.nearest.Goal.{Goal}
-use Rattle.tx_risk.specs.declared.nearest.Goal.TheVariants.{DeadEnd, Home}
+use Rattle.tx_risk.specs.Risks.{IsDeadEnd, LeadsHome}
+use Rattle.tx_risk.specs.declared.nearest.Ways.{Ways}
 use Rattle.tx_risk.specs.declared.nearest.Step.{Step}
 
--- a walk is to come to a dead end, or home
-abbrev pub IsGoal : Net → Goal → ℕ → Type 0
-IsGoal n DeadEnd x = (x ≢ n.home) × (n.list x ≡ [])
-IsGoal n Home x = x ≡ n.home
+-- all of these are dead ends, and all dead ends of the order are among them
+pub record AreDeadEnds (n : Net) (order ends : List ℕ) : Type 0 where
+  pub dead : (x : ℕ) → Among x ends → (x < n.exchanges) × (x ≢ n.home) × (n.list x ≡ [])
+  pub all : (x : ℕ) → Among x order → x ≢ n.home → n.list x ≡ [] → Among x ends
 
--- a way of d steps from x to a goal
-pub record IsWayTo (n : Net) (goal : Goal) (x d : ℕ) : Type 0 where
-  pub steps : List (ℕ × ℕ)
-  pub goes : Goes n x steps
-  pub ends : IsGoal n goal (end_of x steps)
-  pub count : length steps ≡ d
+-- a way from x leads to a dead end
+abbrev pub LeadsToDeadEnd : Net → ℕ → Type 0
+LeadsToDeadEnd n x = (steps : List (ℕ × ℕ)) × IsDeadEnd n x steps
 
--- the distance of x: the steps of a shortest way to a goal, or none, if no way leads to one
-pub record IsDistance (n : Net) (goal : Goal) (x : ℕ) (distance : Option ℕ) : Type 0 where
-  pub way : (d : ℕ) → distance ≡ Some d → IsWayTo n goal x d
-  pub least : (steps : List (ℕ × ℕ)) → Goes n x steps → IsGoal n goal (end_of x steps)
+-- the distance of x: the steps of a shortest way to a dead end, or none, if no way leads to one
+pub record IsDistance (n : Net) (x : ℕ) (distance : Option ℕ) : Type 0 where
+  pub way : (d : ℕ) → distance ≡ Some d
+      → (steps : List (ℕ × ℕ)) × IsDeadEnd n x steps × (length steps ≡ d)
+  pub least : (steps : List (ℕ × ℕ)) → IsDeadEnd n x steps
       → (d : ℕ) × (distance ≡ Some d) × (d ≤ length steps)
 
--- the distance that is kept of x
-abbrev pub distance_in : List (Option ℕ) → ℕ → Option ℕ
-distance_in distances x = option_and_then (λ d. d) (slice_get distances x)
+-- where the ways from x lead
+pub record AreWaysFrom (n : Net) (x : ℕ) (ways : Ways) : Type 0 where
+  pub distance : IsDistance n x ways.dead_end
+  pub home : ways.home ≡ true ↔ LeadsHome n x
 
--- it is kept of these exchanges
-abbrev pub AreKept : Net → Goal → List (Option ℕ) → (xs : List ℕ) → Type 0
-AreKept n goal distances xs = (x : ℕ) → Among x xs → IsDistance n goal x (distance_in distances x)
+-- all ways lead home
+abbrev pub home_alone : Ways
+home_alone = record { dead_end = None; home = true }
 
--- unless x is the home, it is kept of each exchange to which a group leads from there, and one more
--- step can be counted
-abbrev pub IsKnownFrom : Net → Goal → List (Option ℕ) → ℕ → Type 0
-IsKnownFrom n goal distances x =
-    x ≢ n.home → (g y : ℕ) → Among g (n.list x) → n.far g x ≡ Some y
-    → IsDistance n goal y (distance_in distances y)
-    × ((d : ℕ) → distance_in distances y ≡ Some d → d + 1 < 2 ^ 64)
+-- no way leads on
+abbrev pub dead_end_alone : Ways
+dead_end_alone = record { dead_end = Some 0; home = false }
 
--- it is kept of all exchanges of walks
-abbrev pub AreNearest : Net → Goal → List (Option ℕ) → Type 0
-AreNearest n goal distances =
-    (x : ℕ) → IsReached n x → IsDistance n goal x (distance_in distances x)
+-- the ways from x that are kept
+abbrev pub ways_in : List Ways → ℕ → Ways
+ways_in kept x = get_or kept x home_alone
 
--- the step from x by a group, if a distance is kept of where it leads
-abbrev pub step_by : Net → List (Option ℕ) → (x g : ℕ) → Option Step
-step_by n distances x g =
+abbrev pub distance_in : List Ways → ℕ → Option ℕ
+distance_in kept x = (ways_in kept x).dead_end
+
+-- the ways from each exchange of a walk are kept
+abbrev pub AreAllWays : Net → List Ways → Type 0
+AreAllWays n kept = (x : ℕ) → IsReached n x → AreWaysFrom n x (ways_in kept x)
+
+-- the dead ends alone are marked
+pub record AreDeadEndsKept (n : Net) (ends : List ℕ) (kept : List Ways) : Type 0 where
+  pub long : length kept ≡ n.exchanges
+  pub dead : (x : ℕ) → Among x ends → ways_in kept x ≡ dead_end_alone
+  pub other : (x : ℕ) → (Among x ends → ⊥) → ways_in kept x ≡ home_alone
+
+-- the step from x by a group, if a way leads to a dead end from where it leads
+abbrev pub step_by : Net → List Ways → (x g : ℕ) → Option Step
+step_by n kept x g =
     option_and_then (λ y. option_map (λ d. record { group = g; to = y; distance = d })
-    (distance_in distances y)) (n.far g x)
+    (distance_in kept y)) (n.far g x)
 
 -- the nearer of two steps, and the first where they are as near
 abbrev pub nearer : Option Step → Option Step → Option Step
@@ -60,5 +68,12 @@ nearer (Some a) None = Some a
 nearer (Some a) (Some b) = if nat_lt b.distance a.distance then Some b else Some a
 
 -- the nearest step from x
-abbrev pub nearest_step : Net → List (Option ℕ) → (x : ℕ) → Option Step
-nearest_step n distances x = fold nearer None (map (step_by n distances x) (n.list x))
+abbrev pub nearest_step : Net → List Ways → (x : ℕ) → Option Step
+nearest_step n kept x = fold nearer None (map (step_by n kept x) (n.list x))
+
+-- a group leads from x to an exchange from which a way leads home
+abbrev pub leads_home : Net → List Ways → (x g : ℕ) → Bool
+leads_home n kept x g = option_map_or (λ y. (ways_in kept y).home) (n.far g x) false
+
+abbrev pub has_way_home : Net → List Ways → ℕ → Bool
+has_way_home n kept x = list_any (leads_home n kept x) (n.list x)

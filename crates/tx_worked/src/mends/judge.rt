@@ -1,6 +1,8 @@
 // What a mending answers beside what all routings of the network show.
 use crate::changes::{are_alike, is_ranked};
-use crate::mends::lists::Asked;
+use crate::mends::causes::Lacking;
+use crate::mends::kept::{Listed, kept_ranks};
+use crate::mends::lists::{Asked, Ranked};
 use crate::mends::order::{Routed, are_in_order};
 use crate::mends::serving::RoutingWork;
 use crate::mends::starts::count_at;
@@ -10,15 +12,15 @@ use std::alloc::Global;
 use tx_cert::Cert;
 use tx_change::first_difference;
 use tx_check::{Verdict, check};
-use tx_mend::Mending;
+use tx_mend::{Mending, Missing, Unserved};
 use tx_plan::{CodeId, ExchangeId, GroupId, Limits, Pair, Plan, Routes};
 use tx_text::NoMemory;
 
 /// What is wanted of a mending, and what the mended plan shows.
 #[derive(Drop)]
 pub struct Answers {
-    /// Each code with each exchange that cannot be served for it.
-    pub unserved: Vec<(CodeId, ExchangeId)>,
+    /// What no routings serve.
+    pub lacking: Lacking,
     /// What the walks of the mended plan show for each code.
     surveys: Vec<Survey>,
     list: Vec<GroupId>,
@@ -28,35 +30,12 @@ pub struct Answers {
 impl Answers {
     pub fn new(alloc: Global) -> Answers {
         Answers {
-            unserved: Vec::new(alloc),
+            lacking: Lacking::new(alloc),
             surveys: Vec::new(alloc),
             list: Vec::new(alloc),
             routed: Vec::new(alloc),
         }
     }
-}
-
-/// Makes the list of what no routings serve: exchanges where calls for a code may start.
-pub fn put_unserved(
-    asked: Asked<'_>,
-    unserved: &mut Vec<(CodeId, ExchangeId)>,
-) -> Result<(), NoMemory> {
-    unserved.clear();
-    for i in 0..asked.plan.codes() {
-        for j in 0..asked.plan.exchanges() {
-            if let (Some(code), Some(exchange)) = (
-                asked.plan.code_at(i),
-                asked.plan.exchange_at(j),
-            ) {
-                if asked.plan.is_origin_for(exchange, code)
-                    && asked.rank(code, exchange).is_none()
-                {
-                    unserved.push((code, exchange))?;
-                }
-            }
-        }
-    }
-    Ok(())
 }
 
 /// Whether for each code an audit finds nothing wrong with the code in some routing.
@@ -105,15 +84,34 @@ fn is_reached(survey: &Survey, exchange: ExchangeId) -> bool {
     count_at(&survey.nearest, exchange.index()).is_some()
 }
 
-/// Whether the rank of an exchange in a mended plan, if a call comes there, is its least one.
-fn is_least(asked: Asked<'_>, survey: &Survey, exchange: ExchangeId) -> bool {
+/// Whether the rank of an exchange in a mended plan, if a call comes there, is its kept one.
+fn is_kept(ranked: Ranked<'_>, survey: &Survey, exchange: ExchangeId) -> bool {
     let height = count_at(&survey.heights, exchange.index());
-    height.is_none() || height == asked.rank(survey.code, exchange)
+    height.is_none() || height == ranked.rank(exchange)
+}
+
+/// Whether each group that a list of a mended plan has lost could not stay, and each that is new is
+/// needed.
+fn is_least(ranked: Ranked<'_>, mended: &Plan, survey: &Survey, exchange: ExchangeId) -> bool {
+    let before = ranked.asked.plan.list(exchange, ranked.code);
+    let list = mended.list(exchange, ranked.code);
+    for group in before {
+        let listed = Listed {
+            exchange,
+            group: *group,
+        };
+        if !list.contains(group) && ranked.asked.could_stay(ranked.code, mended, listed) {
+            return false;
+        }
+    }
+    let is_longer = list.iter().any(|it| !before.contains(it));
+    !is_longer
+        || is_reached(survey, exchange) && list.len() == usize::from(ranked.asked.limits.spare) + 1
 }
 
 /// How the list of an exchange in a mended plan, or its rank, differs from what it has to be.
 fn list_differs(
-    asked: Asked<'_>,
+    ranked: Ranked<'_>,
     mended: &Plan,
     survey: &Survey,
     keeps: bool,
@@ -123,20 +121,23 @@ fn list_differs(
 ) -> Result<Option<Difference>, NoMemory> {
     let code = survey.code;
     let reached = is_reached(survey, exchange);
-    asked.put_list(code, exchange, keeps, reached, list)?;
-    if mended.list(exchange, code) != list.as_slice() {
+    ranked.put_list(exchange, keeps || !reached, list)?;
+    if mended.list(exchange, code) != list.as_slice()
+        || !is_least(ranked, mended, survey, exchange)
+    {
         return Ok(Some(Difference::ListAt(code, exchange)));
     }
-    if !keeps && !is_least(asked, survey, exchange) {
+    if !keeps && !is_kept(ranked, survey, exchange) {
         return Ok(Some(Difference::RankAt(code, exchange)));
     }
-    tally.add_list(asked.plan.list(exchange, code), list.as_slice());
+    tally.add_list(ranked.asked.plan.list(exchange, code), list.as_slice());
     Ok(None)
 }
 
 /// How the lists of a mended plan for a code, whose present walks and whose walks by these show
 /// this, differ from what they have to be.
 fn code_differs(
+    alloc: Global,
     asked: Asked<'_>,
     mended: &Plan,
     present: &Survey,
@@ -147,9 +148,15 @@ fn code_differs(
 ) -> Result<Option<Difference>, NoMemory> {
     put_code(asked.plan, present, asked.limits, wanted)?;
     let keeps = wanted.is_empty();
+    let ranks = kept_ranks(alloc, asked, survey.code)?;
+    let ranked = Ranked {
+        asked,
+        code: survey.code,
+        ranks: &ranks,
+    };
     for index in 0..asked.plan.exchanges() {
         if let Some(exchange) = asked.plan.exchange_at(index) {
-            let differs = list_differs(asked, mended, survey, keeps, exchange, list, tally)?;
+            let differs = list_differs(ranked, mended, survey, keeps, exchange, list, tally)?;
             if differs.is_some() {
                 return Ok(differs);
             }
@@ -160,6 +167,7 @@ fn code_differs(
 
 /// How the lists of a mended plan differ from what they have to be.
 fn lists_differ(
+    alloc: Global,
     asked: Asked<'_>,
     mended: &Plan,
     answers: &mut Answers,
@@ -168,7 +176,7 @@ fn lists_differ(
 ) -> Result<Option<Difference>, NoMemory> {
     let list = &mut answers.list;
     for (present, survey) in asked.surveys.iter().zip(&answers.surveys) {
-        let differs = code_differs(asked, mended, present, survey, list, wanted, tally)?;
+        let differs = code_differs(alloc, asked, mended, present, survey, list, wanted, tally)?;
         if differs.is_some() {
             return Ok(differs);
         }
@@ -214,7 +222,7 @@ fn mended_differs(
     if differs.is_some() {
         return Ok(differs);
     }
-    lists_differ(asked, mended, answers, &mut work.wanted, tally)
+    lists_differ(alloc, asked, mended, answers, &mut work.wanted, tally)
 }
 
 /// Whether the pair of codes is the ambiguous one that is wanted.
@@ -232,14 +240,18 @@ fn is_pair(pair: Option<(CodeId, CodeId)>, wanted: Option<Wanted>) -> bool {
 fn refusal_differs(
     asked: Asked<'_>,
     plan: &Plan,
-    unserved: &[(CodeId, ExchangeId)],
+    unserved: &[Unserved],
+    missing: &[Missing],
     pair: Option<(CodeId, CodeId)>,
-    wanted: &[(CodeId, ExchangeId)],
+    wanted: &Lacking,
 ) -> Option<Difference> {
     if !are_alike(asked.plan, plan) {
         return Some(Difference::Before);
     }
-    if unserved != wanted || !is_pair(pair, ambiguous(asked.plan)) {
+    if unserved != wanted.unserved.as_slice()
+        || missing != wanted.missing.as_slice()
+        || !is_pair(pair, ambiguous(asked.plan))
+    {
         return Some(Difference::Unserved);
     }
     None
@@ -254,7 +266,7 @@ pub fn mending_differs(
     work: &mut RoutingWork,
     tally: &mut MendTally,
 ) -> Result<Option<Difference>, NoMemory> {
-    let can_be = answers.unserved.is_empty() && ambiguous(asked.plan).is_none();
+    let can_be = answers.lacking.unserved.is_empty() && ambiguous(asked.plan).is_none();
     match mending {
         Mending::Mended(mended, before, cert) => {
             if can_be {
@@ -263,13 +275,13 @@ pub fn mending_differs(
                 Ok(Some(Difference::Found))
             }
         }
-        Mending::NoRouting(plan, unserved, pair) => {
-            let wanted = answers.unserved.as_slice();
+        Mending::NoRouting(plan, unserved, missing, pair) => {
+            let wanted = &answers.lacking;
             tally.add_refused(pair.is_some(), unserved.len());
             if can_be {
                 Ok(Some(Difference::Count))
             } else {
-                Ok(refusal_differs(asked, &plan, &unserved, pair, wanted))
+                Ok(refusal_differs(asked, &plan, &unserved, &missing, pair, wanted))
             }
         }
     }

@@ -1,5 +1,6 @@
-// The lists that a mended plan has to have, by the least ranks of all routings.
+// The lists that a mended plan has to have, by ranks of its exchanges.
 use crate::mends::served::{CodeServed, Served};
+use crate::mends::starts::count_at;
 use crate::walks::Survey;
 use tx_plan::{CodeId, ExchangeId, GroupId, Limits, Plan};
 use tx_text::NoMemory;
@@ -30,33 +31,56 @@ impl<'a> Asked<'a> {
             None => None,
         }
     }
+}
 
-    /// The least rank of the exchange to which a group leads from another one.
-    fn rank_across(&self, code: CodeId, exchange: ExchangeId, group: GroupId) -> Option<usize> {
-        match self.plan.other_end(group, exchange) {
-            Some(far) => self.rank(code, far),
+/// The ranks of a code, by which lists are made.
+#[derive(Clone, Copy)]
+pub struct Ranked<'a> {
+    pub asked: Asked<'a>,
+    pub code: CodeId,
+    pub ranks: &'a [Option<usize>],
+}
+
+impl<'a> Ranked<'a> {
+    /// The rank of an exchange.
+    pub fn rank(&self, exchange: ExchangeId) -> Option<usize> {
+        count_at(self.ranks, exchange.index())
+    }
+
+    /// The rank of the exchange to which a group leads from another one.
+    fn rank_across(&self, exchange: ExchangeId, group: GroupId) -> Option<usize> {
+        match self.asked.plan.other_end(group, exchange) {
+            Some(far) => self.rank(far),
             None => None,
         }
     }
 
     /// Whether a group leads from an exchange to a rank below this one.
-    fn leads_below(&self, code: CodeId, exchange: ExchangeId, group: GroupId, rank: usize) -> bool {
-        match self.rank_across(code, exchange, group) {
+    fn leads_below(&self, exchange: ExchangeId, group: GroupId, rank: usize) -> bool {
+        match self.rank_across(exchange, group) {
             Some(far) => far < rank,
             None => false,
+        }
+    }
+
+    /// Whether a group stays in the list of an exchange: it leads to a smaller rank, or there is no
+    /// rank.
+    pub fn stays(&self, exchange: ExchangeId, group: GroupId) -> bool {
+        match self.rank(exchange) {
+            Some(rank) => self.leads_below(exchange, group, rank),
+            None => true,
         }
     }
 
     /// Adds the groups of the present list that lead to ranks below this one.
     fn add_kept(
         &self,
-        code: CodeId,
         exchange: ExchangeId,
         rank: usize,
         list: &mut Vec<GroupId>,
     ) -> Result<(), NoMemory> {
-        for group in self.plan.list(exchange, code) {
-            if self.leads_below(code, exchange, *group, rank) {
+        for group in self.asked.plan.list(exchange, self.code) {
+            if self.leads_below(exchange, *group, rank) {
                 list.push(*group)?;
             }
         }
@@ -66,29 +90,27 @@ impl<'a> Asked<'a> {
     /// Whether a group is to are in a list that has too few.
     fn is_wanting(
         &self,
-        code: CodeId,
         exchange: ExchangeId,
         group: GroupId,
         far: usize,
         list: &[GroupId],
     ) -> bool {
-        list.len() <= usize::from(self.limits.spare)
-            && self.plan.may_seize(group, exchange)
-            && self.rank_across(code, exchange, group) == Some(far)
+        list.len() <= usize::from(self.asked.limits.spare)
+            && self.asked.plan.may_seize(group, exchange)
+            && self.rank_across(exchange, group) == Some(far)
             && !list.contains(&group)
     }
 
     /// Adds groups that lead to this rank, until there are enough.
     fn add_others(
         &self,
-        code: CodeId,
         exchange: ExchangeId,
         far: usize,
         list: &mut Vec<GroupId>,
     ) -> Result<(), NoMemory> {
-        for index in 0..self.plan.groups() {
-            if let Some(group) = self.plan.group_at(index) {
-                if self.is_wanting(code, exchange, group, far, list.as_slice()) {
+        for index in 0..self.asked.plan.groups() {
+            if let Some(group) = self.asked.plan.group_at(index) {
+                if self.is_wanting(exchange, group, far, list.as_slice()) {
                     list.push(group)?;
                 }
             }
@@ -96,39 +118,30 @@ impl<'a> Asked<'a> {
         Ok(())
     }
 
-    /// Adds the list of an exchange by the least ranks.
-    fn add_by_rank(
-        &self,
-        code: CodeId,
-        exchange: ExchangeId,
-        list: &mut Vec<GroupId>,
-    ) -> Result<(), NoMemory> {
-        if let Some(rank) = self.rank(code, exchange) {
-            self.add_kept(code, exchange, rank, list)?;
+    /// Adds the list of an exchange by these ranks.
+    fn add_by_rank(&self, exchange: ExchangeId, list: &mut Vec<GroupId>) -> Result<(), NoMemory> {
+        if let Some(rank) = self.rank(exchange) {
+            self.add_kept(exchange, rank, list)?;
             for far in 0..rank {
-                self.add_others(code, exchange, far, list)?;
+                self.add_others(exchange, far, list)?;
             }
         }
         Ok(())
     }
 
-    /// Makes the list that an exchange is to have for a code. Its present one, if the code keeps
-    /// its routes; none, if it had none and no call comes there.
+    /// Makes the list that an exchange is to have: its present one, unless a call comes there and
+    /// the code cannot keep its routes.
     pub fn put_list(
         &self,
-        code: CodeId,
         exchange: ExchangeId,
-        keeps: bool,
-        is_reached: bool,
+        stays: bool,
         list: &mut Vec<GroupId>,
     ) -> Result<(), NoMemory> {
         list.clear();
-        let present = self.plan.list(exchange, code);
-        if keeps {
-            list.extend_from_slice(present)?;
-        } else if is_reached || !present.is_empty() {
-            self.add_by_rank(code, exchange, list)?;
+        if stays {
+            list.extend_from_slice(self.asked.plan.list(exchange, self.code))?;
+            return Ok(());
         }
-        Ok(())
+        self.add_by_rank(exchange, list)
     }
 }

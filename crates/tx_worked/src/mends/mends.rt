@@ -1,7 +1,7 @@
 // The plans of a family, mended one after another.
 use crate::cases::{Stop, Told};
 use crate::families::{count_plans, put_plan};
-use crate::mends::judge::{Answers, all_are_ranked, mending_differs, put_unserved};
+use crate::mends::judge::{Answers, all_are_ranked, mending_differs};
 use crate::mends::lists::Asked;
 use crate::mends::routings::put_network;
 use crate::mends::served::CodeServed;
@@ -64,8 +64,8 @@ fn answer_differs(
         limits,
     };
     let answers = &mut work.answers;
-    put_unserved(asked, &mut answers.unserved)?;
-    if answers.unserved.is_empty() != all_are_ranked(asked) {
+    answers.lacking.put(asked)?;
+    if answers.lacking.unserved.is_empty() != all_are_ranked(asked) {
         return Ok(Some(Difference::Routings));
     }
     let mending = mending_of(alloc, work.text.as_slice(), limits)?;

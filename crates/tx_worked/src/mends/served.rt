@@ -22,10 +22,31 @@ impl Served {
     }
 }
 
-/// What they do for a code, by limits, and with each by spare numbers.
+/// A routing of a network for a code, and for each limit and spare number the rank of each exchange
+/// that it serves.
+#[derive(Drop)]
+pub struct Routing {
+    pub plan: Plan,
+    ranks: Vec<Vec<Option<usize>>>,
+}
+
+impl Routing {
+    /// The ranks with a limit and a spare number.
+    pub fn ranks(&self, limits: Limits) -> &[Option<usize>] {
+        match self.ranks.get(tried_before(limits)) {
+            Some(ranks) => ranks,
+            None => &[],
+        }
+    }
+}
+
+/// What they do for a code: by limits, and with each by spare numbers; without a limit, by spare
+/// numbers; and each of them.
 #[derive(Drop)]
 pub struct CodeServed {
     numbers: Vec<Served>,
+    unlimited: Vec<Vec<Option<usize>>>,
+    pub routings: Vec<Routing>,
 }
 
 /// Whether a finding is one for a code.
@@ -44,41 +65,31 @@ fn is_right(alloc: Global, routing: &Plan, code: CodeId, limits: Limits) -> Resu
     }
 }
 
-/// Takes in the rank of each exchange that a routing serves: nothing is wrong with its walks from
-/// there.
-fn note_ranks(
+/// Makes the list of the ranks of exchanges that a routing serves: nothing is wrong with its walks
+/// from there.
+fn put_ranks(
     routing: &Plan,
     starts: &[Survey],
     limits: Limits,
     wanted: &mut Vec<Wanted>,
-    ranks: &mut [Option<usize>],
+    ranks: &mut Vec<Option<usize>>,
 ) -> Result<(), NoMemory> {
+    ranks.clear();
     for (index, survey) in starts.iter().enumerate() {
         put_code(routing, survey, limits, wanted)?;
-        if wanted.is_empty() {
-            if let Some(height) = count_at(&survey.heights, index) {
-                note_lesser(ranks, index, height);
-            }
-        }
+        let height = count_at(&survey.heights, index);
+        ranks.push(if wanted.is_empty() { height } else { None })?;
     }
     Ok(())
 }
 
-/// Takes in what a routing does for a code, with a limit and a spare number.
-fn note_numbers(
-    alloc: Global,
-    routing: &Plan,
-    code: CodeId,
-    starts: &[Survey],
-    limits: Limits,
-    wanted: &mut Vec<Wanted>,
-    served: &mut Served,
-) -> Result<(), NoMemory> {
-    note_ranks(routing, starts, limits, wanted, &mut served.ranks)?;
-    if !served.is_ranked {
-        served.is_ranked = is_right(alloc, routing, code, limits)?;
+/// Takes in ranks, each where it is the lesser.
+pub fn note_ranks(ranks: &[Option<usize>], least: &mut [Option<usize>]) {
+    for (index, rank) in ranks.iter().enumerate() {
+        if let Some(rank) = rank {
+            note_lesser(least, index, *rank);
+        }
     }
-    Ok(())
 }
 
 /// What no routings serve, with a limit and a spare number.
@@ -89,22 +100,28 @@ fn none_served(alloc: Global, plan: &Plan) -> Result<Served, NoMemory> {
     })
 }
 
-/// Adds that for each limit and each spare number.
-fn put_none(alloc: Global, plan: &Plan, numbers: &mut Vec<Served>) -> Result<(), NoMemory> {
-    for _ in 0..NUMBERS {
-        for _ in 0..NUMBERS {
-            numbers.push(none_served(alloc, plan)?)?;
-        }
-    }
-    Ok(())
+/// The greatest limit that can be asked for, and a spare number.
+fn without_limit(spare: u8) -> Limits {
+    Limits { limit: 62, spare }
 }
 
 impl CodeServed {
     /// What no routings serve.
     pub fn new(alloc: Global, plan: &Plan) -> Result<CodeServed, NoMemory> {
-        let mut numbers = Vec::new(alloc);
-        put_none(alloc, plan, &mut numbers)?;
-        Ok(CodeServed { numbers })
+        let mut served = CodeServed {
+            numbers: Vec::new(alloc),
+            unlimited: Vec::new(alloc),
+            routings: Vec::new(alloc),
+        };
+        for _ in 0..NUMBERS {
+            served
+                .unlimited
+                .push(vec![in alloc; None; plan.exchanges()]?)?;
+            for _ in 0..NUMBERS {
+                served.numbers.push(none_served(alloc, plan)?)?;
+            }
+        }
+        Ok(served)
     }
 
     /// What they do with a limit and a spare number.
@@ -112,23 +129,60 @@ impl CodeServed {
         self.numbers.get(tried_before(limits))
     }
 
-    /// Takes in what a routing does for a code, whose walks from each exchange show this.
-    pub fn note(
+    /// The least rank of an exchange with a spare number and without a limit.
+    pub fn unlimited_rank(&self, spare: u8, exchange: ExchangeId) -> Option<usize> {
+        match self.unlimited.get(usize::from(spare)) {
+            Some(ranks) => count_at(ranks, exchange.index()),
+            None => None,
+        }
+    }
+
+    /// Takes in what a routing does for a code with a limit and a spare number.
+    fn note_numbers(
         &mut self,
         alloc: Global,
         routing: &Plan,
         code: CodeId,
+        limits: Limits,
+        ranks: &[Option<usize>],
+    ) -> Result<(), NoMemory> {
+        if let Some(served) = self.numbers.get_mut(tried_before(limits)) {
+            note_ranks(ranks, &mut served.ranks);
+            if !served.is_ranked {
+                served.is_ranked = is_right(alloc, routing, code, limits)?;
+            }
+        }
+        Ok(())
+    }
+
+    /// Takes in what a routing does for a code, whose walks from each exchange show this.
+    pub fn note(
+        &mut self,
+        alloc: Global,
+        routing: Plan,
+        code: CodeId,
         starts: &[Survey],
         wanted: &mut Vec<Wanted>,
     ) -> Result<(), NoMemory> {
+        let mut own = Vec::new(alloc);
         for limit in 0..NUMBERS {
             for spare in 0..NUMBERS {
                 let limits = Limits { limit, spare };
-                if let Some(served) = self.numbers.get_mut(tried_before(limits)) {
-                    note_numbers(alloc, routing, code, starts, limits, wanted, served)?;
-                }
+                let mut ranks = Vec::new(alloc);
+                put_ranks(&routing, starts, limits, wanted, &mut ranks)?;
+                self.note_numbers(alloc, &routing, code, limits, &ranks)?;
+                own.push(ranks)?;
             }
         }
+        for (spare, least) in (0..NUMBERS).zip(self.unlimited.iter_mut()) {
+            let mut ranks = Vec::new(alloc);
+            put_ranks(&routing, starts, without_limit(spare), wanted, &mut ranks)?;
+            note_ranks(&ranks, least);
+        }
+        self.routings.push(Routing {
+            plan: routing,
+            ranks: own,
+        })?;
         Ok(())
     }
 }

@@ -38,13 +38,13 @@ impl RoutingWork {
 /// Takes in what a routing does for a code.
 fn note_routing(
     alloc: Global,
-    routing: &Plan,
+    routing: Plan,
     code: CodeId,
     work: &mut RoutingWork,
     served: &mut CodeServed,
 ) -> Result<(), NoMemory> {
     work.routings = work.routings.saturating_add(1);
-    put_starts(alloc, routing, code, &mut work.steps, &mut work.starts)?;
+    put_starts(alloc, &routing, code, &mut work.steps, &mut work.starts)?;
     served.note(alloc, routing, code, &work.starts, &mut work.wanted)
 }
 
@@ -58,7 +58,7 @@ fn note_number(
 ) -> Result<(), Stop> {
     put_plan(&work.lines, number, &mut work.text)?;
     let routing = read_plan(alloc, work.text.as_slice())?;
-    Ok(note_routing(alloc, &routing, code, work, served)?)
+    Ok(note_routing(alloc, routing, code, work, served)?)
 }
 
 /// Makes all routings of a network for a code, and takes in what they do.

@@ -14,7 +14,7 @@ pub returns-in_err-write_mending-clause-told : goal.returns-in_err-write_mending
 returns-in_err-write_mending-clause-told g c =
     let r = c.in_ok-mending.ensures in
     rw (exits_with c.from_residual-in_err-write_mending.result Write c.from_residual-in_err-write_mending.ensures.1)
-    (record { mending = c.in_ok-mending.mending; right = is_right _ c.args.plan c.args.limits.limit c.args.limits.spare c.in_ok-mending.mending r.wherever r.routing r.mended r.before r.kept r.called r.confirmed r.same r.told r.pair; wrote = c.in_err-write_mending.ensures.0 })
+    (record { mending = c.in_ok-mending.mending; right = is_right _ c.args.plan c.args.limits.limit c.args.limits.spare c.in_ok-mending.mending r.wherever r.routing r.mended r.before r.kept r.least r.confirmed r.same r.told r.missing r.pair; wrote = c.in_err-write_mending.ensures.0 })
 
 pub returns-in_err-write_mending-clause-mark : goal.returns-in_err-write_mending-clause-mark
 returns-in_err-write_mending-clause-mark g c =
@@ -23,4 +23,4 @@ returns-in_err-write_mending-clause-mark g c =
 pub returns-clause-told : goal.returns-clause-told
 returns-clause-told g c =
     let r = c.in_ok-mending.ensures in
-    (is_right _ c.args.plan c.args.limits.limit c.args.limits.spare c.in_ok-mending.mending r.wherever r.routing r.mended r.before r.kept r.called r.confirmed r.same r.told r.pair, c.in_ok-write_mending.ensures.0)
+    (is_right _ c.args.plan c.args.limits.limit c.args.limits.spare c.in_ok-mending.mending r.wherever r.routing r.mended r.before r.kept r.least r.confirmed r.same r.told r.missing r.pair, c.in_ok-write_mending.ensures.0)

@@ -1,7 +1,7 @@
 use Rattle.std.proofs.Common.{ℕ, ◌∙◌, ◌∷◌, [], Bool, length, sym, ap, arith, length-append}
 use Rattle.std.specs.Prelude.{filter}
 use Rattle.arrayvec.specs.ArrayVec.{ArrayVec}
-use Rattle.tx_mend.specs.Lists.{leads_below}
+use Rattle.tx_mend.specs.KeptRanks.{leads_below}
 use Rattle.tx_mend.proofs.Least.{list_few}
 use Rattle.tx_mend.proofs.Dropping.{keep_put, keep_passed}
 use Rattle.tx_mend.proofs.filling.kept_below.Goals as goal

@@ -19,4 +19,4 @@ returns-in-None g c = λ of e.
     let at = c.index.ensures in
     let h = c.requires.exchange in
     let here : of x ≡ None = sym (value_at of (length p.exchanges) c.index.result None c.args.ranks.now e (omega arith) ∙ ap of at) ∙ c.in-None.is in
-    c.new.ensures ∙ sym (ap (λ (o : Option ℕ). list_of_rank p of c.args.code c.args.limits.spare x o) here)
+    c.group_list.ensures ∙ sym (ap (λ (o : Option ℕ). list_of_rank p of c.args.code c.args.limits.spare x o) here)

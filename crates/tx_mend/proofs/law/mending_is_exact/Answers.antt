@@ -1,5 +1,5 @@
-use Rattle.tx_mend.proofs.Trimmed.{mended_is, mending_exact, no_list_without_calls}
+use Rattle.tx_mend.proofs.Trimmed.{mended_is, mending_exact}
 use Rattle.tx_mend.proofs.law.mending_is_exact.Goals as goal
 
 pub returns : goal.returns
-returns c = record { mended = mended_is; exact = mending_exact; called = no_list_without_calls }
+returns c = record { mended = mended_is; exact = mending_exact }

@@ -1,23 +1,13 @@
-use Rattle.std.proofs.Common.{◌≡◌, ℕ, ◌<◌, List, length, sym, subst, ◌∙◌, IfOk}
+use Rattle.std.proofs.Common.{ℕ, List, sym, subst, IfOk}
 use Rattle.tx_plan.specs.Plan.{Plan}
 use Rattle.tx_cert.specs.Certificate.{rank_at}
 use Rattle.tx_rank.specs.Walks.{Net}
-use Rattle.tx_rank.specs.Nets.{IsNet}
 use Rattle.tx_rank.specs.Judged.{AreOrigins, IsJudged}
 use Rattle.tx_change.specs.ChangeNets.{change_net}
-use Rattle.tx_change.specs.inner.Joined.{Joined, AreJoined, joined_net}
-use Rattle.tx_change.proofs.JoinedNets.{joined_is}
-use Rattle.tx_order.specs.Transitions.{Transition, IsTransition, plan_front}
-use Rattle.tx_order.proofs.TwoFronts.{rules_with, network_with, is_between_net}
+use Rattle.tx_change.specs.inner.Joined.{Joined, AreJoined}
+use Rattle.tx_order.specs.Transitions.{plan_front}
+use Rattle.tx_order.proofs.TwoFronts.{net_is, net_rules}
 use Rattle.tx_order.proofs.between.rank_between.Goals as goal
-
--- the network that the joined lists make over the old plan
-module _ (w : Transition) (is : IsTransition w) (p : Plan) (old : p ≡ w.old) (c from to : ℕ) (h : c < length w.old.codes) (lists : List Joined) (joined : AreJoined (plan_front w from) (plan_front w to) c lists) where
-  net_is : joined_net p lists c ≡ change_net (plan_front w from) (plan_front w to) c
-  net_is = (λ i. joined_net (old i) lists c) ∙ joined_is (plan_front w from) (plan_front w to) (rules_with w is (λ _. from)) (rules_with w is (λ _. to)) (network_with w is (λ _. from) (λ _. to)) c (is_between_net w is c from to h) lists joined
-
-  net_rules : IsNet (joined_net p lists c)
-  net_rules = subst IsNet (sym net_is) (is_between_net w is c from to h)
 
 pub invariant_of-net : goal.invariant_of-net
 invariant_of-net g c =

@@ -1,32 +1,30 @@
-use Rattle.std.proofs.Common.{length, vec_len, sym, ap, ◌∙◌, arith, eqb-true, eq-eqb}
-use Rattle.tx_cert.specs.Certificate.{Certificate, rank_at, no_ranks_for}
-use Rattle.tx_cert.proofs.Ranks.{none_ranked}
-use Rattle.tx_rank.proofs.Listing.{none_of}
-use Rattle.tx_order.proofs.TwoFronts.{judged_safe, none_more}
+use Rattle.std.proofs.Common.{◌≡◌, ◌↔◌, ℕ, true, List, Option, sym, subst, IfOk}
+use Rattle.tx_plan.specs.Plan.{Plan}
+use Rattle.tx_rank.specs.Walks.{Net}
+use Rattle.tx_rank.specs.Nets.{Certifies}
+use Rattle.tx_rank.specs.Judged.{AreOrigins}
+use Rattle.tx_change.specs.ChangeNets.{change_net}
+use Rattle.tx_change.specs.inner.Joined.{Joined, AreJoined}
+use Rattle.tx_order.specs.Transitions.{plan_front}
+use Rattle.tx_order.proofs.TwoFronts.{net_is, net_rules}
 use Rattle.tx_order.proofs.joining.joins.Goals as goal
 
-pub rank_between-requires-clause-blank : goal.rank_between-requires-clause-blank
-rank_between-requires-clause-blank g c = λ x.
-    ap (λ (t : Certificate). rank_at t c.args.code x) (c.in_ok-cert.ensures ∙ ap no_ranks_for c.old_plan.ensures)
-    ∙ none_ranked (length c.args.transition.now.old.codes) (length c.args.transition.now.old.exchanges) c.args.code x
-
-pub rank_between-requires-clause-codes : goal.rank_between-requires-clause-codes
-rank_between-requires-clause-codes g c = ap (λ (t : Certificate). t.codes) (c.in_ok-cert.ensures ∙ ap no_ranks_for c.old_plan.ensures)
-
-pub rank_between-requires-clause-exchanges : goal.rank_between-requires-clause-exchanges
-rank_between-requires-clause-exchanges g c = ap (λ (t : Certificate). t.exchanges) (c.in_ok-cert.ensures ∙ ap no_ranks_for c.old_plan.ensures)
+pub invariant_of-net : goal.invariant_of-net
+invariant_of-net g c =
+    let w = c.args.transition.now in
+    let joined = subst (λ (j : List Joined). AreJoined (plan_front w c.args.from) (plan_front w c.args.to) c.args.code j) (sym c.deref.ensures.value) c.in_ok-lists.ensures in
+    record {
+      right = subst (λ (p : Plan). AreOrigins p c.args.origins.now) (sym c.old_plan.ensures) c.requires.origins;
+      net = net_rules w c.rules.ensures c.old_plan.result.now c.old_plan.ensures c.args.code c.args.from c.args.to c.requires.code c.deref.result.now joined;
+    }
 
 pub returns : goal.returns
 returns g c =
     let w = c.args.transition.now in
-    let findings = c.rank_between.new.findings in
-    let ranks = rank_at c.rank_between.new.cert c.args.code in (
-      λ h.
-          let empty = eqb-true (vec_len findings) 0 (sym c.is_empty.ensures ∙ h) in
-          let none = none_of findings.items (omega arith) in
-          judged_safe w c.args.code c.args.from c.args.to c.new-findings.result.items findings.items ranks c.new-findings.ensures.items none c.in_ok-rank_between.ensures.judged,
-      λ safe.
-          let none = none_more w c.rules.ensures c.args.code c.args.from c.args.to c.requires.code safe c.new-findings.result.items findings.items ranks c.in_ok-rank_between.ensures.judged c.new-findings.ensures.items in
-          let long = ap length none in
-          c.is_empty.ensures ∙ eq-eqb (vec_len findings) 0 (omega arith),
-    )
+    let joined = subst (λ (j : List Joined). AreJoined (plan_front w c.args.from) (plan_front w c.args.to) c.args.code j) (sym c.deref.ensures.value) c.in_ok-lists.ensures in
+    let is = net_is w c.rules.ensures c.old_plan.result.now c.old_plan.ensures c.args.code c.args.from c.args.to c.requires.code c.deref.result.now joined in
+    let can = λ (n : Net) (limit spare : ℕ). IfOk c.can_be_certified.result (λ safe. (safe ≡ true) ↔ ((ranks : ℕ → Option ℕ) × Certifies n ranks limit spare)) in
+    let net = change_net (plan_front w c.args.from) (plan_front w c.args.to) c.args.code in
+    subst (λ (k : ℕ). can net w.limit k) c.limits-limits.ensures.spare
+    (subst (λ (l : ℕ). can net l c.limits-limits.result.spare) c.limits-limits.ensures.limit
+    (subst (λ (n : Net). can n c.limits-limits.result.limit c.limits-limits.result.spare) is c.can_be_certified.ensures))

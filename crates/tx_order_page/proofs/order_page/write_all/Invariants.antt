@@ -4,4 +4,4 @@ use Rattle.tx_order_page.specs.OrderTexts.{stage_texts}
 use Rattle.tx_order_page.proofs.order_page.write_all.Given as goal
 
 abbrev pub invariant-loop-stage : goal.invariant-loop-stage
-invariant-loop-stage g l = HasShown (g.W.Sink.taken l.initial.sink) (g.W.Sink.taken l.sink) (g.W.Sink.failed l.initial.sink) (g.W.Sink.failed l.sink) (texts_below l.stage (stage_texts l.new l.order))
+invariant-loop-stage g l = HasShown (g.W.PageSink.seen l.initial.sink) (g.W.PageSink.seen l.sink) (texts_below l.stage (stage_texts l.new l.order))

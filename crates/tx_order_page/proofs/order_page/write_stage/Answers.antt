@@ -9,13 +9,13 @@ pub overflow_add : goal.overflow_add
 overflow_add g c = let few = c.rules.ensures.few in let h = c.requires in omega arith
 
 pub returns-in_err-set : goal.returns-in_err-set
-returns-in_err-set g c = showed_stopped _ _ _ _ _ _ c.in_err-set.ensures c.from_residual.ensures.0
+returns-in_err-set g c = showed_stopped _ _ _ _ c.in_err-set.ensures c.from_residual.ensures.0
 
 pub returns-in_err-write_table : goal.returns-in_err-write_table
-returns-in_err-write_table g c = showed_stopped _ _ _ _ _ _ c.in_err-write_table.ensures c.from_residual-in_err-write_table.ensures.0
+returns-in_err-write_table g c = showed_stopped _ _ _ _ c.in_err-write_table.ensures c.from_residual-in_err-write_table.ensures.0
 
 pub returns : goal.returns
 returns g c =
     let o = c.args.order.now in
-    showed_then _ _ _ _ _ _ (decimal (c.args.stage + 1) ∷ []) _ _ c.in_ok-set.ensures
-    (showed_end _ _ _ _ _ _ (table_texts c.args.new.now (plan_before o c.args.stage) (plan_before o (c.args.stage + 1))) _ c.in_ok-write_table.ensures c.set-2.ensures)
+    showed_then _ _ _ (decimal (c.args.stage + 1) ∷ []) _ _ c.in_ok-set.ensures
+    (showed_end _ _ _ (table_texts c.args.new.now (plan_before o c.args.stage) (plan_before o (c.args.stage + 1))) _ c.in_ok-write_table.ensures c.set-2.ensures)

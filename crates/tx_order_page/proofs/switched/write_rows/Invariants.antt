@@ -5,4 +5,4 @@ use Rattle.tx_order_page.specs.inner.Between.{before_of, after_of}
 use Rattle.tx_order_page.proofs.switched.write_rows.Given as goal
 
 abbrev pub invariant-loop-index : goal.invariant-loop-index
-invariant-loop-index g l = HasShown (g.W.Sink.taken l.initial.sink) (g.W.Sink.taken l.sink) (g.W.Sink.failed l.initial.sink) (g.W.Sink.failed l.sink) (texts_below l.index (exchange_texts l.plan (before_of l.between) (after_of l.between)))
+invariant-loop-index g l = HasShown (g.W.PageSink.seen l.initial.sink) (g.W.PageSink.seen l.sink) (texts_below l.index (exchange_texts l.plan (before_of l.between) (after_of l.between)))

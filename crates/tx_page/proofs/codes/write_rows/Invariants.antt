@@ -5,4 +5,4 @@ use Rattle.tx_page.specs.CodeTexts.{code_texts}
 use Rattle.tx_page.proofs.codes.write_rows.Given as goal
 
 abbrev pub invariant-loop-i : goal.invariant-loop-i
-invariant-loop-i g l = HasShown (g.W.Sink.taken l.initial.sink) (g.W.Sink.taken l.sink) (g.W.Sink.failed l.initial.sink) (g.W.Sink.failed l.sink) (flat_map (code_texts l.plan) (take l.i l.grades))
+invariant-loop-i g l = HasShown (g.W.PageSink.seen l.initial.sink) (g.W.PageSink.seen l.sink) (flat_map (code_texts l.plan) (take l.i l.grades))

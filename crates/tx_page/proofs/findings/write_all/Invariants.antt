@@ -5,4 +5,4 @@ use Rattle.tx_page.specs.WrongTexts.{finding_texts}
 use Rattle.tx_page.proofs.findings.write_all.Given as goal
 
 abbrev pub invariant-loop-i : goal.invariant-loop-i
-invariant-loop-i g l = HasShown (g.W.Sink.taken l.initial.sink) (g.W.Sink.taken l.sink) (g.W.Sink.failed l.initial.sink) (g.W.Sink.failed l.sink) (flat_map (finding_texts l.plan l.limits.spare) (take l.i l.findings))
+invariant-loop-i g l = HasShown (g.W.PageSink.seen l.initial.sink) (g.W.PageSink.seen l.sink) (flat_map (finding_texts l.plan l.limits.spare) (take l.i l.findings))

@@ -4,4 +4,4 @@ use Rattle.tx_page.specs.NetworkTexts.{home_texts}
 use Rattle.tx_page.proofs.network.write_codes.Given as goal
 
 abbrev pub invariant-loop-index : goal.invariant-loop-index
-invariant-loop-index g l = HasShown (g.W.Sink.taken l.initial.sink) (g.W.Sink.taken l.sink) (g.W.Sink.failed l.initial.sink) (g.W.Sink.failed l.sink) (texts_below l.index (home_texts l.plan l.exchange))
+invariant-loop-index g l = HasShown (g.W.PageSink.seen l.initial.sink) (g.W.PageSink.seen l.sink) (texts_below l.index (home_texts l.plan l.exchange))

@@ -4,4 +4,4 @@ use Rattle.tx_page.specs.NetworkTexts.{exchange_texts}
 use Rattle.tx_page.proofs.network.write_exchanges.Given as goal
 
 abbrev pub invariant-loop-index : goal.invariant-loop-index
-invariant-loop-index g l = HasShown (g.W.Sink.taken l.initial.sink) (g.W.Sink.taken l.sink) (g.W.Sink.failed l.initial.sink) (g.W.Sink.failed l.sink) (texts_below l.index (exchange_texts l.plan))
+invariant-loop-index g l = HasShown (g.W.PageSink.seen l.initial.sink) (g.W.PageSink.seen l.sink) (texts_below l.index (exchange_texts l.plan))

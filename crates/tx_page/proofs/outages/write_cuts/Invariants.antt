@@ -5,4 +5,4 @@ use Rattle.tx_page.specs.OutageTexts.{cut_texts}
 use Rattle.tx_page.proofs.outages.write_cuts.Given as goal
 
 abbrev pub invariant-loop-i : goal.invariant-loop-i
-invariant-loop-i g l = HasShown (g.W.Sink.taken l.initial.sink) (g.W.Sink.taken l.sink) (g.W.Sink.failed l.initial.sink) (g.W.Sink.failed l.sink) (flat_map (cut_texts l.plan) (take l.i l.cuts))
+invariant-loop-i g l = HasShown (g.W.PageSink.seen l.initial.sink) (g.W.PageSink.seen l.sink) (flat_map (cut_texts l.plan) (take l.i l.cuts))

@@ -5,4 +5,4 @@ use Rattle.tx_page.specs.OutageTexts.{shown_texts}
 use Rattle.tx_page.proofs.outages.write_outcomes.Given as goal
 
 abbrev pub invariant-loop-i : goal.invariant-loop-i
-invariant-loop-i g l = HasShown (g.W.Sink.taken l.initial.sink) (g.W.Sink.taken l.sink) (g.W.Sink.failed l.initial.sink) (g.W.Sink.failed l.sink) (flat_map (shown_texts l.plan l.risks) (take l.i l.outcomes))
+invariant-loop-i g l = HasShown (g.W.PageSink.seen l.initial.sink) (g.W.PageSink.seen l.sink) (flat_map (shown_texts l.plan l.risks) (take l.i l.outcomes))

@@ -5,7 +5,7 @@ use Rattle.tx_rank.proofs.short_walks.add_shorts.Goals as goal
 
 pub returns-then-not-has_short : goal.returns-then-not-has_short
 returns-then-not-has_short g c =
-    none_short (g.N.CodeNet.net c.args.net.now) c.args.code c.args.spare (rank_in c.args.marks.now) c.requires.ranks c.args.findings.now.items (c.has_short.ensures (search rules))
+    none_short (g.N.CodeNet.net c.args.net.now) c.args.code c.args.spare (rank_in c.args.marks.now) c.requires.ranks c.args.findings.now.items (c.has_short.ensures.not_so (search rules))
 
 pub loop-index-init : goal.loop-index-init
 loop-index-init g c = below_none (g.N.CodeNet.net c.args.net.now) c.args.code c.args.spare (rank_in c.args.marks.now) c.requires.ranks c.args.findings.now.items

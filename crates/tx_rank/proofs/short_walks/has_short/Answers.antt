@@ -2,8 +2,8 @@ use Rattle.std.proofs.Common.{arith}
 use Rattle.tx_rank.proofs.Passes.{rank_within}
 use Rattle.tx_rank.proofs.short_walks.has_short.Goals as goal
 
-pub returns : goal.returns
-returns g c = λ _ x s.
+pub returns-clause-not_so : goal.returns-clause-not_so
+returns-clause-not_so g c = λ _ x s.
     let w = rank_within c.args.marks.now x s.rank s.ranked in
     let e = c.exchanges-index-end.ensures in
     let l = c.requires in

@@ -1,7 +1,52 @@
-use Rattle.std.proofs.Common.{◌≡◌, ◌+◌, length, sym, subst, arith}
+use Rattle.std.proofs.Common.{◌≡◌, ◌+◌, ◌∙◌, [], length, not, sym, ap, subst, arith, append-nil}
+use Rattle.std.specs.List.{list_any}
+use Rattle.tx_plan.specs.Among.{Among}
+use Rattle.tx_cert.specs.Certificate.{ranks_of}
+use Rattle.tx_risk.specs.Outages.{fails_at}
+use Rattle.tx_risk.specs.inner.Left.{left_net}
+use Rattle.tx_risk.specs.inner.Nearest.{AreDeadEnds}
 use Rattle.tx_risk.specs.inner.Cutting.{Adds, AreCutsBefore}
 use Rattle.tx_risk.proofs.AddedCuts.{before_none, before_all, asked_within}
+use Rattle.tx_risk.proofs.Unhit.{unhit, emptied_dead}
 use Rattle.tx_risk.proofs.cutting.add_cuts.Goals as goal
+
+pub returns-then-not-is_hit : goal.returns-then-not-is_hit
+returns-then-not-is_hit g c =
+    let l = c.args.left.now in
+    let o = c.args.outage.now in
+    let ends = c.args.ends.now in
+    let k = c.requires.certified in
+    let dead = c.deref.ensures.value ∙ c.in_ok-dead_ends.ensures in
+    record {
+      mine = [];
+      added = sym (append-nil c.args.cuts.now.items);
+      these = unhit l c.exchanges-exchanges.ensures.rules ends c.requires.ends (ranks_of c.args.ranks.now) k.0 k.1 k.2 o
+          c.requires.takes
+          (ap (list_any (λ x. not (fails_at o x))) (sym dead) ∙ sym c.is_hit.ensures ∙ c.if-not-is_hit.true);
+    }
+
+pub not_above-from-requires-clause-dead_ends : goal.not_above-from-requires-clause-dead_ends
+not_above-from-requires-clause-dead_ends g c =
+    let l = c.args.left.now in
+    let k = c.requires.certified in
+    subst (AreDeadEnds (left_net l) c.args.order.now)
+    (sym (c.deref-2.ensures.value ∙ c.in_ok-dead_ends.ensures))
+    (emptied_dead l c.exchanges-exchanges.ensures.rules c.args.ends.now c.requires.ends (ranks_of c.args.ranks.now)
+    k.0 k.1 k.2 c.args.order.now c.requires.by_rank)
+
+pub ways_of-requires-clause-dead_ends : goal.ways_of-requires-clause-dead_ends
+ways_of-requires-clause-dead_ends g c =
+    let l = c.args.left.now in
+    let k = c.requires.certified in
+    subst (AreDeadEnds (left_net l) c.args.order.now)
+    (sym (c.deref-3.ensures.value ∙ c.in_ok-dead_ends.ensures))
+    (emptied_dead l c.exchanges-exchanges.ensures.rules c.args.ends.now c.requires.ends (ranks_of c.args.ranks.now)
+    k.0 k.1 k.2 c.args.order.now c.requires.by_rank)
+
+pub ways_of-requires-clause-before : goal.ways_of-requires-clause-before
+ways_of-requires-clause-before g c = λ x m way.
+    subst (Among x) (c.deref-2.ensures.value ∙ sym c.deref-3.ensures.value)
+    (c.not_above-from.ensures x m way)
 
 pub loop-index-init : goal.loop-index-init
 loop-index-init g c = before_none c.args.left.now c.args.outage.now c.args.cuts.now.items
@@ -20,7 +65,7 @@ loop-index-preserved g c =
 pub returns : goal.returns
 returns g c =
     let l = c.args.left.now in
-    let e = c.exchanges-index-end.ensures in
+    let e = c.exchanges-exchanges.ensures in
     let all : c.loop-index.index ≡ length l.plan.exchanges =
     let t = c.loop-index-test.false in let a = c.loop-index.auto.index-end in
     let n = e.count in omega arith in

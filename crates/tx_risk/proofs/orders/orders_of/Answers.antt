@@ -1,10 +1,10 @@
-use Rattle.std.proofs.Common.{◌≡◌, ◌+◌, ◌<◌, ◌∷◌, ◌++◌, [], ◌∙◌, inl, inr, sym, ap, subst, length, length-append, arith}
+use Rattle.std.proofs.Common.{◌≡◌, ◌+◌, ◌<◌, ◌∷◌, [], ◌∙◌, inl, inr, sym, ap, subst, length, length-append, arith}
 use Rattle.std.specs.Prelude.{slice_get}
 use Rattle.tx_cert.specs.Certificate.{ranks_of}
 use Rattle.tx_rank.specs.Walks.{net_of}
 use Rattle.tx_rank.proofs.Origins.{at_push}
 use Rattle.tx_rank.proofs.Certifying.{certifies_code}
-use Rattle.tx_risk.specs.inner.Orders.{IsOrder}
+use Rattle.tx_risk.specs.inner.Orders.{IsOrder, IsByRank}
 use Rattle.tx_risk.proofs.orders.orders_of.Goals as goal
 
 pub order_of-requires-clause-certified : goal.order_of-requires-clause-certified
@@ -28,8 +28,11 @@ loop-index-preserved g c =
       each = λ d e at. elim (at_push old order e d (ap (λ l. slice_get l d) (sym k.items) ∙ at)) [
         | inl m ↦ i.each d e m
         | inr m ↦
-            subst (λ n. IsOrder (net_of p n) e.items) (c.of.ensures ∙ sym (m.0 ∙ i.long))
-            (subst (λ f. IsOrder (net_of p c.of.result) f.items) (sym m.1) c.in_ok-order_of.ensures)
+            subst (λ n. IsOrder (net_of p n) e.items × IsByRank (ranks_of c.args.ranks.now n) e.items)
+            (c.of.ensures ∙ sym (m.0 ∙ i.long))
+            (subst (λ f. IsOrder (net_of p c.of.result) f.items
+            × IsByRank (ranks_of c.args.ranks.now c.of.result) f.items) (sym m.1)
+            (c.in_ok-order_of.ensures.order, c.in_ok-order_of.ensures.by_rank))
       ];
       room = let r = i.room in let q = k.capacity in omega arith;
     }

@@ -1,50 +1,19 @@
-use Rattle.std.proofs.Common.{◌≡◌, ◌<◌, ◌∙◌, [], Some, sym, ap, subst, length, arith, append-nil}
+use Rattle.std.proofs.Common.{◌≡◌, ◌<◌, ◌∙◌, Some, sym, ap, subst, length, arith}
 use Rattle.std.specs.Prelude.{slice_get}
 use Rattle.std.proofs.lemmas.Option.{slice_get-get_or}
+use Rattle.tx_cert.specs.Certificate.{ranks_of}
 use Rattle.tx_rank.specs.Walks.{net_of}
 use Rattle.tx_risk.specs.Outages.{risk_of, AreCutsBelow, AreCutsOfCode}
-use Rattle.tx_risk.specs.inner.Left.{Left, IsLeft, left_net}
-use Rattle.tx_risk.specs.inner.Orders.{IsOrder}
+use Rattle.tx_risk.specs.inner.Left.{Left, left_net}
+use Rattle.tx_risk.specs.inner.Orders.{IsOrder, IsByRank}
 use Rattle.tx_risk.specs.inner.Cutting.{Adds}
 use Rattle.tx_risk.specs.inner.Marked.{marked}
 use Rattle.tx_risk.specs.inner.Hits.{AreEnds, TakesItsGroups}
 use Rattle.tx_risk.proofs.Marking.{same_risk}
 use Rattle.tx_risk.proofs.Ordering.{order_left}
-use Rattle.tx_risk.proofs.Unhit.{takes, unhit}
+use Rattle.tx_risk.proofs.Unhit.{takes}
 use Rattle.tx_risk.proofs.AddedOutages.{codes_next}
 use Rattle.tx_risk.proofs.outages.cuts_of.Goals as goal
-
-pub loop-index-preserved-then-not-is_hit : goal.loop-index-preserved-then-not-is_hit
-loop-index-preserved-then-not-is_hit g c =
-    let p = c.args.plan.now in
-    let o = c.args.outage.now in
-    let risk = risk_of p c.args.risks.now o in
-    let old = c.loop-index.cuts.items in
-    let marks = c.deref-in-loop-index.result.now in
-    let same : marked marks ≡ risk =
-    same_risk _ _ (λ h. ap (λ l. marked l h) c.deref-in-loop-index.ensures.value
-    ∙ c.in_ok-gone.ensures h) in
-    let left : Left = record { plan = p; marks = marks; code = c.of.result } in
-    let is : IsLeft left = record {
-      rules = c.codes-index-end.ensures.rules;
-      code = let t = c.loop-index-test.true in let e = c.codes-index-end.ensures.count in
-          let at = c.of.ensures in omega arith;
-    } in
-    let gone = c.deref.ensures.value ∙ sym c.deref-in-loop-index.ensures.value in
-    let ends = subst (AreEnds p (marked marks) (length p.groups))
-    (sym c.deref-in-loop-index-2.ensures.value)
-    (subst (λ l. AreEnds p (marked l) (length p.groups) c.in_ok-ends.ends.items) gone
-    c.in_ok-ends.ensures) in
-    let none = unhit left is o c.requires.grade
-    (subst (λ r. TakesItsGroups p r o) (sym same) (takes p c.args.risks.now o))
-    c.deref-in-loop-index-2.result.now ends (sym c.is_hit.ensures ∙ c.if-not-is_hit.true) in
-    let mine : Adds (AreCutsOfCode p risk o c.of.result) old old = record {
-      mine = [];
-      added = sym (append-nil old);
-      these = subst (λ r. AreCutsOfCode {A = g.row.A.Denot} p r o c.of.result []) same none;
-    } in
-    codes_next p risk o c.loop-index.index old old c.loop-index.invariant
-    (subst (λ k. Adds (AreCutsOfCode p risk o k) old old) c.of.ensures mine)
 
 pub add_cuts-requires-clause-order : goal.add_cuts-requires-clause-order
 add_cuts-requires-clause-order g c =
@@ -52,16 +21,48 @@ add_cuts-requires-clause-order g c =
     let orders = c.args.orders.now in
     let order = c.index-orders-index.result in
     let marks = c.deref-in-loop-index.result.now in
+    let left : Left = record { plan = p; marks = marks; code = c.of.result } in
     let within : c.loop-index.index < length orders =
     let t = c.loop-index-test.true in let e = c.codes-index-end.ensures.count in
     let l = c.requires.orders.long in omega arith in
     let at = ap (slice_get orders) c.of.ensures
     ∙ slice_get-get_or orders c.loop-index.index order within
     ∙ ap (λ k. Some k) (sym c.index-orders-index.is) in
-    let left : Left = record { plan = p; marks = marks; code = c.of.result } in
-    subst (IsOrder (left_net left)) (sym c.deref-in-loop-index-3.ensures.value)
+    subst (IsOrder (left_net left)) (sym c.deref-in-loop-index-2.ensures.value)
     (order_left (marked marks) (net_of p c.of.result) order.items
-    (c.requires.orders.each c.of.result order at))
+    (c.requires.orders.each c.of.result order at).0)
+
+pub add_cuts-requires-clause-by_rank : goal.add_cuts-requires-clause-by_rank
+add_cuts-requires-clause-by_rank g c =
+    let orders = c.args.orders.now in
+    let order = c.index-orders-index.result in
+    let within : c.loop-index.index < length orders =
+    let t = c.loop-index-test.true in let e = c.codes-index-end.ensures.count in
+    let l = c.requires.orders.long in omega arith in
+    let at = ap (slice_get orders) c.of.ensures
+    ∙ slice_get-get_or orders c.loop-index.index order within
+    ∙ ap (λ k. Some k) (sym c.index-orders-index.is) in
+    subst (IsByRank (ranks_of c.args.ranks.now c.of.result)) (sym c.deref-in-loop-index-2.ensures.value)
+    (c.requires.orders.each c.of.result order at).1
+
+pub add_cuts-requires-clause-ends : goal.add_cuts-requires-clause-ends
+add_cuts-requires-clause-ends g c =
+    let p = c.args.plan.now in
+    let gone = c.deref.ensures.value ∙ sym c.deref-in-loop-index.ensures.value in
+    subst (AreEnds p (marked c.deref-in-loop-index.result.now) (length p.groups))
+    (sym c.deref-in-loop-index-3.ensures.value)
+    (subst (λ l. AreEnds p (marked l) (length p.groups) c.in_ok-ends.ends.items) gone
+    c.in_ok-ends.ensures)
+
+pub add_cuts-requires-clause-takes : goal.add_cuts-requires-clause-takes
+add_cuts-requires-clause-takes g c =
+    let p = c.args.plan.now in
+    let o = c.args.outage.now in
+    let risk = risk_of p c.args.risks.now o in
+    let same : marked c.deref-in-loop-index.result.now ≡ risk =
+    same_risk _ _ (λ h. ap (λ l. marked l h) c.deref-in-loop-index.ensures.value
+    ∙ c.in_ok-gone.ensures h) in
+    subst (λ r. TakesItsGroups p r o) (sym same) (takes p c.args.risks.now o)
 
 pub loop-index-preserved : goal.loop-index-preserved
 loop-index-preserved g c =

@@ -1,4 +1,3 @@
-use Rattle.std.proofs.Common.{◌+◌}
 use Rattle.std.specs.Prelude.{unwrap_or}
 use Rattle.tx_risk.specs.inner.Left.{left_net}
 use Rattle.tx_risk.specs.inner.Nearest.{distance_in}
@@ -6,7 +5,7 @@ use Rattle.tx_risk.proofs.Descending.{IsDescent}
 use Rattle.tx_risk.proofs.shortest.walk_from.Given as goal
 
 abbrev pub invariant-loop-step : goal.invariant-loop-step
-invariant-loop-step g l = IsDescent (left_net l.left) l.dead_ends l.fn.start l.steps.items l.at
+invariant-loop-step g l = IsDescent (left_net l.left) l.kept l.fn.start l.steps.items l.at
 
 abbrev pub decreases-loop-step : goal.decreases-loop-step
-decreases-loop-step g l = unwrap_or (distance_in l.dead_ends l.at) 0
+decreases-loop-step g l = unwrap_or (distance_in l.kept l.at) 0

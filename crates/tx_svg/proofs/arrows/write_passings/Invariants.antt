@@ -3,4 +3,4 @@ use Rattle.tx_html.specs.Shows.{HasShown}
 use Rattle.tx_svg.proofs.arrows.write_passings.Given as goal
 
 abbrev pub invariant-loop-before : goal.invariant-loop-before
-invariant-loop-before g l = HasShown (g.W.Sink.taken l.initial.sink) (g.W.Sink.taken l.sink) (g.W.Sink.failed l.initial.sink) (g.W.Sink.failed l.sink) []
+invariant-loop-before g l = HasShown (g.W.PageSink.seen l.initial.sink) (g.W.PageSink.seen l.sink) []

@@ -4,4 +4,4 @@ use Rattle.tx_html.specs.Shows.{HasShown}
 use Rattle.tx_svg.proofs.names.write_groups.Given as goal
 
 abbrev pub invariant-loop-i : goal.invariant-loop-i
-invariant-loop-i g l = HasShown (g.W.Sink.taken l.initial.sink) (g.W.Sink.taken l.sink) (g.W.Sink.failed l.initial.sink) (g.W.Sink.failed l.sink) (map (group_name l.plan) (take l.i l.groups))
+invariant-loop-i g l = HasShown (g.W.PageSink.seen l.initial.sink) (g.W.PageSink.seen l.sink) (map (group_name l.plan) (take l.i l.groups))

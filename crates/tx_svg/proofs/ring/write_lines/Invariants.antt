@@ -3,4 +3,4 @@ use Rattle.tx_html.specs.Shows.{HasShown}
 use Rattle.tx_svg.proofs.ring.write_lines.Given as goal
 
 abbrev pub invariant-loop-index : goal.invariant-loop-index
-invariant-loop-index g l = HasShown (g.W.Sink.taken l.initial.sink) (g.W.Sink.taken l.sink) (g.W.Sink.failed l.initial.sink) (g.W.Sink.failed l.sink) []
+invariant-loop-index g l = HasShown (g.W.PageSink.seen l.initial.sink) (g.W.PageSink.seen l.sink) []

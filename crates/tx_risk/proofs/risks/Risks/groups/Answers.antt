@@ -1,4 +1,4 @@
-use Rattle.std.proofs.Common.{ℕ, List, [], Some, None, ◌∙◌, ap}
+use Rattle.std.proofs.Common.{List, [], Some, None, ◌∙◌, ap}
 use Rattle.std.specs.Prelude.{slice_get}
 use Rattle.std.specs.Option.{option_map_or}
 use Rattle.tx_plan.proofs.Tables.{value_at}

@@ -1,0 +1,46 @@
+use Rattle.std.proofs.Common.{◌≡◌, ◌++◌, ◌∙◌, List, sym, ap, subst, append-nil}
+use Rattle.std.specs.Prelude.{[], if◌then◌else◌, OnOk}
+use Rattle.tx_mend.specs.declared.cause.Missing.{Missing}
+use Rattle.tx_mend.specs.declared.cause.Unserved.{Unserved}
+use Rattle.tx_mend.specs.LeastRanks.{least_rank}
+use Rattle.tx_mend.specs.Unserved.{unlimited_rank, lacking_at}
+use Rattle.tx_mend.specs.inner.CodeRanks.{rank_list}
+use Rattle.tx_mend.proofs.Tables.{length_ranks}
+use Rattle.tx_mend.proofs.Mendable.{ranked_served}
+use Rattle.tx_mend.proofs.causes.add_lacking.Goals as goal
+
+pub all_ranked-requires-clause-long : goal.all_ranked-requires-clause-long
+all_ranked-requires-clause-long g c =
+    let t = c.args.task.now in
+    length_ranks t.plan.now c.args.least.now (least_rank t.plan.now c.args.code t.limits.limit t.limits.spare) c.requires
+
+pub returns-then-all_ranked-clause-unserved : goal.returns-then-all_ranked-clause-unserved
+returns-then-all_ranked-clause-unserved g c =
+    let t = c.args.task.now in
+    let p = t.plan.now in
+    let k = sym (c.all_ranked.ensures (least_rank p c.args.code t.limits.limit t.limits.spare) c.requires) ∙ c.if-all_ranked.true in
+    let had = c.args.lacking.now.unserved.items in
+    sym (ap (λ (l : List Unserved). had ++ l) (ranked_served p c.args.code t.limits.limit t.limits.spare k) ∙ append-nil had)
+
+pub returns-then-all_ranked-clause-missing : goal.returns-then-all_ranked-clause-missing
+returns-then-all_ranked-clause-missing g c =
+    let t = c.args.task.now in
+    let p = t.plan.now in
+    let k = sym (c.all_ranked.ensures (least_rank p c.args.code t.limits.limit t.limits.spare) c.requires) ∙ c.if-all_ranked.true in
+    let had = c.args.lacking.now.missing.items in
+    sym (ap (λ b. had ++ (if b then [] else lacking_at p t.limits.limit t.limits.spare c.args.code)) k ∙ append-nil had)
+
+pub invariant_of-reach : goal.invariant_of-reach
+invariant_of-reach g c =
+    let t = c.args.task.now in
+    let p = t.plan.now in
+    let all : c.deref.result.now ≡ rank_list p (unlimited_rank p c.args.code t.limits.spare) = c.deref.ensures.value ∙ c.in_ok-unlimited.ensures in
+    record { groups = t.groups; long = length_ranks p c.deref.result.now (unlimited_rank p c.args.code t.limits.spare) all; within = c.requires; without = all }
+
+pub returns-clause-missing : goal.returns-clause-missing
+returns-clause-missing g c =
+    let t = c.args.task.now in
+    let p = t.plan.now in
+    let k = sym (c.all_ranked.ensures (least_rank p c.args.code t.limits.limit t.limits.spare) c.requires) ∙ c.if-all_ranked.false in
+    let had = c.args.lacking.now.missing.items in
+    subst (λ (l : List Missing). OnOk c.add_missing.result (c.add_missing.new.missing.items ≡ had ++ l)) (sym (ap (λ b. if b then [] else lacking_at p t.limits.limit t.limits.spare c.args.code) k)) c.add_missing.ensures

@@ -1,0 +1,19 @@
+use Rattle.std.proofs.Common.{◌≡◌, ℕ, ◌∙◌, List, length, ap}
+use Rattle.std.specs.Prelude.{filter}
+use Rattle.tx_mend.specs.LeastRanks.{outgoing, leads_on, least_rank}
+use Rattle.tx_mend.proofs.Tables.{length_ranks, list_got}
+use Rattle.tx_mend.proofs.causes.groups_on.Goals as goal
+
+pub count_on-requires : goal.count_on-requires
+count_on-requires g c =
+    let r = c.args.reach.now in
+    length_ranks r.plan.now r.least.now (least_rank r.plan.now r.code r.limits.limit r.limits.spare) r.within
+
+pub returns : goal.returns
+returns g c =
+    let r = c.args.reach.now in
+    let p = r.plan.now in
+    let x = c.args.exchange in
+    let least = least_rank p r.code r.limits.limit r.limits.spare in
+    let groups : c.groups_at-groups.result.now ≡ outgoing p x = c.groups_at-groups.ensures ∙ list_got (outgoing p) (length p.exchanges) x r.seizable.now r.groups c.requires in
+    c.count_on.ensures least r.within ∙ ap (λ (l : List ℕ). length (filter (λ g. leads_on p least x g) l)) groups

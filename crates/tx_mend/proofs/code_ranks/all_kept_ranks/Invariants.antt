@@ -1,0 +1,7 @@
+use Rattle.std.proofs.Common.{◌≡◌, map}
+use Rattle.tx_mend.specs.LeastRanks.{indexes}
+use Rattle.tx_mend.specs.inner.CodeRanks.{kept_ranks}
+use Rattle.tx_mend.proofs.code_ranks.all_kept_ranks.Given as goal
+
+abbrev pub invariant-loop-index : goal.invariant-loop-index
+invariant-loop-index g l = l.table.items ≡ map (kept_ranks l.task.plan.now l.task.limits.limit l.task.limits.spare) (indexes l.index)

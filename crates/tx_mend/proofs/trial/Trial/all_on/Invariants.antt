@@ -1,0 +1,11 @@
+use Rattle.std.proofs.Common.{◌≡◌, ℕ, ◌||◌, ◌&&◌, ◌==◌, not, Bool, Option, drop}
+use Rattle.std.specs.List.{list_all}
+use Rattle.tx_mend.specs.LeastRanks.{leads_on}
+use Rattle.tx_mend.specs.KeptRanks.{stays_by}
+use Rattle.tx_mend.specs.inner.CodeRanks.{rank_list, ranked}
+use Rattle.tx_mend.proofs.trial.Trial.all_on.Given as goal
+
+abbrev pub invariant-loop-group : goal.invariant-loop-group
+invariant-loop-group g l = (of : ℕ → Option ℕ) → l.ranks ≡ rank_list l.self.plan.now of →
+    let on : ℕ → Bool = λ h. not (stays_by l.self.plan.now (ranked l.self.ranks.now) l.exchange h || ((l.exchange == l.self.exchange) && (h == l.self.group))) || leads_on l.self.plan.now of l.exchange h in
+    list_all on l.list ≡ list_all on (drop l.group-index l.list)
