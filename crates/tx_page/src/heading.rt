@@ -1,5 +1,6 @@
 // What was judged, and the verdict.
 ghost use Rattle.std.specs.Prelude.{◌≡◌, [], ◌∷◌};
+ghost use Rattle.hex.specs.Hex.{encode_lower};
 ghost use Rattle.tx_html.specs.Shows.{Showed};
 ghost use Rattle.tx_page.specs.Heading.{verdict_word, start_texts, verdict_texts, promise_texts, warning_texts, count_texts, digest_texts, heading_texts};
 
@@ -154,12 +155,20 @@ fn write_counts<A: Allocator, W: PageSink>(plan: &Plan<A>, sink: &mut W) -> Resu
     )
 }
 
+/// Writes the digest of the plan's text, and the version of the program.
 fn write_digest<W: PageSink>(
     digest: &[u8; 32],
     version: &'static str,
     sink: &mut W,
 ) -> Result<(), WriteFault>
     ensures { Showed W.seen sink.old sink.new (digest_texts digest.now version.now) result }
+{
+    write_figures(digest, sink)?;
+    write_version(version, sink)
+}
+
+fn write_figures<W: PageSink>(digest: &[u8; 32], sink: &mut W) -> Result<(), WriteFault>
+    ensures { Showed W.seen sink.old sink.new (encode_lower digest.now ∷ []) result }
 {
     let mut figures = [0u8; 64];
     if encode_to_slice(digest.as_slice(), figures.as_mut_slice()).is_err() {
@@ -169,6 +178,16 @@ fn write_digest<W: PageSink>(
         &[
             Part::Own("<p class=\"m\">SHA-256 of the plan <code>"),
             Part::Text(&figures),
+        ],
+        sink,
+    )
+}
+
+fn write_version<W: PageSink>(version: &'static str, sink: &mut W) -> Result<(), WriteFault>
+    ensures { Showed W.seen sink.old sink.new (version.now ∷ []) result }
+{
+    set(
+        &[
             Part::Own("</code><br>judged by telexplan "),
             Part::Text(version.as_bytes()),
             Part::Own("</p>"),
