@@ -8,6 +8,7 @@ ghost use Rattle.tx_commands.specs.inner.Refused.{IsRefused};
 use crate::arguments::MOST_STAGES;
 use crate::command::Command;
 use crate::misuse::Misuse;
+use crate::page_words::page_of;
 use clap::ArgMatches;
 use std::alloc::{AllocError, Global};
 use tx_explain::is_known;
@@ -78,7 +79,7 @@ fn number_of(
 }
 
 /// The limit and the spare number.
-fn limits(alloc: Global, matches: &ArgMatches<'_>) -> Result<(u8, u8), Misuse>
+pub(crate) fn limits(alloc: Global, matches: &ArgMatches<'_>) -> Result<(u8, u8), Misuse>
     ensures range { IfOk result (λ b. (b.0 ≤ 62) × (b.1 ≤ 15)) }
     ensures given { IfOk result (λ b.
         Gives (rows_of (found_of matches.now)) (codes "limit") b.0
@@ -360,8 +361,7 @@ fn draw_of(alloc: Global, plan: String, matches: &ArgMatches<'_>) -> Result<Comm
     Ok(Command::Draw { plan, routes })
 }
 
-/// The words of `explain`, with a blank between two. A line without any code, name or word of the
-/// table is refused.
+/// The words of `explain`, with a blank between two; refused where the table has none of them.
 pub(crate) fn explain_of(alloc: Global, matches: &ArgMatches<'_>) -> Result<Command, Misuse>
     ensures range { IfOk result IsInRange }
     ensures asked { IfOk result (Asks (codes "explain") (rows_of (found_of matches.now))) }
@@ -371,11 +371,10 @@ pub(crate) fn explain_of(alloc: Global, matches: &ArgMatches<'_>) -> Result<Comm
     let Some(line) = line(alloc, matches, "word")? else {
         return Ok(Command::Explain { line: None });
     };
-    if is_known(line.as_str()) {
-        Ok(Command::Explain { line: Some(line) })
-    } else {
-        Err(Misuse::NoSuchCode(line))
+    if !is_known(line.as_str()) {
+        return Err(Misuse::NoSuchCode(line));
     }
+    Ok(Command::Explain { line: Some(line) })
 }
 
 /// The command of a subcommand whose first word is a plan.
@@ -398,6 +397,7 @@ pub(crate) fn plan_command(
         "audit" => audit_of(alloc, plan, matches),
         "grade" => Ok(Command::Grade { plan }),
         "survive" => survive_of(alloc, plan, matches),
+        "page" => page_of(alloc, plan, matches),
         "trace" => trace_of(alloc, plan, matches),
         "fill" => fill_of(alloc, plan, matches),
         "draw" => draw_of(alloc, plan, matches),

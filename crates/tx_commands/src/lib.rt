@@ -9,8 +9,10 @@ mod files;
 mod grammar;
 mod judging;
 mod misuse;
+mod page_words;
 mod reading;
 
 pub use command::{Command, Files, STANDARD_INPUT};
 pub use fault::WordsFault;
+pub use grammar::VERSION;
 pub use reading::read_command;

@@ -20,6 +20,7 @@ use crate::job_fault::JobFault;
 use crate::lint::{lint_job, lint_risks_job};
 use crate::mend::mend_job;
 use crate::order::order_job;
+use crate::page::{Asked, page_job};
 use crate::pipe::pipe_job;
 use crate::run::run_job;
 use crate::run_checked::run_checked_job;
@@ -84,6 +85,22 @@ pub fn do_job<A: Allocator + Copy, P: Source, Q: Source, R: Source, W: Sink>(
             let (limit, spare) = (*limit, *spare);
             let limits = Limits { limit, spare };
             Ok(Done::Mended(mend_job(alloc, first, limits, *with_old, out)?))
+        }
+        Command::Page {
+            plan,
+            limit,
+            spare,
+            risks,
+            old,
+            code,
+            ..
+        } => {
+            let limits = Limits {
+                limit: *limit,
+                spare: *spare,
+            };
+            let asked = Asked::of(plan, limits, code, risks.is_some(), old.is_some());
+            Ok(Done::Paged(page_job(alloc, first, second, third, asked, out)?))
         }
         Command::Grade { .. } => Ok(Done::Graded(grade_job(alloc, first, out)?)),
         Command::Draw { routes, .. } => draw(alloc, routes, first, out),

@@ -7,9 +7,10 @@ ghost use Rattle.tx_commands.specs.Faults.{status_of as words_status};
 use crate::ends::{FailedRead, Output};
 use crate::folder::Folder;
 use crate::input::Inputs;
+use crate::new_file::NewFile;
 use crate::output_files::write_files;
 use crate::stop::{Place, Stop, write_stop};
-use crate::targets::Targets;
+use crate::targets::{PAGE, Target, Targets};
 use crate::tell::{announce_input, tell_words};
 use std::alloc::{Allocator, Global};
 use std::io::{IsTerminal, Read, Write};
@@ -125,11 +126,72 @@ pub(crate) fn perform<A: Allocator + Copy, F: Folder, I: Read + Drop, O: Write +
     let files = Files::of(command);
     let inputs = Inputs::open(files.reads, folder, input)?;
     let targets = Targets::of(alloc, files, folder)?;
+    match targets.get(PAGE, folder)? {
+        None => perform_into(
+            alloc,
+            command,
+            inputs,
+            &targets,
+            folder,
+            output,
+            Place::Output,
+        ),
+        Some(target) => {
+            drop(output);
+            make_page(alloc, command, inputs, &targets, folder, target)
+        }
+    }
+}
+
+/// Makes the file of a page: whole, or not at all.
+fn make_page<A: Allocator + Copy, F: Folder, I: Read + Drop>(
+    alloc: A,
+    command: &Command,
+    inputs: Inputs<I, F::Input>,
+    targets: &Targets<'_>,
+    folder: &F,
+    target: Target<'_>,
+) -> Result<u8, Stop>
+    requires { IsInRange command.now }
+{
+    let mut file = NewFile::new(folder, target);
+    match perform_into(
+        alloc,
+        command,
+        inputs,
+        targets,
+        folder,
+        &mut file,
+        target.place(),
+    ) {
+        Ok(status) => match file.finish() {
+            Ok(()) => Ok(status),
+            Err(error) => Err(Stop::Write(target.place(), error)),
+        },
+        Err(stop) => {
+            file.give_up();
+            Err(stop)
+        }
+    }
+}
+
+/// Does the job of a command over its files, which are open, into the output at this place.
+fn perform_into<A: Allocator + Copy, F: Folder, I: Read + Drop, O: Write + Drop>(
+    alloc: A,
+    command: &Command,
+    inputs: Inputs<I, F::Input>,
+    targets: &Targets<'_>,
+    folder: &F,
+    output: O,
+    place: Place,
+) -> Result<u8, Stop>
+    requires { IsInRange command.now }
+{
     let output = Output::new(alloc, output)?;
-    let done = carry_out(alloc, command, inputs, &targets, folder, &output);
+    let done = carry_out(alloc, command, inputs, targets, folder, &output);
     if output.let_out().is_err() {
         return Err(match output.take_failure() {
-            Some(error) => Stop::Write(Place::Output, error),
+            Some(error) => Stop::Write(place, error),
             None => Stop::Job(JobFault::Write),
         });
     }

@@ -1,0 +1,52 @@
+-- What a page shows of an order of switching.
+use Rattle.std.specs.Prelude.{ℕ, ◌+◌, Bool, true, false, ◌&&◌, ◌==◌, if◌then◌else◌, List, [], ◌∷◌, ◌++◌, length, map, codes, decimal}
+use Rattle.std.specs.Str.{bytes_eq}
+use Rattle.tx_plan.specs.Plan.{Plan, exchange_name, figures_of, group_name}
+use Rattle.tx_plan.specs.Routes.{route_list, is_barred}
+use Rattle.tx_order.specs.declared.switching.Switching.{Switching}
+use Rattle.tx_order.specs.declared.switching.Switching.TheVariants.{Ordered, NoOrder}
+use Rattle.tx_order.specs.Ordered.{Order, plan_before, stages_in}
+use Rattle.tx_svg.specs.Indexed.{texts_below}
+
+-- whether an exchange was barred for a code, and whether it is now: a bar that is set, one that is
+-- lifted, or nothing
+abbrev pub bar_word : (before now : Bool) → List ℕ
+bar_word false false = []
+bar_word false true = codes "set"
+bar_word true false = codes "lifted"
+bar_word true true = []
+
+-- an exchange and a code, its list before and its list now, and what happens to the bar
+abbrev pub entry_texts : Plan → (x c : ℕ) → (before now : List ℕ) → (was is : Bool) → List (List ℕ)
+entry_texts p x c before now was is = (exchange_name p x ∷ figures_of p c ∷ [])
+    ++ (map (group_name p) before ++ (map (group_name p) now ++ bar_word was is ∷ []))
+
+-- the same, if the list or the bar is another one
+abbrev pub switched_texts : Plan → (x c : ℕ) → (before now : List ℕ) → (was is : Bool)
+    → List (List ℕ)
+switched_texts p x c before now was is =
+    if bytes_eq before now && (length (bar_word was is) == 0) then [] else entry_texts p x c before now was is
+
+-- what two plans have for a code at an exchange, by the names of p
+abbrev pub pair_texts : (p before after : Plan) → (x c : ℕ) → List (List ℕ)
+pair_texts p before after x c = switched_texts p x c (route_list before x c) (route_list after x c)
+    (is_barred before x c) (is_barred after x c)
+
+-- at an exchange, by codes
+abbrev pub exchange_texts : (p before after : Plan) → (x : ℕ) → List (List ℕ)
+exchange_texts p before after x = texts_below (length p.codes) (pair_texts p before after x)
+
+-- at all exchanges
+abbrev pub table_texts : (p before after : Plan) → List (List ℕ)
+table_texts p before after = texts_below (length p.exchanges) (exchange_texts p before after)
+
+-- the number of a stage, from 1, and what it switches
+abbrev pub stage_texts : Plan → Order → ℕ → List (List ℕ)
+stage_texts p o s = (decimal (s + 1) ∷ [])
+    ++ table_texts p (plan_before o s) (plan_before o (s + 1))
+
+-- the stages of an order; or, where there is none, all that differs between the old plan and the
+-- new one
+abbrev pub order_texts : {A : Type 0} → (new : Plan) → Switching A → List (List ℕ)
+order_texts new (Ordered o) = texts_below (stages_in o) (stage_texts new o)
+order_texts new (NoOrder old before after) = table_texts new old new

@@ -1,0 +1,38 @@
+-- What a page shows, from its head to its end.
+use Rattle.std.specs.Prelude.{ℕ, Bool, true, false, List, [], ◌++◌, Option, None, Some, is_some}
+use Rattle.std.specs.Borrow.{Bor}
+use Rattle.tx_plan.specs.Plan.{Plan}
+use Rattle.tx_rank.specs.declared.ranking.Ranking.{Ranking}
+use Rattle.tx_rank.specs.declared.ranking.Ranking.TheVariants.{Found, Fails}
+use Rattle.tx_order.specs.declared.switching.Switching.{Switching}
+use Rattle.tx_order_page.specs.OrderTexts.{order_texts}
+use Rattle.tx_page.specs.declared.subject.Subject.{Subject}
+use Rattle.tx_page.specs.Heading.{heading_texts}
+use Rattle.tx_page.specs.WrongTexts.{wrong_texts}
+use Rattle.tx_page.specs.CodeTexts.{codes_texts}
+use Rattle.tx_page.specs.OutageTexts.{outages_texts}
+use Rattle.tx_svg.specs.ListTexts.{pictures_texts}
+use Rattle.tx_page.specs.NetworkTexts.{network_texts}
+
+module _ {A : Type 0} where
+  -- a certificate was found
+  abbrev pub is_safe : Ranking A → Bool
+  is_safe (Found cert) = true
+  is_safe (Fails findings) = false
+
+  -- the order of switching from an old plan, if one was asked for
+  abbrev pub change_texts : Plan → Option (Bor (Switching A)) → List (List ℕ)
+  change_texts p None = []
+  change_texts p (Some s) = order_texts p s.now
+
+  -- the verdict, what is wrong, the change, the codes, the outages, the lists and the network
+  abbrev pub page_texts : Subject A → List (List ℕ)
+  page_texts s =
+      heading_texts s.name.now s.digest s.version.now s.plan.now (is_safe s.ranking.now)
+      s.limits.limit s.limits.spare
+      ++ (wrong_texts s.plan.now s.limits.spare s.ranking.now
+      ++ (change_texts s.plan.now s.switching
+      ++ (codes_texts s.plan.now s.grade.now.codes.items
+      ++ (outages_texts s.plan.now s.risks.now s.outcomes.now (is_some s.grade.now.plan)
+      ++ (pictures_texts s.plan.now s.pictures.now
+      ++ network_texts s.plan.now)))))

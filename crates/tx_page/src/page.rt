@@ -1,0 +1,83 @@
+// A page.
+ghost use Rattle.std.specs.Prelude.{◌≡◌};
+ghost use Rattle.tx_html.specs.Shows.{Showed};
+ghost use Rattle.tx_page.specs.Page.{is_safe, change_texts, page_texts};
+
+use crate::codes::write_codes;
+use crate::findings::write_wrong;
+use crate::heading::write_heading;
+use crate::network::write_network;
+use crate::outages::write_outages;
+use crate::subject::Subject;
+use std::alloc::Allocator;
+use tx_html::{PageSink, Part, set};
+use tx_order::Switching;
+use tx_order_page::write_order;
+use tx_plan::Plan;
+use tx_rank::{Finding, Ranking};
+use tx_svg::write_pictures;
+use tx_text::WriteFault;
+
+/// Whether a certificate was found.
+pub fn is_safe<A: Allocator>(ranking: &Ranking<A>) -> bool
+    ensures { result ≡ is_safe ranking.now }
+{
+    match ranking {
+        Ranking::Found(_) => true,
+        Ranking::Fails(_) => false,
+    }
+}
+
+/// What is wrong.
+fn findings_in<A: Allocator>(ranking: &Ranking<A>) -> &[Finding<A>] {
+    match ranking {
+        Ranking::Found(_) => &[],
+        Ranking::Fails(findings) => findings.as_slice(),
+    }
+}
+
+/// Writes the order of switching to a plan, if there is one.
+fn write_change<A: Allocator, W: PageSink>(
+    plan: &Plan<A>,
+    switching: Option<&Switching<A>>,
+    sink: &mut W,
+) -> Result<(), WriteFault>
+    ensures { Showed W.seen sink.old sink.new
+        (change_texts plan.now switching.entry) result }
+{
+    match switching {
+        Some(switching) => write_order(plan, switching, sink),
+        None => Ok(()),
+    }
+}
+
+/// Writes a page about a plan and what was found of it.
+pub fn write_page<A: Allocator, W: PageSink>(
+    subject: &Subject<'_, A>,
+    sink: &mut W,
+) -> Result<(), WriteFault>
+    ensures { Showed W.seen sink.old sink.new (page_texts subject.now) result }
+{
+    let plan = subject.plan;
+    let limits = subject.limits;
+    let safe = is_safe(subject.ranking);
+    let linked = subject.pictures.len() == plan.codes();
+    let graded = subject.grade.plan.is_some();
+    let findings = findings_in(subject.ranking);
+    write_heading(
+        subject.name,
+        &subject.digest,
+        subject.version,
+        plan,
+        limits,
+        safe,
+        sink,
+    )?;
+    write_wrong(plan, subject.ranking, limits, sink)?;
+    write_change(plan, subject.switching, sink)?;
+    write_codes(plan, subject.grade, linked, sink)?;
+    write_outages(plan, subject.risks, subject.outcomes, graded, sink)?;
+    write_pictures(plan, subject.pictures, findings, sink)?;
+    write_network(plan, sink)?;
+    set(&[Part::Own("</main></body></html>\n")], sink)
+}
