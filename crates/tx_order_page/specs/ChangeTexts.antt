@@ -1,9 +1,9 @@
 -- What a page shows of the change from an old plan.
-use Rattle.std.specs.Prelude.{ℕ, ◌+◌, Bool, true, false, ◌&&◌, ◌==◌, if◌then◌else◌, List, [], ◌∷◌, ◌++◌, length, map, codes, decimal}
-use Rattle.std.specs.List.{flat_map, slice_split}
+use Rattle.std.specs.Prelude.{ℕ, ◌+◌, Bool, true, false, ◌&&◌, ◌==◌, if◌then◌else◌, List, [], ◌∷◌, ◌++◌, length, map, Option, None, Some, codes, decimal}
 use Rattle.std.specs.Str.{bytes_eq}
 use Rattle.tx_plan.specs.Plan.{Plan, exchange_name, figures_of, group_name}
 use Rattle.tx_plan.specs.Routes.{route_list, is_barred}
+use Rattle.tx_change.specs.declared.difference.Difference.{Difference}
 use Rattle.tx_join.specs.declared.joining.Joined.{Joined}
 use Rattle.tx_order.specs.declared.switching.Switching.{Switching}
 use Rattle.tx_order.specs.declared.switching.Switching.TheVariants.{Ordered}
@@ -11,13 +11,10 @@ use Rattle.tx_order.specs.Ordered.{Order, plan_before, stages_in}
 use Rattle.tx_svg.specs.Indexed.{texts_below}
 use Rattle.tx_order_page.specs.declared.change.Change.{Change}
 
--- a line, if it is not empty
-abbrev pub line_texts : List ℕ → List (List ℕ)
-line_texts line = if length line == 0 then [] else line ∷ []
-
--- the lines of a text
-abbrev pub lines_texts : List ℕ → List (List ℕ)
-lines_texts text = flat_map line_texts (slice_split (λ b. b == 10) text)
+-- that two plans differ beside lists and bars, if an entry does
+abbrev pub network_texts : Option Difference → List (List ℕ)
+network_texts None = []
+network_texts (Some difference) = codes "differ" ∷ []
 
 -- whether an exchange was barred for a code, and whether it is now: a bar that is set, one that is
 -- lifted, or nothing
@@ -63,7 +60,7 @@ module _ {A : Type 0} where
   switching_texts true j (Ordered o) = texts_below (stages_in o) (stage_texts o)
   switching_texts safe j other = table_texts j.new j.old j.new
 
-  -- in what the plans differ beside lists and bars, and what is switched
+  -- whether the plans differ beside lists and bars, and what is switched
   abbrev pub change_texts : (safe : Bool) → Change A → List (List ℕ)
   change_texts safe c =
-      lines_texts c.differences.now ++ switching_texts safe c.joined.now c.switching.now
+      network_texts c.difference ++ switching_texts safe c.joined.now c.switching.now

@@ -5,7 +5,6 @@
 mod between;
 mod change;
 mod entry;
-mod network;
 mod stages;
 mod table;
 

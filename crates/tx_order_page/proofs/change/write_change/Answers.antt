@@ -1,5 +1,5 @@
 use Rattle.std.proofs.Common.{[]}
-use Rattle.tx_order_page.specs.ChangeTexts.{lines_texts}
+use Rattle.tx_order_page.specs.ChangeTexts.{network_texts}
 use Rattle.tx_html.proofs.Showing.{showed_then, showed_stopped}
 use Rattle.tx_order_page.proofs.change.write_change.Goals as goal
 
