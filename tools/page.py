@@ -8,7 +8,8 @@
 Of each page: its elements are closed in their order, its headings go down one step at a time, its tables have heads, its links lead to what is there, nothing is fetched,
 and nothing is on the console. Its verdict has its own colour.
 In its pictures no box is over another, no arrow runs through a box, and where the columns are ranks no arrow goes to the left. Its colours have the contrast of
-WCAG 2, level AA, in the light and in the dark scheme."""
+WCAG 2, level AA, in the light and in the dark scheme. Printed it shows its closed parts too."""
+import html
 import html.parser
 import json
 import pathlib
@@ -63,6 +64,17 @@ for (const svg of document.querySelectorAll('svg[role=group]')) {
 }
 if (document.documentElement.scrollWidth > document.documentElement.clientWidth) faults.push('the page is wider than the window');
 document.getElementById('measured').textContent = JSON.stringify({faults, pictures, boxes, arrows});
+</script>"""
+
+
+# Whether a printer gets what is in the parts that are closed. The style of print is that of the screen here.
+PRINTED = """<pre id="measured"></pre><script>
+const faults = [];
+for (const part of document.querySelectorAll('details')) {
+  part.open = false;
+  if (![...part.children].every(it => it.checkVisibility())) faults.push(`${part.id || part.textContent}: closed where it is printed`);
+}
+document.getElementById('measured').textContent = JSON.stringify({faults});
 </script>"""
 
 
@@ -143,22 +155,27 @@ def chromium(*words):
     return done.stdout, [it for it in done.stderr.splitlines() if "CONSOLE" in it]
 
 
+def measured(page, folder, script, style="@media print"):
+    """What a script at its end finds of a page that is shown in this style; None where it did not run."""
+    copy = folder / f"measured-{page.name}"
+    copy.write_text(page.read_text().replace("@media print", style).replace("</body>", script + "</body>"))
+    shown, _ = chromium("--dump-dom", "--virtual-time-budget=60000", copy.as_uri())
+    found = re.search(r'<pre id="measured">(.*?)</pre>', shown, re.S)
+    return json.loads(html.unescape(found.group(1))) if found and found.group(1) else None
+
+
 def browser_faults(page, folder):
     """What the browser finds."""
     log = folder / "network.json"
     _, console = chromium("--dump-dom", f"--log-net-log={log}", page.resolve().as_uri())
     yield from (f"it asks for {it}" for it in sorted(set(requests(log))))
     yield from (f"on the console: {it}" for it in console)
-    measured = folder / f"measured-{page.name}"
-    measured.write_text(page.read_text().replace("</body>", MEASURE + "</body>"))
-    shown, _ = chromium("--dump-dom", "--virtual-time-budget=60000", measured.as_uri())
-    found = re.search(r'<pre id="measured">(.*?)</pre>', shown, re.S)
-    if not found or not found.group(1):
+    shown, printed = measured(page, folder, MEASURE), measured(page, folder, PRINTED, "@media screen")
+    if not shown or not printed:
         yield "nothing was measured"
         return
-    found = json.loads(found.group(1).replace("&gt;", ">").replace("&lt;", "<").replace("&amp;", "&"))
-    yield from found["faults"]
-    print(f"{page.name}: {page.stat().st_size} bytes, {found['pictures']} pictures with {found['boxes']} boxes and {found['arrows']} arrows")
+    yield from shown["faults"] + printed["faults"]
+    print(f"{page.name}: {page.stat().st_size} bytes, {shown['pictures']} pictures with {shown['boxes']} boxes and {shown['arrows']} arrows")
 
 
 def faults_of(page, folder):
