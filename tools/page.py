@@ -5,8 +5,8 @@
     tools/page.py --program PROGRAM PAGE..    # and so with pages of the examples and of networks of 60 and of 256 exchanges, as the program writes them
     tools/page.py --pictures FOLDER PAGE..    # makes a picture of each page in the folder too
 
-Of each page: its elements are closed in their order, its headings go down one step at a time, its tables have heads, its links lead to what is there, nothing is fetched,
-and nothing is on the console. Its verdict has its own colour.
+Of each page: its elements are closed in their order, its headings go down one step at a time, its tables have heads and its pictures names, its links lead to what is there,
+nothing is fetched, and nothing is on the console. Its verdict has its own colour.
 In its pictures no box is over another, no arrow runs through a box, and where the columns are ranks no arrow goes to the left. Its colours have the contrast of
 WCAG 2, level AA, in the light and in the dark scheme. Printed it shows its closed parts too."""
 import html
@@ -105,6 +105,8 @@ class Elements(html.parser.HTMLParser):
             self.heading = int(tag[1])
         if tag == "html" and not attributes.get("lang"):
             self.faults.append("no lang")
+        if tag == "svg" and not attributes.keys() & {"aria-label", "aria-hidden"}:
+            self.faults.append("a picture without a name")
         if tag == "table":
             self.heads.append(False)
         if tag == "th" and attributes.get("scope") == "col":
@@ -229,6 +231,9 @@ def main(words):
         made = pages_made(options["--program"], pathlib.Path(folder)) if "--program" in options else []
         for page in [*map(pathlib.Path, words), *made]:
             count += 1
+            if page.stem.startswith("national") and page.stat().st_size > 100000:
+                wrong += 1
+                print(f"{page.name}: more than 100,000 bytes")
             for fault in faults_of(page, pathlib.Path(folder)):
                 wrong += 1
                 print(f"{page.name}: {fault}")
