@@ -28,30 +28,34 @@ pub(crate) struct Target<'n> {
 }
 
 impl<'n> Targets<'n> {
-    /// Those of a command that has opened what it reads. They are refused where one would be made
-    /// over another file of the command, or over another kind of text.
-    pub(crate) fn of<A: Allocator + Copy, F: Folder>(
-        alloc: A,
-        files: Files<'n>,
-        folder: &F,
-    ) -> Result<Targets<'n>, Stop> {
+    /// Those of a command that has opened what it reads.
+    pub(crate) fn of<F: Folder>(files: Files<'n>, folder: &F) -> Targets<'n> {
         let [first, second, third] = files.reads;
-        let targets = Targets {
+        Targets {
             read: [
                 identify(Place::Read(0), first, folder),
                 identify(Place::Read(1), second, folder),
                 identify(Place::Read(2), third, folder),
             ],
             names: files.makes(),
-        };
-        let made = targets.made(folder);
-        targets.require_apart(&made)?;
+        }
+    }
+
+    /// Refuses them where one would be made over another file of the command, or over another kind
+    /// of text.
+    pub(crate) fn require_free<A: Allocator + Copy, F: Folder>(
+        &self,
+        alloc: A,
+        folder: &F,
+    ) -> Result<(), Stop> {
+        let made = self.made(folder);
+        self.require_apart(&made)?;
         for i in 0..4usize {
             if let Some(file) = made[i] {
                 require_kind(alloc, file, MADE[i], folder)?;
             }
         }
-        Ok(targets)
+        Ok(())
     }
 
     /// The files to be made.
