@@ -1,5 +1,5 @@
 -- Markup that is written piece by piece.
-use Rattle.std.proofs.Common.{ℕ, List, [], Ok}
+use Rattle.std.proofs.Common.{[], Ok}
 use Rattle.tx_html.specs.Shows.{Seen, HasShown}
 use Rattle.tx_html.proofs.Showing.{showed_then}
 
