@@ -30,7 +30,7 @@ pub enum OrderVerdict<A: Allocator = Global> {
 /// Looks for an order in which the lists and the bars of a plan are switched to those of another
 /// one, over their joined network. Where there is one, judges the new plan as it is. `Err` means
 /// out of memory.
-pub(crate) fn judge_order<A: Allocator + Copy>(
+pub fn judge_order<A: Allocator + Copy>(
     alloc: A,
     joined: Joined<A>,
     new: &Plan<A>,

@@ -23,7 +23,7 @@ mod stages;
 mod switching;
 mod transition;
 
-pub use judging::OrderVerdict;
+pub use judging::{OrderVerdict, judge_order};
 pub use law::{
     each_level_is_common, each_plan_is_certified, levels_lead_over, ordered_exactly,
     orders_are_sound, stages_are_fewest,
