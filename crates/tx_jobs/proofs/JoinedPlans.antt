@@ -16,8 +16,8 @@ use Rattle.tx_jobs.specs.declared.job_fault.JobFault.TheVariants.{Plan as PlanFa
 use Rattle.tx_jobs.specs.JobFaults.{old_plan_fault, new_plan_fault, mark_by}
 use Rattle.tx_jobs.specs.LintJobs.{lint_fault}
 use Rattle.tx_jobs.specs.declared.two_plans.TwoPlans.{TwoPlans}
-use Rattle.tx_jobs.specs.inner.TwoPlans.{IsJoinOf, AreReadAndJoined, IsNoJoinOf}
-use Rattle.tx_jobs.specs.TwoPlans.{SaysWhole, RefusedWhole, NotWhole, GivesNoPlan, join_fault, AreJoined, AreNotJoined}
+use Rattle.tx_jobs.specs.inner.TwoPlans.{IsJoinOf, AreReadAndJoined}
+use Rattle.tx_jobs.specs.TwoPlans.{SaysWhole, RefusedWhole, NotWhole, GivesNoPlan, join_fault, IsNoJoinOf, AreJoined, AreNotJoined}
 use Rattle.tx_jobs.proofs.RefusedTexts.{old_plan_mark, new_plan_mark}
 
 -- why a text was not read to its end
@@ -42,7 +42,7 @@ not_whole_mark mark input NoSuchExchange h = absurd h
 not_whole_mark mark input NoSuchCode h = absurd h
 not_whole_mark mark input (NoSuchGroup place) h = absurd h
 
-no_plan_mark : (mark : Bool) (tell : FaultAt PlanWord → JobFault) (input : Input) (f : JobFault) → ((x : FaultAt PlanWord) → mark ≡ mark_by mark (tell x)) → GivesNoPlan tell input f → mark ≡ mark_by mark f
+pub no_plan_mark : (mark : Bool) (tell : FaultAt PlanWord → JobFault) (input : Input) (f : JobFault) → ((x : FaultAt PlanWord) → mark ≡ mark_by mark (tell x)) → GivesNoPlan tell input f → mark ≡ mark_by mark f
 no_plan_mark mark tell input f told (inl r) = told r.of ∙ ap (mark_by mark) (sym r.told)
 no_plan_mark mark tell input f told (inr n) = not_whole_mark mark input f n
 
