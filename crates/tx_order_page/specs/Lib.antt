@@ -1,2 +1,2 @@
-pub mod OrderTexts
+pub mod ChangeTexts
 pub mod inner

@@ -1,7 +1,7 @@
 // A row of a table of what is switched.
 ghost use Rattle.std.specs.Prelude.{◌≡◌};
 ghost use Rattle.tx_html.specs.Shows.{Showed};
-ghost use Rattle.tx_order_page.specs.OrderTexts.{bar_word, entry_texts, switched_texts};
+ghost use Rattle.tx_order_page.specs.ChangeTexts.{bar_word, entry_texts, switched_texts};
 
 use std::alloc::Allocator;
 use tx_html::{PageSink, Part, set};

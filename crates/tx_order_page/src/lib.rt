@@ -1,9 +1,11 @@
-//! An order of switching on a page: a table for each stage, which a field engineer can take along.
+//! The change of an old plan into another one, on a page: a table for each stage, which a field
+//! engineer can take along.
 #![tactic(auto)]
 
 mod between;
+mod change;
 mod entry;
-mod order_page;
-mod switched;
+mod stages;
+mod table;
 
-pub use order_page::write_order;
+pub use change::{Change, write_change};

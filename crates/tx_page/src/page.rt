@@ -1,7 +1,7 @@
 // A page.
 ghost use Rattle.std.specs.Prelude.{◌≡◌};
 ghost use Rattle.tx_html.specs.Shows.{Showed};
-ghost use Rattle.tx_page.specs.Page.{is_safe, change_texts, page_texts};
+ghost use Rattle.tx_page.specs.Page.{is_safe, asked_change_texts, page_texts};
 
 use crate::codes::write_codes;
 use crate::findings::write_wrong;
@@ -11,9 +11,7 @@ use crate::outages::write_outages;
 use crate::subject::Subject;
 use std::alloc::Allocator;
 use tx_html::{PageSink, Part, set};
-use tx_order::Switching;
-use tx_order_page::write_order;
-use tx_plan::Plan;
+use tx_order_page::{Change, write_change};
 use tx_rank::{Finding, Ranking};
 use tx_svg::write_pictures;
 use tx_text::WriteFault;
@@ -36,17 +34,16 @@ fn findings_in<A: Allocator>(ranking: &Ranking<A>) -> &[Finding<A>] {
     }
 }
 
-/// Writes the order of switching to a plan, if there is one.
-fn write_change<A: Allocator, W: PageSink>(
-    plan: &Plan<A>,
-    switching: Option<&Switching<A>>,
+/// Writes the change of an old plan, if one is asked for.
+fn write_asked_change<A: Allocator, W: PageSink>(
+    change: &Option<Change<'_, A>>,
+    safe: bool,
     sink: &mut W,
 ) -> Result<(), WriteFault>
-    ensures { Showed W.seen sink.old sink.new
-        (change_texts plan.now switching.entry) result }
+    ensures { Showed W.seen sink.old sink.new (asked_change_texts safe change.now) result }
 {
-    match switching {
-        Some(switching) => write_order(plan, switching, sink),
+    match change {
+        Some(change) => write_change(change, safe, sink),
         None => Ok(()),
     }
 }
@@ -74,7 +71,7 @@ pub fn write_page<A: Allocator, W: PageSink>(
         sink,
     )?;
     write_wrong(plan, subject.ranking, limits, sink)?;
-    write_change(plan, subject.switching, sink)?;
+    write_asked_change(&subject.change, safe, sink)?;
     write_codes(plan, subject.grade, linked, sink)?;
     write_outages(plan, subject.risks, subject.outcomes, graded, sink)?;
     write_pictures(plan, subject.pictures, findings, sink)?;

@@ -1,7 +1,7 @@
 // What a page is about.
 use std::alloc::Allocator;
 use tx_layout::Picture;
-use tx_order::Switching;
+use tx_order_page::Change;
 use tx_plan::{Limits, Plan};
 use tx_rank::{Grade, Ranking};
 use tx_risk::{Outcome, Risks};
@@ -20,8 +20,8 @@ pub struct Subject<'a, A: Allocator> {
     pub ranking: &'a Ranking<A>,
     pub grade: &'a Grade<A>,
     pub risks: &'a Risks<A>,
-    /// The order of switching from an old plan to this one, if one was asked for.
-    pub switching: Option<&'a Switching<A>>,
+    /// The change of an old plan into this one, if one is asked for.
+    pub change: Option<Change<'a, A>>,
     /// What each outage cuts off.
     pub outcomes: &'a [Outcome<A>],
     /// A picture of each code that the page shows.

@@ -1,6 +1,6 @@
 use Rattle.std.proofs.Common.{map, [], ◌∷◌}
 use Rattle.tx_plan.specs.Plan.{exchange_name, figures_of, group_name}
-use Rattle.tx_order_page.specs.OrderTexts.{bar_word}
+use Rattle.tx_order_page.specs.ChangeTexts.{bar_word}
 use Rattle.tx_html.proofs.Showing.{showed_then, showed_stopped}
 use Rattle.tx_order_page.proofs.entry.write_entry.Goals as goal
 

@@ -2,7 +2,7 @@
 ghost use Rattle.std.specs.Prelude.{length};
 ghost use Rattle.tx_html.specs.Shows.{Showed};
 ghost use Rattle.tx_svg.specs.Indexed.{texts_below};
-ghost use Rattle.tx_order_page.specs.OrderTexts.{exchange_texts, table_texts};
+ghost use Rattle.tx_order_page.specs.ChangeTexts.{exchange_texts, table_texts};
 ghost use Rattle.tx_order_page.specs.inner.Between.{before_of, after_of, IsThere};
 
 use crate::between::{Between, entry_of};

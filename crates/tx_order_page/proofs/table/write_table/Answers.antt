@@ -1,8 +1,8 @@
 use Rattle.std.proofs.Common.{[]}
-use Rattle.tx_order_page.specs.OrderTexts.{table_texts}
+use Rattle.tx_order_page.specs.ChangeTexts.{table_texts}
 use Rattle.tx_order_page.specs.inner.Between.{before_of, after_of}
 use Rattle.tx_html.proofs.Showing.{showed_then, showed_end, showed_stopped}
-use Rattle.tx_order_page.proofs.switched.write_table.Goals as goal
+use Rattle.tx_order_page.proofs.table.write_table.Goals as goal
 
 pub returns-in_err-set : goal.returns-in_err-set
 returns-in_err-set g c = showed_stopped _ _ _ _ c.in_err-set.ensures c.from_residual.ensures.0

@@ -1,9 +1,9 @@
 use Rattle.std.proofs.Common.{length, arith}
-use Rattle.tx_order_page.specs.OrderTexts.{pair_texts}
+use Rattle.tx_order_page.specs.ChangeTexts.{pair_texts}
 use Rattle.tx_order_page.specs.inner.Between.{before_of, after_of}
 use Rattle.tx_html.proofs.Showing.{showed_none, showed_stopped}
 use Rattle.tx_svg.proofs.Indexed.{below_more, below_done}
-use Rattle.tx_order_page.proofs.switched.write_exchange.Goals as goal
+use Rattle.tx_order_page.proofs.table.write_exchange.Goals as goal
 
 pub loop-index-init : goal.loop-index-init
 loop-index-init g c = showed_none _
