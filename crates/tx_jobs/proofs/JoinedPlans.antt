@@ -42,6 +42,7 @@ not_whole_mark mark input NoSuchExchange h = absurd h
 not_whole_mark mark input NoSuchCode h = absurd h
 not_whole_mark mark input (NoSuchGroup place) h = absurd h
 
+-- a text that gives no plan leaves the mark
 pub no_plan_mark : (mark : Bool) (tell : FaultAt PlanWord → JobFault) (input : Input) (f : JobFault) → ((x : FaultAt PlanWord) → mark ≡ mark_by mark (tell x)) → GivesNoPlan tell input f → mark ≡ mark_by mark f
 no_plan_mark mark tell input f told (inl r) = told r.of ∙ ap (mark_by mark) (sym r.told)
 no_plan_mark mark tell input f told (inr n) = not_whole_mark mark input f n
@@ -51,6 +52,10 @@ join_mark mark old new q (OtherHome c) = refl
 join_mark mark old new q (OtherGroup g) = refl
 join_mark mark old new q TooMany = refl
 join_mark mark old new q JoinNoMemory = refl
+
+-- plans without a joined network leave the mark
+pub no_join_mark : (mark : Bool) (t u : List ℕ) (p q : Plan) (f : JobFault) → IsNoJoinOf t u p q f → mark ≡ mark_by mark f
+no_join_mark mark t u p q f n = join_mark mark t u q n.refusal ∙ ap (mark_by mark) (sym n.told)
 
 -- no write failed
 pub unjoined_mark : (mark : Bool) (old new : Input) (f : JobFault) → AreNotJoined old new f → mark ≡ mark_by mark f

@@ -12,7 +12,8 @@ use Rattle.tx_join.specs.Joined.{joined_old, joined_new}
 use Rattle.tx_join.specs.Refusals.{join_refusal}
 use Rattle.tx_join.specs.Laws.{AreOverBoth, HaveTheirLists}
 use Rattle.tx_join.specs.declared.joining.Joined.{Joined}
-use Rattle.tx_join.specs.Differences.{difference_text}
+use Rattle.tx_change.specs.declared.difference.Difference.{Difference}
+use Rattle.tx_change.specs.Difference.{DifferenceAnswer}
 use Rattle.tx_order.specs.declared.switching.Switching.{Switching}
 use Rattle.tx_order.specs.Switchings.{IsRightSwitching}
 use Rattle.tx_risk.specs.NamedRisks.{NamedRisk}
@@ -74,11 +75,11 @@ pub record HaveJoined (old new : Plan) : Type 0 where
   pub network : AreOverBoth old new (joined_old old new) (joined_new old new)
   pub lists : HaveTheirLists old new (joined_old old new) (joined_new old new)
 
--- what is told of the change of a plan into another one: in what they differ beside lists and bars,
--- both over their joined network, and the order of switching from the one to the other over it
-pub record IsChangeOf {A : Type 0} (old new : Plan) (limit spare : ℕ) (differences : List ℕ)
-    (joined : Joined A) (switching : Switching A) : Type 0 where
-  pub beside : differences ≡ difference_text old new
+-- what is told of the change of a plan into another one: whether they are of one network, both
+-- over their joined network, and the order of switching from the one to the other over it
+pub record IsChangeOf {A : Type 0} (old new : Plan) (limit spare : ℕ)
+    (difference : Option Difference) (joined : Joined A) (switching : Switching A) : Type 0 where
+  pub network : DifferenceAnswer old new difference
   pub before : joined.old ≡ joined_old old new
   pub after : joined.new ≡ joined_new old new
   pub right : IsRightSwitching (joined_old old new) (joined_new old new) limit spare switching
@@ -88,7 +89,7 @@ abbrev pub IsChangeIfAny : {A : Type 0} → Option Plan → (new : Plan) → (li
     → Option (Change A) → Type 0
 IsChangeIfAny None new limit spare None = Unit {0}
 IsChangeIfAny (Some old) new limit spare (Some c) =
-    IsChangeOf old new limit spare c.differences.now c.joined.now c.switching.now
+    IsChangeOf old new limit spare c.difference c.joined.now c.switching.now
 IsChangeIfAny old new limit spare change = ⊥
 
 -- a text was read to its end and says a plan, and this was done after it

@@ -25,6 +25,8 @@ mod mixture;
 mod order;
 mod outcome;
 mod page;
+mod page_change;
+mod page_found;
 mod pipe;
 mod plan_part;
 mod run;

@@ -186,7 +186,7 @@ fn tell_change<A: Allocator + Copy, W: Sink>(
 {
     let found = change_between(alloc, old, plan, asked.limits)?;
     let change = Change {
-        differences: &found.differences,
+        difference: found.difference,
         joined: &found.joined,
         switching: &found.switching,
     };

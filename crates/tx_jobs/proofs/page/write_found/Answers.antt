@@ -3,22 +3,19 @@ use Rattle.tx_text.proofs.Exits.{exits_with}
 use Rattle.tx_jobs.specs.declared.job_fault.JobFault.TheVariants.{Write}
 use Rattle.tx_jobs.proofs.page.write_found.Goals as goal
 
-pub returns-in_err-write_page-clause-told : goal.returns-in_err-write_page-clause-told
-returns-in_err-write_page-clause-told g c = λ codes found.
-    rw (exits_with c.from_residual.result Write c.from_residual.ensures.1) tt
-
 pub returns-clause-told : goal.returns-clause-told
-returns-clause-told g c = λ codes found. record {
+returns-clause-told g c = λ old codes change found. record {
   subject = _;
   right = record {
     name = refl;
-    digest = c.digest.ensures;
+    digest = rw c.deref.ensures.value at c.digest.ensures;
     plan = refl;
     limit = refl;
     spare = refl;
-    risks_named = refl;
+    named_risks = refl;
     ranking = found.ranking;
     grade = found.grade;
+    change = change;
     outcomes = found.outcomes;
     pictures = found.pictures;
   };
@@ -27,3 +24,7 @@ returns-clause-told g c = λ codes found. record {
   added = c.in_ok-write_page.ensures.added;
   shows = c.in_ok-write_page.ensures.shows;
 }
+
+pub returns-in_err-write_page-clause-told : goal.returns-in_err-write_page-clause-told
+returns-in_err-write_page-clause-told g c = λ old codes change found.
+    rw (exits_with c.from_residual.result Write c.from_residual.ensures.1) tt

@@ -1,5 +1,5 @@
 use Rattle.tx_jobs.proofs.Grading.{plan_is}
-use Rattle.tx_jobs.proofs.page.found_of.Goals as goal
+use Rattle.tx_jobs.proofs.page_found.found_of.Goals as goal
 
 pub returns : goal.returns
 returns g c =
@@ -7,7 +7,11 @@ returns g c =
     let grade = c.in_ok-grade.grade in
     record {
       ranking = c.in_ok-ranking.ensures;
-      grade = (plan_is _ c.args.plan.now c.rules.ensures grade.findings.items grade.plan e.plan e.clear e.fails e.clean e.each e.listed, e.codes);
+      grade = (
+        plan_is _ c.args.plan.now c.rules.ensures grade.findings.items grade.plan e.plan e.clear
+            e.fails e.clean e.each e.listed,
+        e.codes,
+      );
       outcomes = c.in_ok-shown_of.ensures.outcomes;
       pictures = c.in_ok-shown_of.ensures.pictures;
     }
