@@ -22,6 +22,7 @@ use Rattle.tx_html.specs.Shows.{Shows}
 use Rattle.tx_order_page.specs.declared.change.Change.{Change}
 use Rattle.tx_page.specs.Page.{is_safe, page_texts}
 use Rattle.tx_page.specs.declared.subject.Subject.{Subject}
+use Rattle.tx_commands.specs.declared.grammar.TheConstants.{VERSION}
 use Rattle.tx_jobs.specs.declared.page.Asked.{Asked}
 use Rattle.tx_jobs.specs.declared.job_fault.JobFault.{JobFault}
 use Rattle.tx_jobs.specs.declared.job_fault.JobFault.TheVariants.{Write, NoMemory, NoSuchCode}
@@ -113,12 +114,14 @@ AnswersNoJoin t u old new untouched (Err fault) = IsNoJoinOf t u old new fault �
 
 -- of a page about a plan that a text says, with the lists for these codes
 module _ (A : Type 0) (asked : Request) (text : List ℕ) (p : Plan) (codes : List ℕ) where
-  -- what the page is about is right: the file's name, the digest of the text, and what was found:
-  -- the verdict of the audit, the grade, the change, and what outages cut off
+  -- what the page is about is right: the file's name, the digest of the text, the version of the
+  -- program, and what was found: the verdict of the audit, the grade, the change, and what outages
+  -- cut off
   pub record IsRightSubject (risks : List NamedRisk) (old : Option Plan) (s : Subject A)
       : Type 0 where
     pub name : s.name.now ≡ asked.file
     pub digest : s.digest ≡ sha256 text
+    pub version : s.version.now ≡ VERSION.now
     pub plan : s.plan.now ≡ p
     pub limit : s.limits.limit ≡ asked.limit
     pub spare : s.limits.spare ≡ asked.spare

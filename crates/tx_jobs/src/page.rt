@@ -233,7 +233,7 @@ fn write_found<A: Allocator, W: Sink>(
 {
     let subject = Subject {
         name: asked.file,
-        digest: Sha256::digest(&plan.text),
+        digest: Sha256::digest(plan.text.as_slice()),
         version: VERSION,
         plan: &plan.plan,
         limits: asked.limits,

@@ -5,8 +5,10 @@ use Rattle.tx_jobs.proofs.page.tell_change.Goals as goal
 
 pub returns-clause-told : goal.returns-clause-told
 returns-clause-told g c =
-    inl (c.in_ok-found.ensures.joined,
-    c.tell_page.ensures.told (Some c.args.old.now.plan) c.in_ok-found.ensures.right)
+    inl (
+      c.in_ok-found.ensures.joined,
+      c.tell_page.ensures.told (Some c.args.old.now.plan) c.in_ok-found.ensures.right,
+    )
 
 pub returns-in_err-found-clause-told : goal.returns-in_err-found-clause-told
 returns-in_err-found-clause-told g c =
