@@ -5,10 +5,11 @@
     tools/page.py --program PROGRAM PAGE..    # and so with pages of the examples and of networks of 60 and of 256 exchanges, as the program writes them
     tools/page.py --pictures FOLDER PAGE..    # makes a picture of each page in the folder too
 
-Of each page: its elements are closed in their order, its headings go down one step at a time, its tables have heads, its links lead to what is there, nothing is fetched,
-and nothing is on the console. Its verdict has its own colour.
+Of each page: its elements are closed in their order, its headings go down one step at a time, its tables have heads and its pictures names, its links lead to what is there,
+nothing is fetched, and nothing is on the console. Its verdict has its own colour.
 In its pictures no box is over another, no arrow runs through a box, and where the columns are ranks no arrow goes to the left. Its colours have the contrast of
-WCAG 2, level AA, in the light and in the dark scheme."""
+WCAG 2, level AA, in the light and in the dark scheme. Printed it shows its closed parts too."""
+import html
 import html.parser
 import json
 import pathlib
@@ -66,6 +67,17 @@ document.getElementById('measured').textContent = JSON.stringify({faults, pictur
 </script>"""
 
 
+# Whether a printer gets what is in the parts that are closed. The style of print is that of the screen here.
+PRINTED = """<pre id="measured"></pre><script>
+const faults = [];
+for (const part of document.querySelectorAll('details')) {
+  part.open = false;
+  if (![...part.children].every(it => it.checkVisibility())) faults.push(`${part.id || part.textContent}: closed where it is printed`);
+}
+document.getElementById('measured').textContent = JSON.stringify({faults});
+</script>"""
+
+
 class Elements(html.parser.HTMLParser):
     """What is open, and what is wrong with the elements."""
 
@@ -93,6 +105,8 @@ class Elements(html.parser.HTMLParser):
             self.heading = int(tag[1])
         if tag == "html" and not attributes.get("lang"):
             self.faults.append("no lang")
+        if tag == "svg" and not attributes.keys() & {"aria-label", "aria-hidden"}:
+            self.faults.append("a picture without a name")
         if tag == "table":
             self.heads.append(False)
         if tag == "th" and attributes.get("scope") == "col":
@@ -143,22 +157,27 @@ def chromium(*words):
     return done.stdout, [it for it in done.stderr.splitlines() if "CONSOLE" in it]
 
 
+def measured(page, folder, script, style="@media print"):
+    """What a script at its end finds of a page that is shown in this style; None where it did not run."""
+    copy = folder / f"measured-{page.name}"
+    copy.write_text(page.read_text().replace("@media print", style).replace("</body>", script + "</body>"))
+    shown, _ = chromium("--dump-dom", "--virtual-time-budget=60000", copy.as_uri())
+    found = re.search(r'<pre id="measured">(.*?)</pre>', shown, re.S)
+    return json.loads(html.unescape(found.group(1))) if found and found.group(1) else None
+
+
 def browser_faults(page, folder):
     """What the browser finds."""
     log = folder / "network.json"
     _, console = chromium("--dump-dom", f"--log-net-log={log}", page.resolve().as_uri())
     yield from (f"it asks for {it}" for it in sorted(set(requests(log))))
     yield from (f"on the console: {it}" for it in console)
-    measured = folder / f"measured-{page.name}"
-    measured.write_text(page.read_text().replace("</body>", MEASURE + "</body>"))
-    shown, _ = chromium("--dump-dom", "--virtual-time-budget=60000", measured.as_uri())
-    found = re.search(r'<pre id="measured">(.*?)</pre>', shown, re.S)
-    if not found or not found.group(1):
+    shown, printed = measured(page, folder, MEASURE), measured(page, folder, PRINTED, "@media screen")
+    if not shown or not printed:
         yield "nothing was measured"
         return
-    found = json.loads(found.group(1).replace("&gt;", ">").replace("&lt;", "<").replace("&amp;", "&"))
-    yield from found["faults"]
-    print(f"{page.name}: {page.stat().st_size} bytes, {found['pictures']} pictures with {found['boxes']} boxes and {found['arrows']} arrows")
+    yield from shown["faults"] + printed["faults"]
+    print(f"{page.name}: {page.stat().st_size} bytes, {shown['pictures']} pictures with {shown['boxes']} boxes and {shown['arrows']} arrows")
 
 
 def faults_of(page, folder):
@@ -212,6 +231,9 @@ def main(words):
         made = pages_made(options["--program"], pathlib.Path(folder)) if "--program" in options else []
         for page in [*map(pathlib.Path, words), *made]:
             count += 1
+            if page.stem.startswith("national") and page.stat().st_size > 100000:
+                wrong += 1
+                print(f"{page.name}: more than 100,000 bytes")
             for fault in faults_of(page, pathlib.Path(folder)):
                 wrong += 1
                 print(f"{page.name}: {fault}")

@@ -1,14 +1,12 @@
 // The report of a plan that was mended.
 ghost use Rattle.std.specs.Prelude.{◌<◌, ◌++◌, codes};
-ghost use Rattle.std.specs.List.{flat_map};
 ghost use Rattle.tx_text.specs.Wrote.{Wrote};
-ghost use Rattle.tx_plan.specs.Plan.{group_name};
 ghost use Rattle.tx_plan.specs.Routes.{route_list};
 ghost use Rattle.tx_mend.specs.MendText.{list_line, was_line, old_line, change_line, code_changes, changes, mended_text};
 
 use std::alloc::Allocator;
 use tx_plan::{CodeId, ExchangeId, GroupId, Limits, Pair, Plan, Routes};
-use tx_plantext::write_route;
+use tx_plantext::{write_group_names, write_route};
 use tx_rank::write_asked;
 use tx_text::{Sink, WriteFault, write_parts};
 
@@ -131,20 +129,5 @@ fn write_was<A: Allocator, W: Sink>(
     ensures { Wrote W.taken W.failed sink.old sink.new (was_line plan.now groups.now) result }
 {
     write_parts(&[b"WAS"], sink)?;
-    write_names(plan, groups, sink)
-}
-
-/// Writes a space and a name for each group, and the end of the line.
-fn write_names<A: Allocator, W: Sink>(
-    plan: &Plan<A>,
-    groups: &[GroupId],
-    sink: &mut W,
-) -> Result<(), WriteFault>
-    ensures { Wrote W.taken W.failed sink.old sink.new
-        (flat_map (λ g. codes " " ++ group_name plan.now g) groups.now ++ codes "\n") result }
-{
-    for i in 0..groups.len() {
-        write_parts(&[b" ", plan.group_name(groups[i])], sink)?;
-    }
-    write_parts(&[b"\n"], sink)
+    write_group_names(plan, groups, sink)
 }

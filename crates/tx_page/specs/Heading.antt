@@ -57,9 +57,9 @@ warning_texts lines = if lines == 0 then codes "no line" ∷ [] else []
 abbrev pub digest_texts : (digest version : List ℕ) → List (List ℕ)
 digest_texts digest version = encode_lower digest ∷ version ∷ []
 
--- the file, the verdict, the counts, and how the plan was judged
+-- what was judged, and the verdict
 abbrev pub heading_texts : (name digest version : List ℕ) → Plan → Bool → (limit spare : ℕ)
     → List (List ℕ)
 heading_texts name digest version p safe limit spare = start_texts name safe
-    ++ (verdict_texts safe limit spare ++ (promise_texts safe limit spare
-    ++ (warning_texts (lines_in p) ++ (count_texts p ++ digest_texts digest version))))
+    ++ (count_texts p ++ (warning_texts (lines_in p) ++ (digest_texts digest version
+    ++ (verdict_texts safe limit spare ++ promise_texts safe limit spare))))

@@ -16,7 +16,7 @@ use tx_text::WriteFault;
 const START: &str = "<!doctype html>\n<html lang=\"en\"><head><meta charset=\"utf-8\"><meta \
 name=\"viewport\" content=\"width=device-width\"><title>";
 
-/// Writes the head of a page: the file's name, the verdict, and what was judged.
+/// Writes the head of a page: what was judged, and the verdict.
 pub fn write_heading<A: Allocator, W: PageSink>(
     name: &[u8],
     digest: &[u8; 32],
@@ -31,11 +31,11 @@ pub fn write_heading<A: Allocator, W: PageSink>(
         result }
 {
     write_start(name, safe, sink)?;
-    write_verdict(safe, limits, sink)?;
-    write_promise(safe, limits, sink)?;
-    write_warning(count_lines(plan), sink)?;
     write_counts(plan, sink)?;
-    write_digest(digest, version, sink)
+    write_warning(count_lines(plan), sink)?;
+    write_digest(digest, version, sink)?;
+    write_verdict(safe, limits, sink)?;
+    write_promise(safe, limits, sink)
 }
 
 /// Writes that a YES says nothing, if there is no line.

@@ -53,5 +53,6 @@ path{fill:none}
 .w small{grid-column:1/3;color:var(--soft);max-width:14rem;padding:.2rem .6rem 0 0}
 .c{columns:11rem;margin:.5rem 0;padding:0;list-style:none}
 .s{color:var(--second)}
-@media print{@page{size:A4;margin:14mm}body{font-size:10pt;background:none}main{padding:0;max-width:none}details{break-inside:avoid}details::details-content{content-visibility:visible;display:block}summary{list-style:none}h2,h3{break-after:avoid}.stage{break-before:page}}
+.stage{margin-top:1.2rem}
+@media print{@page{size:A4;margin:14mm}body{font-size:10pt;background:none}main{padding:0;max-width:none}details{break-inside:avoid}details::details-content{content-visibility:visible;display:block}summary{list-style:none}h2,h3{break-after:avoid}.stage,.stage+h2{break-before:page}}
 ";

@@ -2,7 +2,7 @@
 //!
 //! `read_plan` and `read_plan_from` take a text exactly where it keeps to the format, and else
 //! report its first fault with its line. What `write_plan` writes reads back as the same plan.
-//! `write_route` writes the line of one route.
+//! `write_route` writes the line of one route, and `write_group_names` the groups at its end.
 #![tactic(auto)]
 
 mod declaring;
@@ -16,5 +16,5 @@ pub use declaring::declare;
 pub use fault::{PlanFault, PlanWord, code_and_name};
 pub use plan_line::{LineFault, PlanLine};
 pub use plan_reader::{KEY, VERSIONS, read_plan, read_plan_from};
-pub use plan_writer::{write_plan, write_route};
+pub use plan_writer::{write_group_names, write_plan, write_route};
 pub use round_trip::written_plans_read_back;

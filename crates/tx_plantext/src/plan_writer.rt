@@ -262,11 +262,11 @@ pub fn write_route<A: Allocator, W: Sink>(
         ],
         sink,
     )?;
-    write_names(plan, plan.list(exchange, code), sink)
+    write_group_names(plan, plan.list(exchange, code), sink)
 }
 
 /// Writes a space and a name for each group, and the end of the line.
-fn write_names<A: Allocator, W: Sink>(
+pub fn write_group_names<A: Allocator, W: Sink>(
     plan: &Plan<A>,
     groups: &[GroupId],
     sink: &mut W,

@@ -94,7 +94,7 @@ fn write_canvas<A: Allocator, W: PageSink>(
     let height = picture_height(plan, picture);
     set(
         &[
-            Part::Own("<svg role=\"group\" viewBox=\"0 0 "),
+            Part::Own("<svg role=\"group\" aria-label=\"The lists as a picture\" viewBox=\"0 0 "),
             Part::Place(width),
             Part::Own(" "),
             Part::Place(height),

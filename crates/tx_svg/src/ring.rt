@@ -36,7 +36,7 @@ fn write_canvas<W: PageSink>(size: Size, sink: &mut W) -> Result<(), WriteFault>
 {
     set(
         &[
-            Part::Own("<svg role=\"group\" viewBox=\"0 0 "),
+            Part::Own("<svg role=\"group\" aria-label=\"The network as a picture\" viewBox=\"0 0 "),
             Part::Place(size.wide),
             Part::Own(" "),
             Part::Place(size.high),

@@ -10,4 +10,4 @@ returns-in_err-write_parts g c =
 
 pub returns : goal.returns
 returns g c =
-    wrote_then _ _ _ _ _ _ (codes "WAS") (flat_map (λ v. codes " " ++ group_name c.args.plan.now v) c.args.groups.now ++ codes "\n") _ c.in_ok-write_parts.ensures c.write_names.ensures
+    wrote_then _ _ _ _ _ _ (codes "WAS") (flat_map (λ v. codes " " ++ group_name c.args.plan.now v) c.args.groups.now ++ codes "\n") _ c.in_ok-write_parts.ensures c.write_group_names.ensures

@@ -11,4 +11,4 @@ returns-in_err-write_parts g c =
 pub returns : goal.returns
 returns g c =
     text_is _ _ _ _ _ _ _ (named_route c.args.plan.now c.args.exchange c.args.code _ _ _ c.exchange_name.ensures.value c.code_figures.ensures.value c.list.ensures.value)
-    (wrote_then _ _ _ _ _ _ (route_head c.exchange_name.result.now c.code_figures.result.now) _ _ c.in_ok-write_parts.ensures c.write_names.ensures)
+    (wrote_then _ _ _ _ _ _ (route_head c.exchange_name.result.now c.code_figures.result.now) _ _ c.in_ok-write_parts.ensures c.write_group_names.ensures)

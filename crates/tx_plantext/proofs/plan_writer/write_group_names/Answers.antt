@@ -1,5 +1,5 @@
 use Rattle.tx_plantext.proofs.PlanWriting.{names_stopped, names_done}
-use Rattle.tx_mend.proofs.changed_lists.write_names.Goals as goal
+use Rattle.tx_plantext.proofs.plan_writer.write_group_names.Goals as goal
 
 pub returns-in_err-write_parts : goal.returns-in_err-write_parts
 returns-in_err-write_parts g c =

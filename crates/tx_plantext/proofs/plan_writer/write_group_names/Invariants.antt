@@ -2,7 +2,7 @@ use Rattle.std.proofs.Common.{◌++◌, take, Ok, codes}
 use Rattle.std.specs.List.{flat_map}
 use Rattle.tx_text.specs.Wrote.{WroteBy}
 use Rattle.tx_plan.specs.Plan.{group_name}
-use Rattle.tx_mend.proofs.changed_lists.write_names.Given as goal
+use Rattle.tx_plantext.proofs.plan_writer.write_group_names.Given as goal
 
 abbrev pub invariant-loop-i : goal.invariant-loop-i
 invariant-loop-i g l =
