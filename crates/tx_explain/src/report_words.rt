@@ -73,13 +73,13 @@ pub static REPORT_WORDS: [Entry; 48] = [
         "OLD",
         "OldPlan",
         "The finding is of the plan that is in force.",
-        "Mend that plan first: telexplan mend finds lists.",
+        "Mend that plan first: telexplan mend finds lists. With F1, a code of one plan begins one of the other.",
     ],
     [
         "NEW",
         "NewPlan",
         "The finding is of the plan that is to be, or that plan has it and the old one has not.",
-        "Mend that plan first: telexplan mend finds lists.",
+        "Mend that plan first: telexplan mend finds lists. If an audit of it says YES, calls still start at lines of the old plan where it has no list: keep the list there, and let it go in a change of its own.",
     ],
     [
         "GONE",
@@ -162,7 +162,7 @@ pub static REPORT_WORDS: [Entry; 48] = [
     [
         "GROUPS",
         "OtherGroups",
-        "So many groups cut off nobody if they fail alone. In a line UNSERVED, so many groups lead to exchanges that can be served.",
+        "So many groups cut off nobody if they fail alone. In a line UNSERVED, so many groups lead to exchanges that can be served within the limit.",
         "Nothing: calls go by other groups.",
     ],
     [
@@ -252,8 +252,8 @@ pub static REPORT_WORDS: [Entry; 48] = [
     [
         "MISSING",
         "GroupsMissing",
-        "From each exchange behind it some groups lead to exchanges that can be served, and so many more are needed.",
-        "Add groups from there to an exchange that can be served.",
+        "From each exchange behind it some groups lead to exchanges that can be served within the limit, and so many more are needed.",
+        "Add groups from there to an exchange that can be served within the limit.",
     ],
     [
         "DISTINCT",

@@ -114,7 +114,8 @@ fn tell_change<A: Allocator + Copy, W: Sink>(
 ) -> Result<ChangeVerdict<A>, JobFault>
     requires { SameNetwork plans.now.joined.old plans.now.joined.new }
     ensures told { ToldVerdict plans.now.old plans.now.new plans.now.joined.old
-        plans.now.joined.new with_old limits.limit limits.spare (output W.taken out.old out.new) result }
+        plans.now.joined.new with_old limits.limit limits.spare
+        (output W.taken out.old out.new) result }
     ensures mark { W.failed out.new ≡ mark_after (W.failed out.old) result }
 {
     let verdict = judge_change(alloc, &plans.joined, &plans.new, limits)?;

@@ -3,8 +3,8 @@
 // its groups: what their walks show says which exchanges can be served, and by which least ranks.
 //
 // What a routing does for a code hangs on the lists for that code alone. So the routings of a
-// network are made code by code. Which groups of its lists a code keeps is found by trying each beside
-// those that stay, in all routings.
+// network are made code by code. Which groups of its lists a code keeps is found by trying each
+// beside those that stay, in all routings.
 
 mod causes;
 mod judge;

@@ -90,13 +90,10 @@ fn is_of_network(line: &[u8]) -> bool {
         || word == b"GROUP".as_slice()
 }
 
-/// Adds the lines of the network of a plan.
-fn put_network(alloc: Global, plan: &Plan, text: &mut Vec<u8>) -> Result<(), NoMemory> {
-    let mut written = Told::new(alloc);
-    let _ = write_plan(plan, &mut written);
-    let mut rest = written.text();
-    text.extend_from_slice(b"PLAN 2\n")?;
-    for _ in 0..written.text().len() {
+/// Adds the lines of a written plan that are of its network.
+fn put_network_lines(written: &[u8], text: &mut Vec<u8>) -> Result<(), NoMemory> {
+    let mut rest = written;
+    for _ in 0..written.len() {
         let Some((line, after)) = next_line(rest) else {
             break;
         };
@@ -107,6 +104,14 @@ fn put_network(alloc: Global, plan: &Plan, text: &mut Vec<u8>) -> Result<(), NoM
         rest = after;
     }
     Ok(())
+}
+
+/// Adds the header and the network of a plan.
+fn put_network(alloc: Global, plan: &Plan, text: &mut Vec<u8>) -> Result<(), NoMemory> {
+    let mut written = Told::new(alloc);
+    let _ = write_plan(plan, &mut written);
+    text.extend_from_slice(b"PLAN 2\n")?;
+    put_network_lines(written.text(), text)
 }
 
 /// Adds the list and the bar of an exchange for a code.

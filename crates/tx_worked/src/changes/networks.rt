@@ -3,7 +3,7 @@
 ghost use Rattle.tx_plan.specs.Mixtures.{SameNetwork};
 
 use crate::cases::{Stop, Told, tell, tell_count, two_texts};
-use crate::changes::apart::{put_mixture, switch_next, switches_of};
+use crate::changes::apart::{Switch, put_mixture, switch_next, switches_of};
 use crate::changes::members::is_ranked;
 use crate::families::{count_plans, put_plan};
 use crate::walks::{Difference, NUMBERS, WalksDiffer, add, tell_stop, tried_before};
@@ -62,6 +62,22 @@ fn note_unranked(alloc: Global, plan: &Plan, ranked: &mut [bool]) -> Result<(), 
     Ok(())
 }
 
+/// Makes the mixture that is switched so, and notes for each of the limits that are tried whether
+/// it has no ranks.
+fn note_mixture(
+    alloc: Global,
+    joined: &Joined,
+    switches: &[Switch],
+    work: &mut NetworkWork,
+    ranked: &mut [bool],
+) -> Result<(), Stop> {
+    put_mixture(alloc, joined, switches, &mut work.mixture)?;
+    let mixture = read_plan(alloc, work.mixture.as_slice())?;
+    note_unranked(alloc, &mixture, ranked)?;
+    add(&mut work.tally.mixtures, 1);
+    Ok(())
+}
+
 /// For each of the limits that are tried, whether all mixtures have ranks.
 fn mixtures_ranked(
     alloc: Global,
@@ -71,10 +87,7 @@ fn mixtures_ranked(
     let mut ranked = [true; 9];
     let mut switches = switches_of(alloc, joined)?;
     for _ in 0..1_000_000u64 {
-        put_mixture(alloc, joined, &switches, &mut work.mixture)?;
-        let mixture = read_plan(alloc, work.mixture.as_slice())?;
-        note_unranked(alloc, &mixture, &mut ranked)?;
-        add(&mut work.tally.mixtures, 1);
+        note_mixture(alloc, joined, &switches, work, &mut ranked)?;
         if !switch_next(&mut switches) {
             break;
         }
@@ -106,11 +119,14 @@ fn has_order(alloc: Global, old: &Plan, new: &Plan, limits: Limits) -> Result<bo
         return Err(Stop::Differs);
     };
     let mut out = Told::new(alloc);
-    match tell_order(alloc, old, new, joined, limits, None, false, &mut out) {
+    let staged = tell_order(alloc, old, new, joined, limits, None, false, &mut out);
+    let found = match &staged {
         Ok(Staged::Ordered(_)) => Ok(true),
         Ok(Staged::NoOrder) => Ok(false),
         Err(_) => Err(Stop::NoMemory),
-    }
+    };
+    drop(staged);
+    found
 }
 
 /// Whether there is one: both plans over the joined network have ranks, and the new plan as it is.
@@ -125,6 +141,50 @@ fn wants_order(
             && is_ranked(alloc, &joined.new, limits)?
             && is_ranked(alloc, new, limits)?,
     )
+}
+
+/// Whether a verdict on the change from an old plan into a new one is the one that the ranks lead
+/// to, and an order is found where there is one.
+fn is_right(
+    alloc: Global,
+    joined: &Joined,
+    old: &Plan,
+    new: &Plan,
+    limits: Limits,
+    mixtures: bool,
+    verdict: &ChangeVerdict,
+) -> Result<bool, Stop> {
+    let orders = has_order(alloc, old, new, limits)?;
+    Ok(
+        lead_to(verdict, mixtures, is_ranked(alloc, new, limits)?)
+            && orders == wants_order(alloc, joined, new, limits)?,
+    )
+}
+
+/// Judges the verdict and whether an order is found. It is known whether all mixtures have ranks.
+fn judge_limits(
+    alloc: Global,
+    joined: &Joined,
+    old: &Plan,
+    new: &Plan,
+    limits: Limits,
+    mixtures: bool,
+    work: &mut NetworkWork,
+) -> Result<(), Stop>
+    requires { SameNetwork joined.now.old joined.now.new }
+{
+    let verdict = judge_change(alloc, joined, new, limits)?;
+    count_verdict(&verdict, &mut work.tally);
+    let right = is_right(alloc, joined, old, new, limits, mixtures, &verdict);
+    drop(verdict);
+    if right? {
+        return Ok(());
+    }
+    work.differs = Some(WalksDiffer {
+        limits,
+        difference: Difference::Found,
+    });
+    Err(Stop::Differs)
 }
 
 /// Judges the verdicts on the change from an old plan into a new one, and whether an order is
@@ -143,18 +203,7 @@ fn judge_verdicts(
         for spare in 0..NUMBERS {
             let limits = Limits { limit, spare };
             let mixtures = ranked.get(tried_before(limits)).copied().unwrap_or(false);
-            let verdict = judge_change(alloc, joined, new, limits)?;
-            count_verdict(&verdict, &mut work.tally);
-            let orders = has_order(alloc, old, new, limits)?;
-            if !lead_to(&verdict, mixtures, is_ranked(alloc, new, limits)?)
-                || orders != wants_order(alloc, joined, new, limits)?
-            {
-                work.differs = Some(WalksDiffer {
-                    limits,
-                    difference: Difference::Found,
-                });
-                return Err(Stop::Differs);
-            }
+            judge_limits(alloc, joined, old, new, limits, mixtures, work)?;
         }
     }
     Ok(())

@@ -87,7 +87,7 @@ impl<'a> Ranked<'a> {
         Ok(())
     }
 
-    /// Whether a group is to are in a list that has too few.
+    /// Whether a group is to be in a list that has too few.
     fn is_wanting(
         &self,
         exchange: ExchangeId,

@@ -31,6 +31,14 @@ pub struct Routing {
 }
 
 impl Routing {
+    /// A routing whose ranks are not known yet.
+    pub fn new(alloc: Global, plan: Plan) -> Routing {
+        Routing {
+            plan,
+            ranks: Vec::new(alloc),
+        }
+    }
+
     /// The ranks with a limit and a spare number.
     pub fn ranks(&self, limits: Limits) -> &[Option<usize>] {
         match self.ranks.get(tried_before(limits)) {
@@ -113,15 +121,20 @@ impl CodeServed {
             unlimited: Vec::new(alloc),
             routings: Vec::new(alloc),
         };
+        served.add_none(alloc, plan)?;
+        Ok(served)
+    }
+
+    /// Adds what no routings serve, for each of the limits.
+    fn add_none(&mut self, alloc: Global, plan: &Plan) -> Result<(), NoMemory> {
         for _ in 0..NUMBERS {
-            served
-                .unlimited
+            self.unlimited
                 .push(vec![in alloc; None; plan.exchanges()]?)?;
             for _ in 0..NUMBERS {
-                served.numbers.push(none_served(alloc, plan)?)?;
+                self.numbers.push(none_served(alloc, plan)?)?;
             }
         }
-        Ok(served)
+        Ok(())
     }
 
     /// What they do with a limit and a spare number.
@@ -155,34 +168,55 @@ impl CodeServed {
         Ok(())
     }
 
-    /// Takes in what a routing does for a code, whose walks from each exchange show this.
+    /// Takes in the ranks that a routing has with a limit and a spare number.
+    fn note_limits(
+        &mut self,
+        alloc: Global,
+        routing: &mut Routing,
+        code: CodeId,
+        starts: &[Survey],
+        limits: Limits,
+        wanted: &mut Vec<Wanted>,
+    ) -> Result<(), NoMemory> {
+        let mut ranks = Vec::new(alloc);
+        put_ranks(&routing.plan, starts, limits, wanted, &mut ranks)?;
+        self.note_numbers(alloc, &routing.plan, code, limits, &ranks)?;
+        routing.ranks.push(ranks)?;
+        Ok(())
+    }
+
+    /// Takes in the ranks that a routing has without a limit.
+    fn note_unlimited(
+        &mut self,
+        alloc: Global,
+        routing: &Plan,
+        starts: &[Survey],
+        wanted: &mut Vec<Wanted>,
+    ) -> Result<(), NoMemory> {
+        let mut ranks = Vec::new(alloc);
+        for (spare, least) in (0..NUMBERS).zip(self.unlimited.iter_mut()) {
+            put_ranks(routing, starts, without_limit(spare), wanted, &mut ranks)?;
+            note_ranks(&ranks, least);
+        }
+        Ok(())
+    }
+
+    /// Takes in what a routing does for a code, whose walks from each exchange show this, with its
+    /// ranks.
     pub fn note(
         &mut self,
         alloc: Global,
-        routing: Plan,
+        routing: &mut Routing,
         code: CodeId,
         starts: &[Survey],
         wanted: &mut Vec<Wanted>,
     ) -> Result<(), NoMemory> {
-        let mut own = Vec::new(alloc);
         for limit in 0..NUMBERS {
             for spare in 0..NUMBERS {
                 let limits = Limits { limit, spare };
-                let mut ranks = Vec::new(alloc);
-                put_ranks(&routing, starts, limits, wanted, &mut ranks)?;
-                self.note_numbers(alloc, &routing, code, limits, &ranks)?;
-                own.push(ranks)?;
+                self.note_limits(alloc, routing, code, starts, limits, wanted)?;
             }
         }
-        for (spare, least) in (0..NUMBERS).zip(self.unlimited.iter_mut()) {
-            let mut ranks = Vec::new(alloc);
-            put_ranks(&routing, starts, without_limit(spare), wanted, &mut ranks)?;
-            note_ranks(&ranks, least);
-        }
-        self.routings.push(Routing {
-            plan: routing,
-            ranks: own,
-        })?;
-        Ok(())
+        self.note_unlimited(alloc, &routing.plan, starts, wanted)
     }
 }

@@ -2,7 +2,7 @@
 use crate::cases::Stop;
 use crate::families::{count_plans, put_plan};
 use crate::mends::routings::put_routings;
-use crate::mends::served::CodeServed;
+use crate::mends::served::{CodeServed, Routing};
 use crate::mends::starts::put_starts;
 use crate::walks::{Steps, Survey, Wanted};
 use std::alloc::Global;
@@ -38,17 +38,23 @@ impl RoutingWork {
 /// Takes in what a routing does for a code.
 fn note_routing(
     alloc: Global,
-    routing: Plan,
+    routing: &mut Routing,
     code: CodeId,
     work: &mut RoutingWork,
     served: &mut CodeServed,
 ) -> Result<(), NoMemory> {
     work.routings = work.routings.saturating_add(1);
-    put_starts(alloc, &routing, code, &mut work.steps, &mut work.starts)?;
+    put_starts(
+        alloc,
+        &routing.plan,
+        code,
+        &mut work.steps,
+        &mut work.starts,
+    )?;
     served.note(alloc, routing, code, &work.starts, &mut work.wanted)
 }
 
-/// Makes the routing of a number for a code, and takes in what it does.
+/// Makes the routing of a number for a code, takes in what it does, and keeps it.
 fn note_number(
     alloc: Global,
     number: u64,
@@ -57,8 +63,10 @@ fn note_number(
     served: &mut CodeServed,
 ) -> Result<(), Stop> {
     put_plan(&work.lines, number, &mut work.text)?;
-    let routing = read_plan(alloc, work.text.as_slice())?;
-    Ok(note_routing(alloc, routing, code, work, served)?)
+    let mut routing = Routing::new(alloc, read_plan(alloc, work.text.as_slice())?);
+    note_routing(alloc, &mut routing, code, work, served)?;
+    served.routings.push(routing)?;
+    Ok(())
 }
 
 /// Makes all routings of a network for a code, and takes in what they do.

@@ -12,7 +12,7 @@ pub returns-in-Ok-clause-told : goal.returns-in-Ok-clause-told
 returns-in-Ok-clause-told g c =
     record {
       answer = Ok c.in-Ok.staged;
-      told = told_over (record { old = c.args.old.now; new = c.args.new.now; joined = c.args.joined }) c.requires c.args.stage c.args.limits.limit c.args.limits.spare (output g.W.Sink.taken c.args.out.now c.tell_order.new.out) (Ok c.in-Ok.staged) c.in-Ok.ensures.told;
+      told = told_over (record { old = c.args.old.now; new = c.args.new.now; joined = c.args.joined }) c.requires c.args.stage c.args.with_old c.args.limits.limit c.args.limits.spare (output g.W.Sink.taken c.args.out.now c.tell_order.new.out) (Ok c.in-Ok.staged) c.in-Ok.ensures.told;
       same = refl;
     }
 
@@ -20,7 +20,7 @@ pub returns-in-Err-clause-told : goal.returns-in-Err-clause-told
 returns-in-Err-clause-told g c =
     record {
       answer = Err c.in-Err.fault;
-      told = told_over (record { old = c.args.old.now; new = c.args.new.now; joined = c.args.joined }) c.requires c.args.stage c.args.limits.limit c.args.limits.spare (output g.W.Sink.taken c.args.out.now c.tell_order.new.out) (Err c.in-Err.fault) c.in-Err.ensures.told;
+      told = told_over (record { old = c.args.old.now; new = c.args.new.now; joined = c.args.joined }) c.requires c.args.stage c.args.with_old c.args.limits.limit c.args.limits.spare (output g.W.Sink.taken c.args.out.now c.tell_order.new.out) (Err c.in-Err.fault) c.in-Err.ensures.told;
       same = (λ i. Err (c.from.ensures i));
     }
 
