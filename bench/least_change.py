@@ -39,8 +39,8 @@ def measured(program, folder, lines):
     with open(mended, encoding="ascii") as it:
         found = changes(lists_of(lines), lists_of(it))
     told = subprocess.run([program, "survive", mended], stdout=subprocess.PIPE, encoding="ascii", check=False).stdout.splitlines()
-    words = [word for line in told for word in line.split() if word in ("CUT", "STRAY")]
-    return found + [words.count("CUT"), words.count("STRAY")]
+    firsts = [line.split()[0] for line in told]
+    return found + [firsts.count("CUT"), firsts.count("STRAY")]
 
 
 def main(programs):

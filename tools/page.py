@@ -36,13 +36,14 @@ let pictures = 0, boxes = 0, arrows = 0;
 for (const svg of document.querySelectorAll('svg[role=group]')) {
   pictures += 1;
   const where = (svg.closest('details') || svg).id;
-  const rects = [...svg.querySelectorAll('rect')].map(it => it.getBBox());
-  const names = [...svg.querySelectorAll('g')].map(it => it.querySelector('text').textContent);
+  const groups = [...svg.querySelectorAll('g:has(rect)')];
+  const rects = groups.map(it => it.querySelector('rect').getBBox());
+  const names = groups.map(it => it.querySelector('text').textContent);
   boxes += rects.length;
   for (const [i, a] of rects.entries()) for (const [j, b] of rects.entries())
     if (i < j && a.x < b.x + b.width && b.x < a.x + a.width && a.y < b.y + b.height && b.y < a.y + a.height)
       faults.push(`${where}: the boxes of ${names[i]} and ${names[j]} overlap`);
-  for (const g of svg.querySelectorAll('g')) {
+  for (const g of groups) {
     const r = g.querySelector('rect').getBBox(), t = g.querySelector('text').getBBox();
     if (t.width > r.width) faults.push(`${where}: the name ${g.querySelector('text').textContent} is wider than its box`);
   }

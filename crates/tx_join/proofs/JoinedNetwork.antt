@@ -1,9 +1,11 @@
 -- The joined network is a plan, and it has the network of both plans.
-use Rattle.std.proofs.Common.{◌≡◌, ℕ, ◌<◌, ◌≤◌, Bool, true, false, not, List, length, map, max, Option, Some, None, unwrap_or, refl, sym, ap, ◌∙◌, subst, arith}
+use Rattle.std.proofs.Common.{◌≡◌, ℕ, ◌<◌, ◌≤◌, Bool, true, false, not, List, [], length, map, max, Option, Some, None, unwrap_or, refl, sym, ap, ◌∙◌, subst, arith}
 use Rattle.std.specs.Prelude.{filter, find, slice_get}
+use Rattle.std.specs.List.{AllByRecursion}
 use Rattle.std.specs.Option.{option_map, option_map_or}
 use Rattle.std.specs.Str.{bytes_eq}
-use Rattle.std.proofs.lemmas.Option.{slice_get-map}
+use Rattle.std.proofs.lemmas.Bool.{not-true}
+use Rattle.std.proofs.lemmas.Option.{slice_get-map, slice_get_within}
 use Rattle.std.proofs.lemmas.List.{length-map}
 use Rattle.tx_plan.specs.declared.ids.Direction.TheVariants.{OneWay}
 use Rattle.tx_text.specs.Words.{is_name}
@@ -12,16 +14,16 @@ use Rattle.tx_plan.specs.Rules.{IsPlan, IsCode, IsGroup}
 use Rattle.tx_plan.specs.Circuits.{ends_of, direction_of, count_of}
 use Rattle.tx_plan.specs.Declaring.{has_exchange, has_code, has_group, exchange_at, code_at, group_at}
 use Rattle.tx_plan.proofs.ByIndex.{entry_at, all_at}
-use Rattle.tx_plan.proofs.Filtered.{all_kept, all_joined}
+use Rattle.tx_plan.proofs.Filtered.{all_kept, all_joined, all_pass}
 use Rattle.tx_plan.proofs.Growing.{code_within}
-use Rattle.tx_plan.proofs.Lists.{all_map, all_mapped, longer_by, slice_get_left, placed}
+use Rattle.tx_plan.proofs.Lists.{all_map, all_mapped, all_with, longer_by, slice_get_left, placed, no_index, none_passes}
 use Rattle.tx_plan.proofs.NamesBack.{code_back, group_back}
 use Rattle.tx_plan.proofs.Tables.{list_any-map}
 use Rattle.tx_join.specs.Joined.{joined_network, joined_exchange, joined_code, joined_group, widened, circuits_named, exchange_in, code_in, group_in}
 use Rattle.tx_join.specs.Laws.{CanBeJoined, HasNetwork}
 use Rattle.tx_join.specs.inner.Declared.{KnowsExchanges}
-use Rattle.tx_join.proofs.Found.{IsEntry, entry_found, find-map}
-use Rattle.tx_join.proofs.Knows.{same_word, only, exchange_there, exchange_named_so, exchanges_apart, code_there, code_named_so, group_there, group_named_so}
+use Rattle.tx_join.proofs.Found.{IsEntry, all_of, entry_found, find-map}
+use Rattle.tx_join.proofs.Knows.{only, exchange_there, exchange_named_so, exchanges_apart, code_there, code_named_so, group_there, group_named_so}
 use Rattle.tx_join.proofs.Rows.{code_keys, group_keys, keys_differ, found_first, found_second, has_key, knows_old_exchanges, knows_new_exchanges, knows_old_codes, knows_new_codes, knows_old_groups, knows_new_groups, exchange_stays, code_stays, group_stays}
 use Rattle.tx_join.proofs.United.{united_differ}
 use Rattle.tx_join.proofs.Unrefused.{one_home, one_group, few_exchanges, few_codes, few_groups}
@@ -61,10 +63,6 @@ module _ (old new : Plan) (can : CanBeJoined old new) where
       first = λ g l. let e = row g l in ap (λ (o : Option Group). (row_ends o).0) e.2 ∙ sym (exchange_stays old new ok new_ok _ (e.3.first)) ∙ ap (λ (o : Option Group). exchange_in joined old (row_ends o).0) (sym e.1);
       second = λ g l. let e = row g l in ap (λ (o : Option Group). (row_ends o).1) e.2 ∙ sym (exchange_stays old new ok new_ok _ (e.3.second)) ∙ ap (λ (o : Option Group). exchange_in joined old (row_ends o).1) (sym e.1);
       direction = λ g l. let e = row g l in ap (λ (o : Option Group). option_map_or (λ (r : Group). r.direction) o OneWay) e.2 ∙ ap (λ (o : Option Group). option_map_or (λ (r : Group). r.direction) o OneWay) (sym e.1);
-      circuits = λ g l. let e = row g l in
-          let a : count_of old g ≡ e.0.count = ap (λ (o : Option Group). option_map_or (λ (r : Group). r.count) o 0) e.1 in
-          let b : count_of joined (group_in joined old g) ≡ max e.0.count (circuits_named new e.0.name) = ap (λ (o : Option Group). option_map_or (λ (r : Group). r.count) o 0) e.2 in
-          omega (arith, a, b);
     };
   }
     where
@@ -115,7 +113,6 @@ module _ (old new : Plan) (can : CanBeJoined old new) where
     first : z.a ≡ exchange_in joined new (ends_of new g).0
     second : z.b ≡ exchange_in joined new (ends_of new g).1
     direction : z.direction ≡ direction_of new g
-    circuits : count_of new g ≤ z.count
 
   group_row : (g : ℕ) → g < length new.groups → (z : Group) × (slice_get joined.groups (group_in joined new g) ≡ Some z) × IsRowOf g z
   group_row g l = (e.0, e.1.at, by (has_group old w) refl)
@@ -129,9 +126,6 @@ module _ (old new : Plan) (can : CanBeJoined old new) where
       e : (z : Group) × IsEntry t joined.groups (group_in joined new g) z
       e = entry_found t joined.groups (knows_new_groups old new ok new_ok g l)
 
-      back : group_named new w ≡ Some g
-      back = (group_back new new_ok g l).back
-
       by : (b : Bool) → has_group old w ≡ b → IsRowOf g e.0
       by true h =
           let f = entry_found t old.groups h in
@@ -140,14 +134,10 @@ module _ (old new : Plan) (can : CanBeJoined old new) where
           let same : e.0 ≡ widened new f.0 = only (sym e.1.found ∙ found) in
           let one = one_group old new can.unrefused g k l (placed t old.groups h) in
           let rules = all_at (IsGroup old) old.groups k f.0 ok.groups f.1.at in
-          let name : f.0.name ≡ w = same_word w f.0.name f.1.passes in
-          let count : circuits_named new f.0.name ≡ count_of new g = ap (λ v. circuits_named new v) name ∙ ap (λ o. option_map_or (count_of new) o 0) back in
-          let wide : e.0.count ≡ max f.0.count (circuits_named new f.0.name) = ap (λ (r : Group). r.count) same in
           record {
             first = ap (λ (r : Group). r.a) same ∙ sym (exchange_stays old new ok new_ok f.0.a rules.first) ∙ ap (λ (o : Option Group). exchange_in joined old (row_ends o).0) (sym f.1.at) ∙ ap (exchange_at joined) one.first;
             second = ap (λ (r : Group). r.b) same ∙ sym (exchange_stays old new ok new_ok f.0.b rules.second) ∙ ap (λ (o : Option Group). exchange_in joined old (row_ends o).1) (sym f.1.at) ∙ ap (exchange_at joined) one.second;
             direction = ap (λ (r : Group). r.direction) same ∙ ap (λ (o : Option Group). option_map_or (λ (r : Group). r.direction) o OneWay) (sym f.1.at) ∙ one.direction;
-            circuits = omega (arith, count, wide);
           }
       by false h =
           let f = entry_found t new.groups (group_back new new_ok g l).there in
@@ -155,14 +145,11 @@ module _ (old new : Plan) (can : CanBeJoined old new) where
           let found : find t joined.groups ≡ Some (joined_group old new f.0) =
           found_second (λ (r : Group). r.name) w (map (widened new) old.groups) old.groups new.groups (joined_group old new) (λ r. refl) none h ∙ ap (option_map (joined_group old new)) f.1.found in
           let same : e.0 ≡ joined_group old new f.0 = only (sym e.1.found ∙ found) in
-          let at : slice_get new.groups g ≡ Some f.0 = ap (λ o. slice_get new.groups (unwrap_or o 0)) (sym back) ∙ f.1.at in
-          let count : count_of new g ≡ f.0.count = ap (λ (o : Option Group). option_map_or (λ (r : Group). r.count) o 0) at in
-          let wide : e.0.count ≡ f.0.count = ap (λ (r : Group). r.count) same in
+          let at : slice_get new.groups g ≡ Some f.0 = ap (λ o. slice_get new.groups (unwrap_or o 0)) (sym (group_back new new_ok g l).back) ∙ f.1.at in
           record {
             first = ap (λ (r : Group). r.a) same ∙ ap (λ (o : Option Group). exchange_in joined new (row_ends o).0) (sym at);
             second = ap (λ (r : Group). r.b) same ∙ ap (λ (o : Option Group). exchange_in joined new (row_ends o).1) (sym at);
             direction = ap (λ (r : Group). r.direction) same ∙ ap (λ (o : Option Group). option_map_or (λ (r : Group). r.direction) o OneWay) (sym at);
-            circuits = omega (arith, count, wide);
           }
 
   pub has_new : HasNetwork joined new
@@ -179,15 +166,44 @@ module _ (old new : Plan) (can : CanBeJoined old new) where
       first = λ g l. let r = group_row g l in ap (λ (o : Option Group). (row_ends o).0) r.1 ∙ r.2.first;
       second = λ g l. let r = group_row g l in ap (λ (o : Option Group). (row_ends o).1) r.1 ∙ r.2.second;
       direction = λ g l. let r = group_row g l in ap (λ (o : Option Group). option_map_or (λ (r : Group). r.direction) o OneWay) r.1 ∙ r.2.direction;
-      circuits = λ g l. let r = group_row g l in
-          let a : count_of joined (group_in joined new g) ≡ r.0.count = ap (λ (o : Option Group). option_map_or (λ (r : Group). r.count) o 0) r.1 in
-          let b = r.2.circuits in
-          omega (arith, a, b);
     };
   }
     where
       knows : KnowsExchanges joined new
       knows = knows_new_exchanges old new ok new_ok
+
+  -- THE CIRCUITS OF ITS GROUPS
+
+  -- each group has the greater of both numbers
+  abbrev IsWide : Group → Type 0
+  IsWide z = z.count ≡ max (circuits_named old z.name) (circuits_named new z.name)
+
+  alone : (n : ℕ) → n ≡ max 0 n
+  alone n = omega arith
+
+  row_named : (p : Plan) → IsPlan p → (g : ℕ) (r : Group) → slice_get p.groups g ≡ Some r → circuits_named p r.name ≡ r.count
+  row_named p p_ok g r e =
+      let name : group_name p g ≡ r.name = ap (λ (o : Option Group). option_map_or (λ (r : Group). r.name) o []) e in
+      ap (circuits_named p) (sym name) ∙ ap (λ o. option_map_or (count_of p) o 0) (group_back p p_ok g (slice_get_within p.groups g r e)).back
+      ∙ ap (λ (o : Option Group). option_map_or (λ (r : Group). r.count) o 0) e
+
+  old_wide : AllByRecursion (λ r. IsWide (widened new r)) old.groups
+  old_wide = all_of (λ r. IsWide (widened new r)) old.groups (λ g r e. ap (λ n. max n (circuits_named new r.name)) (sym (row_named old ok g r e)))
+
+  new_wide : AllByRecursion (λ r. IsWide (joined_group old new r)) (filter (λ g. not (has_group old g.name)) new.groups)
+  new_wide = all_with (filter (λ g. not (has_group old g.name)) new.groups)
+      (λ r a none.
+      let n : circuits_named old r.name ≡ 0 = ap (λ o. option_map_or (count_of old) o 0) (no_index (λ (k : Group). bytes_eq r.name k.name) old.groups (none_passes (λ (k : Group). bytes_eq r.name k.name) old.groups (not-true (has_group old r.name) none))) in
+      sym a ∙ alone (circuits_named new r.name) ∙ ap (λ k. max k (circuits_named new r.name)) (sym n))
+      (all_kept (λ r. circuits_named new r.name ≡ r.count) (λ g. not (has_group old g.name)) new.groups (all_of (λ r. circuits_named new r.name ≡ r.count) new.groups (row_named new new_ok)))
+      (all_pass (λ g. not (has_group old g.name)) new.groups)
+
+  pub circuits : (g : ℕ) → g < length joined.groups → count_of joined g ≡ max (circuits_named old (group_name joined g)) (circuits_named new (group_name joined g))
+  circuits g l =
+      let e = entry_at joined.groups g l in
+      let z = all_at IsWide joined.groups g e.0 (all_joined IsWide (map (widened new) old.groups) _ (all_mapped (widened new) IsWide old.groups old_wide) (all_mapped (joined_group old new) IsWide _ new_wide)) e.1 in
+      let name : group_name joined g ≡ e.0.name = ap (λ (o : Option Group). option_map_or (λ (r : Group). r.name) o []) e.1 in
+      ap (λ (o : Option Group). option_map_or (λ (r : Group). r.count) o 0) e.1 ∙ z ∙ ap (λ w. max (circuits_named old w) (circuits_named new w)) (sym name)
 
   -- ITS RULES
 

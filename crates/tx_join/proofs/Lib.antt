@@ -8,6 +8,7 @@ pub mod Taking
 pub mod PlansOver
 pub mod TheirLists
 pub mod OldCertified
+pub mod NoDifference
 pub mod OneNetwork
 pub mod NextDeclared
 pub mod NextTaken

@@ -25,6 +25,7 @@ use Rattle.tx_join.specs.Joined.{joined_network, joined_code, joined_group, wide
 use Rattle.tx_join.specs.Refusals.{is_same_exchange, is_same_direction, is_same_group, has_other_home, has_other_group, has_too_many, refused_if, join_refusal}
 use Rattle.tx_join.specs.Laws.{AreOwnJoined}
 use Rattle.tx_join.proofs.Found.{all_of, filter_all, filter_none, map_same, find_fails, range_all}
+use Rattle.tx_join.proofs.NoDifference.{no_difference}
 use Rattle.tx_join.proofs.Taking.{seized}
 
 -- A PLAN AND ITSELF, WITH OTHER ROUTES AND BARS
@@ -170,6 +171,7 @@ own_joined p routes bars ok other_ok = record {
   none = unrefused p ok routes bars;
   before = ap (λ j. plan_over j p (rerouted p routes bars) (length p.codes)) (own_network p ok routes bars) ∙ stays p p.routes routes p.bars bars ok other_ok;
   after = ap (λ j. plan_over j (rerouted p routes bars) p (length p.codes)) (own_network p ok routes bars) ∙ stays p routes p.routes bars p.bars other_ok ok;
+  nothing = no_difference p ok routes bars;
 }
 
 pub one_network : (old new : Plan) → IsPlan old → IsPlan new → SameNetwork old new → AreOwnJoined old new

@@ -90,6 +90,12 @@ module _ {A : Type 0} (exchange code : A → ℕ) where
     pub to_exchange : (a : A) → exchange (f a) ≡ exchange_in j p (exchange a)
     pub to_code : (a : A) → code (f a) ≡ code_in j p (code a)
 
+  -- none of p is for a pair that p does not have
+  pub none_own : (j p : Plan) → IsPlan p → HasNetwork j p → (f : A → A) → Moves j p f → (xs : List A) → AllByRecursion (IsOf p) xs → (y d : ℕ) → has_both p j y d ≡ false → find (at_pair y d) (map f xs) ≡ None
+  none_own j p ok has f m xs of_p y d none = find_fails (at_pair y d) (map f xs) (all_mapped f (λ z. at_pair y d z ≡ false) xs (all_map xs (λ a k. false_from_ne_true (at_pair y d (f a)) (λ e.
+      let t = and_parts (exchange (f a) == y) (code (f a) == d) e in
+      true≢false (sym (known_in j p ok has _ _ y d k (sym (eqb-true _ _ t.0) ∙ m.to_exchange a) (sym (eqb-true _ _ t.1) ∙ m.to_code a)) ∙ none))) of_p))
+
   module _ (j p q : Plan) (ok : IsPlan p) (q_ok : IsPlan q) (has_p : HasNetwork j p) (has_q : HasNetwork j q) (f g : A → A) (mf : Moves j p f) (mg : Moves j q g) (xs ys : List A) (of_p : AllByRecursion (IsOf p) xs) (of_q : AllByRecursion (IsOf q) ys) where
     -- an entry of q is not one of p
     abbrev others : A → Bool
@@ -132,20 +138,12 @@ module _ {A : Type 0} (exchange code : A → ℕ) where
         ap (λ z. (z == exchange_in j p x) && (code (f a) == code_in j p c)) (mf.to_exchange a) ∙ ap (λ z. (exchange_in j p (exchange a) == exchange_in j p x) && (z == code_in j p c)) (mf.to_code a)
         ∙ (λ i. exchange_test j p ok has_p (exchange a) x k.exchange h.exchange i && code_test j p ok has_p (code a) c k.code h.code i)) of_p))
 
-    -- none of p is for a pair that p does not have
-    pub none_own : (y d : ℕ) → has_both p j y d ≡ false → (s : A → Bool) → find (at_pair y d) (map f (filter s xs)) ≡ None
-    none_own y d none s = find_fails (at_pair y d) (map f (filter s xs)) (all_mapped f (λ z. at_pair y d z ≡ false) (filter s xs) (all_map (filter s xs) (λ a k. false_from_ne_true (at_pair y d (f a)) (λ e.
-        let t = and_parts (exchange (f a) == y) (code (f a) == d) e in
-        true≢false (sym (known_in j p ok has_p _ _ y d k (sym (eqb-true _ _ t.0) ∙ mf.to_exchange a) (sym (eqb-true _ _ t.1) ∙ mf.to_code a)) ∙ none))) (all_kept (IsOf p) s xs of_p)))
-
     -- for such a pair what is found is what q has
     pub found_other : (y d : ℕ) → has_both p j y d ≡ false → find (at_pair y d) over ≡ find (at_pair y d) (map g ys)
     found_other y d none =
         let t = at_pair y d in
         find-append t (map f xs) (map g (filter others ys))
-        ∙ ap (λ o. option_or o (find t (map g (filter others ys)))) (find_fails t (map f xs) (all_mapped f (λ z. t z ≡ false) xs (all_map xs (λ a k. false_from_ne_true (t (f a)) (λ e.
-        let s = and_parts (exchange (f a) == y) (code (f a) == d) e in
-        true≢false (sym (known_in j p ok has_p _ _ y d k (sym (eqb-true _ _ s.0) ∙ mf.to_exchange a) (sym (eqb-true _ _ s.1) ∙ mf.to_code a)) ∙ none))) of_p)))
+        ∙ ap (λ o. option_or o (find t (map g (filter others ys)))) (none_own j p ok has_p f mf xs of_p y d none)
         ∙ find-map t g (filter others ys)
         ∙ ap (option_map g) (find_kept (λ b. t (g b)) others ys (all_map ys (λ b k e.
         let s = and_parts (exchange (g b) == y) (code (g b) == d) e in
@@ -328,8 +326,11 @@ module _ (j p q : Plan) (n : ℕ) (ok : IsPlan p) (q_ok : IsPlan q) (has_p : Has
         let t = at_pair exchange code y d in
         found_other exchange code j p q ok q_ok has_p has_q f g mf mg xs ys of_p of_q y d none
         ∙ sym (find-append t (map g ys) (map f (filter s xs))
-        ∙ ap (option_or (find t (map g ys))) (none_own exchange code j p q ok q_ok has_p has_q f g mf mg xs ys of_p of_q y d none s)
+        ∙ ap (option_or (find t (map g ys))) (none_own exchange code j p ok has_p f mf (filter s xs) (all_kept (IsOf exchange code p) s xs of_p) y d none)
         ∙ or_none (find t (map g ys)))
+
+    none_found : has_both q j y d ≡ false → find (at_pair exchange code y d) (map f xs ++ map g (filter (λ b. not (has_both p q (exchange b) (code b))) ys)) ≡ None
+    none_found other_none = found_other exchange code j p q ok q_ok has_p has_q f g mf mg xs ys of_p of_q y d none ∙ none_own exchange code j q q_ok has_q g mg ys of_q y d other_none
 
   pub same_list : route_list (plan_over j p q n) y d ≡ route_list (plan_over j q p n) y d
   same_list = ap groups_of
@@ -342,3 +343,11 @@ module _ (j p q : Plan) (n : ℕ) (ok : IsPlan p) (q_ok : IsPlan q) (has_p : Has
         ∙ sym (shared_bar j q p n q_ok ok has_q has_p y d l)
     | inr l ↦ new_bar j p q n ok q_ok has_p has_q y d l ∙ sym (new_bar j q p n q_ok ok has_q has_p y d l)
   ]
+
+  -- what q does not have either is not there
+  pub no_more : has_both q j y d ≡ false → (route_list (plan_over j p q n) y d ≡ []) × (d < n → is_barred (plan_over j p q n) y d ≡ false)
+  no_more other_none = (
+    ap groups_of (none_found (λ (r : Route). r.exchange) (λ (r : Route). r.code) (route_in j p) (route_in j q) (route_moves j p) (route_moves j q) p.routes q.routes (routes_of p ok) (routes_of q q_ok) other_none),
+    λ l. shared_bar j p q n ok q_ok has_p has_q y d l
+        ∙ ap is_some (none_found (λ (b : Pair). b.exchange) (λ (b : Pair). b.code) (bar_in j p) (bar_in j q) (bar_moves j p) (bar_moves j q) p.bars q.bars (bars_of p ok) (bars_of q q_ok) other_none),
+  )

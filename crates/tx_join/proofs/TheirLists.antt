@@ -4,9 +4,9 @@ use Rattle.tx_plan.specs.Plan.{Plan}
 use Rattle.tx_plan.specs.Rules.{IsPlan}
 use Rattle.tx_join.specs.Joined.{joined_network, joined_old, joined_new}
 use Rattle.tx_join.specs.Laws.{CanBeJoined, HasNetwork, AreOverBoth, HaveTheirLists}
-use Rattle.tx_join.proofs.JoinedNetwork.{has_old, has_new, network_rules}
+use Rattle.tx_join.proofs.JoinedNetwork.{has_old, has_new, circuits, network_rules}
 use Rattle.tx_join.proofs.Rows.{exchange_stays, code_stays, group_stays}
-use Rattle.tx_join.proofs.PlansOver.{made_rules, own_list, own_bar, new_barred, same_list, same_bar}
+use Rattle.tx_join.proofs.PlansOver.{made_rules, own_list, own_bar, new_barred, same_list, same_bar, no_more}
 
 module _ (old new : Plan) (can : CanBeJoined old new) where
   abbrev joined : Plan
@@ -29,7 +29,7 @@ module _ (old new : Plan) (can : CanBeJoined old new) where
   as_before p h = record {
     exchanges = record { there = h.exchanges.there; named = h.exchanges.named };
     codes = record { there = h.codes.there; named = h.codes.named; home = h.codes.home };
-    groups = record { there = h.groups.there; named = h.groups.named; first = h.groups.first; second = h.groups.second; direction = h.groups.direction; circuits = h.groups.circuits };
+    groups = record { there = h.groups.there; named = h.groups.named; first = h.groups.first; second = h.groups.second; direction = h.groups.direction };
   }
 
   pub over_both : AreOverBoth old new (joined_old old new) (joined_new old new)
@@ -39,6 +39,7 @@ module _ (old new : Plan) (can : CanBeJoined old new) where
     same = record { exchanges = refl; codes = refl; ranges = refl; groups = refl };
     has_old = as_before old old_has;
     has_new = as_before new new_has;
+    circuits = circuits old new can;
     lines = refl;
     exchange_stays = exchange_stays old new can.old_rules can.new_rules;
     code_stays = code_stays old new can.old_rules can.new_rules;
@@ -57,6 +58,8 @@ module _ (old new : Plan) (can : CanBeJoined old new) where
         new_bars = λ x c l m k. own_bar joined new old n w o new_has old_has x c (record { exchange = l; code = m }) k;
         old_alone = λ x c l m none. (sym (same_list joined new old n w o new_has old_has x c none), sym (same_bar joined new old n w o new_has old_has x c none));
         new_alone = λ x c l m none. (same_list joined old new n o w old_has new_has x c none, same_bar joined old new n o w old_has new_has x c none);
+        before_no_more = λ x c l m none other_none. no_more joined old new n o w old_has new_has x c none other_none;
+        after_no_more = λ x c l m none other_none. no_more joined new old n w o new_has old_has x c other_none none;
         before_closed = λ x c l m k away. new_barred joined old new n o w old_has new_has x c l m k away;
         after_closed = λ x c l m k away. new_barred joined new old n w o new_has old_has x c l m k away;
       }

@@ -1,12 +1,13 @@
 -- What the joined plans have of the old plan and of the new one.
-use Rattle.std.specs.Prelude.{◌≡◌, ◌≢◌, ℕ, ◌<◌, ◌≤◌, nat_lt, if◌then◌else◌, true, false, length, map, None}
+use Rattle.std.specs.Prelude.{◌≡◌, ◌≢◌, ℕ, ◌<◌, ◌≤◌, nat_lt, max, if◌then◌else◌, true, false, [], length, map, None}
 use Rattle.tx_plan.specs.Plan.{Plan, exchange_name, figures_of, group_name, home_of}
 use Rattle.tx_plan.specs.Rules.{IsPlan}
 use Rattle.tx_plan.specs.Routes.{route_list, is_barred}
 use Rattle.tx_plan.specs.Circuits.{ends_of, direction_of, count_of}
 use Rattle.tx_plan.specs.Certified.{Ranks, IsCertified}
 use Rattle.tx_plan.specs.Mixtures.{SameNetwork}
-use Rattle.tx_join.specs.Joined.{exchange_in, code_in, group_in, has_both, joined_old, joined_new}
+use Rattle.tx_join.specs.Joined.{circuits_named, exchange_in, code_in, group_in, has_both, joined_old, joined_new}
+use Rattle.tx_join.specs.Differences.{difference_text}
 use Rattle.tx_join.specs.Refusals.{join_refusal}
 
 -- Two plans that have a joined network
@@ -35,7 +36,7 @@ pub record HasCodes (q p : Plan) : Type 0 where
   pub home : (c : ℕ) → c < length p.codes
       → home_of q (code_in q p c) ≡ exchange_in q p (home_of p c)
 
--- each group, with the same ends and the same direction, and with no fewer circuits
+-- each group, with the same ends and the same direction
 pub record HasGroups (q p : Plan) : Type 0 where
   pub there : (g : ℕ) → g < length p.groups → group_in q p g < length q.groups
   pub named : (g : ℕ) → g < length p.groups → group_name q (group_in q p g) ≡ group_name p g
@@ -45,7 +46,6 @@ pub record HasGroups (q p : Plan) : Type 0 where
       → (ends_of q (group_in q p g)).1 ≡ exchange_in q p (ends_of p g).1
   pub direction : (g : ℕ) → g < length p.groups
       → direction_of q (group_in q p g) ≡ direction_of p g
-  pub circuits : (g : ℕ) → g < length p.groups → count_of p g ≤ count_of q (group_in q p g)
 
 -- all of these
 pub record HasNetwork (q p : Plan) : Type 0 where
@@ -54,13 +54,16 @@ pub record HasNetwork (q p : Plan) : Type 0 where
   pub groups : HasGroups q p
 
 -- The joined plans are plans of one network, which has that of the old plan, with its lines, and
--- that of the new one. What the old plan has is known there by the same indexes.
+-- that of the new one. Each group has the greater of the numbers of circuits that they give it.
+-- What the old plan has is known there by the same indexes.
 pub record AreOverBoth (old new before after : Plan) : Type 0 where
   pub before_rules : IsPlan before
   pub after_rules : IsPlan after
   pub same : SameNetwork before after
   pub has_old : HasNetwork before old
   pub has_new : HasNetwork before new
+  pub circuits : (g : ℕ) → g < length before.groups → count_of before g
+      ≡ max (circuits_named old (group_name before g)) (circuits_named new (group_name before g))
   pub lines : before.ranges ≡ old.ranges
   pub exchange_stays : (x : ℕ) → x < length old.exchanges → exchange_in before old x ≡ x
   pub code_stays : (c : ℕ) → c < length old.codes → code_in before old c ≡ c
@@ -90,8 +93,15 @@ abbrev pub BarsNewCodes : (old p : Plan) → Type 0
 BarsNewCodes old p = (x c : ℕ) → length old.codes ≤ c → x < length p.exchanges
     → c < length p.codes → home_of p c ≢ x → is_barred p x c ≡ true
 
+-- where neither plan has both the exchange and the code, p has no list, and no bar for a code of the
+-- old plan
+abbrev pub HasNoMore : (old new p : Plan) → Type 0
+HasNoMore old new p = (x c : ℕ) → x < length p.exchanges → c < length p.codes
+    → has_both old p x c ≡ false → has_both new p x c ≡ false
+    → (route_list p x c ≡ []) × (c < length old.codes → is_barred p x c ≡ false)
+
 -- The old plan over the joined network has the lists and bars of the old plan, and the new plan
--- over it those of the new one. What one plan alone has is in both.
+-- over it those of the new one. What one plan alone has is in both, and there is no more.
 pub record HaveTheirLists (old new before after : Plan) : Type 0 where
   pub old_lists : HasLists before old
   pub old_bars : HasBars old before old
@@ -99,16 +109,19 @@ pub record HaveTheirLists (old new before after : Plan) : Type 0 where
   pub new_bars : HasBars old after new
   pub old_alone : SwitchesShared new before after
   pub new_alone : SwitchesShared old before after
+  pub before_no_more : HasNoMore old new before
+  pub after_no_more : HasNoMore old new after
   pub before_closed : BarsNewCodes old before
   pub after_closed : BarsNewCodes old after
 
 -- ONE NETWORK
 
--- plans of one network are their own joined plans
+-- plans of one network are their own joined plans, and no line tells of a difference
 pub record AreOwnJoined (old new : Plan) : Type 0 where
   pub none : join_refusal old new ≡ None
   pub before : joined_old old new ≡ old
   pub after : joined_new old new ≡ new
+  pub nothing : difference_text old new ≡ []
 
 -- the ranks of exchanges that a plan has
 abbrev pub ranks_within : Plan → Ranks → Ranks

@@ -5,14 +5,15 @@ ghost use Rattle.tx_plan.specs.Rules.{IsPlan};
 ghost use Rattle.tx_plan.specs.Mixtures.{SameNetwork};
 ghost use Rattle.tx_join.specs.Laws.{OfJoined, AreOverBoth, HaveTheirLists, AreOwnJoined, CertifiesOld};
 
-/// The joined plans are plans of one network, which has that of both plans. Each has the lists and
-/// bars of its own plan, and those of the other one for what its own does not have.
+/// The joined plans are plans of one network, which has that of both plans, and each group with the
+/// greater of both numbers of circuits. Each has the lists and bars of its own plan, and those of
+/// the other one for what its own does not have, and no more.
 pub fn joined_plans_are_of_both()
     ensures network { OfJoined AreOverBoth }
     ensures lists { OfJoined HaveTheirLists }
 {}
 
-/// Plans of one network are their own joined plans.
+/// Plans of one network are their own joined plans, and no line tells of a difference.
 pub fn plans_of_one_network_stay()
     ensures { (old new : Plan) → IsPlan old → IsPlan new → SameNetwork old new
         → AreOwnJoined old new }

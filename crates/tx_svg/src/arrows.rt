@@ -76,6 +76,27 @@ fn write_layer<A: Allocator, W: PageSink>(
 ) -> Result<(), WriteFault>
     ensures { Showed W.seen sink.old sink.new [] result }
 {
+    set(
+        &[
+            Part::Own("<g class=\""),
+            Part::Own(layer.class()),
+            Part::Own("\">"),
+        ],
+        sink,
+    )?;
+    write_lists(plan, picture, findings, layer, sink)?;
+    set(&[Part::Own("</g>")], sink)
+}
+
+fn write_lists<A: Allocator, W: PageSink>(
+    plan: &Plan<A>,
+    picture: &Picture<A>,
+    findings: &[Finding<A>],
+    layer: Choice,
+    sink: &mut W,
+) -> Result<(), WriteFault>
+    ensures { Showed W.seen sink.old sink.new [] result }
+{
     for index in 0..plan.exchanges() {
         write_list(plan, picture, findings, layer, ExchangeId::of(index), sink)?;
     }
@@ -96,7 +117,7 @@ fn write_list<A: Allocator, W: PageSink>(
     let list = plan.list(exchange, picture.code);
     for i in 0..list.len() {
         let to = arrow_to(plan, picture.code, findings, layer, exchange, list, i);
-        write_arrow(plan, picture, layer, exchange, to, sink)?;
+        write_arrow(plan, picture, exchange, to, sink)?;
     }
     Ok(())
 }
@@ -143,7 +164,6 @@ fn first_to<A: Allocator>(
 fn write_arrow<A: Allocator, W: PageSink>(
     plan: &Plan<A>,
     picture: &Picture<A>,
-    choice: Choice,
     from: ExchangeId,
     to: Option<ExchangeId>,
     sink: &mut W,
@@ -151,7 +171,7 @@ fn write_arrow<A: Allocator, W: PageSink>(
     ensures { Showed W.seen sink.old sink.new [] result }
 {
     match (picture.spot(from), head_of(plan, picture, from, to)) {
-        (Some(tail), Some(head)) => write_between(picture, choice, tail, head, sink),
+        (Some(tail), Some(head)) => write_between(picture, tail, head, sink),
         _ => Ok(()),
     }
 }
@@ -159,21 +179,13 @@ fn write_arrow<A: Allocator, W: PageSink>(
 /// Writes an arrow between two places.
 fn write_between<A: Allocator, W: PageSink>(
     picture: &Picture<A>,
-    choice: Choice,
     tail: Spot,
     head: Spot,
     sink: &mut W,
 ) -> Result<(), WriteFault>
     ensures { Showed W.seen sink.old sink.new [] result }
 {
-    set(
-        &[
-            Part::Own("<path class=\""),
-            Part::Own(choice.class()),
-            Part::Own("\" d=\"M"),
-        ],
-        sink,
-    )?;
+    set(&[Part::Own("<path d=\"M")], sink)?;
     write_way(picture, tail, head, sink)?;
     set(&[Part::Own("\"/>")], sink)
 }
