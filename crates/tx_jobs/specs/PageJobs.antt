@@ -23,7 +23,7 @@ use Rattle.tx_order_page.specs.declared.change.Change.{Change}
 use Rattle.tx_page.specs.Page.{is_safe, page_texts}
 use Rattle.tx_page.specs.declared.subject.Subject.{Subject}
 use Rattle.tx_commands.specs.declared.grammar.TheConstants.{VERSION}
-use Rattle.tx_jobs.specs.declared.page.Asked.{Asked}
+use Rattle.tx_jobs.specs.declared.page.PageRequest.{PageRequest}
 use Rattle.tx_jobs.specs.declared.job_fault.JobFault.{JobFault}
 use Rattle.tx_jobs.specs.declared.job_fault.JobFault.TheVariants.{Write, NoMemory, NoSuchCode}
 use Rattle.tx_jobs.specs.GradeJobs.{IsGradeOf}
@@ -43,7 +43,7 @@ pub record Request : Type 0 where
   pub has_old : Bool
 
 -- as a function sees it
-abbrev pub request_of : Asked → Request
+abbrev pub request_of : PageRequest → Request
 request_of a = record {
   file = a.file.now;
   limit = a.limits.limit;

@@ -20,7 +20,7 @@ use crate::job_fault::JobFault;
 use crate::lint::{lint_job, lint_risks_job};
 use crate::mend::mend_job;
 use crate::order::order_job;
-use crate::page::{Asked, page_job};
+use crate::page::{PageRequest, page_job};
 use crate::pipe::pipe_job;
 use crate::run::run_job;
 use crate::run_checked::run_checked_job;
@@ -309,7 +309,7 @@ fn do_page<A: Allocator + Copy, P: Source, Q: Source, R: Source, W: Sink>(
         } => {
             let (limit, spare) = (*limit, *spare);
             let limits = Limits { limit, spare };
-            let asked = Asked::of(file, limits, code, named.is_some(), before.is_some());
+            let asked = PageRequest::of(file, limits, code, named.is_some(), before.is_some());
             Ok(Done::Paged(page_job(alloc, plan, risks, old, asked, out)?))
         }
         _ => unreachable!(),

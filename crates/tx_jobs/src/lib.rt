@@ -58,7 +58,7 @@ pub use mend::mend_job;
 pub use mixture::{ChangeEvidence, Mixture};
 pub use order::order_job;
 pub use outcome::{Outcome, do_command};
-pub use page::{Asked, page_job};
+pub use page::{PageRequest, page_job};
 pub use pipe::pipe_job;
 pub use run::run_job;
 pub use run_checked::run_checked_job;

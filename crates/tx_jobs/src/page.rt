@@ -23,7 +23,7 @@ use tx_text::{Sink, Source};
 
 /// What a page is asked for.
 #[derive(Clone, Copy, Debug)]
-pub struct Asked<'a> {
+pub struct PageRequest<'a> {
     /// The words for the file of the plan.
     pub file: &'a [u8],
     pub limits: Limits,
@@ -34,7 +34,7 @@ pub struct Asked<'a> {
     pub has_old: bool,
 }
 
-impl<'a> Asked<'a> {
+impl<'a> PageRequest<'a> {
     ghost use Rattle.tx_jobs.specs.PageJobs.{page_request, request_of};
 
     /// What the words of the command ask for.
@@ -44,11 +44,11 @@ impl<'a> Asked<'a> {
         code: &'a Option<String>,
         has_risks: bool,
         has_old: bool,
-    ) -> Asked<'a>
+    ) -> PageRequest<'a>
         ensures { request_of result
             ≡ page_request file.now limits.limit limits.spare code.now has_risks has_old }
     {
-        Asked {
+        PageRequest {
             file: file.as_bytes(),
             limits,
             code: code.as_deref(),
@@ -68,7 +68,7 @@ pub fn page_job<A: Allocator + Copy, P: Source, Q: Source, R: Source, W: Sink>(
     plan: &mut P,
     risks: &mut Q,
     old: &mut R,
-    asked: Asked<'_>,
+    asked: PageRequest<'_>,
     out: &mut W,
 ) -> Result<bool, JobFault>
     ensures answers { PageJobAnswers A (request_of asked.entry)
@@ -88,7 +88,7 @@ pub fn page_job<A: Allocator + Copy, P: Source, Q: Source, R: Source, W: Sink>(
 /// Writes the page of a plan that was read, if it has the code that is asked for.
 fn page_of<A: Allocator + Copy, Q: Source, R: Source, W: Sink>(
     alloc: A,
-    asked: Asked<'_>,
+    asked: PageRequest<'_>,
     plan: &PlanText<A>,
     risks: &mut Q,
     old: &mut R,
@@ -116,7 +116,7 @@ fn page_of<A: Allocator + Copy, Q: Source, R: Source, W: Sink>(
 /// for a code or for all.
 fn page_with<A: Allocator + Copy, Q: Source, R: Source, W: Sink>(
     alloc: A,
-    asked: Asked<'_>,
+    asked: PageRequest<'_>,
     code: Option<CodeId>,
     plan: &PlanText<A>,
     risks: &mut Q,
@@ -144,7 +144,7 @@ fn page_with<A: Allocator + Copy, Q: Source, R: Source, W: Sink>(
 /// Reads the old plan, if it is asked for, and writes the page.
 fn page_from<A: Allocator + Copy, R: Source, W: Sink>(
     alloc: A,
-    asked: Asked<'_>,
+    asked: PageRequest<'_>,
     code: Option<CodeId>,
     plan: &PlanText<A>,
     risks: &Risks<A>,
@@ -170,7 +170,7 @@ fn page_from<A: Allocator + Copy, R: Source, W: Sink>(
 /// Writes the page, with the change from an old plan.
 fn tell_change<A: Allocator + Copy, W: Sink>(
     alloc: A,
-    asked: Asked<'_>,
+    asked: PageRequest<'_>,
     code: Option<CodeId>,
     plan: &PlanText<A>,
     risks: &Risks<A>,
@@ -196,7 +196,7 @@ fn tell_change<A: Allocator + Copy, W: Sink>(
 /// Finds what the page shows, and writes it.
 fn tell_page<A: Allocator + Copy, W: Sink>(
     alloc: A,
-    asked: Asked<'_>,
+    asked: PageRequest<'_>,
     code: Option<CodeId>,
     plan: &PlanText<A>,
     risks: &Risks<A>,
@@ -217,7 +217,7 @@ fn tell_page<A: Allocator + Copy, W: Sink>(
 
 /// Writes a page of what was found.
 fn write_found<A: Allocator, W: Sink>(
-    asked: Asked<'_>,
+    asked: PageRequest<'_>,
     plan: &PlanText<A>,
     risks: &Risks<A>,
     change: Option<Change<'_, A>>,
