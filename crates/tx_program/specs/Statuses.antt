@@ -32,6 +32,6 @@ pub record IsRefusedWith (words : List (Bor (List ℕ))) (status : ℕ) : Type 0
 -- file must not be made
 abbrev pub status_of_stop : Stop → ℕ
 status_of_stop (Job fault) = job_status fault
-status_of_stop (Read name error) = 3
-status_of_stop (Write name error) = 3
+status_of_stop (Read place error) = 3
+status_of_stop (Write place error) = 3
 status_of_stop other = 64

@@ -219,4 +219,10 @@ impl CodeServed {
         }
         self.note_unlimited(alloc, &routing.plan, starts, wanted)
     }
+
+    /// Keeps a routing whose ranks are known.
+    pub fn keep(&mut self, routing: Routing) -> Result<(), NoMemory> {
+        self.routings.push(routing)?;
+        Ok(())
+    }
 }

@@ -65,8 +65,7 @@ fn note_number(
     put_plan(&work.lines, number, &mut work.text)?;
     let mut routing = Routing::new(alloc, read_plan(alloc, work.text.as_slice())?);
     note_routing(alloc, &mut routing, code, work, served)?;
-    served.routings.push(routing)?;
-    Ok(())
+    Ok(served.keep(routing)?)
 }
 
 /// Makes all routings of a network for a code, and takes in what they do.
