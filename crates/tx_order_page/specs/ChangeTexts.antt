@@ -6,7 +6,7 @@ use Rattle.tx_plan.specs.Routes.{route_list, is_barred}
 use Rattle.tx_change.specs.declared.difference.Difference.{Difference}
 use Rattle.tx_join.specs.declared.joining.Joined.{Joined}
 use Rattle.tx_order.specs.declared.switching.Switching.{Switching}
-use Rattle.tx_order.specs.declared.switching.Switching.TheVariants.{Ordered}
+use Rattle.tx_order.specs.declared.switching.Switching.TheVariants.{Ordered, NoOrder}
 use Rattle.tx_order.specs.Ordered.{Order, plan_before, stages_in}
 use Rattle.tx_svg.specs.Indexed.{texts_below}
 use Rattle.tx_order_page.specs.declared.change.Change.{Change}
@@ -55,10 +55,12 @@ stage_texts o s = (decimal (s + 1) ∷ [])
     ++ table_texts o.transition.new (plan_before o s) (plan_before o (s + 1))
 
 module _ {A : Type 0} where
-  -- the stages of an order, if the new plan is safe; else all that differs over the joined network
+  -- the stages of an order, if there is one and the new plan is safe; else all that differs over
+  -- the joined network
   abbrev pub switching_texts : (safe : Bool) → Joined A → Switching A → List (List ℕ)
-  switching_texts true j (Ordered o) = texts_below (stages_in o) (stage_texts o)
-  switching_texts safe j other = table_texts j.new j.old j.new
+  switching_texts safe j (Ordered o) = if safe then texts_below (stages_in o) (stage_texts o)
+      else table_texts j.new j.old j.new
+  switching_texts safe j (NoOrder p before after) = table_texts j.new j.old j.new
 
   -- whether the plans differ beside lists and bars, and what is switched
   abbrev pub change_texts : (safe : Bool) → Change A → List (List ℕ)

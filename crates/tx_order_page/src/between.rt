@@ -27,7 +27,7 @@ pub fn entry_of<'a, A: Allocator>(
     ensures exchange { result.exchange ≡ exchange }
     ensures code { result.code ≡ code }
     ensures before { result.before.now ≡ route_list (before_of between.now) exchange code }
-    ensures now { result.now.now ≡ route_list (after_of between.now) exchange code }
+    ensures after { result.after.now ≡ route_list (after_of between.now) exchange code }
     ensures was_barred { result.was_barred ≡ is_barred (before_of between.now) exchange code }
     ensures is_barred { result.is_barred ≡ is_barred (after_of between.now) exchange code }
 {
@@ -38,7 +38,7 @@ pub fn entry_of<'a, A: Allocator>(
                 exchange,
                 code,
                 before: order.list(stage, exchange, code),
-                now: order.list(stage + 1, exchange, code),
+                after: order.list(stage + 1, exchange, code),
                 was_barred: order.is_barred(stage, exchange, code),
                 is_barred: order.is_barred(stage + 1, exchange, code),
             }
@@ -47,7 +47,7 @@ pub fn entry_of<'a, A: Allocator>(
             exchange,
             code,
             before: old.list(exchange, code),
-            now: new.list(exchange, code),
+            after: new.list(exchange, code),
             was_barred: old.is_barred(exchange, code),
             is_barred: new.is_barred(exchange, code),
         },

@@ -1,6 +1,6 @@
 // The change from an old plan, on a page.
 ghost use Rattle.tx_html.specs.Shows.{Showed};
-ghost use Rattle.tx_order_page.specs.ChangeTexts.{network_texts, change_texts};
+ghost use Rattle.tx_order_page.specs.ChangeTexts.{network_texts, switching_texts, change_texts};
 
 use crate::stages::{write_difference, write_stages};
 use std::alloc::Allocator;
@@ -32,10 +32,7 @@ pub fn write_change<A: Allocator, W: PageSink>(
 {
     set(&[Part::Own("<h2>The change</h2>")], sink)?;
     write_network(change.difference, sink)?;
-    match (change.switching, safe) {
-        (Switching::Ordered(order), true) => write_stages(order, sink),
-        _ => write_difference(change.joined, sink),
-    }
+    write_switching(change, safe, sink)
 }
 
 /// Writes that the plans declare other things, if they do.
@@ -61,3 +58,20 @@ fn write_network<W: PageSink>(
 const BESIDE_LISTS: &str = " in what they declare, or in its order: <code>telexplan order</code> \
 prints what is new and what goes. What is new is put there first, with its lists, and what goes is \
 taken away last. Between the two come the lists and bars below.</p>";
+
+/// Writes the stages, or all that differs.
+fn write_switching<A: Allocator, W: PageSink>(
+    change: &Change<'_, A>,
+    safe: bool,
+    sink: &mut W,
+) -> Result<(), WriteFault>
+    ensures { Showed W.seen sink.old sink.new
+        (switching_texts safe change.now.joined.now change.now.switching.now) result }
+{
+    match change.switching {
+        Switching::Ordered(order) if safe => write_stages(order, sink),
+        Switching::Ordered(_) | Switching::NoOrder(_, _, _) => {
+            write_difference(change.joined, sink)
+        }
+    }
+}

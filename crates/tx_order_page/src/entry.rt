@@ -1,5 +1,5 @@
 // A row of a table of what is switched.
-ghost use Rattle.std.specs.Prelude.{◌≡◌};
+ghost use Rattle.std.specs.Prelude.{◌≡◌, [], ◌∷◌};
 ghost use Rattle.tx_html.specs.Shows.{Showed};
 ghost use Rattle.tx_order_page.specs.ChangeTexts.{bar_word, entry_texts, switched_texts};
 
@@ -15,7 +15,7 @@ pub struct Entry<'a> {
     pub exchange: ExchangeId,
     pub code: CodeId,
     pub before: &'a [GroupId],
-    pub now: &'a [GroupId],
+    pub after: &'a [GroupId],
     pub was_barred: bool,
     pub is_barred: bool,
 }
@@ -34,15 +34,15 @@ fn bar_word(was: bool, is: bool) -> &'static [u8]
 /// Writes a row, if the list or the bar is another one.
 pub fn write_switched<A: Allocator, W: PageSink>(
     plan: &Plan<A>,
-    entry: Entry<'_>,
+    entry: &Entry<'_>,
     sink: &mut W,
 ) -> Result<(), WriteFault>
     ensures { Showed W.seen sink.old sink.new
-        (switched_texts plan.now entry.entry.exchange entry.entry.code entry.entry.before.now
-        entry.entry.now.now entry.entry.was_barred entry.entry.is_barred) result }
+        (switched_texts plan.now entry.now.exchange entry.now.code entry.now.before.now
+        entry.now.after.now entry.now.was_barred entry.now.is_barred) result }
 {
     let bar = bar_word(entry.was_barred, entry.is_barred);
-    if entry.before == entry.now && bar.is_empty() {
+    if entry.before == entry.after && bar.is_empty() {
         return Ok(());
     }
     write_entry(plan, entry, sink)
@@ -50,12 +50,12 @@ pub fn write_switched<A: Allocator, W: PageSink>(
 
 fn write_entry<A: Allocator, W: PageSink>(
     plan: &Plan<A>,
-    entry: Entry<'_>,
+    entry: &Entry<'_>,
     sink: &mut W,
 ) -> Result<(), WriteFault>
     ensures { Showed W.seen sink.old sink.new
-        (entry_texts plan.now entry.entry.exchange entry.entry.code entry.entry.before.now
-        entry.entry.now.now entry.entry.was_barred entry.entry.is_barred) result }
+        (entry_texts plan.now entry.now.exchange entry.now.code entry.now.before.now
+        entry.now.after.now entry.now.was_barred entry.now.is_barred) result }
 {
     set(
         &[
@@ -69,11 +69,18 @@ fn write_entry<A: Allocator, W: PageSink>(
     )?;
     write_groups(plan, entry.before, sink)?;
     set(&[Part::Own("</td><td>")], sink)?;
-    write_groups(plan, entry.now, sink)?;
+    write_groups(plan, entry.after, sink)?;
+    write_bar(bar_word(entry.was_barred, entry.is_barred), sink)
+}
+
+/// Writes what happens to a bar, and the end of the row.
+fn write_bar<W: PageSink>(bar: &[u8], sink: &mut W) -> Result<(), WriteFault>
+    ensures { Showed W.seen sink.old sink.new (bar.now ∷ []) result }
+{
     set(
         &[
             Part::Own("</td><td>"),
-            Part::Text(bar_word(entry.was_barred, entry.is_barred)),
+            Part::Text(bar),
             Part::Own("</td></tr>"),
         ],
         sink,

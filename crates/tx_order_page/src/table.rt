@@ -60,7 +60,7 @@ fn write_exchange<A: Allocator, W: PageSink>(
 {
     for index in 0..plan.codes() {
         let entry = entry_of(between, exchange, CodeId::of(index));
-        write_switched(plan, entry, sink)?;
+        write_switched(plan, &entry, sink)?;
     }
     Ok(())
 }

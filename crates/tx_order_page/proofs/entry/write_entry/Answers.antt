@@ -1,6 +1,5 @@
 use Rattle.std.proofs.Common.{map, [], ◌∷◌}
 use Rattle.tx_plan.specs.Plan.{exchange_name, figures_of, group_name}
-use Rattle.tx_order_page.specs.ChangeTexts.{bar_word}
 use Rattle.tx_html.proofs.Showing.{showed_then, showed_stopped}
 use Rattle.tx_order_page.proofs.entry.write_entry.Goals as goal
 
@@ -18,8 +17,8 @@ returns-in_err-write_groups-2 g c = showed_stopped _ _ _ _ c.in_err-write_groups
 
 pub returns : goal.returns
 returns g c =
-    showed_then _ _ _ (exchange_name c.args.plan.now c.args.entry.exchange ∷ figures_of c.args.plan.now c.args.entry.code ∷ []) _ _ (rw (c.exchange_name.ensures.value, c.code_figures.ensures.value) at c.in_ok-set.ensures)
-    (showed_then _ _ _ (map (group_name c.args.plan.now) c.args.entry.before.now) _ _ c.in_ok-write_groups.ensures
+    showed_then _ _ _ (exchange_name c.args.plan.now c.args.entry.now.exchange ∷ figures_of c.args.plan.now c.args.entry.now.code ∷ []) _ _ (rw (c.exchange_name.ensures.value, c.code_figures.ensures.value) at c.in_ok-set.ensures)
+    (showed_then _ _ _ (map (group_name c.args.plan.now) c.args.entry.now.before.now) _ _ c.in_ok-write_groups.ensures
     (showed_then _ _ _ ([]) _ _ c.in_ok-set-2.ensures
-    (showed_then _ _ _ (map (group_name c.args.plan.now) c.args.entry.now.now) _ _ c.in_ok-write_groups-2.ensures
-    (rw (c.bar_word.ensures) at c.set-3.ensures))))
+    (showed_then _ _ _ (map (group_name c.args.plan.now) c.args.entry.now.after.now) _ _ c.in_ok-write_groups-2.ensures
+    (rw (c.bar_word.ensures) at c.write_bar.ensures))))

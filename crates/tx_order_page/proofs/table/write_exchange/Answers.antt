@@ -11,7 +11,7 @@ loop-index-init g c = showed_none _
 pub loop-index-preserved : goal.loop-index-preserved
 loop-index-preserved g c =
     let e = c.entry_of-entry.ensures in
-    below_more (pair_texts c.args.plan.now (before_of c.args.between.now) (after_of c.args.between.now) c.args.exchange) c.loop-index.index _ _ _ _ c.of.ensures c.loop-index.invariant (rw (e.exchange, e.code, e.before, e.now, e.was_barred, e.is_barred) at c.in_ok-write_switched.ensures)
+    below_more (pair_texts c.args.plan.now (before_of c.args.between.now) (after_of c.args.between.now) c.args.exchange) c.loop-index.index _ _ _ _ c.of.ensures c.loop-index.invariant (rw (e.exchange, e.code, e.before, e.after, e.was_barred, e.is_barred) at c.in_ok-write_switched.ensures)
 
 pub returns : goal.returns
 returns g c = below_done (pair_texts c.args.plan.now (before_of c.args.between.now) (after_of c.args.between.now) c.args.exchange) c.loop-index.index (length c.args.plan.now.codes) _ _ (omega arith) c.loop-index.invariant
