@@ -63,6 +63,21 @@ pub fn write_arrows<A: Allocator, W: PageSink>(
     write_layer(plan, picture, findings, Choice::Later, sink)?;
     write_layer(plan, picture, findings, Choice::Second, sink)?;
     write_layer(plan, picture, findings, Choice::First, sink)?;
+    write_wrong(plan, picture, findings, sink)
+}
+
+/// Writes those in the walks of findings, if there are any findings.
+fn write_wrong<A: Allocator, W: PageSink>(
+    plan: &Plan<A>,
+    picture: &Picture<A>,
+    findings: &[Finding<A>],
+    sink: &mut W,
+) -> Result<(), WriteFault>
+    ensures { Showed W.seen sink.old sink.new [] result }
+{
+    if findings.is_empty() {
+        return Ok(());
+    }
     write_layer(plan, picture, findings, Choice::Wrong, sink)
 }
 

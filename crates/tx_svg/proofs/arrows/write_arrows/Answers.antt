@@ -16,4 +16,4 @@ returns g c =
     showed_then _ _ _ ([]) _ _ c.in_ok-write_layer.ensures
     (showed_then _ _ _ ([]) _ _ c.in_ok-write_layer-2.ensures
     (showed_then _ _ _ ([]) _ _ c.in_ok-write_layer-3.ensures
-    (c.write_layer-4.ensures)))
+    (c.write_wrong.ensures)))
