@@ -1,21 +1,21 @@
 // The job of `page PLAN --limit L --spare K`.
 ghost use Rattle.std.specs.Prelude.{◌≡◌, ◌<◌, ℕ, List, length, Option, option_map, IfSome};
+ghost use Rattle.std.specs.Option.{option_copied};
 ghost use Rattle.tx_text.specs.Calls.{CallsAtMost, source_calls};
 ghost use Rattle.tx_text.specs.Ends.{input, output};
 ghost use Rattle.tx_plan.specs.Plan.{Plan as PlanNow};
 ghost use Rattle.tx_risk.specs.NamedRisks.{AreRisksFor};
 ghost use Rattle.tx_jobs.specs.JobFaults.{mark_after};
-ghost use Rattle.tx_jobs.specs.PageJobs.{request_of, shown_codes, IsChangeIfAny, ToldPage, PagedFrom, PagedByOld, PagedByRisks, PagedOf, PageJobAnswers};
-ghost use Rattle.tx_jobs.specs.inner.PageFound.{one_or_all, IsFound};
+ghost use Rattle.tx_jobs.specs.PageJobs.{request_of, shown_codes, ToldPage, PagedFrom, PagedByOld, PagedByRisks, PagedOf, PageJobAnswers};
+ghost use Rattle.tx_jobs.specs.inner.PageFound.{one_or_all, IsFound, IsFoundIfAny};
 
 use crate::job_fault::JobFault;
-use crate::page_change::change_between;
+use crate::page_change::{FoundChange, change_between, shown_change};
 use crate::page_found::{Found, found_of};
 use crate::two_plans::{PlanText, Which, read_whole};
 use sha2::{Digest, Sha256};
 use std::alloc::Allocator;
 use tx_commands::VERSION;
-use tx_order_page::Change;
 use tx_page::{Subject, is_safe, write_page};
 use tx_plan::{CodeId, Limits};
 use tx_risk::{Risks, read_risks_from};
@@ -185,28 +185,47 @@ fn tell_change<A: Allocator + Copy, W: Sink>(
     ensures mark { W.failed out.new ≡ mark_after (W.failed out.old) result }
 {
     let found = change_between(alloc, old, plan, asked.limits)?;
-    let change = Change {
-        difference: found.difference,
-        joined: &found.joined,
-        switching: &found.switching,
-    };
-    tell_page(alloc, asked, code, plan, risks, Some(change), out)
+    tell_page(alloc, asked, code, plan, risks, Some(found), out)
 }
 
-/// Finds what the page shows, and writes it.
+/// Writes the page, with a change, if there is one.
 fn tell_page<A: Allocator + Copy, W: Sink>(
     alloc: A,
     asked: PageRequest<'_>,
     code: Option<CodeId>,
     plan: &PlanText<A>,
     risks: &Risks<A>,
-    change: Option<Change<'_, A>>,
+    change: Option<FoundChange<A>>,
     out: &mut W,
 ) -> Result<bool, JobFault>
     requires code { IfSome code (λ c. c < length plan.now.plan.codes) }
     requires risks { AreRisksFor plan.now.plan risks.now }
     ensures told { (old : Option PlanNow)
-        → IsChangeIfAny old plan.now.plan asked.limits.limit asked.limits.spare change.entry
+        → IsFoundIfAny old plan.now.plan asked.entry.limits.limit asked.entry.limits.spare change
+        → ToldPage A (request_of asked.entry) plan.now.text.items plan.now.plan
+        (one_or_all plan.now.plan code) risks.now old (output W.taken out.old out.new) result }
+    ensures mark { W.failed out.new ≡ mark_after (W.failed out.old) result }
+{
+    let told = find_and_tell(alloc, asked, code, plan, risks, change.as_ref(), out);
+    drop(change);
+    told
+}
+
+/// Finds what the page shows, and writes it.
+fn find_and_tell<A: Allocator + Copy, W: Sink>(
+    alloc: A,
+    asked: PageRequest<'_>,
+    code: Option<CodeId>,
+    plan: &PlanText<A>,
+    risks: &Risks<A>,
+    change: Option<&FoundChange<A>>,
+    out: &mut W,
+) -> Result<bool, JobFault>
+    requires code { IfSome code (λ c. c < length plan.now.plan.codes) }
+    requires risks { AreRisksFor plan.now.plan risks.now }
+    ensures told { (old : Option PlanNow)
+        → IsFoundIfAny old plan.now.plan asked.entry.limits.limit asked.entry.limits.spare
+        (option_copied change.entry)
         → ToldPage A (request_of asked.entry) plan.now.text.items plan.now.plan
         (one_or_all plan.now.plan code) risks.now old (output W.taken out.old out.new) result }
     ensures mark { W.failed out.new ≡ mark_after (W.failed out.old) result }
@@ -220,13 +239,15 @@ fn write_found<A: Allocator, W: Sink>(
     asked: PageRequest<'_>,
     plan: &PlanText<A>,
     risks: &Risks<A>,
-    change: Option<Change<'_, A>>,
+    change: Option<&FoundChange<A>>,
     found: &Found<A>,
     out: &mut W,
 ) -> Result<bool, JobFault>
     ensures told { (old : Option PlanNow) (codes : List ℕ)
-        → IsChangeIfAny old plan.now.plan asked.limits.limit asked.limits.spare change.entry
-        → IsFound plan.now.plan asked.limits.limit asked.limits.spare risks.now codes found.now
+        → IsFoundIfAny old plan.now.plan asked.entry.limits.limit asked.entry.limits.spare
+        (option_copied change.entry)
+        → IsFound plan.now.plan asked.entry.limits.limit asked.entry.limits.spare risks.now codes
+        found.now
         → ToldPage A (request_of asked.entry) plan.now.text.items plan.now.plan codes risks.now old
         (output W.taken out.old out.new) result }
     ensures mark { W.failed out.new ≡ mark_after (W.failed out.old) result }
@@ -238,11 +259,11 @@ fn write_found<A: Allocator, W: Sink>(
         plan: &plan.plan,
         limits: asked.limits,
         ranking: &found.ranking,
-        grade: &found.grade,
+        grade: &found.graded.grade,
         risks,
-        change,
-        outcomes: &found.outcomes,
-        pictures: &found.pictures,
+        change: shown_change(change),
+        outcomes: &found.graded.shown.outcomes,
+        pictures: &found.graded.shown.pictures,
     };
     write_page(&subject, out)?;
     Ok(is_safe(&found.ranking))

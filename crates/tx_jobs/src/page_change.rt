@@ -1,9 +1,12 @@
 // The change from an old plan that a page shows.
-ghost use Rattle.std.specs.Prelude.{◌≡◌, IfOk, IfErr};
+ghost use Rattle.std.specs.Prelude.{◌≡◌, ℕ, Option, IfOk, IfErr};
+ghost use Rattle.std.specs.Option.{option_copied};
+ghost use Rattle.tx_plan.specs.Plan.{Plan as PlanNow};
 ghost use Rattle.tx_join.specs.Joined.{joined_old, joined_new};
 ghost use Rattle.tx_order.specs.Switchings.{IsRightSwitching};
-ghost use Rattle.tx_jobs.specs.PageJobs.{HaveJoined, IsChangeOf};
+ghost use Rattle.tx_jobs.specs.PageJobs.{HaveJoined, IsChangeOf, IsChangeIfAny};
 ghost use Rattle.tx_jobs.specs.TwoPlans.{IsNoJoinOf};
+ghost use Rattle.tx_jobs.specs.inner.PageFound.{IsFoundIfAny};
 
 use crate::job_fault::JobFault;
 use crate::two_plans::{PlanText, joined_of};
@@ -11,6 +14,7 @@ use std::alloc::Allocator;
 use tx_change::{Difference, first_difference};
 use tx_join::Joined;
 use tx_order::{Switching, order};
+use tx_order_page::Change;
 use tx_plan::Limits;
 
 /// What is found of the change of a plan into another one.
@@ -38,12 +42,17 @@ pub(crate) fn change_between<A: Allocator + Copy>(
         old.now.plan new.now.plan) }
 {
     let joined = joined_of(alloc, old, new)?;
-    let switching = switching_between(alloc, old, new, limits)?;
-    Ok(FoundChange {
-        difference: first_difference(&old.plan, &new.plan),
-        joined,
-        switching,
-    })
+    match switching_between(alloc, old, new, limits) {
+        Ok(switching) => Ok(FoundChange {
+            difference: first_difference(&old.plan, &new.plan),
+            joined,
+            switching,
+        }),
+        Err(fault) => {
+            drop(joined);
+            Err(fault)
+        }
+    }
 }
 
 /// The order of switching between two plans over their joined network, which takes both.
@@ -60,4 +69,20 @@ fn switching_between<A: Allocator + Copy>(
 {
     let joined = joined_of(alloc, old, new)?;
     Ok(order(alloc, joined.old, joined.new, limits)?)
+}
+
+/// The change as a page shows it, if there is one.
+pub(crate) fn shown_change<A: Allocator>(change: Option<&FoundChange<A>>) -> Option<Change<'_, A>>
+    ensures { (old : Option PlanNow) (new : PlanNow) (limit spare : ℕ)
+        → IsFoundIfAny old new limit spare (option_copied change.entry)
+        → IsChangeIfAny old new limit spare result }
+{
+    match change {
+        Some(found) => Some(Change {
+            difference: found.difference,
+            joined: &found.joined,
+            switching: &found.switching,
+        }),
+        None => None,
+    }
 }

@@ -6,7 +6,7 @@ ghost use Rattle.tx_cert.specs.Certificate.{ranks_of};
 ghost use Rattle.tx_rank.specs.Judged.{AreOrigins};
 ghost use Rattle.tx_risk.specs.NamedRisks.{AreRisksFor};
 ghost use Rattle.tx_risk.specs.Outages.{AreOutcomes};
-ghost use Rattle.tx_jobs.specs.inner.PageFound.{one_or_all, IsFound};
+ghost use Rattle.tx_jobs.specs.inner.PageFound.{one_or_all, IsGraded, IsFound};
 
 use std::alloc::Allocator;
 use tx_audit::judge;
@@ -16,12 +16,23 @@ use tx_rank::{Grade, Ranking, grade, origins_of};
 use tx_risk::{Outcome, Risks, all_outcomes};
 use tx_text::NoMemory;
 
-/// What is found of a plan: the verdict on it, its grade, what outages cut off if it has one, and
-/// the pictures that its page shows.
+/// What is found of a plan: the verdict on it, and what its page shows of it.
 #[derive(Drop)]
 pub(crate) struct Found<A: Allocator> {
     pub ranking: Ranking<A>,
+    pub graded: Graded<A>,
+}
+
+/// The grade of a plan, and what is shown by it.
+#[derive(Drop)]
+pub(crate) struct Graded<A: Allocator> {
     pub grade: Grade<A>,
+    pub shown: Shown<A>,
+}
+
+/// What outages cut off of a plan, if it has a grade, and pictures of its codes.
+#[derive(Drop)]
+pub(crate) struct Shown<A: Allocator> {
     pub outcomes: Vec<Outcome<A>, A>,
     pub pictures: Vec<Picture<A>, A>,
 }
@@ -39,16 +50,36 @@ pub(crate) fn found_of<A: Allocator + Copy>(
     ensures { IfOk result (IsFound plan.now limits.limit limits.spare risks.now
         (one_or_all plan.now code)) }
 {
+    let ranking = judge(alloc, plan, limits)?;
+    match graded_of(alloc, plan, risks, code) {
+        Ok(graded) => Ok(Found { ranking, graded }),
+        Err(fault) => {
+            drop(ranking);
+            Err(fault)
+        }
+    }
+}
+
+/// The grade of a plan, and what is shown by it.
+fn graded_of<A: Allocator + Copy>(
+    alloc: A,
+    plan: &Plan<A>,
+    risks: &Risks<A>,
+    code: Option<CodeId>,
+) -> Result<Graded<A>, NoMemory>
+    requires code { IfSome code (λ c. c < length plan.now.codes) }
+    requires risks { AreRisksFor plan.now risks.now }
+    ensures { IfOk result (IsGraded plan.now risks.now (one_or_all plan.now code)) }
+{
     plan.rules();
     let grade = grade(alloc, plan)?;
-    let (outcomes, pictures) = shown_of(alloc, plan, &grade, risks, code)?;
-    let ranking = judge(alloc, plan, limits)?;
-    Ok(Found {
-        ranking,
-        grade,
-        outcomes,
-        pictures,
-    })
+    match shown_of(alloc, plan, &grade, risks, code) {
+        Ok(shown) => Ok(Graded { grade, shown }),
+        Err(fault) => {
+            drop(grade);
+            Err(fault)
+        }
+    }
 }
 
 /// What outages cut off, and the picture of a code or of all codes.
@@ -58,19 +89,24 @@ fn shown_of<A: Allocator + Copy>(
     grade: &Grade<A>,
     risks: &Risks<A>,
     code: Option<CodeId>,
-) -> Result<(Vec<Outcome<A>, A>, Vec<Picture<A>, A>), NoMemory>
+) -> Result<Shown<A>, NoMemory>
     requires code { IfSome code (λ c. c < length plan.now.codes) }
     requires ranks { IfSome grade.now.plan (λ b.
         IsCertified plan.now (ranks_of grade.now.ranks) b.limit b.spare) }
     requires risks { AreRisksFor plan.now risks.now }
     ensures outcomes { IfOk result (λ shown. IfSome grade.now.plan (λ _.
-        AreOutcomes plan.now risks.now false shown.0.items)) }
+        AreOutcomes plan.now risks.now false shown.outcomes.items)) }
     ensures pictures { IfOk result (λ shown.
-        map (λ q. q.code) shown.1.items ≡ one_or_all plan.now code) }
+        map (λ q. q.code) shown.pictures.items ≡ one_or_all plan.now code) }
 {
     let outcomes = outcomes_of(alloc, plan, grade, risks)?;
-    let pictures = pictures_of(alloc, plan, grade, code)?;
-    Ok((outcomes, pictures))
+    match pictures_of(alloc, plan, grade, code) {
+        Ok(pictures) => Ok(Shown { outcomes, pictures }),
+        Err(fault) => {
+            drop(outcomes);
+            Err(fault)
+        }
+    }
 }
 
 /// What outages cut off of a plan that has a grade; nothing of one that has none.

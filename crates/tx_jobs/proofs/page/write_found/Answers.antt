@@ -15,10 +15,10 @@ returns-clause-told g c = λ old codes change found. record {
     spare = refl;
     named_risks = refl;
     ranking = found.ranking;
-    grade = found.grade;
-    change = change;
-    outcomes = found.outcomes;
-    pictures = found.pictures;
+    grade = found.graded.grade;
+    change = c.shown_change.ensures old c.args.plan.now.plan c.args.asked.limits.limit c.args.asked.limits.spare change;
+    outcomes = found.graded.outcomes;
+    pictures = found.graded.pictures;
   };
   verdict = c.is_safe.ensures;
   bytes = c.in_ok-write_page.ensures.bytes;

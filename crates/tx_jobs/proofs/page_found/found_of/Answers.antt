@@ -1,17 +1,4 @@
-use Rattle.tx_jobs.proofs.Grading.{plan_is}
 use Rattle.tx_jobs.proofs.page_found.found_of.Goals as goal
 
-pub returns : goal.returns
-returns g c =
-    let e = c.in_ok-grade.ensures in
-    let grade = c.in_ok-grade.grade in
-    record {
-      ranking = c.in_ok-ranking.ensures;
-      grade = (
-        plan_is _ c.args.plan.now c.rules.ensures grade.findings.items grade.plan e.plan e.clear
-            e.fails e.clean e.each e.listed,
-        e.codes,
-      );
-      outcomes = c.in_ok-shown_of.ensures.outcomes;
-      pictures = c.in_ok-shown_of.ensures.pictures;
-    }
+pub returns-in-Ok : goal.returns-in-Ok
+returns-in-Ok g c = record { ranking = c.in_ok-ranking.ensures; graded = c.in-Ok.ensures }
