@@ -1,5 +1,5 @@
 // The job of `page PLAN --limit L --spare K`.
-ghost use Rattle.std.specs.Prelude.{◌≡◌, ◌<◌, ℕ, List, length, Option, option_map, IfSome};
+ghost use Rattle.std.specs.Prelude.{◌≡◌, ◌<◌, ℕ, List, length, Option, option_map, IfSome, IfOk, IfErr};
 ghost use Rattle.std.specs.Option.{option_copied};
 ghost use Rattle.tx_text.specs.Calls.{CallsAtMost, source_calls};
 ghost use Rattle.tx_text.specs.Ends.{input, output};
@@ -17,7 +17,7 @@ use sha2::{Digest, Sha256};
 use std::alloc::Allocator;
 use tx_commands::VERSION;
 use tx_page::{Subject, is_safe, write_page};
-use tx_plan::{CodeId, Limits};
+use tx_plan::{CodeId, Limits, Plan};
 use tx_risk::{Risks, read_risks_from};
 use tx_text::{Sink, Source};
 
@@ -103,10 +103,26 @@ fn page_of<A: Allocator + Copy, Q: Source, R: Source, W: Sink>(
     ensures risks_calls { CallsAtMost Q.called source_calls risks.old risks.new }
     ensures old_calls { CallsAtMost R.called source_calls old.old old.new }
 {
-    match asked.code {
-        None => page_with(alloc, asked, None, plan, risks, old, out),
-        Some(figures) => match plan.plan.code_named(figures.as_bytes()) {
-            Some(code) => page_with(alloc, asked, Some(code), plan, risks, old, out),
+    let code = code_asked(&plan.plan, asked.code)?;
+    page_with(alloc, asked, code, plan, risks, old, out)
+}
+
+/// The code whose lists are asked for; none for those of all codes.
+fn code_asked<A: Allocator>(
+    plan: &Plan<A>,
+    figures: Option<&str>,
+) -> Result<Option<CodeId>, JobFault>
+    ensures shown { IfOk result (λ code.
+        shown_codes plan.now (option_map (λ f. f.now) figures.entry)
+        ≡ Some (one_or_all plan.now code)) }
+    ensures within { IfOk result (λ code. IfSome code (λ c. c < length plan.now.codes)) }
+    ensures missing { IfErr result (λ fault. (fault ≡ JobFault.NoSuchCode)
+        × (shown_codes plan.now (option_map (λ f. f.now) figures.entry) ≡ None)) }
+{
+    match figures {
+        None => Ok(None),
+        Some(figures) => match plan.code_named(figures.as_bytes()) {
+            Some(code) => Ok(Some(code)),
             None => Err(JobFault::NoSuchCode),
         },
     }
@@ -133,7 +149,8 @@ fn page_with<A: Allocator + Copy, Q: Source, R: Source, W: Sink>(
     ensures risks_calls { CallsAtMost Q.called source_calls risks.old risks.new }
     ensures old_calls { CallsAtMost R.called source_calls old.old old.new }
 {
-    if asked.has_risks {
+    let has_risks = asked.has_risks;
+    if has_risks {
         let risks = read_risks_from(alloc, risks, &plan.plan)?;
         page_from(alloc, asked, code, plan, &risks, old, out)
     } else {
@@ -160,11 +177,13 @@ fn page_from<A: Allocator + Copy, R: Source, W: Sink>(
     ensures mark { W.failed out.new ≡ mark_after (W.failed out.old) result }
     ensures calls { CallsAtMost R.called source_calls old.old old.new }
 {
-    if !asked.has_old {
-        return tell_page(alloc, asked, code, plan, risks, None, out);
+    let has_old = asked.has_old;
+    if has_old {
+        let old = read_whole(alloc, Which::Old, old)?;
+        tell_change(alloc, asked, code, plan, risks, &old, out)
+    } else {
+        tell_page(alloc, asked, code, plan, risks, None, out)
     }
-    let old = read_whole(alloc, Which::Old, old)?;
-    tell_change(alloc, asked, code, plan, risks, &old, out)
 }
 
 /// Writes the page, with the change from an old plan.

@@ -6,17 +6,18 @@ use Rattle.tx_jobs.proofs.JoinedPlans.{no_plan_mark}
 use Rattle.tx_jobs.proofs.RefusedTexts.{old_plan_mark}
 use Rattle.tx_jobs.proofs.page.page_from.Goals as goal
 
-pub returns-then-asked-has_old-clause-answers : goal.returns-then-asked-has_old-clause-answers
-returns-then-asked-has_old-clause-answers g c =
-    rw c.if-asked-has_old.true (c.tell_page.ensures.told None tt, refl)
-
-pub returns-then-asked-has_old-clause-calls : goal.returns-then-asked-has_old-clause-calls
-returns-then-asked-has_old-clause-calls g c = uncalled g.R.Source.called c.args.old.now
+pub returns-then-has_old-clause-answers : goal.returns-then-has_old-clause-answers
+returns-then-has_old-clause-answers g c = rw c.if-has_old.true (inl (record {
+  text = c.in_ok-old.old.text.items;
+  plan = c.in_ok-old.old.plan;
+  says = c.in_ok-old.ensures.says;
+  goes_on = c.tell_change.ensures.told;
+}))
 
 pub returns-in_err-old-clause-answers : goal.returns-in_err-old-clause-answers
 returns-in_err-old-clause-answers g c =
     let f = c.in_err-old.field-0.0 in
-    rw (c.if-asked-has_old.false, exits_with c.from_residual.result f c.from_residual.ensures.1)
+    rw (c.if-has_old.true, exits_with c.from_residual.result f c.from_residual.ensures.1)
     (inr (c.in_err-old.ensures.refused, refl))
 
 pub returns-in_err-old-clause-mark : goal.returns-in_err-old-clause-mark
@@ -26,10 +27,8 @@ returns-in_err-old-clause-mark g c =
     rw (exits_with c.from_residual.result f c.from_residual.ensures.1)
     (no_plan_mark mark old_plan_fault _ f (old_plan_mark mark) c.in_err-old.ensures.refused)
 
-pub returns-clause-answers : goal.returns-clause-answers
-returns-clause-answers g c = rw c.if-asked-has_old.false (inl (record {
-  text = c.in_ok-old.old.text.items;
-  plan = c.in_ok-old.old.plan;
-  says = c.in_ok-old.ensures.says;
-  goes_on = c.tell_change.ensures.told;
-}))
+pub returns-else-has_old-clause-answers : goal.returns-else-has_old-clause-answers
+returns-else-has_old-clause-answers g c = rw c.if-has_old.false (c.tell_page.ensures.told None tt, refl)
+
+pub returns-else-has_old-clause-calls : goal.returns-else-has_old-clause-calls
+returns-else-has_old-clause-calls g c = uncalled g.R.Source.called c.args.old.now
