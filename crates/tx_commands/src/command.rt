@@ -242,22 +242,15 @@ fn reads_of(command: &Command) -> [Option<&str>; 3]
         Command::RunTelling { plan, script, .. } => two(plan, script),
         Command::Check { plan, cert, .. } => two(plan, cert),
         Command::Change { old, new, .. } | Command::Order { old, new, .. } => two(old, new),
-        Command::Lint {
-            plan,
-            risks: Some(risks),
-        }
-        | Command::Survive {
-            plan,
-            risks: Some((risks, _)),
-            ..
-        } => two(plan, risks),
-        Command::Lint { plan, risks: None }
-        | Command::Survive {
-            plan,
-            risks: None,
-            ..
-        }
-        | Command::Codes { plan }
+        Command::Lint { plan, risks } => match risks {
+            Some(risks) => two(plan, risks),
+            None => one(plan),
+        },
+        Command::Survive { plan, risks, .. } => match risks {
+            Some((risks, _)) => two(plan, risks),
+            None => one(plan),
+        },
+        Command::Codes { plan }
         | Command::Audit { plan, .. }
         | Command::Mend { plan, .. }
         | Command::Grade { plan }

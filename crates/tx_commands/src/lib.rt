@@ -6,6 +6,7 @@ mod asked;
 mod command;
 mod fault;
 mod files;
+mod given;
 mod grammar;
 mod judging;
 mod misuse;

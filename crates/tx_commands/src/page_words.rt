@@ -6,8 +6,8 @@ ghost use Rattle.tx_commands.specs.Grammar.{page_words};
 ghost use Rattle.tx_commands.specs.inner.Refused.{IsRefused};
 
 use crate::arguments::Syntax;
-use crate::asked::{limits, text};
 use crate::command::Command;
+use crate::given::{limits, text};
 use crate::judging::RISKS;
 use crate::misuse::Misuse;
 use clap::ArgMatches;

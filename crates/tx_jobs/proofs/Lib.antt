@@ -12,7 +12,6 @@ mod ChangeEvidenced
 mod OrderTold
 mod Grading
 mod LintTold
-mod PageTold
 mod Surviving
 mod DrawnCode
 mod Asking

@@ -115,6 +115,7 @@ impl<A: Allocator> Done<A> {
             | Done::Graded(_)
             | Done::Survived(_)
             | Done::Filled(_)
+            | Done::Paged(_)
             | Done::Written => None,
         }
     }

@@ -6,14 +6,22 @@ use Rattle.tx_jobs.proofs.Did.{uncalled}
 use Rattle.tx_jobs.proofs.RefusedTexts.{risks_mark}
 use Rattle.tx_jobs.proofs.page.page_with.Goals as goal
 
+pub returns-then-has_risks-clause-answers : goal.returns-then-has_risks-clause-answers
+returns-then-has_risks-clause-answers g c = rw c.if-has_risks.true (inl (record {
+  risks = c.in_ok-risks.risks;
+  fit = c.in_ok-risks.ensures.fits;
+  read = c.in_ok-risks.ensures.answer;
+  goes_on = c.page_from.ensures.answers;
+}))
+
 pub returns-in_err-risks-clause-answers : goal.returns-in_err-risks-clause-answers
 returns-in_err-risks-clause-answers g c =
     let f = c.in_err-risks.field-0.0 in
-    rw c.if-asked-has_risks.true (inr (record {
+    rw c.if-has_risks.true (inr (record {
       fault = f;
       read = c.in_err-risks.ensures.answer;
       told = exits_with c.from_residual.result (risks_fault f) c.from_residual.ensures.1;
-      rest = refl;
+      rest = (refl, refl);
     }))
 
 pub returns-in_err-risks-clause-mark : goal.returns-in_err-risks-clause-mark
@@ -22,20 +30,15 @@ returns-in_err-risks-clause-mark g c =
     rw (exits_with c.from_residual.result (risks_fault f) c.from_residual.ensures.1)
     (risks_mark (g.W.Sink.failed c.args.out.now) f)
 
-pub returns-then-asked-has_risks-clause-answers : goal.returns-then-asked-has_risks-clause-answers
-returns-then-asked-has_risks-clause-answers g c = rw c.if-asked-has_risks.true (inl (record {
-  risks = c.in_ok-risks.risks;
-  fit = c.in_ok-risks.ensures.fits;
-  read = c.in_ok-risks.ensures.answer;
-  goes_on = c.page_of.ensures.paged;
-}))
+pub returns-in_err-risks-clause-old_calls : goal.returns-in_err-risks-clause-old_calls
+returns-in_err-risks-clause-old_calls g c = uncalled g.R.Source.called c.args.old.now
 
-pub page_of-2-requires : goal.page_of-2-requires
-page_of-2-requires g c = no_risks c.args.plan.now c.none.result c.none.ensures
+pub page_from-requires-else-has_risks-clause-risks : goal.page_from-requires-else-has_risks-clause-risks
+page_from-requires-else-has_risks-clause-risks g c = no_risks c.args.plan.now.plan c.none.result c.none.ensures
 
-pub returns-else-asked-has_risks-clause-answers : goal.returns-else-asked-has_risks-clause-answers
-returns-else-asked-has_risks-clause-answers g c =
-    rw c.if-asked-has_risks.false (rw c.none.ensures at c.page_of-2.ensures.paged, refl)
+pub returns-else-has_risks-clause-answers : goal.returns-else-has_risks-clause-answers
+returns-else-has_risks-clause-answers g c =
+    rw c.if-has_risks.false (rw c.none.ensures at c.page_from-else-has_risks.ensures.answers, refl)
 
-pub returns-else-asked-has_risks-clause-calls : goal.returns-else-asked-has_risks-clause-calls
-returns-else-asked-has_risks-clause-calls g c = uncalled g.R.Source.called c.args.risks.now
+pub returns-else-has_risks-clause-risks_calls : goal.returns-else-has_risks-clause-risks_calls
+returns-else-has_risks-clause-risks_calls g c = uncalled g.Q.Source.called c.args.risks.now

@@ -1,8 +1,4 @@
-use Rattle.std.proofs.Common.{refl}
-use Rattle.tx_text.proofs.Exits.{exits_with}
-use Rattle.tx_jobs.specs.declared.job_fault.JobFault.TheVariants.{NoMemory}
-use Rattle.tx_jobs.specs.PageJobs.{shown_codes}
 use Rattle.tx_jobs.proofs.page.tell_page.Goals as goal
 
 pub returns-clause-told : goal.returns-clause-told
-returns-clause-told g c = c.write_found.ensures.told (shown_codes c.args.plan.now c.args.code) c.in_ok-found.ensures
+returns-clause-told g c = rw c.as_ref.ensures.value at c.find_and_tell-told.ensures.told

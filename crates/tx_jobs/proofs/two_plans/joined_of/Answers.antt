@@ -2,12 +2,12 @@ use Rattle.std.proofs.Common.{refl, subst}
 use Rattle.tx_plan.specs.Plan.{Plan}
 use Rattle.tx_join.specs.Joined.{joined_new}
 use Rattle.tx_join.specs.Laws.{AreOverBoth, HaveTheirLists}
-use Rattle.tx_jobs.proofs.two_plans.join_plans.Goals as goal
+use Rattle.tx_jobs.proofs.two_plans.joined_of.Goals as goal
 
 pub returns-in-Ok-clause-joined : goal.returns-in-Ok-clause-joined
 returns-in-Ok-clause-joined g c =
-    let p = c.args.old.plan in
-    let q = c.args.new.plan in
+    let p = c.args.old.now.plan in
+    let q = c.args.new.now.plan in
     let e = c.in-Ok.ensures in
     record {
       old = refl;

@@ -1,7 +1,7 @@
 use Rattle.std.proofs.Common.{◌∙◌, Some, option_map, codes, ap, sym}
 use Rattle.std.specs.List.{join_by}
 use Rattle.tx_commands.proofs.Found.{line_found}
-use Rattle.tx_commands.proofs.asked.line.Goals as goal
+use Rattle.tx_commands.proofs.given.line.Goals as goal
 
 pub returns-in_ok-join-in-Some : goal.returns-in_ok-join-in-Some
 returns-in_ok-join-in-Some c =

@@ -1,6 +1,6 @@
 use Rattle.std.proofs.Common.{◌∙◌, Some, option_map, ap, sym}
 use Rattle.tx_commands.proofs.Found.{first_found}
-use Rattle.tx_commands.proofs.asked.text.Goals as goal
+use Rattle.tx_commands.proofs.given.text.Goals as goal
 
 pub returns-in_ok-from_str-in-Some : goal.returns-in_ok-from_str-in-Some
 returns-in_ok-from_str-in-Some c =

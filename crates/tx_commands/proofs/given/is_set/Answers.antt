@@ -2,7 +2,7 @@ use Rattle.std.proofs.Common.{◌∙◌, false, option_map, ap, sym, codes}
 use Rattle.std.specs.Option.{option_map_or}
 use Rattle.std.specs.Str.{bytes_eq}
 use Rattle.tx_commands.proofs.Found.{first_found}
-use Rattle.tx_commands.proofs.asked.is_set.Goals as goal
+use Rattle.tx_commands.proofs.given.is_set.Goals as goal
 
 pub returns-in-Some : goal.returns-in-Some
 returns-in-Some c =

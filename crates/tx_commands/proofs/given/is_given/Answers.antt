@@ -1,6 +1,6 @@
 use Rattle.std.proofs.Common.{◌∙◌, ◌≡◌, Option, Some, None, option_map, ap, is_some, refl, sym}
 use Rattle.tx_commands.proofs.Found.{first_found}
-use Rattle.tx_commands.proofs.asked.is_given.Goals as goal
+use Rattle.tx_commands.proofs.given.is_given.Goals as goal
 
 pub returns : goal.returns
 returns c =

@@ -1,6 +1,6 @@
 use Rattle.std.proofs.Common.{◌∙◌, option_map, ap}
 use Rattle.tx_commands.proofs.Found.{first_found}
-use Rattle.tx_commands.proofs.asked.number_of.Goals as goal
+use Rattle.tx_commands.proofs.given.number_of.Goals as goal
 
 pub returns-in-Some-number-clause-given : goal.returns-in-Some-number-clause-given
 returns-in-Some-number-clause-given c =
