@@ -309,7 +309,9 @@ fn do_page<A: Allocator + Copy, P: Source, Q: Source, R: Source, W: Sink>(
         } => {
             let (limit, spare) = (*limit, *spare);
             let limits = Limits { limit, spare };
-            let asked = PageRequest::of(file, limits, code, named.is_some(), before.is_some());
+            let has_risks = named.is_some();
+            let has_old = before.is_some();
+            let asked = PageRequest::of(file, limits, code, has_risks, has_old);
             Ok(Done::Paged(page_job(alloc, plan, risks, old, asked, out)?))
         }
         _ => unreachable!(),

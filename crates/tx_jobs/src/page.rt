@@ -4,9 +4,9 @@ ghost use Rattle.std.specs.Option.{option_copied};
 ghost use Rattle.tx_text.specs.Calls.{CallsAtMost, source_calls};
 ghost use Rattle.tx_text.specs.Ends.{input, output};
 ghost use Rattle.tx_plan.specs.Plan.{Plan as PlanNow};
-ghost use Rattle.tx_risk.specs.NamedRisks.{AreRisksFor};
+ghost use Rattle.tx_risk.specs.NamedRisks.{NamedRisk, AreRisksFor};
 ghost use Rattle.tx_jobs.specs.JobFaults.{mark_after};
-ghost use Rattle.tx_jobs.specs.PageJobs.{request_of, shown_codes, ToldPage, PagedFrom, PagedByOld, PagedByRisks, PagedOf, PageJobAnswers};
+ghost use Rattle.tx_jobs.specs.PageJobs.{Request, request_of, shown_codes, IsRightSubject, ToldPage, PagedFrom, PagedByOld, PagedByRisks, PagedOf, PageJobAnswers};
 ghost use Rattle.tx_jobs.specs.inner.PageFound.{one_or_all, IsFound, IsFoundIfAny};
 
 use crate::job_fault::JobFault;
@@ -284,6 +284,20 @@ fn write_found<A: Allocator, W: Sink>(
         outcomes: &found.graded.shown.outcomes,
         pictures: &found.graded.shown.pictures,
     };
-    write_page(&subject, out)?;
-    Ok(is_safe(&found.ranking))
+    write_subject(&subject, out)
+}
+
+/// Writes a page, and answers whether a certificate was found.
+fn write_subject<A: Allocator, W: Sink>(
+    subject: &Subject<'_, A>,
+    out: &mut W,
+) -> Result<bool, JobFault>
+    ensures told { (asked : Request) (text : List ℕ) (p : PlanNow) (codes : List ℕ)
+        (risks : List NamedRisk) (old : Option PlanNow)
+        → IsRightSubject A asked text p codes risks old subject.now
+        → ToldPage A asked text p codes risks old (output W.taken out.old out.new) result }
+    ensures mark { W.failed out.new ≡ mark_after (W.failed out.old) result }
+{
+    write_page(subject, out)?;
+    Ok(is_safe(subject.ranking))
 }
