@@ -287,7 +287,8 @@ fn do_page<A: Allocator + Copy, P: Source, Q: Source, R: Source, W: Sink>(
     old: &mut R,
     out: &mut W,
 ) -> Result<Done<A>, JobFault>
-    requires { writes_a_page command.now ≡ true }
+    requires range { IsInRange command.now }
+    requires page { writes_a_page command.now ≡ true }
     ensures done { IsDone P.rest P.failed P.called plan.old plan.new
         (input Q.rest Q.failed Q.called risks.old risks.new)
         (input R.rest R.failed R.called old.old old.new)

@@ -1,5 +1,5 @@
 // The job of `page PLAN --limit L --spare K`.
-ghost use Rattle.std.specs.Prelude.{◌≡◌, ◌<◌, ℕ, List, length, Option, option_map, IfSome, IfOk, IfErr};
+ghost use Rattle.std.specs.Prelude.{◌≡◌, ◌<◌, ℕ, List, [], length, Option, option_map, IfSome, IfOk, IfErr};
 ghost use Rattle.std.specs.Option.{option_copied};
 ghost use Rattle.tx_text.specs.Calls.{CallsAtMost, source_calls};
 ghost use Rattle.tx_text.specs.Ends.{input, output};
@@ -154,8 +154,28 @@ fn page_with<A: Allocator + Copy, Q: Source, R: Source, W: Sink>(
         let risks = read_risks_from(alloc, risks, &plan.plan)?;
         page_from(alloc, asked, code, plan, &risks, old, out)
     } else {
-        page_from(alloc, asked, code, plan, &Risks::none(alloc), old, out)
+        page_without_risks(alloc, asked, code, plan, old, out)
     }
+}
+
+/// The same without named risks.
+fn page_without_risks<A: Allocator + Copy, R: Source, W: Sink>(
+    alloc: A,
+    asked: PageRequest<'_>,
+    code: Option<CodeId>,
+    plan: &PlanText<A>,
+    old: &mut R,
+    out: &mut W,
+) -> Result<bool, JobFault>
+    requires { IfSome code (λ c. c < length plan.now.plan.codes) }
+    ensures answers { PagedByOld A (request_of asked.entry) plan.now.text.items plan.now.plan
+        (one_or_all plan.now.plan code) asked.entry.has_old []
+        (input R.rest R.failed R.called old.old old.new)
+        (output W.taken out.old out.new) result }
+    ensures mark { W.failed out.new ≡ mark_after (W.failed out.old) result }
+    ensures calls { CallsAtMost R.called source_calls old.old old.new }
+{
+    page_from(alloc, asked, code, plan, &Risks::none(alloc), old, out)
 }
 
 /// Reads the old plan, if it is asked for, and writes the page.
@@ -271,9 +291,13 @@ fn write_found<A: Allocator, W: Sink>(
         (output W.taken out.old out.new) result }
     ensures mark { W.failed out.new ≡ mark_after (W.failed out.old) result }
 {
+    let text = plan.text.as_slice();
+    let digest = Sha256::digest(text);
+    let outcomes = found.graded.shown.outcomes.as_slice();
+    let pictures = found.graded.shown.pictures.as_slice();
     let subject = Subject {
         name: asked.file,
-        digest: Sha256::digest(plan.text.as_slice()),
+        digest,
         version: VERSION,
         plan: &plan.plan,
         limits: asked.limits,
@@ -281,8 +305,8 @@ fn write_found<A: Allocator, W: Sink>(
         grade: &found.graded.grade,
         risks,
         change: shown_change(change),
-        outcomes: &found.graded.shown.outcomes,
-        pictures: &found.graded.shown.pictures,
+        outcomes,
+        pictures,
     };
     write_subject(&subject, out)
 }
