@@ -287,7 +287,8 @@ fn do_page<A: Allocator + Copy, P: Source, Q: Source, R: Source, W: Sink>(
     old: &mut R,
     out: &mut W,
 ) -> Result<Done<A>, JobFault>
-    requires { writes_a_page command.now ≡ true }
+    requires range { IsInRange command.now }
+    requires page { writes_a_page command.now ≡ true }
     ensures done { IsDone P.rest P.failed P.called plan.old plan.new
         (input Q.rest Q.failed Q.called risks.old risks.new)
         (input R.rest R.failed R.called old.old old.new)
@@ -309,7 +310,9 @@ fn do_page<A: Allocator + Copy, P: Source, Q: Source, R: Source, W: Sink>(
         } => {
             let (limit, spare) = (*limit, *spare);
             let limits = Limits { limit, spare };
-            let asked = PageRequest::of(file, limits, code, named.is_some(), before.is_some());
+            let has_risks = named.is_some();
+            let has_old = before.is_some();
+            let asked = PageRequest::of(file, limits, code, has_risks, has_old);
             Ok(Done::Paged(page_job(alloc, plan, risks, old, asked, out)?))
         }
         _ => unreachable!(),

@@ -1,12 +1,12 @@
 // The job of `page PLAN --limit L --spare K`.
-ghost use Rattle.std.specs.Prelude.{◌≡◌, ◌<◌, ℕ, List, length, Option, option_map, IfSome, IfOk, IfErr};
+ghost use Rattle.std.specs.Prelude.{◌≡◌, ◌<◌, ℕ, List, [], length, Option, option_map, IfSome, IfOk, IfErr};
 ghost use Rattle.std.specs.Option.{option_copied};
 ghost use Rattle.tx_text.specs.Calls.{CallsAtMost, source_calls};
 ghost use Rattle.tx_text.specs.Ends.{input, output};
 ghost use Rattle.tx_plan.specs.Plan.{Plan as PlanNow};
-ghost use Rattle.tx_risk.specs.NamedRisks.{AreRisksFor};
+ghost use Rattle.tx_risk.specs.NamedRisks.{NamedRisk, AreRisksFor};
 ghost use Rattle.tx_jobs.specs.JobFaults.{mark_after};
-ghost use Rattle.tx_jobs.specs.PageJobs.{request_of, shown_codes, ToldPage, PagedFrom, PagedByOld, PagedByRisks, PagedOf, PageJobAnswers};
+ghost use Rattle.tx_jobs.specs.PageJobs.{Request, request_of, shown_codes, IsRightSubject, ToldPage, PagedFrom, PagedByOld, PagedByRisks, PagedOf, PageJobAnswers};
 ghost use Rattle.tx_jobs.specs.inner.PageFound.{one_or_all, IsFound, IsFoundIfAny};
 
 use crate::job_fault::JobFault;
@@ -154,8 +154,28 @@ fn page_with<A: Allocator + Copy, Q: Source, R: Source, W: Sink>(
         let risks = read_risks_from(alloc, risks, &plan.plan)?;
         page_from(alloc, asked, code, plan, &risks, old, out)
     } else {
-        page_from(alloc, asked, code, plan, &Risks::none(alloc), old, out)
+        page_without_risks(alloc, asked, code, plan, old, out)
     }
+}
+
+/// The same without named risks.
+fn page_without_risks<A: Allocator + Copy, R: Source, W: Sink>(
+    alloc: A,
+    asked: PageRequest<'_>,
+    code: Option<CodeId>,
+    plan: &PlanText<A>,
+    old: &mut R,
+    out: &mut W,
+) -> Result<bool, JobFault>
+    requires { IfSome code (λ c. c < length plan.now.plan.codes) }
+    ensures answers { PagedByOld A (request_of asked.entry) plan.now.text.items plan.now.plan
+        (one_or_all plan.now.plan code) asked.entry.has_old []
+        (input R.rest R.failed R.called old.old old.new)
+        (output W.taken out.old out.new) result }
+    ensures mark { W.failed out.new ≡ mark_after (W.failed out.old) result }
+    ensures calls { CallsAtMost R.called source_calls old.old old.new }
+{
+    page_from(alloc, asked, code, plan, &Risks::none(alloc), old, out)
 }
 
 /// Reads the old plan, if it is asked for, and writes the page.
@@ -271,9 +291,13 @@ fn write_found<A: Allocator, W: Sink>(
         (output W.taken out.old out.new) result }
     ensures mark { W.failed out.new ≡ mark_after (W.failed out.old) result }
 {
+    let text = plan.text.as_slice();
+    let digest = Sha256::digest(text);
+    let outcomes = found.graded.shown.outcomes.as_slice();
+    let pictures = found.graded.shown.pictures.as_slice();
     let subject = Subject {
         name: asked.file,
-        digest: Sha256::digest(plan.text.as_slice()),
+        digest,
         version: VERSION,
         plan: &plan.plan,
         limits: asked.limits,
@@ -281,9 +305,23 @@ fn write_found<A: Allocator, W: Sink>(
         grade: &found.graded.grade,
         risks,
         change: shown_change(change),
-        outcomes: &found.graded.shown.outcomes,
-        pictures: &found.graded.shown.pictures,
+        outcomes,
+        pictures,
     };
-    write_page(&subject, out)?;
-    Ok(is_safe(&found.ranking))
+    write_subject(&subject, out)
+}
+
+/// Writes a page, and answers whether a certificate was found.
+fn write_subject<A: Allocator, W: Sink>(
+    subject: &Subject<'_, A>,
+    out: &mut W,
+) -> Result<bool, JobFault>
+    ensures told { (asked : Request) (text : List ℕ) (p : PlanNow) (codes : List ℕ)
+        (risks : List NamedRisk) (old : Option PlanNow)
+        → IsRightSubject A asked text p codes risks old subject.now
+        → ToldPage A asked text p codes risks old (output W.taken out.old out.new) result }
+    ensures mark { W.failed out.new ≡ mark_after (W.failed out.old) result }
+{
+    write_page(subject, out)?;
+    Ok(is_safe(subject.ranking))
 }

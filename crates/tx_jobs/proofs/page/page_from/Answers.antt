@@ -3,11 +3,12 @@ use Rattle.tx_text.proofs.Exits.{exits_with}
 use Rattle.tx_jobs.specs.JobFaults.{old_plan_fault}
 use Rattle.tx_jobs.proofs.Did.{uncalled}
 use Rattle.tx_jobs.proofs.JoinedPlans.{no_plan_mark}
+use Rattle.tx_jobs.proofs.PageTold.{with_old, without_old}
 use Rattle.tx_jobs.proofs.RefusedTexts.{old_plan_mark}
 use Rattle.tx_jobs.proofs.page.page_from.Goals as goal
 
-pub returns-then-has_old-clause-answers : goal.returns-then-has_old-clause-answers
-returns-then-has_old-clause-answers g c = rw c.if-has_old.true (inl (record {
+pub returns-in_ok-old-clause-answers : goal.returns-in_ok-old-clause-answers
+returns-in_ok-old-clause-answers g c = with_old _ _ _ _ _ _ _ _ _ _ c.if-has_old.true (inl (record {
   text = c.in_ok-old.old.text.items;
   plan = c.in_ok-old.old.plan;
   says = c.in_ok-old.ensures.says;
@@ -28,7 +29,8 @@ returns-in_err-old-clause-mark g c =
     (no_plan_mark mark old_plan_fault _ f (old_plan_mark mark) c.in_err-old.ensures.refused)
 
 pub returns-else-has_old-clause-answers : goal.returns-else-has_old-clause-answers
-returns-else-has_old-clause-answers g c = rw c.if-has_old.false (c.tell_page.ensures.told None tt, refl)
+returns-else-has_old-clause-answers g c =
+    without_old _ _ _ _ _ _ _ _ _ _ c.if-has_old.false (c.tell_page.ensures.told None tt, refl)
 
 pub returns-else-has_old-clause-calls : goal.returns-else-has_old-clause-calls
 returns-else-has_old-clause-calls g c = uncalled g.R.Source.called c.args.old.now

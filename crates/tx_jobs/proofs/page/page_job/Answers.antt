@@ -19,7 +19,7 @@ pub returns-in_err-plan-clause-answers : goal.returns-in_err-plan-clause-answers
 returns-in_err-plan-clause-answers g c =
     let f = c.in_err-plan.field-0.0 in
     rw (exits_with c.from_residual.result f c.from_residual.ensures.1)
-    (inr (c.in_err-plan.ensures.refused, (refl, (refl, refl))))
+    (inr (c.in_err-plan.ensures.refused, (refl, refl, refl)))
 
 pub returns-in_err-plan-clause-mark : goal.returns-in_err-plan-clause-mark
 returns-in_err-plan-clause-mark g c =

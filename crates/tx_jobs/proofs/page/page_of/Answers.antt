@@ -12,7 +12,7 @@ returns-in_err-code-clause-answers g c =
     let f = c.in_err-code.field-0.0 in
     let missing = c.in_err-code.ensures.missing in
     rw (missing.1, exits_with c.from_residual.result f c.from_residual.ensures.1, missing.0)
-    (refl, (refl, (refl, refl)))
+    (refl, refl, refl, refl)
 
 pub returns-in_err-code-clause-mark : goal.returns-in_err-code-clause-mark
 returns-in_err-code-clause-mark g c =

@@ -1,13 +1,13 @@
 use Rattle.std.proofs.Common.{inl, inr, refl}
 use Rattle.tx_text.proofs.Exits.{exits_with}
-use Rattle.tx_risk.proofs.RiskLines.{no_risks}
 use Rattle.tx_jobs.specs.JobFaults.{risks_fault}
 use Rattle.tx_jobs.proofs.Did.{uncalled}
+use Rattle.tx_jobs.proofs.PageTold.{with_risks, without_risks}
 use Rattle.tx_jobs.proofs.RefusedTexts.{risks_mark}
 use Rattle.tx_jobs.proofs.page.page_with.Goals as goal
 
-pub returns-then-has_risks-clause-answers : goal.returns-then-has_risks-clause-answers
-returns-then-has_risks-clause-answers g c = rw c.if-has_risks.true (inl (record {
+pub returns-in_ok-risks-clause-answers : goal.returns-in_ok-risks-clause-answers
+returns-in_ok-risks-clause-answers g c = with_risks _ _ _ _ _ _ _ _ _ _ c.if-has_risks.true (inl (record {
   risks = c.in_ok-risks.risks;
   fit = c.in_ok-risks.ensures.fits;
   read = c.in_ok-risks.ensures.answer;
@@ -33,12 +33,9 @@ returns-in_err-risks-clause-mark g c =
 pub returns-in_err-risks-clause-old_calls : goal.returns-in_err-risks-clause-old_calls
 returns-in_err-risks-clause-old_calls g c = uncalled g.R.Source.called c.args.old.now
 
-pub page_from-requires-else-has_risks-clause-risks : goal.page_from-requires-else-has_risks-clause-risks
-page_from-requires-else-has_risks-clause-risks g c = no_risks c.args.plan.now.plan c.none.result c.none.ensures
-
 pub returns-else-has_risks-clause-answers : goal.returns-else-has_risks-clause-answers
 returns-else-has_risks-clause-answers g c =
-    rw c.if-has_risks.false (rw c.none.ensures at c.page_from-else-has_risks.ensures.answers, refl)
+    without_risks _ _ _ _ _ _ _ _ _ _ c.if-has_risks.false (c.page_without_risks.ensures.answers, refl)
 
 pub returns-else-has_risks-clause-risks_calls : goal.returns-else-has_risks-clause-risks_calls
 returns-else-has_risks-clause-risks_calls g c = uncalled g.Q.Source.called c.args.risks.now

@@ -15,13 +15,13 @@ some_shown : {A : Type 0} (found : FoundChange A) (change : Change A)
 some_shown found change same None new limit spare h = absurd h
 some_shown found change same (Some old) new limit spare h = same old new limit spare h
 
-none_shown : {A : Type 0} (old : Option Plan) (new : Plan) (limit spare : ℕ)
+none_shown : (A : Type 0) (old : Option Plan) (new : Plan) (limit spare : ℕ)
     → IsFoundIfAny {A = A} old new limit spare None → IsChangeIfAny {A = A} old new limit spare None
-none_shown None new limit spare h = tt
-none_shown (Some old) new limit spare h = absurd h
+none_shown A None new limit spare h = tt
+none_shown A (Some old) new limit spare h = absurd h
 
 pub returns-in-Some : goal.returns-in-Some
 returns-in-Some g c = rw c.in-Some.is (some_shown c.in-Some.found.now _ (λ old new limit spare h. h))
 
 pub returns-in-None : goal.returns-in-None
-returns-in-None g c = rw c.in-None.is (λ old new limit spare h. none_shown old new limit spare h)
+returns-in-None g c = rw c.in-None.is (λ old new limit spare h. none_shown _ old new limit spare h)
