@@ -16,11 +16,11 @@ _telexplan() {
             case $word in *,*) before=${word%,*}, ;; esac
             words=$(_telexplan_names GROUP | sed "s/^/$before/")
             ;;
-        --cert | --mixture | --plan | --risks | --counter) ;;
+        --cert | --mixture | --plan | --risks | --counter | --from | --html) ;;
         *)
             case $COMP_CWORD:${COMP_WORDS[1]}:$word in
-                1:*) words="lint audit grade mend change order survive check run codes trace fill draw explain version help --help --version" ;;
-                *:help:*) words="lint audit grade mend change order survive check run codes trace fill draw explain version" ;;
+                1:*) words="lint audit grade mend change order survive page check run codes trace fill draw explain version help --help --version" ;;
+                *:help:*) words="lint audit grade mend change order survive page check run codes trace fill draw explain version" ;;
                 *:explain:*) words="--help $(telexplan explain 2>/dev/null | cut -d ' ' -f 1)" ;;
                 *:audit:-*) words="--limit --spare --cert --counter --help" ;;
                 *:mend:-*) words="--limit --spare --plan --cert --old --help" ;;
@@ -28,6 +28,7 @@ _telexplan() {
                 *:order:-*) words="--limit --spare --stage --plan --cert --old --help" ;;
                 *:lint:-*) words="--risks --help" ;;
                 *:survive:-*) words="--risks --risks-only --totals --help" ;;
+                *:page:-*) words="--limit --spare --risks --from --code --html --help" ;;
                 *:check:-*) words="--limit --spare --help" ;;
                 *:run:-*) words="--cert --limit --spare --strict --echo --summary --help" ;;
                 *:grade:-* | *:codes:-* | *:version:-*) words="--help" ;;

@@ -457,6 +457,16 @@ def telling_of(words):
     return {(True, False): "telling", (False, True): "telling summary", (True, True): "telling both"}.get(("--echo" in words, "--summary" in words), "run")
 
 
+def page_of(example):
+    """The kind of the case of a page: with named risks, with an old plan too, with the lists of one code, or none of them."""
+    file, limit, spare, risks, old, code = *example.words[1:2], *map(example.option, ("--limit", "--spare", "--risks", "--from", "--code"))
+    if code:
+        return f"page-code {file} {limit} {code}"
+    if old:
+        return f"page-change {file} {limit} {spare}"
+    return f"{'page-risks' if risks else 'page'} {file} {limit} {spare}"
+
+
 def case_of(example):
     """The kind of a case, and its texts; None where no case shows the example."""
     if example.input and not example.words:
@@ -478,6 +488,8 @@ def case_of(example):
     kinds |= {"survive": "survive" if example.option("--risks") else "survive alone", "trace": asked_of(example, "--down"), "fill": asked_of(example, "--down"), "lint": " ".join(["lint", *["risks"] * bool(example.option("--risks")), *example.words[1:2]])}
     if example.option("--group"):
         kinds["trace"] = f"trace group {example.option('--group')}"
+    if verb == "page":
+        kinds["page"] = page_of(example)
     return (kinds[verb], b"---\n".join(texts)) if verb in kinds else None
 
 

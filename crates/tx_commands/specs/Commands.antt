@@ -10,7 +10,7 @@ use Rattle.tx_text.specs.Words.{number_of}
 use Rattle.tx_explain.specs.Entries.{is_known}
 use Rattle.tx_commands.specs.Grammar.{program_words}
 use Rattle.tx_commands.specs.declared.command.Command.{Command}
-use Rattle.tx_commands.specs.declared.command.Command.TheVariants.{Pipe, Run, RunTelling, Check, Lint, Codes, Audit, Change, Order, Mend, Survive, Grade, Trace, TraceGroup, Fill, Draw, Explain}
+use Rattle.tx_commands.specs.declared.command.Command.TheVariants.{Pipe, Run, RunTelling, Check, Lint, Codes, Audit, Change, Order, Mend, Survive, Page, Grade, Trace, TraceGroup, Fill, Draw, Explain}
 
 -- a limit is at most 62, and a spare number at most 15
 abbrev pub IsInRange : Command → Type 0
@@ -19,6 +19,7 @@ IsInRange (Audit plan limit spare cert counter) = (limit ≤ 62) × (spare ≤ 1
 IsInRange (Change old new limit spare cert mixture counter with_old) = (limit ≤ 62) × (spare ≤ 15)
 IsInRange (Order old new limit spare stage plan cert with_old) = (limit ≤ 62) × (spare ≤ 15)
 IsInRange (Mend plan limit spare mended cert with_old) = (limit ≤ 62) × (spare ≤ 15)
+IsInRange (Page plan limit spare risks old code html) = (limit ≤ 62) × (spare ≤ 15)
 IsInRange (Check plan cert limit spare) = (limit ≤ 62) × (spare ≤ 15)
 IsInRange (Draw plan (Some (code, Some (limit, spare)))) = (limit ≤ 62) × (spare ≤ 15)
 IsInRange other = Unit {0}
@@ -37,6 +38,7 @@ IsInRange-prop (Change old new limit spare cert mixture counter with_old) = ×_p
 IsInRange-prop (Order old new limit spare stage plan cert with_old) = ×_prop le_prop le_prop
 IsInRange-prop (Mend plan limit spare mended cert with_old) = ×_prop le_prop le_prop
 IsInRange-prop (Survive plan risks totals) = Unit-prop
+IsInRange-prop (Page plan limit spare risks old code html) = ×_prop le_prop le_prop
 IsInRange-prop (Grade plan) = Unit-prop
 IsInRange-prop (Trace plan exchange code down) = Unit-prop
 IsInRange-prop (TraceGroup plan group) = Unit-prop
@@ -140,6 +142,13 @@ Asks name found (Survive plan (Some (risks, only)) totals) =
     (name ≡ codes "survive") × Names found (codes "plan") plan
     × Names found (codes "risks") risks × (is_set found (codes "risks-only") ≡ only)
     × (is_set found (codes "totals") ≡ totals)
+Asks name found (Page plan limit spare risks old code html) =
+    (name ≡ codes "page") × Names found (codes "plan") plan
+    × Gives found (codes "limit") limit × Gives found (codes "spare") spare
+    × (first_of (codes "risks") found ≡ option_map string_bytes risks)
+    × (first_of (codes "from") found ≡ option_map string_bytes old)
+    × (first_of (codes "code") found ≡ option_map string_bytes code)
+    × (first_of (codes "html") found ≡ option_map string_bytes html)
 Asks name found (Grade plan) = (name ≡ codes "grade") × Names found (codes "plan") plan
 Asks name found (Trace plan exchange code down) =
     (name ≡ codes "trace") × Names found (codes "plan") plan
@@ -230,6 +239,8 @@ reads_of (Mend plan limit spare mended cert with_old) = one_read (string_bytes p
 reads_of (Survive plan None totals) = one_read (string_bytes plan)
 reads_of (Survive plan (Some (risks, only)) totals) =
     two_read (string_bytes plan) (string_bytes risks)
+reads_of (Page plan limit spare risks old code html) =
+    Some (string_bytes plan) ∷ option_map string_bytes risks ∷ option_map string_bytes old ∷ []
 reads_of (Grade plan) = one_read (string_bytes plan)
 reads_of (Trace plan exchange code down) = one_read (string_bytes plan)
 reads_of (TraceGroup plan group) = one_read (string_bytes plan)
@@ -246,6 +257,7 @@ pub record Made : Type 0 where
   pub plan : Option (List ℕ)
   pub cert : Option (List ℕ)
   pub script : Option (List ℕ)
+  pub page : Option (List ℕ)
 
 -- those of a command
 abbrev pub made_by : Command → Made
@@ -253,25 +265,36 @@ made_by (Audit plan limit spare cert counter) = record {
   plan = None;
   cert = option_map string_bytes cert;
   script = option_map string_bytes counter;
+  page = None;
 }
 made_by (Change old new limit spare cert mixture counter with_old) = record {
   plan = option_map string_bytes mixture;
   cert = option_map string_bytes cert;
   script = option_map string_bytes counter;
+  page = None;
 }
 made_by (Order old new limit spare stage plan cert with_old) = record {
   plan = option_map string_bytes plan;
   cert = option_map string_bytes cert;
   script = None;
+  page = None;
 }
 made_by (Mend plan limit spare mended cert with_old) = record {
   plan = option_map string_bytes mended;
   cert = option_map string_bytes cert;
   script = None;
+  page = None;
 }
-made_by other = record { plan = None; cert = None; script = None }
+made_by (Page plan limit spare risks old code html) = record {
+  plan = None;
+  cert = None;
+  script = None;
+  page = option_map string_bytes html;
+}
+made_by other = record { plan = None; cert = None; script = None; page = None }
 
 -- their names
 abbrev pub files_made : Command → List (List ℕ)
 files_made command =
-    let made = made_by command in given (made.plan ∷ made.cert ∷ made.script ∷ [])
+    let made = made_by command in
+    given (made.plan ∷ made.cert ∷ made.script ∷ made.page ∷ [])

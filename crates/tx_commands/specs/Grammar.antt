@@ -88,6 +88,14 @@ survive_words =
     (plan_words (codes "survive")) (option (codes "risks"))) (flag (codes "risks-only")))
     (flag (codes "totals"))
 
+-- the arguments of `page`
+abbrev pub page_words : App
+page_words =
+    with_rule (with_rule (with_rule (with_rule (with_rule (with_rule
+    (plan_words (codes "page")) (needed limit)) (needed spare))
+    (option (codes "risks"))) (option (codes "from"))) (option (codes "code")))
+    (option (codes "html"))
+
 -- a word that goes by position, and need not be given
 abbrev pub word : List ℕ → Rule
 word id = record (new_rule id) { value_names = 1; action = Some Set }
@@ -151,9 +159,9 @@ top_words =
 abbrev pub judging_words : App
 judging_words =
     with_subcommand (with_subcommand (with_subcommand (with_subcommand (with_subcommand
-    (with_subcommand (with_subcommand (with_subcommand
+    (with_subcommand (with_subcommand (with_subcommand (with_subcommand
     top_words lint_words.top) audit_words.top) grade_words.top) mend_words.top) change_words.top)
-    order_words.top) survive_words.top) check_words.top
+    order_words.top) survive_words.top) page_words.top) check_words.top
 
 -- the words of the program: all its commands
 abbrev pub program_words : App

@@ -7,89 +7,12 @@ ghost use Rattle.tx_commands.specs.inner.Refused.{IsRefused};
 
 use crate::arguments::MOST_STAGES;
 use crate::command::Command;
+use crate::given::{is_given, is_set, limits, line, number_of, text};
 use crate::misuse::Misuse;
+use crate::page_words::page_of;
 use clap::ArgMatches;
 use std::alloc::{AllocError, Global};
 use tx_explain::is_known;
-use tx_text::number;
-
-/// The word of an id.
-pub(crate) fn text(
-    alloc: Global,
-    matches: &ArgMatches<'_>,
-    id: &str,
-) -> Result<Option<String>, AllocError>
-    ensures { IfOk result (λ word. first_of id.now (rows_of (found_of matches.now))
-        ≡ option_map string_bytes word) }
-{
-    match matches.get_str(id) {
-        Some(word) => Ok(Some(String::from_str(alloc, word)?)),
-        None => Ok(None),
-    }
-}
-
-/// The words of an id, with a blank between two.
-fn line(alloc: Global, matches: &ArgMatches<'_>, id: &str) -> Result<Option<String>, AllocError>
-    ensures { IfOk result (λ line. line_of (rows_of (found_of matches.now)) id.now
-        ≡ option_map string_bytes line) }
-{
-    match matches.get_strs(id) {
-        Some(words) => Ok(Some(words.join(alloc, " ")?)),
-        None => Ok(None),
-    }
-}
-
-/// Whether a word stands for an id.
-fn is_given(matches: &ArgMatches<'_>, id: &str) -> bool
-    ensures { result ≡ has (rows_of (found_of matches.now)) id.now }
-{
-    matches.get_str(id).is_some()
-}
-
-/// Whether an option that takes no word was given.
-fn is_set(matches: &ArgMatches<'_>, id: &str) -> bool
-    ensures { result ≡ is_set (rows_of (found_of matches.now)) id.now }
-{
-    match matches.get_str(id) {
-        Some(word) => word == "true",
-        None => false,
-    }
-}
-
-/// The number of an option, which is spelled as in a text.
-fn number_of(
-    alloc: Global,
-    matches: &ArgMatches<'_>,
-    id: &'static str,
-    most: u8,
-) -> Result<u8, Misuse>
-    ensures range { IfOk result (λ n. n ≤ most) }
-    ensures given { IfOk result (Gives (rows_of (found_of matches.now)) id.now) }
-    ensures refused { IfErr result
-        (λ e. (name : List ℕ) → IsRefused (Some (name, rows_of (found_of matches.now))) e) }
-{
-    let Some(word) = matches.get_str(id) else {
-        return Err(Misuse::Incomplete);
-    };
-    match number(word.as_bytes(), u32::MAX) {
-        Some(n) if n <= u32::from(most) => Ok(n as u8),
-        _ => Err(Misuse::Number(id, String::from_str(alloc, word)?)),
-    }
-}
-
-/// The limit and the spare number.
-fn limits(alloc: Global, matches: &ArgMatches<'_>) -> Result<(u8, u8), Misuse>
-    ensures range { IfOk result (λ b. (b.0 ≤ 62) × (b.1 ≤ 15)) }
-    ensures given { IfOk result (λ b.
-        Gives (rows_of (found_of matches.now)) (codes "limit") b.0
-        × Gives (rows_of (found_of matches.now)) (codes "spare") b.1) }
-    ensures refused { IfErr result
-        (λ e. (name : List ℕ) → IsRefused (Some (name, rows_of (found_of matches.now))) e) }
-{
-    let limit = number_of(alloc, matches, "limit", 62)?;
-    let spare = number_of(alloc, matches, "spare", 15)?;
-    Ok((limit, spare))
-}
 
 /// The words of `lint` after the plan.
 fn lint_of(alloc: Global, plan: String, matches: &ArgMatches<'_>) -> Result<Command, Misuse>
@@ -398,6 +321,7 @@ pub(crate) fn plan_command(
         "audit" => audit_of(alloc, plan, matches),
         "grade" => Ok(Command::Grade { plan }),
         "survive" => survive_of(alloc, plan, matches),
+        "page" => page_of(alloc, plan, matches),
         "trace" => trace_of(alloc, plan, matches),
         "fill" => fill_of(alloc, plan, matches),
         "draw" => draw_of(alloc, plan, matches),

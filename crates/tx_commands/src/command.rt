@@ -91,6 +91,18 @@ pub enum Command {
         risks: Option<(String, bool)>,
         totals: bool,
     },
+    /// `page PLAN --limit L --spare K`: a page about the plan, with the named risks of a file, if
+    /// one is named, with the stages from an old plan, if one is named, and with the lists of one
+    /// code alone, if its figures are given. It may go into a file.
+    Page {
+        plan: String,
+        limit: u8,
+        spare: u8,
+        risks: Option<String>,
+        old: Option<String>,
+        code: Option<String>,
+        html: Option<String>,
+    },
     /// `grade PLAN`: with which limits and spare numbers the plan is safe.
     Grade {
         plan: String,
@@ -142,6 +154,8 @@ pub struct Files<'a> {
     pub cert: Option<&'a str>,
     /// The script that it may make.
     pub script: Option<&'a str>,
+    /// The page that it may make, in place of standard output.
+    pub page: Option<&'a str>,
 }
 
 impl<'a> Files<'a> {
@@ -151,6 +165,7 @@ impl<'a> Files<'a> {
         ensures plan { option_map (λ f. f.now) result.plan ≡ (made_by command.now).plan }
         ensures cert { option_map (λ f. f.now) result.cert ≡ (made_by command.now).cert }
         ensures script { option_map (λ f. f.now) result.script ≡ (made_by command.now).script }
+        ensures page { option_map (λ f. f.now) result.page ≡ (made_by command.now).page }
     {
         let reads = reads_of(command);
         match command {
@@ -165,11 +180,19 @@ impl<'a> Files<'a> {
             } => Files::new(reads, mixture.as_deref(), cert, counter.as_deref()),
             Command::Order { plan, cert, .. } => Files::new(reads, plan.as_deref(), cert, None),
             Command::Mend { mended, cert, .. } => Files::new(reads, mended.as_deref(), cert, None),
+            Command::Page { html, .. } => Files {
+                reads,
+                plan: None,
+                cert: None,
+                script: None,
+                page: html.as_deref(),
+            },
             _ => Files {
                 reads,
                 plan: None,
                 cert: None,
                 script: None,
+                page: None,
             },
         }
     }
@@ -185,20 +208,23 @@ impl<'a> Files<'a> {
         ensures cert { option_map (λ f. f.now) result.cert ≡ option_map string_bytes cert.now }
         ensures script { option_map (λ f. f.now) result.script
             ≡ option_map (λ f. f.now) script.entry }
+        ensures page { result.page ≡ None }
     {
         Files {
             reads,
             plan,
             cert: cert.as_deref(),
             script,
+            page: None,
         }
     }
 
     /// Those that it may make, in the order in which they are made.
-    pub fn makes(&self) -> [Option<&'a str>; 3]
-        ensures { named result ≡ named (self.now.plan ∷ self.now.cert ∷ self.now.script ∷ []) }
+    pub fn makes(&self) -> [Option<&'a str>; 4]
+        ensures { named result
+            ≡ named (self.now.plan ∷ self.now.cert ∷ self.now.script ∷ self.now.page ∷ []) }
     {
-        [self.plan, self.cert, self.script]
+        [self.plan, self.cert, self.script, self.page]
     }
 }
 
@@ -216,22 +242,15 @@ fn reads_of(command: &Command) -> [Option<&str>; 3]
         Command::RunTelling { plan, script, .. } => two(plan, script),
         Command::Check { plan, cert, .. } => two(plan, cert),
         Command::Change { old, new, .. } | Command::Order { old, new, .. } => two(old, new),
-        Command::Lint {
-            plan,
-            risks: Some(risks),
-        }
-        | Command::Survive {
-            plan,
-            risks: Some((risks, _)),
-            ..
-        } => two(plan, risks),
-        Command::Lint { plan, risks: None }
-        | Command::Survive {
-            plan,
-            risks: None,
-            ..
-        }
-        | Command::Codes { plan }
+        Command::Lint { plan, risks } => match risks {
+            Some(risks) => two(plan, risks),
+            None => one(plan),
+        },
+        Command::Survive { plan, risks, .. } => match risks {
+            Some((risks, _)) => two(plan, risks),
+            None => one(plan),
+        },
+        Command::Codes { plan }
         | Command::Audit { plan, .. }
         | Command::Mend { plan, .. }
         | Command::Grade { plan }
@@ -239,6 +258,12 @@ fn reads_of(command: &Command) -> [Option<&str>; 3]
         | Command::TraceGroup { plan, .. }
         | Command::Fill { plan, .. }
         | Command::Draw { plan, .. } => one(plan),
+        Command::Page {
+            plan,
+            risks,
+            old,
+            ..
+        } => [Some(plan.as_str()), risks.as_deref(), old.as_deref()],
         Command::Explain { .. } => [None, None, None],
     }
 }

@@ -10,7 +10,7 @@ use crate::judging::{judging_command, judging_grammar};
 use std::alloc::{AllocError, Global};
 
 /// The version of the program.
-const VERSION: &str = "1.0.0";
+pub const VERSION: &str = "1.0.0";
 
 const RUN_HELP: &str = "Example: telexplan run own.plan own.script
 

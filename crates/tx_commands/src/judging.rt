@@ -6,10 +6,11 @@ ghost use Rattle.tx_commands.specs.Grammar as grammar;
 
 use crate::arguments::{PLAN, Syntax};
 use crate::grammar::{top_grammar, with_command};
+use crate::page_words::page_grammar;
 use std::alloc::{AllocError, Global};
 
 /// What the help says of the named risks.
-const RISKS: &str = "The named risks, such as cables: lines RISK name
+pub(crate) const RISKS: &str = "The named risks, such as cables: lines RISK name
 group .., between RISKS 1 and END; - is standard input";
 
 const LINT_HELP: &str = "Example: telexplan lint own.plan --risks cables
@@ -261,10 +262,11 @@ pub(crate) fn judging_grammar<'a>(alloc: Global) -> Result<clap::Command<'a>, Al
         with_command(program, change_grammar(alloc)),
         order_grammar(alloc),
     );
-    with_command(
+    let program = with_command(
         with_command(program, survive_grammar(alloc)),
-        check_grammar(alloc),
-    )
+        page_grammar(alloc),
+    );
+    with_command(program, check_grammar(alloc))
 }
 
 /// One of these commands alone.
@@ -280,6 +282,7 @@ pub(crate) fn judging_command<'a>(
         "change" => change_grammar(alloc),
         "order" => order_grammar(alloc),
         "survive" => survive_grammar(alloc),
+        "page" => page_grammar(alloc),
         _ => check_grammar(alloc),
     }
 }

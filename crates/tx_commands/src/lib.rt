@@ -6,11 +6,14 @@ mod asked;
 mod command;
 mod fault;
 mod files;
+mod given;
 mod grammar;
 mod judging;
 mod misuse;
+mod page_words;
 mod reading;
 
 pub use command::{Command, Files, STANDARD_INPUT};
 pub use fault::WordsFault;
+pub use grammar::VERSION;
 pub use reading::read_command;

@@ -7,10 +7,11 @@ ghost use Rattle.tx_commands.specs.Grammar.{program_words};
 ghost use Rattle.tx_commands.specs.Faults.{IsRefusalIn, IsRefusalOf};
 ghost use Rattle.tx_commands.specs.inner.Refused.{IsRefused};
 
-use crate::asked::{change_of, explain_of, mend_of, order_of, plan_command, text};
+use crate::asked::{change_of, explain_of, mend_of, order_of, plan_command};
 use crate::command::Command;
 use crate::fault::WordsFault;
 use crate::files::refuse_clash;
+use crate::given::text;
 use crate::grammar::{asked_grammar, grammar};
 use crate::misuse::Misuse;
 use clap::ArgMatches;

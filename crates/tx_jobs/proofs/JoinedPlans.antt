@@ -16,8 +16,8 @@ use Rattle.tx_jobs.specs.declared.job_fault.JobFault.TheVariants.{Plan as PlanFa
 use Rattle.tx_jobs.specs.JobFaults.{old_plan_fault, new_plan_fault, mark_by}
 use Rattle.tx_jobs.specs.LintJobs.{lint_fault}
 use Rattle.tx_jobs.specs.declared.two_plans.TwoPlans.{TwoPlans}
-use Rattle.tx_jobs.specs.inner.TwoPlans.{IsJoinOf, AreReadAndJoined, IsNoJoinOf}
-use Rattle.tx_jobs.specs.TwoPlans.{SaysWhole, RefusedWhole, NotWhole, GivesNoPlan, join_fault, AreJoined, AreNotJoined}
+use Rattle.tx_jobs.specs.inner.TwoPlans.{IsJoinOf, AreReadAndJoined}
+use Rattle.tx_jobs.specs.TwoPlans.{SaysWhole, RefusedWhole, NotWhole, GivesNoPlan, join_fault, IsNoJoinOf, AreJoined, AreNotJoined}
 use Rattle.tx_jobs.proofs.RefusedTexts.{old_plan_mark, new_plan_mark}
 
 -- why a text was not read to its end
@@ -42,7 +42,8 @@ not_whole_mark mark input NoSuchExchange h = absurd h
 not_whole_mark mark input NoSuchCode h = absurd h
 not_whole_mark mark input (NoSuchGroup place) h = absurd h
 
-no_plan_mark : (mark : Bool) (tell : FaultAt PlanWord → JobFault) (input : Input) (f : JobFault) → ((x : FaultAt PlanWord) → mark ≡ mark_by mark (tell x)) → GivesNoPlan tell input f → mark ≡ mark_by mark f
+-- a text that gives no plan leaves the mark
+pub no_plan_mark : (mark : Bool) (tell : FaultAt PlanWord → JobFault) (input : Input) (f : JobFault) → ((x : FaultAt PlanWord) → mark ≡ mark_by mark (tell x)) → GivesNoPlan tell input f → mark ≡ mark_by mark f
 no_plan_mark mark tell input f told (inl r) = told r.of ∙ ap (mark_by mark) (sym r.told)
 no_plan_mark mark tell input f told (inr n) = not_whole_mark mark input f n
 
@@ -51,6 +52,10 @@ join_mark mark old new q (OtherHome c) = refl
 join_mark mark old new q (OtherGroup g) = refl
 join_mark mark old new q TooMany = refl
 join_mark mark old new q JoinNoMemory = refl
+
+-- plans without a joined network leave the mark
+pub no_join_mark : (mark : Bool) (t u : List ℕ) (p q : Plan) (f : JobFault) → IsNoJoinOf t u p q f → mark ≡ mark_by mark f
+no_join_mark mark t u p q f n = join_mark mark t u q n.refusal ∙ ap (mark_by mark) (sym n.told)
 
 -- no write failed
 pub unjoined_mark : (mark : Bool) (old new : Input) (f : JobFault) → AreNotJoined old new f → mark ≡ mark_by mark f

@@ -12,6 +12,7 @@ mod ChangeEvidenced
 mod OrderTold
 mod Grading
 mod LintTold
+mod PageTold
 mod Surviving
 mod DrawnCode
 mod Asking

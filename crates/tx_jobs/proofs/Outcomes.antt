@@ -34,7 +34,7 @@ use Rattle.tx_order.specs.declared.staged.Staged.TheVariants.{Ordered as IsOrder
 use Rattle.tx_order.specs.OrderTold.{IsStagedOf, IsOrderTold}
 use Rattle.tx_order.specs.declared.order_fault.OrderFault.{OrderFault}
 use Rattle.tx_commands.specs.declared.command.Command.{Command}
-use Rattle.tx_commands.specs.declared.command.Command.TheVariants.{Pipe, Run, RunTelling, Check, Lint, Codes, Audit, Change, Order, Mend, Survive, Grade, Trace, TraceGroup, Fill, Draw, Explain}
+use Rattle.tx_commands.specs.declared.command.Command.TheVariants.{Pipe, Run, RunTelling, Check, Lint, Codes, Audit, Change, Order, Mend, Survive, Page, Grade, Trace, TraceGroup, Fill, Draw, Explain}
 use Rattle.tx_jobs.specs.declared.change.Changed.{Changed}
 use Rattle.tx_jobs.specs.declared.change.Changed.TheVariants.{Sound as FoundSound, Unsound as FoundUnsound, NewUnsound as FoundNewUnsound}
 use Rattle.tx_jobs.specs.declared.mixture.ChangeEvidence.{ChangeEvidence}
@@ -43,7 +43,7 @@ use Rattle.tx_jobs.specs.declared.mixture.Mixture.{Mixture}
 use Rattle.tx_jobs.specs.declared.job_fault.JobFault.{JobFault}
 use Rattle.tx_jobs.specs.declared.job_fault.JobFault.TheVariants.{NoMemory}
 use Rattle.tx_jobs.specs.declared.done.Done.{Done}
-use Rattle.tx_jobs.specs.declared.done.Done.TheVariants.{Ran, Told, Checked, Verified, Listed, Linted, Audited, Changed as ChangedInto, Ordered, Mended, Graded, Survived, Filled, Written}
+use Rattle.tx_jobs.specs.declared.done.Done.TheVariants.{Ran, Told, Checked, Verified, Listed, Linted, Audited, Changed as ChangedInto, Ordered, Mended, Graded, Survived, Paged, Filled, Written}
 use Rattle.tx_jobs.specs.JobFaults.{plan_fault, plan_fault_by}
 use Rattle.tx_jobs.specs.ChangeEvidences.{ChangeEvidenceAnswers, TellsChangeEvidence, ShowsWalk, mixture_plan}
 use Rattle.tx_jobs.specs.ChangeJobs.{ChangeJobAnswers, IsVerdictOf}
@@ -242,6 +242,7 @@ module _ (text left : List ℕ) (second third : Input) (out : Output) where
     makes_plan (Mend plan limit spare mended cert with_old) d h = makes Mended _ d (λ x a. mend_makes with_old limit spare x a) h.0
     makes_plan (Survive plan None totals) d h = makes Survived _ d (λ x _. tt) h.0
     makes_plan (Survive plan (Some (risks, only)) totals) d h = makes Survived _ d (λ x _. tt) h.0
+    makes_plan (Page plan limit spare risks old code html) d h = makes Paged _ d (λ x _. tt) h
     makes_plan (Grade plan) d h = makes Graded _ d (λ x _. tt) h.0
     makes_plan (Trace plan exchange code down) d h = makes written _ d (λ x _. tt) h.0
     makes_plan (TraceGroup plan group) d h = makes written _ d (λ x _. tt) h.0

@@ -13,14 +13,14 @@ use Rattle.tx_audit.specs.Scripts.{script_written}
 use Rattle.tx_audit.specs.declared.checked.Checked.TheVariants.{Ran as RanAfterYes, Denied}
 use Rattle.tx_explain.specs.Written.{explanation_text}
 use Rattle.tx_commands.specs.declared.command.Command.{Command}
-use Rattle.tx_commands.specs.declared.command.Command.TheVariants.{Pipe, Run, RunTelling, Check, Lint, Codes, Audit, Change, Order, Mend, Survive, Grade, Trace, TraceGroup, Fill, Draw, Explain}
+use Rattle.tx_commands.specs.declared.command.Command.TheVariants.{Pipe, Run, RunTelling, Check, Lint, Codes, Audit, Change, Order, Mend, Survive, Page, Grade, Trace, TraceGroup, Fill, Draw, Explain}
 use Rattle.tx_jobs.specs.declared.evidence.Evidence.TheVariants.{Sound, Unsound}
 use Rattle.tx_jobs.specs.declared.mixture.ChangeEvidence.TheVariants.{Sound as SoundChange, Unsound as UnsoundChange}
 use Rattle.tx_order.specs.declared.staged.Staged.TheVariants.{Ordered as IsOrdered, NoOrder}
 use Rattle.tx_jobs.specs.declared.job_fault.JobFault.{JobFault}
 use Rattle.tx_jobs.specs.declared.job_fault.JobFault.TheVariants.{Read}
 use Rattle.tx_jobs.specs.declared.done.Done.{Done}
-use Rattle.tx_jobs.specs.declared.done.Done.TheVariants.{Ran, Told, Checked, Verified, Listed, Linted, Audited, Changed, Ordered, Mended, Graded, Survived, Filled, Written}
+use Rattle.tx_jobs.specs.declared.done.Done.TheVariants.{Ran, Told, Checked, Verified, Listed, Linted, Audited, Changed, Ordered, Mended, Graded, Survived, Paged, Filled, Written}
 use Rattle.tx_jobs.specs.ChangeEvidences.{ChangeEvidenceAnswers, mixture_plan, mixture_events}
 use Rattle.tx_jobs.specs.CheckJobs.{CheckJobAnswers}
 use Rattle.tx_jobs.specs.CheckedJobs.{CheckedJobAnswers}
@@ -32,6 +32,7 @@ use Rattle.tx_jobs.specs.Jobs.{CodesJobAnswers, RunJobAnswers}
 use Rattle.tx_jobs.specs.LintJobs.{LintJobAnswers, LintRisksJobAnswers}
 use Rattle.tx_jobs.specs.MendJobs.{MendJobAnswers}
 use Rattle.tx_jobs.specs.OrderJobs.{OrderJobAnswers}
+use Rattle.tx_jobs.specs.PageJobs.{page_request, PageJobAnswers}
 use Rattle.tx_jobs.specs.PipeJobs.{PipeJobAnswers}
 use Rattle.tx_jobs.specs.SurviveJobs.{SurviveJobAnswers, SurviveRisksJobAnswers}
 use Rattle.tx_jobs.specs.TellingJobs.{TellingJobAnswers}
@@ -64,6 +65,7 @@ status_of_done (Mended (NoRouting plan unserved missing pair)) = 1
 status_of_done (Graded grade) = if is_some grade.plan then 0 else 1
 status_of_done (Survived survival) = if is_denied survival then 1 else 0
 status_of_done (Filled found) = 0
+status_of_done (Paged safe) = if safe then 0 else 1
 status_of_done Written = 0
 
 -- the plan that a command makes, if it makes one
@@ -153,6 +155,9 @@ module _ {P : Type 0} (rest : P → Option (List ℕ)) (failed : P → Bool)
         Does Survived (SurviveJobAnswers totals first out) result × Alone
     IsDone (Survive plan (Some (risks, only)) totals) result =
         Does Survived (SurviveRisksJobAnswers only totals first second out) result × third.unread
+    IsDone (Page plan limit spare risks old code html) result = Does Paged (PageJobAnswers A
+        (page_request (string_bytes plan) limit spare code (is_some risks) (is_some old))
+        first second third out) result
     IsDone (Grade plan) result = Does Graded (GradeJobAnswers first out) result × Alone
     IsDone (Trace plan exchange code down) result =
         Does written (TraceJobAnswers (string_bytes exchange) (string_bytes code)

@@ -18,6 +18,7 @@ pub mod Writables
 pub mod Evidences
 pub mod ChangeEvidences
 pub mod OrderJobs
+pub mod PageJobs
 pub mod CheckedJobs
 pub mod Contents
 pub mod Done

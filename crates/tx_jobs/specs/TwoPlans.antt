@@ -83,6 +83,12 @@ pub record LacksNew (old new : Input) (fault : JobFault) : Type 0 where
   pub old_says : SaysWhole old old_text old_plan
   pub refused : GivesNoPlan new_plan_fault new fault
 
+-- two plans, each said by a text, have no joined network, or there was no memory for it
+pub record IsNoJoinOf (t u : List ℕ) (p q : Plan) (fault : JobFault) : Type 0 where
+  pub refusal : JoinRefusal
+  pub refused : IsRefusedAs p q refusal
+  pub told : fault ≡ join_fault t u q refusal
+
 -- both plans were read, and they have no joined network, or there was no memory for it
 pub record AreRefused (old new : Input) (fault : JobFault) : Type 0 where
   pub old_text : List ℕ

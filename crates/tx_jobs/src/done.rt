@@ -49,6 +49,8 @@ pub enum Done<A: Allocator = Global> {
     Survived(Survival<A>),
     /// Calls were set up one after another.
     Filled(Fill<A>),
+    /// A page was written: whether a certificate was found.
+    Paged(bool),
     /// A trace, a picture or an explanation was written.
     Written,
 }
@@ -81,6 +83,7 @@ impl<A: Allocator> Done<A> {
             | Done::Ordered(Staged::NoOrder)
             | Done::Mended(Mending::NoRouting(_, _, _, _)) => 1,
             Done::Told(strict, summary) => u8::from(*strict && summary.refused != 0),
+            Done::Paged(safe) => u8::from(!*safe),
             Done::Graded(grade) => u8::from(grade.plan.is_none()),
             Done::Survived(survival) => u8::from(is_denied(survival)),
             Done::Linted(status) => *status,
@@ -112,6 +115,7 @@ impl<A: Allocator> Done<A> {
             | Done::Graded(_)
             | Done::Survived(_)
             | Done::Filled(_)
+            | Done::Paged(_)
             | Done::Written => None,
         }
     }
@@ -145,6 +149,7 @@ impl<A: Allocator> Done<A> {
             | Done::Graded(_)
             | Done::Survived(_)
             | Done::Filled(_)
+            | Done::Paged(_)
             | Done::Written => [None, None],
         }
     }

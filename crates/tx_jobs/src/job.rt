@@ -6,7 +6,7 @@ ghost use Rattle.tx_commands.specs.Commands.{IsInRange};
 ghost use Rattle.tx_commands.specs.declared.command.Command.TheVariants.{Pipe};
 ghost use Rattle.tx_jobs.specs.JobFaults.{mark_after};
 ghost use Rattle.tx_jobs.specs.Done.{HasDrawn, IsDone};
-ghost use Rattle.tx_jobs.specs.inner.Texts.{no_text, runs_a_script, has_two_texts, may_have_risks, is_of_calls};
+ghost use Rattle.tx_jobs.specs.inner.Texts.{no_text, runs_a_script, has_two_texts, may_have_risks, writes_a_page, is_of_calls};
 
 use crate::audit_evidence::evidence_job;
 use crate::change_evidence::change_evidence_job;
@@ -20,6 +20,7 @@ use crate::job_fault::JobFault;
 use crate::lint::{lint_job, lint_risks_job};
 use crate::mend::mend_job;
 use crate::order::order_job;
+use crate::page::{PageRequest, page_job};
 use crate::pipe::pipe_job;
 use crate::run::run_job;
 use crate::run_checked::run_checked_job;
@@ -85,6 +86,7 @@ pub fn do_job<A: Allocator + Copy, P: Source, Q: Source, R: Source, W: Sink>(
             let limits = Limits { limit, spare };
             Ok(Done::Mended(mend_job(alloc, first, limits, *with_old, out)?))
         }
+        Command::Page { .. } => do_page(alloc, command, first, second, third, out),
         Command::Grade { .. } => Ok(Done::Graded(grade_job(alloc, first, out)?)),
         Command::Draw { routes, .. } => draw(alloc, routes, first, out),
         Command::Explain { line } => {
@@ -271,6 +273,47 @@ fn do_calls<A: Allocator + Copy, P: Source, W: Sink>(
         Command::TraceGroup { group, .. } => {
             trace_group_job(alloc, plan, group.as_bytes(), out)?;
             Ok(Done::Written)
+        }
+        _ => unreachable!(),
+    }
+}
+
+/// Does the job of a command that writes a page.
+fn do_page<A: Allocator + Copy, P: Source, Q: Source, R: Source, W: Sink>(
+    alloc: A,
+    command: &Command,
+    plan: &mut P,
+    risks: &mut Q,
+    old: &mut R,
+    out: &mut W,
+) -> Result<Done<A>, JobFault>
+    requires range { IsInRange command.now }
+    requires page { writes_a_page command.now ≡ true }
+    ensures done { IsDone P.rest P.failed P.called plan.old plan.new
+        (input Q.rest Q.failed Q.called risks.old risks.new)
+        (input R.rest R.failed R.called old.old old.new)
+        (output W.taken out.old out.new) command.now result }
+    ensures mark { W.failed out.new ≡ mark_after (W.failed out.old) result }
+    ensures plan_calls { CallsAtMost P.called source_calls plan.old plan.new }
+    ensures risks_calls { CallsAtMost Q.called source_calls risks.old risks.new }
+    ensures old_calls { CallsAtMost R.called source_calls old.old old.new }
+{
+    match command {
+        Command::Page {
+            plan: file,
+            limit,
+            spare,
+            risks: named,
+            old: before,
+            code,
+            ..
+        } => {
+            let (limit, spare) = (*limit, *spare);
+            let limits = Limits { limit, spare };
+            let has_risks = named.is_some();
+            let has_old = before.is_some();
+            let asked = PageRequest::of(file, limits, code, has_risks, has_old);
+            Ok(Done::Paged(page_job(alloc, plan, risks, old, asked, out)?))
         }
         _ => unreachable!(),
     }

@@ -258,12 +258,13 @@ impl JobFault {
         }
     }
 
-    /// A fault of one of the two plans of a change or an order.
+    /// A fault of the text of a plan.
     pub(crate) fn of_plan(which: Which, fault: PlanFault) -> JobFault
         ensures { result ≡ fault_of which fault }
     {
         match JobFault::from(fault) {
             JobFault::Plan(fault) => match which {
+                Which::This => JobFault::Plan(fault),
                 Which::Old => JobFault::OldPlan(fault),
                 Which::New => JobFault::NewPlan(fault),
             },

@@ -2,8 +2,8 @@
 ghost use Rattle.std.specs.Prelude.{◌≡◌, IfOk, IfErr};
 ghost use Rattle.tx_text.specs.Calls.{CallsAtMost, source_calls};
 ghost use Rattle.tx_text.specs.Ends.{input};
-ghost use Rattle.tx_jobs.specs.TwoPlans.{SaysWhole, GivesNoPlan, join_fault, AreNotJoined};
-ghost use Rattle.tx_jobs.specs.inner.TwoPlans.{fault_of, AreReadAndJoined, IsJoinOf, IsNoJoinOf};
+ghost use Rattle.tx_jobs.specs.TwoPlans.{SaysWhole, GivesNoPlan, join_fault, IsNoJoinOf, AreNotJoined};
+ghost use Rattle.tx_jobs.specs.inner.TwoPlans.{fault_of, AreReadAndJoined, IsJoinOf};
 
 use crate::job_fault::JobFault;
 use std::alloc::{Allocator, Global};
@@ -13,9 +13,11 @@ use tx_plan::Plan;
 use tx_plantext::read_plan;
 use tx_text::Source;
 
-/// Which of the two plans of a change or an order.
+/// Which plan a text says: the one that a command is about, or the old or the new one of a change
+/// or an order.
 #[derive(Clone, Copy, Debug)]
 pub(crate) enum Which {
+    This,
     Old,
     New,
 }
@@ -48,9 +50,9 @@ impl<A: Allocator> TwoPlans<A> {
 
 /// A plan, and the text that says it.
 #[derive(Debug, Drop)]
-struct PlanText<A: Allocator = Global> {
-    text: Vec<u8, A>,
-    plan: Plan<A>,
+pub(crate) struct PlanText<A: Allocator = Global> {
+    pub text: Vec<u8, A>,
+    pub plan: Plan<A>,
 }
 
 /// Reads an old plan and then a new one, each to the end of its text, and joins them.
@@ -73,8 +75,8 @@ pub(crate) fn read_plans<A: Allocator + Copy, P: Source, Q: Source>(
     join_plans(alloc, old, new)
 }
 
-/// Reads one of the two plans, to the end of its text.
-fn read_whole<A: Allocator + Copy, S: Source>(
+/// Reads a plan, to the end of its text.
+pub(crate) fn read_whole<A: Allocator + Copy, S: Source>(
     alloc: A,
     which: Which,
     source: &mut S,
@@ -105,13 +107,30 @@ fn join_plans<A: Allocator + Copy>(
     ensures refused { IfErr result (IsNoJoinOf old.text.items new.text.items
         old.plan new.plan) }
 {
-    match join(alloc, &old.plan, &new.plan) {
+    match joined_of(alloc, &old, &new) {
         Ok(joined) => Ok(TwoPlans {
             old: old.plan,
             new: new.plan,
             joined,
         }),
-        Err(refusal) => Err(join_fault(refusal, &old.text, &new)),
+        Err(fault) => Err(fault),
+    }
+}
+
+/// Both plans over their joined network.
+pub(crate) fn joined_of<A: Allocator + Copy>(
+    alloc: A,
+    old: &PlanText<A>,
+    new: &PlanText<A>,
+) -> Result<Joined<A>, JobFault>
+    ensures joined { IfOk result (λ j. IsJoinOf old.now.plan new.now.plan
+        (record { old = old.now.plan; new = new.now.plan; joined = j })) }
+    ensures refused { IfErr result (IsNoJoinOf old.now.text.items new.now.text.items
+        old.now.plan new.now.plan) }
+{
+    match join(alloc, &old.plan, &new.plan) {
+        Ok(joined) => Ok(joined),
+        Err(refusal) => Err(join_fault(refusal, &old.text, new)),
     }
 }
 

@@ -4,19 +4,25 @@ use std::alloc::Allocator;
 use tx_jobs::JobFault;
 use tx_text::{FrameReader, FrameStep, FromRead};
 
-/// A kind of text that the program reads.
+/// A kind of text that the program reads or writes.
 #[derive(Clone, Copy, Debug, PartialEq, Eq)]
 pub(crate) enum TextKind {
     Plan,
     Cert,
     Script,
     Risks,
+    Page,
 }
 
 /// The kinds of the files that a command makes, in the order in which it makes them.
-pub(crate) const MADE: [TextKind; 3] = [TextKind::Plan, TextKind::Cert, TextKind::Script];
+pub(crate) const MADE: [TextKind; 4] = [
+    TextKind::Plan,
+    TextKind::Cert,
+    TextKind::Script,
+    TextKind::Page,
+];
 
-/// All kinds.
+/// The kinds that a header shows.
 const KINDS: [TextKind; 4] = [
     TextKind::Plan,
     TextKind::Cert,
@@ -25,13 +31,14 @@ const KINDS: [TextKind; 4] = [
 ];
 
 impl TextKind {
-    /// The word that begins its header, and the greatest version of it.
-    fn header(self) -> (&'static [u8], u8) {
+    /// The word that begins its header, and the greatest version of it. A page has none.
+    fn header(self) -> Option<(&'static [u8], u8)> {
         match self {
-            TextKind::Plan => (b"PLAN", 2),
-            TextKind::Cert => (b"CERT", 1),
-            TextKind::Script => (b"SCRIPT", 1),
-            TextKind::Risks => (b"RISKS", 1),
+            TextKind::Plan => Some((b"PLAN", 2)),
+            TextKind::Cert => Some((b"CERT", 1)),
+            TextKind::Script => Some((b"SCRIPT", 1)),
+            TextKind::Risks => Some((b"RISKS", 1)),
+            TextKind::Page => None,
         }
     }
 
@@ -42,6 +49,7 @@ impl TextKind {
             TextKind::Cert => "certificate",
             TextKind::Script => "script",
             TextKind::Risks => "text of risks",
+            TextKind::Page => "page",
         }
     }
 
@@ -53,10 +61,12 @@ impl TextKind {
         folder: &F,
         name: &str,
     ) -> Result<bool, JobFault> {
+        let Some((key, most)) = self.header() else {
+            return Ok(false);
+        };
         let Ok(file) = folder.open(name) else {
             return Ok(false);
         };
-        let (key, most) = self.header();
         let Ok(mut frame) = FrameReader::new(alloc, key, most) else {
             return Err(JobFault::NoMemory);
         };

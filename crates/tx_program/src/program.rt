@@ -7,11 +7,13 @@ ghost use Rattle.tx_commands.specs.Faults.{status_of as words_status};
 use crate::ends::{FailedRead, Output};
 use crate::folder::Folder;
 use crate::input::Inputs;
+use crate::new_file::NewFile;
 use crate::output_files::write_files;
 use crate::stop::{Place, Stop, write_stop};
-use crate::targets::Targets;
+use crate::targets::{PAGE, Target, Targets};
 use crate::tell::{announce_input, tell_words};
 use std::alloc::{Allocator, Global};
+use std::io;
 use std::io::{IsTerminal, Read, Write};
 use tx_commands::{Command, Files, WordsFault, read_command};
 use tx_jobs::{JobFault, Outcome, do_command, write_fault};
@@ -111,8 +113,7 @@ fn tell_stop<A: Allocator, E: Write + Drop>(
 }
 
 /// Opens the files of a command, sees that those to be made take the place of no others, does its
-/// job, and lets its output out. Answers the exit status. An output that fails is reported before
-/// any other fault.
+/// job, and lets its output out. Answers the exit status.
 pub(crate) fn perform<A: Allocator + Copy, F: Folder, I: Read + Drop, O: Write + Drop>(
     alloc: A,
     command: &Command,
@@ -126,17 +127,112 @@ pub(crate) fn perform<A: Allocator + Copy, F: Folder, I: Read + Drop, O: Write +
     let inputs = Inputs::open(files.reads, folder, input)?;
     let targets = Targets::of(files, folder);
     targets.require_free(alloc, folder)?;
+    do_into(alloc, command, inputs, &targets, folder, output)
+}
+
+/// Does the job of a command over its files, which are open, into the output or into the file of
+/// its page.
+fn do_into<A: Allocator + Copy, F: Folder, I: Read + Drop, O: Write + Drop>(
+    alloc: A,
+    command: &Command,
+    inputs: Inputs<I, F::Input>,
+    targets: &Targets<'_>,
+    folder: &F,
+    output: O,
+) -> Result<u8, Stop>
+    requires { IsInRange command.now }
+{
+    match targets.get(PAGE, folder) {
+        Ok(None) => do_and_let_out(
+            alloc,
+            command,
+            inputs,
+            targets,
+            folder,
+            output,
+            Place::Output,
+        ),
+        Ok(Some(target)) => {
+            drop(output);
+            make_page(alloc, command, inputs, targets, folder, target)
+        }
+        Err(stop) => Err(stop),
+    }
+}
+
+/// Makes the file of a page: whole, or not at all.
+fn make_page<A: Allocator + Copy, F: Folder, I: Read + Drop>(
+    alloc: A,
+    command: &Command,
+    inputs: Inputs<I, F::Input>,
+    targets: &Targets<'_>,
+    folder: &F,
+    target: Target<'_>,
+) -> Result<u8, Stop>
+    requires { IsInRange command.now }
+{
+    let mut file = NewFile::new(folder, target);
+    let done = do_and_let_out(
+        alloc,
+        command,
+        inputs,
+        targets,
+        folder,
+        &mut file,
+        target.place(),
+    );
+    match done {
+        Ok(status) => match file.finish() {
+            Ok(()) => Ok(status),
+            Err(error) => Err(Stop::Write(target.place(), error)),
+        },
+        Err(stop) => {
+            file.give_up();
+            Err(stop)
+        }
+    }
+}
+
+/// Does the job of a command over its files, which are open, and lets out the output, which is at
+/// this place.
+fn do_and_let_out<A: Allocator + Copy, F: Folder, I: Read + Drop, O: Write + Drop>(
+    alloc: A,
+    command: &Command,
+    inputs: Inputs<I, F::Input>,
+    targets: &Targets<'_>,
+    folder: &F,
+    output: O,
+    place: Place,
+) -> Result<u8, Stop>
+    requires { IsInRange command.now }
+{
     let output = Output::new(alloc, output)?;
-    let done = carry_out(alloc, command, inputs, &targets, folder, &output);
+    let done = carry_out(alloc, command, inputs, targets, folder, &output);
+    let_out(done, &output, place)
+}
+
+/// What a command came to, once its output is out. An output that fails is reported before any
+/// other fault.
+fn let_out<A: Allocator, O: Write + Drop>(
+    done: Result<u8, Stop>,
+    output: &Output<O, A>,
+    place: Place,
+) -> Result<u8, Stop> {
     if output.let_out().is_err() {
-        return Err(match output.take_failure() {
-            Some(error) => Stop::Write(Place::Output, error),
-            None => Stop::Job(JobFault::Write),
-        });
+        drop(done);
+        return Err(failed_write(place, output.take_failure()));
     }
     match done {
         Err(Stop::Job(JobFault::Read)) => Err(failed_read(output.take_failed_read())),
         done => done,
+    }
+}
+
+/// Why the output at a place failed: what the system said, if that is known.
+fn failed_write(place: Place, failure: Option<io::Error>) -> Stop {
+    match failure {
+        Some(error) => Stop::Write(place, error),
+        None => Stop::Job(JobFault::Write),
     }
 }
 

@@ -135,6 +135,10 @@ fn write_job_fault<W: Sink>(
             JobFault::NoSuchCode,
             Command::Trace { code, .. }
             | Command::Fill { code, .. }
+            | Command::Page {
+                code: Some(code),
+                ..
+            }
             | Command::Draw {
                 routes: Some((code, _)),
                 ..

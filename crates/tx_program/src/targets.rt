@@ -10,11 +10,14 @@ use crate::stop::{Place, Stop};
 use std::alloc::Allocator;
 use tx_commands::Files;
 
+/// The index of a page among the files that a command makes.
+pub(crate) const PAGE: usize = 3;
+
 /// The files that a command makes, by their names, and the files that it reads.
 #[derive(Clone, Copy, Debug)]
 pub(crate) struct Targets<'n> {
     read: [Option<KnownFile<'n>>; 3],
-    names: [Option<&'n str>; 3],
+    names: [Option<&'n str>; 4],
 }
 
 /// The name of a file that is none of the other files of its command.
@@ -47,7 +50,7 @@ impl<'n> Targets<'n> {
     ) -> Result<(), Stop> {
         let made = self.made(folder);
         self.require_apart(&made)?;
-        for i in 0..3usize {
+        for i in 0..4usize {
             if let Some(file) = made[i] {
                 require_kind(alloc, file, MADE[i], folder)?;
             }
@@ -56,12 +59,13 @@ impl<'n> Targets<'n> {
     }
 
     /// The files to be made.
-    fn made<F: Folder>(&self, folder: &F) -> [Option<KnownFile<'n>>; 3] {
-        let [plan, cert, script] = self.names;
+    fn made<F: Folder>(&self, folder: &F) -> [Option<KnownFile<'n>>; 4] {
+        let [plan, cert, script, page] = self.names;
         [
             identify_target(Place::Made(0), plan, folder),
             identify_target(Place::Made(1), cert, folder),
             identify_target(Place::Made(2), script, folder),
+            identify_target(Place::Made(3), page, folder),
         ]
     }
 
@@ -81,7 +85,7 @@ impl<'n> Targets<'n> {
         index: usize,
         folder: &F,
     ) -> Result<Option<Target<'n>>, Stop>
-        requires { index < 3 }
+        requires { index < 4 }
     {
         let Some(name) = self.names[index] else {
             return Ok(None);

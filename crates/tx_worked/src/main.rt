@@ -18,10 +18,12 @@
 //!   first finding that has a walk, and its script. `order L K` has an old plan and a new one, and
 //!   `stage L K N` writes after its report the plan after stage N and its certificate. `mend L K`
 //!   has a plan, and writes after its report the mended plan and its certificate. `change`, `order`
-//!   and `mend` may have `--old` after their numbers. `trace EXCHANGE CODE` has a plan, and
-//!   `lint FILE` one that is named so. `survive` has a plan and a text of risks, and `survive
-//!   alone` a plan. Each is played by sources of 1, 2, 7 and 4,096 bytes a call, which has to make
-//!   no difference. `draw`, `draw CODE` and `draw CODE L K` have a plan.
+//!   and `mend` may have `--old` after their numbers. `trace EXCHANGE CODE` has a plan, and `lint
+//!   FILE` one that is named so. `survive` has a plan and a text of risks, and `survive alone` a
+//!   plan. `page FILE L K` has a plan that is named so, `page-risks` a text of risks too,
+//!   `page-change` an old plan after that, and `page-code FILE L CODE` a plan of which the lists for
+//!   a code are shown, with the spare number 1. Each is played by sources of 1, 2, 7 and 4,096 bytes
+//!   a call, which has to make no difference. `draw`, `draw CODE` and `draw CODE L K` have a plan.
 //! - `pictures` and `pictures L K` have a plan, which is drawn, and each of its codes, with the
 //!   walk of the code's first finding where there are numbers.
 //! - `each-end` before such a kind also refuses each request for memory, gives each smaller room,

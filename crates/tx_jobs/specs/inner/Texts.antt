@@ -2,7 +2,7 @@
 use Rattle.std.specs.Prelude.{Bool, true, false, None}
 use Rattle.tx_text.specs.Ends.{Input}
 use Rattle.tx_commands.specs.declared.command.Command.{Command}
-use Rattle.tx_commands.specs.declared.command.Command.TheVariants.{Pipe, Run, RunTelling, Check, Lint, Change, Order, Survive, Trace, TraceGroup, Fill}
+use Rattle.tx_commands.specs.declared.command.Command.TheVariants.{Pipe, Run, RunTelling, Check, Lint, Change, Order, Survive, Page, Trace, TraceGroup, Fill}
 
 -- where a command is over no further text
 abbrev pub no_text : Input
@@ -27,6 +27,11 @@ abbrev pub may_have_risks : Command → Bool
 may_have_risks (Lint plan risks) = true
 may_have_risks (Survive plan risks totals) = true
 may_have_risks other = false
+
+-- it writes a page
+abbrev pub writes_a_page : Command → Bool
+writes_a_page (Page plan limit spare risks old code html) = true
+writes_a_page other = false
 
 -- it is over calls of a plan
 abbrev pub is_of_calls : Command → Bool

@@ -4,19 +4,19 @@ use Rattle.tx_text.specs.declared.frame.FaultAt.{FaultAt}
 use Rattle.tx_text.specs.Ends.{Input}
 use Rattle.tx_plan.specs.Plan.{Plan}
 use Rattle.tx_plantext.specs.declared.fault.PlanWord.{PlanWord}
-use Rattle.tx_join.specs.declared.refusal.JoinRefusal.{JoinRefusal}
 use Rattle.tx_join.specs.Joined.{joined_old, joined_new}
-use Rattle.tx_join.specs.Refusals.{join_refusal, IsRefusedAs}
+use Rattle.tx_join.specs.Refusals.{join_refusal}
 use Rattle.tx_join.specs.Laws.{AreOverBoth, HaveTheirLists}
 use Rattle.tx_jobs.specs.declared.job_fault.JobFault.{JobFault}
-use Rattle.tx_jobs.specs.JobFaults.{old_plan_fault, new_plan_fault}
+use Rattle.tx_jobs.specs.JobFaults.{plan_fault, old_plan_fault, new_plan_fault}
 use Rattle.tx_jobs.specs.declared.two_plans.TwoPlans.{TwoPlans}
 use Rattle.tx_jobs.specs.declared.two_plans.Which.{Which}
-use Rattle.tx_jobs.specs.declared.two_plans.Which.TheVariants.{Old, New}
-use Rattle.tx_jobs.specs.TwoPlans.{SaysWhole, join_fault}
+use Rattle.tx_jobs.specs.declared.two_plans.Which.TheVariants.{This, Old, New}
+use Rattle.tx_jobs.specs.TwoPlans.{SaysWhole}
 
--- a fault of the text of one of the two plans
+-- a fault of the text of this plan, or of the old or the new one
 abbrev pub fault_of : Which → FaultAt PlanWord → JobFault
+fault_of This = plan_fault
 fault_of Old = old_plan_fault
 fault_of New = new_plan_fault
 
@@ -37,9 +37,3 @@ pub record AreReadAndJoined {A : Type 0} (old new : Input) (plans : TwoPlans A) 
   pub old_says : SaysWhole old old_text plans.old
   pub new_says : SaysWhole new new_text plans.new
   pub joined : IsJoinOf plans.old plans.new plans
-
--- they have no joined network
-pub record IsNoJoinOf (t u : List ℕ) (p q : Plan) (fault : JobFault) : Type 0 where
-  pub refusal : JoinRefusal
-  pub refused : IsRefusedAs p q refusal
-  pub told : fault ≡ join_fault t u q refusal

@@ -9,7 +9,7 @@ use tx_commands::{Command, Files, WordsFault, read_command};
 /// The words of a command by the kind of its case and, where it matters, the word after the kind.
 /// `@1`, `@2` and `@3` stand for the words after the kind: where there is no such word, what has it
 /// is left out. All that a command can print and make is asked for.
-static COMMANDS: [(&str, &str, &str); 25] = [
+static COMMANDS: [(&str, &str, &str); 29] = [
     ("pipe", "", ""),
     ("run", "", "run plan script"),
     (
@@ -62,6 +62,18 @@ static COMMANDS: [(&str, &str, &str); 25] = [
         "survive plan --risks=risks --risks-only --totals",
     ),
     ("survive", "", "survive plan --risks=risks"),
+    ("page", "", "page @1 --limit=@2 --spare=@3"),
+    (
+        "page-risks",
+        "",
+        "page @1 --limit=@2 --spare=@3 --risks=risks",
+    ),
+    (
+        "page-change",
+        "",
+        "page @1 --limit=@2 --spare=@3 --risks=risks --from=old",
+    ),
+    ("page-code", "", "page @1 --limit=@2 --spare=1 --code=@3"),
     ("grade", "", "grade plan"),
     ("trace", "group", "trace plan --group=@2"),
     ("trace", "", "trace plan @1 @2 --down=@3"),

@@ -18,4 +18,6 @@ returns c =
     c.with_command-program-3.ensures in
     let survive = one_more _ _ _ _ _ order c.survive_grammar.ensures refl
     c.with_command-4.ensures in
-    one_more _ _ _ _ _ survive c.check_grammar.ensures refl c.with_command-5.ensures
+    let page = one_more _ _ _ _ _ survive c.page_grammar.ensures refl
+    c.with_command-program-4.ensures in
+    one_more _ _ _ _ _ page c.check_grammar.ensures refl c.with_command-5.ensures

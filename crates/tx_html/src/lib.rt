@@ -1,0 +1,11 @@
+//! Pages of HTML, on which no text of a plan is markup.
+#![tactic(auto)]
+
+mod escaped;
+mod law;
+mod page_sink;
+mod part;
+
+pub use law::no_text_is_markup;
+pub use page_sink::{PageSink, set};
+pub use part::Part;

@@ -1,0 +1,2 @@
+pub mod StepsOfWalks
+pub mod Sums

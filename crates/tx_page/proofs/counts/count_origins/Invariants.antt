@@ -1,0 +1,8 @@
+use Rattle.std.proofs.Common.{◌≡◌, ◌≤◌, length, take}
+use Rattle.std.specs.Prelude.{count_by}
+use Rattle.std.specs.List.{range_with_len}
+use Rattle.tx_plan.specs.Routes.{is_origin}
+use Rattle.tx_page.proofs.counts.count_origins.Given as goal
+
+abbrev pub invariant-loop-index : goal.invariant-loop-index
+invariant-loop-index g l = (l.count ≡ count_by (is_origin l.plan) (take l.index (range_with_len 0 (length l.plan.exchanges)))) × (l.count ≤ l.index)

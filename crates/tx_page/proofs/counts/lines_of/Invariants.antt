@@ -1,0 +1,7 @@
+use Rattle.std.proofs.Common.{◌≡◌, ◌≤◌, ◌*◌, take}
+use Rattle.std.specs.Prelude.{sum_by}
+use Rattle.tx_page.specs.Heading.{code_lines}
+use Rattle.tx_page.proofs.counts.lines_of.Given as goal
+
+abbrev pub invariant-loop-index : goal.invariant-loop-index
+invariant-loop-index g l = (l.count ≡ sum_by (code_lines l.code) (take l.index l.plan.ranges)) × (l.count ≤ l.index * 1000000000)

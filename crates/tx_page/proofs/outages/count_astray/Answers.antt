@@ -1,0 +1,13 @@
+use Rattle.std.proofs.Common.{◌∙◌, rules, tests}
+use Rattle.std.proofs.lemmas.Iterator.{YieldsList-from_slice}
+use Rattle.std.proofs.lemmas.Iterator.Consumers.{YieldsList-from_filter, count_from_yields_List}
+use Rattle.std.proofs.lemmas.List.Sums.{length-filter}
+use Rattle.tx_risk.specs.declared.cut.Cut.{Cut}
+use Rattle.tx_page.proofs.outages.count_astray.Goals as goal
+
+pub returns : goal.returns
+returns g c =
+    let test = λ (k : Cut g.row.A.Denot). k.stray in
+    count_from_yields_List c.filter.result _ c.count.ensures.ran
+    (YieldsList-from_filter _ test (YieldsList-from_slice c.args.cuts.now cc) c.filter.ensures.closure (λ x r q k. search (rules, tests)))
+    ∙ length-filter test c.args.cuts.now

@@ -1,0 +1,136 @@
+// The codes of a plan.
+ghost use Rattle.std.specs.Prelude.{[], ◌∷◌, decimal};
+ghost use Rattle.tx_plan.specs.Plan.{exchange_name, figures_of, home_of};
+ghost use Rattle.tx_html.specs.Shows.{Showed};
+ghost use Rattle.tx_page.specs.Heading.{lines_of};
+ghost use Rattle.tx_page.specs.CodeTexts.{bounds_texts, code_texts, codes_texts};
+
+use crate::counts::lines_of;
+use std::alloc::Allocator;
+use tx_html::{PageSink, Part, set};
+use tx_plan::{CodeId, Plan};
+use tx_rank::{Bounds, Grade};
+use tx_text::WriteFault;
+
+const HEAD: &str = "<h2>Codes</h2><div class=\"t\"><table><thead><tr><th scope=\"col\">Code</th>\
+<th scope=\"col\">Home</th><th scope=\"col\" class=\"k\">Lines</th><th scope=\"col\" \
+class=\"k\">Least limit</th><th scope=\"col\" class=\"k\">Greatest spare</th><th scope=\"col\" \
+class=\"k\">Groups on a way, at most</th></tr></thead><tbody>";
+
+/// Writes the table of codes, each linked to its picture if all have one.
+pub fn write_codes<A: Allocator, W: PageSink>(
+    plan: &Plan<A>,
+    grade: &Grade<A>,
+    linked: bool,
+    sink: &mut W,
+) -> Result<(), WriteFault>
+    ensures { Showed W.seen sink.old sink.new
+        (codes_texts plan.now grade.now.codes.items) result }
+{
+    set(&[Part::Own(HEAD)], sink)?;
+    write_rows(plan, &grade.codes, linked, sink)?;
+    set(&[Part::Own("</tbody></table></div>")], sink)
+}
+
+fn write_rows<A: Allocator, W: PageSink>(
+    plan: &Plan<A>,
+    grades: &[(CodeId, Option<Bounds>)],
+    linked: bool,
+    sink: &mut W,
+) -> Result<(), WriteFault>
+    ensures { Showed W.seen sink.old sink.new (codes_texts plan.now grades.now) result }
+{
+    for i in 0..grades.len() {
+        write_row(plan, grades[i], linked, sink)?;
+    }
+    Ok(())
+}
+
+fn write_row<A: Allocator, W: PageSink>(
+    plan: &Plan<A>,
+    grade: (CodeId, Option<Bounds>),
+    linked: bool,
+    sink: &mut W,
+) -> Result<(), WriteFault>
+    ensures { Showed W.seen sink.old sink.new (code_texts plan.now grade) result }
+{
+    write_code(plan, grade.0, linked, sink)?;
+    write_bounds(grade.1, sink)
+}
+
+fn write_code<A: Allocator, W: PageSink>(
+    plan: &Plan<A>,
+    code: CodeId,
+    linked: bool,
+    sink: &mut W,
+) -> Result<(), WriteFault>
+    ensures { Showed W.seen sink.old sink.new
+        (figures_of plan.now code ∷ exchange_name plan.now (home_of plan.now code)
+        ∷ decimal (lines_of plan.now code) ∷ []) result }
+{
+    write_figures(plan, code, linked, sink)?;
+    set(
+        &[
+            Part::Own("</th><td>"),
+            Part::Text(plan.exchange_name(plan.home(code))),
+            Part::Own("</td><td class=\"k\">"),
+            Part::Count(lines_of(plan, code)),
+        ],
+        sink,
+    )
+}
+
+/// Writes the figures of a code, which may be a link to its picture.
+fn write_figures<A: Allocator, W: PageSink>(
+    plan: &Plan<A>,
+    code: CodeId,
+    linked: bool,
+    sink: &mut W,
+) -> Result<(), WriteFault>
+    ensures { Showed W.seen sink.old sink.new (figures_of plan.now code ∷ []) result }
+{
+    let figures = plan.code_figures(code);
+    if !linked {
+        return set(
+            &[Part::Own("<tr><th scope=\"row\">"), Part::Text(figures)],
+            sink,
+        );
+    }
+    set(
+        &[
+            Part::Own("<tr><th scope=\"row\"><a href=\"#c"),
+            Part::Place(code.index() as u64),
+            Part::Own("\">"),
+            Part::Text(figures),
+            Part::Own("</a>"),
+        ],
+        sink,
+    )
+}
+
+fn write_bounds<W: PageSink>(bounds: Option<Bounds>, sink: &mut W) -> Result<(), WriteFault>
+    ensures { Showed W.seen sink.old sink.new (bounds_texts bounds) result }
+{
+    match bounds {
+        Some(bounds) => set(
+            &[
+                Part::Own("</td><td class=\"k\">"),
+                Part::Count(u64::from(bounds.limit)),
+                Part::Own("</td><td class=\"k\">"),
+                Part::Count(u64::from(bounds.spare)),
+                Part::Own("</td><td class=\"k\">"),
+                Part::Count(u64::from(bounds.limit) + 1),
+                Part::Own("</td></tr>"),
+            ],
+            sink,
+        ),
+        None => set(
+            &[
+                Part::Own("</td><td colspan=\"3\" class=\"warn\">"),
+                Part::Text(b"no grade"),
+                Part::Own("</td></tr>"),
+            ],
+            sink,
+        ),
+    }
+}

@@ -1,0 +1,258 @@
+// What is wrong with a plan.
+ghost use Rattle.std.specs.Prelude.{[], ◌∷◌, map};
+ghost use Rattle.tx_plan.specs.Plan.{figures_of, group_name};
+ghost use Rattle.tx_html.specs.Shows.{Showed};
+ghost use Rattle.tx_page.specs.WrongTexts.{step_texts, steps_texts, walk_texts, loop_texts, short_texts, long_texts, finding_texts, findings_texts, wrong_texts};
+
+use crate::walks::{end_of, listed_before, start_of, steps_of};
+use std::alloc::Allocator;
+use tx_html::{PageSink, Part, set};
+use tx_plan::{CodeId, ExchangeId, GroupId, Limits, Plan};
+use tx_rank::{Finding, Ranking, Walk};
+use tx_svg::write_groups;
+use tx_text::WriteFault;
+
+/// Writes what is wrong, if anything is.
+pub fn write_wrong<A: Allocator, W: PageSink>(
+    plan: &Plan<A>,
+    ranking: &Ranking<A>,
+    limits: Limits,
+    sink: &mut W,
+) -> Result<(), WriteFault>
+    ensures { Showed W.seen sink.old sink.new
+        (wrong_texts plan.now limits.spare ranking.now) result }
+{
+    match ranking {
+        Ranking::Found(_) => Ok(()),
+        Ranking::Fails(findings) => write_findings(plan, findings, limits, sink),
+    }
+}
+
+/// Writes each finding in a sentence, with its walk.
+fn write_findings<A: Allocator, W: PageSink>(
+    plan: &Plan<A>,
+    findings: &[Finding<A>],
+    limits: Limits,
+    sink: &mut W,
+) -> Result<(), WriteFault>
+    ensures { Showed W.seen sink.old sink.new
+        (findings_texts plan.now limits.spare findings.now) result }
+{
+    set(&[Part::Own("<h2>What is wrong</h2><ol class=\"f\">")], sink)?;
+    write_all(plan, findings, limits, sink)?;
+    set(&[Part::Own("</ol>")], sink)
+}
+
+fn write_all<A: Allocator, W: PageSink>(
+    plan: &Plan<A>,
+    findings: &[Finding<A>],
+    limits: Limits,
+    sink: &mut W,
+) -> Result<(), WriteFault>
+    ensures { Showed W.seen sink.old sink.new
+        (findings_texts plan.now limits.spare findings.now) result }
+{
+    for i in 0..findings.len() {
+        write_finding(plan, &findings[i], limits, sink)?;
+    }
+    Ok(())
+}
+
+fn write_finding<A: Allocator, W: PageSink>(
+    plan: &Plan<A>,
+    finding: &Finding<A>,
+    limits: Limits,
+    sink: &mut W,
+) -> Result<(), WriteFault>
+    ensures { Showed W.seen sink.old sink.new
+        (finding_texts plan.now limits.spare finding.now) result }
+{
+    match finding {
+        Finding::Ambiguous(shorter, longer) => write_pair(plan, *shorter, *longer, sink),
+        Finding::Loop(code, walk) => write_loop(plan, *code, walk, sink),
+        Finding::Short(code, walk) => write_short(plan, *code, walk, limits.spare, sink),
+        Finding::Long(code, walk) => write_long(plan, *code, walk, sink),
+    }
+}
+
+fn write_pair<A: Allocator, W: PageSink>(
+    plan: &Plan<A>,
+    shorter: CodeId,
+    longer: CodeId,
+    sink: &mut W,
+) -> Result<(), WriteFault>
+    ensures { Showed W.seen sink.old sink.new
+        (figures_of plan.now shorter ∷ figures_of plan.now longer ∷ []) result }
+{
+    set(
+        &[
+            Part::Own("<li>Code "),
+            Part::Text(plan.code_figures(shorter)),
+            Part::Own(" begins code "),
+            Part::Text(plan.code_figures(longer)),
+            Part::Own(", so an exchange cannot tell them by their first figures.</li>"),
+        ],
+        sink,
+    )
+}
+
+fn write_loop<A: Allocator, W: PageSink>(
+    plan: &Plan<A>,
+    code: CodeId,
+    walk: &Walk<A>,
+    sink: &mut W,
+) -> Result<(), WriteFault>
+    ensures { Showed W.seen sink.old sink.new (loop_texts plan.now code walk.now) result }
+{
+    set(
+        &[
+            Part::Own("<li>A call for "),
+            Part::Text(plan.code_figures(code)),
+            Part::Own(" can come back to "),
+            Part::Text(plan.exchange_name(end_of(walk))),
+            Part::Own("."),
+        ],
+        sink,
+    )?;
+    write_walk(plan, code, walk, &[], sink)
+}
+
+fn write_short<A: Allocator, W: PageSink>(
+    plan: &Plan<A>,
+    code: CodeId,
+    walk: &Walk<A>,
+    spare: u8,
+    sink: &mut W,
+) -> Result<(), WriteFault>
+    ensures { Showed W.seen sink.old sink.new
+        (short_texts plan.now spare code walk.now) result }
+{
+    let end = end_of(walk);
+    let list = plan.list(end, code);
+    set(
+        &[
+            Part::Own("<li>A call for "),
+            Part::Text(plan.code_figures(code)),
+            Part::Own(" can come to "),
+            Part::Text(plan.exchange_name(end)),
+            Part::Own(", which does not have more groups to try than are to spare: it has "),
+            Part::Count(list.len() as u64),
+            Part::Own(", and the spare number is "),
+            Part::Count(u64::from(spare)),
+            Part::Own("."),
+        ],
+        sink,
+    )?;
+    write_walk(plan, code, walk, list, sink)
+}
+
+fn write_long<A: Allocator, W: PageSink>(
+    plan: &Plan<A>,
+    code: CodeId,
+    walk: &Walk<A>,
+    sink: &mut W,
+) -> Result<(), WriteFault>
+    ensures { Showed W.seen sink.old sink.new (long_texts plan.now code walk.now) result }
+{
+    set(
+        &[
+            Part::Own("<li>A call for "),
+            Part::Text(plan.code_figures(code)),
+            Part::Own(" can go by "),
+            Part::Count(steps_of(walk).len() as u64),
+            Part::Own(" groups as far as "),
+            Part::Text(plan.exchange_name(end_of(walk))),
+            Part::Own(" and not be at its home "),
+            Part::Text(plan.exchange_name(plan.home(code))),
+            Part::Own("."),
+        ],
+        sink,
+    )?;
+    write_walk(plan, code, walk, &[], sink)
+}
+
+/// Writes a walk as boxes with arrows. Below each exchange are the groups that have no free circuit
+/// while the call stands there: those before the one by which it goes on, and where it ends these.
+fn write_walk<A: Allocator, W: PageSink>(
+    plan: &Plan<A>,
+    code: CodeId,
+    walk: &Walk<A>,
+    full: &[GroupId],
+    sink: &mut W,
+) -> Result<(), WriteFault>
+    ensures { Showed W.seen sink.old sink.new
+        (walk_texts plan.now code walk.now full.now) result }
+{
+    set(&[Part::Own("<ol class=\"w\">")], sink)?;
+    write_steps(plan, code, start_of(walk), steps_of(walk), sink)?;
+    write_full(plan, full, sink)?;
+    set(&[Part::Own("</li></ol></li>")], sink)
+}
+
+/// Writes the steps of a walk, and the exchange where it ends.
+fn write_steps<A: Allocator, W: PageSink>(
+    plan: &Plan<A>,
+    code: CodeId,
+    start: ExchangeId,
+    steps: &[(GroupId, ExchangeId)],
+    sink: &mut W,
+) -> Result<(), WriteFault>
+    ensures { Showed W.seen sink.old sink.new
+        (steps_texts plan.now code start steps.now) result }
+{
+    let mut at = start;
+    for i in 0..steps.len() {
+        let step = steps[i];
+        write_step(plan, code, at, step.0, sink)?;
+        at = step.1;
+    }
+    set(
+        &[
+            Part::Own("<li><b>"),
+            Part::Text(plan.exchange_name(at)),
+            Part::Own("</b>"),
+        ],
+        sink,
+    )
+}
+
+fn write_step<A: Allocator, W: PageSink>(
+    plan: &Plan<A>,
+    code: CodeId,
+    from: ExchangeId,
+    group: GroupId,
+    sink: &mut W,
+) -> Result<(), WriteFault>
+    ensures { Showed W.seen sink.old sink.new
+        (step_texts plan.now code from group) result }
+{
+    set(
+        &[
+            Part::Own("<li><b>"),
+            Part::Text(plan.exchange_name(from)),
+            Part::Own("</b><span>"),
+            Part::Text(plan.group_name(group)),
+            Part::Own("</span>"),
+        ],
+        sink,
+    )?;
+    write_full(plan, listed_before(plan.list(from, code), group), sink)?;
+    set(&[Part::Own("</li>")], sink)
+}
+
+/// Writes that these groups have no free circuit, if there are any.
+fn write_full<A: Allocator, W: PageSink>(
+    plan: &Plan<A>,
+    groups: &[GroupId],
+    sink: &mut W,
+) -> Result<(), WriteFault>
+    ensures { Showed W.seen sink.old sink.new
+        (map (group_name plan.now) groups.now) result }
+{
+    if groups.is_empty() {
+        return Ok(());
+    }
+    set(&[Part::Own("<small>without a free circuit: ")], sink)?;
+    write_groups(plan, groups, sink)?;
+    set(&[Part::Own("</small>")], sink)
+}

@@ -1,0 +1,16 @@
+//! A page about a plan: one HTML file without script, which fetches nothing.
+#![tactic(auto)]
+
+mod codes;
+mod counts;
+mod findings;
+mod heading;
+mod network;
+mod outages;
+mod page;
+mod style;
+mod subject;
+mod walks;
+
+pub use page::{is_safe, write_page};
+pub use subject::Subject;

@@ -1,0 +1,221 @@
+// What outages cut off.
+ghost use Rattle.std.specs.Prelude.{◌≡◌, [], ◌∷◌, decimal};
+ghost use Rattle.std.specs.List.{flat_map};
+ghost use Rattle.tx_html.specs.Shows.{Showed};
+ghost use Rattle.tx_page.specs.OutageTexts.{outage_kind, outage_name, cut_off, astray, cut_texts, outcome_texts, is_named, is_harmless, is_shown, shown_texts, tried_texts, outages_texts};
+
+use std::alloc::Allocator;
+use tx_html::{PageSink, Part, set};
+use tx_plan::Plan;
+use tx_risk::{Cut, Outage, Outcome, Risks};
+use tx_text::WriteFault;
+
+/// Writes each named risk, and each group and each exchange that cuts somebody off, with those that
+/// it cuts off; or that the plan has no grade.
+pub fn write_outages<A: Allocator, W: PageSink>(
+    plan: &Plan<A>,
+    risks: &Risks<A>,
+    outcomes: &[Outcome<A>],
+    graded: bool,
+    sink: &mut W,
+) -> Result<(), WriteFault>
+    ensures { Showed W.seen sink.old sink.new
+        (outages_texts plan.now risks.now outcomes.now graded) result }
+{
+    if graded {
+        write_graded(plan, risks, outcomes, sink)
+    } else {
+        set(&[Part::Own(UNGRADED)], sink)
+    }
+}
+
+/// Writes the outages of a plan that has a grade.
+fn write_graded<A: Allocator, W: PageSink>(
+    plan: &Plan<A>,
+    risks: &Risks<A>,
+    outcomes: &[Outcome<A>],
+    sink: &mut W,
+) -> Result<(), WriteFault>
+    ensures { Showed W.seen sink.old sink.new
+        (tried_texts plan.now risks.now outcomes.now) result }
+{
+    write_tried(outcomes.len(), sink)?;
+    write_outcomes(plan, risks, outcomes, sink)
+}
+
+const UNGRADED: &str = "<h2>Outages</h2><p>The plan has no grade: it is safe for no limit and no \
+spare number. So no outage was tried.</p>";
+
+fn write_tried<W: PageSink>(tried: usize, sink: &mut W) -> Result<(), WriteFault>
+    ensures { Showed W.seen sink.old sink.new (decimal tried ∷ []) result }
+{
+    set(
+        &[
+            Part::Own("<h2>Outages</h2><p>"),
+            Part::Count(tried as u64),
+            Part::Own(
+                " outages were tried: each group, each exchange and each named risk alone. Below \
+                 are the named risks, and what else cuts calls off, or may lead them astray.</p>",
+            ),
+        ],
+        sink,
+    )
+}
+
+/// Writes each outcome that is shown.
+fn write_outcomes<A: Allocator, W: PageSink>(
+    plan: &Plan<A>,
+    risks: &Risks<A>,
+    outcomes: &[Outcome<A>],
+    sink: &mut W,
+) -> Result<(), WriteFault>
+    ensures { Showed W.seen sink.old sink.new
+        (flat_map (shown_texts plan.now risks.now) outcomes.now) result }
+{
+    for i in 0..outcomes.len() {
+        write_shown(plan, risks, &outcomes[i], sink)?;
+    }
+    Ok(())
+}
+
+/// From how many starts no way is left.
+fn count_cut_off<A: Allocator>(cuts: &[Cut<A>]) -> usize
+    ensures { result ≡ cut_off cuts.now }
+{
+    cuts.iter().filter(|cut| !cut.stray).count()
+}
+
+/// From how many starts a way is left, and one that leads astray.
+fn count_astray<A: Allocator>(cuts: &[Cut<A>]) -> usize
+    ensures { result ≡ astray cuts.now }
+{
+    cuts.iter().filter(|cut| cut.stray).count()
+}
+
+/// Whether it is a named risk that fails.
+fn is_named(outage: &Outage) -> bool
+    ensures { result ≡ is_named outage.now }
+{
+    matches!(outage, Outage::Named(_))
+}
+
+/// Whether an outcome cuts nobody off.
+fn is_harmless<A: Allocator>(outcome: &Outcome<A>) -> bool
+    ensures { result ≡ is_harmless outcome.now }
+{
+    outcome.cuts.is_empty()
+}
+
+/// Whether an outcome is shown: that of a named risk, or one that cuts somebody off.
+fn is_shown<A: Allocator>(outcome: &Outcome<A>) -> bool
+    ensures { result ≡ is_shown outcome.now }
+{
+    is_named(&outcome.outage) || !is_harmless(outcome)
+}
+
+/// What kind of thing fails.
+fn kind_of(outage: &Outage) -> &'static [u8]
+    ensures { result.now ≡ outage_kind outage.now }
+{
+    match outage {
+        Outage::Group(_) => b"Group",
+        Outage::Exchange(_) => b"Exchange",
+        Outage::Named(_) => b"Risk",
+    }
+}
+
+/// The name of what fails.
+fn name_of<'a, A: Allocator>(plan: &'a Plan<A>, risks: &'a Risks<A>, outage: &Outage) -> &'a [u8]
+    ensures { result.now ≡ outage_name plan.now risks.now outage.now }
+{
+    match outage {
+        Outage::Group(group) => plan.group_name(*group),
+        Outage::Exchange(exchange) => plan.exchange_name(*exchange),
+        Outage::Named(index) => risks.name(*index),
+    }
+}
+
+/// Writes an outcome, if it is shown.
+fn write_shown<'a, A: Allocator, W: PageSink>(
+    plan: &'a Plan<A>,
+    risks: &'a Risks<A>,
+    outcome: &Outcome<A>,
+    sink: &mut W,
+) -> Result<(), WriteFault>
+    ensures { Showed W.seen sink.old sink.new
+        (shown_texts plan.now risks.now outcome.now) result }
+{
+    if is_shown(outcome) {
+        write_outcome(plan, risks, outcome, sink)
+    } else {
+        Ok(())
+    }
+}
+
+/// Writes an outage with its cuts.
+fn write_outcome<'a, A: Allocator, W: PageSink>(
+    plan: &'a Plan<A>,
+    risks: &'a Risks<A>,
+    outcome: &Outcome<A>,
+    sink: &mut W,
+) -> Result<(), WriteFault>
+    ensures { Showed W.seen sink.old sink.new
+        (outcome_texts plan.now risks.now outcome.now) result }
+{
+    set(
+        &[
+            Part::Own("<details><summary>"),
+            Part::Text(kind_of(&outcome.outage)),
+            Part::Own(" <b>"),
+            Part::Text(name_of(plan, risks, &outcome.outage)),
+            Part::Own("</b>: "),
+            Part::Count(count_cut_off(&outcome.cuts) as u64),
+            Part::Own(" cut off, "),
+            Part::Count(count_astray(&outcome.cuts) as u64),
+            Part::Own(" astray</summary><ul class=\"c\">"),
+        ],
+        sink,
+    )?;
+    write_cuts(plan, &outcome.cuts, sink)?;
+    set(&[Part::Own("</ul></details>")], sink)
+}
+
+/// Writes the cuts of an outage.
+fn write_cuts<A: Allocator, W: PageSink>(
+    plan: &Plan<A>,
+    cuts: &[Cut<A>],
+    sink: &mut W,
+) -> Result<(), WriteFault>
+    ensures { Showed W.seen sink.old sink.new
+        (flat_map (cut_texts plan.now) cuts.now) result }
+{
+    for i in 0..cuts.len() {
+        write_cut(plan, &cuts[i], sink)?;
+    }
+    Ok(())
+}
+
+fn write_cut<A: Allocator, W: PageSink>(
+    plan: &Plan<A>,
+    cut: &Cut<A>,
+    sink: &mut W,
+) -> Result<(), WriteFault>
+    ensures { Showed W.seen sink.old sink.new (cut_texts plan.now cut.now) result }
+{
+    set(
+        &[
+            Part::Own(if cut.stray {
+                "<li class=\"s\">"
+            } else {
+                "<li>"
+            }),
+            Part::Text(plan.code_figures(cut.code)),
+            Part::Own(" from "),
+            Part::Text(plan.exchange_name(cut.walk.start)),
+            Part::Own(" "),
+            Part::Text(if cut.stray { b"astray" } else { b"cut off" }),
+            Part::Own("</li>"),
+        ],
+        sink,
+    )
+}

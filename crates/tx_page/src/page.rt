@@ -1,0 +1,80 @@
+// A page.
+ghost use Rattle.std.specs.Prelude.{◌≡◌};
+ghost use Rattle.tx_html.specs.Shows.{Showed};
+ghost use Rattle.tx_page.specs.Page.{is_safe, asked_change_texts, page_texts};
+
+use crate::codes::write_codes;
+use crate::findings::write_wrong;
+use crate::heading::write_heading;
+use crate::network::write_network;
+use crate::outages::write_outages;
+use crate::subject::Subject;
+use std::alloc::Allocator;
+use tx_html::{PageSink, Part, set};
+use tx_order_page::{Change, write_change};
+use tx_rank::{Finding, Ranking};
+use tx_svg::write_pictures;
+use tx_text::WriteFault;
+
+/// Whether a certificate was found.
+pub fn is_safe<A: Allocator>(ranking: &Ranking<A>) -> bool
+    ensures { result ≡ is_safe ranking.now }
+{
+    match ranking {
+        Ranking::Found(_) => true,
+        Ranking::Fails(_) => false,
+    }
+}
+
+/// What is wrong.
+fn findings_in<A: Allocator>(ranking: &Ranking<A>) -> &[Finding<A>] {
+    match ranking {
+        Ranking::Found(_) => &[],
+        Ranking::Fails(findings) => findings.as_slice(),
+    }
+}
+
+/// Writes the change of an old plan, if one is asked for.
+fn write_asked_change<A: Allocator, W: PageSink>(
+    change: &Option<Change<'_, A>>,
+    safe: bool,
+    sink: &mut W,
+) -> Result<(), WriteFault>
+    ensures { Showed W.seen sink.old sink.new (asked_change_texts safe change.now) result }
+{
+    match change {
+        Some(change) => write_change(change, safe, sink),
+        None => Ok(()),
+    }
+}
+
+/// Writes a page about a plan and what was found of it.
+pub fn write_page<A: Allocator, W: PageSink>(
+    subject: &Subject<'_, A>,
+    sink: &mut W,
+) -> Result<(), WriteFault>
+    ensures { Showed W.seen sink.old sink.new (page_texts subject.now) result }
+{
+    let plan = subject.plan;
+    let limits = subject.limits;
+    let safe = is_safe(subject.ranking);
+    let linked = subject.pictures.len() == plan.codes();
+    let graded = subject.grade.plan.is_some();
+    let findings = findings_in(subject.ranking);
+    write_heading(
+        subject.name,
+        &subject.digest,
+        subject.version,
+        plan,
+        limits,
+        safe,
+        sink,
+    )?;
+    write_wrong(plan, subject.ranking, limits, sink)?;
+    write_asked_change(&subject.change, safe, sink)?;
+    write_codes(plan, subject.grade, linked, sink)?;
+    write_outages(plan, subject.risks, subject.outcomes, graded, sink)?;
+    write_pictures(plan, subject.pictures, findings, sink)?;
+    write_network(plan, sink)?;
+    set(&[Part::Own("</main></body></html>\n")], sink)
+}

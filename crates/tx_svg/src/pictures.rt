@@ -1,0 +1,183 @@
+// The lists, code by code.
+ghost use Rattle.std.specs.Prelude.{[]};
+ghost use Rattle.tx_html.specs.Shows.{Showed};
+ghost use Rattle.tx_svg.specs.ListTexts.{picture_texts, pictures_texts};
+
+use crate::arrows::write_arrows;
+use crate::boxes::write_boxes;
+use crate::findings::findings_of;
+use std::alloc::Allocator;
+use tx_html::{PageSink, Part, set};
+use tx_layout::{BOX, LEFT, Picture, TOP, picture_height};
+use tx_plan::Plan;
+use tx_rank::Finding;
+use tx_text::WriteFault;
+
+const KEY: &str =
+    "<h2>Code by code</h2><p class=\"m key\">Each arrow is a group, or several to one \
+exchange: <svg width=\"34\" height=\"10\" aria-hidden=\"true\"><path class=\"a0\" d=\"M0,5H30\"/>\
+</svg> tried first, <svg width=\"34\" height=\"10\" aria-hidden=\"true\"><path class=\"a1\" \
+d=\"M0,5H30\"/></svg> second, <svg width=\"34\" height=\"10\" aria-hidden=\"true\"><path \
+class=\"a2\" d=\"M0,5H30\"/></svg> later, <svg width=\"34\" height=\"10\" aria-hidden=\"true\">\
+<path class=\"a3\" d=\"M0,5H30\"/></svg> in a finding. Point at an exchange for its list.</p>";
+
+/// Writes the picture of each code.
+pub fn write_pictures<A: Allocator, W: PageSink>(
+    plan: &Plan<A>,
+    pictures: &[Picture<A>],
+    findings: &[Finding<A>],
+    sink: &mut W,
+) -> Result<(), WriteFault>
+    ensures { Showed W.seen sink.old sink.new
+        (pictures_texts plan.now pictures.now) result }
+{
+    set(&[Part::Own(KEY)], sink)?;
+    write_all(plan, pictures, findings, sink)
+}
+
+fn write_all<A: Allocator, W: PageSink>(
+    plan: &Plan<A>,
+    pictures: &[Picture<A>],
+    findings: &[Finding<A>],
+    sink: &mut W,
+) -> Result<(), WriteFault>
+    ensures { Showed W.seen sink.old sink.new
+        (pictures_texts plan.now pictures.now) result }
+{
+    for i in 0..pictures.len() {
+        let wrong = findings_of(findings, pictures[i].code);
+        let open = i == 0 || pictures.len() < 4 || !wrong.is_empty();
+        write_picture(plan, &pictures[i], wrong, open, sink)?;
+    }
+    Ok(())
+}
+
+/// Writes the picture of a code, which is open or closed at first.
+fn write_picture<A: Allocator, W: PageSink>(
+    plan: &Plan<A>,
+    picture: &Picture<A>,
+    findings: &[Finding<A>],
+    open: bool,
+    sink: &mut W,
+) -> Result<(), WriteFault>
+    ensures { Showed W.seen sink.old sink.new
+        (picture_texts plan.now picture.now.code) result }
+{
+    set(
+        &[
+            Part::Own("<details id=\"c"),
+            Part::Place(picture.code.index() as u64),
+            Part::Own(if open { "\" open>" } else { "\">" }),
+            Part::Own("<summary><h3>"),
+            Part::Text(plan.code_figures(picture.code)),
+            Part::Own("</h3> at "),
+            Part::Text(plan.exchange_name(plan.home(picture.code))),
+            Part::Own("</summary>"),
+        ],
+        sink,
+    )?;
+    write_canvas(plan, picture, sink)?;
+    write_heads(plan, picture, sink)?;
+    write_arrows(plan, picture, findings, sink)?;
+    write_boxes(plan, picture, sink)?;
+    set(&[Part::Own("</svg></details>")], sink)
+}
+
+fn write_canvas<A: Allocator, W: PageSink>(
+    plan: &Plan<A>,
+    picture: &Picture<A>,
+    sink: &mut W,
+) -> Result<(), WriteFault>
+    ensures { Showed W.seen sink.old sink.new [] result }
+{
+    let width = picture.right(0).saturating_add(LEFT);
+    let height = picture_height(plan, picture);
+    set(
+        &[
+            Part::Own("<svg role=\"group\" aria-label=\"The lists as a picture\" viewBox=\"0 0 "),
+            Part::Place(width),
+            Part::Own(" "),
+            Part::Place(height),
+            Part::Own("\" width=\""),
+            Part::Place(width),
+            Part::Own("\" height=\""),
+            Part::Place(height),
+            Part::Own("\">"),
+        ],
+        sink,
+    )
+}
+
+/// Writes what stands above the columns, and above the exchanges where no calls come.
+fn write_heads<A: Allocator, W: PageSink>(
+    plan: &Plan<A>,
+    picture: &Picture<A>,
+    sink: &mut W,
+) -> Result<(), WriteFault>
+    ensures { Showed W.seen sink.old sink.new [] result }
+{
+    let below = TOP + u64::from(picture.high) + 16;
+    let has_aside = picture_height(plan, picture) > below;
+    write_head(picture.left(0), sink)?;
+    write_ranks(picture, sink)?;
+    write_aside(has_aside, below, sink)
+}
+
+/// Writes the ranks above their columns, if the columns are ranks.
+fn write_ranks<A: Allocator, W: PageSink>(
+    picture: &Picture<A>,
+    sink: &mut W,
+) -> Result<(), WriteFault>
+    ensures { Showed W.seen sink.old sink.new [] result }
+{
+    let ranks = if picture.ranked { picture.columns() } else { 0 };
+    for rank in 1..ranks {
+        write_rank(picture.left(rank), u64::from(rank), sink)?;
+    }
+    Ok(())
+}
+
+fn write_head<W: PageSink>(left: u64, sink: &mut W) -> Result<(), WriteFault>
+    ensures { Showed W.seen sink.old sink.new [] result }
+{
+    set(
+        &[
+            Part::Own("<text class=\"r\" x=\""),
+            Part::Place(left.saturating_add(BOX / 2)),
+            Part::Own("\" y=\"16\">home</text>"),
+        ],
+        sink,
+    )
+}
+
+fn write_rank<W: PageSink>(left: u64, rank: u64, sink: &mut W) -> Result<(), WriteFault>
+    ensures { Showed W.seen sink.old sink.new [] result }
+{
+    set(
+        &[
+            Part::Own("<text class=\"r\" x=\""),
+            Part::Place(left.saturating_add(BOX / 2)),
+            Part::Own("\" y=\"16\">rank "),
+            Part::Place(rank),
+            Part::Own("</text>"),
+        ],
+        sink,
+    )
+}
+
+/// Writes what stands above the exchanges where no calls come, if there are any.
+fn write_aside<W: PageSink>(has_aside: bool, top: u64, sink: &mut W) -> Result<(), WriteFault>
+    ensures { Showed W.seen sink.old sink.new [] result }
+{
+    if !has_aside {
+        return Ok(());
+    }
+    set(
+        &[
+            Part::Own("<text class=\"l\" x=\"6\" y=\""),
+            Part::Place(top),
+            Part::Own("\">No call for this code comes to:</text>"),
+        ],
+        sink,
+    )
+}
