@@ -3,10 +3,8 @@ use Rattle.std.proofs.Common.{◌≡◌, ℕ, ◌<◌, List, [], ◌∷◌, ◌+
 use Rattle.std.specs.Prelude.{codes, decimal, slice_get, if◌then◌else◌}
 use Rattle.std.specs.List.{flat_map, range_with_len, AllByRecursion}
 use Rattle.std.specs.Option.{option_map_or}
-use Rattle.std.specs.Str.{bytes_eq}
 use Rattle.std.proofs.lemmas.Bool.{and_from}
 use Rattle.std.proofs.lemmas.Map.Keys.{any_passes_from_place}
-use Rattle.std.proofs.lemmas.Slice.Eq.{bytes_eq-Decides}
 use Rattle.tx_text.specs.Written.{line_written}
 use Rattle.tx_plan.specs.declared.ids.Pair.{Pair}
 use Rattle.tx_plan.specs.declared.range.LineRange.{LineRange}
@@ -20,6 +18,7 @@ use Rattle.tx_join.specs.declared.differences.Entries.{Entries}
 use Rattle.tx_join.specs.declared.differences.Entries.TheVariants.{Exchanges, Codes, Ranges, Groups}
 use Rattle.tx_join.specs.Differences.{is_range, has_range, lines_of_range, lines_of_circuits, circuits_lines, each_written, entry_lines, count_of_entries, changes, difference_text}
 use Rattle.tx_join.proofs.Found.{range_all}
+use Rattle.tx_join.proofs.United.{itself}
 
 no_lines : {A B : Type 0} (f : A → List B) (xs : List A) → AllByRecursion (λ x. f x ≡ []) xs → flat_map f xs ≡ []
 no_lines f [] h = refl
@@ -35,12 +34,9 @@ module _ (p : Plan) (ok : IsPlan p) (routes : List Route) (bars : List Pair) whe
   abbrev other : Plan
   other = rerouted p routes bars
 
-  same_word : (w : List ℕ) → bytes_eq w w ≡ true
-  same_word w = (bytes_eq-Decides w w).1 refl
-
   range_known : (i : ℕ) (r : LineRange) → slice_get p.ranges i ≡ Some r → has_range p (figures_of p r.code) r.low r.high ≡ true
   range_known i r e = any_passes_from_place (is_range p (figures_of p r.code) r.low r.high) p.ranges i r e
-      (and_from _ _ (same_word (figures_of p r.code)) (and_from _ _ (same_word r.low) (same_word r.high)))
+      (and_from _ _ (itself (figures_of p r.code)) (and_from _ _ (itself r.low) (itself r.high)))
 
   -- each entry is in both plans
   entry_in_both : (entries : Entries) (word : List ℕ) (i : ℕ) → i < count_of_entries entries p → entry_lines entries word p p i ≡ []

@@ -3,10 +3,8 @@ use Rattle.std.proofs.Common.{◌≡◌, ℕ, ◌-◌, ◌<◌, ◌≤◌, true,
 use Rattle.std.specs.Prelude.{find, filter, flat_map}
 use Rattle.std.specs.List.{range_with_len}
 use Rattle.std.specs.Option.{option_map, option_map_or, option_or}
-use Rattle.std.specs.Str.{bytes_eq}
 use Rattle.std.proofs.lemmas.Bool.{and_from, lt-ltb}
 use Rattle.std.proofs.lemmas.Bool.Decides.{nat_tests}
-use Rattle.std.proofs.lemmas.Slice.Eq.{bytes_eq-Decides}
 use Rattle.std.proofs.lemmas.Option.{slice_get_within}
 use Rattle.tx_plan.specs.declared.ids.Pair.{Pair}
 use Rattle.tx_plan.specs.declared.ids.Direction.{Direction}
@@ -27,6 +25,7 @@ use Rattle.tx_join.specs.Laws.{AreOwnJoined}
 use Rattle.tx_join.proofs.Found.{all_of, filter_all, filter_none, map_same, find_fails, range_all}
 use Rattle.tx_join.proofs.NoDifference.{no_difference}
 use Rattle.tx_join.proofs.Taking.{seized}
+use Rattle.tx_join.proofs.United.{itself}
 
 -- A PLAN AND ITSELF, WITH OTHER ROUTES AND BARS
 
@@ -85,20 +84,17 @@ module _ (p : Plan) (ok : IsPlan p) where
         gs = ap (λ l. map (widened p) p.groups ++ map (joined_group p other) l) groups_known ∙ append-nil (map (widened p) p.groups) ∙ none_widened
 
     -- NOTHING REFUSES
-    same_word : (w : List ℕ) → bytes_eq w w ≡ true
-    same_word w = (bytes_eq-Decides w w).1 refl
-
     same_way : (d : Direction) → is_same_direction d d ≡ true
     same_way OneWay = refl
     same_way BothWay = refl
 
     one_home : (c : ℕ) → c < length p.codes → has_other_home p other c ≡ false
-    one_home c l = ap (λ o. option_map_or (λ d. not (is_same_exchange p other (home_of p d) (home_of other c))) o false) (code_back p ok c l).back ∙ ap not (same_word (exchange_name p (home_of p c)))
+    one_home c l = ap (λ o. option_map_or (λ d. not (is_same_exchange p other (home_of p d) (home_of other c))) o false) (code_back p ok c l).back ∙ ap not (itself (exchange_name p (home_of p c)))
 
     one_group : (g : ℕ) → g < length p.groups → has_other_group p other g ≡ false
     one_group g l = ap (λ o. option_map_or (λ h. not (is_same_group p other h g)) o false) (group_back p ok g l).back
-        ∙ ap not (and_from (is_same_exchange p other (ends_of p g).0 (ends_of other g).0) _ (same_word (exchange_name p (ends_of p g).0))
-        (and_from (is_same_exchange p other (ends_of p g).1 (ends_of other g).1) (is_same_direction (direction_of p g) (direction_of other g)) (same_word (exchange_name p (ends_of p g).1)) (same_way (direction_of p g))))
+        ∙ ap not (and_from (is_same_exchange p other (ends_of p g).0 (ends_of other g).0) _ (itself (exchange_name p (ends_of p g).0))
+        (and_from (is_same_exchange p other (ends_of p g).1 (ends_of other g).1) (is_same_direction (direction_of p g) (direction_of other g)) (itself (exchange_name p (ends_of p g).1)) (same_way (direction_of p g))))
 
     not_more : (m n : ℕ) → n ≤ m → nat_lt m n ≡ false
     not_more m n h = grind (arith, nat_tests)

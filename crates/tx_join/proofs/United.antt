@@ -20,7 +20,7 @@ named ns w = list_any (bytes_eq w) ns
 abbrev pub united : (ns ms : List (List ℕ)) → List (List ℕ)
 united ns ms = ns ++ filter (λ w. not (named ns w)) ms
 
-itself : (w : List ℕ) → bytes_eq w w ≡ true
+pub itself : (w : List ℕ) → bytes_eq w w ≡ true
 itself w = (bytes_eq-Decides w w).1 refl
 
 all_named : (ns : List (List ℕ)) → AllByRecursion (λ w. named ns w ≡ true) ns

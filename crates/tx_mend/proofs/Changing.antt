@@ -1,15 +1,17 @@
 -- A mended plan changes least.
-use Rattle.std.proofs.Common.{◌≡◌, ◌≢◌, ℕ, suc, ◌<◌, ◌≤◌, Bool, true, false, cond, ◌&&◌, ◌||◌, ◌==◌, eqb-true, List, [], ◌∷◌, ◌++◌, length, Option, Some, None, inl, inr, refl, sym, ap, subst, ◌∙◌, arith, append-nil}
+use Rattle.std.proofs.Common.{◌≡◌, ◌≢◌, ℕ, suc, ◌<◌, ◌≤◌, Bool, true, false, not, cond, ◌&&◌, ◌||◌, ◌==◌, eqb-true, List, [], ◌∷◌, ◌++◌, length, Option, Some, None, inl, inr, refl, sym, ap, subst, ◌∙◌, arith, append-nil}
 use Rattle.std.specs.Prelude.{filter, if◌then◌else◌}
 use Rattle.std.specs.List.{list_any}
 use Rattle.std.specs.Option.{option_map_or}
 use Rattle.std.proofs.lemmas.Bool.{and_parts, or_cases, cases_lt}
+use Rattle.std.proofs.lemmas.List.Elements.{filter-append}
 use Rattle.tx_plan.specs.Plan.{Plan, home_of}
-use Rattle.tx_plan.specs.Rules.{IsPlan}
+use Rattle.tx_plan.specs.Rules.{IsPlan, EachPair}
 use Rattle.tx_plan.specs.Routes.{route_list, is_origin_for}
 use Rattle.tx_plan.specs.Mixed.{rerouted}
 use Rattle.tx_plan.specs.Among.{Among}
 use Rattle.tx_plan.proofs.Lists.{same_tests}
+use Rattle.tx_plan.proofs.Filtered.{pairs_kept}
 use Rattle.tx_plan.proofs.Among.{among_cases, among_filter, filter_among}
 use Rattle.tx_rank.specs.Walks.{net_of}
 use Rattle.tx_rank.specs.Heights.{IsReached}
@@ -18,8 +20,9 @@ use Rattle.tx_mend.specs.LeastRanks.{RanksOfCode, keeps_routes, ranks_origins}
 use Rattle.tx_mend.specs.KeptRanks.{leads_below, stays_by, list_with, rank_keeping, kept_rank}
 use Rattle.tx_mend.specs.Lists.{filled, groups_below, list_of_rank, list_by, full_list, comes_to, mended_list}
 use Rattle.tx_mend.specs.Mended.{mended}
-use Rattle.tx_mend.specs.Laws.{CouldStay, ChangesLeast, MendingChangesLeast}
-use Rattle.tx_mend.proofs.Filled.{stands, stands_any, filled_few, filled_keeps, filled_full, filled_extends}
+use Rattle.tx_mend.specs.Laws.{CouldStay, ComesFirst, ChangesLeast, MendingChangesLeast}
+use Rattle.tx_mend.proofs.Filled.{stands, stands_any, filled_few, filled_keeps, filled_full, filled_extends, filled_pairs}
+use Rattle.tx_mend.proofs.InOrder.{below_in_order}
 use Rattle.tx_mend.proofs.Least.{listed_within, least_keeping}
 use Rattle.tx_mend.proofs.LeastLists.{below_leads, filled_enough}
 use Rattle.tx_mend.proofs.Kept.{IsLost, below_of, kept_ranking, origins_ranked, stays_or_lost}
@@ -140,6 +143,11 @@ module _ (p : Plan) (ok : IsPlan p) (limit spare : ℕ) (small : spare ≤ 15) (
       holds (λ (l : List ℕ). Among g l → IsReached (net_of M c) x × (length l ≡ suc spare)) x h (λ n. absurd (new n))
       (λ k t n. (called_reached p ok limit spare small c known x t, new_needed x g n new)) m
 
+  -- WHERE NO CALLS COME
+
+  pub stays_unreached : (x : ℕ) → x < length p.exchanges → (IsReached (net_of M c) x → ⊥) → route_list M x c ≡ present x
+  stays_unreached x h none = holds (λ (l : List ℕ). l ≡ present x) x h refl (λ k t. absurd (none (called_reached p ok limit spare small c known x t)))
+
   -- IN WHICH ORDER
 
   abbrev Begins : ℕ → List ℕ → Type 0
@@ -170,11 +178,45 @@ module _ (p : Plan) (ok : IsPlan p) (limit spare : ℕ) (small : spare ≤ 15) (
   pub keeps_order : (x : ℕ) → x < length p.exchanges → Begins x (route_list M x c)
   keeps_order x h = holds (Begins x) x h (begins_present x) (λ k t. begins_by_ranks x)
 
+  -- what is new comes by rank
+
+  abbrev is_new : (x g : ℕ) → Bool
+  is_new x g = not (list_any (λ h. h == g) (present x))
+
+  none_new : (x : ℕ) (l : List ℕ) → ((g : ℕ) → Among g l → Among g (present x)) → filter (is_new x) l ≡ []
+  none_new x [] h = refl
+  none_new x (g ∷ gs) h = ap (λ b. cond (not b) (g ∷ filter (is_new x) gs) (filter (is_new x) gs)) (stands_any g (present x) (h g (inl refl))) ∙ none_new x gs (λ k m. h k (inr m))
+
+  abbrev InOrder : ℕ → List ℕ → Type 0
+  InOrder x l = EachPair (ComesFirst p R x) (filter (is_new x) l)
+
+  present_in_order : (x : ℕ) → InOrder x (present x)
+  present_in_order x = subst (EachPair (ComesFirst p R x)) (sym (none_new x (present x) (λ g m. m))) tt
+
+  by_ranks_in_order : (x : ℕ) → InOrder x (by_ranks x)
+  by_ranks_in_order x = by (R x)
+    where
+      by : (o : Option ℕ) → InOrder x (list_of_rank p R c spare x o)
+      by None = present_in_order x
+      by (Some r) =
+          let t : ℕ → Bool = λ g. leads_below p R r x g in
+          let had = filter t (present x) in
+          let more = groups_below p R r x in
+          let k = filled_extends spare had more in
+          let is : filter (is_new x) (filled spare had more) ≡ filter (is_new x) k.added =
+          ap (filter (is_new x)) k.is ∙ filter-append (is_new x) had k.added ∙ ap (λ l. l ++ filter (is_new x) k.added) (none_new x had (λ g m. (filter_among t g (present x) m).0)) in
+          subst (EachPair (ComesFirst p R x)) (sym is) (pairs_kept (ComesFirst p R x) (is_new x) k.added (filled_pairs spare (ComesFirst p R x) had more (below_in_order p R x r)))
+
+  pub adds_in_order : (x : ℕ) → x < length p.exchanges → InOrder x (route_list M x c)
+  adds_in_order x h = holds (InOrder x) x h (present_in_order x) (λ k t. by_ranks_in_order x)
+
 pub changes_least : (p : Plan) → IsPlan p → (limit spare : ℕ) → spare ≤ 15 → ChangesLeast p (mended p limit spare) limit spare
 changes_least p ok limit spare small = record {
   all = λ x c g h known m w. keeps_all p ok limit spare small c known x g m w;
   needed = λ x c g h known m new. adds_needed p ok limit spare small c known x g h m new;
   order = λ x c h known. keeps_order p ok limit spare small c known x h;
+  added = λ x c h known. adds_in_order p ok limit spare small c known x h;
+  unreached = λ x c h known none. stays_unreached p ok limit spare small c known x h none;
 }
 
 pub least_change : MendingChangesLeast

@@ -5,12 +5,13 @@ use Rattle.std.specs.List.{list_any, AllByRecursion}
 use Rattle.std.proofs.lemmas.Bool.{or_cases, or_left, or_right, false≢true, ltb-true, lt-ltb}
 use borrow.Author.Tests.{ltb-false}
 use Rattle.tx_plan.specs.Among.{Among}
+use Rattle.tx_plan.specs.Rules.{EachPair}
 use Rattle.tx_plan.proofs.Among.{among_left, among_right, among_cases}
 use Rattle.tx_plan.proofs.Lists.{all_put}
 use Rattle.tx_plan.proofs.ByIndex.{pairs_put}
 use Rattle.tx_mend.specs.Lists.{put, filled}
 use Rattle.tx_rank.specs.Walks.{AllDiffer}
-use Rattle.tx_rank.proofs.Ways.{among_all}
+use Rattle.tx_rank.proofs.Ways.{all_among, among_all}
 
 pub stands : (g : ℕ) (xs : List ℕ) → list_any (λ h. h == g) xs ≡ true → Among g xs
 stands g [] h = absurd (false≢true h)
@@ -126,3 +127,17 @@ module _ (spare : ℕ) where
           | inr k ↦ inr (b.of h k)
         ];
       }
+
+  -- what is added keeps the order of the groups
+  pub filled_pairs : (R : ℕ → ℕ → Type 0) (list gs : List ℕ) → EachPair R gs → EachPair R (filled_extends list gs).added
+  unfolding filled_extends put_extends
+  filled_pairs R list [] d = tt
+  filled_pairs R list (g ∷ gs) d = by (filled_pairs R (put spare list g) gs d.1) (is_put list g)
+    where
+      rest : Extends (put spare list g) gs (filled spare (put spare list g) gs)
+      rest = filled_extends (put spare list g) gs
+
+      by : EachPair R rest.added → (i : IsPut list g (put spare list g)) → EachPair R ((put_extends list g (put spare list g) i).added ++ rest.added)
+      by k (full s e) = k
+      by k (there m e) = k
+      by k (new few fresh e) = (among_all (R g) rest.added (λ h m. all_among (R g) gs h d.0 (rest.of h m)), k)

@@ -16,6 +16,7 @@ pub mod Adding
 pub mod Copied
 pub mod Comes
 pub mod Trimmed
+pub mod InOrder
 pub mod Changing
 pub mod Trying
 pub mod TrueCauses

@@ -1,15 +1,16 @@
 -- Why an exchange cannot be served.
 use Rattle.std.proofs.Common.{◌≡◌, ℕ, suc, ◌+◌, ◌<◌, ◌≤◌, true, nat_lt, length, Option, Some, None, inl, inr, refl, sym, ap, ◌∙◌, arith}
-use Rattle.std.specs.Prelude.{filter, is_some, is_none}
+use Rattle.std.specs.Prelude.{filter, is_some, is_none, option_and_then}
 use Rattle.std.specs.Option.{option_map_or}
 use Rattle.std.proofs.lemmas.Bool.{and_parts, cases_lt, lt-ltb, false≢true}
 use Rattle.tx_plan.specs.Plan.{Plan, home_of}
 use Rattle.tx_plan.specs.Rules.{IsPlan}
+use Rattle.tx_plan.specs.Circuits.{other_end}
 use Rattle.tx_mend.specs.declared.cause.Cause.TheVariants.{Rank, Groups}
 use Rattle.tx_mend.specs.Routings.{CanBeServed}
 use Rattle.tx_mend.specs.LeastRanks.{RanksOfCode, outgoing, leads_on, can_follow}
 use Rattle.tx_mend.specs.Unserved.{groups_on, no_limit, unlimited_rank, cause_of, lacks_groups}
-use Rattle.tx_mend.specs.Laws.{IsTrueCause, CausesAreTrue}
+use Rattle.tx_mend.specs.Laws.{LeadsToServed, AreLeadingOn, IsTrueCause, CausesAreTrue}
 use Rattle.tx_mend.proofs.RoundRanks.{Ranked, within, stays_on, in_round, follows_next}
 use Rattle.tx_mend.proofs.Mendable.{serves}
 
@@ -58,6 +59,19 @@ module _ (p : Plan) (code spare : ℕ) where
         by None e s = absurd (false≢true s)
         by (Some r) e s = (r, e)
 
+    leads_served : (limit x g : ℕ) → leads_on p (Round (suc limit)) x g ≡ true → LeadsToServed p code limit spare x g
+    leads_served limit x g h = by (other_end p g x) refl h
+      where
+        by : (o : Option ℕ) → other_end p g x ≡ o → is_some (option_and_then (Round (suc limit)) o) ≡ true → LeadsToServed p code limit spare x g
+        by None e s = absurd (false≢true s)
+        by (Some to) e s = record { to = to; leads = e; served = (serves p ok code limit spare to known small).0 s }
+
+    served_leads : (limit x g : ℕ) → LeadsToServed p code limit spare x g → leads_on p (Round (suc limit)) x g ≡ true
+    served_leads limit x g h = ap (λ o. is_some (option_and_then (Round (suc limit)) o)) h.leads ∙ (serves p ok code limit spare h.to known small).1 h.served
+
+    leading_on : (limit x : ℕ) → AreLeadingOn p code limit spare x (groups_on p code limit spare x)
+    leading_on limit x = record { test = leads_on p (Round (suc limit)) x; passes = λ g. (leads_served limit x g, served_leads limit x g); count = refl }
+
     module _ (limit x : ℕ) (few : limit ≤ 253) (not_served : CanBeServed p code limit spare x → ⊥) where
       by_rank : (r : ℕ) → Round last x ≡ Some r → IsTrueCause p code limit spare x (Rank r)
       by_rank r e =
@@ -78,7 +92,7 @@ module _ (p : Plan) (code spare : ℕ) where
           )
 
       by_groups : Round last x ≡ None → IsTrueCause p code limit spare x (Groups (groups_on p code limit spare x))
-      by_groups e = (few_on limit x few e, λ other h k. let s = ranked other x k in not_both (suc other) x s.0 (omega arith) s.1 e)
+      by_groups e = (leading_on limit x, few_on limit x few e, λ other h k. let s = ranked other x k in not_both (suc other) x s.0 (omega arith) s.1 e)
 
       pub true_cause : IsTrueCause p code limit spare x (cause_of p code limit spare x)
       true_cause = by (Round last x) refl

@@ -1,16 +1,18 @@
 -- The laws of mending.
-use Rattle.std.specs.Prelude.{◌≡◌, ◌↔◌, ◌<◌, ◌≤◌, ◌+◌, ◌==◌, ℕ, suc, true, List, [], ◌++◌, length, filter, None, is_some}
+use Rattle.std.specs.Prelude.{◌≡◌, ◌↔◌, ◌⊎◌, ◌<◌, ◌≤◌, ◌+◌, ◌==◌, ℕ, suc, Bool, not, true, List, [], ◌++◌, length, filter, Some, None, is_some}
 use Rattle.std.specs.List.{list_any}
 use Rattle.tx_plan.specs.Plan.{Plan}
 use Rattle.tx_plan.specs.Routes.{route_list}
+use Rattle.tx_plan.specs.Circuits.{other_end}
 use Rattle.tx_plan.specs.Among.{Among}
-use Rattle.tx_plan.specs.Rules.{IsPlan}
+use Rattle.tx_plan.specs.Rules.{IsPlan, EachPair}
 use Rattle.tx_plan.specs.Ambiguous.{ambiguous_of}
 use Rattle.tx_plan.specs.Certified.{Ranks, IsCertified}
 use Rattle.tx_rank.specs.Walks.{net_of}
 use Rattle.tx_rank.specs.Heights.{IsReached}
 use Rattle.tx_mend.specs.Routings.{IsRouting, IsFalling, CanBeServed, CanBeKept, CanBeMended}
-use Rattle.tx_mend.specs.LeastRanks.{least_rank, keeps_routes}
+use Rattle.tx_mend.specs.LeastRanks.{RanksOfCode, outgoing, rank_across, least_rank, keeps_routes}
+use Rattle.tx_mend.specs.KeptRanks.{kept_rank}
 use Rattle.tx_mend.specs.Lists.{mended_list}
 use Rattle.tx_mend.specs.declared.cause.Cause.{Cause}
 use Rattle.tx_mend.specs.declared.cause.Cause.TheVariants.{Rank, Groups}
@@ -93,11 +95,34 @@ KeepsOrder p q = (x code : ℕ) → x < length p.exchanges → code < length p.c
     → (added : List ℕ) × (route_list q x code
     ≡ filter (λ g. list_any (λ h. h == g) (route_list q x code)) (route_list p x code) ++ added)
 
+-- of two groups of x the first one leads to a smaller rank, or to the same and is declared before
+pub record ComesFirst (p : Plan) (ranks : RanksOfCode) (x g h : ℕ) : Type 0 where
+  pub rank : ℕ
+  pub other : ℕ
+  pub to_rank : rank_across p ranks x g ≡ Some rank
+  pub to_other : rank_across p ranks x h ≡ Some other
+  pub smaller : (rank < other) ⊎ ((rank ≡ other) × (g < h))
+
+-- the groups that are new in a list of the plan q come by the kept ranks to which they lead, and
+-- then in order of declaration
+abbrev pub AddsInOrder : (p q : Plan) → (limit spare : ℕ) → Type 0
+AddsInOrder p q limit spare = (x code : ℕ) → x < length p.exchanges → code < length p.codes
+    → EachPair (ComesFirst p (kept_rank p code limit spare) x)
+    (filter (λ g. not (list_any (λ h. h == g) (route_list p x code))) (route_list q x code))
+
+-- each list of an exchange to which no calls come in the plan q stays as it is
+abbrev pub KeepsUnreachedLists : (p q : Plan) → Type 0
+KeepsUnreachedLists p q = (x code : ℕ) → x < length p.exchanges → code < length p.codes
+    → (IsReached (net_of q code) x → ⊥) → route_list q x code ≡ route_list p x code
+
 -- Least change: the mended lists keep all that could stay, in its order, and add what is needed.
+-- Where no calls come they stay.
 pub record ChangesLeast (p q : Plan) (limit spare : ℕ) : Type 0 where
   pub all : KeepsAllThatCouldStay p q limit spare
   pub needed : AddsWhatIsNeeded p q spare
   pub order : KeepsOrder p q
+  pub added : AddsInOrder p q limit spare
+  pub unreached : KeepsUnreachedLists p q
 
 -- so it is of the mended plan of every plan that can be mended
 abbrev pub MendingChangesLeast : Type 0
@@ -109,12 +134,25 @@ abbrev pub CertifiedStays : Type 0
 CertifiedStays = (p : Plan) → IsPlan p → (ranks : Ranks) (limit spare : ℕ)
     → IsCertified p ranks limit spare → mended p limit spare ≡ p
 
+-- a group leads from x to an exchange that can be served for a code
+pub record LeadsToServed (p : Plan) (code limit spare x g : ℕ) : Type 0 where
+  pub to : ℕ
+  pub leads : other_end p g x ≡ Some to
+  pub served : CanBeServed p code limit spare to
+
+-- n of the groups that x may seize do: those that pass a test which tells exactly that
+pub record AreLeadingOn (p : Plan) (code limit spare x n : ℕ) : Type 0 where
+  pub test : ℕ → Bool
+  pub passes : (g : ℕ) → (test g ≡ true) ↔ LeadsToServed p code limit spare x g
+  pub count : length (filter test (outgoing p x)) ≡ n
+
 -- A cause is true: with the rank r the exchange can be served with each limit from r - 1 on, and
--- with no smaller one; with n groups it cannot with any limit, and n is too few.
+-- with no smaller one; with n groups it cannot with any limit, and n of its groups lead to exchanges
+-- that can be served, which is too few.
 abbrev pub IsTrueCause : Plan → (code limit spare x : ℕ) → Cause → Type 0
 IsTrueCause p code limit spare x (Rank r) = (limit + 1 < r)
     × ((other : ℕ) → other ≤ 254 → CanBeServed p code other spare x ↔ (r ≤ other + 1))
-IsTrueCause p code limit spare x (Groups n) = (n ≤ spare)
+IsTrueCause p code limit spare x (Groups n) = AreLeadingOn p code limit spare x n × (n ≤ spare)
     × ((other : ℕ) → other ≤ 254 → CanBeServed p code other spare x → ⊥)
 
 -- so it is of each exchange that cannot be served

@@ -28,8 +28,9 @@ pub fn mending_is_exact()
     ensures exact { MendingIsExact }
 {}
 
-/// A mended plan keeps all groups of its lists that can stay beside each other, and adds only what
-/// is needed. Does nothing: its contract is a law.
+/// A mended plan keeps all groups of its lists that can stay beside each other, adds only what is
+/// needed, in order, and leaves the lists to which no calls come. Does nothing: its contract is a
+/// law.
 pub fn mending_changes_least()
     ensures { MendingChangesLeast }
 {}
