@@ -1,5 +1,6 @@
 mod RefusedTexts
 mod JoinedPlans
+mod DeclaredLines
 mod Piping
 mod Breaking
 mod CheckedRun

@@ -5,6 +5,7 @@ pub mod CheckJobs
 pub mod DrawJobs
 pub mod AuditJobs
 pub mod TwoPlans
+pub mod DeclaringLines
 pub mod ChangeJobs
 pub mod GradeJobs
 pub mod MendJobs
