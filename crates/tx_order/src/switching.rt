@@ -149,6 +149,48 @@ fn judge_both<A: Allocator + Copy>(
     Ok((before, after))
 }
 
+/// What the search comes to by the judgements on both plans.
+fn order_by<A: Allocator + Copy>(
+    alloc: A,
+    old: Plan<A>,
+    new: Plan<A>,
+    before: Ranking<A>,
+    after: Ranking<A>,
+    limits: Limits,
+) -> Result<Switching<A>, NoMemory>
+    requires network { SameNetwork old new }
+    requires before { IsRightRanking old limits.limit limits.spare before }
+    requires after { IsRightRanking new limits.limit limits.spare after }
+    ensures exactly { IfOk result (λ s. IsOrderFound s
+        ↔ CanBothBeCertified old new limits.limit limits.spare) }
+    ensures right { IfOk result (IsRightSwitching old new limits.limit limits.spare) }
+{
+    old.rules();
+    new.rules();
+    match before {
+        Ranking::Found(before) => match after {
+            Ranking::Found(after) => {
+                let transition = Transition {
+                    old,
+                    new,
+                    before,
+                    after,
+                    limits,
+                };
+                Ok(Switching::Ordered(order_of(alloc, transition)?))
+            }
+            after => {
+                drop(new);
+                Ok(Switching::NoOrder(old, Ranking::Found(before), after))
+            }
+        },
+        before => {
+            drop(new);
+            Ok(Switching::NoOrder(old, before, after))
+        }
+    }
+}
+
 /// An order in which the lists and the bars of a plan are switched to those of another one of the
 /// same network, so that each stage is safe for the limits in whatever order its lists and bars are
 /// switched, with calls up. It is given after the checker has said Yes to a certificate of each
@@ -166,23 +208,12 @@ pub fn order<A: Allocator + Copy>(
         ↔ CanBothBeCertified old new limits.limit limits.spare) }
     ensures right { IfOk result (IsRightSwitching old new limits.limit limits.spare) }
 {
-    old.rules();
-    new.rules();
-    let (before, after) = judge_both(alloc, &old, &new, limits)?;
-    match before {
-        Ranking::Found(before) => match after {
-            Ranking::Found(after) => {
-                let transition = Transition {
-                    old,
-                    new,
-                    before,
-                    after,
-                    limits,
-                };
-                Ok(Switching::Ordered(order_of(alloc, transition)?))
-            }
-            after => Ok(Switching::NoOrder(old, Ranking::Found(before), after)),
-        },
-        before => Ok(Switching::NoOrder(old, before, after)),
+    match judge_both(alloc, &old, &new, limits) {
+        Ok((before, after)) => order_by(alloc, old, new, before, after, limits),
+        Err(fault) => {
+            drop(old);
+            drop(new);
+            Err(fault)
+        }
     }
 }

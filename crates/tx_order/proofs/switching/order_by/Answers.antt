@@ -3,7 +3,7 @@ use Rattle.tx_rank.specs.declared.ranking.Ranking.{Ranking}
 use Rattle.tx_audit.specs.Audits.{IsRightRanking}
 use Rattle.tx_order.specs.Transitions.{Transition}
 use Rattle.tx_order.proofs.Confirming.{ordered, old_denied, new_denied}
-use Rattle.tx_order.proofs.switching.order.Goals as goal
+use Rattle.tx_order.proofs.switching.order_by.Goals as goal
 
 pub returns-in_ok-order_of-in-Found-after-clause-right : goal.returns-in_ok-order_of-in-Found-after-clause-right
 returns-in_ok-order_of-in-Found-after-clause-right g c =
@@ -13,11 +13,17 @@ returns-in_ok-order_of-in-Found-after-clause-right g c =
 
 pub returns-in_default-after-clause-right : goal.returns-in_default-after-clause-right
 returns-in_default-after-clause-right g c =
-    new_denied c.args.old c.args.new c.args.limits.limit c.args.limits.spare _ c.in_ok-before.after
-    (subst (λ (r : Ranking g.row.A.Denot). IsRightRanking c.args.old c.args.limits.limit c.args.limits.spare r) c.in-Found.is c.in_ok-before.ensures.old)
-    c.in_ok-before.ensures.new c.in_default-after.not-Found
+    new_denied c.args.old c.args.new c.args.limits.limit c.args.limits.spare _ c.args.after
+    (subst (λ (r : Ranking g.row.A.Denot). IsRightRanking c.args.old c.args.limits.limit c.args.limits.spare r) c.in-Found.is c.requires.before)
+    c.requires.after c.in_default-after.not-Found
+
+pub returns-in_default-after-clause-exactly : goal.returns-in_default-after-clause-exactly
+returns-in_default-after-clause-exactly g c = ((λ h. absurd h), (returns-in_default-after-clause-right g c).none)
 
 pub returns-in_default-clause-right : goal.returns-in_default-clause-right
 returns-in_default-clause-right g c =
-    old_denied c.args.old c.args.new c.args.limits.limit c.args.limits.spare c.in_ok-before.before c.in_ok-before.after
-    c.in_ok-before.ensures.old c.in_ok-before.ensures.new c.in_default.not-Found
+    old_denied c.args.old c.args.new c.args.limits.limit c.args.limits.spare c.args.before c.args.after
+    c.requires.before c.requires.after c.in_default.not-Found
+
+pub returns-in_default-clause-exactly : goal.returns-in_default-clause-exactly
+returns-in_default-clause-exactly g c = ((λ h. absurd h), (returns-in_default-clause-right g c).none)
