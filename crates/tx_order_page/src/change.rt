@@ -56,8 +56,9 @@ fn write_network<W: PageSink>(
 }
 
 const BESIDE_LISTS: &str = " in what they declare, or in its order: <code>telexplan order</code> \
-prints what is new and what goes. What is new is put there first, with its lists, and what goes is \
-taken away last. Between the two come the lists and bars below.</p>";
+prints what is new and what goes. In a change new exchanges, codes, groups and circuits are put there \
+first, with their lists. Then come the lists and bars below. At last lines and codes that go are \
+closed and what goes is taken away, and then new lines are opened and new codes admitted.</p>";
 
 /// Writes the stages, or all that differs.
 fn write_switching<A: Allocator, W: PageSink>(

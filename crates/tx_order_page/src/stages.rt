@@ -13,14 +13,17 @@ use tx_join::Joined;
 use tx_order::Order;
 use tx_text::WriteFault;
 
-const ORDERED: &str = "<p>The lists and bars of the old plan can be switched to those of this one \
-stage by stage. Within a stage they can be switched in any order, with calls up. A stage begins when \
-the one before it is done.</p>";
+const ORDERED: &str =
+    "<p>For these numbers there is a safe order in which the lists and bars of the \
+old plan can be switched to those of this one. What is in one stage may be switched in any order, \
+with calls up. A stage begins when all of the one before is switched, and no call that was keyed \
+before that is still being set up. Where there is no stage, no list and no bar is switched.</p>";
 
 const NO_ORDER: &str = "<p>There is no safe order of switching: for these numbers the old plan or \
-this one is not safe, alone or in the network of both. Below is all that differs.</p>";
+this one is not safe, alone or in the network of both. Below are the lists and bars that would be \
+switched.</p>";
 
-/// Writes all lists and bars that differ, where there is no order.
+/// Writes all lists and bars that would be switched, where there is no order.
 pub fn write_difference<A: Allocator, W: PageSink>(
     joined: &Joined<A>,
     sink: &mut W,

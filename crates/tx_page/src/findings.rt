@@ -90,7 +90,7 @@ fn write_pair<A: Allocator, W: PageSink>(
             Part::Text(plan.code_figures(shorter)),
             Part::Own(" begins code "),
             Part::Text(plan.code_figures(longer)),
-            Part::Own(", so an exchange cannot tell them by their first figures.</li>"),
+            Part::Own(", so a call for the first may be taken for one for the second.</li>"),
         ],
         sink,
     )
@@ -158,11 +158,11 @@ fn write_long<A: Allocator, W: PageSink>(
         &[
             Part::Own("<li>A call for "),
             Part::Text(plan.code_figures(code)),
-            Part::Own(" can go by "),
+            Part::Own(" can pass more transits than the limit. Groups on its way: "),
             Part::Count(steps_of(walk).len() as u64),
-            Part::Own(" groups as far as "),
+            Part::Own(". Then it is at "),
             Part::Text(plan.exchange_name(end_of(walk))),
-            Part::Own(" and not be at its home "),
+            Part::Own(", and not yet at the home "),
             Part::Text(plan.exchange_name(plan.home(code))),
             Part::Own("."),
         ],

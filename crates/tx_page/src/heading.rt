@@ -130,7 +130,8 @@ fn write_promise<W: PageSink>(safe: bool, limits: Limits, sink: &mut W) -> Resul
     )
 }
 
-const NO_PROMISE: &str = "<p>With these lists calls can go wrong, in each of the ways below.</p>";
+const NO_PROMISE: &str =
+    "<p>For these numbers the plan is not safe. What is wrong stands below.</p>";
 
 fn write_counts<A: Allocator, W: PageSink>(plan: &Plan<A>, sink: &mut W) -> Result<(), WriteFault>
     ensures { Showed W.seen sink.old sink.new (count_texts plan.now) result }

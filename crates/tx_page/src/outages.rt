@@ -43,6 +43,12 @@ fn write_graded<A: Allocator, W: PageSink>(
     write_outcomes(plan, risks, outcomes, sink)
 }
 
+const TRIED: &str =
+    " outages were tried: each group, each exchange and each named risk alone. Below \
+is each named risk, and whatever else cuts calls off or may lead them astray. Cut off: no way home is \
+left from where they start. Astray: one is left, and also one to an exchange that has no group left. \
+Calls that start at an exchange that fails, and calls for codes at home there, are not counted.</p>";
+
 const UNGRADED: &str = "<h2>Outages</h2><p>The plan has no grade: it is safe for no limit and no \
 spare number. So no outage was tried.</p>";
 
@@ -53,10 +59,7 @@ fn write_tried<W: PageSink>(tried: usize, sink: &mut W) -> Result<(), WriteFault
         &[
             Part::Own("<h2>Outages</h2><p>"),
             Part::Count(tried as u64),
-            Part::Own(
-                " outages were tried: each group, each exchange and each named risk alone. Below \
-                 are the named risks, and what else cuts calls off, or may lead them astray.</p>",
-            ),
+            Part::Own(TRIED),
         ],
         sink,
     )
