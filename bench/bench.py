@@ -8,7 +8,7 @@ in use; how often the second program does the work of the first one; and `wc -l`
 A first round, which is not timed, sees that the exit status is the one that is wanted and that two programs print the same bytes. The status is 1 if they do not.
 
 --events is about how many events a script has (3,000,000). --folder keeps the inputs, 370 MB with all of them, for the next time. --only measures these inputs alone:
-local-pipe, local-run, away-6, away-9, mid, mid-1000, mid-100000, codes, check, audit, limits, limits-1000, limits-100000, bad, mend, overflow, change, order and survive.
+local-pipe, local-run, away-6, away-9, mid, mid-1000, mid-100000, codes, check, audit, limits, limits-1000, limits-100000, bad, mend, overflow, change, order, survive and page.
 
 Seconds of processor bear other work on the machine better than seconds on the clock, and they too are too high by up to a half beside busy neighbours. `taskset -c N`
 before the command keeps all of it to one processor."""
@@ -66,6 +66,7 @@ CASES = [
     Case("change", "`change` of the good plan into one with 1,000 lists turned, YES", f"change limits.plan turned.plan {SAFE}"),
     Case("order", "`order` of these two plans, YES", f"order limits.plan turned.plan {SAFE}"),
     Case("survive", "`survive` of the good plan: 4,352 outages, YES", "survive limits.plan"),
+    Case("page", "`page` of the good plan, YES", f"page limits.plan {SAFE}"),
 ]
 
 

@@ -83,5 +83,6 @@ module _ {A : Type 0} where
   abbrev pub ChangeEvidenceAnswers : (with_mixture with_old : Bool) → (limit spare : ℕ)
       → (old new : Input) → Output → Result (ChangeEvidence A) JobFault → Type 0
   ChangeEvidenceAnswers with_mixture with_old limit spare old new out result =
-      (answer : Result (Changed A) JobFault) × ChangeJobAnswers with_old limit spare old new out answer
+      (answer : Result (Changed A) JobFault)
+      × ChangeJobAnswers with_old limit spare old new out answer
       × TellsChangeEvidence with_mixture limit spare answer result

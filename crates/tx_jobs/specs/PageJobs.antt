@@ -154,7 +154,8 @@ module _ (A : Type 0) (asked : Request) (text : List ℕ) (p : Plan) (codes : Li
   -- joined network
   abbrev pub PagedFrom : List NamedRisk → (old_text : List ℕ) → (old : Plan) → Output
       → Result Bool JobFault → Type 0
-  PagedFrom risks old_text old out result = (HaveJoined old p × ToldPage risks (Some old) out result)
+  PagedFrom risks old_text old out result =
+      (HaveJoined old p × ToldPage risks (Some old) out result)
       ⊎ AnswersNoJoin old_text text old p out.silent result
 
   -- the old plan was read, if one is asked for, and the page was written; or it is refused

@@ -58,8 +58,9 @@ fn write_alone<A: Allocator, W: Sink>(
     other: &Plan<A>,
     sink: &mut W,
 ) -> Result<(), WriteFault>
-    ensures { Wrote W.taken W.failed sink.old sink.new (each_written
-        (entry_lines entries word.now plan.now other.now) (count_of_entries entries plan.now)) result }
+    ensures { Wrote W.taken W.failed sink.old sink.new
+        (each_written (entry_lines entries word.now plan.now other.now)
+        (count_of_entries entries plan.now)) result }
 {
     for index in 0..count_of_entries(entries, plan) {
         write_entry(entries, word, plan, other, index, sink)?;

@@ -67,8 +67,8 @@ fn judge_new<A: Allocator + Copy>(
 
 /// The verdict where there is an order, by the ranking of the new plan as it is.
 fn verdict_of<A: Allocator>(order: Order<A>, ranking: Ranking<A>) -> OrderVerdict<A>
-    ensures { (before after new : PlanNow) (limit spare : ℕ) → IsOrdered before after limit spare order
-        → IsRightRanking new limit spare ranking
+    ensures { (before after new : PlanNow) (limit spare : ℕ)
+        → IsOrdered before after limit spare order → IsRightRanking new limit spare ranking
         → IsRightVerdict before after new limit spare result }
 {
     match ranking {

@@ -76,7 +76,8 @@ fn write_stage<A: Allocator, W: Sink>(
     sink: &mut W,
 ) -> Result<(), WriteFault>
     requires { stage < stages_in order.now }
-    ensures { Wrote W.taken W.failed sink.old sink.new (stage_text with_old order.now stage) result }
+    ensures { Wrote W.taken W.failed sink.old sink.new
+        (stage_text with_old order.now stage) result }
 {
     write_number(order, stage, sink)?;
     write_exchanges(order, stage, with_old, sink)

@@ -44,7 +44,8 @@ module _ {A : Type 0} where
   -- an outage, how many starts it cuts off and may lead astray, and which
   abbrev pub outcome_texts : Plan → List NamedRisk → Outcome A → List (List ℕ)
   outcome_texts p risks o = (outage_kind o.outage ∷ outage_name p risks o.outage
-      ∷ decimal (cut_off o.cuts.items) ∷ decimal (astray o.cuts.items) ∷ []) ++ flat_map (cut_texts p) o.cuts.items
+      ∷ decimal (cut_off o.cuts.items) ∷ decimal (astray o.cuts.items) ∷ [])
+      ++ flat_map (cut_texts p) o.cuts.items
 
   -- it cuts nobody off
   abbrev pub is_harmless : Outcome A → Bool

@@ -33,7 +33,8 @@ impl<'p, A: Allocator> Draft<'p, A> {
     /// Writes a bar in a new line, if it does not stand yet.
     fn put_bar(&mut self, pair: Pair) -> Result<(), NoMemory>
         ensures { OnOk result
-            (self.new ≡ drafted self.old (new_bar self.old.plan self.old.cr pair self.old.reached)) }
+            (self.new ≡ drafted self.old
+            (new_bar self.old.plan self.old.cr pair self.old.reached)) }
     {
         if !self.barred.has(&pair) {
             add(&mut self.text, b"BAR ")?;

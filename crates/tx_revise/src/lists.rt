@@ -103,7 +103,8 @@ impl<'p, A: Allocator + Copy> Draft<'p, A> {
     /// Writes the list of a pair in a new line, if it can stand here.
     fn put_new(&mut self, alloc: A, pair: Pair) -> Result<(), NoMemory>
         ensures { OnOk result
-            (self.new ≡ drafted self.old (new_line self.old.plan self.old.cr pair self.old.reached)) }
+            (self.new ≡ drafted self.old
+            (new_line self.old.plan self.old.cr pair self.old.reached)) }
     {
         if self.can_stand(&pair) {
             let spelled = list_text(alloc, self.plan, &pair)?;
