@@ -1,5 +1,5 @@
 -- What a page shows of outages.
-use Rattle.std.specs.Prelude.{ℕ, Bool, true, false, not, ◌||◌, ◌==◌, if◌then◌else◌, List, [], ◌∷◌, ◌++◌, length, codes, decimal, count_by, slice_get}
+use Rattle.std.specs.Prelude.{ℕ, Bool, true, false, not, ◌&&◌, ◌||◌, if◌then◌else◌, List, [], ◌∷◌, ◌++◌, length, codes, decimal, count_by, slice_get}
 use Rattle.std.specs.List.{flat_map}
 use Rattle.std.specs.Option.{option_map_or}
 use Rattle.tx_plan.specs.Plan.{Plan, exchange_name, figures_of, group_name}
@@ -8,6 +8,7 @@ use Rattle.tx_risk.specs.declared.outage.Outage.{Outage}
 use Rattle.tx_risk.specs.declared.outage.Outage.TheVariants.{Group, Exchange, Named}
 use Rattle.tx_risk.specs.declared.cut.Cut.{Cut}
 use Rattle.tx_risk.specs.declared.cut.Outcome.{Outcome}
+use Rattle.tx_risk_report.specs.OutageReport.{is_group, is_exchange, is_harmless}
 
 -- what kind of thing fails
 abbrev pub outage_kind : Outage → List ℕ
@@ -47,10 +48,6 @@ module _ {A : Type 0} where
       ∷ decimal (cut_off o.cuts.items) ∷ decimal (astray o.cuts.items) ∷ [])
       ++ flat_map (cut_texts p) o.cuts.items
 
-  -- it cuts nobody off
-  abbrev pub is_harmless : Outcome A → Bool
-  is_harmless o = length o.cuts.items == 0
-
   -- a named risk is shown, and what else cuts somebody off
   abbrev pub is_shown : Outcome A → Bool
   is_shown o = is_named o.outage || not (is_harmless o)
@@ -59,10 +56,18 @@ module _ {A : Type 0} where
   abbrev pub shown_texts : Plan → List NamedRisk → Outcome A → List (List ℕ)
   shown_texts p risks o = if is_shown o then outcome_texts p risks o else []
 
-  -- how many outages were tried, and those that are shown, in their order
+  -- how many things of a kind cut nobody off
+  abbrev pub harmless : (Outage → Bool) → List (Outcome A) → ℕ
+  harmless kind outcomes = count_by (λ o. kind o.outage && is_harmless o) outcomes
+
+  -- how many outages were tried, and how many groups and exchanges cut nobody off
+  abbrev pub total_texts : List (Outcome A) → List (List ℕ)
+  total_texts outcomes = decimal (length outcomes) ∷ decimal (harmless is_group outcomes)
+      ∷ decimal (harmless is_exchange outcomes) ∷ []
+
+  -- the totals, and the outages that are shown, in their order
   abbrev pub tried_texts : Plan → List NamedRisk → List (Outcome A) → List (List ℕ)
-  tried_texts p risks outcomes =
-      (decimal (length outcomes) ∷ []) ++ flat_map (shown_texts p risks) outcomes
+  tried_texts p risks outcomes = total_texts outcomes ++ flat_map (shown_texts p risks) outcomes
 
   -- nothing of outages, where the plan has no grade
   abbrev pub outages_texts : Plan → List NamedRisk → List (Outcome A) → (graded : Bool)

@@ -2,12 +2,14 @@
 ghost use Rattle.std.specs.Prelude.{◌≡◌, [], ◌∷◌, decimal};
 ghost use Rattle.std.specs.List.{flat_map};
 ghost use Rattle.tx_html.specs.Shows.{Showed};
-ghost use Rattle.tx_page.specs.OutageTexts.{outage_kind, outage_name, cut_off, astray, cut_texts, outcome_texts, is_named, is_harmless, is_shown, shown_texts, tried_texts, outages_texts};
+ghost use Rattle.tx_page.specs.OutageTexts.{outage_kind, outage_name, cut_off, astray, cut_texts, outcome_texts, is_named, is_shown, shown_texts, total_texts, tried_texts, outages_texts};
+ghost use Rattle.tx_risk_report.specs.OutageReport.{is_harmless};
 
 use std::alloc::Allocator;
 use tx_html::{PageSink, Part, set};
 use tx_plan::Plan;
 use tx_risk::{Cut, Outage, Outcome, Risks};
+use tx_risk_report::{harmless_exchanges, harmless_groups, is_harmless};
 use tx_text::WriteFault;
 
 /// Writes each named risk, and each group and each exchange that cuts somebody off, with those that
@@ -39,7 +41,7 @@ fn write_graded<A: Allocator, W: PageSink>(
     ensures { Showed W.seen sink.old sink.new
         (tried_texts plan.now risks.now outcomes.now) result }
 {
-    write_tried(outcomes.len(), sink)?;
+    write_tried(outcomes, sink)?;
     write_outcomes(plan, risks, outcomes, sink)
 }
 
@@ -47,19 +49,27 @@ const TRIED: &str =
     " outages were tried: each group, each exchange and each named risk alone. Below \
 is each named risk, and whatever else cuts calls off or may lead them astray. Cut off: no way home is \
 left from where they start. Astray: one is left, and also one to an exchange that has no group left. \
-Calls that start at an exchange that fails, and calls for codes at home there, are not counted.</p>";
+Calls that start at an exchange that fails, and calls for codes at home there, are not counted. \
+Groups that cut nobody off: ";
 
 const UNGRADED: &str = "<h2>Outages</h2><p>The plan has no grade: it is safe for no limit and no \
 spare number. So no outage was tried.</p>";
 
-fn write_tried<W: PageSink>(tried: usize, sink: &mut W) -> Result<(), WriteFault>
-    ensures { Showed W.seen sink.old sink.new (decimal tried ∷ []) result }
+fn write_tried<A: Allocator, W: PageSink>(
+    outcomes: &[Outcome<A>],
+    sink: &mut W,
+) -> Result<(), WriteFault>
+    ensures { Showed W.seen sink.old sink.new (total_texts outcomes.now) result }
 {
     set(
         &[
             Part::Own("<h2>Outages</h2><p>"),
-            Part::Count(tried as u64),
+            Part::Count(outcomes.len() as u64),
             Part::Own(TRIED),
+            Part::Count(harmless_groups(outcomes) as u64),
+            Part::Own(". Exchanges that cut nobody off: "),
+            Part::Count(harmless_exchanges(outcomes) as u64),
+            Part::Own(".</p>"),
         ],
         sink,
     )
@@ -100,13 +110,6 @@ fn is_named(outage: &Outage) -> bool
     ensures { result ≡ is_named outage.now }
 {
     matches!(outage, Outage::Named(_))
-}
-
-/// Whether an outcome cuts nobody off.
-fn is_harmless<A: Allocator>(outcome: &Outcome<A>) -> bool
-    ensures { result ≡ is_harmless outcome.now }
-{
-    outcome.cuts.is_empty()
 }
 
 /// Whether an outcome is shown: that of a named risk, or one that cuts somebody off.

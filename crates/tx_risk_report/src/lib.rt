@@ -8,4 +8,4 @@ mod totals;
 
 pub use law::cut_is_shown;
 pub use outage_report::write_survival;
-pub use totals::is_harmless;
+pub use totals::{harmless_exchanges, harmless_groups, is_harmless};

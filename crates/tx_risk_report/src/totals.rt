@@ -82,8 +82,8 @@ pub(crate) fn write_harmless<A: Allocator, W: Sink>(
     ensures { Wrote W.taken W.failed sink.old sink.new
         (harmless_text outcomes.now) result }
 {
-    write_harmless_line(b"GROUPS ", count_groups(outcomes), sink)?;
-    write_harmless_line(b"EXCHANGES ", count_exchanges(outcomes), sink)
+    write_harmless_line(b"GROUPS ", harmless_groups(outcomes), sink)?;
+    write_harmless_line(b"EXCHANGES ", harmless_exchanges(outcomes), sink)
 }
 
 fn write_harmless_line<W: Sink>(kind: &[u8], count: usize, sink: &mut W) -> Result<(), WriteFault>
@@ -98,7 +98,8 @@ fn write_harmless_line<W: Sink>(kind: &[u8], count: usize, sink: &mut W) -> Resu
     write_parts(&[kind, count, b" CUT 0\n"], sink)
 }
 
-fn count_groups<A: Allocator>(outcomes: &[Outcome<A>]) -> usize
+/// How many groups cut nobody off.
+pub fn harmless_groups<A: Allocator>(outcomes: &[Outcome<A>]) -> usize
     ensures { result ≡ count_by (λ o. is_group o.outage && is_harmless o) outcomes.now }
 {
     outcomes
@@ -107,7 +108,8 @@ fn count_groups<A: Allocator>(outcomes: &[Outcome<A>]) -> usize
         .count()
 }
 
-fn count_exchanges<A: Allocator>(outcomes: &[Outcome<A>]) -> usize
+/// How many exchanges cut nobody off.
+pub fn harmless_exchanges<A: Allocator>(outcomes: &[Outcome<A>]) -> usize
     ensures { result ≡ count_by (λ o. is_exchange o.outage && is_harmless o) outcomes.now }
 {
     outcomes

@@ -9,11 +9,11 @@ returns-in_err-write_harmless_line g c =
     wrote_first _ _ _ _ (harmless_line (codes "GROUPS ")
     (count_by (λ o. is_group o.outage && is_harmless o) c.args.outcomes.now)) _ _
     c.in_err-write_harmless_line.field-0.0
-    (rw c.count_groups.ensures at c.in_err-write_harmless_line.ensures) c.from_residual.ensures.0
+    (rw c.harmless_groups.ensures at c.in_err-write_harmless_line.ensures) c.from_residual.ensures.0
 
 pub returns : goal.returns
 returns g c =
     wrote_then _ _ _ _ _ _ (harmless_line (codes "GROUPS ")
     (count_by (λ o. is_group o.outage && is_harmless o) c.args.outcomes.now)) _ _
-    (rw c.count_groups.ensures at c.in_ok-write_harmless_line.ensures)
-    (rw c.count_exchanges.ensures at c.write_harmless_line-2.ensures)
+    (rw c.harmless_groups.ensures at c.in_ok-write_harmless_line.ensures)
+    (rw c.harmless_exchanges.ensures at c.write_harmless_line-2.ensures)

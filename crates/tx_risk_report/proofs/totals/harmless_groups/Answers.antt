@@ -4,7 +4,7 @@ use Rattle.std.proofs.lemmas.Iterator.Consumers.{YieldsList-from_filter, count_f
 use Rattle.std.proofs.lemmas.List.Sums.{length-filter}
 use Rattle.tx_risk.specs.declared.cut.Outcome.{Outcome}
 use Rattle.tx_risk_report.specs.OutageReport.{is_group, is_harmless}
-use Rattle.tx_risk_report.proofs.totals.count_groups.Goals as goal
+use Rattle.tx_risk_report.proofs.totals.harmless_groups.Goals as goal
 
 pub returns : goal.returns
 returns g c =
