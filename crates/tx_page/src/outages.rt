@@ -1,5 +1,5 @@
 // What outages cut off.
-ghost use Rattle.std.specs.Prelude.{◌≡◌, [], ◌∷◌, decimal};
+ghost use Rattle.std.specs.Prelude.{◌≡◌};
 ghost use Rattle.std.specs.List.{flat_map};
 ghost use Rattle.tx_html.specs.Shows.{Showed};
 ghost use Rattle.tx_page.specs.OutageTexts.{outage_kind, outage_name, cut_off, astray, cut_texts, outcome_texts, is_named, is_shown, shown_texts, total_texts, tried_texts, outages_texts};
