@@ -50,7 +50,7 @@ const TRIED: &str =
 is each named risk, and whatever else cuts calls off or may lead them astray. Cut off: no way home is \
 left from where they start. Astray: one is left, and also one to an exchange that has no group left. \
 Calls that start at an exchange that fails, and calls for codes at home there, are not counted. \
-Groups that cut nobody off: ";
+Groups that cut nobody off and lead nobody astray: ";
 
 const UNGRADED: &str = "<h2>Outages</h2><p>The plan has no grade: it is safe for no limit and no \
 spare number. So no outage was tried.</p>";
@@ -67,7 +67,7 @@ fn write_tried<A: Allocator, W: PageSink>(
             Part::Count(outcomes.len() as u64),
             Part::Own(TRIED),
             Part::Count(harmless_groups(outcomes) as u64),
-            Part::Own(". Exchanges that cut nobody off: "),
+            Part::Own(". Exchanges that do neither: "),
             Part::Count(harmless_exchanges(outcomes) as u64),
             Part::Own(".</p>"),
         ],
