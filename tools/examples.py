@@ -42,6 +42,7 @@ import stat
 import subprocess
 import sys
 import tempfile
+import time
 
 TOP = os.path.dirname(os.path.dirname(os.path.abspath(__file__)))
 PAGES = ["README.md", "docs/FORMATS.md", "docs/HEADLINE.md"]
@@ -648,6 +649,25 @@ def check_apart(program, tell):
             tell(f"a second file that is a link to the first one: the status is {ran.returncode}, and standard error has {ran.stderr!r}")
 
 
+def check_page_apart(program, tell):
+    """A plan that is read is not replaced by a page whose name becomes a link to it while another text is awaited."""
+    with tempfile.TemporaryDirectory() as room:
+        own = os.path.join(room, "own.plan")
+        shutil.copy(os.path.join(TOP, "examples/three.plan"), own)
+        os.mkfifo(os.path.join(room, "pipe"))
+        words = ["page", "own.plan", "--limit", "1", "--spare", "1", "--from", "pipe", "--html", "late.html"]
+        with subprocess.Popen(program + words, cwd=room, stdout=subprocess.PIPE, stderr=subprocess.PIPE) as ran:
+            with open(os.path.join(room, "pipe"), "wb") as given:
+                time.sleep(0.5)
+                os.symlink("own.plan", os.path.join(room, "late.html"))
+                given.write(read("examples/three.plan"))
+            printed, told = ran.communicate(timeout=60)
+        if (ran.returncode, printed, told) != (64, b"", b"telexplan: late.html and own.plan are one file\n"):
+            tell(f"a page whose name becomes a link to the plan: the status is {ran.returncode}, and the outputs have {printed!r} and {told!r}")
+        if read(own) != read("examples/three.plan") or sorted(os.listdir(room)) != ["late.html", "own.plan", "pipe"]:
+            tell(f"a page whose name becomes a link to the plan leaves {sorted(os.listdir(room))}")
+
+
 def check_outputs(program, tell):
     """A file to be made that is an output of the program, by whatever name, is written to at its end."""
     for output, number, before in [("stdout", 1, b"before\n" + report()), ("stderr", 2, b"before\n")]:
@@ -829,7 +849,7 @@ def main(words):
     told = []
     if not only_pages:
         check_examples(program, told.append)
-        for check in (check_arguments, check_terminal, check_replaced, check_apart, check_outputs, check_pipe_and_device, check_no_leave, check_no_name, check_order, check_manual_commands, check_offers):
+        for check in (check_arguments, check_terminal, check_replaced, check_apart, check_page_apart, check_outputs, check_pipe_and_device, check_no_leave, check_no_name, check_order, check_manual_commands, check_offers):
             check(program, told.append)
     check_pages(told.append)
     check_names(told.append)

@@ -4,6 +4,7 @@
 Tries mutants that the gate does not: the files crates/CRATE/must-fail/NAME.edit.md. While `rt must-fail` runs they have the names NAME.edit, so it tries them beside those
 of the gate, of which it tries none again that nothing has changed for. Its exit status is that of `rt must-fail`."""
 import os
+import signal
 import subprocess
 import sys
 
@@ -28,6 +29,8 @@ def main(words):
     if lacking or not words:
         sys.exit(f"mutants.py: there is no {os.path.relpath(lacking[0], TOP)}" if lacking else __doc__)
     shown = []
+    # (who stops it finds the names as they were)
+    signal.signal(signal.SIGTERM, lambda *_: sys.exit(1))
     try:
         for file in files:
             os.rename(file, file.removesuffix(".md"))

@@ -182,9 +182,29 @@ fn make_page<A: Allocator + Copy, F: Folder, I: Read + Drop>(
         target.place(),
     );
     match done {
-        Ok(status) => match file.finish() {
+        Ok(status) => match finish_page(file, targets, folder, target.place()) {
             Ok(()) => Ok(status),
-            Err(error) => Err(Stop::Write(target.place(), error)),
+            Err(stop) => Err(stop),
+        },
+        Err(stop) => {
+            file.give_up();
+            Err(stop)
+        }
+    }
+}
+
+/// Gives the file of a page, which is whole, its name, if that leads to none of the other files
+/// now that they are read.
+fn finish_page<F: Folder>(
+    file: NewFile<'_, F>,
+    targets: &Targets<'_>,
+    folder: &F,
+    place: Place,
+) -> Result<(), Stop> {
+    match targets.require_still_apart(folder) {
+        Ok(()) => match file.finish() {
+            Ok(()) => Ok(()),
+            Err(error) => Err(Stop::Write(place, error)),
         },
         Err(stop) => {
             file.give_up();

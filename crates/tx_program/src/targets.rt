@@ -79,6 +79,11 @@ impl<'n> Targets<'n> {
         }
     }
 
+    /// Looks once more where the names lead, and refuses files to be made as before.
+    pub(crate) fn require_still_apart<F: Folder>(&self, folder: &F) -> Result<(), Stop> {
+        self.require_apart(&self.made(folder))
+    }
+
     /// The name of a file to be made, if it is named, found once more to be none of the others.
     pub(crate) fn get<F: Folder>(
         &self,
@@ -90,7 +95,7 @@ impl<'n> Targets<'n> {
         let Some(name) = self.names[index] else {
             return Ok(None);
         };
-        self.require_apart(&self.made(folder))?;
+        self.require_still_apart(folder)?;
         Ok(Some(Target {
             place: Place::Made(index),
             name,
