@@ -17,7 +17,7 @@ use Rattle.tx_jobs.specs.JobFaults.{old_plan_fault, new_plan_fault, mark_by}
 use Rattle.tx_jobs.specs.LintJobs.{lint_fault}
 use Rattle.tx_jobs.specs.declared.two_plans.TwoPlans.{TwoPlans}
 use Rattle.tx_jobs.specs.inner.TwoPlans.{IsJoinOf, AreReadAndJoined}
-use Rattle.tx_jobs.specs.TwoPlans.{SaysWhole, RefusedWhole, NotWhole, GivesNoPlan, join_fault, IsNoJoinOf, AreJoined, AreNotJoined}
+use Rattle.tx_jobs.specs.TwoPlans.{SaysWhole, NotWhole, GivesNoPlan, join_fault, IsNoJoinOf, AreJoined, AreNotJoined}
 use Rattle.tx_jobs.proofs.RefusedTexts.{old_plan_mark, new_plan_mark}
 
 -- why a text was not read to its end

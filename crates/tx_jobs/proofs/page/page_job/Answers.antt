@@ -1,5 +1,4 @@
 use Rattle.std.proofs.Common.{inl, inr, refl}
-use Rattle.tx_text.specs.Ends.{input}
 use Rattle.tx_text.proofs.Exits.{exits_with}
 use Rattle.tx_jobs.specs.JobFaults.{plan_fault}
 use Rattle.tx_jobs.proofs.Did.{uncalled}

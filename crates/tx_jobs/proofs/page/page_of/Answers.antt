@@ -1,6 +1,5 @@
 use Rattle.std.proofs.Common.{refl}
 use Rattle.tx_text.proofs.Exits.{exits_with}
-use Rattle.tx_jobs.specs.declared.job_fault.JobFault.TheVariants.{NoSuchCode}
 use Rattle.tx_jobs.proofs.Did.{uncalled}
 use Rattle.tx_jobs.proofs.page.page_of.Goals as goal
 

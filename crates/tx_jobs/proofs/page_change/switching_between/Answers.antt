@@ -1,8 +1,6 @@
-use Rattle.std.proofs.Common.{inr, refl, subst, sym}
+use Rattle.std.proofs.Common.{inr, refl}
 use Rattle.tx_text.proofs.Exits.{exits_with}
-use Rattle.tx_plan.specs.Plan.{Plan}
 use Rattle.tx_join.specs.declared.refusal.JoinRefusal.TheVariants.{NoMemory as JoinNoMemory}
-use Rattle.tx_order.specs.Switchings.{IsRightSwitching}
 use Rattle.tx_jobs.specs.declared.job_fault.JobFault.TheVariants.{NoMemory}
 use Rattle.tx_jobs.proofs.JoinedPlans.{joined_network}
 use Rattle.tx_jobs.proofs.page_change.switching_between.Goals as goal

@@ -1,5 +1,4 @@
 use Rattle.std.proofs.Common.{inl, inr, refl}
-use Rattle.tx_text.specs.Ends.{input}
 use Rattle.tx_text.specs.Calls.{source_calls}
 use Rattle.tx_text.proofs.CallCounts.{went_none, calls_so_far}
 use Rattle.tx_text.proofs.Exits.{exits_with}
