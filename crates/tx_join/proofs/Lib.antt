@@ -16,3 +16,4 @@ pub mod Stages
 pub mod StepsDeclared
 pub mod Splits
 pub mod Counts
+pub mod RangesByCode

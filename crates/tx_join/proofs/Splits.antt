@@ -5,12 +5,15 @@ use Rattle.std.specs.List.{list_any, range_with_len, AllByRecursion}
 use Rattle.std.specs.Option.{option_map_or}
 use Rattle.std.proofs.lemmas.List.{map-append, take_more}
 use Rattle.std.proofs.lemmas.List.Concat.{flat_map-append}
-use Rattle.std.proofs.lemmas.List.FromFn.{length-range_with_len}
+use Rattle.std.proofs.lemmas.List.FromFn.{length-range_with_len, get_or-map-range_with_len}
+use Rattle.std.proofs.lemmas.Option.{slice_get-get_or}
 use Rattle.std.proofs.lemmas.List.Elements.{filter-append}
 use Rattle.tx_plan.specs.declared.ids.Pair.{Pair}
 use Rattle.tx_plan.specs.Plan.{Plan, Route, home_of}
 use Rattle.tx_plan.specs.Rules.{IsPlan}
 use Rattle.tx_plan.specs.Routes.{route_list}
+use Rattle.tx_plan.proofs.ByIndex.{all_at}
+use Rattle.tx_plan.proofs.Growing.{seizes_within}
 use Rattle.tx_plan.proofs.Lists.{all_map}
 use Rattle.tx_join.specs.Joined.{has_both, route_in, bar_in, bars_of_code, bars_from, routes_over, bars_over}
 use Rattle.tx_join.specs.inner.Taken.{taken_routes, taken_bars, RoutesDiffer, BarsDiffer}
@@ -21,20 +24,39 @@ use Rattle.tx_join.proofs.Stages.{front_pairs}
 
 -- LISTS OF GROUPS
 
--- the list of an exchange has at most 16 groups
-pub list_few : (p : Plan) → IsPlan p → (x c : ℕ) → length (route_list p x c) ≤ 16
-list_few p ok x c = found p.routes (all_map p.routes (λ r h. h.few) ok.routes)
+-- what holds of no groups, and of those of each route, holds of each list
+of_list : (P : List ℕ → Type 0) → P [] → (p : Plan) (x c : ℕ) → AllByRecursion (λ r. P r.groups) p.routes → P (route_list p x c)
+of_list P none p x c h = found p.routes h
   where
     t : Route → Bool
     t r = (r.exchange == x) && (r.code == c)
 
-    found : (rs : List Route) → AllByRecursion (λ r. length r.groups ≤ 16) rs → length (option_map_or (λ (r : Route). r.groups) (find t rs) []) ≤ 16
-    found [] h = omega arith
-    found (r ∷ rs) h = by (t r) (found rs h.1)
+    found : (rs : List Route) → AllByRecursion (λ r. P r.groups) rs → P (option_map_or (λ (r : Route). r.groups) (find t rs) [])
+    found [] k = none
+    found (r ∷ rs) k = by (t r) (found rs k.1)
       where
-        by : (b : Bool) → length (option_map_or (λ (r : Route). r.groups) (find t rs) []) ≤ 16 → length (option_map_or (λ (r : Route). r.groups) (cond b (Some r) (find t rs)) []) ≤ 16
-        by true k = h.0
-        by false k = k
+        by : (b : Bool) → P (option_map_or (λ (r : Route). r.groups) (find t rs) []) → P (option_map_or (λ (r : Route). r.groups) (cond b (Some r) (find t rs)) [])
+        by true m = k.0
+        by false m = m
+
+-- the list of an exchange has at most 16 groups
+pub list_few : (p : Plan) → IsPlan p → (x c : ℕ) → length (route_list p x c) ≤ 16
+list_few p ok x c = of_list (λ gs. length gs ≤ 16) (omega arith) p x c (all_map p.routes (λ r h. h.few) ok.routes)
+
+-- and they are groups of the plan
+pub list_within : (p : Plan) → IsPlan p → (x c : ℕ) → AllByRecursion (λ g. g < length p.groups) (route_list p x c)
+list_within p ok x c = of_list (λ gs. AllByRecursion (λ g. g < length p.groups) gs) tt p x c (all_map p.routes (λ r h. all_map r.groups (λ g s. seizes_within p g r.exchange s) h.outgoing) ok.routes)
+
+-- so are the members of it, one by one
+pub member_within : (p : Plan) → IsPlan p → (x c : ℕ) (list : List ℕ) → list ≡ route_list p x c → (i g k : ℕ) → i < length list → g ≡ get_or list i g → k ≡ g → k < length p.groups
+member_within p ok x c list e i g k l is same =
+    subst (λ n. n < length p.groups) (sym same) (all_at (λ g. g < length p.groups) list i g (subst (λ gs. AllByRecursion (λ g. g < length p.groups) gs) (sym e) (list_within p ok x c)) (slice_get-get_or list i g l ∙ ap Some (sym is)))
+
+-- what a table has at an index
+pub table_at : {A : Type 0} (f : ℕ → A) (n i : ℕ) (table : List A) (a : A) → table ≡ map f (range_with_len 0 n) → i < n → a ≡ get_or table i a → a ≡ f i
+table_at f n i table a e l is =
+    let z : 0 + i ≡ i = omega arith in
+    is ∙ ap (λ t. get_or t i a) e ∙ get_or-map-range_with_len f 0 n i i a l z
 
 -- one member more is mapped
 pub mapped_next : {A B : Type 0} (f : A → B) (xs : List A) (i : ℕ) (x : A) → i < length xs → x ≡ get_or xs i x → map f (take i xs) ++ f x ∷ [] ≡ map f (take (i + 1) xs)

@@ -1,10 +1,11 @@
 // The writer of the differences of two plans beside their lists and bars.
 ghost use Rattle.std.specs.Prelude.{◌≡◌, ◌<◌, ◌≤◌, false, length, slice_get};
-ghost use Rattle.std.specs.List.{flat_map};
+ghost use Rattle.std.specs.List.{flat_map, list_any};
 ghost use Rattle.std.specs.Option.{option_map_or};
 ghost use Rattle.tx_text.specs.Wrote.{Wrote};
 ghost use Rattle.tx_text.specs.Written.{line_written};
-ghost use Rattle.tx_join.specs.Differences.{exchange_lines, code_lines, is_range, has_range, lines_of_range, range_lines, group_lines, lines_of_circuits, circuits_lines, entry_lines, count_of_entries, each_written, changes, difference_text};
+ghost use Rattle.tx_join.specs.Differences.{exchange_lines, code_lines, has_range, lines_of_range, range_lines, group_lines, lines_of_circuits, circuits_lines, entry_lines, count_of_entries, each_written, changes, difference_text};
+ghost use Rattle.tx_join.specs.inner.Ranges.{is_range_of};
 
 use crate::naming::{has_code, has_exchange, has_group};
 use itoa::Buffer;
@@ -181,6 +182,17 @@ fn write_range<A: Allocator, W: Sink>(
 fn has_range<A: Allocator>(plan: &Plan<A>, code: &[u8], low: &[u8], high: &[u8]) -> bool
     ensures { result ≡ has_range plan.now code.now low.now high.now }
 {
+    plan.rules();
+    match plan.code_named(code) {
+        Some(code) => has_range_of(plan, code, low, high),
+        None => false,
+    }
+}
+
+/// The same, by the code's id.
+fn has_range_of<A: Allocator>(plan: &Plan<A>, code: CodeId, low: &[u8], high: &[u8]) -> bool
+    ensures { result ≡ list_any (is_range_of code low.now high.now) plan.now.ranges }
+{
     for index in 0..plan.ranges() {
         if is_range_at(plan, index, code, low, high) {
             return true;
@@ -193,18 +205,16 @@ fn has_range<A: Allocator>(plan: &Plan<A>, code: &[u8], low: &[u8], high: &[u8])
 fn is_range_at<A: Allocator>(
     plan: &Plan<A>,
     index: usize,
-    code: &[u8],
+    code: CodeId,
     low: &[u8],
     high: &[u8],
 ) -> bool
-    ensures { result ≡ option_map_or (is_range plan.now code.now low.now high.now)
+    ensures { result ≡ option_map_or (is_range_of code low.now high.now)
         (slice_get plan.now.ranges index) false }
 {
     match plan.range_at(index) {
         Some(range) => {
-            plan.code_figures(range.code) == code
-                && range.low.bytes() == low
-                && range.high.bytes() == high
+            range.code == code && range.low.bytes() == low && range.high.bytes() == high
         }
         None => false,
     }

@@ -1,11 +1,14 @@
 // What two plans know by the same names.
-ghost use Rattle.std.specs.Prelude.{◌≡◌, map};
+ghost use Rattle.std.specs.Prelude.{◌≡◌, length, map, IfOk};
+ghost use Rattle.tx_plan.specs.Plan.{Plan as PlanNow};
 ghost use Rattle.tx_plan.specs.Routes.{route_list};
 ghost use Rattle.tx_plan.specs.Declaring.{has_exchange, has_code, has_group};
 ghost use Rattle.tx_join.specs.Joined.{exchange_in, code_in, group_in, has_both, circuits_named};
+ghost use Rattle.tx_join.specs.inner.Taken.{groups_in};
 
 use std::alloc::Allocator;
 use tx_plan::{CodeId, ExchangeId, GroupId, GroupList, Plan};
+use tx_text::NoMemory;
 
 /// The exchange of another plan that has the name of one of this plan; the first where there is
 /// none.
@@ -42,19 +45,37 @@ pub(crate) fn group_in<A: Allocator>(plan: &Plan<A>, from: &Plan<A>, group: Grou
     }
 }
 
-/// The list of an exchange for a code, as groups of another plan.
-pub(crate) fn list_in<A: Allocator>(
+/// For each group of a plan, that of another plan which has its name.
+pub(crate) fn groups_in<A: Allocator + Copy>(
+    alloc: A,
     plan: &Plan<A>,
+    from: &Plan<A>,
+) -> Result<Vec<GroupId, A>, NoMemory>
+    ensures { IfOk result (λ groups. groups.items ≡ groups_in plan.now from.now) }
+{
+    let mut groups = Vec::with_capacity(alloc, from.groups())?;
+    for index in 0..from.groups() {
+        groups.push_reserved(group_in(plan, from, GroupId::of(index)));
+    }
+    Ok(groups)
+}
+
+/// The list of an exchange for a code, as groups of another plan: for each group of the plan, the
+/// one there.
+pub(crate) fn list_in<A: Allocator>(
+    groups: &[GroupId],
     from: &Plan<A>,
     exchange: ExchangeId,
     code: CodeId,
 ) -> GroupList
-    ensures { result.items ≡ map (group_in plan.now from.now) (route_list from.now exchange code) }
+    requires { length groups.now ≡ length from.now.groups }
+    ensures { (plan : PlanNow) → groups.now ≡ groups_in plan from.now
+        → result.items ≡ map (group_in plan from.now) (route_list from.now exchange code) }
 {
     let mut list = GroupList::new();
     let tried = from.list(exchange, code);
     for group in tried {
-        list.push(group_in(plan, from, *group));
+        list.push(groups[group.index()]);
     }
     list
 }

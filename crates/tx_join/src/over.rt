@@ -4,7 +4,7 @@ ghost use Rattle.tx_plan.specs.Rules.{IsPlan};
 ghost use Rattle.tx_join.specs.Joined.{exchange_in, code_in, plan_over, routes_over, bars_over, bars_of_code, bars_from};
 ghost use Rattle.tx_join.specs.inner.Taken.{takes, taken_routes, taken_bars, has_bar, RoutesDiffer, BarsDiffer};
 
-use crate::naming::{code_in, exchange_in, has_both, list_in};
+use crate::naming::{code_in, exchange_in, groups_in, has_both, list_in};
 use std::alloc::Allocator;
 use tx_plan::{Bars, CodeId, ExchangeId, Pair, Plan, Routes};
 use tx_text::NoMemory;
@@ -59,14 +59,15 @@ fn routes_over<A: Allocator + Copy>(
     ensures { IfOk result (λ routes. routes ≡ routes_over network.now own.now other.now) }
 {
     let mut routes = Routes::new(alloc);
-    add_routes(network, own, own, true, &mut routes)?;
-    add_routes(network, own, other, false, &mut routes)?;
+    add_routes(alloc, network, own, own, true, &mut routes)?;
+    add_routes(alloc, network, own, other, false, &mut routes)?;
     Ok(routes)
 }
 
 /// Adds the routes of a plan: all of them, or those for an exchange or a code that another plan
 /// does not have.
-fn add_routes<A: Allocator>(
+fn add_routes<A: Allocator + Copy>(
+    alloc: A,
     network: &Plan<A>,
     own: &Plan<A>,
     from: &Plan<A>,
@@ -77,12 +78,13 @@ fn add_routes<A: Allocator>(
     ensures { OnOk result (routes.new
         ≡ routes.old ++ taken_routes network.now own.now from.now whole) }
 {
+    let groups = groups_in(alloc, network, from)?;
     for index in 0..from.routes() {
         match from.route_at(index) {
             Some((exchange, code)) => {
                 if takes(own, from, whole, exchange, code) {
                     let pair = pair_in(network, from, exchange, code);
-                    routes.add(pair, list_in(network, from, exchange, code))?;
+                    routes.add(pair, list_in(&groups, from, exchange, code))?;
                 }
             }
             None => unreachable!(),

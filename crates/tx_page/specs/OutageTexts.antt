@@ -1,5 +1,5 @@
 -- What a page shows of outages.
-use Rattle.std.specs.Prelude.{ℕ, Bool, true, false, not, ◌&&◌, ◌||◌, if◌then◌else◌, List, [], ◌∷◌, ◌++◌, length, codes, decimal, count_by, slice_get}
+use Rattle.std.specs.Prelude.{ℕ, Bool, ◌&&◌, if◌then◌else◌, List, [], ◌∷◌, ◌++◌, length, codes, decimal, count_by, slice_get}
 use Rattle.std.specs.List.{flat_map}
 use Rattle.std.specs.Option.{option_map_or}
 use Rattle.tx_plan.specs.Plan.{Plan, exchange_name, figures_of, group_name}
@@ -8,7 +8,7 @@ use Rattle.tx_risk.specs.declared.outage.Outage.{Outage}
 use Rattle.tx_risk.specs.declared.outage.Outage.TheVariants.{Group, Exchange, Named}
 use Rattle.tx_risk.specs.declared.cut.Cut.{Cut}
 use Rattle.tx_risk.specs.declared.cut.Outcome.{Outcome}
-use Rattle.tx_risk_report.specs.OutageReport.{is_group, is_exchange, is_harmless}
+use Rattle.tx_risk_report.specs.OutageReport.{is_group, is_exchange, is_harmless, cut_off, astray, is_told}
 
 -- what kind of thing fails
 abbrev pub outage_kind : Outage → List ℕ
@@ -22,21 +22,7 @@ outage_name p risks (Group g) = group_name p g
 outage_name p risks (Exchange x) = exchange_name p x
 outage_name p risks (Named i) = option_map_or (λ r. r.name) (slice_get risks i) []
 
--- it is a named risk that fails
-abbrev pub is_named : Outage → Bool
-is_named (Named i) = true
-is_named (Group g) = false
-is_named (Exchange x) = false
-
 module _ {A : Type 0} where
-  -- from how many starts no way is left
-  abbrev pub cut_off : List (Cut A) → ℕ
-  cut_off cuts = count_by (λ c. not c.stray) cuts
-
-  -- from how many starts a way is left, and one that leads astray
-  abbrev pub astray : List (Cut A) → ℕ
-  astray cuts = count_by (λ c. c.stray) cuts
-
   -- a code, where calls for it start, and whether they are cut off or may go astray
   abbrev pub cut_texts : Plan → Cut A → List (List ℕ)
   cut_texts p c = figures_of p c.code ∷ exchange_name p c.walk.start
@@ -45,16 +31,12 @@ module _ {A : Type 0} where
   -- an outage, how many starts it cuts off and may lead astray, and which
   abbrev pub outcome_texts : Plan → List NamedRisk → Outcome A → List (List ℕ)
   outcome_texts p risks o = (outage_kind o.outage ∷ outage_name p risks o.outage
-      ∷ decimal (cut_off o.cuts.items) ∷ decimal (astray o.cuts.items) ∷ [])
+      ∷ decimal (cut_off o) ∷ decimal (astray o) ∷ [])
       ++ flat_map (cut_texts p) o.cuts.items
 
-  -- a named risk is shown, and what else cuts somebody off
-  abbrev pub is_shown : Outcome A → Bool
-  is_shown o = is_named o.outage || not (is_harmless o)
-
-  -- the same, if it is shown
+  -- the same, if the outage is told
   abbrev pub shown_texts : Plan → List NamedRisk → Outcome A → List (List ℕ)
-  shown_texts p risks o = if is_shown o then outcome_texts p risks o else []
+  shown_texts p risks o = if is_told o then outcome_texts p risks o else []
 
   -- how many things of a kind cut nobody off
   abbrev pub harmless : (Outage → Bool) → List (Outcome A) → ℕ
@@ -65,7 +47,7 @@ module _ {A : Type 0} where
   total_texts outcomes = decimal (length outcomes) ∷ decimal (harmless is_group outcomes)
       ∷ decimal (harmless is_exchange outcomes) ∷ []
 
-  -- the totals, and the outages that are shown, in their order
+  -- the totals, and the outages that are told, in their order
   abbrev pub tried_texts : Plan → List NamedRisk → List (Outcome A) → List (List ℕ)
   tried_texts p risks outcomes = total_texts outcomes ++ flat_map (shown_texts p risks) outcomes
 

@@ -2,14 +2,13 @@
 ghost use Rattle.std.specs.Prelude.{◌≡◌};
 ghost use Rattle.std.specs.List.{flat_map};
 ghost use Rattle.tx_html.specs.Shows.{Showed};
-ghost use Rattle.tx_page.specs.OutageTexts.{outage_kind, outage_name, cut_off, astray, cut_texts, outcome_texts, is_named, is_shown, shown_texts, total_texts, tried_texts, outages_texts};
-ghost use Rattle.tx_risk_report.specs.OutageReport.{is_harmless};
+ghost use Rattle.tx_page.specs.OutageTexts.{outage_kind, outage_name, cut_texts, outcome_texts, shown_texts, total_texts, tried_texts, outages_texts};
 
 use std::alloc::Allocator;
 use tx_html::{PageSink, Part, set};
 use tx_plan::Plan;
 use tx_risk::{Cut, Outage, Outcome, Risks};
-use tx_risk_report::{harmless_exchanges, harmless_groups, is_harmless};
+use tx_risk_report::{count_cut, count_stray, harmless_exchanges, harmless_groups, is_told};
 use tx_text::WriteFault;
 
 /// Writes each named risk, and each group and each exchange that cuts somebody off, with those that
@@ -91,34 +90,6 @@ fn write_outcomes<A: Allocator, W: PageSink>(
     Ok(())
 }
 
-/// From how many starts no way is left.
-fn count_cut_off<A: Allocator>(cuts: &[Cut<A>]) -> usize
-    ensures { result ≡ cut_off cuts.now }
-{
-    cuts.iter().filter(|cut| !cut.stray).count()
-}
-
-/// From how many starts a way is left, and one that leads astray.
-fn count_astray<A: Allocator>(cuts: &[Cut<A>]) -> usize
-    ensures { result ≡ astray cuts.now }
-{
-    cuts.iter().filter(|cut| cut.stray).count()
-}
-
-/// Whether it is a named risk that fails.
-fn is_named(outage: &Outage) -> bool
-    ensures { result ≡ is_named outage.now }
-{
-    matches!(outage, Outage::Named(_))
-}
-
-/// Whether an outcome is shown: that of a named risk, or one that cuts somebody off.
-fn is_shown<A: Allocator>(outcome: &Outcome<A>) -> bool
-    ensures { result ≡ is_shown outcome.now }
-{
-    is_named(&outcome.outage) || !is_harmless(outcome)
-}
-
 /// What kind of thing fails.
 fn kind_of(outage: &Outage) -> &'static [u8]
     ensures { result.now ≡ outage_kind outage.now }
@@ -141,7 +112,7 @@ fn name_of<'a, A: Allocator>(plan: &'a Plan<A>, risks: &'a Risks<A>, outage: &Ou
     }
 }
 
-/// Writes an outcome, if it is shown.
+/// Writes an outcome, if it is told.
 fn write_shown<'a, A: Allocator, W: PageSink>(
     plan: &'a Plan<A>,
     risks: &'a Risks<A>,
@@ -151,7 +122,7 @@ fn write_shown<'a, A: Allocator, W: PageSink>(
     ensures { Showed W.seen sink.old sink.new
         (shown_texts plan.now risks.now outcome.now) result }
 {
-    if is_shown(outcome) {
+    if is_told(outcome) {
         write_outcome(plan, risks, outcome, sink)
     } else {
         Ok(())
@@ -175,9 +146,9 @@ fn write_outcome<'a, A: Allocator, W: PageSink>(
             Part::Own(" <b>"),
             Part::Text(name_of(plan, risks, &outcome.outage)),
             Part::Own("</b>: "),
-            Part::Count(count_cut_off(&outcome.cuts) as u64),
+            Part::Count(count_cut(outcome) as u64),
             Part::Own(" cut off, "),
-            Part::Count(count_astray(&outcome.cuts) as u64),
+            Part::Count(count_stray(outcome) as u64),
             Part::Own(" astray</summary><ul class=\"c\">"),
         ],
         sink,

@@ -57,17 +57,28 @@ module _ {A : Type 0} where
   abbrev pub is_harmless : Outcome A → Bool
   is_harmless o = length o.cuts.items == 0
 
+  -- how many starts it cuts off without a way home
+  abbrev pub cut_off : Outcome A → ℕ
+  cut_off o = count_by (λ c. not c.stray) o.cuts.items
+
+  -- how many with one
+  abbrev pub astray : Outcome A → ℕ
+  astray o = count_by (λ c. c.stray) o.cuts.items
+
   -- what fails, and how many starts it cuts off, without a way home and with one
   abbrev pub total_line : Plan → List NamedRisk → Outcome A → List ℕ
   total_line p risks o =
       outage_words p risks o.outage
-      ++ (codes " CUT " ++ (decimal (count_by (λ c. not c.stray) o.cuts.items)
-      ++ (codes " STRAY " ++ (decimal (count_by (λ c. c.stray) o.cuts.items) ++ codes "\n"))))
+      ++ (codes " CUT " ++ (decimal (cut_off o)
+      ++ (codes " STRAY " ++ (decimal (astray o) ++ codes "\n"))))
 
-  -- that, of a named risk, and of a group or an exchange that cuts somebody off
+  -- a named risk is told, and what else cuts somebody off
+  abbrev pub is_told : Outcome A → Bool
+  is_told o = is_named o.outage || not (is_harmless o)
+
+  -- the totals of an outage that is told
   abbrev pub total_text : Plan → List NamedRisk → Outcome A → List ℕ
-  total_text p risks o =
-      if is_named o.outage || not (is_harmless o) then total_line p risks o else []
+  total_text p risks o = if is_told o then total_line p risks o else []
 
   -- the groups and the exchanges that cut nobody off
   abbrev pub harmless_text : List (Outcome A) → List ℕ

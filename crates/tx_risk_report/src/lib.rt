@@ -8,4 +8,6 @@ mod totals;
 
 pub use law::cut_is_shown;
 pub use outage_report::write_survival;
-pub use totals::{harmless_exchanges, harmless_groups, is_harmless};
+pub use totals::{
+    count_cut, count_stray, harmless_exchanges, harmless_groups, is_harmless, is_told,
+};

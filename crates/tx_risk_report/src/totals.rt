@@ -1,9 +1,9 @@
 // How many starts each outage cuts off, and all of them.
-ghost use Rattle.std.specs.Prelude.{◌≡◌, ◌&&◌, ◌||◌, not, ◌++◌, [], if◌then◌else◌, count_by};
+ghost use Rattle.std.specs.Prelude.{◌≡◌, ◌&&◌, ◌++◌, [], if◌then◌else◌, count_by};
 ghost use Rattle.std.specs.List.{flat_map};
 ghost use Rattle.tx_text.specs.Wrote.{Wrote};
 ghost use Rattle.tx_rank.specs.Report.{verdict_line};
-ghost use Rattle.tx_risk_report.specs.OutageReport.{is_named, is_group, is_exchange, is_harmless, harmless_line, harmless_text, total_line, total_text, count_of};
+ghost use Rattle.tx_risk_report.specs.OutageReport.{is_named, is_group, is_exchange, is_harmless, harmless_line, harmless_text, cut_off, astray, is_told, total_line, total_text, count_of};
 
 use crate::outage_report::write_outage;
 use itoa::Buffer;
@@ -37,7 +37,7 @@ fn write_total<A: Allocator, W: Sink>(
     ensures { Wrote W.taken W.failed sink.old sink.new
         (total_text plan.now risks.now outcome.now) result }
 {
-    if is_named(&outcome.outage) || !is_harmless(outcome) {
+    if is_told(outcome) {
         return write_total_line(plan, risks, outcome, sink);
     }
     Ok(())
@@ -60,16 +60,23 @@ fn write_total_line<A: Allocator, W: Sink>(
     write_parts(&[b" CUT ", cut, b" STRAY ", stray, b"\n"], sink)
 }
 
+/// Whether an outage is told: a named risk is, and what else cuts somebody off.
+pub fn is_told<A: Allocator>(outcome: &Outcome<A>) -> bool
+    ensures { result ≡ is_told outcome.now }
+{
+    is_named(&outcome.outage) || !is_harmless(outcome)
+}
+
 /// How many starts it cuts off without a way home.
-fn count_cut<A: Allocator>(outcome: &Outcome<A>) -> usize
-    ensures { result ≡ count_by (λ c. not c.stray) outcome.now.cuts.items }
+pub fn count_cut<A: Allocator>(outcome: &Outcome<A>) -> usize
+    ensures { result ≡ cut_off outcome.now }
 {
     outcome.cuts.iter().filter(|cut| !cut.stray).count()
 }
 
 /// How many with one.
-fn count_stray<A: Allocator>(outcome: &Outcome<A>) -> usize
-    ensures { result ≡ count_by (λ c. c.stray) outcome.now.cuts.items }
+pub fn count_stray<A: Allocator>(outcome: &Outcome<A>) -> usize
+    ensures { result ≡ astray outcome.now }
 {
     outcome.cuts.iter().filter(|cut| cut.stray).count()
 }

@@ -1,10 +1,14 @@
 -- The routes and bars that a plan over the joined network takes from one plan.
-use Rattle.std.specs.Prelude.{◌≡◌, ◌≢◌, ℕ, Bool, not, ◌||◌, ◌&&◌, ◌==◌, nat_lt, List, map, filter}
-use Rattle.std.specs.List.{list_any}
+use Rattle.std.specs.Prelude.{◌≡◌, ◌≢◌, ℕ, Bool, not, ◌||◌, ◌&&◌, ◌==◌, nat_lt, List, length, map, filter}
+use Rattle.std.specs.List.{list_any, range_with_len}
 use Rattle.tx_plan.specs.declared.ids.Pair.{Pair}
 use Rattle.tx_plan.specs.Plan.{Plan, Route}
 use Rattle.tx_plan.specs.Rules.{EachPair}
-use Rattle.tx_join.specs.Joined.{has_both, route_in, bar_in}
+use Rattle.tx_join.specs.Joined.{group_in, has_both, route_in, bar_in}
+
+-- for each group of `from`, the one in j
+abbrev pub groups_in : (j from : Plan) → List ℕ
+groups_in j from = map (group_in j from) (range_with_len 0 (length from.groups))
 
 -- a list or bar of `from` is taken: the plan is taken whole, or `own` lacks the exchange or the
 -- code

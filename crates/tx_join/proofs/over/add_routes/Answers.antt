@@ -1,9 +1,11 @@
-use Rattle.std.proofs.Common.{◌≡◌, ◌==◌, ◌&&◌, ◌++◌, ◌∷◌, [], false, ◌∙◌, sym, subst, arith, append-nil}
+use Rattle.std.proofs.Common.{◌≡◌, ◌==◌, ◌&&◌, ◌++◌, ◌∷◌, [], false, ◌∙◌, sym, ap, subst, arith, length, append-nil}
 use Rattle.std.specs.Prelude.{slice_get}
 use Rattle.std.specs.List.{list_any}
+use Rattle.std.proofs.lemmas.List.FromFn.{length-map-range_with_len}
 use Rattle.tx_plan.specs.declared.ids.Pair.{Pair}
 use Rattle.tx_plan.specs.Plan.{Route}
 use Rattle.tx_plan.proofs.ByIndex.{entry_at}
+use Rattle.tx_join.specs.Joined.{group_in}
 use Rattle.tx_join.proofs.NextTaken.{route_got, route_next, route_left, route_free, routes_taken, no_pair}
 use Rattle.tx_join.proofs.over.add_routes.Goals as goal
 use Rattle.tx_join.proofs.over.add_routes.Goals.{then-takes+in_ok-add-in-Some, else-takes}
@@ -26,13 +28,18 @@ unreachable-requires g c =
     let e = entry_at p.routes c.loop-index.index (omega arith) in
     no_pair (λ (r : Route). (r.exchange, r.code)) (slice_get p.routes c.loop-index.index) e.0 e.1 (sym c.in-None.is ∙ c.route_at.ensures.value)
 
+pub list_in-requires : goal.list_in-requires
+list_in-requires g c = ap length (c.deref.ensures.value ∙ c.in_ok-groups.ensures) ∙ length-map-range_with_len (group_in c.args.network.now c.args.from.now) 0 (length c.args.from.now.groups)
+
 pub loop-index-preserved : goal.loop-index-preserved
 loop-index-preserved g c =
     let from = c.args.from.now in
     let at = route_got from c.routes-index-end.ensures.rules c.loop-index.index _ c.in-Some.ensures.value in
     elim c.if-takes.branch [
-      | then-takes+in_ok-add-in-Some w ↦ route_next c.args.network.now c.args.own.now from c.args.whole c.args.routes.now c.loop-index.routes c.loop-index.index _ at c.loop-index.invariant _ (sym c.takes.ensures ∙ w.if-takes.true)
-          (w.routes-is ∙ w.in_ok-add-in-Some.ensures.ok ∙ (λ i. c.loop-index.routes ++ record { exchange = (w.pair_in-pair.ensures i).exchange; code = (w.pair_in-pair.ensures i).code; groups = w.list_in.ensures i } ∷ []))
+      | then-takes+in_ok-add-in-Some w ↦
+          let list = w.list_in.ensures c.args.network.now (w.deref.ensures.value ∙ c.in_ok-groups.ensures) in
+          route_next c.args.network.now c.args.own.now from c.args.whole c.args.routes.now c.loop-index.routes c.loop-index.index _ at c.loop-index.invariant _ (sym c.takes.ensures ∙ w.if-takes.true)
+          (w.routes-is ∙ w.in_ok-add-in-Some.ensures.ok ∙ (λ i. c.loop-index.routes ++ record { exchange = (w.pair_in-pair.ensures i).exchange; code = (w.pair_in-pair.ensures i).code; groups = list i } ∷ []))
       | else-takes w ↦ route_left c.args.network.now c.args.own.now from c.args.whole c.args.routes.now c.loop-index.routes c.loop-index.index _ at c.loop-index.invariant _ (sym c.takes.ensures ∙ w.if-takes.false) w.routes-is
     ]
 
