@@ -11,7 +11,7 @@ use tx_rank::{Finding, Ranking};
 use tx_text::{NoMemory, WriteFault};
 
 /// The plan that was read, and what was found of it.
-#[derive(Debug, Drop)]
+#[derive(Drop)]
 pub enum Audited<A: Allocator = Global> {
     /// The plan is sound, as this certificate shows: it ranks the exchanges by their heights.
     Sound(Plan<A>, Cert<A>),

@@ -19,10 +19,20 @@ use tx_plan::ByWord;
 use tx_text::NoMemory;
 
 /// The open calls. Each has a key from its opening to its end, and is found by its number.
-#[derive(Debug, Drop)]
 pub struct OpenCalls<A: Allocator = Global> {
     calls: Slab<OpenCall<A>, A>,
     by_number: IndexMap<u32, usize, ByWord, A>,
+}
+
+impl<A: Allocator> Drop for OpenCalls<A> {
+    fn drop(self) {
+        let Self {
+            calls,
+            by_number,
+        } = self;
+        drop(calls);
+        drop(by_number);
+    }
 }
 
 impl<A: Allocator> Model for OpenCalls<A> {

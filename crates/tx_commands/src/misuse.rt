@@ -6,7 +6,7 @@ use clap::error::ErrorKind;
 use std::alloc::{AllocError, Global};
 
 /// Why the words of a command are refused, beside what the library of command lines refuses.
-#[derive(Debug, Drop)]
+#[derive(Drop)]
 pub(crate) enum Misuse {
     /// A word that it needs is missing, which the grammar rules out.
     Incomplete,

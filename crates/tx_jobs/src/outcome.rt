@@ -28,7 +28,7 @@ use tx_text::{NoMemory, Sink, SliceSource, Source};
 
 /// What a command came to, and the revised text of the plan that it made, if that goes into a file
 /// and is of the network of the text.
-#[derive(Debug, Drop)]
+#[derive(Drop)]
 pub struct Outcome<A: Allocator = Global> {
     pub done: Done<A>,
     pub text: Option<Vec<u8, A>>,

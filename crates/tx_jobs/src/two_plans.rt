@@ -15,7 +15,7 @@ use tx_text::Source;
 
 /// Which plan a text says: the one that a command is about, or the old or the new one of a change
 /// or an order.
-#[derive(Clone, Copy, Debug)]
+#[derive(Clone, Copy)]
 pub(crate) enum Which {
     This,
     Old,
@@ -23,7 +23,7 @@ pub(crate) enum Which {
 }
 
 /// Two plans, and both over their joined network.
-#[derive(Debug, Drop)]
+#[derive(Drop)]
 pub(crate) struct TwoPlans<A: Allocator = Global> {
     pub old: Plan<A>,
     pub new: Plan<A>,
@@ -49,7 +49,7 @@ impl<A: Allocator> TwoPlans<A> {
 }
 
 /// A plan, and the text that says it.
-#[derive(Debug, Drop)]
+#[derive(Drop)]
 pub(crate) struct PlanText<A: Allocator = Global> {
     pub text: Vec<u8, A>,
     pub plan: Plan<A>,

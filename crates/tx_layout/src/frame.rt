@@ -12,7 +12,7 @@ const ASIDE: u64 = 104;
 const BELOW: u64 = 28;
 
 /// What an exchange is in a picture.
-#[derive(Clone, Copy, Debug)]
+#[derive(Clone, Copy)]
 pub enum Kind {
     /// The home of the code.
     Home,
@@ -23,7 +23,7 @@ pub enum Kind {
 }
 
 /// A box: whose it is, where, and how high.
-#[derive(Clone, Copy, Debug)]
+#[derive(Clone, Copy)]
 pub struct Frame {
     pub kind: Kind,
     pub left: u64,

@@ -11,7 +11,6 @@ use tx_rank::Grade;
 use tx_text::NoMemory;
 
 /// The picture of a code: its exchanges in columns, with the home at the right.
-#[derive(Debug, Drop)]
 pub struct Picture<A: Allocator = Global> {
     pub code: CodeId,
     /// Whether the columns are the ranks of a code that has a grade, so that each group leads to
@@ -22,6 +21,20 @@ pub struct Picture<A: Allocator = Global> {
     boxes: Vec<u16, A>,
     /// How high the columns are.
     pub high: u16,
+}
+
+impl<A: Allocator> Drop for Picture<A> {
+    fn drop(self) {
+        let Self {
+            code: _,
+            ranked: _,
+            spots,
+            boxes,
+            high: _,
+        } = self;
+        drop(spots);
+        drop(boxes);
+    }
 }
 
 /// The picture of a code of a plan that has this grade.

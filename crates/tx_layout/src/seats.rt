@@ -18,14 +18,14 @@ const WIDE: u64 = 130;
 const HIGH: u64 = 56;
 
 /// How wide and how high the picture is.
-#[derive(Clone, Copy, Debug)]
+#[derive(Clone, Copy)]
 pub struct Size {
     pub wide: u64,
     pub high: u64,
 }
 
 /// Where the box of an exchange has its middle, and where lines to it end.
-#[derive(Clone, Copy, Debug)]
+#[derive(Clone, Copy)]
 pub struct Seat {
     pub x: u64,
     pub y: u64,

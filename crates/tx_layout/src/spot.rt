@@ -20,7 +20,7 @@ const PASSING: u64 = 16;
 
 /// Where an exchange stands: its column, counted from the home, and the middle of its box below
 /// the top of the column.
-#[derive(Clone, Copy, Debug)]
+#[derive(Clone, Copy)]
 pub struct Spot {
     pub column: u16,
     pub middle: u16,

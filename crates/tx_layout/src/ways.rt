@@ -5,7 +5,7 @@ use std::alloc::Allocator;
 use tx_plan::{ExchangeId, Plan};
 
 /// A place in a picture.
-#[derive(Clone, Copy, Debug)]
+#[derive(Clone, Copy)]
 pub struct Point {
     pub x: u64,
     pub y: u64,

@@ -7,7 +7,7 @@ use tx_plantext::PlanWord;
 use tx_text::{FaultKind, NoMemory};
 
 /// A fault of a plan's text.
-#[derive(Clone, Copy, Debug)]
+#[derive(Clone, Copy)]
 pub struct Fault<'t> {
     /// The number of its line, from 1.
     pub line: u64,

@@ -14,7 +14,7 @@ use tx_risk::Risks;
 use tx_text::NoMemory;
 
 /// The faults or warnings of a plan's text.
-#[derive(Debug, Drop)]
+#[derive(Drop)]
 pub enum Lint<'t, A: Allocator = Global> {
     /// The text is refused: all its faults, in order of its lines.
     Faults(Vec<Fault<'t>, A>),

@@ -34,7 +34,7 @@ use tx_text::NoMemory;
 use tx_trie::CodeTrie;
 
 /// What the mending of a plan comes to.
-#[derive(Debug, Drop)]
+#[derive(Drop)]
 pub enum Mending<A: Allocator = Global> {
     /// The plan with other routes, the routes that it had, and a certificate by which it is
     /// certified.

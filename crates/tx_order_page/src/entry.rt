@@ -10,7 +10,7 @@ use tx_svg::write_groups;
 use tx_text::WriteFault;
 
 /// What an exchange has for a code before a stage and after it.
-#[derive(Clone, Copy, Debug)]
+#[derive(Clone, Copy)]
 pub struct Entry<'a> {
     pub exchange: ExchangeId,
     pub code: CodeId,

@@ -11,7 +11,6 @@ use tx_plan::Plan;
 use tx_text::NoMemory;
 
 /// What a list of events came to.
-#[derive(Debug, Drop)]
 pub struct Played<'p, A: Allocator = Global> {
     /// The reply to each event.
     pub replies: Vec<Reply, A>,
@@ -19,6 +18,19 @@ pub struct Played<'p, A: Allocator = Global> {
     pub tickets: Vec<Ticket<A>, A>,
     /// The network after the events, with its tickets taken.
     pub network: Engine<'p, A>,
+}
+
+impl<A: Allocator> Drop for Played<'_, A> {
+    fn drop(self) {
+        let Self {
+            replies,
+            tickets,
+            network,
+        } = self;
+        drop(replies);
+        drop(tickets);
+        drop(network);
+    }
 }
 
 /// Plays events on the engine of a plan, from the opening state with so many numbers given and so

@@ -23,7 +23,7 @@ markerWidth=\"12\" markerHeight=\"12\" orient=\"auto\" markerUnits=\"userSpaceOn
 d=\"M0,0L8,4L0,8z\"/></marker></defs></svg>";
 
 /// Which arrow it is: tried first, second or later, or in the walk of a finding.
-#[derive(Clone, Copy, Debug, PartialEq, Eq)]
+#[derive(Clone, Copy, PartialEq, Eq)]
 enum Choice {
     First,
     Second,

@@ -101,7 +101,7 @@ pub struct FaultAt<W> {
 }
 
 /// Which part of a text is read.
-#[derive(Clone, Copy, Debug)]
+#[derive(Clone, Copy)]
 pub enum FramePart {
     /// Before the header.
     Start,
@@ -132,7 +132,7 @@ impl<W> From<FrameStop> for FaultAt<W> {
 }
 
 /// What a call that goes on in a text came to.
-#[derive(Clone, Copy, Debug)]
+#[derive(Clone, Copy)]
 pub enum FrameStep {
     /// The header of this version.
     Header(u8),
@@ -143,7 +143,7 @@ pub enum FrameStep {
 }
 
 /// What a finished line is in the frame.
-#[derive(Clone, Copy, Debug)]
+#[derive(Clone, Copy)]
 pub enum LineForm {
     /// Without words.
     Blank,
@@ -264,7 +264,7 @@ pub const SOURCE_CALLS: u64 = 4_294_967_295;
 const SLICE_CALLS: u64 = 2_251_799_813_685_249;
 
 /// Reads a text from a source, and keeps its frame.
-#[derive(Debug, Drop)]
+#[derive(Drop)]
 pub struct FrameReader<'k, A: Allocator = Global> {
     key: &'k [u8],
     most: u8,
