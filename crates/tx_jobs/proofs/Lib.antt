@@ -15,7 +15,6 @@ mod Grading
 mod LintTold
 mod PageTold
 mod Surviving
-mod DrawnCode
 mod Asking
 mod EndLines
 mod Cutting

@@ -34,7 +34,7 @@ use Rattle.tx_order.specs.declared.staged.Staged.TheVariants.{Ordered as IsOrder
 use Rattle.tx_order.specs.OrderTold.{IsStagedOf, IsOrderTold}
 use Rattle.tx_order.specs.declared.order_fault.OrderFault.{OrderFault}
 use Rattle.tx_commands.specs.declared.command.Command.{Command}
-use Rattle.tx_commands.specs.declared.command.Command.TheVariants.{Pipe, Run, RunTelling, Check, Lint, Codes, Audit, Change, Order, Mend, Survive, Page, Grade, Trace, TraceGroup, Fill, Draw, Explain}
+use Rattle.tx_commands.specs.declared.command.Command.TheVariants.{Pipe, Run, RunTelling, Check, Lint, Codes, Audit, Change, Order, Mend, Survive, Page, Grade, Trace, TraceGroup, Fill, Explain}
 use Rattle.tx_jobs.specs.declared.change.Changed.{Changed}
 use Rattle.tx_jobs.specs.declared.change.Changed.TheVariants.{Sound as FoundSound, Unsound as FoundUnsound, NewUnsound as FoundNewUnsound}
 use Rattle.tx_jobs.specs.declared.mixture.ChangeEvidence.{ChangeEvidence}
@@ -247,6 +247,4 @@ module _ (text left : List ℕ) (second third : Input) (out : Output) where
     makes_plan (Trace plan exchange code down) d h = makes written _ d (λ x _. tt) h.0
     makes_plan (TraceGroup plan group) d h = makes written _ d (λ x _. tt) h.0
     makes_plan (Fill plan exchange code down) d h = makes Filled _ d (λ x _. tt) h.0
-    makes_plan (Draw plan None) d h = makes written _ d (λ x _. tt) h.0
-    makes_plan (Draw plan (Some (code, numbers))) d h = makes written _ d (λ x _. tt) h.0
     makes_plan (Explain line) d h = makes written _ d (λ x _. tt) h.0

@@ -2,7 +2,6 @@ pub mod JobFaults
 pub mod Jobs
 pub mod PipeJobs
 pub mod CheckJobs
-pub mod DrawJobs
 pub mod AuditJobs
 pub mod TwoPlans
 pub mod DeclaringLines
