@@ -22,3 +22,4 @@ mod Taking
 mod Did
 pub mod PartCalls
 pub mod PlanCalls
+mod Printed

@@ -25,3 +25,4 @@ pub mod Done
 pub mod Outcomes
 pub mod inner
 pub mod Parts
+pub mod Explained

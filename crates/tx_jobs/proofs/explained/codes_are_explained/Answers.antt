@@ -1,5 +1,5 @@
-use Rattle.tx_explain.proofs.Printed.{once, plans, warnings, certificates, scripts, risks, refusals, causes, checks, findings, mendings}
-use Rattle.tx_explain.proofs.explained.codes_are_explained.Goals as goal
+use Rattle.tx_jobs.proofs.Printed.{once, plans, warnings, certificates, scripts, risks, refusals, causes, checks, findings, mendings}
+use Rattle.tx_jobs.proofs.explained.codes_are_explained.Goals as goal
 
 pub returns-clause-once : goal.returns-clause-once
 returns-clause-once g c = once

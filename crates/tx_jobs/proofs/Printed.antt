@@ -17,7 +17,7 @@ use Rattle.tx_mend.specs.declared.cause.Unserved.{Unserved}
 use Rattle.tx_mend.specs.MendText.{pair_line, unserved_line}
 use Rattle.tx_risk.specs.declared.fault.RiskWord.TheVariants as risk
 use Rattle.tx_explain.specs.Entries.{table}
-use Rattle.tx_explain.specs.Explained.{CodesAreDistinct, BeginsExplained, PlanFaultsAreExplained, WarningsAreExplained, CertFaultsAreExplained, ScriptFaultsAreExplained, RiskFaultsAreExplained, RefusalsAreExplained, CausesAreExplained, CheckFaultsAreExplained, FindingsAreExplained, MendingsAreExplained}
+use Rattle.tx_jobs.specs.Explained.{CodesAreDistinct, BeginsExplained, PlanFaultsAreExplained, WarningsAreExplained, CertFaultsAreExplained, ScriptFaultsAreExplained, RiskFaultsAreExplained, RefusalsAreExplained, CausesAreExplained, CheckFaultsAreExplained, FindingsAreExplained, MendingsAreExplained}
 
 pub once : CodesAreDistinct
 unfolding table

@@ -1,5 +1,5 @@
 // Every code that is printed is explained, and is in the table once.
-ghost use Rattle.tx_explain.specs.Explained.{CodesAreDistinct, PlanFaultsAreExplained, WarningsAreExplained, CertFaultsAreExplained, ScriptFaultsAreExplained, RiskFaultsAreExplained, RefusalsAreExplained, CausesAreExplained, CheckFaultsAreExplained, FindingsAreExplained, MendingsAreExplained};
+ghost use Rattle.tx_jobs.specs.Explained.{CodesAreDistinct, PlanFaultsAreExplained, WarningsAreExplained, CertFaultsAreExplained, ScriptFaultsAreExplained, RiskFaultsAreExplained, RefusalsAreExplained, CausesAreExplained, CheckFaultsAreExplained, FindingsAreExplained, MendingsAreExplained};
 
 use std::alloc::Allocator;
 
