@@ -128,12 +128,6 @@ pub enum Command {
         code: String,
         down: Option<String>,
     },
-    /// `draw PLAN [--code C [--limit L --spare K]]`: a picture of the plan, or of the routes for a
-    /// code, with what an audit finds first if numbers are given.
-    Draw {
-        plan: String,
-        routes: Option<(String, Option<(u8, u8)>)>,
-    },
     /// `explain [WORD]..`: what the codes, names and words of a line mean, or all codes.
     Explain {
         line: Option<String>,
@@ -412,8 +406,7 @@ fn reads_of(command: &Command) -> [Option<&str>; 3]
         | Command::Grade { plan }
         | Command::Trace { plan, .. }
         | Command::TraceGroup { plan, .. }
-        | Command::Fill { plan, .. }
-        | Command::Draw { plan, .. } => one(plan),
+        | Command::Fill { plan, .. } => one(plan),
         Command::Page {
             plan,
             risks,
