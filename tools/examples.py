@@ -332,7 +332,7 @@ def check_names(tell):
             if it not in MADE and not re.search(r"\b(CRATE|NAME)\b", it) and not os.path.exists(os.path.join(TOP, it)):
                 tell(f"{page}: {it} is not there")
         for crate, edit in re.findall(r"`(tx_\w+)/(\w+)`", text):
-            if not any(os.path.exists(os.path.join(TOP, "crates", crate, "must-fail", edit + it)) for it in (".edit", ".edit.md")):
+            if not os.path.exists(os.path.join(TOP, "crates", crate, "must-fail", edit + ".edit")):
                 tell(f"{page}: there is no edit {crate}/{edit}")
 
 
