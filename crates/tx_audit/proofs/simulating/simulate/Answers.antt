@@ -4,8 +4,8 @@ use Rattle.tx_text.specs.Ends.{input, output}
 use Rattle.tx_text.proofs.CallCounts.{went_none, calls_so_far}
 use Rattle.tx_machine.specs.State.{Net}
 use Rattle.tx_script.specs.Answers.{states}
-use Rattle.tx_run.proofs.Untouched.{ran_from_opening, simulated_by}
-use Rattle.tx_run.proofs.simulating.simulate.Goals as goal
+use Rattle.tx_audit.proofs.Untouched.{ran_from_opening, simulated_by}
+use Rattle.tx_audit.proofs.simulating.simulate.Goals as goal
 
 pub returns-in-Err-clause-answers : goal.returns-in-Err-clause-answers
 returns-in-Err-clause-answers g c = inr (refl, (refl, refl))

@@ -7,7 +7,7 @@ use Rattle.tx_script.specs.declared.summary.Summary.{Summary}
 use Rattle.tx_script.specs.declared.run_fault.RunFault.{RunFault}
 use Rattle.tx_script.specs.Answers.{States, RunAnswers}
 use Rattle.tx_script.proofs.Retold.{run_as}
-use Rattle.tx_run.specs.Simulated.{RanFromOpening, Simulated}
+use Rattle.tx_audit.specs.Simulated.{RanFromOpening, Simulated}
 
 module _ (p : Plan) (script : Input) (out : Output) where
   pub ran_from_opening : (net : States) → net.old ≡ opening 0 0 → (net.unchanged → net.new ≡ net.old)

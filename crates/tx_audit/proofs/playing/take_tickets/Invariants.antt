@@ -1,6 +1,6 @@
 use Rattle.std.proofs.Common.{length}
-use Rattle.tx_run.proofs.Taken.{IsTaken}
-use Rattle.tx_run.proofs.playing.take_tickets.Given as goal
+use Rattle.tx_audit.proofs.Taken.{IsTaken}
+use Rattle.tx_audit.proofs.playing.take_tickets.Given as goal
 
 abbrev pub invariant-loop-ticket : goal.invariant-loop-ticket
 invariant-loop-ticket g l = IsTaken l.fn.network l.network l.tickets.items

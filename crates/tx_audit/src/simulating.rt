@@ -3,7 +3,7 @@ ghost use Rattle.std.specs.Prelude.{◌≡◌};
 ghost use Rattle.tx_text.specs.Calls.{CallsAtMost, source_calls};
 ghost use Rattle.tx_text.specs.Ends.{input, output};
 ghost use Rattle.tx_script.specs.Answers.{mark_after};
-ghost use Rattle.tx_run.specs.Simulated.{Simulated};
+ghost use Rattle.tx_audit.specs.Simulated.{Simulated};
 
 use std::alloc::Allocator;
 use tx_engine::Engine;

@@ -1,6 +1,6 @@
 use Rattle.std.proofs.Common.{sym, subst}
-use Rattle.tx_run.proofs.Taken.{IsTaken, taken_none, taken_more, taken_fewer, taken_all}
-use Rattle.tx_run.proofs.playing.take_tickets.Goals as goal
+use Rattle.tx_audit.proofs.Taken.{IsTaken, taken_none, taken_more, taken_fewer, taken_all}
+use Rattle.tx_audit.proofs.playing.take_tickets.Goals as goal
 
 pub loop-ticket-init : goal.loop-ticket-init
 loop-ticket-init g c = subst (IsTaken c.args.network.now c.args.network.now) (sym c.new-tickets.ensures.items) (taken_none c.args.network.now)
