@@ -5,7 +5,7 @@ ghost use Rattle.tx_text.specs.Ends.{input, output};
 ghost use Rattle.tx_audit.specs.CheckedRuns.{CheckedAnswers, mark_after};
 
 use crate::checked::Checked;
-use crate::simulate;
+use crate::simulating::simulate;
 use std::alloc::Allocator;
 use tx_cert::Cert;
 use tx_check::{Verdict, check};
