@@ -6,13 +6,13 @@ use tx_plan::{ExchangeId, Plan};
 
 /// A place in a picture.
 #[derive(Clone, Copy)]
-pub struct Point {
+pub(crate) struct Point {
     pub x: u64,
     pub y: u64,
 }
 
 /// Where an arrow ends. The home is as high as its column, so an arrow comes to it level.
-pub fn head_of<A: Allocator>(
+pub(crate) fn head_of<A: Allocator>(
     plan: &Plan<A>,
     picture: &Picture<A>,
     from: ExchangeId,
@@ -67,7 +67,12 @@ fn beside<A: Allocator>(picture: &Picture<A>, column: u16, right: bool) -> u64 {
 }
 
 /// Where an arrow comes to a column that it passes.
-pub fn entry_of<A: Allocator>(picture: &Picture<A>, tail: Spot, head: Spot, passed: u16) -> Point {
+pub(crate) fn entry_of<A: Allocator>(
+    picture: &Picture<A>,
+    tail: Spot,
+    head: Spot,
+    passed: u16,
+) -> Point {
     let column = column_at(tail, head, passed);
     Point {
         x: beside(picture, column, goes_back(tail, head)),
@@ -76,7 +81,12 @@ pub fn entry_of<A: Allocator>(picture: &Picture<A>, tail: Spot, head: Spot, pass
 }
 
 /// Where an arrow leaves a column that it passes, or the box from which it comes.
-pub fn exit_of<A: Allocator>(picture: &Picture<A>, tail: Spot, head: Spot, passed: u16) -> Point {
+pub(crate) fn exit_of<A: Allocator>(
+    picture: &Picture<A>,
+    tail: Spot,
+    head: Spot,
+    passed: u16,
+) -> Point {
     let back = goes_back(tail, head);
     let column = column_at(tail, head, passed);
     if passed > 0 {
@@ -96,7 +106,7 @@ pub fn exit_of<A: Allocator>(picture: &Picture<A>, tail: Spot, head: Spot, passe
 }
 
 /// Where the head of an arrow is.
-pub fn tip_of<A: Allocator>(picture: &Picture<A>, tail: Spot, head: Spot) -> Point {
+pub(crate) fn tip_of<A: Allocator>(picture: &Picture<A>, tail: Spot, head: Spot) -> Point {
     let back = goes_back(tail, head);
     Point {
         x: beside(picture, head.column, back),

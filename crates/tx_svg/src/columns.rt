@@ -9,7 +9,7 @@ use tx_rank::{is_marked, reached};
 use tx_text::NoMemory;
 
 /// The ranks that exchanges have for a code.
-pub fn columns_by_rank<A: Allocator + Copy>(
+pub(crate) fn columns_by_rank<A: Allocator + Copy>(
     alloc: A,
     plan: &Plan<A>,
     code: CodeId,
@@ -67,7 +67,7 @@ fn fill_column<A: Allocator>(
 
 /// The least numbers of groups to the home, for the exchanges to which calls come. Those that have
 /// no way to it stand in one column more.
-pub fn columns_by_distance<A: Allocator + Copy>(
+pub(crate) fn columns_by_distance<A: Allocator + Copy>(
     alloc: A,
     plan: &Plan<A>,
     origins: &[bool],

@@ -73,12 +73,12 @@ pub fn picture_of<A: Allocator + Copy>(
 
 impl<A: Allocator> Picture<A> {
     /// Where an exchange stands; nowhere, if no calls come there.
-    pub fn spot(&self, exchange: ExchangeId) -> Option<Spot> {
+    pub(crate) fn spot(&self, exchange: ExchangeId) -> Option<Spot> {
         spot_of(&self.spots, exchange)
     }
 
     /// How many boxes a column has.
-    pub fn boxes_in(&self, column: u16) -> u64 {
+    pub(crate) fn boxes_in(&self, column: u16) -> u64 {
         match self.boxes.get(usize::from(column)) {
             Some(count) => u64::from(*count),
             None => 0,
@@ -86,18 +86,18 @@ impl<A: Allocator> Picture<A> {
     }
 
     /// How many columns there are.
-    pub fn columns(&self) -> u16 {
+    pub(crate) fn columns(&self) -> u16 {
         self.boxes.len().min(65535) as u16
     }
 
     /// The left edge of a column.
-    pub fn left(&self, column: u16) -> u64 {
+    pub(crate) fn left(&self, column: u16) -> u64 {
         let last = self.columns().saturating_sub(1);
         LEFT + u64::from(last.saturating_sub(column)) * COLUMN
     }
 
     /// The right edge of a column.
-    pub fn right(&self, column: u16) -> u64 {
+    pub(crate) fn right(&self, column: u16) -> u64 {
         self.left(column).saturating_add(BOX)
     }
 }

@@ -5,7 +5,7 @@ use tx_plan::{CodeId, ExchangeId, Plan};
 use tx_text::NoMemory;
 
 /// How many exchanges are in each column.
-pub fn count_boxes<A: Allocator + Copy>(
+pub(crate) fn count_boxes<A: Allocator + Copy>(
     alloc: A,
     columns: &[Option<u16>],
 ) -> Result<Vec<u16, A>, NoMemory> {
@@ -27,7 +27,7 @@ pub fn count_boxes<A: Allocator + Copy>(
 }
 
 /// How high the columns are: as high as the one with the most boxes needs to be.
-pub fn height_of(boxes: &[u16]) -> u16 {
+pub(crate) fn height_of(boxes: &[u16]) -> u16 {
     let mut most: u16 = 1;
     for count in boxes {
         most = most.max(*count);
@@ -36,7 +36,7 @@ pub fn height_of(boxes: &[u16]) -> u16 {
 }
 
 /// Where an exchange stands, if it has a place already.
-pub fn spot_of(spots: &[Option<Spot>], exchange: ExchangeId) -> Option<Spot> {
+pub(crate) fn spot_of(spots: &[Option<Spot>], exchange: ExchangeId) -> Option<Spot> {
     spots.get(exchange.index()).copied().flatten()
 }
 
@@ -96,7 +96,7 @@ fn place_column<A: Allocator + Copy>(
 }
 
 /// Where each exchange that has a column stands, from the home on.
-pub fn place_rows<A: Allocator + Copy>(
+pub(crate) fn place_rows<A: Allocator + Copy>(
     alloc: A,
     plan: &Plan<A>,
     code: CodeId,

@@ -4,7 +4,7 @@ ghost use Rattle.std.specs.Prelude.{◌≤◌};
 use crate::spot::{BOX, TALL, middle_of};
 
 /// No more exchanges than these are drawn.
-pub const MOST: usize = 24;
+pub(crate) const MOST: usize = 24;
 
 /// How far the boxes above and below keep from the sides, and those at the sides from above and
 /// below.
@@ -19,14 +19,14 @@ const HIGH: u64 = 56;
 
 /// How wide and how high the picture is.
 #[derive(Clone, Copy)]
-pub struct Size {
+pub(crate) struct Size {
     pub wide: u64,
     pub high: u64,
 }
 
 /// Where the box of an exchange has its middle, and where lines to it end.
 #[derive(Clone, Copy)]
-pub struct Seat {
+pub(crate) struct Seat {
     pub x: u64,
     pub y: u64,
     pub end_x: u64,
@@ -34,7 +34,7 @@ pub struct Seat {
 }
 
 /// The size of the picture of so many exchanges.
-pub fn size_of(count: usize) -> Size
+pub(crate) fn size_of(count: usize) -> Size
     ensures wide { 244 ≤ result.wide }
     ensures high { 120 ≤ result.high }
 {
@@ -46,7 +46,7 @@ pub fn size_of(count: usize) -> Size
 }
 
 /// Where one of so many exchanges is: they stand round the picture, from above on the left.
-pub fn seat_of(index: usize, count: usize) -> Seat {
+pub(crate) fn seat_of(index: usize, count: usize) -> Seat {
     let size = size_of(count);
     let (index, count) = (index.min(MOST) as u64, count.min(MOST) as u64);
     let (above, right, below) = ((count + 3) / 4, (count + 1) / 4, (count + 2) / 4);

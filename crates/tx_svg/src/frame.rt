@@ -13,7 +13,7 @@ const BELOW: u64 = 28;
 
 /// What an exchange is in a picture.
 #[derive(Clone, Copy)]
-pub enum Kind {
+pub(crate) enum Kind {
     /// The home of the code.
     Home,
     /// Calls for the code come there.
@@ -24,7 +24,7 @@ pub enum Kind {
 
 /// A box: whose it is, where, and how high.
 #[derive(Clone, Copy)]
-pub struct Frame {
+pub(crate) struct Frame {
     pub kind: Kind,
     pub left: u64,
     pub top: u64,
@@ -50,7 +50,7 @@ fn count_aside<A: Allocator>(picture: &Picture<A>, before: usize) -> u64 {
 }
 
 /// How high a picture is.
-pub fn picture_height<A: Allocator>(plan: &Plan<A>, picture: &Picture<A>) -> u64 {
+pub(crate) fn picture_height<A: Allocator>(plan: &Plan<A>, picture: &Picture<A>) -> u64 {
     let aside = count_aside(picture, plan.exchanges());
     let high = TOP + u64::from(picture.high) + 4;
     if aside == 0 {
@@ -63,7 +63,11 @@ pub fn picture_height<A: Allocator>(plan: &Plan<A>, picture: &Picture<A>) -> u64
 }
 
 /// Where the box of an exchange is.
-pub fn frame_of<A: Allocator>(plan: &Plan<A>, picture: &Picture<A>, exchange: ExchangeId) -> Frame {
+pub(crate) fn frame_of<A: Allocator>(
+    plan: &Plan<A>,
+    picture: &Picture<A>,
+    exchange: ExchangeId,
+) -> Frame {
     if exchange == plan.home(picture.code) {
         return Frame {
             kind: Kind::Home,
