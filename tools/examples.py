@@ -12,7 +12,7 @@ odd words, a terminal, and files to be made in odd places. What the machine does
 Then it plays the commands of docs/telexplan.1, one after another.
 
 Then checks README.md, docs/FORMATS.md and docs/HEADLINE.md: each block there says, in a comment before it, what it shows, and has to show just that; the table of codes has to be the
-program's and to have the codes of the definitions, the map of the crates has to be that of crates.txt, what the pages name has to be there, each link of theirs has
+program's and to have the codes of the definitions, the map of the crates has to be that of crates.txt, each link of the pages has
 to lead to a file and a heading that are there, the player of the gate, crates/tx_worked, has to have the examples and the pictures as they stand, all pictures of the
 plans of crates/tx_worked have to be ones that can be read, and docs/telexplan.bash and docs/telexplan.1 have to have the commands and options that the program's help
 tells. Prints a line for each difference; the status is 1 if there is one.
@@ -46,8 +46,7 @@ import time
 
 TOP = os.path.dirname(os.path.dirname(os.path.abspath(__file__)))
 PAGES = ["README.md", "docs/FORMATS.md", "docs/HEADLINE.md"]
-NAMING = ["CHANGELOG.md", "CONTRIBUTING.md", "docs/ARCHITECTURE.md", "docs/DECISIONS.md", "docs/GLOSSARY.md", "docs/MEASURED.md", "docs/PROOFS.md"]
-MADE = ["crates/telexplan/out/telexplan"]
+LINKING = ["CHANGELOG.md", "CONTRIBUTING.md", "docs/ARCHITECTURE.md", "docs/DECISIONS.md", "docs/GLOSSARY.md", "docs/MEASURED.md", "docs/PROOFS.md"]
 PLAYED = "crates/tx_worked/data/cases"
 
 
@@ -386,19 +385,7 @@ def check_pages(tell):
         tell(f"crates/tx_explain: {' '.join(it)} stands in the table or in the definitions alone")
 
 
-# WHAT THE PAGES NAME
-
-
-def check_names(tell):
-    """Each path in a page is there, and each edit that it names."""
-    for page in PAGES + NAMING:
-        text = read(page).decode()
-        for it in re.findall(r"`((?:\.ci|bench|crates|docs|tools|examples)/[\w./-]+)`", text):
-            if it not in MADE and not re.search(r"\b(CRATE|NAME)\b", it) and not os.path.exists(os.path.join(TOP, it)):
-                tell(f"{page}: {it} is not there")
-        for crate, edit in re.findall(r"`(tx_\w+)/(\w+)`", text):
-            if not any(os.path.exists(os.path.join(TOP, "crates", crate, "must-fail", edit + it)) for it in (".edit", ".edit.md")):
-                tell(f"{page}: there is no edit {crate}/{edit}")
+# WHERE THE PAGES LEAD
 
 
 def headings(page):
@@ -409,7 +396,7 @@ def headings(page):
 
 def check_links(tell):
     """Each link of a page within the repository leads to a file that is there, and to a heading of it, if it names one."""
-    for page in PAGES + NAMING:
+    for page in PAGES + LINKING:
         for link in re.findall(r"\]\(([^()\s]+)\)", read(page).decode()):
             path, _, heading = link.partition("#")
             if re.match(r"\w+:", path):
@@ -852,7 +839,6 @@ def main(words):
         for check in (check_arguments, check_terminal, check_replaced, check_apart, check_page_apart, check_outputs, check_pipe_and_device, check_no_leave, check_no_name, check_order, check_manual_commands, check_offers):
             check(program, told.append)
     check_pages(told.append)
-    check_names(told.append)
     check_links(told.append)
     check_map(told.append)
     check_cases(told.append)
