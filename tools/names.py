@@ -6,6 +6,7 @@ definition is declared in some crate. Where a page says in which place, it is de
   `tx_rank/src/walk.rt` (`step`, `Walk::end`)        in this file; of one without a folder, in a file of this name
   `rank` of tx_rank                                  in this crate
   `rank` (clauses `found`, `wherever`)               clauses of this function
+  tx_rank: `rank`, `grade`                           the same
   (Grades: `IsGrade`), (`tx_rank`, Grades: ..)       a definition of this file of specs/, and of this crate if one is named
 In the table of crates of docs/ARCHITECTURE.md the names of the last column are public in the crate of the row. Prints a line for each difference; the status is 1 if
 there is one."""
@@ -29,7 +30,8 @@ NAMES = r"((?:`[\w:]+`(?:, | and |))+)"
 
 
 class Function:
-    """A function: its crate, its file, the line of its head, its name, the type or trait that has it, whether it says `pub`, and the names of its clauses by their kind."""
+    """A function: its crate, its file, the index of the line of its head, its name, the type or trait that has it, whether it is `pub` or of a trait that is, and the names
+    of its clauses by their kind."""
 
     def __init__(self, crate, path, at, name, owner, is_public):
         self.crate, self.path, self.at, self.name, self.owner, self.is_public = crate, path, at, name, owner, is_public
@@ -49,12 +51,12 @@ def owner_of(line):
 
 def functions_of(crate, path, text):
     """The functions of a file with this text."""
-    owner, function = None, None
+    owner, is_shown, function = None, False, None
     for at, line in enumerate(text.split("\n")):
-        if not line.startswith((" ", "}")):
-            owner = owner_of(line)
+        if re.match("[a-z]", line):
+            owner, is_shown = owner_of(line), line.startswith("pub trait")
         if head := HEAD.match(line):
-            function = Function(crate, path, at, head[3], owner if head[1] else None, bool(head[2]))
+            function = Function(crate, path, at, head[3], owner if head[1] else None, bool(head[2]) or is_shown)
             yield function
         elif function and (clause := CLAUSE.match(line)):
             function.clauses[clause[1]].append(clause[2])
@@ -124,10 +126,12 @@ def check_files(page, text, declared, tell):
 
 
 def check_places(page, text, declared, tell):
-    for name, crate in re.findall(r"`([\w:]+)` of `?(tx_\w+)", text):
-        if not declared.has(name, f"crates/{crate}/"):
-            tell(f"{page}: {crate} does not have {name}")
-    for name, clauses in re.findall(rf"`([\w:]+)`(?: of `?tx_\w+`?,)? \(?clauses? {NAMES}", text):
+    said = re.findall(r"()`([\w:]+)` of `?(tx_\w+)", text) + re.findall(rf"(tx_\w+)`?: {NAMES}()", text)
+    for before, names, after in said:
+        for name in words(names) or [names]:
+            if not declared.has(name, f"crates/{before or after}/"):
+                tell(f"{page}: {before or after} does not have {name}")
+    for name, clauses in re.findall(rf"`([\w:]+)`(?: of `?tx_\w+`?)?,? \(?clauses? {NAMES}", text):
         there = {clause for it in declared.functions[name.split("::")[-1]] for names in it.clauses.values() for clause in names}
         for clause in words(clauses):
             if clause not in there:
@@ -155,7 +159,7 @@ def check_public(declared, tell):
         of = re.findall(r"`(tx_\w+)`", row[0])
         shown = set().union(*map(exported, of))
         for name in words(row[1]):
-            methods = {it.name for it in declared.functions[name] if it.crate in of and it.owner and (it.is_public or it.owner in shown)}
+            methods = {it.name for it in declared.functions[name] if it.crate in of and it.owner and it.is_public}
             if name not in shown | methods:
                 tell(f"docs/ARCHITECTURE.md: {name} is not public in {', '.join(of)}")
 

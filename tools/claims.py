@@ -1,0 +1,68 @@
+#!/usr/bin/env python3
+"""usage: tools/claims.py [CRATE ..]
+
+Prints what the crates promise, or these ones, as a page of Markdown: of each crate its public functions, each with its comment, the names of the clauses that it requires and ensures,
+and the mutants of its body, by the files in must-fail. Those of all else come after them. It reads the sources, so it says what stands there; the prover judges it."""
+import os
+import re
+import sys
+
+from names import TOP, crates, exported, functions_of, read, sources
+
+
+def comment(lines, at, mark):
+    """The comment that ends before a line, with its attributes left out."""
+    said = []
+    while at > 0 and re.match(rf" *({mark}|#\[)", lines[at - 1]):
+        at -= 1
+        said.append(lines[at].strip())
+    return " ".join(it.removeprefix(mark).strip() for it in reversed(said) if it.startswith(mark))
+
+
+def edits_of(crate):
+    """The mutants of a crate: the name of each, the file that it changes, and a text there that it replaces."""
+    folder = os.path.join(TOP, "crates", crate, "must-fail")
+    for name in sorted(os.listdir(folder)) if os.path.isdir(folder) else []:
+        text = read(os.path.join(folder, name))
+        yield name.removesuffix(".edit"), f"crates/{crate}/{re.search(r'(?m)^file: (.*)$', text)[1]}", re.findall(r"(?m)^old: (.*)$", text)
+
+
+def function_at(functions, text, olds):
+    """The function of a file in which the first of these texts stands that does; None where it stands before all functions."""
+    at = next((text[: text.index(it)].count("\n") for it in olds if it in text), 0)
+    return max((it for it in functions if it.at <= at), key=lambda it: it.at, default=None)
+
+
+def named(what, names):
+    return f" {what} " + ("one clause" if names == [None] else ", ".join(f"`{it}`" for it in names)) + "." if names else ""
+
+
+def promises(crate):
+    shown, texts, functions = exported(crate), {path: read(path) for path in sources(crate)}, {}
+    for path, text in texts.items():
+        functions[path] = list(functions_of(crate, path, text))
+    mutants = {}
+    for name, path, olds in edits_of(crate):
+        mutants.setdefault(function_at(functions[path], texts[path], olds) or path, []).append(name)
+    for path, found in functions.items():
+        for it in found:
+            if it.is_public and (it.owner or it.name) in shown:
+                name = f"{it.owner}::{it.name}" if it.owner else it.name
+                clauses = named("Requires", it.clauses["requires"]) + named("Ensures", it.clauses["ensures"])
+                yield f"- **`{name}`** ({path}): {comment(texts[path].split(chr(10)), it.at, '///')}{clauses}{named('Mutants:', mutants.pop(it, []))}"
+    if mutants:
+        yield "- Mutants of what is not public: " + ", ".join(f"`{name}` ({getattr(it, 'name', it)})" for it, names in mutants.items() for name in names) + "."
+
+
+def main(words):
+    lacking = sorted(set(words) - set(crates()))
+    if lacking:
+        sys.exit(f"claims.py: there is no crate {lacking[0]}")
+    for crate in words or crates():
+        lines = list(promises(crate))
+        if lines:
+            print("\n".join([f"## {crate}", "", *lines, ""]))
+
+
+if __name__ == "__main__":
+    main(sys.argv[1:])
