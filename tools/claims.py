@@ -7,16 +7,17 @@ import os
 import re
 import sys
 
+sys.dont_write_bytecode = True
 from names import TOP, crates, exported, functions_of, read, sources
 
 
-def comment(lines, at, mark):
-    """The comment that ends before a line, with its attributes left out."""
+def comment(lines, at):
+    """The comment that ends before a line, or before attributes there."""
     said = []
-    while at > 0 and re.match(rf" *({mark}|#\[)", lines[at - 1]):
+    while at > 0 and re.match(" *(///|#\\[)", lines[at - 1]):
         at -= 1
         said.append(lines[at].strip())
-    return " ".join(it.removeprefix(mark).strip() for it in reversed(said) if it.startswith(mark))
+    return " ".join(it[3:].strip() for it in reversed(said) if it.startswith("///"))
 
 
 def edits_of(crate):
@@ -43,13 +44,13 @@ def promises(crate):
         functions[path] = list(functions_of(crate, path, text))
     mutants = {}
     for name, path, olds in edits_of(crate):
-        mutants.setdefault(function_at(functions[path], texts[path], olds) or path, []).append(name)
+        mutants.setdefault(function_at(functions.get(path, []), texts.get(path, ""), olds) or path, []).append(name)
     for path, found in functions.items():
         for it in found:
             if it.is_public and (it.owner or it.name) in shown:
                 name = f"{it.owner}::{it.name}" if it.owner else it.name
                 clauses = named("Requires", it.clauses["requires"]) + named("Ensures", it.clauses["ensures"])
-                yield f"- **`{name}`** ({path}): {comment(texts[path].split(chr(10)), it.at, '///')}{clauses}{named('Mutants:', mutants.pop(it, []))}"
+                yield f"- **`{name}`** ({path}): {comment(texts[path].splitlines(), it.at)}{clauses}{named('Mutants:', mutants.pop(it, []))}"
     if mutants:
         yield "- Mutants of what is not public: " + ", ".join(f"`{name}` ({getattr(it, 'name', it)})" for it, names in mutants.items() for name in names) + "."
 
