@@ -8,7 +8,7 @@ import re
 import sys
 
 sys.dont_write_bytecode = True
-from names import TOP, crates, exported, functions_of, read, sources
+from names import crates, exported, functions_of, read, sources
 
 
 def comment(lines, at):
@@ -22,7 +22,7 @@ def comment(lines, at):
 
 def edits_of(crate):
     """The mutants of a crate: the name of each, the file that it changes, and a text there that it replaces."""
-    folder = os.path.join(TOP, "crates", crate, "must-fail")
+    folder = f"crates/{crate}/must-fail"
     for name in sorted(os.listdir(folder)) if os.path.isdir(folder) else []:
         text = read(os.path.join(folder, name))
         yield name.removesuffix(".edit"), f"crates/{crate}/{re.search(r'(?m)^file: (.*)$', text)[1]}", re.findall(r"(?m)^old: (.*)$", text)
@@ -66,4 +66,5 @@ def main(words):
 
 
 if __name__ == "__main__":
+    os.chdir(os.path.join(os.path.dirname(os.path.abspath(__file__)), ".."))
     main(sys.argv[1:])

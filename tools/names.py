@@ -4,9 +4,8 @@
 Checks the names that README.md, CHANGELOG.md, CONTRIBUTING.md and docs/*.md cite in backticks: each file and each edit is there, and each function, type, clause and
 definition is declared in some crate. Where a page says in which place, it is declared there:
   `tx_rank/src/walk.rt` (`step`, `Walk::end`)        in this file; of one without a folder, in a file of this name
-  `rank` of tx_rank                                  in this crate
+  `rank` of tx_rank, tx_rank: `rank`, `grade`        in this crate
   `rank` (clauses `found`, `wherever`)               clauses of this function
-  tx_rank: `rank`, `grade`                           the same
   (Grades: `IsGrade`), (`tx_rank`, Grades: ..)       a definition of this file of specs/, and of this crate if one is named
 In the table of crates of docs/ARCHITECTURE.md the names of the last column are public in the crate of the row. Prints a line for each difference; the status is 1 if
 there is one."""
@@ -16,12 +15,10 @@ import os
 import re
 import sys
 
-TOP = os.path.dirname(os.path.dirname(os.path.abspath(__file__)))
-PAGES = ["README.md", "CHANGELOG.md", "CONTRIBUTING.md"] + sorted(glob.glob("docs/*.md", root_dir=TOP))
 MADE = {"crates/telexplan/out/telexplan", "out/"}
-# the words of the program, and what the toolchain and other programs have
+# the words of the program, and what the toolchain, its libraries and other programs have
 OTHER = {"lint", "audit", "grade", "mend", "change", "order", "survive", "page", "check", "run", "codes", "trace", "fill", "draw", "explain", "version", "help"}
-OTHER |= {"rt", "dot", "label", "indexmap", "match", "requires", "Contains", "Error", "From", "Result"}
+OTHER |= {"rt", "dot", "label", "indexmap", "match", "requires", "is_none", "is_some", "Contains", "Error", "From", "Result"}
 HEAD = re.compile(r"( *)(pub )?(?:pub\(\w+\) )?(?:const |unsafe )*fn (\w+)")
 CLAUSE = re.compile(r" +(requires|ensures)(?: (\w+))? \{")
 ITEM = re.compile(r"(?m)^ *(?:pub(?:\(\w+\))? )?(?:struct|enum|trait|type|const|static|mod) (\w+)|^    ([A-Z]\w*)(?:\(.*|,| \{)$|^    (?:pub )?(\w+): .*,$")
@@ -39,7 +36,7 @@ class Function:
 
 
 def read(path):
-    with open(os.path.join(TOP, path), encoding="utf-8") as it:
+    with open(path, encoding="utf-8") as it:
         return it.read()
 
 
@@ -63,17 +60,17 @@ def functions_of(crate, path, text):
 
 
 def crates():
-    return sorted(os.listdir(os.path.join(TOP, "crates")))
+    return sorted(os.listdir("crates"))
 
 
 def sources(crate):
-    return sorted(glob.glob(f"crates/{crate}/src/**/*.rt", root_dir=TOP, recursive=True))
+    return sorted(glob.glob(f"crates/{crate}/src/**/*.rt", recursive=True))
 
 
 def exported(crate):
     """What the crate shows to others: the names behind `pub use` in its lib.rt."""
     path = f"crates/{crate}/src/lib.rt"
-    text = read(path) if os.path.exists(os.path.join(TOP, path)) else ""
+    text = read(path) if os.path.exists(path) else ""
     return {name for used in re.findall(r"(?ms)^pub use [\w:]*?(\{.*?\}|\w+);", text) for name in re.findall(r"\w+", used)}
 
 
@@ -90,15 +87,15 @@ class Declared:
                     self.functions[it.name].append(it)
                 clauses = {name for it in found for names in it.clauses.values() for name in names}
                 self.names[path] = {it.name for it in found} | clauses | {name for row in ITEM.findall(text) for name in row}
-            for path in sorted(glob.glob(f"crates/{crate}/specs/**/*.antt", root_dir=TOP, recursive=True)):
+            for path in sorted(glob.glob(f"crates/{crate}/specs/**/*.antt", recursive=True)):
                 self.names[path] = set(DEFINITION.findall(read(path))) | {os.path.basename(path)[:-5]}
-        self.files = [path.rstrip("/") for it in ("src", "specs", "proofs", "must-fail", "data") for path in glob.glob(f"crates/*/{it}/**", root_dir=TOP, recursive=True)]
+        self.files = [path.rstrip("/") for it in ("src", "specs", "proofs", "must-fail", "data") for path in glob.glob(f"crates/*/{it}/**", recursive=True)]
         self.all = set().union(*self.names.values(), {it for path in self.files for it in path.partition(".")[0].split("/")}, OTHER)
 
     def has(self, name, where):
         """All parts of a name are declared in files of which the path begins so, or it is a folder there."""
         there = [names for path, names in self.names.items() if path.startswith(where)]
-        return all(any(it in names for names in there) for it in name.split("::")) or os.path.isdir(os.path.join(TOP, where, name))
+        return all(any(it in names for names in there) for it in name.split("::")) or os.path.isdir(os.path.join(where, name))
 
     def in_specs(self, name, file, crate):
         return any(name in names for path, names in self.names.items() if path.endswith(f"/{file}.antt") and path.startswith(f"crates/{crate or ''}"))
@@ -112,7 +109,7 @@ def places_of(path, files):
     """Where a file may be: a path from the top or from crates/, an edit, or the end of a path in a crate."""
     crate, _, name = path.partition("/")
     there = [path, f"crates/{path}", f"crates/{crate}/must-fail/{name}.edit", f"crates/{crate}/must-fail/{name}.edit.md"]
-    return [it for it in there if it in MADE or os.path.exists(os.path.join(TOP, it))] or [it for it in files if it.endswith("/" + path.rstrip("/"))]
+    return [it for it in there if it in MADE or os.path.exists(it)] or [it for it in files if it.endswith("/" + path.rstrip("/"))]
 
 
 def check_files(page, text, declared, tell):
@@ -165,13 +162,14 @@ def check_public(declared, tell):
 
 
 def main():
-    told, declared = [], Declared()
-    for page in PAGES:
+    told, declared, pages = [], Declared(), ["README.md", "CHANGELOG.md", "CONTRIBUTING.md", *sorted(glob.glob("docs/*.md"))]
+    for page in pages:
         check_page(page, declared, told.append)
     check_public(declared, told.append)
-    print("\n".join(told) or f"{len(PAGES)} pages, 0 differences")
+    print("\n".join(told) or f"{len(pages)} pages, 0 differences")
     return 1 if told else 0
 
 
 if __name__ == "__main__":
+    os.chdir(os.path.join(os.path.dirname(os.path.abspath(__file__)), ".."))
     sys.exit(main())
