@@ -1,8 +1,9 @@
 #!/usr/bin/env python3
 """usage: tools/claims.py [CRATE ..]
 
-Prints what the crates promise, or these ones, as a page of Markdown: of each crate its public functions, each with its comment, the names of the clauses that it requires and ensures,
-and the mutants of its body, by the files in must-fail. Those of all else come after them. It reads the sources, so it says what stands there; the prover judges it."""
+Prints what the crates promise, or these ones, as a page of Markdown: what each crate is, and its public functions, each with its comment, the names of the clauses that it
+requires and ensures, and the mutants of its body, by the files in must-fail. Those of all else come after them. It reads the sources, so it says what stands there; the prover
+judges it."""
 import os
 import re
 import sys
@@ -62,7 +63,8 @@ def main(words):
     for crate in words or crates():
         lines = list(promises(crate))
         if lines:
-            print("\n".join([f"## {crate}", "", *lines, ""]))
+            said = re.findall(r"(?m)^//! (.*)$", read(f"crates/{crate}/src/lib.rt"))
+            print("\n".join([f"## {crate}", "", " ".join(said), "", *lines, ""]))
 
 
 if __name__ == "__main__":
