@@ -1,7 +1,7 @@
 #!/usr/bin/env python3
 """usage: tools/claims.py [CRATE ..]
 
-Prints what the crates promise, or these ones, as a page of Markdown: what each crate is, and its public functions, each with its comment, the names of the clauses that it
+Prints what the crates promise, lowest first, or these ones, as a page of Markdown: what each crate is, and its public functions, each with its comment, the names of the clauses that it
 requires and ensures, and the mutants of its body, by the files in must-fail. Those of all else come after them. It reads the sources, so it says what stands there; the prover
 judges it."""
 import os
@@ -9,7 +9,7 @@ import re
 import sys
 
 sys.dont_write_bytecode = True
-from names import crates, exported, functions_of, read, sources
+from names import exported, functions_of, read, sources
 
 
 def comment(lines, at):
@@ -57,10 +57,10 @@ def promises(crate):
 
 
 def main(words):
-    lacking = sorted(set(words) - set(crates()))
-    if lacking:
-        sys.exit(f"claims.py: there is no crate {lacking[0]}")
-    for crate in words or crates():
+    crates = re.findall(r"(?m)^(\w+).*:", read("crates.txt"))
+    for crate in sorted(set(words) - set(crates)):
+        sys.exit(f"claims.py: there is no crate {crate}")
+    for crate in words or crates:
         lines = list(promises(crate))
         if lines:
             said = re.findall(r"(?m)^//! (.*)$", read(f"crates/{crate}/src/lib.rt"))

@@ -1,8 +1,8 @@
 #!/usr/bin/env python3
 """usage: tools/names.py
 
-Checks the names that README.md, CHANGELOG.md, CONTRIBUTING.md and docs/*.md cite in backticks: each file and each edit is there, and each function, type, clause and
-definition is declared in some crate. Where a page says in which place, it is declared there:
+Checks the names that README.md, CHANGELOG.md, CONTRIBUTING.md and docs/*.md cite in backticks: each file and each edit is there. Of README.md and docs/*.md, each
+function, type, clause and definition is declared in some crate. Where a page says in which place, it is declared there:
   `tx_rank/src/walk.rt` (`step`, `Walk::end`)        in this file; of one without a folder, in a file of this name
   `rank` of tx_rank, tx_rank: `rank`, `grade`        in this crate
   `rank` (clauses `found`, `wherever`)               clauses of this function
@@ -18,7 +18,7 @@ import sys
 MADE = {"crates/telexplan/out/telexplan", "out/"}
 # the words of the program, and what the toolchain, its libraries and other programs have
 OTHER = {"lint", "audit", "grade", "mend", "change", "order", "survive", "page", "check", "run", "codes", "trace", "fill", "draw", "explain", "version", "help"}
-OTHER |= {"rt", "dot", "label", "indexmap", "match", "requires", "is_none", "is_some", "Contains", "Error", "From", "Result"}
+OTHER |= {"rt", "dot", "label", "indexmap", "match", "requires", "Contains", "Drop", "Error", "From"}
 HEAD = re.compile(r"( *)(pub )?(?:pub\(\w+\) )?(?:const |unsafe )*fn (\w+)")
 CLAUSE = re.compile(r" +(requires|ensures)(?: (\w+))? \{")
 ITEM = re.compile(r"(?m)^ *(?:pub(?:\(\w+\))? )?(?:struct|enum|trait|type|const|static|mod) (\w+)|^    ([A-Z]\w*)(?:\(.*|,| \{)$|^    (?:pub )?(\w+): .*,$")
@@ -144,7 +144,7 @@ def check_places(page, text, declared, tell):
 def check_page(page, declared, tell):
     text = re.sub(r"(?ms)^ *```.*?^ *```", "", read(page))
     for name in sorted(set(re.findall(r"`([A-Za-z_]\w*(?:::\w+)*)`", text))):
-        if re.search("[a-z]", name) and not all(it in declared.all for it in name.split("::")):
+        if page.startswith(("README", "docs/")) and re.search("[a-z]", name) and not all(it in declared.all for it in name.split("::")):
             tell(f"{page}: {name} is declared nowhere")
     check_files(page, text, declared, tell)
     check_places(page, text, declared, tell)
