@@ -1,9 +1,9 @@
 #!/usr/bin/env python3
 """usage: tools/claims.py [CRATE ..]
 
-Prints what the crates promise, lowest first, or these ones, as a page of Markdown: what each crate is, and its public functions, each with its comment, the names of the clauses that it
-requires and ensures, and the mutants of its body, by the files in must-fail. Those of all else come after them. It reads the sources, so it says what stands there; the prover
-judges it."""
+Prints what the crates promise, lowest first, or these ones, as a page of Markdown: what each crate is, and its public functions, each with its comment, the names of the
+clauses that it requires and ensures, and the mutants of its body, by the files in must-fail. Those of all else come after them. It reads the sources, so it says what stands
+there; the prover judges it."""
 import os
 import re
 import sys
