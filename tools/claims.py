@@ -18,7 +18,7 @@ def comment(lines, at):
     while at > 0 and re.match(" *(///|#\\[)", lines[at - 1]):
         at -= 1
         said.append(lines[at].strip())
-    return " ".join(it[3:].strip() for it in reversed(said) if it.startswith("///"))
+    return " ".join(it[3:].strip() for it in reversed(said) if re.match("/// ", it))
 
 
 def edits_of(crate):
