@@ -18,7 +18,9 @@ pub struct Risks<A: Allocator = Global> {
 
 impl<A: Allocator> Drop for Risks<A> {
     fn drop(self) {
-        let Self { rows } = self;
+        let Self {
+            rows,
+        } = self;
         drop(rows);
     }
 }
