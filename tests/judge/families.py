@@ -1,42 +1,42 @@
 """Small plans: all those of a family, many of them packed into one plan, and random ones from a seed.
 
 What becomes of the calls for a code depends on the lists and bars for that code alone. So a plan of
-900 codes, each with the lists of one plan of a family, is 900 small plans to one run."""
-from itertools import chain, combinations, islice, permutations, product
+hundreds of codes, each with the lists of one plan of a family, is hundreds of small plans to one run."""
+from itertools import islice, permutations, product
 from random import Random
 
 from plans import Plan
+from walks import survey
 
 PACK = 890
 
 
 class Family:
-    """The plans of one network that differ in the lists for one code, and in where calls for it start:
-    of each exchange with lists, up to so many of its groups, in any order."""
+    """The plans of one network that differ in the lists for one code, each of up to so many groups in any
+    order, and in where calls for it start: in `starts`, but not always where a name has a `?`."""
 
-    def __init__(self, home, groups, lists, starts, always=()):
-        self.home, self.starts, self.always = home, starts.split(), always
-        self.lists = {x: [list_ for n in range(most + 1) for list_ in permutations(words.split(), n)] for x, (most, words) in lists.items()}
-        self.groups = {}
-        for row in groups.split(","):
-            name, a, b, *way = row.split()
-            self.groups[name] = (a, b, "BOTHWAY" if way else "ONEWAY", int(way[0]) if way else 1)
+    def __init__(self, home, groups, lists, starts):
+        """A group that both ends may seize has the number of its circuits behind it."""
+        rows = [row.split() for row in groups.split(",")]
+        self.groups = {name: (a, b, "BOTHWAY" if way else "ONEWAY", int((way or "1")[0])) for name, a, b, *way in rows}
+        self.home, self.starts = home, starts.replace("?", "").split()
         self.exchanges = sorted({home, *self.starts, *(x for it in self.groups.values() for x in it[:2])})
+        self.choices = [(it.strip("?"), *[None] * it.count("?")) for it in starts.split()]
+        self.names = list(lists)
+        self.choices += [[it for n in range(most + 1) for it in permutations(words.split(), n)] for most, words in lists.values()]
 
     def routings(self):
         """The lists for the code, and where calls for it start: all there are."""
-        sets = chain.from_iterable(combinations(self.starts, n) for n in range(len(self.starts) + 1))
-        starts = [it for it in sets if set(self.always) <= set(it)]
-        for chosen in product(starts, *self.lists.values()):
-            yield dict(zip(self.lists, chosen[1:])), chosen[0]
+        count = len(self.starts)
+        for chosen in product(*self.choices):
+            yield dict(zip(self.names, chosen[count:])), tuple(x for x in chosen[:count] if x)
 
     def plan(self, routings):
         """One plan with a code for each of these. At each exchange where calls may start a code is at
         home, which nobody else may call."""
         plan = Plan()
         plan.exchanges, plan.groups = list(self.exchanges), dict(self.groups)
-        for n, (lists, starts) in enumerate(routings):
-            code = str(100 + n)
+        for code, (lists, starts) in zip(map(str, range(100, 100 + PACK)), routings):
             plan.codes[code] = self.home
             plan.routes.update({(x, code): groups for x, groups in lists.items() if groups})
             plan.bars.update((x, code) for x in self.starts if x not in starts)
@@ -46,11 +46,17 @@ class Family:
             plan.bars.update((y, f"99{x[1]}") for y in self.starts if y != x)
         return plan
 
+    def survey(self, routing):
+        """What all walks show of one of these."""
+        far = self.plan([]).far
+        lists = tuple((x, tuple((g, far(g, x)) for g in groups)) for x, groups in routing[0].items() if groups)
+        return survey((self.home, lists, routing[1]))
 
-def packed(items, size=PACK):
+
+def packed(items):
     """The items of something, so many at a time."""
     items = iter(items)
-    while pack := list(islice(items, size)):
+    while pack := list(islice(items, PACK)):
         yield pack
 
 
@@ -60,49 +66,48 @@ def stars(names):
 
 
 FAMILIES = {
-    "one-way": Family("A0", stars(["A0", "A1", "A2", "A3"]), {"A1": (3, "G10 G12 G13"), "A2": (3, "G20 G21 G23"), "A3": (3, "G30 G31 G32")}, "A1 A2 A3"),
+    "one-way": Family("A0", stars(["A0", "A1", "A2", "A3"]), {"A1": (3, "G10 G12 G13"), "A2": (3, "G20 G21 G23"), "A3": (3, "G30 G31 G32")}, "A1? A2? A3?"),
     "far": Family(
         "A0", stars(["A0", "A1", "A2", "A3", "A4"]),
-        {"A1": (2, "G10 G12 G13 G14"), "A2": (2, "G20 G21 G23 G24"), "A3": (2, "G30 G31 G32 G34"), "A4": (2, "G40 G41 G42 G43")}, "A4", ["A4"],
+        {"A1": (2, "G10 G12 G13 G14"), "A2": (2, "G20 G21 G23 G24"), "A3": (2, "G30 G31 G32 G34"), "A4": (2, "G40 G41 G42 G43")}, "A4",
     ),
     "pairs": Family(
         "A0", "G10 A1 A0,H10 A1 A0,G12 A1 A2,H12 A1 A2,G20 A2 A0,H20 A2 A0,G21 A2 A1,H21 A2 A1",
-        {"A1": (4, "G10 H10 G12 H12"), "A2": (4, "G20 H20 G21 H21")}, "A1 A2",
+        {"A1": (4, "G10 H10 G12 H12"), "A2": (4, "G20 H20 G21 H21")}, "A1? A2?",
     ),
     "both-way": Family(
         "A0", "G01 A0 A1 2,G02 A0 A2 1,G12 A1 A2 1,G13 A1 A3 2,G23 A2 A3 1,G03 A0 A3 1",
-        {"A1": (3, "G01 G12 G13"), "A2": (3, "G02 G12 G23"), "A3": (3, "G03 G13 G23")}, "A1 A2 A3",
+        {"A1": (3, "G01 G12 G13"), "A2": (3, "G02 G12 G23"), "A3": (3, "G03 G13 G23")}, "A1? A2? A3?",
     ),
 }
 
 # Families of fewer lists, for commands that take two plans, or whose judge tries all ranks.
 SMALL = {
-    "one-list": Family("A0", "G1 A1 A0,G2 A1 A0 2,G3 A0 A1 1", {"A1": (3, "G1 G2 G3")}, "A1"),
-    "bars": Family("A0", "G10 A1 A0,G20 A2 A0,G12 A1 A2 1", {"A1": (2, "G10 G12"), "A2": (2, "G20 G12")}, "A1 A2"),
+    "one-list": Family("A0", "G1 A1 A0,G2 A1 A0 2,G3 A0 A1 1", {"A1": (3, "G1 G2 G3")}, "A1?"),
+    "bars": Family("A0", "G10 A1 A0,G20 A2 A0,G12 A1 A2 1", {"A1": (2, "G10 G12"), "A2": (2, "G20 G12")}, "A1? A2?"),
     "far": Family(
         "A0", "G10 A1 A0,G12 A1 A2 2,G13 A1 A3,G20 A2 A0,G23 A2 A3 2,G30 A3 A0,G31 A3 A1",
-        {"A1": (1, "G10 G12 G13"), "A2": (1, "G20 G12 G23"), "A3": (1, "G30 G31 G23")}, "A3", ["A3"],
+        {"A1": (1, "G10 G12 G13"), "A2": (1, "G20 G12 G23"), "A3": (1, "G30 G31 G23")}, "A3",
     ),
-    "round": Family("A0", "G10 A1 A0,G12 A1 A2 1,G23 A2 A3 1,G30 A3 A0", {"A1": (2, "G10 G12"), "A2": (2, "G12 G23"), "A3": (2, "G23 G30")}, "A1", ["A1"]),
-    "two": Family("A0", "G01 A0 A1 2,H01 A0 A1 2,G02 A0 A2 1,H02 A0 A2 1,G12 A1 A2 1", {"A1": (3, "G01 H01 G12"), "A2": (2, "G02 H02 G12")}, "A1 A2"),
-    "row": Family("A0", "G12 A1 A2 2,H12 A1 A2,G20 A2 A0,H20 A2 A0,G31 A3 A1,H31 A3 A1,G32 A3 A2", {"A1": (2, "G12 H12"), "A2": (1, "G20 G12"), "A3": (2, "G31 H31 G32")}, "A3", ["A3"]),
+    "round": Family("A0", "G10 A1 A0,G12 A1 A2 1,G23 A2 A3 1,G30 A3 A0", {"A1": (2, "G10 G12"), "A2": (2, "G12 G23"), "A3": (2, "G23 G30")}, "A1"),
+    "two": Family("A0", "G01 A0 A1 2,H01 A0 A1 2,G02 A0 A2 1,H02 A0 A2 1,G12 A1 A2 1", {"A1": (3, "G01 H01 G12"), "A2": (2, "G02 H02 G12")}, "A1? A2?"),
+    "row": Family("A0", "G12 A1 A2 2,H12 A1 A2,G20 A2 A0,H20 A2 A0,G31 A3 A1,H31 A3 A1,G32 A3 A2", {"A1": (2, "G12 H12"), "A2": (1, "G20 G12"), "A3": (2, "G31 H31 G32")}, "A3"),
 }
-
 
 # The families of an old plan and of a new one: of one network, and of two.
 PAIRS = {
     **{name: (family, family) for name, family in SMALL.items()},
     "another group": (
-        Family("A0", "G1 A1 A0,G2 A1 A0 2,G4 A2 A1 1,G5 A2 A0 2", {"A1": (2, "G1 G2"), "A2": (2, "G4 G5")}, "A1 A2"),
-        Family("A0", "G3 A1 A0,G2 A1 A0 1,G4 A2 A1 1,G5 A2 A0 1", {"A1": (2, "G3 G2 G4"), "A2": (2, "G4 G5")}, "A1 A2"),
+        Family("A0", "G1 A1 A0,G2 A1 A0 2,G4 A2 A1 1,G5 A2 A0 2", {"A1": (2, "G1 G2"), "A2": (2, "G4 G5")}, "A1? A2?"),
+        Family("A0", "G3 A1 A0,G2 A1 A0 1,G4 A2 A1 1,G5 A2 A0 1", {"A1": (2, "G3 G2 G4"), "A2": (2, "G4 G5")}, "A1? A2?"),
     ),
     "a new exchange": (
-        Family("A0", "G1 A1 A0 1,G3 A1 A0", {"A1": (2, "G1 G3")}, "A1"),
-        Family("A0", "G12 A1 A2 1,G1 A1 A0 1,G20 A2 A0", {"A1": (2, "G1 G12"), "A2": (2, "G20 G12")}, "A1 A2"),
+        Family("A0", "G1 A1 A0 1,G3 A1 A0", {"A1": (2, "G1 G3")}, "A1?"),
+        Family("A0", "G12 A1 A2 1,G1 A1 A0 1,G20 A2 A0", {"A1": (2, "G1 G12"), "A2": (2, "G20 G12")}, "A1? A2?"),
     ),
     "an exchange that goes": (
-        Family("A0", "G12 A1 A2 1,G1 A1 A0 1,G20 A2 A0", {"A1": (2, "G1 G12"), "A2": (2, "G20 G12")}, "A1 A2"),
-        Family("A0", "G1 A1 A0 1,G3 A1 A0", {"A1": (2, "G1 G3")}, "A1"),
+        Family("A0", "G12 A1 A2 1,G1 A1 A0 1,G20 A2 A0", {"A1": (2, "G1 G12"), "A2": (2, "G20 G12")}, "A1? A2?"),
+        Family("A0", "G1 A1 A0 1,G3 A1 A0", {"A1": (2, "G1 G3")}, "A1?"),
     ),
 }
 
@@ -119,104 +124,80 @@ def code_plans():
 def ambiguous_plans():
     """Plans of three exchanges and two codes, of which one begins the other, with all lists of up to two groups."""
     lists = {("A1", "41"): "G01 G12", ("A2", "41"): "G02 G12", ("A0", "412"): "G01 G02", ("A2", "412"): "G02 G12"}
-    choices = [[list_ for n in range(3) for list_ in permutations(words.split(), n)] for words in lists.values()]
-    for codes in permutations([("41", "A0"), ("412", "A1")]):
-        for chosen in product(*choices):
-            plan = Plan()
-            plan.exchanges, plan.codes = ["A0", "A1", "A2"], dict(codes)
-            plan.lines = [("41", "100", "199"), ("412", "100", "199")]
-            plan.groups = {f"G{a}{b}": (f"A{a}", f"A{b}", "BOTHWAY", 1) for a, b in ("01", "02", "12")}
-            plan.routes = {pair: groups for pair, groups in zip(lists, chosen) if groups}
-            yield plan
-
-
-def random_list(rng, plan, code, downward):
-    """A list of an exchange, mostly of groups that lead on in an order of the exchanges."""
-    def list_of(x):
-        groups = [(g, y) for g, y in plan.seizable(x) if rng.random() < 0.12 or downward.index(y) < downward.index(x)]
-        groups = [g for g, y in groups if y == plan.codes[code] or rng.random() < 0.7]
-        return tuple(rng.sample(groups, min(len(groups), rng.choice((1, 2, 2, 3, 3, 4)))))
-    return list_of
+    choices = [[it for n in range(3) for it in permutations(words.split(), n)] for words in lists.values()]
+    for codes, chosen in product(permutations([("41", "A0"), ("412", "A1")]), product(*choices)):
+        plan = Plan()
+        plan.exchanges, plan.codes = ["A0", "A1", "A2"], dict(codes)
+        plan.lines = [("41", "100", "199"), ("412", "100", "199")]
+        plan.groups = {f"G{a}{b}": (f"A{a}", f"A{b}", "BOTHWAY", 1) for a, b in ("01", "02", "12")}
+        plan.routes = {pair: groups for pair, groups in zip(lists, chosen) if groups}
+        yield plan
 
 
 def lists_at_random(rng, plan, share=1.0):
-    """Gives a share of the pairs of an exchange and a code another list or another bar."""
+    """Gives a share of the exchanges another list or another bar for a code. Most groups lead down in some order."""
     for code, home in plan.codes.items():
         rest = [x for x in plan.exchanges if x != home]
-        list_of = random_list(rng, plan, code, [home] + rng.sample(rest, len(rest)))
+        order = [home] + rng.sample(rest, len(rest))
         for x in rest:
+            groups = [g for g, y in plan.seizable(x) if (rng.random() < 0.12 or order.index(y) < order.index(x)) and (y == home or rng.random() < 0.7)]
             if rng.random() < share:
                 plan.routes.pop((x, code), None)
-                groups = list_of(x)
                 if groups and rng.random() < 0.94:
-                    plan.routes[x, code] = groups
+                    plan.routes[x, code] = tuple(rng.sample(groups, min(len(groups), rng.choice((1, 2, 2, 3, 3, 4)))))
             if rng.random() < 0.08 * share:
                 plan.bars ^= {(x, code)}
+
+
+def add_group(rng, plan, name):
+    plan.groups[name] = (*rng.sample(plan.exchanges, 2), rng.choice(("ONEWAY", "BOTHWAY", "BOTHWAY")), rng.randint(1, 3))
 
 
 def random_plan(rng):
     """A plan of two to six exchanges and one to four codes."""
     plan = Plan()
     plan.exchanges = [f"A{n}" for n in range(rng.randint(2, 6))]
-    pool = ["41", "42", "43", "512", "413"] if rng.random() < 0.08 else ["41", "42", "43", "512", "513"]
-    for code in rng.sample(pool, rng.randint(1, 4)):
-        plan.codes[code] = rng.choice(plan.exchanges)
-        if rng.random() < 0.7:
-            plan.lines.append((code, "100", "199"))
+    codes = ["41", "42", "43", "512", "413" if rng.random() < 0.08 else "513"]
+    plan.codes = {code: rng.choice(plan.exchanges) for code in rng.sample(codes, rng.randint(1, 4))}
+    plan.lines = [(code, "100", "199") for code in plan.codes if rng.random() < 0.7]
     for n in range(rng.randint(2, 3 * len(plan.exchanges))):
         add_group(rng, plan, f"G{n}")
     lists_at_random(rng, plan)
     return plan
 
 
-def add_group(rng, plan, name):
-    a, b = rng.sample(plan.exchanges, 2)
-    plan.groups[name] = (a, b, rng.choice(("ONEWAY", "BOTHWAY", "BOTHWAY")), rng.randint(1, 3))
-
-
 def another_network(rng, old):
     """A plan with other exchanges, codes, lines, groups and lists than an old one, in another order."""
     plan = old.copy()
-    gone = rng.choice(plan.exchanges) if rng.random() < 0.2 and len(plan.exchanges) > 2 else None
-    plan.exchanges = [x for x in plan.exchanges if x != gone] + (["B1"] if rng.random() < 0.4 else [])
+    gone = rng.choice(old.exchanges) if rng.random() < 0.2 and len(old.exchanges) > 2 else None
+    plan.exchanges = [x for x in old.exchanges if x != gone] + ["B1"] * (rng.random() < 0.4)
     rng.shuffle(plan.exchanges)
-    kept = {code: home for code, home in plan.codes.items() if home != gone and rng.random() < 0.93}
-    kept.update({"61": rng.choice(plan.exchanges)} if rng.random() < 0.3 or not kept else {})
+    plan.codes = {code: home for code, home in old.codes.items() if home != gone and rng.random() < 0.93}
+    if rng.random() < 0.3 or not plan.codes:
+        plan.codes["61"] = rng.choice(plan.exchanges)
     if rng.random() < 0.03:
-        kept[rng.choice(list(kept))] = rng.choice(plan.exchanges)
-    plan.codes = kept
-    plan.lines = [it for it in plan.lines if it[0] in kept and rng.random() < 0.9]
-    plan.lines += [(code, "3000", "3999") for code in kept if rng.random() < 0.12]
-    plan.groups = {g: it for g, it in plan.groups.items() if gone not in it and rng.random() < 0.93}
-    for g in list(plan.groups):
+        plan.codes[rng.choice(list(plan.codes))] = rng.choice(plan.exchanges)
+    plan.lines = [it for it in old.lines if it[0] in plan.codes and rng.random() < 0.9]
+    plan.lines += [(code, "3000", "3999") for code in plan.codes if rng.random() < 0.12]
+    plan.groups = {g: it for g, it in old.groups.items() if gone not in it and rng.random() < 0.93}
+    for g, (a, b, way, count) in list(plan.groups.items()):
         if rng.random() < 0.1:
-            a, b, way, count = plan.groups[g]
-            plan.groups[g] = (a, b, way if rng.random() < 0.9 else "ONEWAY", count + rng.choice((-1, 1)) or 1)
+            plan.groups[g] = (a, b, way if rng.random() < 0.9 else "ONEWAY", count + 1)
     for n in range(rng.randint(0, 3)):
         add_group(rng, plan, f"H{n}")
-    keep_rules(plan)
+    pairs = {(x, code): {g for g, _ in plan.seizable(x)} for x in plan.exchanges for code in plan.codes if plan.codes[code] != x}
+    lists = {it: tuple(g for g in groups if g in pairs[it]) for it, groups in old.routes.items() if it in pairs}
+    plan.routes = {it: groups for it, groups in lists.items() if groups}
+    plan.bars &= set(pairs)
     lists_at_random(rng, plan, 0.3)
     return plan
-
-
-def keep_rules(plan):
-    """Takes out of the lists and bars what the network does not have."""
-    for (x, code), groups in list(plan.routes.items()):
-        del plan.routes[x, code]
-        has = {g for g, _ in plan.seizable(x)}
-        left = tuple(g for g in groups if g in has)
-        if left and x in plan.exchanges and code in plan.codes and plan.codes[code] != x:
-            plan.routes[x, code] = left
-    plan.bars = {(x, c) for x, c in plan.bars if x in plan.exchanges and c in plan.codes and plan.codes[c] != x}
 
 
 def random_pair(rng):
     """An old plan and a new one, of one network or of two."""
     old = random_plan(rng)
-    if rng.random() < 0.45:
-        return old, another_network(rng, old)
-    new = old.copy()
-    lists_at_random(rng, new, rng.choice((0.2, 0.5, 1.0)))
+    new = another_network(rng, old) if rng.random() < 0.45 else old.copy()
+    lists_at_random(rng, new, rng.choice((0, 0.2, 0.5, 1.0)))
     return old, new
 
 
@@ -240,4 +221,4 @@ def random_network(rng):
         add_group(rng, plan, f"G{n}")
     groups = ",".join(f"{g} {a} {b}" + f" {count}" * (way == "BOTHWAY") for g, (a, b, way, count) in plan.groups.items())
     lists = {x: (2, " ".join(g for g, _ in plan.seizable(x))) for x in plan.exchanges[1:] if plan.seizable(x)}
-    return Family("A0", groups, lists, " ".join(rng.sample(plan.exchanges[1:], rng.randint(1, 2))))
+    return Family("A0", groups, lists, " ".join(x + "?" for x in rng.sample(plan.exchanges[1:], rng.randint(1, 2))))

@@ -3,7 +3,7 @@ import re
 
 from cases import TOPICS
 from program import Program
-from walks import Differs
+from walks import WRONG
 
 ENOUGH = 12
 
@@ -206,7 +206,7 @@ SPOILS = [
 
 
 def try_spoil(work):
-    """Spoils the answers to some cases, each of which has to be refused. Answers how many there were, and which were taken."""
+    """Spoils the answers to some cases. Answers whether each is refused, and what is to be told."""
     path, number = work
     command, what, spoil = SPOILS[number]
     spoiled, count, taken = [], 0, []
@@ -222,10 +222,10 @@ def try_spoil(work):
             judge(program)
             if spoiled:
                 taken.append(f"{spoiled[0].out}\n{program.show(None)}")
-        except (Differs, LookupError, ValueError):
+        except WRONG:
             pass
         count += bool(spoiled)
         if count == ENOUGH:
             break
     program.end()
-    return f"{command}, {what}", count, taken
+    return count > 0 and not taken, "\n".join([f"spoiled {command}, {what}: {count} answers, {len(taken)} taken", *taken[:1]])

@@ -11,9 +11,13 @@ class Differs(Exception):
         self.code = code
 
 
-def need(holds, what, code=None):
+# What a judge raises where an answer is wrong, or where it cannot be read.
+WRONG = (Differs, LookupError, ValueError)
+
+
+def need(holds, what):
     if not holds:
-        raise Differs(what, code)
+        raise Differs(what)
 
 
 def of_code(code, judge, *words):
