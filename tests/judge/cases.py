@@ -2,7 +2,7 @@
 from itertools import product
 from random import Random
 
-from audit import judge_audit, judge_cert_faults, judge_codes, judge_grade
+from audit import is_safe, judge_audit, judge_cert_faults, judge_codes, judge_grade
 from change import judge_change
 from families import FAMILIES, PAIRS, SMALL, ambiguous_plans, code_plans, packed, random_network, random_pair, random_plan, random_risks, seeded
 from mend import is_mendable, judge_mend, size_of
@@ -90,8 +90,11 @@ def pairs(old, new, judge, most):
 
 
 def random_change(judge):
+    """A random pair of plans, most of them safe."""
     def make(rng):
         plans, at, told = random_pair(rng), numbers_of(rng), rng.random() < 0.5
+        while not all(is_safe(plan, *at) for plan in plans) and rng.random() < 0.9:
+            plans = random_pair(rng)
         return 1, lambda program: judge(program, *plans, *at, told)
     return make
 
@@ -112,7 +115,7 @@ TOPICS = {
     "mend: random": lambda: seeded(800, "mends", random_mend),
     **{f"change: {name}": lambda it=it: pairs(*it, judge_change, 5000) for name, it in PAIRS.items()},
     "change: ambiguous": lambda: seeded(200, "ambiguous", ambiguous_change),
-    "change: random": lambda: seeded(1200, "changes", random_change(judge_change)),
+    "change: random": lambda: seeded(800, "changes", random_change(judge_change)),
     **{f"order: {name}": lambda it=it: pairs(*it, judge_order, 4096) for name, it in PAIRS.items()},
-    "order: random": lambda: seeded(1200, "orders", random_change(judge_order)),
+    "order: random": lambda: seeded(800, "orders", random_change(judge_order)),
 }

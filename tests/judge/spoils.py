@@ -8,67 +8,54 @@ from walks import WRONG
 ENOUGH = 12
 
 
-def rows_of(change):
-    """A spoil of the lines of a report. `change` answers other lines, or None where it finds nothing to spoil."""
+def put(pattern, by, name=None):
+    """A spoil that puts another text in place of the first one like this, in the report or in a file that is made."""
     def spoil(ran):
-        rows = change(ran.rows())
-        if rows is not None:
-            ran.out = "".join(f"{row}\n" for row in rows)
-        return rows is not None
+        was = ran.made.get(name) or "" if name else ran.out
+        text = re.sub(pattern, by, was, count=1, flags=re.M)
+        if name and was:
+            ran.made[name] = text
+        elif not name:
+            ran.out = text
+        return text != was
     return spoil
 
 
-def recounted(rows, by):
-    """The lines with another number in the verdict, and YES where it is 0."""
-    count = int(rows[-1].split()[-1]) + by if rows[-1] != "VERDICT YES" else by
-    return rows[:-1] + [f"VERDICT NO {count}" if count else "VERDICT YES"]
-
-
 def without(pattern):
-    """The report without the first line like this."""
-    def change(rows):
-        found = next((n for n, row in enumerate(rows) if re.match(pattern, row)), None)
-        if found is None:
-            return None
-        rest = rows[:found] + rows[found + 1:]
-        counts = re.match("(OLD |NEW )?(F|CUT|STRAY)", rows[found]) and rows[-1].startswith("VERDICT")
-        return recounted(rest, -1) if counts else rest
-    return rows_of(change)
+    """A spoil that leaves out the first line like this. The verdict counts one less, if it counts such lines."""
+    def spoil(ran):
+        found = re.search(f"^({pattern}).*\n", ran.out, flags=re.M)
+        if found:
+            ran.out = ran.out.replace(found[0], "", 1)
+            if re.match("(OLD |NEW )?F|CUT|STRAY", found[0]):
+                ran.out = re.sub(r"VERDICT NO (\d+)", lambda it: f"VERDICT NO {int(it[1]) - 1}", ran.out).replace("VERDICT NO 0", "VERDICT YES")
+        return found is not None
+    return spoil
 
 
-def replaced(pattern, by):
-    """The report with another text in place of the first one like this."""
-    def change(rows):
-        text = re.sub(pattern, by, "\n".join(rows), count=1, flags=re.M)
-        return None if text == "\n".join(rows) else text.split("\n")
-    return rows_of(change)
-
-
-def one_more(match):
-    return f"{match[1]}{int(match[2]) + 1}"
+def stages(change):
+    """A spoil of the stages of an order, which are lists of lines. `change` answers others, or None."""
+    def spoil(ran):
+        head, *parts = re.split(r"^STAGE \d+\n", ran.out, flags=re.M)
+        last = ran.rows()[-1] + "\n"
+        parts = change([part.removesuffix(last).splitlines() for part in parts])
+        if parts:
+            ran.out = head + "".join("\n".join([f"STAGE {n}", *rows, ""]) for n, rows in enumerate(parts, 1)) + last
+        return bool(parts)
+    return spoil
 
 
 def turned(ran):
     """The other verdict, with the status that goes with it."""
-    is_yes = ran.out.endswith("YES\n")
-    ran.out = re.sub("NO .*$", "YES", ran.out.rstrip()) + "\n" if not is_yes else ran.out.rstrip()[:-3] + "NO 1\n"
-    ran.status = 1 if is_yes else 0
-    return True
+    was = ran.out
+    ran.out = re.sub("YES\n$", "NO 1\n", was) if was.endswith("YES\n") else re.sub("NO .*\n$", "YES\n", was)
+    ran.status = int(ran.out.endswith("NO 1\n"))
+    return ran.out != was
 
 
 def status(ran):
     ran.status = 1 - ran.status
     return True
-
-
-def made(name, pattern, by):
-    """A file that is made, with another text in place of the first one like this."""
-    def spoil(ran):
-        text = ran.made.get(name)
-        other = text and re.sub(pattern, by, text, count=1, flags=re.M)
-        ran.made[name] = other
-        return other != text
-    return spoil
 
 
 def not_made(name):
@@ -81,147 +68,127 @@ def not_made(name):
 def of_old(ran):
     """The old plan in place of the mixture."""
     was, ran.made["mixture"] = ran.made.get("mixture"), ran.files["o"]
-    return was is not None and was != ran.files["o"]
+    return was not in (None, ran.files["o"])
 
 
-def stage_lines(rows):
-    return [n for n, row in enumerate(rows) if row.startswith("STAGE")]
+def more(match):
+    return f"{match[1]}{int(match[2]) + 1}"
 
 
-def merged(rows):
-    """The first two stages as one."""
-    at = stage_lines(rows)
-    return [re.sub(r"^STAGE (\d+)", lambda it: f"STAGE {int(it[1]) - 1}", row) if n > at[1] else row for n, row in enumerate(rows) if n != at[1]] if len(at) > 1 else None
+def merged(parts):
+    return [parts[0] + parts[1], *parts[2:]] if len(parts) > 1 else None
 
 
-def cut(rows):
-    """The first stage as two, if it switches two lists of one code without a bar."""
-    at = stage_lines(rows)
-    first = rows[at[0] + 1:(at + [len(rows) - 1])[1]] if at else []
-    if len(first) < 2 or len({row.split()[2] for row in first}) > 1 or any("BAR" in row or "WAS" in row for row in first):
+def cut(parts):
+    """The first stage as two, if it switches several lists of one code and nothing else."""
+    first = parts[0] if parts else []
+    if len(first) < 2 or len({row.split()[2] for row in first if row[:3] != "WAS"}) > 1 or "BAR" in "".join(first):
         return None
-    later = [re.sub(r"^STAGE (\d+)", lambda it: f"STAGE {int(it[1]) + 1}", row) for row in rows[at[0] + 2:]]
-    return rows[:at[0] + 2] + ["STAGE 2"] + later
+    at = 2 if first[1].startswith("WAS") else 1
+    return [first[:at], first[at:], *parts[1:]] if first[at:] else None
 
 
-def swapped(rows):
-    """The first two stages in the other order."""
-    at = stage_lines(rows) + [len(rows) - 1]
-    return rows[:at[0] + 1] + rows[at[1] + 1:at[2]] + [rows[at[1]]] + rows[at[0] + 1:at[1]] + rows[at[2]:] if len(at) > 2 else None
-
-
-def too_early(rows):
+def too_early(parts):
     """The first list of the second stage in the first stage already."""
-    at = stage_lines(rows)
-    if len(at) < 2 or "WAS" in "".join(rows):
+    if len(parts) < 2:
         return None
-    moved = rows.pop(at[1] + 1)
-    return rows[:at[1]] + [moved] + rows[at[1]:]
-
-
-def list_too_many(rows):
-    """One list more, which no call needs."""
-    found = next((row for row in rows if row.startswith("ROUTE")), None)
-    return rows[:-1] + [found] + rows[-1:] if found and rows[0].startswith("MEND") else None
+    at = 2 if parts[1][1:2] and parts[1][1].startswith("WAS") else 1
+    return [it for it in (parts[0] + parts[1][:at], parts[1][at:], *parts[2:]) if it]
 
 
 # The topic whose cases are spoiled, of each command.
 CASES = dict.fromkeys(("audit", "check", "grade", "survive"), "audit, check, grade, survive: random")
 CASES.update({"codes": "codes: one exchange", **{it: f"{it}: random" for it in ("mend", "change", "order")}})
+ANOTHER_GROUP = put(r"^((OLD |NEW )?F.* VIA \w+) \w+", r"\1 NONE")
+OTHER_ORDER = put(r"^(ROUTE \w+ \d+) (\w+) (\w+)", r"\1 \3 \2")
+LESS_RANK = put(r"^(RANK .*) 1$", r"\1 0", "cert")
 
 # Each spoil: the command whose answers it changes, and how.
 SPOILS = [
     ("audit", "the other verdict", turned),
     ("audit", "the other status", status),
     ("audit", "a finding left out", without("F")),
-    ("audit", "a finding twice", replaced(r"^(F\d .*)\n(.*\n)*VERDICT NO \d+", lambda it: it[0].replace(it[1], it[1] + "\n" + it[1], 1))),
-    ("audit", "a loop as a short list", replaced("^F2 LOOP", "F3 SHORT")),
-    ("audit", "a long walk as a short list", replaced("^F4 LONG", "F3 SHORT")),
-    ("audit", "a walk by another group", replaced(r"^(F.* VIA \w+) \w+", r"\1 NONE")),
-    ("audit", "a walk without its last step", replaced(r"^(F.* VIA \w+.*) \w+ \w+$", r"\1")),
-    ("audit", "another limit", replaced(r"^(AUDIT LIMIT )(\d+)", one_more)),
-    ("audit", "a rank less by one", made("cert", r"^(RANK .*) 1$", r"\1 0")),
-    ("audit", "a rank greater by one", made("cert", r"^(RANK .*) 1$", r"\1 2")),
+    ("audit", "a finding twice", put(r"^(F.*\n)((.*\n)*VERDICT NO) .*", r"\1\1\2 2")),
+    ("audit", "a loop as a short list", put("^F2 LOOP", "F3 SHORT")),
+    ("audit", "a long walk as a short list", put("^F4 LONG", "F3 SHORT")),
+    ("audit", "a walk by another group", ANOTHER_GROUP),
+    ("audit", "a walk without its last step", put(r"^(F.* VIA \w+.*) \w+ \w+$", r"\1")),
+    ("audit", "another limit", put(r"^(AUDIT LIMIT )(\d+)", more)),
+    ("audit", "a rank less by one", LESS_RANK),
+    ("audit", "a rank greater by one", put(r"^(RANK .*) 1$", r"\1 2", "cert")),
     ("audit", "no certificate", not_made("cert")),
-    ("audit", "a script without its first block", made("script", r"^BLOCK .*\n", "")),
+    ("audit", "a script without its first block", put(r"^BLOCK .*\n", "", "script")),
     ("audit", "no script", not_made("script")),
-    ("grade", "a limit greater by one", replaced(r"^(CODE .* LIMIT )(\d+)", one_more)),
-    ("grade", "a greater limit of the plan", replaced(r"^(GRADE LIMIT )(\d+)", one_more)),
-    ("grade", "a spare number greater by one", replaced(r"^(CODE .* SPARE )(\d+)", one_more)),
-    ("grade", "a code without its grade", replaced(r"^(CODE \d+) LIMIT.*", r"\1 NONE")),
-    ("grade", "a grade where there is none", replaced(r"^(CODE \d+) NONE", r"\1 LIMIT 0 SPARE 0")),
+    ("grade", "a greater limit of a code", put(r"^(CODE .* LIMIT )(\d+)", more)),
+    ("grade", "a greater limit of the plan", put(r"^(GRADE LIMIT )(\d+)", more)),
+    ("grade", "a greater spare number", put(r"^(CODE .* SPARE )(\d+)", more)),
+    ("grade", "a code without its grade", put(r"^(CODE \d+) LIMIT.*", r"\1 NONE")),
+    ("grade", "a grade where there is none", put(r"^(CODE \d+) NONE", r"\1 LIMIT 0 SPARE 0")),
     ("grade", "a finding left out", without("F")),
-    ("codes", "no ambiguous pair", replaced("^AMBIGUOUS.*", "DISTINCT")),
+    ("codes", "no ambiguous pair", put("^AMBIGUOUS.*", "DISTINCT")),
     ("codes", "a code left out", without("CODE")),
     ("check", "the other verdict", turned),
-    ("check", "another fault", replaced(r"^(NO K)(\d)", one_more)),
-    ("check", "another exchange", replaced(r"^(NO K[3-7] \d+) A\d", r"\1 A9")),
+    ("check", "another fault", put(r"^(NO K)(\d)", more)),
+    ("check", "another exchange", put(r"^(NO K[3-7] \d+) A\d", r"\1 A9")),
     ("mend", "the other verdict", turned),
     ("mend", "a list left out", without("ROUTE")),
-    ("mend", "one list more", rows_of(list_too_many)),
-    ("mend", "a group less", replaced(r"^(ROUTE .*) \w+$", r"\1")),
-    ("mend", "groups in another order", replaced(r"^(ROUTE \w+ \d+) (\w+) (\w+)", r"\1 \3 \2")),
-    ("mend", "another old list", replaced(r"^WAS.*", "WAS NONE")),
-    ("mend", "one group more that leads on", replaced(r"^(F5 .* GROUPS )(\d+)", one_more)),
-    ("mend", "a greater rank", replaced(r"^(F5 .* RANK )(\d+)", one_more)),
-    ("mend", "a rank for groups", replaced(r"^(F5 .*) GROUPS \d+", r"\1 RANK 9")),
+    ("mend", "one list more", put(r"^(ROUTE.*\n)((.*\n)*VERDICT)", r"\1\1\2")),
+    ("mend", "a group less", put(r"^(ROUTE .*) \w+$", r"\1")),
+    ("mend", "groups in another order", OTHER_ORDER),
+    ("mend", "another old list", put("^WAS.*", "WAS NONE")),
+    ("mend", "one group more that leads on", put(r"^(F5 .* GROUPS )(\d+)", more)),
+    ("mend", "a greater rank", put(r"^(F5 .* RANK )(\d+)", more)),
+    ("mend", "a rank for groups", put(r"^(F5 .*) GROUPS \d+", r"\1 RANK 9")),
     ("mend", "a cause left out", without("F5")),
-    ("mend", "nothing is missing", replaced(r" MISSING.*", "")),
-    ("mend", "more is missing", replaced(r"^(CODE .* MISSING \w+ )(\d+)", one_more)),
-    ("mend", "a plan with an old list", made("new", r"^ROUTE .*\n", "")),
-    ("mend", "a plan without a line of its text", made("new", r"^LINES .*\n", "")),
-    ("mend", "a rank less by one", made("cert", r"^(RANK .*) 1$", r"\1 0")),
+    ("mend", "nothing is missing", put(" MISSING.*", "")),
+    ("mend", "more is missing", put(r"^(CODE .* MISSING \w+ )(\d+)", more)),
+    ("mend", "a plan without a list", put(r"^ROUTE .*\n", "", "new")),
+    ("mend", "a plan without a line of its text", put(r"^LINES .*\n", "", "new")),
+    ("mend", "a rank less by one", LESS_RANK),
     ("change", "the other verdict", turned),
     ("change", "a finding left out", without("F|NEW F")),
-    ("change", "a walk by another group", replaced(r"^((NEW )?F.* VIA \w+) \w+", r"\1 NONE")),
+    ("change", "a walk by another group", ANOTHER_GROUP),
     ("change", "a new group left out", without("NEW GROUP")),
     ("change", "circuits left out", without("CIRCUITS")),
     ("change", "a list left out", without("ROUTE|DROP")),
     ("change", "the old plan as the mixture", of_old),
-    ("change", "a mixture without a list", made("mixture", r"^ROUTE .*\n", "")),
-    ("change", "a rank less by one", made("cert", r"^(RANK .*) 1$", r"\1 0")),
+    ("change", "a mixture without a list", put(r"^ROUTE .*\n", "", "mixture")),
+    ("change", "a rank less by one", LESS_RANK),
     ("change", "no script", not_made("script")),
     ("order", "the other verdict", turned),
-    ("order", "two stages as one", rows_of(merged)),
-    ("order", "one stage as two", rows_of(cut)),
-    ("order", "two stages changed about", rows_of(swapped)),
-    ("order", "a list a stage too early", rows_of(too_early)),
+    ("order", "two stages as one", stages(merged)),
+    ("order", "one stage as two", stages(cut)),
+    ("order", "two stages changed about", stages(lambda parts: [parts[1], parts[0], *parts[2:]] if len(parts) > 1 else None)),
+    ("order", "a list a stage too early", stages(too_early)),
     ("order", "a list left out", without("ROUTE|DROP")),
-    ("order", "another list", replaced(r"^(ROUTE \w+ \d+) (\w+) (\w+)", r"\1 \3 \2")),
-    ("order", "a bar set for one lifted", replaced("^UNBAR", "BAR")),
+    ("order", "groups in another order", OTHER_ORDER),
+    ("order", "a bar set for one lifted", put("^UNBAR", "BAR")),
     ("order", "a finding left out", without("OLD F|NEW F")),
-    ("order", "a finding of the other plan", replaced("^OLD F", "NEW F")),
-    ("order", "a stage's plan without a list", made("plan", r"^ROUTE .*\n", "")),
-    ("order", "a rank less by one", made("cert", r"^(RANK .*) 1$", r"\1 0")),
+    ("order", "a finding of the other plan", put("^OLD F", "NEW F")),
+    ("order", "a stage's plan without a list", put(r"^ROUTE .*\n", "", "plan")),
+    ("order", "a rank less by one", LESS_RANK),
     ("survive", "the other verdict", turned),
     ("survive", "one that is cut off left out", without("CUT|STRAY")),
-    ("survive", "cut off for astray", replaced("^STRAY", "CUT")),
-    ("survive", "astray for cut off", replaced("^CUT", "STRAY")),
+    ("survive", "cut off for astray", put("^STRAY", "CUT")),
+    ("survive", "astray for cut off", put("^CUT", "STRAY")),
     ("survive", "an outage left out", without(r"(GROUP|EXCHANGE|RISK) \w+ CUT")),
-    ("survive", "one outage more", replaced(r"^(SURVIVE RISKS )(\d+)", one_more)),
-    ("survive", "one group more", replaced(r"^(GROUPS )(\d+)", one_more)),
-    ("survive", "one cut more in the totals", replaced(r"^(\w+ \w+ CUT )(\d+)", one_more)),
-    ("survive", "a walk that ends before", replaced(r"^((CUT|STRAY) .* VIA \w+.*) \w+ \w+$", r"\1")),
+    ("survive", "one outage more", put(r"^(SURVIVE RISKS )(\d+)", more)),
+    ("survive", "one group more", put(r"^(GROUPS )(\d+)", more)),
+    ("survive", "one cut more in the totals", put(r"^(\w+ \w+ CUT )(\d+)", more)),
+    ("survive", "a walk that ends before", put(r"^((CUT|STRAY) .* VIA \w+.*) \w+ \w+$", r"\1")),
 ]
 
 
 def try_spoil(work):
     """Spoils the answers to some cases. Answers whether each is refused, and what is to be told."""
-    path, number = work
-    command, what, spoil = SPOILS[number]
+    path, (command, what, spoil) = work[0], SPOILS[work[1]]
     spoiled, count, taken = [], 0, []
-
-    def change(ran):
-        if ran.words[0] == command and spoil(ran):
-            spoiled.append(ran)
-
-    program = Program(path, change)
+    program = Program(path, lambda ran: ran.words[0] == command and spoil(ran) and spoiled.append(ran))
     for _, judge in TOPICS[CASES[command]]():
         spoiled.clear()
         try:
             judge(program)
-            if spoiled:
-                taken.append(f"{spoiled[0].out}\n{program.show(None)}")
+            taken += [f"{it.out}\n{program.show(None)}" for it in spoiled[:1]]
         except WRONG:
             pass
         count += bool(spoiled)
