@@ -28,8 +28,8 @@ def due_between(old, new, limit, spare):
 
 
 def dues_between(old, new, limit, spare):
-    then = new.views()
-    return {code: due_between(view, then[code], limit, spare) for code, view in old.views().items()}
+    then = new.views
+    return {code: due_between(view, then[code], limit, spare) for code, view in old.views.items()}
 
 
 def both(old, new):
@@ -84,7 +84,7 @@ def judge_shown(program, ran, of, old, new, findings, limit, spare):
     if shown and shown.startswith("NEW "):
         wanted = new
     elif shown and of.network() == old.network():
-        judge_revised(mixture, of.text(), wanted)
+        judge_revised(mixture, of.text, wanted)
     need(not shown or (read(mixture).says_the_same(wanted) and not is_safe(wanted, limit, spare)), "the mixture is another one, or safe")
     need((script is None) == (not shown or turns_back(wanted, shown.removeprefix("NEW "))), "a script is made, or none")
     if script:
@@ -93,7 +93,7 @@ def judge_shown(program, ran, of, old, new, findings, limit, spare):
 
 def some_mixture(old, new):
     """A mixture of two plans."""
-    plan, rng = old.copy(), Random(old.text())
+    plan, rng = old.copy(), Random(old.text)
     pairs = sorted({*old.routes, *new.routes})
     plan.routes = {it: list_ for it in pairs if (list_ := rng.choice((old, new)).routes.get(it))}
     plan.bars = {it for it in sorted(old.bars | new.bars) if it in rng.choice((old, new)).bars}
@@ -110,7 +110,7 @@ def judge_head(ran, head, old, new):
 
 def judge_change(program, old, new, limit, spare, told=True):
     words = ["change", "o", "n", *numbers(limit, spare), "--cert", "cert", "--mixture", "mixture", "--counter", "script"]
-    ran = program.run(words + ["--old"] * told, {"o": old.text(), "n": new.text()}, ["cert", "mixture", "script"])
+    ran = program.run(words + ["--old"] * told, {"o": old.text, "n": new.text}, ["cert", "mixture", "script"])
     before, after = join(old, new)
     head = [f"CHANGE LIMIT {limit} SPARE {spare}", *differences(old, new), *(switched_rows(before, after) if told else [])]
     if not judge_head(ran, head, old, new):
@@ -118,15 +118,15 @@ def judge_change(program, old, new, limit, spare, told=True):
     rows = ran.rows()
     findings = rows[len(head):-1]
     dues = dues_between(before, after, limit, spare)
-    sound = not before.ambiguous() and all(it == NOTHING for it in dues.values())
+    sound = not before.ambiguous and all(it == NOTHING for it in dues.values())
     yes = sound and is_safe(new, limit, spare)
     judge_verdict(rows, yes, ran.status, len(findings))
     if sound and not yes:
         need(all(row.startswith("NEW ") for row in findings), f"a finding is not of NEW: {findings}")
         judge_findings_of(new, [row[4:] for row in findings], limit, spare)
     else:
-        walked = {code: both(view, after.views()[code]) for code, view in before.views().items()}
-        judge_findings(findings, before.ambiguous(), walked, dues, limit)
+        walked = {code: both(view, after.views[code]) for code, view in before.views.items()}
+        judge_findings(findings, before.ambiguous, walked, dues, limit)
     need((ran.made["cert"] is not None) == yes, "a certificate is made, or none")
     if yes:
         judge_cert(program, [before, after, some_mixture(before, after)], ran.made["cert"], limit, spare)

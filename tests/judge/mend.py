@@ -57,7 +57,7 @@ def size_of(plan):
 
 def is_mendable(plan, limit, spare):
     nets = networks_of(plan)
-    return not plan.ambiguous() and all(nets[home].safe(starts, limit, spare) for home, _, starts in plan.views().values())
+    return not plan.ambiguous and all(nets[home].safe(starts, limit, spare) for home, _, starts in plan.views.values())
 
 
 def least_ranks(net, kept, limit, spare):
@@ -121,7 +121,7 @@ def judge_mended(net, view, new, limit, spare):
 def causes(plan, nets, limit, spare):
     """The lines of a report for a plan that no lists make safe: of exchanges, and of codes."""
     rows, ends = [], []
-    for code, (home, _, starts) in plan.views().items():
+    for code, (home, _, starts) in plan.views.items():
         net, unserved = nets[home], 0
         on = {x: net.leading_on(x, limit, spare) for x in net.rest}
         for x in starts:
@@ -159,20 +159,20 @@ def judge_revised(text, of, plan):
 
 def judge_mend(program, plan, limit, spare, old=True):
     words = ["mend", "p", *numbers(limit, spare), "--plan", "new", "--cert", "cert"] + ["--old"] * old
-    ran = program.run(words, {"p": plan.text()}, ["new", "cert"])
+    ran = program.run(words, {"p": plan.text}, ["new", "cert"])
     rows, nets, yes = ran.rows(), networks_of(plan), is_mendable(plan, limit, spare)
     need(rows[0] == f"MEND LIMIT {limit} SPARE {spare}", f"begins with {rows[0]}")
     need((ran.made["new"] is not None) == (ran.made["cert"] is not None) == yes, "another file is made")
     if not yes:
         found, ends = causes(plan, nets, limit, spare)
-        pairs = [f"F1 AMBIGUOUS {a} {b}" for a, b in plan.ambiguous() if rows[1] == f"F1 AMBIGUOUS {a} {b}"]
-        need(len(pairs) == bool(plan.ambiguous()) and rows[1:-1] == pairs + found + ends, f"causes are {rows[1:-1]} and not {found + ends}")
+        pairs = [f"F1 AMBIGUOUS {a} {b}" for a, b in plan.ambiguous if rows[1] == f"F1 AMBIGUOUS {a} {b}"]
+        need(len(pairs) == bool(plan.ambiguous) and rows[1:-1] == pairs + found + ends, f"causes are {rows[1:-1]} and not {found + ends}")
         judge_verdict(rows, False, ran.status, len(pairs) + len(found))
         return
     judge_verdict(rows, True, ran.status, 0)
     mended = with_lists(plan, rows[1:-1], old)
-    new = mended.views()
-    for code, view in plan.views().items():
+    new = mended.views
+    for code, view in plan.views.items():
         of_code(code, judge_mended, nets[view[0]], view, new[code][1], limit, spare)
-    judge_revised(ran.made["new"], plan.text(), mended)
+    judge_revised(ran.made["new"], plan.text, mended)
     judge_cert(program, [mended], ran.made["cert"], limit, spare)
