@@ -5,7 +5,7 @@ from random import Random
 
 from audit import is_safe, judge_cert, judge_counter, judge_findings_of, judge_verdict, numbers, turns_back
 from mend import judge_revised
-from plans import contradiction, join, read
+from plans import contradiction, join, read, switched_rows
 from walks import NOTHING, judge_findings, need, survey
 
 
@@ -50,18 +50,6 @@ def differences(old, new):
     return rows + [f"CIRCUITS {g} {n} {m}" for g, n, m in counts if n != m]
 
 
-def switch_rows(pair, before, after):
-    """The lines of a list that is switched."""
-    return [f"ROUTE {' '.join(pair + after)}" if after else f"DROP {' '.join(pair)}", " ".join(("WAS", *before))]
-
-
-def switched_rows(old, new):
-    """The lines of all lists that differ, by codes and exchanges."""
-    pairs = ((x, code) for code in old.codes for x in old.exchanges)
-    lists = ((it, old.routes.get(it, ()), new.routes.get(it, ())) for it in pairs)
-    return [row for it in lists if it[1] != it[2] for row in switch_rows(*it)]
-
-
 def shown_mixture(old, new, row, spare):
     """The old plan with the lists and the bar of the new one that the walk of a finding needs."""
     kind, _, code, _, *walk = row.split(" ")
@@ -104,7 +92,7 @@ def judge_head(ran, head, old, new):
     """The first lines of a report of two plans, which are over their joined network, or the line of a contradiction. Whether there is a report."""
     line = contradiction(old, new)
     need(not line or (ran.out, ran.err, ran.status) == ("", line, 2), f"a contradiction is told as {ran.out}{ran.err}")
-    need(line or ran.rows()[:len(head)] == head, f"begins with {ran.rows()[:len(head)]} and not {head}")
+    need(line or ran.out.splitlines()[:len(head)] == head, f"begins with {ran.out.splitlines()[:len(head)]} and not {head}")
     return not line
 
 
@@ -112,10 +100,10 @@ def judge_change(program, old, new, limit, spare, told=True):
     words = ["change", "o", "n", *numbers(limit, spare), "--cert", "cert", "--mixture", "mixture", "--counter", "script"]
     ran = program.run(words + ["--old"] * told, {"o": old.text, "n": new.text}, ["cert", "mixture", "script"])
     before, after = join(old, new)
-    head = [f"CHANGE LIMIT {limit} SPARE {spare}", *differences(old, new), *(switched_rows(before, after) if told else [])]
+    head = [f"CHANGE LIMIT {limit} SPARE {spare}", *differences(old, new), *(switched_rows(before, after, True) if told else [])]
     if not judge_head(ran, head, old, new):
         return
-    rows = ran.rows()
+    rows = ran.out.splitlines()
     findings = rows[len(head):-1]
     dues = dues_between(before, after, limit, spare)
     sound = not before.ambiguous and all(it == NOTHING for it in dues.values())

@@ -3,7 +3,7 @@ from functools import lru_cache
 from itertools import combinations, product
 
 from audit import judge_cert, judge_verdict, numbers
-from plans import read
+from plans import read, switched_rows
 from walks import need, of_code, survey
 
 NO_RANK = 1 << 9
@@ -39,20 +39,13 @@ class Network:
         return sum(self.least(y, spare) <= limit + 1 for _, y in self.seizable[x])
 
 
-@lru_cache(64)
-def network(exchanges, home, seizable):
-    return Network(exchanges, home, seizable)
+network = lru_cache(64)(Network)
 
 
 def networks_of(plan):
     """The network of each home of a code."""
     seizable = tuple((x, tuple(plan.seizable(x))) for x in plan.exchanges)
     return {home: network(tuple(plan.exchanges), home, seizable) for home in set(plan.codes.values())}
-
-
-def size_of(plan):
-    """How many routings the network of a plan has for a code, at most."""
-    return 1 << sum(len(plan.seizable(x)) for x in plan.exchanges)
 
 
 def is_mendable(plan, limit, spare):
@@ -136,17 +129,10 @@ def causes(plan, nets, limit, spare):
 
 
 def with_lists(plan, rows, old):
-    """The plan with the lists of a report. With `old` a line `WAS` has the list that each replaces."""
-    mended, told = plan.copy(), [row.split(" ") for row in rows]
-    lists = told[::2] if old else told
-    for words, was in zip(lists, told[1::2] if old else lists):
-        pair, has = tuple(words[1:3]), plan.routes.get(tuple(words[1:3]), ())
-        need(words[0] == "ROUTE" and has != tuple(words[3:]), f"not a new list: {words}")
-        need(not old or was == ["WAS", *has], f"not the old list: {was}")
-        mended.routes[pair] = tuple(words[3:])
-    pairs = [(x, code) for code in plan.codes for x in plan.exchanges]
-    need([tuple(words[1:3]) for words in lists] == [it for it in pairs if plan.routes.get(it) != mended.routes.get(it)], "lists are not in order")
-    need(not old or len(told) % 2 == 0, "a line WAS is missing")
+    """The plan with the lists of a report."""
+    mended = plan.copy()
+    mended.routes.update({tuple(words[1:3]): tuple(words[3:]) for words in (row.split(" ") for row in rows) if words[0] == "ROUTE"})
+    need(rows == switched_rows(plan, mended, old), f"not the lines of the lists that change: {rows}")
     return mended
 
 
@@ -160,7 +146,7 @@ def judge_revised(text, of, plan):
 def judge_mend(program, plan, limit, spare, old=True):
     words = ["mend", "p", *numbers(limit, spare), "--plan", "new", "--cert", "cert"] + ["--old"] * old
     ran = program.run(words, {"p": plan.text}, ["new", "cert"])
-    rows, nets, yes = ran.rows(), networks_of(plan), is_mendable(plan, limit, spare)
+    rows, nets, yes = ran.out.splitlines(), networks_of(plan), is_mendable(plan, limit, spare)
     need(rows[0] == f"MEND LIMIT {limit} SPARE {spare}", f"begins with {rows[0]}")
     need((ran.made["new"] is not None) == (ran.made["cert"] is not None) == yes, "another file is made")
     if not yes:

@@ -1,8 +1,8 @@
 """Judges `order` by all mixtures within each stage."""
 from audit import is_safe, judge_cert, judge_findings_of, judge_verdict, numbers
-from change import differences, due_between, dues_between, judge_head, switch_rows
+from change import differences, due_between, dues_between, judge_head
 from mend import judge_revised
-from plans import join, read
+from plans import join, read, switch_rows
 from walks import NOTHING, heights, need, of_code
 
 NO_RANK = 1 << 9
@@ -27,7 +27,7 @@ def switched(plan, rows, told):
         else:
             was = after.routes.pop(pair, ())
             after.routes.update({pair: list_} if list_ else {})
-            due += switch_rows(pair, was, list_)[:1 + told]
+            due += switch_rows(pair, was, list_, told)
         places.append((plan.exchanges.index(pair[0]), list(plan.codes).index(pair[1]), "BAR" not in kind))
     need(rows == due and places == sorted(set(places)), f"a stage is {rows}, and not {due}, or not in order")
     return after
@@ -97,7 +97,7 @@ def judge_stage(program, old, new, passed, stage, report):
         need((ran.out, ran.err, ran.status) == ("", f"telexplan: no such stage: the order has {stage - 1}\n", 64), f"no such stage: {ran.err}")
         need(plan is cert is None, "a file is made")
         return
-    need(plan and cert and ran.rows() == report and ran.status == 0, f"no file is made, or another report: {ran.out}")
+    need(plan and cert and ran.out.splitlines() == report and ran.status == 0, f"no file is made, or another report: {ran.out}")
     need(read(plan).says_the_same(passed[stage]), f"the plan of stage {stage} is another one")
     if old.network() == passed[0].network():
         judge_revised(plan, old.text, passed[stage])
@@ -110,7 +110,7 @@ def judge_order(program, old, new, limit, spare, told=True):
     head = [f"ORDER LIMIT {limit} SPARE {spare}", *differences(old, new)]
     if not judge_head(ran, head, old, new):
         return
-    rows = ran.rows()
+    rows = ran.out.splitlines()
     rest = rows[len(head):-1]
     ordered = is_safe(before, limit, spare) and is_safe(after, limit, spare)
     yes = ordered and is_safe(new, limit, spare)

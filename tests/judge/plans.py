@@ -85,6 +85,18 @@ def read(text):
     return plan
 
 
+def switch_rows(pair, before, after, old):
+    """The lines of a list that is another one, with the old one if that is told."""
+    return [f"ROUTE {' '.join(pair + after)}" if after else f"DROP {' '.join(pair)}", " ".join(("WAS", *before))][:1 + old]
+
+
+def switched_rows(before, after, old):
+    """The lines of all lists that are other ones, by codes and exchanges."""
+    pairs = ((x, code) for code in before.codes for x in before.exchanges)
+    lists = ((it, before.routes.get(it, ()), after.routes.get(it, ())) for it in pairs)
+    return [row for it in lists if it[1] != it[2] for row in switch_rows(*it, old)]
+
+
 def contradiction(old, new):
     """The line that names what two plans contradict each other in, or None."""
     def at(plan, kind, name):

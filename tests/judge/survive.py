@@ -88,7 +88,7 @@ def judge_survive(program, plan, risks, only=False, brief=False):
     kinds = [(name, [kind for kind, _ in cuts.values()]) for name, _, cuts in tried]
     counted = [(name, it.count("CUT"), it.count("STRAY")) for name, it in kinds]
     head = [f"SURVIVE RISKS {len(tried)}", *totals(counted, only)]
-    rows = ran.rows()
+    rows = ran.out.splitlines()
     judge_verdict(rows, not any(cuts for _, _, cuts in tried), ran.status, sum(len(cuts) for _, _, cuts in tried))
     need(rows[:len(head)] == head, f"the totals are {rows[:len(head)]} and not {head}")
     rest = rows[len(head):-1]
