@@ -5,7 +5,7 @@ from random import Random
 from audit import is_safe, judge_audit, judge_cert_faults, judge_codes, judge_grade
 from change import judge_change
 from families import FAMILIES, PAIRS, SMALL, ambiguous_plans, code_plans, packed, random_network, random_pair, random_plan, random_risks, seeded
-from mend import is_mendable, judge_mend, size_of
+from mend import is_mendable, judge_mend
 from order import judge_order
 from survive import judge_survive
 
@@ -70,7 +70,7 @@ def mends(family):
 def random_mend(rng):
     """A random plan of a network that is small enough to try all routings."""
     plan = random_plan(rng)
-    while size_of(plan) > 256:
+    while sum(len(plan.seizable(x)) for x in plan.exchanges) > 8:
         plan = random_plan(rng)
     at, old = numbers_of(rng), rng.random() < 0.5
     return 1, lambda program: judge_mend(program, plan, *at, old)

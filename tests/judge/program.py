@@ -4,17 +4,7 @@ import re
 import shutil
 import subprocess
 import tempfile
-
-
-class Ran:
-    """A run: its words and files, its exit status, what it printed, and the files that it made."""
-
-    def __init__(self, words, files, ran, made):
-        self.words, self.files, self.made = words, files, made
-        self.status, self.out, self.err = ran.returncode, ran.stdout, ran.stderr
-
-    def rows(self):
-        return self.out.splitlines()
+from types import SimpleNamespace
 
 
 class Program:
@@ -27,14 +17,16 @@ class Program:
         self.last = None
 
     def run(self, words, files, made=()):
-        """Runs the program over files of these texts, where it may make others."""
+        """Runs the program over files of these texts, where it may make others. Answers its words and
+        files, its exit status, what it printed, and the files that it made."""
         for name, text in files.items():
             with open(os.path.join(self.folder, name), "w", encoding="ascii") as it:
                 it.write(text)
         self.last = words, files
         self.runs += 1
         ran = subprocess.run([self.path, *map(str, words)], cwd=self.folder, capture_output=True, text=True, stdin=subprocess.DEVNULL, timeout=60, check=False)
-        answer = Ran(words, files, ran, {name: self.take(name) for name in made})
+        answer = SimpleNamespace(words=words, files=files, status=ran.returncode, out=ran.stdout, err=ran.stderr)
+        answer.made = {name: self.take(name) for name in made}
         if self.spoil:
             self.spoil(answer)
         return answer

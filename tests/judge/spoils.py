@@ -37,7 +37,7 @@ def stages(change):
     """A spoil of the stages of an order, which are lists of lines. `change` answers others, or None."""
     def spoil(ran):
         head, *parts = re.split(r"^STAGE \d+\n", ran.out, flags=re.M)
-        last = ran.rows()[-1] + "\n"
+        last = ran.out.splitlines()[-1] + "\n"
         parts = change([part.removesuffix(last).splitlines() for part in parts])
         if parts:
             ran.out = head + "".join("\n".join([f"STAGE {n}", *rows, ""]) for n, rows in enumerate(parts, 1)) + last

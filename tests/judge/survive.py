@@ -78,17 +78,17 @@ def totals(counted, only):
 def judge_survive(program, plan, risks, only=False, brief=False):
     """Judges the report of all outages of a plan."""
     words = ["survive", "p", "--risks", "r"] + ["--risks-only"] * only + ["--totals"] * brief
-    ran = program.run(words, {"p": plan.text(), "r": risks_text(risks)})
-    views = plan.views()
-    if plan.ambiguous() or not all(survey(it).grade() for it in views.values()):
-        grade = program.run(["grade", "p"], {"p": plan.text()})
+    ran = program.run(words, {"p": plan.text, "r": risks_text(risks)})
+    views = plan.views
+    if plan.ambiguous or not all(survey(it).grade() for it in views.values()):
+        grade = program.run(["grade", "p"], {"p": plan.text})
         need(ran.out == grade.out and ran.status == 1, f"a plan without a grade gets {ran.out}")
         return
     tried = [(name, failed, cuts_of(views, failed, failing)) for name, failed, failing in outages(plan, risks, only)]
     kinds = [(name, [kind for kind, _ in cuts.values()]) for name, _, cuts in tried]
     counted = [(name, it.count("CUT"), it.count("STRAY")) for name, it in kinds]
     head = [f"SURVIVE RISKS {len(tried)}", *totals(counted, only)]
-    rows = ran.rows()
+    rows = ran.out.splitlines()
     judge_verdict(rows, not any(cuts for _, _, cuts in tried), ran.status, sum(len(cuts) for _, _, cuts in tried))
     need(rows[:len(head)] == head, f"the totals are {rows[:len(head)]} and not {head}")
     rest = rows[len(head):-1]
