@@ -12,7 +12,7 @@ def is_safe(plan, limit, spare):
 
 
 def judge_verdict(rows, yes, status, count):
-    """The last line of a report says YES, or NO with the number of its findings, and so does the status."""
+    """The last line says YES, or NO with the number of findings, and so does the status."""
     need(rows[-1] == ("VERDICT YES" if yes else f"VERDICT NO {count}") and status == (not yes), f"ends with {rows[-1]} and status {status}")
 
 
@@ -109,12 +109,12 @@ def judge_audit(program, plan, limit, spare, also=True):
         cert, script = ran.made["cert"], ran.made["script"]
         shown = next((row for row in rows[1:-1] if "VIA" in row and not turns_back(plan, row)), None)
         need((cert is not None, script is not None) == (safe, shown is not None), "another file is made")
-        if cert:
+        if safe:
             judge_cert(program, [plan], cert, limit, spare)
             ranks = ranks_of(cert)
             wrong = [(code, x) for code, view in plan.views.items() for x, height in heights(view).items() if ranks[code, x] != height]
             need(not wrong, f"the ranks of {wrong} are not their heights")
-        if script:
+        if shown:
             judge_counter(program, plan, script, shown)
 
 
@@ -129,9 +129,8 @@ def judge_grade(program, plan):
     told = ["LIMIT {} SPARE {}".format(*it) if it else "NONE" for it in [whole, *grades]]
     head = [f"{words} {it}" for words, it in zip(["GRADE", *(f"CODE {code}" for code in plan.codes)], told)]
     need(rows[:len(head)] == head and (not whole or rows == head), f"the grades are {rows} and not {head}")
-    if whole:
-        need(ran.status == 0, f"the status is {ran.status}")
-    else:
+    need(not whole or ran.status == 0, f"the status is {ran.status}")
+    if not whole:
         judge_verdict(rows, False, ran.status, len(rows) - len(head) - 1)
         judge_findings_of(plan, rows[len(head):-1], len(plan.exchanges), 0)
 
@@ -140,5 +139,5 @@ def judge_codes(program, plan):
     """Judges the list of codes."""
     ran = program.run(["codes", "p"], {"p": plan.text})
     last = "AMBIGUOUS {} {}".format(*min(plan.ambiguous)) if plan.ambiguous else "DISTINCT"
-    need(ran.out.splitlines() == [f"CODE {code} {home}" for code, home in plan.codes.items()] + [last], f"codes prints {ran.out}")
-    need(ran.status == bool(plan.ambiguous), f"the status is {ran.status}")
+    wanted = [f"CODE {code} {home}" for code, home in plan.codes.items()] + [last]
+    need(ran.out.splitlines() == wanted and ran.status == bool(plan.ambiguous), f"codes prints {ran.out}")

@@ -75,7 +75,7 @@ def judge_shown(program, ran, of, old, new, findings, limit, spare):
         judge_revised(mixture, of.text, wanted)
     need(not shown or (read(mixture).says_the_same(wanted) and not is_safe(wanted, limit, spare)), "the mixture is another one, or safe")
     need((script is None) == (not shown or turns_back(wanted, shown.removeprefix("NEW "))), "a script is made, or none")
-    if script:
+    if script is not None:
         judge_counter(program, wanted, script, shown.removeprefix("NEW "))
 
 

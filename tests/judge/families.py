@@ -31,8 +31,7 @@ class Family:
             yield dict(zip(self.names, chosen[count:])), tuple(x for x in chosen[:count] if x)
 
     def plan(self, routings):
-        """One plan with a code for each of these. At each exchange where calls may start a code is at
-        home, which nobody else may call."""
+        """One plan with a code for each of these. At each exchange where calls may start a code is at home, which nobody else may call."""
         plan = Plan()
         plan.exchanges, plan.groups = list(self.exchanges), dict(self.groups)
         for code, (lists, starts) in zip(map(str, range(100, 100 + PACK)), routings):
@@ -55,8 +54,7 @@ class Family:
 def packed(items):
     """The items of something, so many at a time."""
     items = iter(items)
-    while pack := list(islice(items, PACK)):
-        yield pack
+    return iter(lambda: list(islice(items, PACK)), [])
 
 
 def stars(count):
@@ -64,30 +62,22 @@ def stars(count):
     return ",".join(f"G{n}{m} A{n} A{m}" for n in range(1, count) for m in range(count) if n != m)
 
 
+ROUND = "G01 A0 A1 2,G02 A0 A2 1,G12 A1 A2 1"
 FAMILIES = {
     "one-way": Family(stars(4), "A1? A2? A3?", A1=(3, "G10 G12 G13"), A2=(3, "G20 G21 G23"), A3=(3, "G30 G31 G32")),
     "far": Family(stars(5), "A4", A1=(2, "G10 G12 G13 G14"), A2=(2, "G20 G21 G23 G24"), A3=(2, "G30 G31 G32 G34"), A4=(2, "G40 G41 G42 G43")),
     "twice": Family(stars(3) + ",H10 A1 A0,H12 A1 A2,H20 A2 A0,H21 A2 A1", "A1? A2?", A1=(4, "G10 H10 G12 H12"), A2=(4, "G20 H20 G21 H21")),
-    "both-way": Family(
-        "G01 A0 A1 2,G02 A0 A2 1,G12 A1 A2 1,G13 A1 A3 2,G23 A2 A3 1,G03 A0 A3 1", "A1? A2? A3?",
-        A1=(3, "G01 G12 G13"), A2=(3, "G02 G12 G23"), A3=(3, "G03 G13 G23"),
-    ),
+    "both-way": Family(ROUND + ",G13 A1 A3 2,G23 A2 A3 1,G03 A0 A3 1", "A1? A2? A3?", A1=(3, "G01 G12 G13"), A2=(3, "G02 G12 G23"), A3=(3, "G03 G13 G23")),
 }
 
 # Families of fewer lists, for commands that take two plans, or whose judge tries all routings.
 SMALL = {
     "one-list": Family("G1 A1 A0,G2 A1 A0 2,G3 A0 A1 1", "A1?", A1=(3, "G1 G2 G3")),
     "bars": Family("G10 A1 A0,G20 A2 A0,G12 A1 A2 1", "A1? A2?", A1=(2, "G10 G12"), A2=(2, "G20 G12")),
-    "far": Family(
-        "G10 A1 A0,G12 A1 A2 2,G13 A1 A3,G20 A2 A0,G23 A2 A3 2,G30 A3 A0,G31 A3 A1", "A3",
-        A1=(1, "G10 G12 G13"), A2=(1, "G20 G12 G23"), A3=(1, "G30 G31 G23"),
-    ),
+    "short": Family("G10 A1 A0,G12 A1 A2 2,G13 A1 A3,G20 A2 A0,G23 A2 A3 2,G30 A3 A0,G31 A3 A1", "A3", A1=(1, "G10 G12 G13"), A2=(1, "G20 G12 G23"), A3=(1, "G30 G31 G23")),
     "round": Family("G10 A1 A0,G12 A1 A2 1,G23 A2 A3 1,G30 A3 A0", "A1", A1=(2, "G10 G12"), A2=(2, "G12 G23"), A3=(2, "G23 G30")),
-    "two": Family("G01 A0 A1 2,H01 A0 A1 2,G02 A0 A2 1,H02 A0 A2 1,G12 A1 A2 1", "A1? A2?", A1=(3, "G01 H01 G12"), A2=(2, "G02 H02 G12")),
-    "row": Family(
-        "G12 A1 A2 2,H12 A1 A2,G20 A2 A0,H20 A2 A0,G31 A3 A1,H31 A3 A1,G32 A3 A2", "A3",
-        A1=(2, "G12 H12"), A2=(1, "G20 G12"), A3=(2, "G31 H31 G32"),
-    ),
+    "two": Family(ROUND + ",H01 A0 A1 2,H02 A0 A2 1", "A1? A2?", A1=(3, "G01 H01 G12"), A2=(2, "G02 H02 G12")),
+    "row": Family("G12 A1 A2 2,H12 A1 A2,G20 A2 A0,H20 A2 A0,G31 A3 A1,H31 A3 A1,G32 A3 A2", "A3", A1=(2, "G12 H12"), A2=(1, "G20 G12"), A3=(2, "G31 H31 G32")),
 }
 
 # The families of an old plan and of a new one: of one network, and of two.
@@ -147,8 +137,8 @@ def random_plan(rng):
     """A plan of two to six exchanges and one to four codes."""
     plan = Plan()
     plan.exchanges = [f"A{n}" for n in range(rng.randint(2, 6))]
-    codes = ["41", "42", "43", "512", "413" if rng.random() < 0.08 else "513"]
-    plan.codes = {code: rng.choice(plan.exchanges) for code in rng.sample(codes, rng.randint(1, 4))}
+    codes = rng.sample(["41", "42", "43", "512", "413" if rng.random() < 0.2 else "513"], rng.randint(1, 4))
+    plan.codes = {code: rng.choice(plan.exchanges) for code in codes}
     plan.lines = [(code, "100", "199") for code in plan.codes if rng.random() < 0.7]
     for n in range(rng.randint(2, 3 * len(plan.exchanges))):
         add_group(rng, plan, f"G{n}")
@@ -198,9 +188,8 @@ def seeded(count, seed, make):
 
 
 def random_risks(rng, plan):
-    """Up to three risks, each of some groups."""
-    groups = list(plan.groups)
-    return [(f"R{n}", rng.sample(groups, rng.randint(1, min(3, len(groups))))) for n in range(rng.randint(0, 3))]
+    """Up to three risks, each of up to three groups."""
+    return [(f"R{n}", rng.sample(list(plan.groups), rng.randint(1, min(3, len(plan.groups))))) for n in range(rng.randint(0, 3))]
 
 
 def random_network(rng):

@@ -63,8 +63,7 @@ def least_ranks(net, kept, limit, spare):
 
 
 def by_the_rule(net, lists, starts, limit, spare):
-    """Which groups stay, by the rule of docs/FORMATS.md, and the ranks then. Each time that ranks are
-    raised, all groups that lead to a smaller rank stay."""
+    """Which groups stay, by the rule of docs/FORMATS.md, and the ranks then. Each time that ranks are raised, all groups that lead to a smaller rank stay."""
     kept = {x: set() for x in net.rest}
     ranks = first = least_ranks(net, kept, limit, spare)
     order = sorted((x for x in net.rest if x in first), key=first.get)

@@ -1,11 +1,9 @@
 """Judges `order` by all mixtures within each stage."""
 from audit import is_safe, judge_cert, judge_findings_of, judge_verdict, numbers
 from change import differences, due_between, dues_between, judge_head
-from mend import judge_revised
+from mend import NO_RANK, judge_revised
 from plans import join, read, switch_rows
 from walks import NOTHING, heights, need, of_code
-
-NO_RANK = 1 << 9
 
 
 def stages_of(rows):
@@ -94,8 +92,8 @@ def judge_stage(program, old, new, passed, stage, report):
     ran = program.run(words, {"o": old.text, "n": new.text}, ["plan", "cert"])
     plan, cert = ran.made["plan"], ran.made["cert"]
     if stage == len(passed):
-        need((ran.out, ran.err, ran.status) == ("", f"telexplan: no such stage: the order has {stage - 1}\n", 64), f"no such stage: {ran.err}")
-        need(plan is cert is None, "a file is made")
+        answer = "", f"telexplan: no such stage: the order has {stage - 1}\n", 64, None, None
+        need((ran.out, ran.err, ran.status, plan, cert) == answer, f"no such stage: {ran.err}")
         return
     need(plan and cert and ran.out.splitlines() == report and ran.status == 0, f"no file is made, or another report: {ran.out}")
     need(read(plan).says_the_same(passed[stage]), f"the plan of stage {stage} is another one")

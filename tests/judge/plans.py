@@ -111,8 +111,7 @@ def contradiction(old, new):
 
 
 def joined(lists_of, other, old, new):
-    """The plan of one of two networks over the joined network: its own lists and bars, and those of
-    the other plan for an exchange or a code that it has not."""
+    """The plan of one of two networks over the joined network: its own lists and bars, and those of the other plan for an exchange or a code that it has not."""
     plan = old.copy()
     plan.exchanges += [x for x in new.exchanges if x not in old.exchanges]
     plan.codes = {**old.codes, **{code: home for code, home in new.codes.items() if code not in old.codes}}

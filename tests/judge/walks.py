@@ -4,11 +4,7 @@ from itertools import groupby
 
 
 class Differs(Exception):
-    """The program and the pages differ, perhaps in one code."""
-
-    def __init__(self, what, code=None):
-        super().__init__(what)
-        self.code = code
+    """The program and the pages differ."""
 
 
 # What a judge raises where an answer is wrong, or where it cannot be read.
@@ -25,7 +21,7 @@ def of_code(code, judge, *words):
     try:
         judge(*words)
     except Differs as it:
-        raise Differs(f"code {code}: {it}", code) from None
+        raise Differs(f"code {code}: {it}") from None
 
 
 def walks(home, lists, start):
@@ -42,7 +38,8 @@ def walks(home, lists, start):
 class Survey:
     """What all walks for a code show."""
 
-    def __init__(self, home, lists, starts):
+    def __init__(self, view):
+        home, lists, starts = view
         self.loop = False
         self.nearest = {}  # each exchange other than the home to which a walk comes, and its least steps
         self.away = 0  # the most steps of a walk that is not at the home
@@ -72,11 +69,7 @@ class Survey:
 
 
 NOTHING = False, {}, False
-
-
-@lru_cache(1 << 14)
-def survey(view):
-    return Survey(*view)
+survey = lru_cache(1 << 14)(Survey)
 
 
 @lru_cache(1 << 14)
@@ -120,16 +113,12 @@ def judge_code(findings, view, due, limit):
     need(shorts == due[1], f"short exchanges are {due[1]} and not {shorts}")
 
 
-NAMES = {"F1": "AMBIGUOUS", "F2": "LOOP", "F3": "SHORT", "F4": "LONG"}
-
-
 def judge_findings(rows, pairs, views, dues, limit):
-    """Judges the findings of a plan: the ambiguous pair, if there are such pairs, and then those of
-    each code, in order. `views` has the lists by which a walk may go."""
+    """Judges the findings of a plan: the ambiguous pair, if there are such pairs, and then those of each code, in order. `views` has the lists by which a walk may go."""
     findings = {code: [] for code in views}
     for row in rows:
         kind, name, code, *rest = row.split(" ")
-        need(NAMES.get(kind) == name, f"no finding: {row}")
+        need(f"{kind} {name}" in ("F1 AMBIGUOUS", "F2 LOOP", "F3 SHORT", "F4 LONG"), f"no finding: {row}")
         if kind != "F1":
             need(code in findings and rest[0] == "VIA", f"no finding: {row}")
             findings[code].append((kind, rest[1:]))
