@@ -82,8 +82,8 @@ def judge_counter(program, plan, script, row):
     """The script of a finding: no event is refused, and its one call goes along the walk."""
     ran = program.run(["run", "p", "s", "--strict"], {"p": plan.text, "s": script})
     kind, _, code, _, *walk = row.split(" ")
-    key = next(line.split() for line in script.splitlines() if line.startswith("KEY"))
-    line = next(it for of in plan.codes for it in plan.lines if it[0] == of and plan.codes[of] == walk[0])
+    key = [line.split() for line in script.splitlines() if line.startswith("KEY")][0]
+    line = [it for of in plan.codes for it in plan.lines if it[0] == of and plan.codes[of] == walk[0]][0]
     need(ran.status == 0 and key[1:] == [*line[:2], code], f"another call, or an event is refused: {script}{ran.out}")
     replies = [reply.split() for reply in ran.out.splitlines()]
     passed = [words[1].split(".")[0] for words in replies if words[0] in ("SEIZED", "AT")]
