@@ -11,11 +11,10 @@ odd words, a terminal, and files to be made in odd places. What the machine does
 
 Then it plays the commands of docs/telexplan.1, one after another.
 
-Then checks README.md, docs/FORMATS.md and docs/HEADLINE.md: each block there says, in a comment before it, what it shows, and has to show just that; the table of codes has to be the
-program's and to have the codes of the definitions, the map of the crates has to be that of crates.txt, what the pages name has to be there, each link of theirs has
-to lead to a file and a heading that are there, the player of the gate, crates/tx_worked, has to have the examples and the pictures as they stand, all pictures of the
-plans of crates/tx_worked have to be ones that can be read, and docs/telexplan.bash and docs/telexplan.1 have to have the commands and options that the program's help
-tells. Prints a line for each difference; the status is 1 if there is one.
+Then checks README.md, docs/FORMATS.md and docs/HEADLINE.md: each block there says, in a comment before it, what it shows, and has to show just that; `explain` has to print the
+program's tables of codes and words, and these have to have the codes of the definitions; the map of the crates has to be that of crates.txt, each link of the pages has
+to lead to a file and a heading that are there, the player of the gate, crates/tx_worked, has to have the examples as they stand, and docs/telexplan.bash and
+docs/telexplan.1 have to have the commands and options that the program's help tells. Prints a line for each difference; the status is 1 if there is one.
 
 --pages runs nothing: it checks the pages and the player's cases alone. Each example is such a case, and the gate plays them, so the pages then show what the
 program prints, but for those that a script in Python runs.
@@ -30,9 +29,7 @@ The comments before a block:
   <!-- lines: PATH -->    lines of the file that follow one another
   <!-- not run -->        commands that no example shows, and that are not those of the program
 and before a table:
-  <!-- examples -->       each text in the last column is a line of some file in examples/
-  <!-- codes -->          the table of codes
-  <!-- words -->          the table of words"""
+  <!-- examples -->       each text in the last column is a line of some file in examples/"""
 import os
 import pty
 import re
@@ -46,8 +43,7 @@ import time
 
 TOP = os.path.dirname(os.path.dirname(os.path.abspath(__file__)))
 PAGES = ["README.md", "docs/FORMATS.md", "docs/HEADLINE.md"]
-NAMING = ["CHANGELOG.md", "CONTRIBUTING.md", "docs/ARCHITECTURE.md", "docs/DECISIONS.md", "docs/GLOSSARY.md", "docs/MEASURED.md", "docs/PROOFS.md"]
-MADE = ["crates/telexplan/out/telexplan"]
+LINKING = ["CHANGELOG.md", "CONTRIBUTING.md", "docs/ARCHITECTURE.md", "docs/DECISIONS.md", "docs/GLOSSARY.md", "docs/MEASURED.md", "docs/PROOFS.md"]
 PLAYED = "crates/tx_worked/data/cases"
 
 
@@ -120,7 +116,7 @@ def difference(wanted, given):
 
 
 def check_examples(program, tell):
-    named = {"examples/list", "examples/README.md"} | images()
+    named = {"examples/list", "examples/README.md"}
     for example in examples():
         named.update(example.files + example.input + example.made + [out_of(example), example.driver])
         status, printed, fault, made = run(program, example)
@@ -141,30 +137,11 @@ def check_examples(program, tell):
             tell(f"examples/{it}: no example has it")
 
 
-def in_examples(ending):
-    return {f"examples/{it}" for it in os.listdir(os.path.join(TOP, "examples")) if it.endswith(ending)}
-
-
-def images():
-    """The images that are made of pictures."""
-    return in_examples(".svg")
-
-
 def check_tables(tell):
     """The plan that is made of tables has the lines of the plan that these were made of."""
     made, plan = (sorted(filter(None, map(plain, read(f"examples/{it}.plan").decode().splitlines()))) for it in ("national-tables", "national"))
     if made != plan:
         tell("examples/national-tables.plan: it has other lines than examples/national.plan")
-
-
-def check_images(tell):
-    """Each picture is one that the player of the gate has to print, and has its image beside it."""
-    printed = [prints for _, _, prints in played()]
-    for it in sorted(in_examples(".dot")):
-        if read(it).decode() not in printed:
-            tell(f"{it}: no case of crates/tx_worked prints it")
-        if it.replace(".dot", ".svg") not in images():
-            tell(f"{it}: it has no image")
 
 
 def played():
@@ -174,51 +151,6 @@ def played():
             head, _, rest = case.partition("\n")
             texts, _, prints = rest.partition("--- prints\n")
             yield head, texts, prints
-
-
-def lines_wanted(plan):
-    """How each line for an exchange, a group or the groups of a list that lead to one exchange begins: in the picture of a plan, and in that of each code."""
-    said = [it.partition("#")[0].split() for it in plan.splitlines()]
-    of = lambda verb: [it[1:] for it in said if it[:1] == [verb]]
-    line = lambda a, b, label: f'"{a}" -> "{b}" [label="{label}'
-    ends = {name: (a, b) for name, a, b, *_ in of("GROUP")}
-    other = lambda group, x: ends[group][ends[group][0] == x]
-    boxes = [f'"{x}" [label="{x}' for (x,) in of("EXCHANGE")]
-    yield boxes + [line(a, b, f"{name} ") for name, (a, b) in ends.items()]
-    for code, home in of("CODE"):
-        arrows = {}
-        for x, c, *groups in of("ROUTE"):
-            for order, group in enumerate(groups if c == code else []):
-                arrows.setdefault((x, other(group, x)), []).append((str(order + 1), group))
-        labels = {pair: ": ".join(map(" ".join, zip(*choices))) for pair, choices in arrows.items()}
-        rows = [it + ("\\n" + code if it == f'"{home}" [label="{home}' else "") + '"' for it in boxes]
-        yield rows + [line(x, y, f'{label}"') for (x, y), label in labels.items()]
-
-
-def faults_of_picture(picture, wanted):
-    """What is wrong with a picture: its braces and the quotes of each line balance, and it has one line for each that is wanted, and no others of their kind."""
-    if (picture.count("{"), picture.count("}")) != (1, 1):
-        yield "not one pair of braces"
-    lines = picture.splitlines()
-    if any(it.count('"') % 2 for it in lines):
-        yield "quotes that do not balance"
-    drawn = [it for it in lines if it.startswith('"')]
-    if len(drawn) != len(wanted):
-        yield f"{len(drawn)} lines and not {len(wanted)}"
-    yield from (f"not one line {it}" for it in wanted if sum(at.startswith(it) for at in drawn) != 1)
-
-
-def check_pictures(tell):
-    """For each case of all pictures of a plan, what must be printed is one picture of the plan and one of each code, and each can be read."""
-    for head, plan, prints in played():
-        if head.split()[1] != "pictures":
-            continue
-        wanted, pictures = list(lines_wanted(plan)), prints.split("digraph")[1:]
-        if len(pictures) != len(wanted):
-            tell(f"crates/tx_worked: {head} has {len(pictures)} pictures and not {len(wanted)}")
-        for n, (picture, lines) in enumerate(zip(pictures, wanted)):
-            for fault in faults_of_picture(picture, lines):
-                tell(f"crates/tx_worked: picture {n + 1} of {head}: {fault}")
 
 
 def write_examples(program):
@@ -358,16 +290,12 @@ def check_table(mark, rows, known_lines):
     if mark == "examples":
         texts = [it for row in rows for it in re.findall(r"`([^`]+)`", row[-1])]
         return [f"no example has the line {it!r}" for it in texts if plain(it) not in known_lines] + ([] if texts else ["no examples stand in it"])
-    if mark in ("codes", "words"):
-        told, wanted = [tuple(it.replace("`", "") for it in row) for row in rows], codes_explained() if mark == "codes" else words_explained()
-        return [f"{row[0]} is not what the program explains" for row in told if row not in wanted] + ([] if told == wanted else ["the rows are not those of the program's table"])
     return [f"no such comment: {mark}"]
 
 
 def check_pages(tell):
     known = {it.name: it for it in examples()}
     known_lines = lines_of_examples()
-    shown = set()
     for page in PAGES:
         for line, mark, text in blocks(page):
             wrong = check_block(mark, text, known)
@@ -379,26 +307,18 @@ def check_pages(tell):
         for line, mark, rows in tables(page):
             for wrong in check_table(mark, rows, known_lines):
                 tell(f"{page} line {line}: {wrong}")
-            shown.add(mark)
-    for it in sorted({"codes", "words"} - shown):
-        tell(f"docs/FORMATS.md: the table of {it} is missing")
+
+
+def check_explained(tell):
+    """What `explain` prints is what the program's tables have, and these have the codes of the definitions."""
+    wanted = [f"{code} {name}: {meaning}" for code, name, meaning, _ in codes_explained() + words_explained()]
+    if wanted != read("examples/explain-all.out").decode().splitlines():
+        tell("examples/explain-all.out: it does not have what the tables of crates/tx_explain have")
     for it in sorted(codes_defined() ^ {row[:2] for row in codes_explained()}):
         tell(f"crates/tx_explain: {' '.join(it)} stands in the table or in the definitions alone")
 
 
-# WHAT THE PAGES NAME
-
-
-def check_names(tell):
-    """Each path in a page is there, and each edit that it names."""
-    for page in PAGES + NAMING:
-        text = read(page).decode()
-        for it in re.findall(r"`((?:\.ci|bench|crates|docs|tools|examples)/[\w./-]+)`", text):
-            if it not in MADE and not re.search(r"\b(CRATE|NAME)\b", it) and not os.path.exists(os.path.join(TOP, it)):
-                tell(f"{page}: {it} is not there")
-        for crate, edit in re.findall(r"`(tx_\w+)/(\w+)`", text):
-            if not any(os.path.exists(os.path.join(TOP, "crates", crate, "must-fail", edit + it)) for it in (".edit", ".edit.md")):
-                tell(f"{page}: there is no edit {crate}/{edit}")
+# WHERE THE PAGES LEAD
 
 
 def headings(page):
@@ -409,7 +329,7 @@ def headings(page):
 
 def check_links(tell):
     """Each link of a page within the repository leads to a file that is there, and to a heading of it, if it names one."""
-    for page in PAGES + NAMING:
+    for page in PAGES + LINKING:
         for link in re.findall(r"\]\(([^()\s]+)\)", read(page).decode()):
             path, _, heading = link.partition("#")
             if re.match(r"\w+:", path):
@@ -481,8 +401,7 @@ def case_of(example):
     if verb == "run" and example.option("--cert"):
         plan, script, cert = texts
         return f"checked{bounds}", b"---\n".join([plan, cert, script])
-    drawn = " ".join(["draw"] + [it for it in map(example.option, ["--code", "--limit", "--spare"]) if it])
-    kinds = {"run": telling_of(example.words), "draw": drawn, "codes": "codes", "grade": "grade"} | {it: it + bounds for it in ("check", "audit")}
+    kinds = {"run": telling_of(example.words), "codes": "codes", "grade": "grade"} | {it: it + bounds for it in ("check", "audit")}
     staged = example.option("--stage")
     old = " --old" * ("--old" in example.words)
     kinds |= {"mend": f"mend{bounds}{old}", "change": f"change{bounds}{old}", "order": f"stage{bounds} {staged}" if staged else f"order{bounds}{old}"}
@@ -787,7 +706,7 @@ def check_completion(tell, told):
 
 def check_offers(program, tell):
     """The completion offers the exchanges, the codes and the groups of the plan that is named."""
-    asked = [(["trace", "examples/three.plan", "N"], "NORTH"), (["fill", "examples/three.plan", "NORTH", ""], "22 20 24"), (["draw", "examples/three.plan", "--code", "24"], "24")]
+    asked = [(["trace", "examples/three.plan", "N"], "NORTH"), (["fill", "examples/three.plan", "NORTH", ""], "22 20 24"), (["page", "examples/three.plan", "--code", "24"], "24")]
     asked += [(["trace", "examples/three.plan", "--group", "N"], "NOSO1"), (["trace", "examples/three.plan", "NORTH", "24", "--down", "NOSO1,CES"], "NOSO1,CESO1 NOSO1,CESO2")]
     for words, offered in asked:
         line = " ".join(f"'{it}'" for it in ["telexplan", *words])
@@ -852,14 +771,12 @@ def main(words):
         for check in (check_arguments, check_terminal, check_replaced, check_apart, check_page_apart, check_outputs, check_pipe_and_device, check_no_leave, check_no_name, check_order, check_manual_commands, check_offers):
             check(program, told.append)
     check_pages(told.append)
-    check_names(told.append)
+    check_explained(told.append)
     check_links(told.append)
     check_map(told.append)
     check_cases(told.append)
     check_tables(told.append)
     check_words_printed(told.append)
-    check_images(told.append)
-    check_pictures(told.append)
     check_ends(told.append)
     check_words(told.append)
     print("".join(f"{it}\n" for it in told) + f"{len(examples())} examples, {len(told)} differences")

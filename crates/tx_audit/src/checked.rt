@@ -3,7 +3,7 @@ use tx_check::CheckFault;
 use tx_script::Summary;
 
 /// The script was run, or the checker said No.
-#[derive(Clone, Copy, Debug)]
+#[derive(Clone, Copy)]
 pub enum Checked {
     /// The run, whose states are all safe.
     Ran(Summary),

@@ -8,11 +8,21 @@ use tx_plan::{CodeId, ExchangeId, Plan};
 use tx_text::NoMemory;
 
 /// A certificate: for each code and exchange of a plan a rank from 0 to 65,535, or none.
-#[derive(Debug, Drop)]
 pub struct Cert<A: Allocator = Global> {
     codes: usize,
     exchanges: usize,
     ranks: Vec<Option<u16>, A>,
+}
+
+impl<A: Allocator> Drop for Cert<A> {
+    fn drop(self) {
+        let Self {
+            codes: _,
+            exchanges: _,
+            ranks,
+        } = self;
+        drop(ranks);
+    }
 }
 
 impl<A: Allocator> Model for Cert<A> {

@@ -8,7 +8,7 @@ use std::alloc::Allocator;
 use tx_plan::{CodeId, ExchangeId, GroupId, Plan};
 
 /// The lists that two plans of one network share.
-#[derive(Clone, Copy, Debug, PartialEq, Eq)]
+#[derive(Clone, Copy, PartialEq, Eq)]
 pub enum NetworkList {
     /// The exchanges.
     Exchanges,
@@ -21,7 +21,7 @@ pub enum NetworkList {
 }
 
 /// An entry in which two plans are not of one network.
-#[derive(Clone, Copy, Debug, PartialEq, Eq)]
+#[derive(Clone, Copy, PartialEq, Eq)]
 pub struct Difference {
     /// The list.
     pub list: NetworkList,

@@ -13,7 +13,7 @@ use tx_rank::{Finding, Ranking};
 use tx_text::NoMemory;
 
 /// What the change of a plan into another one comes to.
-#[derive(Debug, Drop)]
+#[derive(Drop)]
 pub enum ChangeVerdict<A: Allocator = Global> {
     /// It is sound, as this certificate of both plans over their joined network shows, and so is
     /// the new plan as it is.

@@ -16,7 +16,7 @@ use tx_rank::Finding;
 use tx_text::NoMemory;
 
 /// A mixture, and the events that show what is wrong with it, if there are some.
-#[derive(Debug, Drop)]
+#[derive(Drop)]
 pub struct ShownMixture<A: Allocator = Global> {
     /// The mixture.
     pub plan: Plan<A>,

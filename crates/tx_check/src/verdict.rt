@@ -2,7 +2,7 @@
 use crate::fault::CheckFault;
 
 /// Whether a plan is certified by the ranks of a certificate.
-#[derive(Clone, Copy, Debug, PartialEq, Eq)]
+#[derive(Clone, Copy, PartialEq, Eq)]
 pub enum Verdict {
     /// It is.
     Yes,

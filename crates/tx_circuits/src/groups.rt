@@ -14,7 +14,7 @@ use tx_plan::{Circuit, Direction, ExchangeId, GroupId};
 use tx_text::NoMemory;
 
 /// A group's ends and direction, and its marks.
-#[derive(Clone, Copy, Debug)]
+#[derive(Clone, Copy)]
 pub struct GroupHead {
     pub a: ExchangeId,
     pub b: ExchangeId,
@@ -39,7 +39,7 @@ impl GroupHead {
 }
 
 /// A group, where its slots begin in the vector of all, how many they are, and its free lists.
-#[derive(Clone, Copy, Debug)]
+#[derive(Clone, Copy)]
 pub struct Row {
     pub head: GroupHead,
     pub start: usize,
@@ -162,10 +162,17 @@ fn clear(slots: &mut [Slot]) -> FreeLists
 
 /// The groups of a plan with the states of their circuits: all circuits in one vector, group by
 /// group, linked in free lists.
-#[derive(Debug, Drop)]
 pub struct Groups<A: Allocator = Global> {
     slots: Vec<Slot, A>,
     rows: Vec<Row, A>,
+}
+
+impl<A: Allocator> Drop for Groups<A> {
+    fn drop(self) {
+        let Self { slots, rows } = self;
+        drop(slots);
+        drop(rows);
+    }
 }
 
 impl<A: Allocator> Model for Groups<A> {

@@ -38,7 +38,7 @@ impl Way {
 }
 
 /// The circuits beside one in a free list, by their indexes in the group.
-#[derive(Clone, Copy, Debug)]
+#[derive(Clone, Copy)]
 pub struct Links {
     pub above: Option<u8>,
     pub below: Option<u8>,
@@ -68,7 +68,7 @@ impl Links {
 }
 
 /// The first and the last index of the circuits that are free at an end.
-#[derive(Clone, Copy, Debug)]
+#[derive(Clone, Copy)]
 pub struct FreeList {
     pub least: Option<u8>,
     pub greatest: Option<u8>,
@@ -87,7 +87,7 @@ impl FreeList {
 }
 
 /// The free lists of a group, one for each end.
-#[derive(Clone, Copy, Debug)]
+#[derive(Clone, Copy)]
 pub struct FreeLists {
     pub first: FreeList,
     pub other: FreeList,

@@ -6,7 +6,7 @@ ghost use Rattle.tx_circuits.specs.inner.Slots.{links_of, ahead, back, opposite,
 use crate::lists::{End, Links, Way};
 
 /// What holds a circuit.
-#[derive(Clone, Copy, Debug)]
+#[derive(Clone, Copy)]
 pub struct CircuitState {
     pub seized_first: bool,
     pub seized_other: bool,
@@ -83,7 +83,7 @@ impl CircuitState {
 }
 
 /// A circuit's state, and its links in the list of each end.
-#[derive(Clone, Copy, Debug)]
+#[derive(Clone, Copy)]
 pub struct Slot {
     pub state: CircuitState,
     pub first: Links,

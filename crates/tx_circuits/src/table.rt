@@ -19,7 +19,7 @@ use tx_text::NoMemory;
 /// list.
 /// A call that makes a circuit free at an end may walk the list of that end, and `fail` passes over
 /// the group's circuits twice. No clause counts these steps.
-#[derive(Debug, Drop)]
+#[derive(Drop)]
 pub struct CircuitTable<A: Allocator = Global> {
     groups: Groups<A>,
 }

@@ -5,12 +5,13 @@ ghost use Rattle.tx_machine.specs.Step.{accepted, takes_memory};
 ghost use Rattle.tx_machine.specs.Refusals.{refusal};
 ghost use Rattle.tx_engine.specs.inner.Sound.{IsSound, state_of, IsUnder};
 ghost use Rattle.tx_machine.specs.Call.{call_of};
-ghost use Rattle.tx_calls.specs.KeptCalls.{Kept, calls_in};
+ghost use Rattle.tx_engine.specs.inner.KeptCalls.{Kept, calls_in};
 
+use crate::circuit_keys::CircuitKeys;
+use crate::open_calls::OpenCalls;
 use std::alloc::{Allocator, Global};
 use std::collections::VecDeque;
 use std::marker::Model;
-use tx_calls::{CircuitKeys, OpenCalls};
 use tx_circuits::CircuitTable;
 use tx_lines::{LineBook, Status};
 use tx_machine::{Event, Facts, LineStatus, Network, Phase, Reply, Ticket, refusal_of};
@@ -21,7 +22,7 @@ use tx_trie::CodeTrie;
 /// The indexed network. It finds lines, circuits and calls by index. So the work of an event hardly
 /// grows with the open calls, but where it takes more room: then it may move what it keeps. No
 /// clause counts these steps.
-#[derive(Debug, Drop)]
+#[derive(Drop)]
 pub struct Engine<'p, A: Allocator = Global> {
     pub(crate) inner: EngineState<'p, A>,
 }
@@ -215,7 +216,6 @@ impl<'p, A: Allocator + Copy> Facts for Engine<'p, A> {
 
 /// What the engine keeps. Its methods see keys of calls, which the network that it stands for does
 /// not show.
-#[derive(Debug, Drop)]
 pub(crate) struct EngineState<'p, A: Allocator> {
     pub plan: &'p Plan<A>,
     pub alloc: A,
@@ -227,6 +227,29 @@ pub(crate) struct EngineState<'p, A: Allocator> {
     pub numbers: u32,
     pub events: u64,
     pub tickets: VecDeque<Ticket<A>, A>,
+}
+
+impl<A: Allocator> Drop for EngineState<'_, A> {
+    fn drop(self) {
+        let Self {
+            plan: _,
+            alloc: _,
+            codes,
+            calls,
+            keys,
+            lines,
+            circuits,
+            numbers: _,
+            events: _,
+            tickets,
+        } = self;
+        drop(codes);
+        drop(calls);
+        drop(keys);
+        drop(lines);
+        drop(circuits);
+        drop(tickets);
+    }
 }
 
 impl<'p, A: Allocator + Copy> EngineState<'p, A> {

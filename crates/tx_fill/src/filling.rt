@@ -17,7 +17,7 @@ use tx_plan::{CodeId, ExchangeId, GroupId, Plan};
 use tx_text::NoMemory;
 
 /// What calls that are set up one after another come to.
-#[derive(Debug, Drop)]
+#[derive(Drop)]
 pub struct Fill<A: Allocator = Global> {
     /// How many calls stand.
     pub calls: u64,

@@ -7,7 +7,7 @@ use itoa::Buffer;
 use tx_text::{Sink, WriteFault, write_bytes};
 
 /// A part of a page. A text of a plan cannot be `Own`, which takes words of the program alone.
-#[derive(Clone, Copy, Debug)]
+#[derive(Clone, Copy)]
 pub enum Part<'a> {
     /// Markup, and words of the page's own.
     Own(&'static str),

@@ -22,7 +22,7 @@ use tx_rank::Finding;
 use tx_text::{Sink, Source};
 
 /// What a change of plan comes to.
-#[derive(Debug, Drop)]
+#[derive(Drop)]
 pub enum Changed<A: Allocator = Global> {
     /// The change is sound: the old plan over the joined network, and a certificate of it, which is
     /// one of the new plan over this network too.

@@ -20,7 +20,7 @@ use tx_risk_report::is_harmless;
 use tx_script::Summary;
 
 /// What a command came to: the answer of its job.
-#[derive(Debug, Drop)]
+#[derive(Drop)]
 pub enum Done<A: Allocator = Global> {
     /// A script was run.
     Ran(Summary),

@@ -8,7 +8,7 @@ use tx_plan::Plan;
 
 /// A plan, and events that can be written as a script for it. `evidence_job` says that they show
 /// what is wrong with the plan.
-#[derive(Debug, Drop)]
+#[derive(Drop)]
 pub struct CounterScript<A: Allocator = Global> {
     pub plan: Plan<A>,
     pub events: Vec<Event, A>,
@@ -16,7 +16,7 @@ pub struct CounterScript<A: Allocator = Global> {
 }
 
 /// What shows the verdict of an audit.
-#[derive(Debug, Drop)]
+#[derive(Drop)]
 pub enum Evidence<A: Allocator = Global> {
     /// After a Yes, the plan and its certificate.
     Sound(Plan<A>, Cert<A>),

@@ -7,7 +7,7 @@ use tx_plan::Plan;
 
 /// A mixture of two plans that shows what is wrong with the change, or the new plan as it is.
 /// `change_evidence_job` says so.
-#[derive(Debug, Drop)]
+#[derive(Drop)]
 pub enum Mixture<A: Allocator = Global> {
     /// With the script of a call that goes along the walk.
     Scripted(CounterScript<A>),
@@ -37,7 +37,7 @@ impl<A: Allocator> Mixture<A> {
 }
 
 /// What shows the verdict on a change.
-#[derive(Debug, Drop)]
+#[derive(Drop)]
 pub enum ChangeEvidence<A: Allocator = Global> {
     /// After a Yes, the old plan over the joined network and its certificate, which is one of the
     /// new plan over this network too.

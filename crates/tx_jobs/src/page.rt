@@ -22,7 +22,7 @@ use tx_risk::{Risks, read_risks_from};
 use tx_text::{Sink, Source};
 
 /// What a page is asked for.
-#[derive(Clone, Copy, Debug)]
+#[derive(Clone, Copy)]
 pub struct PageRequest<'a> {
     /// The words for the file of the plan.
     pub file: &'a [u8],

@@ -14,7 +14,7 @@ use std::alloc::{Allocator, Global};
 use tx_plan::Plan;
 
 /// Two plans over their joined network.
-#[derive(Debug, Drop)]
+#[derive(Drop)]
 pub struct Joined<A: Allocator = Global> {
     /// The old plan.
     pub old: Plan<A>,

@@ -19,7 +19,7 @@ use tx_plan::{ByWord, CodeId, Line, National, Plan};
 use tx_text::NoMemory;
 
 /// What a home exchange finds at the line that was called. The first that applies is answered.
-#[derive(Clone, Copy, Debug)]
+#[derive(Clone, Copy)]
 pub enum LineAnswer {
     /// No line of the code has the number (NP).
     NoLine,
@@ -34,7 +34,7 @@ pub enum LineAnswer {
 }
 
 /// A mark that a line may have.
-#[derive(Clone, Copy, Debug)]
+#[derive(Clone, Copy)]
 pub enum Mark {
     Faulty,
     Away,
@@ -42,7 +42,7 @@ pub enum Mark {
 }
 
 /// What is known of a line: the marks that it has.
-#[derive(Clone, Copy, Debug)]
+#[derive(Clone, Copy)]
 pub struct Status {
     pub faulty: bool,
     pub away: bool,
@@ -84,10 +84,17 @@ impl Status {
 ///
 /// A line's first status takes room for one line, which `reserve_one` makes; a further one takes
 /// none. `build` and `reserve_one` alone take memory.
-#[derive(Debug, Drop)]
 pub struct LineBook<A: Allocator = Global> {
     ranges: Ranges<A>,
     statuses: IndexMap<Line, Status, ByWord, A>,
+}
+
+impl<A: Allocator> Drop for LineBook<A> {
+    fn drop(self) {
+        let Self { ranges, statuses } = self;
+        drop(ranges);
+        drop(statuses);
+    }
 }
 
 impl<A: Allocator> Model for LineBook<A> {

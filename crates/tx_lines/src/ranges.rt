@@ -13,10 +13,17 @@ use tx_text::NoMemory;
 
 /// Ranges in order of code, width and low end, no two of which share a number; and for each code
 /// where its own begin.
-#[derive(Debug, Drop)]
 pub struct Ranges<A: Allocator = Global> {
     ranges: Vec<LineRange, A>,
     firsts: Vec<usize, A>,
+}
+
+impl<A: Allocator> Drop for Ranges<A> {
+    fn drop(self) {
+        let Self { ranges, firsts } = self;
+        drop(ranges);
+        drop(firsts);
+    }
 }
 
 impl<A: Allocator> Model for Ranges<A> {

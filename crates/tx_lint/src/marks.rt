@@ -12,11 +12,23 @@ use tx_rank::{is_marked, origins_of, reached};
 use tx_text::NoMemory;
 
 /// Where calls may start, where those for each code come, and which groups are in a list.
-#[derive(Drop)]
 pub(crate) struct Marks<A: Allocator> {
     origins: Vec<bool, A>,
     coming: Vec<Vec<bool, A>, A>,
     listed: Vec<bool, A>,
+}
+
+impl<A: Allocator> Drop for Marks<A> {
+    fn drop(self) {
+        let Self {
+            origins,
+            coming,
+            listed,
+        } = self;
+        drop(origins);
+        drop(coming);
+        drop(listed);
+    }
 }
 
 impl<A: Allocator + Copy> Marks<A> {

@@ -5,7 +5,7 @@ ghost use Rattle.tx_lint.specs.LintText.{warning_row};
 use tx_plan::{CodeId, GroupId};
 
 /// What keeps to the format of a plan, and is of no use or most likely not meant.
-#[derive(Clone, Copy, Debug)]
+#[derive(Clone, Copy)]
 pub enum Warning {
     /// A1: no code has lines, so no call can start, and an audit says Yes to anything.
     NothingToJudge,

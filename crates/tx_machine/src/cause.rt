@@ -3,7 +3,7 @@ ghost use Rattle.std.specs.Prelude.{◌≡◌, Some, slice_get};
 ghost use Rattle.tx_machine.specs.Causes.{index_of};
 
 /// A service code: why a call was not put through.
-#[derive(Clone, Copy, Debug, PartialEq, Eq)]
+#[derive(Clone, Copy, PartialEq, Eq)]
 pub enum Service {
     /// OCC: the subscriber is engaged.
     Occ,
@@ -20,7 +20,7 @@ pub enum Service {
 }
 
 /// Why a call ended.
-#[derive(Clone, Copy, Debug, PartialEq, Eq)]
+#[derive(Clone, Copy, PartialEq, Eq)]
 pub enum Cause {
     /// It was answered with a service code.
     Service(Service),

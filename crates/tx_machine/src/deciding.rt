@@ -14,7 +14,7 @@ use crate::{Facts, OpenCall, Service, exchange_of};
 use tx_plan::{Circuit, CodeId, ExchangeId, Line, National};
 
 /// What becomes of a call that is routed.
-#[derive(Clone, Copy, Debug)]
+#[derive(Clone, Copy)]
 pub enum Decision {
     /// It is answered with a service code, and ends.
     Answer(Service),

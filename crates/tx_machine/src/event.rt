@@ -6,7 +6,7 @@ use tx_text::Figures;
 /// One action of an exchange, a subscriber, the end of a circuit, or one fault. An id in it may be
 /// foreign to the plan, and a call number may be one that was never given: such an event is
 /// refused.
-#[derive(Clone, Copy, Debug)]
+#[derive(Clone, Copy)]
 pub enum Event {
     /// A line calls, and its subscriber keys the figures.
     Key { line: Line, keyed: Figures },

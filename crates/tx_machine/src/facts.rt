@@ -16,7 +16,7 @@ use std::alloc::Allocator;
 use tx_plan::{Circuit, CodeId, ExchangeId, GroupId, Line, Plan};
 
 /// What is known of a line.
-#[derive(Clone, Copy, Debug)]
+#[derive(Clone, Copy)]
 pub struct LineStatus {
     /// It is out of order.
     pub faulty: bool,

@@ -9,7 +9,7 @@ use tx_plan::{Circuit, ExchangeId, Line, Plan};
 use tx_text::Figures;
 
 /// A party of a call.
-#[derive(Clone, Copy, Debug, PartialEq, Eq)]
+#[derive(Clone, Copy, PartialEq, Eq)]
 pub enum Party {
     /// The subscriber who called.
     Caller,
@@ -18,7 +18,7 @@ pub enum Party {
 }
 
 /// What an open call waits for, by the phases of ITU-T U.1.
-#[derive(Clone, Copy, Debug, PartialEq, Eq)]
+#[derive(Clone, Copy, PartialEq, Eq)]
 pub enum Phase {
     /// It stands at an exchange and waits to be routed there.
     Standing,
@@ -53,14 +53,14 @@ impl Phase {
 }
 
 /// A circuit that a call carries, and the exchange that it leads to.
-#[derive(Clone, Copy, Debug, PartialEq, Eq)]
+#[derive(Clone, Copy, PartialEq, Eq)]
 pub struct Hop {
     pub circuit: Circuit,
     pub far: ExchangeId,
 }
 
 /// An open call.
-#[derive(Debug, Drop)]
+#[derive(Drop)]
 pub struct OpenCall<A: Allocator = Global> {
     /// Its number, from 1.
     pub number: u32,

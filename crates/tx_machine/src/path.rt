@@ -6,7 +6,7 @@ use std::alloc::{Allocator, Global};
 use std::marker::Model;
 
 /// The hops of a call, in order.
-#[derive(Debug, Drop)]
+#[derive(Drop)]
 pub struct Path<A: Allocator = Global> {
     hops: Vec<Hop, A>,
 }

@@ -28,7 +28,6 @@ use tx_text::NoMemory;
 
 /// The plain network: it keeps lists and marks, as the definitions do, and goes through them. The
 /// marks have their room from the start.
-#[derive(Debug, Drop)]
 pub struct Plain<'p, A: Allocator = Global> {
     pub(crate) plan: &'p Plan<A>,
     pub(crate) alloc: A,
@@ -39,6 +38,27 @@ pub struct Plain<'p, A: Allocator = Global> {
     pub(crate) numbers: u32,
     pub(crate) events: u64,
     pub(crate) tickets: Vec<Ticket<A>, A>,
+}
+
+impl<A: Allocator> Drop for Plain<'_, A> {
+    fn drop(self) {
+        let Self {
+            plan: _,
+            alloc: _,
+            calls,
+            marks,
+            faulty,
+            away,
+            numbers: _,
+            events: _,
+            tickets,
+        } = self;
+        drop(calls);
+        drop(marks);
+        drop(faulty);
+        drop(away);
+        drop(tickets);
+    }
 }
 
 impl<'p, A: Allocator> Model for Plain<'p, A> {

@@ -4,7 +4,7 @@ use crate::refusal::Refusal;
 use tx_plan::{Circuit, ExchangeId, Line};
 
 /// The reply to an event.
-#[derive(Clone, Copy, Debug, PartialEq, Eq)]
+#[derive(Clone, Copy, PartialEq, Eq)]
 pub enum Reply {
     /// A new call, with its number, from 1.
     Keyed(u32),

@@ -7,7 +7,7 @@ use tx_plan::{ExchangeId, Line};
 use tx_text::Figures;
 
 /// What is kept of a call that ended.
-#[derive(Debug, Drop)]
+#[derive(Drop)]
 pub struct Ticket<A: Allocator = Global> {
     /// The call's number, from 1.
     pub number: u32,

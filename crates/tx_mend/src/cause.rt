@@ -2,7 +2,7 @@
 use tx_plan::{CodeId, ExchangeId};
 
 /// Why an exchange cannot be served for a code.
-#[derive(Clone, Copy, Debug, PartialEq, Eq)]
+#[derive(Clone, Copy, PartialEq, Eq)]
 pub enum Cause {
     /// The limit is too small: this is the least rank that the exchange can have.
     Rank(u8),
@@ -12,7 +12,7 @@ pub enum Cause {
 }
 
 /// A code, an exchange where calls for it may start and that cannot be served, and why.
-#[derive(Clone, Copy, Debug, PartialEq, Eq)]
+#[derive(Clone, Copy, PartialEq, Eq)]
 pub struct Unserved {
     pub code: CodeId,
     pub exchange: ExchangeId,
@@ -20,7 +20,7 @@ pub struct Unserved {
 }
 
 /// A code, an exchange from which some groups lead on but too few, and how many more it would need.
-#[derive(Clone, Copy, Debug, PartialEq, Eq)]
+#[derive(Clone, Copy, PartialEq, Eq)]
 pub struct Missing {
     pub code: CodeId,
     pub exchange: ExchangeId,

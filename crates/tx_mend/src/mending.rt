@@ -21,20 +21,20 @@ use crate::basis::Basis;
 use crate::cause::{Missing, Unserved};
 use crate::causes::{Lacking, lacking_of};
 use crate::code_ranks::{CodeRanks, all_code_ranks, all_kept_ranks};
-use crate::copying::{bars_of, routes_of, settled_routes};
 use crate::outgoing::{Outgoing, all_outgoing};
 use crate::rerouting::full_routes;
+use crate::settling::settled_routes;
 use crate::task::Task;
 use std::alloc::{Allocator, Global};
 use tx_cert::Cert;
 use tx_check::confirm;
-use tx_plan::{Bars, CodeId, Limits, Plan, Routes};
+use tx_plan::{Bars, CodeId, Limits, Plan, Routes, bars_of, routes_of};
 use tx_rank::{Ranking, origins_of, rank};
 use tx_text::NoMemory;
 use tx_trie::CodeTrie;
 
 /// What the mending of a plan comes to.
-#[derive(Debug, Drop)]
+#[derive(Drop)]
 pub enum Mending<A: Allocator = Global> {
     /// The plan with other routes, the routes that it had, and a certificate by which it is
     /// certified.

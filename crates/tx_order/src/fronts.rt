@@ -8,7 +8,7 @@ use std::marker::Model;
 use tx_text::NoMemory;
 
 /// The fronts at which the stages of a code end.
-#[derive(Debug, Drop)]
+#[derive(Drop)]
 pub struct Fronts<A: Allocator = Global> {
     ends: Vec<u16, A>,
 }

@@ -16,7 +16,7 @@ use tx_rank::{Finding, Ranking};
 use tx_text::NoMemory;
 
 /// What the search for an order into a plan of any network comes to.
-#[derive(Debug, Drop)]
+#[derive(Drop)]
 pub enum OrderVerdict<A: Allocator = Global> {
     /// An order over the joined network, and the new plan as it is is sound.
     Ordered(Order<A>),

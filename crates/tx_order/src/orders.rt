@@ -11,7 +11,7 @@ use tx_plan::{CodeId, ExchangeId, GroupId, Plan};
 
 /// An order in which the lists and the bars of an old plan are switched to those of a new one, in
 /// stages.
-#[derive(Debug, Drop)]
+#[derive(Drop)]
 pub struct Order<A: Allocator = Global> {
     pub(crate) transition: Transition<A>,
     pub(crate) ends: Vec<Fronts<A>, A>,

@@ -18,7 +18,7 @@ use tx_plan::{Limits, Plan};
 use tx_text::Sink;
 
 /// What the search for an order comes to, when its report is written.
-#[derive(Debug, Drop)]
+#[derive(Drop)]
 pub enum Staged<A: Allocator = Global> {
     /// There is one. If a stage was asked for, the plan after it over the joined network, and a
     /// certificate for this plan and the one before the stage.

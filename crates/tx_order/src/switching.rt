@@ -22,7 +22,7 @@ use tx_rank::{Ranking, origins_of};
 use tx_text::NoMemory;
 
 /// What the search for an order comes to.
-#[derive(Debug, Drop)]
+#[derive(Drop)]
 pub enum Switching<A: Allocator = Global> {
     /// An order.
     Ordered(Order<A>),

@@ -7,7 +7,7 @@ use tx_plan::{CodeId, ExchangeId, GroupId, Limits, Plan};
 
 /// An old plan and a new one of the same network, a certificate of each, and the limits for which
 /// they certify the plans.
-#[derive(Debug, Drop)]
+#[derive(Drop)]
 pub struct Transition<A: Allocator> {
     pub old: Plan<A>,
     pub new: Plan<A>,

@@ -19,7 +19,7 @@ use tx_text::Words;
 ///
 /// Each declaration appends one entry to one list, or changes nothing and reports the first refusal
 /// in the order of `PlanRefusal`. Names are declared before use.
-#[derive(Debug, Drop)]
+#[derive(Drop)]
 pub struct PlanBuilder<A: Allocator = Global> {
     plan: Plan<A>,
 }

@@ -9,7 +9,7 @@ use std::marker::Model;
 use tx_text::{InlineBytes, are_figures};
 
 /// An exchange of a plan, by its index. An id is foreign to a plan that has no such index.
-#[derive(Clone, Copy, Debug, PartialEq, Eq, Hash)]
+#[derive(Clone, Copy, PartialEq, Eq, Hash)]
 pub struct ExchangeId {
     index: u16,
 }
@@ -44,7 +44,7 @@ impl ExchangeId {
 }
 
 /// A destination code of a plan, by its index. An id is foreign to a plan that has no such index.
-#[derive(Clone, Copy, Debug, PartialEq, Eq, Hash)]
+#[derive(Clone, Copy, PartialEq, Eq, Hash)]
 pub struct CodeId {
     index: u16,
 }
@@ -79,7 +79,7 @@ impl CodeId {
 }
 
 /// A group of circuits of a plan, by its index. An id is foreign to a plan that has no such index.
-#[derive(Clone, Copy, Debug, Default, PartialEq, Eq, Hash)]
+#[derive(Clone, Copy, Default, PartialEq, Eq, Hash)]
 pub struct GroupId {
     index: u16,
 }
@@ -114,14 +114,14 @@ impl GroupId {
 }
 
 /// An exchange and a code: what routes and bars are declared for.
-#[derive(Clone, Copy, Debug, PartialEq, Eq, Hash)]
+#[derive(Clone, Copy, PartialEq, Eq, Hash)]
 pub struct Pair {
     pub exchange: ExchangeId,
     pub code: CodeId,
 }
 
 /// From which ends the circuits of a group may be seized.
-#[derive(Clone, Copy, Debug, PartialEq, Eq)]
+#[derive(Clone, Copy, PartialEq, Eq)]
 pub enum Direction {
     /// From the first end only.
     OneWay,
@@ -130,7 +130,7 @@ pub enum Direction {
 }
 
 /// What is declared of the group of a name.
-#[derive(Clone, Copy, Debug)]
+#[derive(Clone, Copy)]
 pub(crate) struct GroupRow {
     pub a: ExchangeId,
     pub b: ExchangeId,
@@ -141,14 +141,14 @@ pub(crate) struct GroupRow {
 
 /// A circuit: its group, and its number in it. The circuits of a plan have the numbers from 1 to
 /// the group's count, at most 240; any other is foreign.
-#[derive(Clone, Copy, Debug, PartialEq, Eq)]
+#[derive(Clone, Copy, PartialEq, Eq)]
 pub struct Circuit {
     pub group: GroupId,
     pub number: u32,
 }
 
 /// A national number: 1 to 9 figures. Leading zeros count.
-#[derive(Clone, Copy, Debug, PartialEq, Eq)]
+#[derive(Clone, Copy, PartialEq, Eq)]
 pub struct National {
     figures: InlineBytes<9>,
 }
@@ -198,7 +198,7 @@ impl National {
 }
 
 /// A subscriber's line: a destination code and the national number after it (ITU-T F.69).
-#[derive(Clone, Copy, Debug)]
+#[derive(Clone, Copy)]
 pub struct Line {
     pub code: CodeId,
     pub national: National,
@@ -251,12 +251,12 @@ const MULTIPLIER: u64 = 0x9E37_79B9_7F4A_7C15;
 /// above the lower half of a product: each bit of a key reaches them, and numbers that follow one
 /// another come to slots that do. The upper eight of 32, by which it distinguishes the keys of one
 /// slot, are of the lower half too.
-#[derive(Clone, Copy, Debug)]
+#[derive(Clone, Copy)]
 pub struct ByWord;
 
 /// Joins the bytes of a name, of a pair, of a line or of a number to one number, a word at a time:
 /// such a text has nine bytes at most.
-#[derive(Clone, Copy, Debug)]
+#[derive(Clone, Copy)]
 pub struct WordHasher {
     word: u64,
 }

@@ -3,7 +3,7 @@ ghost use Rattle.std.specs.Prelude.{◌≤◌};
 
 /// For what a plan is judged: how many transits a call may pass (at most 62, ITU-T F.68), and how
 /// many groups of a list are to spare (at most 15).
-#[derive(Clone, Copy, Debug, PartialEq, Eq)]
+#[derive(Clone, Copy, PartialEq, Eq)]
 pub struct Limits {
     pub limit: u8,
     pub spare: u8,

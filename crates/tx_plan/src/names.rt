@@ -11,7 +11,7 @@ use std::marker::Model;
 use tx_text::InlineBytes;
 
 /// A text of at most 8 bytes: a name, or the figures of a code.
-#[derive(Clone, Copy, Debug, PartialEq, Eq)]
+#[derive(Clone, Copy, PartialEq, Eq)]
 pub struct NameKey {
     text: InlineBytes<8>,
 }

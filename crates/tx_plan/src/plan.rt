@@ -23,7 +23,6 @@ use std::marker::Model;
 /// It obeys the rules of a plan.
 ///
 /// Readers by id answer a foreign id with a default, and none takes memory.
-#[derive(Debug, Drop)]
 pub struct Plan<A: Allocator = Global> {
     pub(crate) exchanges: IndexSet<NameKey, ByWord, A>,
     pub(crate) codes: IndexMap<NameKey, ExchangeId, ByWord, A>,
@@ -31,6 +30,25 @@ pub struct Plan<A: Allocator = Global> {
     pub(crate) groups: IndexMap<NameKey, GroupRow, ByWord, A>,
     pub(crate) routes: Routes<A>,
     pub(crate) bars: Bars<A>,
+}
+
+impl<A: Allocator> Drop for Plan<A> {
+    fn drop(self) {
+        let Self {
+            exchanges,
+            codes,
+            ranges,
+            groups,
+            routes,
+            bars,
+        } = self;
+        drop(exchanges);
+        drop(codes);
+        drop(ranges);
+        drop(groups);
+        drop(routes);
+        drop(bars);
+    }
 }
 
 impl<A: Allocator> Model for Plan<A> {

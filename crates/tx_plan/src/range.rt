@@ -5,7 +5,7 @@ use crate::ids::{CodeId, National, at_most};
 
 /// The national numbers of a code from low to high, both in it. They have as many figures as its
 /// ends, and are in order figure by figure.
-#[derive(Clone, Copy, Debug)]
+#[derive(Clone, Copy)]
 pub struct LineRange {
     pub code: CodeId,
     pub low: National,

@@ -25,9 +25,15 @@ pub(crate) fn none_twice(groups: &[GroupId]) -> bool
 }
 
 /// Pairs of an exchange and a code, and the groups that the exchange tries for the code.
-#[derive(Debug, Drop)]
 pub struct Routes<A: Allocator = Global> {
     rows: IndexMap<Pair, GroupList, ByWord, A>,
+}
+
+impl<A: Allocator> Drop for Routes<A> {
+    fn drop(self) {
+        let Self { rows } = self;
+        drop(rows);
+    }
 }
 
 impl<A: Allocator> Model for Routes<A> {
@@ -102,9 +108,15 @@ impl<A: Allocator> Routes<A> {
 }
 
 /// Pairs of an exchange and a code: calls that start there for that code are not admitted.
-#[derive(Debug, Drop)]
 pub struct Bars<A: Allocator = Global> {
     pairs: IndexSet<Pair, ByWord, A>,
+}
+
+impl<A: Allocator> Drop for Bars<A> {
+    fn drop(self) {
+        let Self { pairs } = self;
+        drop(pairs);
+    }
 }
 
 impl<A: Allocator> Model for Bars<A> {

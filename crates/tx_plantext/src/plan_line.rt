@@ -7,7 +7,7 @@ use tx_plan::Direction;
 use tx_text::Words;
 
 /// A line of a plan, with its words as the builder takes them.
-#[derive(Debug, Drop)]
+#[derive(Drop)]
 pub enum PlanLine<'t> {
     Exchange {
         name: &'t [u8],
@@ -40,7 +40,7 @@ pub enum PlanLine<'t> {
 }
 
 /// Why some words are no line of a plan.
-#[derive(Clone, Copy, Debug)]
+#[derive(Clone, Copy)]
 pub enum LineFault<'t> {
     /// No line begins with the word, or it is where a group has its direction, and is none. There
     /// is a word unless there are none at all.

@@ -7,7 +7,7 @@ use std::{fs, io};
 const TRIES: u32 = 100;
 
 /// A file of the machine that is being made.
-#[derive(Debug, Drop)]
+#[derive(Drop)]
 pub struct Draft {
     file: File,
     /// Where it is until it is whole. What is no regular file, as a device or a pipe, is
@@ -16,7 +16,7 @@ pub struct Draft {
 }
 
 /// The names of a file until it is whole.
-#[derive(Debug, Drop)]
+#[derive(Drop)]
 struct Names {
     /// The name of a new file in the same folder.
     beside: String,

@@ -12,7 +12,7 @@ use tx_commands::STANDARD_INPUT;
 
 /// The device that a file is on, and its number there. Where no file is, it is those of the folder
 /// in which one can be made.
-#[derive(Clone, Copy, Debug)]
+#[derive(Clone, Copy)]
 pub struct FileId {
     device: u64,
     number: u64,
@@ -56,7 +56,7 @@ fn folder_of(name: &str) -> &str {
 }
 
 /// A file of a command, with its id.
-#[derive(Clone, Copy, Debug)]
+#[derive(Clone, Copy)]
 pub(crate) struct KnownFile<'n> {
     pub place: Place,
     pub name: &'n str,

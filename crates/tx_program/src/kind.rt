@@ -5,7 +5,7 @@ use tx_jobs::JobFault;
 use tx_text::{FrameReader, FrameStep, FromRead};
 
 /// A kind of text that the program reads or writes.
-#[derive(Clone, Copy, Debug, PartialEq, Eq)]
+#[derive(Clone, Copy, PartialEq, Eq)]
 pub(crate) enum TextKind {
     Plan,
     Cert,

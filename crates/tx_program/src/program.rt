@@ -20,7 +20,7 @@ use tx_jobs::{JobFault, Outcome, do_command, write_fault};
 use tx_text::ToWrite;
 
 /// The ends of the program: a folder of files, standard input, standard output and standard error.
-#[derive(Debug, Drop)]
+#[derive(Drop)]
 pub struct Ends<'a, F, I: Drop, O: Drop, E: Drop> {
     pub folder: &'a F,
     pub input: I,

@@ -12,7 +12,7 @@ use tx_lint::write_escaped;
 use tx_text::{Sink, WriteFault, write_bytes, write_parts};
 
 /// A file of a command, by its place among those that it reads or makes, or standard output.
-#[derive(Clone, Copy, Debug)]
+#[derive(Clone, Copy)]
 pub(crate) enum Place {
     Read(usize),
     Made(usize),
@@ -32,7 +32,7 @@ impl Place {
 }
 
 /// Why the program stopped before a command was done.
-#[derive(Debug, Drop)]
+#[derive(Drop)]
 pub(crate) enum Stop {
     /// The job stopped.
     Job(JobFault),
@@ -137,10 +137,6 @@ fn write_job_fault<W: Sink>(
             | Command::Fill { code, .. }
             | Command::Page {
                 code: Some(code),
-                ..
-            }
-            | Command::Draw {
-                routes: Some((code, _)),
                 ..
             },
         ) => write_word(b"telexplan: no such code in the plan: ", code, sink),

@@ -14,14 +14,14 @@ use tx_commands::Files;
 pub(crate) const PAGE: usize = 3;
 
 /// The files that a command makes, by their names, and the files that it reads.
-#[derive(Clone, Copy, Debug)]
+#[derive(Clone, Copy)]
 pub(crate) struct Targets<'n> {
     read: [Option<KnownFile<'n>>; 3],
     names: [Option<&'n str>; 4],
 }
 
 /// The name of a file that is none of the other files of its command.
-#[derive(Clone, Copy, Debug)]
+#[derive(Clone, Copy)]
 pub(crate) struct Target<'n> {
     place: Place,
     name: &'n str,

@@ -3,7 +3,7 @@ ghost use Rattle.std.specs.Prelude.{◌≡◌, max, min};
 ghost use Rattle.tx_rank.specs.inner.Together.{together};
 
 /// The least transit limit and the greatest spare number, which is at most 15.
-#[derive(Clone, Copy, Debug)]
+#[derive(Clone, Copy)]
 pub struct Bounds {
     pub limit: u16,
     pub spare: u8,

@@ -4,7 +4,7 @@ ghost use Rattle.tx_cert.specs.Certificate.{rank_at as ranked_at};
 ghost use Rattle.tx_rank.specs.inner.Marks.{IsPassed};
 ghost use Rattle.tx_rank.specs.Judged.{IsJudged};
 
-use crate::explore::{pass, unseen, walk_in_hand};
+use crate::explore::{pass, unseen};
 use crate::finding::Finding;
 use crate::long_walk::long_walk;
 use crate::mark::Mark;
@@ -73,7 +73,7 @@ pub fn rank_code<A: Allocator + Copy, N: CodeNet>(
     let mut search = unseen(alloc, net)?;
     let closed = pass(net, &mut search)?;
     if closed {
-        findings.push(Finding::Loop(code, walk_in_hand(search)))?;
+        findings.push(Finding::Loop(code, search.into_walk()))?;
         return Ok(());
     }
     judge_ranked(

@@ -23,13 +23,27 @@ pub enum Progress {
 
 /// The current walk, what was tried of the lists of its exchanges before the last and of the last
 /// one's, and the marks of all exchanges.
-#[derive(Drop)]
 pub struct Search<'a, A: Allocator> {
     pub start: ExchangeId,
     pub steps: Vec<(GroupId, ExchangeId), A>,
     pub before: Vec<Tried<'a>, A>,
     pub last: Tried<'a>,
     pub marks: Vec<Mark, A>,
+}
+
+impl<A: Allocator> Drop for Search<'_, A> {
+    fn drop(self) {
+        let Self {
+            start: _,
+            steps,
+            before,
+            last: _,
+            marks,
+        } = self;
+        drop(steps);
+        drop(before);
+        drop(marks);
+    }
 }
 
 /// The marks before a pass: the home is ranked 0.
@@ -52,13 +66,24 @@ pub fn unseen<'a, A: Allocator + Copy, N: CodeNet>(
     })
 }
 
-/// The current walk.
-pub fn walk_in_hand<A: Allocator>(search: Search<'_, A>) -> Walk<A>
-    ensures { result ≡ record { start = search.entry.start; steps = search.entry.steps.items } }
-{
-    Walk {
-        start: search.start,
-        steps: Steps::of(search.steps),
+impl<A: Allocator> Search<'_, A> {
+    /// The current walk.
+    pub fn into_walk(self) -> Walk<A>
+        ensures { result ≡ record { start = self.entry.start; steps = self.entry.steps.items } }
+    {
+        let Self {
+            start,
+            steps,
+            before,
+            last: _,
+            marks,
+        } = self;
+        drop(before);
+        drop(marks);
+        Walk {
+            start,
+            steps: Steps::of(steps),
+        }
     }
 }
 

@@ -4,7 +4,7 @@ use std::alloc::{Allocator, Global};
 use tx_plan::CodeId;
 
 /// A reason why a plan has no certificate for a limit and a spare number.
-#[derive(Debug, Drop)]
+#[derive(Drop)]
 pub enum Finding<A: Allocator = Global> {
     /// A code, and a longer code that begins with it.
     Ambiguous(CodeId, CodeId),

@@ -6,7 +6,6 @@ use tx_cert::Cert;
 use tx_plan::CodeId;
 
 /// With which limits and spare numbers a plan is certified, and each of its codes.
-#[derive(Debug, Drop)]
 pub struct Grade<A: Allocator = Global> {
     /// Exactly with a limit that is no smaller and a spare number that is no greater. None where it
     /// is certified with no numbers.
@@ -18,4 +17,18 @@ pub struct Grade<A: Allocator = Global> {
     pub findings: Vec<Finding<A>, A>,
     /// Ranks by which the plan is certified so, if it has a grade.
     pub ranks: Cert<A>,
+}
+
+impl<A: Allocator> Drop for Grade<A> {
+    fn drop(self) {
+        let Self {
+            plan: _,
+            codes,
+            findings,
+            ranks,
+        } = self;
+        drop(codes);
+        drop(findings);
+        drop(ranks);
+    }
 }

@@ -20,7 +20,7 @@ use tx_text::NoMemory;
 use tx_trie::CodeTrie;
 
 /// What the ranking of a plan comes to.
-#[derive(Debug, Drop)]
+#[derive(Drop)]
 pub enum Ranking<A: Allocator = Global> {
     /// A certificate, by which the plan is certified.
     Found(Cert<A>),

@@ -6,7 +6,7 @@ use std::marker::Model;
 use tx_plan::{ExchangeId, GroupId};
 
 /// The steps of a walk in order, each by a group to an exchange.
-#[derive(Debug, Drop)]
+#[derive(Drop)]
 pub struct Steps<A: Allocator = Global> {
     steps: Vec<(GroupId, ExchangeId), A>,
 }
@@ -43,7 +43,7 @@ impl<A: Allocator> Steps<A> {
 }
 
 /// A walk: where it starts, and its steps.
-#[derive(Debug, Drop)]
+#[derive(Drop)]
 pub struct Walk<A: Allocator = Global> {
     pub start: ExchangeId,
     pub steps: Steps<A>,

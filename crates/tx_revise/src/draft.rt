@@ -11,7 +11,6 @@ use tx_plan::{Bars, Plan};
 use tx_text::NoMemory;
 
 /// The lines of a text so far with the lists and bars of another plan, and what was reached in it.
-#[derive(Drop)]
 pub struct Draft<'p, A: Allocator> {
     pub before: &'p Plan<A>,
     pub plan: &'p Plan<A>,
@@ -26,6 +25,27 @@ pub struct Draft<'p, A: Allocator> {
     /// The pairs whose new lists stand, and those whose new bars do.
     pub written: Bars<A>,
     pub barred: Bars<A>,
+}
+
+impl<A: Allocator> Drop for Draft<'_, A> {
+    fn drop(self) {
+        let Self {
+            before: _,
+            plan: _,
+            cr: _,
+            text,
+            exchanges: _,
+            codes: _,
+            groups: _,
+            lists: _,
+            bars: _,
+            written,
+            barred,
+        } = self;
+        drop(text);
+        drop(written);
+        drop(barred);
+    }
 }
 
 impl<'p, A: Allocator> Model for Draft<'p, A> {
@@ -64,6 +84,28 @@ impl<'p, A: Allocator + Copy> Draft<'p, A> {
 }
 
 impl<'p, A: Allocator> Draft<'p, A> {
+    /// The lines so far.
+    pub fn into_text(self) -> Vec<u8, A>
+        ensures { result.items ≡ self.entry.text }
+    {
+        let Self {
+            before: _,
+            plan: _,
+            cr: _,
+            text,
+            exchanges: _,
+            codes: _,
+            groups: _,
+            lists: _,
+            bars: _,
+            written,
+            barred,
+        } = self;
+        drop(written);
+        drop(barred);
+        text
+    }
+
     /// Takes over a line as it is.
     pub fn stand(&mut self, line: &[u8]) -> Result<(), NoMemory>
         ensures { OnOk result (self.new ≡ drafted self.old (stands line.now self.old.reached)) }

@@ -27,7 +27,7 @@ pub fn revise<A: Allocator + Copy>(
         rest = after;
     }
     draft.take(alloc, rest)?;
-    let mut revised = draft.text;
+    let mut revised = draft.into_text();
     let _ = revised.pop();
     Ok(revised)
 }

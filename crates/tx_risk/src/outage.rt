@@ -2,7 +2,7 @@
 use tx_plan::{ExchangeId, GroupId};
 
 /// What fails alone.
-#[derive(Clone, Copy, Debug, PartialEq, Eq)]
+#[derive(Clone, Copy, PartialEq, Eq)]
 pub enum Outage {
     /// One group.
     Group(GroupId),

@@ -12,9 +12,15 @@ use tx_plan::{ByWord, GroupId, NameKey};
 use tx_text::NoMemory;
 
 /// Risks in order: each has a name, and groups that may go together, such as those of one cable.
-#[derive(Debug, Drop)]
 pub struct Risks<A: Allocator = Global> {
     rows: IndexMap<NameKey, Vec<GroupId, A>, ByWord, A>,
+}
+
+impl<A: Allocator> Drop for Risks<A> {
+    fn drop(self) {
+        let Self { rows } = self;
+        drop(rows);
+    }
 }
 
 impl<A: Allocator> Model for Risks<A> {

@@ -16,7 +16,7 @@ use tx_rank::{Grade, grade};
 use tx_text::NoMemory;
 
 /// What the outages of a plan cut off, or why the plan has no grade.
-#[derive(Debug, Drop)]
+#[derive(Drop)]
 pub enum Survival<A: Allocator = Global> {
     /// What each outage cuts off, in order: the named risks, the groups, the exchanges.
     Tried(Vec<Outcome<A>, A>),

@@ -16,7 +16,7 @@ use tx_plan::Plan;
 use tx_text::{NoMemory, Sink, WriteFault, write_parts};
 
 /// What a run prints beside replies and tickets, where it is asked for.
-#[derive(Clone, Copy, Debug)]
+#[derive(Clone, Copy)]
 pub struct Telling {
     /// The line of each event, with its number, before its reply.
     pub echo: bool,

@@ -3,9 +3,11 @@ ghost use Rattle.std.specs.Prelude.{[]};
 ghost use Rattle.tx_html.specs.Shows.{Showed};
 
 use crate::findings::finding_goes;
+use crate::picture::Picture;
+use crate::spot::{Spot, TOP};
+use crate::ways::{Point, entry_of, exit_of, head_of, tip_of};
 use std::alloc::Allocator;
 use tx_html::{PageSink, Part, set};
-use tx_layout::{Picture, Point, Spot, TOP, entry_of, exit_of, head_of, tip_of};
 use tx_plan::{CodeId, ExchangeId, GroupId, Plan};
 use tx_rank::Finding;
 use tx_text::WriteFault;
@@ -23,7 +25,7 @@ markerWidth=\"12\" markerHeight=\"12\" orient=\"auto\" markerUnits=\"userSpaceOn
 d=\"M0,0L8,4L0,8z\"/></marker></defs></svg>";
 
 /// Which arrow it is: tried first, second or later, or in the walk of a finding.
-#[derive(Clone, Copy, Debug, PartialEq, Eq)]
+#[derive(Clone, Copy, PartialEq, Eq)]
 enum Choice {
     First,
     Second,

@@ -11,14 +11,14 @@ use std::alloc::{Allocator, Global};
 use std::marker::Model;
 
 /// What a call of `feed` did: how many bytes of the piece it took, and whether it completed a line.
-#[derive(Clone, Copy, Debug, PartialEq, Eq)]
+#[derive(Clone, Copy, PartialEq, Eq)]
 pub struct Fed {
     pub taken: usize,
     pub line: bool,
 }
 
 /// Cuts a text that comes in pieces into lines.
-#[derive(Debug, Drop)]
+#[derive(Drop)]
 pub struct LineFeeder<A: Allocator = Global> {
     held: Vec<u8, A>,
     number: u64,

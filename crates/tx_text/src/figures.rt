@@ -97,7 +97,7 @@ fn with_zeros<const N: usize>(text: &[u8]) -> [u8; N]
 
 /// A text of 1 to 12 figures, as a caller keys it: a destination code (ITU-T F.69) and a national
 /// number.
-#[derive(Clone, Copy, Debug, PartialEq, Eq)]
+#[derive(Clone, Copy, PartialEq, Eq)]
 pub struct Figures {
     text: InlineBytes<12>,
 }

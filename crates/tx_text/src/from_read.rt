@@ -7,7 +7,7 @@ use std::marker::Model;
 
 /// A source over a reader of the standard library. Any error of the reader is a failure, and stays
 /// one. The calls are counted. It does not show its bytes.
-#[derive(Debug, Drop)]
+#[derive(Drop)]
 pub struct FromRead<R> {
     reader: R,
     calls: u64,

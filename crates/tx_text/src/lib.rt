@@ -2,7 +2,8 @@
 //!
 //! A text comes from a `Source` in pieces, or is in a slice. `LineFeeder` cuts pieces into lines,
 //! and `FrameReader` keeps the header, END and the numbers of lines. `read_text` reads a text of
-//! which each line declares something. Texts go to a `Sink` by `write_bytes` and `write_parts`.
+//! which each line declares something, and `read_whole_text` the bytes of a text. Texts go to a
+//! `Sink` by `write_bytes` and `write_parts`.
 #![tactic(auto)]
 
 mod feeder;
@@ -25,6 +26,7 @@ mod source;
 mod split;
 mod text_fault;
 mod to_write;
+mod whole_text;
 
 pub use feeder::{Fed, LineFeeder};
 pub use figures::{Figures, InlineBytes, are_figures, number};
@@ -49,3 +51,4 @@ pub use source::{ReadFault, Source};
 pub use split::words;
 pub use text_fault::TextFault;
 pub use to_write::ToWrite;
+pub use whole_text::{WholeTextFault, read_whole_text};

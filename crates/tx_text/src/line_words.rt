@@ -15,7 +15,7 @@ pub(crate) fn is_blank(byte: u8) -> bool
 }
 
 /// The words of a line: what is left to give.
-#[derive(Debug, Drop)]
+#[derive(Drop)]
 pub struct Words<'a> {
     rest: &'a [u8],
 }

@@ -11,7 +11,7 @@ use crate::text_fault::TextFault;
 use std::marker::Model;
 
 /// The lines of a text that are left to give. After a fault there is none.
-#[derive(Debug, Drop)]
+#[derive(Drop)]
 pub struct Lines<'a> {
     rest: &'a [u8],
     number: u64,

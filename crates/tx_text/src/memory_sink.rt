@@ -8,7 +8,7 @@ use std::alloc::{Allocator, Global};
 use std::marker::Model;
 
 /// A sink that takes `room` bytes, and then fails.
-#[derive(Debug, Drop)]
+#[derive(Drop)]
 pub struct MemorySink<A: Allocator = Global> {
     bytes: Vec<u8, A>,
     room: usize,

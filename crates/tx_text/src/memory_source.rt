@@ -7,7 +7,7 @@ use std::marker::Model;
 
 /// A source for tests: the bytes of a slice, at most `piece` a call. The call `fails_at`, counted
 /// from 1, fails, and so does each after it.
-#[derive(Debug, Drop)]
+#[derive(Drop)]
 pub struct MemorySource<'a> {
     rest: &'a [u8],
     piece: usize,

@@ -8,7 +8,7 @@ use crate::figures::{InlineBytes, is_figure};
 use std::marker::Model;
 
 /// The name of an exchange or a group: 1 to 8 of `A` to `Z` and `0` to `9`, a letter first.
-#[derive(Clone, Copy, Debug, PartialEq, Eq)]
+#[derive(Clone, Copy, PartialEq, Eq)]
 pub struct Name {
     text: InlineBytes<8>,
 }

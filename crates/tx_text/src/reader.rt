@@ -88,7 +88,7 @@ pub(crate) fn lf_or_len(piece: &[u8]) -> usize
 
 /// Reads a text from a source, line by line. A line that is whole in the bytes that were read
 /// is lent from there, and the feeder holds the others.
-#[derive(Debug, Drop)]
+#[derive(Drop)]
 pub(crate) struct TextReader<A: Allocator = Global> {
     feeder: LineFeeder<A>,
     piece: [u8; 4096],

@@ -6,7 +6,7 @@ use crate::source::{ReadFault, Source};
 use std::marker::Model;
 
 /// A source over a slice: its bytes that are still to come.
-#[derive(Debug, Drop)]
+#[derive(Drop)]
 pub struct SliceSource<'a> {
     rest: &'a [u8],
 }

@@ -7,7 +7,7 @@ use std::marker::Model;
 
 /// A sink over a writer of the standard library. Any error of the writer is a failure, and so is a
 /// call that takes nothing; a failure stays one. It does not show its bytes.
-#[derive(Debug, Drop)]
+#[derive(Drop)]
 pub struct ToWrite<W> {
     writer: W,
     failed: bool,

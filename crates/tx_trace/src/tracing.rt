@@ -11,7 +11,6 @@ use tx_plan::{CodeId, ExchangeId, GroupId, Plan};
 use tx_text::NoMemory;
 
 /// How calls for a code go from an exchange.
-#[derive(Debug, Drop)]
 pub struct Trace<A: Allocator = Global> {
     /// The code.
     pub code: CodeId,
@@ -23,6 +22,21 @@ pub struct Trace<A: Allocator = Global> {
     pub met: Vec<ExchangeId, A>,
     /// The ranks of these, where the exchange has a height.
     pub ranks: Option<Cert<A>>,
+}
+
+impl<A: Allocator> Drop for Trace<A> {
+    fn drop(self) {
+        let Self {
+            code: _,
+            exchange: _,
+            first,
+            met,
+            ranks,
+        } = self;
+        drop(first);
+        drop(met);
+        drop(ranks);
+    }
 }
 
 impl<A: Allocator> Trace<A> {

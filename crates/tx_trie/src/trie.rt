@@ -16,14 +16,14 @@ use tx_plan::{CodeId, ExchangeId, Plan};
 use tx_text::{Figures, NoMemory};
 
 /// The figures of a code, and its home.
-#[derive(Clone, Copy, Debug)]
+#[derive(Clone, Copy)]
 pub struct Row {
     pub figures: Figures,
     pub home: ExchangeId,
 }
 
 /// The figures on the way from the root to a node are a code, or begin one.
-#[derive(Clone, Copy, Debug)]
+#[derive(Clone, Copy)]
 pub struct Node {
     /// The code of these figures.
     pub code: Option<CodeId>,
@@ -128,10 +128,17 @@ pub fn look(nodes: &[Node], text: &[u8]) -> Option<CodeId>
 }
 
 /// The destination codes of a plan by their figures.
-#[derive(Debug, Drop)]
 pub struct CodeTrie<A: Allocator = Global> {
     codes: Vec<Row, A>,
     nodes: Vec<Node, A>,
+}
+
+impl<A: Allocator> Drop for CodeTrie<A> {
+    fn drop(self) {
+        let Self { codes, nodes } = self;
+        drop(codes);
+        drop(nodes);
+    }
 }
 
 impl<A: Allocator> Model for CodeTrie<A> {

@@ -23,9 +23,7 @@
 //!   plan. `page FILE L K` has a plan that is named so, `page-risks` a text of risks too,
 //!   `page-change` an old plan after that, and `page-code FILE L CODE` a plan of which the lists for
 //!   a code are shown, with the spare number 1. Each is played by sources of 1, 2, 7 and 4,096 bytes
-//!   a call, which has to make no difference. `draw`, `draw CODE` and `draw CODE L K` have a plan.
-//! - `pictures` and `pictures L K` have a plan, which is drawn, and each of its codes, with the
-//!   walk of the code's first finding where there are numbers.
+//!   a call, which has to make no difference.
 //! - `each-end` before such a kind also refuses each request for memory, gives each smaller room,
 //!   and makes each call of each source fail. The lines with `--` tell the exit status, the calls
 //!   of the sources at one byte a call, the bytes written, and what a run counted or the event
@@ -47,30 +45,22 @@
 //!   written over their joined network.
 //! - `program` plays the program at its ends, over the files beside the folder `cases`:
 //!   `cases/end_case.rt` has what is in its head. `arguments` tells how it refuses its arguments.
-//! - `family` judges the ranking over a family of plans, `pairs` the change of each into each,
-//!   `networks` the change and the order from each plan of a family to each of another one, of
-//!   another network, `orders` the order from each to each, `mends` the mending of each, and
-//!   `outages` what each group, each exchange and each two groups cut off in each. `twins` plays
-//!   the engine beside the plain network. The calls of the crates below have the kinds of `tests`.
+//! - `twins` plays the engine beside the plain network. The calls of the crates below have the kinds
+//!   of `tests`.
 #![tactic(auto)]
 
 mod cases;
-mod changes;
 mod checked;
 mod driven;
 mod ends;
-mod families;
 mod jobs;
 mod joined;
-mod mends;
-mod outages;
 mod play;
 mod player;
 mod run_laws;
 mod runs;
 mod tests;
 mod twins;
-mod walks;
 mod whole_runs;
 mod written;
 

@@ -9,7 +9,7 @@ use tx_plan::{Circuit, GroupId};
 use tx_text::NoMemory;
 
 /// Circuits that are marked, among those of so many groups of at most 240 circuits each.
-#[derive(Debug, Drop)]
+#[derive(Drop)]
 pub(crate) struct CircuitMarks<A: Allocator = Global> {
     bits: Vec<bool, A>,
     groups: usize,

@@ -8,7 +8,7 @@ use tx_plan::GroupId;
 use tx_text::NoMemory;
 
 /// Groups that are marked, of so many.
-#[derive(Debug, Drop)]
+#[derive(Drop)]
 pub(crate) struct GroupMarks<A: Allocator = Global> {
     bits: Vec<bool, A>,
     groups: usize,

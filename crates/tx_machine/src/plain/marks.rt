@@ -10,12 +10,26 @@ use tx_plan::GroupId;
 use tx_text::NoMemory;
 
 /// Which groups are failed or blocked, and which circuits are releasing or out of service.
-#[derive(Debug, Drop)]
 pub(crate) struct Marks<A: Allocator = Global> {
     pub(crate) failed: GroupMarks<A>,
     pub(crate) blocked: GroupMarks<A>,
     pub(crate) releasing: CircuitMarks<A>,
     pub(crate) out: CircuitMarks<A>,
+}
+
+impl<A: Allocator> Drop for Marks<A> {
+    fn drop(self) {
+        let Self {
+            failed,
+            blocked,
+            releasing,
+            out,
+        } = self;
+        drop(failed);
+        drop(blocked);
+        drop(releasing);
+        drop(out);
+    }
 }
 
 impl<A: Allocator + Copy> Marks<A> {

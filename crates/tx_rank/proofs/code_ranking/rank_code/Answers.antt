@@ -15,7 +15,7 @@ returns-then-closed-clause-judged g c =
     let old = c.args.findings.now.items in
     let search = c.pass.new.search in
     let w : Walk = record { start = search.start; steps = search.steps.items } in
-    let added = c.in_ok-push.ensures.items ∙ ap (λ (v : Walk). old ++ Loop c.args.code v ∷ []) c.walk_in_hand.ensures in
+    let added = c.in_ok-push.ensures.items ∙ ap (λ (v : Walk). old ++ Loop c.args.code v ∷ []) c.into_walk.ensures in
     subst (λ (fs : List (Finding g.row.A.Denot)). IsJudged n c.args.code c.args.limit c.args.spare old fs ranks) (sym added) (judged_loop n c.args.code c.args.limit c.args.spare old ranks w (c.in_ok-closed.ensures.closed c.if-closed.true))
 
 pub returns-clause-judged : goal.returns-clause-judged
