@@ -5,7 +5,7 @@ ghost use Rattle.tx_plan.specs.Rules.{IsPlan};
 ghost use Rattle.tx_plan.specs.Certified.{Ranks, IsCertified};
 ghost use Rattle.tx_plan.specs.Mixtures.{SameNetwork, IsMixture, AreCommon};
 ghost use Rattle.tx_machine.specs.State.{opening};
-ghost use Rattle.tx_machine.specs.ChangingRuns.{changing_run, IsSoundChange, HasFewRoutesMeanwhile, SufficesMeanwhile};
+ghost use Rattle.tx_machine.specs.ChangingRuns.{changing_run};
 ghost use Rattle.tx_order.specs.Levels.{levels_of};
 ghost use Rattle.tx_order.specs.Stages.{AreBothCertified, plan_at, ranks_at};
 ghost use Rattle.tx_order.specs.Orders.{IsListSwitched, IsBarSwitched, IsOrder, HasOrder, CanBothBeCertified};
@@ -60,8 +60,8 @@ pub fn levels_lead_over()
 /// An order is sound over all its stages, on and back, with calls up: if each call has a stage, and
 /// while the call is being set up, only mixtures of the plans before and after that stage are in
 /// force, then every state is safe and every NC is excused by the list then in force, at most twice
-/// `limit` and three Routes of one call are accepted, and spare groups suffice. So it is of each
-/// stage by itself.
+/// `limit` and three Routes of one call are accepted, and spare groups suffice. Each stage by
+/// itself is the case where all calls have that stage.
 pub fn orders_are_sound()
     ensures sound { (old new : Plan) (plans : ℕ → Plan) (stages limit spare : ℕ)
         → IsOrder old new plans stages limit spare → AreSoundStages plans stages limit spare }
@@ -75,15 +75,6 @@ pub fn orders_are_sound()
         → AreStagedTurns plans stages 0 (opening numbers count) turns
         → AreInStages plans stages
         (changing_run (opening numbers count) (map (λ t. t.turn) turns)) }
-    ensures stage_sound { (old new : Plan) (plans : ℕ → Plan) (stages limit spare stage : ℕ)
-        → IsOrder old new plans stages limit spare → stage < stages
-        → IsSoundChange (plans stage) (plans (stage + 1)) limit spare }
-    ensures stage_few_routes { (old new : Plan) (plans : ℕ → Plan) (stages limit spare stage : ℕ)
-        → IsOrder old new plans stages limit spare → stage < stages
-        → HasFewRoutesMeanwhile (plans stage) (plans (stage + 1)) limit }
-    ensures stage_suffice { (old new : Plan) (plans : ℕ → Plan) (stages limit spare stage : ℕ)
-        → IsOrder old new plans stages limit spare → stage < stages
-        → SufficesMeanwhile (plans stage) (plans (stage + 1)) spare }
 {}
 
 /// There is an order exactly where some ranks certify the old plan and some the new one.
