@@ -1,7 +1,6 @@
 -- Where each stage begins with no call being set up, each call has one stage.
 use Rattle.std.proofs.Common.{◌≡◌, ℕ, ◌+◌, ◌<◌, ◌≤◌, true, false, not, nat_le, List, [], ◌∷◌, map, inl, inr, refl, sym, ap, ◌∙◌, subst, arith}
-use Rattle.std.proofs.lemmas.Bool.{both_ways, cases_eq}
-use Rattle.std.proofs.lemmas.Bool.Decides.{nat_tests}
+use Rattle.std.proofs.lemmas.Bool.{both_ways, le-leb, lt-leb, cases_eq}
 use Rattle.std.specs.Prelude.{if◌then◌else◌}
 use Rattle.std.specs.List.{list_any, AllByRecursion}
 use Rattle.tx_plan.specs.Plan.{Plan}
@@ -80,15 +79,14 @@ module _ (old new : Plan) (plans : ℕ → Plan) (stages limit spare : ℕ) (o :
         | inl (b, m, moves) ↦ ap stage_of (sym (moves_number p t.turn.event b c moves)) ∙ here b m (set_up_before p t.turn.event b c moves up)
         | inr new ↦
             let d = ap (λ (z : Call). z.number) new.call in
-            let few = kept.given c a in
-            let given : nat_le c.number (after s t).numbers ≡ true = grind (arith, nat_tests) in
+            let given = le-leb c.number (after s t).numbers (kept.given c a) in
             later c.number (omega arith) ∙ ap (λ b. if b then t.stage else keyed_in (after s t) turns c.number) given
       ]
 
       later' : (n : ℕ) → (after s t).numbers < n → stage_of n ≡ keyed_in (after s t) turns n
       later' n more =
-          let few = step_numbers p s t.turn.event in
-          let given : nat_le n (after s t).numbers ≡ false = grind (arith, nat_tests) in
+          let few : s.numbers ≤ (after s t).numbers = step_numbers p s t.turn.event in
+          let given = lt-leb n (after s t).numbers more in
           later n (omega arith) ∙ ap (λ b. if b then t.stage else keyed_in (after s t) turns n) given
 
 pub staged_in_stages : (old new : Plan) (plans : ℕ → Plan) (stages limit spare : ℕ) → IsOrder old new plans stages limit spare → (numbers count : ℕ) (turns : List StagedTurn)
