@@ -5,12 +5,11 @@ use Rattle.tx_plan.specs.Mixed.{rerouted}
 use Rattle.tx_plan.specs.Certified.{Ranks}
 use Rattle.tx_plan.specs.declared.ids.Pair.{Pair}
 use Rattle.tx_plan.specs.declared.ids.Line.{Line}
-use Rattle.tx_plan.proofs.Lists.{all_map}
 use Rattle.tx_machine.specs.declared.open_call.Phase.{Phase}
 use Rattle.tx_machine.specs.declared.open_call.Phase.TheVariants.{Standing, Calling, Connected}
 use Rattle.tx_machine.specs.Call.{Call}
 use Rattle.tx_machine.specs.State.{State}
-use Rattle.tx_machine.specs.Safe.{IsKeyedLine, IsOnlyLine, OfConnected, IsSafeCall, IsSafe}
+use Rattle.tx_machine.specs.Safe.{IsKeyedLine, IsOnlyLine, OfConnected, IsSafeCall}
 use Rattle.tx_machine.specs.inner.Invariant.{IsKept, AreApart, Holds, IsRanked}
 use Rattle.tx_plan.specs.Mixtures.{SameNetwork}
 use Rattle.tx_plan.proofs.Networks.{rerouted-is}
@@ -55,9 +54,6 @@ module _ (p : Plan) (routes : List Route) (bars : List Pair) where
   safe_call_over : (limit : ℕ) (c : Call) → IsSafeCall p limit c → IsSafeCall (rerouted p routes bars) limit c
   safe_call_over limit c s = record { joined = s.joined; once = s.once; few = s.few; right = right_over c c.phase s.right }
 
-  safe_over : (limit : ℕ) (s : State) → IsSafe p limit s → IsSafe (rerouted p routes bars) limit s
-  safe_over limit s h = record { calls = all_map s.calls (λ c k. safe_call_over limit c k) h.calls; circuits = h.circuits; lines = h.lines }
-
 module _ (p q : Plan) (same : SameNetwork p q) where
   pub holds_by : (s : State) → Holds p s → Holds q s
   holds_by s h = subst (λ z. Holds z s) (rerouted-is p q same) (holds_over p q.routes q.bars s h)
@@ -65,5 +61,5 @@ module _ (p q : Plan) (same : SameNetwork p q) where
   pub ranked_by : (ranks : Ranks) (c : Call) → IsRanked p ranks c → IsRanked q ranks c
   ranked_by ranks c h = subst (λ z. IsRanked z ranks c) (rerouted-is p q same) (ranked_over p q.routes q.bars ranks c h)
 
-  pub safe_by : (limit : ℕ) (s : State) → IsSafe p limit s → IsSafe q limit s
-  safe_by limit s h = subst (λ z. IsSafe z limit s) (rerouted-is p q same) (safe_over p q.routes q.bars limit s h)
+  pub safe_by : (limit : ℕ) (c : Call) → IsSafeCall p limit c → IsSafeCall q limit c
+  safe_by limit c h = subst (λ z. IsSafeCall z limit c) (rerouted-is p q same) (safe_call_over p q.routes q.bars limit c h)

@@ -37,8 +37,8 @@ use Rattle.tx_machine.proofs.Lists.{find_mem}
 use Rattle.tx_machine.proofs.Invariant.{set_cases, inv_opening}
 use Rattle.tx_machine.specs.inner.Invariant.{Holds, IsRanked}
 use Rattle.tx_machine.proofs.Steps.{tests_false, stands, step_keeps}
-use Rattle.tx_machine.proofs.Moves.{Moves, stays, connects, seizes_one, goes_on, falls_back, came, after_accepted}
-use Rattle.tx_machine.proofs.Ranks.{AllRanked, step_ranked, hops_within, ranked_index}
+use Rattle.tx_machine.proofs.Moves.{Moves, moves_number, stays, connects, seizes_one, goes_on, falls_back, came, after_accepted}
+use Rattle.tx_machine.proofs.Ranks.{AllRanked, AreLed, all_led, step_ranked, hops_within, ranked_index}
 
 -- a Route of a call that stands leaves it in another phase, or ended
 module _ (p : Plan) (s : State) (h : Holds p s) (c' : Call) (c : Call) (m : Among c s.calls) (n : c'.number ≡ c.number) (e : c'.phase ≡ Standing) where
@@ -121,7 +121,7 @@ accepted_numbers p s (LineMend l) = omega arith
 accepted_numbers p s (LineAway l) = omega arith
 accepted_numbers p s (LineBack l) = omega arith
 
-step_numbers : (p : Plan) (s : State) (e : Event) → s.numbers ≤ (step p s e).1.numbers
+pub step_numbers : (p : Plan) (s : State) (e : Event) → s.numbers ≤ (step p s e).1.numbers
 step_numbers p s e = at (refusal p s e)
   where
     at : (o : Option Refusal) → s.numbers ≤ (unless_refused o s (counted (accepted p s e))).1.numbers
@@ -144,13 +144,6 @@ used c = 2 * length c.hops + (one_if c.collided + waits c.phase)
 one_most : (b : Bool) → one_if b ≤ 1
 one_most true = omega arith
 one_most false = omega arith
-
-moves_number : (p : Plan) (e : Event) (c c' : Call) → Moves p e c c' → c.number ≡ c'.number
-moves_number p e c c' (stays q) = ap (λ (z : Call). z.number) q
-moves_number p e c c' (connects l event stands q) = ap (λ (z : Call). z.number) q
-moves_number p e c c' (seizes_one x code event stands keyed open' away listed q) = ap (λ (z : Call). z.number) q
-moves_number p e c c' (goes_on x calls q) = ap (λ (z : Call). z.number) q
-moves_number p e c c' (falls_back x calls first q) = ap (λ (z : Call). z.number) q
 
 -- from a call that stands, to one that doesn't, one more
 moves_more : (p : Plan) (e : Event) (c c' : Call) → Moves p e c c' → c.phase ≡ Standing → (c'.phase ≡ Standing → ⊥) → used c + 1 ≤ used c'
@@ -178,8 +171,8 @@ pub record IsCounted (limit : ℕ) (calls : List Call) (numbers n k : ℕ) : Typ
 abbrev pub is_counted : ℕ → Event → Reply → Bool
 is_counted n e r = is_route_of n (routed_call e) && not (is_refused r)
 
-module _ (p : Plan) (ok : IsPlan p) (ranks : Ranks) (limit spare : ℕ) (cert : IsCertified p ranks limit spare) (n : ℕ) where
-  -- any other event
+-- any other event
+module _ (p : Plan) (limit n : ℕ) where
   other_step : (s : State) → Holds p s → (e : Event) → (k : ℕ) → IsCounted limit s.calls s.numbers n k → IsCounted limit (step p s e).1.calls (step p s e).1.numbers n k
   other_step s h e k i = record {
     few = i.few;
@@ -190,7 +183,8 @@ module _ (p : Plan) (ok : IsPlan p) (ranks : Ranks) (limit spare : ℕ) (cert : 
     later = λ l. let b = step_numbers p s e in i.later (omega arith);
   }
 
-  -- a call that stands has a Route left
+-- a call that stands has a Route left
+module _ (p : Plan) (ranks : Ranks) (limit spare : ℕ) (cert : IsCertified p ranks limit spare) where
   room : (c : Call) → IsRanked p ranks c → c.phase ≡ Standing → (code : ℕ) → code_of p c.keyed ≡ Some code → (is_first c.hops && is_barred p (exchange_of p c) code) ≡ false → used c + 1 ≤ 2 * limit + 3
   room c r st code keyed open' =
       let a = ranked_index p ranks limit spare cert c r code keyed open' in
@@ -227,9 +221,10 @@ module _ (p : Plan) (ok : IsPlan p) (ranks : Ranks) (limit spare : ℕ) (cert : 
         | inr f ↦ room c r st code e f
       ]
 
+module _ (p : Plan) (ranks_of : ℕ → Ranks) (limit spare n : ℕ) where
   -- a Route of call n
-  route_step : (s : State) → Holds p s → AllRanked p ranks limit spare cert s.calls → refusal p s (Route n) ≡ None → (k : ℕ) → IsCounted limit s.calls s.numbers n k → IsCounted limit (accepted p s (Route n)).1.calls (accepted p s (Route n)).1.numbers n (k + 1)
-  route_step s h ranked none k i =
+  route_step : (s : State) → Holds p s → AreLed p ranks_of limit spare s.calls → refusal p s (Route n) ≡ None → (k : ℕ) → IsCounted limit s.calls s.numbers n k → IsCounted limit (accepted p s (Route n)).1.calls (accepted p s (Route n)).1.numbers n (k + 1)
+  route_step s h led none k i =
       let t = tests_false (refusals p s (Route n) ++ _ ∷ []) none in
       at (call_of n s.calls) refl t.0 t.1.0
     where
@@ -238,7 +233,7 @@ module _ (p : Plan) (ok : IsPlan p) (ranks : Ranks) (limit spare : ℕ) (cert : 
           let f = find_mem (λ c. c.number == n) s.calls c e in
           let same : c.number ≡ n = eqb-true _ _ f.1 in
           let b = i.open' c f.0 same in
-          let few = any_room c (ranked c f.0) st in
+          let few = any_room p (ranks_of c.number) limit spare (led.certified c f.0 st) c (led.ranked c f.0) st in
           let given = h.given c f.0 in
           record {
             few = omega arith;
@@ -259,8 +254,8 @@ module _ (p : Plan) (ok : IsPlan p) (ranks : Ranks) (limit spare : ℕ) (cert : 
       at (Some c) e a b = found c e (stands c.phase b)
 
   -- any event, with the Route that it may be
-  pub counted_step : (s : State) → Holds p s → AllRanked p ranks limit spare cert s.calls → (e : Event) → (k : ℕ) → IsCounted limit s.calls s.numbers n k → IsCounted limit (step p s e).1.calls (step p s e).1.numbers n (k + (if is_counted n e (step p s e).0 then 1 else 0))
-  counted_step s h ranked e k i = at (is_counted n e (step p s e).0) refl
+  pub counted_step : (s : State) → Holds p s → AreLed p ranks_of limit spare s.calls → (e : Event) → (k : ℕ) → IsCounted limit s.calls s.numbers n k → IsCounted limit (step p s e).1.calls (step p s e).1.numbers n (k + (if is_counted n e (step p s e).0 then 1 else 0))
+  counted_step s h led e k i = at (is_counted n e (step p s e).0) refl
     where
       as_route : (e : Event) → is_route_of n (routed_call e) ≡ true → e ≡ Route n
       as_route (Route m) t = ap Route (eqb-true m n t)
@@ -281,19 +276,21 @@ module _ (p : Plan) (ok : IsPlan p) (ranks : Ranks) (limit spare : ℕ) (cert : 
 
       by_refusal : (o : Option Refusal) → refusal p s (Route n) ≡ o → is_counted n (Route n) (unless_refused o s (counted (accepted p s (Route n)))).0 ≡ true → IsCounted limit (unless_refused o s (counted (accepted p s (Route n)))).1.calls (unless_refused o s (counted (accepted p s (Route n)))).1.numbers n (k + 1)
       by_refusal (Some r) q t = absurd (false≢true ((and_parts _ _ t).1))
-      by_refusal None q t = route_step s h ranked q k i
+      by_refusal None q t = route_step s h led q k i
 
       at : (b : Bool) → is_counted n e (step p s e).0 ≡ b → IsCounted limit (step p s e).1.calls (step p s e).1.numbers n (k + (if b then 1 else 0))
-      at false q = let z = other_step s h e k i in record { few = (let f = z.few in omega arith); open' = λ c m w. (let f = z.open' c m w in omega arith); later = λ l. (let f = z.later l in omega arith) }
+      at false q = let z = other_step p limit n s h e k i in record { few = (let f = z.few in omega arith); open' = λ c m w. (let f = z.open' c m w in omega arith); later = λ l. (let f = z.later l in omega arith) }
       at true q =
           let route = as_route e (and_parts _ _ q).0 in
           subst (λ e. IsCounted limit (step p s e).1.calls (step p s e).1.numbers n (k + 1)) (sym route)
           (by_refusal (refusal p s (Route n)) refl (subst (λ e. is_counted n e (step p s e).0 ≡ true) route q))
 
-  few_in : (s : State) → Holds p s → AllRanked p ranks limit spare cert s.calls → (events : List Event) → (k : ℕ) → IsCounted limit s.calls s.numbers n k → routes_of n (run p s events) + k ≤ 2 * limit + 3
+module _ (p : Plan) (ok : IsPlan p) (ranks : Ranks) (limit spare : ℕ) (cert : IsCertified p ranks limit spare) (n : ℕ) where
+  few_in : (s : State) → Holds p s → AllRanked p (λ n. ranks) s.calls → (events : List Event) → (k : ℕ) → IsCounted limit s.calls s.numbers n k → routes_of n (run p s events) + k ≤ 2 * limit + 3
   few_in s h r [] k i = let f = i.few in omega arith
   few_in s h r (e ∷ events) k i =
-      let j = few_in (step p s e).1 (step_keeps p ok s h e) (step_ranked p ranks limit spare cert s h r e) events _ (counted_step s h r e k i) in
+      let led = all_led p ranks limit spare cert s.calls r in
+      let j = few_in (step p s e).1 (step_keeps p ok s h e) (step_ranked p (λ n. ranks) limit spare s h led e) events _ (counted_step p (λ n. ranks) limit spare n s h led e k i) in
       at (is_counted n e (step p s e).0) j
     where
       at : (b : Bool) → routes_of n (run p (step p s e).1 events) + (k + (if b then 1 else 0)) ≤ 2 * limit + 3 → (if b then 1 else 0) + routes_of n (run p (step p s e).1 events) + k ≤ 2 * limit + 3
@@ -302,6 +299,6 @@ module _ (p : Plan) (ok : IsPlan p) (ranks : Ranks) (limit spare : ℕ) (cert : 
 
 pub few_routes : (p : Plan) → IsPlan p → (ranks : Ranks) (limit spare : ℕ) → IsCertified p ranks limit spare → HasFewRoutes p limit
 few_routes p ok ranks limit spare cert numbers count events n =
-    let r : AllRanked p ranks limit spare cert [] = λ c m. elim m [ ] in
+    let r : AllRanked p (λ n. ranks) [] = λ c m. elim m [ ] in
     let b = few_in p ok ranks limit spare cert n (opening numbers count) (inv_opening p numbers) r events 0 (record { few = omega arith; open' = λ c m. elim m [ ]; later = λ l. refl }) in
     omega arith

@@ -34,8 +34,9 @@ use Rattle.tx_machine.specs.Step.{with_call, accepted, counted, unless_refused, 
 use Rattle.tx_machine.specs.Excused.{HadCollided, IsExcusedTo, IsExcused}
 use Rattle.tx_machine.proofs.Lists.{find_mem, find_none, all_from_mem}
 use Rattle.tx_machine.proofs.Uses.{first_in-none}
-use Rattle.tx_machine.specs.inner.Invariant.{Holds}
-use Rattle.tx_machine.proofs.Ranks.{AllRanked, ranked_index, code_within}
+use Rattle.tx_machine.specs.inner.Invariant.{Holds, IsRanked}
+use Rattle.tx_machine.proofs.Unrefused.{route_stands}
+use Rattle.tx_machine.proofs.Ranks.{AreLed, ranked_index, code_within}
 
 -- THE CIRCUITS OF A GROUP
 pub in_downward : (n k : ℕ) → 0 < k → k ≤ n → Among k (downward n)
@@ -91,7 +92,7 @@ found (d ∷ cs) c m one =
       | false ↦ λ t. elim m [ inl e ↦ absurd (eqb-false _ _ t (ap (λ (z : Call). z.number) e)) | inr m ↦ found cs c m (λ d m. one d (inr m)) ]
     ] refl
 
-module _ (p : Plan) (ranks : Ranks) (limit spare : ℕ) (cert : IsCertified p ranks limit spare) (s : State) (h : Holds p s) (ranked : AllRanked p ranks limit spare cert s.calls) (n : ℕ) (c : Call) (m : Among c s.calls) (here : call_of n s.calls ≡ Some c) where
+module _ (p : Plan) (spare : ℕ) (s : State) (n : ℕ) (c : Call) (here : call_of n s.calls ≡ Some c) (ranks : Ranks) (limit : ℕ) (cert : IsCertified p ranks limit spare) (ranked : IsRanked p ranks c) where
   line_reply : (l : Line) (o : Option Service) → line_answer p s l ≡ o → IsExcused p spare s (Route n) (at_line p s c l o).0
   line_reply l None e = tt
   line_reply l (Some service) e = line_excused p spare s n l service e
@@ -99,7 +100,7 @@ module _ (p : Plan) (ranks : Ranks) (limit spare : ℕ) (cert : IsCertified p ra
   trunk_reply : (code : ℕ) → code_of p c.keyed ≡ Some code → (is_first c.hops && is_barred p (exchange_of p c) code) ≡ false → (home_of p code == exchange_of p c) ≡ false → (o : Option Circuit) → choice p s (exchange_of p c) code ≡ o → IsExcused p spare s (Route n) (at_trunk p s c o).0
   trunk_reply code e open' away (Some x) a = tt
   trunk_reply code e open' away None a =
-      let r = ranked_index p ranks limit spare cert c (ranked c m) code e open' in
+      let r = ranked_index p ranks limit spare cert c ranked code e open' in
       let down = cert.lists code (exchange_of p c) r.0 (code_within p c.keyed code e) r.1 (λ i. eqb-false _ _ away (sym i)) in
       record {
         call = c;
@@ -132,6 +133,7 @@ module _ (p : Plan) (ranks : Ranks) (limit spare : ℕ) (cert : IsCertified p ra
       trunk : Reply × State
       trunk = at_trunk p s c (choice p s (exchange_of p c) code)
 
+module _ (p : Plan) (spare : ℕ) (s : State) (h : Holds p s) (n : ℕ) (c : Call) (m : Among c s.calls) where
   had : (d : Call) → Among d s.calls → not d.collided ≡ false → HadCollided s d.number
   had d m e = record { call = d; open' = found s.calls d m (λ k i q. h.one k d i m q); collided = not-false _ e }
 
@@ -144,7 +146,7 @@ module _ (p : Plan) (ranks : Ranks) (limit spare : ℕ) (cert : IsCertified p ra
   confirm_reply (Calling x) = meet_reply x _ refl
   confirm_reply (Connected l) = tt
 
-module _ (p : Plan) (ranks : Ranks) (limit spare : ℕ) (cert : IsCertified p ranks limit spare) (s : State) (h : Holds p s) (ranked : AllRanked p ranks limit spare cert s.calls) where
+module _ (p : Plan) (ranks_of : ℕ → Ranks) (limit spare : ℕ) (s : State) (h : Holds p s) (led : AreLed p ranks_of limit spare s.calls) where
   with_reply : (e : Event) (n : ℕ) (act : Call → Reply × State) → ((c : Call) → Among c s.calls → call_of n s.calls ≡ Some c → IsExcused p spare s e (act c).0) → IsExcused p spare s e (with_call (call_of n s.calls) s act).0
   with_reply e n act each = at (call_of n s.calls) refl
     where
@@ -152,26 +154,26 @@ module _ (p : Plan) (ranks : Ranks) (limit spare : ℕ) (cert : IsCertified p ra
       at None q = tt
       at (Some c) q = each c (find_mem (λ c. c.number == n) s.calls c q).0 q
 
-  accepted_reply : (e : Event) → IsExcused p spare s e (accepted p s e).0
-  accepted_reply (Key line keyed) = tt
-  accepted_reply (Route n) = with_reply (Route n) n _ (λ c m q. route_reply p ranks limit spare cert s h ranked n c m q _ refl)
-  accepted_reply (Confirm n) = with_reply (Confirm n) n _ (λ c m q. confirm_reply p ranks limit spare cert s h ranked n c m q c.phase)
-  accepted_reply (Clear n party) = tt
-  accepted_reply (Released x) = tt
-  accepted_reply (Fail g) = tt
-  accepted_reply (Restore g) = tt
-  accepted_reply (Block g) = tt
-  accepted_reply (Unblock g) = tt
-  accepted_reply (CircuitOut x) = tt
-  accepted_reply (CircuitIn x) = tt
-  accepted_reply (LineFault l) = tt
-  accepted_reply (LineMend l) = tt
-  accepted_reply (LineAway l) = tt
-  accepted_reply (LineBack l) = tt
+  accepted_reply : (e : Event) → refusal p s e ≡ None → IsExcused p spare s e (accepted p s e).0
+  accepted_reply (Key line keyed) none = tt
+  accepted_reply (Route n) none = with_reply (Route n) n _ (λ c m q. route_reply p spare s n c q (ranks_of c.number) limit (led.certified c m (route_stands p s n none c q)) (led.ranked c m) _ refl)
+  accepted_reply (Confirm n) none = with_reply (Confirm n) n _ (λ c m q. confirm_reply p spare s h n c m c.phase)
+  accepted_reply (Clear n party) none = tt
+  accepted_reply (Released x) none = tt
+  accepted_reply (Fail g) none = tt
+  accepted_reply (Restore g) none = tt
+  accepted_reply (Block g) none = tt
+  accepted_reply (Unblock g) none = tt
+  accepted_reply (CircuitOut x) none = tt
+  accepted_reply (CircuitIn x) none = tt
+  accepted_reply (LineFault l) none = tt
+  accepted_reply (LineMend l) none = tt
+  accepted_reply (LineAway l) none = tt
+  accepted_reply (LineBack l) none = tt
 
   pub step_excused : (e : Event) → IsExcused p spare s e (step p s e).0
-  step_excused e = at (refusal p s e)
+  step_excused e = at (refusal p s e) refl
     where
-      at : (o : Option Refusal) → IsExcused p spare s e (unless_refused o s (counted (accepted p s e))).0
-      at (Some r) = tt
-      at None = accepted_reply e
+      at : (o : Option Refusal) → refusal p s e ≡ o → IsExcused p spare s e (unless_refused o s (counted (accepted p s e))).0
+      at (Some r) q = tt
+      at None q = accepted_reply e q

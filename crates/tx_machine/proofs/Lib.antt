@@ -18,6 +18,7 @@ pub mod Playing
 pub mod OneCall
 pub mod LastHop
 pub mod ByNetwork
+pub mod LiveRuns
 pub mod ChangingRuns
 pub mod Holding
 pub mod Whole

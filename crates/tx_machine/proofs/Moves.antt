@@ -42,6 +42,14 @@ pub data Moves (p : Plan) (e : Event) (c c' : Call) : Type 0 where
   goes_on : (x : Circuit) → c.phase ≡ Calling x → carried_on x (far_of p c x) c ≡ c' → Moves p e c c'
   falls_back : (x : Circuit) → c.phase ≡ Calling x → c.collided ≡ false → thrown_back c ≡ c' → Moves p e c c'
 
+-- a call keeps its number
+pub moves_number : (p : Plan) (e : Event) (c c' : Call) → Moves p e c c' → c.number ≡ c'.number
+moves_number p e c c' (stays q) = ap (λ (z : Call). z.number) q
+moves_number p e c c' (connects l event stands q) = ap (λ (z : Call). z.number) q
+moves_number p e c c' (seizes_one x code event stands keyed open' away listed q) = ap (λ (z : Call). z.number) q
+moves_number p e c c' (goes_on x calls q) = ap (λ (z : Call). z.number) q
+moves_number p e c c' (falls_back x calls first q) = ap (λ (z : Call). z.number) q
+
 pub record IsNew (p : Plan) (numbers : ℕ) (e : Event) (c' : Call) : Type 0 where
   pub line : Line
   pub keyed : List ℕ

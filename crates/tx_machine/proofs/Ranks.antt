@@ -19,7 +19,7 @@ use Rattle.tx_plan.specs.declared.ids.Line.{Line}
 use Rattle.tx_plan.proofs.Among.{filter_among}
 use Rattle.tx_machine.specs.declared.event.Event.{Event}
 use Rattle.tx_machine.specs.declared.open_call.Hop.{Hop}
-use Rattle.tx_machine.specs.Call.{Call, last_exchange, start_of, exchange_of, is_first}
+use Rattle.tx_machine.specs.Call.{Standing, Call, last_exchange, start_of, exchange_of, is_first}
 use Rattle.tx_machine.specs.State.{State}
 use Rattle.tx_machine.specs.Confirming.{far_of}
 use Rattle.tx_machine.specs.Step.{step}
@@ -29,7 +29,7 @@ use Rattle.tx_machine.proofs.Lists.{any_none, mem_any, any_mem}
 use Rattle.tx_machine.proofs.Steps.{all_mem, enumerated}
 use Rattle.tx_machine.specs.inner.Invariant.{Holds, IsRanked}
 use Rattle.tx_machine.proofs.Changes.{not_standing}
-use Rattle.tx_machine.proofs.Moves.{Moves, stays, connects, seizes_one, goes_on, falls_back, IsNew, came}
+use Rattle.tx_machine.proofs.Moves.{Moves, moves_number, stays, connects, seizes_one, goes_on, falls_back, IsNew, came}
 
 module _ (r : ℕ → Option ℕ) where
   pub falls_more : (x : ℕ) (hops : List Hop) (h : Hop) → Falls r x hops → IsLower r (last_exchange x hops) h.far → Falls r x (hops ++ h ∷ [])
@@ -108,6 +108,7 @@ module _ (p : Plan) (ranks : Ranks) (limit spare : ℕ) (cert : IsCertified p ra
       at [] many each = absurd (omega arith)
       at (g ∷ gs) many each = below _ each.0.lower
 
+module _ (p : Plan) (ranks : Ranks) where
   leads_to : (c : Call) (x : Circuit) (code a : ℕ) → ranks code (exchange_of p c) ≡ Some a → LeadsLower p ranks code (exchange_of p c) a x.group → IsLower (ranks code) (exchange_of p c) (far_of p c x)
   leads_to c x code a e l = lower (ranks code l.to) refl l.lower
     where
@@ -115,19 +116,19 @@ module _ (p : Plan) (ranks : Ranks) (limit spare : ℕ) (cert : IsCertified p ra
       lower None q b = absurd b
       lower (Some m) q b = record { high = a; low = m; from = e; to = ap (ranks code) (ap (λ o. unwrap_or o 0) l.leads) ∙ q; less = b }
 
-  -- each move keeps it
-  moves_ranked : (e : Event) (c c' : Call) → IsRanked p ranks c → Moves p e c c' → IsRanked p ranks c'
-  moves_ranked e c c' h (stays q) = subst (IsRanked p ranks) q h
-  moves_ranked e c c' h (connects l event stands q) = subst (IsRanked p ranks) q (record {
+  -- each move keeps it, if the ranks certify the plan where the call stands and is routed
+  moves_ranked : (limit spare : ℕ) (e : Event) (c c' : Call) → (c.phase ≡ Standing → IsCertified p ranks limit spare) → IsRanked p ranks c → Moves p e c c' → IsRanked p ranks c'
+  moves_ranked limit spare e c c' cert h (stays q) = subst (IsRanked p ranks) q h
+  moves_ranked limit spare e c c' cert h (connects l event stands q) = subst (IsRanked p ranks) q (record {
     known = h.known;
     unrouted = h.unrouted;
     falls = h.falls;
     calling = λ x i. let bad : ⊥ = cc in absurd bad;
     collided = h.collided;
   })
-  moves_ranked e c c' h (seizes_one x code event stands keyed open' away listed q) =
-      let r = ranked_index c h code keyed open' in
-      let down = cert.lists code (exchange_of p c) r.0 (code_within p c.keyed code keyed) r.1 (λ i. eqb-false _ _ away (sym i)) in
+  moves_ranked limit spare e c c' cert h (seizes_one x code event stands keyed open' away listed q) =
+      let r = ranked_index p ranks limit spare (cert stands) c h code keyed open' in
+      let down = (cert stands).lists code (exchange_of p c) r.0 (code_within p c.keyed code keyed) r.1 (λ i. eqb-false _ _ away (sym i)) in
       let lower = leads_to c x code r.0 r.1 (all_mem (LeadsLower p ranks code (exchange_of p c) r.0) (route_list p (exchange_of p c) code) x.group down.each listed) in
       subst (IsRanked p ranks) q (record {
         known = h.known;
@@ -136,7 +137,7 @@ module _ (p : Plan) (ranks : Ranks) (limit spare : ℕ) (cert : IsCertified p ra
         calling = λ y i. let same : x ≡ y = cc in (code, keyed, subst (λ z. IsLower (ranks code) (exchange_of p c) (far_of p c z)) same lower);
         collided = h.collided;
       })
-  moves_ranked e c c' h (goes_on x calls q) =
+  moves_ranked limit spare e c c' cert h (goes_on x calls q) =
       let to = h.calling x calls in
       subst (IsRanked p ranks) q (record {
         known = h.known;
@@ -151,7 +152,7 @@ module _ (p : Plan) (ranks : Ranks) (limit spare : ℕ) (cert : IsCertified p ra
 
       same : {o : Option ℕ} {m n : ℕ} → o ≡ Some m → o ≡ Some n → m ≡ n
       same e f = cc
-  moves_ranked e c c' h (falls_back x calls first q) =
+  moves_ranked limit spare e c c' cert h (falls_back x calls first q) =
       let to = h.calling x calls in
       subst (IsRanked p ranks) q (record {
         known = h.known;
@@ -174,15 +175,26 @@ module _ (p : Plan) (ranks : Ranks) (limit spare : ℕ) (cert : IsCertified p ra
     collided = λ i. absurd (false≢true i);
   })
 
-  abbrev pub AllRanked : List Call → Type 0
-  AllRanked cs = (c : Call) → Among c cs → IsRanked p ranks c
+-- each call is ranked by the ranks that it has by its number
+abbrev pub AllRanked : Plan → (ℕ → Ranks) → List Call → Type 0
+AllRanked p ranks_of cs = (c : Call) → Among c cs → IsRanked p (ranks_of c.number) c
 
-  pub step_ranked : (s : State) → Holds p s → AllRanked s.calls → (e : Event) → AllRanked (step p s e).1.calls
-  step_ranked s h ranked e c m = elim (came p s h e c m) [
-    | inl (b, mb, moves) ↦ moves_ranked e b c (ranked b mb) moves
-    | inr new ↦ new_ranked s.numbers e c new
-  ]
+-- and they certify the plan where it stands
+pub record AreLed (p : Plan) (ranks_of : ℕ → Ranks) (limit spare : ℕ) (cs : List Call) : Type 0 where
+  pub ranked : AllRanked p ranks_of cs
+  pub certified : (c : Call) → Among c cs → c.phase ≡ Standing → IsCertified p (ranks_of c.number) limit spare
 
+-- where one certificate holds throughout
+pub all_led : (p : Plan) (ranks : Ranks) (limit spare : ℕ) → IsCertified p ranks limit spare → (cs : List Call) → AllRanked p (λ n. ranks) cs → AreLed p (λ n. ranks) limit spare cs
+all_led p ranks limit spare cert cs ranked = record { ranked = ranked; certified = λ c m stands. cert }
+
+pub step_ranked : (p : Plan) (ranks_of : ℕ → Ranks) (limit spare : ℕ) (s : State) → Holds p s → AreLed p ranks_of limit spare s.calls → (e : Event) → AllRanked p ranks_of (step p s e).1.calls
+step_ranked p ranks_of limit spare s h led e c m = elim (came p s h e c m) [
+  | inl (b, mb, moves) ↦ subst (λ n. IsRanked p (ranks_of n) c) (moves_number p e b c moves) (moves_ranked p (ranks_of b.number) limit spare e b c (led.certified b mb) (led.ranked b mb) moves)
+  | inr new ↦ new_ranked p (ranks_of c.number) s.numbers e c new
+]
+
+module _ (p : Plan) (ranks : Ranks) (limit spare : ℕ) (cert : IsCertified p ranks limit spare) where
   -- HOW FAR A CALL GOES
   -- the hops so far, and the rank that is left
   pub hops_within : (c : Call) → IsRanked p ranks c → (code : ℕ) → code_of p c.keyed ≡ Some code → (a : ℕ) → ranks code (exchange_of p c) ≡ Some a → a + length c.hops ≤ limit + 1
@@ -242,7 +254,7 @@ module _ (p : Plan) (ranks : Ranks) (limit spare : ℕ) (cert : IsCertified p ra
                 omega arith
             | inr away ↦
                 let b = bound i.0 i.1 in
-                let up = above_home code (last_exchange k.far hops) i.0 within i.1 (λ q. away (sym q)) in
+                let up = above_home p ranks limit spare cert code (last_exchange k.far hops) i.0 within i.1 (λ q. away (sym q)) in
                 let few = filter_few (is_transit p (start_of p c) (Some code)) (map (λ h. h.far) (k ∷ hops)) in
                 let n = length_far (k ∷ hops) in
                 omega arith

@@ -21,11 +21,11 @@ use Rattle.tx_machine.specs.InUse.{circuits_carried}
 use Rattle.tx_machine.specs.Members.{NoneTwice}
 use Rattle.tx_machine.specs.Lines.{lines_of}
 use Rattle.tx_machine.specs.Passed.{Joins}
-use Rattle.tx_machine.specs.Safe.{IsKeyedLine, IsOnlyLine, OfConnected, JoinsAndCarriesOnce, TakesPartOnce, FallsInRank, RanksFall, IsSafeCall, IsSafe}
+use Rattle.tx_machine.specs.Safe.{IsKeyedLine, IsOnlyLine, OfConnected, JoinsAndCarriesOnce, TakesPartOnce, FallsInRank, IsSafeCall, IsSafe}
 use Rattle.tx_machine.proofs.Lists.{any_none, none_any, any_mem, all_from_mem, indexes_differ}
 use Rattle.tx_machine.proofs.Steps.{all_mem}
-use Rattle.tx_machine.specs.inner.Invariant.{IsRising, Holds}
-use Rattle.tx_machine.proofs.Ranks.{AllRanked, few_transits, passed_once}
+use Rattle.tx_machine.specs.inner.Invariant.{IsKept, IsRising, Holds, IsRanked}
+use Rattle.tx_machine.proofs.Ranks.{few_transits, passed_once}
 
 -- what holds of each line that a call is connected to
 of_connected : {Q : Line → Type 0} (phase : Phase) → ((l : Line) → phase ≡ Connected l → Q l) → OfConnected phase Q
@@ -111,31 +111,31 @@ module _ (p : Plan) (s : State) (h : Holds p s) where
   }
 
 -- IN EVERY RUN OF A CERTIFIED PLAN
-module _ (p : Plan) (ok : IsPlan p) (ranks : Ranks) (limit spare : ℕ) (cert : IsCertified p ranks limit spare) (s : State) (h : Holds p s) (ranked : AllRanked p ranks limit spare cert s.calls) where
-  only_line : (c : Call) → Among c s.calls → (l : Line) → c.phase ≡ Connected l → IsOnlyLine p c l
-  only_line c m l e n hn f =
-      let a = (h.each c m).connected l e in
+module _ (p : Plan) (ok : IsPlan p) (ranks : Ranks) (limit spare : ℕ) (cert : IsCertified p ranks limit spare) (c : Call) (kept : IsKept p c) (ranked : IsRanked p ranks c) where
+  only_line : (l : Line) → c.phase ≡ Connected l → IsOnlyLine p c l
+  only_line l e n hn f =
+      let a = kept.connected l e in
       one_line p ok ranks limit spare cert l n a.known hn (a.keyed ∙ sym f)
 
-  pub ranks_fall : RanksFall p ranks limit s
-  ranks_fall = all_from_mem (FallsInRank p ranks limit) s.calls (λ c m. record {
-    falls = (ranked c m).falls;
-    once = passed_once p ranks limit spare cert c (ranked c m);
-    few = few_transits p ranks limit spare cert c (ranked c m);
-    only = of_connected c.phase (only_line c m);
-  })
-
-  safe_call : (c : Call) → Among c s.calls → IsSafeCall p limit c
-  safe_call c m = record {
-    joined = (h.each c m).joined;
-    once = passed_once p ranks limit spare cert c (ranked c m);
-    few = few_transits p ranks limit spare cert c (ranked c m);
-    right = of_connected c.phase (λ l e. ((h.each c m).connected l e, only_line c m l e));
+  pub call_falls : FallsInRank p ranks limit c
+  call_falls = record {
+    falls = ranked.falls;
+    once = passed_once p ranks limit spare cert c ranked;
+    few = few_transits p ranks limit spare cert c ranked;
+    only = of_connected c.phase only_line;
   }
 
-  pub safe_state : IsSafe p limit s
-  safe_state = record {
-    calls = all_from_mem (IsSafeCall p limit) s.calls safe_call;
-    circuits = (carried_once p s h).once;
-    lines = (part_once p s h).once;
+  pub safe_call : IsSafeCall p limit c
+  safe_call = record {
+    joined = kept.joined;
+    once = passed_once p ranks limit spare cert c ranked;
+    few = few_transits p ranks limit spare cert c ranked;
+    right = of_connected c.phase (λ l e. (kept.connected l e, only_line l e));
   }
+
+pub safe_state : (p : Plan) (limit : ℕ) (s : State) → Holds p s → ((c : Call) → Among c s.calls → IsSafeCall p limit c) → IsSafe p limit s
+safe_state p limit s h safe = record {
+  calls = all_from_mem (IsSafeCall p limit) s.calls safe;
+  circuits = (carried_once p s h).once;
+  lines = (part_once p s h).once;
+}

@@ -9,3 +9,5 @@ pub mod StageCerts
 pub mod Confirming
 pub mod Staging
 pub mod Verdicts
+pub mod StagedRuns
+pub mod StagedTurns

@@ -1,6 +1,7 @@
 pub mod Levels
 pub mod Stages
 pub mod Orders
+pub mod StagedRuns
 pub mod Fronts
 pub mod Transitions
 pub mod Joined

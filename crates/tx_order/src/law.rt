@@ -1,13 +1,15 @@
 // What is promised of an order.
-ghost use Rattle.std.specs.Prelude.{◌≡◌, ◌↔◌, ◌<◌, ◌≤◌, ◌+◌, ℕ, List, length};
+ghost use Rattle.std.specs.Prelude.{◌≡◌, ◌↔◌, ◌<◌, ◌≤◌, ◌+◌, ℕ, List, map, length};
 ghost use Rattle.tx_plan.specs.Plan.{Plan};
 ghost use Rattle.tx_plan.specs.Rules.{IsPlan};
 ghost use Rattle.tx_plan.specs.Certified.{Ranks, IsCertified};
 ghost use Rattle.tx_plan.specs.Mixtures.{SameNetwork, IsMixture, AreCommon};
-ghost use Rattle.tx_machine.specs.ChangingRuns.{IsSoundChange, HasFewRoutesMeanwhile, SufficesMeanwhile};
+ghost use Rattle.tx_machine.specs.State.{opening};
+ghost use Rattle.tx_machine.specs.ChangingRuns.{changing_run};
 ghost use Rattle.tx_order.specs.Levels.{levels_of};
 ghost use Rattle.tx_order.specs.Stages.{AreBothCertified, plan_at, ranks_at};
 ghost use Rattle.tx_order.specs.Orders.{IsListSwitched, IsBarSwitched, IsOrder, HasOrder, CanBothBeCertified};
+ghost use Rattle.tx_order.specs.StagedRuns.{AreInStages, AreSoundStages, HaveFewRoutes, SufficeInStages, StagedTurn, AreStagedTurns};
 ghost use Rattle.tx_order.specs.Transitions.{Transition};
 ghost use Rattle.tx_order.specs.Joined.{IsSafeBetween, AreStages};
 
@@ -55,19 +57,24 @@ pub fn levels_lead_over()
         → IsBarSwitched old new (plan_at old new before after limit) (levels_of limit) x c }
 {}
 
-/// Each stage of an order is sound with calls up, whichever of its lists and bars are switched at
-/// each event: every state is safe and every NC is excused by the list then in force, at most twice
-/// `limit` and three Routes of one call are accepted, and spare groups suffice.
+/// An order is sound over all its stages, on and back, with calls up: if each call has a stage, and
+/// while the call is being set up, only mixtures of the plans before and after that stage are in
+/// force, then every state is safe and every NC is excused by the list then in force, at most twice
+/// `limit` and three Routes of one call are accepted, and spare groups suffice. Each stage by
+/// itself is the case where all calls have that stage.
 pub fn orders_are_sound()
-    ensures sound { (old new : Plan) (plans : ℕ → Plan) (stages limit spare stage : ℕ)
-        → IsOrder old new plans stages limit spare → stage < stages
-        → IsSoundChange (plans stage) (plans (stage + 1)) limit spare }
-    ensures few_routes { (old new : Plan) (plans : ℕ → Plan) (stages limit spare stage : ℕ)
-        → IsOrder old new plans stages limit spare → stage < stages
-        → HasFewRoutesMeanwhile (plans stage) (plans (stage + 1)) limit }
-    ensures suffice { (old new : Plan) (plans : ℕ → Plan) (stages limit spare stage : ℕ)
-        → IsOrder old new plans stages limit spare → stage < stages
-        → SufficesMeanwhile (plans stage) (plans (stage + 1)) spare }
+    ensures sound { (old new : Plan) (plans : ℕ → Plan) (stages limit spare : ℕ)
+        → IsOrder old new plans stages limit spare → AreSoundStages plans stages limit spare }
+    ensures few_routes { (old new : Plan) (plans : ℕ → Plan) (stages limit spare : ℕ)
+        → IsOrder old new plans stages limit spare → HaveFewRoutes plans stages limit }
+    ensures suffice { (old new : Plan) (plans : ℕ → Plan) (stages limit spare : ℕ)
+        → IsOrder old new plans stages limit spare → SufficeInStages plans stages spare }
+    // it is enough that no call is being set up when a stage begins
+    ensures by_stage { (old new : Plan) (plans : ℕ → Plan) (stages limit spare : ℕ)
+        (numbers count : ℕ) (turns : List StagedTurn) → IsOrder old new plans stages limit spare
+        → AreStagedTurns plans stages 0 (opening numbers count) turns
+        → AreInStages plans stages
+        (changing_run (opening numbers count) (map (λ t. t.turn) turns)) }
 {}
 
 /// There is an order exactly where some ranks certify the old plan and some the new one.
