@@ -5,7 +5,6 @@ ghost use Rattle.std.specs.Option.{option_map, IfSome};
 ghost use Rattle.tx_machine.specs.declared.event.Event.{Event};
 ghost use Rattle.tx_script.specs.Events.{IsWritable};
 ghost use Rattle.tx_rank.specs.Findings.{IsTrueOf};
-ghost use Rattle.tx_rank.specs.Walks.{end_of};
 ghost use Rattle.tx_audit.specs.Counter.{walked, counter_of, has_counter};
 ghost use Rattle.tx_audit.specs.Breaks.{Shows};
 
@@ -14,21 +13,9 @@ use crate::steps::{push_block_all, push_walk};
 use crate::turns::turns_on_one;
 use std::alloc::Allocator;
 use tx_machine::Event;
-use tx_plan::{CodeId, ExchangeId, Plan};
+use tx_plan::{CodeId, Plan};
 use tx_rank::{Finding, Walk};
 use tx_text::{Figures, NoMemory};
-
-/// The exchange where a walk ends.
-fn end_of<A: Allocator>(walk: &Walk<A>) -> ExchangeId
-    ensures { result ≡ end_of walk.now.start walk.now.steps }
-{
-    let steps = walk.steps.as_slice();
-    if steps.is_empty() {
-        return walk.start;
-    }
-    let last = steps[steps.len() - 1];
-    last.1
-}
 
 /// A line keys the code, and its call goes along the walk.
 fn walked<A: Allocator + Copy>(
@@ -74,7 +61,7 @@ fn events_of<A: Allocator + Copy>(
             let Some(mut script) = walked(alloc, plan, *code, walk)? else {
                 return Ok(None);
             };
-            push_block_all(plan, *code, end_of(walk), &mut script)?;
+            push_block_all(plan, *code, walk.end(), &mut script)?;
             Ok(Some(script))
         }
         Finding::Long(code, walk) => walked(alloc, plan, *code, walk),

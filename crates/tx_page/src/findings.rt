@@ -4,7 +4,7 @@ ghost use Rattle.tx_plan.specs.Plan.{figures_of, group_name};
 ghost use Rattle.tx_html.specs.Shows.{Showed};
 ghost use Rattle.tx_page.specs.WrongTexts.{step_texts, steps_texts, walk_texts, loop_texts, short_texts, long_texts, finding_texts, findings_texts, wrong_texts};
 
-use crate::walks::{end_of, listed_before, start_of, steps_of};
+use crate::walks::{listed_before, start_of, steps_of};
 use std::alloc::Allocator;
 use tx_html::{PageSink, Part, set};
 use tx_plan::{CodeId, ExchangeId, GroupId, Limits, Plan};
@@ -109,7 +109,7 @@ fn write_loop<A: Allocator, W: PageSink>(
             Part::Own("<li>A call for "),
             Part::Text(plan.code_figures(code)),
             Part::Own(" can come back to "),
-            Part::Text(plan.exchange_name(end_of(walk))),
+            Part::Text(plan.exchange_name(walk.end())),
             Part::Own("."),
         ],
         sink,
@@ -127,7 +127,7 @@ fn write_short<A: Allocator, W: PageSink>(
     ensures { Showed W.seen sink.old sink.new
         (short_texts plan.now spare code walk.now) result }
 {
-    let end = end_of(walk);
+    let end = walk.end();
     let list = plan.list(end, code);
     set(
         &[
@@ -161,7 +161,7 @@ fn write_long<A: Allocator, W: PageSink>(
             Part::Own(" can pass more transits than the limit. Groups on its way: "),
             Part::Count(steps_of(walk).len() as u64),
             Part::Own(". Then it is at "),
-            Part::Text(plan.exchange_name(end_of(walk))),
+            Part::Text(plan.exchange_name(walk.end())),
             Part::Own(", and not yet at the home "),
             Part::Text(plan.exchange_name(plan.home(code))),
             Part::Own("."),

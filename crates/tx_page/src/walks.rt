@@ -1,6 +1,5 @@
 // Which steps the findings take.
 ghost use Rattle.std.specs.Prelude.{◌≡◌};
-ghost use Rattle.tx_rank.specs.Walks.{end_of};
 ghost use Rattle.tx_page.specs.WrongTexts.{listed_before};
 
 use std::alloc::Allocator;
@@ -19,18 +18,6 @@ pub fn steps_of<A: Allocator>(walk: &Walk<A>) -> &[(GroupId, ExchangeId)]
     ensures { result.now ≡ walk.now.steps }
 {
     walk.steps.as_slice()
-}
-
-/// The exchange where a walk ends.
-pub fn end_of<A: Allocator>(walk: &Walk<A>) -> ExchangeId
-    ensures { result ≡ end_of walk.now.start walk.now.steps }
-{
-    let steps = walk.steps.as_slice();
-    if steps.is_empty() {
-        return walk.start;
-    }
-    let last = steps[steps.len() - 1];
-    last.1
 }
 
 /// The groups that a list has before one of them.

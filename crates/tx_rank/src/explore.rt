@@ -8,7 +8,7 @@ ghost use Rattle.tx_rank.specs.inner.Marks.{IsMarked, IsInHand, IsTrail, IsOnwar
 use crate::list_scan::{Look, Tried, look_on, rank_at, untried};
 use crate::mark::Mark;
 use crate::routes::CodeNet;
-use crate::walk::{Steps, Walk};
+use crate::walk::{Steps, Walk, end};
 use std::alloc::Allocator;
 use tx_plan::{ExchangeId, GroupId};
 use tx_text::NoMemory;
@@ -84,16 +84,6 @@ impl<A: Allocator> Search<'_, A> {
             start,
             steps: Steps::of(steps),
         }
-    }
-}
-
-/// Where the current walk ends.
-fn end(start: ExchangeId, steps: &[(GroupId, ExchangeId)]) -> ExchangeId
-    ensures { result ≡ end_of start steps.now }
-{
-    match steps.last() {
-        Some(step) => step.1,
-        None => start,
     }
 }
 

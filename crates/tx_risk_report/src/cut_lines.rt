@@ -54,22 +54,10 @@ fn write_cut_at<A: Allocator, W: Sink>(
         (if end_of cut.now.walk.start cut.now.walk.steps == exchange
         then cut_line plan.now cut.now else []) result }
 {
-    if end_of(&cut.walk) != exchange {
+    if cut.walk.end() != exchange {
         return Ok(());
     }
     write_line(plan, cut, sink)
-}
-
-/// The exchange where a walk ends.
-fn end_of<A: Allocator>(walk: &Walk<A>) -> ExchangeId
-    ensures { result ≡ end_of walk.now.start walk.now.steps }
-{
-    let steps = walk.steps.as_slice();
-    if steps.is_empty() {
-        walk.start
-    } else {
-        steps[steps.len() - 1].1
-    }
 }
 
 /// Writes whom it cuts off, with the walk.

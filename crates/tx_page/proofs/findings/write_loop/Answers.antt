@@ -9,5 +9,5 @@ returns-in_err-set g c = showed_stopped _ _ _ _ c.in_err-set.ensures c.from_resi
 
 pub returns : goal.returns
 returns g c =
-    showed_then _ _ _ (figures_of c.args.plan.now c.args.code ∷ exchange_name c.args.plan.now (end_of c.args.walk.now.start c.args.walk.now.steps) ∷ []) _ _ (rw (c.code_figures.ensures.value, c.exchange_name.ensures.value, c.end_of.ensures) at c.in_ok-set.ensures)
+    showed_then _ _ _ (figures_of c.args.plan.now c.args.code ∷ exchange_name c.args.plan.now (end_of c.args.walk.now.start c.args.walk.now.steps) ∷ []) _ _ (rw (c.code_figures.ensures.value, c.exchange_name.ensures.value, c.end.ensures) at c.in_ok-set.ensures)
     (c.write_walk.ensures)

@@ -11,5 +11,5 @@ returns-in_err-set g c = showed_stopped _ _ _ _ c.in_err-set.ensures c.from_resi
 
 pub returns : goal.returns
 returns g c =
-    showed_then _ _ _ (figures_of c.args.plan.now c.args.code ∷ exchange_name c.args.plan.now (end_of c.args.walk.now.start c.args.walk.now.steps) ∷ decimal (length (last_list c.args.plan.now c.args.code c.args.walk.now)) ∷ decimal c.args.spare ∷ []) _ _ (rw (c.code_figures.ensures.value, c.exchange_name.ensures.value, c.list-list.ensures.value, c.end_of-end.ensures, c.from.ensures) at c.in_ok-set.ensures)
-    ((rw (c.list-list.ensures.value, c.end_of-end.ensures) at c.write_walk.ensures))
+    showed_then _ _ _ (figures_of c.args.plan.now c.args.code ∷ exchange_name c.args.plan.now (end_of c.args.walk.now.start c.args.walk.now.steps) ∷ decimal (length (last_list c.args.plan.now c.args.code c.args.walk.now)) ∷ decimal c.args.spare ∷ []) _ _ (rw (c.code_figures.ensures.value, c.exchange_name.ensures.value, c.list-list.ensures.value, c.end-end.ensures, c.from.ensures) at c.in_ok-set.ensures)
+    ((rw (c.list-list.ensures.value, c.end-end.ensures) at c.write_walk.ensures))

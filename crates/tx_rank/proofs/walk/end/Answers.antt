@@ -1,6 +1,6 @@
 use Rattle.std.proofs.Common.{◌-◌, ◌≡◌, suc, length, sym, arith}
 use Rattle.tx_rank.proofs.Ways.{end_last}
-use Rattle.tx_rank.proofs.explore.end.Goals as goal
+use Rattle.tx_rank.proofs.walk.end.Goals as goal
 
 pub returns-in-Some : goal.returns-in-Some
 returns-in-Some c =
