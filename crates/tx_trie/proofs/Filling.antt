@@ -1,7 +1,7 @@
 -- The nodes, as one code of a plan after another is put in.
-use Rattle.std.proofs.Common.{◌≡◌, ◌≢◌, ℕ, ◌+◌, ◌<◌, ◌==◌, Bool, true, false, ◌⊎◌, List, [], ◌∷◌, ◌++◌, take, map, length, length-set, length-replicate, get_or, replicate, Option, Some, None, refl, ap, sym, ◌∙◌, inl, inr, eqb-true, arith}
+use Rattle.std.proofs.Common.{◌≡◌, ◌≢◌, ℕ, ◌+◌, ◌<◌, ◌==◌, Bool, true, false, ◌⊎◌, List, [], ◌∷◌, ◌++◌, take, map, length, length-set, get_or, replicate, Option, Some, None, refl, ap, sym, ◌∙◌, subst, inl, inr, eqb-true, arith}
 use Rattle.std.proofs.lemmas.Bool.{eqb-false, cases_lt}
-use Rattle.std.proofs.lemmas.List.{get_or-replicate, get_or_past, get_or-set_same, get_or-set_other, map_push}
+use Rattle.std.proofs.lemmas.List.{length-replicate, get_or-replicate, get_or_past, get_or-set_same, get_or-set_other, map_push, take_all}
 use Rattle.std.proofs.lemmas.Option.{same_Some, slice_get_within}
 use Rattle.std.specs.Prelude.{slice_get, slice_set, slice_index_or, position}
 use Rattle.std.specs.Str.{bytes_eq}
@@ -9,7 +9,7 @@ use Rattle.tx_plan.specs.Plan.{Plan, Code, figures_of, home_of}
 use Rattle.tx_plan.specs.Rules.{IsPlan, IsCode, is_code}
 use Rattle.tx_plan.specs.inner.Tables.{code_of_row}
 use Rattle.tx_plan.proofs.ByIndex.{entry_at, all_at, index_back, take_next}
-use Rattle.tx_trie.specs.inner.Nodes.{node_of, AreFirst}
+use Rattle.tx_trie.specs.inner.Nodes.{node_of, AreFirst, IsTrie}
 use Rattle.tx_trie.proofs.Nodes.{spelled, node_within, node_once}
 
 -- the code at an index
@@ -25,12 +25,12 @@ rows_more p n within rows new figures home are push f h =
 pub no_code : (codes : List Code) (nodes : List (Option ℕ)) → nodes ≡ replicate 2000 None → length nodes ≡ 2000 → AreFirst codes 0 nodes
 no_code codes nodes bare long = record {
   long = long;
-  gives = λ m i h. let none : get_or nodes m None ≡ None = ap (λ t. get_or t m None) bare ∙ nothing 2000 m in let bad : ⊥ = cc in absurd bad;
+  gives = λ m i h. let none : get_or nodes m None ≡ None = ap (λ t. get_or t m None) bare ∙ nothing None 2000 m in let bad : ⊥ = cc in absurd bad;
   finds = λ i c l at. absurd (omega arith);
 }
   where
-    nothing : (n m : ℕ) → get_or (replicate n None) m None ≡ None {A = ℕ}
-    nothing n m = elim (cases_lt m n) [ inl l ↦ get_or-replicate n m None None l | inr r ↦ get_or_past (replicate n None) m None (simp length-replicate (omega arith)) ]
+    nothing : {A : Type 0} (a : A) (n m : ℕ) → get_or (replicate n a) m a ≡ a
+    nothing a n m = elim (cases_lt m n) [ inl l ↦ get_or-replicate n m a a l | inr r ↦ get_or_past (replicate n a) m a (simp length-replicate (omega arith)) ]
 
 module _ (p : Plan) (rules : IsPlan p) where
   pub form : (i : ℕ) (c : Code) → slice_get p.codes i ≡ Some c → is_code c.figures ≡ true
@@ -70,3 +70,15 @@ module _ (p : Plan) (rules : IsPlan p) where
           let same : i ≡ n = omega arith in
           let is = same_Some d c (sym there ∙ ap (slice_get p.codes) same ∙ at) in
           ap (λ (r : Code). get_or (slice_set nodes (node_of c.figures) (Some n)) (node_of r.figures) None) is ∙ get_or-set_same nodes (node_of c.figures) (Some n) None low ∙ ap Some (sym same)
+
+  -- the same, as a write says it
+  pub filled : (n : ℕ) → n < length p.codes → (nodes new : List (Option ℕ)) (at code : ℕ) (figures : List ℕ) → AreFirst p.codes n nodes → new ≡ slice_set nodes at (Some code) → at ≡ node_of figures → figures ≡ figures_of p n → code ≡ n → AreFirst p.codes (n + 1) new
+  filled n within nodes new at code figures are is node text index =
+      subst (AreFirst p.codes (n + 1)) (sym (is ∙ (λ k. slice_set nodes ((node ∙ ap (λ w. node_of w) text) k) (Some (index k))))) (one_more n _ nodes (code_is p n within) are)
+
+  -- all codes
+  pub all_in : (n : ℕ) (codes : List Code) (nodes : List (Option ℕ)) → n ≡ length p.codes → codes ≡ take n p.codes → AreFirst p.codes n nodes → (codes ≡ p.codes) × IsTrie codes nodes
+  all_in n codes nodes end are first =
+      let same : codes ≡ p.codes = are ∙ take_all n p.codes (omega arith) in
+      let trie : IsTrie p.codes nodes = record { forms = form; all = subst (λ k. AreFirst p.codes k nodes) end first } in
+      (same, subst (λ l. IsTrie l nodes) (sym same) trie)

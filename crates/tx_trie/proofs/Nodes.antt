@@ -14,6 +14,7 @@ use Rattle.tx_plan.specs.Plan.{Code}
 use Rattle.tx_plan.specs.Rules.{is_code}
 use Rattle.tx_plan.specs.Codes.{is_prefix}
 use Rattle.tx_plan.proofs.Absent.{short_code}
+use Rattle.tx_plan.proofs.Lists.{at_least}
 use Rattle.tx_trie.specs.inner.Nodes.{node_after, node_of, IsTrie}
 use Rattle.tx_trie.proofs.Prefixes.{prefix_is_take, take_is_prefix}
 
@@ -28,7 +29,7 @@ pub data IsSpelled : List ℕ → Type 0 where
   three : (a b c : ℕ) → IsFigure a → IsFigure b → IsFigure c → IsSpelled (a ∷ b ∷ c ∷ [])
 
 pub figure : (x : ℕ) → is_figure x ≡ true → IsFigure x
-figure x h = let p = and_parts (nat_le 48 x) (nat_le x 57) h in record { least = grind (arith, nat_tests); most = grind (arith, nat_tests) }
+figure x h = let p = and_parts (nat_le 48 x) (nat_le x 57) h in record { least = at_least 48 x p.0; most = at_least x 57 p.1 }
 
 pub spelled : (text : List ℕ) → is_code text ≡ true → IsSpelled text
 spelled [] h = absurd (false≢true h)
@@ -66,7 +67,7 @@ at_node codes nodes is m i h = by (slice_get codes i) refl (is.all.gives m i h).
   where
     by : (o : Option Code) → slice_get codes i ≡ o → option_map (λ (c : Code). node_of c.figures) o ≡ Some m → (c : Code) × (slice_get codes i ≡ Some c) × (node_of c.figures ≡ m)
     by None e k = let bad : ⊥ = cc in absurd bad
-    by (Some c) e k = (c, e, same_Some _ _ k)
+    by (Some c) e k = (c, e, same_Some (node_of c.figures) m k)
 
 -- the first two of three figures
 pub record IsFront (text : List ℕ) : Type 0 where
@@ -100,11 +101,11 @@ pub nodes_in_order : (s t : List ℕ) → IsSpelled s → IsSpelled t → 1000 �
 nodes_in_order s t (two a b f g) v h k e = absurd (omega arith)
 nodes_in_order s t u (two a b f g) h k e = absurd (omega arith)
 nodes_in_order s t (three a b c f g h) (three x y z k l m) p q e =
-    elim (first_apart a x _ e) [
+    elim (first_apart a x (slice_cmp nat_cmp (b ∷ c ∷ []) (y ∷ z ∷ [])) e) [
       | inl lt ↦ omega arith
-      | inr r ↦ elim (first_apart b y _ r.1) [
+      | inr r ↦ elim (first_apart b y (slice_cmp nat_cmp (c ∷ []) (z ∷ [])) r.1) [
         | inl lt ↦ (let same = r.0 in omega arith)
-        | inr w ↦ elim (first_apart c z _ w.1) [
+        | inr w ↦ elim (first_apart c z Equal w.1) [
           | inl lt ↦ (let same = r.0 in let alike = w.0 in omega arith)
           | inr bad ↦ absurd (false≢true bad.1)
         ]

@@ -1,6 +1,7 @@
 -- The least ambiguous pair, as one node after another is looked at for the longer code.
-use Rattle.std.proofs.Common.{◌≡◌, ℕ, zero, suc, ◌+◌, ◌<◌, ◌≤◌, ◌/◌, true, false, ◌&&◌, nat_lt, List, [], ◌∷◌, take, length, Option, Some, None, refl, ap, sym, ◌∙◌, inl, inr, arith}
+use Rattle.std.proofs.Common.{◌≡◌, ℕ, zero, suc, ◌+◌, ◌<◌, ◌≤◌, ◌/◌, true, false, ◌&&◌, nat_lt, List, [], ◌∷◌, take, length, get_or, Option, Some, None, refl, ap, sym, ◌∙◌, inl, inr, arith}
 use Rattle.std.proofs.lemmas.Bool.{false≢true, false_from_ne_true, cases_lt}
+use Rattle.std.proofs.lemmas.List.{get_or_read}
 use Rattle.std.proofs.lemmas.Option.{same_Some, slice_get_within}
 use Rattle.std.specs.Prelude.{slice_get, slice_index_or}
 use Rattle.std.specs.Option.{option_zip, is_some}
@@ -42,14 +43,14 @@ module _ (codes : List Code) (nodes : List (Option ℕ)) (is : IsTrie codes node
   parts i j c d h = begins_longer c.figures d.figures (spelled c.figures (is.forms i c h.first)) (spelled d.figures (is.forms j d h.second)) h.begins
 
   pub three_figures : AreFrom codes 1000
-  three_figures i j c d h = (parts i j c d h).1
+  three_figures = λ i j c d h. (parts i j c d h).1
 
   -- a pair stands at the node of its longer code
   stands : (i j : ℕ) (c d : Code) → IsAmbiguousAt codes i j c d → (slice_index_or nodes (node_of d.figures / 10) None ≡ Some i) × (slice_index_or nodes (node_of d.figures) None ≡ Some j)
   stands i j c d h =
       let p = parts i j c d h in
       let f = front d.figures (spelled d.figures (is.forms j d h.second)) p.1 in (
-        ap (λ n. slice_index_or nodes n None) (sym f.at ∙ ap node_of (sym p.0)) ∙ is.all.finds i c (slice_get_within codes i c h.first) h.first,
+        ap (λ n. slice_index_or nodes n None) (sym f.at ∙ ap (λ w. node_of w) (sym p.0)) ∙ is.all.finds i c (slice_get_within codes i c h.first) h.first,
         is.all.finds j d (slice_get_within codes j d h.second) h.second,
       )
 
@@ -67,9 +68,15 @@ module _ (codes : List Code) (nodes : List (Option ℕ)) (is : IsTrie codes node
   abbrev pub both : ℕ → Option (ℕ × ℕ)
   both m = option_zip (slice_index_or nodes (m / 10) None) (slice_index_or nodes m None)
 
+  -- as they are read
+  pub read_both : (m : ℕ) → m < 2000 → (a b : Option ℕ) → a ≡ get_or nodes (m / 10) a → b ≡ get_or nodes m b → option_zip a b ≡ both m
+  read_both m low a b first second =
+      let long = is.all.long in
+      λ k. option_zip (get_or_read nodes (m / 10) a (omega arith) first None k) (get_or_read nodes m b (omega arith) second None k)
+
   -- no pair before it, and none there
   pub none_there : (m : ℕ) → AreFrom codes m → is_some (both m) ≡ false → AreFrom codes (m + 1)
-  none_there m from none i j c d h =
+  none_there m from none = λ i j c d h.
       elim (cases_lt m (node_of d.figures)) [
         | inl l ↦ omega arith
         | inr r ↦ (let low = from i j c d h in let e : node_of d.figures ≡ m = omega arith in let s = stands i j c d h in
@@ -84,7 +91,7 @@ module _ (codes : List Code) (nodes : List (Option ℕ)) (is : IsTrie codes node
       let q = parts k l e f h in
       let r = parts i j p.0 p.1 p.2 in
       let before = nodes_in_order f.figures p.1.figures (spelled f.figures (is.forms l f h.second)) (spelled p.1.figures (is.forms j p.1 p.2.second)) q.1 r.1
-      (sym ((λ n. ordering_then (order (q.0 n) (r.0 n)) (order f.figures p.1.figures)) ∙ order_take 2 f.figures p.1.figures) ∙ lt) in
+      (sym (ap is_lt ((λ n. ordering_then (order (q.0 n) (r.0 n)) (order f.figures p.1.figures)) ∙ order_take 2 f.figures p.1.figures)) ∙ lt) in
       let at = p.3 in
       let least = from k l e f h in
       absurd (omega arith)))

@@ -6,7 +6,7 @@ use Rattle.std.proofs.lemmas.List.{take_min}
 use Rattle.std.proofs.lemmas.Option.{slice_get_within}
 use Rattle.std.specs.Prelude.{slice_get, slice_index_or, filter, if◌then◌else◌}
 use Rattle.std.specs.List.{enumerate_from}
-use Rattle.std.specs.Option.{option_map}
+use Rattle.std.specs.Option.{option_map, is_some}
 use Rattle.tx_plan.specs.Among.{Among}
 use Rattle.tx_plan.specs.Plan.{Code}
 use Rattle.tx_plan.specs.Codes.{is_prefix, codes_before, longer, longest, code_of}
@@ -81,30 +81,29 @@ module _ (codes : List Code) (nodes : List (Option ℕ)) (is : IsTrie codes node
       let w : length f.0.figures ≡ min n (length text) = ap length f.2 ∙ length-take n text in
       (c.0, c.1, omega (arith, c.2))
 
-  -- three figures
-  pub read_three : (i : ℕ) → look nodes (take 3 text) ≡ Some i → code_of (plan_of codes) text ≡ Some i
-  read_three i h =
-      let b = best 3 i h in
+  -- the first three figures are a code
+  pub read_three : (o : Option ℕ) → o ≡ look nodes (take 3 text) → is_some o ≡ true → o ≡ code_of (plan_of codes) text
+  read_three None h some = absurd (false≢true some)
+  read_three (Some i) h some =
+      let b = best 3 i (sym h) in
       let t = here b.0 (longest_among those b.0 b.1) in
       let short = short_code b.0.1.figures t.1 in
       let same : width b.0 ≡ min 3 (length text) = omega (arith, b.2, t.2) in
-      ap (option_map (λ e. e.0)) b.1 ∙ sym t.0 ∙ ap (λ n. look nodes (take n text)) same ∙ ap (look nodes) (take_min 3 text) ∙ h
+      h ∙ ap (look nodes) (sym (take_min 3 text)) ∙ ap (λ n. look nodes (take n text)) (sym same) ∙ t.0 ∙ ap (option_map (λ e. e.0)) (sym b.1)
 
-  -- two figures, or none
-  pub read_two : look nodes (take 3 text) ≡ None → code_of (plan_of codes) text ≡ look nodes (take 2 text)
-  read_two none = by (longest those) refl
+  -- they are none
+  pub read_two : (o : Option ℕ) → o ≡ look nodes (take 3 text) → is_some o ≡ false → look nodes (take 2 text) ≡ code_of (plan_of codes) text
+  read_two (Some i) h none = absurd (false≢true (sym none))
+  read_two None h none = by (longest those) refl
     where
-      only : (e : ℕ × Code) → IsSpelled e.1.figures → look nodes (take (width e) text) ≡ Some e.0 → Some e.0 ≡ look nodes (take 2 text)
-      only e s h = at e.1.figures s h
-        where
-          at : (w : List ℕ) → IsSpelled w → look nodes (take (length w) text) ≡ Some e.0 → Some e.0 ≡ look nodes (take 2 text)
-          at w (two a b f g) h = sym h
-          at w (three a b c f g l) h = let bad : ⊥ = cc in absurd bad
+      only : (e : ℕ × Code) (w : List ℕ) → IsSpelled w → look nodes (take (length w) text) ≡ Some e.0 → look nodes (take 2 text) ≡ Some e.0
+      only e w (two a b f g) found = found
+      only e w (three a b c f g l) found = let bad : ⊥ = cc in absurd bad
 
-      by : (o : Option (ℕ × Code)) → longest those ≡ o → option_map (λ e. e.0) o ≡ look nodes (take 2 text)
+      by : (o : Option (ℕ × Code)) → longest those ≡ o → look nodes (take 2 text) ≡ option_map (λ e. e.0) o
       by None l = nothing (look nodes (take 2 text)) refl
         where
-          nothing : (o : Option ℕ) → look nodes (take 2 text) ≡ o → None ≡ look nodes (take 2 text)
-          nothing None h = sym h
+          nothing : (o : Option ℕ) → look nodes (take 2 text) ≡ o → o ≡ None
+          nothing None h = refl
           nothing (Some i) h = let b = best 2 i h in let s = b.1 in let bad : ⊥ = cc in absurd bad
-      by (Some e) l = let t = here e (longest_among those e l) in only e (spelled e.1.figures t.1) t.0
+      by (Some e) l = let t = here e (longest_among those e l) in only e e.1.figures (spelled e.1.figures t.1) t.0
