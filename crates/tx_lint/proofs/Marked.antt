@@ -5,9 +5,11 @@ use Rattle.std.specs.List.{list_any, AllByRecursion}
 use Rattle.std.specs.Option.{option_map, option_map_or}
 use Rattle.std.proofs.Math.Dec.{eqb-zero-suc, eqb-suc-zero, eqb-suc-suc}
 use Rattle.std.proofs.Math.ListN.{set}
+use Rattle.std.proofs.Math.Seq.{get_or-append_seam}
 use Rattle.std.proofs.lemmas.Bool.{cases_lt, false_from_ne_true}
 use Rattle.std.proofs.lemmas.List.{map-append}
 use Rattle.std.proofs.lemmas.List.Folds.{list_any_more}
+use Rattle.std.proofs.lemmas.Option.{slice_get-get_or}
 use Rattle.tx_plan.proofs.Lists.{all_map}
 use Rattle.tx_plan.specs.Plan.{Plan, Route}
 use Rattle.tx_plan.specs.Routes.{route_list, is_origin}
@@ -15,7 +17,6 @@ use Rattle.tx_plan.specs.Rules.{IsPlan, IsRoute}
 use Rattle.tx_plan.proofs.ByIndex.{entry_at, all_at}
 use Rattle.tx_plan.proofs.ListFound.{list_found}
 use Rattle.tx_plan.proofs.Growing.{seizes_within}
-use Rattle.tx_trie.proofs.Stepping.{slice_get_last}
 use Rattle.tx_rank.specs.Walks.{net_of}
 use Rattle.tx_rank.specs.Heights.{IsReached}
 use Rattle.tx_rank.specs.Judged.{AreOrigins}
@@ -62,7 +63,8 @@ coming_next p i marks m so r = record {
         subst (λ o. (option_map_or (λ k. is_marked k x) o false ≡ true) ↔ IsReached (net_of p c) x) (sym front) (so.each c x l)
     | inr ge ↦
         let same : c ≡ length marks = omega (arith, h, ge, so.long) in
-        let here : slice_get (marks ++ m ∷ []) c ≡ Some m = ap (slice_get (marks ++ m ∷ [])) same ∙ slice_get_last marks m in
+        let here : slice_get (marks ++ m ∷ []) c ≡ Some m =
+            (let n = long_push marks m in ap (slice_get (marks ++ m ∷ [])) same ∙ slice_get-get_or (marks ++ m ∷ []) (length marks) m (omega arith) ∙ ap Some (get_or-append_seam marks m [] m)) in
         let own : c ≡ i = omega (arith, h, ge) in
         subst (λ o. (option_map_or (λ k. is_marked k x) o false ≡ true) ↔ IsReached (net_of p c) x) (sym here)
         (subst (λ k. (is_marked m x ≡ true) ↔ IsReached (net_of p k) x) (sym own) (r.reached x, r.all x))

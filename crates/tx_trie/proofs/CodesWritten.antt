@@ -1,6 +1,6 @@
 -- The lines of codes, one after another.
-use Rattle.std.proofs.Common.{◌≡◌, ℕ, ◌+◌, ◌<◌, ◌≤◌, Bool, true, Ok, Err, List, [], ◌∷◌, ◌++◌, take, length, codes, Option, ap, sym, ◌∙◌, subst, append_assoc, append-nil}
-use Rattle.std.proofs.lemmas.List.{take_more, take_all}
+use Rattle.std.proofs.Common.{◌≡◌, ℕ, ◌+◌, ◌<◌, ◌≤◌, Bool, true, Ok, Err, List, [], ◌∷◌, ◌++◌, take, length, get_or, codes, Option, ap, sym, ◌∙◌, subst, append_assoc, append-nil}
+use Rattle.std.proofs.lemmas.List.{take_all}
 use Rattle.std.proofs.lemmas.List.Concat.{flat_map-append}
 use Rattle.std.proofs.lemmas.Option.{get_or_from_slice_get}
 use Rattle.std.specs.Prelude.{IsErr}
@@ -13,10 +13,10 @@ use Rattle.tx_text.specs.Written.{line_written}
 use Rattle.tx_text.proofs.Wrote.{Outcome}
 use Rattle.tx_text.proofs.Writing.{append_known_twice, stops_at, stops_first, stops_later}
 use Rattle.tx_plan.specs.Plan.{Plan, Code, figures_of, exchange_name, home_of}
-use Rattle.tx_plan.specs.Rules.{IsPlan}
 use Rattle.tx_plan.specs.Ambiguous.{ambiguous_of}
 use Rattle.tx_trie.specs.CodesText.{code_line, pair_line, codes_text}
-use Rattle.tx_trie.proofs.Building.{code_there, its_figures, its_home}
+use Rattle.tx_plan.proofs.ByIndex.{take_next}
+use Rattle.tx_trie.proofs.Filling.{code_is}
 
 abbrev line_of : Plan → ℕ → List ℕ
 line_of p code = line_written (codes "CODE" ∷ figures_of p code ∷ exchange_name p (home_of p code) ∷ [])
@@ -31,21 +31,22 @@ pub code_text : (p : Plan) (code home : ℕ) (figures name : List ℕ) → figur
     → line_of p code ≡ codes "CODE " ++ (figures ++ (codes " " ++ (name ++ (codes "\n" ++ []))))
 code_text p code home figures name f h n = rw (n, h, f) (simp append_assoc)
 
-module _ (p : Plan) (rules : IsPlan p) (n code : ℕ) (is : code ≡ n) (within : n < length p.codes) where
-  its_line : line_of p code ≡ code_line p (code_there p rules n within).0
-  its_line = ap (line_of p) is ∙ (λ i. line_written (codes "CODE" ∷ its_figures p rules n within i ∷ exchange_name p (its_home p rules n within i) ∷ []))
+module _ (p : Plan) (n : ℕ) (within : n < length p.codes) where
+  abbrev its : Code
+  its = record { figures = figures_of p n; home = home_of p n }
 
-  pub wrote_code : (a b c : Option (List ℕ)) → b ≡ append_known a (flat_map (code_line p) (take n p.codes)) → c ≡ append_known b (line_of p code) → c ≡ append_known a (flat_map (code_line p) (take (n + 1) p.codes))
+  its_code : get_or p.codes n its ≡ its
+  its_code = get_or_from_slice_get p.codes n its its (code_is p n within)
+
+  pub wrote_code : (a b c : Option (List ℕ)) → b ≡ append_known a (flat_map (code_line p) (take n p.codes)) → c ≡ append_known b (line_of p n) → c ≡ append_known a (flat_map (code_line p) (take (n + 1) p.codes))
   wrote_code a b c before line =
-      let d = code_there p rules n within in
-      let more : take (n + 1) p.codes ≡ take n p.codes ++ d.0 ∷ [] = take_more p.codes n d.0 within ∙ ap (λ e. take n p.codes ++ e ∷ []) (get_or_from_slice_get p.codes n d.0 d.0 d.1) in
-      line ∙ (λ i. append_known (before i) (its_line i)) ∙ append_known_twice a (flat_map (code_line p) (take n p.codes)) (code_line p d.0)
-      ∙ ap (append_known a) (sym (ap (flat_map (code_line p)) more ∙ flat_map-append (code_line p) (take n p.codes) (d.0 ∷ []) ∙ ap (λ t. flat_map (code_line p) (take n p.codes) ++ t) (append-nil (code_line p d.0))))
+      let more = flat_map-append (code_line p) (take n p.codes) (its ∷ []) ∙ ap (λ t. flat_map (code_line p) (take n p.codes) ++ t) (append-nil (code_line p its)) in
+      line ∙ ap (λ s. append_known s (line_of p n)) before ∙ append_known_twice a (flat_map (code_line p) (take n p.codes)) (code_line p its)
+      ∙ ap (append_known a) (sym (ap (flat_map (code_line p)) (take_next p.codes n its (code_is p n within)) ∙ more))
 
-  pub stopped_code : (a b c : Option (List ℕ)) → b ≡ append_known a (flat_map (code_line p) (take n p.codes)) → StopsIn b c (line_of p code) → StopsIn a c (codes_text p)
+  pub stopped_code : (a b c : Option (List ℕ)) → b ≡ append_known a (flat_map (code_line p) (take n p.codes)) → StopsIn b c (line_of p n) → StopsIn a c (codes_text p)
   stopped_code a b c before stop =
-      let d = code_there p rules n within in
-      stops_first (pair_line p (ambiguous_of p.codes)) (stops_at (code_line p) p.codes n d.0 within (sym (get_or_from_slice_get p.codes n d.0 d.0 d.1)) before (rw (sym its_line) stop))
+      stops_first (pair_line p (ambiguous_of p.codes)) (stops_at (code_line p) p.codes n its within (sym its_code) before stop)
 
 module _ (p : Plan) (n : ℕ) (all : length p.codes ≤ n) (trie : List Code) (own : trie ≡ p.codes) (a b c : Option (List ℕ)) (before : b ≡ append_known a (flat_map (code_line p) (take n p.codes))) where
   whole : b ≡ append_known a (flat_map (code_line p) p.codes)

@@ -1,10 +1,6 @@
-pub mod Ways
-pub mod Growing
-pub mod Stepping
-pub mod Holding
 pub mod Prefixes
-pub mod Longest
-pub mod LeastPair
-pub mod Building
-pub mod Looking
+pub mod Nodes
+pub mod Filling
+pub mod Reading
+pub mod Pairs
 pub mod CodesWritten

@@ -10,7 +10,7 @@ loop-index-preserved g c =
     let p = c.args.plan.now in
     let low : c.loop-index.index < length p.codes = (let e = c.codes-index-end.ensures.count in omega arith) in
     record {
-      wrote = wrote_code p c.codes-index-end.ensures.rules c.loop-index.index c.of.result c.of.ensures low _ _ _ c.loop-index.invariant.wrote c.in_ok-write_code.ensures.0;
+      wrote = wrote_code p c.loop-index.index low _ _ _ c.loop-index.invariant.wrote (rw c.of.ensures at c.in_ok-write_code.ensures.0);
       mark = c.in_ok-write_code.ensures.1 ∙ c.loop-index.invariant.mark;
     }
 
@@ -19,7 +19,7 @@ returns-in_err-write_code g c =
     let p = c.args.plan.now in
     let low : c.loop-index.index < length p.codes = (let e = c.codes-index-end.ensures.count in omega arith) in
     let failed = c.in_err-write_code.ensures in
-    stopped _ _ _ _ _ c.from_residual.result (stopped_code p c.codes-index-end.ensures.rules c.loop-index.index c.of.result c.of.ensures low _ _ _ c.loop-index.invariant.wrote failed.0) failed.1 c.from_residual.ensures.0
+    stopped _ _ _ _ _ c.from_residual.result (stopped_code p c.loop-index.index low _ _ _ c.loop-index.invariant.wrote (rw c.of.ensures at failed.0)) failed.1 c.from_residual.ensures.0
 
 pub returns-in_err-write_pair : goal.returns-in_err-write_pair
 returns-in_err-write_pair g c =

@@ -1,5 +1,5 @@
-use Rattle.tx_trie.specs.inner.Least.{IsLeastBelow}
+use Rattle.tx_trie.proofs.Pairs.{AreFrom}
 use Rattle.tx_trie.proofs.trie.CodeTrie.ambiguous.Given as goal
 
-abbrev pub invariant-loop-index : goal.invariant-loop-index
-invariant-loop-index g l = IsLeastBelow l.self l.index l.least
+abbrev pub invariant-loop-node : goal.invariant-loop-node
+invariant-loop-node g l = AreFrom l.self l.node
