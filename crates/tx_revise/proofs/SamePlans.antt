@@ -1,0 +1,51 @@
+-- Two plans of which each has the lists, or the bars, of the other.
+use Rattle.std.proofs.Common.{◌≡◌, ◌∙◌, ℕ, Bool, true, false, ◌==◌, ◌&&◌, ◌||◌, cond, eqb-true, List, [], ◌∷◌, refl, sym, subst}
+use Rattle.std.specs.List.{AllByRecursion, list_any}
+use Rattle.std.proofs.lemmas.Bool.{and_parts}
+use Rattle.tx_plan.specs.declared.ids.Pair.{Pair}
+use Rattle.tx_plan.specs.Plan.{Plan, Route}
+use Rattle.tx_plan.specs.Routes.{route_list, is_barred}
+use Rattle.tx_plan.proofs.Among.{all_among}
+use Rattle.tx_plan.proofs.ListFound.{IsFoundRoute, list_cases}
+
+-- one plan has a list of another one
+abbrev SameList : (p q : Plan) → ℕ → ℕ → Type 0
+SameList p q x c = route_list p x c ≡ route_list q x c
+
+abbrev pub HasLists : (p q : Plan) → Type 0
+HasLists p q = AllByRecursion (λ (r : Route). SameList p q r.exchange r.code) q.routes
+
+at_pair : (p q : Plan) (x c : ℕ) → HasLists p q → IsFoundRoute q x c → SameList p q x c
+at_pair p q x c all f =
+    subst (λ y. SameList p q y c) f.exchange (subst (λ d. SameList p q f.route.exchange d) f.code
+    (all_among (λ (r : Route). SameList p q r.exchange r.code) q.routes f.route all f.among))
+
+pub same_lists : (p q : Plan) → HasLists p q → HasLists q p → (x c : ℕ) → route_list q x c ≡ route_list p x c
+same_lists p q there back x c = elim (list_cases q x c) [
+  | inr f ↦ sym (at_pair p q x c there f)
+  | inl none ↦ elim (list_cases p x c) [
+    | inr f ↦ at_pair q p x c back f
+    | inl e ↦ none ∙ sym e
+  ]
+]
+
+abbrev pub HasBars : (p q : Plan) → Type 0
+HasBars p q = AllByRecursion (λ (b : Pair). is_barred p b.exchange b.code ≡ true) q.bars
+
+barred_too : (p : Plan) (x c : ℕ) (bars : List Pair) → AllByRecursion (λ (b : Pair). is_barred p b.exchange b.code ≡ true) bars → list_any (λ (b : Pair). (b.exchange == x) && (b.code == c)) bars ≡ true → is_barred p x c ≡ true
+barred_too p x c [] all h = let bad : ⊥ = cc in absurd bad
+barred_too p x c (b ∷ bars) all h = by ((b.exchange == x) && (b.code == c)) refl h
+  where
+    by : (t : Bool) → ((b.exchange == x) && (b.code == c)) ≡ t → (t || list_any (λ (b : Pair). (b.exchange == x) && (b.code == c)) bars) ≡ true → is_barred p x c ≡ true
+    by true e k =
+        let is = and_parts (b.exchange == x) (b.code == c) e in
+        subst (λ y. is_barred p y c ≡ true) (eqb-true b.exchange x is.0) (subst (λ d. is_barred p b.exchange d ≡ true) (eqb-true b.code c is.1) all.0)
+    by false e k = barred_too p x c bars all.1 k
+
+both : (a b : Bool) → (a ≡ true → b ≡ true) → (b ≡ true → a ≡ true) → a ≡ b
+both true b f g = sym (f refl)
+both false true f g = g refl
+both false false f g = refl
+
+pub same_bars : (p q : Plan) → HasBars p q → HasBars q p → (x c : ℕ) → is_barred q x c ≡ is_barred p x c
+same_bars p q there back x c = both (is_barred q x c) (is_barred p x c) (barred_too p x c q.bars there) (barred_too q x c p.bars back)
