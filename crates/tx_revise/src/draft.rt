@@ -1,5 +1,5 @@
 // A text that is being revised.
-use crate::lines::{add_line, cr_of};
+use crate::lines::cr_of;
 use crate::revising::Unrevised;
 use crate::text_lines::TextLines;
 use std::alloc::Allocator;
@@ -7,40 +7,21 @@ use tx_plan::{Bars, ExchangeId, Plan};
 use tx_text::{NoMemory, without_cr, words};
 
 /// The lines of a text so far with the lists and bars of a plan, and what was reached in it.
+#[derive(Drop)]
 pub struct Draft<'p, A: Allocator> {
     pub plan: &'p Plan<A>,
     /// The CR of new lines, if they have one.
     pub cr: &'p [u8],
-    pub text: Vec<u8, A>,
+    pub text: &'p mut Vec<u8, A>,
     /// How many exchanges, codes and groups are declared.
     pub exchanges: usize,
     pub codes: usize,
     pub groups: usize,
     /// How many lists of each exchange are still to come.
-    pub to_come: Vec<usize, A>,
+    pub to_come: &'p mut [usize],
     /// The pairs whose lists stand, and those whose bars do.
-    pub written: Bars<A>,
-    pub barred: Bars<A>,
-}
-
-impl<A: Allocator> Drop for Draft<'_, A> {
-    fn drop(self) {
-        let Self {
-            plan: _,
-            cr: _,
-            text,
-            exchanges: _,
-            codes: _,
-            groups: _,
-            to_come,
-            written,
-            barred,
-        } = self;
-        drop(text);
-        drop(to_come);
-        drop(written);
-        drop(barred);
-    }
+    pub written: &'p mut Bars<A>,
+    pub barred: &'p mut Bars<A>,
 }
 
 /// The text of a plan with the lists and the bars of another plan.
@@ -49,24 +30,42 @@ pub fn draft_text<A: Allocator + Copy>(
     text: &[u8],
     plan: &Plan<A>,
 ) -> Result<Vec<u8, A>, Unrevised> {
-    let mut draft = Draft {
-        plan,
-        cr: first_cr(text),
-        text: Vec::new(alloc),
-        exchanges: 0,
-        codes: 0,
-        groups: 0,
-        to_come: lists_of(alloc, text, plan)?,
-        written: Bars::new(alloc),
-        barred: Bars::new(alloc),
-    };
-    match draft.take_all(alloc, text) {
-        Ok(()) => Ok(draft.into_text()),
+    let mut made = Vec::new(alloc);
+    match draft_into(&mut made, alloc, text, plan) {
+        Ok(()) => {
+            // the LF that was put behind the last line
+            let _ = made.pop();
+            Ok(made)
+        }
         Err(fault) => {
-            drop(draft);
+            drop(made);
             Err(fault)
         }
     }
+}
+
+/// Writes each line of the text that is made, with an LF behind it.
+fn draft_into<A: Allocator + Copy>(
+    made: &mut Vec<u8, A>,
+    alloc: A,
+    text: &[u8],
+    plan: &Plan<A>,
+) -> Result<(), Unrevised> {
+    let mut to_come = lists_of(alloc, text, plan)?;
+    let mut written = Bars::new(alloc);
+    let mut barred = Bars::new(alloc);
+    let mut draft = Draft {
+        plan,
+        cr: first_cr(text),
+        text: made,
+        exchanges: 0,
+        codes: 0,
+        groups: 0,
+        to_come: to_come.as_mut_slice(),
+        written: &mut written,
+        barred: &mut barred,
+    };
+    draft.take_all(alloc, text)
 }
 
 impl<'p, A: Allocator + Copy> Draft<'p, A> {
@@ -76,34 +75,6 @@ impl<'p, A: Allocator + Copy> Draft<'p, A> {
             self.take(alloc, line)?;
         }
         Ok(())
-    }
-}
-
-impl<'p, A: Allocator> Draft<'p, A> {
-    /// The lines, without the LF that was put behind the last one.
-    fn into_text(self) -> Vec<u8, A> {
-        let Self {
-            plan: _,
-            cr: _,
-            text,
-            exchanges: _,
-            codes: _,
-            groups: _,
-            to_come,
-            written,
-            barred,
-        } = self;
-        drop(to_come);
-        drop(written);
-        drop(barred);
-        let mut text = text;
-        let _ = text.pop();
-        text
-    }
-
-    /// Takes over a line as it is.
-    pub fn stand(&mut self, line: &[u8]) -> Result<(), NoMemory> {
-        add_line(&mut self.text, line, b"")
     }
 }
 

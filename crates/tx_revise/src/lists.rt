@@ -39,7 +39,7 @@ impl<'p, A: Allocator> Draft<'p, A> {
     pub fn put_bar_in_place(&mut self, line: &[u8], pair: Pair) -> Result<(), NoMemory> {
         if self.plan.is_barred(pair.exchange, pair.code) && !self.barred.has(&pair) {
             self.barred.add(pair)?;
-            self.stand(line)?;
+            add_line(self.text, line, b"")?;
         }
         Ok(())
     }
@@ -50,10 +50,10 @@ impl<'p, A: Allocator> Draft<'p, A> {
             return Ok(());
         }
         self.barred.add(pair)?;
-        add(&mut self.text, b"BAR ")?;
-        add(&mut self.text, self.plan.exchange_name(pair.exchange))?;
-        add(&mut self.text, b" ")?;
-        add_line(&mut self.text, self.plan.code_figures(pair.code), self.cr)
+        add(self.text, b"BAR ")?;
+        add(self.text, self.plan.exchange_name(pair.exchange))?;
+        add(self.text, b" ")?;
+        add_line(self.text, self.plan.code_figures(pair.code), self.cr)
     }
 
     /// Writes each bar that does not stand yet.
@@ -75,14 +75,14 @@ impl<'p, A: Allocator + Copy> Draft<'p, A> {
             return Ok(());
         }
         if !self.can_stand(&pair) {
-            return add_tail(&mut self.text, line);
+            return add_tail(self.text, line);
         }
         self.written.add(pair)?;
         if says_too(self.plan, line) {
-            return self.stand(line);
+            return add_line(self.text, line, b"");
         }
         let spelled = list_text(alloc, self.plan, &pair)?;
-        respell(&mut self.text, spelled.as_slice(), line)
+        respell(self.text, spelled.as_slice(), line)
     }
 
     /// Writes the list of a pair in a new line, if it can stand here.
@@ -92,7 +92,7 @@ impl<'p, A: Allocator + Copy> Draft<'p, A> {
         }
         self.written.add(pair)?;
         let spelled = list_text(alloc, self.plan, &pair)?;
-        add_line(&mut self.text, spelled.as_slice(), self.cr)
+        add_line(self.text, spelled.as_slice(), self.cr)
     }
 
     /// Writes each list that can stand here, of one exchange or of all, in new lines.

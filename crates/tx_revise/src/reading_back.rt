@@ -1,5 +1,5 @@
 // Whether a text says a plan.
-ghost use Rattle.std.specs.Prelude.{◌≡◌, ◌↔◌, ℕ, true, OnOk};
+ghost use Rattle.std.specs.Prelude.{◌≡◌, ℕ, true, OnOk};
 ghost use Rattle.std.specs.List.{AllByRecursion};
 ghost use Rattle.tx_plan.specs.Mixtures.{SameNetwork};
 ghost use Rattle.tx_plan.specs.Routes.{route_list, is_barred};
@@ -38,11 +38,33 @@ fn is_same_plan<A: Allocator>(plan: &Plan<A>, read: &Plan<A>) -> bool
     ensures bars { result ≡ true → (x c : ℕ)
         → is_barred read.now x c ≡ is_barred plan.now x c }
 {
-    first_difference(plan, read).is_none()
-        && has_lists(plan, read)
-        && has_lists(read, plan)
-        && has_bars(plan, read)
-        && has_bars(read, plan)
+    if let Some(_) = first_difference(plan, read) {
+        return false;
+    }
+    if !have_same_lists(plan, read) {
+        return false;
+    }
+    have_same_bars(plan, read)
+}
+
+/// Whether two plans have the same lists.
+fn have_same_lists<A: Allocator>(plan: &Plan<A>, read: &Plan<A>) -> bool
+    ensures { result ≡ true → (x c : ℕ) → route_list read.now x c ≡ route_list plan.now x c }
+{
+    if !has_lists(plan, read) {
+        return false;
+    }
+    has_lists(read, plan)
+}
+
+/// Whether two plans have the same bars.
+fn have_same_bars<A: Allocator>(plan: &Plan<A>, read: &Plan<A>) -> bool
+    ensures { result ≡ true → (x c : ℕ) → is_barred read.now x c ≡ is_barred plan.now x c }
+{
+    if !has_bars(plan, read) {
+        return false;
+    }
+    has_bars(read, plan)
 }
 
 /// Whether a plan has each list of another one.
@@ -71,7 +93,7 @@ fn has_list<A: Allocator>(
     code: CodeId,
 ) -> bool
     ensures { result ≡ true
-        ↔ (route_list plan.now exchange code ≡ route_list other.now exchange code) }
+        → route_list plan.now exchange code ≡ route_list other.now exchange code }
 {
     plan.list(exchange, code) == other.list(exchange, code)
 }

@@ -1,6 +1,6 @@
 // What becomes of each line of a text.
 use crate::draft::Draft;
-use crate::lines::respell;
+use crate::lines::{add_line, respell};
 use crate::revising::Unrevised;
 use crate::standing::{pair_of, says_too};
 use std::alloc::Allocator;
@@ -12,7 +12,7 @@ impl<'p, A: Allocator + Copy> Draft<'p, A> {
     pub fn take(&mut self, alloc: A, line: &[u8]) -> Result<(), Unrevised> {
         let mut words = words(without_cr(line));
         let Some(word) = words.next() else {
-            return Ok(self.stand(line)?);
+            return Ok(add_line(self.text, line, b"")?);
         };
         if word == b"ROUTE".as_slice() {
             return self.take_list(alloc, line, words);
@@ -28,7 +28,7 @@ impl<'p, A: Allocator + Copy> Draft<'p, A> {
             self.put_bars()?;
         }
         self.pass_declaration(word);
-        Ok(self.stand(line)?)
+        Ok(add_line(self.text, line, b"")?)
     }
 
     /// Takes over the line of a list. Behind the last one of its exchange stand the new ones.
@@ -48,9 +48,9 @@ impl<'p, A: Allocator> Draft<'p, A> {
     /// Takes over the header, of the second version where that is needed.
     fn take_header(&mut self, line: &[u8]) -> Result<(), NoMemory> {
         if says_too(self.plan, line) {
-            return self.stand(line);
+            return add_line(self.text, line, b"");
         }
-        respell(&mut self.text, b"PLAN 2", line)
+        respell(self.text, b"PLAN 2", line)
     }
 
     /// Takes over the line of a bar.
