@@ -25,12 +25,10 @@ fn list_text<A: Allocator + Copy>(
 }
 
 impl<'p, A: Allocator> Draft<'p, A> {
-    /// Whether the list of a pair can stand here: it does not stand yet, and all that it names is
-    /// declared.
-    fn can_stand(&self, pair: &Pair) -> bool {
+    /// Whether all that the list of a pair names is declared.
+    fn is_declared(&self, pair: &Pair) -> bool {
         let list = self.plan.list(pair.exchange, pair.code);
-        !self.written.has(pair)
-            && pair.exchange.index() < self.exchanges
+        pair.exchange.index() < self.exchanges
             && pair.code.index() < self.codes
             && list.iter().all(|group| group.index() < self.groups)
     }
@@ -74,7 +72,7 @@ impl<'p, A: Allocator + Copy> Draft<'p, A> {
         if self.plan.list(pair.exchange, pair.code).is_empty() {
             return Ok(());
         }
-        if !self.can_stand(&pair) {
+        if self.written.has(&pair) || !self.is_declared(&pair) {
             return add_tail(self.text, line);
         }
         self.written.add(pair)?;
@@ -87,7 +85,7 @@ impl<'p, A: Allocator + Copy> Draft<'p, A> {
 
     /// Writes the list of a pair in a new line, if it can stand here.
     fn put_list(&mut self, alloc: A, pair: Pair) -> Result<(), NoMemory> {
-        if !self.can_stand(&pair) {
+        if self.written.has(&pair) || !self.is_declared(&pair) {
             return Ok(());
         }
         self.written.add(pair)?;
