@@ -10,7 +10,7 @@ use Rattle.tx_plan.specs.Plan.{Plan, Route}
 use Rattle.tx_plan.specs.Routes.{route_list, is_barred}
 use Rattle.tx_plan.proofs.Among.{all_among}
 use Rattle.tx_plan.proofs.ByIndex.{take_next}
-use Rattle.tx_plan.proofs.Lists.{all_put}
+use Rattle.tx_plan.proofs.Lists.{all_put, same_tests}
 use Rattle.tx_plan.proofs.Copied.{bar_got}
 use Rattle.tx_plan.proofs.ListFound.{IsFoundRoute, list_cases}
 
@@ -71,10 +71,5 @@ barred_too p x c (b ∷ bars) all h = by ((b.exchange == x) && (b.code == c)) re
         subst (λ y. is_barred p y c ≡ true) (eqb-true b.exchange x is.0) (subst (λ d. is_barred p b.exchange d ≡ true) (eqb-true b.code c is.1) all.0)
     by false e k = barred_too p x c bars all.1 k
 
-both : (a b : Bool) → (a ≡ true → b ≡ true) → (b ≡ true → a ≡ true) → a ≡ b
-both true b f g = sym (f refl)
-both false true f g = g refl
-both false false f g = refl
-
 pub same_bars : (p q : Plan) → HasBars p q → HasBars q p → (x c : ℕ) → is_barred q x c ≡ is_barred p x c
-same_bars p q there back x c = both (is_barred q x c) (is_barred p x c) (barred_too p x c q.bars there) (barred_too q x c p.bars back)
+same_bars p q there back x c = same_tests (is_barred q x c) (is_barred p x c) (barred_too p x c q.bars there) (barred_too q x c p.bars back)
