@@ -1,3 +1,3 @@
 mod Cuts
 mod SamePlans
-mod Standing
+mod AmongLines
