@@ -18,7 +18,7 @@ def comment(lines, at):
     while at > 0 and re.match(" *(///|#\\[)", lines[at - 1]):
         at -= 1
         said.append(lines[at].strip())
-    return " ".join(it[3:].strip() for it in reversed(said) if it.startswith("///"))
+    return " ".join(it[3:].strip() for it in reversed(said) if re.match("/// ", it))
 
 
 def edits_of(crate):
@@ -26,7 +26,7 @@ def edits_of(crate):
     folder = f"crates/{crate}/must-fail"
     for name in sorted(os.listdir(folder)) if os.path.isdir(folder) else []:
         text = read(os.path.join(folder, name))
-        yield name.removesuffix(".edit"), f"crates/{crate}/{re.search(r'(?m)^file: (.*)$', text)[1]}", re.findall(r"(?m)^old: (.*)$", text)
+        yield name.removesuffix(".md").removesuffix(".edit"), f"crates/{crate}/{re.search(r'(?m)^file: (.*)$', text)[1]}", re.findall(r"(?m)^old: (.*)$", text)
 
 
 def function_at(functions, text, olds):
