@@ -103,10 +103,6 @@ done_is : (u : ℕ) (p r : Plan) → Reads u p r Done → p ≡ r
 unfolding said
 done_is u p r h = cc
 
-is_done : (u : ℕ) (p r : Plan) → p ≡ r → Reads u p r Done
-unfolding said
-is_done u p r h = ap Ok h
-
 along : (u : ℕ) (p r : Plan) (f g : Framed) → f ≡ g → Reads u p r f → Reads u p r g
 along u p r f g e h = ap (said declare u p) (sym e) ∙ h
 
