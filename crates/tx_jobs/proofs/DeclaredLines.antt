@@ -13,9 +13,8 @@ use Rattle.tx_plan.specs.Among.{Among}
 use Rattle.tx_plan.proofs.Among.{among_cases}
 use Rattle.tx_plantext.specs.PlanText.{plan_of}
 use Rattle.tx_join.specs.Contradictions.{if_first, declared_at, line_declaring}
-use Rattle.tx_revise.specs.Lines.{words_in}
-use Rattle.tx_revise.proofs.LineKinds.{Kind, exchange, code, range, group, route, bar, kind_of}
-use Rattle.tx_revise.proofs.Parts.{Says, Ends, Line as Leads, at_end, goes_on, Before, Starts, starts_from}
+use Rattle.tx_jobs.proofs.LineKinds.{Kind, exchange, code, range, group, route, bar, kind_of}
+use Rattle.tx_jobs.proofs.TextParts.{words_in, Says, Ends, Line as Leads, at_end, goes_on, Before, Starts, starts_from}
 use Rattle.tx_jobs.specs.DeclaringLines.{BeginsWith, CodesAreDeclared, GroupsAreDeclared}
 
 -- LINES OF PARTS

@@ -1,5 +1,7 @@
 mod RefusedTexts
 mod JoinedPlans
+mod TextParts
+mod LineKinds
 mod DeclaredLines
 mod Piping
 mod Breaking

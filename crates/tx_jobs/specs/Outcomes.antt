@@ -3,13 +3,9 @@ use Rattle.std.specs.Prelude.{◌≡◌, ◌⊎◌, ℕ, Bool, true, false, List
 use Rattle.tx_text.specs.declared.source.ReadFault.{ReadFault}
 use Rattle.tx_text.specs.Ends.{Input, Output, input}
 use Rattle.tx_text.specs.Slices.{slice_called}
-use Rattle.tx_text.specs.Told.{AtEnd}
 use Rattle.tx_plan.specs.Plan.{Plan}
-use Rattle.tx_plan.specs.Mixtures.{SameNetwork}
-use Rattle.tx_plantext.specs.PlanText.{plan_of}
 use Rattle.tx_plantext.specs.PlanWritten.{plan_written}
-use Rattle.tx_revise.specs.Revised.{revised}
-use Rattle.tx_revise.specs.Laws.{SaysAs}
+use Rattle.tx_revise.specs.Revised.{SaysAs, SameLinesStand}
 use Rattle.tx_commands.specs.declared.command.Command.{Command}
 use Rattle.tx_commands.specs.Commands.{made_by}
 use Rattle.tx_jobs.specs.declared.done.Done.{Done}
@@ -19,15 +15,12 @@ use Rattle.tx_jobs.specs.declared.job_fault.JobFault.TheVariants.{NoMemory}
 use Rattle.tx_jobs.specs.LintJobs.{TextRead, NotRead}
 use Rattle.tx_jobs.specs.Done.{IsDone, plan_made, texts_of}
 
--- The text of a plan that a command made after it read the plan of a text. If both are of one
--- network, it is that text, revised, and else it is the plan as it is written. Either way it says
--- the plan that was made.
+-- The text of a plan that a command made after it read the plan of a text: that text, revised, in
+-- which the lines that say the same stand, or the plan as it is written. Either way it says the
+-- plan that was made.
 pub record IsTextOfMade (text : List ℕ) (made : Plan) (found : List ℕ) : Type 0 where
-  pub old : Plan
-  pub read : plan_of AtEnd text ≡ Ok old
-  pub of_one_network : SameNetwork old made → found ≡ revised text old made
-  pub of_another : (SameNetwork old made → ⊥) → found ≡ plan_written made
   pub says : SaysAs made found
+  pub kept : SameLinesStand text made found ⊎ (found ≡ plan_written made)
 
 -- there is that text if a plan was made
 abbrev pub HasText : List ℕ → Option Plan → Option (List ℕ) → Type 0

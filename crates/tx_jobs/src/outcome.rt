@@ -1,29 +1,22 @@
 // What a command comes to, with the text of the plan that it makes.
-ghost use Rattle.std.specs.Prelude.{◌≡◌, ◌≢◌, Ok, Some, map, option_map, IfSome, IfOk, IfErr};
+ghost use Rattle.std.specs.Prelude.{◌≡◌, ◌≢◌, map, option_map, IfOk, IfErr};
 ghost use Rattle.tx_text.specs.Calls.{CallsAtMost, source_calls};
 ghost use Rattle.tx_text.specs.Ends.{input, output};
-ghost use Rattle.tx_text.specs.Told.{AtEnd};
-ghost use Rattle.tx_plan.specs.Rules.{IsPlan};
-ghost use Rattle.tx_plantext.specs.PlanText.{plan_of};
 ghost use Rattle.tx_commands.specs.Commands.{IsInRange};
 ghost use Rattle.tx_commands.specs.declared.command.Command.TheVariants.{Pipe};
 ghost use Rattle.tx_jobs.specs.JobFaults.{mark_after};
 ghost use Rattle.tx_jobs.specs.Contents.{content_text};
 ghost use Rattle.tx_jobs.specs.Done.{plan_made};
 ghost use Rattle.tx_jobs.specs.Outcomes.{IsOutcome, IsOutcomeOver, HasText, kept_text, plan_text, outcome_texts};
-ghost use Rattle.tx_jobs.specs.inner.Revising.{IsOfText};
 
 use crate::content::Content;
 use crate::done::Done;
 use crate::job::do_job;
 use crate::job_fault::JobFault;
 use std::alloc::{Allocator, Global};
-use tx_change::first_difference;
 use tx_commands::{Command, Files};
-use tx_plan::Plan;
-use tx_plantext::read_plan;
-use tx_revise::revise;
-use tx_text::{NoMemory, Sink, SliceSource, Source, read_whole_text};
+use tx_revise::{Unrevised, revise};
+use tx_text::{Sink, SliceSource, Source, read_whole_text};
 
 /// What a command came to, and the revised text of the plan that it made, if that goes into a file
 /// and is of the network of the text.
@@ -123,7 +116,6 @@ fn revision<A: Allocator + Copy>(
     text: &[u8],
     done: &Done<A>,
 ) -> Result<Option<Vec<u8, A>>, JobFault>
-    requires { IfSome (plan_made done.now) (IsOfText text.now) }
     ensures ok { IfOk result (λ t.
         HasText text.now (plan_made done.now) (kept_text t (plan_made done.now))) }
     ensures err { IfErr result (λ fault. fault ≡ JobFault.NoMemory) }
@@ -131,25 +123,10 @@ fn revision<A: Allocator + Copy>(
     let Some(plan) = done.plan() else {
         return Ok(None);
     };
-    let old = read_plan(alloc, text)?;
-    let revised = revised_for(alloc, text, &old, plan);
-    drop(old);
-    Ok(revised?)
-}
-
-/// The text of a plan, revised for another plan, if both are of one network.
-fn revised_for<A: Allocator + Copy>(
-    alloc: A,
-    text: &[u8],
-    old: &Plan<A>,
-    made: &Plan<A>,
-) -> Result<Option<Vec<u8, A>>, NoMemory>
-    requires said { plan_of AtEnd text.now ≡ Ok old.now }
-    requires rules { IsPlan made.now }
-    ensures { IfOk result (λ t. HasText text.now (Some made.now) (kept_text t (Some made.now))) }
-{
-    match first_difference(old, made) {
-        None => Ok(Some(revise(alloc, text, old, made)?)),
-        Some(_) => Ok(None),
+    plan.rules();
+    match revise(alloc, text, plan) {
+        Ok(revised) => Ok(Some(revised)),
+        Err(Unrevised::OtherPlan) => Ok(None),
+        Err(Unrevised::NoMemory) => Err(JobFault::NoMemory),
     }
 }

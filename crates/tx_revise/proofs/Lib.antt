@@ -1,19 +1,3 @@
-pub mod Tails
-pub mod Parts
-pub mod LineKinds
-pub mod Rows
-pub mod Carrying
-pub mod OldLines
-pub mod AtEnd
-pub mod Joins
-pub mod Said
-pub mod Steps
-pub mod Spelling
-pub mod Counts
-pub mod Whole
-pub mod Comments
-pub mod CommentTurns
-pub mod CommentsKept
-pub mod NamesRead
-pub mod SameLines
-pub mod RoutesFront
+mod Cuts
+mod SamePlans
+mod AmongLines

@@ -1,4 +1,2 @@
-pub mod Lines
 pub mod Revised
-pub mod Laws
 pub mod inner

@@ -1,115 +1,115 @@
 // A text that is being revised.
-ghost use Rattle.std.specs.Prelude.{◌≡◌, ◌++◌, ◌∷◌, [], codes, OnOk, IfOk};
-ghost use Rattle.tx_text.specs.Written.{joined};
-ghost use Rattle.tx_revise.specs.Revised.{at_start, stands};
-ghost use Rattle.tx_revise.specs.inner.Drafts.{drafted};
-
-use crate::lines::add_line;
+use crate::lines::cr_of;
+use crate::revising::Unrevised;
+use crate::text_lines::TextLines;
 use std::alloc::Allocator;
-use std::marker::Model;
-use tx_plan::{Bars, Plan};
-use tx_text::NoMemory;
+use tx_plan::{Bars, ExchangeId, Plan};
+use tx_text::{NoMemory, without_cr, words};
 
-/// The lines of a text so far with the lists and bars of another plan, and what was reached in it.
+/// The lines of a text so far with the lists and bars of a plan, and what was reached in it.
+#[derive(Drop)]
 pub struct Draft<'p, A: Allocator> {
-    pub before: &'p Plan<A>,
     pub plan: &'p Plan<A>,
+    /// The CR of new lines, if they have one.
     pub cr: &'p [u8],
-    pub text: Vec<u8, A>,
+    pub text: &'p mut Vec<u8, A>,
+    /// How many exchanges, codes and groups are declared.
     pub exchanges: usize,
     pub codes: usize,
     pub groups: usize,
-    /// How many lists and bars of the old plan were passed.
-    pub lists: usize,
-    pub bars: usize,
-    /// The pairs whose new lists stand, and those whose new bars do.
-    pub written: Bars<A>,
-    pub barred: Bars<A>,
+    /// How many lists of each exchange are still to come.
+    pub to_come: &'p mut [usize],
+    /// The pairs whose lists stand, and those whose bars do.
+    pub written: &'p mut Bars<A>,
+    pub barred: &'p mut Bars<A>,
 }
 
-impl<A: Allocator> Drop for Draft<'_, A> {
-    fn drop(self) {
-        let Self {
-            before: _,
-            plan: _,
-            cr: _,
-            text,
-            exchanges: _,
-            codes: _,
-            groups: _,
-            lists: _,
-            bars: _,
-            written,
-            barred,
-        } = self;
-        drop(text);
-        drop(written);
-        drop(barred);
-    }
-}
-
-impl<'p, A: Allocator> Model for Draft<'p, A> {
-    ghost use Rattle.tx_revise.specs.inner.Drafts.{Draft, draft_of};
-
-    ghost Value = { Draft };
-
-    ghost view = { λ d. draft_of d.before.now d.plan.now d.cr.now d.text.items d.exchanges d.codes
-        d.groups d.lists d.bars d.written d.barred };
-}
-
-impl<'p, A: Allocator + Copy> Draft<'p, A> {
-    /// Nothing was read yet.
-    pub fn new(alloc: A, before: &'p Plan<A>, plan: &'p Plan<A>, cr: &'p [u8]) -> Draft<'p, A>
-        ensures { result ≡ record {
-          plan = plan.now;
-          cr = cr.now;
-          text = [];
-          reached = at_start before.now;
-        } }
-    {
-        Draft {
-            before,
-            plan,
-            cr,
-            text: Vec::new(alloc),
-            exchanges: 0,
-            codes: 0,
-            groups: 0,
-            lists: 0,
-            bars: 0,
-            written: Bars::new(alloc),
-            barred: Bars::new(alloc),
+/// The text of a plan with the lists and the bars of another plan.
+pub fn draft_text<A: Allocator + Copy>(
+    alloc: A,
+    text: &[u8],
+    plan: &Plan<A>,
+) -> Result<Vec<u8, A>, Unrevised> {
+    let mut made = Vec::new(alloc);
+    match draft_into(&mut made, alloc, text, plan) {
+        Ok(()) => {
+            // the LF that was put behind the last line
+            let _ = made.pop();
+            Ok(made)
+        }
+        Err(fault) => {
+            drop(made);
+            Err(fault)
         }
     }
 }
 
-impl<'p, A: Allocator> Draft<'p, A> {
-    /// The lines so far.
-    pub fn into_text(self) -> Vec<u8, A>
-        ensures { result.items ≡ self.entry.text }
-    {
-        let Self {
-            before: _,
-            plan: _,
-            cr: _,
-            text,
-            exchanges: _,
-            codes: _,
-            groups: _,
-            lists: _,
-            bars: _,
-            written,
-            barred,
-        } = self;
-        drop(written);
-        drop(barred);
-        text
-    }
+/// Writes each line of the text that is made, with an LF behind it.
+fn draft_into<A: Allocator + Copy>(
+    made: &mut Vec<u8, A>,
+    alloc: A,
+    text: &[u8],
+    plan: &Plan<A>,
+) -> Result<(), Unrevised> {
+    let mut to_come = lists_of(alloc, text, plan)?;
+    let mut written = Bars::new(alloc);
+    let mut barred = Bars::new(alloc);
+    let mut draft = Draft {
+        plan,
+        cr: first_cr(text),
+        text: made,
+        exchanges: 0,
+        codes: 0,
+        groups: 0,
+        to_come: to_come.as_mut_slice(),
+        written: &mut written,
+        barred: &mut barred,
+    };
+    draft.take_all(alloc, text)
+}
 
-    /// Takes over a line as it is.
-    pub fn stand(&mut self, line: &[u8]) -> Result<(), NoMemory>
-        ensures { OnOk result (self.new ≡ drafted self.old (stands line.now self.old.reached)) }
-    {
-        add_line(&mut self.text, line, b"")
+impl<'p, A: Allocator + Copy> Draft<'p, A> {
+    /// Takes over each line of the old text.
+    fn take_all(&mut self, alloc: A, text: &[u8]) -> Result<(), Unrevised> {
+        for line in TextLines::new(text) {
+            self.take(alloc, line)?;
+        }
+        Ok(())
+    }
+}
+
+/// The CR of the first line, if it has one.
+fn first_cr(text: &[u8]) -> &[u8] {
+    let mut lines = TextLines::new(text);
+    match lines.next() {
+        Some(line) => cr_of(line),
+        None => b"",
+    }
+}
+
+/// How many lists of each exchange of a plan a text has.
+fn lists_of<A: Allocator + Copy>(
+    alloc: A,
+    text: &[u8],
+    plan: &Plan<A>,
+) -> Result<Vec<usize, A>, NoMemory> {
+    let mut lists = vec![in alloc; 0usize; plan.exchanges()]?;
+    for line in TextLines::new(text) {
+        if let Some(exchange) = exchange_of_list(plan, line) {
+            if let Some(count) = lists.get_mut(exchange.index()) {
+                *count = count.saturating_add(1);
+            }
+        }
+    }
+    Ok(lists)
+}
+
+/// The exchange of the list of a line, if it is one of the plan.
+fn exchange_of_list<A: Allocator>(plan: &Plan<A>, line: &[u8]) -> Option<ExchangeId> {
+    let mut words = words(without_cr(line));
+    if words.next()? == b"ROUTE".as_slice() {
+        plan.exchange_named(words.next()?)
+    } else {
+        None
     }
 }

@@ -1,14 +1,14 @@
-//! The text of a plan with the lists and the bars of another plan: each line that says the same
-//! stands as it is.
+//! The text of a plan with the lists and the bars of another plan of its network: each line that
+//! says the same stands as it is. The text that is made is read back before it is kept.
 #![tactic(auto)]
 
-mod bars;
 mod draft;
-mod law;
 mod lines;
 mod lists;
+mod reading_back;
 mod revising;
+mod standing;
+mod text_lines;
 mod turns;
 
-pub use law::{comments_stand, revised_texts_say_the_plan, same_lines_stand};
-pub use revising::revise;
+pub use revising::{Unrevised, revise};

@@ -1,43 +1,73 @@
 // The text of a plan, revised for another plan of its network.
-ghost use Rattle.std.specs.Prelude.{◌≡◌, IfOk};
-ghost use Rattle.std.specs.List.{slice_split};
-ghost use Rattle.tx_text.specs.Text.{is_lf};
-ghost use Rattle.tx_revise.specs.Revised.{revised, first_cr};
+ghost use Rattle.std.specs.Prelude.{◌≡◌, IfOk, OnOk};
+ghost use Rattle.tx_revise.specs.Revised.{IsRevised};
 
-use crate::draft::Draft;
-use crate::lines::{cr_of, cut_line};
+use crate::draft::draft_text;
+use crate::reading_back::read_back;
+use crate::standing::same_lines_stand;
 use std::alloc::Allocator;
-use tx_plan::Plan;
-use tx_text::NoMemory;
+use tx_plan::{Plan, PlanRefusal};
+use tx_plantext::{PlanFault, PlanWord};
+use tx_text::{FaultKind, FrameFault, NoMemory};
 
-/// The text of the old plan with the lists and the bars of the new one. A line that says the same
-/// stands as it is, with its blanks and its comment.
+/// Why a text is not revised.
+#[derive(Clone, Copy)]
+pub enum Unrevised {
+    /// The text that was made does not say the plan, as where the plan is of another network.
+    OtherPlan,
+    /// No memory was left.
+    NoMemory,
+}
+
+impl From<NoMemory> for Unrevised {
+    fn from(_: NoMemory) -> Unrevised {
+        Unrevised::NoMemory
+    }
+}
+
+impl From<PlanFault> for Unrevised {
+    fn from(fault: PlanFault) -> Unrevised {
+        match fault.kind {
+            FaultKind::Frame(FrameFault::NoMemory)
+            | FaultKind::Word(PlanWord::Refused(PlanRefusal::NoMemory)) => Unrevised::NoMemory,
+            _ => Unrevised::OtherPlan,
+        }
+    }
+}
+
+/// The text of a plan with the lists and the bars of another plan of its network. A line that says
+/// the same stands as it is, with its blanks and its comment.
+///
+/// The text that is made is read back. It is given only if it says the plan, and all those lines
+/// stand in it.
 pub fn revise<A: Allocator + Copy>(
     alloc: A,
     text: &[u8],
-    old: &Plan<A>,
-    new: &Plan<A>,
-) -> Result<Vec<u8, A>, NoMemory>
-    ensures { IfOk result (λ t. t.items ≡ revised text.now old.now new.now) }
+    plan: &Plan<A>,
+) -> Result<Vec<u8, A>, Unrevised>
+    ensures { IfOk result (λ t. IsRevised text.now plan.now t.items) }
 {
-    let mut draft = Draft::new(alloc, old, new, first_cr(text));
-    let mut rest = text;
-    'lines: while let Some((line, after)) = cut_line(rest) {
-        draft.take(alloc, line)?;
-        rest = after;
+    let revised = draft_text(alloc, text, plan)?;
+    match look_through(alloc, text, plan, revised.as_slice()) {
+        Ok(()) => Ok(revised),
+        Err(fault) => {
+            drop(revised);
+            Err(fault)
+        }
     }
-    draft.take(alloc, rest)?;
-    let mut revised = draft.into_text();
-    let _ = revised.pop();
-    Ok(revised)
 }
 
-/// The CR of the first line, if it has one.
-fn first_cr(text: &[u8]) -> &[u8]
-    ensures { result.now ≡ first_cr (slice_split is_lf text.now) }
+/// Looks through a text that was made: whether it is the first one, revised for the plan.
+fn look_through<A: Allocator + Copy>(
+    alloc: A,
+    text: &[u8],
+    plan: &Plan<A>,
+    revised: &[u8],
+) -> Result<(), Unrevised>
+    ensures { OnOk result (IsRevised text.now plan.now revised.now) }
 {
-    match cut_line(text) {
-        Some((line, _)) => cr_of(line),
-        None => cr_of(text),
+    if !same_lines_stand(plan, text, revised) {
+        return Err(Unrevised::OtherPlan);
     }
+    read_back(alloc, revised, plan)
 }

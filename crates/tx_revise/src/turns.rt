@@ -1,89 +1,85 @@
 // What becomes of each line of a text.
-ghost use Rattle.std.specs.Prelude.{◌≡◌, ◌<◌, ◌^◌, ◌∷◌, [], OnOk};
-ghost use Rattle.tx_revise.specs.Revised.{header_turn, route_turn, end_turn, word_turn, turn};
-ghost use Rattle.tx_revise.specs.inner.Drafts.{drafted, IsShort};
-
 use crate::draft::Draft;
-use crate::lines::respell;
+use crate::lines::{add_line, respell};
+use crate::revising::Unrevised;
+use crate::standing::{pair_of, says_too};
 use std::alloc::Allocator;
-use tx_plan::Pair;
-use tx_text::{NoMemory, without_cr, words};
+use tx_plan::ExchangeId;
+use tx_text::{NoMemory, Words, without_cr, words};
 
 impl<'p, A: Allocator + Copy> Draft<'p, A> {
-    /// Takes over the header, of the second version where that is needed.
-    fn take_header(&mut self, line: &[u8]) -> Result<(), NoMemory>
-        ensures { OnOk result (self.new ≡ drafted self.old
-            (header_turn self.old.plan line.now self.old.reached)) }
-    {
-        if self.plan.bars() == 0 {
-            return self.stand(line);
-        }
-        respell(&mut self.text, b"PLAN 2", line)
-    }
-
-    /// Takes over the line of a list.
-    fn take_route(&mut self, alloc: A, line: &[u8]) -> Result<(), NoMemory>
-        ensures { OnOk result (self.new ≡ drafted self.old (route_turn self.old.plan self.old.cr
-            line.now self.old.reached self.old.reached.lists)) }
-    {
-        if self.lists >= self.before.routes() {
-            return Ok(());
-        }
-        let Some((exchange, code)) = self.before.route_at(self.lists) else {
-            unreachable!()
-        };
-        self.lists += 1;
-        self.put_in_place(alloc, line, Pair { exchange, code })?;
-        self.put_behind(alloc, exchange)
-    }
-
-    /// Writes all that is left before END, and END.
-    fn take_end(&mut self, alloc: A, line: &[u8]) -> Result<(), NoMemory>
-        ensures { OnOk result (self.new ≡ drafted self.old
-            (end_turn self.old.plan self.old.cr line.now self.old.reached)) }
-    {
-        self.put_left(alloc, &None)?;
-        self.put_bars()?;
-        self.stand(line)
-    }
-
     /// Takes over a line of the old text.
-    pub fn take(&mut self, alloc: A, line: &[u8]) -> Result<(), NoMemory>
-        requires { IsShort self.old.reached (2 ^ 63) }
-        ensures { OnOk result (self.new ≡ drafted self.old
-            (turn self.old.plan self.old.cr line.now self.old.reached)) }
-    {
-        match words(without_cr(line)).next() {
-            Some(word) => self.take_words(alloc, word, line),
-            None => self.stand(line),
+    pub fn take(&mut self, alloc: A, line: &[u8]) -> Result<(), Unrevised> {
+        let mut words = words(without_cr(line));
+        let Some(word) = words.next() else {
+            return Ok(add_line(self.text, line, b"")?);
+        };
+        if word == b"ROUTE".as_slice() {
+            return self.take_list(alloc, line, words);
+        }
+        if word == b"BAR".as_slice() {
+            return self.take_bar(line, words);
+        }
+        if word == b"PLAN".as_slice() {
+            return Ok(self.take_header(line)?);
+        }
+        if word == b"END".as_slice() {
+            self.put_lists(alloc, None)?;
+            self.put_bars()?;
+        }
+        self.pass_declaration(word);
+        Ok(add_line(self.text, line, b"")?)
+    }
+
+    /// Takes over the line of a list. Behind the last one of its exchange stand the new ones.
+    fn take_list(&mut self, alloc: A, line: &[u8], words: Words<'_>) -> Result<(), Unrevised> {
+        let Some(pair) = pair_of(self.plan, words) else {
+            return Err(Unrevised::OtherPlan);
+        };
+        self.put_list_in_place(alloc, line, pair)?;
+        if self.pass_list(pair.exchange) {
+            self.put_lists(alloc, Some(pair.exchange))?;
+        }
+        Ok(())
+    }
+}
+
+impl<'p, A: Allocator> Draft<'p, A> {
+    /// Takes over the header, of the second version where that is needed.
+    fn take_header(&mut self, line: &[u8]) -> Result<(), NoMemory> {
+        if says_too(self.plan, line) {
+            return add_line(self.text, line, b"");
+        }
+        respell(self.text, b"PLAN 2", line)
+    }
+
+    /// Takes over the line of a bar.
+    fn take_bar(&mut self, line: &[u8], words: Words<'_>) -> Result<(), Unrevised> {
+        let Some(pair) = pair_of(self.plan, words) else {
+            return Err(Unrevised::OtherPlan);
+        };
+        Ok(self.put_bar_in_place(line, pair)?)
+    }
+
+    /// Passes over a list of an exchange. Whether it was the last one.
+    fn pass_list(&mut self, exchange: ExchangeId) -> bool {
+        match self.to_come.get_mut(exchange.index()) {
+            Some(left) => {
+                *left = left.saturating_sub(1);
+                *left == 0
+            }
+            None => true,
         }
     }
 
-    /// The same, by its first word.
-    fn take_words(&mut self, alloc: A, word: &[u8], line: &[u8]) -> Result<(), NoMemory>
-        requires { IsShort self.old.reached (2 ^ 63) }
-        ensures { OnOk result (self.new ≡ drafted self.old
-            (word_turn self.old.plan self.old.cr word.now line.now self.old.reached)) }
-    {
-        if word == b"PLAN".as_slice() {
-            self.take_header(line)
-        } else if word == b"EXCHANGE".as_slice() {
-            self.exchanges += 1;
-            self.stand(line)
+    /// Passes over the line of an exchange, a code or a group, by its first word.
+    fn pass_declaration(&mut self, word: &[u8]) {
+        if word == b"EXCHANGE".as_slice() {
+            self.exchanges = self.exchanges.saturating_add(1);
         } else if word == b"CODE".as_slice() {
-            self.codes += 1;
-            self.stand(line)
+            self.codes = self.codes.saturating_add(1);
         } else if word == b"GROUP".as_slice() {
-            self.groups += 1;
-            self.stand(line)
-        } else if word == b"ROUTE".as_slice() {
-            self.take_route(alloc, line)
-        } else if word == b"BAR".as_slice() {
-            self.take_bar(line)
-        } else if word == b"END".as_slice() {
-            self.take_end(alloc, line)
-        } else {
-            self.stand(line)
+            self.groups = self.groups.saturating_add(1);
         }
     }
 }

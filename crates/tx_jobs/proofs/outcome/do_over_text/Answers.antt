@@ -1,12 +1,6 @@
 use Rattle.std.proofs.Common.{◌≡◌, ◌∙◌, Ok, Err, refl}
 use Rattle.tx_text.proofs.Exits.{exits_with}
-use Rattle.tx_jobs.proofs.Outcomes.{makes_plan}
 use Rattle.tx_jobs.proofs.outcome.do_over_text.Goals as goal
-
-pub revision-requires : goal.revision-requires
-revision-requires g c =
-    let done = rw c.new-first.ensures.rest at c.in_ok-done.ensures.done in
-    makes_plan c.args.text.now c.do_job.new.first _ _ _ c.args.command.now c.in_ok-done.done done
 
 pub returns-in-Ok-clause-done : goal.returns-in-Ok-clause-done
 returns-in-Ok-clause-done g c = record {
