@@ -212,7 +212,7 @@ def of_risks(risks):
 SAFE = "--limit 1 --spare 0"
 CODES, LINT, GRADE, SURVIVE, RUN = "codes a.plan", "lint a.plan", "grade a.plan", "survive a.plan", "run a.plan a.script"
 READ = [CODES, LINT]
-DRAWN = ["draw a.plan", f"draw a.plan --code 001 {SAFE}", "trace a.plan X1 000", "fill a.plan X1 000"]
+TRACED = ["trace a.plan X1 000", "fill a.plan X1 000"]
 JUDGED = [f"audit a.plan {SAFE}", GRADE, f"mend a.plan {SAFE}", SURVIVE]
 CHANGED = [f"change a.plan b.plan {SAFE}", f"order a.plan b.plan {SAFE}"]
 MADE = [f"audit a.plan {SAFE} --cert out.cert", f"mend a.plan {SAFE} --plan out.plan --cert out.cert", f"change a.plan b.plan {SAFE} --cert out.cert"]
@@ -235,15 +235,15 @@ FAMILIES = [
     Family("full", "full groups of a list, of which each then fails", (2, 4, 8, 16), of_full, RUNS),
     Family("hops", "exchanges that a call passes", (32, 64, 128, 256), of_hops, RUNS),
     Family("text", "lines without words", (250000, 500000, 1000000, 2000000), of_text, [*READ, RUN]),
-    Family("star", "exchanges around one, each with a code", (32, 64, 128, 256), lambda n: of_star(star(n, n)), [*READ, *DRAWN, *JUDGED, *SHOWN, *CHANGED, *MADE, *CHECKED, RUN]),
-    Family("chain", "exchanges in a row, each with a code", (32, 64, 128, 256), lambda n: {"a.plan": chain(n).plan()}, [*READ, *DRAWN, *JUDGED, *SHOWN]),
+    Family("star", "exchanges around one, each with a code", (32, 64, 128, 256), lambda n: of_star(star(n, n)), [*READ, *TRACED, *JUDGED, *SHOWN, *CHANGED, *MADE, *CHECKED, RUN]),
+    Family("chain", "exchanges in a row, each with a code", (32, 64, 128, 256), lambda n: {"a.plan": chain(n).plan()}, [*READ, *TRACED, *JUDGED, *SHOWN]),
     Family("thin", "exchanges around one, with one group each", (32, 64, 128, 256), lambda n: of_star(star(n, n, 1)), [SURVIVE]),
     Family("leaves", "codes, 256 exchanges around one with one group each", (125, 250, 500, 1000), lambda n: of_star(star(256, n, 1)), [SURVIVE]),
-    Family("codes", "codes, 64 exchanges around one", (125, 250, 500, 1000), lambda n: of_star(star(64, n)), [*READ, *DRAWN, *JUDGED, *SHOWN, *CHANGED, *MADE, *CHECKED, RUN]),
-    Family("groups", "groups of 240 circuits", (512, 1024, 2048, 4096), of_groups, [*READ, *DRAWN, *JUDGED, *SHOWN, *CHANGED, RUN]),
-    Family("choices", "groups of each list", (2, 4, 8, 16), lambda n: of_star(star(256, 256, n)), [*READ, *DRAWN, *JUDGED, *SHOWN, *CHANGED, *CHECKED]),
+    Family("codes", "codes, 64 exchanges around one", (125, 250, 500, 1000), lambda n: of_star(star(64, n)), [*READ, *TRACED, *JUDGED, *SHOWN, *CHANGED, *MADE, *CHECKED, RUN]),
+    Family("groups", "groups of 240 circuits", (512, 1024, 2048, 4096), of_groups, [*READ, *TRACED, *JUDGED, *SHOWN, *CHANGED, RUN]),
+    Family("choices", "groups of each list", (2, 4, 8, 16), lambda n: of_star(star(256, 256, n)), [*READ, *TRACED, *JUDGED, *SHOWN, *CHANGED, *CHECKED]),
     Family("ranges", "ranges of a code", (512, 1024, 2048, 4096), of_ranges, [*READ, GRADE, RUN]),
-    Family("bars", "codes for which 256 exchanges are barred", (125, 250, 500, 1000), of_bars, [*READ, *DRAWN, *JUDGED, *SHOWN, *CHANGED, *CHECKED]),
+    Family("bars", "codes for which 256 exchanges are barred", (125, 250, 500, 1000), of_bars, [*READ, *TRACED, *JUDGED, *SHOWN, *CHANGED, *CHECKED]),
     Family("unlisted", "codes without lists", (125, 250, 500, 1000), lambda n: of_lists(n, 2), [*READ, *JUDGED[:-1], *SHOWN]),
     Family("unserved", "codes that no lists can serve", (125, 250, 500, 1000), lambda n: of_lists(n, 1), ["mend a.plan --limit 1 --spare 1"]),
     Family("loops", "codes with a loop", (125, 250, 500, 1000), of_loops, [f"{JUDGED[0]} --counter out.script", GRADE, JUDGED[2], *SHOWN, f"{CHANGED[0]} --mixture out.plan --counter out.script", CHANGED[1]]),

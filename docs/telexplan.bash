@@ -19,8 +19,8 @@ _telexplan() {
         --cert | --mixture | --plan | --risks | --counter | --from | --html) ;;
         *)
             case $COMP_CWORD:${COMP_WORDS[1]}:$word in
-                1:*) words="lint audit grade mend change order survive page check run codes trace fill draw explain version help --help --version" ;;
-                *:help:*) words="lint audit grade mend change order survive page check run codes trace fill draw explain version" ;;
+                1:*) words="lint audit grade mend change order survive page check run codes trace fill explain version help --help --version" ;;
+                *:help:*) words="lint audit grade mend change order survive page check run codes trace fill explain version" ;;
                 *:explain:*) words="--help $(telexplan explain 2>/dev/null | cut -d ' ' -f 1)" ;;
                 *:audit:-*) words="--limit --spare --cert --counter --help" ;;
                 *:mend:-*) words="--limit --spare --plan --cert --old --help" ;;
@@ -36,7 +36,6 @@ _telexplan() {
                 *:fill:-*) words="--down --help" ;;
                 3:trace:* | 3:fill:*) words=$(_telexplan_names EXCHANGE) ;;
                 4:trace:* | 4:fill:*) words=$(_telexplan_names CODE) ;;
-                *:draw:-*) words="--code --limit --spare --help" ;;
             esac
             ;;
     esac

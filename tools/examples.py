@@ -13,9 +13,8 @@ Then it plays the commands of docs/telexplan.1, one after another.
 
 Then checks README.md, docs/FORMATS.md and docs/HEADLINE.md: each block there says, in a comment before it, what it shows, and has to show just that; the table of codes has to be the
 program's and to have the codes of the definitions, the map of the crates has to be that of crates.txt, what the pages name has to be there, each link of theirs has
-to lead to a file and a heading that are there, the player of the gate, crates/tx_worked, has to have the examples and the pictures as they stand, all pictures of the
-plans of crates/tx_worked have to be ones that can be read, and docs/telexplan.bash and docs/telexplan.1 have to have the commands and options that the program's help
-tells. Prints a line for each difference; the status is 1 if there is one.
+to lead to a file and a heading that are there, the player of the gate, crates/tx_worked, has to have the examples as they stand, and docs/telexplan.bash and
+docs/telexplan.1 have to have the commands and options that the program's help tells. Prints a line for each difference; the status is 1 if there is one.
 
 --pages runs nothing: it checks the pages and the player's cases alone. Each example is such a case, and the gate plays them, so the pages then show what the
 program prints, but for those that a script in Python runs.
@@ -120,7 +119,7 @@ def difference(wanted, given):
 
 
 def check_examples(program, tell):
-    named = {"examples/list", "examples/README.md"} | images()
+    named = {"examples/list", "examples/README.md"}
     for example in examples():
         named.update(example.files + example.input + example.made + [out_of(example), example.driver])
         status, printed, fault, made = run(program, example)
@@ -141,30 +140,11 @@ def check_examples(program, tell):
             tell(f"examples/{it}: no example has it")
 
 
-def in_examples(ending):
-    return {f"examples/{it}" for it in os.listdir(os.path.join(TOP, "examples")) if it.endswith(ending)}
-
-
-def images():
-    """The images that are made of pictures."""
-    return in_examples(".svg")
-
-
 def check_tables(tell):
     """The plan that is made of tables has the lines of the plan that these were made of."""
     made, plan = (sorted(filter(None, map(plain, read(f"examples/{it}.plan").decode().splitlines()))) for it in ("national-tables", "national"))
     if made != plan:
         tell("examples/national-tables.plan: it has other lines than examples/national.plan")
-
-
-def check_images(tell):
-    """Each picture is one that the player of the gate has to print, and has its image beside it."""
-    printed = [prints for _, _, prints in played()]
-    for it in sorted(in_examples(".dot")):
-        if read(it).decode() not in printed:
-            tell(f"{it}: no case of crates/tx_worked prints it")
-        if it.replace(".dot", ".svg") not in images():
-            tell(f"{it}: it has no image")
 
 
 def played():
@@ -174,51 +154,6 @@ def played():
             head, _, rest = case.partition("\n")
             texts, _, prints = rest.partition("--- prints\n")
             yield head, texts, prints
-
-
-def lines_wanted(plan):
-    """How each line for an exchange, a group or the groups of a list that lead to one exchange begins: in the picture of a plan, and in that of each code."""
-    said = [it.partition("#")[0].split() for it in plan.splitlines()]
-    of = lambda verb: [it[1:] for it in said if it[:1] == [verb]]
-    line = lambda a, b, label: f'"{a}" -> "{b}" [label="{label}'
-    ends = {name: (a, b) for name, a, b, *_ in of("GROUP")}
-    other = lambda group, x: ends[group][ends[group][0] == x]
-    boxes = [f'"{x}" [label="{x}' for (x,) in of("EXCHANGE")]
-    yield boxes + [line(a, b, f"{name} ") for name, (a, b) in ends.items()]
-    for code, home in of("CODE"):
-        arrows = {}
-        for x, c, *groups in of("ROUTE"):
-            for order, group in enumerate(groups if c == code else []):
-                arrows.setdefault((x, other(group, x)), []).append((str(order + 1), group))
-        labels = {pair: ": ".join(map(" ".join, zip(*choices))) for pair, choices in arrows.items()}
-        rows = [it + ("\\n" + code if it == f'"{home}" [label="{home}' else "") + '"' for it in boxes]
-        yield rows + [line(x, y, f'{label}"') for (x, y), label in labels.items()]
-
-
-def faults_of_picture(picture, wanted):
-    """What is wrong with a picture: its braces and the quotes of each line balance, and it has one line for each that is wanted, and no others of their kind."""
-    if (picture.count("{"), picture.count("}")) != (1, 1):
-        yield "not one pair of braces"
-    lines = picture.splitlines()
-    if any(it.count('"') % 2 for it in lines):
-        yield "quotes that do not balance"
-    drawn = [it for it in lines if it.startswith('"')]
-    if len(drawn) != len(wanted):
-        yield f"{len(drawn)} lines and not {len(wanted)}"
-    yield from (f"not one line {it}" for it in wanted if sum(at.startswith(it) for at in drawn) != 1)
-
-
-def check_pictures(tell):
-    """For each case of all pictures of a plan, what must be printed is one picture of the plan and one of each code, and each can be read."""
-    for head, plan, prints in played():
-        if head.split()[1] != "pictures":
-            continue
-        wanted, pictures = list(lines_wanted(plan)), prints.split("digraph")[1:]
-        if len(pictures) != len(wanted):
-            tell(f"crates/tx_worked: {head} has {len(pictures)} pictures and not {len(wanted)}")
-        for n, (picture, lines) in enumerate(zip(pictures, wanted)):
-            for fault in faults_of_picture(picture, lines):
-                tell(f"crates/tx_worked: picture {n + 1} of {head}: {fault}")
 
 
 def write_examples(program):
@@ -397,7 +332,7 @@ def check_names(tell):
             if it not in MADE and not re.search(r"\b(CRATE|NAME)\b", it) and not os.path.exists(os.path.join(TOP, it)):
                 tell(f"{page}: {it} is not there")
         for crate, edit in re.findall(r"`(tx_\w+)/(\w+)`", text):
-            if not any(os.path.exists(os.path.join(TOP, "crates", crate, "must-fail", edit + it)) for it in (".edit", ".edit.md")):
+            if not os.path.exists(os.path.join(TOP, "crates", crate, "must-fail", edit + ".edit")):
                 tell(f"{page}: there is no edit {crate}/{edit}")
 
 
@@ -481,8 +416,7 @@ def case_of(example):
     if verb == "run" and example.option("--cert"):
         plan, script, cert = texts
         return f"checked{bounds}", b"---\n".join([plan, cert, script])
-    drawn = " ".join(["draw"] + [it for it in map(example.option, ["--code", "--limit", "--spare"]) if it])
-    kinds = {"run": telling_of(example.words), "draw": drawn, "codes": "codes", "grade": "grade"} | {it: it + bounds for it in ("check", "audit")}
+    kinds = {"run": telling_of(example.words), "codes": "codes", "grade": "grade"} | {it: it + bounds for it in ("check", "audit")}
     staged = example.option("--stage")
     old = " --old" * ("--old" in example.words)
     kinds |= {"mend": f"mend{bounds}{old}", "change": f"change{bounds}{old}", "order": f"stage{bounds} {staged}" if staged else f"order{bounds}{old}"}
@@ -787,7 +721,7 @@ def check_completion(tell, told):
 
 def check_offers(program, tell):
     """The completion offers the exchanges, the codes and the groups of the plan that is named."""
-    asked = [(["trace", "examples/three.plan", "N"], "NORTH"), (["fill", "examples/three.plan", "NORTH", ""], "22 20 24"), (["draw", "examples/three.plan", "--code", "24"], "24")]
+    asked = [(["trace", "examples/three.plan", "N"], "NORTH"), (["fill", "examples/three.plan", "NORTH", ""], "22 20 24"), (["page", "examples/three.plan", "--code", "24"], "24")]
     asked += [(["trace", "examples/three.plan", "--group", "N"], "NOSO1"), (["trace", "examples/three.plan", "NORTH", "24", "--down", "NOSO1,CES"], "NOSO1,CESO1 NOSO1,CESO2")]
     for words, offered in asked:
         line = " ".join(f"'{it}'" for it in ["telexplan", *words])
@@ -858,8 +792,6 @@ def main(words):
     check_cases(told.append)
     check_tables(told.append)
     check_words_printed(told.append)
-    check_images(told.append)
-    check_pictures(told.append)
     check_ends(told.append)
     check_words(told.append)
     print("".join(f"{it}\n" for it in told) + f"{len(examples())} examples, {len(told)} differences")

@@ -11,7 +11,8 @@ use Rattle.tx_plan.specs.Circuits.{far_end, other_end, may_seize, is_both, direc
 use Rattle.tx_plan.specs.declared.ids.Direction.TheVariants.{OneWay}
 use Rattle.tx_plan.specs.Among.{Among}
 use Rattle.tx_rank.specs.Walks.{AllDiffer}
-use Rattle.tx_rank.proofs.Ways.{among_all, all_among, once_first, once_cons}
+use Rattle.tx_plan.proofs.Among.{among_all, all_among}
+use Rattle.tx_rank.proofs.Ways.{once_first, once_cons}
 use Rattle.tx_machine.specs.Refusals.{is_group}
 use Rattle.tx_machine.proofs.Lists.{find_mem}
 use Rattle.tx_machine.proofs.Steps.{all_mem, row_of, listed_leads}

@@ -4,5 +4,4 @@ pub mod Tables
 pub mod Ranks
 pub mod RanksSoFar
 pub mod Written
-pub mod Ranges
 pub mod Reading

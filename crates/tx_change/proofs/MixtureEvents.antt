@@ -8,7 +8,7 @@ use Rattle.tx_machine.specs.declared.event.Event.{Event}
 use Rattle.tx_machine.proofs.Lists.{find_mem}
 use Rattle.tx_rank.specs.declared.finding.Finding.{Finding}
 use Rattle.tx_rank.specs.Findings.{IsTrueOf}
-use Rattle.tx_rank.proofs.Ways.{all_among}
+use Rattle.tx_plan.proofs.Among.{all_among}
 use Rattle.tx_script.specs.Events.{IsWritable}
 use Rattle.tx_audit.specs.Counter.{counter_of, has_counter}
 use Rattle.tx_audit.specs.Breaks.{Shows}

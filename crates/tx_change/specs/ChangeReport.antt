@@ -5,7 +5,7 @@ use Rattle.tx_plan.specs.Plan.{Plan}
 use Rattle.tx_rank.specs.declared.finding.Finding.{Finding}
 use Rattle.tx_rank.specs.Report.{asked_line, finding_line, verdict_line}
 use Rattle.tx_join.specs.Differences.{difference_text}
-use Rattle.tx_mend.specs.MendText.{changes}
+use Rattle.tx_plantext.specs.ChangedLists.{changes}
 use Rattle.tx_change.specs.declared.judging.ChangeVerdict.{ChangeVerdict}
 use Rattle.tx_change.specs.declared.judging.ChangeVerdict.TheVariants.{Sound, Unsound, NewUnsound}
 

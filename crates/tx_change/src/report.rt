@@ -5,8 +5,8 @@ ghost use Rattle.tx_change.specs.ChangeReport.{switched_lists, finding_after, fi
 use crate::judging::ChangeVerdict;
 use std::alloc::Allocator;
 use tx_join::{Joined, write_differences};
-use tx_mend::write_changes;
 use tx_plan::{Limits, Plan};
+use tx_plantext::write_changes;
 use tx_rank::{Finding, write_asked, write_finding, write_verdict};
 use tx_text::{Sink, WriteFault, write_bytes};
 

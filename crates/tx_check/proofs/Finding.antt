@@ -7,7 +7,7 @@ use Rattle.tx_check.specs.declared.fault.CheckFault.{CheckFault}
 use Rattle.tx_check.specs.Checks.{fault_if, foremost}
 use Rattle.tx_check.specs.declared.lists.Firsts.{Firsts}
 use Rattle.tx_check.specs.inner.Firsts.{or_later, firsts_of, firsts_or}
-use Rattle.tx_cert.proofs.Ranges.{flat_map-range_at, flat_map-range_more}
+use Rattle.tx_text.proofs.Ranges.{flat_map-range_at, flat_map-range_more}
 
 pub fault_if-none : (b : Bool) (x : CheckFault) → fault_if b x ≡ [] → b ≡ false
 fault_if-none true x h = absurd (let z : ⊥ = cc in z)

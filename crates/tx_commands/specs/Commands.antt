@@ -10,7 +10,7 @@ use Rattle.tx_text.specs.Words.{number_of}
 use Rattle.tx_explain.specs.Entries.{is_known}
 use Rattle.tx_commands.specs.Grammar.{program_words}
 use Rattle.tx_commands.specs.declared.command.Command.{Command}
-use Rattle.tx_commands.specs.declared.command.Command.TheVariants.{Pipe, Run, RunTelling, Check, Lint, Codes, Audit, Change, Order, Mend, Survive, Page, Grade, Trace, TraceGroup, Fill, Draw, Explain}
+use Rattle.tx_commands.specs.declared.command.Command.TheVariants.{Pipe, Run, RunTelling, Check, Lint, Codes, Audit, Change, Order, Mend, Survive, Page, Grade, Trace, TraceGroup, Fill, Explain}
 
 -- a limit is at most 62, and a spare number at most 15
 abbrev pub IsInRange : Command → Type 0
@@ -21,7 +21,6 @@ IsInRange (Order old new limit spare stage plan cert with_old) = (limit ≤ 62) 
 IsInRange (Mend plan limit spare mended cert with_old) = (limit ≤ 62) × (spare ≤ 15)
 IsInRange (Page plan limit spare risks old code html) = (limit ≤ 62) × (spare ≤ 15)
 IsInRange (Check plan cert limit spare) = (limit ≤ 62) × (spare ≤ 15)
-IsInRange (Draw plan (Some (code, Some (limit, spare)))) = (limit ≤ 62) × (spare ≤ 15)
 IsInRange other = Unit {0}
 
 -- That is known in at most one way. A type that keeps it needs that.
@@ -43,9 +42,6 @@ IsInRange-prop (Grade plan) = Unit-prop
 IsInRange-prop (Trace plan exchange code down) = Unit-prop
 IsInRange-prop (TraceGroup plan group) = Unit-prop
 IsInRange-prop (Fill plan exchange code down) = Unit-prop
-IsInRange-prop (Draw plan None) = Unit-prop
-IsInRange-prop (Draw plan (Some (code, None))) = Unit-prop
-IsInRange-prop (Draw plan (Some (code, Some (limit, spare)))) = ×_prop le_prop le_prop
 IsInRange-prop (Explain line) = Unit-prop
 
 -- the words of a command name this file
@@ -163,16 +159,6 @@ Asks name found (Fill plan exchange code down) =
     (name ≡ codes "fill") × Names found (codes "plan") plan
     × Names found (codes "exchange") exchange × Names found (codes "code") code
     × (first_of (codes "down") found ≡ option_map string_bytes down)
-Asks name found (Draw plan None) =
-    (name ≡ codes "draw") × Names found (codes "plan") plan
-    × (first_of (codes "code") found ≡ None) × (first_of (codes "limit") found ≡ None)
-    × (first_of (codes "spare") found ≡ None)
-Asks name found (Draw plan (Some (code, None))) =
-    (name ≡ codes "draw") × Names found (codes "plan") plan × Names found (codes "code") code
-    × (first_of (codes "limit") found ≡ None) × (first_of (codes "spare") found ≡ None)
-Asks name found (Draw plan (Some (code, Some (limit, spare)))) =
-    (name ≡ codes "draw") × Names found (codes "plan") plan × Names found (codes "code") code
-    × Gives found (codes "limit") limit × Gives found (codes "spare") spare
 Asks name found (Explain None) = (name ≡ codes "explain") × (line_of found (codes "word") ≡ None)
 Asks name found (Explain (Some line)) =
     (name ≡ codes "explain") × (line_of found (codes "word") ≡ Some (string_bytes line))
@@ -245,7 +231,6 @@ reads_of (Grade plan) = one_read (string_bytes plan)
 reads_of (Trace plan exchange code down) = one_read (string_bytes plan)
 reads_of (TraceGroup plan group) = one_read (string_bytes plan)
 reads_of (Fill plan exchange code down) = one_read (string_bytes plan)
-reads_of (Draw plan routes) = one_read (string_bytes plan)
 reads_of (Explain line) = None ∷ None ∷ None ∷ []
 
 -- their names

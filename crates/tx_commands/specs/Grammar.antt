@@ -129,12 +129,6 @@ order_words =
     (new_app (codes "order")) (file (codes "before"))) (file (codes "after"))) (needed limit))
     (needed spare)) stage) (option (codes "plan"))) (option (codes "cert"))) (flag (codes "old"))
 
--- the arguments of `draw`
-abbrev pub draw_words : App
-draw_words =
-    with_rule (with_rule (with_rule
-    (plan_words (codes "draw")) (option (codes "code"))) limit) spare
-
 -- one or more words, which need not be given
 abbrev pub some_words : List ℕ → Rule
 some_words id = record (word id) {
@@ -167,5 +161,5 @@ judging_words =
 abbrev pub program_words : App
 program_words =
     with_subcommand (with_subcommand (with_subcommand (with_subcommand (with_subcommand
-    (with_subcommand (with_subcommand judging_words run_words.top) codes_words.top)
-    trace_words.top) fill_words.top) draw_words.top) explain_words.top) version_words.top
+    (with_subcommand judging_words run_words.top) codes_words.top)
+    trace_words.top) fill_words.top) explain_words.top) version_words.top

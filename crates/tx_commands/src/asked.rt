@@ -265,24 +265,6 @@ fn run_of(alloc: Global, plan: String, matches: &ArgMatches<'_>) -> Result<Comma
     }
 }
 
-/// The words of `draw` after the plan.
-fn draw_of(alloc: Global, plan: String, matches: &ArgMatches<'_>) -> Result<Command, Misuse>
-    requires { Names (rows_of (found_of matches.now)) (codes "plan") plan }
-    ensures range { IfOk result IsInRange }
-    ensures asked { IfOk result (Asks (codes "draw") (rows_of (found_of matches.now))) }
-    ensures refused { IfErr result
-        (IsRefused (Some (codes "draw", rows_of (found_of matches.now)))) }
-{
-    let code = text(alloc, matches, "code")?;
-    let routes = match (code, is_given(matches, "limit"), is_given(matches, "spare")) {
-        (None, false, false) => None,
-        (Some(code), false, false) => Some((code, None)),
-        (Some(code), true, true) => Some((code, Some(limits(alloc, matches)?))),
-        _ => return Err(Misuse::DrawTogether),
-    };
-    Ok(Command::Draw { plan, routes })
-}
-
 /// The words of `explain`, with a blank between two. A line without any code, name or word of the
 /// table is refused.
 pub(crate) fn explain_of(alloc: Global, matches: &ArgMatches<'_>) -> Result<Command, Misuse>
@@ -324,7 +306,6 @@ pub(crate) fn plan_command(
         "page" => page_of(alloc, plan, matches),
         "trace" => trace_of(alloc, plan, matches),
         "fill" => fill_of(alloc, plan, matches),
-        "draw" => draw_of(alloc, plan, matches),
         _ => Err(Misuse::Incomplete),
     }
 }

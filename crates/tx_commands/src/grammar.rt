@@ -122,31 +122,6 @@ fn fill_grammar<'a>(alloc: Global) -> Result<clap::Command<'a>, AllocError>
     .command
 }
 
-const DRAW_HELP: &str = "Example: telexplan draw own.plan | dot -Tsvg > own.svg
-
-Exit status: 0 after the picture, 2 for a refused text, 3 for a failed read or
-write, 4 when out of memory, 64 for refused words, and for a code that is not in
-the plan";
-
-fn draw_grammar<'a>(alloc: Global) -> Result<clap::Command<'a>, AllocError>
-    ensures { IfOk result (λ c. app_of c ≡ grammar.draw_words) }
-{
-    Syntax::over_plan(
-        alloc,
-        "draw",
-        "Draw the exchanges and groups of a plan, as a text of Graphviz",
-        DRAW_HELP,
-    )
-    .option(
-        "code",
-        "CODE",
-        "Draw the routes for this destination code alone; with
---limit and --spare, the walk of its first finding is red",
-    )
-    .limits(false)
-    .command
-}
-
 const EXPLAIN_HELP: &str = "Example: telexplan explain F2 LOOP 24 VIA NORTH
 
 Exit status: 0 where a word is explained and without words, 3 for a failed
@@ -219,11 +194,10 @@ pub(crate) fn grammar<'a>(alloc: Global) -> Result<clap::Command<'a>, AllocError
         with_command(program, trace_grammar(alloc)),
         fill_grammar(alloc),
     );
-    let program = with_command(
-        with_command(program, draw_grammar(alloc)),
-        explain_grammar(alloc),
-    );
-    with_command(program, Ok(version_grammar(alloc)))
+    with_command(
+        with_command(program, explain_grammar(alloc)),
+        Ok(version_grammar(alloc)),
+    )
 }
 
 /// A command alone, under the name by which it is called.
@@ -237,7 +211,6 @@ pub(crate) fn asked_grammar<'a>(
         "codes" => codes_grammar(alloc)?,
         "trace" => trace_grammar(alloc)?,
         "fill" => fill_grammar(alloc)?,
-        "draw" => draw_grammar(alloc)?,
         "explain" => explain_grammar(alloc)?,
         _ => judging_command(alloc, name)?,
     };

@@ -2,7 +2,6 @@
 use Rattle.std.proofs.Common.{◌≡◌, ◌≢◌, ℕ, suc, ◌+◌, ◌<◌, ◌≤◌, Bool, true, false, List, [], ◌∷◌, ◌++◌, length, Some, None, refl, sym, ap, subst, ◌∙◌, arith}
 use Rattle.std.specs.Prelude.{slice_index_or}
 use Rattle.std.specs.FinSet as set
-use Rattle.std.specs.Ordering.{nat_cmp}
 use Rattle.tx_plan.specs.Orders.{line_cmp, circuit_cmp}
 use Rattle.tx_plan.specs.Plan.{Plan, Code}
 use Rattle.tx_plan.specs.Rules.{IsPlan}
@@ -22,10 +21,10 @@ use Rattle.tx_machine.proofs.Invariant.{inv_opening}
 use Rattle.tx_machine.proofs.Changes.{not_standing}
 use Rattle.tx_lines.specs.Book.{Book, is_line_of}
 use Rattle.tx_circuits.specs.Table.{Table, all_free, seat_cmp}
-use Rattle.tx_calls.specs.KeptCalls.{Kept, KeptCalls, kept_at, Changes, calls_in, sorted_calls}
-use Rattle.tx_calls.specs.inner.Keys.{HasKeys, keys_of, pick}
-use Rattle.tx_calls.specs.declared.circuit_keys.EndKeys.{EndKeys}
-use Rattle.tx_calls.proofs.Sorted.{sorted_mem}
+use Rattle.tx_engine.specs.inner.KeptCalls.{Kept, KeptCalls, kept_at, Changes, calls_in, sorted_calls}
+use Rattle.tx_engine.specs.inner.Keys.{HasKeys, keys_of, pick}
+use Rattle.tx_engine.specs.declared.circuit_keys.EndKeys.{EndKeys}
+use Rattle.tx_engine.proofs.Sorted.{sorted_mem}
 use Rattle.tx_engine.specs.inner.Seen.{AreTogether}
 use Rattle.tx_engine.proofs.Going.{keyed_together}
 use Rattle.tx_engine.specs.inner.Sound.{AreSound, is_first_end}

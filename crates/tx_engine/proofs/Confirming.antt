@@ -1,5 +1,5 @@
 -- A Confirm where no other call has seized the circuit.
-use Rattle.std.proofs.Common.{◌≡◌, ◌≢◌, inl, inr, ℕ, ◌+◌, ◌<◌, Bool, true, false, List, [], ◌∷◌, Some, None, refl, sym, ap, subst, ◌∙◌, deque_len, deque_capacity}
+use Rattle.std.proofs.Common.{◌≡◌, ◌≢◌, inl, inr, ℕ, ◌<◌, Bool, true, false, List, [], ◌∷◌, Some, None, refl, sym, ap, subst, ◌∙◌, deque_len, deque_capacity}
 use Rattle.std.specs.Prelude.{if◌then◌else◌, unwrap_or}
 use Rattle.std.specs.Option.{option_map}
 use Rattle.std.specs.FinSet as set
@@ -22,10 +22,10 @@ use Rattle.tx_machine.specs.Confirming.{far_of, carried_on, rival, confirmed, co
 use Rattle.tx_machine.specs.Routing.{set_call}
 use Rattle.tx_machine.specs.Step.{accepted, with_call}
 use Rattle.tx_circuits.specs.Table.{Table, IsSeizedBy, with_held}
-use Rattle.tx_calls.specs.KeptCalls.{Kept, KeptCalls, kept_at, Changes, calls_in}
-use Rattle.tx_calls.specs.inner.Keys.{HasKeys, keys_at, keys_of, pick}
-use Rattle.tx_calls.specs.declared.circuit_keys.EndKeys.{EndKeys}
-use Rattle.tx_calls.proofs.Sorted.{sorted_mem, distinct_rising}
+use Rattle.tx_engine.specs.inner.KeptCalls.{Kept, KeptCalls, kept_at, Changes, calls_in}
+use Rattle.tx_engine.specs.inner.Keys.{HasKeys, keys_at, keys_of, pick}
+use Rattle.tx_engine.specs.declared.circuit_keys.EndKeys.{EndKeys}
+use Rattle.tx_engine.proofs.Sorted.{sorted_mem, distinct_rising}
 use Rattle.tx_engine.specs.inner.Seen.{AreTogether, state_seen}
 use Rattle.tx_engine.proofs.Thrown.{told_alone}
 use Rattle.tx_engine.proofs.Going.{may_hold, carried_together, nobody_else}

@@ -18,7 +18,7 @@ use Rattle.tx_machine.specs.InUse.{first_free, is_free_at, is_down}
 use Rattle.tx_lines.specs.Book.{Book}
 use Rattle.tx_circuits.specs.Table.{Table, is_free_at as table_frees, first_free as table_first}
 use Rattle.tx_circuits.proofs.Unnamed.{circuits_at-same}
-use Rattle.tx_calls.specs.KeptCalls.{Kept, kept_at}
+use Rattle.tx_engine.specs.inner.KeptCalls.{Kept, kept_at}
 use Rattle.tx_engine.specs.declared.engine.EngineState.{EngineState}
 use Rattle.tx_engine.specs.inner.Decided.{IsDecided}
 use Rattle.tx_engine.specs.inner.Seen.{state_seen, AreTogether}

@@ -9,8 +9,8 @@ use Rattle.tx_machine.specs.Ended.{Ended}
 use Rattle.tx_machine.specs.Ending.{end_call, ticket_of}
 use Rattle.tx_lines.specs.Book.{Book, is_line_of}
 use Rattle.tx_circuits.specs.Table.{Table}
-use Rattle.tx_calls.specs.KeptCalls.{Kept, KeptCalls, kept_at, Changes, calls_in}
-use Rattle.tx_calls.proofs.Sorted.{sorted_mem}
+use Rattle.tx_engine.specs.inner.KeptCalls.{Kept, KeptCalls, kept_at, Changes, calls_in}
+use Rattle.tx_engine.proofs.Sorted.{sorted_mem}
 use Rattle.tx_engine.specs.inner.GivenBack.{CanGiveBack, given_back, freed}
 use Rattle.tx_engine.specs.inner.Seen.{state_seen}
 use Rattle.tx_engine.proofs.Together.{may_end, together_after, state_after}

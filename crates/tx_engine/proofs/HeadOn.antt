@@ -1,21 +1,17 @@
 -- Two calls that meet on a circuit.
-use Rattle.std.proofs.Common.{◌≡◌, ◌≢◌, ℕ, Bool, true, false, [], length, Some, refl, sym, ap, subst, ◌∙◌, arith, deque_len, deque_capacity}
-use Rattle.std.specs.Prelude.{if◌then◌else◌, nat_lt}
+use Rattle.std.proofs.Common.{◌≡◌, ◌≢◌, ℕ, true, [], length, Some, refl, sym, ap, subst, ◌∙◌, arith, deque_len, deque_capacity}
 use Rattle.std.specs.FinSet as set
 use Rattle.tx_plan.specs.Plan.{Plan}
 use Rattle.tx_plan.specs.Among.{Among}
 use Rattle.tx_plan.specs.declared.ids.Circuit.{Circuit}
-use Rattle.tx_machine.specs.declared.cause.Cause.{Cause}
 use Rattle.tx_machine.specs.declared.open_call.Phase.TheVariants.{Calling}
 use Rattle.tx_machine.specs.Call.{Call, exchange_of}
-use Rattle.tx_machine.specs.State.{State}
 use Rattle.tx_machine.specs.Confirming.{far_of, thrown_back, collide}
 use Rattle.tx_machine.specs.Routing.{set_call}
 use Rattle.tx_circuits.specs.Table.{Table}
-use Rattle.tx_calls.specs.KeptCalls.{Kept, KeptCalls, kept_at, Changes, calls_in}
-use Rattle.tx_calls.specs.inner.Keys.{keys_of, pick}
-use Rattle.tx_calls.proofs.Sorted.{sorted_mem}
-use Rattle.tx_engine.specs.inner.InTurn.{ended_if, pair_ended}
+use Rattle.tx_engine.specs.inner.KeptCalls.{Kept, KeptCalls, kept_at, Changes, calls_in}
+use Rattle.tx_engine.specs.inner.Keys.{keys_of, pick}
+use Rattle.tx_engine.proofs.Sorted.{sorted_mem}
 use Rattle.tx_engine.specs.inner.Seen.{state_seen, AreTogether}
 use Rattle.tx_engine.specs.inner.GivenBack.{CanThrowOff, thrown_off}
 use Rattle.tx_engine.proofs.Thrown.{IsRival, told_one, only_rival, rival_is, thrown_in_turn}

@@ -13,9 +13,9 @@ use Rattle.tx_machine.specs.declared.open_call.Phase.TheVariants.{Calling}
 use Rattle.tx_machine.specs.Call.{exchange_of}
 use Rattle.tx_machine.specs.InUse.{circuits_carried}
 use Rattle.tx_machine.proofs.Uses.{an_end}
-use Rattle.tx_calls.specs.KeptCalls.{Kept, KeptCalls, kept_at, Changes}
-use Rattle.tx_calls.specs.inner.Keys.{HasKeys, keys_at, keys_of, pick, with_key, no_keys}
-use Rattle.tx_calls.specs.declared.circuit_keys.EndKeys.{EndKeys}
+use Rattle.tx_engine.specs.inner.KeptCalls.{Kept, KeptCalls, kept_at, Changes}
+use Rattle.tx_engine.specs.inner.Keys.{HasKeys, keys_at, keys_of, pick, with_key, no_keys}
+use Rattle.tx_engine.specs.declared.circuit_keys.EndKeys.{EndKeys}
 use Rattle.tx_engine.specs.inner.Sound.{AreKeyed, HasHopRoom, is_first_end}
 
 -- KEYS BY CIRCUIT, AFTER THOSE OF ONE WERE WRITTEN

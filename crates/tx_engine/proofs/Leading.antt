@@ -8,10 +8,10 @@ use Rattle.tx_machine.specs.declared.open_call.Phase.TheVariants.{Calling}
 use Rattle.tx_machine.specs.Call.{Call, exchange_of}
 use Rattle.tx_machine.specs.InUse.{carries, seizes_from, circuits_carried}
 use Rattle.tx_machine.proofs.Lists.{any_mem}
-use Rattle.tx_calls.specs.KeptCalls.{Kept, KeptCalls, kept_at, calls_in}
-use Rattle.tx_calls.specs.inner.Keys.{keys_of, pick}
-use Rattle.tx_calls.specs.declared.circuit_keys.EndKeys.{EndKeys}
-use Rattle.tx_calls.proofs.Sorted.{mem_sorted}
+use Rattle.tx_engine.specs.inner.KeptCalls.{Kept, KeptCalls, kept_at, calls_in}
+use Rattle.tx_engine.specs.inner.Keys.{keys_of, pick}
+use Rattle.tx_engine.specs.declared.circuit_keys.EndKeys.{EndKeys}
+use Rattle.tx_engine.proofs.Sorted.{mem_sorted}
 use Rattle.tx_engine.proofs.After.{carried_mem, seizing_from}
 use Rattle.tx_engine.specs.inner.Sound.{AreKeyed, is_first_end}
 

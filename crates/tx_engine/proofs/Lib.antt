@@ -20,3 +20,6 @@ pub mod Accepted
 pub mod Open
 pub mod Together
 pub mod Going
+pub mod Sorted
+pub mod Bridge
+pub mod WrittenKeys

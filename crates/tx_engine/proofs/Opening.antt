@@ -6,7 +6,7 @@ use Rattle.tx_machine.specs.Ended.{Ended}
 use Rattle.tx_machine.specs.State.{opening}
 use Rattle.tx_lines.specs.Book.{Book}
 use Rattle.tx_circuits.specs.Table.{Table, all_free}
-use Rattle.tx_calls.specs.KeptCalls.{KeptCalls, calls_in, sorted_calls}
+use Rattle.tx_engine.specs.inner.KeptCalls.{KeptCalls, calls_in, sorted_calls}
 use Rattle.tx_engine.specs.inner.Seen.{state_seen}
 
 pub state_opening : (p : Plan) (c : KeptCalls) (b : Book) (t : Table) (numbers events : ℕ) (tickets : List Ended) → c.slots ≡ [] → b.faulty ≡ set.empty → b.away ≡ set.empty → t ≡ all_free p → tickets ≡ []

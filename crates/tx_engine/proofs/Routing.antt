@@ -1,5 +1,5 @@
 -- A Route that connects a call, and one that seizes a circuit.
-use Rattle.std.proofs.Common.{◌≡◌, ℕ, ◌<◌, ◌==◌, Bool, true, false, ◌&&◌, List, Option, Some, None, refl, sym, ap, subst, ◌∙◌, deque_len, deque_capacity}
+use Rattle.std.proofs.Common.{◌≡◌, ℕ, ◌<◌, Bool, true, false, List, Some, None, refl, sym, ap, subst, ◌∙◌, deque_len, deque_capacity}
 use Rattle.std.specs.Prelude.{if◌then◌else◌, find}
 use Rattle.std.specs.Option.{option_map}
 use Rattle.std.specs.FinSet as set
@@ -27,10 +27,10 @@ use Rattle.tx_machine.proofs.Uses.{first_in-is, chosen, IsChosen}
 use Rattle.tx_lines.specs.Book.{Book}
 use Rattle.tx_circuits.specs.Table.{Table, plan_of, is_down, is_free_at as table_frees, first_free as table_first}
 use Rattle.tx_circuits.proofs.Unnamed.{is_circuit-same, may_seize-same}
-use Rattle.tx_calls.specs.KeptCalls.{Kept, KeptCalls, Changes, kept_at, calls_in}
-use Rattle.tx_calls.specs.inner.Keys.{HasKeys, keys_at, keys_of, pick, with_key}
-use Rattle.tx_calls.specs.declared.circuit_keys.EndKeys.{EndKeys}
-use Rattle.tx_calls.proofs.Sorted.{sorted_mem}
+use Rattle.tx_engine.specs.inner.KeptCalls.{Kept, KeptCalls, Changes, kept_at, calls_in}
+use Rattle.tx_engine.specs.inner.Keys.{HasKeys, keys_at, keys_of, pick, with_key}
+use Rattle.tx_engine.specs.declared.circuit_keys.EndKeys.{EndKeys}
+use Rattle.tx_engine.proofs.Sorted.{sorted_mem}
 use Rattle.tx_engine.specs.inner.Seen.{AreTogether}
 use Rattle.tx_engine.proofs.Going.{connected_together, seized_together}
 use Rattle.tx_engine.specs.declared.engine.EngineState.{EngineState}

@@ -5,3 +5,6 @@ pub mod GivenBack
 pub mod InTurn
 pub mod Seen
 pub mod Users
+pub mod KeptCalls
+pub mod Keys
+pub mod Tied

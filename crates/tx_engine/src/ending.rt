@@ -4,7 +4,7 @@ ghost use Rattle.tx_machine.specs.declared.event.Event.TheVariants.{Clear};
 ghost use Rattle.tx_machine.specs.Ending.{end_call, ticket_of};
 ghost use Rattle.tx_machine.specs.Step.{accepted};
 ghost use Rattle.tx_machine.specs.Refusals.{refusal};
-ghost use Rattle.tx_calls.specs.KeptCalls.{Kept, kept_at};
+ghost use Rattle.tx_engine.specs.inner.KeptCalls.{Kept, kept_at};
 ghost use Rattle.tx_machine.specs.Seen.{call_seen};
 ghost use Rattle.tx_engine.specs.inner.GivenBack.{released_all, given_back, thrown_off, freed, CanReleaseAll, CanGiveBack, CanThrowOff};
 ghost use Rattle.tx_engine.specs.inner.Sound.{IsSound, state_of};

@@ -5,12 +5,13 @@ ghost use Rattle.tx_machine.specs.Step.{accepted, takes_memory};
 ghost use Rattle.tx_machine.specs.Refusals.{refusal};
 ghost use Rattle.tx_engine.specs.inner.Sound.{IsSound, state_of, IsUnder};
 ghost use Rattle.tx_machine.specs.Call.{call_of};
-ghost use Rattle.tx_calls.specs.KeptCalls.{Kept, calls_in};
+ghost use Rattle.tx_engine.specs.inner.KeptCalls.{Kept, calls_in};
 
+use crate::circuit_keys::CircuitKeys;
+use crate::open_calls::OpenCalls;
 use std::alloc::{Allocator, Global};
 use std::collections::VecDeque;
 use std::marker::Model;
-use tx_calls::{CircuitKeys, OpenCalls};
 use tx_circuits::CircuitTable;
 use tx_lines::{LineBook, Status};
 use tx_machine::{Event, Facts, LineStatus, Network, Phase, Reply, Ticket, refusal_of};

@@ -11,7 +11,7 @@ ghost use Rattle.tx_machine.specs.Ending.{end_call};
 ghost use Rattle.tx_machine.specs.InUse.{uses_group, seizes_from};
 ghost use Rattle.tx_machine.specs.Refusals.{refusal};
 ghost use Rattle.tx_machine.specs.Step.{accepted};
-ghost use Rattle.tx_calls.specs.KeptCalls.{calls_in};
+ghost use Rattle.tx_engine.specs.inner.KeptCalls.{calls_in};
 ghost use Rattle.tx_engine.specs.inner.InTurn.{uses, IsLosing};
 ghost use Rattle.tx_engine.specs.inner.Users.{AreNumbersOf};
 ghost use Rattle.tx_engine.specs.inner.Sound.{IsSound, state_of};

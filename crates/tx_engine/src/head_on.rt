@@ -7,7 +7,7 @@ ghost use Rattle.tx_machine.specs.declared.open_call.Phase.TheVariants.{Calling}
 ghost use Rattle.tx_machine.specs.declared.cause.Service.TheVariants.{Nc};
 ghost use Rattle.tx_machine.specs.Confirming.{far_of, rival, collide};
 ghost use Rattle.tx_machine.specs.Step.{accepted};
-ghost use Rattle.tx_calls.specs.KeptCalls.{Kept, kept_at};
+ghost use Rattle.tx_engine.specs.inner.KeptCalls.{Kept, kept_at};
 ghost use Rattle.tx_engine.specs.inner.InTurn.{ended_if, pair_ended};
 ghost use Rattle.tx_engine.specs.inner.Meeting.{AreMeeting, AreThrown, IsMet};
 ghost use Rattle.tx_engine.specs.inner.Sound.{IsSound, IsUnder, state_of};

@@ -13,10 +13,12 @@
 //! ```
 #![tactic(auto)]
 
+mod circuit_keys;
 mod ending;
 mod engine;
 mod failing;
 mod head_on;
+mod open_calls;
 mod setting_up;
 
 pub use engine::Engine;

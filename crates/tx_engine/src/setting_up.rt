@@ -10,7 +10,7 @@ ghost use Rattle.tx_machine.specs.Step.{accepted};
 ghost use Rattle.tx_machine.specs.Refusals.{refusal};
 ghost use Rattle.tx_machine.specs.inner.Decided.{carried_out};
 ghost use Rattle.tx_machine.specs.Confirming.{far_of};
-ghost use Rattle.tx_calls.specs.KeptCalls.{HasRoom, Kept, kept_at};
+ghost use Rattle.tx_engine.specs.inner.KeptCalls.{HasRoom, Kept, kept_at};
 ghost use Rattle.tx_engine.specs.inner.Sound.{IsSound, HasTicketRoom, state_of, IsUnder};
 ghost use Rattle.tx_engine.specs.inner.Decided.{IsDecided};
 

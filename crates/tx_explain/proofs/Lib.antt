@@ -1,2 +1,1 @@
-mod Printed
 pub mod Found

@@ -4,7 +4,6 @@
 
 mod asked;
 mod code_table;
-mod explained;
 mod explanation;
 mod plan_codes;
 mod report_words;
@@ -13,5 +12,4 @@ mod run_words;
 mod text_faults;
 
 pub use asked::is_known;
-pub use explained::codes_are_explained;
 pub use explanation::write_explanation;

@@ -6,8 +6,8 @@ use Rattle.tx_text.specs.Ends.{Input}
 use Rattle.tx_plan.specs.Plan.{Plan}
 use Rattle.tx_plan.specs.Mixtures.{SameNetwork}
 use Rattle.tx_plantext.specs.declared.fault.PlanWord.{PlanWord}
-use Rattle.tx_lint.specs.declared.fault.LintFault.{LintFault}
-use Rattle.tx_lint.specs.declared.fault.LintFault.TheVariants.{Read as LintRead, NoMemory as LintNoMemory}
+use Rattle.tx_text.specs.declared.whole_text.WholeTextFault.{WholeTextFault}
+use Rattle.tx_text.specs.declared.whole_text.WholeTextFault.TheVariants.{Read as LintRead, NoMemory as LintNoMemory}
 use Rattle.tx_join.specs.Joined.{joined_old}
 use Rattle.tx_join.specs.declared.refusal.JoinRefusal.{JoinRefusal}
 use Rattle.tx_join.specs.declared.refusal.JoinRefusal.TheVariants.{OtherHome, OtherGroup, TooMany, NoMemory as JoinNoMemory}
@@ -21,7 +21,7 @@ use Rattle.tx_jobs.specs.TwoPlans.{SaysWhole, NotWhole, GivesNoPlan, join_fault,
 use Rattle.tx_jobs.proofs.RefusedTexts.{old_plan_mark, new_plan_mark}
 
 -- why a text was not read to its end
-pub not_whole : (input : Input) (f : LintFault) → (f ≡ LintRead → input.broken) → NotWhole input (lint_fault f)
+pub not_whole : (input : Input) (f : WholeTextFault) → (f ≡ LintRead → input.broken) → NotWhole input (lint_fault f)
 not_whole input LintRead broken = broken refl
 not_whole input LintNoMemory broken = tt
 

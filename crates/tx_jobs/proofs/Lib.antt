@@ -15,7 +15,6 @@ mod Grading
 mod LintTold
 mod PageTold
 mod Surviving
-mod DrawnCode
 mod Asking
 mod EndLines
 mod Cutting
@@ -23,3 +22,4 @@ mod Taking
 mod Did
 pub mod PartCalls
 pub mod PlanCalls
+mod Printed

@@ -4,19 +4,19 @@ use Rattle.tx_plan.specs.Plan.{Plan}
 use Rattle.tx_lint.specs.AllFaults.{Fault, Progress}
 use Rattle.tx_lint.specs.Lints.{Faults}
 use Rattle.tx_lint.specs.declared.entry.Entry.{Entry}
-use Rattle.tx_lint.specs.declared.fault.LintFault.{LintFault}
-use Rattle.tx_lint.specs.declared.fault.LintFault.TheVariants.{Read, NoMemory}
+use Rattle.tx_text.specs.declared.whole_text.WholeTextFault.{WholeTextFault}
+use Rattle.tx_text.specs.declared.whole_text.WholeTextFault.TheVariants.{Read, NoMemory}
 use Rattle.tx_text.specs.Ends.{Input, Output}
 use Rattle.tx_jobs.specs.JobFaults.{mark_by}
 use Rattle.tx_jobs.specs.LintJobs.{lint_fault, ToldLint, NotRead, WarnedWithRisks, LookedThrough}
 use Rattle.tx_jobs.specs.declared.job_fault.JobFault.{JobFault}
 
-pub not_read : (X : Type 0) (plan : Input) (out : Output) (f : LintFault) → (f ≡ Read → plan.broken)
+pub not_read : (X : Type 0) (plan : Input) (out : Output) (f : WholeTextFault) → (f ≡ Read → plan.broken)
     → out.silent → NotRead {X = X} plan out (Err (lint_fault f))
 not_read X plan out Read broken silent = (broken refl, silent)
 not_read X plan out NoMemory broken silent = silent
 
-pub lint_marked : (old : Bool) (f : LintFault) → old ≡ mark_by old (lint_fault f)
+pub lint_marked : (old : Bool) (f : WholeTextFault) → old ≡ mark_by old (lint_fault f)
 lint_marked old Read = refl
 lint_marked old NoMemory = refl
 

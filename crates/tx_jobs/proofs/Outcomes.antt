@@ -1,11 +1,11 @@
 -- The plan that a command makes of the plan of a text, and that text, revised for it.
-use Rattle.std.proofs.Common.{◌≡◌, ◌∙◌, ◌⊎◌, ℕ, Bool, true, false, List, Option, None, Some, Result, Ok, Err, inl, inr, refl, sym, ap, slice_get, subst, ◌++◌, [], append-nil, Vec}
+use Rattle.std.proofs.Common.{◌≡◌, ◌∙◌, ℕ, Bool, true, false, List, Option, None, Some, Result, Ok, Err, inl, inr, refl, sym, ap, slice_get, subst, ◌++◌, [], append-nil, Vec}
 use Rattle.std.specs.Option.{IfSome}
 use Rattle.tx_text.specs.declared.frame.FrameFault.TheVariants.{LineTooLong, BadByte, NoMemory as TextNoMemory, Read as LineRead, NoHeader, NoEnd, AfterEnd}
 use Rattle.tx_text.specs.declared.frame.FaultAt.{FaultAt}
 use Rattle.tx_text.specs.declared.frame.FaultKind.{FaultKind}
 use Rattle.tx_text.specs.declared.frame.FaultKind.TheVariants.{Frame, Word}
-use Rattle.tx_text.specs.Ends.{Input, Output, input}
+use Rattle.tx_text.specs.Ends.{Input, Output, input, IsWholeText}
 use Rattle.tx_text.specs.Said.{AnswersAs, FaultsAs}
 use Rattle.tx_text.specs.Slices.{slice_called}
 use Rattle.tx_text.specs.Told.{AtEnd}
@@ -34,7 +34,7 @@ use Rattle.tx_order.specs.declared.staged.Staged.TheVariants.{Ordered as IsOrder
 use Rattle.tx_order.specs.OrderTold.{IsStagedOf, IsOrderTold}
 use Rattle.tx_order.specs.declared.order_fault.OrderFault.{OrderFault}
 use Rattle.tx_commands.specs.declared.command.Command.{Command}
-use Rattle.tx_commands.specs.declared.command.Command.TheVariants.{Pipe, Run, RunTelling, Check, Lint, Codes, Audit, Change, Order, Mend, Survive, Page, Grade, Trace, TraceGroup, Fill, Draw, Explain}
+use Rattle.tx_commands.specs.declared.command.Command.TheVariants.{Pipe, Run, RunTelling, Check, Lint, Codes, Audit, Change, Order, Mend, Survive, Page, Grade, Trace, TraceGroup, Fill, Explain}
 use Rattle.tx_jobs.specs.declared.change.Changed.{Changed}
 use Rattle.tx_jobs.specs.declared.change.Changed.TheVariants.{Sound as FoundSound, Unsound as FoundUnsound, NewUnsound as FoundNewUnsound}
 use Rattle.tx_jobs.specs.declared.mixture.ChangeEvidence.{ChangeEvidence}
@@ -43,9 +43,9 @@ use Rattle.tx_jobs.specs.declared.mixture.Mixture.{Mixture}
 use Rattle.tx_jobs.specs.declared.job_fault.JobFault.{JobFault}
 use Rattle.tx_jobs.specs.declared.job_fault.JobFault.TheVariants.{NoMemory}
 use Rattle.tx_jobs.specs.declared.done.Done.{Done}
-use Rattle.tx_jobs.specs.declared.done.Done.TheVariants.{Ran, Told, Checked, Verified, Listed, Linted, Audited, Changed as ChangedInto, Ordered, Mended, Graded, Survived, Paged, Filled, Written}
+use Rattle.tx_jobs.specs.declared.done.Done.TheVariants.{Ran, Told, Checked, Verified, Listed, Linted, Audited, Changed as ChangedInto, Ordered, Mended, Graded, Survived, Paged, Filled}
 use Rattle.tx_jobs.specs.JobFaults.{plan_fault, plan_fault_by}
-use Rattle.tx_jobs.specs.ChangeEvidences.{ChangeEvidenceAnswers, TellsChangeEvidence, ShowsWalk, mixture_plan}
+use Rattle.tx_jobs.specs.ChangeEvidences.{ChangeEvidenceAnswers, TellsChangeEvidence, mixture_plan}
 use Rattle.tx_jobs.specs.ChangeJobs.{ChangeJobAnswers, IsVerdictOf}
 use Rattle.tx_jobs.specs.MendJobs.{MendJobAnswers}
 use Rattle.tx_jobs.specs.OrderJobs.{OrderJobAnswers, told_order}
@@ -55,7 +55,6 @@ use Rattle.tx_jobs.specs.inner.Revising.{IsOfText}
 use Rattle.tx_change.specs.declared.judging.ChangeVerdict.{ChangeVerdict}
 use Rattle.tx_change.specs.declared.judging.ChangeVerdict.TheVariants.{Sound as IsSound, Unsound as IsUnsound, NewUnsound as IsNewUnsound}
 use Rattle.tx_join.specs.Joined.{joined_old, joined_new}
-use Rattle.tx_lint.specs.Lints.{IsWholeText}
 use Rattle.tx_rank.specs.declared.finding.Finding.{Finding}
 use Rattle.tx_order.specs.declared.judging.OrderVerdict.{OrderVerdict}
 use Rattle.tx_order.specs.declared.judging.OrderVerdict.TheVariants.{Ordered as FoundOrdered, NoOrder as FoundNoOrder, NewUnsound as FoundNewUnsafe}
@@ -247,6 +246,4 @@ module _ (text left : List ℕ) (second third : Input) (out : Output) where
     makes_plan (Trace plan exchange code down) d h = makes written _ d (λ x _. tt) h.0
     makes_plan (TraceGroup plan group) d h = makes written _ d (λ x _. tt) h.0
     makes_plan (Fill plan exchange code down) d h = makes Filled _ d (λ x _. tt) h.0
-    makes_plan (Draw plan None) d h = makes written _ d (λ x _. tt) h.0
-    makes_plan (Draw plan (Some (code, numbers))) d h = makes written _ d (λ x _. tt) h.0
     makes_plan (Explain line) d h = makes written _ d (λ x _. tt) h.0

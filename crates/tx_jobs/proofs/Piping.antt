@@ -17,7 +17,8 @@ use Rattle.tx_jobs.specs.Parts.{plan_part, script_part, left_of_plan}
 use Rattle.tx_jobs.specs.inner.Seen.{is_over}
 use Rattle.tx_jobs.specs.inner.Reading.{left, as_script, plan_of, script_of, plan_rest, script_rest, PartCall, PlanCall, ScriptCall}
 use Rattle.tx_jobs.proofs.PartCalls as calls
-use Rattle.tx_jobs.proofs.PlanCalls.{Took, calls_took, prepend_none, whole_plan, whole_script, plan_left, all_script}
+use Rattle.tx_jobs.proofs.PlanCalls.{Took, calls_took, whole_plan, whole_script, plan_left, all_script}
+use Rattle.tx_text.proofs.ReadingOn.{moves-nil}
 use Rattle.tx_script.specs.declared.summary.Summary.{Summary}
 use Rattle.tx_jobs.specs.declared.job_fault.JobFault.{JobFault}
 use Rattle.tx_jobs.specs.JobFaults.{plan_fault}
@@ -69,7 +70,7 @@ module _ {R : Type 0} (rest : R → Option (List ℕ)) (failed : R → Bool) (ca
     unmarked bad = absurd (false≢true (sym sound ∙ bad))
 
     whole : left rest (as_script a) ≡ rest old
-    whole = ap (λ h. prepend_known h (rest old)) none ∙ sym (prepend_none (rest old))
+    whole = ap (λ h. prepend_known h (rest old)) none ∙ sym (moves-nil (rest old))
 
     plan_is : plan_rest rest a ≡ option_map plan_part (rest old)
     plan_is = (λ i. plan_of (blank i) (prepend_known (none i) (rest old))) ∙ whole_plan (rest old)

@@ -1,11 +1,12 @@
 -- What the calls that read a plan take of its input.
-use Rattle.std.proofs.Common.{◌≡◌, ◌⊎◌, ℕ, zero, suc, ◌+◌, ◌-◌, Bool, true, false, List, [], ◌∷◌, ◌++◌, Option, Some, None, Result, Ok, length, take, drop, refl, sym, ap, subst, ◌∙◌, arith, inl, inr, append_assoc, length-append}
+use Rattle.std.proofs.Common.{◌≡◌, ◌⊎◌, ℕ, zero, suc, ◌+◌, ◌-◌, Bool, true, false, List, [], ◌∷◌, ◌++◌, Option, Some, None, Result, Ok, length, take, drop, refl, sym, ap, subst, ◌∙◌, arith, inl, inr, length-append}
 use Rattle.std.specs.Prelude.{option_map}
 use Rattle.std.specs.Io.KnownBytes.{IsAtEnd, prepend_known}
 use Rattle.std.proofs.Math.Seq.{drop-append-add}
 use Rattle.std.proofs.lemmas.List.{drop_all}
 use Rattle.tx_text.specs.declared.source.ReadFault.{ReadFault}
 use Rattle.tx_text.specs.Calls.{Gave, CallsAtMost}
+use Rattle.tx_text.proofs.ReadingOn.{moves-nil, prepend_twice}
 use Rattle.tx_jobs.specs.declared.seen.Seen.{Seen}
 use Rattle.tx_jobs.specs.declared.seen.Seen.TheVariants.{Blanks}
 use Rattle.tx_jobs.specs.declared.plan_part.PlanPart.{PlanPart}
@@ -13,14 +14,6 @@ use Rattle.tx_jobs.specs.Parts.{plan_part, script_part, left_of_plan}
 use Rattle.tx_jobs.specs.inner.Seen.{is_over, end_from}
 use Rattle.tx_jobs.specs.inner.Reading.{left, as_script, plan_of, script_of, plan_rest, script_rest, PlanCall}
 use Rattle.tx_jobs.proofs.Cutting.{end_on, end_over, seen_cut}
-
-pub prepend_none : (o : Option (List ℕ)) → o ≡ prepend_known [] o
-prepend_none None = refl
-prepend_none (Some more) = refl
-
-prepend_twice : (a b : List ℕ) (o : Option (List ℕ)) → prepend_known a (prepend_known b o) ≡ prepend_known (a ++ b) o
-prepend_twice a b None = refl
-prepend_twice a b (Some more) = ap Some (sym (append_assoc a b more))
 
 module _ {R : Type 0} (rest : R → Option (List ℕ)) (failed : R → Bool) (called : ℕ → Result ℕ ReadFault → R → R → Type 0) where
   -- bytes of the plan were taken, and the script is as it was
@@ -31,7 +24,7 @@ module _ {R : Type 0} (rest : R → Option (List ℕ)) (failed : R → Bool) (ca
     pub gone : left rest (as_script a) ≡ prepend_known given (left rest (as_script c))
 
   took_none : (a c : PlanPart R) → a ≡ c → Took a c
-  took_none a c e = subst (Took a) e (record { script = refl; given = []; plan = prepend_none (plan_rest rest a); gone = prepend_none (left rest (as_script a)) })
+  took_none a c e = subst (Took a) e (record { script = refl; given = []; plan = moves-nil (plan_rest rest a); gone = moves-nil (left rest (as_script a)) })
 
   took_on : (a b c : PlanPart R) (n : ℕ) (r : Result ℕ ReadFault) → Took a b → PlanCall rest failed called n r b c → Took a c
   took_on a b c n r t k =

@@ -13,7 +13,7 @@ use Rattle.tx_audit.specs.Scripts.{script_written}
 use Rattle.tx_audit.specs.declared.checked.Checked.TheVariants.{Ran as RanAfterYes, Denied}
 use Rattle.tx_explain.specs.Written.{explanation_text}
 use Rattle.tx_commands.specs.declared.command.Command.{Command}
-use Rattle.tx_commands.specs.declared.command.Command.TheVariants.{Pipe, Run, RunTelling, Check, Lint, Codes, Audit, Change, Order, Mend, Survive, Page, Grade, Trace, TraceGroup, Fill, Draw, Explain}
+use Rattle.tx_commands.specs.declared.command.Command.TheVariants.{Pipe, Run, RunTelling, Check, Lint, Codes, Audit, Change, Order, Mend, Survive, Page, Grade, Trace, TraceGroup, Fill, Explain}
 use Rattle.tx_jobs.specs.declared.evidence.Evidence.TheVariants.{Sound, Unsound}
 use Rattle.tx_jobs.specs.declared.mixture.ChangeEvidence.TheVariants.{Sound as SoundChange, Unsound as UnsoundChange}
 use Rattle.tx_order.specs.declared.staged.Staged.TheVariants.{Ordered as IsOrdered, NoOrder}
@@ -24,11 +24,10 @@ use Rattle.tx_jobs.specs.declared.done.Done.TheVariants.{Ran, Told, Checked, Ver
 use Rattle.tx_jobs.specs.ChangeEvidences.{ChangeEvidenceAnswers, mixture_plan, mixture_events}
 use Rattle.tx_jobs.specs.CheckJobs.{CheckJobAnswers}
 use Rattle.tx_jobs.specs.CheckedJobs.{CheckedJobAnswers}
-use Rattle.tx_jobs.specs.DrawJobs.{DrawJobAnswers, ToldText}
 use Rattle.tx_jobs.specs.Evidences.{EvidenceJobAnswers}
 use Rattle.tx_jobs.specs.FillJobs.{FillJobAnswers}
 use Rattle.tx_jobs.specs.GradeJobs.{GradeJobAnswers}
-use Rattle.tx_jobs.specs.Jobs.{CodesJobAnswers, RunJobAnswers}
+use Rattle.tx_jobs.specs.Jobs.{CodesJobAnswers, RunJobAnswers, ToldText}
 use Rattle.tx_jobs.specs.LintJobs.{LintJobAnswers, LintRisksJobAnswers}
 use Rattle.tx_jobs.specs.MendJobs.{MendJobAnswers}
 use Rattle.tx_jobs.specs.OrderJobs.{OrderJobAnswers}
@@ -103,13 +102,6 @@ module _ {A : Type 0} where
   abbrev pub written : Unit {0} → Done A
   written _ = Written
 
-  -- `draw PLAN`, or of one of its codes
-  abbrev pub HasDrawn : {Z : Type 0} → Input → Output → Option (String Z × Option (ℕ × ℕ))
-      → Result (Done A) JobFault → Type 0
-  HasDrawn plan out None result = Does written (DrawJobAnswers A None None plan out) result
-  HasDrawn plan out (Some (code, numbers)) result =
-      Does written (DrawJobAnswers A (Some (string_bytes code)) numbers plan out) result
-
 module _ {P : Type 0} (rest : P → Option (List ℕ)) (failed : P → Bool)
     (called : ℕ → Result ℕ ReadFault → P → P → Type 0) (old new : P) (second third : Input)
     (out : Output) where
@@ -167,7 +159,6 @@ module _ {P : Type 0} (rest : P → Option (List ℕ)) (failed : P → Bool)
     IsDone (Fill plan exchange code down) result =
         Does Filled (FillJobAnswers (string_bytes exchange) (string_bytes code)
         (option_map string_bytes down) first out) result × Alone
-    IsDone (Draw plan routes) result = HasDrawn first out routes result × Alone
     IsDone (Explain line) result =
         Does written (ToldText (explanation_text (option_map string_bytes line)) out) result
         × first.unread × Alone

@@ -2,7 +2,6 @@ pub mod JobFaults
 pub mod Jobs
 pub mod PipeJobs
 pub mod CheckJobs
-pub mod DrawJobs
 pub mod AuditJobs
 pub mod TwoPlans
 pub mod DeclaringLines
@@ -26,3 +25,4 @@ pub mod Done
 pub mod Outcomes
 pub mod inner
 pub mod Parts
+pub mod Explained

@@ -1,20 +1,20 @@
 -- What `lint PLAN` and `lint PLAN --risks FILE` answer.
 use Rattle.std.specs.Prelude.{◌≡◌, ◌⊎◌, ℕ, List, [], ◌∷◌, Result, Ok, Err}
 use Rattle.std.specs.Io.KnownBytes.{append_known}
-use Rattle.tx_text.specs.Ends.{StopsIn, Input, Output}
-use Rattle.tx_lint.specs.declared.fault.LintFault.{LintFault}
-use Rattle.tx_lint.specs.declared.fault.LintFault.TheVariants.{Read as LintRead, NoMemory as LintNoMemory}
+use Rattle.tx_text.specs.Ends.{StopsIn, Input, Output, IsWholeText}
+use Rattle.tx_text.specs.declared.whole_text.WholeTextFault.{WholeTextFault}
+use Rattle.tx_text.specs.declared.whole_text.WholeTextFault.TheVariants.{Read as LintRead, NoMemory as LintNoMemory}
 use Rattle.tx_plan.specs.Plan.{Plan}
 use Rattle.tx_risk.specs.NamedRisks.{NamedRisk}
 use Rattle.tx_lint.specs.declared.entry.Entry.{Entry}
 use Rattle.tx_lint.specs.AllFaults.{Fault, Progress, faults_of, progress_of}
-use Rattle.tx_lint.specs.Lints.{Lint, Faults, AreWarningsOf, IsLintOf, lint_text, lint_status, IsWholeText}
+use Rattle.tx_lint.specs.Lints.{Lint, Faults, AreWarningsOf, IsLintOf, lint_text, lint_status}
 use Rattle.tx_jobs.specs.SurviveJobs.{RisksRead, RisksRefused}
 use Rattle.tx_jobs.specs.declared.job_fault.JobFault.{JobFault}
 use Rattle.tx_jobs.specs.declared.job_fault.JobFault.TheVariants.{Read, Write, NoMemory}
 
 -- why a text was not looked through, as a job reports it
-abbrev pub lint_fault : LintFault → JobFault
+abbrev pub lint_fault : WholeTextFault → JobFault
 lint_fault LintRead = Read
 lint_fault LintNoMemory = NoMemory
 

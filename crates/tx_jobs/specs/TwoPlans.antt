@@ -3,14 +3,13 @@
 use Rattle.std.specs.Prelude.{◌≡◌, ◌⊎◌, List, ℕ, true, None, Result, Ok, Err}
 use Rattle.tx_text.specs.declared.frame.FaultAt.{FaultAt}
 use Rattle.tx_text.specs.declared.frame.FaultKind.{FaultKind}
-use Rattle.tx_text.specs.Ends.{Input}
+use Rattle.tx_text.specs.Ends.{Input, IsWholeText}
 use Rattle.tx_text.specs.Said.{AnswersAs}
 use Rattle.tx_text.specs.Told.{AtEnd}
 use Rattle.tx_plan.specs.Plan.{Plan, figures_of, group_name}
 use Rattle.tx_plan.specs.Rules.{IsPlan}
 use Rattle.tx_plantext.specs.declared.fault.PlanWord.{PlanWord}
 use Rattle.tx_plantext.specs.PlanText.{plan_of, is_memory, declares_line}
-use Rattle.tx_lint.specs.Lints.{IsWholeText}
 use Rattle.tx_join.specs.declared.refusal.JoinRefusal.{JoinRefusal}
 use Rattle.tx_join.specs.declared.refusal.JoinRefusal.TheVariants.{OtherHome, OtherGroup, TooMany, NoMemory as JoinNoMemory}
 use Rattle.tx_join.specs.declared.contradiction.Kind.TheVariants.{Code, Group}

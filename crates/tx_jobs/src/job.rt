@@ -1,11 +1,11 @@
 // The jobs of all commands, behind one call.
-ghost use Rattle.std.specs.Prelude.{◌≡◌, ◌≢◌, ◌≤◌, true, IfSome};
+ghost use Rattle.std.specs.Prelude.{◌≡◌, ◌≢◌, true};
 ghost use Rattle.tx_text.specs.Calls.{CallsAtMost, source_calls};
 ghost use Rattle.tx_text.specs.Ends.{input, output};
 ghost use Rattle.tx_commands.specs.Commands.{IsInRange};
 ghost use Rattle.tx_commands.specs.declared.command.Command.TheVariants.{Pipe};
 ghost use Rattle.tx_jobs.specs.JobFaults.{mark_after};
-ghost use Rattle.tx_jobs.specs.Done.{HasDrawn, IsDone};
+ghost use Rattle.tx_jobs.specs.Done.{IsDone};
 ghost use Rattle.tx_jobs.specs.inner.Texts.{no_text, runs_a_script, has_two_texts, may_have_risks, writes_a_page, is_of_calls};
 
 use crate::audit_evidence::evidence_job;
@@ -13,7 +13,6 @@ use crate::change_evidence::change_evidence_job;
 use crate::check::check_job;
 use crate::codes::codes_job;
 use crate::done::Done;
-use crate::draw::draw_job;
 use crate::fill::fill_job;
 use crate::grade::grade_job;
 use crate::job_fault::JobFault;
@@ -88,7 +87,6 @@ pub fn do_job<A: Allocator + Copy, P: Source, Q: Source, R: Source, W: Sink>(
         }
         Command::Page { .. } => do_page(alloc, command, first, second, third, out),
         Command::Grade { .. } => Ok(Done::Graded(grade_job(alloc, first, out)?)),
-        Command::Draw { routes, .. } => draw(alloc, routes, first, out),
         Command::Explain { line } => {
             write_explanation(line.as_deref(), out)?;
             Ok(Done::Written)
@@ -317,34 +315,4 @@ fn do_page<A: Allocator + Copy, P: Source, Q: Source, R: Source, W: Sink>(
         }
         _ => unreachable!(),
     }
-}
-
-/// Draws a plan, or the routes for one of its codes.
-fn draw<A: Allocator + Copy, P: Source, W: Sink>(
-    alloc: A,
-    routes: &Option<(String, Option<(u8, u8)>)>,
-    plan: &mut P,
-    out: &mut W,
-) -> Result<Done<A>, JobFault>
-    requires { IfSome routes.now (λ r. IfSome r.1 (λ n. (n.0 ≤ 62) × (n.1 ≤ 15))) }
-    ensures done { HasDrawn (input P.rest P.failed P.called plan.old plan.new)
-        (output W.taken out.old out.new) routes.now result }
-    ensures mark { W.failed out.new ≡ mark_after (W.failed out.old) result }
-    ensures calls { CallsAtMost P.called source_calls plan.old plan.new }
-{
-    match routes {
-        None => draw_job(alloc, plan, None, None, out)?,
-        Some((code, None)) => draw_job(alloc, plan, Some(code.as_bytes()), None, out)?,
-        Some((code, Some((limit, spare)))) => {
-            let (limit, spare) = (*limit, *spare);
-            draw_job(
-                alloc,
-                plan,
-                Some(code.as_bytes()),
-                Some(Limits { limit, spare }),
-                out,
-            )?
-        }
-    }
-    Ok(Done::Written)
 }

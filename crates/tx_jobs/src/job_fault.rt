@@ -12,13 +12,12 @@ use thiserror::Error;
 use tx_audit::AuditFault;
 use tx_cert::{CertFault, CertWord};
 use tx_join::Contradiction;
-use tx_lint::LintFault;
 use tx_order::OrderFault;
 use tx_plan::PlanRefusal;
 use tx_plantext::{PlanFault, PlanWord};
 use tx_risk::{RiskFault, RiskWord};
 use tx_script::{RunCause, RunFault, ScriptFault};
-use tx_text::{FaultKind, FrameFault, NoMemory, WriteFault};
+use tx_text::{FaultKind, FrameFault, NoMemory, WholeTextFault, WriteFault};
 
 /// Why a job stopped before its end. `write_fault` says it in full.
 #[derive(Clone, Copy, Debug, PartialEq, Eq, Error)]
@@ -222,13 +221,13 @@ impl From<OrderFault> for JobFault {
     }
 }
 
-impl From<LintFault> for JobFault {
+impl From<WholeTextFault> for JobFault {
     ghost from_gives = { λ lint fault. fault ≡ lint_fault lint };
 
-    fn from(fault: LintFault) -> JobFault {
+    fn from(fault: WholeTextFault) -> JobFault {
         match fault {
-            LintFault::Read => JobFault::Read,
-            LintFault::NoMemory => JobFault::NoMemory,
+            WholeTextFault::Read => JobFault::Read,
+            WholeTextFault::NoMemory => JobFault::NoMemory,
         }
     }
 }

@@ -8,9 +8,9 @@ ghost use Rattle.tx_jobs.specs.LintJobs.{ToldLint, LintedInRoom, LintJobAnswers,
 
 use crate::job_fault::JobFault;
 use std::alloc::Allocator;
-use tx_lint::{Lint, Look, RightText, lint_plan, look_through, read_text, write_lint};
+use tx_lint::{Lint, Look, RightText, lint_plan, look_through, write_lint};
 use tx_risk::read_risks_from;
-use tx_text::{Sink, Source};
+use tx_text::{Sink, Source, read_whole_text};
 
 /// Reads a plan's text to its end, and writes all its faults; or where it has none, the warnings of
 /// its plan. Each line begins with the words for the file of the text. Answers the exit status: 0
@@ -30,7 +30,7 @@ pub fn lint_job<A: Allocator + Copy, P: Source, W: Sink>(
     ensures mark { W.failed out.new ≡ mark_after (W.failed out.old) result }
     ensures calls { CallsAtMost P.called source_calls plan.old plan.new }
 {
-    let text = read_text(alloc, plan)?;
+    let text = read_whole_text(alloc, plan)?;
     lint_text(alloc, &text, file, out)
 }
 
@@ -52,7 +52,7 @@ pub fn lint_risks_job<A: Allocator + Copy, P: Source, R: Source, W: Sink>(
     ensures plan_calls { CallsAtMost P.called source_calls plan.old plan.new }
     ensures risks_calls { CallsAtMost R.called source_calls risks.old risks.new }
 {
-    let text = read_text(alloc, plan)?;
+    let text = read_whole_text(alloc, plan)?;
     match look_through(alloc, &text)? {
         Look::Faults(faults) => tell_lint(&Lint::Faults(faults), file, out),
         Look::Right(right) => warn_with_risks(alloc, right, file, risks, out),

@@ -20,11 +20,10 @@ use crate::job_fault::JobFault;
 use std::alloc::{Allocator, Global};
 use tx_change::first_difference;
 use tx_commands::{Command, Files};
-use tx_lint::read_text;
 use tx_plan::Plan;
 use tx_plantext::read_plan;
 use tx_revise::revise;
-use tx_text::{NoMemory, Sink, SliceSource, Source};
+use tx_text::{NoMemory, Sink, SliceSource, Source, read_whole_text};
 
 /// What a command came to, and the revised text of the plan that it made, if that goes into a file
 /// and is of the network of the text.
@@ -82,7 +81,7 @@ pub fn do_command<A: Allocator + Copy, P: Source, Q: Source, R: Source, W: Sink>
     ensures third_calls { CallsAtMost R.called source_calls third.old third.new }
 {
     if Files::of(command).plan.is_some() {
-        let text = read_text(alloc, first)?;
+        let text = read_whole_text(alloc, first)?;
         return do_over_text(alloc, command, text.as_slice(), second, third, out);
     }
     let done = do_job(alloc, command, first, second, third, out)?;

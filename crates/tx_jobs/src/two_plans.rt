@@ -8,10 +8,9 @@ ghost use Rattle.tx_jobs.specs.inner.TwoPlans.{fault_of, AreReadAndJoined, IsJoi
 use crate::job_fault::JobFault;
 use std::alloc::{Allocator, Global};
 use tx_join::{Contradiction, JoinRefusal, Joined, Kind, join};
-use tx_lint::read_text;
 use tx_plan::Plan;
 use tx_plantext::read_plan;
-use tx_text::Source;
+use tx_text::{Source, read_whole_text};
 
 /// Which plan a text says: the one that a command is about, or the old or the new one of a change
 /// or an order.
@@ -87,7 +86,7 @@ pub(crate) fn read_whole<A: Allocator + Copy, S: Source>(
         (input S.rest S.failed S.called source.old source.new)) }
     ensures calls { CallsAtMost S.called source_calls source.old source.new }
 {
-    let text = read_text(alloc, source)?;
+    let text = read_whole_text(alloc, source)?;
     match read_plan(alloc, &text) {
         Ok(plan) => {
             plan.rules();

@@ -3,13 +3,14 @@ use Rattle.std.proofs.Common.{◌≡◌, ◌≢◌, ℕ, zero, suc, ◌+◌, ◌
 use Rattle.std.specs.Prelude.{find, filter, flat_map, position, slice_get}
 use Rattle.std.specs.List.{list_any, position_or_len, range_with_len, AllByRecursion}
 use Rattle.std.specs.Option.{option_map}
-use Rattle.std.proofs.lemmas.Option.{slice_get_within, get_or_from_slice_get}
-use Rattle.std.proofs.lemmas.List.{take_all, take_more, take-append-drop}
+use Rattle.std.proofs.lemmas.Option.{slice_get_within}
+use Rattle.std.proofs.lemmas.List.{take_all, take-append-drop}
 use Rattle.std.proofs.lemmas.List.Elements.{filter-append}
 use Rattle.std.proofs.lemmas.Bool.{or_parts, cases_eq, leb-true, false_from_ne_true, true≢false, false≢true}
 use Rattle.std.proofs.Math.Bool.{or-true}
 use Rattle.std.proofs.lemmas.List.Folds.{list_any-append}
 use Rattle.tx_plan.specs.Rules.{EachPair}
+use Rattle.tx_plan.proofs.ByIndex.{take_next}
 use Rattle.tx_plan.proofs.Filtered.{all_joined}
 use Rattle.tx_plan.proofs.Lists.{below, all_mapped}
 
@@ -167,9 +168,6 @@ any_flat t f (x ∷ xs) = list_any-append t (f x) (flat_map f xs) ∙ ap (λ b. 
 -- LISTS THAT GROW
 
 module _ {A : Type 0} where
-  pub take_next : (xs : List A) (i : ℕ) (x : A) → slice_get xs i ≡ Some x → take (i + 1) xs ≡ take i xs ++ x ∷ []
-  take_next xs i x e = take_more xs i x (slice_get_within xs i x e) ∙ ap (λ z. take i xs ++ z ∷ []) (get_or_from_slice_get xs i x x e)
-
   -- the next member is kept
   pub kept_next : (s : A → Bool) (xs : List A) (i : ℕ) (x : A) → slice_get xs i ≡ Some x → s x ≡ true → filter s (take (i + 1) xs) ≡ filter s (take i xs) ++ x ∷ []
   kept_next s xs i x e h = ap (filter s) (take_next xs i x e) ∙ filter-append s (take i xs) (x ∷ []) ∙ ap (λ b. filter s (take i xs) ++ cond b (x ∷ []) []) h

@@ -1,9 +1,9 @@
 -- The next entry of a plan that is declared: nothing but lack of memory refuses it.
-use Rattle.std.proofs.Common.{◌≡◌, ◌≢◌, ℕ, suc, ◌+◌, ◌≤◌, Bool, true, false, not, ◌||◌, ◌&&◌, ◌==◌, nat_le, max, List, [], ◌∷◌, ◌++◌, length, map, take, drop, Option, Some, None, Result, Ok, Err, OnOk, inl, inr, refl, sym, ap, ◌∙◌, subst, arith, append_assoc, append-nil, eq-eqb, eqb-true, is_some}
+use Rattle.std.proofs.Common.{◌≡◌, ◌≢◌, ℕ, suc, ◌+◌, ◌≤◌, Bool, true, false, not, ◌||◌, ◌&&◌, ◌==◌, nat_le, max, List, [], ◌∷◌, ◌++◌, length, map, take, drop, Option, Some, None, Result, Ok, Err, inl, inr, refl, sym, ap, ◌∙◌, subst, arith, append_assoc, append-nil, eq-eqb, eqb-true, is_some}
 use Rattle.std.specs.Prelude.{filter, slice_get, if◌then◌else◌, IsOk}
 use Rattle.std.specs.List.{list_any, AllByRecursion}
 use Rattle.std.specs.Str.{bytes_eq}
-use Rattle.std.proofs.lemmas.Bool.{and_from, and_parts, false_from_ne_true, true≢false, false≢true}
+use Rattle.std.proofs.lemmas.Bool.{and_from, and_parts, not_from_true, false_from_ne_true, true≢false, false≢true}
 use Rattle.std.proofs.lemmas.Bool.Decides.{nat_tests}
 use Rattle.std.proofs.lemmas.List.{map-append, take-append-drop}
 use Rattle.std.proofs.lemmas.List.Folds.{list_any-append}
@@ -32,10 +32,6 @@ module _ (refusal : Option PlanRefusal) (old next new : Plan) where
   is_taken (Err f) e (s, inl k) = absurd (let bad : ⊥ = cc in bad)
   is_taken (Err f) e (s, inr k) = subst (λ (g : PlanRefusal). IsTaken (Err g)) (sym k.1) tt
 
-  pub is_next : (r : Result (Unit {0}) PlanRefusal) → Declares refusal old next new r → OnOk r (new ≡ next)
-  is_next (Ok x) h = h.1
-  is_next (Err f) h = tt
-
   pub taken_next : (r : Result (Unit {0}) PlanRefusal) → IsOk r → Declares refusal old next new r → new ≡ next
   taken_next (Ok x) k h = h.1
   taken_next (Err f) k h = absurd (false≢true k)
@@ -52,26 +48,23 @@ none_true : {R : Type 0} (ts : List (Bool × R)) → AllByRecursion (λ t. t.0 �
 none_true [] h = refl
 none_true (t ∷ ts) h = on t.0 t.1 ts h.0 ∙ none_true ts h.1
 
-right : (b : Bool) → b ≡ true → not b ≡ false
-right b e = ap not e
-
 both_right : (a b : Bool) → a ≡ true → b ≡ true → (not a || not b) ≡ false
 both_right a b e f = λ i. not (e i) || not (f i)
 
 pub exchange_free : (p : Plan) (name : List ℕ) → is_name name ≡ true → has_exchange p name ≡ false → nat_le 256 (length p.exchanges) ≡ false → first_true (exchange_refusals p name) ≡ None
-exchange_free p name a b c = none_true (exchange_refusals p name) (right (is_name name) a, (b, (c, tt)))
+exchange_free p name a b c = none_true (exchange_refusals p name) (not_from_true (is_name name) a, (b, (c, tt)))
 
 pub code_free : (p : Plan) (code home : List ℕ) → is_name home ≡ true → is_code code ≡ true → has_code p code ≡ false → has_exchange p home ≡ true → nat_le 1100 (length p.codes) ≡ false → first_true (code_refusals p code home) ≡ None
 code_free p code home a b c d e =
-    none_true (code_refusals p code home) (right (is_name home) a, (right (is_code code) b, (c, (right (has_exchange p home) d, (e, tt)))))
+    none_true (code_refusals p code home) (not_from_true (is_name home) a, (not_from_true (is_code code) b, (c, (not_from_true (has_exchange p home) d, (e, tt)))))
 
 pub lines_free : (p : Plan) (code low high : List ℕ) → is_code code ≡ true → is_national low ≡ true → is_national high ≡ true → has_code p code ≡ true → is_ordered low high ≡ true → overlaps p (code_named p code) low high ≡ false → nat_le 4096 (length p.ranges) ≡ false → first_true (lines_refusals p code low high) ≡ None
 lines_free p code low high a b c d e f g =
-    none_true (lines_refusals p code low high) (right (is_code code) a, (both_right (is_national low) (is_national high) b c, (right (has_code p code) d, (right (is_ordered low high) e, (f, (g, tt))))))
+    none_true (lines_refusals p code low high) (not_from_true (is_code code) a, (both_right (is_national low) (is_national high) b c, (not_from_true (has_code p code) d, (not_from_true (is_ordered low high) e, (f, (g, tt))))))
 
 pub group_free : (p : Plan) (name a b : List ℕ) (count : ℕ) → is_name name ≡ true → is_name a ≡ true → is_name b ≡ true → (nat_le 1 count && nat_le count 240) ≡ true → has_group p name ≡ false → has_exchange p a ≡ true → has_exchange p b ≡ true → bytes_eq a b ≡ false → nat_le 4096 (length p.groups) ≡ false → first_true (group_refusals p name a b count) ≡ None
 group_free p name a b count h i j k l m n o q =
-    none_true (group_refusals p name a b count) ((λ t. not (h t) || both_right (is_name a) (is_name b) i j t), (right (nat_le 1 count && nat_le count 240) k, (l, (both_right (has_exchange p a) (has_exchange p b) m n, (o, (q, tt))))))
+    none_true (group_refusals p name a b count) ((λ t. not (h t) || both_right (is_name a) (is_name b) i j t), (not_from_true (nat_le 1 count && nat_le count 240) k, (l, (both_right (has_exchange p a) (has_exchange p b) m n, (o, (q, tt))))))
 
 -- ENTRIES THAT ARE DECLARED ONE AFTER ANOTHER
 

@@ -1,16 +1,13 @@
 -- The next route or bar that is taken.
-use Rattle.std.proofs.Common.{◌≡◌, ◌≢◌, ℕ, suc, ◌+◌, Bool, true, false, cond, ◌&&◌, ◌==◌, nat_lt, List, [], ◌∷◌, ◌++◌, length, map, take, drop, Option, Some, None, is_some, refl, sym, ap, ◌∙◌, subst, append_assoc, eqb-true}
+use Rattle.std.proofs.Common.{◌≡◌, ◌≢◌, ℕ, suc, ◌+◌, Bool, true, false, cond, ◌&&◌, ◌==◌, nat_lt, List, [], ◌∷◌, ◌++◌, length, map, take, drop, Some, is_some, sym, ap, ◌∙◌, subst, append_assoc, eqb-true}
 use Rattle.std.specs.Prelude.{filter, slice_get}
 use Rattle.std.specs.List.{list_any}
-use Rattle.std.specs.Option.{option_map}
 use Rattle.std.proofs.lemmas.Bool.{and_parts, false_from_ne_true}
 use Rattle.std.proofs.lemmas.List.{map-append}
 use Rattle.std.proofs.lemmas.List.Elements.{filter-append}
 use Rattle.tx_plan.specs.declared.ids.Pair.{Pair}
 use Rattle.tx_plan.specs.Plan.{Plan, Route}
-use Rattle.tx_plan.specs.Rules.{IsPlan, EachPair}
-use Rattle.tx_plan.specs.Routes.{route_list}
-use Rattle.tx_plan.proofs.ListFound.{list_found}
+use Rattle.tx_plan.specs.Rules.{EachPair}
 use Rattle.tx_plan.proofs.Lists.{all_map}
 use Rattle.tx_join.specs.Joined.{route_in, bar_in}
 use Rattle.tx_join.specs.inner.Taken.{takes, taken_routes, taken_bars, has_bar, RoutesDiffer, BarsDiffer}
@@ -23,33 +20,6 @@ module _ {A : Type 0} (exchange code : A → ℕ) where
   none_before xs y ys h =
       let t = λ (a : A). (exchange a == exchange y) && (code a == code y) in
       any_find t xs ∙ ap is_some (find_fails t xs (all_map xs (λ a d. false_from_ne_true (t a) (λ e. let s = and_parts (exchange a == exchange y) (code a == code y) e in d (eqb-true _ _ s.0) (eqb-true _ _ s.1))) (pairs_before (λ a b. exchange a ≡ exchange b → code a ≢ code b) xs y ys h)))
-
--- the entry at an index, by its pair
-pub route_got : (p : Plan) → IsPlan p → (i : ℕ) (k : ℕ × ℕ) → Some k ≡ option_map (λ (r : Route). (r.exchange, r.code)) (slice_get p.routes i) → slice_get p.routes i ≡ Some (record { exchange = k.0; code = k.1; groups = route_list p k.0 k.1 })
-route_got p ok i k got = by (slice_get p.routes i) refl got
-  where
-    by : (o : Option Route) → slice_get p.routes i ≡ o → Some k ≡ option_map (λ (r : Route). (r.exchange, r.code)) o → slice_get p.routes i ≡ Some (record { exchange = k.0; code = k.1; groups = route_list p k.0 k.1 })
-    by None e h = absurd (let bad : ⊥ = cc in bad)
-    by (Some r) e h =
-        let same : k ≡ (r.exchange, r.code) = cc in
-        let x : k.0 ≡ r.exchange = ap (λ (q : ℕ × ℕ). q.0) same in
-        let c : k.1 ≡ r.code = ap (λ (q : ℕ × ℕ). q.1) same in
-        let groups : route_list p k.0 k.1 ≡ r.groups = (λ j. route_list p (x j) (c j)) ∙ list_found p i r ok e in
-        e ∙ sym (λ j. Some (record { exchange = x j; code = c j; groups = groups j }))
-
--- an index of a list has an entry
-pub no_pair : {A : Type 0} (f : A → ℕ × ℕ) (o : Option A) (r : A) → o ≡ Some r → None ≡ option_map f o → ⊥
-no_pair f None r e h = let bad : ⊥ = cc in bad
-no_pair f (Some q) r e h = let bad : ⊥ = cc in bad
-
-pub bar_got : (bars : List Pair) (i : ℕ) (k : ℕ × ℕ) → Some k ≡ option_map (λ (b : Pair). (b.exchange, b.code)) (slice_get bars i) → slice_get bars i ≡ Some (record { exchange = k.0; code = k.1 })
-bar_got bars i k got = by (slice_get bars i) refl got
-  where
-    by : (o : Option Pair) → slice_get bars i ≡ o → Some k ≡ option_map (λ (b : Pair). (b.exchange, b.code)) o → slice_get bars i ≡ Some (record { exchange = k.0; code = k.1 })
-    by None e h = absurd (let bad : ⊥ = cc in bad)
-    by (Some b) e h =
-        let same : k ≡ (b.exchange, b.code) = cc in
-        e ∙ sym (λ j. Some (record { exchange = (same j).0; code = (same j).1 }))
 
 -- ROUTES
 

@@ -1,5 +1,5 @@
 -- What certifies the old plan over the joined network certifies the old plan as it is.
-use Rattle.std.proofs.Common.{◌≡◌, ℕ, ◌<◌, ◌⊎◌, Bool, true, false, not, cond, ◌&&◌, ◌==◌, nat_lt, List, [], ◌∷◌, length, map, inl, inr, Option, Some, None, is_some, refl, sym, ap, ◌∙◌, subst, eqb-true}
+use Rattle.std.proofs.Common.{◌≡◌, ℕ, ◌<◌, Bool, true, false, not, cond, ◌&&◌, ◌==◌, nat_lt, List, [], ◌∷◌, length, map, Option, Some, None, is_some, refl, sym, ap, ◌∙◌, subst, eqb-true}
 use Rattle.std.specs.Prelude.{slice_get, find, option_and_then, if◌then◌else◌}
 use Rattle.std.specs.List.{AllByRecursion}
 use Rattle.std.specs.Option.{option_map, option_map_or}
@@ -8,11 +8,12 @@ use Rattle.std.proofs.lemmas.List.{length-map}
 use Rattle.std.proofs.lemmas.Option.{slice_get-map, slice_get_within}
 use Rattle.tx_plan.specs.declared.range.LineRange.{LineRange}
 use Rattle.tx_plan.specs.Plan.{Plan, Code, Group, Route, home_of}
-use Rattle.tx_plan.specs.Rules.{IsPlan, IsRoute, IsRange, IsGroup}
+use Rattle.tx_plan.specs.Rules.{IsPlan, IsRoute, IsRange}
 use Rattle.tx_plan.specs.Circuits.{other_end, far_end}
 use Rattle.tx_plan.specs.Routes.{route_list, is_barred, is_origin}
 use Rattle.tx_plan.specs.Certified.{Ranks, IsBelow, LeadsLower, LeadsDown, IsCertified}
 use Rattle.tx_plan.proofs.ByIndex.{entry_at, all_at}
+use Rattle.tx_plan.proofs.Ends.{end_within}
 use Rattle.tx_plan.proofs.Lists.{all_map, all_with, slice_get_left}
 use Rattle.tx_join.specs.Joined.{joined_network, joined_old, widened, group_in}
 use Rattle.tx_join.specs.Laws.{CanBeJoined, ranks_within}
@@ -26,30 +27,6 @@ use Rattle.tx_join.proofs.Taking.{seized}
 list_all : (P : Route → Type 0) (Q : List ℕ → Type 0) (t : Route → Bool) (rs : List Route) → Q [] → ((r : Route) → P r → Q r.groups) → AllByRecursion P rs → Q (option_map_or (λ (r : Route). r.groups) (find t rs) [])
 list_all P Q t [] q f h = q
 list_all P Q t (r ∷ rs) q f h = elim (t r) as (λ b. Q (option_map_or (λ (r : Route). r.groups) (cond b (Some r) (find t rs)) [])) [ true ↦ f r h.0 | false ↦ list_all P Q t rs q f h.1 ]
-
--- the exchange across a group is one of its ends
-is_end : (r : Group) (x to : ℕ) → far_end r x ≡ Some to → (to ≡ r.a) ⊎ (to ≡ r.b)
-is_end r x to h = first (r.a == x) h
-  where
-    second : (b : Bool) → (if b then Some r.a else None) ≡ Some to → (to ≡ r.a) ⊎ (to ≡ r.b)
-    second true e = inl cc
-    second false e = absurd (let bad : ⊥ = cc in bad)
-
-    first : (b : Bool) → (if b then Some r.b else if r.b == x then Some r.a else None) ≡ Some to → (to ≡ r.a) ⊎ (to ≡ r.b)
-    first true e = inr cc
-    first false e = second (r.b == x) e
-
-far_within : (p : Plan) → IsPlan p → (g x to : ℕ) → other_end p g x ≡ Some to → to < length p.exchanges
-far_within p ok g x to h = from (slice_get p.groups g) refl h
-  where
-    from : (o : Option Group) → slice_get p.groups g ≡ o → option_and_then (λ r. far_end r x) o ≡ Some to → to < length p.exchanges
-    from None e k = absurd (let bad : ⊥ = cc in bad)
-    from (Some r) e k =
-        let rules = all_at (IsGroup p) p.groups g r ok.groups e in
-        elim (is_end r x to k) [
-          | inl s ↦ subst (λ n. n < length p.exchanges) (sym s) rules.first
-          | inr s ↦ subst (λ n. n < length p.exchanges) (sym s) rules.second
-        ]
 
 -- the ranks of exchanges of the plan
 rank_within : (p : Plan) (ranks : Ranks) (c x : ℕ) → x < length p.exchanges → ranks_within p ranks c x ≡ ranks c x
@@ -121,7 +98,7 @@ module _ (old new : Plan) (can : CanBeJoined old new) where
       each = all_with (route_list old x c) (λ g w k. let e : other_end old g x ≡ Some k.to = sym (end_kept g x w) ∙ k.leads in record {
         to = k.to;
         leads = e;
-        lower = subst (λ o. IsBelow o r) (sym (rank_within old ranks c k.to (far_within old ok g x k.to e))) k.lower;
+        lower = subst (λ o. IsBelow o r) (sym (rank_within old ranks c k.to (end_within old ok g x k.to e))) k.lower;
       }) (listed_within x c) (subst (AllByRecursion (LeadsLower before ranks c x r)) (list_kept x c m l) d.each);
     }
 

@@ -4,4 +4,3 @@ pub mod Linted
 pub mod Marked
 pub mod Texts
 pub mod Warned
-pub mod WholeText

@@ -5,17 +5,16 @@ use Rattle.std.specs.List.{list_any, AllByRecursion}
 use Rattle.std.specs.Option.{option_map, option_map_or}
 use Rattle.std.proofs.Math.Dec.{eqb-zero-suc, eqb-suc-zero, eqb-suc-suc}
 use Rattle.std.proofs.Math.ListN.{set}
-use Rattle.std.proofs.lemmas.Bool.{cases_lt, false≢true, false_from_ne_true}
+use Rattle.std.proofs.lemmas.Bool.{cases_lt, false_from_ne_true}
 use Rattle.std.proofs.lemmas.List.{map-append}
 use Rattle.std.proofs.lemmas.List.Folds.{list_any_more}
-use Rattle.std.proofs.lemmas.Option.{slice_get_within}
 use Rattle.tx_plan.proofs.Lists.{all_map}
-use Rattle.tx_plan.specs.Plan.{Plan, Route, Group}
-use Rattle.tx_plan.specs.Circuits.{may_seize, may_seize_row}
+use Rattle.tx_plan.specs.Plan.{Plan, Route}
 use Rattle.tx_plan.specs.Routes.{route_list, is_origin}
 use Rattle.tx_plan.specs.Rules.{IsPlan, IsRoute}
 use Rattle.tx_plan.proofs.ByIndex.{entry_at, all_at}
 use Rattle.tx_plan.proofs.ListFound.{list_found}
+use Rattle.tx_plan.proofs.Growing.{seizes_within}
 use Rattle.tx_trie.proofs.Stepping.{slice_get_last}
 use Rattle.tx_rank.specs.Walks.{net_of}
 use Rattle.tx_rank.specs.Heights.{IsReached}
@@ -126,13 +125,6 @@ listed_more old new routes i r low is so more g =
 
 -- ---- the route at an index
 
-seized_within : (p : Plan) (g x : ℕ) → may_seize p g x ≡ true → g < length p.groups
-seized_within p g x h = at (slice_get p.groups g) refl h
-  where
-    at : (o : Option Group) → slice_get p.groups g ≡ o → option_map_or (λ (r : Group). may_seize_row r x) o false ≡ true → g < length p.groups
-    at None e h = absurd (false≢true h)
-    at (Some r) e h = slice_get_within p.groups g r e
-
 -- it is there, and has the list of its exchange and code
 pub route_there : (p : Plan) → IsPlan p → (i : ℕ) (k : ℕ × ℕ)
     → Some k ≡ option_map (λ (r : Route). (r.exchange, r.code)) (slice_get p.routes i)
@@ -154,12 +146,7 @@ within_marks p ok i r at marks list long is =
     let seized = (all_at (IsRoute p) p.routes i r ok.routes at).outgoing in
     subst (AllByRecursion (λ g. g < length marks)) (sym is)
     (subst (λ n. AllByRecursion (λ g. g < n) r.groups) (sym long)
-    (all_map r.groups (λ g may. seized_within p g r.exchange may) seized))
-
--- an entry at an index within a list is there
-pub no_none : {X Y : Type 0} (f : X → Y) (o : Option X) (x : X) → o ≡ Some x → ◌≡◌ {A = Option Y} None (option_map f o) → ⊥
-no_none f None x e h = cc
-no_none f (Some y) x e h = cc
+    (all_map r.groups (λ g may. seizes_within p g r.exchange may) seized))
 
 -- what is below a bound at each index
 pub below_at : (n : ℕ) (groups : List ℕ) (i y : ℕ) → AllByRecursion (λ g. g < n) groups → i < length groups

@@ -13,7 +13,7 @@ use Rattle.tx_plan.specs.Routes.{route_list}
 use Rattle.tx_plan.proofs.ListFound.{list_found}
 use Rattle.tx_plan.specs.Codes.{after, is_prefix}
 use Rattle.tx_risk.specs.NamedRisks.{NamedRisk}
-use Rattle.tx_cert.proofs.Ranges.{flat_map-range_more}
+use Rattle.tx_text.proofs.Ranges.{flat_map-range_more}
 use Rattle.tx_lint.specs.declared.entry.Entry.{Entry}
 use Rattle.tx_lint.specs.declared.warning.Warning.{Warning}
 use Rattle.tx_lint.specs.declared.warning.Warning.TheVariants.{NoLines, UnusedList, NoList, Ambiguous, SharedRisk, Unlisted}

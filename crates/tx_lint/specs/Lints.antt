@@ -1,8 +1,7 @@
 -- What is found in a plan's text: its faults, or if it has none its warnings.
-use Rattle.std.specs.Prelude.{◌≡◌, ◌≢◌, ℕ, List, [], ◌∷◌, map, Option}
+use Rattle.std.specs.Prelude.{◌≡◌, ◌≢◌, ℕ, List, [], ◌∷◌, map}
 use Rattle.std.specs.List.{flat_map}
 use Rattle.std.specs.Option.{option_map}
-use Rattle.std.specs.Io.KnownBytes.{prepend_known, IsAtEnd}
 use Rattle.tx_plan.specs.Plan.{Plan}
 use Rattle.tx_risk.specs.NamedRisks.{NamedRisk}
 use Rattle.tx_lint.specs.declared.fault.Fault.{Fault as FaultHeld}
@@ -67,8 +66,3 @@ lint_status (Warnings p risks ws) = warnings_status ws
 abbrev pub lint_held : {A : Type 0} → LintHeld A → Lint
 lint_held (HeldFaults fs) = Faults (map fault_held fs.items)
 lint_held (HeldWarnings p risks ws) = Warnings p risks ws.items
-
--- The whole text of a source was read, by what the source had left to give, and has left
-pub record IsWholeText (old new : Option (List ℕ)) (text : List ℕ) : Type 0 where
-  pub moves : old ≡ prepend_known text new
-  pub ends : IsAtEnd new

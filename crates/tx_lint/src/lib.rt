@@ -12,15 +12,13 @@ mod lines;
 mod lint_text;
 mod linting;
 mod marks;
-mod reading;
 mod warning;
 mod warnings;
 mod word_tests;
 
 pub use escaped::write_escaped;
-pub use fault::{Fault, LintFault};
+pub use fault::Fault;
 pub use law::faults_agree_with_reader;
 pub use lint_text::write_lint;
 pub use linting::{Lint, Look, RightText, lint_plan, look_through};
-pub use reading::read_text;
 pub use warning::Warning;

@@ -10,13 +10,13 @@ ghost use Rattle.tx_lint.specs.inner.Readings.{progress_held, faults_held, TookI
 
 use crate::at_fault::word_at_fault;
 use crate::entry::Entry;
-use crate::fault::{Fault, LintFault};
+use crate::fault::Fault;
 use std::alloc::Allocator;
 use tx_plan::{PlanBuilder, PlanRefusal};
 use tx_plantext::{KEY, LineFault, PlanLine, PlanWord, VERSIONS};
 use tx_text::{
-    FaultKind, FrameFault, FramePart, LineForm, NoMemory, TextLine, bytes_fault, closing,
-    first_line, last_fault, look, words,
+    FaultKind, FrameFault, FramePart, LineForm, NoMemory, TextLine, WholeTextFault, bytes_fault,
+    closing, first_line, last_fault, look, words,
 };
 
 /// What was read of a text: what its lines declare, and what is wrong with them.
@@ -73,9 +73,9 @@ impl<'t, A: Allocator> Reading<'t, A> {
     }
 
     /// Takes in the next line.
-    fn take_in(&mut self, line: TextLine<'t>) -> Result<(), LintFault>
+    fn take_in(&mut self, line: TextLine<'t>) -> Result<(), WholeTextFault>
         ensures took { OnOk result (TookIn self.old self.new (line_of line.entry)) }
-        ensures memory { IfErr result (λ fault. fault ≡ LintFault.NoMemory) }
+        ensures memory { IfErr result (λ fault. fault ≡ WholeTextFault.NoMemory) }
     {
         if let Some(fault) = bytes_fault(line.text) {
             let fault = FrameFault::from(fault);
@@ -93,12 +93,12 @@ impl<'t, A: Allocator> Reading<'t, A> {
     }
 
     /// The same of a finished line of right bytes, by what it is in the frame.
-    fn take_form(&mut self, line: TextLine<'t>, form: LineForm) -> Result<(), LintFault>
+    fn take_form(&mut self, line: TextLine<'t>, form: LineForm) -> Result<(), WholeTextFault>
         requires finished { line.finished ≡ true }
         requires right { bytes_fault line.text.now ≡ None }
         requires form { form ≡ form_of self.old.part (words_of line.text.now) }
         ensures took { OnOk result (TookIn self.old self.new (line_of line.entry)) }
-        ensures memory { IfErr result (λ fault. fault ≡ LintFault.NoMemory) }
+        ensures memory { IfErr result (λ fault. fault ≡ WholeTextFault.NoMemory) }
     {
         match form {
             LineForm::Blank => {}
@@ -121,12 +121,12 @@ impl<'t, A: Allocator> Reading<'t, A> {
     }
 
     /// The same of a line with words between the header and END.
-    fn declare(&mut self, line: TextLine<'t>) -> Result<(), LintFault>
+    fn declare(&mut self, line: TextLine<'t>) -> Result<(), WholeTextFault>
         requires finished { line.finished ≡ true }
         requires right { bytes_fault line.text.now ≡ None }
         requires plain { form_of self.old.part (words_of line.text.now) ≡ LineForm.Plain }
         ensures took { OnOk result (TookIn self.old self.new (line_of line.entry)) }
-        ensures memory { IfErr result (λ fault. fault ≡ LintFault.NoMemory) }
+        ensures memory { IfErr result (λ fault. fault ≡ WholeTextFault.NoMemory) }
     {
         let (fault, word) = match PlanLine::read(self.version, words(line.text)) {
             Ok(read) => return self.declare_line(line.number, &read),
@@ -138,14 +138,14 @@ impl<'t, A: Allocator> Reading<'t, A> {
     }
 
     /// Declares what a line does, or notes why it is refused.
-    fn declare_line(&mut self, number: u64, line: &PlanLine<'t>) -> Result<(), LintFault>
+    fn declare_line(&mut self, number: u64, line: &PlanLine<'t>) -> Result<(), WholeTextFault>
         ensures declared { OnOk result (Declared self.old self.new number (line_words line.now)) }
-        ensures memory { IfErr result (λ fault. fault ≡ LintFault.NoMemory) }
+        ensures memory { IfErr result (λ fault. fault ≡ WholeTextFault.NoMemory) }
     {
         let entry = Entry::next(self.plan.plan(), line);
         match line.declare(&mut self.plan) {
             Ok(()) => self.note(number, entry)?,
-            Err(PlanRefusal::NoMemory) => return Err(LintFault::NoMemory),
+            Err(PlanRefusal::NoMemory) => return Err(WholeTextFault::NoMemory),
             Err(refusal) => {
                 let word = word_at_fault(self.plan.plan(), line, refusal);
                 self.tell(number, FaultKind::Word(PlanWord::from(refusal)), word)?;
@@ -171,9 +171,9 @@ impl<'t, A: Allocator> Reading<'t, A> {
 pub(crate) fn read_lines<A: Allocator + Copy>(
     alloc: A,
     text: &[u8],
-) -> Result<Reading<'_, A>, LintFault>
+) -> Result<Reading<'_, A>, WholeTextFault>
     ensures read { IfOk result (HasRead text.now) }
-    ensures memory { IfErr result (λ fault. fault ≡ LintFault.NoMemory) }
+    ensures memory { IfErr result (λ fault. fault ≡ WholeTextFault.NoMemory) }
 {
     let mut reading = Reading::new(alloc);
     let mut rest = text;

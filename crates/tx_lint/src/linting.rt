@@ -3,7 +3,7 @@ ghost use Rattle.std.specs.Prelude.{◌≡◌, [], IfOk, IfErr};
 ghost use Rattle.tx_lint.specs.Lints.{AreWarningsOf, IsLintOf, IsLookOf, lint_held, lint_status};
 
 use crate::entry::Entry;
-use crate::fault::{Fault, LintFault};
+use crate::fault::Fault;
 use crate::lines::{Reading, read_lines};
 use crate::warning::Warning;
 use crate::warnings::warnings_of;
@@ -11,7 +11,7 @@ use std::alloc::{Allocator, Global};
 use std::marker::Model;
 use tx_plan::Plan;
 use tx_risk::Risks;
-use tx_text::NoMemory;
+use tx_text::{NoMemory, WholeTextFault};
 
 /// The faults or warnings of a plan's text.
 #[derive(Drop)]
@@ -81,9 +81,12 @@ pub enum Look<'t, A: Allocator = Global> {
 }
 
 /// Looks a plan's text through. `Err` is lack of memory.
-pub fn look_through<A: Allocator + Copy>(alloc: A, text: &[u8]) -> Result<Look<'_, A>, LintFault>
+pub fn look_through<A: Allocator + Copy>(
+    alloc: A,
+    text: &[u8],
+) -> Result<Look<'_, A>, WholeTextFault>
     ensures look { IfOk result (IsLookOf text.now) }
-    ensures memory { IfErr result (λ fault. fault ≡ LintFault.NoMemory) }
+    ensures memory { IfErr result (λ fault. fault ≡ WholeTextFault.NoMemory) }
 {
     let Reading {
         part: _,
@@ -101,9 +104,9 @@ pub fn look_through<A: Allocator + Copy>(alloc: A, text: &[u8]) -> Result<Look<'
 
 /// Looks a plan's text through: all its faults, or where it has none all warnings of its plan,
 /// without named risks. `Err` is lack of memory.
-pub fn lint_plan<A: Allocator + Copy>(alloc: A, text: &[u8]) -> Result<Lint<'_, A>, LintFault>
+pub fn lint_plan<A: Allocator + Copy>(alloc: A, text: &[u8]) -> Result<Lint<'_, A>, WholeTextFault>
     ensures lint { IfOk result (λ l. IsLintOf text.now [] (lint_held l)) }
-    ensures memory { IfErr result (λ fault. fault ≡ LintFault.NoMemory) }
+    ensures memory { IfErr result (λ fault. fault ≡ WholeTextFault.NoMemory) }
 {
     match look_through(alloc, text)? {
         Look::Faults(faults) => Ok(Lint::Faults(faults)),

@@ -1,5 +1,5 @@
 -- The mended routes as they are added, pair by pair.
-use Rattle.std.proofs.Common.{◌≡◌, ◌≢◌, ℕ, zero, suc, ◌+◌, ◌<◌, Bool, true, false, not, cond, ◌==◌, ◌&&◌, ◌||◌, List, [], ◌∷◌, ◌++◌, length, map, take, Option, Some, None, inl, inr, refl, sym, ap, subst, ◌∙◌, arith, append_assoc, append-nil}
+use Rattle.std.proofs.Common.{◌≡◌, ◌≢◌, ℕ, zero, suc, ◌+◌, ◌<◌, Bool, true, false, not, cond, ◌==◌, ◌&&◌, ◌||◌, List, [], ◌∷◌, ◌++◌, length, map, take, Option, Some, inl, inr, refl, sym, ap, subst, ◌∙◌, arith, append_assoc, append-nil}
 use Rattle.std.specs.Prelude.{filter, find, slice_get}
 use Rattle.std.specs.List.{flat_map, list_any, AllByRecursion}
 use Rattle.std.specs.Option.{option_map, option_map_or}
@@ -12,12 +12,11 @@ use Rattle.tx_plan.specs.Rules.{IsPlan, IsRoute, EachPair}
 use Rattle.tx_plan.specs.Routes.{route_list}
 use Rattle.tx_plan.specs.Declaring.{has_route}
 use Rattle.tx_plan.specs.Among.{Among}
-use Rattle.tx_plan.proofs.Among.{among_left, among_cases, map_among, filter_among, flat_among}
+use Rattle.tx_plan.proofs.Among.{among_left, among_cases, map_among, filter_among, flat_among, all_among}
 use Rattle.tx_mend.specs.LeastRanks.{indexes}
 use Rattle.tx_mend.specs.inner.Pairs.{present_pairs, pairs_for, is_absent, absent_below}
 use Rattle.tx_mend.proofs.Distinct.{range_among}
-use Rattle.tx_rank.proofs.Ways.{all_among}
-use Rattle.tx_mend.proofs.Least.{list_cases, found_among}
+use Rattle.tx_plan.proofs.ListFound.{list_cases, found_among}
 use Rattle.tx_mend.proofs.Placed.{indexes_more, flat_more}
 use Rattle.tx_mend.proofs.Routed.{Apart, routed, route_of, has_any, any_has, pair_within, pairs_apart}
 
@@ -32,13 +31,6 @@ fresh lists ks x c h = elim (list_any (at x c) (flat_map (routed lists) ks)) as 
 ] refl
 
 -- THE PAIRS THAT HAVE A ROUTE
-
-abbrev pub pair_of : Route → ℕ × ℕ
-pair_of r = (r.exchange, r.code)
-
-pub no_none : {A B : Type 0} (f : A → B) (o : Option A) (r : A) → o ≡ Some r → None ≡ option_map f o → ⊥
-no_none f None r e h = let bad : ⊥ = cc in bad
-no_none f (Some q) r e h = let bad : ⊥ = cc in bad
 
 pub pair_got : (rs : List Route) (i : ℕ) → slice_get (map pair_of rs) i ≡ option_map pair_of (slice_get rs i)
 pair_got [] i = refl

@@ -23,7 +23,8 @@ use Rattle.tx_mend.specs.Mended.{mended}
 use Rattle.tx_mend.specs.Laws.{CouldStay, ComesFirst, ChangesLeast, MendingChangesLeast}
 use Rattle.tx_mend.proofs.Filled.{stands, stands_any, filled_few, filled_keeps, filled_full, filled_extends, filled_pairs}
 use Rattle.tx_mend.proofs.InOrder.{below_in_order}
-use Rattle.tx_mend.proofs.Least.{listed_within, least_keeping}
+use Rattle.tx_plan.proofs.ListFound.{listed_within}
+use Rattle.tx_mend.proofs.Least.{least_keeping}
 use Rattle.tx_mend.proofs.LeastLists.{below_leads, filled_enough}
 use Rattle.tx_mend.proofs.Kept.{IsLost, below_of, kept_ranking, origins_ranked, stays_or_lost}
 use Rattle.tx_mend.proofs.Trimmed.{is_mended, called_reached, kept_mended}

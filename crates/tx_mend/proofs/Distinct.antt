@@ -7,7 +7,7 @@ use Rattle.std.proofs.lemmas.Map.Made.{length-le_from_is_member}
 use Rattle.tx_plan.specs.Rules.{EachPair}
 use Rattle.tx_plan.specs.Among.{Among}
 use Rattle.tx_rank.specs.Walks.{AllDiffer}
-use Rattle.tx_rank.proofs.Ways.{among_all}
+use Rattle.tx_plan.proofs.Among.{among_all}
 use Rattle.tx_rank.proofs.Unmended.{all_distinct, any_among}
 
 module _ {A : Type 0} where

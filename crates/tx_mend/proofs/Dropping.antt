@@ -1,37 +1,25 @@
 -- Steps of loops over groups, by what is left.
-use Rattle.std.proofs.Common.{◌≡◌, ℕ, suc, ◌+◌, ◌<◌, Bool, true, false, cond, not, ◌&&◌, ◌||◌, List, [], ◌∷◌, ◌++◌, length, get_or, drop, refl, sym, ap, ◌∙◌, arith, add-one, drop-cons, append_assoc}
+use Rattle.std.proofs.Common.{◌≡◌, ℕ, ◌+◌, ◌<◌, Bool, true, false, cond, not, ◌&&◌, ◌||◌, List, [], ◌∷◌, ◌++◌, length, get_or, drop, refl, sym, ap, ◌∙◌, arith}
 use Rattle.std.specs.Prelude.{filter}
 use Rattle.std.specs.List.{list_all}
 use mir.Val.{bool_byte}
+use Rattle.tx_plan.proofs.Filtered.{at_drop, filter_step}
 use Rattle.tx_mend.specs.Lists.{put, filled}
 
 module _ (xs : List ℕ) (i x : ℕ) (h : i < length xs) (e : x ≡ get_or xs i x) where
-  pub at_drop : drop i xs ≡ x ∷ drop (i + 1) xs
-  at_drop = rw add-one (drop-cons xs i x h ∙ ap (λ y. y ∷ drop (suc i) xs) (sym e))
-
   pub all_step : (t : ℕ → Bool) → list_all t xs ≡ list_all t (drop i xs) → t x ≡ true → list_all t xs ≡ list_all t (drop (i + 1) xs)
-  all_step t a k = a ∙ ap (list_all t) at_drop ∙ ap (λ b. b && list_all t (drop (i + 1) xs)) k
-
-  filter_step : (t : ℕ → Bool) (b : Bool) → t x ≡ b → filter t (drop i xs) ≡ cond b (x ∷ filter t (drop (i + 1) xs)) (filter t (drop (i + 1) xs))
-  filter_step t b k = ap (filter t) at_drop ∙ ap (λ b. cond b (x ∷ filter t (drop (i + 1) xs)) (filter t (drop (i + 1) xs))) k
+  all_step t a k = a ∙ ap (list_all t) (at_drop xs i x h e) ∙ ap (λ b. b && list_all t (drop (i + 1) xs)) k
 
   pub count_step : (t : ℕ → Bool) (n all : ℕ) (b : Bool) → n + length (filter t (drop i xs)) ≡ all → t x ≡ b → (n + bool_byte b) + length (filter t (drop (i + 1) xs)) ≡ all
-  count_step t n all true a k = let s = ap length (filter_step t true k) in omega arith
-  count_step t n all false a k = let s = ap length (filter_step t false k) in omega arith
+  count_step t n all true a k = let s = ap length (filter_step xs i x h e t true k) in omega arith
+  count_step t n all false a k = let s = ap length (filter_step xs i x h e t false k) in omega arith
 
   module _ (spare : ℕ) (t : ℕ → Bool) (list all : List ℕ) (a : all ≡ filled spare list (filter t (drop i xs))) where
     pub fill_put : (new : List ℕ) → t x ≡ true → new ≡ put spare list x → all ≡ filled spare new (filter t (drop (i + 1) xs))
-    fill_put new k n = a ∙ ap (filled spare list) (filter_step t true k) ∙ ap (λ l. filled spare l (filter t (drop (i + 1) xs))) (sym n)
+    fill_put new k n = a ∙ ap (filled spare list) (filter_step xs i x h e t true k) ∙ ap (λ l. filled spare l (filter t (drop (i + 1) xs))) (sym n)
 
     pub fill_passed : (new : List ℕ) → t x ≡ false → new ≡ list → all ≡ filled spare new (filter t (drop (i + 1) xs))
-    fill_passed new k n = a ∙ ap (filled spare list) (filter_step t false k) ∙ ap (λ l. filled spare l (filter t (drop (i + 1) xs))) (sym n)
-
-  module _ (t : ℕ → Bool) (list all : List ℕ) (a : list ++ filter t (drop i xs) ≡ all) where
-    pub keep_put : (new : List ℕ) → t x ≡ true → new ≡ list ++ x ∷ [] → new ++ filter t (drop (i + 1) xs) ≡ all
-    keep_put new k n = ap (λ l. l ++ filter t (drop (i + 1) xs)) n ∙ append_assoc list (x ∷ []) (filter t (drop (i + 1) xs)) ∙ ap (λ l. list ++ l) (sym (filter_step t true k)) ∙ a
-
-    pub keep_passed : (new : List ℕ) → t x ≡ false → new ≡ list → new ++ filter t (drop (i + 1) xs) ≡ all
-    keep_passed new k n = ap (λ l. l ++ filter t (drop (i + 1) xs)) n ∙ ap (λ l. list ++ l) (sym (filter_step t false k)) ∙ a
+    fill_passed new k n = a ∙ ap (filled spare list) (filter_step xs i x h e t false k) ∙ ap (λ l. filled spare l (filter t (drop (i + 1) xs))) (sym n)
 
 -- all that pass one test pass another one
 pub all_kept : (t on : ℕ → Bool) (xs : List ℕ) → list_all (λ x. not (t x) || on x) xs ≡ list_all on (filter t xs)

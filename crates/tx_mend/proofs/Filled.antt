@@ -6,12 +6,11 @@ use Rattle.std.proofs.lemmas.Bool.{or_cases, or_left, or_right, false≢true, lt
 use borrow.Author.Tests.{ltb-false}
 use Rattle.tx_plan.specs.Among.{Among}
 use Rattle.tx_plan.specs.Rules.{EachPair}
-use Rattle.tx_plan.proofs.Among.{among_left, among_right, among_cases}
+use Rattle.tx_plan.proofs.Among.{among_left, among_right, among_cases, all_among, among_all}
 use Rattle.tx_plan.proofs.Lists.{all_put}
 use Rattle.tx_plan.proofs.ByIndex.{pairs_put}
 use Rattle.tx_mend.specs.Lists.{put, filled}
 use Rattle.tx_rank.specs.Walks.{AllDiffer}
-use Rattle.tx_rank.proofs.Ways.{all_among, among_all}
 
 pub stands : (g : ℕ) (xs : List ℕ) → list_any (λ h. h == g) xs ≡ true → Among g xs
 stands g [] h = absurd (false≢true h)

@@ -14,7 +14,8 @@ use Rattle.tx_mend.specs.LeastRanks.{indexes, RanksOfCode, outgoing, leads_on, c
 use Rattle.tx_mend.specs.KeptRanks.{leads_below, stays_by, list_with, can_follow_keeping, rank_keeping, put_back, has_rank, nearest_first, choice_at, choices, kept_rank}
 use Rattle.tx_mend.proofs.Distinct.{some_among, fits, among_range, all_holds, holds_all}
 use Rattle.tx_mend.proofs.RoundRanks.{Ranked, why, no_greater}
-use Rattle.tx_mend.proofs.Least.{list_few, leads}
+use Rattle.tx_plan.proofs.ListFound.{list_few}
+use Rattle.tx_mend.proofs.Least.{leads}
 use Rattle.tx_mend.proofs.LeastLists.{Leads, IsRanking, present_list, rank_over, on_leads, round_ranking}
 
 -- WHERE ALL ORIGINS ARE RANKED

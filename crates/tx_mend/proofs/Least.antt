@@ -1,81 +1,32 @@
 -- Least ranks are least.
-use Rattle.std.proofs.Common.{◌≡◌, ◌≢◌, ℕ, suc, ◌<◌, ◌≤◌, ◌⊎◌, Bool, true, false, ◌==◌, ◌&&◌, cond, eqb-true, List, [], ◌∷◌, length, Option, Some, None, inl, inr, refl, sym, ap, subst, ◌∙◌, arith}
-use Rattle.std.specs.Prelude.{find, filter, is_some, option_and_then}
-use Rattle.std.specs.Option.{option_map_or}
+use Rattle.std.proofs.Common.{◌≡◌, ◌≢◌, ℕ, suc, ◌<◌, ◌≤◌, true, List, length, Option, Some, inl, inr, sym, ap, subst, ◌∙◌, arith}
+use Rattle.std.specs.Prelude.{filter, is_some, option_and_then}
 use Rattle.std.specs.List.{list_all}
-use Rattle.std.proofs.lemmas.Bool.{and_parts, and_from, lt-ltb}
+use Rattle.std.proofs.lemmas.Bool.{and_from, lt-ltb}
 use Rattle.tx_plan.specs.Plan.{Plan, Route, home_of}
 use Rattle.tx_plan.specs.Rules.{IsPlan, IsRoute}
 use Rattle.tx_plan.specs.Routes.{route_list}
 use Rattle.tx_plan.specs.Circuits.{may_seize, other_end}
 use Rattle.tx_plan.specs.Certified.{Ranks, LeadsLower}
 use Rattle.tx_plan.specs.Among.{Among}
-use Rattle.tx_plan.proofs.Among.{among_filter}
+use Rattle.tx_plan.proofs.Among.{among_filter, all_among}
 use Rattle.tx_plan.proofs.Growing.{seizes_within}
+use Rattle.tx_plan.proofs.ListFound.{list_cases, list_seizes}
 use Rattle.tx_plan.specs.Mixed.{rerouted}
 use Rattle.tx_mend.specs.Routings.{IsFalling}
 use Rattle.tx_mend.specs.LeastRanks.{indexes, RanksOfCode, outgoing, leads_on, can_follow, least_rank, LeastRanksAreLeast}
 use Rattle.tx_mend.specs.KeptRanks.{can_follow_keeping, rank_keeping}
 use Rattle.tx_mend.proofs.Distinct.{some_among, fits, among_range, holds_all}
 use Rattle.tx_rank.specs.Walks.{AllDiffer}
-use Rattle.tx_rank.proofs.Ways.{all_among}
 use Rattle.tx_rank.proofs.Certifying.{below_rank}
 use Rattle.tx_mend.proofs.RoundRanks.{no_greater}
 
--- the route that was found is one of them
-pub record IsFoundRoute (p : Plan) (x c : ℕ) : Type 0 where
-  pub route : Route
-  pub among : Among route p.routes
-  pub exchange : route.exchange ≡ x
-  pub code : route.code ≡ c
-  pub groups : route_list p x c ≡ route.groups
-
-pub found_among : (t : Route → Bool) (xs : List Route) (z : Route) → find t xs ≡ Some z → Among z xs × (t z ≡ true)
-found_among t [] z h = absurd (let bad : ⊥ = cc in bad)
-found_among t (x ∷ xs) z h =
-    elim (t x) as (λ b. t x ≡ b → cond b (Some x) (find t xs) ≡ Some z → Among z (x ∷ xs) × (t z ≡ true)) [
-      | true ↦ λ tx e. let same : x ≡ z = cc in (inl same, ap t (sym same) ∙ tx)
-      | false ↦ λ tx e. let i = found_among t xs z e in (inr i.0, i.1)
-    ] refl h
-
--- an exchange lists nothing for a code, or has a route for it
-pub list_cases : (p : Plan) (x c : ℕ) → (route_list p x c ≡ []) ⊎ IsFoundRoute p x c
-list_cases p x c = by_find (find (λ r. (r.exchange == x) && (r.code == c)) p.routes) refl
-  where
-    by_find : (o : Option Route) → find (λ (r : Route). (r.exchange == x) && (r.code == c)) p.routes ≡ o → (route_list p x c ≡ []) ⊎ IsFoundRoute p x c
-    by_find None e = inl (ap (λ (o : Option Route). option_map_or (λ (r : Route). r.groups) o []) e)
-    by_find (Some r) e =
-        let f = found_among (λ (k : Route). (k.exchange == x) && (k.code == c)) p.routes r e in
-        let b = and_parts (r.exchange == x) (r.code == c) f.1 in
-        inr (record { route = r; among = f.0; exchange = eqb-true r.exchange x b.0; code = eqb-true r.code c b.1; groups = ap (λ (o : Option Route). option_map_or (λ (r : Route). r.groups) o []) e })
-
--- an exchange with a list is one of the plan
-pub listed_within : (p : Plan) → IsPlan p → (x c g : ℕ) → Among g (route_list p x c) → x < length p.exchanges
-listed_within p ok x c g m = elim (list_cases p x c) [
-  | inl e ↦ absurd (subst (λ (l : List ℕ). Among g l) e m)
-  | inr f ↦ (let w = (all_among (IsRoute p) p.routes f.route ok.routes f.among).exchange in let s = f.exchange in omega arith)
+-- no group is in a list twice
+pub list_differs : (p : Plan) → IsPlan p → (x c : ℕ) → AllDiffer (route_list p x c)
+list_differs p ok x c = elim (list_cases p x c) [
+  | inl e ↦ subst AllDiffer (sym e) tt
+  | inr f ↦ subst AllDiffer (sym f.groups) (all_among (IsRoute p) p.routes f.route ok.routes f.among).differ
 ]
-
--- what the rules say of lists
-module _ (p : Plan) (ok : IsPlan p) (x c : ℕ) where
-  pub list_differs : AllDiffer (route_list p x c)
-  list_differs = elim (list_cases p x c) [
-    | inl e ↦ subst AllDiffer (sym e) tt
-    | inr f ↦ subst AllDiffer (sym f.groups) (all_among (IsRoute p) p.routes f.route ok.routes f.among).differ
-  ]
-
-  pub list_seizes : (g : ℕ) → Among g (route_list p x c) → may_seize p g x ≡ true
-  list_seizes g m = elim (list_cases p x c) [
-    | inl e ↦ absurd (subst (λ (l : List ℕ). Among g l) e m)
-    | inr f ↦ (let r = all_among (IsRoute p) p.routes f.route ok.routes f.among in
-        ap (may_seize p g) (sym f.exchange) ∙ all_among (λ (h : ℕ). may_seize p h f.route.exchange ≡ true) f.route.groups g r.outgoing (subst (λ (l : List ℕ). Among g l) f.groups m))
-  ]
-
-  pub list_few : length (route_list p x c) ≤ 16
-  list_few = elim (list_cases p x c) [
-    | inl e ↦ subst (λ (l : List ℕ). length l ≤ 16) (sym e) (omega arith)
-    | inr f ↦ subst (λ (l : List ℕ). length l ≤ 16) (sym f.groups) (all_among (IsRoute p) p.routes f.route ok.routes f.among).few
-  ]
 
 -- a group that may be seized is one of the plan, and so stands among those that its exchange may seize
 pub outgoing_has : (p : Plan) (g x : ℕ) → may_seize p g x ≡ true → Among g (outgoing p x)

@@ -1,4 +1,3 @@
-pub mod Rerouted
 pub mod Distinct
 pub mod RoundRanks
 pub mod Least
@@ -13,7 +12,7 @@ pub mod Dropping
 pub mod Unranked
 pub mod Tables
 pub mod Adding
-pub mod Copied
+mod Settled
 pub mod Comes
 pub mod Trimmed
 pub mod InOrder
@@ -22,5 +21,4 @@ pub mod Trying
 pub mod TrueCauses
 pub mod Staying
 pub mod Local
-pub mod Written
 pub mod Right

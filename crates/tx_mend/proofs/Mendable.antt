@@ -11,12 +11,12 @@ use Rattle.tx_plan.specs.Circuits.{may_seize, may_seize_row, is_both}
 use Rattle.tx_plan.specs.Ambiguous.{ambiguous_of}
 use Rattle.tx_plan.specs.Certified.{Ranks, IsBelow, LeadsLower, IsCertified}
 use Rattle.tx_plan.specs.Among.{Among}
-use Rattle.tx_plan.proofs.Among.{among_filter, among_flat, among_map}
+use Rattle.tx_plan.proofs.Among.{among_filter, among_flat, among_map, all_among, among_all}
 use Rattle.tx_rank.specs.Walks.{net_of}
 use Rattle.tx_rank.specs.Nets.{Certifies}
 use Rattle.tx_rank.proofs.Nets.{is_net}
 use Rattle.tx_rank.proofs.Looks.{among_at}
-use Rattle.tx_rank.proofs.Certifying.{distinct_none}
+use Rattle.tx_rank.proofs.Certifying.{distinct_none, below_rank}
 use Rattle.tx_plan.specs.Mixed.{rerouted}
 use Rattle.tx_mend.specs.Routings.{IsRouting, IsFalling, CanBeServed, CanBeKept, CanBeMended}
 use Rattle.tx_mend.specs.LeastRanks.{indexes, RanksOfCode, leads_on, can_follow, does_follow, least_rank, present_rank, ranks_origins, keeps_routes}
@@ -28,14 +28,13 @@ use Rattle.tx_mend.specs.Laws.{LeastRanksAreAttained, LeastRanksServe, KeepsWhat
 use Rattle.tx_mend.specs.Lists.{list_of_rank, list_by, full_list}
 use Rattle.tx_mend.specs.inner.Full.{full}
 use Rattle.tx_mend.proofs.Distinct.{some_among, among_range, range_among, all_holds, holds_all}
-use Rattle.tx_rank.proofs.Ways.{all_among, among_all}
-use Rattle.tx_rank.proofs.Certifying.{below_rank}
 use Rattle.tx_mend.proofs.RoundRanks.{Ranked, at_home, within, why, no_greater}
-use Rattle.tx_mend.proofs.Least.{list_cases, leads, least}
+use Rattle.tx_plan.proofs.ListFound.{list_cases}
+use Rattle.tx_mend.proofs.Least.{leads, least}
 use Rattle.tx_mend.proofs.LeastLists.{Leads, IsList, IsRanking, outgoing_seizes, present_list, on_leads, round_ranking, is_list_by, filled_enough, filled_leads}
 use Rattle.tx_mend.proofs.Kept.{origin_ranked, origins_ranked, kept_ranking, kept_ranks_origins}
 use Rattle.tx_mend.proofs.Routed.{routed_list, routes_rules, routes_differ}
-use Rattle.tx_mend.proofs.Rerouted.{kept_rerouted}
+use Rattle.tx_plan.proofs.Rerouted.{kept_rerouted}
 use Rattle.tx_mend.proofs.Unranked.{or_of}
 
 none_mapped : {B : Type 0} (f : ℕ → B) (t : ℕ → Bool) (xs : List ℕ) → ((x : ℕ) → Among x xs → t x ≡ true → ⊥) → map f (filter t xs) ≡ []

@@ -10,14 +10,13 @@ use Rattle.tx_plan.specs.Routes.{route_list}
 use Rattle.tx_plan.specs.Circuits.{may_seize}
 use Rattle.tx_plan.specs.Declaring.{has_route}
 use Rattle.tx_plan.specs.Among.{Among}
-use Rattle.tx_plan.proofs.Among.{among_right, among_left, among_cases, among_map, map_among, among_filter, filter_among, among_flat, flat_among}
+use Rattle.tx_plan.proofs.Among.{among_right, among_left, among_cases, among_map, map_among, among_filter, filter_among, among_flat, flat_among, all_among, among_all}
 use Rattle.tx_plan.specs.Mixed.{rerouted}
 use Rattle.tx_mend.specs.LeastRanks.{indexes}
 use Rattle.tx_mend.specs.Mended.{all_pairs, pairs_of, route_if, routes_of}
 use Rattle.tx_mend.proofs.Distinct.{among_range, range_among, range_differs, pairs_append}
 use Rattle.tx_plan.proofs.Filtered.{pairs_kept}
 use Rattle.tx_rank.specs.Walks.{AllDiffer}
-use Rattle.tx_rank.proofs.Ways.{all_among, among_all}
 use Rattle.tx_mend.proofs.LeastLists.{IsList}
 
 -- two pairs differ

@@ -10,16 +10,15 @@ use Rattle.tx_plan.specs.Rules.{IsPlan, IsRoute, EachPair}
 use Rattle.tx_plan.specs.Routes.{route_list}
 use Rattle.tx_plan.specs.Declaring.{has_route}
 use Rattle.tx_plan.specs.Among.{Among}
-use Rattle.tx_plan.proofs.Among.{among_right, filter_among}
+use Rattle.tx_plan.proofs.Among.{among_right, filter_among, all_among}
 use Rattle.tx_mend.specs.LeastRanks.{keeps_routes}
 use Rattle.tx_mend.specs.Mended.{mended_routes, all_pairs, route_if}
 use Rattle.tx_mend.specs.Laws.{CertifiedStays}
 use Rattle.tx_mend.specs.Lists.{mended_list}
 use Rattle.tx_mend.specs.inner.Pairs.{present_pairs, is_absent}
-use Rattle.tx_rank.proofs.Ways.{all_among}
-use Rattle.tx_mend.proofs.Least.{list_cases}
+use Rattle.tx_plan.proofs.ListFound.{list_cases}
 use Rattle.tx_mend.proofs.Routed.{has_any, pair_within}
-use Rattle.tx_mend.proofs.Adding.{pair_of}
+use Rattle.tx_plan.proofs.Copied.{pair_of}
 use Rattle.tx_mend.proofs.Mendable.{keeps_exactly}
 use Rattle.tx_mend.proofs.Trimmed.{kept_mended}
 

@@ -17,7 +17,7 @@ use Rattle.tx_rank.specs.Grades.{CanBeCertified}
 use Rattle.tx_rank.specs.Walks.{Net, net_of}
 use Rattle.tx_rank.specs.Heights.{IsReached, AreHeights}
 use Rattle.tx_rank.specs.Nets.{Certifies}
-use Rattle.tx_rank.proofs.Ways.{all_among}
+use Rattle.tx_plan.proofs.Among.{all_among}
 use Rattle.tx_rank.proofs.Certifying.{none_distinct, certifies_code, certified_codes}
 use Rattle.tx_mend.specs.Routings.{CanBeKept}
 use Rattle.tx_mend.specs.LeastRanks.{keeps_routes}
@@ -27,7 +27,7 @@ use Rattle.tx_mend.specs.Mended.{pairs_of, route_if, mended_routes, mended}
 use Rattle.tx_mend.specs.Unserved.{unserved}
 use Rattle.tx_mend.specs.Laws.{IsMendedPlan, MendedIsMended, MendingIsExact}
 use Rattle.tx_mend.specs.inner.Full.{full_routes, full, settled_list, settled_route}
-use Rattle.tx_mend.proofs.Least.{list_cases}
+use Rattle.tx_plan.proofs.ListFound.{list_cases}
 use Rattle.tx_mend.proofs.LeastLists.{IsList, present_list}
 use Rattle.tx_mend.proofs.Kept.{kept_ranking}
 use Rattle.tx_mend.proofs.Routed.{routed_list, pair_within}

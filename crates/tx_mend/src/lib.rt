@@ -14,10 +14,8 @@ mod across;
 mod basis;
 mod cause;
 mod causes;
-mod changed_lists;
 mod code_lines;
 mod code_ranks;
-mod copying;
 mod filling;
 mod law;
 mod mending;
@@ -29,13 +27,12 @@ mod rerouting;
 mod rounds;
 mod rules;
 mod serving;
+mod settling;
 mod task;
 mod trial;
 mod unserved;
 
 pub use cause::{Cause, Missing, Unserved};
-pub use changed_lists::{write_changes, write_new_list};
-pub use copying::bars_of;
 pub use law::{
     causes_are_true, certified_stays, keeps_what_can_be_kept, least_ranks_are_least,
     least_ranks_serve, mending_changes_least, mending_is_exact,

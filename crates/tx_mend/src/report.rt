@@ -1,13 +1,14 @@
 // The writer of reports of mendings.
 ghost use Rattle.tx_text.specs.Wrote.{Wrote};
-ghost use Rattle.tx_mend.specs.MendText.{mend_report};
+ghost use Rattle.tx_mend.specs.MendText.{mended_text, mend_report};
 
-use crate::changed_lists::write_mended;
 use crate::mending::Mending;
 use crate::unserved::write_unserved;
 use std::alloc::Allocator;
-use tx_plan::Limits;
-use tx_text::{Sink, WriteFault};
+use tx_plan::{Limits, Plan, Routes};
+use tx_plantext::write_changes;
+use tx_rank::write_asked;
+use tx_text::{Sink, WriteFault, write_parts};
 
 /// Writes the report of a mending: the lists that change, with the old ones if they are asked for,
 /// and YES, or what cannot be served and NO.
@@ -26,4 +27,21 @@ pub fn write_mending<A: Allocator, W: Sink>(
             write_unserved(plan, limits, unserved, missing, pair, sink)
         }
     }
+}
+
+/// Writes what was asked, each list of a plan that is another one than before, with the one before
+/// if that is asked for, and YES.
+fn write_mended<A: Allocator, W: Sink>(
+    before: &Routes<A>,
+    plan: &Plan<A>,
+    limits: Limits,
+    with_old: bool,
+    sink: &mut W,
+) -> Result<(), WriteFault>
+    ensures { Wrote W.taken W.failed sink.old sink.new
+        (mended_text with_old before.now plan.now limits.limit limits.spare) result }
+{
+    write_asked(b"MEND", limits, sink)?;
+    write_changes(before, plan, with_old, sink)?;
+    write_parts(&[b"VERDICT YES\n"], sink)
 }

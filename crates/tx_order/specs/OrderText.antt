@@ -7,7 +7,7 @@ use Rattle.tx_plan.specs.Routes.{route_list, is_barred}
 use Rattle.tx_rank.specs.declared.finding.Finding.{Finding}
 use Rattle.tx_rank.specs.Report.{asked_line, findings_of, no_line}
 use Rattle.tx_join.specs.Differences.{difference_text}
-use Rattle.tx_mend.specs.MendText.{line_unless_same}
+use Rattle.tx_plantext.specs.ChangedLists.{line_unless_same}
 use Rattle.tx_change.specs.ChangeReport.{findings_after, verdict_after}
 use Rattle.tx_order.specs.declared.judging.OrderVerdict.{OrderVerdict}
 use Rattle.tx_order.specs.declared.judging.OrderVerdict.TheVariants.{Ordered, NoOrder, NewUnsound}

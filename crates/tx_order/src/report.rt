@@ -2,7 +2,7 @@
 ghost use Rattle.std.specs.Prelude.{◌≡◌, ◌<◌, ◌+◌};
 ghost use Rattle.tx_text.specs.Wrote.{Wrote};
 ghost use Rattle.tx_plan.specs.Routes.{route_list, is_barred};
-ghost use Rattle.tx_mend.specs.MendText.{line_unless_same};
+ghost use Rattle.tx_plantext.specs.ChangedLists.{line_unless_same};
 ghost use Rattle.tx_rank.specs.Report.{findings_of};
 ghost use Rattle.tx_order.specs.Ordered.{plan_before, stages_in};
 ghost use Rattle.tx_order.specs.OrderText.{pair_line, bar_line, entry_lines, exchange_lines, switched_lines, stage_line, stage_text, stages_text, no_order_text, verdict_text, order_report};
@@ -13,8 +13,8 @@ use itoa::Buffer;
 use std::alloc::Allocator;
 use tx_change::{write_findings_after, write_verdict_after};
 use tx_join::write_differences;
-use tx_mend::write_new_list;
 use tx_plan::{CodeId, ExchangeId, Limits, Plan};
+use tx_plantext::write_new_list;
 use tx_rank::{Finding, Ranking, write_asked, write_no};
 use tx_text::{Sink, WriteFault, write_parts};
 

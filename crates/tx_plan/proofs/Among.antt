@@ -1,7 +1,7 @@
--- What is in a list that is made of another.
+-- What is in a list, and in one that is made of another.
 use Rattle.std.proofs.Common.{◌≡◌, ℕ, zero, suc, ◌+◌, ◌<◌, Bool, true, false, ◌⊎◌, List, [], ◌∷◌, ◌++◌, map, length, get_or, Some, cond, refl, ap, sym, ◌∙◌, subst, inl, inr, arith}
 use Rattle.std.specs.Prelude.{filter, slice_get}
-use Rattle.std.specs.List.{enumerate_from, flat_map}
+use Rattle.std.specs.List.{enumerate_from, flat_map, AllByRecursion}
 use Rattle.tx_plan.specs.Among.{Among}
 
 pub among_left : {A : Type 0} (x : A) (xs ys : List A) → Among x xs → Among x (xs ++ ys)
@@ -72,3 +72,13 @@ pub among_at : {A : Type 0} (xs : List A) (i : ℕ) (x : A) → i < length xs �
 among_at [] i x h e = absurd (omega arith)
 among_at (y ∷ xs) zero x h e = inl (sym e)
 among_at (y ∷ xs) (suc i) x h e = inr (among_at xs i x (omega arith) e)
+
+-- what holds of all members holds of one
+pub all_among : {A : Type 0} (P : A → Type 0) (xs : List A) (x : A) → AllByRecursion P xs → Among x xs → P x
+all_among P [] x a m = absurd m
+all_among P (y ∷ xs) x a (inl e) = subst P e a.0
+all_among P (y ∷ xs) x a (inr m) = all_among P xs x a.1 m
+
+pub among_all : {A : Type 0} (P : A → Type 0) (xs : List A) → ((x : A) → Among x xs → P x) → AllByRecursion P xs
+among_all P [] h = tt
+among_all P (x ∷ xs) h = (h x (inl refl), among_all P xs (λ y m. h y (inr m)))

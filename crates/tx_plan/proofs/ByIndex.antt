@@ -1,9 +1,10 @@
 -- What is known of the member of a list at an index, and that its key leads back to the index.
-use Rattle.std.proofs.Common.{◌≡◌, ◌≢◌, ℕ, zero, suc, ◌<◌, Bool, nat_lt, true, false, List, [], ◌∷◌, ◌++◌, length, Some, refl, sym, ap, subst, arith}
+use Rattle.std.proofs.Common.{◌≡◌, ◌≢◌, ◌∙◌, ℕ, zero, suc, ◌+◌, ◌<◌, Bool, nat_lt, true, false, List, [], ◌∷◌, ◌++◌, length, take, Some, refl, sym, ap, subst, arith}
 use Rattle.std.specs.List.{AllByRecursion, list_any, slice_get, position, position_or_len}
 use Rattle.std.specs.Str.{bytes_eq}
 use Rattle.std.proofs.lemmas.Bool.{false_from_ne_true, lt-ltb, ltb-true}
-use Rattle.std.proofs.lemmas.Option.{slice_get_within, cond_some}
+use Rattle.std.proofs.lemmas.List.{take_more}
+use Rattle.std.proofs.lemmas.Option.{slice_get_within, get_or_from_slice_get, cond_some}
 use Rattle.std.proofs.lemmas.Slice.Eq.{bytes_eq-Decides}
 use Rattle.std.proofs.lemmas.Map.Keys.{any_passes_from_place}
 use Rattle.tx_plan.specs.Rules.{EachPair}
@@ -29,6 +30,9 @@ module _ {A : Type 0} where
   all_at P [] i x h e = absurd (let z : ⊥ = cc in z)
   all_at P (y ∷ xs) zero x h e = let s : y ≡ x = cc in subst P s h.0
   all_at P (y ∷ xs) (suc i) x h e = all_at P xs i x h.1 e
+
+  pub take_next : (xs : List A) (i : ℕ) (x : A) → slice_get xs i ≡ Some x → take (i + 1) xs ≡ take i xs ++ x ∷ []
+  take_next xs i x h = take_more xs i x (slice_get_within xs i x h) ∙ ap (λ k. take i xs ++ k ∷ []) (get_or_from_slice_get xs i x x h)
 
   module _ (key : A → List ℕ) where
     first_at : (xs : List A) (i : ℕ) (x : A) → EachPair (λ a b. key a ≢ key b) xs → slice_get xs i ≡ Some x → position_or_len (λ a. bytes_eq (key x) (key a)) xs ≡ i

@@ -1,5 +1,5 @@
 -- Lists of which some members are kept, and joined lists.
-use Rattle.std.proofs.Common.{◌≡◌, Bool, true, false, cond, ◌||◌, List, [], ◌∷◌, ◌++◌, Some, None, refl, sym, ap, ◌∙◌}
+use Rattle.std.proofs.Common.{◌≡◌, ℕ, suc, ◌+◌, ◌<◌, Bool, true, false, cond, ◌||◌, List, [], ◌∷◌, ◌++◌, length, get_or, drop, Some, None, refl, sym, ap, ◌∙◌, add-one, drop-cons, append_assoc}
 use Rattle.std.proofs.lemmas.Bool.{true≢false}
 use Rattle.std.specs.Prelude.{find, filter}
 use Rattle.std.specs.List.{list_any, AllByRecursion}
@@ -95,3 +95,18 @@ module _ {A : Type 0} where
   all_pass s (x ∷ xs) =
       let rest = all_pass s xs in
       elim (s x) as (λ b. s x ≡ b → AllByRecursion (λ x. s x ≡ true) (cond b (x ∷ filter s xs) (filter s xs))) [ true ↦ λ e. (e, rest) | false ↦ λ e. rest ] refl
+
+  -- the steps of a loop over members, by what is left
+  module _ (xs : List A) (i : ℕ) (x : A) (h : i < length xs) (e : x ≡ get_or xs i x) where
+    pub at_drop : drop i xs ≡ x ∷ drop (i + 1) xs
+    at_drop = rw add-one (drop-cons xs i x h ∙ ap (λ y. y ∷ drop (suc i) xs) (sym e))
+
+    pub filter_step : (t : A → Bool) (b : Bool) → t x ≡ b → filter t (drop i xs) ≡ cond b (x ∷ filter t (drop (i + 1) xs)) (filter t (drop (i + 1) xs))
+    filter_step t b k = ap (filter t) at_drop ∙ ap (λ b. cond b (x ∷ filter t (drop (i + 1) xs)) (filter t (drop (i + 1) xs))) k
+
+    module _ (t : A → Bool) (list all : List A) (a : list ++ filter t (drop i xs) ≡ all) where
+      pub keep_put : (new : List A) → t x ≡ true → new ≡ list ++ x ∷ [] → new ++ filter t (drop (i + 1) xs) ≡ all
+      keep_put new k n = ap (λ l. l ++ filter t (drop (i + 1) xs)) n ∙ append_assoc list (x ∷ []) (filter t (drop (i + 1) xs)) ∙ ap (λ l. list ++ l) (sym (filter_step t true k)) ∙ a
+
+      pub keep_passed : (new : List A) → t x ≡ false → new ≡ list → new ++ filter t (drop (i + 1) xs) ≡ all
+      keep_passed new k n = ap (λ l. l ++ filter t (drop (i + 1) xs)) n ∙ ap (λ l. list ++ l) (sym (filter_step t false k)) ∙ a

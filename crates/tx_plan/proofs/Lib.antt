@@ -20,3 +20,6 @@ pub mod Named
 pub mod Tables
 pub mod Lookups
 pub mod PairRows
+pub mod Copied
+pub mod Rerouted
+pub mod Ends

@@ -23,6 +23,7 @@
 #![tactic(auto)]
 
 mod builder;
+mod copying;
 mod entries;
 mod ids;
 mod limits;
@@ -34,6 +35,7 @@ mod route_scan;
 mod routes;
 
 pub use builder::PlanBuilder;
+pub use copying::{bars_of, routes_of};
 pub use ids::{ByWord, Circuit, CodeId, Direction, ExchangeId, GroupId, Line, National, Pair};
 pub use limits::Limits;
 pub use names::NameKey;

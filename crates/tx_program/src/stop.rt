@@ -138,10 +138,6 @@ fn write_job_fault<W: Sink>(
             | Command::Page {
                 code: Some(code),
                 ..
-            }
-            | Command::Draw {
-                routes: Some((code, _)),
-                ..
             },
         ) => write_word(b"telexplan: no such code in the plan: ", code, sink),
         (

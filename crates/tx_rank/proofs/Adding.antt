@@ -4,7 +4,7 @@ use Rattle.std.proofs.lemmas.Bool.{eqb-false}
 use Rattle.std.proofs.lemmas.List.{map-append}
 use Rattle.tx_plan.specs.Rules.{EachPair}
 use Rattle.tx_plan.specs.Among.{Among}
-use Rattle.tx_plan.proofs.Among.{among_left, among_right, among_cases}
+use Rattle.tx_plan.proofs.Among.{among_left, among_right, among_cases, among_all}
 use Rattle.tx_plan.proofs.ByIndex.{pairs_put}
 use Rattle.tx_rank.specs.declared.finding.Finding.{Finding}
 use Rattle.tx_rank.specs.declared.finding.Finding.TheVariants.{Short}
@@ -12,7 +12,6 @@ use Rattle.tx_rank.specs.Walks.{Net, Walk, end_of, IsWalk, IsShort}
 use Rattle.tx_rank.specs.Findings.{end_at}
 use Rattle.tx_rank.specs.inner.Marks.{AreSettled}
 use Rattle.tx_rank.specs.inner.Judged.{IsShortAt, AddsShorts, AddsBelow}
-use Rattle.tx_rank.proofs.Ways.{among_all}
 use Rattle.tx_rank.proofs.Walked.{short_true, short_at}
 
 module _ {A : Type 0} (n : Net) (code spare : ℕ) where

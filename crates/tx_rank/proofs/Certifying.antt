@@ -16,7 +16,7 @@ use Rattle.tx_rank.specs.declared.finding.Finding.TheVariants.{Ambiguous, Loop, 
 use Rattle.tx_rank.specs.Walks.{net_of}
 use Rattle.tx_rank.specs.Nets.{Certifies}
 use Rattle.tx_rank.specs.Findings.{IsTrueOf}
-use Rattle.tx_rank.proofs.Ways.{all_among, among_all}
+use Rattle.tx_plan.proofs.Among.{all_among, among_all}
 use Rattle.tx_rank.proofs.Walked.{certified_no_loop, certified_no_short, certified_no_long}
 
 pub below_rank : (o : Option ℕ) (r : ℕ) → IsBelow o r → (m : ℕ) × (o ≡ Some m) × (m < r)

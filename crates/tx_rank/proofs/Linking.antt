@@ -8,7 +8,8 @@ use Rattle.tx_plan.specs.Among.{Among}
 use Rattle.tx_plan.proofs.Among.{among_cases}
 use Rattle.tx_rank.specs.Walks.{Net, Goes, end_of}
 use Rattle.tx_rank.specs.inner.Links.{IsLink, AreLinks, LinksAll, StaysLinked, LinksBelow}
-use Rattle.tx_rank.proofs.Looks.{among_at, take_next}
+use Rattle.tx_rank.proofs.Looks.{among_at}
+use Rattle.tx_plan.proofs.ByIndex.{take_next}
 use Rattle.tx_rank.proofs.Turns.{set_same, set_other}
 
 pub record IsLinking (n : Net) (ranks : ℕ → Option ℕ) (p : ℕ) (groups : List ℕ) (old links : List (Option (ℕ × ℕ))) : Type 0 where

@@ -1,10 +1,10 @@
 -- A look at a list, group by group.
 use Rattle.std.proofs.Common.{◌≡◌, ℕ, zero, suc, ◌+◌, ◌<◌, ◌≤◌, List, [], ◌∷◌, ◌++◌, length, get_or, take, ◌⊎◌, inl, inr, Some, None, refl, sym, ap, subst, ◌∙◌, arith}
 use Rattle.std.specs.Prelude.{slice_get}
-use Rattle.std.proofs.lemmas.List.{take_more}
-use Rattle.std.proofs.lemmas.Option.{slice_get_within, slice_get-get_or, get_or_from_slice_get}
+use Rattle.std.proofs.lemmas.Option.{slice_get-get_or}
 use Rattle.tx_plan.specs.Among.{Among}
 use Rattle.tx_plan.proofs.Among.{among_left, among_right, among_cases}
+use Rattle.tx_plan.proofs.ByIndex.{take_next}
 use Rattle.tx_rank.specs.Walks.{Net}
 use Rattle.tx_rank.specs.Nets.{IsNet}
 use Rattle.tx_rank.specs.inner.Marks.{rank_in, IsOnward, IsTop}
@@ -18,9 +18,6 @@ among_at (y ∷ xs) (suc i) x h = inr (among_at xs i x h)
 -- what was read at an index of a list
 pub got_at : (xs ys : List ℕ) (i x : ℕ) → xs ≡ ys → i < length xs → x ≡ get_or xs i x → slice_get ys i ≡ Some x
 got_at xs ys i x e h is = ap (λ l. slice_get l i) (sym e) ∙ slice_get-get_or xs i x h ∙ ap (λ k. Some k) (sym is)
-
-pub take_next : {A : Type 0} (xs : List A) (i : ℕ) (x : A) → slice_get xs i ≡ Some x → take (i + 1) xs ≡ take i xs ++ x ∷ []
-take_next xs i x h = take_more xs i x (slice_get_within xs i x h) ∙ ap (λ k. take i xs ++ k ∷ []) (get_or_from_slice_get xs i x x h)
 
 pub leads_within : (n : Net) (x g y : ℕ) → IsNet n → Among g (n.list x) → n.far g x ≡ Some y → y < n.exchanges
 leads_within n x g y ok m leads = let l = ok.leads x g m in let same : l.0 ≡ y = let e = l.1 in cc in let w = l.2 in omega arith

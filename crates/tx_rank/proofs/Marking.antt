@@ -13,7 +13,8 @@ use Rattle.tx_plan.proofs.Among.{among_cases}
 use Rattle.tx_rank.specs.Walks.{Net, net_of, Goes, end_of}
 use Rattle.tx_rank.specs.Heights.{IsReached}
 use Rattle.tx_rank.proofs.Ways.{end_push, goes_push}
-use Rattle.tx_rank.proofs.Looks.{take_next, among_at}
+use Rattle.tx_plan.proofs.ByIndex.{take_next}
+use Rattle.tx_rank.proofs.Looks.{among_at}
 use Rattle.tx_rank.proofs.Nets.{is_net}
 use Rattle.tx_rank.specs.Reached.{is_marked, AreReached}
 use Rattle.tx_rank.specs.inner.Seen.{AreSeen, LeadsToSeen, StaysSeen}

@@ -13,7 +13,7 @@ use Rattle.tx_plan.specs.Among.{Among}
 use Rattle.tx_plan.proofs.ByIndex.{entry_at}
 use Rattle.tx_rank.specs.Walks.{net_of}
 use Rattle.tx_rank.specs.Nets.{IsNet}
-use Rattle.tx_rank.proofs.Ways.{all_among}
+use Rattle.tx_plan.proofs.Among.{all_among}
 use Rattle.tx_rank.proofs.Looks.{among_at}
 
 module _ {A : Type 0} where

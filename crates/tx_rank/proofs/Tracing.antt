@@ -9,7 +9,7 @@ use Rattle.tx_rank.specs.Walks.{Net, Goes, end_of}
 use Rattle.tx_rank.specs.inner.Marks.{AreSettled, IsLower}
 use Rattle.tx_rank.specs.inner.Links.{IsLink, LinksBelow}
 use Rattle.tx_rank.proofs.Ways.{goes_push, end_push}
-use Rattle.tx_rank.proofs.Looks.{take_next}
+use Rattle.tx_plan.proofs.ByIndex.{take_next}
 use Rattle.tx_rank.proofs.Ranks.{falling, one_down, reached_ranked}
 use Rattle.tx_rank.proofs.Linking.{last_step}
 

@@ -1,21 +1,11 @@
 -- Walks that grow and shrink at their end.
 use Rattle.std.proofs.Common.{◌≡◌, ◌≢◌, ℕ, zero, suc, List, [], ◌∷◌, ◌++◌, length, inl, inr, Some, refl, sym, ap, subst, arith}
 use Rattle.std.specs.Prelude.{slice_get}
-use Rattle.std.specs.List.{AllByRecursion}
 use Rattle.tx_plan.specs.Among.{Among}
-use Rattle.tx_plan.proofs.Among.{among_left, among_right, among_cases}
+use Rattle.tx_plan.proofs.Among.{all_among, among_all, among_left, among_right, among_cases}
 use Rattle.tx_rank.specs.Walks.{Net, AllDiffer, Goes, end_of, before_end, passed}
 
 -- NOTHING TWICE
-
-pub all_among : {A : Type 0} (P : A → Type 0) (xs : List A) (x : A) → AllByRecursion P xs → Among x xs → P x
-all_among P [] x a m = absurd m
-all_among P (y ∷ xs) x a (inl e) = subst P e a.0
-all_among P (y ∷ xs) x a (inr m) = all_among P xs x a.1 m
-
-pub among_all : {A : Type 0} (P : A → Type 0) (xs : List A) → ((x : A) → Among x xs → P x) → AllByRecursion P xs
-among_all P [] h = tt
-among_all P (x ∷ xs) h = (h x (inl refl), among_all P xs (λ y m. h y (inr m)))
 
 pub once_first : (x : ℕ) (xs : List ℕ) → AllDiffer (x ∷ xs) → Among x xs → ⊥
 once_first x xs d m = all_among (λ y. x ≢ y) xs x d.0 m refl

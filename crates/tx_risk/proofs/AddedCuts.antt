@@ -8,11 +8,10 @@ use Rattle.tx_plan.specs.Rules.{IsPlan, EachPair}
 use Rattle.tx_plan.specs.Routes.{is_origin_for}
 use Rattle.tx_rank.proofs.Nets.{is_net}
 use Rattle.tx_plan.specs.Among.{Among}
-use Rattle.tx_plan.proofs.Among.{among_left, among_right, among_cases}
+use Rattle.tx_plan.proofs.Among.{among_left, among_right, among_cases, among_all}
 use Rattle.tx_plan.proofs.ByIndex.{pairs_put}
 use Rattle.tx_rank.specs.Walks.{Net, Goes, AllDiffer, net_of, passed}
 use Rattle.tx_rank.specs.Heights.{IsReached}
-use Rattle.tx_rank.proofs.Ways.{among_all}
 use Rattle.tx_rank.proofs.Ranks.{once_down}
 use Rattle.tx_rank.proofs.Certifying.{certifies_code}
 use Rattle.tx_risk.specs.declared.nearest.Ways.{Ways}

@@ -11,7 +11,7 @@ use Rattle.tx_plan.specs.Plan.{Plan, Group as Row}
 use Rattle.tx_plan.proofs.Lists.{all_put}
 use Rattle.tx_plan.specs.Circuits.{far_end}
 use Rattle.tx_machine.proofs.Lists.{any_mem}
-use Rattle.tx_rank.proofs.Ways.{all_among}
+use Rattle.tx_plan.proofs.Among.{all_among}
 use Rattle.tx_rank.proofs.Looks.{among_at}
 use Rattle.tx_risk.specs.declared.cut.Cut.{Cut}
 use Rattle.tx_risk.specs.declared.cut.Outcome.{Outcome}

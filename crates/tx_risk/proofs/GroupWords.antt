@@ -6,7 +6,7 @@ use Rattle.tx_plan.specs.Plan.{Group, Plan, group_named}
 use Rattle.tx_plan.proofs.Lists.{placed, no_index}
 use Rattle.tx_plan.specs.Declaring.{has_group}
 use Rattle.tx_machine.proofs.Lists.{none_any}
-use Rattle.tx_rank.proofs.Ways.{among_all}
+use Rattle.tx_plan.proofs.Among.{among_all}
 
 pub unknown_is : (p : Plan) (w : List ℕ) → is_none (group_named p w) ≡ not (has_group p w)
 unknown_is p w =

@@ -10,7 +10,8 @@ use Rattle.tx_plan.specs.Among.{Among}
 use Rattle.tx_plan.proofs.Among.{among_left, among_right, among_cases, among_map, map_among}
 use Rattle.tx_machine.proofs.Lists.{any_mem, mem_any}
 use Rattle.tx_rank.specs.Walks.{Net, Goes, end_of}
-use Rattle.tx_rank.proofs.Looks.{among_at, take_next}
+use Rattle.tx_rank.proofs.Looks.{among_at}
+use Rattle.tx_plan.proofs.ByIndex.{take_next}
 use Rattle.tx_risk.specs.declared.nearest.Ways.{Ways}
 use Rattle.tx_risk.specs.declared.nearest.Step.{Step}
 use Rattle.tx_risk.specs.Risks.{IsDeadEnd, LeadsHome}

@@ -12,11 +12,10 @@ use Rattle.tx_plan.specs.Plan.{Plan}
 use Rattle.tx_plan.specs.Rules.{EachPair}
 use Rattle.tx_plan.specs.Among.{Among}
 use Rattle.tx_plan.specs.Declaring.{first_true, has_group, group_at, none_twice}
-use Rattle.tx_plan.proofs.Among.{among_cases, map_among}
+use Rattle.tx_plan.proofs.Among.{among_cases, map_among, all_among, among_all}
 use Rattle.tx_plan.proofs.ByIndex.{pairs_put}
 use Rattle.tx_plan.proofs.SeenWords.{differ_as_words}
 use Rattle.tx_machine.proofs.Lists.{none_any}
-use Rattle.tx_rank.proofs.Ways.{all_among, among_all}
 use Rattle.tx_risk.specs.NamedRisks.{NamedRisk, IsNamedRisk, AreRisksFor}
 use Rattle.tx_risk.specs.declared.fault.RiskWord.TheVariants.{UnknownWord, WrongCount, BadName, Duplicate, UnknownName, RepeatedGroup}
 use Rattle.tx_text.specs.Said.{Declared}

@@ -1,6 +1,6 @@
 -- Texts of indexes, shown one after another.
 use Rattle.std.proofs.Common.{◌≡◌, ℕ, ◌+◌, List, ◌++◌, Ok, subst}
-use Rattle.tx_cert.proofs.Ranges.{flat_map-range_more}
+use Rattle.tx_text.proofs.Ranges.{flat_map-range_more}
 use Rattle.tx_html.specs.Shows.{Seen, HasShown}
 use Rattle.tx_html.proofs.Showing.{showed_is, showed_then}
 use Rattle.tx_svg.specs.Indexed.{texts_below}

@@ -48,6 +48,14 @@ by_wrote a b false false text (Err x) some p e = absurd (false≢true e)
 by_wrote a b false true text (Ok x) some p e = absurd (false≢true (sym e))
 by_wrote a b false true text (Err x) some p e = (p, e)
 
+-- texts that are not empty
+pub some : {x : ℕ} {text : List ℕ} → x ∷ text ≢ []
+some e = let z : ⊥ = cc in z
+
+pub some_last : (s : List ℕ) {t : List ℕ} → t ≢ [] → s ++ t ≢ []
+some_last [] end e = end e
+some_last (x ∷ s) end e = let z : ⊥ = cc in z
+
 module _ {W : Type 0} {taken : W → Option (List ℕ)} {failed : W → Bool} where
   -- nothing
   pub puts_none : {a : W} → Puts taken failed a a []
@@ -69,8 +77,8 @@ module _ {W : Type 0} {taken : W → Option (List ℕ)} {failed : W → Bool} wh
   puts_failure {a} {b} {bytes} some e down = record { by = by_failure (taken a) (taken b) (failed a) (failed b) bytes some e down }
 
   -- a text that is not empty, and whether the sink failed
-  pub puts_wrote : {a b : W} {x : ℕ} {text : List ℕ} (r : Result (Unit {0}) WriteFault) → Puts taken failed a b (x ∷ text) → failed b ≡ is_err r → Wrote taken failed a b (x ∷ text) r
-  puts_wrote {a} {b} {x} {text} r v e = by_wrote (taken a) (taken b) (failed a) (failed b) (x ∷ text) r (λ none. let z : ⊥ = cc in z) v.by e
+  pub puts_wrote : {a b : W} {text : List ℕ} (r : Result (Unit {0}) WriteFault) → text ≢ [] → Puts taken failed a b text → failed b ≡ is_err r → Wrote taken failed a b text r
+  puts_wrote {a} {b} {text} r some v e = by_wrote (taken a) (taken b) (failed a) (failed b) text r some v.by e
 
   -- the texts of a list
   module _ {A : Type 0} (text : A → List ℕ) (xs : List A) where

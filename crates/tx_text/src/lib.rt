@@ -2,8 +2,8 @@
 //!
 //! A text comes from a `Source` in pieces, or is in a slice. `LineFeeder` cuts pieces into lines,
 //! and `FrameReader` keeps the header, END and the numbers of lines. `read_text` reads a text of
-//! which each line declares something. A text goes to a `Sink` part by part, by `put_bytes` and
-//! `put_parts`, and then `finish` tells whether the sink failed.
+//! which each line declares something, and `read_whole_text` the bytes of a text. A text goes to a
+//! `Sink` part by part, by `put_bytes` and `put_parts`, and then `finish` tells whether it failed.
 #![tactic(auto)]
 
 mod feeder;
@@ -26,6 +26,7 @@ mod source;
 mod split;
 mod text_fault;
 mod to_write;
+mod whole_text;
 
 pub use feeder::{Fed, LineFeeder};
 pub use figures::{Figures, InlineBytes, are_figures, number};
@@ -50,3 +51,4 @@ pub use source::{ReadFault, Source};
 pub use split::words;
 pub use text_fault::TextFault;
 pub use to_write::ToWrite;
+pub use whole_text::{WholeTextFault, read_whole_text};

@@ -13,8 +13,7 @@ use Rattle.tx_plan.specs.Rules.{IsPlan}
 use Rattle.tx_plan.specs.Routes.{route_list}
 use Rattle.tx_plan.proofs.ByIndex.{entry_at}
 use Rattle.tx_plantext.specs.PlanWritten.{route_words}
-use Rattle.tx_mend.proofs.Adding.{pair_of}
-use Rattle.tx_mend.proofs.Copied.{route_got}
+use Rattle.tx_plan.proofs.Copied.{pair_of, route_got}
 use Rattle.tx_trace.specs.Ways.{is_in}
 use Rattle.tx_trace.specs.GroupText.{route_with}
 

@@ -10,8 +10,8 @@ use Rattle.tx_plan.specs.Plan.{Plan, Route}
 use Rattle.tx_plan.specs.Rules.{EachPair, IsPlan, IsRoute}
 use Rattle.tx_plan.specs.Circuits.{may_seize}
 use Rattle.tx_plan.proofs.Filtered.{all_kept, pairs_kept}
-use Rattle.tx_rank.proofs.Looks.{take_next}
-use Rattle.tx_mend.proofs.Rerouted.{kept_rerouted}
+use Rattle.tx_plan.proofs.ByIndex.{take_next}
+use Rattle.tx_plan.proofs.Rerouted.{kept_rerouted}
 use Rattle.tx_trace.specs.Ways.{is_in}
 use Rattle.tx_trace.specs.Left.{groups_left, route_left, routes_left, plan_left}
 

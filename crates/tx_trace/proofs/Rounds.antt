@@ -13,7 +13,7 @@ use Rattle.tx_plan.specs.Among.{Among}
 use Rattle.tx_plan.proofs.Among.{among_cases}
 use Rattle.tx_rank.specs.Heights.{IsReached}
 use Rattle.tx_rank.proofs.Ways.{end_push, goes_push}
-use Rattle.tx_rank.proofs.Looks.{take_next}
+use Rattle.tx_plan.proofs.ByIndex.{take_next}
 use Rattle.tx_trace.specs.Ways.{is_in, far_ends, meet, meet_from, met_before, all_met}
 use Rattle.tx_trace.specs.Ranked.{net_from}
 use Rattle.tx_trace.proofs.Ends.{LeadsTo, leads_to, far_ends-home, far_ends-away}

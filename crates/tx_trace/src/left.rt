@@ -4,8 +4,7 @@ ghost use Rattle.tx_plan.specs.Routes.{route_list};
 ghost use Rattle.tx_trace.specs.Left.{groups_left, routes_left, plan_left};
 
 use std::alloc::Allocator;
-use tx_mend::bars_of;
-use tx_plan::{CodeId, ExchangeId, GroupId, GroupList, Pair, Plan, Routes};
+use tx_plan::{CodeId, ExchangeId, GroupId, GroupList, Pair, Plan, Routes, bars_of};
 use tx_text::NoMemory;
 
 /// The plan without these groups in its lists, and without the lists that have no others.

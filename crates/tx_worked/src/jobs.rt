@@ -3,11 +3,9 @@
 
 mod job;
 mod listings;
-mod pictures;
 mod stretches;
 mod trials;
 
 pub(crate) use job::{Whole, do_in_room};
 pub(crate) use listings::{count_calls, list_calls, list_prefixes, list_rooms};
-pub(crate) use pictures::play_pictures;
 pub(crate) use trials::{try_ends, try_pieces, try_refusals};

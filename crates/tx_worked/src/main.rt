@@ -23,9 +23,7 @@
 //!   plan. `page FILE L K` has a plan that is named so, `page-risks` a text of risks too,
 //!   `page-change` an old plan after that, and `page-code FILE L CODE` a plan of which the lists for
 //!   a code are shown, with the spare number 1. Each is played by sources of 1, 2, 7 and 4,096 bytes
-//!   a call, which has to make no difference. `draw`, `draw CODE` and `draw CODE L K` have a plan.
-//! - `pictures` and `pictures L K` have a plan, which is drawn, and each of its codes, with the
-//!   walk of the code's first finding where there are numbers.
+//!   a call, which has to make no difference.
 //! - `each-end` before such a kind also refuses each request for memory, gives each smaller room,
 //!   and makes each call of each source fail. The lines with `--` tell the exit status, the calls
 //!   of the sources at one byte a call, the bytes written, and what a run counted or the event

@@ -5,8 +5,7 @@ use crate::cases::{
 };
 use crate::checked::play_certified;
 use crate::jobs::{
-    Whole, count_calls, do_in_room, list_prefixes, play_pictures, try_ends, try_pieces,
-    try_refusals,
+    Whole, count_calls, do_in_room, list_prefixes, try_ends, try_pieces, try_refusals,
 };
 use crate::joined::play_joined;
 use crate::runs::{Over, Script, run_beside};
@@ -31,7 +30,6 @@ pub(crate) fn play_texts(
     match kind {
         TextKind::Command => play_command(alloc, head, first, second, out),
         TextKind::Both => play_both(alloc, head, texts, out),
-        TextKind::Pictures => play_pictures(alloc, head, texts, out),
         TextKind::Plan => play_plan(alloc, texts, out),
         TextKind::Cert => play_cert(alloc, first, second, out),
         TextKind::Joined => play_joined(alloc, first, second, out),
@@ -204,7 +202,8 @@ fn play_both(alloc: Global, head: Head<'_>, input: &[u8], out: &mut Told) {
         checked: None,
     };
     let run = Task::new(b"run", &run, first, second);
-    let pipe = Task::new(b"pipe", &Command::Pipe, input, b"");
+    let words = Command::Pipe;
+    let pipe = Task::new(b"pipe", &words, input, b"");
     play_task(alloc, pipe, head.mode, out);
     let Ok(mut written) = MemorySink::new(alloc, ROOM) else {
         return tell_broken(b"no memory", 0, out);

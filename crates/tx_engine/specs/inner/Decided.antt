@@ -4,7 +4,7 @@ use Rattle.tx_machine.specs.declared.deciding.Decision.{Decision}
 use Rattle.tx_machine.specs.declared.open_call.Phase.TheVariants.{Standing}
 use Rattle.tx_machine.specs.Routing.{routed}
 use Rattle.tx_machine.specs.inner.Decided.{carried_out}
-use Rattle.tx_calls.specs.KeptCalls.{Kept, kept_at}
+use Rattle.tx_engine.specs.inner.KeptCalls.{Kept, kept_at}
 use Rattle.tx_engine.specs.declared.engine.EngineState.{EngineState}
 use Rattle.tx_engine.specs.inner.Sound.{state_of}
 

@@ -3,7 +3,7 @@ use Rattle.std.specs.Prelude.{◌≡◌, ℕ, Some}
 use Rattle.tx_plan.specs.declared.ids.Circuit.{Circuit}
 use Rattle.tx_machine.specs.declared.open_call.Phase.TheVariants.{Calling}
 use Rattle.tx_machine.specs.Confirming.{rival, thrown_back}
-use Rattle.tx_calls.specs.KeptCalls.{Kept, KeptCalls, kept_at}
+use Rattle.tx_engine.specs.inner.KeptCalls.{Kept, KeptCalls, kept_at}
 use Rattle.tx_engine.specs.declared.head_on.Met.{Met}
 use Rattle.tx_engine.specs.declared.engine.EngineState.{EngineState}
 use Rattle.tx_engine.specs.inner.Sound.{state_of}

@@ -13,9 +13,9 @@ use Rattle.tx_machine.specs.State.{State}
 use Rattle.tx_machine.specs.InUse.{circuits_carried}
 use Rattle.tx_lines.specs.Book.{Book, is_line_of}
 use Rattle.tx_circuits.specs.Table.{Table}
-use Rattle.tx_calls.specs.KeptCalls.{Kept, KeptCalls, kept_at, calls_in}
-use Rattle.tx_calls.specs.inner.Keys.{HasKeys, keys_of, pick}
-use Rattle.tx_calls.specs.declared.circuit_keys.EndKeys.{EndKeys}
+use Rattle.tx_engine.specs.inner.KeptCalls.{Kept, KeptCalls, kept_at, calls_in}
+use Rattle.tx_engine.specs.inner.Keys.{HasKeys, keys_of, pick}
+use Rattle.tx_engine.specs.declared.circuit_keys.EndKeys.{EndKeys}
 use Rattle.tx_engine.specs.inner.Seen.{state_seen, AreTogether}
 use Rattle.tx_engine.specs.declared.engine.EngineState.{EngineState}
 

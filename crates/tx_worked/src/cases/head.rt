@@ -55,7 +55,6 @@ pub enum TextKind {
     Command,
     /// A plan and a script in one text, as a pipe and as a run.
     Both,
-    Pictures,
     Plan,
     Cert,
     /// An old plan and a new one, over their joined network.
@@ -76,9 +75,8 @@ pub enum Driven {
     Starting,
 }
 
-static TEXTS: [(&str, TextKind); 10] = [
+static TEXTS: [(&str, TextKind); 9] = [
     ("both", TextKind::Both),
-    ("pictures", TextKind::Pictures),
     ("plan", TextKind::Plan),
     ("cert", TextKind::Cert),
     ("joined", TextKind::Joined),

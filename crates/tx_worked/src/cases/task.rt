@@ -9,7 +9,7 @@ use tx_commands::{Command, Files, WordsFault, read_command};
 /// The words of a command by the kind of its case and, where it matters, the word after the kind.
 /// `@1`, `@2` and `@3` stand for the words after the kind: where there is no such word, what has it
 /// is left out. All that a command can print and make is asked for.
-static COMMANDS: [(&str, &str, &str); 29] = [
+static COMMANDS: [(&str, &str, &str); 28] = [
     ("pipe", "", ""),
     ("run", "", "run plan script"),
     (
@@ -78,7 +78,6 @@ static COMMANDS: [(&str, &str, &str); 29] = [
     ("trace", "group", "trace plan --group=@2"),
     ("trace", "", "trace plan @1 @2 --down=@3"),
     ("fill", "", "fill plan @1 @2 --down=@3"),
-    ("draw", "", "draw plan --code=@1 --limit=@2 --spare=@3"),
 ];
 
 /// The words of the command of a kind, if it is that of a command.

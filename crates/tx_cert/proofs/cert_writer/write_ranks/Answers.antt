@@ -2,7 +2,7 @@ use Rattle.std.proofs.Common.{length, arith}
 use Rattle.tx_text.proofs.Wrote.{wrote_none}
 use Rattle.std.specs.List.{range_with_len}
 use Rattle.tx_cert.specs.CertText.{code_lines}
-use Rattle.tx_cert.proofs.Ranges.{lines_more, lines_stopped, lines_done}
+use Rattle.tx_text.proofs.Ranges.{lines_more, lines_stopped, lines_done}
 use Rattle.tx_cert.proofs.cert_writer.write_ranks.Goals as goal
 
 pub loop-index-init : goal.loop-index-init

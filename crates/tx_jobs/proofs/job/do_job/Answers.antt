@@ -142,12 +142,6 @@ returns-in_ok-write_explanation-in-Explain-clause-third_calls g c = uncalled g.R
 pub returns-in_err-write_explanation-in-Explain-clause-third_calls : goal.returns-in_err-write_explanation-in-Explain-clause-third_calls
 returns-in_err-write_explanation-in-Explain-clause-third_calls g c = uncalled g.R.Source.called c.args.third.now
 
-pub returns-in-Draw-clause-second_calls : goal.returns-in-Draw-clause-second_calls
-returns-in-Draw-clause-second_calls g c = uncalled g.Q.Source.called c.args.second.now
-
-pub returns-in-Draw-clause-third_calls : goal.returns-in-Draw-clause-third_calls
-returns-in-Draw-clause-third_calls g c = uncalled g.R.Source.called c.args.third.now
-
 pub returns-in-Trace-clause-second_calls : goal.returns-in-Trace-clause-second_calls
 returns-in-Trace-clause-second_calls g c = uncalled g.Q.Source.called c.args.second.now
 

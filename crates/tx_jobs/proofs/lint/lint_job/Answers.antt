@@ -18,7 +18,7 @@ returns-in_err-text-clause-answers g c =
     let out = c.args.out.now in
     let read =
     input g.P.Source.rest g.P.Source.failed g.P.Source.called c.args.plan.now
-    c.read_text.new.source in
+    c.read_whole_text.new.source in
     rw (exits_with c.from_residual.result (lint_fault f) c.from_residual.ensures.1)
     (inr
     (not_read ℕ read (output g.W.Sink.taken out out) f (λ e. c.in_err-text.ensures.fault (ap Err e)) refl))

@@ -4,7 +4,6 @@ use Rattle.tx_text.proofs.Exits.{exits_with}
 use Rattle.tx_lint.specs.AllFaults.{faults_of, progress_of}
 use Rattle.tx_lint.specs.Lints.{fault_held}
 use Rattle.tx_jobs.specs.LintJobs.{lint_fault}
-use Rattle.tx_jobs.specs.declared.job_fault.JobFault.TheVariants.{NoMemory}
 use Rattle.tx_jobs.proofs.Did.{uncalled}
 use Rattle.tx_jobs.proofs.LintTold.{not_read, lint_marked, faulty_told, right_told}
 use Rattle.tx_jobs.proofs.lint.lint_risks_job.Goals as goal
@@ -15,7 +14,7 @@ returns-in_err-text-clause-answers g c =
     let out = c.args.out.now in
     let read =
     input g.P.Source.rest g.P.Source.failed g.P.Source.called c.args.plan.now
-    c.read_text.new.source in
+    c.read_whole_text.new.source in
     rw (exits_with c.from_residual.result (lint_fault f) c.from_residual.ensures.1)
     (inr (
       not_read ℕ read (output g.W.Sink.taken out out) f (λ e. c.in_err-text.ensures.fault (ap Err e)) refl,

@@ -17,7 +17,7 @@ returns-in_err-text-clause-done g c =
     let kept : is_some (made_by c.args.command.now).plan ≡ true = sym (some_mapped (λ x. x.now) c.of.result.plan ∙ ap is_some c.of.ensures.plan) ∙ sym c.is_some.ensures ∙ c.if-is_some.true in
     let f = c.in_err-text.field-0.0 in
     let out = c.args.out.now in
-    let read = input g.P.Source.rest g.P.Source.failed g.P.Source.called c.args.first.now c.read_text.new.source in
+    let read = input g.P.Source.rest g.P.Source.failed g.P.Source.called c.args.first.now c.read_whole_text.new.source in
     rw (kept, exits_with c.from_residual.result (lint_fault f) c.from_residual.ensures.1)
     (inr (not_read ℕ read (output g.W.Sink.taken out out) f (λ e. c.in_err-text.ensures.fault (ap Err e)) refl, refl, refl))
 

@@ -1,5 +1,5 @@
 use Rattle.std.proofs.Common.{refl}
-use Rattle.tx_jobs.proofs.DrawnCode.{named_within}
+use Rattle.tx_jobs.proofs.Asking.{named_within}
 use Rattle.tx_jobs.proofs.page.code_asked.Goals as goal
 
 pub returns-in-None-clause-shown : goal.returns-in-None-clause-shown

@@ -20,5 +20,5 @@ returns-in-Err-clause-refused g c = inl (record {
 pub returns-in_err-text-clause-refused : goal.returns-in_err-text-clause-refused
 returns-in_err-text-clause-refused g c =
     let f = c.in_err-text.field-0.0 in
-    let read = input g.S.Source.rest g.S.Source.failed g.S.Source.called c.args.source.now c.read_text.new.source in
+    let read = input g.S.Source.rest g.S.Source.failed g.S.Source.called c.args.source.now c.read_whole_text.new.source in
     rw (exits_with c.from_residual.result (lint_fault f) c.from_residual.ensures.1) (inr (not_whole read f (λ e. c.in_err-text.ensures.fault (ap Err e))))

@@ -4,9 +4,9 @@ use Rattle.std.specs.List.{list_any}
 use Rattle.std.specs.Option.{option_map_or}
 use Rattle.std.proofs.lemmas.List.{take-append-drop}
 use Rattle.std.proofs.lemmas.List.Folds.{list_any-append}
-use Rattle.tx_plan.proofs.ByIndex.{entry_at}
+use Rattle.tx_plan.proofs.ByIndex.{entry_at, take_next}
 use Rattle.tx_join.specs.inner.Ranges.{is_range_of}
-use Rattle.tx_join.proofs.Found.{take_next, drop_next}
+use Rattle.tx_join.proofs.Found.{drop_next}
 use Rattle.tx_join.proofs.differences.has_range_of.Goals as goal
 
 -- the entry at an index is the first that passes, or fails too

@@ -1,6 +1,6 @@
 use Rattle.std.proofs.Common.{length, arith}
 use Rattle.tx_text.proofs.Wrote.{wrote_none}
-use Rattle.tx_cert.proofs.Ranges.{lines_more, lines_stopped, lines_done}
+use Rattle.tx_text.proofs.Ranges.{lines_more, lines_stopped, lines_done}
 use Rattle.tx_join.specs.Differences.{circuits_lines}
 use Rattle.tx_join.proofs.differences.write_circuits.Goals as goal
 

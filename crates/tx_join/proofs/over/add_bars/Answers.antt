@@ -3,7 +3,8 @@ use Rattle.std.specs.Prelude.{slice_get, filter}
 use Rattle.tx_plan.specs.declared.ids.Pair.{Pair}
 use Rattle.tx_plan.proofs.ByIndex.{entry_at}
 use Rattle.tx_join.specs.inner.Taken.{has_bar}
-use Rattle.tx_join.proofs.NextTaken.{bar_got, bar_next, bar_left, bar_free, bars_taken, no_pair}
+use Rattle.tx_plan.proofs.Copied.{bar_got, no_none}
+use Rattle.tx_join.proofs.NextTaken.{bar_next, bar_left, bar_free, bars_taken}
 use Rattle.tx_join.proofs.over.add_bars.Goals as goal
 use Rattle.tx_join.proofs.over.add_bars.Goals.{then-takes+in_ok-add_bar-in-Some, else-takes}
 
@@ -23,7 +24,7 @@ unreachable-requires g c =
     let t = c.loop-index-test.true in
     let n = c.bars-index-end.ensures.count in
     let e = entry_at p.bars c.loop-index.index (omega arith) in
-    no_pair (λ (b : Pair). (b.exchange, b.code)) (slice_get p.bars c.loop-index.index) e.0 e.1 (sym c.in-None.is ∙ c.bar_at.ensures)
+    no_none (λ (b : Pair). (b.exchange, b.code)) (slice_get p.bars c.loop-index.index) e.0 e.1 (sym c.in-None.is ∙ c.bar_at.ensures)
 
 pub loop-index-preserved : goal.loop-index-preserved
 loop-index-preserved g c =

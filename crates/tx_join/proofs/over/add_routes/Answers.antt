@@ -1,4 +1,4 @@
-use Rattle.std.proofs.Common.{◌≡◌, ◌==◌, ◌&&◌, ◌++◌, ◌∷◌, [], false, ◌∙◌, sym, ap, subst, arith, length, append-nil}
+use Rattle.std.proofs.Common.{◌≡◌, ◌==◌, ◌&&◌, ◌++◌, ◌∷◌, [], false, ◌∙◌, refl, sym, ap, subst, arith, length, append-nil}
 use Rattle.std.specs.Prelude.{slice_get}
 use Rattle.std.specs.List.{list_any}
 use Rattle.std.proofs.lemmas.List.FromFn.{length-map-range_with_len}
@@ -6,7 +6,8 @@ use Rattle.tx_plan.specs.declared.ids.Pair.{Pair}
 use Rattle.tx_plan.specs.Plan.{Route}
 use Rattle.tx_plan.proofs.ByIndex.{entry_at}
 use Rattle.tx_join.specs.Joined.{group_in}
-use Rattle.tx_join.proofs.NextTaken.{route_got, route_next, route_left, route_free, routes_taken, no_pair}
+use Rattle.tx_plan.proofs.Copied.{route_got, no_none}
+use Rattle.tx_join.proofs.NextTaken.{route_next, route_left, route_free, routes_taken}
 use Rattle.tx_join.proofs.over.add_routes.Goals as goal
 use Rattle.tx_join.proofs.over.add_routes.Goals.{then-takes+in_ok-add-in-Some, else-takes}
 
@@ -16,7 +17,7 @@ loop-index-init g c = sym (append-nil _)
 pub add-requires : goal.add-requires
 add-requires g c =
     let from = c.args.from.now in
-    let at = route_got from c.routes-index-end.ensures.rules c.loop-index.index _ c.in-Some.ensures.value in
+    let at = route_got from c.routes-index-end.ensures.rules c.loop-index.index _ c.in-Some.ensures.value _ refl in
     subst (λ (q : Pair). list_any (λ (r : Route). (r.exchange == q.exchange) && (r.code == q.code)) c.loop-index.routes ≡ false) (sym c.pair_in-pair.ensures)
     (route_free c.args.network.now c.args.own.now from c.args.whole c.args.routes.now c.loop-index.routes c.loop-index.index _ at c.loop-index.invariant c.requires (sym c.takes.ensures ∙ c.if-takes.true))
 
@@ -26,7 +27,7 @@ unreachable-requires g c =
     let t = c.loop-index-test.true in
     let n = c.routes-index-end.ensures.count in
     let e = entry_at p.routes c.loop-index.index (omega arith) in
-    no_pair (λ (r : Route). (r.exchange, r.code)) (slice_get p.routes c.loop-index.index) e.0 e.1 (sym c.in-None.is ∙ c.route_at.ensures.value)
+    no_none (λ (r : Route). (r.exchange, r.code)) (slice_get p.routes c.loop-index.index) e.0 e.1 (sym c.in-None.is ∙ c.route_at.ensures.value)
 
 pub list_in-requires : goal.list_in-requires
 list_in-requires g c = ap length (c.deref.ensures.value ∙ c.in_ok-groups.ensures) ∙ length-map-range_with_len (group_in c.args.network.now c.args.from.now) 0 (length c.args.from.now.groups)
@@ -34,7 +35,7 @@ list_in-requires g c = ap length (c.deref.ensures.value ∙ c.in_ok-groups.ensur
 pub loop-index-preserved : goal.loop-index-preserved
 loop-index-preserved g c =
     let from = c.args.from.now in
-    let at = route_got from c.routes-index-end.ensures.rules c.loop-index.index _ c.in-Some.ensures.value in
+    let at = route_got from c.routes-index-end.ensures.rules c.loop-index.index _ c.in-Some.ensures.value _ refl in
     elim c.if-takes.branch [
       | then-takes+in_ok-add-in-Some w ↦
           let list = w.list_in.ensures c.args.network.now (w.deref.ensures.value ∙ c.in_ok-groups.ensures) in

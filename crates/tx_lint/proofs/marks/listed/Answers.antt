@@ -6,7 +6,8 @@ use Rattle.tx_plan.specs.Plan.{Route}
 use Rattle.tx_plan.proofs.ByIndex.{entry_at}
 use Rattle.tx_rank.specs.Reached.{is_marked}
 use Rattle.tx_rank.proofs.Marking.{put_back}
-use Rattle.tx_lint.proofs.Marked.{route_there, within_marks, listed_more, no_none}
+use Rattle.tx_lint.proofs.Marked.{route_there, within_marks, listed_more}
+use Rattle.tx_plan.proofs.Copied.{no_none}
 use Rattle.tx_lint.proofs.marks.listed.Goals as goal
 
 pub mark_all-requires : goal.mark_all-requires

@@ -2,7 +2,7 @@ use Rattle.std.proofs.Common.{◌≡◌, ◌∙◌, ◌==◌, ◌≤◌, true, f
 use Rattle.std.specs.Prelude.{slice_get}
 use Rattle.tx_plan.specs.Plan.{Route}
 use Rattle.tx_plan.proofs.ByIndex.{entry_at}
-use Rattle.tx_lint.proofs.Marked.{no_none}
+use Rattle.tx_plan.proofs.Copied.{no_none}
 use Rattle.tx_lint.proofs.Warned.{listed_there, unlisted_more, unlisted_all}
 use Rattle.tx_lint.proofs.warnings.is_unlisted.Goals as goal
 

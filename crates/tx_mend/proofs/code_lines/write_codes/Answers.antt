@@ -1,7 +1,7 @@
 use Rattle.std.proofs.Common.{length, arith}
 use Rattle.tx_text.proofs.Wrote.{wrote_none}
 use Rattle.tx_mend.specs.MendText.{code_line}
-use Rattle.tx_mend.proofs.Written.{index_more, index_stopped, indexes_done}
+use Rattle.tx_text.proofs.Ranges.{index_more, index_stopped, indexes_done}
 use Rattle.tx_mend.proofs.code_lines.write_codes.Goals as goal
 
 pub loop-index-init : goal.loop-index-init

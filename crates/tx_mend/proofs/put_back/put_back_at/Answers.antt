@@ -7,7 +7,7 @@ use Rattle.tx_rank.proofs.Looks.{among_at}
 use Rattle.tx_mend.specs.LeastRanks.{RanksOfCode}
 use Rattle.tx_mend.specs.KeptRanks.{put_back}
 use Rattle.tx_mend.specs.inner.CodeRanks.{rank_list}
-use Rattle.tx_mend.proofs.Least.{listed_within}
+use Rattle.tx_plan.proofs.ListFound.{listed_within}
 use Rattle.tx_mend.proofs.put_back.put_back_at.Goals as goal
 
 pub put_back-requires-clause-exchange : goal.put_back-requires-clause-exchange

@@ -6,7 +6,8 @@ use Rattle.tx_plan.proofs.ByIndex.{entry_at}
 use Rattle.tx_mend.specs.Mended.{route_if}
 use Rattle.tx_mend.specs.Lists.{full_list}
 use Rattle.tx_mend.specs.inner.Pairs.{full_route}
-use Rattle.tx_mend.proofs.Adding.{pair_of, no_none, present_within, present_fresh, present_more}
+use Rattle.tx_plan.proofs.Copied.{pair_of, no_none}
+use Rattle.tx_mend.proofs.Adding.{present_within, present_fresh, present_more}
 use Rattle.tx_mend.proofs.rerouting.add_present.Goals as goal
 
 pub add_route-requires : goal.add_route-requires

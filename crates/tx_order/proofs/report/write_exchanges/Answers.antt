@@ -1,7 +1,7 @@
 use Rattle.std.proofs.Common.{◌+◌, length, ap, arith}
 use Rattle.tx_plan.specs.Plan.{Plan}
 use Rattle.tx_text.proofs.Wrote.{wrote_none}
-use Rattle.tx_mend.proofs.Written.{index_more, index_stopped, indexes_done}
+use Rattle.tx_text.proofs.Ranges.{index_more, index_stopped, indexes_done}
 use Rattle.tx_order.specs.Ordered.{plan_before}
 use Rattle.tx_order.specs.OrderText.{exchange_lines}
 use Rattle.tx_order.proofs.report.write_exchanges.Goals as goal

@@ -2,7 +2,7 @@ use Rattle.std.proofs.Common.{◌≡◌, ◌<◌, Err, refl, arith}
 use Rattle.std.specs.Prelude.{codes}
 use Rattle.std.specs.List.{flat_map, range_with_len}
 use Rattle.tx_text.proofs.Wrote.{wrote_none, wrote_then, wrote_first}
-use Rattle.tx_mend.proofs.Written.{index_more, index_stopped, indexes_done}
+use Rattle.tx_text.proofs.Ranges.{index_more, index_stopped, indexes_done}
 use Rattle.tx_order.specs.Ordered.{stages_in}
 use Rattle.tx_order.specs.OrderText.{stage_text}
 use Rattle.tx_order.proofs.report.write_stages.Goals as goal

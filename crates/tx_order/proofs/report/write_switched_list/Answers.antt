@@ -5,7 +5,7 @@ use Rattle.std.specs.Str.{bytes_eq}
 use Rattle.tx_text.proofs.Wrote.{text_is}
 use Rattle.tx_plan.specs.Plan.{Plan}
 use Rattle.tx_plan.specs.Routes.{route_list}
-use Rattle.tx_mend.specs.MendText.{list_line, old_line, line_unless_same}
+use Rattle.tx_plantext.specs.ChangedLists.{list_line, old_line, line_unless_same}
 use Rattle.tx_order.specs.Ordered.{Order, IsOrderKept, plan_before, stages_in}
 use Rattle.tx_order.proofs.Ordered.{new_after}
 use Rattle.tx_order.proofs.report.write_switched_list.Goals as goal

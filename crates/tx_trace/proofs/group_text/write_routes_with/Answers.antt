@@ -1,6 +1,6 @@
 use Rattle.std.proofs.Common.{length, arith}
 use Rattle.tx_text.proofs.Wrote.{wrote_none}
-use Rattle.tx_mend.proofs.Written.{index_more, index_stopped, indexes_done}
+use Rattle.tx_text.proofs.Ranges.{index_more, index_stopped, indexes_done}
 use Rattle.tx_trace.proofs.GroupLines.{routes_at}
 use Rattle.tx_trace.proofs.group_text.write_routes_with.Goals as goal
 

@@ -3,8 +3,7 @@ use Rattle.std.specs.Prelude.{slice_get}
 use Rattle.std.specs.List.{list_any}
 use Rattle.tx_plan.specs.Plan.{Route}
 use Rattle.tx_plan.proofs.ByIndex.{entry_at}
-use Rattle.tx_mend.proofs.Adding.{pair_of, no_none}
-use Rattle.tx_mend.proofs.Copied.{none_before, none_filtered, route_got}
+use Rattle.tx_plan.proofs.Copied.{pair_of, no_none, none_before, none_filtered, route_got}
 use Rattle.tx_trace.specs.Left.{route_left}
 use Rattle.tx_trace.proofs.LeftRoutes.{has_some, left_next, left_gone, none_left}
 use Rattle.tx_trace.proofs.left.routes_left.Goals as goal

@@ -12,7 +12,7 @@ use Rattle.tx_machine.proofs.Steps.{tests_false}
 use Rattle.tx_machine.proofs.Unrefused.{group_within}
 use Rattle.tx_circuits.specs.Table.{Table, unnamed}
 use Rattle.tx_circuits.proofs.Unnamed.{is_circuit-same}
-use Rattle.tx_calls.specs.KeptCalls.{calls_in}
+use Rattle.tx_engine.specs.inner.KeptCalls.{calls_in}
 use Rattle.tx_engine.specs.inner.Sound.{AreSound}
 use Rattle.tx_engine.proofs.Changing.{sound_table}
 use Rattle.tx_engine.proofs.Together.{released_together}

@@ -1,6 +1,6 @@
 use Rattle.std.proofs.Common.{sym, ◌∙◌, subst, deque_len, deque_capacity}
 use Rattle.tx_machine.specs.declared.reply.Reply.TheVariants.{Lost}
-use Rattle.tx_calls.specs.KeptCalls.{calls_in}
+use Rattle.tx_engine.specs.inner.KeptCalls.{calls_in}
 use Rattle.tx_engine.specs.inner.Seen.{AreTogether, state_seen}
 use Rattle.tx_engine.proofs.Accepted.{fail_done}
 use Rattle.tx_engine.proofs.Together.{failed_together}

@@ -11,7 +11,7 @@ use Rattle.tx_machine.specs.State.{State}
 use Rattle.tx_machine.specs.Step.{accepted}
 use Rattle.tx_machine.proofs.Unrefused.{can_count, can_key, key_line}
 use Rattle.tx_lines.specs.Book.{Book}
-use Rattle.tx_calls.specs.KeptCalls.{calls_in}
+use Rattle.tx_engine.specs.inner.KeptCalls.{calls_in}
 use Rattle.tx_engine.specs.inner.Seen.{state_seen}
 use Rattle.tx_engine.specs.inner.Sound.{state_of}
 use Rattle.tx_engine.proofs.Changing.{sound_key, keyed_with}

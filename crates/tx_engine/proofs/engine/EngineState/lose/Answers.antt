@@ -3,7 +3,7 @@ use Rattle.std.proofs.lemmas.List.{drop_all}
 use Rattle.tx_plan.specs.Plan.{Plan}
 use Rattle.tx_machine.specs.declared.cause.Cause.TheVariants.{Lost as ByLoss}
 use Rattle.tx_machine.specs.Ending.{end_call}
-use Rattle.tx_calls.specs.KeptCalls.{calls_in}
+use Rattle.tx_engine.specs.inner.KeptCalls.{calls_in}
 use Rattle.tx_engine.proofs.Losing.{losing_begins}
 use Rattle.tx_engine.proofs.Users.{AreLeft, none_left}
 use Rattle.tx_engine.specs.inner.Sound.{state_of}

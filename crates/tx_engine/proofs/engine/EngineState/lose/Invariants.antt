@@ -1,5 +1,5 @@
 use Rattle.std.proofs.Common.{◌≡◌, ◌≤◌, drop}
-use Rattle.tx_calls.specs.KeptCalls.{calls_in}
+use Rattle.tx_engine.specs.inner.KeptCalls.{calls_in}
 use Rattle.tx_engine.specs.inner.InTurn.{IsLosing}
 use Rattle.tx_engine.proofs.Users.{AreLeft}
 use Rattle.tx_engine.specs.inner.Sound.{IsSound, state_of}

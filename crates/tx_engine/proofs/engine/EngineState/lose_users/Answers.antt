@@ -1,6 +1,6 @@
 use Rattle.std.proofs.Common.{sym, subst}
 use Rattle.tx_machine.specs.InUse.{uses_group}
-use Rattle.tx_calls.specs.KeptCalls.{calls_in}
+use Rattle.tx_engine.specs.inner.KeptCalls.{calls_in}
 use Rattle.tx_engine.specs.inner.Users.{AreNumbersOf}
 use Rattle.tx_engine.proofs.Users.{numbers_along}
 use Rattle.tx_engine.proofs.Lost.{permuted, permuted_back}

@@ -1,3 +1,0 @@
-pub mod Before
-mod FirstShown
-pub mod Arrowed

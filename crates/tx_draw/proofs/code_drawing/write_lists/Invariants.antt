@@ -1,8 +1,0 @@
-use Rattle.std.proofs.Common.{Ok}
-use Rattle.tx_text.specs.Wrote.{WroteBy}
-use Rattle.tx_draw.specs.Drawing.{each_before}
-use Rattle.tx_draw.specs.CodeDrawing.{list_lines}
-use Rattle.tx_draw.proofs.code_drawing.write_lists.Given as goal
-
-abbrev pub invariant-loop-index : goal.invariant-loop-index
-invariant-loop-index g l = WroteBy (g.W.Sink.taken l.initial.sink) (g.W.Sink.taken l.sink) (g.W.Sink.failed l.initial.sink) (g.W.Sink.failed l.sink) (each_before l.index (list_lines l.plan l.code l.reached l.shown)) (Ok tt)

@@ -1,7 +1,0 @@
-use Rattle.std.proofs.Common.{Ok}
-use Rattle.tx_text.specs.Wrote.{WroteBy}
-use Rattle.tx_draw.specs.Drawing.{each_before, exchange_line}
-use Rattle.tx_draw.proofs.drawing.write_exchanges.Given as goal
-
-abbrev pub invariant-loop-index : goal.invariant-loop-index
-invariant-loop-index g l = WroteBy (g.W.Sink.taken l.initial.sink) (g.W.Sink.taken l.sink) (g.W.Sink.failed l.initial.sink) (g.W.Sink.failed l.sink) (each_before l.index (exchange_line l.plan)) (Ok tt)

@@ -1,4 +1,0 @@
-pub mod Drawing
-pub mod Shown
-pub mod CodeDrawing
-pub mod Arrows

@@ -1,0 +1,22 @@
+use Rattle.std.proofs.Common.{refl}
+use Rattle.tx_machine.specs.Routing.{in_phase}
+use Rattle.tx_engine.specs.inner.KeptCalls.{Kept}
+use Rattle.tx_engine.proofs.Bridge.{tied_written, changes_exactly, calls_written}
+use Rattle.tx_engine.proofs.open_calls.OpenCalls.set_phase.Goals as goal
+
+pub invariant_of-self : goal.invariant_of-self
+invariant_of-self g c =
+    let i = c.self.inside in
+    tied_written i.calls c.write_phase.new.calls i.by_number c.self.invariant c.args.self.now c.self.view_is c.args.key (in_phase c.args.phase) (λ k. refl)
+    (λ d e. (record d { phase = c.args.phase }, c.write_phase.ensures d e, refl)) c.requires
+
+pub returns-clause-changes : goal.returns-clause-changes
+returns-clause-changes g c =
+    let i = c.self.inside in
+    changes_exactly i.calls c.write_phase.new.calls i.by_number c.args.self.now c.self.view_is c.args.key (λ (k : Kept). record k { call = in_phase c.args.phase k.call }) (λ d e. (record d { phase = c.args.phase }, c.write_phase.ensures d e, refl))
+
+pub returns-clause-calls : goal.returns-clause-calls
+returns-clause-calls g c =
+    let i = c.self.inside in
+    calls_written i.calls c.write_phase.new.calls i.by_number c.self.invariant c.args.self.now c.self.view_is c.args.key (in_phase c.args.phase) (λ k. refl)
+    (λ d e. (record d { phase = c.args.phase }, c.write_phase.ensures d e, refl))

@@ -1,0 +1,8 @@
+use Rattle.std.proofs.Common.{Ok}
+use Rattle.std.specs.List.{flat_map, range_with_len}
+use Rattle.tx_text.specs.Wrote.{WroteBy}
+use Rattle.tx_plantext.specs.ChangedLists.{code_changes}
+use Rattle.tx_plantext.proofs.changed_lists.write_changes.Given as goal
+
+abbrev pub invariant-loop-index : goal.invariant-loop-index
+invariant-loop-index g l = WroteBy (g.W.Sink.taken l.initial.sink) (g.W.Sink.taken l.sink) (g.W.Sink.failed l.initial.sink) (g.W.Sink.failed l.sink) (flat_map (code_changes l.with_old l.before l.plan) (range_with_len 0 l.index)) (Ok tt)

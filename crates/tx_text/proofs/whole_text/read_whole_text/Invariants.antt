@@ -1,0 +1,15 @@
+use Rattle.std.proofs.Common.{◌≡◌}
+use Rattle.std.specs.Io.KnownBytes.{prepend_known}
+use Rattle.tx_text.specs.inner.CallsLeft.{Went}
+use Rattle.tx_text.specs.Calls.{source_calls}
+use Rattle.tx_text.proofs.whole_text.read_whole_text.Given as goal
+
+abbrev pub invariant-loop-left : goal.invariant-loop-left
+invariant-loop-left g l = record {
+  moves : g.R.Source.rest l.initial.source
+      ≡ prepend_known l.text.items (g.R.Source.rest l.source);
+  went : Went g.R.Source.called source_calls l.left l.initial.source l.source;
+}
+
+abbrev pub decreases-loop-left : goal.decreases-loop-left
+decreases-loop-left g l = l.left
