@@ -1,13 +1,13 @@
 -- Texts that are put to a sink one after another.
-use Rattle.std.proofs.Common.{◌≡◌, ◌≢◌, ℕ, ◌+◌, ◌<◌, ◌≤◌, Bool, true, false, List, [], ◌∷◌, ◌++◌, length, take, drop, get_or, Option, Result, Ok, Err, refl, sym, ap, ◌∙◌, subst, append-nil}
-use Rattle.std.specs.Prelude.{IsErr, is_err}
+use Rattle.std.proofs.Common.{◌≡◌, ◌≢◌, ℕ, ◌+◌, ◌<◌, ◌≤◌, Bool, true, false, List, [], ◌∷◌, ◌++◌, length, take, get_or, Option, Result, Ok, Err, refl, sym, ap, ◌∙◌, subst, append-nil}
+use Rattle.std.specs.Prelude.{is_err}
 use Rattle.std.specs.List.{flat_map}
 use Rattle.std.specs.Io.KnownBytes.{append_known}
 use Rattle.std.proofs.lemmas.Bool.{false≢true}
 use Rattle.std.proofs.lemmas.List.{take_all, take_more}
 use Rattle.std.proofs.lemmas.List.Concat.{flat_map-append}
 use Rattle.tx_text.specs.declared.sink.WriteFault.{WriteFault}
-use Rattle.tx_text.specs.Ends.{moved, StopsIn}
+use Rattle.tx_text.specs.Ends.{StopsIn}
 use Rattle.tx_text.specs.Wrote.{WroteBy, Wrote}
 use Rattle.tx_text.specs.Puts.{PutsBy, Puts}
 use Rattle.tx_text.proofs.Writing.{append_known-nil, append_known_twice, stops_first, stops_later}
@@ -47,14 +47,6 @@ by_wrote a b false false text (Ok x) some p e = (p, refl)
 by_wrote a b false false text (Err x) some p e = absurd (false≢true e)
 by_wrote a b false true text (Ok x) some p e = absurd (false≢true (sym e))
 by_wrote a b false true text (Err x) some p e = (p, e)
-
--- texts that are not empty
-pub some : {x : ℕ} {text : List ℕ} → x ∷ text ≢ []
-some e = let z : ⊥ = cc in z
-
-pub some_last : (s : List ℕ) {t : List ℕ} → t ≢ [] → s ++ t ≢ []
-some_last [] end e = end e
-some_last (x ∷ s) end e = let z : ⊥ = cc in z
 
 module _ {W : Type 0} {taken : W → Option (List ℕ)} {failed : W → Bool} where
   -- nothing

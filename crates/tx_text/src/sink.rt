@@ -68,7 +68,11 @@ pub fn put_parts<W: Sink>(parts: &[&[u8]], sink: &mut W)
 pub fn finish<W: Sink>(sink: &W) -> Result<(), WriteFault>
     ensures { W.failed sink.now ≡ is_err result }
 {
-    if sink.has_failed() { Err(WriteFault) } else { Ok(()) }
+    if sink.has_failed() {
+        Err(WriteFault)
+    } else {
+        Ok(())
+    }
 }
 
 /// Writes all the bytes, or stops where the sink fails: then a front of them was taken, and not
@@ -81,15 +85,4 @@ pub fn write_bytes<W: Sink>(bytes: &[u8], sink: &mut W) -> Result<(), WriteFault
     }
     put_bytes(bytes, sink);
     finish(sink)
-}
-
-/// Writes the parts of a text, one after another, or stops where the sink fails: then a front of
-/// the text was taken, and not all.
-pub fn write_parts<W: Sink>(parts: &[&[u8]], sink: &mut W) -> Result<(), WriteFault>
-    ensures { Wrote W.taken W.failed sink.old sink.new (flat_map (λ p. p.now) parts.now) result }
-{
-    for i in 0..parts.len() {
-        write_bytes(parts[i], sink)?;
-    }
-    Ok(())
 }
