@@ -11,8 +11,8 @@ odd words, a terminal, and files to be made in odd places. What the machine does
 
 Then it plays the commands of docs/telexplan.1, one after another.
 
-Then checks README.md, docs/FORMATS.md and docs/HEADLINE.md: each block there says, in a comment before it, what it shows, and has to show just that; the table of codes has to be the
-program's and to have the codes of the definitions, the map of the crates has to be that of crates.txt, what the pages name has to be there, each link of theirs has
+Then checks README.md, docs/FORMATS.md and docs/HEADLINE.md: each block there says, in a comment before it, what it shows, and has to show just that; `explain` has to print the
+program's tables of codes and words, and these have to have the codes of the definitions; the map of the crates has to be that of crates.txt, each link of the pages has
 to lead to a file and a heading that are there, the player of the gate, crates/tx_worked, has to have the examples as they stand, and docs/telexplan.bash and
 docs/telexplan.1 have to have the commands and options that the program's help tells. Prints a line for each difference; the status is 1 if there is one.
 
@@ -29,9 +29,7 @@ The comments before a block:
   <!-- lines: PATH -->    lines of the file that follow one another
   <!-- not run -->        commands that no example shows, and that are not those of the program
 and before a table:
-  <!-- examples -->       each text in the last column is a line of some file in examples/
-  <!-- codes -->          the table of codes
-  <!-- words -->          the table of words"""
+  <!-- examples -->       each text in the last column is a line of some file in examples/"""
 import os
 import pty
 import re
@@ -45,8 +43,7 @@ import time
 
 TOP = os.path.dirname(os.path.dirname(os.path.abspath(__file__)))
 PAGES = ["README.md", "docs/FORMATS.md", "docs/HEADLINE.md"]
-NAMING = ["CHANGELOG.md", "CONTRIBUTING.md", "docs/ARCHITECTURE.md", "docs/DECISIONS.md", "docs/GLOSSARY.md", "docs/MEASURED.md", "docs/PROOFS.md"]
-MADE = ["crates/telexplan/out/telexplan"]
+LINKING = ["CHANGELOG.md", "CONTRIBUTING.md", "docs/ARCHITECTURE.md", "docs/DECISIONS.md", "docs/GLOSSARY.md", "docs/MEASURED.md", "docs/PROOFS.md"]
 PLAYED = "crates/tx_worked/data/cases"
 
 
@@ -293,16 +290,12 @@ def check_table(mark, rows, known_lines):
     if mark == "examples":
         texts = [it for row in rows for it in re.findall(r"`([^`]+)`", row[-1])]
         return [f"no example has the line {it!r}" for it in texts if plain(it) not in known_lines] + ([] if texts else ["no examples stand in it"])
-    if mark in ("codes", "words"):
-        told, wanted = [tuple(it.replace("`", "") for it in row) for row in rows], codes_explained() if mark == "codes" else words_explained()
-        return [f"{row[0]} is not what the program explains" for row in told if row not in wanted] + ([] if told == wanted else ["the rows are not those of the program's table"])
     return [f"no such comment: {mark}"]
 
 
 def check_pages(tell):
     known = {it.name: it for it in examples()}
     known_lines = lines_of_examples()
-    shown = set()
     for page in PAGES:
         for line, mark, text in blocks(page):
             wrong = check_block(mark, text, known)
@@ -314,26 +307,18 @@ def check_pages(tell):
         for line, mark, rows in tables(page):
             for wrong in check_table(mark, rows, known_lines):
                 tell(f"{page} line {line}: {wrong}")
-            shown.add(mark)
-    for it in sorted({"codes", "words"} - shown):
-        tell(f"docs/FORMATS.md: the table of {it} is missing")
+
+
+def check_explained(tell):
+    """What `explain` prints is what the program's tables have, and these have the codes of the definitions."""
+    wanted = [f"{code} {name}: {meaning}" for code, name, meaning, _ in codes_explained() + words_explained()]
+    if wanted != read("examples/explain-all.out").decode().splitlines():
+        tell("examples/explain-all.out: it does not have what the tables of crates/tx_explain have")
     for it in sorted(codes_defined() ^ {row[:2] for row in codes_explained()}):
         tell(f"crates/tx_explain: {' '.join(it)} stands in the table or in the definitions alone")
 
 
-# WHAT THE PAGES NAME
-
-
-def check_names(tell):
-    """Each path in a page is there, and each edit that it names."""
-    for page in PAGES + NAMING:
-        text = read(page).decode()
-        for it in re.findall(r"`((?:\.ci|bench|crates|docs|tools|examples)/[\w./-]+)`", text):
-            if it not in MADE and not re.search(r"\b(CRATE|NAME)\b", it) and not os.path.exists(os.path.join(TOP, it)):
-                tell(f"{page}: {it} is not there")
-        for crate, edit in re.findall(r"`(tx_\w+)/(\w+)`", text):
-            if not os.path.exists(os.path.join(TOP, "crates", crate, "must-fail", edit + ".edit")):
-                tell(f"{page}: there is no edit {crate}/{edit}")
+# WHERE THE PAGES LEAD
 
 
 def headings(page):
@@ -344,7 +329,7 @@ def headings(page):
 
 def check_links(tell):
     """Each link of a page within the repository leads to a file that is there, and to a heading of it, if it names one."""
-    for page in PAGES + NAMING:
+    for page in PAGES + LINKING:
         for link in re.findall(r"\]\(([^()\s]+)\)", read(page).decode()):
             path, _, heading = link.partition("#")
             if re.match(r"\w+:", path):
@@ -786,7 +771,7 @@ def main(words):
         for check in (check_arguments, check_terminal, check_replaced, check_apart, check_page_apart, check_outputs, check_pipe_and_device, check_no_leave, check_no_name, check_order, check_manual_commands, check_offers):
             check(program, told.append)
     check_pages(told.append)
-    check_names(told.append)
+    check_explained(told.append)
     check_links(told.append)
     check_map(told.append)
     check_cases(told.append)

@@ -10,3 +10,5 @@ pub mod Writable
 pub mod ReadBack
 pub mod Loops
 pub mod Firsts
+pub mod Untouched
+pub mod Taken

@@ -6,10 +6,9 @@ use Rattle.tx_cert.specs.Certificate.{Certificate}
 use Rattle.tx_machine.specs.Sound.{IsSound, HasFewRoutes}
 use Rattle.tx_check.specs.declared.verdict.Verdict.TheVariants.{Yes, No}
 use Rattle.tx_check.specs.Checks.{check_faults, ranks_for, verdict_of}
-use Rattle.tx_script.specs.declared.summary.Summary.{Summary}
 use Rattle.tx_script.specs.declared.run_fault.RunFault.{RunFault}
 use Rattle.tx_script.specs.Answers.{mark_by}
-use Rattle.tx_run.specs.Simulated.{IsUntouched, Simulated}
+use Rattle.tx_audit.specs.Simulated.{IsUntouched, Simulated}
 use Rattle.tx_audit.specs.declared.checked.Checked.{Checked}
 use Rattle.tx_audit.specs.declared.checked.Checked.TheVariants.{Ran, Denied}
 

@@ -4,3 +4,4 @@ pub mod Counter
 pub mod Breaks
 pub mod Scripts
 pub mod inner
+pub mod Simulated

@@ -3,7 +3,6 @@ ghost use Rattle.std.specs.Prelude.{◌≡◌};
 ghost use Rattle.tx_audit.specs.declared.audited.AuditFault.TheVariants.{Plan as PlanRefused, Write as WriteFailed, NoMemory as OutOfMemory};
 
 use std::alloc::{Allocator, Global};
-use thiserror::Error;
 use tx_cert::Cert;
 use tx_plan::Plan;
 use tx_plantext::PlanFault;
@@ -34,17 +33,14 @@ impl<A: Allocator> Audited<A> {
 }
 
 /// Why an audit stopped.
-#[derive(Clone, Copy, Debug, Error)]
+#[derive(Clone, Copy)]
 pub enum AuditFault {
     /// The plan's text is refused, its source failed, or its reader had no memory. Nothing was
     /// written.
-    #[error("plan {0}")]
     Plan(PlanFault),
     /// The sink failed: a front of the report was written.
-    #[error("a write failed")]
     Write,
     /// No memory was left to rank the plan. Nothing was written.
-    #[error("no memory")]
     NoMemory,
 }
 

@@ -5,11 +5,11 @@ ghost use Rattle.tx_text.specs.Ends.{input, output};
 ghost use Rattle.tx_audit.specs.CheckedRuns.{CheckedAnswers, mark_after};
 
 use crate::checked::Checked;
+use crate::simulating::simulate;
 use std::alloc::Allocator;
 use tx_cert::Cert;
 use tx_check::{Verdict, check};
 use tx_plan::Plan;
-use tx_run::simulate;
 use tx_script::RunFault;
 use tx_text::{Sink, Source};
 

@@ -1,4 +1,5 @@
-//! The audit of a plan, the events that show what is wrong, and runs of a script after a check.
+//! The audit of a plan, the events that show what is wrong, and runs over the engine: of a list of
+//! events, of a script, and of a script after a check.
 #![tactic(auto)]
 
 mod audited;
@@ -9,7 +10,9 @@ mod counters;
 mod first;
 mod free_line;
 mod judging;
+mod playing;
 mod script_writer;
+mod simulating;
 mod steps;
 mod turns;
 
@@ -20,4 +23,6 @@ pub use checked_run::run_checked;
 pub use counters::counter;
 pub use first::first_counter;
 pub use judging::judge;
+pub use playing::{Played, play};
 pub use script_writer::write_counter;
+pub use simulating::simulate;

@@ -3,29 +3,22 @@ ghost use Rattle.std.specs.Prelude.{◌≡◌};
 ghost use Rattle.tx_cert.specs.declared.fault.CertWord.TheVariants.{NoMemory as OutOfMemory};
 ghost use Rattle.tx_cert.specs.CertFaults.{word_row, fault_row};
 
-use thiserror::Error;
 use tx_text::{FaultAt, FaultKind, NoMemory};
 
 /// What is wrong with the words of a line. Of several the first in this order is reported.
-#[derive(Clone, Copy, Debug, PartialEq, Eq, Error)]
+#[derive(Clone, Copy, Debug, PartialEq, Eq)]
 pub enum CertWord {
     /// C1: the first word is not one of a certificate's.
-    #[error("the first word of the line is not RANK")]
     UnknownWord,
     /// C2: too few or too many words.
-    #[error("the line has too few or too many words")]
     WrongCount,
     /// C3: the plan has no such code or exchange.
-    #[error("the plan has no such code or exchange")]
     UnknownName,
     /// C4: a rank that is no number of at most 65,535.
-    #[error("the rank is not a number from 0 to 65535")]
     BadNumber,
     /// C5: the exchange was ranked for the code before.
-    #[error("the exchange has a rank for this code already")]
     Duplicate,
     /// C9: no memory was left.
-    #[error("no memory")]
     NoMemory,
 }
 

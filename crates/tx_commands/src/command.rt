@@ -279,10 +279,6 @@ impl Drop for Command {
                 drop(code);
                 drop(down);
             }
-            Self::Draw { plan, routes } => {
-                drop(plan);
-                drop(routes);
-            }
             Self::Explain { line } => {
                 drop(line);
             }

@@ -5,19 +5,15 @@ ghost use Rattle.tx_commands.specs.declared.fault.WordsFault.TheVariants.{NoMemo
 
 use clap::error::ErrorKind;
 use std::alloc::{AllocError, AllocFailed};
-use thiserror::Error;
 
 /// Why the words give no command.
-#[derive(Debug, Drop, Error)]
+#[derive(Drop)]
 pub enum WordsFault {
     /// The words are refused, or ask for help or for the version.
-    #[error(transparent)]
     Clap(clap::Error),
     /// `run` has some of its three options, and not all.
-    #[error("--cert, --limit and --spare go together")]
     Together,
     /// No memory was left.
-    #[error("no memory")]
     NoMemory,
 }
 

@@ -13,7 +13,7 @@ use Rattle.tx_plantext.specs.PlanText.{plan_of, ReadsPlan}
 use Rattle.tx_machine.specs.State.{opening}
 use Rattle.tx_script.specs.declared.summary.Summary.{Summary}
 use Rattle.tx_script.proofs.Retold.{run_as}
-use Rattle.tx_run.specs.Simulated.{from_opening}
+use Rattle.tx_audit.specs.Simulated.{from_opening}
 use Rattle.tx_jobs.specs.declared.job_fault.JobFault.{JobFault}
 use Rattle.tx_jobs.specs.Jobs.{ScriptRan}
 

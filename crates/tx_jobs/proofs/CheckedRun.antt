@@ -13,7 +13,7 @@ use Rattle.tx_check.specs.Verdicts.{verdict_written}
 use Rattle.tx_script.specs.Answers.{RunAnswers}
 use Rattle.tx_audit.specs.declared.checked.Checked.{Checked}
 use Rattle.tx_audit.specs.declared.checked.Checked.TheVariants.{Ran, Denied}
-use Rattle.tx_run.specs.Simulated.{from_opening}
+use Rattle.tx_audit.specs.Simulated.{from_opening}
 use Rattle.tx_audit.specs.CheckedRuns.{CheckedAnswers}
 use Rattle.tx_jobs.specs.declared.job_fault.JobFault.TheVariants.{Write}
 use Rattle.tx_jobs.specs.CheckedJobs.{ToldRun, ToldNo}

@@ -11,7 +11,7 @@ use Rattle.tx_check.specs.Verdicts.{verdict_written}
 use Rattle.tx_script.specs.declared.run_fault.RunFault.{RunFault}
 use Rattle.tx_audit.specs.declared.checked.Checked.{Checked}
 use Rattle.tx_audit.specs.declared.checked.Checked.TheVariants.{Ran, Denied}
-use Rattle.tx_run.specs.Simulated.{RanFromOpening, HadNoRoom}
+use Rattle.tx_audit.specs.Simulated.{RanFromOpening, HadNoRoom}
 use Rattle.tx_audit.specs.CheckedRuns.{IsAllowed}
 use Rattle.tx_jobs.specs.declared.job_fault.JobFault.{JobFault}
 use Rattle.tx_jobs.specs.declared.job_fault.JobFault.TheVariants.{Write}

@@ -11,7 +11,7 @@ use Rattle.tx_plantext.specs.declared.fault.PlanWord.{PlanWord}
 use Rattle.tx_plantext.specs.PlanText.{SaysPlan, ReadsPlan}
 use Rattle.tx_script.specs.declared.summary.Summary.{Summary}
 use Rattle.tx_script.specs.declared.run_fault.RunFault.{RunFault}
-use Rattle.tx_run.specs.Simulated.{RanFromOpening}
+use Rattle.tx_audit.specs.Simulated.{RanFromOpening}
 use Rattle.tx_jobs.specs.declared.job_fault.JobFault.{JobFault}
 use Rattle.tx_jobs.specs.declared.job_fault.JobFault.TheVariants.{Write, NoMemory}
 use Rattle.tx_jobs.specs.JobFaults.{plan_fault, run_fault}

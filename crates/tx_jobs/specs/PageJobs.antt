@@ -19,7 +19,7 @@ use Rattle.tx_order.specs.Switchings.{IsRightSwitching}
 use Rattle.tx_risk.specs.NamedRisks.{NamedRisk}
 use Rattle.tx_risk.specs.Outages.{AreOutcomes}
 use Rattle.tx_html.specs.Shows.{Shows}
-use Rattle.tx_order_page.specs.declared.change.Change.{Change}
+use Rattle.tx_page.specs.declared.change.Change.{Change}
 use Rattle.tx_page.specs.Page.{is_safe, page_texts}
 use Rattle.tx_page.specs.declared.subject.Subject.{Subject}
 use Rattle.tx_commands.specs.declared.grammar.TheConstants.{VERSION}

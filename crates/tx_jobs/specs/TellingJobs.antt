@@ -6,7 +6,7 @@ use Rattle.tx_script.specs.declared.summary.Summary.{Summary}
 use Rattle.tx_script.specs.declared.run_fault.RunFault.{RunFault}
 use Rattle.tx_script.specs.declared.teller.Telling.{Telling}
 use Rattle.tx_script.specs.TellingAnswers.{TellingAnswers}
-use Rattle.tx_run.specs.Simulated.{from_opening}
+use Rattle.tx_audit.specs.Simulated.{from_opening}
 use Rattle.tx_jobs.specs.declared.job_fault.JobFault.{JobFault}
 use Rattle.tx_text.specs.Ends.{Input, Output}
 use Rattle.tx_jobs.specs.Jobs.{PlanRead, PlanRefused, HadNoRoom, told_run}

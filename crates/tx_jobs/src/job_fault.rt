@@ -21,52 +21,38 @@ use tx_text::{FaultKind, FrameFault, NoMemory, WholeTextFault, WriteFault};
 
 /// Why a job stopped before its end. `write_fault` says it in full.
 #[derive(Clone, Copy, Debug, PartialEq, Eq, Error)]
+#[error("a job stopped")]
 pub enum JobFault {
     /// The plan's text is refused.
-    #[error("plan {0}")]
     Plan(PlanFault),
     /// The certificate's text is refused.
-    #[error("certificate {0}")]
     Cert(CertFault),
     /// The script's text is refused.
-    #[error("script {0}")]
     Script(ScriptFault),
     /// An input failed.
-    #[error("a read failed")]
     Read,
     /// The output failed.
-    #[error("a write failed")]
     Write,
     /// No memory was left.
-    #[error("no memory")]
     NoMemory,
     /// The text of the plan that is in force is refused.
-    #[error("old plan {0}")]
     OldPlan(PlanFault),
     /// The text of the plan that is to be is refused.
-    #[error("new plan {0}")]
     NewPlan(PlanFault),
     /// The plans of a change or an order contradict each other.
-    #[error("the plans contradict each other")]
     Contradiction(Contradiction),
     /// The plans of a change or an order have together more exchanges, codes or groups than a plan
     /// may have.
-    #[error("both plans together have too many exchanges, codes or groups")]
     TooManyTogether,
     /// The text of risks is refused.
-    #[error("risks {0}")]
     Risks(RiskFault),
     /// The order does not have the stage that was asked for, but so many.
-    #[error("the order has no such stage")]
     NoSuchStage(usize),
     /// The plan has no exchange of the name that was asked for.
-    #[error("the plan has no such exchange")]
     NoSuchExchange,
     /// The plan has no code of the figures that were asked for.
-    #[error("the plan has no such code")]
     NoSuchCode,
     /// The plan has no group of a name that was asked for: of this one, counted from 0.
-    #[error("the plan has no such group")]
     NoSuchGroup(usize),
 }
 

@@ -14,7 +14,7 @@ use std::alloc::Allocator;
 use tx_change::{Difference, first_difference};
 use tx_join::Joined;
 use tx_order::{Switching, order};
-use tx_order_page::Change;
+use tx_page::Change;
 use tx_plan::Limits;
 
 /// What is found of the change of a plan into another one.

@@ -10,10 +10,10 @@ ghost use Rattle.tx_jobs.specs.inner.PageFound.{one_or_all, IsGraded, IsFound};
 
 use std::alloc::Allocator;
 use tx_audit::judge;
-use tx_layout::{Picture, picture_of};
 use tx_plan::{CodeId, Limits, Plan};
 use tx_rank::{Grade, Ranking, grade, origins_of};
 use tx_risk::{Outcome, Risks, all_outcomes};
+use tx_svg::{Picture, picture_of};
 use tx_text::NoMemory;
 
 /// What is found of a plan: the verdict on it, and what its page shows of it.

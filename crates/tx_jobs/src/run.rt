@@ -7,9 +7,9 @@ ghost use Rattle.tx_jobs.specs.Jobs.{RunJobAnswers, ScriptRan};
 
 use crate::job_fault::JobFault;
 use std::alloc::Allocator;
+use tx_audit::simulate;
 use tx_plan::Plan;
 use tx_plantext::read_plan_from;
-use tx_run::simulate;
 use tx_script::Summary;
 use tx_text::{Sink, Source};
 

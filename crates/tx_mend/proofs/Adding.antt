@@ -16,6 +16,7 @@ use Rattle.tx_plan.proofs.Among.{among_left, among_cases, map_among, filter_amon
 use Rattle.tx_mend.specs.LeastRanks.{indexes}
 use Rattle.tx_mend.specs.inner.Pairs.{present_pairs, pairs_for, is_absent, absent_below}
 use Rattle.tx_mend.proofs.Distinct.{range_among}
+use Rattle.tx_plan.proofs.Copied.{pair_of}
 use Rattle.tx_plan.proofs.ListFound.{list_cases, found_among}
 use Rattle.tx_mend.proofs.Placed.{indexes_more, flat_more}
 use Rattle.tx_mend.proofs.Routed.{Apart, routed, route_of, has_any, any_has, pair_within, pairs_apart}

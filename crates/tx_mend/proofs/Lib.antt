@@ -12,7 +12,7 @@ pub mod Dropping
 pub mod Unranked
 pub mod Tables
 pub mod Adding
-mod Settled
+mod SettledLists
 pub mod Comes
 pub mod Trimmed
 pub mod InOrder

@@ -4,3 +4,5 @@ pub mod CodeTexts
 pub mod OutageTexts
 pub mod NetworkTexts
 pub mod Page
+pub mod ChangeTexts
+pub mod inner

@@ -1,16 +1,22 @@
 //! A page about a plan: one HTML file without script, which fetches nothing.
 #![tactic(auto)]
 
+mod between;
+mod change;
 mod codes;
 mod counts;
+mod entry;
 mod findings;
 mod heading;
 mod network;
 mod outages;
 mod page;
+mod stages;
 mod style;
 mod subject;
+mod table;
 mod walks;
 
+pub use change::Change;
 pub use page::{is_safe, write_page};
 pub use subject::Subject;

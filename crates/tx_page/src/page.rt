@@ -3,6 +3,7 @@ ghost use Rattle.std.specs.Prelude.{◌≡◌};
 ghost use Rattle.tx_html.specs.Shows.{Showed};
 ghost use Rattle.tx_page.specs.Page.{is_safe, asked_change_texts, page_texts};
 
+use crate::change::{Change, write_change};
 use crate::codes::write_codes;
 use crate::findings::write_wrong;
 use crate::heading::write_heading;
@@ -11,7 +12,6 @@ use crate::outages::write_outages;
 use crate::subject::Subject;
 use std::alloc::Allocator;
 use tx_html::{PageSink, Part, set};
-use tx_order_page::{Change, write_change};
 use tx_rank::{Finding, Ranking};
 use tx_svg::write_pictures;
 use tx_text::WriteFault;

@@ -1,10 +1,10 @@
 // What a page is about.
+use crate::change::Change;
 use std::alloc::Allocator;
-use tx_layout::Picture;
-use tx_order_page::Change;
 use tx_plan::{Limits, Plan};
 use tx_rank::{Grade, Ranking};
 use tx_risk::{Outcome, Risks};
+use tx_svg::Picture;
 
 /// A plan, and what was found of it.
 #[derive(Drop)]

@@ -9,7 +9,7 @@ use std::marker::Model;
 use tx_text::{InlineBytes, are_figures};
 
 /// An exchange of a plan, by its index. An id is foreign to a plan that has no such index.
-#[derive(Clone, Copy, Debug, PartialEq, Eq, Hash)]
+#[derive(Clone, Copy, PartialEq, Eq, Hash)]
 pub struct ExchangeId {
     index: u16,
 }
@@ -44,7 +44,7 @@ impl ExchangeId {
 }
 
 /// A destination code of a plan, by its index. An id is foreign to a plan that has no such index.
-#[derive(Clone, Copy, Debug, PartialEq, Eq, Hash)]
+#[derive(Clone, Copy, PartialEq, Eq, Hash)]
 pub struct CodeId {
     index: u16,
 }
@@ -79,7 +79,7 @@ impl CodeId {
 }
 
 /// A group of circuits of a plan, by its index. An id is foreign to a plan that has no such index.
-#[derive(Clone, Copy, Debug, Default, PartialEq, Eq, Hash)]
+#[derive(Clone, Copy, Default, PartialEq, Eq, Hash)]
 pub struct GroupId {
     index: u16,
 }

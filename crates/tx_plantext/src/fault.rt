@@ -3,19 +3,16 @@ ghost use Rattle.std.specs.Prelude.{◌≡◌};
 ghost use Rattle.tx_plantext.specs.declared.fault.PlanWord.TheVariants.{Refused};
 ghost use Rattle.tx_plantext.specs.PlanFaults.{refusal_row, fault_row};
 
-use thiserror::Error;
 use tx_plan::PlanRefusal;
 use tx_text::{FaultAt, FaultKind};
 
 /// What is wrong with the words of a line.
-#[derive(Clone, Copy, Debug, PartialEq, Eq, Error)]
+#[derive(Clone, Copy, Debug, PartialEq, Eq)]
 pub enum PlanWord {
     /// P3: no line begins with the word, or the fifth word of a group is no direction. Under `PLAN
     /// 1` no line begins with BAR.
-    #[error("the first word of the line is not one of a plan, or a group is neither ONEWAY nor BOTHWAY")]
     UnknownWord,
     /// The builder refuses the declaration, or the number of words is wrong: that is `WrongCount`.
-    #[error(transparent)]
     Refused(PlanRefusal),
 }
 

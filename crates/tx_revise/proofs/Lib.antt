@@ -11,7 +11,6 @@ pub mod Steps
 pub mod Spelling
 pub mod Counts
 pub mod Whole
-pub mod Others
 pub mod Comments
 pub mod CommentTurns
 pub mod CommentsKept

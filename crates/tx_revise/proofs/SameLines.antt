@@ -25,12 +25,16 @@ use Rattle.tx_revise.proofs.LineKinds.{Kind, exchange, code, range, group, route
 use Rattle.tx_revise.proofs.Steps.{lines_none, stand_is}
 use Rattle.tx_revise.proofs.OldLines.{cancel}
 use Rattle.tx_revise.proofs.Rows.{route_for, words_here}
-use Rattle.tx_revise.proofs.Others.{behind_others}
 use Rattle.tx_revise.proofs.NamesRead.{IsRead, names_read}
 use Rattle.tx_revise.proofs.RoutesFront.{routes_front}
 use Rattle.tx_revise.proofs.CommentTurns.{list_written, placed_kept, behind_kept}
 use Rattle.tx_revise.proofs.CommentsKept.{no_begin, not_again, all_again, none_barred, IsFresh, fresh_on}
 use Rattle.tx_revise.proofs.Said.{end_is, head_word, first_is, turn_is, lines_by, ended_stand, revised_is}
+
+-- lines in front change nothing
+pub behind_others : (xs front ys : List (List ℕ)) → StandAmong xs ys → StandAmong xs (front ++ ys)
+behind_others xs [] ys h = h
+behind_others xs (y ∷ front) ys h = later y xs (front ++ ys) (behind_others xs front ys h)
 
 -- LINES THAT STAND AMONG OTHERS
 stand_both : (xs ys us vs : List (List ℕ)) → StandAmong xs ys → StandAmong us vs → StandAmong (xs ++ us) (ys ++ vs)

@@ -1,6 +1,6 @@
 -- What a revised text says, and which lines stand in it.
 use Rattle.std.specs.Prelude.{◌≡◌, ℕ, ◌==◌, ◌&&◌, Bool, true, false, not, if◌then◌else◌, List, [], ◌∷◌, ◌++◌, map, filter, length, drop, Ok, codes}
-use Rattle.std.specs.List.{list_any, slice_split}
+use Rattle.std.specs.List.{slice_split}
 use Rattle.std.specs.Str.{bytes_eq}
 use Rattle.tx_text.specs.Text.{is_lf, without_cr}
 use Rattle.tx_text.specs.Words.{is_filled}
@@ -30,29 +30,11 @@ abbrev pub RevisedTextsSayThePlan : Type 0
 RevisedTextsSayThePlan = (text : List ℕ) → (old new : Plan) → plan_of AtEnd text ≡ Ok old
     → IsPlan new → SameNetwork old new → SaysAs new (revised text old new)
 
--- the first word begins no header, list or bar
-abbrev pub is_other_by : List (List ℕ) → Bool
-is_other_by [] = true
-is_other_by (w ∷ ws) =
-    not (list_any (bytes_eq w) (codes "PLAN" ∷ codes "ROUTE" ∷ codes "BAR" ∷ []))
-
--- a line that is no header, list or bar, as one without words
-abbrev pub is_other : List ℕ → Bool
-is_other line = is_other_by (words_in line)
-
 -- The first lines stand among the second ones, in their order.
 pub data StandAmong : List (List ℕ) → List (List ℕ) → Type 0 where
   none : (ys : List (List ℕ)) → StandAmong [] ys
   this : (x : List ℕ) (xs ys : List (List ℕ)) → StandAmong xs ys → StandAmong (x ∷ xs) (x ∷ ys)
   later : (y : List ℕ) (xs ys : List (List ℕ)) → StandAmong xs ys → StandAmong xs (y ∷ ys)
-
--- All lines of the text of a plan but its header, its lists and its bars stand in the revised one,
--- in their order.
-abbrev pub OtherLinesStand : Type 0
-OtherLinesStand = (text : List ℕ) → (old new : Plan) → plan_of AtEnd text ≡ Ok old
-    → IsPlan new → SameNetwork old new
-    → StandAmong (filter is_other (slice_split is_lf text))
-    (slice_split is_lf (revised text old new))
 
 -- what stands behind the words of a line: its comment, with the blanks before it
 abbrev pub comment : List ℕ → List ℕ

@@ -10,5 +10,5 @@ mod lists;
 mod revising;
 mod turns;
 
-pub use law::{comments_stand, other_lines_stand, revised_texts_say_the_plan, same_lines_stand};
+pub use law::{comments_stand, revised_texts_say_the_plan, same_lines_stand};
 pub use revising::revise;

@@ -3,32 +3,24 @@ ghost use Rattle.std.specs.Prelude.{◌≡◌};
 ghost use Rattle.tx_risk.specs.declared.fault.RiskWord.TheVariants.{NoMemory as OutOfMemory};
 ghost use Rattle.tx_risk.specs.RiskFaults.{word_row, fault_row};
 
-use thiserror::Error;
 use tx_text::{FaultAt, FaultKind, NoMemory};
 
 /// What is wrong with the words of a line. Of several the first in this order is reported.
-#[derive(Clone, Copy, Debug, PartialEq, Eq, Error)]
+#[derive(Clone, Copy, Debug, PartialEq, Eq)]
 pub enum RiskWord {
     /// Q1: the first word is not one of a text of risks.
-    #[error("the first word of the line is not RISK")]
     UnknownWord,
     /// Q2: no name, or no groups.
-    #[error("the line has no name, or no groups")]
     WrongCount,
     /// Q3: the name of the risk is no name.
-    #[error("the name of the risk is no name")]
     BadName,
     /// Q4: a risk of the name was declared before.
-    #[error("a risk of this name is declared already")]
     Duplicate,
     /// Q5: the plan has no such group.
-    #[error("the plan has no such group")]
     UnknownName,
     /// Q6: a group is there twice.
-    #[error("a group stands there twice")]
     RepeatedGroup,
     /// Q10: no memory was left.
-    #[error("no memory")]
     NoMemory,
 }
 

@@ -3,23 +3,18 @@ ghost use Rattle.std.specs.Prelude.{◌≡◌};
 ghost use Rattle.tx_script.specs.declared.run_cause.RunCause.TheVariants.{NoMemory as OutOfMemory, Write};
 
 use crate::script_word::ScriptFault;
-use thiserror::Error;
 use tx_text::{NoMemory, WriteFault};
 
 /// Why a run stopped before its end.
-#[derive(Clone, Copy, Debug, PartialEq, Eq, Error)]
+#[derive(Clone, Copy, PartialEq, Eq)]
 pub enum RunCause {
     /// The source failed, or was not at its end after the allowed number of calls.
-    #[error("a read failed")]
     Read,
     /// The sink failed. The event in hand, if there was one, was applied.
-    #[error("a write failed")]
     Write,
     /// The script is faulty.
-    #[error("script {0}")]
     Script(ScriptFault),
     /// No memory was left for the event in hand, which was not applied.
-    #[error("no memory")]
     NoMemory,
 }
 

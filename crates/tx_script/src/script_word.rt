@@ -2,25 +2,20 @@
 ghost use Rattle.std.specs.Prelude.{◌≡◌};
 ghost use Rattle.tx_script.specs.ScriptFaults.{word_row, fault_row};
 
-use thiserror::Error;
 use tx_text::{FaultAt, FaultKind};
 
 /// What is wrong with the words of a script's line. Of several faults the first in this order is
 /// given.
-#[derive(Clone, Copy, Debug, PartialEq, Eq, Error)]
+#[derive(Clone, Copy, Debug, PartialEq, Eq)]
 pub enum ScriptWord {
     /// S1: the first word is no event's, or the third of a CLEAR line of three words is neither
     /// CALLER nor CALLED.
-    #[error("the first word of the line is no event, or who clears is neither CALLER nor CALLED")]
     UnknownWord,
     /// S2: the wrong number of words.
-    #[error("the line has too few or too many words")]
     WrongCount,
     /// S3: a national number, keyed figures, a call or a circuit that is none.
-    #[error("a national number, the keyed figures, a call or a circuit is not what it must be")]
     BadNumber,
     /// S4: a code or a group that the plan does not have.
-    #[error("the plan has no such code or group")]
     UnknownName,
 }
 

@@ -3,7 +3,7 @@ use Rattle.std.specs.Prelude.{ℕ, List, [], ◌∷◌, ◌++◌, length, map}
 use Rattle.std.specs.List.{flat_map}
 use Rattle.tx_plan.specs.Plan.{Plan, exchange_name, figures_of, group_name, home_of}
 use Rattle.tx_plan.specs.Routes.{route_list}
-use Rattle.tx_layout.specs.declared.picture.Picture.{Picture}
+use Rattle.tx_svg.specs.declared.picture.Picture.{Picture}
 use Rattle.tx_svg.specs.Indexed.{texts_below}
 
 -- an exchange with its list for a code, in the title of its box, and then its name in the box

@@ -3,9 +3,11 @@ ghost use Rattle.std.specs.Prelude.{[]};
 ghost use Rattle.tx_html.specs.Shows.{Showed};
 
 use crate::findings::finding_goes;
+use crate::picture::Picture;
+use crate::spot::{Spot, TOP};
+use crate::ways::{Point, entry_of, exit_of, head_of, tip_of};
 use std::alloc::Allocator;
 use tx_html::{PageSink, Part, set};
-use tx_layout::{Picture, Point, Spot, TOP, entry_of, exit_of, head_of, tip_of};
 use tx_plan::{CodeId, ExchangeId, GroupId, Plan};
 use tx_rank::Finding;
 use tx_text::WriteFault;

@@ -4,10 +4,12 @@ ghost use Rattle.tx_html.specs.Shows.{Showed};
 ghost use Rattle.tx_svg.specs.Indexed.{texts_below};
 ghost use Rattle.tx_svg.specs.ListTexts.{box_texts};
 
+use crate::frame::{Frame, Kind, frame_of};
 use crate::names::write_groups;
+use crate::picture::Picture;
+use crate::spot::BOX;
 use std::alloc::Allocator;
 use tx_html::{PageSink, Part, set};
-use tx_layout::{BOX, Frame, Kind, Picture, frame_of};
 use tx_plan::{ExchangeId, GroupId, Plan};
 use tx_text::WriteFault;
 

@@ -4,9 +4,10 @@ ghost use Rattle.tx_html.specs.Shows.{Showed};
 ghost use Rattle.tx_svg.specs.Indexed.{texts_below};
 ghost use Rattle.tx_svg.specs.RingTexts.{name_texts, ring_texts};
 
+use crate::seats::{MOST, Size, seat_of, size_of};
+use crate::spot::{BOX, TALL};
 use std::alloc::Allocator;
 use tx_html::{PageSink, Part, set};
-use tx_layout::{BOX, MOST, Size, TALL, seat_of, size_of};
 use tx_plan::{ExchangeId, GroupId, Plan};
 use tx_text::WriteFault;
 

@@ -13,34 +13,25 @@ use crate::reader::TextReader;
 use crate::source::Source;
 use crate::text_fault::TextFault;
 use std::alloc::{Allocator, Global};
-use std::fmt::Display;
 use std::marker::Model;
-use thiserror::Error;
 
 /// What is wrong with a text beside the words of its lines.
-#[derive(Clone, Copy, Debug, PartialEq, Eq, Error)]
+#[derive(Clone, Copy, Debug, PartialEq, Eq)]
 pub enum FrameFault {
     /// A line has more than 512 bytes.
-    #[error("a line has more than 512 bytes")]
     LineTooLong,
     /// A line has a byte that is no tab and not from 0x20 to 0x7E.
-    #[error("a line has a byte that is neither a tab nor printable ASCII")]
     BadByte,
     /// No memory was left for the reader's line.
-    #[error("no memory was left for the reader's line")]
     NoMemory,
     /// The source failed, or was not at its end after the allowed number of calls.
-    #[error("a read failed")]
     Read,
     /// The first line with words is not the header, or no line has words.
-    #[error("the header is missing")]
     NoHeader,
     /// The text ends without END, or in the middle of a line with words that is not the one word
     /// END.
-    #[error("the text ends without END, or in the middle of a line")]
     NoEnd,
     /// A line after END has words.
-    #[error("words come after END")]
     AfterEnd,
 }
 
@@ -82,19 +73,14 @@ impl FrameFault {
 }
 
 /// What is wrong with a text: its frame, or the words of a line.
-#[derive(Clone, Copy, Debug, PartialEq, Eq, Error)]
-#[error_bound(W: Display)]
+#[derive(Clone, Copy, Debug, PartialEq, Eq)]
 pub enum FaultKind<W> {
-    #[error(transparent)]
     Frame(FrameFault),
-    #[error(transparent)]
     Word(W),
 }
 
 /// A fault of a text, with the number of its line, from 1.
-#[derive(Clone, Copy, Debug, PartialEq, Eq, Error)]
-#[error_bound(W: Display)]
-#[error("line {line}: {kind}")]
+#[derive(Clone, Copy, Debug, PartialEq, Eq)]
 pub struct FaultAt<W> {
     pub line: u64,
     pub kind: FaultKind<W>,
@@ -112,8 +98,7 @@ pub enum FramePart {
 }
 
 /// A fault of the frame, with the number of its line, from 1.
-#[derive(Clone, Copy, Debug, Error)]
-#[error("line {line}: {fault}")]
+#[derive(Clone, Copy)]
 pub struct FrameStop {
     pub line: u64,
     pub fault: FrameFault,

@@ -7,11 +7,8 @@ ghost use Rattle.tx_text.specs.Ends.{moved};
 ghost use Rattle.tx_text.specs.Puts.{Puts};
 ghost use Rattle.tx_text.specs.Wrote.{Wrote};
 
-use thiserror::Error;
-
 /// A sink failed.
-#[derive(Clone, Copy, Debug, Error)]
-#[error("a write failed")]
+#[derive(Clone, Copy)]
 pub struct WriteFault;
 
 /// Where bytes go.

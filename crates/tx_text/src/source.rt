@@ -4,11 +4,8 @@ ghost use Rattle.std.specs.Io.KnownBytes.{prepend_known, IsAtEnd};
 ghost use Rattle.tx_text.specs.declared.source.ReadFault.{ReadFault};
 ghost use Rattle.tx_text.specs.Ends.{moved};
 
-use thiserror::Error;
-
 /// A source failed.
-#[derive(Clone, Copy, Debug, Error)]
-#[error("a read failed")]
+#[derive(Clone, Copy)]
 pub struct ReadFault;
 
 /// Where bytes come from.

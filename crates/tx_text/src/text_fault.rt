@@ -2,19 +2,14 @@
 ghost use Rattle.std.specs.Prelude.{◌≡◌};
 ghost use Rattle.tx_text.specs.Rows.{text_row};
 
-use thiserror::Error;
-
 /// The faults of lines. Of several of one line the first that is named here is reported.
-#[derive(Clone, Copy, Debug, PartialEq, Eq, Error)]
+#[derive(Clone, Copy, PartialEq, Eq)]
 pub enum TextFault {
     /// X1: a line has more than 512 bytes.
-    #[error("a line has more than 512 bytes")]
     LineTooLong,
     /// X2: a line has a byte that is no tab and not from 0x20 to 0x7E.
-    #[error("a line has a byte that is neither a tab nor printable ASCII")]
     BadByte,
     /// X3: no memory was left for a line's buffer.
-    #[error("no memory was left for the reader's line")]
     NoMemory,
 }
 

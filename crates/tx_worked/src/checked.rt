@@ -11,7 +11,7 @@ use tx_check::{Verdict, check};
 use tx_machine::{Event, Network, Plain, Reply, drive};
 use tx_plan::Plan;
 use tx_plantext::read_plan;
-use tx_run::{Played, play};
+use tx_audit::{Played, play};
 use tx_script::read_event;
 use tx_tickets::{write_reply, write_ticket};
 

@@ -3,7 +3,7 @@ use Rattle.tx_plan.specs.Plan.{Plan}
 use Rattle.tx_jobs.specs.PageJobs.{IsChangeOf, IsChangeIfAny}
 use Rattle.tx_jobs.specs.inner.PageFound.{IsFoundIfAny}
 use Rattle.tx_jobs.specs.declared.page_change.FoundChange.{FoundChange}
-use Rattle.tx_order_page.specs.declared.change.Change.{Change}
+use Rattle.tx_page.specs.declared.change.Change.{Change}
 use Rattle.tx_jobs.proofs.page_change.shown_change.Goals as goal
 
 some_shown : {A : Type 0} (found : FoundChange A) (change : Change A)

@@ -5,7 +5,7 @@ use Rattle.tx_plan.specs.Plan.{Route}
 use Rattle.tx_plan.proofs.ByIndex.{entry_at}
 use Rattle.tx_mend.specs.inner.Full.{settled_list}
 use Rattle.tx_plan.proofs.Copied.{pair_of, no_none, none_before, route_got}
-use Rattle.tx_mend.proofs.Settled.{none_settled, settled_next}
+use Rattle.tx_mend.proofs.SettledLists.{none_settled, settled_next}
 use Rattle.tx_mend.proofs.settling.settled_routes.Goals as goal
 
 pub add_route-requires : goal.add_route-requires

@@ -1,2 +1,0 @@
-pub mod ChangeTexts
-pub mod inner

@@ -1,0 +1,68 @@
+-- What a page shows of the change from an old plan.
+use Rattle.std.specs.Prelude.{ℕ, ◌+◌, Bool, true, false, ◌&&◌, ◌==◌, if◌then◌else◌, List, [], ◌∷◌, ◌++◌, length, map, Option, None, Some, codes, decimal}
+use Rattle.std.specs.Str.{bytes_eq}
+use Rattle.tx_plan.specs.Plan.{Plan, exchange_name, figures_of, group_name}
+use Rattle.tx_plan.specs.Routes.{route_list, is_barred}
+use Rattle.tx_change.specs.declared.difference.Difference.{Difference}
+use Rattle.tx_join.specs.declared.joining.Joined.{Joined}
+use Rattle.tx_order.specs.declared.switching.Switching.{Switching}
+use Rattle.tx_order.specs.declared.switching.Switching.TheVariants.{Ordered, NoOrder}
+use Rattle.tx_order.specs.Ordered.{Order, plan_before, stages_in}
+use Rattle.tx_svg.specs.Indexed.{texts_below}
+use Rattle.tx_page.specs.declared.change.Change.{Change}
+
+-- that two plans differ beside lists and bars, if an entry does
+abbrev pub network_texts : Option Difference → List (List ℕ)
+network_texts None = []
+network_texts (Some difference) = codes "differ" ∷ []
+
+-- whether an exchange was barred for a code, and whether it is now: a bar that is set, one that is
+-- lifted, or nothing
+abbrev pub bar_word : (before now : Bool) → List ℕ
+bar_word false false = []
+bar_word false true = codes "set"
+bar_word true false = codes "lifted"
+bar_word true true = []
+
+-- an exchange and a code, its list before and its list now, and what happens to the bar
+abbrev pub entry_texts : Plan → (x c : ℕ) → (before now : List ℕ) → (was is : Bool) → List (List ℕ)
+entry_texts p x c before now was is = (exchange_name p x ∷ figures_of p c ∷ [])
+    ++ (map (group_name p) before ++ (map (group_name p) now ++ bar_word was is ∷ []))
+
+-- the same, if the list or the bar is another one
+abbrev pub switched_texts : Plan → (x c : ℕ) → (before now : List ℕ) → (was is : Bool)
+    → List (List ℕ)
+switched_texts p x c before now was is =
+    if bytes_eq before now && (length (bar_word was is) == 0) then []
+    else entry_texts p x c before now was is
+
+-- what two plans have for a code at an exchange, by the names of p
+abbrev pub pair_texts : (p before after : Plan) → (x c : ℕ) → List (List ℕ)
+pair_texts p before after x c = switched_texts p x c (route_list before x c) (route_list after x c)
+    (is_barred before x c) (is_barred after x c)
+
+-- at an exchange, by codes
+abbrev pub exchange_texts : (p before after : Plan) → (x : ℕ) → List (List ℕ)
+exchange_texts p before after x = texts_below (length p.codes) (pair_texts p before after x)
+
+-- at all exchanges
+abbrev pub table_texts : (p before after : Plan) → List (List ℕ)
+table_texts p before after = texts_below (length p.exchanges) (exchange_texts p before after)
+
+-- the number of a stage, from 1, and what it switches
+abbrev pub stage_texts : Order → ℕ → List (List ℕ)
+stage_texts o s = (decimal (s + 1) ∷ [])
+    ++ table_texts o.transition.new (plan_before o s) (plan_before o (s + 1))
+
+module _ {A : Type 0} where
+  -- the stages of an order, if there is one and the new plan is safe; else all that differs over
+  -- the joined network
+  abbrev pub switching_texts : (safe : Bool) → Joined A → Switching A → List (List ℕ)
+  switching_texts safe j (Ordered o) = if safe then texts_below (stages_in o) (stage_texts o)
+      else table_texts j.new j.old j.new
+  switching_texts safe j (NoOrder p before after) = table_texts j.new j.old j.new
+
+  -- whether the plans differ beside lists and bars, and what is switched
+  abbrev pub change_texts : (safe : Bool) → Change A → List (List ℕ)
+  change_texts safe c =
+      network_texts c.difference ++ switching_texts safe c.joined.now c.switching.now

@@ -1,0 +1,22 @@
+-- Two plans of which one follows the other.
+use Rattle.std.specs.Prelude.{◌+◌, ◌<◌}
+use Rattle.tx_plan.specs.Plan.{Plan}
+use Rattle.tx_order.specs.Ordered.{plan_before, stages_in}
+use Rattle.tx_page.specs.declared.between.Between.{Between}
+use Rattle.tx_page.specs.declared.between.Between.TheVariants.{Stage, Plans}
+
+module _ {A : Type 0} where
+  -- the plan before
+  abbrev pub before_of : Between A → Plan
+  before_of (Stage order stage) = plan_before order.now stage
+  before_of (Plans old new) = old.now
+
+  -- and the plan after it
+  abbrev pub after_of : Between A → Plan
+  after_of (Stage order stage) = plan_before order.now (stage + 1)
+  after_of (Plans old new) = new.now
+
+  -- a stage is one of the order
+  abbrev pub IsThere : Between A → Type 0
+  IsThere (Stage order stage) = stage < stages_in order.now
+  IsThere (Plans old new) = Unit {0}

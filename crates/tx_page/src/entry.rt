@@ -1,0 +1,88 @@
+// A row of a table of what is switched.
+ghost use Rattle.std.specs.Prelude.{◌≡◌, [], ◌∷◌};
+ghost use Rattle.tx_html.specs.Shows.{Showed};
+ghost use Rattle.tx_page.specs.ChangeTexts.{bar_word, entry_texts, switched_texts};
+
+use std::alloc::Allocator;
+use tx_html::{PageSink, Part, set};
+use tx_plan::{CodeId, ExchangeId, GroupId, Plan};
+use tx_svg::write_groups;
+use tx_text::WriteFault;
+
+/// What an exchange has for a code before a stage and after it.
+#[derive(Clone, Copy)]
+pub struct Entry<'a> {
+    pub exchange: ExchangeId,
+    pub code: CodeId,
+    pub before: &'a [GroupId],
+    pub after: &'a [GroupId],
+    pub was_barred: bool,
+    pub is_barred: bool,
+}
+
+/// What happens to a bar.
+fn bar_word(was: bool, is: bool) -> &'static [u8]
+    ensures { result.now ≡ bar_word was is }
+{
+    match (was, is) {
+        (false, true) => b"set",
+        (true, false) => b"lifted",
+        (false, false) | (true, true) => b"",
+    }
+}
+
+/// Writes a row, if the list or the bar is another one.
+pub fn write_switched<A: Allocator, W: PageSink>(
+    plan: &Plan<A>,
+    entry: &Entry<'_>,
+    sink: &mut W,
+) -> Result<(), WriteFault>
+    ensures { Showed W.seen sink.old sink.new
+        (switched_texts plan.now entry.now.exchange entry.now.code entry.now.before.now
+        entry.now.after.now entry.now.was_barred entry.now.is_barred) result }
+{
+    let bar = bar_word(entry.was_barred, entry.is_barred);
+    if entry.before == entry.after && bar.is_empty() {
+        return Ok(());
+    }
+    write_entry(plan, entry, sink)
+}
+
+fn write_entry<A: Allocator, W: PageSink>(
+    plan: &Plan<A>,
+    entry: &Entry<'_>,
+    sink: &mut W,
+) -> Result<(), WriteFault>
+    ensures { Showed W.seen sink.old sink.new
+        (entry_texts plan.now entry.now.exchange entry.now.code entry.now.before.now
+        entry.now.after.now entry.now.was_barred entry.now.is_barred) result }
+{
+    set(
+        &[
+            Part::Own("<tr><th scope=\"row\">"),
+            Part::Text(plan.exchange_name(entry.exchange)),
+            Part::Own("</th><td>"),
+            Part::Text(plan.code_figures(entry.code)),
+            Part::Own("</td><td>"),
+        ],
+        sink,
+    )?;
+    write_groups(plan, entry.before, sink)?;
+    set(&[Part::Own("</td><td>")], sink)?;
+    write_groups(plan, entry.after, sink)?;
+    write_bar(bar_word(entry.was_barred, entry.is_barred), sink)
+}
+
+/// Writes what happens to a bar, and the end of the row.
+fn write_bar<W: PageSink>(bar: &[u8], sink: &mut W) -> Result<(), WriteFault>
+    ensures { Showed W.seen sink.old sink.new (bar.now ∷ []) result }
+{
+    set(
+        &[
+            Part::Own("</td><td>"),
+            Part::Text(bar),
+            Part::Own("</td></tr>"),
+        ],
+        sink,
+    )
+}

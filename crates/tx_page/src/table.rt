@@ -1,0 +1,66 @@
+// A table of what is switched.
+ghost use Rattle.std.specs.Prelude.{length};
+ghost use Rattle.tx_html.specs.Shows.{Showed};
+ghost use Rattle.tx_svg.specs.Indexed.{texts_below};
+ghost use Rattle.tx_page.specs.ChangeTexts.{exchange_texts, table_texts};
+ghost use Rattle.tx_page.specs.inner.Between.{before_of, after_of, IsThere};
+
+use crate::between::{Between, entry_of};
+use crate::entry::write_switched;
+use std::alloc::Allocator;
+use tx_html::{PageSink, Part, set};
+use tx_plan::{CodeId, ExchangeId, Plan};
+use tx_text::WriteFault;
+
+const HEAD: &str = "<div class=\"t\"><table><thead><tr><th scope=\"col\">Exchange</th>\
+<th scope=\"col\">Code</th><th scope=\"col\">Old list</th><th scope=\"col\">New list</th>\
+<th scope=\"col\">Bar</th></tr></thead><tbody>";
+
+/// Writes the table of what differs between two plans, by the names of one of them.
+pub fn write_table<A: Allocator, W: PageSink>(
+    plan: &Plan<A>,
+    between: &Between<'_, A>,
+    sink: &mut W,
+) -> Result<(), WriteFault>
+    requires { IsThere between.now }
+    ensures { Showed W.seen sink.old sink.new
+        (table_texts plan.now (before_of between.now) (after_of between.now)) result }
+{
+    set(&[Part::Own(HEAD)], sink)?;
+    write_rows(plan, between, sink)?;
+    set(&[Part::Own("</tbody></table></div>")], sink)
+}
+
+/// Writes its rows, exchange by exchange.
+fn write_rows<A: Allocator, W: PageSink>(
+    plan: &Plan<A>,
+    between: &Between<'_, A>,
+    sink: &mut W,
+) -> Result<(), WriteFault>
+    requires { IsThere between.now }
+    ensures { Showed W.seen sink.old sink.new
+        (table_texts plan.now (before_of between.now) (after_of between.now)) result }
+{
+    for index in 0..plan.exchanges() {
+        write_exchange(plan, between, ExchangeId::of(index), sink)?;
+    }
+    Ok(())
+}
+
+/// Writes the rows of an exchange, code by code.
+fn write_exchange<A: Allocator, W: PageSink>(
+    plan: &Plan<A>,
+    between: &Between<'_, A>,
+    exchange: ExchangeId,
+    sink: &mut W,
+) -> Result<(), WriteFault>
+    requires { IsThere between.now }
+    ensures { Showed W.seen sink.old sink.new
+        (exchange_texts plan.now (before_of between.now) (after_of between.now) exchange) result }
+{
+    for index in 0..plan.codes() {
+        let entry = entry_of(between, exchange, CodeId::of(index));
+        write_switched(plan, &entry, sink)?;
+    }
+    Ok(())
+}

@@ -1,2 +1,0 @@
-pub mod Untouched
-pub mod Taken

@@ -1,9 +1,0 @@
-use Rattle.std.proofs.Common.{length}
-use Rattle.tx_run.proofs.Taken.{IsTaken}
-use Rattle.tx_run.proofs.playing.take_tickets.Given as goal
-
-abbrev pub invariant-loop-ticket : goal.invariant-loop-ticket
-invariant-loop-ticket g l = IsTaken l.fn.network l.network l.tickets.items
-
-abbrev pub decreases-loop-ticket : goal.decreases-loop-ticket
-decreases-loop-ticket g l = length l.network.state.tickets
