@@ -34,12 +34,6 @@ by_call a b true g text taken up stays = absurd (false≢true (stays refl))
 by_call a b false false text taken up stays = taken
 by_call a b false true text taken up stays = absurd (false≢true (sym up))
 
--- a call failed
-by_failure : (a b : Option (List ℕ)) (f g : Bool) (text : List ℕ) → text ≢ [] → b ≡ append_known a [] → g ≡ true → PutsBy a b f g text
-by_failure a b true g text some taken down = (down, taken ∙ sym (append_known-nil a))
-by_failure a b false false text some taken down = absurd (false≢true down)
-by_failure a b false true text some taken down = subst (λ z. StopsIn a z text) (append_known-nil a ∙ sym taken) (stops_before a text some)
-
 by_wrote : (a b : Option (List ℕ)) (f g : Bool) (text : List ℕ) (r : Result (Unit {0}) WriteFault) → text ≢ [] → PutsBy a b f g text → g ≡ is_err r → WroteBy a b f g text r
 by_wrote a b true g text (Ok x) some p e = absurd (false≢true (sym e ∙ p.0))
 by_wrote a b true g text (Err x) some p e = (subst (λ z. StopsIn a z text) (sym p.1) (stops_before a text some), e)
@@ -63,10 +57,6 @@ module _ {W : Type 0} {taken : W → Option (List ℕ)} {failed : W → Bool} wh
   -- a call that took some
   pub puts_call : {a b : W} {text : List ℕ} → taken b ≡ append_known (taken a) text → failed b ≡ false → (failed a ≡ true → false ≡ true) → Puts taken failed a b text
   puts_call {a} {b} {text} e up stays = record { by = by_call (taken a) (taken b) (failed a) (failed b) text e up stays }
-
-  -- a call that failed
-  pub puts_failure : {a b : W} {bytes : List ℕ} → bytes ≢ [] → taken b ≡ append_known (taken a) [] → failed b ≡ true → Puts taken failed a b bytes
-  puts_failure {a} {b} {bytes} some e down = record { by = by_failure (taken a) (taken b) (failed a) (failed b) bytes some e down }
 
   -- a text that is not empty, and whether the sink failed
   pub puts_wrote : {a b : W} {text : List ℕ} (r : Result (Unit {0}) WriteFault) → text ≢ [] → Puts taken failed a b text → failed b ≡ is_err r → Wrote taken failed a b text r
