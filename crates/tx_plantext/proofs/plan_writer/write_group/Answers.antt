@@ -6,6 +6,6 @@ use Rattle.tx_plantext.proofs.plan_writer.write_group.Goals as goal
 pub returns-in-None : goal.returns-in-None
 returns-in-None g c = rw (line_past (group_words c.args.plan.now) c.args.plan.now.groups c.args.index (none_at c.args.plan.now.groups c.args.index c.in-None.ensures)) puts_none
 
-pub returns-write_direction : goal.returns-write_direction
-returns-write_direction g c =
+pub returns-in-Some : goal.returns-in-Some
+returns-in-Some g c =
     puts_is (group_text c.args.plan.now c.args.index c.in-Some.group c.group_count.result c.ends-a.result c.direction.result _ _ _ c.in-Some.ensures c.group_name-name.ensures.value c.ends-a.ensures c.exchange_name-first.ensures.value c.exchange_name-second.ensures.value c.direction.ensures c.group_count.ensures.value) (puts_then c.put_parts.ensures (puts_then c.write_direction.ensures c.write_count.ensures))
