@@ -26,7 +26,7 @@ def edits_of(crate):
     folder = f"crates/{crate}/must-fail"
     for name in sorted(os.listdir(folder)) if os.path.isdir(folder) else []:
         text = read(os.path.join(folder, name))
-        yield name.removesuffix(".edit"), f"crates/{crate}/{re.search(r'(?m)^file: (.*)$', text)[1]}", re.findall(r"(?m)^old: (.*)$", text)
+        yield name.removesuffix(".md").removesuffix(".edit"), f"crates/{crate}/{re.search(r'(?m)^file: (.*)$', text)[1]}", re.findall(r"(?m)^old: (.*)$", text)
 
 
 def function_at(functions, text, olds):

@@ -108,7 +108,7 @@ def words(names):
 def places_of(path, files):
     """Where a file may be: a path from the top or from crates/, an edit, or the end of a path in a crate."""
     crate, _, name = path.partition("/")
-    there = [path, f"crates/{path}", f"crates/{crate}/must-fail/{name}.edit"]
+    there = [path, f"crates/{path}", f"crates/{crate}/must-fail/{name}.edit", f"crates/{crate}/must-fail/{name}.edit.md"]
     return [it for it in there if it in MADE or os.path.exists(it)] or [it for it in files if it.endswith("/" + path.rstrip("/"))]
 
 

@@ -45,30 +45,22 @@
 //!   written over their joined network.
 //! - `program` plays the program at its ends, over the files beside the folder `cases`:
 //!   `cases/end_case.rt` has what is in its head. `arguments` tells how it refuses its arguments.
-//! - `family` judges the ranking over a family of plans, `pairs` the change of each into each,
-//!   `networks` the change and the order from each plan of a family to each of another one, of
-//!   another network, `orders` the order from each to each, `mends` the mending of each, and
-//!   `outages` what each group, each exchange and each two groups cut off in each. `twins` plays
-//!   the engine beside the plain network. The calls of the crates below have the kinds of `tests`.
+//! - `twins` plays the engine beside the plain network. The calls of the crates below have the kinds
+//!   of `tests`.
 #![tactic(auto)]
 
 mod cases;
-mod changes;
 mod checked;
 mod driven;
 mod ends;
-mod families;
 mod jobs;
 mod joined;
-mod mends;
-mod outages;
 mod play;
 mod player;
 mod run_laws;
 mod runs;
 mod tests;
 mod twins;
-mod walks;
 mod whole_runs;
 mod written;
 

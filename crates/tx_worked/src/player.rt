@@ -3,14 +3,10 @@ use crate::cases::{
     Case, Kind, Told, cases_of, head_of, next_case, spell, tell, tell_broken, tell_count,
     tell_differing,
 };
-use crate::changes::{play_networks, play_orders, play_pairs};
 use crate::ends::{play_arguments, play_program};
-use crate::mends::play_mends;
-use crate::outages::play_outages;
 use crate::play::play_texts;
 use crate::tests::play_call;
 use crate::twins::{Tallies, play_twins, tell_tallies};
-use crate::walks::play_family;
 use std::{fs, io};
 
 /// How many cases were played, and how many of them differ from what they have to print.
@@ -67,12 +63,6 @@ impl<'a> Player<'a> {
             Some(Kind::Calls(kind)) => play_call(alloc, kind, head, texts, out),
             Some(Kind::Program) => play_program(self.rt, head_text, out),
             Some(Kind::Arguments) => play_arguments(alloc, head.first, out),
-            Some(Kind::Family) => play_family(alloc, texts, out),
-            Some(Kind::Pairs) => play_pairs(alloc, texts, out),
-            Some(Kind::Networks) => play_networks(alloc, texts, out),
-            Some(Kind::Orders) => play_orders(alloc, texts, out),
-            Some(Kind::Mends) => play_mends(alloc, texts, out),
-            Some(Kind::Outages) => play_outages(alloc, texts, out),
             Some(Kind::Twins) => play_twins(alloc, head, texts, &mut self.tallies, out),
             None => tell_broken(b"no such kind of case", 0, out),
         }

@@ -31,19 +31,6 @@ pub enum Kind {
     Program,
     /// How the program refuses its arguments.
     Arguments,
-    /// A family of plans, whose ranking is judged by brute force.
-    Family,
-    /// A family of plans, each of which is changed into each, judged by brute force.
-    Pairs,
-    /// Two families of plans: the change from each of the one to each of the other is judged by
-    /// brute force.
-    Networks,
-    /// A family of plans, with the order from each to each, judged by brute force.
-    Orders,
-    /// A family of plans, each of which is mended, judged by brute force.
-    Mends,
-    /// A family of plans, whose outages are judged by brute force.
-    Outages,
     /// A plan, over which the engine is played beside the plain network.
     Twins,
 }
@@ -87,15 +74,9 @@ static TEXTS: [(&str, TextKind); 9] = [
     ("starting", TextKind::Driven(Driven::Starting)),
 ];
 
-static OTHERS: [(&str, Kind); 9] = [
+static OTHERS: [(&str, Kind); 3] = [
     ("program", Kind::Program),
     ("arguments", Kind::Arguments),
-    ("family", Kind::Family),
-    ("pairs", Kind::Pairs),
-    ("networks", Kind::Networks),
-    ("orders", Kind::Orders),
-    ("mends", Kind::Mends),
-    ("outages", Kind::Outages),
     ("twins", Kind::Twins),
 ];
 

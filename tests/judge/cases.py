@@ -1,0 +1,121 @@
+"""What is judged: of each topic its cases, each with the number of its small plans and a call of a judge."""
+from itertools import product
+from random import Random
+
+from audit import is_safe, judge_audit, judge_cert_faults, judge_codes, judge_grade
+from change import judge_change
+from families import FAMILIES, PAIRS, SMALL, ambiguous_plans, code_plans, packed, random_network, random_pair, random_plan, random_risks, seeded
+from mend import is_mendable, judge_mend, size_of
+from order import judge_order
+from survive import judge_survive
+
+NUMBERS = list(product(range(3), range(3)))
+
+
+def numbers_of(rng):
+    return rng.choice((0, 1, 1, 2, 2, 3)), rng.choice((0, 0, 0, 1, 1, 2))
+
+
+def audits(family):
+    """All plans of a family, for each limit and each spare number up to 2."""
+    def judge(program, plan):
+        judge_grade(program, plan)
+        for at in NUMBERS:
+            judge_audit(program, plan, *at, also=False)
+
+    for pack in packed(family.routings()):
+        yield len(pack), lambda program: judge(program, family.plan(pack))
+
+
+def graded(family):
+    """All plans of a family that have a grade: those of one grade together, with their certificate and their outages."""
+    def judge(program, plan, limit, spare):
+        judge_grade(program, plan)
+        judge_audit(program, plan, limit, min(spare, 15))
+        judge_audit(program, plan, limit + 1, 0)
+        judge_survive(program, plan, random_risks(Random(limit), plan))
+
+    grades = {}
+    for routing in family.routings():
+        grades.setdefault(family.survey(routing).grade(), []).append(routing)
+    for grade, routings in grades.items():
+        for pack in packed(routings) if grade else ():
+            yield len(pack), lambda program: judge(program, family.plan(pack), *grade)
+
+
+def single(rng, plan):
+    """What `codes`, `grade`, an audit and checks say of a plan, and its outages."""
+    at = numbers_of(rng)
+
+    def judge(program):
+        judge_codes(program, plan)
+        judge_grade(program, plan)
+        judge_audit(program, plan, *at)
+        judge_cert_faults(program, plan, rng, *at)
+        if plan.groups:
+            judge_survive(program, plan, random_risks(rng, plan), rng.random() < 0.2, rng.random() < 0.2)
+    return 1, judge
+
+
+def mends(family):
+    """All plans of a family for each limit and each spare number up to 2: those that lists can mend, and those that none can."""
+    routings = list(family.routings())
+    for at in NUMBERS:
+        mendable = {starts: is_mendable(family.plan([({}, starts)]), *at) for starts in {it[1] for it in routings}}
+        for yes in (True, False):
+            for pack in packed(it for it in routings if mendable[it[1]] == yes):
+                yield len(pack), lambda program: judge_mend(program, family.plan(pack), *at)
+
+
+def random_mend(rng):
+    """A random plan of a network that is small enough to try all routings."""
+    plan = random_plan(rng)
+    while size_of(plan) > 256:
+        plan = random_plan(rng)
+    at, old = numbers_of(rng), rng.random() < 0.5
+    return 1, lambda program: judge_mend(program, plan, *at, old)
+
+
+def pairs(old, new, judge, most):
+    """The change of each plan of a family into each of another one, or of so many pairs at random: all of
+    them for each limit and each spare number up to 2, and those of two safe plans by themselves."""
+    sides = [[(it, family.survey(it)) for it in family.routings()] for family in (old, new)]
+    for at, safe in product(NUMBERS, (False, True)):
+        befores, afters = ([it for it, found in side if not safe or found.is_safe(*at)] for side in sides)
+        count = len(befores) * len(afters)
+        chosen = range(count) if count <= most else Random(most).sample(range(count), most)
+        for pack in packed((befores[n // len(afters)], afters[n % len(afters)]) for n in chosen):
+            plans = [family.plan(side) for family, side in zip((old, new), zip(*pack))]
+            yield len(pack), lambda program: judge(program, *plans, *at)
+
+
+def random_change(judge):
+    """A random pair of plans, most of them safe."""
+    def make(rng):
+        plans, at, told = random_pair(rng), numbers_of(rng), rng.random() < 0.5
+        while not all(is_safe(plan, *at) for plan in plans) and rng.random() < 0.9:
+            plans = random_pair(rng)
+        return 1, lambda program: judge(program, *plans, *at, told)
+    return make
+
+
+def ambiguous_change(rng):
+    plans, at = rng.sample(list(ambiguous_plans()), 2), numbers_of(rng)
+    return 1, lambda program: judge_change(program, *plans, *at)
+
+
+TOPICS = {
+    **{f"audit, grade: {name}": lambda it=it: audits(it) for name, it in FAMILIES.items()},
+    **{f"audit, survive: {name}": lambda it=it: graded(it) for name, it in FAMILIES.items()},
+    "codes: one exchange": lambda: (single(Random(n), plan) for n, plan in enumerate(code_plans())),
+    "audit, check, grade: ambiguous": lambda: (single(Random(n), plan) for n, plan in enumerate(ambiguous_plans())),
+    "audit, check, grade, survive: random": lambda: seeded(800, "plans", lambda rng: single(rng, random_plan(rng))),
+    **{f"mend: {name}": lambda it=it: mends(it) for name, it in SMALL.items()},
+    "mend: networks": lambda: (it for cases in seeded(12, "networks", lambda rng: mends(random_network(rng))) for it in cases),
+    "mend: random": lambda: seeded(800, "mends", random_mend),
+    **{f"change: {name}": lambda it=it: pairs(*it, judge_change, 5000) for name, it in PAIRS.items()},
+    "change: ambiguous": lambda: seeded(200, "ambiguous", ambiguous_change),
+    "change: random": lambda: seeded(800, "changes", random_change(judge_change)),
+    **{f"order: {name}": lambda it=it: pairs(*it, judge_order, 4096) for name, it in PAIRS.items()},
+    "order: random": lambda: seeded(800, "orders", random_change(judge_order)),
+}

@@ -1,0 +1,143 @@
+"""Plans: their text, what a code sees of them, and two plans over their joined network."""
+from functools import wraps
+
+
+def once(method):
+    """The answer of a method, which is worked out once: a plan stays as it is from then on."""
+    @wraps(method)
+    def answer(plan):
+        if method not in plan.known:
+            plan.known[method] = method(plan)
+        return plan.known[method]
+    return answer
+
+
+class Plan:
+    """A plan as docs/FORMATS.md has it. All of its dictionaries are in order of declaration."""
+
+    def __init__(self):
+        self.exchanges = []
+        self.codes = {}  # code: home
+        self.lines = []  # (code, low, high)
+        self.groups = {}  # group: (first end, second end, "ONEWAY" or "BOTHWAY", circuits)
+        self.routes = {}  # (exchange, code): groups
+        self.bars = set()  # (exchange, code)
+        self.known = {}
+
+    @once
+    def text(self):
+        rows = ["PLAN 2" if self.bars else "PLAN 1"]
+        rows += [f"EXCHANGE {it}" for it in self.exchanges]
+        rows += [f"CODE {code} {home}" for code, home in self.codes.items()]
+        rows += [f"LINES {code} {low} {high}" for code, low, high in self.lines]
+        rows += [f"GROUP {name} {a} {b} {way} {count}" for name, (a, b, way, count) in self.groups.items()]
+        rows += [f"ROUTE {x} {code} {' '.join(groups)}" for (x, code), groups in self.routes.items()]
+        rows += [f"BAR {x} {code}" for x, code in sorted(self.bars)]
+        return "\n".join(rows) + "\nEND\n"
+
+    def copy(self):
+        other = Plan()
+        other.exchanges = list(self.exchanges)
+        other.codes, other.groups, other.routes = dict(self.codes), dict(self.groups), dict(self.routes)
+        other.lines, other.bars = list(self.lines), set(self.bars)
+        return other
+
+    def network(self):
+        """All but the lists and the bars."""
+        return self.exchanges, list(self.codes.items()), self.lines, list(self.groups.items())
+
+    def says_the_same(self, other):
+        """Whether two plans differ in nothing but the order of their lists and bars."""
+        return (self.network(), self.routes, self.bars) == (other.network(), other.routes, other.bars)
+
+    def seizable(self, x):
+        """The groups that an exchange may seize, each with the exchange to which it leads."""
+        return [(g, b if x == a else a) for g, (a, b, way, _) in self.groups.items() if x == a or (x == b and way == "BOTHWAY")]
+
+    def far(self, group, x):
+        a, b = self.groups[group][:2]
+        return b if x == a else a
+
+    def open_exchanges(self):
+        """Where calls start, but for bars: the homes of the codes that have lines."""
+        homes = {self.codes[code] for code, _, _ in self.lines}
+        return [x for x in self.exchanges if x in homes]
+
+    @once
+    def views(self):
+        """Of each code its home, its lists (of groups with the exchanges to which they lead), and the
+        other exchanges where calls for it may start. What becomes of a code depends on nothing else."""
+        lists = {code: {} for code in self.codes}
+        for (x, code), groups in self.routes.items():
+            lists[code][x] = tuple((g, self.far(g, x)) for g in groups)
+        opened = self.open_exchanges()
+        views = {}
+        for code, home in self.codes.items():
+            starts = tuple(x for x in opened if x != home and (x, code) not in self.bars)
+            views[code] = home, tuple(sorted(lists[code].items())), starts
+        return views
+
+    @once
+    def ambiguous(self):
+        """The pairs of codes of which one begins the other."""
+        return [(a, b) for a in self.codes if len(a) == 2 for b in self.codes if a != b and b.startswith(a)]
+
+
+def read(text):
+    """The plan of a text without faults."""
+    plan = Plan()
+    for row in text.splitlines():
+        words = row.split("#")[0].split()
+        if not words:
+            continue
+        kind, rest = words[0], words[1:]
+        if kind == "EXCHANGE":
+            plan.exchanges.append(rest[0])
+        elif kind == "CODE":
+            plan.codes[rest[0]] = rest[1]
+        elif kind == "LINES":
+            plan.lines.append(tuple(rest))
+        elif kind == "GROUP":
+            plan.groups[rest[0]] = (rest[1], rest[2], rest[3], int(rest[4]))
+        elif kind == "ROUTE":
+            plan.routes[rest[0], rest[1]] = tuple(rest[2:])
+        elif kind == "BAR":
+            plan.bars.add((rest[0], rest[1]))
+    return plan
+
+
+def contradiction(old, new):
+    """The line that names what two plans contradict each other in, or None."""
+    def at(plan, kind, name):
+        rows = [row.split()[:2] for row in plan.text().splitlines()]
+        return rows.index([kind, name]) + 1
+
+    differing = [("CODE", code) for code, home in new.codes.items() if old.codes.get(code, home) != home]
+    differing += [("GROUP", g) for g, it in new.groups.items() if old.groups.get(g, it)[:3] != it[:3]]
+    for kind, name in differing:
+        return f"telexplan: old plan line {at(old, kind, name)} and new plan line {at(new, kind, name)}: {kind} {name} differs\n"
+    return None
+
+
+def joined(lists_of, other, old, new):
+    """The plan of one of two networks over the joined network: its own lists and bars, and those of
+    the other plan for an exchange or a code that it has not."""
+    plan = old.copy()
+    plan.exchanges += [x for x in new.exchanges if x not in old.exchanges]
+    plan.codes = {**old.codes, **{code: home for code, home in new.codes.items() if code not in old.codes}}
+    for g, (a, b, way, count) in new.groups.items():
+        plan.groups[g] = (a, b, way, max(count, old.groups[g][3] if g in old.groups else 0))
+
+    def source(x, code):
+        return lists_of if x in lists_of.exchanges and code in lists_of.codes else other
+
+    pairs = [(x, code) for code in plan.codes for x in plan.exchanges]
+    plan.routes = {p: source(*p).routes[p] for p in pairs if p in source(*p).routes}
+    closed = {(x, code) for x, code in pairs if code not in old.codes and x != plan.codes[code]}
+    plan.bars = {p for p in pairs if p in source(*p).bars} | closed
+    return plan
+
+
+def join(old, new):
+    """The old plan and the new one over their joined network."""
+    return joined(old, new, old, new), joined(new, old, old, new)
