@@ -1,5 +1,9 @@
+use Rattle.std.proofs.Common.{◌≡◌, List, sym}
 use Rattle.tx_text.proofs.Putting.{puts_then, puts_is}
+use Rattle.tx_plan.specs.Plan.{Plan}
+use Rattle.tx_rank.specs.declared.finding.Finding.{Finding}
 use Rattle.tx_rank.specs.Report.{findings_of}
+use Rattle.tx_order.specs.OrderText.{no_order_text}
 use Rattle.tx_order.proofs.report.write_no_order.Goals as goal
 
 -- the text of findings is that of lists that are the same

@@ -9,7 +9,7 @@ pub loop-stage-init : goal.loop-stage-init
 loop-stage-init g c = puts_none
 
 pub loop-stage-preserved : goal.loop-stage-preserved
-loop-stage-preserved g c = index_more (stage_text c.args.with_old c.args.order.now) refl c.loop-stage.invariant c.write_stage.ensures
+loop-stage-preserved g c = index_more (stage_text c.args.with_old c.args.order.now) {i = c.loop-stage.stage} refl c.loop-stage.invariant c.write_stage.ensures
 
 pub returns : goal.returns
 returns g c =

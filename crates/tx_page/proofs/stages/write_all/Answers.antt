@@ -9,7 +9,7 @@ pub loop-stage-init : goal.loop-stage-init
 loop-stage-init g c = sets_none
 
 pub loop-stage-preserved : goal.loop-stage-preserved
-loop-stage-preserved g c = below_more (stage_texts c.args.order.now) refl c.loop-stage.invariant c.write_stage.ensures
+loop-stage-preserved g c = below_more (stage_texts c.args.order.now) {i = c.loop-stage.stage} refl c.loop-stage.invariant c.write_stage.ensures
 
 pub returns : goal.returns
 returns g c = below_done (stage_texts c.args.order.now) c.loop-stage.stage (stages_in c.args.order.now) (omega arith) c.loop-stage.invariant

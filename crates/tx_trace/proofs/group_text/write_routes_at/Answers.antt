@@ -17,4 +17,4 @@ loop-index-preserved g c =
 pub returns : goal.returns
 returns g c =
     let p = c.args.plan.now in
-    puts_all (route_with p c.args.group c.args.exchange) p.routes (let t = c.loop-index-test.false in let n = c.routes-index-end.ensures.count in omega arith) c.loop-index.invariant
+    puts_all (route_with p c.args.group c.args.exchange) p.routes {i = c.loop-index.index} (let t = c.loop-index-test.false in let n = c.routes-index-end.ensures.count in omega arith) c.loop-index.invariant

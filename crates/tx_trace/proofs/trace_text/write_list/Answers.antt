@@ -16,7 +16,7 @@ loop-i-preserved g c =
     let xs = c.list-list.result.now in
     let long = length-enumerate_from 1 xs in
     let low = c.loop-i-test.true in
-    puts_more (λ (e : ℕ × ℕ). place_line c.args.plan.now (rank_told t.ranks t.code) c.args.exchange e.0 e.1) (enumerate_from 1 xs) (omega arith) (numbered xs c.loop-i.i c.index-list-i.result low c.index-list-i.is) c.loop-i.invariant c.write_place.ensures
+    puts_more (λ (e : ℕ × ℕ). place_line c.args.plan.now (rank_told t.ranks t.code) c.args.exchange e.0 e.1) (enumerate_from 1 xs) {i = c.loop-i.i} (omega arith) (numbered xs c.loop-i.i c.index-list-i.result low c.index-list-i.is) c.loop-i.invariant c.write_place.ensures
 
 pub returns : goal.returns
 returns g c =
@@ -25,4 +25,4 @@ returns g c =
     let long = length-enumerate_from 1 xs in
     let past = c.loop-i-test.false in
     rw (← c.list-list.ensures.value)
-    (puts_all (λ (e : ℕ × ℕ). place_line c.args.plan.now (rank_told t.ranks t.code) c.args.exchange e.0 e.1) (enumerate_from 1 xs) (omega arith) c.loop-i.invariant)
+    (puts_all (λ (e : ℕ × ℕ). place_line c.args.plan.now (rank_told t.ranks t.code) c.args.exchange e.0 e.1) (enumerate_from 1 xs) {i = c.loop-i.i} (omega arith) c.loop-i.invariant)
