@@ -5,7 +5,7 @@ from random import Random
 
 from audit import is_safe, judge_cert, judge_counter, judge_findings_of, judge_verdict, numbers, turns_back
 from mend import judge_revised
-from plans import contradiction, join, read
+from plans import contradiction, join, read, switched_rows
 from walks import NOTHING, judge_findings, need, survey
 
 
@@ -28,8 +28,8 @@ def due_between(old, new, limit, spare):
 
 
 def dues_between(old, new, limit, spare):
-    then = new.views()
-    return {code: due_between(view, then[code], limit, spare) for code, view in old.views().items()}
+    then = new.views
+    return {code: due_between(view, then[code], limit, spare) for code, view in old.views.items()}
 
 
 def both(old, new):
@@ -48,18 +48,6 @@ def differences(old, new):
         rows += [f"GONE {kind} {it}" for it in before if it not in after]
     counts = [(g, it[3], new.groups[g][3]) for g, it in old.groups.items() if g in new.groups]
     return rows + [f"CIRCUITS {g} {n} {m}" for g, n, m in counts if n != m]
-
-
-def switch_rows(pair, before, after):
-    """The lines of a list that is switched."""
-    return [f"ROUTE {' '.join(pair + after)}" if after else f"DROP {' '.join(pair)}", " ".join(("WAS", *before))]
-
-
-def switched_rows(old, new):
-    """The lines of all lists that differ, by codes and exchanges."""
-    pairs = ((x, code) for code in old.codes for x in old.exchanges)
-    lists = ((it, old.routes.get(it, ()), new.routes.get(it, ())) for it in pairs)
-    return [row for it in lists if it[1] != it[2] for row in switch_rows(*it)]
 
 
 def shown_mixture(old, new, row, spare):
@@ -84,16 +72,16 @@ def judge_shown(program, ran, of, old, new, findings, limit, spare):
     if shown and shown.startswith("NEW "):
         wanted = new
     elif shown and of.network() == old.network():
-        judge_revised(mixture, of.text(), wanted)
+        judge_revised(mixture, of.text, wanted)
     need(not shown or (read(mixture).says_the_same(wanted) and not is_safe(wanted, limit, spare)), "the mixture is another one, or safe")
     need((script is None) == (not shown or turns_back(wanted, shown.removeprefix("NEW "))), "a script is made, or none")
-    if script:
+    if script is not None:
         judge_counter(program, wanted, script, shown.removeprefix("NEW "))
 
 
 def some_mixture(old, new):
     """A mixture of two plans."""
-    plan, rng = old.copy(), Random(old.text())
+    plan, rng = old.copy(), Random(old.text)
     pairs = sorted({*old.routes, *new.routes})
     plan.routes = {it: list_ for it in pairs if (list_ := rng.choice((old, new)).routes.get(it))}
     plan.bars = {it for it in sorted(old.bars | new.bars) if it in rng.choice((old, new)).bars}
@@ -104,29 +92,29 @@ def judge_head(ran, head, old, new):
     """The first lines of a report of two plans, which are over their joined network, or the line of a contradiction. Whether there is a report."""
     line = contradiction(old, new)
     need(not line or (ran.out, ran.err, ran.status) == ("", line, 2), f"a contradiction is told as {ran.out}{ran.err}")
-    need(line or ran.rows()[:len(head)] == head, f"begins with {ran.rows()[:len(head)]} and not {head}")
+    need(line or ran.out.splitlines()[:len(head)] == head, f"begins with {ran.out.splitlines()[:len(head)]} and not {head}")
     return not line
 
 
 def judge_change(program, old, new, limit, spare, told=True):
     words = ["change", "o", "n", *numbers(limit, spare), "--cert", "cert", "--mixture", "mixture", "--counter", "script"]
-    ran = program.run(words + ["--old"] * told, {"o": old.text(), "n": new.text()}, ["cert", "mixture", "script"])
+    ran = program.run(words + ["--old"] * told, {"o": old.text, "n": new.text}, ["cert", "mixture", "script"])
     before, after = join(old, new)
-    head = [f"CHANGE LIMIT {limit} SPARE {spare}", *differences(old, new), *(switched_rows(before, after) if told else [])]
+    head = [f"CHANGE LIMIT {limit} SPARE {spare}", *differences(old, new), *(switched_rows(before, after, True) if told else [])]
     if not judge_head(ran, head, old, new):
         return
-    rows = ran.rows()
+    rows = ran.out.splitlines()
     findings = rows[len(head):-1]
     dues = dues_between(before, after, limit, spare)
-    sound = not before.ambiguous() and all(it == NOTHING for it in dues.values())
+    sound = not before.ambiguous and all(it == NOTHING for it in dues.values())
     yes = sound and is_safe(new, limit, spare)
     judge_verdict(rows, yes, ran.status, len(findings))
     if sound and not yes:
         need(all(row.startswith("NEW ") for row in findings), f"a finding is not of NEW: {findings}")
         judge_findings_of(new, [row[4:] for row in findings], limit, spare)
     else:
-        walked = {code: both(view, after.views()[code]) for code, view in before.views().items()}
-        judge_findings(findings, before.ambiguous(), walked, dues, limit)
+        walked = {code: both(view, after.views[code]) for code, view in before.views.items()}
+        judge_findings(findings, before.ambiguous, walked, dues, limit)
     need((ran.made["cert"] is not None) == yes, "a certificate is made, or none")
     if yes:
         judge_cert(program, [before, after, some_mixture(before, after)], ran.made["cert"], limit, spare)

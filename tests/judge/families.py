@@ -13,16 +13,15 @@ PACK = 890
 
 class Family:
     """The plans of one network that differ in the lists for one code, each of up to so many groups in any
-    order, and in where calls for it start: in `starts`, but not always where a name has a `?`."""
+    order, and in where calls for it start: in `starts`, but not always where a name has a `?`. The code is
+    at home at A0. A group that both ends may seize has the number of its circuits behind it."""
 
-    def __init__(self, home, groups, lists, starts):
-        """A group that both ends may seize has the number of its circuits behind it."""
+    def __init__(self, groups, starts, **lists):
         rows = [row.split() for row in groups.split(",")]
         self.groups = {name: (a, b, "BOTHWAY" if way else "ONEWAY", int((way or "1")[0])) for name, a, b, *way in rows}
-        self.home, self.starts = home, starts.replace("?", "").split()
-        self.exchanges = sorted({home, *self.starts, *(x for it in self.groups.values() for x in it[:2])})
+        self.starts, self.names = starts.replace("?", "").split(), list(lists)
+        self.exchanges = sorted({"A0", *self.starts, *(x for it in self.groups.values() for x in it[:2])})
         self.choices = [(it.strip("?"), *[None] * it.count("?")) for it in starts.split()]
-        self.names = list(lists)
         self.choices += [[it for n in range(most + 1) for it in permutations(words.split(), n)] for most, words in lists.values()]
 
     def routings(self):
@@ -32,12 +31,11 @@ class Family:
             yield dict(zip(self.names, chosen[count:])), tuple(x for x in chosen[:count] if x)
 
     def plan(self, routings):
-        """One plan with a code for each of these. At each exchange where calls may start a code is at
-        home, which nobody else may call."""
+        """One plan with a code for each of these. At each exchange where calls may start a code is at home, which nobody else may call."""
         plan = Plan()
         plan.exchanges, plan.groups = list(self.exchanges), dict(self.groups)
         for code, (lists, starts) in zip(map(str, range(100, 100 + PACK)), routings):
-            plan.codes[code] = self.home
+            plan.codes[code] = "A0"
             plan.routes.update({(x, code): groups for x, groups in lists.items() if groups})
             plan.bars.update((x, code) for x in self.starts if x not in starts)
         for x in self.starts:
@@ -50,75 +48,57 @@ class Family:
         """What all walks show of one of these."""
         far = self.plan([]).far
         lists = tuple((x, tuple((g, far(g, x)) for g in groups)) for x, groups in routing[0].items() if groups)
-        return survey((self.home, lists, routing[1]))
+        return survey(("A0", lists, routing[1]))
 
 
 def packed(items):
     """The items of something, so many at a time."""
     items = iter(items)
-    while pack := list(islice(items, PACK)):
-        yield pack
+    return iter(lambda: list(islice(items, PACK)), [])
 
 
-def stars(names):
-    """A one-way group from each exchange but the first to each other one."""
-    return ",".join(f"G{x[1]}{y[1]} {x} {y}" for x in names[1:] for y in names if x != y)
+def stars(count):
+    """A one-way group from each exchange but A0 to each other one."""
+    return ",".join(f"G{n}{m} A{n} A{m}" for n in range(1, count) for m in range(count) if n != m)
 
 
+ROUND = "G01 A0 A1 2,G02 A0 A2 1,G12 A1 A2 1"
 FAMILIES = {
-    "one-way": Family("A0", stars(["A0", "A1", "A2", "A3"]), {"A1": (3, "G10 G12 G13"), "A2": (3, "G20 G21 G23"), "A3": (3, "G30 G31 G32")}, "A1? A2? A3?"),
-    "far": Family(
-        "A0", stars(["A0", "A1", "A2", "A3", "A4"]),
-        {"A1": (2, "G10 G12 G13 G14"), "A2": (2, "G20 G21 G23 G24"), "A3": (2, "G30 G31 G32 G34"), "A4": (2, "G40 G41 G42 G43")}, "A4",
-    ),
-    "pairs": Family(
-        "A0", "G10 A1 A0,H10 A1 A0,G12 A1 A2,H12 A1 A2,G20 A2 A0,H20 A2 A0,G21 A2 A1,H21 A2 A1",
-        {"A1": (4, "G10 H10 G12 H12"), "A2": (4, "G20 H20 G21 H21")}, "A1? A2?",
-    ),
-    "both-way": Family(
-        "A0", "G01 A0 A1 2,G02 A0 A2 1,G12 A1 A2 1,G13 A1 A3 2,G23 A2 A3 1,G03 A0 A3 1",
-        {"A1": (3, "G01 G12 G13"), "A2": (3, "G02 G12 G23"), "A3": (3, "G03 G13 G23")}, "A1? A2? A3?",
-    ),
+    "one-way": Family(stars(4), "A1? A2? A3?", A1=(3, "G10 G12 G13"), A2=(3, "G20 G21 G23"), A3=(3, "G30 G31 G32")),
+    "far": Family(stars(5), "A4", A1=(2, "G10 G12 G13 G14"), A2=(2, "G20 G21 G23 G24"), A3=(2, "G30 G31 G32 G34"), A4=(2, "G40 G41 G42 G43")),
+    "twice": Family(stars(3) + ",H10 A1 A0,H12 A1 A2,H20 A2 A0,H21 A2 A1", "A1? A2?", A1=(4, "G10 H10 G12 H12"), A2=(4, "G20 H20 G21 H21")),
+    "both-way": Family(ROUND + ",G13 A1 A3 2,G23 A2 A3 1,G03 A0 A3 1", "A1? A2? A3?", A1=(3, "G01 G12 G13"), A2=(3, "G02 G12 G23"), A3=(3, "G03 G13 G23")),
 }
 
-# Families of fewer lists, for commands that take two plans, or whose judge tries all ranks.
+# Families of fewer lists, for commands that take two plans, or whose judge tries all routings.
 SMALL = {
-    "one-list": Family("A0", "G1 A1 A0,G2 A1 A0 2,G3 A0 A1 1", {"A1": (3, "G1 G2 G3")}, "A1?"),
-    "bars": Family("A0", "G10 A1 A0,G20 A2 A0,G12 A1 A2 1", {"A1": (2, "G10 G12"), "A2": (2, "G20 G12")}, "A1? A2?"),
-    "far": Family(
-        "A0", "G10 A1 A0,G12 A1 A2 2,G13 A1 A3,G20 A2 A0,G23 A2 A3 2,G30 A3 A0,G31 A3 A1",
-        {"A1": (1, "G10 G12 G13"), "A2": (1, "G20 G12 G23"), "A3": (1, "G30 G31 G23")}, "A3",
-    ),
-    "round": Family("A0", "G10 A1 A0,G12 A1 A2 1,G23 A2 A3 1,G30 A3 A0", {"A1": (2, "G10 G12"), "A2": (2, "G12 G23"), "A3": (2, "G23 G30")}, "A1"),
-    "two": Family("A0", "G01 A0 A1 2,H01 A0 A1 2,G02 A0 A2 1,H02 A0 A2 1,G12 A1 A2 1", {"A1": (3, "G01 H01 G12"), "A2": (2, "G02 H02 G12")}, "A1? A2?"),
-    "row": Family("A0", "G12 A1 A2 2,H12 A1 A2,G20 A2 A0,H20 A2 A0,G31 A3 A1,H31 A3 A1,G32 A3 A2", {"A1": (2, "G12 H12"), "A2": (1, "G20 G12"), "A3": (2, "G31 H31 G32")}, "A3"),
+    "one-list": Family("G1 A1 A0,G2 A1 A0 2,G3 A0 A1 1", "A1?", A1=(3, "G1 G2 G3")),
+    "bars": Family("G10 A1 A0,G20 A2 A0,G12 A1 A2 1", "A1? A2?", A1=(2, "G10 G12"), A2=(2, "G20 G12")),
+    "short": Family("G10 A1 A0,G12 A1 A2 2,G13 A1 A3,G20 A2 A0,G23 A2 A3 2,G30 A3 A0,G31 A3 A1", "A3", A1=(1, "G10 G12 G13"), A2=(1, "G20 G12 G23"), A3=(1, "G30 G31 G23")),
+    "round": Family("G10 A1 A0,G12 A1 A2 1,G23 A2 A3 1,G30 A3 A0", "A1", A1=(2, "G10 G12"), A2=(2, "G12 G23"), A3=(2, "G23 G30")),
+    "two": Family(ROUND + ",H01 A0 A1 2,H02 A0 A2 1", "A1? A2?", A1=(3, "G01 H01 G12"), A2=(2, "G02 H02 G12")),
+    "row": Family("G12 A1 A2 2,H12 A1 A2,G20 A2 A0,H20 A2 A0,G31 A3 A1,H31 A3 A1,G32 A3 A2", "A3", A1=(2, "G12 H12"), A2=(1, "G20 G12"), A3=(2, "G31 H31 G32")),
 }
 
 # The families of an old plan and of a new one: of one network, and of two.
+ONE_GROUP = Family("G1 A1 A0,G2 A1 A0 2,G4 A2 A1 1,G5 A2 A0 2", "A1? A2?", A1=(2, "G1 G2"), A2=(2, "G4 G5"))
+ANOTHER_GROUP = Family("G3 A1 A0,G2 A1 A0 1,G4 A2 A1 1,G5 A2 A0 1", "A1? A2?", A1=(2, "G3 G2 G4"), A2=(2, "G4 G5"))
+FEW_EXCHANGES = Family("G1 A1 A0 1,G3 A1 A0", "A1?", A1=(2, "G1 G3"))
+MORE_EXCHANGES = Family("G12 A1 A2 1,G1 A1 A0 1,G20 A2 A0", "A1? A2?", A1=(2, "G1 G12"), A2=(2, "G20 G12"))
 PAIRS = {
     **{name: (family, family) for name, family in SMALL.items()},
-    "another group": (
-        Family("A0", "G1 A1 A0,G2 A1 A0 2,G4 A2 A1 1,G5 A2 A0 2", {"A1": (2, "G1 G2"), "A2": (2, "G4 G5")}, "A1? A2?"),
-        Family("A0", "G3 A1 A0,G2 A1 A0 1,G4 A2 A1 1,G5 A2 A0 1", {"A1": (2, "G3 G2 G4"), "A2": (2, "G4 G5")}, "A1? A2?"),
-    ),
-    "a new exchange": (
-        Family("A0", "G1 A1 A0 1,G3 A1 A0", {"A1": (2, "G1 G3")}, "A1?"),
-        Family("A0", "G12 A1 A2 1,G1 A1 A0 1,G20 A2 A0", {"A1": (2, "G1 G12"), "A2": (2, "G20 G12")}, "A1? A2?"),
-    ),
-    "an exchange that goes": (
-        Family("A0", "G12 A1 A2 1,G1 A1 A0 1,G20 A2 A0", {"A1": (2, "G1 G12"), "A2": (2, "G20 G12")}, "A1? A2?"),
-        Family("A0", "G1 A1 A0 1,G3 A1 A0", {"A1": (2, "G1 G3")}, "A1?"),
-    ),
+    "another group": (ONE_GROUP, ANOTHER_GROUP),
+    "a new exchange": (FEW_EXCHANGES, MORE_EXCHANGES),
+    "an exchange that goes": (MORE_EXCHANGES, FEW_EXCHANGES),
 }
 
 
 def code_plans():
     """Plans of one exchange with up to four codes, of which some begin others."""
-    for n in range(5):
-        for codes in permutations("52 412 41 519 410 51".split(), n):
-            plan = Plan()
-            plan.exchanges, plan.codes = ["A0"], dict.fromkeys(codes, "A0")
-            yield plan
+    for codes in (it for n in range(5) for it in permutations("52 412 41 519 410 51".split(), n)):
+        plan = Plan()
+        plan.exchanges, plan.codes = ["A0"], dict.fromkeys(codes, "A0")
+        yield plan
 
 
 def ambiguous_plans():
@@ -157,8 +137,8 @@ def random_plan(rng):
     """A plan of two to six exchanges and one to four codes."""
     plan = Plan()
     plan.exchanges = [f"A{n}" for n in range(rng.randint(2, 6))]
-    codes = ["41", "42", "43", "512", "413" if rng.random() < 0.08 else "513"]
-    plan.codes = {code: rng.choice(plan.exchanges) for code in rng.sample(codes, rng.randint(1, 4))}
+    codes = rng.sample(["41", "42", "43", "512", "413" if rng.random() < 0.2 else "513"], rng.randint(1, 4))
+    plan.codes = {code: rng.choice(plan.exchanges) for code in codes}
     plan.lines = [(code, "100", "199") for code in plan.codes if rng.random() < 0.7]
     for n in range(rng.randint(2, 3 * len(plan.exchanges))):
         add_group(rng, plan, f"G{n}")
@@ -197,7 +177,7 @@ def random_pair(rng):
     """An old plan and a new one, of one network or of two."""
     old = random_plan(rng)
     new = another_network(rng, old) if rng.random() < 0.45 else old.copy()
-    lists_at_random(rng, new, rng.choice((0, 0.2, 0.5, 1.0)))
+    lists_at_random(rng, new, rng.choice((0.3, 0.6, 1.0, 1.0)))
     return old, new
 
 
@@ -208,9 +188,8 @@ def seeded(count, seed, make):
 
 
 def random_risks(rng, plan):
-    """Up to three risks, each of some groups."""
-    groups = list(plan.groups)
-    return [(f"R{n}", rng.sample(groups, rng.randint(1, min(3, len(groups))))) for n in range(rng.randint(0, 3))]
+    """Up to three risks, each of up to three groups."""
+    return [(f"R{n}", rng.sample(list(plan.groups), rng.randint(1, min(3, len(plan.groups))))) for n in range(rng.randint(0, 3))]
 
 
 def random_network(rng):
@@ -220,5 +199,5 @@ def random_network(rng):
     for n in range(rng.randint(4, 7)):
         add_group(rng, plan, f"G{n}")
     groups = ",".join(f"{g} {a} {b}" + f" {count}" * (way == "BOTHWAY") for g, (a, b, way, count) in plan.groups.items())
-    lists = {x: (2, " ".join(g for g, _ in plan.seizable(x))) for x in plan.exchanges[1:] if plan.seizable(x)}
-    return Family("A0", groups, lists, " ".join(x + "?" for x in rng.sample(plan.exchanges[1:], rng.randint(1, 2))))
+    lists = {x: (2, " ".join(g for g, _ in plan.seizable(x))) for x in plan.exchanges[1:]}
+    return Family(groups, " ".join(x + "?" for x in rng.sample(plan.exchanges[1:], rng.randint(1, 2))), **lists)

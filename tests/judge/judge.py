@@ -1,10 +1,9 @@
 #!/usr/bin/env python3
 """usage: tests/judge/judge.py [--program PATH] [--jobs N] [--only WORD] [--spoil]
 
-Judges `audit`, `check`, `codes`, `grade`, `mend`, `change`, `order` and `survive` of the built program by brute force: over all plans of small families and over random
-plans it goes all walks, makes all mixtures and tries all routings, and compares what docs/FORMATS.md and docs/HEADLINE.md say of them with what is printed. Prints a
-line for each topic, and where the program differs the command that shows it. Then it spoils the answers of the program in many ways, and has to refuse each. The
-status is 1 if the program differs, or if a spoiled answer is taken.
+Judges what the built program answers to small plans by brute force: goes all walks, makes all mixtures, tries all routings, and compares what docs/FORMATS.md and
+docs/HEADLINE.md say of them with what is printed. Prints a line for each topic, and where the program differs the command that shows it. Then it spoils answers in many
+ways, each of which has to be refused. The status is 1 if an answer differs, or if a spoiled one is taken.
 
 --only judges the topics with this word in their names and spoils nothing, and --spoil spoils alone."""
 import argparse
@@ -19,31 +18,24 @@ from spoils import SPOILS, try_spoil
 from walks import WRONG
 
 TOP = os.path.dirname(os.path.dirname(os.path.dirname(os.path.abspath(__file__))))
-SHOWN = 3
 
 
-def judge_topic(work):
+def judge_topic(path, topic):
     """Judges the cases of a topic. Answers whether none differs, and what is to be told."""
-    path, topic = work
     program, plans, shown, began = Program(path), 0, [], process_time()
     for count, judge in TOPICS[topic]():
         plans += count
         try:
             judge(program)
         except WRONG as it:
-            shown.append(f"{it!r}\n{program.show(getattr(it, 'code', None))}")
+            shown.append(f"{it!r}\n{program.show(str(it))}")
     program.end()
     head = f"{topic}: {plans:,} plans, {program.runs:,} runs, {len(shown)} differ ({process_time() - began:.1f} s)"
-    return not shown, "\n".join([head, *shown[:SHOWN]])
+    return not shown, "\n".join([head, *shown[:3]])
 
 
-def tell_all(answers):
-    """Tells each answer as it comes. Answers whether all are right."""
-    are_right = True
-    for is_right, told in answers:
-        are_right = is_right and are_right
-        print(told, flush=True)
-    return are_right
+def do_work(work):
+    return work[0](*work[1:])
 
 
 def main():
@@ -55,10 +47,13 @@ def main():
     words = parser.parse_args()
     topics = [] if words.spoil else [it for it in TOPICS if words.only in it]
     spoils = [] if words.only else range(len(SPOILS))
+    works = [(judge_topic, words.program, it) for it in topics] + [(try_spoil, words.program, it) for it in spoils]
+    wrong = 0
     with Pool(words.jobs) as pool:
-        right = tell_all(pool.imap(judge_topic, [(words.program, it) for it in topics]))
-        refused = tell_all(pool.imap(try_spoil, [(words.program, it) for it in spoils]))
-    return 0 if right and refused else 1
+        for is_right, told in pool.imap(do_work, works):
+            print(told, flush=True)
+            wrong += not is_right
+    return 1 if wrong else 0
 
 
 if __name__ == "__main__":

@@ -3,7 +3,7 @@ from functools import lru_cache
 from itertools import combinations, product
 
 from audit import judge_cert, judge_verdict, numbers
-from plans import read
+from plans import read, switched_rows
 from walks import need, of_code, survey
 
 NO_RANK = 1 << 9
@@ -39,9 +39,7 @@ class Network:
         return sum(self.least(y, spare) <= limit + 1 for _, y in self.seizable[x])
 
 
-@lru_cache(64)
-def network(exchanges, home, seizable):
-    return Network(exchanges, home, seizable)
+network = lru_cache(64)(Network)
 
 
 def networks_of(plan):
@@ -50,14 +48,9 @@ def networks_of(plan):
     return {home: network(tuple(plan.exchanges), home, seizable) for home in set(plan.codes.values())}
 
 
-def size_of(plan):
-    """How many routings the network of a plan has for a code, at most."""
-    return 1 << sum(len(plan.seizable(x)) for x in plan.exchanges)
-
-
 def is_mendable(plan, limit, spare):
     nets = networks_of(plan)
-    return not plan.ambiguous() and all(nets[home].safe(starts, limit, spare) for home, _, starts in plan.views().values())
+    return not plan.ambiguous and all(nets[home].safe(starts, limit, spare) for home, _, starts in plan.views.values())
 
 
 def least_ranks(net, kept, limit, spare):
@@ -70,8 +63,7 @@ def least_ranks(net, kept, limit, spare):
 
 
 def by_the_rule(net, lists, starts, limit, spare):
-    """Which groups stay, by the rule of docs/FORMATS.md, and the ranks then. Each time that ranks are
-    raised, all groups that lead to a smaller rank stay."""
+    """Which groups stay, by the rule of docs/FORMATS.md, and the ranks then. Each time that ranks are raised, all groups that lead to a smaller rank stay."""
     kept = {x: set() for x in net.rest}
     ranks = first = least_ranks(net, kept, limit, spare)
     order = sorted((x for x in net.rest if x in first), key=first.get)
@@ -121,7 +113,7 @@ def judge_mended(net, view, new, limit, spare):
 def causes(plan, nets, limit, spare):
     """The lines of a report for a plan that no lists make safe: of exchanges, and of codes."""
     rows, ends = [], []
-    for code, (home, _, starts) in plan.views().items():
+    for code, (home, _, starts) in plan.views.items():
         net, unserved = nets[home], 0
         on = {x: net.leading_on(x, limit, spare) for x in net.rest}
         for x in starts:
@@ -136,17 +128,10 @@ def causes(plan, nets, limit, spare):
 
 
 def with_lists(plan, rows, old):
-    """The plan with the lists of a report. With `old` a line `WAS` has the list that each replaces."""
-    mended, told = plan.copy(), [row.split(" ") for row in rows]
-    lists = told[::2] if old else told
-    for words, was in zip(lists, told[1::2] if old else lists):
-        pair, has = tuple(words[1:3]), plan.routes.get(tuple(words[1:3]), ())
-        need(words[0] == "ROUTE" and has != tuple(words[3:]), f"not a new list: {words}")
-        need(not old or was == ["WAS", *has], f"not the old list: {was}")
-        mended.routes[pair] = tuple(words[3:])
-    pairs = [(x, code) for code in plan.codes for x in plan.exchanges]
-    need([tuple(words[1:3]) for words in lists] == [it for it in pairs if plan.routes.get(it) != mended.routes.get(it)], "lists are not in order")
-    need(not old or len(told) % 2 == 0, "a line WAS is missing")
+    """The plan with the lists of a report."""
+    mended = plan.copy()
+    mended.routes.update({tuple(words[1:3]): tuple(words[3:]) for words in (row.split(" ") for row in rows) if words[0] == "ROUTE"})
+    need(rows == switched_rows(plan, mended, old), f"not the lines of the lists that change: {rows}")
     return mended
 
 
@@ -159,20 +144,20 @@ def judge_revised(text, of, plan):
 
 def judge_mend(program, plan, limit, spare, old=True):
     words = ["mend", "p", *numbers(limit, spare), "--plan", "new", "--cert", "cert"] + ["--old"] * old
-    ran = program.run(words, {"p": plan.text()}, ["new", "cert"])
-    rows, nets, yes = ran.rows(), networks_of(plan), is_mendable(plan, limit, spare)
+    ran = program.run(words, {"p": plan.text}, ["new", "cert"])
+    rows, nets, yes = ran.out.splitlines(), networks_of(plan), is_mendable(plan, limit, spare)
     need(rows[0] == f"MEND LIMIT {limit} SPARE {spare}", f"begins with {rows[0]}")
     need((ran.made["new"] is not None) == (ran.made["cert"] is not None) == yes, "another file is made")
     if not yes:
         found, ends = causes(plan, nets, limit, spare)
-        pairs = [f"F1 AMBIGUOUS {a} {b}" for a, b in plan.ambiguous() if rows[1] == f"F1 AMBIGUOUS {a} {b}"]
-        need(len(pairs) == bool(plan.ambiguous()) and rows[1:-1] == pairs + found + ends, f"causes are {rows[1:-1]} and not {found + ends}")
+        pairs = [f"F1 AMBIGUOUS {a} {b}" for a, b in plan.ambiguous if rows[1] == f"F1 AMBIGUOUS {a} {b}"]
+        need(len(pairs) == bool(plan.ambiguous) and rows[1:-1] == pairs + found + ends, f"causes are {rows[1:-1]} and not {found + ends}")
         judge_verdict(rows, False, ran.status, len(pairs) + len(found))
         return
     judge_verdict(rows, True, ran.status, 0)
     mended = with_lists(plan, rows[1:-1], old)
-    new = mended.views()
-    for code, view in plan.views().items():
+    new = mended.views
+    for code, view in plan.views.items():
         of_code(code, judge_mended, nets[view[0]], view, new[code][1], limit, spare)
-    judge_revised(ran.made["new"], plan.text(), mended)
+    judge_revised(ran.made["new"], plan.text, mended)
     judge_cert(program, [mended], ran.made["cert"], limit, spare)

@@ -1,23 +1,16 @@
 """Judges `order` by all mixtures within each stage."""
 from audit import is_safe, judge_cert, judge_findings_of, judge_verdict, numbers
-from change import differences, due_between, dues_between, judge_head, switch_rows
-from mend import judge_revised
-from plans import join, read
+from change import differences, due_between, dues_between, judge_head
+from mend import NO_RANK, judge_revised
+from plans import join, read, switch_rows
 from walks import NOTHING, heights, need, of_code
-
-NO_RANK = 1 << 9
 
 
 def stages_of(rows):
-    """The lines of each stage of a report."""
-    stages = []
-    for row in rows:
-        if row.startswith("STAGE "):
-            need(row == f"STAGE {len(stages) + 1}", f"a stage is counted as {row}")
-            stages.append([])
-        else:
-            stages[-1].append(row)
-    return stages
+    """The lines of each stage of a report, which are numbered from 1."""
+    heads = [n for n, row in enumerate(rows) if row.startswith("STAGE")]
+    need(heads[:1] == [0][:len(rows)] and [rows[n] for n in heads] == [f"STAGE {n + 1}" for n in range(len(heads))], f"stages are {rows}")
+    return [rows[a + 1:b] for a, b in zip(heads, heads[1:] + [len(rows)])]
 
 
 def switched(plan, rows, told):
@@ -32,7 +25,7 @@ def switched(plan, rows, told):
         else:
             was = after.routes.pop(pair, ())
             after.routes.update({pair: list_} if list_ else {})
-            due += switch_rows(pair, was, list_)[:1 + told]
+            due += switch_rows(pair, was, list_, told)
         places.append((plan.exchanges.index(pair[0]), list(plan.codes).index(pair[1]), "BAR" not in kind))
     need(rows == due and places == sorted(set(places)), f"a stage is {rows}, and not {due}, or not in order")
     return after
@@ -88,7 +81,7 @@ def judge_stages(before, after, stages, limit, spare, told):
         passed.append(plan)
     need(passed[-1].says_the_same(after) and len(stages) <= 2 * (limit + 2), "the last plan is not the new one, or there are too many stages")
     for code in before.codes:
-        of_code(code, judge_code, [plan.views()[code] for plan in passed], limit, spare)
+        of_code(code, judge_code, [plan.views[code] for plan in passed], limit, spare)
     return passed
 
 
@@ -96,26 +89,26 @@ def judge_stage(program, old, new, passed, stage, report):
     """Judges the plan and the certificate of a stage, under the same report."""
     limit, spare = report[0].split(" ")[2::2]
     words = ["order", "o", "n", *numbers(limit, spare), "--stage", stage, "--plan", "plan", "--cert", "cert"]
-    ran = program.run(words, {"o": old.text(), "n": new.text()}, ["plan", "cert"])
+    ran = program.run(words, {"o": old.text, "n": new.text}, ["plan", "cert"])
     plan, cert = ran.made["plan"], ran.made["cert"]
     if stage == len(passed):
-        need((ran.out, ran.err, ran.status) == ("", f"telexplan: no such stage: the order has {stage - 1}\n", 64), f"no such stage: {ran.err}")
-        need(plan is cert is None, "a file is made")
+        answer = "", f"telexplan: no such stage: the order has {stage - 1}\n", 64, None, None
+        need((ran.out, ran.err, ran.status, plan, cert) == answer, f"no such stage: {ran.err}")
         return
-    need(plan and cert and ran.rows() == report and ran.status == 0, f"no file is made, or another report: {ran.out}")
+    need(plan and cert and ran.out.splitlines() == report and ran.status == 0, f"no file is made, or another report: {ran.out}")
     need(read(plan).says_the_same(passed[stage]), f"the plan of stage {stage} is another one")
     if old.network() == passed[0].network():
-        judge_revised(plan, old.text(), passed[stage])
+        judge_revised(plan, old.text, passed[stage])
     judge_cert(program, passed[stage - 1:stage + 1], cert, int(limit), int(spare))
 
 
 def judge_order(program, old, new, limit, spare, told=True):
-    ran = program.run(["order", "o", "n", *numbers(limit, spare)] + ["--old"] * told, {"o": old.text(), "n": new.text()})
+    ran = program.run(["order", "o", "n", *numbers(limit, spare)] + ["--old"] * told, {"o": old.text, "n": new.text})
     before, after = join(old, new)
     head = [f"ORDER LIMIT {limit} SPARE {spare}", *differences(old, new)]
     if not judge_head(ran, head, old, new):
         return
-    rows = ran.rows()
+    rows = ran.out.splitlines()
     rest = rows[len(head):-1]
     ordered = is_safe(before, limit, spare) and is_safe(after, limit, spare)
     yes = ordered and is_safe(new, limit, spare)

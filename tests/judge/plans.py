@@ -1,19 +1,9 @@
 """Plans: their text, what a code sees of them, and two plans over their joined network."""
-from functools import wraps
-
-
-def once(method):
-    """The answer of a method, which is worked out once: a plan stays as it is from then on."""
-    @wraps(method)
-    def answer(plan):
-        if method not in plan.known:
-            plan.known[method] = method(plan)
-        return plan.known[method]
-    return answer
+from functools import cached_property
 
 
 class Plan:
-    """A plan as docs/FORMATS.md has it. All of its dictionaries are in order of declaration."""
+    """A plan as docs/FORMATS.md has it, in order of declaration. Once it was looked at, it stays as it is."""
 
     def __init__(self):
         self.exchanges = []
@@ -22,9 +12,8 @@ class Plan:
         self.groups = {}  # group: (first end, second end, "ONEWAY" or "BOTHWAY", circuits)
         self.routes = {}  # (exchange, code): groups
         self.bars = set()  # (exchange, code)
-        self.known = {}
 
-    @once
+    @cached_property
     def text(self):
         rows = ["PLAN 2" if self.bars else "PLAN 1"]
         rows += [f"EXCHANGE {it}" for it in self.exchanges]
@@ -58,26 +47,20 @@ class Plan:
         a, b = self.groups[group][:2]
         return b if x == a else a
 
-    def open_exchanges(self):
-        """Where calls start, but for bars: the homes of the codes that have lines."""
-        homes = {self.codes[code] for code, _, _ in self.lines}
-        return [x for x in self.exchanges if x in homes]
-
-    @once
+    @cached_property
     def views(self):
         """Of each code its home, its lists (of groups with the exchanges to which they lead), and the
         other exchanges where calls for it may start. What becomes of a code depends on nothing else."""
-        lists = {code: {} for code in self.codes}
-        for (x, code), groups in self.routes.items():
-            lists[code][x] = tuple((g, self.far(g, x)) for g in groups)
-        opened = self.open_exchanges()
-        views = {}
+        lists, views = {code: [] for code in self.codes}, {}
+        for (x, code), groups in sorted(self.routes.items()):
+            lists[code].append((x, tuple((g, self.far(g, x)) for g in groups)))
+        homes = {self.codes[code] for code, _, _ in self.lines}
         for code, home in self.codes.items():
-            starts = tuple(x for x in opened if x != home and (x, code) not in self.bars)
-            views[code] = home, tuple(sorted(lists[code].items())), starts
+            starts = tuple(x for x in self.exchanges if x in homes and x != home and (x, code) not in self.bars)
+            views[code] = home, tuple(lists[code]), starts
         return views
 
-    @once
+    @cached_property
     def ambiguous(self):
         """The pairs of codes of which one begins the other."""
         return [(a, b) for a in self.codes if len(a) == 2 for b in self.codes if a != b and b.startswith(a)]
@@ -86,19 +69,15 @@ class Plan:
 def read(text):
     """The plan of a text without faults."""
     plan = Plan()
-    for row in text.splitlines():
-        words = row.split("#")[0].split()
-        if not words:
-            continue
-        kind, rest = words[0], words[1:]
+    for kind, *rest in filter(None, (row.split("#")[0].split() for row in text.splitlines())):
         if kind == "EXCHANGE":
-            plan.exchanges.append(rest[0])
+            plan.exchanges += rest
         elif kind == "CODE":
             plan.codes[rest[0]] = rest[1]
         elif kind == "LINES":
             plan.lines.append(tuple(rest))
         elif kind == "GROUP":
-            plan.groups[rest[0]] = (rest[1], rest[2], rest[3], int(rest[4]))
+            plan.groups[rest[0]] = (*rest[1:4], int(rest[4]))
         elif kind == "ROUTE":
             plan.routes[rest[0], rest[1]] = tuple(rest[2:])
         elif kind == "BAR":
@@ -106,10 +85,22 @@ def read(text):
     return plan
 
 
+def switch_rows(pair, before, after, old):
+    """The lines of a list that is another one, with the old one if that is told."""
+    return [f"ROUTE {' '.join(pair + after)}" if after else f"DROP {' '.join(pair)}", " ".join(("WAS", *before))][:1 + old]
+
+
+def switched_rows(before, after, old):
+    """The lines of all lists that are other ones, by codes and exchanges."""
+    pairs = ((x, code) for code in before.codes for x in before.exchanges)
+    lists = ((it, before.routes.get(it, ()), after.routes.get(it, ())) for it in pairs)
+    return [row for it in lists if it[1] != it[2] for row in switch_rows(*it, old)]
+
+
 def contradiction(old, new):
     """The line that names what two plans contradict each other in, or None."""
     def at(plan, kind, name):
-        rows = [row.split()[:2] for row in plan.text().splitlines()]
+        rows = [row.split()[:2] for row in plan.text.splitlines()]
         return rows.index([kind, name]) + 1
 
     differing = [("CODE", code) for code, home in new.codes.items() if old.codes.get(code, home) != home]
@@ -120,8 +111,7 @@ def contradiction(old, new):
 
 
 def joined(lists_of, other, old, new):
-    """The plan of one of two networks over the joined network: its own lists and bars, and those of
-    the other plan for an exchange or a code that it has not."""
+    """The plan of one of two networks over the joined network: its own lists and bars, and those of the other plan for an exchange or a code that it has not."""
     plan = old.copy()
     plan.exchanges += [x for x in new.exchanges if x not in old.exchanges]
     plan.codes = {**old.codes, **{code: home for code, home in new.codes.items() if code not in old.codes}}

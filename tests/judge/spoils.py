@@ -5,8 +5,6 @@ from cases import TOPICS
 from program import Program
 from walks import WRONG
 
-ENOUGH = 12
-
 
 def put(pattern, by, name=None):
     """A spoil that puts another text in place of the first one like this, in the report or in a file that is made."""
@@ -37,7 +35,7 @@ def stages(change):
     """A spoil of the stages of an order, which are lists of lines. `change` answers others, or None."""
     def spoil(ran):
         head, *parts = re.split(r"^STAGE \d+\n", ran.out, flags=re.M)
-        last = ran.rows()[-1] + "\n"
+        last = ran.out.splitlines()[-1] + "\n"
         parts = change([part.removesuffix(last).splitlines() for part in parts])
         if parts:
             ran.out = head + "".join("\n".join([f"STAGE {n}", *rows, ""]) for n, rows in enumerate(parts, 1)) + last
@@ -53,18 +51,6 @@ def turned(ran):
     return ran.out != was
 
 
-def status(ran):
-    ran.status = 1 - ran.status
-    return True
-
-
-def not_made(name):
-    def spoil(ran):
-        was, ran.made[name] = ran.made.get(name), None
-        return was is not None
-    return spoil
-
-
 def of_old(ran):
     """The old plan in place of the mixture."""
     was, ran.made["mixture"] = ran.made.get("mixture"), ran.files["o"]
@@ -75,66 +61,54 @@ def more(match):
     return f"{match[1]}{int(match[2]) + 1}"
 
 
-def merged(parts):
-    return [parts[0] + parts[1], *parts[2:]] if len(parts) > 1 else None
-
-
 def cut(parts):
     """The first stage as two, if it switches several lists of one code and nothing else."""
     first = parts[0] if parts else []
-    if len(first) < 2 or len({row.split()[2] for row in first if row[:3] != "WAS"}) > 1 or "BAR" in "".join(first):
+    if len(first) < 2 or len({row.split()[2] for row in first}) > 1 or re.search("BAR|WAS", "".join(first)):
         return None
-    at = 2 if first[1].startswith("WAS") else 1
-    return [first[:at], first[at:], *parts[1:]] if first[at:] else None
+    return [first[:1], first[1:], *parts[1:]]
 
 
 def too_early(parts):
     """The first list of the second stage in the first stage already."""
-    if len(parts) < 2:
+    if len(parts) < 2 or "WAS" in "".join(parts[1]):
         return None
-    at = 2 if parts[1][1:2] and parts[1][1].startswith("WAS") else 1
-    return [it for it in (parts[0] + parts[1][:at], parts[1][at:], *parts[2:]) if it]
+    return [it for it in (parts[0] + parts[1][:1], parts[1][1:], *parts[2:]) if it]
 
 
 # The topic whose cases are spoiled, of each command.
 CASES = dict.fromkeys(("audit", "check", "grade", "survive"), "audit, check, grade, survive: random")
 CASES.update({"codes": "codes: one exchange", **{it: f"{it}: random" for it in ("mend", "change", "order")}})
-ANOTHER_GROUP = put(r"^((OLD |NEW )?F.* VIA \w+) \w+", r"\1 NONE")
-OTHER_ORDER = put(r"^(ROUTE \w+ \d+) (\w+) (\w+)", r"\1 \3 \2")
-LESS_RANK = put(r"^(RANK .*) 1$", r"\1 0", "cert")
 
-# Each spoil: the command whose answers it changes, and how.
-SPOILS = [
-    ("audit", "the other verdict", turned),
-    ("audit", "the other status", status),
-    ("audit", "a finding left out", without("F")),
+# Each spoil: the commands whose answers it changes, and how.
+WAYS = [
+    ("audit check mend change order survive", "the other verdict", turned),
+    ("audit grade change order", "a finding left out", without("(OLD |NEW )?F")),
+    ("audit change", "a walk by another group", put(r"^((OLD |NEW )?F.* VIA \w+) \w+", r"\1 NONE")),
+    ("audit mend change order", "a rank less by one", put(r"^(RANK .*) 1$", r"\1 0", "cert")),
+    ("audit change", "an empty script", put("(?s).+", "", "script")),
+    ("mend change order", "a list left out", without("ROUTE|DROP")),
+    ("mend order", "groups in another order", put(r"^(ROUTE \w+ \d+) (\w+) (\w+)", r"\1 \3 \2")),
+    ("audit", "the other status", lambda ran: setattr(ran, "status", 1 - ran.status) or True),
     ("audit", "a finding twice", put(r"^(F.*\n)((.*\n)*VERDICT NO) .*", r"\1\1\2 2")),
     ("audit", "a loop as a short list", put("^F2 LOOP", "F3 SHORT")),
     ("audit", "a long walk as a short list", put("^F4 LONG", "F3 SHORT")),
-    ("audit", "a walk by another group", ANOTHER_GROUP),
     ("audit", "a walk without its last step", put(r"^(F.* VIA \w+.*) \w+ \w+$", r"\1")),
     ("audit", "another limit", put(r"^(AUDIT LIMIT )(\d+)", more)),
-    ("audit", "a rank less by one", LESS_RANK),
     ("audit", "a rank greater by one", put(r"^(RANK .*) 1$", r"\1 2", "cert")),
-    ("audit", "no certificate", not_made("cert")),
+    ("audit mend change order", "an empty certificate", put("(?s).+", "", "cert")),
     ("audit", "a script without its first block", put(r"^BLOCK .*\n", "", "script")),
-    ("audit", "no script", not_made("script")),
     ("grade", "a greater limit of a code", put(r"^(CODE .* LIMIT )(\d+)", more)),
     ("grade", "a greater limit of the plan", put(r"^(GRADE LIMIT )(\d+)", more)),
     ("grade", "a greater spare number", put(r"^(CODE .* SPARE )(\d+)", more)),
     ("grade", "a code without its grade", put(r"^(CODE \d+) LIMIT.*", r"\1 NONE")),
     ("grade", "a grade where there is none", put(r"^(CODE \d+) NONE", r"\1 LIMIT 0 SPARE 0")),
-    ("grade", "a finding left out", without("F")),
     ("codes", "no ambiguous pair", put("^AMBIGUOUS.*", "DISTINCT")),
     ("codes", "a code left out", without("CODE")),
-    ("check", "the other verdict", turned),
     ("check", "another fault", put(r"^(NO K)(\d)", more)),
     ("check", "another exchange", put(r"^(NO K[3-7] \d+) A\d", r"\1 A9")),
-    ("mend", "the other verdict", turned),
-    ("mend", "a list left out", without("ROUTE")),
     ("mend", "one list more", put(r"^(ROUTE.*\n)((.*\n)*VERDICT)", r"\1\1\2")),
     ("mend", "a group less", put(r"^(ROUTE .*) \w+$", r"\1")),
-    ("mend", "groups in another order", OTHER_ORDER),
     ("mend", "another old list", put("^WAS.*", "WAS NONE")),
     ("mend", "one group more that leads on", put(r"^(F5 .* GROUPS )(\d+)", more)),
     ("mend", "a greater rank", put(r"^(F5 .* RANK )(\d+)", more)),
@@ -144,30 +118,17 @@ SPOILS = [
     ("mend", "more is missing", put(r"^(CODE .* MISSING \w+ )(\d+)", more)),
     ("mend", "a plan without a list", put(r"^ROUTE .*\n", "", "new")),
     ("mend", "a plan without a line of its text", put(r"^LINES .*\n", "", "new")),
-    ("mend", "a rank less by one", LESS_RANK),
-    ("change", "the other verdict", turned),
-    ("change", "a finding left out", without("F|NEW F")),
-    ("change", "a walk by another group", ANOTHER_GROUP),
     ("change", "a new group left out", without("NEW GROUP")),
     ("change", "circuits left out", without("CIRCUITS")),
-    ("change", "a list left out", without("ROUTE|DROP")),
     ("change", "the old plan as the mixture", of_old),
     ("change", "a mixture without a list", put(r"^ROUTE .*\n", "", "mixture")),
-    ("change", "a rank less by one", LESS_RANK),
-    ("change", "no script", not_made("script")),
-    ("order", "the other verdict", turned),
-    ("order", "two stages as one", stages(merged)),
+    ("order", "two stages as one", stages(lambda parts: [parts[0] + parts[1], *parts[2:]] if len(parts) > 1 else None)),
     ("order", "one stage as two", stages(cut)),
     ("order", "two stages changed about", stages(lambda parts: [parts[1], parts[0], *parts[2:]] if len(parts) > 1 else None)),
     ("order", "a list a stage too early", stages(too_early)),
-    ("order", "a list left out", without("ROUTE|DROP")),
-    ("order", "groups in another order", OTHER_ORDER),
     ("order", "a bar set for one lifted", put("^UNBAR", "BAR")),
-    ("order", "a finding left out", without("OLD F|NEW F")),
     ("order", "a finding of the other plan", put("^OLD F", "NEW F")),
     ("order", "a stage's plan without a list", put(r"^ROUTE .*\n", "", "plan")),
-    ("order", "a rank less by one", LESS_RANK),
-    ("survive", "the other verdict", turned),
     ("survive", "one that is cut off left out", without("CUT|STRAY")),
     ("survive", "cut off for astray", put("^STRAY", "CUT")),
     ("survive", "astray for cut off", put("^CUT", "STRAY")),
@@ -177,22 +138,23 @@ SPOILS = [
     ("survive", "one cut more in the totals", put(r"^(\w+ \w+ CUT )(\d+)", more)),
     ("survive", "a walk that ends before", put(r"^((CUT|STRAY) .* VIA \w+.*) \w+ \w+$", r"\1")),
 ]
+SPOILS = [(command, what, spoil) for commands, what, spoil in WAYS for command in commands.split()]
 
 
-def try_spoil(work):
+def try_spoil(path, number):
     """Spoils the answers to some cases. Answers whether each is refused, and what is to be told."""
-    path, (command, what, spoil) = work[0], SPOILS[work[1]]
+    command, what, spoil = SPOILS[number]
     spoiled, count, taken = [], 0, []
     program = Program(path, lambda ran: ran.words[0] == command and spoil(ran) and spoiled.append(ran))
     for _, judge in TOPICS[CASES[command]]():
         spoiled.clear()
         try:
             judge(program)
-            taken += [f"{it.out}\n{program.show(None)}" for it in spoiled[:1]]
+            taken += [f"{it.out}\n{program.show('')}" for it in spoiled[:1]]
         except WRONG:
             pass
         count += bool(spoiled)
-        if count == ENOUGH:
+        if count == 12:
             break
     program.end()
     return count > 0 and not taken, "\n".join([f"spoiled {command}, {what}: {count} answers, {len(taken)} taken", *taken[:1]])

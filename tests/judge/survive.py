@@ -5,10 +5,6 @@ from audit import judge_verdict
 from walks import follow, need, survey, walks
 
 
-def risks_text(risks):
-    return "\n".join(["RISKS 1", *(f"RISK {name} {' '.join(groups)}" for name, groups in risks), "END\n"])
-
-
 def outages(plan, risks, only):
     """Each outage: its two words, the groups that fail, and the exchange that fails, if one does."""
     found = [(f"RISK {name}", frozenset(groups), None) for name, groups in risks]
@@ -62,8 +58,7 @@ def judge_outage(plan, views, rows, cuts, failed):
         need(passed[-1] not in dict(kept) and passed[-1] != home, f"a group is left at the end: {row}")
         told[code, start] = (kind, len(passed) - 1)
         places.append((exchanges[passed[-1]], codes[code], exchanges[start]))
-    need(len(told) == len(rows) and told == cuts, f"told is {told} and not {cuts}")
-    need(places == sorted(places), f"lines are not in order: {rows}")
+    need(len(told) == len(rows) and told == cuts and places == sorted(places), f"told is {rows} and not, in order, {cuts}")
 
 
 def totals(counted, only):
@@ -78,17 +73,16 @@ def totals(counted, only):
 def judge_survive(program, plan, risks, only=False, brief=False):
     """Judges the report of all outages of a plan."""
     words = ["survive", "p", "--risks", "r"] + ["--risks-only"] * only + ["--totals"] * brief
-    ran = program.run(words, {"p": plan.text(), "r": risks_text(risks)})
-    views = plan.views()
-    if plan.ambiguous() or not all(survey(it).grade() for it in views.values()):
-        grade = program.run(["grade", "p"], {"p": plan.text()})
+    ran = program.run(words, {"p": plan.text, "r": "\n".join(["RISKS 1", *(f"RISK {name} {' '.join(it)}" for name, it in risks), "END\n"])})
+    views = plan.views
+    if plan.ambiguous or not all(survey(it).grade() for it in views.values()):
+        grade = program.run(["grade", "p"], {"p": plan.text})
         need(ran.out == grade.out and ran.status == 1, f"a plan without a grade gets {ran.out}")
         return
     tried = [(name, failed, cuts_of(views, failed, failing)) for name, failed, failing in outages(plan, risks, only)]
-    kinds = [(name, [kind for kind, _ in cuts.values()]) for name, _, cuts in tried]
-    counted = [(name, it.count("CUT"), it.count("STRAY")) for name, it in kinds]
+    counted = [(name, *([kind for kind, _ in cuts.values()].count(it) for it in ("CUT", "STRAY"))) for name, _, cuts in tried]
     head = [f"SURVIVE RISKS {len(tried)}", *totals(counted, only)]
-    rows = ran.rows()
+    rows = ran.out.splitlines()
     judge_verdict(rows, not any(cuts for _, _, cuts in tried), ran.status, sum(len(cuts) for _, _, cuts in tried))
     need(rows[:len(head)] == head, f"the totals are {rows[:len(head)]} and not {head}")
     rest = rows[len(head):-1]

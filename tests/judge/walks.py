@@ -4,20 +4,16 @@ from itertools import groupby
 
 
 class Differs(Exception):
-    """The program and the pages differ, perhaps in one code."""
-
-    def __init__(self, what, code=None):
-        super().__init__(what)
-        self.code = code
+    """The program and the pages differ."""
 
 
 # What a judge raises where an answer is wrong, or where it cannot be read.
 WRONG = (Differs, LookupError, ValueError)
 
 
-def need(holds, what):
+def need(holds, *what):
     if not holds:
-        raise Differs(what)
+        raise Differs(" ".join(map(str, what)))
 
 
 def of_code(code, judge, *words):
@@ -25,7 +21,7 @@ def of_code(code, judge, *words):
     try:
         judge(*words)
     except Differs as it:
-        raise Differs(f"code {code}: {it}", code) from None
+        raise Differs(f"code {code}: {it}") from None
 
 
 def walks(home, lists, start):
@@ -42,7 +38,8 @@ def walks(home, lists, start):
 class Survey:
     """What all walks for a code show."""
 
-    def __init__(self, home, lists, starts):
+    def __init__(self, view):
+        home, lists, starts = view
         self.loop = False
         self.nearest = {}  # each exchange other than the home to which a walk comes, and its least steps
         self.away = 0  # the most steps of a walk that is not at the home
@@ -72,11 +69,7 @@ class Survey:
 
 
 NOTHING = False, {}, False
-
-
-@lru_cache(1 << 14)
-def survey(view):
-    return Survey(*view)
+survey = lru_cache(1 << 14)(Survey)
 
 
 @lru_cache(1 << 14)
@@ -98,45 +91,42 @@ def follow(words, view):
     _, lists, starts = view
     lists = dict(lists)
     passed, groups = words[0::2], words[1::2]
-    need(len(words) % 2 and passed[0] in starts, f"no walk that begins where calls start: {words}")
+    need(len(words) % 2 and passed[0] in starts, "no walk that begins where calls start:", words)
     for x, g, y in zip(passed, groups, passed[1:]):
-        need((g, y) in lists.get(x, ()), f"no step of the lists: {x} {g} {y}")
-    need(len(set(passed[:-1])) == len(passed) - 1, f"a walk that goes on after it came back: {words}")
+        need((g, y) in lists.get(x, ()), "no step of the lists:", x, g, y)
+    need(len(set(passed[:-1])) == len(passed) - 1, "a walk that goes on after it came back:", words)
     return passed
 
 
 def judge_code(findings, view, due, limit):
     """Judges the findings of a code, which are due by its walks."""
     kinds, shorts = [kind for kind, _ in findings], {}
-    need((kinds.count("F2"), kinds.count("F4")) == (due[0], due[2]), f"found {kinds}")
+    need((kinds.count("F2"), kinds.count("F4")) == (due[0], due[2]), "found", kinds)
     for kind, words in findings:
         passed = follow(words, view)
         last, steps = passed[-1], len(passed) - 1
-        need((last in passed[:-1]) == (kind == "F2"), f"a loop, or none: {words}")
+        need((last in passed[:-1]) == (kind == "F2"), "a loop, or none:", words)
         if kind == "F3":
-            need(last not in shorts, f"a second walk to {last}")
+            need(last not in shorts, "a second walk to", last)
             shorts[last] = steps
-        need(kind != "F4" or (steps == limit + 1 and last != view[0]), f"not a long walk: {words}")
-    need(shorts == due[1], f"short exchanges are {due[1]} and not {shorts}")
-
-
-NAMES = {"F1": "AMBIGUOUS", "F2": "LOOP", "F3": "SHORT", "F4": "LONG"}
+        need(kind != "F4" or (steps == limit + 1 and last != view[0]), "not a long walk:", words)
+    need(shorts == due[1], "short exchanges are", due[1], "and not", shorts)
 
 
 def judge_findings(rows, pairs, views, dues, limit):
-    """Judges the findings of a plan: the ambiguous pair, if there are such pairs, and then those of
-    each code, in order. `views` has the lists by which a walk may go."""
-    findings = {code: [] for code in views}
+    """Judges the findings of a plan: the ambiguous pair, if there are such pairs, and then those of each code, in order. `views` has the lists by which a walk may go."""
+    findings, ambiguous, order = {code: [] for code in views}, [], []
     for row in rows:
         kind, name, code, *rest = row.split(" ")
-        need(NAMES.get(kind) == name, f"no finding: {row}")
-        if kind != "F1":
-            need(code in findings and rest[0] == "VIA", f"no finding: {row}")
+        need(f"{kind} {name}" in ("F1 AMBIGUOUS", "F2 LOOP", "F3 SHORT", "F4 LONG"), "no finding:", row)
+        if kind == "F1":
+            ambiguous += [(code, *rest)] if not order else [row]
+        else:
+            order.append(code)
+            need(code in findings and rest[0] == "VIA", "no finding:", row)
             findings[code].append((kind, rest[1:]))
-    ambiguous = [tuple(row.split(" ")[2:]) for row in rows if row.startswith("F1")]
-    need(len(ambiguous) == bool(pairs) and set(ambiguous) <= set(pairs), f"ambiguous are {pairs} and not {ambiguous}")
-    order = [row.split(" ")[2] for row in rows[len(ambiguous):]]
-    need([code for code, _ in groupby(order)] == [code for code in views if code in set(order)], "findings are not in order of the codes")
+    need(len(ambiguous) == bool(pairs) and set(ambiguous) <= set(pairs), "ambiguous are", pairs, "and not", ambiguous)
+    need([code for code, _ in groupby(order)] == [code for code in views if findings[code]], "findings are not in order of the codes")
     for code, view in views.items():
         if findings[code] or dues[code] != NOTHING:
             of_code(code, judge_code, findings[code], view, dues[code], limit)

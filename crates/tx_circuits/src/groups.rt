@@ -169,10 +169,7 @@ pub struct Groups<A: Allocator = Global> {
 
 impl<A: Allocator> Drop for Groups<A> {
     fn drop(self) {
-        let Self {
-            slots,
-            rows,
-        } = self;
+        let Self { slots, rows } = self;
         drop(slots);
         drop(rows);
     }

@@ -91,10 +91,7 @@ pub struct LineBook<A: Allocator = Global> {
 
 impl<A: Allocator> Drop for LineBook<A> {
     fn drop(self) {
-        let Self {
-            ranges,
-            statuses,
-        } = self;
+        let Self { ranges, statuses } = self;
         drop(ranges);
         drop(statuses);
     }

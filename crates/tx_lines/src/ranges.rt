@@ -20,10 +20,7 @@ pub struct Ranges<A: Allocator = Global> {
 
 impl<A: Allocator> Drop for Ranges<A> {
     fn drop(self) {
-        let Self {
-            ranges,
-            firsts,
-        } = self;
+        let Self { ranges, firsts } = self;
         drop(ranges);
         drop(firsts);
     }

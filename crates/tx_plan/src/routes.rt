@@ -31,9 +31,7 @@ pub struct Routes<A: Allocator = Global> {
 
 impl<A: Allocator> Drop for Routes<A> {
     fn drop(self) {
-        let Self {
-            rows,
-        } = self;
+        let Self { rows } = self;
         drop(rows);
     }
 }
@@ -116,9 +114,7 @@ pub struct Bars<A: Allocator = Global> {
 
 impl<A: Allocator> Drop for Bars<A> {
     fn drop(self) {
-        let Self {
-            pairs,
-        } = self;
+        let Self { pairs } = self;
         drop(pairs);
     }
 }

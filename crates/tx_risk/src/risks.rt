@@ -18,9 +18,7 @@ pub struct Risks<A: Allocator = Global> {
 
 impl<A: Allocator> Drop for Risks<A> {
     fn drop(self) {
-        let Self {
-            rows,
-        } = self;
+        let Self { rows } = self;
         drop(rows);
     }
 }

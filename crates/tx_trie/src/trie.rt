@@ -135,10 +135,7 @@ pub struct CodeTrie<A: Allocator = Global> {
 
 impl<A: Allocator> Drop for CodeTrie<A> {
     fn drop(self) {
-        let Self {
-            codes,
-            nodes,
-        } = self;
+        let Self { codes, nodes } = self;
         drop(codes);
         drop(nodes);
     }

@@ -6,12 +6,12 @@ use crate::cases::{
 use crate::driven::try_drives;
 use crate::runs::Over;
 use std::alloc::{Allocator, Global};
+use tx_audit::{Played, play};
 use tx_cert::read_cert;
 use tx_check::{Verdict, check};
 use tx_machine::{Event, Network, Plain, Reply, drive};
 use tx_plan::Plan;
 use tx_plantext::read_plan;
-use tx_audit::{Played, play};
 use tx_script::read_event;
 use tx_tickets::{write_reply, write_ticket};
 
