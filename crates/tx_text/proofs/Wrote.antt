@@ -8,7 +8,7 @@ use Rattle.std.proofs.lemmas.List.{take_all, take_more}
 use Rattle.std.proofs.lemmas.List.Concat.{flat_map-append}
 use Rattle.tx_text.specs.declared.sink.WriteFault.{WriteFault}
 use Rattle.tx_text.specs.Wrote.{WroteBy}
-use Rattle.tx_text.proofs.Writing.{append_known-nil, append_known_twice, stops_first, stops_later, stops_at}
+use Rattle.tx_text.proofs.Writing.{append_known-nil, append_known_twice, stops_later, stops_at}
 
 abbrev pub Outcome : Type 0
 Outcome = Result (Unit {0}) WriteFault
