@@ -1,4 +1,5 @@
 // The writer of the report of a change.
+ghost use Rattle.tx_text.specs.Puts.{Puts};
 ghost use Rattle.tx_text.specs.Wrote.{Wrote};
 ghost use Rattle.tx_change.specs.ChangeReport.{switched_lists, finding_after, findings_after, verdict_after, verdict_text, change_report};
 
@@ -8,7 +9,7 @@ use tx_join::{Joined, write_differences};
 use tx_plan::{Limits, Plan};
 use tx_plantext::write_changes;
 use tx_rank::{Finding, write_asked, write_finding, write_verdict};
-use tx_text::{Sink, WriteFault, write_bytes};
+use tx_text::{Sink, WriteFault, finish, put_bytes};
 
 /// Writes the report of a change: what was asked, in what the plans differ beside lists, the lists
 /// that are switched with those that they replace if they are asked for, a line for each finding,
@@ -25,25 +26,20 @@ pub fn write_change<A: Allocator, W: Sink>(
     ensures { Wrote W.taken W.failed sink.old sink.new (change_report with_old old.now new.now
         joined.now.old joined.now.new limits.limit limits.spare verdict.now) result }
 {
-    write_asked(b"CHANGE", limits, sink)?;
-    write_differences(old, new, sink)?;
-    write_switched_lists(joined, with_old, sink)?;
-    write_found(new, joined, verdict, sink)
+    write_asked(b"CHANGE", limits, sink);
+    write_differences(old, new, sink);
+    write_switched_lists(joined, with_old, sink);
+    write_found(new, joined, verdict, sink);
+    finish(sink)
 }
 
 /// Writes each list that is switched, and the list that it replaces, if they are asked for.
-fn write_switched_lists<A: Allocator, W: Sink>(
-    joined: &Joined<A>,
-    with_old: bool,
-    sink: &mut W,
-) -> Result<(), WriteFault>
-    ensures { Wrote W.taken W.failed sink.old sink.new
-        (switched_lists with_old joined.now.old joined.now.new) result }
+fn write_switched_lists<A: Allocator, W: Sink>(joined: &Joined<A>, with_old: bool, sink: &mut W)
+    ensures { Puts W.taken W.failed sink.old sink.new
+        (switched_lists with_old joined.now.old joined.now.new) }
 {
     if with_old {
-        write_changes(joined.old.all_routes(), &joined.new, true, sink)
-    } else {
-        Ok(())
+        write_changes(joined.old.all_routes(), &joined.new, true, sink);
     }
 }
 
@@ -53,9 +49,9 @@ fn write_found<A: Allocator, W: Sink>(
     joined: &Joined<A>,
     verdict: &ChangeVerdict<A>,
     sink: &mut W,
-) -> Result<(), WriteFault>
-    ensures { Wrote W.taken W.failed sink.old sink.new
-        (verdict_text joined.now.old new.now verdict.now) result }
+)
+    ensures { Puts W.taken W.failed sink.old sink.new
+        (verdict_text joined.now.old new.now verdict.now) }
 {
     match verdict {
         ChangeVerdict::Sound(_) => write_verdict(0, sink),
@@ -70,12 +66,12 @@ pub fn write_verdict_after<A: Allocator, W: Sink>(
     plan: &Plan<A>,
     findings: &[Finding<A>],
     sink: &mut W,
-) -> Result<(), WriteFault>
-    ensures { Wrote W.taken W.failed sink.old sink.new
-        (verdict_after word.now plan.now findings.now) result }
+)
+    ensures { Puts W.taken W.failed sink.old sink.new
+        (verdict_after word.now plan.now findings.now) }
 {
-    write_findings_after(word, plan, findings, sink)?;
-    write_verdict(findings.len(), sink)
+    write_findings_after(word, plan, findings, sink);
+    write_verdict(findings.len(), sink);
 }
 
 /// Writes the line of each finding after a word.
@@ -84,14 +80,13 @@ pub fn write_findings_after<A: Allocator, W: Sink>(
     plan: &Plan<A>,
     findings: &[Finding<A>],
     sink: &mut W,
-) -> Result<(), WriteFault>
-    ensures { Wrote W.taken W.failed sink.old sink.new
-        (findings_after word.now plan.now findings.now) result }
+)
+    ensures { Puts W.taken W.failed sink.old sink.new
+        (findings_after word.now plan.now findings.now) }
 {
     for i in 0..findings.len() {
-        write_finding_after(word, plan, &findings[i], sink)?;
+        write_finding_after(word, plan, &findings[i], sink);
     }
-    Ok(())
 }
 
 /// Writes the line of a finding after a word.
@@ -100,10 +95,10 @@ fn write_finding_after<A: Allocator, W: Sink>(
     plan: &Plan<A>,
     finding: &Finding<A>,
     sink: &mut W,
-) -> Result<(), WriteFault>
-    ensures { Wrote W.taken W.failed sink.old sink.new
-        (finding_after word.now plan.now finding.now) result }
+)
+    ensures { Puts W.taken W.failed sink.old sink.new
+        (finding_after word.now plan.now finding.now) }
 {
-    write_bytes(word, sink)?;
-    write_finding(plan, finding, sink)
+    put_bytes(word, sink);
+    write_finding(plan, finding, sink);
 }

@@ -1,6 +1,7 @@
 // How verdicts are written.
 ghost use Rattle.std.specs.Prelude.{◌++◌, ◌∷◌, []};
 ghost use Rattle.tx_text.specs.Written.{line_written};
+ghost use Rattle.tx_text.specs.Puts.{Puts};
 ghost use Rattle.tx_text.specs.Wrote.{Wrote};
 ghost use Rattle.tx_plan.specs.Plan.{figures_of, exchange_name, group_name};
 ghost use Rattle.tx_check.specs.declared.verdict.Verdict.TheVariants.{No};
@@ -10,7 +11,7 @@ use crate::fault::CheckFault;
 use crate::verdict::Verdict;
 use std::alloc::Allocator;
 use tx_plan::{CodeId, ExchangeId, GroupId, Plan};
-use tx_text::{Sink, WriteFault, write_bytes, write_parts};
+use tx_text::{Sink, WriteFault, finish, put_parts, write_bytes};
 
 /// Writes the verdict as one line, as `YES` or `NO K7 24 CENTRAL CENO1`, with its LF. Where the
 /// sink fails, a front of the line was taken.
@@ -24,29 +25,28 @@ pub fn write_verdict<A: Allocator, W: Sink>(
 {
     match *verdict {
         Verdict::Yes => write_bytes(b"YES\n", sink),
-        Verdict::No(fault) => write_no(fault, plan, sink),
+        Verdict::No(fault) => {
+            write_no(fault, plan, sink);
+            finish(sink)
+        }
     }
 }
 
 /// Writes the line of a No.
-fn write_no<A: Allocator, W: Sink>(
-    fault: CheckFault,
-    plan: &Plan<A>,
-    sink: &mut W,
-) -> Result<(), WriteFault>
-    ensures { Wrote W.taken W.failed sink.old sink.new
-        (verdict_written plan.now (No fault)) result }
+fn write_no<A: Allocator, W: Sink>(fault: CheckFault, plan: &Plan<A>, sink: &mut W)
+    ensures { Puts W.taken W.failed sink.old sink.new
+        (verdict_written plan.now (No fault)) }
 {
     match fault {
         CheckFault::Ambiguous(a, b) => {
             let longer = plan.code_figures(b);
-            write_parts(
+            put_parts(
                 &[b"NO K1 ", plan.code_figures(a), b" ", longer, b"\n"],
                 sink,
             )
         }
         CheckFault::HomeNotZero(code) => {
-            write_parts(&[b"NO K2 ", plan.code_figures(code), b"\n"], sink)
+            put_parts(&[b"NO K2 ", plan.code_figures(code), b"\n"], sink)
         }
         CheckFault::OriginUnranked(code, exchange) => {
             write_exchange(b"NO K3 ", plan, code, exchange, sink)
@@ -73,12 +73,12 @@ fn write_exchange<A: Allocator, W: Sink>(
     code: CodeId,
     exchange: ExchangeId,
     sink: &mut W,
-) -> Result<(), WriteFault>
-    ensures { Wrote W.taken W.failed sink.old sink.new (front.now
-        ++ line_written (figures_of plan.now code ∷ exchange_name plan.now exchange ∷ [])) result }
+)
+    ensures { Puts W.taken W.failed sink.old sink.new (front.now
+        ++ line_written (figures_of plan.now code ∷ exchange_name plan.now exchange ∷ [])) }
 {
     let name = plan.exchange_name(exchange);
-    write_parts(&[front, plan.code_figures(code), b" ", name, b"\n"], sink)
+    put_parts(&[front, plan.code_figures(code), b" ", name, b"\n"], sink);
 }
 
 /// Writes the front of a line, and its code, exchange and group.
@@ -89,13 +89,13 @@ fn write_group<A: Allocator, W: Sink>(
     exchange: ExchangeId,
     group: GroupId,
     sink: &mut W,
-) -> Result<(), WriteFault>
-    ensures { Wrote W.taken W.failed sink.old sink.new (front.now ++ line_written (figures_of
-        plan.now code ∷ exchange_name plan.now exchange ∷ group_name plan.now group ∷ [])) result }
+)
+    ensures { Puts W.taken W.failed sink.old sink.new (front.now ++ line_written (figures_of
+        plan.now code ∷ exchange_name plan.now exchange ∷ group_name plan.now group ∷ [])) }
 {
     let code = plan.code_figures(code);
     let exchange = plan.exchange_name(exchange);
-    write_parts(
+    put_parts(
         &[
             front,
             code,
@@ -106,5 +106,5 @@ fn write_group<A: Allocator, W: Sink>(
             b"\n",
         ],
         sink,
-    )
+    );
 }

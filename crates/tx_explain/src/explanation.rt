@@ -7,7 +7,7 @@ ghost use Rattle.tx_explain.specs.Written.{entry_line, entry_text, told_text, ex
 
 use crate::asked::is_asked;
 use crate::code_table::{Entry, tables};
-use tx_text::{Sink, WriteFault, write_parts};
+use tx_text::{Sink, WriteFault, finish, put_parts};
 
 /// Writes each entry that a line asks for by a word: its code with its name, what it means and what
 /// to do about it; without a line to explain, a line for each code with its meaning.
@@ -64,7 +64,7 @@ fn write_entry<W: Sink>(entry: &Entry, sink: &mut W) -> Result<(), WriteFault>
         (entry_text (texts entry.now)) result }
 {
     let [code, name, meaning, advice] = entry;
-    write_parts(
+    put_parts(
         &[
             code.as_bytes(),
             b" ",
@@ -76,7 +76,8 @@ fn write_entry<W: Sink>(entry: &Entry, sink: &mut W) -> Result<(), WriteFault>
             b"\n",
         ],
         sink,
-    )
+    );
+    finish(sink)
 }
 
 fn write_line<W: Sink>(entry: &Entry, sink: &mut W) -> Result<(), WriteFault>
@@ -84,7 +85,7 @@ fn write_line<W: Sink>(entry: &Entry, sink: &mut W) -> Result<(), WriteFault>
         (entry_line (texts entry.now)) result }
 {
     let [code, name, meaning, _] = entry;
-    write_parts(
+    put_parts(
         &[
             code.as_bytes(),
             b" ",
@@ -94,5 +95,6 @@ fn write_line<W: Sink>(entry: &Entry, sink: &mut W) -> Result<(), WriteFault>
             b"\n",
         ],
         sink,
-    )
+    );
+    finish(sink)
 }

@@ -1,5 +1,5 @@
 -- What a page shows.
-use Rattle.std.specs.Prelude.{◌≡◌, ℕ, Bool, true, List, [], ◌∷◌, ◌++◌, Option, None, Some, Result, Ok, Err, decimal}
+use Rattle.std.specs.Prelude.{◌≡◌, ℕ, Bool, true, false, List, [], ◌∷◌, ◌++◌, Option, None, Some, Result, Ok, Err, decimal}
 use Rattle.std.specs.Io.KnownBytes.{append_known}
 use Rattle.tx_text.specs.declared.sink.WriteFault.{WriteFault}
 use Rattle.tx_html.specs.declared.part.Part.{Part}
@@ -60,3 +60,14 @@ ShowedBy old new texts (Err e) = new.failed ≡ true
 abbrev pub Showed : {W : Type 0} → (seen : W → Seen) → (old new : W) → List (List ℕ)
     → Result (Unit {0}) WriteFault → Type 0
 Showed seen old new texts r = ShowedBy (seen old) (seen new) texts r
+
+-- By the marks before and after: these texts were shown, and no others; or the sink failed, and a
+-- failure stays one.
+abbrev pub SetsBy : (failed_old failed_new : Bool) → (old new : Seen) → List (List ℕ) → Type 0
+SetsBy false false old new texts = HasShown old new texts
+SetsBy false true old new texts = Unit {0}
+SetsBy true failed old new texts = failed ≡ true
+
+-- What a call that sets texts on a page does to a sink of pages. It may go on after the sink failed.
+pub record Sets {W : Type 0} (seen : W → Seen) (old new : W) (texts : List (List ℕ)) : Type 0 where
+  pub by : SetsBy (seen old).failed (seen new).failed (seen old) (seen new) texts

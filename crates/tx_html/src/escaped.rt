@@ -1,10 +1,10 @@
 // Texts on a page.
 ghost use Rattle.std.specs.Prelude.{◌≡◌};
 ghost use Rattle.std.specs.List.{list_all};
-ghost use Rattle.tx_text.specs.Wrote.{Wrote};
+ghost use Rattle.tx_text.specs.Puts.{Puts};
 ghost use Rattle.tx_html.specs.Escaped.{escaped, escaped_byte, entity, is_markup, is_plain};
 
-use tx_text::{Sink, WriteFault, write_bytes};
+use tx_text::{Sink, put_bytes};
 
 /// What stands for a byte that is not plain.
 fn entity(byte: u8) -> &'static [u8]
@@ -42,32 +42,31 @@ fn are_plain(text: &[u8]) -> bool
 }
 
 /// Writes a text so that none of it is taken for markup.
-pub fn write_escaped<W: Sink>(text: &[u8], sink: &mut W) -> Result<(), WriteFault>
-    ensures { Wrote W.taken W.failed sink.old sink.new (escaped text.now) result }
+pub fn write_escaped<W: Sink>(text: &[u8], sink: &mut W)
+    ensures { Puts W.taken W.failed sink.old sink.new (escaped text.now) }
 {
     if are_plain(text) {
-        write_bytes(text, sink)
+        put_bytes(text, sink)
     } else {
         write_each(text, sink)
     }
 }
 
 /// Writes what stands for each byte of a text.
-fn write_each<W: Sink>(text: &[u8], sink: &mut W) -> Result<(), WriteFault>
-    ensures { Wrote W.taken W.failed sink.old sink.new (escaped text.now) result }
+fn write_each<W: Sink>(text: &[u8], sink: &mut W)
+    ensures { Puts W.taken W.failed sink.old sink.new (escaped text.now) }
 {
     for i in 0..text.len() {
-        write_byte(text[i], sink)?;
+        write_byte(text[i], sink);
     }
-    Ok(())
 }
 
-fn write_byte<W: Sink>(byte: u8, sink: &mut W) -> Result<(), WriteFault>
-    ensures { Wrote W.taken W.failed sink.old sink.new (escaped_byte byte) result }
+fn write_byte<W: Sink>(byte: u8, sink: &mut W)
+    ensures { Puts W.taken W.failed sink.old sink.new (escaped_byte byte) }
 {
     if is_plain(byte) {
-        write_bytes(&[byte], sink)
+        put_bytes(&[byte], sink)
     } else {
-        write_bytes(entity(byte), sink)
+        put_bytes(entity(byte), sink)
     }
 }

@@ -1,6 +1,7 @@
 // Where pages are written.
+ghost use Rattle.std.specs.Prelude.{◌≡◌, is_err};
 ghost use Rattle.std.specs.List.{flat_map};
-ghost use Rattle.tx_html.specs.Shows.{Showed, Seen, seen_by, part_texts};
+ghost use Rattle.tx_html.specs.Shows.{Sets, Seen, seen_by, part_texts};
 
 use crate::part::{Part, set_part};
 use tx_text::{Sink, WriteFault};
@@ -11,26 +12,34 @@ pub trait PageSink {
     /// What it has taken.
     ghost seen: { Self → Seen };
 
-    /// Writes parts of a page, one after another.
-    fn set(&mut self, parts: &[Part<'_>]) -> Result<(), WriteFault>
-        ensures { Showed seen self.old self.new (flat_map part_texts parts.now) result };
+    /// Sets parts of a page, one after another. Whoever sets a page call by call goes on after a
+    /// failure.
+    fn set(&mut self, parts: &[Part<'_>])
+        ensures { Sets seen self.old self.new (flat_map part_texts parts.now) };
+
+    /// Tells whether it failed under what was set.
+    fn finish(&self) -> Result<(), WriteFault>
+        ensures { (seen self.now).failed ≡ is_err result };
 }
 
 /// A sink of bytes keeps no list of the texts.
 impl<W: Sink> PageSink for W {
     ghost seen = { seen_by W.taken W.failed };
 
-    fn set(&mut self, parts: &[Part<'_>]) -> Result<(), WriteFault> {
+    fn set(&mut self, parts: &[Part<'_>]) {
         for i in 0..parts.len() {
-            set_part(parts[i], self)?;
+            set_part(parts[i], self);
         }
-        Ok(())
+    }
+
+    fn finish(&self) -> Result<(), WriteFault> {
+        tx_text::finish(self)
     }
 }
 
-/// Writes parts of a page, one after another.
-pub fn set<W: PageSink>(parts: &[Part<'_>], sink: &mut W) -> Result<(), WriteFault>
-    ensures { Showed W.seen sink.old sink.new (flat_map part_texts parts.now) result }
+/// Sets parts of a page, one after another.
+pub fn set<W: PageSink>(parts: &[Part<'_>], sink: &mut W)
+    ensures { Sets W.seen sink.old sink.new (flat_map part_texts parts.now) }
 {
-    sink.set(parts)
+    sink.set(parts);
 }

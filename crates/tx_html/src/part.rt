@@ -1,10 +1,10 @@
 // What a page is made of.
 ghost use Rattle.std.specs.Prelude.{[], ◌∷◌};
-ghost use Rattle.tx_html.specs.Shows.{Showed, seen_by, part_texts};
+ghost use Rattle.tx_html.specs.Shows.{Sets, seen_by, part_texts};
 
 use crate::escaped::write_escaped;
 use itoa::Buffer;
-use tx_text::{Sink, WriteFault, write_bytes};
+use tx_text::{Sink, put_bytes};
 
 /// A part of a page. A text of a plan cannot be `Own`, which takes words of the program alone.
 #[derive(Clone, Copy)]
@@ -19,9 +19,9 @@ pub enum Part<'a> {
     Count(u64),
 }
 
-/// Writes a part of a page.
-pub(crate) fn set_part<W: Sink>(part: Part<'_>, sink: &mut W) -> Result<(), WriteFault>
-    ensures { Showed (seen_by W.taken W.failed) sink.old sink.new (part_texts part.entry) result }
+/// Sets a part of a page.
+pub(crate) fn set_part<W: Sink>(part: Part<'_>, sink: &mut W)
+    ensures { Sets (seen_by W.taken W.failed) sink.old sink.new (part_texts part.entry) }
 {
     let mut buffer = Buffer::new();
     match part {
@@ -32,16 +32,16 @@ pub(crate) fn set_part<W: Sink>(part: Part<'_>, sink: &mut W) -> Result<(), Writ
     }
 }
 
-/// Writes markup.
-fn set_own<W: Sink>(bytes: &[u8], sink: &mut W) -> Result<(), WriteFault>
-    ensures { Showed (seen_by W.taken W.failed) sink.old sink.new [] result }
+/// Sets markup.
+fn set_own<W: Sink>(bytes: &[u8], sink: &mut W)
+    ensures { Sets (seen_by W.taken W.failed) sink.old sink.new [] }
 {
-    write_bytes(bytes, sink)
+    put_bytes(bytes, sink);
 }
 
-/// Writes a text, escaped.
-fn set_text<W: Sink>(text: &[u8], sink: &mut W) -> Result<(), WriteFault>
-    ensures { Showed (seen_by W.taken W.failed) sink.old sink.new (text.now ∷ []) result }
+/// Sets a text, escaped.
+fn set_text<W: Sink>(text: &[u8], sink: &mut W)
+    ensures { Sets (seen_by W.taken W.failed) sink.old sink.new (text.now ∷ []) }
 {
-    write_escaped(text, sink)
+    write_escaped(text, sink);
 }

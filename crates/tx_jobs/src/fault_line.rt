@@ -8,7 +8,7 @@ use crate::job_fault::JobFault;
 use itoa::Buffer;
 use tx_join::Contradiction;
 use tx_plantext::PlanFault;
-use tx_text::{Sink, WriteFault, write_bytes, write_parts};
+use tx_text::{Sink, WriteFault, finish, put_parts, write_bytes};
 
 /// Writes the line that reports a fault, as `telexplan: plan line 5: P11 Overlap`, with its LF.
 pub fn write_fault<W: Sink>(fault: &JobFault, sink: &mut W) -> Result<(), WriteFault>
@@ -69,7 +69,7 @@ fn write_text_fault<'a, W: Sink>(
         (text_fault_line text.now line (row.entry.0.now, row.entry.1.now)) result }
 {
     let mut number = Buffer::new();
-    write_parts(
+    put_parts(
         &[
             b"telexplan: ",
             text,
@@ -82,7 +82,8 @@ fn write_text_fault<'a, W: Sink>(
             b"\n",
         ],
         sink,
-    )
+    );
+    finish(sink)
 }
 
 /// Writes what two plans declare in contradiction, and the line of each text that does.
@@ -115,7 +116,7 @@ fn write_differing<'a, W: Sink>(
     let mut second = Buffer::new();
     let old = first.format(old).as_bytes();
     let new = second.format(new).as_bytes();
-    write_parts(
+    put_parts(
         &[
             b"telexplan: old plan line ",
             old,
@@ -128,7 +129,8 @@ fn write_differing<'a, W: Sink>(
             b" differs\n",
         ],
         sink,
-    )
+    );
+    finish(sink)
 }
 
 /// Writes how many stages there are.
@@ -137,8 +139,9 @@ fn write_stage_count<W: Sink>(stages: usize, sink: &mut W) -> Result<(), WriteFa
 {
     let mut number = Buffer::new();
     let stages = number.format(stages).as_bytes();
-    write_parts(
+    put_parts(
         &[b"telexplan: no such stage: the order has ", stages, b"\n"],
         sink,
-    )
+    );
+    finish(sink)
 }

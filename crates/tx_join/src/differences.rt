@@ -2,7 +2,7 @@
 ghost use Rattle.std.specs.Prelude.{◌≡◌, ◌<◌, ◌≤◌, false, length, slice_get};
 ghost use Rattle.std.specs.List.{flat_map, list_any};
 ghost use Rattle.std.specs.Option.{option_map_or};
-ghost use Rattle.tx_text.specs.Wrote.{Wrote};
+ghost use Rattle.tx_text.specs.Puts.{Puts};
 ghost use Rattle.tx_text.specs.Written.{line_written};
 ghost use Rattle.tx_join.specs.Differences.{exchange_lines, code_lines, has_range, lines_of_range, range_lines, group_lines, lines_of_circuits, circuits_lines, entry_lines, count_of_entries, each_written, changes, difference_text};
 ghost use Rattle.tx_join.specs.inner.Ranges.{is_range_of};
@@ -11,22 +11,18 @@ use crate::naming::{has_code, has_exchange, has_group};
 use itoa::Buffer;
 use std::alloc::Allocator;
 use tx_plan::{CodeId, ExchangeId, GroupId, LineRange, Plan};
-use tx_text::{Sink, WriteFault, write_parts};
+use tx_text::{Sink, put_parts};
 
 /// Writes a line for each exchange, code, range and group that is new or goes, and for each group
 /// that gets another number of circuits. For plans of one network it writes nothing.
-pub fn write_differences<A: Allocator, W: Sink>(
-    old: &Plan<A>,
-    new: &Plan<A>,
-    sink: &mut W,
-) -> Result<(), WriteFault>
-    ensures { Wrote W.taken W.failed sink.old sink.new (difference_text old.now new.now) result }
+pub fn write_differences<A: Allocator, W: Sink>(old: &Plan<A>, new: &Plan<A>, sink: &mut W)
+    ensures { Puts W.taken W.failed sink.old sink.new (difference_text old.now new.now) }
 {
-    write_changes(Entries::Exchanges, old, new, sink)?;
-    write_changes(Entries::Codes, old, new, sink)?;
-    write_changes(Entries::Ranges, old, new, sink)?;
-    write_changes(Entries::Groups, old, new, sink)?;
-    write_circuits(old, new, sink)
+    write_changes(Entries::Exchanges, old, new, sink);
+    write_changes(Entries::Codes, old, new, sink);
+    write_changes(Entries::Ranges, old, new, sink);
+    write_changes(Entries::Groups, old, new, sink);
+    write_circuits(old, new, sink);
 }
 
 /// The entries of one of the lists of a network.
@@ -44,11 +40,11 @@ fn write_changes<A: Allocator, W: Sink>(
     old: &Plan<A>,
     new: &Plan<A>,
     sink: &mut W,
-) -> Result<(), WriteFault>
-    ensures { Wrote W.taken W.failed sink.old sink.new (changes entries old.now new.now) result }
+)
+    ensures { Puts W.taken W.failed sink.old sink.new (changes entries old.now new.now) }
 {
-    write_alone(entries, b"NEW", new, old, sink)?;
-    write_alone(entries, b"GONE", old, new, sink)
+    write_alone(entries, b"NEW", new, old, sink);
+    write_alone(entries, b"GONE", old, new, sink);
 }
 
 /// Writes the entries that the other plan does not have.
@@ -58,15 +54,14 @@ fn write_alone<A: Allocator, W: Sink>(
     plan: &Plan<A>,
     other: &Plan<A>,
     sink: &mut W,
-) -> Result<(), WriteFault>
-    ensures { Wrote W.taken W.failed sink.old sink.new
+)
+    ensures { Puts W.taken W.failed sink.old sink.new
         (each_written (entry_lines entries word.now plan.now other.now)
-        (count_of_entries entries plan.now)) result }
+        (count_of_entries entries plan.now)) }
 {
     for index in 0..count_of_entries(entries, plan) {
-        write_entry(entries, word, plan, other, index, sink)?;
+        write_entry(entries, word, plan, other, index, sink);
     }
-    Ok(())
 }
 
 /// How many entries a plan has.
@@ -90,10 +85,10 @@ fn write_entry<A: Allocator, W: Sink>(
     other: &Plan<A>,
     index: usize,
     sink: &mut W,
-) -> Result<(), WriteFault>
+)
     requires { index < 65536 }
-    ensures { Wrote W.taken W.failed sink.old sink.new (flat_map line_written
-        (entry_lines entries word.now plan.now other.now index)) result }
+    ensures { Puts W.taken W.failed sink.old sink.new (flat_map line_written
+        (entry_lines entries word.now plan.now other.now index)) }
 {
     match entries {
         Entries::Exchanges => write_exchange(word, plan, other, ExchangeId::of(index), sink),
@@ -110,15 +105,15 @@ fn write_exchange<A: Allocator, W: Sink>(
     other: &Plan<A>,
     exchange: ExchangeId,
     sink: &mut W,
-) -> Result<(), WriteFault>
-    ensures { Wrote W.taken W.failed sink.old sink.new (flat_map line_written
-        (exchange_lines word.now plan.now other.now exchange)) result }
+)
+    ensures { Puts W.taken W.failed sink.old sink.new (flat_map line_written
+        (exchange_lines word.now plan.now other.now exchange)) }
 {
     let name = plan.exchange_name(exchange);
     if has_exchange(other, name) {
-        return Ok(());
+        return;
     }
-    write_parts(&[word, b" EXCHANGE ", name, b"\n"], sink)
+    put_parts(&[word, b" EXCHANGE ", name, b"\n"], sink);
 }
 
 /// Writes a code, unless the other plan has it.
@@ -128,15 +123,15 @@ fn write_code<A: Allocator, W: Sink>(
     other: &Plan<A>,
     code: CodeId,
     sink: &mut W,
-) -> Result<(), WriteFault>
-    ensures { Wrote W.taken W.failed sink.old sink.new (flat_map line_written
-        (code_lines word.now plan.now other.now code)) result }
+)
+    ensures { Puts W.taken W.failed sink.old sink.new (flat_map line_written
+        (code_lines word.now plan.now other.now code)) }
 {
     let figures = plan.code_figures(code);
     if has_code(other, figures) {
-        return Ok(());
+        return;
     }
-    write_parts(&[word, b" CODE ", figures, b"\n"], sink)
+    put_parts(&[word, b" CODE ", figures, b"\n"], sink);
 }
 
 /// Writes the range at an index, unless the other plan has it.
@@ -146,13 +141,13 @@ fn write_range_at<A: Allocator, W: Sink>(
     other: &Plan<A>,
     index: usize,
     sink: &mut W,
-) -> Result<(), WriteFault>
-    ensures { Wrote W.taken W.failed sink.old sink.new (flat_map line_written
-        (range_lines word.now plan.now other.now index)) result }
+)
+    ensures { Puts W.taken W.failed sink.old sink.new (flat_map line_written
+        (range_lines word.now plan.now other.now index)) }
 {
     match plan.range_at(index) {
         Some(range) => write_range(word, plan, other, range, sink),
-        None => Ok(()),
+        None => {}
     }
 }
 
@@ -163,19 +158,19 @@ fn write_range<A: Allocator, W: Sink>(
     other: &Plan<A>,
     range: LineRange,
     sink: &mut W,
-) -> Result<(), WriteFault>
-    ensures { Wrote W.taken W.failed sink.old sink.new (flat_map line_written
-        (lines_of_range word.now plan.now other.now range)) result }
+)
+    ensures { Puts W.taken W.failed sink.old sink.new (flat_map line_written
+        (lines_of_range word.now plan.now other.now range)) }
 {
     let code = plan.code_figures(range.code);
     let (low, high) = (range.low.bytes(), range.high.bytes());
     if has_range(other, code, low, high) {
-        return Ok(());
+        return;
     }
-    write_parts(
+    put_parts(
         &[word, b" LINES ", code, b" ", low, b" ", high, b"\n"],
         sink,
-    )
+    );
 }
 
 /// Whether a plan has the lines of a code from low to high, as one range.
@@ -227,30 +222,25 @@ fn write_group<A: Allocator, W: Sink>(
     other: &Plan<A>,
     group: GroupId,
     sink: &mut W,
-) -> Result<(), WriteFault>
-    ensures { Wrote W.taken W.failed sink.old sink.new (flat_map line_written
-        (group_lines word.now plan.now other.now group)) result }
+)
+    ensures { Puts W.taken W.failed sink.old sink.new (flat_map line_written
+        (group_lines word.now plan.now other.now group)) }
 {
     let name = plan.group_name(group);
     if has_group(other, name) {
-        return Ok(());
+        return;
     }
-    write_parts(&[word, b" GROUP ", name, b"\n"], sink)
+    put_parts(&[word, b" GROUP ", name, b"\n"], sink);
 }
 
 /// Writes the groups that get another number of circuits.
-fn write_circuits<A: Allocator, W: Sink>(
-    old: &Plan<A>,
-    new: &Plan<A>,
-    sink: &mut W,
-) -> Result<(), WriteFault>
-    ensures { Wrote W.taken W.failed sink.old sink.new (each_written
-        (circuits_lines old.now new.now) (length old.now.groups)) result }
+fn write_circuits<A: Allocator, W: Sink>(old: &Plan<A>, new: &Plan<A>, sink: &mut W)
+    ensures { Puts W.taken W.failed sink.old sink.new (each_written
+        (circuits_lines old.now new.now) (length old.now.groups)) }
 {
     for index in 0..old.groups() {
-        write_group_circuits(old, new, GroupId::of(index), sink)?;
+        write_group_circuits(old, new, GroupId::of(index), sink);
     }
-    Ok(())
 }
 
 /// Writes how many circuits a group has before and after, if the new plan has it.
@@ -259,36 +249,31 @@ fn write_group_circuits<A: Allocator, W: Sink>(
     new: &Plan<A>,
     group: GroupId,
     sink: &mut W,
-) -> Result<(), WriteFault>
-    ensures { Wrote W.taken W.failed sink.old sink.new (flat_map line_written
-        (circuits_lines old.now new.now group)) result }
+)
+    ensures { Puts W.taken W.failed sink.old sink.new (flat_map line_written
+        (circuits_lines old.now new.now group)) }
 {
     let name = old.group_name(group);
     match new.group_named(name) {
         Some(known) => write_counts(name, old.group_count(group), new.group_count(known), sink),
-        None => Ok(()),
+        None => {}
     }
 }
 
 /// Writes both numbers of circuits of a group, if they are not alike.
-fn write_counts<W: Sink>(
-    name: &[u8],
-    before: u32,
-    after: u32,
-    sink: &mut W,
-) -> Result<(), WriteFault>
-    ensures { Wrote W.taken W.failed sink.old sink.new (flat_map line_written
-        (lines_of_circuits name.now before after)) result }
+fn write_counts<W: Sink>(name: &[u8], before: u32, after: u32, sink: &mut W)
+    ensures { Puts W.taken W.failed sink.old sink.new (flat_map line_written
+        (lines_of_circuits name.now before after)) }
 {
     if before == after {
-        return Ok(());
+        return;
     }
     let mut first = Buffer::new();
     let mut second = Buffer::new();
     let before = first.format(before).as_bytes();
     let after = second.format(after).as_bytes();
-    write_parts(
+    put_parts(
         &[b"CIRCUITS ", name, b" ", before, b" ", after, b"\n"],
         sink,
-    )
+    );
 }

@@ -1,30 +1,29 @@
 // Texts on one line of a terminal.
 ghost use Rattle.std.specs.Prelude.{◌≡◌, ◌<◌};
-ghost use Rattle.tx_text.specs.Wrote.{Wrote};
+ghost use Rattle.tx_text.specs.Puts.{Puts};
 ghost use Rattle.tx_lint.specs.Escaped.{escaped, escaped_byte, hex_digit};
 
-use tx_text::{Sink, WriteFault, write_bytes, write_parts};
+use tx_text::{Sink, put_bytes, put_parts};
 
 /// Writes a text, as the name of a file, with its control bytes spelled, as `\n` and `\x1b`.
-pub fn write_escaped<W: Sink>(text: &[u8], sink: &mut W) -> Result<(), WriteFault>
-    ensures { Wrote W.taken W.failed sink.old sink.new (escaped text.now) result }
+pub fn write_escaped<W: Sink>(text: &[u8], sink: &mut W)
+    ensures { Puts W.taken W.failed sink.old sink.new (escaped text.now) }
 {
     for i in 0..text.len() {
-        write_byte(text[i], sink)?;
+        write_byte(text[i], sink);
     }
-    Ok(())
 }
 
-fn write_byte<W: Sink>(byte: u8, sink: &mut W) -> Result<(), WriteFault>
-    ensures { Wrote W.taken W.failed sink.old sink.new (escaped_byte byte) result }
+fn write_byte<W: Sink>(byte: u8, sink: &mut W)
+    ensures { Puts W.taken W.failed sink.old sink.new (escaped_byte byte) }
 {
     if byte == b'\n' {
-        write_bytes(b"\\n", sink)
+        put_bytes(b"\\n", sink)
     } else if byte < b' ' || byte == 127 {
         let digits = [hex_digit(byte / 16), hex_digit(byte % 16)];
-        write_parts(&[b"\\x", &digits], sink)
+        put_parts(&[b"\\x", &digits], sink)
     } else {
-        write_bytes(&[byte], sink)
+        put_bytes(&[byte], sink)
     }
 }
 

@@ -1,6 +1,7 @@
 // The writer of the faults or warnings of a text.
 ghost use Rattle.std.specs.Prelude.{◌≡◌, ◌++◌, codes, map, option_map};
 ghost use Rattle.std.specs.List.{flat_map};
+ghost use Rattle.tx_text.specs.Puts.{Puts};
 ghost use Rattle.tx_text.specs.Wrote.{Wrote};
 ghost use Rattle.tx_lint.specs.LintText.{word_text, told_line, fault_line, warning_word, warning_line};
 ghost use Rattle.tx_lint.specs.Lints.{fault_held, lint_held, lint_text};
@@ -14,7 +15,7 @@ use std::alloc::Allocator;
 use tx_plan::Plan;
 use tx_plantext::code_and_name;
 use tx_risk::Risks;
-use tx_text::{Sink, WriteFault, write_parts};
+use tx_text::{Sink, WriteFault, finish, put_bytes, put_parts};
 
 /// Writes a line for each fault or each warning, as `PLAN.txt:5: P9 Unknown SOUTH`, with the name
 /// of the file of the text.
@@ -52,7 +53,8 @@ fn write_fault<W: Sink>(fault: Fault<'_>, file: &[u8], sink: &mut W) -> Result<(
         code_and_name(fault.kind),
         fault.word,
         sink,
-    )
+    );
+    finish(sink)
 }
 
 fn write_warnings<A: Allocator, W: Sink>(
@@ -83,7 +85,8 @@ fn write_warning<A: Allocator, W: Sink>(
 {
     let (line, warning) = warning;
     let word = warning_word(plan, risks, warning);
-    write_line(file, line, warning.code_and_name(), word, sink)
+    write_line(file, line, warning.code_and_name(), word, sink);
+    finish(sink)
 }
 
 /// The code, the group or the risk that a warning speaks of.
@@ -112,25 +115,25 @@ fn write_line<'a, W: Sink>(
     row: (&'a [u8], &'a [u8]),
     word: Option<&'a [u8]>,
     sink: &mut W,
-) -> Result<(), WriteFault>
-    ensures { Wrote W.taken W.failed sink.old sink.new
+)
+    ensures { Puts W.taken W.failed sink.old sink.new
         (told_line file.now line (row.entry.0.now, row.entry.1.now)
-        (option_map (λ w. w.now) word.entry)) result }
+        (option_map (λ w. w.now) word.entry)) }
 {
     let mut number = Buffer::new();
     let line = number.format(line).as_bytes();
-    write_escaped(file, sink)?;
-    write_parts(&[b":", line, b": ", row.0, b" ", row.1], sink)?;
-    write_end(word, sink)
+    write_escaped(file, sink);
+    put_parts(&[b":", line, b": ", row.0, b" ", row.1], sink);
+    write_end(word, sink);
 }
 
 /// Writes a word, if there is one, and the end of the line.
-fn write_end<W: Sink>(word: Option<&[u8]>, sink: &mut W) -> Result<(), WriteFault>
-    ensures { Wrote W.taken W.failed sink.old sink.new
-        (word_text (option_map (λ w. w.now) word.entry) ++ codes "\n") result }
+fn write_end<W: Sink>(word: Option<&[u8]>, sink: &mut W)
+    ensures { Puts W.taken W.failed sink.old sink.new
+        (word_text (option_map (λ w. w.now) word.entry) ++ codes "\n") }
 {
     match word {
-        Some(word) => write_parts(&[b" ", word, b"\n"], sink),
-        None => write_parts(&[b"\n"], sink),
+        Some(word) => put_parts(&[b" ", word, b"\n"], sink),
+        None => put_bytes(b"\n", sink),
     }
 }

@@ -1,14 +1,14 @@
 // The lines of codes for which something cannot be served.
 ghost use Rattle.std.specs.Prelude.{◌≡◌, ◌==◌, length, filter};
 ghost use Rattle.std.specs.List.{flat_map};
-ghost use Rattle.tx_text.specs.Wrote.{Wrote};
+ghost use Rattle.tx_text.specs.Puts.{Puts};
 ghost use Rattle.tx_mend.specs.MendText.{missing_text, missing_for_code, missing_word, missing_of, code_line, code_lines};
 
 use crate::cause::{Missing, Unserved};
 use itoa::Buffer;
 use std::alloc::Allocator;
 use tx_plan::{CodeId, Plan};
-use tx_text::{Sink, WriteFault, write_parts};
+use tx_text::{Sink, put_bytes, put_parts};
 
 /// Writes a line for each code of which an origin cannot be served.
 pub fn write_codes<A: Allocator, W: Sink>(
@@ -16,14 +16,13 @@ pub fn write_codes<A: Allocator, W: Sink>(
     unserved: &[Unserved],
     missing: &[Missing],
     sink: &mut W,
-) -> Result<(), WriteFault>
-    ensures { Wrote W.taken W.failed sink.old sink.new
-        (code_lines plan.now unserved.now missing.now) result }
+)
+    ensures { Puts W.taken W.failed sink.old sink.new
+        (code_lines plan.now unserved.now missing.now) }
 {
     for index in 0..plan.codes() {
-        write_code(plan, unserved, missing, CodeId::of(index), sink)?;
+        write_code(plan, unserved, missing, CodeId::of(index), sink);
     }
-    Ok(())
 }
 
 /// How many of these are of a code.
@@ -40,20 +39,21 @@ fn write_code<A: Allocator, W: Sink>(
     missing: &[Missing],
     code: CodeId,
     sink: &mut W,
-) -> Result<(), WriteFault>
-    ensures { Wrote W.taken W.failed sink.old sink.new
-        (code_line plan.now unserved.now missing.now code) result }
+)
+    ensures { Puts W.taken W.failed sink.old sink.new
+        (code_line plan.now unserved.now missing.now code) }
 {
     let count = count_of(unserved, code);
     if count == 0 {
-        return Ok(());
+        return;
     }
     let mut buffer = Buffer::new();
-    let figures = plan.code_figures(code);
-    let number = buffer.format(count).as_bytes();
-    write_parts(&[b"CODE ", figures, b" UNSERVED ", number], sink)?;
-    write_missing(plan, missing, code, sink)?;
-    write_parts(&[b"\n"], sink)
+    put_bytes(b"CODE ", sink);
+    put_bytes(plan.code_figures(code), sink);
+    put_bytes(b" UNSERVED ", sink);
+    put_bytes(buffer.format(count).as_bytes(), sink);
+    write_missing(plan, missing, code, sink);
+    put_bytes(b"\n", sink);
 }
 
 /// Writes where groups are missing for a code, and how many.
@@ -62,22 +62,21 @@ fn write_missing<A: Allocator, W: Sink>(
     missing: &[Missing],
     code: CodeId,
     sink: &mut W,
-) -> Result<(), WriteFault>
-    ensures { Wrote W.taken W.failed sink.old sink.new
-        (missing_of plan.now missing.now code) result }
+)
+    ensures { Puts W.taken W.failed sink.old sink.new
+        (missing_of plan.now missing.now code) }
 {
-    write_word(missing, code, sink)?;
-    write_groups(plan, missing, code, sink)
+    write_word(missing, code, sink);
+    write_groups(plan, missing, code, sink);
 }
 
 /// Writes the word before them, if there are any.
-fn write_word<W: Sink>(missing: &[Missing], code: CodeId, sink: &mut W) -> Result<(), WriteFault>
-    ensures { Wrote W.taken W.failed sink.old sink.new (missing_word missing.now code) result }
+fn write_word<W: Sink>(missing: &[Missing], code: CodeId, sink: &mut W)
+    ensures { Puts W.taken W.failed sink.old sink.new (missing_word missing.now code) }
 {
     if missing.iter().any(|one| one.code == code) {
-        return write_parts(&[b" MISSING"], sink);
+        put_bytes(b" MISSING", sink);
     }
-    Ok(())
 }
 
 fn write_groups<A: Allocator, W: Sink>(
@@ -85,14 +84,13 @@ fn write_groups<A: Allocator, W: Sink>(
     missing: &[Missing],
     code: CodeId,
     sink: &mut W,
-) -> Result<(), WriteFault>
-    ensures { Wrote W.taken W.failed sink.old sink.new
-        (flat_map (missing_for_code plan.now code) missing.now) result }
+)
+    ensures { Puts W.taken W.failed sink.old sink.new
+        (flat_map (missing_for_code plan.now code) missing.now) }
 {
     for i in 0..missing.len() {
-        write_for_code(plan, missing[i], code, sink)?;
+        write_for_code(plan, missing[i], code, sink);
     }
-    Ok(())
 }
 
 fn write_for_code<A: Allocator, W: Sink>(
@@ -100,26 +98,21 @@ fn write_for_code<A: Allocator, W: Sink>(
     missing: Missing,
     code: CodeId,
     sink: &mut W,
-) -> Result<(), WriteFault>
-    ensures { Wrote W.taken W.failed sink.old sink.new
-        (missing_for_code plan.now code missing) result }
+)
+    ensures { Puts W.taken W.failed sink.old sink.new
+        (missing_for_code plan.now code missing) }
 {
     if missing.code == code {
-        write_one(plan, missing, sink)
-    } else {
-        Ok(())
+        write_one(plan, missing, sink);
     }
 }
 
-fn write_one<A: Allocator, W: Sink>(
-    plan: &Plan<A>,
-    missing: Missing,
-    sink: &mut W,
-) -> Result<(), WriteFault>
-    ensures { Wrote W.taken W.failed sink.old sink.new (missing_text plan.now missing) result }
+fn write_one<A: Allocator, W: Sink>(plan: &Plan<A>, missing: Missing, sink: &mut W)
+    ensures { Puts W.taken W.failed sink.old sink.new (missing_text plan.now missing) }
 {
     let mut buffer = Buffer::new();
-    let groups = buffer.format(missing.groups).as_bytes();
-    let name = plan.exchange_name(missing.exchange);
-    write_parts(&[b" ", name, b" ", groups], sink)
+    put_bytes(b" ", sink);
+    put_bytes(plan.exchange_name(missing.exchange), sink);
+    put_bytes(b" ", sink);
+    put_bytes(buffer.format(missing.groups).as_bytes(), sink);
 }

@@ -1,4 +1,5 @@
 // The writer of reports of mendings.
+ghost use Rattle.tx_text.specs.Puts.{Puts};
 ghost use Rattle.tx_text.specs.Wrote.{Wrote};
 ghost use Rattle.tx_mend.specs.MendText.{mended_text, mend_report};
 
@@ -8,7 +9,7 @@ use std::alloc::Allocator;
 use tx_plan::{Limits, Plan, Routes};
 use tx_plantext::write_changes;
 use tx_rank::write_asked;
-use tx_text::{Sink, WriteFault, write_parts};
+use tx_text::{Sink, WriteFault, finish, put_bytes};
 
 /// Writes the report of a mending: the lists that change, with the old ones if they are asked for,
 /// and YES, or what cannot be served and NO.
@@ -27,6 +28,7 @@ pub fn write_mending<A: Allocator, W: Sink>(
             write_unserved(plan, limits, unserved, missing, pair, sink)
         }
     }
+    finish(sink)
 }
 
 /// Writes what was asked, each list of a plan that is another one than before, with the one before
@@ -37,11 +39,11 @@ fn write_mended<A: Allocator, W: Sink>(
     limits: Limits,
     with_old: bool,
     sink: &mut W,
-) -> Result<(), WriteFault>
-    ensures { Wrote W.taken W.failed sink.old sink.new
-        (mended_text with_old before.now plan.now limits.limit limits.spare) result }
+)
+    ensures { Puts W.taken W.failed sink.old sink.new
+        (mended_text with_old before.now plan.now limits.limit limits.spare) }
 {
-    write_asked(b"MEND", limits, sink)?;
-    write_changes(before, plan, with_old, sink)?;
-    write_parts(&[b"VERDICT YES\n"], sink)
+    write_asked(b"MEND", limits, sink);
+    write_changes(before, plan, with_old, sink);
+    put_bytes(b"VERDICT YES\n", sink);
 }

@@ -1,5 +1,6 @@
 // The writer of the report of an order.
 ghost use Rattle.std.specs.Prelude.{◌≡◌, ◌<◌, ◌+◌};
+ghost use Rattle.tx_text.specs.Puts.{Puts};
 ghost use Rattle.tx_text.specs.Wrote.{Wrote};
 ghost use Rattle.tx_plan.specs.Routes.{route_list, is_barred};
 ghost use Rattle.tx_plantext.specs.ChangedLists.{line_unless_same};
@@ -16,7 +17,7 @@ use tx_join::write_differences;
 use tx_plan::{CodeId, ExchangeId, Limits, Plan};
 use tx_plantext::write_new_list;
 use tx_rank::{Finding, Ranking, write_asked, write_no};
-use tx_text::{Sink, WriteFault, write_parts};
+use tx_text::{Sink, WriteFault, finish, put_bytes, put_parts};
 
 /// Writes the report of the search for an order: what was asked, in what the plans differ beside
 /// lists and bars, and then the stages with what each switches, with the old lists if they are asked
@@ -32,9 +33,10 @@ pub(crate) fn write_order<A: Allocator, W: Sink>(
     ensures { Wrote W.taken W.failed sink.old sink.new
         (order_report with_old old.now new.now limits.limit limits.spare verdict.now) result }
 {
-    write_asked(b"ORDER", limits, sink)?;
-    write_differences(old, new, sink)?;
-    write_verdict(new, verdict, with_old, sink)
+    write_asked(b"ORDER", limits, sink);
+    write_differences(old, new, sink);
+    write_verdict(new, verdict, with_old, sink);
+    finish(sink)
 }
 
 /// Writes the lines of the verdict.
@@ -43,9 +45,9 @@ fn write_verdict<A: Allocator, W: Sink>(
     verdict: &OrderVerdict<A>,
     with_old: bool,
     sink: &mut W,
-) -> Result<(), WriteFault>
-    ensures { Wrote W.taken W.failed sink.old sink.new
-        (verdict_text with_old new.now verdict.now) result }
+)
+    ensures { Puts W.taken W.failed sink.old sink.new
+        (verdict_text with_old new.now verdict.now) }
 {
     match verdict {
         OrderVerdict::Ordered(order) => write_stages(order, with_old, sink),
@@ -55,47 +57,34 @@ fn write_verdict<A: Allocator, W: Sink>(
 }
 
 /// Writes the stages of an order, and YES.
-fn write_stages<A: Allocator, W: Sink>(
-    order: &Order<A>,
-    with_old: bool,
-    sink: &mut W,
-) -> Result<(), WriteFault>
-    ensures { Wrote W.taken W.failed sink.old sink.new (stages_text with_old order.now) result }
+fn write_stages<A: Allocator, W: Sink>(order: &Order<A>, with_old: bool, sink: &mut W)
+    ensures { Puts W.taken W.failed sink.old sink.new (stages_text with_old order.now) }
 {
     for stage in 0..order.stages() {
-        write_stage(order, stage, with_old, sink)?;
+        write_stage(order, stage, with_old, sink);
     }
-    write_parts(&[b"VERDICT YES\n"], sink)
+    put_bytes(b"VERDICT YES\n", sink);
 }
 
 /// Writes a stage with its number, from 1, and what it switches.
-fn write_stage<A: Allocator, W: Sink>(
-    order: &Order<A>,
-    stage: usize,
-    with_old: bool,
-    sink: &mut W,
-) -> Result<(), WriteFault>
+fn write_stage<A: Allocator, W: Sink>(order: &Order<A>, stage: usize, with_old: bool, sink: &mut W)
     requires { stage < stages_in order.now }
-    ensures { Wrote W.taken W.failed sink.old sink.new
-        (stage_text with_old order.now stage) result }
+    ensures { Puts W.taken W.failed sink.old sink.new
+        (stage_text with_old order.now stage) }
 {
-    write_number(order, stage, sink)?;
-    write_exchanges(order, stage, with_old, sink)
+    write_number(order, stage, sink);
+    write_exchanges(order, stage, with_old, sink);
 }
 
 /// Writes the line that begins a stage.
-fn write_number<A: Allocator, W: Sink>(
-    order: &Order<A>,
-    stage: usize,
-    sink: &mut W,
-) -> Result<(), WriteFault>
+fn write_number<A: Allocator, W: Sink>(order: &Order<A>, stage: usize, sink: &mut W)
     requires { stage < stages_in order.now }
-    ensures { Wrote W.taken W.failed sink.old sink.new (stage_line stage) result }
+    ensures { Puts W.taken W.failed sink.old sink.new (stage_line stage) }
 {
     order.rules();
     let mut buffer = Buffer::new();
     let number = buffer.format(stage + 1).as_bytes();
-    write_parts(&[b"STAGE ", number, b"\n"], sink)
+    put_parts(&[b"STAGE ", number, b"\n"], sink);
 }
 
 /// Writes what it switches, exchange by exchange.
@@ -104,17 +93,16 @@ fn write_exchanges<A: Allocator, W: Sink>(
     stage: usize,
     with_old: bool,
     sink: &mut W,
-) -> Result<(), WriteFault>
+)
     requires { stage < stages_in order.now }
-    ensures { Wrote W.taken W.failed sink.old sink.new
+    ensures { Puts W.taken W.failed sink.old sink.new
         (switched_lines with_old order.now.transition.new (plan_before order.now stage)
-        (plan_before order.now (stage + 1))) result }
+        (plan_before order.now (stage + 1))) }
 {
     let plan = order.new_plan();
     for index in 0..plan.exchanges() {
-        write_exchange(order, stage, ExchangeId::of(index), with_old, sink)?;
+        write_exchange(order, stage, ExchangeId::of(index), with_old, sink);
     }
-    Ok(())
 }
 
 /// Writes what it switches at an exchange, code by code.
@@ -124,17 +112,16 @@ fn write_exchange<A: Allocator, W: Sink>(
     exchange: ExchangeId,
     with_old: bool,
     sink: &mut W,
-) -> Result<(), WriteFault>
+)
     requires { stage < stages_in order.now }
-    ensures { Wrote W.taken W.failed sink.old sink.new
+    ensures { Puts W.taken W.failed sink.old sink.new
         (exchange_lines with_old order.now.transition.new (plan_before order.now stage)
-        (plan_before order.now (stage + 1)) exchange) result }
+        (plan_before order.now (stage + 1)) exchange) }
 {
     let plan = order.new_plan();
     for index in 0..plan.codes() {
-        write_entry(order, stage, exchange, CodeId::of(index), with_old, sink)?;
+        write_entry(order, stage, exchange, CodeId::of(index), with_old, sink);
     }
-    Ok(())
 }
 
 /// Writes what it switches at an exchange for a code: the bar and the list.
@@ -145,14 +132,14 @@ fn write_entry<A: Allocator, W: Sink>(
     code: CodeId,
     with_old: bool,
     sink: &mut W,
-) -> Result<(), WriteFault>
+)
     requires { stage < stages_in order.now }
-    ensures { Wrote W.taken W.failed sink.old sink.new
+    ensures { Puts W.taken W.failed sink.old sink.new
         (entry_lines with_old order.now.transition.new (plan_before order.now stage)
-        (plan_before order.now (stage + 1)) exchange code) result }
+        (plan_before order.now (stage + 1)) exchange code) }
 {
-    write_bar(order, stage, exchange, code, sink)?;
-    write_switched_list(order, stage, exchange, code, with_old, sink)
+    write_bar(order, stage, exchange, code, sink);
+    write_switched_list(order, stage, exchange, code, with_old, sink);
 }
 
 /// Writes that a bar is set or lifted, if it is.
@@ -162,12 +149,12 @@ fn write_bar<A: Allocator, W: Sink>(
     exchange: ExchangeId,
     code: CodeId,
     sink: &mut W,
-) -> Result<(), WriteFault>
+)
     requires { stage < stages_in order.now }
-    ensures { Wrote W.taken W.failed sink.old sink.new
+    ensures { Puts W.taken W.failed sink.old sink.new
         (bar_line order.now.transition.new exchange code
         (is_barred (plan_before order.now stage) exchange code)
-        (is_barred (plan_before order.now (stage + 1)) exchange code)) result }
+        (is_barred (plan_before order.now (stage + 1)) exchange code)) }
 {
     order.rules();
     let plan = order.new_plan();
@@ -176,7 +163,7 @@ fn write_bar<A: Allocator, W: Sink>(
     match (before, now) {
         (false, true) => write_pair(plan, b"BAR ", exchange, code, sink),
         (true, false) => write_pair(plan, b"UNBAR ", exchange, code, sink),
-        (false, false) | (true, true) => Ok(()),
+        (false, false) | (true, true) => {}
     }
 }
 
@@ -187,12 +174,12 @@ fn write_pair<A: Allocator, W: Sink>(
     exchange: ExchangeId,
     code: CodeId,
     sink: &mut W,
-) -> Result<(), WriteFault>
-    ensures { Wrote W.taken W.failed sink.old sink.new
-        (pair_line plan.now word.now exchange code) result }
+)
+    ensures { Puts W.taken W.failed sink.old sink.new
+        (pair_line plan.now word.now exchange code) }
 {
     let name = plan.exchange_name(exchange);
-    write_parts(&[word, name, b" ", plan.code_figures(code), b"\n"], sink)
+    put_parts(&[word, name, b" ", plan.code_figures(code), b"\n"], sink);
 }
 
 /// Writes the list that is set, if it is another one, and the old one if that is asked for.
@@ -203,19 +190,19 @@ fn write_switched_list<A: Allocator, W: Sink>(
     code: CodeId,
     with_old: bool,
     sink: &mut W,
-) -> Result<(), WriteFault>
+)
     requires { stage < stages_in order.now }
-    ensures { Wrote W.taken W.failed sink.old sink.new
+    ensures { Puts W.taken W.failed sink.old sink.new
         (line_unless_same with_old order.now.transition.new code exchange
         (route_list (plan_before order.now stage) exchange code)
-        (route_list (plan_before order.now (stage + 1)) exchange code)) result }
+        (route_list (plan_before order.now (stage + 1)) exchange code)) }
 {
     order.rules();
     let old = order.list(stage, exchange, code);
     if old == order.list(stage + 1, exchange, code) {
-        return Ok(());
+        return;
     }
-    write_new_list(order.new_plan(), code, exchange, old, with_old, sink)
+    write_new_list(order.new_plan(), code, exchange, old, with_old, sink);
 }
 
 /// Writes the findings of both plans over the joined network, and NO with their number.
@@ -224,15 +211,15 @@ fn write_no_order<A: Allocator, W: Sink>(
     before: &Ranking<A>,
     after: &Ranking<A>,
     sink: &mut W,
-) -> Result<(), WriteFault>
-    ensures { Wrote W.taken W.failed sink.old sink.new
-        (no_order_text plan.now (findings_of before.now) (findings_of after.now)) result }
+)
+    ensures { Puts W.taken W.failed sink.old sink.new
+        (no_order_text plan.now (findings_of before.now) (findings_of after.now)) }
 {
     let before = findings(before);
     let after = findings(after);
-    write_findings_after(b"OLD ", plan, before, sink)?;
-    write_findings_after(b"NEW ", plan, after, sink)?;
-    write_no(before.len() + after.len(), sink)
+    write_findings_after(b"OLD ", plan, before, sink);
+    write_findings_after(b"NEW ", plan, after, sink);
+    write_no(before.len() + after.len(), sink);
 }
 
 /// What a ranking found.

@@ -1,5 +1,5 @@
 // The change from an old plan, on a page.
-ghost use Rattle.tx_html.specs.Shows.{Showed};
+ghost use Rattle.tx_html.specs.Shows.{Sets};
 ghost use Rattle.tx_page.specs.ChangeTexts.{network_texts, switching_texts, change_texts};
 
 use crate::stages::{write_difference, write_stages};
@@ -8,7 +8,6 @@ use tx_change::Difference;
 use tx_html::{PageSink, Part, set};
 use tx_join::Joined;
 use tx_order::Switching;
-use tx_text::WriteFault;
 
 /// The change of an old plan into the plan of a page.
 #[derive(Drop)]
@@ -27,23 +26,20 @@ pub(crate) fn write_change<A: Allocator, W: PageSink>(
     change: &Change<'_, A>,
     safe: bool,
     sink: &mut W,
-) -> Result<(), WriteFault>
-    ensures { Showed W.seen sink.old sink.new (change_texts safe change.now) result }
+)
+    ensures { Sets W.seen sink.old sink.new (change_texts safe change.now) }
 {
-    set(&[Part::Own("<h2>The change</h2>")], sink)?;
-    write_network(change.difference, sink)?;
-    write_switching(change, safe, sink)
+    set(&[Part::Own("<h2>The change</h2>")], sink);
+    write_network(change.difference, sink);
+    write_switching(change, safe, sink);
 }
 
 /// Writes that the plans declare other things, if they do.
-fn write_network<W: PageSink>(
-    difference: Option<Difference>,
-    sink: &mut W,
-) -> Result<(), WriteFault>
-    ensures { Showed W.seen sink.old sink.new (network_texts difference) result }
+fn write_network<W: PageSink>(difference: Option<Difference>, sink: &mut W)
+    ensures { Sets W.seen sink.old sink.new (network_texts difference) }
 {
     if difference.is_none() {
-        return Ok(());
+        return;
     }
     set(
         &[
@@ -52,7 +48,7 @@ fn write_network<W: PageSink>(
             Part::Own(BESIDE_LISTS),
         ],
         sink,
-    )
+    );
 }
 
 const BESIDE_LISTS: &str = " in what they declare, or in its order: <code>telexplan order</code> \
@@ -61,13 +57,9 @@ first, with their lists. Then come the lists and bars below. At last lines and c
 closed and what goes is taken away, and then new lines are opened and new codes admitted.</p>";
 
 /// Writes the stages, or all that differs.
-fn write_switching<A: Allocator, W: PageSink>(
-    change: &Change<'_, A>,
-    safe: bool,
-    sink: &mut W,
-) -> Result<(), WriteFault>
-    ensures { Showed W.seen sink.old sink.new
-        (switching_texts safe change.now.joined.now change.now.switching.now) result }
+fn write_switching<A: Allocator, W: PageSink>(change: &Change<'_, A>, safe: bool, sink: &mut W)
+    ensures { Sets W.seen sink.old sink.new
+        (switching_texts safe change.now.joined.now change.now.switching.now) }
 {
     match change.switching {
         Switching::Ordered(order) if safe => write_stages(order, sink),

@@ -1,7 +1,7 @@
 // The codes of a plan.
 ghost use Rattle.std.specs.Prelude.{[], ◌∷◌, decimal};
 ghost use Rattle.tx_plan.specs.Plan.{exchange_name, figures_of, home_of};
-ghost use Rattle.tx_html.specs.Shows.{Showed};
+ghost use Rattle.tx_html.specs.Shows.{Sets};
 ghost use Rattle.tx_page.specs.Heading.{lines_of};
 ghost use Rattle.tx_page.specs.CodeTexts.{bounds_texts, code_texts, codes_texts};
 
@@ -10,7 +10,6 @@ use std::alloc::Allocator;
 use tx_html::{PageSink, Part, set};
 use tx_plan::{CodeId, Plan};
 use tx_rank::{Bounds, Grade};
-use tx_text::WriteFault;
 
 const HEAD: &str = "<h2>Codes</h2><div class=\"t\"><table><thead><tr><th scope=\"col\">Code</th>\
 <th scope=\"col\">Home</th><th scope=\"col\" class=\"k\">Lines</th><th scope=\"col\" \
@@ -23,13 +22,13 @@ pub fn write_codes<A: Allocator, W: PageSink>(
     grade: &Grade<A>,
     linked: bool,
     sink: &mut W,
-) -> Result<(), WriteFault>
-    ensures { Showed W.seen sink.old sink.new
-        (codes_texts plan.now grade.now.codes.items) result }
+)
+    ensures { Sets W.seen sink.old sink.new
+        (codes_texts plan.now grade.now.codes.items) }
 {
-    set(&[Part::Own(HEAD)], sink)?;
-    write_rows(plan, &grade.codes, linked, sink)?;
-    set(&[Part::Own("</tbody></table></div>")], sink)
+    set(&[Part::Own(HEAD)], sink);
+    write_rows(plan, &grade.codes, linked, sink);
+    set(&[Part::Own("</tbody></table></div>")], sink);
 }
 
 fn write_rows<A: Allocator, W: PageSink>(
@@ -37,13 +36,12 @@ fn write_rows<A: Allocator, W: PageSink>(
     grades: &[(CodeId, Option<Bounds>)],
     linked: bool,
     sink: &mut W,
-) -> Result<(), WriteFault>
-    ensures { Showed W.seen sink.old sink.new (codes_texts plan.now grades.now) result }
+)
+    ensures { Sets W.seen sink.old sink.new (codes_texts plan.now grades.now) }
 {
     for i in 0..grades.len() {
-        write_row(plan, grades[i], linked, sink)?;
+        write_row(plan, grades[i], linked, sink);
     }
-    Ok(())
 }
 
 fn write_row<A: Allocator, W: PageSink>(
@@ -51,24 +49,19 @@ fn write_row<A: Allocator, W: PageSink>(
     grade: (CodeId, Option<Bounds>),
     linked: bool,
     sink: &mut W,
-) -> Result<(), WriteFault>
-    ensures { Showed W.seen sink.old sink.new (code_texts plan.now grade) result }
+)
+    ensures { Sets W.seen sink.old sink.new (code_texts plan.now grade) }
 {
-    write_code(plan, grade.0, linked, sink)?;
-    write_bounds(grade.1, sink)
+    write_code(plan, grade.0, linked, sink);
+    write_bounds(grade.1, sink);
 }
 
-fn write_code<A: Allocator, W: PageSink>(
-    plan: &Plan<A>,
-    code: CodeId,
-    linked: bool,
-    sink: &mut W,
-) -> Result<(), WriteFault>
-    ensures { Showed W.seen sink.old sink.new
+fn write_code<A: Allocator, W: PageSink>(plan: &Plan<A>, code: CodeId, linked: bool, sink: &mut W)
+    ensures { Sets W.seen sink.old sink.new
         (figures_of plan.now code ∷ exchange_name plan.now (home_of plan.now code)
-        ∷ decimal (lines_of plan.now code) ∷ []) result }
+        ∷ decimal (lines_of plan.now code) ∷ []) }
 {
-    write_figures(plan, code, linked, sink)?;
+    write_figures(plan, code, linked, sink);
     set(
         &[
             Part::Own("</th><td>"),
@@ -77,7 +70,7 @@ fn write_code<A: Allocator, W: PageSink>(
             Part::Count(lines_of(plan, code)),
         ],
         sink,
-    )
+    );
 }
 
 /// Writes the figures of a code, which may be a link to its picture.
@@ -86,15 +79,16 @@ fn write_figures<A: Allocator, W: PageSink>(
     code: CodeId,
     linked: bool,
     sink: &mut W,
-) -> Result<(), WriteFault>
-    ensures { Showed W.seen sink.old sink.new (figures_of plan.now code ∷ []) result }
+)
+    ensures { Sets W.seen sink.old sink.new (figures_of plan.now code ∷ []) }
 {
     let figures = plan.code_figures(code);
     if !linked {
-        return set(
+        set(
             &[Part::Own("<tr><th scope=\"row\">"), Part::Text(figures)],
             sink,
         );
+        return;
     }
     set(
         &[
@@ -105,11 +99,11 @@ fn write_figures<A: Allocator, W: PageSink>(
             Part::Own("</a>"),
         ],
         sink,
-    )
+    );
 }
 
-fn write_bounds<W: PageSink>(bounds: Option<Bounds>, sink: &mut W) -> Result<(), WriteFault>
-    ensures { Showed W.seen sink.old sink.new (bounds_texts bounds) result }
+fn write_bounds<W: PageSink>(bounds: Option<Bounds>, sink: &mut W)
+    ensures { Sets W.seen sink.old sink.new (bounds_texts bounds) }
 {
     match bounds {
         Some(bounds) => set(

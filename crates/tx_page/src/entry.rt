@@ -1,13 +1,12 @@
 // A row of a table of what is switched.
 ghost use Rattle.std.specs.Prelude.{◌≡◌, [], ◌∷◌};
-ghost use Rattle.tx_html.specs.Shows.{Showed};
+ghost use Rattle.tx_html.specs.Shows.{Sets};
 ghost use Rattle.tx_page.specs.ChangeTexts.{bar_word, entry_texts, switched_texts};
 
 use std::alloc::Allocator;
 use tx_html::{PageSink, Part, set};
 use tx_plan::{CodeId, ExchangeId, GroupId, Plan};
 use tx_svg::write_groups;
-use tx_text::WriteFault;
 
 /// What an exchange has for a code before a stage and after it.
 #[derive(Clone, Copy)]
@@ -32,30 +31,22 @@ fn bar_word(was: bool, is: bool) -> &'static [u8]
 }
 
 /// Writes a row, if the list or the bar is another one.
-pub fn write_switched<A: Allocator, W: PageSink>(
-    plan: &Plan<A>,
-    entry: &Entry<'_>,
-    sink: &mut W,
-) -> Result<(), WriteFault>
-    ensures { Showed W.seen sink.old sink.new
+pub fn write_switched<A: Allocator, W: PageSink>(plan: &Plan<A>, entry: &Entry<'_>, sink: &mut W)
+    ensures { Sets W.seen sink.old sink.new
         (switched_texts plan.now entry.now.exchange entry.now.code entry.now.before.now
-        entry.now.after.now entry.now.was_barred entry.now.is_barred) result }
+        entry.now.after.now entry.now.was_barred entry.now.is_barred) }
 {
     let bar = bar_word(entry.was_barred, entry.is_barred);
     if entry.before == entry.after && bar.is_empty() {
-        return Ok(());
+        return;
     }
-    write_entry(plan, entry, sink)
+    write_entry(plan, entry, sink);
 }
 
-fn write_entry<A: Allocator, W: PageSink>(
-    plan: &Plan<A>,
-    entry: &Entry<'_>,
-    sink: &mut W,
-) -> Result<(), WriteFault>
-    ensures { Showed W.seen sink.old sink.new
+fn write_entry<A: Allocator, W: PageSink>(plan: &Plan<A>, entry: &Entry<'_>, sink: &mut W)
+    ensures { Sets W.seen sink.old sink.new
         (entry_texts plan.now entry.now.exchange entry.now.code entry.now.before.now
-        entry.now.after.now entry.now.was_barred entry.now.is_barred) result }
+        entry.now.after.now entry.now.was_barred entry.now.is_barred) }
 {
     set(
         &[
@@ -66,16 +57,16 @@ fn write_entry<A: Allocator, W: PageSink>(
             Part::Own("</td><td>"),
         ],
         sink,
-    )?;
-    write_groups(plan, entry.before, sink)?;
-    set(&[Part::Own("</td><td>")], sink)?;
-    write_groups(plan, entry.after, sink)?;
-    write_bar(bar_word(entry.was_barred, entry.is_barred), sink)
+    );
+    write_groups(plan, entry.before, sink);
+    set(&[Part::Own("</td><td>")], sink);
+    write_groups(plan, entry.after, sink);
+    write_bar(bar_word(entry.was_barred, entry.is_barred), sink);
 }
 
 /// Writes what happens to a bar, and the end of the row.
-fn write_bar<W: PageSink>(bar: &[u8], sink: &mut W) -> Result<(), WriteFault>
-    ensures { Showed W.seen sink.old sink.new (bar.now ∷ []) result }
+fn write_bar<W: PageSink>(bar: &[u8], sink: &mut W)
+    ensures { Sets W.seen sink.old sink.new (bar.now ∷ []) }
 {
     set(
         &[
@@ -84,5 +75,5 @@ fn write_bar<W: PageSink>(bar: &[u8], sink: &mut W) -> Result<(), WriteFault>
             Part::Own("</td></tr>"),
         ],
         sink,
-    )
+    );
 }

@@ -1,7 +1,7 @@
 // What is wrong with a plan.
 ghost use Rattle.std.specs.Prelude.{[], ◌∷◌, map};
 ghost use Rattle.tx_plan.specs.Plan.{figures_of, group_name};
-ghost use Rattle.tx_html.specs.Shows.{Showed};
+ghost use Rattle.tx_html.specs.Shows.{Sets};
 ghost use Rattle.tx_page.specs.WrongTexts.{step_texts, steps_texts, walk_texts, loop_texts, short_texts, long_texts, finding_texts, findings_texts, wrong_texts};
 
 use crate::walks::{listed_before, start_of, steps_of};
@@ -10,7 +10,6 @@ use tx_html::{PageSink, Part, set};
 use tx_plan::{CodeId, ExchangeId, GroupId, Limits, Plan};
 use tx_rank::{Finding, Ranking, Walk};
 use tx_svg::write_groups;
-use tx_text::WriteFault;
 
 /// Writes what is wrong, if anything is.
 pub fn write_wrong<A: Allocator, W: PageSink>(
@@ -18,12 +17,12 @@ pub fn write_wrong<A: Allocator, W: PageSink>(
     ranking: &Ranking<A>,
     limits: Limits,
     sink: &mut W,
-) -> Result<(), WriteFault>
-    ensures { Showed W.seen sink.old sink.new
-        (wrong_texts plan.now limits.spare ranking.now) result }
+)
+    ensures { Sets W.seen sink.old sink.new
+        (wrong_texts plan.now limits.spare ranking.now) }
 {
     match ranking {
-        Ranking::Found(_) => Ok(()),
+        Ranking::Found(_) => {}
         Ranking::Fails(findings) => write_findings(plan, findings, limits, sink),
     }
 }
@@ -34,13 +33,13 @@ fn write_findings<A: Allocator, W: PageSink>(
     findings: &[Finding<A>],
     limits: Limits,
     sink: &mut W,
-) -> Result<(), WriteFault>
-    ensures { Showed W.seen sink.old sink.new
-        (findings_texts plan.now limits.spare findings.now) result }
+)
+    ensures { Sets W.seen sink.old sink.new
+        (findings_texts plan.now limits.spare findings.now) }
 {
-    set(&[Part::Own("<h2>What is wrong</h2><ol class=\"f\">")], sink)?;
-    write_all(plan, findings, limits, sink)?;
-    set(&[Part::Own("</ol>")], sink)
+    set(&[Part::Own("<h2>What is wrong</h2><ol class=\"f\">")], sink);
+    write_all(plan, findings, limits, sink);
+    set(&[Part::Own("</ol>")], sink);
 }
 
 fn write_all<A: Allocator, W: PageSink>(
@@ -48,14 +47,13 @@ fn write_all<A: Allocator, W: PageSink>(
     findings: &[Finding<A>],
     limits: Limits,
     sink: &mut W,
-) -> Result<(), WriteFault>
-    ensures { Showed W.seen sink.old sink.new
-        (findings_texts plan.now limits.spare findings.now) result }
+)
+    ensures { Sets W.seen sink.old sink.new
+        (findings_texts plan.now limits.spare findings.now) }
 {
     for i in 0..findings.len() {
-        write_finding(plan, &findings[i], limits, sink)?;
+        write_finding(plan, &findings[i], limits, sink);
     }
-    Ok(())
 }
 
 fn write_finding<A: Allocator, W: PageSink>(
@@ -63,9 +61,9 @@ fn write_finding<A: Allocator, W: PageSink>(
     finding: &Finding<A>,
     limits: Limits,
     sink: &mut W,
-) -> Result<(), WriteFault>
-    ensures { Showed W.seen sink.old sink.new
-        (finding_texts plan.now limits.spare finding.now) result }
+)
+    ensures { Sets W.seen sink.old sink.new
+        (finding_texts plan.now limits.spare finding.now) }
 {
     match finding {
         Finding::Ambiguous(shorter, longer) => write_pair(plan, *shorter, *longer, sink),
@@ -80,9 +78,9 @@ fn write_pair<A: Allocator, W: PageSink>(
     shorter: CodeId,
     longer: CodeId,
     sink: &mut W,
-) -> Result<(), WriteFault>
-    ensures { Showed W.seen sink.old sink.new
-        (figures_of plan.now shorter ∷ figures_of plan.now longer ∷ []) result }
+)
+    ensures { Sets W.seen sink.old sink.new
+        (figures_of plan.now shorter ∷ figures_of plan.now longer ∷ []) }
 {
     set(
         &[
@@ -93,16 +91,11 @@ fn write_pair<A: Allocator, W: PageSink>(
             Part::Own(", so a call for the first may be taken for one for the second.</li>"),
         ],
         sink,
-    )
+    );
 }
 
-fn write_loop<A: Allocator, W: PageSink>(
-    plan: &Plan<A>,
-    code: CodeId,
-    walk: &Walk<A>,
-    sink: &mut W,
-) -> Result<(), WriteFault>
-    ensures { Showed W.seen sink.old sink.new (loop_texts plan.now code walk.now) result }
+fn write_loop<A: Allocator, W: PageSink>(plan: &Plan<A>, code: CodeId, walk: &Walk<A>, sink: &mut W)
+    ensures { Sets W.seen sink.old sink.new (loop_texts plan.now code walk.now) }
 {
     set(
         &[
@@ -113,8 +106,8 @@ fn write_loop<A: Allocator, W: PageSink>(
             Part::Own("."),
         ],
         sink,
-    )?;
-    write_walk(plan, code, walk, &[], sink)
+    );
+    write_walk(plan, code, walk, &[], sink);
 }
 
 fn write_short<A: Allocator, W: PageSink>(
@@ -123,9 +116,9 @@ fn write_short<A: Allocator, W: PageSink>(
     walk: &Walk<A>,
     spare: u8,
     sink: &mut W,
-) -> Result<(), WriteFault>
-    ensures { Showed W.seen sink.old sink.new
-        (short_texts plan.now spare code walk.now) result }
+)
+    ensures { Sets W.seen sink.old sink.new
+        (short_texts plan.now spare code walk.now) }
 {
     let end = walk.end();
     let list = plan.list(end, code);
@@ -142,17 +135,12 @@ fn write_short<A: Allocator, W: PageSink>(
             Part::Own("."),
         ],
         sink,
-    )?;
-    write_walk(plan, code, walk, list, sink)
+    );
+    write_walk(plan, code, walk, list, sink);
 }
 
-fn write_long<A: Allocator, W: PageSink>(
-    plan: &Plan<A>,
-    code: CodeId,
-    walk: &Walk<A>,
-    sink: &mut W,
-) -> Result<(), WriteFault>
-    ensures { Showed W.seen sink.old sink.new (long_texts plan.now code walk.now) result }
+fn write_long<A: Allocator, W: PageSink>(plan: &Plan<A>, code: CodeId, walk: &Walk<A>, sink: &mut W)
+    ensures { Sets W.seen sink.old sink.new (long_texts plan.now code walk.now) }
 {
     set(
         &[
@@ -167,8 +155,8 @@ fn write_long<A: Allocator, W: PageSink>(
             Part::Own("."),
         ],
         sink,
-    )?;
-    write_walk(plan, code, walk, &[], sink)
+    );
+    write_walk(plan, code, walk, &[], sink);
 }
 
 /// Writes a walk as boxes with arrows. Below each exchange are the groups that have no free circuit
@@ -179,14 +167,14 @@ fn write_walk<A: Allocator, W: PageSink>(
     walk: &Walk<A>,
     full: &[GroupId],
     sink: &mut W,
-) -> Result<(), WriteFault>
-    ensures { Showed W.seen sink.old sink.new
-        (walk_texts plan.now code walk.now full.now) result }
+)
+    ensures { Sets W.seen sink.old sink.new
+        (walk_texts plan.now code walk.now full.now) }
 {
-    set(&[Part::Own("<ol class=\"w\">")], sink)?;
-    write_steps(plan, code, start_of(walk), steps_of(walk), sink)?;
-    write_full(plan, full, sink)?;
-    set(&[Part::Own("</li></ol></li>")], sink)
+    set(&[Part::Own("<ol class=\"w\">")], sink);
+    write_steps(plan, code, start_of(walk), steps_of(walk), sink);
+    write_full(plan, full, sink);
+    set(&[Part::Own("</li></ol></li>")], sink);
 }
 
 /// Writes the steps of a walk, and the exchange where it ends.
@@ -196,14 +184,14 @@ fn write_steps<A: Allocator, W: PageSink>(
     start: ExchangeId,
     steps: &[(GroupId, ExchangeId)],
     sink: &mut W,
-) -> Result<(), WriteFault>
-    ensures { Showed W.seen sink.old sink.new
-        (steps_texts plan.now code start steps.now) result }
+)
+    ensures { Sets W.seen sink.old sink.new
+        (steps_texts plan.now code start steps.now) }
 {
     let mut at = start;
     for i in 0..steps.len() {
         let step = steps[i];
-        write_step(plan, code, at, step.0, sink)?;
+        write_step(plan, code, at, step.0, sink);
         at = step.1;
     }
     set(
@@ -213,7 +201,7 @@ fn write_steps<A: Allocator, W: PageSink>(
             Part::Own("</b>"),
         ],
         sink,
-    )
+    );
 }
 
 fn write_step<A: Allocator, W: PageSink>(
@@ -222,9 +210,9 @@ fn write_step<A: Allocator, W: PageSink>(
     from: ExchangeId,
     group: GroupId,
     sink: &mut W,
-) -> Result<(), WriteFault>
-    ensures { Showed W.seen sink.old sink.new
-        (step_texts plan.now code from group) result }
+)
+    ensures { Sets W.seen sink.old sink.new
+        (step_texts plan.now code from group) }
 {
     set(
         &[
@@ -235,24 +223,20 @@ fn write_step<A: Allocator, W: PageSink>(
             Part::Own("</span>"),
         ],
         sink,
-    )?;
-    write_full(plan, listed_before(plan.list(from, code), group), sink)?;
-    set(&[Part::Own("</li>")], sink)
+    );
+    write_full(plan, listed_before(plan.list(from, code), group), sink);
+    set(&[Part::Own("</li>")], sink);
 }
 
 /// Writes that these groups have no free circuit, if there are any.
-fn write_full<A: Allocator, W: PageSink>(
-    plan: &Plan<A>,
-    groups: &[GroupId],
-    sink: &mut W,
-) -> Result<(), WriteFault>
-    ensures { Showed W.seen sink.old sink.new
-        (map (group_name plan.now) groups.now) result }
+fn write_full<A: Allocator, W: PageSink>(plan: &Plan<A>, groups: &[GroupId], sink: &mut W)
+    ensures { Sets W.seen sink.old sink.new
+        (map (group_name plan.now) groups.now) }
 {
     if groups.is_empty() {
-        return Ok(());
+        return;
     }
-    set(&[Part::Own("<small>without a free circuit: ")], sink)?;
-    write_groups(plan, groups, sink)?;
-    set(&[Part::Own("</small>")], sink)
+    set(&[Part::Own("<small>without a free circuit: ")], sink);
+    write_groups(plan, groups, sink);
+    set(&[Part::Own("</small>")], sink);
 }

@@ -1,7 +1,7 @@
 // What was judged, and the verdict.
 ghost use Rattle.std.specs.Prelude.{◌≡◌, [], ◌∷◌};
 ghost use Rattle.hex.specs.Hex.{encode_lower};
-ghost use Rattle.tx_html.specs.Shows.{Showed};
+ghost use Rattle.tx_html.specs.Shows.{Sets};
 ghost use Rattle.tx_page.specs.Heading.{verdict_word, start_texts, verdict_texts, promise_texts, warning_texts, count_texts, digest_texts, heading_texts};
 
 use crate::counts::{count_lines, count_origins};
@@ -11,7 +11,6 @@ use std::alloc::Allocator;
 use tx_html::{PageSink, Part, set};
 use tx_plan::{Limits, Plan};
 use tx_svg::HEADS;
-use tx_text::WriteFault;
 
 const START: &str = "<!doctype html>\n<html lang=\"en\"><head><meta charset=\"utf-8\"><meta \
 name=\"viewport\" content=\"width=device-width\"><title>";
@@ -25,25 +24,24 @@ pub fn write_heading<A: Allocator, W: PageSink>(
     limits: Limits,
     safe: bool,
     sink: &mut W,
-) -> Result<(), WriteFault>
-    ensures { Showed W.seen sink.old sink.new
-        (heading_texts name.now digest.now version.now plan.now safe limits.limit limits.spare)
-        result }
+)
+    ensures { Sets W.seen sink.old sink.new
+        (heading_texts name.now digest.now version.now plan.now safe limits.limit limits.spare) }
 {
-    write_start(name, safe, sink)?;
-    write_counts(plan, sink)?;
-    write_warning(count_lines(plan), sink)?;
-    write_digest(digest, version, sink)?;
-    write_verdict(safe, limits, sink)?;
-    write_promise(safe, limits, sink)
+    write_start(name, safe, sink);
+    write_counts(plan, sink);
+    write_warning(count_lines(plan), sink);
+    write_digest(digest, version, sink);
+    write_verdict(safe, limits, sink);
+    write_promise(safe, limits, sink);
 }
 
 /// Writes that a YES says nothing, if there is no line.
-fn write_warning<W: PageSink>(lines: u64, sink: &mut W) -> Result<(), WriteFault>
-    ensures { Showed W.seen sink.old sink.new (warning_texts lines) result }
+fn write_warning<W: PageSink>(lines: u64, sink: &mut W)
+    ensures { Sets W.seen sink.old sink.new (warning_texts lines) }
 {
     if lines > 0 {
-        return Ok(());
+        return;
     }
     set(
         &[
@@ -52,7 +50,7 @@ fn write_warning<W: PageSink>(lines: u64, sink: &mut W) -> Result<(), WriteFault
             Part::Own(". So no call starts, and a YES says nothing of its lists.</p>"),
         ],
         sink,
-    )
+    );
 }
 
 /// The verdict in a word.
@@ -62,8 +60,8 @@ fn verdict_word(safe: bool) -> &'static [u8]
     if safe { b"YES" } else { b"NO" }
 }
 
-fn write_start<W: PageSink>(name: &[u8], safe: bool, sink: &mut W) -> Result<(), WriteFault>
-    ensures { Showed W.seen sink.old sink.new (start_texts name.now safe) result }
+fn write_start<W: PageSink>(name: &[u8], safe: bool, sink: &mut W)
+    ensures { Sets W.seen sink.old sink.new (start_texts name.now safe) }
 {
     set(
         &[
@@ -80,12 +78,12 @@ fn write_start<W: PageSink>(name: &[u8], safe: bool, sink: &mut W) -> Result<(),
             Part::Own("</h1>"),
         ],
         sink,
-    )
+    );
 }
 
-fn write_verdict<W: PageSink>(safe: bool, limits: Limits, sink: &mut W) -> Result<(), WriteFault>
-    ensures { Showed W.seen sink.old sink.new
-        (verdict_texts safe limits.limit limits.spare) result }
+fn write_verdict<W: PageSink>(safe: bool, limits: Limits, sink: &mut W)
+    ensures { Sets W.seen sink.old sink.new
+        (verdict_texts safe limits.limit limits.spare) }
 {
     set(
         &[
@@ -100,16 +98,17 @@ fn write_verdict<W: PageSink>(safe: bool, limits: Limits, sink: &mut W) -> Resul
             Part::Own("</b></p>"),
         ],
         sink,
-    )
+    );
 }
 
 /// Writes in a sentence what the verdict says.
-fn write_promise<W: PageSink>(safe: bool, limits: Limits, sink: &mut W) -> Result<(), WriteFault>
-    ensures { Showed W.seen sink.old sink.new
-        (promise_texts safe limits.limit limits.spare) result }
+fn write_promise<W: PageSink>(safe: bool, limits: Limits, sink: &mut W)
+    ensures { Sets W.seen sink.old sink.new
+        (promise_texts safe limits.limit limits.spare) }
 {
     if !safe {
-        return set(&[Part::Own(NO_PROMISE)], sink);
+        set(&[Part::Own(NO_PROMISE)], sink);
+        return;
     }
     set(
         &[
@@ -127,14 +126,14 @@ fn write_promise<W: PageSink>(safe: bool, limits: Limits, sink: &mut W) -> Resul
             ),
         ],
         sink,
-    )
+    );
 }
 
 const NO_PROMISE: &str =
     "<p>For these numbers the plan is not safe. What is wrong stands below.</p>";
 
-fn write_counts<A: Allocator, W: PageSink>(plan: &Plan<A>, sink: &mut W) -> Result<(), WriteFault>
-    ensures { Showed W.seen sink.old sink.new (count_texts plan.now) result }
+fn write_counts<A: Allocator, W: PageSink>(plan: &Plan<A>, sink: &mut W)
+    ensures { Sets W.seen sink.old sink.new (count_texts plan.now) }
 {
     set(
         &[
@@ -153,23 +152,19 @@ fn write_counts<A: Allocator, W: PageSink>(plan: &Plan<A>, sink: &mut W) -> Resu
             Part::Own("</dd></div></dl>"),
         ],
         sink,
-    )
+    );
 }
 
 /// Writes the digest of the plan's text, and the version of the program.
-fn write_digest<W: PageSink>(
-    digest: &[u8; 32],
-    version: &'static str,
-    sink: &mut W,
-) -> Result<(), WriteFault>
-    ensures { Showed W.seen sink.old sink.new (digest_texts digest.now version.now) result }
+fn write_digest<W: PageSink>(digest: &[u8; 32], version: &'static str, sink: &mut W)
+    ensures { Sets W.seen sink.old sink.new (digest_texts digest.now version.now) }
 {
-    write_figures(digest, sink)?;
-    write_version(version, sink)
+    write_figures(digest, sink);
+    write_version(version, sink);
 }
 
-fn write_figures<W: PageSink>(digest: &[u8; 32], sink: &mut W) -> Result<(), WriteFault>
-    ensures { Showed W.seen sink.old sink.new (encode_lower digest.now ∷ []) result }
+fn write_figures<W: PageSink>(digest: &[u8; 32], sink: &mut W)
+    ensures { Sets W.seen sink.old sink.new (encode_lower digest.now ∷ []) }
 {
     let mut figures = [0u8; 64];
     if encode_to_slice(digest.as_slice(), figures.as_mut_slice()).is_err() {
@@ -181,11 +176,11 @@ fn write_figures<W: PageSink>(digest: &[u8; 32], sink: &mut W) -> Result<(), Wri
             Part::Text(&figures),
         ],
         sink,
-    )
+    );
 }
 
-fn write_version<W: PageSink>(version: &'static str, sink: &mut W) -> Result<(), WriteFault>
-    ensures { Showed W.seen sink.old sink.new (version.now ∷ []) result }
+fn write_version<W: PageSink>(version: &'static str, sink: &mut W)
+    ensures { Sets W.seen sink.old sink.new (version.now ∷ []) }
 {
     set(
         &[
@@ -194,5 +189,5 @@ fn write_version<W: PageSink>(version: &'static str, sink: &mut W) -> Result<(),
             Part::Own("</p>"),
         ],
         sink,
-    )
+    );
 }

@@ -1,6 +1,6 @@
 // The exchanges and groups of a plan.
 ghost use Rattle.std.specs.Prelude.{◌≡◌, length};
-ghost use Rattle.tx_html.specs.Shows.{Showed};
+ghost use Rattle.tx_html.specs.Shows.{Sets};
 ghost use Rattle.tx_svg.specs.Indexed.{texts_below};
 ghost use Rattle.tx_page.specs.NetworkTexts.{home_texts, exchange_texts, seized_from, group_texts, network_texts};
 
@@ -8,7 +8,6 @@ use std::alloc::Allocator;
 use tx_html::{PageSink, Part, set};
 use tx_plan::{CodeId, Direction, ExchangeId, GroupId, Plan};
 use tx_svg::write_ring;
-use tx_text::WriteFault;
 
 const EXCHANGES: &str = "<div class=\"t\"><table><thead><tr><th scope=\"col\">\
 Exchange</th><th scope=\"col\">Home of</th></tr></thead><tbody>";
@@ -18,50 +17,38 @@ const GROUPS: &str = "</tbody></table><table><thead><tr><th scope=\"col\">Group<
 <th scope=\"col\" class=\"k\">Circuits</th></tr></thead><tbody>";
 
 /// Writes the tables of exchanges and of groups.
-pub fn write_network<A: Allocator, W: PageSink>(
-    plan: &Plan<A>,
-    sink: &mut W,
-) -> Result<(), WriteFault>
-    ensures { Showed W.seen sink.old sink.new (network_texts plan.now) result }
+pub fn write_network<A: Allocator, W: PageSink>(plan: &Plan<A>, sink: &mut W)
+    ensures { Sets W.seen sink.old sink.new (network_texts plan.now) }
 {
-    set(&[Part::Own("<h2>The network</h2>")], sink)?;
-    write_ring(plan, sink)?;
-    set(&[Part::Own(EXCHANGES)], sink)?;
-    write_exchanges(plan, sink)?;
-    set(&[Part::Own(GROUPS)], sink)?;
-    write_groups(plan, sink)?;
-    set(&[Part::Own("</tbody></table></div>")], sink)
+    set(&[Part::Own("<h2>The network</h2>")], sink);
+    write_ring(plan, sink);
+    set(&[Part::Own(EXCHANGES)], sink);
+    write_exchanges(plan, sink);
+    set(&[Part::Own(GROUPS)], sink);
+    write_groups(plan, sink);
+    set(&[Part::Own("</tbody></table></div>")], sink);
 }
 
-fn write_exchanges<A: Allocator, W: PageSink>(
-    plan: &Plan<A>,
-    sink: &mut W,
-) -> Result<(), WriteFault>
-    ensures { Showed W.seen sink.old sink.new
-        (texts_below (length plan.now.exchanges) (exchange_texts plan.now)) result }
+fn write_exchanges<A: Allocator, W: PageSink>(plan: &Plan<A>, sink: &mut W)
+    ensures { Sets W.seen sink.old sink.new
+        (texts_below (length plan.now.exchanges) (exchange_texts plan.now)) }
 {
     for index in 0..plan.exchanges() {
-        write_exchange(plan, ExchangeId::of(index), sink)?;
+        write_exchange(plan, ExchangeId::of(index), sink);
     }
-    Ok(())
 }
 
-fn write_groups<A: Allocator, W: PageSink>(plan: &Plan<A>, sink: &mut W) -> Result<(), WriteFault>
-    ensures { Showed W.seen sink.old sink.new
-        (texts_below (length plan.now.groups) (group_texts plan.now)) result }
+fn write_groups<A: Allocator, W: PageSink>(plan: &Plan<A>, sink: &mut W)
+    ensures { Sets W.seen sink.old sink.new
+        (texts_below (length plan.now.groups) (group_texts plan.now)) }
 {
     for index in 0..plan.groups() {
-        write_group(plan, GroupId::of(index), sink)?;
+        write_group(plan, GroupId::of(index), sink);
     }
-    Ok(())
 }
 
-fn write_exchange<A: Allocator, W: PageSink>(
-    plan: &Plan<A>,
-    exchange: ExchangeId,
-    sink: &mut W,
-) -> Result<(), WriteFault>
-    ensures { Showed W.seen sink.old sink.new (exchange_texts plan.now exchange) result }
+fn write_exchange<A: Allocator, W: PageSink>(plan: &Plan<A>, exchange: ExchangeId, sink: &mut W)
+    ensures { Sets W.seen sink.old sink.new (exchange_texts plan.now exchange) }
 {
     set(
         &[
@@ -70,24 +57,19 @@ fn write_exchange<A: Allocator, W: PageSink>(
             Part::Own("</th><td>"),
         ],
         sink,
-    )?;
-    write_codes(plan, exchange, sink)?;
-    set(&[Part::Own("</td></tr>")], sink)
+    );
+    write_codes(plan, exchange, sink);
+    set(&[Part::Own("</td></tr>")], sink);
 }
 
 /// Writes the codes that are at home at an exchange.
-fn write_codes<A: Allocator, W: PageSink>(
-    plan: &Plan<A>,
-    exchange: ExchangeId,
-    sink: &mut W,
-) -> Result<(), WriteFault>
-    ensures { Showed W.seen sink.old sink.new
-        (texts_below (length plan.now.codes) (home_texts plan.now exchange)) result }
+fn write_codes<A: Allocator, W: PageSink>(plan: &Plan<A>, exchange: ExchangeId, sink: &mut W)
+    ensures { Sets W.seen sink.old sink.new
+        (texts_below (length plan.now.codes) (home_texts plan.now exchange)) }
 {
     for index in 0..plan.codes() {
-        write_home(plan, exchange, CodeId::of(index), sink)?;
+        write_home(plan, exchange, CodeId::of(index), sink);
     }
-    Ok(())
 }
 
 /// Writes a code, if it is at home at an exchange.
@@ -96,13 +78,11 @@ fn write_home<A: Allocator, W: PageSink>(
     exchange: ExchangeId,
     code: CodeId,
     sink: &mut W,
-) -> Result<(), WriteFault>
-    ensures { Showed W.seen sink.old sink.new (home_texts plan.now exchange code) result }
+)
+    ensures { Sets W.seen sink.old sink.new (home_texts plan.now exchange code) }
 {
     if plan.home(code) == exchange {
-        set(&[Part::Text(plan.code_figures(code)), Part::Own(" ")], sink)
-    } else {
-        Ok(())
+        set(&[Part::Text(plan.code_figures(code)), Part::Own(" ")], sink);
     }
 }
 
@@ -116,12 +96,8 @@ fn seized_from(direction: Direction) -> &'static [u8]
     }
 }
 
-fn write_group<A: Allocator, W: PageSink>(
-    plan: &Plan<A>,
-    group: GroupId,
-    sink: &mut W,
-) -> Result<(), WriteFault>
-    ensures { Showed W.seen sink.old sink.new (group_texts plan.now group) result }
+fn write_group<A: Allocator, W: PageSink>(plan: &Plan<A>, group: GroupId, sink: &mut W)
+    ensures { Sets W.seen sink.old sink.new (group_texts plan.now group) }
 {
     let (from, to) = plan.ends(group);
     set(
@@ -139,5 +115,5 @@ fn write_group<A: Allocator, W: PageSink>(
             Part::Own("</td></tr>"),
         ],
         sink,
-    )
+    );
 }

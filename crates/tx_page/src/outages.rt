@@ -1,7 +1,7 @@
 // What outages cut off.
 ghost use Rattle.std.specs.Prelude.{◌≡◌};
 ghost use Rattle.std.specs.List.{flat_map};
-ghost use Rattle.tx_html.specs.Shows.{Showed};
+ghost use Rattle.tx_html.specs.Shows.{Sets};
 ghost use Rattle.tx_page.specs.OutageTexts.{outage_kind, outage_name, cut_texts, outcome_texts, shown_texts, total_texts, tried_texts, outages_texts};
 
 use std::alloc::Allocator;
@@ -9,7 +9,6 @@ use tx_html::{PageSink, Part, set};
 use tx_plan::Plan;
 use tx_risk::{Cut, Outage, Outcome, Risks};
 use tx_risk_report::{count_cut, count_stray, harmless_exchanges, harmless_groups, is_told};
-use tx_text::WriteFault;
 
 /// Writes each named risk, and each group and each exchange that cuts somebody off, with those that
 /// it cuts off; or that the plan has no grade.
@@ -19,9 +18,9 @@ pub fn write_outages<A: Allocator, W: PageSink>(
     outcomes: &[Outcome<A>],
     graded: bool,
     sink: &mut W,
-) -> Result<(), WriteFault>
-    ensures { Showed W.seen sink.old sink.new
-        (outages_texts plan.now risks.now outcomes.now graded) result }
+)
+    ensures { Sets W.seen sink.old sink.new
+        (outages_texts plan.now risks.now outcomes.now graded) }
 {
     if graded {
         write_graded(plan, risks, outcomes, sink)
@@ -36,12 +35,12 @@ fn write_graded<A: Allocator, W: PageSink>(
     risks: &Risks<A>,
     outcomes: &[Outcome<A>],
     sink: &mut W,
-) -> Result<(), WriteFault>
-    ensures { Showed W.seen sink.old sink.new
-        (tried_texts plan.now risks.now outcomes.now) result }
+)
+    ensures { Sets W.seen sink.old sink.new
+        (tried_texts plan.now risks.now outcomes.now) }
 {
-    write_tried(outcomes, sink)?;
-    write_outcomes(plan, risks, outcomes, sink)
+    write_tried(outcomes, sink);
+    write_outcomes(plan, risks, outcomes, sink);
 }
 
 const TRIED: &str =
@@ -54,11 +53,8 @@ Groups that cut nobody off and lead nobody astray: ";
 const UNGRADED: &str = "<h2>Outages</h2><p>The plan has no grade: it is safe for no limit and no \
 spare number. So no outage was tried.</p>";
 
-fn write_tried<A: Allocator, W: PageSink>(
-    outcomes: &[Outcome<A>],
-    sink: &mut W,
-) -> Result<(), WriteFault>
-    ensures { Showed W.seen sink.old sink.new (total_texts outcomes.now) result }
+fn write_tried<A: Allocator, W: PageSink>(outcomes: &[Outcome<A>], sink: &mut W)
+    ensures { Sets W.seen sink.old sink.new (total_texts outcomes.now) }
 {
     set(
         &[
@@ -71,7 +67,7 @@ fn write_tried<A: Allocator, W: PageSink>(
             Part::Own(".</p>"),
         ],
         sink,
-    )
+    );
 }
 
 /// Writes each outcome that is shown.
@@ -80,14 +76,13 @@ fn write_outcomes<A: Allocator, W: PageSink>(
     risks: &Risks<A>,
     outcomes: &[Outcome<A>],
     sink: &mut W,
-) -> Result<(), WriteFault>
-    ensures { Showed W.seen sink.old sink.new
-        (flat_map (shown_texts plan.now risks.now) outcomes.now) result }
+)
+    ensures { Sets W.seen sink.old sink.new
+        (flat_map (shown_texts plan.now risks.now) outcomes.now) }
 {
     for i in 0..outcomes.len() {
-        write_shown(plan, risks, &outcomes[i], sink)?;
+        write_shown(plan, risks, &outcomes[i], sink);
     }
-    Ok(())
 }
 
 /// What kind of thing fails.
@@ -118,14 +113,12 @@ fn write_shown<'a, A: Allocator, W: PageSink>(
     risks: &'a Risks<A>,
     outcome: &Outcome<A>,
     sink: &mut W,
-) -> Result<(), WriteFault>
-    ensures { Showed W.seen sink.old sink.new
-        (shown_texts plan.now risks.now outcome.now) result }
+)
+    ensures { Sets W.seen sink.old sink.new
+        (shown_texts plan.now risks.now outcome.now) }
 {
     if is_told(outcome) {
-        write_outcome(plan, risks, outcome, sink)
-    } else {
-        Ok(())
+        write_outcome(plan, risks, outcome, sink);
     }
 }
 
@@ -135,9 +128,9 @@ fn write_outcome<'a, A: Allocator, W: PageSink>(
     risks: &'a Risks<A>,
     outcome: &Outcome<A>,
     sink: &mut W,
-) -> Result<(), WriteFault>
-    ensures { Showed W.seen sink.old sink.new
-        (outcome_texts plan.now risks.now outcome.now) result }
+)
+    ensures { Sets W.seen sink.old sink.new
+        (outcome_texts plan.now risks.now outcome.now) }
 {
     set(
         &[
@@ -152,32 +145,23 @@ fn write_outcome<'a, A: Allocator, W: PageSink>(
             Part::Own(" astray</summary><ul class=\"c\">"),
         ],
         sink,
-    )?;
-    write_cuts(plan, &outcome.cuts, sink)?;
-    set(&[Part::Own("</ul></details>")], sink)
+    );
+    write_cuts(plan, &outcome.cuts, sink);
+    set(&[Part::Own("</ul></details>")], sink);
 }
 
 /// Writes the cuts of an outage.
-fn write_cuts<A: Allocator, W: PageSink>(
-    plan: &Plan<A>,
-    cuts: &[Cut<A>],
-    sink: &mut W,
-) -> Result<(), WriteFault>
-    ensures { Showed W.seen sink.old sink.new
-        (flat_map (cut_texts plan.now) cuts.now) result }
+fn write_cuts<A: Allocator, W: PageSink>(plan: &Plan<A>, cuts: &[Cut<A>], sink: &mut W)
+    ensures { Sets W.seen sink.old sink.new
+        (flat_map (cut_texts plan.now) cuts.now) }
 {
     for i in 0..cuts.len() {
-        write_cut(plan, &cuts[i], sink)?;
+        write_cut(plan, &cuts[i], sink);
     }
-    Ok(())
 }
 
-fn write_cut<A: Allocator, W: PageSink>(
-    plan: &Plan<A>,
-    cut: &Cut<A>,
-    sink: &mut W,
-) -> Result<(), WriteFault>
-    ensures { Showed W.seen sink.old sink.new (cut_texts plan.now cut.now) result }
+fn write_cut<A: Allocator, W: PageSink>(plan: &Plan<A>, cut: &Cut<A>, sink: &mut W)
+    ensures { Sets W.seen sink.old sink.new (cut_texts plan.now cut.now) }
 {
     set(
         &[
@@ -194,5 +178,5 @@ fn write_cut<A: Allocator, W: PageSink>(
             Part::Own("</li>"),
         ],
         sink,
-    )
+    );
 }

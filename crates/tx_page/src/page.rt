@@ -1,6 +1,6 @@
 // A page.
 ghost use Rattle.std.specs.Prelude.{◌≡◌};
-ghost use Rattle.tx_html.specs.Shows.{Showed};
+ghost use Rattle.tx_html.specs.Shows.{Sets, Showed};
 ghost use Rattle.tx_page.specs.Page.{is_safe, asked_change_texts, page_texts};
 
 use crate::change::{Change, write_change};
@@ -39,12 +39,12 @@ fn write_asked_change<A: Allocator, W: PageSink>(
     change: &Option<Change<'_, A>>,
     safe: bool,
     sink: &mut W,
-) -> Result<(), WriteFault>
-    ensures { Showed W.seen sink.old sink.new (asked_change_texts safe change.now) result }
+)
+    ensures { Sets W.seen sink.old sink.new (asked_change_texts safe change.now) }
 {
     match change {
         Some(change) => write_change(change, safe, sink),
-        None => Ok(()),
+        None => {}
     }
 }
 
@@ -69,12 +69,13 @@ pub fn write_page<A: Allocator, W: PageSink>(
         limits,
         safe,
         sink,
-    )?;
-    write_wrong(plan, subject.ranking, limits, sink)?;
-    write_asked_change(&subject.change, safe, sink)?;
-    write_codes(plan, subject.grade, linked, sink)?;
-    write_outages(plan, subject.risks, subject.outcomes, graded, sink)?;
-    write_pictures(plan, subject.pictures, findings, sink)?;
-    write_network(plan, sink)?;
-    set(&[Part::Own("</main></body></html>\n")], sink)
+    );
+    write_wrong(plan, subject.ranking, limits, sink);
+    write_asked_change(&subject.change, safe, sink);
+    write_codes(plan, subject.grade, linked, sink);
+    write_outages(plan, subject.risks, subject.outcomes, graded, sink);
+    write_pictures(plan, subject.pictures, findings, sink);
+    write_network(plan, sink);
+    set(&[Part::Own("</main></body></html>\n")], sink);
+    sink.finish()
 }

@@ -1,6 +1,6 @@
 // A table of what is switched.
 ghost use Rattle.std.specs.Prelude.{length};
-ghost use Rattle.tx_html.specs.Shows.{Showed};
+ghost use Rattle.tx_html.specs.Shows.{Sets};
 ghost use Rattle.tx_svg.specs.Indexed.{texts_below};
 ghost use Rattle.tx_page.specs.ChangeTexts.{exchange_texts, table_texts};
 ghost use Rattle.tx_page.specs.inner.Between.{before_of, after_of, IsThere};
@@ -10,7 +10,6 @@ use crate::entry::write_switched;
 use std::alloc::Allocator;
 use tx_html::{PageSink, Part, set};
 use tx_plan::{CodeId, ExchangeId, Plan};
-use tx_text::WriteFault;
 
 const HEAD: &str = "<div class=\"t\"><table><thead><tr><th scope=\"col\">Exchange</th>\
 <th scope=\"col\">Code</th><th scope=\"col\">Old list</th><th scope=\"col\">New list</th>\
@@ -21,30 +20,25 @@ pub fn write_table<A: Allocator, W: PageSink>(
     plan: &Plan<A>,
     between: &Between<'_, A>,
     sink: &mut W,
-) -> Result<(), WriteFault>
+)
     requires { IsThere between.now }
-    ensures { Showed W.seen sink.old sink.new
-        (table_texts plan.now (before_of between.now) (after_of between.now)) result }
+    ensures { Sets W.seen sink.old sink.new
+        (table_texts plan.now (before_of between.now) (after_of between.now)) }
 {
-    set(&[Part::Own(HEAD)], sink)?;
-    write_rows(plan, between, sink)?;
-    set(&[Part::Own("</tbody></table></div>")], sink)
+    set(&[Part::Own(HEAD)], sink);
+    write_rows(plan, between, sink);
+    set(&[Part::Own("</tbody></table></div>")], sink);
 }
 
 /// Writes its rows, exchange by exchange.
-fn write_rows<A: Allocator, W: PageSink>(
-    plan: &Plan<A>,
-    between: &Between<'_, A>,
-    sink: &mut W,
-) -> Result<(), WriteFault>
+fn write_rows<A: Allocator, W: PageSink>(plan: &Plan<A>, between: &Between<'_, A>, sink: &mut W)
     requires { IsThere between.now }
-    ensures { Showed W.seen sink.old sink.new
-        (table_texts plan.now (before_of between.now) (after_of between.now)) result }
+    ensures { Sets W.seen sink.old sink.new
+        (table_texts plan.now (before_of between.now) (after_of between.now)) }
 {
     for index in 0..plan.exchanges() {
-        write_exchange(plan, between, ExchangeId::of(index), sink)?;
+        write_exchange(plan, between, ExchangeId::of(index), sink);
     }
-    Ok(())
 }
 
 /// Writes the rows of an exchange, code by code.
@@ -53,14 +47,13 @@ fn write_exchange<A: Allocator, W: PageSink>(
     between: &Between<'_, A>,
     exchange: ExchangeId,
     sink: &mut W,
-) -> Result<(), WriteFault>
+)
     requires { IsThere between.now }
-    ensures { Showed W.seen sink.old sink.new
-        (exchange_texts plan.now (before_of between.now) (after_of between.now) exchange) result }
+    ensures { Sets W.seen sink.old sink.new
+        (exchange_texts plan.now (before_of between.now) (after_of between.now) exchange) }
 {
     for index in 0..plan.codes() {
         let entry = entry_of(between, exchange, CodeId::of(index));
-        write_switched(plan, &entry, sink)?;
+        write_switched(plan, &entry, sink);
     }
-    Ok(())
 }

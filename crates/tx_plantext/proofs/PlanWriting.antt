@@ -1,17 +1,14 @@
--- Writing a plan text, part by part.
-use Rattle.std.proofs.Common.{◌≡◌, ℕ, zero, suc, ◌+◌, ◌<◌, ◌≤◌, Bool, nat_lt, List, [], ◌∷◌, ◌++◌, map, length, take, drop, get_or, codes, Option, None, Some, Ok, Err, refl, sym, ap, ◌∙◌, subst, append_assoc, append-nil, add-one, inl, inr}
-use Rattle.std.specs.Prelude.{if◌then◌else◌, IsErr}
+-- A plan text, part by part.
+use Rattle.std.proofs.Common.{◌≡◌, ℕ, zero, suc, ◌+◌, ◌<◌, ◌≤◌, Bool, nat_lt, List, [], ◌∷◌, ◌++◌, map, length, take, codes, Option, None, Some, refl, sym, ap, ◌∙◌, append_assoc, append-nil, add-one, inl, inr}
+use Rattle.std.specs.Prelude.{if◌then◌else◌}
 use Rattle.std.specs.List.{flat_map, slice_get}
 use Rattle.std.specs.Option.{option_map_or, option_map}
 use Rattle.std.specs.Fmt.{decimal}
-use Rattle.std.proofs.lemmas.Bool.{false≢true, cases_lt, lt-ltb, le-ltb}
+use Rattle.std.proofs.lemmas.Bool.{cases_lt, lt-ltb, le-ltb}
 use Rattle.std.proofs.lemmas.Option.{slice_get_past}
 use Rattle.std.proofs.lemmas.List.{take_all}
-use Rattle.tx_text.proofs.Writing.{stops_first, stops_at}
-use Rattle.tx_text.proofs.Wrote.{Outcome, wrote_then, wrote_first}
-use Rattle.tx_text.specs.declared.sink.WriteFault.{WriteFault}
-use Rattle.tx_text.specs.Ends.{StopsIn}
-use Rattle.tx_text.specs.Wrote.{WroteBy}
+use Rattle.tx_text.specs.Puts.{Puts}
+use Rattle.tx_text.proofs.Putting.{puts_is, puts_then}
 use Rattle.tx_text.specs.Written.{joined, line_written}
 use Rattle.tx_plan.specs.declared.ids.Direction.{Direction}
 use Rattle.tx_plan.specs.Plan.{Plan, Route, exchange_name, figures_of, group_name, home_of}
@@ -25,28 +22,20 @@ use Rattle.tx_plan.proofs.ListFound.{list_found}
 -- ---- the lines of a list
 
 module _ {A : Type 0} (words : A → List (List ℕ)) where
-  lines_cut : (xs : List A) (i : ℕ) → lines_of_list words xs ≡ lines_of_list words (take i xs) ++ (line_at words xs i ++ lines_of_list words (drop (suc i) xs))
-  lines_cut [] zero = refl
-  lines_cut [] (suc i) = refl
-  lines_cut (x ∷ xs) zero = refl
-  lines_cut (x ∷ xs) (suc i) = ap (λ l. line_written (words x) ++ l) (lines_cut xs i) ∙ sym (append_assoc (line_written (words x)) (lines_of_list words (take i xs)) (line_at words xs i ++ lines_of_list words (drop (suc i) xs)))
-
   lines_more : (xs : List A) (i : ℕ) → lines_of_list words (take (suc i) xs) ≡ lines_of_list words (take i xs) ++ line_at words xs i
   lines_more [] zero = refl
   lines_more [] (suc i) = refl
   lines_more (x ∷ xs) zero = append-nil (line_written (words x))
   lines_more (x ∷ xs) (suc i) = ap (λ l. line_written (words x) ++ l) (lines_more xs i) ∙ sym (append_assoc (line_written (words x)) (lines_of_list words (take i xs)) (line_at words xs i))
 
-  pub list_more : (xs : List A) (i : ℕ) (a b c : Option (List ℕ)) (f g h : Bool) → WroteBy a b f g (lines_of_list words (take i xs)) (Ok tt) → WroteBy b c g h (line_at words xs i) (Ok tt) → WroteBy a c f h (lines_of_list words (take (i + 1) xs)) (Ok tt)
-  list_more xs i a b c f g h v w = rw (add-one, lines_more xs i) (wrote_then a b c f g h (lines_of_list words (take i xs)) (line_at words xs i) (Ok tt) v w)
+  module _ {W : Type 0} {taken : W → Option (List ℕ)} {failed : W → Bool} (xs : List A) (i : ℕ) where
+    -- the line of one more
+    pub list_more : {a b c : W} → Puts taken failed a b (lines_of_list words (take i xs)) → Puts taken failed b c (line_at words xs i) → Puts taken failed a c (lines_of_list words (take (i + 1) xs))
+    list_more v w = rw (add-one, lines_more xs i) (puts_then v w)
 
-  pub list_done : (xs : List A) (i : ℕ) (a b : Option (List ℕ)) (f g : Bool) → length xs ≤ i → WroteBy a b f g (lines_of_list words (take i xs)) (Ok tt) → WroteBy a b f g (lines_of_list words xs) (Ok tt)
-  list_done xs i a b f g h v = subst (λ (ys : List A). WroteBy a b f g (lines_of_list words ys) (Ok tt)) (take_all i xs h) v
-
-  pub list_stopped : (xs : List A) (i : ℕ) (a b c : Option (List ℕ)) (f g h : Bool) (r : Outcome) (x : WriteFault) → WroteBy a b f g (lines_of_list words (take i xs)) (Ok tt) → WroteBy b c g h (line_at words xs i) (Err x) → IsErr r
-      → WroteBy a c f h (lines_of_list words xs) r
-  list_stopped xs i a b c f g h r x v w bad =
-      rw (lines_cut xs i) (wrote_then a b c f g h (lines_of_list words (take i xs)) _ r v (wrote_first b c g h (line_at words xs i) (lines_of_list words (drop (suc i) xs)) r x w bad))
+    -- those of all
+    pub list_done : {a b : W} → length xs ≤ i → Puts taken failed a b (lines_of_list words (take i xs)) → Puts taken failed a b (lines_of_list words xs)
+    list_done all v = puts_is (ap (lines_of_list words) (sym (take_all i xs all))) v
 
   -- the lines of a list come first
   pub lines_first : (xs : List A) (rest : List (List (List ℕ))) (end : List ℕ) → flat_map line_written (map words xs ++ rest) ++ end ≡ lines_of_list words xs ++ (flat_map line_written rest ++ end)
@@ -161,16 +150,3 @@ route_placed p i at h e =
     let listed : r.groups ≡ route_list p at.0 at.1 = sym (list_found p i r h q.1) ∙ (λ k. route_list p (sym q.2 k) (sym q.3 k)) in
     ap (λ (o : Option Route). option_map_or (λ z. line_written (route_words p z)) o []) q.1
     ∙ (λ k. line_written (route_words p (record { exchange = sym q.2 k; code = sym q.3 k; groups = listed k })))
-
--- the sink failed at one of the names
-pub names_stopped : (p : Plan) (gs : List ℕ) (i x : ℕ) (a b c : Option (List ℕ)) (f g h : Bool) (r : Outcome) (fault : WriteFault) → i < length gs → x ≡ get_or gs i x
-    → WroteBy a b f g (flat_map (λ v. codes " " ++ group_name p v) (take i gs)) (Ok tt) → WroteBy b c g h (codes " " ++ (group_name p x ++ [])) (Err fault) → IsErr r
-    → WroteBy a c f h (flat_map (λ v. codes " " ++ group_name p v) gs ++ codes "\n") r
-names_stopped p gs i x a b c f g h (Ok y) fault lt is v w bad = absurd (false≢true bad)
-names_stopped p gs i x a b c f g h (Err y) fault lt is v w bad =
-    (stops_first (codes "\n") (stops_at (λ v. codes " " ++ group_name p v) gs i x lt is v.0 (subst (λ (l : List ℕ). StopsIn b c (codes " " ++ l)) (append-nil (group_name p x)) w.0)), w.1)
-
-pub names_done : (p : Plan) (gs : List ℕ) (i : ℕ) (a b c : Option (List ℕ)) (f g h : Bool) (r : Outcome) → length gs ≤ i
-    → WroteBy a b f g (flat_map (λ v. codes " " ++ group_name p v) (take i gs)) (Ok tt) → WroteBy b c g h (codes "\n") r → WroteBy a c f h (flat_map (λ v. codes " " ++ group_name p v) gs ++ codes "\n") r
-names_done p gs i a b c f g h r all v w =
-    wrote_then a b c f g h (flat_map (λ v. codes " " ++ group_name p v) gs) (codes "\n") r (subst (λ (l : List ℕ). WroteBy a b f g (flat_map (λ v. codes " " ++ group_name p v) l) (Ok tt)) (take_all i gs all) v) w

@@ -1,13 +1,13 @@
 // The writers of lists that are other ones than before.
 ghost use Rattle.std.specs.Prelude.{◌<◌, ◌++◌, codes};
-ghost use Rattle.tx_text.specs.Wrote.{Wrote};
+ghost use Rattle.tx_text.specs.Puts.{Puts};
 ghost use Rattle.tx_plan.specs.Routes.{route_list};
 ghost use Rattle.tx_plantext.specs.ChangedLists.{list_line, was_line, old_line, change_line, code_changes, changes};
 
 use crate::plan_writer::{write_group_names, write_route};
 use std::alloc::Allocator;
 use tx_plan::{CodeId, ExchangeId, GroupId, Pair, Plan, Routes};
-use tx_text::{Sink, WriteFault, write_parts};
+use tx_text::{Sink, put_bytes, put_parts};
 
 /// Writes each list of a plan that is another one than before, with the one before if that is asked
 /// for.
@@ -16,14 +16,13 @@ pub fn write_changes<A: Allocator, W: Sink>(
     plan: &Plan<A>,
     with_old: bool,
     sink: &mut W,
-) -> Result<(), WriteFault>
-    ensures { Wrote W.taken W.failed sink.old sink.new
-        (changes with_old before.now plan.now) result }
+)
+    ensures { Puts W.taken W.failed sink.old sink.new
+        (changes with_old before.now plan.now) }
 {
     for index in 0..plan.codes() {
-        write_code_changes(before, plan, CodeId::of(index), with_old, sink)?;
+        write_code_changes(before, plan, CodeId::of(index), with_old, sink);
     }
-    Ok(())
 }
 
 /// Those of one code.
@@ -33,14 +32,13 @@ fn write_code_changes<A: Allocator, W: Sink>(
     code: CodeId,
     with_old: bool,
     sink: &mut W,
-) -> Result<(), WriteFault>
-    ensures { Wrote W.taken W.failed sink.old sink.new
-        (code_changes with_old before.now plan.now code) result }
+)
+    ensures { Puts W.taken W.failed sink.old sink.new
+        (code_changes with_old before.now plan.now code) }
 {
     for index in 0..plan.exchanges() {
-        write_change(before, plan, code, ExchangeId::of(index), with_old, sink)?;
+        write_change(before, plan, code, ExchangeId::of(index), with_old, sink);
     }
-    Ok(())
 }
 
 /// Writes the list of an exchange for a code, if it is another one than before.
@@ -51,15 +49,15 @@ fn write_change<A: Allocator, W: Sink>(
     exchange: ExchangeId,
     with_old: bool,
     sink: &mut W,
-) -> Result<(), WriteFault>
-    ensures { Wrote W.taken W.failed sink.old sink.new
-        (change_line with_old before.now plan.now code exchange) result }
+)
+    ensures { Puts W.taken W.failed sink.old sink.new
+        (change_line with_old before.now plan.now code exchange) }
 {
     let old = before.list(&Pair { exchange, code });
     if old == plan.list(exchange, code) {
-        return Ok(());
+        return;
     }
-    write_new_list(plan, code, exchange, old, with_old, sink)
+    write_new_list(plan, code, exchange, old, with_old, sink);
 }
 
 /// Writes the list of an exchange for a code, or that it needs none, and the list that it replaces,
@@ -71,16 +69,14 @@ pub fn write_new_list<A: Allocator, W: Sink>(
     old: &[GroupId],
     with_old: bool,
     sink: &mut W,
-) -> Result<(), WriteFault>
-    ensures { Wrote W.taken W.failed sink.old sink.new
+)
+    ensures { Puts W.taken W.failed sink.old sink.new
         (list_line plan.now code exchange (route_list plan.now exchange code)
-        ++ old_line with_old plan.now old.now) result }
+        ++ old_line with_old plan.now old.now) }
 {
-    write_list(plan, code, exchange, sink)?;
+    write_list(plan, code, exchange, sink);
     if with_old {
-        write_was(plan, old, sink)
-    } else {
-        Ok(())
+        write_was(plan, old, sink);
     }
 }
 
@@ -90,26 +86,23 @@ fn write_list<A: Allocator, W: Sink>(
     code: CodeId,
     exchange: ExchangeId,
     sink: &mut W,
-) -> Result<(), WriteFault>
-    ensures { Wrote W.taken W.failed sink.old sink.new
-        (list_line plan.now code exchange (route_list plan.now exchange code)) result }
+)
+    ensures { Puts W.taken W.failed sink.old sink.new
+        (list_line plan.now code exchange (route_list plan.now exchange code)) }
 {
     if plan.list(exchange, code).is_empty() {
         let name = plan.exchange_name(exchange);
         let figures = plan.code_figures(code);
-        return write_parts(&[b"DROP ", name, b" ", figures, b"\n"], sink);
+        put_parts(&[b"DROP ", name, b" ", figures, b"\n"], sink)
+    } else {
+        write_route(plan, exchange, code, sink)
     }
-    write_route(plan, exchange, code, sink)
 }
 
 /// Writes the list that was there before.
-fn write_was<A: Allocator, W: Sink>(
-    plan: &Plan<A>,
-    groups: &[GroupId],
-    sink: &mut W,
-) -> Result<(), WriteFault>
-    ensures { Wrote W.taken W.failed sink.old sink.new (was_line plan.now groups.now) result }
+fn write_was<A: Allocator, W: Sink>(plan: &Plan<A>, groups: &[GroupId], sink: &mut W)
+    ensures { Puts W.taken W.failed sink.old sink.new (was_line plan.now groups.now) }
 {
-    write_parts(&[b"WAS"], sink)?;
-    write_group_names(plan, groups, sink)
+    put_bytes(b"WAS", sink);
+    write_group_names(plan, groups, sink);
 }

@@ -2,6 +2,7 @@
 ghost use Rattle.std.specs.Prelude.{codes, decimal, ◌++◌};
 ghost use Rattle.std.specs.List.{flat_map};
 ghost use Rattle.tx_text.specs.Written.{line_written};
+ghost use Rattle.tx_text.specs.Puts.{Puts};
 ghost use Rattle.tx_text.specs.Wrote.{Wrote};
 ghost use Rattle.tx_plan.specs.Plan.{group_name};
 ghost use Rattle.tx_plan.specs.Routes.{route_list};
@@ -10,7 +11,7 @@ ghost use Rattle.tx_plantext.specs.PlanWritten.{plan_written, head_of, exchange_
 use itoa::Buffer;
 use std::alloc::Allocator;
 use tx_plan::{CodeId, Direction, ExchangeId, GroupId, Plan};
-use tx_text::{Sink, WriteFault, write_parts};
+use tx_text::{Sink, WriteFault, finish, put_bytes, put_parts};
 
 /// Writes the text of a plan: the header, a line for each entry of the six lists in order of
 /// declaration, and END.
@@ -20,154 +21,137 @@ use tx_text::{Sink, WriteFault, write_parts};
 pub fn write_plan<A: Allocator, W: Sink>(plan: &Plan<A>, sink: &mut W) -> Result<(), WriteFault>
     ensures { Wrote W.taken W.failed sink.old sink.new (plan_written plan.now) result }
 {
-    write_head(plan.bars() > 0, sink)?;
-    write_numbering(plan, sink)?;
-    write_routing(plan, sink)?;
-    write_parts(&[b"END\n"], sink)
+    write_head(plan.bars() > 0, sink);
+    write_numbering(plan, sink);
+    write_routing(plan, sink);
+    put_bytes(b"END\n", sink);
+    finish(sink)
 }
 
 /// Writes the exchanges, the codes and the ranges of lines.
-fn write_numbering<A: Allocator, W: Sink>(plan: &Plan<A>, sink: &mut W) -> Result<(), WriteFault>
-    ensures { Wrote W.taken W.failed sink.old sink.new
+fn write_numbering<A: Allocator, W: Sink>(plan: &Plan<A>, sink: &mut W)
+    ensures { Puts W.taken W.failed sink.old sink.new
         (lines_of_list exchange_words plan.now.exchanges ++ (lines_of_list (code_words plan.now)
-        plan.now.codes ++ lines_of_list (range_words plan.now) plan.now.ranges)) result }
+        plan.now.codes ++ lines_of_list (range_words plan.now) plan.now.ranges)) }
 {
-    write_exchanges(plan, sink)?;
-    write_codes(plan, sink)?;
-    write_ranges(plan, sink)
+    write_exchanges(plan, sink);
+    write_codes(plan, sink);
+    write_ranges(plan, sink);
 }
 
 /// Writes the groups, the routes and the bars.
-fn write_routing<A: Allocator, W: Sink>(plan: &Plan<A>, sink: &mut W) -> Result<(), WriteFault>
-    ensures { Wrote W.taken W.failed sink.old sink.new (lines_of_list (group_words plan.now)
+fn write_routing<A: Allocator, W: Sink>(plan: &Plan<A>, sink: &mut W)
+    ensures { Puts W.taken W.failed sink.old sink.new (lines_of_list (group_words plan.now)
         plan.now.groups ++ (lines_of_list (route_words plan.now) plan.now.routes
-        ++ lines_of_list (bar_words plan.now) plan.now.bars)) result }
+        ++ lines_of_list (bar_words plan.now) plan.now.bars)) }
 {
-    write_groups(plan, sink)?;
-    write_routes(plan, sink)?;
-    write_bars(plan, sink)
+    write_groups(plan, sink);
+    write_routes(plan, sink);
+    write_bars(plan, sink);
 }
 
-fn write_head<W: Sink>(bars: bool, sink: &mut W) -> Result<(), WriteFault>
-    ensures { Wrote W.taken W.failed sink.old sink.new (line_written (head_of bars)) result }
+fn write_head<W: Sink>(bars: bool, sink: &mut W)
+    ensures { Puts W.taken W.failed sink.old sink.new (line_written (head_of bars)) }
 {
     if bars {
-        write_parts(&[b"PLAN 2\n"], sink)
+        put_bytes(b"PLAN 2\n", sink)
     } else {
-        write_parts(&[b"PLAN 1\n"], sink)
+        put_bytes(b"PLAN 1\n", sink)
     }
 }
 
 // LISTS
 
-fn write_exchanges<A: Allocator, W: Sink>(plan: &Plan<A>, sink: &mut W) -> Result<(), WriteFault>
-    ensures { Wrote W.taken W.failed sink.old sink.new
-        (lines_of_list exchange_words plan.now.exchanges) result }
+fn write_exchanges<A: Allocator, W: Sink>(plan: &Plan<A>, sink: &mut W)
+    ensures { Puts W.taken W.failed sink.old sink.new
+        (lines_of_list exchange_words plan.now.exchanges) }
 {
     for index in 0..plan.exchanges() {
-        write_exchange(plan, index, sink)?;
+        write_exchange(plan, index, sink);
     }
-    Ok(())
 }
 
-fn write_codes<A: Allocator, W: Sink>(plan: &Plan<A>, sink: &mut W) -> Result<(), WriteFault>
-    ensures { Wrote W.taken W.failed sink.old sink.new
-        (lines_of_list (code_words plan.now) plan.now.codes) result }
+fn write_codes<A: Allocator, W: Sink>(plan: &Plan<A>, sink: &mut W)
+    ensures { Puts W.taken W.failed sink.old sink.new
+        (lines_of_list (code_words plan.now) plan.now.codes) }
 {
     for index in 0..plan.codes() {
-        write_code(plan, index, sink)?;
+        write_code(plan, index, sink);
     }
-    Ok(())
 }
 
-fn write_ranges<A: Allocator, W: Sink>(plan: &Plan<A>, sink: &mut W) -> Result<(), WriteFault>
-    ensures { Wrote W.taken W.failed sink.old sink.new
-        (lines_of_list (range_words plan.now) plan.now.ranges) result }
+fn write_ranges<A: Allocator, W: Sink>(plan: &Plan<A>, sink: &mut W)
+    ensures { Puts W.taken W.failed sink.old sink.new
+        (lines_of_list (range_words plan.now) plan.now.ranges) }
 {
     for index in 0..plan.ranges() {
-        write_range(plan, index, sink)?;
+        write_range(plan, index, sink);
     }
-    Ok(())
 }
 
-fn write_groups<A: Allocator, W: Sink>(plan: &Plan<A>, sink: &mut W) -> Result<(), WriteFault>
-    ensures { Wrote W.taken W.failed sink.old sink.new
-        (lines_of_list (group_words plan.now) plan.now.groups) result }
+fn write_groups<A: Allocator, W: Sink>(plan: &Plan<A>, sink: &mut W)
+    ensures { Puts W.taken W.failed sink.old sink.new
+        (lines_of_list (group_words plan.now) plan.now.groups) }
 {
     for index in 0..plan.groups() {
-        write_group(plan, index, sink)?;
+        write_group(plan, index, sink);
     }
-    Ok(())
 }
 
-fn write_routes<A: Allocator, W: Sink>(plan: &Plan<A>, sink: &mut W) -> Result<(), WriteFault>
-    ensures { Wrote W.taken W.failed sink.old sink.new
-        (lines_of_list (route_words plan.now) plan.now.routes) result }
+fn write_routes<A: Allocator, W: Sink>(plan: &Plan<A>, sink: &mut W)
+    ensures { Puts W.taken W.failed sink.old sink.new
+        (lines_of_list (route_words plan.now) plan.now.routes) }
 {
     for index in 0..plan.routes() {
-        write_route_at(plan, index, sink)?;
+        write_route_at(plan, index, sink);
     }
-    Ok(())
 }
 
-fn write_bars<A: Allocator, W: Sink>(plan: &Plan<A>, sink: &mut W) -> Result<(), WriteFault>
-    ensures { Wrote W.taken W.failed sink.old sink.new
-        (lines_of_list (bar_words plan.now) plan.now.bars) result }
+fn write_bars<A: Allocator, W: Sink>(plan: &Plan<A>, sink: &mut W)
+    ensures { Puts W.taken W.failed sink.old sink.new
+        (lines_of_list (bar_words plan.now) plan.now.bars) }
 {
     for index in 0..plan.bars() {
-        write_bar(plan, index, sink)?;
+        write_bar(plan, index, sink);
     }
-    Ok(())
 }
 
 // LINES: that of the entry at an index, if there is one
 
-fn write_exchange<A: Allocator, W: Sink>(
-    plan: &Plan<A>,
-    index: usize,
-    sink: &mut W,
-) -> Result<(), WriteFault>
-    ensures { Wrote W.taken W.failed sink.old sink.new
-        (line_at exchange_words plan.now.exchanges index) result }
+fn write_exchange<A: Allocator, W: Sink>(plan: &Plan<A>, index: usize, sink: &mut W)
+    ensures { Puts W.taken W.failed sink.old sink.new
+        (line_at exchange_words plan.now.exchanges index) }
 {
     match plan.exchange_at(index) {
-        Some(exchange) => write_parts(&[b"EXCHANGE ", plan.exchange_name(exchange), b"\n"], sink),
-        None => Ok(()),
+        Some(exchange) => put_parts(&[b"EXCHANGE ", plan.exchange_name(exchange), b"\n"], sink),
+        None => {}
     }
 }
 
-fn write_code<A: Allocator, W: Sink>(
-    plan: &Plan<A>,
-    index: usize,
-    sink: &mut W,
-) -> Result<(), WriteFault>
-    ensures { Wrote W.taken W.failed sink.old sink.new
-        (line_at (code_words plan.now) plan.now.codes index) result }
+fn write_code<A: Allocator, W: Sink>(plan: &Plan<A>, index: usize, sink: &mut W)
+    ensures { Puts W.taken W.failed sink.old sink.new
+        (line_at (code_words plan.now) plan.now.codes index) }
 {
     match plan.code_at(index) {
         Some(code) => {
             let home = plan.exchange_name(plan.home(code));
-            write_parts(
+            put_parts(
                 &[b"CODE ", plan.code_figures(code), b" ", home, b"\n"],
                 sink,
             )
         }
-        None => Ok(()),
+        None => {}
     }
 }
 
-fn write_range<A: Allocator, W: Sink>(
-    plan: &Plan<A>,
-    index: usize,
-    sink: &mut W,
-) -> Result<(), WriteFault>
-    ensures { Wrote W.taken W.failed sink.old sink.new
-        (line_at (range_words plan.now) plan.now.ranges index) result }
+fn write_range<A: Allocator, W: Sink>(plan: &Plan<A>, index: usize, sink: &mut W)
+    ensures { Puts W.taken W.failed sink.old sink.new
+        (line_at (range_words plan.now) plan.now.ranges index) }
 {
     match plan.range_at(index) {
         Some(range) => {
             let code = plan.code_figures(range.code);
-            write_parts(
+            put_parts(
                 &[
                     b"LINES ",
                     code,
@@ -180,17 +164,13 @@ fn write_range<A: Allocator, W: Sink>(
                 sink,
             )
         }
-        None => Ok(()),
+        None => {}
     }
 }
 
-fn write_group<A: Allocator, W: Sink>(
-    plan: &Plan<A>,
-    index: usize,
-    sink: &mut W,
-) -> Result<(), WriteFault>
-    ensures { Wrote W.taken W.failed sink.old sink.new
-        (line_at (group_words plan.now) plan.now.groups index) result }
+fn write_group<A: Allocator, W: Sink>(plan: &Plan<A>, index: usize, sink: &mut W)
+    ensures { Puts W.taken W.failed sink.old sink.new
+        (line_at (group_words plan.now) plan.now.groups index) }
 {
     match plan.group_at(index) {
         Some(group) => {
@@ -198,44 +178,40 @@ fn write_group<A: Allocator, W: Sink>(
             let (a, b) = plan.ends(group);
             let first = plan.exchange_name(a);
             let second = plan.exchange_name(b);
-            write_parts(&[b"GROUP ", name, b" ", first, b" ", second, b" "], sink)?;
-            write_direction(plan.direction(group), sink)?;
-            write_count(plan.group_count(group), sink)
+            put_parts(&[b"GROUP ", name, b" ", first, b" ", second, b" "], sink);
+            write_direction(plan.direction(group), sink);
+            write_count(plan.group_count(group), sink);
         }
-        None => Ok(()),
+        None => {}
     }
 }
 
-fn write_direction<W: Sink>(direction: Direction, sink: &mut W) -> Result<(), WriteFault>
-    ensures { Wrote W.taken W.failed sink.old sink.new (direction_word direction) result }
+fn write_direction<W: Sink>(direction: Direction, sink: &mut W)
+    ensures { Puts W.taken W.failed sink.old sink.new (direction_word direction) }
 {
     match direction {
-        Direction::OneWay => write_parts(&[b"ONEWAY"], sink),
-        Direction::BothWay => write_parts(&[b"BOTHWAY"], sink),
+        Direction::OneWay => put_bytes(b"ONEWAY", sink),
+        Direction::BothWay => put_bytes(b"BOTHWAY", sink),
     }
 }
 
 /// Writes a space and a number, and the end of the line.
-fn write_count<W: Sink>(count: u32, sink: &mut W) -> Result<(), WriteFault>
-    ensures { Wrote W.taken W.failed sink.old sink.new
-        (codes " " ++ decimal count ++ codes "\n") result }
+fn write_count<W: Sink>(count: u32, sink: &mut W)
+    ensures { Puts W.taken W.failed sink.old sink.new
+        (codes " " ++ decimal count ++ codes "\n") }
 {
     let mut buffer = Buffer::new();
     let figures = buffer.format(count).as_bytes();
-    write_parts(&[b" ", figures, b"\n"], sink)
+    put_parts(&[b" ", figures, b"\n"], sink);
 }
 
-fn write_route_at<A: Allocator, W: Sink>(
-    plan: &Plan<A>,
-    index: usize,
-    sink: &mut W,
-) -> Result<(), WriteFault>
-    ensures { Wrote W.taken W.failed sink.old sink.new
-        (line_at (route_words plan.now) plan.now.routes index) result }
+fn write_route_at<A: Allocator, W: Sink>(plan: &Plan<A>, index: usize, sink: &mut W)
+    ensures { Puts W.taken W.failed sink.old sink.new
+        (line_at (route_words plan.now) plan.now.routes index) }
 {
     match plan.route_at(index) {
         Some((exchange, code)) => write_route(plan, exchange, code, sink),
-        None => Ok(()),
+        None => {}
     }
 }
 
@@ -245,15 +221,15 @@ pub fn write_route<A: Allocator, W: Sink>(
     exchange: ExchangeId,
     code: CodeId,
     sink: &mut W,
-) -> Result<(), WriteFault>
-    ensures { Wrote W.taken W.failed sink.old sink.new
+)
+    ensures { Puts W.taken W.failed sink.old sink.new
         (line_written (route_words plan.now (record {
           exchange = exchange;
           code = code;
           groups = route_list plan.now exchange code;
-        }))) result }
+        }))) }
 {
-    write_parts(
+    put_parts(
         &[
             b"ROUTE ",
             plan.exchange_name(exchange),
@@ -261,41 +237,34 @@ pub fn write_route<A: Allocator, W: Sink>(
             plan.code_figures(code),
         ],
         sink,
-    )?;
-    write_group_names(plan, plan.list(exchange, code), sink)
+    );
+    write_group_names(plan, plan.list(exchange, code), sink);
 }
 
 /// Writes a space and a name for each group, and the end of the line.
-pub fn write_group_names<A: Allocator, W: Sink>(
-    plan: &Plan<A>,
-    groups: &[GroupId],
-    sink: &mut W,
-) -> Result<(), WriteFault>
-    ensures { Wrote W.taken W.failed sink.old sink.new
-        (flat_map (λ g. codes " " ++ group_name plan.now g) groups.now ++ codes "\n") result }
+pub fn write_group_names<A: Allocator, W: Sink>(plan: &Plan<A>, groups: &[GroupId], sink: &mut W)
+    ensures { Puts W.taken W.failed sink.old sink.new
+        (flat_map (λ g. codes " " ++ group_name plan.now g) groups.now ++ codes "\n") }
 {
     for i in 0..groups.len() {
-        write_parts(&[b" ", plan.group_name(groups[i])], sink)?;
+        put_bytes(b" ", sink);
+        put_bytes(plan.group_name(groups[i]), sink);
     }
-    write_parts(&[b"\n"], sink)
+    put_bytes(b"\n", sink);
 }
 
-fn write_bar<A: Allocator, W: Sink>(
-    plan: &Plan<A>,
-    index: usize,
-    sink: &mut W,
-) -> Result<(), WriteFault>
-    ensures { Wrote W.taken W.failed sink.old sink.new
-        (line_at (bar_words plan.now) plan.now.bars index) result }
+fn write_bar<A: Allocator, W: Sink>(plan: &Plan<A>, index: usize, sink: &mut W)
+    ensures { Puts W.taken W.failed sink.old sink.new
+        (line_at (bar_words plan.now) plan.now.bars index) }
 {
     match plan.bar_at(index) {
         Some((exchange, code)) => {
             let exchange = plan.exchange_name(exchange);
-            write_parts(
+            put_parts(
                 &[b"BAR ", exchange, b" ", plan.code_figures(code), b"\n"],
                 sink,
             )
         }
-        None => Ok(()),
+        None => {}
     }
 }

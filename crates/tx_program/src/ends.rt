@@ -179,6 +179,10 @@ impl<'a, W: Write + Drop, A: Allocator> Sink for OutputSink<'a, W, A> {
         self.failed = true;
         Err(WriteFault)
     }
+
+    fn has_failed(&self) -> bool {
+        self.failed
+    }
 }
 
 /// A reader before each of whose reads an output goes out. What it has read ahead it gives without

@@ -9,7 +9,7 @@ use std::io;
 use tx_commands::{Command, Files, STANDARD_INPUT};
 use tx_jobs::{JobFault, write_fault};
 use tx_lint::write_escaped;
-use tx_text::{Sink, WriteFault, write_bytes, write_parts};
+use tx_text::{Sink, WriteFault, finish, put_bytes, put_parts};
 
 /// A file of a command, by its place among those that it reads or makes, or standard output.
 #[derive(Clone, Copy)]
@@ -91,17 +91,19 @@ pub(crate) fn write_stop<A: Allocator, W: Sink>(
             write_failure(alloc, b"write fault", file.name(&files), error, sink)
         }
         Stop::OneFile(file, other) => {
-            write_bytes(b"telexplan: ", sink)?;
-            write_escaped(file.name(&files).as_bytes(), sink)?;
-            write_bytes(b" and ", sink)?;
-            write_escaped(other.name(&files).as_bytes(), sink)?;
-            write_bytes(b" are one file\n", sink)
+            put_bytes(b"telexplan: ", sink);
+            write_escaped(file.name(&files).as_bytes(), sink);
+            put_bytes(b" and ", sink);
+            write_escaped(other.name(&files).as_bytes(), sink);
+            put_bytes(b" are one file\n", sink);
+            finish(sink)
         }
         Stop::OtherKind { file, held, wanted } => {
-            write_bytes(b"telexplan: ", sink)?;
-            write_escaped(file.name(&files).as_bytes(), sink)?;
+            put_bytes(b"telexplan: ", sink);
+            write_escaped(file.name(&files).as_bytes(), sink);
             let (held, wanted) = (held.name().as_bytes(), wanted.name().as_bytes());
-            write_parts(&[b" is a ", held, b", not a ", wanted, b"\n"], sink)
+            put_parts(&[b" is a ", held, b", not a ", wanted, b"\n"], sink);
+            finish(sink)
         }
     }
 }
@@ -162,9 +164,10 @@ fn write_job_fault<W: Sink>(
 }
 
 fn write_word<W: Sink>(why: &[u8], word: &str, sink: &mut W) -> Result<(), WriteFault> {
-    write_bytes(why, sink)?;
-    write_escaped(word.as_bytes(), sink)?;
-    write_bytes(b"\n", sink)
+    put_bytes(why, sink);
+    write_escaped(word.as_bytes(), sink);
+    put_bytes(b"\n", sink);
+    finish(sink)
 }
 
 /// Writes which end failed, and what the system said, unless there is no memory for that.
@@ -175,21 +178,22 @@ fn write_failure<A: Allocator, W: Sink>(
     error: &io::Error,
     sink: &mut W,
 ) -> Result<(), WriteFault> {
-    write_parts(&[b"telexplan: ", fault, b": "], sink)?;
+    put_parts(&[b"telexplan: ", fault, b": "], sink);
     if name == STANDARD_INPUT {
-        write_bytes(b"standard input", sink)?;
+        put_bytes(b"standard input", sink);
     } else {
-        write_escaped(name.as_bytes(), sink)?;
+        write_escaped(name.as_bytes(), sink);
     }
     if let Ok(said) = format!(in alloc; "{error}") {
-        write_said(said.as_str(), sink)?;
+        write_said(said.as_str(), sink);
     }
-    write_bytes(b"\n", sink)
+    put_bytes(b"\n", sink);
+    finish(sink)
 }
 
 /// Writes what the system said, without the number of the error.
-fn write_said<W: Sink>(said: &str, sink: &mut W) -> Result<(), WriteFault> {
-    write_parts(&[b": ", without_number(said).as_bytes()], sink)
+fn write_said<W: Sink>(said: &str, sink: &mut W) {
+    put_parts(&[b": ", without_number(said).as_bytes()], sink);
 }
 
 fn without_number(said: &str) -> &str {

@@ -20,4 +20,3 @@ pub mod Bounding
 pub mod Unmended
 pub mod Graded
 pub mod Marking
-pub mod Reporting

@@ -1,6 +1,7 @@
 // The writer of grades.
 ghost use Rattle.std.specs.Prelude.{◌++◌};
 ghost use Rattle.std.specs.List.{flat_map};
+ghost use Rattle.tx_text.specs.Puts.{Puts};
 ghost use Rattle.tx_text.specs.Wrote.{Wrote};
 ghost use Rattle.tx_rank.specs.GradeText.{bounds_text, code_line, why_text, grade_text};
 
@@ -11,7 +12,7 @@ use crate::report::write_findings;
 use itoa::Buffer;
 use std::alloc::Allocator;
 use tx_plan::{CodeId, Plan};
-use tx_text::{Sink, WriteFault, write_parts};
+use tx_text::{Sink, WriteFault, finish, put_parts};
 
 /// Writes the bounds of a plan and of each of its codes, or that there are none; and why, if the
 /// plan has none.
@@ -23,20 +24,16 @@ pub fn write_grade<A: Allocator, W: Sink>(
     ensures { Wrote W.taken W.failed sink.old sink.new
         (grade_text plan.now grade.now) result }
 {
-    write_bounds(b"GRADE", b"", grade.plan, sink)?;
-    write_codes(plan, &grade.codes, sink)?;
-    write_why(plan, grade.plan, &grade.findings, sink)
+    write_bounds(b"GRADE", b"", grade.plan, sink);
+    write_codes(plan, &grade.codes, sink);
+    write_why(plan, grade.plan, &grade.findings, sink);
+    finish(sink)
 }
 
 /// Writes the head of a line, a name, and a limit and a spare number, or that there are none.
-fn write_bounds<W: Sink>(
-    head: &[u8],
-    name: &[u8],
-    bounds: Option<Bounds>,
-    sink: &mut W,
-) -> Result<(), WriteFault>
-    ensures { Wrote W.taken W.failed sink.old sink.new
-        (head.now ++ (name.now ++ bounds_text bounds)) result }
+fn write_bounds<W: Sink>(head: &[u8], name: &[u8], bounds: Option<Bounds>, sink: &mut W)
+    ensures { Puts W.taken W.failed sink.old sink.new
+        (head.now ++ (name.now ++ bounds_text bounds)) }
 {
     match bounds {
         Some(bounds) => {
@@ -44,12 +41,12 @@ fn write_bounds<W: Sink>(
             let mut groups = Buffer::new();
             let limit = transits.format(bounds.limit).as_bytes();
             let spare = groups.format(bounds.spare).as_bytes();
-            write_parts(
+            put_parts(
                 &[head, name, b" LIMIT ", limit, b" SPARE ", spare, b"\n"],
                 sink,
             )
         }
-        None => write_parts(&[head, name, b" NONE\n"], sink),
+        None => put_parts(&[head, name, b" NONE\n"], sink),
     }
 }
 
@@ -57,25 +54,20 @@ fn write_codes<A: Allocator, W: Sink>(
     plan: &Plan<A>,
     codes: &[(CodeId, Option<Bounds>)],
     sink: &mut W,
-) -> Result<(), WriteFault>
-    ensures { Wrote W.taken W.failed sink.old sink.new
-        (flat_map (code_line plan.now) codes.now) result }
+)
+    ensures { Puts W.taken W.failed sink.old sink.new
+        (flat_map (code_line plan.now) codes.now) }
 {
     for i in 0..codes.len() {
-        write_code(plan, codes[i], sink)?;
+        write_code(plan, codes[i], sink);
     }
-    Ok(())
 }
 
-fn write_code<A: Allocator, W: Sink>(
-    plan: &Plan<A>,
-    code: (CodeId, Option<Bounds>),
-    sink: &mut W,
-) -> Result<(), WriteFault>
-    ensures { Wrote W.taken W.failed sink.old sink.new
-        (code_line plan.now code) result }
+fn write_code<A: Allocator, W: Sink>(plan: &Plan<A>, code: (CodeId, Option<Bounds>), sink: &mut W)
+    ensures { Puts W.taken W.failed sink.old sink.new
+        (code_line plan.now code) }
 {
-    write_bounds(b"CODE ", plan.code_figures(code.0), code.1, sink)
+    write_bounds(b"CODE ", plan.code_figures(code.0), code.1, sink);
 }
 
 fn write_why<A: Allocator, W: Sink>(
@@ -83,12 +75,12 @@ fn write_why<A: Allocator, W: Sink>(
     bounds: Option<Bounds>,
     findings: &[Finding<A>],
     sink: &mut W,
-) -> Result<(), WriteFault>
-    ensures { Wrote W.taken W.failed sink.old sink.new
-        (why_text plan.now bounds findings.now) result }
+)
+    ensures { Puts W.taken W.failed sink.old sink.new
+        (why_text plan.now bounds findings.now) }
 {
     match bounds {
-        Some(_) => Ok(()),
+        Some(_) => {}
         None => write_findings(plan, findings, sink),
     }
 }

@@ -1,7 +1,7 @@
 // The lines of those who are cut off.
 ghost use Rattle.std.specs.Prelude.{◌≡◌, ◌++◌, ◌==◌, [], if◌then◌else◌, length};
 ghost use Rattle.std.specs.List.{flat_map, range_with_len};
-ghost use Rattle.tx_text.specs.Wrote.{Wrote};
+ghost use Rattle.tx_text.specs.Puts.{Puts};
 ghost use Rattle.tx_rank.specs.Walks.{end_of};
 ghost use Rattle.tx_risk_report.specs.OutageReport.{start_text, cut_line, cuts_at};
 
@@ -9,22 +9,16 @@ use std::alloc::Allocator;
 use tx_plan::{CodeId, ExchangeId, Plan};
 use tx_rank::{Walk, write_steps};
 use tx_risk::Cut;
-use tx_text::{Sink, WriteFault, write_parts};
+use tx_text::{Sink, put_bytes};
 
 /// Writes those who are cut off, by the exchanges where their walks end.
-pub(crate) fn write_cuts<A: Allocator, W: Sink>(
-    plan: &Plan<A>,
-    cuts: &[Cut<A>],
-    sink: &mut W,
-) -> Result<(), WriteFault>
-    ensures { Wrote W.taken W.failed sink.old sink.new
-        (flat_map (cuts_at plan.now cuts.now) (range_with_len 0 (length plan.now.exchanges)))
-        result }
+pub(crate) fn write_cuts<A: Allocator, W: Sink>(plan: &Plan<A>, cuts: &[Cut<A>], sink: &mut W)
+    ensures { Puts W.taken W.failed sink.old sink.new
+        (flat_map (cuts_at plan.now cuts.now) (range_with_len 0 (length plan.now.exchanges))) }
 {
     for index in 0..plan.exchanges() {
-        write_cuts_at(plan, cuts, ExchangeId::of(index), sink)?;
+        write_cuts_at(plan, cuts, ExchangeId::of(index), sink);
     }
-    Ok(())
 }
 
 /// Writes those of which the walk ends at the exchange.
@@ -33,14 +27,13 @@ fn write_cuts_at<A: Allocator, W: Sink>(
     cuts: &[Cut<A>],
     exchange: ExchangeId,
     sink: &mut W,
-) -> Result<(), WriteFault>
-    ensures { Wrote W.taken W.failed sink.old sink.new
-        (cuts_at plan.now cuts.now exchange) result }
+)
+    ensures { Puts W.taken W.failed sink.old sink.new
+        (cuts_at plan.now cuts.now exchange) }
 {
     for i in 0..cuts.len() {
-        write_cut_at(plan, &cuts[i], exchange, sink)?;
+        write_cut_at(plan, &cuts[i], exchange, sink);
     }
-    Ok(())
 }
 
 /// Writes one, if its walk ends at the exchange.
@@ -49,30 +42,27 @@ fn write_cut_at<A: Allocator, W: Sink>(
     cut: &Cut<A>,
     exchange: ExchangeId,
     sink: &mut W,
-) -> Result<(), WriteFault>
-    ensures { Wrote W.taken W.failed sink.old sink.new
+)
+    ensures { Puts W.taken W.failed sink.old sink.new
         (if end_of cut.now.walk.start cut.now.walk.steps == exchange
-        then cut_line plan.now cut.now else []) result }
+        then cut_line plan.now cut.now else []) }
 {
     if cut.walk.end() != exchange {
-        return Ok(());
+        return;
     }
-    write_line(plan, cut, sink)
+    write_line(plan, cut, sink);
 }
 
 /// Writes whom it cuts off, with the walk.
-fn write_line<A: Allocator, W: Sink>(
-    plan: &Plan<A>,
-    cut: &Cut<A>,
-    sink: &mut W,
-) -> Result<(), WriteFault>
-    ensures { Wrote W.taken W.failed sink.old sink.new
-        (cut_line plan.now cut.now) result }
+fn write_line<A: Allocator, W: Sink>(plan: &Plan<A>, cut: &Cut<A>, sink: &mut W)
+    ensures { Puts W.taken W.failed sink.old sink.new
+        (cut_line plan.now cut.now) }
 {
     if cut.stray {
-        return write_walk(b"STRAY ", plan, cut.code, &cut.walk, sink);
+        write_walk(b"STRAY ", plan, cut.code, &cut.walk, sink)
+    } else {
+        write_walk(b"CUT ", plan, cut.code, &cut.walk, sink)
     }
-    write_walk(b"CUT ", plan, cut.code, &cut.walk, sink)
 }
 
 /// Writes the head of a line, a code, where calls start, and the walk from there.
@@ -82,22 +72,16 @@ fn write_walk<A: Allocator, W: Sink>(
     code: CodeId,
     walk: &Walk<A>,
     sink: &mut W,
-) -> Result<(), WriteFault>
-    ensures { Wrote W.taken W.failed sink.old sink.new
-        (head.now ++ start_text plan.now code walk.now) result }
+)
+    ensures { Puts W.taken W.failed sink.old sink.new
+        (head.now ++ start_text plan.now code walk.now) }
 {
-    let code = plan.code_figures(code);
     let start = plan.exchange_name(walk.start);
-    write_parts(
-        &[
-            head,
-            code,
-            b" ",
-            start,
-            b" VIA ",
-            plan.exchange_name(walk.start),
-        ],
-        sink,
-    )?;
-    write_steps(plan, walk.steps.as_slice(), sink)
+    put_bytes(head, sink);
+    put_bytes(plan.code_figures(code), sink);
+    put_bytes(b" ", sink);
+    put_bytes(start, sink);
+    put_bytes(b" VIA ", sink);
+    put_bytes(start, sink);
+    write_steps(plan, walk.steps.as_slice(), sink);
 }

@@ -1,6 +1,7 @@
 // The writer of what outages cut off.
 ghost use Rattle.std.specs.Prelude.{if◌then◌else◌, []};
 ghost use Rattle.std.specs.List.{flat_map};
+ghost use Rattle.tx_text.specs.Puts.{Puts};
 ghost use Rattle.tx_text.specs.Wrote.{Wrote};
 ghost use Rattle.tx_risk_report.specs.OutageReport.{head_line, outage_words, block_text, tried_text, survival_text};
 
@@ -11,7 +12,7 @@ use std::alloc::Allocator;
 use tx_plan::Plan;
 use tx_rank::write_grade;
 use tx_risk::{Outage, Outcome, Risks, Survival};
-use tx_text::{Sink, WriteFault, write_parts};
+use tx_text::{Sink, WriteFault, finish, put_bytes, put_parts};
 
 /// Writes how many outages were tried, how many starts each cuts off, which ones (unless totals
 /// alone are asked for), and the verdict; or that the plan has no grade, as its grade is written.
@@ -26,7 +27,10 @@ pub fn write_survival<A: Allocator, W: Sink>(
         (survival_text plan.now risks.now totals_only survival.now) result }
 {
     match survival {
-        Survival::Tried(outcomes) => write_tried(plan, risks, outcomes, totals_only, sink),
+        Survival::Tried(outcomes) => {
+            write_tried(plan, risks, outcomes, totals_only, sink);
+            finish(sink)
+        }
         Survival::Ungraded(grade) => write_grade(plan, grade, sink),
     }
 }
@@ -37,24 +41,24 @@ fn write_tried<A: Allocator, W: Sink>(
     outcomes: &[Outcome<A>],
     totals_only: bool,
     sink: &mut W,
-) -> Result<(), WriteFault>
-    ensures { Wrote W.taken W.failed sink.old sink.new
-        (tried_text plan.now risks.now totals_only outcomes.now) result }
+)
+    ensures { Puts W.taken W.failed sink.old sink.new
+        (tried_text plan.now risks.now totals_only outcomes.now) }
 {
-    write_head(outcomes.len(), sink)?;
-    write_totals(plan, risks, outcomes, sink)?;
-    write_harmless(outcomes, sink)?;
-    write_blocks(plan, risks, outcomes, totals_only, sink)?;
-    write_count(outcomes, sink)
+    write_head(outcomes.len(), sink);
+    write_totals(plan, risks, outcomes, sink);
+    write_harmless(outcomes, sink);
+    write_blocks(plan, risks, outcomes, totals_only, sink);
+    write_count(outcomes, sink);
 }
 
-fn write_head<W: Sink>(count: usize, sink: &mut W) -> Result<(), WriteFault>
-    ensures { Wrote W.taken W.failed sink.old sink.new
-        (head_line count) result }
+fn write_head<W: Sink>(count: usize, sink: &mut W)
+    ensures { Puts W.taken W.failed sink.old sink.new
+        (head_line count) }
 {
     let mut buffer = Buffer::new();
     let count = buffer.format(count).as_bytes();
-    write_parts(&[b"SURVIVE RISKS ", count, b"\n"], sink)
+    put_parts(&[b"SURVIVE RISKS ", count, b"\n"], sink);
 }
 
 /// Writes what fails.
@@ -63,16 +67,16 @@ pub(crate) fn write_outage<A: Allocator, W: Sink>(
     risks: &Risks<A>,
     outage: &Outage,
     sink: &mut W,
-) -> Result<(), WriteFault>
-    ensures { Wrote W.taken W.failed sink.old sink.new
-        (outage_words plan.now risks.now outage.now) result }
+)
+    ensures { Puts W.taken W.failed sink.old sink.new
+        (outage_words plan.now risks.now outage.now) }
 {
     match outage {
-        Outage::Group(group) => write_parts(&[b"GROUP ", plan.group_name(*group)], sink),
+        Outage::Group(group) => put_parts(&[b"GROUP ", plan.group_name(*group)], sink),
         Outage::Exchange(exchange) => {
-            write_parts(&[b"EXCHANGE ", plan.exchange_name(*exchange)], sink)
+            put_parts(&[b"EXCHANGE ", plan.exchange_name(*exchange)], sink)
         }
-        Outage::Named(index) => write_parts(&[b"RISK ", risks.name(*index)], sink),
+        Outage::Named(index) => put_parts(&[b"RISK ", risks.name(*index)], sink),
     }
 }
 
@@ -83,18 +87,16 @@ fn write_blocks<A: Allocator, W: Sink>(
     outcomes: &[Outcome<A>],
     totals_only: bool,
     sink: &mut W,
-) -> Result<(), WriteFault>
-    ensures { Wrote W.taken W.failed sink.old sink.new
-        (if totals_only then [] else flat_map (block_text plan.now risks.now) outcomes.now)
-        result }
+)
+    ensures { Puts W.taken W.failed sink.old sink.new
+        (if totals_only then [] else flat_map (block_text plan.now risks.now) outcomes.now) }
 {
     if totals_only {
-        return Ok(());
+        return;
     }
     for i in 0..outcomes.len() {
-        write_block(plan, risks, &outcomes[i], sink)?;
+        write_block(plan, risks, &outcomes[i], sink);
     }
-    Ok(())
 }
 
 /// Writes whom an outage cuts off, if it does.
@@ -103,14 +105,14 @@ fn write_block<A: Allocator, W: Sink>(
     risks: &Risks<A>,
     outcome: &Outcome<A>,
     sink: &mut W,
-) -> Result<(), WriteFault>
-    ensures { Wrote W.taken W.failed sink.old sink.new
-        (block_text plan.now risks.now outcome.now) result }
+)
+    ensures { Puts W.taken W.failed sink.old sink.new
+        (block_text plan.now risks.now outcome.now) }
 {
     if is_harmless(outcome) {
-        return Ok(());
+        return;
     }
-    write_outage(plan, risks, &outcome.outage, sink)?;
-    write_parts(&[b"\n"], sink)?;
-    write_cuts(plan, &outcome.cuts, sink)
+    write_outage(plan, risks, &outcome.outage, sink);
+    put_bytes(b"\n", sink);
+    write_cuts(plan, &outcome.cuts, sink);
 }

@@ -1,7 +1,7 @@
 // How many starts each outage cuts off, and all of them.
 ghost use Rattle.std.specs.Prelude.{◌≡◌, ◌&&◌, ◌++◌, [], if◌then◌else◌, count_by};
 ghost use Rattle.std.specs.List.{flat_map};
-ghost use Rattle.tx_text.specs.Wrote.{Wrote};
+ghost use Rattle.tx_text.specs.Puts.{Puts};
 ghost use Rattle.tx_rank.specs.Report.{verdict_line};
 ghost use Rattle.tx_risk_report.specs.OutageReport.{is_named, is_group, is_exchange, is_harmless, harmless_line, harmless_text, cut_off, astray, is_told, total_line, total_text, count_of};
 
@@ -10,7 +10,7 @@ use itoa::Buffer;
 use std::alloc::Allocator;
 use tx_plan::Plan;
 use tx_risk::{Outage, Outcome, Risks};
-use tx_text::{Sink, WriteFault, write_parts};
+use tx_text::{Sink, put_bytes, put_parts};
 
 /// Writes the totals of each named risk, and of each other outage that cuts somebody off.
 pub(crate) fn write_totals<A: Allocator, W: Sink>(
@@ -18,14 +18,13 @@ pub(crate) fn write_totals<A: Allocator, W: Sink>(
     risks: &Risks<A>,
     outcomes: &[Outcome<A>],
     sink: &mut W,
-) -> Result<(), WriteFault>
-    ensures { Wrote W.taken W.failed sink.old sink.new
-        (flat_map (total_text plan.now risks.now) outcomes.now) result }
+)
+    ensures { Puts W.taken W.failed sink.old sink.new
+        (flat_map (total_text plan.now risks.now) outcomes.now) }
 {
     for i in 0..outcomes.len() {
-        write_total(plan, risks, &outcomes[i], sink)?;
+        write_total(plan, risks, &outcomes[i], sink);
     }
-    Ok(())
 }
 
 fn write_total<A: Allocator, W: Sink>(
@@ -33,14 +32,13 @@ fn write_total<A: Allocator, W: Sink>(
     risks: &Risks<A>,
     outcome: &Outcome<A>,
     sink: &mut W,
-) -> Result<(), WriteFault>
-    ensures { Wrote W.taken W.failed sink.old sink.new
-        (total_text plan.now risks.now outcome.now) result }
+)
+    ensures { Puts W.taken W.failed sink.old sink.new
+        (total_text plan.now risks.now outcome.now) }
 {
     if is_told(outcome) {
-        return write_total_line(plan, risks, outcome, sink);
+        write_total_line(plan, risks, outcome, sink);
     }
-    Ok(())
 }
 
 fn write_total_line<A: Allocator, W: Sink>(
@@ -48,16 +46,16 @@ fn write_total_line<A: Allocator, W: Sink>(
     risks: &Risks<A>,
     outcome: &Outcome<A>,
     sink: &mut W,
-) -> Result<(), WriteFault>
-    ensures { Wrote W.taken W.failed sink.old sink.new
-        (total_line plan.now risks.now outcome.now) result }
+)
+    ensures { Puts W.taken W.failed sink.old sink.new
+        (total_line plan.now risks.now outcome.now) }
 {
     let mut cut = Buffer::new();
     let mut stray = Buffer::new();
     let cut = cut.format(count_cut(outcome)).as_bytes();
     let stray = stray.format(count_stray(outcome)).as_bytes();
-    write_outage(plan, risks, &outcome.outage, sink)?;
-    write_parts(&[b" CUT ", cut, b" STRAY ", stray, b"\n"], sink)
+    write_outage(plan, risks, &outcome.outage, sink);
+    put_parts(&[b" CUT ", cut, b" STRAY ", stray, b"\n"], sink);
 }
 
 /// Whether an outage is told: a named risk is, and what else cuts somebody off.
@@ -82,27 +80,24 @@ pub fn count_stray<A: Allocator>(outcome: &Outcome<A>) -> usize
 }
 
 /// Writes how many groups and how many exchanges cut nobody off.
-pub(crate) fn write_harmless<A: Allocator, W: Sink>(
-    outcomes: &[Outcome<A>],
-    sink: &mut W,
-) -> Result<(), WriteFault>
-    ensures { Wrote W.taken W.failed sink.old sink.new
-        (harmless_text outcomes.now) result }
+pub(crate) fn write_harmless<A: Allocator, W: Sink>(outcomes: &[Outcome<A>], sink: &mut W)
+    ensures { Puts W.taken W.failed sink.old sink.new
+        (harmless_text outcomes.now) }
 {
-    write_harmless_line(b"GROUPS ", harmless_groups(outcomes), sink)?;
-    write_harmless_line(b"EXCHANGES ", harmless_exchanges(outcomes), sink)
+    write_harmless_line(b"GROUPS ", harmless_groups(outcomes), sink);
+    write_harmless_line(b"EXCHANGES ", harmless_exchanges(outcomes), sink);
 }
 
-fn write_harmless_line<W: Sink>(kind: &[u8], count: usize, sink: &mut W) -> Result<(), WriteFault>
-    ensures { Wrote W.taken W.failed sink.old sink.new
-        (harmless_line kind.now count) result }
+fn write_harmless_line<W: Sink>(kind: &[u8], count: usize, sink: &mut W)
+    ensures { Puts W.taken W.failed sink.old sink.new
+        (harmless_line kind.now count) }
 {
     if count == 0 {
-        return Ok(());
+        return;
     }
     let mut buffer = Buffer::new();
     let count = buffer.format(count).as_bytes();
-    write_parts(&[kind, count, b" CUT 0\n"], sink)
+    put_parts(&[kind, count, b" CUT 0\n"], sink);
 }
 
 /// How many groups cut nobody off.
@@ -162,18 +157,16 @@ fn count_all<A: Allocator>(outcomes: &[Outcome<A>]) -> u128
 }
 
 /// Writes the verdict: YES, or NO with how many starts are cut off, by all outages.
-pub(crate) fn write_count<A: Allocator, W: Sink>(
-    outcomes: &[Outcome<A>],
-    sink: &mut W,
-) -> Result<(), WriteFault>
-    ensures { Wrote W.taken W.failed sink.old sink.new
-        (verdict_line (count_of outcomes.now)) result }
+pub(crate) fn write_count<A: Allocator, W: Sink>(outcomes: &[Outcome<A>], sink: &mut W)
+    ensures { Puts W.taken W.failed sink.old sink.new
+        (verdict_line (count_of outcomes.now)) }
 {
     let count = count_all(outcomes);
     if count == 0 {
-        return write_parts(&[b"VERDICT YES\n"], sink);
+        put_bytes(b"VERDICT YES\n", sink)
+    } else {
+        let mut buffer = Buffer::new();
+        let count = buffer.format(count).as_bytes();
+        put_parts(&[b"VERDICT NO ", count, b"\n"], sink)
     }
-    let mut buffer = Buffer::new();
-    let count = buffer.format(count).as_bytes();
-    write_parts(&[b"VERDICT NO ", count, b"\n"], sink)
 }

@@ -2,6 +2,7 @@
 ghost use Rattle.std.specs.Prelude.{◌≡◌, ◌+◌, ◌++◌, ◌<◌, ◌^◌, OnOk, OnErr, IfOk, IfErr, length};
 ghost use Rattle.std.specs.Io.KnownBytes.{append_known};
 ghost use Rattle.tx_text.specs.Ends.{StopsIn};
+ghost use Rattle.tx_text.specs.Puts.{Puts};
 ghost use Rattle.tx_text.specs.Wrote.{Wrote};
 ghost use Rattle.tx_script.specs.Answers.{mark_after};
 ghost use Rattle.tx_script.specs.Output.{end_line};
@@ -17,7 +18,7 @@ use itoa::Buffer;
 use std::alloc::Allocator;
 use tx_machine::Network;
 use tx_plan::Plan;
-use tx_text::{Sink, WriteFault, write_parts};
+use tx_text::{Sink, WriteFault, put_parts};
 
 /// Writes the line END EVENTS and, where it is asked for, the summary. Returns what was counted.
 pub(crate) fn finish<A: Allocator, B: Allocator, N: Network, W: Sink>(
@@ -66,20 +67,19 @@ fn write_last_lines<A: Allocator, B: Allocator, W: Sink>(
     ensures { Wrote W.taken W.failed sink.old sink.new
         (end_line events open_calls ++ asked_text plan.now counts.now open_calls) result }
 {
-    write_end(events, open_calls, sink)?;
-    match counts {
-        Some(counts) => write_summary(counts, open_calls, plan, sink),
-        None => Ok(()),
+    write_end(events, open_calls, sink);
+    if let Some(counts) = counts {
+        write_summary(counts, open_calls, plan, sink);
     }
+    tx_text::finish(sink)
 }
 
-fn write_end<W: Sink>(events: u64, open_calls: u64, sink: &mut W) -> Result<(), WriteFault>
-    ensures { Wrote W.taken W.failed sink.old sink.new
-        (end_line events open_calls) result }
+fn write_end<W: Sink>(events: u64, open_calls: u64, sink: &mut W)
+    ensures { Puts W.taken W.failed sink.old sink.new (end_line events open_calls) }
 {
     let mut accepted = Buffer::new();
     let mut open = Buffer::new();
     let events = accepted.format(events).as_bytes();
     let calls = open.format(open_calls).as_bytes();
-    write_parts(&[b"END EVENTS ", events, b" OPEN ", calls, b"\n"], sink)
+    put_parts(&[b"END EVENTS ", events, b" OPEN ", calls, b"\n"], sink);
 }

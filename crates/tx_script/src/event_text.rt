@@ -1,6 +1,7 @@
 // The line of an event.
 ghost use Rattle.std.specs.Prelude.{◌≡◌, ◌++◌, [], true, Ok, codes, decimal, get_or};
 ghost use Rattle.tx_text.specs.Words.{are_figures};
+ghost use Rattle.tx_text.specs.Puts.{Puts};
 ghost use Rattle.tx_text.specs.Wrote.{Wrote};
 ghost use Rattle.tx_plan.specs.Plan.{Plan as PlanValue, group_name};
 ghost use Rattle.tx_plan.specs.Rules.{is_national};
@@ -11,7 +12,7 @@ use itoa::Buffer;
 use std::alloc::Allocator;
 use tx_machine::{Event, Party};
 use tx_plan::{GroupId, Line, Plan};
-use tx_text::{Figures, Sink, WriteFault, write_parts};
+use tx_text::{Figures, Sink, WriteFault, finish, put_parts};
 use tx_tickets::write_circuit;
 
 /// Writes the line of an event, as `KEY 41 10001 4110002`, with its LF. The plan has the event's
@@ -28,17 +29,14 @@ pub fn write_event<A: Allocator, W: Sink>(
         (event_text plan.now event.now) result }
 {
     plan.rules();
-    write_any_event(event, plan, sink)
+    write_any_event(event, plan, sink);
+    finish(sink)
 }
 
 /// Writes the line of any event: of an id that the plan does not have, no name is written.
-pub(crate) fn write_any_event<A: Allocator, W: Sink>(
-    event: &Event,
-    plan: &Plan<A>,
-    sink: &mut W,
-) -> Result<(), WriteFault>
-    ensures { Wrote W.taken W.failed sink.old sink.new
-        (event_text plan.now event.now) result }
+pub fn write_any_event<A: Allocator, W: Sink>(event: &Event, plan: &Plan<A>, sink: &mut W)
+    ensures { Puts W.taken W.failed sink.old sink.new
+        (event_text plan.now event.now) }
 {
     let first = first_word(event);
     match event {
@@ -87,13 +85,13 @@ fn write_key<A: Allocator, W: Sink>(
     keyed: &Figures,
     plan: &Plan<A>,
     sink: &mut W,
-) -> Result<(), WriteFault>
+)
     ensures national { is_national line.now.national ≡ true }
     ensures keyed { are_figures 1 12 keyed.now ≡ true }
-    ensures wrote { Wrote W.taken W.failed sink.old sink.new (first.now
-        ++ (line_text plan.now line.now ++ (codes " " ++ (keyed.now ++ codes "\n")))) result }
+    ensures puts { Puts W.taken W.failed sink.old sink.new (first.now
+        ++ (line_text plan.now line.now ++ (codes " " ++ (keyed.now ++ codes "\n")))) }
 {
-    write_parts(
+    put_parts(
         &[
             first,
             plan.code_figures(line.code),
@@ -104,16 +102,16 @@ fn write_key<A: Allocator, W: Sink>(
             b"\n",
         ],
         sink,
-    )
+    );
 }
 
 /// Writes a first word, given with its space, a call's number, and what ends the line.
-fn write_call<W: Sink>(first: &[u8], call: u32, end: &[u8], sink: &mut W) -> Result<(), WriteFault>
-    ensures { Wrote W.taken W.failed sink.old sink.new
-        (first.now ++ (decimal call ++ end.now)) result }
+fn write_call<W: Sink>(first: &[u8], call: u32, end: &[u8], sink: &mut W)
+    ensures { Puts W.taken W.failed sink.old sink.new
+        (first.now ++ (decimal call ++ end.now)) }
 {
     let mut digits = Buffer::new();
-    write_parts(&[first, digits.format(call).as_bytes(), end, b""], sink)
+    put_parts(&[first, digits.format(call).as_bytes(), end, b""], sink);
 }
 
 /// The party that clears, with what comes before it and after it.
@@ -127,30 +125,20 @@ fn party_end<'a>(party: Party) -> &'a [u8]
 }
 
 /// Writes a first word, given with its space, and a group.
-fn write_group<A: Allocator, W: Sink>(
-    first: &[u8],
-    group: GroupId,
-    plan: &Plan<A>,
-    sink: &mut W,
-) -> Result<(), WriteFault>
-    ensures { Wrote W.taken W.failed sink.old sink.new
-        (first.now ++ (group_name plan.now group ++ codes "\n")) result }
+fn write_group<A: Allocator, W: Sink>(first: &[u8], group: GroupId, plan: &Plan<A>, sink: &mut W)
+    ensures { Puts W.taken W.failed sink.old sink.new
+        (first.now ++ (group_name plan.now group ++ codes "\n")) }
 {
-    write_parts(&[first, plan.group_name(group), b"\n"], sink)
+    put_parts(&[first, plan.group_name(group), b"\n"], sink);
 }
 
 /// Writes a first word, given with its space, and a line.
-fn write_line<A: Allocator, W: Sink>(
-    first: &[u8],
-    line: &Line,
-    plan: &Plan<A>,
-    sink: &mut W,
-) -> Result<(), WriteFault>
+fn write_line<A: Allocator, W: Sink>(first: &[u8], line: &Line, plan: &Plan<A>, sink: &mut W)
     ensures national { is_national line.now.national ≡ true }
-    ensures wrote { Wrote W.taken W.failed sink.old sink.new
-        (first.now ++ (line_text plan.now line.now ++ codes "\n")) result }
+    ensures puts { Puts W.taken W.failed sink.old sink.new
+        (first.now ++ (line_text plan.now line.now ++ codes "\n")) }
 {
-    write_parts(
+    put_parts(
         &[
             first,
             plan.code_figures(line.code),
@@ -159,5 +147,5 @@ fn write_line<A: Allocator, W: Sink>(
             b"\n",
         ],
         sink,
-    )
+    );
 }

@@ -35,7 +35,7 @@ mod summary_text;
 mod teller;
 
 pub use event_line::{event_lines_read_back, read_event};
-pub use event_text::write_event;
+pub use event_text::{write_any_event, write_event};
 pub use run_cause::RunCause;
 pub use run_fault::RunFault;
 pub use runner::{run, run_telling};

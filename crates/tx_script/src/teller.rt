@@ -1,5 +1,6 @@
 // What a run counts, and what it can print beside replies and tickets.
 ghost use Rattle.std.specs.Prelude.{◌≡◌, ◌+◌, ◌<◌, ◌^◌, IfOk, OnErr, IfSome, None, true, false, option_map, ◌≤◌, cond};
+ghost use Rattle.tx_text.specs.Puts.{Puts};
 ghost use Rattle.tx_text.specs.Wrote.{Wrote};
 ghost use Rattle.tx_script.specs.inner.Counting.{count_for, counts_for, one_counted, uses_counted};
 ghost use Rattle.tx_script.specs.Telling.{echo_asked, echo_text, number_text};
@@ -13,7 +14,7 @@ use itoa::Buffer;
 use std::alloc::Allocator;
 use tx_machine::{Cause, Event, Reply};
 use tx_plan::Plan;
-use tx_text::{NoMemory, Sink, WriteFault, write_parts};
+use tx_text::{NoMemory, Sink, WriteFault, finish, put_parts};
 
 /// What a run prints beside replies and tickets, where it is asked for.
 #[derive(Clone, Copy)]
@@ -171,15 +172,15 @@ fn write_echo<A: Allocator, W: Sink>(
     ensures { Wrote W.taken W.failed sink.old sink.new
         (echo_text plan.now number event.now) result }
 {
-    write_number(number, sink)?;
-    write_any_event(event, plan, sink)
+    write_number(number, sink);
+    write_any_event(event, plan, sink);
+    finish(sink)
 }
 
 /// Writes the number of an event, as `EVENT 2 `.
-fn write_number<W: Sink>(number: u64, sink: &mut W) -> Result<(), WriteFault>
-    ensures { Wrote W.taken W.failed sink.old sink.new
-        (number_text number) result }
+fn write_number<W: Sink>(number: u64, sink: &mut W)
+    ensures { Puts W.taken W.failed sink.old sink.new (number_text number) }
 {
     let mut digits = Buffer::new();
-    write_parts(&[b"EVENT ", digits.format(number).as_bytes(), b" "], sink)
+    put_parts(&[b"EVENT ", digits.format(number).as_bytes(), b" "], sink);
 }

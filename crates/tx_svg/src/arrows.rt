@@ -1,6 +1,6 @@
 // The arrows in the picture of a code.
 ghost use Rattle.std.specs.Prelude.{[]};
-ghost use Rattle.tx_html.specs.Shows.{Showed};
+ghost use Rattle.tx_html.specs.Shows.{Sets};
 
 use crate::findings::finding_goes;
 use crate::picture::Picture;
@@ -10,7 +10,6 @@ use std::alloc::Allocator;
 use tx_html::{PageSink, Part, set};
 use tx_plan::{CodeId, ExchangeId, GroupId, Plan};
 use tx_rank::Finding;
-use tx_text::WriteFault;
 
 /// The ends of the arrows of all pictures. They stand on a page once.
 pub const HEADS: &str = "<svg width=\"0\" height=\"0\" class=\"defs\" \
@@ -59,13 +58,13 @@ pub fn write_arrows<A: Allocator, W: PageSink>(
     picture: &Picture<A>,
     findings: &[Finding<A>],
     sink: &mut W,
-) -> Result<(), WriteFault>
-    ensures { Showed W.seen sink.old sink.new [] result }
+)
+    ensures { Sets W.seen sink.old sink.new [] }
 {
-    write_layer(plan, picture, findings, Choice::Later, sink)?;
-    write_layer(plan, picture, findings, Choice::Second, sink)?;
-    write_layer(plan, picture, findings, Choice::First, sink)?;
-    write_wrong(plan, picture, findings, sink)
+    write_layer(plan, picture, findings, Choice::Later, sink);
+    write_layer(plan, picture, findings, Choice::Second, sink);
+    write_layer(plan, picture, findings, Choice::First, sink);
+    write_wrong(plan, picture, findings, sink);
 }
 
 /// Writes those in the walks of findings, if there are any findings.
@@ -74,13 +73,13 @@ fn write_wrong<A: Allocator, W: PageSink>(
     picture: &Picture<A>,
     findings: &[Finding<A>],
     sink: &mut W,
-) -> Result<(), WriteFault>
-    ensures { Showed W.seen sink.old sink.new [] result }
+)
+    ensures { Sets W.seen sink.old sink.new [] }
 {
     if findings.is_empty() {
-        return Ok(());
+        return;
     }
-    write_layer(plan, picture, findings, Choice::Wrong, sink)
+    write_layer(plan, picture, findings, Choice::Wrong, sink);
 }
 
 /// Writes the arrows of one kind. Those that are written later lie above.
@@ -90,8 +89,8 @@ fn write_layer<A: Allocator, W: PageSink>(
     findings: &[Finding<A>],
     layer: Choice,
     sink: &mut W,
-) -> Result<(), WriteFault>
-    ensures { Showed W.seen sink.old sink.new [] result }
+)
+    ensures { Sets W.seen sink.old sink.new [] }
 {
     set(
         &[
@@ -100,9 +99,9 @@ fn write_layer<A: Allocator, W: PageSink>(
             Part::Own("\">"),
         ],
         sink,
-    )?;
-    write_lists(plan, picture, findings, layer, sink)?;
-    set(&[Part::Own("</g>")], sink)
+    );
+    write_lists(plan, picture, findings, layer, sink);
+    set(&[Part::Own("</g>")], sink);
 }
 
 fn write_lists<A: Allocator, W: PageSink>(
@@ -111,13 +110,12 @@ fn write_lists<A: Allocator, W: PageSink>(
     findings: &[Finding<A>],
     layer: Choice,
     sink: &mut W,
-) -> Result<(), WriteFault>
-    ensures { Showed W.seen sink.old sink.new [] result }
+)
+    ensures { Sets W.seen sink.old sink.new [] }
 {
     for index in 0..plan.exchanges() {
-        write_list(plan, picture, findings, layer, ExchangeId::of(index), sink)?;
+        write_list(plan, picture, findings, layer, ExchangeId::of(index), sink);
     }
-    Ok(())
 }
 
 /// Writes the arrows of one kind that an exchange has.
@@ -128,15 +126,14 @@ fn write_list<A: Allocator, W: PageSink>(
     layer: Choice,
     exchange: ExchangeId,
     sink: &mut W,
-) -> Result<(), WriteFault>
-    ensures { Showed W.seen sink.old sink.new [] result }
+)
+    ensures { Sets W.seen sink.old sink.new [] }
 {
     let list = plan.list(exchange, picture.code);
     for i in 0..list.len() {
         let to = arrow_to(plan, picture.code, findings, layer, exchange, list, i);
-        write_arrow(plan, picture, exchange, to, sink)?;
+        write_arrow(plan, picture, exchange, to, sink);
     }
-    Ok(())
 }
 
 /// Where the arrow of the group at an index of a list leads, if it has one and that is in the layer.
@@ -184,12 +181,12 @@ fn write_arrow<A: Allocator, W: PageSink>(
     from: ExchangeId,
     to: Option<ExchangeId>,
     sink: &mut W,
-) -> Result<(), WriteFault>
-    ensures { Showed W.seen sink.old sink.new [] result }
+)
+    ensures { Sets W.seen sink.old sink.new [] }
 {
     match (picture.spot(from), head_of(plan, picture, from, to)) {
         (Some(tail), Some(head)) => write_between(picture, tail, head, sink),
-        _ => Ok(()),
+        _ => {}
     }
 }
 
@@ -199,21 +196,16 @@ fn write_between<A: Allocator, W: PageSink>(
     tail: Spot,
     head: Spot,
     sink: &mut W,
-) -> Result<(), WriteFault>
-    ensures { Showed W.seen sink.old sink.new [] result }
+)
+    ensures { Sets W.seen sink.old sink.new [] }
 {
-    set(&[Part::Own("<path d=\"M")], sink)?;
-    write_way(picture, tail, head, sink)?;
-    set(&[Part::Own("\"/>")], sink)
+    set(&[Part::Own("<path d=\"M")], sink);
+    write_way(picture, tail, head, sink);
+    set(&[Part::Own("\"/>")], sink);
 }
 
-fn write_way<A: Allocator, W: PageSink>(
-    picture: &Picture<A>,
-    tail: Spot,
-    head: Spot,
-    sink: &mut W,
-) -> Result<(), WriteFault>
-    ensures { Showed W.seen sink.old sink.new [] result }
+fn write_way<A: Allocator, W: PageSink>(picture: &Picture<A>, tail: Spot, head: Spot, sink: &mut W)
+    ensures { Sets W.seen sink.old sink.new [] }
 {
     if tail.column == head.column {
         write_aside(picture, tail, head, sink)
@@ -229,17 +221,17 @@ fn write_across<A: Allocator, W: PageSink>(
     tail: Spot,
     head: Spot,
     sink: &mut W,
-) -> Result<(), WriteFault>
-    ensures { Showed W.seen sink.old sink.new [] result }
+)
+    ensures { Sets W.seen sink.old sink.new [] }
 {
     let last = tail.column.abs_diff(head.column).saturating_sub(1);
-    write_point(exit_of(picture, tail, head, 0), sink)?;
-    write_passings(picture, tail, head, last, sink)?;
+    write_point(exit_of(picture, tail, head, 0), sink);
+    write_passings(picture, tail, head, last, sink);
     write_bend(
         exit_of(picture, tail, head, last),
         tip_of(picture, tail, head),
         sink,
-    )
+    );
 }
 
 /// Writes the way of an arrow past so many columns.
@@ -249,13 +241,12 @@ fn write_passings<A: Allocator, W: PageSink>(
     head: Spot,
     last: u16,
     sink: &mut W,
-) -> Result<(), WriteFault>
-    ensures { Showed W.seen sink.old sink.new [] result }
+)
+    ensures { Sets W.seen sink.old sink.new [] }
 {
     for before in 0..last {
-        write_passing(picture, tail, head, before, sink)?;
+        write_passing(picture, tail, head, before, sink);
     }
-    Ok(())
 }
 
 /// Writes the way of an arrow past one column more.
@@ -265,17 +256,17 @@ fn write_passing<A: Allocator, W: PageSink>(
     head: Spot,
     before: u16,
     sink: &mut W,
-) -> Result<(), WriteFault>
-    ensures { Showed W.seen sink.old sink.new [] result }
+)
+    ensures { Sets W.seen sink.old sink.new [] }
 {
     let passed = before.saturating_add(1);
     write_bend(
         exit_of(picture, tail, head, before),
         entry_of(picture, tail, head, passed),
         sink,
-    )?;
+    );
     let exit = exit_of(picture, tail, head, passed);
-    set(&[Part::Own("H"), Part::Place(exit.x)], sink)
+    set(&[Part::Own("H"), Part::Place(exit.x)], sink);
 }
 
 /// Writes an arrow from one box to another of its column, beside the boxes between them.
@@ -284,8 +275,8 @@ fn write_aside<A: Allocator, W: PageSink>(
     tail: Spot,
     head: Spot,
     sink: &mut W,
-) -> Result<(), WriteFault>
-    ensures { Showed W.seen sink.old sink.new [] result }
+)
+    ensures { Sets W.seen sink.old sink.new [] }
 {
     let right = picture.right(tail.column);
     let down = tail.middle < head.middle;
@@ -293,27 +284,27 @@ fn write_aside<A: Allocator, W: PageSink>(
     let to = TOP + u64::from(head.middle) + if down { 0 } else { 4 };
     let aside = right.saturating_add(50);
     let end = right.saturating_add(4);
-    write_point(Point { x: right, y: from }, sink)?;
+    write_point(Point { x: right, y: from }, sink);
     write_curve(
         Point { x: aside, y: from },
         Point { x: aside, y: to },
         Point { x: end, y: to },
         sink,
-    )
+    );
 }
 
-fn write_point<W: PageSink>(point: Point, sink: &mut W) -> Result<(), WriteFault>
-    ensures { Showed W.seen sink.old sink.new [] result }
+fn write_point<W: PageSink>(point: Point, sink: &mut W)
+    ensures { Sets W.seen sink.old sink.new [] }
 {
     set(
         &[Part::Place(point.x), Part::Own(","), Part::Place(point.y)],
         sink,
-    )
+    );
 }
 
 /// Writes the way from one place to another, level at both.
-fn write_bend<W: PageSink>(from: Point, to: Point, sink: &mut W) -> Result<(), WriteFault>
-    ensures { Showed W.seen sink.old sink.new [] result }
+fn write_bend<W: PageSink>(from: Point, to: Point, sink: &mut W)
+    ensures { Sets W.seen sink.old sink.new [] }
 {
     let middle = from.x / 2 + to.x / 2;
     write_curve(
@@ -324,16 +315,11 @@ fn write_bend<W: PageSink>(from: Point, to: Point, sink: &mut W) -> Result<(), W
         Point { x: middle, y: to.y },
         to,
         sink,
-    )
+    );
 }
 
-fn write_curve<W: PageSink>(
-    first: Point,
-    second: Point,
-    end: Point,
-    sink: &mut W,
-) -> Result<(), WriteFault>
-    ensures { Showed W.seen sink.old sink.new [] result }
+fn write_curve<W: PageSink>(first: Point, second: Point, end: Point, sink: &mut W)
+    ensures { Sets W.seen sink.old sink.new [] }
 {
     set(
         &[
@@ -351,5 +337,5 @@ fn write_curve<W: PageSink>(
             Part::Place(end.y),
         ],
         sink,
-    )
+    );
 }

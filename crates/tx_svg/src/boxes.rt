@@ -1,6 +1,6 @@
 // The boxes in the picture of a code.
 ghost use Rattle.std.specs.Prelude.{[], ◌∷◌, length};
-ghost use Rattle.tx_html.specs.Shows.{Showed};
+ghost use Rattle.tx_html.specs.Shows.{Sets};
 ghost use Rattle.tx_svg.specs.Indexed.{texts_below};
 ghost use Rattle.tx_svg.specs.ListTexts.{box_texts};
 
@@ -11,7 +11,6 @@ use crate::spot::BOX;
 use std::alloc::Allocator;
 use tx_html::{PageSink, Part, set};
 use tx_plan::{ExchangeId, GroupId, Plan};
-use tx_text::WriteFault;
 
 /// The class of a box in the style sheet.
 fn class_of(kind: Kind) -> &'static str {
@@ -23,18 +22,13 @@ fn class_of(kind: Kind) -> &'static str {
 }
 
 /// Writes a box for each exchange. Its title has the list for the code.
-pub fn write_boxes<A: Allocator, W: PageSink>(
-    plan: &Plan<A>,
-    picture: &Picture<A>,
-    sink: &mut W,
-) -> Result<(), WriteFault>
-    ensures { Showed W.seen sink.old sink.new
-        (texts_below (length plan.now.exchanges) (box_texts plan.now picture.now.code)) result }
+pub fn write_boxes<A: Allocator, W: PageSink>(plan: &Plan<A>, picture: &Picture<A>, sink: &mut W)
+    ensures { Sets W.seen sink.old sink.new
+        (texts_below (length plan.now.exchanges) (box_texts plan.now picture.now.code)) }
 {
     for index in 0..plan.exchanges() {
-        write_box(plan, picture, ExchangeId::of(index), sink)?;
+        write_box(plan, picture, ExchangeId::of(index), sink);
     }
-    Ok(())
 }
 
 fn write_box<A: Allocator, W: PageSink>(
@@ -42,9 +36,9 @@ fn write_box<A: Allocator, W: PageSink>(
     picture: &Picture<A>,
     exchange: ExchangeId,
     sink: &mut W,
-) -> Result<(), WriteFault>
-    ensures { Showed W.seen sink.old sink.new
-        (box_texts plan.now picture.now.code exchange) result }
+)
+    ensures { Sets W.seen sink.old sink.new
+        (box_texts plan.now picture.now.code exchange) }
 {
     let frame = frame_of(plan, picture, exchange);
     let name = plan.exchange_name(exchange);
@@ -58,9 +52,9 @@ fn write_box<A: Allocator, W: PageSink>(
             Part::Own(tries(frame.kind, list)),
         ],
         sink,
-    )?;
-    write_groups(plan, list, sink)?;
-    write_frame(frame, name, sink)
+    );
+    write_groups(plan, list, sink);
+    write_frame(frame, name, sink);
 }
 
 /// What is said between the name of an exchange and its list.
@@ -75,8 +69,8 @@ fn tries(kind: Kind, list: &[GroupId]) -> &'static str {
 }
 
 /// Writes the end of the title, and the box itself.
-fn write_frame<W: PageSink>(frame: Frame, name: &[u8], sink: &mut W) -> Result<(), WriteFault>
-    ensures { Showed W.seen sink.old sink.new (name.now ∷ []) result }
+fn write_frame<W: PageSink>(frame: Frame, name: &[u8], sink: &mut W)
+    ensures { Sets W.seen sink.old sink.new (name.now ∷ []) }
 {
     set(
         &[
@@ -97,5 +91,5 @@ fn write_frame<W: PageSink>(frame: Frame, name: &[u8], sink: &mut W) -> Result<(
             Part::Own("</text></g>"),
         ],
         sink,
-    )
+    );
 }

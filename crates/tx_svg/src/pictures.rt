@@ -1,6 +1,6 @@
 // The lists, code by code.
 ghost use Rattle.std.specs.Prelude.{[]};
-ghost use Rattle.tx_html.specs.Shows.{Showed};
+ghost use Rattle.tx_html.specs.Shows.{Sets};
 ghost use Rattle.tx_svg.specs.ListTexts.{picture_texts, pictures_texts};
 
 use crate::arrows::write_arrows;
@@ -13,7 +13,6 @@ use std::alloc::Allocator;
 use tx_html::{PageSink, Part, set};
 use tx_plan::Plan;
 use tx_rank::Finding;
-use tx_text::WriteFault;
 
 const KEY: &str =
     "<h2>Code by code</h2><p class=\"m key\">Each arrow is a group, or several to one \
@@ -29,12 +28,12 @@ pub fn write_pictures<A: Allocator, W: PageSink>(
     pictures: &[Picture<A>],
     findings: &[Finding<A>],
     sink: &mut W,
-) -> Result<(), WriteFault>
-    ensures { Showed W.seen sink.old sink.new
-        (pictures_texts plan.now pictures.now) result }
+)
+    ensures { Sets W.seen sink.old sink.new
+        (pictures_texts plan.now pictures.now) }
 {
-    set(&[Part::Own(KEY)], sink)?;
-    write_all(plan, pictures, findings, sink)
+    set(&[Part::Own(KEY)], sink);
+    write_all(plan, pictures, findings, sink);
 }
 
 fn write_all<A: Allocator, W: PageSink>(
@@ -42,16 +41,15 @@ fn write_all<A: Allocator, W: PageSink>(
     pictures: &[Picture<A>],
     findings: &[Finding<A>],
     sink: &mut W,
-) -> Result<(), WriteFault>
-    ensures { Showed W.seen sink.old sink.new
-        (pictures_texts plan.now pictures.now) result }
+)
+    ensures { Sets W.seen sink.old sink.new
+        (pictures_texts plan.now pictures.now) }
 {
     for i in 0..pictures.len() {
         let wrong = findings_of(findings, pictures[i].code);
         let open = i == 0 || pictures.len() < 4 || !wrong.is_empty();
-        write_picture(plan, &pictures[i], wrong, open, sink)?;
+        write_picture(plan, &pictures[i], wrong, open, sink);
     }
-    Ok(())
 }
 
 /// Writes the picture of a code, which is open or closed at first.
@@ -61,9 +59,9 @@ fn write_picture<A: Allocator, W: PageSink>(
     findings: &[Finding<A>],
     open: bool,
     sink: &mut W,
-) -> Result<(), WriteFault>
-    ensures { Showed W.seen sink.old sink.new
-        (picture_texts plan.now picture.now.code) result }
+)
+    ensures { Sets W.seen sink.old sink.new
+        (picture_texts plan.now picture.now.code) }
 {
     set(
         &[
@@ -77,20 +75,16 @@ fn write_picture<A: Allocator, W: PageSink>(
             Part::Own("</summary>"),
         ],
         sink,
-    )?;
-    write_canvas(plan, picture, sink)?;
-    write_heads(plan, picture, sink)?;
-    write_arrows(plan, picture, findings, sink)?;
-    write_boxes(plan, picture, sink)?;
-    set(&[Part::Own("</svg></details>")], sink)
+    );
+    write_canvas(plan, picture, sink);
+    write_heads(plan, picture, sink);
+    write_arrows(plan, picture, findings, sink);
+    write_boxes(plan, picture, sink);
+    set(&[Part::Own("</svg></details>")], sink);
 }
 
-fn write_canvas<A: Allocator, W: PageSink>(
-    plan: &Plan<A>,
-    picture: &Picture<A>,
-    sink: &mut W,
-) -> Result<(), WriteFault>
-    ensures { Showed W.seen sink.old sink.new [] result }
+fn write_canvas<A: Allocator, W: PageSink>(plan: &Plan<A>, picture: &Picture<A>, sink: &mut W)
+    ensures { Sets W.seen sink.old sink.new [] }
 {
     let width = picture.right(0).saturating_add(LEFT);
     let height = picture_height(plan, picture);
@@ -107,40 +101,32 @@ fn write_canvas<A: Allocator, W: PageSink>(
             Part::Own("\">"),
         ],
         sink,
-    )
+    );
 }
 
 /// Writes what stands above the columns, and above the exchanges where no calls come.
-fn write_heads<A: Allocator, W: PageSink>(
-    plan: &Plan<A>,
-    picture: &Picture<A>,
-    sink: &mut W,
-) -> Result<(), WriteFault>
-    ensures { Showed W.seen sink.old sink.new [] result }
+fn write_heads<A: Allocator, W: PageSink>(plan: &Plan<A>, picture: &Picture<A>, sink: &mut W)
+    ensures { Sets W.seen sink.old sink.new [] }
 {
     let below = TOP + u64::from(picture.high) + 16;
     let has_aside = picture_height(plan, picture) > below;
-    write_head(picture.left(0), sink)?;
-    write_ranks(picture, sink)?;
-    write_aside(has_aside, below, sink)
+    write_head(picture.left(0), sink);
+    write_ranks(picture, sink);
+    write_aside(has_aside, below, sink);
 }
 
 /// Writes the ranks above their columns, if the columns are ranks.
-fn write_ranks<A: Allocator, W: PageSink>(
-    picture: &Picture<A>,
-    sink: &mut W,
-) -> Result<(), WriteFault>
-    ensures { Showed W.seen sink.old sink.new [] result }
+fn write_ranks<A: Allocator, W: PageSink>(picture: &Picture<A>, sink: &mut W)
+    ensures { Sets W.seen sink.old sink.new [] }
 {
     let ranks = if picture.ranked { picture.columns() } else { 0 };
     for rank in 1..ranks {
-        write_rank(picture.left(rank), u64::from(rank), sink)?;
+        write_rank(picture.left(rank), u64::from(rank), sink);
     }
-    Ok(())
 }
 
-fn write_head<W: PageSink>(left: u64, sink: &mut W) -> Result<(), WriteFault>
-    ensures { Showed W.seen sink.old sink.new [] result }
+fn write_head<W: PageSink>(left: u64, sink: &mut W)
+    ensures { Sets W.seen sink.old sink.new [] }
 {
     set(
         &[
@@ -149,11 +135,11 @@ fn write_head<W: PageSink>(left: u64, sink: &mut W) -> Result<(), WriteFault>
             Part::Own("\" y=\"16\">home</text>"),
         ],
         sink,
-    )
+    );
 }
 
-fn write_rank<W: PageSink>(left: u64, rank: u64, sink: &mut W) -> Result<(), WriteFault>
-    ensures { Showed W.seen sink.old sink.new [] result }
+fn write_rank<W: PageSink>(left: u64, rank: u64, sink: &mut W)
+    ensures { Sets W.seen sink.old sink.new [] }
 {
     set(
         &[
@@ -164,15 +150,15 @@ fn write_rank<W: PageSink>(left: u64, rank: u64, sink: &mut W) -> Result<(), Wri
             Part::Own("</text>"),
         ],
         sink,
-    )
+    );
 }
 
 /// Writes what stands above the exchanges where no calls come, if there are any.
-fn write_aside<W: PageSink>(has_aside: bool, top: u64, sink: &mut W) -> Result<(), WriteFault>
-    ensures { Showed W.seen sink.old sink.new [] result }
+fn write_aside<W: PageSink>(has_aside: bool, top: u64, sink: &mut W)
+    ensures { Sets W.seen sink.old sink.new [] }
 {
     if !has_aside {
-        return Ok(());
+        return;
     }
     set(
         &[
@@ -181,5 +167,5 @@ fn write_aside<W: PageSink>(has_aside: bool, top: u64, sink: &mut W) -> Result<(
             Part::Own("\">No call for this code comes to:</text>"),
         ],
         sink,
-    )
+    );
 }

@@ -1,6 +1,6 @@
 // The picture of the network: its exchanges round a rectangle, and lines between them.
 ghost use Rattle.std.specs.Prelude.{[], length};
-ghost use Rattle.tx_html.specs.Shows.{Showed};
+ghost use Rattle.tx_html.specs.Shows.{Sets};
 ghost use Rattle.tx_svg.specs.Indexed.{texts_below};
 ghost use Rattle.tx_svg.specs.RingTexts.{name_texts, ring_texts};
 
@@ -9,31 +9,28 @@ use crate::spot::{BOX, TALL};
 use std::alloc::Allocator;
 use tx_html::{PageSink, Part, set};
 use tx_plan::{ExchangeId, GroupId, Plan};
-use tx_text::WriteFault;
 
 /// Writes the picture of a network that is not too large for one.
-pub fn write_ring<A: Allocator, W: PageSink>(plan: &Plan<A>, sink: &mut W) -> Result<(), WriteFault>
-    ensures { Showed W.seen sink.old sink.new (ring_texts plan.now) result }
+pub fn write_ring<A: Allocator, W: PageSink>(plan: &Plan<A>, sink: &mut W)
+    ensures { Sets W.seen sink.old sink.new (ring_texts plan.now) }
 {
     if plan.exchanges() <= MOST {
-        write_small(plan, sink)
-    } else {
-        Ok(())
+        write_small(plan, sink);
     }
 }
 
-fn write_small<A: Allocator, W: PageSink>(plan: &Plan<A>, sink: &mut W) -> Result<(), WriteFault>
-    ensures { Showed W.seen sink.old sink.new
-        (texts_below (length plan.now.exchanges) (name_texts plan.now)) result }
+fn write_small<A: Allocator, W: PageSink>(plan: &Plan<A>, sink: &mut W)
+    ensures { Sets W.seen sink.old sink.new
+        (texts_below (length plan.now.exchanges) (name_texts plan.now)) }
 {
-    write_canvas(size_of(plan.exchanges()), sink)?;
-    write_lines(plan, sink)?;
-    write_names(plan, sink)?;
-    set(&[Part::Own("</svg>")], sink)
+    write_canvas(size_of(plan.exchanges()), sink);
+    write_lines(plan, sink);
+    write_names(plan, sink);
+    set(&[Part::Own("</svg>")], sink);
 }
 
-fn write_canvas<W: PageSink>(size: Size, sink: &mut W) -> Result<(), WriteFault>
-    ensures { Showed W.seen sink.old sink.new [] result }
+fn write_canvas<W: PageSink>(size: Size, sink: &mut W)
+    ensures { Sets W.seen sink.old sink.new [] }
 {
     set(
         &[
@@ -48,16 +45,15 @@ fn write_canvas<W: PageSink>(size: Size, sink: &mut W) -> Result<(), WriteFault>
             Part::Own("\">"),
         ],
         sink,
-    )
+    );
 }
 
-fn write_lines<A: Allocator, W: PageSink>(plan: &Plan<A>, sink: &mut W) -> Result<(), WriteFault>
-    ensures { Showed W.seen sink.old sink.new [] result }
+fn write_lines<A: Allocator, W: PageSink>(plan: &Plan<A>, sink: &mut W)
+    ensures { Sets W.seen sink.old sink.new [] }
 {
     for index in 0..plan.groups() {
-        write_line(plan, GroupId::of(index), sink)?;
+        write_line(plan, GroupId::of(index), sink);
     }
-    Ok(())
 }
 
 /// Whether two groups are between the same exchanges.
@@ -84,16 +80,12 @@ fn circuits_beside<A: Allocator>(plan: &Plan<A>, group: GroupId) -> u64 {
 
 /// Writes a line between the ends of a group, if it is the first between them. It is the wider, the
 /// more circuits are there.
-fn write_line<A: Allocator, W: PageSink>(
-    plan: &Plan<A>,
-    group: GroupId,
-    sink: &mut W,
-) -> Result<(), WriteFault>
-    ensures { Showed W.seen sink.old sink.new [] result }
+fn write_line<A: Allocator, W: PageSink>(plan: &Plan<A>, group: GroupId, sink: &mut W)
+    ensures { Sets W.seen sink.old sink.new [] }
 {
     let circuits = circuits_beside(plan, group);
     if circuits == 0 {
-        return Ok(());
+        return;
     }
     let (from, to) = plan.ends(group);
     let size = size_of(plan.exchanges());
@@ -118,25 +110,20 @@ fn write_line<A: Allocator, W: PageSink>(
             Part::Own("\"/>"),
         ],
         sink,
-    )
+    );
 }
 
-fn write_names<A: Allocator, W: PageSink>(plan: &Plan<A>, sink: &mut W) -> Result<(), WriteFault>
-    ensures { Showed W.seen sink.old sink.new
-        (texts_below (length plan.now.exchanges) (name_texts plan.now)) result }
+fn write_names<A: Allocator, W: PageSink>(plan: &Plan<A>, sink: &mut W)
+    ensures { Sets W.seen sink.old sink.new
+        (texts_below (length plan.now.exchanges) (name_texts plan.now)) }
 {
     for index in 0..plan.exchanges() {
-        write_name(plan, ExchangeId::of(index), sink)?;
+        write_name(plan, ExchangeId::of(index), sink);
     }
-    Ok(())
 }
 
-fn write_name<A: Allocator, W: PageSink>(
-    plan: &Plan<A>,
-    exchange: ExchangeId,
-    sink: &mut W,
-) -> Result<(), WriteFault>
-    ensures { Showed W.seen sink.old sink.new (name_texts plan.now exchange) result }
+fn write_name<A: Allocator, W: PageSink>(plan: &Plan<A>, exchange: ExchangeId, sink: &mut W)
+    ensures { Sets W.seen sink.old sink.new (name_texts plan.now exchange) }
 {
     let seat = seat_of(exchange.index(), plan.exchanges());
     set(
@@ -158,5 +145,5 @@ fn write_name<A: Allocator, W: PageSink>(
             Part::Own("</text></g>"),
         ],
         sink,
-    )
+    );
 }

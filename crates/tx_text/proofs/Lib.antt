@@ -1,6 +1,7 @@
 pub mod WordLists
 pub mod Writing
 pub mod Wrote
+pub mod Putting
 pub mod Ranges
 pub mod Indexes
 pub mod PaddedTexts

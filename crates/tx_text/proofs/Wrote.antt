@@ -8,7 +8,7 @@ use Rattle.std.proofs.lemmas.List.{take_all, take_more}
 use Rattle.std.proofs.lemmas.List.Concat.{flat_map-append}
 use Rattle.tx_text.specs.declared.sink.WriteFault.{WriteFault}
 use Rattle.tx_text.specs.Wrote.{WroteBy}
-use Rattle.tx_text.proofs.Writing.{append_known-nil, append_known_twice, stops_first, stops_later, stops_at}
+use Rattle.tx_text.proofs.Writing.{append_known-nil, append_known_twice, stops_later, stops_at}
 
 abbrev pub Outcome : Type 0
 Outcome = Result (Unit {0}) WriteFault
@@ -21,11 +21,6 @@ wrote_none a f = (append_known-nil a, refl)
 pub wrote_then : (a b c : Option (List ℕ)) (f g h : Bool) (s t : List ℕ) (r : Outcome) → WroteBy a b f g s (Ok tt) → WroteBy b c g h t r → WroteBy a c f h (s ++ t) r
 wrote_then a b c f g h s t (Ok x) v w = (w.0 ∙ ap (λ l. append_known l t) v.0 ∙ append_known_twice a s t, w.1 ∙ v.1)
 wrote_then a b c f g h s t (Err x) v w = (stops_later s v.0 w.0, w.1)
-
--- the sink failed in the first of two texts
-pub wrote_first : (a b : Option (List ℕ)) (f g : Bool) (s t : List ℕ) (r : Outcome) (x : WriteFault) → WroteBy a b f g s (Err x) → IsErr r → WroteBy a b f g (s ++ t) r
-wrote_first a b f g s t (Ok y) x w bad = absurd (false≢true bad)
-wrote_first a b f g s t (Err y) x w bad = (stops_first t w.0, w.1)
 
 pub text_is : (a b : Option (List ℕ)) (f g : Bool) (s t : List ℕ) (r : Outcome) → s ≡ t → WroteBy a b f g t r → WroteBy a b f g s r
 text_is a b f g s t r e w = subst (λ (l : List ℕ). WroteBy a b f g l r) (sym e) w

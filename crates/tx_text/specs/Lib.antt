@@ -3,6 +3,7 @@ pub mod Words
 pub mod Calls
 pub mod Ends
 pub mod Wrote
+pub mod Puts
 pub mod ReadCalls
 pub mod Slices
 pub mod Told

@@ -2,8 +2,8 @@
 //!
 //! A text comes from a `Source` in pieces, or is in a slice. `LineFeeder` cuts pieces into lines,
 //! and `FrameReader` keeps the header, END and the numbers of lines. `read_text` reads a text of
-//! which each line declares something, and `read_whole_text` the bytes of a text. Texts go to a
-//! `Sink` by `write_bytes` and `write_parts`.
+//! which each line declares something, and `read_whole_text` the bytes of a text. A text goes to a
+//! `Sink` part by part, by `put_bytes` and `put_parts`, and then `finish` tells whether it failed.
 #![tactic(auto)]
 
 mod feeder;
@@ -45,7 +45,7 @@ pub use no_memory::NoMemory;
 pub use pieces::pieces_give_the_lines;
 pub use reader::{bytes_fault, without_cr};
 pub use reading::{Declares, read_slice, read_text};
-pub use sink::{Sink, WriteFault, write_bytes, write_parts};
+pub use sink::{Sink, WriteFault, finish, put_bytes, put_parts, write_bytes};
 pub use slice_source::{SliceSource, slices_are_read_whole};
 pub use source::{ReadFault, Source};
 pub use split::words;

@@ -69,4 +69,8 @@ impl<A: Allocator> Sink for MemorySink<A> {
             Err(_) => unreachable!(),
         }
     }
+
+    fn has_failed(&self) -> bool {
+        self.failed
+    }
 }

@@ -54,4 +54,8 @@ impl<W: Write> Sink for ToWrite<W> {
         self.failed = true;
         Err(WriteFault)
     }
+
+    fn has_failed(&self) -> bool {
+        self.failed
+    }
 }

@@ -1,6 +1,7 @@
 // The line of a reply, in room of its own, and the words that replies and tickets share.
 ghost use Rattle.std.specs.Prelude.{◌≡◌, ◌+◌, ◌≤◌, ◌++◌, [], codes, decimal, length, ◌<◌};
 ghost use Rattle.arrayvec.specs.ArrayVec.{array_vec_len};
+ghost use Rattle.tx_text.specs.Puts.{Puts};
 ghost use Rattle.tx_text.specs.Wrote.{Wrote};
 ghost use Rattle.tx_plan.specs.Plan.{exchange_name};
 ghost use Rattle.tx_machine.specs.declared.reply.Reply.TheVariants.{Lost};
@@ -11,7 +12,7 @@ use itoa::Buffer;
 use std::alloc::Allocator;
 use tx_machine::{Cause, Refusal, Reply, Service};
 use tx_plan::{Circuit, ExchangeId, Line, Plan};
-use tx_text::{Sink, WriteFault, write_bytes, write_parts};
+use tx_text::{Sink, WriteFault, put_parts, write_bytes};
 
 /// Appends bytes to a line.
 pub(crate) fn put<const N: usize>(text: &mut ArrayVec<u8, N>, bytes: &[u8])
@@ -208,15 +209,15 @@ pub fn write_circuit<A: Allocator, W: Sink>(
     circuit: &Circuit,
     plan: &Plan<A>,
     sink: &mut W,
-) -> Result<(), WriteFault>
-    ensures { Wrote W.taken W.failed sink.old sink.new
-        (first.now ++ (circuit_text plan.now circuit.now ++ codes "\n")) result }
+)
+    ensures { Puts W.taken W.failed sink.old sink.new
+        (first.now ++ (circuit_text plan.now circuit.now ++ codes "\n")) }
 {
     let mut digits = Buffer::new();
     let number = digits.format(circuit.number).as_bytes();
     let group = plan.group_name(circuit.group);
-    write_parts(
+    put_parts(
         &[first, group, b".".as_slice(), number, b"\n".as_slice()],
         sink,
-    )
+    );
 }

@@ -2,6 +2,7 @@
 ghost use Rattle.std.specs.Prelude.{◌≡◌, ◌≤◌, ◌++◌, [], codes, length};
 ghost use Rattle.std.specs.List.{flat_map};
 ghost use Rattle.arrayvec.specs.ArrayVec.{array_vec_len};
+ghost use Rattle.tx_text.specs.Puts.{Puts};
 ghost use Rattle.tx_text.specs.Wrote.{Wrote};
 ghost use Rattle.tx_tickets.specs.Texts.{hop_text, caller_text, events_text, why_text, ticket_text};
 
@@ -10,7 +11,7 @@ use arrayvec::ArrayVec;
 use std::alloc::Allocator;
 use tx_machine::{Hop, Ticket};
 use tx_plan::Plan;
-use tx_text::{Sink, WriteFault, write_bytes};
+use tx_text::{Sink, WriteFault, finish, put_bytes};
 
 /// Room for the line of a ticket, or for a part of it.
 type Room = ArrayVec<u8, 192>;
@@ -32,7 +33,8 @@ pub fn write_ticket<A: Allocator, B: Allocator, W: Sink>(
     put_caller(ticket, plan, &mut text);
     put_events(ticket, &mut text);
     put_why(ticket, plan, &mut text);
-    write_path(ticket.path.hops(), plan, &mut text, sink)
+    write_path(ticket.path.hops(), plan, &mut text, sink);
+    finish(sink)
 }
 
 /// Puts the call's number, its line and what was keyed.
@@ -77,26 +79,21 @@ fn put_why<A: Allocator, B: Allocator>(ticket: &Ticket<A>, plan: &Plan<B>, text:
 
 /// Writes a line that has begun, with each hop after it and an LF. Where the next hop may have no
 /// room, what is there goes out before it.
-fn write_path<A: Allocator, W: Sink>(
-    hops: &[Hop],
-    plan: &Plan<A>,
-    text: &mut Room,
-    sink: &mut W,
-) -> Result<(), WriteFault>
+fn write_path<A: Allocator, W: Sink>(hops: &[Hop], plan: &Plan<A>, text: &mut Room, sink: &mut W)
     requires { array_vec_len text.old ≤ 128 }
-    ensures { Wrote W.taken W.failed sink.old sink.new
-        (text.old.items ++ (flat_map (hop_text plan.now) hops.now ++ codes "\n")) result }
+    ensures { Puts W.taken W.failed sink.old sink.new
+        (text.old.items ++ (flat_map (hop_text plan.now) hops.now ++ codes "\n")) }
 {
     for hop in hops {
         put_hop(hop, plan, text);
         if text.len() <= FULL {
             continue;
         }
-        write_bytes(text.as_slice(), sink)?;
+        put_bytes(text.as_slice(), sink);
         text.clear();
     }
     put(text, b"\n");
-    write_bytes(text.as_slice(), sink)
+    put_bytes(text.as_slice(), sink);
 }
 
 /// Puts a hop: its circuit, and the exchange that it leads to.

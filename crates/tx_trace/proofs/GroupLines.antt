@@ -1,13 +1,12 @@
 -- The routes that have a group, as they are written.
-use Rattle.std.proofs.Common.{◌≡◌, ℕ, ◌+◌, ◌<◌, ◌==◌, ◌&&◌, Bool, List, [], take, length, Option, Some, None, Ok, Err, refl, sym, ap, ◌∙◌}
-use Rattle.std.specs.Prelude.{IsErr, slice_get, if◌then◌else◌}
+use Rattle.std.proofs.Common.{◌≡◌, ℕ, ◌+◌, ◌<◌, ◌==◌, ◌&&◌, Bool, List, [], take, length, Option, Some, None, refl, sym, ap, ◌∙◌}
+use Rattle.std.specs.Prelude.{slice_get, if◌then◌else◌}
 use Rattle.std.specs.List.{flat_map}
 use Rattle.std.specs.Option.{option_map, option_map_or}
 use Rattle.std.proofs.lemmas.Option.{get_or_from_slice_get}
-use Rattle.tx_text.specs.declared.sink.WriteFault.{WriteFault}
-use Rattle.tx_text.specs.Wrote.{WroteBy}
+use Rattle.tx_text.specs.Puts.{Puts}
 use Rattle.tx_text.specs.Written.{line_written}
-use Rattle.tx_text.proofs.Wrote.{Outcome, texts_more, texts_stopped, text_is}
+use Rattle.tx_text.proofs.Putting.{puts_more, puts_is}
 use Rattle.tx_plan.specs.Plan.{Plan, Route}
 use Rattle.tx_plan.specs.Rules.{IsPlan}
 use Rattle.tx_plan.specs.Routes.{route_list}
@@ -26,25 +25,12 @@ module _ {A : Type 0} (text : A → List ℕ) (xs : List A) where
   abbrev text_at : ℕ → List ℕ
   text_at i = option_map_or text (slice_get xs i) []
 
-  pub more_at : (i : ℕ) (a b c : Option (List ℕ)) (f g h : Bool) → i < length xs
-      → WroteBy a b f g (flat_map text (take i xs)) (Ok tt) → WroteBy b c g h (text_at i) (Ok tt)
-      → WroteBy a c f h (flat_map text (take (i + 1) xs)) (Ok tt)
-  more_at i a b c f g h low v w =
+  pub more_at : {W : Type 0} {taken : W → Option (List ℕ)} {failed : W → Bool} (i : ℕ) {a b c : W} → i < length xs
+      → Puts taken failed a b (flat_map text (take i xs)) → Puts taken failed b c (text_at i) → Puts taken failed a c (flat_map text (take (i + 1) xs))
+  more_at i low v w =
       let e = entry_at xs i low in
       let here = ap (λ (o : Option A). option_map_or text o []) e.1 in
-      texts_more text xs i e.0 a b c f g h low (sym (get_or_from_slice_get xs i e.0 e.0 e.1)) v
-      (text_is b c g h (text e.0) (text_at i) (Ok tt) (sym here) w)
-
-  pub stopped_at : (i : ℕ) (a b c : Option (List ℕ)) (f g h : Bool) (r : Outcome)
-      (fault : WriteFault) → i < length xs → WroteBy a b f g (flat_map text (take i xs)) (Ok tt)
-      → WroteBy b c g h (text_at i) (Err fault) → IsErr r
-      → WroteBy a c f h (flat_map text xs) r
-  stopped_at i a b c f g h r fault low v w bad =
-      let e = entry_at xs i low in
-      let here = ap (λ (o : Option A). option_map_or text o []) e.1 in
-      texts_stopped text xs i e.0 a b c f g h r fault low
-      (sym (get_or_from_slice_get xs i e.0 e.0 e.1)) v
-      (text_is b c g h (text e.0) (text_at i) (Err fault) (sym here) w) bad
+      puts_more text xs low (sym (get_or_from_slice_get xs i e.0 e.0 e.1)) v (puts_is (sym here) w)
 
 -- THE ENTRY AT AN INDEX
 module _ (p : Plan) (g x i : ℕ) where

@@ -22,9 +22,6 @@ use Rattle.tx_trace.proofs.Ends.{among_ends}
 abbrev pub name_after : Plan → ℕ → List ℕ
 name_after p g = codes " " ++ group_name p g
 
-pub name_cut : (p : Plan) (g : ℕ) → name_after p g ≡ codes " " ++ (group_name p g ++ [])
-name_cut p g = ap (λ l. codes " " ++ l) (sym (append-nil (group_name p g)))
-
 -- the line of groups that are down
 pub down_none : (p : Plan) (down : List ℕ) → eqb (length down) 0 ≡ true → down_line p down ≡ []
 down_none p [] none = refl
@@ -34,12 +31,6 @@ pub down_some : (p : Plan) (down : List ℕ) → eqb (length down) 0 ≡ false
     → down_line p down ≡ codes "DOWN" ++ (flat_map (name_after p) down ++ codes "\n")
 down_some p [] some = let bad : ⊥ = cc in absurd bad
 down_some p (g ∷ gs) some = refl
-
-pub group_cut : (a b c rest : List ℕ) → a ++ (b ++ (c ++ rest)) ≡ (a ++ (b ++ (c ++ []))) ++ rest
-group_cut a b c rest = simp (append_assoc, append-nil)
-
-pub way_cut : (a b rest : List ℕ) → a ++ (b ++ rest) ≡ (a ++ (b ++ [])) ++ rest
-way_cut a b rest = simp (append_assoc, append-nil)
 
 -- the line of a group, as far as the rank
 abbrev pub place_front : Plan → (y place g z : ℕ) → List ℕ

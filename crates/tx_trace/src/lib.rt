@@ -18,5 +18,5 @@ pub use law::{
     blocked_replies_as_left, heights_are_ranks, met_are_reached, only_call_goes_first_way,
 };
 pub use left::plan_left;
-pub use trace_text::{write_down, write_trace};
+pub use trace_text::{write_down, write_head, write_trace};
 pub use tracing::{Trace, trace_calls};

@@ -1,17 +1,19 @@
 // The writer of traces.
 ghost use Rattle.std.specs.Prelude.{◌++◌, codes, Option};
 ghost use Rattle.std.specs.List.{flat_map};
+ghost use Rattle.tx_text.specs.Puts.{Puts};
 ghost use Rattle.tx_text.specs.Wrote.{Wrote};
-ghost use Rattle.tx_plan.specs.Plan.{group_name};
-ghost use Rattle.tx_trace.specs.TraceText.{head_line, down_line, bar_line, way_line, home_line, rank_text, place_line, list_lines, met_lines, trace_text};
+ghost use Rattle.tx_plan.specs.Plan.{exchange_name, figures_of};
+ghost use Rattle.tx_trace.specs.TraceText.{down_line, bar_line, way_line, home_line, rank_text, place_line, list_lines, met_lines, trace_text};
 ghost use Rattle.tx_trace.specs.Traces.{IsTraceOf, rank_told};
 
 use crate::tracing::Trace;
 use itoa::Buffer;
 use std::alloc::Allocator;
 use tx_plan::{CodeId, ExchangeId, GroupId, Plan};
+use tx_plantext::write_group_names;
 use tx_rank::write_steps;
-use tx_text::{Sink, WriteFault, write_parts};
+use tx_text::{Sink, WriteFault, finish, put_bytes, put_parts};
 
 /// Writes a trace, in the plan that is left while some groups are down: what was asked, these
 /// groups, the way while all else is free, and for each exchange that is met its list, or that it
@@ -26,56 +28,40 @@ pub fn write_trace<A: Allocator, W: Sink>(
     ensures { Wrote W.taken W.failed sink.old sink.new
         (trace_text plan.now down.now trace.now.code trace.now.exchange) result }
 {
-    write_head(plan, trace.code, trace.exchange, sink)?;
-    write_down(plan, down, sink)?;
-    write_bar(plan, trace.code, trace.exchange, sink)?;
-    write_way(plan, trace.exchange, &trace.first, sink)?;
-    write_all_met(plan, trace, sink)
+    write_head(b"TRACE ", plan, trace.code, trace.exchange, sink);
+    write_down(plan, down, sink);
+    write_bar(plan, trace.code, trace.exchange, sink);
+    write_way(plan, trace.exchange, &trace.first, sink);
+    write_all_met(plan, trace, sink);
+    finish(sink)
 }
 
-fn write_head<A: Allocator, W: Sink>(
+/// Writes what was asked, with the word that the report begins with.
+pub fn write_head<A: Allocator, W: Sink>(
+    word: &[u8],
     plan: &Plan<A>,
     code: CodeId,
     exchange: ExchangeId,
     sink: &mut W,
-) -> Result<(), WriteFault>
-    ensures { Wrote W.taken W.failed sink.old sink.new
-        (head_line plan.now code exchange) result }
+)
+    ensures { Puts W.taken W.failed sink.old sink.new (word.now
+        ++ (figures_of plan.now code ++ (codes " FROM " ++ (exchange_name plan.now exchange
+        ++ codes "\n")))) }
 {
     let figures = plan.code_figures(code);
     let name = plan.exchange_name(exchange);
-    write_parts(&[b"TRACE ", figures, b" FROM ", name, b"\n"], sink)
+    put_parts(&[word, figures, b" FROM ", name, b"\n"], sink);
 }
 
 /// Writes the groups that are down, if some are.
-pub fn write_down<A: Allocator, W: Sink>(
-    plan: &Plan<A>,
-    down: &[GroupId],
-    sink: &mut W,
-) -> Result<(), WriteFault>
-    ensures { Wrote W.taken W.failed sink.old sink.new (down_line plan.now down.now) result }
+pub fn write_down<A: Allocator, W: Sink>(plan: &Plan<A>, down: &[GroupId], sink: &mut W)
+    ensures { Puts W.taken W.failed sink.old sink.new (down_line plan.now down.now) }
 {
     if down.is_empty() {
-        return Ok(());
+        return;
     }
-    write_parts(&[b"DOWN"], sink)?;
-    write_names(plan, down, sink)?;
-    write_parts(&[b"\n"], sink)
-}
-
-/// Writes a space and a name for each group.
-fn write_names<A: Allocator, W: Sink>(
-    plan: &Plan<A>,
-    groups: &[GroupId],
-    sink: &mut W,
-) -> Result<(), WriteFault>
-    ensures { Wrote W.taken W.failed sink.old sink.new
-        (flat_map (λ g. codes " " ++ group_name plan.now g) groups.now) result }
-{
-    for i in 0..groups.len() {
-        write_parts(&[b" ", plan.group_name(groups[i])], sink)?;
-    }
-    Ok(())
+    put_bytes(b"DOWN", sink);
+    write_group_names(plan, down, sink);
 }
 
 /// Writes that calls for the code may not start at the exchange, if a bar says so.
@@ -84,16 +70,16 @@ fn write_bar<A: Allocator, W: Sink>(
     code: CodeId,
     exchange: ExchangeId,
     sink: &mut W,
-) -> Result<(), WriteFault>
-    ensures { Wrote W.taken W.failed sink.old sink.new
-        (bar_line plan.now code exchange) result }
+)
+    ensures { Puts W.taken W.failed sink.old sink.new
+        (bar_line plan.now code exchange) }
 {
     if !plan.is_barred(exchange, code) {
-        return Ok(());
+        return;
     }
     let figures = plan.code_figures(code);
     let name = plan.exchange_name(exchange);
-    write_parts(&[b"BARRED ", name, b" ", figures, b"\n"], sink)
+    put_parts(&[b"BARRED ", name, b" ", figures, b"\n"], sink);
 }
 
 fn write_way<A: Allocator, W: Sink>(
@@ -101,28 +87,24 @@ fn write_way<A: Allocator, W: Sink>(
     start: ExchangeId,
     way: &[(GroupId, ExchangeId)],
     sink: &mut W,
-) -> Result<(), WriteFault>
-    ensures { Wrote W.taken W.failed sink.old sink.new
-        (way_line plan.now start way.now) result }
+)
+    ensures { Puts W.taken W.failed sink.old sink.new
+        (way_line plan.now start way.now) }
 {
-    write_parts(&[b"FIRST ", plan.exchange_name(start)], sink)?;
-    write_steps(plan, way, sink)
+    put_bytes(b"FIRST ", sink);
+    put_bytes(plan.exchange_name(start), sink);
+    write_steps(plan, way, sink);
 }
 
-fn write_all_met<A: Allocator, W: Sink>(
-    plan: &Plan<A>,
-    trace: &Trace<A>,
-    sink: &mut W,
-) -> Result<(), WriteFault>
-    ensures { Wrote W.taken W.failed sink.old sink.new
+fn write_all_met<A: Allocator, W: Sink>(plan: &Plan<A>, trace: &Trace<A>, sink: &mut W)
+    ensures { Puts W.taken W.failed sink.old sink.new
         (flat_map (met_lines plan.now trace.now.code (rank_told trace.now.ranks trace.now.code))
-        trace.now.met.items) result }
+        trace.now.met.items) }
 {
     let met = trace.met.as_slice();
     for i in 0..met.len() {
-        write_met(plan, trace, met[i], sink)?;
+        write_met(plan, trace, met[i], sink);
     }
-    Ok(())
 }
 
 /// Writes the list of an exchange, or that it is the home.
@@ -131,10 +113,9 @@ fn write_met<A: Allocator, W: Sink>(
     trace: &Trace<A>,
     exchange: ExchangeId,
     sink: &mut W,
-) -> Result<(), WriteFault>
-    ensures { Wrote W.taken W.failed sink.old sink.new
-        (met_lines plan.now trace.now.code (rank_told trace.now.ranks trace.now.code) exchange)
-        result }
+)
+    ensures { Puts W.taken W.failed sink.old sink.new
+        (met_lines plan.now trace.now.code (rank_told trace.now.ranks trace.now.code) exchange) }
 {
     if exchange == plan.home(trace.code) {
         write_home(plan, exchange, sink)
@@ -143,15 +124,11 @@ fn write_met<A: Allocator, W: Sink>(
     }
 }
 
-fn write_home<A: Allocator, W: Sink>(
-    plan: &Plan<A>,
-    exchange: ExchangeId,
-    sink: &mut W,
-) -> Result<(), WriteFault>
-    ensures { Wrote W.taken W.failed sink.old sink.new
-        (home_line plan.now exchange) result }
+fn write_home<A: Allocator, W: Sink>(plan: &Plan<A>, exchange: ExchangeId, sink: &mut W)
+    ensures { Puts W.taken W.failed sink.old sink.new
+        (home_line plan.now exchange) }
 {
-    write_parts(&[b"HOME ", plan.exchange_name(exchange), b"\n"], sink)
+    put_parts(&[b"HOME ", plan.exchange_name(exchange), b"\n"], sink);
 }
 
 /// Writes a line for each group of a list.
@@ -160,16 +137,14 @@ fn write_list<A: Allocator, W: Sink>(
     trace: &Trace<A>,
     exchange: ExchangeId,
     sink: &mut W,
-) -> Result<(), WriteFault>
-    ensures { Wrote W.taken W.failed sink.old sink.new
-        (list_lines plan.now trace.now.code (rank_told trace.now.ranks trace.now.code) exchange)
-        result }
+)
+    ensures { Puts W.taken W.failed sink.old sink.new
+        (list_lines plan.now trace.now.code (rank_told trace.now.ranks trace.now.code) exchange) }
 {
     let list = plan.list(exchange, trace.code);
     for i in 0..list.len() {
-        write_place(plan, trace, exchange, i + 1, list[i], sink)?;
+        write_place(plan, trace, exchange, i + 1, list[i], sink);
     }
-    Ok(())
 }
 
 /// Writes the line of the group at a place in the list of an exchange.
@@ -180,31 +155,31 @@ fn write_place<A: Allocator, W: Sink>(
     place: usize,
     group: GroupId,
     sink: &mut W,
-) -> Result<(), WriteFault>
-    ensures { Wrote W.taken W.failed sink.old sink.new
-        (place_line plan.now (rank_told trace.now.ranks trace.now.code) exchange place group)
-        result }
+)
+    ensures { Puts W.taken W.failed sink.old sink.new
+        (place_line plan.now (rank_told trace.now.ranks trace.now.code) exchange place group) }
 {
     let Some(to) = plan.other_end(group, exchange) else {
-        return Ok(());
+        return;
     };
     let mut buffer = Buffer::new();
     let place = buffer.format(place).as_bytes();
     let name = plan.exchange_name(exchange);
     let group = plan.group_name(group);
     let far = plan.exchange_name(to);
-    write_parts(&[b"LIST ", name, b" ", place, b" ", group, b" ", far], sink)?;
-    write_rank(trace.rank(to), sink)
+    put_parts(&[b"LIST ", name, b" ", place, b" ", group, b" ", far], sink);
+    write_rank(trace.rank(to), sink);
 }
 
 /// Writes a rank, if there is one, and the end of the line.
-fn write_rank<W: Sink>(rank: Option<u16>, sink: &mut W) -> Result<(), WriteFault>
-    ensures { Wrote W.taken W.failed sink.old sink.new
-        (rank_text rank ++ codes "\n") result }
+fn write_rank<W: Sink>(rank: Option<u16>, sink: &mut W)
+    ensures { Puts W.taken W.failed sink.old sink.new
+        (rank_text rank ++ codes "\n") }
 {
     let Some(rank) = rank else {
-        return write_parts(&[b"\n"], sink);
+        put_bytes(b"\n", sink);
+        return;
     };
     let mut buffer = Buffer::new();
-    write_parts(&[b" RANK ", buffer.format(rank).as_bytes(), b"\n"], sink)
+    put_parts(&[b" RANK ", buffer.format(rank).as_bytes(), b"\n"], sink);
 }

@@ -78,7 +78,7 @@ fn try_refusals(alloc: Global, old: &[u8], new: &[u8], out: &mut Told) {
 fn tell_join(alloc: Global, old: &Plan, new: &Plan, out: &mut Told) {
     match join(alloc, old, new) {
         Ok(joined) => {
-            let _ = write_differences(old, new, out);
+            write_differences(old, new, out);
             tell_joined(alloc, &joined, out);
         }
         Err(refusal) => tell_refusal(refusal, new, out),

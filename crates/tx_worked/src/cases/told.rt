@@ -71,6 +71,10 @@ impl Sink for Told {
         }
         Ok(bytes.len())
     }
+
+    fn has_failed(&self) -> bool {
+        self.failed
+    }
 }
 
 /// Tells a text.

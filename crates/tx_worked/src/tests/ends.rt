@@ -7,7 +7,8 @@ use std::alloc::Global;
 use std::io::ErrorKind;
 use tx_jobs::{pipe_job, write_fault};
 use tx_text::{
-    FromRead, MemorySink, MemorySource, Sink, Source, ToWrite, WriteFault, write_bytes, write_parts,
+    FromRead, MemorySink, MemorySource, Sink, Source, ToWrite, WriteFault, finish, put_parts,
+    write_bytes,
 };
 
 /// Makes a call of a source, for so many bytes, and writes what it gives.
@@ -84,7 +85,8 @@ fn tell_by_parts(sink: &mut MemorySink, text: &[u8], out: &mut Told) {
     let (front, back) = text.split_at(text.len().min(6));
     let (second, back) = back.split_at(back.len().min(1));
     let (third, fourth) = back.split_at(back.len().min(2));
-    let answer = write_parts(&[front, second, b"", third, fourth], sink);
+    put_parts(&[front, second, b"", third, fourth], sink);
+    let answer = finish(sink);
     tell_taken(sink.taken(), answer, out);
     tell(b"by parts\n", out);
 }

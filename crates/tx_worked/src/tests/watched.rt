@@ -51,4 +51,8 @@ impl<'a> Sink for WatchedSink<'a> {
         self.log.tell_bytes("out", bytes);
         Ok(bytes.len())
     }
+
+    fn has_failed(&self) -> bool {
+        false
+    }
 }

@@ -1,10 +1,10 @@
-use Rattle.std.proofs.Common.{Ok, length}
+use Rattle.std.proofs.Common.{length}
 use Rattle.std.specs.List.{flat_map, range_with_len}
 use Rattle.tx_text.specs.Written.{line_written}
-use Rattle.tx_text.specs.Wrote.{WroteBy}
+use Rattle.tx_text.specs.Puts.{Puts}
 use Rattle.tx_cert.specs.CertText.{code_lines}
 use Rattle.tx_cert.proofs.cert_writer.write_ranks.Given as goal
 
 abbrev pub invariant-loop-index : goal.invariant-loop-index
 invariant-loop-index g l =
-    WroteBy (g.W.Sink.taken l.initial.sink) (g.W.Sink.taken l.sink) (g.W.Sink.failed l.initial.sink) (g.W.Sink.failed l.sink) (flat_map line_written (flat_map (λ c. code_lines l.plan l.cert c (range_with_len 0 (length l.plan.exchanges))) (range_with_len 0 l.index))) (Ok tt)
+    Puts g.W.Sink.taken g.W.Sink.failed l.initial.sink l.sink (flat_map line_written (flat_map (λ c. code_lines l.plan l.cert c (range_with_len 0 (length l.plan.exchanges))) (range_with_len 0 l.index)))

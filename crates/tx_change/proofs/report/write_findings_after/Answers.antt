@@ -1,16 +1,12 @@
-use Rattle.tx_text.proofs.Wrote.{wrote_none, texts_more, texts_stopped, texts_done}
+use Rattle.tx_text.proofs.Putting.{puts_none, puts_more, puts_all}
 use Rattle.tx_change.specs.ChangeReport.{finding_after}
 use Rattle.tx_change.proofs.report.write_findings_after.Goals as goal
 
 pub loop-i-init : goal.loop-i-init
-loop-i-init g c = wrote_none _ _
+loop-i-init g c = puts_none
 
 pub loop-i-preserved : goal.loop-i-preserved
-loop-i-preserved g c = texts_more (finding_after c.args.word.now c.args.plan.now) c.args.findings.now c.loop-i.i c.index-findings-i.result _ _ _ _ _ _ c.loop-i-test.true c.index-findings-i.is c.loop-i.invariant c.in_ok-write_finding_after.ensures
+loop-i-preserved g c = puts_more (finding_after c.args.word.now c.args.plan.now) c.args.findings.now c.loop-i-test.true c.index-findings-i.is c.loop-i.invariant c.write_finding_after.ensures
 
 pub returns : goal.returns
-returns g c = texts_done (finding_after c.args.word.now c.args.plan.now) c.args.findings.now c.loop-i.i _ _ _ _ c.loop-i-test.false c.loop-i.invariant
-
-pub returns-in_err-write_finding_after : goal.returns-in_err-write_finding_after
-returns-in_err-write_finding_after g c =
-    texts_stopped (finding_after c.args.word.now c.args.plan.now) c.args.findings.now c.loop-i.i c.index-findings-i.result _ _ _ _ _ _ _ c.in_err-write_finding_after.field-0.0 c.loop-i-test.true c.index-findings-i.is c.loop-i.invariant c.in_err-write_finding_after.ensures c.from_residual.ensures.0
+returns g c = puts_all (finding_after c.args.word.now c.args.plan.now) c.args.findings.now c.loop-i-test.false c.loop-i.invariant

@@ -1,5 +1,5 @@
-use Rattle.tx_html.proofs.Showing.{own_showed}
+use Rattle.tx_html.proofs.Showing.{own_sets}
 use Rattle.tx_html.proofs.part.set_own.Goals as goal
 
 pub returns : goal.returns
-returns g c = own_showed _ _ _ _ c.args.bytes.now _ c.write_bytes.ensures
+returns g c = own_sets c.put_bytes.ensures

@@ -1,8 +1,7 @@
-use Rattle.std.proofs.Common.{Ok}
-use Rattle.tx_text.specs.Wrote.{WroteBy}
+use Rattle.tx_text.specs.Puts.{Puts}
 use Rattle.tx_join.specs.Differences.{entry_lines, each_written}
 use Rattle.tx_join.proofs.differences.write_alone.Given as goal
 
 abbrev pub invariant-loop-index : goal.invariant-loop-index
 invariant-loop-index g l =
-    WroteBy (g.W.Sink.taken l.initial.sink) (g.W.Sink.taken l.sink) (g.W.Sink.failed l.initial.sink) (g.W.Sink.failed l.sink) (each_written (entry_lines l.entries l.word l.plan l.other) l.index) (Ok tt)
+    Puts g.W.Sink.taken g.W.Sink.failed l.initial.sink l.sink (each_written (entry_lines l.entries l.word l.plan l.other) l.index)

@@ -1,10 +1,9 @@
-use Rattle.std.proofs.Common.{take, Ok}
+use Rattle.std.proofs.Common.{take}
 use Rattle.std.specs.List.{flat_map}
-use Rattle.tx_text.specs.Wrote.{WroteBy}
+use Rattle.tx_text.specs.Puts.{Puts}
 use Rattle.tx_lint.specs.Escaped.{escaped_byte}
 use Rattle.tx_lint.proofs.escaped.write_escaped.Given as goal
 
 abbrev pub invariant-loop-i : goal.invariant-loop-i
 invariant-loop-i g l =
-    WroteBy (g.W.Sink.taken l.initial.sink) (g.W.Sink.taken l.sink) (g.W.Sink.failed l.initial.sink)
-    (g.W.Sink.failed l.sink) (flat_map escaped_byte (take l.i l.text)) (Ok tt)
+    Puts g.W.Sink.taken g.W.Sink.failed l.initial.sink l.sink (flat_map escaped_byte (take l.i l.text))

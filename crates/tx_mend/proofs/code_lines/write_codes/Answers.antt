@@ -1,17 +1,14 @@
 use Rattle.std.proofs.Common.{length, arith}
-use Rattle.tx_text.proofs.Wrote.{wrote_none}
+use Rattle.tx_text.proofs.Putting.{puts_none}
 use Rattle.tx_mend.specs.MendText.{code_line}
-use Rattle.tx_text.proofs.Ranges.{index_more, index_stopped, indexes_done}
+use Rattle.tx_text.proofs.Ranges.{index_more, indexes_done}
 use Rattle.tx_mend.proofs.code_lines.write_codes.Goals as goal
 
 pub loop-index-init : goal.loop-index-init
-loop-index-init g c = wrote_none _ _
+loop-index-init g c = puts_none
 
 pub loop-index-preserved : goal.loop-index-preserved
-loop-index-preserved g c = index_more (code_line c.args.plan.now c.args.unserved.now c.args.missing.now) c.loop-index.index c.of.result _ _ _ _ _ _ c.of.ensures c.loop-index.invariant c.in_ok-write_code.ensures
+loop-index-preserved g c = index_more (code_line c.args.plan.now c.args.unserved.now c.args.missing.now) c.of.ensures c.loop-index.invariant c.write_code.ensures
 
 pub returns : goal.returns
-returns g c = indexes_done (code_line c.args.plan.now c.args.unserved.now c.args.missing.now) c.loop-index.index (length c.args.plan.now.codes) _ _ _ _ (let t = c.loop-index-test.false in let a = c.loop-index.auto.index-end in let e = c.codes-index-end.ensures.count in omega arith) c.loop-index.invariant
-
-pub returns-in_err-write_code : goal.returns-in_err-write_code
-returns-in_err-write_code g c = index_stopped (code_line c.args.plan.now c.args.unserved.now c.args.missing.now) c.loop-index.index (length c.args.plan.now.codes) c.of.result _ _ _ _ _ _ _ c.in_err-write_code.field-0.0 (let t = c.loop-index-test.true in let e = c.codes-index-end.ensures.count in omega arith) c.of.ensures c.loop-index.invariant c.in_err-write_code.ensures c.from_residual.ensures.0
+returns g c = indexes_done (code_line c.args.plan.now c.args.unserved.now c.args.missing.now) c.loop-index.index (length c.args.plan.now.codes) (let t = c.loop-index-test.false in let a = c.loop-index.auto.index-end in let e = c.codes-index-end.ensures.count in omega arith) c.loop-index.invariant

@@ -1,8 +1,7 @@
-use Rattle.std.proofs.Common.{Ok}
 use Rattle.std.specs.List.{flat_map, range_with_len}
-use Rattle.tx_text.specs.Wrote.{WroteBy}
+use Rattle.tx_text.specs.Puts.{Puts}
 use Rattle.tx_mend.specs.MendText.{code_line}
 use Rattle.tx_mend.proofs.code_lines.write_codes.Given as goal
 
 abbrev pub invariant-loop-index : goal.invariant-loop-index
-invariant-loop-index g l = WroteBy (g.W.Sink.taken l.initial.sink) (g.W.Sink.taken l.sink) (g.W.Sink.failed l.initial.sink) (g.W.Sink.failed l.sink) (flat_map (code_line l.plan l.unserved l.missing) (range_with_len 0 l.index)) (Ok tt)
+invariant-loop-index g l = Puts g.W.Sink.taken g.W.Sink.failed l.initial.sink l.sink (flat_map (code_line l.plan l.unserved l.missing) (range_with_len 0 l.index))

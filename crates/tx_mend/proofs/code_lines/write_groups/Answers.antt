@@ -1,12 +1,12 @@
-use Rattle.tx_text.proofs.Wrote.{texts_more, texts_stopped}
+use Rattle.tx_text.proofs.Putting.{puts_none, puts_more, puts_all}
 use Rattle.tx_mend.specs.MendText.{missing_for_code}
 use Rattle.tx_mend.proofs.code_lines.write_groups.Goals as goal
 
-pub returns-in_err-write_for_code : goal.returns-in_err-write_for_code
-returns-in_err-write_for_code g c =
-    let fault = c.in_err-write_for_code.field-0.0 in
-    texts_stopped (missing_for_code c.args.plan.now c.args.code) c.args.missing.now c.loop-i.i c.index-missing-i.result _ _ _ _ _ _ _ fault c.loop-i-test.true c.index-missing-i.is c.loop-i.invariant c.in_err-write_for_code.ensures
-    c.from_residual.ensures.0
+pub loop-i-init : goal.loop-i-init
+loop-i-init g c = puts_none
 
 pub loop-i-preserved : goal.loop-i-preserved
-loop-i-preserved g c = texts_more (missing_for_code c.args.plan.now c.args.code) c.args.missing.now c.loop-i.i c.index-missing-i.result _ _ _ _ _ _ c.loop-i-test.true c.index-missing-i.is c.loop-i.invariant c.in_ok-write_for_code.ensures
+loop-i-preserved g c = puts_more (missing_for_code c.args.plan.now c.args.code) c.args.missing.now c.loop-i-test.true c.index-missing-i.is c.loop-i.invariant c.write_for_code.ensures
+
+pub returns : goal.returns
+returns g c = puts_all (missing_for_code c.args.plan.now c.args.code) c.args.missing.now c.loop-i-test.false c.loop-i.invariant

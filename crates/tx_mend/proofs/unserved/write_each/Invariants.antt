@@ -1,8 +1,8 @@
-use Rattle.std.proofs.Common.{take, Ok}
+use Rattle.std.proofs.Common.{take}
 use Rattle.std.specs.List.{flat_map}
-use Rattle.tx_text.specs.Wrote.{WroteBy}
+use Rattle.tx_text.specs.Puts.{Puts}
 use Rattle.tx_mend.specs.MendText.{unserved_line}
 use Rattle.tx_mend.proofs.unserved.write_each.Given as goal
 
 abbrev pub invariant-loop-i : goal.invariant-loop-i
-invariant-loop-i g l = WroteBy (g.W.Sink.taken l.initial.sink) (g.W.Sink.taken l.sink) (g.W.Sink.failed l.initial.sink) (g.W.Sink.failed l.sink) (flat_map (unserved_line l.plan) (take l.i l.unserved)) (Ok tt)
+invariant-loop-i g l = Puts g.W.Sink.taken g.W.Sink.failed l.initial.sink l.sink (flat_map (unserved_line l.plan) (take l.i l.unserved))

@@ -1,25 +1,20 @@
 use Rattle.std.proofs.Common.{◌+◌, length, ap, arith}
 use Rattle.tx_plan.specs.Plan.{Plan}
-use Rattle.tx_text.proofs.Wrote.{wrote_none}
-use Rattle.tx_text.proofs.Ranges.{index_more, index_stopped, indexes_done}
+use Rattle.tx_text.proofs.Putting.{puts_none}
+use Rattle.tx_text.proofs.Ranges.{index_more, indexes_done}
 use Rattle.tx_order.specs.Ordered.{plan_before}
 use Rattle.tx_order.specs.OrderText.{entry_lines}
 use Rattle.tx_order.proofs.report.write_exchange.Goals as goal
 
 pub loop-index-init : goal.loop-index-init
-loop-index-init g c = wrote_none _ _
+loop-index-init g c = puts_none
 
 pub loop-index-preserved : goal.loop-index-preserved
 loop-index-preserved g c =
     let o = c.args.order.now in
-    index_more (entry_lines c.args.with_old o.transition.new (plan_before o c.args.stage) (plan_before o (c.args.stage + 1)) c.args.exchange) c.loop-index.index c.of.result _ _ _ _ _ _ c.of.ensures c.loop-index.invariant c.in_ok-write_entry.ensures
+    index_more (entry_lines c.args.with_old o.transition.new (plan_before o c.args.stage) (plan_before o (c.args.stage + 1)) c.args.exchange) c.of.ensures c.loop-index.invariant c.write_entry.ensures
 
 pub returns : goal.returns
 returns g c =
     let o = c.args.order.now in
-    indexes_done (entry_lines c.args.with_old o.transition.new (plan_before o c.args.stage) (plan_before o (c.args.stage + 1)) c.args.exchange) c.loop-index.index (length o.transition.new.codes) _ _ _ _ (let t = c.loop-index-test.false in let a = c.loop-index.auto.index-end in let e = c.codes-index-end.ensures.count in let n = ap (λ (p : Plan). length p.codes) c.new_plan-plan.ensures in omega arith) c.loop-index.invariant
-
-pub returns-in_err-write_entry : goal.returns-in_err-write_entry
-returns-in_err-write_entry g c =
-    let o = c.args.order.now in
-    index_stopped (entry_lines c.args.with_old o.transition.new (plan_before o c.args.stage) (plan_before o (c.args.stage + 1)) c.args.exchange) c.loop-index.index (length o.transition.new.codes) c.of.result _ _ _ _ _ _ _ c.in_err-write_entry.field-0.0 (let t = c.loop-index-test.true in let e = c.codes-index-end.ensures.count in let n = ap (λ (p : Plan). length p.codes) c.new_plan-plan.ensures in omega arith) c.of.ensures c.loop-index.invariant c.in_err-write_entry.ensures c.from_residual.ensures.0
+    indexes_done (entry_lines c.args.with_old o.transition.new (plan_before o c.args.stage) (plan_before o (c.args.stage + 1)) c.args.exchange) c.loop-index.index (length o.transition.new.codes) (let t = c.loop-index-test.false in let a = c.loop-index.auto.index-end in let e = c.codes-index-end.ensures.count in let n = ap (λ (p : Plan). length p.codes) c.new_plan-plan.ensures in omega arith) c.loop-index.invariant

@@ -1,9 +1,9 @@
-use Rattle.std.proofs.Common.{Ok, ◌+◌}
+use Rattle.std.proofs.Common.{◌+◌}
 use Rattle.std.specs.List.{flat_map, range_with_len}
-use Rattle.tx_text.specs.Wrote.{WroteBy}
+use Rattle.tx_text.specs.Puts.{Puts}
 use Rattle.tx_order.specs.Ordered.{plan_before}
 use Rattle.tx_order.specs.OrderText.{entry_lines}
 use Rattle.tx_order.proofs.report.write_exchange.Given as goal
 
 abbrev pub invariant-loop-index : goal.invariant-loop-index
-invariant-loop-index g l = WroteBy (g.W.Sink.taken l.initial.sink) (g.W.Sink.taken l.sink) (g.W.Sink.failed l.initial.sink) (g.W.Sink.failed l.sink) (flat_map (entry_lines l.with_old l.order.transition.new (plan_before l.order l.stage) (plan_before l.order (l.stage + 1)) l.exchange) (range_with_len 0 l.index)) (Ok tt)
+invariant-loop-index g l = Puts g.W.Sink.taken g.W.Sink.failed l.initial.sink l.sink (flat_map (entry_lines l.with_old l.order.transition.new (plan_before l.order l.stage) (plan_before l.order (l.stage + 1)) l.exchange) (range_with_len 0 l.index))

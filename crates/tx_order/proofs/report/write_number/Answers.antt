@@ -5,4 +5,4 @@ pub overflow_add-stage : goal.overflow_add-stage
 overflow_add-stage g c = let few = c.rules.ensures.few in let h = c.requires in omega arith
 
 pub returns : goal.returns
-returns g c = rw (c.as_bytes-number.ensures.value, c.format.ensures.text) at c.write_parts.ensures
+returns g c = rw (c.as_bytes-number.ensures.value, c.format.ensures.text) at c.put_parts.ensures

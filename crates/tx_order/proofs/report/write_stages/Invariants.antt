@@ -1,8 +1,7 @@
-use Rattle.std.proofs.Common.{Ok}
 use Rattle.std.specs.List.{flat_map, range_with_len}
-use Rattle.tx_text.specs.Wrote.{WroteBy}
+use Rattle.tx_text.specs.Puts.{Puts}
 use Rattle.tx_order.specs.OrderText.{stage_text}
 use Rattle.tx_order.proofs.report.write_stages.Given as goal
 
 abbrev pub invariant-loop-stage : goal.invariant-loop-stage
-invariant-loop-stage g l = WroteBy (g.W.Sink.taken l.initial.sink) (g.W.Sink.taken l.sink) (g.W.Sink.failed l.initial.sink) (g.W.Sink.failed l.sink) (flat_map (stage_text l.with_old l.order) (range_with_len 0 l.stage)) (Ok tt)
+invariant-loop-stage g l = Puts g.W.Sink.taken g.W.Sink.failed l.initial.sink l.sink (flat_map (stage_text l.with_old l.order) (range_with_len 0 l.stage))

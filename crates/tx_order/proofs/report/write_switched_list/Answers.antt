@@ -2,7 +2,7 @@ use Rattle.std.proofs.Common.{◌≡◌, ℕ, ◌+◌, ◌<◌, Bool, false, con
 use Rattle.std.proofs.lemmas.Bool.{true≢false}
 use Rattle.std.proofs.lemmas.Slice.Eq.{bytes_eq-Decides}
 use Rattle.std.specs.Str.{bytes_eq}
-use Rattle.tx_text.proofs.Wrote.{text_is}
+use Rattle.tx_text.proofs.Putting.{puts_is}
 use Rattle.tx_plan.specs.Plan.{Plan}
 use Rattle.tx_plan.specs.Routes.{route_list}
 use Rattle.tx_plantext.specs.ChangedLists.{list_line, old_line, line_unless_same}
@@ -25,7 +25,5 @@ returns g c =
     let x = c.args.exchange in
     let code = c.args.code in
     let old = c.list-old.result.now in
-    text_is _ _ _ _ _ _ _
-    (new_line o c.rules.ensures.kept c.args.stage x code old c.list.result.now c.eq.result c.args.with_old c.requires c.list-old.ensures c.list.ensures c.eq.ensures c.if-eq.false
-    ∙ sym (ap (λ (p : Plan). list_line p code x (route_list p x code) ++ old_line c.args.with_old p old) c.new_plan.ensures))
-    c.write_new_list.ensures
+    puts_is (new_line o c.rules.ensures.kept c.args.stage x code old c.list.result.now c.eq.result c.args.with_old c.requires c.list-old.ensures c.list.ensures c.eq.ensures c.if-eq.false
+    ∙ sym (ap (λ (p : Plan). list_line p code x (route_list p x code) ++ old_line c.args.with_old p old) c.new_plan.ensures)) c.write_new_list.ensures

@@ -1,8 +1,8 @@
 use Rattle.std.proofs.Common.{take}
 use Rattle.std.specs.List.{flat_map}
-use Rattle.tx_html.specs.Shows.{HasShown}
+use Rattle.tx_html.specs.Shows.{Sets}
 use Rattle.tx_page.specs.WrongTexts.{finding_texts}
 use Rattle.tx_page.proofs.findings.write_all.Given as goal
 
 abbrev pub invariant-loop-i : goal.invariant-loop-i
-invariant-loop-i g l = HasShown (g.W.PageSink.seen l.initial.sink) (g.W.PageSink.seen l.sink) (flat_map (finding_texts l.plan l.limits.spare) (take l.i l.findings))
+invariant-loop-i g l = Sets g.W.PageSink.seen l.initial.sink l.sink (flat_map (finding_texts l.plan l.limits.spare) (take l.i l.findings))

@@ -1,17 +1,14 @@
 use Rattle.std.proofs.Common.{length, arith}
 use Rattle.tx_page.specs.NetworkTexts.{home_texts}
-use Rattle.tx_html.proofs.Showing.{showed_none, showed_stopped}
 use Rattle.tx_svg.proofs.Indexed.{below_more, below_done}
+use Rattle.tx_html.proofs.Showing.{sets_none}
 use Rattle.tx_page.proofs.network.write_codes.Goals as goal
 
 pub loop-index-init : goal.loop-index-init
-loop-index-init g c = showed_none _
+loop-index-init g c = sets_none
 
 pub loop-index-preserved : goal.loop-index-preserved
-loop-index-preserved g c = below_more (home_texts c.args.plan.now c.args.exchange) c.loop-index.index _ _ _ _ c.of.ensures c.loop-index.invariant c.in_ok-write_home.ensures
+loop-index-preserved g c = below_more (home_texts c.args.plan.now c.args.exchange) c.of.ensures c.loop-index.invariant c.write_home.ensures
 
 pub returns : goal.returns
-returns g c = below_done (home_texts c.args.plan.now c.args.exchange) c.loop-index.index (length c.args.plan.now.codes) _ _ (omega arith) c.loop-index.invariant
-
-pub returns-in_err-write_home : goal.returns-in_err-write_home
-returns-in_err-write_home g c = showed_stopped _ _ _ _ c.in_err-write_home.ensures c.from_residual.ensures.0
+returns g c = below_done (home_texts c.args.plan.now c.args.exchange) c.loop-index.index (length c.args.plan.now.codes) (omega arith) c.loop-index.invariant

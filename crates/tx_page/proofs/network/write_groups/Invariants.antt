@@ -1,7 +1,7 @@
-use Rattle.tx_html.specs.Shows.{HasShown}
+use Rattle.tx_html.specs.Shows.{Sets}
 use Rattle.tx_svg.specs.Indexed.{texts_below}
 use Rattle.tx_page.specs.NetworkTexts.{group_texts}
 use Rattle.tx_page.proofs.network.write_groups.Given as goal
 
 abbrev pub invariant-loop-index : goal.invariant-loop-index
-invariant-loop-index g l = HasShown (g.W.PageSink.seen l.initial.sink) (g.W.PageSink.seen l.sink) (texts_below l.index (group_texts l.plan))
+invariant-loop-index g l = Sets g.W.PageSink.seen l.initial.sink l.sink (texts_below l.index (group_texts l.plan))

@@ -1,8 +1,8 @@
 use Rattle.std.proofs.Common.{take}
 use Rattle.std.specs.List.{flat_map}
-use Rattle.tx_html.specs.Shows.{HasShown}
+use Rattle.tx_html.specs.Shows.{Sets}
 use Rattle.tx_page.specs.OutageTexts.{shown_texts}
 use Rattle.tx_page.proofs.outages.write_outcomes.Given as goal
 
 abbrev pub invariant-loop-i : goal.invariant-loop-i
-invariant-loop-i g l = HasShown (g.W.PageSink.seen l.initial.sink) (g.W.PageSink.seen l.sink) (flat_map (shown_texts l.plan l.risks) (take l.i l.outcomes))
+invariant-loop-i g l = Sets g.W.PageSink.seen l.initial.sink l.sink (flat_map (shown_texts l.plan l.risks) (take l.i l.outcomes))

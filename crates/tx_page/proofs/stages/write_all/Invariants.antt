@@ -1,7 +1,7 @@
-use Rattle.tx_html.specs.Shows.{HasShown}
+use Rattle.tx_html.specs.Shows.{Sets}
 use Rattle.tx_svg.specs.Indexed.{texts_below}
 use Rattle.tx_page.specs.ChangeTexts.{stage_texts}
 use Rattle.tx_page.proofs.stages.write_all.Given as goal
 
 abbrev pub invariant-loop-stage : goal.invariant-loop-stage
-invariant-loop-stage g l = HasShown (g.W.PageSink.seen l.initial.sink) (g.W.PageSink.seen l.sink) (texts_below l.stage (stage_texts l.order))
+invariant-loop-stage g l = Sets g.W.PageSink.seen l.initial.sink l.sink (texts_below l.stage (stage_texts l.order))

@@ -1,20 +1,17 @@
 use Rattle.std.proofs.Common.{length, arith}
 use Rattle.tx_page.specs.ChangeTexts.{pair_texts}
 use Rattle.tx_page.specs.inner.Between.{before_of, after_of}
-use Rattle.tx_html.proofs.Showing.{showed_none, showed_stopped}
 use Rattle.tx_svg.proofs.Indexed.{below_more, below_done}
+use Rattle.tx_html.proofs.Showing.{sets_none}
 use Rattle.tx_page.proofs.table.write_exchange.Goals as goal
 
 pub loop-index-init : goal.loop-index-init
-loop-index-init g c = showed_none _
+loop-index-init g c = sets_none
 
 pub loop-index-preserved : goal.loop-index-preserved
 loop-index-preserved g c =
     let e = c.entry_of-entry.ensures in
-    below_more (pair_texts c.args.plan.now (before_of c.args.between.now) (after_of c.args.between.now) c.args.exchange) c.loop-index.index _ _ _ _ c.of.ensures c.loop-index.invariant (rw (e.exchange, e.code, e.before, e.after, e.was_barred, e.is_barred) at c.in_ok-write_switched.ensures)
+    below_more (pair_texts c.args.plan.now (before_of c.args.between.now) (after_of c.args.between.now) c.args.exchange) c.of.ensures c.loop-index.invariant (rw (e.exchange, e.code, e.before, e.after, e.was_barred, e.is_barred) at c.write_switched.ensures)
 
 pub returns : goal.returns
-returns g c = below_done (pair_texts c.args.plan.now (before_of c.args.between.now) (after_of c.args.between.now) c.args.exchange) c.loop-index.index (length c.args.plan.now.codes) _ _ (omega arith) c.loop-index.invariant
-
-pub returns-in_err-write_switched : goal.returns-in_err-write_switched
-returns-in_err-write_switched g c = showed_stopped _ _ _ _ c.in_err-write_switched.ensures c.from_residual.ensures.0
+returns g c = below_done (pair_texts c.args.plan.now (before_of c.args.between.now) (after_of c.args.between.now) c.args.exchange) c.loop-index.index (length c.args.plan.now.codes) (omega arith) c.loop-index.invariant

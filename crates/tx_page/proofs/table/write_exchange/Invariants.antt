@@ -1,8 +1,8 @@
-use Rattle.tx_html.specs.Shows.{HasShown}
+use Rattle.tx_html.specs.Shows.{Sets}
 use Rattle.tx_svg.specs.Indexed.{texts_below}
 use Rattle.tx_page.specs.ChangeTexts.{pair_texts}
 use Rattle.tx_page.specs.inner.Between.{before_of, after_of}
 use Rattle.tx_page.proofs.table.write_exchange.Given as goal
 
 abbrev pub invariant-loop-index : goal.invariant-loop-index
-invariant-loop-index g l = HasShown (g.W.PageSink.seen l.initial.sink) (g.W.PageSink.seen l.sink) (texts_below l.index (pair_texts l.plan (before_of l.between) (after_of l.between) l.exchange))
+invariant-loop-index g l = Sets g.W.PageSink.seen l.initial.sink l.sink (texts_below l.index (pair_texts l.plan (before_of l.between) (after_of l.between) l.exchange))

@@ -1,7 +1,7 @@
-use Rattle.tx_text.proofs.Wrote.{wrote_none}
+use Rattle.tx_text.proofs.Putting.{puts_none}
 use Rattle.tx_plantext.specs.PlanWritten.{exchange_words}
 use Rattle.tx_plantext.proofs.PlanWriting.{line_past, none_at}
 use Rattle.tx_plantext.proofs.plan_writer.write_exchange.Goals as goal
 
 pub returns-in-None : goal.returns-in-None
-returns-in-None g c = rw (line_past exchange_words c.args.plan.now.exchanges c.args.index (none_at c.args.plan.now.exchanges c.args.index c.in-None.ensures)) (wrote_none _ _)
+returns-in-None g c = rw (line_past exchange_words c.args.plan.now.exchanges c.args.index (none_at c.args.plan.now.exchanges c.args.index c.in-None.ensures)) puts_none

@@ -1,7 +1,7 @@
-use Rattle.std.proofs.Common.{take, Ok}
-use Rattle.tx_text.specs.Wrote.{WroteBy}
+use Rattle.std.proofs.Common.{take}
+use Rattle.tx_text.specs.Puts.{Puts}
 use Rattle.tx_plantext.specs.PlanWritten.{group_words, lines_of_list}
 use Rattle.tx_plantext.proofs.plan_writer.write_groups.Given as goal
 
 abbrev pub invariant-loop-index : goal.invariant-loop-index
-invariant-loop-index g l = WroteBy (g.W.Sink.taken l.initial.sink) (g.W.Sink.taken l.sink) (g.W.Sink.failed l.initial.sink) (g.W.Sink.failed l.sink) (lines_of_list (group_words l.plan) (take l.index l.plan.groups)) (Ok tt)
+invariant-loop-index g l = Puts g.W.Sink.taken g.W.Sink.failed l.initial.sink l.sink (lines_of_list (group_words l.plan) (take l.index l.plan.groups))

@@ -8,4 +8,4 @@ returns-in-Some g c =
       c.format.ensures.text,
       c.as_bytes-spare.ensures.value,
       c.format-in-Some.ensures.text,
-    ) at c.write_parts.ensures)
+    ) at c.put_parts.ensures)

@@ -1,23 +1,13 @@
-use Rattle.std.proofs.Common.{length, Err, refl}
-use Rattle.std.specs.List.{flat_map}
-use Rattle.tx_text.proofs.Wrote.{wrote_none, wrote_then, wrote_first, texts_more, texts_stopped, texts_done}
-use Rattle.tx_rank.specs.Report.{finding_line, verdict_line}
+use Rattle.tx_text.proofs.Putting.{puts_none, puts_then, puts_more, puts_all}
+use Rattle.tx_rank.specs.Report.{finding_line}
 use Rattle.tx_rank.proofs.report.write_findings.Goals as goal
 
-pub returns-in_err-write_finding : goal.returns-in_err-write_finding
-returns-in_err-write_finding g c =
-    let fault = c.in_err-write_finding.field-0.0 in
-    wrote_first _ _ _ _ (flat_map (finding_line c.args.plan.now) c.args.findings.now) (verdict_line (length c.args.findings.now)) _ fault
-    (texts_stopped (finding_line c.args.plan.now) c.args.findings.now c.loop-i.i c.index-findings-i.result _ _ _ _ _ _ (Err fault) fault c.loop-i-test.true c.index-findings-i.is c.loop-i.invariant c.in_err-write_finding.ensures refl)
-    c.from_residual.ensures.0
-
 pub loop-i-init : goal.loop-i-init
-loop-i-init g c = wrote_none _ _
+loop-i-init g c = puts_none
 
 pub returns : goal.returns
 returns g c =
-    wrote_then _ _ _ _ _ _ (flat_map (finding_line c.args.plan.now) c.args.findings.now) (verdict_line (length c.args.findings.now)) _
-    (texts_done (finding_line c.args.plan.now) c.args.findings.now c.loop-i.i _ _ _ _ c.loop-i-test.false c.loop-i.invariant) c.write_verdict.ensures
+    puts_then (puts_all (finding_line c.args.plan.now) c.args.findings.now c.loop-i-test.false c.loop-i.invariant) c.write_verdict.ensures
 
 pub loop-i-preserved : goal.loop-i-preserved
-loop-i-preserved g c = texts_more (finding_line c.args.plan.now) c.args.findings.now c.loop-i.i c.index-findings-i.result _ _ _ _ _ _ c.loop-i-test.true c.index-findings-i.is c.loop-i.invariant c.in_ok-write_finding.ensures
+loop-i-preserved g c = puts_more (finding_line c.args.plan.now) c.args.findings.now c.loop-i-test.true c.index-findings-i.is c.loop-i.invariant c.write_finding.ensures

@@ -1,15 +1,6 @@
-use Rattle.std.proofs.Common.{[]}
-use Rattle.tx_html.proofs.Showing.{showed_then, showed_stopped}
+use Rattle.tx_html.proofs.Showing.{sets_then}
 use Rattle.tx_svg.proofs.arrows.write_across.Goals as goal
-
-pub returns-in_err-write_point : goal.returns-in_err-write_point
-returns-in_err-write_point g c = showed_stopped _ _ _ _ c.in_err-write_point.ensures c.from_residual.ensures.0
-
-pub returns-in_err-write_passings : goal.returns-in_err-write_passings
-returns-in_err-write_passings g c = showed_stopped _ _ _ _ c.in_err-write_passings.ensures c.from_residual-in_err-write_passings.ensures.0
 
 pub returns : goal.returns
 returns g c =
-    showed_then _ _ _ ([]) _ _ c.in_ok-write_point.ensures
-    (showed_then _ _ _ ([]) _ _ c.in_ok-write_passings.ensures
-    (c.write_bend.ensures))
+    sets_then c.write_point.ensures (sets_then c.write_passings.ensures c.write_bend.ensures)

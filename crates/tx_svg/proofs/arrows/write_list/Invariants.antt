@@ -1,6 +1,6 @@
 use Rattle.std.proofs.Common.{[]}
-use Rattle.tx_html.specs.Shows.{HasShown}
+use Rattle.tx_html.specs.Shows.{Sets}
 use Rattle.tx_svg.proofs.arrows.write_list.Given as goal
 
 abbrev pub invariant-loop-i : goal.invariant-loop-i
-invariant-loop-i g l = HasShown (g.W.PageSink.seen l.initial.sink) (g.W.PageSink.seen l.sink) []
+invariant-loop-i g l = Sets g.W.PageSink.seen l.initial.sink l.sink []

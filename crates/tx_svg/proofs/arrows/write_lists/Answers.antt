@@ -1,15 +1,11 @@
-use Rattle.tx_html.proofs.Showing.{showed_none, showed_stopped}
-use Rattle.tx_svg.proofs.Markup.{markup_more}
+use Rattle.tx_html.proofs.Showing.{sets_none, sets_then}
 use Rattle.tx_svg.proofs.arrows.write_lists.Goals as goal
 
 pub loop-index-init : goal.loop-index-init
-loop-index-init g c = showed_none _
+loop-index-init g c = sets_none
 
 pub loop-index-preserved : goal.loop-index-preserved
-loop-index-preserved g c = markup_more _ _ _ c.loop-index.invariant c.in_ok-write_list.ensures
+loop-index-preserved g c = sets_then c.loop-index.invariant c.write_list.ensures
 
 pub returns : goal.returns
 returns g c = c.loop-index.invariant
-
-pub returns-in_err-write_list : goal.returns-in_err-write_list
-returns-in_err-write_list g c = showed_stopped _ _ _ _ c.in_err-write_list.ensures c.from_residual.ensures.0

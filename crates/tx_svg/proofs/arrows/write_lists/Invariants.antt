@@ -1,6 +1,6 @@
 use Rattle.std.proofs.Common.{[]}
-use Rattle.tx_html.specs.Shows.{HasShown}
+use Rattle.tx_html.specs.Shows.{Sets}
 use Rattle.tx_svg.proofs.arrows.write_lists.Given as goal
 
 abbrev pub invariant-loop-index : goal.invariant-loop-index
-invariant-loop-index g l = HasShown (g.W.PageSink.seen l.initial.sink) (g.W.PageSink.seen l.sink) []
+invariant-loop-index g l = Sets g.W.PageSink.seen l.initial.sink l.sink []

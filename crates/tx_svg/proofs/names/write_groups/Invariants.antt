@@ -1,7 +1,7 @@
 use Rattle.std.proofs.Common.{map, take}
 use Rattle.tx_plan.specs.Plan.{group_name}
-use Rattle.tx_html.specs.Shows.{HasShown}
+use Rattle.tx_html.specs.Shows.{Sets}
 use Rattle.tx_svg.proofs.names.write_groups.Given as goal
 
 abbrev pub invariant-loop-i : goal.invariant-loop-i
-invariant-loop-i g l = HasShown (g.W.PageSink.seen l.initial.sink) (g.W.PageSink.seen l.sink) (map (group_name l.plan) (take l.i l.groups))
+invariant-loop-i g l = Sets g.W.PageSink.seen l.initial.sink l.sink (map (group_name l.plan) (take l.i l.groups))

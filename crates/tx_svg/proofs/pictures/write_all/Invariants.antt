@@ -1,8 +1,8 @@
 use Rattle.std.proofs.Common.{take}
 use Rattle.std.specs.List.{flat_map}
-use Rattle.tx_html.specs.Shows.{HasShown}
+use Rattle.tx_html.specs.Shows.{Sets}
 use Rattle.tx_svg.specs.ListTexts.{picture_texts}
 use Rattle.tx_svg.proofs.pictures.write_all.Given as goal
 
 abbrev pub invariant-loop-i : goal.invariant-loop-i
-invariant-loop-i g l = HasShown (g.W.PageSink.seen l.initial.sink) (g.W.PageSink.seen l.sink) (flat_map (λ q. picture_texts l.plan q.code) (take l.i l.pictures))
+invariant-loop-i g l = Sets g.W.PageSink.seen l.initial.sink l.sink (flat_map (λ q. picture_texts l.plan q.code) (take l.i l.pictures))

@@ -1,4 +1,4 @@
-use Rattle.std.proofs.Common.{◌≡◌, ◌≤◌, ◌++◌, length, take}
+use Rattle.std.proofs.Common.{◌≤◌, ◌++◌, length, take}
 use Rattle.std.specs.List.{flat_map}
 use Rattle.tx_tickets.specs.Texts.{hop_text}
 use Rattle.tx_tickets.proofs.Begun.{IsBegun}
@@ -6,7 +6,6 @@ use Rattle.tx_tickets.proofs.ticket.write_path.Given as goal
 
 abbrev pub invariant-loop-hop : goal.invariant-loop-hop
 invariant-loop-hop g l = record {
-  begun : IsBegun (g.W.Sink.taken l.initial.sink) (g.W.Sink.taken l.sink) l.text.items (l.initial.text.items ++ flat_map (hop_text l.plan) (take l.hop-index l.hops));
-  mark : g.W.Sink.failed l.sink ≡ g.W.Sink.failed l.initial.sink;
+  begun : IsBegun g.W.Sink.taken g.W.Sink.failed l.initial.sink l.sink l.text.items (l.initial.text.items ++ flat_map (hop_text l.plan) (take l.hop-index l.hops));
   room : length l.text.items ≤ 152;
 }

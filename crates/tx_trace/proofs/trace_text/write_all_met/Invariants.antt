@@ -1,11 +1,10 @@
-use Rattle.std.proofs.Common.{take, Ok}
+use Rattle.std.proofs.Common.{take}
 use Rattle.std.specs.List.{flat_map}
-use Rattle.tx_text.specs.Wrote.{WroteBy}
+use Rattle.tx_text.specs.Puts.{Puts}
 use Rattle.tx_trace.specs.TraceText.{met_lines}
 use Rattle.tx_trace.specs.Traces.{rank_told}
 use Rattle.tx_trace.proofs.trace_text.write_all_met.Given as goal
 
 abbrev pub invariant-loop-i : goal.invariant-loop-i
 invariant-loop-i g l =
-    WroteBy (g.W.Sink.taken l.initial.sink) (g.W.Sink.taken l.sink) (g.W.Sink.failed l.initial.sink) (g.W.Sink.failed l.sink)
-    (flat_map (met_lines l.plan l.trace.code (rank_told l.trace.ranks l.trace.code)) (take l.i l.met)) (Ok tt)
+    Puts g.W.Sink.taken g.W.Sink.failed l.initial.sink l.sink (flat_map (met_lines l.plan l.trace.code (rank_told l.trace.ranks l.trace.code)) (take l.i l.met))

@@ -1,14 +1,14 @@
-use Rattle.std.proofs.Common.{◌+◌, ℕ, arith}
+use Rattle.std.proofs.Common.{ℕ, arith}
 use Rattle.std.specs.List.{enumerate_from}
 use Rattle.std.proofs.lemmas.List.FromFn.{length-enumerate_from}
-use Rattle.tx_text.proofs.Wrote.{wrote_none, texts_more, texts_stopped, texts_done}
+use Rattle.tx_text.proofs.Putting.{puts_none, puts_more, puts_all}
 use Rattle.tx_trace.specs.TraceText.{place_line}
 use Rattle.tx_trace.specs.Traces.{rank_told}
 use Rattle.tx_trace.proofs.Texts.{numbered}
 use Rattle.tx_trace.proofs.trace_text.write_list.Goals as goal
 
 pub loop-i-init : goal.loop-i-init
-loop-i-init g c = wrote_none _ _
+loop-i-init g c = puts_none
 
 pub loop-i-preserved : goal.loop-i-preserved
 loop-i-preserved g c =
@@ -16,8 +16,7 @@ loop-i-preserved g c =
     let xs = c.list-list.result.now in
     let long = length-enumerate_from 1 xs in
     let low = c.loop-i-test.true in
-    texts_more (λ (e : ℕ × ℕ). place_line c.args.plan.now (rank_told t.ranks t.code) c.args.exchange e.0 e.1) (enumerate_from 1 xs) c.loop-i.i (c.loop-i.i + 1, c.index-list-i.result) _ _ _ _ _ _ (omega arith)
-    (numbered xs c.loop-i.i c.index-list-i.result low c.index-list-i.is) c.loop-i.invariant c.in_ok-write_place.ensures
+    puts_more (λ (e : ℕ × ℕ). place_line c.args.plan.now (rank_told t.ranks t.code) c.args.exchange e.0 e.1) (enumerate_from 1 xs) {i = c.loop-i.i} (omega arith) (numbered xs c.loop-i.i c.index-list-i.result low c.index-list-i.is) c.loop-i.invariant c.write_place.ensures
 
 pub returns : goal.returns
 returns g c =
@@ -26,14 +25,4 @@ returns g c =
     let long = length-enumerate_from 1 xs in
     let past = c.loop-i-test.false in
     rw (← c.list-list.ensures.value)
-    (texts_done (λ (e : ℕ × ℕ). place_line c.args.plan.now (rank_told t.ranks t.code) c.args.exchange e.0 e.1) (enumerate_from 1 xs) c.loop-i.i _ _ _ _ (omega arith) c.loop-i.invariant)
-
-pub returns-in_err-write_place : goal.returns-in_err-write_place
-returns-in_err-write_place g c =
-    let t = c.args.trace.now in
-    let xs = c.list-list.result.now in
-    let long = length-enumerate_from 1 xs in
-    let low = c.loop-i-test.true in
-    rw (← c.list-list.ensures.value)
-    (texts_stopped (λ (e : ℕ × ℕ). place_line c.args.plan.now (rank_told t.ranks t.code) c.args.exchange e.0 e.1) (enumerate_from 1 xs) c.loop-i.i (c.loop-i.i + 1, c.index-list-i.result) _ _ _ _ _ _ _ c.in_err-write_place.field-0.0 (omega arith)
-    (numbered xs c.loop-i.i c.index-list-i.result low c.index-list-i.is) c.loop-i.invariant c.in_err-write_place.ensures c.from_residual.ensures.0)
+    (puts_all (λ (e : ℕ × ℕ). place_line c.args.plan.now (rank_told t.ranks t.code) c.args.exchange e.0 e.1) (enumerate_from 1 xs) {i = c.loop-i.i} (omega arith) c.loop-i.invariant)

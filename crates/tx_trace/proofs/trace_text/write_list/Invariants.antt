@@ -1,11 +1,10 @@
-use Rattle.std.proofs.Common.{ℕ, take, Ok}
+use Rattle.std.proofs.Common.{ℕ, take}
 use Rattle.std.specs.List.{flat_map, enumerate_from}
-use Rattle.tx_text.specs.Wrote.{WroteBy}
+use Rattle.tx_text.specs.Puts.{Puts}
 use Rattle.tx_trace.specs.TraceText.{place_line}
 use Rattle.tx_trace.specs.Traces.{rank_told}
 use Rattle.tx_trace.proofs.trace_text.write_list.Given as goal
 
 abbrev pub invariant-loop-i : goal.invariant-loop-i
 invariant-loop-i g l =
-    WroteBy (g.W.Sink.taken l.initial.sink) (g.W.Sink.taken l.sink) (g.W.Sink.failed l.initial.sink) (g.W.Sink.failed l.sink)
-    (flat_map (λ (e : ℕ × ℕ). place_line l.plan (rank_told l.trace.ranks l.trace.code) l.exchange e.0 e.1) (take l.i (enumerate_from 1 l.list))) (Ok tt)
+    Puts g.W.Sink.taken g.W.Sink.failed l.initial.sink l.sink (flat_map (λ (e : ℕ × ℕ). place_line l.plan (rank_told l.trace.ranks l.trace.code) l.exchange e.0 e.1) (take l.i (enumerate_from 1 l.list)))

@@ -1,36 +1,20 @@
-use Rattle.std.proofs.Common.{◌<◌, ◌≤◌, ◌∙◌, ap, subst, length, arith}
-use Rattle.std.specs.Io.KnownBytes.{append_known}
-use Rattle.tx_text.specs.Ends.{StopsIn}
-use Rattle.tx_trie.specs.CodesText.{pair_line}
-use Rattle.tx_trie.proofs.CodesWritten.{stopped, wrote_code, stopped_code, wrote_all, stopped_last}
+use Rattle.std.proofs.Common.{◌<◌, ◌≤◌, length, arith}
+use Rattle.tx_text.proofs.Putting.{puts_none, puts_then, puts_all, puts_wrote}
+use Rattle.tx_trie.specs.CodesText.{code_line}
+use Rattle.tx_trie.proofs.CodesWritten.{code_more, codes_some}
 use Rattle.tx_trie.proofs.codes_writer.write_codes.Goals as goal
+
+pub loop-index-init : goal.loop-index-init
+loop-index-init g c = puts_none
 
 pub loop-index-preserved : goal.loop-index-preserved
 loop-index-preserved g c =
     let p = c.args.plan.now in
     let low : c.loop-index.index < length p.codes = (let e = c.codes-index-end.ensures.count in omega arith) in
-    record {
-      wrote = wrote_code p c.loop-index.index low _ _ _ c.loop-index.invariant.wrote (rw c.of.ensures at c.in_ok-write_code.ensures.0);
-      mark = c.in_ok-write_code.ensures.1 ∙ c.loop-index.invariant.mark;
-    }
-
-pub returns-in_err-write_code : goal.returns-in_err-write_code
-returns-in_err-write_code g c =
-    let p = c.args.plan.now in
-    let low : c.loop-index.index < length p.codes = (let e = c.codes-index-end.ensures.count in omega arith) in
-    let failed = c.in_err-write_code.ensures in
-    stopped _ _ _ _ _ c.from_residual.result (stopped_code p c.loop-index.index low _ _ _ c.loop-index.invariant.wrote (rw c.of.ensures at failed.0)) failed.1 c.from_residual.ensures.0
-
-pub returns-in_err-write_pair : goal.returns-in_err-write_pair
-returns-in_err-write_pair g c =
-    let p = c.args.plan.now in
-    let end : length p.codes ≤ c.loop-index.index = (let e = c.codes-index-end.ensures.count in omega arith) in
-    let failed = c.in_err-write_pair.ensures in
-    let stop = subst (λ o. StopsIn (g.W.Sink.taken c.loop-index.sink) (g.W.Sink.taken c.write_pair.new.sink) (pair_line p o)) c.ambiguous.ensures failed.0 in
-    stopped _ _ _ _ _ c.from_residual-in_err-write_pair.result (stopped_last p c.loop-index.index end c.args.trie.now c.requires _ _ _ c.loop-index.invariant.wrote stop) failed.1 c.from_residual-in_err-write_pair.ensures.0
+    code_more p c.loop-index.index low c.loop-index.invariant (rw c.of.ensures at c.write_code.ensures)
 
 pub returns : goal.returns
 returns g c =
     let p = c.args.plan.now in
     let end : length p.codes ≤ c.loop-index.index = (let e = c.codes-index-end.ensures.count in omega arith) in
-    (wrote_all p c.loop-index.index end c.args.trie.now c.requires _ _ _ c.loop-index.invariant.wrote (c.in_ok-write_pair.ensures.0 ∙ ap (λ o. append_known (g.W.Sink.taken c.loop-index.sink) (pair_line p o)) c.ambiguous.ensures), c.in_ok-write_pair.ensures.1 ∙ c.loop-index.invariant.mark)
+    puts_wrote _ (codes_some p) (puts_then (puts_all (code_line p) p.codes end c.loop-index.invariant) (rw (c.ambiguous.ensures, c.requires) at c.write_pair.ensures)) c.finish.ensures

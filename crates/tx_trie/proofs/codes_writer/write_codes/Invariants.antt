@@ -1,11 +1,8 @@
-use Rattle.std.proofs.Common.{◌≡◌, take}
-use Rattle.std.specs.Io.KnownBytes.{append_known}
+use Rattle.std.proofs.Common.{take}
 use Rattle.std.specs.List.{flat_map}
+use Rattle.tx_text.specs.Puts.{Puts}
 use Rattle.tx_trie.specs.CodesText.{code_line}
 use Rattle.tx_trie.proofs.codes_writer.write_codes.Given as goal
 
 abbrev pub invariant-loop-index : goal.invariant-loop-index
-invariant-loop-index g l = record {
-  wrote : g.W.Sink.taken l.sink ≡ append_known (g.W.Sink.taken l.initial.sink) (flat_map (code_line l.plan) (take l.index l.plan.codes));
-  mark : g.W.Sink.failed l.sink ≡ g.W.Sink.failed l.initial.sink;
-}
+invariant-loop-index g l = Puts g.W.Sink.taken g.W.Sink.failed l.initial.sink l.sink (flat_map (code_line l.plan) (take l.index l.plan.codes))
