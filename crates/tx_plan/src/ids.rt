@@ -114,10 +114,29 @@ impl GroupId {
 }
 
 /// An exchange and a code: what routes and bars are declared for.
-#[derive(Clone, Copy, PartialEq, Eq, Hash)]
+#[derive(Clone, Copy, PartialEq, Eq)]
 pub struct Pair {
     pub exchange: ExchangeId,
     pub code: CodeId,
+}
+
+/// All in one word: an exchange has an index below 256, so the pairs of a plan are numbers that
+/// follow one another. In two words the codes of an exchange come to slots that do, and such rows
+/// of two exchanges overlap.
+impl Hash for Pair {
+    ghost use Rattle.std.specs.Hash as fed;
+    ghost use Rattle.std.specs.Prelude.{◌+◌, ◌*◌};
+    ghost use Rattle.std.proofs.Common.{ap};
+    ghost use Rattle.tx_plan.specs.inner.PairLaws.{same_pair-is};
+
+    ghost hash_input = { λ p. fed.u32 (256 * p.code + p.exchange) };
+
+    ghost respects_eq = { λ p q h. ap (λ r. fed.u32 (256 * r.code + r.exchange))
+        (same_pair-is p q h) };
+
+    fn hash<H: Hasher>(&self, state: &mut H) {
+        state.write_u32(256 * u32::from(self.code.index) + u32::from(self.exchange.index));
+    }
 }
 
 /// From which ends the circuits of a group may be seized.
