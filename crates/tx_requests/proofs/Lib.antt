@@ -1,0 +1,3 @@
+mod Grading
+mod Surviving
+mod Asking

@@ -1,0 +1,16 @@
+pub mod Faults
+pub mod Printing
+pub mod Carried
+pub mod Reading
+pub mod Writables
+pub mod Ending
+pub mod TwoPlans
+pub mod Made
+pub mod Grade
+pub mod Change
+pub mod Survive
+pub mod Asked
+pub mod Trace
+pub mod Fill
+pub mod Explain
+pub mod inner

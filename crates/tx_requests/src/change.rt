@@ -1,0 +1,174 @@
+// The command `change`.
+ghost use Rattle.std.specs.Prelude.{◌≡◌, is_some, IfOk};
+ghost use Rattle.std.specs.List.{AllByRecursion};
+ghost use Rattle.tx_plan.specs.Rules.{IsPlan};
+ghost use Rattle.tx_rank.specs.Findings.{IsTrueOf};
+ghost use Rattle.tx_change.specs.Shown.{IsShown};
+ghost use Rattle.tx_requests.specs.Made.{shown_plan};
+ghost use Rattle.tx_requests.specs.TwoPlans.{ReadsPlans, AreJoined, IsSaid};
+ghost use Rattle.tx_requests.specs.Change.{ChangeAnswers, change_prints, ChangeEnds, is_shown, EndsWithMixture, EndsWithNewPlan};
+ghost use Rattle.tx_requests.specs.inner.Changes.{IsMadeOf};
+
+use crate::ending::Ending;
+use crate::fault::CommandFault;
+use crate::made::{Made, Shown};
+use crate::request::Request;
+use crate::revising::text_if_asked;
+use crate::two_plans::{PlanText, TwoPlans, read_plans};
+use std::alloc::Allocator;
+use tx_change::{ChangeVerdict, first_mixture, judge_change, new_plan_shown, write_change};
+use tx_plan::Limits;
+use tx_rank::Finding;
+use tx_text::{NoMemory, Sink, Source, WriteFault};
+
+/// `change OLD NEW --limit L --spare K`: whether the one may be changed into the other, list by
+/// list and with calls up. The certificate goes into a file, if one is named, and so do the mixture
+/// that shows what is wrong and its script.
+#[derive(Drop)]
+pub struct ChangeRequest {
+    pub old: String,
+    pub new: String,
+    pub limits: Limits,
+    pub cert: Option<String>,
+    pub mixture: Option<String>,
+    pub counter: Option<String>,
+}
+
+impl<A: Allocator + Copy> Request<A> for ChangeRequest {
+    type Texts = TwoPlans<A>;
+
+    type Answer = (TwoPlans<A>, ChangeVerdict<A>);
+
+    ghost reads = { λ _. ReadsPlans };
+
+    ghost fits = { AreJoined };
+
+    ghost answers = { ChangeAnswers };
+
+    ghost prints = { change_prints };
+
+    ghost ends = { ChangeEnds };
+
+    fn read<P: Source, Q: Source, R: Source>(
+        &self,
+        alloc: A,
+        first: &mut P,
+        second: &mut Q,
+        third: &mut R,
+    ) -> Result<Self::Texts, CommandFault> {
+        read_plans(alloc, first, second, third)
+    }
+
+    fn answer(&self, alloc: A, texts: Self::Texts) -> Result<Self::Answer, CommandFault> {
+        let verdict = judge_change(alloc, &texts.joined, &texts.new.plan, self.limits)?;
+        Ok((texts, verdict))
+    }
+
+    fn print<W: Sink>(&self, answer: &Self::Answer, out: &mut W) -> Result<(), WriteFault> {
+        let plans = &answer.0;
+        write_change(
+            &plans.old.plan,
+            &plans.new.plan,
+            &plans.joined,
+            &answer.1,
+            self.limits,
+            true,
+            out,
+        )
+    }
+
+    fn end(&self, alloc: A, answer: Self::Answer) -> Result<Ending<A>, NoMemory> {
+        match answer {
+            (plans, ChangeVerdict::Sound(cert)) => Ok(Ending {
+                status: 0,
+                made: Some(Made {
+                    shown: Shown::Plan(plans.joined.old),
+                    text: None,
+                    cert: Some(cert),
+                }),
+            }),
+            (plans, ChangeVerdict::Unsound(findings)) => {
+                self.end_with_mixture(alloc, plans, &findings)
+            }
+            (plans, ChangeVerdict::NewUnsound(findings)) => {
+                self.end_with_new_plan(alloc, plans, &findings)
+            }
+        }
+    }
+}
+
+impl ChangeRequest {
+    /// Whether what shows a No goes into a file.
+    fn is_shown(&self) -> bool
+        ensures { result ≡ is_shown self.now }
+    {
+        self.mixture.is_some() || self.counter.is_some()
+    }
+
+    /// After a No of a mixture: that of the first finding with a walk.
+    fn end_with_mixture<A: Allocator + Copy>(
+        &self,
+        alloc: A,
+        plans: TwoPlans<A>,
+        findings: &[Finding<A>],
+    ) -> Result<Ending<A>, NoMemory>
+        requires joined { AreJoined plans }
+        requires each { AllByRecursion (IsShown plans.joined.old plans.joined.new
+            self.now.limits.limit self.now.limits.spare) findings.now }
+        ensures { EndsWithMixture self.now plans findings.now result }
+    {
+        if !self.is_shown() {
+            return Ok(Ending::of(1));
+        }
+        let TwoPlans { old, joined, .. } = plans;
+        match first_mixture(alloc, joined.old, &joined.new, findings, self.limits)? {
+            Some(mixture) => self.end_with(alloc, &old, Shown::of(mixture)),
+            None => Ok(Ending::of(1)),
+        }
+    }
+
+    /// After a No of the new plan as it is: this plan, with its first finding that has a walk.
+    fn end_with_new_plan<A: Allocator + Copy>(
+        &self,
+        alloc: A,
+        plans: TwoPlans<A>,
+        findings: &[Finding<A>],
+    ) -> Result<Ending<A>, NoMemory>
+        requires joined { AreJoined plans }
+        requires each { AllByRecursion (IsTrueOf plans.new.plan
+            self.now.limits.limit self.now.limits.spare) findings.now }
+        ensures { EndsWithNewPlan self.now plans findings.now result }
+    {
+        if !self.is_shown() {
+            return Ok(Ending::of(1));
+        }
+        let TwoPlans { old, new, .. } = plans;
+        match new_plan_shown(alloc, new.plan, findings, self.limits)? {
+            Some(shown) => self.end_with(alloc, &old, Shown::of(shown)),
+            None => Ok(Ending::of(1)),
+        }
+    }
+
+    /// With a plan that shows a No, and its text if that goes into a file.
+    fn end_with<A: Allocator + Copy>(
+        &self,
+        alloc: A,
+        old: &PlanText<A>,
+        shown: Shown<A>,
+    ) -> Result<Ending<A>, NoMemory>
+        requires said { IsSaid old.now }
+        requires rules { IsPlan (shown_plan shown) }
+        ensures status { IfOk result (λ e. e.status ≡ 1) }
+        ensures made { IfOk result (λ e. IsMadeOf (is_some self.now.mixture) old.now shown e.made) }
+    {
+        let text = text_if_asked(alloc, self.mixture.is_some(), old, shown.plan())?;
+        Ok(Ending {
+            status: 1,
+            made: Some(Made {
+                shown,
+                text,
+                cert: None,
+            }),
+        })
+    }
+}

@@ -1,0 +1,35 @@
+//! Commands as requests: each reads its texts, answers, prints the answer, and says what goes into its
+//! files. The jobs of `run`, `check`, `codes` and `audit` are in `tx_jobs`.
+#![tactic(auto)]
+
+mod asked;
+mod carrying;
+mod change;
+mod content;
+mod ending;
+mod explain;
+mod fault;
+mod fill;
+mod grade;
+mod made;
+mod reading;
+mod request;
+mod revising;
+mod survive;
+mod trace;
+mod two_plans;
+
+pub use carrying::carry_out;
+pub use change::ChangeRequest;
+pub use content::{Content, write_content};
+pub use ending::Ending;
+pub use explain::ExplainRequest;
+pub use fault::CommandFault;
+pub use fill::{FillRequest, Filled};
+pub use grade::GradeRequest;
+pub use made::{CounterScript, Made, MadeText, Shown};
+pub use reading::PlanRisks;
+pub use request::Request;
+pub use survive::SurviveRequest;
+pub use trace::{TraceRequest, Traced};
+pub use two_plans::{PlanText, TwoPlans};
