@@ -6,6 +6,8 @@ in Markdown: seconds of processor (user and system) for the proof of each crate 
 the crate over which they are tried, the mean and the dearest of them, and all with the check that this one still holds), and for its programs as two compilers build
 and run them. A toolchain that makes no such check tries the first edit from nothing: then that one stands in its column, and the mean is of the others.
 
+Behind the table it names each crate whose parts took a third more than in the table of docs/MEASURED.md, and at least half a minute more.
+
 --only tells the parts of these crates alone: their proof, tests and edits. The crates below them are proved too, since the gate proves all from nothing.
 RT_JOBS=N holds the run to N lanes. Figures of a busy machine are too high by up to a half: run it alone."""
 import importlib.machinery
@@ -137,6 +139,22 @@ def table(costs, names):
     return "\n".join(lines)
 
 
+def seconds_in(row):
+    """The crate of a row of the table, and what its proof, tests and edits took."""
+    cells = [it.strip() for it in row.strip().strip("|").split("|")]
+    return cells[0], sum(float(cells[at] or 0) for at in (1, 2, 7))
+
+
+def grown(table_now):
+    """A line for each crate that took a third more than in the table of docs/MEASURED.md."""
+    rows_of = lambda text: dict(seconds_in(it) for it in text.splitlines() if re.match(r"\| (tx_\w+|telexplan) \|(?:[^|]*\|){8}$", it))
+    with open("docs/MEASURED.md", encoding="utf-8") as it:
+        before = rows_of(it.read().partition("\n## The gate\n")[2])
+    now = rows_of(table_now)
+    dearer = [it for it in now if it in before and now[it] > before[it] * 4 / 3 and now[it] > before[it] + 30]
+    return [f"{it} grew by a third: {now[it]:.0f} s, {before[it]:.0f} s in docs/MEASURED.md" for it in dearer]
+
+
 def main(words):
     only = None
     if "--only" in words:
@@ -156,7 +174,8 @@ def main(words):
     status = rt.main(["ci", "--anew"] if takes_words else ["ci"])
     with open("crates.txt", encoding="utf-8") as it:
         names = [line.partition(":")[0].strip() for line in it if re.match(r"\s*\w", line)]
-    print(f"\n{table(costs, [it for it in names if not only or it in only])}")
+    made = table(costs, [it for it in names if not only or it in only])
+    print("\n".join(["", made, *grown(made)]))
     print(f"On the clock: {(time.time() - start) / 60:.0f} minutes, on {rt.processors()} processors.")
     return status
 

@@ -3,7 +3,7 @@ ghost use Rattle.std.specs.Prelude.{◌≡◌, None, [], ◌∷◌, option_map, 
 ghost use Rattle.tx_commands.specs.Commands.{named, one_read, two_read, run_files, reads_of, made_by};
 
 /// What the words ask for.
-#[derive(Debug, Drop)]
+#[derive(Debug)]
 pub enum Command {
     /// No words: a plan and a script on standard input.
     Pipe,
@@ -138,6 +138,162 @@ pub enum Command {
     Explain {
         line: Option<String>,
     },
+}
+
+impl Drop for Command {
+    fn drop(self) {
+        match self {
+            Self::Pipe => {}
+            Self::Run {
+                plan,
+                script,
+                checked,
+            } => {
+                drop(plan);
+                drop(script);
+                drop(checked);
+            }
+            Self::RunTelling {
+                plan,
+                script,
+                strict: _,
+                echo: _,
+                summary: _,
+            } => {
+                drop(plan);
+                drop(script);
+            }
+            Self::Check {
+                plan,
+                cert,
+                limit: _,
+                spare: _,
+            } => {
+                drop(plan);
+                drop(cert);
+            }
+            Self::Lint { plan, risks } => {
+                drop(plan);
+                drop(risks);
+            }
+            Self::Codes { plan } => {
+                drop(plan);
+            }
+            Self::Audit {
+                plan,
+                limit: _,
+                spare: _,
+                cert,
+                counter,
+            } => {
+                drop(plan);
+                drop(cert);
+                drop(counter);
+            }
+            Self::Change {
+                old,
+                new,
+                limit: _,
+                spare: _,
+                cert,
+                mixture,
+                counter,
+                with_old: _,
+            } => {
+                drop(old);
+                drop(new);
+                drop(cert);
+                drop(mixture);
+                drop(counter);
+            }
+            Self::Order {
+                old,
+                new,
+                limit: _,
+                spare: _,
+                stage: _,
+                plan,
+                cert,
+                with_old: _,
+            } => {
+                drop(old);
+                drop(new);
+                drop(plan);
+                drop(cert);
+            }
+            Self::Mend {
+                plan,
+                limit: _,
+                spare: _,
+                mended,
+                cert,
+                with_old: _,
+            } => {
+                drop(plan);
+                drop(mended);
+                drop(cert);
+            }
+            Self::Survive {
+                plan,
+                risks,
+                totals: _,
+            } => {
+                drop(plan);
+                drop(risks);
+            }
+            Self::Page {
+                plan,
+                limit: _,
+                spare: _,
+                risks,
+                old,
+                code,
+                html,
+            } => {
+                drop(plan);
+                drop(risks);
+                drop(old);
+                drop(code);
+                drop(html);
+            }
+            Self::Grade { plan } => {
+                drop(plan);
+            }
+            Self::Trace {
+                plan,
+                exchange,
+                code,
+                down,
+            } => {
+                drop(plan);
+                drop(exchange);
+                drop(code);
+                drop(down);
+            }
+            Self::TraceGroup { plan, group } => {
+                drop(plan);
+                drop(group);
+            }
+            Self::Fill {
+                plan,
+                exchange,
+                code,
+                down,
+            } => {
+                drop(plan);
+                drop(exchange);
+                drop(code);
+                drop(down);
+            }
+            Self::Draw { plan, routes } => {
+                drop(plan);
+                drop(routes);
+            }
+            Self::Explain { line } => {
+                drop(line);
+            }
+        }
+    }
 }
 
 /// The name of standard input, where a file is read.

@@ -86,7 +86,7 @@ impl<'p, A: Allocator + Copy> Draft<'p, A> {
 impl<'p, A: Allocator> Draft<'p, A> {
     /// The lines so far.
     pub fn into_text(self) -> Vec<u8, A>
-        ensures { result.items ≡ self.text }
+        ensures { result.items ≡ self.entry.text }
     {
         let Self {
             before: _,

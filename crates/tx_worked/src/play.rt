@@ -204,7 +204,8 @@ fn play_both(alloc: Global, head: Head<'_>, input: &[u8], out: &mut Told) {
         checked: None,
     };
     let run = Task::new(b"run", &run, first, second);
-    let pipe = Task::new(b"pipe", &Command::Pipe, input, b"");
+    let words = Command::Pipe;
+    let pipe = Task::new(b"pipe", &words, input, b"");
     play_task(alloc, pipe, head.mode, out);
     let Ok(mut written) = MemorySink::new(alloc, ROOM) else {
         return tell_broken(b"no memory", 0, out);

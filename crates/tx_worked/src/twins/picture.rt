@@ -37,7 +37,6 @@ fn set_in<T: Copy + PartialEq>(
 
 /// What the replies and the tickets tell of a network, so that most events can be such as it
 /// accepts.
-#[derive(Drop)]
 pub struct Picture {
     pub calls: Vec<KnownCall>,
     /// The number of the last call.
@@ -49,6 +48,28 @@ pub struct Picture {
     pub out: Vec<Circuit>,
     pub faulty: Vec<Line>,
     pub away: Vec<Line>,
+}
+
+impl Drop for Picture {
+    fn drop(self) {
+        let Self {
+            calls,
+            last: _,
+            given_up,
+            failed,
+            blocked,
+            out,
+            faulty,
+            away,
+        } = self;
+        drop(calls);
+        drop(given_up);
+        drop(failed);
+        drop(blocked);
+        drop(out);
+        drop(faulty);
+        drop(away);
+    }
 }
 
 impl Picture {

@@ -31,7 +31,7 @@ returns g c =
     let old = c.args.old.now in
     let new = c.args.new.now in
     let cr = first_cr (slice_split is_lf text) in
-    let written = c.into_text.result in
-    let whole = c.into_text.ensures ∙ ends new cr old text c.lines.draft c.take-2.new.self c.lines.rest.now c.lines.invariant c.in_default.ensures.cut c.in_ok-take-2.ensures in
+    let written = c.into_text-revised.result in
+    let whole = c.into_text-revised.ensures ∙ ends new cr old text c.lines.draft c.take-2.new.self c.lines.rest.now c.lines.invariant c.in_default.ensures.cut c.in_ok-take-2.ensures in
     let len : vec_len written ≡ length written.items = written.ok.0 in
     popped (lines_of new cr (slice_split is_lf text) (at_start old)) written.items c.pop.new.self.items (vec_len written) whole len c.pop.ensures.rest
