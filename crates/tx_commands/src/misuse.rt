@@ -14,8 +14,6 @@ pub(crate) enum Misuse {
     Together,
     /// `run` has a certificate, and is to print more.
     CheckedTelling,
-    /// `draw` has one of `--limit` and `--spare` without the other, or both without `--code`.
-    DrawTogether,
     /// The number of this option has a sign or leading zeros.
     Number(&'static str, String),
     /// `order` has a file to be made, and no stage.
@@ -31,8 +29,6 @@ pub(crate) enum Misuse {
     /// A file to be made has this name, which is that of another file of the command, or of
     /// standard input.
     Overwrites(String),
-    /// The version is asked for.
-    Version,
     /// No memory was left.
     NoMemory,
 }
@@ -57,7 +53,7 @@ impl Misuse {
             Misuse::CheckedTelling | Misuse::InputTwice | Misuse::Overwrites(_) =>
                 ErrorKind::ArgumentConflict,
             Misuse::Number(..) | Misuse::NoSuchCode(_) => ErrorKind::InvalidValue,
-            Misuse::DrawTogether | Misuse::StageMissing | Misuse::RisksOnly | Misuse::TraceWords =>
+            Misuse::StageMissing | Misuse::RisksOnly | Misuse::TraceWords =>
                 ErrorKind::MissingRequiredArgument,
             _ => ErrorKind::MissingSubcommand,
         }
@@ -81,7 +77,6 @@ impl Misuse {
     fn reason(&self) -> &'static str {
         match self {
             Misuse::CheckedTelling => "--strict, --echo and --summary do not go with --cert",
-            Misuse::DrawTogether => "--limit and --spare go together, and with --code",
             Misuse::StageMissing => "--plan and --cert go with --stage",
             Misuse::RisksOnly => "--risks-only goes with --risks",
             Misuse::TraceWords => "trace takes an exchange and a code, or --group alone",

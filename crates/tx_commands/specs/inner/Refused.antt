@@ -3,11 +3,11 @@ use Rattle.std.specs.Prelude.{◌≡◌, ℕ, true, false, not, ◌&&◌, ◌||�
 use Rattle.clap.specs.Words.{Row}
 use Rattle.tx_explain.specs.Entries.{is_known}
 use Rattle.tx_commands.specs.Commands.{IsFoundIn, is_set, line_of}
-use Rattle.tx_commands.specs.Files.{reads_input_twice, overwrites}
+use Rattle.tx_commands.specs.Clashes.{reads_input_twice, overwrites}
 use Rattle.tx_commands.specs.Faults.{has, IsRunInPart}
 use Rattle.tx_commands.specs.declared.command.Command.{Command}
 use Rattle.tx_commands.specs.declared.misuse.Misuse.{Misuse}
-use Rattle.tx_commands.specs.declared.misuse.Misuse.TheVariants.{Together, CheckedTelling, DrawTogether, StageMissing, RisksOnly, TraceWords, NoSuchCode, InputTwice, Overwrites, NoMemory}
+use Rattle.tx_commands.specs.declared.misuse.Misuse.TheVariants.{Together, CheckedTelling, StageMissing, RisksOnly, TraceWords, NoSuchCode, InputTwice, Overwrites, NoMemory}
 
 -- `run` has a certificate, and an option by which it prints more
 pub record IsCheckedTelling (name : List ℕ) (found : List Row) : Type 0 where
@@ -15,13 +15,6 @@ pub record IsCheckedTelling (name : List ℕ) (found : List Row) : Type 0 where
   pub checked : has found (codes "cert") ≡ true
   pub telling : (is_set found (codes "strict")
       || (is_set found (codes "echo") || is_set found (codes "summary"))) ≡ true
-
--- `draw` has a limit or a spare number, and not both with a code
-pub record IsDrawInPart (name : List ℕ) (found : List Row) : Type 0 where
-  pub draw : name ≡ codes "draw"
-  pub some : (has found (codes "limit") || has found (codes "spare")) ≡ true
-  pub not_all :
-      (has found (codes "code") && (has found (codes "limit") && has found (codes "spare"))) ≡ false
 
 -- `order` has a file to be made, and no stage
 pub record IsStageMissing (name : List ℕ) (found : List Row) : Type 0 where
@@ -66,7 +59,6 @@ AskForClash found refusal = (command : Command) × IsFoundIn found command × Is
 abbrev pub IsRefused : Option (List ℕ × List Row) → Misuse → Type 0
 IsRefused command Together = IsSomeAnd command (λ c. IsRunInPart c.0 c.1)
 IsRefused command CheckedTelling = IsSomeAnd command (λ c. IsCheckedTelling c.0 c.1)
-IsRefused command DrawTogether = IsSomeAnd command (λ c. IsDrawInPart c.0 c.1)
 IsRefused command StageMissing = IsSomeAnd command (λ c. IsStageMissing c.0 c.1)
 IsRefused command RisksOnly = IsSomeAnd command (λ c. IsRisksOnly c.0 c.1)
 IsRefused command TraceWords = IsSomeAnd command (λ c. IsTraceInPart c.0 c.1)
