@@ -2,13 +2,11 @@
 ghost use Rattle.std.specs.Prelude.{◌≡◌, Some, IfOk, IfErr, codes};
 ghost use Rattle.clap.specs.Words.{app_of, found_of, rows_of};
 ghost use Rattle.tx_commands.specs.Commands.{Names, Asks};
-ghost use Rattle.tx_commands.specs.Files.{names_of, audit_files};
 ghost use Rattle.tx_commands.specs.Grammar.{audit_words};
 ghost use Rattle.tx_commands.specs.inner.Refused.{IsRefused};
 
 use crate::arguments::{PLAN, Syntax};
 use crate::command::Command;
-use crate::files::Files;
 use crate::given::{limits, text};
 use crate::misuse::Misuse;
 use clap::ArgMatches;
@@ -23,19 +21,6 @@ pub struct AuditRequest {
     pub limits: Limits,
     pub cert: Option<String>,
     pub counter: Option<String>,
-}
-
-impl AuditRequest {
-    /// Its files.
-    pub(crate) fn files(&self) -> Files<'_>
-        ensures { names_of result ≡ audit_files self.now }
-    {
-        Files {
-            cert: self.cert.as_deref(),
-            script: self.counter.as_deref(),
-            ..Files::reading([Some(self.plan.as_str()), None, None])
-        }
-    }
 }
 
 const AUDIT_HELP: &str = "Example: telexplan audit own.plan --limit 1 --spare 1 --cert own.cert

@@ -2,13 +2,11 @@
 ghost use Rattle.std.specs.Prelude.{◌≡◌, Some, IfOk, IfErr, codes};
 ghost use Rattle.clap.specs.Words.{app_of, found_of, rows_of};
 ghost use Rattle.tx_commands.specs.Commands.{Asks};
-ghost use Rattle.tx_commands.specs.Files.{names_of, change_files};
 ghost use Rattle.tx_commands.specs.Grammar.{change_words};
 ghost use Rattle.tx_commands.specs.inner.Refused.{IsRefused};
 
 use crate::arguments::{NEW_PLAN, OLD_PLAN, PLAN, Syntax};
 use crate::command::Command;
-use crate::files::Files;
 use crate::given::{limits, text};
 use crate::misuse::Misuse;
 use clap::ArgMatches;
@@ -25,20 +23,6 @@ pub struct ChangeRequest {
     pub cert: Option<String>,
     pub mixture: Option<String>,
     pub counter: Option<String>,
-}
-
-impl ChangeRequest {
-    /// Its files.
-    pub(crate) fn files(&self) -> Files<'_>
-        ensures { names_of result ≡ change_files self.now }
-    {
-        Files {
-            plan: self.mixture.as_deref(),
-            cert: self.cert.as_deref(),
-            script: self.counter.as_deref(),
-            ..Files::reading([Some(self.old.as_str()), Some(self.new.as_str()), None])
-        }
-    }
 }
 
 const CHANGE_HELP: &str = "Example: telexplan change own.plan new.plan --limit 1 --spare 1

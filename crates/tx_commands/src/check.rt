@@ -2,13 +2,11 @@
 ghost use Rattle.std.specs.Prelude.{◌≡◌, Some, IfOk, IfErr, codes};
 ghost use Rattle.clap.specs.Words.{app_of, found_of, rows_of};
 ghost use Rattle.tx_commands.specs.Commands.{Names, Asks};
-ghost use Rattle.tx_commands.specs.Files.{names_of, check_files};
 ghost use Rattle.tx_commands.specs.Grammar.{check_words};
 ghost use Rattle.tx_commands.specs.inner.Refused.{IsRefused};
 
 use crate::arguments::{PLAN, Syntax};
 use crate::command::Command;
-use crate::files::Files;
 use crate::given::{limits, text};
 use crate::misuse::Misuse;
 use clap::ArgMatches;
@@ -21,15 +19,6 @@ pub struct CheckRequest {
     pub plan: String,
     pub cert: String,
     pub limits: Limits,
-}
-
-impl CheckRequest {
-    /// Its files.
-    pub(crate) fn files(&self) -> Files<'_>
-        ensures { names_of result ≡ check_files self.now }
-    {
-        Files::reading([Some(self.plan.as_str()), Some(self.cert.as_str()), None])
-    }
 }
 
 const CHECK_HELP: &str = "Example: telexplan check own.plan own.cert --limit 1 --spare 1

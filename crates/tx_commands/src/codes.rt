@@ -1,26 +1,15 @@
 // The command `codes`.
 ghost use Rattle.std.specs.Prelude.{◌≡◌, IfOk};
 ghost use Rattle.clap.specs.Words.{app_of};
-ghost use Rattle.tx_commands.specs.Files.{names_of, codes_files};
 ghost use Rattle.tx_commands.specs.Grammar.{codes_words};
 
 use crate::arguments::{PLAN, Syntax};
-use crate::files::Files;
 use std::alloc::{AllocError, Global};
 
 /// `codes PLAN`.
 #[derive(Drop)]
 pub struct CodesRequest {
     pub plan: String,
-}
-
-impl CodesRequest {
-    /// Its files.
-    pub(crate) fn files(&self) -> Files<'_>
-        ensures { names_of result ≡ codes_files self.now }
-    {
-        Files::reading([Some(self.plan.as_str()), None, None])
-    }
 }
 
 const CODES_HELP: &str = "Example: telexplan codes own.plan

@@ -1,6 +1,6 @@
 // Commands.
 ghost use Rattle.std.specs.Prelude.{◌≡◌};
-ghost use Rattle.tx_commands.specs.Files.{names_of, file_names};
+ghost use Rattle.tx_commands.specs.Files.{names_of, run_files, survive_files, page_files, file_names};
 
 use crate::audit::AuditRequest;
 use crate::change::ChangeRequest;
@@ -70,23 +70,79 @@ impl Command {
         ensures { names_of result ≡ file_names self.now }
     {
         match self {
-            Command::Pipe => Files::reading([Some(STANDARD_INPUT), None, None]),
-            Command::Run(request) => request.files(),
-            Command::RunTelling(request) => request.files(),
-            Command::Check(request) => request.files(),
-            Command::Lint(request) => request.files(),
-            Command::Codes(request) => request.files(),
-            Command::Audit(request) => request.files(),
-            Command::Change(request) => request.files(),
-            Command::Order(request) => request.files(),
-            Command::Mend(request) => request.files(),
-            Command::Survive(request) => request.files(),
-            Command::Page(request) => request.files(),
-            Command::Grade(request) => request.files(),
-            Command::Trace(request) => request.files(),
-            Command::TraceGroup(request) => request.files(),
-            Command::Fill(request) => request.files(),
-            Command::Explain(request) => request.files(),
+            Command::Pipe => Files::of_one(STANDARD_INPUT),
+            Command::Run(request) => run_files(request),
+            Command::RunTelling(request) => Files::of_two(&request.plan, &request.script),
+            Command::Check(request) => Files::of_two(&request.plan, &request.cert),
+            Command::Lint(request) => {
+                Files::reading([Some(&request.plan), request.risks.as_deref(), None])
+            }
+            Command::Audit(request) => Files {
+                cert: request.cert.as_deref(),
+                script: request.counter.as_deref(),
+                ..Files::of_one(&request.plan)
+            },
+            Command::Change(request) => Files {
+                plan: request.mixture.as_deref(),
+                cert: request.cert.as_deref(),
+                script: request.counter.as_deref(),
+                ..Files::of_two(&request.old, &request.new)
+            },
+            Command::Order(request) => Files {
+                plan: request.plan.as_deref(),
+                cert: request.cert.as_deref(),
+                ..Files::of_two(&request.old, &request.new)
+            },
+            Command::Mend(request) => Files {
+                plan: request.mended.as_deref(),
+                cert: request.cert.as_deref(),
+                ..Files::of_one(&request.plan)
+            },
+            Command::Survive(request) => survive_files(request),
+            Command::Page(request) => page_files(request),
+            Command::Codes(CodesRequest { plan })
+            | Command::Grade(GradeRequest { plan })
+            | Command::Trace(TraceRequest { plan, .. })
+            | Command::TraceGroup(GroupRequest { plan, .. })
+            | Command::Fill(FillRequest { plan, .. }) => Files::of_one(plan),
+            Command::Explain(_) => Files::reading([None, None, None]),
         }
+    }
+}
+
+/// The files of a run: the certificate, if there is one, before the script.
+fn run_files(request: &RunRequest) -> Files<'_>
+    ensures { names_of result ≡ run_files request.now }
+{
+    match &request.checked {
+        None => Files::of_two(&request.plan, &request.script),
+        Some((cert, _)) => {
+            Files::reading([Some(&request.plan), Some(cert), Some(&request.script)])
+        }
+    }
+}
+
+/// The files of `survive`.
+fn survive_files(request: &SurviveRequest) -> Files<'_>
+    ensures { names_of result ≡ survive_files request.now }
+{
+    match &request.risks {
+        None => Files::of_one(&request.plan),
+        Some((risks, _)) => Files::of_two(&request.plan, risks),
+    }
+}
+
+/// The files of `page`.
+fn page_files(request: &PageRequest) -> Files<'_>
+    ensures { names_of result ≡ page_files request.now }
+{
+    let reads = [
+        Some(request.plan.as_str()),
+        request.risks.as_deref(),
+        request.old.as_deref(),
+    ];
+    Files {
+        page: request.html.as_deref(),
+        ..Files::reading(reads)
     }
 }

@@ -2,13 +2,11 @@
 ghost use Rattle.std.specs.Prelude.{◌≡◌, Some, IfOk, IfErr, codes};
 ghost use Rattle.clap.specs.Words.{app_of, found_of, rows_of};
 ghost use Rattle.tx_commands.specs.Commands.{Asks};
-ghost use Rattle.tx_commands.specs.Files.{names_of, explain_files};
 ghost use Rattle.tx_commands.specs.Grammar.{explain_words};
 ghost use Rattle.tx_commands.specs.inner.Refused.{IsRefused};
 
 use crate::arguments::Syntax;
 use crate::command::Command;
-use crate::files::Files;
 use crate::given::line;
 use crate::misuse::Misuse;
 use clap::ArgMatches;
@@ -19,15 +17,6 @@ use tx_explain::is_known;
 #[derive(Drop)]
 pub struct ExplainRequest {
     pub line: Option<String>,
-}
-
-impl ExplainRequest {
-    /// Its files.
-    pub(crate) fn files(&self) -> Files<'_>
-        ensures { names_of result ≡ explain_files self.now }
-    {
-        Files::reading([None, None, None])
-    }
 }
 
 const EXPLAIN_HELP: &str = "Example: telexplan explain F2 LOOP 24 VIA NORTH

@@ -1,6 +1,6 @@
 // The files of a command.
 ghost use Rattle.std.specs.Prelude.{◌≡◌, ◌∷◌, []};
-ghost use Rattle.tx_commands.specs.Files.{named, names_of, only_read};
+ghost use Rattle.tx_commands.specs.Files.{named, names_of, only_read, one_read, two_read};
 
 /// The name of standard input, where a file is read.
 pub const STANDARD_INPUT: &str = "-";
@@ -32,6 +32,20 @@ impl<'a> Files<'a> {
             script: None,
             page: None,
         }
+    }
+
+    /// Those of a command that reads one file and makes none.
+    pub(crate) fn of_one(file: &'a str) -> Files<'a>
+        ensures { names_of result ≡ one_read file.now }
+    {
+        Files::reading([Some(file), None, None])
+    }
+
+    /// Those of a command that reads two files and makes none.
+    pub(crate) fn of_two(first: &'a str, second: &'a str) -> Files<'a>
+        ensures { names_of result ≡ two_read first.now second.now }
+    {
+        Files::reading([Some(first), Some(second), None])
     }
 
     /// Those that it may make, in the order in which they are made.

@@ -2,13 +2,11 @@
 ghost use Rattle.std.specs.Prelude.{◌≡◌, Some, IfOk, IfErr, codes};
 ghost use Rattle.clap.specs.Words.{app_of, found_of, rows_of};
 ghost use Rattle.tx_commands.specs.Commands.{Names, Asks};
-ghost use Rattle.tx_commands.specs.Files.{names_of, fill_files};
 ghost use Rattle.tx_commands.specs.Grammar.{fill_words};
 ghost use Rattle.tx_commands.specs.inner.Refused.{IsRefused};
 
 use crate::arguments::{DOWN, PLAN, Syntax};
 use crate::command::Command;
-use crate::files::Files;
 use crate::given::text;
 use crate::misuse::Misuse;
 use clap::ArgMatches;
@@ -22,15 +20,6 @@ pub struct FillRequest {
     pub exchange: String,
     pub code: String,
     pub down: Option<String>,
-}
-
-impl FillRequest {
-    /// Its files.
-    pub(crate) fn files(&self) -> Files<'_>
-        ensures { names_of result ≡ fill_files self.now }
-    {
-        Files::reading([Some(self.plan.as_str()), None, None])
-    }
 }
 
 const FILL_HELP: &str = "Example: telexplan fill own.plan NORTH 24 --down CENO1,CENO2

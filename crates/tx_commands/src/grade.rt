@@ -1,26 +1,15 @@
 // The command `grade`.
 ghost use Rattle.std.specs.Prelude.{◌≡◌, IfOk};
 ghost use Rattle.clap.specs.Words.{app_of};
-ghost use Rattle.tx_commands.specs.Files.{names_of, grade_files};
 ghost use Rattle.tx_commands.specs.Grammar.{grade_words};
 
 use crate::arguments::{PLAN, Syntax};
-use crate::files::Files;
 use std::alloc::{AllocError, Global};
 
 /// `grade PLAN`: with which limits and spare numbers the plan is safe, and each of its codes.
 #[derive(Drop)]
 pub struct GradeRequest {
     pub plan: String,
-}
-
-impl GradeRequest {
-    /// Its files.
-    pub(crate) fn files(&self) -> Files<'_>
-        ensures { names_of result ≡ grade_files self.now }
-    {
-        Files::reading([Some(self.plan.as_str()), None, None])
-    }
 }
 
 const GRADE_HELP: &str = "Example: telexplan grade own.plan

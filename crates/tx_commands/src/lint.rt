@@ -2,13 +2,11 @@
 ghost use Rattle.std.specs.Prelude.{◌≡◌, Some, IfOk, IfErr, codes};
 ghost use Rattle.clap.specs.Words.{app_of, found_of, rows_of};
 ghost use Rattle.tx_commands.specs.Commands.{Names, Asks};
-ghost use Rattle.tx_commands.specs.Files.{names_of, lint_files};
 ghost use Rattle.tx_commands.specs.Grammar.{lint_words};
 ghost use Rattle.tx_commands.specs.inner.Refused.{IsRefused};
 
 use crate::arguments::{PLAN, RISKS, Syntax};
 use crate::command::Command;
-use crate::files::Files;
 use crate::given::text;
 use crate::misuse::Misuse;
 use clap::ArgMatches;
@@ -20,15 +18,6 @@ use std::alloc::{AllocError, Global};
 pub struct LintRequest {
     pub plan: String,
     pub risks: Option<String>,
-}
-
-impl LintRequest {
-    /// Its files.
-    pub(crate) fn files(&self) -> Files<'_>
-        ensures { names_of result ≡ lint_files self.now }
-    {
-        Files::reading([Some(self.plan.as_str()), self.risks.as_deref(), None])
-    }
 }
 
 const LINT_HELP: &str = "Example: telexplan lint own.plan --risks cables

@@ -2,13 +2,11 @@
 ghost use Rattle.std.specs.Prelude.{◌≡◌, Some, IfOk, IfErr, codes};
 ghost use Rattle.clap.specs.Words.{app_of, found_of, rows_of};
 ghost use Rattle.tx_commands.specs.Commands.{Asks};
-ghost use Rattle.tx_commands.specs.Files.{names_of, mend_files};
 ghost use Rattle.tx_commands.specs.Grammar.{mend_words};
 ghost use Rattle.tx_commands.specs.inner.Refused.{IsRefused};
 
 use crate::arguments::{PLAN, Syntax};
 use crate::command::Command;
-use crate::files::Files;
 use crate::given::{limits, text};
 use crate::misuse::Misuse;
 use clap::ArgMatches;
@@ -23,19 +21,6 @@ pub struct MendRequest {
     pub limits: Limits,
     pub mended: Option<String>,
     pub cert: Option<String>,
-}
-
-impl MendRequest {
-    /// Its files.
-    pub(crate) fn files(&self) -> Files<'_>
-        ensures { names_of result ≡ mend_files self.now }
-    {
-        Files {
-            plan: self.mended.as_deref(),
-            cert: self.cert.as_deref(),
-            ..Files::reading([Some(self.plan.as_str()), None, None])
-        }
-    }
 }
 
 const MEND_HELP: &str = "Example: telexplan mend own.plan --limit 1 --spare 1 --plan new.plan

@@ -2,13 +2,11 @@
 ghost use Rattle.std.specs.Prelude.{◌≡◌, Some, IfOk, IfErr, codes};
 ghost use Rattle.clap.specs.Words.{app_of, found_of, rows_of};
 ghost use Rattle.tx_commands.specs.Commands.{Asks};
-ghost use Rattle.tx_commands.specs.Files.{names_of, order_files};
 ghost use Rattle.tx_commands.specs.Grammar.{order_words};
 ghost use Rattle.tx_commands.specs.inner.Refused.{IsRefused};
 
 use crate::arguments::{MOST_STAGES, NEW_PLAN, OLD_PLAN, Syntax};
 use crate::command::Command;
-use crate::files::Files;
 use crate::given::{is_given, limits, number_of, text};
 use crate::misuse::Misuse;
 use clap::ArgMatches;
@@ -25,19 +23,6 @@ pub struct OrderRequest {
     pub stage: Option<u8>,
     pub plan: Option<String>,
     pub cert: Option<String>,
-}
-
-impl OrderRequest {
-    /// Its files.
-    pub(crate) fn files(&self) -> Files<'_>
-        ensures { names_of result ≡ order_files self.now }
-    {
-        Files {
-            plan: self.plan.as_deref(),
-            cert: self.cert.as_deref(),
-            ..Files::reading([Some(self.old.as_str()), Some(self.new.as_str()), None])
-        }
-    }
 }
 
 const ORDER_HELP: &str = "Example: telexplan order own.plan new.plan --limit 1 --spare 1

@@ -2,13 +2,11 @@
 ghost use Rattle.std.specs.Prelude.{◌≡◌, Some, IfOk, IfErr, codes};
 ghost use Rattle.clap.specs.Words.{app_of, found_of, rows_of};
 ghost use Rattle.tx_commands.specs.Commands.{Names, Asks};
-ghost use Rattle.tx_commands.specs.Files.{names_of, page_files};
 ghost use Rattle.tx_commands.specs.Grammar.{page_words};
 ghost use Rattle.tx_commands.specs.inner.Refused.{IsRefused};
 
 use crate::arguments::{PLAN, RISKS, Syntax};
 use crate::command::Command;
-use crate::files::Files;
 use crate::given::{limits, text};
 use crate::misuse::Misuse;
 use clap::ArgMatches;
@@ -26,22 +24,6 @@ pub struct PageRequest {
     pub old: Option<String>,
     pub code: Option<String>,
     pub html: Option<String>,
-}
-
-impl PageRequest {
-    /// Its files.
-    pub(crate) fn files(&self) -> Files<'_>
-        ensures { names_of result ≡ page_files self.now }
-    {
-        Files {
-            page: self.html.as_deref(),
-            ..Files::reading([
-                Some(self.plan.as_str()),
-                self.risks.as_deref(),
-                self.old.as_deref(),
-            ])
-        }
-    }
 }
 
 const PAGE_HELP: &str = "The page is one file, which needs no other and fetches nothing. It has the

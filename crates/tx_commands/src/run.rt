@@ -2,13 +2,11 @@
 ghost use Rattle.std.specs.Prelude.{◌≡◌, Some, IfOk, IfErr, codes};
 ghost use Rattle.clap.specs.Words.{app_of, found_of, rows_of};
 ghost use Rattle.tx_commands.specs.Commands.{Names, Asks};
-ghost use Rattle.tx_commands.specs.Files.{names_of, run_files, telling_files};
 ghost use Rattle.tx_commands.specs.Grammar.{run_words};
 ghost use Rattle.tx_commands.specs.inner.Refused.{IsRefused};
 
 use crate::arguments::{PLAN, Syntax};
 use crate::command::Command;
-use crate::files::Files;
 use crate::given::{is_given, is_set, limits, text};
 use crate::misuse::Misuse;
 use clap::ArgMatches;
@@ -32,29 +30,6 @@ pub struct TellingRequest {
     pub strict: bool,
     pub echo: bool,
     pub summary: bool,
-}
-
-impl RunRequest {
-    /// Its files.
-    pub(crate) fn files(&self) -> Files<'_>
-        ensures { names_of result ≡ run_files self.now }
-    {
-        let plan = Some(self.plan.as_str());
-        let script = Some(self.script.as_str());
-        match &self.checked {
-            None => Files::reading([plan, script, None]),
-            Some((cert, _)) => Files::reading([plan, Some(cert.as_str()), script]),
-        }
-    }
-}
-
-impl TellingRequest {
-    /// Its files.
-    pub(crate) fn files(&self) -> Files<'_>
-        ensures { names_of result ≡ telling_files self.now }
-    {
-        Files::reading([Some(self.plan.as_str()), Some(self.script.as_str()), None])
-    }
 }
 
 const RUN_HELP: &str = "Example: telexplan run own.plan own.script

@@ -2,13 +2,11 @@
 ghost use Rattle.std.specs.Prelude.{◌≡◌, Some, IfOk, IfErr, codes};
 ghost use Rattle.clap.specs.Words.{app_of, found_of, rows_of};
 ghost use Rattle.tx_commands.specs.Commands.{Names, Asks};
-ghost use Rattle.tx_commands.specs.Files.{names_of, survive_files};
 ghost use Rattle.tx_commands.specs.Grammar.{survive_words};
 ghost use Rattle.tx_commands.specs.inner.Refused.{IsRefused};
 
 use crate::arguments::{PLAN, RISKS, Syntax};
 use crate::command::Command;
-use crate::files::Files;
 use crate::given::{is_set, text};
 use crate::misuse::Misuse;
 use clap::ArgMatches;
@@ -21,19 +19,6 @@ pub struct SurviveRequest {
     pub plan: String,
     pub risks: Option<(String, bool)>,
     pub totals: bool,
-}
-
-impl SurviveRequest {
-    /// Its files.
-    pub(crate) fn files(&self) -> Files<'_>
-        ensures { names_of result ≡ survive_files self.now }
-    {
-        let risks = match &self.risks {
-            Some((risks, _)) => Some(risks.as_str()),
-            None => None,
-        };
-        Files::reading([Some(self.plan.as_str()), risks, None])
-    }
 }
 
 const SURVIVE_HELP: &str =

@@ -2,13 +2,11 @@
 ghost use Rattle.std.specs.Prelude.{◌≡◌, Some, IfOk, IfErr, codes};
 ghost use Rattle.clap.specs.Words.{app_of, found_of, rows_of};
 ghost use Rattle.tx_commands.specs.Commands.{Names, Asks};
-ghost use Rattle.tx_commands.specs.Files.{names_of, trace_files, group_files};
 ghost use Rattle.tx_commands.specs.Grammar.{trace_words};
 ghost use Rattle.tx_commands.specs.inner.Refused.{IsRefused};
 
 use crate::arguments::{DOWN, PLAN, Syntax};
 use crate::command::Command;
-use crate::files::Files;
 use crate::given::text;
 use crate::misuse::Misuse;
 use clap::ArgMatches;
@@ -29,24 +27,6 @@ pub struct TraceRequest {
 pub struct GroupRequest {
     pub plan: String,
     pub group: String,
-}
-
-impl TraceRequest {
-    /// Its files.
-    pub(crate) fn files(&self) -> Files<'_>
-        ensures { names_of result ≡ trace_files self.now }
-    {
-        Files::reading([Some(self.plan.as_str()), None, None])
-    }
-}
-
-impl GroupRequest {
-    /// Its files.
-    pub(crate) fn files(&self) -> Files<'_>
-        ensures { names_of result ≡ group_files self.now }
-    {
-        Files::reading([Some(self.plan.as_str()), None, None])
-    }
 }
 
 const TRACE_HELP: &str = "Example: telexplan trace own.plan NORTH 24 --down CENO1,CENO2
