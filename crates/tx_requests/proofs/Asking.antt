@@ -1,9 +1,10 @@
 -- What is asked of a plan by names.
 use Rattle.std.proofs.Common.{◌≡◌, ℕ, ◌+◌, ◌<◌, ◌≤◌, List, [], ◌∷◌, ◌++◌, Option, None, Some, Result, Ok, Err, length, get_or, drop, refl, sym, ap, subst, ◌∙◌, append_assoc, append-nil, arith}
+use Rattle.std.specs.Str.{bytes_eq}
 use Rattle.std.proofs.lemmas.List.{at_drop_more, at_drop_all, length_push}
+use Rattle.std.proofs.lemmas.List.Quantifiers.{position-Some}
 use Rattle.tx_plan.specs.Plan.{Plan, exchange_named, code_named, group_named}
 use Rattle.tx_requests.specs.Asked.{group_before, groups_named, all_asked, asked_of}
-use Rattle.tx_requests.proofs.DrawnCode.{named_within, exchange_within}
 
 -- THE GROUPS of some names
 
@@ -60,6 +61,18 @@ module _ (p : Plan) (names : List (List ℕ)) where
         ap (behind gs) (at_drop_all (groups_named p) names n done) ∙ ap Ok (append-nil gs)
 
 -- WHAT WAS ASKED FOR
+
+-- a code that is named is one of the plan's
+pub named_within : (p : Plan) (figures : List ℕ) (c : ℕ) → Some c ≡ code_named p figures
+    → c < length p.codes
+named_within p figures c e =
+    (position-Some (λ k. bytes_eq figures k.figures) p.codes c
+    (record { figures = []; home = 0 }) (sym e)).0
+
+-- and so is an exchange
+exchange_within : (p : Plan) (name : List ℕ) (x : ℕ) → Some x ≡ exchange_named p name
+    → x < length p.exchanges
+exchange_within p name x e = (position-Some (bytes_eq name) p.exchanges x [] (sym e)).0
 
 all_known : (p : Plan) (name figures : List ℕ) (x c : Option ℕ) (groups : Result (List ℕ) ℕ)
     (a : ℕ × ℕ × List ℕ) → x ≡ exchange_named p name → c ≡ code_named p figures

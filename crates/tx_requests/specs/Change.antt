@@ -72,9 +72,14 @@ module _ {A : Type 0} where
   EndsWithCert texts (Ok e) = (e.status ≡ 0) × (texts_of e.made ≡ texts)
   EndsWithCert texts (Err lack) = ⊥
 
+  -- by the verdict
+  abbrev pub EndsByVerdict : ChangeRequest → TwoPlans A → ChangeVerdict A
+      → Result (Ending A) NoMemory → Type 0
+  EndsByVerdict r t (Sound cert) =
+      EndsWithCert (None ∷ Some (cert_written t.joined.old cert) ∷ None ∷ [])
+  EndsByVerdict r t (Unsound findings) = EndsWithMixture r t findings.items
+  EndsByVerdict r t (NewUnsound findings) = EndsWithNewPlan r t findings.items
+
   abbrev pub ChangeEnds : ChangeRequest → TwoPlans A × ChangeVerdict A
       → Result (Ending A) NoMemory → Type 0
-  ChangeEnds r (t, Sound cert) =
-      EndsWithCert (None ∷ Some (cert_written t.joined.old cert) ∷ None ∷ [])
-  ChangeEnds r (t, Unsound findings) = EndsWithMixture r t findings.items
-  ChangeEnds r (t, NewUnsound findings) = EndsWithNewPlan r t findings.items
+  ChangeEnds r a = EndsByVerdict r a.0 a.1

@@ -13,4 +13,6 @@ pub mod Asked
 pub mod Trace
 pub mod Fill
 pub mod Explain
+pub mod PageReading
+pub mod Page
 pub mod inner

@@ -78,8 +78,9 @@ impl<A: Allocator + Copy> Request<A> for ChangeRequest {
     }
 
     fn end(&self, alloc: A, answer: Self::Answer) -> Result<Ending<A>, NoMemory> {
-        match answer {
-            (plans, ChangeVerdict::Sound(cert)) => Ok(Ending {
+        let (plans, verdict) = answer;
+        match verdict {
+            ChangeVerdict::Sound(cert) => Ok(Ending {
                 status: 0,
                 made: Some(Made {
                     shown: Shown::Plan(plans.joined.old),
@@ -87,88 +88,82 @@ impl<A: Allocator + Copy> Request<A> for ChangeRequest {
                     cert: Some(cert),
                 }),
             }),
-            (plans, ChangeVerdict::Unsound(findings)) => {
-                self.end_with_mixture(alloc, plans, &findings)
-            }
-            (plans, ChangeVerdict::NewUnsound(findings)) => {
-                self.end_with_new_plan(alloc, plans, &findings)
-            }
+            ChangeVerdict::Unsound(findings) => end_with_mixture(alloc, self, plans, &findings),
+            ChangeVerdict::NewUnsound(findings) => end_with_new_plan(alloc, self, plans, &findings),
         }
     }
 }
 
-impl ChangeRequest {
-    /// Whether what shows a No goes into a file.
-    fn is_shown(&self) -> bool
-        ensures { result ≡ is_shown self.now }
-    {
-        self.mixture.is_some() || self.counter.is_some()
-    }
+/// Whether what shows a No goes into a file.
+fn is_shown(request: &ChangeRequest) -> bool
+    ensures { result ≡ is_shown request.now }
+{
+    request.mixture.is_some() || request.counter.is_some()
+}
 
-    /// After a No of a mixture: that of the first finding with a walk.
-    fn end_with_mixture<A: Allocator + Copy>(
-        &self,
-        alloc: A,
-        plans: TwoPlans<A>,
-        findings: &[Finding<A>],
-    ) -> Result<Ending<A>, NoMemory>
-        requires joined { AreJoined plans }
-        requires each { AllByRecursion (IsShown plans.joined.old plans.joined.new
-            self.now.limits.limit self.now.limits.spare) findings.now }
-        ensures { EndsWithMixture self.now plans findings.now result }
-    {
-        if !self.is_shown() {
-            return Ok(Ending::of(1));
-        }
-        let TwoPlans { old, joined, .. } = plans;
-        match first_mixture(alloc, joined.old, &joined.new, findings, self.limits)? {
-            Some(mixture) => self.end_with(alloc, &old, Shown::of(mixture)),
-            None => Ok(Ending::of(1)),
-        }
+/// After a No of a mixture: that of the first finding with a walk.
+fn end_with_mixture<A: Allocator + Copy>(
+    alloc: A,
+    request: &ChangeRequest,
+    plans: TwoPlans<A>,
+    findings: &[Finding<A>],
+) -> Result<Ending<A>, NoMemory>
+    requires joined { AreJoined plans }
+    requires each { AllByRecursion (IsShown plans.joined.old plans.joined.new
+        request.now.limits.limit request.now.limits.spare) findings.now }
+    ensures { EndsWithMixture request.now plans findings.now result }
+{
+    if !is_shown(request) {
+        return Ok(Ending::of(1));
     }
+    let TwoPlans { old, joined, .. } = plans;
+    match first_mixture(alloc, joined.old, &joined.new, findings, request.limits)? {
+        Some(mixture) => end_with(alloc, request, &old, Shown::of(mixture)),
+        None => Ok(Ending::of(1)),
+    }
+}
 
-    /// After a No of the new plan as it is: this plan, with its first finding that has a walk.
-    fn end_with_new_plan<A: Allocator + Copy>(
-        &self,
-        alloc: A,
-        plans: TwoPlans<A>,
-        findings: &[Finding<A>],
-    ) -> Result<Ending<A>, NoMemory>
-        requires joined { AreJoined plans }
-        requires each { AllByRecursion (IsTrueOf plans.new.plan
-            self.now.limits.limit self.now.limits.spare) findings.now }
-        ensures { EndsWithNewPlan self.now plans findings.now result }
-    {
-        if !self.is_shown() {
-            return Ok(Ending::of(1));
-        }
-        let TwoPlans { old, new, .. } = plans;
-        match new_plan_shown(alloc, new.plan, findings, self.limits)? {
-            Some(shown) => self.end_with(alloc, &old, Shown::of(shown)),
-            None => Ok(Ending::of(1)),
-        }
+/// After a No of the new plan as it is: this plan, with its first finding that has a walk.
+fn end_with_new_plan<A: Allocator + Copy>(
+    alloc: A,
+    request: &ChangeRequest,
+    plans: TwoPlans<A>,
+    findings: &[Finding<A>],
+) -> Result<Ending<A>, NoMemory>
+    requires joined { AreJoined plans }
+    requires each { AllByRecursion (IsTrueOf plans.new.plan
+        request.now.limits.limit request.now.limits.spare) findings.now }
+    ensures { EndsWithNewPlan request.now plans findings.now result }
+{
+    if !is_shown(request) {
+        return Ok(Ending::of(1));
     }
+    let TwoPlans { old, new, .. } = plans;
+    match new_plan_shown(alloc, new.plan, findings, request.limits)? {
+        Some(shown) => end_with(alloc, request, &old, Shown::of(shown)),
+        None => Ok(Ending::of(1)),
+    }
+}
 
-    /// With a plan that shows a No, and its text if that goes into a file.
-    fn end_with<A: Allocator + Copy>(
-        &self,
-        alloc: A,
-        old: &PlanText<A>,
-        shown: Shown<A>,
-    ) -> Result<Ending<A>, NoMemory>
-        requires said { IsSaid old.now }
-        requires rules { IsPlan (shown_plan shown) }
-        ensures status { IfOk result (λ e. e.status ≡ 1) }
-        ensures made { IfOk result (λ e. IsMadeOf (is_some self.now.mixture) old.now shown e.made) }
-    {
-        let text = text_if_asked(alloc, self.mixture.is_some(), old, shown.plan())?;
-        Ok(Ending {
-            status: 1,
-            made: Some(Made {
-                shown,
-                text,
-                cert: None,
-            }),
-        })
-    }
+/// With a plan that shows a No, and its text if that goes into a file.
+fn end_with<A: Allocator + Copy>(
+    alloc: A,
+    request: &ChangeRequest,
+    old: &PlanText<A>,
+    shown: Shown<A>,
+) -> Result<Ending<A>, NoMemory>
+    requires said { IsSaid old.now }
+    requires rules { IsPlan (shown_plan shown) }
+    ensures status { IfOk result (λ e. e.status ≡ 1) }
+    ensures made { IfOk result (λ e. IsMadeOf (is_some request.now.mixture) old.now shown e.made) }
+{
+    let text = text_if_asked(alloc, request.mixture.is_some(), old, shown.plan())?;
+    Ok(Ending {
+        status: 1,
+        made: Some(Made {
+            shown,
+            text,
+            cert: None,
+        }),
+    })
 }

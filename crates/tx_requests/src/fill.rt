@@ -60,7 +60,8 @@ impl<A: Allocator + Copy> Request<A> for FillRequest {
     }
 
     fn answer(&self, alloc: A, texts: Self::Texts) -> Result<Self::Answer, CommandFault> {
-        let (exchange, code) = (self.exchange.as_bytes(), self.code.as_bytes());
+        let exchange = self.exchange.as_bytes();
+        let code = self.code.as_bytes();
         let (exchange, code, down) = asked_of(alloc, &texts, exchange, code, self.down.as_deref())?;
         let found = set_up_calls(alloc, &texts, &down, exchange, code)?;
         Ok(Filled {

@@ -79,7 +79,7 @@ impl<A: Allocator + Copy> Request<A> for PageRequest {
     }
 
     fn print<W: Sink>(&self, answer: &Self::Answer, out: &mut W) -> Result<(), WriteFault> {
-        self.show(answer, out)
+        show_page(self, answer, out)
     }
 
     fn end(&self, _alloc: A, answer: Self::Answer) -> Result<Ending<A>, NoMemory> {
@@ -87,30 +87,28 @@ impl<A: Allocator + Copy> Request<A> for PageRequest {
     }
 }
 
-impl PageRequest {
-    /// Writes the page, into any sink of pages.
-    pub fn show<A: Allocator, W: PageSink>(
-        &self,
-        answer: &Paged<A>,
-        sink: &mut W,
-    ) -> Result<(), WriteFault>
-        ensures { (s : SubjectNow A) × IsSubjectOf self.now answer.now s
-            × Showed W.seen sink.old sink.new (page_texts s) result }
-    {
-        let text = answer.texts.plan.text.as_slice();
-        let subject = Subject {
-            name: self.plan.as_bytes(),
-            digest: Sha256::digest(text),
-            version: VERSION,
-            plan: &answer.texts.plan.plan,
-            limits: self.limits,
-            ranking: &answer.found.ranking,
-            grade: &answer.found.grade,
-            risks: &answer.texts.risks,
-            change: shown_change(&answer.change),
-            outcomes: answer.found.outcomes.as_slice(),
-            pictures: answer.found.pictures.as_slice(),
-        };
-        write_page(&subject, sink)
-    }
+/// Writes the page, into any sink of pages.
+pub fn show_page<A: Allocator, W: PageSink>(
+    request: &PageRequest,
+    answer: &Paged<A>,
+    sink: &mut W,
+) -> Result<(), WriteFault>
+    ensures { (s : SubjectNow A) × IsSubjectOf request.now answer.now s
+        × Showed W.seen sink.old sink.new (page_texts s) result }
+{
+    let text = answer.texts.plan.text.as_slice();
+    let subject = Subject {
+        name: request.plan.as_bytes(),
+        digest: Sha256::digest(text),
+        version: VERSION,
+        plan: &answer.texts.plan.plan,
+        limits: request.limits,
+        ranking: &answer.found.ranking,
+        grade: &answer.found.grade,
+        risks: &answer.texts.risks,
+        change: shown_change(&answer.change),
+        outcomes: answer.found.outcomes.as_slice(),
+        pictures: answer.found.pictures.as_slice(),
+    };
+    write_page(&subject, sink)
 }

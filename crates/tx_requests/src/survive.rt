@@ -48,7 +48,7 @@ impl<A: Allocator + Copy> Request<A> for SurviveRequest {
     }
 
     fn answer(&self, alloc: A, texts: Self::Texts) -> Result<Self::Answer, CommandFault> {
-        let survival = survive(alloc, &texts.plan, &texts.risks, self.named_only())?;
+        let survival = survive(alloc, &texts.plan, &texts.risks, named_only(self))?;
         Ok((texts, survival))
     }
 
@@ -61,15 +61,13 @@ impl<A: Allocator + Copy> Request<A> for SurviveRequest {
     }
 }
 
-impl SurviveRequest {
-    /// Whether the named risks alone are tried.
-    fn named_only(&self) -> bool
-        ensures { result ≡ named_only self.now }
-    {
-        match &self.risks {
-            Some((_, only)) => *only,
-            None => false,
-        }
+/// Whether the named risks alone are tried.
+fn named_only(request: &SurviveRequest) -> bool
+    ensures { result ≡ named_only request.now }
+{
+    match &request.risks {
+        Some((_, only)) => *only,
+        None => false,
     }
 }
 
