@@ -17,7 +17,7 @@ use Rattle.tx_change.specs.declared.mixture.ShownMixture.{ShownMixture}
 use Rattle.tx_change.specs.Shown.{IsShown}
 use Rattle.tx_change.specs.ChangeAnswers.{IsRightVerdict}
 use Rattle.tx_change.specs.MixtureShown.{first_walked, ShowsFirstWalk, MixtureAnswer, ShowsNewPlan, NewPlanAnswer}
-use Rattle.tx_requests.specs.declared.change.ChangeRequest.{ChangeRequest}
+use Rattle.tx_commands.specs.declared.change.ChangeRequest.{ChangeRequest}
 use Rattle.tx_requests.specs.declared.ending.Ending.{Ending}
 use Rattle.tx_requests.specs.declared.made.Made.{Made}
 use Rattle.tx_requests.specs.declared.made.Shown.{Shown}

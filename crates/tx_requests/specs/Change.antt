@@ -10,15 +10,15 @@ use Rattle.tx_change.specs.declared.judging.ChangeVerdict.TheVariants.{Sound, Un
 use Rattle.tx_change.specs.ChangeAnswers.{IsRightVerdict}
 use Rattle.tx_change.specs.ChangeReport.{change_report}
 use Rattle.tx_change.specs.MixtureShown.{first_walked, ShowsFirstWalk, ShowsNewPlan}
-use Rattle.tx_requests.specs.declared.change.ChangeRequest.{ChangeRequest}
+use Rattle.tx_commands.specs.declared.change.ChangeRequest.{ChangeRequest}
 use Rattle.tx_requests.specs.declared.ending.Ending.{Ending}
 use Rattle.tx_requests.specs.declared.fault.CommandFault.{CommandFault}
 use Rattle.tx_requests.specs.declared.made.Made.{Made}
 use Rattle.tx_requests.specs.declared.two_plans.PlanText.{PlanText}
 use Rattle.tx_requests.specs.declared.two_plans.TwoPlans.{TwoPlans}
-use Rattle.tx_requests.specs.Ending.{EndsWith}
+use Rattle.tx_requests.specs.Ending.{EndsWith, EndsWithTexts}
 use Rattle.tx_requests.specs.Faults.{memory_stop}
-use Rattle.tx_requests.specs.Made.{shown_plan, shown_events, plan_file, texts_of, HasTextIf}
+use Rattle.tx_requests.specs.Made.{shown_plan, shown_events, plan_file, HasTextIf}
 use Rattle.tx_requests.specs.Printing.{Printing, Writes}
 
 -- what shows a No goes into a file
@@ -67,16 +67,12 @@ module _ {A : Type 0} where
   EndsWithNewPlan r t findings = EndsShown (is_shown r) (is_some r.mixture) t.old findings
       (ShowsNewPlan t.new.plan r.limits.limit r.limits.spare findings)
 
-  -- status 0, and the certificate, which is one of both plans over their joined network
-  abbrev pub EndsWithCert : List (Option (List ℕ)) → Result (Ending A) NoMemory → Type 0
-  EndsWithCert texts (Ok e) = (e.status ≡ 0) × (texts_of e.made ≡ texts)
-  EndsWithCert texts (Err lack) = ⊥
-
-  -- by the verdict
+  -- after a Yes the certificate goes into a file, which is one of both plans over their joined
+  -- network
   abbrev pub EndsByVerdict : ChangeRequest → TwoPlans A → ChangeVerdict A
       → Result (Ending A) NoMemory → Type 0
   EndsByVerdict r t (Sound cert) =
-      EndsWithCert (None ∷ Some (cert_written t.joined.old cert) ∷ None ∷ [])
+      EndsWithTexts 0 (None ∷ Some (cert_written t.joined.old cert) ∷ None ∷ [])
   EndsByVerdict r t (Unsound findings) = EndsWithMixture r t findings.items
   EndsByVerdict r t (NewUnsound findings) = EndsWithNewPlan r t findings.items
 

@@ -1,7 +1,8 @@
 -- How commands end.
-use Rattle.std.specs.Prelude.{◌≡◌, ℕ, None, Result, Ok, Err}
+use Rattle.std.specs.Prelude.{◌≡◌, ℕ, List, Option, None, Result, Ok, Err}
 use Rattle.tx_text.specs.declared.no_memory.NoMemory.{NoMemory}
 use Rattle.tx_requests.specs.declared.ending.Ending.{Ending}
+use Rattle.tx_requests.specs.Made.{texts_of}
 
 -- with this status, and nothing goes into files
 abbrev pub EndsWith : {A : Type 0} → ℕ → Result (Ending A) NoMemory → Type 0
@@ -11,3 +12,10 @@ EndsWith status (Err lack) = ⊥
 -- status 0, and nothing goes into files
 abbrev pub EndsWell : {A N : Type 0} → N → Result (Ending A) NoMemory → Type 0
 EndsWell answer = EndsWith 0
+
+-- with this status, and these texts go into files
+abbrev pub EndsWithTexts : {A : Type 0} → ℕ → List (Option (List ℕ)) → Result (Ending A) NoMemory
+    → Type 0
+EndsWithTexts status texts (Ok ending) =
+    (ending.status ≡ status) × (texts_of ending.made ≡ texts)
+EndsWithTexts status texts (Err lack) = ⊥

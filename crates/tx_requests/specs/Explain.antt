@@ -1,7 +1,7 @@
 -- The command `explain`.
 use Rattle.std.specs.Prelude.{◌≡◌, option_map, string_bytes, Result, Ok}
 use Rattle.tx_explain.specs.Written.{explanation_text}
-use Rattle.tx_requests.specs.declared.explain.ExplainRequest.{ExplainRequest}
+use Rattle.tx_commands.specs.declared.explain.ExplainRequest.{ExplainRequest}
 use Rattle.tx_requests.specs.declared.fault.CommandFault.{CommandFault}
 use Rattle.tx_requests.specs.Printing.{Printing, Writes}
 

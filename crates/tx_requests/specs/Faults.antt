@@ -1,5 +1,5 @@
 -- Why commands stop.
-use Rattle.std.specs.Prelude.{ℕ}
+use Rattle.std.specs.Prelude.{ℕ, Bool, true, Result, Ok, Err}
 use Rattle.tx_text.specs.declared.frame.FaultAt.{FaultAt}
 use Rattle.tx_text.specs.declared.frame.FrameFault.TheVariants.{Read as LineRead, NoMemory as LineNoMemory}
 use Rattle.tx_text.specs.declared.frame.FaultKind.{FaultKind}
@@ -74,3 +74,8 @@ in_plan_by which other = Job other
 -- a fault of the text of this plan
 abbrev pub in_plan : Which → FaultAt PlanWord → CommandFault
 in_plan which f = in_plan_by which (plan_fault f)
+
+-- the mark of the sink after a call: set where the output failed
+abbrev pub fault_mark : {X : Type 0} → Bool → Result X CommandFault → Bool
+fault_mark old (Err (Job Write)) = true
+fault_mark old result = old

@@ -5,7 +5,7 @@ use Rattle.tx_fill.specs.Fills.{IsFill}
 use Rattle.tx_fill.specs.FillText.{fill_text}
 use Rattle.tx_requests.specs.declared.fault.CommandFault.{CommandFault}
 use Rattle.tx_requests.specs.declared.fill.Filled.{Filled}
-use Rattle.tx_requests.specs.declared.fill.FillRequest.{FillRequest}
+use Rattle.tx_commands.specs.declared.fill.FillRequest.{FillRequest}
 use Rattle.tx_requests.specs.Asked.{asked_of}
 use Rattle.tx_requests.specs.Faults.{memory_stop}
 use Rattle.tx_requests.specs.Printing.{Printing, Writes}

@@ -15,4 +15,12 @@ pub mod Fill
 pub mod Explain
 pub mod PageReading
 pub mod Page
+pub mod Jobs
+pub mod Audit
+pub mod Runs
+pub mod Lint
+pub mod Group
+pub mod Mend
+pub mod Order
+pub mod Doing
 pub mod inner

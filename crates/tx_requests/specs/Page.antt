@@ -18,7 +18,7 @@ use Rattle.tx_commands.specs.declared.grammar.TheConstants.{VERSION}
 use Rattle.tx_requests.specs.declared.ending.Ending.{Ending}
 use Rattle.tx_requests.specs.declared.fault.CommandFault.{CommandFault}
 use Rattle.tx_requests.specs.declared.fault.CommandFault.TheVariants.{NoSuchCode}
-use Rattle.tx_requests.specs.declared.page.PageRequest.{PageRequest}
+use Rattle.tx_commands.specs.declared.page.PageRequest.{PageRequest}
 use Rattle.tx_requests.specs.declared.page.Paged.{Paged}
 use Rattle.tx_requests.specs.declared.page_change.FoundChange.{FoundChange}
 use Rattle.tx_requests.specs.declared.page_found.Found.{Found}

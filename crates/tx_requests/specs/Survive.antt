@@ -12,7 +12,7 @@ use Rattle.tx_risk_report.specs.OutageReport.{survival_text}
 use Rattle.tx_requests.specs.declared.ending.Ending.{Ending}
 use Rattle.tx_requests.specs.declared.fault.CommandFault.{CommandFault}
 use Rattle.tx_requests.specs.declared.reading.PlanRisks.{PlanRisks}
-use Rattle.tx_requests.specs.declared.survive.SurviveRequest.{SurviveRequest}
+use Rattle.tx_commands.specs.declared.survive.SurviveRequest.{SurviveRequest}
 use Rattle.tx_requests.specs.Ending.{EndsWith}
 use Rattle.tx_requests.specs.Faults.{memory_stop}
 use Rattle.tx_requests.specs.Grade.{IsGradeOf}

@@ -6,7 +6,7 @@ use Rattle.tx_trace.specs.Traces.{IsTraceOf}
 use Rattle.tx_trace.specs.TraceText.{trace_text}
 use Rattle.tx_requests.specs.declared.fault.CommandFault.{CommandFault}
 use Rattle.tx_requests.specs.declared.trace.Traced.{Traced}
-use Rattle.tx_requests.specs.declared.trace.TraceRequest.{TraceRequest}
+use Rattle.tx_commands.specs.declared.trace.TraceRequest.{TraceRequest}
 use Rattle.tx_requests.specs.Asked.{asked_of}
 use Rattle.tx_requests.specs.Faults.{memory_stop}
 use Rattle.tx_requests.specs.Printing.{Printing, Writes}

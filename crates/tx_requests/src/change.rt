@@ -17,22 +17,9 @@ use crate::revising::text_if_asked;
 use crate::two_plans::{PlanText, TwoPlans, read_plans};
 use std::alloc::Allocator;
 use tx_change::{ChangeVerdict, first_mixture, judge_change, new_plan_shown, write_change};
-use tx_plan::Limits;
+use tx_commands::ChangeRequest;
 use tx_rank::Finding;
 use tx_text::{NoMemory, Sink, Source, WriteFault};
-
-/// `change OLD NEW --limit L --spare K`: whether the one may be changed into the other, list by
-/// list and with calls up. The certificate goes into a file, if one is named, and so do the mixture
-/// that shows what is wrong and its script.
-#[derive(Drop)]
-pub struct ChangeRequest {
-    pub old: String,
-    pub new: String,
-    pub limits: Limits,
-    pub cert: Option<String>,
-    pub mixture: Option<String>,
-    pub counter: Option<String>,
-}
 
 impl<A: Allocator + Copy> Request<A> for ChangeRequest {
     type Texts = TwoPlans<A>;

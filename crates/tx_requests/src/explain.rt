@@ -7,14 +7,9 @@ use crate::ending::Ending;
 use crate::fault::CommandFault;
 use crate::request::Request;
 use std::alloc::Allocator;
+use tx_commands::ExplainRequest;
 use tx_explain::write_explanation;
 use tx_text::{NoMemory, Sink, Source, WriteFault};
-
-/// `explain [WORD]..`: what the codes, names and words of a line mean, or all codes.
-#[derive(Drop)]
-pub struct ExplainRequest {
-    pub line: Option<String>,
-}
 
 impl<A: Allocator + Copy> Request<A> for ExplainRequest {
     type Texts = ();

@@ -10,19 +10,10 @@ use crate::fault::CommandFault;
 use crate::reading::read_one;
 use crate::request::Request;
 use std::alloc::{Allocator, Global};
+use tx_commands::FillRequest;
 use tx_fill::{Fill, set_up_calls, write_fill};
 use tx_plan::{CodeId, ExchangeId, GroupId, Plan};
 use tx_text::{NoMemory, Sink, Source, WriteFault};
-
-/// `fill PLAN EXCHANGE CODE`: how many calls for the code the exchange can have at once, while these
-/// groups are down, if some are named.
-#[derive(Drop)]
-pub struct FillRequest {
-    pub plan: String,
-    pub exchange: String,
-    pub code: String,
-    pub down: Option<String>,
-}
 
 /// The plan, what is asked for, and what the calls come to.
 #[derive(Drop)]

@@ -8,16 +8,10 @@ use crate::fault::CommandFault;
 use crate::reading::read_one;
 use crate::request::Request;
 use std::alloc::Allocator;
+use tx_commands::GradeRequest;
 use tx_plan::Plan;
 use tx_rank::{Grade, grade, write_grade};
 use tx_text::{NoMemory, Sink, Source, WriteFault};
-
-/// `grade PLAN`: with which limits and spare numbers the plan is safe, and each of its codes; and
-/// if it is safe with none, what is wrong with it whatever they are.
-#[derive(Drop)]
-pub struct GradeRequest {
-    pub plan: String,
-}
 
 impl<A: Allocator + Copy> Request<A> for GradeRequest {
     type Texts = Plan<A>;

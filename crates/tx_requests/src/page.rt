@@ -14,24 +14,10 @@ use crate::page_reading::{PageTexts, read_for_page};
 use crate::request::Request;
 use sha2::{Digest, Sha256};
 use std::alloc::{Allocator, Global};
-use tx_commands::VERSION;
+use tx_commands::{PageRequest, VERSION};
 use tx_html::PageSink;
 use tx_page::{Subject, is_safe, write_page};
-use tx_plan::Limits;
 use tx_text::{NoMemory, Sink, Source, WriteFault};
-
-/// `page PLAN --limit L --spare K`: a page about the plan, with the named risks of a file, if one is
-/// named, with the stages from an old plan, if one is named, and with the lists of one code alone,
-/// if its figures are given. It may go into a file.
-#[derive(Drop)]
-pub struct PageRequest {
-    pub plan: String,
-    pub limits: Limits,
-    pub risks: Option<String>,
-    pub old: Option<String>,
-    pub code: Option<String>,
-    pub html: Option<String>,
-}
 
 /// What a page shows: what was read, and what was found of it.
 #[derive(Drop)]

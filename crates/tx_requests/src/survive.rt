@@ -9,18 +9,10 @@ use crate::fault::CommandFault;
 use crate::reading::{PlanRisks, read_with_risks};
 use crate::request::Request;
 use std::alloc::Allocator;
+use tx_commands::SurviveRequest;
 use tx_risk::{Outcome, Survival, survive};
 use tx_risk_report::{is_harmless, write_survival};
 use tx_text::{NoMemory, Sink, Source, WriteFault};
-
-/// `survive PLAN`: whom each group and each exchange cuts off if it fails alone, and each named risk
-/// of a file, if one is named. The flag with it: these alone. The other flag: totals alone.
-#[derive(Drop)]
-pub struct SurviveRequest {
-    pub plan: String,
-    pub risks: Option<(String, bool)>,
-    pub totals: bool,
-}
 
 impl<A: Allocator + Copy> Request<A> for SurviveRequest {
     type Texts = PlanRisks<A>;

@@ -10,19 +10,10 @@ use crate::fault::CommandFault;
 use crate::reading::read_one;
 use crate::request::Request;
 use std::alloc::{Allocator, Global};
+use tx_commands::TraceRequest;
 use tx_plan::{GroupId, Plan};
 use tx_text::{NoMemory, Sink, Source, WriteFault};
 use tx_trace::{Trace, plan_left, trace_calls, write_trace};
-
-/// `trace PLAN EXCHANGE CODE`: how calls for the code go from the exchange, while these groups are
-/// down, if some are named.
-#[derive(Drop)]
-pub struct TraceRequest {
-    pub plan: String,
-    pub exchange: String,
-    pub code: String,
-    pub down: Option<String>,
-}
 
 /// The plan that is left while some groups are down, these, and how the calls go in it.
 #[derive(Drop)]

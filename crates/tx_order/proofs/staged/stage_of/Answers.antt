@@ -1,16 +1,18 @@
-use Rattle.std.proofs.Common.{◌<◌, ◌≤◌, arith}
-use Rattle.tx_order.specs.Ordered.{stages_in}
-use Rattle.tx_order.proofs.Staging.{stage_cert}
+use Rattle.tx_order.proofs.Staging.{staged_without, staged_unsound}
 use Rattle.tx_order.proofs.staged.stage_of.Goals as goal
 
-pub returns : goal.returns
-returns g c =
-    let k = c.rules.ensures.kept in
-    let some : 0 < c.args.stage = let t = c.if-stage-eq0.false in omega arith in
-    let within : c.args.stage ≤ stages_in c.args.order.now = let t = c.if-stages-stage.false in let e = c.stages-stages.ensures in omega arith in
-    record {
-      kept = k;
-      there = (some, within);
-      lists = c.in_ok-lists.ensures;
-      cert = stage_cert c.args.order.now k c.args.stage c.in_ok-cert.cert some c.in_ok-cert.ensures.common c.in_ok-cert.ensures.fits;
-    }
+pub stage_in-requires : goal.stage_in-requires
+stage_in-requires g c = rw (c.in-Ordered.is, c.in-Some.is) at c.requires
+
+pub returns-in-Some : goal.returns-in-Some
+returns-in-Some g c = rw (c.in-Ordered.is, c.in-Some.is) c.stage_in.ensures
+
+pub returns-in-None : goal.returns-in-None
+returns-in-None g c = rw (c.in-Ordered.is, c.in-None.is) tt
+
+pub returns-in-NoOrder : goal.returns-in-NoOrder
+returns-in-NoOrder g c =
+    staged_without c.args.stage c.args.verdict c.in-NoOrder.field-0 c.in-NoOrder.field-1 c.in-NoOrder.field-2 c.in-NoOrder.is
+
+pub returns-in-NewUnsound : goal.returns-in-NewUnsound
+returns-in-NewUnsound g c = staged_unsound c.args.stage c.args.verdict c.in-NewUnsound.field-0 c.in-NewUnsound.is

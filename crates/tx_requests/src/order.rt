@@ -1,0 +1,88 @@
+// The command `order`.
+ghost use Rattle.tx_requests.specs.Order.{OrderAnswers, order_prints, OrderEnds};
+ghost use Rattle.tx_requests.specs.TwoPlans.{ReadsPlans, AreJoined};
+
+use crate::ending::Ending;
+use crate::fault::CommandFault;
+use crate::made::{Made, Shown};
+use crate::request::Request;
+use crate::revising::text_if_asked;
+use crate::two_plans::{PlanText, TwoPlans, read_plans};
+use std::alloc::{Allocator, Global};
+use tx_commands::OrderRequest;
+use tx_order::{OrderVerdict, Staged, judge_order, missing_stage, stage_of, write_order};
+use tx_text::{NoMemory, Sink, Source, WriteFault};
+
+/// Two plans with their texts, and the order of switching from the one to the other over their
+/// joined network, or what is wrong.
+#[derive(Drop)]
+pub struct Switched<A: Allocator = Global> {
+    pub old: PlanText<A>,
+    pub new: PlanText<A>,
+    pub verdict: OrderVerdict<A>,
+}
+
+impl<A: Allocator + Copy> Request<A> for OrderRequest {
+    type Texts = TwoPlans<A>;
+
+    type Answer = Switched<A>;
+
+    ghost reads = { λ _. ReadsPlans };
+
+    ghost fits = { AreJoined };
+
+    ghost answers = { OrderAnswers };
+
+    ghost prints = { order_prints };
+
+    ghost ends = { OrderEnds };
+
+    fn read<P: Source, Q: Source, R: Source>(
+        &self,
+        alloc: A,
+        first: &mut P,
+        second: &mut Q,
+        third: &mut R,
+    ) -> Result<Self::Texts, CommandFault> {
+        read_plans(alloc, first, second, third)
+    }
+
+    fn answer(&self, alloc: A, texts: Self::Texts) -> Result<Self::Answer, CommandFault> {
+        let TwoPlans { old, new, joined } = texts;
+        let verdict = judge_order(alloc, joined, &new.plan, self.limits)?;
+        match missing_stage(&verdict, self.stage) {
+            Some(stages) => Err(CommandFault::NoSuchStage(stages)),
+            None => Ok(Switched { old, new, verdict }),
+        }
+    }
+
+    fn print<W: Sink>(&self, answer: &Self::Answer, out: &mut W) -> Result<(), WriteFault> {
+        write_order(
+            &answer.old.plan,
+            &answer.new.plan,
+            &answer.verdict,
+            self.limits,
+            true,
+            out,
+        )
+    }
+
+    fn end(&self, alloc: A, answer: Self::Answer) -> Result<Ending<A>, NoMemory> {
+        let Switched { old, verdict, .. } = answer;
+        match stage_of(alloc, verdict, self.stage)? {
+            Staged::Ordered(Some((plan, cert))) => {
+                let text = text_if_asked(alloc, self.plan.is_some(), &old, &plan)?;
+                Ok(Ending {
+                    status: 0,
+                    made: Some(Made {
+                        shown: Shown::Plan(plan),
+                        text,
+                        cert: Some(cert),
+                    }),
+                })
+            }
+            Staged::Ordered(None) => Ok(Ending::of(0)),
+            Staged::NoOrder => Ok(Ending::of(1)),
+        }
+    }
+}
