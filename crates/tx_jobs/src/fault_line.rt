@@ -29,7 +29,11 @@ pub fn write_fault<W: Sink>(fault: &JobFault, sink: &mut W) -> Result<(), WriteF
 }
 
 /// Writes the line of a fault of a plan's text.
-fn write_plan_fault<W: Sink>(text: &[u8], fault: &PlanFault, sink: &mut W) -> Result<(), WriteFault>
+pub fn write_plan_fault<W: Sink>(
+    text: &[u8],
+    fault: &PlanFault,
+    sink: &mut W,
+) -> Result<(), WriteFault>
     ensures { Wrote W.taken W.failed sink.old sink.new
         (text_fault_line text.now fault.now.line (fault_row fault.now.kind)) result }
 {
@@ -38,7 +42,7 @@ fn write_plan_fault<W: Sink>(text: &[u8], fault: &PlanFault, sink: &mut W) -> Re
 }
 
 /// Writes the line of a fault of a text: which text it is, and its row, of a code and a name.
-fn write_text_fault<'a, W: Sink>(
+pub fn write_text_fault<'a, W: Sink>(
     text: &'a [u8],
     line: u64,
     row: (&'a [u8], &'a [u8]),

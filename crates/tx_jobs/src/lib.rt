@@ -20,7 +20,7 @@ mod telling;
 pub use audit::audit_job;
 pub use check::check_job;
 pub use codes::codes_job;
-pub use fault_line::write_fault;
+pub use fault_line::{write_fault, write_plan_fault, write_text_fault};
 pub use job_fault::JobFault;
 pub use pipe::pipe_job;
 pub use run::run_job;

@@ -1,4 +1,5 @@
 pub mod Faults
+pub mod FaultLines
 pub mod Printing
 pub mod Carried
 pub mod Reading
