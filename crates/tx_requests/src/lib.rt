@@ -11,6 +11,7 @@ mod explain;
 mod fault;
 mod fill;
 mod grade;
+mod law;
 mod made;
 mod page;
 mod page_change;
