@@ -6,3 +6,4 @@ mod Texts
 mod Joining
 mod Changing
 mod RevisedText
+mod DeclaredLines

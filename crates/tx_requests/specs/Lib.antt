@@ -6,6 +6,7 @@ pub mod Reading
 pub mod Writables
 pub mod Ending
 pub mod TwoPlans
+pub mod DeclaringLines
 pub mod Made
 pub mod Grade
 pub mod Change

@@ -14,8 +14,12 @@ mod fault;
 mod fault_line;
 mod fill;
 mod grade;
+<<<<<<< HEAD
 mod group;
 mod linting;
+=======
+mod law;
+>>>>>>> commands
 mod made;
 mod mend;
 mod order;
