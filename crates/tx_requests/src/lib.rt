@@ -14,12 +14,9 @@ mod fault;
 mod fault_line;
 mod fill;
 mod grade;
-<<<<<<< HEAD
 mod group;
-mod linting;
-=======
 mod law;
->>>>>>> commands
+mod linting;
 mod made;
 mod mend;
 mod order;
@@ -42,6 +39,7 @@ pub use ending::Ending;
 pub use fault::CommandFault;
 pub use fault_line::write_command_fault;
 pub use fill::Filled;
+pub use law::told_lines_declare;
 pub use made::{CounterScript, Made, MadeText, Shown};
 pub use order::Switched;
 pub use page::{Paged, show_page};
