@@ -32,6 +32,7 @@ pub use explain::ExplainRequest;
 pub use fault::CommandFault;
 pub use fill::{FillRequest, Filled};
 pub use grade::GradeRequest;
+pub use law::told_lines_declare;
 pub use made::{CounterScript, Made, MadeText, Shown};
 pub use page::{PageRequest, Paged, show_page};
 pub use page_change::FoundChange;
