@@ -1,11 +1,9 @@
 -- A stage of an order that is asked for: the plan after it, and a certificate of it.
-use Rattle.std.specs.Prelude.{◌≡◌, ℕ, ◌-◌, ◌<◌, ◌≤◌, Option, Some, None}
+use Rattle.std.specs.Prelude.{◌≡◌, ℕ, ◌-◌, ◌<◌, ◌≤◌, Option, Some}
 use Rattle.tx_cert.specs.Certificate.{Certificate, IsCertificateOf, ranks_of}
 use Rattle.tx_plan.specs.Mixtures.{AreCommon}
 use Rattle.tx_order.specs.declared.judging.OrderVerdict.{OrderVerdict}
-use Rattle.tx_order.specs.declared.judging.OrderVerdict.TheVariants.{Ordered as FoundOrdered, NoOrder as FoundNoOrder, NewUnsound}
-use Rattle.tx_order.specs.declared.staged.Staged.{Staged}
-use Rattle.tx_order.specs.declared.staged.Staged.TheVariants.{Ordered, NoOrder}
+use Rattle.tx_order.specs.declared.judging.OrderVerdict.TheVariants.{Ordered}
 use Rattle.tx_order.specs.Ordered.{Order, plan_before, stages_in}
 
 -- an order has the stage of this number, from 1
@@ -21,19 +19,10 @@ pub record IsStageCert (o : Order) (n : ℕ) (cert : Certificate) : Type 0 where
 module _ {A : Type 0} where
   -- where an order was found, it has the stage that is asked for, if one is
   abbrev pub HasStage : Option ℕ → OrderVerdict A → Type 0
-  HasStage (Some n) (FoundOrdered o) = IsStageOf o n
+  HasStage (Some n) (Ordered o) = IsStageOf o n
   HasStage stage verdict = Unit {0}
 
   -- it has not, but so many
   abbrev pub LacksStage : Option ℕ → OrderVerdict A → ℕ → Type 0
-  LacksStage (Some n) (FoundOrdered o) stages = (stages ≡ stages_in o) × (IsStageOf o n → ⊥)
+  LacksStage (Some n) (Ordered o) stages = (stages ≡ stages_in o) × (IsStageOf o n → ⊥)
   LacksStage stage verdict stages = ⊥
-
-  -- the plan after the stage, and a certificate of it, if one is asked for; or there is no order
-  abbrev pub IsStagedOf : Option ℕ → OrderVerdict A → Staged A → Type 0
-  IsStagedOf (Some n) (FoundOrdered o) (Ordered (Some (p, cert))) =
-      (p ≡ plan_before o n) × IsStageCert o n cert
-  IsStagedOf None (FoundOrdered o) (Ordered None) = Unit {0}
-  IsStagedOf stage (FoundNoOrder p before after) NoOrder = Unit {0}
-  IsStagedOf stage (NewUnsound findings) NoOrder = Unit {0}
-  IsStagedOf stage verdict staged = ⊥

@@ -30,5 +30,5 @@ pub use law::{
 };
 pub use orders::Order;
 pub use report::write_order;
-pub use staged::{Staged, missing_stage, stage_of};
+pub use staged::{missing_stage, stage_of};
 pub use switching::{Switching, order};

@@ -7,3 +7,4 @@ mod Joining
 mod Changing
 mod RevisedText
 mod DeclaredLines
+mod Ordering

@@ -1,6 +1,10 @@
 // The command `order`.
-ghost use Rattle.tx_requests.specs.Order.{OrderAnswers, order_prints, OrderEnds};
-ghost use Rattle.tx_requests.specs.TwoPlans.{ReadsPlans, AreJoined};
+ghost use Rattle.std.specs.Prelude.{is_some};
+ghost use Rattle.tx_plan.specs.Rules.{IsPlan};
+ghost use Rattle.tx_order.specs.Ordered.{plan_before};
+ghost use Rattle.tx_order.specs.Staged.{IsStageOf};
+ghost use Rattle.tx_requests.specs.Order.{OrderAnswers, order_prints, EndsAtStage, OrderEnds};
+ghost use Rattle.tx_requests.specs.TwoPlans.{ReadsPlans, AreJoined, IsSaid};
 
 use crate::ending::Ending;
 use crate::fault::CommandFault;
@@ -10,7 +14,7 @@ use crate::revising::text_if_asked;
 use crate::two_plans::{PlanText, TwoPlans, read_plans};
 use std::alloc::{Allocator, Global};
 use tx_commands::OrderRequest;
-use tx_order::{OrderVerdict, Staged, judge_order, missing_stage, stage_of, write_order};
+use tx_order::{Order, OrderVerdict, judge_order, missing_stage, stage_of, write_order};
 use tx_text::{NoMemory, Sink, Source, WriteFault};
 
 /// Two plans with their texts, and the order of switching from the one to the other over their
@@ -69,20 +73,37 @@ impl<A: Allocator + Copy> Request<A> for OrderRequest {
 
     fn end(&self, alloc: A, answer: Self::Answer) -> Result<Ending<A>, NoMemory> {
         let Switched { old, verdict, .. } = answer;
-        match stage_of(alloc, verdict, self.stage)? {
-            Staged::Ordered(Some((plan, cert))) => {
-                let text = text_if_asked(alloc, self.plan.is_some(), &old, &plan)?;
-                Ok(Ending {
-                    status: 0,
-                    made: Some(Made {
-                        shown: Shown::Plan(plan),
-                        text,
-                        cert: Some(cert),
-                    }),
-                })
-            }
-            Staged::Ordered(None) => Ok(Ending::of(0)),
-            Staged::NoOrder => Ok(Ending::of(1)),
+        match verdict {
+            OrderVerdict::Ordered(order) => match self.stage {
+                Some(stage) => end_at_stage(alloc, self, &old, order, stage),
+                None => Ok(Ending::of(0)),
+            },
+            OrderVerdict::NoOrder(..) | OrderVerdict::NewUnsound(_) => Ok(Ending::of(1)),
         }
     }
+}
+
+/// With the plan after a stage, and the certificate of the stage.
+fn end_at_stage<A: Allocator + Copy>(
+    alloc: A,
+    request: &OrderRequest,
+    old: &PlanText<A>,
+    order: Order<A>,
+    stage: u8,
+) -> Result<Ending<A>, NoMemory>
+    requires said { IsSaid old.now }
+    requires there { IsStageOf order stage }
+    requires rules { IsPlan (plan_before order stage) }
+    ensures { EndsAtStage (is_some request.now.plan) old.now order stage result }
+{
+    let (plan, cert) = stage_of(alloc, order, stage)?;
+    let text = text_if_asked(alloc, request.plan.is_some(), old, &plan)?;
+    Ok(Ending {
+        status: 0,
+        made: Some(Made {
+            shown: Shown::Plan(plan),
+            text,
+            cert: Some(cert),
+        }),
+    })
 }
