@@ -1,5 +1,6 @@
 pub mod Grammar
 pub mod Commands
 pub mod Files
+pub mod Clashes
 pub mod Faults
 pub mod inner

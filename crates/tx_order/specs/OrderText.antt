@@ -80,10 +80,3 @@ module _ {A : Type 0} where
       → OrderVerdict A → List ℕ
   order_report with_old old new limit spare verdict = asked_line (codes "ORDER") limit spare
       ++ (difference_text old new ++ verdict_text with_old new verdict)
-
--- a verdict that is right, whose report was written in part
-pub record OrderToldInPart (A : Type 0) (old new before after : Plan) (with_old : Bool)
-    (limit spare : ℕ) (out : Output) : Type 0 where
-  pub verdict : OrderVerdict A
-  pub right : IsRightVerdict before after new limit spare verdict
-  pub wrote : StopsIn out.old out.new (order_report with_old old new limit spare verdict)

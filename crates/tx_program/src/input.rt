@@ -56,7 +56,7 @@ fn open<F: Folder, I: Read + Drop>(
     match name {
         Some(STANDARD_INPUT) => match standard.take() {
             Some(input) => Ok(Some(Input::Standard(input))),
-            None => Err(Stop::Job(JobFault::Read)),
+            None => Err(Stop::from(JobFault::Read)),
         },
         Some(name) => match folder.open(name) {
             Ok(file) => Ok(Some(Input::File(file))),

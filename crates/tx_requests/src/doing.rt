@@ -1,0 +1,69 @@
+// All commands, behind one call.
+ghost use Rattle.std.specs.Prelude.{◌≢◌};
+ghost use Rattle.tx_text.specs.Calls.{CallsAtMost, source_calls};
+ghost use Rattle.tx_text.specs.Ends.{input};
+ghost use Rattle.tx_commands.specs.declared.command.Command.TheVariants.{Pipe};
+ghost use Rattle.tx_requests.specs.Doing.{IsDone};
+
+use crate::auditing::do_audit;
+use crate::carrying::carry_out;
+use crate::ending::Ending;
+use crate::fault::CommandFault;
+use crate::linting::do_lint;
+use crate::running::{do_run, do_telling};
+use std::alloc::Allocator;
+use tx_check::Verdict;
+use tx_commands::Command;
+use tx_jobs::{check_job, codes_job, pipe_job};
+use tx_text::{Sink, Source};
+
+/// Does what a command asks for: reads its texts, in the order in which its files are opened, writes
+/// what it prints, and answers its exit status and what goes into its files. `Err` is the first
+/// fault.
+pub fn do_command<A: Allocator + Copy, P: Source, Q: Source, R: Source, W: Sink>(
+    alloc: A,
+    command: &Command,
+    first: &mut P,
+    second: &mut Q,
+    third: &mut R,
+    out: &mut W,
+) -> Result<Ending<A>, CommandFault>
+    ensures done { IsDone P.rest P.failed P.called first.old first.new
+        (input Q.rest Q.failed Q.called second.old second.new)
+        (input R.rest R.failed R.called third.old third.new)
+        W.taken W.failed out.old out.new command.now result }
+    ensures first_calls { command.now ≢ Pipe
+        → CallsAtMost P.called source_calls first.old first.new }
+    ensures second_calls { CallsAtMost Q.called source_calls second.old second.new }
+    ensures third_calls { CallsAtMost R.called source_calls third.old third.new }
+{
+    match command {
+        Command::Pipe => {
+            pipe_job(alloc, first, out)?;
+            Ok(Ending::of(0))
+        }
+        Command::Run(request) => do_run(alloc, request, first, second, third, out),
+        Command::RunTelling(request) => do_telling(alloc, request, first, second, out),
+        Command::Check(request) => {
+            let (limit, spare) = (request.limits.limit, request.limits.spare);
+            let verdict = check_job(alloc, first, second, limit, spare, out)?;
+            Ok(Ending::of(u8::from(verdict != Verdict::Yes)))
+        }
+        Command::Codes(_) => {
+            let pair = codes_job(alloc, first, out)?;
+            Ok(Ending::of(u8::from(pair.is_some())))
+        }
+        Command::Audit(request) => do_audit(alloc, request, first, out),
+        Command::Lint(request) => do_lint(alloc, request, first, second, out),
+        Command::Change(request) => carry_out(alloc, request, first, second, third, out),
+        Command::Order(request) => carry_out(alloc, request, first, second, third, out),
+        Command::Mend(request) => carry_out(alloc, request, first, second, third, out),
+        Command::Survive(request) => carry_out(alloc, request, first, second, third, out),
+        Command::Page(request) => carry_out(alloc, request, first, second, third, out),
+        Command::Grade(request) => carry_out(alloc, request, first, second, third, out),
+        Command::Trace(request) => carry_out(alloc, request, first, second, third, out),
+        Command::TraceGroup(request) => carry_out(alloc, request, first, second, third, out),
+        Command::Fill(request) => carry_out(alloc, request, first, second, third, out),
+        Command::Explain(request) => carry_out(alloc, request, first, second, third, out),
+    }
+}

@@ -1,0 +1,53 @@
+// The command `grade`.
+ghost use Rattle.tx_plan.specs.Rules.{IsPlan};
+ghost use Rattle.tx_requests.specs.Reading.{ReadsPlan};
+ghost use Rattle.tx_requests.specs.Grade.{GradeAnswers, grade_prints, GradeEnds};
+
+use crate::ending::Ending;
+use crate::fault::CommandFault;
+use crate::reading::read_one;
+use crate::request::Request;
+use std::alloc::Allocator;
+use tx_commands::GradeRequest;
+use tx_plan::Plan;
+use tx_rank::{Grade, grade, write_grade};
+use tx_text::{Sink, Source, WriteFault};
+
+impl<A: Allocator + Copy> Request<A> for GradeRequest {
+    type Texts = Plan<A>;
+
+    type Answer = (Plan<A>, Grade<A>);
+
+    ghost reads = { λ _. ReadsPlan };
+
+    ghost fits = { IsPlan };
+
+    ghost answers = { λ _. GradeAnswers };
+
+    ghost prints = { λ _. grade_prints };
+
+    ghost ends = { λ _. GradeEnds };
+
+    fn read<P: Source, Q: Source, R: Source>(
+        &self,
+        alloc: A,
+        first: &mut P,
+        second: &mut Q,
+        third: &mut R,
+    ) -> Result<Self::Texts, CommandFault> {
+        read_one(alloc, first, second, third)
+    }
+
+    fn answer(&self, alloc: A, texts: Self::Texts) -> Result<Self::Answer, CommandFault> {
+        let grade = grade(alloc, &texts)?;
+        Ok((texts, grade))
+    }
+
+    fn print<W: Sink>(&self, answer: &Self::Answer, out: &mut W) -> Result<(), WriteFault> {
+        write_grade(&answer.0, &answer.1, out)
+    }
+
+    fn end(&self, _alloc: A, answer: Self::Answer) -> Result<Ending<A>, CommandFault> {
+        Ok(Ending::of(u8::from(answer.1.plan.is_none())))
+    }
+}
