@@ -11,3 +11,4 @@ mod LineKinds
 mod DeclaredLines
 mod Printed
 mod Ordering
+mod LintTold
