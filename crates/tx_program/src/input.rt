@@ -1,9 +1,9 @@
 // What a command reads.
 use crate::folder::Folder;
-use crate::stop::{Place, Stop};
+use crate::stop::Stop;
 use std::io;
 use std::io::Read;
-use tx_commands::STANDARD_INPUT;
+use tx_commands::{Place, STANDARD_INPUT};
 use tx_jobs::JobFault;
 
 /// What a command reads: standard input, or a file.

@@ -2,10 +2,11 @@
 use crate::ends::Output;
 use crate::folder::Folder;
 use crate::new_file::NewFile;
-use crate::stop::{Place, Stop};
+use crate::stop::Stop;
 use crate::targets::{Target, Targets};
 use std::alloc::Allocator;
 use std::io::Write;
+use tx_commands::Place;
 use tx_jobs::JobFault;
 use tx_requests::{Content, Made, write_content};
 

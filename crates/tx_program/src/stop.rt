@@ -7,31 +7,11 @@ ghost use Rattle.tx_requests.specs.declared.fault.CommandFault.TheVariants.{Job 
 use crate::kind::TextKind;
 use std::alloc::Allocator;
 use std::io;
-use tx_commands::{Command, Files, FillRequest, PageRequest, STANDARD_INPUT, TraceRequest};
+use tx_commands::{Command, FillRequest, PageRequest, Place, STANDARD_INPUT, TraceRequest};
 use tx_jobs::{JobFault, write_fault};
 use tx_lint::write_escaped;
 use tx_requests::{CommandFault, write_command_fault};
 use tx_text::{Sink, WriteFault, finish, put_bytes, put_parts};
-
-/// A file of a command, by its place among those that it reads or makes, or standard output.
-#[derive(Clone, Copy)]
-pub(crate) enum Place {
-    Read(usize),
-    Made(usize),
-    Output,
-}
-
-impl Place {
-    /// Its name.
-    fn name<'n>(self, files: &Files<'n>) -> &'n str {
-        let name = match self {
-            Place::Read(index) => files.reads.get(index).copied().flatten(),
-            Place::Made(index) => files.makes().get(index).copied().flatten(),
-            Place::Output => None,
-        };
-        name.unwrap_or("standard output")
-    }
-}
 
 /// Why the program stopped before a command was done.
 #[derive(Drop)]

@@ -11,3 +11,5 @@ mod LineKinds
 mod DeclaredLines
 mod Printed
 mod Ordering
+mod LintTold
+mod MendedText

@@ -32,7 +32,6 @@ use Rattle.tx_requests.specs.Runs.{IsRunDone}
 use Rattle.tx_requests.specs.Survive.{SurviveAnswers, survive_prints, SurviveEnds}
 use Rattle.tx_requests.specs.Trace.{TraceAnswers, trace_prints}
 use Rattle.tx_requests.specs.TwoPlans.{ReadsPlans}
-use Rattle.tx_requests.specs.TwoPlans.{ReadsPlans}
 
 module _ {P W : Type 0} (rest : P → Option (List ℕ)) (failed : P → Bool)
     (called : ℕ → Result ℕ ReadFault → P → P → Type 0) (old new : P) (second third : Input)

@@ -1,5 +1,4 @@
 // The command `audit`.
-ghost use Rattle.std.specs.Prelude.{◌≡◌, is_some};
 ghost use Rattle.std.specs.List.{AllByRecursion};
 ghost use Rattle.tx_text.specs.Calls.{CallsAtMost, source_calls};
 ghost use Rattle.tx_text.specs.Ends.{input, output};
@@ -16,7 +15,7 @@ use std::alloc::Allocator;
 use tx_audit::{Audited, first_counter};
 use tx_commands::AuditRequest;
 use tx_jobs::audit_job;
-use tx_plan::Plan;
+use tx_plan::{Limits, Plan};
 use tx_rank::Finding;
 use tx_text::{Sink, Source};
 
@@ -56,26 +55,28 @@ fn end_audit<A: Allocator + Copy>(
                 cert: Some(cert),
             }),
         }),
-        Audited::Unsound(plan, findings) => end_after_no(alloc, request, plan, &findings),
+        Audited::Unsound(plan, findings) => {
+            let asked = request.counter.is_some();
+            end_after_no(alloc, asked, plan, &findings, request.limits)
+        }
     }
 }
 
 /// After a No the script of the first finding that has one, if it is asked for.
 fn end_after_no<A: Allocator + Copy>(
     alloc: A,
-    request: &AuditRequest,
+    asked: bool,
     plan: Plan<A>,
     findings: &[Finding<A>],
+    limits: Limits,
 ) -> Result<Ending<A>, CommandFault>
-    requires { AllByRecursion (IsTrueOf plan request.now.limits.limit request.now.limits.spare)
-        findings.now }
-    ensures { EndsAfterNo (is_some request.now.counter) plan request.now.limits.limit
-        request.now.limits.spare findings.now result }
+    requires { AllByRecursion (IsTrueOf plan limits.limit limits.spare) findings.now }
+    ensures { EndsAfterNo asked plan limits.limit limits.spare findings.now result }
 {
-    if request.counter.is_none() {
+    if !asked {
         return Ok(Ending::of(1));
     }
-    match first_counter(alloc, &plan, findings, request.limits)? {
+    match first_counter(alloc, &plan, findings, limits)? {
         Some(events) => Ok(Ending {
             status: 1,
             made: Some(Made {

@@ -10,11 +10,9 @@ use crate::carrying::carry_out;
 use crate::ending::Ending;
 use crate::fault::CommandFault;
 use crate::linting::do_lint;
-use crate::running::{do_run, do_telling};
+use crate::running::{do_check, do_codes, do_pipe, do_run, do_telling};
 use std::alloc::Allocator;
-use tx_check::Verdict;
 use tx_commands::Command;
-use tx_jobs::{check_job, codes_job, pipe_job};
 use tx_text::{Sink, Source};
 
 /// Does what a command asks for: reads its texts, in the order in which its files are opened, writes
@@ -38,21 +36,11 @@ pub fn do_command<A: Allocator + Copy, P: Source, Q: Source, R: Source, W: Sink>
     ensures third_calls { CallsAtMost R.called source_calls third.old third.new }
 {
     match command {
-        Command::Pipe => {
-            pipe_job(alloc, first, out)?;
-            Ok(Ending::of(0))
-        }
+        Command::Pipe => do_pipe(alloc, first, out),
         Command::Run(request) => do_run(alloc, request, first, second, third, out),
         Command::RunTelling(request) => do_telling(alloc, request, first, second, out),
-        Command::Check(request) => {
-            let (limit, spare) = (request.limits.limit, request.limits.spare);
-            let verdict = check_job(alloc, first, second, limit, spare, out)?;
-            Ok(Ending::of(u8::from(verdict != Verdict::Yes)))
-        }
-        Command::Codes(_) => {
-            let pair = codes_job(alloc, first, out)?;
-            Ok(Ending::of(u8::from(pair.is_some())))
-        }
+        Command::Check(request) => do_check(alloc, request, first, second, out),
+        Command::Codes(_) => do_codes(alloc, first, out),
         Command::Audit(request) => do_audit(alloc, request, first, out),
         Command::Lint(request) => do_lint(alloc, request, first, second, out),
         Command::Change(request) => carry_out(alloc, request, first, second, third, out),

@@ -30,12 +30,11 @@ pub(crate) fn do_lint<A: Allocator + Copy, P: Source, R: Source, W: Sink>(
     ensures risks_calls { CallsAtMost R.called source_calls risks.old risks.new }
 {
     let file = request.plan.as_bytes();
-    let status = if request.risks.is_some() {
-        lint_with_risks(alloc, plan, file, risks, out)?
+    if request.risks.is_some() {
+        Ok(Ending::of(lint_with_risks(alloc, plan, file, risks, out)?))
     } else {
-        lint_whole(alloc, plan, file, out)?
-    };
-    Ok(Ending::of(status))
+        Ok(Ending::of(lint_whole(alloc, plan, file, out)?))
+    }
 }
 
 /// Reads a plan's text to its end, and writes all its faults; or where it has none, the warnings of

@@ -1,5 +1,5 @@
 -- The nodes, as one code of a plan after another is put in.
-use Rattle.std.proofs.Common.{◌≡◌, ◌≢◌, ℕ, ◌+◌, ◌<◌, ◌==◌, Bool, true, false, ◌⊎◌, List, [], ◌∷◌, ◌++◌, take, map, length, length-set, get_or, replicate, Option, Some, None, refl, ap, sym, ◌∙◌, subst, inl, inr, eqb-true, arith}
+use Rattle.std.proofs.Common.{◌≡◌, ◌≢◌, ℕ, ◌+◌, ◌<◌, ◌≤◌, ◌==◌, Bool, true, false, ◌⊎◌, List, [], ◌∷◌, ◌++◌, take, map, length, length-set, get_or, replicate, Option, Some, None, option_map, refl, ap, sym, ◌∙◌, subst, inl, inr, eqb-true, arith}
 use Rattle.std.proofs.lemmas.Bool.{eqb-false, cases_lt}
 use Rattle.std.proofs.lemmas.List.{length-replicate, get_or-replicate, get_or_past, get_or-set_same, get_or-set_other, map_push, take_all}
 use Rattle.std.proofs.lemmas.Option.{same_Some, slice_get_within}
@@ -21,6 +21,10 @@ pub rows_more : (p : Plan) (n : ℕ) → n < length p.codes → (rows new : List
     → map code_of_row new ≡ take (n + 1) p.codes
 rows_more p n within rows new figures home are push f h =
     ap (map code_of_row) push ∙ map_push code_of_row rows (figures, home) ∙ (λ k. are k ++ record { figures = f k; home = h k } ∷ []) ∙ sym (take_next p.codes n _ (code_is p n within))
+
+pub is_none : {A : Type 0} (P : Option A → Type 0) → ((a : A) → P (Some a) → ⊥) → (o : Option A) → P o → o ≡ None
+is_none P never None h = refl
+is_none P never (Some a) h = absurd (never a h)
 
 pub no_code : (codes : List Code) (nodes : List (Option ℕ)) → nodes ≡ replicate 2000 None → length nodes ≡ 2000 → AreFirst codes 0 nodes
 no_code codes nodes bare long = record {

@@ -101,6 +101,7 @@ front text (three a b c f g h) k = record { code = two a b f g; at = omega arith
 pub begins_longer : (s t : List ℕ) → IsSpelled s → IsSpelled t → (is_prefix s t && nat_lt (length s) (length t)) ≡ true → (s ≡ take 2 t) × (1000 ≤ node_of t)
 begins_longer s t (two a b f g) (three x y z k l m) h =
     (prefix_is_take (a ∷ b ∷ []) (x ∷ y ∷ z ∷ []) (and_parts (is_prefix (a ∷ b ∷ []) (x ∷ y ∷ z ∷ [])) true h).0, omega arith)
+begins_longer s t (three a b c f g k) (two x y l m) h = absurd (false≢true (and_parts (is_prefix s t) (nat_lt (length s) (length t)) h).1)
 begins_longer s t u v h = absurd (false≢true (and_parts (is_prefix s t) (nat_lt (length s) (length t)) h).1)
 
 -- what decides the order of two texts

@@ -16,8 +16,8 @@ index-requires g c =
     let known = c.self.inside.nodes.ok.0 in
     omega arith
 
-pub index-requires-2 : goal.index-requires-2
-index-requires-2 g c =
+pub index-requires-in-loop-node : goal.index-requires-in-loop-node
+index-requires-in-loop-node g c =
     let long = c.self.invariant.all.long in
     let known = c.self.inside.nodes.ok.0 in
     omega arith
@@ -27,7 +27,7 @@ loop-node-preserved g c =
     let codes = map code_of_row c.self.inside.codes.items in
     let nodes = c.self.inside.nodes.items in
     let m = c.loop-node.node in
-    let pair = c.zip-pair.ensures ∙ read_both codes nodes c.self.invariant m (omega arith) c.index.result.now c.index-2.result.now c.index.ensures c.index-2.ensures in
+    let pair = c.zip-pair.ensures ∙ read_both codes nodes c.self.invariant m (omega arith) c.index.result.now c.index-in-loop-node.result.now c.index.ensures c.index-in-loop-node.ensures in
     subst (λ l. AreFrom l (m + 1)) c.self.view_is (none_there codes nodes c.self.invariant m
     (subst (λ l. AreFrom l m) (sym c.self.view_is) c.loop-node.invariant) (ap is_some (sym pair) ∙ sym c.is_some.ensures ∙ c.if-is_some.false))
 
@@ -36,7 +36,7 @@ returns-then-is_some g c =
     let codes = map code_of_row c.self.inside.codes.items in
     let nodes = c.self.inside.nodes.items in
     let m = c.loop-node.node in
-    let pair = c.zip-pair.ensures ∙ read_both codes nodes c.self.invariant m (omega arith) c.index.result.now c.index-2.result.now c.index.ensures c.index-2.ensures in
+    let pair = c.zip-pair.ensures ∙ read_both codes nodes c.self.invariant m (omega arith) c.index.result.now c.index-in-loop-node.result.now c.index.ensures c.index-in-loop-node.ensures in
     pair ∙ paired codes nodes c.self.invariant m (omega arith)
     (subst (λ l. AreFrom l m) (sym c.self.view_is) c.loop-node.invariant) (ap is_some (sym pair) ∙ sym c.is_some.ensures ∙ c.if-is_some.true)
     ∙ ap ambiguous_of c.self.view_is
