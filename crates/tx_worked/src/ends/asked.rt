@@ -1,31 +1,10 @@
-// What words ask for.
+// What words give to a command.
 use crate::cases::Log;
 use tx_commands::{
     AuditRequest, ChangeRequest, CheckRequest, Command, FillRequest, MendRequest, OrderRequest,
     PageRequest, RunRequest, TraceRequest,
 };
 use tx_plan::Limits;
-
-/// The name of a command.
-fn name_of(command: &Command) -> &'static str {
-    match command {
-        Command::Pipe => "no command",
-        Command::Run(_) | Command::RunTelling(_) => "run",
-        Command::Check(_) => "check",
-        Command::Lint(_) => "lint",
-        Command::Codes(_) => "codes",
-        Command::Audit(_) => "audit",
-        Command::Change(_) => "change",
-        Command::Order(_) => "order",
-        Command::Mend(_) => "mend",
-        Command::Survive(_) => "survive",
-        Command::Page(_) => "page",
-        Command::Grade(_) => "grade",
-        Command::Trace(_) | Command::TraceGroup(_) => "trace",
-        Command::Fill(_) => "fill",
-        Command::Explain(_) => "explain",
-    }
-}
 
 /// The limits that a command has.
 fn limits_of(command: &Command) -> Option<Limits> {
@@ -105,10 +84,9 @@ fn tell_more(command: &Command, log: &Log) {
     }
 }
 
-/// Tells all of what words ask for: the command, its limits and what else it is given, and the files
-/// that it reads and makes, in order.
+/// Tells what a command is given by words: its limits, what else there is, and the files that it
+/// reads and makes, in order.
 pub(crate) fn tell_command(command: &Command, log: &Log) {
-    log.tell("asks for", name_of(command));
     if let Some(limits) = limits_of(command) {
         log.tell_number("limit", u64::from(limits.limit));
         log.tell_number("spare", u64::from(limits.spare));

@@ -100,7 +100,7 @@ fn run_refused(
     Some(refusing.has_refused())
 }
 
-/// Reads the words of a case, and tells all of what they ask for, or why they ask for nothing.
+/// Reads the words of a case, and tells what they give to a command, or why they ask for none.
 fn read(rt: &HostRuntime, case: &EndCase<'_>, log: &Log) {
     let read = read_command(rt.alloc(), case.words.as_slice());
     match &read {
