@@ -113,17 +113,9 @@ impl Log {
 
     /// Whether two logs tell the same.
     pub fn is_as(&self, other: &Log) -> bool {
-        match self.lines.try_borrow() {
-            Ok(lines) => other.tells(lines.text.as_slice()),
-            Err(_) => false,
-        }
-    }
-
-    /// Whether a log tells this.
-    fn tells(&self, text: &[u8]) -> bool {
-        match self.lines.try_borrow() {
-            Ok(lines) => lines.text.as_slice() == text,
-            Err(_) => false,
+        match (self.lines.try_borrow(), other.lines.try_borrow()) {
+            (Ok(lines), Ok(others)) => lines.text.as_slice() == others.text.as_slice(),
+            _ => false,
         }
     }
 

@@ -1,8 +1,8 @@
 // What words give to a command.
 use crate::cases::Log;
 use tx_commands::{
-    AuditRequest, ChangeRequest, CheckRequest, Command, FillRequest, MendRequest, OrderRequest,
-    PageRequest, RunRequest, TraceRequest,
+    AuditRequest, ChangeRequest, CheckRequest, Command, MendRequest, OrderRequest, PageRequest,
+    RunRequest,
 };
 use tx_plan::Limits;
 
@@ -39,6 +39,13 @@ fn tell_flag(what: &str, is_given: bool, log: &Log) {
     }
 }
 
+/// Tells which calls a command is about.
+fn tell_calls(exchange: &str, code: &str, down: Option<&str>, log: &Log) {
+    log.tell("exchange", exchange);
+    log.tell("code", code);
+    tell_word("down", down, log);
+}
+
 /// Tells what a command is given beside its limits and its files.
 fn tell_more(command: &Command, log: &Log) {
     match command {
@@ -58,25 +65,13 @@ fn tell_more(command: &Command, log: &Log) {
             tell_flag("totals", request.totals, log);
         }
         Command::Page(request) => tell_word("code", request.code.as_deref(), log),
-        Command::Trace(
-            TraceRequest {
-                exchange,
-                code,
-                down,
-                ..
-            },
-        )
-        | Command::Fill(
-            FillRequest {
-                exchange,
-                code,
-                down,
-                ..
-            },
-        ) => {
-            log.tell("exchange", exchange);
-            log.tell("code", code);
-            tell_word("down", down.as_deref(), log);
+        Command::Trace(request) => {
+            let down = request.down.as_deref();
+            tell_calls(&request.exchange, &request.code, down, log)
+        }
+        Command::Fill(request) => {
+            let down = request.down.as_deref();
+            tell_calls(&request.exchange, &request.code, down, log)
         }
         Command::TraceGroup(request) => log.tell("group", &request.group),
         Command::Explain(request) => tell_word("line", request.line.as_deref(), log),
