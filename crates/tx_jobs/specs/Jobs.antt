@@ -51,12 +51,6 @@ pub record PlanRefused {X : Type 0} (text : Input)
   pub told : result ≡ Err (plan_fault fault)
   pub rest : untouched
 
--- the text was written, or a front of it before the sink failed
-abbrev pub ToldText : List ℕ → Output → Result (Unit {0}) JobFault → Type 0
-ToldText text out (Ok x) = out.new ≡ append_known out.old text
-ToldText text out (Err Write) = StopsIn out.old out.new text
-ToldText text out (Err other) = ⊥
-
 -- `run PLAN SCRIPT`
 abbrev pub RunJobAnswers : (plan script : Input) → Output → Result Summary JobFault → Type 0
 RunJobAnswers plan script out result = PlanRead plan (λ p. ScriptRan p script out result)

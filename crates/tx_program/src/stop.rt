@@ -7,7 +7,7 @@ ghost use Rattle.tx_requests.specs.declared.fault.CommandFault.TheVariants.{Job 
 use crate::kind::TextKind;
 use std::alloc::Allocator;
 use std::io;
-use tx_commands::{Command, FillRequest, PageRequest, Place, STANDARD_INPUT, TraceRequest};
+use tx_commands::{Command, FillRequest, Place, STANDARD_INPUT, TraceRequest};
 use tx_jobs::{JobFault, write_fault};
 use tx_lint::write_escaped;
 use tx_requests::{CommandFault, write_command_fault};
@@ -117,57 +117,54 @@ fn write_with_word<W: Sink>(
     command: &Command,
     sink: &mut W,
 ) -> Result<(), WriteFault> {
-    match (fault, command) {
-        (
-            CommandFault::NoSuchExchange,
-            Command::Trace(TraceRequest { exchange, .. })
-            | Command::Fill(FillRequest { exchange, .. }),
-        ) => write_word(b"telexplan: no such exchange in the plan: ", exchange, sink),
-        (
-            CommandFault::NoSuchCode,
-            Command::Trace(TraceRequest { code, .. })
-            | Command::Fill(FillRequest { code, .. })
-            | Command::Page(
-                PageRequest {
-                    code: Some(code),
-                    ..
-                },
-            ),
-        ) => write_word(b"telexplan: no such code in the plan: ", code, sink),
-        (
-            CommandFault::NoSuchGroup(place),
-            Command::Trace(
-                TraceRequest {
-                    down: Some(names),
-                    ..
-                },
-            )
-            | Command::Fill(
-                FillRequest {
-                    down: Some(names),
-                    ..
-                },
-            ),
-        ) => {
-            let name = names.split(',').nth(*place).unwrap_or(names);
-            write_word(b"telexplan: no such group in the plan: ", name, sink)
-        }
-        (CommandFault::NoSuchGroup(_), Command::TraceGroup(request)) => {
-            write_word(
-                b"telexplan: no such group in the plan: ",
-                &request.group,
-                sink,
-            )
-        }
-        _ => write_command_fault(fault, sink),
-    }
-}
-
-fn write_word<W: Sink>(why: &[u8], word: &str, sink: &mut W) -> Result<(), WriteFault> {
-    put_bytes(why, sink);
+    let (what, word) = match fault {
+        CommandFault::NoSuchExchange => ("exchange", exchange_asked(command)),
+        CommandFault::NoSuchCode => ("code", code_asked(command)),
+        CommandFault::NoSuchGroup(place) => ("group", group_asked(command, *place)),
+        _ => ("", None),
+    };
+    let Some(word) = word else {
+        return write_command_fault(fault, sink);
+    };
+    put_parts(
+        &[b"telexplan: no such ", what.as_bytes(), b" in the plan: "],
+        sink,
+    );
     write_escaped(word.as_bytes(), sink);
     put_bytes(b"\n", sink);
     finish(sink)
+}
+
+/// The name of the exchange that a command asks for.
+fn exchange_asked(command: &Command) -> Option<&str> {
+    match command {
+        Command::Trace(TraceRequest { exchange, .. })
+        | Command::Fill(FillRequest { exchange, .. }) => Some(exchange.as_str()),
+        _ => None,
+    }
+}
+
+/// The figures of the code that it asks for.
+fn code_asked(command: &Command) -> Option<&str> {
+    match command {
+        Command::Trace(TraceRequest { code, .. }) | Command::Fill(FillRequest { code, .. }) => {
+            Some(code.as_str())
+        }
+        Command::Page(request) => request.code.as_deref(),
+        _ => None,
+    }
+}
+
+/// The name of a group that it asks for, by its place among these.
+fn group_asked(command: &Command, place: usize) -> Option<&str> {
+    match command {
+        Command::Trace(TraceRequest { down, .. }) | Command::Fill(FillRequest { down, .. }) => {
+            let names = down.as_deref()?;
+            Some(names.split(',').nth(place).unwrap_or(names))
+        }
+        Command::TraceGroup(request) => Some(request.group.as_str()),
+        _ => None,
+    }
 }
 
 /// Writes which end failed, and what the system said, unless there is no memory for that.

@@ -11,7 +11,7 @@ use Rattle.tx_requests.specs.declared.fault.CommandFault.{CommandFault}
 use Rattle.tx_requests.specs.declared.two_plans.PlanText.{PlanText}
 use Rattle.tx_requests.specs.declared.two_plans.TwoPlans.{TwoPlans}
 use Rattle.tx_requests.specs.Faults.{text_stop}
-use Rattle.tx_requests.specs.TwoPlans.{IsSaid, SaysWhole, NotWhole, IsJoin, IsNoJoinOf, AreJoined, ReadsBoth}
+use Rattle.tx_requests.specs.TwoPlans.{IsSaid, SaysWhole, NotWhole, IsJoin, IsNoJoinOf, AreJoined, ReadsPlans}
 
 -- why a text was not read to its end
 pub not_whole : (input : Input) (f : WholeTextFault) → (f ≡ TextRead → input.broken) → NotWhole input (text_stop f)
@@ -24,7 +24,7 @@ same_network p q j h = h.network.same
 
 -- plans that were read and joined, or are not joined
 pub plans_read : {A : Type 0} (old new : Input) (o n : PlanText A) (r : Result (TwoPlans A) CommandFault) → SaysWhole old o → SaysWhole new n
-    → IfOk r (λ t. (t.old ≡ o) × (t.new ≡ n) × IsJoin o.plan n.plan t.joined) → IfErr r (IsNoJoinOf o n) → ReadsBoth old new r
+    → IfOk r (λ t. (t.old ≡ o) × (t.new ≡ n) × IsJoin o.plan n.plan t.joined) → IfErr r (IsNoJoinOf o n) → ReadsPlans old new r
 plans_read {A} old new o n (Ok t) a b j e = (
   subst (SaysWhole old) (sym j.0) a,
   subst (SaysWhole new) (sym j.1) b,

@@ -12,4 +12,3 @@ mod DeclaredLines
 mod Printed
 mod Ordering
 mod LintTold
-mod MendedText

@@ -1,5 +1,5 @@
 -- What a command comes to over its texts.
-use Rattle.std.specs.Prelude.{ℕ, Bool, List, Option, is_some, Result}
+use Rattle.std.specs.Prelude.{◌≡◌, ℕ, Bool, List, Option, is_some, Result, Ok}
 use Rattle.tx_text.specs.declared.source.ReadFault.{ReadFault}
 use Rattle.tx_text.specs.Ends.{Input, Output, input, output}
 use Rattle.tx_commands.specs.declared.command.Command.{Command}
@@ -12,6 +12,7 @@ use Rattle.tx_jobs.specs.PipeJobs.{PipeJobAnswers}
 use Rattle.tx_jobs.specs.TellingJobs.{TellingJobAnswers}
 use Rattle.tx_requests.specs.declared.ending.Ending.{Ending}
 use Rattle.tx_requests.specs.declared.fault.CommandFault.{CommandFault}
+use Rattle.tx_requests.specs.declared.two_plans.Which.TheVariants.{This}
 use Rattle.tx_requests.specs.Audit.{AuditEnds}
 use Rattle.tx_requests.specs.Carried.{IsCarriedOut}
 use Rattle.tx_requests.specs.Change.{ChangeAnswers, change_prints, ChangeEnds}
@@ -23,15 +24,15 @@ use Rattle.tx_requests.specs.Group.{GroupAnswers, group_prints}
 use Rattle.tx_requests.specs.Lint.{IsLinted}
 use Rattle.tx_requests.specs.Printing.{Printing}
 use Rattle.tx_requests.specs.Jobs.{IsJobDone, verdict_status, pair_status, strict_status}
-use Rattle.tx_requests.specs.Mend.{ReadsText, MendAnswers, mend_prints, MendEnds}
+use Rattle.tx_requests.specs.Mend.{MendAnswers, mend_prints, MendEnds}
 use Rattle.tx_requests.specs.Order.{OrderAnswers, order_prints, OrderEnds}
 use Rattle.tx_requests.specs.Page.{PageAnswers, PagePrints, PageEnds}
 use Rattle.tx_requests.specs.PageReading.{ReadsForPage}
-use Rattle.tx_requests.specs.Reading.{ReadsNothing, ReadsPlan, ReadsWithRisks}
+use Rattle.tx_requests.specs.Reading.{ReadsPlan, ReadsWithRisks}
 use Rattle.tx_requests.specs.Runs.{IsRunDone}
 use Rattle.tx_requests.specs.Survive.{SurviveAnswers, survive_prints, SurviveEnds}
 use Rattle.tx_requests.specs.Trace.{TraceAnswers, trace_prints}
-use Rattle.tx_requests.specs.TwoPlans.{ReadsPlans}
+use Rattle.tx_requests.specs.TwoPlans.{ReadsWhole, ReadsPlans}
 
 module _ {P W : Type 0} (rest : P → Option (List ℕ)) (failed : P → Bool)
     (called : ℕ → Result ℕ ReadFault → P → P → Type 0) (old new : P) (second third : Input)
@@ -50,13 +51,14 @@ module _ {P W : Type 0} (rest : P → Option (List ℕ)) (failed : P → Bool)
     abbrev pub ByJob : Result (Ending A) CommandFault → Type 0
     ByJob result = IsJobDone answers ends (marked before) (marked after) result
 
-  module _ {C T N : Type 0} (reads : C → Input → Input → Input → Result T CommandFault → Type 0)
+  module _ {C T N : Type 0} (reads : Result T CommandFault → Type 0)
       (answers : C → T → Result N CommandFault → Type 0) (prints : C → N → Printing)
       (ends : C → N → Result (Ending A) CommandFault → Type 0) where
-    -- the request was carried out
-    abbrev pub ByRequest : C → Result (Ending A) CommandFault → Type 0
-    ByRequest request result = IsCarriedOut reads answers prints ends request first second third
-        taken marked before after result
+    -- its texts were read, and the request was carried out over them
+    pub record ByRequest (request : C) (result : Result (Ending A) CommandFault) : Type 0 where
+      pub texts : Result T CommandFault
+      pub read : reads texts
+      pub carried : IsCarriedOut answers prints ends request taken marked before after texts result
 
   -- each command by its job, or as a request
   abbrev pub IsDone : Command → Result (Ending A) CommandFault → Type 0
@@ -77,24 +79,32 @@ module _ {P W : Type 0} (rest : P → Option (List ℕ)) (failed : P → Bool)
   IsDone (Lint r) result =
       IsLinted r first second out (marked before) (marked after) result × third.unread
   IsDone (Change r) result =
-      ByRequest (λ r. ReadsPlans) ChangeAnswers change_prints ChangeEnds r result
+      ByRequest (ReadsPlans first second) ChangeAnswers change_prints ChangeEnds r result
+      × third.unread
   IsDone (Order r) result =
-      ByRequest (λ r. ReadsPlans) OrderAnswers order_prints OrderEnds r result
+      ByRequest (ReadsPlans first second) OrderAnswers order_prints OrderEnds r result
+      × third.unread
   IsDone (Mend r) result =
-      ByRequest (λ r. ReadsText) MendAnswers mend_prints MendEnds r result
+      ByRequest (ReadsWhole This first) MendAnswers mend_prints MendEnds r result
+      × second.unread × third.unread
   IsDone (Survive r) result =
-      ByRequest (λ r. ReadsWithRisks (is_some r.risks)) SurviveAnswers survive_prints
-      (λ r. SurviveEnds) r result
+      ByRequest (ReadsWithRisks (is_some r.risks) first second) SurviveAnswers survive_prints
+      (λ r. SurviveEnds) r result × third.unread
   IsDone (Page r) result =
-      ByRequest (λ r. ReadsForPage (is_some r.risks) (is_some r.old)) PageAnswers PagePrints
-      (λ r. PageEnds) r result
+      ByRequest (ReadsForPage (is_some r.risks) (is_some r.old) first second third) PageAnswers
+      PagePrints (λ r. PageEnds) r result
   IsDone (Grade r) result =
-      ByRequest (λ r. ReadsPlan) (λ r. GradeAnswers) (λ r. grade_prints) (λ r. GradeEnds) r result
+      ByRequest (ReadsPlan first) (λ r. GradeAnswers) (λ r. grade_prints) (λ r. GradeEnds) r result
+      × second.unread × third.unread
   IsDone (Trace r) result =
-      ByRequest (λ r. ReadsPlan) TraceAnswers (λ r. trace_prints) (λ r. EndsWell) r result
+      ByRequest (ReadsPlan first) TraceAnswers (λ r. trace_prints) (λ r. EndsWell) r result
+      × second.unread × third.unread
   IsDone (TraceGroup r) result =
-      ByRequest (λ r. ReadsPlan) GroupAnswers (λ r. group_prints) (λ r. EndsWell) r result
+      ByRequest (ReadsPlan first) GroupAnswers (λ r. group_prints) (λ r. EndsWell) r result
+      × second.unread × third.unread
   IsDone (Fill r) result =
-      ByRequest (λ r. ReadsPlan) FillAnswers (λ r. fill_prints) (λ r. EndsWell) r result
+      ByRequest (ReadsPlan first) FillAnswers (λ r. fill_prints) (λ r. EndsWell) r result
+      × second.unread × third.unread
   IsDone (Explain r) result =
-      ByRequest (λ r. ReadsNothing) (λ r. ExplainAnswers) explain_prints (λ r. EndsWell) r result
+      ByRequest (λ texts. texts ≡ Ok tt) (λ r. ExplainAnswers) explain_prints (λ r. EndsWell) r
+      result × first.unread × second.unread × third.unread

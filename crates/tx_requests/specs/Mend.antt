@@ -1,6 +1,5 @@
 -- The command `mend`.
 use Rattle.std.specs.Prelude.{◌≡◌, ℕ, Bool, List, Option, None, Some, is_some, Result, Ok, Err, Vec}
-use Rattle.tx_text.specs.Ends.{Input}
 use Rattle.tx_cert.specs.Certificate.{Certificate}
 use Rattle.tx_mend.specs.declared.mending.Mending.{Mending}
 use Rattle.tx_mend.specs.declared.mending.Mending.TheVariants.{Mended, NoRouting}
@@ -12,23 +11,12 @@ use Rattle.tx_requests.specs.declared.ending.Ending.{Ending}
 use Rattle.tx_requests.specs.declared.fault.CommandFault.{CommandFault}
 use Rattle.tx_requests.specs.declared.made.Made.{Made}
 use Rattle.tx_requests.specs.declared.two_plans.PlanText.{PlanText}
-use Rattle.tx_requests.specs.declared.two_plans.Which.TheVariants.{This}
 use Rattle.tx_requests.specs.Ending.{EndsWith}
-use Rattle.tx_requests.specs.Faults.{memory_stop, in_plan}
+use Rattle.tx_requests.specs.Faults.{memory_stop}
 use Rattle.tx_requests.specs.Made.{shown_plan, shown_events, plan_file, HasTextIf}
 use Rattle.tx_requests.specs.Printing.{Printing, Writes}
-use Rattle.tx_requests.specs.TwoPlans.{SaysWhole, GivesNoPlan}
 
 module _ {A : Type 0} where
-  -- the plan of the first text, which is read to its end
-  abbrev pub ReadsWhole : Input → Result (PlanText A) CommandFault → Type 0
-  ReadsWhole first (Ok t) = SaysWhole first t
-  ReadsWhole first (Err fault) = GivesNoPlan (in_plan This) first fault
-
-  -- it, and nothing of the others
-  abbrev pub ReadsText : (first second third : Input) → Result (PlanText A) CommandFault → Type 0
-  ReadsText first second third result = ReadsWhole first result × second.unread × third.unread
-
   -- the text, and the mending of its plan
   abbrev pub MendAnswers : MendRequest → PlanText A → Result (Vec ℕ A × Mending A) CommandFault
       → Type 0

@@ -21,6 +21,7 @@ use Rattle.tx_join.specs.Laws.{AreOverBoth, HaveTheirLists}
 use Rattle.tx_jobs.specs.declared.job_fault.JobFault.TheVariants.{Read, NoMemory}
 use Rattle.tx_requests.specs.declared.two_plans.PlanText.{PlanText}
 use Rattle.tx_requests.specs.declared.two_plans.TwoPlans.{TwoPlans}
+use Rattle.tx_requests.specs.declared.two_plans.Which.{Which}
 use Rattle.tx_requests.specs.declared.two_plans.Which.TheVariants.{Old, New}
 use Rattle.tx_requests.specs.declared.fault.CommandFault.{CommandFault}
 use Rattle.tx_requests.specs.declared.fault.CommandFault.TheVariants.{Job, Contradiction, TooManyTogether}
@@ -60,6 +61,11 @@ module _ {A : Type 0} where
   pub record SaysWhole (input : Input) (t : PlanText A) : Type 0 where
     pub whole : IsWholeText input.old input.new t.text.items
     pub said : IsSaid t
+
+  -- the plan of a text, which is read to its end
+  abbrev pub ReadsWhole : Which → Input → Result (PlanText A) CommandFault → Type 0
+  ReadsWhole which input (Ok t) = SaysWhole input t
+  ReadsWhole which input (Err fault) = GivesNoPlan (in_plan which) input fault
 
   -- two plans over their joined network
   pub record IsJoin (p q : Plan) (j : Joined A) : Type 0 where
@@ -111,10 +117,6 @@ module _ {A : Type 0} where
       ⊎ (LacksNew old new fault ⊎ AreRefused old new fault)
 
   -- the plans of the first two texts, joined
-  abbrev pub ReadsBoth : (old new : Input) → Result (TwoPlans A) CommandFault → Type 0
-  ReadsBoth old new (Ok t) = SaysWhole old t.old × SaysWhole new t.new × IsJoin t.old.plan t.new.plan t.joined
-  ReadsBoth old new (Err fault) = AreNotJoined old new fault
-
-  -- they, and nothing of the third
-  abbrev pub ReadsPlans : (old new third : Input) → Result (TwoPlans A) CommandFault → Type 0
-  ReadsPlans old new third result = ReadsBoth old new result × third.unread
+  abbrev pub ReadsPlans : (old new : Input) → Result (TwoPlans A) CommandFault → Type 0
+  ReadsPlans old new (Ok t) = SaysWhole old t.old × SaysWhole new t.new × IsJoin t.old.plan t.new.plan t.joined
+  ReadsPlans old new (Err fault) = AreNotJoined old new fault

@@ -6,7 +6,7 @@ ghost use Rattle.tx_rank.specs.Findings.{IsTrueOf};
 ghost use Rattle.tx_change.specs.Shown.{IsShown};
 ghost use Rattle.tx_requests.specs.Faults.{memory_stop};
 ghost use Rattle.tx_requests.specs.Made.{shown_plan};
-ghost use Rattle.tx_requests.specs.TwoPlans.{ReadsPlans, AreJoined};
+ghost use Rattle.tx_requests.specs.TwoPlans.{AreJoined};
 ghost use Rattle.tx_requests.specs.Change.{ChangeAnswers, change_prints, ChangeEnds, is_shown, EndsWithMixture, EndsWithNewPlan};
 ghost use Rattle.tx_requests.specs.inner.Changes.{IsMadeOf};
 
@@ -15,19 +15,17 @@ use crate::fault::CommandFault;
 use crate::made::{Made, Shown};
 use crate::request::Request;
 use crate::revising::text_if_asked;
-use crate::two_plans::{PlanText, TwoPlans, read_plans};
+use crate::two_plans::{PlanText, TwoPlans};
 use std::alloc::Allocator;
 use tx_change::{ChangeVerdict, first_mixture, judge_change, new_plan_shown, write_change};
 use tx_commands::ChangeRequest;
 use tx_rank::Finding;
-use tx_text::{Sink, Source, WriteFault};
+use tx_text::{Sink, WriteFault};
 
 impl<A: Allocator + Copy> Request<A> for ChangeRequest {
     type Texts = TwoPlans<A>;
 
     type Answer = (TwoPlans<A>, ChangeVerdict<A>);
-
-    ghost reads = { λ _. ReadsPlans };
 
     ghost fits = { AreJoined };
 
@@ -36,16 +34,6 @@ impl<A: Allocator + Copy> Request<A> for ChangeRequest {
     ghost prints = { change_prints };
 
     ghost ends = { ChangeEnds };
-
-    fn read<P: Source, Q: Source, R: Source>(
-        &self,
-        alloc: A,
-        first: &mut P,
-        second: &mut Q,
-        third: &mut R,
-    ) -> Result<Self::Texts, CommandFault> {
-        read_plans(alloc, first, second, third)
-    }
 
     fn answer(&self, alloc: A, texts: Self::Texts) -> Result<Self::Answer, CommandFault> {
         let verdict = judge_change(alloc, &texts.joined, &texts.new.plan, self.limits)?;

@@ -10,7 +10,10 @@ use crate::carrying::carry_out;
 use crate::ending::Ending;
 use crate::fault::CommandFault;
 use crate::linting::do_lint;
+use crate::page_reading::read_for_page;
+use crate::reading::{read_one, read_with_risks};
 use crate::running::{do_check, do_codes, do_pipe, do_run, do_telling};
+use crate::two_plans::{Which, read_plans, read_whole};
 use std::alloc::Allocator;
 use tx_commands::Command;
 use tx_text::{Sink, Source};
@@ -43,15 +46,28 @@ pub fn do_command<A: Allocator + Copy, P: Source, Q: Source, R: Source, W: Sink>
         Command::Codes(_) => do_codes(alloc, first, out),
         Command::Audit(request) => do_audit(alloc, request, first, out),
         Command::Lint(request) => do_lint(alloc, request, first, second, out),
-        Command::Change(request) => carry_out(alloc, request, first, second, third, out),
-        Command::Order(request) => carry_out(alloc, request, first, second, third, out),
-        Command::Mend(request) => carry_out(alloc, request, first, second, third, out),
-        Command::Survive(request) => carry_out(alloc, request, first, second, third, out),
-        Command::Page(request) => carry_out(alloc, request, first, second, third, out),
-        Command::Grade(request) => carry_out(alloc, request, first, second, third, out),
-        Command::Trace(request) => carry_out(alloc, request, first, second, third, out),
-        Command::TraceGroup(request) => carry_out(alloc, request, first, second, third, out),
-        Command::Fill(request) => carry_out(alloc, request, first, second, third, out),
-        Command::Explain(request) => carry_out(alloc, request, first, second, third, out),
+        Command::Change(request) => {
+            carry_out(alloc, request, read_plans(alloc, first, second), out)
+        }
+        Command::Order(request) => {
+            carry_out(alloc, request, read_plans(alloc, first, second), out)
+        }
+        Command::Mend(request) => {
+            carry_out(alloc, request, read_whole(alloc, Which::This, first), out)
+        }
+        Command::Survive(request) => {
+            let texts = read_with_risks(alloc, request.risks.is_some(), first, second);
+            carry_out(alloc, request, texts, out)
+        }
+        Command::Page(request) => {
+            let (risks, old) = (request.risks.is_some(), request.old.is_some());
+            let texts = read_for_page(alloc, risks, old, first, second, third);
+            carry_out(alloc, request, texts, out)
+        }
+        Command::Grade(request) => carry_out(alloc, request, read_one(alloc, first), out),
+        Command::Trace(request) => carry_out(alloc, request, read_one(alloc, first), out),
+        Command::TraceGroup(request) => carry_out(alloc, request, read_one(alloc, first), out),
+        Command::Fill(request) => carry_out(alloc, request, read_one(alloc, first), out),
+        Command::Explain(request) => carry_out(alloc, request, Ok(()), out),
     }
 }

@@ -1,7 +1,6 @@
 // The command `explain`.
 ghost use Rattle.tx_requests.specs.Ending.{EndsWell};
 ghost use Rattle.tx_requests.specs.Explain.{ExplainAnswers, explain_prints};
-ghost use Rattle.tx_requests.specs.Reading.{ReadsNothing};
 
 use crate::ending::Ending;
 use crate::fault::CommandFault;
@@ -9,14 +8,12 @@ use crate::request::Request;
 use std::alloc::Allocator;
 use tx_commands::ExplainRequest;
 use tx_explain::write_explanation;
-use tx_text::{Sink, Source, WriteFault};
+use tx_text::{Sink, WriteFault};
 
 impl<A: Allocator + Copy> Request<A> for ExplainRequest {
     type Texts = ();
 
     type Answer = ();
-
-    ghost reads = { λ _. ReadsNothing };
 
     ghost fits = { λ _. Unit {0} };
 
@@ -25,16 +22,6 @@ impl<A: Allocator + Copy> Request<A> for ExplainRequest {
     ghost prints = { explain_prints };
 
     ghost ends = { λ _. EndsWell };
-
-    fn read<P: Source, Q: Source, R: Source>(
-        &self,
-        _alloc: A,
-        _first: &mut P,
-        _second: &mut Q,
-        _third: &mut R,
-    ) -> Result<Self::Texts, CommandFault> {
-        Ok(())
-    }
 
     fn answer(&self, _alloc: A, _texts: Self::Texts) -> Result<Self::Answer, CommandFault> {
         Ok(())

@@ -1,19 +1,17 @@
 // The command `fill`.
 ghost use Rattle.tx_plan.specs.Rules.{IsPlan};
 ghost use Rattle.tx_requests.specs.Ending.{EndsWell};
-ghost use Rattle.tx_requests.specs.Reading.{ReadsPlan};
 ghost use Rattle.tx_requests.specs.Fill.{FillAnswers, fill_prints};
 
 use crate::asked::asked_of;
 use crate::ending::Ending;
 use crate::fault::CommandFault;
-use crate::reading::read_one;
 use crate::request::Request;
 use std::alloc::{Allocator, Global};
 use tx_commands::FillRequest;
 use tx_fill::{Fill, set_up_calls, write_fill};
 use tx_plan::{CodeId, ExchangeId, GroupId, Plan};
-use tx_text::{Sink, Source, WriteFault};
+use tx_text::{Sink, WriteFault};
 
 /// The plan, what is asked for, and what the calls come to.
 #[derive(Drop)]
@@ -30,8 +28,6 @@ impl<A: Allocator + Copy> Request<A> for FillRequest {
 
     type Answer = Filled<A>;
 
-    ghost reads = { λ _. ReadsPlan };
-
     ghost fits = { IsPlan };
 
     ghost answers = { FillAnswers };
@@ -39,16 +35,6 @@ impl<A: Allocator + Copy> Request<A> for FillRequest {
     ghost prints = { λ _. fill_prints };
 
     ghost ends = { λ _. EndsWell };
-
-    fn read<P: Source, Q: Source, R: Source>(
-        &self,
-        alloc: A,
-        first: &mut P,
-        second: &mut Q,
-        third: &mut R,
-    ) -> Result<Self::Texts, CommandFault> {
-        read_one(alloc, first, second, third)
-    }
 
     fn answer(&self, alloc: A, texts: Self::Texts) -> Result<Self::Answer, CommandFault> {
         let exchange = self.exchange.as_bytes();

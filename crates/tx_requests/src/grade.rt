@@ -1,24 +1,20 @@
 // The command `grade`.
 ghost use Rattle.tx_plan.specs.Rules.{IsPlan};
-ghost use Rattle.tx_requests.specs.Reading.{ReadsPlan};
 ghost use Rattle.tx_requests.specs.Grade.{GradeAnswers, grade_prints, GradeEnds};
 
 use crate::ending::Ending;
 use crate::fault::CommandFault;
-use crate::reading::read_one;
 use crate::request::Request;
 use std::alloc::Allocator;
 use tx_commands::GradeRequest;
 use tx_plan::Plan;
 use tx_rank::{Grade, grade, write_grade};
-use tx_text::{Sink, Source, WriteFault};
+use tx_text::{Sink, WriteFault};
 
 impl<A: Allocator + Copy> Request<A> for GradeRequest {
     type Texts = Plan<A>;
 
     type Answer = (Plan<A>, Grade<A>);
-
-    ghost reads = { λ _. ReadsPlan };
 
     ghost fits = { IsPlan };
 
@@ -27,16 +23,6 @@ impl<A: Allocator + Copy> Request<A> for GradeRequest {
     ghost prints = { λ _. grade_prints };
 
     ghost ends = { λ _. GradeEnds };
-
-    fn read<P: Source, Q: Source, R: Source>(
-        &self,
-        alloc: A,
-        first: &mut P,
-        second: &mut Q,
-        third: &mut R,
-    ) -> Result<Self::Texts, CommandFault> {
-        read_one(alloc, first, second, third)
-    }
 
     fn answer(&self, alloc: A, texts: Self::Texts) -> Result<Self::Answer, CommandFault> {
         let grade = grade(alloc, &texts)?;

@@ -1,5 +1,5 @@
-//! Commands as requests: each reads its texts, answers, prints the answer, and says what goes into its
-//! files. The jobs of `run`, `check`, `codes` and `audit` are in `tx_jobs`.
+//! What each command does: its texts are read, it comes to an answer, the answer is printed, and it says
+//! what goes into its files. The jobs of `run`, `check`, `codes` and `audit` are in `tx_jobs`.
 #![tactic(auto)]
 
 mod asked;
@@ -33,7 +33,6 @@ mod survive;
 mod trace;
 mod two_plans;
 
-pub use carrying::carry_out;
 pub use content::{Content, write_content};
 pub use doing::do_command;
 pub use ending::Ending;

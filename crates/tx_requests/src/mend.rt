@@ -1,5 +1,5 @@
 // The command `mend`.
-ghost use Rattle.tx_requests.specs.Mend.{ReadsText, MendAnswers, mend_prints, MendEnds};
+ghost use Rattle.tx_requests.specs.Mend.{MendAnswers, mend_prints, MendEnds};
 ghost use Rattle.tx_requests.specs.TwoPlans.{IsSaid};
 
 use crate::ending::Ending;
@@ -7,18 +7,16 @@ use crate::fault::CommandFault;
 use crate::made::{Made, Shown};
 use crate::request::Request;
 use crate::revising::text_if_asked;
-use crate::two_plans::{PlanText, Which, read_whole};
+use crate::two_plans::PlanText;
 use std::alloc::Allocator;
 use tx_commands::MendRequest;
 use tx_mend::{Mending, mend, write_mending};
-use tx_text::{Sink, Source, WriteFault};
+use tx_text::{Sink, WriteFault};
 
 impl<A: Allocator + Copy> Request<A> for MendRequest {
     type Texts = PlanText<A>;
 
     type Answer = (Vec<u8, A>, Mending<A>);
-
-    ghost reads = { λ _. ReadsText };
 
     ghost fits = { IsSaid };
 
@@ -27,16 +25,6 @@ impl<A: Allocator + Copy> Request<A> for MendRequest {
     ghost prints = { mend_prints };
 
     ghost ends = { MendEnds };
-
-    fn read<P: Source, Q: Source, R: Source>(
-        &self,
-        alloc: A,
-        first: &mut P,
-        _second: &mut Q,
-        _third: &mut R,
-    ) -> Result<Self::Texts, CommandFault> {
-        read_whole(alloc, Which::This, first)
-    }
 
     fn answer(&self, alloc: A, texts: Self::Texts) -> Result<Self::Answer, CommandFault> {
         let mending = mend(alloc, texts.plan, self.limits)?;

@@ -4,18 +4,18 @@ ghost use Rattle.tx_plan.specs.Rules.{IsPlan};
 ghost use Rattle.tx_order.specs.Ordered.{plan_before};
 ghost use Rattle.tx_order.specs.Staged.{IsStageOf};
 ghost use Rattle.tx_requests.specs.Order.{OrderAnswers, order_prints, EndsAtStage, OrderEnds};
-ghost use Rattle.tx_requests.specs.TwoPlans.{ReadsPlans, AreJoined};
+ghost use Rattle.tx_requests.specs.TwoPlans.{AreJoined};
 
 use crate::ending::Ending;
 use crate::fault::CommandFault;
 use crate::made::{Made, Shown};
 use crate::request::Request;
 use crate::revising::text_if_asked;
-use crate::two_plans::{PlanText, TwoPlans, read_plans};
+use crate::two_plans::{PlanText, TwoPlans};
 use std::alloc::{Allocator, Global};
 use tx_commands::OrderRequest;
 use tx_order::{Order, OrderVerdict, judge_order, missing_stage, stage_of, write_order};
-use tx_text::{Sink, Source, WriteFault};
+use tx_text::{Sink, WriteFault};
 
 /// Two plans with their texts, and the order of switching from the one to the other over their
 /// joined network, or what is wrong.
@@ -31,8 +31,6 @@ impl<A: Allocator + Copy> Request<A> for OrderRequest {
 
     type Answer = Switched<A>;
 
-    ghost reads = { λ _. ReadsPlans };
-
     ghost fits = { AreJoined };
 
     ghost answers = { OrderAnswers };
@@ -40,16 +38,6 @@ impl<A: Allocator + Copy> Request<A> for OrderRequest {
     ghost prints = { order_prints };
 
     ghost ends = { OrderEnds };
-
-    fn read<P: Source, Q: Source, R: Source>(
-        &self,
-        alloc: A,
-        first: &mut P,
-        second: &mut Q,
-        third: &mut R,
-    ) -> Result<Self::Texts, CommandFault> {
-        read_plans(alloc, first, second, third)
-    }
 
     fn answer(&self, alloc: A, texts: Self::Texts) -> Result<Self::Answer, CommandFault> {
         let TwoPlans { old, new, joined } = texts;

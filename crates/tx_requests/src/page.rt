@@ -3,21 +3,21 @@ ghost use Rattle.std.specs.Prelude.{◌≡◌, is_some};
 ghost use Rattle.tx_html.specs.Shows.{Showed};
 ghost use Rattle.tx_page.specs.Page.{page_texts};
 ghost use Rattle.tx_page.specs.declared.subject.Subject.{Subject as SubjectNow};
-ghost use Rattle.tx_requests.specs.PageReading.{ReadsForPage, AreForPage};
+ghost use Rattle.tx_requests.specs.PageReading.{AreForPage};
 ghost use Rattle.tx_requests.specs.Page.{PageAnswers, PagePrints, PageEnds, IsSubjectOf};
 
 use crate::ending::Ending;
 use crate::fault::CommandFault;
 use crate::page_change::{FoundChange, change_of, shown_change};
 use crate::page_found::{Found, code_asked, found_of};
-use crate::page_reading::{PageTexts, read_for_page};
+use crate::page_reading::PageTexts;
 use crate::request::Request;
 use sha2::{Digest, Sha256};
 use std::alloc::{Allocator, Global};
 use tx_commands::{PageRequest, VERSION};
 use tx_html::PageSink;
 use tx_page::{Subject, is_safe, write_page};
-use tx_text::{Sink, Source, WriteFault};
+use tx_text::{Sink, WriteFault};
 
 /// What a page shows: what was read, and what was found of it.
 #[derive(Drop)]
@@ -32,8 +32,6 @@ impl<A: Allocator + Copy> Request<A> for PageRequest {
 
     type Answer = Paged<A>;
 
-    ghost reads = { λ r. ReadsForPage (is_some r.risks) (is_some r.old) };
-
     ghost fits = { AreForPage };
 
     ghost answers = { PageAnswers };
@@ -41,17 +39,6 @@ impl<A: Allocator + Copy> Request<A> for PageRequest {
     ghost prints = { PagePrints };
 
     ghost ends = { λ _. PageEnds };
-
-    fn read<P: Source, Q: Source, R: Source>(
-        &self,
-        alloc: A,
-        first: &mut P,
-        second: &mut Q,
-        third: &mut R,
-    ) -> Result<Self::Texts, CommandFault> {
-        let (risks, old) = (self.risks.is_some(), self.old.is_some());
-        read_for_page(alloc, risks, old, first, second, third)
-    }
 
     fn answer(&self, alloc: A, texts: Self::Texts) -> Result<Self::Answer, CommandFault> {
         let code = code_asked(&texts.plan.plan, self.code.as_deref())?;

@@ -1,9 +1,9 @@
 // What requests read.
-ghost use Rattle.std.specs.Prelude.{IfOk, IfErr};
+ghost use Rattle.std.specs.Prelude.{IfOk};
 ghost use Rattle.tx_text.specs.Calls.{CallsAtMost, source_calls};
 ghost use Rattle.tx_text.specs.Ends.{input};
 ghost use Rattle.tx_plan.specs.Rules.{IsPlan};
-ghost use Rattle.tx_requests.specs.Reading.{ReadsNothing, ReadsPlan, ReadsRisksIf, ReadsWithRisks, HasItsRisks};
+ghost use Rattle.tx_requests.specs.Reading.{ReadsPlan, ReadsRisksIf, ReadsWithRisks, HasItsRisks};
 
 use crate::fault::CommandFault;
 use std::alloc::{Allocator, Global};
@@ -20,38 +20,29 @@ pub struct PlanRisks<A: Allocator = Global> {
 }
 
 /// Reads a plan.
-pub(crate) fn read_one<A: Allocator + Copy, P: Source, Q: Source, R: Source>(
+pub(crate) fn read_one<A: Allocator + Copy, P: Source>(
     alloc: A,
-    first: &mut P,
-    _second: &mut Q,
-    _third: &mut R,
+    source: &mut P,
 ) -> Result<Plan<A>, CommandFault>
-    ensures texts { ReadsPlan (input P.rest P.failed P.called first.old first.new)
-        (input Q.rest Q.failed Q.called _second.old _second.new)
-        (input R.rest R.failed R.called _third.old _third.new) result }
+    ensures text { ReadsPlan (input P.rest P.failed P.called source.old source.new) result }
     ensures known { IfOk result IsPlan }
-    ensures first_calls { CallsAtMost P.called source_calls first.old first.new }
-    ensures second_calls { CallsAtMost Q.called source_calls _second.old _second.new }
-    ensures third_calls { CallsAtMost R.called source_calls _third.old _third.new }
+    ensures calls { CallsAtMost P.called source_calls source.old source.new }
 {
-    Ok(read_plan_from(alloc, first)?)
+    Ok(read_plan_from(alloc, source)?)
 }
 
 /// Reads a plan, and its named risks if they are asked for.
-pub(crate) fn read_with_risks<A: Allocator + Copy, P: Source, Q: Source, R: Source>(
+pub(crate) fn read_with_risks<A: Allocator + Copy, P: Source, Q: Source>(
     alloc: A,
     named: bool,
     first: &mut P,
     second: &mut Q,
-    _third: &mut R,
 ) -> Result<PlanRisks<A>, CommandFault>
     ensures texts { ReadsWithRisks named (input P.rest P.failed P.called first.old first.new)
-        (input Q.rest Q.failed Q.called second.old second.new)
-        (input R.rest R.failed R.called _third.old _third.new) result }
+        (input Q.rest Q.failed Q.called second.old second.new) result }
     ensures known { IfOk result HasItsRisks }
     ensures first_calls { CallsAtMost P.called source_calls first.old first.new }
     ensures second_calls { CallsAtMost Q.called source_calls second.old second.new }
-    ensures third_calls { CallsAtMost R.called source_calls _third.old _third.new }
 {
     let plan = read_plan_from(alloc, first)?;
     let risks = read_risks_if(alloc, named, &plan, second)?;

@@ -1,25 +1,23 @@
 // The command `survive`.
 ghost use Rattle.std.specs.List.{list_any};
-ghost use Rattle.std.specs.Prelude.{◌≡◌, ◌==◌, not, length, is_some};
-ghost use Rattle.tx_requests.specs.Reading.{ReadsWithRisks, HasItsRisks};
+ghost use Rattle.std.specs.Prelude.{◌≡◌, ◌==◌, not, length};
+ghost use Rattle.tx_requests.specs.Reading.{HasItsRisks};
 ghost use Rattle.tx_requests.specs.Survive.{named_only, SurviveAnswers, survive_prints, SurviveEnds, is_denied};
 
 use crate::ending::Ending;
 use crate::fault::CommandFault;
-use crate::reading::{PlanRisks, read_with_risks};
+use crate::reading::PlanRisks;
 use crate::request::Request;
 use std::alloc::Allocator;
 use tx_commands::SurviveRequest;
 use tx_risk::{Outcome, Survival, survive};
 use tx_risk_report::{is_harmless, write_survival};
-use tx_text::{Sink, Source, WriteFault};
+use tx_text::{Sink, WriteFault};
 
 impl<A: Allocator + Copy> Request<A> for SurviveRequest {
     type Texts = PlanRisks<A>;
 
     type Answer = (PlanRisks<A>, Survival<A>);
-
-    ghost reads = { λ r. ReadsWithRisks (is_some r.risks) };
 
     ghost fits = { HasItsRisks };
 
@@ -28,16 +26,6 @@ impl<A: Allocator + Copy> Request<A> for SurviveRequest {
     ghost prints = { survive_prints };
 
     ghost ends = { λ _. SurviveEnds };
-
-    fn read<P: Source, Q: Source, R: Source>(
-        &self,
-        alloc: A,
-        first: &mut P,
-        second: &mut Q,
-        third: &mut R,
-    ) -> Result<Self::Texts, CommandFault> {
-        read_with_risks(alloc, self.risks.is_some(), first, second, third)
-    }
 
     fn answer(&self, alloc: A, texts: Self::Texts) -> Result<Self::Answer, CommandFault> {
         let survival = survive(alloc, &texts.plan, &texts.risks, named_only(self))?;

@@ -1,18 +1,16 @@
 // The command `trace`.
 ghost use Rattle.tx_plan.specs.Rules.{IsPlan};
 ghost use Rattle.tx_requests.specs.Ending.{EndsWell};
-ghost use Rattle.tx_requests.specs.Reading.{ReadsPlan};
 ghost use Rattle.tx_requests.specs.Trace.{TraceAnswers, trace_prints};
 
 use crate::asked::asked_of;
 use crate::ending::Ending;
 use crate::fault::CommandFault;
-use crate::reading::read_one;
 use crate::request::Request;
 use std::alloc::{Allocator, Global};
 use tx_commands::TraceRequest;
 use tx_plan::{GroupId, Plan};
-use tx_text::{Sink, Source, WriteFault};
+use tx_text::{Sink, WriteFault};
 use tx_trace::{Trace, plan_left, trace_calls, write_trace};
 
 /// The plan that is left while some groups are down, these, and how the calls go in it.
@@ -28,8 +26,6 @@ impl<A: Allocator + Copy> Request<A> for TraceRequest {
 
     type Answer = Traced<A>;
 
-    ghost reads = { λ _. ReadsPlan };
-
     ghost fits = { IsPlan };
 
     ghost answers = { TraceAnswers };
@@ -37,16 +33,6 @@ impl<A: Allocator + Copy> Request<A> for TraceRequest {
     ghost prints = { λ _. trace_prints };
 
     ghost ends = { λ _. EndsWell };
-
-    fn read<P: Source, Q: Source, R: Source>(
-        &self,
-        alloc: A,
-        first: &mut P,
-        second: &mut Q,
-        third: &mut R,
-    ) -> Result<Self::Texts, CommandFault> {
-        read_one(alloc, first, second, third)
-    }
 
     fn answer(&self, alloc: A, texts: Self::Texts) -> Result<Self::Answer, CommandFault> {
         let exchange = self.exchange.as_bytes();

@@ -2,8 +2,7 @@
 ghost use Rattle.std.specs.Prelude.{◌≡◌, IfOk, IfErr};
 ghost use Rattle.tx_text.specs.Calls.{CallsAtMost, source_calls};
 ghost use Rattle.tx_text.specs.Ends.{input};
-ghost use Rattle.tx_requests.specs.Faults.{in_plan};
-ghost use Rattle.tx_requests.specs.TwoPlans.{SaysWhole, GivesNoPlan, join_stop, IsNoJoinOf, IsJoin, AreJoined, ReadsPlans};
+ghost use Rattle.tx_requests.specs.TwoPlans.{IsSaid, ReadsWhole, join_stop, IsNoJoinOf, IsJoin, AreJoined, ReadsPlans};
 
 use crate::fault::CommandFault;
 use std::alloc::{Allocator, Global};
@@ -38,19 +37,16 @@ pub struct TwoPlans<A: Allocator = Global> {
 }
 
 /// Reads an old plan and then a new one, each to the end of its text, and joins them.
-pub(crate) fn read_plans<A: Allocator + Copy, P: Source, Q: Source, R: Source>(
+pub(crate) fn read_plans<A: Allocator + Copy, P: Source, Q: Source>(
     alloc: A,
     old: &mut P,
     new: &mut Q,
-    _third: &mut R,
 ) -> Result<TwoPlans<A>, CommandFault>
     ensures texts { ReadsPlans (input P.rest P.failed P.called old.old old.new)
-        (input Q.rest Q.failed Q.called new.old new.new)
-        (input R.rest R.failed R.called _third.old _third.new) result }
+        (input Q.rest Q.failed Q.called new.old new.new) result }
     ensures known { IfOk result AreJoined }
     ensures old_calls { CallsAtMost P.called source_calls old.old old.new }
     ensures new_calls { CallsAtMost Q.called source_calls new.old new.new }
-    ensures third_calls { CallsAtMost R.called source_calls _third.old _third.new }
 {
     let old = read_whole(alloc, Which::Old, old)?;
     let new = read_whole(alloc, Which::New, new)?;
@@ -63,10 +59,8 @@ pub(crate) fn read_whole<A: Allocator + Copy, S: Source>(
     which: Which,
     source: &mut S,
 ) -> Result<PlanText<A>, CommandFault>
-    ensures says { IfOk result (λ t. SaysWhole
-        (input S.rest S.failed S.called source.old source.new) t) }
-    ensures refused { IfErr result (GivesNoPlan (in_plan which)
-        (input S.rest S.failed S.called source.old source.new)) }
+    ensures text { ReadsWhole which (input S.rest S.failed S.called source.old source.new) result }
+    ensures known { IfOk result IsSaid }
     ensures calls { CallsAtMost S.called source_calls source.old source.new }
 {
     let text = read_whole_text(alloc, source)?;

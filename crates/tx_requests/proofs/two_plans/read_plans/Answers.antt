@@ -6,29 +6,20 @@ use Rattle.tx_requests.proofs.two_plans.read_plans.Goals as goal
 
 pub returns-in_err-old-clause-texts : goal.returns-in_err-old-clause-texts
 returns-in_err-old-clause-texts g c =
-    rw (exits_with c.from_residual.result c.in_err-old.field-0.0 c.from_residual.ensures.1) (inl (c.in_err-old.ensures.refused, refl), refl)
+    rw (exits_with c.from_residual.result c.in_err-old.field-0.0 c.from_residual.ensures.1) (inl (c.in_err-old.ensures.text, refl))
 
 pub returns-in_err-new-clause-texts : goal.returns-in_err-new-clause-texts
 returns-in_err-new-clause-texts g c =
     rw (exits_with c.from_residual-in_err-new.result c.in_err-new.field-0.0 c.from_residual-in_err-new.ensures.1)
-    (inr (inl (record { plan = c.in_ok-old.old; read = c.in_ok-old.ensures.says; refused = c.in_err-new.ensures.refused })), refl)
+    (inr (inl (record { plan = c.in_ok-old.old; read = c.in_ok-old.ensures.text; refused = c.in_err-new.ensures.text })))
 
 pub returns-clause-texts : goal.returns-clause-texts
 returns-clause-texts g c =
-    (plans_read _ _ c.in_ok-old.old c.in_ok-new.new c.join_plans.result c.in_ok-old.ensures.says c.in_ok-new.ensures.says c.join_plans.ensures.joined c.join_plans.ensures.refused, refl)
+    plans_read _ _ c.in_ok-old.old c.in_ok-new.new c.join_plans.result c.in_ok-old.ensures.text c.in_ok-new.ensures.text c.join_plans.ensures.joined c.join_plans.ensures.refused
 
 pub returns-clause-known : goal.returns-clause-known
 returns-clause-known g c =
-    are_joined c.in_ok-old.old c.in_ok-new.new c.join_plans.result c.in_ok-old.ensures.says.said c.in_ok-new.ensures.says.said c.join_plans.ensures.joined
-
-pub returns-clause-third_calls : goal.returns-clause-third_calls
-returns-clause-third_calls g c = uncalled g.R.Source.called c.args._third.now
-
-pub returns-in_err-new-clause-third_calls : goal.returns-in_err-new-clause-third_calls
-returns-in_err-new-clause-third_calls g c = uncalled g.R.Source.called c.args._third.now
-
-pub returns-in_err-old-clause-third_calls : goal.returns-in_err-old-clause-third_calls
-returns-in_err-old-clause-third_calls g c = uncalled g.R.Source.called c.args._third.now
+    are_joined c.in_ok-old.old c.in_ok-new.new c.join_plans.result c.in_ok-old.ensures.text.said c.in_ok-new.ensures.text.said c.join_plans.ensures.joined
 
 pub returns-in_err-old-clause-new_calls : goal.returns-in_err-old-clause-new_calls
 returns-in_err-old-clause-new_calls g c = uncalled g.Q.Source.called c.args.new.now

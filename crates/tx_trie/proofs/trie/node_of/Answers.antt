@@ -10,5 +10,4 @@ overflow_mul-node c =
 pub overflow_add-node : goal.overflow_add-node
 overflow_add-node c =
     let low = on_the_way c.args.figures.now c.requires c.loop-figure.node (drop c.loop-figure.figure-index c.args.figures.now) c.loop-figure.invariant in
-    let byte = c.type_inv.figures c.loop-figure.figure-index in
     omega (arith, c.from.ensures)

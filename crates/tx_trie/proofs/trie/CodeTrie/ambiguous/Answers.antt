@@ -1,6 +1,5 @@
-use Rattle.std.proofs.Common.{◌≡◌, ◌+◌, ◌≤◌, ◌/◌, length, map, ap, sym, ◌∙◌, subst, arith, List}
+use Rattle.std.proofs.Common.{◌≡◌, ◌+◌, map, ap, sym, ◌∙◌, subst, arith}
 use Rattle.std.specs.Option.{is_some}
-use Rattle.tx_plan.specs.Plan.{Code}
 use Rattle.tx_plan.specs.Ambiguous.{ambiguous_of}
 use Rattle.tx_plan.specs.inner.Tables.{code_of_row}
 use Rattle.tx_trie.proofs.Pairs.{AreFrom, three_figures, read_both, none_there, paired, no_pair}
