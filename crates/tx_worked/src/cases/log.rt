@@ -113,10 +113,13 @@ impl Log {
 
     /// Whether two logs tell the same.
     pub fn is_as(&self, other: &Log) -> bool {
-        match (self.lines.try_borrow(), other.lines.try_borrow()) {
-            (Ok(lines), Ok(others)) => lines.text.as_slice() == others.text.as_slice(),
-            _ => false,
-        }
+        let Ok(lines) = self.lines.try_borrow() else {
+            return false;
+        };
+        let Ok(others) = other.lines.try_borrow() else {
+            return false;
+        };
+        lines.text.as_slice() == others.text.as_slice()
     }
 
     pub fn print(&self, out: &mut Told) {

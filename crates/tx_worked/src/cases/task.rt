@@ -140,7 +140,8 @@ pub struct Task<'a> {
 impl<'a> Task<'a> {
     /// A command over its first text and the others, which are in one.
     pub fn new(kind: &'a [u8], command: &'a Command, first: &'a [u8], rest: &'a [u8]) -> Task<'a> {
-        let last = command.files().reads[2];
+        let reads = command.files().reads;
+        let last = reads[2];
         let (second, third) = if last.is_some() {
             two_texts(rest)
         } else {

@@ -61,7 +61,9 @@ fn tell_more(command: &Command, log: &Log) {
             },
         ) => { log.tell_number("stage", u64::from(*stage)) }
         Command::Survive(request) => {
-            tell_flag("risks alone", matches!(request.risks, Some((_, true))), log);
+            if let Some((_, alone)) = &request.risks {
+                tell_flag("risks alone", *alone, log);
+            }
             tell_flag("totals", request.totals, log);
         }
         Command::Page(request) => tell_word("code", request.code.as_deref(), log),
