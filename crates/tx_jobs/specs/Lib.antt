@@ -7,4 +7,3 @@ pub mod TellingJobs
 pub mod CheckedJobs
 pub mod inner
 pub mod Parts
-pub mod Explained

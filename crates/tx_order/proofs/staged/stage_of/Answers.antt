@@ -3,14 +3,16 @@ use Rattle.tx_order.proofs.staged.stage_of.Goals as goal
 
 pub with_lists-requires : goal.with_lists-requires
 with_lists-requires g c =
-    stage_rules c.args.order c.rules.ensures.kept c.args.stage c.in_ok-lists.lists c.in_ok-lists.ensures
+    stage_rules c.args.order c.rules.ensures.kept c.args.stage c.in_ok-lists.lists
+    (rw c.from-stage.ensures at c.in_ok-lists.ensures)
 
 pub returns-clause-plan : goal.returns-clause-plan
 returns-clause-plan g c =
     stage_plan c.args.order c.args.stage c.in_ok-lists.lists c.with_lists.result c.with_lists.ensures
-    c.in_ok-lists.ensures
+    (rw c.from-stage.ensures at c.in_ok-lists.ensures)
 
 pub returns-clause-cert : goal.returns-clause-cert
 returns-clause-cert g c =
     stage_cert c.args.order c.rules.ensures.kept c.args.stage c.in_ok-cert.cert c.requires.0
-    c.in_ok-cert.ensures.common c.in_ok-cert.ensures.fits
+    (rw c.from-stage.ensures at c.in_ok-cert.ensures.common)
+    (rw c.from-stage.ensures at c.in_ok-cert.ensures.fits)
