@@ -1,5 +1,5 @@
 -- Why jobs stop, and what is reported of it.
-use Rattle.std.specs.Prelude.{ℕ, ◌+◌, Bool, true, List, ◌++◌, Result, Ok, Err, codes, decimal}
+use Rattle.std.specs.Prelude.{ℕ, Bool, true, List, ◌++◌, Result, Ok, Err, codes, decimal}
 use Rattle.tx_text.specs.declared.frame.FrameFault.TheVariants.{Read as LineRead, NoMemory as TextNoMemory}
 use Rattle.tx_text.specs.declared.frame.FaultAt.{FaultAt}
 use Rattle.tx_text.specs.declared.frame.FaultKind.{FaultKind}

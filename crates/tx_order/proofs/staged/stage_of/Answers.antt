@@ -15,4 +15,4 @@ pub returns-clause-cert : goal.returns-clause-cert
 returns-clause-cert g c =
     stage_cert c.args.order c.rules.ensures.kept c.args.stage c.in_ok-cert.cert c.requires.0
     (rw c.from-stage.ensures at c.in_ok-cert.ensures.common)
-    (rw c.from-stage.ensures at c.in_ok-cert.ensures.fits)
+    c.in_ok-cert.ensures.fits
