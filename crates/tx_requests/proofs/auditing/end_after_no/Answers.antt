@@ -1,0 +1,10 @@
+use Rattle.std.proofs.Common.{refl}
+use Rattle.tx_text.proofs.Exits.{exits_with}
+use Rattle.tx_requests.specs.Faults.{memory_stop}
+use Rattle.tx_requests.proofs.auditing.end_after_no.Goals as goal
+
+pub invariant_of-result : goal.invariant_of-result
+invariant_of-result g c = record { writable = rw c.in-Some.is at c.in_ok-events.ensures.writable }
+
+pub returns-then-not-asked : goal.returns-then-not-asked
+returns-then-not-asked g c = rw c.if-not-asked.true (c.of.ensures.status, c.of.ensures.made)

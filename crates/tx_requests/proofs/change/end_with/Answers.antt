@@ -1,0 +1,10 @@
+use Rattle.std.proofs.Common.{sym, refl}
+use Rattle.tx_text.proofs.Exits.{exits_with}
+use Rattle.tx_requests.proofs.change.end_with.Goals as goal
+
+pub text_if_asked-requires : goal.text_if_asked-requires
+text_if_asked-requires g c = rw c.plan.ensures c.requires
+
+pub returns-clause-made : goal.returns-clause-made
+returns-clause-made g c =
+    (refl, refl, rw (c.plan.ensures, c.is_some.ensures) at c.in_ok-text.ensures.made)

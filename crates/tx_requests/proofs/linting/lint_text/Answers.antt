@@ -1,0 +1,16 @@
+use Rattle.std.proofs.Common.{inl, inr, refl}
+use Rattle.tx_text.proofs.Exits.{exits_with}
+use Rattle.tx_lint.specs.Lints.{lint_held}
+use Rattle.tx_requests.specs.Faults.{memory_stop}
+use Rattle.tx_requests.proofs.linting.lint_text.Goals as goal
+
+pub returns-clause-linted : goal.returns-clause-linted
+returns-clause-linted g c = inl (record {
+  lint = lint_held c.in_ok-lint.lint;
+  is = c.in_ok-lint.ensures.lint;
+  told = c.tell_lint.ensures.told;
+})
+
+pub returns-in_err-lint-clause-linted : goal.returns-in_err-lint-clause-linted
+returns-in_err-lint-clause-linted g c =
+    inr (exits_with c.from_residual.result memory_stop c.from_residual.ensures.1, refl)
