@@ -98,13 +98,13 @@ module _ {P W : Type 0} (rest : P → Option (List ℕ)) (failed : P → Bool)
         ByRequest (ReadsPlan first) (λ r. GradeAnswers) (λ r. grade_prints) (λ r. GradeEnds) r result
         × second.unread × third.unread
     IsDone (Trace r) result =
-        ByRequest (ReadsPlan first) TraceAnswers (λ r. trace_prints) (λ r. EndsWell) r result
+        ByRequest (ReadsPlan first) (TraceAnswers {A = A}) (λ r. trace_prints) (λ r. EndsWell) r result
         × second.unread × third.unread
     IsDone (TraceGroup r) result =
         ByRequest (ReadsPlan first) GroupAnswers (λ r. group_prints) (λ r. EndsWell) r result
         × second.unread × third.unread
     IsDone (Fill r) result =
-        ByRequest (ReadsPlan first) FillAnswers (λ r. fill_prints) (λ r. EndsWell) r result
+        ByRequest (ReadsPlan first) (FillAnswers {A = A}) (λ r. fill_prints) (λ r. EndsWell) r result
         × second.unread × third.unread
     IsDone (Explain r) result =
         IsExplained r (taken before) (taken after) (marked before) (marked after) result
