@@ -1,7 +1,7 @@
 -- What was read of the texts of a request.
-use Rattle.std.proofs.Common.{◌≡◌, Bool, true, false, List, [], Option, None, Some, Result, Ok, Err, inl, inr, refl, sym, subst}
+use Rattle.std.proofs.Common.{◌≡◌, Bool, true, false, List, [], Option, None, Some, Ok, Err, refl, sym}
 use Rattle.std.proofs.lemmas.Bool.{false≢true}
-use Rattle.std.specs.Prelude.{IfOk, IfSome}
+use Rattle.std.specs.Prelude.{IfSome}
 use Rattle.tx_text.specs.Ends.{Input}
 use Rattle.tx_plan.specs.Plan.{Plan}
 use Rattle.tx_risk.specs.NamedRisks.{NamedRisk, AreRisksFor}
@@ -40,7 +40,7 @@ module _ (p : Plan) (text : Input) where
   risks_fit true risks h = h.0
   risks_fit false risks h = let none : risks ≡ [] = let e = h.0 in cc in no_risks p risks none
 
-module _ {A : Type 0} (text : Input) where
+module _ (A : Type 0) (text : Input) where
   -- an old plan that is asked for was read
   pub old_read : (changed : Bool) (t : PlanText A) → changed ≡ true → SaysWhole text t
       → ReadsOldIf changed text (Ok (Some t))

@@ -1,5 +1,4 @@
-use Rattle.std.proofs.Common.{sym, refl}
-use Rattle.tx_text.proofs.Exits.{exits_with}
+use Rattle.std.proofs.Common.{refl}
 use Rattle.tx_requests.proofs.change.end_with.Goals as goal
 
 pub text_if_asked-requires : goal.text_if_asked-requires
@@ -7,4 +6,4 @@ text_if_asked-requires g c = rw c.plan.ensures c.requires
 
 pub returns-clause-made : goal.returns-clause-made
 returns-clause-made g c =
-    (refl, refl, rw (c.plan.ensures, c.is_some.ensures) at c.in_ok-text.ensures.made)
+    (refl, refl, rw (c.plan.ensures, c.is_some.ensures, c.deref.ensures.value) at c.in_ok-text.ensures.made)
