@@ -58,11 +58,11 @@ module _ {A : Type 0} (r : ChangeRequest) (a : TwoPlans A × ChangeVerdict A) wh
 
   -- its plans are joined
   pub answer_joined : IsKnown → AreJoined a.0
-  answer_joined (t, known, same, right) = subst AreJoined (sym same) known
+  answer_joined (t, known, (same, right)) = subst AreJoined (sym same) known
 
   answer_right : IsKnown → (v : ChangeVerdict A) → a.1 ≡ v
       → IsRightVerdict a.0.joined.old a.0.joined.new a.0.new.plan r.limits.limit r.limits.spare v
-  answer_right (t, known, same, right) v is =
+  answer_right (t, known, (same, right)) v is =
       subst (IsRightVerdict a.0.joined.old a.0.joined.new a.0.new.plan r.limits.limit r.limits.spare) is
       (subst (λ (x : TwoPlans A). IsRightVerdict x.joined.old x.joined.new x.new.plan r.limits.limit r.limits.spare a.1)
       (sym same) right)

@@ -27,12 +27,12 @@ module _ {A : Type 0} (r : OrderRequest) (a : Switched A) where
   module _ (o : Order) (is : a.verdict ≡ Ordered o) where
     -- the order has the stage that is asked for
     pub answer_stage : IsKnown → (n : ℕ) → r.stage ≡ Some n → IsStageOf o n
-    answer_stage (t, known, old, new, right, there) n asked =
+    answer_stage (t, known, (old, new, right, there)) n asked =
         subst (λ (s : Option ℕ). HasStage {A = A} s (Ordered o)) asked
         (subst (λ (v : OrderVerdict A). HasStage r.stage v) is there)
 
     -- the plan after a stage keeps the rules
     pub answer_rules : IsKnown → (n : ℕ) → IsPlan (plan_before o n)
-    answer_rules (t, known, old, new, right, there) n =
+    answer_rules (t, known, (old, new, right, there)) n =
         ordered_rules A t.joined.old t.joined.new t.new.plan r.limits.limit r.limits.spare o n
         (subst (IsRightVerdict t.joined.old t.joined.new t.new.plan r.limits.limit r.limits.spare) is right)

@@ -40,7 +40,7 @@ module _ (p : Plan) (text : Input) where
   risks_fit true risks h = h.0
   risks_fit false risks h = let none : risks ≡ [] = let e = h.0 in cc in no_risks p risks none
 
-module _ {A : Type 0} (text : Input) where
+module _ (A : Type 0) (text : Input) where
   -- an old plan that is asked for was read
   pub old_read : (changed : Bool) (t : PlanText A) → changed ≡ true → SaysWhole text t
       → ReadsOldIf changed text (Ok (Some t))

@@ -1,5 +1,5 @@
 -- The command `order`.
-use Rattle.std.specs.Prelude.{◌≡◌, ◌⊎◌, ℕ, Bool, Option, None, Some, is_some, Result, Ok, Err}
+use Rattle.std.specs.Prelude.{◌≡◌, ◌⊎◌, ℕ, Bool, true, Option, None, Some, is_some, Result, Ok, Err}
 use Rattle.tx_cert.specs.Certificate.{Certificate}
 use Rattle.tx_order.specs.declared.judging.OrderVerdict.{OrderVerdict}
 use Rattle.tx_order.specs.declared.judging.OrderVerdict.TheVariants.{Ordered, NoOrder, NewUnsound}
@@ -19,6 +19,11 @@ use Rattle.tx_requests.specs.Ending.{EndsWith}
 use Rattle.tx_requests.specs.Faults.{memory_stop}
 use Rattle.tx_requests.specs.Made.{shown_plan, shown_events, plan_file, HasTextIf}
 use Rattle.tx_requests.specs.Printing.{Printing, Writes}
+
+-- a certificate of a stage
+abbrev pub HasStageCert : Order → ℕ → Option Certificate → Type 0
+HasStageCert o n None = ⊥
+HasStageCert o n (Some cert) = IsStageCert o n cert
 
 module _ {A : Type 0} where
   -- the verdict on the switching from the one plan to the other is right
@@ -45,11 +50,6 @@ module _ {A : Type 0} where
   abbrev pub order_prints : OrderRequest → Switched A → Printing
   order_prints r a = Writes
       (order_report true a.old.plan a.new.plan r.limits.limit r.limits.spare a.verdict)
-
-  -- a certificate of a stage
-  abbrev pub HasStageCert : Order → ℕ → Option Certificate → Type 0
-  HasStageCert o n None = ⊥
-  HasStageCert o n (Some cert) = IsStageCert o n cert
 
   -- the plan after a stage goes into a file, as the old text revised, and so does a certificate of
   -- the stage

@@ -25,25 +25,26 @@ module _ {A : Type 0} where
   ReadsOldIf true text (Err fault) = GivesNoPlan (in_plan Old) text fault
   ReadsOldIf false text result = (result ≡ Ok None) × text.unread
 
-  -- the plan was read, and its risks were refused
-  abbrev pub LacksPageRisks : (named : Bool) → (first second : Input) → CommandFault → Type 0
-  LacksPageRisks named first second fault =
-      (t : PlanText A) × SaysWhole first t × ReadsRisksIf named t.plan second (Err fault)
+-- the plan was read, and its risks were refused
+abbrev pub LacksPageRisks : (A : Type 0) → (named : Bool) → (first second : Input) → CommandFault
+    → Type 0
+LacksPageRisks A named first second fault =
+    (t : PlanText A) × SaysWhole first t × ReadsRisksIf named t.plan second (Err fault)
 
-  -- both were read, and the old plan was refused
-  pub record LacksOld (named changed : Bool) (first second third : Input) (fault : CommandFault)
-      : Type 0 where
-    pub texts : PageTexts A
-    pub plan : SaysWhole first texts.plan
-    pub risks : ReadsRisksIf named texts.plan.plan second (Ok texts.risks)
-    pub refused : ReadsOldIf changed third (Err fault)
+-- both were read, and the old plan was refused
+pub record LacksOld (A : Type 0) (named changed : Bool) (first second third : Input)
+    (fault : CommandFault) : Type 0 where
+  pub texts : PageTexts A
+  pub plan : SaysWhole first texts.plan
+  pub risks : ReadsRisksIf named texts.plan.plan second (Ok texts.risks)
+  pub refused : ReadsOldIf {A = A} changed third (Err fault)
 
-  -- the plan, its named risks and an old plan, these two if they are asked for
-  abbrev pub ReadsForPage : (named changed : Bool) → (first second third : Input)
-      → Result (PageTexts A) CommandFault → Type 0
-  ReadsForPage named changed first second third (Ok t) = SaysWhole first t.plan
-      × ReadsRisksIf named t.plan.plan second (Ok t.risks) × ReadsOldIf changed third (Ok t.old)
-  ReadsForPage named changed first second third (Err fault) =
-      (GivesNoPlan (in_plan This) first fault × second.unread × third.unread)
-      ⊎ ((LacksPageRisks named first second fault × third.unread)
-      ⊎ LacksOld named changed first second third fault)
+-- the plan, its named risks and an old plan, these two if they are asked for
+abbrev pub ReadsForPage : {A : Type 0} → (named changed : Bool) → (first second third : Input)
+    → Result (PageTexts A) CommandFault → Type 0
+ReadsForPage named changed first second third (Ok t) = SaysWhole first t.plan
+    × ReadsRisksIf named t.plan.plan second (Ok t.risks) × ReadsOldIf changed third (Ok t.old)
+ReadsForPage {A} named changed first second third (Err fault) =
+    (GivesNoPlan (in_plan This) first fault × second.unread × third.unread)
+    ⊎ ((LacksPageRisks A named first second fault × third.unread)
+    ⊎ LacksOld A named changed first second third fault)

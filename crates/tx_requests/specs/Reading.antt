@@ -37,15 +37,15 @@ ReadsRisksIf true p text (Ok risks) = AreRisksFor p risks × ReadsRisks p text (
 ReadsRisksIf true p text (Err fault) = RisksRefused p text fault
 ReadsRisksIf false p text result = (result ≡ Ok []) × text.unread
 
+-- a plan was read, and its risks were refused
+abbrev pub LacksRisks : (named : Bool) → (first second : Input) → CommandFault → Type 0
+LacksRisks named first second fault =
+    (p : Plan) × ReadsPlan first (Ok p) × ReadsRisksIf named p second (Err fault)
+
 module _ {A : Type 0} where
   -- the risks are of the plan
   abbrev pub HasItsRisks : PlanRisks A → Type 0
   HasItsRisks t = AreRisksFor t.plan t.risks
-
-  -- a plan was read, and its risks were refused
-  abbrev pub LacksRisks : (named : Bool) → (first second : Input) → CommandFault → Type 0
-  LacksRisks named first second fault =
-      (p : Plan) × ReadsPlan first (Ok p) × ReadsRisksIf named p second (Err fault)
 
   -- a plan, and its named risks if they are asked for
   abbrev pub ReadsWithRisks : (named : Bool) → (first second : Input)

@@ -96,27 +96,28 @@ module _ {A : Type 0} where
     pub refused : IsRefusedAs old.plan new.plan refusal
     pub told : fault ≡ join_stop old.text.items new refusal
 
-  -- the old plan was read, but not the new one
-  pub record LacksNew (old new : Input) (fault : CommandFault) : Type 0 where
-    pub plan : PlanText A
-    pub read : SaysWhole old plan
-    pub refused : GivesNoPlan (in_plan New) new fault
+-- the old plan was read, but not the new one
+pub record LacksNew (A : Type 0) (old new : Input) (fault : CommandFault) : Type 0 where
+  pub plan : PlanText A
+  pub read : SaysWhole old plan
+  pub refused : GivesNoPlan (in_plan New) new fault
 
-  -- both plans were read, and they are not joined
-  pub record AreRefused (old new : Input) (fault : CommandFault) : Type 0 where
-    pub before : PlanText A
-    pub after : PlanText A
-    pub old_read : SaysWhole old before
-    pub new_read : SaysWhole new after
-    pub refused : IsNoJoinOf before after fault
+-- both plans were read, and they are not joined
+pub record AreRefused (A : Type 0) (old new : Input) (fault : CommandFault) : Type 0 where
+  pub before : PlanText A
+  pub after : PlanText A
+  pub old_read : SaysWhole old before
+  pub new_read : SaysWhole new after
+  pub refused : IsNoJoinOf before after fault
 
-  -- The plans are not joined: the first of these reasons. Without the old plan the new one is not
-  -- read.
-  abbrev pub AreNotJoined : (old new : Input) → CommandFault → Type 0
-  AreNotJoined old new fault = (GivesNoPlan (in_plan Old) old fault × new.unread)
-      ⊎ (LacksNew old new fault ⊎ AreRefused old new fault)
+-- The plans are not joined: the first of these reasons. Without the old plan the new one is not
+-- read.
+abbrev pub AreNotJoined : (A : Type 0) → (old new : Input) → CommandFault → Type 0
+AreNotJoined A old new fault = (GivesNoPlan (in_plan Old) old fault × new.unread)
+    ⊎ (LacksNew A old new fault ⊎ AreRefused A old new fault)
 
-  -- the plans of the first two texts, joined
-  abbrev pub ReadsPlans : (old new : Input) → Result (TwoPlans A) CommandFault → Type 0
-  ReadsPlans old new (Ok t) = SaysWhole old t.old × SaysWhole new t.new × IsJoin t.old.plan t.new.plan t.joined
-  ReadsPlans old new (Err fault) = AreNotJoined old new fault
+-- the plans of the first two texts, joined
+abbrev pub ReadsPlans : {A : Type 0} → (old new : Input) → Result (TwoPlans A) CommandFault → Type 0
+ReadsPlans old new (Ok t) =
+    SaysWhole old t.old × SaysWhole new t.new × IsJoin t.old.plan t.new.plan t.joined
+ReadsPlans {A} old new (Err fault) = AreNotJoined A old new fault

@@ -1,11 +1,12 @@
 // The command `change`.
-ghost use Rattle.std.specs.Prelude.{◌≡◌, is_some, IfOk, IfErr};
+ghost use Rattle.std.specs.Prelude.{◌≡◌, ◌∷◌, [], None, Some, is_some, IfOk, IfErr};
 ghost use Rattle.std.specs.List.{AllByRecursion};
 ghost use Rattle.tx_plan.specs.Rules.{IsPlan};
 ghost use Rattle.tx_rank.specs.Findings.{IsTrueOf};
+ghost use Rattle.tx_cert.specs.CertText.{cert_written};
 ghost use Rattle.tx_change.specs.Shown.{IsShown};
 ghost use Rattle.tx_requests.specs.Faults.{memory_stop};
-ghost use Rattle.tx_requests.specs.Made.{shown_plan};
+ghost use Rattle.tx_requests.specs.Made.{shown_plan, texts_of};
 ghost use Rattle.tx_requests.specs.TwoPlans.{AreJoined};
 ghost use Rattle.tx_requests.specs.Change.{ChangeAnswers, change_prints, ChangeEnds, is_shown, EndsWithMixture, EndsWithNewPlan};
 ghost use Rattle.tx_requests.specs.inner.Changes.{IsMadeOf};
@@ -17,6 +18,7 @@ use crate::request::Request;
 use crate::revising::text_if_asked;
 use crate::two_plans::{PlanText, TwoPlans};
 use std::alloc::Allocator;
+use tx_cert::Cert;
 use tx_change::{ChangeVerdict, first_mixture, judge_change, new_plan_shown, write_change};
 use tx_commands::ChangeRequest;
 use tx_rank::Finding;
@@ -56,17 +58,27 @@ impl<A: Allocator + Copy> Request<A> for ChangeRequest {
     fn end(&self, alloc: A, answer: Self::Answer) -> Result<Ending<A>, CommandFault> {
         let (plans, verdict) = answer;
         match verdict {
-            ChangeVerdict::Sound(cert) => Ok(Ending {
-                status: 0,
-                made: Some(Made {
-                    shown: Shown::Plan(plans.joined.old),
-                    text: None,
-                    cert: Some(cert),
-                }),
-            }),
+            ChangeVerdict::Sound(cert) => Ok(end_with_cert(plans, cert)),
             ChangeVerdict::Unsound(findings) => end_with_mixture(alloc, self, plans, &findings),
             ChangeVerdict::NewUnsound(findings) => end_with_new_plan(alloc, self, plans, &findings),
         }
+    }
+}
+
+/// After a Yes: the certificate, which is one of both plans over their joined network.
+fn end_with_cert<A: Allocator>(plans: TwoPlans<A>, cert: Cert<A>) -> Ending<A>
+    ensures status { result.status ≡ 0 }
+    ensures made { texts_of result.made
+        ≡ None ∷ Some (cert_written plans.joined.old cert) ∷ None ∷ [] }
+{
+    let TwoPlans { joined, .. } = plans;
+    Ending {
+        status: 0,
+        made: Some(Made {
+            shown: Shown::Plan(joined.old),
+            text: None,
+            cert: Some(cert),
+        }),
     }
 }
 

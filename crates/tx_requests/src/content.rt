@@ -1,7 +1,9 @@
 // The texts that go into files.
 ghost use Rattle.std.specs.Prelude.{◌≡◌, map, option_map};
 ghost use Rattle.tx_text.specs.Wrote.{Wrote};
-ghost use Rattle.tx_requests.specs.Made.{content_text, shown_plan, plan_file, made_texts};
+ghost use Rattle.tx_cert.specs.CertText.{cert_written};
+ghost use Rattle.tx_audit.specs.Scripts.{script_written};
+ghost use Rattle.tx_requests.specs.Made.{content_text, shown_plan, shown_events, plan_file, made_texts};
 
 use crate::made::{CounterScript, Made, MadeText, Shown};
 use std::alloc::{Allocator, Global};
@@ -30,21 +32,43 @@ impl<A: Allocator> Made<A> {
     pub fn contents(&self) -> [Option<Content<'_, A>>; 3]
         ensures { map (option_map content_text) result ≡ made_texts self.now }
     {
-        let plan = self.shown.plan();
-        let text = match &self.text {
+        [
+            self.text_content(),
+            self.cert_content(),
+            self.script_content(),
+        ]
+    }
+
+    fn text_content(&self) -> Option<Content<'_, A>>
+        ensures { option_map content_text result
+            ≡ plan_file (shown_plan self.now.shown) self.now.text }
+    {
+        match &self.text {
             Some(MadeText::Revised(text)) => Some(Content::Text(text.as_slice())),
-            Some(MadeText::Written) => Some(Content::Plan(plan)),
+            Some(MadeText::Written) => Some(Content::Plan(self.shown.plan())),
             None => None,
-        };
-        let cert = match &self.cert {
-            Some(cert) => Some(Content::Cert(plan, cert)),
+        }
+    }
+
+    fn cert_content(&self) -> Option<Content<'_, A>>
+        ensures { option_map content_text result
+            ≡ option_map (cert_written (shown_plan self.now.shown)) self.now.cert }
+    {
+        match &self.cert {
+            Some(cert) => Some(Content::Cert(self.shown.plan(), cert)),
             None => None,
-        };
-        let script = match &self.shown {
+        }
+    }
+
+    fn script_content(&self) -> Option<Content<'_, A>>
+        ensures { option_map content_text result
+            ≡ option_map (script_written (shown_plan self.now.shown))
+            (shown_events self.now.shown) }
+    {
+        match &self.shown {
             Shown::Script(script) => Some(Content::Script(script)),
             Shown::Plan(_) => None,
-        };
-        [text, cert, script]
+        }
     }
 }
 

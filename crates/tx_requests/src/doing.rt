@@ -8,6 +8,7 @@ ghost use Rattle.tx_requests.specs.Doing.{IsDone};
 use crate::auditing::do_audit;
 use crate::carrying::carry_out;
 use crate::ending::Ending;
+use crate::explain::do_explain;
 use crate::fault::CommandFault;
 use crate::linting::do_lint;
 use crate::page_reading::read_for_page;
@@ -68,6 +69,6 @@ pub fn do_command<A: Allocator + Copy, P: Source, Q: Source, R: Source, W: Sink>
         Command::Trace(request) => carry_out(alloc, request, read_one(alloc, first), out),
         Command::TraceGroup(request) => carry_out(alloc, request, read_one(alloc, first), out),
         Command::Fill(request) => carry_out(alloc, request, read_one(alloc, first), out),
-        Command::Explain(request) => carry_out(alloc, request, Ok(()), out),
+        Command::Explain(request) => do_explain(request, out),
     }
 }

@@ -34,6 +34,9 @@ impl<A: Allocator + Copy> Request<A> for GradeRequest {
     }
 
     fn end(&self, _alloc: A, answer: Self::Answer) -> Result<Ending<A>, CommandFault> {
-        Ok(Ending::of(u8::from(answer.1.plan.is_none())))
+        match &answer.1.plan {
+            Some(_) => Ok(Ending::of(0)),
+            None => Ok(Ending::of(1)),
+        }
     }
 }

@@ -56,7 +56,12 @@ impl<A: Allocator + Copy> Request<A> for PageRequest {
     }
 
     fn end(&self, _alloc: A, answer: Self::Answer) -> Result<Ending<A>, CommandFault> {
-        Ok(Ending::of(u8::from(!is_safe(&answer.found.ranking))))
+        let safe = is_safe(&answer.found.ranking);
+        if safe {
+            Ok(Ending::of(0))
+        } else {
+            Ok(Ending::of(1))
+        }
     }
 }
 

@@ -1,4 +1,5 @@
 // Commands that are done by a job.
+ghost use Rattle.std.specs.Prelude.{◌≡◌};
 ghost use Rattle.tx_text.specs.Calls.{CallsAtMost, source_calls};
 ghost use Rattle.tx_text.specs.Ends.{input, output};
 ghost use Rattle.tx_jobs.specs.CheckJobs.{CheckJobAnswers};
@@ -16,7 +17,7 @@ use tx_audit::Checked;
 use tx_check::Verdict;
 use tx_commands::{CheckRequest, RunRequest, TellingRequest};
 use tx_jobs::{check_job, codes_job, pipe_job, run_checked_job, run_job, run_telling_job};
-use tx_script::Telling;
+use tx_script::{Summary, Telling};
 use tx_text::{Sink, Source};
 
 /// Does the job of a plan and a script in one input.
@@ -88,7 +89,14 @@ pub(crate) fn do_telling<A: Allocator + Copy, P: Source, Q: Source, W: Sink>(
         summary: request.summary,
     };
     let summary = run_telling_job(alloc, telling, first, second, out)?;
-    Ok(Ending::of(u8::from(request.strict && summary.refused != 0)))
+    Ok(Ending::of(strict_status(request.strict, summary)))
+}
+
+/// The exit status of a run that is to show whether an event was refused.
+fn strict_status(strict: bool, summary: Summary) -> u8
+    ensures { result ≡ strict_status strict summary }
+{
+    u8::from(strict && summary.refused != 0)
 }
 
 /// Does the job of `check`.
@@ -124,6 +132,8 @@ pub(crate) fn do_codes<A: Allocator + Copy, P: Source, W: Sink>(
         (λ pair. EndsWith (pair_status pair)) (W.failed out.old) (W.failed out.new) result }
     ensures first_calls { CallsAtMost P.called source_calls first.old first.new }
 {
-    let pair = codes_job(alloc, first, out)?;
-    Ok(Ending::of(u8::from(pair.is_some())))
+    match codes_job(alloc, first, out)? {
+        Some(_) => Ok(Ending::of(1)),
+        None => Ok(Ending::of(0)),
+    }
 }

@@ -29,8 +29,8 @@ returns-in-Some g c =
     c.in_ok-shown.field-0 c.in-Some.shown c.in-Some.is _ c.in_ok-shown.ensures))
     c.end_with.ensures.status c.end_with.ensures.made c.end_with.ensures.refused
 
-pub returns-in-None : goal.returns-in-None
-returns-in-None g c =
+pub returns : goal.returns
+returns g c =
     ends_unwalked _ _ _ _ _ c.of-in-None.result (sym c.is_shown.ensures ∙ c.if-not-is_shown.false)
     c.of-in-None.ensures.status c.of-in-None.ensures.made (rw c.in-None.is at c.in_ok-shown.ensures)
 

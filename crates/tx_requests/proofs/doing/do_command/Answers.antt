@@ -1,4 +1,4 @@
-use Rattle.std.proofs.Common.{Ok, refl}
+use Rattle.std.proofs.Common.{refl}
 use Rattle.tx_requests.proofs.Uncalled.{uncalled}
 use Rattle.tx_requests.proofs.doing.do_command.Goals as goal
 
@@ -165,9 +165,7 @@ pub returns-in-Fill-clause-third_calls : goal.returns-in-Fill-clause-third_calls
 returns-in-Fill-clause-third_calls g c = uncalled g.R.Source.called c.args.third.now
 
 pub returns-in-Explain-clause-done : goal.returns-in-Explain-clause-done
-returns-in-Explain-clause-done g c =
-    rw c.in-Explain.is
-    (record { texts = Ok tt; read = refl; carried = c.carry_out-in-Explain.ensures }, refl, refl, refl)
+returns-in-Explain-clause-done g c = rw c.in-Explain.is (c.do_explain.ensures, refl, refl, refl)
 
 pub returns-in-Explain-clause-first_calls : goal.returns-in-Explain-clause-first_calls
 returns-in-Explain-clause-first_calls g c = λ other. uncalled g.P.Source.called c.args.first.now

@@ -5,8 +5,8 @@ pub returns : goal.returns
 returns g c = (
   _,
   record {
-    name = c.as_bytes-name.ensures.value;
-    digest = rw c.as_slice-text.ensures.value at c.digest-digest.ensures;
+    name = c.as_bytes.ensures.value;
+    digest = rw c.as_slice-text.ensures.value at c.digest.ensures;
     version = refl;
     plan = refl;
     limits = refl;
@@ -14,8 +14,8 @@ returns g c = (
     ranking = refl;
     grade = refl;
     change = c.shown_change.ensures;
-    outcomes = c.as_slice-outcomes.ensures.value;
-    pictures = c.as_slice-pictures.ensures.value;
+    outcomes = c.as_slice.ensures.value;
+    pictures = c.as_slice-2.ensures.value;
   },
   c.write_page.ensures,
 )

@@ -12,7 +12,7 @@ pub returns-clause-known : goal.returns-clause-known
 returns-clause-known g c = record {
   plan = c.in_ok-plan.ensures.text.said;
   risks = risks_fit c.in_ok-plan.plan.plan _ c.args.named c.in_ok-risks.risks c.in_ok-risks.ensures.texts;
-  old = old_said _ c.args.changed c.in_ok-old.old c.in_ok-old.ensures.texts;
+  old = old_said _ _ c.args.changed c.in_ok-old.old c.in_ok-old.ensures.texts;
 }
 
 pub returns-in_err-plan-clause-texts : goal.returns-in_err-plan-clause-texts

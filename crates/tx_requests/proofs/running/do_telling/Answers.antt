@@ -8,7 +8,7 @@ returns-clause-done g c = record {
   answer = Ok c.in_ok-summary.summary;
   by = c.in_ok-summary.ensures.answers;
   mark = c.in_ok-summary.ensures.mark;
-  ended = (rw c.from.ensures at c.of.ensures.status, c.of.ensures.made);
+  ended = (rw c.strict_status.ensures at c.of.ensures.status, c.of.ensures.made);
 }
 
 pub returns-in_err-summary-clause-done : goal.returns-in_err-summary-clause-done

@@ -1,4 +1,3 @@
-use Rattle.std.proofs.Common.{refl}
 use Rattle.tx_requests.proofs.Changing.{answer_joined, answer_shown, answer_true}
 use Rattle.tx_requests.proofs.change.ChangeRequestRequest.end.Goals as goal
 
@@ -19,7 +18,8 @@ end_with_new_plan-requires-clause-each g c =
     (answer_true c.args.self.now c.args.answer c.requires c.in-NewUnsound.findings c.in-NewUnsound.is)
 
 pub returns-in-Sound : goal.returns-in-Sound
-returns-in-Sound g c = rw c.in-Sound.is (refl, refl)
+returns-in-Sound g c =
+    rw c.in-Sound.is (c.end_with_cert.ensures.status, c.end_with_cert.ensures.made)
 
 pub returns-in-Unsound : goal.returns-in-Unsound
 returns-in-Unsound g c =

@@ -8,4 +8,4 @@ returns g c =
     let grade = c.in_ok-grade.grade in
     let plan = plan_is _ c.args.texts c.requires grade.findings.items grade.plan
     e.plan e.clear e.fails e.clean e.each e.listed in
-    (refl, plan, e.codes)
+    (refl, (plan, e.codes))

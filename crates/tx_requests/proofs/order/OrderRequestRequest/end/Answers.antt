@@ -14,5 +14,5 @@ end_at_stage-requires-clause-rules g c =
 pub returns-in-Some : goal.returns-in-Some
 returns-in-Some g c = rw (c.in-Ordered.is, c.in-Some.is) c.end_at_stage.ensures
 
-pub returns-in-None : goal.returns-in-None
-returns-in-None g c = rw (c.in-Ordered.is, c.in-None.is) (c.of.ensures.status, c.of.ensures.made)
+pub returns-in-Ordered : goal.returns-in-Ordered
+returns-in-Ordered g c = rw (c.in-Ordered.is, c.in-None.is) (c.of.ensures.status, c.of.ensures.made)
