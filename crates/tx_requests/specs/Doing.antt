@@ -1,5 +1,5 @@
 -- What a command comes to over its texts.
-use Rattle.std.specs.Prelude.{ℕ, Bool, true, List, Option, is_some, Result, Err}
+use Rattle.std.specs.Prelude.{◌≡◌, ℕ, Bool, true, List, Option, is_some, Result, Err}
 use Rattle.tx_text.specs.declared.source.ReadFault.{ReadFault}
 use Rattle.tx_text.specs.Ends.{Input, Output, input, output}
 use Rattle.tx_commands.specs.declared.command.Command.{Command}
