@@ -1,7 +1,7 @@
 -- What was read of the texts of a request.
-use Rattle.std.proofs.Common.{◌≡◌, Bool, true, false, List, [], Option, None, Some, Result, Ok, Err, inl, inr, refl, sym, subst}
+use Rattle.std.proofs.Common.{◌≡◌, Bool, true, false, List, [], Option, None, Some, Ok, Err, refl, sym}
 use Rattle.std.proofs.lemmas.Bool.{false≢true}
-use Rattle.std.specs.Prelude.{IfOk, IfSome}
+use Rattle.std.specs.Prelude.{IfSome}
 use Rattle.tx_text.specs.Ends.{Input}
 use Rattle.tx_plan.specs.Plan.{Plan}
 use Rattle.tx_risk.specs.NamedRisks.{NamedRisk, AreRisksFor}

@@ -15,7 +15,7 @@ use Rattle.tx_requests.specs.declared.fault.CommandFault.{CommandFault}
 use Rattle.tx_requests.specs.declared.made.Made.{Made}
 use Rattle.tx_requests.specs.Ending.{EndsWith, EndsWithTexts}
 use Rattle.tx_requests.specs.Faults.{memory_stop}
-use Rattle.tx_requests.specs.Made.{shown_plan, shown_events, texts_of}
+use Rattle.tx_requests.specs.Made.{shown_plan, shown_events}
 
 module _ {A : Type 0} where
   -- The script has the plan and the events of the first finding that has some, and these show one

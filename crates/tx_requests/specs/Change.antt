@@ -1,5 +1,5 @@
 -- The command `change`.
-use Rattle.std.specs.Prelude.{◌≡◌, ℕ, Bool, true, false, ◌||◌, List, ◌∷◌, [], Option, Some, None, is_some, Result, Ok, Err}
+use Rattle.std.specs.Prelude.{◌≡◌, Bool, true, false, ◌||◌, List, ◌∷◌, [], Option, Some, None, is_some, Result, Ok, Err}
 use Rattle.tx_plan.specs.Plan.{Plan}
 use Rattle.tx_machine.specs.declared.event.Event.{Event}
 use Rattle.tx_cert.specs.CertText.{cert_written}

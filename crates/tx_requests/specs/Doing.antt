@@ -1,5 +1,5 @@
 -- What a command comes to over its texts.
-use Rattle.std.specs.Prelude.{ℕ, Bool, List, Option, is_some, Result}
+use Rattle.std.specs.Prelude.{ℕ, Bool, true, List, Option, is_some, Result, Err}
 use Rattle.tx_text.specs.declared.source.ReadFault.{ReadFault}
 use Rattle.tx_text.specs.Ends.{Input, Output, input, output}
 use Rattle.tx_commands.specs.declared.command.Command.{Command}
@@ -21,7 +21,7 @@ use Rattle.tx_requests.specs.Explain.{IsExplained}
 use Rattle.tx_requests.specs.Fill.{FillAnswers, fill_prints}
 use Rattle.tx_requests.specs.Grade.{GradeAnswers, grade_prints, GradeEnds}
 use Rattle.tx_requests.specs.Group.{GroupAnswers, group_prints}
-use Rattle.tx_requests.specs.Lint.{IsLinted}
+use Rattle.tx_requests.specs.Lint.{read_stop, IsLinted}
 use Rattle.tx_requests.specs.Printing.{Printing}
 use Rattle.tx_requests.specs.Jobs.{IsJobDone, verdict_status, pair_status, strict_status}
 use Rattle.tx_requests.specs.Mend.{MendAnswers, mend_prints, MendEnds}
@@ -78,7 +78,8 @@ module _ {P W : Type 0} (rest : P → Option (List ℕ)) (failed : P → Bool)
     IsDone (Audit r) result = ByJob (AuditJobAnswers r.limits.limit r.limits.spare first out)
         (AuditEnds r) result × second.unread × third.unread
     IsDone (Lint r) result =
-        IsLinted r first second out (marked before) (marked after) result × third.unread
+        IsLinted r first second out (marked before) (marked after) result
+        × (failed new ≡ true → result ≡ Err read_stop) × third.unread
     IsDone (Change r) result =
         ByRequest (ReadsPlans first second) ChangeAnswers change_prints ChangeEnds r result
         × third.unread
@@ -98,13 +99,13 @@ module _ {P W : Type 0} (rest : P → Option (List ℕ)) (failed : P → Bool)
         ByRequest (ReadsPlan first) (λ r. GradeAnswers) (λ r. grade_prints) (λ r. GradeEnds) r result
         × second.unread × third.unread
     IsDone (Trace r) result =
-        ByRequest (ReadsPlan first) TraceAnswers (λ r. trace_prints) (λ r. EndsWell) r result
+        ByRequest (ReadsPlan first) (TraceAnswers {A = A}) (λ r. trace_prints) (λ r. EndsWell) r result
         × second.unread × third.unread
     IsDone (TraceGroup r) result =
         ByRequest (ReadsPlan first) GroupAnswers (λ r. group_prints) (λ r. EndsWell) r result
         × second.unread × third.unread
     IsDone (Fill r) result =
-        ByRequest (ReadsPlan first) FillAnswers (λ r. fill_prints) (λ r. EndsWell) r result
+        ByRequest (ReadsPlan first) (FillAnswers {A = A}) (λ r. fill_prints) (λ r. EndsWell) r result
         × second.unread × third.unread
     IsDone (Explain r) result =
         IsExplained r (taken before) (taken after) (marked before) (marked after) result

@@ -1,5 +1,5 @@
 -- Why commands stop.
-use Rattle.std.specs.Prelude.{ℕ, Bool, true, Result, Ok, Err}
+use Rattle.std.specs.Prelude.{ℕ, Bool, true, Result, Err}
 use Rattle.tx_text.specs.declared.frame.FaultAt.{FaultAt}
 use Rattle.tx_text.specs.declared.frame.FrameFault.TheVariants.{Read as LineRead, NoMemory as LineNoMemory}
 use Rattle.tx_text.specs.declared.frame.FaultKind.{FaultKind}

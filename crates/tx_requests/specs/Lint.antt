@@ -17,6 +17,10 @@ use Rattle.tx_requests.specs.declared.fault.CommandFault.TheVariants.{Job}
 use Rattle.tx_requests.specs.Faults.{memory_stop, fault_mark}
 use Rattle.tx_requests.specs.Reading.{RisksRefused}
 
+-- the input failed
+abbrev pub read_stop : CommandFault
+read_stop = Job Read
+
 -- all lines were written, and their status is the answer; or a front of them, and the sink failed
 abbrev pub ToldLint : (file : List ℕ) → Lint → Output → Result ℕ CommandFault → Type 0
 ToldLint file l out (Ok status) =

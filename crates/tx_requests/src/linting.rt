@@ -1,10 +1,10 @@
 // The command `lint`.
-ghost use Rattle.std.specs.Prelude.{◌≡◌, []};
+ghost use Rattle.std.specs.Prelude.{◌≡◌, [], true, Err};
 ghost use Rattle.tx_text.specs.Calls.{CallsAtMost, source_calls};
 ghost use Rattle.tx_lint.specs.Lints.{lint_held};
 ghost use Rattle.tx_requests.specs.Faults.{fault_mark};
 ghost use Rattle.tx_text.specs.Ends.{input, output};
-ghost use Rattle.tx_requests.specs.Lint.{ToldLint, LintedInRoom, LintAnswers, LintRisksAnswers, IsLinted, WarnedWithRisks};
+ghost use Rattle.tx_requests.specs.Lint.{read_stop, ToldLint, LintedInRoom, LintAnswers, LintRisksAnswers, IsLinted, WarnedWithRisks};
 
 use crate::ending::Ending;
 use crate::fault::CommandFault;
@@ -26,6 +26,7 @@ pub(crate) fn do_lint<A: Allocator + Copy, P: Source, R: Source, W: Sink>(
     ensures done { IsLinted request.now (input P.rest P.failed P.called plan.old plan.new)
         (input R.rest R.failed R.called risks.old risks.new) (output W.taken out.old out.new)
         (W.failed out.old) (W.failed out.new) result }
+    ensures failed { P.failed plan.new ≡ true → result ≡ Err read_stop }
     ensures plan_calls { CallsAtMost P.called source_calls plan.old plan.new }
     ensures risks_calls { CallsAtMost R.called source_calls risks.old risks.new }
 {
@@ -51,6 +52,7 @@ fn lint_whole<A: Allocator + Copy, P: Source, W: Sink>(
 ) -> Result<u8, CommandFault>
     ensures answers { LintAnswers file.now
         (input P.rest P.failed P.called plan.old plan.new) (output W.taken out.old out.new) result }
+    ensures failed { P.failed plan.new ≡ true → result ≡ Err read_stop }
     ensures mark { W.failed out.new ≡ fault_mark (W.failed out.old) result }
     ensures calls { CallsAtMost P.called source_calls plan.old plan.new }
 {
@@ -71,6 +73,7 @@ fn lint_with_risks<A: Allocator + Copy, P: Source, R: Source, W: Sink>(
         (input P.rest P.failed P.called plan.old plan.new)
         (input R.rest R.failed R.called risks.old risks.new) (output W.taken out.old out.new)
         result }
+    ensures failed { P.failed plan.new ≡ true → result ≡ Err read_stop }
     ensures mark { W.failed out.new ≡ fault_mark (W.failed out.old) result }
     ensures plan_calls { CallsAtMost P.called source_calls plan.old plan.new }
     ensures risks_calls { CallsAtMost R.called source_calls risks.old risks.new }

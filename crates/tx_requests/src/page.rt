@@ -74,8 +74,16 @@ pub fn show_page<A: Allocator, W: PageSink>(
     ensures { (s : SubjectNow A) × IsSubjectOf request.now answer.now s
         × Showed W.seen sink.old sink.new (page_texts s) result }
 {
+    let subject = subject_of(request, answer);
+    write_page(&subject, sink)
+}
+
+/// What the page is about.
+fn subject_of<'a, A: Allocator>(request: &'a PageRequest, answer: &'a Paged<A>) -> Subject<'a, A>
+    ensures { IsSubjectOf request.now answer.now result }
+{
     let text = answer.texts.plan.text.as_slice();
-    let subject = Subject {
+    Subject {
         name: request.plan.as_bytes(),
         digest: Sha256::digest(text),
         version: VERSION,
@@ -87,6 +95,5 @@ pub fn show_page<A: Allocator, W: PageSink>(
         change: shown_change(&answer.change),
         outcomes: answer.found.outcomes.as_slice(),
         pictures: answer.found.pictures.as_slice(),
-    };
-    write_page(&subject, sink)
+    }
 }

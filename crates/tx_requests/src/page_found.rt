@@ -106,26 +106,13 @@ fn pictures_of<A: Allocator + Copy>(
 {
     let origins = origins_of(alloc, plan)?;
     match code {
-        Some(code) => one_picture(alloc, plan, grade, &origins, code),
+        Some(code) => {
+            let mut pictures = Vec::new(alloc);
+            pictures.push(picture_of(alloc, plan, grade, &origins, code)?)?;
+            Ok(pictures)
+        }
         None => all_pictures(alloc, plan, grade, &origins),
     }
-}
-
-/// The picture of a code.
-fn one_picture<A: Allocator + Copy>(
-    alloc: A,
-    plan: &Plan<A>,
-    grade: &Grade<A>,
-    origins: &[bool],
-    code: CodeId,
-) -> Result<Vec<Picture<A>, A>, NoMemory>
-    requires code { code < length plan.now.codes }
-    requires origins { AreOrigins plan.now origins.now }
-    ensures { IfOk result (λ pictures. map (λ q. q.code) pictures.items ≡ code ∷ []) }
-{
-    let mut pictures = Vec::new(alloc);
-    pictures.push(picture_of(alloc, plan, grade, origins, code)?)?;
-    Ok(pictures)
 }
 
 /// A picture of each code.

@@ -1,6 +1,3 @@
-use Rattle.std.proofs.Common.{refl}
-use Rattle.tx_text.proofs.Exits.{exits_with}
-use Rattle.tx_requests.specs.Faults.{memory_stop}
 use Rattle.tx_requests.proofs.auditing.end_after_no.Goals as goal
 
 pub invariant_of-result : goal.invariant_of-result

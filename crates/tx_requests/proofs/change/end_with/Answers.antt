@@ -1,5 +1,4 @@
-use Rattle.std.proofs.Common.{sym, refl}
-use Rattle.tx_text.proofs.Exits.{exits_with}
+use Rattle.std.proofs.Common.{refl}
 use Rattle.tx_requests.proofs.change.end_with.Goals as goal
 
 pub text_if_asked-requires : goal.text_if_asked-requires

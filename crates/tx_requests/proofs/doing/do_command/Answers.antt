@@ -48,7 +48,7 @@ pub returns-in-Audit-clause-third_calls : goal.returns-in-Audit-clause-third_cal
 returns-in-Audit-clause-third_calls g c = uncalled g.R.Source.called c.args.third.now
 
 pub returns-in-Lint-clause-done : goal.returns-in-Lint-clause-done
-returns-in-Lint-clause-done g c = rw c.in-Lint.is (c.do_lint.ensures.done, refl)
+returns-in-Lint-clause-done g c = rw c.in-Lint.is (c.do_lint.ensures.done, c.do_lint.ensures.failed, refl)
 
 pub returns-in-Lint-clause-third_calls : goal.returns-in-Lint-clause-third_calls
 returns-in-Lint-clause-third_calls g c = uncalled g.R.Source.called c.args.third.now

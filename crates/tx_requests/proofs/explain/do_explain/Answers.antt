@@ -12,7 +12,7 @@ returns g c = record {
 
 pub returns-in_err-write_explanation : goal.returns-in_err-write_explanation
 returns-in_err-write_explanation g c = record {
-  written = Err c.in_err-write_explanation.field-0;
+  written = Err c.in_err-write_explanation.field-0.0;
   by = rw c.as_deref.ensures.value at c.in_err-write_explanation.ensures;
   ended = exits_with c.from_residual.result write_stop c.from_residual.ensures.1;
 }

@@ -1,21 +1,4 @@
-use Rattle.std.proofs.Common.{refl}
 use Rattle.tx_requests.proofs.page.show_page.Goals as goal
 
 pub returns : goal.returns
-returns g c = (
-  _,
-  record {
-    name = c.as_bytes.ensures.value;
-    digest = rw c.as_slice-text.ensures.value at c.digest.ensures;
-    version = refl;
-    plan = refl;
-    limits = refl;
-    risks = refl;
-    ranking = refl;
-    grade = refl;
-    change = c.shown_change.ensures;
-    outcomes = c.as_slice.ensures.value;
-    pictures = c.as_slice-2.ensures.value;
-  },
-  c.write_page.ensures,
-)
+returns g c = (c.subject_of-subject.result, c.subject_of-subject.ensures, c.write_page.ensures)

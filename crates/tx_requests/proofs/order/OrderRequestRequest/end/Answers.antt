@@ -1,4 +1,3 @@
-use Rattle.std.proofs.Common.{refl}
 use Rattle.tx_requests.proofs.Ordering.{answer_stage, answer_rules}
 use Rattle.tx_requests.proofs.order.OrderRequestRequest.end.Goals as goal
 

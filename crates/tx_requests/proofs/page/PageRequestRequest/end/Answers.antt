@@ -5,7 +5,7 @@ pub returns-then-safe : goal.returns-then-safe
 returns-then-safe g c =
     rw (sym c.is_safe-safe.ensures ∙ c.if-safe.true) (c.of.ensures.status, c.of.ensures.made)
 
-pub returns-else-safe : goal.returns-else-safe
-returns-else-safe g c =
+pub returns : goal.returns
+returns g c =
     rw (sym c.is_safe-safe.ensures ∙ c.if-safe.false)
     (c.of-else-safe.ensures.status, c.of-else-safe.ensures.made)
