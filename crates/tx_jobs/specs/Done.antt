@@ -31,7 +31,7 @@ use Rattle.tx_jobs.specs.Jobs.{CodesJobAnswers, RunJobAnswers, ToldText}
 use Rattle.tx_jobs.specs.LintJobs.{LintJobAnswers, LintRisksJobAnswers}
 use Rattle.tx_jobs.specs.MendJobs.{MendJobAnswers}
 use Rattle.tx_jobs.specs.OrderJobs.{OrderJobAnswers}
-use Rattle.tx_jobs.specs.PageJobs.{page_request, PageJobAnswers}
+use Rattle.tx_jobs.specs.PageJobs.{in_bytes, page_request, PageJobAnswers}
 use Rattle.tx_jobs.specs.PipeJobs.{PipeJobAnswers}
 use Rattle.tx_jobs.specs.SurviveJobs.{SurviveJobAnswers, SurviveRisksJobAnswers}
 use Rattle.tx_jobs.specs.TellingJobs.{TellingJobAnswers}
@@ -149,7 +149,7 @@ module _ {P : Type 0} (rest : P → Option (List ℕ)) (failed : P → Bool)
         Does Survived (SurviveRisksJobAnswers only totals first second out) result × third.unread
     IsDone (Page plan limit spare risks old code html) result = Does Paged (PageJobAnswers A
         (page_request (string_bytes plan) limit spare code (is_some risks) (is_some old))
-        first second third out) result
+        first second third (in_bytes out)) result
     IsDone (Grade plan) result = Does Graded (GradeJobAnswers first out) result × Alone
     IsDone (Trace plan exchange code down) result =
         Does written (TraceJobAnswers (string_bytes exchange) (string_bytes code)

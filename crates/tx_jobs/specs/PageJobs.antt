@@ -18,7 +18,7 @@ use Rattle.tx_order.specs.declared.switching.Switching.{Switching}
 use Rattle.tx_order.specs.Switchings.{IsRightSwitching}
 use Rattle.tx_risk.specs.NamedRisks.{NamedRisk}
 use Rattle.tx_risk.specs.Outages.{AreOutcomes}
-use Rattle.tx_html.specs.Shows.{Shows}
+use Rattle.tx_html.specs.Shows.{Seen, Shows, append_texts}
 use Rattle.tx_page.specs.declared.change.Change.{Change}
 use Rattle.tx_page.specs.Page.{is_safe, page_texts}
 use Rattle.tx_page.specs.declared.subject.Subject.{Subject}
@@ -30,6 +30,35 @@ use Rattle.tx_jobs.specs.GradeJobs.{IsGradeOf}
 use Rattle.tx_jobs.specs.JobFaults.{plan_fault, old_plan_fault}
 use Rattle.tx_jobs.specs.SurviveJobs.{RisksRead, RisksRefused}
 use Rattle.tx_jobs.specs.TwoPlans.{SaysWhole, GivesNoPlan, IsNoJoinOf}
+
+-- A sink of pages before and after: the bytes and the list of texts that it had taken and has taken,
+-- each if it shows them to contracts; and that nothing was written to it.
+pub record PageOutput : Type 1 where
+  pub old : Option (List ℕ)
+  pub new : Option (List ℕ)
+  pub listed : Option (List (List ℕ))
+  pub lists : Option (List (List ℕ))
+  pub silent : Type 0
+
+-- that of any sink of pages
+abbrev pub page_output : {W : Type 0} → (seen : W → Seen) → (old new : W) → PageOutput
+page_output seen old new = record {
+  old = (seen old).taken;
+  new = (seen new).taken;
+  listed = (seen old).shown;
+  lists = (seen new).shown;
+  silent = new ≡ old;
+}
+
+-- that of a sink of bytes, which keeps no list
+abbrev pub in_bytes : Output → PageOutput
+in_bytes out = record {
+  old = out.old;
+  new = out.new;
+  listed = None;
+  lists = None;
+  silent = out.silent;
+}
 
 -- what a page is asked for: the words for the file of the plan, the numbers, and the figures of the
 -- code whose lists it shows, or none for those of all codes; and whether there are named risks, and
@@ -132,8 +161,9 @@ module _ (A : Type 0) (asked : Request) (text : List ℕ) (p : Plan) (codes : Li
     pub outcomes : IfSome s.grade.now.plan (λ _. AreOutcomes p risks false s.outcomes.now)
     pub pictures : map (λ q. q.code) s.pictures.now ≡ codes
 
-  -- a page that shows what is right was written, and whether a certificate was found is the answer
-  pub record IsPaged (risks : List NamedRisk) (old : Option Plan) (out : Output) (safe : Bool)
+  -- a page that shows what is right, and nothing else, was written, and whether a certificate was
+  -- found is the answer
+  pub record IsPaged (risks : List NamedRisk) (old : Option Plan) (out : PageOutput) (safe : Bool)
       : Type 0 where
     pub subject : Subject A
     pub right : IsRightSubject risks old subject
@@ -141,9 +171,10 @@ module _ (A : Type 0) (asked : Request) (text : List ℕ) (p : Plan) (codes : Li
     pub bytes : List ℕ
     pub added : out.new ≡ append_known out.old bytes
     pub shows : Shows (page_texts subject) bytes
+    pub exactly : out.lists ≡ append_texts out.listed (page_texts subject)
 
   -- it was written; or the sink failed; or there was no memory for it, and nothing was written
-  abbrev pub ToldPage : List NamedRisk → (old : Option Plan) → Output → Result Bool JobFault
+  abbrev pub ToldPage : List NamedRisk → (old : Option Plan) → PageOutput → Result Bool JobFault
       → Type 0
   ToldPage risks old out (Ok safe) = IsPaged risks old out safe
   ToldPage risks old out (Err Write) = Unit {0}
@@ -152,14 +183,14 @@ module _ (A : Type 0) (asked : Request) (text : List ℕ) (p : Plan) (codes : Li
 
   -- an old plan was read, and the page was written, with the change from it; or the two have no
   -- joined network
-  abbrev pub PagedFrom : List NamedRisk → (old_text : List ℕ) → (old : Plan) → Output
+  abbrev pub PagedFrom : List NamedRisk → (old_text : List ℕ) → (old : Plan) → PageOutput
       → Result Bool JobFault → Type 0
   PagedFrom risks old_text old out result =
       (HaveJoined old p × ToldPage risks (Some old) out result)
       ⊎ AnswersNoJoin old_text text old p out.silent result
 
   -- the old plan was read, if one is asked for, and the page was written; or it is refused
-  abbrev pub PagedByOld : (has_old : Bool) → List NamedRisk → Input → Output
+  abbrev pub PagedByOld : (has_old : Bool) → List NamedRisk → Input → PageOutput
       → Result Bool JobFault → Type 0
   PagedByOld true risks old out result =
       PlanSaid old (λ old_text q. PagedFrom risks old_text q out result)
@@ -167,7 +198,7 @@ module _ (A : Type 0) (asked : Request) (text : List ℕ) (p : Plan) (codes : Li
   PagedByOld false risks old out result = ToldPage risks None out result × old.unread
 
   -- the named risks were read, if they are asked for, and then the old plan; or they are refused
-  abbrev pub PagedByRisks : (has_risks : Bool) → (risks old : Input) → Output
+  abbrev pub PagedByRisks : (has_risks : Bool) → (risks old : Input) → PageOutput
       → Result Bool JobFault → Type 0
   PagedByRisks true risks old out result =
       RisksRead p risks (λ rs. PagedByOld asked.has_old rs old out result)
@@ -178,14 +209,14 @@ module _ (A : Type 0) (asked : Request) (text : List ℕ) (p : Plan) (codes : Li
 -- the page was written with the lists for these codes; or the plan has no code of the figures that
 -- are asked for
 abbrev pub PagedOf : (A : Type 0) → Request → (text : List ℕ) → Plan
-    → (codes : Option (List ℕ)) → (risks old : Input) → Output → Result Bool JobFault → Type 0
+    → (codes : Option (List ℕ)) → (risks old : Input) → PageOutput → Result Bool JobFault → Type 0
 PagedOf A asked text p None risks old out result =
     (result ≡ Err NoSuchCode) × risks.unread × old.unread × out.silent
 PagedOf A asked text p (Some codes) risks old out result =
     PagedByRisks A asked text p codes asked.has_risks risks old out result
 
 -- `page PLAN --limit L --spare K`
-abbrev pub PageJobAnswers : (A : Type 0) → Request → (plan risks old : Input) → Output
+abbrev pub PageJobAnswers : (A : Type 0) → Request → (plan risks old : Input) → PageOutput
     → Result Bool JobFault → Type 0
 PageJobAnswers A asked plan risks old out result =
     PlanSaid plan (λ text p. PagedOf A asked text p (shown_codes p asked.code) risks old out result)

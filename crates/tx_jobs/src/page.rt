@@ -2,11 +2,11 @@
 ghost use Rattle.std.specs.Prelude.{◌≡◌, ◌<◌, ℕ, List, [], length, Option, option_map, IfSome, IfOk, IfErr};
 ghost use Rattle.std.specs.Option.{option_copied};
 ghost use Rattle.tx_text.specs.Calls.{CallsAtMost, source_calls};
-ghost use Rattle.tx_text.specs.Ends.{input, output};
+ghost use Rattle.tx_text.specs.Ends.{input};
 ghost use Rattle.tx_plan.specs.Plan.{Plan as PlanNow};
 ghost use Rattle.tx_risk.specs.NamedRisks.{NamedRisk, AreRisksFor};
 ghost use Rattle.tx_jobs.specs.JobFaults.{mark_after};
-ghost use Rattle.tx_jobs.specs.PageJobs.{Request, request_of, shown_codes, IsRightSubject, ToldPage, PagedFrom, PagedByOld, PagedByRisks, PagedOf, PageJobAnswers};
+ghost use Rattle.tx_jobs.specs.PageJobs.{Request, request_of, page_output, shown_codes, IsRightSubject, ToldPage, PagedFrom, PagedByOld, PagedByRisks, PagedOf, PageJobAnswers};
 ghost use Rattle.tx_jobs.specs.inner.PageFound.{one_or_all, IsFound, IsFoundIfAny};
 
 use crate::job_fault::JobFault;
@@ -16,10 +16,11 @@ use crate::two_plans::{PlanText, Which, read_whole};
 use sha2::{Digest, Sha256};
 use std::alloc::Allocator;
 use tx_commands::VERSION;
+use tx_html::PageSink;
 use tx_page::{Subject, is_safe, write_page};
 use tx_plan::{CodeId, Limits, Plan};
 use tx_risk::{Risks, read_risks_from};
-use tx_text::{Sink, Source};
+use tx_text::Source;
 
 /// What a page is asked for.
 #[derive(Clone, Copy)]
@@ -63,7 +64,7 @@ impl<'a> PageRequest<'a> {
 ///
 /// Nothing is written where a text is refused, where the plan has no such code or no joined network
 /// with the old one, or where memory runs out.
-pub fn page_job<A: Allocator + Copy, P: Source, Q: Source, R: Source, W: Sink>(
+pub fn page_job<A: Allocator + Copy, P: Source, Q: Source, R: Source, W: PageSink>(
     alloc: A,
     plan: &mut P,
     risks: &mut Q,
@@ -75,8 +76,8 @@ pub fn page_job<A: Allocator + Copy, P: Source, Q: Source, R: Source, W: Sink>(
         (input P.rest P.failed P.called plan.old plan.new)
         (input Q.rest Q.failed Q.called risks.old risks.new)
         (input R.rest R.failed R.called old.old old.new)
-        (output W.taken out.old out.new) result }
-    ensures mark { W.failed out.new ≡ mark_after (W.failed out.old) result }
+        (page_output W.seen out.old out.new) result }
+    ensures mark { (W.seen out.new).failed ≡ mark_after (W.seen out.old).failed result }
     ensures plan_calls { CallsAtMost P.called source_calls plan.old plan.new }
     ensures risks_calls { CallsAtMost Q.called source_calls risks.old risks.new }
     ensures old_calls { CallsAtMost R.called source_calls old.old old.new }
@@ -86,7 +87,7 @@ pub fn page_job<A: Allocator + Copy, P: Source, Q: Source, R: Source, W: Sink>(
 }
 
 /// Writes the page of a plan that was read, if it has the code that is asked for.
-fn page_of<A: Allocator + Copy, Q: Source, R: Source, W: Sink>(
+fn page_of<A: Allocator + Copy, Q: Source, R: Source, W: PageSink>(
     alloc: A,
     asked: PageRequest<'_>,
     plan: &PlanText<A>,
@@ -98,8 +99,8 @@ fn page_of<A: Allocator + Copy, Q: Source, R: Source, W: Sink>(
         (shown_codes plan.now.plan (option_map (λ f. f.now) asked.entry.code))
         (input Q.rest Q.failed Q.called risks.old risks.new)
         (input R.rest R.failed R.called old.old old.new)
-        (output W.taken out.old out.new) result }
-    ensures mark { W.failed out.new ≡ mark_after (W.failed out.old) result }
+        (page_output W.seen out.old out.new) result }
+    ensures mark { (W.seen out.new).failed ≡ mark_after (W.seen out.old).failed result }
     ensures risks_calls { CallsAtMost Q.called source_calls risks.old risks.new }
     ensures old_calls { CallsAtMost R.called source_calls old.old old.new }
 {
@@ -130,7 +131,7 @@ fn code_asked<A: Allocator>(
 
 /// Reads the named risks of the plan, if they are asked for, and writes the page, with the lists
 /// for a code or for all.
-fn page_with<A: Allocator + Copy, Q: Source, R: Source, W: Sink>(
+fn page_with<A: Allocator + Copy, Q: Source, R: Source, W: PageSink>(
     alloc: A,
     asked: PageRequest<'_>,
     code: Option<CodeId>,
@@ -144,8 +145,8 @@ fn page_with<A: Allocator + Copy, Q: Source, R: Source, W: Sink>(
         (one_or_all plan.now.plan code) asked.entry.has_risks
         (input Q.rest Q.failed Q.called risks.old risks.new)
         (input R.rest R.failed R.called old.old old.new)
-        (output W.taken out.old out.new) result }
-    ensures mark { W.failed out.new ≡ mark_after (W.failed out.old) result }
+        (page_output W.seen out.old out.new) result }
+    ensures mark { (W.seen out.new).failed ≡ mark_after (W.seen out.old).failed result }
     ensures risks_calls { CallsAtMost Q.called source_calls risks.old risks.new }
     ensures old_calls { CallsAtMost R.called source_calls old.old old.new }
 {
@@ -159,7 +160,7 @@ fn page_with<A: Allocator + Copy, Q: Source, R: Source, W: Sink>(
 }
 
 /// The same without named risks.
-fn page_without_risks<A: Allocator + Copy, R: Source, W: Sink>(
+fn page_without_risks<A: Allocator + Copy, R: Source, W: PageSink>(
     alloc: A,
     asked: PageRequest<'_>,
     code: Option<CodeId>,
@@ -171,15 +172,15 @@ fn page_without_risks<A: Allocator + Copy, R: Source, W: Sink>(
     ensures answers { PagedByOld A (request_of asked.entry) plan.now.text.items plan.now.plan
         (one_or_all plan.now.plan code) asked.entry.has_old []
         (input R.rest R.failed R.called old.old old.new)
-        (output W.taken out.old out.new) result }
-    ensures mark { W.failed out.new ≡ mark_after (W.failed out.old) result }
+        (page_output W.seen out.old out.new) result }
+    ensures mark { (W.seen out.new).failed ≡ mark_after (W.seen out.old).failed result }
     ensures calls { CallsAtMost R.called source_calls old.old old.new }
 {
     page_from(alloc, asked, code, plan, &Risks::none(alloc), old, out)
 }
 
 /// Reads the old plan, if it is asked for, and writes the page.
-fn page_from<A: Allocator + Copy, R: Source, W: Sink>(
+fn page_from<A: Allocator + Copy, R: Source, W: PageSink>(
     alloc: A,
     asked: PageRequest<'_>,
     code: Option<CodeId>,
@@ -193,8 +194,8 @@ fn page_from<A: Allocator + Copy, R: Source, W: Sink>(
     ensures answers { PagedByOld A (request_of asked.entry) plan.now.text.items plan.now.plan
         (one_or_all plan.now.plan code) asked.entry.has_old risks.now
         (input R.rest R.failed R.called old.old old.new)
-        (output W.taken out.old out.new) result }
-    ensures mark { W.failed out.new ≡ mark_after (W.failed out.old) result }
+        (page_output W.seen out.old out.new) result }
+    ensures mark { (W.seen out.new).failed ≡ mark_after (W.seen out.old).failed result }
     ensures calls { CallsAtMost R.called source_calls old.old old.new }
 {
     let has_old = asked.has_old;
@@ -207,7 +208,7 @@ fn page_from<A: Allocator + Copy, R: Source, W: Sink>(
 }
 
 /// Writes the page, with the change from an old plan.
-fn tell_change<A: Allocator + Copy, W: Sink>(
+fn tell_change<A: Allocator + Copy, W: PageSink>(
     alloc: A,
     asked: PageRequest<'_>,
     code: Option<CodeId>,
@@ -220,15 +221,15 @@ fn tell_change<A: Allocator + Copy, W: Sink>(
     requires risks { AreRisksFor plan.now.plan risks.now }
     ensures told { PagedFrom A (request_of asked.entry) plan.now.text.items plan.now.plan
         (one_or_all plan.now.plan code) risks.now old.now.text.items old.now.plan
-        (output W.taken out.old out.new) result }
-    ensures mark { W.failed out.new ≡ mark_after (W.failed out.old) result }
+        (page_output W.seen out.old out.new) result }
+    ensures mark { (W.seen out.new).failed ≡ mark_after (W.seen out.old).failed result }
 {
     let found = change_between(alloc, old, plan, asked.limits)?;
     tell_page(alloc, asked, code, plan, risks, Some(found), out)
 }
 
 /// Writes the page, with a change, if there is one.
-fn tell_page<A: Allocator + Copy, W: Sink>(
+fn tell_page<A: Allocator + Copy, W: PageSink>(
     alloc: A,
     asked: PageRequest<'_>,
     code: Option<CodeId>,
@@ -242,8 +243,8 @@ fn tell_page<A: Allocator + Copy, W: Sink>(
     ensures told { (old : Option PlanNow)
         → IsFoundIfAny old plan.now.plan asked.entry.limits.limit asked.entry.limits.spare change
         → ToldPage A (request_of asked.entry) plan.now.text.items plan.now.plan
-        (one_or_all plan.now.plan code) risks.now old (output W.taken out.old out.new) result }
-    ensures mark { W.failed out.new ≡ mark_after (W.failed out.old) result }
+        (one_or_all plan.now.plan code) risks.now old (page_output W.seen out.old out.new) result }
+    ensures mark { (W.seen out.new).failed ≡ mark_after (W.seen out.old).failed result }
 {
     let told = find_and_tell(alloc, asked, code, plan, risks, change.as_ref(), out);
     drop(change);
@@ -251,7 +252,7 @@ fn tell_page<A: Allocator + Copy, W: Sink>(
 }
 
 /// Finds what the page shows, and writes it.
-fn find_and_tell<A: Allocator + Copy, W: Sink>(
+fn find_and_tell<A: Allocator + Copy, W: PageSink>(
     alloc: A,
     asked: PageRequest<'_>,
     code: Option<CodeId>,
@@ -266,15 +267,15 @@ fn find_and_tell<A: Allocator + Copy, W: Sink>(
         → IsFoundIfAny old plan.now.plan asked.entry.limits.limit asked.entry.limits.spare
         (option_copied change.entry)
         → ToldPage A (request_of asked.entry) plan.now.text.items plan.now.plan
-        (one_or_all plan.now.plan code) risks.now old (output W.taken out.old out.new) result }
-    ensures mark { W.failed out.new ≡ mark_after (W.failed out.old) result }
+        (one_or_all plan.now.plan code) risks.now old (page_output W.seen out.old out.new) result }
+    ensures mark { (W.seen out.new).failed ≡ mark_after (W.seen out.old).failed result }
 {
     let found = found_of(alloc, &plan.plan, asked.limits, risks, code)?;
     write_found(asked, plan, risks, change, &found, out)
 }
 
 /// Writes a page of what was found.
-fn write_found<A: Allocator, W: Sink>(
+fn write_found<A: Allocator, W: PageSink>(
     asked: PageRequest<'_>,
     plan: &PlanText<A>,
     risks: &Risks<A>,
@@ -288,8 +289,8 @@ fn write_found<A: Allocator, W: Sink>(
         → IsFound plan.now.plan asked.entry.limits.limit asked.entry.limits.spare risks.now codes
         found.now
         → ToldPage A (request_of asked.entry) plan.now.text.items plan.now.plan codes risks.now old
-        (output W.taken out.old out.new) result }
-    ensures mark { W.failed out.new ≡ mark_after (W.failed out.old) result }
+        (page_output W.seen out.old out.new) result }
+    ensures mark { (W.seen out.new).failed ≡ mark_after (W.seen out.old).failed result }
 {
     let text = plan.text.as_slice();
     let digest = Sha256::digest(text);
@@ -312,15 +313,15 @@ fn write_found<A: Allocator, W: Sink>(
 }
 
 /// Writes a page, and answers whether a certificate was found.
-fn write_subject<A: Allocator, W: Sink>(
+fn write_subject<A: Allocator, W: PageSink>(
     subject: &Subject<'_, A>,
     out: &mut W,
 ) -> Result<bool, JobFault>
     ensures told { (asked : Request) (text : List ℕ) (p : PlanNow) (codes : List ℕ)
         (risks : List NamedRisk) (old : Option PlanNow)
         → IsRightSubject A asked text p codes risks old subject.now
-        → ToldPage A asked text p codes risks old (output W.taken out.old out.new) result }
-    ensures mark { W.failed out.new ≡ mark_after (W.failed out.old) result }
+        → ToldPage A asked text p codes risks old (page_output W.seen out.old out.new) result }
+    ensures mark { (W.seen out.new).failed ≡ mark_after (W.seen out.old).failed result }
 {
     write_page(subject, out)?;
     Ok(is_safe(subject.ranking))

@@ -23,7 +23,7 @@ returns-in_err-plan-clause-answers g c =
 pub returns-in_err-plan-clause-mark : goal.returns-in_err-plan-clause-mark
 returns-in_err-plan-clause-mark g c =
     let f = c.in_err-plan.field-0.0 in
-    let mark = g.W.Sink.failed c.args.out.now in
+    let mark = (g.W.PageSink.seen c.args.out.now).failed in
     rw (exits_with c.from_residual.result f c.from_residual.ensures.1)
     (no_plan_mark mark plan_fault _ f (plan_mark mark) c.in_err-plan.ensures.refused)
 

@@ -28,7 +28,7 @@ pub returns-in_err-risks-clause-mark : goal.returns-in_err-risks-clause-mark
 returns-in_err-risks-clause-mark g c =
     let f = c.in_err-risks.field-0.0 in
     rw (exits_with c.from_residual.result (risks_fault f) c.from_residual.ensures.1)
-    (risks_mark (g.W.Sink.failed c.args.out.now) f)
+    (risks_mark (g.W.PageSink.seen c.args.out.now).failed f)
 
 pub returns-in_err-risks-clause-old_calls : goal.returns-in_err-risks-clause-old_calls
 returns-in_err-risks-clause-old_calls g c = uncalled g.R.Source.called c.args.old.now

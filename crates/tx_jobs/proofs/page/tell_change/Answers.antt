@@ -20,4 +20,4 @@ pub returns-in_err-found-clause-mark : goal.returns-in_err-found-clause-mark
 returns-in_err-found-clause-mark g c =
     let f = c.in_err-found.field-0.0 in
     rw (exits_with c.from_residual.result f c.from_residual.ensures.1)
-    (no_join_mark (g.W.Sink.failed c.args.out.now) _ _ _ _ f c.in_err-found.ensures.refused)
+    (no_join_mark (g.W.PageSink.seen c.args.out.now).failed _ _ _ _ f c.in_err-found.ensures.refused)

@@ -10,6 +10,7 @@ returns-clause-told g c = λ asked text p codes risks old right. record {
   bytes = c.in_ok-write_page.ensures.bytes;
   added = c.in_ok-write_page.ensures.added;
   shows = c.in_ok-write_page.ensures.shows;
+  exactly = c.in_ok-write_page.ensures.exactly;
 }
 
 pub returns-in_err-write_page-clause-told : goal.returns-in_err-write_page-clause-told
