@@ -1,5 +1,6 @@
 -- The events of a true finding show it.
 use Rattle.std.proofs.Common.{◌≡◌, ◌≢◌, ℕ, ◌+◌, ◌*◌, ◌<◌, ◌≤◌, ◌==◌, true, false, not, List, [], ◌∷◌, ◌++◌, inl, inr, map, length, Some, None, refl, sym, ap, ◌∙◌, subst, arith, append_assoc}
+use Rattle.std.proofs.lemmas.Option.{same_Some}
 use Rattle.std.proofs.lemmas.Bool.{and_parts, not-true}
 use Rattle.std.proofs.lemmas.List.{length-map}
 use Rattle.std.specs.Prelude.{if◌then◌else◌, filter, is_some}
@@ -40,7 +41,7 @@ use Rattle.tx_machine.proofs.Playing.{Groups, AllUp, Plays, plays_none, plays_fi
 use Rattle.tx_machine.proofs.OneCall.{step_of, alone, on_way, IsPlaced, routed_there, key_step, nc_step, blocks}
 use Rattle.tx_audit.proofs.Choices.{first_in_none, none_of}
 use Rattle.tx_audit.proofs.Listed.{listed_once, listed_few, listed_known}
-use Rattle.tx_audit.proofs.Walking.{IsOn, IfMore, some_same, walk_plays}
+use Rattle.tx_audit.proofs.Walking.{IsOn, IfMore, walk_plays}
 use Rattle.tx_audit.proofs.Starting.{caller, code_itself}
 use Rattle.tx_audit.proofs.Sizes.{steps_few, walk_few}
 use Rattle.tx_rank.proofs.PassedOnce.{before_once}
@@ -226,7 +227,7 @@ module _ (p : Plan) (ok : IsPlan p) (c : ℕ) (within : c < length p.codes) (x :
 events_are : (p : Plan) (c : ℕ) (w : Walk) (last events : List Event) (line : Line) → first_line p w.start ≡ Some line → walked p c w last ≡ Some events → walked_by p c w last line ≡ events
 events_are p c w last events line first e =
     let made : walked p c w last ≡ Some (walked_by p c w last line) = ap (option_map (walked_by p c w last)) first in
-    some_same (sym made ∙ e)
+    same_Some _ _ (sym made ∙ e)
 
 module _ {A : Type 0} (p : Plan) (ok : IsPlan p) (limit spare : ℕ) where
   shows_loop : (c : ℕ) (w : Walk) (events : List Event) → c < length p.codes → IsLoop (net_of p c) w.start w.steps → turns_on_one p w.steps ≡ false → walked p c w [] ≡ Some events → Shows {A = A} p limit spare (Loop c w) events

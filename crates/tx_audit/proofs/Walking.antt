@@ -1,5 +1,6 @@
 -- The call goes along a walk.
 use Rattle.std.proofs.Common.{◌≡◌, ◌≢◌, ℕ, ◌+◌, ◌-◌, ◌^◌, ◌≤◌, true, false, List, [], ◌∷◌, ◌++◌, ◌⊎◌, inl, inr, map, length, Option, Some, None, refl, sym, ap, ◌∙◌, subst, arith, length-append, append_assoc, append-nil}
+use Rattle.std.proofs.lemmas.Option.{same_Some}
 use Rattle.std.proofs.lemmas.Bool.{false≢true, cases_eq, eq-eqb}
 use Rattle.std.proofs.lemmas.List.{length-map, map_push}
 use Rattle.tx_plan.specs.Plan.{Plan, home_of}
@@ -57,9 +58,6 @@ abbrev pub IfMore : List (ℕ × ℕ) → Type 0 → Type 0
 IfMore [] P = Unit {0}
 IfMore (s ∷ steps) P = P
 
-pub some_same : {A : Type 0} {y z : A} → Some y ≡ Some z → y ≡ z
-some_same e = cc
-
 -- a hop by the group of the next step is the last one, the step leads back, and the group is a both-way one
 pub record IsTurn (p : Plan) (x y g : ℕ) (past : List ℕ) (h : Hop) : Type 0 where
   pub here : h.far ≡ x
@@ -89,7 +87,7 @@ module _ (p : Plan) (ok : IsPlan p) (code : ℕ) where
   loose x y g [] past hops (Some z) on apart listed leads free =
       let some = count_some p ok g (known_from p g x y leads) in
       let t : (h : Hop) → Among h hops → h.circuit.group ≡ g → IsTurn p x y g past h = λ h m e. turn x y g past h (on.each h m) (λ a. apart x a (inl refl)) listed leads e in
-      let came : (h : Hop) → Among h hops → h.circuit.group ≡ g → z ≡ h.circuit = λ h m e. some_same (on.back h m (t h m e).here) in
+      let came : (h : Hop) → Among h hops → h.circuit.group ≡ g → z ≡ h.circuit = λ h m e. same_Some _ _ (on.back h m (t h m e).here) in
       elim (cases_eq z.group g) [
         | inr ne ↦ loose_new p hops g some (λ h m e. ne (ap (λ (c : Circuit). c.group) (came h m e) ∙ e))
         | inl same ↦ elim (cases_eq (count_of p g) 1) [

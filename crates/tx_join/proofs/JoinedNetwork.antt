@@ -5,7 +5,7 @@ use Rattle.std.specs.List.{AllByRecursion}
 use Rattle.std.specs.Option.{option_map, option_map_or}
 use Rattle.std.specs.Str.{bytes_eq}
 use Rattle.std.proofs.lemmas.Bool.{not-true}
-use Rattle.std.proofs.lemmas.Option.{slice_get-map, slice_get_within}
+use Rattle.std.proofs.lemmas.Option.{same_Some, slice_get-map, slice_get_within}
 use Rattle.std.proofs.lemmas.List.{length-map}
 use Rattle.tx_plan.specs.declared.ids.Direction.TheVariants.{OneWay}
 use Rattle.tx_text.specs.Words.{is_name}
@@ -23,7 +23,7 @@ use Rattle.tx_join.specs.Joined.{joined_network, joined_exchange, joined_code, j
 use Rattle.tx_join.specs.Laws.{CanBeJoined, HasNetwork}
 use Rattle.tx_join.specs.inner.Declared.{KnowsExchanges}
 use Rattle.tx_join.proofs.Found.{IsEntry, all_of, entry_found, find-map}
-use Rattle.tx_join.proofs.Knows.{only, exchange_there, exchange_named_so, exchanges_apart, code_there, code_named_so, group_there, group_named_so}
+use Rattle.tx_join.proofs.Knows.{exchange_there, exchange_named_so, exchanges_apart, code_there, code_named_so, group_there, group_named_so}
 use Rattle.tx_join.proofs.Rows.{code_keys, group_keys, keys_differ, found_first, found_second, has_key, knows_old_exchanges, knows_new_exchanges, knows_old_codes, knows_new_codes, knows_old_groups, knows_new_groups, exchange_stays, code_stays, group_stays}
 use Rattle.tx_join.proofs.United.{united_differ}
 use Rattle.tx_join.proofs.Unrefused.{one_home, one_group, few_exchanges, few_codes, few_groups}
@@ -131,7 +131,7 @@ module _ (old new : Plan) (can : CanBeJoined old new) where
           let f = entry_found t old.groups h in
           let k = group_at old w in
           let found : find t joined.groups ≡ Some (widened new f.0) = found_first (λ (r : Group). r.name) t (map (widened new) old.groups) _ (widened new f.0) (find-map t (widened new) old.groups ∙ ap (option_map (widened new)) f.1.found) in
-          let same : e.0 ≡ widened new f.0 = only (sym e.1.found ∙ found) in
+          let same : e.0 ≡ widened new f.0 = same_Some _ _ (sym e.1.found ∙ found) in
           let one = one_group old new can.unrefused g k l (placed t old.groups h) in
           let rules = all_at (IsGroup old) old.groups k f.0 ok.groups f.1.at in
           record {
@@ -144,7 +144,7 @@ module _ (old new : Plan) (can : CanBeJoined old new) where
           let none : has_key (λ (r : Group). r.name) (map (widened new) old.groups) w ≡ false = list_any-map (λ (r : Group). bytes_eq w r.name) (widened new) old.groups ∙ h in
           let found : find t joined.groups ≡ Some (joined_group old new f.0) =
           found_second (λ (r : Group). r.name) w (map (widened new) old.groups) old.groups new.groups (joined_group old new) (λ r. refl) none h ∙ ap (option_map (joined_group old new)) f.1.found in
-          let same : e.0 ≡ joined_group old new f.0 = only (sym e.1.found ∙ found) in
+          let same : e.0 ≡ joined_group old new f.0 = same_Some _ _ (sym e.1.found ∙ found) in
           let at : slice_get new.groups g ≡ Some f.0 = ap (λ o. slice_get new.groups (unwrap_or o 0)) (sym (group_back new new_ok g l).back) ∙ f.1.at in
           record {
             first = ap (λ (r : Group). r.a) same ∙ ap (λ (o : Option Group). exchange_in joined new (row_ends o).0) (sym at);

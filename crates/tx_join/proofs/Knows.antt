@@ -13,9 +13,6 @@ use Rattle.tx_join.specs.Joined.{exchange_in, code_in, group_in}
 use Rattle.tx_join.specs.inner.Declared.{KnowsExchanges, KnowsCodes, KnowsGroups}
 use Rattle.tx_join.proofs.Found.{entry_found}
 
-pub only : {A : Type 0} {x y : A} → Some x ≡ Some y → x ≡ y
-only e = cc
-
 pub same_word : (w z : List ℕ) → bytes_eq w z ≡ true → z ≡ w
 same_word w z h = sym ((bytes_eq-Decides w z).0 h)
 

@@ -1,5 +1,6 @@
 -- The next entry of a plan that is declared: nothing but lack of memory refuses it.
 use Rattle.std.proofs.Common.{◌≡◌, ◌≢◌, ℕ, suc, ◌+◌, ◌≤◌, Bool, true, false, not, ◌||◌, ◌&&◌, ◌==◌, nat_le, max, List, [], ◌∷◌, ◌++◌, length, map, take, drop, Option, Some, None, Result, Ok, Err, inl, inr, refl, sym, ap, ◌∙◌, subst, arith, append_assoc, append-nil, eq-eqb, eqb-true, is_some}
+use Rattle.std.proofs.lemmas.Option.{same_Some}
 use Rattle.std.specs.Prelude.{filter, slice_get, if◌then◌else◌, IsOk}
 use Rattle.std.specs.List.{list_any, AllByRecursion}
 use Rattle.std.specs.Str.{bytes_eq}
@@ -22,7 +23,6 @@ use Rattle.tx_plan.proofs.NamesBack.{exchange_is_name, exchange_back, figures_ar
 use Rattle.tx_join.specs.Joined.{code_in, circuits_named}
 use Rattle.tx_join.specs.inner.Declared.{with_exchanges, known_code, with_codes, known_range, with_ranges, known_group, with_groups, KnowsExchanges, KnowsCodes, IsTaken}
 use Rattle.tx_join.proofs.Found.{kept_next, left_next, kept_at, drop_next, pairs_before, middle, length_before, taken_last, find_fails, any_find, filter_all, map_same}
-use Rattle.tx_join.proofs.Knows.{only}
 
 -- WHERE NOTHING REFUSES
 
@@ -254,5 +254,5 @@ module _ (p from other : Plan) where
           let made = middle (IsGroup (with_groups p from other)) (so_far p.groups t f from.groups i) (f g) (map f (filter t (drop (suc i) from.groups))) (subst (AllByRecursion (IsGroup (with_groups p from other))) whole_list rules.groups) in
           group_free (groups_to p from other i) g.name (exchange_name from g.a) (exchange_name from g.b) (max g.count (circuits_named other g.name)) own.name
           (exchange_is_name from from_ok g.a own.first) (exchange_is_name from from_ok g.b own.second) (in_range_count (max g.count (circuits_named other g.name)) made.some made.few) h (knows g.a own.first) (knows g.b own.second)
-          (bytes_apart (exchange_name from g.a) (exchange_name from g.b) (λ e. own.ends_differ (only (sym (exchange_back from from_ok g.a own.first).back ∙ ap (exchange_named from) e ∙ (exchange_back from from_ok g.b own.second).back))))
+          (bytes_apart (exchange_name from g.a) (exchange_name from g.b) (λ e. own.ends_differ (same_Some _ _ (sym (exchange_back from from_ok g.a own.first).back ∙ ap (exchange_named from) e ∙ (exchange_back from from_ok g.b own.second).back))))
           (length_before (so_far p.groups t f from.groups i) (f g) (map f (filter t (drop (suc i) from.groups))) 4096 (subst (λ (l : List Group). length l ≤ 4096) whole_list rules.few_groups))

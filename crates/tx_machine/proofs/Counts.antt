@@ -1,5 +1,6 @@
 -- Under a certificate few Route events of one call are accepted.
 use Rattle.std.proofs.Common.{◌≡◌, ℕ, ◌+◌, ◌*◌, ◌<◌, ◌≤◌, ◌==◌, Bool, true, false, not, ◌&&◌, List, [], ◌∷◌, ◌++◌, inl, inr, length, Option, Some, None, refl, sym, ap, ◌∙◌, subst, eqb-true, arith, length-append}
+use Rattle.std.proofs.lemmas.Option.{same_Some}
 use Rattle.std.proofs.lemmas.Bool.{false≢true, true≢false, and_parts, not-true, eqb-false, cases_Bool}
 use Rattle.std.specs.Prelude.{if◌then◌else◌, is_none}
 use Rattle.tx_plan.specs.Plan.{Plan, home_of}
@@ -192,16 +193,13 @@ module _ (p : Plan) (ranks : Ranks) (limit spare : ℕ) (cert : IsCertified p ra
       let w = ap waits st in
       at c.collided refl a.0 a.1 b w
     where
-      some : {m n : ℕ} → Some m ≡ Some n → m ≡ n
-      some e = cc
-
       at : (b : Bool) → c.collided ≡ b → (a : ℕ) → ranks code (exchange_of p c) ≡ Some a → a + length c.hops ≤ limit + 1 → waits c.phase ≡ 0 → used c + 1 ≤ 2 * limit + 3
       at false e a here b w = let f = ap one_if e in omega arith
       at true e a here b w =
           let f = ap one_if e in
           let d = r.collided e in
-          let same = some (sym d.1 ∙ keyed) in
-          let up = some (sym here ∙ ap (λ k. ranks k (exchange_of p c)) (sym same) ∙ d.3) in
+          let same = same_Some _ _ (sym d.1 ∙ keyed) in
+          let up = same_Some _ _ (sym here ∙ ap (λ k. ranks k (exchange_of p c)) (sym same) ∙ d.3) in
           omega arith
 
   first_room : (c : Call) → c.hops ≡ [] → c.phase ≡ Standing → used c + 1 ≤ 2 * limit + 3

@@ -1,7 +1,7 @@
 -- Under a certificate, ranks fall along the hops of each call.
 use Rattle.std.proofs.Common.{◌≡◌, ◌≢◌, ℕ, zero, suc, ◌+◌, ◌<◌, ◌≤◌, ◌==◌, Bool, true, false, not, cond, ◌&&◌, ◌||◌, List, [], ◌∷◌, ◌++◌, inl, inr, map, length, Option, Some, None, refl, sym, ap, ◌∙◌, subst, eqb-true, eq-eqb, arith}
 use Rattle.std.proofs.lemmas.Bool.{false≢true, or_right, and_parts, and_from, eqb-false, ne_eqb, cases_eq, not_from_false}
-use Rattle.std.proofs.lemmas.Option.{slice_get_within}
+use Rattle.std.proofs.lemmas.Option.{same_Some, slice_get_within}
 use Rattle.std.specs.Prelude.{filter, unwrap_or}
 use Rattle.std.specs.List.{enumerate_from, AllByRecursion}
 use Rattle.std.specs.Option.{option_map}
@@ -40,23 +40,17 @@ module _ (r : ℕ → Option ℕ) where
   falls_last x [] a f e = (a, e, omega arith)
   falls_last x (h ∷ hops) a f e =
       let i = falls_last h.far hops f.0.low f.1 f.0.to in
-      let same : f.0.high ≡ a = some (sym f.0.from ∙ e) in
+      let same : f.0.high ≡ a = same_Some _ _ (sym f.0.from ∙ e) in
       (i.0, i.1, (let l = f.0.less in let b = i.2 in omega arith))
-    where
-      some : {m n : ℕ} → Some m ≡ Some n → m ≡ n
-      some e = cc
 
   pub falls_below : (x : ℕ) (hops : List Hop) (a y : ℕ) → Falls r x hops → r x ≡ Some a → Among y (map (λ h. h.far) hops) → (b : ℕ) × (r y ≡ Some b) × (b < a)
   falls_below x [] a y f e m = elim m [ ]
   falls_below x (h ∷ hops) a y f e m =
-      let same : f.0.high ≡ a = some (sym f.0.from ∙ e) in
+      let same : f.0.high ≡ a = same_Some _ _ (sym f.0.from ∙ e) in
       elim m [
         | inl q ↦ (f.0.low, ap r (sym q) ∙ f.0.to, (let l = f.0.less in omega arith))
         | inr m ↦ let i = falls_below h.far hops f.0.low y f.1 f.0.to m in (i.0, i.1, (let l = f.0.less in let b = i.2 in omega arith))
       ]
-    where
-      some : {m n : ℕ} → Some m ≡ Some n → m ≡ n
-      some e = cc
 
   pub falls_once : (x : ℕ) (hops : List Hop) → Falls r x hops → NoneTwice (λ y z. y == z) (x ∷ map (λ h. h.far) hops)
   falls_once x [] f = (refl, tt)
@@ -200,14 +194,11 @@ module _ (p : Plan) (ranks : Ranks) (limit spare : ℕ) (cert : IsCertified p ra
   pub hops_within : (c : Call) → IsRanked p ranks c → (code : ℕ) → code_of p c.keyed ≡ Some code → (a : ℕ) → ranks code (exchange_of p c) ≡ Some a → a + length c.hops ≤ limit + 1
   hops_within c h code e a here = at c.hops (h.falls code e) here
     where
-      some : {m n : ℕ} → Some m ≡ Some n → m ≡ n
-      some e = cc
-
       at : (hops : List Hop) → Falls (ranks code) (start_of p c) hops → ranks code (last_exchange (start_of p c) hops) ≡ Some a → a + length hops ≤ limit + 1
       at [] f here = let b = cert.low code (start_of p c) a (code_within p c.keyed code e) here in omega arith
       at (k ∷ hops) f here =
           let i = falls_last (ranks code) (start_of p c) (k ∷ hops) f.0.high f f.0.from in
-          let same : i.0 ≡ a = some (sym i.1 ∙ here) in
+          let same : i.0 ≡ a = same_Some _ _ (sym i.1 ∙ here) in
           let b = cert.low code (start_of p c) f.0.high (code_within p c.keyed code e) f.0.from in
           let d = i.2 in omega arith
 

@@ -1,5 +1,5 @@
 -- The stages of an order lead from the old plan to the new one.
-use Rattle.std.proofs.Common.{◌≡◌, ℕ, zero, suc, ◌+◌, ◌*◌, ◌-◌, ◌<◌, ◌≤◌, Bool, true, false, not, cond, nat_lt, List, [], ◌∷◌, ◌++◌, length, inl, inr, Some, refl, sym, ap, ◌∙◌, subst, arith}
+use Rattle.std.proofs.Common.{◌≡◌, ℕ, zero, suc, ◌+◌, ◌*◌, ◌-◌, ◌<◌, ◌≤◌, Bool, true, false, not, cond, nat_lt, List, [], ◌∷◌, ◌++◌, length, inl, inr, Some, refl, sym, ap, ◌∙◌, subst, arith, append-nil}
 use Rattle.std.specs.Prelude.{filter, slice_get, ◌↔◌}
 use Rattle.std.specs.List.{AllByRecursion}
 use Rattle.std.proofs.lemmas.Bool.{ltb-true, lt-ltb, cases_lt}
@@ -9,6 +9,7 @@ use Rattle.tx_plan.specs.Plan.{Plan, Route, Code}
 use Rattle.tx_plan.specs.Codes.{is_prefix}
 use Rattle.tx_plan.specs.Rules.{IsPlan}
 use Rattle.tx_plan.specs.Certified.{Ranks, IsCertified}
+use Rattle.tx_join.proofs.Found.{filter_all, filter_none}
 use Rattle.tx_rank.specs.Walks.{Net, net_of}
 use Rattle.tx_rank.specs.Nets.{Certifies}
 use Rattle.tx_rank.specs.Grades.{CanBeCertified}
@@ -22,37 +23,22 @@ use Rattle.tx_order.specs.Stages.{AreBothCertified, plan_of, plan_at, ranks_by, 
 use Rattle.tx_order.specs.Orders.{AreAlike, IsListSwitched, IsBarSwitched, IsOrder, HasOrder, CanBothBeCertified}
 use Rattle.tx_order.proofs.Levels.{level_within}
 use Rattle.tx_order.proofs.Switched.{list_new, list_old, bar_new, bar_old, switched_mixture}
-use Rattle.tx_order.proofs.OnTheWay.{low_before, low_after, front_certified, falling_common, rising_common}
-
-not_before : (m n : ℕ) → n ≤ m → nat_lt m n ≡ false
-not_before m n w = elim (nat_lt m n) as (λ b. nat_lt m n ≡ b → b ≡ false) [ true ↦ λ e. let l = ltb-true m n e in absurd (omega arith) | false ↦ λ e. refl ] refl
+use Rattle.tx_order.proofs.OnTheWay.{not_before, low_before, low_after, front_certified, falling_common, rising_common}
 
 module _ {A : Type 0} where
   all_of : (P : A → Type 0) (xs : List A) → ((x : A) → P x) → AllByRecursion P xs
   all_of P [] f = tt
   all_of P (x ∷ xs) f = (f x, all_of P xs f)
 
-  kept_all : (t : A → Bool) (xs : List A) → AllByRecursion (λ x. t x ≡ true) xs → filter t xs ≡ xs
-  kept_all t [] h = refl
-  kept_all t (x ∷ xs) h = ap (λ b. cond b (x ∷ filter t xs) (filter t xs)) h.0 ∙ ap (λ ys. x ∷ ys) (kept_all t xs h.1)
-
-  kept_none : (t : A → Bool) (xs : List A) → AllByRecursion (λ x. t x ≡ false) xs → filter t xs ≡ []
-  kept_none t [] h = refl
-  kept_none t (x ∷ xs) h = ap (λ b. cond b (x ∷ filter t xs) (filter t xs)) h.0 ∙ kept_none t xs h.1
-
-  nothing_after : (xs : List A) → xs ++ [] ≡ xs
-  nothing_after [] = refl
-  nothing_after (x ∷ xs) = ap (λ ys. x ∷ ys) (nothing_after xs)
-
   -- where none passes, the first list stays
   replaced_none : (t : A → Bool) (xs ys : List A) → ((x : A) → t x ≡ false) → replaced t xs ys ≡ xs
   replaced_none t xs ys h =
-      (λ i. kept_all (λ x. not (t x)) xs (all_of (λ x. not (t x) ≡ true) xs (λ x. ap not (h x))) i ++ kept_none t ys (all_of (λ x. t x ≡ false) ys h) i)
-      ∙ nothing_after xs
+      (λ i. filter_all (λ x. not (t x)) xs (all_of (λ x. not (t x) ≡ true) xs (λ x. ap not (h x))) i ++ filter_none t ys (all_of (λ x. t x ≡ false) ys h) i)
+      ∙ append-nil xs
 
   -- where all pass, the second stands
   replaced_all : (t : A → Bool) (xs ys : List A) → AllByRecursion (λ x. t x ≡ true) xs → AllByRecursion (λ x. t x ≡ true) ys → replaced t xs ys ≡ ys
-  replaced_all t xs ys h k = λ i. kept_none (λ x. not (t x)) xs (all_map xs (λ x e. ap not e) h) i ++ kept_all t ys k i
+  replaced_all t xs ys h k = λ i. filter_none (λ x. not (t x)) xs (all_map xs (λ x e. ap not e) h) i ++ filter_all t ys k i
 
 bar_within : (limit : ℕ) (b : Bool) → bar_level limit b < 2 * (limit + 2)
 bar_within limit true = omega arith

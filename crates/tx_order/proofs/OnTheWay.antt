@@ -14,6 +14,9 @@ use Rattle.tx_order.specs.Stages.{AreBothCertified, plan_of, plan_at, ranks_by, 
 use Rattle.tx_order.proofs.Levels.{IsLevel, IsRankAt, Fits, new_kept, new_below, old_kept, old_below, value, IsLow, level_is, rank_is, below_value, value_below, value_some, level_within}
 use Rattle.tx_order.proofs.Switched.{list_new, list_old, bar_new, bar_old}
 
+pub not_before : (m n : ℕ) → n ≤ m → nat_lt m n ≡ false
+not_before m n w = elim (nat_lt m n) as (λ b. nat_lt m n ≡ b → b ≡ false) [ true ↦ λ e. let l = ltb-true m n e in absurd (omega arith) | false ↦ λ e. refl ] refl
+
 -- what holds of both holds of either
 either_way : (P : Option ℕ → Type 0) (b : Bool) (p q : Option ℕ) → P p → P q → P (cond b p q)
 either_way P true p q h k = h
@@ -137,14 +140,11 @@ module _ (old new : Plan) (before after : Ranks) (limit spare : ℕ) (both : Are
                       let at = ap (bar_level limit) t in
                       let f = fits c in
                       let early : j c ≤ level_at before after limit x c = grind arith in
-                      let is = not_yet (level_at before after limit x c) (j c) early in
+                      let is = not_before (level_at before after limit x c) (j c) early in
                       (r.0, ap (λ b. cond b (after c x) (before c x)) is ∙ r.1)
                   | false ↦ λ t. either_way (λ o. (r : ℕ) × (o ≡ Some r)) (is_switched before after limit (j c) x c) (after c x) (before c x) (ranked_new o.0 t) r
                 ] refl
           ] refl
-        where
-          not_yet : (m n : ℕ) → n ≤ m → nat_lt m n ≡ false
-          not_yet m n w = elim (nat_lt m n) as (λ b. nat_lt m n ≡ b → b ≡ false) [ true ↦ λ e. let l = ltb-true m n e in absurd (omega arith) | false ↦ λ e. refl ] refl
 
     home_ranked : (c : ℕ) → c < length old.codes → ranks_by before after limit j c (home_of old c) ≡ Some 0
     home_ranked c h =

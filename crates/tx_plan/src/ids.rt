@@ -1,5 +1,5 @@
 // The ids of what a plan lists, the circuits and lines that these give, and how they are hashed.
-ghost use Rattle.std.specs.Prelude.{◌≡◌, ◌<◌, ◌≤◌, true, length, if◌then◌else◌, Some, None, slice_index};
+ghost use Rattle.std.specs.Prelude.{◌≡◌, ◌+◌, ◌*◌, ◌<◌, ◌≤◌, true, length, if◌then◌else◌, Some, None, slice_index};
 ghost use Rattle.tx_text.specs.inner.Padded.{padded_to};
 ghost use Rattle.tx_plan.specs.Numbers.{is_national, at_most};
 ghost use Rattle.tx_plan.specs.inner.Hashing.{start, written, spread, first_word};
@@ -125,7 +125,6 @@ pub struct Pair {
 /// of two exchanges overlap.
 impl Hash for Pair {
     ghost use Rattle.std.specs.Hash as fed;
-    ghost use Rattle.std.specs.Prelude.{◌+◌, ◌*◌};
     ghost use Rattle.std.proofs.Common.{ap};
     ghost use Rattle.tx_plan.specs.inner.PairLaws.{same_pair-is};
 
@@ -135,8 +134,15 @@ impl Hash for Pair {
         (same_pair-is p q h) };
 
     fn hash<H: Hasher>(&self, state: &mut H) {
-        state.write_u32(256 * u32::from(self.code.index) + u32::from(self.exchange.index));
+        state.write_u32(in_one_word(self.exchange.index, self.code.index));
     }
+}
+
+/// The indexes of a pair as one number.
+fn in_one_word(exchange: u16, code: u16) -> u32
+    ensures { result ≡ 256 * code + exchange }
+{
+    256 * u32::from(code) + u32::from(exchange)
 }
 
 /// From which ends the circuits of a group may be seized.

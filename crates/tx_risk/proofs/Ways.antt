@@ -1,5 +1,6 @@
 -- Ways to dead ends.
 use Rattle.std.proofs.Common.{◌≡◌, ◌≢◌, ℕ, zero, suc, ◌<◌, true, not, List, [], ◌∷◌, ◌++◌, ◌⊎◌, inl, inr, length, Option, Some, None, refl, sym, ap, ◌∙◌, subst, arith}
+use Rattle.std.proofs.lemmas.Option.{same_Some}
 use Rattle.std.proofs.lemmas.Bool.{cases_eq}
 use Rattle.tx_plan.specs.Plan.{Plan, home_of}
 use Rattle.tx_plan.specs.Certified.{Ranks, IsBelow, LeadsLower, IsCertified}
@@ -129,12 +130,9 @@ module _ (p : Plan) (risk : Risk) (code : ℕ) where
         let listed = (filter_among (λ g. not (risk g)) s.0 (route_list p x code) g.1).0 in
         let l = all_mem (LeadsLower p ranks code x r) (route_list p x code) s.0
         (cert.lists code x r within e g.0).each listed in
-        let same : l.to ≡ s.1 = some (sym l.leads ∙ g.2) in
+        let same : l.to ≡ s.1 = same_Some _ _ (sym l.leads ∙ g.2) in
         let k = below_some (ranks code l.to) r l.lower in
         ranked_on s.1 k.0 steps (subst (λ z. ranks code z ≡ Some k.0) same k.1) g.3
-      where
-        some : {a b : ℕ} → Some a ≡ Some b → a ≡ b
-        some e = cc
 
     pub ranked_uncut : LeavesSome p ranks risk code → (x : ℕ) → is_origin_for p x code ≡ true
         → IsUncut p risk code x
@@ -156,9 +154,6 @@ module _ (p : Plan) (risk : Risk) (code : ℕ) where
           (λ y q l f u. home_below n y q l f u)
     ]
       where
-        some : {a b : ℕ} → Some a ≡ Some b → a ≡ b
-        some q = cc
-
         below : (o : Option ℕ) → IsBelow o r → (m : ℕ) × (o ≡ Some m) × (m < r)
         below None b = absurd b
         below (Some m) b = (m, refl, b)

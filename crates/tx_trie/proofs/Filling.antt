@@ -1,9 +1,9 @@
 -- The nodes, as one code of a plan after another is put in.
-use Rattle.std.proofs.Common.{◌≡◌, ◌≢◌, ℕ, ◌+◌, ◌<◌, ◌==◌, Bool, true, false, ◌⊎◌, List, [], ◌∷◌, ◌++◌, take, map, length, length-set, get_or, replicate, Option, Some, None, refl, ap, sym, ◌∙◌, subst, inl, inr, eqb-true, arith}
+use Rattle.std.proofs.Common.{◌≡◌, ℕ, ◌+◌, ◌<◌, ◌≤◌, ◌==◌, Bool, true, false, ◌⊎◌, List, [], ◌∷◌, ◌++◌, take, map, length, length-set, get_or, replicate, Option, Some, None, option_map, refl, ap, sym, ◌∙◌, subst, inl, inr, eqb-true, arith}
 use Rattle.std.proofs.lemmas.Bool.{eqb-false, cases_lt}
 use Rattle.std.proofs.lemmas.List.{length-replicate, get_or-replicate, get_or_past, get_or-set_same, get_or-set_other, map_push, take_all}
-use Rattle.std.proofs.lemmas.Option.{same_Some, slice_get_within}
-use Rattle.std.specs.Prelude.{slice_get, slice_set, slice_index_or, position}
+use Rattle.std.proofs.lemmas.Option.{same_Some}
+use Rattle.std.specs.Prelude.{slice_get, slice_set, position}
 use Rattle.std.specs.Str.{bytes_eq}
 use Rattle.tx_plan.specs.Plan.{Plan, Code, figures_of, home_of}
 use Rattle.tx_plan.specs.Rules.{IsPlan, IsCode, is_code}
@@ -22,6 +22,10 @@ pub rows_more : (p : Plan) (n : ℕ) → n < length p.codes → (rows new : List
 rows_more p n within rows new figures home are push f h =
     ap (map code_of_row) push ∙ map_push code_of_row rows (figures, home) ∙ (λ k. are k ++ record { figures = f k; home = h k } ∷ []) ∙ sym (take_next p.codes n _ (code_is p n within))
 
+pub is_none : {A : Type 0} (P : Option A → Type 0) → ((a : A) → P (Some a) → ⊥) → (o : Option A) → P o → o ≡ None
+is_none P never None h = refl
+is_none P never (Some a) h = absurd (never a h)
+
 pub no_code : (codes : List Code) (nodes : List (Option ℕ)) → nodes ≡ replicate 2000 None → length nodes ≡ 2000 → AreFirst codes 0 nodes
 no_code codes nodes bare long = record {
   long = long;
@@ -33,8 +37,11 @@ no_code codes nodes bare long = record {
     nothing a n m = elim (cases_lt m n) [ inl l ↦ get_or-replicate n m a a l | inr r ↦ get_or_past (replicate n a) m a (simp length-replicate (omega arith)) ]
 
 module _ (p : Plan) (rules : IsPlan p) where
-  pub form : (i : ℕ) (c : Code) → slice_get p.codes i ≡ Some c → is_code c.figures ≡ true
+  form : (i : ℕ) (c : Code) → slice_get p.codes i ≡ Some c → is_code c.figures ≡ true
   form i c at = (all_at (IsCode p) p.codes i c rules.codes at).figures
+
+  pub figures_form : (n : ℕ) → n < length p.codes → (figures : List ℕ) → figures ≡ figures_of p n → is_code figures ≡ true
+  figures_form n within figures is = ap is_code is ∙ form n _ (code_is p n within)
 
   -- codes at one node are one
   one_code : (i j : ℕ) (c d : Code) → slice_get p.codes i ≡ Some c → slice_get p.codes j ≡ Some d → node_of c.figures ≡ node_of d.figures → i ≡ j

@@ -1,10 +1,9 @@
 -- Where the figures of codes lead.
-use Rattle.std.proofs.Common.{◌≡◌, ℕ, zero, suc, ◌+◌, ◌-◌, ◌*◌, ◌<◌, ◌≤◌, ◌/◌, Bool, true, false, ◌&&◌, ◌⊎◌, List, [], ◌∷◌, take, length, get_or, nat_lt, cond, ◌==◌, Option, Some, None, refl, ap, inl, inr, eqb-true, arith}
+use Rattle.std.proofs.Common.{◌≡◌, ℕ, ◌+◌, ◌-◌, ◌*◌, ◌<◌, ◌≤◌, ◌/◌, true, false, ◌&&◌, ◌⊎◌, List, [], ◌∷◌, take, length, nat_lt, cond, ◌==◌, Option, Some, None, refl, ap, inl, inr, eqb-true, arith}
 use Rattle.std.proofs.lemmas.Bool.{false≢true, and_parts}
 use Rattle.std.proofs.lemmas.Bool.Decides.{nat_tests}
 use Rattle.std.proofs.lemmas.Option.{same_Some}
 use Rattle.std.specs.Prelude.{nat_le, slice_get, slice_index_or}
-use Rattle.std.specs.List.{list_all}
 use Rattle.std.specs.Option.{option_map}
 use Rattle.std.specs.Ordering.{ordering_then, is_lt, nat_cmp}
 use Rattle.std.specs.declared.cmp.Ordering.{Ordering}
@@ -57,14 +56,6 @@ least_after n (x ∷ xs) = let l = least_after (10 * n + (x - 48)) xs in omega a
 pub on_the_way : (text : List ℕ) → is_code text ≡ true → (n : ℕ) (rest : List ℕ) → node_after n rest ≡ node_of text → n < 2000
 on_the_way text form n rest e = let w = node_within text (spelled text form) in let l = least_after n rest in omega arith
 
-pub figure_at : (text : List ℕ) → is_code text ≡ true → (i d : ℕ) → i < length text → IsFigure (get_or text i d)
-figure_at text form = each text (and_parts (nat_le 2 (length text) && nat_le (length text) 3) (list_all is_figure text) form).1
-  where
-    each : (xs : List ℕ) → list_all is_figure xs ≡ true → (i d : ℕ) → i < length xs → IsFigure (get_or xs i d)
-    each [] h i d l = absurd (omega (arith, l))
-    each (x ∷ xs) h zero d l = figure x (and_parts (is_figure x) (list_all is_figure xs) h).0
-    each (x ∷ xs) h (suc i) d l = each xs (and_parts (is_figure x) (list_all is_figure xs) h).1 i d (omega (arith, l))
-
 -- two codes have two nodes
 pub node_once : (s t : List ℕ) → IsSpelled s → IsSpelled t → node_of s ≡ node_of t → s ≡ t
 node_once s t (two a b f g) (two x y k l) e =
@@ -101,6 +92,7 @@ front text (three a b c f g h) k = record { code = two a b f g; at = omega arith
 pub begins_longer : (s t : List ℕ) → IsSpelled s → IsSpelled t → (is_prefix s t && nat_lt (length s) (length t)) ≡ true → (s ≡ take 2 t) × (1000 ≤ node_of t)
 begins_longer s t (two a b f g) (three x y z k l m) h =
     (prefix_is_take (a ∷ b ∷ []) (x ∷ y ∷ z ∷ []) (and_parts (is_prefix (a ∷ b ∷ []) (x ∷ y ∷ z ∷ [])) true h).0, omega arith)
+begins_longer s t (three a b c f g k) (two x y l m) h = absurd (false≢true (and_parts (is_prefix s t) (nat_lt (length s) (length t)) h).1)
 begins_longer s t u v h = absurd (false≢true (and_parts (is_prefix s t) (nat_lt (length s) (length t)) h).1)
 
 -- what decides the order of two texts

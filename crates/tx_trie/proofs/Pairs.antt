@@ -11,8 +11,8 @@ use Rattle.std.specs.declared.cmp.Ordering.TheVariants.{Less, Equal, Greater}
 use Rattle.std.specs.Cmp.Lexicographic.{slice_cmp}
 use Rattle.tx_plan.specs.Plan.{Code}
 use Rattle.tx_plan.specs.Codes.{is_prefix}
-use Rattle.tx_plan.specs.Ambiguous.{pair_cmp, ambiguous_of}
-use Rattle.tx_plan.specs.inner.AmbiguousAt.{pair_at, IsAmbiguousAt}
+use Rattle.tx_plan.specs.Ambiguous.{ambiguous_of}
+use Rattle.tx_plan.specs.inner.AmbiguousAt.{IsAmbiguousAt}
 use Rattle.tx_plan.proofs.Ambiguity.{ambiguous-none, ambiguous-some}
 use Rattle.tx_trie.specs.inner.Nodes.{node_of, IsTrie}
 use Rattle.tx_trie.proofs.Nodes.{spelled, at_node, node_within, node_once, front, begins_longer, nodes_in_order}

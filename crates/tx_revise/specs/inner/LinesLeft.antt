@@ -1,5 +1,6 @@
 -- The lines of a text that are left to give.
-use Rattle.std.specs.Prelude.{ℕ, List, [], Option, Bor}
+use Rattle.std.specs.Prelude.{ℕ, List, [], Option}
+use Rattle.std.specs.Borrow.{Bor}
 use Rattle.std.specs.Option.{option_map_or}
 use Rattle.std.specs.List.{slice_split}
 use Rattle.tx_text.specs.Text.{is_lf}

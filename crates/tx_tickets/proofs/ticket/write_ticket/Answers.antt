@@ -1,6 +1,7 @@
-use Rattle.std.proofs.Common.{◌≡◌, ℕ, List, ◌++◌, append_assoc}
+use Rattle.std.proofs.Common.{◌≡◌, ℕ, List, ◌++◌, ap, append_assoc}
 use Rattle.tx_text.proofs.Writing.{some}
 use Rattle.tx_text.proofs.Putting.{puts_wrote, puts_is}
+use Rattle.tx_machine.specs.Ended.{Ended}
 use Rattle.tx_tickets.specs.Texts.{caller_text, events_text, why_text}
 use Rattle.tx_tickets.proofs.ticket.write_ticket.Goals as goal
 
@@ -12,4 +13,4 @@ returns g c =
     let p = c.args.plan.now in
     let t = c.args.ticket.now in
     puts_wrote _ some (puts_is (cut (caller_text p t) (events_text t) (why_text p t) _)
-    (rw (c.put_why.ensures.text, c.put_events.ensures.text, c.put_caller.ensures.text, c.hops.ensures) at c.write_path.ensures)) c.finish.ensures
+    (rw (c.put_why.ensures.text, c.put_events.ensures.text, c.put_caller.ensures.text, c.hops.ensures, ap (λ (e : Ended). e.path) c.ticket.view_is) at c.write_path.ensures)) c.finish.ensures

@@ -1,21 +1,30 @@
-use Rattle.std.proofs.Common.{◌≡◌, ◌<◌, None, replicate, length, ap, ◌∙◌, sym, arith, rules}
+use Rattle.std.proofs.Common.{◌≡◌, ℕ, ◌<◌, Option, None, replicate, length, ap, ◌∙◌, arith, rules}
 use Rattle.std.proofs.lemmas.List.{length-replicate}
 use Rattle.tx_plan.specs.Plan.{figures_of, home_of}
-use Rattle.tx_plan.specs.Rules.{is_code}
 use Rattle.tx_trie.proofs.Nodes.{spelled, node_within}
-use Rattle.tx_trie.proofs.Filling.{code_is, rows_more, no_code, form, filled, all_in}
+use Rattle.tx_trie.proofs.Filling.{is_none, rows_more, no_code, figures_form, filled, all_in}
 use Rattle.tx_trie.proofs.trie.CodeTrie.build.Goals as goal
 
 pub loop-index-init : goal.loop-index-init
 loop-index-init g c =
-    let bare : c.in_ok-nodes.nodes.items ≡ replicate 2000 None = search rules in
-    record { codes = search rules; nodes = no_code c.args.plan.now.codes c.in_ok-nodes.nodes.items bare (ap length bare ∙ length-replicate 2000 None) }
+    let bare : c.in_ok-nodes.nodes.items ≡ replicate 2000 None = c.in_ok-nodes.ensures.items_if_clones_equal (is_none _ (λ i some. some)) in
+    record { codes = search rules; nodes = no_code c.args.plan.now.codes c.in_ok-nodes.nodes.items bare (ap length bare ∙ length-replicate {A = Option ℕ} 2000 None) }
 
 pub node_of-requires : goal.node_of-requires
 node_of-requires g c =
     let p = c.args.plan.now in
     let low : c.loop-index.index < length p.codes = (let e = c.codes-index-end.ensures.count in omega arith) in
-    ap is_code (c.code_figures-figures.ensures.value ∙ ap (figures_of p) c.of-code.ensures) ∙ form p c.codes-index-end.ensures.rules c.loop-index.index _ (code_is p c.loop-index.index low)
+    figures_form p c.codes-index-end.ensures.rules c.loop-index.index low _ (c.code_figures-figures.ensures.value ∙ ap (figures_of p) c.of-code.ensures)
+
+pub index_mut-requires : goal.index_mut-requires
+index_mut-requires g c =
+    let p = c.args.plan.now in
+    let low : c.loop-index.index < length p.codes = (let e = c.codes-index-end.ensures.count in omega arith) in
+    let form = figures_form p c.codes-index-end.ensures.rules c.loop-index.index low c.code_figures-figures.result.now (c.code_figures-figures.ensures.value ∙ ap (figures_of p) c.of-code.ensures) in
+    let within = node_within c.code_figures-figures.result.now (spelled c.code_figures-figures.result.now form) in
+    let at = c.node_of.ensures in
+    let long = c.loop-index.invariant.nodes.long in
+    omega arith
 
 pub loop-index-preserved : goal.loop-index-preserved
 loop-index-preserved g c =
