@@ -1,5 +1,5 @@
 -- Lines that are passed over one after another, and what stands among them.
-use Rattle.std.proofs.Common.{◌≡◌, ◌∙◌, ℕ, Bool, true, false, cond, List, [], ◌∷◌, sym, ap, subst}
+use Rattle.std.proofs.Common.{◌≡◌, ℕ, Bool, true, List, [], ◌∷◌, sym, subst}
 use Rattle.std.specs.Prelude.{filter}
 use Rattle.std.specs.Str.{bytes_eq}
 use Rattle.std.proofs.lemmas.Slice.Eq.{bytes_eq-Decides}
@@ -22,13 +22,3 @@ module _ (all lines rest : List (List ℕ)) (other : List ℕ) (inv : Within lin
 module _ (test : List ℕ → Bool) (Goal : Type 0) (lines left : List (List ℕ)) (inv : StandAmong (filter test lines) left → Goal) where
   pub all_found : lines ≡ [] → Goal
   all_found e = inv (subst (λ ls. StandAmong (filter test ls) left) (sym e) (none left))
-
-  module _ (line : List ℕ) (rest : List (List ℕ)) (cut : lines ≡ line ∷ rest) where
-    abbrev goes_on : StandAmong (cond (test line) (line ∷ filter test rest) (filter test rest)) left → Goal
-    goes_on h = inv (subst (λ ls. StandAmong (filter test ls) left) (sym cut) h)
-
-    pub one_found : test line ≡ true → (after : List (List ℕ)) → ((xs : List (List ℕ)) → StandAmong xs after → StandAmong (line ∷ xs) left) → StandAmong (filter test rest) after → Goal
-    one_found e after there h = goes_on (subst (λ b. StandAmong (cond b (line ∷ filter test rest) (filter test rest)) left) (sym e) (there (filter test rest) h))
-
-    pub one_left_out : test line ≡ false → StandAmong (filter test rest) left → Goal
-    one_left_out e h = goes_on (subst (λ b. StandAmong (cond b (line ∷ filter test rest) (filter test rest)) left) (sym e) h)

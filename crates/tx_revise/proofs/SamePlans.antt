@@ -1,5 +1,5 @@
 -- Two plans of which each has the lists, or the bars, of the other.
-use Rattle.std.proofs.Common.{◌≡◌, ◌∙◌, ℕ, ◌+◌, ◌≤◌, Bool, true, false, ◌==◌, ◌&&◌, ◌||◌, eqb-true, List, [], ◌∷◌, length, take, Option, Some, None, refl, sym, subst}
+use Rattle.std.proofs.Common.{◌≡◌, ◌∙◌, ℕ, ◌+◌, ◌≤◌, Bool, true, false, ◌==◌, ◌&&◌, ◌||◌, eqb-true, List, [], ◌∷◌, length, take, Option, Some, None, refl, sym, subst, inl, inr}
 use Rattle.std.specs.Prelude.{slice_get}
 use Rattle.std.specs.Option.{option_map}
 use Rattle.std.specs.List.{AllByRecursion, list_any}
@@ -63,13 +63,14 @@ bar_too p bars i k got here all =
 
 barred_too : (p : Plan) (x c : ℕ) (bars : List Pair) → AllByRecursion (λ (b : Pair). is_barred p b.exchange b.code ≡ true) bars → list_any (λ (b : Pair). (b.exchange == x) && (b.code == c)) bars ≡ true → is_barred p x c ≡ true
 barred_too p x c [] all h = let bad : ⊥ = cc in absurd bad
-barred_too p x c (b ∷ bars) all h = by ((b.exchange == x) && (b.code == c)) refl h
+barred_too p x c (b ∷ bars) all h = by ((b.exchange == x) && (b.code == c)) refl h (barred_too p x c bars all.1)
   where
-    by : (t : Bool) → ((b.exchange == x) && (b.code == c)) ≡ t → (t || list_any (λ (b : Pair). (b.exchange == x) && (b.code == c)) bars) ≡ true → is_barred p x c ≡ true
-    by true e k =
+    by : (t : Bool) → ((b.exchange == x) && (b.code == c)) ≡ t → (t || list_any (λ (b : Pair). (b.exchange == x) && (b.code == c)) bars) ≡ true
+        → (list_any (λ (b : Pair). (b.exchange == x) && (b.code == c)) bars ≡ true → is_barred p x c ≡ true) → is_barred p x c ≡ true
+    by true e k later =
         let is = and_parts (b.exchange == x) (b.code == c) e in
         subst (λ y. is_barred p y c ≡ true) (eqb-true b.exchange x is.0) (subst (λ d. is_barred p b.exchange d ≡ true) (eqb-true b.code c is.1) all.0)
-    by false e k = barred_too p x c bars all.1 k
+    by false e k later = later k
 
 pub same_bars : (p q : Plan) → HasBars p q → HasBars q p → (x c : ℕ) → is_barred q x c ≡ is_barred p x c
 same_bars p q there back x c = same_tests (is_barred q x c) (is_barred p x c) (barred_too p x c q.bars there) (barred_too q x c p.bars back)

@@ -36,9 +36,10 @@ impl<'p, A: Allocator + Copy> Draft<'p, A> {
         let Some(pair) = pair_of(self.plan, words) else {
             return Err(Unrevised::OtherPlan);
         };
+        let exchange = pair.exchange;
         self.put_list_in_place(alloc, line, pair)?;
-        if self.pass_list(pair.exchange) {
-            self.put_lists(alloc, Some(pair.exchange))?;
+        if self.pass_list(exchange) {
+            self.put_lists(alloc, Some(exchange))?;
         }
         Ok(())
     }

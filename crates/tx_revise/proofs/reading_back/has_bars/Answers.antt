@@ -1,4 +1,4 @@
-use Rattle.std.proofs.Common.{◌≡◌, ◌∙◌, true, sym, length, arith}
+use Rattle.std.proofs.Common.{◌≡◌, ◌∙◌, true, sym, arith}
 use Rattle.tx_plan.specs.declared.ids.Pair.{Pair}
 use Rattle.tx_plan.specs.Routes.{is_barred}
 use Rattle.tx_revise.proofs.SamePlans.{bar_too, of_all}

@@ -1,6 +1,5 @@
-use Rattle.std.proofs.Common.{length, arith}
+use Rattle.std.proofs.Common.{arith}
 use Rattle.tx_plan.specs.Plan.{Route}
-use Rattle.tx_plan.specs.Routes.{route_list}
 use Rattle.tx_revise.proofs.SamePlans.{list_too, of_all, SameList}
 use Rattle.tx_revise.proofs.reading_back.has_lists.Goals as goal
 

@@ -1,6 +1,6 @@
-use Rattle.std.proofs.Common.{◌≡◌, true, take}
+use Rattle.std.proofs.Common.{◌≡◌, take}
 use Rattle.std.specs.List.{AllByRecursion}
-use Rattle.tx_plan.specs.Routes.{route_list, is_barred}
+use Rattle.tx_plan.specs.Routes.{route_list}
 use Rattle.tx_revise.proofs.reading_back.has_lists.Given as goal
 
 abbrev pub invariant-loop-index : goal.invariant-loop-index

@@ -1,7 +1,5 @@
 use Rattle.std.proofs.Common.{length}
 use Rattle.std.specs.Prelude.{filter}
-use Rattle.std.specs.List.{slice_split}
-use Rattle.tx_text.specs.Text.{is_lf}
 use Rattle.tx_revise.specs.Revised.{StandAmong, SameLinesStand, says_too}
 use Rattle.tx_revise.proofs.standing.same_lines_stand.Given as goal
 
