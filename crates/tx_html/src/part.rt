@@ -12,8 +12,10 @@ use tx_text::{Sink, put_bytes};
 pub enum Part<'a> {
     /// Markup, and words of the page's own.
     Own(&'static str),
-    /// The value of an attribute, after its name: words of the page's own, and then numbers.
-    Value(&'static str, &'a [u64]),
+    /// The value of an attribute, after its name: words of the page's own, and then a number.
+    Value(&'static str, u64),
+    /// The value of an attribute that says how wide and how high a picture is.
+    Size(u64, u64),
     /// A text that the page shows.
     Text(&'a [u8]),
     /// A number that the page shows.
@@ -27,7 +29,8 @@ pub(crate) fn set_part<W: Sink>(part: Part<'_>, sink: &mut W)
     let mut buffer = Buffer::new();
     match part {
         Part::Own(words) => set_own(words.as_bytes(), sink),
-        Part::Value(words, numbers) => set_value(words, numbers, sink),
+        Part::Value(words, number) => set_value(words, number, sink),
+        Part::Size(wide, high) => set_size(wide, high, sink),
         Part::Text(text) => set_text(text, sink),
         Part::Count(number) => set_text(buffer.format(number).as_bytes(), sink),
     }
@@ -48,23 +51,23 @@ pub(crate) fn set_number<W: Sink>(number: u64, sink: &mut W)
 }
 
 /// Sets the value of an attribute.
-fn set_value<W: Sink>(words: &'static str, numbers: &[u64], sink: &mut W)
+fn set_value<W: Sink>(words: &'static str, number: u64, sink: &mut W)
     ensures { Sets (seen_by W.taken W.failed) sink.old sink.new [] }
 {
     set_own(b"=\"", sink);
     set_own(words.as_bytes(), sink);
-    set_numbers(numbers, sink);
+    set_number(number, sink);
     set_own(b"\"", sink);
 }
 
-/// Sets numbers in markup, with blanks between them.
-fn set_numbers<W: Sink>(numbers: &[u64], sink: &mut W)
+fn set_size<W: Sink>(wide: u64, high: u64, sink: &mut W)
     ensures { Sets (seen_by W.taken W.failed) sink.old sink.new [] }
 {
-    for i in 0..numbers.len() {
-        set_own(if i == 0 { b"".as_slice() } else { b" " }, sink);
-        set_number(numbers[i], sink);
-    }
+    set_own(b"=\"0 0 ", sink);
+    set_number(wide, sink);
+    set_own(b" ", sink);
+    set_number(high, sink);
+    set_own(b"\"", sink);
 }
 
 /// Sets a text, escaped.

@@ -70,7 +70,7 @@ fn write_picture<A: Allocator, W: PageSink>(
     set(
         &[
             Part::Own("<details id"),
-            Part::Value("c", &[picture.code.index() as u64]),
+            Part::Value("c", picture.code.index() as u64),
             Part::Own(if open { " open>" } else { ">" }),
             Part::Own("<summary><h3>"),
             Part::Text(plan.code_figures(picture.code)),
@@ -95,11 +95,11 @@ fn write_canvas<A: Allocator, W: PageSink>(plan: &Plan<A>, picture: &Picture<A>,
     set(
         &[
             Part::Own("<svg role=\"group\" aria-label=\"The lists as a picture\" viewBox"),
-            Part::Value("0 0 ", &[width, height]),
+            Part::Size(width, height),
             Part::Own(" width"),
-            Part::Value("", &[width]),
+            Part::Value("", width),
             Part::Own(" height"),
-            Part::Value("", &[height]),
+            Part::Value("", height),
             Part::Own(">"),
         ],
         sink,
@@ -129,7 +129,7 @@ fn write_head<W: PageSink>(left: u64, sink: &mut W)
     set(
         &[
             Part::Own("<text class=\"r\" x"),
-            Part::Value("", &[left.saturating_add(BOX / 2)]),
+            Part::Value("", left.saturating_add(BOX / 2)),
             Part::Own(" y=\"16\">home</text>"),
         ],
         sink,
@@ -146,7 +146,7 @@ fn write_aside<W: PageSink>(has_aside: bool, top: u64, sink: &mut W)
     set(
         &[
             Part::Own("<text class=\"l\" x=\"6\" y"),
-            Part::Value("", &[top]),
+            Part::Value("", top),
             Part::Own(">No call for this code comes to:</text>"),
         ],
         sink,

@@ -66,7 +66,7 @@ fn write_rank<W: PageSink>(left: u64, rank: u64, sink: &mut W)
     set(
         &[
             Part::Own("<text class=\"r\" x"),
-            Part::Value("", &[left.saturating_add(BOX / 2)]),
+            Part::Value("", left.saturating_add(BOX / 2)),
             Part::Own(" y=\"16\">rank "),
             Part::Count(rank),
             Part::Own("</text>"),

@@ -35,11 +35,11 @@ fn write_canvas<W: PageSink>(size: Size, sink: &mut W)
     set(
         &[
             Part::Own("<svg role=\"group\" aria-label=\"The network as a picture\" viewBox"),
-            Part::Value("0 0 ", &[size.wide, size.high]),
+            Part::Size(size.wide, size.high),
             Part::Own(" width"),
-            Part::Value("", &[size.wide]),
+            Part::Value("", size.wide),
             Part::Own(" height"),
-            Part::Value("", &[size.high]),
+            Part::Value("", size.high),
             Part::Own(">"),
         ],
         sink,
@@ -89,7 +89,7 @@ fn write_line<A: Allocator, W: PageSink>(plan: &Plan<A>, group: GroupId, sink: &
     set(
         &[
             Part::Own("<path class=\"n\" stroke-width"),
-            Part::Value("", &[wide]),
+            Part::Value("", wide),
         ],
         sink,
     );
@@ -156,17 +156,17 @@ fn write_name<A: Allocator, W: PageSink>(plan: &Plan<A>, exchange: ExchangeId, s
     set(
         &[
             Part::Own("<g class=\"x\"><rect x"),
-            Part::Value("", &[seat.x.saturating_sub(BOX / 2)]),
+            Part::Value("", seat.x.saturating_sub(BOX / 2)),
             Part::Own(" y"),
-            Part::Value("", &[seat.y.saturating_sub(TALL / 2)]),
+            Part::Value("", seat.y.saturating_sub(TALL / 2)),
             Part::Own(" width"),
-            Part::Value("", &[BOX]),
+            Part::Value("", BOX),
             Part::Own(" height"),
-            Part::Value("", &[TALL]),
+            Part::Value("", TALL),
             Part::Own(" rx=\"4\"/><text x"),
-            Part::Value("", &[seat.x]),
+            Part::Value("", seat.x),
             Part::Own(" y"),
-            Part::Value("", &[seat.y.saturating_add(4)]),
+            Part::Value("", seat.y.saturating_add(4)),
             Part::Own(">"),
             Part::Text(plan.exchange_name(exchange)),
             Part::Own("</text></g>"),
