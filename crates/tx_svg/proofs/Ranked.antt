@@ -8,5 +8,5 @@ use Rattle.tx_svg.specs.ListTexts.{greatest_rank}
 
 pub greatest_more : (ranks : ℕ → Option ℕ) (n : ℕ) → greatest_rank ranks (n + 1) ≡ max (greatest_rank ranks n) (unwrap_or (ranks n) 0)
 greatest_more ranks n =
-    let rank = λ x. unwrap_or (ranks x) 0 in
+    let rank : ℕ → ℕ = λ x. unwrap_or (ranks x) 0 in
     ap (fold max 0) (map-range_with_len_more rank 0 n n refl) ∙ fold-append max 0 (map rank (range_with_len 0 n)) (rank n ∷ [])

@@ -121,7 +121,7 @@ impl Path for RingLine {
     }
 
     fn segment(&self, index: usize) -> Segment {
-        let (from, to) = (self.from, self.to);
+        let (size, from, to) = (self.size, self.from, self.to);
         if index == 0 {
             return Segment::Start(Point {
                 x: from.end_x,
@@ -129,8 +129,8 @@ impl Path for RingLine {
             });
         }
         let middle = Point {
-            x: (from.end_x / 2 + to.end_x / 2) / 2 + self.size.wide / 4,
-            y: (from.end_y / 2 + to.end_y / 2) / 2 + self.size.high / 4,
+            x: (from.end_x / 2 + to.end_x / 2) / 2 + size.wide / 4,
+            y: (from.end_y / 2 + to.end_y / 2) / 2 + size.high / 4,
         };
         let end = Point {
             x: to.end_x,
