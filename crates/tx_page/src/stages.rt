@@ -12,12 +12,14 @@ use tx_html::{PageSink, Part, set};
 use tx_join::Joined;
 use tx_order::Order;
 
-const ORDERED: &str = " in which the lists and bars of the old plan can be switched to those of this \
+const ORDERED: &str =
+    " in which the lists and bars of the old plan can be switched to those of this \
 one. What is in one stage may be switched in any order, with calls up. A stage begins when all of the \
 one before is switched, and no call that was keyed before that is still being set up. Where there is \
 no stage, no list and no bar is switched.</p>";
 
-const NO_ORDER: &str = " of switching: for these numbers the old plan or this one is not safe, alone \
+const NO_ORDER: &str =
+    " of switching: for these numbers the old plan or this one is not safe, alone \
 or in the network of both. Below are the lists and bars that would be switched.</p>";
 
 /// Writes that there is no order, and all lists and bars that would be switched.

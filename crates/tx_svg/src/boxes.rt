@@ -85,7 +85,10 @@ fn write_frame<W: PageSink>(frame: Frame, name: &[u8], sink: &mut W)
             Part::Own(" rx=\"4\"/><text x"),
             Part::Value("", frame.left.saturating_add(BOX / 2)),
             Part::Own(" y"),
-            Part::Value("", frame.top.saturating_add(frame.high / 2).saturating_add(4)),
+            Part::Value(
+                "",
+                frame.top.saturating_add(frame.high / 2).saturating_add(4),
+            ),
             Part::Own(">"),
             Part::Text(name),
             Part::Own("</text></g>"),
