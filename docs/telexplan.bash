@@ -19,19 +19,19 @@ _telexplan() {
         --cert | --mixture | --plan | --risks | --counter | --from | --html) ;;
         *)
             case $COMP_CWORD:${COMP_WORDS[1]}:$word in
-                1:*) words="lint audit grade mend change order survive page check run codes trace fill explain version help --help --version" ;;
-                *:help:*) words="lint audit grade mend change order survive page check run codes trace fill explain version" ;;
+                1:*) words="lint audit grade mend change order survive page check run codes trace fill explain help --help --version" ;;
+                *:help:*) words="lint audit grade mend change order survive page check run codes trace fill explain" ;;
                 *:explain:*) words="--help $(telexplan explain 2>/dev/null | cut -d ' ' -f 1)" ;;
                 *:audit:-*) words="--limit --spare --cert --counter --help" ;;
-                *:mend:-*) words="--limit --spare --plan --cert --old --help" ;;
-                *:change:-*) words="--limit --spare --cert --mixture --counter --old --help" ;;
-                *:order:-*) words="--limit --spare --stage --plan --cert --old --help" ;;
+                *:mend:-*) words="--limit --spare --plan --cert --help" ;;
+                *:change:-*) words="--limit --spare --cert --mixture --counter --help" ;;
+                *:order:-*) words="--limit --spare --stage --plan --cert --help" ;;
                 *:lint:-*) words="--risks --help" ;;
                 *:survive:-*) words="--risks --risks-only --totals --help" ;;
                 *:page:-*) words="--limit --spare --risks --from --code --html --help" ;;
                 *:check:-*) words="--limit --spare --help" ;;
                 *:run:-*) words="--cert --limit --spare --strict --echo --summary --help" ;;
-                *:grade:-* | *:codes:-* | *:version:-*) words="--help" ;;
+                *:grade:-* | *:codes:-*) words="--help" ;;
                 *:trace:-*) words="--down --group --help" ;;
                 *:fill:-*) words="--down --help" ;;
                 3:trace:* | 3:fill:*) words=$(_telexplan_names EXCHANGE) ;;

@@ -403,8 +403,7 @@ def case_of(example):
         return f"checked{bounds}", b"---\n".join([plan, cert, script])
     kinds = {"run": telling_of(example.words), "codes": "codes", "grade": "grade"} | {it: it + bounds for it in ("check", "audit")}
     staged = example.option("--stage")
-    old = " --old" * ("--old" in example.words)
-    kinds |= {"mend": f"mend{bounds}{old}", "change": f"change{bounds}{old}", "order": f"stage{bounds} {staged}" if staged else f"order{bounds}{old}"}
+    kinds |= {"mend": f"mend{bounds}", "change": f"change{bounds}", "order": f"stage{bounds} {staged}" if staged else f"order{bounds}"}
     kinds |= {"survive": "survive" if example.option("--risks") else "survive alone", "trace": asked_of(example, "--down"), "fill": asked_of(example, "--down"), "lint": " ".join(["lint", *["risks"] * bool(example.option("--risks")), *example.words[1:2]])}
     if example.option("--group"):
         kinds["trace"] = f"trace group {example.option('--group')}"

@@ -17,7 +17,7 @@ import sys
 
 MADE = {"crates/telexplan/out/telexplan", "out/"}
 # the words of the program, and what the toolchain, its libraries and other programs have
-OTHER = {"lint", "audit", "grade", "mend", "change", "order", "survive", "page", "check", "run", "codes", "trace", "fill", "explain", "version", "help"}
+OTHER = {"lint", "audit", "grade", "mend", "change", "order", "survive", "page", "check", "run", "codes", "trace", "fill", "explain", "help"}
 OTHER |= {"rt", "dot", "label", "indexmap", "match", "requires", "Contains", "Drop", "Error", "From"}
 HEAD = re.compile(r"( *)(pub )?(?:pub\(\w+\) )?(?:const |unsafe )*fn (\w+)")
 CLAUSE = re.compile(r" +(requires|ensures)(?: (\w+))? \{")

@@ -73,8 +73,8 @@ def random_mend(rng):
     plan = random_plan(rng)
     while sum(len(plan.seizable(x)) for x in plan.exchanges) > 8:
         plan = random_plan(rng)
-    at, old = numbers_of(rng), rng.random() < 0.5
-    return 1, lambda program: judge_mend(program, plan, *at, old)
+    at = numbers_of(rng)
+    return 1, lambda program: judge_mend(program, plan, *at)
 
 
 def pairs(old, new, judge, most):
@@ -93,10 +93,10 @@ def pairs(old, new, judge, most):
 def random_change(judge):
     """A random pair of plans, most of them safe."""
     def make(rng):
-        plans, at, told = random_pair(rng), numbers_of(rng), rng.random() < 0.5
+        plans, at = random_pair(rng), numbers_of(rng)
         while not all(is_safe(plan, *at) for plan in plans) and rng.random() < 0.9:
             plans = random_pair(rng)
-        return 1, lambda program: judge(program, *plans, *at, told)
+        return 1, lambda program: judge(program, *plans, *at)
     return make
 
 

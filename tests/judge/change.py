@@ -96,11 +96,11 @@ def judge_head(ran, head, old, new):
     return not line
 
 
-def judge_change(program, old, new, limit, spare, told=True):
+def judge_change(program, old, new, limit, spare):
     words = ["change", "o", "n", *numbers(limit, spare), "--cert", "cert", "--mixture", "mixture", "--counter", "script"]
-    ran = program.run(words + ["--old"] * told, {"o": old.text, "n": new.text}, ["cert", "mixture", "script"])
+    ran = program.run(words, {"o": old.text, "n": new.text}, ["cert", "mixture", "script"])
     before, after = join(old, new)
-    head = [f"CHANGE LIMIT {limit} SPARE {spare}", *differences(old, new), *(switched_rows(before, after, True) if told else [])]
+    head = [f"CHANGE LIMIT {limit} SPARE {spare}", *differences(old, new), *switched_rows(before, after)]
     if not judge_head(ran, head, old, new):
         return
     rows = ran.out.splitlines()

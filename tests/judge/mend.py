@@ -128,11 +128,11 @@ def causes(plan, nets, limit, spare):
     return rows, ends
 
 
-def with_lists(plan, rows, old):
+def with_lists(plan, rows):
     """The plan with the lists of a report."""
     mended = plan.copy()
     mended.routes.update({tuple(words[1:3]): tuple(words[3:]) for words in (row.split(" ") for row in rows) if words[0] == "ROUTE"})
-    need(rows == switched_rows(plan, mended, old), f"not the lines of the lists that change: {rows}")
+    need(rows == switched_rows(plan, mended), f"not the lines of the lists that change: {rows}")
     return mended
 
 
@@ -143,8 +143,8 @@ def judge_revised(text, of, plan):
     need(rows == others, "other lines of the text do not stand")
 
 
-def judge_mend(program, plan, limit, spare, old=True):
-    words = ["mend", "p", *numbers(limit, spare), "--plan", "new", "--cert", "cert"] + ["--old"] * old
+def judge_mend(program, plan, limit, spare):
+    words = ["mend", "p", *numbers(limit, spare), "--plan", "new", "--cert", "cert"]
     ran = program.run(words, {"p": plan.text}, ["new", "cert"])
     rows, nets, yes = ran.out.splitlines(), networks_of(plan), is_mendable(plan, limit, spare)
     need(rows[0] == f"MEND LIMIT {limit} SPARE {spare}", f"begins with {rows[0]}")
@@ -156,7 +156,7 @@ def judge_mend(program, plan, limit, spare, old=True):
         judge_verdict(rows, False, ran.status, len(pairs) + len(found))
         return
     judge_verdict(rows, True, ran.status, 0)
-    mended = with_lists(plan, rows[1:-1], old)
+    mended = with_lists(plan, rows[1:-1])
     new = mended.views
     for code, view in plan.views.items():
         of_code(code, judge_mended, nets[view[0]], view, new[code][1], limit, spare)

@@ -13,8 +13,8 @@ def stages_of(rows):
     return [rows[a + 1:b] for a, b in zip(heads, heads[1:] + [len(rows)])]
 
 
-def switched(plan, rows, told):
-    """The plan after a stage, and which lists and bars it switches. With `told` a line `WAS` has each list that is replaced."""
+def switched(plan, rows):
+    """The plan after a stage, which switches these lists and bars."""
     after, places, due = plan.copy(), [], []
     for words in (row.split(" ") for row in rows if not row.startswith("WAS")):
         kind, pair, list_ = words[0], tuple(words[1:3]), tuple(words[3:])
@@ -25,7 +25,7 @@ def switched(plan, rows, told):
         else:
             was = after.routes.pop(pair, ())
             after.routes.update({pair: list_} if list_ else {})
-            due += switch_rows(pair, was, list_, told)
+            due += switch_rows(pair, was, list_)
         places.append((plan.exchanges.index(pair[0]), list(plan.codes).index(pair[1]), "BAR" not in kind))
     need(rows == due and places == sorted(set(places)), f"a stage is {rows}, and not {due}, or not in order")
     return after
@@ -69,14 +69,14 @@ def judge_code(views, limit, spare):
     need(views == wanted, f"the stages are {views} and not {wanted}")
 
 
-def judge_stages(before, after, stages, limit, spare, told):
+def judge_stages(before, after, stages, limit, spare):
     """All mixtures of each stage are safe, and the last plan is the new one. Answers the plan before each stage, and after the last one."""
     passed, lifted = [before], set()
     for rows in stages:
         codes = {row.split(" ")[2] for row in rows if not row.startswith("WAS")}
         need(not codes & lifted and (len(passed) == 1 or not any(row.startswith("BAR") for row in rows)), "bars are set first and lifted last")
         lifted |= {row.split(" ")[2] for row in rows if row.startswith("UNBAR")}
-        plan = switched(passed[-1], rows, told)
+        plan = switched(passed[-1], rows)
         need(rows and all(it == NOTHING for it in dues_between(passed[-1], plan, limit, spare).values()), f"a mixture of stage {len(passed)} is not safe")
         passed.append(plan)
     need(passed[-1].says_the_same(after) and len(stages) <= 2 * (limit + 2), "the last plan is not the new one, or there are too many stages")
@@ -102,8 +102,8 @@ def judge_stage(program, old, new, passed, stage, report):
     judge_cert(program, passed[stage - 1:stage + 1], cert, int(limit), int(spare))
 
 
-def judge_order(program, old, new, limit, spare, told=True):
-    ran = program.run(["order", "o", "n", *numbers(limit, spare)] + ["--old"] * told, {"o": old.text, "n": new.text})
+def judge_order(program, old, new, limit, spare):
+    ran = program.run(["order", "o", "n", *numbers(limit, spare)], {"o": old.text, "n": new.text})
     before, after = join(old, new)
     head = [f"ORDER LIMIT {limit} SPARE {spare}", *differences(old, new)]
     if not judge_head(ran, head, old, new):
@@ -114,9 +114,9 @@ def judge_order(program, old, new, limit, spare, told=True):
     yes = ordered and is_safe(new, limit, spare)
     judge_verdict(rows, yes, ran.status, len(rest))
     if yes:
-        passed = judge_stages(before, after, stages_of(rest), limit, spare, told)
+        passed = judge_stages(before, after, stages_of(rest), limit, spare)
         for stage in range(1, len(passed) + 1):
-            judge_stage(program, old, new, passed, stage, [row for row in rows if not row.startswith("WAS")])
+            judge_stage(program, old, new, passed, stage, rows)
         return
     findings = [[row[4:] for row in rest if row.startswith(word)] for word in ("OLD ", "NEW ")]
     need(rest == [f"OLD {row}" for row in findings[0]] + [f"NEW {row}" for row in findings[1]], f"neither OLD nor NEW, or not in order: {rest}")

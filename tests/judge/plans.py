@@ -85,16 +85,16 @@ def read(text):
     return plan
 
 
-def switch_rows(pair, before, after, old):
-    """The lines of a list that is another one, with the old one if that is told."""
-    return [f"ROUTE {' '.join(pair + after)}" if after else f"DROP {' '.join(pair)}", " ".join(("WAS", *before))][:1 + old]
+def switch_rows(pair, before, after):
+    """The lines of a list that is another one, and of the one that it replaces."""
+    return [f"ROUTE {' '.join(pair + after)}" if after else f"DROP {' '.join(pair)}", " ".join(("WAS", *before))]
 
 
-def switched_rows(before, after, old):
+def switched_rows(before, after):
     """The lines of all lists that are other ones, by codes and exchanges."""
     pairs = ((x, code) for code in before.codes for x in before.exchanges)
     lists = ((it, before.routes.get(it, ()), after.routes.get(it, ())) for it in pairs)
-    return [row for it in lists if it[1] != it[2] for row in switch_rows(*it, old)]
+    return [row for it in lists if it[1] != it[2] for row in switch_rows(*it)]
 
 
 def contradiction(old, new):

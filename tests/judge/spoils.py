@@ -64,16 +64,17 @@ def more(match):
 def cut(parts):
     """The first stage as two, if it switches several lists of one code and nothing else."""
     first = parts[0] if parts else []
-    if len(first) < 2 or len({row.split()[2] for row in first}) > 1 or re.search("BAR|WAS", "".join(first)):
+    if len(first) < 4 or re.search("BAR", "".join(first)) or len({row.split()[2] for row in first[::2]}) > 1:
         return None
-    return [first[:1], first[1:], *parts[1:]]
+    return [first[:2], first[2:], *parts[1:]]
 
 
 def too_early(parts):
-    """The first list of the second stage in the first stage already."""
-    if len(parts) < 2 or "WAS" in "".join(parts[1]):
+    """The first list or bar of the second stage in the first stage already."""
+    if len(parts) < 2:
         return None
-    return [it for it in (parts[0] + parts[1][:1], parts[1][1:], *parts[2:]) if it]
+    rows = 1 + any(row.startswith("WAS") for row in parts[1][1:2])
+    return [it for it in (parts[0] + parts[1][:rows], parts[1][rows:], *parts[2:]) if it]
 
 
 # The topic whose cases are spoiled, of each command.

@@ -3,8 +3,8 @@ use Rattle.std.proofs.Common.{◌≡◌, ◌||◌, ℕ, List, [], ◌∷◌, Opt
 use Rattle.std.specs.Borrow.{Bor}
 use Rattle.std.specs.List.{list_any}
 use Rattle.std.specs.Option.{option_eq}
-use Rattle.tx_commands.specs.Files.{is_among}
-use Rattle.tx_commands.specs.Commands.{names}
+use Rattle.tx_commands.specs.Clashes.{is_among}
+use Rattle.tx_commands.specs.Files.{names}
 
 -- a file is one of these exactly where it is one of those that are named
 pub among : (files : List (Option (Bor (List ℕ)))) (file : Bor (List ℕ))

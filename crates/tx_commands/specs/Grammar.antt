@@ -77,9 +77,9 @@ audit_words =
 -- a command with a plan, and an option that names another one, so the plan goes by another id
 abbrev pub mend_words : App
 mend_words =
-    with_rule (with_rule (with_rule (with_rule (with_rule (with_rule
+    with_rule (with_rule (with_rule (with_rule (with_rule
     (new_app (codes "mend")) (file (codes "before"))) (needed limit)) (needed spare))
-    (option (codes "plan"))) (option (codes "cert"))) (flag (codes "old"))
+    (option (codes "plan"))) (option (codes "cert"))
 
 -- the arguments of `survive`
 abbrev pub survive_words : App
@@ -117,17 +117,16 @@ fill_words =
 -- a command whose words are two plans
 abbrev pub change_words : App
 change_words =
-    with_rule (with_rule (with_rule (with_rule (with_rule (with_rule (with_rule (with_rule
+    with_rule (with_rule (with_rule (with_rule (with_rule (with_rule (with_rule
     (new_app (codes "change")) (file (codes "before"))) (file (codes "after"))) (needed limit))
-    (needed spare)) (option (codes "cert"))) (option (codes "mixture"))) (option (codes "counter")))
-    (flag (codes "old"))
+    (needed spare)) (option (codes "cert"))) (option (codes "mixture"))) (option (codes "counter"))
 
 -- two plans, and what is to be made of a stage
 abbrev pub order_words : App
 order_words =
-    with_rule (with_rule (with_rule (with_rule (with_rule (with_rule (with_rule (with_rule
+    with_rule (with_rule (with_rule (with_rule (with_rule (with_rule (with_rule
     (new_app (codes "order")) (file (codes "before"))) (file (codes "after"))) (needed limit))
-    (needed spare)) stage) (option (codes "plan"))) (option (codes "cert"))) (flag (codes "old"))
+    (needed spare)) stage) (option (codes "plan"))) (option (codes "cert"))
 
 -- one or more words, which need not be given
 abbrev pub some_words : List ℕ → Rule
@@ -138,10 +137,6 @@ some_words id = record (word id) {
 -- the words of a line
 abbrev pub explain_words : App
 explain_words = with_rule (new_app (codes "explain")) (some_words (codes "word"))
-
--- it asks for the version, as `--version` does
-abbrev pub version_words : App
-version_words = new_app (codes "version")
 
 -- the program takes its words from the first on, and prints its version
 abbrev pub top_words : App
@@ -161,5 +156,5 @@ judging_words =
 abbrev pub program_words : App
 program_words =
     with_subcommand (with_subcommand (with_subcommand (with_subcommand (with_subcommand
-    (with_subcommand judging_words run_words.top) codes_words.top)
-    trace_words.top) fill_words.top) explain_words.top) version_words.top
+    judging_words run_words.top) codes_words.top) trace_words.top) fill_words.top)
+    explain_words.top

@@ -11,6 +11,17 @@ use std::alloc::{AllocError, Global};
 pub(crate) const PLAN: &str = "The route plan: exchanges, codes, lines, groups, routes and
 bars; - is standard input";
 
+/// What the help says of the named risks.
+pub(crate) const RISKS: &str = "The named risks, such as cables: lines RISK name
+group .., between RISKS 1 and END; - is standard input";
+
+pub(crate) const OLD_PLAN: &str = "The plan that is in force; - is standard input";
+
+pub(crate) const NEW_PLAN: &str = "The plan that is to be; - is standard input";
+
+/// What the help says of the groups that are down.
+pub(crate) const DOWN: &str = "The groups that are down, with a comma between two";
+
 /// A command with its arguments so far, unless memory ran out.
 #[derive(Drop)]
 pub(crate) struct Syntax<'a> {

@@ -1,61 +1,58 @@
-// Where two files of a command clash.
-ghost use Rattle.std.specs.Prelude.{◌≡◌, true, false, ◌∷◌, Err, IfOk, IfErr, is_some};
-ghost use Rattle.tx_commands.specs.Commands.{names, standard_input};
-ghost use Rattle.tx_commands.specs.Files.{is_among, has_input_twice, has_clash, reads_input_twice, overwrites};
-ghost use Rattle.tx_commands.specs.inner.Refused.{IsClash};
-ghost use Rattle.tx_commands.specs.declared.misuse.Misuse.TheVariants.{InputTwice};
+// The files of a command.
+ghost use Rattle.std.specs.Prelude.{◌≡◌, ◌∷◌, []};
+ghost use Rattle.tx_commands.specs.Files.{named, names_of, only_read, one_read, two_read};
 
-use crate::command::{Command, Files, STANDARD_INPUT};
-use crate::misuse::Misuse;
-use std::alloc::Global;
+/// The name of standard input, where a file is read.
+pub const STANDARD_INPUT: &str = "-";
 
-/// Whether a file is one of these.
-fn is_among(files: &[Option<&str>], file: &str) -> bool
-    ensures { result ≡ is_among (names files.now) file.now }
-{
-    files.contains(&Some(file))
+/// The files of a command, by their names.
+#[derive(Clone, Copy)]
+pub struct Files<'a> {
+    /// Those that it reads, in the order in which they are opened.
+    pub reads: [Option<&'a str>; 3],
+    /// The plan that it may make.
+    pub plan: Option<&'a str>,
+    /// The certificate that it may make.
+    pub cert: Option<&'a str>,
+    /// The script that it may make.
+    pub script: Option<&'a str>,
+    /// The page that it may make, in place of standard output.
+    pub page: Option<&'a str>,
 }
 
-/// Whether standard input is among these files twice.
-fn has_input_twice(files: &[Option<&str>]) -> bool
-    ensures { result ≡ has_input_twice (names files.now) }
-{
-    for i in 0..files.len() {
-        if files[i] == Some(STANDARD_INPUT) && is_among(&files[i + 1..], STANDARD_INPUT) {
-            return true;
+impl<'a> Files<'a> {
+    /// Those of a command that reads these and makes none.
+    pub(crate) fn reading(reads: [Option<&'a str>; 3]) -> Files<'a>
+        ensures { names_of result ≡ only_read (named reads.entry) }
+    {
+        Files {
+            reads,
+            plan: None,
+            cert: None,
+            script: None,
+            page: None,
         }
     }
-    false
-}
 
-/// A file to be made that is standard input, or one that is read, or another one to be made.
-fn clashing<'n>(read: &[Option<&str>], made: &[Option<&'n str>]) -> Option<&'n str>
-    ensures { is_some result ≡ has_clash (standard_input ∷ names read.now) (names made.now) }
-{
-    for i in 0..made.len() {
-        if let Some(file) = made[i] {
-            if file == STANDARD_INPUT || is_among(read, file) || is_among(&made[i + 1..], file) {
-                return Some(file);
-            }
-        }
+    /// Those of a command that reads one file and makes none.
+    pub(crate) fn of_one(file: &'a str) -> Files<'a>
+        ensures { names_of result ≡ one_read file.now }
+    {
+        Files::reading([Some(file), None, None])
     }
-    None
-}
 
-/// Refuses a command of which two files clash. Standard input that is read twice is told before a
-/// file that is made over another one.
-pub(crate) fn refuse_clash(alloc: Global, command: &Command) -> Result<(), Misuse>
-    ensures refused { IfErr result (IsClash command.now) }
-    ensures input_first { reads_input_twice command.now ≡ true → result ≡ Err InputTwice }
-    ensures read_once { IfOk result (λ _. reads_input_twice command.now ≡ false) }
-    ensures apart { IfOk result (λ _. overwrites command.now ≡ false) }
-{
-    let files = Files::of(command);
-    if has_input_twice(&files.reads) {
-        return Err(Misuse::InputTwice);
+    /// Those of a command that reads two files and makes none.
+    pub(crate) fn of_two(first: &'a str, second: &'a str) -> Files<'a>
+        ensures { names_of result ≡ two_read first.now second.now }
+    {
+        Files::reading([Some(first), Some(second), None])
     }
-    match clashing(&files.reads, &files.makes()) {
-        Some(file) => Err(Misuse::Overwrites(String::from_str(alloc, file)?)),
-        None => Ok(()),
+
+    /// Those that it may make, in the order in which they are made.
+    pub fn makes(&self) -> [Option<&'a str>; 4]
+        ensures { named result
+            ≡ named (self.now.plan ∷ self.now.cert ∷ self.now.script ∷ self.now.page ∷ []) }
+    {
+        [self.plan, self.cert, self.script, self.page]
     }
 }

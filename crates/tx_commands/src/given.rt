@@ -1,13 +1,14 @@
 // The words and numbers that were given for the arguments of a command.
-ghost use Rattle.std.specs.Prelude.{◌≡◌, ◌≤◌, ℕ, List, Some, IfOk, IfErr, codes, option_map, string_bytes};
+ghost use Rattle.std.specs.Prelude.{◌≡◌, ◌≤◌, ℕ, List, Some, IfOk, IfErr, option_map, string_bytes};
 ghost use Rattle.clap.specs.Words.{first_of, found_of, rows_of};
-ghost use Rattle.tx_commands.specs.Commands.{Gives, is_set, line_of};
+ghost use Rattle.tx_commands.specs.Commands.{Gives, GivesLimits, is_set, line_of};
 ghost use Rattle.tx_commands.specs.Faults.{has};
 ghost use Rattle.tx_commands.specs.inner.Refused.{IsRefused};
 
 use crate::misuse::Misuse;
 use clap::ArgMatches;
 use std::alloc::{AllocError, Global};
+use tx_plan::Limits;
 use tx_text::number;
 
 /// The word of an id.
@@ -79,15 +80,12 @@ pub(crate) fn number_of(
 }
 
 /// The limit and the spare number.
-pub(crate) fn limits(alloc: Global, matches: &ArgMatches<'_>) -> Result<(u8, u8), Misuse>
-    ensures range { IfOk result (λ b. (b.0 ≤ 62) × (b.1 ≤ 15)) }
-    ensures given { IfOk result (λ b.
-        Gives (rows_of (found_of matches.now)) (codes "limit") b.0
-        × Gives (rows_of (found_of matches.now)) (codes "spare") b.1) }
+pub(crate) fn limits(alloc: Global, matches: &ArgMatches<'_>) -> Result<Limits, Misuse>
+    ensures given { IfOk result (GivesLimits (rows_of (found_of matches.now))) }
     ensures refused { IfErr result
         (λ e. (name : List ℕ) → IsRefused (Some (name, rows_of (found_of matches.now))) e) }
 {
     let limit = number_of(alloc, matches, "limit", 62)?;
     let spare = number_of(alloc, matches, "spare", 15)?;
-    Ok((limit, spare))
+    Ok(Limits { limit, spare })
 }

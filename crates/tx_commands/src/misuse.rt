@@ -29,8 +29,6 @@ pub(crate) enum Misuse {
     /// A file to be made has this name, which is that of another file of the command, or of
     /// standard input.
     Overwrites(String),
-    /// The version is asked for.
-    Version,
     /// No memory was left.
     NoMemory,
 }

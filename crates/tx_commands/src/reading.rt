@@ -1,45 +1,23 @@
 // The command that the words of the command line ask for.
 ghost use Rattle.std.specs.Prelude.{◌≡◌, ◌≢◌, ℕ, false, List, Option, [], Ok, Some, IfOk, IfErr};
 ghost use Rattle.clap.specs.Words.{Row, app_of, found_of, rows_of, subcommand_rows_of};
-ghost use Rattle.tx_commands.specs.Commands.{IsInRange, Asks, AskFor, IsFoundIn};
-ghost use Rattle.tx_commands.specs.Files.{reads_input_twice, overwrites};
+ghost use Rattle.tx_commands.specs.Commands.{Asks, AskFor, IsFoundIn};
+ghost use Rattle.tx_commands.specs.Clashes.{reads_input_twice, overwrites};
 ghost use Rattle.tx_commands.specs.Grammar.{program_words};
 ghost use Rattle.tx_commands.specs.Faults.{IsRefusalIn, IsRefusalOf};
 ghost use Rattle.tx_commands.specs.inner.Refused.{IsRefused};
 
-use crate::asked::{change_of, explain_of, mend_of, order_of, plan_command};
+use crate::asked::command_of;
+use crate::clashes::refuse_clash;
 use crate::command::Command;
 use crate::fault::WordsFault;
-use crate::files::refuse_clash;
-use crate::given::text;
 use crate::grammar::{asked_grammar, grammar};
 use crate::misuse::Misuse;
 use clap::ArgMatches;
 use std::alloc::{AllocError, Global};
 
-/// The command of a subcommand's words.
-fn command_of(alloc: Global, name: &str, matches: &ArgMatches<'_>) -> Result<Command, Misuse>
-    ensures range { IfOk result IsInRange }
-    ensures asked { IfOk result (Asks name.now (rows_of (found_of matches.now))) }
-    ensures refused { IfErr result (IsRefused (Some (name.now, rows_of (found_of matches.now)))) }
-{
-    match name {
-        "mend" => return mend_of(alloc, matches),
-        "change" => return change_of(alloc, matches),
-        "order" => return order_of(alloc, matches),
-        "explain" => return explain_of(alloc, matches),
-        "version" => return Err(Misuse::Version),
-        _ => {}
-    }
-    match text(alloc, matches, "plan")? {
-        Some(plan) => plan_command(alloc, name, plan, matches),
-        None => Err(Misuse::Incomplete),
-    }
-}
-
 /// The command that was found in the words. One of which two files clash is refused.
 fn found_command(alloc: Global, matches: &ArgMatches<'_>) -> Result<Command, Misuse>
-    ensures range { IfOk result IsInRange }
     ensures asked { IfOk result (IsFoundIn (subcommand_rows_of matches.now)) }
     ensures read_once { IfOk result (λ c. reads_input_twice c ≡ false) }
     ensures apart { IfOk result (λ c. overwrites c ≡ false) }
@@ -66,17 +44,6 @@ fn in_its_form(alloc: Global, name: &str, misuse: &Misuse) -> Result<WordsFault,
     Ok(WordsFault::of_clap(e))
 }
 
-/// What the library answers to `--version`.
-fn version(alloc: Global) -> Result<WordsFault, AllocError>
-    ensures { IfOk result
-        (λ fault. (command : Option (List ℕ × List Row)) → IsRefusalIn command fault) }
-{
-    match grammar(alloc)?.try_get_matches_from(&["--version"]) {
-        Ok(_) => in_its_form(alloc, "version", &Misuse::Incomplete),
-        Err(e) => Ok(WordsFault::of_clap(e)),
-    }
-}
-
 /// Why the words of the command of this name are refused.
 fn words_fault(alloc: Global, name: &str, misuse: Misuse) -> Result<WordsFault, AllocError>
     ensures { IfOk result (λ fault. (command : Option (List ℕ × List Row))
@@ -85,7 +52,6 @@ fn words_fault(alloc: Global, name: &str, misuse: Misuse) -> Result<WordsFault, 
     match misuse {
         Misuse::Together => Ok(WordsFault::Together),
         Misuse::NoMemory => Ok(WordsFault::NoMemory),
-        Misuse::Version => version(alloc),
         misuse => in_its_form(alloc, name, &misuse),
     }
 }
@@ -97,7 +63,6 @@ fn command_in<'a>(
     words: &'a [&str],
 ) -> Result<Command, WordsFault>
     requires { app_of grammar.old ≡ program_words }
-    ensures in_range { IfOk result IsInRange }
     ensures asked { IfOk result (AskFor words.now) }
     ensures read_once { IfOk result (λ c. reads_input_twice c ≡ false) }
     ensures apart { IfOk result (λ c. overwrites c ≡ false) }
@@ -118,7 +83,6 @@ fn command_in<'a>(
 /// Reads the words after the program's name. `Err` is refused words, a request for help or for the
 /// version, or lack of memory.
 pub fn read_command(alloc: Global, words: &[&str]) -> Result<Command, WordsFault>
-    ensures in_range { IfOk result IsInRange }
     ensures pipe { words.now ≡ [] → result ≡ Ok Command.Pipe }
     ensures asked { IfOk result (λ c. words.now ≢ [] → AskFor words.now c) }
     ensures read_once { IfOk result (λ c. reads_input_twice c ≡ false) }

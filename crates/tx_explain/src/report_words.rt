@@ -115,7 +115,7 @@ pub static REPORT_WORDS: [Entry; 48] = [
         "WAS",
         "OldList",
         "The list that the line above replaces. Without groups: there was none.",
-        "Nothing: it was asked for by --old.",
+        "Give the exchange this list again to undo the line above.",
     ],
     [
         "BAR",

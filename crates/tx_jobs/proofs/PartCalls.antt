@@ -1,5 +1,5 @@
 -- What the calls that read a part of an input mean for the input.
-use Rattle.std.proofs.Common.{◌≡◌, ◌⊎◌, ℕ, zero, suc, ◌-◌, ◌≤◌, Bool, true, false, List, [], ◌∷◌, Option, Result, Ok, Err, refl, sym, ap, ◌∙◌, arith, inl, inr, subst}
+use Rattle.std.proofs.Common.{◌≡◌, ◌⊎◌, ℕ, zero, suc, ◌≤◌, Bool, true, false, List, [], ◌∷◌, Option, Result, Ok, Err, refl, sym, ap, ◌∙◌, arith, inl, inr, subst}
 use Rattle.tx_text.specs.declared.source.ReadFault.{ReadFault}
 use Rattle.tx_text.specs.Calls.{Gives, Gave, CallsAtMost}
 use Rattle.tx_text.specs.inner.CallsLeft.{Calls}

@@ -11,8 +11,6 @@ use Rattle.tx_plantext.specs.declared.fault.PlanWord.{PlanWord}
 use Rattle.tx_plantext.specs.declared.fault.PlanWord.TheVariants.{UnknownWord, Refused}
 use Rattle.tx_cert.specs.declared.fault.CertWord.{CertWord}
 use Rattle.tx_cert.specs.declared.fault.CertWord.TheVariants.{UnknownWord as CertUnknownWord, WrongCount as CertWrongCount, UnknownName, BadNumber as CertBadNumber, Duplicate as CertDuplicate, NoMemory as CertNoMemory}
-use Rattle.tx_risk.specs.declared.fault.RiskWord.{RiskWord}
-use Rattle.tx_risk.specs.declared.fault.RiskWord.TheVariants.{UnknownWord as RiskUnknownWord, WrongCount as RiskWrongCount, BadName as RiskBadName, Duplicate as RiskDuplicate, UnknownName as RiskUnknownName, RepeatedGroup as RiskRepeatedGroup, NoMemory as RiskNoMemory}
 use Rattle.tx_script.specs.declared.script_word.ScriptWord.{ScriptWord}
 use Rattle.tx_script.specs.declared.run_fault.RunFault.{RunFault}
 use Rattle.tx_script.specs.declared.run_cause.RunCause.{RunCause}
@@ -22,12 +20,7 @@ use Rattle.tx_audit.specs.declared.audited.AuditFault.{AuditFault}
 use Rattle.tx_audit.specs.declared.audited.AuditFault.TheVariants.{Plan as AuditPlan, Write as AuditWrite, NoMemory as AuditNoMemory}
 use Rattle.tx_audit.specs.Audits.{mark_by as audit_mark_by}
 use Rattle.tx_jobs.specs.declared.job_fault.JobFault.{JobFault}
-use Rattle.tx_jobs.specs.declared.job_fault.JobFault.TheVariants.{Plan, Cert, Script, Read, Write, NoMemory, OldPlan, NewPlan, Contradiction, TooManyTogether, Risks, NoSuchStage, NoSuchExchange, NoSuchCode, NoSuchGroup}
-use Rattle.tx_order.specs.declared.order_fault.OrderFault.{OrderFault}
-use Rattle.tx_order.specs.declared.order_fault.OrderFault.TheVariants.{NoSuchStage as OrderLacksStage, Write as OrderWrite, NoMemory as OrderNoMemory}
-use Rattle.tx_order.specs.OrderTold.{mark_by as order_mark_by}
-use Rattle.tx_jobs.specs.OrderJobs.{order_fault}
-use Rattle.tx_jobs.specs.JobFaults.{plan_fault, plan_fault_by, in_plan, old_plan_fault, new_plan_fault, cert_fault, cert_fault_by, risks_fault, risks_fault_by, script_fault_by, cause_fault, run_fault, mark_by, mark_after}
+use Rattle.tx_jobs.specs.JobFaults.{plan_fault, plan_fault_by, cert_fault, cert_fault_by, script_fault_by, cause_fault, run_fault, mark_by, mark_after}
 use Rattle.tx_jobs.specs.AuditJobs.{audit_fault}
 
 plan_by : (old : Bool) (f : FaultAt PlanWord) (k : FaultKind PlanWord) → mark_by old (plan_fault_by f k) ≡ old
@@ -61,30 +54,6 @@ plan_by old f (Word (Refused r)) = elim r as (λ r. mark_by old (plan_fault_by f
 pub plan_mark : (old : Bool) (f : FaultAt PlanWord) → old ≡ mark_by old (plan_fault f)
 plan_mark old f = sym (plan_by old f f.kind)
 
-in_plan_mark : (which : FaultAt PlanWord → JobFault) → ((old : Bool) (f : FaultAt PlanWord) → mark_by old (which f) ≡ old) → (old : Bool) (f : JobFault) → mark_by old (in_plan which f) ≡ mark_by old f
-in_plan_mark which leaves old (Plan f) = leaves old f
-in_plan_mark which leaves old (Cert f) = refl
-in_plan_mark which leaves old (Script f) = refl
-in_plan_mark which leaves old Read = refl
-in_plan_mark which leaves old Write = refl
-in_plan_mark which leaves old NoMemory = refl
-in_plan_mark which leaves old (OldPlan f) = refl
-in_plan_mark which leaves old (NewPlan f) = refl
-in_plan_mark which leaves old (Contradiction k) = refl
-in_plan_mark which leaves old TooManyTogether = refl
-in_plan_mark which leaves old (Risks f) = refl
-in_plan_mark which leaves old (NoSuchStage stages) = refl
-in_plan_mark which leaves old NoSuchExchange = refl
-in_plan_mark which leaves old NoSuchCode = refl
-in_plan_mark which leaves old (NoSuchGroup place) = refl
-
--- the same of the two plans of a change
-pub old_plan_mark : (old : Bool) (f : FaultAt PlanWord) → old ≡ mark_by old (old_plan_fault f)
-old_plan_mark old f = plan_mark old f ∙ sym (in_plan_mark OldPlan (λ _ _. refl) old (plan_fault f))
-
-pub new_plan_mark : (old : Bool) (f : FaultAt PlanWord) → old ≡ mark_by old (new_plan_fault f)
-new_plan_mark old f = plan_mark old f ∙ sym (in_plan_mark NewPlan (λ _ _. refl) old (plan_fault f))
-
 -- a job that stops at a plan's fault
 pub refused : {X : Type 0} (r : Result X JobFault) (f : FaultAt PlanWord)
     → IsErrAnd r (λ y. y ≡ plan_fault f) → r ≡ Err (plan_fault f)
@@ -114,26 +83,6 @@ cert_by old f (Word CertNoMemory) = refl
 pub cert_mark : (old : Bool) (f : FaultAt CertWord) → old ≡ mark_by old (cert_fault f)
 cert_mark old f = sym (cert_by old f f.kind)
 
-risks_by : (old : Bool) (f : FaultAt RiskWord) (k : FaultKind RiskWord) → mark_by old (risks_fault_by f k) ≡ old
-risks_by old f (Frame LineRead) = refl
-risks_by old f (Frame LineTooLong) = refl
-risks_by old f (Frame BadByte) = refl
-risks_by old f (Frame TextNoMemory) = refl
-risks_by old f (Frame NoHeader) = refl
-risks_by old f (Frame NoEnd) = refl
-risks_by old f (Frame AfterEnd) = refl
-risks_by old f (Word RiskUnknownWord) = refl
-risks_by old f (Word RiskWrongCount) = refl
-risks_by old f (Word RiskBadName) = refl
-risks_by old f (Word RiskDuplicate) = refl
-risks_by old f (Word RiskUnknownName) = refl
-risks_by old f (Word RiskRepeatedGroup) = refl
-risks_by old f (Word RiskNoMemory) = refl
-
--- and a refused text of risks
-pub risks_mark : (old : Bool) (f : FaultAt RiskWord) → old ≡ mark_by old (risks_fault f)
-risks_mark old f = sym (risks_by old f f.kind)
-
 script_by : (old : Bool) (f : FaultAt ScriptWord) (k : FaultKind ScriptWord) → mark_by old (script_fault_by f k) ≡ old
 script_by old f (Frame LineRead) = refl
 script_by old f (Frame LineTooLong) = refl
@@ -158,8 +107,3 @@ pub audit_marked : (old : Bool) (f : AuditFault) → audit_mark_by old f ≡ mar
 audit_marked old (AuditPlan f) = plan_mark old f
 audit_marked old AuditWrite = refl
 audit_marked old AuditNoMemory = refl
-
-pub order_marked : (old : Bool) (f : OrderFault) → order_mark_by old f ≡ mark_by old (order_fault f)
-order_marked old (OrderLacksStage stages) = refl
-order_marked old OrderWrite = refl
-order_marked old OrderNoMemory = refl

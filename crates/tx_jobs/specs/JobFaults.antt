@@ -1,5 +1,5 @@
 -- Why jobs stop, and what is reported of it.
-use Rattle.std.specs.Prelude.{ℕ, ◌+◌, Bool, true, List, ◌++◌, Result, Ok, Err, codes, decimal}
+use Rattle.std.specs.Prelude.{ℕ, Bool, true, List, ◌++◌, Result, Ok, Err, codes, decimal}
 use Rattle.tx_text.specs.declared.frame.FrameFault.TheVariants.{Read as LineRead, NoMemory as TextNoMemory}
 use Rattle.tx_text.specs.declared.frame.FaultAt.{FaultAt}
 use Rattle.tx_text.specs.declared.frame.FaultKind.{FaultKind}
@@ -16,17 +16,10 @@ use Rattle.tx_script.specs.declared.run_fault.RunFault.{RunFault}
 use Rattle.tx_script.specs.declared.run_cause.RunCause.{RunCause}
 use Rattle.tx_script.specs.declared.run_cause.RunCause.TheVariants.{Read as RunRead, Write as RunWrite, Script as RunScript, NoMemory as RunNoMemory}
 use Rattle.tx_script.specs.ScriptFaults.{fault_row as script_row}
-use Rattle.tx_risk.specs.declared.fault.RiskWord.{RiskWord}
-use Rattle.tx_risk.specs.declared.fault.RiskWord.TheVariants.{NoMemory as RiskNoMemory}
-use Rattle.tx_risk.specs.RiskFaults.{fault_row as risk_row}
-use Rattle.tx_join.specs.declared.contradiction.Contradiction.{Contradiction as ContradictionOf}
-use Rattle.tx_join.specs.Contradictions.{kind_word}
 use Rattle.tx_jobs.specs.declared.job_fault.JobFault.{JobFault}
-use Rattle.tx_jobs.specs.declared.job_fault.JobFault.TheVariants.{Plan, Cert, Script, Read, Write, NoMemory, OldPlan, NewPlan, Contradiction, TooManyTogether, Risks, NoSuchStage, NoSuchExchange, NoSuchCode, NoSuchGroup}
+use Rattle.tx_jobs.specs.declared.job_fault.JobFault.TheVariants.{Plan, Cert, Script, Read, Write, NoMemory}
 
--- 2 for a refused text and for plans that have no joined network, 3 for a read or a write fault, 4
--- when memory runs out, 64 for an exchange, a code or a group that the plan does not have, and for
--- a stage that the order does not have
+-- 2 for a refused text, 3 for a read or a write fault, 4 when memory runs out
 abbrev pub status_of : JobFault → ℕ
 status_of (Plan f) = 2
 status_of (Cert f) = 2
@@ -34,15 +27,6 @@ status_of (Script f) = 2
 status_of Read = 3
 status_of Write = 3
 status_of NoMemory = 4
-status_of (OldPlan f) = 2
-status_of (NewPlan f) = 2
-status_of (Contradiction c) = 2
-status_of TooManyTogether = 2
-status_of (Risks f) = 2
-status_of (NoSuchStage stages) = 64
-status_of NoSuchExchange = 64
-status_of NoSuchCode = 64
-status_of (NoSuchGroup place) = 64
 
 -- A failure to read and a lack of memory are reported as such.
 abbrev pub plan_fault_by : FaultAt PlanWord → FaultKind PlanWord → JobFault
@@ -54,19 +38,6 @@ plan_fault_by f k = Plan f
 -- a fault of the plan's text, as a job reports it
 abbrev pub plan_fault : FaultAt PlanWord → JobFault
 plan_fault f = plan_fault_by f f.kind
-
--- a fault of one of two plans, by which of them it is
-abbrev pub in_plan : (FaultAt PlanWord → JobFault) → JobFault → JobFault
-in_plan which (Plan f) = which f
-in_plan which other = other
-
--- a fault of the old plan of a change
-abbrev pub old_plan_fault : FaultAt PlanWord → JobFault
-old_plan_fault f = in_plan OldPlan (plan_fault f)
-
--- a fault of its new plan
-abbrev pub new_plan_fault : FaultAt PlanWord → JobFault
-new_plan_fault f = in_plan NewPlan (plan_fault f)
 
 -- a fault of the certificate's text, by its kind
 abbrev pub cert_fault_by : FaultAt CertWord → FaultKind CertWord → JobFault
@@ -87,17 +58,6 @@ script_fault_by f k = Script f
 -- a fault of the script's text, as a job reports it
 abbrev pub script_fault : FaultAt ScriptWord → JobFault
 script_fault f = script_fault_by f f.kind
-
--- a fault of the text of risks, by its kind
-abbrev pub risks_fault_by : FaultAt RiskWord → FaultKind RiskWord → JobFault
-risks_fault_by f (Frame LineRead) = Read
-risks_fault_by f (Frame TextNoMemory) = NoMemory
-risks_fault_by f (Word RiskNoMemory) = NoMemory
-risks_fault_by f k = Risks f
-
--- a fault of the text of risks, as a job reports it
-abbrev pub risks_fault : FaultAt RiskWord → JobFault
-risks_fault f = risks_fault_by f f.kind
 
 -- why a run stopped, by its cause
 abbrev pub cause_fault : RunCause → JobFault
@@ -125,17 +85,6 @@ abbrev pub text_fault_line : List ℕ → ℕ → List ℕ × List ℕ → List 
 text_fault_line text n row = codes "telexplan: " ++ (text ++ (codes " line "
     ++ (decimal n ++ (codes ": " ++ (row.0 ++ (codes " " ++ (row.1 ++ codes "\n")))))))
 
--- what two plans declare in contradiction, by the line of each text that does
-abbrev pub contradiction_line : ContradictionOf → List ℕ
-contradiction_line c = codes "telexplan: old plan line "
-    ++ (decimal c.old_line ++ (codes " and new plan line " ++ (decimal c.new_line
-    ++ (codes ": " ++ (kind_word c.kind ++ (codes " " ++ (c.name ++ codes " differs\n")))))))
-
--- how many stages there are
-abbrev pub stage_count_line : ℕ → List ℕ
-stage_count_line n =
-    codes "telexplan: no such stage: the order has " ++ (decimal n ++ codes "\n")
-
 -- the line that says why a job stopped
 abbrev pub fault_line : JobFault → List ℕ
 fault_line (Plan f) = text_fault_line (codes "plan") f.line (plan_row f.kind)
@@ -144,13 +93,3 @@ fault_line (Script f) = text_fault_line (codes "script") f.line (script_row f.ki
 fault_line Read = codes "telexplan: read fault\n"
 fault_line Write = codes "telexplan: write fault\n"
 fault_line NoMemory = codes "telexplan: no memory\n"
-fault_line (OldPlan f) = text_fault_line (codes "old plan") f.line (plan_row f.kind)
-fault_line (NewPlan f) = text_fault_line (codes "new plan") f.line (plan_row f.kind)
-fault_line (Contradiction c) = contradiction_line c
-fault_line TooManyTogether =
-    codes "telexplan: both plans together have too many exchanges, codes or groups\n"
-fault_line (Risks f) = text_fault_line (codes "risks") f.line (risk_row f.kind)
-fault_line (NoSuchStage stages) = stage_count_line stages
-fault_line NoSuchExchange = codes "telexplan: no such exchange in the plan\n"
-fault_line NoSuchCode = codes "telexplan: no such code in the plan\n"
-fault_line (NoSuchGroup place) = codes "telexplan: no such group in the plan\n"

@@ -1,5 +1,5 @@
 -- What jobs answer: what their calls do, one after another, and the fault of the first that fails.
-use Rattle.std.specs.Prelude.{◌≡◌, ◌⊎◌, ℕ, List, Option, Result, Ok, Err}
+use Rattle.std.specs.Prelude.{◌≡◌, ◌⊎◌, ℕ, Option, Result, Ok, Err}
 use Rattle.tx_text.specs.declared.frame.FaultAt.{FaultAt}
 use Rattle.tx_plan.specs.Plan.{Plan}
 use Rattle.tx_plan.specs.Rules.{IsPlan}
@@ -50,12 +50,6 @@ pub record PlanRefused {X : Type 0} (text : Input)
   pub read : ReadsPlan text (Err (fault.line, fault.kind))
   pub told : result ≡ Err (plan_fault fault)
   pub rest : untouched
-
--- the text was written, or a front of it before the sink failed
-abbrev pub ToldText : List ℕ → Output → Result (Unit {0}) JobFault → Type 0
-ToldText text out (Ok x) = out.new ≡ append_known out.old text
-ToldText text out (Err Write) = StopsIn out.old out.new text
-ToldText text out (Err other) = ⊥
 
 -- `run PLAN SCRIPT`
 abbrev pub RunJobAnswers : (plan script : Input) → Output → Result Summary JobFault → Type 0

@@ -1,69 +1,28 @@
-//! The jobs of the commands, over sources and a sink, and what they come to.
+//! The jobs of `run`, `check`, `codes` and `audit`, and of the program without words, over sources
+//! and a sink.
 #![tactic(auto)]
 
 mod ahead;
-mod asked;
 mod audit;
-mod audit_evidence;
-mod change;
-mod change_evidence;
 mod check;
 mod codes;
-mod content;
-mod done;
-mod evidence;
-mod explained;
 mod fault_line;
-mod fill;
-mod grade;
 mod held;
-mod job;
 mod job_fault;
-mod law;
-mod lint;
-mod mend;
-mod mixture;
-mod order;
-mod outcome;
-mod page;
-mod page_change;
-mod page_found;
 mod pipe;
 mod plan_part;
 mod run;
 mod run_checked;
 mod script_part;
 mod seen;
-mod survive;
 mod telling;
-mod trace;
-mod two_plans;
 
 pub use audit::audit_job;
-pub use audit_evidence::evidence_job;
-pub use change::{Changed, change_job};
-pub use change_evidence::change_evidence_job;
 pub use check::check_job;
 pub use codes::codes_job;
-pub use content::{Content, write_content};
-pub use done::Done;
-pub use evidence::{CounterScript, Evidence};
-pub use explained::codes_are_explained;
-pub use fault_line::write_fault;
-pub use fill::fill_job;
-pub use grade::grade_job;
-pub use job::do_job;
+pub use fault_line::{write_fault, write_plan_fault, write_text_fault};
 pub use job_fault::JobFault;
-pub use law::told_lines_declare;
-pub use lint::{lint_job, lint_risks_job};
-pub use mend::mend_job;
-pub use mixture::{ChangeEvidence, Mixture};
-pub use order::order_job;
-pub use outcome::{Outcome, do_command};
-pub use page::{PageRequest, page_job};
 pub use pipe::pipe_job;
 pub use run::run_job;
 pub use run_checked::run_checked_job;
-pub use survive::{survive_job, survive_risks_job};
 pub use telling::run_telling_job;
-pub use trace::{trace_group_job, trace_job};

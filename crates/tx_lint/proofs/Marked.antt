@@ -64,7 +64,7 @@ coming_next p i marks m so r = record {
     | inr ge ↦
         let same : c ≡ length marks = omega (arith, h, ge, so.long) in
         let here : slice_get (marks ++ m ∷ []) c ≡ Some m =
-            (let n = long_push marks m in ap (slice_get (marks ++ m ∷ [])) same ∙ slice_get-get_or (marks ++ m ∷ []) (length marks) m (omega arith) ∙ ap Some (get_or-append_seam marks m [] m)) in
+        (let n = long_push marks m in ap (slice_get (marks ++ m ∷ [])) same ∙ slice_get-get_or (marks ++ m ∷ []) (length marks) m (omega arith) ∙ ap Some (get_or-append_seam marks m [] m)) in
         let own : c ≡ i = omega (arith, h, ge) in
         subst (λ o. (option_map_or (λ k. is_marked k x) o false ≡ true) ↔ IsReached (net_of p c) x) (sym here)
         (subst (λ k. (is_marked m x ≡ true) ↔ IsReached (net_of p k) x) (sym own) (r.reached x, r.all x))

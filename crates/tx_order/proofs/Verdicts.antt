@@ -1,6 +1,6 @@
 -- The verdict on an order is right.
-use Rattle.std.proofs.Common.{◌≡◌, ℕ, Result, Ok, Err, subst}
-use Rattle.std.specs.Prelude.{Vec, IfOk}
+use Rattle.std.proofs.Common.{◌≡◌, ℕ, subst}
+use Rattle.std.specs.Prelude.{Vec}
 use Rattle.tx_plan.specs.Plan.{Plan}
 use Rattle.tx_cert.specs.Certificate.{Certificate, ranks_of}
 use Rattle.tx_rank.specs.declared.finding.Finding.{Finding}

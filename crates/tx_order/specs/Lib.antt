@@ -9,5 +9,5 @@ pub mod Ordered
 pub mod Switchings
 pub mod OrderVerdicts
 pub mod OrderText
-pub mod OrderTold
+pub mod Staged
 pub mod inner

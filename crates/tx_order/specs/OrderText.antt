@@ -1,7 +1,6 @@
 -- The report of an order, as it is written.
 use Rattle.std.specs.Prelude.{ℕ, ◌+◌, Bool, true, false, List, [], ◌++◌, length, codes, decimal}
 use Rattle.std.specs.List.{flat_map, range_with_len}
-use Rattle.tx_text.specs.Ends.{StopsIn, Output}
 use Rattle.tx_plan.specs.Plan.{Plan, figures_of, exchange_name}
 use Rattle.tx_plan.specs.Routes.{route_list, is_barred}
 use Rattle.tx_rank.specs.declared.finding.Finding.{Finding}
@@ -12,7 +11,6 @@ use Rattle.tx_change.specs.ChangeReport.{findings_after, verdict_after}
 use Rattle.tx_order.specs.declared.judging.OrderVerdict.{OrderVerdict}
 use Rattle.tx_order.specs.declared.judging.OrderVerdict.TheVariants.{Ordered, NoOrder, NewUnsound}
 use Rattle.tx_order.specs.Ordered.{Order, plan_before, stages_in}
-use Rattle.tx_order.specs.OrderVerdicts.{IsRightVerdict}
 
 -- an exchange and a code after a word
 abbrev pub pair_line : Plan → (word : List ℕ) → (x c : ℕ) → List ℕ
@@ -80,10 +78,3 @@ module _ {A : Type 0} where
       → OrderVerdict A → List ℕ
   order_report with_old old new limit spare verdict = asked_line (codes "ORDER") limit spare
       ++ (difference_text old new ++ verdict_text with_old new verdict)
-
--- a verdict that is right, whose report was written in part
-pub record OrderToldInPart (A : Type 0) (old new before after : Plan) (with_old : Bool)
-    (limit spare : ℕ) (out : Output) : Type 0 where
-  pub verdict : OrderVerdict A
-  pub right : IsRightVerdict before after new limit spare verdict
-  pub wrote : StopsIn out.old out.new (order_report with_old old new limit spare verdict)

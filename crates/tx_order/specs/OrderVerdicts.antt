@@ -2,7 +2,6 @@
 use Rattle.std.specs.Prelude.{ℕ}
 use Rattle.tx_plan.specs.Plan.{Plan}
 use Rattle.tx_rank.specs.declared.ranking.Ranking.TheVariants.{Fails}
-use Rattle.tx_rank.specs.Grades.{CanBeCertified}
 use Rattle.tx_audit.specs.Audits.{IsRightRanking}
 use Rattle.tx_change.specs.ChangeAnswers.{IsClearedPlan}
 use Rattle.tx_order.specs.declared.judging.OrderVerdict.{OrderVerdict}

@@ -1,3 +1,2 @@
 pub mod Certified
 pub mod Asked
-pub mod Made

@@ -3,8 +3,9 @@
 //! switched, with calls up.
 //!
 //! `order` finds one wherever both plans can be certified. Else it answers what is wrong with each
-//! of them. `tell_order` takes plans of any two networks, over their joined network. It writes what
-//! was found, and gives the plan after a stage with a certificate of the stage.
+//! of them. `judge_order` takes plans of any two networks, over their joined network, and
+//! `write_order` writes what it found. `stage_of` gives the plan after a stage with a certificate of
+//! the stage.
 #![tactic(auto)]
 
 mod between;
@@ -15,7 +16,6 @@ mod judging;
 mod law;
 mod level;
 mod lists;
-mod order_fault;
 mod orders;
 mod report;
 mod staged;
@@ -28,7 +28,7 @@ pub use law::{
     each_level_is_common, each_plan_is_certified, levels_lead_over, ordered_exactly,
     orders_are_sound, stages_are_fewest,
 };
-pub use order_fault::OrderFault;
 pub use orders::Order;
-pub use staged::{Staged, tell_order};
+pub use report::write_order;
+pub use staged::{missing_stage, stage_of};
 pub use switching::{Switching, order};

@@ -22,7 +22,7 @@ use tx_text::{Sink, WriteFault, finish, put_bytes, put_parts};
 /// Writes the report of the search for an order: what was asked, in what the plans differ beside
 /// lists and bars, and then the stages with what each switches, with the old lists if they are asked
 /// for, and YES, or what is wrong and NO.
-pub(crate) fn write_order<A: Allocator, W: Sink>(
+pub fn write_order<A: Allocator, W: Sink>(
     old: &Plan<A>,
     new: &Plan<A>,
     verdict: &OrderVerdict<A>,

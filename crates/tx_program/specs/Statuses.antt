@@ -7,9 +7,9 @@ use Rattle.tx_commands.specs.Commands.{AskFor}
 use Rattle.tx_commands.specs.Faults.{IsRefusalOf, status_of}
 use Rattle.tx_commands.specs.declared.command.Command.{Command}
 use Rattle.tx_commands.specs.declared.fault.WordsFault.{WordsFault}
-use Rattle.tx_jobs.specs.JobFaults.{status_of as job_status}
+use Rattle.tx_requests.specs.Faults.{fault_status}
 use Rattle.tx_program.specs.declared.stop.Stop.{Stop}
-use Rattle.tx_program.specs.declared.stop.Stop.TheVariants.{Job, Read, Write}
+use Rattle.tx_program.specs.declared.stop.Stop.TheVariants.{Command as CommandFailed, Read, Write}
 
 -- of arguments that could not be taken as words: 4 when memory runs out, else 64
 abbrev pub status_of_arguments : ErrorKind → ℕ
@@ -28,10 +28,10 @@ pub record IsRefusedWith (words : List (Bor (List ℕ))) (status : ℕ) : Type 0
   pub told : IsRefusalOf words fault
   pub answers : (status ≡ status_of fault) ⊎ ((status_of fault ≡ 0) × (status ≡ 3))
 
--- of a command that was not done: that of its job's fault, 3 where an end failed, or 64 where a
+-- of a command that was not done: that of its fault, 3 where an end failed, or 64 where a
 -- file must not be made
 abbrev pub status_of_stop : Stop → ℕ
-status_of_stop (Job fault) = job_status fault
+status_of_stop (CommandFailed fault) = fault_status fault
 status_of_stop (Read place error) = 3
 status_of_stop (Write place error) = 3
 status_of_stop other = 64

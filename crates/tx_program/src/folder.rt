@@ -1,9 +1,10 @@
 // The files that commands name.
 use crate::draft::Draft;
-use crate::file_id::FileId;
+use crate::file_id::id_of;
 use std::fs::File;
 use std::io;
 use std::io::{Read, Write};
+use tx_commands::FileId;
 
 /// Where files are found by their names.
 pub trait Folder {
@@ -37,7 +38,7 @@ impl Folder for HostRuntime {
     type Output = Draft;
 
     fn identify(&self, name: &str) -> Option<FileId> {
-        FileId::of(self, name)
+        id_of(self, name)
     }
 
     fn open(&self, name: &str) -> io::Result<File> {

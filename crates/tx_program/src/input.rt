@@ -1,9 +1,9 @@
 // What a command reads.
 use crate::folder::Folder;
-use crate::stop::{Place, Stop};
+use crate::stop::Stop;
 use std::io;
 use std::io::Read;
-use tx_commands::STANDARD_INPUT;
+use tx_commands::{Place, STANDARD_INPUT};
 use tx_jobs::JobFault;
 
 /// What a command reads: standard input, or a file.
@@ -56,7 +56,7 @@ fn open<F: Folder, I: Read + Drop>(
     match name {
         Some(STANDARD_INPUT) => match standard.take() {
             Some(input) => Ok(Some(Input::Standard(input))),
-            None => Err(Stop::Job(JobFault::Read)),
+            None => Err(Stop::from(JobFault::Read)),
         },
         Some(name) => match folder.open(name) {
             Ok(file) => Ok(Some(Input::File(file))),

@@ -16,8 +16,7 @@ mod targets;
 mod tell;
 
 pub use draft::Draft;
-pub use file_id::FileId;
 pub use folder::Folder;
 pub use program::{Ends, run_command, run_words};
 pub use tell::{refuse_arguments, tell_words};
-pub use tx_commands::{Command, WordsFault, read_command};
+pub use tx_commands::{Command, FileId, WordsFault, read_command};

@@ -2,22 +2,23 @@
 use crate::ends::Output;
 use crate::folder::Folder;
 use crate::new_file::NewFile;
-use crate::stop::{Place, Stop};
+use crate::stop::Stop;
 use crate::targets::{Target, Targets};
 use std::alloc::Allocator;
 use std::io::Write;
-use tx_jobs::{Content, JobFault, Outcome, write_content};
+use tx_commands::Place;
+use tx_jobs::JobFault;
+use tx_requests::{Content, Made, write_content};
 
-/// Makes the files that are named, one after another, of which the command came to what goes into
-/// them.
+/// Makes the files that are named, one after another, of what was made for them.
 pub(crate) fn write_files<A: Allocator + Copy, F: Folder, O: Write + Drop>(
     alloc: A,
-    outcome: &Outcome<A>,
+    made: &Made<A>,
     targets: &Targets<'_>,
     folder: &F,
     report: &Output<O, A>,
 ) -> Result<(), Stop> {
-    let contents = outcome.contents();
+    let contents = made.contents();
     for i in 0..3usize {
         if let Some(content) = contents[i] {
             if let Some(target) = targets.get(i, folder)? {
@@ -64,6 +65,6 @@ fn write_to<A: Allocator + Copy, W: Write + Drop>(
     }
     match output.take_failure() {
         Some(error) => Err(Stop::Write(place, error)),
-        None => Err(Stop::Job(JobFault::Write)),
+        None => Err(Stop::from(JobFault::Write)),
     }
 }

@@ -1,6 +1,5 @@
 // The program, from its words to its exit status.
 ghost use Rattle.std.specs.Prelude.{◌≡◌, ◌⊎◌};
-ghost use Rattle.tx_commands.specs.Commands.{IsInRange};
 ghost use Rattle.tx_program.specs.Statuses.{AskNothing, IsRefusedWith, status_of_stop};
 ghost use Rattle.tx_commands.specs.Faults.{status_of as words_status};
 
@@ -9,14 +8,15 @@ use crate::folder::Folder;
 use crate::input::Inputs;
 use crate::new_file::NewFile;
 use crate::output_files::write_files;
-use crate::stop::{Place, Stop, write_stop};
+use crate::stop::{Stop, write_stop};
 use crate::targets::{PAGE, Target, Targets};
 use crate::tell::{announce_input, tell_words};
 use std::alloc::{Allocator, Global};
 use std::io;
 use std::io::{IsTerminal, Read, Write};
-use tx_commands::{Command, Files, WordsFault, read_command};
-use tx_jobs::{JobFault, Outcome, do_command, write_fault};
+use tx_commands::{Command, Place, WordsFault, read_command};
+use tx_jobs::{JobFault, write_fault};
+use tx_requests::{CommandFault, Ending, do_command};
 use tx_text::ToWrite;
 
 /// The ends of the program: a folder of files, standard input, standard output and standard error.
@@ -84,9 +84,7 @@ pub fn run_command<
     I: Read + Drop,
     O: Write + Drop,
     E: Write + Drop,
->(alloc: A, command: &Command, ends: Ends<'_, F, I, O, E>) -> u8
-    requires { IsInRange command.now }
-{
+>(alloc: A, command: &Command, ends: Ends<'_, F, I, O, E>) -> u8 {
     let Ends {
         folder,
         input,
@@ -120,10 +118,8 @@ pub(crate) fn perform<A: Allocator + Copy, F: Folder, I: Read + Drop, O: Write +
     folder: &F,
     input: I,
     output: O,
-) -> Result<u8, Stop>
-    requires { IsInRange command.now }
-{
-    let files = Files::of(command);
+) -> Result<u8, Stop> {
+    let files = command.files();
     let inputs = Inputs::open(files.reads, folder, input)?;
     let targets = Targets::of(files, folder);
     targets.require_free(alloc, folder)?;
@@ -139,9 +135,7 @@ fn do_into<A: Allocator + Copy, F: Folder, I: Read + Drop, O: Write + Drop>(
     targets: &Targets<'_>,
     folder: &F,
     output: O,
-) -> Result<u8, Stop>
-    requires { IsInRange command.now }
-{
+) -> Result<u8, Stop> {
     match targets.get(PAGE, folder) {
         Ok(None) => do_and_let_out(
             alloc,
@@ -168,9 +162,7 @@ fn make_page<A: Allocator + Copy, F: Folder, I: Read + Drop>(
     targets: &Targets<'_>,
     folder: &F,
     target: Target<'_>,
-) -> Result<u8, Stop>
-    requires { IsInRange command.now }
-{
+) -> Result<u8, Stop> {
     let mut file = NewFile::new(folder, target);
     let done = do_and_let_out(
         alloc,
@@ -223,9 +215,7 @@ fn do_and_let_out<A: Allocator + Copy, F: Folder, I: Read + Drop, O: Write + Dro
     folder: &F,
     output: O,
     place: Place,
-) -> Result<u8, Stop>
-    requires { IsInRange command.now }
-{
+) -> Result<u8, Stop> {
     let output = Output::new(alloc, output)?;
     let done = carry_out(alloc, command, inputs, targets, folder, &output);
     let_out(done, &output, place)
@@ -243,7 +233,9 @@ fn let_out<A: Allocator, O: Write + Drop>(
         return Err(failed_write(place, output.take_failure()));
     }
     match done {
-        Err(Stop::Job(JobFault::Read)) => Err(failed_read(output.take_failed_read())),
+        Err(Stop::Command(CommandFault::Job(JobFault::Read))) => Err(failed_read(
+            output.take_failed_read(),
+        )),
         done => done,
     }
 }
@@ -252,7 +244,7 @@ fn let_out<A: Allocator, O: Write + Drop>(
 fn failed_write(place: Place, failure: Option<io::Error>) -> Stop {
     match failure {
         Some(error) => Stop::Write(place, error),
-        None => Stop::Job(JobFault::Write),
+        None => Stop::from(JobFault::Write),
     }
 }
 
@@ -260,7 +252,7 @@ fn failed_write(place: Place, failure: Option<io::Error>) -> Stop {
 fn failed_read(failed: Option<FailedRead>) -> Stop {
     match failed {
         Some((index, error)) => Stop::Read(Place::Read(index), error),
-        None => Stop::Job(JobFault::Read),
+        None => Stop::from(JobFault::Read),
     }
 }
 
@@ -273,15 +265,12 @@ fn carry_out<A: Allocator + Copy, F: Folder, I: Read + Drop, O: Write + Drop>(
     targets: &Targets<'_>,
     folder: &F,
     output: &Output<O, A>,
-) -> Result<u8, Stop>
-    requires { IsInRange command.now }
-{
-    let outcome = do_over(alloc, command, inputs, output)?;
-    let made = write_files(alloc, &outcome, targets, folder, output);
-    let status = outcome.done.status();
-    drop(outcome);
-    made?;
-    Ok(status)
+) -> Result<u8, Stop> {
+    let ending = do_over(alloc, command, inputs, output)?;
+    if let Some(made) = &ending.made {
+        write_files(alloc, made, targets, folder, output)?;
+    }
+    Ok(ending.status)
 }
 
 /// Does the job of a command over its files, which are open, and closes them.
@@ -290,9 +279,7 @@ fn do_over<A: Allocator + Copy, I: Read + Drop, J: Read + Drop, O: Write + Drop>
     command: &Command,
     inputs: Inputs<I, J>,
     output: &Output<O, A>,
-) -> Result<Outcome<A>, JobFault>
-    requires { IsInRange command.now }
-{
+) -> Result<Ending<A>, CommandFault> {
     let mut first = output.source(alloc, 0, inputs.first)?;
     let mut second = output.source(alloc, 1, inputs.second)?;
     let mut third = output.source(alloc, 2, inputs.third)?;

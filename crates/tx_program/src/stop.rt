@@ -1,41 +1,23 @@
 // Why the program stopped before a command was done.
 ghost use Rattle.std.specs.Prelude.{◌≡◌};
 ghost use Rattle.tx_program.specs.Statuses.{status_of_stop};
-ghost use Rattle.tx_program.specs.declared.stop.Stop.TheVariants.{Job as JobFailed};
+ghost use Rattle.tx_program.specs.declared.stop.Stop.TheVariants.{Command as CommandFailed};
+ghost use Rattle.tx_requests.specs.declared.fault.CommandFault.TheVariants.{Job as OfJob};
 
 use crate::kind::TextKind;
 use std::alloc::Allocator;
 use std::io;
-use tx_commands::{Command, Files, STANDARD_INPUT};
+use tx_commands::{Command, FillRequest, Place, STANDARD_INPUT, TraceRequest};
 use tx_jobs::{JobFault, write_fault};
 use tx_lint::write_escaped;
+use tx_requests::{CommandFault, write_command_fault};
 use tx_text::{Sink, WriteFault, finish, put_bytes, put_parts};
-
-/// A file of a command, by its place among those that it reads or makes, or standard output.
-#[derive(Clone, Copy)]
-pub(crate) enum Place {
-    Read(usize),
-    Made(usize),
-    Output,
-}
-
-impl Place {
-    /// Its name.
-    fn name<'n>(self, files: &Files<'n>) -> &'n str {
-        let name = match self {
-            Place::Read(index) => files.reads.get(index).copied().flatten(),
-            Place::Made(index) => files.makes().get(index).copied().flatten(),
-            Place::Output => None,
-        };
-        name.unwrap_or("standard output")
-    }
-}
 
 /// Why the program stopped before a command was done.
 #[derive(Drop)]
 pub(crate) enum Stop {
-    /// The job stopped.
-    Job(JobFault),
+    /// What it does stopped.
+    Command(CommandFault),
     /// A file could not be opened or read, and what the system said.
     Read(Place, io::Error),
     /// A file could not be made, or standard output not be written to.
@@ -50,22 +32,30 @@ pub(crate) enum Stop {
     },
 }
 
+impl From<CommandFault> for Stop {
+    ghost from_gives = { λ fault stop. stop ≡ CommandFailed fault };
+
+    fn from(fault: CommandFault) -> Stop {
+        Stop::Command(fault)
+    }
+}
+
 impl From<JobFault> for Stop {
-    ghost from_gives = { λ fault stop. stop ≡ JobFailed fault };
+    ghost from_gives = { λ fault stop. stop ≡ CommandFailed (OfJob fault) };
 
     fn from(fault: JobFault) -> Stop {
-        Stop::Job(fault)
+        Stop::Command(CommandFault::Job(fault))
     }
 }
 
 impl Stop {
-    /// The exit status: that of the job, 3 where an end failed, or 64 where a file must not be
+    /// The exit status: that of the command, 3 where an end failed, or 64 where a file must not be
     /// made.
     pub(crate) fn status(&self) -> u8
         ensures { result ≡ status_of_stop self.now }
     {
         match self {
-            Stop::Job(fault) => fault.status(),
+            Stop::Command(fault) => fault.status(),
             Stop::Read(..) | Stop::Write(..) => 3,
             Stop::OneFile(..) | Stop::OtherKind { .. } => 64,
         }
@@ -79,9 +69,9 @@ pub(crate) fn write_stop<A: Allocator, W: Sink>(
     command: &Command,
     sink: &mut W,
 ) -> Result<(), WriteFault> {
-    let files = Files::of(command);
+    let files = command.files();
     match stop {
-        Stop::Job(fault) => write_job_fault(fault, command, sink),
+        Stop::Command(fault) => write_with_word(fault, command, sink),
         Stop::Read(..) if has_plain_faults(command) => write_fault(&JobFault::Read, sink),
         Stop::Write(..) if has_plain_faults(command) => write_fault(&JobFault::Write, sink),
         Stop::Read(file, error) => {
@@ -113,61 +103,68 @@ fn has_plain_faults(command: &Command) -> bool {
     matches!(
         command,
         Command::Pipe
-            | Command::Run { .. }
-            | Command::RunTelling { .. }
-            | Command::Check { .. }
-            | Command::Codes { .. }
-            | Command::Audit { .. }
+            | Command::Run(_)
+            | Command::RunTelling(_)
+            | Command::Check(_)
+            | Command::Codes(_)
+            | Command::Audit(_)
     )
 }
 
-/// Writes the line of a job's fault, with the word that was asked for where the plan does not have
-/// it.
-fn write_job_fault<W: Sink>(
-    fault: &JobFault,
+/// Writes the line of a fault, with the word that was asked for where the plan does not have it.
+fn write_with_word<W: Sink>(
+    fault: &CommandFault,
     command: &Command,
     sink: &mut W,
 ) -> Result<(), WriteFault> {
-    match (fault, command) {
-        (
-            JobFault::NoSuchExchange,
-            Command::Trace { exchange, .. } | Command::Fill { exchange, .. },
-        ) => write_word(b"telexplan: no such exchange in the plan: ", exchange, sink),
-        (
-            JobFault::NoSuchCode,
-            Command::Trace { code, .. }
-            | Command::Fill { code, .. }
-            | Command::Page {
-                code: Some(code),
-                ..
-            },
-        ) => write_word(b"telexplan: no such code in the plan: ", code, sink),
-        (
-            JobFault::NoSuchGroup(place),
-            Command::Trace {
-                down: Some(names),
-                ..
-            }
-            | Command::Fill {
-                down: Some(names),
-                ..
-            },
-        ) => {
-            let name = names.split(',').nth(*place).unwrap_or(names);
-            write_word(b"telexplan: no such group in the plan: ", name, sink)
-        }
-        (JobFault::NoSuchGroup(_), Command::TraceGroup { group, .. }) => {
-            write_word(b"telexplan: no such group in the plan: ", group, sink)
-        }
-        _ => write_fault(fault, sink),
-    }
-}
-
-fn write_word<W: Sink>(why: &[u8], word: &str, sink: &mut W) -> Result<(), WriteFault> {
-    put_bytes(why, sink);
+    let (what, word) = match fault {
+        CommandFault::NoSuchExchange => ("exchange", exchange_asked(command)),
+        CommandFault::NoSuchCode => ("code", code_asked(command)),
+        CommandFault::NoSuchGroup(place) => ("group", group_asked(command, *place)),
+        _ => ("", None),
+    };
+    let Some(word) = word else {
+        return write_command_fault(fault, sink);
+    };
+    put_parts(
+        &[b"telexplan: no such ", what.as_bytes(), b" in the plan: "],
+        sink,
+    );
     write_escaped(word.as_bytes(), sink);
     put_bytes(b"\n", sink);
     finish(sink)
+}
+
+/// The name of the exchange that a command asks for.
+fn exchange_asked(command: &Command) -> Option<&str> {
+    match command {
+        Command::Trace(TraceRequest { exchange, .. })
+        | Command::Fill(FillRequest { exchange, .. }) => Some(exchange.as_str()),
+        _ => None,
+    }
+}
+
+/// The figures of the code that it asks for.
+fn code_asked(command: &Command) -> Option<&str> {
+    match command {
+        Command::Trace(TraceRequest { code, .. }) | Command::Fill(FillRequest { code, .. }) => {
+            Some(code.as_str())
+        }
+        Command::Page(request) => request.code.as_deref(),
+        _ => None,
+    }
+}
+
+/// The name of a group that it asks for, by its place among these.
+fn group_asked(command: &Command, place: usize) -> Option<&str> {
+    match command {
+        Command::Trace(TraceRequest { down, .. }) | Command::Fill(FillRequest { down, .. }) => {
+            let names = down.as_deref()?;
+            Some(names.split(',').nth(place).unwrap_or(names))
+        }
+        Command::TraceGroup(request) => Some(request.group.as_str()),
+        _ => None,
+    }
 }
 
 /// Writes which end failed, and what the system said, unless there is no memory for that.

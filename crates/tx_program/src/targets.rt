@@ -1,14 +1,13 @@
 // The files that a command makes, none of which is another file of it.
 ghost use Rattle.std.specs.Prelude.{◌≡◌, ◌<◌, false, IfOk};
-ghost use Rattle.tx_program.specs.SameFile.{has_clash, known};
+ghost use Rattle.tx_commands.specs.SameFile.{has_clash, known};
 
 use crate::draft::is_open_already;
-use crate::file_id::{KnownFile, clash};
 use crate::folder::Folder;
 use crate::kind::{MADE, TextKind, kind_of};
-use crate::stop::{Place, Stop};
+use crate::stop::Stop;
 use std::alloc::Allocator;
-use tx_commands::Files;
+use tx_commands::{Files, KnownFile, Place, clash};
 
 /// The index of a page among the files that a command makes.
 pub(crate) const PAGE: usize = 3;

@@ -13,8 +13,8 @@ use crate::whole_runs::{Part, play_run};
 use crate::written::{play_cert, play_plan};
 use memchr::memmem;
 use std::alloc::Global;
-use tx_commands::Command;
-use tx_jobs::{JobFault, write_fault};
+use tx_commands::{Command, RunRequest};
+use tx_requests::{CommandFault, write_command_fault};
 use tx_text::MemorySink;
 
 /// Plays a case of texts by its kind: as a job, or by writing and reading back, or over both
@@ -105,9 +105,9 @@ fn try_plain(alloc: Global, run: Task<'_>, job: &[u8], out: &mut Told) {
 fn tell_whole(whole: &Whole<'_>, out: &mut Told) {
     tell(whole.text, out);
     match &whole.answer {
-        Err(JobFault::NoSuchExchange | JobFault::NoSuchCode) | Ok(_) => {}
+        Err(CommandFault::NoSuchExchange | CommandFault::NoSuchCode) | Ok(_) => {}
         Err(fault) => {
-            let _ = write_fault(fault, out);
+            let _ = write_command_fault(fault, out);
         }
     }
 }
@@ -117,7 +117,7 @@ fn play_whole(alloc: Global, task: Task<'_>, whole: &Whole<'_>, mode: Mode, out:
     if let Mode::Once = mode {
         return tell_whole(whole, out);
     }
-    if matches!(task.command, Command::Run { checked: None, .. }) {
+    if matches!(task.command, Command::Run(RunRequest { checked: None, .. })) {
         try_plain(alloc, task, whole.text, out);
     }
     if let Mode::Prefixes = mode {
@@ -196,11 +196,11 @@ fn play_both(alloc: Global, head: Head<'_>, input: &[u8], out: &mut Told) {
         Some(end) => input.split_at(end.saturating_add(5).min(input.len())),
         None => (input, b"".as_slice()),
     };
-    let run = Command::Run {
+    let run = Command::Run(RunRequest {
         plan: String::new(alloc),
         script: String::new(alloc),
         checked: None,
-    };
+    });
     let run = Task::new(b"run", &run, first, second);
     let words = Command::Pipe;
     let pipe = Task::new(b"pipe", &words, input, b"");

@@ -3,7 +3,7 @@ use Rattle.std.specs.Prelude.{◌≡◌, ℕ, true, false, not, ◌&&◌, ◌||�
 use Rattle.clap.specs.Words.{Row}
 use Rattle.tx_explain.specs.Entries.{is_known}
 use Rattle.tx_commands.specs.Commands.{IsFoundIn, is_set, line_of}
-use Rattle.tx_commands.specs.Files.{reads_input_twice, overwrites}
+use Rattle.tx_commands.specs.Clashes.{reads_input_twice, overwrites}
 use Rattle.tx_commands.specs.Faults.{has, IsRunInPart}
 use Rattle.tx_commands.specs.declared.command.Command.{Command}
 use Rattle.tx_commands.specs.declared.misuse.Misuse.{Misuse}

@@ -1,5 +1,5 @@
 -- What a plan and a script have left of their input, and which calls of it they make.
-use Rattle.std.specs.Prelude.{◌≡◌, ◌≢◌, ◌⊎◌, ℕ, ◌-◌, ◌<◌, ◌≤◌, Bool, true, false, List, [], length, take, drop, Option, option_map, Result, Ok, Err, is_err, IfOk, OnErr}
+use Rattle.std.specs.Prelude.{◌≡◌, ◌≢◌, ◌⊎◌, ℕ, ◌<◌, ◌≤◌, Bool, true, false, List, [], length, take, drop, Option, option_map, Result, Ok, Err, is_err, IfOk, OnErr}
 use Rattle.std.specs.Io.KnownBytes.{prepend_known}
 use Rattle.tx_text.specs.declared.source.ReadFault.{ReadFault}
 use Rattle.tx_jobs.specs.declared.seen.Seen.{Seen}

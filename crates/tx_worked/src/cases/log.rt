@@ -113,18 +113,13 @@ impl Log {
 
     /// Whether two logs tell the same.
     pub fn is_as(&self, other: &Log) -> bool {
-        match self.lines.try_borrow() {
-            Ok(lines) => other.tells(lines.text.as_slice()),
-            Err(_) => false,
-        }
-    }
-
-    /// Whether a log tells this.
-    fn tells(&self, text: &[u8]) -> bool {
-        match self.lines.try_borrow() {
-            Ok(lines) => lines.text.as_slice() == text,
-            Err(_) => false,
-        }
+        let Ok(lines) = self.lines.try_borrow() else {
+            return false;
+        };
+        let Ok(others) = other.lines.try_borrow() else {
+            return false;
+        };
+        lines.text.as_slice() == others.text.as_slice()
     }
 
     pub fn print(&self, out: &mut Told) {

@@ -1,10 +1,7 @@
 // The command that a case plays, and its texts.
-ghost use Rattle.std.specs.Prelude.{IfOk};
-ghost use Rattle.tx_commands.specs.Commands.{IsInRange, IsInRange-prop};
-
 use crate::cases::case::two_texts;
 use std::alloc::{AllocError, Global};
-use tx_commands::{Command, Files, WordsFault, read_command};
+use tx_commands::{Command, WordsFault, read_command};
 
 /// The words of a command by the kind of its case and, where it matters, the word after the kind.
 /// `@1`, `@2` and `@3` stand for the words after the kind: where there is no such word, what has it
@@ -36,9 +33,9 @@ static COMMANDS: [(&str, &str, &str); 28] = [
     (
         "change",
         "",
-        "change old new --limit=@1 --spare=@2 --cert=cert --mixture=plan --counter=script @3",
+        "change old new --limit=@1 --spare=@2 --cert=cert --mixture=plan --counter=script",
     ),
-    ("order", "", "order old new --limit=@1 --spare=@2 @3"),
+    ("order", "", "order old new --limit=@1 --spare=@2"),
     (
         "stage",
         "",
@@ -47,7 +44,7 @@ static COMMANDS: [(&str, &str, &str); 28] = [
     (
         "mend",
         "",
-        "mend old --limit=@1 --spare=@2 --plan=plan --cert=cert @3",
+        "mend old --limit=@1 --spare=@2 --plan=plan --cert=cert",
     ),
     ("survive", "alone", "survive plan"),
     ("survive", "totals", "survive plan --risks=risks --totals"),
@@ -112,9 +109,7 @@ fn placed(alloc: Global, word: &str, after: [&[u8]; 3]) -> Result<Option<String>
 }
 
 /// The command of a kind and the words after it.
-pub fn command_of(alloc: Global, kind: &[u8], after: [&[u8]; 3]) -> Result<Command, WordsFault>
-    ensures { IfOk result IsInRange }
-{
+pub fn command_of(alloc: Global, kind: &[u8], after: [&[u8]; 3]) -> Result<Command, WordsFault> {
     let mut all = Vec::new(alloc);
     for word in words_of(kind, after[0])
         .unwrap_or("no-command")
@@ -140,15 +135,12 @@ pub struct Task<'a> {
     pub first: &'a [u8],
     pub second: &'a [u8],
     pub third: &'a [u8],
-    ghost in_range: { IsInRange command.now } by { IsInRange-prop command.now },
 }
 
 impl<'a> Task<'a> {
     /// A command over its first text and the others, which are in one.
-    pub fn new(kind: &'a [u8], command: &'a Command, first: &'a [u8], rest: &'a [u8]) -> Task<'a>
-        requires { IsInRange command.now }
-    {
-        let reads = Files::of(command).reads;
+    pub fn new(kind: &'a [u8], command: &'a Command, first: &'a [u8], rest: &'a [u8]) -> Task<'a> {
+        let reads = command.files().reads;
         let last = reads[2];
         let (second, third) = if last.is_some() {
             two_texts(rest)
@@ -166,7 +158,7 @@ impl<'a> Task<'a> {
 
     /// How many sources it has: one for each file that the command reads.
     pub fn sources(&self) -> usize {
-        let reads = Files::of(self.command).reads;
+        let reads = self.command.files().reads;
         reads.iter().filter(|file| file.is_some()).count()
     }
 

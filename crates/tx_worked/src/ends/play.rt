@@ -1,7 +1,6 @@
 // Plays the program at its ends.
-ghost use Rattle.tx_commands.specs.Commands.{IsInRange};
-
 use crate::cases::{EndCase, Log, Refusing, What};
+use crate::ends::asked::tell_command;
 use crate::ends::stage::Stage;
 use tx_program::{Command, Folder, WordsFault, read_command, run_command, run_words};
 
@@ -51,9 +50,7 @@ fn run_without(rt: &HostRuntime, case: &EndCase<'_>, log: &Log) -> bool {
 
 /// Runs a command with each of its requests for memory refused in turn, and then with none refused.
 /// Returns whether its input could be opened.
-fn refuse_each(rt: &HostRuntime, case: &EndCase<'_>, command: &Command, log: &Log) -> bool
-    requires { IsInRange command.now }
-{
+fn refuse_each(rt: &HostRuntime, case: &EndCase<'_>, command: &Command, log: &Log) -> bool {
     let mut last = Log::new(rt.alloc());
     let mut played = true;
     for request in 1..100_000u64 {
@@ -92,9 +89,7 @@ fn run_refused(
     command: &Command,
     request: u64,
     log: &Log,
-) -> Option<bool>
-    requires { IsInRange command.now }
-{
+) -> Option<bool> {
     let Ok(input) = Folder::open(rt, case.input) else {
         return None;
     };
@@ -105,11 +100,11 @@ fn run_refused(
     Some(refusing.has_refused())
 }
 
-/// Reads the words of a case, and tells all of what they ask for, or why they ask for nothing.
+/// Reads the words of a case, and tells what they give to a command, or why they ask for none.
 fn read(rt: &HostRuntime, case: &EndCase<'_>, log: &Log) {
     let read = read_command(rt.alloc(), case.words.as_slice());
     match &read {
-        Ok(command) => log.tell_value(command),
+        Ok(command) => tell_command(command, log),
         Err(fault) => tell_fault(fault, log),
     }
 }

@@ -1,14 +1,15 @@
 // A command over texts, and what it does.
 use crate::cases::{End, Ends, ROOM, Refusing, Task, Told, tell, tell_broken};
 use std::alloc::{Allocator, Global};
-use tx_jobs::{JobFault, Outcome, do_command, write_content};
+use tx_jobs::JobFault;
+use tx_requests::{CommandFault, Ending, do_command, write_content};
 use tx_text::{MemorySink, WriteFault};
 
 /// What a whole job does, beside which others are judged: its exit status or its fault, and what it
 /// writes.
 #[derive(Clone, Copy)]
 pub(crate) struct Whole<'a> {
-    pub answer: Result<u8, JobFault>,
+    pub answer: Result<u8, CommandFault>,
     pub text: &'a [u8],
 }
 
@@ -16,7 +17,7 @@ pub(crate) struct Whole<'a> {
 /// of what the whole job writes, and whether the request for memory came that was to be refused.
 #[derive(Clone, Copy)]
 pub(crate) struct Did {
-    pub answer: Result<u8, JobFault>,
+    pub answer: Result<u8, CommandFault>,
     pub written: usize,
     pub is_front: bool,
     pub came: bool,
@@ -30,16 +31,19 @@ impl Did {
 
     /// Whether it stopped with a fault, and wrote a front of what the whole job writes.
     pub(crate) fn stopped(&self, fault: JobFault) -> bool {
-        self.is_front && self.answer == Err(fault)
+        self.is_front && self.answer == Err(CommandFault::Job(fault))
     }
 }
 
 /// Writes what goes into the files that a command makes.
 fn write_contents<A: Allocator>(
-    outcome: &Outcome<A>,
+    ending: &Ending<A>,
     out: &mut MemorySink,
 ) -> Result<(), WriteFault> {
-    for content in outcome.contents() {
+    let Some(made) = &ending.made else {
+        return Ok(());
+    };
+    for content in made.contents() {
         if let Some(content) = content {
             write_content(content, out)?;
         }
@@ -53,11 +57,11 @@ fn do_task<A: Allocator + Copy>(
     task: Task<'_>,
     ends: Ends,
     out: &mut MemorySink,
-) -> Result<u8, JobFault> {
+) -> Result<u8, CommandFault> {
     let mut first = ends.source(End::First, task.first);
     let mut second = ends.source(End::Second, task.second);
     let mut third = ends.source(End::Third, task.third);
-    let outcome = do_command(
+    let ending = do_command(
         alloc,
         task.command,
         &mut first,
@@ -65,9 +69,9 @@ fn do_task<A: Allocator + Copy>(
         &mut third,
         out,
     )?;
-    let written = write_contents(&outcome, out);
-    let status = outcome.done.status();
-    drop(outcome);
+    let written = write_contents(&ending, out);
+    let status = ending.status;
+    drop(ending);
     written?;
     Ok(status)
 }
@@ -96,7 +100,7 @@ pub(crate) fn done(alloc: Global, task: Task<'_>, ends: Ends, whole: &[u8]) -> D
     match MemorySink::new(alloc, ends.room) {
         Ok(mut room) => do_in_room(alloc, task, ends, whole, &mut room),
         Err(_) => Did {
-            answer: Err(JobFault::NoMemory),
+            answer: Err(CommandFault::Job(JobFault::NoMemory)),
             written: 0,
             is_front: false,
             came: false,

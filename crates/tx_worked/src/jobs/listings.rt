@@ -5,6 +5,7 @@ use crate::jobs::stretches::{Happens, Stretches};
 use crate::runs::{Ran, Script, WholeRun, run_beside, run_text, told_cause};
 use std::alloc::Global;
 use tx_jobs::write_fault;
+use tx_requests::CommandFault;
 use tx_text::{MemorySink, MemorySource};
 
 /// More than any case has of anything.
@@ -21,7 +22,7 @@ fn happens(ran: &Ran, bytes: Option<u64>) -> Happens {
         Err(fault) => Happens {
             event: Some(fault.event),
             bytes,
-            fault: Some(told_cause(fault.cause)),
+            fault: Some(CommandFault::Job(told_cause(fault.cause))),
         },
     }
 }

@@ -1,13 +1,13 @@
 // Lists of what happens at each number, told by stretches of numbers at which the same happens.
 use crate::cases::{Told, tell, tell_count};
-use tx_jobs::{JobFault, write_fault};
+use tx_requests::{CommandFault, write_command_fault};
 
 /// What happens at a number: the event and the bytes, where they are told, and the fault.
 #[derive(Clone, Copy, PartialEq, Eq)]
 pub(crate) struct Happens {
     pub event: Option<u64>,
     pub bytes: Option<u64>,
-    pub fault: Option<JobFault>,
+    pub fault: Option<CommandFault>,
 }
 
 /// Numbers in a row at which the same happens.
@@ -31,7 +31,7 @@ impl Stretch {
         }
         match self.happens.fault {
             Some(fault) => {
-                let _ = write_fault(&fault, out);
+                let _ = write_command_fault(&fault, out);
             }
             None => tell(b"done\n", out),
         }

@@ -12,6 +12,4 @@ returns c =
     c.with_command-2.ensures in
     let fill = one_more _ _ _ _ _ traced c.fill_grammar.ensures refl
     c.with_command-program-2.ensures in
-    let explained = one_more _ _ _ _ _ fill c.explain_grammar.ensures refl
-    c.with_command-3.ensures in
-    one_more _ _ _ _ _ explained c.version_grammar.ensures refl c.with_command-4.ensures
+    one_more _ _ _ _ _ fill c.explain_grammar.ensures refl c.with_command-3.ensures

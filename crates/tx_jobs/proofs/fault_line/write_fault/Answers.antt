@@ -7,12 +7,6 @@ use Rattle.tx_jobs.proofs.fault_line.write_fault.Goals as goal
 pub returns-in-Plan : goal.returns-in-Plan
 returns-in-Plan g c = rw c.in-Plan.is c.write_plan_fault.ensures
 
-pub returns-in-OldPlan : goal.returns-in-OldPlan
-returns-in-OldPlan g c = rw c.in-OldPlan.is c.write_plan_fault-in-OldPlan.ensures
-
-pub returns-in-NewPlan : goal.returns-in-NewPlan
-returns-in-NewPlan g c = rw c.in-NewPlan.is c.write_plan_fault-in-NewPlan.ensures
-
 pub returns-in-Cert : goal.returns-in-Cert
 returns-in-Cert g c =
     rw c.in-Cert.is
@@ -27,36 +21,11 @@ returns-in-Script g c =
     (text_fault_line (codes "script") c.in-Script.fault.line r) c.write_text_fault-in-Script.result)
     c.code_and_name-row-in-Script.ensures c.write_text_fault-in-Script.ensures)
 
-pub returns-in-Risks : goal.returns-in-Risks
-returns-in-Risks g c =
-    rw c.in-Risks.is
-    (subst (λ r. Wrote g.W.Sink.taken g.W.Sink.failed c.args.sink.now c.write_text_fault-in-Risks.new.sink
-    (text_fault_line (codes "risks") c.in-Risks.fault.line r) c.write_text_fault-in-Risks.result)
-    c.code_and_name-row-in-Risks.ensures c.write_text_fault-in-Risks.ensures)
-
-pub returns-in-Contradiction : goal.returns-in-Contradiction
-returns-in-Contradiction g c = rw c.in-Contradiction.is c.write_contradiction.ensures
-
-pub returns-in-TooManyTogether : goal.returns-in-TooManyTogether
-returns-in-TooManyTogether g c = rw c.in-TooManyTogether.is c.write_bytes.ensures
-
 pub returns-in-Read : goal.returns-in-Read
-returns-in-Read g c = rw c.in-Read.is c.write_bytes-in-Read.ensures
+returns-in-Read g c = rw c.in-Read.is c.write_bytes.ensures
 
 pub returns-in-Write : goal.returns-in-Write
 returns-in-Write g c = rw c.in-Write.is c.write_bytes-in-Write.ensures
 
 pub returns-in-NoMemory : goal.returns-in-NoMemory
 returns-in-NoMemory g c = rw c.in-NoMemory.is c.write_bytes-in-NoMemory.ensures
-
-pub returns-in-NoSuchExchange : goal.returns-in-NoSuchExchange
-returns-in-NoSuchExchange g c = rw c.in-NoSuchExchange.is c.write_bytes-in-NoSuchExchange.ensures
-
-pub returns-in-NoSuchStage : goal.returns-in-NoSuchStage
-returns-in-NoSuchStage g c = rw c.in-NoSuchStage.is c.write_stage_count.ensures
-
-pub returns-in-NoSuchCode : goal.returns-in-NoSuchCode
-returns-in-NoSuchCode g c = rw c.in-NoSuchCode.is c.write_bytes-in-NoSuchCode.ensures
-
-pub returns-in-NoSuchGroup : goal.returns-in-NoSuchGroup
-returns-in-NoSuchGroup g c = rw c.in-NoSuchGroup.is c.write_bytes-in-NoSuchGroup.ensures

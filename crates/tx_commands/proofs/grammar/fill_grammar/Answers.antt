@@ -1,4 +1,0 @@
-use Rattle.tx_commands.proofs.grammar.fill_grammar.Goals as goal
-
-pub returns : goal.returns
-returns c = c.option.ensures _ (c.file-2.ensures _ (c.file.ensures _ c.over_plan.ensures))

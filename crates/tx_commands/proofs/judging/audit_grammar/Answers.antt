@@ -1,4 +1,0 @@
-use Rattle.tx_commands.proofs.judging.audit_grammar.Goals as goal
-
-pub returns : goal.returns
-returns c = c.option-2.ensures _ (c.option.ensures _ (c.limits.ensures _ c.over_plan.ensures))

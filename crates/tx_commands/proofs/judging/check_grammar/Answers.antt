@@ -1,4 +1,0 @@
-use Rattle.tx_commands.proofs.judging.check_grammar.Goals as goal
-
-pub returns : goal.returns
-returns c = c.limits.ensures _ (c.file.ensures _ c.over_plan.ensures)

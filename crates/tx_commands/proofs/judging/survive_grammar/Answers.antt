@@ -1,4 +1,0 @@
-use Rattle.tx_commands.proofs.judging.survive_grammar.Goals as goal
-
-pub returns : goal.returns
-returns c = c.flag-2.ensures _ (c.flag.ensures _ (c.option.ensures _ c.over_plan.ensures))

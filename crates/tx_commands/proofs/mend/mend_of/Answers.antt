@@ -1,0 +1,6 @@
+use Rattle.std.proofs.Common.{codes, rules}
+use Rattle.tx_commands.proofs.mend.mend_of.Goals as goal
+
+pub returns-in_err-limits-clause-refused : goal.returns-in_err-limits-clause-refused
+returns-in_err-limits-clause-refused c =
+    let refused = c.in_err-limits.ensures.refused (codes "mend") in search rules

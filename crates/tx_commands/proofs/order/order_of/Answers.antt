@@ -1,0 +1,10 @@
+use Rattle.std.proofs.Common.{codes, rules}
+use Rattle.tx_commands.proofs.order.order_of.Goals as goal
+
+pub returns-in_err-number_of-clause-refused : goal.returns-in_err-number_of-clause-refused
+returns-in_err-number_of-clause-refused c =
+    let refused = c.in_err-number_of.ensures.refused (codes "order") in search rules
+
+pub returns-in_err-limits-clause-refused : goal.returns-in_err-limits-clause-refused
+returns-in_err-limits-clause-refused c =
+    let refused = c.in_err-limits.ensures.refused (codes "order") in search rules

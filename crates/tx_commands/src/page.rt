@@ -1,0 +1,89 @@
+// The command `page`.
+ghost use Rattle.std.specs.Prelude.{◌≡◌, Some, IfOk, IfErr, codes};
+ghost use Rattle.clap.specs.Words.{app_of, found_of, rows_of};
+ghost use Rattle.tx_commands.specs.Commands.{Names, Asks};
+ghost use Rattle.tx_commands.specs.Grammar.{page_words};
+ghost use Rattle.tx_commands.specs.inner.Refused.{IsRefused};
+
+use crate::arguments::{PLAN, RISKS, Syntax};
+use crate::command::Command;
+use crate::given::{limits, text};
+use crate::misuse::Misuse;
+use clap::ArgMatches;
+use std::alloc::{AllocError, Global};
+use tx_plan::Limits;
+
+/// `page PLAN --limit L --spare K`: a page about the plan, with the named risks of a file, if one is
+/// named, with the stages from an old plan, if one is named, and with the lists of one code alone,
+/// if its figures are given. It may go into a file.
+#[derive(Drop)]
+pub struct PageRequest {
+    pub plan: String,
+    pub limits: Limits,
+    pub risks: Option<String>,
+    pub old: Option<String>,
+    pub code: Option<String>,
+    pub html: Option<String>,
+}
+
+const PAGE_HELP: &str = "The page is one file, which needs no other and fetches nothing. It has the
+verdict, what is wrong, the stages of a change, the grade, outages, the lists of
+each code as a picture, and the network.
+
+Example: telexplan page own.plan --limit 1 --spare 1 --html own.html
+
+Exit status: 0 after YES, 1 after NO, 2 for a refused text, 3 for a failed read
+or write, 4 when out of memory, 64 for refused words, and for a code that the
+plan does not have";
+
+pub(crate) fn page_grammar<'a>(alloc: Global) -> Result<clap::Command<'a>, AllocError>
+    ensures { IfOk result (λ c. app_of c ≡ page_words) }
+{
+    Syntax::over_plan(
+        alloc,
+        "page",
+        "Write a page of HTML about a plan, for those who decide on it",
+        PAGE_HELP,
+    )
+    .limits(true)
+    .option("risks", "RISKS", RISKS)
+    .option(
+        "from",
+        "OLD",
+        "The plan that is in force: show in which stages its lists
+change into those of the plan; - is standard input",
+    )
+    .option(
+        "code",
+        "CODE",
+        "Show the lists of this code alone, by its figures",
+    )
+    .option("html", "OUT", "Write the page to this file")
+    .command
+}
+
+/// Its words after the plan.
+pub(crate) fn page_of(
+    alloc: Global,
+    plan: String,
+    matches: &ArgMatches<'_>,
+) -> Result<Command, Misuse>
+    requires { Names (rows_of (found_of matches.now)) (codes "plan") plan }
+    ensures asked { IfOk result (Asks (codes "page") (rows_of (found_of matches.now))) }
+    ensures refused { IfErr result
+        (IsRefused (Some (codes "page", rows_of (found_of matches.now)))) }
+{
+    let risks = text(alloc, matches, "risks")?;
+    let old = text(alloc, matches, "from")?;
+    let code = text(alloc, matches, "code")?;
+    let html = text(alloc, matches, "html")?;
+    let limits = limits(alloc, matches)?;
+    Ok(Command::Page(PageRequest {
+        plan,
+        limits,
+        risks,
+        old,
+        code,
+        html,
+    }))
+}

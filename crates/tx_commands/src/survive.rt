@@ -1,0 +1,76 @@
+// The command `survive`.
+ghost use Rattle.std.specs.Prelude.{◌≡◌, Some, IfOk, IfErr, codes};
+ghost use Rattle.clap.specs.Words.{app_of, found_of, rows_of};
+ghost use Rattle.tx_commands.specs.Commands.{Names, Asks};
+ghost use Rattle.tx_commands.specs.Grammar.{survive_words};
+ghost use Rattle.tx_commands.specs.inner.Refused.{IsRefused};
+
+use crate::arguments::{PLAN, RISKS, Syntax};
+use crate::command::Command;
+use crate::given::{is_set, text};
+use crate::misuse::Misuse;
+use clap::ArgMatches;
+use std::alloc::{AllocError, Global};
+
+/// `survive PLAN`, with the named risks of a file, if one is named. The flag with them: these alone.
+/// The other flag: totals alone.
+#[derive(Drop)]
+pub struct SurviveRequest {
+    pub plan: String,
+    pub risks: Option<(String, bool)>,
+    pub totals: bool,
+}
+
+const SURVIVE_HELP: &str =
+    "Of an exchange that fails, the calls that start there and those for codes at
+home there are left out.
+
+Example: telexplan survive own.plan --risks cables
+
+Exit status: 0 after YES, 1 after NO and for a plan that has no grade, 2 for a
+refused text, 3 for a failed read or write, 4 when out of memory, 64 for refused
+words";
+
+pub(crate) fn survive_grammar<'a>(alloc: Global) -> Result<clap::Command<'a>, AllocError>
+    ensures { IfOk result (λ c. app_of c ≡ survive_words) }
+{
+    Syntax::over_plan(
+        alloc,
+        "survive",
+        "Say whom each group, exchange and named risk cuts off if it fails",
+        SURVIVE_HELP,
+    )
+    .option("risks", "RISKS", RISKS)
+    .flag("risks-only", "Try the named risks alone")
+    .flag(
+        "totals",
+        "Print how many starts each outage cuts off, and not which
+ones",
+    )
+    .command
+}
+
+/// Its words after the plan.
+pub(crate) fn survive_of(
+    alloc: Global,
+    plan: String,
+    matches: &ArgMatches<'_>,
+) -> Result<Command, Misuse>
+    requires { Names (rows_of (found_of matches.now)) (codes "plan") plan }
+    ensures asked { IfOk result (Asks (codes "survive") (rows_of (found_of matches.now))) }
+    ensures refused { IfErr result
+        (IsRefused (Some (codes "survive", rows_of (found_of matches.now)))) }
+{
+    let only = is_set(matches, "risks-only");
+    let totals = is_set(matches, "totals");
+    let risks = match text(alloc, matches, "risks")? {
+        Some(risks) => Some((risks, only)),
+        None if only => return Err(Misuse::RisksOnly),
+        None => None,
+    };
+    Ok(Command::Survive(SurviveRequest {
+        plan,
+        risks,
+        totals,
+    }))
+}

@@ -1,0 +1,88 @@
+// The command `trace`.
+ghost use Rattle.std.specs.Prelude.{◌≡◌, Some, IfOk, IfErr, codes};
+ghost use Rattle.clap.specs.Words.{app_of, found_of, rows_of};
+ghost use Rattle.tx_commands.specs.Commands.{Names, Asks};
+ghost use Rattle.tx_commands.specs.Grammar.{trace_words};
+ghost use Rattle.tx_commands.specs.inner.Refused.{IsRefused};
+
+use crate::arguments::{DOWN, PLAN, Syntax};
+use crate::command::Command;
+use crate::given::text;
+use crate::misuse::Misuse;
+use clap::ArgMatches;
+use std::alloc::{AllocError, Global};
+
+/// `trace PLAN EXCHANGE CODE`: how calls for the code go from the exchange, while these groups are
+/// down, if some are named.
+#[derive(Drop)]
+pub struct TraceRequest {
+    pub plan: String,
+    pub exchange: String,
+    pub code: String,
+    pub down: Option<String>,
+}
+
+/// `trace PLAN --group GROUP`: the lists that have the group.
+#[derive(Drop)]
+pub struct GroupRequest {
+    pub plan: String,
+    pub group: String,
+}
+
+const TRACE_HELP: &str = "Example: telexplan trace own.plan NORTH 24 --down CENO1,CENO2
+
+Exit status: 0 after the trace, 2 for a refused text, 3 for a failed read or
+write, 4 when out of memory, 64 for refused words, and for an exchange, a code
+or a group that is not in the plan";
+
+pub(crate) fn trace_grammar<'a>(alloc: Global) -> Result<clap::Command<'a>, AllocError>
+    ensures { IfOk result (λ c. app_of c ≡ trace_words) }
+{
+    Syntax::over_plan(
+        alloc,
+        "trace",
+        "Show how calls for a code go from an exchange",
+        TRACE_HELP,
+    )
+    .word(
+        "exchange",
+        "EXCHANGE",
+        "The exchange from which the calls go",
+    )
+    .word("code", "CODE", "Their destination code")
+    .option("down", "GROUP,..", DOWN)
+    .option(
+        "group",
+        "GROUP",
+        "Show each list that has this group; without an exchange
+and a code",
+    )
+    .command
+}
+
+/// Its words after the plan.
+pub(crate) fn trace_of(
+    alloc: Global,
+    plan: String,
+    matches: &ArgMatches<'_>,
+) -> Result<Command, Misuse>
+    requires { Names (rows_of (found_of matches.now)) (codes "plan") plan }
+    ensures asked { IfOk result (Asks (codes "trace") (rows_of (found_of matches.now))) }
+    ensures refused { IfErr result
+        (IsRefused (Some (codes "trace", rows_of (found_of matches.now)))) }
+{
+    let exchange = text(alloc, matches, "exchange")?;
+    let code = text(alloc, matches, "code")?;
+    let down = text(alloc, matches, "down")?;
+    let group = text(alloc, matches, "group")?;
+    match (exchange, code, down, group) {
+        (Some(exchange), Some(code), down, None) => Ok(Command::Trace(TraceRequest {
+            plan,
+            exchange,
+            code,
+            down,
+        })),
+        (None, None, None, Some(group)) => Ok(Command::TraceGroup(GroupRequest { plan, group })),
+        _ => Err(Misuse::TraceWords),
+    }
+}

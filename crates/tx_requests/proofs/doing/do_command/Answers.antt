@@ -1,0 +1,177 @@
+use Rattle.std.proofs.Common.{refl}
+use Rattle.tx_requests.proofs.Uncalled.{uncalled}
+use Rattle.tx_requests.proofs.doing.do_command.Goals as goal
+
+pub returns-in-Pipe-clause-done : goal.returns-in-Pipe-clause-done
+returns-in-Pipe-clause-done g c = rw c.in-Pipe.is (c.do_pipe.ensures, refl, refl)
+
+pub returns-in-Pipe-clause-first_calls : goal.returns-in-Pipe-clause-first_calls
+returns-in-Pipe-clause-first_calls g c = λ other. absurd (other c.in-Pipe.is)
+
+pub returns-in-Pipe-clause-second_calls : goal.returns-in-Pipe-clause-second_calls
+returns-in-Pipe-clause-second_calls g c = uncalled g.Q.Source.called c.args.second.now
+
+pub returns-in-Pipe-clause-third_calls : goal.returns-in-Pipe-clause-third_calls
+returns-in-Pipe-clause-third_calls g c = uncalled g.R.Source.called c.args.third.now
+
+pub returns-in-Run-clause-done : goal.returns-in-Run-clause-done
+returns-in-Run-clause-done g c = rw c.in-Run.is c.do_run.ensures.done
+
+pub returns-in-RunTelling-clause-done : goal.returns-in-RunTelling-clause-done
+returns-in-RunTelling-clause-done g c = rw c.in-RunTelling.is (c.do_telling.ensures.done, refl)
+
+pub returns-in-RunTelling-clause-third_calls : goal.returns-in-RunTelling-clause-third_calls
+returns-in-RunTelling-clause-third_calls g c = uncalled g.R.Source.called c.args.third.now
+
+pub returns-in-Check-clause-done : goal.returns-in-Check-clause-done
+returns-in-Check-clause-done g c = rw c.in-Check.is (c.do_check.ensures.done, refl)
+
+pub returns-in-Check-clause-third_calls : goal.returns-in-Check-clause-third_calls
+returns-in-Check-clause-third_calls g c = uncalled g.R.Source.called c.args.third.now
+
+pub returns-in-Codes-clause-done : goal.returns-in-Codes-clause-done
+returns-in-Codes-clause-done g c = rw c.in-Codes.is (c.do_codes.ensures.done, refl, refl)
+
+pub returns-in-Codes-clause-second_calls : goal.returns-in-Codes-clause-second_calls
+returns-in-Codes-clause-second_calls g c = uncalled g.Q.Source.called c.args.second.now
+
+pub returns-in-Codes-clause-third_calls : goal.returns-in-Codes-clause-third_calls
+returns-in-Codes-clause-third_calls g c = uncalled g.R.Source.called c.args.third.now
+
+pub returns-in-Audit-clause-done : goal.returns-in-Audit-clause-done
+returns-in-Audit-clause-done g c = rw c.in-Audit.is (c.do_audit.ensures.done, refl, refl)
+
+pub returns-in-Audit-clause-second_calls : goal.returns-in-Audit-clause-second_calls
+returns-in-Audit-clause-second_calls g c = uncalled g.Q.Source.called c.args.second.now
+
+pub returns-in-Audit-clause-third_calls : goal.returns-in-Audit-clause-third_calls
+returns-in-Audit-clause-third_calls g c = uncalled g.R.Source.called c.args.third.now
+
+pub returns-in-Lint-clause-done : goal.returns-in-Lint-clause-done
+returns-in-Lint-clause-done g c = rw c.in-Lint.is (c.do_lint.ensures.done, refl)
+
+pub returns-in-Lint-clause-third_calls : goal.returns-in-Lint-clause-third_calls
+returns-in-Lint-clause-third_calls g c = uncalled g.R.Source.called c.args.third.now
+
+pub carry_out-requires : goal.carry_out-requires
+carry_out-requires g c = c.read_plans.ensures.known
+
+pub returns-in-Change-clause-done : goal.returns-in-Change-clause-done
+returns-in-Change-clause-done g c =
+    rw c.in-Change.is
+    (record { texts = c.read_plans.result; read = c.read_plans.ensures.texts; carried = c.carry_out.ensures }, refl)
+
+pub returns-in-Change-clause-third_calls : goal.returns-in-Change-clause-third_calls
+returns-in-Change-clause-third_calls g c = uncalled g.R.Source.called c.args.third.now
+
+pub carry_out-requires-in-Order : goal.carry_out-requires-in-Order
+carry_out-requires-in-Order g c = c.read_plans-in-Order.ensures.known
+
+pub returns-in-Order-clause-done : goal.returns-in-Order-clause-done
+returns-in-Order-clause-done g c =
+    rw c.in-Order.is
+    (record { texts = c.read_plans-in-Order.result; read = c.read_plans-in-Order.ensures.texts; carried = c.carry_out-in-Order.ensures }, refl)
+
+pub returns-in-Order-clause-third_calls : goal.returns-in-Order-clause-third_calls
+returns-in-Order-clause-third_calls g c = uncalled g.R.Source.called c.args.third.now
+
+pub carry_out-requires-in-Mend : goal.carry_out-requires-in-Mend
+carry_out-requires-in-Mend g c = c.read_whole.ensures.known
+
+pub returns-in-Mend-clause-done : goal.returns-in-Mend-clause-done
+returns-in-Mend-clause-done g c =
+    rw c.in-Mend.is
+    (record { texts = c.read_whole.result; read = c.read_whole.ensures.text; carried = c.carry_out-in-Mend.ensures }, refl, refl)
+
+pub returns-in-Mend-clause-second_calls : goal.returns-in-Mend-clause-second_calls
+returns-in-Mend-clause-second_calls g c = uncalled g.Q.Source.called c.args.second.now
+
+pub returns-in-Mend-clause-third_calls : goal.returns-in-Mend-clause-third_calls
+returns-in-Mend-clause-third_calls g c = uncalled g.R.Source.called c.args.third.now
+
+pub carry_out-requires-in-Survive : goal.carry_out-requires-in-Survive
+carry_out-requires-in-Survive g c = c.read_with_risks-texts.ensures.known
+
+pub returns-in-Survive-clause-done : goal.returns-in-Survive-clause-done
+returns-in-Survive-clause-done g c =
+    rw c.in-Survive.is
+    (record { texts = c.read_with_risks-texts.result; read = rw c.is_some.ensures at c.read_with_risks-texts.ensures.texts; carried = c.carry_out-in-Survive.ensures }, refl)
+
+pub returns-in-Survive-clause-third_calls : goal.returns-in-Survive-clause-third_calls
+returns-in-Survive-clause-third_calls g c = uncalled g.R.Source.called c.args.third.now
+
+pub carry_out-requires-in-Page : goal.carry_out-requires-in-Page
+carry_out-requires-in-Page g c = c.read_for_page-texts.ensures.known
+
+pub returns-in-Page-clause-done : goal.returns-in-Page-clause-done
+returns-in-Page-clause-done g c =
+    rw c.in-Page.is
+    (record { texts = c.read_for_page-texts.result; read = rw (c.is_some-risks.ensures, c.is_some-old.ensures) at c.read_for_page-texts.ensures.texts; carried = c.carry_out-in-Page.ensures })
+
+pub carry_out-requires-in-Grade : goal.carry_out-requires-in-Grade
+carry_out-requires-in-Grade g c = c.read_one.ensures.known
+
+pub returns-in-Grade-clause-done : goal.returns-in-Grade-clause-done
+returns-in-Grade-clause-done g c =
+    rw c.in-Grade.is
+    (record { texts = c.read_one.result; read = c.read_one.ensures.text; carried = c.carry_out-in-Grade.ensures }, refl, refl)
+
+pub returns-in-Grade-clause-second_calls : goal.returns-in-Grade-clause-second_calls
+returns-in-Grade-clause-second_calls g c = uncalled g.Q.Source.called c.args.second.now
+
+pub returns-in-Grade-clause-third_calls : goal.returns-in-Grade-clause-third_calls
+returns-in-Grade-clause-third_calls g c = uncalled g.R.Source.called c.args.third.now
+
+pub carry_out-requires-in-Trace : goal.carry_out-requires-in-Trace
+carry_out-requires-in-Trace g c = c.read_one-in-Trace.ensures.known
+
+pub returns-in-Trace-clause-done : goal.returns-in-Trace-clause-done
+returns-in-Trace-clause-done g c =
+    rw c.in-Trace.is
+    (record { texts = c.read_one-in-Trace.result; read = c.read_one-in-Trace.ensures.text; carried = c.carry_out-in-Trace.ensures }, refl, refl)
+
+pub returns-in-Trace-clause-second_calls : goal.returns-in-Trace-clause-second_calls
+returns-in-Trace-clause-second_calls g c = uncalled g.Q.Source.called c.args.second.now
+
+pub returns-in-Trace-clause-third_calls : goal.returns-in-Trace-clause-third_calls
+returns-in-Trace-clause-third_calls g c = uncalled g.R.Source.called c.args.third.now
+
+pub carry_out-requires-in-TraceGroup : goal.carry_out-requires-in-TraceGroup
+carry_out-requires-in-TraceGroup g c = c.read_one-in-TraceGroup.ensures.known
+
+pub returns-in-TraceGroup-clause-done : goal.returns-in-TraceGroup-clause-done
+returns-in-TraceGroup-clause-done g c =
+    rw c.in-TraceGroup.is
+    (record { texts = c.read_one-in-TraceGroup.result; read = c.read_one-in-TraceGroup.ensures.text; carried = c.carry_out-in-TraceGroup.ensures }, refl, refl)
+
+pub returns-in-TraceGroup-clause-second_calls : goal.returns-in-TraceGroup-clause-second_calls
+returns-in-TraceGroup-clause-second_calls g c = uncalled g.Q.Source.called c.args.second.now
+
+pub returns-in-TraceGroup-clause-third_calls : goal.returns-in-TraceGroup-clause-third_calls
+returns-in-TraceGroup-clause-third_calls g c = uncalled g.R.Source.called c.args.third.now
+
+pub carry_out-requires-in-Fill : goal.carry_out-requires-in-Fill
+carry_out-requires-in-Fill g c = c.read_one-in-Fill.ensures.known
+
+pub returns-in-Fill-clause-done : goal.returns-in-Fill-clause-done
+returns-in-Fill-clause-done g c =
+    rw c.in-Fill.is
+    (record { texts = c.read_one-in-Fill.result; read = c.read_one-in-Fill.ensures.text; carried = c.carry_out-in-Fill.ensures }, refl, refl)
+
+pub returns-in-Fill-clause-second_calls : goal.returns-in-Fill-clause-second_calls
+returns-in-Fill-clause-second_calls g c = uncalled g.Q.Source.called c.args.second.now
+
+pub returns-in-Fill-clause-third_calls : goal.returns-in-Fill-clause-third_calls
+returns-in-Fill-clause-third_calls g c = uncalled g.R.Source.called c.args.third.now
+
+pub returns-in-Explain-clause-done : goal.returns-in-Explain-clause-done
+returns-in-Explain-clause-done g c = rw c.in-Explain.is (c.do_explain.ensures, refl, refl, refl)
+
+pub returns-in-Explain-clause-first_calls : goal.returns-in-Explain-clause-first_calls
+returns-in-Explain-clause-first_calls g c = λ other. uncalled g.P.Source.called c.args.first.now
+
+pub returns-in-Explain-clause-second_calls : goal.returns-in-Explain-clause-second_calls
+returns-in-Explain-clause-second_calls g c = uncalled g.Q.Source.called c.args.second.now
+
+pub returns-in-Explain-clause-third_calls : goal.returns-in-Explain-clause-third_calls
+returns-in-Explain-clause-third_calls g c = uncalled g.R.Source.called c.args.third.now

@@ -1,0 +1,17 @@
+use Rattle.std.proofs.Common.{refl}
+use Rattle.tx_requests.proofs.page.subject_of.Goals as goal
+
+pub returns : goal.returns
+returns g c = record {
+  name = c.as_bytes.ensures.value;
+  digest = rw c.as_slice-text.ensures.value at c.digest.ensures;
+  version = refl;
+  plan = refl;
+  limits = refl;
+  risks = refl;
+  ranking = refl;
+  grade = refl;
+  change = c.shown_change.ensures;
+  outcomes = c.as_slice.ensures.value;
+  pictures = c.as_slice-2.ensures.value;
+}

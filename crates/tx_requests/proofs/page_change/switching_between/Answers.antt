@@ -1,0 +1,26 @@
+use Rattle.std.proofs.Common.{inr, refl}
+use Rattle.tx_text.proofs.Exits.{exits_with}
+use Rattle.tx_join.specs.declared.refusal.JoinRefusal.TheVariants.{NoMemory as JoinNoMemory}
+use Rattle.tx_requests.specs.Faults.{memory_stop}
+use Rattle.tx_requests.proofs.Joining.{same_network}
+use Rattle.tx_requests.proofs.page_change.switching_between.Goals as goal
+
+pub order-requires : goal.order-requires
+order-requires g c =
+    let old = c.args.old.now.plan in
+    let new = c.args.new.now.plan in
+    record { network = same_network old new c.in_ok-joined.joined c.in_ok-joined.ensures.joined }
+
+pub returns-clause-right : goal.returns-clause-right
+returns-clause-right g c =
+    let j = c.in_ok-joined.ensures.joined in
+    rw (j.before, j.after) at c.in_ok-order.ensures.right
+
+pub returns-in_err-order-clause-refused : goal.returns-in_err-order-clause-refused
+returns-in_err-order-clause-refused g c =
+    rw (exits_with c.from_residual-in_err-order.result memory_stop c.from_residual-in_err-order.ensures.1)
+    (record {
+      refusal = JoinNoMemory;
+      refused = inr (c.in_ok-joined.ensures.joined.unrefused, refl);
+      told = refl;
+    })

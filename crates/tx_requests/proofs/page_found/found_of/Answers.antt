@@ -1,0 +1,15 @@
+use Rattle.tx_requests.proofs.Grading.{plan_is}
+use Rattle.tx_requests.proofs.page_found.found_of.Goals as goal
+
+pub returns : goal.returns
+returns g c =
+    let e = c.in_ok-grade.ensures in
+    let grade = c.in_ok-grade.grade in
+    let plan = plan_is _ c.args.plan.now c.rules.ensures grade.findings.items grade.plan
+    e.plan e.clear e.fails e.clean e.each e.listed in
+    record {
+      ranking = c.in_ok-ranking.ensures;
+      grade = (plan, e.codes);
+      outcomes = c.in_ok-outcomes.ensures;
+      pictures = c.in_ok-pictures.ensures;
+    }

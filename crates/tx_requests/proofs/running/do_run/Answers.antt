@@ -1,0 +1,67 @@
+use Rattle.std.proofs.Common.{Ok, Err, refl}
+use Rattle.tx_text.proofs.Exits.{exits_with}
+use Rattle.tx_requests.specs.declared.fault.CommandFault.TheVariants.{Job}
+use Rattle.tx_requests.proofs.Uncalled.{uncalled}
+use Rattle.tx_requests.proofs.running.do_run.Goals as goal
+
+pub returns-in_ok-run_job-in-None-clause-done : goal.returns-in_ok-run_job-in-None-clause-done
+returns-in_ok-run_job-in-None-clause-done g c =
+    rw c.in-None.is (
+      refl,
+      record {
+        answer = Ok c.in_ok-run_job-in-None.field-0;
+        by = c.in_ok-run_job-in-None.ensures.answers;
+        mark = c.in_ok-run_job-in-None.ensures.mark;
+        ended = (c.of.ensures.status, c.of.ensures.made);
+      },
+    )
+
+pub returns-in_ok-run_job-in-None-clause-third_calls : goal.returns-in_ok-run_job-in-None-clause-third_calls
+returns-in_ok-run_job-in-None-clause-third_calls g c = uncalled g.R.Source.called c.args.third.now
+
+pub returns-in_err-run_job-in-None-clause-done : goal.returns-in_err-run_job-in-None-clause-done
+returns-in_err-run_job-in-None-clause-done g c =
+    let f = c.in_err-run_job-in-None.field-0.0 in
+    rw c.in-None.is (
+      refl,
+      record {
+        answer = Err f;
+        by = c.in_err-run_job-in-None.ensures.answers;
+        mark = c.in_err-run_job-in-None.ensures.mark;
+        ended = exits_with c.from_residual.result (Job f) c.from_residual.ensures.1;
+      },
+    )
+
+pub returns-in_err-run_job-in-None-clause-third_calls : goal.returns-in_err-run_job-in-None-clause-third_calls
+returns-in_err-run_job-in-None-clause-third_calls g c = uncalled g.R.Source.called c.args.third.now
+
+pub returns-in-Ran-clause-done : goal.returns-in-Ran-clause-done
+returns-in-Ran-clause-done g c =
+    rw c.in-Some.is
+    (record {
+      answer = Ok c.in_ok-run_checked_job-in-Some.field-0;
+      by = c.in_ok-run_checked_job-in-Some.ensures.answers;
+      mark = c.in_ok-run_checked_job-in-Some.ensures.mark;
+      ended = rw c.in-Ran.is (c.of-in-Ran.ensures.status, c.of-in-Ran.ensures.made);
+    })
+
+pub returns-in-Denied-clause-done : goal.returns-in-Denied-clause-done
+returns-in-Denied-clause-done g c =
+    rw c.in-Some.is
+    (record {
+      answer = Ok c.in_ok-run_checked_job-in-Some.field-0;
+      by = c.in_ok-run_checked_job-in-Some.ensures.answers;
+      mark = c.in_ok-run_checked_job-in-Some.ensures.mark;
+      ended = rw c.in-Denied.is (c.of-in-Denied.ensures.status, c.of-in-Denied.ensures.made);
+    })
+
+pub returns-in_err-run_checked_job-in-Some-clause-done : goal.returns-in_err-run_checked_job-in-Some-clause-done
+returns-in_err-run_checked_job-in-Some-clause-done g c =
+    let f = c.in_err-run_checked_job-in-Some.field-0.0 in
+    rw c.in-Some.is
+    (record {
+      answer = Err f;
+      by = c.in_err-run_checked_job-in-Some.ensures.answers;
+      mark = c.in_err-run_checked_job-in-Some.ensures.mark;
+      ended = exits_with c.from_residual-in_err-run_checked_job-in-Some.result (Job f) c.from_residual-in_err-run_checked_job-in-Some.ensures.1;
+    })

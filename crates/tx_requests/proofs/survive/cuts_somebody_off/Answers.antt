@@ -1,0 +1,11 @@
+use Rattle.std.proofs.Common.{◌==◌, not, length, rules, tests}
+use Rattle.std.proofs.lemmas.Iterator.{YieldsList-from_slice}
+use Rattle.std.proofs.lemmas.Iterator.Search.{any_from_yields_List}
+use Rattle.tx_risk.specs.declared.cut.Outcome.{Outcome}
+use Rattle.tx_requests.proofs.survive.cuts_somebody_off.Goals as goal
+
+pub returns : goal.returns
+returns g c =
+    any_from_yields_List (λ (o : Outcome g.row.A.Denot). not (length o.cuts.items == 0)) _ _ _
+    c.any.ensures.ran (YieldsList-from_slice c.args.outcomes.now cc)
+    (λ x b q k. search (rules, tests))

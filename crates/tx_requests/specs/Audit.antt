@@ -1,0 +1,44 @@
+-- What is left to say once the report of an audit is out.
+use Rattle.std.specs.Prelude.{◌≡◌, ℕ, Bool, true, false, List, [], ◌∷◌, Option, None, Some, is_some, Result, Ok, Err}
+use Rattle.std.specs.List.{list_any}
+use Rattle.std.specs.Option.{IfSome}
+use Rattle.tx_plan.specs.Plan.{Plan}
+use Rattle.tx_cert.specs.CertText.{cert_written}
+use Rattle.tx_rank.specs.declared.finding.Finding.{Finding}
+use Rattle.tx_audit.specs.Counter.{has_counter, first_counter_of}
+use Rattle.tx_audit.specs.Breaks.{ShowsOne}
+use Rattle.tx_audit.specs.declared.audited.Audited.{Audited}
+use Rattle.tx_audit.specs.declared.audited.Audited.TheVariants.{Sound, Unsound}
+use Rattle.tx_commands.specs.declared.audit.AuditRequest.{AuditRequest}
+use Rattle.tx_requests.specs.declared.ending.Ending.{Ending}
+use Rattle.tx_requests.specs.declared.fault.CommandFault.{CommandFault}
+use Rattle.tx_requests.specs.declared.made.Made.{Made}
+use Rattle.tx_requests.specs.Ending.{EndsWith, EndsWithTexts}
+use Rattle.tx_requests.specs.Faults.{memory_stop}
+use Rattle.tx_requests.specs.Made.{shown_plan, shown_events}
+
+module _ {A : Type 0} where
+  -- The script has the plan and the events of the first finding that has some, and these show one
+  -- of the findings, so the plan is not sound. There is none exactly where no finding has events.
+  abbrev pub ShowsCounter : Plan → (limit spare : ℕ) → List (Finding A) → Option (Made A) → Type 0
+  ShowsCounter p limit spare findings None =
+      (first_counter_of p findings ≡ None) × (list_any (has_counter p) findings ≡ false)
+  ShowsCounter p limit spare findings (Some m) = (shown_plan m.shown ≡ p)
+      × (shown_events m.shown ≡ first_counter_of p findings)
+      × (is_some (shown_events m.shown) ≡ list_any (has_counter p) findings)
+      × IfSome (shown_events m.shown) (ShowsOne p limit spare findings)
+      × (m.text ≡ None) × (m.cert ≡ None)
+
+  -- status 1 after a No, and the script goes into a file, if it is asked for
+  abbrev pub EndsAfterNo : (asked : Bool) → Plan → (limit spare : ℕ) → List (Finding A)
+      → Result (Ending A) CommandFault → Type 0
+  EndsAfterNo true p limit spare findings (Ok e) =
+      (e.status ≡ 1) × ShowsCounter p limit spare findings e.made
+  EndsAfterNo true p limit spare findings (Err fault) = fault ≡ memory_stop
+  EndsAfterNo false p limit spare findings result = EndsWith 1 result
+
+  -- status 0 after a Yes, and the certificate goes into a file
+  abbrev pub AuditEnds : AuditRequest → Audited A → Result (Ending A) CommandFault → Type 0
+  AuditEnds r (Sound p cert) = EndsWithTexts 0 (None ∷ Some (cert_written p cert) ∷ None ∷ [])
+  AuditEnds r (Unsound p findings) = EndsAfterNo (is_some r.counter) p r.limits.limit
+      r.limits.spare findings.items

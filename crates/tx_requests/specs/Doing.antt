@@ -1,0 +1,111 @@
+-- What a command comes to over its texts.
+use Rattle.std.specs.Prelude.{ℕ, Bool, List, Option, is_some, Result}
+use Rattle.tx_text.specs.declared.source.ReadFault.{ReadFault}
+use Rattle.tx_text.specs.Ends.{Input, Output, input, output}
+use Rattle.tx_commands.specs.declared.command.Command.{Command}
+use Rattle.tx_commands.specs.declared.command.Command.TheVariants.{Pipe, Run, RunTelling, Check, Lint, Codes, Audit, Change, Order, Mend, Survive, Page, Grade, Trace, TraceGroup, Fill, Explain}
+use Rattle.tx_jobs.specs.AuditJobs.{AuditJobAnswers}
+use Rattle.tx_jobs.specs.CheckJobs.{CheckJobAnswers}
+use Rattle.tx_jobs.specs.declared.job_fault.JobFault.{JobFault}
+use Rattle.tx_jobs.specs.Jobs.{CodesJobAnswers}
+use Rattle.tx_jobs.specs.PipeJobs.{PipeJobAnswers}
+use Rattle.tx_jobs.specs.TellingJobs.{TellingJobAnswers}
+use Rattle.tx_requests.specs.declared.ending.Ending.{Ending}
+use Rattle.tx_requests.specs.declared.fault.CommandFault.{CommandFault}
+use Rattle.tx_requests.specs.declared.two_plans.Which.TheVariants.{This}
+use Rattle.tx_requests.specs.Audit.{AuditEnds}
+use Rattle.tx_requests.specs.Carried.{IsCarriedOut}
+use Rattle.tx_requests.specs.Change.{ChangeAnswers, change_prints, ChangeEnds}
+use Rattle.tx_requests.specs.Ending.{EndsWith, EndsWell}
+use Rattle.tx_requests.specs.Explain.{IsExplained}
+use Rattle.tx_requests.specs.Fill.{FillAnswers, fill_prints}
+use Rattle.tx_requests.specs.Grade.{GradeAnswers, grade_prints, GradeEnds}
+use Rattle.tx_requests.specs.Group.{GroupAnswers, group_prints}
+use Rattle.tx_requests.specs.Lint.{IsLinted}
+use Rattle.tx_requests.specs.Printing.{Printing}
+use Rattle.tx_requests.specs.Jobs.{IsJobDone, verdict_status, pair_status, strict_status}
+use Rattle.tx_requests.specs.Mend.{MendAnswers, mend_prints, MendEnds}
+use Rattle.tx_requests.specs.Order.{OrderAnswers, order_prints, OrderEnds}
+use Rattle.tx_requests.specs.Page.{PageAnswers, PagePrints, PageEnds}
+use Rattle.tx_requests.specs.PageReading.{ReadsForPage}
+use Rattle.tx_requests.specs.Reading.{ReadsPlan, ReadsWithRisks}
+use Rattle.tx_requests.specs.Runs.{IsRunDone}
+use Rattle.tx_requests.specs.Survive.{SurviveAnswers, survive_prints, SurviveEnds}
+use Rattle.tx_requests.specs.Trace.{TraceAnswers, trace_prints}
+use Rattle.tx_requests.specs.TwoPlans.{ReadsWhole, ReadsPlans}
+
+module _ {P W : Type 0} (rest : P → Option (List ℕ)) (failed : P → Bool)
+    (called : ℕ → Result ℕ ReadFault → P → P → Type 0) (old new : P) (second third : Input)
+    (taken : W → Option (List ℕ)) (marked : W → Bool) (before after : W) where
+  -- the first text
+  abbrev pub first : Input
+  first = input rest failed called old new
+
+  -- the output
+  abbrev pub out : Output
+  out = output taken before after
+
+  module _ {A : Type 0} where
+    module _ {X : Type 0} (answers : Result X JobFault → Type 0)
+        (ends : X → Result (Ending A) CommandFault → Type 0) where
+      -- the job answered this, and that is what the command came to
+      abbrev pub ByJob : Result (Ending A) CommandFault → Type 0
+      ByJob result = IsJobDone answers ends (marked before) (marked after) result
+
+    module _ {C T N : Type 0} (reads : Result T CommandFault → Type 0)
+        (answers : C → T → Result N CommandFault → Type 0) (prints : C → N → Printing)
+        (ends : C → N → Result (Ending A) CommandFault → Type 0) where
+      -- its texts were read, and the request was carried out over them
+      pub record ByRequest (request : C) (result : Result (Ending A) CommandFault) : Type 0 where
+        pub texts : Result T CommandFault
+        pub read : reads texts
+        pub carried : IsCarriedOut answers prints ends request taken marked before after texts result
+
+    -- each command by its job, or as a request
+    abbrev pub IsDone : Command → Result (Ending A) CommandFault → Type 0
+    IsDone Pipe result = ByJob (PipeJobAnswers rest failed called old new out)
+        (λ summary. EndsWith 0) result × second.unread × third.unread
+    IsDone (Run r) result =
+        IsRunDone r.checked first second third out (marked before) (marked after) result
+    IsDone (RunTelling r) result =
+        ByJob (TellingJobAnswers (record { echo = r.echo; summary = r.summary }) first second out)
+        (λ summary. EndsWith (strict_status r.strict summary)) result × third.unread
+    IsDone (Check r) result =
+        ByJob (CheckJobAnswers r.limits.limit r.limits.spare first second out)
+        (λ verdict. EndsWith (verdict_status verdict)) result × third.unread
+    IsDone (Codes r) result = ByJob (CodesJobAnswers first out)
+        (λ pair. EndsWith (pair_status pair)) result × second.unread × third.unread
+    IsDone (Audit r) result = ByJob (AuditJobAnswers r.limits.limit r.limits.spare first out)
+        (AuditEnds r) result × second.unread × third.unread
+    IsDone (Lint r) result =
+        IsLinted r first second out (marked before) (marked after) result × third.unread
+    IsDone (Change r) result =
+        ByRequest (ReadsPlans first second) ChangeAnswers change_prints ChangeEnds r result
+        × third.unread
+    IsDone (Order r) result =
+        ByRequest (ReadsPlans first second) OrderAnswers order_prints OrderEnds r result
+        × third.unread
+    IsDone (Mend r) result =
+        ByRequest (ReadsWhole This first) MendAnswers mend_prints MendEnds r result
+        × second.unread × third.unread
+    IsDone (Survive r) result =
+        ByRequest (ReadsWithRisks (is_some r.risks) first second) SurviveAnswers survive_prints
+        (λ r. SurviveEnds) r result × third.unread
+    IsDone (Page r) result =
+        ByRequest (ReadsForPage (is_some r.risks) (is_some r.old) first second third) PageAnswers
+        PagePrints (λ r. PageEnds) r result
+    IsDone (Grade r) result =
+        ByRequest (ReadsPlan first) (λ r. GradeAnswers) (λ r. grade_prints) (λ r. GradeEnds) r result
+        × second.unread × third.unread
+    IsDone (Trace r) result =
+        ByRequest (ReadsPlan first) (TraceAnswers {A = A}) (λ r. trace_prints) (λ r. EndsWell) r result
+        × second.unread × third.unread
+    IsDone (TraceGroup r) result =
+        ByRequest (ReadsPlan first) GroupAnswers (λ r. group_prints) (λ r. EndsWell) r result
+        × second.unread × third.unread
+    IsDone (Fill r) result =
+        ByRequest (ReadsPlan first) (FillAnswers {A = A}) (λ r. fill_prints) (λ r. EndsWell) r result
+        × second.unread × third.unread
+    IsDone (Explain r) result =
+        IsExplained r (taken before) (taken after) (marked before) (marked after) result
+        × first.unread × second.unread × third.unread

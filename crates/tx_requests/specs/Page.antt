@@ -1,0 +1,121 @@
+-- The command `page`.
+use Rattle.std.specs.Prelude.{◌≡◌, ◌⊎◌, ℕ, false, if◌then◌else◌, List, [], ◌∷◌, Option, None, Some, Result, Ok, Err, length, map, option_map, string_bytes, IfSome}
+use Rattle.std.specs.List.{range_with_len}
+use Rattle.sha2.specs.Sha256.{sha256}
+use Rattle.tx_plan.specs.Plan.{Plan, code_named}
+use Rattle.tx_audit.specs.Audits.{IsRightRanking}
+use Rattle.tx_join.specs.Joined.{joined_old, joined_new}
+use Rattle.tx_change.specs.Difference.{DifferenceAnswer}
+use Rattle.tx_order.specs.Switchings.{IsRightSwitching}
+use Rattle.tx_risk.specs.NamedRisks.{NamedRisk}
+use Rattle.tx_risk.specs.Outages.{AreOutcomes}
+use Rattle.tx_html.specs.Shows.{ShowedBy}
+use Rattle.tx_page.specs.declared.change.Change.{Change}
+use Rattle.tx_page.specs.Page.{is_safe, page_texts}
+use Rattle.tx_page.specs.declared.subject.Subject.{Subject}
+use Rattle.tx_commands.specs.declared.grammar.TheConstants.{VERSION}
+use Rattle.tx_requests.specs.declared.ending.Ending.{Ending}
+use Rattle.tx_requests.specs.declared.fault.CommandFault.{CommandFault}
+use Rattle.tx_requests.specs.declared.fault.CommandFault.TheVariants.{NoSuchCode}
+use Rattle.tx_commands.specs.declared.page.PageRequest.{PageRequest}
+use Rattle.tx_requests.specs.declared.page.Paged.{Paged}
+use Rattle.tx_requests.specs.declared.page_change.FoundChange.{FoundChange}
+use Rattle.tx_requests.specs.declared.page_found.Found.{Found}
+use Rattle.tx_requests.specs.declared.page_reading.PageTexts.{PageTexts}
+use Rattle.tx_requests.specs.declared.two_plans.PlanText.{PlanText}
+use Rattle.tx_requests.specs.Ending.{EndsWith}
+use Rattle.tx_requests.specs.Faults.{memory_stop}
+use Rattle.tx_requests.specs.Grade.{IsGradeOf}
+use Rattle.tx_requests.specs.Printing.{Printing}
+use Rattle.tx_requests.specs.TwoPlans.{IsJoin, IsNoJoinOf}
+
+-- this code alone, or all codes of a plan
+abbrev pub one_or_all : Plan → Option ℕ → List ℕ
+one_or_all p (Some code) = code ∷ []
+one_or_all p None = range_with_len 0 (length p.codes)
+
+-- the codes of which a page has the lists: all, or the one of these figures, if there is one
+abbrev pub shown_codes : Plan → Option (List ℕ) → Option (List ℕ)
+shown_codes p None = Some (range_with_len 0 (length p.codes))
+shown_codes p (Some figures) = option_map (λ c. c ∷ []) (code_named p figures)
+
+-- those that a page is asked for
+abbrev pub asked_codes : PageRequest → Plan → Option (List ℕ)
+asked_codes r p = shown_codes p (option_map string_bytes r.code)
+
+module _ {A : Type 0} where
+  -- what is found of a plan is right: the verdict of the audit, the grade, what outages cut off, and
+  -- the codes of the pictures
+  pub record IsFound (p : Plan) (limit spare : ℕ) (risks : List NamedRisk) (codes : List ℕ)
+      (f : Found A) : Type 0 where
+    pub ranking : IsRightRanking p limit spare f.ranking
+    pub grade : IsGradeOf p f.grade
+    pub outcomes : IfSome f.grade.plan (λ _. AreOutcomes p risks false f.outcomes.items)
+    pub pictures : map (λ q. q.code) f.pictures.items ≡ codes
+
+  -- what is told of the change of a plan into another one: whether they are of one network, both
+  -- over their joined network, and the order of switching from the one to the other over it
+  pub record IsChangeOf (old new : Plan) (limit spare : ℕ) (c : FoundChange A) : Type 0 where
+    pub network : DifferenceAnswer old new c.difference
+    pub joined : IsJoin old new c.joined
+    pub right : IsRightSwitching (joined_old old new) (joined_new old new) limit spare c.switching
+
+  -- that is told of an old plan, if one is asked for
+  abbrev pub IsChangeIfAny : Option (PlanText A) → (new : Plan) → (limit spare : ℕ)
+      → Option (FoundChange A) → Type 0
+  IsChangeIfAny None new limit spare change = change ≡ None
+  IsChangeIfAny (Some old) new limit spare None = ⊥
+  IsChangeIfAny (Some old) new limit spare (Some c) = IsChangeOf old.plan new limit spare c
+
+  -- there is an old plan, and the two have no joined network, or there was no memory for it
+  abbrev pub IsNoChange : Option (PlanText A) → PlanText A → CommandFault → Type 0
+  IsNoChange None new fault = ⊥
+  IsNoChange (Some old) new fault = IsNoJoinOf old new fault
+
+  -- what a page shows is right
+  pub record IsPageOf (r : PageRequest) (t : PageTexts A) (a : Paged A) : Type 0 where
+    pub texts : a.texts ≡ t
+    pub codes : List ℕ
+    pub asked : asked_codes r t.plan.plan ≡ Some codes
+    pub found : IsFound t.plan.plan r.limits.limit r.limits.spare t.risks codes a.found
+    pub change : IsChangeIfAny t.old t.plan.plan r.limits.limit r.limits.spare a.change
+
+  -- it is shown; or the plan has no code of the figures that are asked for, or no joined network
+  -- with the old one; or memory ran out
+  abbrev pub PageAnswers : PageRequest → PageTexts A → Result (Paged A) CommandFault → Type 0
+  PageAnswers r t (Ok a) = IsPageOf r t a
+  PageAnswers r t (Err fault) =
+      ((fault ≡ NoSuchCode) × (asked_codes r t.plan.plan ≡ None))
+      ⊎ (IsNoChange t.old t.plan fault ⊎ (fault ≡ memory_stop))
+
+  -- a change, as a page shows it
+  abbrev pub IsSameChange : Option (Change A) → Option (FoundChange A) → Type 0
+  IsSameChange None None = Unit {0}
+  IsSameChange (Some c) (Some f) = (c.difference ≡ f.difference) × (c.joined.now ≡ f.joined)
+      × (c.switching.now ≡ f.switching)
+  IsSameChange c f = ⊥
+
+  -- what a page is about: the name of the file, the digest of its text, the version of the program,
+  -- and all that was found
+  pub record IsSubjectOf (r : PageRequest) (a : Paged A) (s : Subject A) : Type 0 where
+    pub name : s.name.now ≡ string_bytes r.plan
+    pub digest : s.digest ≡ sha256 a.texts.plan.text.items
+    pub version : s.version.now ≡ VERSION.now
+    pub plan : s.plan.now ≡ a.texts.plan.plan
+    pub limits : s.limits ≡ r.limits
+    pub risks : s.risks.now ≡ a.texts.risks
+    pub ranking : s.ranking.now ≡ a.found.ranking
+    pub grade : s.grade.now ≡ a.found.grade
+    pub change : IsSameChange s.change a.change
+    pub outcomes : s.outcomes.now ≡ a.found.outcomes.items
+    pub pictures : s.pictures.now ≡ a.found.pictures.items
+
+  -- a page was written that shows this, or the sink failed
+  abbrev pub PagePrints : PageRequest → Paged A → Printing
+  PagePrints r a old new marked_old marked_new result = (s : Subject A) × IsSubjectOf r a s
+      × ShowedBy (record { taken = old; shown = None; failed = marked_old })
+      (record { taken = new; shown = None; failed = marked_new }) (page_texts s) result
+
+  -- status 0 if a certificate was found
+  abbrev pub PageEnds : Paged A → Result (Ending A) CommandFault → Type 0
+  PageEnds a = EndsWith (if is_safe a.found.ranking then 0 else 1)

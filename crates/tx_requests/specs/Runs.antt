@@ -1,0 +1,19 @@
+-- The command `run`.
+use Rattle.std.specs.Prelude.{Bool, Option, None, Some, String, Result}
+use Rattle.tx_text.specs.Ends.{Input, Output}
+use Rattle.tx_plan.specs.declared.limits.Limits.{Limits}
+use Rattle.tx_jobs.specs.Jobs.{RunJobAnswers}
+use Rattle.tx_jobs.specs.CheckedJobs.{CheckedJobAnswers}
+use Rattle.tx_requests.specs.declared.ending.Ending.{Ending}
+use Rattle.tx_requests.specs.declared.fault.CommandFault.{CommandFault}
+use Rattle.tx_requests.specs.Ending.{EndsWith}
+use Rattle.tx_requests.specs.Jobs.{IsJobDone, checked_status}
+
+-- `run PLAN SCRIPT`, after a Yes to a certificate if there is one, which is read before the script
+abbrev pub IsRunDone : {A Z : Type 0} → Option (String Z × Limits) → (first second third : Input)
+    → Output → (marked_old marked_new : Bool) → Result (Ending A) CommandFault → Type 0
+IsRunDone None first second third out old new result = third.unread
+    × IsJobDone (RunJobAnswers first second out) (λ summary. EndsWith 0) old new result
+IsRunDone (Some (cert, limits)) first second third out old new result = IsJobDone
+    (CheckedJobAnswers limits.limit limits.spare first second third out)
+    (λ checked. EndsWith (checked_status checked)) old new result

@@ -1,0 +1,68 @@
+// What is asked of a plan by names: an exchange, a code, and groups.
+ghost use Rattle.std.specs.Prelude.{◌≡◌, IfOk, option_map};
+ghost use Rattle.std.specs.Result.{result_map_both};
+ghost use Rattle.tx_requests.specs.Asked.{names_in, groups_named, groups_in, asked_of};
+ghost use Rattle.tx_requests.specs.inner.Answered.{IsAnswered};
+
+use crate::fault::CommandFault;
+use std::alloc::Allocator;
+use tx_plan::{CodeId, ExchangeId, GroupId, Plan};
+use tx_text::NoMemory;
+
+/// The exchange of a name, the code of some figures, and the groups that a word names, with a comma
+/// between two.
+pub(crate) fn asked_of<A: Allocator + Copy>(
+    alloc: A,
+    plan: &Plan<A>,
+    exchange: &[u8],
+    code: &[u8],
+    groups: Option<&str>,
+) -> Result<(ExchangeId, CodeId, Vec<GroupId, A>), CommandFault>
+    ensures { IsAnswered
+        (asked_of plan.now exchange.now code.now (option_map (λ w. w.now) groups.entry)) result }
+{
+    let Some(exchange) = plan.exchange_named(exchange) else {
+        return Err(CommandFault::NoSuchExchange);
+    };
+    let Some(code) = plan.code_named(code) else {
+        return Err(CommandFault::NoSuchCode);
+    };
+    match groups_in(alloc, plan, groups)? {
+        Ok(groups) => Ok((exchange, code, groups)),
+        Err(place) => Err(CommandFault::NoSuchGroup(place)),
+    }
+}
+
+/// The groups that a word names, or the place of the first name of which the plan has none, from 0.
+/// None without a word.
+fn groups_in<A: Allocator + Copy>(
+    alloc: A,
+    plan: &Plan<A>,
+    word: Option<&str>,
+) -> Result<Result<Vec<GroupId, A>, usize>, NoMemory>
+    ensures { IfOk result (λ named. result_map_both (λ gs. gs.items) (λ place. place) named
+        ≡ groups_in plan.now (option_map (λ w. w.now) word.entry)) }
+{
+    match word {
+        Some(word) => groups_named(alloc, plan, word),
+        None => Ok(Ok(Vec::new(alloc))),
+    }
+}
+
+fn groups_named<A: Allocator + Copy>(
+    alloc: A,
+    plan: &Plan<A>,
+    word: &str,
+) -> Result<Result<Vec<GroupId, A>, usize>, NoMemory>
+    ensures { IfOk result (λ named. result_map_both (λ gs. gs.items) (λ place. place) named
+        ≡ groups_named plan.now (names_in word.now)) }
+{
+    let mut groups = Vec::new(alloc);
+    for name in word.split(',') {
+        match plan.group_named(name.as_bytes()) {
+            Some(group) => groups.push(group)?,
+            None => return Ok(Err(groups.len())),
+        }
+    }
+    Ok(Ok(groups))
+}

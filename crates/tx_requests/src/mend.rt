@@ -1,0 +1,56 @@
+// The command `mend`.
+ghost use Rattle.tx_requests.specs.Mend.{MendAnswers, mend_prints, MendEnds};
+ghost use Rattle.tx_requests.specs.TwoPlans.{IsSaid};
+
+use crate::ending::Ending;
+use crate::fault::CommandFault;
+use crate::made::{Made, Shown};
+use crate::request::Request;
+use crate::revising::text_if_asked;
+use crate::two_plans::PlanText;
+use std::alloc::Allocator;
+use tx_commands::MendRequest;
+use tx_mend::{Mending, mend, write_mending};
+use tx_text::{Sink, WriteFault};
+
+impl<A: Allocator + Copy> Request<A> for MendRequest {
+    type Texts = PlanText<A>;
+
+    type Answer = (Vec<u8, A>, Mending<A>);
+
+    ghost fits = { IsSaid };
+
+    ghost answers = { MendAnswers };
+
+    ghost prints = { mend_prints };
+
+    ghost ends = { MendEnds };
+
+    fn answer(&self, alloc: A, texts: Self::Texts) -> Result<Self::Answer, CommandFault> {
+        let mending = mend(alloc, texts.plan, self.limits)?;
+        Ok((texts.text, mending))
+    }
+
+    fn print<W: Sink>(&self, answer: &Self::Answer, out: &mut W) -> Result<(), WriteFault> {
+        write_mending(&answer.1, self.limits, true, out)
+    }
+
+    fn end(&self, alloc: A, answer: Self::Answer) -> Result<Ending<A>, CommandFault> {
+        let (text, mending) = answer;
+        match mending {
+            Mending::Mended(plan, _, cert) => {
+                plan.rules();
+                let text = text_if_asked(alloc, self.mended.is_some(), &text, &plan)?;
+                Ok(Ending {
+                    status: 0,
+                    made: Some(Made {
+                        shown: Shown::Plan(plan),
+                        text,
+                        cert: Some(cert),
+                    }),
+                })
+            }
+            Mending::NoRouting(..) => Ok(Ending::of(1)),
+        }
+    }
+}
