@@ -121,7 +121,8 @@ def causes(plan, nets, limit, spare):
             if least > limit + 1:
                 unserved += 1
                 rows.append(f"F5 UNSERVED {code} {x} " + (f"GROUPS {on[x]}" if least == NO_RANK else f"RANK {least}"))
-        missing = [f" {x} {spare + 1 - on[x]}" for x in net.rest if net.least(x, spare) == NO_RANK and on[x]]
+        near = {x: net.leading_on(x, limit - 1, spare) for x in net.rest}
+        missing = [f" {x} {spare + 1 - near[x]}" for x in net.rest if net.least(x, spare) > limit + 1 and near[x]]
         if unserved:
             ends.append(f"CODE {code} UNSERVED {unserved}" + " MISSING" * bool(missing) + "".join(missing))
     return rows, ends

@@ -127,6 +127,6 @@ pub static PLAN_CODES: [Entry; 21] = [
         "F5",
         "UNSERVED",
         "Calls for the code may start at the exchange, and no lists over the groups of the plan can serve it.",
-        "With RANK r: ask for L = r - 1 or more, or add groups that lead more directly. With GROUPS n: add groups from an exchange that the line of the code names after MISSING, to one that can be served within L, and ask again. Where n is 0, no group leads to such an exchange yet: look further on, or ask for a greater L. Or ask for a smaller k, or bar such calls.",
+        "With RANK r: ask for L = r - 1 or more, or add groups that lead more directly. With GROUPS n: add groups from an exchange that the line of the code names after MISSING, and ask again. Where none is named, no group leads near enough to the home yet: look further on, or ask for a greater L. Or ask for a smaller k, or bar such calls.",
     ],
 ];

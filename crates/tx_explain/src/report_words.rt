@@ -252,8 +252,8 @@ pub static REPORT_WORDS: [Entry; 48] = [
     [
         "MISSING",
         "GroupsMissing",
-        "From each exchange behind it some groups lead to exchanges that can be served within the limit, and so many more are needed.",
-        "Add groups from there to an exchange that can be served within the limit.",
+        "From each exchange behind it some groups lead near enough to the home for the limit, and so many more are needed.",
+        "Add groups from there to the home, or to an exchange that can be served with one transit less.",
     ],
     [
         "DISTINCT",

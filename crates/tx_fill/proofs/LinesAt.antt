@@ -153,6 +153,12 @@ module _ {A : Type 0} where
   got_back (x ∷ xs) ys zero far = absurd (omega arith)
   got_back (x ∷ xs) ys (suc i) far = got_back xs ys i (omega arith) ∙ ap (slice_get ys) (omega arith)
 
+  -- behind the first k
+  pub got_behind : (k : ℕ) (xs : List A) (i : ℕ) → slice_get (drop k xs) i ≡ slice_get xs (k + i)
+  got_behind zero xs i = refl
+  got_behind (suc k) [] i = refl
+  got_behind (suc k) (x ∷ xs) i = got_behind k xs i
+
 -- of both at once
 module _ {A B : Type 0} where
   pub zip_both : (xs : List A) (ys : List B) (i : ℕ) (x : A) (y : B) → slice_get xs i ≡ Some x

@@ -1,5 +1,5 @@
 -- The lines that call and are called, in order.
-use Rattle.std.specs.Prelude.{ℕ, Bool, ◌+◌, ◌-◌, ◌==◌, if◌then◌else◌, List, [], ◌++◌, length, map, replicate, decimal}
+use Rattle.std.specs.Prelude.{ℕ, Bool, ◌+◌, ◌-◌, ◌==◌, if◌then◌else◌, List, [], ◌++◌, length, map, drop, replicate, decimal}
 use Rattle.std.specs.List.{flat_map, range_with_len, zip}
 use Rattle.std.specs.Str.Parse.{digits_value}
 use Rattle.tx_plan.specs.Plan.{Plan, home_of}
@@ -35,7 +35,12 @@ lines_in p whose r =
 abbrev pub lines_of : Plan → Whose → List Line
 lines_of p whose = flat_map (lines_in p whose) p.ranges
 
+-- the lines of the code c that are called from x: at its home all but the first one, so no line calls
+-- itself
+abbrev pub called_from : Plan → (x c : ℕ) → List Line
+called_from p x c = drop (if home_of p c == x then 1 else 0) (lines_of p (Of c))
+
 -- the lines at home at x, each with the line of the code c that it calls: the first with the first
 -- one, and so on, until there is no other one there or here
 abbrev pub line_pairs : Plan → (x c : ℕ) → List (Line × Line)
-line_pairs p x c = zip (lines_of p (At x)) (lines_of p (Of c))
+line_pairs p x c = zip (lines_of p (At x)) (called_from p x c)

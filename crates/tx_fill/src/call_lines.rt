@@ -32,7 +32,8 @@ impl Whose {
     }
 }
 
-/// The line at an index that calls from the exchange, and the one of the code that it calls.
+/// The line at an index that calls from the exchange, and the one of the code that it calls: at the
+/// home of the code the next one.
 pub(crate) fn pair_at<A: Allocator>(
     plan: &Plan<A>,
     exchange: ExchangeId,
@@ -43,7 +44,8 @@ pub(crate) fn pair_at<A: Allocator>(
     ensures few { IfSome result (λ _. index < 2 ^ 63) }
 {
     let line = line_at(plan, &Whose::At(exchange), index)?;
-    let called = line_at(plan, &Whose::Of(code), index)?;
+    let own = u64::from(plan.home(code) == exchange);
+    let called = line_at(plan, &Whose::Of(code), own + index)?;
     Some((line, called))
 }
 

@@ -10,7 +10,7 @@ use Rattle.tx_text.specs.declared.sink.WriteFault.{WriteFault}
 use Rattle.tx_text.specs.Puts.{PutsBy, Puts}
 use Rattle.tx_text.proofs.Writing.{append_known-nil, append_known_twice}
 use Rattle.tx_html.specs.Escaped.{escaped}
-use Rattle.tx_html.specs.Shows.{Shows, Seen, seen_by, append_texts, HasShown, ShowedBy, Showed, SetsBy, Sets}
+use Rattle.tx_html.specs.Shows.{Shows, Seen, seen_by, append_texts, ShowedBy, Showed, SetsBy, Sets}
 
 -- ---- bytes that show texts
 

@@ -3,13 +3,14 @@ use Rattle.std.specs.Prelude.{◌≡◌, ℕ, Bool, true, false, List, [], ◌�
 use Rattle.std.specs.Io.KnownBytes.{append_known}
 use Rattle.tx_text.specs.declared.sink.WriteFault.{WriteFault}
 use Rattle.tx_html.specs.declared.part.Part.{Part}
-use Rattle.tx_html.specs.declared.part.Part.TheVariants.{Own, Place, Text, Count}
+use Rattle.tx_html.specs.declared.part.Part.TheVariants.{Own, Value, Size, Text, Count}
 use Rattle.tx_html.specs.Escaped.{escaped}
 
 -- the texts that a part of a page shows
 abbrev pub part_texts : Part → List (List ℕ)
 part_texts (Own words) = []
-part_texts (Place number) = []
+part_texts (Value words number) = []
+part_texts (Size wide high) = []
 part_texts (Text text) = text.now ∷ []
 part_texts (Count number) = decimal number ∷ []
 

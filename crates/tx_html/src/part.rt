@@ -6,13 +6,16 @@ use crate::escaped::write_escaped;
 use itoa::Buffer;
 use tx_text::{Sink, put_bytes};
 
-/// A part of a page. A text of a plan cannot be `Own`, which takes words of the program alone.
+/// A part of a page. A text of a plan cannot be `Own`, which takes words of the program alone, and
+/// a number stands between the quotes of an attribute, or the page shows it.
 #[derive(Clone, Copy)]
 pub enum Part<'a> {
     /// Markup, and words of the page's own.
     Own(&'static str),
-    /// A number in the markup, such as the place of a box.
-    Place(u64),
+    /// The value of an attribute, after its name: words of the page's own, and then a number.
+    Value(&'static str, u64),
+    /// The value of an attribute that says how wide and how high a picture is.
+    Size(u64, u64),
     /// A text that the page shows.
     Text(&'a [u8]),
     /// A number that the page shows.
@@ -26,17 +29,45 @@ pub(crate) fn set_part<W: Sink>(part: Part<'_>, sink: &mut W)
     let mut buffer = Buffer::new();
     match part {
         Part::Own(words) => set_own(words.as_bytes(), sink),
-        Part::Place(number) => set_own(buffer.format(number).as_bytes(), sink),
+        Part::Value(words, number) => set_value(words, number, sink),
+        Part::Size(wide, high) => set_size(wide, high, sink),
         Part::Text(text) => set_text(text, sink),
         Part::Count(number) => set_text(buffer.format(number).as_bytes(), sink),
     }
 }
 
 /// Sets markup.
-fn set_own<W: Sink>(bytes: &[u8], sink: &mut W)
+pub(crate) fn set_own<W: Sink>(bytes: &[u8], sink: &mut W)
     ensures { Sets (seen_by W.taken W.failed) sink.old sink.new [] }
 {
     put_bytes(bytes, sink);
+}
+
+/// Sets a number in markup.
+pub(crate) fn set_number<W: Sink>(number: u64, sink: &mut W)
+    ensures { Sets (seen_by W.taken W.failed) sink.old sink.new [] }
+{
+    set_own(Buffer::new().format(number).as_bytes(), sink);
+}
+
+/// Sets the value of an attribute.
+fn set_value<W: Sink>(words: &'static str, number: u64, sink: &mut W)
+    ensures { Sets (seen_by W.taken W.failed) sink.old sink.new [] }
+{
+    set_own(b"=\"", sink);
+    set_own(words.as_bytes(), sink);
+    set_number(number, sink);
+    set_own(b"\"", sink);
+}
+
+fn set_size<W: Sink>(wide: u64, high: u64, sink: &mut W)
+    ensures { Sets (seen_by W.taken W.failed) sink.old sink.new [] }
+{
+    set_own(b"=\"0 0 ", sink);
+    set_number(wide, sink);
+    set_own(b" ", sink);
+    set_number(high, sink);
+    set_own(b"\"", sink);
 }
 
 /// Sets a text, escaped.

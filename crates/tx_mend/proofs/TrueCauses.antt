@@ -1,5 +1,5 @@
 -- Why an exchange cannot be served.
-use Rattle.std.proofs.Common.{◌≡◌, ℕ, suc, ◌+◌, ◌<◌, ◌≤◌, true, nat_lt, length, Option, Some, None, inl, inr, refl, sym, ap, ◌∙◌, arith}
+use Rattle.std.proofs.Common.{◌≡◌, ℕ, suc, ◌+◌, ◌<◌, ◌≤◌, true, false, nat_lt, length, Option, Some, None, inl, inr, refl, sym, ap, ◌∙◌, arith}
 use Rattle.std.specs.Prelude.{filter, is_some, is_none, option_and_then}
 use Rattle.std.specs.Option.{option_map_or}
 use Rattle.std.proofs.lemmas.Bool.{and_parts, cases_lt, lt-ltb, false≢true}
@@ -9,7 +9,7 @@ use Rattle.tx_plan.specs.Circuits.{other_end}
 use Rattle.tx_mend.specs.declared.cause.Cause.TheVariants.{Rank, Groups}
 use Rattle.tx_mend.specs.Routings.{CanBeServed}
 use Rattle.tx_mend.specs.LeastRanks.{RanksOfCode, outgoing, leads_on, can_follow}
-use Rattle.tx_mend.specs.Unserved.{groups_on, no_limit, unlimited_rank, cause_of, lacks_groups}
+use Rattle.tx_mend.specs.Unserved.{groups_on, groups_near, no_limit, unlimited_rank, cause_of}
 use Rattle.tx_mend.specs.Laws.{LeadsToServed, AreLeadingOn, IsTrueCause, CausesAreTrue}
 use Rattle.tx_mend.proofs.RoundRanks.{Ranked, within, stays_on, in_round, follows_next}
 use Rattle.tx_mend.proofs.Mendable.{serves}
@@ -40,13 +40,13 @@ module _ (p : Plan) (code spare : ℕ) where
     | inr l ↦ l
   ]
 
-  -- where groups are missing, there are too few
-  pub lacks_few : (limit x : ℕ) → limit ≤ 253 → lacks_groups p code limit spare x ≡ true → groups_on p code limit spare x ≤ spare
-  lacks_few limit x h t = few_on limit x h (none (unlimited_rank p code spare x) (and_parts (is_none (unlimited_rank p code spare x)) (nat_lt 0 (groups_on p code limit spare x)) t).0)
-    where
-      none : (o : Option ℕ) → is_none o ≡ true → o ≡ None
-      none None e = refl
-      none (Some r) e = let bad : ⊥ = cc in absurd bad
+  -- an exchange that is not served within the limit has too few groups to those of a rank up to it
+  pub few_near : (limit x : ℕ) → is_none (Round (suc limit) x) ≡ true → groups_near p code limit spare x ≤ spare
+  few_near limit x none = elim (cases_lt spare (groups_near p code limit spare x)) [
+    | inl l ↦ (let f = follows_next (home_of p code) (can_follow p spare) limit x (lt-ltb spare (groups_near p code limit spare x) l) in
+        let e = ap is_none f.1 in let bad : true ≡ false = sym none ∙ e in absurd (false≢true (sym bad)))
+    | inr l ↦ l
+  ]
 
   module _ (ok : IsPlan p) (known : code < length p.codes) (small : spare ≤ 15) where
     served : (limit x r : ℕ) → Round (suc limit) x ≡ Some r → CanBeServed p code limit spare x

@@ -3,7 +3,7 @@ ghost use Rattle.std.specs.Prelude.{◌≡◌, ◌<◌, ◌++◌, map, length, I
 ghost use Rattle.std.specs.Option.{option_copied};
 ghost use Rattle.tx_rank.specs.Judged.{AreOrigins};
 ghost use Rattle.tx_mend.specs.LeastRanks.{indexes, outgoing, least_rank};
-ghost use Rattle.tx_mend.specs.Unserved.{groups_on, unlimited_rank, cause_of, unserved_for, unserved, lacks_groups, lacking_at, missing_for, missing};
+ghost use Rattle.tx_mend.specs.Unserved.{groups_on, groups_near, near_rank, unlimited_rank, cause_of, unserved_for, unserved, lacks_groups, lacking_at, missing_for, missing};
 ghost use Rattle.tx_mend.specs.inner.CodeRanks.{rank_list, code_ranks};
 
 use crate::cause::{Cause, Missing, Unserved};
@@ -19,8 +19,8 @@ use tx_text::NoMemory;
 /// Rounds that rank whatever can be ranked: there are at most 256 exchanges.
 const UNLIMITED: u8 = 255;
 
-/// The least ranks of the exchanges of a plan for a code, within the limit and without one, and the
-/// groups that each exchange may seize.
+/// The least ranks of the exchanges of a plan for a code, within the limit and without one, those up to
+/// the limit, and the groups that each exchange may seize.
 #[derive(Drop)]
 struct Reach<'a, A: Allocator> {
     plan: &'a Plan<A>,
@@ -28,11 +28,15 @@ struct Reach<'a, A: Allocator> {
     limits: Limits,
     code: CodeId,
     least: &'a [Option<u8>],
+    near: &'a [Option<u8>],
     unlimited: &'a [Option<u8>],
     ghost groups: { seizable.now ≡ map (outgoing plan.now) (indexes (length plan.now.exchanges)) },
+    ghost wide: { length least.now ≡ length plan.now.exchanges },
     ghost long: { length unlimited.now ≡ length plan.now.exchanges },
     ghost within: { least.now ≡ rank_list plan.now
         (least_rank plan.now code limits.limit limits.spare) },
+    ghost below: { near.now ≡ rank_list plan.now
+        (near_rank plan.now code limits.limit limits.spare) },
     ghost without: { unlimited.now ≡ rank_list plan.now
         (unlimited_rank plan.now code limits.spare) },
 }
@@ -47,6 +51,18 @@ fn unlimited_ranks<A: Allocator + Copy>(
         (unlimited_rank task.now.plan.now code task.now.limits.spare)) }
 {
     least_ranks(alloc, task, code, UNLIMITED)
+}
+
+/// The least ranks up to the limit.
+fn near_ranks<A: Allocator + Copy>(
+    alloc: A,
+    task: &Task<'_, A>,
+    code: CodeId,
+) -> Result<Vec<Option<u8>, A>, NoMemory>
+    ensures { IfOk result (λ ranks. ranks.items ≡ rank_list task.now.plan.now
+        (near_rank task.now.plan.now code task.now.limits.limit task.now.limits.spare)) }
+{
+    least_ranks(alloc, task, code, task.limits.limit)
 }
 
 /// How many groups lead on from an exchange.
@@ -97,13 +113,23 @@ fn add_unserved<A: Allocator>(
     Ok(())
 }
 
-/// Whether too few groups lead on from an exchange, but some.
+/// How many groups lead from an exchange to those of a rank up to the limit.
+fn groups_near<A: Allocator>(reach: &Reach<'_, A>, exchange: ExchangeId) -> usize
+    requires { exchange < length reach.now.plan.now.exchanges }
+    ensures { result ≡ groups_near reach.now.plan.now reach.now.code
+        reach.now.limits.limit reach.now.limits.spare exchange }
+{
+    let groups = groups_at(reach.seizable, exchange);
+    count_on(reach.plan, reach.near, exchange, groups)
+}
+
+/// Whether too few groups lead from an exchange to those of a rank up to the limit, but some.
 fn lacks_groups<A: Allocator>(reach: &Reach<'_, A>, exchange: ExchangeId) -> bool
     requires { exchange < length reach.now.plan.now.exchanges }
     ensures { result ≡ lacks_groups reach.now.plan.now reach.now.code
         reach.now.limits.limit reach.now.limits.spare exchange }
 {
-    reach.unlimited[exchange.index()].is_none() && groups_on(reach, exchange) > 0
+    reach.least[exchange.index()].is_none() && groups_near(reach, exchange) > 0
 }
 
 /// Appends each exchange where groups are missing for the code.
@@ -120,7 +146,7 @@ fn add_missing<A: Allocator>(
     for index in 0..reach.plan.exchanges() {
         let exchange = ExchangeId::of(index);
         if lacks_groups(reach, exchange) {
-            let groups = enough - groups_on(reach, exchange);
+            let groups = enough - groups_near(reach, exchange);
             missing.push(Missing {
                 code,
                 exchange,
@@ -156,6 +182,7 @@ fn add_lacking<A: Allocator + Copy>(
     if all_ranked(task.plan, task.origins, code, least) {
         return Ok(());
     }
+    let near = near_ranks(alloc, task, code)?;
     let unlimited = unlimited_ranks(alloc, task, code)?;
     let reach = Reach {
         plan: task.plan,
@@ -163,6 +190,7 @@ fn add_lacking<A: Allocator + Copy>(
         limits: task.limits,
         code,
         least,
+        near: &near,
         unlimited: &unlimited,
     };
     add_unserved(&reach, task.origins, &mut lacking.unserved)?;

@@ -54,13 +54,25 @@ abbrev pub stage_texts : Order → ℕ → List (List ℕ)
 stage_texts o s = (decimal (s + 1) ∷ [])
     ++ table_texts o.transition.new (plan_before o s) (plan_before o (s + 1))
 
+-- whether there is a safe order of switching
+abbrev pub order_word : (ordered : Bool) → List ℕ
+order_word true = codes "a safe order"
+order_word false = codes "no safe order"
+
+-- that there is an order, and its stages
+abbrev pub stages_texts : Order → List (List ℕ)
+stages_texts o = order_word true ∷ texts_below (stages_in o) (stage_texts o)
+
+-- that there is none, and all that differs
+abbrev pub difference_texts : (old new : Plan) → List (List ℕ)
+difference_texts old new = order_word false ∷ table_texts new old new
+
 module _ {A : Type 0} where
   -- the stages of an order, if there is one and the new plan is safe; else all that differs over
   -- the joined network
   abbrev pub switching_texts : (safe : Bool) → Joined A → Switching A → List (List ℕ)
-  switching_texts safe j (Ordered o) = if safe then texts_below (stages_in o) (stage_texts o)
-      else table_texts j.new j.old j.new
-  switching_texts safe j (NoOrder p before after) = table_texts j.new j.old j.new
+  switching_texts safe j (Ordered o) = if safe then stages_texts o else difference_texts j.old j.new
+  switching_texts safe j (NoOrder p before after) = difference_texts j.old j.new
 
   -- whether the plans differ beside lists and bars, and what is switched
   abbrev pub change_texts : (safe : Bool) → Change A → List (List ℕ)

@@ -32,5 +32,5 @@ module _ {A : Type 0} where
       ++ (asked_change_texts (is_safe s.ranking.now) s.change
       ++ (codes_texts s.plan.now s.grade.now.codes.items
       ++ (outages_texts s.plan.now s.risks.now s.outcomes.now (is_some s.grade.now.plan)
-      ++ (pictures_texts s.plan.now s.pictures.now
+      ++ (pictures_texts s.plan.now s.grade.now s.pictures.now
       ++ network_texts s.plan.now)))))

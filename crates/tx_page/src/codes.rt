@@ -92,9 +92,9 @@ fn write_figures<A: Allocator, W: PageSink>(
     }
     set(
         &[
-            Part::Own("<tr><th scope=\"row\"><a href=\"#c"),
-            Part::Place(code.index() as u64),
-            Part::Own("\">"),
+            Part::Own("<tr><th scope=\"row\"><a href"),
+            Part::Value("#c", code.index() as u64),
+            Part::Own(">"),
             Part::Text(figures),
             Part::Own("</a>"),
         ],

@@ -74,7 +74,7 @@ pub fn write_page<A: Allocator, W: PageSink>(
     write_asked_change(&subject.change, safe, sink);
     write_codes(plan, subject.grade, linked, sink);
     write_outages(plan, subject.risks, subject.outcomes, graded, sink);
-    write_pictures(plan, subject.pictures, findings, sink);
+    write_pictures(plan, subject.grade, subject.pictures, findings, sink);
     write_network(plan, sink);
     set(&[Part::Own("</main></body></html>\n")], sink);
     sink.finish()

@@ -34,7 +34,7 @@ impl TextKind {
     /// The word that begins its header, and the greatest version of it. A page has none.
     fn header(self) -> Option<(&'static [u8], u8)> {
         match self {
-            TextKind::Plan => Some((b"PLAN", 2)),
+            TextKind::Plan => Some((tx_plantext::KEY, tx_plantext::VERSIONS)),
             TextKind::Cert => Some((b"CERT", 1)),
             TextKind::Script => Some((b"SCRIPT", 1)),
             TextKind::Risks => Some((b"RISKS", 1)),

@@ -1,3 +1,4 @@
 pub mod Indexed
 pub mod ListTexts
 pub mod RingTexts
+pub mod inner

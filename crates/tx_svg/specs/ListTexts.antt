@@ -1,8 +1,11 @@
 -- What a page shows of the lists.
-use Rattle.std.specs.Prelude.{ℕ, List, [], ◌∷◌, ◌++◌, length, map}
-use Rattle.std.specs.List.{flat_map}
+use Rattle.std.specs.Prelude.{ℕ, ◌+◌, Bool, true, false, if◌then◌else◌, List, [], ◌∷◌, ◌++◌, length, map, max, Option, is_some, unwrap_or, slice_get, decimal}
+use Rattle.std.specs.List.{flat_map, fold, range_with_len}
+use Rattle.std.specs.Option.{option_map_or}
 use Rattle.tx_plan.specs.Plan.{Plan, exchange_name, figures_of, group_name, home_of}
 use Rattle.tx_plan.specs.Routes.{route_list}
+use Rattle.tx_cert.specs.Certificate.{ranks_of}
+use Rattle.tx_rank.specs.declared.plan_grade.Grade.{Grade}
 use Rattle.tx_svg.specs.declared.picture.Picture.{Picture}
 use Rattle.tx_svg.specs.Indexed.{texts_below}
 
@@ -11,11 +14,29 @@ abbrev pub box_texts : Plan → (c x : ℕ) → List (List ℕ)
 box_texts p c x = exchange_name p x
     ∷ (map (group_name p) (route_list p x c) ++ exchange_name p x ∷ [])
 
--- a code, its home, and all exchanges with their lists for it
-abbrev pub picture_texts : Plan → ℕ → List (List ℕ)
-picture_texts p c = (figures_of p c ∷ exchange_name p (home_of p c) ∷ [])
-    ++ texts_below (length p.exchanges) (box_texts p c)
+-- the greatest rank of the first n exchanges, and 0 if none of them has one
+abbrev pub greatest_rank : (ranks : ℕ → Option ℕ) → (n : ℕ) → ℕ
+greatest_rank ranks n = fold max 0 (map (λ x. unwrap_or (ranks x) 0) (range_with_len 0 n))
 
--- the lists for each code of these pictures
-abbrev pub pictures_texts : {A : Type 0} → Plan → List (Picture A) → List (List ℕ)
-pictures_texts p pictures = flat_map (λ q. picture_texts p q.code) pictures
+-- the number of the column after the first n beside the home's
+abbrev pub column_texts : ℕ → List (List ℕ)
+column_texts n = decimal (n + 1) ∷ []
+
+module _ {A : Type 0} where
+  -- the code has a grade
+  abbrev pub is_graded : Grade A → ℕ → Bool
+  is_graded g c = option_map_or (λ q. is_some q.1) (slice_get g.codes.items c) false
+
+  -- the ranks from 1 to the greatest one, if the code has a grade
+  abbrev pub ranks_texts : Plan → Grade A → ℕ → List (List ℕ)
+  ranks_texts p g c = if is_graded g c
+      then texts_below (greatest_rank (ranks_of g.ranks c) (length p.exchanges)) column_texts else []
+
+  -- a code, its home, its ranks, and all exchanges with their lists for it
+  abbrev pub picture_texts : Plan → Grade A → ℕ → List (List ℕ)
+  picture_texts p g c = (figures_of p c ∷ exchange_name p (home_of p c) ∷ [])
+      ++ (ranks_texts p g c ++ texts_below (length p.exchanges) (box_texts p c))
+
+  -- the lists for each code of these pictures
+  abbrev pub pictures_texts : Plan → Grade A → List (Picture A) → List (List ℕ)
+  pictures_texts p g pictures = flat_map (λ q. picture_texts p g q.code) pictures

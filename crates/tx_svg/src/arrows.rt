@@ -2,10 +2,9 @@
 ghost use Rattle.std.specs.Prelude.{[]};
 ghost use Rattle.tx_html.specs.Shows.{Sets};
 
-use crate::findings::finding_goes;
+use crate::findings::is_wrong;
 use crate::picture::Picture;
-use crate::spot::{Spot, TOP};
-use crate::ways::{Point, entry_of, exit_of, head_of, tip_of};
+use crate::ways::{Way, head_of};
 use std::alloc::Allocator;
 use tx_html::{PageSink, Part, set};
 use tx_plan::{CodeId, ExchangeId, GroupId, Plan};
@@ -150,7 +149,7 @@ fn arrow_to<A: Allocator>(
         return None;
     }
     let to = first_to(plan, exchange, list, index)?;
-    let choice = if finding_goes(findings, code, exchange, to) {
+    let choice = if is_wrong(findings, code, exchange, to) {
         Choice::Wrong
     } else {
         Choice::at(index)
@@ -185,157 +184,22 @@ fn write_arrow<A: Allocator, W: PageSink>(
     ensures { Sets W.seen sink.old sink.new [] }
 {
     match (picture.spot(from), head_of(plan, picture, from, to)) {
-        (Some(tail), Some(head)) => write_between(picture, tail, head, sink),
+        (Some(tail), Some(head)) => write_way(
+            &Way {
+                picture,
+                tail,
+                head,
+            },
+            sink,
+        ),
         _ => {}
     }
 }
 
-/// Writes an arrow between two places.
-fn write_between<A: Allocator, W: PageSink>(
-    picture: &Picture<A>,
-    tail: Spot,
-    head: Spot,
-    sink: &mut W,
-)
+fn write_way<A: Allocator, W: PageSink>(way: &Way<'_, A>, sink: &mut W)
     ensures { Sets W.seen sink.old sink.new [] }
 {
-    set(&[Part::Own("<path d=\"M")], sink);
-    write_way(picture, tail, head, sink);
-    set(&[Part::Own("\"/>")], sink);
-}
-
-fn write_way<A: Allocator, W: PageSink>(picture: &Picture<A>, tail: Spot, head: Spot, sink: &mut W)
-    ensures { Sets W.seen sink.old sink.new [] }
-{
-    if tail.column == head.column {
-        write_aside(picture, tail, head, sink)
-    } else {
-        write_across(picture, tail, head, sink)
-    }
-}
-
-/// Writes an arrow from one column to another, which passes each column between them beside its
-/// boxes.
-fn write_across<A: Allocator, W: PageSink>(
-    picture: &Picture<A>,
-    tail: Spot,
-    head: Spot,
-    sink: &mut W,
-)
-    ensures { Sets W.seen sink.old sink.new [] }
-{
-    let last = tail.column.abs_diff(head.column).saturating_sub(1);
-    write_point(exit_of(picture, tail, head, 0), sink);
-    write_passings(picture, tail, head, last, sink);
-    write_bend(
-        exit_of(picture, tail, head, last),
-        tip_of(picture, tail, head),
-        sink,
-    );
-}
-
-/// Writes the way of an arrow past so many columns.
-fn write_passings<A: Allocator, W: PageSink>(
-    picture: &Picture<A>,
-    tail: Spot,
-    head: Spot,
-    last: u16,
-    sink: &mut W,
-)
-    ensures { Sets W.seen sink.old sink.new [] }
-{
-    for before in 0..last {
-        write_passing(picture, tail, head, before, sink);
-    }
-}
-
-/// Writes the way of an arrow past one column more.
-fn write_passing<A: Allocator, W: PageSink>(
-    picture: &Picture<A>,
-    tail: Spot,
-    head: Spot,
-    before: u16,
-    sink: &mut W,
-)
-    ensures { Sets W.seen sink.old sink.new [] }
-{
-    let passed = before.saturating_add(1);
-    write_bend(
-        exit_of(picture, tail, head, before),
-        entry_of(picture, tail, head, passed),
-        sink,
-    );
-    let exit = exit_of(picture, tail, head, passed);
-    set(&[Part::Own("H"), Part::Place(exit.x)], sink);
-}
-
-/// Writes an arrow from one box to another of its column, beside the boxes between them.
-fn write_aside<A: Allocator, W: PageSink>(
-    picture: &Picture<A>,
-    tail: Spot,
-    head: Spot,
-    sink: &mut W,
-)
-    ensures { Sets W.seen sink.old sink.new [] }
-{
-    let right = picture.right(tail.column);
-    let down = tail.middle < head.middle;
-    let from = TOP + u64::from(tail.middle) + if down { 4 } else { 0 };
-    let to = TOP + u64::from(head.middle) + if down { 0 } else { 4 };
-    let aside = right.saturating_add(50);
-    let end = right.saturating_add(4);
-    write_point(Point { x: right, y: from }, sink);
-    write_curve(
-        Point { x: aside, y: from },
-        Point { x: aside, y: to },
-        Point { x: end, y: to },
-        sink,
-    );
-}
-
-fn write_point<W: PageSink>(point: Point, sink: &mut W)
-    ensures { Sets W.seen sink.old sink.new [] }
-{
-    set(
-        &[Part::Place(point.x), Part::Own(","), Part::Place(point.y)],
-        sink,
-    );
-}
-
-/// Writes the way from one place to another, level at both.
-fn write_bend<W: PageSink>(from: Point, to: Point, sink: &mut W)
-    ensures { Sets W.seen sink.old sink.new [] }
-{
-    let middle = from.x / 2 + to.x / 2;
-    write_curve(
-        Point {
-            x: middle,
-            y: from.y,
-        },
-        Point { x: middle, y: to.y },
-        to,
-        sink,
-    );
-}
-
-fn write_curve<W: PageSink>(first: Point, second: Point, end: Point, sink: &mut W)
-    ensures { Sets W.seen sink.old sink.new [] }
-{
-    set(
-        &[
-            Part::Own("C"),
-            Part::Place(first.x),
-            Part::Own(","),
-            Part::Place(first.y),
-            Part::Own(" "),
-            Part::Place(second.x),
-            Part::Own(","),
-            Part::Place(second.y),
-            Part::Own(" "),
-            Part::Place(end.x),
-            Part::Own(","),
-            Part::Place(end.y),
-        ],
-        sink,
-    );
+    set(&[Part::Own("<path")], sink);
+    sink.set_path(way);
+    set(&[Part::Own("/>")], sink);
 }

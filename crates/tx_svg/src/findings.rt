@@ -1,23 +1,16 @@
 // Which arrows the walks of findings take.
+ghost use Rattle.std.specs.Prelude.{◌≡◌};
+ghost use Rattle.tx_svg.specs.inner.WrongSteps.{goes, has_step, is_wrong};
+
 use std::alloc::Allocator;
 use tx_plan::{CodeId, ExchangeId};
 use tx_rank::{Finding, Walk};
 
-/// The code of a finding that has a walk, with the walk.
-fn walk_of<A: Allocator>(finding: &Finding<A>) -> Option<(CodeId, &Walk<A>)> {
-    match finding {
-        Finding::Ambiguous(_, _) => None,
-        Finding::Loop(code, walk) | Finding::Short(code, walk) | Finding::Long(code, walk) => {
-            Some((*code, walk))
-        }
-    }
-}
-
 /// Whether a finding is of the code and has a walk.
 fn is_of<A: Allocator>(finding: &Finding<A>, code: CodeId) -> bool {
-    match walk_of(finding) {
-        Some((of, _)) => of == code,
-        None => false,
+    match finding {
+        Finding::Ambiguous(_, _) => false,
+        Finding::Loop(of, _) | Finding::Short(of, _) | Finding::Long(of, _) => *of == code,
     }
 }
 
@@ -39,7 +32,9 @@ pub fn findings_of<A: Allocator>(findings: &[Finding<A>], code: CodeId) -> &[Fin
 }
 
 /// Whether a walk goes from one exchange to another.
-fn goes<A: Allocator>(walk: &Walk<A>, from: ExchangeId, to: ExchangeId) -> bool {
+fn goes<A: Allocator>(walk: &Walk<A>, from: ExchangeId, to: ExchangeId) -> bool
+    ensures { result ≡ goes walk.now.start walk.now.steps from to }
+{
     let mut at = walk.start;
     for step in walk.steps.as_slice() {
         if at == from && step.1 == to {
@@ -50,19 +45,33 @@ fn goes<A: Allocator>(walk: &Walk<A>, from: ExchangeId, to: ExchangeId) -> bool 
     false
 }
 
+/// Whether a finding is of the code, and its walk goes from one exchange to another.
+fn has_step<A: Allocator>(
+    finding: &Finding<A>,
+    code: CodeId,
+    from: ExchangeId,
+    to: ExchangeId,
+) -> bool
+    ensures { result ≡ has_step code from to finding.now }
+{
+    match finding {
+        Finding::Ambiguous(_, _) => false,
+        Finding::Loop(of, walk) | Finding::Short(of, walk) | Finding::Long(of, walk) => {
+            *of == code && goes(walk, from, to)
+        }
+    }
+}
+
 /// Whether the walk of a finding of the code goes from one exchange to another.
-pub fn finding_goes<A: Allocator>(
+pub fn is_wrong<A: Allocator>(
     findings: &[Finding<A>],
     code: CodeId,
     from: ExchangeId,
     to: ExchangeId,
-) -> bool {
-    for finding in findings {
-        if let Some((of, walk)) = walk_of(finding) {
-            if of == code && goes(walk, from, to) {
-                return true;
-            }
-        }
-    }
-    false
+) -> bool
+    ensures { result ≡ is_wrong findings.now code from to }
+{
+    findings
+        .iter()
+        .any(|finding| has_step(finding, code, from, to))
 }

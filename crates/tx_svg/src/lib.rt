@@ -10,6 +10,7 @@ mod frame;
 mod names;
 mod picture;
 mod pictures;
+mod ranks;
 mod ring;
 mod rows;
 mod seats;

@@ -3,6 +3,7 @@ ghost use Rattle.std.specs.Prelude.{◌≡◌, ◌<◌, length, IfOk};
 ghost use Rattle.tx_rank.specs.Judged.{AreOrigins};
 
 use crate::columns::{columns_by_distance, columns_by_rank};
+use crate::ranks::is_graded;
 use crate::rows::{count_boxes, height_of, place_rows, spot_of};
 use crate::spot::{BOX, COLUMN, LEFT, Spot};
 use std::alloc::{Allocator, Global};
@@ -10,12 +11,11 @@ use tx_plan::{CodeId, ExchangeId, Plan};
 use tx_rank::Grade;
 use tx_text::NoMemory;
 
-/// The picture of a code: its exchanges in columns, with the home at the right.
+/// The picture of a code: its exchanges in columns, with the home at the right. Of a code that has a
+/// grade the columns are ranks, so each group leads to the right. Else they are the least numbers of
+/// groups to the home.
 pub struct Picture<A: Allocator = Global> {
     pub code: CodeId,
-    /// Whether the columns are the ranks of a code that has a grade, so that each group leads to
-    /// the right. Else they are the least numbers of groups to the home.
-    pub ranked: bool,
     spots: Vec<Option<Spot>, A>,
     /// How many boxes each column has.
     boxes: Vec<u16, A>,
@@ -27,7 +27,6 @@ impl<A: Allocator> Drop for Picture<A> {
     fn drop(self) {
         let Self {
             code: _,
-            ranked: _,
             spots,
             boxes,
             high: _,
@@ -49,11 +48,7 @@ pub fn picture_of<A: Allocator + Copy>(
     requires origins { AreOrigins plan.now origins.now }
     ensures { IfOk result (λ picture. picture.code ≡ code) }
 {
-    let ranked = match grade.codes.get(code.index()) {
-        Some(graded) => graded.1.is_some(),
-        None => false,
-    };
-    let columns = if ranked {
+    let columns = if is_graded(grade, code) {
         columns_by_rank(alloc, plan, code, &grade.ranks)?
     } else {
         columns_by_distance(alloc, plan, origins, code)?
@@ -64,7 +59,6 @@ pub fn picture_of<A: Allocator + Copy>(
     let spots = place_rows(alloc, plan, code, &columns, last, high)?;
     Ok(Picture {
         code,
-        ranked,
         spots,
         boxes,
         high,

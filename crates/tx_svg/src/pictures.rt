@@ -1,18 +1,19 @@
 // The lists, code by code.
 ghost use Rattle.std.specs.Prelude.{[]};
 ghost use Rattle.tx_html.specs.Shows.{Sets};
-ghost use Rattle.tx_svg.specs.ListTexts.{picture_texts, pictures_texts};
+ghost use Rattle.tx_svg.specs.ListTexts.{picture_texts, pictures_texts, ranks_texts};
 
 use crate::arrows::write_arrows;
 use crate::boxes::write_boxes;
 use crate::findings::findings_of;
 use crate::frame::picture_height;
 use crate::picture::Picture;
+use crate::ranks::write_ranks;
 use crate::spot::{BOX, LEFT, TOP};
 use std::alloc::Allocator;
 use tx_html::{PageSink, Part, set};
 use tx_plan::Plan;
-use tx_rank::Finding;
+use tx_rank::{Finding, Grade};
 
 const KEY: &str =
     "<h2>Code by code</h2><p class=\"m key\">Each arrow is a group, or several to one \
@@ -22,52 +23,55 @@ d=\"M0,5H30\"/></svg> second, <svg width=\"34\" height=\"10\" aria-hidden=\"true
 class=\"a2\" d=\"M0,5H30\"/></svg> later, <svg width=\"34\" height=\"10\" aria-hidden=\"true\">\
 <path class=\"a3\" d=\"M0,5H30\"/></svg> in a finding. Point at an exchange for its list.</p>";
 
-/// Writes the picture of each code.
+/// Writes the picture of each code of a plan that has this grade.
 pub fn write_pictures<A: Allocator, W: PageSink>(
     plan: &Plan<A>,
+    grade: &Grade<A>,
     pictures: &[Picture<A>],
     findings: &[Finding<A>],
     sink: &mut W,
 )
     ensures { Sets W.seen sink.old sink.new
-        (pictures_texts plan.now pictures.now) }
+        (pictures_texts plan.now grade.now pictures.now) }
 {
     set(&[Part::Own(KEY)], sink);
-    write_all(plan, pictures, findings, sink);
+    write_all(plan, grade, pictures, findings, sink);
 }
 
 fn write_all<A: Allocator, W: PageSink>(
     plan: &Plan<A>,
+    grade: &Grade<A>,
     pictures: &[Picture<A>],
     findings: &[Finding<A>],
     sink: &mut W,
 )
     ensures { Sets W.seen sink.old sink.new
-        (pictures_texts plan.now pictures.now) }
+        (pictures_texts plan.now grade.now pictures.now) }
 {
     for i in 0..pictures.len() {
         let wrong = findings_of(findings, pictures[i].code);
         let open = i == 0 || pictures.len() < 4 || !wrong.is_empty();
-        write_picture(plan, &pictures[i], wrong, open, sink);
+        write_picture(plan, grade, &pictures[i], wrong, open, sink);
     }
 }
 
 /// Writes the picture of a code, which is open or closed at first.
 fn write_picture<A: Allocator, W: PageSink>(
     plan: &Plan<A>,
+    grade: &Grade<A>,
     picture: &Picture<A>,
     findings: &[Finding<A>],
     open: bool,
     sink: &mut W,
 )
     ensures { Sets W.seen sink.old sink.new
-        (picture_texts plan.now picture.now.code) }
+        (picture_texts plan.now grade.now picture.now.code) }
 {
     set(
         &[
-            Part::Own("<details id=\"c"),
-            Part::Place(picture.code.index() as u64),
-            Part::Own(if open { "\" open>" } else { "\">" }),
+            Part::Own("<details id"),
+            Part::Value("c", picture.code.index() as u64),
+            Part::Own(if open { " open>" } else { ">" }),
             Part::Own("<summary><h3>"),
             Part::Text(plan.code_figures(picture.code)),
             Part::Own("</h3> at "),
@@ -77,7 +81,7 @@ fn write_picture<A: Allocator, W: PageSink>(
         sink,
     );
     write_canvas(plan, picture, sink);
-    write_heads(plan, picture, sink);
+    write_heads(plan, grade, picture, sink);
     write_arrows(plan, picture, findings, sink);
     write_boxes(plan, picture, sink);
     set(&[Part::Own("</svg></details>")], sink);
@@ -90,39 +94,33 @@ fn write_canvas<A: Allocator, W: PageSink>(plan: &Plan<A>, picture: &Picture<A>,
     let height = picture_height(plan, picture);
     set(
         &[
-            Part::Own("<svg role=\"group\" aria-label=\"The lists as a picture\" viewBox=\"0 0 "),
-            Part::Place(width),
-            Part::Own(" "),
-            Part::Place(height),
-            Part::Own("\" width=\""),
-            Part::Place(width),
-            Part::Own("\" height=\""),
-            Part::Place(height),
-            Part::Own("\">"),
+            Part::Own("<svg role=\"group\" aria-label=\"The lists as a picture\" viewBox"),
+            Part::Size(width, height),
+            Part::Own(" width"),
+            Part::Value("", width),
+            Part::Own(" height"),
+            Part::Value("", height),
+            Part::Own(">"),
         ],
         sink,
     );
 }
 
 /// Writes what stands above the columns, and above the exchanges where no calls come.
-fn write_heads<A: Allocator, W: PageSink>(plan: &Plan<A>, picture: &Picture<A>, sink: &mut W)
-    ensures { Sets W.seen sink.old sink.new [] }
+fn write_heads<A: Allocator, W: PageSink>(
+    plan: &Plan<A>,
+    grade: &Grade<A>,
+    picture: &Picture<A>,
+    sink: &mut W,
+)
+    ensures { Sets W.seen sink.old sink.new
+        (ranks_texts plan.now grade.now picture.now.code) }
 {
     let below = TOP + u64::from(picture.high) + 16;
     let has_aside = picture_height(plan, picture) > below;
     write_head(picture.left(0), sink);
-    write_ranks(picture, sink);
+    write_ranks(plan, grade, picture, sink);
     write_aside(has_aside, below, sink);
-}
-
-/// Writes the ranks above their columns, if the columns are ranks.
-fn write_ranks<A: Allocator, W: PageSink>(picture: &Picture<A>, sink: &mut W)
-    ensures { Sets W.seen sink.old sink.new [] }
-{
-    let ranks = if picture.ranked { picture.columns() } else { 0 };
-    for rank in 1..ranks {
-        write_rank(picture.left(rank), u64::from(rank), sink);
-    }
 }
 
 fn write_head<W: PageSink>(left: u64, sink: &mut W)
@@ -130,24 +128,9 @@ fn write_head<W: PageSink>(left: u64, sink: &mut W)
 {
     set(
         &[
-            Part::Own("<text class=\"r\" x=\""),
-            Part::Place(left.saturating_add(BOX / 2)),
-            Part::Own("\" y=\"16\">home</text>"),
-        ],
-        sink,
-    );
-}
-
-fn write_rank<W: PageSink>(left: u64, rank: u64, sink: &mut W)
-    ensures { Sets W.seen sink.old sink.new [] }
-{
-    set(
-        &[
-            Part::Own("<text class=\"r\" x=\""),
-            Part::Place(left.saturating_add(BOX / 2)),
-            Part::Own("\" y=\"16\">rank "),
-            Part::Place(rank),
-            Part::Own("</text>"),
+            Part::Own("<text class=\"r\" x"),
+            Part::Value("", left.saturating_add(BOX / 2)),
+            Part::Own(" y=\"16\">home</text>"),
         ],
         sink,
     );
@@ -162,9 +145,9 @@ fn write_aside<W: PageSink>(has_aside: bool, top: u64, sink: &mut W)
     }
     set(
         &[
-            Part::Own("<text class=\"l\" x=\"6\" y=\""),
-            Part::Place(top),
-            Part::Own("\">No call for this code comes to:</text>"),
+            Part::Own("<text class=\"l\" x=\"6\" y"),
+            Part::Value("", top),
+            Part::Own(">No call for this code comes to:</text>"),
         ],
         sink,
     );

@@ -4,10 +4,10 @@ ghost use Rattle.tx_html.specs.Shows.{Sets};
 ghost use Rattle.tx_svg.specs.Indexed.{texts_below};
 ghost use Rattle.tx_svg.specs.RingTexts.{name_texts, ring_texts};
 
-use crate::seats::{MOST, Size, seat_of, size_of};
+use crate::seats::{MOST, Seat, Size, seat_of, size_of};
 use crate::spot::{BOX, TALL};
 use std::alloc::Allocator;
-use tx_html::{PageSink, Part, set};
+use tx_html::{PageSink, Part, Path, Point, Segment, set};
 use tx_plan::{ExchangeId, GroupId, Plan};
 
 /// Writes the picture of a network that is not too large for one.
@@ -34,15 +34,13 @@ fn write_canvas<W: PageSink>(size: Size, sink: &mut W)
 {
     set(
         &[
-            Part::Own("<svg role=\"group\" aria-label=\"The network as a picture\" viewBox=\"0 0 "),
-            Part::Place(size.wide),
-            Part::Own(" "),
-            Part::Place(size.high),
-            Part::Own("\" width=\""),
-            Part::Place(size.wide),
-            Part::Own("\" height=\""),
-            Part::Place(size.high),
-            Part::Own("\">"),
+            Part::Own("<svg role=\"group\" aria-label=\"The network as a picture\" viewBox"),
+            Part::Size(size.wide, size.high),
+            Part::Own(" width"),
+            Part::Value("", size.wide),
+            Part::Own(" height"),
+            Part::Value("", size.high),
+            Part::Own(">"),
         ],
         sink,
     );
@@ -87,30 +85,59 @@ fn write_line<A: Allocator, W: PageSink>(plan: &Plan<A>, group: GroupId, sink: &
     if circuits == 0 {
         return;
     }
-    let (from, to) = plan.ends(group);
-    let size = size_of(plan.exchanges());
-    let from = seat_of(from.index(), plan.exchanges());
-    let to = seat_of(to.index(), plan.exchanges());
+    let wide = 1 + (circuits / 24).min(9);
     set(
         &[
-            Part::Own("<path class=\"n\" stroke-width=\""),
-            Part::Place(1 + (circuits / 24).min(9)),
-            Part::Own("\" d=\"M"),
-            Part::Place(from.end_x),
-            Part::Own(","),
-            Part::Place(from.end_y),
-            Part::Own("Q"),
-            Part::Place((from.end_x / 2 + to.end_x / 2) / 2 + size.wide / 4),
-            Part::Own(","),
-            Part::Place((from.end_y / 2 + to.end_y / 2) / 2 + size.high / 4),
-            Part::Own(" "),
-            Part::Place(to.end_x),
-            Part::Own(","),
-            Part::Place(to.end_y),
-            Part::Own("\"/>"),
+            Part::Own("<path class=\"n\" stroke-width"),
+            Part::Value("", wide),
         ],
         sink,
     );
+    sink.set_path(&line_of(plan, group));
+    set(&[Part::Own("/>")], sink);
+}
+
+/// The line between the ends of a group.
+fn line_of<A: Allocator>(plan: &Plan<A>, group: GroupId) -> RingLine {
+    let (from, to) = plan.ends(group);
+    RingLine {
+        size: size_of(plan.exchanges()),
+        from: seat_of(from.index(), plan.exchanges()),
+        to: seat_of(to.index(), plan.exchanges()),
+    }
+}
+
+/// A line between two exchanges, in an arc towards the middle of the picture.
+#[derive(Clone, Copy)]
+struct RingLine {
+    size: Size,
+    from: Seat,
+    to: Seat,
+}
+
+impl Path for RingLine {
+    fn segments(&self) -> usize {
+        2
+    }
+
+    fn segment(&self, index: usize) -> Segment {
+        let (size, from, to) = (self.size, self.from, self.to);
+        if index == 0 {
+            return Segment::Start(Point {
+                x: from.end_x,
+                y: from.end_y,
+            });
+        }
+        let middle = Point {
+            x: (from.end_x / 2 + to.end_x / 2) / 2 + size.wide / 4,
+            y: (from.end_y / 2 + to.end_y / 2) / 2 + size.high / 4,
+        };
+        let end = Point {
+            x: to.end_x,
+            y: to.end_y,
+        };
+        Segment::Arc(middle, end)
+    }
 }
 
 fn write_names<A: Allocator, W: PageSink>(plan: &Plan<A>, sink: &mut W)
@@ -128,19 +155,19 @@ fn write_name<A: Allocator, W: PageSink>(plan: &Plan<A>, exchange: ExchangeId, s
     let seat = seat_of(exchange.index(), plan.exchanges());
     set(
         &[
-            Part::Own("<g class=\"x\"><rect x=\""),
-            Part::Place(seat.x.saturating_sub(BOX / 2)),
-            Part::Own("\" y=\""),
-            Part::Place(seat.y.saturating_sub(TALL / 2)),
-            Part::Own("\" width=\""),
-            Part::Place(BOX),
-            Part::Own("\" height=\""),
-            Part::Place(TALL),
-            Part::Own("\" rx=\"4\"/><text x=\""),
-            Part::Place(seat.x),
-            Part::Own("\" y=\""),
-            Part::Place(seat.y.saturating_add(4)),
-            Part::Own("\">"),
+            Part::Own("<g class=\"x\"><rect x"),
+            Part::Value("", seat.x.saturating_sub(BOX / 2)),
+            Part::Own(" y"),
+            Part::Value("", seat.y.saturating_sub(TALL / 2)),
+            Part::Own(" width"),
+            Part::Value("", BOX),
+            Part::Own(" height"),
+            Part::Value("", TALL),
+            Part::Own(" rx=\"4\"/><text x"),
+            Part::Value("", seat.x),
+            Part::Own(" y"),
+            Part::Value("", seat.y.saturating_add(4)),
+            Part::Own(">"),
             Part::Text(plan.exchange_name(exchange)),
             Part::Own("</text></g>"),
         ],

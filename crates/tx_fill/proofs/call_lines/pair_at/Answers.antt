@@ -1,25 +1,31 @@
-use Rattle.std.proofs.Common.{◌∙◌, sym}
-use Rattle.tx_fill.specs.CallLines.{lines_of}
+use Rattle.std.proofs.Common.{◌≡◌, ◌∙◌, sym, ap, arith}
+use Rattle.std.specs.Prelude.{slice_get}
+use Rattle.tx_fill.specs.CallLines.{lines_of, called_from}
 use Rattle.tx_fill.specs.declared.call_lines.Whose.TheVariants.{At, Of}
-use Rattle.tx_fill.proofs.LinesAt.{zip_both, zip_first, zip_second}
+use Rattle.tx_fill.proofs.LinesAt.{got_behind, zip_both, zip_first, zip_second}
 use Rattle.tx_fill.proofs.call_lines.pair_at.Goals as goal
 
 pub returns-in_err-line-clause-pair : goal.returns-in_err-line-clause-pair
 returns-in_err-line-clause-pair g c =
     let p = c.args.plan.now in
     c.from_residual.ensures
-    ∙ sym (zip_first (lines_of p (At c.args.exchange)) (lines_of p (Of c.args.code)) c.args.index
+    ∙ sym (zip_first (lines_of p (At c.args.exchange)) (called_from p c.args.exchange c.args.code) c.args.index
     (sym c.in_err-line.ensures.line))
 
 pub returns-in_err-called-clause-pair : goal.returns-in_err-called-clause-pair
 returns-in_err-called-clause-pair g c =
     let p = c.args.plan.now in
+    let x = c.args.exchange in
+    let place = rw (sym c.eq.ensures, c.home.ensures) at c.from-own.ensures in
     c.from_residual-in_err-called.ensures
-    ∙ sym (zip_second (lines_of p (At c.args.exchange)) (lines_of p (Of c.args.code)) c.args.index
-    (sym c.in_err-called.ensures.line))
+    ∙ sym (zip_second (lines_of p (At x)) (called_from p x c.args.code) c.args.index
+    (got_behind _ (lines_of p (Of c.args.code)) c.args.index ∙ ap (λ k. slice_get (lines_of p (Of c.args.code)) (k + c.args.index)) (sym place) ∙ sym c.in_err-called.ensures.line))
 
 pub returns-clause-pair : goal.returns-clause-pair
 returns-clause-pair g c =
     let p = c.args.plan.now in
-    sym (zip_both (lines_of p (At c.args.exchange)) (lines_of p (Of c.args.code)) c.args.index _ _
-    (sym c.in_ok-line.ensures.line) (sym c.in_ok-called.ensures.line))
+    let x = c.args.exchange in
+    let place = rw (sym c.eq.ensures, c.home.ensures) at c.from-own.ensures in
+    sym (zip_both (lines_of p (At x)) (called_from p x c.args.code) c.args.index _ _
+    (sym c.in_ok-line.ensures.line)
+    (got_behind _ (lines_of p (Of c.args.code)) c.args.index ∙ ap (λ k. slice_get (lines_of p (Of c.args.code)) (k + c.args.index)) (sym place) ∙ sym c.in_ok-called.ensures.line))

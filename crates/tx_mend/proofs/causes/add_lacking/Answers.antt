@@ -34,8 +34,8 @@ pub invariant_of-reach : goal.invariant_of-reach
 invariant_of-reach g c =
     let t = c.args.task.now in
     let p = t.plan.now in
-    let all : c.deref.result.now ≡ rank_list p (unlimited_rank p c.args.code t.limits.spare) = c.deref.ensures.value ∙ c.in_ok-unlimited.ensures in
-    record { groups = t.groups; long = length_ranks p c.deref.result.now (unlimited_rank p c.args.code t.limits.spare) all; within = c.requires; without = all }
+    let all : c.deref-2.result.now ≡ rank_list p (unlimited_rank p c.args.code t.limits.spare) = c.deref-2.ensures.value ∙ c.in_ok-unlimited.ensures in
+    record { groups = t.groups; wide = length_ranks p c.args.least.now (least_rank p c.args.code t.limits.limit t.limits.spare) c.requires; long = length_ranks p c.deref-2.result.now (unlimited_rank p c.args.code t.limits.spare) all; within = c.requires; below = c.deref.ensures.value ∙ c.in_ok-near.ensures; without = all }
 
 pub returns-clause-missing : goal.returns-clause-missing
 returns-clause-missing g c =

@@ -1,7 +1,8 @@
 use Rattle.std.proofs.Common.{◌∙◌, ◌&&◌, None, length, get_or, sym, ap, arith}
 use Rattle.std.specs.Prelude.{is_none, nat_lt}
 use Rattle.tx_plan.proofs.Longest.{none_is}
-use Rattle.tx_mend.specs.Unserved.{groups_on, unlimited_rank}
+use Rattle.tx_mend.specs.LeastRanks.{least_rank}
+use Rattle.tx_mend.specs.Unserved.{groups_near}
 use Rattle.tx_mend.proofs.Placed.{value_at}
 use Rattle.tx_mend.proofs.causes.lacks_groups.Goals as goal
 
@@ -12,9 +13,9 @@ returns-then-is_none g c =
     let x = c.args.exchange in
     let at = c.index.ensures in
     let h = c.requires in
-    let on = groups_on p r.code r.limits.limit r.limits.spare x in
-    let here = none_is (get_or r.unlimited.now c.index.result None) c.is_none.result c.is_none.ensures ∙ ap is_none (value_at (unlimited_rank p r.code r.limits.spare) (length p.exchanges) c.index.result None r.unlimited.now r.without (omega arith) ∙ ap (unlimited_rank p r.code r.limits.spare) at) in
-    ap (nat_lt 0) c.groups_on.ensures ∙ sym (ap (λ b. b && nat_lt 0 on) (sym here ∙ c.if-is_none.true))
+    let on = groups_near p r.code r.limits.limit r.limits.spare x in
+    let here = none_is (get_or r.least.now c.index.result None) c.is_none.result c.is_none.ensures ∙ ap is_none (value_at (least_rank p r.code r.limits.limit r.limits.spare) (length p.exchanges) c.index.result None r.least.now r.within (omega arith) ∙ ap (least_rank p r.code r.limits.limit r.limits.spare) at) in
+    ap (nat_lt 0) c.groups_near.ensures ∙ sym (ap (λ b. b && nat_lt 0 on) (sym here ∙ c.if-is_none.true))
 
 pub returns-else-is_none : goal.returns-else-is_none
 returns-else-is_none g c =
@@ -23,6 +24,6 @@ returns-else-is_none g c =
     let x = c.args.exchange in
     let at = c.index.ensures in
     let h = c.requires in
-    let on = groups_on p r.code r.limits.limit r.limits.spare x in
-    let here = none_is (get_or r.unlimited.now c.index.result None) c.is_none.result c.is_none.ensures ∙ ap is_none (value_at (unlimited_rank p r.code r.limits.spare) (length p.exchanges) c.index.result None r.unlimited.now r.without (omega arith) ∙ ap (unlimited_rank p r.code r.limits.spare) at) in
+    let on = groups_near p r.code r.limits.limit r.limits.spare x in
+    let here = none_is (get_or r.least.now c.index.result None) c.is_none.result c.is_none.ensures ∙ ap is_none (value_at (least_rank p r.code r.limits.limit r.limits.spare) (length p.exchanges) c.index.result None r.least.now r.within (omega arith) ∙ ap (least_rank p r.code r.limits.limit r.limits.spare) at) in
     c.if-is_none.false ∙ sym (ap (λ b. b && nat_lt 0 on) (sym here ∙ c.if-is_none.false))

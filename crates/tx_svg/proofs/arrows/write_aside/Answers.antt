@@ -1,6 +1,0 @@
-use Rattle.tx_html.proofs.Showing.{sets_then}
-use Rattle.tx_svg.proofs.arrows.write_aside.Goals as goal
-
-pub returns : goal.returns
-returns g c =
-    sets_then c.write_point.ensures c.write_curve.ensures

@@ -1,0 +1,7 @@
+use Rattle.tx_html.specs.Shows.{Sets}
+use Rattle.tx_svg.specs.Indexed.{texts_below}
+use Rattle.tx_svg.specs.ListTexts.{column_texts}
+use Rattle.tx_svg.proofs.ranks.write_all.Given as goal
+
+abbrev pub invariant-loop-below : goal.invariant-loop-below
+invariant-loop-below g l = Sets g.W.PageSink.seen l.initial.sink l.sink (texts_below l.below column_texts)
