@@ -139,11 +139,12 @@ module _ (codes : List Code) (find : List ℕ → Option ℕ) (is : IsLookUp cod
   first_pair m i j low before short long =
       let c = is.found (take 2 (three_figures m)) i short in
       let d = is.found (three_figures m) j long in
-      let begins = (λ k. is_prefix (c.2 k) (d.2 k) && nat_lt (length (c.2 k)) (length (d.2 k))) ∙ ap (λ b. b && true) (take_is_prefix 2 (three_figures m)) in
-      ambiguous-some codes differ i j c.0 d.0 (record { first = c.1; second = d.1; begins = begins }) (λ k l e f h. false_from_ne_true _ (λ lt.
+      ambiguous-some codes differ i j c.0 d.0
+      (record { first = c.1; second = d.1; begins = (λ k. is_prefix (c.2 k) (d.2 k) && nat_lt (length (c.2 k)) (length (d.2 k))) ∙ ap (λ b. b && true) (take_is_prefix 2 (three_figures m)) })
+      (λ k l e f h. false_from_ne_true _ (λ lt.
       let n = parts k l e f h in
-      let less = sym (ap is_lt ((λ w. ordering_then (order ((n.front ∙ ap (take 2) n.whole) w) (c.2 w)) (order (n.whole w) (d.2 w))) ∙ order_take 2 (three_figures n.number) (three_figures m))) ∙ lt in
-      before n.number (in_order n.number m n.low low less) k l e f h n.whole))
+      before n.number (in_order n.number m n.low low
+      (sym (ap is_lt ((λ w. ordering_then (order ((n.front ∙ ap (take 2) n.whole) w) (c.2 w)) (order (n.whole w) (d.2 w))) ∙ order_take 2 (three_figures n.number) (three_figures m))) ∙ lt)) k l e f h n.whole))
 
   pub paired : (m : ℕ) (o : Option (ℕ × ℕ)) → m < 1000 → NoneBelow codes m → o ≡ both find m → is_some o ≡ true → o ≡ ambiguous_of codes
   paired m o low before is_both some = is_both ∙ by (find (take 2 (three_figures m))) refl (find (three_figures m)) refl (sym (ap is_some is_both) ∙ some)
