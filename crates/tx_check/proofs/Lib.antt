@@ -1,6 +1,5 @@
 pub mod Finding
 pub mod Faultless
-pub mod LeastFound
 pub mod Judging
 pub mod PairFaults
 pub mod Wrong

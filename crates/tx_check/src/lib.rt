@@ -2,7 +2,6 @@
 //! spare number, and else why not. Its contract carries the headline.
 #![tactic(auto)]
 
-mod ambiguity;
 mod checker;
 mod fault;
 mod law;

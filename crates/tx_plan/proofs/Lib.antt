@@ -1,5 +1,7 @@
 pub mod Among
 pub mod Ambiguity
+pub mod Spelled
+pub mod FirstPair
 pub mod Absent
 pub mod LineFound
 pub mod ByIndex

@@ -1,5 +1,5 @@
 -- The figures of codes and of national numbers, and ranges of these (ITU-T F.69).
-use Rattle.std.specs.Prelude.{ℕ, Bool, ◌&&◌, ◌==◌, List, length}
+use Rattle.std.specs.Prelude.{ℕ, ◌+◌, ◌/◌, ◌%◌, Bool, ◌&&◌, ◌==◌, List, [], ◌∷◌, length}
 use Rattle.std.specs.Ordering.{is_le, nat_cmp}
 use Rattle.std.specs.Cmp.Lexicographic.{slice_cmp}
 use Rattle.tx_text.specs.Words.{are_figures}
@@ -8,6 +8,10 @@ use Rattle.tx_plan.specs.declared.range.LineRange.{LineRange}
 -- two or three figures
 abbrev pub is_code : List ℕ → Bool
 is_code text = are_figures 2 3 text
+
+-- the three figures of a number below 1,000
+abbrev pub three_figures : ℕ → List ℕ
+three_figures n = (48 + n / 100) ∷ (48 + n / 10 % 10) ∷ (48 + n % 10) ∷ []
 
 -- one to nine figures
 abbrev pub is_national : List ℕ → Bool

@@ -22,6 +22,7 @@
 //! ```
 #![tactic(auto)]
 
+mod ambiguous;
 mod builder;
 mod copying;
 mod entries;
@@ -34,6 +35,7 @@ mod refusal;
 mod route_scan;
 mod routes;
 
+pub use ambiguous::three_figures;
 pub use builder::PlanBuilder;
 pub use copying::{bars_of, routes_of};
 pub use ids::{ByWord, Circuit, CodeId, Direction, ExchangeId, GroupId, Line, National, Pair};

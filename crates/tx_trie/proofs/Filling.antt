@@ -10,7 +10,8 @@ use Rattle.tx_plan.specs.Rules.{IsPlan, IsCode, is_code}
 use Rattle.tx_plan.specs.inner.Tables.{code_of_row}
 use Rattle.tx_plan.proofs.ByIndex.{entry_at, all_at, index_back, take_next}
 use Rattle.tx_trie.specs.inner.Nodes.{node_of, AreFirst, IsTrie}
-use Rattle.tx_trie.proofs.Nodes.{spelled, node_within, node_once}
+use Rattle.tx_plan.proofs.Spelled.{spelled}
+use Rattle.tx_trie.proofs.Nodes.{node_within, node_once}
 
 -- the code at an index
 pub code_is : (p : Plan) (n : ℕ) → n < length p.codes → slice_get p.codes n ≡ Some (record { figures = figures_of p n; home = home_of p n })

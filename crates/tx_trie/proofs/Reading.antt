@@ -3,8 +3,7 @@ use Rattle.std.proofs.Common.{◌≡◌, ℕ, ◌+◌, ◌≤◌, Bool, true, fa
 use Rattle.std.proofs.lemmas.Bool.{false≢true}
 use Rattle.std.proofs.lemmas.Bool.Decides.{nat_tests}
 use Rattle.std.proofs.lemmas.List.{take_min}
-use Rattle.std.proofs.lemmas.Option.{slice_get_within}
-use Rattle.std.specs.Prelude.{slice_get, slice_index_or, if◌then◌else◌}
+use Rattle.std.specs.Prelude.{slice_get, filter, if◌then◌else◌}
 use Rattle.std.specs.List.{enumerate_from}
 use Rattle.std.specs.Option.{option_map, is_some}
 use Rattle.tx_plan.specs.Among.{Among}
@@ -14,10 +13,9 @@ use Rattle.tx_plan.specs.Rules.{is_code}
 use Rattle.tx_plan.proofs.Absent.{short_code}
 use Rattle.tx_plan.proofs.Among.{among_filter, filter_among, among_indexes, indexes_among}
 use Rattle.tx_plan.proofs.Longest.{longest_among}
+use Rattle.tx_plan.proofs.Spelled.{IsSpelled, two, three, spelled, prefix_is_take, prefix_length, take_is_prefix}
+use Rattle.tx_plan.proofs.FirstPair.{IsLookUp}
 use Rattle.tx_trie.specs.Trie.{plan_of}
-use Rattle.tx_trie.specs.inner.Nodes.{node_of, look, IsTrie}
-use Rattle.tx_trie.proofs.Nodes.{IsSpelled, two, three, spelled, at_node, node_once}
-use Rattle.tx_trie.proofs.Prefixes.{prefix_is_take, prefix_length, take_is_prefix}
 
 abbrev width : ℕ × Code → ℕ
 width e = length e.1.figures
@@ -45,36 +43,22 @@ covers (d ∷ es) f (inr m) =
 
 -- THE CODE OF A TEXT
 
--- what a text finds
-pub found : (codes : List Code) (nodes : List (Option ℕ)) → IsTrie codes nodes → (text : List ℕ) (i : ℕ) → look nodes text ≡ Some i → (c : Code) × (slice_get codes i ≡ Some c) × (c.figures ≡ text)
-found codes nodes is text i h = by (is_code text) refl h
-  where
-    by : (b : Bool) → is_code text ≡ b → (if b then slice_index_or nodes (node_of text) None else None) ≡ Some i → (c : Code) × (slice_get codes i ≡ Some c) × (c.figures ≡ text)
-    by true t k =
-        let c = at_node codes nodes is (node_of text) i k in
-        (c.0, c.1, node_once c.0.figures text (spelled c.0.figures (is.forms i c.0 c.1)) (spelled text t) c.2)
-    by false t k = let bad : ⊥ = cc in absurd bad
-
-module _ (codes : List Code) (nodes : List (Option ℕ)) (is : IsTrie codes nodes) (text : List ℕ) where
+module _ (codes : List Code) (find : List ℕ → Option ℕ) (is : IsLookUp codes find) (text : List ℕ) where
   abbrev those : List (ℕ × Code)
   those = codes_before (plan_of codes) text
 
   -- a code that begins the text is found by as many figures
-  here : (e : ℕ × Code) → Among e those → (look nodes (take (width e) text) ≡ Some e.0) × (is_code e.1.figures ≡ true) × (width e ≤ length text)
+  here : (e : ℕ × Code) → Among e those → (find (take (width e) text) ≡ Some e.0) × (is_code e.1.figures ≡ true) × (width e ≤ length text)
   here e m =
       let f = filter_among (λ e. is_prefix e.1.figures text) e (enumerate_from 0 codes) m in
       let p = indexes_among 0 e codes f.0 in
       let at : slice_get codes e.0 ≡ Some e.1 = ap (slice_get codes) (p.2 ∙ (let z : 0 + p.0 ≡ p.0 = omega arith in z)) ∙ p.1 in
-      let form = is.forms e.0 e.1 at in (
-        ap (look nodes) (sym (prefix_is_take e.1.figures text f.1)) ∙ ap (λ b. if b then slice_index_or nodes (node_of e.1.figures) None else None) form ∙ is.all.finds e.0 e.1 (slice_get_within codes e.0 e.1 at) at,
-        form,
-        prefix_length e.1.figures text f.1,
-      )
+      (ap find (sym (prefix_is_take e.1.figures text f.1)) ∙ is.finds e.0 e.1 at, is.forms e.0 e.1 at, prefix_length e.1.figures text f.1)
 
   -- where some figures of the text find a code, the longest is as long
-  best : (n i : ℕ) → look nodes (take n text) ≡ Some i → (e : ℕ × Code) × (longest those ≡ Some e) × (min n (length text) ≤ width e)
+  best : (n i : ℕ) → find (take n text) ≡ Some i → (e : ℕ × Code) × (longest those ≡ Some e) × (min n (length text) ≤ width e)
   best n i h =
-      let f = found codes nodes is (take n text) i h in
+      let f = is.found (take n text) i h in
       let front = ap (λ w. is_prefix w text) f.2 ∙ take_is_prefix n text in
       let m = subst (λ k. Among (k, f.0) (enumerate_from 0 codes)) (let z : 0 + i ≡ i = omega arith in z) (among_indexes 0 i f.0 codes f.1) in
       let c = covers those (i, f.0) (among_filter (λ e. is_prefix e.1.figures text) (i, f.0) (enumerate_from 0 codes) m front) in
@@ -82,28 +66,28 @@ module _ (codes : List Code) (nodes : List (Option ℕ)) (is : IsTrie codes node
       (c.0, c.1, omega (arith, c.2))
 
   -- the first three figures are a code
-  pub read_three : (o : Option ℕ) → o ≡ look nodes (take 3 text) → is_some o ≡ true → o ≡ code_of (plan_of codes) text
+  pub read_three : (o : Option ℕ) → o ≡ find (take 3 text) → is_some o ≡ true → o ≡ code_of (plan_of codes) text
   read_three None h some = absurd (false≢true some)
   read_three (Some i) h some =
       let b = best 3 i (sym h) in
       let t = here b.0 (longest_among those b.0 b.1) in
       let short = short_code b.0.1.figures t.1 in
       let same : width b.0 ≡ min 3 (length text) = omega (arith, b.2, t.2) in
-      h ∙ ap (look nodes) (sym (take_min 3 text)) ∙ ap (λ n. look nodes (take n text)) (sym same) ∙ t.0 ∙ ap (option_map (λ e. e.0)) (sym b.1)
+      h ∙ ap find (sym (take_min 3 text)) ∙ ap (λ n. find (take n text)) (sym same) ∙ t.0 ∙ ap (option_map (λ e. e.0)) (sym b.1)
 
   -- they are none
-  pub read_two : (o : Option ℕ) → o ≡ look nodes (take 3 text) → is_some o ≡ false → look nodes (take 2 text) ≡ code_of (plan_of codes) text
+  pub read_two : (o : Option ℕ) → o ≡ find (take 3 text) → is_some o ≡ false → find (take 2 text) ≡ code_of (plan_of codes) text
   read_two (Some i) h none = absurd (false≢true (sym none))
   read_two None h none = by (longest those) refl
     where
-      only : (e : ℕ × Code) (w : List ℕ) → IsSpelled w → look nodes (take (length w) text) ≡ Some e.0 → look nodes (take 2 text) ≡ Some e.0
+      only : (e : ℕ × Code) (w : List ℕ) → IsSpelled w → find (take (length w) text) ≡ Some e.0 → find (take 2 text) ≡ Some e.0
       only e w (two a b f g) found = found
       only e w (three a b c f g l) found = let bad : ⊥ = cc in absurd bad
 
-      by : (o : Option (ℕ × Code)) → longest those ≡ o → look nodes (take 2 text) ≡ option_map (λ e. e.0) o
-      by None l = nothing (look nodes (take 2 text)) refl
+      by : (o : Option (ℕ × Code)) → longest those ≡ o → find (take 2 text) ≡ option_map (λ e. e.0) o
+      by None l = nothing (find (take 2 text)) refl
         where
-          nothing : (o : Option ℕ) → look nodes (take 2 text) ≡ o → o ≡ None
+          nothing : (o : Option ℕ) → find (take 2 text) ≡ o → o ≡ None
           nothing None h = refl
           nothing (Some i) h = let b = best 2 i h in let s = b.1 in let bad : ⊥ = cc in absurd bad
       by (Some e) l = let t = here e (longest_among those e l) in only e e.1.figures (spelled e.1.figures t.1) t.0

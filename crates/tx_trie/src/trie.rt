@@ -8,7 +8,7 @@ ghost use Rattle.tx_trie.specs.inner.Nodes.{node_of, look};
 
 use std::alloc::{Allocator, Global};
 use std::marker::Model;
-use tx_plan::{CodeId, ExchangeId, NameKey, Plan};
+use tx_plan::{CodeId, ExchangeId, NameKey, Plan, three_figures};
 use tx_text::{NoMemory, are_figures};
 
 /// The node to which the figures of a code lead from the root.
@@ -97,8 +97,9 @@ impl<A: Allocator> CodeTrie<A> {
     pub fn ambiguous(&self) -> Option<(CodeId, CodeId)>
         ensures { result ≡ ambiguous_of self.now }
     {
-        for node in 1000..2000 {
-            let pair = self.nodes[node / 10].zip(self.nodes[node]);
+        for number in 0..1000 {
+            let longer = three_figures(number);
+            let pair = look(&self.nodes, &longer[..2]).zip(look(&self.nodes, &longer));
             if pair.is_some() {
                 return pair;
             }

@@ -1,5 +1,5 @@
-use Rattle.tx_trie.proofs.Pairs.{AreFrom}
+use Rattle.tx_plan.proofs.FirstPair.{NoneBelow}
 use Rattle.tx_trie.proofs.trie.CodeTrie.ambiguous.Given as goal
 
-abbrev pub invariant-loop-node : goal.invariant-loop-node
-invariant-loop-node g l = AreFrom l.self l.node
+abbrev pub invariant-loop-number : goal.invariant-loop-number
+invariant-loop-number g l = NoneBelow l.self l.number

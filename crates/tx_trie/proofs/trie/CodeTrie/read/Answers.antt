@@ -5,6 +5,7 @@ use Rattle.tx_plan.specs.Codes.{code_of}
 use Rattle.tx_plan.specs.inner.Tables.{code_of_row}
 use Rattle.tx_trie.specs.Trie.{plan_of}
 use Rattle.tx_trie.specs.inner.Nodes.{look}
+use Rattle.tx_trie.proofs.Nodes.{trie_look_up}
 use Rattle.tx_trie.proofs.Reading.{read_three, read_two}
 use Rattle.tx_trie.proofs.trie.CodeTrie.read.Goals as goal
 
@@ -13,7 +14,7 @@ returns-then-is_some g c =
     let text = c.args.figures.now in
     let nodes = c.self.inside.nodes.items in
     let three = c.look-longer.ensures ∙ (λ k. look (c.deref.ensures.value k) (take (c.min.ensures k) text)) ∙ ap (look nodes) (take_min 3 text) in
-    read_three (map code_of_row c.self.inside.codes.items) nodes c.self.invariant text c.look-longer.result three (sym c.is_some.ensures ∙ c.if-is_some.true)
+    read_three (map code_of_row c.self.inside.codes.items) (look nodes) (trie_look_up _ nodes c.self.invariant) text c.look-longer.result three (sym c.is_some.ensures ∙ c.if-is_some.true)
     ∙ ap (λ (l : List Code). code_of (plan_of l) text) c.self.view_is
 
 pub returns : goal.returns
@@ -22,5 +23,5 @@ returns g c =
     let nodes = c.self.inside.nodes.items in
     let three = c.look-longer.ensures ∙ (λ k. look (c.deref.ensures.value k) (take (c.min.ensures k) text)) ∙ ap (look nodes) (take_min 3 text) in
     c.look.ensures ∙ (λ k. look (c.deref-2.ensures.value k) (take (c.min-2.ensures k) text)) ∙ ap (look nodes) (take_min 2 text)
-    ∙ read_two (map code_of_row c.self.inside.codes.items) nodes c.self.invariant text c.look-longer.result three (sym c.is_some.ensures ∙ c.if-is_some.false)
+    ∙ read_two (map code_of_row c.self.inside.codes.items) (look nodes) (trie_look_up _ nodes c.self.invariant) text c.look-longer.result three (sym c.is_some.ensures ∙ c.if-is_some.false)
     ∙ ap (λ (l : List Code). code_of (plan_of l) text) c.self.view_is
