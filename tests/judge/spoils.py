@@ -171,7 +171,7 @@ WAYS += [(command, what, put(pattern, by, name, count)) for command, name in TEX
     ("a plan without a list", r"^ROUTE .*\n", "", 1),
     ("a plan without a line of its text", r"^LINES .*\n", "", 1),
     ("a text without comments and blanks", r"^([ \t]*(#.*)?\n)+|^[ \t]+|[ \t]*(#.*)?\r?$", "", 0),
-    ("a plan with a comment before it", r"\A", "# anew\n", 1),
+    ("a plan with a comment before it", r"\A(?=.)", "# anew\n", 1),
 )]
 SPOILS = [(command, what, spoil) for commands, what, spoil in WAYS for command in commands.split()]
 
