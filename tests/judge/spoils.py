@@ -152,7 +152,7 @@ WAYS = [
     ("survive", "one cut more in the totals", put(r"^(\w+ \w+ CUT )(\d+)", more)),
     ("survive", "a walk that ends before", put(r"^((CUT|STRAY) .* VIA \w+.*) \w+ \w+$", r"\1")),
 ]
-WAYS += [("mend change order", what, spoil) for what, spoil in (
+WAYS += [("order", what, spoil) for what, spoil in (
     ("a changed list without its comment", line(r"(ROUTE[^#\n]*)#[^\r\n]*", r"\1", False)),
     ("the comment of a changed list twice", line(r"ROUTE[^#\n]*(#.*\n)", r"\1\g<0>", False)),
     ("a comment behind a new list", line(r"(ROUTE[^#\r\n]*)(\r?\n)", r"\1 # new\2", False)),
