@@ -4,8 +4,8 @@ from itertools import product
 from random import Random
 
 from audit import is_safe, judge_cert, judge_counter, judge_findings_of, judge_verdict, numbers, turns_back
-from mend import judge_revised
-from plans import contradiction, join, read, switched_rows
+from plans import contradiction, join, switched_rows
+from revised import judge_made
 from walks import NOTHING, judge_findings, need, survey
 
 
@@ -68,12 +68,10 @@ def judge_shown(program, ran, of, old, new, findings, limit, spare):
     shown = next((row for row in findings if "VIA" in row), None)
     mixture, script = ran.made["mixture"], ran.made["script"]
     need((mixture is None) == (shown is None), "a mixture is made, or none")
-    wanted = shown and shown_mixture(old, new, shown.removeprefix("NEW "), spare)
-    if shown and shown.startswith("NEW "):
-        wanted = new
-    elif shown and of.network() == old.network():
-        judge_revised(mixture, of.text, wanted)
-    need(not shown or (read(mixture).says_the_same(wanted) and not is_safe(wanted, limit, spare)), "the mixture is another one, or safe")
+    if shown:
+        wanted = new if shown.startswith("NEW ") else shown_mixture(old, new, shown, spare)
+        judge_made(mixture, of, wanted)
+        need(not is_safe(wanted, limit, spare), "the mixture is safe")
     need((script is None) == (not shown or turns_back(wanted, shown.removeprefix("NEW "))), "a script is made, or none")
     if script is not None:
         judge_counter(program, wanted, script, shown.removeprefix("NEW "))

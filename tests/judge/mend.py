@@ -3,12 +3,14 @@ from functools import lru_cache
 from itertools import combinations, product
 
 from audit import judge_cert, judge_verdict, numbers
-from plans import read, switched_rows
+from plans import switched_rows
+from revised import judge_made
 from walks import need, of_code, survey
 
 NO_RANK = 1 << 9
 
 
+@lru_cache(64)
 class Network:
     """All routings of a network for a code with this home, with what the calls of each exchange do."""
 
@@ -39,13 +41,10 @@ class Network:
         return sum(self.least(y, spare) <= limit + 1 for _, y in self.seizable[x])
 
 
-network = lru_cache(64)(Network)
-
-
 def networks_of(plan):
     """The network of each home of a code."""
     seizable = tuple((x, tuple(plan.seizable(x))) for x in plan.exchanges)
-    return {home: network(tuple(plan.exchanges), home, seizable) for home in set(plan.codes.values())}
+    return {home: Network(tuple(plan.exchanges), home, seizable) for home in set(plan.codes.values())}
 
 
 def is_mendable(plan, limit, spare):
@@ -136,13 +135,6 @@ def with_lists(plan, rows):
     return mended
 
 
-def judge_revised(text, of, plan):
-    """A revised text says the plan, and all lines but those of lists, bars and the header stay."""
-    need(read(text).says_the_same(plan), "the plan that is written is another one")
-    rows, others = ([row for row in it.splitlines()[1:] if row.split()[0] not in ("ROUTE", "BAR")] for it in (text, of))
-    need(rows == others, "other lines of the text do not stand")
-
-
 def judge_mend(program, plan, limit, spare):
     words = ["mend", "p", *numbers(limit, spare), "--plan", "new", "--cert", "cert"]
     ran = program.run(words, {"p": plan.text}, ["new", "cert"])
@@ -160,5 +152,5 @@ def judge_mend(program, plan, limit, spare):
     new = mended.views
     for code, view in plan.views.items():
         of_code(code, judge_mended, nets[view[0]], view, new[code][1], limit, spare)
-    judge_revised(ran.made["new"], plan.text, mended)
+    judge_made(ran.made["new"], plan, mended)
     judge_cert(program, [mended], ran.made["cert"], limit, spare)

@@ -1,8 +1,9 @@
 """Judges `order` by all mixtures within each stage."""
 from audit import is_safe, judge_cert, judge_findings_of, judge_verdict, numbers
 from change import differences, due_between, dues_between, judge_head
-from mend import NO_RANK, judge_revised
-from plans import join, read, switch_rows
+from mend import NO_RANK
+from plans import join, switch_rows
+from revised import judge_made
 from walks import NOTHING, heights, need, of_code
 
 
@@ -96,9 +97,7 @@ def judge_stage(program, old, new, passed, stage, report):
         need((ran.out, ran.err, ran.status, plan, cert) == answer, f"no such stage: {ran.err}")
         return
     need(plan and cert and ran.out.splitlines() == report and ran.status == 0, f"no file is made, or another report: {ran.out}")
-    need(read(plan).says_the_same(passed[stage]), f"the plan of stage {stage} is another one")
-    if old.network() == passed[0].network():
-        judge_revised(plan, old.text, passed[stage])
+    judge_made(plan, old, passed[stage])
     judge_cert(program, passed[stage - 1:stage + 1], cert, int(limit), int(spare))
 
 

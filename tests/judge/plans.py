@@ -1,5 +1,22 @@
 """Plans: their text, what a code sees of them, and two plans over their joined network."""
 from functools import cached_property
+from itertools import chain, cycle
+from operator import add, itemgetter
+from zlib import crc32
+
+# The most bytes of a line. By turns, what lines have behind their words or without words, how lines end, and for each of these ways what stands up to the next words.
+LONGEST, BLANKS, ENDS = 512, ("", "  # {}", "", "#{}", " \t", " # {} #", ""), (["\n"], ["\r\n"], ["\r\n", "\n", "\n"], ["\n", "\r\n"])
+BEHIND = [[BLANKS[n % 7].format(n) + ends[n % len(ends)] + (BLANKS[n // 6 % 7].format(n) + ends[0]) * (n % 6 == 0) for n in range(5040)] for ends in ENDS]
+
+
+def by_hand(rows):
+    """A text of these lines, as somebody wrote it: with comments, several blanks, lines without words, lines as long as a line may be, and both ends of lines."""
+    turn = crc32("".join(rows).encode()) % 5040
+    rows[4 - turn % 4::4] = [f" {it}".replace(" ", " \t ") for it in rows[4 - turn % 4::4]]
+    rows[-turn % 35::35] = [f"{it}#{turn}".ljust(LONGEST, "x") for it in rows[-turn % 35::35]]
+    behind = BEHIND[turn // 7 % 4]
+    text = behind[turn] * (turn % 3 == 0) + "".join(map(add, rows, chain(behind[turn:], cycle(behind))))
+    return text if turn % 2 else text.rstrip("\r\n")
 
 
 class Plan:
@@ -15,14 +32,16 @@ class Plan:
 
     @cached_property
     def text(self):
-        rows = ["PLAN 2" if self.bars else "PLAN 1"]
-        rows += [f"EXCHANGE {it}" for it in self.exchanges]
-        rows += [f"CODE {code} {home}" for code, home in self.codes.items()]
-        rows += [f"LINES {code} {low} {high}" for code, low, high in self.lines]
-        rows += [f"GROUP {name} {a} {b} {way} {count}" for name, (a, b, way, count) in self.groups.items()]
-        rows += [f"ROUTE {x} {code} {' '.join(groups)}" for (x, code), groups in self.routes.items()]
-        rows += [f"BAR {x} {code}" for x, code in sorted(self.bars)]
-        return "\n".join(rows) + "\nEND\n"
+        """A text of the plan. Codes and groups are declared by turns, and two lists of three stand as soon as their names are there. So what such a list becomes may name what is declared later."""
+        count, groups = len(self.groups), {g: n for n, g in enumerate(self.groups, 1)}
+        codes = {code: n * (count + 1) // len(self.codes) for n, code in enumerate(self.codes)}
+        rows = [(0, f"EXCHANGE {it}") for it in self.exchanges]
+        rows += [(codes[code], f"CODE {code} {home}") for code, home in self.codes.items()]
+        rows += [(groups[name], f"GROUP {name} {a} {b} {way} {many}") for name, (a, b, way, many) in self.groups.items()]
+        rows += [(count, f"LINES {code} {low} {high}") for code, low, high in self.lines]
+        rows += [(max(codes[code], *map(groups.get, it)) if n % 3 else count, f"ROUTE {x} {code} {' '.join(it)}") for n, ((x, code), it) in enumerate(self.routes.items())]
+        rows += [(codes[code], f"BAR {x} {code}") for x, code in sorted(self.bars)]
+        return by_hand(["PLAN 2" if self.bars or count % 3 == 0 else "PLAN 1", *(row for _, row in sorted(rows, key=itemgetter(0))), "END"])
 
     def copy(self):
         other = Plan()

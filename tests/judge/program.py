@@ -33,7 +33,7 @@ class Program:
     def take(self, name):
         """The text of a file that was made, or None. It is there for one run alone."""
         path = self.folder / name
-        text = path.read_text() if path.exists() else None
+        text = path.read_bytes().decode() if path.exists() else None
         path.unlink(missing_ok=True)
         return text
 
@@ -42,7 +42,7 @@ class Program:
         code, (words, files) = re.findall("^code (.*?):", what), self.last
         rows = [f"telexplan {' '.join(map(str, words))}"]
         for name, text in files.items():
-            rows += [f"--- {name}", *(row for row in text.splitlines() if not code or code[0] in row.split() or not re.match("CODE|ROUTE|BAR|RANK", row))]
+            rows += [f"--- {name}", *(row for row in text.splitlines() if not code or code[0] in row.split() or not re.match(r"\s*(CODE|ROUTE|BAR|RANK)", row))]
         return "\n".join(rows[:60])
 
     def end(self):

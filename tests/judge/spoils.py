@@ -6,11 +6,11 @@ from program import Program
 from walks import WRONG
 
 
-def put(pattern, by, name=None):
-    """A spoil that puts another text in place of the first one like this, in the report or in a file that is made."""
+def put(pattern, by, name=None, count=1):
+    """A spoil that puts another text in place of the first one like this, or of all, in the report or in a file that is made."""
     def spoil(ran):
         was = ran.made.get(name) or "" if name else ran.out
-        text = re.sub(pattern, by, was, count=1, flags=re.M)
+        text = re.sub(pattern, by, was, count=count, flags=re.M)
         if name and was:
             ran.made[name] = text
         elif not name:
@@ -40,6 +40,23 @@ def stages(change):
         if parts:
             ran.out = head + "".join("\n".join([f"STAGE {n}", *rows, ""]) for n, rows in enumerate(parts, 1)) + last
         return bool(parts)
+    return spoil
+
+
+TEXTS = {"mend": "new", "change": "mixture", "order": "plan"}  # the text of a plan that each command makes
+
+
+def line(pattern, by, *stays):
+    """A spoil that puts another text in place of the first lines like this in a revised text. Each of them stays there, or is new."""
+    def spoil(ran):
+        name, old = TEXTS[ran.words[0]], (ran.files.get("p") or ran.files["o"]).splitlines(keepends=True)
+        rows = (ran.made.get(name) or "").splitlines(keepends=True)
+        for n in range(len(rows) * ("#" in "".join(rows))):
+            here = rows[n:n + len(stays)]
+            if [it in old for it in here] == [*stays] and re.match(pattern, "".join(here)):
+                ran.made[name] = "".join([*rows[:n], re.sub(pattern, by, "".join(here), count=1), *rows[n + len(stays):]])
+                return True
+        return False
     return spoil
 
 
@@ -117,19 +134,15 @@ WAYS = [
     ("mend", "a cause left out", without("F5")),
     ("mend", "nothing is missing", put(" MISSING.*", "")),
     ("mend", "more is missing", put(r"^(CODE .* MISSING \w+ )(\d+)", more)),
-    ("mend", "a plan without a list", put(r"^ROUTE .*\n", "", "new")),
-    ("mend", "a plan without a line of its text", put(r"^LINES .*\n", "", "new")),
     ("change", "a new group left out", without("NEW GROUP")),
     ("change", "circuits left out", without("CIRCUITS")),
     ("change", "the old plan as the mixture", of_old),
-    ("change", "a mixture without a list", put(r"^ROUTE .*\n", "", "mixture")),
     ("order", "two stages as one", stages(lambda parts: [parts[0] + parts[1], *parts[2:]] if len(parts) > 1 else None)),
     ("order", "one stage as two", stages(cut)),
     ("order", "two stages changed about", stages(lambda parts: [parts[1], parts[0], *parts[2:]] if len(parts) > 1 else None)),
     ("order", "a list a stage too early", stages(too_early)),
     ("order", "a bar set for one lifted", put("^UNBAR", "BAR")),
     ("order", "a finding of the other plan", put("^OLD F", "NEW F")),
-    ("order", "a stage's plan without a list", put(r"^ROUTE .*\n", "", "plan")),
     ("survive", "one that is cut off left out", without("CUT|STRAY")),
     ("survive", "cut off for astray", put("^STRAY", "CUT")),
     ("survive", "astray for cut off", put("^CUT", "STRAY")),
@@ -139,6 +152,27 @@ WAYS = [
     ("survive", "one cut more in the totals", put(r"^(\w+ \w+ CUT )(\d+)", more)),
     ("survive", "a walk that ends before", put(r"^((CUT|STRAY) .* VIA \w+.*) \w+ \w+$", r"\1")),
 ]
+WAYS += [("order", what, spoil) for what, spoil in (
+    ("a changed list without its comment", line(r"(ROUTE[^#\n]*)#[^\r\n]*", r"\1", False)),
+    ("the comment of a changed list twice", line(r"ROUTE[^#\n]*(#.*\n)", r"\1\g<0>", False)),
+    ("a comment behind a new list", line(r"(ROUTE[^#\r\n]*)(\r?\n)", r"\1 # new\2", False)),
+    ("a new list a line later", line(r"(ROUTE.*\n)(.*\n)", r"\2\1", False, True)),
+    ("a new list a line earlier", line(r"(.*\n)(ROUTE.*\n)", r"\2\1", True, False)),
+    ("another end of a new line", line(r"(ROUTE|BAR)(.*?)(\r?)\n", lambda it: it[1] + it[2] + "\r\n"[len(it[3]):], False)),
+    ("another end of a line that stays", line(r"(.*?)(\r?)\n", lambda it: it[1] + "\r\n"[len(it[2]):], True)),
+    ("a line that stays without its comment", line(r"([^#\n]*\w[^#\n]*)#[^\r\n]*", r"\1", True)),
+    ("a line that stays with other blanks", line(r"(.*) \t ", r"\1 ", True)),
+    ("two lists that stay changed about", line(r"(ROUTE.*\n)(ROUTE.*\n)", r"\2\1", True, True)),
+    ("a line without words more", line(r".*\n", r"\g<0>\n", True)),
+    ("a line without words less", line(r"[ \t]*(#.*)?\n", "", True)),
+    ("a header without bars", line("PLAN 2", "PLAN 1", True)),
+)]
+WAYS += [(command, what, put(pattern, by, name, count)) for command, name in TEXTS.items() for what, pattern, by, count in (
+    ("a plan without a list", r"^ROUTE .*\n", "", 1),
+    ("a plan without a line of its text", r"^LINES .*\n", "", 1),
+    ("a text without comments and blanks", r"^([ \t]*(#.*)?\n)+|^[ \t]+|[ \t]*(#.*)?\r?$", "", 0),
+    ("a plan with a comment before it", r"\A(?=.)", "# anew\n", 1),
+)]
 SPOILS = [(command, what, spoil) for commands, what, spoil in WAYS for command in commands.split()]
 
 
