@@ -2,7 +2,7 @@
 """usage: tools/claims.py [CRATE ..]
 
 Prints what the crates promise, lowest first, or these ones, as a page of Markdown: what each crate is, and its public functions, each with its comment, the names of the
-clauses that it requires and ensures, and the mutants of its body, by the files in must-fail. Those of all else come after them. It reads the sources, so it says what stands
+clauses that it requires and ensures, and the mutants of its body, by the files in mutants. Those of all else come after them. It reads the sources, so it says what stands
 there; the prover judges it."""
 import os
 import re
@@ -23,10 +23,10 @@ def comment(lines, at):
 
 def edits_of(crate):
     """The mutants of a crate: the name of each, the file that it changes, and a text there that it replaces."""
-    folder = f"crates/{crate}/must-fail"
+    folder = f"crates/{crate}/mutants"
     for name in sorted(os.listdir(folder)) if os.path.isdir(folder) else []:
         text = read(os.path.join(folder, name))
-        yield name.removesuffix(".md").removesuffix(".edit"), f"crates/{crate}/{re.search(r'(?m)^file: (.*)$', text)[1]}", re.findall(r"(?m)^old: (.*)$", text)
+        yield name.removesuffix(".edit"), f"crates/{crate}/{re.search(r'(?m)^file: (.*)$', text)[1]}", re.findall(r"(?m)^old: (.*)$", text)
 
 
 def function_at(functions, text, olds):

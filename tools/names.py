@@ -89,7 +89,7 @@ class Declared:
                 self.names[path] = {it.name for it in found} | clauses | {name for row in ITEM.findall(text) for name in row}
             for path in sorted(glob.glob(f"crates/{crate}/specs/**/*.antt", recursive=True)):
                 self.names[path] = set(DEFINITION.findall(read(path))) | {os.path.basename(path)[:-5]}
-        self.files = [path.rstrip("/") for it in ("src", "specs", "proofs", "must-fail", "data") for path in glob.glob(f"crates/*/{it}/**", recursive=True)]
+        self.files = [path.rstrip("/") for it in ("src", "specs", "proofs", "mutants", "data") for path in glob.glob(f"crates/*/{it}/**", recursive=True)]
         self.all = set().union(*self.names.values(), {it for path in self.files for it in path.partition(".")[0].split("/")}, OTHER)
 
     def has(self, name, where):
@@ -108,7 +108,7 @@ def words(names):
 def places_of(path, files):
     """Where a file may be: a path from the top or from crates/, an edit, or the end of a path in a crate."""
     crate, _, name = path.partition("/")
-    there = [path, f"crates/{path}", f"crates/{crate}/must-fail/{name}.edit", f"crates/{crate}/must-fail/{name}.edit.md"]
+    there = [path, f"crates/{path}", f"crates/{crate}/mutants/{name}.edit"]
     return [it for it in there if it in MADE or os.path.exists(it)] or [it for it in files if it.endswith("/" + path.rstrip("/"))]
 
 
