@@ -10,7 +10,7 @@ use Rattle.tx_plan.specs.Routes.{route_list}
 use Rattle.tx_plan.specs.Ambiguous.{ambiguous_of}
 use Rattle.tx_plan.specs.Certified.{Ranks, IsBelow, LeadsLower, IsCertified}
 use Rattle.tx_plan.proofs.Ambiguity.{ambiguous-none, none-ambiguous}
-use Rattle.tx_trie.proofs.Prefixes.{prefix_is_take}
+use Rattle.tx_plan.proofs.Spelled.{prefix_is_take}
 use Rattle.tx_rank.specs.declared.finding.Finding.{Finding}
 use Rattle.tx_rank.specs.declared.finding.Finding.TheVariants.{Ambiguous, Loop, Short, Long}
 use Rattle.tx_rank.specs.Walks.{net_of}
