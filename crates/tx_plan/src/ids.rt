@@ -134,15 +134,8 @@ impl Hash for Pair {
         (same_pair-is p q h) };
 
     fn hash<H: Hasher>(&self, state: &mut H) {
-        state.write_u32(in_one_word(self.exchange.index, self.code.index));
+        state.write_u32(256 * u32::from(self.code.index) + u32::from(self.exchange.index));
     }
-}
-
-/// The indexes of a pair as one number.
-fn in_one_word(exchange: u16, code: u16) -> u32
-    ensures { result ≡ 256 * code + exchange }
-{
-    256 * u32::from(code) + u32::from(exchange)
 }
 
 /// From which ends the circuits of a group may be seized.
@@ -213,13 +206,6 @@ impl National {
     {
         self.figures.bytes()
     }
-
-    /// Its figures, and zeros after them up to nine bytes.
-    fn padded(&self) -> &[u8; 9]
-        ensures { result.now ≡ padded_to 9 self.now }
-    {
-        self.figures.padded()
-    }
 }
 
 /// A subscriber's line: a destination code and the national number after it (ITU-T F.69).
@@ -259,7 +245,7 @@ impl Hash for Line {
 
     fn hash<H: Hasher>(&self, state: &mut H) {
         state.write_u16(self.code.index);
-        state.write(self.national.padded());
+        state.write(self.national.figures.padded());
     }
 }
 

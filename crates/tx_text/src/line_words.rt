@@ -20,6 +20,13 @@ pub struct Words<'a> {
     rest: &'a [u8],
 }
 
+/// The words of a line, which spaces and tabs separate, up to a `#`.
+pub fn words(line: &[u8]) -> Words<'_>
+    ensures { result ≡ words_of line.now }
+{
+    Words { rest: line }
+}
+
 impl<'a> Model for Words<'a> {
     ghost use Rattle.std.specs.Prelude.{ℕ, List};
     ghost use Rattle.tx_text.specs.Words.{words_of};
@@ -30,13 +37,6 @@ impl<'a> Model for Words<'a> {
 }
 
 impl<'a> Words<'a> {
-    /// The words of a line, or of what is left of one.
-    pub fn new(line: &'a [u8]) -> Words<'a>
-        ensures { result ≡ words_of line.now }
-    {
-        Words { rest: line }
-    }
-
     /// What is left of the line: these words, and what is around them.
     pub fn rest(&self) -> &'a [u8]
         ensures { words_of result.now ≡ self.now }
