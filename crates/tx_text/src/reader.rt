@@ -79,7 +79,7 @@ pub fn bytes_fault(line: &[u8]) -> Option<TextFault>
 }
 
 /// Where the first LF is, or the length.
-pub(crate) fn lf_or_len(piece: &[u8]) -> usize
+pub fn lf_or_len(piece: &[u8]) -> usize
     ensures within { result ≤ length piece.now }
     ensures index { result ≡ position_or_len is_lf piece.now }
 {
