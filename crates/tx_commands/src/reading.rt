@@ -7,7 +7,7 @@ ghost use Rattle.tx_commands.specs.Grammar.{program_words};
 ghost use Rattle.tx_commands.specs.Faults.{IsRefusalIn, IsRefusalOf};
 ghost use Rattle.tx_commands.specs.inner.Refused.{IsRefused};
 
-use crate::asked::command_of;
+use crate::subcommand::command_of;
 use crate::clashes::refuse_clash;
 use crate::command::Command;
 use crate::fault::WordsFault;
