@@ -2,7 +2,7 @@
 ghost use Rattle.std.specs.Prelude.{◌≡◌, ◌+◌, ◌*◌, ◌<◌, ◌≤◌, true, length, if◌then◌else◌, Some, None, slice_index};
 ghost use Rattle.tx_text.specs.inner.Padded.{padded_to};
 ghost use Rattle.tx_plan.specs.Numbers.{is_national, at_most};
-ghost use Rattle.tx_plan.specs.inner.Hashing.{start, written, spread, first_word};
+ghost use Rattle.tx_plan.specs.inner.Hashing.{start, hasher_after, spread, first_word};
 
 use std::hash::{BuildHasher, Hash, Hasher};
 use std::marker::Model;
@@ -305,7 +305,7 @@ fn ninth(bytes: &[u8]) -> u64
 }
 
 impl Hasher for WordHasher {
-    ghost write = { written };
+    ghost write = { hasher_after };
 
     ghost finish = { spread };
 
