@@ -1,5 +1,6 @@
 -- What holds of the entries of all tables, as it holds of the table.
 use Rattle.std.proofs.Common.{◌≡◌, ◌∙◌, ℕ, Bool, false, true, ◌||◌, List, [], ◌∷◌, ◌++◌, map, refl, sym, ap, append_assoc}
+use Rattle.std.proofs.Math.Bool.{or_assoc}
 use Rattle.std.specs.Borrow.{Bor}
 use Rattle.std.specs.List.{flat_map, list_any}
 use Rattle.tx_commands.specs.Entries.{Texts, texts}
@@ -11,10 +12,6 @@ Entries = List (List (Bor (List ℕ)))
 abbrev pub all_texts : List (Bor Entries) → List Texts
 all_texts = flat_map (λ t. map texts t.now)
 
-or_over : (a b c : Bool) → (a || (b || c)) ≡ ((a || b) || c)
-or_over true b c = refl
-or_over false b c = refl
-
 module _ (P : Texts → Bool) where
   abbrev any_in : Entries → Bool
   any_in = list_any (λ e. P (texts e))
@@ -24,7 +21,7 @@ module _ (P : Texts → Bool) where
   any_joined [] ts = refl
   any_joined (e ∷ es) ts =
       ap (λ b. P (texts e) || b) (any_joined es ts)
-      ∙ or_over (P (texts e)) (any_in es) (list_any P ts)
+      ∙ sym (or_assoc (P (texts e)) (any_in es) (list_any P ts))
 
   pub any_of : (tables : List (Bor Entries))
       → list_any (λ t. list_any (λ e. P (texts e)) t.now) tables

@@ -6,6 +6,7 @@ use Rattle.std.proofs.Math.Seq.{drop-append-add}
 use Rattle.std.proofs.lemmas.List.{drop_all}
 use Rattle.tx_text.specs.declared.source.ReadFault.{ReadFault}
 use Rattle.tx_text.specs.Calls.{Gave, CallsAtMost}
+use Rattle.tx_text.proofs.SliceAnswers.{some_is}
 use Rattle.tx_text.proofs.ReadingOn.{moves-nil, prepend_twice}
 use Rattle.tx_jobs.specs.declared.seen.Seen.{Seen}
 use Rattle.tx_jobs.specs.declared.seen.Seen.TheVariants.{Blanks}
@@ -67,9 +68,6 @@ left_by text more given held plan left t p e =
 
 none_of : (seen : Seen) (t : List ℕ) → is_over seen ≡ true → take (end_from seen t) t ≡ []
 none_of seen t h = ap (λ k. take k t) (end_over seen t h)
-
-some_is : (a b : List ℕ) → ◌≡◌ {A = Option (List ℕ)} (Some a) (Some b) → a ≡ b
-some_is a b e = cc
 
 -- of the whole input these bytes were taken of the plan, and these are held
 pub plan_left : (seen : Seen) (held given : List ℕ) (old now : Option (List ℕ)) → option_map plan_part old ≡ prepend_known given (plan_of seen (prepend_known held now)) → old ≡ prepend_known given (prepend_known held now)
