@@ -177,4 +177,3 @@ fn number<'a>(alloc: Global, id: &'a str, shown: &'a str, help: &'a str, most: u
 {
     option(alloc, id, shown, help).value_parser(value_parser!(u8).range(0..=i64::from(most)))
 }
-

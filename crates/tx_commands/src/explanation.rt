@@ -5,8 +5,8 @@ ghost use Rattle.tx_text.specs.Wrote.{Wrote};
 ghost use Rattle.tx_commands.specs.Entries.{texts};
 ghost use Rattle.tx_commands.specs.Explanation.{entry_line, entry_text, told_text, explanation_text};
 
-use crate::known_words::is_asked;
 use crate::code_table::{Entry, tables};
+use crate::known_words::is_asked;
 use tx_text::{Sink, WriteFault, finish, put_parts};
 
 /// Writes each entry that a line asks for by a word: its code with its name, what it means and what

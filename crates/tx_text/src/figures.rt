@@ -156,9 +156,7 @@ pub fn are_figures(text: &[u8], least: usize, most: usize) -> bool
     ensures gives { result ≡ are_figures least most text.now }
     ensures short { result ≡ true → length text.now ≤ most }
 {
-    text.len() >= least
-        && text.len() <= most
-        && text.iter().all(|byte| is_figure(*byte))
+    text.len() >= least && text.len() <= most && text.iter().all(|byte| is_figure(*byte))
 }
 
 /// The number that the text is the decimal form of, without a sign or leading zeros, if it is at
