@@ -6,6 +6,7 @@ ghost use Rattle.tx_machine.specs.Sound.{IsSound, HasFewRoutes};
 ghost use Rattle.tx_check.specs.Checks.{ranks_for, check_faults, foremost, verdict_of};
 ghost use Rattle.tx_check.specs.Confirmed.{IsConfirmed};
 
+use crate::ambiguity::ambiguous;
 use crate::fault::CheckFault;
 use crate::lists::list_faults;
 use crate::passes::{height_fault, home_fault, origin_fault};
@@ -57,7 +58,7 @@ fn first_fault<A: Allocator>(plan: &Plan<A>, cert: &Cert<A>, limits: Limits) -> 
     ensures { result ≡ foremost
         (check_faults plan.now (ranks_for plan.now cert.now) limits.limit limits.spare) }
 {
-    if let Some(pair) = plan.ambiguous() {
+    if let Some(pair) = ambiguous(plan) {
         return Some(CheckFault::Ambiguous(pair.0, pair.1));
     }
     if let Some(fault) = home_fault(plan, cert) {

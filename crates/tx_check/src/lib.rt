@@ -2,6 +2,7 @@
 //! spare number, and else why not. Its contract carries the headline.
 #![tactic(auto)]
 
+mod ambiguity;
 mod checker;
 mod fault;
 mod law;

@@ -19,8 +19,8 @@ use tx_text::NoMemory;
 /// Rounds that rank whatever can be ranked: there are at most 256 exchanges.
 const UNLIMITED: u8 = 255;
 
-/// The least ranks of the exchanges of a plan for a code, within the limit and without one, those up to
-/// the limit, and the groups that each exchange may seize.
+/// The least ranks of the exchanges of a plan for a code, within the limit and without one, those up
+/// to the limit, and the groups that each exchange may seize.
 #[derive(Drop)]
 struct Reach<'a, A: Allocator> {
     plan: &'a Plan<A>,

@@ -22,10 +22,10 @@
 //! ```
 #![tactic(auto)]
 
-mod ambiguous;
 mod builder;
 mod copying;
 mod entries;
+mod figures;
 mod ids;
 mod limits;
 mod names;
@@ -35,9 +35,9 @@ mod refusal;
 mod route_scan;
 mod routes;
 
-pub use ambiguous::three_figures;
 pub use builder::PlanBuilder;
 pub use copying::{bars_of, routes_of};
+pub use figures::three_figures;
 pub use ids::{ByWord, Circuit, CodeId, Direction, ExchangeId, GroupId, Line, National, Pair};
 pub use limits::Limits;
 pub use names::NameKey;

@@ -8,9 +8,10 @@ ghost use Rattle.tx_text.specs.inner.Framing.{end_as, frame_start, line_of_frame
 ghost use Rattle.tx_text.specs.declared.frame.FaultKind.TheVariants.{Frame};
 ghost use Rattle.tx_text.specs.Calls.{source_calls, slice_calls, CallsAtMost, Broken};
 
-use crate::line_words::{Words, words};
+use crate::line_words::Words;
 use crate::reader::TextReader;
 use crate::source::Source;
+use crate::split::words;
 use crate::text_fault::TextFault;
 use std::alloc::{Allocator, Global};
 use std::marker::Model;

@@ -17,14 +17,7 @@ pub(crate) fn is_blank(byte: u8) -> bool
 /// The words of a line: what is left to give.
 #[derive(Drop)]
 pub struct Words<'a> {
-    rest: &'a [u8],
-}
-
-/// The words of a line, which spaces and tabs separate, up to a `#`.
-pub fn words(line: &[u8]) -> Words<'_>
-    ensures { result ≡ words_of line.now }
-{
-    Words { rest: line }
+    pub(crate) rest: &'a [u8],
 }
 
 impl<'a> Model for Words<'a> {

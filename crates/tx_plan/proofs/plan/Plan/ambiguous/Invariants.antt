@@ -1,5 +1,0 @@
-use Rattle.tx_plan.proofs.FirstPair.{NoneBelow}
-use Rattle.tx_plan.proofs.plan.Plan.ambiguous.Given as goal
-
-abbrev pub invariant-loop-number : goal.invariant-loop-number
-invariant-loop-number g l = NoneBelow l.self.codes l.number
