@@ -248,7 +248,7 @@ def lines_quoted(page):
 
 def codes_explained(*names):
     """The program's tables of codes, or these ones: a code, its name, what it means and what to do."""
-    texts = [read(f"crates/tx_explain/src/{name}.rt").decode() for name in names or ("text_faults", "run_codes", "plan_codes")]
+    texts = [read(f"crates/tx_commands/src/{name}.rt").decode() for name in names or ("text_faults", "run_codes", "plan_codes")]
     return re.findall(r'\[\s*"(.*?)",\s*"(.*?)",\s*"(.*?)",\s*"(.*?)",?\s*\]', "".join(texts))
 
 
@@ -265,7 +265,7 @@ def check_words_printed(tell):
         names = set(re.findall(r"(?m)^\s*(?:EXCHANGE|GROUP|RISK)\s+(\w+)", texts))
         words = set(re.findall(r'(?<![\w".])[A-Z]{2,}(?![\w".])', prints)) if reports & set(head.split()[1:3]) else set()
         for word in sorted(words - known - names):
-            tell(f"crates/tx_explain: {word}, which {head.split()[0]} prints, is not explained")
+            tell(f"crates/tx_commands: {word}, which {head.split()[0]} prints, is not explained")
 
 
 def codes_defined():
@@ -313,9 +313,9 @@ def check_explained(tell):
     """What `explain` prints is what the program's tables have, and these have the codes of the definitions."""
     wanted = [f"{code} {name}: {meaning}" for code, name, meaning, _ in codes_explained() + words_explained()]
     if wanted != read("examples/explain-all.out").decode().splitlines():
-        tell("examples/explain-all.out: it does not have what the tables of crates/tx_explain have")
+        tell("examples/explain-all.out: it does not have what the tables of crates/tx_commands have")
     for it in sorted(codes_defined() ^ {row[:2] for row in codes_explained()}):
-        tell(f"crates/tx_explain: {' '.join(it)} stands in the table or in the definitions alone")
+        tell(f"crates/tx_commands: {' '.join(it)} stands in the table or in the definitions alone")
 
 
 # WHERE THE PAGES LEAD

@@ -35,7 +35,7 @@ use Rattle.tx_machine.specs.Excused.{IsExcused, FoundNone}
 use Rattle.tx_machine.specs.Step.{step}
 use Rattle.tx_machine.specs.Sound.{IsSound}
 use Rattle.tx_machine.proofs.Steps.{all_mem}
-use Rattle.tx_audit.specs.Counter.{first_line, walk_events, shut_events, walked_by, walked, turns_on_one, counter_of, has_counter}
+use Rattle.tx_audit.specs.Counter.{first_line, walk_events, shut_events, walked_by, events_along, turns_on_one, counter_of, has_counter}
 use Rattle.tx_audit.specs.Breaks.{PassesTwice, PassesMany, AnswersBare, Shows}
 use Rattle.tx_machine.proofs.Playing.{Groups, AllUp, Plays, plays_none, plays_first, plays_one, plays_then, shut, shut_among}
 use Rattle.tx_machine.proofs.OneCall.{step_of, alone, on_way, IsPlaced, routed_there, key_step, nc_step, blocks}
@@ -224,13 +224,13 @@ module _ (p : Plan) (ok : IsPlan p) (c : ℕ) (within : c < length p.codes) (x :
 -- THE EVENTS OF A FINDING
 
 -- the events are those of the line that calls
-events_are : (p : Plan) (c : ℕ) (w : Walk) (last events : List Event) (line : Line) → first_line p w.start ≡ Some line → walked p c w last ≡ Some events → walked_by p c w last line ≡ events
+events_are : (p : Plan) (c : ℕ) (w : Walk) (last events : List Event) (line : Line) → first_line p w.start ≡ Some line → events_along p c w last ≡ Some events → walked_by p c w last line ≡ events
 events_are p c w last events line first e =
-    let made : walked p c w last ≡ Some (walked_by p c w last line) = ap (option_map (walked_by p c w last)) first in
+    let made : events_along p c w last ≡ Some (walked_by p c w last line) = ap (option_map (walked_by p c w last)) first in
     same_Some _ _ (sym made ∙ e)
 
 module _ {A : Type 0} (p : Plan) (ok : IsPlan p) (limit spare : ℕ) where
-  shows_loop : (c : ℕ) (w : Walk) (events : List Event) → c < length p.codes → IsLoop (net_of p c) w.start w.steps → turns_on_one p w.steps ≡ false → walked p c w [] ≡ Some events → Shows {A = A} p limit spare (Loop c w) events
+  shows_loop : (c : ℕ) (w : Walk) (events : List Event) → c < length p.codes → IsLoop (net_of p c) w.start w.steps → turns_on_one p w.steps ≡ false → events_along p c w [] ≡ Some events → Shows {A = A} p limit spare (Loop c w) events
   shows_loop c w events within h free e =
       let g = gone p ok c within w.start w.steps h.walk h.once free in
       let same = events_are p c w [] events g.line g.first e in
@@ -239,7 +239,7 @@ module _ {A : Type 0} (p : Plan) (ok : IsPlan p) (limit spare : ℕ) where
       subst (Shows {A = A} p limit spare (Loop c w)) same
       (record { unrefused = play.unrefused; breaks = b; unsound = λ s. unsound_twice p limit spare (walked_by p c w [] g.line) s b })
 
-  shows_short : (c : ℕ) (w : Walk) (events : List Event) → c < length p.codes → IsShort (net_of p c) spare w.start w.steps → walked p c w (shut_events p c (end_of w.start w.steps)) ≡ Some events → Shows {A = A} p limit spare (Short c w) events
+  shows_short : (c : ℕ) (w : Walk) (events : List Event) → c < length p.codes → IsShort (net_of p c) spare w.start w.steps → events_along p c w (shut_events p c (end_of w.start w.steps)) ≡ Some events → Shows {A = A} p limit spare (Short c w) events
   shows_short c w events within h e =
       let g = gone p ok c within w.start w.steps h.walk (before_once w.start w.steps h.once) (no_turn p c w.start w.steps h.walk.goes h.once) in
       let last = shut_events p c (end_of w.start w.steps) in
@@ -249,7 +249,7 @@ module _ {A : Type 0} (p : Plan) (ok : IsPlan p) (limit spare : ℕ) where
       subst (Shows {A = A} p limit spare (Short c w)) same
       (record { unrefused = play.unrefused; breaks = b; unsound = λ s. unsound_bare p limit spare (walked_by p c w last g.line) s b })
 
-  shows_long : (c : ℕ) (w : Walk) (events : List Event) → c < length p.codes → IsLong (net_of p c) limit w.start w.steps → walked p c w [] ≡ Some events → Shows {A = A} p limit spare (Long c w) events
+  shows_long : (c : ℕ) (w : Walk) (events : List Event) → c < length p.codes → IsLong (net_of p c) limit w.start w.steps → events_along p c w [] ≡ Some events → Shows {A = A} p limit spare (Long c w) events
   shows_long c w events within h e =
       let g = gone p ok c within w.start w.steps h.walk (before_once w.start w.steps h.once) (no_turn p c w.start w.steps h.walk.goes h.once) in
       let same = events_are p c w [] events g.line g.first e in
@@ -261,7 +261,7 @@ module _ {A : Type 0} (p : Plan) (ok : IsPlan p) (limit spare : ℕ) where
 pub counters_show : (A : Type 0) (p : Plan) (limit spare : ℕ) (f : Finding A) (events : List Event) → IsPlan p → IsTrueOf p limit spare f → counter_of p f ≡ Some events → Shows p limit spare f events
 counters_show A p limit spare (Ambiguous a b) events ok h e = let bad : ⊥ = cc in absurd bad
 counters_show A p limit spare (Loop c w) events ok h e =
-    elim (turns_on_one p w.steps) as (λ b. turns_on_one p w.steps ≡ b → (if b then None else walked p c w []) ≡ Some events → Shows {A = A} p limit spare (Loop c w) events) [
+    elim (turns_on_one p w.steps) as (λ b. turns_on_one p w.steps ≡ b → (if b then None else events_along p c w []) ≡ Some events → Shows {A = A} p limit spare (Loop c w) events) [
       | true ↦ λ t q. let bad : ⊥ = cc in absurd bad
       | false ↦ λ t q. shows_loop p ok limit spare c w events h.0 h.1 t q
     ] refl e
@@ -270,7 +270,7 @@ counters_show A p limit spare (Long c w) events ok h e = shows_long p ok limit s
 
 -- every other finding has events
 module _ (p : Plan) (ok : IsPlan p) where
-  line_there : (c : ℕ) (w : Walk) (last : List Event) → IsWalk (net_of p c) w.start w.steps → is_some (walked p c w last) ≡ true
+  line_there : (c : ℕ) (w : Walk) (last : List Event) → IsWalk (net_of p c) w.start w.steps → is_some (events_along p c w last) ≡ true
   line_there c w last h =
       let k = caller p ok w.start (and_parts (is_origin p w.start) (not (is_barred p w.start c)) h.origin).0 in
       ap (λ o. is_some (option_map (walked_by p c w last) o)) k.first
@@ -278,6 +278,6 @@ module _ (p : Plan) (ok : IsPlan p) where
   pub counter_there : {A : Type 0} (limit spare : ℕ) (f : Finding A) → IsTrueOf p limit spare f → is_some (counter_of p f) ≡ has_counter p f
   counter_there limit spare (Ambiguous a b) h = refl
   counter_there limit spare (Loop c w) h =
-      elim (turns_on_one p w.steps) as (λ b. is_some (if b then None else walked p c w []) ≡ not b) [ true ↦ refl | false ↦ line_there c w [] h.1.walk ]
+      elim (turns_on_one p w.steps) as (λ b. is_some (if b then None else events_along p c w []) ≡ not b) [ true ↦ refl | false ↦ line_there c w [] h.1.walk ]
   counter_there limit spare (Short c w) h = line_there c w (shut_events p c (end_of w.start w.steps)) h.1.walk
   counter_there limit spare (Long c w) h = line_there c w [] h.1.walk

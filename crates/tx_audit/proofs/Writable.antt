@@ -23,7 +23,7 @@ use Rattle.tx_machine.specs.Refusals.{is_group}
 use Rattle.tx_machine.proofs.Lists.{find_mem, at_index}
 use Rattle.tx_machine.proofs.Steps.{all_mem}
 use Rattle.tx_script.specs.Events.{IsWritable}
-use Rattle.tx_audit.specs.Counter.{first_range, first_code, calls_from, low_line, first_line, listed_before, step_events, walk_events, shut_events, walked_by, walked, turns_on_one, counter_of}
+use Rattle.tx_audit.specs.Counter.{first_range, first_code, calls_from, low_line, first_line, listed_before, step_events, walk_events, shut_events, walked_by, events_along, turns_on_one, counter_of}
 use Rattle.tx_audit.proofs.Listed.{listed_known, before_all}
 
 all_append : {A : Type 0} (P : A → Type 0) (xs ys : List A) → AllByRecursion P xs → AllByRecursion P ys → AllByRecursion P (xs ++ ys)
@@ -118,7 +118,7 @@ module _ (p : Plan) (ok : IsPlan p) where
       at None e = let bad : ⊥ = cc in absurd bad
       at (Some d) e = by_range d (first_range p d) refl e
 
-  from_writable : (c : ℕ) → c < length p.codes → (w : Walk) (last events : List Event) → AllByRecursion (IsWritable p) last → walked p c w last ≡ Some events → AllByRecursion (IsWritable p) events
+  from_writable : (c : ℕ) → c < length p.codes → (w : Walk) (last events : List Event) → AllByRecursion (IsWritable p) last → events_along p c w last ≡ Some events → AllByRecursion (IsWritable p) events
   from_writable c within w last events h e = at (first_line p w.start) refl e
     where
       at : (o : Option Line) → first_line p w.start ≡ o → option_map (walked_by p c w last) o ≡ Some events → AllByRecursion (IsWritable p) events
@@ -131,7 +131,7 @@ module _ (p : Plan) (ok : IsPlan p) where
   pub counter_writable : {A : Type 0} (limit spare : ℕ) (f : Finding A) (events : List Event) → IsTrueOf p limit spare f → counter_of p f ≡ Some events → AllByRecursion (IsWritable p) events
   counter_writable limit spare (Ambiguous a b) events t e = let bad : ⊥ = cc in absurd bad
   counter_writable limit spare (Loop c w) events t e =
-      elim (turns_on_one p w.steps) as (λ b. (if b then None else walked p c w []) ≡ Some events → AllByRecursion (IsWritable p) events) [
+      elim (turns_on_one p w.steps) as (λ b. (if b then None else events_along p c w []) ≡ Some events → AllByRecursion (IsWritable p) events) [
         | true ↦ λ q. let bad : ⊥ = cc in absurd bad
         | false ↦ λ q. from_writable c t.0 w [] events tt q
       ] e

@@ -58,8 +58,8 @@ abbrev pub walked_by : Plan → ℕ → Walk → List Event → Line → List Ev
 walked_by p c w last line = Key line (figures_of p c) ∷ (walk_events p c w.start w.steps ++ last)
 
 -- the same, of the first line where the walk starts
-abbrev pub walked : Plan → ℕ → Walk → List Event → Option (List Event)
-walked p c w last = option_map (walked_by p c w last) (first_line p w.start)
+abbrev pub events_along : Plan → ℕ → Walk → List Event → Option (List Event)
+events_along p c w last = option_map (walked_by p c w last) (first_line p w.start)
 
 -- Both are one both-way group of a single circuit: no call can go back by it.
 abbrev pub is_single : Plan → ℕ → ℕ → Bool
@@ -75,9 +75,9 @@ turns_on_one p (s ∷ t ∷ u ∷ steps) = turns_on_one p (t ∷ u ∷ steps)
 -- The events of a finding: none for an ambiguous pair, and for a loop that turns so
 abbrev pub counter_of : {A : Type 0} → Plan → Finding A → Option (List Event)
 counter_of p (Ambiguous a b) = None
-counter_of p (Loop c w) = if turns_on_one p w.steps then None else walked p c w []
-counter_of p (Short c w) = walked p c w (shut_events p c (end_of w.start w.steps))
-counter_of p (Long c w) = walked p c w []
+counter_of p (Loop c w) = if turns_on_one p w.steps then None else events_along p c w []
+counter_of p (Short c w) = events_along p c w (shut_events p c (end_of w.start w.steps))
+counter_of p (Long c w) = events_along p c w []
 
 -- which true findings have events
 abbrev pub has_counter : {A : Type 0} → Plan → Finding A → Bool

@@ -5,7 +5,7 @@ ghost use Rattle.std.specs.Option.{option_map, IfSome};
 ghost use Rattle.tx_machine.specs.declared.event.Event.{Event};
 ghost use Rattle.tx_script.specs.Events.{IsWritable};
 ghost use Rattle.tx_rank.specs.Findings.{IsTrueOf};
-ghost use Rattle.tx_audit.specs.Counter.{walked, counter_of, has_counter};
+ghost use Rattle.tx_audit.specs.Counter.{events_along, counter_of, has_counter};
 ghost use Rattle.tx_audit.specs.Breaks.{Shows};
 
 use crate::free_line::first_line;
@@ -26,7 +26,7 @@ fn walked<A: Allocator + Copy>(
 ) -> Result<Option<Vec<Event, A>>, NoMemory>
     requires { code < length plan.now.codes }
     ensures { IfOk result (λ o. (last : List Event)
-        → option_map (λ v. v.items ++ last) o ≡ walked plan.now code walk.now last) }
+        → option_map (λ v. v.items ++ last) o ≡ events_along plan.now code walk.now last) }
 {
     let Some(line) = first_line(plan, walk.start) else {
         return Ok(None);

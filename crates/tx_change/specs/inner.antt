@@ -2,4 +2,3 @@ pub mod Joined
 pub mod Changed
 pub mod Kept
 pub mod OneNetwork
-pub mod Apart

@@ -4,8 +4,6 @@
 
 mod change_routes;
 mod changing;
-mod difference;
-mod entries;
 mod joined;
 mod judging;
 mod law;
@@ -17,7 +15,6 @@ mod taking;
 
 pub use change_routes::ChangeRoutes;
 pub use changing::change;
-pub use difference::{Difference, NetworkList, first_difference};
 pub use joined::JoinedLists;
 pub use judging::{ChangeVerdict, judge_change};
 pub use law::{closed_codes_stay, findings_show_mixtures};

@@ -16,9 +16,9 @@ use Rattle.tx_circuits.specs.declared.lists.End.TheVariants.{First, Other}
 use Rattle.tx_circuits.specs.declared.slot.CircuitState.{CircuitState}
 use Rattle.tx_circuits.specs.declared.groups.GroupHead.{GroupHead}
 use Rattle.tx_circuits.specs.inner.Slots.{has_seized, rising}
-use Rattle.tx_circuits.specs.inner.Groups.{GroupState, numbered, end_at, idle}
-use Rattle.tx_circuits.specs.Table.{Seat, all_free, unnamed}
-use Rattle.tx_circuits.specs.inner.Seen.{group_of, circuits_of, seats_of, gathered, is_marked, holds, sits, table_of}
+use Rattle.tx_circuits.specs.inner.Groups.{GroupState, entry_numbered, end_at, idle}
+use Rattle.tx_circuits.specs.Table.{Seat, all_free, without_name}
+use Rattle.tx_circuits.specs.inner.Seen.{group_of, circuits_of, seats_of, gathered_keys, is_marked, holds, sits, table_of}
 use Rattle.tx_circuits.proofs.Seats.{seats_total, exact_seats}
 use Rattle.tx_circuits.proofs.Those.{those_none}
 
@@ -34,7 +34,7 @@ module _ (gs : List Group) where
       each None = refl
       each (Some r) = off r
 
-  idle_in : (test : CircuitState → Bool) → test idle ≡ false → (n m : ℕ) → option_map_or test (numbered (replicate n idle) m) false ≡ false
+  idle_in : (test : CircuitState → Bool) → test idle ≡ false → (n m : ℕ) → option_map_or test (entry_numbered (replicate n idle) m) false ≡ false
   idle_in test off n zero = refl
   idle_in test off n (suc m) = inside n m
     where
@@ -44,9 +44,9 @@ module _ (gs : List Group) where
       inside (suc n) (suc m) = inside n m
 
   holds_none : (test : CircuitState → Bool) → test idle ≡ false → (c : Circuit) → holds test (map fresh gs) c ≡ false
-  holds_none test off c = ap (λ o. option_map_or test (option_and_then (λ t. numbered t.states c.number) o) false) (slice_get-map fresh gs c.group) ∙ each (slice_get gs c.group)
+  holds_none test off c = ap (λ o. option_map_or test (option_and_then (λ t. entry_numbered t.states c.number) o) false) (slice_get-map fresh gs c.group) ∙ each (slice_get gs c.group)
     where
-      each : (o : Option Group) → option_map_or test (option_and_then (λ t. numbered t.states c.number) (option_map fresh o)) false ≡ false
+      each : (o : Option Group) → option_map_or test (option_and_then (λ t. entry_numbered t.states c.number) (option_map fresh o)) false ≡ false
       each None = refl
       each (Some r) = idle_in test off r.count c.number
 
@@ -58,7 +58,7 @@ module _ (gs : List Group) where
       each (Some First) = holds_none (has_seized First) refl q.0
       each (Some Other) = holds_none (has_seized Other) refl q.0
 
-groups_fresh : (gs : List Group) → map group_of (map fresh gs) ≡ map unnamed gs
+groups_fresh : (gs : List Group) → map group_of (map fresh gs) ≡ map without_name gs
 groups_fresh [] = refl
 groups_fresh (r ∷ gs) = λ i. record { name = []; a = r.a; b = r.b; direction = r.direction; count = length-replicate r.count idle i } ∷ groups_fresh gs i
 
@@ -67,10 +67,10 @@ built_is p = λ i. record {
   groups = groups_fresh p.groups i;
   failed = those_none nat_cmp_total exact_unsigned (is_marked (λ t. t.failed) (map fresh p.groups)) (rising (length (map fresh p.groups))) (unmarked p.groups (λ t. t.failed) (λ r. refl)) i;
   blocked = those_none nat_cmp_total exact_unsigned (is_marked (λ t. t.blocked) (map fresh p.groups)) (rising (length (map fresh p.groups))) (unmarked p.groups (λ t. t.blocked) (λ r. refl)) i;
-  releasing = those_none circuits_total exact_circuits (holds (λ s. s.releasing) (map fresh p.groups)) (gathered circuits_of 0 (map fresh p.groups)) (holds_none p.groups (λ s. s.releasing) refl) i;
-  out = those_none circuits_total exact_circuits (holds (λ s. s.out) (map fresh p.groups)) (gathered circuits_of 0 (map fresh p.groups)) (holds_none p.groups (λ s. s.out) refl) i;
-  carried = those_none circuits_total exact_circuits (holds (λ s. s.carried) (map fresh p.groups)) (gathered circuits_of 0 (map fresh p.groups)) (holds_none p.groups (λ s. s.carried) refl) i;
-  seized = those_none seats_total exact_seats (sits (map fresh p.groups)) (gathered seats_of 0 (map fresh p.groups)) (sits_none p.groups) i;
+  releasing = those_none circuits_total exact_circuits (holds (λ s. s.releasing) (map fresh p.groups)) (gathered_keys circuits_of 0 (map fresh p.groups)) (holds_none p.groups (λ s. s.releasing) refl) i;
+  out = those_none circuits_total exact_circuits (holds (λ s. s.out) (map fresh p.groups)) (gathered_keys circuits_of 0 (map fresh p.groups)) (holds_none p.groups (λ s. s.out) refl) i;
+  carried = those_none circuits_total exact_circuits (holds (λ s. s.carried) (map fresh p.groups)) (gathered_keys circuits_of 0 (map fresh p.groups)) (holds_none p.groups (λ s. s.carried) refl) i;
+  seized = those_none seats_total exact_seats (sits (map fresh p.groups)) (gathered_keys seats_of 0 (map fresh p.groups)) (sits_none p.groups) i;
 }
 
 -- one group more

@@ -16,9 +16,9 @@ use Rattle.tx_circuits.specs.declared.lists.End.TheVariants.{First, Other}
 use Rattle.tx_circuits.specs.declared.slot.CircuitState.{CircuitState}
 use Rattle.tx_circuits.specs.declared.groups.GroupHead.{GroupHead}
 use Rattle.tx_circuits.specs.inner.Slots.{has_seized, opposite, rising}
-use Rattle.tx_circuits.specs.inner.Groups.{GroupState, state_at, numbered, set_numbered, seizing_end, end_at, with_state, change_at}
+use Rattle.tx_circuits.specs.inner.Groups.{GroupState, state_at, entry_numbered, set_numbered, seizing_end, end_at, with_state, change_at}
 use Rattle.tx_circuits.specs.Table.{Seat, seat_cmp}
-use Rattle.tx_circuits.specs.inner.Seen.{those, group_of, circuits_of, seats_of, gathered, is_marked, holds, sits}
+use Rattle.tx_circuits.specs.inner.Seen.{those, group_of, circuits_of, seats_of, gathered_keys, is_marked, holds, sits}
 use Rattle.tx_circuits.proofs.FreeLists.{get-change_here, get-change_there, get-set_here, get-set_there}
 use Rattle.tx_circuits.proofs.Members.{Known, holds_in, sits_in, marked_in, end_is}
 use Rattle.tx_circuits.proofs.Seats.{seats_total, exact_seats}
@@ -72,12 +72,12 @@ length-set_numbered : {A : Type 0} (xs : List A) (n : ℕ) (y : A) → length (s
 length-set_numbered xs zero y = refl
 length-set_numbered xs (suc n) y = simp length-set refl
 
-numbered_there : {A : Type 0} (xs : List A) (n m : ℕ) (y : A) → m ≢ n → numbered (set_numbered xs n y) m ≡ numbered xs m
+numbered_there : {A : Type 0} (xs : List A) (n m : ℕ) (y : A) → m ≢ n → entry_numbered (set_numbered xs n y) m ≡ entry_numbered xs m
 numbered_there xs zero m y ne = refl
 numbered_there xs (suc n) zero y ne = refl
 numbered_there xs (suc n) (suc m) y ne = get-set_there xs n m y (λ e. ne (ap suc e))
 
-numbered_here : {A : Type 0} (xs : List A) (n k : ℕ) (y : A) → n ≡ suc k → k < length xs → numbered (set_numbered xs n y) n ≡ Some y
+numbered_here : {A : Type 0} (xs : List A) (n k : ℕ) (y : A) → n ≡ suc k → k < length xs → entry_numbered (set_numbered xs n y) n ≡ Some y
 numbered_here xs zero k y e h = absurd cc
 numbered_here xs (suc n) k y e h = get-set_here xs n y (omega arith)
 
@@ -89,20 +89,20 @@ module _ (ts : List GroupState) (c : Circuit) (known : Known ts c) (s to : Circu
 
   pub state_here : state_at after c ≡ Some to
   state_here =
-      ap (option_and_then (λ t. numbered t.states c.number)) (get-change_here (with_state c to) ts c.group ∙ ap (option_map (with_state c to)) known.at)
+      ap (option_and_then (λ t. entry_numbered t.states c.number)) (get-change_here (with_state c to) ts c.group ∙ ap (option_map (with_state c to)) known.at)
       ∙ numbered_here known.group.states c.number known.index to known.number known.within
 
   state_there : (d : Circuit) → d ≢ c → state_at after d ≡ state_at ts d
   state_there d ne = elim (eqb_tells d.group c.group) [
     | inl e ↦
-        ap (λ (g : ℕ). option_and_then (λ t. numbered t.states d.number) (slice_get after g)) e.1
-        ∙ ap (option_and_then (λ t. numbered t.states d.number)) (get-change_here (with_state c to) ts c.group)
+        ap (λ (g : ℕ). option_and_then (λ t. entry_numbered t.states d.number) (slice_get after g)) e.1
+        ∙ ap (option_and_then (λ t. entry_numbered t.states d.number)) (get-change_here (with_state c to) ts c.group)
         ∙ through (slice_get ts c.group) (λ n. ne (λ i. record { group = e.1 i; number = n i }))
-        ∙ ap (λ (g : ℕ). option_and_then (λ t. numbered t.states d.number) (slice_get ts g)) (sym e.1)
-    | inr e ↦ ap (option_and_then (λ t. numbered t.states d.number)) (get-change_there (with_state c to) ts c.group d.group e.1)
+        ∙ ap (λ (g : ℕ). option_and_then (λ t. entry_numbered t.states d.number) (slice_get ts g)) (sym e.1)
+    | inr e ↦ ap (option_and_then (λ t. entry_numbered t.states d.number)) (get-change_there (with_state c to) ts c.group d.group e.1)
   ]
     where
-      through : (o : Option GroupState) → d.number ≢ c.number → option_and_then (λ t. numbered t.states d.number) (option_map (with_state c to) o) ≡ option_and_then (λ t. numbered t.states d.number) o
+      through : (o : Option GroupState) → d.number ≢ c.number → option_and_then (λ t. entry_numbered t.states d.number) (option_map (with_state c to) o) ≡ option_and_then (λ t. entry_numbered t.states d.number) o
       through None n = refl
       through (Some t) n = numbered_there t.states c.number d.number to n
 
@@ -122,9 +122,9 @@ module _ (ts : List GroupState) (c : Circuit) (known : Known ts c) (s to : Circu
     held_here : holds test ts c ≡ test s
     held_here = ap (λ o. option_map_or test o false) old
 
-    pub circuits_stay : test to ≡ test s → those {R = circuit_cmp} (holds test after) (gathered circuits_of 0 after) ≡ those (holds test ts) (gathered circuits_of 0 ts)
+    pub circuits_stay : test to ≡ test s → those {R = circuit_cmp} (holds test after) (gathered_keys circuits_of 0 after) ≡ those (holds test ts) (gathered_keys circuits_of 0 ts)
     circuits_stay e =
-        those_stay circuits_total exact_circuits (holds test ts) (holds test after) (gathered circuits_of 0 ts) (gathered circuits_of 0 after) (holds_in test ts) (holds_in test after)
+        those_stay circuits_total exact_circuits (holds test ts) (holds test after) (gathered_keys circuits_of 0 ts) (gathered_keys circuits_of 0 after) (holds_in test ts) (holds_in test after)
         (λ d. elim (circuit_tells d) [ inl x ↦ ap (holds test after) x ∙ holds_here ∙ e ∙ sym held_here ∙ ap (holds test ts) (sym x) | inr ne ↦ holds_there d ne ])
       where
         circuit_tells : (d : Circuit) → (d ≡ c) ⊎ (d ≢ c)
@@ -133,14 +133,14 @@ module _ (ts : List GroupState) (c : Circuit) (known : Known ts c) (s to : Circu
           | false ↦ λ e. inr (λ x. let bad : true ≡ false = sym (ap (λ z. same_circuit z c) x ∙ same_circuit-itself c) ∙ e in absurd cc)
         ] refl
 
-    pub circuits_inserted : test to ≡ true → those {R = circuit_cmp} (holds test after) (gathered circuits_of 0 after) ≡ insert (those (holds test ts) (gathered circuits_of 0 ts)) c
+    pub circuits_inserted : test to ≡ true → those {R = circuit_cmp} (holds test after) (gathered_keys circuits_of 0 after) ≡ insert (those (holds test ts) (gathered_keys circuits_of 0 ts)) c
     circuits_inserted e =
-        those_inserted circuits_total exact_circuits (holds test ts) (holds test after) (gathered circuits_of 0 ts) (gathered circuits_of 0 after) (holds_in test ts) (holds_in test after)
+        those_inserted circuits_total exact_circuits (holds test ts) (holds test after) (gathered_keys circuits_of 0 ts) (gathered_keys circuits_of 0 after) (holds_in test ts) (holds_in test after)
         c holds_there (holds_here ∙ e)
 
-    pub circuits_removed : test to ≡ false → those {R = circuit_cmp} (holds test after) (gathered circuits_of 0 after) ≡ remove (those (holds test ts) (gathered circuits_of 0 ts)) c
+    pub circuits_removed : test to ≡ false → those {R = circuit_cmp} (holds test after) (gathered_keys circuits_of 0 after) ≡ remove (those (holds test ts) (gathered_keys circuits_of 0 ts)) c
     circuits_removed e =
-        those_removed circuits_total exact_circuits (holds test ts) (holds test after) (gathered circuits_of 0 ts) (gathered circuits_of 0 after) (holds_in test ts) (holds_in test after)
+        those_removed circuits_total exact_circuits (holds test ts) (holds test after) (gathered_keys circuits_of 0 ts) (gathered_keys circuits_of 0 after) (holds_in test ts) (holds_in test after)
         c holds_there (holds_here ∙ e)
 
   -- the ends
@@ -176,9 +176,9 @@ module _ (ts : List GroupState) (c : Circuit) (known : Known ts c) (s to : Circu
       subst (λ (d : Circuit). P (sits after (d, q.1)) (sits ts (d, q.1))) (sym e)
       (subst (λ b. P b (sits ts (c, q.1))) (sym (seat_now q.1 o f)) (subst (P (option_map_or (λ end. has_seized end to) o false)) (sym (seat_before q.1 o f)) h))
 
-  pub seats_stay : ((end : End) → has_seized end to ≡ has_seized end s) → those {R = seat_cmp} (sits after) (gathered seats_of 0 after) ≡ those (sits ts) (gathered seats_of 0 ts)
+  pub seats_stay : ((end : End) → has_seized end to ≡ has_seized end s) → those {R = seat_cmp} (sits after) (gathered_keys seats_of 0 after) ≡ those (sits ts) (gathered_keys seats_of 0 ts)
   seats_stay same =
-      those_stay seats_total exact_seats (sits ts) (sits after) (gathered seats_of 0 ts) (gathered seats_of 0 after) (sits_in ts) (sits_in after) (λ q. elim (circuit_is q.0) [
+      those_stay seats_total exact_seats (sits ts) (sits after) (gathered_keys seats_of 0 ts) (gathered_keys seats_of 0 after) (sits_in ts) (sits_in after) (λ q. elim (circuit_is q.0) [
         | inl e ↦ seat_as q e (end_at ts c.group q.1) refl (λ a b. a ≡ b) (each (end_at ts c.group q.1))
         | inr ne ↦ seats_there q ne
       ])
@@ -188,9 +188,9 @@ module _ (ts : List GroupState) (c : Circuit) (known : Known ts c) (s to : Circu
       each (Some end) = same end
 
   -- no end has seized it any more
-  pub seats_cleared : ((end : End) → has_seized end to ≡ false) → those {R = seat_cmp} (sits after) (gathered seats_of 0 after) ≡ retain (those (sits ts) (gathered seats_of 0 ts)) (λ q. not (same_circuit q.0 c))
+  pub seats_cleared : ((end : End) → has_seized end to ≡ false) → those {R = seat_cmp} (sits after) (gathered_keys seats_of 0 after) ≡ retain (those (sits ts) (gathered_keys seats_of 0 ts)) (λ q. not (same_circuit q.0 c))
   seats_cleared none =
-      those_retained seats_total exact_seats (sits ts) (sits after) (gathered seats_of 0 ts) (gathered seats_of 0 after) (sits_in ts) (sits_in after) (λ q. not (same_circuit q.0 c))
+      those_retained seats_total exact_seats (sits ts) (sits after) (gathered_keys seats_of 0 ts) (gathered_keys seats_of 0 after) (sits_in ts) (sits_in after) (λ q. not (same_circuit q.0 c))
       (λ q. elim (same_circuit q.0 c) as (λ b. same_circuit q.0 c ≡ b → sits after q ≡ (sits ts q && not b)) [
         | true ↦ λ e. seat_as q (same_circuit-is q.0 c e) (end_at ts c.group q.1) refl (λ a b. a ≡ (b && false)) (each (end_at ts c.group q.1))
         | false ↦ λ e. seats_there q (λ x. let bad : true ≡ false = sym (ap (λ z. same_circuit z c) x ∙ same_circuit-itself c) ∙ e in absurd cc) ∙ sym (and-true (sits ts q))
@@ -224,10 +224,10 @@ module _ (ts : List GroupState) (c : Circuit) (known : Known ts c) (s to : Circu
             subst (λ (y : End). has_seized y to ≡ has_seized y s)
             (sym (ends_apart e end n (end_is known.group.head q.1 e (head_at q.1 (Some e) f)) (end_is known.group.head x end (head_at x (Some end) at)))) far
 
-    pub seats_inserted : has_seized end to ≡ true → those {R = seat_cmp} (sits after) (gathered seats_of 0 after) ≡ insert (those (sits ts) (gathered seats_of 0 ts)) (c, x)
+    pub seats_inserted : has_seized end to ≡ true → those {R = seat_cmp} (sits after) (gathered_keys seats_of 0 after) ≡ insert (those (sits ts) (gathered_keys seats_of 0 ts)) (c, x)
     seats_inserted e =
-        those_inserted seats_total exact_seats (sits ts) (sits after) (gathered seats_of 0 ts) (gathered seats_of 0 after) (sits_in ts) (sits_in after) (c, x) seat_rest (seat_now x (Some end) at ∙ e)
+        those_inserted seats_total exact_seats (sits ts) (sits after) (gathered_keys seats_of 0 ts) (gathered_keys seats_of 0 after) (sits_in ts) (sits_in after) (c, x) seat_rest (seat_now x (Some end) at ∙ e)
 
-    pub seats_removed : has_seized end to ≡ false → those {R = seat_cmp} (sits after) (gathered seats_of 0 after) ≡ remove (those (sits ts) (gathered seats_of 0 ts)) (c, x)
+    pub seats_removed : has_seized end to ≡ false → those {R = seat_cmp} (sits after) (gathered_keys seats_of 0 after) ≡ remove (those (sits ts) (gathered_keys seats_of 0 ts)) (c, x)
     seats_removed e =
-        those_removed seats_total exact_seats (sits ts) (sits after) (gathered seats_of 0 ts) (gathered seats_of 0 after) (sits_in ts) (sits_in after) (c, x) seat_rest (seat_now x (Some end) at ∙ e)
+        those_removed seats_total exact_seats (sits ts) (sits after) (gathered_keys seats_of 0 ts) (gathered_keys seats_of 0 after) (sits_in ts) (sits_in after) (c, x) seat_rest (seat_now x (Some end) at ∙ e)

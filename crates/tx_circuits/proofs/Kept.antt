@@ -14,7 +14,7 @@ use Rattle.tx_circuits.specs.declared.slot.CircuitState.{CircuitState}
 use Rattle.tx_circuits.specs.declared.groups.Row.{Row}
 use Rattle.tx_circuits.specs.declared.groups.GroupHead.{GroupHead}
 use Rattle.tx_circuits.specs.inner.Slots.{state_of, IsSound}
-use Rattle.tx_circuits.specs.inner.Groups.{GroupState, group_slots, group_state, numbered, set_numbered, change_at, idle, AreKept, AreApart, IsAppended}
+use Rattle.tx_circuits.specs.inner.Groups.{GroupState, group_slots, group_state, entry_numbered, set_numbered, change_at, idle, AreKept, AreApart, IsAppended}
 use Rattle.tx_circuits.proofs.Linked.{le_or}
 use Rattle.tx_circuits.proofs.FreeLists.{get_is, get-set_here, get-set_there, some_is, pushed_is, map-set_change}
 
@@ -162,7 +162,7 @@ module _ (slots rest : List Slot) (rows : List Row) (kept : AreKept slots rows) 
 
 -- WHERE A CIRCUIT IS
 
-pub number_in : {A : Type 0} (xs : List A) (n : ℕ) → is_some (numbered xs n) ≡ true → (m : ℕ) × (n ≡ suc m) × (m < length xs)
+pub number_in : {A : Type 0} (xs : List A) (n : ℕ) → is_some (entry_numbered xs n) ≡ true → (m : ℕ) × (n ≡ suc m) × (m < length xs)
 number_in {A} xs zero h = absurd cc
 number_in {A} xs (suc m) h = (m, refl, inside xs m h)
   where
@@ -201,7 +201,7 @@ set_numbered_at xs (suc n) y h = ap (λ (k : ℕ). slice_set xs k y) (less_one n
     less_one : (n : ℕ) → suc n - 1 ≡ n
     less_one n = omega arith
 
-pub numbered_at : {A : Type 0} (xs : List A) (n : ℕ) → 0 < n → numbered xs n ≡ slice_get xs (n - 1)
+pub numbered_at : {A : Type 0} (xs : List A) (n : ℕ) → 0 < n → entry_numbered xs n ≡ slice_get xs (n - 1)
 numbered_at xs zero h = absurd (omega arith)
 numbered_at xs (suc n) h = ap (slice_get xs) (more_one n)
   where

@@ -12,9 +12,9 @@ use Rattle.tx_circuits.specs.declared.lists.Way.TheVariants.{Up}
 use Rattle.tx_circuits.specs.declared.slot.CircuitState.{CircuitState}
 use Rattle.tx_circuits.specs.declared.groups.GroupHead.{GroupHead}
 use Rattle.tx_circuits.specs.inner.Slots.{has_seized, rising}
-use Rattle.tx_circuits.specs.inner.Groups.{GroupState, state_at, numbered, seizing_end, end_at}
+use Rattle.tx_circuits.specs.inner.Groups.{GroupState, state_at, entry_numbered, seizing_end, end_at}
 use Rattle.tx_circuits.specs.Table.{Seat}
-use Rattle.tx_circuits.specs.inner.Seen.{circuits_of, seats_of, gathered, is_marked, holds, sits}
+use Rattle.tx_circuits.specs.inner.Seen.{circuits_of, seats_of, gathered_keys, is_marked, holds, sits}
 use Rattle.tx_circuits.proofs.Ordered.{In, from_left, from_right, member}
 use Rattle.tx_circuits.proofs.Linked.{le_or}
 use Rattle.tx_circuits.proofs.Kept.{number_in}
@@ -30,7 +30,7 @@ pub record Known (ts : List GroupState) (c : Circuit) : Type 0 where
 pub known : (ts : List GroupState) (c : Circuit) → is_some (state_at ts c) ≡ true → Known ts c
 known ts c h = by_group (slice_get ts c.group) refl h
   where
-    by_group : (o : Option GroupState) → slice_get ts c.group ≡ o → is_some (option_and_then (λ t. numbered t.states c.number) o) ≡ true → Known ts c
+    by_group : (o : Option GroupState) → slice_get ts c.group ≡ o → is_some (option_and_then (λ t. entry_numbered t.states c.number) o) ≡ true → Known ts c
     by_group None e k = absurd cc
     by_group (Some t) e k = (let m = number_in t.states c.number k in record { group = t; at = e; index = m.0; number = m.1; within = m.2 })
 
@@ -50,10 +50,10 @@ in_upward (suc n) k lt = elim (le_or n k) [
   | inr y ↦ from_left (upward n) (suc n ∷ []) (suc k) (in_upward n k y)
 ]
 
-in_gathered : {K : Type 0} (f : ℕ → GroupState → List K) (ts : List GroupState) (g k n : ℕ) (t : GroupState) (y : K) → n ≡ g + k → slice_get ts k ≡ Some t → In (f n t) y → In (gathered f g ts) y
+in_gathered : {K : Type 0} (f : ℕ → GroupState → List K) (ts : List GroupState) (g k n : ℕ) (t : GroupState) (y : K) → n ≡ g + k → slice_get ts k ≡ Some t → In (f n t) y → In (gathered_keys f g ts) y
 in_gathered f [] g k n t y e at i = absurd cc
 in_gathered f (u ∷ ts) g zero n t y e at i =
-    from_left (f g u) (gathered f (suc g) ts) y (subst (λ (z : ℕ × GroupState). In (f z.0 z.1) y) (λ j. (here j, same j)) i)
+    from_left (f g u) (gathered_keys f (suc g) ts) y (subst (λ (z : ℕ × GroupState). In (f z.0 z.1) y) (λ j. (here j, same j)) i)
   where
     here : n ≡ g
     here = omega arith
@@ -64,14 +64,14 @@ in_gathered f (u ∷ ts) g zero n t y e at i =
 
     same : t ≡ u
     same = sym (ap or_u at)
-in_gathered f (u ∷ ts) g (suc k) n t y e at i = from_right (f g u) (gathered f (suc g) ts) y (in_gathered f ts (suc g) k n t y (omega arith) at i)
+in_gathered f (u ∷ ts) g (suc k) n t y e at i = from_right (f g u) (gathered_keys f (suc g) ts) y (in_gathered f ts (suc g) k n t y (omega arith) at i)
 
 pub in_circuits : (ts : List GroupState) (c : Circuit) (k : Known ts c) → In (circuits_of c.group k.group) c
 in_circuits ts c k =
     subst (In (circuits_of c.group k.group)) (sym (ap (λ (n : ℕ). record { group = c.group; number = n }) k.number))
     (in_map (λ n. record { group = c.group; number = n }) (upward (length k.group.states)) (suc k.index) (in_upward (length k.group.states) k.index k.within))
 
-pub holds_in : (test : CircuitState → Bool) (ts : List GroupState) (c : Circuit) → holds test ts c ≡ true → In (gathered circuits_of 0 ts) c
+pub holds_in : (test : CircuitState → Bool) (ts : List GroupState) (c : Circuit) → holds test ts c ≡ true → In (gathered_keys circuits_of 0 ts) c
 holds_in test ts c h = (let k = known ts c (some_from test (state_at ts c) h) in in_gathered circuits_of ts 0 c.group c.group k.group c (omega arith) k.at (in_circuits ts c k))
 
 -- an exchange that seizes at an end is that end
@@ -88,7 +88,7 @@ end_is t x end = elim (t.a == x) as (λ b. (t.a == x) ≡ b → (if b then Some 
     or_end d None = d
     or_end d (Some w) = w
 
-pub sits_in : (ts : List GroupState) (s : Seat) → sits ts s ≡ true → In (gathered seats_of 0 ts) s
+pub sits_in : (ts : List GroupState) (s : Seat) → sits ts s ≡ true → In (gathered_keys seats_of 0 ts) s
 sits_in ts s h = by_end (end_at ts s.0.group s.1) refl h
   where
     seat : (k : Known ts s.0) (t : GroupHead) (end : End) → t ≡ k.group.head → ((end ≡ First) × (t.a ≡ s.1)) ⊎ ((end ≡ Other) × (t.b ≡ s.1)) → In (seats_of s.0.group k.group) s
@@ -101,7 +101,7 @@ sits_in ts s h = by_end (end_at ts s.0.group s.1) refl h
         (subst (In (map (λ c. (c, k.group.head.b)) (circuits_of s.0.group k.group))) (λ i. (s.0, (ap (λ (u : GroupHead). u.b) (sym e) ∙ f.1) i))
         (in_map (λ c. (c, k.group.head.b)) (circuits_of s.0.group k.group) s.0 (in_circuits ts s.0 k)))
 
-    by_end : (o : Option End) → end_at ts s.0.group s.1 ≡ o → option_map_or (λ end. holds (has_seized end) ts s.0) o false ≡ true → In (gathered seats_of 0 ts) s
+    by_end : (o : Option End) → end_at ts s.0.group s.1 ≡ o → option_map_or (λ end. holds (has_seized end) ts s.0) o false ≡ true → In (gathered_keys seats_of 0 ts) s
     by_end None e h = absurd cc
     by_end (Some end) e h =
         let k = known ts s.0 (some_from (has_seized end) (state_at ts s.0) h) in

@@ -17,9 +17,9 @@ use Rattle.tx_circuits.specs.declared.lists.End.TheVariants.{First, Other}
 use Rattle.tx_circuits.specs.declared.slot.CircuitState.{CircuitState}
 use Rattle.tx_circuits.specs.declared.groups.GroupHead.{GroupHead}
 use Rattle.tx_circuits.specs.inner.Slots.{has_seized, is_free, free_in, in_order, rising, falling}
-use Rattle.tx_circuits.specs.inner.Groups.{GroupState, state_at, numbered, seizing_end, end_at, first_index, way_of, idle}
+use Rattle.tx_circuits.specs.inner.Groups.{GroupState, state_at, entry_numbered, seizing_end, end_at, first_index, way_of, idle}
 use Rattle.tx_circuits.specs.Table.{Seat, seat_cmp, plan_of, is_free_at, is_down, first_free}
-use Rattle.tx_circuits.specs.inner.Seen.{those, group_of, circuits_of, seats_of, gathered, is_marked, holds, sits, table_of}
+use Rattle.tx_circuits.specs.inner.Seen.{those, group_of, circuits_of, seats_of, gathered_keys, is_marked, holds, sits, table_of}
 use Rattle.tx_circuits.proofs.Columns.{column_at}
 use Rattle.tx_circuits.proofs.FreeLists.{get_is}
 use Rattle.tx_circuits.proofs.Ordered.{In, below}
@@ -29,11 +29,11 @@ use Rattle.tx_circuits.proofs.Seats.{seats_total, exact_seats}
 
 -- THE SETS
 
-pub contains_circuits : (test : CircuitState → Bool) (ts : List GroupState) (c : Circuit) → contains (those {R = circuit_cmp} (holds test ts) (gathered circuits_of 0 ts)) c ≡ holds test ts c
-contains_circuits test ts c = contains_those circuits_total exact_circuits (holds test ts) (gathered circuits_of 0 ts) (holds_in test ts) c
+pub contains_circuits : (test : CircuitState → Bool) (ts : List GroupState) (c : Circuit) → contains (those {R = circuit_cmp} (holds test ts) (gathered_keys circuits_of 0 ts)) c ≡ holds test ts c
+contains_circuits test ts c = contains_those circuits_total exact_circuits (holds test ts) (gathered_keys circuits_of 0 ts) (holds_in test ts) c
 
-pub contains_seats : (ts : List GroupState) (q : Seat) → contains (those {R = seat_cmp} (sits ts) (gathered seats_of 0 ts)) q ≡ sits ts q
-contains_seats ts q = contains_those seats_total exact_seats (sits ts) (gathered seats_of 0 ts) (sits_in ts) q
+pub contains_seats : (ts : List GroupState) (q : Seat) → contains (those {R = seat_cmp} (sits ts) (gathered_keys seats_of 0 ts)) q ≡ sits ts q
+contains_seats ts q = contains_those seats_total exact_seats (sits ts) (gathered_keys seats_of 0 ts) (sits_in ts) q
 
 pub contains_marks : (test : GroupHead → Bool) (ts : List GroupState) (g : ℕ) → contains (those {R = nat_cmp} (is_marked test ts) (rising (length ts))) g ≡ is_marked test ts g
 contains_marks test ts g = contains_those nat_cmp_total exact_unsigned (is_marked test ts) (rising (length ts)) (marked_in test ts) g
@@ -57,11 +57,11 @@ circuit_known ts c = ap (λ o. option_map_or (λ r. nat_le 1 c.number && nat_le 
     inside (x ∷ xs) zero = grind (arith, nat_tests)
     inside (x ∷ xs) (suc m) = shift m (length xs) ∙ inside xs m
 
-    by_number : (xs : List CircuitState) (n : ℕ) → (nat_le 1 n && nat_le n (length xs)) ≡ is_some (numbered xs n)
+    by_number : (xs : List CircuitState) (n : ℕ) → (nat_le 1 n && nat_le n (length xs)) ≡ is_some (entry_numbered xs n)
     by_number xs zero = ap (λ b. b && nat_le zero (length xs)) none_yet
     by_number xs (suc m) = ap (λ b. b && nat_le (suc m) (length xs)) (one_at_least m) ∙ inside xs m
 
-    each : (o : Option GroupState) → option_map_or (λ r. nat_le 1 c.number && nat_le c.number r.count) (option_map group_of o) false ≡ is_some (option_and_then (λ t. numbered t.states c.number) o)
+    each : (o : Option GroupState) → option_map_or (λ r. nat_le 1 c.number && nat_le c.number r.count) (option_map group_of o) false ≡ is_some (option_and_then (λ t. entry_numbered t.states c.number) o)
     each None = refl
     each (Some t) = by_number t.states c.number
 
@@ -134,7 +134,7 @@ module _ (ts : List GroupState) (g x : ℕ) (t : GroupState) (at : slice_get ts 
   circuit k = record { group = g; number = suc k }
 
   state_is : (k : ℕ) → k < length t.states → state_at ts (circuit k) ≡ Some (slice_index_or t.states k idle)
-  state_is k h = ap (option_and_then (λ u. numbered u.states (suc k))) at ∙ get_is t.states k idle h
+  state_is k h = ap (option_and_then (λ u. entry_numbered u.states (suc k))) at ∙ get_is t.states k idle h
 
   -- to be free at the exchange is to be free at its end
   free_is : (k : ℕ) → k < length t.states → is_free_at (table_of ts) x (circuit k) ≡ free_in end t.states k

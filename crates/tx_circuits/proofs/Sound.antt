@@ -11,7 +11,7 @@ use Rattle.tx_circuits.specs.declared.lists.FreeLists.{FreeLists}
 use Rattle.std.proofs.lemmas.List.{length-map, map-set, get_or_default}
 use Rattle.std.proofs.lemmas.List.Edits.{map_over_more}
 use Rattle.tx_circuits.specs.inner.Linked.{IsFirst, with}
-use Rattle.tx_circuits.specs.inner.Slots.{free_at, free_in, is_free, links_of, ahead, link_at, chain, rank_of, list_of, begins, until, in_order, state_of, cleared, IsListed, AreLinked, IsSound}
+use Rattle.tx_circuits.specs.inner.Slots.{free_at, free_in, is_free, links_of, ahead, link_at, chain, rank_of, list_of, begins, until, in_order, state_of, cleared_state, IsListed, AreLinked, IsSound}
 use Rattle.tx_circuits.proofs.Columns.{column-set, column_same}
 use Rattle.tx_circuits.proofs.Linked.{linked_along}
 use Rattle.tx_circuits.proofs.Ordered.{linked, followed, in_order_holds}
@@ -62,14 +62,14 @@ module _ (two : List Slot) (i : ℕ) (z : Slot) (to : CircuitState) (i_in : i < 
 
 -- a slot with its state cleared
 abbrev pub with_cleared : Slot → Slot
-with_cleared s = record s { state = cleared s.state }
+with_cleared s = record s { state = cleared_state s.state }
 
-pub states_cleared : (slots : List Slot) → map state_of (map with_cleared slots) ≡ map cleared (map state_of slots)
+pub states_cleared : (slots : List Slot) → map state_of (map with_cleared slots) ≡ map cleared_state (map state_of slots)
 states_cleared [] = refl
-states_cleared (s ∷ slots) = ap (λ (l : List CircuitState). cleared s.state ∷ l) (states_cleared slots)
+states_cleared (s ∷ slots) = ap (λ (l : List CircuitState). cleared_state s.state ∷ l) (states_cleared slots)
 
 -- one slot more is cleared
-pub cleared_more : (old slots : List Slot) (i : ℕ) (z : Slot) (to : CircuitState) → i < length old → length slots ≡ length old → slots ≡ map with_cleared (take i old) ++ drop i old → to ≡ cleared (slice_index_or slots i z).state
+pub cleared_more : (old slots : List Slot) (i : ℕ) (z : Slot) (to : CircuitState) → i < length old → length slots ≡ length old → slots ≡ map with_cleared (take i old) ++ drop i old → to ≡ cleared_state (slice_index_or slots i z).state
     → slice_set slots i (given slots i z to) ≡ map with_cleared (take (i + 1) old) ++ drop (i + 1) old
 cleared_more old slots i z to lt long h e =
     let x = slice_index_or slots i z in

@@ -14,10 +14,10 @@ use Rattle.tx_circuits.specs.declared.lists.End.{End}
 use Rattle.tx_circuits.specs.declared.lists.End.TheVariants.{First, Other}
 use Rattle.tx_circuits.specs.declared.slot.CircuitState.{CircuitState}
 use Rattle.tx_circuits.specs.declared.groups.GroupHead.{GroupHead}
-use Rattle.tx_circuits.specs.inner.Slots.{has_seized, with_seized, opposite, cleared, rising}
-use Rattle.tx_circuits.specs.inner.Groups.{GroupState, state_at, numbered, seizing_end, end_at, with_state, with_failed, with_blocked, change_at}
+use Rattle.tx_circuits.specs.inner.Slots.{has_seized, with_seized, opposite, cleared_state, rising}
+use Rattle.tx_circuits.specs.inner.Groups.{GroupState, state_at, entry_numbered, seizing_end, end_at, with_state, with_failed, with_blocked, change_at}
 use Rattle.tx_circuits.specs.Table.{Seat, seat_cmp, Table, with_held, with_released, with_failure}
-use Rattle.tx_circuits.specs.inner.Seen.{those, group_of, circuits_of, seats_of, gathered, is_marked, holds, sits, table_of}
+use Rattle.tx_circuits.specs.inner.Seen.{those, group_of, circuits_of, seats_of, gathered_keys, is_marked, holds, sits, table_of}
 use Rattle.std.proofs.lemmas.Option.{slice_get-map}
 use Rattle.std.proofs.lemmas.List.{length-map}
 use Rattle.std.proofs.Math.Bool.{and-true, and-false}
@@ -35,10 +35,10 @@ module _ (ts : List GroupState) (c : Circuit) (s : CircuitState) (old : state_at
 
   module _ (to : CircuitState) where
     -- the fields one by one
-    table_after : (releasing out carried : FinSet circuit_cmp) (seized : FinSet seat_cmp) → those (holds (λ s. s.releasing) (change_at (with_state c to) c.group ts)) (gathered circuits_of 0 (change_at (with_state c to) c.group ts)) ≡ releasing
-        → those (holds (λ s. s.out) (change_at (with_state c to) c.group ts)) (gathered circuits_of 0 (change_at (with_state c to) c.group ts)) ≡ out
-        → those (holds (λ s. s.carried) (change_at (with_state c to) c.group ts)) (gathered circuits_of 0 (change_at (with_state c to) c.group ts)) ≡ carried
-        → those (sits (change_at (with_state c to) c.group ts)) (gathered seats_of 0 (change_at (with_state c to) c.group ts)) ≡ seized
+    table_after : (releasing out carried : FinSet circuit_cmp) (seized : FinSet seat_cmp) → those (holds (λ s. s.releasing) (change_at (with_state c to) c.group ts)) (gathered_keys circuits_of 0 (change_at (with_state c to) c.group ts)) ≡ releasing
+        → those (holds (λ s. s.out) (change_at (with_state c to) c.group ts)) (gathered_keys circuits_of 0 (change_at (with_state c to) c.group ts)) ≡ out
+        → those (holds (λ s. s.carried) (change_at (with_state c to) c.group ts)) (gathered_keys circuits_of 0 (change_at (with_state c to) c.group ts)) ≡ carried
+        → those (sits (change_at (with_state c to) c.group ts)) (gathered_keys seats_of 0 (change_at (with_state c to) c.group ts)) ≡ seized
         → table_of (change_at (with_state c to) c.group ts) ≡ record (table_of ts) { releasing = releasing; out = out; carried = carried; seized = seized }
     table_after releasing out carried seized e f g h = λ i. record {
       groups = groups_same ts c found s to old i;
@@ -50,11 +50,11 @@ module _ (ts : List GroupState) (c : Circuit) (s : CircuitState) (old : state_at
       seized = h i;
     }
 
-    stays : (test : CircuitState → Bool) → test to ≡ test s → those (holds test (change_at (with_state c to) c.group ts)) (gathered circuits_of 0 (change_at (with_state c to) c.group ts)) ≡ those {R = circuit_cmp} (holds test ts) (gathered circuits_of 0 ts)
+    stays : (test : CircuitState → Bool) → test to ≡ test s → those (holds test (change_at (with_state c to) c.group ts)) (gathered_keys circuits_of 0 (change_at (with_state c to) c.group ts)) ≡ those {R = circuit_cmp} (holds test ts) (gathered_keys circuits_of 0 ts)
     stays test e = circuits_stay ts c found s to old test e
 
   seizes : (end : End) (b : Bool) → (x : ℕ) → end_at ts c.group x ≡ Some end → (seized : FinSet seat_cmp)
-      → those (sits (change_at (with_state c (with_seized end b s)) c.group ts)) (gathered seats_of 0 (change_at (with_state c (with_seized end b s)) c.group ts)) ≡ seized
+      → those (sits (change_at (with_state c (with_seized end b s)) c.group ts)) (gathered_keys seats_of 0 (change_at (with_state c (with_seized end b s)) c.group ts)) ≡ seized
       → table_of (change_at (with_state c (with_seized end b s)) c.group ts) ≡ record (table_of ts) { seized = seized }
   seizes First b x e seized h = table_after (with_seized First b s) _ _ _ seized (stays (with_seized First b s) (λ s. s.releasing) refl) (stays (with_seized First b s) (λ s. s.out) refl) (stays (with_seized First b s) (λ s. s.carried) refl) h
   seizes Other b x e seized h = table_after (with_seized Other b s) _ _ _ seized (stays (with_seized Other b s) (λ s. s.releasing) refl) (stays (with_seized Other b s) (λ s. s.out) refl) (stays (with_seized Other b s) (λ s. s.carried) refl) h
@@ -116,17 +116,17 @@ module _ (ts : List GroupState) (c : Circuit) (s : CircuitState) (old : state_at
 
 module _ (f : GroupState → GroupState) (g : ℕ) (ts : List GroupState) (states : (t : GroupState) → (f t).states ≡ t.states) where
   holds_same : (test : CircuitState → Bool) (c : Circuit) → holds test (change_at f g ts) c ≡ holds test ts c
-  holds_same test c = ap (λ o. option_map_or test o false) (part_same f g ts (λ t. numbered t.states c.number) (λ t. ap (λ l. numbered l c.number) (states t)) c.group)
+  holds_same test c = ap (λ o. option_map_or test o false) (part_same f g ts (λ t. entry_numbered t.states c.number) (λ t. ap (λ l. entry_numbered l c.number) (states t)) c.group)
 
-  pub circuits_same : (test : CircuitState → Bool) → those {R = circuit_cmp} (holds test (change_at f g ts)) (gathered circuits_of 0 (change_at f g ts)) ≡ those (holds test ts) (gathered circuits_of 0 ts)
+  pub circuits_same : (test : CircuitState → Bool) → those {R = circuit_cmp} (holds test (change_at f g ts)) (gathered_keys circuits_of 0 (change_at f g ts)) ≡ those (holds test ts) (gathered_keys circuits_of 0 ts)
   circuits_same test =
-      those_stay circuits_total exact_circuits (holds test ts) (holds test (change_at f g ts)) (gathered circuits_of 0 ts) (gathered circuits_of 0 (change_at f g ts)) (holds_in test ts)
+      those_stay circuits_total exact_circuits (holds test ts) (holds test (change_at f g ts)) (gathered_keys circuits_of 0 ts) (gathered_keys circuits_of 0 (change_at f g ts)) (holds_in test ts)
       (holds_in test (change_at f g ts)) (holds_same test)
 
   pub seats_same : ((t : GroupState) (x : ℕ) → seizing_end (f t).head x ≡ seizing_end t.head x)
-      → those {R = seat_cmp} (sits (change_at f g ts)) (gathered seats_of 0 (change_at f g ts)) ≡ those (sits ts) (gathered seats_of 0 ts)
+      → those {R = seat_cmp} (sits (change_at f g ts)) (gathered_keys seats_of 0 (change_at f g ts)) ≡ those (sits ts) (gathered_keys seats_of 0 ts)
   seats_same ends =
-      those_stay seats_total exact_seats (sits ts) (sits (change_at f g ts)) (gathered seats_of 0 ts) (gathered seats_of 0 (change_at f g ts)) (sits_in ts) (sits_in (change_at f g ts))
+      those_stay seats_total exact_seats (sits ts) (sits (change_at f g ts)) (gathered_keys seats_of 0 ts) (gathered_keys seats_of 0 (change_at f g ts)) (sits_in ts) (sits_in (change_at f g ts))
       (λ q. ap (λ o. option_map_or (λ end. holds (has_seized end) (change_at f g ts) q.0) o false) (ends_same f g ts ends q.0.group q.1) ∙ each q (end_at ts q.0.group q.1))
     where
       each : (q : Seat) (o : Option End) → option_map_or (λ end. holds (has_seized end) (change_at f g ts) q.0) o false ≡ option_map_or (λ end. holds (has_seized end) ts q.0) o false
@@ -199,69 +199,69 @@ module _ (ts : List GroupState) (g : ℕ) (in_it : g < length ts) where
 -- ALL CALLS ARE TAKEN OFF A GROUP
 
 abbrev pub clear_group : GroupState → GroupState
-clear_group t = record t { states = map cleared t.states }
+clear_group t = record t { states = map cleared_state t.states }
 
-numbered_cleared : (xs : List CircuitState) (n : ℕ) → numbered (map cleared xs) n ≡ option_map cleared (numbered xs n)
+numbered_cleared : (xs : List CircuitState) (n : ℕ) → entry_numbered (map cleared_state xs) n ≡ option_map cleared_state (entry_numbered xs n)
 numbered_cleared xs zero = refl
-numbered_cleared xs (suc n) = slice_get-map cleared xs n
+numbered_cleared xs (suc n) = slice_get-map cleared_state xs n
 
 module _ (ts : List GroupState) (g : ℕ) where
   abbrev after : List GroupState
   after = change_at clear_group g ts
 
   states_there : (c : Circuit) → c.group ≢ g → state_at after c ≡ state_at ts c
-  states_there c ne = ap (option_and_then (λ t. numbered t.states c.number)) (get-change_there clear_group ts g c.group ne)
+  states_there c ne = ap (option_and_then (λ t. entry_numbered t.states c.number)) (get-change_there clear_group ts g c.group ne)
 
-  states_here : (c : Circuit) → c.group ≡ g → state_at after c ≡ option_map cleared (state_at ts c)
+  states_here : (c : Circuit) → c.group ≡ g → state_at after c ≡ option_map cleared_state (state_at ts c)
   states_here c e =
-      ap (λ (h : ℕ). option_and_then (λ t. numbered t.states c.number) (slice_get after h)) e
-      ∙ ap (option_and_then (λ t. numbered t.states c.number)) (get-change_here clear_group ts g) ∙ through (slice_get ts g)
-      ∙ ap (λ (h : ℕ). option_map cleared (option_and_then (λ t. numbered t.states c.number) (slice_get ts h))) (sym e)
+      ap (λ (h : ℕ). option_and_then (λ t. entry_numbered t.states c.number) (slice_get after h)) e
+      ∙ ap (option_and_then (λ t. entry_numbered t.states c.number)) (get-change_here clear_group ts g) ∙ through (slice_get ts g)
+      ∙ ap (λ (h : ℕ). option_map cleared_state (option_and_then (λ t. entry_numbered t.states c.number) (slice_get ts h))) (sym e)
     where
-      through : (o : Option GroupState) → option_and_then (λ t. numbered t.states c.number) (option_map clear_group o) ≡ option_map cleared (option_and_then (λ t. numbered t.states c.number) o)
+      through : (o : Option GroupState) → option_and_then (λ t. entry_numbered t.states c.number) (option_map clear_group o) ≡ option_map cleared_state (option_and_then (λ t. entry_numbered t.states c.number) o)
       through None = refl
       through (Some t) = numbered_cleared t.states c.number
 
   module _ (test : CircuitState → Bool) where
     -- what a cleared circuit is not
-    holds_off : ((s : CircuitState) → test (cleared s) ≡ false) → (c : Circuit) → holds test after c ≡ (holds test ts c && not (c.group == g))
+    holds_off : ((s : CircuitState) → test (cleared_state s) ≡ false) → (c : Circuit) → holds test after c ≡ (holds test ts c && not (c.group == g))
     holds_off off c = elim (eqb_tells c.group g) [
       | inl e ↦ ap (λ o. option_map_or test o false) (states_here c e.1) ∙ none (state_at ts c) ∙ sym (and-false (holds test ts c)) ∙ sym (ap (λ b. holds test ts c && not b) e.0)
       | inr e ↦ ap (λ o. option_map_or test o false) (states_there c e.1) ∙ sym (and-true (holds test ts c)) ∙ sym (ap (λ b. holds test ts c && not b) e.0)
     ]
       where
-        none : (o : Option CircuitState) → option_map_or test (option_map cleared o) false ≡ false
+        none : (o : Option CircuitState) → option_map_or test (option_map cleared_state o) false ≡ false
         none None = refl
         none (Some s) = off s
 
     -- what stays
-    holds_on : ((s : CircuitState) → test (cleared s) ≡ test s) → (c : Circuit) → holds test after c ≡ holds test ts c
+    holds_on : ((s : CircuitState) → test (cleared_state s) ≡ test s) → (c : Circuit) → holds test after c ≡ holds test ts c
     holds_on on c = elim (eqb_tells c.group g) [
       | inl e ↦ ap (λ o. option_map_or test o false) (states_here c e.1) ∙ same (state_at ts c)
       | inr e ↦ ap (λ o. option_map_or test o false) (states_there c e.1)
     ]
       where
-        same : (o : Option CircuitState) → option_map_or test (option_map cleared o) false ≡ option_map_or test o false
+        same : (o : Option CircuitState) → option_map_or test (option_map cleared_state o) false ≡ option_map_or test o false
         same None = refl
         same (Some s) = on s
 
-    circuits_off : ((s : CircuitState) → test (cleared s) ≡ false)
-        → those {R = circuit_cmp} (holds test after) (gathered circuits_of 0 after) ≡ retain (those (holds test ts) (gathered circuits_of 0 ts)) (λ c. not (c.group == g))
+    circuits_off : ((s : CircuitState) → test (cleared_state s) ≡ false)
+        → those {R = circuit_cmp} (holds test after) (gathered_keys circuits_of 0 after) ≡ retain (those (holds test ts) (gathered_keys circuits_of 0 ts)) (λ c. not (c.group == g))
     circuits_off off =
-        those_retained circuits_total exact_circuits (holds test ts) (holds test after) (gathered circuits_of 0 ts) (gathered circuits_of 0 after) (holds_in test ts) (holds_in test after)
+        those_retained circuits_total exact_circuits (holds test ts) (holds test after) (gathered_keys circuits_of 0 ts) (gathered_keys circuits_of 0 after) (holds_in test ts) (holds_in test after)
         (λ c. not (c.group == g)) (holds_off off)
 
-    circuits_on : ((s : CircuitState) → test (cleared s) ≡ test s) → those {R = circuit_cmp} (holds test after) (gathered circuits_of 0 after) ≡ those (holds test ts) (gathered circuits_of 0 ts)
+    circuits_on : ((s : CircuitState) → test (cleared_state s) ≡ test s) → those {R = circuit_cmp} (holds test after) (gathered_keys circuits_of 0 after) ≡ those (holds test ts) (gathered_keys circuits_of 0 ts)
     circuits_on on =
-        those_stay circuits_total exact_circuits (holds test ts) (holds test after) (gathered circuits_of 0 ts) (gathered circuits_of 0 after) (holds_in test ts) (holds_in test after) (holds_on on)
+        those_stay circuits_total exact_circuits (holds test ts) (holds test after) (gathered_keys circuits_of 0 ts) (gathered_keys circuits_of 0 after) (holds_in test ts) (holds_in test after) (holds_on on)
 
-  not_seized : (end : End) (s : CircuitState) → has_seized end (cleared s) ≡ false
+  not_seized : (end : End) (s : CircuitState) → has_seized end (cleared_state s) ≡ false
   not_seized First s = refl
   not_seized Other s = refl
 
-  seats_off : those {R = seat_cmp} (sits after) (gathered seats_of 0 after) ≡ retain (those (sits ts) (gathered seats_of 0 ts)) (λ q. not (q.0.group == g))
+  seats_off : those {R = seat_cmp} (sits after) (gathered_keys seats_of 0 after) ≡ retain (those (sits ts) (gathered_keys seats_of 0 ts)) (λ q. not (q.0.group == g))
   seats_off =
-      those_retained seats_total exact_seats (sits ts) (sits after) (gathered seats_of 0 ts) (gathered seats_of 0 after) (sits_in ts) (sits_in after) (λ q. not (q.0.group == g))
+      those_retained seats_total exact_seats (sits ts) (sits after) (gathered_keys seats_of 0 ts) (gathered_keys seats_of 0 after) (sits_in ts) (sits_in after) (λ q. not (q.0.group == g))
       (λ q. ap (λ o. option_map_or (λ end. holds (has_seized end) after q.0) o false) (ends_same clear_group g ts (λ t x. refl) q.0.group q.1) ∙ each q (end_at ts q.0.group q.1))
     where
       each : (q : Seat) (o : Option End) → option_map_or (λ end. holds (has_seized end) after q.0) o false ≡ (option_map_or (λ end. holds (has_seized end) ts q.0) o false && not (q.0.group == g))
@@ -274,7 +274,7 @@ module _ (ts : List GroupState) (g : ℕ) where
     seized = retain (table_of ts).seized (λ q. not (q.0.group == g));
   }
   cleared_is = λ i. record {
-    groups = map_same group_of clear_group (λ t i. record { name = []; a = t.head.a; b = t.head.b; direction = t.head.direction; count = length-map t.states cleared i }) g ts i;
+    groups = map_same group_of clear_group (λ t i. record { name = []; a = t.head.a; b = t.head.b; direction = t.head.direction; count = length-map t.states cleared_state i }) g ts i;
     failed = marked_stay clear_group g ts (λ t. t.failed) (λ t. refl) i;
     blocked = marked_stay clear_group g ts (λ t. t.blocked) (λ t. refl) i;
     releasing = circuits_off (λ s. s.releasing) (λ s. refl) i;

@@ -31,8 +31,8 @@ pub record Table : Type 0 where
   pub seized : set.FinSet seat_cmp
 
 -- a group without its name
-abbrev pub unnamed : Group → Group
-unnamed g = record g { name = [] }
+abbrev pub without_name : Group → Group
+without_name g = record g { name = [] }
 
 -- what the table knows of the plan: its groups
 abbrev pub plan_of : Table → Plan
@@ -41,7 +41,7 @@ plan_of t = record no_plan { groups = t.groups }
 -- all circuits are free, and all groups up
 abbrev pub all_free : Plan → Table
 all_free p = record {
-  groups = map unnamed p.groups;
+  groups = map without_name p.groups;
   failed = set.empty;
   blocked = set.empty;
   releasing = set.empty;

@@ -1,8 +1,8 @@
 // All circuits of a plan in one vector, group by group.
 ghost use Rattle.std.specs.Prelude.{◌≡◌, ◌≤◌, ◌<◌, ◌++◌, ◌∷◌, [], true, false, is_some, map, length, replicate, Some, None, slice_get, OnOk, OnErr, IfOk, IfSome, ◌+◌, ℕ, slice_set};
 ghost use Rattle.std.specs.Option.{option_map, option_map_or};
-ghost use Rattle.tx_circuits.specs.inner.Slots.{cleared, has_seized, IsSound, IsListed, free_at, link_at, opposite, state_of, until};
-ghost use Rattle.tx_circuits.specs.inner.Groups.{state_at, end_at, change_at, with_state, with_failed, with_blocked, first_index, idle, IsAppended, seizing_end, group_slots, states_in, numbered, OthersStay};
+ghost use Rattle.tx_circuits.specs.inner.Slots.{cleared_state, has_seized, IsSound, IsListed, free_at, link_at, opposite, state_of, until};
+ghost use Rattle.tx_circuits.specs.inner.Groups.{state_at, end_at, change_at, with_state, with_failed, with_blocked, first_index, idle, IsAppended, seizing_end, group_slots, states_in, entry_numbered, OthersStay};
 ghost use Rattle.tx_circuits.specs.inner.Seen.{holds};
 ghost use Rattle.tx_circuits.specs.declared.lists.Way.{Way as WayValue};
 
@@ -51,7 +51,7 @@ impl Row {
     /// The state of the circuit of a number, if there is such a one.
     pub fn state(&self, slots: &[Slot], number: u32) -> Option<CircuitState>
         requires { self.now.start + self.now.count ≤ length slots.now }
-        ensures { result ≡ numbered (states_in slots.now self.now) number }
+        ensures { result ≡ entry_numbered (states_in slots.now self.now) number }
     {
         let number = number as usize;
         if number == 0 || number > self.count {
@@ -81,7 +81,7 @@ impl Row {
         requires short { self.old.count ≤ 240 }
         ensures row { self.new ≡ record self.old { lists = self.new.lists } }
         ensures sound { IsSound (group_slots slots.new self.old) self.new.lists }
-        ensures states { states_in slots.new self.old ≡ map cleared (states_in slots.old self.old) }
+        ensures states { states_in slots.new self.old ≡ map cleared_state (states_in slots.old self.old) }
         ensures rest { OthersStay slots.old slots.new self.old }
     {
         let part = &mut slots[self.start..self.start + self.count];
@@ -152,7 +152,7 @@ fn relist(slots: &mut [Slot]) -> FreeLists
 fn clear(slots: &mut [Slot]) -> FreeLists
     requires short { length slots.old ≤ 240 }
     ensures sound { IsSound slots.new result }
-    ensures states { map state_of slots.new ≡ map cleared (map state_of slots.old) }
+    ensures states { map state_of slots.new ≡ map cleared_state (map state_of slots.old) }
 {
     for slot in slots.iter_mut() {
         slot.state = slot.state.cleared();
@@ -331,7 +331,7 @@ impl<A: Allocator> Groups<A> {
     pub fn clear(&mut self, group: GroupId)
         requires { group < length self.old }
         ensures { self.new ≡ change_at
-            (λ t. record t { states = map cleared t.states }) group self.old }
+            (λ t. record t { states = map cleared_state t.states }) group self.old }
     {
         let row = &mut self.rows[group.index()];
         row.clear(self.slots.as_mut_slice());

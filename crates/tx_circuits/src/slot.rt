@@ -1,7 +1,7 @@
 // What is kept of a circuit.
 ghost use Rattle.std.specs.Prelude.{◌≡◌, true, false};
 ghost use Rattle.tx_circuits.specs.inner.Groups.{idle};
-ghost use Rattle.tx_circuits.specs.inner.Slots.{links_of, ahead, back, opposite, is_free, has_seized, with_seized, cleared};
+ghost use Rattle.tx_circuits.specs.inner.Slots.{links_of, ahead, back, opposite, is_free, has_seized, with_seized, cleared_state};
 
 use crate::lists::{End, Links, Way};
 
@@ -48,7 +48,7 @@ impl CircuitState {
 
     /// The state where no call holds the circuit.
     pub fn cleared(self) -> CircuitState
-        ensures { result ≡ cleared self }
+        ensures { result ≡ cleared_state self }
     {
         CircuitState {
             out: self.out,

@@ -1,3 +1,4 @@
+pub mod AllTables
 pub mod Found
 pub mod Grammars
 pub mod Named

@@ -9,19 +9,19 @@ use Rattle.tx_commands.specs.declared.page.PageRequest.{PageRequest}
 use Rattle.tx_commands.specs.declared.run.RunRequest.{RunRequest}
 use Rattle.tx_commands.specs.declared.survive.SurviveRequest.{SurviveRequest}
 
--- those of these files that are named
-abbrev pub given : List (Option (List ℕ)) → List (List ℕ)
-given [] = []
-given (None ∷ rest) = given rest
-given (Some file ∷ rest) = file ∷ given rest
+-- the values of those that have one
+abbrev pub values_of : {A : Type 0} → List (Option A) → List A
+values_of [] = []
+values_of (None ∷ rest) = values_of rest
+values_of (Some value ∷ rest) = value ∷ values_of rest
 
 -- the names of these files, where there are any, as a function sees them
-abbrev pub named : List (Option (Bor (List ℕ))) → List (Option (List ℕ))
-named files = map (option_map (λ f. f.now)) files
+abbrev pub names_if_any : List (Option (Bor (List ℕ))) → List (Option (List ℕ))
+names_if_any files = map (option_map (λ f. f.now)) files
 
 -- those alone
 abbrev pub names : List (Option (Bor (List ℕ))) → List (List ℕ)
-names files = given (named files)
+names files = values_of (names_if_any files)
 
 -- the name of standard input, where a file is read
 abbrev pub standard_input : List ℕ
@@ -39,7 +39,7 @@ pub record FileNames : Type 0 where
 -- as a function sees them
 abbrev pub names_of : Files → FileNames
 names_of f = record {
-  reads = named f.reads;
+  reads = names_if_any f.reads;
   plan = option_map (λ n. n.now) f.plan;
   cert = option_map (λ n. n.now) f.cert;
   script = option_map (λ n. n.now) f.script;
@@ -120,9 +120,9 @@ file_names (Explain r) = only_read (None ∷ None ∷ None ∷ [])
 
 -- the names of those that it reads
 abbrev pub files_read : Command → List (List ℕ)
-files_read command = given (file_names command).reads
+files_read command = values_of (file_names command).reads
 
 -- the names of those that it may make, in the order in which they are made
 abbrev pub files_made : Command → List (List ℕ)
 files_made command = let f = file_names command in
-    given (f.plan ∷ f.cert ∷ f.script ∷ f.page ∷ [])
+    values_of (f.plan ∷ f.cert ∷ f.script ∷ f.page ∷ [])

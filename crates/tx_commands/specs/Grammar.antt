@@ -35,8 +35,8 @@ abbrev pub stage : Rule
 stage = number_option (codes "stage") 128
 
 -- an argument that has to be given
-abbrev pub needed : Rule → Rule
-needed r = record r { required = true }
+abbrev pub needed_rule : Rule → Rule
+needed_rule r = record r { required = true }
 
 -- a command whose first word is a plan
 abbrev pub plan_words : List ℕ → App
@@ -53,7 +53,7 @@ run_words =
 abbrev pub check_words : App
 check_words =
     with_rule (with_rule (with_rule
-    (plan_words (codes "check")) (file (codes "cert"))) (needed limit)) (needed spare)
+    (plan_words (codes "check")) (file (codes "cert"))) (needed_rule limit)) (needed_rule spare)
 
 -- the arguments of `lint`
 abbrev pub lint_words : App
@@ -71,14 +71,14 @@ codes_words = plan_words (codes "codes")
 abbrev pub audit_words : App
 audit_words =
     with_rule (with_rule (with_rule (with_rule
-    (plan_words (codes "audit")) (needed limit)) (needed spare))
+    (plan_words (codes "audit")) (needed_rule limit)) (needed_rule spare))
     (option (codes "cert"))) (option (codes "counter"))
 
 -- a command with a plan, and an option that names another one, so the plan goes by another id
 abbrev pub mend_words : App
 mend_words =
     with_rule (with_rule (with_rule (with_rule (with_rule
-    (new_app (codes "mend")) (file (codes "before"))) (needed limit)) (needed spare))
+    (new_app (codes "mend")) (file (codes "before"))) (needed_rule limit)) (needed_rule spare))
     (option (codes "plan"))) (option (codes "cert"))
 
 -- the arguments of `survive`
@@ -92,7 +92,7 @@ survive_words =
 abbrev pub page_words : App
 page_words =
     with_rule (with_rule (with_rule (with_rule (with_rule (with_rule
-    (plan_words (codes "page")) (needed limit)) (needed spare))
+    (plan_words (codes "page")) (needed_rule limit)) (needed_rule spare))
     (option (codes "risks"))) (option (codes "from"))) (option (codes "code")))
     (option (codes "html"))
 
@@ -118,15 +118,15 @@ fill_words =
 abbrev pub change_words : App
 change_words =
     with_rule (with_rule (with_rule (with_rule (with_rule (with_rule (with_rule
-    (new_app (codes "change")) (file (codes "before"))) (file (codes "after"))) (needed limit))
-    (needed spare)) (option (codes "cert"))) (option (codes "mixture"))) (option (codes "counter"))
+    (new_app (codes "change")) (file (codes "before"))) (file (codes "after"))) (needed_rule limit))
+    (needed_rule spare)) (option (codes "cert"))) (option (codes "mixture"))) (option (codes "counter"))
 
 -- two plans, and what is to be made of a stage
 abbrev pub order_words : App
 order_words =
     with_rule (with_rule (with_rule (with_rule (with_rule (with_rule (with_rule
-    (new_app (codes "order")) (file (codes "before"))) (file (codes "after"))) (needed limit))
-    (needed spare)) stage) (option (codes "plan"))) (option (codes "cert"))
+    (new_app (codes "order")) (file (codes "before"))) (file (codes "after"))) (needed_rule limit))
+    (needed_rule spare)) stage) (option (codes "plan"))) (option (codes "cert"))
 
 -- one or more words, which need not be given
 abbrev pub some_words : List ℕ → Rule

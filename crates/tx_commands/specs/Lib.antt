@@ -4,4 +4,6 @@ pub mod Files
 pub mod Clashes
 pub mod SameFile
 pub mod Faults
+pub mod Entries
+pub mod Explanation
 pub mod inner

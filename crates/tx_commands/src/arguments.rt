@@ -22,6 +22,18 @@ pub(crate) const NEW_PLAN: &str = "The plan that is to be; - is standard input";
 /// What the help says of the groups that are down.
 pub(crate) const DOWN: &str = "The groups that are down, with a comma between two";
 
+const LIMIT: &str = "At most how many transits a call may pass: 0 to 62";
+
+const SPARE: &str = "How many groups may be down: 0 to 15. After YES, a
+call is answered NC only after a second head-on
+collision, or where more than K groups are listed and
+each of them is down or has no free circuit";
+
+const STAGE: &str = "The stage of which --plan and --cert write: from 1";
+
+/// How many stages an order has at the most.
+pub(crate) const MOST_STAGES: u8 = 128;
+
 /// A command with its arguments so far, unless memory ran out.
 #[derive(Drop)]
 pub(crate) struct Syntax<'a> {
@@ -112,7 +124,10 @@ impl<'a> Syntax<'a> {
         ensures { (app : App) → Takes self.entry app
             → Takes result (with_rule app (grammar.flag id.now)) }
     {
-        let flag = flag(self.alloc, id, help);
+        let flag = Arg::new(self.alloc, id)
+            .long(id)
+            .help(help)
+            .action(ArgAction::SetTrue);
         self.arg(flag)
     }
 
@@ -122,8 +137,8 @@ impl<'a> Syntax<'a> {
             → Takes result (with_rule (with_rule app (record grammar.limit { required = needed }))
             (record grammar.spare { required = needed })) }
     {
-        let limit = limit(self.alloc).required(needed);
-        let spare = spare(self.alloc).required(needed);
+        let limit = number(self.alloc, "limit", "L", LIMIT, 62).required(needed);
+        let spare = number(self.alloc, "spare", "K", SPARE, 15).required(needed);
         self.arg(limit).arg(spare)
     }
 
@@ -131,7 +146,7 @@ impl<'a> Syntax<'a> {
     pub(crate) fn stage(self) -> Syntax<'a>
         ensures { (app : App) → Takes self.entry app → Takes result (with_rule app grammar.stage) }
     {
-        let stage = stage(self.alloc);
+        let stage = number(self.alloc, "stage", "N", STAGE, MOST_STAGES);
         self.arg(stage)
     }
 }
@@ -155,58 +170,10 @@ fn option<'a>(alloc: Global, id: &'a str, shown: &'a str, help: &'a str) -> Arg<
     word(alloc, id, shown, help).long(id)
 }
 
-/// An option without a word.
-fn flag<'a>(alloc: Global, id: &'a str, help: &'a str) -> Arg<'a>
-    ensures rule { rule_of result ≡ grammar.flag id.now }
+/// An option with a number from 0 to the greatest.
+fn number<'a>(alloc: Global, id: &'a str, shown: &'a str, help: &'a str, most: u8) -> Arg<'a>
+    ensures rule { rule_of result ≡ grammar.number_option id.now most }
     ensures local { result.global ≡ false }
 {
-    Arg::new(alloc, id)
-        .long(id)
-        .help(help)
-        .action(ArgAction::SetTrue)
-}
-
-fn limit<'a>(alloc: Global) -> Arg<'a>
-    ensures rule { rule_of result ≡ grammar.limit }
-    ensures local { result.global ≡ false }
-{
-    option(
-        alloc,
-        "limit",
-        "L",
-        "At most how many transits a call may pass: 0 to 62",
-    )
-    .value_parser(value_parser!(u8).range(0..=62))
-}
-
-fn spare<'a>(alloc: Global) -> Arg<'a>
-    ensures rule { rule_of result ≡ grammar.spare }
-    ensures local { result.global ≡ false }
-{
-    option(
-        alloc,
-        "spare",
-        "K",
-        "How many groups may be down: 0 to 15. After YES, a
-call is answered NC only after a second head-on
-collision, or where more than K groups are listed and
-each of them is down or has no free circuit",
-    )
-    .value_parser(value_parser!(u8).range(0..=15))
-}
-
-/// How many stages an order has at the most.
-pub(crate) const MOST_STAGES: u8 = 128;
-
-fn stage<'a>(alloc: Global) -> Arg<'a>
-    ensures rule { rule_of result ≡ grammar.stage }
-    ensures local { result.global ≡ false }
-{
-    option(
-        alloc,
-        "stage",
-        "N",
-        "The stage of which --plan and --cert write: from 1",
-    )
-    .value_parser(value_parser!(u8).range(0..=128))
+    option(alloc, id, shown, help).value_parser(value_parser!(u8).range(0..=i64::from(most)))
 }

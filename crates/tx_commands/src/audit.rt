@@ -1,11 +1,11 @@
 // The command `audit`.
 ghost use Rattle.std.specs.Prelude.{◌≡◌, Some, IfOk, IfErr, codes};
 ghost use Rattle.clap.specs.Words.{app_of, found_of, rows_of};
-ghost use Rattle.tx_commands.specs.Commands.{Names, Asks};
+ghost use Rattle.tx_commands.specs.Commands.{Asks};
 ghost use Rattle.tx_commands.specs.Grammar.{audit_words};
 ghost use Rattle.tx_commands.specs.inner.Refused.{IsRefused};
 
-use crate::arguments::{PLAN, Syntax};
+use crate::arguments::Syntax;
 use crate::command::Command;
 use crate::given::{limits, text};
 use crate::misuse::Misuse;
@@ -52,17 +52,15 @@ first finding that has one",
     .command
 }
 
-/// Its words after the plan.
-pub(crate) fn audit_of(
-    alloc: Global,
-    plan: String,
-    matches: &ArgMatches<'_>,
-) -> Result<Command, Misuse>
-    requires { Names (rows_of (found_of matches.now)) (codes "plan") plan }
+/// Its words.
+pub(crate) fn audit_of(alloc: Global, matches: &ArgMatches<'_>) -> Result<Command, Misuse>
     ensures asked { IfOk result (Asks (codes "audit") (rows_of (found_of matches.now))) }
     ensures refused { IfErr result
         (IsRefused (Some (codes "audit", rows_of (found_of matches.now)))) }
 {
+    let Some(plan) = text(alloc, matches, "plan")? else {
+        return Err(Misuse::Incomplete);
+    };
     let cert = text(alloc, matches, "cert")?;
     let counter = text(alloc, matches, "counter")?;
     let limits = limits(alloc, matches)?;

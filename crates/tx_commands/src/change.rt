@@ -5,7 +5,7 @@ ghost use Rattle.tx_commands.specs.Commands.{Asks};
 ghost use Rattle.tx_commands.specs.Grammar.{change_words};
 ghost use Rattle.tx_commands.specs.inner.Refused.{IsRefused};
 
-use crate::arguments::{NEW_PLAN, OLD_PLAN, PLAN, Syntax};
+use crate::arguments::{NEW_PLAN, OLD_PLAN, Syntax};
 use crate::command::Command;
 use crate::given::{limits, text};
 use crate::misuse::Misuse;

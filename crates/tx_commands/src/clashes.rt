@@ -1,5 +1,5 @@
 // Where two files of a command clash.
-ghost use Rattle.std.specs.Prelude.{◌≡◌, true, false, ◌∷◌, Err, IfOk, IfErr, is_some};
+ghost use Rattle.std.specs.Prelude.{◌≡◌, true, false, ◌∷◌, Err, IfOk, IfErr, is_some, bytes_eq};
 ghost use Rattle.tx_commands.specs.Files.{names, standard_input};
 ghost use Rattle.tx_commands.specs.Clashes.{is_among, has_input_twice, has_clash, reads_input_twice, overwrites};
 ghost use Rattle.tx_commands.specs.inner.Refused.{IsClash};
@@ -12,7 +12,7 @@ use std::alloc::Global;
 
 /// Whether a file is one of these.
 fn is_among(files: &[Option<&str>], file: &str) -> bool
-    ensures { result ≡ is_among (names files.now) file.now }
+    ensures { result ≡ is_among bytes_eq (names files.now) file.now }
 {
     files.contains(&Some(file))
 }
@@ -31,7 +31,8 @@ fn has_input_twice(files: &[Option<&str>]) -> bool
 
 /// A file to be made that is standard input, or one that is read, or another one to be made.
 fn clashing<'n>(read: &[Option<&str>], made: &[Option<&'n str>]) -> Option<&'n str>
-    ensures { is_some result ≡ has_clash (standard_input ∷ names read.now) (names made.now) }
+    ensures { is_some result
+        ≡ has_clash bytes_eq (standard_input ∷ names read.now) (names made.now) }
 {
     for i in 0..made.len() {
         if let Some(file) = made[i] {

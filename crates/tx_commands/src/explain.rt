@@ -8,10 +8,10 @@ ghost use Rattle.tx_commands.specs.inner.Refused.{IsRefused};
 use crate::arguments::Syntax;
 use crate::command::Command;
 use crate::given::line;
+use crate::known_words::is_known;
 use crate::misuse::Misuse;
 use clap::ArgMatches;
 use std::alloc::{AllocError, Global};
-use tx_explain::is_known;
 
 /// `explain [WORD]..`: what the codes, names and words of a line mean, or all codes.
 #[derive(Drop)]

@@ -1,6 +1,6 @@
 // The files of a command.
 ghost use Rattle.std.specs.Prelude.{◌≡◌, ◌∷◌, []};
-ghost use Rattle.tx_commands.specs.Files.{named, names_of, only_read, one_read, two_read};
+ghost use Rattle.tx_commands.specs.Files.{names_if_any, names_of, only_read, one_read, two_read};
 
 /// The name of standard input, where a file is read.
 pub const STANDARD_INPUT: &str = "-";
@@ -23,7 +23,7 @@ pub struct Files<'a> {
 impl<'a> Files<'a> {
     /// Those of a command that reads these and makes none.
     pub(crate) fn reading(reads: [Option<&'a str>; 3]) -> Files<'a>
-        ensures { names_of result ≡ only_read (named reads.entry) }
+        ensures { names_of result ≡ only_read (names_if_any reads.entry) }
     {
         Files {
             reads,
@@ -50,8 +50,8 @@ impl<'a> Files<'a> {
 
     /// Those that it may make, in the order in which they are made.
     pub fn makes(&self) -> [Option<&'a str>; 4]
-        ensures { named result
-            ≡ named (self.now.plan ∷ self.now.cert ∷ self.now.script ∷ self.now.page ∷ []) }
+        ensures { names_if_any result
+            ≡ names_if_any (self.now.plan ∷ self.now.cert ∷ self.now.script ∷ self.now.page ∷ []) }
     {
         [self.plan, self.cert, self.script, self.page]
     }

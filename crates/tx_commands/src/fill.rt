@@ -1,11 +1,11 @@
 // The command `fill`.
 ghost use Rattle.std.specs.Prelude.{◌≡◌, Some, IfOk, IfErr, codes};
 ghost use Rattle.clap.specs.Words.{app_of, found_of, rows_of};
-ghost use Rattle.tx_commands.specs.Commands.{Names, Asks};
+ghost use Rattle.tx_commands.specs.Commands.{Asks};
 ghost use Rattle.tx_commands.specs.Grammar.{fill_words};
 ghost use Rattle.tx_commands.specs.inner.Refused.{IsRefused};
 
-use crate::arguments::{DOWN, PLAN, Syntax};
+use crate::arguments::{DOWN, Syntax};
 use crate::command::Command;
 use crate::given::text;
 use crate::misuse::Misuse;
@@ -43,17 +43,15 @@ pub(crate) fn fill_grammar<'a>(alloc: Global) -> Result<clap::Command<'a>, Alloc
     .command
 }
 
-/// Its words after the plan.
-pub(crate) fn fill_of(
-    alloc: Global,
-    plan: String,
-    matches: &ArgMatches<'_>,
-) -> Result<Command, Misuse>
-    requires { Names (rows_of (found_of matches.now)) (codes "plan") plan }
+/// Its words.
+pub(crate) fn fill_of(alloc: Global, matches: &ArgMatches<'_>) -> Result<Command, Misuse>
     ensures asked { IfOk result (Asks (codes "fill") (rows_of (found_of matches.now))) }
     ensures refused { IfErr result
         (IsRefused (Some (codes "fill", rows_of (found_of matches.now)))) }
 {
+    let Some(plan) = text(alloc, matches, "plan")? else {
+        return Err(Misuse::Incomplete);
+    };
     let exchange = text(alloc, matches, "exchange")?;
     let code = text(alloc, matches, "code")?;
     let down = text(alloc, matches, "down")?;

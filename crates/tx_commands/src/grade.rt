@@ -1,9 +1,15 @@
 // The command `grade`.
-ghost use Rattle.std.specs.Prelude.{◌≡◌, IfOk};
-ghost use Rattle.clap.specs.Words.{app_of};
+ghost use Rattle.std.specs.Prelude.{◌≡◌, Some, IfOk, IfErr, codes};
+ghost use Rattle.clap.specs.Words.{app_of, found_of, rows_of};
+ghost use Rattle.tx_commands.specs.Commands.{Asks};
 ghost use Rattle.tx_commands.specs.Grammar.{grade_words};
+ghost use Rattle.tx_commands.specs.inner.Refused.{IsRefused};
 
-use crate::arguments::{PLAN, Syntax};
+use crate::arguments::Syntax;
+use crate::command::Command;
+use crate::given::text;
+use crate::misuse::Misuse;
+use clap::ArgMatches;
 use std::alloc::{AllocError, Global};
 
 /// `grade PLAN`: with which limits and spare numbers the plan is safe, and each of its codes.
@@ -28,4 +34,16 @@ pub(crate) fn grade_grammar<'a>(alloc: Global) -> Result<clap::Command<'a>, Allo
         GRADE_HELP,
     )
     .command
+}
+
+/// Its words.
+pub(crate) fn grade_of(alloc: Global, matches: &ArgMatches<'_>) -> Result<Command, Misuse>
+    ensures asked { IfOk result (Asks (codes "grade") (rows_of (found_of matches.now))) }
+    ensures refused { IfErr result
+        (IsRefused (Some (codes "grade", rows_of (found_of matches.now)))) }
+{
+    let Some(plan) = text(alloc, matches, "plan")? else {
+        return Err(Misuse::Incomplete);
+    };
+    Ok(Command::Grade(GradeRequest { plan }))
 }

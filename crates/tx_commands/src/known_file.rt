@@ -1,6 +1,8 @@
 // Files of a command that are known by their ids, and which of them are one.
 ghost use Rattle.std.specs.Prelude.{◌≡◌, is_some};
-ghost use Rattle.tx_commands.specs.SameFile.{is_same_file, is_among, has_clash, known};
+ghost use Rattle.tx_commands.specs.Clashes.{is_among, has_clash};
+ghost use Rattle.tx_commands.specs.Files.{values_of};
+ghost use Rattle.tx_commands.specs.SameFile.{is_same_file};
 
 use crate::place::Place;
 use std::path::Path;
@@ -68,7 +70,7 @@ impl<'n> KnownFile<'n> {
 
 /// The place of the first of these files that is this one.
 fn first_as(files: &[Option<KnownFile<'_>>], file: KnownFile<'_>) -> Option<Place>
-    ensures { is_some result ≡ is_among (known files.now) file.entry }
+    ensures { is_some result ≡ is_among is_same_file (values_of files.now) file.entry }
 {
     for i in 0..files.len() {
         if let Some(other) = files[i] {
@@ -86,7 +88,7 @@ pub fn clash(
     read: &[Option<KnownFile<'_>>],
     made: &[Option<KnownFile<'_>>],
 ) -> Option<(Place, Place)>
-    ensures { is_some result ≡ has_clash (known read.now) (known made.now) }
+    ensures { is_some result ≡ has_clash is_same_file (values_of read.now) (values_of made.now) }
 {
     for i in 0..made.len() {
         if let Some(file) = made[i] {

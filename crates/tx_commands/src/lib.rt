@@ -1,15 +1,18 @@
-//! The commands of the program, and the words of the command line that ask for them.
+//! The commands of the program, and the words of the command line that ask for them; and what the
+//! codes of faults, warnings, refusals, findings and causes and the words of reports mean, and what
+//! to do about each.
 #![tactic(auto)]
 
 mod arguments;
-mod asked;
 mod audit;
 mod change;
 mod check;
 mod clashes;
+mod code_table;
 mod codes;
 mod command;
 mod explain;
+mod explanation;
 mod fault;
 mod files;
 mod fill;
@@ -17,15 +20,22 @@ mod given;
 mod grade;
 mod grammar;
 mod known_file;
+mod known_words;
 mod lint;
 mod mend;
 mod misuse;
 mod order;
 mod page;
 mod place;
+mod plan_codes;
 mod reading;
+mod report_words;
 mod run;
+mod run_codes;
+mod run_words;
+mod subcommand;
 mod survive;
+mod text_faults;
 mod trace;
 
 pub use audit::AuditRequest;
@@ -34,6 +44,7 @@ pub use check::CheckRequest;
 pub use codes::CodesRequest;
 pub use command::Command;
 pub use explain::ExplainRequest;
+pub use explanation::write_explanation;
 pub use fault::WordsFault;
 pub use files::{Files, STANDARD_INPUT};
 pub use fill::FillRequest;

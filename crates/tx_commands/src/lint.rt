@@ -1,11 +1,11 @@
 // The command `lint`.
 ghost use Rattle.std.specs.Prelude.{◌≡◌, Some, IfOk, IfErr, codes};
 ghost use Rattle.clap.specs.Words.{app_of, found_of, rows_of};
-ghost use Rattle.tx_commands.specs.Commands.{Names, Asks};
+ghost use Rattle.tx_commands.specs.Commands.{Asks};
 ghost use Rattle.tx_commands.specs.Grammar.{lint_words};
 ghost use Rattle.tx_commands.specs.inner.Refused.{IsRefused};
 
-use crate::arguments::{PLAN, RISKS, Syntax};
+use crate::arguments::{RISKS, Syntax};
 use crate::command::Command;
 use crate::given::text;
 use crate::misuse::Misuse;
@@ -38,17 +38,15 @@ pub(crate) fn lint_grammar<'a>(alloc: Global) -> Result<clap::Command<'a>, Alloc
     .command
 }
 
-/// Its words after the plan.
-pub(crate) fn lint_of(
-    alloc: Global,
-    plan: String,
-    matches: &ArgMatches<'_>,
-) -> Result<Command, Misuse>
-    requires { Names (rows_of (found_of matches.now)) (codes "plan") plan }
+/// Its words.
+pub(crate) fn lint_of(alloc: Global, matches: &ArgMatches<'_>) -> Result<Command, Misuse>
     ensures asked { IfOk result (Asks (codes "lint") (rows_of (found_of matches.now))) }
     ensures refused { IfErr result
         (IsRefused (Some (codes "lint", rows_of (found_of matches.now)))) }
 {
+    let Some(plan) = text(alloc, matches, "plan")? else {
+        return Err(Misuse::Incomplete);
+    };
     let risks = text(alloc, matches, "risks")?;
     Ok(Command::Lint(LintRequest { plan, risks }))
 }

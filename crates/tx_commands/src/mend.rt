@@ -58,17 +58,16 @@ pub(crate) fn mend_of(alloc: Global, matches: &ArgMatches<'_>) -> Result<Command
     ensures refused { IfErr result
         (IsRefused (Some (codes "mend", rows_of (found_of matches.now)))) }
 {
-    let plan = text(alloc, matches, "before")?;
+    let Some(plan) = text(alloc, matches, "before")? else {
+        return Err(Misuse::Incomplete);
+    };
     let mended = text(alloc, matches, "plan")?;
     let cert = text(alloc, matches, "cert")?;
     let limits = limits(alloc, matches)?;
-    match plan {
-        Some(plan) => Ok(Command::Mend(MendRequest {
-            plan,
-            limits,
-            mended,
-            cert,
-        })),
-        None => Err(Misuse::Incomplete),
-    }
+    Ok(Command::Mend(MendRequest {
+        plan,
+        limits,
+        mended,
+        cert,
+    }))
 }

@@ -1,11 +1,11 @@
 // The command `page`.
 ghost use Rattle.std.specs.Prelude.{◌≡◌, Some, IfOk, IfErr, codes};
 ghost use Rattle.clap.specs.Words.{app_of, found_of, rows_of};
-ghost use Rattle.tx_commands.specs.Commands.{Names, Asks};
+ghost use Rattle.tx_commands.specs.Commands.{Asks};
 ghost use Rattle.tx_commands.specs.Grammar.{page_words};
 ghost use Rattle.tx_commands.specs.inner.Refused.{IsRefused};
 
-use crate::arguments::{PLAN, RISKS, Syntax};
+use crate::arguments::{RISKS, Syntax};
 use crate::command::Command;
 use crate::given::{limits, text};
 use crate::misuse::Misuse;
@@ -62,17 +62,15 @@ change into those of the plan; - is standard input",
     .command
 }
 
-/// Its words after the plan.
-pub(crate) fn page_of(
-    alloc: Global,
-    plan: String,
-    matches: &ArgMatches<'_>,
-) -> Result<Command, Misuse>
-    requires { Names (rows_of (found_of matches.now)) (codes "plan") plan }
+/// Its words.
+pub(crate) fn page_of(alloc: Global, matches: &ArgMatches<'_>) -> Result<Command, Misuse>
     ensures asked { IfOk result (Asks (codes "page") (rows_of (found_of matches.now))) }
     ensures refused { IfErr result
         (IsRefused (Some (codes "page", rows_of (found_of matches.now)))) }
 {
+    let Some(plan) = text(alloc, matches, "plan")? else {
+        return Err(Misuse::Incomplete);
+    };
     let risks = text(alloc, matches, "risks")?;
     let old = text(alloc, matches, "from")?;
     let code = text(alloc, matches, "code")?;

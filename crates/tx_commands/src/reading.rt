@@ -7,12 +7,12 @@ ghost use Rattle.tx_commands.specs.Grammar.{program_words};
 ghost use Rattle.tx_commands.specs.Faults.{IsRefusalIn, IsRefusalOf};
 ghost use Rattle.tx_commands.specs.inner.Refused.{IsRefused};
 
-use crate::asked::command_of;
 use crate::clashes::refuse_clash;
 use crate::command::Command;
 use crate::fault::WordsFault;
 use crate::grammar::{asked_grammar, grammar};
 use crate::misuse::Misuse;
+use crate::subcommand::command_of;
 use clap::ArgMatches;
 use std::alloc::{AllocError, Global};
 

@@ -1,11 +1,11 @@
 // The command `survive`.
 ghost use Rattle.std.specs.Prelude.{◌≡◌, Some, IfOk, IfErr, codes};
 ghost use Rattle.clap.specs.Words.{app_of, found_of, rows_of};
-ghost use Rattle.tx_commands.specs.Commands.{Names, Asks};
+ghost use Rattle.tx_commands.specs.Commands.{Asks};
 ghost use Rattle.tx_commands.specs.Grammar.{survive_words};
 ghost use Rattle.tx_commands.specs.inner.Refused.{IsRefused};
 
-use crate::arguments::{PLAN, RISKS, Syntax};
+use crate::arguments::{RISKS, Syntax};
 use crate::command::Command;
 use crate::given::{is_set, text};
 use crate::misuse::Misuse;
@@ -50,17 +50,15 @@ ones",
     .command
 }
 
-/// Its words after the plan.
-pub(crate) fn survive_of(
-    alloc: Global,
-    plan: String,
-    matches: &ArgMatches<'_>,
-) -> Result<Command, Misuse>
-    requires { Names (rows_of (found_of matches.now)) (codes "plan") plan }
+/// Its words.
+pub(crate) fn survive_of(alloc: Global, matches: &ArgMatches<'_>) -> Result<Command, Misuse>
     ensures asked { IfOk result (Asks (codes "survive") (rows_of (found_of matches.now))) }
     ensures refused { IfErr result
         (IsRefused (Some (codes "survive", rows_of (found_of matches.now)))) }
 {
+    let Some(plan) = text(alloc, matches, "plan")? else {
+        return Err(Misuse::Incomplete);
+    };
     let only = is_set(matches, "risks-only");
     let totals = is_set(matches, "totals");
     let risks = match text(alloc, matches, "risks")? {

@@ -11,7 +11,7 @@ use Rattle.tx_lines.specs.Book.{Book, is_line_of}
 use Rattle.tx_circuits.specs.Table.{Table}
 use Rattle.tx_engine.specs.inner.KeptCalls.{Kept, KeptCalls, kept_at, Changes, calls_in}
 use Rattle.tx_engine.proofs.Sorted.{sorted_mem}
-use Rattle.tx_engine.specs.inner.GivenBack.{CanGiveBack, given_back, freed}
+use Rattle.tx_engine.specs.inner.GivenBack.{CanGiveBack, given_back, freed_lines}
 use Rattle.tx_engine.specs.inner.Seen.{state_seen}
 use Rattle.tx_engine.proofs.Together.{may_end, together_after, state_after}
 use Rattle.tx_engine.proofs.Filters.{alone}
@@ -44,7 +44,7 @@ module _ {A : Type 0} (n : EngineState A) (sound : IsSound n) (key : ℕ) (k : K
   has_ticket_room = let a = sound.ticket_room in let f = fewer in omega arith
 
   module _ (c : KeptCalls) (b : Book) (t : Table) (up : Changes n.calls c key None) (calls : calls_in c ≡ filter (λ d. not (is_numbered k.call.number d)) (calls_in n.calls))
-      (free : b ≡ record n.lines { engaged = freed k.call n.lines.engaged; room = b.room }) (back : t ≡ given_back p k.call n.circuits) where
+      (free : b ≡ record n.lines { engaged = freed_lines k.call n.lines.engaged; room = b.room }) (back : t ≡ given_back p k.call n.circuits) where
     pub sound_ended : (made room : ℕ) → made ≡ deque_len n.tickets + 1 → room ≡ deque_capacity n.tickets → AreSound p n.codes c n.keys b t n.numbers made room
     sound_ended made room one same = record {
       rules = sound.rules;

@@ -6,7 +6,7 @@ ghost use Rattle.tx_machine.specs.Step.{accepted};
 ghost use Rattle.tx_machine.specs.Refusals.{refusal};
 ghost use Rattle.tx_engine.specs.inner.KeptCalls.{Kept, kept_at};
 ghost use Rattle.tx_machine.specs.Seen.{call_seen};
-ghost use Rattle.tx_engine.specs.inner.GivenBack.{released_all, given_back, thrown_off, freed, CanReleaseAll, CanGiveBack, CanThrowOff};
+ghost use Rattle.tx_engine.specs.inner.GivenBack.{released_all, given_back, thrown_off, freed_lines, CanReleaseAll, CanGiveBack, CanThrowOff};
 ghost use Rattle.tx_engine.specs.inner.Sound.{IsSound, state_of};
 
 use crate::engine::EngineState;
@@ -77,7 +77,7 @@ fn ticket_of<A: Allocator>(plan: &Plan<A>, call: OpenCall<A>, cause: Cause, even
 /// The lines of a call are free.
 fn free_lines<A: Allocator>(lines: &mut LineBook<A>, call: &OpenCall<A>)
     ensures { lines.new ≡ record lines.old {
-      engaged = freed (call_seen call.now) lines.old.engaged;
+      engaged = freed_lines (call_seen call.now) lines.old.engaged;
       room = lines.new.room;
     } }
 {

@@ -3,11 +3,9 @@ use Rattle.std.proofs.Common.{◌≡◌, ◌⊎◌, ℕ, zero, suc, ◌≤◌, B
 use Rattle.tx_text.specs.declared.source.ReadFault.{ReadFault}
 use Rattle.tx_text.specs.Calls.{Gives, Gave, CallsAtMost}
 use Rattle.tx_text.specs.inner.CallsLeft.{Calls}
+use Rattle.tx_plan.proofs.Lists.{opposed}
 use Rattle.tx_jobs.specs.declared.script_part.ScriptPart.{ScriptPart}
 use Rattle.tx_jobs.specs.inner.Reading.{CalledInput, LeftInput, PartCall}
-
-unmarked : (b : Bool) → b ≡ true → b ≡ false → ⊥
-unmarked b h e = cc
 
 -- of a source that stands over a part
 module _ {R S : Type 0} (rest : R → Option (List ℕ)) (failed : R → Bool) (called : ℕ → Result ℕ ReadFault → R → R → Type 0) (part : S → ScriptPart R) (over : S → Bool) (call : ℕ → Result ℕ ReadFault → S → S → Type 0)
@@ -79,12 +77,12 @@ module _ {R S : Type 0} (rest : R → Option (List ℕ)) (failed : R → Bool) (
   gave_marked : (n : ℕ) (a c : S) → Gave call n a c → IsMarked a → IsMarked c
   unfolding Gave
   gave_marked zero a c e before = subst IsMarked e before
-  gave_marked (suc n) a c (b, g, (m, some, k)) before = λ bad. absurd (unmarked _ bad (is 4096 (Ok m) b c k).mark)
+  gave_marked (suc n) a c (b, g, (m, some, k)) before = λ bad. absurd (opposed _ bad (is 4096 (Ok m) b c k).mark)
 
   -- Where the part has failed, the input has, if it had before.
   pub input_failed : (most : ℕ) (a c : S) → CallsAtMost call most a c → ((part a).ahead.now.failed ≡ true → failed (input a) ≡ true) → (part c).ahead.now.failed ≡ true → failed (input c) ≡ true
   input_failed most a c (inl (n, le, g)) before = gave_marked n a c g before
-  input_failed most a c (inr (n, lt, b, g, Ok k, p)) before = λ bad. absurd (unmarked _ bad (is 4096 (Ok k) b c p).mark)
+  input_failed most a c (inr (n, lt, b, g, Ok k, p)) before = λ bad. absurd (opposed _ bad (is 4096 (Ok k) b c p).mark)
   input_failed most a c (inr (n, lt, b, g, Err x, p)) before = λ _. by (is 4096 (Err x) b c p).fails
     where
       by : (((part b).ahead.now.failed ≡ true) × (input c ≡ input b)) ⊎ (failed (input c) ≡ true) → failed (input c) ≡ true
@@ -101,7 +99,7 @@ module _ {R S : Type 0} (rest : R → Option (List ℕ)) (failed : R → Bool) (
 
   still_going : (x y : Bool) → (x ≡ true → y ≡ true) → y ≡ false → x ≡ false
   still_going false y f e = refl
-  still_going true y f e = absurd (unmarked y (f refl) e)
+  still_going true y f e = absurd (opposed y (f refl) e)
 
   last_empty : (b c : S) → IsEmptied b → Calls call b c → IsEmptied c
   last_empty b c empty (Ok k, p) = (is 4096 (Ok k) b c p).emptied (omega arith)

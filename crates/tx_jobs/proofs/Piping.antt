@@ -15,7 +15,7 @@ use Rattle.tx_jobs.specs.declared.plan_part.PlanPart.{PlanPart}
 use Rattle.tx_jobs.specs.declared.script_part.ScriptPart.{ScriptPart}
 use Rattle.tx_jobs.specs.Parts.{plan_part, script_part, left_of_plan}
 use Rattle.tx_jobs.specs.inner.Seen.{is_over}
-use Rattle.tx_jobs.specs.inner.Reading.{left, as_script, plan_of, script_of, plan_rest, script_rest, PartCall, PlanCall, ScriptCall}
+use Rattle.tx_jobs.specs.inner.Reading.{bytes_left, as_script, plan_of, script_of, plan_rest, script_rest, PartCall, PlanCall, ScriptCall}
 use Rattle.tx_jobs.proofs.PartCalls as calls
 use Rattle.tx_jobs.proofs.PlanCalls.{Took, calls_took, whole_plan, whole_script, plan_left, all_script}
 use Rattle.tx_text.proofs.ReadingOn.{moves-nil}
@@ -69,7 +69,7 @@ module _ {R : Type 0} (rest : R → Option (List ℕ)) (failed : R → Bool) (ca
     unmarked : a.ahead.now.failed ≡ true → failed old ≡ true
     unmarked bad = absurd (false≢true (sym sound ∙ bad))
 
-    whole : left rest (as_script a) ≡ rest old
+    whole : bytes_left rest (as_script a) ≡ rest old
     whole = ap (λ h. prepend_known h (rest old)) none ∙ sym (moves-nil (rest old))
 
     plan_is : plan_rest rest a ≡ option_map plan_part (rest old)
@@ -139,15 +139,15 @@ module _ {R : Type 0} (rest : R → Option (List ℕ)) (failed : R → Bool) (ca
           by (inl h) = inl (h refl)
           by (inr h) = inr h
 
-      lent : left rest b ≡ left rest (as_script c)
+      lent : bytes_left rest b ≡ bytes_left rest (as_script c)
       lent i = prepend_known (kept i).held (rest (same i))
 
       pub ran : (p : Plan) → IsPlan p → (out : Output) (result : Result Summary JobFault)
           → SaysPlan (input (plan_rest rest) (λ t. t.ahead.now.failed) (PlanCall rest failed called) a c) p
-          → ScriptRan p (input (left rest) (λ t. t.ahead.now.failed) (ScriptCall rest failed called) b e) out result → PipeRan rest failed called old new out result
+          → ScriptRan p (input (bytes_left rest) (λ t. t.ahead.now.failed) (ScriptCall rest failed called) b e) out result → PipeRan rest failed called old new out result
       ran p rules out result says h =
-          let script : left rest b ≡ option_map script_part (rest old) = lent ∙ all_script c.seen (left rest (as_script c)) says.1 ∙ script_is in
-          let told = simulated_with (input (left rest) (λ t. t.ahead.now.failed) (ScriptCall rest failed called) b e) _ _ script_broken (λ same. ap (λ (t : ScriptPart R). t.input.now) same) p out result h in
+          let script : bytes_left rest b ≡ option_map script_part (rest old) = lent ∙ all_script c.seen (bytes_left rest (as_script c)) says.1 ∙ script_is in
+          let told = simulated_with (input (bytes_left rest) (λ t. t.ahead.now.failed) (ScriptCall rest failed called) b e) _ _ script_broken (λ same. ap (λ (t : ScriptPart R). t.input.now) same) p out result h in
           record {
             mid = from;
             read = b.ahead.now.held;
@@ -166,7 +166,7 @@ module _ {R : Type 0} (rest : R → Option (List ℕ)) (failed : R → Bool) (ca
                       plan_is (plan_new ∙ ap (λ m. left_of_plan (rest old) (rest m)) (sym same)) says;
                   goes_on =
                       subst
-                      (λ x. ScriptRan p (record { old = x; new = left rest e; broken = (failed new ≡ true) ⊎ Gave called (calls_behind b.ahead.now.held source_calls) from new; unread = new ≡ from }) out result)
+                      (λ x. ScriptRan p (record { old = x; new = bytes_left rest e; broken = (failed new ≡ true) ⊎ Gave called (calls_behind b.ahead.now.held source_calls) from new; unread = new ≡ from }) out result)
                       script told;
                 };
           }

@@ -6,13 +6,14 @@ use Rattle.std.proofs.Math.Seq.{drop-append-add}
 use Rattle.std.proofs.lemmas.List.{drop_all}
 use Rattle.tx_text.specs.declared.source.ReadFault.{ReadFault}
 use Rattle.tx_text.specs.Calls.{Gave, CallsAtMost}
+use Rattle.tx_text.proofs.SliceAnswers.{some_is}
 use Rattle.tx_text.proofs.ReadingOn.{moves-nil, prepend_twice}
 use Rattle.tx_jobs.specs.declared.seen.Seen.{Seen}
 use Rattle.tx_jobs.specs.declared.seen.Seen.TheVariants.{Blanks}
 use Rattle.tx_jobs.specs.declared.plan_part.PlanPart.{PlanPart}
 use Rattle.tx_jobs.specs.Parts.{plan_part, script_part, left_of_plan}
 use Rattle.tx_jobs.specs.inner.Seen.{is_over, end_from}
-use Rattle.tx_jobs.specs.inner.Reading.{left, as_script, plan_of, script_of, plan_rest, script_rest, PlanCall}
+use Rattle.tx_jobs.specs.inner.Reading.{bytes_left, as_script, plan_of, script_of, plan_rest, script_rest, PlanCall}
 use Rattle.tx_jobs.proofs.Cutting.{end_on, end_over, seen_cut}
 
 module _ {R : Type 0} (rest : R → Option (List ℕ)) (failed : R → Bool) (called : ℕ → Result ℕ ReadFault → R → R → Type 0) where
@@ -21,10 +22,10 @@ module _ {R : Type 0} (rest : R → Option (List ℕ)) (failed : R → Bool) (ca
     pub script : script_rest rest c ≡ script_rest rest a
     pub given : List ℕ
     pub plan : plan_rest rest a ≡ prepend_known given (plan_rest rest c)
-    pub gone : left rest (as_script a) ≡ prepend_known given (left rest (as_script c))
+    pub gone : bytes_left rest (as_script a) ≡ prepend_known given (bytes_left rest (as_script c))
 
   took_none : (a c : PlanPart R) → a ≡ c → Took a c
-  took_none a c e = subst (Took a) e (record { script = refl; given = []; plan = moves-nil (plan_rest rest a); gone = moves-nil (left rest (as_script a)) })
+  took_none a c e = subst (Took a) e (record { script = refl; given = []; plan = moves-nil (plan_rest rest a); gone = moves-nil (bytes_left rest (as_script a)) })
 
   took_on : (a b c : PlanPart R) (n : ℕ) (r : Result ℕ ReadFault) → Took a b → PlanCall rest failed called n r b c → Took a c
   took_on a b c n r t k =
@@ -32,7 +33,7 @@ module _ {R : Type 0} (rest : R → Option (List ℕ)) (failed : R → Bool) (ca
         script = k.script ∙ t.script;
         given = t.given ++ k.given;
         plan = t.plan ∙ ap (prepend_known t.given) k.plan ∙ prepend_twice t.given k.given (plan_rest rest c);
-        gone = t.gone ∙ ap (prepend_known t.given) k.gone ∙ prepend_twice t.given k.given (left rest (as_script c));
+        gone = t.gone ∙ ap (prepend_known t.given) k.gone ∙ prepend_twice t.given k.given (bytes_left rest (as_script c));
       }
 
   gave_took : (n : ℕ) (a c : PlanPart R) → Gave (PlanCall rest failed called) n a c → Took a c
@@ -67,9 +68,6 @@ left_by text more given held plan left t p e =
 
 none_of : (seen : Seen) (t : List ℕ) → is_over seen ≡ true → take (end_from seen t) t ≡ []
 none_of seen t h = ap (λ k. take k t) (end_over seen t h)
-
-some_is : (a b : List ℕ) → ◌≡◌ {A = Option (List ℕ)} (Some a) (Some b) → a ≡ b
-some_is a b e = cc
 
 -- of the whole input these bytes were taken of the plan, and these are held
 pub plan_left : (seen : Seen) (held given : List ℕ) (old now : Option (List ℕ)) → option_map plan_part old ≡ prepend_known given (plan_of seen (prepend_known held now)) → old ≡ prepend_known given (prepend_known held now)

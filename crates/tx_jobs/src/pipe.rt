@@ -4,7 +4,7 @@ ghost use Rattle.tx_text.specs.Calls.{CallsAtMost, source_calls};
 ghost use Rattle.tx_text.specs.Said.{told_fault};
 ghost use Rattle.tx_plan.specs.Rules.{IsPlan};
 ghost use Rattle.tx_plantext.specs.PlanText.{ReadsPlan};
-ghost use Rattle.tx_jobs.specs.inner.Reading.{left, plan_rest, PlanCall, ScriptCall};
+ghost use Rattle.tx_jobs.specs.inner.Reading.{bytes_left, plan_rest, PlanCall, ScriptCall};
 ghost use Rattle.tx_jobs.specs.JobFaults.{mark_after};
 ghost use Rattle.tx_text.specs.Ends.{input, output};
 ghost use Rattle.tx_jobs.specs.Jobs.{ScriptRan};
@@ -67,7 +67,7 @@ fn run_script_part<A: Allocator + Copy, R: Source, W: Sink>(
     ensures same_input { script.new.input.ghost_name ≡ script.old.input.ghost_name }
     ensures same_ahead { script.new.ahead.ghost_name ≡ script.old.ahead.ghost_name }
     ensures answers { ScriptRan plan.now
-        (input (left R.rest) (λ s. s.ahead.now.failed) (ScriptCall R.rest R.failed R.called)
+        (input (bytes_left R.rest) (λ s. s.ahead.now.failed) (ScriptCall R.rest R.failed R.called)
         script.old script.new)
         (output W.taken out.old out.new) result }
     ensures mark { W.failed out.new ≡ mark_after (W.failed out.old) result }

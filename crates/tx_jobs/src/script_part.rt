@@ -22,9 +22,9 @@ impl<'a, R: Source> ScriptPart<'a, R> {
 }
 
 impl<'a, R: Source> Source for ScriptPart<'a, R> {
-    ghost use Rattle.tx_jobs.specs.inner.Reading.{left, ScriptCall};
+    ghost use Rattle.tx_jobs.specs.inner.Reading.{bytes_left, ScriptCall};
 
-    ghost rest = { left R.rest };
+    ghost rest = { bytes_left R.rest };
 
     ghost failed = { λ s. s.ahead.now.failed };
 

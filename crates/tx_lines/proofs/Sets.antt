@@ -18,11 +18,11 @@ use Rattle.tx_plan.specs.declared.range.LineRange.{LineRange}
 use Rattle.tx_lines.specs.declared.book.Status.{Status}
 use Rattle.tx_lines.specs.declared.book.Mark.{Mark}
 use Rattle.tx_lines.specs.declared.book.Mark.TheVariants.{Faulty, Away, Engaged}
-use Rattle.tx_lines.specs.Status.{has, with_mark, is_unmarked, unmarked}
-use Rattle.tx_lines.specs.Book.{Book, has_status, room_taken, switched}
-use Rattle.tx_lines.specs.inner.Kept.{passes, with_status, book_of, with_mark_of, status_of, kept}
+use Rattle.tx_lines.specs.Status.{has, with_mark, is_unmarked, no_mark}
+use Rattle.tx_lines.specs.Book.{Book, has_status, room_taken, switched_set}
+use Rattle.tx_lines.specs.inner.Kept.{passes, with_status, book_of, with_mark_of, status_of, kept_status}
 
-contains-switched : (on : Bool) (s : set.FinSet line_cmp) (line l : Line) → set.contains (switched on s line) l ≡ cond (same_line line l) on (set.contains s l)
+contains-switched : (on : Bool) (s : set.FinSet line_cmp) (line l : Line) → set.contains (switched_set on s line) l ≡ cond (same_line line l) on (set.contains s l)
 contains-switched true s line l = set.contains-insert lines_total s line l ∙ ap (λ b. b || set.contains s l) (line_tie l line) ∙ by (same_line line l)
   where
     by : (b : Bool) → (b || set.contains s l) ≡ cond b true (set.contains s l)
@@ -40,7 +40,7 @@ marked Faulty b = b.faulty
 marked Away b = b.away
 marked Engaged b = b.engaged
 
-unmarked_none : (k : Mark) → has k unmarked ≡ false
+unmarked_none : (k : Mark) → has k no_mark ≡ false
 unmarked_none Faulty = refl
 unmarked_none Away = refl
 unmarked_none Engaged = refl
@@ -50,7 +50,7 @@ unset true h = absurd (false≢true h)
 unset false h = refl
 
 -- what is kept of a status has its marks
-kept_has : (s : Status) (k : Mark) → option_map_or (has k) (kept s) false ≡ has k s
+kept_has : (s : Status) (k : Mark) → option_map_or (has k) (kept_status s) false ≡ has k s
 kept_has s k = by (is_unmarked s) refl k
   where
     by : (b : Bool) → is_unmarked s ≡ b → (k : Mark) → option_map_or (has k) (if b then None else Some s) false ≡ has k s
@@ -80,10 +80,10 @@ module _ {S : Type 0} where
       along test es = set.from_list (filter (λ l. option_map_or test (lookup (same_line l) es) false) (map (λ p. p.0) es))
 
   -- what is kept of a line has its marks
-  pub marks_of : (ranges : List LineRange) (m : IndexMap Line Status S) (b : Book) (line : Line) (s : Status) → book_of ranges m ≡ b → s ≡ unwrap_or (index.get same_line m line) unmarked → (k : Mark) → has k s ≡ set.contains (marked k b) line
+  pub marks_of : (ranges : List LineRange) (m : IndexMap Line Status S) (b : Book) (line : Line) (s : Status) → book_of ranges m ≡ b → s ≡ unwrap_or (index.get same_line m line) no_mark → (k : Mark) → has k s ≡ set.contains (marked k b) line
   marks_of ranges m b line s view is k = ap (has k) is ∙ by (index.get same_line m line) ∙ sym (contains_status (has k) m line) ∙ of_mark k
     where
-      by : (o : Option Status) → has k (unwrap_or o unmarked) ≡ option_map_or (has k) o false
+      by : (o : Option Status) → has k (unwrap_or o no_mark) ≡ option_map_or (has k) o false
       by None = unmarked_none k
       by (Some s) = refl
 
@@ -106,7 +106,7 @@ module _ {S : Type 0} where
         by l true e = same ∙ ap (set.contains (with_status test m)) (same_line-is line l e)
         by l false e = refl
 
-    set_switched : (test : Status → Bool) (on : Bool) → option_map_or test w false ≡ on → with_status test n ≡ switched on (with_status test m) line
+    set_switched : (test : Status → Bool) (on : Bool) → option_map_or test w false ≡ on → with_status test n ≡ switched_set on (with_status test m) line
     set_switched test on is = set.same_set lines_total exact_lines _ _ (λ l.
         contains_after test l ∙ ap (λ b. cond (same_line line l) b (set.contains (with_status test m) l)) is ∙ sym (contains-switched on (with_status test m) line l))
 
@@ -122,7 +122,7 @@ module _ {S : Type 0} where
     was : (k : Mark) → has k (status_of m line) ≡ set.contains (with_status (has k) m) line
     was k = by (index.get same_line m line) ∙ sym (contains_status (has k) m line)
       where
-        by : (o : Option Status) → has k (unwrap_or o unmarked) ≡ option_map_or (has k) o false
+        by : (o : Option Status) → has k (unwrap_or o no_mark) ≡ option_map_or (has k) o false
         by None = unmarked_none k
         by (Some s) = refl
 
@@ -132,10 +132,10 @@ module _ {S : Type 0} where
           book_marked m n line (Some (with_mark mark true (status_of m line))) at ranges (status_of m line) was mark true (λ k. refl)
           ∙ ap (λ (v : Book). record (with_mark_of line mark true v) { room = index.spare n }) view
 
-    module _ (at : (q : Line) → index.get same_line n q ≡ cond (same_line line q) (kept (with_mark mark false (status_of m line))) (index.get same_line m q)) where
+    module _ (at : (q : Line) → index.get same_line n q ≡ cond (same_line line q) (kept_status (with_mark mark false (status_of m line))) (index.get same_line m q)) where
       pub book_taken : book_of ranges n ≡ record (with_mark_of line mark false b) { room = index.spare n }
       book_taken =
-          book_marked m n line (kept (with_mark mark false (status_of m line))) at ranges (status_of m line) was mark false (kept_has (with_mark mark false (status_of m line)))
+          book_marked m n line (kept_status (with_mark mark false (status_of m line))) at ranges (status_of m line) was mark false (kept_has (with_mark mark false (status_of m line)))
           ∙ ap (λ (v : Book). record (with_mark_of line mark false v) { room = index.spare n }) view
 
     -- a line that is not kept has no status

@@ -32,8 +32,8 @@ abbrev pub room_taken : Book → Line → ℕ
 room_taken b l = if has_status b l then 0 else 1
 
 -- a set with a line put in or taken out
-abbrev pub switched : Bool → set.FinSet line_cmp → Line → set.FinSet line_cmp
-switched on s l = if on then set.insert s l else set.remove s l
+abbrev pub switched_set : Bool → set.FinSet line_cmp → Line → set.FinSet line_cmp
+switched_set on s l = if on then set.insert s l else set.remove s l
 
 -- The line is looked for in the sets of faulty, away and engaged lines, in this order; in none of
 -- them it is free.

@@ -21,5 +21,5 @@ abbrev pub is_unmarked : Status → Bool
 is_unmarked s = not s.faulty && (not s.away && not s.engaged)
 
 -- no mark
-abbrev pub unmarked : Status
-unmarked = record { faulty = false; away = false; engaged = false }
+abbrev pub no_mark : Status
+no_mark = record { faulty = false; away = false; engaged = false }

@@ -7,9 +7,9 @@ ghost use Rattle.tx_plan.specs.Orders.{same_line};
 ghost use Rattle.tx_plan.specs.declared.ids.Line.{Line};
 ghost use Rattle.tx_lines.specs.declared.book.Status.{Status};
 ghost use Rattle.tx_lines.specs.declared.book.Mark.{Mark};
-ghost use Rattle.tx_lines.specs.Book.{is_line_of, has_status, room_taken, switched, answer_of};
+ghost use Rattle.tx_lines.specs.Book.{is_line_of, has_status, room_taken, switched_set, answer_of};
 ghost use Rattle.tx_lines.specs.Status.{with_mark, is_unmarked};
-ghost use Rattle.tx_lines.specs.inner.Kept.{with_mark_of, status_of, kept};
+ghost use Rattle.tx_lines.specs.inner.Kept.{with_mark_of, status_of, kept_status};
 
 use crate::ranges::Ranges;
 use indexmap::IndexMap;
@@ -191,7 +191,7 @@ impl<A: Allocator> LineBook<A> {
     pub fn set_fault(&mut self, line: &Line, faulty: bool)
         requires { faulty ≡ true → has_status self.old line.now ≡ false → 0 < self.old.room }
         ensures lines { self.new ≡ record self.old {
-          faulty = switched faulty self.old.faulty line.now;
+          faulty = switched_set faulty self.old.faulty line.now;
           room = self.new.room;
         } }
         ensures room { self.old.room
@@ -204,7 +204,7 @@ impl<A: Allocator> LineBook<A> {
     pub fn set_away(&mut self, line: &Line, away: bool)
         requires { away ≡ true → has_status self.old line.now ≡ false → 0 < self.old.room }
         ensures lines { self.new ≡ record self.old {
-          away = switched away self.old.away line.now;
+          away = switched_set away self.old.away line.now;
           room = self.new.room;
         } }
         ensures room { self.old.room
@@ -297,7 +297,7 @@ fn take_mark<A: Allocator>(
     mark: Mark,
 )
     ensures kept { (q : Line) → get same_line statuses.new q ≡ (if same_line line.now q
-        then kept (with_mark mark false (status_of statuses.old line.now))
+        then kept_status (with_mark mark false (status_of statuses.old line.now))
         else get same_line statuses.old q) }
     ensures room { spare statuses.old ≤ spare statuses.new }
 {

@@ -16,7 +16,7 @@ use Rattle.tx_text.specs.Said.{said, step_on}
 use Rattle.tx_plan.specs.Plan.{Plan}
 use Rattle.tx_plantext.specs.declared.fault.PlanWord.{PlanWord}
 use Rattle.tx_plantext.specs.PlanText.{Said, declare}
-use Rattle.tx_lint.specs.AllFaults.{Progress, no_progress, fault_in_line, fault_at_end, form_kind, form_of, form_told, words_kind, bytes_first, form_on, declared_on, refused, faults_from, progress_from, entry_at}
+use Rattle.tx_lint.specs.AllFaults.{Progress, no_progress, fault_in_line, fault_at_end, form_kind, form_of, form_told, words_kind, bytes_first, form_on, declared_on, word_fault, faults_from, progress_from, entry_at}
 use Rattle.tx_lint.specs.Laws.{first_fault, told_by, FaultsAgreeWithReader}
 
 -- ---- the numbers of lines
@@ -70,7 +70,7 @@ last_agrees s m ws (Some x) = refl
 
 module _ (m : ℕ) (ls : List Line) (after : (s : Progress) → Agrees s (m + 1) ls) where
   declared_agrees : (s : Progress) (ws : List (List ℕ)) (r : Said)
-      → first_fault (option_to_list (option_map (fault_in_line s m ws) (refused r)) ++ faults_from (declared_on s m ws r) (m + 1) ls)
+      → first_fault (option_to_list (option_map (fault_in_line s m ws) (word_fault r)) ++ faults_from (declared_on s m ws r) (m + 1) ls)
       ≡ told_by (step_on declare m r (λ p. said declare s.version p (rest_framed s (m + 1) ls)))
   declared_agrees s ws (Ok p) = after (record s { plan = p; entries = s.entries ++ entry_at s.plan m ws })
   declared_agrees s ws (Err x) = refl

@@ -1,5 +1,6 @@
 -- Marking where calls come, and which groups are in a list.
 use Rattle.std.proofs.Common.{◌≡◌, ℕ, zero, suc, ◌+◌, ◌<◌, Bool, true, false, List, [], ◌∷◌, ◌++◌, map, length, take, get_or, inl, inr, Option, Some, None, Vec, refl, sym, ap, subst, ◌∙◌, arith}
+use Rattle.std.proofs.Math.Bool.{or_assoc}
 use Rattle.std.specs.Prelude.{◌↔◌, ◌||◌, ◌==◌, slice_get}
 use Rattle.std.specs.List.{list_any, AllByRecursion}
 use Rattle.std.specs.Option.{option_map, option_map_or}
@@ -97,10 +98,6 @@ marked_one (false ∷ bs) zero zero h = refl
 marked_one (b ∷ bs) zero (suc g) h = rw (eqb-zero-suc g) (or_false (is_marked bs g))
 marked_one (b ∷ bs) (suc y) zero h = rw (eqb-suc-zero y) (or_false b)
 marked_one (b ∷ bs) (suc y) (suc g) h = rw (eqb-suc-suc y g) (marked_one bs y g (omega (arith, h)))
-
-or_assoc : (a b c : Bool) → ((a || b) || c) ≡ (a || (b || c))
-or_assoc true b c = refl
-or_assoc false b c = refl
 
 -- the group at index i of a list is marked too
 pub marked_more : (old marks : List Bool) (groups : List ℕ) (i y : ℕ) → i < length groups → y ≡ get_or groups i y → y < length marks

@@ -41,15 +41,15 @@ abbrev pub no_progress : Progress
 no_progress = record { part = Start; version = 1; plan = no_plan; entries = [] }
 
 -- what a line's words declare is refused
-abbrev pub refused : Said → Option (FaultKind PlanWord)
-refused (Ok p) = None
-refused (Err x) = Some (Word x)
+abbrev pub word_fault : Said → Option (FaultKind PlanWord)
+word_fault (Ok p) = None
+word_fault (Err x) = Some (Word x)
 
 -- of a finished line with these words, by what it is in the frame
 abbrev pub form_kind : Progress → List (List ℕ) → LineForm → Option (FaultKind PlanWord)
 form_kind s ws Blank = None
 form_kind s ws (HeaderLine v) = None
-form_kind s ws Plain = refused (declare s.version s.plan ws)
+form_kind s ws Plain = word_fault (declare s.version s.plan ws)
 form_kind s ws End = None
 form_kind s ws (Bad x) = Some (Frame x)
 

@@ -14,5 +14,5 @@ escaped_byte b = if b == 10 then codes "\\n"
     else b ∷ []
 
 -- a text whose control bytes are spelled
-abbrev pub escaped : List ℕ → List ℕ
-escaped text = flat_map escaped_byte text
+abbrev pub escaped_text : List ℕ → List ℕ
+escaped_text text = flat_map escaped_byte text

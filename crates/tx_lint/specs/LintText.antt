@@ -7,7 +7,7 @@ use Rattle.tx_lint.specs.declared.warning.Warning.{Warning}
 use Rattle.tx_lint.specs.declared.warning.Warning.TheVariants.{NothingToJudge, NoLines, UnusedGroup, UnusedList, NoList, UnusedBar, Ambiguous, SharedRisk, Unlisted}
 use Rattle.tx_risk.specs.NamedRisks.{NamedRisk, risk_name}
 use Rattle.tx_lint.specs.AllFaults.{Fault}
-use Rattle.tx_lint.specs.Escaped.{escaped}
+use Rattle.tx_lint.specs.Escaped.{escaped_text}
 
 -- the codes and names of the warnings
 abbrev pub warning_row : Warning → Row
@@ -43,7 +43,7 @@ word_text (Some w) = codes " " ++ w
 -- of what is reported, and a word
 abbrev pub told_line : (file : List ℕ) → (line : ℕ) → Row → Option (List ℕ) → List ℕ
 told_line file line row word =
-    escaped file ++ (codes ":" ++ (decimal line ++ (codes ": "
+    escaped_text file ++ (codes ":" ++ (decimal line ++ (codes ": "
     ++ (row.0 ++ (codes " " ++ (row.1 ++ (word_text word ++ codes "\n")))))))
 
 -- the line of a fault

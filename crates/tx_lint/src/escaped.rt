@@ -1,13 +1,13 @@
 // Texts on one line of a terminal.
 ghost use Rattle.std.specs.Prelude.{◌≡◌, ◌<◌};
 ghost use Rattle.tx_text.specs.Puts.{Puts};
-ghost use Rattle.tx_lint.specs.Escaped.{escaped, escaped_byte, hex_digit};
+ghost use Rattle.tx_lint.specs.Escaped.{escaped_text, escaped_byte, hex_digit};
 
 use tx_text::{Sink, put_bytes, put_parts};
 
 /// Writes a text, as the name of a file, with its control bytes spelled, as `\n` and `\x1b`.
 pub fn write_escaped<W: Sink>(text: &[u8], sink: &mut W)
-    ensures { Puts W.taken W.failed sink.old sink.new (escaped text.now) }
+    ensures { Puts W.taken W.failed sink.old sink.new (escaped_text text.now) }
 {
     for i in 0..text.len() {
         write_byte(text[i], sink);

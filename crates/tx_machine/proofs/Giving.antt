@@ -1,5 +1,6 @@
 -- Circuits that calls give up.
 use Rattle.std.proofs.Common.{append_assoc, ◌≡◌, ℕ, zero, suc, ◌+◌, ◌<◌, Bool, true, false, ◌||◌, cond, List, [], ◌∷◌, ◌++◌, take, length, get_or, refl, ap, sym, ◌∙◌, arith}
+use Rattle.std.proofs.Math.Bool.{or_assoc}
 use Rattle.std.specs.Prelude.{filter, if◌then◌else◌}
 use Rattle.tx_machine.specs.Call.{Call}
 use Rattle.tx_machine.specs.InUse.{circuits_used}
@@ -14,10 +15,6 @@ use Rattle.tx_plan.proofs.Named.{circuits_total, exact_circuits}
 use Rattle.tx_plan.specs.declared.ids.Circuit.{Circuit}
 use Rattle.tx_machine.specs.inner.Marks.{Circuits}
 use Rattle.tx_machine.specs.inner.GivenUp.{with_more}
-
-or_assoc : (a b c : Bool) → ((a || b) || c) ≡ (a || (b || c))
-or_assoc true b c = refl
-or_assoc false b c = refl
 
 in_more : (s : set.FinSet circuit_cmp) (xs : List Circuit) (y : Circuit) → set.contains (set.union s (set.from_list xs)) y ≡ (set.contains s y || list_any (eq_by_cmp circuit_cmp y) xs)
 in_more s xs y = set.contains-union circuits_total s (set.from_list xs) y ∙ ap (λ b. set.contains s y || b) (set.contains-from_list circuits_total xs y)

@@ -14,6 +14,7 @@ use Rattle.tx_plan.specs.Routes.{route_list}
 use Rattle.tx_plan.specs.Circuits.{circuits_at, may_seize, may_seize_row}
 use Rattle.tx_plan.specs.Among.{Among}
 use Rattle.tx_plan.specs.declared.ids.Circuit.{Circuit}
+use Rattle.tx_plan.proofs.Growing.{seizes_within}
 use Rattle.tx_machine.specs.declared.event.Event.{Event}
 use Rattle.tx_machine.specs.declared.reply.Reply.{Reply}
 use Rattle.tx_machine.specs.declared.reply.Reply.TheVariants.{Answered, HeadOn}
@@ -64,13 +65,6 @@ listed_once p ok x c = at (find (λ r. (r.exchange == x) && (r.code == c)) p.rou
     at None e = tt
     at (Some r) e = (all_mem (IsRoute p) p.routes r ok.routes (find_mem (λ r. (r.exchange == x) && (r.code == c)) p.routes r e).0).differ
 
-within : (p : Plan) (g x : ℕ) → may_seize p g x ≡ true → g < length p.groups
-within p g x h = at (slice_get p.groups g) refl h
-  where
-    at : (o : Option Group) → slice_get p.groups g ≡ o → option_map_or (λ r. may_seize_row r x) o false ≡ true → g < length p.groups
-    at None e h = absurd (false≢true h)
-    at (Some r) e h = slice_get_within p.groups g r e
-
 -- a group that is taken is down, unless a circuit of it is free
 taken_down : (p : Plan) (s : State) (exchange g : ℕ) → IsTaken p s exchange g → (is_down s g ≡ false → is_some (first_free p s exchange g) ≡ true) → is_down s g ≡ true
 taken_down p s exchange g (inl down) free = down
@@ -94,7 +88,7 @@ module _ (p : Plan) (ok : IsPlan p) (spare : ℕ) (s : State) (e : Event) (few :
       let list = route_list p exchange f.code in
       let down = counted (is_down s) (length p.groups) list (listed_once p ok exchange f.code) (λ g m.
       let may = listed_may p ok exchange f.code g m in
-      (within p g exchange may, taken_down p s exchange g (all_mem (IsTaken p s exchange) list g f.taken.each m) (free n f.call q f.open' g may))) in
+      (seizes_within p g exchange may, taken_down p s exchange g (all_mem (IsTaken p s exchange) list g f.taken.each m) (free n f.call q f.open' g may))) in
       let many = f.taken.many in
       let up = few in
       omega arith

@@ -6,7 +6,7 @@ use Rattle.tx_plan.proofs.Among.{among_at}
 use Rattle.tx_machine.specs.Call.{Call}
 use Rattle.tx_plan.specs.Among.{Among}
 use Rattle.tx_machine.specs.Seen.{call_seen}
-use Rattle.tx_machine.specs.inner.Seen.{changed, change_at, HasRoom, IsReady, CanChange}
+use Rattle.tx_machine.specs.inner.Seen.{changed_call, change_at, HasRoom, IsReady, CanChange}
 use Rattle.tx_machine.specs.declared.open_call.OpenCall.{OpenCall}
 use Rattle.tx_machine.specs.declared.plain.changing.Change.{Change}
 use Rattle.tx_machine.proofs.Sweeps.{step_seen, mem_set, mem_take_set}
@@ -21,7 +21,7 @@ pub record IsReserving {A : Type 0} (n : ℕ) (old : List (OpenCall A)) (at : �
 
 -- the calls up to an index are changed
 pub record IsChanging {A : Type 0} (n : ℕ) (change : Change) (old : List (OpenCall A)) (at : ℕ) (now : List (OpenCall A)) : Type 0 where
-  pub seen : map call_seen (take at now) ++ map (change_at n (changed change)) (map call_seen (drop at now)) ≡ map (change_at n (changed change)) (map call_seen old)
+  pub seen : map call_seen (take at now) ++ map (change_at n (changed_call change)) (map call_seen (drop at now)) ≡ map (change_at n (changed_call change)) (map call_seen old)
   pub len : length now ≡ length old
   pub room : ((c : OpenCall A) → Among c old → HasRoom c) → (c : OpenCall A) → Among c now → HasRoom c
   pub ready : (c : OpenCall A) → Among c (drop at now) → CanChange change n c
@@ -58,9 +58,9 @@ module _ {A : Type 0} (n : ℕ) (old : List (OpenCall A)) (at : ℕ) (now : List
         mem_drop (y ∷ ys) zero x h e = inl (sym e)
         mem_drop (y ∷ ys) (suc i) x h e = mem_drop ys i x (omega arith) e
 
-    pub changed_step : call_seen y ≡ change_at n (changed change) (call_seen x) → (HasRoom x → HasRoom y) → IsChanging n change old (at + 1) (slice_set now at y)
+    pub changed_step : call_seen y ≡ change_at n (changed_call change) (call_seen x) → (HasRoom x → HasRoom y) → IsChanging n change old (at + 1) (slice_set now at y)
     changed_step seen' room' = record {
-      seen = subst (λ k. map call_seen (take k (slice_set now at y)) ++ map (change_at n (changed change)) (map call_seen (drop k (slice_set now at y))) ≡ map (change_at n (changed change)) (map call_seen old)) (sym (add-one at)) (step_seen call_seen (change_at n (changed change)) now at x y h is seen' ∙ inv.seen);
+      seen = subst (λ k. map call_seen (take k (slice_set now at y)) ++ map (change_at n (changed_call change)) (map call_seen (drop k (slice_set now at y))) ≡ map (change_at n (changed_call change)) (map call_seen old)) (sym (add-one at)) (step_seen call_seen (change_at n (changed_call change)) now at x y h is seen' ∙ inv.seen);
       len = length-set now at y ∙ inv.len;
       room = λ r c m. elim (mem_set now at y c m) [ inl e ↦ subst HasRoom e (room' (inv.room r x (among_at now at x h is))) | inr o ↦ inv.room r c o ];
       ready = λ c m. inv.ready c (mem_later now at y c (subst (λ k. Among c (drop k (slice_set now at y))) (add-one at) m));

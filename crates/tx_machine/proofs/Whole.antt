@@ -30,7 +30,7 @@ use Rattle.tx_machine.specs.inner.Marks.{Circuits, HasMark}
 use Rattle.tx_machine.specs.inner.Marked.{AreFor}
 use Rattle.tx_machine.specs.declared.plain.marks.Marks.{Marks}
 use Rattle.tx_machine.specs.Seen.{call_seen}
-use Rattle.tx_machine.specs.inner.Seen.{changed, HasRoom, IsReady}
+use Rattle.tx_machine.specs.inner.Seen.{changed_call, HasRoom, IsReady}
 use Rattle.tx_machine.specs.inner.GivenUp.{ends_by, is_given, AreMarked}
 use Rattle.tx_machine.specs.inner.Whole.{AreHeld, IsWhole}
 use Rattle.tx_machine.specs.declared.open_call.OpenCall.{OpenCall}
@@ -51,13 +51,13 @@ circuit_marked p ok x h = at (slice_get p.groups x.group) refl h
         let last = at_least x.number r.count t.1 in
         record { group = slice_get_within p.groups x.group r e; first = at_least 1 x.number t.0; last = omega arith }
 
-changed_number : (change : Change) (c : Call) → (changed change c).number ≡ c.number
+changed_number : (change : Change) (c : Call) → (changed_call change c).number ≡ c.number
 changed_number (To phase) c = refl
 changed_number (Carry h) c = refl
 changed_number ThrowBack c = refl
 
 module _ (groups numbers n : ℕ) (cs : List Call) (h : AreHeld groups numbers cs) where
-  pub marks_to : (phase : Phase) → ((x : Circuit) → phase ≡ Calling x → HasMark groups x) → (c : Call) → Among c cs → c.number ≡ n → AreMarked groups (circuits_used (changed (To phase) c))
+  pub marks_to : (phase : Phase) → ((x : Circuit) → phase ≡ Calling x → HasMark groups x) → (c : Call) → Among c cs → c.number ≡ n → AreMarked groups (circuits_used (changed_call (To phase) c))
   marks_to phase new c m e x i = elim (among_cases x (circuits_carried c) (circuit_called phase) i) [ inl o ↦ h.marked c m x (among_left x (circuits_carried c) (circuit_called c.phase) o) | inr q ↦ new x (called phase q) ]
     where
       called : (phase : Phase) → Among x (circuit_called phase) → phase ≡ Calling x
@@ -66,10 +66,10 @@ module _ (groups numbers n : ℕ) (cs : List Call) (h : AreHeld groups numbers c
       called (Calling y) (inl e) = ap Calling e
       called (Calling y) (inr m) = absurd m
 
-  pub marks_back : (c : Call) → Among c cs → c.number ≡ n → AreMarked groups (circuits_used (changed ThrowBack c))
+  pub marks_back : (c : Call) → Among c cs → c.number ≡ n → AreMarked groups (circuits_used (changed_call ThrowBack c))
   marks_back c m e x i = elim (among_cases x (circuits_carried c) [] i) [ inl o ↦ h.marked c m x (among_left x (circuits_carried c) (circuit_called c.phase) o) | inr q ↦ absurd q ]
 
-  pub marks_carry : (hop : Hop) (k : Call) → Among k cs → k.number ≡ n → k.phase ≡ Calling hop.circuit → (c : Call) → Among c cs → c.number ≡ n → AreMarked groups (circuits_used (changed (Carry hop) c))
+  pub marks_carry : (hop : Hop) (k : Call) → Among k cs → k.number ≡ n → k.phase ≡ Calling hop.circuit → (c : Call) → Among c cs → c.number ≡ n → AreMarked groups (circuits_used (changed_call (Carry hop) c))
   marks_carry hop k mk ek pk c m e x i =
       let same = h.one k c mk m (ek ∙ sym e) in
       let p : c.phase ≡ Calling hop.circuit = ap (λ (z : Call). z.phase) (sym same) ∙ pk in
@@ -100,11 +100,11 @@ module _ {A : Type 0} (p : Plan) (calls : Vec (OpenCall A) A) (tickets : Vec End
       (subst (AreHeld (length p.groups) numbers) (ap (map call_seen) (sym e) ∙ sym seen ∙ ap (map call_seen) (sym items)) w.held)
       (λ c m. room (subst (λ l. (c : OpenCall A) → Among c l → HasRoom c) (sym e) w.hops) c (subst (λ l. Among c l) items m))
 
-  pub whole_changed : (n : ℕ) (change : Change) (now new : List (OpenCall A)) → now ≡ calls.items → length now ≡ vec_len calls → map call_seen new ≡ set_call n (changed change) (map call_seen now) → length new ≡ length now → (((c : OpenCall A) → Among c now → HasRoom c) → (c : OpenCall A) → Among c new → HasRoom c) → ((c : Call) → Among c (map call_seen calls.items) → c.number ≡ n → AreMarked (length p.groups) (circuits_used (changed change c))) → IsWhole p (with_items calls new) tickets marks numbers
+  pub whole_changed : (n : ℕ) (change : Change) (now new : List (OpenCall A)) → now ≡ calls.items → length now ≡ vec_len calls → map call_seen new ≡ set_call n (changed_call change) (map call_seen now) → length new ≡ length now → (((c : OpenCall A) → Among c now → HasRoom c) → (c : OpenCall A) → Among c new → HasRoom c) → ((c : Call) → Among c (map call_seen calls.items) → c.number ≡ n → AreMarked (length p.groups) (circuits_used (changed_call change c))) → IsWhole p (with_items calls new) tickets marks numbers
   whole_changed n change now new e len seen same room marked =
       let items = with_items_is calls new (same ∙ len) in
       whole_calls (with_items calls new) refl
-      (subst (AreHeld (length p.groups) numbers) (ap (λ l. set_call n (changed change) (map call_seen l)) (sym e) ∙ sym seen ∙ ap (map call_seen) (sym items)) (held_set (length p.groups) numbers (map call_seen calls.items) w.held n (changed change) (changed_number change) marked))
+      (subst (AreHeld (length p.groups) numbers) (ap (λ l. set_call n (changed_call change) (map call_seen l)) (sym e) ∙ sym seen ∙ ap (map call_seen) (sym items)) (held_set (length p.groups) numbers (map call_seen calls.items) w.held n (changed_call change) (changed_number change) marked))
       (λ c m. room (subst (λ l. (c : OpenCall A) → Among c l → HasRoom c) (sym e) w.hops) c (subst (λ l. Among c l) items m))
 
   -- the calls of a number of which one seizes a circuit have room
@@ -129,11 +129,11 @@ module _ {A : Type 0} (p : Plan) (calls : Vec (OpenCall A) A) (tickets : Vec End
 pub seen_same : {A : Type 0} (calls : Vec (OpenCall A) A) (now new : List (OpenCall A)) → now ≡ calls.items → length now ≡ vec_len calls → map call_seen new ≡ map call_seen now → length new ≡ length now → map call_seen (with_items calls new).items ≡ map call_seen calls.items
 seen_same calls now new e len seen same = ap (map call_seen) (with_items_is calls new (same ∙ len)) ∙ seen ∙ ap (map call_seen) e
 
-pub seen_changed : {A : Type 0} (calls : Vec (OpenCall A) A) (n : ℕ) (change : Change) (now new : List (OpenCall A)) → now ≡ calls.items → length now ≡ vec_len calls → map call_seen new ≡ set_call n (changed change) (map call_seen now) → length new ≡ length now → map call_seen (with_items calls new).items ≡ set_call n (changed change) (map call_seen calls.items)
-seen_changed calls n change now new e len seen same = ap (map call_seen) (with_items_is calls new (same ∙ len)) ∙ seen ∙ ap (λ l. set_call n (changed change) (map call_seen l)) e
+pub seen_changed : {A : Type 0} (calls : Vec (OpenCall A) A) (n : ℕ) (change : Change) (now new : List (OpenCall A)) → now ≡ calls.items → length now ≡ vec_len calls → map call_seen new ≡ set_call n (changed_call change) (map call_seen now) → length new ≡ length now → map call_seen (with_items calls new).items ≡ set_call n (changed_call change) (map call_seen calls.items)
+seen_changed calls n change now new e len seen same = ap (map call_seen) (with_items_is calls new (same ∙ len)) ∙ seen ∙ ap (λ l. set_call n (changed_call change) (map call_seen l)) e
 
 -- two calls that are thrown back one after the other
-pub thrown_twice : (a b : ℕ) (cs : List Call) → set_call b (changed ThrowBack) (set_call a (changed ThrowBack) cs) ≡ map (λ k. if is_numbered a k || is_numbered b k then thrown_back k else k) cs
+pub thrown_twice : (a b : ℕ) (cs : List Call) → set_call b (changed_call ThrowBack) (set_call a (changed_call ThrowBack) cs) ≡ map (λ k. if is_numbered a k || is_numbered b k then thrown_back k else k) cs
 thrown_twice a b [] = refl
 thrown_twice a b (c ∷ cs) = λ i. one (is_numbered a c) i ∷ thrown_twice a b cs i
   where

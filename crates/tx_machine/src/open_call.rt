@@ -1,6 +1,6 @@
 // Open calls: what is kept of a call, and where it is.
 ghost use Rattle.std.specs.Prelude.{◌≡◌};
-ghost use Rattle.tx_machine.specs.Call.{is_standing, is_calling, is_connected, exchange_of};
+ghost use Rattle.tx_machine.specs.Call.{exchange_of};
 ghost use Rattle.tx_machine.specs.Confirming.{far_of};
 ghost use Rattle.tx_machine.specs.Seen.{call_seen};
 
@@ -27,29 +27,6 @@ pub enum Phase {
     Calling(Circuit),
     /// It is connected to the line (call connected), and waits for clearing.
     Connected(Line),
-}
-
-impl Phase {
-    /// Whether it is Standing.
-    pub fn is_standing(&self) -> bool
-        ensures { result ≡ is_standing self.now }
-    {
-        matches!(self, Phase::Standing)
-    }
-
-    /// Whether it is Calling.
-    pub fn is_calling(&self) -> bool
-        ensures { result ≡ is_calling self.now }
-    {
-        matches!(self, Phase::Calling(_))
-    }
-
-    /// Whether it is Connected.
-    pub fn is_connected(&self) -> bool
-        ensures { result ≡ is_connected self.now }
-    {
-        matches!(self, Phase::Connected(_))
-    }
 }
 
 /// A circuit that a call carries, and the exchange that it leads to.

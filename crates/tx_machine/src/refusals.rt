@@ -10,7 +10,7 @@ ghost use Rattle.tx_machine.specs.Refusals.{refusal, is_group};
 ghost use Rattle.tx_machine.specs.inner.Facts.{is_already, no_change};
 
 use crate::facts::Facts;
-use crate::{Event, Party, Refusal};
+use crate::{Event, Party, Phase, Refusal};
 use tx_plan::{Circuit, GroupId, Line};
 use tx_text::Figures;
 
@@ -65,13 +65,8 @@ fn of_route<N: Facts>(network: &N, number: u32) -> Option<Refusal>
 {
     match network.phase_of(number) {
         None => Some(Refusal::UnknownCall),
-        Some(phase) => {
-            if phase.is_standing() {
-                exhausted(network)
-            } else {
-                Some(Refusal::NotStanding)
-            }
-        }
+        Some(Phase::Standing) => exhausted(network),
+        Some(_) => Some(Refusal::NotStanding),
     }
 }
 
@@ -81,13 +76,8 @@ fn of_confirm<N: Facts>(network: &N, number: u32) -> Option<Refusal>
 {
     match network.phase_of(number) {
         None => Some(Refusal::UnknownCall),
-        Some(phase) => {
-            if phase.is_calling() {
-                exhausted(network)
-            } else {
-                Some(Refusal::NotCalling)
-            }
-        }
+        Some(Phase::Calling(_)) => exhausted(network),
+        Some(_) => Some(Refusal::NotCalling),
     }
 }
 
@@ -107,13 +97,8 @@ fn of_clear_by_called<N: Facts>(network: &N, number: u32) -> Option<Refusal>
 {
     match network.phase_of(number) {
         None => Some(Refusal::UnknownCall),
-        Some(phase) => {
-            if phase.is_connected() {
-                exhausted(network)
-            } else {
-                Some(Refusal::NotConnected)
-            }
-        }
+        Some(Phase::Connected(_)) => exhausted(network),
+        Some(_) => Some(Refusal::NotConnected),
     }
 }
 

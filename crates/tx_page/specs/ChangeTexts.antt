@@ -3,7 +3,7 @@ use Rattle.std.specs.Prelude.{ℕ, ◌+◌, Bool, true, false, ◌&&◌, ◌==�
 use Rattle.std.specs.Str.{bytes_eq}
 use Rattle.tx_plan.specs.Plan.{Plan, exchange_name, figures_of, group_name}
 use Rattle.tx_plan.specs.Routes.{route_list, is_barred}
-use Rattle.tx_change.specs.declared.difference.Difference.{Difference}
+use Rattle.tx_plantext.specs.declared.difference.Difference.{Difference}
 use Rattle.tx_join.specs.declared.joining.Joined.{Joined}
 use Rattle.tx_order.specs.declared.switching.Switching.{Switching}
 use Rattle.tx_order.specs.declared.switching.Switching.TheVariants.{Ordered, NoOrder}

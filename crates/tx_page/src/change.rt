@@ -4,10 +4,10 @@ ghost use Rattle.tx_page.specs.ChangeTexts.{network_texts, switching_texts, chan
 
 use crate::stages::{write_difference, write_stages};
 use std::alloc::Allocator;
-use tx_change::Difference;
 use tx_html::{PageSink, Part, set};
 use tx_join::Joined;
 use tx_order::Switching;
+use tx_plantext::Difference;
 
 /// The change of an old plan into the plan of a page.
 #[derive(Drop)]

@@ -2,7 +2,7 @@
 ghost use Rattle.std.specs.Prelude.{◌≡◌, ◌+◌, ◌*◌, ◌<◌, ◌≤◌, true, length, if◌then◌else◌, Some, None, slice_index};
 ghost use Rattle.tx_text.specs.inner.Padded.{padded_to};
 ghost use Rattle.tx_plan.specs.Numbers.{is_national, at_most};
-ghost use Rattle.tx_plan.specs.inner.Hashing.{start, written, spread, first_word};
+ghost use Rattle.tx_plan.specs.inner.Hashing.{start, hasher_after, spread, first_word};
 
 use std::hash::{BuildHasher, Hash, Hasher};
 use std::marker::Model;
@@ -134,15 +134,8 @@ impl Hash for Pair {
         (same_pair-is p q h) };
 
     fn hash<H: Hasher>(&self, state: &mut H) {
-        state.write_u32(in_one_word(self.exchange.index, self.code.index));
+        state.write_u32(256 * u32::from(self.code.index) + u32::from(self.exchange.index));
     }
-}
-
-/// The indexes of a pair as one number.
-fn in_one_word(exchange: u16, code: u16) -> u32
-    ensures { result ≡ 256 * code + exchange }
-{
-    256 * u32::from(code) + u32::from(exchange)
 }
 
 /// From which ends the circuits of a group may be seized.
@@ -213,13 +206,6 @@ impl National {
     {
         self.figures.bytes()
     }
-
-    /// Its figures, and zeros after them up to nine bytes.
-    fn padded(&self) -> &[u8; 9]
-        ensures { result.now ≡ padded_to 9 self.now }
-    {
-        self.figures.padded()
-    }
 }
 
 /// A subscriber's line: a destination code and the national number after it (ITU-T F.69).
@@ -259,7 +245,7 @@ impl Hash for Line {
 
     fn hash<H: Hasher>(&self, state: &mut H) {
         state.write_u16(self.code.index);
-        state.write(self.national.padded());
+        state.write(self.national.figures.padded());
     }
 }
 
@@ -319,7 +305,7 @@ fn ninth(bytes: &[u8]) -> u64
 }
 
 impl Hasher for WordHasher {
-    ghost write = { written };
+    ghost write = { hasher_after };
 
     ghost finish = { spread };
 

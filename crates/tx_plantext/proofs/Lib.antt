@@ -6,3 +6,7 @@ pub mod PlanLines
 pub mod PlanWriting
 pub mod RouteLines
 pub mod Written
+mod Alike
+mod AmongLines
+mod Cuts
+mod SamePlans

@@ -1,1 +1,3 @@
 pub mod LineWords
+pub mod LinesLeft
+pub mod Apart

@@ -1,6 +1,8 @@
 // The files that a command makes, none of which is another file of it.
 ghost use Rattle.std.specs.Prelude.{◌≡◌, ◌<◌, false, IfOk};
-ghost use Rattle.tx_commands.specs.SameFile.{has_clash, known};
+ghost use Rattle.tx_commands.specs.Clashes.{has_clash};
+ghost use Rattle.tx_commands.specs.Files.{values_of};
+ghost use Rattle.tx_commands.specs.SameFile.{is_same_file};
 
 use crate::draft::is_open_already;
 use crate::folder::Folder;
@@ -70,7 +72,8 @@ impl<'n> Targets<'n> {
 
     /// Refuses files to be made of which one is read, or is to be made by another name too.
     fn require_apart(&self, made: &[Option<KnownFile<'n>>]) -> Result<(), Stop>
-        ensures { IfOk result (λ _. has_clash (known self.now.read) (known made.now) ≡ false) }
+        ensures { IfOk result (λ _. has_clash is_same_file
+            (values_of self.now.read) (values_of made.now) ≡ false) }
     {
         match clash(&self.read, made) {
             Some((file, other)) => Err(Stop::OneFile(file, other)),

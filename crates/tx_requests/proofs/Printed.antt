@@ -16,7 +16,7 @@ use Rattle.tx_rank.specs.declared.finding.Finding.TheVariants as finding
 use Rattle.tx_mend.specs.declared.cause.Unserved.{Unserved}
 use Rattle.tx_mend.specs.MendText.{pair_line, unserved_line}
 use Rattle.tx_risk.specs.declared.fault.RiskWord.TheVariants as risk
-use Rattle.tx_explain.specs.Entries.{table}
+use Rattle.tx_commands.specs.Entries.{table}
 use Rattle.tx_requests.specs.Explained.{CodesAreDistinct, BeginsExplained, PlanFaultsAreExplained, WarningsAreExplained, CertFaultsAreExplained, ScriptFaultsAreExplained, RiskFaultsAreExplained, RefusalsAreExplained, CausesAreExplained, CheckFaultsAreExplained, FindingsAreExplained, MendingsAreExplained}
 
 pub once : CodesAreDistinct

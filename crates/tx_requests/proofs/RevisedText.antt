@@ -4,7 +4,7 @@ use Rattle.tx_plan.specs.Plan.{Plan}
 use Rattle.tx_plan.specs.Rules.{IsPlan}
 use Rattle.tx_plantext.specs.PlanWritten.{plan_written}
 use Rattle.tx_plantext.proofs.Written.{plan_back}
-use Rattle.tx_revise.specs.Revised.{IsRevised}
+use Rattle.tx_plantext.specs.Revised.{IsRevised}
 use Rattle.tx_requests.specs.Made.{IsTextOfMade}
 
 -- a text that was revised

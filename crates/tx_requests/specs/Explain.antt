@@ -2,7 +2,7 @@
 use Rattle.std.specs.Prelude.{◌≡◌, ℕ, Bool, List, Option, option_map, string_bytes, Result, Ok, Err}
 use Rattle.tx_text.specs.declared.sink.WriteFault.{WriteFault}
 use Rattle.tx_text.specs.Wrote.{WroteBy}
-use Rattle.tx_explain.specs.Written.{explanation_text}
+use Rattle.tx_commands.specs.Explanation.{explanation_text}
 use Rattle.tx_commands.specs.declared.explain.ExplainRequest.{ExplainRequest}
 use Rattle.tx_requests.specs.declared.ending.Ending.{Ending}
 use Rattle.tx_requests.specs.declared.fault.CommandFault.{CommandFault}

@@ -23,7 +23,7 @@ use Rattle.tx_mend.specs.declared.cause.Unserved.{Unserved}
 use Rattle.tx_mend.specs.MendText.{pair_line, unserved_line}
 use Rattle.tx_risk.specs.declared.fault.RiskWord.{RiskWord}
 use Rattle.tx_risk.specs.RiskFaults.{fault_row as risk_row}
-use Rattle.tx_explain.specs.Entries.{table, entries_of, is_known}
+use Rattle.tx_commands.specs.Entries.{table, entries_of, is_known}
 
 -- the code of an entry asks for that entry alone: no other has it as its code or its name
 abbrev pub CodesAreDistinct : Type 0

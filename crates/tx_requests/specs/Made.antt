@@ -5,7 +5,7 @@ use Rattle.tx_plantext.specs.PlanWritten.{plan_written}
 use Rattle.tx_cert.specs.CertText.{cert_written}
 use Rattle.tx_machine.specs.declared.event.Event.{Event}
 use Rattle.tx_audit.specs.Scripts.{script_written}
-use Rattle.tx_revise.specs.Revised.{SaysAs, SameLinesStand}
+use Rattle.tx_plantext.specs.Revised.{SaysAs, SameLinesStand}
 use Rattle.tx_requests.specs.declared.made.Shown.{Shown}
 use Rattle.tx_requests.specs.declared.made.Shown.TheVariants.{Plan as PlanAlone, Script as WithScript}
 use Rattle.tx_requests.specs.declared.made.MadeText.{MadeText}

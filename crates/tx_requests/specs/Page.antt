@@ -5,7 +5,7 @@ use Rattle.sha2.specs.Sha256.{sha256}
 use Rattle.tx_plan.specs.Plan.{Plan, code_named}
 use Rattle.tx_audit.specs.Audits.{IsRightRanking}
 use Rattle.tx_join.specs.Joined.{joined_old, joined_new}
-use Rattle.tx_change.specs.Difference.{DifferenceAnswer}
+use Rattle.tx_plantext.specs.Difference.{DifferenceAnswer}
 use Rattle.tx_order.specs.Switchings.{IsRightSwitching}
 use Rattle.tx_risk.specs.NamedRisks.{NamedRisk}
 use Rattle.tx_risk.specs.Outages.{AreOutcomes}

@@ -5,7 +5,6 @@ use crate::ending::Ending;
 use crate::fault::CommandFault;
 use std::alloc::Allocator;
 use tx_commands::ExplainRequest;
-use tx_explain::write_explanation;
 use tx_text::Sink;
 
 /// Writes what a line means, or the whole table.

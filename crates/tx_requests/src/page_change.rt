@@ -8,11 +8,11 @@ ghost use Rattle.tx_requests.specs.TwoPlans.{IsNoJoinOf};
 use crate::fault::CommandFault;
 use crate::two_plans::{PlanText, joined_of};
 use std::alloc::{Allocator, Global};
-use tx_change::{Difference, first_difference};
 use tx_join::Joined;
 use tx_order::{Switching, order};
 use tx_page::Change;
 use tx_plan::Limits;
+use tx_plantext::{Difference, first_difference};
 
 /// What is found of the change of a plan into another one.
 #[derive(Drop)]

@@ -9,7 +9,7 @@ use crate::made::MadeText;
 use std::alloc::Allocator;
 use tx_jobs::JobFault;
 use tx_plan::Plan;
-use tx_revise::{Unrevised, revise};
+use tx_plantext::{Unrevised, revise};
 
 /// The text of a plan that was made of the plan of this text, if it is asked for.
 pub(crate) fn text_if_asked<A: Allocator + Copy>(

@@ -25,7 +25,7 @@ use Rattle.tx_script.specs.Answers.{IsFresh}
 use Rattle.tx_script.specs.TellingAnswers.{NoneReleasing}
 use Rattle.tx_script.specs.Summaries.{peak_line}
 use Rattle.tx_script.specs.Taken.{uses, is_taken, taken_of, peak}
-use Rattle.tx_script.specs.inner.Counting.{still, count_in, marked, counted, cleared, idle, use_at, change_at, followed}
+use Rattle.tx_script.specs.inner.Counting.{still, count_in, with_mark, with_most, no_marks, idle, use_at, change_at, uses_after}
 
 -- ---- counts over the numbers of a group
 
@@ -116,7 +116,7 @@ module _ (p : Plan) (ms : List Moment) (s : State) (g : ℕ) (m : Moment) where
   mark_same u k b size n l e = subst (λ z. get_or (slice_set u.taken k b) z false ≡ b) e (get_or-set_same u.taken k b false (omega arith))
 
   -- a circuit of the group is seized
-  one_more : (u : GroupUse) → IsGroupUse p ms s g u → (k : ℕ) → ((n : ℕ) → is_taken m.after (nth g n) ≡ ((k == n) || is_taken s (nth g n))) → IsGroupUse p (ms ++ m ∷ []) m.after g (counted (count_of p g) (marked k true u))
+  one_more : (u : GroupUse) → IsGroupUse p ms s g u → (k : ℕ) → ((n : ℕ) → is_taken m.after (nth g n) ≡ ((k == n) || is_taken s (nth g n))) → IsGroupUse p (ms ++ m ∷ []) m.after g (with_most (count_of p g) (with_mark k true u))
   one_more u is k law =
       let tells : (n : ℕ) → n ≤ 240 → get_or (slice_set u.taken k true) n false ≡ is_taken m.after (nth g n) = told in
       let all : count_in (slice_set u.taken k true) (count_of p g) ≡ taken_of p g m.after =
@@ -141,7 +141,7 @@ module _ (p : Plan) (ms : List Moment) (s : State) (g : ℕ) (m : Moment) where
       ]
 
   -- a circuit of the group is released
-  one_less : (u : GroupUse) → IsGroupUse p ms s g u → (k : ℕ) → ((n : ℕ) → is_taken m.after (nth g n) ≡ (not (k == n) && is_taken s (nth g n))) → IsGroupUse p (ms ++ m ∷ []) m.after g (marked k false u)
+  one_less : (u : GroupUse) → IsGroupUse p ms s g u → (k : ℕ) → ((n : ℕ) → is_taken m.after (nth g n) ≡ (not (k == n) && is_taken s (nth g n))) → IsGroupUse p (ms ++ m ∷ []) m.after g (with_mark k false u)
   one_less u is k law = no_more u is (slice_set u.taken k false) (length-set u.taken k false ∙ is.size) told (λ n h. (and_parts (not (k == n)) (is_taken s (nth g n)) (sym (law n) ∙ h)).1)
     where
       told : (n : ℕ) → n ≤ 240 → get_or (slice_set u.taken k false) n false ≡ is_taken m.after (nth g n)
@@ -151,7 +151,7 @@ module _ (p : Plan) (ms : List Moment) (s : State) (g : ℕ) (m : Moment) where
       ]
 
   -- the group failed
-  none_left : (u : GroupUse) → IsGroupUse p ms s g u → ((n : ℕ) → is_taken m.after (nth g n) ≡ false) → IsGroupUse p (ms ++ m ∷ []) m.after g (cleared u)
+  none_left : (u : GroupUse) → IsGroupUse p ms s g u → ((n : ℕ) → is_taken m.after (nth g n) ≡ false) → IsGroupUse p (ms ++ m ∷ []) m.after g (no_marks u)
   none_left u is law = no_more u is (replicate 241 false) (length-replicate 241 false) (λ n l. get_or-replicate 241 n false false (omega arith) ∙ sym (law n)) (λ n h. absurd (false≢true (sym (law n) ∙ h)))
 
 -- ---- all groups
@@ -188,22 +188,22 @@ module _ (p : Plan) (ms : List Moment) (s : State) (m : Moment) (us : List Group
     other's : (g n : ℕ) → x.group ≢ g → same_circuit x (nth g n) ≡ false
     other's g n ne = ap (λ b. b && (x.number == n)) (ne_eqb x.group g ne)
 
-    seized : ((y : Circuit) → is_taken m.after y ≡ (same_circuit x y || is_taken s y)) → AreGroupUses p (ms ++ m ∷ []) m.after (change_at x.group (λ u. counted (count_of p x.group) (marked x.number true u)) us)
-    seized law = one_changes x.group (λ u. counted (count_of p x.group) (marked x.number true u))
+    seized : ((y : Circuit) → is_taken m.after y ≡ (same_circuit x y || is_taken s y)) → AreGroupUses p (ms ++ m ∷ []) m.after (change_at x.group (λ u. with_most (count_of p x.group) (with_mark x.number true u)) us)
+    seized law = one_changes x.group (λ u. with_most (count_of p x.group) (with_mark x.number true u))
         (λ l. one_more p ms s x.group m (use_at us x.group) (are.each x.group l) x.number (λ n. law (nth x.group n) ∙ ap (λ b. b || is_taken s (nth x.group n)) (mine n)))
         (λ g n ne. law (nth g n) ∙ ap (λ b. b || is_taken s (nth g n)) (other's g n ne))
 
-    released : ((y : Circuit) → is_taken m.after y ≡ (not (same_circuit x y) && is_taken s y)) → AreGroupUses p (ms ++ m ∷ []) m.after (change_at x.group (marked x.number false) us)
-    released law = one_changes x.group (marked x.number false)
+    released : ((y : Circuit) → is_taken m.after y ≡ (not (same_circuit x y) && is_taken s y)) → AreGroupUses p (ms ++ m ∷ []) m.after (change_at x.group (with_mark x.number false) us)
+    released law = one_changes x.group (with_mark x.number false)
         (λ l. one_less p ms s x.group m (use_at us x.group) (are.each x.group l) x.number (λ n. law (nth x.group n) ∙ ap (λ b. not b && is_taken s (nth x.group n)) (mine n)))
         (λ g n ne. law (nth g n) ∙ ap (λ b. not b && is_taken s (nth g n)) (other's g n ne))
 
-  failed : (i : ℕ) → ((y : Circuit) → is_taken m.after y ≡ (not (y.group == i) && is_taken s y)) → AreGroupUses p (ms ++ m ∷ []) m.after (change_at i cleared us)
-  failed i law = one_changes i cleared
+  failed : (i : ℕ) → ((y : Circuit) → is_taken m.after y ≡ (not (y.group == i) && is_taken s y)) → AreGroupUses p (ms ++ m ∷ []) m.after (change_at i no_marks us)
+  failed i law = one_changes i no_marks
       (λ l. none_left p ms s i m (use_at us i) (are.each i l) (λ n. law (nth i n) ∙ ap (λ b. not b && is_taken s (nth i n)) (eq-eqb i i refl)))
       (λ g n ne. law (nth g n) ∙ ap (λ b. not b && is_taken s (nth g n)) (ne_eqb g i (λ e. ne (sym e))))
 
-  routed_step : (n : ℕ) (r : Reply) → ((y : Circuit) → is_taken m.after y ≡ still (Route n) r y (is_taken s y)) → AreGroupUses p (ms ++ m ∷ []) m.after (followed p (Route n) r us)
+  routed_step : (n : ℕ) (r : Reply) → ((y : Circuit) → is_taken m.after y ≡ still (Route n) r y (is_taken s y)) → AreGroupUses p (ms ++ m ∷ []) m.after (uses_after p (Route n) r us)
   routed_step n (Keyed k) law = none_changes law
   routed_step n (Seized x) law = seized x law
   routed_step n (At x) law = none_changes law
@@ -216,16 +216,16 @@ module _ (p : Plan) (ms : List Moment) (s : State) (m : Moment) (us : List Group
   routed_step n (Refused k) law = none_changes law
 
   -- one event more
-  pub uses_step : (e : Event) (r : Reply) → ((y : Circuit) → is_taken m.after y ≡ still e r y (is_taken s y)) → AreGroupUses p (ms ++ m ∷ []) m.after (followed p e r us)
+  pub uses_step : (e : Event) (r : Reply) → ((y : Circuit) → is_taken m.after y ≡ still e r y (is_taken s y)) → AreGroupUses p (ms ++ m ∷ []) m.after (uses_after p e r us)
   uses_step (Route n) r law = routed_step n r law
   uses_step (Released x) r law = at (is_refused r) law
     where
-      at : (b : Bool) → ((y : Circuit) → is_taken m.after y ≡ (if b then is_taken s y else not (same_circuit x y) && is_taken s y)) → AreGroupUses p (ms ++ m ∷ []) m.after (if b then us else change_at x.group (marked x.number false) us)
+      at : (b : Bool) → ((y : Circuit) → is_taken m.after y ≡ (if b then is_taken s y else not (same_circuit x y) && is_taken s y)) → AreGroupUses p (ms ++ m ∷ []) m.after (if b then us else change_at x.group (with_mark x.number false) us)
       at true law = none_changes law
       at false law = released x law
   uses_step (Fail g) r law = at (is_refused r) law
     where
-      at : (b : Bool) → ((y : Circuit) → is_taken m.after y ≡ (if b then is_taken s y else not (y.group == g) && is_taken s y)) → AreGroupUses p (ms ++ m ∷ []) m.after (if b then us else change_at g cleared us)
+      at : (b : Bool) → ((y : Circuit) → is_taken m.after y ≡ (if b then is_taken s y else not (y.group == g) && is_taken s y)) → AreGroupUses p (ms ++ m ∷ []) m.after (if b then us else change_at g no_marks us)
       at true law = none_changes law
       at false law = failed g law
   uses_step (Key line keyed) r law = none_changes law

@@ -13,7 +13,7 @@ use Rattle.tx_machine.specs.Sound.{is_refused}
 use Rattle.tx_machine.specs.Drained.{drained, IsAppending}
 use Rattle.tx_machine.proofs.Appending.{appends}
 use Rattle.tx_script.specs.Output.{tickets_made, moment_text}
-use Rattle.tx_script.specs.Answers.{settled, next}
+use Rattle.tx_script.specs.Answers.{settled_state, next}
 use Rattle.tx_script.proofs.Balance.{step_within}
 
 pub run_push : (p : Plan) (s : State) (es : List Event) (e : Event) → run p s (es ++ e ∷ []) ≡ run p s es ++ moment p (state_after p s es) e ∷ []
@@ -47,7 +47,7 @@ module _ (p : Plan) (s : State) (e : Event) where
 
 -- one event more
 pub record IsOneMore (p : Plan) (s : State) (es : List Event) (e : Event) : Type 0 where
-  pub network : settled p s (es ++ e ∷ []) ≡ drained (next p s es e).after []
+  pub network : settled_state p s (es ++ e ∷ []) ≡ drained (next p s es e).after []
   pub refused : count_by (λ m. is_refused m.reply) (run p s (es ++ e ∷ [])) ≡ count_by (λ m. is_refused m.reply) (run p s es) + cond (is_refused (next p s es e).reply) 1 0
   pub tickets : sum_by (λ m. length (tickets_made m)) (run p s (es ++ e ∷ [])) ≡ sum_by (λ m. length (tickets_made m)) (run p s es) + length (tickets_made (next p s es e))
 

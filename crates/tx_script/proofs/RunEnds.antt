@@ -38,7 +38,7 @@ use Rattle.tx_script.specs.Events.{Said, event_of}
 use Rattle.tx_script.specs.Script.{faulty, script_said, script_of}
 use Rattle.tx_script.specs.Output.{end_text}
 use Rattle.tx_script.specs.Untold.{IsUntold}
-use Rattle.tx_script.specs.Answers.{IsFresh, States, settled, next, Begins}
+use Rattle.tx_script.specs.Answers.{IsFresh, States, settled_state, next, Begins}
 use Rattle.tx_script.specs.Telling.{echo_asked, told_events, told_last}
 use Rattle.tx_script.specs.inner.LineAnswers.{Untold, LineTold}
 use Rattle.tx_script.specs.TellingAnswers.{StopsInLines, ToldRan, StoppedTelling, TellingAnswers}
@@ -50,7 +50,7 @@ use Rattle.tx_script.proofs.Running.{IsRunning, past_header, past_line, header_r
 
 -- the tickets that were taken before are no matter to what a failed write leaves
 module _ (p : Plan) (s : State) (es : List Event) (e : Event) where
-  untold_same : (t : State) (a b : Option (List ℕ)) → IsUntold p (moment p (settled p s es) e) t a b → IsUntold p (next p s es e) t a b
+  untold_same : (t : State) (a b : Option (List ℕ)) → IsUntold p (moment p (settled_state p s es) e) t a b → IsUntold p (next p s es e) t a b
   untold_same t a b (inl h) =
       let q = state_after p s es in
       inl (record {
@@ -68,7 +68,7 @@ module _ (p : Plan) (s : State) (es : List Event) (e : Event) where
         network = h.network ∙ after_same p q e h.left;
       })
 
-  lines_same : (echo : Bool) (n : ℕ) (t : State) (a b : Option (List ℕ)) → StopsInLines p echo n (moment p (settled p s es) e) t a b → StopsInLines p echo n (next p s es e) t a b
+  lines_same : (echo : Bool) (n : ℕ) (t : State) (a b : Option (List ℕ)) → StopsInLines p echo n (moment p (settled_state p s es) e) t a b → StopsInLines p echo n (next p s es e) t a b
   lines_same echo n t a b (inl h) =
       let q = state_after p s es in
       inl (h.0, record { front = h.1.front; network = h.1.network ∙ after_same p q e _ ∙ ap (drained (next p s es e).after) (made_same p q e) })
@@ -124,7 +124,7 @@ module _ (p : Plan) (echo : Bool) (first now : Option Counted) (a b : Option (Li
           subst (λ (z : RunFault). StoppedTelling p tel source net sink z.event z.cause) (sym i) (stop_by n k (none_stops b c T n k broken (is_read k) said q) (stop_said p a b c es T on.said n k broken q))
 
     -- an event was not told whole
-    untold_by : (e : Event) (k : ℕ) → Begins p source (es ++ e ∷ []) → k ≡ length es + 1 → (cause : RunCause) → Untold p echo k e (settled p s es) r (append_known u (told_events p echo s es)) w cause → StoppedTelling p tel source net sink k cause
+    untold_by : (e : Event) (k : ℕ) → Begins p source (es ++ e ∷ []) → k ≡ length es + 1 → (cause : RunCause) → Untold p echo k e (settled_state p s es) r (append_known u (told_events p echo s es)) w cause → StoppedTelling p tel source net sink k cause
     untold_by e k text is Read h = absurd h
     untold_by e k text is Write h = inl (record { events = es; hand = e; number = is; text = text; lines = lines_same p s es e echo k r (append_known u (told_events p echo s es)) w h })
     untold_by e k text is (OfScript f) h = absurd h
@@ -134,7 +134,7 @@ module _ (p : Plan) (echo : Bool) (first now : Option Counted) (a b : Option (Li
         → k ≡ tally.answered + 1 → Untold p echo k e t r v w cause → f ≡ record { event = tally.answered + 1; cause = cause } → StoppedTelling p tel source net sink f.event f.cause
     untold_ends f n ws U e k cause q h counted untold i =
         let text : Begins p source (es ++ e ∷ []) = record { to_come = λ e more. script_said p (U e more); reads = event_said p a b c es T on.said n ws U e q h } in
-        let here = subst (λ (z : Option (List ℕ)). Untold p echo k e (settled p s es) r z w cause) on.wrote (subst (λ (z : State). Untold p echo k e z r v w cause) on.network untold) in
+        let here = subst (λ (z : Option (List ℕ)). Untold p echo k e (settled_state p s es) r z w cause) on.wrote (subst (λ (z : State). Untold p echo k e z r v w cause) on.network untold) in
         subst (λ (z : RunFault). StoppedTelling p tel source net sink z.event z.cause) (ap (λ n. record { event = n; cause = cause }) counted ∙ sym i) (untold_by e k text (counted ∙ number) cause here)
 
     -- the text is whole

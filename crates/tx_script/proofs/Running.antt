@@ -30,7 +30,7 @@ use Rattle.tx_script.specs.declared.teller.Tally.{Tally}
 use Rattle.tx_script.specs.Events.{Said, event_of}
 use Rattle.tx_script.specs.Output.{tickets_made}
 use Rattle.tx_script.specs.inner.LineAnswers.{count_of, IsTold, LineTold}
-use Rattle.tx_script.specs.Answers.{IsFresh, settled, next, mark_by}
+use Rattle.tx_script.specs.Answers.{IsFresh, settled_state, next, mark_by}
 use Rattle.tx_script.specs.Telling.{told_moment, told_events}
 use Rattle.tx_script.specs.inner.Counting.{Counted, AreFew, AreNew, counted_on, counted_over}
 use Rattle.tx_script.proofs.Scripts.{SaidSoFar, at_start, header_said, event_said}
@@ -44,7 +44,7 @@ pub record IsRunning (p : Plan) (echo : Bool) (first now : Option Counted) (a b 
   pub events : List Event
   pub said : SaidSoFar p a b events T
   pub wrote : v ≡ append_known u (told_events p echo s events)
-  pub network : t ≡ settled p s events
+  pub network : t ≡ settled_state p s events
   pub answered : tally.answered ≡ length events
   pub refused : tally.refused ≡ count_by (λ m. is_refused m.reply) (run p s events)
   pub tickets : tally.tickets ≡ sum_by (λ m. length (tickets_made m)) (run p s events)
@@ -137,7 +137,7 @@ module _ (p : Plan) (echo : Bool) (first now : Option Counted) (a b : Option (Li
     abbrev last : Moment
     last = next p s es e
 
-    here : moment p t e ≡ moment p (settled p s es) e
+    here : moment p t e ≡ moment p (settled_state p s es) e
     here = ap (λ (z : State). moment p z e) on.network
 
     same_reply : (moment p t e).reply ≡ last.reply

@@ -17,7 +17,7 @@ use Rattle.tx_machine.specs.declared.open_call.Party.{Party}
 use Rattle.tx_script.specs.declared.event_words.Verb.{Verb}
 use Rattle.tx_script.specs.declared.event_words.Verb.TheVariants.{Key as KeyVerb, Route as RouteVerb, Confirm as ConfirmVerb, Clear as ClearVerb, Released as ReleasedVerb, Fail as FailVerb, Restore as RestoreVerb, Block as BlockVerb, Unblock as UnblockVerb, Out as OutVerb, In as InVerb, Fault as FaultVerb, Mend as MendVerb, Away as AwayVerb, Back as BackVerb, End as EndVerb}
 use Rattle.tx_script.specs.declared.script_word.ScriptWord.{ScriptWord}
-use Rattle.tx_script.specs.Events.{call_number, party_of, national_of, from_one, circuit_number, cut_at_dot, spelt, named, counted, known, said_of, line_of, circuit_of, one_word, two_words, three_words, key_event, call_in, clear_event, circuit_in, group_in, line_in, end_event, verb_of, event_by, event_for, event_of, IsWritableCircuit, FitsPlan, IsEvent}
+use Rattle.tx_script.specs.Events.{call_number, party_of, national_of, from_one, circuit_number, cut_at_dot, spelt, with_name, with_words, with_party, said_of, line_of, circuit_of, one_word, two_words, three_words, key_event, call_in, clear_event, circuit_in, group_in, line_in, end_event, verb_of, event_by, event_for, event_of, IsWritableCircuit, FitsPlan, IsEvent}
 
 -- ---- a step of what is said, backwards
 
@@ -26,7 +26,7 @@ record Came {A B : Type 0} (o : Option A) (say : A → Result B ScriptWord) (b :
   is : o ≡ Some value
   said : say value ≡ Ok b
 
-counted_ok : {A B : Type 0} (o : Option A) (say : A → Result B ScriptWord) (b : B) → counted o say ≡ Ok b → Came o say b
+counted_ok : {A B : Type 0} (o : Option A) (say : A → Result B ScriptWord) (b : B) → with_words o say ≡ Ok b → Came o say b
 counted_ok None say b h = absurd (let z : ⊥ = cc in z)
 counted_ok (Some a) say b h = record { value = a; is = refl; said = h }
 
@@ -34,11 +34,11 @@ spelt_ok : {A B : Type 0} (o : Option A) (say : A → Result B ScriptWord) (b : 
 spelt_ok None say b h = absurd (let z : ⊥ = cc in z)
 spelt_ok (Some a) say b h = record { value = a; is = refl; said = h }
 
-named_ok : {B : Type 0} (o : Option ℕ) (say : ℕ → Result B ScriptWord) (b : B) → named o say ≡ Ok b → Came o say b
+named_ok : {B : Type 0} (o : Option ℕ) (say : ℕ → Result B ScriptWord) (b : B) → with_name o say ≡ Ok b → Came o say b
 named_ok None say b h = absurd (let z : ⊥ = cc in z)
 named_ok (Some a) say b h = record { value = a; is = refl; said = h }
 
-known_ok : {B : Type 0} (o : Option Party) (say : Party → Result B ScriptWord) (b : B) → known o say ≡ Ok b → Came o say b
+known_ok : {B : Type 0} (o : Option Party) (say : Party → Result B ScriptWord) (b : B) → with_party o say ≡ Ok b → Came o say b
 known_ok None say b h = absurd (let z : ⊥ = cc in z)
 known_ok (Some a) say b h = record { value = a; is = refl; said = h }
 

@@ -44,8 +44,8 @@ abbrev pub NothingDone : Input → States → Output → Type 0
 NothingDone source net sink = source.unread × sink.silent × net.unchanged
 
 -- the network after these events, with its tickets taken
-abbrev pub settled : Plan → State → List Event → State
-settled p s es = drained (state_after p s es) []
+abbrev pub settled_state : Plan → State → List Event → State
+settled_state p s es = drained (state_after p s es) []
 
 -- the moment of one event more
 abbrev pub next : Plan → State → List Event → Event → Moment
@@ -71,7 +71,7 @@ module _ (p : Plan) (source : Input) (net : States) (sink : Output) where
   -- All the output of a script was written, and nothing else; the network is as its events left it.
   pub record Ran (script : Script) : Type 0 where
     pub wrote : sink.new ≡ append_known sink.old (output p net.old script)
-    pub network : net.new ≡ settled p net.old script.events
+    pub network : net.new ≡ settled_state p net.old script.events
 
   -- The whole text is a script, and the summary counts its run.
   pub record RanWhole (summary : Summary) : Type 0 where
@@ -105,7 +105,7 @@ module _ (p : Plan) (source : Input) (net : States) (sink : Output) where
     pub number : event ≡ length events + 1
     pub text : Begins p source (events ++ hand ∷ [])
     pub wrote : sink.new ≡ append_known sink.old (events_text p net.old events)
-    pub network : net.new ≡ settled p net.old events
+    pub network : net.new ≡ settled_state p net.old events
     pub asks : takes_memory hand ≡ true
     pub unrefused : refusal p net.new hand ≡ None
 
@@ -127,7 +127,7 @@ module _ (p : Plan) (source : Input) (net : States) (sink : Output) where
     pub text : IsWhole p source events
     pub front : StopsIn (append_known sink.old (events_text p net.old events)) sink.new
         (end_text (state_after p net.old events))
-    pub network : net.new ≡ settled p net.old events
+    pub network : net.new ≡ settled_state p net.old events
 
   -- Without memory for the reader of lines the first event and the first line are named, and
   -- nothing was touched.

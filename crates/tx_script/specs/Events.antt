@@ -68,9 +68,9 @@ spelt None say = Err BadNumber
 spelt (Some a) say = say a
 
 -- a code or a group that the plan does not have is UnknownName
-abbrev pub named : {B : Type 0} → Option ℕ → (ℕ → Result B ScriptWord) → Result B ScriptWord
-named None say = Err UnknownName
-named (Some i) say = say i
+abbrev pub with_name : {B : Type 0} → Option ℕ → (ℕ → Result B ScriptWord) → Result B ScriptWord
+with_name None say = Err UnknownName
+with_name (Some i) say = say i
 
 -- the event that is made of what words say, or their fault
 abbrev pub said_of : {A : Type 0} → (A → Event) → Result A ScriptWord → Said
@@ -80,12 +80,12 @@ said_of make (Err k) = Err k
 -- the line of a code and a national number
 abbrev pub line_of : Plan → List ℕ → List ℕ → Result Line ScriptWord
 line_of p code national = spelt (national_of national)
-    (λ n. named (code_named p code) (λ c. Ok (record { code = c; national = n })))
+    (λ n. with_name (code_named p code) (λ c. Ok (record { code = c; national = n })))
 
 -- the circuit that a word names: a group, a dot and a number, as G1.1
 abbrev pub circuit_of : Plan → List ℕ → Result Circuit ScriptWord
 circuit_of p w = spelt (cut_at_dot w) (λ c. spelt (circuit_number c.1)
-    (λ n. named (group_named p c.0) (λ g. Ok (record { group = g; number = n }))))
+    (λ n. with_name (group_named p c.0) (λ g. Ok (record { group = g; number = n }))))
 
 -- exactly one word
 abbrev pub one_word : List (List ℕ) → Option (List ℕ)
@@ -103,40 +103,40 @@ three_words (u ∷ v ∷ w ∷ []) = Some (u, v, w)
 three_words ws = None
 
 -- more or fewer words than there must be are WrongCount
-abbrev pub counted : {A B : Type 0} → Option A → (A → Result B ScriptWord) → Result B ScriptWord
-counted None say = Err WrongCount
-counted (Some a) say = say a
+abbrev pub with_words : {A B : Type 0} → Option A → (A → Result B ScriptWord) → Result B ScriptWord
+with_words None say = Err WrongCount
+with_words (Some a) say = say a
 
 -- a code, a national number and the figures that were keyed
 abbrev pub key_event : Plan → List (List ℕ) → Said
-key_event p ws = counted (three_words ws)
+key_event p ws = with_words (three_words ws)
     (λ w. spelt (figures_of w.2) (λ k. said_of (λ l. Key l k) (line_of p w.0 w.1)))
 
 -- a call's number
 abbrev pub call_in : List (List ℕ) → Result ℕ ScriptWord
-call_in ws = counted (one_word ws) (λ w. spelt (call_number w) (λ n. Ok n))
+call_in ws = with_words (one_word ws) (λ w. spelt (call_number w) (λ n. Ok n))
 
 -- a party that is neither CALLER nor CALLED is UnknownWord
-abbrev pub known : {B : Type 0} → Option Party → (Party → Result B ScriptWord) → Result B ScriptWord
-known None say = Err UnknownWord
-known (Some x) say = say x
+abbrev pub with_party : {B : Type 0} → Option Party → (Party → Result B ScriptWord) → Result B ScriptWord
+with_party None say = Err UnknownWord
+with_party (Some x) say = say x
 
 -- a call's number, and CALLER or CALLED
 abbrev pub clear_event : List (List ℕ) → Said
-clear_event ws = counted (two_words ws)
-    (λ w. known (party_of w.1) (λ x. spelt (call_number w.0) (λ n. Ok (Clear n x))))
+clear_event ws = with_words (two_words ws)
+    (λ w. with_party (party_of w.1) (λ x. spelt (call_number w.0) (λ n. Ok (Clear n x))))
 
 -- a circuit
 abbrev pub circuit_in : Plan → List (List ℕ) → Result Circuit ScriptWord
-circuit_in p ws = counted (one_word ws) (λ w. circuit_of p w)
+circuit_in p ws = with_words (one_word ws) (λ w. circuit_of p w)
 
 -- a group
 abbrev pub group_in : Plan → List (List ℕ) → Result ℕ ScriptWord
-group_in p ws = counted (one_word ws) (λ w. named (group_named p w) (λ g. Ok g))
+group_in p ws = with_words (one_word ws) (λ w. with_name (group_named p w) (λ g. Ok g))
 
 -- a line: a code and a national number
 abbrev pub line_in : Plan → List (List ℕ) → Result Line ScriptWord
-line_in p ws = counted (two_words ws) (λ w. line_of p w.0 w.1)
+line_in p ws = with_words (two_words ws) (λ w. line_of p w.0 w.1)
 
 -- END is no event: alone it is unknown here, and with more words their number is wrong
 abbrev pub end_event : List (List ℕ) → Said

@@ -22,7 +22,7 @@ use Rattle.tx_script.specs.declared.run_cause.RunCause.TheVariants.{Read, Write,
 use Rattle.tx_script.specs.declared.summary.Summary.{Summary}
 use Rattle.tx_script.specs.Script.{Script, whole, faulty, script_of}
 use Rattle.tx_script.specs.Output.{summary_of, tickets_made}
-use Rattle.tx_script.specs.Answers.{States, NothingDone, settled, next, IsWhole, Begins, is_reader_room}
+use Rattle.tx_script.specs.Answers.{States, NothingDone, settled_state, next, IsWhole, Begins, is_reader_room}
 use Rattle.tx_script.specs.declared.teller.Telling.{Telling}
 use Rattle.tx_script.specs.Telling.{echo_text, echo_asked, told_events, told_last, told_output}
 use Rattle.tx_script.specs.Untold.{IsUntold}
@@ -50,7 +50,7 @@ module _ (p : Plan) (t : Telling) (source : Input) (net : States) (sink : Output
   -- All the output of a script was written, and nothing else; the network is as its events left it.
   pub record ToldRan (script : Script) : Type 0 where
     pub wrote : sink.new ≡ append_known sink.old (told_output p t net.old script)
-    pub network : net.new ≡ settled p net.old script.events
+    pub network : net.new ≡ settled_state p net.old script.events
 
   -- The whole text is a script, and the summary counts its run.
   pub record ToldWhole (summary : Summary) : Type 0 where
@@ -84,7 +84,7 @@ module _ (p : Plan) (t : Telling) (source : Input) (net : States) (sink : Output
     pub number : event ≡ length events + 1
     pub text : Begins p source (events ++ hand ∷ [])
     pub wrote : sink.new ≡ append_known sink.old (told_events p t.echo net.old events)
-    pub network : net.new ≡ settled p net.old events
+    pub network : net.new ≡ settled_state p net.old events
     pub asks : takes_memory hand ≡ true
     pub unrefused : refusal p net.new hand ≡ None
 
@@ -106,7 +106,7 @@ module _ (p : Plan) (t : Telling) (source : Input) (net : States) (sink : Output
     pub text : IsWhole p source events
     pub front : StopsIn (append_known sink.old (told_events p t.echo net.old events)) sink.new
         (told_last p t net.old events None)
-    pub network : net.new ≡ settled p net.old events
+    pub network : net.new ≡ settled_state p net.old events
 
   -- Without memory for the reader of lines the first event and the first line are named, and
   -- nothing was touched.

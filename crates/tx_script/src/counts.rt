@@ -1,7 +1,7 @@
 // What is counted of a run for its summary.
 ghost use Rattle.std.specs.Prelude.{◌≡◌, ◌+◌, ◌<◌, ◌^◌, true, false, IfOk};
 ghost use Rattle.tx_plan.specs.Circuits.{count_of};
-ghost use Rattle.tx_script.specs.inner.Counting.{change_at, cleared, count_for, counted, followed, marked, nothing_counted, one_counted, use_at, uses_counted};
+ghost use Rattle.tx_script.specs.inner.Counting.{change_at, no_marks, count_for, with_most, uses_after, with_mark, nothing_counted, one_counted, use_at, uses_counted};
 
 use crate::group_use::GroupUse;
 use crate::runner::is_refused;
@@ -102,8 +102,8 @@ impl<A: Allocator> Counts<A> {
     fn seize<B: Allocator>(&mut self, plan: &Plan<B>, circuit: &Circuit)
         ensures { self.new ≡ record self.old {
           groups = change_at circuit.now.group
-              (λ u. counted (count_of plan.now circuit.now.group) (marked circuit.now.number true u))
-              self.old.groups;
+              (λ u. with_most (count_of plan.now circuit.now.group)
+              (with_mark circuit.now.number true u)) self.old.groups;
         } }
     {
         let index = circuit.group.index();
@@ -116,7 +116,7 @@ impl<A: Allocator> Counts<A> {
     fn release(&mut self, circuit: &Circuit)
         ensures { self.new ≡ record self.old {
           groups = change_at circuit.now.group
-              (marked circuit.now.number false) self.old.groups;
+              (with_mark circuit.now.number false) self.old.groups;
         } }
     {
         let index = circuit.group.index();
@@ -127,7 +127,7 @@ impl<A: Allocator> Counts<A> {
     }
 
     fn clear(&mut self, group: GroupId)
-        ensures { self.new ≡ record self.old { groups = change_at group cleared self.old.groups } }
+        ensures { self.new ≡ record self.old { groups = change_at group no_marks self.old.groups } }
     {
         let index = group.index();
         if index < self.groups.len() {

@@ -1,6 +1,6 @@
 // The use of a group.
 ghost use Rattle.std.specs.Prelude.{◌≡◌, ◌≤◌, true};
-ghost use Rattle.tx_script.specs.inner.Counting.{cleared, count_in, counted, idle, marked};
+ghost use Rattle.tx_script.specs.inner.Counting.{no_marks, count_in, with_most, idle, with_mark};
 
 /// Which circuits of a group are taken, by their numbers, and the most that were at once.
 #[derive(Clone, Copy)]
@@ -23,7 +23,7 @@ impl GroupUse {
     /// The circuit of this number was seized, in a group that has so many.
     pub(crate) fn seize(&mut self, number: u32, circuits: u32)
         requires { circuits ≤ 240 }
-        ensures { self.new ≡ counted circuits (marked number true self.old) }
+        ensures { self.new ≡ with_most circuits (with_mark number true self.old) }
     {
         self.mark(number, true);
         self.most = self.most.max(self.count(circuits));
@@ -31,7 +31,7 @@ impl GroupUse {
 
     /// The circuit of this number is taken or not. There is none above 240.
     pub(crate) fn mark(&mut self, number: u32, taken: bool)
-        ensures { self.new ≡ marked number taken self.old }
+        ensures { self.new ≡ with_mark number taken self.old }
     {
         let index = number as usize;
         if index < 241 {
@@ -41,7 +41,7 @@ impl GroupUse {
 
     /// No circuit is taken any more.
     pub(crate) fn clear(&mut self)
-        ensures { self.new ≡ cleared self.old }
+        ensures { self.new ≡ no_marks self.old }
     {
         self.taken = [false; 241];
     }

@@ -9,7 +9,7 @@ use Rattle.tx_text.specs.Text.{Line, bytes_fault}
 use Rattle.tx_text.specs.Told.{Ending, AtEnd, Cut, Faulty, frame_fault}
 use Rattle.tx_text.specs.Frame.{ReadsOn, EndsAs, Stopped}
 use Rattle.tx_text.specs.inner.Feed.{Feed, feed_gives, finish_gives, finish_leaves, ends_giving, ends_leaving}
-use Rattle.tx_text.specs.inner.Reading.{told_at, Rest, rest_of, IsFeed, Came, LineCame, Advances, ended_as, Reading, reading_rest, fed_on, lined}
+use Rattle.tx_text.specs.inner.Reading.{told_at, Rest, rest_of, IsFeed, Came, LineCame, Advances, ended_as, Reading, reading_rest, fed_on, has_line}
 use Rattle.tx_text.proofs.FeedSteps.{Says, says, no_read}
 use Rattle.tx_text.proofs.Feeding.{told-nil, end-nothing, end-line, end-cut, none_fault, some_fault}
 use Rattle.tx_text.proofs.Framing.{on_says, ends_here, on_then, end_then}
@@ -39,7 +39,7 @@ pub on_empty : (a b : Option (List ℕ)) (p0 p : Rest) (g : Feed) (rest : List �
 on_empty a b p0 p g rest r s = on_then r (on_says b (subst (λ l. (e : Ending) (more : List ℕ) → told_at p e more ≡ told_at (rest_of g l) e more) s.1 s.2))
 
 -- what a call of the feeder says, by what the reader's clauses tell
-pub says_at : (r n : Reading) (o : Result Bool FrameFault) → IsFeed r.feed → r.feed.fault ≡ None → o ≡ lined (feed_gives r.feed r.piece) → n ≡ fed_on r → Says (reading_rest r) n.feed n.piece o
+pub says_at : (r n : Reading) (o : Result Bool FrameFault) → IsFeed r.feed → r.feed.fault ≡ None → o ≡ has_line (feed_gives r.feed r.piece) → n ≡ fed_on r → Says (reading_rest r) n.feed n.piece o
 says_at r n o i z e h = rw (e, h) (says r.feed r.piece i z)
 
 pub adv_cut : {a b : Option (List ℕ)} {g : Feed} (p0 : Rest) → ReadsOn a b (told_at p0) (told_at (rest_of g [])) → IsFeed g → EndsAs a b (told_at p0) Cut (Faulty Read)

@@ -9,10 +9,10 @@ use Rattle.tx_text.specs.declared.text_fault.TextFault.TheVariants.{LineTooLong,
 use Rattle.tx_text.specs.declared.frame.FrameFault.{FrameFault}
 use Rattle.tx_text.specs.declared.feeder.Fed.{Fed}
 use Rattle.tx_text.specs.Text.{Line, is_lf, without_cr, bytes_fault, begun_fault}
-use Rattle.tx_text.specs.inner.Feed.{Feed, front_of, has_lf, piece_fault, feed_gives, feed_leaves, gives_by, leaves_by, ends_leaving, finish_leaves, finished, ended, begun_more, faulted}
+use Rattle.tx_text.specs.inner.Feed.{Feed, front_of, has_lf, piece_fault, feed_gives, feed_leaves, gives_by, leaves_by, ends_leaving, finish_leaves, feed_at_end, feed_with_line, begun_more, feed_with_fault}
 use Rattle.tx_text.specs.Told.{Ending, Faulty, Then, frame_fault}
 use Rattle.tx_text.specs.Frame.{is_read}
-use Rattle.tx_text.specs.inner.Reading.{told_at, IsFeed, Rest, rest_of, unfed, lined}
+use Rattle.tx_text.specs.inner.Reading.{told_at, IsFeed, Rest, rest_of, piece_left, has_line}
 use Rattle.tx_text.proofs.TextLines.{ended_line}
 use Rattle.tx_text.proofs.Feeding.{front-no_lf, length-front, no_cut, feed-line, feed-faulty, begun-faulty}
 
@@ -33,10 +33,10 @@ front_le piece = omega (arith, length-front piece, prefix_len-le-length (λ b. n
 
 fed_by : (f : Feed) (piece : List ℕ) → IsFeed f → (o p : Option TextFault) (b : Bool) → piece_fault f piece ≡ p → has_lf piece ≡ b → FedAs f piece (gives_by o p b (length (front_of piece))) (leaves_by f (front_of piece) o p b)
 fed_by f piece i (Some x) p b _ _ = record { feed = i; fits = omega arith }
-fed_by f piece i None (Some x) b h _ = record { feed = nothing_begun (faulted f x) refl; fits = omega arith }
+fed_by f piece i None (Some x) b h _ = record { feed = nothing_begun (feed_with_fault f x) refl; fits = omega arith }
 fed_by f piece i None None true h k =
     let lt = ltb-true _ (length piece) k in
-    record { feed = nothing_begun (ended f (front_of piece)) refl; fits = (omega (arith, length-front piece), omega (arith, length-front piece)) }
+    record { feed = nothing_begun (feed_with_line f (front_of piece)) refl; fits = (omega (arith, length-front piece), omega (arith, length-front piece)) }
 fed_by f piece i None None false h k =
     let short : begun_fault (f.begun ++ front_of piece) ≡ None = rw k at h in
     record {
@@ -55,8 +55,8 @@ pub record EndedAs (f g : Feed) : Type 0 where
 ended_by : (f : Feed) → IsFeed f → (o : Option TextFault) (b : Bool) (p : Option TextFault) → EndedAs f (ends_leaving f o b p)
 ended_by f i (Some x) b p = record { feed = i; fits = omega arith }
 ended_by f i None false p = record { feed = record { no_lf = i.no_lf; short = i.short }; fits = omega arith }
-ended_by f i None true (Some x) = record { feed = nothing_begun (faulted f x) refl; fits = omega arith }
-ended_by f i None true None = record { feed = nothing_begun (finished f) refl; fits = omega arith }
+ended_by f i None true (Some x) = record { feed = nothing_begun (feed_with_fault f x) refl; fits = omega arith }
+ended_by f i None true None = record { feed = nothing_begun (feed_at_end f) refl; fits = omega arith }
 
 pub ended_as_feed : (f : Feed) → IsFeed f → EndedAs f (finish_leaves f)
 ended_as_feed f i = ended_by f i f.fault _ _
@@ -81,7 +81,7 @@ same_ahead f piece h e more =
     rw (rest, n, append-nil) refl
 
 pub says_by : (f : Feed) (piece : List ℕ) → IsFeed f → f.fault ≡ None → (p : Option TextFault) (b : Bool) → piece_fault f piece ≡ p → has_lf piece ≡ b
-    → Says (rest_of f piece) (leaves_by f (front_of piece) None p b) (unfed (gives_by None p b (length (front_of piece))) piece) (lined (gives_by None p b (length (front_of piece))))
+    → Says (rest_of f piece) (leaves_by f (front_of piece) None p b) (piece_left (gives_by None p b (length (front_of piece))) piece) (has_line (gives_by None p b (length (front_of piece))))
 says_by f piece i z (Some x) true h k = let g : bytes_fault (without_cr (f.begun ++ front_of piece)) ≡ Some x = rw k at h in (no_read x, λ e more. feed-faulty f piece x i k g e more)
 says_by f piece i z (Some x) false h k = let g : begun_fault (f.begun ++ front_of piece) ≡ Some x = rw k at h in (no_read x, λ e more. begun-faulty f piece x i g k e more)
 says_by f piece i z None true h k =
@@ -89,5 +89,5 @@ says_by f piece i z None true h k =
     (z, ended_line (f.number + 1) f.start (f.begun ++ front_of piece), refl, refl, λ e more. feed-line f piece i k g e more)
 says_by f piece i z None false h k = (z, drop_all _ piece (omega (arith, ap length (no_cut piece k))), λ e more. same_ahead f piece k e more)
 
-pub says : (f : Feed) (piece : List ℕ) → IsFeed f → f.fault ≡ None → Says (rest_of f piece) (feed_leaves f piece) (unfed (feed_gives f piece) piece) (lined (feed_gives f piece))
-says f piece i z = subst (λ o. Says (rest_of f piece) (leaves_by f (front_of piece) o (piece_fault f piece) (has_lf piece)) (unfed (gives_by o (piece_fault f piece) (has_lf piece) (length (front_of piece))) piece) (lined (gives_by o (piece_fault f piece) (has_lf piece) (length (front_of piece))))) (sym z) (says_by f piece i z (piece_fault f piece) (has_lf piece) refl refl)
+pub says : (f : Feed) (piece : List ℕ) → IsFeed f → f.fault ≡ None → Says (rest_of f piece) (feed_leaves f piece) (piece_left (feed_gives f piece) piece) (has_line (feed_gives f piece))
+says f piece i z = subst (λ o. Says (rest_of f piece) (leaves_by f (front_of piece) o (piece_fault f piece) (has_lf piece)) (piece_left (gives_by o (piece_fault f piece) (has_lf piece) (length (front_of piece))) piece) (has_line (gives_by o (piece_fault f piece) (has_lf piece) (length (front_of piece))))) (sym z) (says_by f piece i z (piece_fault f piece) (has_lf piece) refl refl)

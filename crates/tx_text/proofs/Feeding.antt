@@ -9,7 +9,7 @@ use Rattle.tx_text.specs.declared.text_fault.TextFault.{TextFault}
 use Rattle.tx_text.specs.declared.text_fault.TextFault.TheVariants.{LineTooLong}
 use Rattle.tx_text.specs.declared.frame.FrameFault.TheVariants.{Read}
 use Rattle.tx_text.specs.Text.{is_lf, without_cr, lines_from, bytes_fault, begun_fault}
-use Rattle.tx_text.specs.inner.Feed.{Feed, front_of, has_lf, ended}
+use Rattle.tx_text.specs.inner.Feed.{Feed, front_of, has_lf, feed_with_line}
 use Rattle.tx_text.specs.Told.{Ending, AtEnd, Cut, Told, Closed, Faulty, Then, frame_fault, told, or_fault}
 use Rattle.tx_text.specs.inner.Reading.{told_at, IsFeed, rest_of}
 use Rattle.tx_text.proofs.LineFaults.{length-without_cr}
@@ -72,12 +72,12 @@ at_lf f piece i h e more =
 
 -- a line came
 pub feed-line : (f : Feed) (piece : List ℕ) → IsFeed f → (h : has_lf piece ≡ true) → bytes_fault (without_cr (f.begun ++ front_of piece)) ≡ None → (e : Ending) (more : List ℕ)
-    → told_at (rest_of f piece) e more ≡ Then (ended_line (f.number + 1) f.start (f.begun ++ front_of piece)) (told_at (rest_of (ended f (front_of piece)) (drop (length (front_of piece) + 1) piece)) e more)
+    → told_at (rest_of f piece) e more ≡ Then (ended_line (f.number + 1) f.start (f.begun ++ front_of piece)) (told_at (rest_of (feed_with_line f (front_of piece)) (drop (length (front_of piece) + 1) piece)) e more)
 unfolding told_at told
 feed-line f piece i h none e more =
     at_lf f piece i h e more ∙ none_fault _ _ none
     ∙ ap (λ k. Then (ended_line (f.number + 1) f.start (f.begun ++ front_of piece)) (told e (lines_from (f.number + 1 + 1) (k + 1) ((cuts_at_lf piece h).rest ++ more)))) (omega (arith, length-append f.begun (front_of piece)))
-    ∙ ap (λ l. Then (ended_line (f.number + 1) f.start (f.begun ++ front_of piece)) (told_at (rest_of (ended f (front_of piece)) l) e more)) (sym (cuts_at_lf piece h).dropped)
+    ∙ ap (λ l. Then (ended_line (f.number + 1) f.start (f.begun ++ front_of piece)) (told_at (rest_of (feed_with_line f (front_of piece)) l) e more)) (sym (cuts_at_lf piece h).dropped)
 
 -- a line came that is faulty
 pub feed-faulty : (f : Feed) (piece : List ℕ) (x : TextFault) → IsFeed f → (h : has_lf piece ≡ true) → bytes_fault (without_cr (f.begun ++ front_of piece)) ≡ Some x → (e : Ending) (more : List ℕ)

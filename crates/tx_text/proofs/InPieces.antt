@@ -8,7 +8,7 @@ use Rattle.tx_text.specs.declared.text_fault.TextFault.TheVariants.{LineTooLong 
 use Rattle.tx_text.specs.declared.frame.FrameFault.{FrameFault}
 use Rattle.tx_text.specs.declared.frame.FrameFault.TheVariants.{LineTooLong, BadByte, NoMemory}
 use Rattle.tx_text.specs.Text.{Line, is_lf, lines_from, lines_of, bytes_fault, checked, checked_line}
-use Rattle.tx_text.specs.inner.Feed.{Feed, front_of, has_lf, piece_fault, feed_gives, feed_leaves, gives_by, leaves_by, begun_more, ended, ends_giving, ends_leaving}
+use Rattle.tx_text.specs.inner.Feed.{Feed, front_of, has_lf, piece_fault, feed_gives, feed_leaves, gives_by, leaves_by, begun_more, feed_with_line, ends_giving, ends_leaving}
 use Rattle.tx_text.specs.Told.{AtEnd, Told, Closed, Faulty, Then, frame_fault, told, told_line, or_fault}
 use Rattle.tx_text.specs.inner.Reading.{told_at, IsFeed, rest_of}
 use Rattle.tx_text.specs.inner.Pieces.{FeedingGives, taken, completed, faulty, over, unfinished, unfinished_faulty, unfed_yet, PiecesGiveTheLines}
@@ -89,7 +89,7 @@ module _ (pieces : List (List ℕ)) (more : More pieces) where
   one_call f piece i z again None true h k =
       let s = says_by f piece i z None true h k in
       let rest = drop (length (front_of piece) + 1) piece in
-      let left : feed_leaves f piece ≡ ended f (front_of piece) = (λ j. leaves_by f (front_of piece) (z j) (h j) (k j)) in
+      let left : feed_leaves f piece ≡ feed_with_line f (front_of piece) = (λ j. leaves_by f (front_of piece) (z j) (h j) (k j)) in
       let gives : feed_gives f piece ≡ Ok (record { taken = length (front_of piece) + 1; line = true }) = (λ j. gives_by (z j) (h j) (k j) (length (front_of piece))) in
       let told : told_at (rest_of f piece) AtEnd (joined pieces) ≡ Then s.1 (told_at (rest_of (feed_leaves f piece) rest) AtEnd (joined pieces)) =
       s.4 AtEnd (joined pieces) ∙ ap (λ (g : Feed). Then s.1 (told_at (rest_of g rest) AtEnd (joined pieces))) (sym left) in

@@ -5,7 +5,7 @@ use Rattle.std.proofs.lemmas.Result.{MatchResult-at_ok, MatchResult-at_err}
 use Rattle.tx_text.specs.declared.text_fault.TextFault.{TextFault}
 use Rattle.tx_text.specs.declared.feeder.Fed.{Fed}
 use Rattle.tx_text.specs.Text.{Line, without_cr, bytes_fault, begun_fault}
-use Rattle.tx_text.specs.inner.Feed.{Feed, feed_gives, feed_leaves, finish_leaves, front_of, has_lf, leaves_by, piece_fault, ended}
+use Rattle.tx_text.specs.inner.Feed.{Feed, feed_gives, feed_leaves, finish_leaves, front_of, has_lf, leaves_by, piece_fault, feed_with_line}
 use Rattle.tx_text.specs.inner.Reading.{Reading, IsFeed, fed_on, reading_of_calls}
 use Rattle.tx_text.specs.inner.Reader.{IsReader, reading_of, lending}
 use Rattle.tx_text.specs.declared.reader.TextReader.TheInside.{Inside}
@@ -91,7 +91,7 @@ module _ (f : Feed) (piece : List ℕ) (n m : ℕ) (w : IsWhole f piece n m) whe
   whole_leaves : feed_leaves f piece ≡ record f { number = f.number + 1; start = f.start + n + 1; begun = []; line = Some (record { number = f.number + 1; start = f.start; bytes = without_cr (front_of piece); finished = true }) }
   whole_leaves =
       let front = front_of piece in
-      let came : feed_leaves f piece ≡ ended f front = rw (w.fault, whole_fault, w.lf) refl in
+      let came : feed_leaves f piece ≡ feed_with_line f front = rw (w.fault, whole_fault, w.lf) refl in
       let k : f.start + length f.begun + length front + 1 ≡ f.start + n + 1 = omega (arith, w.len, ap length w.begun) in
       came
       ∙ ap (λ (j : ℕ). record f { number = f.number + 1; start = j; begun = []; line = Some (record { number = f.number + 1; start = f.start; bytes = without_cr (f.begun ++ front); finished = true }) }) k

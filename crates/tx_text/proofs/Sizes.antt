@@ -6,7 +6,7 @@ use Rattle.std.specs.List.{position_or_len}
 use Rattle.tx_text.specs.Text.{is_lf}
 use Rattle.tx_text.specs.declared.text_fault.TextFault.{TextFault}
 use Rattle.tx_text.specs.inner.Feed.{gives_by, feed_gives, piece_fault, has_lf, front_of}
-use Rattle.tx_text.specs.inner.Reading.{Reading, reading_size, fed_on, lined, unfed}
+use Rattle.tx_text.specs.inner.Reading.{Reading, reading_size, fed_on, has_line, piece_left}
 
 pub if_ok : {T E : Type 0} {P : T → Type 0} (r : Result T E) → ((x : T) → P x) → IfOk r P
 if_ok (Ok x) h = h x
@@ -16,7 +16,7 @@ pub on_ok : {T E P : Type 0} (r : Result T E) → P → OnOk r P
 on_ok (Ok x) h = h
 on_ok (Err e) h = tt
 
-shorter : (piece : List ℕ) (o p : Option TextFault) (lf : Bool) (n : ℕ) → (lf ≡ true → n < length piece) → lined (gives_by o p lf n) ≡ Ok true → length (unfed (gives_by o p lf n) piece) < length piece
+shorter : (piece : List ℕ) (o p : Option TextFault) (lf : Bool) (n : ℕ) → (lf ≡ true → n < length piece) → has_line (gives_by o p lf n) ≡ Ok true → length (piece_left (gives_by o p lf n) piece) < length piece
 shorter piece (Some x) p lf n h e = absurd (cc)
 shorter piece None (Some x) lf n h e = absurd (cc)
 shorter piece None None true n h e = omega (arith, length-drop (n + 1) piece, h refl)
@@ -27,7 +27,7 @@ front_short piece e =
     let h = ltb-true (position_or_len is_lf piece) (length piece) e in
     omega (arith, h, length-take-le (position_or_len is_lf piece) piece (omega (arith, h)))
 
-pub fed_smaller : (r n : Reading) → lined (feed_gives r.feed r.piece) ≡ Ok true → n ≡ fed_on r → reading_size n < reading_size r
+pub fed_smaller : (r n : Reading) → has_line (feed_gives r.feed r.piece) ≡ Ok true → n ≡ fed_on r → reading_size n < reading_size r
 fed_smaller r n e h =
     let s = shorter r.piece r.feed.fault (piece_fault r.feed r.piece) (has_lf r.piece) (length (front_of r.piece)) (front_short r.piece) e in
     rw h (omega (arith, s))

@@ -18,7 +18,7 @@ parted : (text read : List ℕ) (new : Option (List ℕ)) → Moves (Some text) 
 parted text read None h = absurd (cc)
 parted text read (Some rest) h = record { rest = rest; whole = cc; left = refl }
 
-some_is : (x y : List ℕ) → ◌≡◌ {A = Option (List ℕ)} (Some x) (Some y) → x ≡ y
+pub some_is : (x y : List ℕ) → ◌≡◌ {A = Option (List ℕ)} (Some x) (Some y) → x ≡ y
 some_is x y h = cc
 
 all_read : (text read : List ℕ) (new : Option (List ℕ)) → Moves (Some text) new read → IsAtEnd new → text ≡ read

@@ -1,6 +1,6 @@
 // Lines that come in pieces.
 ghost use Rattle.std.specs.Prelude.{◌≡◌, ◌+◌, ◌-◌, ◌^◌, ◌<◌, ◌≤◌, ◌++◌, true, false, IfOk, IfErr, IfNone, IfSome, IsSome, [], length, vec_len, vec_capacity};
-ghost use Rattle.tx_text.specs.inner.Feed.{feed_gives, feed_leaves, begun_more, ended, faulted, line_fault, finish_gives, finish_leaves, finished};
+ghost use Rattle.tx_text.specs.inner.Feed.{feed_gives, feed_leaves, begun_more, feed_with_line, feed_with_fault, line_fault, finish_gives, finish_leaves, feed_at_end};
 ghost use Rattle.tx_text.specs.Text.{without_cr};
 ghost use Rattle.tx_text.specs.inner.TextLine.{line_of};
 
@@ -103,7 +103,7 @@ impl<A: Allocator> LineFeeder<A> {
     }
 
     fn fail(&mut self, fault: TextFault)
-        ensures { self.new ≡ faulted self.old fault }
+        ensures { self.new ≡ feed_with_fault self.old fault }
     {
         self.held.clear();
         self.complete = false;
@@ -149,7 +149,7 @@ impl<A: Allocator> LineFeeder<A> {
         requires fed { self.old.start + length self.old.begun + length front.now < 2 ^ 64 - 1 }
         ensures gives { result ≡ line_fault line (self.old.begun ++ front.now) }
         ensures held { IfNone result (self.new ≡ begun_more self.old front.now) }
-        ensures others { faulted self.new TextFault.BadByte ≡ faulted self.old TextFault.BadByte }
+        ensures others { feed_with_fault self.new TextFault.BadByte ≡ feed_with_fault self.old TextFault.BadByte }
     {
         if !hold(&mut self.held, front) {
             return Some(TextFault::LineTooLong);
@@ -207,7 +207,7 @@ impl<A: Allocator> LineFeeder<A> {
     fn complete_line(&mut self)
         requires begun { self.old.line ≡ None }
         requires fed { self.old.start + length self.old.begun + 1 < 2 ^ 64 - 1 }
-        ensures { self.new ≡ ended self.old [] }
+        ensures { self.new ≡ feed_with_line self.old [] }
     {
         self.complete = true;
         self.finished = true;

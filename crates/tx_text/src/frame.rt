@@ -11,6 +11,7 @@ ghost use Rattle.tx_text.specs.Calls.{source_calls, slice_calls, CallsAtMost, Br
 use crate::line_words::Words;
 use crate::reader::TextReader;
 use crate::source::Source;
+use crate::split::words;
 use crate::text_fault::TextFault;
 use std::alloc::{Allocator, Global};
 use std::marker::Model;
@@ -175,12 +176,12 @@ fn header(key: &[u8], most: u8, words: Words<'_>) -> Option<u8>
 pub fn look(key: &[u8], most: u8, phase: FramePart, line: &[u8]) -> LineForm
     ensures { result ≡ looked (header_of key.now most) phase (words_of line.now) }
 {
-    let mut all = Words::new(line);
+    let mut all = words(line);
     let Some(first) = all.next() else {
         return LineForm::Blank;
     };
     match phase {
-        FramePart::Start => match header(key, most, Words::new(line)) {
+        FramePart::Start => match header(key, most, words(line)) {
             Some(version) => LineForm::Header(version),
             None => LineForm::Bad(FrameFault::NoHeader),
         },
@@ -210,11 +211,11 @@ pub fn closing(phase: FramePart) -> Option<FrameFault>
 pub fn last_fault(phase: FramePart, line: &[u8]) -> Option<FrameFault>
     ensures { result ≡ last_fault phase (words_of line.now) }
 {
-    let mut all = Words::new(line);
+    let mut all = words(line);
     if all.next().is_none() {
         return closing(phase);
     }
-    let end = is_end(Words::new(line));
+    let end = is_end(words(line));
     match phase {
         FramePart::Start => {
             if end {
@@ -376,6 +377,6 @@ impl<'k, A: Allocator> FrameReader<'k, A> {
         requires { IsSome (line_of_frame self.now) }
         ensures { result ≡ words_of_line (line_of_frame self.now) }
     {
-        Words::new(self.reader.line().text)
+        words(self.reader.line().text)
     }
 }

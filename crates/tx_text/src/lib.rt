@@ -43,7 +43,7 @@ pub use memory_source::MemorySource;
 pub use name::{Name, is_name};
 pub use no_memory::NoMemory;
 pub use pieces::pieces_give_the_lines;
-pub use reader::{bytes_fault, without_cr};
+pub use reader::{bytes_fault, lf_or_len, without_cr};
 pub use reading::{Declares, read_slice, read_text};
 pub use sink::{Sink, WriteFault, finish, put_bytes, put_parts, write_bytes};
 pub use slice_source::{SliceSource, slices_are_read_whole};

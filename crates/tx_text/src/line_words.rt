@@ -17,7 +17,7 @@ pub(crate) fn is_blank(byte: u8) -> bool
 /// The words of a line: what is left to give.
 #[derive(Drop)]
 pub struct Words<'a> {
-    rest: &'a [u8],
+    pub(crate) rest: &'a [u8],
 }
 
 impl<'a> Model for Words<'a> {
@@ -30,13 +30,6 @@ impl<'a> Model for Words<'a> {
 }
 
 impl<'a> Words<'a> {
-    /// The words of a line, or of what is left of one.
-    pub fn new(line: &'a [u8]) -> Words<'a>
-        ensures { result ≡ words_of line.now }
-    {
-        Words { rest: line }
-    }
-
     /// What is left of the line: these words, and what is around them.
     pub fn rest(&self) -> &'a [u8]
         ensures { words_of result.now ≡ self.now }

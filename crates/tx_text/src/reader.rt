@@ -7,7 +7,7 @@ ghost use Rattle.tx_text.specs.Text.{without_cr, bytes_fault, is_text_byte, is_l
 ghost use Rattle.tx_text.specs.inner.TextLine.{line_of};
 ghost use Rattle.tx_text.specs.inner.CallsLeft.{Went, Calls};
 ghost use Rattle.tx_text.specs.inner.Feed.{feed_gives, finish_gives, finish_leaves, front_of, has_lf};
-ghost use Rattle.tx_text.specs.inner.Reading.{Advances, IsFeed, reading_rest, reading_of_calls, reading_size, fed_on, lined, ended_as};
+ghost use Rattle.tx_text.specs.inner.Reading.{Advances, IsFeed, reading_rest, reading_of_calls, reading_size, fed_on, has_line, ended_as};
 
 use crate::feeder::LineFeeder;
 use crate::frame::FrameFault;
@@ -79,7 +79,7 @@ pub fn bytes_fault(line: &[u8]) -> Option<TextFault>
 }
 
 /// Where the first LF is, or the length.
-pub(crate) fn lf_or_len(piece: &[u8]) -> usize
+pub fn lf_or_len(piece: &[u8]) -> usize
     ensures within { result ≤ length piece.now }
     ensures index { result ≡ position_or_len is_lf piece.now }
 {
@@ -139,7 +139,7 @@ impl<A: Allocator> TextReader<A> {
     fn feed(&mut self) -> Result<bool, FrameFault>
         ensures known { IsFeed self.old.feed }
         ensures known_after { IsFeed self.new.feed }
-        ensures gives { result ≡ lined (feed_gives self.old.feed self.old.piece) }
+        ensures gives { result ≡ has_line (feed_gives self.old.feed self.old.piece) }
         ensures leaves { self.new ≡ fed_on self.old }
     {
         if self.lend() {
@@ -157,7 +157,7 @@ impl<A: Allocator> TextReader<A> {
         ensures known { IsFeed self.old.feed }
         ensures known_after { IsFeed self.new.feed }
         ensures leaves { result ≡ true → self.new ≡ fed_on self.old }
-        ensures gives { result ≡ true → lined (feed_gives self.old.feed self.old.piece) ≡ Ok true }
+        ensures gives { result ≡ true → has_line (feed_gives self.old.feed self.old.piece) ≡ Ok true }
         ensures same { result ≡ false → self.new ≡ self.old }
     {
         let Some((len, shown)) = whole_line(part(&self.piece, self.from, self.to)) else {

@@ -8,5 +8,5 @@ use crate::line_words::Words;
 pub fn words(line: &[u8]) -> Words<'_>
     ensures { result ≡ words_of line.now }
 {
-    Words::new(line)
+    Words { rest: line }
 }

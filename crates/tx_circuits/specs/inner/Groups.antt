@@ -24,13 +24,13 @@ seizing_end t x = if t.a == x then Some First
     else if is_both t.direction && (t.b == x) then Some Other else None
 
 -- the entry of a number, counted from 1
-abbrev pub numbered : {A : Type 0} → List A → ℕ → Option A
-numbered xs zero = None
-numbered xs (suc n) = slice_get xs n
+abbrev pub entry_numbered : {A : Type 0} → List A → ℕ → Option A
+entry_numbered xs zero = None
+entry_numbered xs (suc n) = slice_get xs n
 
 -- the state of a circuit, if the groups have it
 abbrev pub state_at : List GroupState → Circuit → Option CircuitState
-state_at ts x = option_and_then (λ t. numbered t.states x.number) (slice_get ts x.group)
+state_at ts x = option_and_then (λ t. entry_numbered t.states x.number) (slice_get ts x.group)
 
 -- the end at which an exchange seizes circuits of a group, if it may
 abbrev pub end_at : List GroupState → ℕ → ℕ → Option End

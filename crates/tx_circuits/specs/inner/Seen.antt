@@ -36,9 +36,9 @@ seats_of g t = map (λ c. (c, t.head.a)) (circuits_of g t)
     ++ map (λ c. (c, t.head.b)) (circuits_of g t)
 
 -- what each group gives, with its index
-abbrev pub gathered : {K : Type 0} → (ℕ → GroupState → List K) → ℕ → List GroupState → List K
-gathered f g [] = []
-gathered f g (t ∷ ts) = f g t ++ gathered f (suc g) ts
+abbrev pub gathered_keys : {K : Type 0} → (ℕ → GroupState → List K) → ℕ → List GroupState → List K
+gathered_keys f g [] = []
+gathered_keys f g (t ∷ ts) = f g t ++ gathered_keys f (suc g) ts
 
 -- a test of a group, of a circuit's state, and of an end of a circuit
 abbrev pub is_marked : (GroupHead → Bool) → List GroupState → ℕ → Bool
@@ -58,8 +58,8 @@ table_of ts = record {
   groups = map group_of ts;
   failed = those (is_marked (λ t. t.failed) ts) (rising (length ts));
   blocked = those (is_marked (λ t. t.blocked) ts) (rising (length ts));
-  releasing = those (holds (λ s. s.releasing) ts) (gathered circuits_of 0 ts);
-  out = those (holds (λ s. s.out) ts) (gathered circuits_of 0 ts);
-  carried = those (holds (λ s. s.carried) ts) (gathered circuits_of 0 ts);
-  seized = those (sits ts) (gathered seats_of 0 ts);
+  releasing = those (holds (λ s. s.releasing) ts) (gathered_keys circuits_of 0 ts);
+  out = those (holds (λ s. s.out) ts) (gathered_keys circuits_of 0 ts);
+  carried = those (holds (λ s. s.carried) ts) (gathered_keys circuits_of 0 ts);
+  seized = those (sits ts) (gathered_keys seats_of 0 ts);
 }

@@ -122,8 +122,8 @@ abbrev pub until : ℕ → (ℕ → Bool) → ℕ → Bool
 until n free k = nat_lt k n && free k
 
 -- no call holds the circuit any more; it stays out of service if it was
-abbrev pub cleared : CircuitState → CircuitState
-cleared s = record {
+abbrev pub cleared_state : CircuitState → CircuitState
+cleared_state s = record {
   seized_first = false;
   seized_other = false;
   carried = false;

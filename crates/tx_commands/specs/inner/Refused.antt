@@ -1,7 +1,7 @@
 -- Why the words of a command that was found are refused.
 use Rattle.std.specs.Prelude.{◌≡◌, ℕ, true, false, not, ◌&&◌, ◌||◌, List, Option, Some, option_map, codes, IsSomeAnd}
 use Rattle.clap.specs.Words.{Row}
-use Rattle.tx_explain.specs.Entries.{is_known}
+use Rattle.tx_commands.specs.Entries.{is_known}
 use Rattle.tx_commands.specs.Commands.{IsFoundIn, is_set, line_of}
 use Rattle.tx_commands.specs.Clashes.{reads_input_twice, overwrites}
 use Rattle.tx_commands.specs.Faults.{has, IsRunInPart}

@@ -9,8 +9,8 @@ use Rattle.tx_jobs.specs.declared.plan_part.PlanPart.{PlanPart}
 use Rattle.tx_jobs.specs.inner.Seen.{is_over, end_from}
 
 -- the bytes that were read ahead, and then those that the input has yet
-abbrev pub left : {R : Type 0} → (R → Option (List ℕ)) → ScriptPart R → Option (List ℕ)
-left rest s = prepend_known s.ahead.now.held (rest s.input.now)
+abbrev pub bytes_left : {R : Type 0} → (R → Option (List ℕ)) → ScriptPart R → Option (List ℕ)
+bytes_left rest s = prepend_known s.ahead.now.held (rest s.input.now)
 
 -- the plan's part as that of a script
 abbrev pub as_script : {R : Type 0} → PlanPart R → ScriptPart R
@@ -26,11 +26,11 @@ script_of seen left = option_map (λ t. drop (end_from seen t) t) left
 
 -- what is left of the plan, and what follows it
 abbrev pub plan_rest : {R : Type 0} → (R → Option (List ℕ)) → PlanPart R → Option (List ℕ)
-plan_rest rest p = plan_of p.seen (left rest (as_script p))
+plan_rest rest p = plan_of p.seen (bytes_left rest (as_script p))
 
 -- what is left of the script
 abbrev pub script_rest : {R : Type 0} → (R → Option (List ℕ)) → PlanPart R → Option (List ℕ)
-script_rest rest p = script_of p.seen (left rest (as_script p))
+script_rest rest p = script_of p.seen (bytes_left rest (as_script p))
 
 -- the answer of the call of the input that left these bytes held
 abbrev pub input_answer : Result (Unit {0}) ReadFault → List ℕ → Result ℕ ReadFault
@@ -90,4 +90,4 @@ pub record PlanCall {R : Type 0} (rest : R → Option (List ℕ)) (failed : R
   pub script : script_rest rest new ≡ script_rest rest old
   pub given : List ℕ
   pub plan : plan_rest rest old ≡ prepend_known given (plan_rest rest new)
-  pub gone : left rest (as_script old) ≡ prepend_known given (left rest (as_script new))
+  pub gone : bytes_left rest (as_script old) ≡ prepend_known given (bytes_left rest (as_script new))

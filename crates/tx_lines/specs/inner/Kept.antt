@@ -7,26 +7,26 @@ use Rattle.indexmap.specs.IndexMap.{IndexMap}
 use Rattle.tx_plan.specs.Orders.{same_line, line_cmp}
 use Rattle.tx_plan.specs.declared.ids.Line.{Line}
 use Rattle.tx_plan.specs.declared.range.LineRange.{LineRange}
-use Rattle.tx_lines.specs.Book.{Book, switched}
-use Rattle.tx_lines.specs.Status.{has, is_unmarked, unmarked}
+use Rattle.tx_lines.specs.Book.{Book, switched_set}
+use Rattle.tx_lines.specs.Status.{has, is_unmarked, no_mark}
 use Rattle.tx_lines.specs.declared.book.Status.{Status}
 use Rattle.tx_lines.specs.declared.book.Mark.{Mark}
 use Rattle.tx_lines.specs.declared.book.Mark.TheVariants.{Faulty, Away, Engaged}
 
 -- the book with a mark of the line set or taken away
 abbrev pub with_mark_of : Line → Mark → Bool → Book → Book
-with_mark_of l Faulty on b = record b { faulty = switched on b.faulty l }
-with_mark_of l Away on b = record b { away = switched on b.away l }
-with_mark_of l Engaged on b = record b { engaged = switched on b.engaged l }
+with_mark_of l Faulty on b = record b { faulty = switched_set on b.faulty l }
+with_mark_of l Away on b = record b { away = switched_set on b.away l }
+with_mark_of l Engaged on b = record b { engaged = switched_set on b.engaged l }
 
 -- what is kept of a line: its status, if it has a mark
-abbrev pub kept : Status → Option Status
-kept s = if is_unmarked s then None else Some s
+abbrev pub kept_status : Status → Option Status
+kept_status s = if is_unmarked s then None else Some s
 
 module _ {S : Type 0} where
   -- what is known of a line
   abbrev pub status_of : IndexMap Line Status S → Line → Status
-  status_of m l = unwrap_or (index.get same_line m l) unmarked
+  status_of m l = unwrap_or (index.get same_line m l) no_mark
 
   -- each line that is kept has a mark
   abbrev pub AllMarked : IndexMap Line Status S → Type 0

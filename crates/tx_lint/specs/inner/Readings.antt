@@ -5,7 +5,7 @@ use Rattle.tx_text.specs.Text.{Line}
 use Rattle.tx_plantext.specs.PlanText.{declare}
 use Rattle.tx_lint.specs.declared.entry.Entry.{Entry}
 use Rattle.tx_lint.specs.declared.lines.Reading.{Reading}
-use Rattle.tx_lint.specs.AllFaults.{Fault, Progress, fault_in_line, refused, declared_on, fault_of_line, line_on, faults_of, progress_of}
+use Rattle.tx_lint.specs.AllFaults.{Fault, Progress, fault_in_line, word_fault, declared_on, fault_of_line, line_on, faults_of, progress_of}
 use Rattle.tx_lint.specs.Lints.{fault_held}
 
 -- what was read, as it is held
@@ -31,7 +31,7 @@ pub record Noted {A : Type 0} (old new : Reading A) (n : ℕ) (e : Entry) : Type
 pub record Declared {A : Type 0} (old new : Reading A) (n : ℕ) (ws : List (List ℕ)) : Type 0 where
   pub faults : faults_held new ≡ faults_held old
       ++ option_to_list (option_map (fault_in_line (progress_held old) n ws)
-      (refused (declare 2 old.plan ws)))
+      (word_fault (declare 2 old.plan ws)))
   pub progress : progress_held new ≡ declared_on (progress_held old) n ws (declare 2 old.plan ws)
 
 -- a line was taken in

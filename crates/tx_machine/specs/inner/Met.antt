@@ -13,7 +13,7 @@ use Rattle.tx_machine.specs.Ending.{end_calls}
 use Rattle.tx_machine.specs.Routing.{set_call}
 use Rattle.tx_machine.specs.Confirming.{collide}
 use Rattle.tx_machine.specs.inner.Marks.{HasMark}
-use Rattle.tx_machine.specs.inner.Seen.{changed}
+use Rattle.tx_machine.specs.inner.Seen.{changed_call}
 use Rattle.tx_machine.specs.inner.GivenUp.{ends_by}
 use Rattle.tx_machine.specs.declared.plain.changing.Change.TheVariants.{Carry}
 use Rattle.tx_machine.specs.declared.plain.ended_calls.Ends.TheVariants.{Collided}
@@ -23,7 +23,7 @@ use Rattle.tx_machine.specs.declared.plain.confirm.Meeting.TheVariants.{GoesOn, 
 -- what a meeting does with the call of a number
 abbrev pub meeting_done : Plan → State → ℕ → Meeting → Reply × State
 meeting_done p s n (GoesOn h) =
-    (At h.far, record s { calls = set_call n (changed (Carry h)) s.calls })
+    (At h.far, record s { calls = set_call n (changed_call (Carry h)) s.calls })
 meeting_done p s n (Collides x collided m other) = (
   HeadOn n m (not collided) (not other),
   end_calls p (ByService Nc) (ends_by (Collided n collided m other)) (collide n m x s),

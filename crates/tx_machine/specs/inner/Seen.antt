@@ -17,10 +17,10 @@ abbrev pub IsReady : {A : Type 0} → ℕ → OpenCall A → Type 0
 IsReady n c = c.number ≡ n → vec_len c.hops < vec_capacity c.hops
 
 -- what a change makes of a call
-abbrev pub changed : Change → Call → Call
-changed (To phase) c = in_phase phase c
-changed (Carry h) c = record c { hops = c.hops ++ h ∷ []; phase = Standing; collided = false }
-changed ThrowBack c = thrown_back c
+abbrev pub changed_call : Change → Call → Call
+changed_call (To phase) c = in_phase phase c
+changed_call (Carry h) c = record c { hops = c.hops ++ h ∷ []; phase = Standing; collided = false }
+changed_call ThrowBack c = thrown_back c
 
 -- what becomes of a call where those of a number change
 abbrev pub change_at : ℕ → (Call → Call) → Call → Call

@@ -3,7 +3,7 @@ ghost use Rattle.std.specs.Prelude.{◌≡◌, ◌<◌, ◌==◌, OnOk, map, len
 ghost use Rattle.tx_plan.specs.Among.{Among};
 ghost use Rattle.tx_machine.specs.Routing.{set_call};
 ghost use Rattle.tx_machine.specs.Seen.{call_seen};
-ghost use Rattle.tx_machine.specs.inner.Seen.{changed, change_at, HasRoom, IsReady, CanChange};
+ghost use Rattle.tx_machine.specs.inner.Seen.{changed_call, change_at, HasRoom, IsReady, CanChange};
 
 use crate::{Hop, OpenCall, Phase};
 use std::alloc::Allocator;
@@ -54,7 +54,7 @@ pub(crate) fn reserve_hop<A: Allocator>(
 /// Changes a call with the number.
 fn change_one<A: Allocator>(call: &mut OpenCall<A>, number: u32, change: &Change)
     requires { CanChange change.now number call.old }
-    ensures seen { call_seen call.new ≡ change_at number (changed change.now) (call_seen call.old) }
+    ensures seen { call_seen call.new ≡ change_at number (changed_call change.now) (call_seen call.old) }
     ensures room { HasRoom call.old → HasRoom call.new }
 {
     if call.number == number {
@@ -77,7 +77,7 @@ fn change_one<A: Allocator>(call: &mut OpenCall<A>, number: u32, change: &Change
 pub(crate) fn change_numbered<A: Allocator>(calls: &mut [OpenCall<A>], number: u32, change: &Change)
     requires { (c : _) → Among c calls.old → CanChange change.now number c }
     ensures seen { map call_seen calls.new
-        ≡ set_call number (changed change.now) (map call_seen calls.old) }
+        ≡ set_call number (changed_call change.now) (map call_seen calls.old) }
     ensures len { length calls.new ≡ length calls.old }
     ensures room { ((c : _) → Among c calls.old → HasRoom c)
         → (c : _) → Among c calls.new → HasRoom c }

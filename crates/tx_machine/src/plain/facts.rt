@@ -69,7 +69,7 @@ impl<'p, A: Allocator + Copy> Facts for Plain<'p, A> {
 
     #[tactic(auto, using(crate::proofs::Choosing::by_first_end))]
     fn first_free(&self, group: GroupId, exchange: ExchangeId) -> Option<Circuit> {
-        if self.is_down(group) {
+        if self.marks.failed.has(group) || self.marks.blocked.has(group) {
             return None;
         }
         let plan = self.plan;

@@ -1,6 +1,6 @@
 // What the plain network looks at.
 ghost use Rattle.std.specs.Prelude.{◌≡◌, ◌<◌, ◌≤◌, ◌+◌, ◌-◌, Some, None, find, map};
-ghost use Rattle.tx_machine.specs.InUse.{is_free_at, is_down};
+ghost use Rattle.tx_machine.specs.InUse.{is_free_at};
 ghost use Rattle.tx_plan.specs.Circuits.{upward, downward};
 
 use crate::plain::Plain;
@@ -9,13 +9,6 @@ use std::alloc::Allocator;
 use tx_plan::{Circuit, ExchangeId, GroupId};
 
 impl<'p, A: Allocator + Copy> Plain<'p, A> {
-    /// Whether the group is failed or blocked.
-    pub(crate) fn is_down(&self, group: GroupId) -> bool
-        ensures { result ≡ is_down self.now.state group }
-    {
-        self.marks.failed.has(group) || self.marks.blocked.has(group)
-    }
-
     /// Whether the exchange sees the circuit as free.
     pub(crate) fn is_free(&self, exchange: ExchangeId, circuit: &Circuit) -> bool
         ensures { result ≡ is_free_at self.now.plan self.now.state exchange circuit.now }

@@ -1,5 +1,4 @@
 // Routing a call.
-ghost use Rattle.tx_machine.specs.declared.deciding.Decision.TheVariants.{Answer};
 ghost use Rattle.std.specs.Prelude.{◌≡◌, ◌<◌, ◌+◌, ◌-◌, ◌^◌, IfOk, OnOk, OnErr, is_some, ◌==◌, true};
 ghost use Rattle.tx_machine.specs.Step.{accepted};
 ghost use Rattle.tx_machine.specs.Call.{call_of};
@@ -13,7 +12,7 @@ use crate::plain::Plain;
 use crate::plain::calls::call_of;
 use crate::plain::changing::{Change, change_numbered, reserve_hop};
 use crate::plain::ended_calls::Ends;
-use crate::{Cause, Decision, Phase, Reply, Service, decide};
+use crate::{Cause, Decision, Phase, Reply, decide};
 use std::alloc::Allocator;
 use tx_text::NoMemory;
 
@@ -41,7 +40,10 @@ impl<'p, A: Allocator + Copy> Plain<'p, A> {
     {
         let decision = self.decision_of(number);
         match &decision {
-            Decision::Answer(service) => Ok(self.answer(number, *service)),
+            Decision::Answer(service) => {
+                self.end(&Ends::Numbered(number), Cause::Service(*service));
+                Ok(Reply::Answered(*service))
+            }
             Decision::Connect(line) => {
                 self.to_phase(number, Phase::Connected(*line))?;
                 Ok(Reply::Connected(*line))
@@ -51,17 +53,6 @@ impl<'p, A: Allocator + Copy> Plain<'p, A> {
                 Ok(Reply::Seized(*circuit))
             }
         }
-    }
-
-    /// A call is answered, and ends.
-    pub(crate) fn answer(&mut self, number: u32, service: Service) -> Reply
-        requires { self.old.state.events < 2 ^ 64 - 1 }
-        ensures step { carried_out self.old.plan self.old.state number (Answer service)
-            ≡ (result, self.new.state) }
-        ensures plan { self.new.plan ≡ self.old.plan }
-    {
-        self.end(&Ends::Numbered(number), Cause::Service(service));
-        Reply::Answered(service)
     }
 
     /// A call goes to another phase.

@@ -47,16 +47,16 @@ abbrev pub count_in : List Bool → ℕ → ℕ
 count_in taken circuits = count_by (λ n. get_or taken n false) (upward circuits)
 
 -- a circuit is taken, or is not
-abbrev pub marked : ℕ → Bool → GroupUse → GroupUse
-marked n taken u = record u { taken = slice_set u.taken n taken }
+abbrev pub with_mark : ℕ → Bool → GroupUse → GroupUse
+with_mark n taken u = record u { taken = slice_set u.taken n taken }
 
 -- of a group that has so many circuits
-abbrev pub counted : ℕ → GroupUse → GroupUse
-counted circuits u = record u { most = max u.most (count_in u.taken circuits) }
+abbrev pub with_most : ℕ → GroupUse → GroupUse
+with_most circuits u = record u { most = max u.most (count_in u.taken circuits) }
 
 -- no circuit is taken any more
-abbrev pub cleared : GroupUse → GroupUse
-cleared u = record u { taken = replicate 241 false }
+abbrev pub no_marks : GroupUse → GroupUse
+no_marks u = record u { taken = replicate 241 false }
 
 -- the use of a group
 abbrev pub use_at : List GroupUse → ℕ → GroupUse
@@ -67,18 +67,18 @@ abbrev pub change_at : ℕ → (GroupUse → GroupUse) → List GroupUse → Lis
 change_at i change us = slice_set us i (change (use_at us i))
 
 -- what a Route takes
-abbrev pub routed : Plan → Reply → List GroupUse → List GroupUse
-routed p (Seized x) us = change_at x.group
-    (λ u. counted (count_of p x.group) (marked x.number true u)) us
-routed p other us = us
+abbrev pub uses_routed : Plan → Reply → List GroupUse → List GroupUse
+uses_routed p (Seized x) us = change_at x.group
+    (λ u. with_most (count_of p x.group) (with_mark x.number true u)) us
+uses_routed p other us = us
 
 -- what an event and its reply take and give back
-abbrev pub followed : Plan → Event → Reply → List GroupUse → List GroupUse
-followed p (Route n) r us = routed p r us
-followed p (Released x) r us = if is_refused r
-    then us else change_at x.group (marked x.number false) us
-followed p (Fail g) r us = if is_refused r then us else change_at g cleared us
-followed p other r us = us
+abbrev pub uses_after : Plan → Event → Reply → List GroupUse → List GroupUse
+uses_after p (Route n) r us = uses_routed p r us
+uses_after p (Released x) r us = if is_refused r
+    then us else change_at x.group (with_mark x.number false) us
+uses_after p (Fail g) r us = if is_refused r then us else change_at g no_marks us
+uses_after p other r us = us
 
 -- how many calls ended by a cause
 abbrev pub count_for : List ℕ → Cause → ℕ
@@ -107,7 +107,7 @@ ends_counted ts c = record c { calls = all_ended c.calls ts }
 
 -- an event and its reply were followed
 abbrev pub uses_counted : Plan → Event → Reply → Counted → Counted
-uses_counted p e r c = record c { groups = followed p e r c.groups }
+uses_counted p e r c = record c { groups = uses_after p e r c.groups }
 
 -- one event more
 abbrev pub counted_on : Plan → Moment → Counted → Counted

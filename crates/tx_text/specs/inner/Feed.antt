@@ -18,8 +18,8 @@ abbrev pub begun_more : Feed → List ℕ → Feed
 begun_more f bytes = record f { begun = f.begun ++ bytes; line = None }
 
 -- an LF came after these bytes
-abbrev pub ended : Feed → List ℕ → Feed
-ended f bytes = record f {
+abbrev pub feed_with_line : Feed → List ℕ → Feed
+feed_with_line f bytes = record f {
   number = f.number + 1;
   start = f.start + length f.begun + length bytes + 1;
   begun = [];
@@ -32,8 +32,8 @@ ended f bytes = record f {
 }
 
 -- there is a fault from now on
-abbrev pub faulted : Feed → TextFault → Feed
-faulted f x = record f { begun = []; line = None; fault = Some x }
+abbrev pub feed_with_fault : Feed → TextFault → Feed
+feed_with_fault f x = record f { begun = []; line = None; fault = Some x }
 
 -- what is before the first LF of a piece
 abbrev pub front_of : List ℕ → List ℕ
@@ -63,8 +63,8 @@ gives_by None None false n = Ok (record { taken = n; line = false })
 -- faulty from now on.
 abbrev pub leaves_by : Feed → List ℕ → Option TextFault → Option TextFault → Bool → Feed
 leaves_by f front (Some x) p lf = f
-leaves_by f front None (Some x) lf = faulted f x
-leaves_by f front None None true = ended f front
+leaves_by f front None (Some x) lf = feed_with_fault f x
+leaves_by f front None None true = feed_with_line f front
 leaves_by f front None None false = begun_more f front
 
 -- What feeding a piece gives.
@@ -76,8 +76,8 @@ abbrev pub feed_leaves : Feed → List ℕ → Feed
 feed_leaves f piece = leaves_by f (front_of piece) f.fault (piece_fault f piece) (has_lf piece)
 
 -- the text came to its end
-abbrev pub finished : Feed → Feed
-finished f = record f {
+abbrev pub feed_at_end : Feed → Feed
+feed_at_end f = record f {
   number = f.number + 1;
   start = f.start + length f.begun;
   begun = [];
@@ -97,8 +97,8 @@ ends_giving None true None = Ok true
 abbrev pub ends_leaving : Feed → Option TextFault → Bool → Option TextFault → Feed
 ends_leaving f (Some x) b p = f
 ends_leaving f None false p = record f { line = None }
-ends_leaving f None true (Some x) = faulted f x
-ends_leaving f None true None = finished f
+ends_leaving f None true (Some x) = feed_with_fault f x
+ends_leaving f None true None = feed_at_end f
 
 -- what the end of the text gives: whether there is an unfinished line, or its fault
 abbrev pub finish_gives : Feed → Result Bool TextFault

@@ -61,20 +61,20 @@ abbrev pub reading_rest : Reading → Rest
 reading_rest r = rest_of r.feed r.piece
 
 -- whether feeding completed a line, or the fault of its bytes
-abbrev pub lined : Result Fed TextFault → Result Bool FrameFault
-lined (Ok fed) = Ok fed.line
-lined (Err x) = Err (frame_fault x)
+abbrev pub has_line : Result Fed TextFault → Result Bool FrameFault
+has_line (Ok fed) = Ok fed.line
+has_line (Err x) = Err (frame_fault x)
 
 -- what is left of a piece that was fed
-abbrev pub unfed : Result Fed TextFault → List ℕ → List ℕ
-unfed (Ok fed) piece = drop fed.taken piece
-unfed (Err x) piece = piece
+abbrev pub piece_left : Result Fed TextFault → List ℕ → List ℕ
+piece_left (Ok fed) piece = drop fed.taken piece
+piece_left (Err x) piece = piece
 
 -- the feeder took what it could of the piece
 abbrev pub fed_on : Reading → Reading
 fed_on r = record {
   feed = feed_leaves r.feed r.piece;
-  piece = unfed (feed_gives r.feed r.piece) r.piece;
+  piece = piece_left (feed_gives r.feed r.piece) r.piece;
   left = r.left;
 }
 

@@ -4,7 +4,7 @@ use crate::twins::mood::{EventKind, next_kind};
 use crate::twins::picture::{KnownCall, Picture};
 use crate::twins::stray::stray;
 use arrayvec::ArrayVec;
-use tx_machine::{Event, Party};
+use tx_machine::{Event, Party, Phase};
 use tx_plan::{Circuit, GroupId, Line, National, Plan};
 use tx_text::Figures;
 
@@ -111,8 +111,8 @@ fn key(plan: &Plan, picture: &Picture, chance: &mut Chance) -> Option<Event> {
 /// Whether an event of this kind is for a call in this phase.
 fn is_for(kind: EventKind, call: &KnownCall) -> bool {
     match kind {
-        EventKind::Route => call.phase.is_standing(),
-        EventKind::Confirm => call.phase.is_calling(),
+        EventKind::Route => matches!(call.phase, Phase::Standing),
+        EventKind::Confirm => matches!(call.phase, Phase::Calling(_)),
         _ => true,
     }
 }

@@ -1,8 +1,11 @@
 use Rattle.std.proofs.Common.{◌≡◌, drop}
-use Rattle.tx_commands.specs.SameFile.{has_clash, known}
+use Rattle.tx_commands.specs.Clashes.{has_clash}
+use Rattle.tx_commands.specs.Files.{values_of}
+use Rattle.tx_commands.specs.SameFile.{is_same_file}
 use Rattle.tx_commands.proofs.known_file.clash.Given as goal
 
 -- it is so of all files exactly where it is so of those that are left
 abbrev pub invariant-loop-i : goal.invariant-loop-i
 invariant-loop-i l =
-    has_clash (known l.read) (known l.made) ≡ has_clash (known l.read) (known (drop l.i l.made))
+    has_clash is_same_file (values_of l.read) (values_of l.made)
+    ≡ has_clash is_same_file (values_of l.read) (values_of (drop l.i l.made))

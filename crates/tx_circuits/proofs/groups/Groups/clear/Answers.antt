@@ -2,7 +2,7 @@ use Rattle.std.proofs.Common.{◌≡◌, ◌∙◌, ◌≤◌, List, length, map
 use Rattle.std.proofs.lemmas.List.{take_at, with_items_is}
 use Rattle.tx_circuits.specs.declared.slot.Slot.{Slot}
 use Rattle.tx_circuits.specs.declared.groups.Row.{Row}
-use Rattle.tx_circuits.specs.inner.Slots.{state_of, cleared}
+use Rattle.tx_circuits.specs.inner.Slots.{state_of, cleared_state}
 use Rattle.tx_circuits.specs.inner.Groups.{group_slots, group_state, AreApart, AreKept}
 use Rattle.tx_circuits.proofs.Kept.{entry_at, slots_length, kept_updated, view_updated}
 use Rattle.tx_circuits.proofs.groups.Groups.clear.Goals as goal
@@ -42,5 +42,5 @@ returns g c =
     let rest = λ (s : Row) (a : AreApart row s). c.clear.ensures.rest s a ∙ ap (λ (l : List Slot). group_slots l s) c.as_mut_slice.ensures.value in
     ap (λ (l : List Slot). map (group_state l) (slice_set rows c.index.result c.clear.new.self)) (with_items_is c.self.inside.slots new len)
     ∙ view_updated slots rows c.args.self.now c.self.invariant c.self.view_is c.args.group c.index.result c.index.ensures row at new long c.clear.new.self c.clear.ensures.row c.clear.ensures.sound rest
-    (λ t. record t { states = map cleared t.states })
-    (λ j. record { head = row.head; states = (c.clear.ensures.states ∙ ap (λ (l : List Slot). map cleared (map state_of (group_slots l row))) c.as_mut_slice.ensures.value) j })
+    (λ t. record t { states = map cleared_state t.states })
+    (λ j. record { head = row.head; states = (c.clear.ensures.states ∙ ap (λ (l : List Slot). map cleared_state (map state_of (group_slots l row))) c.as_mut_slice.ensures.value) j })

@@ -10,7 +10,7 @@ use Rattle.tx_machine.specs.State.{Net}
 use Rattle.tx_machine.specs.Refusals.{refusal, refusals}
 use Rattle.tx_machine.proofs.Steps.{tests_false}
 use Rattle.tx_machine.proofs.Unrefused.{group_within}
-use Rattle.tx_circuits.specs.Table.{Table, unnamed}
+use Rattle.tx_circuits.specs.Table.{Table, without_name}
 use Rattle.tx_circuits.proofs.Unnamed.{is_circuit-same}
 use Rattle.tx_engine.specs.inner.KeptCalls.{calls_in}
 use Rattle.tx_engine.specs.inner.Sound.{AreSound}
@@ -33,7 +33,7 @@ block-requires-clause-known g c =
     let x = c.in-Block.group in
     let none : refusal v.plan v.state (Block x) ≡ None = subst (λ (e : Event). refusal v.plan v.state e ≡ None) c.in-Block.is c.requires in
     let tests = tests_false (refusals v.plan v.state (Block x) ++ (nat_le (2 ^ 64 - 1) v.state.events, Exhausted) ∷ []) none in
-    subst (λ n. x < n) (sym (ap length s.invariant.together.used.groups ∙ length-map s.inside.inner.plan.now.groups unnamed))
+    subst (λ n. x < n) (sym (ap length s.invariant.together.used.groups ∙ length-map s.inside.inner.plan.now.groups without_name))
     (subst (λ (v : Net). x < length v.plan.groups) (sym s.view_is) (group_within v.plan x tests.1.0))
 
 pub put_out-requires-clause-known : goal.put_out-requires-clause-known

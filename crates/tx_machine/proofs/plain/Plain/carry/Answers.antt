@@ -5,7 +5,7 @@ use Rattle.tx_machine.specs.Routing.{set_call}
 use Rattle.tx_machine.specs.Call.{Call, call_of}
 use Rattle.tx_machine.proofs.Lists.{find_mem}
 use Rattle.tx_machine.specs.Seen.{call_seen}
-use Rattle.tx_machine.specs.inner.Seen.{changed}
+use Rattle.tx_machine.specs.inner.Seen.{changed_call}
 use Rattle.tx_machine.specs.inner.Whole.{net_of}
 use Rattle.tx_machine.specs.declared.plain.changing.Change.TheVariants.{Carry}
 use Rattle.tx_machine.proofs.Whole.{marks_carry, whole_changed, whole_ready, seen_changed}
@@ -32,4 +32,4 @@ returns-clause-step g c =
     let hop = c.args.hop.now in
     let s = (net_of n.plan.now n.calls.items n.marks n.faulty.items n.away.items n.numbers n.events n.tickets.items).state in
     let seen = seen_changed n.calls c.args.number (Carry hop) c.as_mut_slice.result.now c.change_numbered.new.calls c.as_mut_slice.ensures.value c.as_mut_slice.ensures.len c.change_numbered.ensures.seen c.change_numbered.ensures.len in
-    sym ((λ i. (At hop.far, record s { calls = seen i })) ∙ ap (λ (v : Net). (At hop.far, record v.state { calls = set_call c.args.number (changed (Carry hop)) v.state.calls })) c.self.view_is)
+    sym ((λ i. (At hop.far, record s { calls = seen i })) ∙ ap (λ (v : Net). (At hop.far, record v.state { calls = set_call c.args.number (changed_call (Carry hop)) v.state.calls })) c.self.view_is)

@@ -5,7 +5,7 @@ use Rattle.tx_machine.specs.State.{Net}
 use Rattle.tx_machine.specs.Confirming.{collide}
 use Rattle.tx_machine.specs.Routing.{set_call}
 use Rattle.tx_machine.specs.Seen.{call_seen}
-use Rattle.tx_machine.specs.inner.Seen.{changed}
+use Rattle.tx_machine.specs.inner.Seen.{changed_call}
 use Rattle.tx_machine.specs.inner.Marks.{Circuits, HasMark}
 use Rattle.tx_machine.specs.inner.Whole.{net_of}
 use Rattle.tx_machine.specs.declared.plain.changing.Change.TheVariants.{ThrowBack}
@@ -36,7 +36,7 @@ returns g c =
     let w = net_of n.plan.now n.calls.items n.marks n.faulty.items n.away.items n.numbers n.events n.tickets.items in
     let first = with_items n.calls c.change_numbered.new.calls in
     let seen = seen_changed first c.args.b ThrowBack c.as_mut_slice-2.result.now c.change_numbered-2.new.calls c.as_mut_slice-2.ensures.value c.as_mut_slice-2.ensures.len c.change_numbered-2.ensures.seen c.change_numbered-2.ensures.len
-    ∙ ap (set_call c.args.b (changed ThrowBack)) (seen_changed n.calls c.args.a ThrowBack c.as_mut_slice.result.now c.change_numbered.new.calls c.as_mut_slice.ensures.value c.as_mut_slice.ensures.len c.change_numbered.ensures.seen c.change_numbered.ensures.len)
+    ∙ ap (set_call c.args.b (changed_call ThrowBack)) (seen_changed n.calls c.args.a ThrowBack c.as_mut_slice.result.now c.change_numbered.new.calls c.as_mut_slice.ensures.value c.as_mut_slice.ensures.len c.change_numbered.ensures.seen c.change_numbered.ensures.len)
     ∙ thrown_twice c.args.a c.args.b (map call_seen n.calls.items) in
     (λ i. record w { state = record w.state { calls = seen i; releasing = (c.set.ensures i).marked } })
     ∙ ap (λ (v : Net). record v { state = collide c.args.a c.args.b c.args.circuit.now v.state }) c.self.view_is

@@ -7,7 +7,7 @@ use Rattle.tx_machine.specs.Confirming.{far_of, rival}
 use Rattle.tx_machine.specs.InUse.{seizes_from}
 use Rattle.tx_machine.specs.Routing.{set_call}
 use Rattle.tx_machine.specs.Seen.{call_seen}
-use Rattle.tx_machine.specs.inner.Seen.{changed}
+use Rattle.tx_machine.specs.inner.Seen.{changed_call}
 use Rattle.tx_machine.specs.declared.plain.changing.Change.TheVariants.{Carry}
 use Rattle.tx_machine.proofs.Confirmed.{confirms}
 use Rattle.tx_machine.proofs.plain.Plain.meeting.Goals as goal
@@ -21,7 +21,7 @@ returns-in-None g c =
     let far : far_of v.plan d x ≡ c.far_of-far.result = sym (c.far_of-far.ensures ∙ ap (λ p. far_of p d x) plan) in
     let calls : v.state.calls ≡ map call_seen c.as_slice.result.now = ap (λ (n : Net). n.state.calls) (sym c.self.view_is) ∙ ap (map call_seen) (sym c.as_slice.ensures.value) in
     let alone : rival v.plan v.state d x ≡ None = (λ i. find (λ (k : Call). not (k.number == d.number) && seizes_from (sym plan i) k x (far i)) (calls i)) ∙ c.in-None.ensures in
-    record { done = confirms v.plan v.state d x None c.in-Calling.is alone ∙ ap (λ f. (At f, record v.state { calls = set_call d.number (changed (Carry (record { circuit = x; far = f }))) v.state.calls })) far; on = c.in-Calling.is }
+    record { done = confirms v.plan v.state d x None c.in-Calling.is alone ∙ ap (λ f. (At f, record v.state { calls = set_call d.number (changed_call (Carry (record { circuit = x; far = f }))) v.state.calls })) far; on = c.in-Calling.is }
 
 pub returns-in-Some : goal.returns-in-Some
 returns-in-Some g c =

@@ -1,6 +1,6 @@
 use Rattle.std.proofs.Common.{◌<◌, ◌-◌, ◌+◌, ap, sym, subst, length, get_or}
 use Rattle.std.proofs.lemmas.List.{length-set}
-use Rattle.tx_machine.specs.inner.Seen.{changed, change_at}
+use Rattle.tx_machine.specs.inner.Seen.{changed_call, change_at}
 use Rattle.tx_machine.proofs.Sweeping.{ready_here, changed_step, changing_none, swept_all}
 use Rattle.tx_machine.proofs.plain.changing.change_numbered.Goals as goal
 use borrow.Author.Count.{falls}
@@ -25,7 +25,7 @@ pub loop-at-init : goal.loop-at-init
 loop-at-init g c = changing_none c.args.number c.args.change.now c.args.calls.now c.requires
 
 pub returns-clause-seen : goal.returns-clause-seen
-returns-clause-seen g c = swept_all (change_at c.args.number (changed c.args.change.now)) c.args.calls.now c.loop-at.at c.loop-at.calls c.loop-at.invariant.seen c.loop-at-test.false
+returns-clause-seen g c = swept_all (change_at c.args.number (changed_call c.args.change.now)) c.args.calls.now c.loop-at.at c.loop-at.calls c.loop-at.invariant.seen c.loop-at-test.false
 
 pub returns-clause-len : goal.returns-clause-len
 returns-clause-len g c = c.loop-at.invariant.len

@@ -1,0 +1,15 @@
+use Rattle.std.proofs.Common.{ℕ, List, take, option_map, Ok}
+use Rattle.std.specs.Borrow.{Bor}
+use Rattle.std.specs.List.{flat_map}
+use Rattle.tx_text.specs.Wrote.{WroteBy}
+use Rattle.tx_commands.specs.Entries.{texts}
+use Rattle.tx_commands.specs.Explanation.{told_text}
+use Rattle.tx_commands.proofs.explanation.write_entries.Given as goal
+
+abbrev pub invariant-loop-i : goal.invariant-loop-i
+invariant-loop-i g l =
+    let text : List (Bor (List ℕ)) → List ℕ =
+    λ e. told_text (option_map (λ l. l.now) l.line) (texts e) in
+    WroteBy (g.W.Sink.taken l.initial.sink) (g.W.Sink.taken l.sink)
+    (g.W.Sink.failed l.initial.sink) (g.W.Sink.failed l.sink)
+    (flat_map text (take l.i l.entries)) (Ok tt)

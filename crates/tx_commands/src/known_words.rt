@@ -1,0 +1,48 @@
+// What a line asks for.
+ghost use Rattle.std.specs.Prelude.{◌≡◌};
+ghost use Rattle.std.specs.List.{list_any};
+ghost use Rattle.std.specs.Str.{str_eq_ignore_ascii_case};
+ghost use Rattle.tx_commands.specs.Entries.{texts, is_asked_by, is_asked, is_known};
+
+use crate::code_table::{Entry, tables};
+
+/// Whether two words are the same but for capitals and small letters.
+fn is_same_word(one: &str, other: &str) -> bool
+    ensures { result ≡ str_eq_ignore_ascii_case one.now other.now }
+{
+    one.eq_ignore_ascii_case(other)
+}
+
+/// Whether a word asks for an entry: by its code or its name, in capitals or small letters.
+fn is_asked_by(word: &str, entry: &Entry) -> bool
+    ensures { result ≡ is_asked_by word.now (texts entry.now) }
+{
+    is_same_word(entry[0], word) || is_same_word(entry[1], word)
+}
+
+/// Whether a line asks for an entry: by one of its words, which have blanks between them.
+pub(crate) fn is_asked(line: &str, entry: &Entry) -> bool
+    ensures { result ≡ is_asked line.now (texts entry.now) }
+{
+    line.split(' ').any(|word| is_asked_by(word, entry))
+}
+
+/// Whether a line asks for some entry.
+pub(crate) fn is_known(line: &str) -> bool
+    ensures { result ≡ is_known line.now }
+{
+    asks_in_some(&tables(), line)
+}
+
+fn asks_in_some(tables: &[&[Entry]], line: &str) -> bool
+    ensures { result
+        ≡ list_any (λ t. list_any (λ e. is_asked line.now (texts e)) t.now) tables.now }
+{
+    tables.iter().any(|entries| asks_in(entries, line))
+}
+
+fn asks_in(entries: &[Entry], line: &str) -> bool
+    ensures { result ≡ list_any (λ e. is_asked line.now (texts e)) entries.now }
+{
+    entries.iter().any(|entry| is_asked(line, entry))
+}

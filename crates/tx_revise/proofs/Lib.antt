@@ -1,3 +1,0 @@
-mod Cuts
-mod SamePlans
-mod AmongLines

@@ -1,7 +1,0 @@
-use Rattle.std.proofs.Common.{◌≡◌, true, take}
-use Rattle.std.specs.List.{AllByRecursion}
-use Rattle.tx_plan.specs.Routes.{is_barred}
-use Rattle.tx_revise.proofs.reading_back.has_bars.Given as goal
-
-abbrev pub invariant-loop-index : goal.invariant-loop-index
-invariant-loop-index g l = AllByRecursion (λ b. is_barred l.plan b.exchange b.code ≡ true) (take l.index l.other.bars)

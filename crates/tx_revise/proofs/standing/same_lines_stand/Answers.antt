@@ -1,7 +1,0 @@
-use Rattle.tx_revise.specs.Revised.{SameLinesStand, says_too}
-use Rattle.tx_revise.proofs.AmongLines.{all_found}
-use Rattle.tx_revise.proofs.standing.same_lines_stand.Goals as goal
-
-pub returns : goal.returns
-returns g c = λ _.
-    all_found (says_too c.args.plan.now) (SameLinesStand c.args.text.now c.args.plan.now c.args.revised.now) c.lines.lines c.lines.left c.lines.invariant c.in_default.ensures.steps.0

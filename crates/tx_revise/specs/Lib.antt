@@ -1,2 +1,0 @@
-pub mod Revised
-pub mod inner
