@@ -1,5 +1,6 @@
 // Texts of figures in room of their own, and numbers in decimal figures.
 ghost use Rattle.std.specs.Prelude.{◌≡◌, ◌≤◌, true, length, Some, None, if◌then◌else◌, ◌-◌, ◌++◌, replicate, bytes_eq};
+ghost use Rattle.std.specs.List.{list_all};
 ghost use Rattle.std.specs.Str.Parse.{digits_value};
 ghost use Rattle.tx_text.specs.inner.Padded.{padded_to};
 ghost use Rattle.tx_text.specs.Words.{figures_of, are_figures, is_figure, number_of};
@@ -151,12 +152,19 @@ pub(crate) fn is_figure(byte: u8) -> bool
     b'0' <= byte && byte <= b'9'
 }
 
+/// Whether a text is figures.
+fn all_figures(text: &[u8]) -> bool
+    ensures { result ≡ list_all is_figure text.now }
+{
+    text.iter().all(|byte| is_figure(*byte))
+}
+
 /// Whether the text is at least `least` and at most `most` figures, and nothing else.
 pub fn are_figures(text: &[u8], least: usize, most: usize) -> bool
     ensures gives { result ≡ are_figures least most text.now }
     ensures short { result ≡ true → length text.now ≤ most }
 {
-    text.len() >= least && text.len() <= most && text.iter().all(|byte| is_figure(*byte))
+    text.len() >= least && text.len() <= most && all_figures(text)
 }
 
 /// The number that the text is the decimal form of, without a sign or leading zeros, if it is at

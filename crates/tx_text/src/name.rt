@@ -1,6 +1,7 @@
 // Names of exchanges and groups.
-ghost use Rattle.std.specs.Prelude.{◌≡◌, ◌≤◌, true, length};
-ghost use Rattle.tx_text.specs.Words.{is_name, is_letter};
+ghost use Rattle.std.specs.Prelude.{◌≡◌, ◌≤◌, ◌||◌, true, length};
+ghost use Rattle.std.specs.List.{list_all};
+ghost use Rattle.tx_text.specs.Words.{is_name, is_letter, is_figure};
 ghost use Rattle.tx_text.specs.inner.Words.{name_of};
 
 use crate::figures::{InlineBytes, is_figure};
@@ -61,10 +62,12 @@ pub fn is_name(text: &[u8]) -> bool
 {
     match text {
         [] => false,
-        [first, rest @ ..] => {
-            is_letter(*first)
-                && rest.iter().all(|sign| is_letter(*sign) || is_figure(*sign))
-                && rest.len() <= 7
-        }
+        [first, rest @ ..] => { is_letter(*first) && are_signs(rest) && rest.len() <= 7 }
     }
+}
+
+fn are_signs(text: &[u8]) -> bool
+    ensures { result ≡ list_all (λ x. is_letter x || is_figure x) text.now }
+{
+    text.iter().all(|byte| is_letter(*byte) || is_figure(*byte))
 }
