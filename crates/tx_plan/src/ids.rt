@@ -134,8 +134,15 @@ impl Hash for Pair {
         (same_pair-is p q h) };
 
     fn hash<H: Hasher>(&self, state: &mut H) {
-        state.write_u32(256 * u32::from(self.code.index) + u32::from(self.exchange.index));
+        state.write_u32(in_one_word(self.exchange.index, self.code.index));
     }
+}
+
+/// The indexes of a pair as one number.
+fn in_one_word(exchange: u16, code: u16) -> u32
+    ensures { result ≡ 256 * code + exchange }
+{
+    256 * u32::from(code) + u32::from(exchange)
 }
 
 /// From which ends the circuits of a group may be seized.
