@@ -31,13 +31,18 @@ pub(crate) fn engaged_in<A: Allocator>(calls: &[OpenCall<A>], line: &Line) -> bo
     calls.iter().any(|call| takes_part(call, line))
 }
 
+/// Whether the call carries the circuit.
+fn carries<A: Allocator>(call: &OpenCall<A>, circuit: &Circuit) -> bool
+    ensures { result ≡ carries (call_seen call.now) circuit.now }
+{
+    call.hops.iter().any(|hop| hop.circuit == *circuit)
+}
+
 /// Whether one of the calls carries the circuit.
 pub(crate) fn carried_by<A: Allocator>(calls: &[OpenCall<A>], circuit: &Circuit) -> bool
     ensures { result ≡ list_any (λ c. carries (call_seen c) circuit.now) calls.now }
 {
-    calls
-        .iter()
-        .any(|call| call.hops.iter().any(|hop| hop.circuit == *circuit))
+    calls.iter().any(|call| carries(call, circuit))
 }
 
 /// Whether the call seizes the circuit.

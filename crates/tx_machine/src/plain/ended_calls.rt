@@ -51,7 +51,7 @@ fn is_ended<A: Allocator>(call: &OpenCall<A>, ends: &Ends) -> bool
 fn uses_group<A: Allocator>(call: &OpenCall<A>, group: GroupId) -> bool
     ensures { result ≡ list_any (λ x. x.group == group) (circuits_used (call_seen call.now)) }
 {
-    let carried = call.hops.iter().any(|hop| hop.circuit.group == group);
+    let carried = hops_use(&call.hops, group);
     let called = phase_uses(&call.phase, group);
     carried || called
 }
@@ -66,7 +66,24 @@ fn phase_uses(phase: &Phase, group: GroupId) -> bool
     }
 }
 
-/// Gives up one circuit, unless one of the calls that go on seizes it.
+/// Whether one of the hops goes over the group.
+fn hops_use(hops: &[Hop], group: GroupId) -> bool
+    ensures { result ≡ list_any (λ h. h.circuit.group == group) hops.now }
+{
+    hops.iter().any(|hop| hop.circuit.group == group)
+}
+
+/// Whether one of the calls that go on seizes the circuit.
+fn kept<A: Allocator>(calls: &[OpenCall<A>], ends: &Ends, circuit: &Circuit) -> bool
+    ensures { result ≡ list_any (λ c. not (ends_by ends.now (call_seen c))
+        && seizes (call_seen c) circuit.now) calls.now }
+{
+    calls
+        .iter()
+        .any(|call| !is_ended(call, ends) && seizes(call, circuit))
+}
+
+/// Gives up one circuit.
 fn give<A: Allocator>(
     calls: &[OpenCall<A>],
     ends: &Ends,
@@ -77,9 +94,7 @@ fn give<A: Allocator>(
     ensures { releasing.new ≡ with_more releasing.old
         (filter (is_given ends.now (map call_seen calls.now)) (circuit.now ∷ [])) }
 {
-    let is_kept = calls
-        .iter()
-        .any(|call| !is_ended(call, ends) && seizes(call, circuit));
+    let is_kept = kept(calls, ends, circuit);
     if is_kept {
         return;
     }
