@@ -1,3 +1,2 @@
 pub mod Indexed
 pub mod Ranked
-pub mod Steps
