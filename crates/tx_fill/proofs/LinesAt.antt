@@ -155,9 +155,11 @@ module _ {A : Type 0} where
 
   -- behind the first k
   pub got_behind : (k : ℕ) (xs : List A) (i : ℕ) → slice_get (drop k xs) i ≡ slice_get xs (k + i)
-  got_behind zero xs i = refl
+  got_behind zero xs i = ap (slice_get xs) (omega arith)
   got_behind (suc k) [] i = refl
-  got_behind (suc k) (x ∷ xs) i = got_behind k xs i
+  got_behind (suc k) (x ∷ xs) i =
+      let more : suc (k + i) ≡ suc k + i = omega arith in
+      got_behind k xs i ∙ ap (slice_get (x ∷ xs)) more
 
 -- of both at once
 module _ {A B : Type 0} where

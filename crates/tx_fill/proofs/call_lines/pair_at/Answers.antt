@@ -1,4 +1,4 @@
-use Rattle.std.proofs.Common.{◌≡◌, ◌∙◌, sym, ap, arith}
+use Rattle.std.proofs.Common.{◌+◌, ◌∙◌, sym, ap}
 use Rattle.std.specs.Prelude.{slice_get}
 use Rattle.tx_fill.specs.CallLines.{lines_of, called_from}
 use Rattle.tx_fill.specs.declared.call_lines.Whose.TheVariants.{At, Of}
