@@ -4,7 +4,7 @@ ghost use Rattle.tx_requests.specs.Explain.{IsExplained};
 use crate::ending::Ending;
 use crate::fault::CommandFault;
 use std::alloc::Allocator;
-use tx_commands::ExplainRequest;
+use tx_commands::{ExplainRequest, write_explanation};
 use tx_text::Sink;
 
 /// Writes what a line means, or the whole table.
