@@ -16,7 +16,7 @@ pub returns-in_err-called-clause-pair : goal.returns-in_err-called-clause-pair
 returns-in_err-called-clause-pair g c =
     let p = c.args.plan.now in
     let x = c.args.exchange in
-    let place = rw (sym c.eq.ensures, c.home.ensures) at c.from-own.ensures in
+    let place = rw (c.eq.ensures, c.home.ensures) at c.from-own.ensures in
     c.from_residual-in_err-called.ensures
     ∙ sym (zip_second (lines_of p (At x)) (called_from p x c.args.code) c.args.index
     (got_behind _ (lines_of p (Of c.args.code)) c.args.index ∙ ap (λ k. slice_get (lines_of p (Of c.args.code)) (k + c.args.index)) (sym place) ∙ sym c.in_err-called.ensures.line))
@@ -25,7 +25,7 @@ pub returns-clause-pair : goal.returns-clause-pair
 returns-clause-pair g c =
     let p = c.args.plan.now in
     let x = c.args.exchange in
-    let place = rw (sym c.eq.ensures, c.home.ensures) at c.from-own.ensures in
+    let place = rw (c.eq.ensures, c.home.ensures) at c.from-own.ensures in
     sym (zip_both (lines_of p (At x)) (called_from p x c.args.code) c.args.index _ _
     (sym c.in_ok-line.ensures.line)
     (got_behind _ (lines_of p (Of c.args.code)) c.args.index ∙ ap (λ k. slice_get (lines_of p (Of c.args.code)) (k + c.args.index)) (sym place) ∙ sym c.in_ok-called.ensures.line))
