@@ -1,13 +1,13 @@
 #!/usr/bin/env python3
-"""usage: tools/gate_cost.py [--only CRATE[,CRATE..]]
+"""usage: tools/gate_cost.py [--anew] [--only CRATE[,CRATE..]]
 
-Runs what the gate proves, `rt ci` with nothing kept and then `tools/mutants`, at the top of a clean checkout, with the same verdict and exit status, and then prints what
-each part of it cost, as a table in Markdown: seconds of processor (user and system) for the proof of each crate from nothing, for its proof with tests, for its mutants, and
-for its programs as two compilers build and run them.
+Runs what the gate proves, `rt ci` and then `tools/mutants`, with the same verdict and exit status, and then prints what each part of it cost, as a table in Markdown: seconds
+of processor (user and system) for the proof of each crate, for its proof with tests, for its mutants, and for its programs as two compilers build and run them. --anew takes
+nothing that was kept on this machine: a clean checkout, as in CI, has nothing of its own.
 
 Behind the table it names each crate whose parts took a third more than in the table of docs/MEASURED.md, and at least half a minute more.
 
---only tells the parts of these crates alone: their proof, tests and mutants. The crates below them are proved too, since the gate proves all from nothing.
+--only tells the parts of these crates alone: their proof, tests and mutants. The crates below them are proved too.
 RT_JOBS=N holds the run to N lanes. Figures of a busy machine are too high by up to a half: run it alone."""
 import os
 import re
@@ -84,9 +84,10 @@ def grown(table_now):
 
 def main(words):
     only = None
+    kept = [it for it in words if it == "--anew"]
     if "--only" in words:
         only = words[words.index("--only") + 1].split(",")
-    elif words:
+    elif words != kept:
         print(__doc__)
         return 64
     rt, costs = load_rt(), Costs()
@@ -95,7 +96,7 @@ def main(words):
     if only:
         keep_only(rt, only)
     start = time.time()
-    status = rt.main(["ci", "--anew"])
+    status = rt.main(["ci", *kept])
     if status == 0:
         mutants = load_mutants()
         status = 0 if all(mutants.run(rt, only or (), as_built=True).values()) else 1
