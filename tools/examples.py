@@ -138,10 +138,38 @@ def check_examples(program, tell):
 
 
 def check_tables(tell):
-    """The plan that is made of tables has the lines of the plan that these were made of."""
-    made, plan = (sorted(filter(None, map(plain, read(f"examples/{it}.plan").decode().splitlines()))) for it in ("national-tables", "national"))
-    if made != plan:
-        tell("examples/national-tables.plan: it has other lines than examples/national.plan")
+    """The plan and the risks that are made of tables have the lines of the plan that these were made of, and of its risks."""
+    for made, wanted in [("national-tables.plan", "national.plan"), ("national-cables.risks", "national.risks")]:
+        one, other = (sorted(filter(None, map(plain, read(f"examples/{it}").decode().splitlines()))) for it in (made, wanted))
+        if one != other:
+            tell(f"examples/{made}: it has other lines than examples/{wanted}")
+
+
+def check_odd_tables(_, tell):
+    """Tables with semicolons make the same plan, and one that is refused makes one line and no plan."""
+    script = [sys.executable, os.path.join(TOP, "examples/from_tables.py")]
+    good = {it: read(f"examples/national-{it}") for it in ("exchanges.csv", "codes.csv", "groups.csv", "lists.csv")}
+    codes, lists = good["codes.csv"], good["lists.csv"]
+    odd = [
+        ({it: table.replace(b",", b";") for it, table in good.items()}, 0, read("examples/national-tables.plan"), ""),
+        ({"codes.csv": b"\xef\xbb\xbf" + codes}, 0, read("examples/national-tables.plan"), ""),
+        ({"codes.csv": codes + b"22,SOUTH,,\n"}, 2, b"", "codes.csv line 13: code 22 is at home at SOUTH, and by line 4 at NORTH"),
+        ({"codes.csv": codes.replace(b"WEST", b"W\xd6ST")}, 2, b"", "codes.csv line 7: a byte that is not UTF-8"),
+        ({"codes.csv": lists}, 2, b"", "codes.csv: the columns are exchange, codes, groups, barred, and not code, home, low, high"),
+        ({"codes.csv": b""}, 2, b"", "codes.csv: the columns are none, and not code, home, low, high"),
+        ({"lists.csv": lists + b"ISLAND,22,,Yes\n"}, 2, b"", "lists.csv line 39: barred is yes or empty, and not Yes"),
+        ({"lists.csv": lists + b"ISLAND,22,,yes,yes\n"}, 2, b"", "lists.csv line 39: 5 cells in 4 columns"),
+        ({"lists.csv": None}, 3, b"", "lists.csv: No such file or directory"),
+    ]
+    for other, status, printed, told in odd:
+        with tempfile.TemporaryDirectory() as room:
+            for name, table in (good | other).items():
+                if table is not None:
+                    with open(os.path.join(room, name), "wb") as it:
+                        it.write(table)
+            ran = subprocess.run(script + list(good), cwd=room, capture_output=True, timeout=60)
+        if (ran.returncode, ran.stdout, ran.stderr.decode()) != (status, printed, told and f"error: {told}\n"):
+            tell(f"examples/from_tables.py: {told or 'other tables'}: the status is {ran.returncode}, and standard error has {ran.stderr!r}")
 
 
 def played():
@@ -767,7 +795,7 @@ def main(words):
     told = []
     if not only_pages:
         check_examples(program, told.append)
-        for check in (check_arguments, check_terminal, check_replaced, check_apart, check_page_apart, check_outputs, check_pipe_and_device, check_no_leave, check_no_name, check_order, check_manual_commands, check_offers):
+        for check in (check_odd_tables, check_arguments, check_terminal, check_replaced, check_apart, check_page_apart, check_outputs, check_pipe_and_device, check_no_leave, check_no_name, check_order, check_manual_commands, check_offers):
             check(program, told.append)
     check_pages(told.append)
     check_explained(told.append)
