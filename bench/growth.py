@@ -3,92 +3,39 @@
 
 Measures how the time of each command of a built program (crates/telexplan/out/telexplan where none is named) grows. A family of inputs doubles one size that a user
 can make large, up to its limit where it has one. A table in Markdown has a row for each command over a family: the seconds of processor at each size, the least of
-several rounds (--times, 3 of them); the exponent of each doubling, which is 1 where the time doubles too and 2 where it is four times as long; and the exponents of
-the input and of the output over the last doubling, with the bytes of the output at the greatest size. Below a hundredth of a second no exponent is told.
+several rounds (--times, 3 of them); the exponent of each doubling, which is 1 where the time doubles too and 2 where it is four times as long; the exponents of the
+input and of the output over the last doubling, with the bytes of the output at the greatest size; and the most memory that was in use at each size. Below a hundredth
+of a second no exponent is told.
 
-A row is marked where a run took over a second and the exponent of its last doubling is above those of the input and of the output by more than a half. The status is 1
-if a row is. A run of more than --seconds (20) is given up, and marked too.
+A row is marked where a run took over a second and the exponent of its last doubling is above those of the input and of the output by more than a half. It is marked too
+where a run held more than a hundred megabytes and ten times its input: a command may keep what it reads, but not all that it prints. The status is 1 if a row is marked.
+A run of more than --seconds (20) is given up, and marked too.
+
+In the last seven families a plan of 256 exchanges has some of its lists alone, by a pattern. What a list then costs in instructions is told by spread.py.
 
 --only measures these families alone: events, calls, away, full, hops, text, star, chain, thin, leaves, codes, groups, choices, ranges, bars, unlisted, unserved, loops,
-faults, risks, stages and turned."""
+faults, risks, stages, turned, second, third, fifth, seventh, fifths, regions and drawn."""
 import itertools
 import math
 import os
 import resource
+import select
 import subprocess
 import sys
 import tempfile
 
 sys.dont_write_bytecode = True
 sys.path.insert(0, os.path.dirname(os.path.abspath(__file__)))
+from bench import memory_of
 from inputs import local_events, local_plan, script
+from networks import SPARSE, Net, chain, local, ring, star, star_cert, write
 
 TOP = os.path.dirname(os.path.dirname(os.path.abspath(__file__)))
 TOLD = 0.01
 LONG = 1.0
 ABOVE = 0.5
-
-
-class Net:
-    """A network with its lists. Code c is that of exchange c, or of exchange c % n where there are more codes than exchanges."""
-
-    def __init__(self, exchanges, codes, groups, ranges=None):
-        self.exchanges, self.codes, self.groups = exchanges, codes, groups
-        self.ranges = range(codes) if ranges is None else ranges
-        self.lists, self.bars = {}, []
-
-    def home(self, code):
-        return code % self.exchanges
-
-    def away(self):
-        """Each exchange with each code that has its home elsewhere."""
-        return ((x, c) for x in range(self.exchanges) for c in range(self.codes) if x != self.home(c))
-
-    def plan(self):
-        yield "PLAN 2" if self.bars else "PLAN 1"
-        yield from (f"EXCHANGE X{it}" for it in range(self.exchanges))
-        yield from (f"CODE {it:03} X{self.home(it)}" for it in range(self.codes))
-        yield from (f"LINES {it:03} 10000 19999" for it in self.ranges)
-        yield from (f"GROUP {name} X{a} X{b} BOTHWAY 240" for name, (a, b) in self.groups.items())
-        yield from (f"ROUTE X{x} {c:03} {' '.join(groups)}" for (x, c), groups in self.lists.items())
-        yield from (f"BAR X{x} {c:03}" for x, c in self.bars)
-        yield "END"
-
-    def turned(self):
-        """The network with its lists turned: what was chosen first is now the last choice."""
-        net = Net(self.exchanges, self.codes, self.groups, self.ranges)
-        net.lists = {it: [*groups[1:], groups[0]] for it, groups in self.lists.items()}
-        return net
-
-
-def star(exchanges, codes, wide=2):
-    """All exchanges have groups to the first one."""
-    net = Net(exchanges, codes, {f"G{x}I{it}": (0, x) for x in range(1, exchanges) for it in range(wide)})
-    net.lists = {(x, c): [f"G{x or net.home(c)}I{it}" for it in range(wide)] for x, c in net.away()}
-    return net
-
-
-def star_cert(net):
-    """The ranks of a star."""
-    yield "CERT 1"
-    for c, x in itertools.product(range(net.codes), range(net.exchanges)):
-        home = net.home(c)
-        yield f"RANK {c:03} X{x} {0 if x == home else 1 if 0 in (x, home) else 2}"
-    yield "END"
-
-
-def chain(exchanges):
-    """Exchanges in a row. Calls start at the first one."""
-    net = Net(exchanges, exchanges, {f"G{it}": (it, it + 1) for it in range(exchanges - 1)}, [0])
-    net.lists = {(x, c): [f"G{x if c > x else x - 1}"] for x, c in net.away()}
-    return net
-
-
-def ring(exchanges, codes, back):
-    """Exchanges in a ring. All calls go one way round."""
-    net = Net(exchanges, codes, {f"G{it}": (it, (it + 1) % exchanges) for it in range(exchanges)})
-    net.lists = {(x, c): [f"G{(x - back) % exchanges}"] for x, c in net.away()}
-    return net
+LARGE = 100_000_000
+TIMES = 10
 
 
 def of_star(net):
@@ -144,11 +91,6 @@ def local_calls(caller, called, calls):
         yield f"KEY 41 {caller} 41{called}"
         yield f"ROUTE {it + 1}"
         yield f"CLEAR {it + 1} CALLER"
-
-
-def local(events):
-    """Events at one exchange with a thousand million lines."""
-    return {"a.plan": ["PLAN 1", "EXCHANGE ALFA", "CODE 41 ALFA", "LINES 41 000000000 999999999", "END"], "a.script": script(events)}
 
 
 def open_calls(calls):
@@ -219,6 +161,7 @@ MADE = [f"audit a.plan {SAFE} --cert out.cert", f"mend a.plan {SAFE} --plan out.
 MADE += [f"order a.plan b.plan {SAFE} --stage 1 --plan out.plan --cert out.cert"]
 CHECKED = [f"check a.plan a.cert {SAFE}"]
 SHOWN = [f"page a.plan {SAFE}"]
+ALL = [*READ, *TRACED, *JUDGED, *SHOWN, *CHANGED, *CHECKED, RUN]
 TURNED = ["order a.plan b.plan --limit 62 --spare 0", "page b.plan --limit 62 --spare 0 --from a.plan"]
 RUNS = [RUN, "run a.plan a.script --echo --summary"]
 
@@ -252,21 +195,27 @@ FAMILIES = [
     Family("stages", "exchanges in a ring that is turned round", (8, 16, 32, 64), lambda n: of_rings(n, n), TURNED),
     Family("turned", "codes in a ring of 64 that is turned round", (125, 250, 500, 1000), lambda n: of_rings(64, n), TURNED),
 ]
+FAMILIES += [Family(name, f"codes, {told}", (125, 250, 500, 1000), lambda n, keeps=keeps: of_star(star(256, n).only(keeps())), ALL) for name, told, keeps in SPARSE]
 
 
 class Run:
-    """The seconds of a run, or nothing where it was given up, and the bytes of its input and output."""
+    """The seconds of a run, or nothing where it was given up, the bytes of its input and output, and the most bytes of memory."""
 
-    def __init__(self, seconds, read, written):
-        self.seconds, self.read, self.written = seconds, read, written
+    def __init__(self, seconds, read, written, memory):
+        self.seconds, self.read, self.written, self.memory = seconds, read, written, memory
 
 
 def run(command, folder, seconds):
-    """The seconds of processor of a command, or nothing where they are too many, and the bytes that it prints and writes into files."""
+    """The seconds of processor of a command, or nothing where they are too many, the bytes that it prints and writes into files, and the most bytes of memory."""
     def bound():
         resource.setrlimit(resource.RLIMIT_CPU, (seconds, seconds + 1))
     program = subprocess.Popen(command, cwd=folder, stdin=subprocess.DEVNULL, stdout=subprocess.PIPE, stderr=subprocess.DEVNULL, preexec_fn=bound)
-    written = sum(len(it) for it in iter(lambda: program.stdout.read(1 << 16), b""))
+    written, memory, piece = 0, 0, b" "
+    while piece:
+        if select.select([program.stdout], [], [], 0.001)[0]:
+            piece = os.read(program.stdout.fileno(), 1 << 16)
+            written += len(piece)
+        memory = max(memory, memory_of(program.pid) * 1024)
     program.stdout.close()
     _, status, used = os.wait4(program.pid, 0)
     program.returncode = os.waitstatus_to_exitcode(status)
@@ -274,23 +223,17 @@ def run(command, folder, seconds):
         raise RuntimeError(f"the status of {' '.join(command[1:])} is {program.returncode}")
     made = [os.path.join(folder, it) for it in command if it.startswith("out.")]
     written += sum(os.path.getsize(it) for it in made if os.path.exists(it))
-    return (used.ru_utime + used.ru_stime if program.returncode >= 0 else None), written
+    return (used.ru_utime + used.ru_stime if program.returncode >= 0 else None), written, memory
 
 
 def best_of(command, folder, times, seconds):
     """The best of some rounds. What takes over a second runs once."""
-    best, written = run(command, folder, seconds)
+    best, written, memory = run(command, folder, seconds)
     for _ in range(times - 1):
         if best is not None and best < LONG:
             best = min(best, run(command, folder, seconds)[0])
     read = sum(os.path.getsize(os.path.join(folder, it)) for it in command if it.startswith(("a.", "b.")))
-    return Run(best, read, written)
-
-
-def write(folder, texts):
-    for file, lines in texts.items():
-        with open(os.path.join(folder, file), "w", encoding="ascii", buffering=1 << 20) as it:
-            it.writelines(f"{line}\n" for line in lines)
+    return Run(best, read, written, memory)
 
 
 def measure(family, program, times, seconds):
@@ -314,11 +257,15 @@ def times_of(runs):
     return [exponent(a.seconds, b.seconds) if b.seconds and a.seconds >= TOLD else None for a, b in itertools.pairwise(runs)]
 
 
-def is_marked(runs):
+def is_slow(before, last):
     """Whether the time grows with the wrong thing."""
-    before, last = runs[-2:][0], runs[-1]
     grown = max(exponent(before.read, last.read), exponent(before.written, last.written))
     return last.seconds is None or last.seconds > LONG and exponent(before.seconds, last.seconds) > grown + ABOVE
+
+
+def is_marked(runs):
+    before, last = runs[-2:][0], runs[-1]
+    return is_slow(before, last) or last.memory > max(LARGE, TIMES * last.read)
 
 
 def row(family, words, runs):
@@ -326,6 +273,7 @@ def row(family, words, runs):
     seconds = ", ".join("given up" if it.seconds is None else f"{it.seconds:.3f}" for it in runs)
     exponents = ", ".join("-" if it is None else f"{it:.1f}" for it in times_of(runs))
     grown = [f"{exponent(before.read, last.read):.1f}", f"{exponent(before.written, last.written):.1f}", f"{last.written:,}"]
+    grown.append(", ".join(f"{it.memory / 1e6:.1f}" for it in runs))
     return [family.told, f"`{words}`", " ".join(f"{it:,}" for it in family.sizes[:len(runs)]), seconds, exponents, *grown, "**!**" if is_marked(runs) else ""]
 
 
@@ -339,7 +287,7 @@ def main(words):
         print(__doc__)
         return 64
     program = os.path.abspath(words[0] if words else os.path.join(TOP, "crates/telexplan/out/telexplan"))
-    heads = ["What doubles", "Command", "Sizes", "Seconds", "Exponents", "Input", "Output", "Bytes of output", ""]
+    heads = ["What doubles", "Command", "Sizes", "Seconds", "Exponents", "Input", "Output", "Bytes of output", "Megabytes of memory", ""]
     print("\n".join(f"| {' | '.join(it)} |" for it in (heads, ["---"] * len(heads))), flush=True)
     marked = False
     for family in chosen:
