@@ -81,7 +81,8 @@ impl Row {
         requires short { self.old.count ≤ 240 }
         ensures row { self.new ≡ record self.old { lists = self.new.lists } }
         ensures sound { IsSound (group_slots slots.new self.old) self.new.lists }
-        ensures states { states_in slots.new self.old ≡ map cleared_state (states_in slots.old self.old) }
+        ensures states { states_in slots.new self.old
+            ≡ map cleared_state (states_in slots.old self.old) }
         ensures rest { OthersStay slots.old slots.new self.old }
     {
         let part = &mut slots[self.start..self.start + self.count];

@@ -149,7 +149,8 @@ impl<A: Allocator> LineFeeder<A> {
         requires fed { self.old.start + length self.old.begun + length front.now < 2 ^ 64 - 1 }
         ensures gives { result ≡ line_fault line (self.old.begun ++ front.now) }
         ensures held { IfNone result (self.new ≡ begun_more self.old front.now) }
-        ensures others { feed_with_fault self.new TextFault.BadByte ≡ feed_with_fault self.old TextFault.BadByte }
+        ensures others { feed_with_fault self.new TextFault.BadByte
+            ≡ feed_with_fault self.old TextFault.BadByte }
     {
         if !hold(&mut self.held, front) {
             return Some(TextFault::LineTooLong);

@@ -157,7 +157,8 @@ impl<A: Allocator> TextReader<A> {
         ensures known { IsFeed self.old.feed }
         ensures known_after { IsFeed self.new.feed }
         ensures leaves { result ≡ true → self.new ≡ fed_on self.old }
-        ensures gives { result ≡ true → has_line (feed_gives self.old.feed self.old.piece) ≡ Ok true }
+        ensures gives { result ≡ true
+            → has_line (feed_gives self.old.feed self.old.piece) ≡ Ok true }
         ensures same { result ≡ false → self.new ≡ self.old }
     {
         let Some((len, shown)) = whole_line(part(&self.piece, self.from, self.to)) else {

@@ -54,7 +54,8 @@ pub(crate) fn reserve_hop<A: Allocator>(
 /// Changes a call with the number.
 fn change_one<A: Allocator>(call: &mut OpenCall<A>, number: u32, change: &Change)
     requires { CanChange change.now number call.old }
-    ensures seen { call_seen call.new ≡ change_at number (changed_call change.now) (call_seen call.old) }
+    ensures seen { call_seen call.new
+        ≡ change_at number (changed_call change.now) (call_seen call.old) }
     ensures room { HasRoom call.old → HasRoom call.new }
 {
     if call.number == number {
