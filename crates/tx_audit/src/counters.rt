@@ -36,7 +36,7 @@ fn walked<A: Allocator + Copy>(
     };
     let mut events = Vec::new(alloc);
     events.push(Event::Key { line, keyed })?;
-    push_walk(plan, code, walk.start, walk.steps.as_slice(), &mut events)?;
+    push_walk(plan, code, walk.start, &walk.steps, &mut events)?;
     Ok(Some(events))
 }
 
@@ -52,7 +52,7 @@ fn events_of<A: Allocator + Copy>(
     match finding {
         Finding::Ambiguous(_, _) => Ok(None),
         Finding::Loop(code, walk) => {
-            if turns_on_one(plan, walk.steps.as_slice()) {
+            if turns_on_one(plan, &walk.steps) {
                 return Ok(None);
             }
             walked(alloc, plan, *code, walk)

@@ -13,7 +13,7 @@ use crate::engine::EngineState;
 use std::alloc::Allocator;
 use tx_circuits::CircuitTable;
 use tx_lines::LineBook;
-use tx_machine::{Cause, Hop, OpenCall, Party, Path, Phase, Reply, Ticket, exchange_of, far_of};
+use tx_machine::{Cause, Hop, OpenCall, Party, Phase, Reply, Ticket, exchange_of, far_of};
 use tx_plan::{Circuit, Plan};
 
 impl<'p, A: Allocator + Copy> EngineState<'p, A> {
@@ -70,7 +70,7 @@ fn ticket_of<A: Allocator>(plan: &Plan<A>, call: OpenCall<A>, cause: Cause, even
         cause,
         keyed_at: call.keyed_at,
         ended_at: event,
-        path: Path::of(call.hops),
+        path: call.hops,
     }
 }
 

@@ -92,7 +92,7 @@ fn settle<A: Allocator + Copy>(
     let Some(ticket) = ended else {
         return Ok(None);
     };
-    let hops = ticket.path.hops();
+    let hops = &ticket.path;
     release(network, hops)?;
     Ok(Some((ticket.cause, last_exchange(ticket.start, hops))))
 }

@@ -11,7 +11,6 @@ mod facts;
 mod headline;
 mod network;
 mod open_call;
-mod path;
 mod plain;
 mod refusal;
 mod refusals;
@@ -30,7 +29,6 @@ pub use headline::{
 };
 pub use network::Network;
 pub use open_call::{Hop, OpenCall, Party, Phase, exchange_of, far_of};
-pub use path::Path;
 pub use plain::Plain;
 pub use refusal::Refusal;
 pub use refusals::refusal_of;

@@ -1,6 +1,6 @@
 // The tickets of calls that ended.
 use crate::cause::Cause;
-use crate::path::Path;
+use crate::open_call::Hop;
 use std::alloc::{Allocator, Global};
 use std::marker::Model;
 use tx_plan::{ExchangeId, Line};
@@ -24,7 +24,7 @@ pub struct Ticket<A: Allocator = Global> {
     /// The event by which the call ended, by its number likewise.
     pub ended_at: u64,
     /// The circuits that the call carried, and where they led.
-    pub path: Path<A>,
+    pub path: Vec<Hop, A>,
 }
 
 impl<A: Allocator> Model for Ticket<A> {
@@ -40,6 +40,6 @@ impl<A: Allocator> Model for Ticket<A> {
       cause = t.cause;
       keyed_at = t.keyed_at;
       ended_at = t.ended_at;
-      path = t.path;
+      path = t.path.items;
     } };
 }

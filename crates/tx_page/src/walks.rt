@@ -17,7 +17,7 @@ pub fn start_of<A: Allocator>(walk: &Walk<A>) -> ExchangeId
 pub fn steps_of<A: Allocator>(walk: &Walk<A>) -> &[(GroupId, ExchangeId)]
     ensures { result.now ≡ walk.now.steps }
 {
-    walk.steps.as_slice()
+    &walk.steps
 }
 
 /// The groups that a list has before one of them.

@@ -8,7 +8,7 @@ ghost use Rattle.tx_rank.specs.inner.Marks.{IsMarked, IsInHand, IsTrail, IsOnwar
 use crate::list_scan::{Look, Tried, look_on, rank_at, untried};
 use crate::mark::Mark;
 use crate::routes::CodeNet;
-use crate::walk::{Steps, Walk, end};
+use crate::walk::{Walk, end};
 use std::alloc::Allocator;
 use tx_plan::{ExchangeId, GroupId};
 use tx_text::NoMemory;
@@ -80,10 +80,7 @@ impl<A: Allocator> Search<'_, A> {
         } = self;
         drop(before);
         drop(marks);
-        Walk {
-            start,
-            steps: Steps::of(steps),
-        }
+        Walk { start, steps }
     }
 }
 

@@ -56,4 +56,4 @@ pub use ranking::{Ranking, pair_found, rank};
 pub use reaching::{far, reached};
 pub use report::{write_asked, write_finding, write_no, write_report, write_steps, write_verdict};
 pub use routes::CodeNet;
-pub use walk::{Steps, Walk};
+pub use walk::Walk;

@@ -7,7 +7,7 @@ ghost use Rattle.tx_rank.specs.inner.Judged.{IsLongFrom, IsLongFound};
 use crate::list_scan::{onward, rank_at};
 use crate::mark::Mark;
 use crate::routes::CodeNet;
-use crate::walk::{Steps, Walk};
+use crate::walk::Walk;
 use std::alloc::Allocator;
 use tx_plan::{ExchangeId, GroupId};
 use tx_text::NoMemory;
@@ -75,7 +75,7 @@ fn walk_down<A: Allocator + Copy, N: CodeNet>(
     }
     Ok(Walk {
         start: origin,
-        steps: Steps::of(steps),
+        steps,
     })
 }
 

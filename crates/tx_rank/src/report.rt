@@ -112,7 +112,7 @@ fn write_walk<A: Allocator, W: Sink>(
     put_bytes(plan.code_figures(code), sink);
     put_bytes(b" VIA ", sink);
     put_bytes(plan.exchange_name(walk.start), sink);
-    write_steps(plan, walk.steps.as_slice(), sink);
+    write_steps(plan, &walk.steps, sink);
 }
 
 /// Writes the steps of a walk, and the end of the line.

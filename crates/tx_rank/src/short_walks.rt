@@ -10,7 +10,7 @@ use crate::finding::Finding;
 use crate::list_scan::rank_at;
 use crate::mark::Mark;
 use crate::routes::CodeNet;
-use crate::walk::{Steps, Walk};
+use crate::walk::Walk;
 use std::alloc::Allocator;
 use tx_plan::{CodeId, ExchangeId};
 use tx_text::NoMemory;
@@ -75,10 +75,7 @@ fn walk_to<A: Allocator + Copy, N: CodeNet>(
         }
     }
     steps.reverse();
-    Ok(Walk {
-        start: at,
-        steps: Steps::of(steps),
-    })
+    Ok(Walk { start: at, steps })
 }
 
 /// Adds a walk to the exchange at an index, if its list is too short.

@@ -8,7 +8,7 @@ use crate::left::Left;
 use crate::nearest::{Ways, nearest_step};
 use std::alloc::Allocator;
 use tx_plan::ExchangeId;
-use tx_rank::{Steps, Walk};
+use tx_rank::Walk;
 use tx_text::NoMemory;
 
 /// A shortest walk from where calls may start to a dead end, if there is one.
@@ -31,8 +31,5 @@ pub fn walk_from<A: Allocator + Copy>(
         steps.push((step.group, step.to))?;
         at = step.to;
     }
-    Ok(Walk {
-        start,
-        steps: Steps::of(steps),
-    })
+    Ok(Walk { start, steps })
 }

@@ -83,5 +83,5 @@ fn write_walk<A: Allocator, W: Sink>(
     put_bytes(start, sink);
     put_bytes(b" VIA ", sink);
     put_bytes(start, sink);
-    write_steps(plan, walk.steps.as_slice(), sink);
+    write_steps(plan, &walk.steps, sink);
 }

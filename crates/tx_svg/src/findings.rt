@@ -36,7 +36,7 @@ fn goes<A: Allocator>(walk: &Walk<A>, from: ExchangeId, to: ExchangeId) -> bool
     ensures { result ≡ goes walk.now.start walk.now.steps from to }
 {
     let mut at = walk.start;
-    for step in walk.steps.as_slice() {
+    for step in &walk.steps {
         if at == from && step.1 == to {
             return true;
         }

@@ -137,13 +137,6 @@ impl Figures {
     {
         self.text.bytes()
     }
-
-    /// The figures, and zeros after them up to twelve bytes.
-    pub fn padded(&self) -> &[u8; 12]
-        ensures { result.now ≡ padded_to 12 self.now }
-    {
-        self.text.padded()
-    }
 }
 
 pub(crate) fn is_figure(byte: u8) -> bool
@@ -152,19 +145,12 @@ pub(crate) fn is_figure(byte: u8) -> bool
     b'0' <= byte && byte <= b'9'
 }
 
-/// Whether a text is figures.
-fn all_figures(text: &[u8]) -> bool
-    ensures { result ≡ list_all is_figure text.now }
-{
-    text.iter().all(|byte| is_figure(*byte))
-}
-
 /// Whether the text is at least `least` and at most `most` figures, and nothing else.
 pub fn are_figures(text: &[u8], least: usize, most: usize) -> bool
     ensures gives { result ≡ are_figures least most text.now }
     ensures short { result ≡ true → length text.now ≤ most }
 {
-    text.len() >= least && text.len() <= most && all_figures(text)
+    text.len() >= least && text.len() <= most && text.iter().all(|byte| is_figure(*byte))
 }
 
 /// The number that the text is the decimal form of, without a sign or leading zeros, if it is at

@@ -33,7 +33,7 @@ pub fn write_ticket<A: Allocator, B: Allocator, W: Sink>(
     put_caller(ticket, plan, &mut text);
     put_events(ticket, &mut text);
     put_why(ticket, plan, &mut text);
-    write_path(ticket.path.hops(), plan, &mut text, sink);
+    write_path(&ticket.path, plan, &mut text, sink);
     finish(sink)
 }
 

@@ -11,7 +11,7 @@ ghost use Rattle.tx_machine.specs.inner.GivenUp.{ends_by, with_more, is_given, A
 
 use crate::plain::calls::seizes;
 use crate::plain::circuit_marks::CircuitMarks;
-use crate::{Cause, Hop, OpenCall, Path, Phase, Ticket};
+use crate::{Cause, Hop, OpenCall, Phase, Ticket};
 use std::alloc::Allocator;
 use tx_plan::{Circuit, GroupId, Plan};
 
@@ -73,17 +73,7 @@ fn hops_use(hops: &[Hop], group: GroupId) -> bool
     hops.iter().any(|hop| hop.circuit.group == group)
 }
 
-/// Whether one of the calls that go on seizes the circuit.
-fn kept<A: Allocator>(calls: &[OpenCall<A>], ends: &Ends, circuit: &Circuit) -> bool
-    ensures { result ≡ list_any (λ c. not (ends_by ends.now (call_seen c))
-        && seizes (call_seen c) circuit.now) calls.now }
-{
-    calls
-        .iter()
-        .any(|call| !is_ended(call, ends) && seizes(call, circuit))
-}
-
-/// Gives up one circuit.
+/// Gives up one circuit, if none of the calls that go on seizes it.
 fn give<A: Allocator>(
     calls: &[OpenCall<A>],
     ends: &Ends,
@@ -94,11 +84,12 @@ fn give<A: Allocator>(
     ensures { releasing.new ≡ with_more releasing.old
         (filter (is_given ends.now (map call_seen calls.now)) (circuit.now ∷ [])) }
 {
-    let is_kept = kept(calls, ends, circuit);
-    if is_kept {
-        return;
+    let is_kept = calls
+        .iter()
+        .any(|call| !is_ended(call, ends) && seizes(call, circuit));
+    if !is_kept {
+        releasing.set(circuit);
     }
-    releasing.set(circuit);
 }
 
 /// Gives up the circuits of hops.
@@ -195,7 +186,7 @@ fn ticket<A: Allocator>(plan: &Plan<A>, call: OpenCall<A>, cause: Cause, event: 
         cause,
         keyed_at,
         ended_at: event,
-        path: Path::of(hops),
+        path: hops,
     }
 }
 

@@ -193,7 +193,7 @@ impl Picture {
             self.note_given_up(circuit)?;
         }
         self.calls.retain(|call| call.number != ticket.number);
-        for hop in ticket.path.hops() {
+        for hop in &ticket.path {
             self.note_given_up(hop.circuit)?;
         }
         Ok(())

@@ -94,7 +94,7 @@ fn is_same<A: Allocator, B: Allocator>(ticket: &Ticket<A>, other: &Ticket<B>) ->
         && ticket.cause == other.cause
         && ticket.keyed_at == other.keyed_at
         && ticket.ended_at == other.ended_at
-        && ticket.path.hops() == other.path.hops()
+        && ticket.path.as_slice() == other.path.as_slice()
 }
 
 /// Compares the oldest tickets of two networks, if there are any.
