@@ -145,12 +145,19 @@ pub(crate) fn is_figure(byte: u8) -> bool
     b'0' <= byte && byte <= b'9'
 }
 
+/// Whether a text is figures.
+fn all_figures(text: &[u8]) -> bool
+    ensures { result ≡ list_all is_figure text.now }
+{
+    text.iter().all(|byte| is_figure(*byte))
+}
+
 /// Whether the text is at least `least` and at most `most` figures, and nothing else.
 pub fn are_figures(text: &[u8], least: usize, most: usize) -> bool
     ensures gives { result ≡ are_figures least most text.now }
     ensures short { result ≡ true → length text.now ≤ most }
 {
-    text.len() >= least && text.len() <= most && text.iter().all(|byte| is_figure(*byte))
+    text.len() >= least && text.len() <= most && all_figures(text)
 }
 
 /// The number that the text is the decimal form of, without a sign or leading zeros, if it is at
