@@ -3,7 +3,7 @@
 
 Lists what stands in a wrong room or has outgrown its room, with file and line; exits 1 if there is any:
 - an import of specs/inner or of proofs of this repository in specs/ outside of inner, and an import of such proofs in specs/inner;
-- a file of more than 400 lines, a function whose body has more than 40, a library of more than 105 functions, and a folder of a program's with more (data, and what
+- a file of more than 400 lines, a function whose body has more than 40, a library of more than 101 functions, and a folder of a program's with more (data, and what
   derives write, do not count)."""
 import collections
 import glob
@@ -11,7 +11,7 @@ import os
 import re
 import sys
 
-FILE, BODY, CRATE = 400, 40, 105
+FILE, BODY, CRATE = 400, 40, 101
 IMPORT = re.compile(r"use Rattle\.(\w+)\.(specs|proofs)\.(\w+)")
 FUNCTION = re.compile(r"(\s*)(?:#\[[^\]]*\] )?(?:pub(?:\(\w+\))? )?(?:const |unsafe )*fn (\w+)")
 
