@@ -73,7 +73,17 @@ fn hops_use(hops: &[Hop], group: GroupId) -> bool
     hops.iter().any(|hop| hop.circuit.group == group)
 }
 
-/// Gives up one circuit, if none of the calls that go on seizes it.
+/// Whether one of the calls that go on seizes the circuit.
+fn kept<A: Allocator>(calls: &[OpenCall<A>], ends: &Ends, circuit: &Circuit) -> bool
+    ensures { result ≡ list_any (λ c. not (ends_by ends.now (call_seen c))
+        && seizes (call_seen c) circuit.now) calls.now }
+{
+    calls
+        .iter()
+        .any(|call| !is_ended(call, ends) && seizes(call, circuit))
+}
+
+/// Gives up one circuit.
 fn give<A: Allocator>(
     calls: &[OpenCall<A>],
     ends: &Ends,
@@ -84,12 +94,11 @@ fn give<A: Allocator>(
     ensures { releasing.new ≡ with_more releasing.old
         (filter (is_given ends.now (map call_seen calls.now)) (circuit.now ∷ [])) }
 {
-    let is_kept = calls
-        .iter()
-        .any(|call| !is_ended(call, ends) && seizes(call, circuit));
-    if !is_kept {
-        releasing.set(circuit);
+    let is_kept = kept(calls, ends, circuit);
+    if is_kept {
+        return;
     }
+    releasing.set(circuit);
 }
 
 /// Gives up the circuits of hops.

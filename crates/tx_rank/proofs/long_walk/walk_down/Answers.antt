@@ -1,7 +1,6 @@
 use Rattle.std.proofs.Common.{ap, sym, ◌-◌, subst, List, ℕ, arith, length, length-append, ◌++◌, ◌∷◌, [], ◌≡◌, ◌∙◌}
 use Rattle.tx_rank.specs.inner.Marks.{rank_in}
 use Rattle.tx_rank.proofs.Tracing.{IsDown, down_more, goes_down, down_none}
-use Rattle.tx_rank.specs.Walks.{Goes, end_of}
 use Rattle.tx_rank.proofs.long_walk.walk_down.Goals as goal
 
 pub unreachable-requires : goal.unreachable-requires
@@ -34,14 +33,14 @@ pub lower-requires : goal.lower-requires
 lower-requires g c = c.requires.passed.long
 
 pub returns-clause-walk : goal.returns-clause-walk
-returns-clause-walk g c = record { origin = c.requires.origin; goes = subst (Goes (g.N.CodeNet.net c.args.net.now) c.args.origin) (sym c.of.ensures) c.loop-i.invariant.down.goes }
+returns-clause-walk g c = record { origin = c.requires.origin; goes = c.loop-i.invariant.down.goes }
 
 pub returns-clause-count : goal.returns-clause-count
-returns-clause-count g c = let q = ap length c.of.ensures in let k = c.loop-i.invariant.count in let t = c.loop-i-test.false in let a = c.loop-i.auto.i-end in omega arith
+returns-clause-count g c = let k = c.loop-i.invariant.count in let t = c.loop-i-test.false in let a = c.loop-i.auto.i-end in omega arith
 
 pub returns-clause-end : goal.returns-clause-end
 returns-clause-end g c = λ h.
     let d = c.loop-i.invariant.down in
-    let home = ap (rank_in c.args.marks.now) (sym d.ends ∙ ap (end_of c.args.origin) (sym c.of.ensures) ∙ h) in
+    let home = ap (rank_in c.args.marks.now) (sym d.ends ∙ h) in
     let none : d.high ≡ 0 = let z = sym d.ranked ∙ home ∙ c.requires.passed.ranks.home in cc in
     let s = d.sum in let k = c.loop-i.invariant.count in let a = c.loop-i.auto.i-end in let l = c.requires.high in omega arith

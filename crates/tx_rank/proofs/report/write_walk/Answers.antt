@@ -5,4 +5,4 @@ pub returns : goal.returns
 returns g c =
     rw (← c.walk.view_is)
     (puts_then c.put_bytes.ensures (puts_then (rw c.code_figures.ensures.value at c.put_bytes-2.ensures) (puts_then c.put_bytes-3.ensures
-    (puts_then (rw c.exchange_name.ensures.value at c.put_bytes-4.ensures) (rw c.as_slice.ensures at c.write_steps.ensures)))))
+    (puts_then (rw c.exchange_name.ensures.value at c.put_bytes-4.ensures) (rw c.deref.ensures.value at c.write_steps.ensures)))))

@@ -48,7 +48,6 @@ pub returns-clause-dead : goal.returns-clause-dead
 returns-clause-dead g c =
     let n = left_net c.args.left.now in
     let l = c.loop-step in
-    subst (IsDeadEnd n c.args.start) (sym c.of.ensures)
     (descent_ends n c.args.kept.now c.requires.ways c.args.start l.at l.steps.items
     l.invariant (sym c.nearest_step.ensures ∙ c.in_default.is)).0
 
@@ -58,4 +57,3 @@ returns-clause-shortest g c =
     let l = c.loop-step in
     (descent_ends n c.args.kept.now c.requires.ways c.args.start l.at l.steps.items
     l.invariant (sym c.nearest_step.ensures ∙ c.in_default.is)).1
-    ∙ ap (λ (s : List (ℕ × ℕ)). Some (length s)) (sym c.of.ensures)
