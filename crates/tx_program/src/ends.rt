@@ -187,12 +187,22 @@ impl<'a, W: Write + Drop, A: Allocator> Sink for OutputSink<'a, W, A> {
 
 /// A reader before each of whose reads an output goes out. What it has read ahead it gives without
 /// one.
-#[derive(Drop)]
 pub(crate) struct Flushing<'a, R: Read + Drop, W: Write + Drop, A: Allocator> {
     reader: Option<BufReader<R, A>>,
     /// Which of the inputs it is.
     index: usize,
     output: &'a Output<W, A>,
+}
+
+impl<R: Read + Drop, W: Write + Drop, A: Allocator> Drop for Flushing<'_, R, W, A> {
+    fn drop(self) {
+        let Self {
+            reader,
+            index: _,
+            output: _,
+        } = self;
+        drop(reader);
+    }
 }
 
 impl<'a, R: Read + Drop, W: Write + Drop, A: Allocator> Read for Flushing<'a, R, W, A> {

@@ -7,10 +7,18 @@ use tx_commands::{Place, STANDARD_INPUT};
 use tx_jobs::JobFault;
 
 /// What a command reads: standard input, or a file.
-#[derive(Drop)]
 pub(crate) enum Input<I: Read + Drop, R: Read + Drop> {
     Standard(I),
     File(R),
+}
+
+impl<I: Read + Drop, R: Read + Drop> Drop for Input<I, R> {
+    fn drop(self) {
+        match self {
+            Input::Standard(input) => drop(input),
+            Input::File(file) => drop(file),
+        }
+    }
 }
 
 impl<I: Read + Drop, R: Read + Drop> Read for Input<I, R> {

@@ -13,4 +13,4 @@ returns g c =
     let p = c.args.plan.now in
     let t = c.args.ticket.now in
     puts_wrote _ some (puts_is (cut (caller_text p t) (events_text t) (why_text p t) _)
-    (rw (c.put_why.ensures.text, c.put_events.ensures.text, c.put_caller.ensures.text, c.hops.ensures, ap (λ (e : Ended). e.path) c.ticket.view_is) at c.write_path.ensures)) c.finish.ensures
+    (rw (c.put_why.ensures.text, c.put_events.ensures.text, c.put_caller.ensures.text, c.deref.ensures.value, ap (λ (e : Ended). e.path) c.ticket.view_is) at c.write_path.ensures)) c.finish.ensures
