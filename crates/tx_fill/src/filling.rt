@@ -92,7 +92,7 @@ fn settle<A: Allocator + Copy>(
     let Some(ticket) = ended else {
         return Ok(None);
     };
-    let hops = &ticket.path;
+    let hops = ticket.path.as_slice();
     release(network, hops)?;
     Ok(Some((ticket.cause, last_exchange(ticket.start, hops))))
 }
