@@ -41,7 +41,7 @@ fn takes_list<A: Allocator>(
     ensures { result ≡ listed_by old.now code spare walk.now exchange }
 {
     let mut at = walk.start;
-    let steps = &walk.steps;
+    let steps = walk.steps.as_slice();
     for i in 0..steps.len() {
         let (group, to) = steps[i];
         if at == exchange {
