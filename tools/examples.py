@@ -572,6 +572,22 @@ def check_replaced(program, tell):
             tell(f"a file that is made by a link leaves {sorted(os.listdir(room))}")
 
 
+def check_names_beside(program, tell):
+    """A hundred names are tried for the new file beside the old one, and no more."""
+    with tempfile.TemporaryDirectory() as room:
+        old = os.path.join(room, "old")
+        for name in [old, *(f"{old}.{n}.new" for n in range(1, 100))]:
+            write(name, "old\n")
+        check_done(audit(program, old), "a file beside which 99 names are taken", tell)
+        if read(old) != cert():
+            tell("a file beside which 99 names are taken has other bytes")
+        write(old, "old\n")
+        write(f"{old}.100.new", "old\n")
+        status = audit(program, old)[0]
+        if status != 3 or read(old) != b"old\n" or len(os.listdir(room)) != 101:
+            tell(f"a file beside which all names are taken: the status is {status}, and {len(os.listdir(room))} files are there")
+
+
 def check_apart(program, tell):
     """A plan that is read is not replaced by another name of it, and the first file that is made is not replaced by the second one."""
     with tempfile.TemporaryDirectory() as room:
@@ -795,7 +811,7 @@ def main(words):
     told = []
     if not only_pages:
         check_examples(program, told.append)
-        for check in (check_odd_tables, check_arguments, check_terminal, check_replaced, check_apart, check_page_apart, check_outputs, check_pipe_and_device, check_no_leave, check_no_name, check_order, check_manual_commands, check_offers):
+        for check in (check_odd_tables, check_arguments, check_terminal, check_replaced, check_names_beside, check_apart, check_page_apart, check_outputs, check_pipe_and_device, check_no_leave, check_no_name, check_order, check_manual_commands, check_offers):
             check(program, told.append)
     check_pages(told.append)
     check_explained(told.append)

@@ -36,11 +36,11 @@ module _ {A : Type 0} where
       × (shown_events m.shown ≡ None) × (m.cert ≡ Some cert)
       × HasTextIf asked text p (plan_file p m.text)
 
-  -- status 0, and they
+  -- status 0, and they; memory can run out only where they are asked for
   abbrev pub EndsMended : (asked : Bool) → (text : List ℕ) → Plan → Certificate
       → Result (Ending A) CommandFault → Type 0
   EndsMended asked text p cert (Ok e) = (e.status ≡ 0) × HasMended asked text p cert e.made
-  EndsMended asked text p cert (Err fault) = fault ≡ memory_stop
+  EndsMended asked text p cert (Err fault) = (asked ≡ true) × (fault ≡ memory_stop)
 
   -- after a No status 1, and nothing goes into files
   abbrev pub MendEnds : MendRequest → Vec ℕ A × Mending A → Result (Ending A) CommandFault → Type 0

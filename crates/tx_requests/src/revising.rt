@@ -1,5 +1,5 @@
 // The text of a plan that was made.
-ghost use Rattle.std.specs.Prelude.{◌≡◌, IfOk, IfErr};
+ghost use Rattle.std.specs.Prelude.{◌≡◌, true, IfOk, IfErr};
 ghost use Rattle.tx_plan.specs.Rules.{IsPlan};
 ghost use Rattle.tx_requests.specs.Faults.{memory_stop};
 ghost use Rattle.tx_requests.specs.Made.{text_of, plan_file, IsTextOfMade, HasTextIf};
@@ -21,6 +21,7 @@ pub(crate) fn text_if_asked<A: Allocator + Copy>(
     requires { IsPlan made.now }
     ensures made { IfOk result (λ t. HasTextIf asked text.now made.now (plan_file made.now t)) }
     ensures refused { IfErr result (λ fault. fault ≡ memory_stop) }
+    ensures asked { IfErr result (λ fault. asked ≡ true) }
 {
     if asked {
         Ok(Some(text_of_made(alloc, text, made)?))

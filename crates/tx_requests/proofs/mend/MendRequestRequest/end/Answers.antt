@@ -12,9 +12,10 @@ returns-in-Mended g c =
 
 pub returns-in_err-text-in-Mended : goal.returns-in_err-text-in-Mended
 returns-in_err-text-in-Mended g c =
+    let asked = rw c.is_some.ensures at c.in_err-text-in-Mended.ensures.asked in
     rw c.in-Mended.is
     (rw (exits_with c.from_residual.result c.in_err-text-in-Mended.field-0.0 c.from_residual.ensures.1)
-    c.in_err-text-in-Mended.ensures.refused)
+    (asked, c.in_err-text-in-Mended.ensures.refused))
 
 pub returns : goal.returns
 returns g c = rw c.in-NoRouting.is (c.of.ensures.status, c.of.ensures.made)
