@@ -12,7 +12,7 @@ use Rattle.tx_circuits.proofs.Linked.{le_or}
 lt_false : (k n : ℕ) → n ≤ k → nat_lt k n ≡ false
 lt_false k n h = grind (arith, nat_tests)
 
-ltb_tells : (k n : ℕ) → ((nat_lt k n ≡ true) × (k < n)) ⊎ ((nat_lt k n ≡ false) × (n ≤ k))
+pub ltb_tells : (k n : ℕ) → ((nat_lt k n ≡ true) × (k < n)) ⊎ ((nat_lt k n ≡ false) × (n ≤ k))
 ltb_tells k n = elim (le_or n k) [ inl y ↦ inr (lt_false k n y, y) | inr y ↦ inl (below k n y, y) ]
 
 module _ (free : ℕ → Bool) where

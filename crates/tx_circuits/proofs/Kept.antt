@@ -2,19 +2,22 @@
 use Rattle.std.proofs.Common.{◌≡◌, ◌≢◌, ◌∙◌, ℕ, zero, suc, ◌+◌, ◌-◌, ◌<◌, ◌≤◌, inl, inr, true, List, [], ◌∷◌, ◌++◌, length, map, take, drop, Some, slice_index_or, slice_set, refl, sym, ap, subst, arith}
 use Rattle.std.specs.Prelude.{slice_get, is_some, replicate}
 use Rattle.std.specs.Option.{option_map}
-use Rattle.std.specs.List.{between}
+use Rattle.std.specs.List.{between, range_with_len}
 use Rattle.std.proofs.lemmas.Bool.Decides.{eqb_tells}
-use Rattle.std.proofs.lemmas.List.{length-map, take_all, drop_at, take-append-le, length-append, length-replicate, map_push}
+use Rattle.std.proofs.lemmas.List.{length-map, take_all, drop_at, take-append-le, length-append, map_push}
+use Rattle.std.proofs.lemmas.List.FromFn.{length-map-range_with_len}
 use Rattle.std.proofs.lemmas.List.Edits.{length-between, get_or-between}
 use Rattle.std.proofs.lemmas.Option.{slice_get-map, slice_get_within}
 use Rattle.std.proofs.lemmas.Slice.{between_is, take-put_mid_below, drop-put_mid, between-put_mid}
 use borrow.Rule.Slice.PartMut.{put_mid}
 use Rattle.tx_circuits.specs.declared.slot.Slot.{Slot}
 use Rattle.tx_circuits.specs.declared.slot.CircuitState.{CircuitState}
+use Rattle.tx_circuits.specs.declared.lists.End.{End}
 use Rattle.tx_circuits.specs.declared.groups.Row.{Row}
 use Rattle.tx_circuits.specs.declared.groups.GroupHead.{GroupHead}
-use Rattle.tx_circuits.specs.inner.Slots.{state_of, IsSound}
-use Rattle.tx_circuits.specs.inner.Groups.{GroupState, group_slots, group_state, entry_numbered, set_numbered, change_at, idle, AreKept, AreApart, IsAppended}
+use Rattle.tx_circuits.specs.inner.Slots.{state_of, list_of, list_of_all, IsSound}
+use Rattle.tx_circuits.specs.inner.Groups.{GroupState, group_slots, group_state, entry_numbered, set_numbered, change_at, idle, free_slot, AreKept, AreApart, IsAppended}
+use Rattle.tx_circuits.proofs.AllFree.{all_idle, all_sound}
 use Rattle.tx_circuits.proofs.Linked.{le_or}
 use Rattle.tx_circuits.proofs.FreeLists.{get_is, get-set_here, get-set_there, some_is, pushed_is, map-set_change}
 
@@ -105,13 +108,6 @@ module _ (slots : List Slot) (rows : List Row) (kept : AreKept slots rows) (g : 
 
 -- ONE GROUP MORE
 
--- the vector grows
-pub grown : (slots : List Slot) (k n : ℕ) (slot : Slot) → n ≡ length slots + k → take n slots ++ replicate (n - length slots) slot ≡ slots ++ replicate k slot
-grown slots k n slot e = (λ i. take_all n slots (omega arith) i ++ replicate (less i) slot)
-  where
-    less : n - length slots ≡ k
-    less = omega arith
-
 pub grown_before : (slots more : List Slot) (s : Row) → s.start + s.count ≤ length slots → group_slots (slots ++ more) s ≡ group_slots slots s
 grown_before slots more s h =
     between_is (slots ++ more) s.start (s.start + s.count) ∙ ap (drop s.start) (take-append-le (s.start + s.count) slots more h) ∙ sym (between_is slots s.start (s.start + s.count))
@@ -119,10 +115,6 @@ grown_before slots more s h =
 pub grown_here : (slots more : List Slot) (s : Row) → s.start ≡ length slots → s.count ≡ length more → group_slots (slots ++ more) s ≡ more
 grown_here slots more s e f =
     ap (take (s.start + s.count - s.start)) (drop_at slots more s.start (sym e)) ∙ take_all (s.start + s.count - s.start) more (omega arith)
-
-pub states_alike : (k : ℕ) (slot : Slot) → map state_of (replicate k slot) ≡ replicate k slot.state
-states_alike zero slot = refl
-states_alike (suc k) slot = ap (λ (l : List CircuitState). slot.state ∷ l) (states_alike k slot)
 
 module _ (slots rest : List Slot) (rows : List Row) (kept : AreKept slots rows) (longer : length slots ≤ length rest)
     (same : (s : Row) → s.start + s.count ≤ length slots → group_slots rest s ≡ group_slots slots s) where
@@ -214,23 +206,23 @@ view_at slots rows now g i row view is at = (λ j. slice_get (sym view j) (sym i
 
 -- A GROUP IS ADDED
 
--- its slots are made and listed
-module _ (slots mid new : List Slot) (row0 row : Row) (start : row0.start ≡ length slots) (row_is : row ≡ record row0 { lists = row.lists }) (slot : Slot) (is_idle : slot.state ≡ idle)
-    (mid_is : mid ≡ slots ++ replicate row0.count slot) (long : length new ≡ length mid) (sound : IsSound (group_slots new row0) row.lists)
-    (states : map state_of (group_slots new row0) ≡ map state_of (group_slots mid row0)) (rest : (s : Row) → AreApart row0 s → group_slots new s ≡ group_slots mid s) where
-  mid_length : length mid ≡ length slots + row0.count
-  mid_length = ap length mid_is ∙ length-append slots (replicate row0.count slot) ∙ ap (λ (n : ℕ). length slots + n) (length-replicate row0.count slot)
+-- its slots are made
+module _ (slots : List Slot) (row : Row) (start : row.start ≡ length slots) (short : row.count ≤ 240) (heads : (end : End) → list_of end row.lists ≡ list_of_all row.count) where
+  abbrev more : List Slot
+  more = map (free_slot row.count) (range_with_len 0 row.count)
 
-  pub appended : IsAppended slots new row0.head row0.count row
+  here : group_slots (slots ++ more) row ≡ more
+  here = grown_here slots more row start (sym (length-map-range_with_len (free_slot row.count) 0 row.count))
+
+  pub appended : IsAppended slots (slots ++ more) row.head row.count row
   appended = record {
-    head_is = ap (λ (r : Row). r.head) row_is;
-    start_is = ap (λ (r : Row). r.start) row_is ∙ start;
-    count_is = ap (λ (r : Row). r.count) row_is;
-    grown = long ∙ mid_length;
-    sound = subst (λ (r : Row). IsSound (group_slots new r) row.lists) (sym row_is) sound;
-    states = ap (λ (r : Row). map state_of (group_slots new r)) row_is ∙ states ∙ ap (λ (l : List Slot). map state_of (group_slots l row0)) mid_is
-        ∙ ap (map state_of) (grown_here slots (replicate row0.count slot) row0 start (sym (length-replicate row0.count slot))) ∙ states_alike row0.count slot ∙ ap (replicate row0.count) is_idle;
-    others = λ s h. rest s (inr (omega arith)) ∙ ap (λ (l : List Slot). group_slots l s) mid_is ∙ grown_before slots (replicate row0.count slot) s h;
+    head_is = refl;
+    start_is = start;
+    count_is = refl;
+    grown = length-append slots more ∙ ap (λ (n : ℕ). length slots + n) (length-map-range_with_len (free_slot row.count) 0 row.count);
+    sound = subst (λ (l : List Slot). IsSound l row.lists) (sym here) (all_sound row.count short row.lists heads);
+    states = ap (map state_of) here ∙ all_idle row.count 0 row.count;
+    others = λ s h. grown_before slots more s h;
   }
 
 -- and its row joins the others, or does not

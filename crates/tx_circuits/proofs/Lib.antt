@@ -1,3 +1,4 @@
+pub mod AllFree
 pub mod Appending
 pub mod Before
 pub mod Built

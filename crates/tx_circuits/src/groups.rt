@@ -88,19 +88,6 @@ impl Row {
         let part = &mut slots[self.start..self.start + self.count];
         self.lists = clear(part);
     }
-
-    /// Makes the lists anew.
-    pub fn relist(&mut self, slots: &mut [Slot])
-        requires within { self.old.start + self.old.count ≤ length slots.old }
-        requires short { self.old.count ≤ 240 }
-        ensures row { self.new ≡ record self.old { lists = self.new.lists } }
-        ensures sound { IsSound (group_slots slots.new self.old) self.new.lists }
-        ensures states { states_in slots.new self.old ≡ states_in slots.old self.old }
-        ensures rest { OthersStay slots.old slots.new self.old }
-    {
-        let part = &mut slots[self.start..self.start + self.count];
-        self.lists = relist(part);
-    }
 }
 
 // Gives a circuit a state. Walks a list only where the circuit comes back to it.
@@ -198,7 +185,7 @@ impl<A: Allocator + Copy> Groups<A> {
     }
 }
 
-// Appends the slots of a group, all idle, and gives its row.
+// Appends the slots of a group, all free and linked, and gives its row.
 fn append_group<A: Allocator>(
     slots: &mut Vec<Slot, A>,
     head: GroupHead,
@@ -208,15 +195,21 @@ fn append_group<A: Allocator>(
     ensures ok { IfOk result (IsAppended slots.old.items slots.new.items head count) }
     ensures err { OnErr result (slots.new.items ≡ slots.old.items) }
 {
-    let mut row = Row {
+    let start = slots.len();
+    slots.reserve(count)?;
+    for index in 0..count {
+        slots.push_reserved(Slot::among(index, count));
+    }
+    let all = FreeList::of_all(count);
+    Ok(Row {
         head,
-        start: slots.len(),
+        start,
         count,
-        lists: FreeLists::new(),
-    };
-    slots.resize(row.start + count, Slot::idle())?;
-    row.relist(slots.as_mut_slice());
-    Ok(row)
+        lists: FreeLists {
+            first: all,
+            other: all,
+        },
+    })
 }
 
 impl<A: Allocator> Groups<A> {

@@ -3,7 +3,7 @@
 ghost use Rattle.std.specs.Prelude.{◌≡◌, ◌<◌, None, ◌≢◌, ◌≤◌, ℕ, Option, Some, true, false, map, length, IfSome};
 ghost use Rattle.tx_circuits.specs.declared.lists.End.{End as EndValue};
 ghost use Rattle.tx_circuits.specs.declared.lists.Way.{Way as WayValue};
-ghost use Rattle.tx_circuits.specs.inner.Slots.{ahead, back, begins, list_of, rank_of, free_at, link_at, chain, is_free, state_of, opposite, IsListed, AreNeighbours};
+ghost use Rattle.tx_circuits.specs.inner.Slots.{ahead, back, begins, least_from, greatest_before, links_among, list_of_all, list_of, rank_of, free_at, link_at, chain, is_free, state_of, opposite, IsListed, AreNeighbours};
 ghost use Rattle.tx_circuits.specs.inner.Linked.{IsLast, with};
 
 use crate::slot::{CircuitState, Slot};
@@ -37,6 +37,30 @@ impl Way {
     }
 }
 
+// The least index from this one on, of so many.
+fn least_from(index: usize, count: usize) -> Option<u8>
+    requires { count ≤ 240 }
+    ensures { result ≡ least_from index count }
+{
+    if index < count {
+        Some(index as u8)
+    } else {
+        None
+    }
+}
+
+// The greatest index before this one.
+fn greatest_before(index: usize) -> Option<u8>
+    requires { index ≤ 240 }
+    ensures { result ≡ greatest_before index }
+{
+    if index == 0 {
+        None
+    } else {
+        Some((index - 1) as u8)
+    }
+}
+
 /// The circuits beside one in a free list, by their indexes in the group.
 #[derive(Clone, Copy)]
 pub struct Links {
@@ -45,6 +69,18 @@ pub struct Links {
 }
 
 impl Links {
+    /// The links at an index of so many circuits that are all free.
+    pub fn among(index: usize, count: usize) -> Links
+        requires index { index < count }
+        requires short { count ≤ 240 }
+        ensures { result ≡ links_among count index }
+    {
+        Links {
+            above: least_from(index + 1, count),
+            below: greatest_before(index),
+        }
+    }
+
     /// The neighbour in a way.
     pub fn ahead(self, way: Way) -> Option<u8>
         ensures { result ≡ ahead way self }
@@ -75,6 +111,17 @@ pub struct FreeList {
 }
 
 impl FreeList {
+    /// The list of so many circuits that are all free.
+    pub fn of_all(count: usize) -> FreeList
+        requires { count ≤ 240 }
+        ensures { result ≡ list_of_all count }
+    {
+        FreeList {
+            least: least_from(0, count),
+            greatest: greatest_before(count),
+        }
+    }
+
     /// Where the list begins in a way.
     pub fn begins(&self, way: Way) -> Option<u8>
         ensures { result ≡ begins way self.now }

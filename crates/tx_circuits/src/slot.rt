@@ -1,6 +1,6 @@
 // What is kept of a circuit.
-ghost use Rattle.std.specs.Prelude.{◌≡◌, true, false};
-ghost use Rattle.tx_circuits.specs.inner.Groups.{idle};
+ghost use Rattle.std.specs.Prelude.{◌≡◌, ◌≤◌, ◌<◌, true, false};
+ghost use Rattle.tx_circuits.specs.inner.Groups.{idle, free_slot};
 ghost use Rattle.tx_circuits.specs.inner.Slots.{links_of, ahead, back, opposite, is_free, has_seized, with_seized, cleared_state};
 
 use crate::lists::{End, Links, Way};
@@ -91,18 +91,17 @@ pub struct Slot {
 }
 
 impl Slot {
-    /// The slot of a circuit that no call holds, on no list.
-    pub fn idle() -> Slot
-        ensures { result.state ≡ idle }
+    /// The slot at an index of so many circuits that are all free.
+    pub fn among(index: usize, count: usize) -> Slot
+        requires index { index < count }
+        requires short { count ≤ 240 }
+        ensures { result ≡ free_slot count index }
     {
-        let none = Links {
-            above: None,
-            below: None,
-        };
+        let links = Links::among(index, count);
         Slot {
             state: CircuitState::idle(),
-            first: none,
-            other: none,
+            first: links,
+            other: links,
         }
     }
 

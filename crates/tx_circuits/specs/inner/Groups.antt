@@ -11,7 +11,7 @@ use Rattle.tx_circuits.specs.declared.slot.CircuitState.{CircuitState}
 use Rattle.tx_circuits.specs.declared.slot.Slot.{Slot}
 use Rattle.tx_circuits.specs.declared.groups.GroupHead.{GroupHead}
 use Rattle.tx_circuits.specs.declared.groups.Row.{Row}
-use Rattle.tx_circuits.specs.inner.Slots.{state_of, free_in, in_order, IsSound}
+use Rattle.tx_circuits.specs.inner.Slots.{state_of, free_in, in_order, links_among, IsSound}
 
 -- a group, with the states of its circuits in order of number
 pub record GroupState : Type 0 where
@@ -78,6 +78,10 @@ idle = record {
   out = false;
 }
 
+-- the slot at an index where all of n circuits are free
+abbrev pub free_slot : ℕ → ℕ → Slot
+free_slot n index = record { state = idle; first = links_among n index; other = links_among n index }
+
 -- the slots of a group
 abbrev pub group_slots : List Slot → Row → List Slot
 group_slots slots r = between r.start (r.start + r.count) slots
@@ -106,7 +110,7 @@ pub record AreKept (slots : List Slot) (rows : List Row) : Type 0 where
       → slice_get rows h ≡ Some s → g < h → r.start + r.count ≤ s.start
   pub sound : (g : ℕ) (r : Row) → slice_get rows g ≡ Some r → IsSound (group_slots slots r) r.lists
 
--- The slots of one group more, all idle, are after those of the others.
+-- The slots of one group more, all free, are after those of the others.
 pub record IsAppended (old new : List Slot) (head : GroupHead)
     (count : ℕ) (row : Row) : Type 0 where
   pub head_is : row.head ≡ head

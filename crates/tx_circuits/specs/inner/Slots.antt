@@ -1,5 +1,5 @@
 -- What the slots of a group say of its circuits. Circuit number n is at index n - 1.
-use Rattle.std.specs.Prelude.{ℕ, zero, suc, ◌-◌, ◌≤◌, Bool, false, not, ◌&&◌, List, [], ◌∷◌, ◌++◌, map, filter, length, nat_lt, Option, Some, None, slice_index_or}
+use Rattle.std.specs.Prelude.{ℕ, zero, suc, ◌+◌, ◌-◌, ◌≤◌, if◌then◌else◌, Bool, false, not, ◌&&◌, List, [], ◌∷◌, ◌++◌, map, filter, length, nat_lt, Option, Some, None, slice_index_or}
 use Rattle.tx_circuits.specs.declared.lists.End.{End}
 use Rattle.tx_circuits.specs.declared.lists.End.TheVariants.{First, Other}
 use Rattle.tx_circuits.specs.declared.lists.Way.{Way}
@@ -53,6 +53,23 @@ ahead Down l = l.below
 abbrev pub begins : Way → FreeList → Option ℕ
 begins Up l = l.least
 begins Down l = l.greatest
+
+-- the least index from one on, of n
+abbrev pub least_from : ℕ → ℕ → Option ℕ
+least_from low n = if nat_lt low n then Some low else None
+
+-- the greatest index before one
+abbrev pub greatest_before : ℕ → Option ℕ
+greatest_before zero = None
+greatest_before (suc k) = Some k
+
+-- the links at an index where all of n circuits are free
+abbrev pub links_among : ℕ → ℕ → Links
+links_among n index = record { above = least_from (index + 1) n; below = greatest_before index }
+
+-- and the list of these circuits
+abbrev pub list_of_all : ℕ → FreeList
+list_of_all n = record { least = least_from 0 n; greatest = greatest_before n }
 
 -- the list of an end
 abbrev pub list_of : End → FreeLists → FreeList

@@ -1,27 +1,41 @@
-use Rattle.std.proofs.Common.{◌≡◌, ◌∙◌, ℕ, ◌+◌, ◌-◌, List, ◌++◌, length, map, take, sym, ap, subst, arith}
-use Rattle.std.specs.Prelude.{replicate}
-use Rattle.std.proofs.lemmas.List.{take_at}
+use Rattle.std.proofs.Common.{◌≡◌, ◌∙◌, List, sym, subst, arith}
 use Rattle.tx_circuits.specs.declared.slot.Slot.{Slot}
 use Rattle.tx_circuits.specs.declared.groups.Row.{Row}
-use Rattle.tx_circuits.specs.inner.Slots.{state_of}
-use Rattle.tx_circuits.specs.inner.Groups.{group_slots, AreApart, IsAppended}
-use Rattle.tx_circuits.proofs.Kept.{grown, appended}
+use Rattle.tx_circuits.specs.inner.Groups.{IsAppended}
+use Rattle.tx_circuits.proofs.AllFree.{none_made, one_more, each_all}
+use Rattle.tx_circuits.proofs.Indexes.{each_end}
+use Rattle.tx_circuits.proofs.Kept.{appended}
 use Rattle.tx_circuits.proofs.groups.append_group.Goals as goal
+
+pub loop-index-init : goal.loop-index-init
+loop-index-init g c =
+    let r = c.in_ok-reserve.ensures in
+    let room = r.ok in
+    let len = r.len in
+    let start = c.len-start.ensures in
+    record { made = none_made c.args.slots.now.items _ r.items; long = omega arith; room = omega arith }
+
+pub loop-index-preserved : goal.loop-index-preserved
+loop-index-preserved g c =
+    let i = c.loop-index.invariant in
+    let p = c.push_reserved.ensures in
+    let long = i.long in
+    let room = i.room in
+    let len = p.len in
+    let capacity = p.capacity in
+    record {
+      made = one_more c.args.slots.now.items c.loop-index.slots.items _ c.args.count c.loop-index.index c.among.result i.made c.among.ensures p.items;
+      long = omega arith;
+      room = omega arith;
+    }
 
 pub returns-clause-ok : goal.returns-clause-ok
 returns-clause-ok g c =
     let slots = c.args.slots.now.items in
-    let mid = c.resize.new.self.items in
-    let new = c.relist.new.slots in
-    let old : length slots ≡ c.args.slots.now.len = sym c.args.slots.now.ok.0 in
-    let start : c.len.result ≡ length slots = c.len.ensures ∙ sym old in
-    let row : Row = record { head = c.args.head; start = c.len.result; count = c.args.count; lists = c.new.result } in
-    let mid_is : mid ≡ slots ++ replicate c.args.count c.idle.result = c.in_ok-resize.ensures.items
-    ∙ ap (λ (n : ℕ). take (c.len.result + c.args.count) slots ++ replicate (c.len.result + c.args.count - n) c.idle.result) (sym old) ∙ grown slots c.args.count (c.len.result + c.args.count) c.idle.result (omega arith) in
-    let value = c.as_mut_slice.ensures.value in
-    let long : length new ≡ length mid = c.relist.auto.slots ∙ ap length value in
-    let len : length new ≡ c.resize.new.self.len = c.relist.auto.slots ∙ c.as_mut_slice.ensures.len in
-    let states : map state_of (group_slots new row) ≡ map state_of (group_slots mid row) = c.relist.ensures.states ∙ ap (λ (l : List Slot). map state_of (group_slots l row)) value in
-    let rest : (s : Row) → AreApart row s → group_slots new s ≡ group_slots mid s = λ s a. c.relist.ensures.rest s a ∙ ap (λ (l : List Slot). group_slots l s) value in
-    subst (λ (l : List Slot). IsAppended slots l c.args.head c.args.count c.relist.new.self) (sym (take_at new _ c.resize.new.self.len len))
-    (appended slots mid new row c.relist.new.self start c.relist.ensures.row c.idle.result c.idle.ensures mid_is long c.relist.ensures.sound states rest)
+    let n = c.args.count in
+    let row : Row = record { head = c.args.head; start = c.len-start.result; count = n; lists = record { first = c.of_all-all.result; other = c.of_all-all.result } } in
+    let done = c.loop-index-test.false in
+    let end = c.loop-index.auto.index-end in
+    let all : c.loop-index.index ≡ n = omega arith in
+    subst (λ (l : List Slot). IsAppended slots l c.args.head n row) (sym (c.loop-index.invariant.made ∙ each_all slots n c.loop-index.index all))
+    (appended slots row (c.len-start.ensures ∙ c.args.slots.now.ok.0) c.requires (each_end _ c.of_all-all.ensures c.of_all-all.ensures))
