@@ -96,6 +96,7 @@ def too_early(parts):
 
 # The topic whose cases are spoiled, of each command.
 CASES = dict.fromkeys(("audit", "check", "grade", "survive"), "audit, check, grade, survive: random")
+CASES["from"] = "survive --from: random"
 CASES.update({"codes": "codes: one exchange", **{it: f"{it}: random" for it in ("mend", "change", "order")}})
 
 # Each spoil: the commands whose answers it changes, and how.
