@@ -15,3 +15,4 @@ pub mod Marking
 pub mod Rows
 pub mod GroupWords
 pub mod RiskLines
+pub mod Comparing

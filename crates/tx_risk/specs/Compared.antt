@@ -1,5 +1,5 @@
 -- What outages cut off in one of two plans, beside the other one.
-use Rattle.std.specs.Prelude.{◌≡◌, ◌⊎◌, ◌<◌, ℕ, ◌+◌, Bool, true, not, ◌&&◌, ◌==◌, List, [], length, Option, None, Some, option_map, slice_get}
+use Rattle.std.specs.Prelude.{◌≡◌, ◌⊎◌, ◌<◌, ℕ, ◌+◌, if◌then◌else◌, Bool, true, not, ◌&&◌, ◌==◌, List, [], length, Option, None, Some, option_map, slice_get}
 use Rattle.std.specs.List.{find, list_any}
 use Rattle.std.specs.Option.{option_map_or, option_and_then}
 use Rattle.tx_plan.specs.Plan.{Plan, exchange_name, exchange_named, figures_of, code_named, group_name, group_named}
@@ -52,7 +52,7 @@ module _ {A : Type 0} where
   -- it is not the same: there is none, or one of the two is stray
   abbrev pub is_other_than : Option Bool → Cut A → Bool
   is_other_than None c = true
-  is_other_than (Some stray) c = not (stray == c.stray)
+  is_other_than (Some stray) c = if stray then not c.stray else c.stray
 
   -- somebody is worse off by these cuts of p than by those of q
   abbrev pub has_worse : (p q : Plan) → (mine others : List (Cut A)) → Bool

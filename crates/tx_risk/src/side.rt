@@ -2,13 +2,12 @@
 ghost use Rattle.std.specs.Prelude.{◌≡◌, length};
 ghost use Rattle.std.specs.List.{AllByRecursion};
 ghost use Rattle.tx_risk.specs.Compared.{AreInOrder, place_in, cuts_in, stray_at, stray_in, is_worse_than, is_other_than, has_worse};
-ghost use Rattle.tx_risk.specs.inner.InOrder.{order_to};
+ghost use Rattle.tx_risk.specs.inner.InOrder.{comes_before};
 
 use crate::cut::{Cut, Outcome};
 use crate::outage::Outage;
 use crate::risks::Risks;
 use std::alloc::Allocator;
-use std::cmp::Ordering;
 use std::marker::Model;
 use tx_plan::{CodeId, ExchangeId, Plan};
 
@@ -79,14 +78,12 @@ impl<'a, A: Allocator> Side<'a, A> {
     }
 }
 
-/// How a cut stands to a code and a start.
-fn compare<A: Allocator>(cut: &Cut<A>, code: CodeId, start: ExchangeId) -> Ordering
-    ensures { result ≡ order_to code start cut.now }
+/// Whether a cut comes before a code and a start.
+fn comes_before<A: Allocator>(cut: &Cut<A>, code: CodeId, start: ExchangeId) -> bool
+    ensures { result ≡ comes_before code start cut.now }
 {
-    cut.code
-        .index()
-        .cmp(&code.index())
-        .then(cut.walk.start.index().cmp(&start.index()))
+    cut.code.index() < code.index()
+        || (cut.code == code && cut.walk.start.index() < start.index())
 }
 
 /// The cut of a code from a start: whether it is stray, if there is one.
@@ -94,9 +91,12 @@ fn stray_at<A: Allocator>(cuts: &[Cut<A>], code: CodeId, start: ExchangeId) -> O
     requires { AreInOrder cuts.now }
     ensures { result ≡ stray_at cuts.now code start }
 {
-    match cuts.binary_search_by(|cut| compare(cut, code, start)) {
-        Ok(place) => Some(cuts[place].stray),
-        Err(_) => None,
+    let place = cuts.partition_point(|cut| comes_before(cut, code, start));
+    let cut = cuts.get(place)?;
+    if cut.code == code && cut.walk.start == start {
+        Some(cut.stray)
+    } else {
+        None
     }
 }
 

@@ -1,0 +1,111 @@
+-- The order of cuts, and a search in them.
+use Rattle.std.proofs.Common.{◌≡◌, ◌<◌, ◌≤◌, ◌⊎◌, ◌∙◌, if◌then◌else◌, ℕ, zero, suc, ◌+◌, Bool, true, false, nat_lt, ◌&&◌, ◌||◌, ◌==◌, List, [], ◌∷◌, ◌++◌, map, length, get_or, Option, Some, None, inl, inr, refl, sym, ap, subst, arith, tests}
+use Rattle.std.specs.List.{AllByRecursion, find, slice_get, list_any}
+use Rattle.tx_plan.specs.Plan.{Plan}
+use Rattle.tx_plan.specs.Rules.{EachPair}
+use Rattle.tx_plan.proofs.Among.{among_all}
+use Rattle.std.proofs.lemmas.Option.{slice_get-get_or}
+use Rattle.tx_plan.proofs.ByIndex.{all_at}
+use Rattle.tx_plan.proofs.Filtered.{all_joined, pairs_joined}
+use Rattle.tx_plan.proofs.Lists.{all_map}
+use Rattle.tx_risk.specs.declared.cut.Cut.{Cut}
+use Rattle.tx_risk.specs.declared.cut.Outcome.{Outcome}
+use Rattle.tx_risk.specs.declared.outage.Outage.{Outage}
+use Rattle.tx_risk.specs.Risks.{Risk}
+use Rattle.tx_risk.specs.NamedRisks.{NamedRisk}
+use Rattle.tx_risk.specs.Outages.{start_at, AreCutsOfCode, AreCutsBelow, IsOutcome, AreOutcomes}
+use Rattle.tx_risk.specs.Compared.{AreInOrder}
+use Rattle.tx_risk.specs.inner.InOrder.{comes_before}
+
+module _ {A : Type 0} where
+  abbrev IsBefore : Cut A → Cut A → Type 0
+  IsBefore c d = (c.code < d.code) ⊎ ((c.code ≡ d.code) × (start_at c < start_at d))
+
+  -- OUTCOMES ARE IN ORDER
+  behind : (x : Cut A) (ys : List (Cut A)) → AllByRecursion (λ y. y.code ≡ x.code) ys
+      → AllByRecursion (λ y. start_at x < y) (map start_at ys) → AllByRecursion (IsBefore x) ys
+  behind x [] e h = tt
+  behind x (y ∷ ys) e h = (inr (sym e.0, h.0), behind x ys e.1 h.1)
+
+  of_one_code : (code : ℕ) (xs : List (Cut A)) → AllByRecursion (λ x. x.code ≡ code) xs
+      → EachPair (λ x y. x < y) (map start_at xs) → AreInOrder xs
+  of_one_code code [] e h = tt
+  of_one_code code (x ∷ xs) e h = (
+    behind x xs (subst (λ c. AllByRecursion (λ (y : Cut A). y.code ≡ c) xs) (sym e.0) e.1) h.0,
+    of_one_code code xs e.1 h.1,
+  )
+
+  module _ (p : Plan) (risk : Risk) (o : Outage) where
+    below : (c : ℕ) (cuts : List (Cut A)) → AreCutsBelow p risk o c cuts
+        → AllByRecursion (λ d. d.code < c) cuts × AreInOrder cuts
+    below zero cuts e = rw e (tt, tt)
+    below (suc c) cuts (front, last, e, a, b) =
+        let before = below c front a in
+        let own : AllByRecursion (λ (d : Cut A). d.code ≡ c) last = among_all _ last (λ d m. (b.each d m).of_code) in
+        let low = all_map front (λ d k. omega (arith, k)) before.0 in
+        let high = all_map last (λ d k. omega (arith, k)) own in
+        rw e (
+          all_joined (λ (d : Cut A). d.code < suc c) front last low high,
+          pairs_joined (λ (d : Cut A). d.code < c) (λ (d : Cut A). d.code ≡ c) IsBefore front last before.1
+              (of_one_code c last own b.order) before.0 own (λ x y k l. inl (omega (arith, k, l))),
+        )
+
+  each_in_order : (p : Plan) (risks : List NamedRisk) (os : List (Outcome A)) → AllByRecursion (IsOutcome p risks) os
+      → AllByRecursion (λ t. AreInOrder t.cuts.items) os
+  each_in_order p risks [] h = tt
+  each_in_order p risks (t ∷ os) h = ((below p _ _ (length p.codes) t.cuts.items h.0).1, each_in_order p risks os h.1)
+
+  pub outcomes_in_order : (p : Plan) (risks : List NamedRisk) (only : Bool) (os : List (Outcome A)) → AreOutcomes p risks only os
+      → AllByRecursion (λ t. AreInOrder t.cuts.items) os
+  outcomes_in_order p risks only os h = each_in_order p risks os h.each
+
+  -- A SEARCH
+  module _ (code x : ℕ) where
+    abbrev is_at : Cut A → Bool
+    is_at d = (d.code == code) && (start_at d == x)
+
+    earlier : (c d : Cut A) → IsBefore c d → comes_before code x d ≡ true → comes_before code x c ≡ true
+    earlier c d (inl l) h = grind (arith, tests)
+    earlier c d (inr (e, l)) h = grind (arith, tests)
+
+    not_at : (d : Cut A) → comes_before code x d ≡ true → is_at d ≡ false
+    not_at d h = grind (arith, tests)
+
+    past : (c d : Cut A) → IsBefore c d → comes_before code x c ≡ false → is_at d ≡ false
+    past c d (inl l) h = grind (arith, tests)
+    past c d (inr (e, l)) h = grind (arith, tests)
+
+    pub parted : (cuts : List (Cut A)) → AreInOrder cuts → (i j : ℕ) (d : Cut A) → i ≤ j → j < length cuts
+        → comes_before code x (get_or cuts j d) ≡ true → comes_before code x (get_or cuts i d) ≡ true
+    parted [] order i j d le low h = absurd (omega (arith, low))
+    parted (c ∷ cuts) order zero zero d le low h = h
+    parted (c ∷ cuts) order zero (suc j) d le low h =
+        earlier c (get_or cuts j d) (all_at (IsBefore c) cuts j (get_or cuts j d) order.0 (slice_get-get_or cuts j d (omega (arith, low)))) h
+    parted (c ∷ cuts) order (suc i) zero d le low h = absurd (omega (arith, le))
+    parted (c ∷ cuts) order (suc i) (suc j) d le low h =
+        parted cuts order.1 i j d (omega (arith, le)) (omega (arith, low)) h
+
+    none_at : (cuts : List (Cut A)) → AllByRecursion (λ d. is_at d ≡ false) cuts → find is_at cuts ≡ None
+    none_at [] h = refl
+    none_at (c ∷ cuts) h = rw h.0 (none_at cuts h.1)
+
+    -- the cut at the place of a search, if it is the one that is looked for
+    abbrev pub found_at : Option (Cut A) → Option (Cut A)
+    found_at None = None
+    found_at (Some d) = if is_at d then Some d else None
+
+    pub find_at_point : (cuts : List (Cut A)) (i : ℕ) → AreInOrder cuts
+        → ((k : ℕ) (d : Cut A) → k < i → k < length cuts → comes_before code x (get_or cuts k d) ≡ true)
+        → ((d : Cut A) → i < length cuts → comes_before code x (get_or cuts i d) ≡ false)
+        → find is_at cuts ≡ found_at (slice_get cuts i)
+    find_at_point [] i order low high = refl
+    find_at_point (c ∷ cuts) zero order low high =
+        let none = none_at cuts (all_map cuts (λ d b. past c d b (high c (omega arith))) order.0) in
+        elim (is_at c) as (λ b. (if b then Some c else find is_at cuts) ≡ (if b then Some c else None)) [
+          | true ↦ refl
+          | false ↦ none
+        ]
+    find_at_point (c ∷ cuts) (suc i) order low high =
+        let no = not_at c (low 0 c (omega arith) (omega arith)) in
+        rw no (find_at_point cuts i order.1
+        (λ k d a b. low (suc k) d (omega (arith, a)) (omega (arith, b))) (λ d a. high d (omega (arith, a))))
