@@ -58,15 +58,11 @@ module _ {A : Type 0} where
     abbrev pub is_free : Outage → Bool
     is_free o = (length (cuts_of c.new o) == 0) && (length (cuts_of c.old o) == 0)
 
-    -- how many starts an outage cuts off in each plan
-    abbrev pub compared_line : Outage → List ℕ
-    compared_line o = change_word (is_worse o) (is_better o)
+    -- how many starts an outage cuts off in each plan; nothing, if it cuts nobody off
+    abbrev pub compared_total : Outage → List ℕ
+    compared_total o = if is_free o then [] else change_word (is_worse o) (is_better o)
         ++ (outage_words c.network.now c.risks.now o ++ (counts_text (cuts_of c.new o)
         ++ (codes " WAS" ++ (counts_text (cuts_of c.old o) ++ codes "\n"))))
-
-    -- that of an outage that cuts somebody off
-    abbrev pub compared_total : Outage → List ℕ
-    compared_total o = if is_free o then [] else compared_line o
 
     -- how many outages of a kind cut nobody off
     abbrev pub free_of : Kind → ℕ

@@ -71,14 +71,11 @@ module _ {A : Type 0} where
   counts_text cuts =
       codes " CUT " ++ (decimal (cut_off cuts) ++ (codes " STRAY " ++ decimal (astray cuts)))
 
-  -- what fails, and how many starts it cuts off
-  abbrev pub total_line : Plan → List NamedRisk → Outcome A → List ℕ
-  total_line p risks o =
-      outage_words p risks o.outage ++ (counts_text o.cuts.items ++ codes "\n")
-
-  -- that of an outage that cuts somebody off
+  -- what fails, and how many starts it cuts off; nothing, if it cuts nobody off
   abbrev pub total_text : Plan → List NamedRisk → Outcome A → List ℕ
-  total_text p risks o = if is_harmless o then [] else total_line p risks o
+  total_text p risks o =
+      if is_harmless o then []
+      else outage_words p risks o.outage ++ (counts_text o.cuts.items ++ codes "\n")
 
   -- how many outages of a kind cut nobody off
   abbrev pub harmless_of : Kind → List (Outcome A) → ℕ

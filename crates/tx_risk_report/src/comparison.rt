@@ -4,7 +4,7 @@ ghost use Rattle.std.specs.List.{flat_map};
 ghost use Rattle.tx_text.specs.Puts.{Puts};
 ghost use Rattle.tx_text.specs.Wrote.{Wrote};
 ghost use Rattle.tx_risk.specs.Compared.{AreInOrder};
-ghost use Rattle.tx_risk_report.specs.Comparison.{change_word, is_lower, bounds_words, grades_line, cuts_of, is_worse, is_better, is_free, compared_line, compared_total, free_of, free_text, worse_count, compared_text, comparison_text, is_against};
+ghost use Rattle.tx_risk_report.specs.Comparison.{change_word, is_lower, bounds_words, grades_line, cuts_of, is_worse, is_better, is_free, compared_total, free_of, free_text, worse_count, compared_text, comparison_text, is_against};
 
 use crate::differing::write_compared_blocks;
 use crate::outage_report::{write_head, write_outage};
@@ -179,19 +179,9 @@ fn write_compared_total<A: Allocator, W: Sink>(
     ensures { Puts W.taken W.failed sink.old sink.new
         (compared_total comparison.now outage.now) }
 {
-    if !is_free(comparison, outage) {
-        write_compared_line(comparison, outage, sink);
+    if is_free(comparison, outage) {
+        return;
     }
-}
-
-fn write_compared_line<A: Allocator, W: Sink>(
-    comparison: &Comparison<'_, A>,
-    outage: &Outage,
-    sink: &mut W,
-)
-    ensures { Puts W.taken W.failed sink.old sink.new
-        (compared_line comparison.now outage.now) }
-{
     let (new, old) = both_cuts(comparison, outage);
     let (worse, better) = (is_worse(comparison, outage), is_better(comparison, outage));
     write_change(worse, better, sink);

@@ -3,7 +3,7 @@ ghost use Rattle.std.specs.Prelude.{◌≡◌, [], if◌then◌else◌};
 ghost use Rattle.std.specs.List.{flat_map};
 ghost use Rattle.tx_text.specs.Puts.{Puts};
 ghost use Rattle.tx_rank.specs.Report.{verdict_line};
-ghost use Rattle.tx_risk_report.specs.OutageReport.{is_of, is_harmless, kind_word, harmless_line, harmless_of, harmless_text, cut_off, astray, counts_text, total_line, total_text, count_of};
+ghost use Rattle.tx_risk_report.specs.OutageReport.{is_of, is_harmless, kind_word, harmless_line, harmless_of, harmless_text, cut_off, astray, counts_text, total_text, count_of};
 
 use crate::outage_report::write_outage;
 use itoa::Buffer;
@@ -36,20 +36,9 @@ fn write_total<A: Allocator, W: Sink>(
     ensures { Puts W.taken W.failed sink.old sink.new
         (total_text plan.now risks.now outcome.now) }
 {
-    if !is_harmless(outcome) {
-        write_total_line(plan, risks, outcome, sink);
+    if is_harmless(outcome) {
+        return;
     }
-}
-
-fn write_total_line<A: Allocator, W: Sink>(
-    plan: &Plan<A>,
-    risks: &Risks<A>,
-    outcome: &Outcome<A>,
-    sink: &mut W,
-)
-    ensures { Puts W.taken W.failed sink.old sink.new
-        (total_line plan.now risks.now outcome.now) }
-{
     write_outage(plan, risks, &outcome.outage, sink);
     write_counts(&outcome.cuts, sink);
     put_bytes(b"\n", sink);
