@@ -16,3 +16,4 @@ pub mod Rows
 pub mod GroupWords
 pub mod RiskLines
 pub mod Comparing
+pub mod RisksIn

@@ -1,3 +1,4 @@
+use Rattle.tx_risk.proofs.AddedOutages.{risks_within}
 use Rattle.tx_requests.proofs.Grading.{plan_is}
 use Rattle.tx_requests.proofs.page_found.found_of.Goals as goal
 
@@ -13,3 +14,6 @@ returns g c =
       outcomes = c.in_ok-outcomes.ensures;
       pictures = c.in_ok-pictures.ensures;
     }
+
+pub outcomes_of-requires-clause-risks : goal.outcomes_of-requires-clause-risks
+outcomes_of-requires-clause-risks g c = risks_within c.args.plan.now c.args.risks.now c.requires.risks
