@@ -1,5 +1,5 @@
 // The command `survive` with an old plan.
-ghost use Rattle.std.specs.Prelude.{IfOk, IfErr, ◌≡◌};
+ghost use Rattle.std.specs.Prelude.{IfOk};
 ghost use Rattle.std.specs.List.{AllByRecursion};
 ghost use Rattle.tx_risk.specs.Compared.{AreInOrder};
 ghost use Rattle.tx_risk.specs.NamedRisks.{AreRisksFor};
@@ -101,10 +101,10 @@ fn comparison_of<A: Allocator>(answer: &Compared<A>) -> Comparison<'_, A>
     requires old { AllByRecursion (λ t. AreInOrder t.cuts.items) answer.now.old.outcomes.items }
     ensures { IsWrittenOf answer.now result }
 {
-    let PlansRisks { plans, risks } = &answer.texts;
+    let plans = &answer.texts.plans;
     Comparison {
         network: &plans.joined.new,
-        risks,
+        risks: &answer.texts.risks,
         outages: answer.outages.as_slice(),
         new: Side::new(&plans.new.plan, answer.new.outcomes.as_slice()),
         old: Side::new(&plans.old.plan, answer.old.outcomes.as_slice()),

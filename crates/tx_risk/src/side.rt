@@ -72,7 +72,7 @@ impl<'a, A: Allocator> Side<'a, A> {
             return &[];
         };
         match self.outcomes.get(place) {
-            Some(outcome) => &outcome.cuts,
+            Some(outcome) => outcome.cuts.as_slice(),
             None => &[],
         }
     }

@@ -157,8 +157,10 @@ pub(crate) fn both_cuts<'a, A: Allocator>(
     ensures old { result.1.now ≡ cuts_of comparison.now comparison.now.old outage.now }
     ensures old_order { AreInOrder result.1.now }
 {
-    let Comparison { network, risks, new, old, .. } = comparison;
-    (new.cuts(network, risks, outage), old.cuts(network, risks, outage))
+    let (network, risks) = (comparison.network, comparison.risks);
+    let new = comparison.new.cuts(network, risks, outage);
+    let old = comparison.old.cuts(network, risks, outage);
+    (new, old)
 }
 
 /// Writes how many starts each outage cuts off, of those that cut somebody off.
