@@ -1,5 +1,5 @@
 -- The command `survive` with an old plan.
-use Rattle.std.specs.Prelude.{◌≡◌, Bool, if◌then◌else◌, List, Result, Ok, Err, IfSome}
+use Rattle.std.specs.Prelude.{◌≡◌, Bool, if◌then◌else◌, List, [], None, Result, Ok, Err, IfSome}
 use Rattle.tx_plan.specs.Plan.{Plan}
 use Rattle.tx_risk.specs.NamedRisks.{NamedRisk, risks_in}
 use Rattle.tx_risk.specs.Outages.{all_outages, AreOutcomes}
@@ -25,6 +25,7 @@ module _ {A : Type 0} where
     pub grade : IsGradeOf p l.grade
     pub outcomes : IfSome l.grade.plan
         (λ _. AreOutcomes p (risks_in network p risks) only l.outcomes.items)
+    pub none : l.grade.plan ≡ None → l.outcomes.items ≡ []
 
   -- of both plans, with all outages of their joined network
   pub record IsComparedOf (r : CompareRequest) (t : PlansRisks A) (a : Compared A) : Type 0 where

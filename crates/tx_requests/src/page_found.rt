@@ -85,8 +85,9 @@ pub(crate) fn outcomes_of<A: Allocator + Copy>(
     requires ranks { IfSome grade.now.plan (λ b.
         IsCertified plan.now (ranks_of grade.now.ranks) b.limit b.spare) }
     requires risks { AreWithin plan.now risks.now }
-    ensures { IfOk result (λ all. IfSome grade.now.plan (λ _.
+    ensures outcomes { IfOk result (λ all. IfSome grade.now.plan (λ _.
         AreOutcomes plan.now risks.now named_only all.items)) }
+    ensures none { IfOk result (λ all. grade.now.plan ≡ None → all.items ≡ []) }
 {
     match grade.plan {
         Some(_) => all_outcomes(alloc, plan, &grade.ranks, risks, named_only),

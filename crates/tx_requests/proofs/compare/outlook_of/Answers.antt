@@ -1,5 +1,4 @@
 use Rattle.tx_requests.proofs.Grading.{plan_is}
-use Rattle.tx_risk.specs.Outages.{AreOutcomes}
 use Rattle.tx_requests.proofs.compare.outlook_of.Goals as goal
 
 pub returns : goal.returns
@@ -10,5 +9,9 @@ returns g c =
     e.plan e.clear e.fails e.clean e.each e.listed in
     record {
       grade = (plan, e.codes);
-      outcomes = rw c.in_ok-risks.ensures.risks at c.in_ok-outcomes.ensures;
+      outcomes = rw c.in_ok-risks.ensures.risks at c.in_ok-outcomes.ensures.outcomes;
+      none = c.in_ok-outcomes.ensures.none;
     }
+
+pub outcomes_of-requires-clause-risks : goal.outcomes_of-requires-clause-risks
+outcomes_of-requires-clause-risks g c = c.in_ok-risks.ensures.within

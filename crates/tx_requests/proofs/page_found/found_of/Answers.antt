@@ -11,7 +11,7 @@ returns g c =
     record {
       ranking = c.in_ok-ranking.ensures;
       grade = (plan, e.codes);
-      outcomes = c.in_ok-outcomes.ensures;
+      outcomes = c.in_ok-outcomes.ensures.outcomes;
       pictures = c.in_ok-pictures.ensures;
     }
 
