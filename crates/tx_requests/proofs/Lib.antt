@@ -12,4 +12,4 @@ mod DeclaredLines
 mod Printed
 mod Ordering
 mod LintTold
-pub mod Compared
+mod Compared

@@ -1,5 +1,5 @@
 -- The order of cuts, and a search in them.
-use Rattle.std.proofs.Common.{◌≡◌, ◌<◌, ◌≤◌, ◌⊎◌, ◌∙◌, if◌then◌else◌, ℕ, zero, suc, ◌+◌, Bool, true, false, nat_lt, ◌&&◌, ◌||◌, ◌==◌, List, [], ◌∷◌, ◌++◌, map, length, get_or, Option, Some, None, inl, inr, refl, sym, ap, subst, arith, tests}
+use Rattle.std.proofs.Common.{◌≡◌, ◌<◌, ◌≤◌, ◌⊎◌, ◌∙◌, if◌then◌else◌, ℕ, zero, suc, ◌+◌, Bool, true, false, nat_lt, ◌&&◌, ◌||◌, ◌==◌, List, [], ◌∷◌, ◌++◌, map, length, get_or, Option, Some, None, option_map, inl, inr, refl, sym, ap, subst, arith, tests}
 use Rattle.std.specs.List.{AllByRecursion, find, slice_get, list_any}
 use Rattle.tx_plan.specs.Plan.{Plan}
 use Rattle.tx_plan.specs.Rules.{EachPair}
@@ -14,8 +14,8 @@ use Rattle.tx_risk.specs.declared.outage.Outage.{Outage}
 use Rattle.tx_risk.specs.Risks.{Risk}
 use Rattle.tx_risk.specs.NamedRisks.{NamedRisk}
 use Rattle.tx_risk.specs.Outages.{start_at, AreCutsOfCode, AreCutsBelow, IsOutcome, AreOutcomes}
-use Rattle.tx_risk.specs.Compared.{AreInOrder}
-use Rattle.tx_risk.specs.inner.InOrder.{comes_before}
+use Rattle.tx_risk.specs.Compared.{AreInOrder, stray_at}
+use Rattle.tx_risk.specs.inner.InOrder.{comes_before, is_at, stray_of}
 
 module _ {A : Type 0} where
   abbrev IsBefore : Cut A → Cut A → Type 0
@@ -61,17 +61,14 @@ module _ {A : Type 0} where
 
   -- A SEARCH
   module _ (code x : ℕ) where
-    abbrev is_at : Cut A → Bool
-    is_at d = (d.code == code) && (start_at d == x)
-
     earlier : (c d : Cut A) → IsBefore c d → comes_before code x d ≡ true → comes_before code x c ≡ true
     earlier c d (inl l) h = grind (arith, tests)
     earlier c d (inr (e, l)) h = grind (arith, tests)
 
-    not_at : (d : Cut A) → comes_before code x d ≡ true → is_at d ≡ false
+    not_at : (d : Cut A) → comes_before code x d ≡ true → is_at code x d ≡ false
     not_at d h = grind (arith, tests)
 
-    past : (c d : Cut A) → IsBefore c d → comes_before code x c ≡ false → is_at d ≡ false
+    past : (c d : Cut A) → IsBefore c d → comes_before code x c ≡ false → is_at code x d ≡ false
     past c d (inl l) h = grind (arith, tests)
     past c d (inr (e, l)) h = grind (arith, tests)
 
@@ -85,27 +82,28 @@ module _ {A : Type 0} where
     parted (c ∷ cuts) order (suc i) (suc j) d le low h =
         parted cuts order.1 i j d (omega (arith, le)) (omega (arith, low)) h
 
-    none_at : (cuts : List (Cut A)) → AllByRecursion (λ d. is_at d ≡ false) cuts → find is_at cuts ≡ None
+    none_at : (cuts : List (Cut A)) → AllByRecursion (λ d. is_at code x d ≡ false) cuts → find is_at code x cuts ≡ None
     none_at [] h = refl
     none_at (c ∷ cuts) h = rw h.0 (none_at cuts h.1)
 
-    -- the cut at the place of a search, if it is the one that is looked for
-    abbrev pub found_at : Option (Cut A) → Option (Cut A)
-    found_at None = None
-    found_at (Some d) = if is_at d then Some d else None
+    -- what is told of the cut at the place of a search
+    abbrev pub told_at : Option (Cut A) → Option Bool
+    told_at None = None
+    told_at (Some d) = stray_of code x d
 
-    pub find_at_point : (cuts : List (Cut A)) (i : ℕ) → AreInOrder cuts
+    pub stray_at_point : (cuts : List (Cut A)) (i : ℕ) → AreInOrder cuts
         → ((k : ℕ) (d : Cut A) → k < i → k < length cuts → comes_before code x (get_or cuts k d) ≡ true)
         → ((d : Cut A) → i < length cuts → comes_before code x (get_or cuts i d) ≡ false)
-        → find is_at cuts ≡ found_at (slice_get cuts i)
-    find_at_point [] i order low high = refl
-    find_at_point (c ∷ cuts) zero order low high =
+        → told_at (slice_get cuts i) ≡ stray_at cuts code x
+    stray_at_point [] i order low high = refl
+    stray_at_point (c ∷ cuts) zero order low high =
         let none = none_at cuts (all_map cuts (λ d b. past c d b (high c (omega arith))) order.0) in
-        elim (is_at c) as (λ b. (if b then Some c else find is_at cuts) ≡ (if b then Some c else None)) [
+        elim (is_at code x c) as (λ b. (if b then Some c.stray else None)
+            ≡ option_map (λ (d : Cut A). d.stray) (if b then Some c else find (is_at code x) cuts)) [
           | true ↦ refl
-          | false ↦ none
+          | false ↦ sym (ap (option_map (λ (d : Cut A). d.stray)) none)
         ]
-    find_at_point (c ∷ cuts) (suc i) order low high =
+    stray_at_point (c ∷ cuts) (suc i) order low high =
         let no = not_at c (low 0 c (omega arith) (omega arith)) in
-        rw no (find_at_point cuts i order.1
+        rw no (stray_at_point cuts i order.1
         (λ k d a b. low (suc k) d (omega (arith, a)) (omega (arith, b))) (λ d a. high d (omega (arith, a))))

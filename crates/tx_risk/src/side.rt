@@ -2,7 +2,7 @@
 ghost use Rattle.std.specs.Prelude.{◌≡◌, length};
 ghost use Rattle.std.specs.List.{AllByRecursion};
 ghost use Rattle.tx_risk.specs.Compared.{AreInOrder, place_in, cuts_in, stray_at, stray_in, is_worse_than, is_other_than, has_worse};
-ghost use Rattle.tx_risk.specs.inner.InOrder.{comes_before};
+ghost use Rattle.tx_risk.specs.inner.InOrder.{comes_before, stray_of};
 
 use crate::cut::{Cut, Outcome};
 use crate::outage::Outage;
@@ -92,7 +92,16 @@ fn stray_at<A: Allocator>(cuts: &[Cut<A>], code: CodeId, start: ExchangeId) -> O
     ensures { result ≡ stray_at cuts.now code start }
 {
     let place = cuts.partition_point(|cut| comes_before(cut, code, start));
-    let cut = cuts.get(place)?;
+    match cuts.get(place) {
+        Some(cut) => stray_of(cut, code, start),
+        None => None,
+    }
+}
+
+/// Whether a cut is stray, if it is of a code and a start.
+fn stray_of<A: Allocator>(cut: &Cut<A>, code: CodeId, start: ExchangeId) -> Option<bool>
+    ensures { result ≡ stray_of code start cut.now }
+{
     if cut.code == code && cut.walk.start == start {
         Some(cut.stray)
     } else {

@@ -1,0 +1,26 @@
+use Rattle.std.proofs.Common.{◌≡◌, ◌<◌, ◌≤◌, ◌∙◌, ℕ, true, false, length, sym, ap, arith, rules}
+use Rattle.std.proofs.lemmas.List.Sorted.{IsPartitionPoint-from_clause}
+use Rattle.tx_risk.specs.inner.InOrder.{comes_before}
+use Rattle.tx_risk.proofs.Comparing.{parted, told_at, stray_at_point}
+use Rattle.tx_risk.proofs.side.stray_at.Goals as goal
+
+pub returns-in-Some : goal.returns-in-Some
+returns-in-Some g c =
+    let cuts = c.args.cuts.now in let code = c.args.code in let x = c.args.start in
+    let place = c.partition_point-place.result in
+    let point = IsPartitionPoint-from_clause (comes_before code x) cuts place
+    c.partition_point-place.ensures.partitioned (parted code x cuts c.requires) (λ a r q k. search rules) in
+    c.stray_of.ensures
+    ∙ ap (told_at code x) c.in-Some.ensures
+    ∙ stray_at_point code x cuts place c.requires (λ k d a b. point.0 k d (omega arith) a)
+    (λ d a. point.1 place d (omega arith) a)
+
+pub returns-in-None : goal.returns-in-None
+returns-in-None g c =
+    let cuts = c.args.cuts.now in let code = c.args.code in let x = c.args.start in
+    let place = c.partition_point-place.result in
+    let point = IsPartitionPoint-from_clause (comes_before code x) cuts place
+    c.partition_point-place.ensures.partitioned (parted code x cuts c.requires) (λ a r q k. search rules) in
+    ap (told_at code x) c.in-None.ensures
+    ∙ stray_at_point code x cuts place c.requires (λ k d a b. point.0 k d (omega arith) a)
+    (λ d a. point.1 place d (omega arith) a)
