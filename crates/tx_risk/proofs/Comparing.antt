@@ -35,6 +35,19 @@ module _ {A : Type 0} where
     of_one_code code xs e.1 h.1,
   )
 
+  sooner : (c : ℕ) (xs : List (Cut A)) → AllByRecursion (λ d. d.code < c) xs
+      → AllByRecursion (λ d. d.code < suc c) xs
+  sooner c [] h = tt
+  sooner c (x ∷ xs) h = (let l = h.0 in omega arith, sooner c xs h.1)
+
+  just : (c : ℕ) (xs : List (Cut A)) → AllByRecursion (λ d. d.code ≡ c) xs
+      → AllByRecursion (λ d. d.code < suc c) xs
+  just c [] h = tt
+  just c (x ∷ xs) h = (let l = h.0 in omega arith, just c xs h.1)
+
+  apart : (c : ℕ) (x y : Cut A) → x.code < c → y.code ≡ c → IsBefore x y
+  apart c x y k l = inl (omega arith)
+
   module _ (p : Plan) (risk : Risk) (o : Outage) where
     below : (c : ℕ) (cuts : List (Cut A)) → AreCutsBelow p risk o c cuts
         → AllByRecursion (λ d. d.code < c) cuts × AreInOrder cuts
@@ -42,12 +55,10 @@ module _ {A : Type 0} where
     below (suc c) cuts (front, last, e, a, b) =
         let before = below c front a in
         let own : AllByRecursion (λ (d : Cut A). d.code ≡ c) last = among_all _ last (λ d m. (b.each d m).of_code) in
-        let low = all_map front (λ d k. omega (arith, k)) before.0 in
-        let high = all_map last (λ d k. omega (arith, k)) own in
         rw e (
-          all_joined (λ (d : Cut A). d.code < suc c) front last low high,
+          all_joined (λ (d : Cut A). d.code < suc c) front last (sooner c front before.0) (just c last own),
           pairs_joined (λ (d : Cut A). d.code < c) (λ (d : Cut A). d.code ≡ c) IsBefore front last before.1
-              (of_one_code c last own b.order) before.0 own (λ x y k l. inl (omega (arith, k, l))),
+              (of_one_code c last own b.order) before.0 own (apart c),
         )
 
   each_in_order : (p : Plan) (risks : List NamedRisk) (os : List (Outcome A)) → AllByRecursion (IsOutcome p risks) os
@@ -82,7 +93,7 @@ module _ {A : Type 0} where
     parted (c ∷ cuts) order (suc i) (suc j) d le low h =
         parted cuts order.1 i j d (omega (arith, le)) (omega (arith, low)) h
 
-    none_at : (cuts : List (Cut A)) → AllByRecursion (λ d. is_at code x d ≡ false) cuts → find is_at code x cuts ≡ None
+    none_at : (cuts : List (Cut A)) → AllByRecursion (λ d. is_at code x d ≡ false) cuts → find (is_at code x) cuts ≡ None
     none_at [] h = refl
     none_at (c ∷ cuts) h = rw h.0 (none_at cuts h.1)
 

@@ -1,20 +1,23 @@
 -- Risks of one plan as risks of another.
-use Rattle.std.proofs.Common.{◌≡◌, ◌≢◌, ◌<◌, ◌≤◌, ◌+◌, ◌∙◌, ℕ, zero, suc, false, List, [], ◌∷◌, ◌++◌, map, take, length, Option, Some, None, refl, sym, ap, subst}
+use Rattle.std.proofs.Common.{◌≡◌, ◌≢◌, ◌<◌, ◌+◌, ◌∙◌, ℕ, zero, suc, false, List, [], ◌∷◌, ◌++◌, map, take, get_or, length, Option, Some, None, refl, sym, ap, subst}
 use Rattle.std.specs.List.{AllByRecursion, filter_map, cons_option, list_any, slice_get}
 use Rattle.std.specs.Str.{bytes_eq}
-use Rattle.std.proofs.lemmas.List.{map-append}
+use Rattle.std.proofs.lemmas.List.{map-append, take_more}
 use Rattle.std.proofs.lemmas.List.Elements.{filter_map-append}
 use Rattle.tx_plan.specs.Plan.{Plan, group_name, group_named}
 use Rattle.tx_plan.specs.Rules.{EachPair}
-use Rattle.tx_plan.proofs.Absent.{short_name}
 use Rattle.tx_plan.proofs.ByIndex.{all_at, take_next, bytes_apart, entry_at, index_within}
-use Rattle.tx_risk.specs.NamedRisks.{NamedRisk, IsNamedRisk, AreRisksFor, AreWithin, risk_name, named_groups, risk_in, risks_in}
+use Rattle.tx_risk.specs.NamedRisks.{NamedRisk, AreRisksFor, AreWithin, risk_name, named_groups, risk_in, risks_in}
 
-pub short_risk : (p : Plan) (risks : List NamedRisk) (i : ℕ) → AreRisksFor p risks → i < length risks
-    → length (risk_name risks i) ≤ 8
-short_risk p risks i ok low =
-    let r = entry_at risks i low in
-    rw r.1 (short_name r.0.name (all_at (IsNamedRisk p) risks i r.0 ok.each r.1).name)
+-- what is found of one element more
+pub found_next : (h : ℕ → Option ℕ) (xs : List ℕ) (i x : ℕ) (o : Option ℕ) (old new : List ℕ)
+    → i < length xs → x ≡ get_or xs i x → old ≡ filter_map h (take i xs) → h x ≡ o
+    → new ≡ old ++ cons_option o [] → new ≡ filter_map h (take (i + 1) xs)
+found_next h xs i x o old new low at so is more =
+    more ∙ ap (λ l. l ++ cons_option o []) so
+    ∙ ap (λ k. filter_map h (take i xs) ++ cons_option k []) (sym is)
+    ∙ sym (filter_map-append h (take i xs) (x ∷ []))
+    ∙ ap (filter_map h) (ap (λ y. take i xs ++ y ∷ []) at ∙ sym (take_more xs i x low))
 
 module _ (q p : Plan) where
   -- a risk of which no one before has the name
@@ -51,15 +54,17 @@ module _ (q p : Plan) where
       ∙ ap (map (risk_in q p)) (sym (take_next risks i r.0 r.1))
 
   -- THEIR GROUPS ARE THE PLAN'S
+  found_more : (name rest : List ℕ) → AllByRecursion (λ g. g < length p.groups) rest
+      → (o : Option ℕ) → group_named p name ≡ o
+      → AllByRecursion (λ g. g < length p.groups) (cons_option o rest)
+  found_more name rest h None e = h
+  found_more name rest h (Some g) e = (index_within _ p.groups g e, h)
+
   found_within : (gs : List ℕ) → AllByRecursion (λ g. g < length p.groups)
       (filter_map (λ g. group_named p (group_name q g)) gs)
   found_within [] = tt
-  found_within (g ∷ gs) = by (group_named p (group_name q g)) refl
-    where
-      by : (o : Option ℕ) → group_named p (group_name q g) ≡ o → AllByRecursion (λ g. g < length p.groups)
-          (cons_option o (filter_map (λ g. group_named p (group_name q g)) gs))
-      by None e = found_within gs
-      by (Some h) e = (index_within _ p.groups h e, found_within gs)
+  found_within (g ∷ gs) =
+      found_more (group_name q g) _ (found_within gs) (group_named p (group_name q g)) refl
 
   pub all_within : (risks : List NamedRisk) → AreWithin p (risks_in q p risks)
   all_within [] = tt

@@ -38,11 +38,15 @@ module _ {A : Type 0} where
   stray_at cuts code x =
       option_map (λ d. d.stray) (find (λ d. (d.code == code) && (start_at d == x)) cuts)
 
-  -- the same of these cuts of q for the code and the start of a cut of p, by their names
+  -- the same of these cuts of q, for a code and a start by their names
+  abbrev pub stray_named : (q : Plan) → List (Cut A) → (figures start : List ℕ) → Option Bool
+  stray_named q cuts figures start = option_and_then
+      (λ code. option_and_then (stray_at cuts code) (exchange_named q start)) (code_named q figures)
+
+  -- and for those of a cut of p
   abbrev pub stray_in : (p q : Plan) → List (Cut A) → Cut A → Option Bool
-  stray_in p q cuts c = option_and_then
-      (λ code. option_and_then (stray_at cuts code) (exchange_named q (exchange_name p (start_at c))))
-      (code_named q (figures_of p c.code))
+  stray_in p q cuts c =
+      stray_named q cuts (figures_of p c.code) (exchange_name p (start_at c))
 
   -- a cut is worse than what stands beside it: than none, or a stray one if it is not stray
   abbrev pub is_worse_than : Option Bool → Cut A → Bool

@@ -77,8 +77,9 @@ fn groups_over<A: Allocator + Copy>(
 {
     let mut found = Vec::new(alloc);
     for i in 0..groups.len() {
-        if let Some(group) = other.group_named(plan.group_name(groups[i])) {
-            found.push(group)?;
+        match other.group_named(plan.group_name(groups[i])) {
+            Some(group) => found.push(group)?,
+            None => {}
         }
     }
     Ok(found)

@@ -1,7 +1,8 @@
 // What outages cut off in one of two plans, beside the other one.
 ghost use Rattle.std.specs.Prelude.{◌≡◌, length};
 ghost use Rattle.std.specs.List.{AllByRecursion};
-ghost use Rattle.tx_risk.specs.Compared.{AreInOrder, place_in, cuts_in, stray_at, stray_in, is_worse_than, is_other_than, has_worse};
+ghost use Rattle.tx_risk.specs.Outages.{start_at};
+ghost use Rattle.tx_risk.specs.Compared.{AreInOrder, place_in, cuts_in, stray_at, stray_named, stray_in, is_worse_than, is_other_than, has_worse};
 ghost use Rattle.tx_risk.specs.inner.InOrder.{comes_before, stray_of};
 
 use crate::cut::{Cut, Outcome};
@@ -109,6 +110,28 @@ fn stray_of<A: Allocator>(cut: &Cut<A>, code: CodeId, start: ExchangeId) -> Opti
     }
 }
 
+/// Where the calls start that a cut cuts off.
+fn start_of<A: Allocator>(cut: &Cut<A>) -> ExchangeId
+    ensures { result ≡ start_at cut.now }
+{
+    cut.walk.start
+}
+
+/// The cut of a code from a start, by their names: whether it is stray, if there is one.
+fn stray_named<A: Allocator>(
+    plan: &Plan<A>,
+    cuts: &[Cut<A>],
+    figures: &[u8],
+    start: &[u8],
+) -> Option<bool>
+    requires { AreInOrder cuts.now }
+    ensures { result ≡ stray_named plan.now cuts.now figures.now start.now }
+{
+    let code = plan.code_named(figures)?;
+    let start = plan.exchange_named(start)?;
+    stray_at(cuts, code, start)
+}
+
 /// What cuts of another plan are for the code and the start of a cut, by their names.
 fn stray_in<A: Allocator>(
     plan: &Plan<A>,
@@ -119,9 +142,8 @@ fn stray_in<A: Allocator>(
     requires { AreInOrder cuts.now }
     ensures { result ≡ stray_in plan.now other.now cuts.now cut.now }
 {
-    let code = other.code_named(plan.code_figures(cut.code))?;
-    let start = other.exchange_named(plan.exchange_name(cut.walk.start))?;
-    stray_at(cuts, code, start)
+    let figures = plan.code_figures(cut.code);
+    stray_named(other, cuts, figures, plan.exchange_name(start_of(cut)))
 }
 
 /// Whether a cut is worse than what cuts of another plan are for its start: than none, or a stray
