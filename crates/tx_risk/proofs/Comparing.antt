@@ -110,7 +110,7 @@ module _ {A : Type 0} where
     stray_at_point (c ∷ cuts) zero order low high =
         let none = none_at cuts (all_map cuts (λ d b. past c d b (high c (omega arith))) order.0) in
         elim (is_at code x c) as (λ b. (if b then Some c.stray else None)
-            ≡ option_map (λ (d : Cut A). d.stray) (if b then Some c else find (is_at code x) cuts)) [
+        ≡ option_map (λ (d : Cut A). d.stray) (if b then Some c else find (is_at code x) cuts)) [
           | true ↦ refl
           | false ↦ sym (ap (option_map (λ (d : Cut A). d.stray)) none)
         ]

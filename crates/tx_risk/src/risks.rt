@@ -45,12 +45,7 @@ impl<A: Allocator + Copy> Risks<A> {
     }
 
     /// Those of another plan: under each name the groups that it has too, by their names.
-    pub fn over(
-        &self,
-        alloc: A,
-        plan: &Plan<A>,
-        other: &Plan<A>,
-    ) -> Result<Risks<A>, NoMemory>
+    pub fn over(&self, alloc: A, plan: &Plan<A>, other: &Plan<A>) -> Result<Risks<A>, NoMemory>
         requires { AreRisksFor plan.now self.now }
         ensures risks { IfOk result (λ r. r ≡ risks_in plan.now other.now self.now) }
         ensures within { IfOk result (AreWithin other.now) }

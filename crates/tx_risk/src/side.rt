@@ -83,8 +83,7 @@ impl<'a, A: Allocator> Side<'a, A> {
 fn comes_before<A: Allocator>(cut: &Cut<A>, code: CodeId, start: ExchangeId) -> bool
     ensures { result ≡ comes_before code start cut.now }
 {
-    cut.code.index() < code.index()
-        || (cut.code == code && cut.walk.start.index() < start.index())
+    cut.code.index() < code.index() || (cut.code == code && cut.walk.start.index() < start.index())
 }
 
 /// The cut of a code from a start: whether it is stray, if there is one.
@@ -148,12 +147,7 @@ fn stray_in<A: Allocator>(
 
 /// Whether a cut is worse than what cuts of another plan are for its start: than none, or a stray
 /// one if it is not stray.
-fn is_worse<A: Allocator>(
-    plan: &Plan<A>,
-    other: &Plan<A>,
-    cuts: &[Cut<A>],
-    cut: &Cut<A>,
-) -> bool
+fn is_worse<A: Allocator>(plan: &Plan<A>, other: &Plan<A>, cuts: &[Cut<A>], cut: &Cut<A>) -> bool
     requires { AreInOrder cuts.now }
     ensures { result ≡ is_worse_than (stray_in plan.now other.now cuts.now cut.now) cut.now }
 {

@@ -200,7 +200,11 @@ fn write_free<A: Allocator, W: Sink>(comparison: &Comparison<'_, A>, sink: &mut 
 {
     write_harmless_line(Kind::Risks, count_free(comparison, Kind::Risks), sink);
     write_harmless_line(Kind::Groups, count_free(comparison, Kind::Groups), sink);
-    write_harmless_line(Kind::Exchanges, count_free(comparison, Kind::Exchanges), sink);
+    write_harmless_line(
+        Kind::Exchanges,
+        count_free(comparison, Kind::Exchanges),
+        sink,
+    );
 }
 
 fn count_free<A: Allocator>(comparison: &Comparison<'_, A>, kind: Kind) -> usize

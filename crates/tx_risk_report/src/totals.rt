@@ -76,7 +76,11 @@ pub(crate) fn write_harmless<A: Allocator, W: Sink>(outcomes: &[Outcome<A>], sin
 {
     write_harmless_line(Kind::Risks, count_harmless(outcomes, Kind::Risks), sink);
     write_harmless_line(Kind::Groups, count_harmless(outcomes, Kind::Groups), sink);
-    write_harmless_line(Kind::Exchanges, count_harmless(outcomes, Kind::Exchanges), sink);
+    write_harmless_line(
+        Kind::Exchanges,
+        count_harmless(outcomes, Kind::Exchanges),
+        sink,
+    );
 }
 
 /// The word for outages of a kind, and its blank.
