@@ -1,4 +1,5 @@
 use Rattle.std.proofs.Common.{◌≡◌, ◌<◌, ◌≤◌, ◌∙◌, ℕ, true, false, length, refl, sym, ap, arith, rules}
+use Rattle.std.proofs.lemmas.Bool.{ltb-true, ltb-false}
 use Rattle.std.proofs.lemmas.Option.{slice_get_read, slice_get_past}
 use Rattle.std.proofs.lemmas.List.Sorted.{IsPartitionPoint-from_clause}
 use Rattle.tx_risk.specs.inner.InOrder.{comes_before}
@@ -13,7 +14,7 @@ returns-in-Some g c =
     c.partition_point-place.ensures.partitioned (parted code x cuts c.requires) (λ a r q k. search rules) in
     c.stray_of.ensures
     ∙ ap (told_at code x) (sym (slice_get_read cuts (length cuts) place c.in-Some.cut.now refl
-    c.in-Some.ensures.lookup.1.1.1.0.0 c.in-Some.ensures.lookup.1.0))
+    (ltb-true place (length cuts) (sym c.in-Some.ensures.lookup.0)) c.in-Some.ensures.lookup.1))
     ∙ stray_at_point code x cuts place c.requires (λ k d a b. point.0 k d (omega arith) a)
     (λ d a. point.1 place d (omega arith) a)
 
@@ -23,6 +24,6 @@ returns-in-None g c =
     let place = c.partition_point-place.result in
     let point = IsPartitionPoint-from_clause (comes_before code x) cuts place
     c.partition_point-place.ensures.partitioned (parted code x cuts c.requires) (λ a r q k. search rules) in
-    ap (told_at code x) (sym (slice_get_past cuts place c.in-None.ensures.lookup.1.1.1.0))
+    ap (told_at code x) (sym (slice_get_past cuts place (ltb-false place (length cuts) (sym c.in-None.ensures.lookup.0))))
     ∙ stray_at_point code x cuts place c.requires (λ k d a b. point.0 k d (omega arith) a)
     (λ d a. point.1 place d (omega arith) a)
