@@ -1,4 +1,4 @@
-use Rattle.std.proofs.Common.{◌≡◌, ◌∙◌, ap}
+use Rattle.std.proofs.Common.{◌∙◌, ap}
 use Rattle.tx_plan.specs.Plan.{exchange_name, figures_of}
 use Rattle.tx_risk.specs.Compared.{stray_named}
 use Rattle.tx_risk.proofs.side.stray_in.Goals as goal
