@@ -27,7 +27,7 @@ _telexplan() {
                 *:change:-*) words="--limit --spare --cert --mixture --counter --help" ;;
                 *:order:-*) words="--limit --spare --stage --plan --cert --help" ;;
                 *:lint:-*) words="--risks --help" ;;
-                *:survive:-*) words="--risks --risks-only --totals --help" ;;
+                *:survive:-*) words="--risks --risks-only --from --help" ;;
                 *:page:-*) words="--limit --spare --risks --from --code --html --help" ;;
                 *:check:-*) words="--limit --spare --help" ;;
                 *:run:-*) words="--cert --limit --spare --strict --echo --summary --help" ;;

@@ -437,6 +437,9 @@ def case_of(example):
         kinds["trace"] = f"trace group {example.option('--group')}"
     if verb == "page":
         kinds["page"] = page_of(example)
+    if verb == "survive" and example.option("--from"):
+        # the old plan is read first
+        kinds["survive"], texts[:2] = "survive risks-from" if example.option("--risks") else "survive from", texts[1::-1]
     return (kinds[verb], b"---\n".join(texts)) if verb in kinds else None
 
 

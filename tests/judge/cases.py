@@ -7,7 +7,8 @@ from change import judge_change
 from families import FAMILIES, PAIRS, SMALL, ambiguous_plans, code_plans, packed, random_network, random_pair, random_plan, random_risks, seeded
 from mend import is_mendable, judge_mend
 from order import judge_order
-from survive import judge_survive
+from plans import contradiction
+from survive import grade_of, judge_from, judge_survive
 
 NUMBERS = list(product(range(3), range(3)))
 
@@ -54,7 +55,7 @@ def single(rng, plan):
         judge_audit(program, plan, *at)
         judge_cert_faults(program, plan, rng, *at)
         if plan.groups:
-            judge_survive(program, plan, random_risks(rng, plan), rng.random() < 0.2, rng.random() < 0.2)
+            judge_survive(program, plan, random_risks(rng, plan), rng.random() < 0.2)
     return 1, judge
 
 
@@ -100,6 +101,15 @@ def random_change(judge):
     return make
 
 
+def random_comparison(rng):
+    """The outages of a random pair of plans, most of which have a grade."""
+    old, new = random_pair(rng)
+    while contradiction(old, new) or not all(map(grade_of, (old, new))) and rng.random() < 0.9:
+        old, new = random_pair(rng)
+    risks = random_risks(rng, rng.choice((old, new))) if old.groups and new.groups else []
+    return 1, lambda program: judge_from(program, old, new, risks, rng.random() < 0.2)
+
+
 TOPICS = {
     **{f"audit, grade: {name}": lambda it=it: audits(it) for name, it in FAMILIES.items()},
     **{f"audit, survive: {name}": lambda it=it: graded(it) for name, it in {**SMALL, **FAMILIES}.items()},
@@ -113,4 +123,5 @@ TOPICS = {
     "change: random": lambda: seeded(800, "changes", random_change(judge_change)),
     **{f"order: {name}": lambda it=it: pairs(*it, judge_order, 4096) for name, it in PAIRS.items()},
     "order: random": lambda: seeded(800, "orders", random_change(judge_order)),
+    "survive --from: random": lambda: seeded(800, "comparisons", random_comparison),
 }

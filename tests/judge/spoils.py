@@ -96,6 +96,7 @@ def too_early(parts):
 
 # The topic whose cases are spoiled, of each command.
 CASES = dict.fromkeys(("audit", "check", "grade", "survive"), "audit, check, grade, survive: random")
+CASES["from"] = "survive --from: random"  # of `survive`
 CASES.update({"codes": "codes: one exchange", **{it: f"{it}: random" for it in ("mend", "change", "order")}})
 
 # Each spoil: the commands whose answers it changes, and how.
@@ -150,6 +151,15 @@ WAYS = [
     ("survive", "one outage more", put(r"^(SURVIVE RISKS )(\d+)", more)),
     ("survive", "one group more", put(r"^(GROUPS )(\d+)", more)),
     ("survive", "one cut more in the totals", put(r"^(\w+ \w+ CUT )(\d+)", more)),
+    ("from", "the other verdict", turned),
+    ("from", "better told as worse", put("^BETTER", "WORSE")),
+    ("from", "worse told as the same", put("^WORSE (GROUP|EXCHANGE|RISK)", r"SAME \1")),
+    ("from", "a lower grade told as the same", put("^WORSE GRADE", "SAME GRADE")),
+    ("from", "the new plan's cuts told of the old one", put(r"^(\w+ \w+ \w+) (CUT \d+ STRAY \d+) WAS (?!\2$).*", r"\1 \2 WAS \2")),
+    ("from", "an outage left out", without("(WORSE|BETTER|SAME) (GROUP|EXCHANGE|RISK)")),
+    ("from", "a line of the old plan left out", without("WAS ")),
+    ("from", "a line of the new plan left out", without("CUT|STRAY")),
+    ("from", "one more that cuts nobody off", put(r"^((?:GROUPS|RISKS|EXCHANGES) )(\d+)", more)),
     ("survive", "a walk that ends before", put(r"^((CUT|STRAY) .* VIA \w+.*) \w+ \w+$", r"\1")),
 ]
 WAYS += [("order", what, spoil) for what, spoil in (
@@ -180,7 +190,7 @@ def try_spoil(path, number):
     """Spoils the answers to some cases. Answers whether each is refused, and what is to be told."""
     command, what, spoil = SPOILS[number]
     spoiled, count, taken = [], 0, []
-    program = Program(path, lambda ran: ran.words[0] == command and spoil(ran) and spoiled.append(ran))
+    program = Program(path, lambda ran: ran.words[0] == {"from": "survive"}.get(command, command) and spoil(ran) and spoiled.append(ran))
     for _, judge in TOPICS[CASES[command]]():
         spoiled.clear()
         try:

@@ -61,34 +61,113 @@ def judge_outage(plan, views, rows, cuts, failed):
     need(len(told) == len(rows) and told == cuts and places == sorted(places), f"told is {rows} and not, in order, {cuts}")
 
 
-def totals(counted, only):
+def counts(cuts):
+    """How many are cut off, and how many are led astray."""
+    return tuple([kind for kind, _ in cuts.values()].count(it) for it in ("CUT", "STRAY"))
+
+
+def totals(counted):
     """The lines of the totals."""
-    rows = [f"{name} CUT {n} STRAY {m}" for name, n, m in counted if n or m or name.startswith("RISK")]
-    for kind in () if only else ("GROUP", "EXCHANGE"):
+    rows = [f"{name} CUT {n} STRAY {m}" for name, n, m in counted if n or m]
+    for kind in ("RISK", "GROUP", "EXCHANGE"):
         none = sum(name.startswith(kind + " ") and not n and not m for name, n, m in counted)
         rows += [f"{kind}S {none} CUT 0"] * (none > 0)
     return rows
 
 
-def judge_survive(program, plan, risks, only=False, brief=False):
+def text_of(risks):
+    return "\n".join(["RISKS 1", *(f"RISK {name} {' '.join(it)}" for name, it in risks), "END\n"])
+
+
+def judge_survive(program, plan, risks, only=False):
     """Judges the report of all outages of a plan."""
-    words = ["survive", "p", "--risks", "r"] + ["--risks-only"] * only + ["--totals"] * brief
-    ran = program.run(words, {"p": plan.text, "r": "\n".join(["RISKS 1", *(f"RISK {name} {' '.join(it)}" for name, it in risks), "END\n"])})
+    words = ["survive", "p", "--risks", "r"] + ["--risks-only"] * only
+    ran = program.run(words, {"p": plan.text, "r": text_of(risks)})
     views = plan.views
     if plan.ambiguous or not all(survey(it).grade() for it in views.values()):
         grade = program.run(["grade", "p"], {"p": plan.text})
         need(ran.out == grade.out and ran.status == 1, f"a plan without a grade gets {ran.out}")
         return
     tried = [(name, failed, cuts_of(views, failed, failing)) for name, failed, failing in outages(plan, risks, only)]
-    counted = [(name, *([kind for kind, _ in cuts.values()].count(it) for it in ("CUT", "STRAY"))) for name, _, cuts in tried]
-    head = [f"SURVIVE RISKS {len(tried)}", *totals(counted, only)]
+    counted = [(name, *counts(cuts)) for name, _, cuts in tried]
+    head = [f"SURVIVE RISKS {len(tried)}", *totals(counted)]
     rows = ran.out.splitlines()
     judge_verdict(rows, not any(cuts for _, _, cuts in tried), ran.status, sum(len(cuts) for _, _, cuts in tried))
     need(rows[:len(head)] == head, f"the totals are {rows[:len(head)]} and not {head}")
     rest = rows[len(head):-1]
     for name, failed, cuts in tried:
-        if cuts and not brief:
+        if cuts:
             need(rest[:1] == [name], f"no lines of {name}")
             judge_outage(plan, views, rest[1:len(cuts) + 1], cuts, failed)
             rest = rest[len(cuts) + 1:]
+    need(not rest, f"more lines: {rest}")
+
+
+def grade_of(plan):
+    """The limit and the spare number of a plan; nothing without a grade."""
+    grades = [survey(it).grade() for it in plan.views.values()]
+    if plan.ambiguous or not all(grades):
+        return None
+    return max((it[0] for it in grades), default=0), min((min(it[1], 15) for it in grades), default=15)
+
+
+def standing(worse, better):
+    return "WORSE" if worse else "BETTER" if better else "SAME"
+
+
+def worse_off(cuts, others):
+    """Those who are cut off and not so by the others, or led astray and neither by the others."""
+    rank = {"CUT": 2, "STRAY": 1}
+    return [it for it, (kind, _) in cuts.items() if rank[kind] > rank.get(others.get(it, ("", 0))[0], 0)]
+
+
+def judge_other(plan, rows, cuts, others, failed):
+    """The lines of an outage that the other plan has not: each with a shortest walk, by codes and exchanges."""
+    due = {it: found for it, found in cuts.items() if others.get(it, ("", 0))[0] != found[0]}
+    orders = [list(plan.codes).index, list(plan.exchanges).index]
+    places = [tuple(order(word) for order, word in zip(orders, row.split(" ")[1:3])) for row in rows]
+    need(places == sorted(places), f"not in order: {rows}")
+    by_ends = sorted(rows, key=lambda row: (list(plan.exchanges).index(row.split(" ")[-1]), *(order(word) for order, word in zip(orders, row.split(" ")[1:3]))))
+    judge_outage(plan, plan.views, by_ends, due, failed)
+
+
+def judge_from(program, old, new, risks, only=False):
+    """Judges the report of all outages of two plans that do not contradict each other."""
+    words = ["survive", "n", "--from", "o", "--risks", "r"] + ["--risks-only"] * only
+    ran = program.run(words, {"o": old.text, "n": new.text, "r": text_of(risks)})
+    for plan, head in ((new, ""), (old, "WAS ")):
+        if grade_of(plan) is None:
+            grade = program.run(["grade", "p"], {"p": plan.text})
+            need(ran.out == head + grade.out and ran.status == 1, f"a plan without a grade gets {ran.out}")
+            return
+    sides = []
+    for plan in (new, old):
+        own = [(name, [g for g in groups if g in plan.groups]) for name, groups in risks]
+        sides.append({name: (failed, cuts_of(plan.views, failed, failing)) for name, failed, failing in outages(plan, own, only)})
+    kinds = ["RISK", "GROUP", "EXCHANGE"]
+    names = sorted(dict.fromkeys([*sides[1], *sides[0]]), key=lambda it: kinds.index(it.split(" ")[0]))
+    both = [(name, *(side.get(name, (frozenset(), {})) for side in sides)) for name in names]
+    (l, k), (m, j) = map(grade_of, (new, old))
+    said = [standing(l > m or k < j, m > l or j < k)]
+    head = [f"SURVIVE RISKS {len(names)}", f"{said[0]} GRADE LIMIT {l} SPARE {k} WAS LIMIT {m} SPARE {j}"]
+    for name, (_, now), (_, then) in both:
+        said.append(standing(worse_off(now, then), worse_off(then, now)))
+        if now or then:
+            (a, b), (c, d) = counts(now), counts(then)
+            head.append(f"{said[-1]} {name} CUT {a} STRAY {b} WAS CUT {c} STRAY {d}")
+    for kind in kinds:
+        none = sum(name.startswith(kind + " ") and not now and not then for name, (_, now), (_, then) in both)
+        head += [f"{kind}S {none} CUT 0"] * (none > 0)
+    rows = ran.out.splitlines()
+    judge_verdict(rows, "WORSE" not in said, ran.status, said.count("WORSE"))
+    need(rows[:len(head)] == head, f"the totals are {rows[:len(head)]} and not {head}")
+    rest = rows[len(head):-1]
+    for (name, (failed, now), (gone, then)), what in zip(both, said[1:]):
+        if what != "SAME":
+            need(rest[:1] == [name], f"no lines of {name}")
+            end = next((n for n, row in enumerate(rest[1:], 1) if row in names), len(rest))
+            mine = [row for row in rest[1:end] if not row.startswith("WAS ")]
+            judge_other(new, mine, now, then, failed)
+            judge_other(old, [row.removeprefix("WAS ") for row in rest[1 + len(mine):end]], then, now, gone)
+            rest = rest[end:]
     need(not rest, f"more lines: {rest}")

@@ -10,7 +10,7 @@ use Rattle.tx_plan.specs.declared.limits.Limits.{Limits}
 use Rattle.tx_commands.specs.Entries.{is_known}
 use Rattle.tx_commands.specs.Grammar.{program_words}
 use Rattle.tx_commands.specs.declared.command.Command.{Command}
-use Rattle.tx_commands.specs.declared.command.Command.TheVariants.{Pipe, Run, RunTelling, Check, Lint, Codes, Audit, Change, Order, Mend, Survive, Page, Grade, Trace, TraceGroup, Fill, Explain}
+use Rattle.tx_commands.specs.declared.command.Command.TheVariants.{Pipe, Run, RunTelling, Check, Lint, Codes, Audit, Change, Order, Mend, Survive, Compare, Page, Grade, Trace, TraceGroup, Fill, Explain}
 
 -- the words of a command name this file
 abbrev pub Names : {Z : Type 0} → List Row → List ℕ → String Z → Type 0
@@ -106,7 +106,9 @@ Asks name found (Mend r) = (name ≡ codes "mend") × Names found (codes "before
     × GivesLimits found r.limits × NamesIfAny found (codes "plan") r.mended
     × NamesIfAny found (codes "cert") r.cert
 Asks name found (Survive r) = (name ≡ codes "survive") × Names found (codes "plan") r.plan
-    × AsksForRisks found r.risks × (is_set found (codes "totals") ≡ r.totals)
+    × AsksForRisks found r.risks × (first_of (codes "from") found ≡ None)
+Asks name found (Compare r) = (name ≡ codes "survive") × Names found (codes "plan") r.new
+    × AsksForRisks found r.risks × Names found (codes "from") r.old
 Asks name found (Page r) = (name ≡ codes "page") × Names found (codes "plan") r.plan
     × GivesLimits found r.limits × NamesIfAny found (codes "risks") r.risks
     × NamesIfAny found (codes "from") r.old × NamesIfAny found (codes "code") r.code

@@ -3,10 +3,11 @@ use Rattle.std.specs.Prelude.{ℕ, Bool, List, [], ◌∷◌, Option, None, Some
 use Rattle.std.specs.Borrow.{Bor}
 use Rattle.tx_plan.specs.declared.limits.Limits.{Limits}
 use Rattle.tx_commands.specs.declared.command.Command.{Command}
-use Rattle.tx_commands.specs.declared.command.Command.TheVariants.{Pipe, Run, RunTelling, Check, Lint, Codes, Audit, Change, Order, Mend, Survive, Page, Grade, Trace, TraceGroup, Fill, Explain}
+use Rattle.tx_commands.specs.declared.command.Command.TheVariants.{Pipe, Run, RunTelling, Check, Lint, Codes, Audit, Change, Order, Mend, Survive, Compare, Page, Grade, Trace, TraceGroup, Fill, Explain}
 use Rattle.tx_commands.specs.declared.files.Files.{Files}
 use Rattle.tx_commands.specs.declared.page.PageRequest.{PageRequest}
 use Rattle.tx_commands.specs.declared.run.RunRequest.{RunRequest}
+use Rattle.tx_commands.specs.declared.survive.CompareRequest.{CompareRequest}
 use Rattle.tx_commands.specs.declared.survive.SurviveRequest.{SurviveRequest}
 
 -- the values of those that have one
@@ -77,6 +78,16 @@ survive_files_by plan (Some (risks, only)) = two_read plan (string_bytes risks)
 abbrev pub survive_files : SurviveRequest → FileNames
 survive_files r = survive_files_by (string_bytes r.plan) r.risks
 
+-- with an old plan, it and the new one come before the named risks
+abbrev pub compare_files_by : {Z : Type 0} → (old new : List ℕ) → Option (String Z × Bool)
+    → FileNames
+compare_files_by old new None = two_read old new
+compare_files_by old new (Some (risks, only)) =
+    only_read (Some old ∷ Some new ∷ Some (string_bytes risks) ∷ [])
+
+abbrev pub compare_files : CompareRequest → FileNames
+compare_files r = compare_files_by (string_bytes r.old) (string_bytes r.new) r.risks
+
 -- those of `page`
 abbrev pub page_files : PageRequest → FileNames
 page_files r = record (only_read (Some (string_bytes r.plan) ∷ option_map string_bytes r.risks
@@ -111,6 +122,7 @@ file_names (Mend r) = record (one_read (string_bytes r.plan)) {
   cert = option_map string_bytes r.cert;
 }
 file_names (Survive r) = survive_files r
+file_names (Compare r) = compare_files r
 file_names (Page r) = page_files r
 file_names (Grade r) = one_read (string_bytes r.plan)
 file_names (Trace r) = one_read (string_bytes r.plan)

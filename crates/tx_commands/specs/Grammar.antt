@@ -86,7 +86,7 @@ abbrev pub survive_words : App
 survive_words =
     with_rule (with_rule (with_rule
     (plan_words (codes "survive")) (option (codes "risks"))) (flag (codes "risks-only")))
-    (flag (codes "totals"))
+    (option (codes "from"))
 
 -- the arguments of `page`
 abbrev pub page_words : App

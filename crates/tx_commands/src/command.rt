@@ -1,6 +1,6 @@
 // Commands.
 ghost use Rattle.std.specs.Prelude.{◌≡◌};
-ghost use Rattle.tx_commands.specs.Files.{names_of, run_files, survive_files, page_files, file_names};
+ghost use Rattle.tx_commands.specs.Files.{names_of, run_files, survive_files, compare_files, page_files, file_names};
 
 use crate::audit::AuditRequest;
 use crate::change::ChangeRequest;
@@ -15,7 +15,7 @@ use crate::mend::MendRequest;
 use crate::order::OrderRequest;
 use crate::page::PageRequest;
 use crate::run::{RunRequest, TellingRequest};
-use crate::survive::SurviveRequest;
+use crate::survive::{CompareRequest, SurviveRequest};
 use crate::trace::{GroupRequest, TraceRequest};
 
 /// What the words ask for.
@@ -32,6 +32,7 @@ pub enum Command {
     Order(OrderRequest),
     Mend(MendRequest),
     Survive(SurviveRequest),
+    Compare(CompareRequest),
     Page(PageRequest),
     Grade(GradeRequest),
     Trace(TraceRequest),
@@ -54,6 +55,7 @@ impl Drop for Command {
             Self::Order(request) => drop(request),
             Self::Mend(request) => drop(request),
             Self::Survive(request) => drop(request),
+            Self::Compare(request) => drop(request),
             Self::Page(request) => drop(request),
             Self::Grade(request) => drop(request),
             Self::Trace(request) => drop(request),
@@ -99,6 +101,7 @@ impl Command {
                 ..Files::of_one(&request.plan)
             },
             Command::Survive(request) => survive_files(request),
+            Command::Compare(request) => compare_files(request),
             Command::Page(request) => page_files(request),
             Command::Codes(CodesRequest { plan })
             | Command::Grade(GradeRequest { plan })
@@ -129,6 +132,18 @@ fn survive_files(request: &SurviveRequest) -> Files<'_>
     match &request.risks {
         None => Files::of_one(&request.plan),
         Some((risks, _)) => Files::of_two(&request.plan, risks),
+    }
+}
+
+/// The files of `survive` with an old plan.
+fn compare_files(request: &CompareRequest) -> Files<'_>
+    ensures { names_of result ≡ compare_files request.now }
+{
+    match &request.risks {
+        None => Files::of_two(&request.old, &request.new),
+        Some((risks, _)) => {
+            Files::reading([Some(&request.old), Some(&request.new), Some(risks)])
+        }
     }
 }
 

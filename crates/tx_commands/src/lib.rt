@@ -58,5 +58,5 @@ pub use page::PageRequest;
 pub use place::Place;
 pub use reading::read_command;
 pub use run::{RunRequest, TellingRequest};
-pub use survive::SurviveRequest;
+pub use survive::{CompareRequest, SurviveRequest};
 pub use trace::{GroupRequest, TraceRequest};

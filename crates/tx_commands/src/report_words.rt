@@ -2,7 +2,7 @@
 use crate::code_table::Entry;
 
 /// The words of reports, of a plan and of a certificate.
-pub static REPORT_WORDS: [Entry; 48] = [
+pub static REPORT_WORDS: [Entry; 51] = [
     [
         "VERDICT",
         "Verdict",
@@ -114,7 +114,7 @@ pub static REPORT_WORDS: [Entry; 48] = [
     [
         "WAS",
         "OldList",
-        "The list that the line above replaces. Without groups: there was none.",
+        "The list that the line above replaces; without groups there was none. In a report of outages, what the old plan has in place of the new one.",
         "Give the exchange this list again to undo the line above.",
     ],
     [
@@ -136,9 +136,27 @@ pub static REPORT_WORDS: [Entry; 48] = [
         "Look at the totals first: each outage with what it cuts off.",
     ],
     [
+        "WORSE",
+        "WorseOff",
+        "By this outage some calls are cut off, or led astray, that were not in the old plan, or cut off where they were led astray. Of a grade: a greater limit, or a smaller spare number.",
+        "The lines below the totals say whom it cuts off: let another group stand in the list at the end of the walk.",
+    ],
+    [
+        "BETTER",
+        "BetterOff",
+        "It is worse in the old plan, and in nothing better there.",
+        "Nothing.",
+    ],
+    [
+        "SAME",
+        "SameInBoth",
+        "The same calls are cut off in both plans, and the same are led astray. Of a grade: both plans have it.",
+        "telexplan survive without --from says which calls.",
+    ],
+    [
         "RISKS",
         "Risks",
-        "How many outages were tried. In a text of risks, its header.",
+        "How many outages were tried, or how many named risks cut off nobody. In a text of risks, its header.",
         "telexplan survive --risks-only tries the named ones alone.",
     ],
     [

@@ -13,12 +13,18 @@ use clap::ArgMatches;
 use std::alloc::{AllocError, Global};
 
 /// `survive PLAN`, with the named risks of a file, if one is named. The flag with them: these alone.
-/// The other flag: totals alone.
 #[derive(Drop)]
 pub struct SurviveRequest {
     pub plan: String,
     pub risks: Option<(String, bool)>,
-    pub totals: bool,
+}
+
+/// `survive NEW --from OLD`: both plans, one beside the other.
+#[derive(Drop)]
+pub struct CompareRequest {
+    pub old: String,
+    pub new: String,
+    pub risks: Option<(String, bool)>,
 }
 
 const SURVIVE_HELP: &str =
@@ -28,8 +34,8 @@ home there are left out.
 Example: telexplan survive own.plan --risks cables
 
 Exit status: 0 after YES, 1 after NO and for a plan that has no grade, 2 for a
-refused text, 3 for a failed read or write, 4 when out of memory, 64 for refused
-words";
+refused text and for plans that contradict each other, 3 for a failed read or
+write, 4 when out of memory, 64 for refused words";
 
 pub(crate) fn survive_grammar<'a>(alloc: Global) -> Result<clap::Command<'a>, AllocError>
     ensures { IfOk result (λ c. app_of c ≡ survive_words) }
@@ -42,10 +48,11 @@ pub(crate) fn survive_grammar<'a>(alloc: Global) -> Result<clap::Command<'a>, Al
     )
     .option("risks", "RISKS", RISKS)
     .flag("risks-only", "Try the named risks alone")
-    .flag(
-        "totals",
-        "Print how many starts each outage cuts off, and not which
-ones",
+    .option(
+        "from",
+        "OLD",
+        "The plan that is in force: say whether anybody is worse
+off by the plan; - is standard input",
     )
     .command
 }
@@ -60,15 +67,18 @@ pub(crate) fn survive_of(alloc: Global, matches: &ArgMatches<'_>) -> Result<Comm
         return Err(Misuse::Incomplete);
     };
     let only = is_set(matches, "risks-only");
-    let totals = is_set(matches, "totals");
+    let old = text(alloc, matches, "from")?;
     let risks = match text(alloc, matches, "risks")? {
         Some(risks) => Some((risks, only)),
         None if only => return Err(Misuse::RisksOnly),
         None => None,
     };
-    Ok(Command::Survive(SurviveRequest {
-        plan,
-        risks,
-        totals,
-    }))
+    match old {
+        Some(old) => Ok(Command::Compare(CompareRequest {
+            old,
+            new: plan,
+            risks,
+        })),
+        None => Ok(Command::Survive(SurviveRequest { plan, risks })),
+    }
 }

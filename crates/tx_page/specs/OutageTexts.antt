@@ -1,5 +1,5 @@
 -- What a page shows of outages.
-use Rattle.std.specs.Prelude.{ℕ, Bool, ◌&&◌, if◌then◌else◌, List, [], ◌∷◌, ◌++◌, length, codes, decimal, count_by, slice_get}
+use Rattle.std.specs.Prelude.{ℕ, Bool, not, ◌||◌, if◌then◌else◌, List, [], ◌∷◌, ◌++◌, length, codes, decimal, slice_get}
 use Rattle.std.specs.List.{flat_map}
 use Rattle.std.specs.Option.{option_map_or}
 use Rattle.tx_plan.specs.Plan.{Plan, exchange_name, figures_of, group_name}
@@ -8,7 +8,8 @@ use Rattle.tx_risk.specs.declared.outage.Outage.{Outage}
 use Rattle.tx_risk.specs.declared.outage.Outage.TheVariants.{Group, Exchange, Named}
 use Rattle.tx_risk.specs.declared.cut.Cut.{Cut}
 use Rattle.tx_risk.specs.declared.cut.Outcome.{Outcome}
-use Rattle.tx_risk_report.specs.OutageReport.{is_group, is_exchange, is_harmless, cut_off, astray, is_told}
+use Rattle.tx_risk_report.specs.OutageReport.{is_of, is_harmless, harmless_of, cut_off, astray}
+use Rattle.tx_risk_report.specs.declared.totals.Kind.TheVariants.{Risks, Groups, Exchanges}
 
 -- what kind of thing fails
 abbrev pub outage_kind : Outage → List ℕ
@@ -31,21 +32,21 @@ module _ {A : Type 0} where
   -- an outage, how many starts it cuts off and may lead astray, and which
   abbrev pub outcome_texts : Plan → List NamedRisk → Outcome A → List (List ℕ)
   outcome_texts p risks o = (outage_kind o.outage ∷ outage_name p risks o.outage
-      ∷ decimal (cut_off o) ∷ decimal (astray o) ∷ [])
+      ∷ decimal (cut_off o.cuts.items) ∷ decimal (astray o.cuts.items) ∷ [])
       ++ flat_map (cut_texts p) o.cuts.items
+
+  -- a named risk is told, and what else cuts somebody off
+  abbrev pub is_told : Outcome A → Bool
+  is_told o = is_of Risks o.outage || not (is_harmless o)
 
   -- the same, if the outage is told
   abbrev pub shown_texts : Plan → List NamedRisk → Outcome A → List (List ℕ)
   shown_texts p risks o = if is_told o then outcome_texts p risks o else []
 
-  -- how many things of a kind cut nobody off
-  abbrev pub harmless : (Outage → Bool) → List (Outcome A) → ℕ
-  harmless kind outcomes = count_by (λ o. kind o.outage && is_harmless o) outcomes
-
   -- how many outages were tried, and how many groups and exchanges cut nobody off
   abbrev pub total_texts : List (Outcome A) → List (List ℕ)
-  total_texts outcomes = decimal (length outcomes) ∷ decimal (harmless is_group outcomes)
-      ∷ decimal (harmless is_exchange outcomes) ∷ []
+  total_texts outcomes = decimal (length outcomes) ∷ decimal (harmless_of Groups outcomes)
+      ∷ decimal (harmless_of Exchanges outcomes) ∷ []
 
   -- the totals, and the outages that are told, in their order
   abbrev pub tried_texts : Plan → List NamedRisk → List (Outcome A) → List (List ℕ)

@@ -2,13 +2,13 @@
 ghost use Rattle.std.specs.Prelude.{◌≡◌};
 ghost use Rattle.std.specs.List.{flat_map};
 ghost use Rattle.tx_html.specs.Shows.{Sets};
-ghost use Rattle.tx_page.specs.OutageTexts.{outage_kind, outage_name, cut_texts, outcome_texts, shown_texts, total_texts, tried_texts, outages_texts};
+ghost use Rattle.tx_page.specs.OutageTexts.{outage_kind, outage_name, cut_texts, outcome_texts, is_told, shown_texts, total_texts, tried_texts, outages_texts};
 
 use std::alloc::Allocator;
 use tx_html::{PageSink, Part, set};
 use tx_plan::Plan;
 use tx_risk::{Cut, Outage, Outcome, Risks};
-use tx_risk_report::{count_cut, count_stray, harmless_exchanges, harmless_groups, is_told};
+use tx_risk_report::{Kind, count_cut, count_harmless, count_stray, is_harmless, is_of};
 
 /// Writes each named risk, and each group and each exchange that cuts somebody off, with those that
 /// it cuts off; or that the plan has no grade.
@@ -61,9 +61,9 @@ fn write_tried<A: Allocator, W: PageSink>(outcomes: &[Outcome<A>], sink: &mut W)
             Part::Own("<h2>Outages</h2><p>"),
             Part::Count(outcomes.len() as u64),
             Part::Own(TRIED),
-            Part::Count(harmless_groups(outcomes) as u64),
+            Part::Count(count_harmless(outcomes, Kind::Groups) as u64),
             Part::Own(". Exchanges that do neither: "),
-            Part::Count(harmless_exchanges(outcomes) as u64),
+            Part::Count(count_harmless(outcomes, Kind::Exchanges) as u64),
             Part::Own(".</p>"),
         ],
         sink,
@@ -107,6 +107,13 @@ fn name_of<'a, A: Allocator>(plan: &'a Plan<A>, risks: &'a Risks<A>, outage: &Ou
     }
 }
 
+/// Whether an outage is told: a named risk is, and what else cuts somebody off.
+fn is_told<A: Allocator>(outcome: &Outcome<A>) -> bool
+    ensures { result ≡ is_told outcome.now }
+{
+    is_of(Kind::Risks, &outcome.outage) || !is_harmless(outcome)
+}
+
 /// Writes an outcome, if it is told.
 fn write_shown<'a, A: Allocator, W: PageSink>(
     plan: &'a Plan<A>,
@@ -139,9 +146,9 @@ fn write_outcome<'a, A: Allocator, W: PageSink>(
             Part::Own(" <b>"),
             Part::Text(name_of(plan, risks, &outcome.outage)),
             Part::Own("</b>: "),
-            Part::Count(count_cut(outcome) as u64),
+            Part::Count(count_cut(&outcome.cuts) as u64),
             Part::Own(" cut off, "),
-            Part::Count(count_stray(outcome) as u64),
+            Part::Count(count_stray(&outcome.cuts) as u64),
             Part::Own(" astray</summary><ul class=\"c\">"),
         ],
         sink,

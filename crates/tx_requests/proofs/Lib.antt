@@ -12,3 +12,4 @@ mod DeclaredLines
 mod Printed
 mod Ordering
 mod LintTold
+mod Compared

@@ -3,7 +3,7 @@ use Rattle.std.specs.Prelude.{◌≡◌, ℕ, Bool, true, List, Option, is_some,
 use Rattle.tx_text.specs.declared.source.ReadFault.{ReadFault}
 use Rattle.tx_text.specs.Ends.{Input, Output, input, output}
 use Rattle.tx_commands.specs.declared.command.Command.{Command}
-use Rattle.tx_commands.specs.declared.command.Command.TheVariants.{Pipe, Run, RunTelling, Check, Lint, Codes, Audit, Change, Order, Mend, Survive, Page, Grade, Trace, TraceGroup, Fill, Explain}
+use Rattle.tx_commands.specs.declared.command.Command.TheVariants.{Pipe, Run, RunTelling, Check, Lint, Codes, Audit, Change, Order, Mend, Survive, Compare, Page, Grade, Trace, TraceGroup, Fill, Explain}
 use Rattle.tx_jobs.specs.AuditJobs.{AuditJobAnswers}
 use Rattle.tx_jobs.specs.CheckJobs.{CheckJobAnswers}
 use Rattle.tx_jobs.specs.declared.job_fault.JobFault.{JobFault}
@@ -16,6 +16,7 @@ use Rattle.tx_requests.specs.declared.two_plans.Which.TheVariants.{This}
 use Rattle.tx_requests.specs.Audit.{AuditEnds}
 use Rattle.tx_requests.specs.Carried.{IsCarriedOut}
 use Rattle.tx_requests.specs.Change.{ChangeAnswers, change_prints, ChangeEnds}
+use Rattle.tx_requests.specs.Compare.{CompareAnswers, ComparePrints, CompareEnds}
 use Rattle.tx_requests.specs.Ending.{EndsWith, EndsWell}
 use Rattle.tx_requests.specs.Explain.{IsExplained}
 use Rattle.tx_requests.specs.Fill.{FillAnswers, fill_prints}
@@ -32,7 +33,7 @@ use Rattle.tx_requests.specs.Reading.{ReadsPlan, ReadsWithRisks}
 use Rattle.tx_requests.specs.Runs.{IsRunDone}
 use Rattle.tx_requests.specs.Survive.{SurviveAnswers, survive_prints, SurviveEnds}
 use Rattle.tx_requests.specs.Trace.{TraceAnswers, trace_prints}
-use Rattle.tx_requests.specs.TwoPlans.{ReadsWhole, ReadsPlans}
+use Rattle.tx_requests.specs.TwoPlans.{ReadsWhole, ReadsPlans, ReadsPlansWithRisks}
 
 module _ {P W : Type 0} (rest : P → Option (List ℕ)) (failed : P → Bool)
     (called : ℕ → Result ℕ ReadFault → P → P → Type 0) (old new : P) (second third : Input)
@@ -90,8 +91,11 @@ module _ {P W : Type 0} (rest : P → Option (List ℕ)) (failed : P → Bool)
         ByRequest (ReadsWhole This first) MendAnswers mend_prints MendEnds r result
         × second.unread × third.unread
     IsDone (Survive r) result =
-        ByRequest (ReadsWithRisks (is_some r.risks) first second) SurviveAnswers survive_prints
+        ByRequest (ReadsWithRisks (is_some r.risks) first second) SurviveAnswers (λ r. survive_prints)
         (λ r. SurviveEnds) r result × third.unread
+    IsDone (Compare r) result =
+        ByRequest (ReadsPlansWithRisks (is_some r.risks) first second third) CompareAnswers
+        (λ r. ComparePrints) (λ r. CompareEnds) r result
     IsDone (Page r) result =
         ByRequest (ReadsForPage (is_some r.risks) (is_some r.old) first second third) PageAnswers
         PagePrints (λ r. PageEnds) r result

@@ -11,6 +11,7 @@ pub mod Made
 pub mod Grade
 pub mod Change
 pub mod Survive
+pub mod Compare
 pub mod Asked
 pub mod Trace
 pub mod Fill

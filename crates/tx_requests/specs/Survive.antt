@@ -22,9 +22,6 @@ abbrev pub is_only : {F : Type 0} → Option (F × Bool) → Bool
 is_only None = false
 is_only (Some (file, only)) = only
 
-abbrev pub named_only : SurviveRequest → Bool
-named_only r = is_only r.risks
-
 module _ {A : Type 0} where
   -- what outages come to: of a plan that has a grade, what each named risk, each group and each
   -- exchange cuts off alone, or each named risk; else that it has none, and why
@@ -35,12 +32,11 @@ module _ {A : Type 0} where
   -- the plan and its risks, and what its outages come to
   abbrev pub SurviveAnswers : SurviveRequest → PlanRisks A
       → Result (PlanRisks A × Survival A) CommandFault → Type 0
-  SurviveAnswers r t (Ok a) = (a.0 ≡ t) × IsSurvivalOf t.plan t.risks (named_only r) a.1
+  SurviveAnswers r t (Ok a) = (a.0 ≡ t) × IsSurvivalOf t.plan t.risks (is_only r.risks) a.1
   SurviveAnswers r t (Err fault) = fault ≡ memory_stop
 
-  -- totals alone, where that is asked for
-  abbrev pub survive_prints : SurviveRequest → PlanRisks A × Survival A → Printing
-  survive_prints r a = Writes (survival_text a.0.plan a.0.risks r.totals a.1)
+  abbrev pub survive_prints : PlanRisks A × Survival A → Printing
+  survive_prints a = Writes (survival_text a.0.plan a.0.risks a.1)
 
   -- an outage cuts somebody off, or the plan has no grade
   abbrev pub is_denied : Survival A → Bool

@@ -1,6 +1,6 @@
 -- The two plans of a change or an order: both texts are read to their ends, and the plans are
 -- joined.
-use Rattle.std.specs.Prelude.{◌≡◌, ◌⊎◌, List, ℕ, true, None, Result, Ok, Err}
+use Rattle.std.specs.Prelude.{◌≡◌, ◌⊎◌, Bool, List, ℕ, true, None, Result, Ok, Err}
 use Rattle.tx_text.specs.declared.frame.FaultAt.{FaultAt}
 use Rattle.tx_text.specs.declared.frame.FaultKind.{FaultKind}
 use Rattle.tx_text.specs.Ends.{Input, IsWholeText}
@@ -20,12 +20,15 @@ use Rattle.tx_join.specs.Refusals.{join_refusal, IsRefusedAs}
 use Rattle.tx_join.specs.Laws.{AreOverBoth, HaveTheirLists}
 use Rattle.tx_jobs.specs.declared.job_fault.JobFault.TheVariants.{Read, NoMemory}
 use Rattle.tx_requests.specs.declared.two_plans.PlanText.{PlanText}
+use Rattle.tx_requests.specs.declared.two_plans.PlansRisks.{PlansRisks}
 use Rattle.tx_requests.specs.declared.two_plans.TwoPlans.{TwoPlans}
 use Rattle.tx_requests.specs.declared.two_plans.Which.{Which}
 use Rattle.tx_requests.specs.declared.two_plans.Which.TheVariants.{Old, New}
 use Rattle.tx_requests.specs.declared.fault.CommandFault.{CommandFault}
 use Rattle.tx_requests.specs.declared.fault.CommandFault.TheVariants.{Job, Contradiction, TooManyTogether}
 use Rattle.tx_requests.specs.Faults.{in_plan}
+use Rattle.tx_requests.specs.Reading.{ReadsRisksIf}
+use Rattle.tx_risk.specs.NamedRisks.{AreRisksFor}
 
 -- what the reader of plans answers of a text that is in memory
 abbrev pub TextAnswers : List ℕ → Result Plan (ℕ × FaultKind PlanWord) → Type 0
@@ -121,3 +124,22 @@ abbrev pub ReadsPlans : {A : Type 0} → (old new : Input) → Result (TwoPlans 
 ReadsPlans old new (Ok t) =
     SaysWhole old t.old × SaysWhole new t.new × IsJoin t.old.plan t.new.plan t.joined
 ReadsPlans {A} old new (Err fault) = AreNotJoined A old new fault
+
+-- the plans were joined, and the risks were refused
+abbrev pub LackRisks : (A : Type 0) → (named : Bool) → (old new text : Input) → CommandFault → Type 0
+LackRisks A named old new text fault = (t : TwoPlans A) × ReadsPlans old new (Ok t)
+    × ReadsRisksIf named t.joined.new text (Err fault)
+
+module _ {A : Type 0} where
+  -- both texts say their plans, and the risks are of their joined network
+  pub record HavePlansRisks (t : PlansRisks A) : Type 0 where
+    pub plans : AreJoined t.plans
+    pub risks : AreRisksFor t.plans.joined.new t.risks
+
+  -- the plans of the first two texts, joined, and named risks over both, if they are asked for
+  abbrev pub ReadsPlansWithRisks : (named : Bool) → (old new text : Input)
+      → Result (PlansRisks A) CommandFault → Type 0
+  ReadsPlansWithRisks named old new text (Ok t) =
+      ReadsPlans old new (Ok t.plans) × ReadsRisksIf named t.plans.joined.new text (Ok t.risks)
+  ReadsPlansWithRisks named old new text (Err fault) =
+      (AreNotJoined A old new fault × text.unread) ⊎ LackRisks A named old new text fault

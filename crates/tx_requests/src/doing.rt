@@ -14,7 +14,7 @@ use crate::linting::do_lint;
 use crate::page_reading::read_for_page;
 use crate::reading::{read_one, read_with_risks};
 use crate::running::{do_check, do_codes, do_pipe, do_run, do_telling};
-use crate::two_plans::{Which, read_plans, read_whole};
+use crate::two_plans::{Which, read_plans, read_plans_with_risks, read_whole};
 use std::alloc::Allocator;
 use tx_commands::Command;
 use tx_text::{Sink, Source};
@@ -58,6 +58,11 @@ pub fn do_command<A: Allocator + Copy, P: Source, Q: Source, R: Source, W: Sink>
         }
         Command::Survive(request) => {
             let texts = read_with_risks(alloc, request.risks.is_some(), first, second);
+            carry_out(alloc, request, texts, out)
+        }
+        Command::Compare(request) => {
+            let named = request.risks.is_some();
+            let texts = read_plans_with_risks(alloc, named, first, second, third);
             carry_out(alloc, request, texts, out)
         }
         Command::Page(request) => {

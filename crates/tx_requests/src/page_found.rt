@@ -4,7 +4,7 @@ ghost use Rattle.std.specs.List.{range_with_len};
 ghost use Rattle.tx_plan.specs.Certified.{IsCertified};
 ghost use Rattle.tx_cert.specs.Certificate.{ranks_of};
 ghost use Rattle.tx_rank.specs.Judged.{AreOrigins};
-ghost use Rattle.tx_risk.specs.NamedRisks.{AreRisksFor};
+ghost use Rattle.tx_risk.specs.NamedRisks.{AreRisksFor, AreWithin};
 ghost use Rattle.tx_risk.specs.Outages.{AreOutcomes};
 ghost use Rattle.tx_requests.specs.Page.{shown_codes, one_or_all, IsFound};
 
@@ -64,7 +64,7 @@ pub(crate) fn found_of<A: Allocator + Copy>(
     plan.rules();
     let ranking = judge(alloc, plan, limits)?;
     let grade = grade(alloc, plan)?;
-    let outcomes = outcomes_of(alloc, plan, &grade, risks)?;
+    let outcomes = outcomes_of(alloc, plan, &grade, risks, false)?;
     let pictures = pictures_of(alloc, plan, &grade, code)?;
     Ok(Found {
         ranking,
@@ -75,20 +75,22 @@ pub(crate) fn found_of<A: Allocator + Copy>(
 }
 
 /// What outages cut off of a plan that has a grade; nothing of one that has none.
-fn outcomes_of<A: Allocator + Copy>(
+pub(crate) fn outcomes_of<A: Allocator + Copy>(
     alloc: A,
     plan: &Plan<A>,
     grade: &Grade<A>,
     risks: &Risks<A>,
+    named_only: bool,
 ) -> Result<Vec<Outcome<A>, A>, NoMemory>
     requires ranks { IfSome grade.now.plan (λ b.
         IsCertified plan.now (ranks_of grade.now.ranks) b.limit b.spare) }
-    requires risks { AreRisksFor plan.now risks.now }
-    ensures { IfOk result (λ all. IfSome grade.now.plan (λ _.
-        AreOutcomes plan.now risks.now false all.items)) }
+    requires risks { AreWithin plan.now risks.now }
+    ensures outcomes { IfOk result (λ all. IfSome grade.now.plan (λ _.
+        AreOutcomes plan.now risks.now named_only all.items)) }
+    ensures none { IfOk result (λ all. grade.now.plan ≡ None → all.items ≡ []) }
 {
     match grade.plan {
-        Some(_) => all_outcomes(alloc, plan, &grade.ranks, risks, false),
+        Some(_) => all_outcomes(alloc, plan, &grade.ranks, risks, named_only),
         None => Ok(Vec::new(alloc)),
     }
 }

@@ -2,7 +2,7 @@
 ghost use Rattle.std.specs.List.{list_any};
 ghost use Rattle.std.specs.Prelude.{◌≡◌, ◌==◌, not, length};
 ghost use Rattle.tx_requests.specs.Reading.{HasItsRisks};
-ghost use Rattle.tx_requests.specs.Survive.{named_only, SurviveAnswers, survive_prints, SurviveEnds, is_denied};
+ghost use Rattle.tx_requests.specs.Survive.{is_only, SurviveAnswers, survive_prints, SurviveEnds, is_denied};
 
 use crate::ending::Ending;
 use crate::fault::CommandFault;
@@ -23,17 +23,18 @@ impl<A: Allocator + Copy> Request<A> for SurviveRequest {
 
     ghost answers = { SurviveAnswers };
 
-    ghost prints = { survive_prints };
+    ghost prints = { λ _. survive_prints };
 
     ghost ends = { λ _. SurviveEnds };
 
     fn answer(&self, alloc: A, texts: Self::Texts) -> Result<Self::Answer, CommandFault> {
-        let survival = survive(alloc, &texts.plan, &texts.risks, named_only(self))?;
+        let only = named_only(&self.risks);
+        let survival = survive(alloc, &texts.plan, &texts.risks, only)?;
         Ok((texts, survival))
     }
 
     fn print<W: Sink>(&self, answer: &Self::Answer, out: &mut W) -> Result<(), WriteFault> {
-        write_survival(&answer.0.plan, &answer.0.risks, &answer.1, self.totals, out)
+        write_survival(&answer.0.plan, &answer.0.risks, &answer.1, out)
     }
 
     fn end(&self, _alloc: A, answer: Self::Answer) -> Result<Ending<A>, CommandFault> {
@@ -42,10 +43,10 @@ impl<A: Allocator + Copy> Request<A> for SurviveRequest {
 }
 
 /// Whether the named risks alone are tried.
-fn named_only(request: &SurviveRequest) -> bool
-    ensures { result ≡ named_only request.now }
+pub(crate) fn named_only(risks: &Option<(String, bool)>) -> bool
+    ensures { result ≡ is_only risks.now }
 {
-    match &request.risks {
+    match risks {
         Some((_, only)) => *only,
         None => false,
     }

@@ -2,14 +2,16 @@
 ghost use Rattle.std.specs.Prelude.{◌≡◌, IfOk, IfErr};
 ghost use Rattle.tx_text.specs.Calls.{CallsAtMost, source_calls};
 ghost use Rattle.tx_text.specs.Ends.{input};
-ghost use Rattle.tx_requests.specs.TwoPlans.{IsSaid, ReadsWhole, join_stop, IsNoJoinOf, IsJoin, AreJoined, ReadsPlans};
+ghost use Rattle.tx_requests.specs.TwoPlans.{IsSaid, ReadsWhole, join_stop, IsNoJoinOf, IsJoin, AreJoined, ReadsPlans, HavePlansRisks, ReadsPlansWithRisks};
 
 use crate::fault::CommandFault;
+use crate::reading::read_risks_if;
 use std::alloc::{Allocator, Global};
 use tx_jobs::JobFault;
 use tx_join::{Contradiction, JoinRefusal, Joined, Kind, join};
 use tx_plan::Plan;
 use tx_plantext::read_plan;
+use tx_risk::Risks;
 use tx_text::{Source, read_whole_text};
 
 /// Which plan a text says: the one that a command is about, or the old or the new one of a change
@@ -36,6 +38,13 @@ pub struct TwoPlans<A: Allocator = Global> {
     pub joined: Joined<A>,
 }
 
+/// Two plans, and named risks over their joined network.
+#[derive(Drop)]
+pub struct PlansRisks<A: Allocator = Global> {
+    pub plans: TwoPlans<A>,
+    pub risks: Risks<A>,
+}
+
 /// Reads an old plan and then a new one, each to the end of its text, and joins them.
 pub(crate) fn read_plans<A: Allocator + Copy, P: Source, Q: Source>(
     alloc: A,
@@ -51,6 +60,28 @@ pub(crate) fn read_plans<A: Allocator + Copy, P: Source, Q: Source>(
     let old = read_whole(alloc, Which::Old, old)?;
     let new = read_whole(alloc, Which::New, new)?;
     join_plans(alloc, old, new)
+}
+
+/// Reads an old plan and then a new one, joins them, and then reads named risks over their joined
+/// network, if they are asked for.
+pub(crate) fn read_plans_with_risks<A: Allocator + Copy, P: Source, Q: Source, R: Source>(
+    alloc: A,
+    named: bool,
+    old: &mut P,
+    new: &mut Q,
+    risks: &mut R,
+) -> Result<PlansRisks<A>, CommandFault>
+    ensures texts { ReadsPlansWithRisks named (input P.rest P.failed P.called old.old old.new)
+        (input Q.rest Q.failed Q.called new.old new.new)
+        (input R.rest R.failed R.called risks.old risks.new) result }
+    ensures known { IfOk result HavePlansRisks }
+    ensures old_calls { CallsAtMost P.called source_calls old.old old.new }
+    ensures new_calls { CallsAtMost Q.called source_calls new.old new.new }
+    ensures risks_calls { CallsAtMost R.called source_calls risks.old risks.new }
+{
+    let plans = read_plans(alloc, old, new)?;
+    let risks = read_risks_if(alloc, named, &plans.joined.new, risks)?;
+    Ok(PlansRisks { plans, risks })
 }
 
 /// Reads a plan, to the end of its text.

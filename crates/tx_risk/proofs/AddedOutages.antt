@@ -8,7 +8,7 @@ use Rattle.std.specs.Prelude.{slice_get, is_some, ◌==◌, if◌then◌else◌}
 use Rattle.std.specs.Option.{option_map_or, option_and_then}
 use Rattle.std.specs.List.{list_any, range_with_len, AllByRecursion}
 use Rattle.tx_plan.specs.Plan.{Plan, Group as Row}
-use Rattle.tx_plan.proofs.Lists.{all_put}
+use Rattle.tx_plan.proofs.Lists.{all_put, all_map}
 use Rattle.tx_plan.specs.Circuits.{far_end}
 use Rattle.tx_machine.proofs.Lists.{any_mem}
 use Rattle.tx_plan.proofs.Among.{all_among}
@@ -18,7 +18,7 @@ use Rattle.tx_risk.specs.declared.cut.Outcome.{Outcome}
 use Rattle.tx_risk.specs.declared.outage.Outage.{Outage}
 use Rattle.tx_risk.specs.declared.outage.Outage.TheVariants.{Group, Exchange, Named}
 use Rattle.tx_risk.specs.Risks.{Risk}
-use Rattle.tx_risk.specs.NamedRisks.{NamedRisk, IsNamedRisk, AreRisksFor, named_groups}
+use Rattle.tx_risk.specs.NamedRisks.{NamedRisk, AreRisksFor, AreWithin, named_groups}
 use Rattle.tx_risk.specs.Outages.{risk_of, all_outages, AreCutsOfCode, AreCutsBelow, IsOutcome}
 use Rattle.tx_risk.specs.inner.Cutting.{Adds}
 
@@ -64,7 +64,7 @@ end_known p g x t = at (slice_get p.groups g) refl t
     at None e t = absurd (false≢true t)
     at (Some r) e t = slice_get_within p.groups g r e
 
-named_known : (p : Plan) (risks : List NamedRisk) → AreRisksFor p risks → (i g : ℕ)
+named_known : (p : Plan) (risks : List NamedRisk) → AreWithin p risks → (i g : ℕ)
     → list_any (λ h. h == g) (named_groups risks i) ≡ true → g < length p.groups
 named_known p risks ok i g t = at (slice_get risks i) refl t
   where
@@ -74,9 +74,9 @@ named_known p risks ok i g t = at (slice_get risks i) refl t
     at None e t = absurd (false≢true t)
     at (Some r) e t =
         let m = any_mem (λ h. h == g) r.groups t in
-        let k = all_among (IsNamedRisk p) risks r ok.each (among_at risks i r e) in
+        let k = all_among (λ (s : NamedRisk). AllByRecursion (λ h. h < length p.groups) s.groups) risks r ok (among_at risks i r e) in
         let same = eqb-true m.0 g m.2 in
-        let l = all_among (λ h. h < length p.groups) r.groups m.0 k.known m.1 in
+        let l = all_among (λ h. h < length p.groups) r.groups m.0 k m.1 in
         omega arith
 
 -- a group that fails alone is one of the plan
@@ -111,9 +111,13 @@ all_known p risks named_only =
     others false =
         mapped_known p Group 0 (length p.groups) (λ k low. omega arith) _ exchanges
 
-pub outage_known : (p : Plan) (risks : List NamedRisk) → AreRisksFor p risks → (o : Outage)
+pub outage_known : (p : Plan) (risks : List NamedRisk) → AreWithin p risks → (o : Outage)
     → IsKnown p o → (g : ℕ) → risk_of p risks o g ≡ true → g < length p.groups
 outage_known p risks ok (Group h) known g t =
     let same = eqb-true g h t in omega arith
 outage_known p risks ok (Exchange x) known g t = end_known p g x t
 outage_known p risks ok (Named i) known g t = named_known p risks ok i g t
+
+-- the groups of the risks of a plan are the plan's
+pub risks_within : (p : Plan) (risks : List NamedRisk) → AreRisksFor p risks → AreWithin p risks
+risks_within p risks ok = all_map risks (λ r k. k.known) ok.each

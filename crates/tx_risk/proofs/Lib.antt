@@ -15,3 +15,5 @@ pub mod Marking
 pub mod Rows
 pub mod GroupWords
 pub mod RiskLines
+pub mod Comparing
+pub mod RisksIn

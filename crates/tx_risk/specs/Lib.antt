@@ -3,6 +3,7 @@ pub mod Served
 pub mod NamedRisks
 pub mod Outages
 pub mod Survivals
+pub mod Compared
 pub mod RiskText
 pub mod RiskFaults
 pub mod inner

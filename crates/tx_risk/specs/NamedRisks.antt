@@ -1,9 +1,9 @@
 -- Named risks: groups that go together, as those of one cable.
-use Rattle.std.specs.Prelude.{◌≡◌, ◌≢◌, ℕ, ◌<◌, true, List, [], length, slice_get}
-use Rattle.std.specs.List.{AllByRecursion}
+use Rattle.std.specs.Prelude.{◌≡◌, ◌≢◌, ℕ, ◌<◌, true, List, [], length, map, slice_get}
+use Rattle.std.specs.List.{AllByRecursion, filter_map}
 use Rattle.std.specs.Option.{option_map_or}
 use Rattle.tx_text.specs.Words.{is_name}
-use Rattle.tx_plan.specs.Plan.{Plan}
+use Rattle.tx_plan.specs.Plan.{Plan, group_name, group_named}
 use Rattle.tx_plan.specs.Rules.{EachPair}
 
 -- a name, and groups by their indexes
@@ -30,3 +30,18 @@ pub record IsNamedRisk (p : Plan) (r : NamedRisk) : Type 0 where
 pub record AreRisksFor (p : Plan) (risks : List NamedRisk) : Type 0 where
   pub each : AllByRecursion (IsNamedRisk p) risks
   pub differ : EachPair (λ r s. r.name ≢ s.name) risks
+
+-- all their groups are the plan's
+abbrev pub AreWithin : Plan → List NamedRisk → Type 0
+AreWithin p risks = AllByRecursion (λ r. AllByRecursion (λ g. g < length p.groups) r.groups) risks
+
+-- a risk of the plan q, with those of its groups that the plan p has too, by their names
+abbrev pub risk_in : (q p : Plan) → NamedRisk → NamedRisk
+risk_in q p r = record {
+  name = r.name;
+  groups = filter_map (λ g. group_named p (group_name q g)) r.groups;
+}
+
+-- each of them so
+abbrev pub risks_in : (q p : Plan) → List NamedRisk → List NamedRisk
+risks_in q p risks = map (risk_in q p) risks

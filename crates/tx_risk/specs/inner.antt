@@ -5,3 +5,4 @@ pub mod Orders
 pub mod Nearest
 pub mod Cutting
 pub mod Hits
+pub mod InOrder

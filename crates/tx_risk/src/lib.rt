@@ -19,6 +19,7 @@ mod outages;
 mod risk_reader;
 mod risks;
 mod shortest;
+mod side;
 mod surviving;
 
 pub use cut::{Cut, Outcome};
@@ -28,7 +29,8 @@ pub use law::{
     keyed_since_get_through, none_on_failed, ranked_is_uncut, uncut_is_closed, uncut_is_served,
 };
 pub use outage::Outage;
-pub use outages::{all_outcomes, goes_with};
+pub use outages::{all_outcomes, goes_with, outages_of};
 pub use risk_reader::{read_risks, read_risks_from};
 pub use risks::Risks;
+pub use side::{Side, has_worse, is_other};
 pub use surviving::{Survival, survive};

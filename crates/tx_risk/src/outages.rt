@@ -4,7 +4,7 @@ ghost use Rattle.std.specs.List.{range_with_len};
 ghost use Rattle.tx_plan.specs.Certified.{IsCertified};
 ghost use Rattle.tx_cert.specs.Certificate.{ranks_of};
 ghost use Rattle.tx_rank.specs.Judged.{AreOrigins};
-ghost use Rattle.tx_risk.specs.NamedRisks.{AreRisksFor};
+ghost use Rattle.tx_risk.specs.NamedRisks.{AreWithin};
 ghost use Rattle.tx_risk.specs.declared.outage.Outage.TheVariants.{Group, Exchange, Named};
 ghost use Rattle.tx_risk.specs.Outages.{risk_of, all_outages, AreCutsOf, AreOutcomes};
 ghost use Rattle.tx_risk.specs.inner.Marked.{marked};
@@ -133,7 +133,7 @@ fn add_exchanges<A: Allocator>(plan: &Plan<A>, outages: &mut Vec<Outage, A>) -> 
 }
 
 /// All outages, in order, or the named risks alone.
-fn outages_of<A: Allocator + Copy>(
+pub fn outages_of<A: Allocator + Copy>(
     alloc: A,
     plan: &Plan<A>,
     risks: &Risks<A>,
@@ -162,7 +162,7 @@ pub fn all_outcomes<A: Allocator + Copy>(
 ) -> Result<Vec<Outcome<A>, A>, NoMemory>
     requires certified { (limit : ℕ) × (spare : ℕ)
         × IsCertified plan.now (ranks_of ranks.now) limit spare }
-    requires risks { AreRisksFor plan.now risks.now }
+    requires risks { AreWithin plan.now risks.now }
     ensures { IfOk result (λ all. AreOutcomes plan.now risks.now named_only all.items) }
 {
     let orders = orders_of(alloc, plan, ranks)?;

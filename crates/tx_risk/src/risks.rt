@@ -1,14 +1,15 @@
 // Named risks.
-ghost use Rattle.std.specs.Prelude.{◌≡◌, ◌<◌, ◌^◌, ◌++◌, ◌∷◌, [], false, length, slice_get, OnOk, OnErr};
-ghost use Rattle.std.specs.List.{list_any};
+ghost use Rattle.std.specs.Prelude.{◌≡◌, ◌<◌, ◌^◌, ◌++◌, ◌∷◌, [], false, length, slice_get, IfOk, OnOk, OnErr};
+ghost use Rattle.std.specs.List.{list_any, filter_map};
 ghost use Rattle.std.specs.Option.{option_map_or};
 ghost use Rattle.std.specs.Str.{bytes_eq};
-ghost use Rattle.tx_risk.specs.NamedRisks.{risk_name, named_groups};
+ghost use Rattle.tx_plan.specs.Plan.{group_name, group_named};
+ghost use Rattle.tx_risk.specs.NamedRisks.{risk_name, named_groups, AreRisksFor, AreWithin, risks_in};
 
 use indexmap::IndexMap;
 use std::alloc::{Allocator, Global};
 use std::marker::Model;
-use tx_plan::{ByWord, GroupId, NameKey};
+use tx_plan::{ByWord, GroupId, NameKey, Plan};
 use tx_text::NoMemory;
 
 /// Risks in order: each has a name, and groups that may go together, such as those of one cable.
@@ -42,6 +43,41 @@ impl<A: Allocator + Copy> Risks<A> {
             rows: IndexMap::with_hasher(alloc, ByWord),
         }
     }
+
+    /// Those of another plan: under each name the groups that it has too, by their names.
+    pub fn over(&self, alloc: A, plan: &Plan<A>, other: &Plan<A>) -> Result<Risks<A>, NoMemory>
+        requires { AreRisksFor plan.now self.now }
+        ensures risks { IfOk result (λ r. r ≡ risks_in plan.now other.now self.now) }
+        ensures within { IfOk result (AreWithin other.now) }
+    {
+        let mut risks = Risks::none(alloc);
+        for index in 0..self.len() {
+            let name = NameKey::new(self.name(index));
+            let groups = groups_over(alloc, plan, other, self.groups(index))?;
+            risks.add(name, groups)?;
+        }
+        Ok(risks)
+    }
+}
+
+/// The groups of another plan that have the names of these, as far as it has them.
+fn groups_over<A: Allocator + Copy>(
+    alloc: A,
+    plan: &Plan<A>,
+    other: &Plan<A>,
+    groups: &[GroupId],
+) -> Result<Vec<GroupId, A>, NoMemory>
+    ensures { IfOk result (λ found. found.items
+        ≡ filter_map (λ g. group_named other.now (group_name plan.now g)) groups.now) }
+{
+    let mut found = Vec::new(alloc);
+    for i in 0..groups.len() {
+        match other.group_named(plan.group_name(groups[i])) {
+            Some(group) => found.push(group)?,
+            None => {}
+        }
+    }
+    Ok(found)
 }
 
 impl<A: Allocator> Risks<A> {

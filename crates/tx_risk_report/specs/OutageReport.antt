@@ -1,5 +1,5 @@
 -- What the outages of a plan cut off, as it is written.
-use Rattle.std.specs.Prelude.{ℕ, Bool, true, false, not, ◌&&◌, ◌||◌, ◌==◌, List, [], ◌++◌, if◌then◌else◌, length, count_by, sum_by, codes, decimal}
+use Rattle.std.specs.Prelude.{ℕ, Bool, true, false, not, ◌&&◌, ◌==◌, List, [], ◌++◌, if◌then◌else◌, length, count_by, sum_by, codes, decimal}
 use Rattle.std.specs.List.{flat_map, range_with_len}
 use Rattle.tx_plan.specs.Plan.{Plan, exchange_name, figures_of, group_name}
 use Rattle.tx_rank.specs.Walks.{Walk, end_of}
@@ -10,6 +10,8 @@ use Rattle.tx_risk.specs.declared.cut.Outcome.{Outcome}
 use Rattle.tx_risk.specs.declared.surviving.Survival.{Survival}
 use Rattle.tx_risk.specs.declared.surviving.Survival.TheVariants.{Tried, Ungraded}
 use Rattle.tx_risk.specs.NamedRisks.{NamedRisk, risk_name}
+use Rattle.tx_risk_report.specs.declared.totals.Kind.{Kind}
+use Rattle.tx_risk_report.specs.declared.totals.Kind.TheVariants.{Risks, Groups, Exchanges}
 use Rattle.tx_rank.specs.Report.{step_text, verdict_line}
 use Rattle.tx_rank.specs.GradeText.{grade_text}
 
@@ -23,20 +25,18 @@ outage_words p risks (Group g) = codes "GROUP " ++ group_name p g
 outage_words p risks (Exchange x) = codes "EXCHANGE " ++ exchange_name p x
 outage_words p risks (Named i) = codes "RISK " ++ risk_name risks i
 
--- it is a named risk
-abbrev pub is_named : Outage → Bool
-is_named (Named i) = true
-is_named o = false
+-- it is of a kind
+abbrev pub is_of : Kind → Outage → Bool
+is_of Risks (Named i) = true
+is_of Groups (Group g) = true
+is_of Exchanges (Exchange x) = true
+is_of kind o = false
 
--- it is a group
-abbrev pub is_group : Outage → Bool
-is_group (Group g) = true
-is_group o = false
-
--- it is an exchange
-abbrev pub is_exchange : Outage → Bool
-is_exchange (Exchange x) = true
-is_exchange o = false
+-- the word for outages of a kind, and its blank
+abbrev pub kind_word : Kind → List ℕ
+kind_word Risks = codes "RISKS "
+kind_word Groups = codes "GROUPS "
+kind_word Exchanges = codes "EXCHANGES "
 
 -- the first word of a cut, and its blank
 abbrev pub cut_word : (stray : Bool) → List ℕ
@@ -49,44 +49,44 @@ start_text p code w =
     ++ (exchange_name p w.start ++ (flat_map (step_text p) w.steps ++ codes "\n")))))
 
 -- how many outages of a kind cut nobody off, if some do not
-abbrev pub harmless_line : List ℕ → ℕ → List ℕ
-harmless_line kind n = if n == 0 then [] else kind ++ (decimal n ++ codes " CUT 0\n")
+abbrev pub harmless_line : Kind → ℕ → List ℕ
+harmless_line kind n =
+    if n == 0 then [] else kind_word kind ++ (decimal n ++ codes " CUT 0\n")
 
 module _ {A : Type 0} where
   -- nobody is cut off
   abbrev pub is_harmless : Outcome A → Bool
   is_harmless o = length o.cuts.items == 0
 
-  -- how many starts it cuts off without a way home
-  abbrev pub cut_off : Outcome A → ℕ
-  cut_off o = count_by (λ c. not c.stray) o.cuts.items
+  -- how many starts are cut off without a way home
+  abbrev pub cut_off : List (Cut A) → ℕ
+  cut_off cuts = count_by (λ c. not c.stray) cuts
 
   -- how many with one
-  abbrev pub astray : Outcome A → ℕ
-  astray o = count_by (λ c. c.stray) o.cuts.items
+  abbrev pub astray : List (Cut A) → ℕ
+  astray cuts = count_by (λ c. c.stray) cuts
 
-  -- what fails, and how many starts it cuts off, without a way home and with one
-  abbrev pub total_line : Plan → List NamedRisk → Outcome A → List ℕ
-  total_line p risks o =
-      outage_words p risks o.outage
-      ++ (codes " CUT " ++ (decimal (cut_off o)
-      ++ (codes " STRAY " ++ (decimal (astray o) ++ codes "\n"))))
+  -- both
+  abbrev pub counts_text : List (Cut A) → List ℕ
+  counts_text cuts =
+      codes " CUT " ++ (decimal (cut_off cuts) ++ (codes " STRAY " ++ decimal (astray cuts)))
 
-  -- a named risk is told, and what else cuts somebody off
-  abbrev pub is_told : Outcome A → Bool
-  is_told o = is_named o.outage || not (is_harmless o)
-
-  -- the totals of an outage that is told
+  -- what fails, and how many starts it cuts off; nothing, if it cuts nobody off
   abbrev pub total_text : Plan → List NamedRisk → Outcome A → List ℕ
-  total_text p risks o = if is_told o then total_line p risks o else []
+  total_text p risks o =
+      if is_harmless o then []
+      else outage_words p risks o.outage ++ (counts_text o.cuts.items ++ codes "\n")
 
-  -- the groups and the exchanges that cut nobody off
+  -- how many outages of a kind cut nobody off
+  abbrev pub harmless_of : Kind → List (Outcome A) → ℕ
+  harmless_of kind outcomes = count_by (λ o. is_of kind o.outage && is_harmless o) outcomes
+
+  -- those of each kind
   abbrev pub harmless_text : List (Outcome A) → List ℕ
   harmless_text outcomes =
-      harmless_line (codes "GROUPS ")
-      (count_by (λ o. is_group o.outage && is_harmless o) outcomes)
-      ++ harmless_line (codes "EXCHANGES ")
-      (count_by (λ o. is_exchange o.outage && is_harmless o) outcomes)
+      harmless_line Risks (harmless_of Risks outcomes)
+      ++ (harmless_line Groups (harmless_of Groups outcomes)
+      ++ harmless_line Exchanges (harmless_of Exchanges outcomes))
 
   -- whom it cuts off
   abbrev pub cut_line : Plan → Cut A → List ℕ
@@ -109,16 +109,15 @@ module _ {A : Type 0} where
   count_of outcomes = sum_by (λ o. length o.cuts.items) outcomes
 
   -- how many outages were tried, how many starts each cuts off, whom, and the verdict
-  abbrev pub tried_text : Plan → List NamedRisk → (totals_only : Bool) → List (Outcome A) → List ℕ
-  tried_text p risks totals_only outcomes =
+  abbrev pub tried_text : Plan → List NamedRisk → List (Outcome A) → List ℕ
+  tried_text p risks outcomes =
       head_line (length outcomes)
       ++ (flat_map (total_text p risks) outcomes
       ++ (harmless_text outcomes
-      ++ ((if totals_only then [] else flat_map (block_text p risks) outcomes)
+      ++ (flat_map (block_text p risks) outcomes
       ++ verdict_line (count_of outcomes))))
 
   -- the report: of the outages that were tried; or the text of the grade, where the plan has none
-  abbrev pub survival_text : Plan → List NamedRisk → (totals_only : Bool) → Survival A → List ℕ
-  survival_text p risks totals_only (Tried outcomes) =
-      tried_text p risks totals_only outcomes.items
-  survival_text p risks totals_only (Ungraded grade) = grade_text p grade
+  abbrev pub survival_text : Plan → List NamedRisk → Survival A → List ℕ
+  survival_text p risks (Tried outcomes) = tried_text p risks outcomes.items
+  survival_text p risks (Ungraded grade) = grade_text p grade

@@ -54,7 +54,7 @@ fn write_cut_at<A: Allocator, W: Sink>(
 }
 
 /// Writes whom it cuts off, with the walk.
-fn write_line<A: Allocator, W: Sink>(plan: &Plan<A>, cut: &Cut<A>, sink: &mut W)
+pub(crate) fn write_line<A: Allocator, W: Sink>(plan: &Plan<A>, cut: &Cut<A>, sink: &mut W)
     ensures { Puts W.taken W.failed sink.old sink.new
         (cut_line plan.now cut.now) }
 {

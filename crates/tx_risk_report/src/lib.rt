@@ -1,13 +1,14 @@
 //! The report of outages, and events that show whom a risk cuts off.
 #![tactic(auto)]
 
+mod comparison;
 mod cut_lines;
+mod differing;
 mod law;
 mod outage_report;
 mod totals;
 
+pub use comparison::{Comparison, is_against, write_comparison};
 pub use law::cut_is_shown;
 pub use outage_report::write_survival;
-pub use totals::{
-    count_cut, count_stray, harmless_exchanges, harmless_groups, is_harmless, is_told,
-};
+pub use totals::{Kind, count_cut, count_harmless, count_stray, is_harmless, is_of};

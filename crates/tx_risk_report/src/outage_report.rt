@@ -6,7 +6,7 @@ ghost use Rattle.tx_text.specs.Wrote.{Wrote};
 ghost use Rattle.tx_risk_report.specs.OutageReport.{head_line, outage_words, block_text, tried_text, survival_text};
 
 use crate::cut_lines::write_cuts;
-use crate::totals::{is_harmless, write_count, write_harmless, write_totals};
+use crate::totals::{count_all, is_harmless, write_harmless, write_totals, write_verdict};
 use itoa::Buffer;
 use std::alloc::Allocator;
 use tx_plan::Plan;
@@ -14,21 +14,20 @@ use tx_rank::write_grade;
 use tx_risk::{Outage, Outcome, Risks, Survival};
 use tx_text::{Sink, WriteFault, finish, put_bytes, put_parts};
 
-/// Writes how many outages were tried, how many starts each cuts off, which ones (unless totals
-/// alone are asked for), and the verdict; or that the plan has no grade, as its grade is written.
+/// Writes how many outages were tried, how many starts each cuts off, which ones, and the verdict;
+/// or that the plan has no grade, as its grade is written.
 pub fn write_survival<A: Allocator, W: Sink>(
     plan: &Plan<A>,
     risks: &Risks<A>,
     survival: &Survival<A>,
-    totals_only: bool,
     sink: &mut W,
 ) -> Result<(), WriteFault>
     ensures { Wrote W.taken W.failed sink.old sink.new
-        (survival_text plan.now risks.now totals_only survival.now) result }
+        (survival_text plan.now risks.now survival.now) result }
 {
     match survival {
         Survival::Tried(outcomes) => {
-            write_tried(plan, risks, outcomes, totals_only, sink);
+            write_tried(plan, risks, outcomes, sink);
             finish(sink)
         }
         Survival::Ungraded(grade) => write_grade(plan, grade, sink),
@@ -39,20 +38,19 @@ fn write_tried<A: Allocator, W: Sink>(
     plan: &Plan<A>,
     risks: &Risks<A>,
     outcomes: &[Outcome<A>],
-    totals_only: bool,
     sink: &mut W,
 )
     ensures { Puts W.taken W.failed sink.old sink.new
-        (tried_text plan.now risks.now totals_only outcomes.now) }
+        (tried_text plan.now risks.now outcomes.now) }
 {
     write_head(outcomes.len(), sink);
     write_totals(plan, risks, outcomes, sink);
     write_harmless(outcomes, sink);
-    write_blocks(plan, risks, outcomes, totals_only, sink);
-    write_count(outcomes, sink);
+    write_blocks(plan, risks, outcomes, sink);
+    write_verdict(count_all(outcomes), sink);
 }
 
-fn write_head<W: Sink>(count: usize, sink: &mut W)
+pub(crate) fn write_head<W: Sink>(count: usize, sink: &mut W)
     ensures { Puts W.taken W.failed sink.old sink.new
         (head_line count) }
 {
@@ -80,20 +78,16 @@ pub(crate) fn write_outage<A: Allocator, W: Sink>(
     }
 }
 
-/// Writes whom each outage cuts off, unless totals alone are asked for.
+/// Writes whom each outage cuts off.
 fn write_blocks<A: Allocator, W: Sink>(
     plan: &Plan<A>,
     risks: &Risks<A>,
     outcomes: &[Outcome<A>],
-    totals_only: bool,
     sink: &mut W,
 )
     ensures { Puts W.taken W.failed sink.old sink.new
-        (if totals_only then [] else flat_map (block_text plan.now risks.now) outcomes.now) }
+        (flat_map (block_text plan.now risks.now) outcomes.now) }
 {
-    if totals_only {
-        return;
-    }
     for i in 0..outcomes.len() {
         write_block(plan, risks, &outcomes[i], sink);
     }

@@ -6,7 +6,7 @@ use tx_commands::{Command, WordsFault, read_command};
 /// The words of a command by the kind of its case and, where it matters, the word after the kind.
 /// `@1`, `@2` and `@3` stand for the words after the kind: where there is no such word, what has it
 /// is left out. All that a command can print and make is asked for.
-static COMMANDS: [(&str, &str, &str); 28] = [
+static COMMANDS: [(&str, &str, &str); 29] = [
     ("pipe", "", ""),
     ("run", "", "run plan script"),
     (
@@ -47,16 +47,21 @@ static COMMANDS: [(&str, &str, &str); 28] = [
         "mend old --limit=@1 --spare=@2 --plan=plan --cert=cert",
     ),
     ("survive", "alone", "survive plan"),
-    ("survive", "totals", "survive plan --risks=risks --totals"),
     (
         "survive",
         "named",
         "survive plan --risks=risks --risks-only",
     ),
+    ("survive", "from", "survive new --from=old"),
     (
         "survive",
-        "named-totals",
-        "survive plan --risks=risks --risks-only --totals",
+        "named-from",
+        "survive new --from=old --risks=risks --risks-only",
+    ),
+    (
+        "survive",
+        "risks-from",
+        "survive new --from=old --risks=risks",
     ),
     ("survive", "", "survive plan --risks=risks"),
     ("page", "", "page @1 --limit=@2 --spare=@3"),

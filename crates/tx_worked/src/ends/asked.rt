@@ -64,7 +64,11 @@ fn tell_more(command: &Command, log: &Log) {
             if let Some((_, alone)) = &request.risks {
                 tell_flag("risks alone", *alone, log);
             }
-            tell_flag("totals", request.totals, log);
+        }
+        Command::Compare(request) => {
+            if let Some((_, alone)) = &request.risks {
+                tell_flag("risks alone", *alone, log);
+            }
         }
         Command::Page(request) => tell_word("code", request.code.as_deref(), log),
         Command::Trace(request) => {

@@ -100,6 +100,14 @@ returns-in-Survive-clause-done g c =
 pub returns-in-Survive-clause-third_calls : goal.returns-in-Survive-clause-third_calls
 returns-in-Survive-clause-third_calls g c = uncalled g.R.Source.called c.args.third.now
 
+pub carry_out-requires-in-Compare : goal.carry_out-requires-in-Compare
+carry_out-requires-in-Compare g c = c.read_plans_with_risks-texts.ensures.known
+
+pub returns-in-Compare-clause-done : goal.returns-in-Compare-clause-done
+returns-in-Compare-clause-done g c =
+    rw c.in-Compare.is
+    (record { texts = c.read_plans_with_risks-texts.result; read = rw c.is_some-named.ensures at c.read_plans_with_risks-texts.ensures.texts; carried = c.carry_out-in-Compare.ensures })
+
 pub carry_out-requires-in-Page : goal.carry_out-requires-in-Page
 carry_out-requires-in-Page g c = c.read_for_page-texts.ensures.known
 

@@ -1,3 +1,4 @@
+use Rattle.tx_risk.proofs.AddedOutages.{risks_within}
 use Rattle.tx_requests.proofs.Grading.{plan_is}
 use Rattle.tx_requests.proofs.page_found.found_of.Goals as goal
 
@@ -10,6 +11,9 @@ returns g c =
     record {
       ranking = c.in_ok-ranking.ensures;
       grade = (plan, e.codes);
-      outcomes = c.in_ok-outcomes.ensures;
+      outcomes = c.in_ok-outcomes.ensures.outcomes;
       pictures = c.in_ok-pictures.ensures;
     }
+
+pub outcomes_of-requires-clause-risks : goal.outcomes_of-requires-clause-risks
+outcomes_of-requires-clause-risks g c = risks_within c.args.plan.now c.args.risks.now c.requires.risks

@@ -1,4 +1,5 @@
 use Rattle.tx_cert.specs.Certificate.{ranks_of}
+use Rattle.tx_risk.proofs.AddedOutages.{risks_within}
 use Rattle.tx_risk.proofs.surviving.survive.Goals as goal
 
 pub all_outcomes-requires-clause-certified : goal.all_outcomes-requires-clause-certified
@@ -20,3 +21,6 @@ returns-in-None-clause-tried g c = (
 
 pub returns-in-None-clause-fails : goal.returns-in-None-clause-fails
 returns-in-None-clause-fails g c = rw c.in-None.is at c.in_ok-grade.ensures.fails
+
+pub all_outcomes-requires-clause-risks : goal.all_outcomes-requires-clause-risks
+all_outcomes-requires-clause-risks g c = risks_within c.args.plan.now c.args.risks.now c.requires

@@ -11,8 +11,4 @@ loop-i-preserved g c =
 
 pub returns : goal.returns
 returns g c =
-    rw c.if-totals_only.false
-    (puts_all (block_text c.args.plan.now c.args.risks.now) c.args.outcomes.now c.loop-i-test.false c.loop-i.invariant)
-
-pub returns-then-totals_only : goal.returns-then-totals_only
-returns-then-totals_only g c = rw c.if-totals_only.true puts_none
+    puts_all (block_text c.args.plan.now c.args.risks.now) c.args.outcomes.now c.loop-i-test.false c.loop-i.invariant

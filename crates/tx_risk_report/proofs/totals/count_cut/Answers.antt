@@ -9,6 +9,6 @@ pub returns : goal.returns
 returns g c =
     let test = λ (k : Cut g.row.A.Denot). not k.stray in
     count_from_yields_List c.filter.result _ c.count.ensures.ran
-    (YieldsList-from_filter _ test (YieldsList-from_slice c.args.outcome.now.cuts.items cc)
+    (YieldsList-from_filter _ test (YieldsList-from_slice c.args.cuts.now cc)
     c.filter.ensures.closure (λ x r q k. search (rules, tests)))
-    ∙ length-filter test c.args.outcome.now.cuts.items
+    ∙ length-filter test c.args.cuts.now

@@ -6,4 +6,4 @@ pub returns : goal.returns
 returns g c =
     let some = c.if-count-eq0.false in
     rw (ne_eqb c.args.count 0 (omega arith))
-    (rw (c.as_bytes-count.ensures.value, c.format.ensures.text) at c.put_parts.ensures)
+    (rw (c.kind_word.ensures, c.as_bytes-count.ensures.value, c.format.ensures.text) at c.put_parts.ensures)

@@ -1,9 +1,13 @@
 use Rattle.std.proofs.Common.{◌∙◌, sym}
-use Rattle.tx_text.proofs.Putting.{puts_none}
+use Rattle.tx_text.proofs.Putting.{puts_none, puts_then}
 use Rattle.tx_risk_report.proofs.totals.write_total.Goals as goal
 
-pub returns-then-is_told : goal.returns-then-is_told
-returns-then-is_told g c = rw (sym c.is_told.ensures ∙ c.if-is_told.true) c.write_total_line.ensures
+pub returns-then-is_harmless : goal.returns-then-is_harmless
+returns-then-is_harmless g c =
+    rw (sym c.is_harmless.ensures ∙ c.if-is_harmless.true) puts_none
 
-pub returns-else-is_told : goal.returns-else-is_told
-returns-else-is_told g c = rw (sym c.is_told.ensures ∙ c.if-is_told.false) puts_none
+pub returns : goal.returns
+returns g c =
+    rw (sym c.is_harmless.ensures ∙ c.if-is_harmless.false)
+    (puts_then c.write_outage.ensures
+    (puts_then (rw c.deref.ensures.value at c.write_counts.ensures) c.put_bytes.ensures))

@@ -6,6 +6,6 @@ pub returns : goal.returns
 returns g c =
     let e = c.in_ok-survival.ensures in
     let t = c.args.texts in
-    let right = survival_is _ t.plan t.risks c.named_only.result c.in_ok-survival.survival
+    let right = survival_is _ t.plan t.risks c.named_only-only.result c.in_ok-survival.survival
     e.tried e.outcomes e.ungraded e.codes e.fails e.each e.listed in
-    (refl, rw c.named_only.ensures at right)
+    (refl, rw c.named_only-only.ensures at right)

@@ -1,0 +1,2 @@
+use Rattle.std.proofs.Common.{refl}
+use Rattle.tx_requests.proofs.compare.comparison_of.Goals as goal

@@ -1,0 +1,17 @@
+use Rattle.tx_requests.proofs.Grading.{plan_is}
+use Rattle.tx_requests.proofs.compare.outlook_of.Goals as goal
+
+pub returns : goal.returns
+returns g c =
+    let e = c.in_ok-grade.ensures in
+    let grade = c.in_ok-grade.grade in
+    let plan = plan_is _ c.args.plan.now c.rules.ensures grade.findings.items grade.plan
+    e.plan e.clear e.fails e.clean e.each e.listed in
+    record {
+      grade = (plan, e.codes);
+      outcomes = rw c.in_ok-risks.ensures.risks at c.in_ok-outcomes.ensures.outcomes;
+      none = c.in_ok-outcomes.ensures.none;
+    }
+
+pub outcomes_of-requires-clause-risks : goal.outcomes_of-requires-clause-risks
+outcomes_of-requires-clause-risks g c = c.in_ok-risks.ensures.within

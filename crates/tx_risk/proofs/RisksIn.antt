@@ -1,0 +1,71 @@
+-- Risks of one plan as risks of another.
+use Rattle.std.proofs.Common.{◌≡◌, ◌≢◌, ◌<◌, ◌+◌, ◌∙◌, ℕ, zero, suc, false, List, [], ◌∷◌, ◌++◌, map, take, get_or, length, Option, Some, None, refl, sym, ap}
+use Rattle.std.specs.List.{AllByRecursion, filter_map, cons_option, list_any, slice_get}
+use Rattle.std.specs.Str.{bytes_eq}
+use Rattle.std.proofs.lemmas.List.{map-append, take_more}
+use Rattle.std.proofs.lemmas.List.Elements.{filter_map-append}
+use Rattle.tx_plan.specs.Plan.{Plan, group_name, group_named}
+use Rattle.tx_plan.specs.Rules.{EachPair}
+use Rattle.tx_plan.proofs.ByIndex.{all_at, take_next, bytes_apart, entry_at, index_within}
+use Rattle.tx_risk.specs.NamedRisks.{NamedRisk, AreRisksFor, AreWithin, risk_name, named_groups, risk_in, risks_in}
+
+-- what is found of one element more
+pub found_next : (h : ℕ → Option ℕ) (xs : List ℕ) (i x : ℕ) (o : Option ℕ) (old new : List ℕ)
+    → i < length xs → x ≡ get_or xs i x → old ≡ filter_map h (take i xs) → h x ≡ o
+    → new ≡ old ++ cons_option o [] → new ≡ filter_map h (take (i + 1) xs)
+found_next h xs i x o old new low at so is more =
+    more ∙ ap (λ l. l ++ cons_option o []) so
+    ∙ ap (λ k. filter_map h (take i xs) ++ cons_option k []) (sym is)
+    ∙ sym (filter_map-append h (take i xs) (x ∷ []))
+    ∙ ap (filter_map h) (ap (λ y. take i xs ++ y ∷ []) at ∙ sym (take_more xs i x low))
+
+module _ (q p : Plan) where
+  -- a risk of which no one before has the name
+  fresh_at : (risks : List NamedRisk) (i : ℕ) (r : NamedRisk) → EachPair (λ r s. r.name ≢ s.name) risks
+      → slice_get risks i ≡ Some r
+      → list_any (λ s. bytes_eq r.name s.name) (map (risk_in q p) (take i risks)) ≡ false
+  fresh_at risks zero r d e = refl
+  fresh_at [] (suc i) r d e = refl
+  fresh_at (s ∷ risks) (suc i) r d e =
+      let apart = bytes_apart r.name s.name
+      (λ same. all_at (λ (t : NamedRisk). s.name ≢ t.name) risks i r d.0 e (sym same)) in
+      rw apart (fresh_at risks i r d.1 e)
+
+  pub fresh : (risks new : List NamedRisk) (i : ℕ) → AreRisksFor q risks → i < length risks
+      → new ≡ map (risk_in q p) (take i risks)
+      → list_any (λ r. bytes_eq (risk_name risks i) r.name) new ≡ false
+  fresh risks new i ok low e =
+      let r = entry_at risks i low in
+      rw (r.1, e) (fresh_at risks i r.0 ok.differ r.1)
+
+  -- one risk more
+  pub risks_next : (risks old new : List NamedRisk) (i : ℕ) (groups : List ℕ) → i < length risks
+      → old ≡ map (risk_in q p) (take i risks)
+      → groups ≡ filter_map (λ g. group_named p (group_name q g)) (named_groups risks i)
+      → new ≡ old ++ record { name = risk_name risks i; groups = groups } ∷ []
+      → new ≡ map (risk_in q p) (take (i + 1) risks)
+  risks_next risks old new i groups low so is more =
+      let r = entry_at risks i low in
+      let one : groups ≡ (risk_in q p r.0).groups = rw r.1 at is in
+      let name : risk_name risks i ≡ r.0.name = rw r.1 refl in
+      more ∙ ap (λ l. l ++ record { name = risk_name risks i; groups = groups } ∷ []) so
+      ∙ (λ k. map (risk_in q p) (take i risks) ++ record { name = name k; groups = one k } ∷ [])
+      ∙ sym (map-append (risk_in q p) (take i risks) (r.0 ∷ []))
+      ∙ ap (map (risk_in q p)) (sym (take_next risks i r.0 r.1))
+
+  -- THEIR GROUPS ARE THE PLAN'S
+  found_more : (name rest : List ℕ) → AllByRecursion (λ g. g < length p.groups) rest
+      → (o : Option ℕ) → group_named p name ≡ o
+      → AllByRecursion (λ g. g < length p.groups) (cons_option o rest)
+  found_more name rest h None e = h
+  found_more name rest h (Some g) e = (index_within _ p.groups g e, h)
+
+  found_within : (gs : List ℕ) → AllByRecursion (λ g. g < length p.groups)
+      (filter_map (λ g. group_named p (group_name q g)) gs)
+  found_within [] = tt
+  found_within (g ∷ gs) =
+      found_more (group_name q g) _ (found_within gs) (group_named p (group_name q g)) refl
+
+  pub all_within : (risks : List NamedRisk) → AreWithin p (risks_in q p risks)
+  all_within [] = tt
+  all_within (r ∷ risks) = (found_within r.groups, all_within risks)

@@ -1,0 +1,63 @@
+-- What outages cut off in one of two plans, beside the other one.
+use Rattle.std.specs.Prelude.{◌≡◌, ◌⊎◌, ◌<◌, ℕ, ◌+◌, if◌then◌else◌, Bool, true, not, ◌&&◌, ◌==◌, List, [], length, Option, None, Some, option_map, slice_get}
+use Rattle.std.specs.List.{find, list_any}
+use Rattle.std.specs.Option.{option_map_or, option_and_then}
+use Rattle.tx_plan.specs.Plan.{Plan, exchange_name, exchange_named, figures_of, code_named, group_name, group_named}
+use Rattle.tx_plan.specs.Rules.{EachPair}
+use Rattle.tx_risk.specs.declared.outage.Outage.{Outage}
+use Rattle.tx_risk.specs.declared.outage.Outage.TheVariants.{Group, Exchange, Named}
+use Rattle.tx_risk.specs.declared.cut.Cut.{Cut}
+use Rattle.tx_risk.specs.declared.cut.Outcome.{Outcome}
+use Rattle.tx_risk.specs.Outages.{start_at}
+
+-- one of the two plans, and what its outages come to
+pub record Side (A : Type 0) : Type 0 where
+  pub plan : Plan
+  pub outcomes : List (Outcome A)
+
+-- The place among all outages of the plan p of the one that has the name of an outage of the plan q,
+-- where both have n named risks; none, if p has no such group or exchange
+abbrev pub place_in : (q p : Plan) → (n : ℕ) → Outage → Option ℕ
+place_in q p n (Named i) = Some i
+place_in q p n (Group g) = option_map (λ h. n + h) (group_named p (group_name q g))
+place_in q p n (Exchange x) =
+    option_map (λ y. n + length p.groups + y) (exchange_named p (exchange_name q x))
+
+module _ {A : Type 0} where
+  -- cuts stand in order of codes, and then of where calls start
+  abbrev pub AreInOrder : List (Cut A) → Type 0
+  AreInOrder cuts = EachPair (λ c d. (c.code < d.code) ⊎ ((c.code ≡ d.code) × (start_at c < start_at d))) cuts
+
+  -- whom an outage of the plan q cuts off on one side: nobody, where its plan does not have it
+  abbrev pub cuts_in : (q : Plan) → (n : ℕ) → Side A → Outage → List (Cut A)
+  cuts_in q n side o = option_map_or (λ t. t.cuts.items)
+      (option_and_then (slice_get side.outcomes) (place_in q side.plan n o)) []
+
+  -- the cut of a code from a start, as one of these is: whether it is stray; nothing, if none is
+  abbrev pub stray_at : List (Cut A) → (code x : ℕ) → Option Bool
+  stray_at cuts code x =
+      option_map (λ d. d.stray) (find (λ d. (d.code == code) && (start_at d == x)) cuts)
+
+  -- the same of these cuts of q, for a code and a start by their names
+  abbrev pub stray_named : (q : Plan) → List (Cut A) → (figures start : List ℕ) → Option Bool
+  stray_named q cuts figures start = option_and_then
+      (λ code. option_and_then (stray_at cuts code) (exchange_named q start)) (code_named q figures)
+
+  -- and for those of a cut of p
+  abbrev pub stray_in : (p q : Plan) → List (Cut A) → Cut A → Option Bool
+  stray_in p q cuts c =
+      stray_named q cuts (figures_of p c.code) (exchange_name p (start_at c))
+
+  -- a cut is worse than what stands beside it: than none, or a stray one if it is not stray
+  abbrev pub is_worse_than : Option Bool → Cut A → Bool
+  is_worse_than None c = true
+  is_worse_than (Some stray) c = stray && not c.stray
+
+  -- it is not the same: there is none, or one of the two is stray
+  abbrev pub is_other_than : Option Bool → Cut A → Bool
+  is_other_than None c = true
+  is_other_than (Some stray) c = if stray then not c.stray else c.stray
+
+  -- somebody is worse off by these cuts of p than by those of q
+  abbrev pub has_worse : (p q : Plan) → (mine others : List (Cut A)) → Bool
+  has_worse p q mine others = list_any (λ c. is_worse_than (stray_in p q others c) c) mine

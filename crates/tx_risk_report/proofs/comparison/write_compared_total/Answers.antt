@@ -1,0 +1,15 @@
+use Rattle.std.proofs.Common.{◌∙◌, sym}
+use Rattle.tx_text.proofs.Putting.{puts_none, puts_then}
+use Rattle.tx_risk_report.proofs.comparison.write_compared_total.Goals as goal
+
+pub returns-then-is_free : goal.returns-then-is_free
+returns-then-is_free g c = rw (sym c.is_free.ensures ∙ c.if-is_free.true) puts_none
+
+pub returns : goal.returns
+returns g c =
+    rw (sym c.is_free.ensures ∙ c.if-is_free.false)
+    (puts_then (rw (c.is_worse-worse.ensures, c.is_better-better.ensures) at c.write_change.ensures)
+    (puts_then c.write_outage.ensures
+    (puts_then (rw c.both_cuts.ensures.new at c.write_counts.ensures)
+    (puts_then c.put_bytes.ensures
+    (puts_then (rw c.both_cuts.ensures.old at c.write_counts-2.ensures) c.put_bytes-2.ensures)))))

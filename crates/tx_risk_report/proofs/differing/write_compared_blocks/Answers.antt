@@ -1,0 +1,16 @@
+use Rattle.tx_text.proofs.Putting.{puts_none, puts_more, puts_all}
+use Rattle.tx_risk_report.specs.Comparison.{compared_block}
+use Rattle.tx_risk_report.proofs.differing.write_compared_blocks.Goals as goal
+
+pub loop-i-init : goal.loop-i-init
+loop-i-init g c = puts_none
+
+pub loop-i-preserved : goal.loop-i-preserved
+loop-i-preserved g c =
+    let k = c.args.comparison.now in
+    puts_more (compared_block k) k.outages.now c.loop-i-test.true c.index.is c.loop-i.invariant c.write_compared_block.ensures
+
+pub returns : goal.returns
+returns g c =
+    let k = c.args.comparison.now in
+    puts_all (compared_block k) k.outages.now c.loop-i-test.false c.loop-i.invariant
