@@ -22,11 +22,22 @@ pub struct TraceRequest {
     pub down: Option<String>,
 }
 
-/// `trace PLAN --group GROUP`: the lists that have the group.
+/// `trace PLAN --through NAME`: which calls can pass the exchange or the group of this name, while
+/// these groups are down, if some are named.
 #[derive(Drop)]
-pub struct GroupRequest {
+pub struct ThroughRequest {
     pub plan: String,
-    pub group: String,
+    pub name: String,
+    pub down: Option<String>,
+}
+
+/// `trace PLAN --from OLD`: which calls go another way than in an old plan, or, with an exchange and
+/// a code, whether those do.
+#[derive(Drop)]
+pub struct WaysRequest {
+    pub plan: String,
+    pub old: String,
+    pub calls: Option<(String, String)>,
 }
 
 const TRACE_HELP: &str = "Example: telexplan trace own.plan NORTH 24 --down CENO1,CENO2
@@ -52,10 +63,17 @@ pub(crate) fn trace_grammar<'a>(alloc: Global) -> Result<clap::Command<'a>, Allo
     .word("code", "CODE", "Their destination code")
     .option("down", "GROUP,..", DOWN)
     .option(
-        "group",
-        "GROUP",
-        "Show each list that has this group; without an exchange
-and a code",
+        "through",
+        "NAME",
+        "Show which calls can pass this exchange or group;
+without an exchange and a code",
+    )
+    .option(
+        "from",
+        "OLD",
+        "Show which calls go another way than in this plan that
+is in force; all, or those from the exchange for the
+code; - is standard input",
     )
     .command
 }
@@ -72,15 +90,26 @@ pub(crate) fn trace_of(alloc: Global, matches: &ArgMatches<'_>) -> Result<Comman
     let exchange = text(alloc, matches, "exchange")?;
     let code = text(alloc, matches, "code")?;
     let down = text(alloc, matches, "down")?;
-    let group = text(alloc, matches, "group")?;
-    match (exchange, code, down, group) {
-        (Some(exchange), Some(code), down, None) => Ok(Command::Trace(TraceRequest {
+    let through = text(alloc, matches, "through")?;
+    let from = text(alloc, matches, "from")?;
+    match (exchange, code, down, through, from) {
+        (Some(exchange), Some(code), down, None, None) => Ok(Command::Trace(TraceRequest {
             plan,
             exchange,
             code,
             down,
         })),
-        (None, None, None, Some(group)) => Ok(Command::TraceGroup(GroupRequest { plan, group })),
+        (None, None, down, Some(name), None) => {
+            Ok(Command::TraceThrough(ThroughRequest { plan, name, down }))
+        }
+        (Some(exchange), Some(code), None, None, Some(old)) => {
+            let calls = Some((exchange, code));
+            Ok(Command::TraceChanges(WaysRequest { plan, old, calls }))
+        }
+        (None, None, None, None, Some(old)) => {
+            let calls = None;
+            Ok(Command::TraceChanges(WaysRequest { plan, old, calls }))
+        }
         _ => Err(Misuse::TraceWords),
     }
 }

@@ -28,15 +28,22 @@ pub record IsRisksOnly (name : List ℕ) (found : List Row) : Type 0 where
   pub only : is_set found (codes "risks-only") ≡ true
   pub none : has found (codes "risks") ≡ false
 
--- `trace` has neither an exchange and a code without a group, nor a group alone
+-- `trace` has neither an exchange and a code alone, nor `--through` without them, nor `--from` with
+-- or without them
 pub record IsTraceInPart (name : List ℕ) (found : List Row) : Type 0 where
   pub trace : name ≡ codes "trace"
   pub not_calls :
       (has found (codes "exchange")
-      && (has found (codes "code") && not (has found (codes "group")))) ≡ false
-  pub not_group :
-      (has found (codes "group") && not (has found (codes "exchange")
-      || (has found (codes "code") || has found (codes "down")))) ≡ false
+      && (has found (codes "code")
+      && not (has found (codes "through") || has found (codes "from")))) ≡ false
+  pub not_through :
+      (has found (codes "through") && not (has found (codes "exchange")
+      || (has found (codes "code") || has found (codes "from")))) ≡ false
+  pub not_changes :
+      (has found (codes "from")
+      && (not (has found (codes "down") || has found (codes "through"))
+      && ((has found (codes "exchange") && has found (codes "code"))
+      || not (has found (codes "exchange") || has found (codes "code"))))) ≡ false
 
 -- `explain` has words that ask for no entry of the table
 pub record IsNoCode (name : List ℕ) (found : List Row) : Type 0 where

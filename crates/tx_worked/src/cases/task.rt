@@ -72,7 +72,9 @@ static COMMANDS: [(&str, &str, &str); 28] = [
     ),
     ("page-code", "", "page @1 --limit=@2 --spare=1 --code=@3"),
     ("grade", "", "grade plan"),
-    ("trace", "group", "trace plan --group=@2"),
+    ("trace", "changes", "trace plan --from=old"),
+    ("trace-from", "", "trace plan @1 @2 --from=old"),
+    ("trace", "through", "trace plan --through=@2 --down=@3"),
     ("trace", "", "trace plan @1 @2 --down=@3"),
     ("fill", "", "fill plan @1 @2 --down=@3"),
 ];

@@ -75,7 +75,15 @@ fn tell_more(command: &Command, log: &Log) {
             let down = request.down.as_deref();
             tell_calls(&request.exchange, &request.code, down, log)
         }
-        Command::TraceGroup(request) => log.tell("group", &request.group),
+        Command::TraceChanges(request) => {
+            if let Some((exchange, code)) = &request.calls {
+                tell_calls(exchange, code, None, log)
+            }
+        }
+        Command::TraceThrough(request) => {
+            log.tell("through", &request.name);
+            tell_word("down", request.down.as_deref(), log)
+        }
         Command::Explain(request) => tell_word("line", request.line.as_deref(), log),
         _ => {}
     }
