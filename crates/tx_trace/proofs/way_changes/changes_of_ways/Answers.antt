@@ -1,4 +1,4 @@
-use Rattle.std.proofs.Common.{ℕ, [], map, length, ap, ◌∙◌, arith}
+use Rattle.std.proofs.Common.{ℕ, [], map, ap, ◌∙◌, arith}
 use Rattle.std.specs.List.{flat_map, range_with_len}
 use Rattle.tx_trace.specs.WayChanges.{changed_for, calls_of}
 use Rattle.tx_trace.proofs.Passing.{grown}

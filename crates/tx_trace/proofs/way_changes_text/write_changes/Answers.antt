@@ -1,8 +1,5 @@
-use Rattle.std.proofs.Common.{length, sym}
 use Rattle.tx_text.proofs.Putting.{puts_none, puts_more, puts_all, puts_is}
-use Rattle.tx_rank.proofs.Looks.{among_at}
-use Rattle.tx_plan.proofs.Among.{all_among}
-use Rattle.tx_trace.specs.WayChanges.{AreWaysIn, calls_of}
+use Rattle.tx_trace.specs.WayChanges.{calls_of}
 use Rattle.tx_trace.specs.WayChangesText.{change_of}
 use Rattle.tx_trace.proofs.Changing.{flat_map-map}
 use Rattle.tx_trace.proofs.way_changes_text.write_changes.Goals as goal

@@ -1,4 +1,4 @@
-use Rattle.std.proofs.Common.{map, take}
+use Rattle.std.proofs.Common.{take}
 use Rattle.std.specs.List.{flat_map}
 use Rattle.tx_text.specs.Puts.{Puts}
 use Rattle.tx_trace.specs.WayChanges.{calls_of}
