@@ -3,11 +3,12 @@ ghost use Rattle.std.specs.Prelude.{◌≡◌, Some, IfOk, IfErr, codes};
 ghost use Rattle.clap.specs.Words.{app_of, found_of, rows_of};
 ghost use Rattle.tx_commands.specs.Commands.{Asks};
 ghost use Rattle.tx_commands.specs.Grammar.{trace_words};
-ghost use Rattle.tx_commands.specs.inner.Refused.{IsRefused};
+ghost use Rattle.tx_commands.specs.inner.Refused.{IsRefused, trace_words_fit};
+ghost use Rattle.tx_commands.specs.Faults.{has};
 
 use crate::arguments::{DOWN, Syntax};
 use crate::command::Command;
-use crate::given::text;
+use crate::given::{is_given, text};
 use crate::misuse::Misuse;
 use clap::ArgMatches;
 use std::alloc::{AllocError, Global};
@@ -78,6 +79,31 @@ code; - is standard input",
     .command
 }
 
+/// Whether words go together: an exchange and a code, or `--through`, or `--from` alone or with an
+/// exchange and a code; and `--down` does not go with `--from`.
+fn fit(exchange: bool, code: bool, down: bool, through: bool, from: bool) -> bool
+    ensures { result ≡ trace_words_fit exchange code down through from }
+{
+    let calls = exchange && code && !through;
+    let no_calls = !(exchange || code) && (through || from) && !(through && from);
+    !(down && from) && (calls || no_calls)
+}
+
+/// Whether those of this command do.
+fn has_words_that_fit(matches: &ArgMatches<'_>) -> bool
+    ensures { let found = rows_of (found_of matches.now) in result ≡ trace_words_fit
+        (has found (codes "exchange")) (has found (codes "code")) (has found (codes "down"))
+        (has found (codes "through")) (has found (codes "from")) }
+{
+    fit(
+        is_given(matches, "exchange"),
+        is_given(matches, "code"),
+        is_given(matches, "down"),
+        is_given(matches, "through"),
+        is_given(matches, "from"),
+    )
+}
+
 /// Its words.
 pub(crate) fn trace_of(alloc: Global, matches: &ArgMatches<'_>) -> Result<Command, Misuse>
     ensures asked { IfOk result (Asks (codes "trace") (rows_of (found_of matches.now))) }
@@ -87,6 +113,9 @@ pub(crate) fn trace_of(alloc: Global, matches: &ArgMatches<'_>) -> Result<Comman
     let Some(plan) = text(alloc, matches, "plan")? else {
         return Err(Misuse::Incomplete);
     };
+    if !has_words_that_fit(matches) {
+        return Err(Misuse::TraceWords);
+    }
     let exchange = text(alloc, matches, "exchange")?;
     let code = text(alloc, matches, "code")?;
     let down = text(alloc, matches, "down")?;
@@ -110,6 +139,6 @@ pub(crate) fn trace_of(alloc: Global, matches: &ArgMatches<'_>) -> Result<Comman
             let calls = None;
             Ok(Command::TraceChanges(WaysRequest { plan, old, calls }))
         }
-        _ => Err(Misuse::TraceWords),
+        _ => Err(Misuse::Incomplete),
     }
 }
