@@ -10,7 +10,7 @@ _telexplan() {
         --spare) words=$(echo {0..15}) ;;
         --stage) words=$(echo {1..128}) ;;
         --code) words=$(_telexplan_names CODE) ;;
-        --group) words=$(_telexplan_names GROUP) ;;
+        --through) words="$(_telexplan_names EXCHANGE) $(_telexplan_names GROUP)" ;;
         --down)
             # one more name behind the last comma
             case $word in *,*) before=${word%,*}, ;; esac
@@ -32,7 +32,7 @@ _telexplan() {
                 *:check:-*) words="--limit --spare --help" ;;
                 *:run:-*) words="--cert --limit --spare --strict --echo --summary --help" ;;
                 *:grade:-* | *:codes:-*) words="--help" ;;
-                *:trace:-*) words="--down --group --help" ;;
+                *:trace:-*) words="--down --through --from --help" ;;
                 *:fill:-*) words="--down --help" ;;
                 3:trace:* | 3:fill:*) words=$(_telexplan_names EXCHANGE) ;;
                 4:trace:* | 4:fill:*) words=$(_telexplan_names CODE) ;;

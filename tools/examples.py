@@ -433,8 +433,10 @@ def case_of(example):
     staged = example.option("--stage")
     kinds |= {"mend": f"mend{bounds}", "change": f"change{bounds}", "order": f"stage{bounds} {staged}" if staged else f"order{bounds}"}
     kinds |= {"survive": "survive" if example.option("--risks") else "survive alone", "trace": asked_of(example, "--down"), "fill": asked_of(example, "--down"), "lint": " ".join(["lint", *["risks"] * bool(example.option("--risks")), *example.words[1:2]])}
-    if example.option("--group"):
-        kinds["trace"] = f"trace group {example.option('--group')}"
+    if verb == "trace" and example.option("--from"):
+        kinds["trace"] = "trace changes"
+    if example.option("--through"):
+        kinds["trace"] = f"trace through {example.option('--through')}"
     if verb == "page":
         kinds["page"] = page_of(example)
     if verb == "survive" and example.option("--from"):
@@ -753,7 +755,7 @@ def check_completion(tell, told):
 def check_offers(program, tell):
     """The completion offers the exchanges, the codes and the groups of the plan that is named."""
     asked = [(["trace", "examples/three.plan", "N"], "NORTH"), (["fill", "examples/three.plan", "NORTH", ""], "22 20 24"), (["page", "examples/three.plan", "--code", "24"], "24")]
-    asked += [(["trace", "examples/three.plan", "--group", "N"], "NOSO1"), (["trace", "examples/three.plan", "NORTH", "24", "--down", "NOSO1,CES"], "NOSO1,CESO1 NOSO1,CESO2")]
+    asked += [(["trace", "examples/three.plan", "--through", "NO"], "NORTH NOSO1"), (["trace", "examples/three.plan", "NORTH", "24", "--down", "NOSO1,CES"], "NOSO1,CESO1 NOSO1,CESO2")]
     for words, offered in asked:
         line = " ".join(f"'{it}'" for it in ["telexplan", *words])
         script = f"source docs/telexplan.bash; COMP_WORDS=({line}); COMP_CWORD={len(words)}; _telexplan; echo ${{COMPREPLY[*]}}"

@@ -9,6 +9,7 @@ from mend import is_mendable, judge_mend
 from order import judge_order
 from plans import contradiction
 from survive import grade_of, judge_from, judge_survive
+from traces import judge_through, judge_way_changes
 
 NUMBERS = list(product(range(3), range(3)))
 
@@ -110,6 +111,22 @@ def random_comparison(rng):
     return 1, lambda program: judge_from(program, old, new, risks, rng.random() < 0.2)
 
 
+def random_trace(rng):
+    """Which calls of a random plan pass an exchange or a group, and which go another way than in an old one."""
+    old, plan = random_pair(rng)
+    names = rng.sample([*plan.exchanges, *plan.groups], 2)
+    down = rng.sample(list(plan.groups), min(len(plan.groups), rng.choice((0, 0, 1, 2))))
+    calls = [(code, x) for code in plan.codes for x in plan.exchanges if code in old.codes and x in old.exchanges]
+
+    def judge(program):
+        for name in names:
+            judge_through(program, plan, name, down)
+        judge_way_changes(program, plan, old)
+        if calls:
+            judge_way_changes(program, plan, old, rng.choice(calls))
+    return 1, judge
+
+
 TOPICS = {
     **{f"audit, grade: {name}": lambda it=it: audits(it) for name, it in FAMILIES.items()},
     **{f"audit, survive: {name}": lambda it=it: graded(it) for name, it in {**SMALL, **FAMILIES}.items()},
@@ -124,4 +141,5 @@ TOPICS = {
     **{f"order: {name}": lambda it=it: pairs(*it, judge_order, 4096) for name, it in PAIRS.items()},
     "order: random": lambda: seeded(800, "orders", random_change(judge_order)),
     "survive --from: random": lambda: seeded(800, "comparisons", random_comparison),
+    "trace: random": lambda: seeded(800, "traces", random_trace),
 }

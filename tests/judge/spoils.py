@@ -97,7 +97,7 @@ def too_early(parts):
 # The topic whose cases are spoiled, of each command.
 CASES = dict.fromkeys(("audit", "check", "grade", "survive"), "audit, check, grade, survive: random")
 CASES["from"] = "survive --from: random"  # of `survive`
-CASES.update({"codes": "codes: one exchange", **{it: f"{it}: random" for it in ("mend", "change", "order")}})
+CASES.update({"codes": "codes: one exchange", **{it: f"{it}: random" for it in ("mend", "change", "order", "trace")}})
 
 # Each spoil: the commands whose answers it changes, and how.
 WAYS = [
@@ -144,6 +144,13 @@ WAYS = [
     ("order", "a list a stage too early", stages(too_early)),
     ("order", "a bar set for one lifted", put("^UNBAR", "BAR")),
     ("order", "a finding of the other plan", put("^OLD F", "NEW F")),
+    ("trace", "a call left out", without("CODE")),
+    ("trace", "a call from another exchange", put(r"^(CODE \d+ FROM) \w+", r"\1 NONE")),
+    ("trace", "one change more", put(r"^(TRACE CHANGES )(\d+)", more)),
+    ("trace", "another first way", put(r"^(FIRST \w+) \w+", r"\1 NONE")),
+    ("trace", "no old way", without("WAS")),
+    ("trace", "an exchange that is gained left out", without("GAINS")),
+    ("trace", "lost for gained", put("^GAINS", "LOSES")),
     ("survive", "one that is cut off left out", without("CUT|STRAY")),
     ("survive", "cut off for astray", put("^STRAY", "CUT")),
     ("survive", "astray for cut off", put("^CUT", "STRAY")),

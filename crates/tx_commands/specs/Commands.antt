@@ -10,7 +10,7 @@ use Rattle.tx_plan.specs.declared.limits.Limits.{Limits}
 use Rattle.tx_commands.specs.Entries.{is_known}
 use Rattle.tx_commands.specs.Grammar.{program_words}
 use Rattle.tx_commands.specs.declared.command.Command.{Command}
-use Rattle.tx_commands.specs.declared.command.Command.TheVariants.{Pipe, Run, RunTelling, Check, Lint, Codes, Audit, Change, Order, Mend, Survive, Compare, Page, Grade, Trace, TraceGroup, Fill, Explain}
+use Rattle.tx_commands.specs.declared.command.Command.TheVariants.{Pipe, Run, RunTelling, Check, Lint, Codes, Audit, Change, Order, Mend, Survive, Compare, Page, Grade, Trace, TraceThrough, TraceChanges, Fill, Explain}
 
 -- the words of a command name this file
 abbrev pub Names : {Z : Type 0} → List Row → List ℕ → String Z → Type 0
@@ -69,6 +69,13 @@ AsksForRisks found None =
 AsksForRisks found (Some (risks, only)) =
     Names found (codes "risks") risks × (is_set found (codes "risks-only") ≡ only)
 
+-- `trace` has this exchange and this code, or neither
+abbrev pub AsksForCalls : {Z : Type 0} → List Row → Option (String Z × String Z) → Type 0
+AsksForCalls found None =
+    (first_of (codes "exchange") found ≡ None) × (first_of (codes "code") found ≡ None)
+AsksForCalls found (Some (exchange, code)) =
+    Names found (codes "exchange") exchange × Names found (codes "code") code
+
 -- `explain` has this line, of which something is known, or has none
 abbrev pub AsksForLine : {Z : Type 0} → List Row → Option (String Z) → Type 0
 AsksForLine found None = line_of found (codes "word") ≡ None
@@ -116,10 +123,15 @@ Asks name found (Page r) = (name ≡ codes "page") × Names found (codes "plan")
 Asks name found (Grade r) = (name ≡ codes "grade") × Names found (codes "plan") r.plan
 Asks name found (Trace r) = (name ≡ codes "trace") × Names found (codes "plan") r.plan
     × Names found (codes "exchange") r.exchange × Names found (codes "code") r.code
-    × NamesIfAny found (codes "down") r.down × (first_of (codes "group") found ≡ None)
-Asks name found (TraceGroup r) = (name ≡ codes "trace") × Names found (codes "plan") r.plan
-    × Names found (codes "group") r.group × (first_of (codes "exchange") found ≡ None)
-    × (first_of (codes "code") found ≡ None) × (first_of (codes "down") found ≡ None)
+    × NamesIfAny found (codes "down") r.down × (first_of (codes "through") found ≡ None)
+    × (first_of (codes "from") found ≡ None)
+Asks name found (TraceThrough r) = (name ≡ codes "trace") × Names found (codes "plan") r.plan
+    × Names found (codes "through") r.name × NamesIfAny found (codes "down") r.down
+    × (first_of (codes "exchange") found ≡ None) × (first_of (codes "code") found ≡ None)
+    × (first_of (codes "from") found ≡ None)
+Asks name found (TraceChanges r) = (name ≡ codes "trace") × Names found (codes "plan") r.plan
+    × Names found (codes "from") r.old × AsksForCalls found r.calls
+    × (first_of (codes "down") found ≡ None) × (first_of (codes "through") found ≡ None)
 Asks name found (Fill r) = (name ≡ codes "fill") × Names found (codes "plan") r.plan
     × Names found (codes "exchange") r.exchange × Names found (codes "code") r.code
     × NamesIfAny found (codes "down") r.down

@@ -3,7 +3,7 @@ use Rattle.std.specs.Prelude.{ℕ, Bool, List, [], ◌∷◌, Option, None, Some
 use Rattle.std.specs.Borrow.{Bor}
 use Rattle.tx_plan.specs.declared.limits.Limits.{Limits}
 use Rattle.tx_commands.specs.declared.command.Command.{Command}
-use Rattle.tx_commands.specs.declared.command.Command.TheVariants.{Pipe, Run, RunTelling, Check, Lint, Codes, Audit, Change, Order, Mend, Survive, Compare, Page, Grade, Trace, TraceGroup, Fill, Explain}
+use Rattle.tx_commands.specs.declared.command.Command.TheVariants.{Pipe, Run, RunTelling, Check, Lint, Codes, Audit, Change, Order, Mend, Survive, Compare, Page, Grade, Trace, TraceThrough, TraceChanges, Fill, Explain}
 use Rattle.tx_commands.specs.declared.files.Files.{Files}
 use Rattle.tx_commands.specs.declared.page.PageRequest.{PageRequest}
 use Rattle.tx_commands.specs.declared.run.RunRequest.{RunRequest}
@@ -126,7 +126,8 @@ file_names (Compare r) = compare_files r
 file_names (Page r) = page_files r
 file_names (Grade r) = one_read (string_bytes r.plan)
 file_names (Trace r) = one_read (string_bytes r.plan)
-file_names (TraceGroup r) = one_read (string_bytes r.plan)
+file_names (TraceThrough r) = one_read (string_bytes r.plan)
+file_names (TraceChanges r) = two_read (string_bytes r.plan) (string_bytes r.old)
 file_names (Fill r) = one_read (string_bytes r.plan)
 file_names (Explain r) = only_read (None ∷ None ∷ None ∷ [])
 

@@ -103,9 +103,9 @@ word id = record (new_rule id) { value_names = 1; action = Some Set }
 -- the arguments of `trace`
 abbrev pub trace_words : App
 trace_words =
-    with_rule (with_rule (with_rule (with_rule
+    with_rule (with_rule (with_rule (with_rule (with_rule
     (plan_words (codes "trace")) (word (codes "exchange"))) (word (codes "code")))
-    (option (codes "down"))) (option (codes "group"))
+    (option (codes "down"))) (option (codes "through"))) (option (codes "from"))
 
 -- the arguments of `fill`
 abbrev pub fill_words : App

@@ -16,7 +16,7 @@ use crate::order::OrderRequest;
 use crate::page::PageRequest;
 use crate::run::{RunRequest, TellingRequest};
 use crate::survive::{CompareRequest, SurviveRequest};
-use crate::trace::{GroupRequest, TraceRequest};
+use crate::trace::{ThroughRequest, TraceRequest, WaysRequest};
 
 /// What the words ask for.
 pub enum Command {
@@ -36,7 +36,8 @@ pub enum Command {
     Page(PageRequest),
     Grade(GradeRequest),
     Trace(TraceRequest),
-    TraceGroup(GroupRequest),
+    TraceThrough(ThroughRequest),
+    TraceChanges(WaysRequest),
     Fill(FillRequest),
     Explain(ExplainRequest),
 }
@@ -59,7 +60,8 @@ impl Drop for Command {
             Self::Page(request) => drop(request),
             Self::Grade(request) => drop(request),
             Self::Trace(request) => drop(request),
-            Self::TraceGroup(request) => drop(request),
+            Self::TraceThrough(request) => drop(request),
+            Self::TraceChanges(request) => drop(request),
             Self::Fill(request) => drop(request),
             Self::Explain(request) => drop(request),
         }
@@ -103,10 +105,11 @@ impl Command {
             Command::Survive(request) => survive_files(request),
             Command::Compare(request) => compare_files(request),
             Command::Page(request) => page_files(request),
+            Command::TraceChanges(request) => Files::of_two(&request.plan, &request.old),
             Command::Codes(CodesRequest { plan })
             | Command::Grade(GradeRequest { plan })
             | Command::Trace(TraceRequest { plan, .. })
-            | Command::TraceGroup(GroupRequest { plan, .. })
+            | Command::TraceThrough(ThroughRequest { plan, .. })
             | Command::Fill(FillRequest { plan, .. }) => Files::of_one(plan),
             Command::Explain(_) => Files::reading([None, None, None]),
         }

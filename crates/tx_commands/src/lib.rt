@@ -59,4 +59,4 @@ pub use place::Place;
 pub use reading::read_command;
 pub use run::{RunRequest, TellingRequest};
 pub use survive::{CompareRequest, SurviveRequest};
-pub use trace::{GroupRequest, TraceRequest};
+pub use trace::{ThroughRequest, TraceRequest, WaysRequest};

@@ -20,7 +20,8 @@ pub(crate) enum Misuse {
     StageMissing,
     /// `survive` has `--risks-only` without `--risks`.
     RisksOnly,
-    /// `trace` has neither an exchange and a code nor a group, or it has both.
+    /// `trace` has none of an exchange and a code, `--through` and `--from`, or some that do not go
+    /// together.
     TraceWords,
     /// `explain` has these words, of which none is explained.
     NoSuchCode(String),
@@ -79,7 +80,8 @@ impl Misuse {
             Misuse::CheckedTelling => "--strict, --echo and --summary do not go with --cert",
             Misuse::StageMissing => "--plan and --cert go with --stage",
             Misuse::RisksOnly => "--risks-only goes with --risks",
-            Misuse::TraceWords => "trace takes an exchange and a code, or --group alone",
+            Misuse::TraceWords =>
+                "trace takes an exchange and a code, --through, or --from without --down",
             Misuse::InputTwice => {
                 "standard input, which is named -, can be read for one file alone"
             }

@@ -2,7 +2,7 @@
 use crate::code_table::Entry;
 
 /// The words of reports, of a plan and of a certificate.
-pub static REPORT_WORDS: [Entry; 51] = [
+pub static REPORT_WORDS: [Entry; 55] = [
     [
         "VERDICT",
         "Verdict",
@@ -114,7 +114,7 @@ pub static REPORT_WORDS: [Entry; 51] = [
     [
         "WAS",
         "OldList",
-        "The list that the line above replaces; without groups there was none. In a report of outages, what the old plan has in place of the new one.",
+        "The list, or the first way, that the line above replaces; a list without groups: there was none. In a report of outages, what the old plan has in place of the new one.",
         "Give the exchange this list again to undo the line above.",
     ],
     [
@@ -204,8 +204,32 @@ pub static REPORT_WORDS: [Entry; 51] = [
     [
         "TRACE",
         "Trace",
-        "How calls for a code go from an exchange, or the lists that have a group.",
+        "How calls for a code go from an exchange, which calls can pass an exchange or a group, or which go another way than in an old plan.",
         "FIRST is the way while all is free, and LIST the other choices.",
+    ],
+    [
+        "THROUGH",
+        "PassedThrough",
+        "The lines below say from which exchanges calls can come to this exchange or go by this group, and for which codes.",
+        "telexplan trace with such an exchange and code shows on which way.",
+    ],
+    [
+        "CHANGES",
+        "WayChanges",
+        "How many calls go another way than in the old plan, of those that could start there: the lines below say from which exchanges, and for which codes.",
+        "telexplan trace with such an exchange and code shows the whole way.",
+    ],
+    [
+        "GAINS",
+        "PassesNow",
+        "Such calls can come to this exchange, and could not in the old plan.",
+        "Nothing, if they are meant to.",
+    ],
+    [
+        "LOSES",
+        "PassedBefore",
+        "Such calls could come to this exchange in the old plan, and cannot now.",
+        "Nothing, if they are meant not to.",
     ],
     [
         "DOWN",
@@ -264,7 +288,7 @@ pub static REPORT_WORDS: [Entry; 51] = [
     [
         "CODE",
         "DestinationCode",
-        "A destination code, with its home, its grade, or how many exchanges cannot be served for it.",
+        "A destination code, with its home, its grade, an exchange from which calls for it go, or how many exchanges cannot be served for it.",
         "telexplan trace shows how calls for it go.",
     ],
     [

@@ -72,7 +72,7 @@ pub static RUN_WORDS: [Entry; 40] = [
     [
         "FROM",
         "FromLine",
-        "In a ticket, the code and the national number of the line that called. In the first line of a report, the exchange from which the calls go.",
+        "In a ticket, the code and the national number of the line that called. In a report, the exchange from which the calls go.",
         "Nothing: it says which calls these are.",
     ],
     [

@@ -3,11 +3,12 @@ ghost use Rattle.std.specs.Prelude.{◌≡◌, Some, IfOk, IfErr, codes};
 ghost use Rattle.clap.specs.Words.{app_of, found_of, rows_of};
 ghost use Rattle.tx_commands.specs.Commands.{Asks};
 ghost use Rattle.tx_commands.specs.Grammar.{trace_words};
-ghost use Rattle.tx_commands.specs.inner.Refused.{IsRefused};
+ghost use Rattle.tx_commands.specs.inner.Refused.{IsRefused, trace_words_fit};
+ghost use Rattle.tx_commands.specs.Faults.{has};
 
 use crate::arguments::{DOWN, Syntax};
 use crate::command::Command;
-use crate::given::text;
+use crate::given::{is_given, text};
 use crate::misuse::Misuse;
 use clap::ArgMatches;
 use std::alloc::{AllocError, Global};
@@ -22,11 +23,22 @@ pub struct TraceRequest {
     pub down: Option<String>,
 }
 
-/// `trace PLAN --group GROUP`: the lists that have the group.
+/// `trace PLAN --through NAME`: which calls can pass the exchange or the group of this name, while
+/// these groups are down, if some are named.
 #[derive(Drop)]
-pub struct GroupRequest {
+pub struct ThroughRequest {
     pub plan: String,
-    pub group: String,
+    pub name: String,
+    pub down: Option<String>,
+}
+
+/// `trace PLAN --from OLD`: which calls go another way than in an old plan, or, with an exchange and
+/// a code, whether those do.
+#[derive(Drop)]
+pub struct WaysRequest {
+    pub plan: String,
+    pub old: String,
+    pub calls: Option<(String, String)>,
 }
 
 const TRACE_HELP: &str = "Example: telexplan trace own.plan NORTH 24 --down CENO1,CENO2
@@ -52,12 +64,44 @@ pub(crate) fn trace_grammar<'a>(alloc: Global) -> Result<clap::Command<'a>, Allo
     .word("code", "CODE", "Their destination code")
     .option("down", "GROUP,..", DOWN)
     .option(
-        "group",
-        "GROUP",
-        "Show each list that has this group; without an exchange
-and a code",
+        "through",
+        "NAME",
+        "Show which calls can pass this exchange or group;
+without an exchange and a code",
+    )
+    .option(
+        "from",
+        "OLD",
+        "Show which calls go another way than in this plan that
+is in force; all, or those from the exchange for the
+code; - is standard input",
     )
     .command
+}
+
+/// Whether words go together: an exchange and a code, or `--through`, or `--from` alone or with an
+/// exchange and a code; and `--down` does not go with `--from`.
+fn fit(exchange: bool, code: bool, down: bool, through: bool, from: bool) -> bool
+    ensures { result ≡ trace_words_fit exchange code down through from }
+{
+    let calls = exchange && code && !through;
+    let no_calls = !(exchange || code) && (through || from) && !(through && from);
+    !(down && from) && (calls || no_calls)
+}
+
+/// Whether those of this command do.
+fn has_words_that_fit(matches: &ArgMatches<'_>) -> bool
+    ensures { let found = rows_of (found_of matches.now) in result ≡ trace_words_fit
+        (has found (codes "exchange")) (has found (codes "code")) (has found (codes "down"))
+        (has found (codes "through")) (has found (codes "from")) }
+{
+    fit(
+        is_given(matches, "exchange"),
+        is_given(matches, "code"),
+        is_given(matches, "down"),
+        is_given(matches, "through"),
+        is_given(matches, "from"),
+    )
 }
 
 /// Its words.
@@ -69,18 +113,32 @@ pub(crate) fn trace_of(alloc: Global, matches: &ArgMatches<'_>) -> Result<Comman
     let Some(plan) = text(alloc, matches, "plan")? else {
         return Err(Misuse::Incomplete);
     };
+    if !has_words_that_fit(matches) {
+        return Err(Misuse::TraceWords);
+    }
     let exchange = text(alloc, matches, "exchange")?;
     let code = text(alloc, matches, "code")?;
     let down = text(alloc, matches, "down")?;
-    let group = text(alloc, matches, "group")?;
-    match (exchange, code, down, group) {
-        (Some(exchange), Some(code), down, None) => Ok(Command::Trace(TraceRequest {
+    let through = text(alloc, matches, "through")?;
+    let from = text(alloc, matches, "from")?;
+    match (exchange, code, down, through, from) {
+        (Some(exchange), Some(code), down, None, None) => Ok(Command::Trace(TraceRequest {
             plan,
             exchange,
             code,
             down,
         })),
-        (None, None, None, Some(group)) => Ok(Command::TraceGroup(GroupRequest { plan, group })),
-        _ => Err(Misuse::TraceWords),
+        (None, None, down, Some(name), None) => {
+            Ok(Command::TraceThrough(ThroughRequest { plan, name, down }))
+        }
+        (Some(exchange), Some(code), None, None, Some(old)) => {
+            let calls = Some((exchange, code));
+            Ok(Command::TraceChanges(WaysRequest { plan, old, calls }))
+        }
+        (None, None, None, None, Some(old)) => {
+            let calls = None;
+            Ok(Command::TraceChanges(WaysRequest { plan, old, calls }))
+        }
+        _ => Err(Misuse::Incomplete),
     }
 }

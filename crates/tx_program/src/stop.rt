@@ -7,7 +7,7 @@ ghost use Rattle.tx_requests.specs.declared.fault.CommandFault.TheVariants.{Job 
 use crate::kind::TextKind;
 use std::alloc::Allocator;
 use std::io;
-use tx_commands::{Command, FillRequest, Place, STANDARD_INPUT, TraceRequest};
+use tx_commands::{Command, FillRequest, Place, STANDARD_INPUT, ThroughRequest, TraceRequest};
 use tx_jobs::{JobFault, write_fault};
 use tx_lint::write_escaped;
 use tx_requests::{CommandFault, write_command_fault};
@@ -121,6 +121,7 @@ fn write_with_word<W: Sink>(
         CommandFault::NoSuchExchange => ("exchange", exchange_asked(command)),
         CommandFault::NoSuchCode => ("code", code_asked(command)),
         CommandFault::NoSuchGroup(place) => ("group", group_asked(command, *place)),
+        CommandFault::NoSuchName => ("exchange or group", name_asked(command)),
         _ => ("", None),
     };
     let Some(word) = word else {
@@ -140,6 +141,10 @@ fn exchange_asked(command: &Command) -> Option<&str> {
     match command {
         Command::Trace(TraceRequest { exchange, .. })
         | Command::Fill(FillRequest { exchange, .. }) => Some(exchange.as_str()),
+        Command::TraceChanges(request) => {
+            let (exchange, _) = request.calls.as_ref()?;
+            Some(exchange.as_str())
+        }
         _ => None,
     }
 }
@@ -151,6 +156,10 @@ fn code_asked(command: &Command) -> Option<&str> {
             Some(code.as_str())
         }
         Command::Page(request) => request.code.as_deref(),
+        Command::TraceChanges(request) => {
+            let (_, code) = request.calls.as_ref()?;
+            Some(code.as_str())
+        }
         _ => None,
     }
 }
@@ -158,11 +167,20 @@ fn code_asked(command: &Command) -> Option<&str> {
 /// The name of a group that it asks for, by its place among these.
 fn group_asked(command: &Command, place: usize) -> Option<&str> {
     match command {
-        Command::Trace(TraceRequest { down, .. }) | Command::Fill(FillRequest { down, .. }) => {
+        Command::Trace(TraceRequest { down, .. })
+        | Command::TraceThrough(ThroughRequest { down, .. })
+        | Command::Fill(FillRequest { down, .. }) => {
             let names = down.as_deref()?;
             Some(names.split(',').nth(place).unwrap_or(names))
         }
-        Command::TraceGroup(request) => Some(request.group.as_str()),
+        _ => None,
+    }
+}
+
+/// The name that it asks for, of an exchange or a group.
+fn name_asked(command: &Command) -> Option<&str> {
+    match command {
+        Command::TraceThrough(request) => Some(request.name.as_str()),
         _ => None,
     }
 }

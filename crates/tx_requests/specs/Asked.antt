@@ -2,8 +2,10 @@
 use Rattle.std.specs.Prelude.{ℕ, suc, ◌==◌, List, [], ◌∷◌, Option, None, Some, Result, Ok, Err}
 use Rattle.std.specs.List.{slice_split}
 use Rattle.tx_plan.specs.Plan.{Plan, exchange_named, code_named, group_named}
+use Rattle.tx_trace.specs.declared.through.Through.{Through}
+use Rattle.tx_trace.specs.declared.through.Through.TheVariants.{Exchange, Group}
 use Rattle.tx_requests.specs.declared.fault.CommandFault.{CommandFault}
-use Rattle.tx_requests.specs.declared.fault.CommandFault.TheVariants.{NoSuchExchange, NoSuchCode, NoSuchGroup}
+use Rattle.tx_requests.specs.declared.fault.CommandFault.TheVariants.{NoSuchExchange, NoSuchCode, NoSuchGroup, NoSuchName}
 
 -- the names in a word, with a comma between two; 44 is the comma
 abbrev pub names_in : List ℕ → List (List ℕ)
@@ -38,3 +40,20 @@ abbrev pub asked_of : Plan → (exchange code : List ℕ) → (groups : Option (
     → Result (ℕ × ℕ × List ℕ) CommandFault
 asked_of p exchange code groups =
     all_asked (exchange_named p exchange) (code_named p code) (groups_in p groups)
+
+-- an exchange, or else a group
+abbrev pub exchange_or_group : (exchange group : Option ℕ) → Option Through
+exchange_or_group (Some x) group = Some (Exchange x)
+exchange_or_group None (Some g) = Some (Group g)
+exchange_or_group None None = None
+
+-- the exchange of a name, or else the group of it
+abbrev pub through_named : Plan → List ℕ → Option Through
+through_named p name = exchange_or_group (exchange_named p name) (group_named p name)
+
+-- what is passed, and the groups, or which of them is not there
+abbrev pub all_passed : Option Through → (groups : Result (List ℕ) ℕ)
+    → Result (Through × List ℕ) CommandFault
+all_passed None groups = Err NoSuchName
+all_passed (Some t) (Err place) = Err (NoSuchGroup place)
+all_passed (Some t) (Ok groups) = Ok (t, groups)

@@ -3,7 +3,7 @@ use Rattle.std.specs.Prelude.{◌≡◌, ℕ, Bool, true, List, Option, is_some,
 use Rattle.tx_text.specs.declared.source.ReadFault.{ReadFault}
 use Rattle.tx_text.specs.Ends.{Input, Output, input, output}
 use Rattle.tx_commands.specs.declared.command.Command.{Command}
-use Rattle.tx_commands.specs.declared.command.Command.TheVariants.{Pipe, Run, RunTelling, Check, Lint, Codes, Audit, Change, Order, Mend, Survive, Compare, Page, Grade, Trace, TraceGroup, Fill, Explain}
+use Rattle.tx_commands.specs.declared.command.Command.TheVariants.{Pipe, Run, RunTelling, Check, Lint, Codes, Audit, Change, Order, Mend, Survive, Compare, Page, Grade, Trace, TraceThrough, TraceChanges, Fill, Explain}
 use Rattle.tx_jobs.specs.AuditJobs.{AuditJobAnswers}
 use Rattle.tx_jobs.specs.CheckJobs.{CheckJobAnswers}
 use Rattle.tx_jobs.specs.declared.job_fault.JobFault.{JobFault}
@@ -21,7 +21,6 @@ use Rattle.tx_requests.specs.Ending.{EndsWith, EndsWell}
 use Rattle.tx_requests.specs.Explain.{IsExplained}
 use Rattle.tx_requests.specs.Fill.{FillAnswers, fill_prints}
 use Rattle.tx_requests.specs.Grade.{GradeAnswers, grade_prints, GradeEnds}
-use Rattle.tx_requests.specs.Group.{GroupAnswers, group_prints}
 use Rattle.tx_requests.specs.Lint.{read_stop, IsLinted}
 use Rattle.tx_requests.specs.Printing.{Printing}
 use Rattle.tx_requests.specs.Jobs.{IsJobDone, verdict_status, pair_status, strict_status}
@@ -32,8 +31,10 @@ use Rattle.tx_requests.specs.PageReading.{ReadsForPage}
 use Rattle.tx_requests.specs.Reading.{ReadsPlan, ReadsWithRisks}
 use Rattle.tx_requests.specs.Runs.{IsRunDone}
 use Rattle.tx_requests.specs.Survive.{SurviveAnswers, survive_prints, SurviveEnds}
+use Rattle.tx_requests.specs.Through.{ThroughAnswers, through_prints}
 use Rattle.tx_requests.specs.Trace.{TraceAnswers, trace_prints}
-use Rattle.tx_requests.specs.TwoPlans.{ReadsWhole, ReadsPlans, ReadsPlansWithRisks}
+use Rattle.tx_requests.specs.TwoPlans.{ReadsWhole, ReadsPlans, ReadsPlansWithRisks, ReadsWithOld}
+use Rattle.tx_requests.specs.WayChanges.{WaysAnswers, ways_prints}
 
 module _ {P W : Type 0} (rest : P → Option (List ℕ)) (failed : P → Bool)
     (called : ℕ → Result ℕ ReadFault → P → P → Type 0) (old new : P) (second third : Input)
@@ -105,9 +106,14 @@ module _ {P W : Type 0} (rest : P → Option (List ℕ)) (failed : P → Bool)
     IsDone (Trace r) result =
         ByRequest (ReadsPlan first) (TraceAnswers {A = A}) (λ r. trace_prints) (λ r. EndsWell) r result
         × second.unread × third.unread
-    IsDone (TraceGroup r) result =
-        ByRequest (ReadsPlan first) GroupAnswers (λ r. group_prints) (λ r. EndsWell) r result
+    IsDone (TraceThrough r) result =
+        ByRequest (ReadsPlan first) (ThroughAnswers {A = A}) (λ r. through_prints) (λ r. EndsWell) r
+        result
         × second.unread × third.unread
+    IsDone (TraceChanges r) result =
+        ByRequest (ReadsWithOld first second) (WaysAnswers {A = A}) (λ r. ways_prints) (λ r. EndsWell) r
+        result
+        × third.unread
     IsDone (Fill r) result =
         ByRequest (ReadsPlan first) (FillAnswers {A = A}) (λ r. fill_prints) (λ r. EndsWell) r result
         × second.unread × third.unread

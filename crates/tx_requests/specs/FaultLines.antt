@@ -6,7 +6,7 @@ use Rattle.tx_join.specs.declared.contradiction.Contradiction.{Contradiction as 
 use Rattle.tx_join.specs.Contradictions.{kind_word}
 use Rattle.tx_jobs.specs.JobFaults.{fault_line, text_fault_line}
 use Rattle.tx_requests.specs.declared.fault.CommandFault.{CommandFault}
-use Rattle.tx_requests.specs.declared.fault.CommandFault.TheVariants.{Job, OldPlan, NewPlan, Contradiction, TooManyTogether, Risks, NoSuchStage, NoSuchExchange, NoSuchCode, NoSuchGroup}
+use Rattle.tx_requests.specs.declared.fault.CommandFault.TheVariants.{Job, OldPlan, NewPlan, Contradiction, TooManyTogether, Risks, NoSuchStage, NoSuchExchange, NoSuchCode, NoSuchGroup, NoSuchName, NotInOldPlan}
 
 -- what two plans declare in contradiction, by the line of each text that does
 abbrev pub contradiction_line : ContradictionOf → List ℕ
@@ -32,3 +32,5 @@ command_line (NoSuchStage stages) = stage_count_line stages
 command_line NoSuchExchange = codes "telexplan: no such exchange in the plan\n"
 command_line NoSuchCode = codes "telexplan: no such code in the plan\n"
 command_line (NoSuchGroup place) = codes "telexplan: no such group in the plan\n"
+command_line NoSuchName = codes "telexplan: no such exchange or group in the plan\n"
+command_line NotInOldPlan = codes "telexplan: no such exchange or code in the old plan\n"

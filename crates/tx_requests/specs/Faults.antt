@@ -15,10 +15,10 @@ use Rattle.tx_jobs.specs.JobFaults.{plan_fault, status_of}
 use Rattle.tx_requests.specs.declared.two_plans.Which.{Which}
 use Rattle.tx_requests.specs.declared.two_plans.Which.TheVariants.{This, Old, New}
 use Rattle.tx_requests.specs.declared.fault.CommandFault.{CommandFault}
-use Rattle.tx_requests.specs.declared.fault.CommandFault.TheVariants.{Job, OldPlan, NewPlan, Contradiction, TooManyTogether, Risks, NoSuchStage, NoSuchExchange, NoSuchCode, NoSuchGroup}
+use Rattle.tx_requests.specs.declared.fault.CommandFault.TheVariants.{Job, OldPlan, NewPlan, Contradiction, TooManyTogether, Risks, NoSuchStage, NoSuchExchange, NoSuchCode, NoSuchGroup, NoSuchName, NotInOldPlan}
 
 -- the exit status: that of a job; 2 for a refused text and for plans that have no joined network;
--- and 64 for an exchange, a code or a group that the plan does not have, and for a stage that the
+-- and 64 for what the plan does not have of what is asked for by names, and for a stage that the
 -- order does not have
 abbrev pub fault_status : CommandFault → ℕ
 fault_status (Job f) = status_of f
@@ -31,6 +31,8 @@ fault_status (NoSuchStage stages) = 64
 fault_status NoSuchExchange = 64
 fault_status NoSuchCode = 64
 fault_status (NoSuchGroup place) = 64
+fault_status NoSuchName = 64
+fault_status NotInOldPlan = 64
 
 -- memory ran out
 abbrev pub memory_stop : CommandFault

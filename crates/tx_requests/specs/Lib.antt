@@ -23,7 +23,8 @@ pub mod Jobs
 pub mod Audit
 pub mod Runs
 pub mod Lint
-pub mod Group
+pub mod Through
+pub mod WayChanges
 pub mod Mend
 pub mod Order
 pub mod Doing

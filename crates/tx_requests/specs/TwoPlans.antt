@@ -22,8 +22,9 @@ use Rattle.tx_jobs.specs.declared.job_fault.JobFault.TheVariants.{Read, NoMemory
 use Rattle.tx_requests.specs.declared.two_plans.PlanText.{PlanText}
 use Rattle.tx_requests.specs.declared.two_plans.PlansRisks.{PlansRisks}
 use Rattle.tx_requests.specs.declared.two_plans.TwoPlans.{TwoPlans}
+use Rattle.tx_requests.specs.declared.two_plans.WithOld.{WithOld}
 use Rattle.tx_requests.specs.declared.two_plans.Which.{Which}
-use Rattle.tx_requests.specs.declared.two_plans.Which.TheVariants.{Old, New}
+use Rattle.tx_requests.specs.declared.two_plans.Which.TheVariants.{This, Old, New}
 use Rattle.tx_requests.specs.declared.fault.CommandFault.{CommandFault}
 use Rattle.tx_requests.specs.declared.fault.CommandFault.TheVariants.{Job, Contradiction, TooManyTogether}
 use Rattle.tx_requests.specs.Faults.{in_plan}
@@ -99,11 +100,12 @@ module _ {A : Type 0} where
     pub refused : IsRefusedAs old.plan new.plan refusal
     pub told : fault ≡ join_stop old.text.items new refusal
 
--- the old plan was read, but not the new one
-pub record LacksNew (A : Type 0) (old new : Input) (fault : CommandFault) : Type 0 where
+-- the first plan was read, but not the other one
+pub record LacksOther (A : Type 0) (which : Which) (first second : Input) (fault : CommandFault)
+    : Type 0 where
   pub plan : PlanText A
-  pub read : SaysWhole old plan
-  pub refused : GivesNoPlan (in_plan New) new fault
+  pub read : SaysWhole first plan
+  pub refused : GivesNoPlan (in_plan which) second fault
 
 -- both plans were read, and they are not joined
 pub record AreRefused (A : Type 0) (old new : Input) (fault : CommandFault) : Type 0 where
@@ -117,7 +119,7 @@ pub record AreRefused (A : Type 0) (old new : Input) (fault : CommandFault) : Ty
 -- read.
 abbrev pub AreNotJoined : (A : Type 0) → (old new : Input) → CommandFault → Type 0
 AreNotJoined A old new fault = (GivesNoPlan (in_plan Old) old fault × new.unread)
-    ⊎ (LacksNew A old new fault ⊎ AreRefused A old new fault)
+    ⊎ (LacksOther A New old new fault ⊎ AreRefused A old new fault)
 
 -- the plans of the first two texts, joined
 abbrev pub ReadsPlans : {A : Type 0} → (old new : Input) → Result (TwoPlans A) CommandFault → Type 0
@@ -143,3 +145,15 @@ module _ {A : Type 0} where
       ReadsPlans old new (Ok t.plans) × ReadsRisksIf named t.plans.joined.new text (Ok t.risks)
   ReadsPlansWithRisks named old new text (Err fault) =
       (AreNotJoined A old new fault × text.unread) ⊎ LackRisks A named old new text fault
+
+module _ {A : Type 0} where
+  -- both texts say their plans
+  abbrev pub AreSaid : WithOld A → Type 0
+  AreSaid t = IsSaid t.plan × IsSaid t.old
+
+  -- a plan and an old one, which are not joined; without the plan the old one is not read
+  abbrev pub ReadsWithOld : (first second : Input) → Result (WithOld A) CommandFault → Type 0
+  ReadsWithOld first second (Ok t) = SaysWhole first t.plan × SaysWhole second t.old
+  ReadsWithOld first second (Err fault) =
+      (GivesNoPlan (in_plan This) first fault × second.unread)
+      ⊎ LacksOther A Old first second fault

@@ -1,13 +1,14 @@
-// What is asked of a plan by names: an exchange, a code, and groups.
+// What is asked of a plan by names: an exchange, a code, what is passed, and groups.
 ghost use Rattle.std.specs.Prelude.{◌≡◌, IfOk, option_map};
 ghost use Rattle.std.specs.Result.{result_map_both};
-ghost use Rattle.tx_requests.specs.Asked.{names_in, groups_named, groups_in, asked_of};
-ghost use Rattle.tx_requests.specs.inner.Answered.{IsAnswered};
+ghost use Rattle.tx_requests.specs.Asked.{names_in, groups_named, groups_in, asked_of, exchange_or_group, through_named, all_passed};
+ghost use Rattle.tx_requests.specs.inner.Answered.{IsAnswered, IsPassed};
 
 use crate::fault::CommandFault;
 use std::alloc::Allocator;
 use tx_plan::{CodeId, ExchangeId, GroupId, Plan};
 use tx_text::NoMemory;
+use tx_trace::Through;
 
 /// The exchange of a name, the code of some figures, and the groups that a word names, with a comma
 /// between two.
@@ -30,6 +31,36 @@ pub(crate) fn asked_of<A: Allocator + Copy>(
     match groups_in(alloc, plan, groups)? {
         Ok(groups) => Ok((exchange, code, groups)),
         Err(place) => Err(CommandFault::NoSuchGroup(place)),
+    }
+}
+
+/// The exchange of a name, or else the group of it, and the groups that a word names.
+pub(crate) fn passed_of<A: Allocator + Copy>(
+    alloc: A,
+    plan: &Plan<A>,
+    name: &[u8],
+    groups: Option<&str>,
+) -> Result<(Through, Vec<GroupId, A>), CommandFault>
+    ensures { IsPassed (all_passed (through_named plan.now name.now)
+        (groups_in plan.now (option_map (λ w. w.now) groups.entry))) result }
+{
+    let Some(through) = through_named(plan, name) else {
+        return Err(CommandFault::NoSuchName);
+    };
+    match groups_in(alloc, plan, groups)? {
+        Ok(groups) => Ok((through, groups)),
+        Err(place) => Err(CommandFault::NoSuchGroup(place)),
+    }
+}
+
+/// The exchange of a name, or else the group of it.
+fn through_named<A: Allocator>(plan: &Plan<A>, name: &[u8]) -> Option<Through>
+    ensures { result ≡ through_named plan.now name.now }
+{
+    match (plan.exchange_named(name), plan.group_named(name)) {
+        (Some(exchange), _) => Some(Through::Exchange(exchange)),
+        (None, Some(group)) => Some(Through::Group(group)),
+        (None, None) => None,
     }
 }
 

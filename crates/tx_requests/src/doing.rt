@@ -14,7 +14,7 @@ use crate::linting::do_lint;
 use crate::page_reading::read_for_page;
 use crate::reading::{read_one, read_with_risks};
 use crate::running::{do_check, do_codes, do_pipe, do_run, do_telling};
-use crate::two_plans::{Which, read_plans, read_plans_with_risks, read_whole};
+use crate::two_plans::{Which, read_plans, read_plans_with_risks, read_whole, read_with_old};
 use std::alloc::Allocator;
 use tx_commands::Command;
 use tx_text::{Sink, Source};
@@ -72,7 +72,10 @@ pub fn do_command<A: Allocator + Copy, P: Source, Q: Source, R: Source, W: Sink>
         }
         Command::Grade(request) => carry_out(alloc, request, read_one(alloc, first), out),
         Command::Trace(request) => carry_out(alloc, request, read_one(alloc, first), out),
-        Command::TraceGroup(request) => carry_out(alloc, request, read_one(alloc, first), out),
+        Command::TraceThrough(request) => carry_out(alloc, request, read_one(alloc, first), out),
+        Command::TraceChanges(request) => {
+            carry_out(alloc, request, read_with_old(alloc, first, second), out)
+        }
         Command::Fill(request) => carry_out(alloc, request, read_one(alloc, first), out),
         Command::Explain(request) => do_explain(request, out),
     }

@@ -34,6 +34,10 @@ pub enum CommandFault {
     NoSuchCode,
     /// The plan has no group of a name that was asked for: of this one, counted from 0.
     NoSuchGroup(usize),
+    /// The plan has neither an exchange nor a group of the name that was asked for.
+    NoSuchName,
+    /// The old plan has not both the exchange and the code that were asked for.
+    NotInOldPlan,
 }
 
 impl From<JobFault> for CommandFault {
@@ -110,7 +114,7 @@ impl From<WholeTextFault> for CommandFault {
 
 impl CommandFault {
     /// The exit status: that of a job; 2 for a refused text and for plans that have no joined
-    /// network; and 64 for an exchange, a code or a group that the plan does not have, and for a stage
+    /// network; and 64 for what the plan does not have of what is asked for by names, and for a stage
     /// that the order does not have.
     pub fn status(&self) -> u8
         ensures { result ≡ fault_status self.now }
@@ -125,7 +129,9 @@ impl CommandFault {
             CommandFault::NoSuchStage(_)
             | CommandFault::NoSuchExchange
             | CommandFault::NoSuchCode
-            | CommandFault::NoSuchGroup(_) => 64,
+            | CommandFault::NoSuchGroup(_)
+            | CommandFault::NoSuchName
+            | CommandFault::NotInOldPlan => 64,
         }
     }
 

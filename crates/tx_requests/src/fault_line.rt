@@ -36,6 +36,15 @@ pub fn write_command_fault<W: Sink>(fault: &CommandFault, sink: &mut W) -> Resul
         CommandFault::NoSuchGroup(_) => {
             write_bytes(b"telexplan: no such group in the plan\n", sink)
         }
+        CommandFault::NoSuchName => {
+            write_bytes(b"telexplan: no such exchange or group in the plan\n", sink)
+        }
+        CommandFault::NotInOldPlan => {
+            write_bytes(
+                b"telexplan: no such exchange or code in the old plan\n",
+                sink,
+            )
+        }
     }
 }
 

@@ -1,8 +1,9 @@
-// The two plans of a change or an order, and both over their joined network.
+// The two plans of a change or an order, and both over their joined network; and a plan with an old
+// one.
 ghost use Rattle.std.specs.Prelude.{◌≡◌, IfOk, IfErr};
 ghost use Rattle.tx_text.specs.Calls.{CallsAtMost, source_calls};
 ghost use Rattle.tx_text.specs.Ends.{input};
-ghost use Rattle.tx_requests.specs.TwoPlans.{IsSaid, ReadsWhole, join_stop, IsNoJoinOf, IsJoin, AreJoined, ReadsPlans, HavePlansRisks, ReadsPlansWithRisks};
+ghost use Rattle.tx_requests.specs.TwoPlans.{IsSaid, ReadsWhole, join_stop, IsNoJoinOf, IsJoin, AreJoined, ReadsPlans, HavePlansRisks, ReadsPlansWithRisks, AreSaid, ReadsWithOld};
 
 use crate::fault::CommandFault;
 use crate::reading::read_risks_if;
@@ -43,6 +44,30 @@ pub struct TwoPlans<A: Allocator = Global> {
 pub struct PlansRisks<A: Allocator = Global> {
     pub plans: TwoPlans<A>,
     pub risks: Risks<A>,
+}
+
+/// A plan and an old one, with their texts.
+#[derive(Drop)]
+pub struct WithOld<A: Allocator = Global> {
+    pub plan: PlanText<A>,
+    pub old: PlanText<A>,
+}
+
+/// Reads a plan and then an old one, each to the end of its text.
+pub(crate) fn read_with_old<A: Allocator + Copy, P: Source, Q: Source>(
+    alloc: A,
+    first: &mut P,
+    second: &mut Q,
+) -> Result<WithOld<A>, CommandFault>
+    ensures texts { ReadsWithOld (input P.rest P.failed P.called first.old first.new)
+        (input Q.rest Q.failed Q.called second.old second.new) result }
+    ensures known { IfOk result AreSaid }
+    ensures first_calls { CallsAtMost P.called source_calls first.old first.new }
+    ensures second_calls { CallsAtMost Q.called source_calls second.old second.new }
+{
+    let plan = read_whole(alloc, Which::This, first)?;
+    let old = read_whole(alloc, Which::Old, second)?;
+    Ok(WithOld { plan, old })
 }
 
 /// Reads an old plan and then a new one, each to the end of its text, and joins them.

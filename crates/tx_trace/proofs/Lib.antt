@@ -10,4 +10,5 @@ pub mod OnlyCall
 pub mod Texts
 pub mod LeftRoutes
 pub mod Blocked
-pub mod GroupLines
+pub mod Passing
+pub mod Changing

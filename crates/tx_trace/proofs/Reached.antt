@@ -22,12 +22,12 @@ use Rattle.tx_trace.proofs.Rounds.{all_reached}
 
 -- ---- one list
 
-among_in : (y : ℕ) (xs : List ℕ) → Among y xs → is_in y xs ≡ true
+pub among_in : (y : ℕ) (xs : List ℕ) → Among y xs → is_in y xs ≡ true
 among_in y [] m = absurd m
 among_in y (z ∷ xs) (inl e) = ap (λ b. b || is_in y xs) (eq-eqb z y e)
 among_in y (z ∷ xs) (inr m) = elim (eqb z y) as (λ b. (b || is_in y xs) ≡ true) [ true ↦ refl | false ↦ among_in y xs m ]
 
-in_among : (y : ℕ) (xs : List ℕ) → is_in y xs ≡ true → Among y xs
+pub in_among : (y : ℕ) (xs : List ℕ) → is_in y xs ≡ true → Among y xs
 in_among y [] e = absurd (false≢true e)
 in_among y (z ∷ xs) e =
     elim (eqb z y) as (λ b. eqb z y ≡ b → (b || is_in y xs) ≡ true → Among y (z ∷ xs)) [

@@ -4,6 +4,9 @@ pub mod Ranked
 pub mod OnlyCall
 pub mod Left
 pub mod TraceText
-pub mod GroupText
+pub mod Through
+pub mod ThroughText
+pub mod WayChanges
+pub mod WayChangesText
 pub mod Traces
 pub mod inner

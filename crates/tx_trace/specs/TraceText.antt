@@ -27,10 +27,13 @@ bar_line p c x =
     then codes "BARRED " ++ (exchange_name p x ++ (codes " " ++ (figures_of p c ++ codes "\n")))
     else []
 
--- where a way starts, and its steps, as in `FIRST NORTH NOSO1 SOUTH`
+-- where a way starts, and its steps
+abbrev pub way_text : Plan → ℕ → List (ℕ × ℕ) → List ℕ
+way_text p x way = exchange_name p x ++ (flat_map (step_text p) way ++ codes "\n")
+
+-- the first way, as in `FIRST NORTH NOSO1 SOUTH`
 abbrev pub way_line : Plan → ℕ → List (ℕ × ℕ) → List ℕ
-way_line p x way =
-    codes "FIRST " ++ (exchange_name p x ++ (flat_map (step_text p) way ++ codes "\n"))
+way_line p x way = codes "FIRST " ++ way_text p x way
 
 -- the home, as in `HOME SOUTH`
 abbrev pub home_line : Plan → ℕ → List ℕ

@@ -8,6 +8,7 @@ ghost use Rattle.tx_plan.specs.Lines.{is_line};
 ghost use Rattle.tx_plan.specs.Codes.{code_of};
 ghost use Rattle.tx_plan.specs.Routes.{is_barred};
 ghost use Rattle.tx_plan.specs.declared.ids.Line.{Line};
+ghost use Rattle.tx_plan.specs.declared.ids.Pair.{Pair};
 ghost use Rattle.tx_plan.specs.Among.{Among};
 ghost use Rattle.tx_machine.specs.declared.event.Event.{Event};
 ghost use Rattle.tx_machine.specs.State.{State};
@@ -18,6 +19,8 @@ ghost use Rattle.tx_trace.specs.Heights.{height};
 ghost use Rattle.tx_trace.specs.Ranked.{CanBeRankedFrom, net_from};
 ghost use Rattle.tx_trace.specs.Left.{plan_left, AreBlocked, unblocked, is_blocking};
 ghost use Rattle.tx_trace.specs.Ways.{first_way, all_met};
+ghost use Rattle.tx_trace.specs.declared.through.Through.{Through};
+ghost use Rattle.tx_trace.specs.Through.{calls_through, CanPass};
 ghost use Rattle.tx_trace.specs.OnlyCall.{GoesBy};
 
 /// From the opening state a line that is at home at an exchange keys a code, for which calls may
@@ -51,4 +54,11 @@ pub fn met_are_reached()
     ensures reached { (p : Plan) (c x y : ℕ) → IsPlan p → c < length p.codes
         → x < length p.exchanges → Among y (all_met p c x) ↔ IsReached (net_from p c x) y }
     ensures once { (p : Plan) (c x : ℕ) → AllDiffer (all_met p c x) }
+{}
+
+/// The calls listed are those that can pass: of each such code, and each exchange where it starts.
+pub fn through_are_walks()
+    ensures { (p : Plan) (t : Through) (k : Pair) → IsPlan p
+        → Among k (calls_through p t) ↔ ((k.code < length p.codes)
+        × (k.exchange < length p.exchanges) × CanPass p t k.code k.exchange) }
 {}

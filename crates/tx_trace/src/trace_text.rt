@@ -4,7 +4,7 @@ ghost use Rattle.std.specs.List.{flat_map};
 ghost use Rattle.tx_text.specs.Puts.{Puts};
 ghost use Rattle.tx_text.specs.Wrote.{Wrote};
 ghost use Rattle.tx_plan.specs.Plan.{exchange_name, figures_of};
-ghost use Rattle.tx_trace.specs.TraceText.{down_line, bar_line, way_line, home_line, rank_text, place_line, list_lines, met_lines, trace_text};
+ghost use Rattle.tx_trace.specs.TraceText.{down_line, bar_line, way_text, home_line, rank_text, place_line, list_lines, met_lines, trace_text};
 ghost use Rattle.tx_trace.specs.Traces.{IsTraceOf, rank_told};
 
 use crate::tracing::Trace;
@@ -31,7 +31,7 @@ pub fn write_trace<A: Allocator, W: Sink>(
     write_head(b"TRACE ", plan, trace.code, trace.exchange, sink);
     write_down(plan, down, sink);
     write_bar(plan, trace.code, trace.exchange, sink);
-    write_way(plan, trace.exchange, &trace.first, sink);
+    write_way(b"FIRST ", plan, trace.exchange, &trace.first, sink);
     write_all_met(plan, trace, sink);
     finish(sink)
 }
@@ -82,16 +82,18 @@ fn write_bar<A: Allocator, W: Sink>(
     put_parts(&[b"BARRED ", name, b" ", figures, b"\n"], sink);
 }
 
-fn write_way<A: Allocator, W: Sink>(
+/// Writes a word, and a way behind it.
+pub(crate) fn write_way<A: Allocator, W: Sink>(
+    word: &[u8],
     plan: &Plan<A>,
     start: ExchangeId,
     way: &[(GroupId, ExchangeId)],
     sink: &mut W,
 )
     ensures { Puts W.taken W.failed sink.old sink.new
-        (way_line plan.now start way.now) }
+        (word.now ++ way_text plan.now start way.now) }
 {
-    put_bytes(b"FIRST ", sink);
+    put_bytes(word, sink);
     put_bytes(plan.exchange_name(start), sink);
     write_steps(plan, way, sink);
 }

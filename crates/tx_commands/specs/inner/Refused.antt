@@ -1,5 +1,5 @@
 -- Why the words of a command that was found are refused.
-use Rattle.std.specs.Prelude.{◌≡◌, ℕ, true, false, not, ◌&&◌, ◌||◌, List, Option, Some, option_map, codes, IsSomeAnd}
+use Rattle.std.specs.Prelude.{◌≡◌, ℕ, Bool, true, false, not, ◌&&◌, ◌||◌, List, Option, Some, option_map, codes, IsSomeAnd}
 use Rattle.clap.specs.Words.{Row}
 use Rattle.tx_commands.specs.Entries.{is_known}
 use Rattle.tx_commands.specs.Commands.{IsFoundIn, is_set, line_of}
@@ -28,15 +28,18 @@ pub record IsRisksOnly (name : List ℕ) (found : List Row) : Type 0 where
   pub only : is_set found (codes "risks-only") ≡ true
   pub none : has found (codes "risks") ≡ false
 
--- `trace` has neither an exchange and a code without a group, nor a group alone
+-- words of `trace` go together: an exchange and a code, or `--through`, or `--from` alone or with
+-- an exchange and a code; and `--down` does not go with `--from`
+abbrev pub trace_words_fit : (exchange code down through from : Bool) → Bool
+trace_words_fit exchange code down through from = not (down && from)
+    && (((exchange && code) && not through)
+    || (not (exchange || code) && ((through || from) && not (through && from))))
+
+-- those of this `trace` do not
 pub record IsTraceInPart (name : List ℕ) (found : List Row) : Type 0 where
   pub trace : name ≡ codes "trace"
-  pub not_calls :
-      (has found (codes "exchange")
-      && (has found (codes "code") && not (has found (codes "group")))) ≡ false
-  pub not_group :
-      (has found (codes "group") && not (has found (codes "exchange")
-      || (has found (codes "code") || has found (codes "down")))) ≡ false
+  pub unfit : trace_words_fit (has found (codes "exchange")) (has found (codes "code"))
+      (has found (codes "down")) (has found (codes "through")) (has found (codes "from")) ≡ false
 
 -- `explain` has words that ask for no entry of the table
 pub record IsNoCode (name : List ℕ) (found : List Row) : Type 0 where

@@ -6,7 +6,7 @@ use tx_commands::{Command, WordsFault, read_command};
 /// The words of a command by the kind of its case and, where it matters, the word after the kind.
 /// `@1`, `@2` and `@3` stand for the words after the kind: where there is no such word, what has it
 /// is left out. All that a command can print and make is asked for.
-static COMMANDS: [(&str, &str, &str); 29] = [
+static COMMANDS: [(&str, &str, &str); 31] = [
     ("pipe", "", ""),
     ("run", "", "run plan script"),
     (
@@ -77,7 +77,9 @@ static COMMANDS: [(&str, &str, &str); 29] = [
     ),
     ("page-code", "", "page @1 --limit=@2 --spare=1 --code=@3"),
     ("grade", "", "grade plan"),
-    ("trace", "group", "trace plan --group=@2"),
+    ("trace", "changes", "trace plan --from=old"),
+    ("trace-from", "", "trace plan @1 @2 --from=old"),
+    ("trace", "through", "trace plan --through=@2 --down=@3"),
     ("trace", "", "trace plan @1 @2 --down=@3"),
     ("fill", "", "fill plan @1 @2 --down=@3"),
 ];

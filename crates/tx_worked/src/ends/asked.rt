@@ -46,6 +46,13 @@ fn tell_calls(exchange: &str, code: &str, down: Option<&str>, log: &Log) {
     tell_word("down", down, log);
 }
 
+/// Tells whether the named risks alone are tried, if there are some.
+fn tell_risks(risks: &Option<(String, bool)>, log: &Log) {
+    if let Some((_, alone)) = risks {
+        tell_flag("risks alone", *alone, log);
+    }
+}
+
 /// Tells what a command is given beside its limits and its files.
 fn tell_more(command: &Command, log: &Log) {
     match command {
@@ -60,16 +67,8 @@ fn tell_more(command: &Command, log: &Log) {
                 ..
             },
         ) => { log.tell_number("stage", u64::from(*stage)) }
-        Command::Survive(request) => {
-            if let Some((_, alone)) = &request.risks {
-                tell_flag("risks alone", *alone, log);
-            }
-        }
-        Command::Compare(request) => {
-            if let Some((_, alone)) = &request.risks {
-                tell_flag("risks alone", *alone, log);
-            }
-        }
+        Command::Survive(request) => tell_risks(&request.risks, log),
+        Command::Compare(request) => tell_risks(&request.risks, log),
         Command::Page(request) => tell_word("code", request.code.as_deref(), log),
         Command::Trace(request) => {
             let down = request.down.as_deref();
@@ -79,7 +78,15 @@ fn tell_more(command: &Command, log: &Log) {
             let down = request.down.as_deref();
             tell_calls(&request.exchange, &request.code, down, log)
         }
-        Command::TraceGroup(request) => log.tell("group", &request.group),
+        Command::TraceChanges(request) => {
+            if let Some((exchange, code)) = &request.calls {
+                tell_calls(exchange, code, None, log)
+            }
+        }
+        Command::TraceThrough(request) => {
+            log.tell("through", &request.name);
+            tell_word("down", request.down.as_deref(), log)
+        }
         Command::Explain(request) => tell_word("line", request.line.as_deref(), log),
         _ => {}
     }

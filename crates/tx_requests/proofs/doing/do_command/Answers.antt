@@ -144,19 +144,30 @@ returns-in-Trace-clause-second_calls g c = uncalled g.Q.Source.called c.args.sec
 pub returns-in-Trace-clause-third_calls : goal.returns-in-Trace-clause-third_calls
 returns-in-Trace-clause-third_calls g c = uncalled g.R.Source.called c.args.third.now
 
-pub carry_out-requires-in-TraceGroup : goal.carry_out-requires-in-TraceGroup
-carry_out-requires-in-TraceGroup g c = c.read_one-in-TraceGroup.ensures.known
+pub carry_out-requires-in-TraceChanges : goal.carry_out-requires-in-TraceChanges
+carry_out-requires-in-TraceChanges g c = c.read_with_old.ensures.known
 
-pub returns-in-TraceGroup-clause-done : goal.returns-in-TraceGroup-clause-done
-returns-in-TraceGroup-clause-done g c =
-    rw c.in-TraceGroup.is
-    (record { texts = c.read_one-in-TraceGroup.result; read = c.read_one-in-TraceGroup.ensures.text; carried = c.carry_out-in-TraceGroup.ensures }, refl, refl)
+pub returns-in-TraceChanges-clause-done : goal.returns-in-TraceChanges-clause-done
+returns-in-TraceChanges-clause-done g c =
+    rw c.in-TraceChanges.is
+    (record { texts = c.read_with_old.result; read = c.read_with_old.ensures.texts; carried = c.carry_out-in-TraceChanges.ensures }, refl)
 
-pub returns-in-TraceGroup-clause-second_calls : goal.returns-in-TraceGroup-clause-second_calls
-returns-in-TraceGroup-clause-second_calls g c = uncalled g.Q.Source.called c.args.second.now
+pub returns-in-TraceChanges-clause-third_calls : goal.returns-in-TraceChanges-clause-third_calls
+returns-in-TraceChanges-clause-third_calls g c = uncalled g.R.Source.called c.args.third.now
 
-pub returns-in-TraceGroup-clause-third_calls : goal.returns-in-TraceGroup-clause-third_calls
-returns-in-TraceGroup-clause-third_calls g c = uncalled g.R.Source.called c.args.third.now
+pub carry_out-requires-in-TraceThrough : goal.carry_out-requires-in-TraceThrough
+carry_out-requires-in-TraceThrough g c = c.read_one-in-TraceThrough.ensures.known
+
+pub returns-in-TraceThrough-clause-done : goal.returns-in-TraceThrough-clause-done
+returns-in-TraceThrough-clause-done g c =
+    rw c.in-TraceThrough.is
+    (record { texts = c.read_one-in-TraceThrough.result; read = c.read_one-in-TraceThrough.ensures.text; carried = c.carry_out-in-TraceThrough.ensures }, refl, refl)
+
+pub returns-in-TraceThrough-clause-second_calls : goal.returns-in-TraceThrough-clause-second_calls
+returns-in-TraceThrough-clause-second_calls g c = uncalled g.Q.Source.called c.args.second.now
+
+pub returns-in-TraceThrough-clause-third_calls : goal.returns-in-TraceThrough-clause-third_calls
+returns-in-TraceThrough-clause-third_calls g c = uncalled g.R.Source.called c.args.third.now
 
 pub carry_out-requires-in-Fill : goal.carry_out-requires-in-Fill
 carry_out-requires-in-Fill g c = c.read_one-in-Fill.ensures.known

@@ -35,5 +35,11 @@ returns-in-NoSuchCode g c = rw c.in-NoSuchCode.is c.write_bytes-in-NoSuchCode.en
 pub returns-in-NoSuchGroup : goal.returns-in-NoSuchGroup
 returns-in-NoSuchGroup g c = rw c.in-NoSuchGroup.is c.write_bytes-in-NoSuchGroup.ensures
 
+pub returns-in-NoSuchName : goal.returns-in-NoSuchName
+returns-in-NoSuchName g c = rw c.in-NoSuchName.is c.write_bytes-in-NoSuchName.ensures
+
+pub returns-in-NotInOldPlan : goal.returns-in-NotInOldPlan
+returns-in-NotInOldPlan g c = rw c.in-NotInOldPlan.is c.write_bytes-in-NotInOldPlan.ensures
+
 pub returns-in-Job : goal.returns-in-Job
 returns-in-Job g c = rw c.in-Job.is c.write_fault.ensures

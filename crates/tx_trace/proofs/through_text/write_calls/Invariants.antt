@@ -1,0 +1,9 @@
+use Rattle.std.proofs.Common.{take}
+use Rattle.std.specs.List.{flat_map}
+use Rattle.tx_text.specs.Puts.{Puts}
+use Rattle.tx_trace.specs.ThroughText.{call_line}
+use Rattle.tx_trace.proofs.through_text.write_calls.Given as goal
+
+abbrev pub invariant-loop-i : goal.invariant-loop-i
+invariant-loop-i g l =
+    Puts g.W.Sink.taken g.W.Sink.failed l.initial.sink l.sink (flat_map (call_line l.plan) (take l.i l.calls))
