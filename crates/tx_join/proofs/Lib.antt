@@ -16,4 +16,6 @@ pub mod Stages
 pub mod StepsDeclared
 pub mod Splits
 pub mod Counts
+pub mod AloneLines
+pub mod Sums
 pub mod RangesByCode

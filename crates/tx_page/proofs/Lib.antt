@@ -1,2 +1,1 @@
 pub mod StepsOfWalks
-pub mod Sums

@@ -7,7 +7,7 @@ use Rattle.std.proofs.lemmas.List.Folds.{list_any-append}
 use Rattle.tx_plan.proofs.ByIndex.{entry_at, take_next}
 use Rattle.tx_join.specs.inner.Ranges.{is_range_of}
 use Rattle.tx_join.proofs.Found.{drop_next}
-use Rattle.tx_join.proofs.differences.has_range_of.Goals as goal
+use Rattle.tx_join.proofs.entries.has_range_of.Goals as goal
 
 -- the entry at an index is the first that passes, or fails too
 module _ {A : Type 0} (t : A → Bool) (xs : List A) (i : ℕ) (b : Bool) (l : i < length xs) (none : list_any t (take i xs) ≡ false) (is : b ≡ option_map_or t (slice_get xs i) false) where
