@@ -7,6 +7,7 @@ pub mod JoinedNetwork
 pub mod Taking
 pub mod PlansOver
 pub mod TheirLists
+pub mod LeadOver
 pub mod OldCertified
 pub mod NoDifference
 pub mod OneNetwork

@@ -1,4 +1,4 @@
--- How many lines the first ranges have, and at how many of the first exchanges calls start.
+-- Sums and counts over the first numbers.
 use Rattle.std.proofs.Common.{◌≡◌, ℕ, ◌+◌, ◌<◌, ◌≤◌, Bool, true, false, List, [], ◌∷◌, length, take, get_or, sym, ap, ◌∙◌, arith}
 use Rattle.std.specs.Prelude.{count_by, sum_by, slice_get, if◌then◌else◌}
 use Rattle.std.specs.List.{range_with_len}
@@ -13,6 +13,15 @@ sum_more f [] i v low e = absurd (omega (arith, low))
 sum_more f (x ∷ xs) i v low e =
     sum_by_more f (x ∷ xs) i x low
     ∙ ap (λ w. sum_by f (take i (x ∷ xs)) + w) (sym (e ∙ ap (λ o. option_map_or f o 0) (slice_get-get_or (x ∷ xs) i x low)))
+
+-- a sum with one more of the first n numbers
+pub range_sum_more : (f : ℕ → ℕ) (n i x v : ℕ) → i < n → x ≡ i → v ≡ f x → sum_by f (take (i + 1) (range_with_len 0 n)) ≡ sum_by f (take i (range_with_len 0 n)) + v
+range_sum_more f n i x v low e is =
+    let xs = range_with_len 0 n in
+    let short : i < length xs = omega (arith, low, length-range_with_len 0 n) in
+    let place : 0 + i ≡ x = omega (arith, e) in
+    sum_by_more f xs i 0 short
+    ∙ ap (λ w. sum_by f (take i xs) + w) (ap f (get_or-range_with_len 0 n i 0 low ∙ place) ∙ sym is)
 
 -- a count with one more of the first n numbers
 pub count_more : (f : ℕ → Bool) (n i x : ℕ) (b : Bool) (before now : ℕ) → i < n → x ≡ i → b ≡ f x → before ≡ count_by f (take i (range_with_len 0 n)) → now ≡ (if b then before + 1 else before) → now ≡ count_by f (take (i + 1) (range_with_len 0 n))

@@ -107,9 +107,13 @@ bars_from j n = flat_map (bars_of_code j) (range_with_len n (length j.codes - n)
 abbrev pub shared_bars : (j p q : Plan) → List Pair
 shared_bars j p q = map (bar_in j p) p.bars ++ map (bar_in j q) (bars_alone q p)
 
--- those for codes below n; the codes from n on are barred everywhere but at home
+-- those for codes below n
+abbrev pub bars_below : (n : ℕ) → List Pair → List Pair
+bars_below n bars = filter (λ b. nat_lt b.code n) bars
+
+-- these of both plans; the codes from n on are barred everywhere but at home
 abbrev pub bars_over : (j p q : Plan) → (n : ℕ) → List Pair
-bars_over j p q n = filter (λ b. nat_lt b.code n) (shared_bars j p q) ++ bars_from j n
+bars_over j p q n = bars_below n (shared_bars j p q) ++ bars_from j n
 
 -- The plan p over the network j, with the lists and bars of q for what p does not have, and with
 -- the codes from n on closed

@@ -8,7 +8,7 @@ use Rattle.tx_plan.specs.Circuits.{ends_of, direction_of, count_of}
 use Rattle.tx_plan.specs.Certified.{Ranks, IsCertified}
 use Rattle.tx_plan.specs.Mixtures.{SameNetwork}
 use Rattle.tx_plantext.specs.PlanWritten.{route_words, bar_words}
-use Rattle.tx_join.specs.Joined.{circuits_named, exchange_in, code_in, group_in, has_both, routes_alone, bars_alone, joined_old, joined_new}
+use Rattle.tx_join.specs.Joined.{circuits_named, exchange_in, code_in, group_in, has_both, routes_alone, bars_alone, bars_below, joined_old, joined_new}
 use Rattle.tx_join.specs.Differences.{differ}
 use Rattle.tx_join.specs.Refusals.{join_refusal}
 
@@ -118,25 +118,25 @@ pub record HaveTheirLists (old new before after : Plan) : Type 0 where
 
 -- BEFORE AND AFTER
 
--- the bars of p for codes that the old plan has, where p knows the codes of q by its own indexes
-abbrev pub old_bars : (old q p : Plan) → List Pair → List Pair
-old_bars old q p bars = filter (λ b. nat_lt (code_in q p b.code) (length old.codes)) bars
+-- the bars for codes of the old plan, where the plan q knows the codes of p by its own indexes
+abbrev pub open_bars : (old q p : Plan) → List Pair → List Pair
+open_bars old q p bars = filter (λ b. nat_lt (code_in q p b.code) (length old.codes)) bars
 
 -- By the lines of lists and bars: the plan before the switching has those of the old plan, and those
 -- that the new one has alone, which are put there before. The plan after it has those of the new
 -- plan, and those that the old one has alone, which go then. Bars are those for codes of the old
--- plan: the others are closed meanwhile.
+-- plan: all others are closed meanwhile.
 pub record LeadOver (old new before after : Plan) : Type 0 where
   pub lists_put : map (route_words before) before.routes
       ≡ map (route_words old) old.routes ++ map (route_words new) (routes_alone new old)
   pub lists_left : map (route_words after) after.routes
       ≡ map (route_words new) new.routes ++ map (route_words old) (routes_alone old new)
-  pub bars_put : map (bar_words before) (old_bars old before before before.bars)
-      ≡ map (bar_words old) old.bars
-      ++ map (bar_words new) (old_bars old before new (bars_alone new old))
-  pub bars_left : map (bar_words after) (old_bars old after after after.bars)
-      ≡ map (bar_words new) (old_bars old after new new.bars)
-      ++ map (bar_words old) (bars_alone old new)
+  pub bars_put : map (bar_words before) (bars_below (length old.codes) before.bars)
+      ≡ map (bar_words old) (open_bars old before old old.bars)
+      ++ map (bar_words new) (open_bars old before new (bars_alone new old))
+  pub bars_left : map (bar_words after) (bars_below (length old.codes) after.bars)
+      ≡ map (bar_words new) (open_bars old after new new.bars)
+      ++ map (bar_words old) (open_bars old after old (bars_alone old new))
 
 -- ONE NETWORK
 

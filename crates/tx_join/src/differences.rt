@@ -101,7 +101,7 @@ fn write_counts<W: Sink>(grows: bool, name: &[u8], before: u32, after: u32, sink
 }
 
 /// Whether the second of two numbers is greater, or is less.
-fn is_told(grows: bool, before: u32, after: u32) -> bool
+pub fn is_told(grows: bool, before: u32, after: u32) -> bool
     ensures { result ≡ is_told grows before after }
 {
     if grows {

@@ -18,9 +18,10 @@ mod refusing;
 mod steps;
 
 pub use contradiction::{Contradiction, Kind, homes_of};
-pub use differences::differ;
+pub use differences::{differ, is_told};
 pub use entries::{Entries, count_of_entries, is_known};
 pub use joining::{Joined, join};
 pub use list_counts::write_list_counts;
+pub use naming::has_both;
 pub use refusal::JoinRefusal;
 pub use steps::{write_after, write_before};
