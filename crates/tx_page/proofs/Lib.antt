@@ -1,1 +1,2 @@
 pub mod StepsOfWalks
+pub mod AloneIn

@@ -57,7 +57,8 @@ fn write_steps<A: Allocator, W: PageSink>(change: &Change<'_, A>, safe: bool, si
     write_after(change.old, change.new, sink);
 }
 
-const BESIDE_LISTS: &str = " in what they declare.</p>";
+const BESIDE_LISTS: &str = " in what they declare: something is \
+done before the switching, or after it.</p>";
 
 /// Writes the stages, or all that differs.
 fn write_switching<A: Allocator, W: PageSink>(change: &Change<'_, A>, safe: bool, sink: &mut W)

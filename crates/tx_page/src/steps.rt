@@ -12,13 +12,13 @@ use tx_html::{PageSink, Part, set};
 use tx_join::{Entries, count_of_entries, is_known, is_told};
 use tx_plan::{CodeId, ExchangeId, GroupId, LineRange, Plan};
 
-const BEFORE: &str = "<section class=\"stage\"><h3>Before the first stage</h3><p>This is put there \
-before anything is switched, with these lists and bars.</p><ul>";
+const BEFORE: &str = "<section class=\"stage\"><h3>Before the switching</h3><p>This is put there \
+first, with these lists and bars.</p><ul>";
 
-const AFTER: &str = "<section class=\"stage\"><h3>After the last stage</h3><p>This goes after \
-everything is switched, with these lists and bars.</p><ul>";
+const AFTER: &str = "<section class=\"stage\"><h3>After the switching</h3><p>This goes then, with \
+these lists and bars.</p><ul>";
 
-const OPENED: &str = "<p>Then these codes and lines are opened.</p><ul>";
+const OPENED: &str = "<p>At last these codes and lines are opened.</p><ul>";
 
 /// Writes what is put there before the first stage: entries of the network, lists and bars.
 pub fn write_before<A: Allocator, W: PageSink>(old: &Plan<A>, new: &Plan<A>, sink: &mut W)
