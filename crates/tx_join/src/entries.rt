@@ -145,12 +145,7 @@ pub(crate) fn write_entry<A: Allocator, W: Sink>(
 }
 
 /// Writes a range after a word.
-fn write_range<A: Allocator, W: Sink>(
-    word: &[u8],
-    plan: &Plan<A>,
-    range: LineRange,
-    sink: &mut W,
-)
+fn write_range<A: Allocator, W: Sink>(word: &[u8], plan: &Plan<A>, range: LineRange, sink: &mut W)
     ensures { Puts W.taken W.failed sink.old sink.new
         (line_written (word.now ∷ range_words plan.now range)) }
 {

@@ -113,7 +113,10 @@ fn is_same_list<A: Allocator>(
 ) -> bool
     ensures { result ≡ is_same_list plan.now other.now exchange code }
 {
-    let now = other.list(exchange_in(other, plan, exchange), code_in(other, plan, code));
+    let now = other.list(
+        exchange_in(other, plan, exchange),
+        code_in(other, plan, code),
+    );
     have_same_names(plan, other, plan.list(exchange, code), now)
 }
 
@@ -132,6 +135,6 @@ fn have_same_names<A: Allocator>(
             plan.group_name(*group) == other.group_name(*same)
                 && have_same_names(plan, other, groups, others)
         }
-        _ => false,
+        ([], [_, ..]) | ([_, ..], []) => false,
     }
 }

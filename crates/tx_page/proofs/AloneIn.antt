@@ -10,7 +10,7 @@ use Rattle.tx_plan.proofs.Filtered.{find_in, any_in, any_out, all_pass}
 use Rattle.tx_plan.proofs.Lists.{all_map}
 use Rattle.tx_join.specs.Joined.{has_both}
 use Rattle.tx_join.proofs.Found.{find_fails}
-use Rattle.tx_page.specs.inner.Between.{alone_in}
+use Rattle.tx_page.specs.StepTexts.{alone_in}
 
 module _ (p q : Plan) (x c : ℕ) where
   alike : (y d : ℕ) → ((y == x) && (d == c)) ≡ true → has_both q p y d ≡ has_both q p x c

@@ -2,16 +2,17 @@
 use Rattle.std.specs.Prelude.{ℕ, Bool, true, false, if◌then◌else◌, List, [], ◌∷◌, ◌++◌, length, codes}
 use Rattle.std.specs.List.{flat_map}
 use Rattle.tx_plan.specs.Plan.{Plan}
+use Rattle.tx_plan.specs.Mixed.{rerouted}
 use Rattle.tx_join.specs.declared.entries.Entries.{Entries}
 use Rattle.tx_join.specs.declared.entries.Entries.TheVariants.{Exchanges, Codes, Ranges, Groups}
 use Rattle.tx_join.specs.declared.joining.Joined.{Joined}
+use Rattle.tx_join.specs.Joined.{routes_alone, bars_alone}
 use Rattle.tx_join.specs.Differences.{count_of_entries, is_known, entry_words, circuits_lines, differ}
 use Rattle.tx_order.specs.declared.switching.Switching.{Switching}
 use Rattle.tx_order.specs.declared.switching.Switching.TheVariants.{Ordered, NoOrder}
 use Rattle.tx_svg.specs.Indexed.{texts_below}
 use Rattle.tx_page.specs.ChangeTexts.{table_texts, stages_texts, difference_texts}
 use Rattle.tx_page.specs.declared.change.Change.{Change}
-use Rattle.tx_page.specs.inner.Between.{bare, alone_in}
 
 -- an entry of p after a word, unless q has it
 abbrev pub if_alone_texts : Entries → (word : List ℕ) → (p q : Plan) → ℕ → List (List ℕ)
@@ -47,6 +48,14 @@ gone_texts old new = alone_texts Exchanges (codes "GONE") old new
 abbrev pub opened_texts : (old new : Plan) → List (List ℕ)
 opened_texts old new = alone_texts Codes (codes "NEW") new old
     ++ alone_texts Ranges (codes "NEW") new old
+
+-- a plan without lists and bars
+abbrev pub bare : Plan → Plan
+bare p = rerouted p [] []
+
+-- a plan with those lists and bars alone whose exchange or code another plan does not have
+abbrev pub alone_in : (p q : Plan) → Plan
+alone_in p q = rerouted p (routes_alone p q) (bars_alone p q)
 
 -- before the first stage: what is put there, with each list and bar of a new exchange or a new code
 abbrev pub before_texts : (old new : Plan) → List (List ℕ)

@@ -1,7 +1,8 @@
 // Two plans of which one follows the other.
 ghost use Rattle.std.specs.Prelude.{◌≡◌};
 ghost use Rattle.tx_plan.specs.Routes.{route_list, is_barred};
-ghost use Rattle.tx_page.specs.inner.Between.{alone_in, before_of, after_of, IsThere};
+ghost use Rattle.tx_page.specs.StepTexts.{alone_in};
+ghost use Rattle.tx_page.specs.inner.Between.{before_of, after_of, IsThere};
 
 use crate::entry::Entry;
 use std::alloc::Allocator;

@@ -1,19 +1,10 @@
 -- Two plans of which one follows the other.
-use Rattle.std.specs.Prelude.{◌+◌, ◌<◌, []}
+use Rattle.std.specs.Prelude.{◌+◌, ◌<◌}
 use Rattle.tx_plan.specs.Plan.{Plan}
-use Rattle.tx_plan.specs.Mixed.{rerouted}
-use Rattle.tx_join.specs.Joined.{routes_alone, bars_alone}
+use Rattle.tx_page.specs.StepTexts.{bare, alone_in}
 use Rattle.tx_order.specs.Ordered.{plan_before, stages_in}
 use Rattle.tx_page.specs.declared.between.Between.{Between}
 use Rattle.tx_page.specs.declared.between.Between.TheVariants.{Stage, Plans, New, Gone}
-
--- a plan without lists and bars
-abbrev pub bare : Plan → Plan
-bare p = rerouted p [] []
-
--- a plan with those lists and bars alone whose exchange or code another plan does not have
-abbrev pub alone_in : (p q : Plan) → Plan
-alone_in p q = rerouted p (routes_alone p q) (bars_alone p q)
 
 module _ {A : Type 0} where
   -- the plan before
