@@ -11,8 +11,8 @@ pub loop-index-preserved : goal.loop-index-preserved
 loop-index-preserved g c =
     let n = length c.args.plan.now.exchanges in
     let low : c.loop-index.index < n = omega (arith, c.loop-index-test.true, c.exchanges-index-end.ensures.count) in (
-      ap (λ k. k + c.counted_at.result) c.loop-index.invariant.0 ∙ sym (range_sum_more (counted_at c.args.counted c.args.plan.now c.args.other.now) n c.loop-index.index c.of.result c.counted_at.result low c.of.ensures c.counted_at.ensures.count),
-      omega (arith, c.loop-index.invariant.1, c.counted_at.ensures.few),
+      ap (λ k. k + c.counted_at-count.result) c.loop-index.invariant.0 ∙ sym (range_sum_more (counted_at c.args.counted c.args.plan.now c.args.other.now) n c.loop-index.index c.of.result c.counted_at-count.result low c.of.ensures c.counted_at-count.ensures.count),
+      omega (arith, c.loop-index.invariant.1, c.counted_at-count.ensures.few),
     )
 
 pub returns-clause-count : goal.returns-clause-count
