@@ -1,21 +1,22 @@
 -- The joined plans have the lines of the lists and bars of their own plan, and those that the other
 -- one has alone.
-use Rattle.std.proofs.Common.{◌≡◌, ℕ, ◌-◌, Bool, true, false, not, nat_lt, List, [], ◌∷◌, ◌++◌, length, map, append-nil, refl, ap, ◌∙◌, arith}
+use Rattle.std.proofs.Common.{◌≡◌, ℕ, ◌-◌, Bool, true, false, not, ◌&&◌, cond, nat_lt, List, [], ◌∷◌, ◌++◌, length, map, append-nil, refl, sym, ap, ◌∙◌, arith}
 use Rattle.std.specs.Prelude.{codes, filter}
 use Rattle.std.specs.List.{AllByRecursion}
-use Rattle.std.proofs.lemmas.Bool.{false_from_ne_true, ltb-true}
+use Rattle.std.proofs.lemmas.Bool.{false_from_ne_true, ltb-true, not-true, true≢false}
 use Rattle.std.proofs.lemmas.List.{map-append}
 use Rattle.std.proofs.lemmas.List.Elements.{filter-append}
 use Rattle.std.proofs.lemmas.Option.{slice_get_within}
 use Rattle.tx_plan.specs.declared.ids.Pair.{Pair}
-use Rattle.tx_plan.specs.Plan.{Plan, Route, group_name}
+use Rattle.tx_plan.specs.Plan.{Plan, Route, exchange_name, figures_of, group_name}
 use Rattle.tx_plan.specs.Rules.{IsPlan, IsRoute, IsBar}
 use Rattle.tx_plan.specs.Circuits.{may_seize}
+use Rattle.tx_plan.specs.Declaring.{has_exchange, has_code}
 use Rattle.tx_plan.proofs.Filtered.{all_kept, all_pass}
 use Rattle.tx_plan.proofs.Lists.{all_map}
 use Rattle.tx_plantext.specs.PlanWritten.{route_words, bar_words}
 use Rattle.tx_join.specs.Joined.{code_in, group_in, route_in, bar_in, has_both, routes_alone, bars_alone, routes_over, shared_bars, bars_below, bars_from, bars_over, joined_network, joined_old, joined_new}
-use Rattle.tx_join.specs.Laws.{CanBeJoined, HasNetwork, LeadOver}
+use Rattle.tx_join.specs.Laws.{CanBeJoined, HasNetwork, new_bars, LeadOver}
 use Rattle.tx_join.proofs.Found.{filter_all, filter_none, filter-map, map_twice}
 use Rattle.tx_join.proofs.JoinedNetwork.{has_old, has_new}
 use Rattle.tx_join.proofs.PlansOver.{each_from}
@@ -24,6 +25,22 @@ use Rattle.tx_join.proofs.Taking.{seized}
 maps_alike : {A B : Type 0} (f g : A → B) (xs : List A) → AllByRecursion (λ x. f x ≡ g x) xs → map f xs ≡ map g xs
 maps_alike f g [] h = refl
 maps_alike f g (x ∷ xs) h = λ i. h.0 i ∷ maps_alike f g xs h.1 i
+
+-- members that pass one test, of those that pass another which all of them pass
+module _ {A : Type 0} (t s : A → Bool) (h : (x : A) → t x ≡ true → s x ≡ true) where
+  filter_among : (xs : List A) → filter t (filter s xs) ≡ filter t xs
+  filter_among [] = refl
+  filter_among (x ∷ xs) = by (s x) (t x) refl refl (filter_among xs)
+    where
+      by : (b c : Bool) → s x ≡ b → t x ≡ c → filter t (filter s xs) ≡ filter t xs → filter t (cond b (x ∷ filter s xs) (filter s xs)) ≡ cond c (x ∷ filter t xs) (filter t xs)
+      by true true p e r = ap (λ d. cond d (x ∷ filter t (filter s xs)) (filter t (filter s xs))) e ∙ ap (λ l. x ∷ l) r
+      by true false p e r = ap (λ d. cond d (x ∷ filter t (filter s xs)) (filter t (filter s xs))) e ∙ r
+      by false true p e r = absurd (true≢false (sym (h x e) ∙ p))
+      by false false p e r = r
+
+and_none : (a : Bool) → (a && false) ≡ false
+and_none true = refl
+and_none false = refl
 
 -- THE LINES OF A PLAN IN THE NETWORK
 
@@ -82,6 +99,11 @@ module _ (j p q : Plan) (n : ℕ) (ok : IsPlan p) (q_ok : IsPlan q) (has_p : Has
       ∙ (λ i. same_bars j p has_p (open_of p p.bars) (all_kept (IsBar p) (λ b. nat_lt (code_in j p b.code) n) p.bars ok.bars) i
       ++ same_bars j q has_q (open_of q (bars_alone q p)) (all_kept (IsBar q) (λ b. nat_lt (code_in j q b.code) n) (bars_alone q p) (all_kept (IsBar q) (λ b. not (has_both p q b.exchange b.code)) q.bars q_ok.bars)) i)
 
+-- the bars of codes that the old plan does not have
+opened : (old new : Plan) → new_bars old new (bars_alone new old) ≡ new_bars old new new.bars
+opened old new = filter_among (λ (b : Pair). not (has_code old (figures_of new b.code))) (λ (b : Pair). not (has_both old new b.exchange b.code))
+    (λ b e. ap not (ap (λ c. has_exchange old (exchange_name new b.exchange) && c) (not-true (has_code old (figures_of new b.code)) e) ∙ and_none (has_exchange old (exchange_name new b.exchange)))) new.bars
+
 -- BOTH PLANS
 
 pub lead_over : (old new : Plan) → CanBeJoined old new → LeadOver old new (joined_old old new) (joined_new old new)
@@ -95,4 +117,5 @@ lead_over old new can =
       lists_left = lists j new old n can.new_rules can.old_rules w o;
       bars_put = bars j old new n can.old_rules can.new_rules o w;
       bars_left = bars j new old n can.new_rules can.old_rules w o;
+      bars_opened = opened old new;
     }

@@ -1,8 +1,9 @@
 -- What the joined plans have of the old plan and of the new one.
-use Rattle.std.specs.Prelude.{◌≡◌, ◌≢◌, ℕ, ◌<◌, ◌≤◌, nat_lt, max, if◌then◌else◌, true, false, List, [], ◌++◌, length, map, filter, None}
+use Rattle.std.specs.Prelude.{◌≡◌, ◌≢◌, ℕ, ◌<◌, ◌≤◌, nat_lt, max, if◌then◌else◌, true, false, not, List, [], ◌++◌, length, map, filter, None}
 use Rattle.tx_plan.specs.declared.ids.Pair.{Pair}
 use Rattle.tx_plan.specs.Plan.{Plan, exchange_name, figures_of, group_name, home_of}
 use Rattle.tx_plan.specs.Rules.{IsPlan}
+use Rattle.tx_plan.specs.Declaring.{has_code}
 use Rattle.tx_plan.specs.Routes.{route_list, is_barred}
 use Rattle.tx_plan.specs.Circuits.{ends_of, direction_of, count_of}
 use Rattle.tx_plan.specs.Certified.{Ranks, IsCertified}
@@ -122,10 +123,15 @@ pub record HaveTheirLists (old new before after : Plan) : Type 0 where
 abbrev pub open_bars : (old q p : Plan) → List Pair → List Pair
 open_bars old q p bars = filter (λ b. nat_lt (code_in q p b.code) (length old.codes)) bars
 
+-- the bars of p for codes that the old plan does not have
+abbrev pub new_bars : (old p : Plan) → List Pair → List Pair
+new_bars old p bars = filter (λ b. not (has_code old (figures_of p b.code))) bars
+
 -- By the lines of lists and bars: the plan before the switching has those of the old plan, and those
 -- that the new one has alone, which are put there before. The plan after it has those of the new
 -- plan, and those that the old one has alone, which go then. Bars are those for codes of the old
--- plan: all others are closed meanwhile.
+-- plan: all others are closed meanwhile. Once these are opened, their bars are those that were put
+-- there.
 pub record LeadOver (old new before after : Plan) : Type 0 where
   pub lists_put : map (route_words before) before.routes
       ≡ map (route_words old) old.routes ++ map (route_words new) (routes_alone new old)
@@ -137,6 +143,7 @@ pub record LeadOver (old new before after : Plan) : Type 0 where
   pub bars_left : map (bar_words after) (bars_below (length old.codes) after.bars)
       ≡ map (bar_words new) (open_bars old after new new.bars)
       ++ map (bar_words old) (open_bars old after old (bars_alone old new))
+  pub bars_opened : new_bars old new (bars_alone new old) ≡ new_bars old new new.bars
 
 -- ONE NETWORK
 

@@ -29,11 +29,7 @@ fn stages_without<A: Allocator>(order: &Order<A>, stage: usize) -> Option<usize>
         (stages ≡ stages_in order.now) × (IsStageOf order.now stage → ⊥)) }
 {
     let stages = order.stages();
-    if stages < stage {
-        Some(stages)
-    } else {
-        None
-    }
+    if stages < stage { Some(stages) } else { None }
 }
 
 /// The plan after a stage of an order over the joined network, by its number, and a certificate for

@@ -57,13 +57,7 @@ fn write_contradiction<W: Sink>(
 
 /// Writes that a line of the old plan and one of the new plan differ, with the word that begins
 /// them and the name in them.
-fn write_differing<'a, W: Sink>(
-    old: u64,
-    new: u64,
-    word: &'a [u8],
-    name: &'a [u8],
-    sink: &mut W,
-)
+fn write_differing<'a, W: Sink>(old: u64, new: u64, word: &'a [u8], name: &'a [u8], sink: &mut W)
     ensures { Puts W.taken W.failed sink.old sink.new
         (differing_text old new word.now name.now) }
 {

@@ -50,10 +50,7 @@ fn change_between<A: Allocator + Copy>(
 {
     let joined = joined_of(alloc, old, new)?;
     let switching = switching_between(alloc, old, new, limits)?;
-    Ok(FoundChange {
-        joined,
-        switching,
-    })
+    Ok(FoundChange { joined, switching })
 }
 
 /// The order of switching between two plans over their joined network, which takes both.
