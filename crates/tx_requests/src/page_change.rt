@@ -83,6 +83,6 @@ pub(crate) fn shown_change<'a, A: Allocator>(
             joined: &found.joined,
             switching: &found.switching,
         }),
-        _ => None,
+        (None, _) | (Some(_), None) => None,
     }
 }
