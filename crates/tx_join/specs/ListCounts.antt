@@ -1,5 +1,5 @@
 -- How many lists are new, change and go.
-use Rattle.std.specs.Prelude.{ℕ, ◌+◌, Bool, true, false, not, ◌&&◌, nat_lt, List, [], ◌∷◌, ◌++◌, length, map, codes, decimal, count_by, sum_by}
+use Rattle.std.specs.Prelude.{ℕ, ◌+◌, Bool, false, not, ◌&&◌, ◌==◌, nat_lt, List, [], ◌∷◌, ◌++◌, length, map, codes, decimal, count_by, sum_by}
 use Rattle.std.specs.List.{range_with_len}
 use Rattle.std.specs.Str.{bytes_eq}
 use Rattle.tx_plan.specs.Plan.{Plan, group_name}
@@ -10,10 +10,10 @@ use Rattle.tx_join.specs.Joined.{exchange_in, code_in, has_both}
 
 -- groups of two plans have the same names
 abbrev pub have_same_names : (p q : Plan) → (groups others : List ℕ) → Bool
-have_same_names p q [] [] = true
+have_same_names p q [] hs = length hs == 0
+have_same_names p q (g ∷ gs) [] = false
 have_same_names p q (g ∷ gs) (h ∷ hs) =
     bytes_eq (group_name p g) (group_name q h) && have_same_names p q gs hs
-have_same_names p q gs hs = false
 
 -- the list of an exchange for a code, both of the plan p, has the same groups in q
 abbrev pub is_same_list : (p q : Plan) → (x c : ℕ) → Bool

@@ -129,12 +129,14 @@ fn have_same_names<A: Allocator>(
 ) -> bool
     ensures { result ≡ have_same_names plan.now other.now groups.now others.now }
 {
-    match (groups, others) {
-        ([], []) => true,
-        ([group, groups @ ..], [same, others @ ..]) => {
-            plan.group_name(*group) == other.group_name(*same)
-                && have_same_names(plan, other, groups, others)
-        }
-        ([], [_, ..]) | ([_, ..], []) => false,
+    match groups {
+        [] => others.is_empty(),
+        [group, groups @ ..] => match others {
+            [] => false,
+            [same, others @ ..] => {
+                plan.group_name(*group) == other.group_name(*same)
+                    && have_same_names(plan, other, groups, others)
+            }
+        },
     }
 }

@@ -1,9 +1,10 @@
 // The writer of the lists and bars for an exchange or a code that one of two plans has alone.
-ghost use Rattle.std.specs.Prelude.{◌∷◌};
+ghost use Rattle.std.specs.Prelude.{[], ◌∷◌, not, if◌then◌else◌};
 ghost use Rattle.tx_text.specs.Puts.{Puts};
 ghost use Rattle.tx_text.specs.Written.{line_written};
 ghost use Rattle.tx_plan.specs.Routes.{route_list};
 ghost use Rattle.tx_plantext.specs.PlanWritten.{route_words, bar_words};
+ghost use Rattle.tx_join.specs.Joined.{has_both};
 ghost use Rattle.tx_join.specs.Steps.{lists_alone, bans_alone};
 ghost use Rattle.tx_join.specs.inner.Alone.{list_at, ban_at};
 
@@ -41,28 +42,31 @@ fn write_list_at<A: Allocator, W: Sink>(
         (list_at word.now plan.now other.now index) }
 {
     match plan.route_at(index) {
-        Some((exchange, code)) if !has_both(other, plan, exchange, code) => {
-            write_list(word, plan, exchange, code, sink)
-        }
-        Some(_) | None => {}
+        Some((exchange, code)) => write_list(word, plan, other, exchange, code, sink),
+        None => {}
     }
 }
 
-/// Writes the list of an exchange for a code after a word.
+/// Writes the list of an exchange for a code after a word, unless the other plan has both.
 fn write_list<A: Allocator, W: Sink>(
     word: &[u8],
     plan: &Plan<A>,
+    other: &Plan<A>,
     exchange: ExchangeId,
     code: CodeId,
     sink: &mut W,
 )
     ensures { Puts W.taken W.failed sink.old sink.new
-        (line_written (word.now ∷ route_words plan.now (record {
+        (if not (has_both other.now plan.now exchange code)
+        then line_written (word.now ∷ route_words plan.now (record {
           exchange = exchange;
           code = code;
           groups = route_list plan.now exchange code;
-        }))) }
+        })) else []) }
 {
+    if has_both(other, plan, exchange, code) {
+        return;
+    }
     put_parts(&[word, b" "], sink);
     write_route(plan, exchange, code, sink);
 }
