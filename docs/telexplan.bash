@@ -8,7 +8,7 @@ _telexplan() {
     case ${COMP_WORDS[COMP_CWORD - 1]} in
         --limit) words=$(echo {0..62}) ;;
         --spare) words=$(echo {0..15}) ;;
-        --stage) words=$(echo {1..128}) ;;
+        --stage) words=$(echo {0..128}) ;;
         --code) words=$(_telexplan_names CODE) ;;
         --through) words="$(_telexplan_names EXCHANGE) $(_telexplan_names GROUP)" ;;
         --down)

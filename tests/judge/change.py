@@ -39,15 +39,41 @@ def both(old, new):
     return home, tuple((x, dict(before).get(x, ()) + dict(after).get(x, ())) for x in names), (*opened, *then)
 
 
-def differences(old, new):
-    """The lines that say in what two plans differ beside lists and bars."""
-    rows = []
+def entries(old, new):
+    """The entries of the network that a plan has and another one has not, by their kind: the lines that name them."""
     lines = [[" ".join(it) for it in plan.lines] for plan in (old, new)]
-    for kind, before, after in (("EXCHANGE", old.exchanges, new.exchanges), ("CODE", old.codes, new.codes), ("LINES", *lines), ("GROUP", old.groups, new.groups)):
-        rows += [f"NEW {kind} {it}" for it in after if it not in before]
-        rows += [f"GONE {kind} {it}" for it in before if it not in after]
+    kinds = (("EXCHANGE", old.exchanges, new.exchanges), ("CODE", old.codes, new.codes), ("LINES", *lines), ("GROUP", old.groups, new.groups))
+    return {kind: [f"{kind} {it}" for it in own if it not in other] for kind, own, other in kinds}
+
+
+def alone(plan, other, of):
+    """The pairs for an exchange or a code that the other plan has not."""
+    return [(x, code) for x, code in of if x not in other.exchanges or code not in other.codes]
+
+
+def listed(word, plan, other):
+    """The lines of the lists and bars that a plan has alone, after a word."""
+    lists = [f"{word} ROUTE {' '.join((*it, *plan.routes[it]))}" for it in alone(plan, other, plan.declared("ROUTE"))]
+    return lists + [f"{word} BAR {' '.join(it)}" for it in alone(plan, other, plan.declared("BAR"))]
+
+
+def circuits(old, new, grows):
     counts = [(g, it[3], new.groups[g][3]) for g, it in old.groups.items() if g in new.groups]
-    return rows + [f"CIRCUITS {g} {n} {m}" for g, n, m in counts if n != m]
+    return [f"CIRCUITS {g} {n} {m}" for g, n, m in counts if (n < m if grows else n > m)]
+
+
+def parts(old, new):
+    """The lines before what is switched, the line that begins it, the lines after it, and the line that counts lists."""
+    come, go = entries(new, old), entries(old, new)
+    before = [f"NEW {it}" for it in come["EXCHANGE"] + come["GROUP"]] + circuits(old, new, True) + listed("NEW", new, old)
+    after = [f"GONE {it}" for kind in ("EXCHANGE", "CODE", "LINES", "GROUP") for it in go[kind]] + circuits(old, new, False) + listed("GONE", old, new)
+    after += [f"NEW {it}" for it in come["CODE"] + come["LINES"]]
+    shared = {it for it in {*old.routes, *new.routes} if all(it[0] in p.exchanges and it[1] in p.codes for p in (old, new))}
+    put, gone = len(alone(new, old, new.routes)), len(alone(old, new, old.routes))
+    changed = sum(old.routes.get(it) != new.routes.get(it) for it in shared)
+    counts = f"LISTS {put + changed + gone} NEW {put} CHANGED {changed} GONE {gone}"
+    some = before or after
+    return ["BEFORE", *before] * bool(some), ["SWITCH"] * bool(some), ["AFTER", *after] * bool(some), [counts]
 
 
 def shown_mixture(old, new, row, spare):
@@ -98,7 +124,8 @@ def judge_change(program, old, new, limit, spare):
     words = ["change", "o", "n", *numbers(limit, spare), "--cert", "cert", "--mixture", "mixture", "--counter", "script"]
     ran = program.run(words, {"o": old.text, "n": new.text}, ["cert", "mixture", "script"])
     before, after = join(old, new)
-    head = [f"CHANGE LIMIT {limit} SPARE {spare}", *differences(old, new), *switched_rows(before, after)]
+    first, switch, last, counts = parts(old, new)
+    head = [f"CHANGE LIMIT {limit} SPARE {spare}", *first, *switch, *switched_rows(before, after), *last, *counts]
     if not judge_head(ran, head, old, new):
         return
     rows = ran.out.splitlines()

@@ -1,6 +1,6 @@
 """Judges `order` by all mixtures within each stage."""
 from audit import is_safe, judge_cert, judge_findings_of, judge_verdict, numbers
-from change import differences, due_between, dues_between, judge_head
+from change import due_between, dues_between, judge_head, parts
 from mend import NO_RANK
 from plans import join, switch_rows
 from revised import judge_made
@@ -98,23 +98,29 @@ def judge_stage(program, old, new, passed, stage, report):
         return
     need(plan and cert and ran.out.splitlines() == report and ran.status == 0, f"no file is made, or another report: {ran.out}")
     judge_made(plan, old, passed[stage])
-    judge_cert(program, passed[stage - 1:stage + 1], cert, int(limit), int(spare))
+    judge_cert(program, passed[max(stage - 1, 0):stage + 1], cert, int(limit), int(spare))
 
 
 def judge_order(program, old, new, limit, spare):
     ran = program.run(["order", "o", "n", *numbers(limit, spare)], {"o": old.text, "n": new.text})
     before, after = join(old, new)
-    head = [f"ORDER LIMIT {limit} SPARE {spare}", *differences(old, new)]
+    first, _, *last = parts(old, new)
+    tail = sum(last, [])
+    head = [f"ORDER LIMIT {limit} SPARE {spare}", *first]
     if not judge_head(ran, head, old, new):
         return
     rows = ran.out.splitlines()
-    rest = rows[len(head):-1]
+    at = rows.index(tail[0], len(head)) if tail[0] in rows else len(rows)
+    need(rows[at:at + len(tail)] == tail, f"goes on with {rows[at:at + len(tail)]} and not {tail}")
+    stages, rest = rows[len(head):at], rows[at + len(tail):-1]
     ordered = is_safe(before, limit, spare) and is_safe(after, limit, spare)
     yes = ordered and is_safe(new, limit, spare)
+    need(yes or not stages, f"stages after a NO: {stages}")
     judge_verdict(rows, yes, ran.status, len(rest))
     if yes:
-        passed = judge_stages(before, after, stages_of(rest), limit, spare)
-        for stage in range(1, len(passed) + 1):
+        need(not rest, f"findings after a YES: {rest}")
+        passed = judge_stages(before, after, stages_of(stages), limit, spare)
+        for stage in range(len(passed) + 1):
             judge_stage(program, old, new, passed, stage, rows)
         return
     findings = [[row[4:] for row in rest if row.startswith(word)] for word in ("OLD ", "NEW ")]

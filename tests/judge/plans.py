@@ -30,6 +30,11 @@ class Plan:
         self.routes = {}  # (exchange, code): groups
         self.bars = set()  # (exchange, code)
 
+    def declared(self, kind):
+        """The exchanges and codes of the lists or bars, in the order of their lines."""
+        rows = (row.split("#")[0].split() for row in self.text.splitlines())
+        return [tuple(row[1:3]) for row in rows if row[:1] == [kind]]
+
     @cached_property
     def text(self):
         """A text of the plan. Codes and groups are declared by turns, and two lists of three stand as soon as their names are there. So what such a list becomes may name what is declared later."""
@@ -118,6 +123,11 @@ def switched_rows(before, after):
 
 def contradiction(old, new):
     """The line that names what two plans contradict each other in, or None."""
+    def homes(kind, name):
+        if kind == "GROUP":
+            return ""
+        return f": home {old.codes[name]}, then {new.codes[name]}: drop it in one change, admit it in the next"
+
     def at(plan, kind, name):
         rows = [row.split()[:2] for row in plan.text.splitlines()]
         return rows.index([kind, name]) + 1
@@ -125,7 +135,7 @@ def contradiction(old, new):
     differing = [("CODE", code) for code, home in new.codes.items() if old.codes.get(code, home) != home]
     differing += [("GROUP", g) for g, it in new.groups.items() if old.groups.get(g, it)[:3] != it[:3]]
     for kind, name in differing:
-        return f"telexplan: old plan line {at(old, kind, name)} and new plan line {at(new, kind, name)}: {kind} {name} differs\n"
+        return f"telexplan: old plan line {at(old, kind, name)} and new plan line {at(new, kind, name)}: {kind} {name} differs{homes(kind, name)}\n"
     return None
 
 

@@ -34,8 +34,9 @@ def without(pattern):
 def stages(change):
     """A spoil of the stages of an order, which are lists of lines. `change` answers others, or None."""
     def spoil(ran):
+        end = re.search("^(AFTER$|LISTS )", ran.out, flags=re.M)
+        last = ran.out[end.start():] if end else ""
         head, *parts = re.split(r"^STAGE \d+\n", ran.out, flags=re.M)
-        last = ran.out.splitlines()[-1] + "\n"
         parts = change([part.removesuffix(last).splitlines() for part in parts])
         if parts:
             ran.out = head + "".join("\n".join([f"STAGE {n}", *rows, ""]) for n, rows in enumerate(parts, 1)) + last
@@ -135,8 +136,13 @@ WAYS = [
     ("mend", "a cause left out", without("F5")),
     ("mend", "nothing is missing", put(" MISSING.*", "")),
     ("mend", "more is missing", put(r"^(CODE .* MISSING \w+ )(\d+)", more)),
-    ("change", "a new group left out", without("NEW GROUP")),
-    ("change", "circuits left out", without("CIRCUITS")),
+    ("change order", "a new group left out", without("NEW GROUP")),
+    ("change order", "circuits left out", without("CIRCUITS")),
+    ("change order", "a list of a new exchange left out", without("NEW ROUTE")),
+    ("change order", "a bar of a new exchange left out", without("NEW BAR")),
+    ("change order", "a list that goes left out", without("GONE ROUTE")),
+    ("change order", "more new lists counted", put(r"^(LISTS \d+ NEW )(\d+)", more)),
+    ("change order", "more changed lists counted", put(r"^(LISTS .* CHANGED )(\d+)", more)),
     ("change", "the old plan as the mixture", of_old),
     ("order", "two stages as one", stages(lambda parts: [parts[0] + parts[1], *parts[2:]] if len(parts) > 1 else None)),
     ("order", "one stage as two", stages(cut)),

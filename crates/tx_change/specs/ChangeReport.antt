@@ -4,15 +4,19 @@ use Rattle.std.specs.List.{flat_map}
 use Rattle.tx_plan.specs.Plan.{Plan}
 use Rattle.tx_rank.specs.declared.finding.Finding.{Finding}
 use Rattle.tx_rank.specs.Report.{asked_line, finding_line, verdict_line}
-use Rattle.tx_join.specs.Differences.{difference_text}
+use Rattle.tx_join.specs.Differences.{differ}
+use Rattle.tx_join.specs.Steps.{part, before_text, after_text}
+use Rattle.tx_join.specs.ListCounts.{lists_line}
 use Rattle.tx_plantext.specs.ChangedLists.{changes}
 use Rattle.tx_change.specs.declared.judging.ChangeVerdict.{ChangeVerdict}
 use Rattle.tx_change.specs.declared.judging.ChangeVerdict.TheVariants.{Sound, Unsound, NewUnsound}
 
--- each list that is switched, and the list that it replaces, if they are asked for
-abbrev pub switched_lists : (with_old : Bool) → (before after : Plan) → List ℕ
-switched_lists true before after = changes true before.routes after
-switched_lists false before after = []
+-- each list that is switched, and the list that it replaces, if they are asked for; after a word
+-- where a part comes before them
+abbrev pub switched_lists : (with_old : Bool) → (old new before after : Plan) → List ℕ
+switched_lists true old new before after =
+    part (differ old new) (codes "SWITCH\n") ++ changes true before.routes after
+switched_lists false old new before after = []
 
 module _ {A : Type 0} where
   -- a finding after a word
@@ -35,10 +39,11 @@ module _ {A : Type 0} where
   verdict_text before new (Unsound findings) = verdict_after [] before findings.items
   verdict_text before new (NewUnsound findings) = verdict_after (codes "NEW ") new findings.items
 
-  -- The report: what was asked, in what the plans differ beside lists, the lists that are switched
-  -- if they are asked for, a line for each finding, and the verdict
+  -- The report: what was asked, what is done before, the lists that are switched if they are asked
+  -- for, what is done after, how many lists there are, a line for each finding, and the verdict
   abbrev pub change_report : (with_old : Bool) → (old new before after : Plan) → (limit spare : ℕ)
       → ChangeVerdict A → List ℕ
   change_report with_old old new before after limit spare verdict =
-      asked_line (codes "CHANGE") limit spare ++ (difference_text old new
-      ++ (switched_lists with_old before after ++ verdict_text before new verdict))
+      asked_line (codes "CHANGE") limit spare ++ (before_text old new
+      ++ (switched_lists with_old old new before after ++ (after_text old new
+      ++ (lists_line old new ++ verdict_text before new verdict))))

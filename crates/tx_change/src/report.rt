@@ -1,19 +1,23 @@
 // The writer of the report of a change.
+ghost use Rattle.std.specs.Prelude.{codes};
 ghost use Rattle.tx_text.specs.Puts.{Puts};
 ghost use Rattle.tx_text.specs.Wrote.{Wrote};
+ghost use Rattle.tx_join.specs.Differences.{differ};
+ghost use Rattle.tx_join.specs.Steps.{part};
 ghost use Rattle.tx_change.specs.ChangeReport.{switched_lists, finding_after, findings_after, verdict_after, verdict_text, change_report};
 
 use crate::judging::ChangeVerdict;
 use std::alloc::Allocator;
-use tx_join::{Joined, write_differences};
+use tx_join::{Joined, differ, write_after, write_before, write_list_counts};
 use tx_plan::{Limits, Plan};
 use tx_plantext::write_changes;
 use tx_rank::{Finding, write_asked, write_finding, write_verdict};
 use tx_text::{Sink, WriteFault, finish, put_bytes};
 
-/// Writes the report of a change: what was asked, in what the plans differ beside lists, the lists
-/// that are switched with those that they replace if they are asked for, a line for each finding,
-/// and the verdict. The findings of the new plan as it is come after the word NEW.
+/// Writes the report of a change: what was asked, what is done before, the lists that are switched
+/// with those that they replace if they are asked for, what is done after, how many lists there are,
+/// a line for each finding, and the verdict. The findings of the new plan as it is come after the
+/// word NEW.
 pub fn write_change<A: Allocator, W: Sink>(
     old: &Plan<A>,
     new: &Plan<A>,
@@ -27,19 +31,38 @@ pub fn write_change<A: Allocator, W: Sink>(
         joined.now.old joined.now.new limits.limit limits.spare verdict.now) result }
 {
     write_asked(b"CHANGE", limits, sink);
-    write_differences(old, new, sink);
-    write_switched_lists(joined, with_old, sink);
+    write_before(old, new, sink);
+    write_switched_lists(old, new, joined, with_old, sink);
+    write_after(old, new, sink);
+    write_list_counts(old, new, sink);
     write_found(new, joined, verdict, sink);
     finish(sink)
 }
 
 /// Writes each list that is switched, and the list that it replaces, if they are asked for.
-fn write_switched_lists<A: Allocator, W: Sink>(joined: &Joined<A>, with_old: bool, sink: &mut W)
+fn write_switched_lists<A: Allocator, W: Sink>(
+    old: &Plan<A>,
+    new: &Plan<A>,
+    joined: &Joined<A>,
+    with_old: bool,
+    sink: &mut W,
+)
     ensures { Puts W.taken W.failed sink.old sink.new
-        (switched_lists with_old joined.now.old joined.now.new) }
+        (switched_lists with_old old.now new.now joined.now.old joined.now.new) }
 {
     if with_old {
+        write_switch(old, new, sink);
         write_changes(joined.old.all_routes(), &joined.new, true, sink);
+    }
+}
+
+/// Writes the word that begins them, if a part comes before it.
+fn write_switch<A: Allocator, W: Sink>(old: &Plan<A>, new: &Plan<A>, sink: &mut W)
+    ensures { Puts W.taken W.failed sink.old sink.new
+        (part (differ old.now new.now) (codes "SWITCH\n")) }
+{
+    if differ(old, new) {
+        put_bytes(b"SWITCH\n", sink);
     }
 }
 

@@ -29,7 +29,7 @@ call is answered NC only after a second head-on
 collision, or where more than K groups are listed and
 each of them is down or has no free circuit";
 
-const STAGE: &str = "The stage of which --plan and --cert write: from 1";
+const STAGE: &str = "The stage of which --plan and --cert write: from 0";
 
 /// How many stages an order has at the most.
 pub(crate) const MOST_STAGES: u8 = 128;

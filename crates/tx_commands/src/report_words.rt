@@ -2,7 +2,7 @@
 use crate::code_table::Entry;
 
 /// The words of reports, of a plan and of a certificate.
-pub static REPORT_WORDS: [Entry; 55] = [
+pub static REPORT_WORDS: [Entry; 61] = [
     [
         "VERDICT",
         "Verdict",
@@ -68,6 +68,42 @@ pub static REPORT_WORDS: [Entry; 55] = [
         "Stage",
         "A stage of an order. What is switched in it may be switched in any order.",
         "Begin it when all of the one before is switched, and no call that was keyed before that is still being set up.",
+    ],
+    [
+        "BEFORE",
+        "BeforeSwitching",
+        "What is put there before the first list is switched: new exchanges, groups and circuits, with each list and bar of a new exchange or a new code.",
+        "Do it first. telexplan order --stage 0 --plan writes the plan after it.",
+    ],
+    [
+        "SWITCH",
+        "Switching",
+        "The lists that change where both plans have the exchange and the code.",
+        "Ask telexplan order in which stages to switch them.",
+    ],
+    [
+        "AFTER",
+        "AfterSwitching",
+        "What is taken away after the last list is switched, and then the codes and lines that are opened.",
+        "Do it last: first all that is GONE, then what is NEW.",
+    ],
+    [
+        "LISTS",
+        "ListCounts",
+        "How many lists there are to work on: those that are NEW, those that are CHANGED, and those that are GONE.",
+        "Count the lines of the report: each list has one.",
+    ],
+    [
+        "CHANGED",
+        "ListsChanged",
+        "So many lists are switched: both plans have the exchange and the code, with another list.",
+        "Switch them stage by stage, as telexplan order says.",
+    ],
+    [
+        "DIFFERS",
+        "Contradiction",
+        "Both plans have the code, with another home, or both have the group, with other ends or another direction.",
+        "A code moves in two changes: the first drops it, the second admits it at its new home. A group gets a new name.",
     ],
     [
         "OLD",

@@ -7,6 +7,7 @@ pub mod JoinedNetwork
 pub mod Taking
 pub mod PlansOver
 pub mod TheirLists
+pub mod LeadOver
 pub mod OldCertified
 pub mod NoDifference
 pub mod OneNetwork
@@ -16,4 +17,6 @@ pub mod Stages
 pub mod StepsDeclared
 pub mod Splits
 pub mod Counts
+pub mod AloneLines
+pub mod Sums
 pub mod RangesByCode

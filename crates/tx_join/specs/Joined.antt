@@ -82,10 +82,17 @@ bar_in q p b = record { exchange = exchange_in q p b.exchange; code = code_in q 
 abbrev pub has_both : (q p : Plan) → (x c : ℕ) → Bool
 has_both q p x c = has_exchange q (exchange_name p x) && has_code q (figures_of p c)
 
--- the routes of p, and those of q for an exchange and a code that p does not have, in j
+-- the routes of p for an exchange or a code that q does not have
+abbrev pub routes_alone : (p q : Plan) → List Route
+routes_alone p q = filter (λ r. not (has_both q p r.exchange r.code)) p.routes
+
+-- the bars, likewise
+abbrev pub bars_alone : (p q : Plan) → List Pair
+bars_alone p q = filter (λ b. not (has_both q p b.exchange b.code)) p.bars
+
+-- the routes of p, and those that q has alone, in j
 abbrev pub routes_over : (j p q : Plan) → List Route
-routes_over j p q = map (route_in j p) p.routes
-    ++ map (route_in j q) (filter (λ r. not (has_both p q r.exchange r.code)) q.routes)
+routes_over j p q = map (route_in j p) p.routes ++ map (route_in j q) (routes_alone q p)
 
 -- a bar at each exchange but the home of a code
 abbrev pub bars_of_code : Plan → ℕ → List Pair
@@ -98,12 +105,15 @@ bars_from j n = flat_map (bars_of_code j) (range_with_len n (length j.codes - n)
 
 -- the bars, likewise
 abbrev pub shared_bars : (j p q : Plan) → List Pair
-shared_bars j p q = map (bar_in j p) p.bars
-    ++ map (bar_in j q) (filter (λ b. not (has_both p q b.exchange b.code)) q.bars)
+shared_bars j p q = map (bar_in j p) p.bars ++ map (bar_in j q) (bars_alone q p)
 
--- those for codes below n; the codes from n on are barred everywhere but at home
+-- those for codes below n
+abbrev pub bars_below : (n : ℕ) → List Pair → List Pair
+bars_below n bars = filter (λ b. nat_lt b.code n) bars
+
+-- these of both plans; the codes from n on are barred everywhere but at home
 abbrev pub bars_over : (j p q : Plan) → (n : ℕ) → List Pair
-bars_over j p q n = filter (λ b. nat_lt b.code n) (shared_bars j p q) ++ bars_from j n
+bars_over j p q n = bars_below n (shared_bars j p q) ++ bars_from j n
 
 -- The plan p over the network j, with the lists and bars of q for what p does not have, and with
 -- the codes from n on closed

@@ -1,13 +1,16 @@
 -- What the joined plans have of the old plan and of the new one.
-use Rattle.std.specs.Prelude.{◌≡◌, ◌≢◌, ℕ, ◌<◌, ◌≤◌, nat_lt, max, if◌then◌else◌, true, false, [], length, map, None}
+use Rattle.std.specs.Prelude.{◌≡◌, ◌≢◌, ℕ, ◌<◌, ◌≤◌, nat_lt, max, if◌then◌else◌, true, false, not, List, [], ◌++◌, length, map, filter, None}
+use Rattle.tx_plan.specs.declared.ids.Pair.{Pair}
 use Rattle.tx_plan.specs.Plan.{Plan, exchange_name, figures_of, group_name, home_of}
 use Rattle.tx_plan.specs.Rules.{IsPlan}
+use Rattle.tx_plan.specs.Declaring.{has_code}
 use Rattle.tx_plan.specs.Routes.{route_list, is_barred}
 use Rattle.tx_plan.specs.Circuits.{ends_of, direction_of, count_of}
 use Rattle.tx_plan.specs.Certified.{Ranks, IsCertified}
 use Rattle.tx_plan.specs.Mixtures.{SameNetwork}
-use Rattle.tx_join.specs.Joined.{circuits_named, exchange_in, code_in, group_in, has_both, joined_old, joined_new}
-use Rattle.tx_join.specs.Differences.{difference_text}
+use Rattle.tx_plantext.specs.PlanWritten.{route_words, bar_words}
+use Rattle.tx_join.specs.Joined.{circuits_named, exchange_in, code_in, group_in, has_both, routes_alone, bars_alone, bars_below, joined_old, joined_new}
+use Rattle.tx_join.specs.Differences.{differ}
 use Rattle.tx_join.specs.Refusals.{join_refusal}
 
 -- Two plans that have a joined network
@@ -114,14 +117,42 @@ pub record HaveTheirLists (old new before after : Plan) : Type 0 where
   pub before_closed : BarsNewCodes old before
   pub after_closed : BarsNewCodes old after
 
+-- BEFORE AND AFTER
+
+-- the bars for codes of the old plan, where the plan q knows the codes of p by its own indexes
+abbrev pub open_bars : (old q p : Plan) → List Pair → List Pair
+open_bars old q p bars = filter (λ b. nat_lt (code_in q p b.code) (length old.codes)) bars
+
+-- the bars of p for codes that the old plan does not have
+abbrev pub new_bars : (old p : Plan) → List Pair → List Pair
+new_bars old p bars = filter (λ b. not (has_code old (figures_of p b.code))) bars
+
+-- By the lines of lists and bars: the plan before the switching has those of the old plan, and those
+-- that the new one has alone, which are put there before. The plan after it has those of the new
+-- plan, and those that the old one has alone, which go then. Bars are those for codes of the old
+-- plan: all others are closed meanwhile. Once these are opened, their bars are those that were put
+-- there.
+pub record LeadOver (old new before after : Plan) : Type 0 where
+  pub lists_put : map (route_words before) before.routes
+      ≡ map (route_words old) old.routes ++ map (route_words new) (routes_alone new old)
+  pub lists_left : map (route_words after) after.routes
+      ≡ map (route_words new) new.routes ++ map (route_words old) (routes_alone old new)
+  pub bars_put : map (bar_words before) (bars_below (length old.codes) before.bars)
+      ≡ map (bar_words old) (open_bars old before old old.bars)
+      ++ map (bar_words new) (open_bars old before new (bars_alone new old))
+  pub bars_left : map (bar_words after) (bars_below (length old.codes) after.bars)
+      ≡ map (bar_words new) (open_bars old after new new.bars)
+      ++ map (bar_words old) (open_bars old after old (bars_alone old new))
+  pub bars_opened : new_bars old new (bars_alone new old) ≡ new_bars old new new.bars
+
 -- ONE NETWORK
 
--- plans of one network are their own joined plans, and no line tells of a difference
+-- plans of one network are their own joined plans, and do not differ beside lists and bars
 pub record AreOwnJoined (old new : Plan) : Type 0 where
   pub none : join_refusal old new ≡ None
   pub before : joined_old old new ≡ old
   pub after : joined_new old new ≡ new
-  pub nothing : difference_text old new ≡ []
+  pub nothing : differ old new ≡ false
 
 -- the ranks of exchanges that a plan has
 abbrev pub ranks_within : Plan → Ranks → Ranks

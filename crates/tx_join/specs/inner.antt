@@ -1,3 +1,4 @@
+pub mod Alone
 pub mod Declared
 pub mod Taken
 pub mod Ranges

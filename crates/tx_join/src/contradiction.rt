@@ -1,8 +1,10 @@
 // What two plans declare in contradiction, and where their texts do.
 ghost use Rattle.std.specs.Prelude.{◌≡◌, ◌≤◌, length};
 ghost use Rattle.tx_text.specs.inner.TextLine.{item_of};
-ghost use Rattle.tx_join.specs.Contradictions.{kind_word, declared_at, line_declaring, contradiction_of};
+ghost use Rattle.tx_join.specs.Contradictions.{kind_word, declared_at, line_declaring, homes_of, contradiction_of};
 
+use std::alloc::Allocator;
+use tx_plan::{CodeId, Plan};
 use tx_text::{InlineBytes, Lines, TextFault, TextLine, words};
 
 /// What is declared in contradiction.
@@ -32,23 +34,46 @@ pub struct Contradiction {
     pub kind: Kind,
     /// The figures of the code, or the name of the group.
     pub name: InlineBytes<8>,
+    /// The homes of the code, in the old plan and in the new one.
+    pub homes: Option<(InlineBytes<8>, InlineBytes<8>)>,
     pub old_line: u64,
     pub new_line: u64,
 }
 
 impl Contradiction {
-    /// Of the code or the group of a name, as two texts declare it.
-    pub fn of(kind: Kind, name: &[u8], old: &[u8], new: &[u8]) -> Contradiction
+    /// Of the code or the group of a name, as two texts declare it, with the homes of a code.
+    pub fn of(
+        kind: Kind,
+        name: &[u8],
+        homes: Option<(InlineBytes<8>, InlineBytes<8>)>,
+        old: &[u8],
+        new: &[u8],
+    ) -> Contradiction
         requires { length name.now ≤ 8 }
-        ensures { result ≡ contradiction_of kind name.now old.now new.now }
+        ensures { result ≡ contradiction_of kind name.now homes old.now new.now }
     {
         Contradiction {
             kind,
             name: InlineBytes::new(name),
+            homes,
             old_line: line_declaring(kind.word(), name, old),
             new_line: line_declaring(kind.word(), name, new),
         }
     }
+}
+
+/// The homes of a code of the new plan: that in the old plan, if it has the code, and its own.
+pub fn homes_of<A: Allocator>(
+    old: &Plan<A>,
+    new: &Plan<A>,
+    code: CodeId,
+) -> Option<(InlineBytes<8>, InlineBytes<8>)>
+    ensures { result ≡ homes_of old.now new.now code }
+{
+    let known = old.code_named(new.code_figures(code))?;
+    let before = InlineBytes::new(old.exchange_name(old.home(known)));
+    let after = InlineBytes::new(new.exchange_name(new.home(code)));
+    Some((before, after))
 }
 
 /// The number of the first line of a text whose first two words are these; 0 where there is none.

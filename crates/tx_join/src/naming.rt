@@ -102,7 +102,7 @@ pub(crate) fn has_group<A: Allocator>(plan: &Plan<A>, name: &[u8]) -> bool
 }
 
 /// Whether a plan has an exchange and a code of another one.
-pub(crate) fn has_both<A: Allocator>(
+pub fn has_both<A: Allocator>(
     plan: &Plan<A>,
     from: &Plan<A>,
     exchange: ExchangeId,

@@ -11,3 +11,4 @@ pub mod Staging
 pub mod Verdicts
 pub mod StagedRuns
 pub mod StagedTurns
+pub mod LeadingOver

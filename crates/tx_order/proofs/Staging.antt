@@ -1,5 +1,5 @@
 -- A stage of an order that is asked for.
-use Rattle.std.proofs.Common.{◌≡◌, ℕ, ◌+◌, ◌-◌, ◌<◌, sym, ◌∙◌, subst, arith}
+use Rattle.std.proofs.Common.{◌≡◌, ℕ, zero, suc, ◌+◌, ◌-◌, sym, ◌∙◌, subst, arith}
 use Rattle.tx_plan.specs.Plan.{Plan}
 use Rattle.tx_plan.specs.Rules.{IsPlan}
 use Rattle.tx_plan.specs.Mixed.{rerouted}
@@ -12,12 +12,16 @@ use Rattle.tx_order.specs.inner.Asked.{AreListsOf}
 use Rattle.tx_order.proofs.Confirming.{before_rules, before_fits, with_lists}
 
 -- the certificate of a stage, by its number from 0
-pub stage_cert : (o : Order) → IsOrderKept o → (n : ℕ) (t : Certificate) → 0 < n
+pub stage_cert : (o : Order) → IsOrderKept o → (n : ℕ) (t : Certificate)
     → AreCommon (plan_before o (n - 1)) (plan_before o (n - 1 + 1)) (ranks_of t) o.transition.limit o.transition.spare
     → IsCertificateOf o.transition.old t → IsStageCert o n t
-stage_cert o k n t some common fits = record {
-  common = subst (λ (s : ℕ). AreCommon (plan_before o (n - 1)) (plan_before o s) (ranks_of t) o.transition.limit o.transition.spare) (omega arith) common;
-  fits = before_fits o k n t fits;
+stage_cert o k zero t common fits = record {
+  common = record { before = common.before; after = common.before };
+  fits = before_fits o k zero t fits;
+}
+stage_cert o k (suc n) t common fits = record {
+  common = subst (λ (s : ℕ). AreCommon (plan_before o (suc n - 1)) (plan_before o s) (ranks_of t) o.transition.limit o.transition.spare) (omega arith) common;
+  fits = before_fits o k (suc n) t fits;
 }
 
 module _ {A : Type 0} where

@@ -10,4 +10,5 @@ pub mod Switchings
 pub mod OrderVerdicts
 pub mod OrderText
 pub mod Staged
+pub mod LeadsOver
 pub mod inner

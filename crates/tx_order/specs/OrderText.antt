@@ -5,7 +5,8 @@ use Rattle.tx_plan.specs.Plan.{Plan, figures_of, exchange_name}
 use Rattle.tx_plan.specs.Routes.{route_list, is_barred}
 use Rattle.tx_rank.specs.declared.finding.Finding.{Finding}
 use Rattle.tx_rank.specs.Report.{asked_line, findings_of, no_line}
-use Rattle.tx_join.specs.Differences.{difference_text}
+use Rattle.tx_join.specs.Steps.{before_text, after_text}
+use Rattle.tx_join.specs.ListCounts.{lists_line}
 use Rattle.tx_plantext.specs.ChangedLists.{line_unless_same}
 use Rattle.tx_change.specs.ChangeReport.{findings_after, verdict_after}
 use Rattle.tx_order.specs.declared.judging.OrderVerdict.{OrderVerdict}
@@ -51,10 +52,9 @@ abbrev pub stage_text : (with_old : Bool) → Order → ℕ → List ℕ
 stage_text with_old o s = stage_line s
     ++ switched_lines with_old o.transition.new (plan_before o s) (plan_before o (s + 1))
 
--- the stages of an order, and YES
+-- the stages of an order
 abbrev pub stages_text : (with_old : Bool) → Order → List ℕ
-stages_text with_old o =
-    flat_map (stage_text with_old o) (range_with_len 0 (stages_in o)) ++ codes "VERDICT YES\n"
+stages_text with_old o = flat_map (stage_text with_old o) (range_with_len 0 (stages_in o))
 
 module _ {A : Type 0} where
   -- where there is no order: the findings of the old plan and of the new one, and NO with their
@@ -63,18 +63,25 @@ module _ {A : Type 0} where
   no_order_text p before after = findings_after (codes "OLD ") p before
       ++ (findings_after (codes "NEW ") p after ++ no_line (length before + length after))
 
-  -- the stages, or what is wrong with both plans over the joined network, or with the new plan as it
-  -- is, by its own names
-  abbrev pub verdict_text : (with_old : Bool) → (new : Plan) → OrderVerdict A → List ℕ
-  verdict_text with_old new (Ordered o) = stages_text with_old o
-  verdict_text with_old new (NoOrder p before after) =
-      no_order_text p (findings_of before) (findings_of after)
-  verdict_text with_old new (NewUnsound findings) =
-      verdict_after (codes "NEW ") new findings.items
+  -- the stages, if there are any
+  abbrev pub found_text : (with_old : Bool) → OrderVerdict A → List ℕ
+  found_text with_old (Ordered o) = stages_text with_old o
+  found_text with_old (NoOrder p before after) = []
+  found_text with_old (NewUnsound findings) = []
 
-  -- The report: what was asked, in what the plans differ beside lists and bars, and the verdict,
-  -- with the lists that are replaced if they are asked for
+  -- YES, or what is wrong with both plans over the joined network, or with the new plan as it is, by
+  -- its own names
+  abbrev pub verdict_text : (new : Plan) → OrderVerdict A → List ℕ
+  verdict_text new (Ordered o) = codes "VERDICT YES\n"
+  verdict_text new (NoOrder p before after) =
+      no_order_text p (findings_of before) (findings_of after)
+  verdict_text new (NewUnsound findings) = verdict_after (codes "NEW ") new findings.items
+
+  -- The report: what was asked, what is done before the first stage, the stages, with the lists that
+  -- are replaced if they are asked for, what is done after the last one, how many lists there are,
+  -- and the verdict
   abbrev pub order_report : (with_old : Bool) → (old new : Plan) → (limit spare : ℕ)
       → OrderVerdict A → List ℕ
   order_report with_old old new limit spare verdict = asked_line (codes "ORDER") limit spare
-      ++ (difference_text old new ++ verdict_text with_old new verdict)
+      ++ (before_text old new ++ (found_text with_old verdict ++ (after_text old new
+      ++ (lists_line old new ++ verdict_text new verdict))))

@@ -12,6 +12,11 @@ ghost use Rattle.tx_order.specs.Orders.{IsListSwitched, IsBarSwitched, IsOrder, 
 ghost use Rattle.tx_order.specs.StagedRuns.{AreInStages, AreSoundStages, HaveFewRoutes, SufficeInStages, StagedTurn, AreStagedTurns};
 ghost use Rattle.tx_order.specs.Transitions.{Transition};
 ghost use Rattle.tx_order.specs.Joined.{IsSafeBetween, AreStages};
+ghost use Rattle.tx_join.specs.Joined.{joined_old, joined_new};
+ghost use Rattle.tx_join.specs.Laws.{CanBeJoined};
+ghost use Rattle.tx_order.specs.Ordered.{Order};
+ghost use Rattle.tx_order.specs.Switchings.{IsOrdered};
+ghost use Rattle.tx_order.specs.LeadsOver.{LeadsOver};
 
 /// The plan in which the levels below some front are switched is certified by a mixture of the old
 /// ranks and the new ones: the new rank where the list is switched, and else the old one.
@@ -55,6 +60,14 @@ pub fn levels_lead_over()
     ensures bars { (old new : Plan) (before after : Ranks) (limit spare x c : ℕ)
         → AreBothCertified old new before after limit spare → c < length old.codes
         → IsBarSwitched old new (plan_at old new before after limit) (levels_of limit) x c }
+{}
+
+/// An order over a joined network leads from the old plan to the new one: with what is put there
+/// before, by its stages, and by what goes after and is opened then.
+pub fn orders_lead_over()
+    ensures { (old new : Plan) (limit spare : ℕ) (o : Order) → CanBeJoined old new
+        → IsOrdered (joined_old old new) (joined_new old new) limit spare o
+        → LeadsOver old new o }
 {}
 
 /// An order is sound over all its stages, on and back, with calls up: if each call has a stage, and

@@ -26,7 +26,7 @@ mod transition;
 pub use judging::{OrderVerdict, judge_order};
 pub use law::{
     each_level_is_common, each_plan_is_certified, levels_lead_over, ordered_exactly,
-    orders_are_sound, stages_are_fewest,
+    orders_are_sound, orders_lead_over, stages_are_fewest,
 };
 pub use orders::Order;
 pub use report::write_order;

@@ -6,22 +6,22 @@ ghost use Rattle.tx_plan.specs.Routes.{route_list, is_barred};
 ghost use Rattle.tx_plantext.specs.ChangedLists.{line_unless_same};
 ghost use Rattle.tx_rank.specs.Report.{findings_of};
 ghost use Rattle.tx_order.specs.Ordered.{plan_before, stages_in};
-ghost use Rattle.tx_order.specs.OrderText.{pair_line, bar_line, entry_lines, exchange_lines, switched_lines, stage_line, stage_text, stages_text, no_order_text, verdict_text, order_report};
+ghost use Rattle.tx_order.specs.OrderText.{pair_line, bar_line, entry_lines, exchange_lines, switched_lines, stage_line, stage_text, stages_text, no_order_text, found_text, verdict_text, order_report};
 
 use crate::judging::OrderVerdict;
 use crate::orders::Order;
 use itoa::Buffer;
 use std::alloc::Allocator;
 use tx_change::{write_findings_after, write_verdict_after};
-use tx_join::write_differences;
+use tx_join::{write_after, write_before, write_list_counts};
 use tx_plan::{CodeId, ExchangeId, Limits, Plan};
 use tx_plantext::write_new_list;
 use tx_rank::{Finding, Ranking, write_asked, write_no};
 use tx_text::{Sink, WriteFault, finish, put_bytes, put_parts};
 
-/// Writes the report of the search for an order: what was asked, in what the plans differ beside
-/// lists and bars, and then the stages with what each switches, with the old lists if they are asked
-/// for, and YES, or what is wrong and NO.
+/// Writes the report of the search for an order: what was asked, what is done before, the stages
+/// with what each switches, with the old lists if they are asked for, what is done after, how many
+/// lists there are, and YES, or what is wrong and NO.
 pub fn write_order<A: Allocator, W: Sink>(
     old: &Plan<A>,
     new: &Plan<A>,
@@ -34,36 +34,42 @@ pub fn write_order<A: Allocator, W: Sink>(
         (order_report with_old old.now new.now limits.limit limits.spare verdict.now) result }
 {
     write_asked(b"ORDER", limits, sink);
-    write_differences(old, new, sink);
-    write_verdict(new, verdict, with_old, sink);
+    write_before(old, new, sink);
+    write_found(verdict, with_old, sink);
+    write_after(old, new, sink);
+    write_list_counts(old, new, sink);
+    write_verdict(new, verdict, sink);
     finish(sink)
 }
 
-/// Writes the lines of the verdict.
-fn write_verdict<A: Allocator, W: Sink>(
-    new: &Plan<A>,
-    verdict: &OrderVerdict<A>,
-    with_old: bool,
-    sink: &mut W,
-)
-    ensures { Puts W.taken W.failed sink.old sink.new
-        (verdict_text with_old new.now verdict.now) }
+/// Writes the stages, if there are any.
+fn write_found<A: Allocator, W: Sink>(verdict: &OrderVerdict<A>, with_old: bool, sink: &mut W)
+    ensures { Puts W.taken W.failed sink.old sink.new (found_text with_old verdict.now) }
 {
     match verdict {
         OrderVerdict::Ordered(order) => write_stages(order, with_old, sink),
+        OrderVerdict::NoOrder(..) | OrderVerdict::NewUnsound(_) => {}
+    }
+}
+
+/// Writes the lines of the verdict.
+fn write_verdict<A: Allocator, W: Sink>(new: &Plan<A>, verdict: &OrderVerdict<A>, sink: &mut W)
+    ensures { Puts W.taken W.failed sink.old sink.new (verdict_text new.now verdict.now) }
+{
+    match verdict {
+        OrderVerdict::Ordered(_) => put_bytes(b"VERDICT YES\n", sink),
         OrderVerdict::NoOrder(plan, before, after) => write_no_order(plan, before, after, sink),
         OrderVerdict::NewUnsound(findings) => write_verdict_after(b"NEW ", new, findings, sink),
     }
 }
 
-/// Writes the stages of an order, and YES.
+/// Writes the stages of an order.
 fn write_stages<A: Allocator, W: Sink>(order: &Order<A>, with_old: bool, sink: &mut W)
     ensures { Puts W.taken W.failed sink.old sink.new (stages_text with_old order.now) }
 {
     for stage in 0..order.stages() {
         write_stage(order, stage, with_old, sink);
     }
-    put_bytes(b"VERDICT YES\n", sink);
 }
 
 /// Writes a stage with its number, from 1, and what it switches.

@@ -11,7 +11,7 @@ use tx_cert::Cert;
 use tx_plan::Plan;
 use tx_text::NoMemory;
 
-/// How many stages an order has that does not have the one that is asked for, by its number from 1.
+/// How many stages an order has that does not have the one that is asked for, by its number.
 pub fn missing_stage<A: Allocator>(verdict: &OrderVerdict<A>, stage: Option<u8>) -> Option<usize>
     ensures there { IfNone result (HasStage stage verdict.now) }
     ensures missing { IfSome result (LacksStage stage verdict.now) }
@@ -29,15 +29,12 @@ fn stages_without<A: Allocator>(order: &Order<A>, stage: usize) -> Option<usize>
         (stages ≡ stages_in order.now) × (IsStageOf order.now stage → ⊥)) }
 {
     let stages = order.stages();
-    if stage == 0 || stages < stage {
-        Some(stages)
-    } else {
-        None
-    }
+    if stages < stage { Some(stages) } else { None }
 }
 
-/// The plan after a stage of an order over the joined network, by its number from 1, and a
-/// certificate for this plan and the one before the stage.
+/// The plan after a stage of an order over the joined network, by its number, and a certificate for
+/// this plan and the one before the stage. For 0 it is the plan before the first stage, with the
+/// certificate of that stage.
 pub fn stage_of<A: Allocator + Copy>(
     alloc: A,
     order: Order<A>,
@@ -50,6 +47,6 @@ pub fn stage_of<A: Allocator + Copy>(
     order.rules();
     let stage = usize::from(stage);
     let lists = lists_before(alloc, &order, stage)?;
-    let cert = order.cert(alloc, stage - 1)?;
+    let cert = order.cert(alloc, stage.saturating_sub(1))?;
     Ok((order.with_lists(lists), cert))
 }

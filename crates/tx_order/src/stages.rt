@@ -1,5 +1,5 @@
 // The certificates of the stages of an order.
-ghost use Rattle.std.specs.Prelude.{◌≡◌, ◌≢◌, ◌+◌, ◌<◌, ℕ, length, None, IfOk};
+ghost use Rattle.std.specs.Prelude.{◌≡◌, ◌≢◌, ◌+◌, ◌<◌, ◌≤◌, ℕ, length, None, IfOk};
 ghost use Rattle.tx_plan.specs.Rules.{IsPlan};
 ghost use Rattle.tx_plan.specs.Mixed.{rerouted};
 ghost use Rattle.tx_plan.specs.Mixtures.{AreCommon};
@@ -30,7 +30,7 @@ fn certify<A: Allocator + Copy>(
     cert: &mut Cert<A>,
 ) -> Result<(), NoMemory>
     requires origins { AreOrigins order.now.transition.old origins.now }
-    requires stage { stage < stages_in order.now }
+    requires stage { stage ≤ stages_in order.now }
     requires code { code < length order.now.transition.old.codes }
     requires blank { (x : ℕ) → ranked_at cert.old code x ≡ None }
     requires codes { cert.old.codes ≡ length order.now.transition.old.codes }
@@ -64,7 +64,7 @@ impl<A: Allocator + Copy> Order<A> {
     /// A certificate for the plan before a stage, from 0, the plan after it, and all mixtures of
     /// both. `Err` means out of memory.
     pub(crate) fn cert(&self, alloc: A, stage: usize) -> Result<Cert<A>, NoMemory>
-        requires { stage < stages_in self.now }
+        requires { stage ≤ stages_in self.now }
         ensures common { IfOk result (λ cert. AreCommon (plan_before self.now stage)
             (plan_before self.now (stage + 1)) (ranks_of cert)
             self.now.transition.limit self.now.transition.spare) }

@@ -1,2 +1,2 @@
 pub mod StepsOfWalks
-pub mod Sums
+pub mod AloneIn

@@ -1,20 +1,10 @@
 -- What a page shows of the change from an old plan.
-use Rattle.std.specs.Prelude.{ℕ, ◌+◌, Bool, true, false, ◌&&◌, ◌==◌, if◌then◌else◌, List, [], ◌∷◌, ◌++◌, length, map, Option, None, Some, codes, decimal}
+use Rattle.std.specs.Prelude.{ℕ, ◌+◌, Bool, true, false, ◌&&◌, ◌==◌, if◌then◌else◌, List, [], ◌∷◌, ◌++◌, length, map, codes, decimal}
 use Rattle.std.specs.Str.{bytes_eq}
 use Rattle.tx_plan.specs.Plan.{Plan, exchange_name, figures_of, group_name}
 use Rattle.tx_plan.specs.Routes.{route_list, is_barred}
-use Rattle.tx_plantext.specs.declared.difference.Difference.{Difference}
-use Rattle.tx_join.specs.declared.joining.Joined.{Joined}
-use Rattle.tx_order.specs.declared.switching.Switching.{Switching}
-use Rattle.tx_order.specs.declared.switching.Switching.TheVariants.{Ordered, NoOrder}
 use Rattle.tx_order.specs.Ordered.{Order, plan_before, stages_in}
 use Rattle.tx_svg.specs.Indexed.{texts_below}
-use Rattle.tx_page.specs.declared.change.Change.{Change}
-
--- that two plans differ beside lists and bars, if an entry does
-abbrev pub network_texts : Option Difference → List (List ℕ)
-network_texts None = []
-network_texts (Some difference) = codes "differ" ∷ []
 
 -- whether an exchange was barred for a code, and whether it is now: a bar that is set, one that is
 -- lifted, or nothing
@@ -66,15 +56,3 @@ stages_texts o = order_word true ∷ texts_below (stages_in o) (stage_texts o)
 -- that there is none, and all that differs
 abbrev pub difference_texts : (old new : Plan) → List (List ℕ)
 difference_texts old new = order_word false ∷ table_texts new old new
-
-module _ {A : Type 0} where
-  -- the stages of an order, if there is one and the new plan is safe; else all that differs over
-  -- the joined network
-  abbrev pub switching_texts : (safe : Bool) → Joined A → Switching A → List (List ℕ)
-  switching_texts safe j (Ordered o) = if safe then stages_texts o else difference_texts j.old j.new
-  switching_texts safe j (NoOrder p before after) = difference_texts j.old j.new
-
-  -- whether the plans differ beside lists and bars, and what is switched
-  abbrev pub change_texts : (safe : Bool) → Change A → List (List ℕ)
-  change_texts safe c =
-      network_texts c.difference ++ switching_texts safe c.joined.now c.switching.now

@@ -5,4 +5,5 @@ pub mod OutageTexts
 pub mod NetworkTexts
 pub mod Page
 pub mod ChangeTexts
+pub mod StepTexts
 pub mod inner

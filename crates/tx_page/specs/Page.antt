@@ -3,7 +3,7 @@ use Rattle.std.specs.Prelude.{ℕ, Bool, true, false, List, [], ◌++◌, Option
 use Rattle.tx_rank.specs.declared.ranking.Ranking.{Ranking}
 use Rattle.tx_rank.specs.declared.ranking.Ranking.TheVariants.{Found, Fails}
 use Rattle.tx_page.specs.declared.change.Change.{Change}
-use Rattle.tx_page.specs.ChangeTexts.{change_texts}
+use Rattle.tx_page.specs.StepTexts.{change_texts}
 use Rattle.tx_page.specs.declared.subject.Subject.{Subject}
 use Rattle.tx_page.specs.Heading.{heading_texts}
 use Rattle.tx_page.specs.WrongTexts.{wrong_texts}

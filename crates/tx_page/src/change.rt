@@ -1,27 +1,30 @@
 // The change from an old plan, on a page.
 ghost use Rattle.tx_html.specs.Shows.{Sets};
-ghost use Rattle.tx_page.specs.ChangeTexts.{network_texts, switching_texts, change_texts};
+ghost use Rattle.tx_page.specs.StepTexts.{switching_texts, steps_texts, change_texts};
 
 use crate::stages::{write_difference, write_stages};
+use crate::steps::{write_after, write_before};
 use std::alloc::Allocator;
 use tx_html::{PageSink, Part, set};
-use tx_join::Joined;
+use tx_join::{Joined, differ};
 use tx_order::Switching;
-use tx_plantext::Difference;
+use tx_plan::Plan;
 
 /// The change of an old plan into the plan of a page.
 #[derive(Drop)]
 pub struct Change<'a, A: Allocator> {
-    /// The first entry in which they are not of one network, if there is any.
-    pub difference: Option<Difference>,
+    /// Both plans as they are.
+    pub old: &'a Plan<A>,
+    pub new: &'a Plan<A>,
     /// Both over their joined network.
     pub joined: &'a Joined<A>,
     /// The order of switching over it, or what is wrong.
     pub switching: &'a Switching<A>,
 }
 
-/// Writes whether the plans differ beside lists and bars, and then the stages of the order of switching; or,
-/// where there is none or the new plan is not safe, all lists and bars that differ.
+/// Writes the stages of the order of switching; or, where there is none or the new plan is not safe,
+/// all lists and bars that differ. If the plans differ beside lists and bars, what is done before and
+/// after stands before and after that.
 pub(crate) fn write_change<A: Allocator, W: PageSink>(
     change: &Change<'_, A>,
     safe: bool,
@@ -30,31 +33,32 @@ pub(crate) fn write_change<A: Allocator, W: PageSink>(
     ensures { Sets W.seen sink.old sink.new (change_texts safe change.now) }
 {
     set(&[Part::Own("<h2>The change</h2>")], sink);
-    write_network(change.difference, sink);
-    write_switching(change, safe, sink);
+    if differ(change.old, change.new) {
+        write_steps(change, safe, sink);
+    } else {
+        write_switching(change, safe, sink);
+    }
 }
 
-/// Writes that the plans declare other things, if they do.
-fn write_network<W: PageSink>(difference: Option<Difference>, sink: &mut W)
-    ensures { Sets W.seen sink.old sink.new (network_texts difference) }
+/// Writes what is done before the stages, the stages, and what is done after them.
+fn write_steps<A: Allocator, W: PageSink>(change: &Change<'_, A>, safe: bool, sink: &mut W)
+    ensures { Sets W.seen sink.old sink.new (steps_texts safe change.now) }
 {
-    if difference.is_none() {
-        return;
-    }
     set(
         &[
-            Part::Own("<p class=\"warn\">Beside lists and bars these plans "),
+            Part::Own("<p>Beside lists and bars these plans "),
             Part::Text(b"differ"),
             Part::Own(BESIDE_LISTS),
         ],
         sink,
     );
+    write_before(change.old, change.new, sink);
+    write_switching(change, safe, sink);
+    write_after(change.old, change.new, sink);
 }
 
-const BESIDE_LISTS: &str = " in what they declare, or in its order: <code>telexplan order</code> \
-prints what is new and what goes. In a change new exchanges, codes, groups and circuits are put there \
-first, with their lists. Then come the lists and bars below. At last lines and codes that go are \
-closed and what goes is taken away, and then new lines are opened and new codes admitted.</p>";
+const BESIDE_LISTS: &str = " in what they declare: something is \
+done before the switching, or after it.</p>";
 
 /// Writes the stages, or all that differs.
 fn write_switching<A: Allocator, W: PageSink>(change: &Change<'_, A>, safe: bool, sink: &mut W)

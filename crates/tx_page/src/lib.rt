@@ -12,6 +12,7 @@ mod network;
 mod outages;
 mod page;
 mod stages;
+mod steps;
 mod style;
 mod subject;
 mod table;

@@ -1,5 +1,5 @@
 -- The line that says why a command stopped.
-use Rattle.std.specs.Prelude.{ℕ, List, ◌++◌, codes, decimal}
+use Rattle.std.specs.Prelude.{ℕ, List, ◌++◌, Option, None, Some, codes, decimal}
 use Rattle.tx_plantext.specs.PlanFaults.{fault_row as plan_row}
 use Rattle.tx_risk.specs.RiskFaults.{fault_row as risk_row}
 use Rattle.tx_join.specs.declared.contradiction.Contradiction.{Contradiction as ContradictionOf}
@@ -8,11 +8,23 @@ use Rattle.tx_jobs.specs.JobFaults.{fault_line, text_fault_line}
 use Rattle.tx_requests.specs.declared.fault.CommandFault.{CommandFault}
 use Rattle.tx_requests.specs.declared.fault.CommandFault.TheVariants.{Job, OldPlan, NewPlan, Contradiction, TooManyTogether, Risks, NoSuchStage, NoSuchExchange, NoSuchCode, NoSuchGroup, NoSuchName, NotInOldPlan}
 
+-- the homes of a code, and how it can move
+abbrev pub homes_text : Option (List ℕ × List ℕ) → List ℕ
+homes_text None = codes "\n"
+homes_text (Some homes) = codes ": home " ++ (homes.0 ++ (codes ", then " ++ (homes.1
+    ++ codes ": drop it in one change, admit it in the next\n")))
+
+-- that a line of the old plan and one of the new plan differ, with the word that begins them and the
+-- name in them
+abbrev pub differing_text : (old new : ℕ) → (word name : List ℕ) → List ℕ
+differing_text old new word name = codes "telexplan: old plan line "
+    ++ (decimal old ++ (codes " and new plan line " ++ (decimal new
+    ++ (codes ": " ++ (word ++ (codes " " ++ (name ++ codes " differs")))))))
+
 -- what two plans declare in contradiction, by the line of each text that does
 abbrev pub contradiction_line : ContradictionOf → List ℕ
-contradiction_line c = codes "telexplan: old plan line "
-    ++ (decimal c.old_line ++ (codes " and new plan line " ++ (decimal c.new_line
-    ++ (codes ": " ++ (kind_word c.kind ++ (codes " " ++ (c.name ++ codes " differs\n")))))))
+contradiction_line c =
+    differing_text c.old_line c.new_line (kind_word c.kind) c.name ++ homes_text c.homes
 
 -- how many stages there are
 abbrev pub stage_count_line : ℕ → List ℕ

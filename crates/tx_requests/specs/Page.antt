@@ -5,7 +5,6 @@ use Rattle.sha2.specs.Sha256.{sha256}
 use Rattle.tx_plan.specs.Plan.{Plan, code_named}
 use Rattle.tx_audit.specs.Audits.{IsRightRanking}
 use Rattle.tx_join.specs.Joined.{joined_old, joined_new}
-use Rattle.tx_plantext.specs.Difference.{DifferenceAnswer}
 use Rattle.tx_order.specs.Switchings.{IsRightSwitching}
 use Rattle.tx_risk.specs.NamedRisks.{NamedRisk}
 use Rattle.tx_risk.specs.Outages.{AreOutcomes}
@@ -53,10 +52,9 @@ module _ {A : Type 0} where
     pub outcomes : IfSome f.grade.plan (λ _. AreOutcomes p risks false f.outcomes.items)
     pub pictures : map (λ q. q.code) f.pictures.items ≡ codes
 
-  -- what is told of the change of a plan into another one: whether they are of one network, both
-  -- over their joined network, and the order of switching from the one to the other over it
+  -- what is told of the change of a plan into another one: both over their joined network, and the
+  -- order of switching from the one to the other over it
   pub record IsChangeOf (old new : Plan) (limit spare : ℕ) (c : FoundChange A) : Type 0 where
-    pub network : DifferenceAnswer old new c.difference
     pub joined : IsJoin old new c.joined
     pub right : IsRightSwitching (joined_old old new) (joined_new old new) limit spare c.switching
 
@@ -88,12 +86,14 @@ module _ {A : Type 0} where
       ((fault ≡ NoSuchCode) × (asked_codes r t.plan.plan ≡ None))
       ⊎ (IsNoChange t.old t.plan fault ⊎ (fault ≡ memory_stop))
 
-  -- a change, as a page shows it
-  abbrev pub IsSameChange : Option (Change A) → Option (FoundChange A) → Type 0
-  IsSameChange None None = Unit {0}
-  IsSameChange (Some c) (Some f) = (c.difference ≡ f.difference) × (c.joined.now ≡ f.joined)
-      × (c.switching.now ≡ f.switching)
-  IsSameChange c f = ⊥
+  -- a change from an old plan, as a page shows it
+  abbrev pub IsSameChange : Option (PlanText A) → PlanText A → Option (Change A)
+      → Option (FoundChange A) → Type 0
+  IsSameChange (Some old) new (Some c) (Some f) = (c.old.now ≡ old.plan) × (c.new.now ≡ new.plan)
+      × (c.joined.now ≡ f.joined) × (c.switching.now ≡ f.switching)
+  IsSameChange (Some old) new None (Some f) = ⊥
+  IsSameChange old new None f = Unit {0}
+  IsSameChange old new c f = ⊥
 
   -- what a page is about: the name of the file, the digest of its text, the version of the program,
   -- and all that was found
@@ -106,7 +106,7 @@ module _ {A : Type 0} where
     pub risks : s.risks.now ≡ a.texts.risks
     pub ranking : s.ranking.now ≡ a.found.ranking
     pub grade : s.grade.now ≡ a.found.grade
-    pub change : IsSameChange s.change a.change
+    pub change : IsSameChange a.texts.old a.texts.plan s.change a.change
     pub outcomes : s.outcomes.now ≡ a.found.outcomes.items
     pub pictures : s.pictures.now ≡ a.found.pictures.items
 

@@ -13,7 +13,7 @@ use Rattle.tx_plantext.specs.PlanText.{plan_of, is_memory, declares_line}
 use Rattle.tx_join.specs.declared.refusal.JoinRefusal.{JoinRefusal}
 use Rattle.tx_join.specs.declared.refusal.JoinRefusal.TheVariants.{OtherHome, OtherGroup, TooMany, NoMemory as JoinNoMemory}
 use Rattle.tx_join.specs.declared.contradiction.Kind.TheVariants.{Code, Group}
-use Rattle.tx_join.specs.Contradictions.{contradiction_of}
+use Rattle.tx_join.specs.Contradictions.{homes_of, contradiction_of}
 use Rattle.tx_join.specs.Joined.{joined_old, joined_new}
 use Rattle.tx_join.specs.declared.joining.Joined.{Joined}
 use Rattle.tx_join.specs.Refusals.{join_refusal, IsRefusedAs}
@@ -86,11 +86,11 @@ module _ {A : Type 0} where
     pub joined : IsJoin t.old.plan t.new.plan t.joined
 
   -- why two plans have no joined network, by the lines of their texts that say so
-  abbrev pub join_stop : (old : List ℕ) → PlanText A → JoinRefusal → CommandFault
-  join_stop old new (OtherHome c) =
-      Contradiction (contradiction_of Code (figures_of new.plan c) old new.text.items)
-  join_stop old new (OtherGroup g) =
-      Contradiction (contradiction_of Group (group_name new.plan g) old new.text.items)
+  abbrev pub join_stop : (old new : PlanText A) → JoinRefusal → CommandFault
+  join_stop old new (OtherHome c) = Contradiction (contradiction_of Code (figures_of new.plan c)
+      (homes_of old.plan new.plan c) old.text.items new.text.items)
+  join_stop old new (OtherGroup g) = Contradiction (contradiction_of Group
+      (group_name new.plan g) None old.text.items new.text.items)
   join_stop old new TooMany = TooManyTogether
   join_stop old new JoinNoMemory = Job NoMemory
 
@@ -98,7 +98,7 @@ module _ {A : Type 0} where
   pub record IsNoJoinOf (old new : PlanText A) (fault : CommandFault) : Type 0 where
     pub refusal : JoinRefusal
     pub refused : IsRefusedAs old.plan new.plan refusal
-    pub told : fault ≡ join_stop old.text.items new refusal
+    pub told : fault ≡ join_stop old new refusal
 
 -- the first plan was read, but not the other one
 pub record LacksOther (A : Type 0) (which : Which) (first second : Input) (fault : CommandFault)

@@ -1,13 +1,14 @@
 // The line that says why a command stopped.
-ghost use Rattle.std.specs.Prelude.{◌≡◌, ◌++◌, codes, decimal};
+ghost use Rattle.std.specs.Prelude.{◌≡◌};
+ghost use Rattle.tx_text.specs.Puts.{Puts};
 ghost use Rattle.tx_text.specs.Wrote.{Wrote};
-ghost use Rattle.tx_requests.specs.FaultLines.{command_line, contradiction_line, stage_count_line};
+ghost use Rattle.tx_requests.specs.FaultLines.{command_line, homes_text, differing_text, contradiction_line, stage_count_line};
 
 use crate::fault::CommandFault;
 use itoa::Buffer;
 use tx_jobs::{write_fault, write_plan_fault, write_text_fault};
 use tx_join::Contradiction;
-use tx_text::{Sink, WriteFault, finish, put_parts, write_bytes};
+use tx_text::{InlineBytes, Sink, WriteFault, finish, put_bytes, put_parts, write_bytes};
 
 /// Writes the line that reports a fault, as `telexplan: old plan line 5: P11 Overlap`, with its LF.
 pub fn write_command_fault<W: Sink>(fault: &CommandFault, sink: &mut W) -> Result<(), WriteFault>
@@ -58,21 +59,16 @@ fn write_contradiction<W: Sink>(
 {
     let word = contradiction.kind.word();
     let (old, new) = (contradiction.old_line, contradiction.new_line);
-    write_differing(old, new, word, contradiction.name.bytes(), sink)
+    write_differing(old, new, word, contradiction.name.bytes(), sink);
+    write_homes(contradiction.homes, sink);
+    finish(sink)
 }
 
 /// Writes that a line of the old plan and one of the new plan differ, with the word that begins
 /// them and the name in them.
-fn write_differing<'a, W: Sink>(
-    old: u64,
-    new: u64,
-    word: &'a [u8],
-    name: &'a [u8],
-    sink: &mut W,
-) -> Result<(), WriteFault>
-    ensures { Wrote W.taken W.failed sink.old sink.new (codes "telexplan: old plan line "
-        ++ (decimal old ++ (codes " and new plan line " ++ (decimal new ++ (codes ": "
-        ++ (word.now ++ (codes " " ++ (name.now ++ codes " differs\n")))))))) result }
+fn write_differing<'a, W: Sink>(old: u64, new: u64, word: &'a [u8], name: &'a [u8], sink: &mut W)
+    ensures { Puts W.taken W.failed sink.old sink.new
+        (differing_text old new word.now name.now) }
 {
     let mut first = Buffer::new();
     let mut second = Buffer::new();
@@ -88,11 +84,29 @@ fn write_differing<'a, W: Sink>(
             word,
             b" ",
             name,
-            b" differs\n",
+            b" differs",
         ],
         sink,
     );
-    finish(sink)
+}
+
+/// Writes the homes of a code, and how it can move.
+fn write_homes<W: Sink>(homes: Option<(InlineBytes<8>, InlineBytes<8>)>, sink: &mut W)
+    ensures { Puts W.taken W.failed sink.old sink.new (homes_text homes) }
+{
+    match homes {
+        Some((before, after)) => put_parts(
+            &[
+                b": home ",
+                before.bytes(),
+                b", then ",
+                after.bytes(),
+                b": drop it in one change, admit it in the next\n",
+            ],
+            sink,
+        ),
+        None => put_bytes(b"\n", sink),
+    }
 }
 
 /// Writes how many stages there are.

@@ -92,7 +92,7 @@ fn subject_of<'a, A: Allocator>(request: &'a PageRequest, answer: &'a Paged<A>) 
         ranking: &answer.found.ranking,
         grade: &answer.found.grade,
         risks: &answer.texts.risks,
-        change: shown_change(&answer.change),
+        change: shown_change(&answer.change, &answer.texts.old, &answer.texts.plan),
         outcomes: answer.found.outcomes.as_slice(),
         pictures: answer.found.pictures.as_slice(),
     }

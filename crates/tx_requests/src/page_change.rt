@@ -12,13 +12,10 @@ use tx_join::Joined;
 use tx_order::{Switching, order};
 use tx_page::Change;
 use tx_plan::Limits;
-use tx_plantext::{Difference, first_difference};
 
 /// What is found of the change of a plan into another one.
 #[derive(Drop)]
 pub struct FoundChange<A: Allocator = Global> {
-    /// The first entry in which they are not of one network, if there is any.
-    pub difference: Option<Difference>,
     /// Both over their joined network.
     pub joined: Joined<A>,
     /// The order of switching over it, or what is wrong.
@@ -53,11 +50,7 @@ fn change_between<A: Allocator + Copy>(
 {
     let joined = joined_of(alloc, old, new)?;
     let switching = switching_between(alloc, old, new, limits)?;
-    Ok(FoundChange {
-        difference: first_difference(&old.plan, &new.plan),
-        joined,
-        switching,
-    })
+    Ok(FoundChange { joined, switching })
 }
 
 /// The order of switching between two plans over their joined network, which takes both.
@@ -76,15 +69,20 @@ fn switching_between<A: Allocator + Copy>(
 }
 
 /// The change as a page shows it, if there is one.
-pub(crate) fn shown_change<A: Allocator>(change: &Option<FoundChange<A>>) -> Option<Change<'_, A>>
-    ensures { IsSameChange result change.now }
+pub(crate) fn shown_change<'a, A: Allocator>(
+    change: &'a Option<FoundChange<A>>,
+    old: &'a Option<PlanText<A>>,
+    new: &'a PlanText<A>,
+) -> Option<Change<'a, A>>
+    ensures { IsSameChange old.now new.now result change.now }
 {
-    match change {
-        Some(found) => Some(Change {
-            difference: found.difference,
+    match (change, old) {
+        (Some(found), Some(old)) => Some(Change {
+            old: &old.plan,
+            new: &new.plan,
             joined: &found.joined,
             switching: &found.switching,
         }),
-        None => None,
+        (None, _) | (Some(_), None) => None,
     }
 }

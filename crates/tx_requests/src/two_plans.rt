@@ -9,7 +9,7 @@ use crate::fault::CommandFault;
 use crate::reading::read_risks_if;
 use std::alloc::{Allocator, Global};
 use tx_jobs::JobFault;
-use tx_join::{Contradiction, JoinRefusal, Joined, Kind, join};
+use tx_join::{Contradiction, JoinRefusal, Joined, Kind, homes_of, join};
 use tx_plan::Plan;
 use tx_plantext::read_plan;
 use tx_risk::Risks;
@@ -154,22 +154,29 @@ pub(crate) fn joined_of<A: Allocator + Copy>(
 {
     match join(alloc, &old.plan, &new.plan) {
         Ok(joined) => Ok(joined),
-        Err(refusal) => Err(join_fault(refusal, &old.text, new)),
+        Err(refusal) => Err(join_fault(refusal, old, new)),
     }
 }
 
 /// Why two plans have no joined network, with the lines of their texts that say so.
-fn join_fault<A: Allocator>(refusal: JoinRefusal, old: &[u8], new: &PlanText<A>) -> CommandFault
+fn join_fault<A: Allocator>(
+    refusal: JoinRefusal,
+    old: &PlanText<A>,
+    new: &PlanText<A>,
+) -> CommandFault
     ensures { result ≡ join_stop old.now new.now refusal }
 {
     match refusal {
         JoinRefusal::OtherHome(code) => {
             let figures = new.plan.code_figures(code);
-            CommandFault::Contradiction(Contradiction::of(Kind::Code, figures, old, &new.text))
+            let homes = homes_of(&old.plan, &new.plan, code);
+            let found = Contradiction::of(Kind::Code, figures, homes, &old.text, &new.text);
+            CommandFault::Contradiction(found)
         }
         JoinRefusal::OtherGroup(group) => {
             let name = new.plan.group_name(group);
-            CommandFault::Contradiction(Contradiction::of(Kind::Group, name, old, &new.text))
+            let found = Contradiction::of(Kind::Group, name, None, &old.text, &new.text);
+            CommandFault::Contradiction(found)
         }
         JoinRefusal::TooMany => CommandFault::TooManyTogether,
         JoinRefusal::NoMemory => CommandFault::Job(JobFault::NoMemory),

@@ -1,7 +1,7 @@
 // Two plans over their joined network, as texts.
 use crate::cases::{Refusing, Told, tell, tell_broken};
 use std::alloc::{Allocator, Global};
-use tx_join::{JoinRefusal, Joined, join, write_differences};
+use tx_join::{JoinRefusal, Joined, join, write_after, write_before, write_list_counts};
 use tx_plan::Plan;
 use tx_plantext::{read_plan, write_plan};
 
@@ -73,12 +73,14 @@ fn try_refusals(alloc: Global, old: &[u8], new: &[u8], out: &mut Told) {
     }
 }
 
-/// Writes in what two plans differ beside lists and bars, and both over their joined network, or
-/// why they have none.
+/// Writes what is done before and after two plans are switched, and both over their joined network,
+/// or why they have none.
 fn tell_join(alloc: Global, old: &Plan, new: &Plan, out: &mut Told) {
     match join(alloc, old, new) {
         Ok(joined) => {
-            write_differences(old, new, out);
+            write_before(old, new, out);
+            write_after(old, new, out);
+            write_list_counts(old, new, out);
             tell_joined(alloc, &joined, out);
         }
         Err(refusal) => tell_refusal(refusal, new, out),

@@ -9,7 +9,7 @@ loop-index-init g c = puts_none
 
 pub loop-index-preserved : goal.loop-index-preserved
 loop-index-preserved g c =
-    lines_more (circuits_lines c.args.old.now c.args.new.now) c.of.ensures c.loop-index.invariant c.write_group_circuits.ensures
+    lines_more (circuits_lines c.args.grows c.args.old.now c.args.new.now) c.of.ensures c.loop-index.invariant c.write_group_circuits.ensures
 
 pub returns : goal.returns
-returns g c = lines_done (circuits_lines c.args.old.now c.args.new.now) c.loop-index.index (length c.args.old.now.groups) (omega arith) c.loop-index.invariant
+returns g c = lines_done (circuits_lines c.args.grows c.args.old.now c.args.new.now) c.loop-index.index (length c.args.old.now.groups) (omega arith) c.loop-index.invariant

@@ -1,5 +1,5 @@
 use Rattle.std.proofs.Common.{◌≡◌, refl, arith}
-use Rattle.tx_text.proofs.Putting.{puts_none, puts_then}
+use Rattle.tx_text.proofs.Putting.{puts_none}
 use Rattle.tx_text.proofs.Ranges.{index_more, indexes_done}
 use Rattle.tx_order.specs.Ordered.{stages_in}
 use Rattle.tx_order.specs.OrderText.{stage_text}
@@ -15,4 +15,4 @@ pub returns : goal.returns
 returns g c =
     let o = c.args.order.now in
     let all : c.loop-stage.stage ≡ stages_in o = let t = c.loop-stage-test.false in let a = c.loop-stage.auto.stage-end in let e = c.stages-stage-end.ensures in omega arith in
-    puts_then (indexes_done (stage_text c.args.with_old o) c.loop-stage.stage (stages_in o) all c.loop-stage.invariant) c.put_bytes.ensures
+    indexes_done (stage_text c.args.with_old o) c.loop-stage.stage (stages_in o) all c.loop-stage.invariant

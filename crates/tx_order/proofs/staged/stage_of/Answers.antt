@@ -13,6 +13,6 @@ returns-clause-plan g c =
 
 pub returns-clause-cert : goal.returns-clause-cert
 returns-clause-cert g c =
-    stage_cert c.args.order c.rules.ensures.kept c.args.stage c.in_ok-cert.cert c.requires.0
-    (rw c.from-stage.ensures at c.in_ok-cert.ensures.common)
+    stage_cert c.args.order c.rules.ensures.kept c.args.stage c.in_ok-cert.cert
+    (rw (c.saturating_sub.ensures, c.from-stage.ensures) at c.in_ok-cert.ensures.common)
     c.in_ok-cert.ensures.fits

@@ -6,4 +6,4 @@ returns-in-Ok-clause-joined g c =
     record { before = e.old; after = e.new; unrefused = e.unrefused; network = e.network; lists = e.lists }
 
 pub returns-in-Err-clause-refused : goal.returns-in-Err-clause-refused
-returns-in-Err-clause-refused g c = record { refusal = c.in-Err.refusal; refused = c.in-Err.ensures.refused; told = rw c.deref.ensures.value at c.join_fault.ensures }
+returns-in-Err-clause-refused g c = record { refusal = c.in-Err.refusal; refused = c.in-Err.ensures.refused; told = c.join_fault.ensures }

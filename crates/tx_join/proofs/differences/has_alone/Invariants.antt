@@ -1,0 +1,6 @@
+use Rattle.std.proofs.Common.{◌≡◌, ℕ, ◌<◌, not, false}
+use Rattle.tx_join.specs.Differences.{is_known}
+use Rattle.tx_join.proofs.differences.has_alone.Given as goal
+
+abbrev pub invariant-loop-index : goal.invariant-loop-index
+invariant-loop-index g l = (k : ℕ) → k < l.index → not (is_known l.entries l.plan l.other k) ≡ false

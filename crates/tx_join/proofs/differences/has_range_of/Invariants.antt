@@ -1,7 +1,0 @@
-use Rattle.std.proofs.Common.{◌≡◌, false, take}
-use Rattle.std.specs.List.{list_any}
-use Rattle.tx_join.specs.inner.Ranges.{is_range_of}
-use Rattle.tx_join.proofs.differences.has_range_of.Given as goal
-
-abbrev pub invariant-loop-index : goal.invariant-loop-index
-invariant-loop-index g l = list_any (is_range_of l.code l.low l.high) (take l.index l.plan.ranges) ≡ false

@@ -1,0 +1,21 @@
+use Rattle.std.proofs.Common.{◌≡◌, ◌+◌, ◌<◌, length, ap, sym, ◌∙◌, arith}
+use Rattle.std.specs.Prelude.{sum_by}
+use Rattle.std.specs.List.{range_with_len}
+use Rattle.std.proofs.lemmas.List.{take_all}
+use Rattle.std.proofs.lemmas.List.FromFn.{length-range_with_len}
+use Rattle.tx_join.specs.ListCounts.{counted_at}
+use Rattle.tx_join.proofs.Sums.{range_sum_more}
+use Rattle.tx_join.proofs.list_counts.counted_in.Goals as goal
+
+pub loop-index-preserved : goal.loop-index-preserved
+loop-index-preserved g c =
+    let n = length c.args.plan.now.exchanges in
+    let low : c.loop-index.index < n = omega (arith, c.loop-index-test.true, c.exchanges-index-end.ensures.count) in (
+      ap (λ k. k + c.counted_at-count.result) c.loop-index.invariant.0 ∙ sym (range_sum_more (counted_at c.args.counted c.args.plan.now c.args.other.now) n c.loop-index.index c.of.result c.counted_at-count.result low c.of.ensures c.counted_at-count.ensures.count),
+      omega (arith, c.loop-index.invariant.1, c.counted_at-count.ensures.few),
+    )
+
+pub returns-clause-count : goal.returns-clause-count
+returns-clause-count g c =
+    let xs = range_with_len 0 (length c.args.plan.now.exchanges) in
+    c.loop-index.invariant.0 ∙ ap (sum_by (counted_at c.args.counted c.args.plan.now c.args.other.now)) (take_all c.loop-index.index xs (omega (arith, length-range_with_len 0 (length c.args.plan.now.exchanges))))

@@ -1,0 +1,8 @@
+use Rattle.std.proofs.Common.{◌≡◌, ◌≤◌, ◌*◌, length, take}
+use Rattle.std.specs.Prelude.{sum_by}
+use Rattle.std.specs.List.{range_with_len}
+use Rattle.tx_join.specs.ListCounts.{counted_at}
+use Rattle.tx_join.proofs.list_counts.counted_in.Given as goal
+
+abbrev pub invariant-loop-index : goal.invariant-loop-index
+invariant-loop-index g l = (l.count ≡ sum_by (counted_at l.counted l.plan l.other) (take l.index (range_with_len 0 (length l.plan.exchanges)))) × (l.count ≤ l.index * 1100)

@@ -1,0 +1,11 @@
+use Rattle.std.proofs.Common.{ap, sym, ◌∙◌, ◌++◌}
+use Rattle.std.specs.Prelude.{codes}
+use Rattle.tx_text.proofs.Putting.{puts_none, puts_then, puts_is}
+use Rattle.tx_join.specs.Steps.{part, gone_text, opened_text}
+use Rattle.tx_join.proofs.steps.write_after.Goals as goal
+
+pub returns-then-not-differ : goal.returns-then-not-differ
+returns-then-not-differ g c = puts_is (ap (λ b. part b (codes "AFTER\n" ++ (gone_text c.args.old.now c.args.new.now ++ opened_text c.args.old.now c.args.new.now))) (sym c.differ.ensures ∙ c.if-not-differ.true)) puts_none
+
+pub returns : goal.returns
+returns g c = puts_is (ap (λ b. part b (codes "AFTER\n" ++ (gone_text c.args.old.now c.args.new.now ++ opened_text c.args.old.now c.args.new.now))) (sym c.differ.ensures ∙ c.if-not-differ.false)) (puts_then c.put_bytes.ensures (puts_then c.write_gone.ensures c.write_opened.ensures))

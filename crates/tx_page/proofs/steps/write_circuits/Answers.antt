@@ -1,0 +1,14 @@
+use Rattle.std.proofs.Common.{length, arith}
+use Rattle.tx_page.specs.StepTexts.{group_circuits_texts}
+use Rattle.tx_svg.proofs.Indexed.{below_more, below_done}
+use Rattle.tx_html.proofs.Showing.{sets_none}
+use Rattle.tx_page.proofs.steps.write_circuits.Goals as goal
+
+pub loop-index-init : goal.loop-index-init
+loop-index-init g c = sets_none
+
+pub loop-index-preserved : goal.loop-index-preserved
+loop-index-preserved g c = below_more (group_circuits_texts c.args.grows c.args.old.now c.args.new.now) c.of.ensures c.loop-index.invariant c.write_group_circuits.ensures
+
+pub returns : goal.returns
+returns g c = below_done (group_circuits_texts c.args.grows c.args.old.now c.args.new.now) c.loop-index.index (length c.args.old.now.groups) (omega arith) c.loop-index.invariant

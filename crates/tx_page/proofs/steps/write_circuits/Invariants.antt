@@ -1,0 +1,7 @@
+use Rattle.tx_html.specs.Shows.{Sets}
+use Rattle.tx_svg.specs.Indexed.{texts_below}
+use Rattle.tx_page.specs.StepTexts.{group_circuits_texts}
+use Rattle.tx_page.proofs.steps.write_circuits.Given as goal
+
+abbrev pub invariant-loop-index : goal.invariant-loop-index
+invariant-loop-index g l = Sets g.W.PageSink.seen l.initial.sink l.sink (texts_below l.index (group_circuits_texts l.grows l.old l.new))
