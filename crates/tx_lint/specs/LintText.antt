@@ -1,5 +1,5 @@
 -- The lines of the faults or warnings of a text.
-use Rattle.std.specs.Prelude.{ℕ, List, [], ◌++◌, Option, Some, None, codes, decimal, zero, suc}
+use Rattle.std.specs.Prelude.{ℕ, ◌==◌, List, [], ◌++◌, Option, Some, None, codes, decimal, if◌then◌else◌}
 use Rattle.tx_text.specs.Rows.{Row}
 use Rattle.tx_plan.specs.Plan.{Plan, exchange_name, figures_of, group_name}
 use Rattle.tx_plantext.specs.PlanFaults.{fault_row}
@@ -44,15 +44,13 @@ more_codes other = 0
 
 -- that a warning is of n codes more
 abbrev pub more_text : ℕ → List ℕ
-more_text zero = []
-more_text (suc n) = codes " .. and " ++ (decimal (suc n) ++ codes " more")
+more_text n = if n == 0 then [] else codes " .. and " ++ (decimal n ++ codes " more")
 
 -- that n lines need what a line at fault has left undeclared
 abbrev pub needing_text : ℕ → List ℕ
-needing_text zero = []
-needing_text (suc zero) = codes " .. and 1 line that needs it"
-needing_text (suc (suc n)) =
-    codes " .. and " ++ (decimal (suc (suc n)) ++ codes " lines that need it")
+needing_text n = if n == 0 then []
+    else if n == 1 then codes " .. and 1 line that needs it"
+    else codes " .. and " ++ (decimal n ++ codes " lines that need it")
 
 -- a word with a space before it, if there is one
 abbrev pub word_text : Option (List ℕ) → List ℕ

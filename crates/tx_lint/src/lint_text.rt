@@ -3,7 +3,7 @@ ghost use Rattle.std.specs.Prelude.{◌≡◌, ◌++◌, codes, map, option_map}
 ghost use Rattle.std.specs.List.{flat_map};
 ghost use Rattle.tx_text.specs.Puts.{Puts};
 ghost use Rattle.tx_text.specs.Wrote.{Wrote};
-ghost use Rattle.tx_lint.specs.LintText.{told_front, needing_text, more_text, fault_line, warning_word, warning_line};
+ghost use Rattle.tx_lint.specs.LintText.{word_text, told_front, needing_text, more_text, fault_line, warning_word, warning_line};
 ghost use Rattle.tx_lint.specs.Lints.{told_held, lint_held, lint_text};
 
 use crate::escaped::write_escaped;
@@ -129,6 +129,14 @@ fn write_front<'a, W: Sink>(
     let line = number.format(line).as_bytes();
     write_escaped(file, sink);
     put_parts(&[b":", line, b": ", row.0, b" ", row.1], sink);
+    write_word(word, sink);
+}
+
+/// Writes a word with a space before it, if there is one.
+fn write_word<W: Sink>(word: Option<&[u8]>, sink: &mut W)
+    ensures { Puts W.taken W.failed sink.old sink.new
+        (word_text (option_map (λ w. w.now) word.entry)) }
+{
     if let Some(word) = word {
         put_parts(&[b" ", word], sink);
     }
@@ -138,14 +146,14 @@ fn write_front<'a, W: Sink>(
 fn write_needing<W: Sink>(needing: u64, sink: &mut W)
     ensures { Puts W.taken W.failed sink.old sink.new (needing_text needing ++ codes "\n") }
 {
-    let mut number = Buffer::new();
-    match needing {
-        0 => put_bytes(b"\n", sink),
-        1 => put_bytes(b" .. and 1 line that needs it\n", sink),
-        _ => {
-            let needing = number.format(needing).as_bytes();
-            put_parts(&[b" .. and ", needing, b" lines that need it\n"], sink)
-        }
+    if needing == 0 {
+        put_bytes(b"\n", sink)
+    } else if needing == 1 {
+        put_bytes(b" .. and 1 line that needs it\n", sink)
+    } else {
+        let mut number = Buffer::new();
+        let needing = number.format(needing).as_bytes();
+        put_parts(&[b" .. and ", needing, b" lines that need it\n"], sink)
     }
 }
 
@@ -154,8 +162,10 @@ fn write_more<W: Sink>(more: usize, sink: &mut W)
     ensures { Puts W.taken W.failed sink.old sink.new (more_text more ++ codes "\n") }
 {
     if more == 0 {
-        return put_bytes(b"\n", sink);
+        put_bytes(b"\n", sink)
+    } else {
+        let mut number = Buffer::new();
+        let more = number.format(more).as_bytes();
+        put_parts(&[b" .. and ", more, b" more\n"], sink)
     }
-    let mut number = Buffer::new();
-    put_parts(&[b" .. and ", number.format(more).as_bytes(), b" more\n"], sink)
 }

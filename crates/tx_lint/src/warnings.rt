@@ -1,11 +1,11 @@
 // The warnings of a plan.
 ghost use Rattle.std.specs.Prelude.{◌≡◌, ◌++◌, map, length, slice_get, [], IfOk, OnOk};
 ghost use Rattle.std.specs.List.{flat_map, range_with_len};
-ghost use Rattle.std.specs.Option.{option_map_or};
+ghost use Rattle.std.specs.Option.{option_map_or, option_to_list};
 ghost use Rattle.tx_plan.specs.Codes.{is_prefix};
 ghost use Rattle.tx_plan.specs.Routes.{is_origin};
-ghost use Rattle.tx_lint.specs.declared.warning.Warning.TheVariants.{NoList, Ambiguous, SharedRisk};
-ghost use Rattle.tx_lint.specs.Warnings.{Coming, TellsWhereCallsCome, has_lines, wants_list, begins, is_unlisted, lie_in, is_mute, is_idle, is_alone, codes_where, warned_if, exchange_warnings, code_warnings, list_warnings, entry_warnings, warnings};
+ghost use Rattle.tx_lint.specs.declared.warning.Warning.TheVariants.{NoLines, UnusedList, NoList, Ambiguous, SharedRisk};
+ghost use Rattle.tx_lint.specs.Warnings.{Coming, TellsWhereCallsCome, has_lines, wants_list, begins, is_unlisted, lie_in, is_mute, is_idle, is_alone, codes_where, warned_once, warned_if, exchange_warnings, code_warnings, list_warnings, entry_warnings, warnings};
 ghost use Rattle.tx_lint.specs.inner.Marks.{coming_of, AreMarksOf};
 
 use crate::entry::Entry;
@@ -84,16 +84,43 @@ fn add_exchange<A: Allocator + Copy>(
         ++ map (λ w. (line, w)) (exchange_warnings plan.now (coming_of marks.now) exchange)) }
 {
     let mute = mute_codes(alloc, plan, exchange)?;
-    if let Some((code, others)) = mute.split_first() {
-        found.push((line, Warning::NoLines(*code, others.len())))?;
-    }
+    add_some(warn_of_mute(&mute), line, found)?;
     let idle = idle_codes(alloc, plan, marks, exchange)?;
-    if let Some((code, others)) = idle.split_first() {
-        found.push((line, Warning::UnusedList(*code, others.len())))?;
-    }
+    add_some(warn_of_idle(&idle), line, found)?;
     add_missing_lists(plan, exchange, marks.is_origin(exchange), line, found)?;
     let alone = is_alone(plan, exchange);
     add_if(alone, line, Warning::NoGroup(exchange), found)
+}
+
+/// Adds a warning, if there is one.
+fn add_some<A: Allocator>(
+    warning: Option<Warning>,
+    line: u64,
+    found: &mut Vec<(u64, Warning), A>,
+) -> Result<(), NoMemory>
+    ensures { OnOk result (found.new.items ≡ found.old.items
+        ++ map (λ w. (line, w)) (option_to_list warning)) }
+{
+    if let Some(warning) = warning {
+        found.push((line, warning))?;
+    }
+    Ok(())
+}
+
+/// The warning of codes without lines, if there are any.
+fn warn_of_mute(codes: &[CodeId]) -> Option<Warning>
+    ensures { option_to_list result ≡ warned_once NoLines codes.now }
+{
+    let (code, others) = codes.split_first()?;
+    Some(Warning::NoLines(*code, others.len()))
+}
+
+/// The warning of codes whose lists no call comes to, if there are any.
+fn warn_of_idle(codes: &[CodeId]) -> Option<Warning>
+    ensures { option_to_list result ≡ warned_once UnusedList codes.now }
+{
+    let (code, others) = codes.split_first()?;
+    Some(Warning::UnusedList(*code, others.len()))
 }
 
 /// The codes at home at the exchange that have no lines.

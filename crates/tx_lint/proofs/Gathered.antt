@@ -1,0 +1,63 @@
+-- Faults that are gathered one after another.
+use Rattle.std.proofs.Common.{◌≡◌, ℕ, zero, suc, ◌+◌, ◌<◌, ◌≤◌, List, [], ◌∷◌, ◌++◌, map, length, Option, Some, None, refl, sym, ap, subst, ◌∙◌, arith}
+use Rattle.std.specs.Prelude.{slice_get, set, option_and_then}
+use Rattle.std.specs.List.{AllByRecursion}
+use Rattle.tx_lint.specs.declared.gathering.Told.{Told as ToldHeld}
+use Rattle.tx_lint.specs.AllFaults.{Fault}
+use Rattle.tx_lint.specs.Gathered.{Told, Gathering, count_at, cause_in, gathered_by, gathered_on, name_needed}
+use Rattle.tx_lint.specs.Lints.{told_held}
+use Rattle.tx_lint.specs.inner.Gatherings.{AreFew}
+
+-- a bound that is one greater holds too
+few_more : (n : ℕ) (ts : List Told) → AllByRecursion (λ t. t.needing < n) ts
+    → AllByRecursion (λ t. t.needing < n + 1) ts
+few_more n [] all = tt
+few_more n (t ∷ ts) all = (omega (arith, all.0), few_more n ts all.1)
+
+few_counted : (n : ℕ) (ts : List Told) (i : ℕ) → AllByRecursion (λ t. t.needing < n) ts
+    → AllByRecursion (λ t. t.needing < n + 1) (count_at ts i)
+few_counted n [] i all = tt
+few_counted n (t ∷ ts) zero all = (omega (arith, all.0), few_more n ts all.1)
+few_counted n (t ∷ ts) (suc i) all = (omega (arith, all.0), few_counted n ts i all.1)
+
+few_told : (n : ℕ) (ts : List Told) (f : Fault) → AllByRecursion (λ t. t.needing < n) ts
+    → AllByRecursion (λ t. t.needing < n + 1) (ts ++ record { fault = f; needing = 0 } ∷ [])
+few_told n [] f all = (omega arith, tt)
+few_told n (t ∷ ts) f all = (omega (arith, all.0), few_told n ts f all.1)
+
+-- one fault more counts at most once
+pub few_on : (n : ℕ) (g : Gathering) (f : Fault) → AreFew n g → AreFew (n + 1) (gathered_on g f)
+few_on n g f few = by (option_and_then (cause_in g.missing) (name_needed f))
+  where
+    by : (o : Option ℕ) → AreFew (n + 1) (gathered_by g f o)
+    by (Some i) = few_counted n g.told i few
+    by None = few_told n g.told f few
+
+-- a smaller bound holds as well as a greater one
+pub few_within : (n m : ℕ) (ts : List Told) → n ≤ m → AllByRecursion (λ t. t.needing < n) ts
+    → AllByRecursion (λ t. t.needing < m) ts
+few_within n m [] le all = tt
+few_within n m (t ∷ ts) le all = (omega (arith, le, all.0), few_within n m ts le all.1)
+
+-- the one that is there has a small count
+pub few_at : (n : ℕ) (ts : List ToldHeld) (i : ℕ) (t : ToldHeld)
+    → AllByRecursion (λ s. s.needing < n) (map told_held ts) → slice_get ts i ≡ Some t
+    → t.needing < n
+few_at n [] i t all at = absurd (let bad : ⊥ = cc in bad)
+few_at n (s ∷ ts) zero t all at = let e : s ≡ t = cc in subst (λ (k : ToldHeld). k.needing < n) e all.0
+few_at n (s ∷ ts) (suc i) t all at = few_at n ts i t all.1 at
+
+-- the count of the one that is there is written
+pub counted_at : (ts : List ToldHeld) (i : ℕ) (t : ToldHeld) → slice_get ts i ≡ Some t
+    → map told_held (set ts i (record t { needing = t.needing + 1 })) ≡ count_at (map told_held ts) i
+counted_at [] i t at = absurd (let bad : ⊥ = cc in bad)
+counted_at (s ∷ ts) zero t at =
+    let e : s ≡ t = cc in
+    ap (λ (k : ToldHeld). record (told_held k) { needing = k.needing + 1 } ∷ map told_held ts) (sym e)
+counted_at (s ∷ ts) (suc i) t at = ap (λ l. told_held s ∷ l) (counted_at ts i t at)
+
+-- none is there, and none is counted
+pub none_at : (ts : List Told) (i : ℕ) → length ts ≤ i → count_at ts i ≡ ts
+none_at [] i out = refl
+none_at (t ∷ ts) zero out = absurd (omega (arith, out))
+none_at (t ∷ ts) (suc i) out = ap (λ l. t ∷ l) (none_at ts i (omega (arith, out)))
