@@ -1,5 +1,5 @@
 -- Warnings that are found one after another.
-use Rattle.std.proofs.Common.{◌≡◌, ℕ, ◌+◌, ◌≤◌, Bool, true, false, List, [], ◌∷◌, ◌++◌, map, filter, take, length, Option, Some, None, refl, ap, sym, subst, ◌∙◌, append-nil}
+use Rattle.std.proofs.Common.{◌≡◌, ℕ, ◌+◌, ◌<◌, ◌≤◌, Bool, true, false, List, [], ◌∷◌, ◌++◌, map, filter, take, length, Option, Some, None, refl, ap, sym, subst, ◌∙◌, append-nil}
 use Rattle.std.specs.Prelude.{◌||◌, ◌&&◌, ◌==◌, not, nat_lt, if◌then◌else◌, is_some, slice_get}
 use Rattle.std.specs.Option.{option_map, option_map_or}
 use Rattle.std.specs.List.{flat_map, range_with_len, list_any}
@@ -8,9 +8,11 @@ use Rattle.std.proofs.lemmas.List.{map-append, map-id, append_assoc, take_all}
 use Rattle.std.proofs.lemmas.List.Folds.{list_any_at, list_any_more}
 use Rattle.std.proofs.lemmas.List.FromFn.{filter_of_map_range_with_len_more}
 use Rattle.std.proofs.lemmas.Option.{slice_get_within, get_or_from_slice_get}
+use Rattle.tx_plan.specs.Circuits.{ends_of}
 use Rattle.tx_plan.specs.Plan.{Plan, Group, Route}
 use Rattle.tx_plan.specs.Rules.{IsPlan}
 use Rattle.tx_plan.specs.Routes.{route_list}
+use Rattle.tx_plan.proofs.ByIndex.{entry_at}
 use Rattle.tx_plan.proofs.ListFound.{list_found}
 use Rattle.tx_plan.specs.Codes.{after, is_prefix}
 use Rattle.tx_risk.specs.NamedRisks.{NamedRisk}
@@ -145,13 +147,44 @@ exchange_told p comes x line mute idle alone a b d e f m i l h k n o =
     (o ∙ ap (λ t. e ++ map (λ (w : Warning). (line, w)) (warned_if t (NoGroup x))) l))) in
     all ∙ (λ j. a ++ map (λ (w : Warning). (line, w)) (m j ++ (i j ++ (missing ++ none))))
 
--- no group of these has the exchange at an end
+abbrev pub has_end : (x : ℕ) → Group → Bool
+has_end x g = (g.a == x) || (g.b == x)
+
+-- the ends of the group at an index
+group_there : (p : Plan) (i : ℕ) → i < length p.groups
+    → (g : Group) × (slice_get p.groups i ≡ Some g) × (ends_of p i ≡ (g.a, g.b))
+group_there p i low =
+    let e = entry_at p.groups i low in
+    (e.0, e.1, ap (λ o. option_map_or (λ (r : Group). (r.a, r.b)) o (0, 0)) e.1)
+
+-- one has
+pub alone_there : (p : Plan) (i x : ℕ) (has : Bool) → i < length p.groups
+    → has ≡ (((ends_of p i).0 == x) || ((ends_of p i).1 == x)) → has ≡ true → false ≡ is_alone p x
+alone_there p i x has low is true-is =
+    let there = group_there p i low in
+    let passes : has_end x there.0 ≡ true =
+    ap (λ (k : ℕ × ℕ). (k.0 == x) || (k.1 == x)) (sym there.2.1) ∙ sym is ∙ true-is in
+    ap (λ b. not b && nat_lt 1 (length p.exchanges))
+    (any_there (has_end x) p.groups i there.0 there.2.0 passes)
+
+-- one more has not
+pub alone_more : (p : Plan) (i x : ℕ) (has : Bool) → i < length p.groups
+    → has ≡ (((ends_of p i).0 == x) || ((ends_of p i).1 == x)) → has ≡ false
+    → list_any (has_end x) (take i p.groups) ≡ false
+    → list_any (has_end x) (take (i + 1) p.groups) ≡ false
+alone_more p i x has low is false-is before =
+    let there = group_there p i low in
+    let fails : has_end x there.0 ≡ false =
+    ap (λ (k : ℕ × ℕ). (k.0 == x) || (k.1 == x)) (sym there.2.1) ∙ sym is ∙ false-is in
+    none_more (has_end x) p.groups i there.0 there.2.0 fails before
+
+-- none has
 pub alone_all : (p : Plan) (i x : ℕ) (more : Bool) → length p.groups ≤ i
-    → list_any (λ (g : Group). (g.a == x) || (g.b == x)) (take i p.groups) ≡ false
+    → list_any (has_end x) (take i p.groups) ≡ false
     → more ≡ nat_lt 1 (length p.exchanges) → more ≡ is_alone p x
 alone_all p i x more all none is =
     is ∙ ap (λ b. not b && nat_lt 1 (length p.exchanges)) (sym none)
-    ∙ ap (λ gs. not (list_any (λ (g : Group). (g.a == x) || (g.b == x)) gs) && nat_lt 1 (length p.exchanges))
+    ∙ ap (λ gs. not (list_any (has_end x) gs) && nat_lt 1 (length p.exchanges))
     (take_all i p.groups all)
 
 -- ---- a route, by its pair

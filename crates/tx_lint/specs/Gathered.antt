@@ -1,6 +1,6 @@
 -- One mistake is told once: the lines that need a name which a line at fault has left undeclared are
 -- counted there.
-use Rattle.std.specs.Prelude.{ℕ, zero, suc, ◌+◌, nat_lt, List, [], ◌∷◌, ◌++◌, map, length, fold, if◌then◌else◌, Option, Some, None}
+use Rattle.std.specs.Prelude.{ℕ, zero, suc, ◌+◌, nat_le, List, [], ◌∷◌, ◌++◌, map, length, fold, if◌then◌else◌, Option, Some, None}
 use Rattle.std.specs.Char.{to_ascii_uppercase}
 use Rattle.std.specs.Map.{lookup}
 use Rattle.std.specs.Option.{option_and_then}
@@ -15,7 +15,7 @@ use Rattle.tx_lint.specs.AllFaults.{Fault}
 
 -- a word as the name that was meant: in capitals, and none if it is too long for one
 abbrev pub as_name : List ℕ → Option (List ℕ)
-as_name w = if nat_lt 8 (length w) then None else Some (map to_ascii_uppercase w)
+as_name w = if nat_le (length w) 8 then Some (map to_ascii_uppercase w) else None
 
 -- of a word that is refused as unknown
 abbrev pub unknown_word : FaultKind PlanWord → Option (List ℕ) → Option (List ℕ)

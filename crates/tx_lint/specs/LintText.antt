@@ -42,15 +42,15 @@ more_codes (NoLines c n) = n
 more_codes (UnusedList c n) = n
 more_codes other = 0
 
--- that a warning is of n codes more
-abbrev pub more_text : ℕ → List ℕ
-more_text n = if n == 0 then [] else codes " .. and " ++ (decimal n ++ codes " more")
+-- the end of a warning that is of n codes more
+abbrev pub more_end : ℕ → List ℕ
+more_end n = if n == 0 then codes "\n" else codes " .. and " ++ (decimal n ++ codes " more\n")
 
--- that n lines need what a line at fault has left undeclared
-abbrev pub needing_text : ℕ → List ℕ
-needing_text n = if n == 0 then []
-    else if n == 1 then codes " .. and 1 line that needs it"
-    else codes " .. and " ++ (decimal n ++ codes " lines that need it")
+-- the end of the line of a fault, where n lines need what it has left undeclared
+abbrev pub needing_end : ℕ → List ℕ
+needing_end n = if n == 0 then codes "\n"
+    else if n == 1 then codes " .. and 1 line that needs it\n"
+    else codes " .. and " ++ (decimal n ++ codes " lines that need it\n")
 
 -- a word with a space before it, if there is one
 abbrev pub word_text : Option (List ℕ) → List ℕ
@@ -67,9 +67,9 @@ told_front file line row word =
 -- the line of a fault
 abbrev pub fault_line : (file : List ℕ) → Told → List ℕ
 fault_line file t = told_front file t.fault.line (fault_row t.fault.kind) t.fault.word
-    ++ (needing_text t.needing ++ codes "\n")
+    ++ needing_end t.needing
 
 -- the line of a warning
 abbrev pub warning_line : (file : List ℕ) → Plan → List NamedRisk → ℕ × Warning → List ℕ
 warning_line file p risks w = told_front file w.0 (warning_row w.1) (warning_word p risks w.1)
-    ++ (more_text (more_codes w.1) ++ codes "\n")
+    ++ more_end (more_codes w.1)

@@ -1,9 +1,9 @@
 // The writer of the faults or warnings of a text.
-ghost use Rattle.std.specs.Prelude.{◌≡◌, ◌++◌, codes, map, option_map};
+ghost use Rattle.std.specs.Prelude.{◌≡◌, map, option_map};
 ghost use Rattle.std.specs.List.{flat_map};
 ghost use Rattle.tx_text.specs.Puts.{Puts};
 ghost use Rattle.tx_text.specs.Wrote.{Wrote};
-ghost use Rattle.tx_lint.specs.LintText.{word_text, told_front, needing_text, more_text, fault_line, warning_word, warning_line};
+ghost use Rattle.tx_lint.specs.LintText.{word_text, told_front, needing_end, more_end, fault_line, warning_word, warning_line};
 ghost use Rattle.tx_lint.specs.Lints.{told_held, lint_held, lint_text};
 
 use crate::escaped::write_escaped;
@@ -144,7 +144,7 @@ fn write_word<W: Sink>(word: Option<&[u8]>, sink: &mut W)
 
 /// Writes how many lines need what a line at fault has left undeclared, and the end of the line.
 fn write_needing<W: Sink>(needing: u64, sink: &mut W)
-    ensures { Puts W.taken W.failed sink.old sink.new (needing_text needing ++ codes "\n") }
+    ensures { Puts W.taken W.failed sink.old sink.new (needing_end needing) }
 {
     if needing == 0 {
         put_bytes(b"\n", sink)
@@ -159,7 +159,7 @@ fn write_needing<W: Sink>(needing: u64, sink: &mut W)
 
 /// Writes how many more codes a warning is of, and the end of the line.
 fn write_more<W: Sink>(more: usize, sink: &mut W)
-    ensures { Puts W.taken W.failed sink.old sink.new (more_text more ++ codes "\n") }
+    ensures { Puts W.taken W.failed sink.old sink.new (more_end more) }
 {
     if more == 0 {
         put_bytes(b"\n", sink)

@@ -1,7 +1,8 @@
 // The warnings of a plan.
-ghost use Rattle.std.specs.Prelude.{◌≡◌, ◌++◌, map, length, slice_get, [], IfOk, OnOk};
+ghost use Rattle.std.specs.Prelude.{◌≡◌, ◌==◌, ◌||◌, ◌++◌, map, length, slice_get, [], IfOk, OnOk};
 ghost use Rattle.std.specs.List.{flat_map, range_with_len};
 ghost use Rattle.std.specs.Option.{option_map_or, option_to_list};
+ghost use Rattle.tx_plan.specs.Circuits.{ends_of};
 ghost use Rattle.tx_plan.specs.Codes.{is_prefix};
 ghost use Rattle.tx_plan.specs.Routes.{is_origin};
 ghost use Rattle.tx_lint.specs.declared.warning.Warning.TheVariants.{NoLines, UnusedList, NoList, Ambiguous, SharedRisk};
@@ -167,12 +168,20 @@ fn is_alone<A: Allocator>(plan: &Plan<A>, exchange: ExchangeId) -> bool
     ensures { result ≡ is_alone plan.now exchange }
 {
     for index in 0..plan.groups() {
-        let (a, b) = plan.ends(GroupId::of(index));
-        if a == exchange || b == exchange {
+        if is_end(plan, GroupId::of(index), exchange) {
             return false;
         }
     }
     plan.exchanges() > 1
+}
+
+/// Whether the exchange is an end of the group.
+fn is_end<A: Allocator>(plan: &Plan<A>, group: GroupId, exchange: ExchangeId) -> bool
+    ensures { result ≡ ((ends_of plan.now group).0 == exchange
+        || (ends_of plan.now group).1 == exchange) }
+{
+    let (a, b) = plan.ends(group);
+    a == exchange || b == exchange
 }
 
 /// Adds the warnings of a code.

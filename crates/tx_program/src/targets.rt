@@ -134,11 +134,7 @@ fn identify_target<'n, F: Folder>(
 }
 
 /// Refuses a file that is there and holds another kind of text.
-fn require_kind<F: Folder>(
-    file: KnownFile<'_>,
-    wanted: TextKind,
-    folder: &F,
-) -> Result<(), Stop> {
+fn require_kind<F: Folder>(file: KnownFile<'_>, wanted: TextKind, folder: &F) -> Result<(), Stop> {
     if !file.is_there() {
         return Ok(());
     }
