@@ -57,7 +57,8 @@ counted_at (s ∷ ts) zero t at =
 counted_at (s ∷ ts) (suc i) t at = ap (λ l. told_held s ∷ l) (counted_at ts i t at)
 
 -- none is there, and none is counted
-pub none_at : (ts : List Told) (i : ℕ) → length ts ≤ i → count_at ts i ≡ ts
+pub none_at : (ts : List ToldHeld) (i : ℕ) → length ts ≤ i
+    → map told_held ts ≡ count_at (map told_held ts) i
 none_at [] i out = refl
 none_at (t ∷ ts) zero out = absurd (omega (arith, out))
-none_at (t ∷ ts) (suc i) out = ap (λ l. t ∷ l) (none_at ts i (omega (arith, out)))
+none_at (t ∷ ts) (suc i) out = ap (λ l. told_held t ∷ l) (none_at ts i (omega (arith, out)))

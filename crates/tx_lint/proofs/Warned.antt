@@ -1,5 +1,5 @@
 -- Warnings that are found one after another.
-use Rattle.std.proofs.Common.{◌≡◌, ℕ, ◌+◌, ◌<◌, ◌≤◌, Bool, true, false, List, [], ◌∷◌, ◌++◌, map, filter, take, length, Option, Some, None, refl, ap, sym, subst, ◌∙◌, append-nil}
+use Rattle.std.proofs.Common.{◌≡◌, ℕ, ◌+◌, ◌<◌, ◌≤◌, Bool, true, false, List, [], ◌∷◌, ◌++◌, map, filter, take, length, Option, Some, None, refl, ap, sym, subst, ◌∙◌, append-nil, arith}
 use Rattle.std.specs.Prelude.{◌||◌, ◌&&◌, ◌==◌, not, nat_lt, if◌then◌else◌, is_some, slice_get}
 use Rattle.std.specs.Option.{option_map, option_map_or}
 use Rattle.std.specs.List.{flat_map, range_with_len, list_any}
@@ -123,8 +123,16 @@ pub where_more : (test : ℕ → Bool) (i : ℕ)
     ≡ filter test (range_with_len 0 i) ++ (if test i then i ∷ [] else [])
 where_more test i =
     ap (filter test) (sym (map-id (range_with_len 0 (i + 1))))
-    ∙ filter_of_map_range_with_len_more test (λ c. c) 0 i i refl
+    ∙ filter_of_map_range_with_len_more test (λ c. c) 0 i i (omega arith)
     ∙ ap (λ l. filter test l ++ (if test i then i ∷ [] else [])) (map-id (range_with_len 0 i))
+
+-- one code more was looked at
+pub next_where : (test : ℕ → Bool) (i c : ℕ) (reason : Bool) (a b : List ℕ)
+    → a ≡ filter test (range_with_len 0 i) → reason ≡ test c → c ≡ i
+    → b ≡ a ++ (if reason then c ∷ [] else []) → b ≡ filter test (range_with_len 0 (i + 1))
+next_where test i c reason a b before is same more =
+    more ∙ (λ j. before j ++ (if (is ∙ ap test same) j then same j ∷ [] else []))
+    ∙ sym (where_more test i)
 
 pub exchange_told : (p : Plan) (comes : Coming) (x line : ℕ) (mute idle : List Warning)
     (alone : Bool) (a b d e f : List (ℕ × Warning))
@@ -163,9 +171,9 @@ pub alone_there : (p : Plan) (i x : ℕ) (has : Bool) → i < length p.groups
 alone_there p i x has low is true-is =
     let there = group_there p i low in
     let passes : has_end x there.0 ≡ true =
-    ap (λ (k : ℕ × ℕ). (k.0 == x) || (k.1 == x)) (sym there.2.1) ∙ sym is ∙ true-is in
+    ap (λ (k : ℕ × ℕ). (k.0 == x) || (k.1 == x)) (sym there.2) ∙ sym is ∙ true-is in
     ap (λ b. not b && nat_lt 1 (length p.exchanges))
-    (any_there (has_end x) p.groups i there.0 there.2.0 passes)
+    (any_there (has_end x) p.groups i there.0 there.1 passes)
 
 -- one more has not
 pub alone_more : (p : Plan) (i x : ℕ) (has : Bool) → i < length p.groups
@@ -175,8 +183,8 @@ pub alone_more : (p : Plan) (i x : ℕ) (has : Bool) → i < length p.groups
 alone_more p i x has low is false-is before =
     let there = group_there p i low in
     let fails : has_end x there.0 ≡ false =
-    ap (λ (k : ℕ × ℕ). (k.0 == x) || (k.1 == x)) (sym there.2.1) ∙ sym is ∙ false-is in
-    none_more (has_end x) p.groups i there.0 there.2.0 fails before
+    ap (λ (k : ℕ × ℕ). (k.0 == x) || (k.1 == x)) (sym there.2) ∙ sym is ∙ false-is in
+    none_more (has_end x) p.groups i there.0 there.1 fails before
 
 -- none has
 pub alone_all : (p : Plan) (i x : ℕ) (more : Bool) → length p.groups ≤ i

@@ -29,10 +29,10 @@ impl<'t> Fault<'t> {
     /// A fault of the form of a line, at which no word is at fault by itself.
     pub(crate) fn of_line(line: TextLine<'t>, fault: FrameFault) -> Fault<'t>
         ensures { fault_held result ≡ record {
-          line = line.number;
+          line = line.entry.number;
           kind = Frame fault;
           word = None;
-          meant = meant_name (words_of line.text.now);
+          meant = meant_name (words_of line.entry.text.now);
         } }
     {
         Fault {

@@ -106,7 +106,7 @@ impl<'t, A: Allocator> Gathering<'t, A> {
 
     /// What is told.
     fn told(self) -> Vec<Told<'t>, A>
-        ensures { map told_held result.items ≡ (gathering_held self).told }
+        ensures { map told_held result.items ≡ (gathering_held self.entry).told }
     {
         let Self { told, missing } = self;
         drop(missing);

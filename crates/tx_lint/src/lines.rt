@@ -144,11 +144,14 @@ impl<'t, A: Allocator> Reading<'t, A> {
             Ok(()) => self.note(number, entry)?,
             Err(PlanRefusal::NoMemory) => return Err(WholeTextFault::NoMemory),
             Err(refusal) => {
+                let kind = FaultKind::Word(PlanWord::from(refusal));
+                let word = word_at_fault(self.plan.plan(), line, refusal);
+                let meant = meant_by(line);
                 self.tell(Fault {
                     line: number,
-                    kind: FaultKind::Word(PlanWord::from(refusal)),
-                    word: word_at_fault(self.plan.plan(), line, refusal),
-                    meant: meant_by(line),
+                    kind,
+                    word,
+                    meant,
                 })?;
             }
         }

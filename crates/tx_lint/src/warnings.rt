@@ -1,5 +1,5 @@
 // The warnings of a plan.
-ghost use Rattle.std.specs.Prelude.{◌≡◌, ◌==◌, ◌||◌, ◌++◌, map, length, slice_get, [], IfOk, OnOk};
+ghost use Rattle.std.specs.Prelude.{◌≡◌, ◌==◌, ◌||◌, ◌∷◌, ◌++◌, map, length, slice_get, if◌then◌else◌, [], IfOk, OnOk};
 ghost use Rattle.std.specs.List.{flat_map, range_with_len};
 ghost use Rattle.std.specs.Option.{option_map_or, option_to_list};
 ghost use Rattle.tx_plan.specs.Circuits.{ends_of};
@@ -136,11 +136,32 @@ fn mute_codes<A: Allocator + Copy>(
     let mut found = Vec::new(alloc);
     for index in 0..plan.codes() {
         let code = CodeId::of(index);
-        if plan.home(code) == exchange && !has_lines(plan, code) {
-            found.push(code)?;
-        }
+        let mute = is_mute(plan, exchange, code);
+        push_if(mute, code, &mut found)?;
     }
     Ok(found)
+}
+
+/// Whether the code is at home at the exchange, and has no lines.
+fn is_mute<A: Allocator>(plan: &Plan<A>, exchange: ExchangeId, code: CodeId) -> bool
+    ensures { result ≡ is_mute plan.now exchange code }
+{
+    plan.home(code) == exchange && !has_lines(plan, code)
+}
+
+/// Adds a code, if there is reason for it.
+fn push_if<A: Allocator>(
+    reason: bool,
+    code: CodeId,
+    found: &mut Vec<CodeId, A>,
+) -> Result<(), NoMemory>
+    ensures { OnOk result (found.new.items
+        ≡ found.old.items ++ (if reason then code ∷ [] else [])) }
+{
+    if reason {
+        found.push(code)?;
+    }
+    Ok(())
 }
 
 /// The codes for which the exchange has a list, and no call comes there.
@@ -156,11 +177,22 @@ fn idle_codes<A: Allocator + Copy>(
     let mut found = Vec::new(alloc);
     for index in 0..plan.codes() {
         let code = CodeId::of(index);
-        if !plan.list(exchange, code).is_empty() && !marks.comes(code, exchange) {
-            found.push(code)?;
-        }
+        let idle = is_idle(plan, marks, exchange, code);
+        push_if(idle, code, &mut found)?;
     }
     Ok(found)
+}
+
+/// Whether the exchange has a list for the code, and no call for it comes there.
+fn is_idle<A: Allocator>(
+    plan: &Plan<A>,
+    marks: &Marks<A>,
+    exchange: ExchangeId,
+    code: CodeId,
+) -> bool
+    ensures { result ≡ is_idle plan.now (coming_of marks.now) exchange code }
+{
+    !plan.list(exchange, code).is_empty() && !marks.comes(code, exchange)
 }
 
 /// Whether no group leads to the exchange or from it, and it is not the only exchange.

@@ -54,6 +54,7 @@ impl TextKind {
 }
 
 /// The first word of a file, so far as it was read.
+#[derive(Clone, Copy)]
 struct FirstWord {
     /// Its letters as capitals: one more than the longest header has.
     letters: [u8; 7],
