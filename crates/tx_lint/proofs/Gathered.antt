@@ -1,11 +1,13 @@
 -- Faults that are gathered one after another.
-use Rattle.std.proofs.Common.{◌≡◌, ℕ, zero, suc, ◌+◌, ◌<◌, ◌≤◌, List, [], ◌∷◌, ◌++◌, map, length, Option, Some, None, refl, sym, ap, subst, ◌∙◌, arith}
+use Rattle.std.proofs.Common.{◌≡◌, ℕ, zero, suc, ◌+◌, ◌<◌, ◌≤◌, List, [], ◌∷◌, ◌++◌, map, length, fold, take, get_or, Option, Some, None, refl, sym, ap, subst, ◌∙◌, arith}
 use Rattle.std.specs.Prelude.{slice_get, set, option_and_then}
 use Rattle.std.specs.List.{AllByRecursion}
+use Rattle.std.proofs.lemmas.List.Sums.{fold_more}
+use Rattle.tx_lint.specs.declared.fault.Fault.{Fault as FaultHeld}
 use Rattle.tx_lint.specs.declared.gathering.Told.{Told as ToldHeld}
 use Rattle.tx_lint.specs.AllFaults.{Fault}
-use Rattle.tx_lint.specs.Gathered.{Told, Gathering, count_at, cause_in, gathered_by, gathered_on, name_needed}
-use Rattle.tx_lint.specs.Lints.{told_held}
+use Rattle.tx_lint.specs.Gathered.{Told, Gathering, count_at, cause_in, gathered_by, gathered_on, name_needed, no_gathering}
+use Rattle.tx_lint.specs.Lints.{fault_held, told_held}
 use Rattle.tx_lint.specs.inner.Gatherings.{AreFew}
 
 -- a bound that is one greater holds too
@@ -32,6 +34,20 @@ few_on n g f few = by (option_and_then (cause_in g.missing) (name_needed f))
     by : (o : Option ℕ) → AreFew (n + 1) (gathered_by g f o)
     by (Some i) = few_counted n g.told i few
     by None = few_told n g.told f few
+
+-- one fault more, as it is held
+abbrev pub on_held : Gathering → FaultHeld → Gathering
+on_held g f = gathered_on g (fault_held f)
+
+-- the next fault was taken
+pub gathered_next : (faults : List FaultHeld) (i : ℕ) (d : FaultHeld) (old new : Gathering)
+    → i < length faults → old ≡ fold on_held no_gathering (take i faults) → AreFew (i + 1) old
+    → new ≡ on_held old (get_or faults i d)
+    → (new ≡ fold on_held no_gathering (take (i + 1) faults)) × AreFew ((i + 1) + 1) new
+gathered_next faults i d old new low before few more = (
+  more ∙ ap (λ g. on_held g (get_or faults i d)) before ∙ sym (fold_more on_held no_gathering faults i d low),
+  subst (AreFew ((i + 1) + 1)) (sym more) (few_on (i + 1) old (fault_held (get_or faults i d)) few),
+)
 
 -- a smaller bound holds as well as a greater one
 pub few_within : (n m : ℕ) (ts : List Told) → n ≤ m → AllByRecursion (λ t. t.needing < n) ts

@@ -64,7 +64,7 @@ struct FirstWord {
 
 impl FirstWord {
     /// That of a file, or of what can be read of it.
-    fn of<R: Read>(file: R) -> FirstWord {
+    fn of<R: Read + Drop>(file: R) -> FirstWord {
         let mut word = FirstWord {
             letters: [0; 7],
             len: 0,

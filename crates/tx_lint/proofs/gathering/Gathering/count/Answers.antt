@@ -23,5 +23,4 @@ returns-in-Some g c =
 pub returns-in_default : goal.returns-in_default
 returns-in_default g c =
     let told = c.args.self.now.told.items in
-    let item = rw c.in_default.is at c.in_default.ensures.item in
-    λ j. record { told = none_at told c.args.index item.3 j; missing = c.args.self.now.missing.entries }
+    λ j. record { told = none_at told c.args.index c.in_default.ensures.item.3 j; missing = c.args.self.now.missing.entries }
