@@ -1,4 +1,4 @@
-use Rattle.std.proofs.Common.{◌≡◌, ◌∙◌, ◌≤◌, length, fold, sym, ap, arith}
+use Rattle.std.proofs.Common.{◌∙◌, ◌≤◌, length, fold, sym, ap, arith}
 use Rattle.std.proofs.lemmas.List.{take_all}
 use Rattle.std.proofs.lemmas.List.Folds.{fold-map}
 use Rattle.tx_lint.specs.Gathered.{Gathering, gathered_on, no_gathering}

@@ -1,4 +1,4 @@
-use Rattle.std.proofs.Common.{◌≡◌, ◌≤◌, ◌<◌, ◌∙◌, length, ap, sym, arith, rules}
+use Rattle.std.proofs.Common.{◌≤◌, ◌<◌, length, arith, rules}
 use Rattle.tx_lint.proofs.Warned.{alone_there, alone_more, alone_all}
 use Rattle.tx_lint.proofs.warnings.is_alone.Goals as goal
 

@@ -1,7 +1,5 @@
-use Rattle.std.proofs.Common.{◌≡◌, ◌+◌, ◌<◌, ◌^◌, ◌∙◌, Some, sym, ap, arith, rules}
-use Rattle.std.specs.Prelude.{slice_get}
+use Rattle.std.proofs.Common.{◌^◌, ◌∙◌, Some, sym, ap, arith}
 use Rattle.std.proofs.lemmas.Option.{slice_get-get_or}
-use Rattle.tx_lint.specs.Gathered.{Told, Gathering}
 use Rattle.tx_lint.proofs.Gathered.{few_at, counted_at, none_at}
 use Rattle.tx_lint.proofs.gathering.Gathering.count.Goals as goal
 
