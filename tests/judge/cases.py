@@ -5,6 +5,7 @@ from random import Random
 from audit import is_safe, judge_audit, judge_cert_faults, judge_codes, judge_grade
 from change import judge_change
 from families import FAMILIES, PAIRS, SMALL, ambiguous_plans, code_plans, packed, random_network, random_pair, random_plan, random_risks, seeded
+from lint import judge_lint, spoiled
 from mend import is_mendable, judge_mend
 from order import judge_order
 from plans import contradiction
@@ -127,9 +128,16 @@ def random_trace(rng):
     return 1, judge
 
 
+def random_lint(rng):
+    """The text of a random plan, most often with a few mistakes."""
+    text = spoiled(rng, random_plan(rng).text)
+    return 1, lambda program: judge_lint(program, text)
+
+
 TOPICS = {
     **{f"audit, grade: {name}": lambda it=it: audits(it) for name, it in FAMILIES.items()},
     **{f"audit, survive: {name}": lambda it=it: graded(it) for name, it in {**SMALL, **FAMILIES}.items()},
+    "lint: random": lambda: seeded(800, "lints", random_lint),
     "codes: one exchange": lambda: (single(Random(n), plan) for n, plan in enumerate(code_plans())),
     "audit, check, grade: ambiguous": lambda: (single(Random(n), plan) for n, plan in enumerate(ambiguous_plans())),
     "audit, check, grade, survive: random": lambda: seeded(800, "plans", lambda rng: single(rng, random_plan(rng))),

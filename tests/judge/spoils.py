@@ -98,7 +98,7 @@ def too_early(parts):
 # The topic whose cases are spoiled, of each command.
 CASES = dict.fromkeys(("audit", "check", "grade", "survive"), "audit, check, grade, survive: random")
 CASES["from"] = "survive --from: random"  # of `survive`
-CASES.update({"codes": "codes: one exchange", **{it: f"{it}: random" for it in ("mend", "change", "order", "trace")}})
+CASES.update({"codes": "codes: one exchange", **{it: f"{it}: random" for it in ("lint", "mend", "change", "order", "trace")}})
 
 # Each spoil: the commands whose answers it changes, and how.
 WAYS = [
@@ -123,6 +123,10 @@ WAYS = [
     ("grade", "a greater spare number", put(r"^(CODE .* SPARE )(\d+)", more)),
     ("grade", "a code without its grade", put(r"^(CODE \d+) LIMIT.*", r"\1 NONE")),
     ("grade", "a grade where there is none", put(r"^(CODE \d+) NONE", r"\1 LIMIT 0 SPARE 0")),
+    ("lint", "a fault or warning left out", without("p:")),
+    ("lint", "a line more that needs it", put(r"^(p:.* .. and )(\d+)", more)),
+    ("lint", "another line", put(r"^(p:)(\d+)", more)),
+    ("lint", "another word", put(r"^(p:\d+: \w+ \w+) \w+", r"\1 NONE")),
     ("codes", "no ambiguous pair", put("^AMBIGUOUS.*", "DISTINCT")),
     ("codes", "a code left out", without("CODE")),
     ("check", "another fault", put(r"^(NO K)(\d)", more)),

@@ -43,7 +43,7 @@ impl From<AllocError> for Misuse {
 }
 
 /// The codes and words that are explained.
-const EXPLAINED: &str = "There are X1 to X3, P3 to P22, A1 to A9, C1 to C10, S1 to S7, Q1 to Q11,
+const EXPLAINED: &str = "There are X1 to X3, P3 to P22, A1 to A10, C1 to C10, S1 to S7, Q1 to Q11,
 M1 to M12, K1 to K7 and F1 to F5, those of a ticket, as NC or CLRA, the names,
 as Overlap, and the words of reports, as CUT";
 

@@ -2,7 +2,7 @@
 use crate::code_table::Entry;
 
 /// The codes of warnings (A), of a check (K) and of findings (F).
-pub static PLAN_CODES: [Entry; 21] = [
+pub static PLAN_CODES: [Entry; 22] = [
     [
         "A1",
         "NothingToJudge",
@@ -12,7 +12,7 @@ pub static PLAN_CODES: [Entry; 21] = [
     [
         "A2",
         "NoLines",
-        "The code has no LINES, so nobody can be called there.",
+        "A code at home at the exchange has no LINES, so nobody can be called there. The first is named, and how many more there are.",
         "Declare its lines, or drop the code.",
     ],
     [
@@ -24,8 +24,8 @@ pub static PLAN_CODES: [Entry; 21] = [
     [
         "A4",
         "UnusedList",
-        "No call for the code of the list comes to its exchange.",
-        "Drop the list, or let another list lead there.",
+        "The exchange has a list for the code, and no call for it comes there. The first such code is named, and how many more there are.",
+        "Drop the list, or let another list lead there. If no code that is at home at the exchange has LINES, no call starts there.",
     ],
     [
         "A5",
@@ -56,6 +56,12 @@ pub static PLAN_CODES: [Entry; 21] = [
         "Unlisted",
         "No exchange has a list for the code, so calls for it come no further than where they start.",
         "Write ROUTE lines for it, or drop the code.",
+    ],
+    [
+        "A10",
+        "NoGroup",
+        "No group leads to the exchange or from it.",
+        "Write GROUP lines for it, or drop the exchange.",
     ],
     [
         "K1",

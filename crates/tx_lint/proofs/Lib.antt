@@ -1,5 +1,6 @@
 pub mod Agreeing
 pub mod AllRead
+pub mod Gathered
 pub mod Linted
 pub mod Marked
 pub mod Texts

@@ -6,6 +6,7 @@ use Rattle.tx_risk.specs.NamedRisks.{NamedRisk}
 use Rattle.tx_lint.specs.declared.entry.Entry.{Entry}
 use Rattle.tx_lint.specs.declared.fault.Fault.{Fault as FaultHeld}
 use Rattle.tx_lint.specs.AllFaults.{Fault, Progress}
+use Rattle.tx_lint.specs.Gathered.{Told, told_of}
 use Rattle.tx_lint.specs.Lints.{Lint, Faults, AreWarningsOf, IsLintBy, fault_held}
 
 -- some faults were reported
@@ -22,8 +23,8 @@ no_faults (f ∷ held) fs n long none e =
     let zero = eqb-true n 0 none in absurd (omega (arith, zero, long))
 
 -- of a text with faults
-pub faulty_is : (faults : List Fault) (s : Progress) (risks : List NamedRisk) (told : List Fault)
-    → told ≡ faults → faults ≢ [] → IsLintBy faults s risks (Faults told)
+pub faulty_is : (faults : List Fault) (s : Progress) (risks : List NamedRisk) (told : List Told)
+    → told ≡ told_of faults → faults ≢ [] → IsLintBy faults s risks (Faults told)
 faulty_is [] s risks told e some = absurd (some refl)
 faulty_is (f ∷ fs) s risks told e some = ap Faults e
 

@@ -1,23 +1,26 @@
 -- Warnings that are found one after another.
-use Rattle.std.proofs.Common.{◌≡◌, ℕ, ◌+◌, ◌≤◌, Bool, true, false, List, [], ◌∷◌, ◌++◌, map, take, length, Option, Some, None, refl, ap, sym, subst, ◌∙◌, append-nil}
+use Rattle.std.proofs.Common.{◌≡◌, ℕ, ◌+◌, ◌<◌, ◌≤◌, Bool, true, false, List, [], ◌∷◌, ◌++◌, map, filter, take, length, Option, Some, None, refl, ap, sym, subst, ◌∙◌, append-nil, arith}
 use Rattle.std.specs.Prelude.{◌||◌, ◌&&◌, ◌==◌, not, nat_lt, if◌then◌else◌, is_some, slice_get}
 use Rattle.std.specs.Option.{option_map, option_map_or}
 use Rattle.std.specs.List.{flat_map, range_with_len, list_any}
 use Rattle.std.specs.Cmp.Lexicographic.{pointwise}
-use Rattle.std.proofs.lemmas.List.{map-append, append_assoc, take_all}
+use Rattle.std.proofs.lemmas.List.{map-append, map-id, append_assoc, take_all}
 use Rattle.std.proofs.lemmas.List.Folds.{list_any_at, list_any_more}
+use Rattle.std.proofs.lemmas.List.FromFn.{filter_of_map_range_with_len_more}
 use Rattle.std.proofs.lemmas.Option.{slice_get_within, get_or_from_slice_get}
-use Rattle.tx_plan.specs.Plan.{Plan, Route}
+use Rattle.tx_plan.specs.Circuits.{ends_of}
+use Rattle.tx_plan.specs.Plan.{Plan, Group, Route}
 use Rattle.tx_plan.specs.Rules.{IsPlan}
 use Rattle.tx_plan.specs.Routes.{route_list}
+use Rattle.tx_plan.proofs.ByIndex.{entry_at}
 use Rattle.tx_plan.proofs.ListFound.{list_found}
 use Rattle.tx_plan.specs.Codes.{after, is_prefix}
 use Rattle.tx_risk.specs.NamedRisks.{NamedRisk}
 use Rattle.tx_text.proofs.Ranges.{flat_map-range_more}
 use Rattle.tx_lint.specs.declared.entry.Entry.{Entry}
 use Rattle.tx_lint.specs.declared.warning.Warning.{Warning}
-use Rattle.tx_lint.specs.declared.warning.Warning.TheVariants.{NoLines, UnusedList, NoList, Ambiguous, SharedRisk, Unlisted}
-use Rattle.tx_lint.specs.Warnings.{Coming, has_lines, wants_list, begins, is_unlisted, lie_in, warned_if, code_warnings, list_warnings, entry_warnings}
+use Rattle.tx_lint.specs.declared.warning.Warning.TheVariants.{NoLines, UnusedList, NoList, Ambiguous, SharedRisk, Unlisted, NoGroup}
+use Rattle.tx_lint.specs.Warnings.{Coming, wants_list, begins, is_unlisted, lie_in, is_mute, is_idle, is_alone, codes_where, warned_once, warned_if, exchange_warnings, code_warnings, list_warnings, entry_warnings}
 
 -- the warnings of an entry, with its line
 abbrev pub told_of : Plan → List NamedRisk → Coming → ℕ × Entry → List (ℕ × Warning)
@@ -100,23 +103,97 @@ missing_is p x i c wanting is same = λ j. warned_if ((is ∙ ap (wants_list p x
 
 -- ---- all warnings of a code
 
-pub code_told : (p : Plan) (c line : ℕ) (lines unlisted : Bool) (a b d e : List (ℕ × Warning))
-    → lines ≡ has_lines p c → unlisted ≡ is_unlisted p c
-    → b ≡ a ++ map (λ w. (line, w)) (warned_if (not lines) (NoLines c))
-    → d ≡ b ++ map (λ w. (line, w))
+pub code_told : (p : Plan) (c line : ℕ) (unlisted : Bool) (a b d : List (ℕ × Warning))
+    → unlisted ≡ is_unlisted p c
+    → b ≡ a ++ map (λ w. (line, w))
     (flat_map (ambiguous_with p c) (range_with_len 0 (length p.codes)))
-    → e ≡ d ++ map (λ w. (line, w)) (warned_if unlisted (Unlisted c))
-    → e ≡ a ++ map (λ w. (line, w)) (code_warnings p c)
-code_told p c line lines unlisted a b d e some none f g h =
+    → d ≡ b ++ map (λ w. (line, w)) (warned_if unlisted (Unlisted c))
+    → d ≡ a ++ map (λ w. (line, w)) (code_warnings p c)
+code_told p c line unlisted a b d none f g =
     let with_line : Warning → ℕ × Warning = λ w. (line, w) in
     let ambiguous = flat_map (ambiguous_with p c) (range_with_len 0 (length p.codes)) in
-    let first : b ≡ a ++ map with_line (warned_if (not (has_lines p c)) (NoLines c)) =
-    f ∙ ap (λ t. a ++ map with_line (warned_if (not t) (NoLines c))) some in
-    let last : e ≡ d ++ map with_line (warned_if (is_unlisted p c) (Unlisted c)) =
-    h ∙ ap (λ t. d ++ map with_line (warned_if t (Unlisted c))) none in
-    both_told line (warned_if (not (has_lines p c)) (NoLines c))
-    (ambiguous ++ warned_if (is_unlisted p c) (Unlisted c)) a b e first
-    (both_told line ambiguous (warned_if (is_unlisted p c) (Unlisted c)) b d e g last)
+    both_told line ambiguous (warned_if (is_unlisted p c) (Unlisted c)) a b d f
+    (g ∙ ap (λ t. b ++ map with_line (warned_if t (Unlisted c))) none)
+
+-- ---- all warnings of an exchange
+
+-- one code more may be of those for which a test holds
+pub where_more : (test : ℕ → Bool) (i : ℕ)
+    → filter test (range_with_len 0 (i + 1))
+    ≡ filter test (range_with_len 0 i) ++ (if test i then i ∷ [] else [])
+where_more test i =
+    ap (filter test) (sym (map-id (range_with_len 0 (i + 1))))
+    ∙ filter_of_map_range_with_len_more test (λ c. c) 0 i i (omega arith)
+    ∙ ap (λ l. filter test l ++ (if test i then i ∷ [] else [])) (map-id (range_with_len 0 i))
+
+-- one code more was looked at
+pub next_where : (test : ℕ → Bool) (i c : ℕ) (reason : Bool) (a b : List ℕ)
+    → a ≡ filter test (range_with_len 0 i) → reason ≡ test c → c ≡ i
+    → b ≡ a ++ (if reason then c ∷ [] else []) → b ≡ filter test (range_with_len 0 (i + 1))
+next_where test i c reason a b before is same more =
+    more ∙ (λ j. before j ++ (if (is ∙ ap test same) j then same j ∷ [] else []))
+    ∙ sym (where_more test i)
+
+pub exchange_told : (p : Plan) (comes : Coming) (x line : ℕ) (mute idle : List Warning)
+    (alone : Bool) (a b d e f : List (ℕ × Warning))
+    → mute ≡ warned_once NoLines (codes_where p (is_mute p x))
+    → idle ≡ warned_once UnusedList (codes_where p (is_idle p comes x))
+    → alone ≡ is_alone p x
+    → b ≡ a ++ map (λ w. (line, w)) mute
+    → d ≡ b ++ map (λ w. (line, w)) idle
+    → e ≡ d ++ map (λ w. (line, w))
+    (flat_map (missing_list p x) (range_with_len 0 (length p.codes)))
+    → f ≡ e ++ map (λ w. (line, w)) (warned_if alone (NoGroup x))
+    → f ≡ a ++ map (λ w. (line, w)) (exchange_warnings p comes x)
+exchange_told p comes x line mute idle alone a b d e f m i l h k n o =
+    let missing = flat_map (missing_list p x) (range_with_len 0 (length p.codes)) in
+    let none = warned_if (is_alone p x) (NoGroup x) in
+    let all : f ≡ a ++ map (λ w. (line, w)) (mute ++ (idle ++ (missing ++ none))) =
+    both_told line mute (idle ++ (missing ++ none)) a b f h
+    (both_told line idle (missing ++ none) b d f k
+    (both_told line missing none d e f n
+    (o ∙ ap (λ t. e ++ map (λ (w : Warning). (line, w)) (warned_if t (NoGroup x))) l))) in
+    all ∙ (λ j. a ++ map (λ (w : Warning). (line, w)) (m j ++ (i j ++ (missing ++ none))))
+
+abbrev pub has_end : (x : ℕ) → Group → Bool
+has_end x g = (g.a == x) || (g.b == x)
+
+-- the ends of the group at an index
+group_there : (p : Plan) (i : ℕ) → i < length p.groups
+    → (g : Group) × (slice_get p.groups i ≡ Some g) × (ends_of p i ≡ (g.a, g.b))
+group_there p i low =
+    let e = entry_at p.groups i low in
+    (e.0, e.1, ap (λ o. option_map_or (λ (r : Group). (r.a, r.b)) o (0, 0)) e.1)
+
+-- one has
+pub alone_there : (p : Plan) (i x : ℕ) (has : Bool) → i < length p.groups
+    → has ≡ (((ends_of p i).0 == x) || ((ends_of p i).1 == x)) → has ≡ true → false ≡ is_alone p x
+alone_there p i x has low is true-is =
+    let there = group_there p i low in
+    let passes : has_end x there.0 ≡ true =
+    ap (λ (k : ℕ × ℕ). (k.0 == x) || (k.1 == x)) (sym there.2) ∙ sym is ∙ true-is in
+    ap (λ b. not b && nat_lt 1 (length p.exchanges))
+    (any_there (has_end x) p.groups i there.0 there.1 passes)
+
+-- one more has not
+pub alone_more : (p : Plan) (i x : ℕ) (has : Bool) → i < length p.groups
+    → has ≡ (((ends_of p i).0 == x) || ((ends_of p i).1 == x)) → has ≡ false
+    → list_any (has_end x) (take i p.groups) ≡ false
+    → list_any (has_end x) (take (i + 1) p.groups) ≡ false
+alone_more p i x has low is false-is before =
+    let there = group_there p i low in
+    let fails : has_end x there.0 ≡ false =
+    ap (λ (k : ℕ × ℕ). (k.0 == x) || (k.1 == x)) (sym there.2) ∙ sym is ∙ false-is in
+    none_more (has_end x) p.groups i there.0 there.1 fails before
+
+-- none has
+pub alone_all : (p : Plan) (i x : ℕ) (more : Bool) → length p.groups ≤ i
+    → list_any (has_end x) (take i p.groups) ≡ false
+    → more ≡ nat_lt 1 (length p.exchanges) → more ≡ is_alone p x
+alone_all p i x more all none is =
+    is ∙ ap (λ b. not b && nat_lt 1 (length p.exchanges)) (sym none)
+    ∙ ap (λ gs. not (list_any (has_end x) gs) && nat_lt 1 (length p.exchanges))
+    (take_all i p.groups all)
 
 -- ---- a route, by its pair
 
@@ -165,16 +242,15 @@ unlisted_all p i c more all none is =
 
 -- ---- all warnings of a list
 
-pub list_told : (p : Plan) (risks : List NamedRisk) (comes : Coming) (i line : ℕ) (k : ℕ × ℕ)
-    (groups : List ℕ) (coming : Bool) (a b e : List (ℕ × Warning)) → IsPlan p
+pub list_told : (p : Plan) (risks : List NamedRisk) (i line : ℕ) (k : ℕ × ℕ)
+    (groups : List ℕ) (a b : List (ℕ × Warning)) → IsPlan p
     → Some k ≡ option_map pair_of (slice_get p.routes i)
-    → groups ≡ route_list p k.0 k.1 → coming ≡ comes k.1 k.0
-    → b ≡ a ++ map (λ w. (line, w)) (warned_if (not coming) UnusedList)
-    → e ≡ b ++ map (λ w. (line, w))
+    → groups ≡ route_list p k.0 k.1
+    → b ≡ a ++ map (λ w. (line, w))
     (flat_map (shared_by p risks groups) (range_with_len 0 (length risks)))
-    → e ≡ a ++ map (λ w. (line, w))
-    (option_map_or (list_warnings p risks comes) (slice_get p.routes i) [])
-list_told p risks comes i line k groups coming a b e ok got list is f g =
+    → b ≡ a ++ map (λ w. (line, w))
+    (option_map_or (list_warnings p risks) (slice_get p.routes i) [])
+list_told p risks i line k groups a b ok got list f =
     let with_line : Warning → ℕ × Warning = λ w. (line, w) in
     let there = route_of_pair p i k got in
     let r = there.0 in
@@ -183,25 +259,19 @@ list_told p risks comes i line k groups coming a b e ok got list is f g =
     (λ j. route_list p (key j).0 (key j).1) ∙ list_found p i r ok there.1 in
     let shared : List ℕ → List Warning =
     λ gs. flat_map (shared_by p risks gs) (range_with_len 0 (length risks)) in
-    let first : b ≡ a ++ map with_line (warned_if (not (comes r.code r.exchange)) UnusedList) =
-    f ∙ ap (λ t. a ++ map with_line (warned_if (not t) UnusedList))
-    (is ∙ (λ j. comes (key j).1 (key j).0)) in
-    let last : e ≡ b ++ map with_line (shared r.groups) =
-    g ∙ ap (λ gs. b ++ map with_line (shared gs)) (list ∙ same) in
-    subst (λ o. e ≡ a ++ map with_line (option_map_or (list_warnings p risks comes) o []))
+    subst (λ o. b ≡ a ++ map with_line (option_map_or (list_warnings p risks) o []))
     (sym there.1)
-    (both_told line (warned_if (not (comes r.code r.exchange)) UnusedList) (shared r.groups) a b e
-    first last)
+    (f ∙ ap (λ gs. a ++ map with_line (shared gs)) (list ∙ same))
 
 -- an index without a route
-pub none_told : (p : Plan) (risks : List NamedRisk) (comes : Coming) (i line : ℕ)
+pub none_told : (p : Plan) (risks : List NamedRisk) (i line : ℕ)
     (a : List (ℕ × Warning))
     → None ≡ option_map pair_of (slice_get p.routes i)
     → a ≡ a ++ map (λ w. (line, w))
-    (option_map_or (list_warnings p risks comes) (slice_get p.routes i) [])
-none_told p risks comes i line a none = by (slice_get p.routes i) none
+    (option_map_or (list_warnings p risks) (slice_get p.routes i) [])
+none_told p risks i line a none = by (slice_get p.routes i) none
   where
     by : (o : Option Route) → None ≡ option_map pair_of o
-        → a ≡ a ++ map (λ w. (line, w)) (option_map_or (list_warnings p risks comes) o [])
+        → a ≡ a ++ map (λ w. (line, w)) (option_map_or (list_warnings p risks) o [])
     by None e = sym (append-nil a)
     by (Some r) e = absurd (let bad : ⊥ = cc in bad)

@@ -20,13 +20,15 @@ use Rattle.tx_plantext.specs.declared.fault.PlanWord.{PlanWord}
 use Rattle.tx_plantext.specs.PlanText.{Said, declare}
 use Rattle.tx_lint.specs.declared.entry.Entry.{Entry}
 use Rattle.tx_lint.specs.declared.entry.Entry.TheVariants.{Header}
-use Rattle.tx_lint.specs.AtFault.{entry_of, word_at_fault}
+use Rattle.tx_lint.specs.AtFault.{entry_of, word_at_fault, meant_name}
 
--- A fault: its line, what is wrong, and the word at fault, where one is
+-- A fault: its line, what is wrong, the word at fault, where one is, and the name that the line was
+-- meant to declare, if it was meant to declare one
 pub record Fault : Type 0 where
   pub line : ℕ
   pub kind : FaultKind PlanWord
   pub word : Option (List ℕ)
+  pub meant : Option (List ℕ)
 
 -- What was read of a text: which part of it is to come, the version of its header, what its lines
 -- declare, and at which line each entry is, in order of the lines
@@ -78,7 +80,12 @@ line_kind s l = bytes_first (bytes_fault l.bytes) (words_kind s l.finished (word
 
 -- the fault of the line with this number and these words
 abbrev pub fault_in_line : Progress → ℕ → List (List ℕ) → FaultKind PlanWord → Fault
-fault_in_line s n ws k = record { line = n; kind = k; word = word_at_fault s.plan ws k }
+fault_in_line s n ws k = record {
+  line = n;
+  kind = k;
+  word = word_at_fault s.plan ws k;
+  meant = meant_name ws;
+}
 
 -- the fault of a line, if it has one
 abbrev pub fault_of_line : Progress → Line → Option Fault
@@ -86,7 +93,7 @@ fault_of_line s l = option_map (fault_in_line s l.number (words_of l.bytes)) (li
 
 -- a fault of the end of a text, at this line
 abbrev pub fault_at_end : ℕ → FaultKind PlanWord → Fault
-fault_at_end n k = record { line = n; kind = k; word = None }
+fault_at_end n k = record { line = n; kind = k; word = None; meant = None }
 
 -- the fault of the end of a text, if it has one: n is the number of its finished lines and one
 abbrev pub fault_of_end : ℕ → FramePart → Option Fault

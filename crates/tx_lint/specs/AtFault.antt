@@ -1,7 +1,7 @@
 -- The word at fault in a line that is refused. There is one where one word is at fault by itself:
 -- of a number of words, of a range's ends, of an exchange and a code that do not go together, and
 -- of too many entries none is.
-use Rattle.std.specs.Prelude.{ℕ, Bool, not, List, [], ◌∷◌, length, find, slice_get, codes, if◌then◌else◌, Option, Some, None}
+use Rattle.std.specs.Prelude.{ℕ, Bool, not, ◌||◌, List, [], ◌∷◌, length, find, slice_get, codes, if◌then◌else◌, Option, Some, None}
 use Rattle.std.specs.List.{list_any}
 use Rattle.std.specs.Option.{option_or}
 use Rattle.std.specs.Str.{bytes_eq}
@@ -114,3 +114,14 @@ word_at_fault p [] kind = None
 word_at_fault p (w ∷ ws) (Frame fault) = None
 word_at_fault p (w ∷ ws) (Word UnknownWord) = unknown_word w ws
 word_at_fault p (w ∷ ws) (Word (Refused r)) = refused_word p (entry_of p w) ws r
+
+-- A line that begins with the word declares a name, which is the next word.
+abbrev pub declares_name : List ℕ → Bool
+declares_name w = bytes_eq w (codes "EXCHANGE")
+    || (bytes_eq w (codes "CODE") || bytes_eq w (codes "GROUP"))
+
+-- The name that a line of these words declares, or is meant to declare
+abbrev pub meant_name : List (List ℕ) → Option (List ℕ)
+meant_name [] = None
+meant_name (w ∷ []) = None
+meant_name (w ∷ name ∷ ws) = if declares_name w then Some name else None

@@ -1,5 +1,6 @@
 pub mod AtFault
 pub mod AllFaults
+pub mod Gathered
 pub mod Warnings
 pub mod Escaped
 pub mod LintText

@@ -1,2 +1,3 @@
 pub mod Readings
 pub mod Marks
+pub mod Gatherings

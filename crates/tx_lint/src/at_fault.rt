@@ -5,7 +5,7 @@ ghost use Rattle.tx_plan.specs.Declaring.{has_exchange, has_code, has_group, pai
 ghost use Rattle.tx_plantext.specs.inner.LineWords.{line_words};
 ghost use Rattle.tx_plantext.specs.declared.fault.PlanWord.TheVariants.{Refused};
 ghost use Rattle.tx_text.specs.declared.frame.FaultKind.TheVariants.{Word};
-ghost use Rattle.tx_lint.specs.AtFault.{unknown_of_pair, group_word, route_word, word_at_fault};
+ghost use Rattle.tx_lint.specs.AtFault.{unknown_of_pair, group_word, route_word, word_at_fault, declares_name, meant_name};
 
 use crate::word_tests::{
     first_again, first_closed, first_no_name, first_unknown_group, is_code, is_exchange,
@@ -128,5 +128,36 @@ fn route_word<'t, A: Allocator>(
         }
         PlanRefusal::RepeatedGroup => first_again(groups),
         _ => None,
+    }
+}
+
+/// The name that a line of these words declares, or is meant to declare.
+pub(crate) fn meant_name<'t>(mut words: Words<'t>) -> Option<&'t [u8]>
+    ensures { option_map (λ w. w.now) result ≡ meant_name words.entry }
+{
+    let first = words.next()?;
+    let name = words.next()?;
+    if declares_name(first) {
+        Some(name)
+    } else {
+        None
+    }
+}
+
+/// Whether the word begins a line that declares a name.
+fn declares_name(word: &[u8]) -> bool
+    ensures { result ≡ declares_name word.now }
+{
+    word == b"EXCHANGE".as_slice() || word == b"CODE".as_slice() || word == b"GROUP".as_slice()
+}
+
+/// The name that a line declares, or is meant to declare.
+pub(crate) fn meant_by<'t>(line: &PlanLine<'t>) -> Option<&'t [u8]>
+    ensures { option_map (λ w. w.now) result ≡ meant_name (line_words line.now) }
+{
+    match line {
+        PlanLine::Exchange { name } | PlanLine::Group { name, .. } => Some(name),
+        PlanLine::Code { code, .. } => Some(code),
+        PlanLine::Lines { .. } | PlanLine::Route { .. } | PlanLine::Bar { .. } => None,
     }
 }

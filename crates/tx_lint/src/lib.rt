@@ -1,5 +1,5 @@
 //! The faults of a plan's text, as an editor shows them: all at once, each with its line and the
-//! word at fault; or, if it has none, warnings of what is useless in the plan or most likely not
+//! word at fault, and one that only comes from another one counted there; or, if it has none, warnings of what is useless in the plan or most likely not
 //! meant.
 #![tactic(auto)]
 
@@ -7,6 +7,7 @@ mod at_fault;
 mod entry;
 mod escaped;
 mod fault;
+mod gathering;
 mod law;
 mod lines;
 mod lint_text;
@@ -18,6 +19,7 @@ mod word_tests;
 
 pub use escaped::write_escaped;
 pub use fault::Fault;
+pub use gathering::Told;
 pub use law::faults_agree_with_reader;
 pub use lint_text::write_lint;
 pub use linting::{Lint, Look, RightText, lint_plan, look_through};

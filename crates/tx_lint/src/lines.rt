@@ -1,14 +1,15 @@
 // The lines of a plan's text, all of them.
-ghost use Rattle.std.specs.Prelude.{◌≡◌, ◌∷◌, ◌++◌, [], true, None, IfOk, IfErr, OnOk, option_map};
+ghost use Rattle.std.specs.Prelude.{◌≡◌, ◌∷◌, ◌++◌, [], true, None, IfOk, IfErr, OnOk};
 ghost use Rattle.std.specs.Option.{option_to_list};
 ghost use Rattle.tx_text.specs.inner.TextLine.{line_of};
 ghost use Rattle.tx_text.specs.Text.{bytes_fault};
 ghost use Rattle.tx_text.specs.Words.{words_of};
 ghost use Rattle.tx_plantext.specs.inner.LineWords.{line_words};
 ghost use Rattle.tx_lint.specs.AllFaults.{no_progress, form_of, fault_of_end};
+ghost use Rattle.tx_lint.specs.Lints.{fault_held};
 ghost use Rattle.tx_lint.specs.inner.Readings.{progress_held, faults_held, TookIn, Declared, HasRead, Noted};
 
-use crate::at_fault::word_at_fault;
+use crate::at_fault::{meant_by, meant_name, word_at_fault};
 use crate::entry::Entry;
 use crate::fault::Fault;
 use std::alloc::Allocator;
@@ -47,20 +48,12 @@ impl<'t, A: Allocator + Copy> Reading<'t, A> {
 
 impl<'t, A: Allocator> Reading<'t, A> {
     /// Notes a fault of a line.
-    fn tell(
-        &mut self,
-        line: u64,
-        kind: FaultKind<PlanWord>,
-        word: Option<&'t [u8]>,
-    ) -> Result<(), NoMemory>
-        ensures told { OnOk result (faults_held self.new ≡ faults_held self.old ++ record {
-          line = line;
-          kind = kind;
-          word = option_map (λ w. w.now) word.entry;
-        } ∷ []) }
+    fn tell(&mut self, fault: Fault<'t>) -> Result<(), NoMemory>
+        ensures told { OnOk result (faults_held self.new
+            ≡ faults_held self.old ++ fault_held fault.entry ∷ []) }
         ensures same { progress_held self.new ≡ progress_held self.old }
     {
-        self.faults.push(Fault { line, kind, word })?;
+        self.faults.push(fault)?;
         Ok(())
     }
 
@@ -78,8 +71,7 @@ impl<'t, A: Allocator> Reading<'t, A> {
         ensures memory { IfErr result (λ fault. fault ≡ WholeTextFault.NoMemory) }
     {
         if let Some(fault) = bytes_fault(line.text) {
-            let fault = FrameFault::from(fault);
-            self.tell(line.number, FaultKind::Frame(fault), None)?;
+            self.tell(Fault::of_line(line, FrameFault::from(fault)))?;
             return Ok(());
         }
         if line.finished {
@@ -87,7 +79,7 @@ impl<'t, A: Allocator> Reading<'t, A> {
             return self.take_form(line, form);
         }
         if let Some(fault) = last_fault(self.part, line.text) {
-            self.tell(line.number, FaultKind::Frame(fault), None)?;
+            self.tell(Fault::of_line(line, fault))?;
         }
         Ok(())
     }
@@ -110,7 +102,7 @@ impl<'t, A: Allocator> Reading<'t, A> {
             LineForm::Plain => self.declare(line)?,
             LineForm::End => self.part = FramePart::Ended,
             LineForm::Bad(fault) => {
-                self.tell(line.number, FaultKind::Frame(fault), None)?;
+                self.tell(Fault::of_line(line, fault))?;
                 if matches!(fault, FrameFault::NoHeader) {
                     self.part = FramePart::Body;
                     self.version = VERSIONS;
@@ -133,7 +125,12 @@ impl<'t, A: Allocator> Reading<'t, A> {
             Err(LineFault::UnknownWord(word)) => (PlanWord::UnknownWord, word),
             Err(LineFault::WrongCount) => (PlanWord::from(PlanRefusal::WrongCount), None),
         };
-        self.tell(line.number, FaultKind::Word(fault), word)?;
+        self.tell(Fault {
+            line: line.number,
+            kind: FaultKind::Word(fault),
+            word,
+            meant: meant_name(words(line.text)),
+        })?;
         Ok(())
     }
 
@@ -147,8 +144,15 @@ impl<'t, A: Allocator> Reading<'t, A> {
             Ok(()) => self.note(number, entry)?,
             Err(PlanRefusal::NoMemory) => return Err(WholeTextFault::NoMemory),
             Err(refusal) => {
+                let kind = FaultKind::Word(PlanWord::from(refusal));
                 let word = word_at_fault(self.plan.plan(), line, refusal);
-                self.tell(number, FaultKind::Word(PlanWord::from(refusal)), word)?;
+                let meant = meant_by(line);
+                self.tell(Fault {
+                    line: number,
+                    kind,
+                    word,
+                    meant,
+                })?;
             }
         }
         Ok(())
@@ -161,7 +165,7 @@ impl<'t, A: Allocator> Reading<'t, A> {
         ensures same { progress_held self.new ≡ progress_held self.old }
     {
         if let Some(fault) = closing(self.part) {
-            self.tell(number, FaultKind::Frame(fault), None)?;
+            self.tell(Fault::at_end(number, fault))?;
         }
         Ok(())
     }

@@ -1,13 +1,13 @@
 // The writer of the faults or warnings of a text.
-ghost use Rattle.std.specs.Prelude.{◌≡◌, ◌++◌, codes, map, option_map};
+ghost use Rattle.std.specs.Prelude.{◌≡◌, map, option_map};
 ghost use Rattle.std.specs.List.{flat_map};
 ghost use Rattle.tx_text.specs.Puts.{Puts};
 ghost use Rattle.tx_text.specs.Wrote.{Wrote};
-ghost use Rattle.tx_lint.specs.LintText.{word_text, told_line, fault_line, warning_word, warning_line};
-ghost use Rattle.tx_lint.specs.Lints.{fault_held, lint_held, lint_text};
+ghost use Rattle.tx_lint.specs.LintText.{word_text, told_front, needing_end, more_end, fault_line, warning_word, warning_line};
+ghost use Rattle.tx_lint.specs.Lints.{told_held, lint_held, lint_text};
 
 use crate::escaped::write_escaped;
-use crate::fault::Fault;
+use crate::gathering::Told;
 use crate::linting::Lint;
 use crate::warning::Warning;
 use itoa::Buffer;
@@ -33,27 +33,29 @@ pub fn write_lint<A: Allocator, W: Sink>(
     }
 }
 
-fn write_faults<W: Sink>(faults: &[Fault<'_>], file: &[u8], sink: &mut W) -> Result<(), WriteFault>
+fn write_faults<W: Sink>(told: &[Told<'_>], file: &[u8], sink: &mut W) -> Result<(), WriteFault>
     ensures { Wrote W.taken W.failed sink.old sink.new
-        (flat_map (fault_line file.now) (map fault_held faults.now)) result }
+        (flat_map (fault_line file.now) (map told_held told.now)) result }
 {
-    for i in 0..faults.len() {
-        write_fault(faults[i], file, sink)?;
+    for i in 0..told.len() {
+        write_fault(told[i], file, sink)?;
     }
     Ok(())
 }
 
-fn write_fault<W: Sink>(fault: Fault<'_>, file: &[u8], sink: &mut W) -> Result<(), WriteFault>
+fn write_fault<W: Sink>(told: Told<'_>, file: &[u8], sink: &mut W) -> Result<(), WriteFault>
     ensures { Wrote W.taken W.failed sink.old sink.new
-        (fault_line file.now (fault_held fault.entry)) result }
+        (fault_line file.now (told_held told.entry)) result }
 {
-    write_line(
+    let fault = told.fault;
+    write_front(
         file,
         fault.line,
         code_and_name(fault.kind),
         fault.word,
         sink,
     );
+    write_needing(told.needing, sink);
     finish(sink)
 }
 
@@ -85,11 +87,12 @@ fn write_warning<A: Allocator, W: Sink>(
 {
     let (line, warning) = warning;
     let word = warning_word(plan, risks, warning);
-    write_line(file, line, warning.code_and_name(), word, sink);
+    write_front(file, line, warning.code_and_name(), word, sink);
+    write_more(warning.more_codes(), sink);
     finish(sink)
 }
 
-/// The code, the group or the risk that a warning speaks of.
+/// The code, the group, the risk or the exchange that a warning speaks of.
 fn warning_word<'a, A: Allocator>(
     plan: &'a Plan<A>,
     risks: &'a Risks<A>,
@@ -98,18 +101,20 @@ fn warning_word<'a, A: Allocator>(
     ensures { option_map (λ w. w.now) result ≡ warning_word plan.now risks.now warning }
 {
     match warning {
-        Warning::NoLines(code)
+        Warning::NoLines(code, _)
+        | Warning::UnusedList(code, _)
         | Warning::NoList(code)
         | Warning::Ambiguous(code)
         | Warning::Unlisted(code) => Some(plan.code_figures(code)),
         Warning::UnusedGroup(group) => Some(plan.group_name(group)),
         Warning::SharedRisk(index) => Some(risks.name(index)),
-        Warning::NothingToJudge | Warning::UnusedList | Warning::UnusedBar => None,
+        Warning::NoGroup(exchange) => Some(plan.exchange_name(exchange)),
+        Warning::NothingToJudge | Warning::UnusedBar => None,
     }
 }
 
-/// Writes one line.
-fn write_line<'a, W: Sink>(
+/// Writes a line as far as its word.
+fn write_front<'a, W: Sink>(
     file: &'a [u8],
     line: u64,
     row: (&'a [u8], &'a [u8]),
@@ -117,23 +122,50 @@ fn write_line<'a, W: Sink>(
     sink: &mut W,
 )
     ensures { Puts W.taken W.failed sink.old sink.new
-        (told_line file.now line (row.entry.0.now, row.entry.1.now)
+        (told_front file.now line (row.entry.0.now, row.entry.1.now)
         (option_map (λ w. w.now) word.entry)) }
 {
     let mut number = Buffer::new();
     let line = number.format(line).as_bytes();
     write_escaped(file, sink);
     put_parts(&[b":", line, b": ", row.0, b" ", row.1], sink);
-    write_end(word, sink);
+    write_word(word, sink);
 }
 
-/// Writes a word, if there is one, and the end of the line.
-fn write_end<W: Sink>(word: Option<&[u8]>, sink: &mut W)
+/// Writes a word with a space before it, if there is one.
+fn write_word<W: Sink>(word: Option<&[u8]>, sink: &mut W)
     ensures { Puts W.taken W.failed sink.old sink.new
-        (word_text (option_map (λ w. w.now) word.entry) ++ codes "\n") }
+        (word_text (option_map (λ w. w.now) word.entry)) }
 {
-    match word {
-        Some(word) => put_parts(&[b" ", word, b"\n"], sink),
-        None => put_bytes(b"\n", sink),
+    if let Some(word) = word {
+        put_parts(&[b" ", word], sink);
+    }
+}
+
+/// Writes how many lines need what a line at fault has left undeclared, and the end of the line.
+fn write_needing<W: Sink>(needing: u64, sink: &mut W)
+    ensures { Puts W.taken W.failed sink.old sink.new (needing_end needing) }
+{
+    if needing == 0 {
+        put_bytes(b"\n", sink)
+    } else if needing == 1 {
+        put_bytes(b" .. and 1 line that needs it\n", sink)
+    } else {
+        let mut number = Buffer::new();
+        let needing = number.format(needing).as_bytes();
+        put_parts(&[b" .. and ", needing, b" lines that need it\n"], sink)
+    }
+}
+
+/// Writes how many more codes a warning is of, and the end of the line.
+fn write_more<W: Sink>(more: usize, sink: &mut W)
+    ensures { Puts W.taken W.failed sink.old sink.new (more_end more) }
+{
+    if more == 0 {
+        put_bytes(b"\n", sink)
+    } else {
+        let mut number = Buffer::new();
+        let more = number.format(more).as_bytes();
+        put_parts(&[b" .. and ", more, b" more\n"], sink)
     }
 }

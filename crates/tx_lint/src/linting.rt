@@ -3,7 +3,7 @@ ghost use Rattle.std.specs.Prelude.{◌≡◌, [], IfOk, IfErr};
 ghost use Rattle.tx_lint.specs.Lints.{AreWarningsOf, IsLintOf, IsLookOf, lint_held, lint_status};
 
 use crate::entry::Entry;
-use crate::fault::Fault;
+use crate::gathering::{Told, gather};
 use crate::lines::{Reading, read_lines};
 use crate::warning::Warning;
 use crate::warnings::warnings_of;
@@ -16,8 +16,8 @@ use tx_text::{NoMemory, WholeTextFault};
 /// The faults or warnings of a plan's text.
 #[derive(Drop)]
 pub enum Lint<'t, A: Allocator = Global> {
-    /// The text is refused: all its faults, in order of its lines.
-    Faults(Vec<Fault<'t>, A>),
+    /// The text is refused: what is told of its faults, in order of its lines.
+    Faults(Vec<Told<'t>, A>),
     /// The text is right: its plan, the named risks, and the warnings, each with the number of its
     /// line, in order of the lines.
     Warnings(Plan<A>, Risks<A>, Vec<(u64, Warning), A>),
@@ -74,8 +74,8 @@ impl<A: Allocator + Copy> RightText<A> {
 /// A plan's text that was looked through.
 #[derive(Drop)]
 pub enum Look<'t, A: Allocator = Global> {
-    /// It is refused: all its faults, in order of its lines.
-    Faults(Vec<Fault<'t>, A>),
+    /// It is refused: what is told of its faults, in order of its lines.
+    Faults(Vec<Told<'t>, A>),
     /// It is right.
     Right(RightText<A>),
 }
@@ -96,13 +96,13 @@ pub fn look_through<A: Allocator + Copy>(
         faults,
     } = read_lines(alloc, text)?;
     if !faults.is_empty() {
-        return Ok(Look::Faults(faults));
+        return Ok(Look::Faults(gather(alloc, &faults)?));
     }
     let plan = plan.finish();
     Ok(Look::Right(RightText { plan, entries }))
 }
 
-/// Looks a plan's text through: all its faults, or where it has none all warnings of its plan,
+/// Looks a plan's text through: what is told of its faults, or where it has none all warnings of its plan,
 /// without named risks. `Err` is lack of memory.
 pub fn lint_plan<A: Allocator + Copy>(alloc: A, text: &[u8]) -> Result<Lint<'_, A>, WholeTextFault>
     ensures lint { IfOk result (λ l. IsLintOf text.now [] (lint_held l)) }

@@ -1,11 +1,12 @@
 // The warnings of a plan.
-ghost use Rattle.std.specs.Prelude.{◌≡◌, ◌++◌, map, length, slice_get, [], IfOk, OnOk};
+ghost use Rattle.std.specs.Prelude.{◌≡◌, ◌==◌, ◌||◌, ◌∷◌, ◌++◌, map, length, slice_get, if◌then◌else◌, [], IfOk, OnOk};
 ghost use Rattle.std.specs.List.{flat_map, range_with_len};
-ghost use Rattle.std.specs.Option.{option_map_or};
+ghost use Rattle.std.specs.Option.{option_map_or, option_to_list};
+ghost use Rattle.tx_plan.specs.Circuits.{ends_of};
 ghost use Rattle.tx_plan.specs.Codes.{is_prefix};
 ghost use Rattle.tx_plan.specs.Routes.{is_origin};
-ghost use Rattle.tx_lint.specs.declared.warning.Warning.TheVariants.{NoList, Ambiguous, SharedRisk};
-ghost use Rattle.tx_lint.specs.Warnings.{Coming, TellsWhereCallsCome, has_lines, wants_list, begins, is_unlisted, lie_in, warned_if, code_warnings, list_warnings, entry_warnings, warnings};
+ghost use Rattle.tx_lint.specs.declared.warning.Warning.TheVariants.{NoLines, UnusedList, NoList, Ambiguous, SharedRisk};
+ghost use Rattle.tx_lint.specs.Warnings.{Coming, TellsWhereCallsCome, has_lines, wants_list, begins, is_unlisted, lie_in, is_mute, is_idle, is_alone, codes_where, warned_once, warned_if, exchange_warnings, code_warnings, list_warnings, entry_warnings, warnings};
 ghost use Rattle.tx_lint.specs.inner.Marks.{coming_of, AreMarksOf};
 
 use crate::entry::Entry;
@@ -31,13 +32,14 @@ pub(crate) fn warnings_of<A: Allocator + Copy>(
     let mut found = Vec::new(alloc);
     for i in 0..entries.len() {
         let (line, entry) = entries[i];
-        add_warnings(plan, risks, &marks, line, entry, &mut found)?;
+        add_warnings(alloc, plan, risks, &marks, line, entry, &mut found)?;
     }
     Ok(found)
 }
 
 /// Adds the warnings of an entry.
-fn add_warnings<A: Allocator>(
+fn add_warnings<A: Allocator + Copy>(
+    alloc: A,
     plan: &Plan<A>,
     risks: &Risks<A>,
     marks: &Marks<A>,
@@ -51,17 +53,14 @@ fn add_warnings<A: Allocator>(
 {
     match entry {
         Entry::Header => add_if(plan.ranges() == 0, line, Warning::NothingToJudge, found),
-        Entry::Exchange(exchange) => {
-            let origin = marks.is_origin(exchange);
-            add_missing_lists(plan, exchange, origin, line, found)
-        }
+        Entry::Exchange(exchange) => add_exchange(alloc, plan, marks, exchange, line, found),
         Entry::Code(code) => add_code(plan, code, line, found),
         Entry::Lines(_) => Ok(()),
         Entry::Group(group) => {
             let unused = !marks.is_listed(group);
             add_if(unused, line, Warning::UnusedGroup(group), found)
         }
-        Entry::Route(index) => add_list(plan, risks, marks, index, line, found),
+        Entry::Route(index) => add_list(plan, risks, index, line, found),
         Entry::Bar(index) => match plan.bar_at(index) {
             Some((exchange, _)) => {
                 let unused = !marks.is_origin(exchange);
@@ -70,6 +69,151 @@ fn add_warnings<A: Allocator>(
             None => Ok(()),
         },
     }
+}
+
+/// Adds the warnings of an exchange.
+fn add_exchange<A: Allocator + Copy>(
+    alloc: A,
+    plan: &Plan<A>,
+    marks: &Marks<A>,
+    exchange: ExchangeId,
+    line: u64,
+    found: &mut Vec<(u64, Warning), A>,
+) -> Result<(), NoMemory>
+    requires { AreMarksOf plan.now marks.now }
+    ensures { OnOk result (found.new.items ≡ found.old.items
+        ++ map (λ w. (line, w)) (exchange_warnings plan.now (coming_of marks.now) exchange)) }
+{
+    let mute = mute_codes(alloc, plan, exchange)?;
+    add_some(warn_of_mute(&mute), line, found)?;
+    let idle = idle_codes(alloc, plan, marks, exchange)?;
+    add_some(warn_of_idle(&idle), line, found)?;
+    add_missing_lists(plan, exchange, marks.is_origin(exchange), line, found)?;
+    let alone = is_alone(plan, exchange);
+    add_if(alone, line, Warning::NoGroup(exchange), found)
+}
+
+/// Adds a warning, if there is one.
+fn add_some<A: Allocator>(
+    warning: Option<Warning>,
+    line: u64,
+    found: &mut Vec<(u64, Warning), A>,
+) -> Result<(), NoMemory>
+    ensures { OnOk result (found.new.items ≡ found.old.items
+        ++ map (λ w. (line, w)) (option_to_list warning)) }
+{
+    if let Some(warning) = warning {
+        found.push((line, warning))?;
+    }
+    Ok(())
+}
+
+/// The warning of codes without lines, if there are any.
+fn warn_of_mute(codes: &[CodeId]) -> Option<Warning>
+    ensures { option_to_list result ≡ warned_once NoLines codes.now }
+{
+    let (code, others) = codes.split_first()?;
+    Some(Warning::NoLines(*code, others.len()))
+}
+
+/// The warning of codes whose lists no call comes to, if there are any.
+fn warn_of_idle(codes: &[CodeId]) -> Option<Warning>
+    ensures { option_to_list result ≡ warned_once UnusedList codes.now }
+{
+    let (code, others) = codes.split_first()?;
+    Some(Warning::UnusedList(*code, others.len()))
+}
+
+/// The codes at home at the exchange that have no lines.
+fn mute_codes<A: Allocator + Copy>(
+    alloc: A,
+    plan: &Plan<A>,
+    exchange: ExchangeId,
+) -> Result<Vec<CodeId, A>, NoMemory>
+    ensures { IfOk result (λ found.
+        found.items ≡ codes_where plan.now (is_mute plan.now exchange)) }
+{
+    let mut found = Vec::new(alloc);
+    for index in 0..plan.codes() {
+        let code = CodeId::of(index);
+        let mute = is_mute(plan, exchange, code);
+        push_if(mute, code, &mut found)?;
+    }
+    Ok(found)
+}
+
+/// Whether the code is at home at the exchange, and has no lines.
+fn is_mute<A: Allocator>(plan: &Plan<A>, exchange: ExchangeId, code: CodeId) -> bool
+    ensures { result ≡ is_mute plan.now exchange code }
+{
+    plan.home(code) == exchange && !has_lines(plan, code)
+}
+
+/// Adds a code, if there is reason for it.
+fn push_if<A: Allocator>(
+    reason: bool,
+    code: CodeId,
+    found: &mut Vec<CodeId, A>,
+) -> Result<(), NoMemory>
+    ensures { OnOk result (found.new.items
+        ≡ found.old.items ++ (if reason then code ∷ [] else [])) }
+{
+    if reason {
+        found.push(code)?;
+    }
+    Ok(())
+}
+
+/// The codes for which the exchange has a list, and no call comes there.
+fn idle_codes<A: Allocator + Copy>(
+    alloc: A,
+    plan: &Plan<A>,
+    marks: &Marks<A>,
+    exchange: ExchangeId,
+) -> Result<Vec<CodeId, A>, NoMemory>
+    ensures { IfOk result (λ found. found.items
+        ≡ codes_where plan.now (is_idle plan.now (coming_of marks.now) exchange)) }
+{
+    let mut found = Vec::new(alloc);
+    for index in 0..plan.codes() {
+        let code = CodeId::of(index);
+        let idle = is_idle(plan, marks, exchange, code);
+        push_if(idle, code, &mut found)?;
+    }
+    Ok(found)
+}
+
+/// Whether the exchange has a list for the code, and no call for it comes there.
+fn is_idle<A: Allocator>(
+    plan: &Plan<A>,
+    marks: &Marks<A>,
+    exchange: ExchangeId,
+    code: CodeId,
+) -> bool
+    ensures { result ≡ is_idle plan.now (coming_of marks.now) exchange code }
+{
+    !plan.list(exchange, code).is_empty() && !marks.comes(code, exchange)
+}
+
+/// Whether no group leads to the exchange or from it, and it is not the only exchange.
+fn is_alone<A: Allocator>(plan: &Plan<A>, exchange: ExchangeId) -> bool
+    ensures { result ≡ is_alone plan.now exchange }
+{
+    for index in 0..plan.groups() {
+        if is_end(plan, GroupId::of(index), exchange) {
+            return false;
+        }
+    }
+    plan.exchanges() > 1
+}
+
+/// Whether the exchange is an end of the group.
+fn is_end<A: Allocator>(plan: &Plan<A>, group: GroupId, exchange: ExchangeId) -> bool
+    ensures { result ≡ ((ends_of plan.now group).0 == exchange
+        || (ends_of plan.now group).1 == exchange) }
+{
+    let (a, b) = plan.ends(group);
+    a == exchange || b == exchange
 }
 
 /// Adds the warnings of a code.
@@ -82,7 +226,6 @@ fn add_code<A: Allocator>(
     ensures { OnOk result (found.new.items
         ≡ found.old.items ++ map (λ w. (line, w)) (code_warnings plan.now code)) }
 {
-    add_if(!has_lines(plan, code), line, Warning::NoLines(code), found)?;
     add_ambiguous(plan, code, line, found)?;
     add_if(
         is_unlisted(plan, code),
@@ -96,20 +239,16 @@ fn add_code<A: Allocator>(
 fn add_list<A: Allocator>(
     plan: &Plan<A>,
     risks: &Risks<A>,
-    marks: &Marks<A>,
     index: usize,
     line: u64,
     found: &mut Vec<(u64, Warning), A>,
 ) -> Result<(), NoMemory>
     ensures { OnOk result (found.new.items ≡ found.old.items ++ map (λ w. (line, w))
-        (option_map_or (list_warnings plan.now risks.now (coming_of marks.now))
-        (slice_get plan.now.routes index) [])) }
+        (option_map_or (list_warnings plan.now risks.now) (slice_get plan.now.routes index) [])) }
 {
     let Some((exchange, code)) = plan.route_at(index) else {
         return Ok(());
     };
-    let unused = !marks.comes(code, exchange);
-    add_if(unused, line, Warning::UnusedList, found)?;
     add_shared_risks(plan, risks, plan.list(exchange, code), line, found)
 }
 

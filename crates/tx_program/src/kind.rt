@@ -1,8 +1,7 @@
 // The kinds of texts, and how a file shows which it holds.
 use crate::folder::Folder;
-use std::alloc::Allocator;
-use tx_jobs::JobFault;
-use tx_text::{FrameReader, FrameStep, FromRead};
+use std::io::Read;
+use tx_text::{FromRead, Source};
 
 /// A kind of text that the program reads or writes.
 #[derive(Clone, Copy, PartialEq, Eq)]
@@ -31,14 +30,14 @@ const KINDS: [TextKind; 4] = [
 ];
 
 impl TextKind {
-    /// The word that begins its header, and the greatest version of it. A page has none.
-    fn header(self) -> Option<(&'static [u8], u8)> {
+    /// The word that begins its header. A page has none.
+    fn key(self) -> &'static [u8] {
         match self {
-            TextKind::Plan => Some((tx_plantext::KEY, tx_plantext::VERSIONS)),
-            TextKind::Cert => Some((b"CERT", 1)),
-            TextKind::Script => Some((b"SCRIPT", 1)),
-            TextKind::Risks => Some((b"RISKS", 1)),
-            TextKind::Page => None,
+            TextKind::Plan => tx_plantext::KEY,
+            TextKind::Cert => b"CERT",
+            TextKind::Script => b"SCRIPT",
+            TextKind::Risks => b"RISKS",
+            TextKind::Page => b"",
         }
     }
 
@@ -52,39 +51,96 @@ impl TextKind {
             TextKind::Page => "page",
         }
     }
+}
 
-    /// Whether the first line with words of a file is the header of this kind. Where the file
-    /// cannot be read, it is not.
-    fn begins<A: Allocator, F: Folder>(
-        self,
-        alloc: A,
-        folder: &F,
-        name: &str,
-    ) -> Result<bool, JobFault> {
-        let Some((key, most)) = self.header() else {
-            return Ok(false);
+/// The first word of a file, so far as it was read.
+#[derive(Clone, Copy)]
+struct FirstWord {
+    /// Its letters as capitals: one more than the longest header has.
+    letters: [u8; 7],
+    len: usize,
+    in_comment: bool,
+}
+
+impl FirstWord {
+    /// That of a file, or of what can be read of it.
+    fn of<R: Read + Drop>(file: R) -> FirstWord {
+        let mut word = FirstWord {
+            letters: [0; 7],
+            len: 0,
+            in_comment: false,
         };
-        let Ok(file) = folder.open(name) else {
-            return Ok(false);
-        };
-        let Ok(mut frame) = FrameReader::new(alloc, key, most) else {
-            return Err(JobFault::NoMemory);
-        };
-        let first = frame.advance(&mut FromRead::new(file));
-        Ok(matches!(first, Ok(FrameStep::Header(_))))
+        let mut source = FromRead::new(file);
+        let mut piece = [0u8; 4096];
+        for _ in 0..u64::MAX {
+            match source.read(&mut piece) {
+                Ok(n) if n > 0 => {
+                    if word.take(&piece[..n]) {
+                        return word;
+                    }
+                }
+                _ => return word,
+            }
+        }
+        word
+    }
+
+    /// Takes the next bytes. Returns whether the word is over.
+    fn take(&mut self, bytes: &[u8]) -> bool {
+        for i in 0..bytes.len() {
+            if self.take_byte(bytes[i]) {
+                return true;
+            }
+        }
+        false
+    }
+
+    /// The same of one byte. Those of a byte order mark before the word are passed over.
+    fn take_byte(&mut self, byte: u8) -> bool {
+        if self.in_comment {
+            self.in_comment = byte != b'\n';
+            return false;
+        }
+        match byte {
+            b' ' | b'\t' | b'\r' | b'\n' => self.len > 0,
+            0xef | 0xbb | 0xbf if self.len == 0 => false,
+            b'#' => {
+                self.in_comment = true;
+                self.len > 0
+            }
+            _ => self.add(byte.to_ascii_uppercase()),
+        }
+    }
+
+    /// Adds a letter. Returns whether there are more of them than any header has.
+    fn add(&mut self, letter: u8) -> bool {
+        match self.letters.get_mut(self.len) {
+            Some(place) => {
+                *place = letter;
+                self.len += 1;
+                false
+            }
+            None => true,
+        }
+    }
+
+    /// Whether it is this word.
+    fn is(&self, key: &[u8]) -> bool {
+        self.len == key.len() && self.letters.starts_with(key)
     }
 }
 
-/// The kind of text that a file holds, if it begins as one.
-pub(crate) fn kind_of<A: Allocator + Copy, F: Folder>(
-    alloc: A,
-    folder: &F,
-    name: &str,
-) -> Result<Option<TextKind>, JobFault> {
+/// The kind of text that a file holds, if it begins as one, in capitals or small letters. Where it
+/// cannot be read, it does not.
+pub(crate) fn kind_of<F: Folder>(folder: &F, name: &str) -> Option<TextKind> {
+    let Ok(file) = folder.open(name) else {
+        return None;
+    };
+    let word = FirstWord::of(file);
     for kind in KINDS {
-        if kind.begins(alloc, folder, name)? {
-            return Ok(Some(kind));
+        if word.is(kind.key()) {
+            return Some(kind);
         }
     }
-    Ok(None)
+    None
 }

@@ -122,7 +122,7 @@ pub(crate) fn perform<A: Allocator + Copy, F: Folder, I: Read + Drop, O: Write +
     let files = command.files();
     let inputs = Inputs::open(files.reads, folder, input)?;
     let targets = Targets::of(files, folder);
-    targets.require_free(alloc, folder)?;
+    targets.require_free(folder)?;
     do_into(alloc, command, inputs, &targets, folder, output)
 }
 

@@ -8,7 +8,6 @@ use crate::draft::is_open_already;
 use crate::folder::Folder;
 use crate::kind::{MADE, TextKind, kind_of};
 use crate::stop::Stop;
-use std::alloc::Allocator;
 use tx_commands::{Files, KnownFile, Place, clash};
 
 /// The index of a page among the files that a command makes.
@@ -44,16 +43,12 @@ impl<'n> Targets<'n> {
 
     /// Refuses them where one would be made over another file of the command, or over another kind
     /// of text.
-    pub(crate) fn require_free<A: Allocator + Copy, F: Folder>(
-        &self,
-        alloc: A,
-        folder: &F,
-    ) -> Result<(), Stop> {
+    pub(crate) fn require_free<F: Folder>(&self, folder: &F) -> Result<(), Stop> {
         let made = self.made(folder);
         self.require_apart(&made)?;
         for i in 0..4usize {
             if let Some(file) = made[i] {
-                require_kind(alloc, file, MADE[i], folder)?;
+                require_kind(file, MADE[i], folder)?;
             }
         }
         Ok(())
@@ -139,16 +134,11 @@ fn identify_target<'n, F: Folder>(
 }
 
 /// Refuses a file that is there and holds another kind of text.
-fn require_kind<A: Allocator + Copy, F: Folder>(
-    alloc: A,
-    file: KnownFile<'_>,
-    wanted: TextKind,
-    folder: &F,
-) -> Result<(), Stop> {
+fn require_kind<F: Folder>(file: KnownFile<'_>, wanted: TextKind, folder: &F) -> Result<(), Stop> {
     if !file.is_there() {
         return Ok(());
     }
-    match kind_of(alloc, folder, file.name)? {
+    match kind_of(folder, file.name) {
         Some(held) if held != wanted => Err(Stop::OtherKind {
             file: file.place,
             held,

@@ -10,6 +10,7 @@ use Rattle.tx_text.specs.declared.whole_text.WholeTextFault.TheVariants.{Read, N
 use Rattle.tx_text.specs.Ends.{Input, Output}
 use Rattle.tx_plan.specs.Plan.{Plan}
 use Rattle.tx_lint.specs.AllFaults.{Fault, Progress}
+use Rattle.tx_lint.specs.Gathered.{Told, told_of}
 use Rattle.tx_lint.specs.Lints.{Faults}
 use Rattle.tx_lint.specs.declared.entry.Entry.{Entry}
 use Rattle.tx_risk.specs.declared.fault.RiskWord.{RiskWord}
@@ -54,12 +55,12 @@ risks_mark X old f = risks_by X old f f.kind
 
 -- the faults were told, and the risks not read
 pub faulty_told : (faults : List Fault) (s : Progress) (file : List ℕ) (risks : Input) (out : Output)
-    (result : Result ℕ CommandFault) (told : List Fault) → told ≡ faults → faults ≢ []
+    (result : Result ℕ CommandFault) (told : List Told) → told ≡ told_of faults → faults ≢ []
     → ToldLint file (Faults told) out result → risks.unread
     → LookedThrough faults s file risks out result
 faulty_told [] s file risks out result told e some t unread = absurd (some refl)
 faulty_told (f ∷ fs) s file risks out result told e some t unread =
-    (subst (λ (l : List Fault). ToldLint file (Faults l) out result) e t, unread)
+    (subst (λ (l : List Told). ToldLint file (Faults l) out result) e t, unread)
 
 -- the risks were read
 pub right_told : (faults : List Fault) (s : Progress) (file : List ℕ) (risks : Input) (out : Output)

@@ -52,14 +52,15 @@ plans (Word (plan_word.Refused plan.BarAtHome)) = refl
 pub warnings : WarningsAreExplained
 unfolding table
 warnings warning.NothingToJudge = refl
-warnings (warning.NoLines c) = refl
+warnings (warning.NoLines c n) = refl
 warnings (warning.UnusedGroup g) = refl
-warnings warning.UnusedList = refl
+warnings (warning.UnusedList c n) = refl
 warnings (warning.NoList c) = refl
 warnings warning.UnusedBar = refl
 warnings (warning.Ambiguous c) = refl
 warnings (warning.SharedRisk k) = refl
 warnings (warning.Unlisted c) = refl
+warnings (warning.NoGroup x) = refl
 
 pub certificates : CertFaultsAreExplained
 unfolding table

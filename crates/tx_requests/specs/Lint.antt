@@ -6,6 +6,7 @@ use Rattle.tx_plan.specs.Plan.{Plan}
 use Rattle.tx_risk.specs.NamedRisks.{NamedRisk}
 use Rattle.tx_lint.specs.declared.entry.Entry.{Entry}
 use Rattle.tx_lint.specs.AllFaults.{Fault, Progress, faults_of, progress_of}
+use Rattle.tx_lint.specs.Gathered.{told_of}
 use Rattle.tx_lint.specs.Lints.{Lint, Faults, AreWarningsOf, IsLintOf, lint_text, lint_status}
 use Rattle.tx_risk.specs.NamedRisks.{AreRisksFor}
 use Rattle.tx_risk.specs.RiskText.{ReadsRisks}
@@ -82,7 +83,7 @@ abbrev pub LookedThrough : List Fault → Progress → (file : List ℕ) → Inp
     → Result ℕ CommandFault → Type 0
 LookedThrough [] s file risks out result = WarnedWithRisks (s.plan, s.entries) file risks out result
 LookedThrough (f ∷ fs) s file risks out result =
-    ToldLint file (Faults (f ∷ fs)) out result × risks.unread
+    ToldLint file (Faults (told_of (f ∷ fs))) out result × risks.unread
 
 -- it was, or there was no memory for that, and nothing was written
 abbrev pub LookedInRoom : (text file : List ℕ) → Input → Output → Result ℕ CommandFault → Type 0

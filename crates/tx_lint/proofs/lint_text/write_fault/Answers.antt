@@ -1,11 +1,13 @@
-use Rattle.std.proofs.Common.{sym, ap}
-use Rattle.tx_text.proofs.Writing.{some, some_last}
-use Rattle.tx_text.proofs.Putting.{puts_is, puts_wrote}
-use Rattle.tx_lint.specs.LintText.{told_line}
-use Rattle.tx_lint.specs.Lints.{fault_held}
+use Rattle.std.proofs.Common.{◌++◌, sym, ap}
+use Rattle.tx_text.proofs.Writing.{some, some_first, some_last}
+use Rattle.tx_text.proofs.Putting.{puts_is, puts_then, puts_wrote}
+use Rattle.tx_lint.specs.LintText.{needing_end, told_front}
+use Rattle.tx_lint.specs.Lints.{told_held}
 use Rattle.tx_lint.proofs.lint_text.write_fault.Goals as goal
 
 pub returns : goal.returns
 returns g c =
-    let f = fault_held c.args.fault in
-    puts_wrote _ (some_last _ _ some) (puts_is (ap (λ r. told_line c.args.file.now f.line r f.word) (sym c.code_and_name.ensures)) c.write_line.ensures) c.finish.ensures
+    let t = told_held c.args.told in
+    puts_wrote _ (some_first _ (needing_end t.needing) (some_last _ _ some))
+    (puts_is (ap (λ r. told_front c.args.file.now t.fault.line r t.fault.word ++ needing_end t.needing) (sym c.code_and_name.ensures))
+    (puts_then c.write_front.ensures c.write_needing.ensures)) c.finish.ensures

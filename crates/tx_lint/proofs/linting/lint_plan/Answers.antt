@@ -1,6 +1,6 @@
 use Rattle.std.proofs.Common.{[], map}
 use Rattle.tx_lint.specs.AllFaults.{faults_of, progress_of}
-use Rattle.tx_lint.specs.Lints.{fault_held}
+use Rattle.tx_lint.specs.Lints.{told_held}
 use Rattle.tx_lint.proofs.Linted.{faulty_is, right_is}
 use Rattle.tx_lint.proofs.linting.lint_plan.Goals as goal
 
@@ -8,7 +8,7 @@ pub returns-in-Faults-clause-lint : goal.returns-in-Faults-clause-lint
 returns-in-Faults-clause-lint g c =
     let text = c.args.text.now in
     let look = rw c.in-Faults.is at c.in_ok-faults.ensures.look in
-    faulty_is (faults_of text) (progress_of text) [] (map fault_held c.in-Faults.faults.items) look.0
+    faulty_is (faults_of text) (progress_of text) [] (map told_held c.in-Faults.faults.items) look.0
     look.1
 
 pub returns-in_ok-warned-in-Right-clause-lint : goal.returns-in_ok-warned-in-Right-clause-lint

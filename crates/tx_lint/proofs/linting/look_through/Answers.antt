@@ -1,5 +1,6 @@
 use Rattle.std.proofs.Common.{◌≡◌, ◌∙◌, ◌==◌, length, true, false, ap, arith, rules}
 use Rattle.tx_lint.specs.AllFaults.{Progress, faults_of}
+use Rattle.tx_lint.specs.Gathered.{told_of}
 use Rattle.tx_lint.proofs.Linted.{some_faults, no_faults}
 use Rattle.tx_lint.proofs.linting.look_through.Goals as goal
 
@@ -10,7 +11,7 @@ returns-then-not-is_empty-clause-look g c =
     let long : told.len ≡ length told.items = omega arith in
     let some : (told.len == 0) ≡ false = search rules in
     let read = c.in_ok-plan.ensures.read.faults in
-    (read, some_faults told.items (faults_of c.args.text.now) told.len long some read)
+    ((rw c.deref.ensures.value at c.in_ok-gather.ensures) ∙ ap told_of read, some_faults told.items (faults_of c.args.text.now) told.len long some read)
 
 pub returns-clause-look : goal.returns-clause-look
 returns-clause-look g c =

@@ -2,7 +2,7 @@ use Rattle.std.proofs.Common.{ℕ, Err, ap, inl, inr, map, refl}
 use Rattle.tx_text.specs.Ends.{input, output}
 use Rattle.tx_text.proofs.Exits.{exits_with}
 use Rattle.tx_lint.specs.AllFaults.{faults_of, progress_of}
-use Rattle.tx_lint.specs.Lints.{fault_held}
+use Rattle.tx_lint.specs.Lints.{told_held}
 use Rattle.tx_requests.specs.Faults.{text_stop}
 use Rattle.tx_requests.proofs.Uncalled.{uncalled}
 use Rattle.tx_requests.proofs.LintTold.{not_read, text_mark, faulty_told, right_told}
@@ -41,7 +41,7 @@ returns-in-Faults-clause-answers g c =
       text = c.in_ok-text.text.items;
       whole = c.in_ok-text.ensures.text;
       goes_on = inl (faulty_told (faults_of c.in_ok-text.text.items)
-          (progress_of c.in_ok-text.text.items) _ _ _ _ (map fault_held c.in-Faults.faults.items)
+          (progress_of c.in_ok-text.text.items) _ _ _ _ (map told_held c.in-Faults.faults.items)
           look.0 look.1 c.tell_lint.ensures.told refl);
     })
 

@@ -1,0 +1,8 @@
+use Rattle.std.proofs.Common.{◌≡◌, filter}
+use Rattle.std.specs.List.{range_with_len}
+use Rattle.tx_lint.specs.Warnings.{is_mute}
+use Rattle.tx_lint.proofs.warnings.mute_codes.Given as goal
+
+abbrev pub invariant-loop-index : goal.invariant-loop-index
+invariant-loop-index g l =
+    l.found.items ≡ filter (is_mute l.plan l.exchange) (range_with_len 0 l.index)
