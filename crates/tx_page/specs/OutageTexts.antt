@@ -1,5 +1,5 @@
 -- What a page shows of outages.
-use Rattle.std.specs.Prelude.{ℕ, Bool, ◌&&◌, if◌then◌else◌, List, [], ◌∷◌, ◌++◌, length, codes, decimal, count_by, slice_get}
+use Rattle.std.specs.Prelude.{ℕ, Bool, if◌then◌else◌, List, [], ◌∷◌, ◌++◌, length, codes, count_by, slice_get}
 use Rattle.std.specs.List.{flat_map}
 use Rattle.std.specs.Option.{option_map_or}
 use Rattle.tx_plan.specs.Plan.{Plan, exchange_name, figures_of, group_name}
@@ -8,7 +8,8 @@ use Rattle.tx_risk.specs.declared.outage.Outage.{Outage}
 use Rattle.tx_risk.specs.declared.outage.Outage.TheVariants.{Group, Exchange, Named}
 use Rattle.tx_risk.specs.declared.cut.Cut.{Cut}
 use Rattle.tx_risk.specs.declared.cut.Outcome.{Outcome}
-use Rattle.tx_risk_report.specs.OutageReport.{is_group, is_exchange, is_harmless, cut_off, astray, is_told}
+use Rattle.tx_html.specs.Amounts.{amount}
+use Rattle.tx_risk_report.specs.OutageReport.{is_harmless, cut_off, astray}
 
 -- what kind of thing fails
 abbrev pub outage_kind : Outage → List ℕ
@@ -31,23 +32,18 @@ module _ {A : Type 0} where
   -- an outage, how many starts it cuts off and may lead astray, and which
   abbrev pub outcome_texts : Plan → List NamedRisk → Outcome A → List (List ℕ)
   outcome_texts p risks o = (outage_kind o.outage ∷ outage_name p risks o.outage
-      ∷ decimal (cut_off o) ∷ decimal (astray o) ∷ [])
+      ∷ amount (cut_off o) ∷ amount (astray o) ∷ [])
       ++ flat_map (cut_texts p) o.cuts.items
 
-  -- the same, if the outage is told
+  -- the same, if the outage cuts somebody off
   abbrev pub shown_texts : Plan → List NamedRisk → Outcome A → List (List ℕ)
-  shown_texts p risks o = if is_told o then outcome_texts p risks o else []
+  shown_texts p risks o = if is_harmless o then [] else outcome_texts p risks o
 
-  -- how many things of a kind cut nobody off
-  abbrev pub harmless : (Outage → Bool) → List (Outcome A) → ℕ
-  harmless kind outcomes = count_by (λ o. kind o.outage && is_harmless o) outcomes
-
-  -- how many outages were tried, and how many groups and exchanges cut nobody off
+  -- how many outages were tried, and how many of them cut nobody off
   abbrev pub total_texts : List (Outcome A) → List (List ℕ)
-  total_texts outcomes = decimal (length outcomes) ∷ decimal (harmless is_group outcomes)
-      ∷ decimal (harmless is_exchange outcomes) ∷ []
+  total_texts outcomes = amount (length outcomes) ∷ amount (count_by is_harmless outcomes) ∷ []
 
-  -- the totals, and the outages that are told, in their order
+  -- the totals, and the outages that cut somebody off, in their order
   abbrev pub tried_texts : Plan → List NamedRisk → List (Outcome A) → List (List ℕ)
   tried_texts p risks outcomes = total_texts outcomes ++ flat_map (shown_texts p risks) outcomes
 

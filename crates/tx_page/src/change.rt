@@ -43,7 +43,7 @@ fn write_network<W: PageSink>(difference: Option<Difference>, sink: &mut W)
     }
     set(
         &[
-            Part::Own("<p class=\"warn\">Beside lists and bars these plans "),
+            Part::Own("<p>Beside lists and bars these plans "),
             Part::Text(b"differ"),
             Part::Own(BESIDE_LISTS),
         ],

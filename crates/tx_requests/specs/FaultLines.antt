@@ -30,5 +30,5 @@ command_line TooManyTogether =
 command_line (Risks f) = text_fault_line (codes "risks") f.line (risk_row f.kind)
 command_line (NoSuchStage stages) = stage_count_line stages
 command_line NoSuchExchange = codes "telexplan: no such exchange in the plan\n"
-command_line NoSuchCode = codes "telexplan: no such code in the plan\n"
+command_line (NoSuchCode place) = codes "telexplan: no such code in the plan\n"
 command_line (NoSuchGroup place) = codes "telexplan: no such group in the plan\n"

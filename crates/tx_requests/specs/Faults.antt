@@ -29,7 +29,7 @@ fault_status TooManyTogether = 2
 fault_status (Risks f) = 2
 fault_status (NoSuchStage stages) = 64
 fault_status NoSuchExchange = 64
-fault_status NoSuchCode = 64
+fault_status (NoSuchCode place) = 64
 fault_status (NoSuchGroup place) = 64
 
 -- memory ran out

@@ -8,6 +8,4 @@ mod totals;
 
 pub use law::cut_is_shown;
 pub use outage_report::write_survival;
-pub use totals::{
-    count_cut, count_stray, harmless_exchanges, harmless_groups, is_harmless, is_told,
-};
+pub use totals::{count_cut, count_stray, is_harmless};

@@ -59,7 +59,7 @@ fn write_total_line<A: Allocator, W: Sink>(
 }
 
 /// Whether an outage is told: a named risk is, and what else cuts somebody off.
-pub fn is_told<A: Allocator>(outcome: &Outcome<A>) -> bool
+pub(crate) fn is_told<A: Allocator>(outcome: &Outcome<A>) -> bool
     ensures { result ≡ is_told outcome.now }
 {
     is_named(&outcome.outage) || !is_harmless(outcome)
@@ -101,7 +101,7 @@ fn write_harmless_line<W: Sink>(kind: &[u8], count: usize, sink: &mut W)
 }
 
 /// How many groups cut nobody off.
-pub fn harmless_groups<A: Allocator>(outcomes: &[Outcome<A>]) -> usize
+fn harmless_groups<A: Allocator>(outcomes: &[Outcome<A>]) -> usize
     ensures { result ≡ count_by (λ o. is_group o.outage && is_harmless o) outcomes.now }
 {
     outcomes
@@ -111,7 +111,7 @@ pub fn harmless_groups<A: Allocator>(outcomes: &[Outcome<A>]) -> usize
 }
 
 /// How many exchanges cut nobody off.
-pub fn harmless_exchanges<A: Allocator>(outcomes: &[Outcome<A>]) -> usize
+fn harmless_exchanges<A: Allocator>(outcomes: &[Outcome<A>]) -> usize
     ensures { result ≡ count_by (λ o. is_exchange o.outage && is_harmless o) outcomes.now }
 {
     outcomes

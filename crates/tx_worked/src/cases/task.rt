@@ -59,11 +59,11 @@ static COMMANDS: [(&str, &str, &str); 28] = [
         "survive plan --risks=risks --risks-only --totals",
     ),
     ("survive", "", "survive plan --risks=risks"),
-    ("page", "", "page @1 --limit=@2 --spare=@3"),
+    ("page", "", "page @1 --limit=@2 --spare=@3 --all-codes"),
     (
         "page-risks",
         "",
-        "page @1 --limit=@2 --spare=@3 --risks=risks",
+        "page @1 --limit=@2 --spare=@3 --risks=risks --all-codes",
     ),
     (
         "page-change",

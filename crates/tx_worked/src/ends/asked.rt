@@ -66,7 +66,10 @@ fn tell_more(command: &Command, log: &Log) {
             }
             tell_flag("totals", request.totals, log);
         }
-        Command::Page(request) => tell_word("code", request.code.as_deref(), log),
+        Command::Page(request) => {
+            tell_word("code", request.code.as_deref(), log);
+            tell_flag("all codes", request.all_codes, log);
+        }
         Command::Trace(request) => {
             let down = request.down.as_deref();
             tell_calls(&request.exchange, &request.code, down, log)

@@ -11,5 +11,4 @@ returns g c =
       ranking = c.in_ok-ranking.ensures;
       grade = (plan, e.codes);
       outcomes = c.in_ok-outcomes.ensures;
-      pictures = c.in_ok-pictures.ensures;
     }
