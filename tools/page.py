@@ -80,13 +80,14 @@ document.getElementById('measured').textContent = JSON.stringify({faults});
 </script>"""
 
 
-# Whether a narrow window shows the page in the dark colours, and no part of it is wider.
-NARROW = """<pre id="measured"></pre><script>
+# Whether a window of 390 points shows the page in the dark colours, and no part of it is wider. Chromium's own windows have 500 points at least.
+WINDOW = """<!doctype html><pre id="measured"></pre><iframe width="390" height="1800" style="border:0" srcdoc="{}"></iframe>"""
+NARROW = """<script>
 const faults = [];
-if (document.documentElement.scrollWidth > document.documentElement.clientWidth) faults.push(`wider than a window of ${document.documentElement.clientWidth} points`);
+if (document.documentElement.scrollWidth > 390) faults.push('wider than a window of 390 points');
 const [r, g, b] = getComputedStyle(document.body).backgroundColor.match(/[0-9]+/g);
 if (+r + +g + +b > 150) faults.push('not dark in the dark scheme');
-document.getElementById('measured').textContent = JSON.stringify({faults});
+parent.document.getElementById('measured').textContent = JSON.stringify({faults});
 </script>"""
 
 
@@ -169,11 +170,13 @@ def chromium(*words):
     return done.stdout, [it for it in done.stderr.splitlines() if "CONSOLE" in it]
 
 
-def measured(page, folder, script, style="", width=1150):
-    """What a script at its end finds of a page in a window so wide, which is shown in this style too; None where it did not run."""
+def measured(page, folder, script, style=None, window=None):
+    """What a script at its end finds of a page, shown in this style too and in this window; None where it did not run."""
     copy = folder / f"measured-{page.name}"
-    copy.write_text(page.read_text().replace(style or "@media screen", "@media screen").replace("</body>", script + "</body>"))
-    shown, _ = chromium("--dump-dom", "--virtual-time-budget=60000", f"--window-size={width},1800", copy.as_uri())
+    text = page.read_text().replace("</body>", script + "</body>")
+    text = text.replace(style, "@media screen") if style else text
+    copy.write_text(window.format(html.escape(text)) if window else text)
+    shown, _ = chromium("--dump-dom", "--virtual-time-budget=60000", copy.as_uri())
     found = re.search(r'<pre id="measured">(.*?)</pre>', shown, re.S)
     return json.loads(html.unescape(found.group(1))) if found and found.group(1) else None
 
@@ -215,7 +218,7 @@ def browser_faults(page, folder):
     yield from (f"it asks for {it}" for it in sorted(set(requests(log))))
     yield from (f"on the console: {it}" for it in console)
     shown, printed = measured(page, folder, MEASURE), measured(page, folder, PRINTED, "@media print")
-    narrow = measured(page, folder, NARROW, "@media(prefers-color-scheme:dark)", 390)
+    narrow = measured(page, folder, NARROW, "@media(prefers-color-scheme:dark)", WINDOW)
     if not shown or not printed or not narrow:
         yield "nothing was measured"
         return

@@ -8,7 +8,7 @@ body{margin:0;font:15px/1.5 system-ui,DejaVu Sans,sans-serif;color:var(--ink);ba
 main{max-width:68rem;margin:0 auto;padding:1.5rem 1rem 4rem}
 h1{font-size:1.6rem;margin:0 0 .6rem;overflow-wrap:anywhere}
 h2{font-size:1.15rem;margin:2.4rem 0 .6rem;padding-bottom:.2rem;border-bottom:1px solid var(--line)}
-h3{display:inline;font-size:1rem}
+h3{display:inline;font-size:1rem;color:var(--ink)}
 a{color:var(--first)}
 .v{font-size:1.15rem;margin:.4rem 0 1rem}
 .v strong{font-size:1.7rem;padding:.15rem .9rem;margin-right:.5rem;border-radius:.4rem;color:var(--on);background:var(--good);vertical-align:-.1em}

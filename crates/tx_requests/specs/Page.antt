@@ -1,5 +1,5 @@
 -- The command `page`.
-use Rattle.std.specs.Prelude.{◌≡◌, ◌⊎◌, ℕ, Bool, false, ◌||◌, ◌==◌, if◌then◌else◌, List, [], ◌∷◌, Option, None, Some, Result, Ok, Err, codes, drop, filter, length, map, string_bytes, IfSome}
+use Rattle.std.specs.Prelude.{◌≡◌, ◌⊎◌, ℕ, Bool, false, ◌||◌, ◌==◌, if◌then◌else◌, List, [], ◌∷◌, Option, None, Some, Result, Ok, Err, codes, drop, filter, length, map, option_map, string_bytes, IfSome}
 use Rattle.std.specs.List.{range_with_len}
 use Rattle.sha2.specs.Sha256.{sha256}
 use Rattle.tx_text.specs.Words.{before}
@@ -82,7 +82,7 @@ module _ {A : Type 0} where
   -- what a page shows is right
   pub record IsPageOf (r : PageRequest) (t : PageTexts A) (a : Paged A) : Type 0 where
     pub texts : a.texts ≡ t
-    pub asked : IfSome r.code (λ word. missing_code t.plan.plan (string_bytes word) ≡ None)
+    pub asked : missing_code t.plan.plan (option_map string_bytes r.code) ≡ None
     pub found : IsFound t.plan.plan r.limits.limit r.limits.spare t.risks a.found
     pub change : IsChangeIfAny t.old t.plan.plan r.limits.limit r.limits.spare a.change
     pub pictures : map (λ q. q.code) a.pictures.items
@@ -91,7 +91,7 @@ module _ {A : Type 0} where
   -- the first name in the word that is asked for of which a plan has no code
   abbrev pub IsNoCode : PageRequest → Plan → CommandFault → Type 0
   IsNoCode r p fault = (place : ℕ) × (fault ≡ NoSuchCode place)
-      × IfSome r.code (λ word. missing_code p (string_bytes word) ≡ Some place)
+      × (missing_code p (option_map string_bytes r.code) ≡ Some place)
 
   -- it is shown; or the plan has no code of figures that are asked for, or no joined network with
   -- the old one; or memory ran out

@@ -1,5 +1,5 @@
 -- Of which codes a page has pictures.
-use Rattle.std.specs.Prelude.{ℕ, Bool, true, false, not, ◌||◌, ◌==◌, if◌then◌else◌, List, Option, None, Some, is_none, length, string_bytes}
+use Rattle.std.specs.Prelude.{ℕ, Bool, true, false, not, ◌||◌, ◌==◌, if◌then◌else◌, List, Option, None, Some, is_none, length, option_map, string_bytes}
 use Rattle.std.specs.List.{list_any, position, range_with_len}
 use Rattle.std.specs.Option.{option_map_or}
 use Rattle.std.specs.Str.{bytes_eq}
@@ -20,8 +20,13 @@ abbrev pub is_named : (figures word : List ℕ) → Bool
 is_named figures word = list_any (λ w. bytes_eq w figures) (names_in word)
 
 -- the place of the first name in a word of which the plan has no code
-abbrev pub missing_code : Plan → List ℕ → Option ℕ
-missing_code p word = position (λ w. is_none (code_named p w)) (names_in word)
+abbrev pub first_missing : Plan → List ℕ → Option ℕ
+first_missing p word = position (λ w. is_none (code_named p w)) (names_in word)
+
+-- the same, if there is a word
+abbrev pub missing_code : Plan → Option (List ℕ) → Option ℕ
+missing_code p None = None
+missing_code p (Some word) = first_missing p word
 
 -- a bar is set or lifted
 abbrev pub is_switched : (was is : Bool) → Bool
@@ -63,5 +68,5 @@ module _ {A : Type 0} where
   abbrev pub is_shown : PageRequest → PageTexts A → Ranking A → Option (FoundChange A) → ℕ → Bool
   is_shown r t ranking change c =
       if r.all_codes then true
-      else option_map_or (λ word. is_named (figures_of t.plan.plan c) (string_bytes word))
-      r.code (has_finding c ranking || is_touched t.old change (figures_of t.plan.plan c))
+      else option_map_or (is_named (figures_of t.plan.plan c)) (option_map string_bytes r.code)
+      (has_finding c ranking || is_touched t.old change (figures_of t.plan.plan c))

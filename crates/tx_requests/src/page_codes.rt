@@ -1,6 +1,6 @@
 // Of which codes a page has pictures.
-ghost use Rattle.std.specs.Prelude.{◌≡◌, ℕ, Some, None, IfOk, IfErr, IfSome};
-ghost use Rattle.tx_requests.specs.PageCodes.{is_named, missing_code, is_about, has_finding, differs_at, differs, is_touched, is_shown};
+ghost use Rattle.std.specs.Prelude.{◌≡◌, ℕ, Some, None, option_map, IfOk, IfErr};
+ghost use Rattle.tx_requests.specs.PageCodes.{is_named, first_missing, missing_code, is_about, has_finding, differs_at, differs, is_touched, is_shown};
 
 use crate::fault::CommandFault;
 use crate::page_change::FoundChange;
@@ -20,8 +20,8 @@ fn is_named(word: &str, figures: &[u8]) -> bool
 }
 
 /// The place of the first name in a word of which the plan has no code.
-fn missing_code<A: Allocator>(plan: &Plan<A>, word: &str) -> Option<usize>
-    ensures { result ≡ missing_code plan.now word.now }
+fn first_missing<A: Allocator>(plan: &Plan<A>, word: &str) -> Option<usize>
+    ensures { result ≡ first_missing plan.now word.now }
 {
     word.split(',')
         .position(|name| plan.code_named(name.as_bytes()).is_none())
@@ -33,11 +33,12 @@ pub(crate) fn refuse_missing<A: Allocator>(
     word: Option<&str>,
 ) -> Result<(), CommandFault>
     ensures missing { IfErr result (λ fault. (place : ℕ) × (fault ≡ CommandFault.NoSuchCode place)
-        × IfSome word.entry (λ w. missing_code plan.now w.now ≡ Some place)) }
-    ensures none { IfOk result (λ _. IfSome word.entry (λ w. missing_code plan.now w.now ≡ None)) }
+        × (missing_code plan.now (option_map (λ w. w.now) word.entry) ≡ Some place)) }
+    ensures none { IfOk result (λ _.
+        missing_code plan.now (option_map (λ w. w.now) word.entry) ≡ None) }
 {
     match word {
-        Some(word) => match missing_code(plan, word) {
+        Some(word) => match first_missing(plan, word) {
             Some(place) => Err(CommandFault::NoSuchCode(place)),
             None => Ok(()),
         },
