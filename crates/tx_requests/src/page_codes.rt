@@ -71,10 +71,7 @@ fn differs_at<A: Allocator>(joined: &Joined<A>, code: CodeId, exchange: Exchange
     ensures { result ≡ differs_at joined.now.old joined.now.new code exchange }
 {
     let (old, new) = (&joined.old, &joined.new);
-    let (was, is) = (
-        old.is_barred(exchange, code),
-        new.is_barred(exchange, code),
-    );
+    let (was, is) = (old.is_barred(exchange, code), new.is_barred(exchange, code));
     old.list(exchange, code) != new.list(exchange, code) || was != is
 }
 
