@@ -4,17 +4,17 @@ _telexplan_names() {
     [ -f "${COMP_WORDS[2]}" ] && sed -n "s/^[[:blank:]]*$1[[:blank:]]\{1,\}\([A-Z0-9]*\).*/\1/p" "${COMP_WORDS[2]}"
 }
 _telexplan() {
-    local word=${COMP_WORDS[COMP_CWORD]} words= before=
+    local word=${COMP_WORDS[COMP_CWORD]} words= before= kind=CODE
     case ${COMP_WORDS[COMP_CWORD - 1]} in
         --limit) words=$(echo {0..62}) ;;
         --spare) words=$(echo {0..15}) ;;
         --stage) words=$(echo {0..128}) ;;
-        --code) words=$(_telexplan_names CODE) ;;
         --through) words="$(_telexplan_names EXCHANGE) $(_telexplan_names GROUP)" ;;
-        --down)
+        --down | --code)
             # one more name behind the last comma
             case $word in *,*) before=${word%,*}, ;; esac
-            words=$(_telexplan_names GROUP | sed "s/^/$before/")
+            case ${COMP_WORDS[COMP_CWORD - 1]} in --down) kind=GROUP ;; esac
+            words=$(_telexplan_names $kind | sed "s/^/$before/")
             ;;
         --cert | --mixture | --plan | --risks | --counter | --from | --html) ;;
         *)
@@ -28,7 +28,7 @@ _telexplan() {
                 *:order:-*) words="--limit --spare --stage --plan --cert --help" ;;
                 *:lint:-*) words="--risks --help" ;;
                 *:survive:-*) words="--risks --risks-only --from --help" ;;
-                *:page:-*) words="--limit --spare --risks --from --code --html --help" ;;
+                *:page:-*) words="--limit --spare --risks --from --code --all-codes --html --help" ;;
                 *:check:-*) words="--limit --spare --help" ;;
                 *:run:-*) words="--cert --limit --spare --strict --echo --summary --help" ;;
                 *:grade:-* | *:codes:-*) words="--help" ;;

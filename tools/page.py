@@ -1,14 +1,15 @@
 #!/usr/bin/env python3
-"""Looks at pages of `telexplan page` as a browser shows them, with Debian's chromium.
+"""Looks at pages of `telexplan page` as a browser shows and prints them, with Debian's chromium and poppler-utils.
 
     tools/page.py PAGE..                      # refuses what is wrong with a page; the exit status is 1 if there is anything
-    tools/page.py --program PROGRAM PAGE..    # and so with pages of the examples and of networks of 60 and of 256 exchanges, as the program writes them
+    tools/page.py --program PROGRAM PAGE..    # and so with pages of the examples and of networks of 36, 60 and 256 exchanges, as the program writes them
     tools/page.py --pictures FOLDER PAGE..    # makes a picture of each page in the folder too
 
 Of each page: its elements are closed in their order, its headings go down one step at a time, its tables have heads and its pictures names, its links lead to what is there,
 nothing is fetched, and nothing is on the console. Its verdict has its own colour.
 In its pictures no box is over another, no arrow runs through a box, and where the columns are ranks no arrow goes to the left. Its colours have the contrast of
-WCAG 2, level AA, in the light and in the dark scheme. Printed it shows its closed parts too."""
+WCAG 2, level AA, in the light and in the dark scheme. It is not wider than a window of 390 points. Printed it shows its closed parts too, no word lies over another or is
+smaller than 7 points, no sheet is blank but for a title, and each sheet of a stage has its name."""
 import html
 import html.parser
 import json
@@ -20,7 +21,7 @@ import sys
 import tempfile
 
 VOID = {"meta", "br", "link", "hr", "img", "input"}
-CHROMIUM = shutil.which("chromium")
+CHROMIUM, PDFTOTEXT = shutil.which("chromium"), shutil.which("pdftotext")
 TOP = pathlib.Path(__file__).resolve().parent.parent
 
 # What is written on what, with the least contrast: 4.5 for text, 3 for lines and boxes.
@@ -76,6 +77,17 @@ for (const part of document.querySelectorAll('details')) {
   if (![...part.children].every(it => it.checkVisibility())) faults.push(`${part.id || part.textContent}: closed where it is printed`);
 }
 document.getElementById('measured').textContent = JSON.stringify({faults});
+</script>"""
+
+
+# Whether a window of 390 points shows the page in the dark colours, and no part of it is wider. Chromium's own windows have 500 points at least.
+WINDOW = """<!doctype html><pre id="measured"></pre><iframe width="390" height="1800" style="border:0" srcdoc="{}"></iframe>"""
+NARROW = """<script>
+const faults = [];
+if (document.documentElement.scrollWidth > 390) faults.push('wider than a window of 390 points');
+const [r, g, b] = getComputedStyle(document.body).backgroundColor.match(/[0-9]+/g);
+if (+r + +g + +b > 150) faults.push('not dark in the dark scheme');
+parent.document.getElementById('measured').textContent = JSON.stringify({faults});
 </script>"""
 
 
@@ -158,13 +170,45 @@ def chromium(*words):
     return done.stdout, [it for it in done.stderr.splitlines() if "CONSOLE" in it]
 
 
-def measured(page, folder, script, style="@media print"):
-    """What a script at its end finds of a page that is shown in this style; None where it did not run."""
+def measured(page, folder, script, style=None, window=None):
+    """What a script at its end finds of a page, shown in this style too and in this window; None where it did not run."""
     copy = folder / f"measured-{page.name}"
-    copy.write_text(page.read_text().replace("@media print", style).replace("</body>", script + "</body>"))
+    text = page.read_text().replace("</body>", script + "</body>")
+    text = text.replace(style, "@media screen") if style else text
+    copy.write_text(window.format(html.escape(text)) if window else text)
     shown, _ = chromium("--dump-dom", "--virtual-time-budget=60000", copy.as_uri())
     found = re.search(r'<pre id="measured">(.*?)</pre>', shown, re.S)
     return json.loads(html.unescape(found.group(1))) if found and found.group(1) else None
+
+
+def sheets(page, folder):
+    """The words on each sheet of a page that is printed: where each begins and ends, across and down, and the word."""
+    file, boxes = folder / f"{page.name}.pdf", folder / f"{page.name}.boxes"
+    chromium("--no-pdf-header-footer", f"--print-to-pdf={file}", page.resolve().as_uri())
+    subprocess.run([PDFTOTEXT, "-bbox", file, boxes], check=True)
+    for sheet in re.split("<page ", boxes.read_text())[1:]:
+        found = re.findall(r'<word xMin="([^"]*)" yMin="([^"]*)" xMax="([^"]*)" yMax="([^"]*)">(.*?)</word>', sheet)
+        yield [(*map(float, it[:4]), html.unescape(it[4])) for it in found]
+
+
+def print_faults(page, folder):
+    """What is wrong with its sheets. A font of seven points has boxes of eight."""
+    printed = list(sheets(page, folder))
+    within = False
+    for number, words in enumerate(printed, 1):
+        texts = [it[4] for it in words]
+        if len(texts) < 8 and number < len(printed):
+            yield f"sheet {number} is blank but for {' '.join(texts)!r}"
+        yield from (f"sheet {number}: {text} is smaller than seven points" for _, top, _, below, text in words if below - top < 8)
+        for i, (left, top, right, below, text) in enumerate(words):
+            for other in words[i + 1:]:
+                wide, high = min(right, other[2]) - max(left, other[0]), min(below, other[3]) - max(top, other[1])
+                if wide > 1 and high > 0.4 * (below - top):
+                    yield f"sheet {number}: {text} and {other[4]} lie over each other"
+        within = within and texts[:1] not in (["Codes"], ["After"]) or "Stage" in texts
+        if within and "Stage" not in texts:
+            yield f"sheet {number} is of a stage, and does not have its name"
+    print(f"{page.name}: {len(printed)} sheets")
 
 
 def browser_faults(page, folder):
@@ -173,11 +217,14 @@ def browser_faults(page, folder):
     _, console = chromium("--dump-dom", f"--log-net-log={log}", page.resolve().as_uri())
     yield from (f"it asks for {it}" for it in sorted(set(requests(log))))
     yield from (f"on the console: {it}" for it in console)
-    shown, printed = measured(page, folder, MEASURE), measured(page, folder, PRINTED, "@media screen")
-    if not shown or not printed:
+    shown, printed = measured(page, folder, MEASURE), measured(page, folder, PRINTED, "@media print")
+    narrow = measured(page, folder, NARROW, "@media(prefers-color-scheme:dark)", WINDOW)
+    if not shown or not printed or not narrow:
         yield "nothing was measured"
         return
-    yield from shown["faults"] + printed["faults"]
+    yield from shown["faults"] + printed["faults"] + narrow["faults"]
+    if PDFTOTEXT:
+        yield from print_faults(page, folder)
     print(f"{page.name}: {page.stat().st_size} bytes, {shown['pictures']} pictures with {shown['boxes']} boxes and {shown['arrows']} arrows")
 
 
@@ -196,22 +243,26 @@ def faults_of(page, folder):
 
 
 def network(layers, codes):
-    """The plan of a network of the benchmark."""
+    """The plan of a network of the benchmark, and one in which each list begins with its second group."""
     sys.path.insert(0, str(TOP / "bench"))
     from inputs import Network
     made = Network(7, layers, codes, codes, layers * 64, 7)
-    return "\n".join(made.plan()) + "\n"
+    for _ in range(2):
+        yield "\n".join(made.plan()) + "\n"
+        made.lists = {it: [*groups[1:], *groups[:1]] for it, groups in made.lists.items()}
 
 
 def pages_made(program, folder):
-    """Pages of the examples and of two networks, as a program writes them."""
-    asked = [("national", "--limit 2 --spare 1 --risks examples/national.risks"), ("national-loop", "--limit 2 --spare 1"), ("national-short", "--limit 2 --spare 1"),
+    """Pages of the examples and of changes of three networks, as a program writes them."""
+    asked = [("national", "--limit 2 --spare 1 --all-codes --risks examples/national.risks"), ("national-loop", "--limit 2 --spare 1"), ("national-short", "--limit 2 --spare 1"),
              ("national-long", "--limit 2 --spare 1"), ("national-ambiguous", "--limit 2 --spare 1"), ("gateway-loop", "--limit 1 --spare 0"),
              ("three-barred-mended", "--limit 1 --spare 1 --from examples/three.plan"), ("national-loop-mended", "--limit 2 --spare 1 --from examples/national-loop.plan")]
     plans = [(name, f"examples/{name}.plan", options) for name, options in asked]
-    for name, layers, codes in (("exchanges-60", 15, 12), ("exchanges-256", 64, 4)):
-        (folder / f"{name}.plan").write_text(network(layers, codes))
-        plans.append((name, folder / f"{name}.plan", "--limit 40 --spare 3"))
+    for name, layers, codes in (("exchanges-36", 9, 12), ("exchanges-60", 15, 12), ("exchanges-256", 64, 4)):
+        old, new = folder / f"{name}.old", folder / f"{name}.plan"
+        for file, text in zip((old, new), network(layers, codes)):
+            file.write_text(text)
+        plans.append((name, new, f"--limit 40 --spare 3 --from {old}"))
     for name, plan, options in plans:
         page = folder / f"{name}.html"
         page.write_bytes(subprocess.run([pathlib.Path(program).resolve(), "page", plan, *options.split()], cwd=TOP, capture_output=True).stdout)
@@ -227,14 +278,16 @@ def main(words):
     if CHROMIUM is None:
         print("tools/page.py: chromium is not here, so no page was looked at")
         return 0
+    if PDFTOTEXT is None:
+        print("tools/page.py: pdftotext is not here, so no page was printed")
     wrong = count = 0
     with tempfile.TemporaryDirectory() as folder:
         made = pages_made(options["--program"], pathlib.Path(folder)) if "--program" in options else []
         for page in [*map(pathlib.Path, words), *made]:
             count += 1
-            if page.stem.startswith("national") and page.stat().st_size > 100000:
+            if page.stem.startswith("national") and page.stat().st_size > 45000:
                 wrong += 1
-                print(f"{page.name}: more than 100,000 bytes")
+                print(f"{page.name}: more than 45,000 bytes")
             for fault in faults_of(page, pathlib.Path(folder)):
                 wrong += 1
                 print(f"{page.name}: {fault}")

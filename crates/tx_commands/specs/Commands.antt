@@ -119,7 +119,7 @@ Asks name found (Compare r) = (name ≡ codes "survive") × Names found (codes "
 Asks name found (Page r) = (name ≡ codes "page") × Names found (codes "plan") r.plan
     × GivesLimits found r.limits × NamesIfAny found (codes "risks") r.risks
     × NamesIfAny found (codes "from") r.old × NamesIfAny found (codes "code") r.code
-    × NamesIfAny found (codes "html") r.html
+    × (is_set found (codes "all-codes") ≡ r.all_codes) × NamesIfAny found (codes "html") r.html
 Asks name found (Grade r) = (name ≡ codes "grade") × Names found (codes "plan") r.plan
 Asks name found (Trace r) = (name ≡ codes "trace") × Names found (codes "plan") r.plan
     × Names found (codes "exchange") r.exchange × Names found (codes "code") r.code

@@ -7,15 +7,16 @@ ghost use Rattle.tx_commands.specs.inner.Refused.{IsRefused};
 
 use crate::arguments::{RISKS, Syntax};
 use crate::command::Command;
-use crate::given::{limits, text};
+use crate::given::{is_set, limits, text};
 use crate::misuse::Misuse;
 use clap::ArgMatches;
 use std::alloc::{AllocError, Global};
 use tx_plan::Limits;
 
 /// `page PLAN --limit L --spare K`: a page about the plan, with the named risks of a file, if one is
-/// named, with the stages from an old plan, if one is named, and with the lists of one code alone,
-/// if its figures are given. It may go into a file.
+/// named, with the stages from an old plan, if one is named, and with pictures of the lists for all
+/// codes, or for those of which the figures are given, if either is asked for. It may go into a
+/// file.
 #[derive(Drop)]
 pub struct PageRequest {
     pub plan: String,
@@ -23,12 +24,14 @@ pub struct PageRequest {
     pub risks: Option<String>,
     pub old: Option<String>,
     pub code: Option<String>,
+    pub all_codes: bool,
     pub html: Option<String>,
 }
 
 const PAGE_HELP: &str = "The page is one file, which needs no other and fetches nothing. It has the
 verdict, what is wrong, the stages of a change, the grade, outages, the lists of
-each code as a picture, and the network.
+codes as pictures, and the network. Without --code and --all-codes these are the
+codes with a finding and those that the change touches.
 
 Example: telexplan page own.plan --limit 1 --spare 1 --html own.html
 
@@ -55,9 +58,11 @@ change into those of the plan; - is standard input",
     )
     .option(
         "code",
-        "CODE",
-        "Show the lists of this code alone, by its figures",
+        "CODES",
+        "Show the lists of these codes alone, by their figures,
+with a comma between two",
     )
+    .flag("all-codes", "Show the lists of each code")
     .option("html", "OUT", "Write the page to this file")
     .command
 }
@@ -74,6 +79,7 @@ pub(crate) fn page_of(alloc: Global, matches: &ArgMatches<'_>) -> Result<Command
     let risks = text(alloc, matches, "risks")?;
     let old = text(alloc, matches, "from")?;
     let code = text(alloc, matches, "code")?;
+    let all_codes = is_set(matches, "all-codes");
     let html = text(alloc, matches, "html")?;
     let limits = limits(alloc, matches)?;
     Ok(Command::Page(PageRequest {
@@ -82,6 +88,7 @@ pub(crate) fn page_of(alloc: Global, matches: &ArgMatches<'_>) -> Result<Command
         risks,
         old,
         code,
+        all_codes,
         html,
     }))
 }

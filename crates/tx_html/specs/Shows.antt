@@ -3,7 +3,8 @@ use Rattle.std.specs.Prelude.{◌≡◌, ℕ, Bool, true, false, List, [], ◌�
 use Rattle.std.specs.Io.KnownBytes.{append_known}
 use Rattle.tx_text.specs.declared.sink.WriteFault.{WriteFault}
 use Rattle.tx_html.specs.declared.part.Part.{Part}
-use Rattle.tx_html.specs.declared.part.Part.TheVariants.{Own, Value, Size, Text, Count}
+use Rattle.tx_html.specs.declared.part.Part.TheVariants.{Own, Value, Size, Text, Count, Amount}
+use Rattle.tx_html.specs.Amounts.{amount}
 use Rattle.tx_html.specs.Escaped.{escaped}
 
 -- the texts that a part of a page shows
@@ -13,6 +14,7 @@ part_texts (Value words number) = []
 part_texts (Size wide high) = []
 part_texts (Text text) = text.now ∷ []
 part_texts (Count number) = decimal number ∷ []
+part_texts (Amount number) = amount number ∷ []
 
 -- A text stands in the bytes, escaped, and Rest holds of what comes after it.
 pub record StandsIn (text : List ℕ) (Rest : List ℕ → Type 0) (bytes : List ℕ) : Type 0 where

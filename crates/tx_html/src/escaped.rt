@@ -61,7 +61,8 @@ fn write_each<W: Sink>(text: &[u8], sink: &mut W)
     }
 }
 
-fn write_byte<W: Sink>(byte: u8, sink: &mut W)
+/// Writes what stands for a byte.
+pub(crate) fn write_byte<W: Sink>(byte: u8, sink: &mut W)
     ensures { Puts W.taken W.failed sink.old sink.new (escaped_byte byte) }
 {
     if is_plain(byte) {

@@ -1,6 +1,7 @@
 //! Pages of HTML, on which no text of a plan is markup.
 #![tactic(auto)]
 
+mod amount;
 mod escaped;
 mod law;
 mod page_sink;

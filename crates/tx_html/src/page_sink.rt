@@ -7,8 +7,8 @@ use crate::part::{Part, set_part};
 use crate::path::{Path, set_data};
 use tx_text::{Sink, WriteFault};
 
-/// Where a page is written. What the page shows comes to it as a `Part::Text` or a `Part::Count`
-/// alone, and whoever writes to any such sink has no other way.
+/// Where a page is written. What the page shows comes to it as a `Part::Text`, a `Part::Count`
+/// or a `Part::Amount` alone, and whoever writes to any such sink has no other way.
 pub trait PageSink {
     /// What it has taken.
     ghost seen: { Self → Seen };

@@ -1,7 +1,9 @@
 // What a page is made of.
 ghost use Rattle.std.specs.Prelude.{[], ◌∷◌};
+ghost use Rattle.tx_html.specs.Amounts.{amount};
 ghost use Rattle.tx_html.specs.Shows.{Sets, seen_by, part_texts};
 
+use crate::amount::write_in_threes;
 use crate::escaped::write_escaped;
 use itoa::Buffer;
 use tx_text::{Sink, put_bytes};
@@ -20,6 +22,8 @@ pub enum Part<'a> {
     Text(&'a [u8]),
     /// A number that the page shows.
     Count(u64),
+    /// A number that may be large: the page shows its figures in threes.
+    Amount(u64),
 }
 
 /// Sets a part of a page.
@@ -33,6 +37,7 @@ pub(crate) fn set_part<W: Sink>(part: Part<'_>, sink: &mut W)
         Part::Size(wide, high) => set_size(wide, high, sink),
         Part::Text(text) => set_text(text, sink),
         Part::Count(number) => set_text(buffer.format(number).as_bytes(), sink),
+        Part::Amount(number) => set_amount(number, sink),
     }
 }
 
@@ -75,4 +80,11 @@ fn set_text<W: Sink>(text: &[u8], sink: &mut W)
     ensures { Sets (seen_by W.taken W.failed) sink.old sink.new (text.now ∷ []) }
 {
     write_escaped(text, sink);
+}
+
+/// Sets a number, its figures in threes.
+fn set_amount<W: Sink>(number: u64, sink: &mut W)
+    ensures { Sets (seen_by W.taken W.failed) sink.old sink.new (amount number ∷ []) }
+{
+    write_in_threes(Buffer::new().format(number).as_bytes(), sink);
 }

@@ -3,6 +3,7 @@ use Rattle.std.specs.Prelude.{ℕ, Bool, true, false, ◌+◌, ◌-◌, ◌==◌
 use Rattle.std.specs.List.{range_with_len}
 use Rattle.std.specs.Str.Parse.{digits_value}
 use Rattle.hex.specs.Hex.{encode_lower}
+use Rattle.tx_html.specs.Amounts.{amount}
 use Rattle.tx_plan.specs.Plan.{Plan}
 use Rattle.tx_plan.specs.Routes.{is_origin}
 use Rattle.tx_plan.specs.declared.range.LineRange.{LineRange}
@@ -11,7 +12,7 @@ abbrev pub verdict_word : (safe : Bool) → List ℕ
 verdict_word true = codes "YES"
 verdict_word false = codes "NO"
 
--- the title, and the name of the file
+-- the name in the title, and above the page
 abbrev pub start_texts : List ℕ → Bool → List (List ℕ)
 start_texts name safe = name ∷ verdict_word safe ∷ name ∷ []
 
@@ -46,7 +47,7 @@ origins_in p = count_by (is_origin p) (range_with_len 0 (length p.exchanges))
 
 -- exchanges, codes, groups, lists, lines, and exchanges where calls start
 abbrev pub count_texts : Plan → List (List ℕ)
-count_texts p = map decimal (length p.exchanges ∷ length p.codes ∷ length p.groups
+count_texts p = map amount (length p.exchanges ∷ length p.codes ∷ length p.groups
     ∷ length p.routes ∷ lines_in p ∷ origins_in p ∷ [])
 
 -- a warning, if there is no line

@@ -1,5 +1,6 @@
 -- What a page shows of the network.
-use Rattle.std.specs.Prelude.{ℕ, ◌==◌, if◌then◌else◌, List, [], ◌∷◌, ◌++◌, length, codes, decimal}
+use Rattle.std.specs.Prelude.{ℕ, ◌==◌, if◌then◌else◌, List, [], ◌∷◌, ◌++◌, length, codes}
+use Rattle.tx_html.specs.Amounts.{amount}
 use Rattle.tx_plan.specs.Plan.{Plan, exchange_name, figures_of, group_name, home_of}
 use Rattle.tx_plan.specs.Circuits.{ends_of, count_of, direction_of}
 use Rattle.tx_plan.specs.declared.ids.Direction.{Direction}
@@ -24,7 +25,7 @@ seized_from BothWay = codes "both ends"
 abbrev pub group_texts : Plan → ℕ → List (List ℕ)
 group_texts p g = group_name p g ∷ exchange_name p (ends_of p g).0
     ∷ exchange_name p (ends_of p g).1 ∷ seized_from (direction_of p g)
-    ∷ decimal (count_of p g) ∷ []
+    ∷ amount (count_of p g) ∷ []
 
 -- the picture, the exchanges, and then the groups, in order of declaration
 abbrev pub network_texts : Plan → List (List ℕ)

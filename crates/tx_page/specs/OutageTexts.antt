@@ -1,5 +1,5 @@
 -- What a page shows of outages.
-use Rattle.std.specs.Prelude.{ℕ, Bool, not, ◌||◌, if◌then◌else◌, List, [], ◌∷◌, ◌++◌, length, codes, decimal, slice_get}
+use Rattle.std.specs.Prelude.{ℕ, Bool, if◌then◌else◌, List, [], ◌∷◌, ◌++◌, length, codes, count_by, slice_get}
 use Rattle.std.specs.List.{flat_map}
 use Rattle.std.specs.Option.{option_map_or}
 use Rattle.tx_plan.specs.Plan.{Plan, exchange_name, figures_of, group_name}
@@ -8,8 +8,8 @@ use Rattle.tx_risk.specs.declared.outage.Outage.{Outage}
 use Rattle.tx_risk.specs.declared.outage.Outage.TheVariants.{Group, Exchange, Named}
 use Rattle.tx_risk.specs.declared.cut.Cut.{Cut}
 use Rattle.tx_risk.specs.declared.cut.Outcome.{Outcome}
-use Rattle.tx_risk_report.specs.OutageReport.{is_of, is_harmless, harmless_of, cut_off, astray}
-use Rattle.tx_risk_report.specs.declared.totals.Kind.TheVariants.{Risks, Groups, Exchanges}
+use Rattle.tx_html.specs.Amounts.{amount}
+use Rattle.tx_risk_report.specs.OutageReport.{is_harmless, cut_off, astray}
 
 -- what kind of thing fails
 abbrev pub outage_kind : Outage → List ℕ
@@ -32,23 +32,18 @@ module _ {A : Type 0} where
   -- an outage, how many starts it cuts off and may lead astray, and which
   abbrev pub outcome_texts : Plan → List NamedRisk → Outcome A → List (List ℕ)
   outcome_texts p risks o = (outage_kind o.outage ∷ outage_name p risks o.outage
-      ∷ decimal (cut_off o.cuts.items) ∷ decimal (astray o.cuts.items) ∷ [])
+      ∷ amount (cut_off o.cuts.items) ∷ amount (astray o.cuts.items) ∷ [])
       ++ flat_map (cut_texts p) o.cuts.items
 
-  -- a named risk is told, and what else cuts somebody off
-  abbrev pub is_told : Outcome A → Bool
-  is_told o = is_of Risks o.outage || not (is_harmless o)
-
-  -- the same, if the outage is told
+  -- the same, if the outage cuts somebody off
   abbrev pub shown_texts : Plan → List NamedRisk → Outcome A → List (List ℕ)
-  shown_texts p risks o = if is_told o then outcome_texts p risks o else []
+  shown_texts p risks o = if is_harmless o then [] else outcome_texts p risks o
 
-  -- how many outages were tried, and how many groups and exchanges cut nobody off
+  -- how many outages were tried, and how many of them cut nobody off
   abbrev pub total_texts : List (Outcome A) → List (List ℕ)
-  total_texts outcomes = decimal (length outcomes) ∷ decimal (harmless_of Groups outcomes)
-      ∷ decimal (harmless_of Exchanges outcomes) ∷ []
+  total_texts outcomes = amount (length outcomes) ∷ amount (count_by is_harmless outcomes) ∷ []
 
-  -- the totals, and the outages that are told, in their order
+  -- the totals, and the outages that cut somebody off, in their order
   abbrev pub tried_texts : Plan → List NamedRisk → List (Outcome A) → List (List ℕ)
   tried_texts p risks outcomes = total_texts outcomes ++ flat_map (shown_texts p risks) outcomes
 

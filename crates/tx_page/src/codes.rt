@@ -1,6 +1,7 @@
 // The codes of a plan.
-ghost use Rattle.std.specs.Prelude.{[], ◌∷◌, decimal};
+ghost use Rattle.std.specs.Prelude.{[], ◌∷◌};
 ghost use Rattle.tx_plan.specs.Plan.{exchange_name, figures_of, home_of};
+ghost use Rattle.tx_html.specs.Amounts.{amount};
 ghost use Rattle.tx_html.specs.Shows.{Sets};
 ghost use Rattle.tx_page.specs.Heading.{lines_of};
 ghost use Rattle.tx_page.specs.CodeTexts.{bounds_texts, code_texts, codes_texts};
@@ -10,37 +11,47 @@ use std::alloc::Allocator;
 use tx_html::{PageSink, Part, set};
 use tx_plan::{CodeId, Plan};
 use tx_rank::{Bounds, Grade};
+use tx_svg::Picture;
 
 const HEAD: &str = "<h2>Codes</h2><div class=\"t\"><table><thead><tr><th scope=\"col\">Code</th>\
 <th scope=\"col\">Home</th><th scope=\"col\" class=\"k\">Lines</th><th scope=\"col\" \
 class=\"k\">Least limit</th><th scope=\"col\" class=\"k\">Greatest spare</th><th scope=\"col\" \
 class=\"k\">Groups on a way, at most</th></tr></thead><tbody>";
 
-/// Writes the table of codes, each linked to its picture if all have one.
+/// Writes the table of codes, each linked to its picture, if the page has one.
 pub fn write_codes<A: Allocator, W: PageSink>(
     plan: &Plan<A>,
     grade: &Grade<A>,
-    linked: bool,
+    pictures: &[Picture<A>],
     sink: &mut W,
 )
     ensures { Sets W.seen sink.old sink.new
         (codes_texts plan.now grade.now.codes.items) }
 {
     set(&[Part::Own(HEAD)], sink);
-    write_rows(plan, &grade.codes, linked, sink);
+    write_rows(plan, &grade.codes, pictures, sink);
     set(&[Part::Own("</tbody></table></div>")], sink);
 }
 
 fn write_rows<A: Allocator, W: PageSink>(
     plan: &Plan<A>,
     grades: &[(CodeId, Option<Bounds>)],
-    linked: bool,
+    pictures: &[Picture<A>],
     sink: &mut W,
 )
     ensures { Sets W.seen sink.old sink.new (codes_texts plan.now grades.now) }
 {
     for i in 0..grades.len() {
-        write_row(plan, grades[i], linked, sink);
+        write_row(plan, grades[i], has_picture(pictures, grades[i].0), sink);
+    }
+}
+
+/// Whether one of the pictures, which are in the order of their codes, is of a code.
+fn has_picture<A: Allocator>(pictures: &[Picture<A>], code: CodeId) -> bool {
+    let before = pictures.partition_point(|picture| picture.code.index() < code.index());
+    match pictures.get(before) {
+        Some(picture) => picture.code == code,
+        None => false,
     }
 }
 
@@ -59,7 +70,7 @@ fn write_row<A: Allocator, W: PageSink>(
 fn write_code<A: Allocator, W: PageSink>(plan: &Plan<A>, code: CodeId, linked: bool, sink: &mut W)
     ensures { Sets W.seen sink.old sink.new
         (figures_of plan.now code ∷ exchange_name plan.now (home_of plan.now code)
-        ∷ decimal (lines_of plan.now code) ∷ []) }
+        ∷ amount (lines_of plan.now code) ∷ []) }
 {
     write_figures(plan, code, linked, sink);
     set(
@@ -67,7 +78,7 @@ fn write_code<A: Allocator, W: PageSink>(plan: &Plan<A>, code: CodeId, linked: b
             Part::Own("</th><td>"),
             Part::Text(plan.exchange_name(plan.home(code))),
             Part::Own("</td><td class=\"k\">"),
-            Part::Count(lines_of(plan, code)),
+            Part::Amount(lines_of(plan, code)),
         ],
         sink,
     );

@@ -111,7 +111,7 @@ fn write_group<A: Allocator, W: PageSink>(plan: &Plan<A>, group: GroupId, sink: 
             Part::Own("</td><td>"),
             Part::Text(seized_from(plan.direction(group))),
             Part::Own("</td><td class=\"k\">"),
-            Part::Count(u64::from(plan.group_count(group))),
+            Part::Amount(u64::from(plan.group_count(group))),
             Part::Own("</td></tr>"),
         ],
         sink,

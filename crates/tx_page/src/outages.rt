@@ -1,17 +1,18 @@
 // What outages cut off.
-ghost use Rattle.std.specs.Prelude.{◌≡◌};
+ghost use Rattle.std.specs.Prelude.{◌≡◌, count_by};
 ghost use Rattle.std.specs.List.{flat_map};
 ghost use Rattle.tx_html.specs.Shows.{Sets};
-ghost use Rattle.tx_page.specs.OutageTexts.{outage_kind, outage_name, cut_texts, outcome_texts, is_told, shown_texts, total_texts, tried_texts, outages_texts};
+ghost use Rattle.tx_risk_report.specs.OutageReport.{is_harmless};
+ghost use Rattle.tx_page.specs.OutageTexts.{outage_kind, outage_name, cut_texts, outcome_texts, shown_texts, total_texts, tried_texts, outages_texts};
 
 use std::alloc::Allocator;
 use tx_html::{PageSink, Part, set};
 use tx_plan::Plan;
 use tx_risk::{Cut, Outage, Outcome, Risks};
-use tx_risk_report::{Kind, count_cut, count_harmless, count_stray, is_harmless, is_of};
+use tx_risk_report::{count_cut, count_stray, is_harmless};
 
-/// Writes each named risk, and each group and each exchange that cuts somebody off, with those that
-/// it cuts off; or that the plan has no grade.
+/// Writes each outage that cuts somebody off, with those that it cuts off, and how many do not; or
+/// that the plan has no grade.
 pub fn write_outages<A: Allocator, W: PageSink>(
     plan: &Plan<A>,
     risks: &Risks<A>,
@@ -44,11 +45,12 @@ fn write_graded<A: Allocator, W: PageSink>(
 }
 
 const TRIED: &str =
-    " outages were tried: each group, each exchange and each named risk alone. Below \
-is each named risk, and whatever else cuts calls off or may lead them astray. Cut off: no way home is \
-left from where they start. Astray: one is left, and also one to an exchange that has no group left. \
-Calls that start at an exchange that fails, and calls for codes at home there, are not counted. \
-Groups that cut nobody off and lead nobody astray: ";
+    " outages were tried: each group, each exchange and each named risk alone. Outages \
+that cut nobody off and lead nobody astray: ";
+
+const OTHERS: &str = ". Below are the others. Cut off: no way home is left from where calls start. \
+Astray: one is left, and also one to an exchange that has no group left. Calls that start at an exchange \
+that fails, and calls for codes at home there, are not counted.</p>";
 
 const UNGRADED: &str = "<h2>Outages</h2><p>The plan has no grade: it is safe for no limit and no \
 spare number. So no outage was tried.</p>";
@@ -59,15 +61,23 @@ fn write_tried<A: Allocator, W: PageSink>(outcomes: &[Outcome<A>], sink: &mut W)
     set(
         &[
             Part::Own("<h2>Outages</h2><p>"),
-            Part::Count(outcomes.len() as u64),
+            Part::Amount(outcomes.len() as u64),
             Part::Own(TRIED),
-            Part::Count(count_harmless(outcomes, Kind::Groups) as u64),
-            Part::Own(". Exchanges that do neither: "),
-            Part::Count(count_harmless(outcomes, Kind::Exchanges) as u64),
-            Part::Own(".</p>"),
+            Part::Amount(count_harmless(outcomes) as u64),
+            Part::Own(OTHERS),
         ],
         sink,
     );
+}
+
+/// How many cut nobody off.
+fn count_harmless<A: Allocator>(outcomes: &[Outcome<A>]) -> usize
+    ensures { result ≡ count_by is_harmless outcomes.now }
+{
+    outcomes
+        .iter()
+        .filter(|outcome| is_harmless(outcome))
+        .count()
 }
 
 /// Writes each outcome that is shown.
@@ -107,14 +117,7 @@ fn name_of<'a, A: Allocator>(plan: &'a Plan<A>, risks: &'a Risks<A>, outage: &Ou
     }
 }
 
-/// Whether an outage is told: a named risk is, and what else cuts somebody off.
-fn is_told<A: Allocator>(outcome: &Outcome<A>) -> bool
-    ensures { result ≡ is_told outcome.now }
-{
-    is_of(Kind::Risks, &outcome.outage) || !is_harmless(outcome)
-}
-
-/// Writes an outcome, if it is told.
+/// Writes an outcome, if it cuts somebody off.
 fn write_shown<'a, A: Allocator, W: PageSink>(
     plan: &'a Plan<A>,
     risks: &'a Risks<A>,
@@ -124,7 +127,7 @@ fn write_shown<'a, A: Allocator, W: PageSink>(
     ensures { Sets W.seen sink.old sink.new
         (shown_texts plan.now risks.now outcome.now) }
 {
-    if is_told(outcome) {
+    if !is_harmless(outcome) {
         write_outcome(plan, risks, outcome, sink);
     }
 }
@@ -146,9 +149,9 @@ fn write_outcome<'a, A: Allocator, W: PageSink>(
             Part::Own(" <b>"),
             Part::Text(name_of(plan, risks, &outcome.outage)),
             Part::Own("</b>: "),
-            Part::Count(count_cut(&outcome.cuts) as u64),
+            Part::Amount(count_cut(&outcome.cuts) as u64),
             Part::Own(" cut off, "),
-            Part::Count(count_stray(&outcome.cuts) as u64),
+            Part::Amount(count_stray(&outcome.cuts) as u64),
             Part::Own(" astray</summary><ul class=\"c\">"),
         ],
         sink,

@@ -58,7 +58,6 @@ pub fn write_page<A: Allocator, W: PageSink>(
     let plan = subject.plan;
     let limits = subject.limits;
     let safe = is_safe(subject.ranking);
-    let linked = subject.pictures.len() == plan.codes();
     let graded = subject.grade.plan.is_some();
     let findings = findings_in(subject.ranking);
     write_heading(
@@ -72,7 +71,7 @@ pub fn write_page<A: Allocator, W: PageSink>(
     );
     write_wrong(plan, subject.ranking, limits, sink);
     write_asked_change(&subject.change, safe, sink);
-    write_codes(plan, subject.grade, linked, sink);
+    write_codes(plan, subject.grade, subject.pictures, sink);
     write_outages(plan, subject.risks, subject.outcomes, graded, sink);
     write_pictures(plan, subject.grade, subject.pictures, findings, sink);
     write_network(plan, sink);

@@ -8,7 +8,7 @@ body{margin:0;font:15px/1.5 system-ui,DejaVu Sans,sans-serif;color:var(--ink);ba
 main{max-width:68rem;margin:0 auto;padding:1.5rem 1rem 4rem}
 h1{font-size:1.6rem;margin:0 0 .6rem;overflow-wrap:anywhere}
 h2{font-size:1.15rem;margin:2.4rem 0 .6rem;padding-bottom:.2rem;border-bottom:1px solid var(--line)}
-h3{display:inline;font-size:1rem}
+h3{display:inline;font-size:1rem;color:var(--ink)}
 a{color:var(--first)}
 .v{font-size:1.15rem;margin:.4rem 0 1rem}
 .v strong{font-size:1.7rem;padding:.15rem .9rem;margin-right:.5rem;border-radius:.4rem;color:var(--on);background:var(--good);vertical-align:-.1em}
@@ -51,8 +51,9 @@ path{fill:none}
 .w span{padding:.1rem .6rem;border-bottom:2px solid var(--bad);position:relative;white-space:nowrap}
 .w span::after{content:'';position:absolute;right:0;bottom:-.42rem;border:.35rem solid transparent;border-left-color:var(--bad);border-right:0}
 .w small{grid-column:1/3;color:var(--soft);max-width:14rem;padding:.2rem .6rem 0 0}
-.c{columns:11rem;margin:.5rem 0;padding:0;list-style:none}
+.c{columns:11rem;margin:.5rem 0;padding:0;list-style:none;color:var(--bad)}
 .s{color:var(--second)}
 .stage{margin-top:1.2rem}
-@media print{@page{size:A4;margin:14mm}body{font-size:10pt;background:none}main{padding:0;max-width:none}details{break-inside:avoid}details::details-content{content-visibility:visible;display:block}summary{list-style:none}h2,h3{break-after:avoid}.stage,.stage+h2{break-before:page}}
+.b table{display:none}
+@media print{@page{size:A4;margin:12mm}body{font-size:10pt;background:none}main{padding:0;max-width:none}.t{display:block;overflow:visible}table+table{margin-top:1rem}tr,.f>li,.w li,.p{break-inside:avoid}thead{display:table-header-group}details{padding:0;border:0;background:none}details::details-content{content-visibility:visible;display:block}svg{max-height:250mm}.b svg{display:none}.b table{display:table}summary{list-style:none}h2,h3,summary{break-after:avoid}.stage,.stage+h2{break-before:page}}
 ";

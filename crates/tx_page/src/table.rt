@@ -11,11 +11,14 @@ use std::alloc::Allocator;
 use tx_html::{PageSink, Part, set};
 use tx_plan::{CodeId, ExchangeId, Plan};
 
-const HEAD: &str = "<div class=\"t\"><table><thead><tr><th scope=\"col\">Exchange</th>\
+/// Where such a table begins. What its head repeats on each sheet may follow.
+pub const TABLE: &str = "<div class=\"t\"><table><thead>";
+
+const HEAD: &str = "<tr><th scope=\"col\">Exchange</th>\
 <th scope=\"col\">Code</th><th scope=\"col\">Old list</th><th scope=\"col\">New list</th>\
 <th scope=\"col\">Bar</th></tr></thead><tbody>";
 
-/// Writes the table of what differs between two plans, by the names of one of them.
+/// Writes what differs between two plans, by the names of one of them, in a table that has begun.
 pub fn write_table<A: Allocator, W: PageSink>(
     plan: &Plan<A>,
     between: &Between<'_, A>,

@@ -119,7 +119,7 @@ fn write_with_word<W: Sink>(
 ) -> Result<(), WriteFault> {
     let (what, word) = match fault {
         CommandFault::NoSuchExchange => ("exchange", exchange_asked(command)),
-        CommandFault::NoSuchCode => ("code", code_asked(command)),
+        CommandFault::NoSuchCode(place) => ("code", code_asked(command, *place)),
         CommandFault::NoSuchGroup(place) => ("group", group_asked(command, *place)),
         CommandFault::NoSuchName => ("exchange or group", name_asked(command)),
         _ => ("", None),
@@ -149,13 +149,13 @@ fn exchange_asked(command: &Command) -> Option<&str> {
     }
 }
 
-/// The figures of the code that it asks for.
-fn code_asked(command: &Command) -> Option<&str> {
+/// The figures of a code that it asks for, by its place among these.
+fn code_asked(command: &Command, place: usize) -> Option<&str> {
     match command {
         Command::Trace(TraceRequest { code, .. }) | Command::Fill(FillRequest { code, .. }) => {
             Some(code.as_str())
         }
-        Command::Page(request) => request.code.as_deref(),
+        Command::Page(request) => named_at(request.code.as_deref()?, place),
         Command::TraceChanges(request) => {
             let (_, code) = request.calls.as_ref()?;
             Some(code.as_str())
@@ -170,8 +170,7 @@ fn group_asked(command: &Command, place: usize) -> Option<&str> {
         Command::Trace(TraceRequest { down, .. })
         | Command::TraceThrough(ThroughRequest { down, .. })
         | Command::Fill(FillRequest { down, .. }) => {
-            let names = down.as_deref()?;
-            Some(names.split(',').nth(place).unwrap_or(names))
+            named_at(down.as_deref()?, place)
         }
         _ => None,
     }
@@ -183,6 +182,11 @@ fn name_asked(command: &Command) -> Option<&str> {
         Command::TraceThrough(request) => Some(request.name.as_str()),
         _ => None,
     }
+}
+
+/// The name at a place of a word that has some, with a comma between two.
+fn named_at(names: &str, place: usize) -> Option<&str> {
+    names.split(',').nth(place)
 }
 
 /// Writes which end failed, and what the system said, unless there is no memory for that.

@@ -31,7 +31,7 @@ groups_in p (Some word) = groups_named p (names_in word)
 abbrev pub all_asked : (exchange code : Option ℕ) → (groups : Result (List ℕ) ℕ)
     → Result (ℕ × ℕ × List ℕ) CommandFault
 all_asked None code groups = Err NoSuchExchange
-all_asked (Some x) None groups = Err NoSuchCode
+all_asked (Some x) None groups = Err (NoSuchCode 0)
 all_asked (Some x) (Some c) (Err place) = Err (NoSuchGroup place)
 all_asked (Some x) (Some c) (Ok groups) = Ok (x, c, groups)
 

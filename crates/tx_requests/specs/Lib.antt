@@ -17,6 +17,7 @@ pub mod Trace
 pub mod Fill
 pub mod Explain
 pub mod Explained
+pub mod PageCodes
 pub mod PageReading
 pub mod Page
 pub mod Jobs

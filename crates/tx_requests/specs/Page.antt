@@ -1,8 +1,11 @@
 -- The command `page`.
-use Rattle.std.specs.Prelude.{◌≡◌, ◌⊎◌, ℕ, false, if◌then◌else◌, List, [], ◌∷◌, Option, None, Some, Result, Ok, Err, length, map, option_map, string_bytes, IfSome}
+use Rattle.std.specs.Prelude.{◌≡◌, ◌⊎◌, ℕ, Bool, false, ◌||◌, ◌==◌, if◌then◌else◌, List, [], ◌∷◌, Option, None, Some, Result, Ok, Err, codes, drop, filter, length, map, option_map, string_bytes, IfSome}
 use Rattle.std.specs.List.{range_with_len}
 use Rattle.sha2.specs.Sha256.{sha256}
-use Rattle.tx_plan.specs.Plan.{Plan, code_named}
+use Rattle.tx_text.specs.Words.{before}
+use Rattle.tx_plan.specs.Codes.{is_prefix}
+use Rattle.tx_plan.specs.Plan.{Plan}
+use Rattle.tx_rank.specs.declared.ranking.Ranking.{Ranking}
 use Rattle.tx_audit.specs.Audits.{IsRightRanking}
 use Rattle.tx_join.specs.Joined.{joined_old, joined_new}
 use Rattle.tx_order.specs.Switchings.{IsRightSwitching}
@@ -25,32 +28,36 @@ use Rattle.tx_requests.specs.declared.two_plans.PlanText.{PlanText}
 use Rattle.tx_requests.specs.Ending.{EndsWith}
 use Rattle.tx_requests.specs.Faults.{memory_stop}
 use Rattle.tx_requests.specs.Grade.{IsGradeOf}
+use Rattle.tx_requests.specs.PageCodes.{is_shown, missing_code}
 use Rattle.tx_requests.specs.Printing.{Printing}
 use Rattle.tx_requests.specs.TwoPlans.{IsJoin, IsNoJoinOf}
 
--- this code alone, or all codes of a plan
-abbrev pub one_or_all : Plan → Option ℕ → List ℕ
-one_or_all p (Some code) = code ∷ []
-one_or_all p None = range_with_len 0 (length p.codes)
+-- a byte that ends a line of a text
+abbrev pub is_line_end : ℕ → Bool
+is_line_end b = (b == 10) || (b == 13)
 
--- the codes of which a page has the lists: all, or the one of these figures, if there is one
-abbrev pub shown_codes : Plan → Option (List ℕ) → Option (List ℕ)
-shown_codes p None = Some (range_with_len 0 (length p.codes))
-shown_codes p (Some figures) = option_map (λ c. c ∷ []) (code_named p figures)
+-- this name, or another one if it is empty
+abbrev pub name_or : (other name : List ℕ) → List ℕ
+name_or other [] = other
+name_or other (b ∷ name) = b ∷ name
 
--- those that a page is asked for
-abbrev pub asked_codes : PageRequest → Plan → Option (List ℕ)
-asked_codes r p = shown_codes p (option_map string_bytes r.code)
+-- the title of a page: what follows `# NAME ` in the first line of the text, or the name of the file
+abbrev pub title_of : (file text : List ℕ) → List ℕ
+title_of file text = if is_prefix (codes "# NAME ") text
+    then name_or file (before is_line_end (drop 7 text)) else file
 
 module _ {A : Type 0} where
-  -- what is found of a plan is right: the verdict of the audit, the grade, what outages cut off, and
-  -- the codes of the pictures
-  pub record IsFound (p : Plan) (limit spare : ℕ) (risks : List NamedRisk) (codes : List ℕ)
-      (f : Found A) : Type 0 where
+  -- the codes of which a page has pictures, in order of declaration
+  abbrev pub shown_codes : PageRequest → PageTexts A → Ranking A → Option (FoundChange A) → List ℕ
+  shown_codes r t ranking change =
+      filter (is_shown r t ranking change) (range_with_len 0 (length t.plan.plan.codes))
+
+  -- what is found of a plan is right: the verdict of the audit, the grade, and what outages cut off
+  pub record IsFound (p : Plan) (limit spare : ℕ) (risks : List NamedRisk) (f : Found A)
+      : Type 0 where
     pub ranking : IsRightRanking p limit spare f.ranking
     pub grade : IsGradeOf p f.grade
     pub outcomes : IfSome f.grade.plan (λ _. AreOutcomes p risks false f.outcomes.items)
-    pub pictures : map (λ q. q.code) f.pictures.items ≡ codes
 
   -- what is told of the change of a plan into another one: both over their joined network, and the
   -- order of switching from the one to the other over it
@@ -73,17 +80,23 @@ module _ {A : Type 0} where
   -- what a page shows is right
   pub record IsPageOf (r : PageRequest) (t : PageTexts A) (a : Paged A) : Type 0 where
     pub texts : a.texts ≡ t
-    pub codes : List ℕ
-    pub asked : asked_codes r t.plan.plan ≡ Some codes
-    pub found : IsFound t.plan.plan r.limits.limit r.limits.spare t.risks codes a.found
+    pub asked : missing_code t.plan.plan (option_map string_bytes r.code) ≡ None
+    pub found : IsFound t.plan.plan r.limits.limit r.limits.spare t.risks a.found
     pub change : IsChangeIfAny t.old t.plan.plan r.limits.limit r.limits.spare a.change
+    pub pictures : map (λ q. q.code) a.pictures.items
+        ≡ shown_codes r t a.found.ranking a.change
 
-  -- it is shown; or the plan has no code of the figures that are asked for, or no joined network
-  -- with the old one; or memory ran out
+  -- the first name in the word that is asked for of which a plan has no code
+  abbrev pub IsNoCode : PageRequest → Plan → CommandFault → Type 0
+  IsNoCode r p fault = (place : ℕ) × (fault ≡ NoSuchCode place)
+      × (missing_code p (option_map string_bytes r.code) ≡ Some place)
+
+  -- it is shown; or the plan has no code of figures that are asked for, or no joined network with
+  -- the old one; or memory ran out
   abbrev pub PageAnswers : PageRequest → PageTexts A → Result (Paged A) CommandFault → Type 0
   PageAnswers r t (Ok a) = IsPageOf r t a
   PageAnswers r t (Err fault) =
-      ((fault ≡ NoSuchCode) × (asked_codes r t.plan.plan ≡ None))
+      IsNoCode r t.plan.plan fault
       ⊎ (IsNoChange t.old t.plan fault ⊎ (fault ≡ memory_stop))
 
   -- a change from an old plan, as a page shows it
@@ -95,10 +108,10 @@ module _ {A : Type 0} where
   IsSameChange old new None f = Unit {0}
   IsSameChange old new c f = ⊥
 
-  -- what a page is about: the name of the file, the digest of its text, the version of the program,
+  -- what a page is about: the title, the digest of its text, the version of the program,
   -- and all that was found
   pub record IsSubjectOf (r : PageRequest) (a : Paged A) (s : Subject A) : Type 0 where
-    pub name : s.name.now ≡ string_bytes r.plan
+    pub name : s.name.now ≡ title_of (string_bytes r.plan) a.texts.plan.text.items
     pub digest : s.digest ≡ sha256 a.texts.plan.text.items
     pub version : s.version.now ≡ VERSION.now
     pub plan : s.plan.now ≡ a.texts.plan.plan
@@ -108,7 +121,7 @@ module _ {A : Type 0} where
     pub grade : s.grade.now ≡ a.found.grade
     pub change : IsSameChange a.texts.old a.texts.plan s.change a.change
     pub outcomes : s.outcomes.now ≡ a.found.outcomes.items
-    pub pictures : s.pictures.now ≡ a.found.pictures.items
+    pub pictures : s.pictures.now ≡ a.pictures.items
 
   -- a page was written that shows this, or the sink failed
   abbrev pub PagePrints : PageRequest → Paged A → Printing

@@ -18,7 +18,7 @@ use Rattle.tx_requests.specs.Printing.{Printing, Writes}
 abbrev pub changed_if_there : (p q : Plan) → (exchange code : Option ℕ) → (old : Option Pair)
     → Result (List (Pair × Pair)) CommandFault
 changed_if_there p q None code old = Err NoSuchExchange
-changed_if_there p q (Some x) None old = Err NoSuchCode
+changed_if_there p q (Some x) None old = Err (NoSuchCode 0)
 changed_if_there p q (Some x) (Some c) None = Err NotInOldPlan
 changed_if_there p q (Some x) (Some c) (Some j) =
     Ok (changed p q (record { exchange = x; code = c }) j)

@@ -26,7 +26,7 @@ pub(crate) fn asked_of<A: Allocator + Copy>(
         return Err(CommandFault::NoSuchExchange);
     };
     let Some(code) = plan.code_named(code) else {
-        return Err(CommandFault::NoSuchCode);
+        return Err(CommandFault::NoSuchCode(0));
     };
     match groups_in(alloc, plan, groups)? {
         Ok(groups) => Ok((exchange, code, groups)),

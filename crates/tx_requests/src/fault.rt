@@ -30,8 +30,8 @@ pub enum CommandFault {
     NoSuchStage(usize),
     /// The plan has no exchange of the name that was asked for.
     NoSuchExchange,
-    /// The plan has no code of the figures that were asked for.
-    NoSuchCode,
+    /// The plan has no code of figures that were asked for: of these, counted from 0.
+    NoSuchCode(usize),
     /// The plan has no group of a name that was asked for: of this one, counted from 0.
     NoSuchGroup(usize),
     /// The plan has neither an exchange nor a group of the name that was asked for.
@@ -128,7 +128,7 @@ impl CommandFault {
             | CommandFault::Risks(_) => 2,
             CommandFault::NoSuchStage(_)
             | CommandFault::NoSuchExchange
-            | CommandFault::NoSuchCode
+            | CommandFault::NoSuchCode(_)
             | CommandFault::NoSuchGroup(_)
             | CommandFault::NoSuchName
             | CommandFault::NotInOldPlan => 64,

@@ -33,7 +33,7 @@ pub fn write_command_fault<W: Sink>(fault: &CommandFault, sink: &mut W) -> Resul
         CommandFault::NoSuchExchange => {
             write_bytes(b"telexplan: no such exchange in the plan\n", sink)
         }
-        CommandFault::NoSuchCode => write_bytes(b"telexplan: no such code in the plan\n", sink),
+        CommandFault::NoSuchCode(_) => write_bytes(b"telexplan: no such code in the plan\n", sink),
         CommandFault::NoSuchGroup(_) => {
             write_bytes(b"telexplan: no such group in the plan\n", sink)
         }

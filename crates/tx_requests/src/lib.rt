@@ -23,6 +23,7 @@ mod mend;
 mod order;
 mod page;
 mod page_change;
+mod page_codes;
 mod page_found;
 mod page_reading;
 mod reading;

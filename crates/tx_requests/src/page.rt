@@ -1,15 +1,17 @@
 // The command `page`.
 ghost use Rattle.std.specs.Prelude.{◌≡◌, is_some};
+ghost use Rattle.tx_text.specs.Words.{before};
 ghost use Rattle.tx_html.specs.Shows.{Showed};
 ghost use Rattle.tx_page.specs.Page.{page_texts};
 ghost use Rattle.tx_page.specs.declared.subject.Subject.{Subject as SubjectNow};
 ghost use Rattle.tx_requests.specs.PageReading.{AreForPage};
-ghost use Rattle.tx_requests.specs.Page.{PageAnswers, PagePrints, PageEnds, IsSubjectOf};
+ghost use Rattle.tx_requests.specs.Page.{is_line_end, title_of, PageAnswers, PagePrints, PageEnds, IsSubjectOf};
 
 use crate::ending::Ending;
 use crate::fault::CommandFault;
 use crate::page_change::{FoundChange, change_of, shown_change};
-use crate::page_found::{Found, code_asked, found_of};
+use crate::page_codes::refuse_missing;
+use crate::page_found::{Found, found_of, pictures_of};
 use crate::page_reading::PageTexts;
 use crate::request::Request;
 use sha2::{Digest, Sha256};
@@ -17,6 +19,7 @@ use std::alloc::{Allocator, Global};
 use tx_commands::{PageRequest, VERSION};
 use tx_html::PageSink;
 use tx_page::{Subject, is_safe, write_page};
+use tx_svg::Picture;
 use tx_text::{Sink, WriteFault};
 
 /// What a page shows: what was read, and what was found of it.
@@ -25,6 +28,8 @@ pub struct Paged<A: Allocator = Global> {
     pub texts: PageTexts<A>,
     pub found: Found<A>,
     pub change: Option<FoundChange<A>>,
+    /// Pictures of the lists for codes.
+    pub pictures: Vec<Picture<A>, A>,
 }
 
 impl<A: Allocator + Copy> Request<A> for PageRequest {
@@ -41,13 +46,15 @@ impl<A: Allocator + Copy> Request<A> for PageRequest {
     ghost ends = { λ _. PageEnds };
 
     fn answer(&self, alloc: A, texts: Self::Texts) -> Result<Self::Answer, CommandFault> {
-        let code = code_asked(&texts.plan.plan, self.code.as_deref())?;
+        refuse_missing(&texts.plan.plan, self.code.as_deref())?;
         let change = change_of(alloc, &texts.old, &texts.plan, self.limits)?;
-        let found = found_of(alloc, &texts.plan.plan, self.limits, &texts.risks, code)?;
+        let found = found_of(alloc, &texts.plan.plan, self.limits, &texts.risks)?;
+        let pictures = pictures_of(alloc, self, &texts, &found, &change)?;
         Ok(Paged {
             texts,
             found,
             change,
+            pictures,
         })
     }
 
@@ -84,7 +91,7 @@ fn subject_of<'a, A: Allocator>(request: &'a PageRequest, answer: &'a Paged<A>) 
 {
     let text = answer.texts.plan.text.as_slice();
     Subject {
-        name: request.plan.as_bytes(),
+        name: title_of(request.plan.as_bytes(), text),
         digest: Sha256::digest(text),
         version: VERSION,
         plan: &answer.texts.plan.plan,
@@ -94,6 +101,32 @@ fn subject_of<'a, A: Allocator>(request: &'a PageRequest, answer: &'a Paged<A>) 
         risks: &answer.texts.risks,
         change: shown_change(&answer.change, &answer.texts.old, &answer.texts.plan),
         outcomes: answer.found.outcomes.as_slice(),
-        pictures: answer.found.pictures.as_slice(),
+        pictures: answer.pictures.as_slice(),
     }
+}
+
+/// The title of a page: what follows `# NAME ` in the first line of the text, or the name of the
+/// file.
+fn title_of<'a>(file: &'a [u8], text: &'a [u8]) -> &'a [u8]
+    ensures { result.now ≡ title_of file.now text.now }
+{
+    match text.strip_prefix(b"# NAME ") {
+        Some(rest) => {
+            let name = first_line(rest);
+            if name.is_empty() { file } else { name }
+        }
+        None => file,
+    }
+}
+
+/// What is before the end of the first line.
+fn first_line(text: &[u8]) -> &[u8]
+    ensures { result.now ≡ before is_line_end text.now }
+{
+    for i in 0..text.len() {
+        if text[i] == b'\n' || text[i] == b'\r' {
+            return &text[..i];
+        }
+    }
+    text
 }

@@ -75,7 +75,7 @@ fn changes_named<A: Allocator + Copy>(
         return Err(CommandFault::NoSuchExchange);
     };
     let Some(code) = plan.code_named(code) else {
-        return Err(CommandFault::NoSuchCode);
+        return Err(CommandFault::NoSuchCode(0));
     };
     let Some(were) = were else {
         return Err(CommandFault::NotInOldPlan);

@@ -11,4 +11,4 @@ mod totals;
 pub use comparison::{Comparison, is_against, write_comparison};
 pub use law::cut_is_shown;
 pub use outage_report::write_survival;
-pub use totals::{Kind, count_cut, count_harmless, count_stray, is_harmless, is_of};
+pub use totals::{Kind, count_cut, count_stray, is_harmless};

@@ -108,7 +108,7 @@ pub(crate) fn write_harmless_line<W: Sink>(kind: Kind, count: usize, sink: &mut 
 }
 
 /// How many outages of a kind cut nobody off.
-pub fn count_harmless<A: Allocator>(outcomes: &[Outcome<A>], kind: Kind) -> usize
+pub(crate) fn count_harmless<A: Allocator>(outcomes: &[Outcome<A>], kind: Kind) -> usize
     ensures { result ≡ harmless_of kind outcomes.now }
 {
     outcomes
@@ -126,7 +126,7 @@ pub enum Kind {
 }
 
 /// Whether an outage is of a kind.
-pub fn is_of(kind: Kind, outage: &Outage) -> bool
+pub(crate) fn is_of(kind: Kind, outage: &Outage) -> bool
     ensures { result ≡ is_of kind outage.now }
 {
     match outage {

@@ -1,5 +1,5 @@
 -- What a page shows of the lists.
-use Rattle.std.specs.Prelude.{ℕ, ◌+◌, Bool, true, false, if◌then◌else◌, List, [], ◌∷◌, ◌++◌, length, map, max, Option, is_some, unwrap_or, slice_get, decimal}
+use Rattle.std.specs.Prelude.{ℕ, ◌+◌, Bool, false, ◌||◌, nat_lt, if◌then◌else◌, List, [], ◌∷◌, ◌++◌, length, map, max, Option, None, Some, is_some, unwrap_or, slice_get, decimal}
 use Rattle.std.specs.List.{flat_map, fold, range_with_len}
 use Rattle.std.specs.Option.{option_map_or}
 use Rattle.tx_plan.specs.Plan.{Plan, exchange_name, figures_of, group_name, home_of}
@@ -22,6 +22,11 @@ greatest_rank ranks n = fold max 0 (map (λ x. unwrap_or (ranks x) 0) (range_wit
 abbrev pub column_texts : ℕ → List (List ℕ)
 column_texts n = decimal (n + 1) ∷ []
 
+-- a rank, if there is one
+abbrev pub rank_texts : Option ℕ → List (List ℕ)
+rank_texts None = []
+rank_texts (Some rank) = decimal rank ∷ []
+
 module _ {A : Type 0} where
   -- the code has a grade
   abbrev pub is_graded : Grade A → ℕ → Bool
@@ -32,11 +37,26 @@ module _ {A : Type 0} where
   ranks_texts p g c = if is_graded g c
       then texts_below (greatest_rank (ranks_of g.ranks c) (length p.exchanges)) column_texts else []
 
+  -- a picture is too large for a sheet: it has more than 36 exchanges, or more than 5 columns
+  abbrev pub is_large : Plan → Picture A → Bool
+  is_large p q = nat_lt 36 (length p.exchanges) || nat_lt 5 (length q.boxes.items)
+
+  -- an exchange with its rank and its list for a code
+  abbrev pub row_texts : Plan → Grade A → (c x : ℕ) → List (List ℕ)
+  row_texts p g c x = exchange_name p x
+      ∷ (rank_texts (ranks_of g.ranks c x) ++ map (group_name p) (route_list p x c))
+
+  -- the table that is printed in place of a picture that is too large: the code, and each exchange
+  abbrev pub table_texts : Plan → Grade A → Picture A → List (List ℕ)
+  table_texts p g q = if is_large p q
+      then figures_of p q.code ∷ texts_below (length p.exchanges) (row_texts p g q.code) else []
+
   -- a code, its home, its ranks, and all exchanges with their lists for it
-  abbrev pub picture_texts : Plan → Grade A → ℕ → List (List ℕ)
-  picture_texts p g c = (figures_of p c ∷ exchange_name p (home_of p c) ∷ [])
-      ++ (ranks_texts p g c ++ texts_below (length p.exchanges) (box_texts p c))
+  abbrev pub picture_texts : Plan → Grade A → Picture A → List (List ℕ)
+  picture_texts p g q = (figures_of p q.code ∷ exchange_name p (home_of p q.code) ∷ [])
+      ++ (ranks_texts p g q.code ++ (texts_below (length p.exchanges) (box_texts p q.code)
+      ++ table_texts p g q))
 
   -- the lists for each code of these pictures
   abbrev pub pictures_texts : Plan → Grade A → List (Picture A) → List (List ℕ)
-  pictures_texts p g pictures = flat_map (λ q. picture_texts p g q.code) pictures
+  pictures_texts p g pictures = flat_map (picture_texts p g) pictures

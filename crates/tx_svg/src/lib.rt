@@ -13,6 +13,7 @@ mod pictures;
 mod ranks;
 mod ring;
 mod rows;
+mod rows_printed;
 mod seats;
 mod spot;
 mod ways;

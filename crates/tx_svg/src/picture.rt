@@ -18,7 +18,7 @@ pub struct Picture<A: Allocator = Global> {
     pub code: CodeId,
     spots: Vec<Option<Spot>, A>,
     /// How many boxes each column has.
-    boxes: Vec<u16, A>,
+    pub(crate) boxes: Vec<u16, A>,
     /// How high the columns are.
     pub high: u16,
 }

@@ -9,6 +9,7 @@ use crate::findings::findings_of;
 use crate::frame::picture_height;
 use crate::picture::Picture;
 use crate::ranks::write_ranks;
+use crate::rows_printed::{is_large, write_table};
 use crate::spot::{BOX, LEFT, TOP};
 use std::alloc::Allocator;
 use tx_html::{PageSink, Part, set};
@@ -23,7 +24,7 @@ d=\"M0,5H30\"/></svg> second, <svg width=\"34\" height=\"10\" aria-hidden=\"true
 class=\"a2\" d=\"M0,5H30\"/></svg> later, <svg width=\"34\" height=\"10\" aria-hidden=\"true\">\
 <path class=\"a3\" d=\"M0,5H30\"/></svg> in a finding. Point at an exchange for its list.</p>";
 
-/// Writes the picture of each code of a plan that has this grade.
+/// Writes these pictures of a plan that has this grade, if there are any.
 pub fn write_pictures<A: Allocator, W: PageSink>(
     plan: &Plan<A>,
     grade: &Grade<A>,
@@ -34,6 +35,9 @@ pub fn write_pictures<A: Allocator, W: PageSink>(
     ensures { Sets W.seen sink.old sink.new
         (pictures_texts plan.now grade.now pictures.now) }
 {
+    if pictures.is_empty() {
+        return;
+    }
     set(&[Part::Own(KEY)], sink);
     write_all(plan, grade, pictures, findings, sink);
 }
@@ -65,11 +69,13 @@ fn write_picture<A: Allocator, W: PageSink>(
     sink: &mut W,
 )
     ensures { Sets W.seen sink.old sink.new
-        (picture_texts plan.now grade.now picture.now.code) }
+        (picture_texts plan.now grade.now picture.now) }
 {
     set(
         &[
-            Part::Own("<details id"),
+            Part::Own("<details class=\""),
+            Part::Own(if is_large(plan, picture) { "b" } else { "p" }),
+            Part::Own("\" id"),
             Part::Value("c", picture.code.index() as u64),
             Part::Own(if open { " open>" } else { ">" }),
             Part::Own("<summary><h3>"),
@@ -84,7 +90,9 @@ fn write_picture<A: Allocator, W: PageSink>(
     write_heads(plan, grade, picture, sink);
     write_arrows(plan, picture, findings, sink);
     write_boxes(plan, picture, sink);
-    set(&[Part::Own("</svg></details>")], sink);
+    set(&[Part::Own("</svg>")], sink);
+    write_table(plan, grade, picture, sink);
+    set(&[Part::Own("</details>")], sink);
 }
 
 fn write_canvas<A: Allocator, W: PageSink>(plan: &Plan<A>, picture: &Picture<A>, sink: &mut W)

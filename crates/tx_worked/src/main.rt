@@ -19,10 +19,11 @@
 //!   `stage L K N` writes after its report the plan after stage N and its certificate. `mend L K`
 //!   has a plan, and writes after its report the mended plan and its certificate. `trace EXCHANGE
 //!   CODE` has a plan, and `lint FILE` one that is named so. `survive` has a plan and a text of
-//!   risks, and `survive alone` a plan. `page FILE L K` has a plan that is named so, `page-risks` a
-//!   text of risks too, `page-change` an old plan after that, and `page-code FILE L CODE` a plan of
-//!   which the lists for a code are shown, with the spare number 1. Each is played by sources of 1,
-//!   2, 7 and 4,096 bytes a call, which has to make no difference.
+//!   risks, and `survive alone` a plan. `page FILE L K` has a plan that is named so, and shows the
+//!   lists of all codes, `page-risks` a text of risks too, `page-change` an old plan after that, and
+//!   asks for no code, and `page-code FILE L CODES` a plan of which the
+//!   lists of these codes are shown, with the spare number 1. Each is played by sources of 1, 2, 7
+//!   and 4,096 bytes a call, which has to make no difference.
 //! - `each-end` before such a kind also refuses each request for memory, gives each smaller room,
 //!   and makes each call of each source fail. The lines with `--` tell the exit status, the calls
 //!   of the sources at one byte a call, the bytes written, and what a run counted or the event

@@ -64,11 +64,11 @@ static COMMANDS: [(&str, &str, &str); 31] = [
         "survive new --from=old --risks=risks",
     ),
     ("survive", "", "survive plan --risks=risks"),
-    ("page", "", "page @1 --limit=@2 --spare=@3"),
+    ("page", "", "page @1 --limit=@2 --spare=@3 --all-codes"),
     (
         "page-risks",
         "",
-        "page @1 --limit=@2 --spare=@3 --risks=risks",
+        "page @1 --limit=@2 --spare=@3 --risks=risks --all-codes",
     ),
     (
         "page-change",

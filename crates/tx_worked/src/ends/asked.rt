@@ -69,7 +69,10 @@ fn tell_more(command: &Command, log: &Log) {
         ) => { log.tell_number("stage", u64::from(*stage)) }
         Command::Survive(request) => tell_risks(&request.risks, log),
         Command::Compare(request) => tell_risks(&request.risks, log),
-        Command::Page(request) => tell_word("code", request.code.as_deref(), log),
+        Command::Page(request) => {
+            tell_word("code", request.code.as_deref(), log);
+            tell_flag("all codes", request.all_codes, log);
+        }
         Command::Trace(request) => {
             let down = request.down.as_deref();
             tell_calls(&request.exchange, &request.code, down, log)

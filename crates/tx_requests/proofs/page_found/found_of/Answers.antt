@@ -12,8 +12,7 @@ returns g c =
       ranking = c.in_ok-ranking.ensures;
       grade = (plan, e.codes);
       outcomes = c.in_ok-outcomes.ensures.outcomes;
-      pictures = c.in_ok-pictures.ensures;
     }
 
 pub outcomes_of-requires-clause-risks : goal.outcomes_of-requires-clause-risks
-outcomes_of-requires-clause-risks g c = risks_within c.args.plan.now c.args.risks.now c.requires.risks
+outcomes_of-requires-clause-risks g c = risks_within c.args.plan.now c.args.risks.now c.requires

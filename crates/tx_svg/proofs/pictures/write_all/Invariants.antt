@@ -5,4 +5,4 @@ use Rattle.tx_svg.specs.ListTexts.{picture_texts}
 use Rattle.tx_svg.proofs.pictures.write_all.Given as goal
 
 abbrev pub invariant-loop-i : goal.invariant-loop-i
-invariant-loop-i g l = Sets g.W.PageSink.seen l.initial.sink l.sink (flat_map (λ q. picture_texts l.plan l.grade q.code) (take l.i l.pictures))
+invariant-loop-i g l = Sets g.W.PageSink.seen l.initial.sink l.sink (flat_map (picture_texts l.plan l.grade) (take l.i l.pictures))

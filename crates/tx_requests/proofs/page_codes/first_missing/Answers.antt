@@ -1,0 +1,12 @@
+use Rattle.std.proofs.Common.{rules, tests, lit<}
+use Rattle.std.specs.Prelude.{is_none}
+use Rattle.std.proofs.lemmas.Iterator.Search.{position_from_yields_List}
+use Rattle.std.proofs.lemmas.Iterator.Splits.{YieldsList-from_str_split}
+use Rattle.tx_plan.specs.Plan.{code_named}
+use Rattle.tx_requests.proofs.page_codes.first_missing.Goals as goal
+
+pub returns : goal.returns
+returns g c =
+    position_from_yields_List (λ w. is_none (code_named c.args.plan.now w)) _ _ c.position.result c.position.ensures.ran
+    (YieldsList-from_str_split 44 c.args.word.now (lit< tt) c.split.ensures.text c.split.ensures.has_more c.split.ensures.pattern)
+    (λ x b q k. search (rules, tests))

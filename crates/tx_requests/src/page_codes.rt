@@ -1,0 +1,125 @@
+// Of which codes a page has pictures.
+ghost use Rattle.std.specs.Prelude.{◌≡◌, ℕ, Some, None, option_map, IfOk, IfErr};
+ghost use Rattle.tx_requests.specs.PageCodes.{is_named, first_missing, missing_code, is_about, has_finding, differs_at, differs, is_touched, is_shown};
+
+use crate::fault::CommandFault;
+use crate::page_change::FoundChange;
+use crate::page_reading::PageTexts;
+use crate::two_plans::PlanText;
+use std::alloc::Allocator;
+use tx_commands::PageRequest;
+use tx_join::Joined;
+use tx_plan::{CodeId, ExchangeId, Plan};
+use tx_rank::{Finding, Ranking};
+
+/// Whether a word names the figures of a code. It has a comma between two.
+fn is_named(word: &str, figures: &[u8]) -> bool
+    ensures { result ≡ is_named figures.now word.now }
+{
+    word.split(',').any(|name| name.as_bytes() == figures)
+}
+
+/// The place of the first name in a word of which the plan has no code.
+fn first_missing<A: Allocator>(plan: &Plan<A>, word: &str) -> Option<usize>
+    ensures { result ≡ first_missing plan.now word.now }
+{
+    word.split(',')
+        .position(|name| plan.code_named(name.as_bytes()).is_none())
+}
+
+/// Refuses a word that names a code which the plan does not have.
+pub(crate) fn refuse_missing<A: Allocator>(
+    plan: &Plan<A>,
+    word: Option<&str>,
+) -> Result<(), CommandFault>
+    ensures missing { IfErr result (λ fault. (place : ℕ) × (fault ≡ CommandFault.NoSuchCode place)
+        × (missing_code plan.now (option_map (λ w. w.now) word.entry) ≡ Some place)) }
+    ensures none { IfOk result (λ _.
+        missing_code plan.now (option_map (λ w. w.now) word.entry) ≡ None) }
+{
+    match word {
+        Some(word) => match first_missing(plan, word) {
+            Some(place) => Err(CommandFault::NoSuchCode(place)),
+            None => Ok(()),
+        },
+        None => Ok(()),
+    }
+}
+
+/// Whether a finding is about a code.
+fn is_about<A: Allocator>(finding: &Finding<A>, code: CodeId) -> bool
+    ensures { result ≡ is_about code finding.now }
+{
+    match finding {
+        Finding::Ambiguous(shorter, longer) => *shorter == code || *longer == code,
+        Finding::Loop(of, _) | Finding::Short(of, _) | Finding::Long(of, _) => *of == code,
+    }
+}
+
+/// Whether one of the findings is about a code.
+fn has_finding<A: Allocator>(ranking: &Ranking<A>, code: CodeId) -> bool
+    ensures { result ≡ has_finding code ranking.now }
+{
+    match ranking {
+        Ranking::Found(_) => false,
+        Ranking::Fails(findings) => findings.iter().any(|finding| is_about(finding, code)),
+    }
+}
+
+/// Whether an exchange has another list or another bar for a code in the new plan.
+fn differs_at<A: Allocator>(joined: &Joined<A>, code: CodeId, exchange: ExchangeId) -> bool
+    ensures { result ≡ differs_at joined.now.old joined.now.new code exchange }
+{
+    let (old, new) = (&joined.old, &joined.new);
+    let (was, is) = (old.is_barred(exchange, code), new.is_barred(exchange, code));
+    old.list(exchange, code) != new.list(exchange, code) || was != is
+}
+
+/// Whether one of the exchanges has.
+fn differs<A: Allocator>(joined: &Joined<A>, code: CodeId) -> bool
+    ensures { result ≡ differs joined.now.old joined.now.new code }
+{
+    for index in 0..joined.new.exchanges() {
+        if differs_at(joined, code, ExchangeId::of(index)) {
+            return true;
+        }
+    }
+    false
+}
+
+/// Whether a change touches the code of these figures, if there is a change.
+fn is_touched<A: Allocator>(
+    old: &Option<PlanText<A>>,
+    change: &Option<FoundChange<A>>,
+    figures: &[u8],
+) -> bool
+    ensures { result ≡ is_touched old.now change.now figures.now }
+{
+    match (old, change) {
+        (Some(old), Some(change)) => match old.plan.code_named(figures) {
+            Some(code) => differs(&change.joined, code),
+            None => true,
+        },
+        _ => false,
+    }
+}
+
+/// Whether a page has the picture of a code.
+pub(crate) fn is_shown<A: Allocator>(
+    request: &PageRequest,
+    texts: &PageTexts<A>,
+    ranking: &Ranking<A>,
+    change: &Option<FoundChange<A>>,
+    code: CodeId,
+) -> bool
+    ensures { result ≡ is_shown request.now texts.now ranking.now change.now code }
+{
+    let figures = texts.plan.plan.code_figures(code);
+    if request.all_codes {
+        return true;
+    }
+    match request.code.as_deref() {
+        Some(word) => is_named(word, figures),
+        None => has_finding(ranking, code) || is_touched(&texts.old, change, figures),
+    }
+}

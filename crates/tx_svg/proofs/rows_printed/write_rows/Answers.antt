@@ -1,0 +1,16 @@
+use Rattle.std.proofs.Common.{length, arith}
+use Rattle.tx_svg.specs.ListTexts.{row_texts}
+use Rattle.tx_svg.proofs.Indexed.{below_more, below_done}
+use Rattle.tx_html.proofs.Showing.{sets_none}
+use Rattle.tx_svg.proofs.rows_printed.write_rows.Goals as goal
+
+pub loop-index-init : goal.loop-index-init
+loop-index-init g c = sets_none
+
+pub loop-index-preserved : goal.loop-index-preserved
+loop-index-preserved g c =
+    below_more (row_texts c.args.plan.now c.args.grade.now c.args.picture.now.code) c.of.ensures c.loop-index.invariant c.write_row.ensures
+
+pub returns : goal.returns
+returns g c =
+    below_done (row_texts c.args.plan.now c.args.grade.now c.args.picture.now.code) c.loop-index.index (length c.args.plan.now.exchanges) (omega arith) c.loop-index.invariant

@@ -1,0 +1,7 @@
+use Rattle.tx_html.specs.Shows.{Sets}
+use Rattle.tx_svg.specs.Indexed.{texts_below}
+use Rattle.tx_svg.specs.ListTexts.{row_texts}
+use Rattle.tx_svg.proofs.rows_printed.write_rows.Given as goal
+
+abbrev pub invariant-loop-index : goal.invariant-loop-index
+invariant-loop-index g l = Sets g.W.PageSink.seen l.initial.sink l.sink (texts_below l.index (row_texts l.plan l.grade l.picture.code))
