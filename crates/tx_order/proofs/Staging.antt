@@ -19,10 +19,12 @@ stage_cert o k zero t common fits = record {
   common = record { before = common.before; after = common.before };
   fits = before_fits o k zero t fits;
 }
-stage_cert o k (suc n) t common fits = record {
-  common = subst (λ (s : ℕ). AreCommon (plan_before o (suc n - 1)) (plan_before o s) (ranks_of t) o.transition.limit o.transition.spare) (omega arith) common;
-  fits = before_fits o k (suc n) t fits;
-}
+stage_cert o k (suc n) t common fits =
+    let next : suc n - 1 + 1 ≡ suc n = omega arith in
+    record {
+      common = subst (λ (s : ℕ). AreCommon (plan_before o (suc n - 1)) (plan_before o s) (ranks_of t) o.transition.limit o.transition.spare) next common;
+      fits = before_fits o k (suc n) t fits;
+    }
 
 module _ {A : Type 0} where
   -- the plan with the lists after a stage keeps the rules
