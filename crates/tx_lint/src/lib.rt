@@ -1,8 +1,9 @@
 //! The faults of a plan's text, as an editor shows them: all at once, each with its line and the
-//! word at fault, and one that only comes from another one counted there; or, if it has none, warnings of what is useless in the plan or most likely not
-//! meant.
+//! word at fault, and one that only comes from another one counted there; or, if it has none,
+//! warnings of what is useless in the plan or most likely not meant.
 #![tactic(auto)]
 
+mod alone;
 mod at_fault;
 mod entry;
 mod escaped;

@@ -1,14 +1,14 @@
 // The warnings of a plan.
-ghost use Rattle.std.specs.Prelude.{◌≡◌, ◌==◌, ◌||◌, ◌∷◌, ◌++◌, map, length, slice_get, if◌then◌else◌, [], IfOk, OnOk};
+ghost use Rattle.std.specs.Prelude.{◌≡◌, ◌∷◌, ◌++◌, map, length, slice_get, if◌then◌else◌, [], IfOk, OnOk};
 ghost use Rattle.std.specs.List.{flat_map, range_with_len};
 ghost use Rattle.std.specs.Option.{option_map_or, option_to_list};
-ghost use Rattle.tx_plan.specs.Circuits.{ends_of};
 ghost use Rattle.tx_plan.specs.Codes.{is_prefix};
 ghost use Rattle.tx_plan.specs.Routes.{is_origin};
 ghost use Rattle.tx_lint.specs.declared.warning.Warning.TheVariants.{NoLines, UnusedList, NoList, Ambiguous, SharedRisk};
-ghost use Rattle.tx_lint.specs.Warnings.{Coming, TellsWhereCallsCome, has_lines, wants_list, begins, is_unlisted, lie_in, is_mute, is_idle, is_alone, codes_where, warned_once, warned_if, exchange_warnings, code_warnings, list_warnings, entry_warnings, warnings};
+ghost use Rattle.tx_lint.specs.Warnings.{Coming, TellsWhereCallsCome, has_lines, wants_list, begins, is_unlisted, lie_in, is_mute, is_idle, codes_where, warned_once, warned_if, exchange_warnings, code_warnings, list_warnings, entry_warnings, warnings};
 ghost use Rattle.tx_lint.specs.inner.Marks.{coming_of, AreMarksOf};
 
+use crate::alone::is_alone;
 use crate::entry::Entry;
 use crate::marks::Marks;
 use crate::warning::Warning;
@@ -193,27 +193,6 @@ fn is_idle<A: Allocator>(
     ensures { result ≡ is_idle plan.now (coming_of marks.now) exchange code }
 {
     !plan.list(exchange, code).is_empty() && !marks.comes(code, exchange)
-}
-
-/// Whether no group leads to the exchange or from it, and it is not the only exchange.
-fn is_alone<A: Allocator>(plan: &Plan<A>, exchange: ExchangeId) -> bool
-    ensures { result ≡ is_alone plan.now exchange }
-{
-    for index in 0..plan.groups() {
-        if is_end(plan, GroupId::of(index), exchange) {
-            return false;
-        }
-    }
-    plan.exchanges() > 1
-}
-
-/// Whether the exchange is an end of the group.
-fn is_end<A: Allocator>(plan: &Plan<A>, group: GroupId, exchange: ExchangeId) -> bool
-    ensures { result ≡ ((ends_of plan.now group).0 == exchange
-        || (ends_of plan.now group).1 == exchange) }
-{
-    let (a, b) = plan.ends(group);
-    a == exchange || b == exchange
 }
 
 /// Adds the warnings of a code.

@@ -169,9 +169,7 @@ fn group_asked(command: &Command, place: usize) -> Option<&str> {
     match command {
         Command::Trace(TraceRequest { down, .. })
         | Command::TraceThrough(ThroughRequest { down, .. })
-        | Command::Fill(FillRequest { down, .. }) => {
-            named_at(down.as_deref()?, place)
-        }
+        | Command::Fill(FillRequest { down, .. }) => named_at(down.as_deref()?, place),
         _ => None,
     }
 }

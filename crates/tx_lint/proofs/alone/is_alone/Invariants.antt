@@ -1,7 +1,7 @@
 use Rattle.std.proofs.Common.{◌≡◌, false, take}
 use Rattle.std.specs.List.{list_any}
 use Rattle.tx_lint.proofs.Warned.{has_end}
-use Rattle.tx_lint.proofs.warnings.is_alone.Given as goal
+use Rattle.tx_lint.proofs.alone.is_alone.Given as goal
 
 abbrev pub invariant-loop-index : goal.invariant-loop-index
 invariant-loop-index g l = list_any (has_end l.exchange) (take l.index l.plan.groups) ≡ false

@@ -1,6 +1,6 @@
 use Rattle.std.proofs.Common.{◌≤◌, ◌<◌, length, arith, rules}
 use Rattle.tx_lint.proofs.Warned.{alone_there, alone_more, alone_all}
-use Rattle.tx_lint.proofs.warnings.is_alone.Goals as goal
+use Rattle.tx_lint.proofs.alone.is_alone.Goals as goal
 
 pub returns-then-is_end : goal.returns-then-is_end
 returns-then-is_end g c =
