@@ -6,7 +6,7 @@ use tx_commands::{Command, WordsFault, read_command};
 /// The words of a command by the kind of its case and, where it matters, the word after the kind.
 /// `@1`, `@2` and `@3` stand for the words after the kind: where there is no such word, what has it
 /// is left out. All that a command can print and make is asked for.
-static COMMANDS: [(&str, &str, &str); 28] = [
+static COMMANDS: [(&str, &str, &str); 30] = [
     ("pipe", "", ""),
     ("run", "", "run plan script"),
     (
