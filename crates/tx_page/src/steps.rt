@@ -127,7 +127,7 @@ fn write_entry<A: Allocator, W: PageSink>(
             write_named(word, b"CODE", figures, sink)
         }
         Entries::Ranges => match plan.range_at(index) {
-            Some(range) => write_range(word, plan, range, sink),
+            Some(range) => write_range(word, plan, &range, sink),
             None => unreachable!(),
         },
         Entries::Groups => {
@@ -138,7 +138,7 @@ fn write_entry<A: Allocator, W: PageSink>(
 }
 
 /// Writes an entry by its name.
-fn write_named<W: PageSink>(word: &[u8], kind: &[u8], name: &[u8], sink: &mut W)
+fn write_named<'a, W: PageSink>(word: &'a [u8], kind: &'a [u8], name: &'a [u8], sink: &mut W)
     ensures { Sets W.seen sink.old sink.new (word.now ∷ kind.now ∷ name.now ∷ []) }
 {
     set(
@@ -156,13 +156,13 @@ fn write_named<W: PageSink>(word: &[u8], kind: &[u8], name: &[u8], sink: &mut W)
 }
 
 /// Writes a range.
-fn write_range<A: Allocator, W: PageSink>(
-    word: &[u8],
-    plan: &Plan<A>,
-    range: LineRange,
+fn write_range<'a, A: Allocator, W: PageSink>(
+    word: &'a [u8],
+    plan: &'a Plan<A>,
+    range: &'a LineRange,
     sink: &mut W,
 )
-    ensures { Sets W.seen sink.old sink.new (word.now ∷ range_words plan.now range) }
+    ensures { Sets W.seen sink.old sink.new (word.now ∷ range_words plan.now range.now) }
 {
     set(
         &[
