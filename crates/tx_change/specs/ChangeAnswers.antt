@@ -1,7 +1,6 @@
 -- What the judgement on a change answers.
-use Rattle.std.specs.Prelude.{◌≡◌, ◌≢◌, ℕ, Bool, List, []}
+use Rattle.std.specs.Prelude.{◌≡◌, ◌≢◌, ℕ, List, []}
 use Rattle.std.specs.List.{AllByRecursion}
-use Rattle.tx_text.specs.Ends.{StopsIn, Output}
 use Rattle.tx_plan.specs.Plan.{Plan}
 use Rattle.tx_cert.specs.Certificate.{Certificate, IsCertificateOf, ranks_of}
 use Rattle.tx_machine.specs.Sound.{IsSound}
@@ -17,7 +16,6 @@ use Rattle.tx_change.specs.declared.judging.ChangeVerdict.{ChangeVerdict}
 use Rattle.tx_change.specs.declared.judging.ChangeVerdict.TheVariants.{Sound, Unsound, NewUnsound}
 use Rattle.tx_change.specs.ChangeFindings.{AreChangeFindings}
 use Rattle.tx_change.specs.Shown.{IsShown}
-use Rattle.tx_change.specs.ChangeReport.{change_report}
 
 -- YES: the checker says Yes to the certificate for both plans, its ranks certify both, and so each
 -- mixture is sound, and the change is with calls up: calls are routed a few times only, and spare
@@ -62,11 +60,3 @@ module _ {A : Type 0} where
   IsRightVerdict before after new limit spare (NewUnsound findings) =
       IsClearedChange before after limit spare
       × IsRightRanking new limit spare (Fails findings)
-
--- a verdict that is right, whose report was written in part
-pub record ChangeToldInPart (A : Type 0) (old new before after : Plan) (with_old : Bool)
-    (limit spare : ℕ) (out : Output) : Type 0 where
-  pub verdict : ChangeVerdict A
-  pub right : IsRightVerdict before after new limit spare verdict
-  pub wrote : StopsIn out.old out.new
-      (change_report with_old old new before after limit spare verdict)

@@ -1,5 +1,5 @@
 -- The report of a change, as it is written.
-use Rattle.std.specs.Prelude.{ℕ, Bool, true, false, List, [], ◌++◌, length, codes}
+use Rattle.std.specs.Prelude.{ℕ, List, [], ◌++◌, length, codes}
 use Rattle.std.specs.List.{flat_map}
 use Rattle.tx_plan.specs.Plan.{Plan}
 use Rattle.tx_rank.specs.declared.finding.Finding.{Finding}
@@ -11,12 +11,11 @@ use Rattle.tx_plantext.specs.ChangedLists.{changes}
 use Rattle.tx_change.specs.declared.judging.ChangeVerdict.{ChangeVerdict}
 use Rattle.tx_change.specs.declared.judging.ChangeVerdict.TheVariants.{Sound, Unsound, NewUnsound}
 
--- each list that is switched, and the list that it replaces, if they are asked for; after a word
--- where a part comes before them
-abbrev pub switched_lists : (with_old : Bool) → (old new before after : Plan) → List ℕ
-switched_lists true old new before after =
-    part (differ old new) (codes "SWITCH\n") ++ changes true before.routes after
-switched_lists false old new before after = []
+-- each list that is switched, and the list that it replaces, after a word where a part comes before
+-- them
+abbrev pub switched_lists : (old new before after : Plan) → List ℕ
+switched_lists old new before after =
+    part (differ old new) (codes "SWITCH\n") ++ changes before.routes after
 
 module _ {A : Type 0} where
   -- a finding after a word
@@ -41,9 +40,9 @@ module _ {A : Type 0} where
 
   -- The report: what was asked, what is done before, the lists that are switched if they are asked
   -- for, what is done after, how many lists there are, a line for each finding, and the verdict
-  abbrev pub change_report : (with_old : Bool) → (old new before after : Plan) → (limit spare : ℕ)
+  abbrev pub change_report : (old new before after : Plan) → (limit spare : ℕ)
       → ChangeVerdict A → List ℕ
-  change_report with_old old new before after limit spare verdict =
+  change_report old new before after limit spare verdict =
       asked_line (codes "CHANGE") limit spare ++ (before_text old new
-      ++ (switched_lists with_old old new before after ++ (after_text old new
+      ++ (switched_lists old new before after ++ (after_text old new
       ++ (lists_line old new ++ verdict_text before new verdict))))

@@ -15,8 +15,8 @@ use tx_rank::{Finding, write_asked, write_finding, write_verdict};
 use tx_text::{Sink, WriteFault, finish, put_bytes};
 
 /// Writes the report of a change: what was asked, what is done before, the lists that are switched
-/// with those that they replace if they are asked for, what is done after, how many lists there are,
-/// a line for each finding, and the verdict. The findings of the new plan as it is come after the
+/// with those that they replace, what is done after, how many lists there are, a line for each
+/// finding, and the verdict. The findings of the new plan as it is come after the
 /// word NEW.
 pub fn write_change<A: Allocator, W: Sink>(
     old: &Plan<A>,
@@ -24,36 +24,32 @@ pub fn write_change<A: Allocator, W: Sink>(
     joined: &Joined<A>,
     verdict: &ChangeVerdict<A>,
     limits: Limits,
-    with_old: bool,
     sink: &mut W,
 ) -> Result<(), WriteFault>
-    ensures { Wrote W.taken W.failed sink.old sink.new (change_report with_old old.now new.now
+    ensures { Wrote W.taken W.failed sink.old sink.new (change_report old.now new.now
         joined.now.old joined.now.new limits.limit limits.spare verdict.now) result }
 {
     write_asked(b"CHANGE", limits, sink);
     write_before(old, new, sink);
-    write_switched_lists(old, new, joined, with_old, sink);
+    write_switched_lists(old, new, joined, sink);
     write_after(old, new, sink);
     write_list_counts(old, new, sink);
     write_found(new, joined, verdict, sink);
     finish(sink)
 }
 
-/// Writes each list that is switched, and the list that it replaces, if they are asked for.
+/// Writes each list that is switched, and the list that it replaces.
 fn write_switched_lists<A: Allocator, W: Sink>(
     old: &Plan<A>,
     new: &Plan<A>,
     joined: &Joined<A>,
-    with_old: bool,
     sink: &mut W,
 )
     ensures { Puts W.taken W.failed sink.old sink.new
-        (switched_lists with_old old.now new.now joined.now.old joined.now.new) }
+        (switched_lists old.now new.now joined.now.old joined.now.new) }
 {
-    if with_old {
-        write_switch(old, new, sink);
-        write_changes(joined.old.all_routes(), &joined.new, true, sink);
-    }
+    write_switch(old, new, sink);
+    write_changes(joined.old.all_routes(), &joined.new, sink);
 }
 
 /// Writes the word that begins them, if a part comes before it.

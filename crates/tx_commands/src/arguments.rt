@@ -1,6 +1,6 @@
 // Commands with their arguments, as the library of command lines takes them.
-ghost use Rattle.std.specs.Prelude.{◌≡◌, false, Some};
-ghost use Rattle.clap.specs.Words.{App, new_app, new_rule, rule_of, with_rule};
+ghost use Rattle.std.specs.Prelude.{◌≡◌, false};
+ghost use Rattle.clap.specs.Words.{App, new_app, rule_of, with_rule};
 ghost use Rattle.clap.specs.declared.builder.action.ArgAction.TheVariants.{Set};
 ghost use Rattle.tx_commands.specs.Grammar as grammar;
 

@@ -1,7 +1,5 @@
 -- What is done before and after the lists and bars of both plans are switched.
 use Rattle.std.specs.Prelude.{ℕ, Bool, true, false, if◌then◌else◌, List, [], ◌∷◌, ◌++◌, codes}
-use Rattle.std.specs.List.{flat_map}
-use Rattle.tx_text.specs.Written.{line_written}
 use Rattle.tx_plan.specs.Plan.{Plan}
 use Rattle.tx_plantext.specs.PlanWritten.{route_words, bar_words, lines_of_list}
 use Rattle.tx_join.specs.declared.entries.Entries.TheVariants.{Exchanges, Codes, Ranges, Groups}

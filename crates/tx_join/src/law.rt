@@ -1,5 +1,4 @@
 // The laws of joined plans.
-ghost use Rattle.std.specs.Prelude.{◌≡◌};
 ghost use Rattle.tx_plan.specs.Plan.{Plan};
 ghost use Rattle.tx_plan.specs.Rules.{IsPlan};
 ghost use Rattle.tx_plan.specs.Mixtures.{SameNetwork};

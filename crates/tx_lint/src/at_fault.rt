@@ -1,7 +1,7 @@
 // The word at fault in a line that is refused.
 ghost use Rattle.std.specs.Prelude.{◌≡◌, ◌∷◌, [], ℕ, List, option_map};
 ghost use Rattle.tx_text.specs.Words.{is_name};
-ghost use Rattle.tx_plan.specs.Declaring.{has_exchange, has_code, has_group, pair_named, is_not_outgoing};
+ghost use Rattle.tx_plan.specs.Declaring.{pair_named};
 ghost use Rattle.tx_plantext.specs.inner.LineWords.{line_words};
 ghost use Rattle.tx_plantext.specs.declared.fault.PlanWord.TheVariants.{Refused};
 ghost use Rattle.tx_text.specs.declared.frame.FaultKind.TheVariants.{Word};

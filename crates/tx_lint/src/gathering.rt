@@ -1,7 +1,6 @@
 // One mistake is told once: the lines that need a name which a line at fault has left undeclared are
 // counted there.
 ghost use Rattle.std.specs.Prelude.{◌≡◌, ◌+◌, ◌<◌, ◌^◌, map, IfOk, OnOk, option_map, option_and_then};
-ghost use Rattle.tx_lint.specs.AllFaults.{Fault as FaultOf};
 ghost use Rattle.tx_lint.specs.Gathered.{as_name, cause_in, count_at, gathered_on, no_gathering, noted, told_of};
 ghost use Rattle.tx_lint.specs.Lints.{fault_held, told_held};
 ghost use Rattle.tx_lint.specs.inner.Gatherings.{AreFew, gathering_held};

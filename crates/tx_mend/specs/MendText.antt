@@ -1,7 +1,6 @@
 -- The report of a mending, as it is written.
-use Rattle.std.specs.Prelude.{ℕ, ◌+◌, ◌==◌, Bool, if◌then◌else◌, List, [], ◌++◌, length, filter, codes, decimal, Option, Some, None}
+use Rattle.std.specs.Prelude.{ℕ, ◌+◌, ◌==◌, if◌then◌else◌, List, [], ◌++◌, length, filter, codes, decimal, Option, Some, None}
 use Rattle.std.specs.List.{flat_map, list_any, range_with_len}
-use Rattle.tx_text.specs.Ends.{StopsIn, Output}
 use Rattle.tx_plan.specs.Plan.{Plan, Route, figures_of, exchange_name}
 use Rattle.tx_plantext.specs.ChangedLists.{changes}
 use Rattle.tx_rank.specs.declared.finding.Finding.TheVariants.{Ambiguous}
@@ -12,16 +11,15 @@ use Rattle.tx_mend.specs.declared.cause.Missing.{Missing}
 use Rattle.tx_mend.specs.declared.cause.Unserved.{Unserved}
 use Rattle.tx_mend.specs.declared.mending.Mending.{Mending}
 use Rattle.tx_mend.specs.declared.mending.Mending.TheVariants.{Mended, NoRouting}
-use Rattle.tx_mend.specs.Mendings.{IsRightMending}
 
 -- what was asked
 abbrev pub head_line : (limit spare : ℕ) → List ℕ
 head_line = asked_line (codes "MEND")
 
 -- The report of a plan that was mended, and had these routes before
-abbrev pub mended_text : (with_old : Bool) → List Route → Plan → (limit spare : ℕ) → List ℕ
-mended_text with_old before p limit spare =
-    head_line limit spare ++ (changes with_old before p ++ codes "VERDICT YES\n")
+abbrev pub mended_text : List Route → Plan → (limit spare : ℕ) → List ℕ
+mended_text before p limit spare =
+    head_line limit spare ++ (changes before p ++ codes "VERDICT YES\n")
 
 -- the ambiguous pair of codes, if there is one
 abbrev pub pair_line : Plan → Option (ℕ × ℕ) → List ℕ
@@ -87,15 +85,8 @@ unserved_text p limit spare unserved missing pair = head_line limit spare
     ++ (pair_line p pair ++ (flat_map (unserved_line p) unserved
     ++ (code_lines p unserved missing ++ no_line (pair_count pair + length unserved))))
 
--- The report of a mending, with the lists that are replaced if they are asked for
-abbrev pub mend_report : {A : Type 0} → (with_old : Bool) → (limit spare : ℕ) → Mending A → List ℕ
-mend_report with_old limit spare (Mended q before cert) = mended_text with_old before q limit spare
-mend_report with_old limit spare (NoRouting q unserved missing pair) =
+-- The report of a mending, with the lists that are replaced
+abbrev pub mend_report : {A : Type 0} → (limit spare : ℕ) → Mending A → List ℕ
+mend_report limit spare (Mended q before cert) = mended_text before q limit spare
+mend_report limit spare (NoRouting q unserved missing pair) =
     unserved_text q limit spare unserved.items missing.items pair
-
--- a mending that is right, whose report was written in part
-pub record MendToldInPart (A : Type 0) (p : Plan) (with_old : Bool) (limit spare : ℕ) (out : Output)
-    : Type 0 where
-  pub mending : Mending A
-  pub right : IsRightMending p limit spare mending
-  pub wrote : StopsIn out.old out.new (mend_report with_old limit spare mending)

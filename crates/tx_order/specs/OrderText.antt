@@ -27,34 +27,34 @@ bar_line p x c true false = pair_line p (codes "UNBAR ") x c
 bar_line p x c true true = []
 
 -- what is switched at an exchange for a code from one plan to another: the bar and the list, with
--- the one that it replaces if old lists are asked for, by the names of p
-abbrev pub entry_lines : (with_old : Bool) → (p before after : Plan) → (x c : ℕ) → List ℕ
-entry_lines with_old p before after x c =
+-- the one that it replaces, by the names of p
+abbrev pub entry_lines : (p before after : Plan) → (x c : ℕ) → List ℕ
+entry_lines p before after x c =
     bar_line p x c (is_barred before x c) (is_barred after x c)
-    ++ line_unless_same with_old p c x (route_list before x c) (route_list after x c)
+    ++ line_unless_same p c x (route_list before x c) (route_list after x c)
 
 -- at an exchange, by codes
-abbrev pub exchange_lines : (with_old : Bool) → (p before after : Plan) → (x : ℕ) → List ℕ
-exchange_lines with_old p before after x =
-    flat_map (entry_lines with_old p before after x) (range_with_len 0 (length p.codes))
+abbrev pub exchange_lines : (p before after : Plan) → (x : ℕ) → List ℕ
+exchange_lines p before after x =
+    flat_map (entry_lines p before after x) (range_with_len 0 (length p.codes))
 
 -- at all exchanges
-abbrev pub switched_lines : (with_old : Bool) → (p before after : Plan) → List ℕ
-switched_lines with_old p before after =
-    flat_map (exchange_lines with_old p before after) (range_with_len 0 (length p.exchanges))
+abbrev pub switched_lines : (p before after : Plan) → List ℕ
+switched_lines p before after =
+    flat_map (exchange_lines p before after) (range_with_len 0 (length p.exchanges))
 
 -- the number of a stage, from 1
 abbrev pub stage_line : ℕ → List ℕ
 stage_line s = codes "STAGE " ++ (decimal (s + 1) ++ codes "\n")
 
 -- a stage with its number, and what it switches
-abbrev pub stage_text : (with_old : Bool) → Order → ℕ → List ℕ
-stage_text with_old o s = stage_line s
-    ++ switched_lines with_old o.transition.new (plan_before o s) (plan_before o (s + 1))
+abbrev pub stage_text : Order → ℕ → List ℕ
+stage_text o s = stage_line s
+    ++ switched_lines o.transition.new (plan_before o s) (plan_before o (s + 1))
 
 -- the stages of an order
-abbrev pub stages_text : (with_old : Bool) → Order → List ℕ
-stages_text with_old o = flat_map (stage_text with_old o) (range_with_len 0 (stages_in o))
+abbrev pub stages_text : Order → List ℕ
+stages_text o = flat_map (stage_text o) (range_with_len 0 (stages_in o))
 
 module _ {A : Type 0} where
   -- where there is no order: the findings of the old plan and of the new one, and NO with their
@@ -64,10 +64,10 @@ module _ {A : Type 0} where
       ++ (findings_after (codes "NEW ") p after ++ no_line (length before + length after))
 
   -- the stages, if there are any
-  abbrev pub found_text : (with_old : Bool) → OrderVerdict A → List ℕ
-  found_text with_old (Ordered o) = stages_text with_old o
-  found_text with_old (NoOrder p before after) = []
-  found_text with_old (NewUnsound findings) = []
+  abbrev pub found_text : OrderVerdict A → List ℕ
+  found_text (Ordered o) = stages_text o
+  found_text (NoOrder p before after) = []
+  found_text (NewUnsound findings) = []
 
   -- YES, or what is wrong with both plans over the joined network, or with the new plan as it is, by
   -- its own names
@@ -78,10 +78,9 @@ module _ {A : Type 0} where
   verdict_text new (NewUnsound findings) = verdict_after (codes "NEW ") new findings.items
 
   -- The report: what was asked, what is done before the first stage, the stages, with the lists that
-  -- are replaced if they are asked for, what is done after the last one, how many lists there are,
-  -- and the verdict
-  abbrev pub order_report : (with_old : Bool) → (old new : Plan) → (limit spare : ℕ)
+  -- are replaced, what is done after the last one, how many lists there are, and the verdict
+  abbrev pub order_report : (old new : Plan) → (limit spare : ℕ)
       → OrderVerdict A → List ℕ
-  order_report with_old old new limit spare verdict = asked_line (codes "ORDER") limit spare
-      ++ (before_text old new ++ (found_text with_old verdict ++ (after_text old new
+  order_report old new limit spare verdict = asked_line (codes "ORDER") limit spare
+      ++ (before_text old new ++ (found_text verdict ++ (after_text old new
       ++ (lists_line old new ++ verdict_text new verdict))))

@@ -20,22 +20,21 @@ use tx_rank::{Finding, Ranking, write_asked, write_no};
 use tx_text::{Sink, WriteFault, finish, put_bytes, put_parts};
 
 /// Writes the report of the search for an order: what was asked, what is done before, the stages
-/// with what each switches, with the old lists if they are asked for, what is done after, how many
-/// lists there are, and YES, or what is wrong and NO.
+/// with what each switches, with the old lists, what is done after, how many lists there are, and
+/// YES, or what is wrong and NO.
 pub fn write_order<A: Allocator, W: Sink>(
     old: &Plan<A>,
     new: &Plan<A>,
     verdict: &OrderVerdict<A>,
     limits: Limits,
-    with_old: bool,
     sink: &mut W,
 ) -> Result<(), WriteFault>
     ensures { Wrote W.taken W.failed sink.old sink.new
-        (order_report with_old old.now new.now limits.limit limits.spare verdict.now) result }
+        (order_report old.now new.now limits.limit limits.spare verdict.now) result }
 {
     write_asked(b"ORDER", limits, sink);
     write_before(old, new, sink);
-    write_found(verdict, with_old, sink);
+    write_found(verdict, sink);
     write_after(old, new, sink);
     write_list_counts(old, new, sink);
     write_verdict(new, verdict, sink);
@@ -43,11 +42,11 @@ pub fn write_order<A: Allocator, W: Sink>(
 }
 
 /// Writes the stages, if there are any.
-fn write_found<A: Allocator, W: Sink>(verdict: &OrderVerdict<A>, with_old: bool, sink: &mut W)
-    ensures { Puts W.taken W.failed sink.old sink.new (found_text with_old verdict.now) }
+fn write_found<A: Allocator, W: Sink>(verdict: &OrderVerdict<A>, sink: &mut W)
+    ensures { Puts W.taken W.failed sink.old sink.new (found_text verdict.now) }
 {
     match verdict {
-        OrderVerdict::Ordered(order) => write_stages(order, with_old, sink),
+        OrderVerdict::Ordered(order) => write_stages(order, sink),
         OrderVerdict::NoOrder(..) | OrderVerdict::NewUnsound(_) => {}
     }
 }
@@ -64,22 +63,22 @@ fn write_verdict<A: Allocator, W: Sink>(new: &Plan<A>, verdict: &OrderVerdict<A>
 }
 
 /// Writes the stages of an order.
-fn write_stages<A: Allocator, W: Sink>(order: &Order<A>, with_old: bool, sink: &mut W)
-    ensures { Puts W.taken W.failed sink.old sink.new (stages_text with_old order.now) }
+fn write_stages<A: Allocator, W: Sink>(order: &Order<A>, sink: &mut W)
+    ensures { Puts W.taken W.failed sink.old sink.new (stages_text order.now) }
 {
     for stage in 0..order.stages() {
-        write_stage(order, stage, with_old, sink);
+        write_stage(order, stage, sink);
     }
 }
 
 /// Writes a stage with its number, from 1, and what it switches.
-fn write_stage<A: Allocator, W: Sink>(order: &Order<A>, stage: usize, with_old: bool, sink: &mut W)
+fn write_stage<A: Allocator, W: Sink>(order: &Order<A>, stage: usize, sink: &mut W)
     requires { stage < stages_in order.now }
     ensures { Puts W.taken W.failed sink.old sink.new
-        (stage_text with_old order.now stage) }
+        (stage_text order.now stage) }
 {
     write_number(order, stage, sink);
-    write_exchanges(order, stage, with_old, sink);
+    write_exchanges(order, stage, sink);
 }
 
 /// Writes the line that begins a stage.
@@ -97,17 +96,16 @@ fn write_number<A: Allocator, W: Sink>(order: &Order<A>, stage: usize, sink: &mu
 fn write_exchanges<A: Allocator, W: Sink>(
     order: &Order<A>,
     stage: usize,
-    with_old: bool,
     sink: &mut W,
 )
     requires { stage < stages_in order.now }
     ensures { Puts W.taken W.failed sink.old sink.new
-        (switched_lines with_old order.now.transition.new (plan_before order.now stage)
+        (switched_lines order.now.transition.new (plan_before order.now stage)
         (plan_before order.now (stage + 1))) }
 {
     let plan = order.new_plan();
     for index in 0..plan.exchanges() {
-        write_exchange(order, stage, ExchangeId::of(index), with_old, sink);
+        write_exchange(order, stage, ExchangeId::of(index), sink);
     }
 }
 
@@ -116,17 +114,16 @@ fn write_exchange<A: Allocator, W: Sink>(
     order: &Order<A>,
     stage: usize,
     exchange: ExchangeId,
-    with_old: bool,
     sink: &mut W,
 )
     requires { stage < stages_in order.now }
     ensures { Puts W.taken W.failed sink.old sink.new
-        (exchange_lines with_old order.now.transition.new (plan_before order.now stage)
+        (exchange_lines order.now.transition.new (plan_before order.now stage)
         (plan_before order.now (stage + 1)) exchange) }
 {
     let plan = order.new_plan();
     for index in 0..plan.codes() {
-        write_entry(order, stage, exchange, CodeId::of(index), with_old, sink);
+        write_entry(order, stage, exchange, CodeId::of(index), sink);
     }
 }
 
@@ -136,16 +133,15 @@ fn write_entry<A: Allocator, W: Sink>(
     stage: usize,
     exchange: ExchangeId,
     code: CodeId,
-    with_old: bool,
     sink: &mut W,
 )
     requires { stage < stages_in order.now }
     ensures { Puts W.taken W.failed sink.old sink.new
-        (entry_lines with_old order.now.transition.new (plan_before order.now stage)
+        (entry_lines order.now.transition.new (plan_before order.now stage)
         (plan_before order.now (stage + 1)) exchange code) }
 {
     write_bar(order, stage, exchange, code, sink);
-    write_switched_list(order, stage, exchange, code, with_old, sink);
+    write_switched_list(order, stage, exchange, code, sink);
 }
 
 /// Writes that a bar is set or lifted, if it is.
@@ -188,18 +184,17 @@ fn write_pair<A: Allocator, W: Sink>(
     put_parts(&[word, name, b" ", plan.code_figures(code), b"\n"], sink);
 }
 
-/// Writes the list that is set, if it is another one, and the old one if that is asked for.
+/// Writes the list that is set, if it is another one, and the old one.
 fn write_switched_list<A: Allocator, W: Sink>(
     order: &Order<A>,
     stage: usize,
     exchange: ExchangeId,
     code: CodeId,
-    with_old: bool,
     sink: &mut W,
 )
     requires { stage < stages_in order.now }
     ensures { Puts W.taken W.failed sink.old sink.new
-        (line_unless_same with_old order.now.transition.new code exchange
+        (line_unless_same order.now.transition.new code exchange
         (route_list (plan_before order.now stage) exchange code)
         (route_list (plan_before order.now (stage + 1)) exchange code)) }
 {
@@ -208,7 +203,7 @@ fn write_switched_list<A: Allocator, W: Sink>(
     if old == order.list(stage + 1, exchange, code) {
         return;
     }
-    write_new_list(order.new_plan(), code, exchange, old, with_old, sink);
+    write_new_list(order.new_plan(), code, exchange, old, sink);
 }
 
 /// Writes the findings of both plans over the joined network, and NO with their number.

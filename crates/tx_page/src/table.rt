@@ -1,7 +1,5 @@
 // A table of what is switched.
-ghost use Rattle.std.specs.Prelude.{length};
 ghost use Rattle.tx_html.specs.Shows.{Sets};
-ghost use Rattle.tx_svg.specs.Indexed.{texts_below};
 ghost use Rattle.tx_page.specs.ChangeTexts.{exchange_texts, table_texts};
 ghost use Rattle.tx_page.specs.inner.Between.{before_of, after_of, IsThere};
 

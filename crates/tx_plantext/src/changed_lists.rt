@@ -2,7 +2,7 @@
 ghost use Rattle.std.specs.Prelude.{◌<◌, ◌++◌, codes};
 ghost use Rattle.tx_text.specs.Puts.{Puts};
 ghost use Rattle.tx_plan.specs.Routes.{route_list};
-ghost use Rattle.tx_plantext.specs.ChangedLists.{list_line, was_line, old_line, change_line, code_changes, changes};
+ghost use Rattle.tx_plantext.specs.ChangedLists.{list_line, was_line, change_line, code_changes, changes};
 
 use crate::plan_writer::{write_group_names, write_route};
 use std::alloc::Allocator;
@@ -14,14 +14,13 @@ use tx_text::{Sink, put_bytes, put_parts};
 pub fn write_changes<A: Allocator, W: Sink>(
     before: &Routes<A>,
     plan: &Plan<A>,
-    with_old: bool,
     sink: &mut W,
 )
     ensures { Puts W.taken W.failed sink.old sink.new
-        (changes with_old before.now plan.now) }
+        (changes before.now plan.now) }
 {
     for index in 0..plan.codes() {
-        write_code_changes(before, plan, CodeId::of(index), with_old, sink);
+        write_code_changes(before, plan, CodeId::of(index), sink);
     }
 }
 
@@ -30,14 +29,13 @@ fn write_code_changes<A: Allocator, W: Sink>(
     before: &Routes<A>,
     plan: &Plan<A>,
     code: CodeId,
-    with_old: bool,
     sink: &mut W,
 )
     ensures { Puts W.taken W.failed sink.old sink.new
-        (code_changes with_old before.now plan.now code) }
+        (code_changes before.now plan.now code) }
 {
     for index in 0..plan.exchanges() {
-        write_change(before, plan, code, ExchangeId::of(index), with_old, sink);
+        write_change(before, plan, code, ExchangeId::of(index), sink);
     }
 }
 
@@ -47,37 +45,32 @@ fn write_change<A: Allocator, W: Sink>(
     plan: &Plan<A>,
     code: CodeId,
     exchange: ExchangeId,
-    with_old: bool,
     sink: &mut W,
 )
     ensures { Puts W.taken W.failed sink.old sink.new
-        (change_line with_old before.now plan.now code exchange) }
+        (change_line before.now plan.now code exchange) }
 {
     let old = before.list(&Pair { exchange, code });
     if old == plan.list(exchange, code) {
         return;
     }
-    write_new_list(plan, code, exchange, old, with_old, sink);
+    write_new_list(plan, code, exchange, old, sink);
 }
 
-/// Writes the list of an exchange for a code, or that it needs none, and the list that it replaces,
-/// if that is asked for.
+/// Writes the list of an exchange for a code, or that it needs none, and the list that it replaces.
 pub fn write_new_list<A: Allocator, W: Sink>(
     plan: &Plan<A>,
     code: CodeId,
     exchange: ExchangeId,
     old: &[GroupId],
-    with_old: bool,
     sink: &mut W,
 )
     ensures { Puts W.taken W.failed sink.old sink.new
         (list_line plan.now code exchange (route_list plan.now exchange code)
-        ++ old_line with_old plan.now old.now) }
+        ++ was_line plan.now old.now) }
 {
     write_list(plan, code, exchange, sink);
-    if with_old {
-        write_was(plan, old, sink);
-    }
+    write_was(plan, old, sink);
 }
 
 /// Writes the list of an exchange for a code, or that it needs none.

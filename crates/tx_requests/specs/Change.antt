@@ -34,7 +34,7 @@ module _ {A : Type 0} where
 
   -- with the lists that are switched, and those that they replace
   abbrev pub change_prints : ChangeRequest → TwoPlans A × ChangeVerdict A → Printing
-  change_prints r a = Writes (change_report true a.0.old.plan a.0.new.plan a.0.joined.old
+  change_prints r a = Writes (change_report a.0.old.plan a.0.new.plan a.0.joined.old
       a.0.joined.new r.limits.limit r.limits.spare a.1)
 
   -- what goes into files: nothing where no finding has a walk; else a plan that shows the first

@@ -26,7 +26,7 @@ module _ {A : Type 0} where
 
   -- with the lists that are replaced
   abbrev pub mend_prints : MendRequest → Vec ℕ A × Mending A → Printing
-  mend_prints r a = Writes (mend_report true r.limits.limit r.limits.spare a.1)
+  mend_prints r a = Writes (mend_report r.limits.limit r.limits.spare a.1)
 
   -- the mended plan goes into a file, as the text revised, and so does its certificate
   abbrev pub HasMended : (asked : Bool) → (text : List ℕ) → Plan → Certificate → Option (Made A)

@@ -1,5 +1,5 @@
 -- The command `order`.
-use Rattle.std.specs.Prelude.{◌≡◌, ◌⊎◌, ℕ, Bool, true, Option, None, Some, is_some, Result, Ok, Err}
+use Rattle.std.specs.Prelude.{◌≡◌, ◌⊎◌, ℕ, Bool, Option, None, Some, is_some, Result, Ok, Err}
 use Rattle.tx_cert.specs.Certificate.{Certificate}
 use Rattle.tx_order.specs.declared.judging.OrderVerdict.{OrderVerdict}
 use Rattle.tx_order.specs.declared.judging.OrderVerdict.TheVariants.{Ordered, NoOrder, NewUnsound}
@@ -49,7 +49,7 @@ module _ {A : Type 0} where
   -- with the lists that are replaced
   abbrev pub order_prints : OrderRequest → Switched A → Printing
   order_prints r a = Writes
-      (order_report true a.old.plan a.new.plan r.limits.limit r.limits.spare a.verdict)
+      (order_report a.old.plan a.new.plan r.limits.limit r.limits.spare a.verdict)
 
   -- the plan after a stage goes into a file, as the old text revised, and so does a certificate of
   -- the stage

@@ -50,7 +50,6 @@ impl<A: Allocator + Copy> Request<A> for ChangeRequest {
             &plans.joined,
             &answer.1,
             self.limits,
-            true,
             out,
         )
     }

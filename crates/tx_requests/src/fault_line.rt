@@ -1,5 +1,4 @@
 // The line that says why a command stopped.
-ghost use Rattle.std.specs.Prelude.{◌≡◌};
 ghost use Rattle.tx_text.specs.Puts.{Puts};
 ghost use Rattle.tx_text.specs.Wrote.{Wrote};
 ghost use Rattle.tx_requests.specs.FaultLines.{command_line, homes_text, differing_text, contradiction_line, stage_count_line};

@@ -32,7 +32,7 @@ impl<A: Allocator + Copy> Request<A> for MendRequest {
     }
 
     fn print<W: Sink>(&self, answer: &Self::Answer, out: &mut W) -> Result<(), WriteFault> {
-        write_mending(&answer.1, self.limits, true, out)
+        write_mending(&answer.1, self.limits, out)
     }
 
     fn end(&self, alloc: A, answer: Self::Answer) -> Result<Ending<A>, CommandFault> {

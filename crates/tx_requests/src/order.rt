@@ -54,7 +54,6 @@ impl<A: Allocator + Copy> Request<A> for OrderRequest {
             &answer.new.plan,
             &answer.verdict,
             self.limits,
-            true,
             out,
         )
     }

@@ -1,5 +1,5 @@
 // The command `page`.
-ghost use Rattle.std.specs.Prelude.{◌≡◌, is_some};
+ghost use Rattle.std.specs.Prelude.{◌≡◌};
 ghost use Rattle.tx_text.specs.Words.{before};
 ghost use Rattle.tx_html.specs.Shows.{Showed};
 ghost use Rattle.tx_page.specs.Page.{page_texts};

@@ -1,5 +1,5 @@
 // The change from an old plan that a page shows.
-ghost use Rattle.std.specs.Prelude.{◌≡◌, IfOk, IfErr};
+ghost use Rattle.std.specs.Prelude.{IfOk, IfErr};
 ghost use Rattle.tx_order.specs.Switchings.{IsRightSwitching};
 ghost use Rattle.tx_join.specs.Joined.{joined_old, joined_new};
 ghost use Rattle.tx_requests.specs.Page.{IsChangeOf, IsChangeIfAny, IsNoChange, IsSameChange};

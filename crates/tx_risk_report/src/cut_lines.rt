@@ -1,5 +1,5 @@
 // The lines of those who are cut off.
-ghost use Rattle.std.specs.Prelude.{◌≡◌, ◌++◌, ◌==◌, [], if◌then◌else◌, length};
+ghost use Rattle.std.specs.Prelude.{◌++◌, ◌==◌, [], if◌then◌else◌, length};
 ghost use Rattle.std.specs.List.{flat_map, range_with_len};
 ghost use Rattle.tx_text.specs.Puts.{Puts};
 ghost use Rattle.tx_rank.specs.Walks.{end_of};

@@ -1,5 +1,4 @@
 // Whom an outage cuts off in one of two plans, and not in the other.
-ghost use Rattle.std.specs.Prelude.{◌≡◌, ◌||◌, ◌++◌, [], if◌then◌else◌};
 ghost use Rattle.std.specs.List.{flat_map};
 ghost use Rattle.tx_text.specs.Puts.{Puts};
 ghost use Rattle.tx_risk.specs.Compared.{AreInOrder};

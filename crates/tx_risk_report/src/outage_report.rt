@@ -1,5 +1,4 @@
 // The writer of what outages cut off.
-ghost use Rattle.std.specs.Prelude.{if◌then◌else◌, []};
 ghost use Rattle.std.specs.List.{flat_map};
 ghost use Rattle.tx_text.specs.Puts.{Puts};
 ghost use Rattle.tx_text.specs.Wrote.{Wrote};

@@ -1,5 +1,5 @@
 // How many starts each outage cuts off, and all of them.
-ghost use Rattle.std.specs.Prelude.{◌≡◌, [], if◌then◌else◌};
+ghost use Rattle.std.specs.Prelude.{◌≡◌};
 ghost use Rattle.std.specs.List.{flat_map};
 ghost use Rattle.tx_text.specs.Puts.{Puts};
 ghost use Rattle.tx_rank.specs.Report.{verdict_line};

@@ -1,4 +1,4 @@
-use Rattle.std.proofs.Common.{not, Option, List, ℕ, [], ◌∷◌, refl, ap}
+use Rattle.std.proofs.Common.{not, Option, [], ◌∷◌, refl, ap}
 use Rattle.std.specs.Prelude.{if◌then◌else◌}
 use Rattle.std.specs.Option.{option_map_or}
 use Rattle.tx_text.specs.Written.{line_written}

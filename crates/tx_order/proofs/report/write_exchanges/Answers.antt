@@ -12,9 +12,9 @@ loop-index-init g c = puts_none
 pub loop-index-preserved : goal.loop-index-preserved
 loop-index-preserved g c =
     let o = c.args.order.now in
-    index_more (exchange_lines c.args.with_old o.transition.new (plan_before o c.args.stage) (plan_before o (c.args.stage + 1))) c.of.ensures c.loop-index.invariant c.write_exchange.ensures
+    index_more (exchange_lines o.transition.new (plan_before o c.args.stage) (plan_before o (c.args.stage + 1))) c.of.ensures c.loop-index.invariant c.write_exchange.ensures
 
 pub returns : goal.returns
 returns g c =
     let o = c.args.order.now in
-    indexes_done (exchange_lines c.args.with_old o.transition.new (plan_before o c.args.stage) (plan_before o (c.args.stage + 1))) c.loop-index.index (length o.transition.new.exchanges) (let t = c.loop-index-test.false in let a = c.loop-index.auto.index-end in let e = c.exchanges-index-end.ensures.count in let n = ap (λ (p : Plan). length p.exchanges) c.new_plan-plan.ensures in omega arith) c.loop-index.invariant
+    indexes_done (exchange_lines o.transition.new (plan_before o c.args.stage) (plan_before o (c.args.stage + 1))) c.loop-index.index (length o.transition.new.exchanges) (let t = c.loop-index-test.false in let a = c.loop-index.auto.index-end in let e = c.exchanges-index-end.ensures.count in let n = ap (λ (p : Plan). length p.exchanges) c.new_plan-plan.ensures in omega arith) c.loop-index.invariant

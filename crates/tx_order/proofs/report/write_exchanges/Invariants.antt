@@ -6,4 +6,4 @@ use Rattle.tx_order.specs.OrderText.{exchange_lines}
 use Rattle.tx_order.proofs.report.write_exchanges.Given as goal
 
 abbrev pub invariant-loop-index : goal.invariant-loop-index
-invariant-loop-index g l = Puts g.W.Sink.taken g.W.Sink.failed l.initial.sink l.sink (flat_map (exchange_lines l.with_old l.order.transition.new (plan_before l.order l.stage) (plan_before l.order (l.stage + 1))) (range_with_len 0 l.index))
+invariant-loop-index g l = Puts g.W.Sink.taken g.W.Sink.failed l.initial.sink l.sink (flat_map (exchange_lines l.order.transition.new (plan_before l.order l.stage) (plan_before l.order (l.stage + 1))) (range_with_len 0 l.index))

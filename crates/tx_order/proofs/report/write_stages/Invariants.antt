@@ -4,4 +4,4 @@ use Rattle.tx_order.specs.OrderText.{stage_text}
 use Rattle.tx_order.proofs.report.write_stages.Given as goal
 
 abbrev pub invariant-loop-stage : goal.invariant-loop-stage
-invariant-loop-stage g l = Puts g.W.Sink.taken g.W.Sink.failed l.initial.sink l.sink (flat_map (stage_text l.with_old l.order) (range_with_len 0 l.stage))
+invariant-loop-stage g l = Puts g.W.Sink.taken g.W.Sink.failed l.initial.sink l.sink (flat_map (stage_text l.order) (range_with_len 0 l.stage))

@@ -8,7 +8,7 @@ pub loop-index-init : goal.loop-index-init
 loop-index-init g c = puts_none
 
 pub loop-index-preserved : goal.loop-index-preserved
-loop-index-preserved g c = index_more (code_changes c.args.with_old c.args.before.now c.args.plan.now) c.of.ensures c.loop-index.invariant c.write_code_changes.ensures
+loop-index-preserved g c = index_more (code_changes c.args.before.now c.args.plan.now) c.of.ensures c.loop-index.invariant c.write_code_changes.ensures
 
 pub returns : goal.returns
-returns g c = indexes_done (code_changes c.args.with_old c.args.before.now c.args.plan.now) c.loop-index.index (length c.args.plan.now.codes) (let t = c.loop-index-test.false in let a = c.loop-index.auto.index-end in let e = c.codes-index-end.ensures.count in omega arith) c.loop-index.invariant
+returns g c = indexes_done (code_changes c.args.before.now c.args.plan.now) c.loop-index.index (length c.args.plan.now.codes) (let t = c.loop-index-test.false in let a = c.loop-index.auto.index-end in let e = c.codes-index-end.ensures.count in omega arith) c.loop-index.invariant

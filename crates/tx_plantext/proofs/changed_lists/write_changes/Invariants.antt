@@ -4,4 +4,4 @@ use Rattle.tx_plantext.specs.ChangedLists.{code_changes}
 use Rattle.tx_plantext.proofs.changed_lists.write_changes.Given as goal
 
 abbrev pub invariant-loop-index : goal.invariant-loop-index
-invariant-loop-index g l = Puts g.W.Sink.taken g.W.Sink.failed l.initial.sink l.sink (flat_map (code_changes l.with_old l.before l.plan) (range_with_len 0 l.index))
+invariant-loop-index g l = Puts g.W.Sink.taken g.W.Sink.failed l.initial.sink l.sink (flat_map (code_changes l.before l.plan) (range_with_len 0 l.index))

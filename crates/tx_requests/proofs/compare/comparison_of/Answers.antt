@@ -1,2 +1,1 @@
-use Rattle.std.proofs.Common.{refl}
 use Rattle.tx_requests.proofs.compare.comparison_of.Goals as goal

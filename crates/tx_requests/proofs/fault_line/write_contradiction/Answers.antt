@@ -1,4 +1,3 @@
-use Rattle.std.proofs.Common.{◌≢◌, List, [], ℕ}
 use Rattle.tx_text.proofs.Writing.{some}
 use Rattle.tx_text.proofs.Putting.{puts_wrote, puts_then}
 use Rattle.tx_requests.proofs.fault_line.write_contradiction.Goals as goal

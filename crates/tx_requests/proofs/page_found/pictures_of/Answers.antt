@@ -1,6 +1,6 @@
-use Rattle.std.proofs.Common.{◌≡◌, ◌∙◌, ℕ, Bool, List, [], ◌∷◌, ◌++◌, map, ap, sym}
+use Rattle.std.proofs.Common.{◌∙◌, List, [], ◌∷◌, map, ap, sym}
 use Rattle.std.proofs.lemmas.List.{map-append}
-use Rattle.tx_mend.proofs.Placed.{filter_pushed, filter_same}
+use Rattle.tx_mend.proofs.Placed.{filter_pushed}
 use Rattle.tx_requests.specs.PageCodes.{is_shown}
 use Rattle.tx_requests.proofs.page_found.pictures_of.Goals as goal
 
