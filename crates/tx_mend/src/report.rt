@@ -11,7 +11,8 @@ use tx_plantext::write_changes;
 use tx_rank::write_asked;
 use tx_text::{Sink, WriteFault, finish, put_bytes};
 
-/// Writes the report of a mending: the lists that change, with the old ones, and YES, or what cannot be served and NO.
+/// Writes the report of a mending: the lists that change, with the old ones, and YES, or what cannot
+/// be served and NO.
 pub fn write_mending<A: Allocator, W: Sink>(
     mending: &Mending<A>,
     limits: Limits,

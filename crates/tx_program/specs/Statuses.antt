@@ -7,7 +7,7 @@ use Rattle.tx_commands.specs.Commands.{AskFor}
 use Rattle.tx_commands.specs.Faults.{IsRefusalOf, status_of}
 use Rattle.tx_commands.specs.declared.command.Command.{Command}
 use Rattle.tx_commands.specs.declared.fault.WordsFault.{WordsFault}
-use Rattle.tx_requests.specs.Faults.{fault_status}
+use Rattle.tx_files.specs.Faults.{fault_status}
 use Rattle.tx_program.specs.declared.stop.Stop.{Stop}
 use Rattle.tx_program.specs.declared.stop.Stop.TheVariants.{Command as CommandFailed, Read, Write}
 

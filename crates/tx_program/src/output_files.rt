@@ -7,8 +7,8 @@ use crate::targets::{Target, Targets};
 use std::alloc::Allocator;
 use std::io::Write;
 use tx_commands::Place;
+use tx_files::{Content, Made, write_content};
 use tx_jobs::JobFault;
-use tx_requests::{Content, Made, write_content};
 
 /// Makes the files that are named, one after another, of what was made for them.
 pub(crate) fn write_files<A: Allocator + Copy, F: Folder, O: Write + Drop>(

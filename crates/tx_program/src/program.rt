@@ -15,8 +15,9 @@ use std::alloc::{Allocator, Global};
 use std::io;
 use std::io::{IsTerminal, Read, Write};
 use tx_commands::{Command, Place, WordsFault, read_command};
+use tx_files::{CommandFault, Ending};
 use tx_jobs::{JobFault, write_fault};
-use tx_requests::{CommandFault, Ending, do_command};
+use tx_requests::do_command;
 use tx_text::ToWrite;
 
 /// The ends of the program: a folder of files, standard input, standard output and standard error.

@@ -2,15 +2,15 @@
 ghost use Rattle.std.specs.Prelude.{◌≡◌};
 ghost use Rattle.tx_program.specs.Statuses.{status_of_stop};
 ghost use Rattle.tx_program.specs.declared.stop.Stop.TheVariants.{Command as CommandFailed};
-ghost use Rattle.tx_requests.specs.declared.fault.CommandFault.TheVariants.{Job as OfJob};
+ghost use Rattle.tx_files.specs.declared.fault.CommandFault.TheVariants.{Job as OfJob};
 
 use crate::kind::TextKind;
 use std::alloc::Allocator;
 use std::io;
 use tx_commands::{Command, FillRequest, Place, STANDARD_INPUT, ThroughRequest, TraceRequest};
+use tx_files::{CommandFault, write_command_fault};
 use tx_jobs::{JobFault, write_fault};
 use tx_lint::write_escaped;
-use tx_requests::{CommandFault, write_command_fault};
 use tx_text::{Sink, WriteFault, finish, put_bytes, put_parts};
 
 /// Why the program stopped before a command was done.

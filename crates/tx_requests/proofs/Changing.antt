@@ -16,18 +16,18 @@ use Rattle.tx_change.specs.Shown.{IsShown}
 use Rattle.tx_change.specs.ChangeAnswers.{IsRightVerdict}
 use Rattle.tx_change.specs.MixtureShown.{first_walked, ShowsFirstWalk, MixtureAnswer, ShowsNewPlan, NewPlanAnswer}
 use Rattle.tx_commands.specs.declared.change.ChangeRequest.{ChangeRequest}
-use Rattle.tx_requests.specs.declared.ending.Ending.{Ending}
-use Rattle.tx_requests.specs.declared.fault.CommandFault.{CommandFault}
-use Rattle.tx_requests.specs.declared.made.Made.{Made}
-use Rattle.tx_requests.specs.declared.made.Shown.{Shown}
-use Rattle.tx_requests.specs.declared.two_plans.PlanText.{PlanText}
-use Rattle.tx_requests.specs.declared.two_plans.TwoPlans.{TwoPlans}
+use Rattle.tx_files.specs.declared.ending.Ending.{Ending}
+use Rattle.tx_files.specs.declared.fault.CommandFault.{CommandFault}
+use Rattle.tx_files.specs.declared.made.Made.{Made}
+use Rattle.tx_files.specs.declared.made.Shown.{Shown}
+use Rattle.tx_files.specs.declared.two_plans.PlanText.{PlanText}
+use Rattle.tx_files.specs.declared.two_plans.TwoPlans.{TwoPlans}
+use Rattle.tx_files.specs.Ending.{EndsWith}
+use Rattle.tx_files.specs.Faults.{memory_stop}
+use Rattle.tx_files.specs.Made.{shown_plan, shown_events, plan_file, HasTextIf}
+use Rattle.tx_files.specs.TwoPlans.{AreJoined}
+use Rattle.tx_files.specs.Writables.{AreWritable}
 use Rattle.tx_requests.specs.Change.{ChangeAnswers, ShowsFirst, EndsShown}
-use Rattle.tx_requests.specs.Ending.{EndsWith}
-use Rattle.tx_requests.specs.Faults.{memory_stop}
-use Rattle.tx_requests.specs.Made.{shown_plan, shown_events, plan_file, HasTextIf}
-use Rattle.tx_requests.specs.TwoPlans.{AreJoined}
-use Rattle.tx_requests.specs.Writables.{AreWritable}
 use Rattle.tx_requests.specs.inner.Changes.{IsMadeOf}
 
 -- all findings of a plan are true

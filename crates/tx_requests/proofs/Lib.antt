@@ -1,11 +1,7 @@
 mod Grading
 mod Surviving
 mod Asking
-mod Uncalled
-mod Texts
-mod Joining
 mod Changing
-mod RevisedText
 mod TextParts
 mod LineKinds
 mod DeclaredLines

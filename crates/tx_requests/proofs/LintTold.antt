@@ -15,8 +15,8 @@ use Rattle.tx_lint.specs.Lints.{Faults}
 use Rattle.tx_lint.specs.declared.entry.Entry.{Entry}
 use Rattle.tx_risk.specs.declared.fault.RiskWord.{RiskWord}
 use Rattle.tx_risk.specs.declared.fault.RiskWord.TheVariants.{UnknownWord, WrongCount, BadName, Duplicate, UnknownName, RepeatedGroup, NoMemory as RiskNoMemory}
-use Rattle.tx_requests.specs.declared.fault.CommandFault.{CommandFault}
-use Rattle.tx_requests.specs.Faults.{text_stop, risks_stop, risks_stop_by, fault_mark}
+use Rattle.tx_files.specs.declared.fault.CommandFault.{CommandFault}
+use Rattle.tx_files.specs.Faults.{text_stop, risks_stop, risks_stop_by, fault_mark}
 use Rattle.tx_requests.specs.Lint.{ToldLint, NotRead, WarnedWithRisks, LookedThrough, LintAnswers, LintRisksAnswers, LintAnswersBy}
 
 pub not_read : (X : Type 0) (plan : Input) (out : Output) (f : WholeTextFault) → (f ≡ Read → plan.broken)

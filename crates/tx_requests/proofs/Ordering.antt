@@ -8,10 +8,10 @@ use Rattle.tx_order.specs.Ordered.{Order, plan_before}
 use Rattle.tx_order.specs.OrderVerdicts.{IsRightVerdict}
 use Rattle.tx_order.specs.Staged.{IsStageOf, HasStage}
 use Rattle.tx_commands.specs.declared.order.OrderRequest.{OrderRequest}
+use Rattle.tx_files.specs.declared.two_plans.TwoPlans.{TwoPlans}
+use Rattle.tx_files.specs.TwoPlans.{AreJoined}
 use Rattle.tx_requests.specs.declared.order.Switched.{Switched}
-use Rattle.tx_requests.specs.declared.two_plans.TwoPlans.{TwoPlans}
 use Rattle.tx_requests.specs.Order.{OrderAnswers}
-use Rattle.tx_requests.specs.TwoPlans.{AreJoined}
 
 -- the plan after a stage of an order that is right keeps the rules
 ordered_rules : (A : Type 0) (old new q : Plan) (limit spare : ℕ) (o : Order) (n : ℕ)

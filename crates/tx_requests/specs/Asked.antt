@@ -4,8 +4,8 @@ use Rattle.std.specs.List.{slice_split}
 use Rattle.tx_plan.specs.Plan.{Plan, exchange_named, code_named, group_named}
 use Rattle.tx_trace.specs.declared.through.Through.{Through}
 use Rattle.tx_trace.specs.declared.through.Through.TheVariants.{Exchange, Group}
-use Rattle.tx_requests.specs.declared.fault.CommandFault.{CommandFault}
-use Rattle.tx_requests.specs.declared.fault.CommandFault.TheVariants.{NoSuchExchange, NoSuchCode, NoSuchGroup, NoSuchName}
+use Rattle.tx_files.specs.declared.fault.CommandFault.{CommandFault}
+use Rattle.tx_files.specs.declared.fault.CommandFault.TheVariants.{NoSuchExchange, NoSuchCode, NoSuchGroup, NoSuchName}
 
 -- the names in a word, with a comma between two; 44 is the comma
 abbrev pub names_in : List ℕ → List (List ℕ)

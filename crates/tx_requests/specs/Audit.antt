@@ -10,12 +10,12 @@ use Rattle.tx_audit.specs.Breaks.{ShowsOne}
 use Rattle.tx_audit.specs.declared.audited.Audited.{Audited}
 use Rattle.tx_audit.specs.declared.audited.Audited.TheVariants.{Sound, Unsound}
 use Rattle.tx_commands.specs.declared.audit.AuditRequest.{AuditRequest}
-use Rattle.tx_requests.specs.declared.ending.Ending.{Ending}
-use Rattle.tx_requests.specs.declared.fault.CommandFault.{CommandFault}
-use Rattle.tx_requests.specs.declared.made.Made.{Made}
-use Rattle.tx_requests.specs.Ending.{EndsWith, EndsWithTexts}
-use Rattle.tx_requests.specs.Faults.{memory_stop}
-use Rattle.tx_requests.specs.Made.{shown_plan, shown_events}
+use Rattle.tx_files.specs.declared.ending.Ending.{Ending}
+use Rattle.tx_files.specs.declared.fault.CommandFault.{CommandFault}
+use Rattle.tx_files.specs.declared.made.Made.{Made}
+use Rattle.tx_files.specs.Ending.{EndsWith, EndsWithTexts}
+use Rattle.tx_files.specs.Faults.{memory_stop}
+use Rattle.tx_files.specs.Made.{shown_plan, shown_events}
 
 module _ {A : Type 0} where
   -- The script has the plan and the events of the first finding that has some, and these show one

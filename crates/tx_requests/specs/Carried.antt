@@ -1,9 +1,9 @@
 -- A request that is carried out over its texts: it is answered, and the answer is printed.
 use Rattle.std.specs.Prelude.{◌≡◌, ◌⊎◌, ℕ, Bool, List, Option, Result, Ok, Err}
 use Rattle.tx_text.specs.declared.sink.WriteFault.{WriteFault}
-use Rattle.tx_requests.specs.declared.ending.Ending.{Ending}
-use Rattle.tx_requests.specs.declared.fault.CommandFault.{CommandFault}
-use Rattle.tx_requests.specs.Faults.{write_stop}
+use Rattle.tx_files.specs.declared.ending.Ending.{Ending}
+use Rattle.tx_files.specs.declared.fault.CommandFault.{CommandFault}
+use Rattle.tx_files.specs.Faults.{write_stop}
 use Rattle.tx_requests.specs.Printing.{Printing}
 
 module _ {C T N A W : Type 0} (answers : C → T → Result N CommandFault → Type 0)

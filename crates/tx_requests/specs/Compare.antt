@@ -6,13 +6,13 @@ use Rattle.tx_risk.specs.Outages.{all_outages, AreOutcomes}
 use Rattle.tx_risk_report.specs.declared.comparison.Comparison.{Comparison}
 use Rattle.tx_risk_report.specs.Comparison.{comparison_text, is_against}
 use Rattle.tx_commands.specs.declared.survive.CompareRequest.{CompareRequest}
+use Rattle.tx_files.specs.declared.ending.Ending.{Ending}
+use Rattle.tx_files.specs.declared.fault.CommandFault.{CommandFault}
+use Rattle.tx_files.specs.declared.two_plans.PlansRisks.{PlansRisks}
+use Rattle.tx_files.specs.Ending.{EndsWith}
+use Rattle.tx_files.specs.Faults.{memory_stop}
 use Rattle.tx_requests.specs.declared.compare.Compared.{Compared}
 use Rattle.tx_requests.specs.declared.compare.Outlook.{Outlook}
-use Rattle.tx_requests.specs.declared.ending.Ending.{Ending}
-use Rattle.tx_requests.specs.declared.fault.CommandFault.{CommandFault}
-use Rattle.tx_requests.specs.declared.two_plans.PlansRisks.{PlansRisks}
-use Rattle.tx_requests.specs.Ending.{EndsWith}
-use Rattle.tx_requests.specs.Faults.{memory_stop}
 use Rattle.tx_requests.specs.Grade.{IsGradeOf}
 use Rattle.tx_requests.specs.Printing.{Printing, Writes}
 use Rattle.tx_requests.specs.Survive.{is_only}

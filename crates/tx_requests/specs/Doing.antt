@@ -10,14 +10,17 @@ use Rattle.tx_jobs.specs.declared.job_fault.JobFault.{JobFault}
 use Rattle.tx_jobs.specs.Jobs.{CodesJobAnswers}
 use Rattle.tx_jobs.specs.PipeJobs.{PipeJobAnswers}
 use Rattle.tx_jobs.specs.TellingJobs.{TellingJobAnswers}
-use Rattle.tx_requests.specs.declared.ending.Ending.{Ending}
-use Rattle.tx_requests.specs.declared.fault.CommandFault.{CommandFault}
-use Rattle.tx_requests.specs.declared.two_plans.Which.TheVariants.{This}
+use Rattle.tx_files.specs.declared.ending.Ending.{Ending}
+use Rattle.tx_files.specs.declared.fault.CommandFault.{CommandFault}
+use Rattle.tx_files.specs.declared.two_plans.Which.TheVariants.{This}
+use Rattle.tx_files.specs.Ending.{EndsWith, EndsWell}
+use Rattle.tx_files.specs.PageReading.{ReadsForPage}
+use Rattle.tx_files.specs.Reading.{ReadsPlan, ReadsWithRisks}
+use Rattle.tx_files.specs.TwoPlans.{ReadsWhole, ReadsPlans, ReadsPlansWithRisks, ReadsWithOld}
 use Rattle.tx_requests.specs.Audit.{AuditEnds}
 use Rattle.tx_requests.specs.Carried.{IsCarriedOut}
 use Rattle.tx_requests.specs.Change.{ChangeAnswers, change_prints, ChangeEnds}
 use Rattle.tx_requests.specs.Compare.{CompareAnswers, ComparePrints, CompareEnds}
-use Rattle.tx_requests.specs.Ending.{EndsWith, EndsWell}
 use Rattle.tx_requests.specs.Explain.{IsExplained}
 use Rattle.tx_requests.specs.Fill.{FillAnswers, fill_prints}
 use Rattle.tx_requests.specs.Grade.{GradeAnswers, grade_prints, GradeEnds}
@@ -27,13 +30,10 @@ use Rattle.tx_requests.specs.Jobs.{IsJobDone, verdict_status, pair_status, stric
 use Rattle.tx_requests.specs.Mend.{MendAnswers, mend_prints, MendEnds}
 use Rattle.tx_requests.specs.Order.{OrderAnswers, order_prints, OrderEnds}
 use Rattle.tx_requests.specs.Page.{PageAnswers, PagePrints, PageEnds}
-use Rattle.tx_requests.specs.PageReading.{ReadsForPage}
-use Rattle.tx_requests.specs.Reading.{ReadsPlan, ReadsWithRisks}
 use Rattle.tx_requests.specs.Runs.{IsRunDone}
 use Rattle.tx_requests.specs.Survive.{SurviveAnswers, survive_prints, SurviveEnds}
 use Rattle.tx_requests.specs.Through.{ThroughAnswers, through_prints}
 use Rattle.tx_requests.specs.Trace.{TraceAnswers, trace_prints}
-use Rattle.tx_requests.specs.TwoPlans.{ReadsWhole, ReadsPlans, ReadsPlansWithRisks, ReadsWithOld}
 use Rattle.tx_requests.specs.WayChanges.{WaysAnswers, ways_prints}
 
 module _ {P W : Type 0} (rest : P → Option (List ℕ)) (failed : P → Bool)

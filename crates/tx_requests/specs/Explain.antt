@@ -4,10 +4,10 @@ use Rattle.tx_text.specs.declared.sink.WriteFault.{WriteFault}
 use Rattle.tx_text.specs.Wrote.{WroteBy}
 use Rattle.tx_commands.specs.Explanation.{explanation_text}
 use Rattle.tx_commands.specs.declared.explain.ExplainRequest.{ExplainRequest}
-use Rattle.tx_requests.specs.declared.ending.Ending.{Ending}
-use Rattle.tx_requests.specs.declared.fault.CommandFault.{CommandFault}
-use Rattle.tx_requests.specs.Ending.{EndsWith}
-use Rattle.tx_requests.specs.Faults.{write_stop}
+use Rattle.tx_files.specs.declared.ending.Ending.{Ending}
+use Rattle.tx_files.specs.declared.fault.CommandFault.{CommandFault}
+use Rattle.tx_files.specs.Ending.{EndsWith}
+use Rattle.tx_files.specs.Faults.{write_stop}
 
 -- status 0 once a text was written, or the failure of the output
 abbrev pub EndsWritten : {A : Type 0} → Result (Unit {0}) WriteFault

@@ -9,11 +9,11 @@ use Rattle.tx_rank.specs.declared.plan_grade.Grade.{Grade}
 use Rattle.tx_rank.specs.Findings.{IsTrueOf}
 use Rattle.tx_rank.specs.Grades.{AreBounds, CanBeCertified, AreCodeGrades, AreUnmended}
 use Rattle.tx_rank.specs.GradeText.{grade_text}
-use Rattle.tx_requests.specs.declared.ending.Ending.{Ending}
-use Rattle.tx_requests.specs.declared.fault.CommandFault.{CommandFault}
-use Rattle.tx_requests.specs.Faults.{memory_stop}
+use Rattle.tx_files.specs.declared.ending.Ending.{Ending}
+use Rattle.tx_files.specs.declared.fault.CommandFault.{CommandFault}
+use Rattle.tx_files.specs.Faults.{memory_stop}
+use Rattle.tx_files.specs.Ending.{EndsWith}
 use Rattle.tx_requests.specs.Printing.{Printing, Writes}
-use Rattle.tx_requests.specs.Ending.{EndsWith}
 
 module _ {A : Type 0} where
   -- no ranks certify the plan, whatever the limit and the spare number, and the findings say why:

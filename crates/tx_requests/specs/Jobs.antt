@@ -7,9 +7,9 @@ use Rattle.tx_audit.specs.declared.checked.Checked.{Checked}
 use Rattle.tx_audit.specs.declared.checked.Checked.TheVariants.{Ran, Denied}
 use Rattle.tx_jobs.specs.declared.job_fault.JobFault.{JobFault}
 use Rattle.tx_jobs.specs.JobFaults.{mark_after}
-use Rattle.tx_requests.specs.declared.ending.Ending.{Ending}
-use Rattle.tx_requests.specs.declared.fault.CommandFault.{CommandFault}
-use Rattle.tx_requests.specs.declared.fault.CommandFault.TheVariants.{Job}
+use Rattle.tx_files.specs.declared.ending.Ending.{Ending}
+use Rattle.tx_files.specs.declared.fault.CommandFault.{CommandFault}
+use Rattle.tx_files.specs.declared.fault.CommandFault.TheVariants.{Job}
 
 module _ {A X : Type 0} (answers : Result X JobFault → Type 0)
     (ends : X → Result (Ending A) CommandFault → Type 0) (marked_old marked_new : Bool) where

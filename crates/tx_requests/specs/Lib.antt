@@ -1,13 +1,6 @@
-pub mod Faults
-pub mod FaultLines
 pub mod Printing
 pub mod Carried
-pub mod Reading
-pub mod Writables
-pub mod Ending
-pub mod TwoPlans
 pub mod DeclaringLines
-pub mod Made
 pub mod Grade
 pub mod Change
 pub mod Survive
@@ -18,7 +11,6 @@ pub mod Fill
 pub mod Explain
 pub mod Explained
 pub mod PageCodes
-pub mod PageReading
 pub mod Page
 pub mod Jobs
 pub mod Audit

@@ -12,11 +12,11 @@ use Rattle.tx_risk.specs.NamedRisks.{AreRisksFor}
 use Rattle.tx_risk.specs.RiskText.{ReadsRisks}
 use Rattle.tx_jobs.specs.declared.job_fault.JobFault.TheVariants.{Read, Write, NoMemory}
 use Rattle.tx_commands.specs.declared.lint.LintRequest.{LintRequest}
-use Rattle.tx_requests.specs.declared.ending.Ending.{Ending}
-use Rattle.tx_requests.specs.declared.fault.CommandFault.{CommandFault}
-use Rattle.tx_requests.specs.declared.fault.CommandFault.TheVariants.{Job}
-use Rattle.tx_requests.specs.Faults.{memory_stop, fault_mark}
-use Rattle.tx_requests.specs.Reading.{RisksRefused}
+use Rattle.tx_files.specs.declared.ending.Ending.{Ending}
+use Rattle.tx_files.specs.declared.fault.CommandFault.{CommandFault}
+use Rattle.tx_files.specs.declared.fault.CommandFault.TheVariants.{Job}
+use Rattle.tx_files.specs.Faults.{memory_stop, fault_mark}
+use Rattle.tx_files.specs.Reading.{RisksRefused}
 
 -- the input failed
 abbrev pub read_stop : CommandFault

@@ -7,13 +7,13 @@ use Rattle.tx_mend.specs.Mendings.{IsRightMending}
 use Rattle.tx_mend.specs.MendText.{mend_report}
 use Rattle.tx_plan.specs.Plan.{Plan}
 use Rattle.tx_commands.specs.declared.mend.MendRequest.{MendRequest}
-use Rattle.tx_requests.specs.declared.ending.Ending.{Ending}
-use Rattle.tx_requests.specs.declared.fault.CommandFault.{CommandFault}
-use Rattle.tx_requests.specs.declared.made.Made.{Made}
-use Rattle.tx_requests.specs.declared.two_plans.PlanText.{PlanText}
-use Rattle.tx_requests.specs.Ending.{EndsWith}
-use Rattle.tx_requests.specs.Faults.{memory_stop}
-use Rattle.tx_requests.specs.Made.{shown_plan, shown_events, plan_file, HasTextIf}
+use Rattle.tx_files.specs.declared.ending.Ending.{Ending}
+use Rattle.tx_files.specs.declared.fault.CommandFault.{CommandFault}
+use Rattle.tx_files.specs.declared.made.Made.{Made}
+use Rattle.tx_files.specs.declared.two_plans.PlanText.{PlanText}
+use Rattle.tx_files.specs.Ending.{EndsWith}
+use Rattle.tx_files.specs.Faults.{memory_stop}
+use Rattle.tx_files.specs.Made.{shown_plan, shown_events, plan_file, HasTextIf}
 use Rattle.tx_requests.specs.Printing.{Printing, Writes}
 
 module _ {A : Type 0} where

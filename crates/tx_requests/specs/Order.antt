@@ -8,16 +8,16 @@ use Rattle.tx_order.specs.OrderVerdicts.{IsRightVerdict}
 use Rattle.tx_order.specs.OrderText.{order_report}
 use Rattle.tx_order.specs.Staged.{IsStageCert, HasStage, LacksStage}
 use Rattle.tx_commands.specs.declared.order.OrderRequest.{OrderRequest}
-use Rattle.tx_requests.specs.declared.ending.Ending.{Ending}
-use Rattle.tx_requests.specs.declared.fault.CommandFault.{CommandFault}
-use Rattle.tx_requests.specs.declared.fault.CommandFault.TheVariants.{NoSuchStage}
-use Rattle.tx_requests.specs.declared.made.Made.{Made}
+use Rattle.tx_files.specs.declared.ending.Ending.{Ending}
+use Rattle.tx_files.specs.declared.fault.CommandFault.{CommandFault}
+use Rattle.tx_files.specs.declared.fault.CommandFault.TheVariants.{NoSuchStage}
+use Rattle.tx_files.specs.declared.made.Made.{Made}
+use Rattle.tx_files.specs.declared.two_plans.PlanText.{PlanText}
+use Rattle.tx_files.specs.declared.two_plans.TwoPlans.{TwoPlans}
+use Rattle.tx_files.specs.Ending.{EndsWith}
+use Rattle.tx_files.specs.Faults.{memory_stop}
+use Rattle.tx_files.specs.Made.{shown_plan, shown_events, plan_file, HasTextIf}
 use Rattle.tx_requests.specs.declared.order.Switched.{Switched}
-use Rattle.tx_requests.specs.declared.two_plans.PlanText.{PlanText}
-use Rattle.tx_requests.specs.declared.two_plans.TwoPlans.{TwoPlans}
-use Rattle.tx_requests.specs.Ending.{EndsWith}
-use Rattle.tx_requests.specs.Faults.{memory_stop}
-use Rattle.tx_requests.specs.Made.{shown_plan, shown_events, plan_file, HasTextIf}
 use Rattle.tx_requests.specs.Printing.{Printing, Writes}
 
 -- a certificate of a stage

@@ -16,21 +16,21 @@ use Rattle.tx_page.specs.declared.change.Change.{Change}
 use Rattle.tx_page.specs.Page.{is_safe, page_texts}
 use Rattle.tx_page.specs.declared.subject.Subject.{Subject}
 use Rattle.tx_commands.specs.declared.grammar.TheConstants.{VERSION}
-use Rattle.tx_requests.specs.declared.ending.Ending.{Ending}
-use Rattle.tx_requests.specs.declared.fault.CommandFault.{CommandFault}
-use Rattle.tx_requests.specs.declared.fault.CommandFault.TheVariants.{NoSuchCode}
+use Rattle.tx_files.specs.declared.ending.Ending.{Ending}
+use Rattle.tx_files.specs.declared.fault.CommandFault.{CommandFault}
+use Rattle.tx_files.specs.declared.fault.CommandFault.TheVariants.{NoSuchCode}
 use Rattle.tx_commands.specs.declared.page.PageRequest.{PageRequest}
+use Rattle.tx_files.specs.declared.page_reading.PageTexts.{PageTexts}
+use Rattle.tx_files.specs.declared.two_plans.PlanText.{PlanText}
+use Rattle.tx_files.specs.Ending.{EndsWith}
+use Rattle.tx_files.specs.Faults.{memory_stop}
+use Rattle.tx_files.specs.TwoPlans.{IsJoin, IsNoJoinOf}
 use Rattle.tx_requests.specs.declared.page.Paged.{Paged}
 use Rattle.tx_requests.specs.declared.page_change.FoundChange.{FoundChange}
 use Rattle.tx_requests.specs.declared.page_found.Found.{Found}
-use Rattle.tx_requests.specs.declared.page_reading.PageTexts.{PageTexts}
-use Rattle.tx_requests.specs.declared.two_plans.PlanText.{PlanText}
-use Rattle.tx_requests.specs.Ending.{EndsWith}
-use Rattle.tx_requests.specs.Faults.{memory_stop}
 use Rattle.tx_requests.specs.Grade.{IsGradeOf}
 use Rattle.tx_requests.specs.PageCodes.{is_shown, missing_code}
 use Rattle.tx_requests.specs.Printing.{Printing}
-use Rattle.tx_requests.specs.TwoPlans.{IsJoin, IsNoJoinOf}
 
 -- a byte that ends a line of a text
 abbrev pub is_line_end : ℕ → Bool

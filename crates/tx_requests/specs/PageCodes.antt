@@ -10,9 +10,9 @@ use Rattle.tx_rank.specs.declared.finding.Finding.TheVariants.{Ambiguous, Loop, 
 use Rattle.tx_rank.specs.declared.ranking.Ranking.{Ranking}
 use Rattle.tx_rank.specs.declared.ranking.Ranking.TheVariants.{Found, Fails}
 use Rattle.tx_commands.specs.declared.page.PageRequest.{PageRequest}
+use Rattle.tx_files.specs.declared.page_reading.PageTexts.{PageTexts}
+use Rattle.tx_files.specs.declared.two_plans.PlanText.{PlanText}
 use Rattle.tx_requests.specs.declared.page_change.FoundChange.{FoundChange}
-use Rattle.tx_requests.specs.declared.page_reading.PageTexts.{PageTexts}
-use Rattle.tx_requests.specs.declared.two_plans.PlanText.{PlanText}
 use Rattle.tx_requests.specs.Asked.{names_in}
 
 -- these figures are one of the names in a word

@@ -4,9 +4,9 @@ use Rattle.tx_text.specs.Ends.{Input, Output}
 use Rattle.tx_plan.specs.declared.limits.Limits.{Limits}
 use Rattle.tx_jobs.specs.Jobs.{RunJobAnswers}
 use Rattle.tx_jobs.specs.CheckedJobs.{CheckedJobAnswers}
-use Rattle.tx_requests.specs.declared.ending.Ending.{Ending}
-use Rattle.tx_requests.specs.declared.fault.CommandFault.{CommandFault}
-use Rattle.tx_requests.specs.Ending.{EndsWith}
+use Rattle.tx_files.specs.declared.ending.Ending.{Ending}
+use Rattle.tx_files.specs.declared.fault.CommandFault.{CommandFault}
+use Rattle.tx_files.specs.Ending.{EndsWith}
 use Rattle.tx_requests.specs.Jobs.{IsJobDone, checked_status}
 
 -- `run PLAN SCRIPT`, after a Yes to a certificate if there is one, which is read before the script

@@ -8,12 +8,12 @@ use Rattle.tx_risk.specs.Survivals.{HasGrade}
 use Rattle.tx_risk.specs.declared.surviving.Survival.{Survival}
 use Rattle.tx_risk.specs.declared.surviving.Survival.TheVariants.{Tried, Ungraded}
 use Rattle.tx_risk_report.specs.OutageReport.{survival_text}
-use Rattle.tx_requests.specs.declared.ending.Ending.{Ending}
-use Rattle.tx_requests.specs.declared.fault.CommandFault.{CommandFault}
-use Rattle.tx_requests.specs.declared.reading.PlanRisks.{PlanRisks}
+use Rattle.tx_files.specs.declared.ending.Ending.{Ending}
+use Rattle.tx_files.specs.declared.fault.CommandFault.{CommandFault}
+use Rattle.tx_files.specs.declared.reading.PlanRisks.{PlanRisks}
 use Rattle.tx_commands.specs.declared.survive.SurviveRequest.{SurviveRequest}
-use Rattle.tx_requests.specs.Ending.{EndsWith}
-use Rattle.tx_requests.specs.Faults.{memory_stop}
+use Rattle.tx_files.specs.Ending.{EndsWith}
+use Rattle.tx_files.specs.Faults.{memory_stop}
 use Rattle.tx_requests.specs.Grade.{IsGradeOf}
 use Rattle.tx_requests.specs.Printing.{Printing, Writes}
 

@@ -5,11 +5,11 @@ use Rattle.tx_trace.specs.declared.through.Through.{Through as Passing}
 use Rattle.tx_trace.specs.Left.{plan_left}
 use Rattle.tx_trace.specs.Through.{calls_through}
 use Rattle.tx_trace.specs.ThroughText.{through_text}
-use Rattle.tx_requests.specs.declared.fault.CommandFault.{CommandFault}
+use Rattle.tx_files.specs.declared.fault.CommandFault.{CommandFault}
 use Rattle.tx_requests.specs.declared.through.Passed.{Passed}
 use Rattle.tx_commands.specs.declared.trace.ThroughRequest.{ThroughRequest}
+use Rattle.tx_files.specs.Faults.{memory_stop}
 use Rattle.tx_requests.specs.Asked.{through_named, groups_in, all_passed}
-use Rattle.tx_requests.specs.Faults.{memory_stop}
 use Rattle.tx_requests.specs.Printing.{Printing, Writes}
 
 -- what is asked of a plan by the name of what is passed, and those of groups

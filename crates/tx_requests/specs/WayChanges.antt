@@ -7,11 +7,11 @@ use Rattle.tx_plan.specs.Declaring.{pair_named}
 use Rattle.tx_trace.specs.declared.way_changes.WayChange.{WayChange}
 use Rattle.tx_trace.specs.WayChanges.{changed, changed_calls, AreWaysIn, calls_of}
 use Rattle.tx_trace.specs.WayChangesText.{changes_text}
-use Rattle.tx_requests.specs.declared.fault.CommandFault.{CommandFault}
-use Rattle.tx_requests.specs.declared.fault.CommandFault.TheVariants.{NoSuchExchange, NoSuchCode, NotInOldPlan}
-use Rattle.tx_requests.specs.declared.two_plans.WithOld.{WithOld}
+use Rattle.tx_files.specs.declared.fault.CommandFault.{CommandFault}
+use Rattle.tx_files.specs.declared.fault.CommandFault.TheVariants.{NoSuchExchange, NoSuchCode, NotInOldPlan}
+use Rattle.tx_files.specs.declared.two_plans.WithOld.{WithOld}
 use Rattle.tx_commands.specs.declared.trace.WaysRequest.{WaysRequest}
-use Rattle.tx_requests.specs.Faults.{memory_stop}
+use Rattle.tx_files.specs.Faults.{memory_stop}
 use Rattle.tx_requests.specs.Printing.{Printing, Writes}
 
 -- the changes of calls that both plans have, or which of the words is not there

@@ -4,8 +4,8 @@ ghost use Rattle.std.specs.Result.{result_map_both};
 ghost use Rattle.tx_requests.specs.Asked.{names_in, groups_named, groups_in, asked_of, through_named, all_passed};
 ghost use Rattle.tx_requests.specs.inner.Answered.{IsAnswered, IsPassed};
 
-use crate::fault::CommandFault;
 use std::alloc::Allocator;
+use tx_files::CommandFault;
 use tx_plan::{CodeId, ExchangeId, GroupId, Plan};
 use tx_text::NoMemory;
 use tx_trace::Through;

@@ -8,12 +8,10 @@ ghost use Rattle.tx_jobs.specs.AuditJobs.{AuditJobAnswers};
 ghost use Rattle.tx_requests.specs.Audit.{AuditEnds, EndsAfterNo};
 ghost use Rattle.tx_requests.specs.Jobs.{IsJobDone};
 
-use crate::ending::Ending;
-use crate::fault::CommandFault;
-use crate::made::{CounterScript, Made, Shown};
 use std::alloc::Allocator;
 use tx_audit::{Audited, first_counter};
 use tx_commands::AuditRequest;
+use tx_files::{CommandFault, CounterScript, Ending, Made, Shown};
 use tx_jobs::audit_job;
 use tx_plan::{Limits, Plan};
 use tx_rank::Finding;

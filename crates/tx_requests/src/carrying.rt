@@ -2,10 +2,9 @@
 ghost use Rattle.std.specs.Prelude.{IfOk};
 ghost use Rattle.tx_requests.specs.Carried.{IsCarriedOut};
 
-use crate::ending::Ending;
-use crate::fault::CommandFault;
 use crate::request::Request;
 use std::alloc::Allocator;
+use tx_files::{CommandFault, Ending};
 use tx_text::Sink;
 
 /// Answers a request over its texts, if they were read, and prints the answer. `Err` is the first

@@ -5,22 +5,18 @@ ghost use Rattle.tx_plan.specs.Rules.{IsPlan};
 ghost use Rattle.tx_rank.specs.Findings.{IsTrueOf};
 ghost use Rattle.tx_cert.specs.CertText.{cert_written};
 ghost use Rattle.tx_change.specs.Shown.{IsShown};
-ghost use Rattle.tx_requests.specs.Faults.{memory_stop};
-ghost use Rattle.tx_requests.specs.Made.{shown_plan, texts_of};
-ghost use Rattle.tx_requests.specs.TwoPlans.{AreJoined};
+ghost use Rattle.tx_files.specs.Faults.{memory_stop};
+ghost use Rattle.tx_files.specs.Made.{shown_plan, texts_of};
+ghost use Rattle.tx_files.specs.TwoPlans.{AreJoined};
 ghost use Rattle.tx_requests.specs.Change.{ChangeAnswers, change_prints, ChangeEnds, is_shown, EndsWithMixture, EndsWithNewPlan};
 ghost use Rattle.tx_requests.specs.inner.Changes.{IsMadeOf};
 
-use crate::ending::Ending;
-use crate::fault::CommandFault;
-use crate::made::{Made, Shown};
 use crate::request::Request;
-use crate::revising::text_if_asked;
-use crate::two_plans::{PlanText, TwoPlans};
 use std::alloc::Allocator;
 use tx_cert::Cert;
 use tx_change::{ChangeVerdict, first_mixture, judge_change, new_plan_shown, write_change};
 use tx_commands::ChangeRequest;
+use tx_files::{CommandFault, Ending, Made, PlanText, Shown, TwoPlans, text_if_asked};
 use tx_rank::Finding;
 use tx_text::{Sink, WriteFault};
 

@@ -7,16 +7,15 @@ ghost use Rattle.tx_requests.specs.Doing.{IsDone};
 
 use crate::auditing::do_audit;
 use crate::carrying::carry_out;
-use crate::ending::Ending;
 use crate::explain::do_explain;
-use crate::fault::CommandFault;
 use crate::linting::do_lint;
-use crate::page_reading::read_for_page;
-use crate::reading::{read_one, read_with_risks};
 use crate::running::{do_check, do_codes, do_pipe, do_run, do_telling};
-use crate::two_plans::{Which, read_plans, read_plans_with_risks, read_whole, read_with_old};
 use std::alloc::Allocator;
 use tx_commands::Command;
+use tx_files::{
+    CommandFault, Ending, Which, read_for_page, read_one, read_plans, read_plans_with_risks,
+    read_whole, read_with_old, read_with_risks,
+};
 use tx_text::{Sink, Source};
 
 /// Does what a command asks for: reads its texts, in the order in which its files are opened, writes

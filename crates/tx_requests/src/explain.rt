@@ -1,10 +1,9 @@
 // The command `explain`.
 ghost use Rattle.tx_requests.specs.Explain.{IsExplained};
 
-use crate::ending::Ending;
-use crate::fault::CommandFault;
 use std::alloc::Allocator;
 use tx_commands::{ExplainRequest, write_explanation};
+use tx_files::{CommandFault, Ending};
 use tx_text::Sink;
 
 /// Writes what a line means, or the whole table.

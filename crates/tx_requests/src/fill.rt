@@ -1,14 +1,13 @@
 // The command `fill`.
 ghost use Rattle.tx_plan.specs.Rules.{IsPlan};
-ghost use Rattle.tx_requests.specs.Ending.{EndsWell};
+ghost use Rattle.tx_files.specs.Ending.{EndsWell};
 ghost use Rattle.tx_requests.specs.Fill.{FillAnswers, fill_prints};
 
 use crate::asked::asked_of;
-use crate::ending::Ending;
-use crate::fault::CommandFault;
 use crate::request::Request;
 use std::alloc::{Allocator, Global};
 use tx_commands::FillRequest;
+use tx_files::{CommandFault, Ending};
 use tx_fill::{Fill, set_up_calls, write_fill};
 use tx_plan::{CodeId, ExchangeId, GroupId, Plan};
 use tx_text::{Sink, WriteFault};

@@ -2,11 +2,10 @@
 ghost use Rattle.tx_plan.specs.Rules.{IsPlan};
 ghost use Rattle.tx_requests.specs.Grade.{GradeAnswers, grade_prints, GradeEnds};
 
-use crate::ending::Ending;
-use crate::fault::CommandFault;
 use crate::request::Request;
 use std::alloc::Allocator;
 use tx_commands::GradeRequest;
+use tx_files::{CommandFault, Ending};
 use tx_plan::Plan;
 use tx_rank::{Grade, grade, write_grade};
 use tx_text::{Sink, WriteFault};

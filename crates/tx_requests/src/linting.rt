@@ -2,14 +2,13 @@
 ghost use Rattle.std.specs.Prelude.{◌≡◌, [], true, Err};
 ghost use Rattle.tx_text.specs.Calls.{CallsAtMost, source_calls};
 ghost use Rattle.tx_lint.specs.Lints.{lint_held};
-ghost use Rattle.tx_requests.specs.Faults.{fault_mark};
+ghost use Rattle.tx_files.specs.Faults.{fault_mark};
 ghost use Rattle.tx_text.specs.Ends.{input, output};
 ghost use Rattle.tx_requests.specs.Lint.{read_stop, ToldLint, LintedInRoom, LintAnswers, LintRisksAnswers, IsLinted, WarnedWithRisks};
 
-use crate::ending::Ending;
-use crate::fault::CommandFault;
 use std::alloc::Allocator;
 use tx_commands::LintRequest;
+use tx_files::{CommandFault, Ending};
 use tx_lint::{Lint, Look, RightText, lint_plan, look_through, write_lint};
 use tx_risk::read_risks_from;
 use tx_text::{Sink, Source, read_whole_text};

@@ -1,15 +1,11 @@
 // The command `mend`.
+ghost use Rattle.tx_files.specs.TwoPlans.{IsSaid};
 ghost use Rattle.tx_requests.specs.Mend.{MendAnswers, mend_prints, MendEnds};
-ghost use Rattle.tx_requests.specs.TwoPlans.{IsSaid};
 
-use crate::ending::Ending;
-use crate::fault::CommandFault;
-use crate::made::{Made, Shown};
 use crate::request::Request;
-use crate::revising::text_if_asked;
-use crate::two_plans::PlanText;
 use std::alloc::Allocator;
 use tx_commands::MendRequest;
+use tx_files::{CommandFault, Ending, Made, PlanText, Shown, text_if_asked};
 use tx_mend::{Mending, mend, write_mending};
 use tx_text::{Sink, WriteFault};
 

@@ -3,17 +3,13 @@ ghost use Rattle.std.specs.Prelude.{is_some};
 ghost use Rattle.tx_plan.specs.Rules.{IsPlan};
 ghost use Rattle.tx_order.specs.Ordered.{plan_before};
 ghost use Rattle.tx_order.specs.Staged.{IsStageOf};
+ghost use Rattle.tx_files.specs.TwoPlans.{AreJoined};
 ghost use Rattle.tx_requests.specs.Order.{OrderAnswers, order_prints, EndsAtStage, OrderEnds};
-ghost use Rattle.tx_requests.specs.TwoPlans.{AreJoined};
 
-use crate::ending::Ending;
-use crate::fault::CommandFault;
-use crate::made::{Made, Shown};
 use crate::request::Request;
-use crate::revising::text_if_asked;
-use crate::two_plans::{PlanText, TwoPlans};
 use std::alloc::{Allocator, Global};
 use tx_commands::OrderRequest;
+use tx_files::{CommandFault, Ending, Made, PlanText, Shown, TwoPlans, text_if_asked};
 use tx_order::{Order, OrderVerdict, judge_order, missing_stage, stage_of, write_order};
 use tx_text::{Sink, WriteFault};
 

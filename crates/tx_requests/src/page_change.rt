@@ -2,12 +2,11 @@
 ghost use Rattle.std.specs.Prelude.{IfOk, IfErr};
 ghost use Rattle.tx_order.specs.Switchings.{IsRightSwitching};
 ghost use Rattle.tx_join.specs.Joined.{joined_old, joined_new};
+ghost use Rattle.tx_files.specs.TwoPlans.{IsNoJoinOf};
 ghost use Rattle.tx_requests.specs.Page.{IsChangeOf, IsChangeIfAny, IsNoChange, IsSameChange};
-ghost use Rattle.tx_requests.specs.TwoPlans.{IsNoJoinOf};
 
-use crate::fault::CommandFault;
-use crate::two_plans::{PlanText, joined_of};
 use std::alloc::{Allocator, Global};
+use tx_files::{CommandFault, PlanText, joined_of};
 use tx_join::Joined;
 use tx_order::{Switching, order};
 use tx_page::Change;

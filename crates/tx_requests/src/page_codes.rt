@@ -2,12 +2,10 @@
 ghost use Rattle.std.specs.Prelude.{◌≡◌, ℕ, Some, None, option_map, IfOk, IfErr};
 ghost use Rattle.tx_requests.specs.PageCodes.{is_named, first_missing, missing_code, is_about, has_finding, differs_at, differs, is_touched, is_shown};
 
-use crate::fault::CommandFault;
 use crate::page_change::FoundChange;
-use crate::page_reading::PageTexts;
-use crate::two_plans::PlanText;
 use std::alloc::Allocator;
 use tx_commands::PageRequest;
+use tx_files::{CommandFault, PageTexts, PlanText};
 use tx_join::Joined;
 use tx_plan::{CodeId, ExchangeId, Plan};
 use tx_rank::{Finding, Ranking};

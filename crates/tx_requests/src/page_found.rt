@@ -8,10 +8,10 @@ ghost use Rattle.tx_requests.specs.Page.{shown_codes, IsFound};
 
 use crate::page_change::FoundChange;
 use crate::page_codes::is_shown;
-use crate::page_reading::PageTexts;
 use std::alloc::{Allocator, Global};
 use tx_audit::judge;
 use tx_commands::PageRequest;
+use tx_files::PageTexts;
 use tx_plan::{CodeId, Limits, Plan};
 use tx_rank::{Grade, Ranking, grade, origins_of};
 use tx_risk::{Outcome, Risks, all_outcomes};

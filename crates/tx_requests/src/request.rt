@@ -1,12 +1,11 @@
 // What a request is.
 ghost use Rattle.std.specs.Prelude.{Result, Ok};
-ghost use Rattle.tx_requests.specs.declared.ending.Ending.{Ending as EndingNow};
-ghost use Rattle.tx_requests.specs.declared.fault.CommandFault.{CommandFault as Fault};
+ghost use Rattle.tx_files.specs.declared.ending.Ending.{Ending as EndingNow};
+ghost use Rattle.tx_files.specs.declared.fault.CommandFault.{CommandFault as Fault};
 ghost use Rattle.tx_requests.specs.Printing.{Printing};
 
-use crate::ending::Ending;
-use crate::fault::CommandFault;
 use std::alloc::Allocator;
+use tx_files::{CommandFault, Ending};
 use tx_text::{Sink, WriteFault};
 
 /// What the words of a command ask for: what it comes to over its texts, what it prints of that, and

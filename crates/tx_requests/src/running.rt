@@ -6,16 +6,15 @@ ghost use Rattle.tx_jobs.specs.CheckJobs.{CheckJobAnswers};
 ghost use Rattle.tx_jobs.specs.Jobs.{CodesJobAnswers};
 ghost use Rattle.tx_jobs.specs.PipeJobs.{PipeJobAnswers};
 ghost use Rattle.tx_jobs.specs.TellingJobs.{TellingJobAnswers};
-ghost use Rattle.tx_requests.specs.Ending.{EndsWith};
+ghost use Rattle.tx_files.specs.Ending.{EndsWith};
 ghost use Rattle.tx_requests.specs.Jobs.{IsJobDone, verdict_status, pair_status, strict_status};
 ghost use Rattle.tx_requests.specs.Runs.{IsRunDone};
 
-use crate::ending::Ending;
-use crate::fault::CommandFault;
 use std::alloc::Allocator;
 use tx_audit::Checked;
 use tx_check::Verdict;
 use tx_commands::{CheckRequest, RunRequest, TellingRequest};
+use tx_files::{CommandFault, Ending};
 use tx_jobs::{check_job, codes_job, pipe_job, run_checked_job, run_job, run_telling_job};
 use tx_script::{Summary, Telling};
 use tx_text::{Sink, Source};

@@ -1,15 +1,13 @@
 // The command `survive`.
 ghost use Rattle.std.specs.List.{list_any};
 ghost use Rattle.std.specs.Prelude.{◌≡◌, ◌==◌, not, length};
-ghost use Rattle.tx_requests.specs.Reading.{HasItsRisks};
+ghost use Rattle.tx_files.specs.Reading.{HasItsRisks};
 ghost use Rattle.tx_requests.specs.Survive.{is_only, SurviveAnswers, survive_prints, SurviveEnds, is_denied};
 
-use crate::ending::Ending;
-use crate::fault::CommandFault;
-use crate::reading::PlanRisks;
 use crate::request::Request;
 use std::alloc::Allocator;
 use tx_commands::SurviveRequest;
+use tx_files::{CommandFault, Ending, PlanRisks};
 use tx_risk::{Outcome, Survival, survive};
 use tx_risk_report::{is_harmless, write_survival};
 use tx_text::{Sink, WriteFault};

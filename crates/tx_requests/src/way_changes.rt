@@ -1,14 +1,12 @@
 // The command `trace PLAN --from OLD`.
-ghost use Rattle.tx_requests.specs.Ending.{EndsWell};
-ghost use Rattle.tx_requests.specs.TwoPlans.{AreSaid};
+ghost use Rattle.tx_files.specs.Ending.{EndsWell};
+ghost use Rattle.tx_files.specs.TwoPlans.{AreSaid};
 ghost use Rattle.tx_requests.specs.WayChanges.{changed_named, changes_asked, AreChanges, WaysAnswers, ways_prints};
 
-use crate::ending::Ending;
-use crate::fault::CommandFault;
 use crate::request::Request;
-use crate::two_plans::WithOld;
 use std::alloc::Allocator;
 use tx_commands::WaysRequest;
+use tx_files::{CommandFault, Ending, WithOld};
 use tx_plan::{Pair, Plan};
 use tx_text::{Sink, WriteFault};
 use tx_trace::{WayChange, change_of_calls, changes_of_ways, write_way_changes};

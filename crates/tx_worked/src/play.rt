@@ -14,7 +14,7 @@ use crate::written::{play_cert, play_plan};
 use memchr::memmem;
 use std::alloc::Global;
 use tx_commands::{Command, RunRequest};
-use tx_requests::{CommandFault, write_command_fault};
+use tx_files::{CommandFault, write_command_fault};
 use tx_text::MemorySink;
 
 /// Plays a case of texts by its kind: as a job, or by writing and reading back, or over both

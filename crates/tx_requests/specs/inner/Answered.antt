@@ -1,8 +1,8 @@
 -- What is answered of what was asked for by names.
 use Rattle.std.specs.Prelude.{◌≡◌, ◌⊎◌, ℕ, List, Vec, Result, Ok, Err}
 use Rattle.tx_trace.specs.declared.through.Through.{Through}
-use Rattle.tx_requests.specs.declared.fault.CommandFault.{CommandFault}
-use Rattle.tx_requests.specs.Faults.{memory_stop}
+use Rattle.tx_files.specs.declared.fault.CommandFault.{CommandFault}
+use Rattle.tx_files.specs.Faults.{memory_stop}
 
 -- these are answered, or which of them is not there; or memory ran out
 abbrev pub IsAnswered : {A : Type 0} → Result (ℕ × ℕ × List ℕ) CommandFault

@@ -1,8 +1,9 @@
 // A command over texts, and what it does.
 use crate::cases::{End, Ends, ROOM, Refusing, Task, Told, tell, tell_broken};
 use std::alloc::{Allocator, Global};
+use tx_files::{CommandFault, Ending, write_content};
 use tx_jobs::JobFault;
-use tx_requests::{CommandFault, Ending, do_command, write_content};
+use tx_requests::do_command;
 use tx_text::{MemorySink, WriteFault};
 
 /// What a whole job does, beside which others are judged: its exit status or its fault, and what it

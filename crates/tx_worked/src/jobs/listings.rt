@@ -4,8 +4,8 @@ use crate::jobs::job::{Whole, done};
 use crate::jobs::stretches::{Happens, Stretches};
 use crate::runs::{Ran, Script, WholeRun, run_beside, run_text, told_cause};
 use std::alloc::Global;
+use tx_files::CommandFault;
 use tx_jobs::write_fault;
-use tx_requests::CommandFault;
 use tx_text::{MemorySink, MemorySource};
 
 /// More than any case has of anything.

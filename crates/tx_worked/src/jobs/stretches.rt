@@ -1,6 +1,6 @@
 // Lists of what happens at each number, told by stretches of numbers at which the same happens.
 use crate::cases::{Told, tell, tell_count};
-use tx_requests::{CommandFault, write_command_fault};
+use tx_files::{CommandFault, write_command_fault};
 
 /// What happens at a number: the event and the bytes, where they are told, and the fault.
 #[derive(Clone, Copy, PartialEq, Eq)]

@@ -3,8 +3,8 @@ use Rattle.tx_text.specs.Ends.{input, output}
 use Rattle.tx_text.proofs.Exits.{exits_with}
 use Rattle.tx_lint.specs.AllFaults.{faults_of, progress_of}
 use Rattle.tx_lint.specs.Lints.{told_held}
-use Rattle.tx_requests.specs.Faults.{text_stop}
-use Rattle.tx_requests.proofs.Uncalled.{uncalled}
+use Rattle.tx_files.specs.Faults.{text_stop}
+use Rattle.tx_files.proofs.Uncalled.{uncalled}
 use Rattle.tx_requests.proofs.LintTold.{not_read, text_mark, faulty_told, right_told}
 use Rattle.tx_requests.proofs.linting.lint_with_risks.Goals as goal
 

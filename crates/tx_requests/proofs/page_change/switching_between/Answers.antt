@@ -1,8 +1,8 @@
 use Rattle.std.proofs.Common.{inr, refl}
 use Rattle.tx_text.proofs.Exits.{exits_with}
 use Rattle.tx_join.specs.declared.refusal.JoinRefusal.TheVariants.{NoMemory as JoinNoMemory}
-use Rattle.tx_requests.specs.Faults.{memory_stop}
-use Rattle.tx_requests.proofs.Joining.{same_network}
+use Rattle.tx_files.specs.Faults.{memory_stop}
+use Rattle.tx_files.proofs.Joining.{same_network}
 use Rattle.tx_requests.proofs.page_change.switching_between.Goals as goal
 
 pub order-requires : goal.order-requires

@@ -1,0 +1,4 @@
+pub mod Uncalled
+mod Texts
+pub mod Joining
+mod RevisedText

@@ -1,0 +1,6 @@
+use Rattle.tx_text.proofs.Writing.{some}
+use Rattle.tx_text.proofs.Putting.{puts_wrote, puts_then}
+use Rattle.tx_files.proofs.fault_line.write_contradiction.Goals as goal
+
+pub returns : goal.returns
+returns g c = puts_wrote _ some (puts_then (rw (c.word-word.ensures, c.bytes.ensures.value) at c.write_differing.ensures) c.write_homes.ensures) c.finish.ensures

@@ -1,0 +1,25 @@
+//! What commands read, why they stop, and what goes into the files that they make.
+#![tactic(auto)]
+
+mod content;
+mod ending;
+mod fault;
+mod fault_line;
+mod made;
+mod page_reading;
+mod reading;
+mod revising;
+mod two_plans;
+
+pub use content::{Content, write_content};
+pub use ending::Ending;
+pub use fault::CommandFault;
+pub use fault_line::write_command_fault;
+pub use made::{CounterScript, Made, MadeText, Shown};
+pub use page_reading::{PageTexts, read_for_page};
+pub use reading::{PlanRisks, read_one, read_with_risks};
+pub use revising::text_if_asked;
+pub use two_plans::{
+    PlanText, PlansRisks, TwoPlans, Which, WithOld, joined_of, read_plans, read_plans_with_risks,
+    read_whole, read_with_old,
+};

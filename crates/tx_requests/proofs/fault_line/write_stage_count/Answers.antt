@@ -1,9 +1,0 @@
-use Rattle.tx_text.proofs.Writing.{some}
-use Rattle.tx_text.proofs.Putting.{puts_wrote}
-use Rattle.tx_requests.proofs.fault_line.write_stage_count.Goals as goal
-
-pub returns : goal.returns
-returns g c =
-    puts_wrote _ some
-    (rw (c.as_bytes-stages.ensures.value, c.format.ensures.text) at c.put_parts.ensures)
-    c.finish.ensures
