@@ -5,7 +5,10 @@ use Rattle.tx_plan.specs.declared.limits.Limits.{Limits}
 use Rattle.tx_commands.specs.declared.command.Command.{Command}
 use Rattle.tx_commands.specs.declared.command.Command.TheVariants.{Pipe, Run, RunTelling, Check, Lint, Codes, Audit, Change, Order, Mend, Survive, Compare, Page, Grade, Trace, TraceThrough, TraceChanges, Fill, Explain}
 use Rattle.tx_commands.specs.declared.files.Files.{Files}
+use Rattle.tx_commands.specs.declared.page.PageRequest.{PageRequest}
 use Rattle.tx_commands.specs.declared.run.RunRequest.{RunRequest}
+use Rattle.tx_commands.specs.declared.survive.CompareRequest.{CompareRequest}
+use Rattle.tx_commands.specs.declared.survive.SurviveRequest.{SurviveRequest}
 
 -- the values of those that have one
 abbrev pub values_of : {A : Type 0} → List (Option A) → List A
@@ -66,10 +69,31 @@ run_files_by plan script (Some (cert, limits)) =
 abbrev pub run_files : RunRequest → FileNames
 run_files r = run_files_by (string_bytes r.plan) (string_bytes r.script) r.checked
 
--- the file of the named risks, if there is one
-abbrev pub risks_named : {Z : Type 0} → Option (String Z × Bool) → Option (List ℕ)
-risks_named None = None
-risks_named (Some (file, only)) = Some (string_bytes file)
+-- those of `survive`, with the named risks, if there are any
+abbrev pub survive_files_by : {Z : Type 0} → (plan : List ℕ) → Option (String Z × Bool)
+    → FileNames
+survive_files_by plan None = one_read plan
+survive_files_by plan (Some (risks, only)) = two_read plan (string_bytes risks)
+
+abbrev pub survive_files : SurviveRequest → FileNames
+survive_files r = survive_files_by (string_bytes r.plan) r.risks
+
+-- with an old plan, it and the new one come before the named risks
+abbrev pub compare_files_by : {Z : Type 0} → (old new : List ℕ) → Option (String Z × Bool)
+    → FileNames
+compare_files_by old new None = two_read old new
+compare_files_by old new (Some (risks, only)) =
+    only_read (Some old ∷ Some new ∷ Some (string_bytes risks) ∷ [])
+
+abbrev pub compare_files : CompareRequest → FileNames
+compare_files r = compare_files_by (string_bytes r.old) (string_bytes r.new) r.risks
+
+-- those of `page`
+abbrev pub page_files : PageRequest → FileNames
+page_files r = record (only_read (Some (string_bytes r.plan) ∷ option_map string_bytes r.risks
+    ∷ option_map string_bytes r.old ∷ [])) {
+      page = option_map string_bytes r.html;
+    }
 
 -- those of a command; without words it is standard input that is read
 abbrev pub file_names : Command → FileNames
@@ -97,14 +121,9 @@ file_names (Mend r) = record (one_read (string_bytes r.plan)) {
   plan = option_map string_bytes r.mended;
   cert = option_map string_bytes r.cert;
 }
-file_names (Survive r) =
-    only_read (Some (string_bytes r.plan) ∷ risks_named r.risks ∷ None ∷ [])
-file_names (Compare r) = only_read
-    (Some (string_bytes r.old) ∷ Some (string_bytes r.new) ∷ risks_named r.risks ∷ [])
-file_names (Page r) = record (only_read (Some (string_bytes r.plan)
-    ∷ option_map string_bytes r.risks ∷ option_map string_bytes r.old ∷ [])) {
-      page = option_map string_bytes r.html;
-    }
+file_names (Survive r) = survive_files r
+file_names (Compare r) = compare_files r
+file_names (Page r) = page_files r
 file_names (Grade r) = one_read (string_bytes r.plan)
 file_names (Trace r) = one_read (string_bytes r.plan)
 file_names (TraceThrough r) = one_read (string_bytes r.plan)

@@ -1,6 +1,6 @@
 // Commands.
-ghost use Rattle.std.specs.Prelude.{◌≡◌, option_map};
-ghost use Rattle.tx_commands.specs.Files.{names_of, run_files, risks_named, file_names};
+ghost use Rattle.std.specs.Prelude.{◌≡◌};
+ghost use Rattle.tx_commands.specs.Files.{names_of, run_files, survive_files, compare_files, page_files, file_names};
 
 use crate::audit::AuditRequest;
 use crate::change::ChangeRequest;
@@ -102,22 +102,9 @@ impl Command {
                 cert: request.cert.as_deref(),
                 ..Files::of_one(&request.plan)
             },
-            Command::Survive(request) => {
-                Files::reading([Some(&request.plan), risks_named(&request.risks), None])
-            }
-            Command::Compare(request) => Files::reading([
-                Some(&request.old),
-                Some(&request.new),
-                risks_named(&request.risks),
-            ]),
-            Command::Page(request) => Files {
-                page: request.html.as_deref(),
-                ..Files::reading([
-                    Some(&request.plan),
-                    request.risks.as_deref(),
-                    request.old.as_deref(),
-                ])
-            },
+            Command::Survive(request) => survive_files(request),
+            Command::Compare(request) => compare_files(request),
+            Command::Page(request) => page_files(request),
             Command::TraceChanges(request) => Files::of_two(&request.plan, &request.old),
             Command::Codes(CodesRequest { plan })
             | Command::Grade(GradeRequest { plan })
@@ -141,12 +128,39 @@ fn run_files(request: &RunRequest) -> Files<'_>
     }
 }
 
-/// The file of the named risks, if there is one.
-fn risks_named(risks: &Option<(String, bool)>) -> Option<&str>
-    ensures { option_map (λ n. n.now) result ≡ risks_named risks.now }
+/// The files of `survive`.
+fn survive_files(request: &SurviveRequest) -> Files<'_>
+    ensures { names_of result ≡ survive_files request.now }
 {
-    match risks {
-        Some((file, _)) => Some(file),
-        None => None,
+    match &request.risks {
+        None => Files::of_one(&request.plan),
+        Some((risks, _)) => Files::of_two(&request.plan, risks),
+    }
+}
+
+/// The files of `survive` with an old plan.
+fn compare_files(request: &CompareRequest) -> Files<'_>
+    ensures { names_of result ≡ compare_files request.now }
+{
+    match &request.risks {
+        None => Files::of_two(&request.old, &request.new),
+        Some((risks, _)) => {
+            Files::reading([Some(&request.old), Some(&request.new), Some(risks)])
+        }
+    }
+}
+
+/// The files of `page`.
+fn page_files(request: &PageRequest) -> Files<'_>
+    ensures { names_of result ≡ page_files request.now }
+{
+    let reads = [
+        Some(request.plan.as_str()),
+        request.risks.as_deref(),
+        request.old.as_deref(),
+    ];
+    Files {
+        page: request.html.as_deref(),
+        ..Files::reading(reads)
     }
 }

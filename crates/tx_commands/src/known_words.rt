@@ -1,23 +1,15 @@
 // What a line asks for.
 ghost use Rattle.std.specs.Prelude.{◌≡◌};
 ghost use Rattle.std.specs.List.{list_any};
-ghost use Rattle.std.specs.Str.{str_eq_ignore_ascii_case};
 ghost use Rattle.tx_commands.specs.Entries.{texts, is_asked_by, is_asked, is_known};
 
 use crate::code_table::{Entry, tables};
-
-/// Whether two words are the same but for capitals and small letters.
-fn is_same_word(one: &str, other: &str) -> bool
-    ensures { result ≡ str_eq_ignore_ascii_case one.now other.now }
-{
-    one.eq_ignore_ascii_case(other)
-}
 
 /// Whether a word asks for an entry: by its code or its name, in capitals or small letters.
 fn is_asked_by(word: &str, entry: &Entry) -> bool
     ensures { result ≡ is_asked_by word.now (texts entry.now) }
 {
-    is_same_word(entry[0], word) || is_same_word(entry[1], word)
+    entry[0].eq_ignore_ascii_case(word) || entry[1].eq_ignore_ascii_case(word)
 }
 
 /// Whether a line asks for an entry: by one of its words, which have blanks between them.

@@ -79,29 +79,20 @@ code; - is standard input",
     .command
 }
 
-/// Whether words go together: an exchange and a code, or `--through`, or `--from` alone or with an
-/// exchange and a code; and `--down` does not go with `--from`.
-fn fit(exchange: bool, code: bool, down: bool, through: bool, from: bool) -> bool
-    ensures { result ≡ trace_words_fit exchange code down through from }
-{
-    let calls = exchange && code && !through;
-    let no_calls = !(exchange || code) && (through || from) && !(through && from);
-    !(down && from) && (calls || no_calls)
-}
-
-/// Whether those of this command do.
+/// Whether the words go together: an exchange and a code, or `--through`, or `--from` alone or with
+/// an exchange and a code; and `--down` does not go with `--from`.
 fn has_words_that_fit(matches: &ArgMatches<'_>) -> bool
     ensures { let found = rows_of (found_of matches.now) in result ≡ trace_words_fit
         (has found (codes "exchange")) (has found (codes "code")) (has found (codes "down"))
         (has found (codes "through")) (has found (codes "from")) }
 {
-    fit(
-        is_given(matches, "exchange"),
-        is_given(matches, "code"),
-        is_given(matches, "down"),
-        is_given(matches, "through"),
-        is_given(matches, "from"),
-    )
+    let exchange = is_given(matches, "exchange");
+    let code = is_given(matches, "code");
+    let through = is_given(matches, "through");
+    let from = is_given(matches, "from");
+    let calls = exchange && code && !through;
+    let no_calls = !(exchange || code) && (through || from) && !(through && from);
+    !(is_given(matches, "down") && from) && (calls || no_calls)
 }
 
 /// Its words.
