@@ -14,7 +14,7 @@ use std::alloc::Allocator;
 use tx_plan::Plan;
 use tx_rank::{Bounds, Grade, write_grade};
 use tx_risk::{Cut, Outage, Risks, Side, has_worse};
-use tx_text::{Sink, WriteFault, finish, put_bytes, put_parts};
+use tx_text::{Sink, WriteFault, finish, put_bytes, put_parts, write_bytes};
 
 /// Two plans, a network that has what either of them has, named risks over it, and the outages of
 /// both.
@@ -44,7 +44,7 @@ pub fn write_comparison<A: Allocator, W: Sink>(
             finish(sink)
         }
         (Some(_), None) => {
-            put_bytes(b"WAS ", sink);
+            write_bytes(b"WAS ", sink)?;
             write_grade(comparison.old.plan(), old, sink)
         }
         (None, _) => write_grade(comparison.new.plan(), new, sink),

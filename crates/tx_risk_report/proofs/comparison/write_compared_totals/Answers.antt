@@ -8,7 +8,8 @@ loop-i-init g c = puts_none
 pub loop-i-preserved : goal.loop-i-preserved
 loop-i-preserved g c =
     let k = c.args.comparison.now in
-    puts_more (compared_total k) k.outages.now c.loop-i-test.true c.index.is c.loop-i.invariant c.write_compared_total.ensures
+    puts_more (compared_total k) k.outages.now c.loop-i-test.true c.index-comparison-i.is c.loop-i.invariant
+    (rw (← c.index-comparison-i.is) at c.write_compared_total.ensures)
 
 pub returns : goal.returns
 returns g c =
