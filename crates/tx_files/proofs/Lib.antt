@@ -1,4 +1,3 @@
 pub mod Uncalled
 mod Texts
-pub mod Joining
 mod RevisedText

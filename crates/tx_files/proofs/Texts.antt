@@ -2,6 +2,8 @@
 use Rattle.std.proofs.Common.{◌≡◌, Bool, true, false, List, [], Option, None, Some, Ok, Err, refl, sym}
 use Rattle.std.proofs.lemmas.Bool.{false≢true}
 use Rattle.std.specs.Prelude.{IfSome}
+use Rattle.tx_text.specs.declared.whole_text.WholeTextFault.{WholeTextFault}
+use Rattle.tx_text.specs.declared.whole_text.WholeTextFault.TheVariants.{Read as TextRead, NoMemory as TextNoMemory}
 use Rattle.tx_text.specs.Ends.{Input}
 use Rattle.tx_plan.specs.Plan.{Plan}
 use Rattle.tx_risk.specs.NamedRisks.{NamedRisk, AreRisksFor}
@@ -10,10 +12,16 @@ use Rattle.tx_files.specs.declared.fault.CommandFault.{CommandFault}
 use Rattle.tx_files.specs.declared.two_plans.PlanText.{PlanText}
 use Rattle.tx_files.specs.PageReading.{ReadsOldIf}
 use Rattle.tx_files.specs.Reading.{RisksRefused, ReadsRisksIf}
-use Rattle.tx_files.specs.TwoPlans.{IsSaid, GivesNoPlan, SaysWhole}
-use Rattle.tx_files.specs.Faults.{in_plan}
+use Rattle.tx_files.specs.TwoPlans.{IsSaid, GivesNoPlan, NotWhole, SaysWhole}
+use Rattle.tx_files.specs.Faults.{in_plan, text_stop}
 use Rattle.tx_files.specs.declared.two_plans.Which.TheVariants.{Old}
 use Rattle.tx_risk.specs.RiskText.{ReadsRisks}
+
+-- why a text was not read to its end
+pub not_whole : (input : Input) (f : WholeTextFault) → (f ≡ TextRead → input.broken)
+    → NotWhole input (text_stop f)
+not_whole input TextRead broken = broken refl
+not_whole input TextNoMemory broken = tt
 
 module _ (p : Plan) (text : Input) where
   -- risks that are asked for were read

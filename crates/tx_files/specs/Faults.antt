@@ -15,7 +15,7 @@ use Rattle.tx_jobs.specs.JobFaults.{plan_fault, status_of}
 use Rattle.tx_files.specs.declared.two_plans.Which.{Which}
 use Rattle.tx_files.specs.declared.two_plans.Which.TheVariants.{This, Old, New}
 use Rattle.tx_files.specs.declared.fault.CommandFault.{CommandFault}
-use Rattle.tx_files.specs.declared.fault.CommandFault.TheVariants.{Job, OldPlan, NewPlan, Contradiction, TooManyTogether, Risks, NoSuchStage, NoSuchExchange, NoSuchCode, NoSuchGroup, NoSuchName, NotInOldPlan}
+use Rattle.tx_files.specs.declared.fault.CommandFault.TheVariants.{Job, OldPlan, NewPlan, Contradiction, TooManyTogether, Risks}
 
 -- the exit status: that of a job; 2 for a refused text and for plans that have no joined network;
 -- and 64 for what the plan does not have of what is asked for by names, and for a stage that the
@@ -27,12 +27,7 @@ fault_status (NewPlan f) = 2
 fault_status (Contradiction c) = 2
 fault_status TooManyTogether = 2
 fault_status (Risks f) = 2
-fault_status (NoSuchStage stages) = 64
-fault_status NoSuchExchange = 64
-fault_status (NoSuchCode place) = 64
-fault_status (NoSuchGroup place) = 64
-fault_status NoSuchName = 64
-fault_status NotInOldPlan = 64
+fault_status other = 64
 
 -- memory ran out
 abbrev pub memory_stop : CommandFault

@@ -82,21 +82,7 @@ impl From<RiskFault> for CommandFault {
             FaultKind::Frame(FrameFault::Read) => CommandFault::Job(JobFault::Read),
             FaultKind::Frame(FrameFault::NoMemory) | FaultKind::Word(RiskWord::NoMemory) =>
                 CommandFault::Job(JobFault::NoMemory),
-            FaultKind::Frame(
-                FrameFault::LineTooLong
-                | FrameFault::BadByte
-                | FrameFault::NoHeader
-                | FrameFault::NoEnd
-                | FrameFault::AfterEnd,
-            )
-            | FaultKind::Word(
-                RiskWord::UnknownWord
-                | RiskWord::WrongCount
-                | RiskWord::BadName
-                | RiskWord::Duplicate
-                | RiskWord::UnknownName
-                | RiskWord::RepeatedGroup,
-            ) => CommandFault::Risks(fault),
+            _ => CommandFault::Risks(fault),
         }
     }
 }
@@ -126,12 +112,7 @@ impl CommandFault {
             | CommandFault::Contradiction(_)
             | CommandFault::TooManyTogether
             | CommandFault::Risks(_) => 2,
-            CommandFault::NoSuchStage(_)
-            | CommandFault::NoSuchExchange
-            | CommandFault::NoSuchCode(_)
-            | CommandFault::NoSuchGroup(_)
-            | CommandFault::NoSuchName
-            | CommandFault::NotInOldPlan => 64,
+            _ => 64,
         }
     }
 

@@ -94,12 +94,12 @@ fn write_homes<W: Sink>(homes: Option<(InlineBytes<8>, InlineBytes<8>)>, sink: &
     ensures { Puts W.taken W.failed sink.old sink.new (homes_text homes) }
 {
     match homes {
-        Some((before, after)) => put_parts(
+        Some(homes) => put_parts(
             &[
                 b": home ",
-                before.bytes(),
+                homes.0.bytes(),
                 b", then ",
-                after.bytes(),
+                homes.1.bytes(),
                 b": drop it in one change, admit it in the next\n",
             ],
             sink,

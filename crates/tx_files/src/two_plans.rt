@@ -84,7 +84,8 @@ pub fn read_plans<A: Allocator + Copy, P: Source, Q: Source>(
 {
     let old = read_whole(alloc, Which::Old, old)?;
     let new = read_whole(alloc, Which::New, new)?;
-    join_plans(alloc, old, new)
+    let joined = joined_of(alloc, &old, &new)?;
+    Ok(TwoPlans { old, new, joined })
 }
 
 /// Reads an old plan and then a new one, joins them, and then reads named risks over their joined
@@ -127,20 +128,6 @@ pub fn read_whole<A: Allocator + Copy, S: Source>(
         }
         Err(fault) => Err(CommandFault::of_plan(which, fault)),
     }
-}
-
-/// Joins both plans.
-fn join_plans<A: Allocator + Copy>(
-    alloc: A,
-    old: PlanText<A>,
-    new: PlanText<A>,
-) -> Result<TwoPlans<A>, CommandFault>
-    ensures joined { IfOk result (λ t. (t.old ≡ old) × (t.new ≡ new)
-        × IsJoin old.plan new.plan t.joined) }
-    ensures refused { IfErr result (IsNoJoinOf old new) }
-{
-    let joined = joined_of(alloc, &old, &new)?;
-    Ok(TwoPlans { old, new, joined })
 }
 
 /// Both plans over their joined network.

@@ -77,12 +77,8 @@ fn differs_at<A: Allocator>(joined: &Joined<A>, code: CodeId, exchange: Exchange
 fn differs<A: Allocator>(joined: &Joined<A>, code: CodeId) -> bool
     ensures { result ≡ differs joined.now.old joined.now.new code }
 {
-    for index in 0..joined.new.exchanges() {
-        if differs_at(joined, code, ExchangeId::of(index)) {
-            return true;
-        }
-    }
-    false
+    let mut exchanges = 0..joined.new.exchanges();
+    exchanges.any(|index| differs_at(joined, code, ExchangeId::of(index)))
 }
 
 /// Whether a change touches the code of these figures, if there is a change.

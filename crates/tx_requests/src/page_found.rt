@@ -1,5 +1,5 @@
 // What is found of a plan for its page.
-ghost use Rattle.std.specs.Prelude.{◌≡◌, false, map, IfOk, IfSome};
+ghost use Rattle.std.specs.Prelude.{◌≡◌, [], None, map, IfOk, IfSome};
 ghost use Rattle.tx_plan.specs.Certified.{IsCertified};
 ghost use Rattle.tx_cert.specs.Certificate.{ranks_of};
 ghost use Rattle.tx_risk.specs.NamedRisks.{AreRisksFor, AreWithin};

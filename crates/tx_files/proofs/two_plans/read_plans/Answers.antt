@@ -1,6 +1,5 @@
 use Rattle.std.proofs.Common.{inl, inr, refl}
 use Rattle.tx_text.proofs.Exits.{exits_with}
-use Rattle.tx_files.proofs.Joining.{plans_read, are_joined}
 use Rattle.tx_files.proofs.Uncalled.{uncalled}
 use Rattle.tx_files.proofs.two_plans.read_plans.Goals as goal
 
@@ -13,13 +12,27 @@ returns-in_err-new-clause-texts g c =
     rw (exits_with c.from_residual-in_err-new.result c.in_err-new.field-0.0 c.from_residual-in_err-new.ensures.1)
     (inr (inl (record { plan = c.in_ok-old.old; read = c.in_ok-old.ensures.text; refused = c.in_err-new.ensures.text })))
 
+pub returns-in_err-joined-clause-texts : goal.returns-in_err-joined-clause-texts
+returns-in_err-joined-clause-texts g c =
+    rw (exits_with c.from_residual-in_err-joined.result c.in_err-joined.field-0.0 c.from_residual-in_err-joined.ensures.1)
+    (inr (inr (record {
+      before = c.in_ok-old.old;
+      after = c.in_ok-new.new;
+      old_read = c.in_ok-old.ensures.text;
+      new_read = c.in_ok-new.ensures.text;
+      refused = c.in_err-joined.ensures.refused;
+    })))
+
 pub returns-clause-texts : goal.returns-clause-texts
 returns-clause-texts g c =
-    plans_read _ _ c.in_ok-old.old c.in_ok-new.new c.join_plans.result c.in_ok-old.ensures.text c.in_ok-new.ensures.text c.join_plans.ensures.joined c.join_plans.ensures.refused
+    (c.in_ok-old.ensures.text, c.in_ok-new.ensures.text, c.in_ok-joined.ensures.joined)
 
 pub returns-clause-known : goal.returns-clause-known
-returns-clause-known g c =
-    are_joined c.in_ok-old.old c.in_ok-new.new c.join_plans.result c.in_ok-old.ensures.text.said c.in_ok-new.ensures.text.said c.join_plans.ensures.joined
+returns-clause-known g c = record {
+  old = c.in_ok-old.ensures.text.said;
+  new = c.in_ok-new.ensures.text.said;
+  joined = c.in_ok-joined.ensures.joined;
+}
 
 pub returns-in_err-old-clause-new_calls : goal.returns-in_err-old-clause-new_calls
 returns-in_err-old-clause-new_calls g c = uncalled g.Q.Source.called c.args.new.now
