@@ -66,12 +66,19 @@ def uses(lines, is_code):
         yield from (word for word in re.findall(WORD, stripped) if word != own)
 
 
+def names_in(lines):
+    """The names that a text has: its words, and what it passes on."""
+    text = "\n".join(lines)
+    passed = [name.strip() for names in re.findall(r"(?m)^pub use .*\{(.*)\}", text) for name in names.split(",")]
+    return {*re.findall(rf"{WORD}|◌\S+◌", text), *passed}
+
+
 def gone(path, lines, known):
     """The imports of names that their files do not have. What the prover writes has no file, and is left out."""
     for at, line in enumerate(lines):
         for crate, folder, module, names in IMPORT.findall(line):
             file = f"crates/{crate}/{folder}/{module.replace('.', '/')}.antt"
-            words = set(re.findall(rf"{WORD}|◌\S+◌", "\n".join(known.get(file, []))))
+            words = names_in(known[file]) if file in known else ()
             for name in names.split(",") if words else []:
                 name = name.split(" as ")[0].strip()
                 if name and name not in words:

@@ -1,28 +1,16 @@
 -- Which circuit the one call of a network gets.
 use Rattle.std.proofs.Common.{◌≡◌, ◌≢◌, ℕ, ◌<◌, ◌≤◌, ◌==◌, Bool, true, false, ◌&&◌, nat_le, cond, List, [], ◌∷◌, inl, inr, Option, Some, None, refl, sym, ap, ◌∙◌, eqb-true, arith}
 use Rattle.std.proofs.lemmas.Bool.{false≢true, ne_eqb, eqb-false, cases_eq, and_from, and_left, and_right, or_right, le-leb}
-use Rattle.std.specs.Prelude.{if◌then◌else◌, find, slice_get, is_some}
-use Rattle.std.specs.Option.{option_map_or}
-use Rattle.std.specs.Ordering.{nat_cmp}
+use Rattle.tx_audit.proofs.Common.{if◌then◌else◌, find, slice_get, is_some, option_map_or, nat_cmp, Plan, Group, route_list, Circuit, Line, Among, Hop, Standing, is_group, Groups, listed_before}
 use Rattle.std.specs.FinSet as set
 use Rattle.tx_plan.specs.Orders.{same_circuit}
-use Rattle.tx_plan.specs.Plan.{Plan, Group}
 use Rattle.tx_plan.specs.Rules.{IsPlan, IsGroup}
-use Rattle.tx_plan.specs.Routes.{route_list}
 use Rattle.tx_plan.specs.Circuits.{is_circuit, circuits_at, count_of}
-use Rattle.tx_plan.specs.declared.ids.Circuit.{Circuit}
-use Rattle.tx_plan.specs.declared.ids.Line.{Line}
-use Rattle.tx_plan.specs.Among.{Among}
-use Rattle.tx_machine.specs.declared.open_call.Hop.{Hop}
-use Rattle.tx_machine.specs.declared.open_call.Phase.TheVariants.{Standing}
 use Rattle.tx_machine.specs.InUse.{carries, is_free_at, is_down, first_free, first_in, choice}
-use Rattle.tx_machine.specs.Refusals.{is_group}
 use Rattle.tx_machine.proofs.Lists.{any_none, at_index}
 use Rattle.tx_machine.proofs.Uses.{chosen}
 use Rattle.tx_machine.proofs.Excuses.{circuit_listed}
-use Rattle.tx_machine.proofs.Playing.{Groups}
 use Rattle.tx_machine.proofs.OneCall.{alone, on_way, none_circuit}
-use Rattle.tx_audit.specs.Counter.{listed_before}
 
 -- LISTS
 

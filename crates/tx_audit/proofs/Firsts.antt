@@ -1,10 +1,5 @@
 -- The first finding that has events.
-use Rattle.std.proofs.Common.{◌≡◌, ℕ, ◌+◌, ◌<◌, Bool, true, false, ◌||◌, List, length, drop, get_or, Some, None, refl, ap, ◌∙◌}
-use Rattle.std.proofs.lemmas.Option.{slice_get_read}
-use Rattle.std.specs.List.{list_any}
-use Rattle.tx_plan.specs.Plan.{Plan}
-use Rattle.tx_machine.specs.declared.event.Event.{Event}
-use Rattle.tx_rank.specs.declared.finding.Finding.{Finding}
+use Rattle.tx_audit.proofs.Common.{◌≡◌, ℕ, ◌+◌, ◌<◌, Bool, true, false, ◌||◌, List, length, drop, get_or, Some, None, refl, ap, ◌∙◌, slice_get_read, list_any, Plan, Event, Finding}
 use Rattle.tx_audit.specs.Counter.{counter_of, first_counter_of, or_else}
 use Rattle.tx_audit.proofs.Loops.{drop_at}
 

@@ -12,3 +12,4 @@ pub mod Loops
 pub mod Firsts
 pub mod Untouched
 pub mod Taken
+pub mod Common

@@ -1,22 +1,13 @@
 -- Route lists, and the groups before one in them.
-use Rattle.std.proofs.Common.{◌≡◌, ℕ, ◌≤◌, ◌==◌, true, false, ◌&&◌, ◌||◌, List, [], ◌∷◌, inl, inr, length, Option, Some, None, refl, sym, ◌∙◌, subst, eqb-true, arith}
+use Rattle.tx_audit.proofs.Common.{◌≡◌, ℕ, ◌≤◌, ◌==◌, true, false, ◌&&◌, ◌||◌, List, [], ◌∷◌, inl, inr, length, Option, Some, None, refl, sym, ◌∙◌, subst, eqb-true, arith, if◌then◌else◌, find, is_some, slice_get, option_and_then, AllByRecursion, option_map_or, route_list, Among, AllDiffer, is_group, find_mem, listed_before}
 use Rattle.std.proofs.lemmas.Bool.{eqb-false, false≢true, or_cases, and_parts}
-use Rattle.std.specs.Prelude.{if◌then◌else◌, find, is_some, slice_get, option_and_then}
-use Rattle.std.specs.List.{AllByRecursion}
-use Rattle.std.specs.Option.{option_map_or}
 use Rattle.tx_plan.specs.Plan.{Plan, Group, Route}
 use Rattle.tx_plan.specs.Rules.{IsPlan, IsRoute}
-use Rattle.tx_plan.specs.Routes.{route_list}
 use Rattle.tx_plan.specs.Circuits.{far_end, other_end, may_seize, is_both, direction_of}
 use Rattle.tx_plan.specs.declared.ids.Direction.TheVariants.{OneWay}
-use Rattle.tx_plan.specs.Among.{Among}
-use Rattle.tx_rank.specs.Walks.{AllDiffer}
 use Rattle.tx_plan.proofs.Among.{among_all, all_among}
 use Rattle.tx_rank.proofs.Ways.{once_first, once_cons}
-use Rattle.tx_machine.specs.Refusals.{is_group}
-use Rattle.tx_machine.proofs.Lists.{find_mem}
 use Rattle.tx_machine.proofs.Steps.{all_mem, row_of, listed_leads}
-use Rattle.tx_audit.specs.Counter.{listed_before}
 
 -- what holds of the groups of each route and of no groups holds of each list
 of_list : (p : Plan) → IsPlan p → (P : List ℕ → Type 0) → P [] → ((r : Route) → IsRoute p r → P r.groups) → (x c : ℕ) → P (route_list p x c)

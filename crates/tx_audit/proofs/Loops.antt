@@ -1,16 +1,9 @@
 -- What the loops of the code keep.
-use Rattle.std.proofs.Common.{◌≡◌, ℕ, zero, suc, ◌+◌, ◌-◌, ◌<◌, ◌≤◌, Bool, true, false, List, [], ◌∷◌, length, drop, ◌++◌, map, take, get_or, Option, Some, None, Result, Ok, Err, refl, sym, ap, ◌∙◌, arith}
+use Rattle.tx_audit.proofs.Common.{◌≡◌, ℕ, zero, suc, ◌+◌, ◌-◌, ◌<◌, ◌≤◌, Bool, true, false, List, [], ◌∷◌, length, drop, ◌++◌, map, take, get_or, Option, Some, None, Result, Ok, Err, refl, sym, ap, ◌∙◌, arith, range_with_len, AllByRecursion, LineRange, Plan, Event, at_index, route_list, first_range, first_code, low_line, first_line, is_single, turns_on_one, step_events, walk_events}
 use Rattle.std.specs.Prelude.{find, slice_get, is_some, option_and_then, IfOk}
-use Rattle.std.specs.List.{range_with_len, AllByRecursion}
 use Rattle.std.proofs.lemmas.List.{append_assoc, append-nil, at_drop_more, drop_all, map_more}
 use Rattle.std.proofs.lemmas.Option.{slice_get_read, slice_get_within, get_or_from_slice_get}
 use Rattle.std.specs.Option.{option_map, IfSome}
-use Rattle.tx_plan.specs.declared.range.LineRange.{LineRange}
-use Rattle.tx_plan.specs.Plan.{Plan}
-use Rattle.tx_machine.specs.declared.event.Event.{Event}
-use Rattle.tx_machine.proofs.Lists.{at_index}
-use Rattle.tx_plan.specs.Routes.{route_list}
-use Rattle.tx_audit.specs.Counter.{first_range, first_code, low_line, first_line, is_single, turns_on_one, step_events, walk_events}
 
 pub drop_at : {A : Type 0} (xs : List A) (i : ℕ) (x : A) → slice_get xs i ≡ Some x → drop i xs ≡ x ∷ drop (i + 1) xs
 drop_at xs i x h = at_drop_more (λ l. l) xs i x (slice_get_within xs i x h) ∙ ap (λ y. y ∷ drop (i + 1) xs) (get_or_from_slice_get xs i x x h)

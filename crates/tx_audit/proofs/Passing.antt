@@ -1,17 +1,9 @@
 -- What a walk says of the exchanges that its call passes.
-use Rattle.std.proofs.Common.{◌≡◌, ◌≢◌, ℕ, ◌==◌, Bool, true, false, List, [], ◌∷◌, inl, inr, map, Some, refl, sym, ap, ◌∙◌, subst, eqb-true, eq-eqb}
+use Rattle.tx_audit.proofs.Common.{◌≡◌, ◌≢◌, ℕ, ◌==◌, Bool, true, false, List, [], ◌∷◌, inl, inr, map, Some, refl, sym, ap, ◌∙◌, subst, eqb-true, eq-eqb, filter, Plan, home_of, other_end, Among, NoneTwice, two_ends, is_transit, is_single, turns_on_one}
 use Rattle.std.proofs.lemmas.Bool.{ne_eqb, eqb-false, or_from, and_left, not_from_false}
-use Rattle.std.specs.Prelude.{filter}
-use Rattle.tx_plan.specs.Plan.{Plan, home_of}
-use Rattle.tx_plan.specs.Circuits.{other_end}
-use Rattle.tx_plan.specs.Among.{Among}
 use Rattle.tx_rank.specs.Walks.{AllDiffer, Goes, net_of, end_of, before_end, passed}
 use Rattle.tx_rank.proofs.Ways.{once_first, end_passed}
-use Rattle.tx_machine.specs.Members.{NoneTwice}
 use Rattle.tx_machine.proofs.Lists.{none_any}
-use Rattle.tx_machine.proofs.Uses.{two_ends}
-use Rattle.tx_machine.specs.Passed.{is_transit}
-use Rattle.tx_audit.specs.Counter.{is_single, turns_on_one}
 
 pub passed_is : (x : ℕ) (steps : List (ℕ × ℕ)) → passed x steps ≡ x ∷ map (λ s. s.1) steps
 passed_is x [] = refl

@@ -1,6 +1,6 @@
 -- The script that is written for events says these events.
 use Rattle.std.proofs.Common.{◌≡◌, ℕ, ◌+◌, List, [], ◌∷◌, ◌++◌, length, codes, refl, ap, ◌∙◌, append_assoc, arith}
-use Rattle.std.specs.List.{flat_map, AllByRecursion}
+use Rattle.tx_audit.proofs.Common.{flat_map, AllByRecursion, Plan, IsPlan, Event}
 use Rattle.tx_text.specs.declared.frame.FramePart.TheVariants.{Body}
 use Rattle.tx_text.specs.Text.{lines_from}
 use Rattle.tx_text.specs.Told.{AtEnd, told}
@@ -9,9 +9,6 @@ use Rattle.tx_text.specs.Written.{joined}
 use Rattle.tx_text.specs.inner.Written.{IsWrittenLine}
 use Rattle.tx_text.proofs.ReadBack.{has_back, head_back, end_back}
 use Rattle.tx_text.proofs.WrittenWords.{line_of_short, fixed_word}
-use Rattle.tx_plan.specs.Plan.{Plan}
-use Rattle.tx_plan.specs.Rules.{IsPlan}
-use Rattle.tx_machine.specs.declared.event.Event.{Event}
 use Rattle.tx_script.specs.Events.{event_words, event_text, IsWritable}
 use Rattle.tx_script.specs.Script.{whole, after_events, line_said, script_said, script_of}
 use Rattle.tx_script.proofs.EventLines.{words_back}

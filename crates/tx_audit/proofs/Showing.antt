@@ -1,43 +1,20 @@
 -- The events of a true finding show it.
 use Rattle.std.proofs.Common.{◌≡◌, ◌≢◌, ℕ, ◌+◌, ◌*◌, ◌<◌, ◌≤◌, ◌==◌, true, false, not, List, [], ◌∷◌, ◌++◌, inl, inr, map, length, Some, None, refl, sym, ap, ◌∙◌, subst, arith, append_assoc}
-use Rattle.std.proofs.lemmas.Option.{same_Some}
-use Rattle.std.proofs.lemmas.Bool.{and_parts, not-true}
-use Rattle.std.proofs.lemmas.List.{length-map}
-use Rattle.std.specs.Prelude.{if◌then◌else◌, filter, is_some}
-use Rattle.std.specs.List.{AllByRecursion}
-use Rattle.std.specs.Option.{option_map}
-use Rattle.std.specs.Ordering.{nat_cmp}
+use Rattle.tx_audit.proofs.Common.{same_Some, and_parts, not-true, length-map, if◌then◌else◌, filter, is_some, AllByRecursion, option_map, nat_cmp, Plan, home_of, figures_of, IsPlan, code_of, Line, Among, Finding, Ambiguous, Loop, Short, Long, IsTrueOf, Event, Hop, Standing, State, opening, first_free, choice, NoneTwice, all_mem, first_line, walk_events, shut_events, walked_by, events_along, turns_on_one, counter_of, has_counter, Groups, AllUp, Plays, plays_none, plays_first, plays_one, plays_then, shut, shut_among}
 use Rattle.std.specs.FinSet as set
-use Rattle.tx_plan.specs.Plan.{Plan, home_of, figures_of}
-use Rattle.tx_plan.specs.Rules.{IsPlan}
-use Rattle.tx_plan.specs.Codes.{code_of}
 use Rattle.tx_plan.specs.Routes.{route_list, is_barred, is_origin}
-use Rattle.tx_plan.specs.declared.ids.Line.{Line}
-use Rattle.tx_plan.specs.Among.{Among}
-use Rattle.tx_rank.specs.declared.finding.Finding.{Finding}
-use Rattle.tx_rank.specs.declared.finding.Finding.TheVariants.{Ambiguous, Loop, Short, Long}
 use Rattle.tx_rank.specs.Walks.{Walk, AllDiffer, IsWalk, IsLoop, IsShort, IsLong, net_of, end_of, before_end, passed as walk_passed}
-use Rattle.tx_rank.specs.Findings.{IsTrueOf}
-use Rattle.tx_machine.specs.declared.event.Event.{Event}
 use Rattle.tx_machine.specs.declared.event.Event.TheVariants.{Key, Route, Block}
-use Rattle.tx_machine.specs.declared.open_call.Hop.{Hop}
-use Rattle.tx_machine.specs.declared.open_call.Phase.TheVariants.{Standing}
 use Rattle.tx_machine.specs.declared.reply.Reply.TheVariants.{Keyed, Answered}
 use Rattle.tx_machine.specs.declared.cause.Service.TheVariants.{Nc}
 use Rattle.tx_machine.specs.Call.{Call, exchange_of}
-use Rattle.tx_machine.specs.State.{State, opening}
-use Rattle.tx_machine.specs.InUse.{first_free, choice}
-use Rattle.tx_machine.specs.Members.{NoneTwice}
 use Rattle.tx_machine.specs.Runs.{Moment, moment, run, state_after}
 use Rattle.tx_machine.specs.Passed.{passed, transits, is_transit}
 use Rattle.tx_machine.specs.Safe.{IsSafe, IsSafeCall}
 use Rattle.tx_machine.specs.Excused.{IsExcused, FoundNone}
 use Rattle.tx_machine.specs.Step.{step}
 use Rattle.tx_machine.specs.Sound.{IsSound}
-use Rattle.tx_machine.proofs.Steps.{all_mem}
-use Rattle.tx_audit.specs.Counter.{first_line, walk_events, shut_events, walked_by, events_along, turns_on_one, counter_of, has_counter}
 use Rattle.tx_audit.specs.Breaks.{PassesTwice, PassesMany, AnswersBare, Shows}
-use Rattle.tx_machine.proofs.Playing.{Groups, AllUp, Plays, plays_none, plays_first, plays_one, plays_then, shut, shut_among}
 use Rattle.tx_machine.proofs.OneCall.{step_of, alone, on_way, IsPlaced, routed_there, key_step, nc_step, blocks}
 use Rattle.tx_audit.proofs.Choices.{first_in_none, none_of}
 use Rattle.tx_audit.proofs.Listed.{listed_once, listed_few, listed_known}

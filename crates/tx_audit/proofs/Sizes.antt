@@ -1,17 +1,10 @@
 -- How many events a walk without repetitions takes.
 use Rattle.std.proofs.Common.{◌≡◌, ℕ, suc, ◌*◌, ◌<◌, ◌≤◌, true, List, [], ◌∷◌, inl, inr, length, refl, sym, ap, subst, eqb, eqb-true, arith, length-append}
 use Rattle.std.proofs.lemmas.Map.Steps.{length-le_from_distinct_below}
-use Rattle.std.specs.List.{list_any}
+use Rattle.tx_audit.proofs.Common.{list_any, Plan, IsPlan, route_list, Among, AllDiffer, Goes, IsWalk, net_of, before_end, any_mem, step_events, walk_events}
 use Rattle.tx_rank.proofs.Unmended.{all_distinct}
-use Rattle.tx_plan.specs.Plan.{Plan}
-use Rattle.tx_plan.specs.Rules.{IsPlan}
-use Rattle.tx_plan.specs.Routes.{route_list}
-use Rattle.tx_plan.specs.Among.{Among}
 use Rattle.tx_rank.specs.Nets.{IsNet}
-use Rattle.tx_rank.specs.Walks.{AllDiffer, Goes, IsWalk, net_of, before_end}
 use Rattle.tx_rank.proofs.Nets.{is_net}
-use Rattle.tx_machine.proofs.Lists.{any_mem}
-use Rattle.tx_audit.specs.Counter.{step_events, walk_events}
 use Rattle.tx_audit.proofs.Listed.{listed_few, before_few}
 use Rattle.tx_audit.proofs.Walking.{step_count}
 

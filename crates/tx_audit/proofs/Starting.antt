@@ -1,28 +1,17 @@
 -- The line that calls, and the code that it keys.
-use Rattle.std.proofs.Common.{◌≡◌, ℕ, zero, suc, ◌+◌, ◌<◌, ◌≤◌, ◌==◌, true, ◌&&◌, List, [], ◌∷◌, inl, inr, length, Option, Some, None, refl, sym, ap, ◌∙◌, subst, eqb-true, eq-eqb, arith}
+use Rattle.tx_audit.proofs.Common.{◌≡◌, ℕ, zero, suc, ◌+◌, ◌<◌, ◌≤◌, ◌==◌, true, ◌&&◌, List, [], ◌∷◌, inl, inr, length, Option, Some, None, refl, sym, ap, ◌∙◌, subst, eqb-true, eq-eqb, arith, is_some, option_and_then, option_map, option_map_or, are_figures, Plan, Code, home_of, figures_of, IsPlan, IsRange, is_origin, Line, LineRange, entry_at, Among, first_range, calls_from, first_code, low_line, first_line}
 use Rattle.std.proofs.lemmas.Bool.{false≢true, and_parts, and_from, cases_lt, lt-ltb, le-ltb}
-use Rattle.std.specs.Prelude.{is_some, option_and_then}
 use Rattle.std.specs.List.{range_with_len, enumerate_from}
-use Rattle.std.specs.Option.{option_map, option_map_or}
 use Rattle.std.specs.Ordering.{is_le}
 use Rattle.std.specs.Cmp.Lexicographic.{nat_list_cmp_total}
 use Rattle.std.proofs.lemmas.Cmp.{tied_itself}
 use Rattle.tx_plan.proofs.Longest.{longest_among}
 use Rattle.tx_rank.proofs.Certifying.{prefix_whole}
-use Rattle.tx_text.specs.Words.{are_figures}
-use Rattle.tx_plan.specs.Plan.{Plan, Code, home_of, figures_of}
-use Rattle.tx_plan.specs.Rules.{IsPlan, IsRange}
 use Rattle.tx_plan.specs.Lines.{at_most, in_range, is_line}
 use Rattle.tx_plan.specs.Codes.{after, is_prefix, codes_before, longer, longest, code_of}
-use Rattle.tx_plan.specs.Routes.{is_origin}
-use Rattle.tx_plan.specs.declared.ids.Line.{Line}
-use Rattle.tx_plan.specs.declared.range.LineRange.{LineRange}
 use Rattle.tx_plan.proofs.Among.{among_indexes, among_filter, filter_among}
-use Rattle.tx_plan.proofs.ByIndex.{entry_at}
-use Rattle.tx_plan.specs.Among.{Among}
 use Rattle.tx_machine.proofs.Lists.{any_mem, mem_any, find_mem, indexes_differ}
 use Rattle.tx_machine.proofs.Steps.{all_mem, enumerated}
-use Rattle.tx_audit.specs.Counter.{first_range, calls_from, first_code, low_line, first_line}
 use Rattle.tx_audit.proofs.Choices.{find_some}
 
 -- THE CODE THAT IS KEYED

@@ -1,7 +1,5 @@
 -- Tickets that are taken out of a network one after another.
-use Rattle.std.proofs.Common.{◌≡◌, ◌<◌, List, [], ◌∷◌, ◌++◌, length, drop, Some, None, refl, sym, ap, ◌∙◌, append_assoc, append-nil, arith}
-use Rattle.std.specs.Prelude.{slice_get}
-use Rattle.tx_plan.specs.Plan.{Plan}
+use Rattle.tx_audit.proofs.Common.{◌≡◌, ◌<◌, List, [], ◌∷◌, ◌++◌, length, drop, Some, None, refl, sym, ap, ◌∙◌, append_assoc, append-nil, arith, slice_get, Plan}
 use Rattle.tx_machine.specs.Ended.{Ended}
 use Rattle.tx_machine.specs.State.{Net, State, ticket_taken}
 use Rattle.tx_machine.specs.Drained.{drained}

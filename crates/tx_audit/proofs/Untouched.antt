@@ -1,8 +1,5 @@
 -- What a run answers that began in the opening state.
-use Rattle.std.proofs.Common.{◌≡◌, ◌∙◌, Result, Ok, Err, subst, inl}
-use Rattle.tx_text.specs.Ends.{Input, Output}
-use Rattle.tx_plan.specs.Plan.{Plan}
-use Rattle.tx_machine.specs.State.{State, opening}
+use Rattle.tx_audit.proofs.Common.{◌≡◌, ◌∙◌, Result, Ok, Err, subst, inl, Input, Output, Plan, State, opening}
 use Rattle.tx_script.specs.declared.summary.Summary.{Summary}
 use Rattle.tx_script.specs.declared.run_fault.RunFault.{RunFault}
 use Rattle.tx_script.specs.Answers.{States, RunAnswers}

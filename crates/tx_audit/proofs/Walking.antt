@@ -1,27 +1,13 @@
 -- The call goes along a walk.
 use Rattle.std.proofs.Common.{◌≡◌, ◌≢◌, ℕ, ◌+◌, ◌-◌, ◌^◌, ◌≤◌, true, false, List, [], ◌∷◌, ◌++◌, ◌⊎◌, inl, inr, map, length, Option, Some, None, refl, sym, ap, ◌∙◌, subst, arith, length-append, append_assoc, append-nil}
-use Rattle.std.proofs.lemmas.Option.{same_Some}
+use Rattle.tx_audit.proofs.Common.{same_Some, Plan, home_of, IsPlan, route_list, other_end, may_seize, is_both, direction_of, count_of, Circuit, Line, Among, AllDiffer, Goes, net_of, before_end, end_of, once_first, Route, Confirm, Block, Unblock, Hop, is_group, two_ends, listed_before, step_events, walk_events, is_single, turns_on_one}
 use Rattle.std.proofs.lemmas.Bool.{false≢true, cases_eq, eq-eqb}
 use Rattle.std.proofs.lemmas.List.{length-map, map_push}
-use Rattle.tx_plan.specs.Plan.{Plan, home_of}
-use Rattle.tx_plan.specs.Rules.{IsPlan}
-use Rattle.tx_plan.specs.Routes.{route_list}
-use Rattle.tx_plan.specs.Circuits.{other_end, may_seize, is_both, direction_of, count_of}
-use Rattle.tx_plan.specs.declared.ids.Circuit.{Circuit}
-use Rattle.tx_plan.specs.declared.ids.Line.{Line}
-use Rattle.tx_plan.specs.Among.{Among}
 use Rattle.tx_plan.proofs.Among.{among_cases}
-use Rattle.tx_rank.specs.Walks.{AllDiffer, Goes, net_of, before_end, end_of}
-use Rattle.tx_rank.proofs.Ways.{once_first}
-use Rattle.tx_machine.specs.declared.event.Event.TheVariants.{Route, Confirm, Block, Unblock}
-use Rattle.tx_machine.specs.declared.open_call.Hop.{Hop}
 use Rattle.tx_machine.specs.declared.open_call.Phase.TheVariants.{Standing, Calling}
 use Rattle.tx_machine.specs.declared.reply.Reply.TheVariants.{Seized, At}
-use Rattle.tx_machine.specs.Refusals.{is_group}
-use Rattle.tx_machine.proofs.Uses.{two_ends}
 use Rattle.tx_machine.proofs.Playing.{Groups, AllUp, Plays, plays_none, plays_first, plays_one, plays_then, shut, opened, shut_out, shut_among, all_up_again}
 use Rattle.tx_machine.proofs.OneCall.{alone, on_way, step_of, IsPlaced, routed_there, placed_next, route_step, confirm_step, blocks, unblocks}
-use Rattle.tx_audit.specs.Counter.{listed_before, step_events, walk_events, is_single, turns_on_one}
 use Rattle.tx_audit.proofs.Choices.{IsLoose, count_some, loose_new, loose_other, choose}
 use Rattle.tx_audit.proofs.Listed.{listed_once, listed_known, listed_may, both_ways_from, known_from, not_before, before_once, before_all}
 

@@ -1,29 +1,9 @@
 -- The events of a finding can be written.
-use Rattle.std.proofs.Common.{◌≡◌, ℕ, zero, suc, ◌+◌, ◌^◌, ◌<◌, ◌==◌, true, false, ◌&&◌, nat_le, List, [], ◌∷◌, ◌++◌, map, length, Option, Some, None, refl, sym, ap, subst, inl, inr, arith}
+use Rattle.tx_audit.proofs.Common.{◌≡◌, ℕ, zero, suc, ◌+◌, ◌^◌, ◌<◌, ◌==◌, true, false, ◌&&◌, nat_le, List, [], ◌∷◌, ◌++◌, map, length, Option, Some, None, refl, sym, ap, subst, inl, inr, arith, slice_get_within, if◌then◌else◌, slice_get, is_some, option_and_then, option_map, option_map_or, Plan, Code, Group, figures_of, route_list, Line, LineRange, entry_at, Among, Finding, Ambiguous, Loop, Short, Long, IsTrueOf, Walk, end_of, Event, Route, Confirm, Block, Unblock, is_group, find_mem, at_index, all_mem, IsWritable, first_range, first_code, calls_from, low_line, first_line, listed_before, step_events, walk_events, shut_events, walked_by, events_along, turns_on_one, counter_of}
 use Rattle.std.proofs.lemmas.Bool.{false≢true, and_parts, and_from, leb-true, le-leb}
-use Rattle.std.proofs.lemmas.Option.{slice_get_within}
-use Rattle.std.specs.Prelude.{if◌then◌else◌, slice_get, is_some, option_and_then}
 use Rattle.std.specs.List.{AllByRecursion, list_all, range_with_len}
-use Rattle.std.specs.Option.{option_map, option_map_or}
 use Rattle.tx_text.specs.Words.{is_figure, are_figures, figures_of as keyed_of}
-use Rattle.tx_plan.specs.Plan.{Plan, Code, Group, figures_of}
 use Rattle.tx_plan.specs.Rules.{IsPlan, IsCode, IsRange, is_national}
-use Rattle.tx_plan.specs.Routes.{route_list}
-use Rattle.tx_plan.specs.declared.ids.Line.{Line}
-use Rattle.tx_plan.specs.declared.range.LineRange.{LineRange}
-use Rattle.tx_plan.proofs.ByIndex.{entry_at}
-use Rattle.tx_plan.specs.Among.{Among}
-use Rattle.tx_rank.specs.declared.finding.Finding.{Finding}
-use Rattle.tx_rank.specs.declared.finding.Finding.TheVariants.{Ambiguous, Loop, Short, Long}
-use Rattle.tx_rank.specs.Findings.{IsTrueOf}
-use Rattle.tx_rank.specs.Walks.{Walk, end_of}
-use Rattle.tx_machine.specs.declared.event.Event.{Event}
-use Rattle.tx_machine.specs.declared.event.Event.TheVariants.{Route, Confirm, Block, Unblock}
-use Rattle.tx_machine.specs.Refusals.{is_group}
-use Rattle.tx_machine.proofs.Lists.{find_mem, at_index}
-use Rattle.tx_machine.proofs.Steps.{all_mem}
-use Rattle.tx_script.specs.Events.{IsWritable}
-use Rattle.tx_audit.specs.Counter.{first_range, first_code, calls_from, low_line, first_line, listed_before, step_events, walk_events, shut_events, walked_by, events_along, turns_on_one, counter_of}
 use Rattle.tx_audit.proofs.Listed.{listed_known, before_all}
 
 all_append : {A : Type 0} (P : A → Type 0) (xs ys : List A) → AllByRecursion P xs → AllByRecursion P ys → AllByRecursion P (xs ++ ys)

@@ -1,9 +1,5 @@
 -- A line of another number of words ranks nothing.
-use Rattle.std.proofs.Common.{◌≡◌, ◌≢◌, ℕ, List, [], ◌∷◌, Err, length, refl}
-use Rattle.tx_plan.specs.Plan.{Plan}
-use Rattle.tx_cert.specs.declared.fault.CertWord.TheVariants.{WrongCount}
-use Rattle.tx_cert.specs.Certificate.{Certificate}
-use Rattle.tx_cert.specs.CertText.{rank_line}
+use Rattle.tx_cert.proofs.Common.{◌≡◌, ◌≢◌, ℕ, List, [], ◌∷◌, Err, length, refl, Plan, WrongCount, Certificate, rank_line}
 
 pub rank_count : (p : Plan) (t : Certificate) (ws : List (List ℕ)) → length ws ≢ 3 → rank_line p t ws ≡ Err WrongCount
 rank_count p t [] other = refl

@@ -5,3 +5,4 @@ pub mod Ranks
 pub mod RanksSoFar
 pub mod Written
 pub mod Reading
+pub mod Common

@@ -1,7 +1,5 @@
 -- The ranks of a certificate, once one is set.
-use Rattle.std.proofs.Common.{◌≡◌, ℕ, Some, None, cond, inl, inr, refl, ap, ◌∙◌}
-use Rattle.std.specs.FinMap.{get-empty, get-insert}
-use Rattle.tx_cert.specs.Certificate.{Certificate, Pair, pair_cmp, no_ranks, rank_at, with_rank}
+use Rattle.tx_cert.proofs.Common.{◌≡◌, ℕ, Some, None, cond, inl, inr, refl, ap, ◌∙◌, get-empty, get-insert, Certificate, Pair, pair_cmp, no_ranks, rank_at, with_rank}
 use Rattle.tx_cert.proofs.Pairs.{pairs_total, tells}
 
 pub none_ranked : (codes exchanges d y : ℕ) → rank_at (no_ranks codes exchanges) d y ≡ None

@@ -1,12 +1,8 @@
 -- The ranks of the first codes and exchanges of a certificate, in the order in which they are written.
-use Rattle.std.proofs.Common.{◌≡◌, ◌≢◌, ℕ, ◌+◌, ◌*◌, ◌<◌, Bool, true, false, nat_lt, Option, Some, None, cond, inl, inr, refl, sym, ap, ◌∙◌, arith}
-use Rattle.std.specs.Ordering.{eq_by_cmp}
+use Rattle.tx_cert.proofs.Common.{◌≡◌, ◌≢◌, ℕ, ◌+◌, ◌*◌, ◌<◌, Bool, true, false, nat_lt, Option, Some, None, cond, inl, inr, refl, sym, ap, ◌∙◌, arith, eq_by_cmp, mul-add-lt, same_from_place, Pair, pair_cmp, Certificate, no_ranks, rank_at, with_rank, IsCertificate, index_of}
 use Rattle.std.specs.FinMap.{FinMap, get, retain_keys, get-empty, get-insert, get-retain_keys, same_map}
 use Rattle.std.proofs.lemmas.Bool.{lt-ltb, le-ltb}
 use Rattle.std.proofs.lemmas.Bool.Decides.{nat_tests}
-use Rattle.std.proofs.lemmas.Nat.{mul-add-lt, same_from_place}
-use Rattle.tx_cert.specs.Certificate.{Pair, pair_cmp, Certificate, no_ranks, rank_at, with_rank, IsCertificate}
-use Rattle.tx_cert.specs.inner.Table.{index_of}
 use Rattle.tx_cert.proofs.Pairs.{pairs_total, exact, tells}
 
 -- certificates with the same ranks

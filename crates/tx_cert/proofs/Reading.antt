@@ -1,6 +1,6 @@
 -- Reading a certificate text.
 use Rattle.std.proofs.Common.{◌≡◌, ℕ, List, [], ◌∷◌, Option, None, Some, Result, Ok, Err, IfOk, IfErr, Bool, true, false, codes, refl, ◌∙◌, subst, inl, inr}
-use Rattle.std.specs.Prelude.{if◌then◌else◌}
+use Rattle.tx_cert.proofs.Common.{if◌then◌else◌, Plan, CertWord, Certificate, no_ranks_for, rank_at}
 use Rattle.std.specs.Str.{bytes_eq}
 use Rattle.tx_text.specs.declared.frame.FaultKind.{FaultKind}
 use Rattle.tx_text.specs.declared.frame.FaultKind.TheVariants.{Frame, Word}
@@ -8,11 +8,8 @@ use Rattle.tx_text.specs.Ends.{Input}
 use Rattle.tx_text.specs.Told.{Ending, AtEnd}
 use Rattle.tx_text.specs.Frame.{Framed, Done, Stop, Headed, Has, Stands}
 use Rattle.tx_text.specs.Said.{said, step_on, Declared, lines_within, ReadsText, AnswersAs, RefusedBy, FaultsBy}
-use Rattle.tx_plan.specs.Plan.{Plan}
 use Rattle.tx_plan.proofs.Lists.{opposed}
-use Rattle.tx_cert.specs.declared.fault.CertWord.{CertWord}
 use Rattle.tx_cert.specs.declared.fault.CertWord.TheVariants.{UnknownWord, WrongCount}
-use Rattle.tx_cert.specs.Certificate.{Certificate, no_ranks_for, rank_at}
 use Rattle.tx_cert.specs.CertText.{declare, ranked_by, rank_said, rank_line, cert_of, is_memory, ReadsCert}
 
 -- there is one version of these texts

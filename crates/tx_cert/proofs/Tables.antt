@@ -1,17 +1,14 @@
 -- The table of a certificate, seen as a map.
 use Rattle.std.proofs.Common.{◌≡◌, ◌≢◌, ℕ, zero, suc, ◌+◌, ◌*◌, ◌<◌, ◌≤◌, true, false, nat_lt, ◌&&◌, ◌⊎◌, inl, inr, eqb, eqb-true, List, [], ◌∷◌, ◌++◌, length, get_or, replicate, Option, None, Some, cond, refl, sym, ap, ◌∙◌, subst, arith}
 use Rattle.std.specs.Prelude.{map, slice_set, if◌then◌else◌}
-use Rattle.std.specs.List.{flat_map, range_with_len}
+use Rattle.tx_cert.proofs.Common.{flat_map, range_with_len, eq_by_cmp, mul-add-lt, same_from_place, Certificate, Pair, pair_cmp, no_ranks, rank_at, with_rank, IsCertificate}
 use Rattle.std.specs.Option.{IfSome}
-use Rattle.std.specs.Ordering.{eq_by_cmp}
 use Rattle.std.specs.FinMap.{FinMap, get, insert, empty, find, get-empty, get-insert, get-from_entries, same_map}
 use Rattle.std.proofs.lemmas.Bool.{eqb-false, lt-ltb, ltb-true, and_from, and_parts}
 use Rattle.std.proofs.lemmas.List.{length-set, get_or_read, get_or-set_same, get_or-set_other, get_or-replicate}
 use Rattle.std.proofs.lemmas.List.Elements.{All-set}
-use Rattle.std.proofs.lemmas.Nat.{mul-add-lt, same_from_place}
 use Rattle.tx_plan.specs.Among.{Among}
 use Rattle.tx_plan.proofs.Among.{among_map, among_flat}
-use Rattle.tx_cert.specs.Certificate.{Certificate, Pair, pair_cmp, no_ranks, rank_at, with_rank, IsCertificate}
 use Rattle.tx_cert.specs.inner.Table.{Table, IsTable, index_of, rank_in, pairs, entry_of, ranks_in, certificate_of}
 use Rattle.tx_cert.proofs.Pairs.{pairs_total, exact, tells}
 

@@ -1,14 +1,12 @@
 -- Certificate texts that were written read back.
-use Rattle.std.proofs.Common.{◌≡◌, ℕ, zero, suc, ◌+◌, ◌*◌, ◌<◌, ◌≤◌, List, [], ◌∷◌, ◌++◌, length, Option, Some, None, Result, Ok, codes, refl, sym, ap, ◌∙◌, subst, arith}
+use Rattle.tx_cert.proofs.Common.{◌≡◌, ℕ, zero, suc, ◌+◌, ◌*◌, ◌<◌, ◌≤◌, List, [], ◌∷◌, ◌++◌, length, Option, Some, None, Result, Ok, codes, refl, sym, ap, ◌∙◌, subst, arith, flat_map, range_with_len, Certificate, no_ranks, no_ranks_for, rank_at, IsCertificateOf}
 use Rattle.std.specs.Fmt.{decimal}
-use Rattle.std.specs.List.{flat_map, range_with_len}
 use Rattle.tx_text.specs.Frame.{header_of}
 use Rattle.tx_text.specs.inner.Written.{IsWrittenLine, LeadsTo}
 use Rattle.tx_text.proofs.ReadBack.{reads_back}
 use Rattle.tx_text.proofs.WrittenWords.{name_word, figures_word, number_word, number_back, line_of_short, fixed_word}
 use Rattle.tx_plan.specs.Plan.{Plan, exchange_name, figures_of}
 use Rattle.tx_plan.specs.Rules.{IsPlan}
-use Rattle.tx_cert.specs.Certificate.{Certificate, no_ranks, no_ranks_for, rank_at, IsCertificateOf}
 use Rattle.tx_cert.specs.CertText.{declare, rank_lines, code_lines, cert_lines, ReadsBack}
 use Rattle.tx_plan.proofs.NamesBack.{exchange_back, exchange_is_name, code_back, figures_are_code}
 use Rattle.tx_cert.proofs.RanksSoFar.{so_far, none_yet, so_far_none, next_none, next_some, so_far_all}

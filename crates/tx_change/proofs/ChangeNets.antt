@@ -1,15 +1,7 @@
 -- The network of a change obeys the rules of a plan.
 use Rattle.std.proofs.Common.{ℕ, ◌<◌, ◌≤◌, List, ◌++◌, length, length-append, min, inl, inr, sym, ap, ◌∙◌, subst, arith}
-use Rattle.std.proofs.lemmas.Bool.{or_cases}
-use Rattle.tx_plan.specs.Plan.{Plan}
-use Rattle.tx_plan.specs.Rules.{IsPlan}
-use Rattle.tx_plan.specs.Routes.{route_list, is_origin_for}
-use Rattle.tx_plan.proofs.Among.{among_cases}
-use Rattle.tx_rank.specs.Nets.{IsNet}
+use Rattle.tx_change.proofs.Common.{or_cases, Plan, IsPlan, route_list, is_origin_for, among_cases, IsNet, SameNetwork, ends_same, change_net}
 use Rattle.tx_rank.proofs.Nets.{is_net}
-use Rattle.tx_plan.specs.Mixtures.{SameNetwork}
-use Rattle.tx_plan.proofs.Networks.{ends_same}
-use Rattle.tx_change.specs.ChangeNets.{change_net}
 
 pub least_listed : (xs ys : List ℕ) → min (length xs) (length ys) ≤ length (xs ++ ys)
 least_listed xs ys = let l = length-append xs ys in omega arith

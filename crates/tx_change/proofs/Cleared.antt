@@ -1,23 +1,15 @@
 -- What a ranking of a change comes to is right.
-use Rattle.std.proofs.Common.{◌≡◌, ◌≢◌, ℕ, [], length, ap, subst, ◌∙◌}
+use Rattle.tx_change.proofs.Common.{◌≡◌, ◌≢◌, ℕ, [], length, ap, subst, ◌∙◌, AllByRecursion, Plan, Finding, CanBeCertified, SameNetwork, EachMixture, AreCommon, mixture_certified, AreChangeFindings, IsShown}
 use Rattle.std.specs.Prelude.{◌↔◌, Vec}
-use Rattle.std.specs.List.{AllByRecursion}
-use Rattle.tx_plan.specs.Plan.{Plan}
 use Rattle.tx_cert.specs.Certificate.{Certificate, IsCertificateOf, ranks_of}
-use Rattle.tx_rank.specs.declared.finding.Finding.{Finding}
 use Rattle.tx_rank.specs.declared.ranking.Ranking.{Ranking}
 use Rattle.tx_rank.specs.declared.ranking.Ranking.TheVariants.{Found, Fails}
-use Rattle.tx_rank.specs.Grades.{CanBeCertified}
 use Rattle.tx_rank.specs.Rankings.{IsFound, OnFound, OnFails}
-use Rattle.tx_plan.specs.Mixtures.{SameNetwork, EachMixture, AreCommon}
-use Rattle.tx_plan.proofs.CommonRanks.{mixture_certified}
 use Rattle.tx_machine.proofs.Sound.{sound}
 use Rattle.tx_machine.proofs.ChangingRuns.{sound_change, few_meanwhile, suffice_meanwhile}
 use Rattle.tx_check.specs.Confirmed.{IsConfirmed}
 use Rattle.tx_audit.specs.Audits.{IsRightRanking}
 use Rattle.tx_change.specs.declared.judging.ChangeVerdict.TheVariants.{Sound, Unsound, NewUnsound}
-use Rattle.tx_change.specs.ChangeFindings.{AreChangeFindings}
-use Rattle.tx_change.specs.Shown.{IsShown}
 use Rattle.tx_change.specs.ChangeAnswers.{IsCleared, IsDenied, IsRightVerdict}
 
 -- a certificate of a plan is one of each plan of its network

@@ -1,8 +1,5 @@
 -- No call for a code that is closed leaves the exchange where it started.
-use Rattle.std.proofs.Common.{◌≡◌, ◌≢◌, ℕ, ◌<◌, true, ◌&&◌, ◌==◌, List, [], ◌∷◌, length, Option, Some, inl, inr, refl, sym, ap, ◌∙◌, subst, eqb-true, eq-eqb}
-use Rattle.std.specs.List.{list_any, AllByRecursion}
-use Rattle.std.specs.Option.{option_map_or}
-use Rattle.std.proofs.lemmas.Bool.{and_parts, true≢false}
+use Rattle.tx_change.proofs.Common.{◌≡◌, ◌≢◌, ℕ, ◌<◌, true, ◌&&◌, ◌==◌, List, [], ◌∷◌, length, Option, Some, inl, inr, refl, sym, ap, ◌∙◌, subst, eqb-true, eq-eqb, list_any, AllByRecursion, option_map_or, and_parts, true≢false, is_barred, SameNetwork, IsMixture, Among, Event, any_mem}
 use Rattle.tx_text.specs.Words.{are_figures}
 use Rattle.tx_plan.specs.declared.range.LineRange.{LineRange}
 use Rattle.tx_plan.specs.declared.ids.Line.{Line}
@@ -11,19 +8,14 @@ use Rattle.tx_plan.specs.Plan.{Plan, Code, home_of}
 use Rattle.tx_plan.specs.Rules.{IsPlan, IsRange, IsCode}
 use Rattle.tx_plan.specs.Codes.{code_of}
 use Rattle.tx_plan.specs.Lines.{is_line, in_range}
-use Rattle.tx_plan.specs.Routes.{is_barred}
-use Rattle.tx_plan.specs.Mixtures.{SameNetwork, IsMixture}
-use Rattle.tx_plan.specs.Among.{Among}
 use Rattle.tx_plan.proofs.ByIndex.{entry_at, all_at}
 use Rattle.tx_plan.proofs.Networks.{same_back, homes_same}
-use Rattle.tx_machine.specs.declared.event.Event.{Event}
 use Rattle.tx_machine.specs.declared.open_call.Phase.TheVariants.{Calling}
 use Rattle.tx_machine.specs.Call.{Call, circuit_called, exchange_of, last_exchange, start_of, is_first}
 use Rattle.tx_machine.specs.State.{State, opening}
 use Rattle.tx_machine.specs.Step.{step}
 use Rattle.tx_machine.specs.ChangingRuns.{Turn, changing_run, AreMixtures}
 use Rattle.tx_machine.specs.inner.Invariant.{Holds}
-use Rattle.tx_machine.proofs.Lists.{any_mem}
 use Rattle.tx_machine.proofs.Invariant.{inv_opening}
 use Rattle.tx_machine.proofs.Steps.{step_keeps}
 use Rattle.tx_machine.proofs.ByNetwork.{holds_by}

@@ -1,65 +1,35 @@
--- What certifies the network of a change for each code certifies both plans, and the other way
-use Rattle.std.proofs.Common.{ℕ, ◌<◌, length, inl, inr, Option, sym, ap, ◌∙◌, subst, arith}
-use Rattle.std.proofs.lemmas.Bool.{or_left, or_right, or_cases}
-use Rattle.tx_plan.specs.Plan.{Plan}
-use Rattle.tx_plan.specs.Certified.{Ranks}
-use Rattle.tx_plan.specs.Routes.{route_list, is_origin_for}
-use Rattle.tx_plan.proofs.Among.{among_left, among_right, among_cases}
-use Rattle.tx_rank.specs.Walks.{net_of}
-use Rattle.tx_rank.specs.Nets.{Certifies}
-use Rattle.tx_rank.proofs.Certifying.{AreDistinct, certifies_code, certified_codes}
-use Rattle.tx_plan.specs.Mixtures.{SameNetwork, AreCommon}
-use Rattle.tx_plan.proofs.Networks.{homes_same, ends_same}
-use Rattle.tx_change.specs.ChangeNets.{change_net}
-
-module _ (old new : Plan) (same : SameNetwork old new) (ranks : ℕ → Option ℕ) (limit spare c : ℕ) (cert : Certifies (change_net old new c) ranks limit spare) where
-  old_certified : Certifies (net_of old c) ranks limit spare
-  old_certified = record {
-    home = cert.home;
-    origins = λ x o. cert.origins x (or_left (is_origin_for old x c) (is_origin_for new x c) o);
-    low = cert.low;
-    enough = λ x r ranked away. let e = cert.enough x r ranked away in omega arith;
-    lower = λ x r ranked away g m.
-        let l = cert.lower x r ranked away g (among_left g (route_list old x c) (route_list new x c) m) in
-        record { to = l.to; rank = l.rank; leads = l.leads; ranked = l.ranked; below = l.below };
-  }
-
-  new_certified : Certifies (net_of new c) ranks limit spare
-  new_certified =
-      let home = homes_same old new same c in
-      record {
-        home = ap ranks home ∙ cert.home;
-        origins = λ x o. cert.origins x (or_right (is_origin_for old x c) (is_origin_for new x c) o);
-        low = cert.low;
-        enough = λ x r ranked away. let e = cert.enough x r ranked (λ q. away (q ∙ sym home)) in omega arith;
-        lower = λ x r ranked away g m.
-            let l = cert.lower x r ranked (λ q. away (q ∙ sym home)) g (among_right g (route_list old x c) (route_list new x c) m) in
-            record { to = l.to; rank = l.rank; leads = ends_same old new same g x ∙ l.leads; ranked = l.ranked; below = l.below };
-      }
-
-module _ (old new : Plan) (same : SameNetwork old new) (ranks : Ranks) (limit spare : ℕ) where
-  pub common_codes : AreDistinct old.codes → ((c : ℕ) → c < length old.codes → Certifies (change_net old new c) (ranks c) limit spare) → AreCommon old new ranks limit spare
-  common_codes distinct each =
-      record {
-        before = certified_codes old ranks limit spare distinct (λ c h. old_certified old new same (ranks c) limit spare c (each c h));
-        after = certified_codes new ranks limit spare (subst AreDistinct same.codes distinct)
-            (λ c h. new_certified old new same (ranks c) limit spare c (each c (subst (λ n. c < n) (ap length (sym same.codes)) h)));
-      }
-
--- and what certifies both plans certifies that network
-module _ (old new : Plan) (same : SameNetwork old new) (ranks : Ranks) (limit spare : ℕ) (both : AreCommon old new ranks limit spare) (c : ℕ) (h : c < length old.codes) where
-  pub common_certifies : Certifies (change_net old new c) (ranks c) limit spare
-  common_certifies =
-      let a = certifies_code old ranks limit spare both.before c h in
-      let b = certifies_code new ranks limit spare both.after c (subst (λ n. c < n) (ap length same.codes) h) in
-      let home = homes_same old new same c in
-      record {
-        home = a.home;
-        origins = λ x o. elim (or_cases (is_origin_for old x c) (is_origin_for new x c) o) [ inl p ↦ a.origins x p | inr p ↦ b.origins x p ];
-        low = a.low;
-        enough = λ x r ranked away. let e = a.enough x r ranked away in let f = b.enough x r ranked (λ q. away (q ∙ home)) in omega arith;
-        lower = λ x r ranked away g m. elim (among_cases g (route_list old x c) (route_list new x c) m) [
-          | inl l ↦ let d = a.lower x r ranked away g l in record { to = d.to; rank = d.rank; leads = d.leads; ranked = d.ranked; below = d.below }
-          | inr l ↦ let d = b.lower x r ranked (λ q. away (q ∙ home)) g l in record { to = d.to; rank = d.rank; leads = sym (ends_same old new same g x) ∙ d.leads; ranked = d.ranked; below = d.below }
-        ];
-      }
+-- The names that most proofs here cite, passed on from one place. Declares nothing.
+pub use Rattle.std.proofs.Common.{Bool, IfOk, List, None, Option, Some, [], ap, arith, cond, eq-eqb, eqb-true, false, inl, inr, length, min, not, refl, subst, suc, sym, take, true, zero, ℕ, ◌&&◌, ◌++◌, ◌+◌, ◌<◌, ◌==◌, ◌||◌, ◌∙◌, ◌∷◌, ◌≡◌, ◌≢◌, ◌≤◌}
+pub use Rattle.std.proofs.lemmas.Bool.{and_parts, eqb-false, or_cases, true≢false}
+pub use Rattle.std.specs.List.{AllByRecursion, list_any}
+pub use Rattle.std.specs.Option.{option_map, option_map_or}
+pub use Rattle.std.specs.Prelude.{filter, slice_get}
+pub use Rattle.tx_cert.specs.Certificate.{rank_at, ranks_of}
+pub use Rattle.tx_change.specs.ChangeFindings.{AreChangeFindings}
+pub use Rattle.tx_change.specs.ChangeNets.{IsTrueOfChange, change_net}
+pub use Rattle.tx_change.specs.ChangeReport.{finding_after}
+pub use Rattle.tx_change.specs.Shown.{IsShown, shown_by}
+pub use Rattle.tx_change.specs.inner.Changed.{IsChangedBelow}
+pub use Rattle.tx_change.specs.inner.Joined.{AreJoined, Joined}
+pub use Rattle.tx_change.specs.inner.Kept.{has_bar_as, has_route_as, keeps, keeps_bar, keeps_route}
+pub use Rattle.tx_machine.proofs.ChangingRuns.{sound_change}
+pub use Rattle.tx_machine.proofs.Lists.{any_mem, find_mem}
+pub use Rattle.tx_machine.specs.declared.event.Event.{Event}
+pub use Rattle.tx_plan.proofs.Among.{all_among, among_cases}
+pub use Rattle.tx_plan.proofs.CommonRanks.{mixture_certified}
+pub use Rattle.tx_plan.proofs.Networks.{ends_same, homes_same, origins_same}
+pub use Rattle.tx_plan.specs.Among.{Among}
+pub use Rattle.tx_plan.specs.Certified.{Ranks}
+pub use Rattle.tx_plan.specs.Mixtures.{AreCommon, EachMixture, IsMixture, SameNetwork}
+pub use Rattle.tx_plan.specs.Plan.{Plan, Route, home_of}
+pub use Rattle.tx_plan.specs.Routes.{is_barred, is_origin, is_origin_for, route_list}
+pub use Rattle.tx_plan.specs.Rules.{IsPlan}
+pub use Rattle.tx_rank.proofs.Certifying.{none_true}
+pub use Rattle.tx_rank.proofs.Looks.{among_at}
+pub use Rattle.tx_rank.specs.Findings.{IsTrueOf}
+pub use Rattle.tx_rank.specs.Grades.{CanBeCertified}
+pub use Rattle.tx_rank.specs.Judged.{IsJudged}
+pub use Rattle.tx_rank.specs.Nets.{Certifies, IsNet}
+pub use Rattle.tx_rank.specs.Walks.{net_of}
+pub use Rattle.tx_rank.specs.declared.finding.Finding.{Finding}
+pub use Rattle.tx_rank.specs.declared.finding.Finding.TheVariants.{Short}

@@ -1,14 +1,10 @@
 -- Members of a list that are kept, one index after another.
 use Rattle.std.proofs.Common.{◌≡◌, ◌≢◌, ℕ, zero, suc, ◌+◌, ◌==◌, Bool, true, false, not, cond, ◌&&◌, ◌||◌, List, [], ◌∷◌, ◌++◌, take, Option, Some, None, Result, Ok, Err, OnOk, IfOk, inl, inr, eqb-true, refl, sym, ap, ◌∙◌, arith, append_assoc}
 use mathlib.Core.Bool.{beq}
-use Rattle.std.specs.Prelude.{filter, slice_get}
-use Rattle.std.specs.Option.{option_map}
-use Rattle.std.specs.List.{list_any}
+use Rattle.tx_change.proofs.Common.{filter, slice_get, option_map, list_any, Plan, Route, route_list}
 use Rattle.std.proofs.lemmas.Bool.{ne_eqb, cases_eq, and_left, and_right, and_parts}
 use Rattle.tx_plan.specs.declared.ids.Pair.{Pair}
-use Rattle.tx_plan.specs.Plan.{Plan, Route}
 use Rattle.tx_plan.specs.Rules.{EachPair, IsPlan}
-use Rattle.tx_plan.specs.Routes.{route_list}
 use Rattle.tx_plan.proofs.Filtered.{any_out}
 use Rattle.tx_plan.proofs.ListFound.{list_found}
 use Rattle.tx_machine.proofs.Lists.{at_index}

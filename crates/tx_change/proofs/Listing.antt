@@ -1,34 +1,19 @@
 -- The findings of a change, code after code.
 use Rattle.std.proofs.Common.{◌≡◌, ◌≢◌, ℕ, zero, suc, ◌+◌, ◌<◌, ◌≤◌, true, false, eqb, eqb-true, List, [], ◌∷◌, ◌++◌, length, map, inl, inr, Option, Some, None, Result, Ok, Err, IfOk, refl, sym, ap, subst, ◌∙◌, arith, append_assoc, append-nil}
-use Rattle.std.proofs.lemmas.Bool.{eqb-false}
-use Rattle.std.specs.List.{AllByRecursion}
+use Rattle.tx_change.proofs.Common.{eqb-false, AllByRecursion, Plan, IsPlan, Ranks, Among, Finding, Short, Certifies, CanBeCertified, IsJudged, SameNetwork, EachMixture, AreCommon, mixture_certified, change_net, IsTrueOfChange, shown_by, IsShown, IsChangedBelow}
 use Rattle.tx_plan.proofs.Lists.{all_map}
-use Rattle.tx_plan.specs.Plan.{Plan}
-use Rattle.tx_plan.specs.Rules.{IsPlan}
 use Rattle.tx_plan.specs.Ambiguous.{ambiguous_of}
-use Rattle.tx_plan.specs.Certified.{Ranks}
-use Rattle.tx_plan.specs.Among.{Among}
 use Rattle.tx_cert.specs.Certificate.{Certificate, rank_at, no_ranks_for, ranks_of}
 use Rattle.tx_cert.proofs.Ranks.{none_ranked}
-use Rattle.tx_rank.specs.declared.finding.Finding.{Finding}
-use Rattle.tx_rank.specs.declared.finding.Finding.TheVariants.{Short}
 use Rattle.tx_rank.specs.Walks.{Walk, IsShort}
 use Rattle.tx_rank.specs.Heights.{RanksByHeight}
 use Rattle.tx_rank.specs.Findings.{IsLongIfAny, long_findings, AreFindingsOfCode, pair_findings}
 use Rattle.tx_rank.specs.Findings.AreFindingsOfCode.{looped, straight}
-use Rattle.tx_rank.specs.Nets.{Certifies}
-use Rattle.tx_rank.specs.Grades.{CanBeCertified}
-use Rattle.tx_rank.specs.Judged.{IsJudged}
 use Rattle.tx_rank.proofs.Certifying.{none_distinct, none_true}
 use Rattle.tx_rank.proofs.Listing.{front_none, back_none, no_pair}
-use Rattle.tx_plan.specs.Mixtures.{SameNetwork, EachMixture, AreCommon}
 use Rattle.tx_plan.proofs.Filtered.{all_joined}
-use Rattle.tx_plan.proofs.CommonRanks.{mixture_certified}
-use Rattle.tx_change.specs.ChangeNets.{change_net, IsTrueOfChange}
 use Rattle.tx_change.specs.ChangeFindings.{AreChangeFindingsBelow, AreChangeFindings}
-use Rattle.tx_change.specs.Shown.{shown_by, IsShown}
-use Rattle.tx_change.specs.inner.Changed.{IsChangedBelow}
-use Rattle.tx_change.proofs.Common.{common_codes}
+use Rattle.tx_change.proofs.CommonRanks.{common_codes}
 use Rattle.tx_change.proofs.ShownWalks.{shown_mixture, shown_true}
 
 -- what common ranks certify

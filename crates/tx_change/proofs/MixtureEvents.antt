@@ -1,18 +1,10 @@
 -- The mixture of the first finding that has a walk, and its events.
-use Rattle.std.proofs.Common.{◌≡◌, ℕ, List, Option, Some, None, refl, sym, subst}
+use Rattle.tx_change.proofs.Common.{◌≡◌, ℕ, List, Option, Some, None, refl, sym, subst, AllByRecursion, Plan, Event, find_mem, Finding, IsTrueOf, all_among, shown_by, IsShown}
 use Rattle.std.specs.Prelude.{is_some}
-use Rattle.std.specs.List.{AllByRecursion}
 use Rattle.std.specs.Option.{option_map, IfSome}
-use Rattle.tx_plan.specs.Plan.{Plan}
-use Rattle.tx_machine.specs.declared.event.Event.{Event}
-use Rattle.tx_machine.proofs.Lists.{find_mem}
-use Rattle.tx_rank.specs.declared.finding.Finding.{Finding}
-use Rattle.tx_rank.specs.Findings.{IsTrueOf}
-use Rattle.tx_plan.proofs.Among.{all_among}
 use Rattle.tx_script.specs.Events.{IsWritable}
 use Rattle.tx_audit.specs.Counter.{counter_of, has_counter}
 use Rattle.tx_audit.specs.Breaks.{Shows}
-use Rattle.tx_change.specs.Shown.{shown_by, IsShown}
 use Rattle.tx_change.specs.MixtureShown.{has_walk, first_walked, ShowsMixture, ShowsNewPlan}
 
 module _ {A : Type 0} (old new : Plan) (limit spare : ℕ) where

@@ -1,23 +1,13 @@
 -- Each walk of a change is a walk of a mixture: a walk uses one list of each exchange.
-use Rattle.std.proofs.Common.{◌≡◌, ◌≢◌, ℕ, ◌+◌, ◌<◌, ◌==◌, Bool, true, false, not, cond, ◌&&◌, ◌||◌, List, [], ◌∷◌, ◌++◌, inl, inr, length, refl, sym, ap, ◌∙◌, subst, arith, eq-eqb, eqb-true}
+use Rattle.tx_change.proofs.Common.{◌≡◌, ◌≢◌, ℕ, ◌+◌, ◌<◌, ◌==◌, Bool, true, false, not, cond, ◌&&◌, ◌||◌, List, [], ◌∷◌, ◌++◌, inl, inr, length, refl, sym, ap, ◌∙◌, subst, arith, eq-eqb, eqb-true, Plan, IsPlan, route_list, is_origin, is_origin_for, Among, among_cases, Finding, IsTrueOf, SameNetwork, IsMixture, origins_same, change_net, IsTrueOfChange}
 use Rattle.std.proofs.lemmas.Bool.{true≢false, ne_eqb, leb-true, leb-false}
-use Rattle.tx_plan.specs.Plan.{Plan}
-use Rattle.tx_plan.specs.Rules.{IsPlan}
-use Rattle.tx_plan.specs.Routes.{route_list, is_origin, is_origin_for}
-use Rattle.tx_plan.specs.Among.{Among}
-use Rattle.tx_plan.proofs.Among.{among_cases}
 use Rattle.tx_machine.proofs.Lists.{any_mem, mem_any}
-use Rattle.tx_rank.specs.declared.finding.Finding.{Finding}
 use Rattle.tx_rank.specs.declared.finding.Finding.TheVariants.{Ambiguous, Loop, Short, Long}
 use Rattle.tx_rank.specs.Walks.{AllDiffer, Goes, net_of, end_of, before_end, passed, IsWalk, IsLoop, IsShort, IsLong}
-use Rattle.tx_rank.specs.Findings.{IsTrueOf}
 use Rattle.tx_rank.proofs.PassedOnce.{before_once}
 use Rattle.tx_rank.proofs.Ways.{once_first, end_passed}
-use Rattle.tx_plan.specs.Mixtures.{SameNetwork, IsMixture}
 use Rattle.tx_plan.specs.Mixed.{mixed}
-use Rattle.tx_plan.proofs.Networks.{origins_same}
 use Rattle.tx_plan.proofs.Mixing.{list_new, list_old, bar_new, bar_old, mixed_mixture}
-use Rattle.tx_change.specs.ChangeNets.{change_net, IsTrueOfChange}
 use Rattle.tx_change.specs.Shown.{is_listed, takes_new, bars_new, is_long_before, shown_by}
 
 same_number : (x : ℕ) → (x == x) ≡ true

@@ -5,7 +5,7 @@ use Rattle.std.specs.Prelude.{option_and_then, if◌then◌else◌}
 use Rattle.std.proofs.lemmas.Bool.{and_parts, and_from, ltb-true, ltb-false, le-ltb, leb-false, lt-leb, eqb-true, ne_eqb, eq-eqb}
 use Rattle.tx_plan.specs.Plan.{Plan, Code, home_of}
 use Rattle.tx_plan.specs.Codes.{is_prefix}
-use Rattle.tx_plan.specs.Ambiguous.{ambiguous_of}
+use Rattle.tx_check.proofs.Common.{ambiguous_of, CheckFault, Short, TargetUnranked, NotLower}
 use Rattle.tx_plan.specs.Routes.{route_list, is_origin, is_origin_for}
 use Rattle.tx_plan.specs.Circuits.{other_end}
 use Rattle.tx_plan.specs.Certified.{Ranks, IsBelow, LeadsLower, LeadsDown, IsCertified}
@@ -13,8 +13,6 @@ use Rattle.tx_plan.specs.Rules.{IsPlan, IsCode, IsRange}
 use Rattle.tx_plan.specs.declared.range.LineRange.{LineRange}
 use Rattle.tx_plan.proofs.Ambiguity.{none-ambiguous, ambiguous-none}
 use Rattle.tx_plan.proofs.ByIndex.{entry_at, all_at}
-use Rattle.tx_check.specs.declared.fault.CheckFault.{CheckFault}
-use Rattle.tx_check.specs.declared.fault.CheckFault.TheVariants.{Short, TargetUnranked, NotLower}
 use Rattle.tx_check.specs.Checks.{at_exchanges, at_pairs, fault_if, is_rank, is_above, is_at_least, rank_away, rank_beyond, ambiguous_fault, ambiguous_faults, home_not_zero_at, home_not_zero_faults, origin_unranked_at, origin_unranked_faults, too_high_at, too_high_faults, too_short_at, too_short_faults, target_unranked_by, target_unranked_at, target_unranked_faults, not_lower_by, not_lower_at, not_lower_faults, check_faults, RanksOnly}
 use Rattle.tx_check.proofs.Finding.{fault_if-none, fault_if-false, append_none, none_append, at_none, none_at, each_none, none_each, all_from, all_both}
 

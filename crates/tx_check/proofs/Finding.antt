@@ -1,10 +1,7 @@
 -- Lists of what is found at each index: when they are empty, and what comes first.
-use Rattle.std.specs.Prelude.{find, if◌then◌else◌}
-use Rattle.std.specs.Option.{option_map}
+use Rattle.tx_check.proofs.Common.{find, if◌then◌else◌, option_map, CheckFault, fault_if, foremost}
 use Rattle.std.proofs.Common.{◌≡◌, ℕ, zero, suc, ◌+◌, ◌-◌, ◌<◌, Bool, true, false, List, [], ◌∷◌, ◌++◌, Option, Some, None, is_some, ◌≢◌, length, get_or, refl, sym, ap, ◌∙◌, subst, arith, below_more, get_or-set_other, get_or-set_same}
 use Rattle.std.specs.List.{slice_set, AllByRecursion, flat_map, range_with_len}
-use Rattle.tx_check.specs.declared.fault.CheckFault.{CheckFault}
-use Rattle.tx_check.specs.Checks.{fault_if, foremost}
 use Rattle.tx_check.specs.declared.lists.Firsts.{Firsts}
 use Rattle.tx_check.specs.inner.Firsts.{or_later, firsts_of, firsts_or}
 use Rattle.tx_text.proofs.Ranges.{flat_map-range_at, flat_map-range_more}

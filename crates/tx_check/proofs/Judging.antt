@@ -1,13 +1,5 @@
 -- The verdict on what was found first.
-use Rattle.std.specs.Option.{option_or}
-use Rattle.std.specs.Prelude.{if◌then◌else◌}
-use Rattle.std.proofs.Common.{◌≡◌, ℕ, ◌<◌, Bool, true, false, nat_lt, List, [], ◌∷◌, ◌++◌, length, Option, Some, None, refl, sym, ap, ◌∙◌}
-use Rattle.std.proofs.lemmas.Bool.{ltb-true}
-use Rattle.tx_plan.specs.Plan.{Plan}
-use Rattle.tx_plan.specs.Certified.{IsCertified}
-use Rattle.tx_plan.specs.Rules.{IsPlan}
-use Rattle.tx_cert.specs.Certificate.{Certificate, rank_at}
-use Rattle.tx_check.specs.declared.fault.CheckFault.{CheckFault}
+use Rattle.tx_check.proofs.Common.{option_or, if◌then◌else◌, ◌≡◌, ℕ, ◌<◌, Bool, true, false, nat_lt, List, [], ◌∷◌, ◌++◌, length, Option, Some, None, refl, sym, ap, ◌∙◌, ltb-true, Plan, IsCertified, IsPlan, Certificate, rank_at, CheckFault}
 use Rattle.tx_check.specs.declared.fault.CheckFault.TheVariants.{Ambiguous}
 use Rattle.tx_check.specs.declared.verdict.Verdict.TheVariants.{Yes, No}
 use Rattle.tx_check.specs.Checks.{ranks_for, RanksOnly, ambiguous_fault, check_faults, verdict_of, foremost}

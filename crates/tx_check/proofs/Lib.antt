@@ -4,3 +4,4 @@ pub mod Judging
 pub mod PairFaults
 pub mod Wrong
 pub mod OwnRanks
+pub mod Common

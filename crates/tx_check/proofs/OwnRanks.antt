@@ -1,11 +1,7 @@
 -- The ranks of a certificate of a plan are those that the checker reads.
-use Rattle.std.proofs.Common.{◌≡◌, ◌<◌, ℕ, Bool, true, false, nat_lt, length, Option, Some, None, refl, sym, ap, subst, arith}
-use Rattle.std.specs.Prelude.{if◌then◌else◌}
+use Rattle.tx_check.proofs.Common.{◌≡◌, ◌<◌, ℕ, Bool, true, false, nat_lt, length, Option, Some, None, refl, sym, ap, subst, arith, if◌then◌else◌, Plan, IsCertified, ranks_for}
 use Rattle.std.proofs.lemmas.Bool.{lt-ltb}
-use Rattle.tx_plan.specs.Plan.{Plan}
-use Rattle.tx_plan.specs.Certified.{IsCertified}
 use Rattle.tx_cert.specs.Certificate.{Certificate, IsCertificateOf, rank_at, ranks_of}
-use Rattle.tx_check.specs.Checks.{ranks_for}
 
 -- a certificate of the plan ranks no other exchanges than the plan's
 own_ranks : (p : Plan) (t : Certificate) → IsCertificateOf p t → ranks_of t ≡ ranks_for p t

@@ -1,14 +1,5 @@
 -- The faults of one route list.
-use Rattle.std.specs.Prelude.{find}
-use Rattle.std.specs.Option.{option_map}
-use Rattle.std.proofs.Common.{◌≡◌, ℕ, nat_le, List, length, Option, Some, is_none, sym, ap, ◌∙◌}
-use Rattle.tx_plan.specs.Plan.{Plan}
-use Rattle.tx_plan.specs.Certified.{Ranks}
-use Rattle.tx_plan.specs.Routes.{route_list}
-use Rattle.tx_check.specs.declared.fault.CheckFault.{CheckFault}
-use Rattle.tx_check.specs.declared.fault.CheckFault.TheVariants.{Short, TargetUnranked, NotLower}
-use Rattle.tx_check.specs.Checks.{rank_away, rank_beyond, is_at_least, fault_if, foremost, too_short_at, target_unranked_at, not_lower_at}
-use Rattle.tx_check.specs.inner.Firsts.{firsts_of}
+use Rattle.tx_check.proofs.Common.{find, option_map, ◌≡◌, ℕ, nat_le, List, length, Option, Some, is_none, sym, ap, ◌∙◌, Plan, Ranks, route_list, CheckFault, Short, TargetUnranked, NotLower, rank_away, rank_beyond, is_at_least, fault_if, foremost, too_short_at, target_unranked_at, not_lower_at, firsts_of}
 use Rattle.tx_check.proofs.Finding.{first_member}
 
 pub pair_firsts : (p : Plan) (ranks : Ranks) (spare c x rank : ℕ) (gs : List ℕ) (u v : Option ℕ) (a b d : Option CheckFault) → rank_away p ranks c x ≡ Some rank → gs ≡ route_list p x c

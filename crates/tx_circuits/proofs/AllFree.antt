@@ -1,20 +1,8 @@
 -- The slots of a group whose circuits are all free, each linked to the next one.
-use Rattle.std.proofs.Common.{◌≡◌, ◌∙◌, ℕ, zero, suc, ◌+◌, ◌-◌, ◌<◌, ◌≤◌, inl, inr, true, false, List, [], ◌∷◌, ◌++◌, length, map, Some, None, slice_index_or, refl, sym, ap, subst, arith}
-use Rattle.std.specs.Prelude.{replicate, if◌then◌else◌}
-use Rattle.std.specs.List.{range_with_len}
+use Rattle.tx_circuits.proofs.Common.{◌≡◌, ◌∙◌, ℕ, zero, suc, ◌+◌, ◌-◌, ◌<◌, ◌≤◌, inl, inr, true, false, List, [], ◌∷◌, ◌++◌, length, map, Some, None, slice_index_or, refl, sym, ap, subst, arith, replicate, if◌then◌else◌, range_with_len, End, First, Other, Way, Up, Down, CircuitState, Slot, FreeList, FreeLists, IsFirst, idle, free_slot}
 use Rattle.std.proofs.lemmas.List.{append-nil, append_assoc, get_or-replicate, length-replicate}
 use Rattle.std.proofs.lemmas.List.FromFn.{length-map-range_with_len, get_or-map-range_with_len, map-range_with_len_more}
-use Rattle.tx_circuits.specs.declared.lists.End.{End}
-use Rattle.tx_circuits.specs.declared.lists.End.TheVariants.{First, Other}
-use Rattle.tx_circuits.specs.declared.lists.Way.{Way}
-use Rattle.tx_circuits.specs.declared.lists.Way.TheVariants.{Up, Down}
-use Rattle.tx_circuits.specs.declared.slot.CircuitState.{CircuitState}
-use Rattle.tx_circuits.specs.declared.slot.Slot.{Slot}
-use Rattle.tx_circuits.specs.declared.lists.FreeList.{FreeList}
-use Rattle.tx_circuits.specs.declared.lists.FreeLists.{FreeLists}
-use Rattle.tx_circuits.specs.inner.Linked.{IsFirst}
 use Rattle.tx_circuits.specs.inner.Slots.{is_free, free_at, link_at, links_of, ahead, chain, rank_of, list_of, least_from, greatest_before, list_of_all, state_of, IsSound}
-use Rattle.tx_circuits.specs.inner.Groups.{idle, free_slot}
 use Rattle.tx_circuits.proofs.Appending.{ltb_tells}
 use Rattle.tx_circuits.proofs.Columns.{column_at}
 use Rattle.tx_circuits.proofs.Indexes.{free_within, each_end}

@@ -1,12 +1,7 @@
 -- A free circuit is put after all others of a list that holds those below it.
-use Rattle.std.proofs.Common.{◌≡◌, ◌≢◌, ◌∙◌, ℕ, ◌+◌, ◌-◌, ◌<◌, ◌≤◌, ◌⊎◌, inl, inr, Bool, true, false, Option, Some, None, refl, sym, ap, arith}
-use Rattle.std.specs.Prelude.{nat_lt, ◌&&◌, unwrap_or}
+use Rattle.tx_circuits.proofs.Common.{◌≡◌, ◌≢◌, ◌∙◌, ℕ, ◌+◌, ◌-◌, ◌<◌, ◌≤◌, ◌⊎◌, inl, inr, Bool, true, false, Option, Some, None, refl, sym, ap, arith, nat_lt, ◌&&◌, unwrap_or, eqb_tells, nat_tests, Up, Down, IsFirst, IsLast, until, rank_of}
 use Rattle.std.proofs.lemmas.Bool.{and_parts, and_from, and_right}
-use Rattle.std.proofs.lemmas.Bool.Decides.{eqb_tells, nat_tests}
 use Rattle.tx_plan.proofs.Lists.{below}
-use Rattle.tx_circuits.specs.declared.lists.Way.TheVariants.{Up, Down}
-use Rattle.tx_circuits.specs.inner.Linked.{IsFirst, IsLast}
-use Rattle.tx_circuits.specs.inner.Slots.{until, rank_of}
 use Rattle.tx_circuits.proofs.Linked.{le_or}
 
 lt_false : (k n : ℕ) → n ≤ k → nat_lt k n ≡ false

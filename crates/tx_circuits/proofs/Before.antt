@@ -1,9 +1,5 @@
 -- A walk along a list, as far as an index.
-use Rattle.std.proofs.Common.{◌≡◌, ℕ, ◌+◌, ◌-◌, ◌<◌, ◌≤◌, inl, inr, Bool, true, Option, Some, None, arith}
-use Rattle.tx_circuits.specs.declared.lists.Way.{Way}
-use Rattle.tx_circuits.specs.declared.lists.Way.TheVariants.{Up, Down}
-use Rattle.tx_circuits.specs.inner.Linked.{IsFirst, IsLast}
-use Rattle.tx_circuits.specs.inner.Slots.{rank_of}
+use Rattle.tx_circuits.proofs.Common.{◌≡◌, ℕ, ◌+◌, ◌-◌, ◌<◌, ◌≤◌, inl, inr, Bool, true, Option, Some, None, arith, Way, Up, Down, IsFirst, IsLast, rank_of}
 use Rattle.tx_circuits.proofs.Linked.{le_or}
 
 -- how far the order goes on from here

@@ -1,24 +1,8 @@
 -- A table as it is built.
-use Rattle.std.proofs.Common.{◌≡◌, ◌∙◌, ℕ, zero, suc, Bool, false, List, [], ◌∷◌, ◌++◌, length, map, take, Option, Some, None, refl, ap}
-use Rattle.std.specs.Prelude.{slice_get, option_and_then, replicate}
-use Rattle.std.specs.Option.{option_map, option_map_or}
-use Rattle.std.specs.Cmp.{nat_cmp_total}
-use Rattle.std.proofs.lemmas.Option.{slice_get-map}
-use Rattle.std.proofs.lemmas.List.{length-replicate}
-use Rattle.std.proofs.lemmas.Map.Lookups.{exact_unsigned}
-use Rattle.tx_plan.specs.Plan.{Plan, Group}
+use Rattle.tx_circuits.proofs.Common.{◌≡◌, ◌∙◌, ℕ, zero, suc, Bool, false, List, [], ◌∷◌, ◌++◌, length, map, take, Option, Some, None, refl, ap, slice_get, option_and_then, replicate, option_map, option_map_or, nat_cmp_total, slice_get-map, length-replicate, exact_unsigned, Plan, Group, Circuit, circuits_total, exact_circuits, End, First, Other, CircuitState, GroupHead, has_seized, rising, GroupState, entry_numbered, end_at, idle, group_of, circuits_of, seats_of, gathered_keys, is_marked, holds, sits, table_of}
 use Rattle.tx_plan.specs.Circuits.{direction_of, count_of, ends_of}
-use Rattle.tx_plan.specs.declared.ids.Circuit.{Circuit}
 use Rattle.tx_plan.specs.declared.ids.Direction.TheVariants.{OneWay}
-use Rattle.tx_plan.proofs.Named.{circuits_total, exact_circuits}
-use Rattle.tx_circuits.specs.declared.lists.End.{End}
-use Rattle.tx_circuits.specs.declared.lists.End.TheVariants.{First, Other}
-use Rattle.tx_circuits.specs.declared.slot.CircuitState.{CircuitState}
-use Rattle.tx_circuits.specs.declared.groups.GroupHead.{GroupHead}
-use Rattle.tx_circuits.specs.inner.Slots.{has_seized, rising}
-use Rattle.tx_circuits.specs.inner.Groups.{GroupState, entry_numbered, end_at, idle}
 use Rattle.tx_circuits.specs.Table.{Seat, all_free, without_name}
-use Rattle.tx_circuits.specs.inner.Seen.{group_of, circuits_of, seats_of, gathered_keys, is_marked, holds, sits, table_of}
 use Rattle.tx_circuits.proofs.Seats.{seats_total, exact_seats}
 use Rattle.tx_circuits.proofs.Those.{those_none}
 

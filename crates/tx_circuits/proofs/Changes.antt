@@ -1,24 +1,5 @@
 -- What the sets are after one circuit has got another state.
-use Rattle.std.proofs.Common.{◌≡◌, ◌≢◌, ◌∙◌, ℕ, zero, suc, ◌<◌, ◌⊎◌, inl, inr, Bool, true, false, List, [], ◌∷◌, length, map, Option, Some, None, refl, sym, ap, subst, arith, length-set}
-use Rattle.std.specs.Prelude.{slice_get, option_and_then, not, ◌&&◌}
-use Rattle.std.specs.Option.{option_map, option_map_or}
-use Rattle.std.specs.FinSet.{insert, remove, retain}
-use Rattle.std.specs.Cmp.{nat_cmp_total}
-use Rattle.std.specs.Ordering.{nat_cmp}
-use Rattle.std.proofs.lemmas.Bool.Decides.{eqb_tells}
-use Rattle.std.proofs.lemmas.Map.Lookups.{exact_unsigned}
-use Rattle.std.proofs.Math.Bool.{and-true, and-false}
-use Rattle.tx_plan.specs.Orders.{same_circuit, circuit_cmp}
-use Rattle.tx_plan.specs.declared.ids.Circuit.{Circuit}
-use Rattle.tx_plan.proofs.Named.{circuits_total, exact_circuits, same_circuit-is, same_circuit-itself}
-use Rattle.tx_circuits.specs.declared.lists.End.{End}
-use Rattle.tx_circuits.specs.declared.lists.End.TheVariants.{First, Other}
-use Rattle.tx_circuits.specs.declared.slot.CircuitState.{CircuitState}
-use Rattle.tx_circuits.specs.declared.groups.GroupHead.{GroupHead}
-use Rattle.tx_circuits.specs.inner.Slots.{has_seized, opposite, rising}
-use Rattle.tx_circuits.specs.inner.Groups.{GroupState, state_at, entry_numbered, set_numbered, seizing_end, end_at, with_state, change_at}
-use Rattle.tx_circuits.specs.Table.{Seat, seat_cmp}
-use Rattle.tx_circuits.specs.inner.Seen.{those, group_of, circuits_of, seats_of, gathered_keys, is_marked, holds, sits}
+use Rattle.tx_circuits.proofs.Common.{◌≡◌, ◌≢◌, ◌∙◌, ℕ, zero, suc, ◌<◌, ◌⊎◌, inl, inr, Bool, true, false, List, [], ◌∷◌, length, map, Option, Some, None, refl, sym, ap, subst, arith, length-set, slice_get, option_and_then, not, ◌&&◌, option_map, option_map_or, insert, remove, retain, nat_cmp_total, nat_cmp, eqb_tells, exact_unsigned, and-true, and-false, same_circuit, circuit_cmp, Circuit, circuits_total, exact_circuits, same_circuit-is, same_circuit-itself, End, First, Other, CircuitState, GroupHead, has_seized, opposite, rising, GroupState, state_at, entry_numbered, set_numbered, seizing_end, end_at, with_state, change_at, Seat, seat_cmp, those, group_of, circuits_of, seats_of, gathered_keys, is_marked, holds, sits}
 use Rattle.tx_circuits.proofs.FreeLists.{get-change_here, get-change_there, get-set_here, get-set_there}
 use Rattle.tx_circuits.proofs.Members.{Known, holds_in, sits_in, marked_in, end_is}
 use Rattle.tx_circuits.proofs.Seats.{seats_total, exact_seats}

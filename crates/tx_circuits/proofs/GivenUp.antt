@@ -1,15 +1,5 @@
 -- An exchange gives its seizure of a circuit up, and the circuit is releasing unless the far end keeps it.
-use Rattle.std.proofs.Common.{◌≡◌, ◌∙◌, ℕ, zero, suc, Bool, true, false, List, [], ◌∷◌, Some, refl, sym, ap, slice_set}
-use Rattle.std.specs.Prelude.{is_some, if◌then◌else◌}
-use Rattle.std.specs.Option.{option_map_or}
-use Rattle.std.specs.FinSet.{contains}
-use Rattle.tx_plan.specs.declared.ids.Circuit.{Circuit}
-use Rattle.tx_circuits.specs.declared.lists.End.{End}
-use Rattle.tx_circuits.specs.declared.slot.CircuitState.{CircuitState}
-use Rattle.tx_circuits.specs.inner.Slots.{has_seized, with_seized}
-use Rattle.tx_circuits.specs.inner.Groups.{GroupState, state_at, end_at, set_numbered, with_state, change_at}
-use Rattle.tx_circuits.specs.Table.{Table, withdrawn, with_released, released_unless}
-use Rattle.tx_circuits.specs.inner.Seen.{table_of}
+use Rattle.tx_circuits.proofs.Common.{◌≡◌, ◌∙◌, ℕ, zero, suc, Bool, true, false, List, [], ◌∷◌, Some, refl, sym, ap, slice_set, is_some, if◌then◌else◌, option_map_or, contains, Circuit, End, CircuitState, has_seized, with_seized, GroupState, state_at, end_at, set_numbered, with_state, change_at, Table, withdrawn, with_released, released_unless, table_of}
 use Rattle.tx_circuits.proofs.Members.{Known, known}
 use Rattle.tx_circuits.proofs.Reading.{contains_seats}
 use Rattle.tx_circuits.proofs.Changes.{state_here, seat_now}

@@ -1,14 +1,5 @@
 -- The head of a free list is the first free index, as the end looks.
-use Rattle.std.proofs.Common.{◌≡◌, ◌∙◌, ℕ, Bool, true, false, cond, List, [], ◌∷◌, length, map, Option, Some, None, sym, ap}
-use Rattle.std.specs.Prelude.{filter, find}
-use Rattle.std.proofs.lemmas.List.{length-map}
-use Rattle.tx_circuits.specs.declared.lists.End.{End}
-use Rattle.tx_circuits.specs.declared.slot.Slot.{Slot}
-use Rattle.tx_circuits.specs.declared.lists.FreeLists.{FreeLists}
-use Rattle.tx_circuits.specs.declared.groups.GroupHead.{GroupHead}
-use Rattle.tx_circuits.specs.inner.Linked.{Follows}
-use Rattle.tx_circuits.specs.inner.Slots.{chain, free_at, list_of, in_order, state_of, IsSound}
-use Rattle.tx_circuits.specs.inner.Groups.{first_index, way_of}
+use Rattle.tx_circuits.proofs.Common.{◌≡◌, ◌∙◌, ℕ, Bool, true, false, cond, List, [], ◌∷◌, length, map, Option, Some, None, sym, ap, filter, find, length-map, End, Slot, FreeLists, GroupHead, Follows, chain, free_at, list_of, in_order, state_of, IsSound, first_index, way_of}
 
 head_is : (next : Option ℕ → Option ℕ) (q : Option ℕ) (p : ℕ → Bool) (xs : List ℕ) → Follows next q (filter p xs) → next q ≡ find p xs
 head_is next q p [] f = f

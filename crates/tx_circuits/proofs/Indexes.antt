@@ -1,15 +1,6 @@
 -- Free circuits lie in the group; what an index has beside it in a list.
-use Rattle.std.proofs.Common.{◌≡◌, ◌≢◌, ℕ, zero, suc, ◌+◌, ◌<◌, ◌≤◌, Bool, true, false, List, [], ◌∷◌, length, map, slice_index_or, Option, Some, None, refl, sym, subst, ap, ◌∙◌, arith}
-use Rattle.std.specs.Prelude.{IfSome, unwrap_or}
+use Rattle.tx_circuits.proofs.Common.{◌≡◌, ◌≢◌, ℕ, zero, suc, ◌+◌, ◌<◌, ◌≤◌, Bool, true, false, List, [], ◌∷◌, length, map, slice_index_or, Option, Some, None, refl, sym, subst, ap, ◌∙◌, arith, IfSome, unwrap_or, First, Other, length-map, End, Way, Up, Down, Slot, IsFirst, IsLast, IsLinked, with, free_at, is_free, state_of, rank_of, back}
 use mathlib.Core.Bool.{beq}
-use Rattle.tx_circuits.specs.declared.lists.End.TheVariants.{First, Other}
-use Rattle.std.proofs.lemmas.List.{length-map}
-use Rattle.tx_circuits.specs.declared.lists.End.{End}
-use Rattle.tx_circuits.specs.declared.lists.Way.{Way}
-use Rattle.tx_circuits.specs.declared.lists.Way.TheVariants.{Up, Down}
-use Rattle.tx_circuits.specs.declared.slot.Slot.{Slot}
-use Rattle.tx_circuits.specs.inner.Linked.{IsFirst, IsLast, IsLinked, with}
-use Rattle.tx_circuits.specs.inner.Slots.{free_at, is_free, state_of, rank_of, back}
 use Rattle.tx_circuits.proofs.Columns.{column_at}
 use Rattle.tx_circuits.proofs.Linked.{beyond, are_ranked, with_here, with_there, after_last, to_last}
 

@@ -1,21 +1,10 @@
 -- The groups lie one after another in the vector: a write to one leaves the others.
-use Rattle.std.proofs.Common.{◌≡◌, ◌≢◌, ◌∙◌, ℕ, zero, suc, ◌+◌, ◌-◌, ◌<◌, ◌≤◌, inl, inr, true, List, [], ◌∷◌, ◌++◌, length, map, take, drop, Some, slice_index_or, slice_set, refl, sym, ap, subst, arith}
-use Rattle.std.specs.Prelude.{slice_get, is_some, replicate}
-use Rattle.std.specs.Option.{option_map}
+use Rattle.tx_circuits.proofs.Common.{◌≡◌, ◌≢◌, ◌∙◌, ℕ, zero, suc, ◌+◌, ◌-◌, ◌<◌, ◌≤◌, inl, inr, true, List, [], ◌∷◌, ◌++◌, length, map, take, drop, Some, slice_index_or, slice_set, refl, sym, ap, subst, arith, slice_get, is_some, replicate, option_map, eqb_tells, length-map-range_with_len, slice_get-map, slice_get_within, Slot, End, Row, GroupHead, state_of, list_of, list_of_all, IsSound, GroupState, group_slots, group_state, entry_numbered, set_numbered, change_at, idle, free_slot, AreKept, AreApart, IsAppended}
 use Rattle.std.specs.List.{between, range_with_len}
-use Rattle.std.proofs.lemmas.Bool.Decides.{eqb_tells}
 use Rattle.std.proofs.lemmas.List.{length-map, take_all, drop_at, take-append-le, length-append, map_push}
-use Rattle.std.proofs.lemmas.List.FromFn.{length-map-range_with_len}
 use Rattle.std.proofs.lemmas.List.Edits.{length-between, get_or-between}
-use Rattle.std.proofs.lemmas.Option.{slice_get-map, slice_get_within}
 use Rattle.std.proofs.lemmas.Slice.{between_is, take-put_mid_below, drop-put_mid, between-put_mid}
 use borrow.Rule.Slice.PartMut.{put_mid}
-use Rattle.tx_circuits.specs.declared.slot.Slot.{Slot}
-use Rattle.tx_circuits.specs.declared.lists.End.{End}
-use Rattle.tx_circuits.specs.declared.groups.Row.{Row}
-use Rattle.tx_circuits.specs.declared.groups.GroupHead.{GroupHead}
-use Rattle.tx_circuits.specs.inner.Slots.{state_of, list_of, list_of_all, IsSound}
-use Rattle.tx_circuits.specs.inner.Groups.{GroupState, group_slots, group_state, entry_numbered, set_numbered, change_at, idle, free_slot, AreKept, AreApart, IsAppended}
 use Rattle.tx_circuits.proofs.AllFree.{all_idle, all_sound}
 use Rattle.tx_circuits.proofs.Linked.{le_or}
 use Rattle.tx_circuits.proofs.FreeLists.{get_is, get-set_here, get-set_there, some_is, pushed_is, map-set_change}

@@ -19,3 +19,4 @@ pub mod Steps
 pub mod Those
 pub mod Unnamed
 pub mod Updates
+pub mod Common

@@ -1,11 +1,6 @@
 -- A free index is put on a list, or taken off it; and a list is linked exactly where its links give the free indexes in order.
-use Rattle.std.proofs.Common.{◌≡◌, ◌≢◌, ℕ, ◌+◌, ◌-◌, ◌<◌, ◌≤◌, ◌⊎◌, inl, inr, Bool, true, false, cond, Option, Some, None, refl, sym, ap, subst, ◌∙◌, arith, eq-eqb}
-use Rattle.std.specs.Prelude.{unwrap_or}
+use Rattle.tx_circuits.proofs.Common.{◌≡◌, ◌≢◌, ℕ, ◌+◌, ◌-◌, ◌<◌, ◌≤◌, ◌⊎◌, inl, inr, Bool, true, false, cond, Option, Some, None, refl, sym, ap, subst, ◌∙◌, arith, eq-eqb, unwrap_or, Way, Up, Down, IsFirst, IsLast, IsLinked, with, rank_of, back}
 use Rattle.std.proofs.lemmas.Bool.Decides.{leb_tells, eqb_tells}
-use Rattle.tx_circuits.specs.declared.lists.Way.{Way}
-use Rattle.tx_circuits.specs.declared.lists.Way.TheVariants.{Up, Down}
-use Rattle.tx_circuits.specs.inner.Linked.{IsFirst, IsLast, IsLinked, with}
-use Rattle.tx_circuits.specs.inner.Slots.{rank_of, back}
 
 -- a function with another value, at the index and elsewhere
 pub with_here : {A : Type 0} (f : ℕ → A) (i : ℕ) (y : A) → with f i y i ≡ y

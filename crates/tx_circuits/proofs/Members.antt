@@ -1,20 +1,5 @@
 -- What the groups hold is among all their circuits and ends.
-use Rattle.std.proofs.Common.{◌≡◌, ◌∙◌, ℕ, zero, suc, ◌+◌, ◌<◌, ◌⊎◌, inl, inr, Bool, true, false, ◌==◌, List, [], ◌∷◌, length, map, Option, Some, None, refl, sym, ap, subst, arith, eqb-true}
-use Rattle.std.specs.Prelude.{slice_get, is_some, option_and_then, if◌then◌else◌, ◌&&◌}
-use Rattle.std.specs.Option.{option_map_or}
-use Rattle.std.proofs.lemmas.Bool.{and_parts}
-use Rattle.std.proofs.lemmas.Option.{slice_get_within}
-use Rattle.tx_plan.specs.Circuits.{upward, is_both}
-use Rattle.tx_plan.specs.declared.ids.Circuit.{Circuit}
-use Rattle.tx_circuits.specs.declared.lists.End.{End}
-use Rattle.tx_circuits.specs.declared.lists.End.TheVariants.{First, Other}
-use Rattle.tx_circuits.specs.declared.lists.Way.TheVariants.{Up}
-use Rattle.tx_circuits.specs.declared.slot.CircuitState.{CircuitState}
-use Rattle.tx_circuits.specs.declared.groups.GroupHead.{GroupHead}
-use Rattle.tx_circuits.specs.inner.Slots.{has_seized, rising}
-use Rattle.tx_circuits.specs.inner.Groups.{GroupState, state_at, entry_numbered, seizing_end, end_at}
-use Rattle.tx_circuits.specs.Table.{Seat}
-use Rattle.tx_circuits.specs.inner.Seen.{circuits_of, seats_of, gathered_keys, is_marked, holds, sits}
+use Rattle.tx_circuits.proofs.Common.{◌≡◌, ◌∙◌, ℕ, zero, suc, ◌+◌, ◌<◌, ◌⊎◌, inl, inr, Bool, true, false, ◌==◌, List, [], ◌∷◌, length, map, Option, Some, None, refl, sym, ap, subst, arith, eqb-true, slice_get, is_some, option_and_then, if◌then◌else◌, ◌&&◌, option_map_or, and_parts, slice_get_within, upward, is_both, Circuit, End, First, Other, Up, CircuitState, GroupHead, has_seized, rising, GroupState, state_at, entry_numbered, seizing_end, end_at, Seat, circuits_of, seats_of, gathered_keys, is_marked, holds, sits}
 use Rattle.tx_circuits.proofs.Ordered.{In, from_left, from_right, member}
 use Rattle.tx_circuits.proofs.Linked.{le_or}
 use Rattle.tx_circuits.proofs.Kept.{number_in}

@@ -1,10 +1,5 @@
 -- A list is linked exactly where its links give the free indexes in order.
-use Rattle.std.proofs.Common.{◌≡◌, ℕ, zero, suc, ◌+◌, ◌-◌, ◌<◌, ◌≤◌, ◌⊎◌, inl, inr, Bool, true, false, cond, List, [], ◌∷◌, ◌++◌, Option, Some, None, refl, sym, ap, subst, ◌∙◌, arith}
-use Rattle.std.specs.Prelude.{filter}
-use Rattle.tx_circuits.specs.declared.lists.Way.{Way}
-use Rattle.tx_circuits.specs.declared.lists.Way.TheVariants.{Up, Down}
-use Rattle.tx_circuits.specs.inner.Linked.{IsFirst, IsLinked, Follows}
-use Rattle.tx_circuits.specs.inner.Slots.{rank_of, rising, falling, in_order}
+use Rattle.tx_circuits.proofs.Common.{◌≡◌, ℕ, zero, suc, ◌+◌, ◌-◌, ◌<◌, ◌≤◌, ◌⊎◌, inl, inr, Bool, true, false, cond, List, [], ◌∷◌, ◌++◌, Option, Some, None, refl, sym, ap, subst, ◌∙◌, arith, filter, Way, Up, Down, IsFirst, IsLinked, Follows, rank_of, rising, falling, in_order}
 use Rattle.tx_circuits.proofs.Linked.{le_or}
 
 abbrev pub In : {A : Type 0} → List A → A → Type 0

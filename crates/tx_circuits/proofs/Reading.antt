@@ -1,25 +1,6 @@
 -- What the readers of the table answer, in terms of the groups.
-use Rattle.std.proofs.Common.{◌≡◌, ◌∙◌, ℕ, zero, suc, ◌<◌, inl, inr, Bool, true, false, cond, ◌==◌, List, [], ◌∷◌, ◌++◌, length, map, Option, Some, None, slice_index_or, refl, sym, ap, arith}
-use Rattle.std.specs.Prelude.{slice_get, is_some, option_and_then, not, ◌&&◌, ◌||◌, nat_le, find, if◌then◌else◌}
-use Rattle.std.specs.Option.{option_map, option_map_or}
-use Rattle.std.specs.FinSet.{contains}
-use Rattle.std.specs.Cmp.{nat_cmp_total}
-use Rattle.std.specs.Ordering.{nat_cmp}
-use Rattle.std.proofs.lemmas.Option.{slice_get-map}
-use Rattle.std.proofs.lemmas.Bool.Decides.{nat_tests}
-use Rattle.std.proofs.lemmas.Map.Lookups.{exact_unsigned}
+use Rattle.tx_circuits.proofs.Common.{◌≡◌, ◌∙◌, ℕ, zero, suc, ◌<◌, inl, inr, Bool, true, false, cond, ◌==◌, List, [], ◌∷◌, ◌++◌, length, map, Option, Some, None, slice_index_or, refl, sym, ap, arith, slice_get, is_some, option_and_then, not, ◌&&◌, ◌||◌, nat_le, find, if◌then◌else◌, option_map, option_map_or, contains, nat_cmp_total, nat_cmp, slice_get-map, nat_tests, exact_unsigned, circuit_cmp, Circuit, circuits_total, exact_circuits, End, First, Other, CircuitState, GroupHead, has_seized, is_free, free_in, in_order, rising, falling, GroupState, state_at, entry_numbered, seizing_end, end_at, first_index, way_of, idle, Seat, seat_cmp, plan_of, is_free_at, is_down, first_free, those, group_of, circuits_of, seats_of, gathered_keys, is_marked, holds, sits, table_of}
 use Rattle.tx_plan.specs.Circuits.{is_both, is_circuit, may_seize, may_seize_row, circuits_at, order_at, upward, downward}
-use Rattle.tx_plan.specs.Orders.{circuit_cmp}
-use Rattle.tx_plan.specs.declared.ids.Circuit.{Circuit}
-use Rattle.tx_plan.proofs.Named.{circuits_total, exact_circuits}
-use Rattle.tx_circuits.specs.declared.lists.End.{End}
-use Rattle.tx_circuits.specs.declared.lists.End.TheVariants.{First, Other}
-use Rattle.tx_circuits.specs.declared.slot.CircuitState.{CircuitState}
-use Rattle.tx_circuits.specs.declared.groups.GroupHead.{GroupHead}
-use Rattle.tx_circuits.specs.inner.Slots.{has_seized, is_free, free_in, in_order, rising, falling}
-use Rattle.tx_circuits.specs.inner.Groups.{GroupState, state_at, entry_numbered, seizing_end, end_at, first_index, way_of, idle}
-use Rattle.tx_circuits.specs.Table.{Seat, seat_cmp, plan_of, is_free_at, is_down, first_free}
-use Rattle.tx_circuits.specs.inner.Seen.{those, group_of, circuits_of, seats_of, gathered_keys, is_marked, holds, sits, table_of}
 use Rattle.tx_circuits.proofs.Columns.{column_at}
 use Rattle.tx_circuits.proofs.FreeLists.{get_is}
 use Rattle.tx_circuits.proofs.Ordered.{In, below}

@@ -1,16 +1,8 @@
 -- The order of the ends of circuits is total and exact, and two tie where they are one.
-use Rattle.std.proofs.Common.{◌≡◌, ℕ, ◌==◌, ◌&&◌, ap, sym, ◌∙◌, eqb-true, eq-eqb}
-use Rattle.std.specs.Ordering.{nat_cmp, eq_by_cmp, is_eq}
-use Rattle.std.specs.declared.cmp.Ordering.TheVariants.{Equal}
-use Rattle.std.specs.Cmp.{IsTotalOrder, nat_cmp_total, Equal-is}
-use Rattle.std.proofs.lemmas.Bool.{and_parts, and_from}
+use Rattle.tx_circuits.proofs.Common.{◌≡◌, ℕ, ◌==◌, ◌&&◌, ap, sym, ◌∙◌, eqb-true, eq-eqb, nat_cmp, eq_by_cmp, is_eq, Equal, IsTotalOrder, nat_cmp_total, Equal-is, and_parts, and_from, same_circuit, circuit_cmp, Circuit, circuits_total, exact_circuits, same_circuit-is, same_circuit-itself, Seat, seat_cmp}
 use Rattle.std.proofs.lemmas.Bool.Decides.{same_from_decides}
 use Rattle.std.proofs.lemmas.Cmp.{on_total, then_total, tied_itself}
 use Rattle.std.proofs.lemmas.Map.Lookups.{exact_pairs, exact_unsigned}
-use Rattle.tx_plan.specs.Orders.{same_circuit, circuit_cmp}
-use Rattle.tx_plan.specs.declared.ids.Circuit.{Circuit}
-use Rattle.tx_plan.proofs.Named.{circuits_total, exact_circuits, same_circuit-is, same_circuit-itself}
-use Rattle.tx_circuits.specs.Table.{Seat, seat_cmp}
 
 pub seats_total : IsTotalOrder seat_cmp
 seats_total = then_total (on_total (λ (s : Seat). s.0) circuits_total) (on_total (λ (s : Seat). s.1) nat_cmp_total)

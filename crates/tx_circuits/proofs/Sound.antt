@@ -1,16 +1,7 @@
 -- The lists of a group: as they are said, and as they are linked.
-use Rattle.std.proofs.Common.{◌≡◌, ◌∙◌, ℕ, ◌+◌, ◌<◌, ◌≤◌, Bool, true, false, List, [], ◌∷◌, ◌++◌, length, map, take, drop, Option, Some, None, slice_index_or, slice_set, refl, sym, ap, subst, arith}
-use Rattle.std.specs.Prelude.{filter, nat_lt, ◌&&◌}
-use Rattle.tx_circuits.specs.declared.lists.End.{End}
-use Rattle.tx_circuits.specs.declared.lists.End.TheVariants.{First, Other}
-use Rattle.tx_circuits.specs.declared.lists.Way.{Way}
-use Rattle.tx_circuits.specs.declared.slot.Slot.{Slot}
-use Rattle.tx_circuits.specs.declared.slot.CircuitState.{CircuitState}
-use Rattle.tx_circuits.specs.declared.lists.FreeList.{FreeList}
-use Rattle.tx_circuits.specs.declared.lists.FreeLists.{FreeLists}
+use Rattle.tx_circuits.proofs.Common.{◌≡◌, ◌∙◌, ℕ, ◌+◌, ◌<◌, ◌≤◌, Bool, true, false, List, [], ◌∷◌, ◌++◌, length, map, take, drop, Option, Some, None, slice_index_or, slice_set, refl, sym, ap, subst, arith, filter, nat_lt, ◌&&◌, End, First, Other, Way, Slot, CircuitState, FreeList, FreeLists, IsFirst, with}
 use Rattle.std.proofs.lemmas.List.{length-map, map-set, get_or_default}
 use Rattle.std.proofs.lemmas.List.Edits.{map_over_more}
-use Rattle.tx_circuits.specs.inner.Linked.{IsFirst, with}
 use Rattle.tx_circuits.specs.inner.Slots.{free_at, free_in, is_free, links_of, ahead, link_at, chain, rank_of, list_of, begins, until, in_order, state_of, cleared_state, IsListed, AreLinked, IsSound}
 use Rattle.tx_circuits.proofs.Columns.{column-set, column_same}
 use Rattle.tx_circuits.proofs.Linked.{linked_along}

@@ -1,19 +1,7 @@
 -- What the conditions of the table's calls say of the groups.
-use Rattle.std.proofs.Common.{◌≡◌, ◌∙◌, ℕ, ◌<◌, Bool, true, false, List, length, map, Option, Some, None, refl, sym, ap, subst, arith, ◌⊎◌, inl, inr}
-use Rattle.std.specs.Prelude.{slice_get, is_some, option_and_then, IfSome}
-use Rattle.std.specs.Option.{option_map, option_map_or}
-use Rattle.std.specs.FinSet.{contains}
-use Rattle.std.proofs.lemmas.List.{length-map}
+use Rattle.tx_circuits.proofs.Common.{◌≡◌, ◌∙◌, ℕ, ◌<◌, Bool, true, false, List, length, map, Option, Some, None, refl, sym, ap, subst, arith, ◌⊎◌, inl, inr, slice_get, is_some, option_and_then, IfSome, option_map, option_map_or, contains, length-map, slice_get_within, is_circuit, may_seize, Circuit, End, GroupHead, has_seized, GroupState, state_at, end_at, seizing_end, first_index, group_of, is_marked, holds, sits, table_of}
 use Rattle.std.proofs.lemmas.Bool.{false_from_ne_true}
-use Rattle.std.proofs.lemmas.Option.{slice_get_within}
-use Rattle.tx_plan.specs.Circuits.{is_circuit, may_seize}
-use Rattle.tx_plan.specs.declared.ids.Circuit.{Circuit}
-use Rattle.tx_circuits.specs.declared.lists.End.{End}
-use Rattle.tx_circuits.specs.declared.groups.GroupHead.{GroupHead}
-use Rattle.tx_circuits.specs.inner.Slots.{has_seized}
-use Rattle.tx_circuits.specs.inner.Groups.{GroupState, state_at, end_at, seizing_end, first_index}
 use Rattle.tx_circuits.specs.Table.{Table, plan_of, IsSeizedBy}
-use Rattle.tx_circuits.specs.inner.Seen.{group_of, is_marked, holds, sits, table_of}
 use Rattle.tx_circuits.proofs.Members.{known, some_from, end_is, marked_within}
 use Rattle.tx_circuits.proofs.Reading.{contains_circuits, contains_seats, contains_marks, circuit_known, end_known}
 

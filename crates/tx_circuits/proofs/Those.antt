@@ -1,15 +1,9 @@
 -- The members of a list that pass a test, as a set: what it contains, and what becomes of it where the test changes.
-use Rattle.std.specs.Prelude.{◌≡◌, ◌≢◌, Bool, true, false, not, ◌&&◌, ◌||◌, List, [], ◌∷◌, filter, ◌⊎◌}
-use Rattle.std.specs.Ordering.{eq_by_cmp, is_eq}
+use Rattle.tx_circuits.proofs.Common.{◌≡◌, ◌≢◌, Bool, true, false, not, ◌&&◌, ◌||◌, List, [], ◌∷◌, filter, ◌⊎◌, eq_by_cmp, is_eq, Equal, IsTotalOrder, Equal-is, refl, sym, ap, ◌∙◌, inl, inr, cond, tied_itself, those}
 use Rattle.std.specs.declared.cmp.Ordering.{Ordering}
-use Rattle.std.specs.declared.cmp.Ordering.TheVariants.{Equal}
-use Rattle.std.specs.Cmp.{IsTotalOrder, Equal-is}
 use Rattle.std.specs.List.{list_any}
 use Rattle.std.specs.FinSet.{empty, contains, insert, remove, retain, same_set, contains-empty, contains-insert, contains-remove, contains-retain, contains-from_list}
-use Rattle.std.proofs.Common.{refl, sym, ap, ◌∙◌, inl, inr, cond}
-use Rattle.std.proofs.lemmas.Cmp.{tied_itself}
 use Rattle.std.proofs.Math.Bool.{or-true, and-false}
-use Rattle.tx_circuits.specs.inner.Seen.{those}
 use Rattle.tx_circuits.proofs.Ordered.{In}
 
 module _ {K : Type 0} {R : K → K → Ordering} (o : IsTotalOrder R) (exact : (x y : K) → R x y ≡ Equal → x ≡ y) where

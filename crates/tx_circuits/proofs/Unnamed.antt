@@ -1,12 +1,5 @@
 -- A plan and its groups without their names have the same circuits, and the same ends may seize them.
-use Rattle.std.proofs.Common.{◌≡◌, ◌∙◌, ℕ, false, List, [], map, Option, Some, None, refl, ap}
-use Rattle.std.specs.Prelude.{slice_get, ◌&&◌, nat_le}
-use Rattle.std.specs.Option.{option_map, option_map_or}
-use Rattle.std.proofs.lemmas.Option.{slice_get-map}
-use Rattle.tx_plan.specs.Plan.{Plan, Group}
-use Rattle.tx_plan.specs.Circuits.{is_circuit, may_seize, may_seize_row, circuits_at, order_at}
-use Rattle.tx_plan.specs.declared.ids.Circuit.{Circuit}
-use Rattle.tx_circuits.specs.Table.{Table, plan_of, without_name}
+use Rattle.tx_circuits.proofs.Common.{◌≡◌, ◌∙◌, ℕ, false, List, [], map, Option, Some, None, refl, ap, slice_get, ◌&&◌, nat_le, option_map, option_map_or, slice_get-map, Plan, Group, is_circuit, may_seize, may_seize_row, circuits_at, order_at, Circuit, Table, plan_of, without_name}
 
 module _ (p : Plan) (t : Table) (same : t.groups ≡ map without_name p.groups) where
   row : (g : ℕ) → slice_get t.groups g ≡ option_map without_name (slice_get p.groups g)

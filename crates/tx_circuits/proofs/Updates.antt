@@ -1,26 +1,6 @@
 -- Each change of the groups is one change of the sets.
-use Rattle.std.proofs.Common.{◌≡◌, ◌≢◌, ◌∙◌, ℕ, zero, suc, ◌<◌, inl, inr, Bool, true, false, ◌==◌, List, [], ◌∷◌, length, map, Option, Some, None, refl, sym, ap, subst, arith}
-use Rattle.std.specs.Prelude.{slice_get, is_some, option_and_then, not, ◌&&◌}
-use Rattle.std.specs.Option.{option_map, option_map_or}
+use Rattle.tx_circuits.proofs.Common.{◌≡◌, ◌≢◌, ◌∙◌, ℕ, zero, suc, ◌<◌, inl, inr, Bool, true, false, ◌==◌, List, [], ◌∷◌, length, map, Option, Some, None, refl, sym, ap, subst, arith, slice_get, is_some, option_and_then, not, ◌&&◌, option_map, option_map_or, nat_cmp_total, nat_cmp, eqb_tells, exact_unsigned, circuit_cmp, Circuit, circuits_total, exact_circuits, End, First, Other, CircuitState, GroupHead, has_seized, with_seized, opposite, cleared_state, rising, GroupState, state_at, entry_numbered, seizing_end, end_at, with_state, with_failed, with_blocked, change_at, Seat, seat_cmp, Table, with_held, with_released, with_failure, those, group_of, circuits_of, seats_of, gathered_keys, is_marked, holds, sits, table_of, slice_get-map, length-map, and-true, and-false}
 use Rattle.std.specs.FinSet.{FinSet, insert, remove, retain}
-use Rattle.std.specs.Cmp.{nat_cmp_total}
-use Rattle.std.specs.Ordering.{nat_cmp}
-use Rattle.std.proofs.lemmas.Bool.Decides.{eqb_tells}
-use Rattle.std.proofs.lemmas.Map.Lookups.{exact_unsigned}
-use Rattle.tx_plan.specs.Orders.{circuit_cmp}
-use Rattle.tx_plan.specs.declared.ids.Circuit.{Circuit}
-use Rattle.tx_plan.proofs.Named.{circuits_total, exact_circuits}
-use Rattle.tx_circuits.specs.declared.lists.End.{End}
-use Rattle.tx_circuits.specs.declared.lists.End.TheVariants.{First, Other}
-use Rattle.tx_circuits.specs.declared.slot.CircuitState.{CircuitState}
-use Rattle.tx_circuits.specs.declared.groups.GroupHead.{GroupHead}
-use Rattle.tx_circuits.specs.inner.Slots.{has_seized, with_seized, opposite, cleared_state, rising}
-use Rattle.tx_circuits.specs.inner.Groups.{GroupState, state_at, entry_numbered, seizing_end, end_at, with_state, with_failed, with_blocked, change_at}
-use Rattle.tx_circuits.specs.Table.{Seat, seat_cmp, Table, with_held, with_released, with_failure}
-use Rattle.tx_circuits.specs.inner.Seen.{those, group_of, circuits_of, seats_of, gathered_keys, is_marked, holds, sits, table_of}
-use Rattle.std.proofs.lemmas.Option.{slice_get-map}
-use Rattle.std.proofs.lemmas.List.{length-map}
-use Rattle.std.proofs.Math.Bool.{and-true, and-false}
 use Rattle.tx_circuits.proofs.FreeLists.{get-change_here, get-change_there, length-change}
 use Rattle.tx_circuits.proofs.Members.{Known, known, holds_in, sits_in, marked_in}
 use Rattle.tx_circuits.proofs.Those.{those_stay, those_inserted, those_removed, those_retained}

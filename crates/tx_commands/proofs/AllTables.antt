@@ -1,8 +1,7 @@
 -- What holds of the entries of all tables, as it holds of the table.
 use Rattle.std.proofs.Common.{◌≡◌, ◌∙◌, ℕ, Bool, false, true, ◌||◌, List, [], ◌∷◌, ◌++◌, map, refl, sym, ap, append_assoc}
 use Rattle.std.proofs.Math.Bool.{or_assoc}
-use Rattle.std.specs.Borrow.{Bor}
-use Rattle.std.specs.List.{flat_map, list_any}
+use Rattle.tx_commands.proofs.Common.{Bor, flat_map, list_any}
 use Rattle.tx_commands.specs.Entries.{Texts, texts}
 
 -- the entries of a table, as the program has them

@@ -1,10 +1,6 @@
 -- Files by their names, as a function sees them.
-use Rattle.std.proofs.Common.{◌≡◌, ◌||◌, ℕ, List, [], ◌∷◌, Option, None, Some, bytes_eq, refl, ap}
-use Rattle.std.specs.Borrow.{Bor}
-use Rattle.std.specs.List.{list_any}
+use Rattle.tx_commands.proofs.Common.{◌≡◌, ◌||◌, ℕ, List, [], ◌∷◌, Option, None, Some, bytes_eq, refl, ap, Bor, list_any, is_among, names}
 use Rattle.std.specs.Option.{option_eq}
-use Rattle.tx_commands.specs.Clashes.{is_among}
-use Rattle.tx_commands.specs.Files.{names}
 
 -- a file is one of these exactly where it is one of those that are named
 pub among : (files : List (Option (Bor (List ℕ)))) (file : Bor (List ℕ))

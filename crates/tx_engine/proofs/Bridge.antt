@@ -1,16 +1,10 @@
 -- The slab and the index of calls, as contracts see them.
 use Rattle.std.proofs.Common.{◌≡◌, ℕ, zero, suc, ◌<◌, true, false, List, [], ◌∷◌, map, length, Option, Some, None, is_some, slice_index_or, refl, sym, ap, subst, ◌∙◌, arith, count_by}
-use Rattle.std.specs.Prelude.{if◌then◌else◌, ◌==◌, cond}
-use Rattle.std.specs.Option.{option_map}
+use Rattle.tx_engine.proofs.Common.{if◌then◌else◌, ◌==◌, cond, option_map, IndexMap, Call, set_call, call_seen, IsTied}
 use Rattle.std.proofs.lemmas.List.Sums.{sum_by-cons}
 use Rattle.slab.specs.Slab as slab
 use Rattle.slab.specs.Slab.{Slab}
-use Rattle.indexmap.specs.IndexMap.{IndexMap}
-use Rattle.tx_machine.specs.Call.{Call}
-use Rattle.tx_machine.specs.Routing.{set_call}
 use Rattle.tx_engine.specs.inner.KeptCalls.{Kept, KeptCalls, kept_at, Changes, sorted_calls, calls_in, kept_of, slots_of, calls_of}
-use Rattle.tx_machine.specs.Seen.{call_seen}
-use Rattle.tx_engine.specs.inner.Tied.{IsTied}
 use Rattle.tx_machine.specs.declared.open_call.OpenCall.{OpenCall}
 use Rattle.tx_engine.proofs.Sorted.{length_put, after_change, tied_distinct, tied_after_change}
 

@@ -1,33 +1,13 @@
 -- The parts of the engine at the opening, with more room, after a new call, and after one call changed.
-use Rattle.std.proofs.Common.{◌≡◌, ◌≢◌, ℕ, suc, ◌+◌, ◌<◌, ◌≤◌, Bool, true, false, List, [], ◌∷◌, ◌++◌, length, Some, None, refl, sym, ap, subst, ◌∙◌, arith}
-use Rattle.std.specs.Prelude.{slice_index_or}
+use Rattle.tx_engine.proofs.Common.{◌≡◌, ◌≢◌, ℕ, suc, ◌+◌, ◌<◌, ◌≤◌, Bool, true, false, List, [], ◌∷◌, ◌++◌, length, Some, None, refl, sym, ap, subst, ◌∙◌, arith, slice_index_or, line_cmp, circuit_cmp, IsPlan, is_circuit, Among, Circuit, Line, Hop, Standing, Calling, Call, exchange_of, circuits_carried, set_call, keyed_call, Inv, Book, is_line_of, Kept, KeptCalls, kept_at, Changes, calls_in, sorted_calls, HasKeys, keys_of, pick, EndKeys, AreTogether, AreSound, is_first_end}
 use Rattle.std.specs.FinSet as set
-use Rattle.tx_plan.specs.Orders.{line_cmp, circuit_cmp}
 use Rattle.tx_plan.specs.Plan.{Plan, Code}
-use Rattle.tx_plan.specs.Rules.{IsPlan}
 use Rattle.tx_plan.specs.Lines.{is_line_at, is_line}
-use Rattle.tx_plan.specs.Circuits.{is_circuit}
-use Rattle.tx_plan.specs.Among.{Among}
-use Rattle.tx_plan.specs.declared.ids.Circuit.{Circuit}
-use Rattle.tx_plan.specs.declared.ids.Line.{Line}
-use Rattle.tx_machine.specs.declared.open_call.Hop.{Hop}
-use Rattle.tx_machine.specs.declared.open_call.Phase.TheVariants.{Standing, Calling}
-use Rattle.tx_machine.specs.Call.{Call, exchange_of}
-use Rattle.tx_machine.specs.InUse.{circuits_carried}
-use Rattle.tx_machine.specs.Routing.{set_call}
-use Rattle.tx_machine.specs.Step.{keyed_call}
-use Rattle.tx_machine.specs.inner.Invariant.{Inv}
 use Rattle.tx_machine.proofs.Invariant.{inv_opening}
 use Rattle.tx_machine.proofs.Changes.{not_standing}
-use Rattle.tx_lines.specs.Book.{Book, is_line_of}
 use Rattle.tx_circuits.specs.Table.{Table, all_free, seat_cmp}
-use Rattle.tx_engine.specs.inner.KeptCalls.{Kept, KeptCalls, kept_at, Changes, calls_in, sorted_calls}
-use Rattle.tx_engine.specs.inner.Keys.{HasKeys, keys_of, pick}
-use Rattle.tx_engine.specs.declared.circuit_keys.EndKeys.{EndKeys}
 use Rattle.tx_engine.proofs.Sorted.{sorted_mem}
-use Rattle.tx_engine.specs.inner.Seen.{AreTogether}
 use Rattle.tx_engine.proofs.Going.{keyed_together}
-use Rattle.tx_engine.specs.inner.Sound.{AreSound, is_first_end}
 use Rattle.tx_engine.proofs.Keyed.{keyed_updated, hop_room_updated}
 
 pub length_set : (n : ℕ) (f : Call → Call) (cs : List Call) → length (set_call n f cs) ≡ length cs

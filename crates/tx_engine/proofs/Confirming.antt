@@ -1,36 +1,11 @@
 -- A Confirm where no other call has seized the circuit.
-use Rattle.std.proofs.Common.{◌≡◌, ◌≢◌, inl, inr, ℕ, ◌<◌, Bool, true, false, List, [], ◌∷◌, Some, None, refl, sym, ap, subst, ◌∙◌, deque_len, deque_capacity}
-use Rattle.std.specs.Prelude.{if◌then◌else◌, unwrap_or}
-use Rattle.std.specs.Option.{option_map}
+use Rattle.tx_engine.proofs.Common.{◌≡◌, ◌≢◌, inl, inr, ℕ, ◌<◌, Bool, true, false, List, [], ◌∷◌, Some, None, refl, sym, ap, subst, ◌∙◌, deque_len, deque_capacity, if◌then◌else◌, unwrap_or, option_map, false_from_ne_true, same_circuit, same_circuit-is, Plan, other_end, Among, Circuit, among_cases, Hop, Calling, Confirm, Call, exchange_of, circuits_carried, far_of, carried_on, rival, confirmed, confirmed_by, set_call, accepted, with_call, Table, IsSeizedBy, with_held, Kept, KeptCalls, kept_at, Changes, calls_in, HasKeys, keys_at, keys_of, pick, EndKeys, AreTogether, state_seen, EngineState, AreSound, IsSound, IsUnder, is_first_end, state_of}
 use Rattle.std.specs.FinSet as set
-use Rattle.std.proofs.lemmas.Bool.{false_from_ne_true}
 use Rattle.std.proofs.lemmas.List.{map_push}
-use Rattle.tx_plan.specs.Orders.{same_circuit}
-use Rattle.tx_plan.proofs.Named.{same_circuit-is}
-use Rattle.tx_plan.specs.Plan.{Plan}
-use Rattle.tx_plan.specs.Circuits.{other_end}
-use Rattle.tx_plan.specs.Among.{Among}
-use Rattle.tx_plan.specs.declared.ids.Circuit.{Circuit}
-use Rattle.tx_plan.proofs.Among.{among_cases}
-use Rattle.tx_machine.specs.declared.open_call.Hop.{Hop}
-use Rattle.tx_machine.specs.declared.open_call.Phase.TheVariants.{Calling}
-use Rattle.tx_machine.specs.declared.event.Event.TheVariants.{Confirm}
 use Rattle.tx_machine.specs.declared.reply.Reply.TheVariants.{At}
-use Rattle.tx_machine.specs.Call.{Call, exchange_of}
-use Rattle.tx_machine.specs.InUse.{circuits_carried}
-use Rattle.tx_machine.specs.Confirming.{far_of, carried_on, rival, confirmed, confirmed_by}
-use Rattle.tx_machine.specs.Routing.{set_call}
-use Rattle.tx_machine.specs.Step.{accepted, with_call}
-use Rattle.tx_circuits.specs.Table.{Table, IsSeizedBy, with_held}
-use Rattle.tx_engine.specs.inner.KeptCalls.{Kept, KeptCalls, kept_at, Changes, calls_in}
-use Rattle.tx_engine.specs.inner.Keys.{HasKeys, keys_at, keys_of, pick}
-use Rattle.tx_engine.specs.declared.circuit_keys.EndKeys.{EndKeys}
 use Rattle.tx_engine.proofs.Sorted.{sorted_mem, distinct_rising}
-use Rattle.tx_engine.specs.inner.Seen.{AreTogether, state_seen}
 use Rattle.tx_engine.proofs.Thrown.{told_alone}
 use Rattle.tx_engine.proofs.Going.{may_hold, carried_together, nobody_else}
-use Rattle.tx_engine.specs.declared.engine.EngineState.{EngineState}
-use Rattle.tx_engine.specs.inner.Sound.{AreSound, IsSound, IsUnder, is_first_end, state_of}
 use Rattle.tx_engine.proofs.Keyed.{keys_stay, keys_here, keys_else}
 use Rattle.tx_engine.proofs.Changing.{sound_after}
 

@@ -1,28 +1,11 @@
 -- What the states of lines and circuits tell of the machine's.
-use Rattle.std.proofs.Common.{◌≡◌, ℕ, not, ◌&&◌, List, Some, None, sym, ap, subst, ◌∙◌}
-use Rattle.std.specs.Prelude.{if◌then◌else◌, find}
+use Rattle.tx_engine.proofs.Common.{◌≡◌, ℕ, not, ◌&&◌, List, Some, None, sym, ap, subst, ◌∙◌, if◌then◌else◌, find, Plan, Circuit, Decision, Route, Call, State, Net, refusal, with_call, accepted, carried_out, Ended, Book, Kept, kept_at, EngineState, IsDecided, state_seen, AreTogether, IsUnder, state_of}
 use Rattle.std.specs.FinSet as set
-use Rattle.tx_plan.specs.Plan.{Plan}
-use Rattle.tx_plan.specs.declared.ids.Circuit.{Circuit}
-use Rattle.tx_machine.specs.declared.deciding.Decision.{Decision}
-use Rattle.tx_machine.specs.declared.event.Event.TheVariants.{Route}
-use Rattle.tx_machine.specs.Call.{Call}
-use Rattle.tx_machine.specs.State.{State, Net}
-use Rattle.tx_machine.specs.Refusals.{refusal}
 use Rattle.tx_machine.specs.Routing.{routed}
-use Rattle.tx_machine.specs.Step.{with_call, accepted}
-use Rattle.tx_machine.specs.inner.Decided.{carried_out}
 use Rattle.tx_machine.proofs.Unrefused.{route_stands}
-use Rattle.tx_machine.specs.Ended.{Ended}
 use Rattle.tx_machine.specs.InUse.{first_free, is_free_at, is_down}
-use Rattle.tx_lines.specs.Book.{Book}
 use Rattle.tx_circuits.specs.Table.{Table, is_free_at as table_frees, first_free as table_first}
 use Rattle.tx_circuits.proofs.Unnamed.{circuits_at-same}
-use Rattle.tx_engine.specs.inner.KeptCalls.{Kept, kept_at}
-use Rattle.tx_engine.specs.declared.engine.EngineState.{EngineState}
-use Rattle.tx_engine.specs.inner.Decided.{IsDecided}
-use Rattle.tx_engine.specs.inner.Seen.{state_seen, AreTogether}
-use Rattle.tx_engine.specs.inner.Sound.{IsUnder, state_of}
 
 module _ (p : Plan) (cs : List Call) (b : Book) (t : Table) (numbers events : ℕ) (tickets : List Ended) (together : AreTogether p cs t b numbers) where
   abbrev here : State

@@ -1,22 +1,8 @@
 -- The parts of the engine after the call under a key ended.
-use Rattle.std.proofs.Common.{◌≡◌, ℕ, suc, ◌+◌, ◌<◌, Bool, true, false, not, cond, List, [], ◌∷◌, ◌++◌, length, Some, None, refl, ap, ◌∙◌, arith, deque_len, deque_capacity}
-use Rattle.std.specs.Prelude.{filter}
-use Rattle.tx_plan.specs.Plan.{Plan}
-use Rattle.tx_plan.specs.Among.{Among}
-use Rattle.tx_machine.specs.declared.cause.Cause.{Cause}
-use Rattle.tx_machine.specs.Call.{Call, is_numbered}
-use Rattle.tx_machine.specs.Ended.{Ended}
-use Rattle.tx_machine.specs.Ending.{end_call, ticket_of}
-use Rattle.tx_lines.specs.Book.{Book, is_line_of}
-use Rattle.tx_circuits.specs.Table.{Table}
-use Rattle.tx_engine.specs.inner.KeptCalls.{Kept, KeptCalls, kept_at, Changes, calls_in}
+use Rattle.tx_engine.proofs.Common.{◌≡◌, ℕ, suc, ◌+◌, ◌<◌, Bool, true, false, not, cond, List, [], ◌∷◌, ◌++◌, length, Some, None, refl, ap, ◌∙◌, arith, deque_len, deque_capacity, filter, Plan, Among, Cause, Call, is_numbered, Ended, end_call, ticket_of, Book, is_line_of, Table, Kept, KeptCalls, kept_at, Changes, calls_in, CanGiveBack, given_back, freed_lines, state_seen, EngineState, AreSound, IsSound, state_of}
 use Rattle.tx_engine.proofs.Sorted.{sorted_mem}
-use Rattle.tx_engine.specs.inner.GivenBack.{CanGiveBack, given_back, freed_lines}
-use Rattle.tx_engine.specs.inner.Seen.{state_seen}
 use Rattle.tx_engine.proofs.Together.{may_end, together_after, state_after}
 use Rattle.tx_engine.proofs.Filters.{alone}
-use Rattle.tx_engine.specs.declared.engine.EngineState.{EngineState}
-use Rattle.tx_engine.specs.inner.Sound.{AreSound, IsSound, state_of}
 use Rattle.tx_engine.proofs.Keyed.{keyed_removed, hop_room_removed}
 
 length_split : (t : Call → Bool) (cs : List Call) → length (filter (λ c. not (t c)) cs) + length (filter t cs) ≡ length cs

@@ -1,38 +1,9 @@
 -- Calls that begin and go on: the parts stay together.
-use Rattle.std.proofs.Common.{◌≡◌, ◌≢◌, ℕ, ◌+◌, ◌==◌, Bool, true, false, not, ◌&&◌, ◌||◌, List, [], ◌∷◌, ◌++◌, Some, None, refl, sym, ap, ◌∙◌, eq-eqb, eqb-true}
-use Rattle.std.proofs.lemmas.Bool.{and_parts, and_from, both_ways, ne_eqb, false_from_ne_true}
-use Rattle.std.specs.Prelude.{if◌then◌else◌, unwrap_or}
-use Rattle.std.specs.List.{list_any}
+use Rattle.tx_engine.proofs.Common.{◌≡◌, ◌≢◌, ℕ, ◌+◌, ◌==◌, Bool, true, false, not, ◌&&◌, ◌||◌, List, [], ◌∷◌, ◌++◌, Some, None, refl, sym, ap, ◌∙◌, eq-eqb, eqb-true, and_parts, and_from, both_ways, ne_eqb, false_from_ne_true, if◌then◌else◌, unwrap_or, list_any, list_any-append, or-false, or_comm, and-false, and-true, circuit_cmp, same_circuit, same_line, circuits_total, circuit_tie, lines_total, line_tie, same_circuit-is, same_circuit-itself, list_any-map, Plan, is_line, is_circuit, other_end, Among, Circuit, Line, Hop, Phase, Standing, Calling, Connected, Call, exchange_of, carries, seizes, seizes_from, is_calling_on, is_free_at, takes_part, is_connected_to, set_call, in_phase, far_of, carried_on, rival, keyed_call, IsKeyedLine, Inv, any_none, mem_any, find_none, Book, seats_total, exact_seats, seat_tie, state_seen, AreTogether}
 use Rattle.std.specs.FinSet as set
-use Rattle.std.proofs.lemmas.List.Folds.{list_any-append}
-use Rattle.std.proofs.Math.Bool.{or-false, or_comm, and-false, and-true}
-use Rattle.tx_plan.specs.Orders.{circuit_cmp, same_circuit, same_line}
-use Rattle.tx_plan.proofs.Named.{circuits_total, circuit_tie, lines_total, line_tie, same_circuit-is, same_circuit-itself}
-use Rattle.tx_plan.proofs.Tables.{list_any-map}
-use Rattle.tx_plan.specs.Plan.{Plan}
-use Rattle.tx_plan.specs.Lines.{is_line}
-use Rattle.tx_plan.specs.Circuits.{is_circuit, other_end}
-use Rattle.tx_plan.specs.Among.{Among}
-use Rattle.tx_plan.specs.declared.ids.Circuit.{Circuit}
-use Rattle.tx_plan.specs.declared.ids.Line.{Line}
-use Rattle.tx_machine.specs.declared.open_call.Hop.{Hop}
-use Rattle.tx_machine.specs.declared.open_call.Phase.{Phase}
-use Rattle.tx_machine.specs.declared.open_call.Phase.TheVariants.{Standing, Calling, Connected}
-use Rattle.tx_machine.specs.Call.{Call, exchange_of}
-use Rattle.tx_machine.specs.InUse.{carries, seizes, seizes_from, is_calling_on, is_free_at}
-use Rattle.tx_machine.specs.Lines.{takes_part, is_connected_to}
-use Rattle.tx_machine.specs.Routing.{set_call, in_phase}
-use Rattle.tx_machine.specs.Confirming.{far_of, carried_on, rival}
-use Rattle.tx_machine.specs.Step.{keyed_call}
-use Rattle.tx_machine.specs.Safe.{IsKeyedLine}
-use Rattle.tx_machine.specs.inner.Invariant.{Inv}
-use Rattle.tx_machine.proofs.Lists.{any_none, mem_any, find_none}
 use Rattle.tx_machine.proofs.Uses.{is_free, two_ends}
 use Rattle.tx_machine.proofs.Changes.{key_keeps, connect_keeps, seize_keeps, carry_keeps}
-use Rattle.tx_lines.specs.Book.{Book}
 use Rattle.tx_circuits.specs.Table.{Table, Seat, IsSeizedBy, with_held, is_free_at as is_free_in}
-use Rattle.tx_circuits.proofs.Seats.{seats_total, exact_seats, seat_tie}
-use Rattle.tx_engine.specs.inner.Seen.{state_seen, AreTogether}
 use Rattle.tx_engine.proofs.Filters.{any_alike}
 use Rattle.tx_engine.proofs.After.{any_before, any_rest, rest, rest_mem, seizing_from, seizes_at}
 

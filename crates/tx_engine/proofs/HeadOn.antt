@@ -1,23 +1,9 @@
 -- Two calls that meet on a circuit.
-use Rattle.std.proofs.Common.{◌≡◌, ◌≢◌, ℕ, true, [], length, Some, refl, sym, ap, subst, ◌∙◌, arith, deque_len, deque_capacity}
+use Rattle.tx_engine.proofs.Common.{◌≡◌, ◌≢◌, ℕ, true, [], length, Some, refl, sym, ap, subst, ◌∙◌, arith, deque_len, deque_capacity, Plan, Among, Circuit, Calling, Call, exchange_of, far_of, thrown_back, collide, set_call, Table, Kept, KeptCalls, kept_at, Changes, calls_in, keys_of, pick, state_seen, AreTogether, CanThrowOff, thrown_off, EngineState, AreSound, IsSound, IsUnder, is_first_end, state_of}
 use Rattle.std.specs.FinSet as set
-use Rattle.tx_plan.specs.Plan.{Plan}
-use Rattle.tx_plan.specs.Among.{Among}
-use Rattle.tx_plan.specs.declared.ids.Circuit.{Circuit}
-use Rattle.tx_machine.specs.declared.open_call.Phase.TheVariants.{Calling}
-use Rattle.tx_machine.specs.Call.{Call, exchange_of}
-use Rattle.tx_machine.specs.Confirming.{far_of, thrown_back, collide}
-use Rattle.tx_machine.specs.Routing.{set_call}
-use Rattle.tx_circuits.specs.Table.{Table}
-use Rattle.tx_engine.specs.inner.KeptCalls.{Kept, KeptCalls, kept_at, Changes, calls_in}
-use Rattle.tx_engine.specs.inner.Keys.{keys_of, pick}
 use Rattle.tx_engine.proofs.Sorted.{sorted_mem}
-use Rattle.tx_engine.specs.inner.Seen.{state_seen, AreTogether}
-use Rattle.tx_engine.specs.inner.GivenBack.{CanThrowOff, thrown_off}
 use Rattle.tx_engine.proofs.Thrown.{IsRival, told_one, only_rival, rival_is, thrown_in_turn}
 use Rattle.tx_engine.proofs.Together.{may_throw, thrown_together}
-use Rattle.tx_engine.specs.declared.engine.EngineState.{EngineState}
-use Rattle.tx_engine.specs.inner.Sound.{AreSound, IsSound, IsUnder, is_first_end, state_of}
 use Rattle.tx_engine.specs.inner.Meeting.{AreMeeting, AreThrown}
 use Rattle.tx_engine.proofs.Keyed.{keyed_updated, hop_room_updated}
 use Rattle.tx_engine.proofs.Changing.{length_set}

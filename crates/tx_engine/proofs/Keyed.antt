@@ -1,21 +1,6 @@
 -- Keys by circuit, and room for hops, when one call changes.
-use Rattle.std.proofs.Common.{◌≡◌, ◌≢◌, inl, inr, ℕ, ◌<◌, ◌==◌, Bool, true, false, List, Option, Some, None, is_some, refl, sym, ap, subst, ◌∙◌, eqb-true, eq-eqb}
-use Rattle.std.proofs.lemmas.Bool.Decides.{eqb_tells}
-use Rattle.std.specs.Prelude.{slice_get, if◌then◌else◌, option_and_then}
-use Rattle.std.specs.Option.{option_map, option_map_or}
-use Rattle.tx_plan.specs.Orders.{same_circuit}
-use Rattle.tx_plan.proofs.Named.{same_circuit-itself}
-use Rattle.tx_plan.specs.Plan.{Plan, Group}
-use Rattle.tx_plan.specs.Circuits.{is_circuit, other_end, ends_of, far_end}
-use Rattle.tx_plan.specs.Among.{Among}
-use Rattle.tx_plan.specs.declared.ids.Circuit.{Circuit}
-use Rattle.tx_machine.specs.declared.open_call.Phase.TheVariants.{Calling}
-use Rattle.tx_machine.specs.Call.{exchange_of}
-use Rattle.tx_machine.specs.InUse.{circuits_carried}
-use Rattle.tx_machine.proofs.Uses.{an_end}
-use Rattle.tx_engine.specs.inner.KeptCalls.{Kept, KeptCalls, kept_at, Changes}
+use Rattle.tx_engine.proofs.Common.{◌≡◌, ◌≢◌, inl, inr, ℕ, ◌<◌, ◌==◌, Bool, true, false, List, Option, Some, None, is_some, refl, sym, ap, subst, ◌∙◌, eqb-true, eq-eqb, eqb_tells, slice_get, if◌then◌else◌, option_and_then, option_map, option_map_or, same_circuit, same_circuit-itself, Plan, Group, is_circuit, other_end, ends_of, far_end, Among, Circuit, Calling, exchange_of, circuits_carried, an_end, Kept, KeptCalls, kept_at, Changes, EndKeys}
 use Rattle.tx_engine.specs.inner.Keys.{HasKeys, keys_at, keys_of, pick, with_key, no_keys}
-use Rattle.tx_engine.specs.declared.circuit_keys.EndKeys.{EndKeys}
 use Rattle.tx_engine.specs.inner.Sound.{AreKeyed, HasHopRoom, is_first_end}
 
 -- KEYS BY CIRCUIT, AFTER THOSE OF ONE WERE WRITTEN

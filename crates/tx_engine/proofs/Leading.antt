@@ -1,19 +1,7 @@
 -- The calls that the keys by circuit lead to.
-use Rattle.std.proofs.Common.{◌≡◌, ℕ, Bool, true, List, Some, sym, ap, subst, ◌∙◌}
-use Rattle.std.specs.List.{list_any}
-use Rattle.tx_plan.specs.Plan.{Plan}
-use Rattle.tx_plan.specs.Among.{Among}
-use Rattle.tx_plan.specs.declared.ids.Circuit.{Circuit}
-use Rattle.tx_machine.specs.declared.open_call.Phase.TheVariants.{Calling}
-use Rattle.tx_machine.specs.Call.{Call, exchange_of}
-use Rattle.tx_machine.specs.InUse.{carries, seizes_from, circuits_carried}
-use Rattle.tx_machine.proofs.Lists.{any_mem}
-use Rattle.tx_engine.specs.inner.KeptCalls.{Kept, KeptCalls, kept_at, calls_in}
-use Rattle.tx_engine.specs.inner.Keys.{keys_of, pick}
-use Rattle.tx_engine.specs.declared.circuit_keys.EndKeys.{EndKeys}
+use Rattle.tx_engine.proofs.Common.{◌≡◌, ℕ, Bool, true, List, Some, sym, ap, subst, ◌∙◌, list_any, Plan, Among, Circuit, Calling, Call, exchange_of, carries, seizes_from, circuits_carried, any_mem, Kept, KeptCalls, kept_at, calls_in, keys_of, pick, EndKeys, AreKeyed, is_first_end}
 use Rattle.tx_engine.proofs.Sorted.{mem_sorted}
 use Rattle.tx_engine.proofs.After.{carried_mem, seizing_from}
-use Rattle.tx_engine.specs.inner.Sound.{AreKeyed, is_first_end}
 
 module _ (p : Plan) (c : KeptCalls) (ks : List (List EndKeys)) (keyed : AreKeyed p c ks) (x : Circuit) where
   pub seizer_kept : (d : Call) → Among d (calls_in c) → d.phase ≡ Calling x → (e : Kept) × (kept_at c (pick (is_first_end p x (exchange_of p d)) (keys_of ks x)) ≡ Some e) × (e.call ≡ d)

@@ -23,3 +23,4 @@ pub mod Going
 pub mod Sorted
 pub mod Bridge
 pub mod WrittenKeys
+pub mod Common

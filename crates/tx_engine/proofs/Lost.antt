@@ -1,19 +1,10 @@
 -- Calls of a group that fails, which end in order of their numbers.
-use Rattle.std.proofs.Common.{◌≡◌, ℕ, zero, suc, ◌+◌, ◌<◌, ◌≤◌, true, List, [], ◌∷◌, inl, inr, length, drop, Option, Some, None, refl, sym, ap, subst, ◌∙◌, arith, get_or, eqb-true}
-use Rattle.std.specs.Prelude.{slice_index_or}
+use Rattle.tx_engine.proofs.Common.{◌≡◌, ℕ, zero, suc, ◌+◌, ◌<◌, ◌≤◌, true, List, [], ◌∷◌, inl, inr, length, drop, Option, Some, None, refl, sym, ap, subst, ◌∙◌, arith, get_or, eqb-true, slice_index_or, Plan, Among, Call, call_of, is_numbered, State, uses_group, end_call, find_mem, IsLosing}
 use Rattle.std.specs.Ordering.{nat_cmp}
 use Rattle.std.specs.List.{Contains}
 use Rattle.std.specs.List.Sorted.{IsSorted, IsNonDecreasingBy, IsPermutation}
 use Rattle.std.proofs.lemmas.List.Sorted.{IsNonDecreasingBy-from_sort, Contains-permutation, IsPermutation-sym}
-use Rattle.tx_plan.specs.Plan.{Plan}
-use Rattle.tx_plan.specs.Among.{Among}
 use Rattle.tx_machine.specs.declared.cause.Cause.TheVariants.{Lost as ByLoss}
-use Rattle.tx_machine.specs.Call.{Call, call_of, is_numbered}
-use Rattle.tx_machine.specs.State.{State}
-use Rattle.tx_machine.specs.InUse.{uses_group}
-use Rattle.tx_machine.specs.Ending.{end_call}
-use Rattle.tx_machine.proofs.Lists.{find_mem}
-use Rattle.tx_engine.specs.inner.InTurn.{IsLosing}
 use Rattle.tx_engine.proofs.Losing.{losing_goes_on}
 use Rattle.tx_engine.proofs.Users.{AreLeft, first_user, left_after, left_without}
 

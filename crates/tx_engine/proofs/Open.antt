@@ -1,7 +1,5 @@
 -- Which calls are open when others ended or changed.
-use Rattle.std.proofs.Common.{◌≡◌, ℕ, ◌==◌, true, false, cond, List, [], ◌∷◌, map, Some, refl, ◌∙◌}
-use Rattle.std.specs.Option.{option_map}
-use Rattle.tx_machine.specs.Call.{Call, call_of}
+use Rattle.tx_engine.proofs.Common.{◌≡◌, ℕ, ◌==◌, true, false, cond, List, [], ◌∷◌, map, Some, refl, ◌∙◌, option_map, Call, call_of}
 
 -- a call that changes and keeps its number
 pub changed_open : (f : Call → Call) → ((c : Call) → (f c).number ≡ c.number) → (n : ℕ) (cs : List Call) → call_of n (map f cs) ≡ option_map f (call_of n cs)

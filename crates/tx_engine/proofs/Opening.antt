@@ -1,13 +1,7 @@
 -- The parts of the opening show the opening state.
-use Rattle.std.proofs.Common.{◌≡◌, ℕ, List, []}
+use Rattle.tx_engine.proofs.Common.{◌≡◌, ℕ, List, [], Plan, Ended, Book, Table, all_free, KeptCalls, calls_in, sorted_calls, state_seen}
 use Rattle.std.specs.FinSet as set
-use Rattle.tx_plan.specs.Plan.{Plan}
-use Rattle.tx_machine.specs.Ended.{Ended}
 use Rattle.tx_machine.specs.State.{opening}
-use Rattle.tx_lines.specs.Book.{Book}
-use Rattle.tx_circuits.specs.Table.{Table, all_free}
-use Rattle.tx_engine.specs.inner.KeptCalls.{KeptCalls, calls_in, sorted_calls}
-use Rattle.tx_engine.specs.inner.Seen.{state_seen}
 
 pub state_opening : (p : Plan) (c : KeptCalls) (b : Book) (t : Table) (numbers events : ℕ) (tickets : List Ended) → c.slots ≡ [] → b.faulty ≡ set.empty → b.away ≡ set.empty → t ≡ all_free p → tickets ≡ []
     → state_seen (calls_in c) t b numbers events tickets ≡ opening numbers events

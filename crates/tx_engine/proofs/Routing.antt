@@ -1,41 +1,16 @@
 -- A Route that connects a call, and one that seizes a circuit.
-use Rattle.std.proofs.Common.{◌≡◌, ℕ, ◌<◌, Bool, true, false, List, Some, None, refl, sym, ap, subst, ◌∙◌, deque_len, deque_capacity}
-use Rattle.std.specs.Prelude.{if◌then◌else◌, find}
-use Rattle.std.specs.Option.{option_map}
+use Rattle.tx_engine.proofs.Common.{◌≡◌, ℕ, ◌<◌, Bool, true, false, List, Some, None, refl, sym, ap, subst, ◌∙◌, deque_len, deque_capacity, if◌then◌else◌, find, option_map, same_circuit, same_circuit-is, Plan, Among, Circuit, Line, Calling, Connected, Connect, Seize, Reply, Call, exchange_of, State, is_engaged, set_call, in_phase, IsKeyedLine, find_mem, Book, Kept, KeptCalls, Changes, kept_at, calls_in, HasKeys, keys_at, keys_of, pick, with_key, EndKeys, AreTogether, EngineState, IsDecided, AreSound, IsSound, is_first_end, state_of}
 use Rattle.std.specs.FinSet as set
-use Rattle.tx_plan.specs.Orders.{same_circuit}
-use Rattle.tx_plan.proofs.Named.{same_circuit-is}
-use Rattle.tx_plan.specs.Plan.{Plan}
 use Rattle.tx_plan.specs.Routes.{route_list}
 use Rattle.tx_plan.specs.Circuits.{may_seize, other_end, circuits_at, is_circuit}
-use Rattle.tx_plan.specs.Among.{Among}
-use Rattle.tx_plan.specs.declared.ids.Circuit.{Circuit}
-use Rattle.tx_plan.specs.declared.ids.Line.{Line}
-use Rattle.tx_machine.specs.declared.open_call.Phase.TheVariants.{Calling, Connected}
-use Rattle.tx_machine.specs.declared.deciding.Decision.TheVariants.{Connect, Seize}
-use Rattle.tx_machine.specs.declared.reply.Reply.{Reply}
-use Rattle.tx_machine.specs.Call.{Call, exchange_of}
-use Rattle.tx_machine.specs.State.{State}
 use Rattle.tx_machine.specs.InUse.{circuits_carried, first_free, choice}
-use Rattle.tx_machine.specs.Lines.{is_engaged}
-use Rattle.tx_machine.specs.Routing.{set_call, in_phase}
-use Rattle.tx_machine.specs.Safe.{IsKeyedLine}
-use Rattle.tx_machine.proofs.Lists.{find_mem}
 use Rattle.tx_machine.proofs.Steps.{listed_leads, listed_may}
 use Rattle.tx_machine.proofs.Routed.{connects, seizes}
 use Rattle.tx_machine.proofs.Uses.{first_in-is, chosen, IsChosen}
-use Rattle.tx_lines.specs.Book.{Book}
 use Rattle.tx_circuits.specs.Table.{Table, plan_of, is_down, is_free_at as table_frees, first_free as table_first}
 use Rattle.tx_circuits.proofs.Unnamed.{is_circuit-same, may_seize-same}
-use Rattle.tx_engine.specs.inner.KeptCalls.{Kept, KeptCalls, Changes, kept_at, calls_in}
-use Rattle.tx_engine.specs.inner.Keys.{HasKeys, keys_at, keys_of, pick, with_key}
-use Rattle.tx_engine.specs.declared.circuit_keys.EndKeys.{EndKeys}
 use Rattle.tx_engine.proofs.Sorted.{sorted_mem}
-use Rattle.tx_engine.specs.inner.Seen.{AreTogether}
 use Rattle.tx_engine.proofs.Going.{connected_together, seized_together}
-use Rattle.tx_engine.specs.declared.engine.EngineState.{EngineState}
-use Rattle.tx_engine.specs.inner.Decided.{IsDecided}
-use Rattle.tx_engine.specs.inner.Sound.{AreSound, IsSound, is_first_end, state_of}
 use Rattle.tx_engine.proofs.Keyed.{keys_stay, keys_here, keys_else, pick_same, pick_other, ends_same}
 use Rattle.tx_engine.proofs.Deciding.{first_is}
 use Rattle.tx_engine.proofs.Changing.{sound_after, together_in}

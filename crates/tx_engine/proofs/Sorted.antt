@@ -1,18 +1,11 @@
 -- The calls of some slots in order of their numbers, and what an insertion, a change and a removal make of them.
 use Rattle.std.proofs.Common.{◌≡◌, ◌≢◌, ◌⊎◌, inl, inr, ℕ, zero, suc, ◌<◌, ◌==◌, Bool, true, false, not, cond, List, [], ◌∷◌, ◌++◌, map, length, Option, Some, None, nat_eq, eqb, slice_index_or, refl, sym, ap, subst, ◌∙◌, arith, eqb-true, eq-eqb}
-use Rattle.std.proofs.lemmas.Bool.Decides.{nat_tests, eqb_tells}
+use Rattle.tx_engine.proofs.Common.{nat_tests, eqb_tells, IndexMap, Call, call_of, is_numbered, set_call, Among, IsRising, find_mem, find_none, IsTied}
 use Rattle.std.specs.Prelude.{filter, if◌then◌else◌, nat_lt, Result, Ok, Err, OnOk, OnErr}
 use Rattle.indexmap.specs.IndexMap as index
-use Rattle.indexmap.specs.IndexMap.{IndexMap}
-use Rattle.tx_machine.specs.Call.{Call, call_of, is_numbered}
-use Rattle.tx_machine.specs.Routing.{set_call}
-use Rattle.tx_plan.specs.Among.{Among}
 use Rattle.tx_plan.proofs.Among.{among_cases, among_left, among_map, among_right, filter_among, map_among}
-use Rattle.tx_machine.specs.inner.Invariant.{IsRising}
-use Rattle.tx_machine.proofs.Lists.{find_mem, find_none}
 use Rattle.tx_machine.proofs.Invariant.{rising_filter, rising_push, rising_map}
 use Rattle.tx_engine.specs.inner.KeptCalls.{Kept, KeptCalls, kept_at, Changes, put_call, sorted_calls, calls_in}
-use Rattle.tx_engine.specs.inner.Tied.{IsTied}
 
 -- the call under a key, if a key is given
 abbrev at_key : KeptCalls → Option ℕ → Option Kept

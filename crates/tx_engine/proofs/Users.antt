@@ -1,28 +1,9 @@
 -- The numbers of the calls that use a group, circuit by circuit.
-use Rattle.std.proofs.Common.{◌≡◌, ◌≢◌, ℕ, ◌+◌, ◌≤◌, ◌==◌, Bool, true, false, not, ◌&&◌, ◌||◌, cond, List, [], ◌∷◌, ◌++◌, ◌⊎◌, inl, inr, Option, Some, None, refl, sym, ap, ◌∙◌, subst, eqb-true, arith, eq-eqb}
+use Rattle.tx_engine.proofs.Common.{◌≡◌, ◌≢◌, ℕ, ◌+◌, ◌≤◌, ◌==◌, Bool, true, false, not, ◌&&◌, ◌||◌, cond, List, [], ◌∷◌, ◌++◌, ◌⊎◌, inl, inr, Option, Some, None, refl, sym, ap, ◌∙◌, subst, eqb-true, arith, eq-eqb, filter, length, find, nat_le, slice_get, option_and_then, option_map_or, list_any, circuit_cmp, same_circuit, same_circuit-itself, Plan, Group, is_circuit, other_end, far_end, count_of, ends_of, Among, Circuit, among_left, among_right, filter_among, Call, exchange_of, is_numbered, call_of, circuits_used, carries, seizes, seizes_from, uses_group, IsRising, Inv, any_none, mem_any, find_mem, find_none, calling_on, an_end, Table, uses, AreNumbersOf, uses_up_to, AreUsed}
 use Rattle.std.proofs.lemmas.Bool.{false≢true, and_parts, and_from, and_left, both_ways, or_cases, or_left, or_right, cases_eq, false_from_ne_true, not-true}
 use Rattle.std.proofs.lemmas.Bool.Decides.{leb_tells, eqb_tells}
-use Rattle.std.specs.Prelude.{filter, length, find, nat_le, slice_get, option_and_then}
-use Rattle.std.specs.Option.{option_map_or}
-use Rattle.std.specs.List.{list_any}
 use Rattle.std.specs.FinSet as set
-use Rattle.tx_plan.specs.Orders.{circuit_cmp, same_circuit}
-use Rattle.tx_plan.proofs.Named.{same_circuit-itself}
-use Rattle.tx_plan.specs.Plan.{Plan, Group}
-use Rattle.tx_plan.specs.Circuits.{is_circuit, other_end, far_end, count_of, ends_of}
-use Rattle.tx_plan.specs.Among.{Among}
-use Rattle.tx_plan.specs.declared.ids.Circuit.{Circuit}
 use Rattle.tx_plan.proofs.Lists.{at_least}
-use Rattle.tx_plan.proofs.Among.{among_left, among_right, filter_among}
-use Rattle.tx_machine.specs.Call.{Call, exchange_of, is_numbered, call_of}
-use Rattle.tx_machine.specs.InUse.{circuits_used, carries, seizes, seizes_from, uses_group}
-use Rattle.tx_machine.specs.inner.Invariant.{IsRising, Inv}
-use Rattle.tx_machine.proofs.Lists.{any_none, mem_any, find_mem, find_none}
-use Rattle.tx_machine.proofs.Uses.{calling_on, an_end}
-use Rattle.tx_circuits.specs.Table.{Table}
-use Rattle.tx_engine.specs.inner.InTurn.{uses}
-use Rattle.tx_engine.specs.inner.Users.{AreNumbersOf, uses_up_to}
-use Rattle.tx_engine.specs.inner.GivenBack.{AreUsed}
 use Rattle.tx_engine.proofs.Filters.{any_alike, least_first, find_nobody}
 use Rattle.tx_engine.proofs.Given.{uses_is}
 use Rattle.tx_engine.proofs.After.{carried_mem, seizing_from, seizes_at}

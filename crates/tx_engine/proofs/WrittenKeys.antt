@@ -1,18 +1,9 @@
 -- Keys by circuit, after those of one circuit were written.
 use Rattle.std.proofs.Common.{◌≡◌, ◌≢◌, inl, inr, ℕ, zero, suc, ◌==◌, true, false, ◌&&◌, List, [], ◌∷◌, ◌++◌, ◌⊎◌, ◌+◌, ◌≤◌, map, length, Option, Some, None, is_some, refl, sym, ap, ◌∙◌, arith, set, get_or}
-use Rattle.std.proofs.lemmas.Bool.Decides.{eqb_tells, nat_tests}
+use Rattle.tx_engine.proofs.Common.{eqb_tells, nat_tests, slice_get, option_and_then, if◌then◌else◌, nat_le, and_parts, Plan, Group, is_circuit, count_of, option_map, option_map_or, same_circuit, Circuit, keys_at, HasKeys, EndKeys}
 use Rattle.std.proofs.lemmas.List.{map-set}
-use Rattle.std.specs.Prelude.{slice_get, option_and_then, if◌then◌else◌, nat_le}
 use Rattle.std.proofs.lemmas.Option.{slice_get_within}
-use Rattle.std.proofs.lemmas.Bool.{and_parts}
-use Rattle.tx_plan.specs.Plan.{Plan, Group}
-use Rattle.tx_plan.specs.Circuits.{is_circuit, count_of}
-use Rattle.std.specs.Option.{option_map, option_map_or}
 use Rattle.tx_plan.proofs.ByIndex.{entry_at}
-use Rattle.tx_plan.specs.Orders.{same_circuit}
-use Rattle.tx_plan.specs.declared.ids.Circuit.{Circuit}
-use Rattle.tx_engine.specs.inner.Keys.{keys_at, HasKeys}
-use Rattle.tx_engine.specs.declared.circuit_keys.EndKeys.{EndKeys}
 
 get_set_same : {A : Type 0} (xs : List A) (i : ℕ) (y x : A) → slice_get xs i ≡ Some x → slice_get (set xs i y) i ≡ Some y
 get_set_same [] i y x e = absurd (let bad : ⊥ = cc in bad)

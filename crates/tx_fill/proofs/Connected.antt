@@ -1,36 +1,18 @@
 -- Calls that are carried one after another: each that stands is connected.
-use Rattle.std.proofs.Common.{◌≡◌, ◌≢◌, ℕ, zero, suc, ◌+◌, ◌*◌, ◌-◌, ◌^◌, ◌<◌, ◌≤◌, ◌==◌, nat_le, eqb-true, true, false, ◌&&◌, List, [], ◌∷◌, ◌++◌, inl, inr, map, length, Option, Some, None, refl, sym, ap, ◌∙◌, subst, arith}
-use Rattle.std.specs.Prelude.{if◌then◌else◌}
+use Rattle.tx_fill.proofs.Common.{◌≡◌, ◌≢◌, ℕ, zero, suc, ◌+◌, ◌*◌, ◌-◌, ◌^◌, ◌<◌, ◌≤◌, ◌==◌, nat_le, eqb-true, true, false, ◌&&◌, List, [], ◌∷◌, ◌++◌, inl, inr, map, length, Option, Some, None, refl, sym, ap, ◌∙◌, subst, arith, if◌then◌else◌, length-le_from_distinct_below, Plan, IsPlan, Among, full_number, Line, AllDiffer, all_distinct, any_among, Key, Route, Confirm, Block, Refusal, Exhausted, Reply, state_after, State, opening, Holds, all_from_mem, line_pairs}
 use Rattle.std.specs.List.{AllByRecursion}
 use Rattle.std.specs.FinSet as set
 use Rattle.std.specs.Ordering.{nat_cmp, eq_by_cmp}
 use Rattle.std.proofs.lemmas.Bool.{eqb-false, or_left, or_right, both_ways, not-false}
 use Rattle.std.proofs.lemmas.Cmp.{nat_cmp_total, eq_by_cmp_equiv}
-use Rattle.std.proofs.lemmas.Map.Steps.{length-le_from_distinct_below}
 use Rattle.std.proofs.Math.Nat.{mul-le-mul, add-mul}
-use Rattle.tx_plan.specs.Plan.{Plan}
-use Rattle.tx_plan.specs.Rules.{IsPlan}
-use Rattle.tx_plan.specs.Among.{Among}
-use Rattle.tx_plan.specs.Lines.{full_number}
-use Rattle.tx_plan.specs.declared.ids.Line.{Line}
 use Rattle.tx_plan.proofs.Among.{among_cases}
-use Rattle.tx_rank.specs.Walks.{AllDiffer}
-use Rattle.tx_rank.proofs.Unmended.{all_distinct, any_among}
-use Rattle.tx_machine.specs.declared.event.Event.TheVariants.{Key, Route, Confirm, Block}
-use Rattle.tx_machine.specs.declared.refusal.Refusal.{Refusal}
-use Rattle.tx_machine.specs.declared.refusal.Refusal.TheVariants.{Exhausted}
-use Rattle.tx_machine.specs.declared.reply.Reply.{Reply}
 use Rattle.tx_machine.specs.Call.{Call, start_of, is_connected}
 use Rattle.tx_machine.specs.Refusals.{refusal, refusals, is_group}
-use Rattle.tx_machine.specs.Runs.{state_after}
-use Rattle.tx_machine.specs.State.{State, opening}
 use Rattle.tx_machine.specs.Step.{step, accepted, counted, keyed_call, unless_refused}
-use Rattle.tx_machine.specs.inner.Invariant.{Holds}
 use Rattle.tx_machine.proofs.Invariant.{inv_opening}
-use Rattle.tx_machine.proofs.Lists.{all_from_mem}
 use Rattle.tx_machine.proofs.Steps.{accepted_keeps, step_keeps, tests_false}
 use Rattle.tx_machine.proofs.Unrefused.{can_key, group_within}
-use Rattle.tx_fill.specs.CallLines.{line_pairs}
 use Rattle.tx_fill.specs.Fills.{is_seized, carried, most_circuits, goes_on, called, filled, fill_state}
 use Rattle.tx_fill.proofs.FewHops.{few_hops}
 use Rattle.tx_fill.proofs.OneRouted.{AreConnected, OthersAre, OfCall, StandsAfter, Comes, comes, confirms}

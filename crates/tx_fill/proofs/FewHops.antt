@@ -1,17 +1,9 @@
 -- A call has no more hops than the plan may have circuits: it carries none of them twice.
 use Rattle.std.proofs.Common.{◌≡◌, ◌≢◌, ℕ, ◌+◌, ◌*◌, ◌-◌, ◌<◌, ◌≤◌, ◌==◌, eq-eqb, true, List, [], ◌∷◌, inl, inr, map, length, refl, sym, ◌∙◌, subst, arith}
-use Rattle.std.proofs.lemmas.Bool.{and_from, both_ways}
+use Rattle.tx_fill.proofs.Common.{and_from, both_ways, length-le_from_distinct_below, Plan, IsPlan, Among, Circuit, map_among, AllDiffer, all_distinct, any_among}
 use Rattle.std.proofs.lemmas.List.{length-map}
-use Rattle.std.proofs.lemmas.Map.Steps.{length-le_from_distinct_below}
-use Rattle.tx_plan.specs.Plan.{Plan}
-use Rattle.tx_plan.specs.Rules.{IsPlan}
-use Rattle.tx_plan.specs.Among.{Among}
 use Rattle.tx_plan.specs.Orders.{same_circuit}
 use Rattle.tx_plan.specs.Circuits.{is_circuit}
-use Rattle.tx_plan.specs.declared.ids.Circuit.{Circuit}
-use Rattle.tx_plan.proofs.Among.{map_among}
-use Rattle.tx_rank.specs.Walks.{AllDiffer}
-use Rattle.tx_rank.proofs.Unmended.{all_distinct, any_among}
 use Rattle.tx_machine.specs.declared.open_call.Hop.{Hop}
 use Rattle.tx_machine.specs.Members.{NoneTwice}
 use Rattle.tx_machine.specs.Passed.{Joins}

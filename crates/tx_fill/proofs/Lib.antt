@@ -4,3 +4,4 @@ pub mod FewHops
 pub mod LinesAt
 pub mod OneRouted
 pub mod Settled
+pub mod Common

@@ -1,8 +1,7 @@
 -- Lines by their indexes, and what is keyed for them.
 use Rattle.std.proofs.Common.{◌≡◌, ℕ, zero, suc, ◌+◌, ◌-◌, ◌^◌, ◌<◌, ◌≤◌, ◌&&◌, nat_le, Bool, true, false, List, [], ◌∷◌, ◌++◌, map, take, drop, length, Option, Some, None, refl, ap, ◌∙◌, arith, length-append}
-use Rattle.std.specs.Prelude.{slice_get, if◌then◌else◌, replicate, decimal}
+use Rattle.tx_fill.proofs.Common.{slice_get, if◌then◌else◌, replicate, decimal, option_map_or, is_national, Line, all_at}
 use Rattle.std.specs.List.{flat_map, range_with_len, list_all, zip}
-use Rattle.std.specs.Option.{option_map_or}
 use Rattle.std.specs.Str.Parse.{digits_value, AllDigits}
 use Rattle.std.proofs.lemmas.Bool.{false≢true, and_parts, and_from, le-leb, leb-true}
 use Rattle.std.proofs.Math.Nat.{pow-le-pow_right}
@@ -16,11 +15,8 @@ use Rattle.std.proofs.lemmas.Option.{cond_some, slice_get_within, slice_get_past
 use Rattle.tx_text.specs.Words.{is_figure, are_figures, is_numeral}
 use Rattle.tx_text.proofs.WrittenWords.{number_back}
 use Rattle.tx_plan.specs.Plan.{Plan, Code, figures_of}
-use Rattle.tx_plan.specs.Numbers.{is_national}
 use Rattle.tx_plan.specs.Rules.{IsPlan, IsCode}
-use Rattle.tx_plan.specs.declared.ids.Line.{Line}
 use Rattle.tx_plan.specs.declared.range.LineRange.{LineRange}
-use Rattle.tx_plan.proofs.ByIndex.{all_at}
 use Rattle.tx_plan.proofs.Lists.{slice_get_left}
 use Rattle.tx_fill.specs.declared.call_lines.Whose.{Whose}
 use Rattle.tx_fill.specs.CallLines.{figures, size_of, line_in, is_meant, lines_in}

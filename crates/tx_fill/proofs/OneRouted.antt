@@ -4,21 +4,16 @@ use Rattle.std.proofs.Common.{◌≡◌, ◌≢◌, ℕ, ◌+◌, ◌-◌, ◌^�
 use Rattle.std.specs.Prelude.{if◌then◌else◌, filter, is_none}
 use Rattle.std.proofs.lemmas.Bool.{eqb-false, not-true, lt-leb, false≢true}
 use Rattle.std.proofs.lemmas.List.{length_push}
-use Rattle.tx_plan.specs.Plan.{Plan, home_of}
-use Rattle.tx_plan.specs.Among.{Among}
+use Rattle.tx_fill.proofs.Common.{Plan, home_of, Among, Circuit, Line, Route, Confirm, Reply, State, Holds, is_seized}
 use Rattle.tx_plan.specs.Codes.{code_of}
 use Rattle.tx_plan.specs.Declaring.{first_true}
 use Rattle.tx_plan.specs.Routes.{is_barred}
-use Rattle.tx_plan.specs.declared.ids.Circuit.{Circuit}
-use Rattle.tx_plan.specs.declared.ids.Line.{Line}
 use Rattle.tx_plan.proofs.Among.{map_among, filter_among}
 use Rattle.tx_machine.specs.declared.cause.Service.{Service}
 use Rattle.tx_machine.specs.declared.cause.Service.TheVariants.{Nc, Np, Na}
-use Rattle.tx_machine.specs.declared.event.Event.TheVariants.{Route, Confirm}
 use Rattle.tx_machine.specs.declared.open_call.Phase.{Phase}
 use Rattle.tx_machine.specs.declared.open_call.Phase.TheVariants.{Standing, Calling, Connected}
 use Rattle.tx_machine.specs.declared.refusal.Refusal.TheVariants.{UnknownCall, NotStanding, NotCalling, Exhausted}
-use Rattle.tx_machine.specs.declared.reply.Reply.{Reply}
 use Rattle.tx_machine.specs.Call.{Call, call_of, exchange_of, is_first, is_numbered, is_standing, is_calling, is_connected}
 use Rattle.tx_machine.specs.Confirming.{carried_on, confirmed, confirmed_by, far_of, rival}
 use Rattle.tx_machine.specs.Ending.{answered}
@@ -26,12 +21,9 @@ use Rattle.tx_machine.specs.InUse.{choice, is_calling_on, seizes_from}
 use Rattle.tx_machine.specs.Lines.{line_answer}
 use Rattle.tx_machine.specs.Refusals.{is_other}
 use Rattle.tx_machine.specs.Routing.{set_call, in_phase, at_line, at_trunk, line_of, routed, routed_for}
-use Rattle.tx_machine.specs.State.{State}
 use Rattle.tx_machine.specs.Step.{step, counted, unless_refused, with_call}
-use Rattle.tx_machine.specs.inner.Invariant.{Holds}
 use Rattle.tx_machine.proofs.Lists.{find_mem, find_none}
 use Rattle.tx_engine.proofs.Filters.{find_nobody}
-use Rattle.tx_fill.specs.Fills.{is_seized}
 
 -- WHAT HOLDS OF CALLS
 abbrev pub AreConnected : List Call → Type 0

@@ -1,23 +1,11 @@
 -- Events that are applied in turn, and groups that are full.
 use Rattle.std.proofs.Common.{◌≡◌, ℕ, ◌+◌, ◌<◌, Bool, true, false, cond, ◌==◌, ◌&&◌, ◌||◌, List, [], ◌∷◌, ◌++◌, map, take, length, get_or, refl, sym, ap, ◌∙◌, arith, append-nil, Option, Some, None}
-use Rattle.std.specs.Prelude.{filter}
-use Rattle.std.specs.List.{range_with_len}
-use Rattle.std.specs.Option.{option_map_or}
+use Rattle.tx_fill.proofs.Common.{filter, range_with_len, option_map_or, entry_at, Event, Block, Refusal, Reply, refusal, State, Net, opening, state_after, step, accepted, counted, unless_refused, line_pairs}
 use Rattle.std.proofs.lemmas.Bool.{eq-eqb}
 use Rattle.std.proofs.lemmas.List.{take_more, map-append, map-id}
 use Rattle.std.proofs.lemmas.List.FromFn.{filter_of_map_range_with_len_more}
 use Rattle.tx_plan.specs.Plan.{Plan, Group}
 use Rattle.tx_plan.specs.Circuits.{is_both, ends_of, may_seize, may_seize_row}
-use Rattle.tx_plan.proofs.ByIndex.{entry_at}
-use Rattle.tx_machine.specs.declared.event.Event.{Event}
-use Rattle.tx_machine.specs.declared.event.Event.TheVariants.{Block}
-use Rattle.tx_machine.specs.declared.refusal.Refusal.{Refusal}
-use Rattle.tx_machine.specs.declared.reply.Reply.{Reply}
-use Rattle.tx_machine.specs.Refusals.{refusal}
-use Rattle.tx_machine.specs.State.{State, Net, opening}
-use Rattle.tx_machine.specs.Runs.{state_after}
-use Rattle.tx_machine.specs.Step.{step, accepted, counted, unless_refused}
-use Rattle.tx_fill.specs.CallLines.{line_pairs}
 use Rattle.tx_fill.specs.Fills.{filled, fill_state}
 
 state_push : (p : Plan) (s : State) (es : List Event) (e : Event)

@@ -1,21 +1,11 @@
 -- Answers that say less of why a text could not be read to its end, and of what was left unread.
-use Rattle.std.proofs.Common.{◌≡◌, ℕ, Bool, true, false, List, Result, Err, inl, inr}
-use Rattle.tx_text.specs.declared.frame.FaultKind.{FaultKind}
-use Rattle.tx_text.specs.declared.frame.FaultKind.TheVariants.{Frame, Word}
+use Rattle.tx_jobs.proofs.Common.{◌≡◌, ℕ, Bool, true, false, List, Result, Err, inl, inr, FaultKind, Frame, Word, Input, Output, Plan, PlanWord, opening, Summary, from_opening, JobFault, ScriptRan}
 use Rattle.tx_text.specs.declared.frame.FrameFault.{FrameFault}
-use Rattle.tx_text.specs.Ends.{Input, Output}
 use Rattle.tx_text.specs.Told.{Ending}
 use Rattle.tx_text.specs.Said.{is_no_room, StoppedBy}
 use Rattle.tx_text.proofs.CallCounts.{stopped_by_with}
-use Rattle.tx_plan.specs.Plan.{Plan}
-use Rattle.tx_plantext.specs.declared.fault.PlanWord.{PlanWord}
 use Rattle.tx_plantext.specs.PlanText.{plan_of, ReadsPlan}
-use Rattle.tx_machine.specs.State.{opening}
-use Rattle.tx_script.specs.declared.summary.Summary.{Summary}
 use Rattle.tx_script.proofs.Retold.{run_as}
-use Rattle.tx_audit.specs.Simulated.{from_opening}
-use Rattle.tx_jobs.specs.declared.job_fault.JobFault.{JobFault}
-use Rattle.tx_jobs.specs.Jobs.{ScriptRan}
 
 module _ (text : Input) (D V : Type 0) (f : text.broken → D) (g : text.unread → V) where
   unread_with : {S W : Type 0} (F : Ending → List ℕ → Result S (ℕ × FaultKind W)) (b : Bool) (n : ℕ) (k : FrameFault)

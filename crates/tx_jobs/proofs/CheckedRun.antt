@@ -1,11 +1,9 @@
 -- The answer of a checked run, after its verdict was written.
 use Rattle.std.specs.Prelude.{OnOk, OnErr}
-use Rattle.std.proofs.Common.{◌≡◌, ◌∙◌, ℕ, Bool, true, List, Option, Result, Ok, Err, inr, refl, sym, ap, subst}
+use Rattle.tx_jobs.proofs.Common.{◌≡◌, ◌∙◌, ℕ, Bool, true, List, Option, Result, Ok, Err, inr, refl, sym, ap, subst, Wrote, Plan, from_opening, Write}
 use Rattle.std.specs.Io.KnownBytes.{append_known}
 use Rattle.tx_text.specs.declared.sink.WriteFault.{WriteFault}
 use Rattle.tx_text.specs.Ends.{StopsIn, Input, output}
-use Rattle.tx_text.specs.Wrote.{Wrote}
-use Rattle.tx_plan.specs.Plan.{Plan}
 use Rattle.tx_cert.specs.Certificate.{Certificate}
 use Rattle.tx_check.specs.declared.fault.CheckFault.{CheckFault}
 use Rattle.tx_check.specs.declared.verdict.Verdict.TheVariants.{No}
@@ -13,9 +11,7 @@ use Rattle.tx_check.specs.Verdicts.{verdict_written}
 use Rattle.tx_script.specs.Answers.{RunAnswers}
 use Rattle.tx_audit.specs.declared.checked.Checked.{Checked}
 use Rattle.tx_audit.specs.declared.checked.Checked.TheVariants.{Ran, Denied}
-use Rattle.tx_audit.specs.Simulated.{from_opening}
 use Rattle.tx_audit.specs.CheckedRuns.{CheckedAnswers}
-use Rattle.tx_jobs.specs.declared.job_fault.JobFault.TheVariants.{Write}
 use Rattle.tx_jobs.specs.CheckedJobs.{ToldRun, ToldNo}
 
 -- the verdict after a No, as it was written

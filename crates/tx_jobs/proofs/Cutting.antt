@@ -1,14 +1,11 @@
 -- A plan ends where its bytes are seen to end.
 use Rattle.std.proofs.Common.{◌≡◌, ℕ, suc, ◌+◌, ◌==◌, Bool, true, false, cond, List, [], ◌∷◌, ◌++◌, length, refl, sym, ap, subst, ◌∙◌, arith, append_assoc, append-nil, length-append, eqb-true}
-use Rattle.std.specs.Prelude.{if◌then◌else◌}
+use Rattle.tx_jobs.proofs.Common.{if◌then◌else◌, false≢true, is_end, Seen}
 use Rattle.std.specs.List.{slice_split, onto_first}
-use Rattle.std.proofs.lemmas.Bool.{false≢true}
 use Rattle.std.proofs.lemmas.List.Elements.{All-nil, All-push}
 use Rattle.tx_text.specs.Text.{Line, is_lf, lines_of_parts, lines_from}
 use Rattle.tx_text.specs.Words.{words_of, is_blank, is_hash}
-use Rattle.tx_text.specs.Frame.{is_end}
 use Rattle.tx_text.proofs.TextLines.{HasNoLf, ended_line, lines_at_lf, lines_nil, lines_last}
-use Rattle.tx_jobs.specs.declared.seen.Seen.{Seen}
 use Rattle.tx_jobs.specs.declared.seen.Seen.TheVariants.{Blanks, E, En, End, Comment, Cr, Other, Over}
 use Rattle.tx_jobs.specs.Parts.{plan_end, cut_of}
 use Rattle.tx_jobs.specs.inner.Seen.{in_line, at_lf, after, is_over, is_end_seen, line_seen, end_from}

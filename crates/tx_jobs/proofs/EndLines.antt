@@ -1,16 +1,13 @@
 -- What is seen of a line tells whether its one word is END.
 use Rattle.std.proofs.Common.{◌≡◌, ℕ, suc, ◌-◌, ◌==◌, ◌||◌, Bool, true, false, not, List, [], ◌∷◌, length, take, drop, refl, sym, ap, subst, ◌∙◌, arith, eqb-true}
-use Rattle.std.specs.Prelude.{if◌then◌else◌, slice_index}
+use Rattle.tx_jobs.proofs.Common.{if◌then◌else◌, slice_index, false≢true, is_end, Blanks, E, En, End, Comment, Cr, Other}
 use Rattle.std.specs.List.{prefix_len}
 use Rattle.std.proofs.Math.Numerals.{one-add}
-use Rattle.std.proofs.lemmas.Bool.{false≢true}
 use Rattle.std.proofs.lemmas.Bool.Decides.{nat_tests}
 use Rattle.tx_text.specs.Text.{without_cr}
 use Rattle.tx_text.specs.Words.{words_of, is_blank, is_hash}
 use Rattle.tx_text.specs.inner.Words.{is_word_byte}
-use Rattle.tx_text.specs.Frame.{is_end}
 use Rattle.tx_text.proofs.WordLists.{cuts_word, blank_before}
-use Rattle.tx_jobs.specs.declared.seen.Seen.TheVariants.{Blanks, E, En, End, Comment, Cr, Other}
 use Rattle.tx_jobs.specs.inner.Seen.{line_seen, is_end_seen}
 
 -- THE WORDS OF A LINE, by its first bytes

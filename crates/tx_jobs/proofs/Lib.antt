@@ -9,3 +9,4 @@ mod Cutting
 mod Taking
 pub mod PartCalls
 pub mod PlanCalls
+pub mod Common

@@ -1,11 +1,8 @@
 -- What the calls that read a part of an input mean for the input.
-use Rattle.std.proofs.Common.{◌≡◌, ◌⊎◌, ℕ, zero, suc, ◌≤◌, Bool, true, false, List, [], ◌∷◌, Option, Result, Ok, Err, refl, sym, ap, ◌∙◌, arith, inl, inr, subst}
-use Rattle.tx_text.specs.declared.source.ReadFault.{ReadFault}
+use Rattle.tx_jobs.proofs.Common.{◌≡◌, ◌⊎◌, ℕ, zero, suc, ◌≤◌, Bool, true, false, List, [], ◌∷◌, Option, Result, Ok, Err, refl, sym, ap, ◌∙◌, arith, inl, inr, subst, ReadFault, ScriptPart, CalledInput, LeftInput, PartCall}
 use Rattle.tx_text.specs.Calls.{Gives, Gave, CallsAtMost}
 use Rattle.tx_text.specs.inner.CallsLeft.{Calls}
 use Rattle.tx_plan.proofs.Lists.{opposed}
-use Rattle.tx_jobs.specs.declared.script_part.ScriptPart.{ScriptPart}
-use Rattle.tx_jobs.specs.inner.Reading.{CalledInput, LeftInput, PartCall}
 
 -- of a source that stands over a part
 module _ {R S : Type 0} (rest : R → Option (List ℕ)) (failed : R → Bool) (called : ℕ → Result ℕ ReadFault → R → R → Type 0) (part : S → ScriptPart R) (over : S → Bool) (call : ℕ → Result ℕ ReadFault → S → S → Type 0)

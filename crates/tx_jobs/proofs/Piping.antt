@@ -1,29 +1,11 @@
 -- How an input of two texts was read, part by part.
-use Rattle.std.proofs.Common.{◌≡◌, ◌⊎◌, ◌∙◌, ℕ, Bool, true, false, List, [], ◌∷◌, Option, Result, Err, refl, sym, ap, subst, inl, inr}
-use Rattle.std.specs.Prelude.{option_map}
-use Rattle.std.specs.Io.KnownBytes.{prepend_known}
-use Rattle.std.proofs.lemmas.Bool.{false≢true}
-use Rattle.tx_text.specs.declared.source.ReadFault.{ReadFault}
-use Rattle.tx_text.specs.declared.frame.FaultAt.{FaultAt}
+use Rattle.tx_jobs.proofs.Common.{◌≡◌, ◌⊎◌, ◌∙◌, ℕ, Bool, true, false, List, [], ◌∷◌, Option, Result, Err, refl, sym, ap, subst, inl, inr, option_map, prepend_known, false≢true, ReadFault, FaultAt, Plan, PlanWord, Blanks, PlanPart, ScriptPart, plan_part, script_part, left_of_plan, is_over, moves-nil, Summary, JobFault, plan_fault, Output, input, ScriptRan}
 use Rattle.tx_text.specs.Calls.{Gave, CallsAtMost, Broken, source_calls}
-use Rattle.tx_plan.specs.Plan.{Plan}
 use Rattle.tx_plan.specs.Rules.{IsPlan}
-use Rattle.tx_plantext.specs.declared.fault.PlanWord.{PlanWord}
 use Rattle.tx_plantext.specs.PlanText.{SaysPlan, ReadsPlan}
-use Rattle.tx_jobs.specs.declared.seen.Seen.TheVariants.{Blanks}
-use Rattle.tx_jobs.specs.declared.plan_part.PlanPart.{PlanPart}
-use Rattle.tx_jobs.specs.declared.script_part.ScriptPart.{ScriptPart}
-use Rattle.tx_jobs.specs.Parts.{plan_part, script_part, left_of_plan}
-use Rattle.tx_jobs.specs.inner.Seen.{is_over}
 use Rattle.tx_jobs.specs.inner.Reading.{bytes_left, as_script, plan_of, script_of, plan_rest, script_rest, PartCall, PlanCall, ScriptCall}
 use Rattle.tx_jobs.proofs.PartCalls as calls
 use Rattle.tx_jobs.proofs.PlanCalls.{Took, calls_took, whole_plan, whole_script, plan_left, all_script}
-use Rattle.tx_text.proofs.ReadingOn.{moves-nil}
-use Rattle.tx_script.specs.declared.summary.Summary.{Summary}
-use Rattle.tx_jobs.specs.declared.job_fault.JobFault.{JobFault}
-use Rattle.tx_jobs.specs.JobFaults.{plan_fault}
-use Rattle.tx_text.specs.Ends.{Output, input}
-use Rattle.tx_jobs.specs.Jobs.{ScriptRan}
 use Rattle.tx_jobs.specs.PipeJobs.{calls_behind, PipeRan, PipeRefused}
 use Rattle.tx_jobs.proofs.Breaking.{refused_with, simulated_with}
 

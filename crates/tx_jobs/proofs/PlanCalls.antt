@@ -1,19 +1,10 @@
 -- What the calls that read a plan take of its input.
-use Rattle.std.proofs.Common.{◌≡◌, ◌⊎◌, ℕ, zero, suc, ◌+◌, ◌-◌, Bool, true, false, List, [], ◌∷◌, ◌++◌, Option, Some, None, Result, Ok, length, take, drop, refl, sym, ap, subst, ◌∙◌, arith, inl, inr, length-append}
-use Rattle.std.specs.Prelude.{option_map}
-use Rattle.std.specs.Io.KnownBytes.{IsAtEnd, prepend_known}
+use Rattle.tx_jobs.proofs.Common.{◌≡◌, ◌⊎◌, ℕ, zero, suc, ◌+◌, ◌-◌, Bool, true, false, List, [], ◌∷◌, ◌++◌, Option, Some, None, Result, Ok, length, take, drop, refl, sym, ap, subst, ◌∙◌, arith, inl, inr, length-append, option_map, IsAtEnd, prepend_known, drop_all, ReadFault, Seen, Blanks, PlanPart, plan_part, script_part, left_of_plan, bytes_left, as_script, plan_of, script_of, plan_rest, script_rest, PlanCall}
 use Rattle.std.proofs.Math.Seq.{drop-append-add}
-use Rattle.std.proofs.lemmas.List.{drop_all}
-use Rattle.tx_text.specs.declared.source.ReadFault.{ReadFault}
 use Rattle.tx_text.specs.Calls.{Gave, CallsAtMost}
 use Rattle.tx_text.proofs.SliceAnswers.{some_is}
 use Rattle.tx_text.proofs.ReadingOn.{moves-nil, prepend_twice}
-use Rattle.tx_jobs.specs.declared.seen.Seen.{Seen}
-use Rattle.tx_jobs.specs.declared.seen.Seen.TheVariants.{Blanks}
-use Rattle.tx_jobs.specs.declared.plan_part.PlanPart.{PlanPart}
-use Rattle.tx_jobs.specs.Parts.{plan_part, script_part, left_of_plan}
 use Rattle.tx_jobs.specs.inner.Seen.{is_over, end_from}
-use Rattle.tx_jobs.specs.inner.Reading.{bytes_left, as_script, plan_of, script_of, plan_rest, script_rest, PlanCall}
 use Rattle.tx_jobs.proofs.Cutting.{end_on, end_over, seen_cut}
 
 module _ {R : Type 0} (rest : R → Option (List ℕ)) (failed : R → Bool) (called : ℕ → Result ℕ ReadFault → R → R → Type 0) where

@@ -1,27 +1,19 @@
 -- Refused texts and the sink's mark.
-use Rattle.std.proofs.Common.{◌≡◌, ◌∙◌, Bool, Result, Err, refl, sym, ap}
+use Rattle.tx_jobs.proofs.Common.{◌≡◌, ◌∙◌, Bool, Result, Err, refl, sym, ap, FaultAt, FaultKind, Frame, Word, exits_with, PlanWord, RunFault, JobFault, audit_fault}
 use Rattle.std.specs.Result.{IsErrAnd}
 use Rattle.tx_text.specs.declared.frame.FrameFault.TheVariants.{LineTooLong, BadByte, NoMemory as TextNoMemory, Read as LineRead, NoHeader, NoEnd, AfterEnd}
-use Rattle.tx_text.specs.declared.frame.FaultAt.{FaultAt}
-use Rattle.tx_text.specs.declared.frame.FaultKind.{FaultKind}
-use Rattle.tx_text.specs.declared.frame.FaultKind.TheVariants.{Frame, Word}
-use Rattle.tx_text.proofs.Exits.{exits_with}
 use Rattle.tx_plan.specs.declared.refusal.PlanRefusal.TheVariants.{WrongCount, BadName, BadCode, BadNumber, Duplicate, Unknown, RangeOrder, Overlap, SameEnds, NotOutgoing, RepeatedGroup, RouteAtHome, TooMany, BarAtHome, NoMemory as PlanNoMemory}
-use Rattle.tx_plantext.specs.declared.fault.PlanWord.{PlanWord}
 use Rattle.tx_plantext.specs.declared.fault.PlanWord.TheVariants.{UnknownWord, Refused}
 use Rattle.tx_cert.specs.declared.fault.CertWord.{CertWord}
 use Rattle.tx_cert.specs.declared.fault.CertWord.TheVariants.{UnknownWord as CertUnknownWord, WrongCount as CertWrongCount, UnknownName, BadNumber as CertBadNumber, Duplicate as CertDuplicate, NoMemory as CertNoMemory}
 use Rattle.tx_script.specs.declared.script_word.ScriptWord.{ScriptWord}
-use Rattle.tx_script.specs.declared.run_fault.RunFault.{RunFault}
 use Rattle.tx_script.specs.declared.run_cause.RunCause.{RunCause}
 use Rattle.tx_script.specs.declared.run_cause.RunCause.TheVariants.{Read as RunRead, Write as RunWrite, Script as RunScript, NoMemory as RunNoMemory}
 use Rattle.tx_script.specs.Answers.{mark_by as run_mark_by}
 use Rattle.tx_audit.specs.declared.audited.AuditFault.{AuditFault}
 use Rattle.tx_audit.specs.declared.audited.AuditFault.TheVariants.{Plan as AuditPlan, Write as AuditWrite, NoMemory as AuditNoMemory}
 use Rattle.tx_audit.specs.Audits.{mark_by as audit_mark_by}
-use Rattle.tx_jobs.specs.declared.job_fault.JobFault.{JobFault}
 use Rattle.tx_jobs.specs.JobFaults.{plan_fault, plan_fault_by, cert_fault, cert_fault_by, script_fault_by, cause_fault, run_fault, mark_by, mark_after}
-use Rattle.tx_jobs.specs.AuditJobs.{audit_fault}
 
 plan_by : (old : Bool) (f : FaultAt PlanWord) (k : FaultKind PlanWord) → mark_by old (plan_fault_by f k) ≡ old
 plan_by old f (Frame LineRead) = refl

@@ -1,13 +1,6 @@
 -- The answer of a run over the engine, as a job tells it.
-use Rattle.std.proofs.Common.{◌≡◌, ◌∙◌, Result, Ok, Err, inl, inr, ap}
-use Rattle.tx_plan.specs.Plan.{Plan}
-use Rattle.tx_script.specs.declared.summary.Summary.{Summary}
-use Rattle.tx_script.specs.declared.run_fault.RunFault.{RunFault}
+use Rattle.tx_jobs.proofs.Common.{◌≡◌, ◌∙◌, Result, Ok, Err, inl, inr, ap, Plan, Summary, RunFault, JobFault, run_fault, Input, Output, ScriptRan, told_run}
 use Rattle.tx_audit.specs.Simulated.{Simulated}
-use Rattle.tx_jobs.specs.declared.job_fault.JobFault.{JobFault}
-use Rattle.tx_jobs.specs.JobFaults.{run_fault}
-use Rattle.tx_text.specs.Ends.{Input, Output}
-use Rattle.tx_jobs.specs.Jobs.{ScriptRan, told_run}
 
 module _ (p : Plan) (script : Input) (out : Output) where
   pub ran_as : (answer : Result Summary RunFault) (told : Result Summary JobFault) → told ≡ told_run answer → Simulated p script out answer → ScriptRan p script out told

@@ -1,23 +1,16 @@
 -- Taking the bytes of a plan, line by line.
 use Rattle.std.proofs.Common.{◌≡◌, ◌≢◌, ℕ, zero, suc, ◌+◌, ◌-◌, ◌<◌, ◌≤◌, min, true, false, List, [], ◌∷◌, ◌++◌, Option, Some, None, Result, Ok, inl, inr, ◌⊎◌, length, take, drop, refl, sym, ap, subst, ◌∙◌, arith}
-use Rattle.std.specs.Prelude.{if◌then◌else◌, slice_index}
+use Rattle.tx_jobs.proofs.Common.{if◌then◌else◌, slice_index, IsAtEnd, prepend_known, is_lf, HasNoLf, Seen, Other, ReadFault, ScriptPart}
 use Rattle.std.specs.List.{position_or_len}
-use Rattle.std.specs.Io.KnownBytes.{IsAtEnd, prepend_known}
 use Rattle.std.proofs.lemmas.Bool.{false≢true, lt-ltb}
 use Rattle.std.proofs.lemmas.List.{append_assoc, take-append-drop, length-drop, length-take-le, take-append-le, drop-append-le, take_all, drop_all, drop-drop}
 use Rattle.std.proofs.lemmas.List.Elements.{All-tail}
 use Rattle.memchr.specs.Find.{IsFirstByte}
-use Rattle.tx_text.specs.Text.{is_lf}
 use Rattle.tx_text.specs.inner.Feed.{front_of}
-use Rattle.tx_text.proofs.TextLines.{HasNoLf}
 use Rattle.tx_text.proofs.Feeding.{front-no_lf, length-front, cuts_at_lf}
 use Rattle.tx_text.proofs.Indexes.{found_or_len}
-use Rattle.tx_jobs.specs.declared.seen.Seen.{Seen}
-use Rattle.tx_jobs.specs.declared.seen.Seen.TheVariants.{Other}
 use Rattle.tx_jobs.specs.inner.Seen.{in_line, at_lf, line_seen, is_over, end_from}
-use Rattle.tx_text.specs.declared.source.ReadFault.{ReadFault}
 use Rattle.tx_jobs.specs.declared.ahead.Ahead.{Ahead}
-use Rattle.tx_jobs.specs.declared.script_part.ScriptPart.{ScriptPart}
 use Rattle.tx_jobs.specs.inner.Reading.{plan_of, script_of, Refilled, CalledInput, LeftInput}
 use Rattle.tx_jobs.proofs.Cutting.{end_on, in_going, line_going}
 use Rattle.tx_jobs.proofs.EndLines.{other}

@@ -1,16 +1,10 @@
 -- What a run that tells its events answers from the opening state, as a job tells it.
-use Rattle.std.proofs.Common.{◌≡◌, ◌∙◌, ap, Result, subst}
-use Rattle.tx_text.specs.Ends.{Input, Output}
-use Rattle.tx_plan.specs.Plan.{Plan}
+use Rattle.tx_jobs.proofs.Common.{◌≡◌, ◌∙◌, ap, Result, subst, Input, Output, Plan, Summary, RunFault, JobFault, told_run}
 use Rattle.tx_machine.specs.State.{State, opening}
 use Rattle.tx_script.specs.declared.teller.Telling.{Telling}
-use Rattle.tx_script.specs.declared.summary.Summary.{Summary}
-use Rattle.tx_script.specs.declared.run_fault.RunFault.{RunFault}
 use Rattle.tx_script.specs.Answers.{States, states}
 use Rattle.tx_script.specs.TellingAnswers.{TellingAnswers}
 use Rattle.tx_script.proofs.Retold.{telling_as}
-use Rattle.tx_jobs.specs.declared.job_fault.JobFault.{JobFault}
-use Rattle.tx_jobs.specs.Jobs.{told_run}
 use Rattle.tx_jobs.specs.TellingJobs.{ToldPlan}
 
 -- the network with which the run began was in the opening state

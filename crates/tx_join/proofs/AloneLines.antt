@@ -1,10 +1,6 @@
 -- The lines of the lists and bars that one of two plans has alone, one after another.
 use Rattle.std.proofs.Common.{◌≡◌, ℕ, zero, suc, ◌+◌, ◌≤◌, Bool, true, false, cond, List, [], ◌∷◌, ◌++◌, length, take, Option, refl, sym, ap, ◌∙◌, append_assoc, append-nil, add-one}
-use Rattle.std.specs.Prelude.{filter}
-use Rattle.std.proofs.lemmas.List.{take_all}
-use Rattle.tx_text.specs.Puts.{Puts}
-use Rattle.tx_text.specs.Written.{line_written}
-use Rattle.tx_text.proofs.Putting.{puts_is, puts_then}
+use Rattle.tx_join.proofs.Common.{filter, take_all, Puts, line_written, puts_is, puts_then}
 use Rattle.tx_plantext.specs.PlanWritten.{lines_of_list}
 use Rattle.tx_join.specs.inner.Alone.{kept_line}
 

@@ -1,8 +1,6 @@
 -- How many entries of a plan another one does not have, counted one after another.
-use Rattle.std.proofs.Common.{◌≡◌, ℕ, ◌+◌, ◌<◌, ◌≤◌, Bool, true, false, not, cond, List, [], ◌∷◌, length, length-append, take, Some, sym, ap, ◌∙◌, arith}
-use Rattle.std.specs.Prelude.{filter, slice_get}
+use Rattle.tx_join.proofs.Common.{◌≡◌, ℕ, ◌+◌, ◌<◌, ◌≤◌, Bool, true, false, not, cond, List, [], ◌∷◌, length, length-append, take, Some, sym, ap, ◌∙◌, arith, filter, slice_get, entry_at}
 use Rattle.std.proofs.lemmas.List.{length-take}
-use Rattle.tx_plan.proofs.ByIndex.{entry_at}
 use Rattle.tx_join.proofs.Found.{kept_next, left_next}
 
 filter_shorter : {A : Type 0} (t : A → Bool) (xs : List A) → length (filter t xs) ≤ length xs

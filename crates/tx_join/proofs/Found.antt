@@ -1,17 +1,7 @@
 -- What a search by a test finds, and lists of which some members are kept.
-use Rattle.std.proofs.Common.{◌≡◌, ◌≢◌, ℕ, zero, suc, ◌+◌, ◌<◌, ◌≤◌, inl, inr, Bool, true, false, not, cond, ◌||◌, List, [], ◌∷◌, ◌++◌, length, length-append, append-nil, map, take, drop, nat_le, Some, None, is_some, unwrap_or, refl, sym, ap, ◌∙◌, arith}
-use Rattle.std.specs.Prelude.{find, filter, flat_map, position, slice_get}
+use Rattle.tx_join.proofs.Common.{◌≡◌, ◌≢◌, ℕ, zero, suc, ◌+◌, ◌<◌, ◌≤◌, inl, inr, Bool, true, false, not, cond, ◌||◌, List, [], ◌∷◌, ◌++◌, length, length-append, append-nil, map, take, drop, nat_le, Some, None, is_some, unwrap_or, refl, sym, ap, ◌∙◌, arith, find, filter, flat_map, position, slice_get, option_map, slice_get_within, take_all, take-append-drop, filter-append, or-true, list_any-append, EachPair, take_next, all_joined}
 use Rattle.std.specs.List.{list_any, position_or_len, range_with_len, AllByRecursion}
-use Rattle.std.specs.Option.{option_map}
-use Rattle.std.proofs.lemmas.Option.{slice_get_within}
-use Rattle.std.proofs.lemmas.List.{take_all, take-append-drop}
-use Rattle.std.proofs.lemmas.List.Elements.{filter-append}
 use Rattle.std.proofs.lemmas.Bool.{or_parts, cases_eq, leb-true, false_from_ne_true, true≢false, false≢true}
-use Rattle.std.proofs.Math.Bool.{or-true}
-use Rattle.std.proofs.lemmas.List.Folds.{list_any-append}
-use Rattle.tx_plan.specs.Rules.{EachPair}
-use Rattle.tx_plan.proofs.ByIndex.{take_next}
-use Rattle.tx_plan.proofs.Filtered.{all_joined}
 use Rattle.tx_plan.proofs.Lists.{below, all_mapped}
 
 -- AN ENTRY THAT IS FOUND

@@ -1,27 +1,7 @@
 -- The joined network is a plan, and it has the network of both plans.
-use Rattle.std.proofs.Common.{◌≡◌, ℕ, ◌<◌, ◌≤◌, Bool, true, false, not, List, [], length, map, max, Option, Some, None, unwrap_or, refl, sym, ap, ◌∙◌, subst, arith}
-use Rattle.std.specs.Prelude.{filter, find, slice_get}
-use Rattle.std.specs.List.{AllByRecursion}
-use Rattle.std.specs.Option.{option_map, option_map_or}
-use Rattle.std.specs.Str.{bytes_eq}
-use Rattle.std.proofs.lemmas.Bool.{not-true}
-use Rattle.std.proofs.lemmas.Option.{same_Some, slice_get-map, slice_get_within}
-use Rattle.std.proofs.lemmas.List.{length-map}
-use Rattle.tx_plan.specs.declared.ids.Direction.TheVariants.{OneWay}
-use Rattle.tx_text.specs.Words.{is_name}
-use Rattle.tx_plan.specs.Plan.{Plan, Code, Group, group_named, figures_of, group_name, home_of}
-use Rattle.tx_plan.specs.Rules.{IsPlan, IsCode, IsGroup}
-use Rattle.tx_plan.specs.Circuits.{ends_of, direction_of, count_of}
+use Rattle.tx_join.proofs.Common.{◌≡◌, ℕ, ◌<◌, ◌≤◌, Bool, true, false, not, List, [], length, map, max, Option, Some, None, unwrap_or, refl, sym, ap, ◌∙◌, subst, arith, filter, find, slice_get, AllByRecursion, option_map, option_map_or, bytes_eq, not-true, same_Some, slice_get-map, slice_get_within, length-map, OneWay, is_name, Plan, Code, Group, group_named, figures_of, group_name, home_of, IsPlan, IsCode, IsGroup, ends_of, direction_of, count_of, entry_at, all_at, all_kept, all_joined, all_pass, code_within, all_map, all_mapped, all_with, longer_by, slice_get_left, placed, no_index, none_passes, code_back, group_back, list_any-map, CanBeJoined, HasNetwork, KnowsExchanges}
 use Rattle.tx_plan.specs.Declaring.{has_exchange, has_code, has_group, exchange_at, code_at, group_at}
-use Rattle.tx_plan.proofs.ByIndex.{entry_at, all_at}
-use Rattle.tx_plan.proofs.Filtered.{all_kept, all_joined, all_pass}
-use Rattle.tx_plan.proofs.Growing.{code_within}
-use Rattle.tx_plan.proofs.Lists.{all_map, all_mapped, all_with, longer_by, slice_get_left, placed, no_index, none_passes}
-use Rattle.tx_plan.proofs.NamesBack.{code_back, group_back}
-use Rattle.tx_plan.proofs.Tables.{list_any-map}
 use Rattle.tx_join.specs.Joined.{joined_network, joined_exchange, joined_code, joined_group, widened, circuits_named, exchange_in, code_in, group_in}
-use Rattle.tx_join.specs.Laws.{CanBeJoined, HasNetwork}
-use Rattle.tx_join.specs.inner.Declared.{KnowsExchanges}
 use Rattle.tx_join.proofs.Found.{IsEntry, all_of, entry_found, find-map}
 use Rattle.tx_join.proofs.Knows.{exchange_there, exchange_named_so, exchanges_apart, code_there, code_named_so, group_there, group_named_so}
 use Rattle.tx_join.proofs.Rows.{code_keys, group_keys, keys_differ, found_first, found_second, has_key, knows_old_exchanges, knows_new_exchanges, knows_old_codes, knows_new_codes, knows_old_groups, knows_new_groups, exchange_stays, code_stays, group_stays}

@@ -1,16 +1,8 @@
 -- A plan that knows the names of another one has its exchanges, codes and groups, each under an index
 -- of its own.
-use Rattle.std.proofs.Common.{◌≡◌, ℕ, ◌<◌, true, List, [], length, Some, sym, ap, ◌∙◌}
-use Rattle.std.specs.Option.{option_map_or}
-use Rattle.std.specs.Str.{bytes_eq}
-use Rattle.std.proofs.lemmas.Slice.Eq.{bytes_eq-Decides}
-use Rattle.tx_plan.specs.Plan.{Plan, Code, Group, exchange_named, code_named, group_named, exchange_name, figures_of, group_name}
-use Rattle.tx_plan.specs.Rules.{IsPlan}
+use Rattle.tx_join.proofs.Common.{◌≡◌, ℕ, ◌<◌, true, List, [], length, Some, sym, ap, ◌∙◌, option_map_or, bytes_eq, bytes_eq-Decides, Plan, Code, Group, exchange_named, code_named, group_named, exchange_name, figures_of, group_name, IsPlan, exchange_back, code_back, group_back, exchange_in, code_in, group_in, KnowsExchanges, KnowsCodes, KnowsGroups}
 use Rattle.tx_plan.proofs.Growing.{exchange_within, code_within}
 use Rattle.tx_plan.proofs.Lists.{placed_within}
-use Rattle.tx_plan.proofs.NamesBack.{exchange_back, code_back, group_back}
-use Rattle.tx_join.specs.Joined.{exchange_in, code_in, group_in}
-use Rattle.tx_join.specs.inner.Declared.{KnowsExchanges, KnowsCodes, KnowsGroups}
 use Rattle.tx_join.proofs.Found.{entry_found}
 
 pub same_word : (w z : List ℕ) → bytes_eq w z ≡ true → z ≡ w

@@ -1,20 +1,6 @@
 -- The joined plans have the lines of the lists and bars of their own plan, and those that the other
 -- one has alone.
-use Rattle.std.proofs.Common.{◌≡◌, ℕ, ◌-◌, Bool, true, false, not, ◌&&◌, cond, nat_lt, List, [], ◌∷◌, ◌++◌, length, map, append-nil, refl, sym, ap, ◌∙◌, arith}
-use Rattle.std.specs.Prelude.{codes, filter}
-use Rattle.std.specs.List.{AllByRecursion}
-use Rattle.std.proofs.lemmas.Bool.{false_from_ne_true, ltb-true, not-true, true≢false}
-use Rattle.std.proofs.lemmas.List.{map-append}
-use Rattle.std.proofs.lemmas.List.Elements.{filter-append}
-use Rattle.std.proofs.lemmas.Option.{slice_get_within}
-use Rattle.tx_plan.specs.declared.ids.Pair.{Pair}
-use Rattle.tx_plan.specs.Plan.{Plan, Route, exchange_name, figures_of, group_name}
-use Rattle.tx_plan.specs.Rules.{IsPlan, IsRoute, IsBar}
-use Rattle.tx_plan.specs.Circuits.{may_seize}
-use Rattle.tx_plan.specs.Declaring.{has_exchange, has_code}
-use Rattle.tx_plan.proofs.Filtered.{all_kept, all_pass}
-use Rattle.tx_plan.proofs.Lists.{all_map}
-use Rattle.tx_plantext.specs.PlanWritten.{route_words, bar_words}
+use Rattle.tx_join.proofs.Common.{◌≡◌, ℕ, ◌-◌, Bool, true, false, not, ◌&&◌, cond, nat_lt, List, [], ◌∷◌, ◌++◌, length, map, append-nil, refl, sym, ap, ◌∙◌, arith, codes, filter, AllByRecursion, false_from_ne_true, ltb-true, not-true, true≢false, map-append, filter-append, slice_get_within, Pair, Plan, Route, exchange_name, figures_of, group_name, IsPlan, IsRoute, IsBar, may_seize, has_exchange, has_code, all_kept, all_pass, all_map, route_words, bar_words}
 use Rattle.tx_join.specs.Joined.{code_in, group_in, route_in, bar_in, has_both, routes_alone, bars_alone, routes_over, shared_bars, bars_below, bars_from, bars_over, joined_network, joined_old, joined_new}
 use Rattle.tx_join.specs.Laws.{CanBeJoined, HasNetwork, new_bars, LeadOver}
 use Rattle.tx_join.proofs.Found.{filter_all, filter_none, filter-map, map_twice}

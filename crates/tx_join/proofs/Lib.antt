@@ -20,3 +20,4 @@ pub mod Counts
 pub mod AloneLines
 pub mod Sums
 pub mod RangesByCode
+pub mod Common

@@ -1,26 +1,14 @@
 -- The next entry of a plan that is declared: nothing but lack of memory refuses it.
 use Rattle.std.proofs.Common.{◌≡◌, ◌≢◌, ℕ, suc, ◌+◌, ◌≤◌, Bool, true, false, not, ◌||◌, ◌&&◌, ◌==◌, nat_le, max, List, [], ◌∷◌, ◌++◌, length, map, take, drop, Option, Some, None, Result, Ok, Err, inl, inr, refl, sym, ap, ◌∙◌, subst, arith, append_assoc, append-nil, eq-eqb, eqb-true, is_some}
-use Rattle.std.proofs.lemmas.Option.{same_Some}
+use Rattle.tx_join.proofs.Common.{same_Some, list_any, AllByRecursion, bytes_eq, nat_tests, map-append, take-append-drop, list_any-append, or-false, is_name, LineRange, Plan, Code, Group, exchange_named, code_named, exchange_name, figures_of, all_kept, all_map, all_mapped, placed, code_in, circuits_named}
 use Rattle.std.specs.Prelude.{filter, slice_get, if◌then◌else◌, IsOk}
-use Rattle.std.specs.List.{list_any, AllByRecursion}
-use Rattle.std.specs.Str.{bytes_eq}
 use Rattle.std.proofs.lemmas.Bool.{and_from, and_parts, not_from_true, false_from_ne_true, true≢false, false≢true}
-use Rattle.std.proofs.lemmas.Bool.Decides.{nat_tests}
-use Rattle.std.proofs.lemmas.List.{map-append, take-append-drop}
-use Rattle.std.proofs.lemmas.List.Folds.{list_any-append}
-use Rattle.std.proofs.Math.Bool.{or-false}
-use Rattle.tx_text.specs.Words.{is_name}
-use Rattle.tx_plan.specs.declared.range.LineRange.{LineRange}
 use Rattle.tx_plan.specs.declared.refusal.PlanRefusal.{PlanRefusal}
-use Rattle.tx_plan.specs.Plan.{Plan, Code, Group, exchange_named, code_named, exchange_name, figures_of}
 use Rattle.tx_plan.specs.Rules.{IsPlan, IsCode, IsRange, IsGroup, EachPair, AreSeparate}
 use Rattle.tx_plan.specs.Numbers.{is_code, is_national, at_most, shares}
 use Rattle.tx_plan.specs.Declaring.{Declares, first_true, exchange_refusals, code_refusals, lines_refusals, group_refusals, with_exchange, with_code, with_lines, with_group, has_exchange, has_code, has_group, overlaps, is_ordered}
 use Rattle.tx_plan.proofs.ByIndex.{bytes_apart, all_at}
-use Rattle.tx_plan.proofs.Filtered.{all_kept}
-use Rattle.tx_plan.proofs.Lists.{all_map, all_mapped, placed}
 use Rattle.tx_plan.proofs.NamesBack.{exchange_is_name, exchange_back, figures_are_code}
-use Rattle.tx_join.specs.Joined.{code_in, circuits_named}
 use Rattle.tx_join.specs.inner.Declared.{with_exchanges, known_code, with_codes, known_range, with_ranges, known_group, with_groups, KnowsExchanges, KnowsCodes, IsTaken}
 use Rattle.tx_join.proofs.Found.{kept_next, left_next, kept_at, drop_next, pairs_before, middle, length_before, taken_last, find_fails, any_find, filter_all, map_same}
 

@@ -1,16 +1,5 @@
 -- The next route or bar that is taken.
-use Rattle.std.proofs.Common.{◌≡◌, ◌≢◌, ℕ, suc, ◌+◌, Bool, true, false, cond, ◌&&◌, ◌==◌, nat_lt, List, [], ◌∷◌, ◌++◌, length, map, take, drop, Some, is_some, sym, ap, ◌∙◌, subst, append_assoc, eqb-true}
-use Rattle.std.specs.Prelude.{filter, slice_get}
-use Rattle.std.specs.List.{list_any}
-use Rattle.std.proofs.lemmas.Bool.{and_parts, false_from_ne_true}
-use Rattle.std.proofs.lemmas.List.{map-append}
-use Rattle.std.proofs.lemmas.List.Elements.{filter-append}
-use Rattle.tx_plan.specs.declared.ids.Pair.{Pair}
-use Rattle.tx_plan.specs.Plan.{Plan, Route}
-use Rattle.tx_plan.specs.Rules.{EachPair}
-use Rattle.tx_plan.proofs.Lists.{all_map}
-use Rattle.tx_join.specs.Joined.{route_in, bar_in}
-use Rattle.tx_join.specs.inner.Taken.{takes, taken_routes, taken_bars, has_bar, RoutesDiffer, BarsDiffer}
+use Rattle.tx_join.proofs.Common.{◌≡◌, ◌≢◌, ℕ, suc, ◌+◌, Bool, true, false, cond, ◌&&◌, ◌==◌, nat_lt, List, [], ◌∷◌, ◌++◌, length, map, take, drop, Some, is_some, sym, ap, ◌∙◌, subst, append_assoc, eqb-true, filter, slice_get, list_any, and_parts, false_from_ne_true, map-append, filter-append, Pair, Plan, Route, EachPair, all_map, route_in, bar_in, takes, taken_routes, taken_bars, has_bar, RoutesDiffer, BarsDiffer}
 use Rattle.tx_join.proofs.Found.{kept_next, left_next, kept_at, pairs_before, find_fails, any_find, taken_last}
 use Rattle.tx_join.proofs.NextDeclared.{so_far, grown, passed, whole}
 

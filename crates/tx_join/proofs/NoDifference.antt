@@ -1,18 +1,6 @@
 -- Plans of one network do not differ beside lists and bars.
-use Rattle.std.proofs.Common.{◌≡◌, ℕ, ◌<◌, Bool, true, false, not, ◌||◌, ◌==◌, List, length, Some, is_some, refl, ap, ◌∙◌, eq-eqb}
-use Rattle.std.specs.Prelude.{slice_get}
-use Rattle.std.specs.List.{list_any, range_with_len}
-use Rattle.std.specs.Option.{option_map_or}
-use Rattle.std.proofs.lemmas.Bool.{and_from}
+use Rattle.tx_join.proofs.Common.{◌≡◌, ℕ, ◌<◌, Bool, true, false, not, ◌||◌, ◌==◌, List, length, Some, is_some, refl, ap, ◌∙◌, eq-eqb, slice_get, list_any, range_with_len, option_map_or, and_from, Pair, LineRange, Plan, Route, figures_of, IsPlan, count_of, rerouted, entry_at, exchange_back, code_back, group_back}
 use Rattle.std.proofs.lemmas.Map.Keys.{any_passes_from_place}
-use Rattle.tx_plan.specs.declared.ids.Pair.{Pair}
-use Rattle.tx_plan.specs.declared.range.LineRange.{LineRange}
-use Rattle.tx_plan.specs.Plan.{Plan, Route, figures_of}
-use Rattle.tx_plan.specs.Rules.{IsPlan}
-use Rattle.tx_plan.specs.Circuits.{count_of}
-use Rattle.tx_plan.specs.Mixed.{rerouted}
-use Rattle.tx_plan.proofs.ByIndex.{entry_at}
-use Rattle.tx_plan.proofs.NamesBack.{exchange_back, code_back, group_back}
 use Rattle.tx_join.specs.declared.entries.Entries.{Entries}
 use Rattle.tx_join.specs.declared.entries.Entries.TheVariants.{Exchanges, Codes, Ranges, Groups}
 use Rattle.tx_join.specs.Differences.{is_range, has_range, count_of_entries, is_known, has_alone, differ_in, has_other_circuits, differ}

@@ -1,21 +1,10 @@
 -- What certifies the old plan over the joined network certifies the old plan as it is.
-use Rattle.std.proofs.Common.{◌≡◌, ℕ, ◌<◌, Bool, true, false, not, cond, ◌&&◌, ◌==◌, nat_lt, List, [], ◌∷◌, length, map, Option, Some, None, is_some, refl, sym, ap, ◌∙◌, subst, eqb-true}
+use Rattle.tx_join.proofs.Common.{◌≡◌, ℕ, ◌<◌, Bool, true, false, not, cond, ◌&&◌, ◌==◌, nat_lt, List, [], ◌∷◌, length, map, Option, Some, None, is_some, refl, sym, ap, ◌∙◌, subst, eqb-true, AllByRecursion, option_map, option_map_or, and_parts, and_from, lt-ltb, ltb-true, length-map, slice_get-map, slice_get_within, LineRange, Plan, Code, Group, Route, home_of, IsPlan, IsRoute, IsRange, entry_at, all_at, all_map, all_with, slice_get_left, joined_network, joined_old, widened, group_in}
 use Rattle.std.specs.Prelude.{slice_get, find, option_and_then, if◌then◌else◌}
-use Rattle.std.specs.List.{AllByRecursion}
-use Rattle.std.specs.Option.{option_map, option_map_or}
-use Rattle.std.proofs.lemmas.Bool.{and_parts, and_from, lt-ltb, ltb-true}
-use Rattle.std.proofs.lemmas.List.{length-map}
-use Rattle.std.proofs.lemmas.Option.{slice_get-map, slice_get_within}
-use Rattle.tx_plan.specs.declared.range.LineRange.{LineRange}
-use Rattle.tx_plan.specs.Plan.{Plan, Code, Group, Route, home_of}
-use Rattle.tx_plan.specs.Rules.{IsPlan, IsRoute, IsRange}
 use Rattle.tx_plan.specs.Circuits.{other_end, far_end}
 use Rattle.tx_plan.specs.Routes.{route_list, is_barred, is_origin}
 use Rattle.tx_plan.specs.Certified.{Ranks, IsBelow, LeadsLower, LeadsDown, IsCertified}
-use Rattle.tx_plan.proofs.ByIndex.{entry_at, all_at}
 use Rattle.tx_plan.proofs.Ends.{end_within}
-use Rattle.tx_plan.proofs.Lists.{all_map, all_with, slice_get_left}
-use Rattle.tx_join.specs.Joined.{joined_network, joined_old, widened, group_in}
 use Rattle.tx_join.specs.Laws.{CanBeJoined, ranks_within}
 use Rattle.tx_join.proofs.Found.{entry_found, find_same, any_find, map_same}
 use Rattle.tx_join.proofs.JoinedNetwork.{has_old, has_new}

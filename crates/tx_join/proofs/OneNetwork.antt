@@ -1,26 +1,7 @@
 -- Plans of one network are their own joined plans.
-use Rattle.std.proofs.Common.{◌≡◌, ℕ, ◌-◌, ◌<◌, ◌≤◌, true, false, not, ◌||◌, nat_lt, List, [], ◌++◌, length, map, max, Option, Some, None, unwrap_or, refl, sym, ap, ◌∙◌, subst, arith, append-nil}
-use Rattle.std.specs.Prelude.{find, filter, flat_map}
-use Rattle.std.specs.List.{range_with_len}
-use Rattle.std.specs.Option.{option_map, option_map_or, option_or}
-use Rattle.std.proofs.lemmas.Bool.{and_from, lt-ltb}
-use Rattle.std.proofs.lemmas.Bool.Decides.{nat_tests}
-use Rattle.std.proofs.lemmas.Option.{slice_get_within}
-use Rattle.tx_plan.specs.declared.ids.Pair.{Pair}
-use Rattle.tx_plan.specs.declared.ids.Direction.{Direction}
-use Rattle.tx_plan.specs.declared.ids.Direction.TheVariants.{OneWay, BothWay}
-use Rattle.tx_plan.specs.Plan.{Plan, Code, Group, Route, group_named, exchange_name, figures_of, group_name, home_of}
-use Rattle.tx_plan.specs.Rules.{IsPlan, IsRoute, IsBar}
-use Rattle.tx_plan.specs.Circuits.{ends_of, direction_of, count_of, may_seize}
-use Rattle.tx_plan.specs.Declaring.{has_exchange, has_code, has_group}
+use Rattle.tx_join.proofs.Common.{◌≡◌, ℕ, ◌-◌, ◌<◌, ◌≤◌, true, false, not, ◌||◌, nat_lt, List, [], ◌++◌, length, map, max, Option, Some, None, unwrap_or, refl, sym, ap, ◌∙◌, subst, arith, append-nil, find, filter, flat_map, range_with_len, option_map, option_map_or, option_or, and_from, lt-ltb, nat_tests, slice_get_within, Pair, Direction, OneWay, BothWay, Plan, Code, Group, Route, group_named, exchange_name, figures_of, group_name, home_of, IsPlan, IsRoute, IsBar, ends_of, direction_of, count_of, may_seize, has_exchange, has_code, has_group, rerouted, all_map, exchange_back, code_back, group_back, OtherHome, OtherGroup, TooMany, joined_network, joined_code, joined_group, widened, circuits_named, exchange_in, code_in, group_in, has_both, route_in, bar_in, bars_of_code, bars_from, shared_bars, routes_over, bars_over, plan_over, is_same_exchange, is_same_direction, is_same_group, has_other_home, has_other_group, has_too_many, refused_if, join_refusal}
 use Rattle.tx_plan.specs.Mixtures.{SameNetwork}
-use Rattle.tx_plan.specs.Mixed.{rerouted}
-use Rattle.tx_plan.proofs.Lists.{all_map}
 use Rattle.tx_plan.proofs.Networks.{rerouted-is}
-use Rattle.tx_plan.proofs.NamesBack.{exchange_back, code_back, group_back}
-use Rattle.tx_join.specs.declared.refusal.JoinRefusal.TheVariants.{OtherHome, OtherGroup, TooMany}
-use Rattle.tx_join.specs.Joined.{joined_network, joined_code, joined_group, widened, circuits_named, exchange_in, code_in, group_in, has_both, route_in, bar_in, bars_of_code, bars_from, shared_bars, routes_over, bars_over, plan_over}
-use Rattle.tx_join.specs.Refusals.{is_same_exchange, is_same_direction, is_same_group, has_other_home, has_other_group, has_too_many, refused_if, join_refusal}
 use Rattle.tx_join.specs.Laws.{AreOwnJoined}
 use Rattle.tx_join.proofs.Found.{all_of, filter_all, filter_none, map_same, find_fails, range_all}
 use Rattle.tx_join.proofs.NoDifference.{no_difference}

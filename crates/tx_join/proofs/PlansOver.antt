@@ -1,25 +1,9 @@
 -- Plans over a network that has those of two plans: they obey the rules of a plan, and have their
 -- lists and bars.
-use Rattle.std.proofs.Common.{◌≡◌, ◌≢◌, ℕ, zero, suc, ◌+◌, ◌-◌, ◌<◌, ◌≤◌, Bool, true, false, not, ◌||◌, ◌&&◌, ◌==◌, nat_lt, List, [], ◌∷◌, ◌++◌, length, map, Option, Some, None, is_some, inl, inr, refl, sym, ap, ◌∙◌, subst, arith, eq-eqb, eqb-true}
-use Rattle.std.specs.Prelude.{filter, find, flat_map}
-use Rattle.std.specs.List.{list_any, range_with_len, AllByRecursion}
-use Rattle.std.specs.Option.{option_map, option_map_or, option_or}
+use Rattle.tx_join.proofs.Common.{◌≡◌, ◌≢◌, ℕ, zero, suc, ◌+◌, ◌-◌, ◌<◌, ◌≤◌, Bool, true, false, not, ◌||◌, ◌&&◌, ◌==◌, nat_lt, List, [], ◌∷◌, ◌++◌, length, map, Option, Some, None, is_some, inl, inr, refl, sym, ap, ◌∙◌, subst, arith, eq-eqb, eqb-true, filter, find, flat_map, list_any, range_with_len, AllByRecursion, option_map, option_map_or, option_or, find-append, list_any-append, or-false, Pair, Plan, Code, Route, exchange_name, figures_of, home_of, IsPlan, IsCode, IsRoute, IsBar, EachPair, route_list, is_barred, has_exchange, has_code, entry_at, all_at, exchange_back, code_back, list_any-map, exchange_in, code_in, group_in, route_in, bar_in, has_both, routes_over, shared_bars, bars_of_code, bars_from, bars_over, plan_over, HasNetwork, RoutesDiffer, BarsDiffer}
 use Rattle.std.proofs.lemmas.Bool.{cases_lt, and_parts, and_from, false_from_ne_true, true≢false, not-true, ne_eqb, eqb-false, lt-ltb, ltb-true}
-use Rattle.std.proofs.lemmas.List.Folds.{find-append, list_any-append}
-use Rattle.std.proofs.Math.Bool.{or-false}
-use Rattle.tx_plan.specs.declared.ids.Pair.{Pair}
-use Rattle.tx_plan.specs.Plan.{Plan, Code, Route, exchange_name, figures_of, home_of}
-use Rattle.tx_plan.specs.Rules.{IsPlan, IsCode, IsRoute, IsBar, EachPair}
-use Rattle.tx_plan.specs.Routes.{route_list, is_barred}
-use Rattle.tx_plan.specs.Declaring.{has_exchange, has_code}
-use Rattle.tx_plan.proofs.ByIndex.{entry_at, all_at}
 use Rattle.tx_plan.proofs.Filtered.{any_in, any_out, all_kept, all_joined, all_pass, pairs_kept, pairs_joined}
 use Rattle.tx_plan.proofs.Lists.{all_map, all_mapped, all_with, same_tests}
-use Rattle.tx_plan.proofs.NamesBack.{exchange_back, code_back}
-use Rattle.tx_plan.proofs.Tables.{list_any-map}
-use Rattle.tx_join.specs.Joined.{exchange_in, code_in, group_in, route_in, bar_in, has_both, routes_over, shared_bars, bars_of_code, bars_from, bars_over, plan_over}
-use Rattle.tx_join.specs.Laws.{HasNetwork}
-use Rattle.tx_join.specs.inner.Taken.{RoutesDiffer, BarsDiffer}
 use Rattle.tx_join.proofs.Found.{pairs_map, pairs_mapped, find-map, find_same, find_fails, find_kept, any_find, all_flat, any_flat, range_all, range_differ, range_any}
 use Rattle.tx_join.proofs.Taking.{exchange_once, code_once, route_rules, bar_rules}
 

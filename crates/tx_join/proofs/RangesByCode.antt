@@ -1,19 +1,7 @@
 -- The lines of a code as one range, by the index of the code.
-use Rattle.std.proofs.Common.{◌≡◌, ℕ, ◌<◌, true, false, ◌&&◌, ◌==◌, List, [], length, Some, None, is_some, sym, ap, ◌∙◌, eqb-true, eq-eqb}
-use Rattle.std.specs.List.{list_any}
-use Rattle.std.specs.Option.{option_map_or}
-use Rattle.std.specs.Str.{bytes_eq}
-use Rattle.std.proofs.lemmas.Bool.{false_from_ne_true}
+use Rattle.tx_join.proofs.Common.{◌≡◌, ℕ, ◌<◌, true, false, ◌&&◌, ◌==◌, List, [], length, Some, None, is_some, sym, ap, ◌∙◌, eqb-true, eq-eqb, list_any, option_map_or, bytes_eq, false_from_ne_true, slice_get-get_or, bytes_eq-Decides, Plan, Code, code_named, figures_of, IsPlan, all_map, code_back, is_range, has_range, is_range_of}
 use Rattle.std.proofs.lemmas.Bool.Decides.{same_from_decides}
-use Rattle.std.proofs.lemmas.Option.{slice_get-get_or}
 use Rattle.std.proofs.lemmas.List.Quantifiers.{position-Some}
-use Rattle.std.proofs.lemmas.Slice.Eq.{bytes_eq-Decides}
-use Rattle.tx_plan.specs.Plan.{Plan, Code, code_named, figures_of}
-use Rattle.tx_plan.specs.Rules.{IsPlan}
-use Rattle.tx_plan.proofs.Lists.{all_map}
-use Rattle.tx_plan.proofs.NamesBack.{code_back}
-use Rattle.tx_join.specs.Differences.{is_range, has_range}
-use Rattle.tx_join.specs.inner.Ranges.{is_range_of}
 use Rattle.tx_join.proofs.Found.{find_same, find_fails, any_find}
 
 module _ (p : Plan) (ok : IsPlan p) (figures : List ℕ) where

@@ -1,21 +1,7 @@
 -- The names and the entries of the joined network.
-use Rattle.std.proofs.Common.{◌≡◌, ◌≢◌, ℕ, ◌<◌, Bool, true, false, not, List, [], ◌∷◌, ◌++◌, length, map, Some, unwrap_or, refl, sym, ap, ◌∙◌, subst}
-use Rattle.std.specs.Prelude.{filter, find, slice_get, position}
-use Rattle.std.specs.List.{list_any}
-use Rattle.std.specs.Option.{option_map, option_map_or, option_or}
-use Rattle.std.specs.Str.{bytes_eq}
-use Rattle.std.proofs.lemmas.List.{map-append}
-use Rattle.std.proofs.lemmas.List.Folds.{find-append}
-use Rattle.std.proofs.lemmas.Option.{slice_get-map}
-use Rattle.std.proofs.lemmas.Slice.Eq.{bytes_eq-Decides}
-use Rattle.tx_plan.specs.Plan.{Plan, Code, Group, exchange_name, figures_of, group_name}
-use Rattle.tx_plan.specs.Rules.{IsPlan, EachPair}
-use Rattle.tx_plan.proofs.ByIndex.{entry_at}
+use Rattle.tx_join.proofs.Common.{◌≡◌, ◌≢◌, ℕ, ◌<◌, Bool, true, false, not, List, [], ◌∷◌, ◌++◌, length, map, Some, unwrap_or, refl, sym, ap, ◌∙◌, subst, filter, find, slice_get, position, list_any, option_map, option_map_or, option_or, bytes_eq, map-append, find-append, slice_get-map, bytes_eq-Decides, Plan, Code, Group, exchange_name, figures_of, group_name, IsPlan, EachPair, entry_at, exchange_back, code_back, group_back, joined_network, joined_code, joined_group, widened, exchange_in, code_in, group_in, KnowsExchanges, KnowsCodes, KnowsGroups}
 use Rattle.tx_plan.proofs.Filtered.{find_in}
-use Rattle.tx_plan.proofs.NamesBack.{exchange_back, code_back, group_back}
 use Rattle.tx_plan.proofs.Tables.{list_any-map, position-map}
-use Rattle.tx_join.specs.Joined.{joined_network, joined_code, joined_group, widened, exchange_in, code_in, group_in}
-use Rattle.tx_join.specs.inner.Declared.{KnowsExchanges, KnowsCodes, KnowsGroups}
 use Rattle.tx_join.proofs.Found.{none_found, find-map, filter-map, pairs_mapped, pairs_unmapped}
 use Rattle.tx_join.proofs.United.{named, united, in_first, in_second, united_differ, index_stays}
 

@@ -1,22 +1,9 @@
 -- The routes and bars over the joined network, part by part, and numbers in a row.
-use Rattle.std.proofs.Common.{◌≡◌, ◌≢◌, ℕ, zero, suc, ◌+◌, ◌-◌, ◌<◌, ◌≤◌, Bool, true, false, not, cond, ◌==◌, ◌&&◌, nat_lt, List, [], ◌∷◌, ◌++◌, length, map, take, drop, Some, sym, ap, ◌∙◌, subst, arith, append_assoc, append-nil, get_or}
-use Rattle.std.specs.Prelude.{find, filter, flat_map, slice_get}
-use Rattle.std.specs.List.{list_any, range_with_len, AllByRecursion}
-use Rattle.std.specs.Option.{option_map_or}
+use Rattle.tx_join.proofs.Common.{◌≡◌, ◌≢◌, ℕ, zero, suc, ◌+◌, ◌-◌, ◌<◌, ◌≤◌, Bool, true, false, not, cond, ◌==◌, ◌&&◌, nat_lt, List, [], ◌∷◌, ◌++◌, length, map, take, drop, Some, sym, ap, ◌∙◌, subst, arith, append_assoc, append-nil, get_or, find, filter, flat_map, slice_get, list_any, range_with_len, AllByRecursion, option_map_or, slice_get-get_or, filter-append, Pair, Plan, Route, home_of, IsPlan, route_list, all_at, all_map, has_both, route_in, bar_in, bars_of_code, bars_from, routes_over, bars_over, taken_routes, taken_bars, RoutesDiffer, BarsDiffer}
 use Rattle.std.proofs.lemmas.List.{map-append, take_more}
 use Rattle.std.proofs.lemmas.List.Concat.{flat_map-append}
 use Rattle.std.proofs.lemmas.List.FromFn.{length-range_with_len, get_or-map-range_with_len}
-use Rattle.std.proofs.lemmas.Option.{slice_get-get_or}
-use Rattle.std.proofs.lemmas.List.Elements.{filter-append}
-use Rattle.tx_plan.specs.declared.ids.Pair.{Pair}
-use Rattle.tx_plan.specs.Plan.{Plan, Route, home_of}
-use Rattle.tx_plan.specs.Rules.{IsPlan}
-use Rattle.tx_plan.specs.Routes.{route_list}
-use Rattle.tx_plan.proofs.ByIndex.{all_at}
 use Rattle.tx_plan.proofs.Growing.{seizes_within}
-use Rattle.tx_plan.proofs.Lists.{all_map}
-use Rattle.tx_join.specs.Joined.{has_both, route_in, bar_in, bars_of_code, bars_from, routes_over, bars_over}
-use Rattle.tx_join.specs.inner.Taken.{taken_routes, taken_bars, RoutesDiffer, BarsDiffer}
 use Rattle.tx_join.proofs.Found.{filter_all, taken_last}
 use Rattle.tx_join.proofs.NextDeclared.{all_true, so_far, grown, passed, whole}
 use Rattle.tx_join.proofs.NextTaken.{none_before}

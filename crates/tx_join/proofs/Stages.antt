@@ -1,19 +1,6 @@
 -- The joined network as it is declared, list by list.
-use Rattle.std.proofs.Common.{◌≡◌, ◌≢◌, ℕ, Bool, true, false, not, cond, List, [], ◌∷◌, ◌++◌, map, max, refl, ap, ◌∙◌, arith}
-use Rattle.std.specs.Prelude.{filter}
-use Rattle.std.specs.List.{AllByRecursion}
-use Rattle.std.specs.Option.{option_map_or}
-use Rattle.std.specs.Str.{bytes_eq}
-use Rattle.std.proofs.lemmas.Bool.{not-true}
+use Rattle.tx_join.proofs.Common.{◌≡◌, ◌≢◌, ℕ, Bool, true, false, not, cond, List, [], ◌∷◌, ◌++◌, map, max, refl, ap, ◌∙◌, arith, filter, AllByRecursion, option_map_or, bytes_eq, not-true, IsPlan, IsCode, IsGroup, EachPair, count_of, has_exchange, has_code, has_group, all_map, longer_by, no_index, none_passes, list_any-map, joined_network, joined_group, widened, circuits_named, CanBeJoined, with_exchanges, known_code, with_codes, known_range, with_ranges, known_group, with_groups, KnowsExchanges, KnowsCodes}
 use Rattle.tx_plan.specs.Plan.{Plan, Code, Group, no_plan}
-use Rattle.tx_plan.specs.Rules.{IsPlan, IsCode, IsGroup, EachPair}
-use Rattle.tx_plan.specs.Circuits.{count_of}
-use Rattle.tx_plan.specs.Declaring.{has_exchange, has_code, has_group}
-use Rattle.tx_plan.proofs.Lists.{all_map, longer_by, no_index, none_passes}
-use Rattle.tx_plan.proofs.Tables.{list_any-map}
-use Rattle.tx_join.specs.Joined.{joined_network, joined_group, widened, circuits_named}
-use Rattle.tx_join.specs.Laws.{CanBeJoined}
-use Rattle.tx_join.specs.inner.Declared.{with_exchanges, known_code, with_codes, known_range, with_ranges, known_group, with_groups, KnowsExchanges, KnowsCodes}
 use Rattle.tx_join.proofs.Found.{filter_all, map_same}
 use Rattle.tx_join.proofs.JoinedNetwork.{network_rules}
 use Rattle.tx_join.proofs.NextDeclared.{all_true}

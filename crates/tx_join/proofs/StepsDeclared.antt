@@ -1,18 +1,6 @@
 -- A step of each loop that declares the entries of a plan, by the words that are handed to the
 -- builder.
-use Rattle.std.proofs.Common.{◌≡◌, ℕ, ◌+◌, ◌<◌, true, false, max, List, [], length, Some, None, sym, ap, ◌∙◌}
-use Rattle.std.specs.Prelude.{slice_get}
-use Rattle.std.specs.Option.{option_map_or}
-use Rattle.tx_plan.specs.declared.ids.Direction.{Direction}
-use Rattle.tx_plan.specs.declared.ids.Direction.TheVariants.{OneWay}
-use Rattle.tx_plan.specs.declared.range.LineRange.{LineRange}
-use Rattle.tx_plan.specs.Plan.{Plan, Code, Group, exchange_name, figures_of, group_name, home_of}
-use Rattle.tx_plan.specs.Rules.{IsPlan}
-use Rattle.tx_plan.specs.Circuits.{ends_of, direction_of, count_of}
-use Rattle.tx_plan.specs.Declaring.{first_true, exchange_refusals, code_refusals, lines_refusals, group_refusals, with_exchange, with_code, with_lines, with_group, has_exchange, has_code, has_group}
-use Rattle.tx_plan.proofs.ByIndex.{entry_at}
-use Rattle.tx_join.specs.Joined.{circuits_named}
-use Rattle.tx_join.specs.inner.Declared.{with_exchanges, with_codes, with_ranges, with_groups, KnowsExchanges, KnowsCodes}
+use Rattle.tx_join.proofs.Common.{◌≡◌, ℕ, ◌+◌, ◌<◌, true, false, max, List, [], length, Some, None, sym, ap, ◌∙◌, slice_get, option_map_or, Direction, OneWay, LineRange, Plan, Code, Group, exchange_name, figures_of, group_name, home_of, IsPlan, ends_of, direction_of, count_of, first_true, exchange_refusals, code_refusals, lines_refusals, group_refusals, with_exchange, with_code, with_lines, with_group, has_exchange, has_code, has_group, entry_at, circuits_named, with_exchanges, with_codes, with_ranges, with_groups, KnowsExchanges, KnowsCodes}
 use Rattle.tx_join.proofs.NextDeclared.{exchanges_to, exchange_left, exchange_next, exchange_taken, codes_to, code_left, code_next, code_taken, ranges_to, range_next, range_taken, groups_to, group_left, group_next, group_taken}
 
 -- EXCHANGES

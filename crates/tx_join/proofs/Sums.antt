@@ -1,11 +1,7 @@
 -- Sums and counts over the first numbers.
-use Rattle.std.proofs.Common.{◌≡◌, ℕ, ◌+◌, ◌<◌, ◌≤◌, Bool, true, false, List, [], ◌∷◌, length, take, get_or, sym, ap, ◌∙◌, arith}
-use Rattle.std.specs.Prelude.{count_by, sum_by, slice_get, if◌then◌else◌}
-use Rattle.std.specs.List.{range_with_len}
-use Rattle.std.specs.Option.{option_map_or}
+use Rattle.tx_join.proofs.Common.{◌≡◌, ℕ, ◌+◌, ◌<◌, ◌≤◌, Bool, true, false, List, [], ◌∷◌, length, take, get_or, sym, ap, ◌∙◌, arith, count_by, sum_by, slice_get, if◌then◌else◌, range_with_len, option_map_or, slice_get-get_or}
 use Rattle.std.proofs.lemmas.List.FromFn.{length-range_with_len, get_or-range_with_len}
 use Rattle.std.proofs.lemmas.List.Sums.{sum_by_more, count_by_more_yes, count_by_more_no}
-use Rattle.std.proofs.lemmas.Option.{slice_get-get_or}
 
 -- a sum with one more
 pub sum_more : {A : Type 0} (f : A → ℕ) (xs : List A) (i v : ℕ) → i < length xs → v ≡ option_map_or f (slice_get xs i) 0 → sum_by f (take (i + 1) xs) ≡ sum_by f (take i xs) + v

@@ -1,22 +1,7 @@
 -- Routes and bars of a plan, in another plan that has its network.
-use Rattle.std.proofs.Common.{◌≡◌, ◌≢◌, ℕ, ◌<◌, ◌≤◌, true, false, ◌||◌, ◌&&◌, ◌==◌, List, length, Option, Some, None, inl, inr, refl, sym, ap, ◌∙◌, subst, eq-eqb, eqb-true}
-use Rattle.std.specs.Prelude.{slice_get}
-use Rattle.std.specs.Option.{option_map_or}
+use Rattle.tx_join.proofs.Common.{◌≡◌, ◌≢◌, ℕ, ◌<◌, ◌≤◌, true, false, ◌||◌, ◌&&◌, ◌==◌, List, length, Option, Some, None, inl, inr, refl, sym, ap, ◌∙◌, subst, eq-eqb, eqb-true, slice_get, option_map_or, length-map, slice_get_within, or-true, Direction, OneWay, Pair, Plan, Group, Route, home_of, IsPlan, IsRoute, IsBar, rerouted, entry_at, all_map, all_mapped, exchange_in, code_in, group_in, route_in, bar_in, HasNetwork}
 use Rattle.std.proofs.lemmas.Bool.{and_parts, and_from, or_cases}
-use Rattle.std.proofs.lemmas.List.{length-map}
-use Rattle.std.proofs.lemmas.Option.{slice_get_within}
-use Rattle.std.proofs.Math.Bool.{or-true}
-use Rattle.tx_plan.specs.declared.ids.Direction.{Direction}
-use Rattle.tx_plan.specs.declared.ids.Direction.TheVariants.{OneWay}
-use Rattle.tx_plan.specs.declared.ids.Pair.{Pair}
-use Rattle.tx_plan.specs.Plan.{Plan, Group, Route, home_of}
-use Rattle.tx_plan.specs.Rules.{IsPlan, IsRoute, IsBar}
 use Rattle.tx_plan.specs.Circuits.{may_seize, may_seize_row, is_both}
-use Rattle.tx_plan.specs.Mixed.{rerouted}
-use Rattle.tx_plan.proofs.ByIndex.{entry_at}
-use Rattle.tx_plan.proofs.Lists.{all_map, all_mapped}
-use Rattle.tx_join.specs.Joined.{exchange_in, code_in, group_in, route_in, bar_in}
-use Rattle.tx_join.specs.Laws.{HasNetwork}
 use Rattle.tx_join.proofs.Found.{pairs_map, pairs_mapped}
 use Rattle.tx_join.proofs.Knows.{exchanges_apart, codes_apart, groups_apart}
 

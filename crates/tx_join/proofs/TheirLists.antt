@@ -1,9 +1,5 @@
 -- The joined plans obey the rules of a plan, and have the lists and bars of both plans.
-use Rattle.std.proofs.Common.{length, refl, sym}
-use Rattle.tx_plan.specs.Plan.{Plan}
-use Rattle.tx_plan.specs.Rules.{IsPlan}
-use Rattle.tx_join.specs.Joined.{joined_network, joined_old, joined_new}
-use Rattle.tx_join.specs.Laws.{CanBeJoined, HasNetwork, AreOverBoth, HaveTheirLists}
+use Rattle.tx_join.proofs.Common.{length, refl, sym, Plan, IsPlan, joined_network, joined_old, joined_new, CanBeJoined, HasNetwork, AreOverBoth, HaveTheirLists}
 use Rattle.tx_join.proofs.JoinedNetwork.{has_old, has_new, circuits, network_rules}
 use Rattle.tx_join.proofs.Rows.{exchange_stays, code_stays, group_stays}
 use Rattle.tx_join.proofs.PlansOver.{made_rules, own_list, own_bar, new_barred, same_list, same_bar, no_more}

@@ -1,17 +1,6 @@
 -- The names of a list and then the others of another list: both are there, and none twice.
-use Rattle.std.proofs.Common.{◌≡◌, ◌≢◌, ℕ, Bool, true, false, not, ◌||◌, List, [], ◌∷◌, ◌++◌, Some, refl, sym, ap, ◌∙◌}
-use Rattle.std.specs.Prelude.{filter, position, slice_get}
-use Rattle.std.specs.List.{list_any, AllByRecursion}
-use Rattle.std.specs.Str.{bytes_eq}
-use Rattle.std.proofs.lemmas.Bool.{true≢false, not-true}
-use Rattle.std.proofs.lemmas.List.Folds.{list_any-append}
-use Rattle.std.proofs.lemmas.Slice.Eq.{bytes_eq-Decides}
-use Rattle.std.proofs.Math.Bool.{or-true}
-use Rattle.std.proofs.lemmas.Option.{slice_get_within}
-use Rattle.tx_plan.specs.Rules.{EachPair}
-use Rattle.tx_plan.proofs.Lists.{all_map, slice_get_left}
+use Rattle.tx_join.proofs.Common.{◌≡◌, ◌≢◌, ℕ, Bool, true, false, not, ◌||◌, List, [], ◌∷◌, ◌++◌, Some, refl, sym, ap, ◌∙◌, filter, position, slice_get, list_any, AllByRecursion, bytes_eq, true≢false, not-true, list_any-append, bytes_eq-Decides, or-true, slice_get_within, EachPair, all_map, slice_get_left, any_in, all_pass, pairs_kept, pairs_joined}
 use Rattle.tx_plan.proofs.ByIndex.{index_back}
-use Rattle.tx_plan.proofs.Filtered.{any_in, all_pass, pairs_kept, pairs_joined}
 
 abbrev pub named : List (List ℕ) → List ℕ → Bool
 named ns w = list_any (bytes_eq w) ns

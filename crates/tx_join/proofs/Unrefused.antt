@@ -1,20 +1,6 @@
 -- Where nothing refuses a joined network.
-use Rattle.std.proofs.Common.{◌≡◌, ◌≢◌, ℕ, zero, suc, ◌+◌, ◌<◌, ◌≤◌, Bool, true, false, not, cond, nat_lt, List, length, inl, inr, Option, Some, None, refl, sym, ap, ◌∙◌, arith}
-use Rattle.std.specs.Prelude.{find}
-use Rattle.std.specs.List.{range_with_len}
-use Rattle.std.specs.Option.{option_map, option_map_or, option_or}
-use Rattle.std.specs.Str.{bytes_eq}
-use Rattle.std.proofs.lemmas.Bool.{not-false, and_parts, or_parts, cases_eq, true≢false}
-use Rattle.std.proofs.lemmas.Bool.Decides.{nat_tests}
-use Rattle.std.proofs.lemmas.Slice.Eq.{bytes_eq-Decides}
-use Rattle.tx_plan.specs.declared.ids.Direction.{Direction}
-use Rattle.tx_plan.specs.declared.ids.Direction.TheVariants.{OneWay, BothWay}
-use Rattle.tx_plan.specs.Plan.{Plan, code_named, group_named, exchange_name, figures_of, group_name, home_of}
-use Rattle.tx_plan.specs.Circuits.{ends_of, direction_of}
+use Rattle.tx_join.proofs.Common.{◌≡◌, ◌≢◌, ℕ, zero, suc, ◌+◌, ◌<◌, ◌≤◌, Bool, true, false, not, cond, nat_lt, List, length, inl, inr, Option, Some, None, refl, sym, ap, ◌∙◌, arith, find, range_with_len, option_map, option_map_or, option_or, bytes_eq, not-false, and_parts, or_parts, cases_eq, true≢false, nat_tests, bytes_eq-Decides, Direction, OneWay, BothWay, Plan, code_named, group_named, exchange_name, figures_of, group_name, home_of, ends_of, direction_of, OtherHome, OtherGroup, TooMany, joined_network, is_same_direction, is_same_exchange, is_same_group, has_other_home, has_other_group, has_too_many, refused_if, join_refusal}
 use Rattle.tx_join.specs.declared.refusal.JoinRefusal.{JoinRefusal}
-use Rattle.tx_join.specs.declared.refusal.JoinRefusal.TheVariants.{OtherHome, OtherGroup, TooMany}
-use Rattle.tx_join.specs.Joined.{joined_network}
-use Rattle.tx_join.specs.Refusals.{is_same_direction, is_same_exchange, is_same_group, has_other_home, has_other_group, has_too_many, refused_if, join_refusal}
 
 none_among : (t : ℕ → Bool) (a n : ℕ) → find t (range_with_len a n) ≡ None → (i : ℕ) → a ≤ i → i < a + n → t i ≡ false
 none_among t a zero h i l m = absurd (omega (arith, l, m))

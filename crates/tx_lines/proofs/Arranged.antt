@@ -1,25 +1,19 @@
 -- The ranges of a plan, once sorted, are in order.
 use Rattle.std.proofs.Common.{◌≡◌, ◌≢◌, ℕ, zero, suc, ◌<◌, Bool, true, ◌⊎◌, List, [], ◌∷◌, length, get_or, Some, refl, ap, sym, ◌∙◌, subst, inl, inr, arith}
 use Rattle.std.proofs.Math.ListN.{set}
-use Rattle.std.proofs.lemmas.Bool.{false≢true}
+use Rattle.tx_lines.proofs.Common.{false≢true, slice_get, IsPermutation, at_most, LineRange, is_lt, Ordering, key_cmp, start_of, IsInOrder}
 use Rattle.std.proofs.lemmas.List.Sorted.{IsPermutation-keeps}
 use Rattle.std.proofs.lemmas.Option.{slice_get-get_or}
-use Rattle.std.specs.Prelude.{slice_get, IsPermutation}
 use Rattle.std.specs.List.{swap}
 use Rattle.tx_plan.specs.Plan.{Plan}
-use Rattle.tx_plan.specs.Lines.{at_most}
 use Rattle.tx_plan.specs.Rules.{IsPlan, IsRange, EachPair, AreSeparate}
-use Rattle.tx_plan.specs.declared.range.LineRange.{LineRange}
 use Rattle.tx_plan.proofs.ByIndex.{all_at}
 use Rattle.std.specs.List.Sorted.{IsSortedBy}
-use Rattle.std.specs.Ordering.{is_lt}
-use Rattle.std.specs.declared.cmp.Ordering.{Ordering}
 use Rattle.std.specs.Cmp.{IsStrictWeakOrder}
 use Rattle.std.specs.Fn.{Called, ComparesAs}
 use denote.Param.Members.{Mut}
 use denote.Ref.{Bor}
 use Rattle.std.proofs.lemmas.Fn.{always_returns_same}
-use Rattle.tx_lines.specs.inner.Ordered.{key_cmp, start_of, IsInOrder}
 
 -- of one code and width, and sharing a number
 pub record Shares (r q : LineRange) : Type 0 where

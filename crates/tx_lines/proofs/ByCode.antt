@@ -1,13 +1,6 @@
 -- The ranges of one code stand together.
-use Rattle.std.proofs.Common.{◌≡◌, ℕ, refl, ◌++◌, ◌+◌, ◌<◌, ◌≤◌, ◌==◌, true, false, List, [], ◌∷◌, length, get_or, cond, nat_lt, ap, sym, ◌∙◌, subst, length-append, arith}
-use Rattle.std.proofs.lemmas.Bool.Decides.{nat_tests}
+use Rattle.tx_lines.proofs.Common.{◌≡◌, ℕ, refl, ◌++◌, ◌+◌, ◌<◌, ◌≤◌, ◌==◌, true, false, List, [], ◌∷◌, length, get_or, cond, nat_lt, ap, sym, ◌∙◌, subst, length-append, arith, nat_tests, IsPartitionedBy, IsPartitionPoint, ordering_then, is_le, nat_cmp, Ordering, Less, Equal, Greater, LineRange, IsInOrder, IsFirst, AreFirsts}
 use Rattle.std.proofs.lemmas.Grind.{common_steps}
-use Rattle.std.specs.List.Sorted.{IsPartitionedBy, IsPartitionPoint}
-use Rattle.std.specs.Ordering.{ordering_then, is_le, nat_cmp}
-use Rattle.std.specs.declared.cmp.Ordering.{Ordering}
-use Rattle.std.specs.declared.cmp.Ordering.TheVariants.{Less, Equal, Greater}
-use Rattle.tx_plan.specs.declared.range.LineRange.{LineRange}
-use Rattle.tx_lines.specs.inner.Ordered.{IsInOrder, IsFirst, AreFirsts}
 use Rattle.tx_lines.proofs.Order.{rises, first_part}
 
 -- an order by the first part alone

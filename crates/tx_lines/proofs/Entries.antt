@@ -1,11 +1,9 @@
 -- What a write through an entry takes of a map's room.
-use Rattle.std.proofs.Common.{◌+◌, ◌≤◌, arith}
-use Rattle.std.specs.Prelude.{is_some, if◌then◌else◌}
+use Rattle.tx_lines.proofs.Common.{◌+◌, ◌≤◌, arith, is_some, if◌then◌else◌, spare}
 use Rattle.std.specs.declared.cmp.PartialEq as eq
 use Rattle.std.specs.declared.hash.Hash as hash
 use Rattle.std.specs.declared.hash.Hasher as hasher
 use Rattle.std.specs.declared.hash.BuildHasher as builder
-use Rattle.indexmap.specs.IndexMap.{spare}
 use Rattle.indexmap.specs.Entry.{entry_map, entry_value, map_with_value}
 use Rattle.indexmap.specs.declared.map.entry.Entry.{Entry}
 use Rattle.indexmap.specs.declared.map.entry.Entry.TheVariants.{Occupied, Vacant}

@@ -4,3 +4,4 @@ pub mod Order
 pub mod Arranged
 pub mod ByCode
 mod Parts
+pub mod Common

@@ -3,8 +3,7 @@ use Rattle.std.proofs.Common.{◌≡◌, ℕ, ◌+◌, ◌-◌, ◌<◌, ◌≤�
 use Rattle.std.proofs.lemmas.Bool.{cases_lt}
 use Rattle.std.proofs.lemmas.List.{get_or-drop, get_or-take, length-drop, length-take-le}
 use Rattle.std.specs.List.{AllWithin, slice_range}
-use Rattle.std.specs.List.Sorted.{IsPartitionedBy, IsPartitionPoint}
-use Rattle.tx_plan.specs.declared.range.LineRange.{LineRange}
+use Rattle.tx_lines.proofs.Common.{IsPartitionedBy, IsPartitionPoint, LineRange}
 use Rattle.tx_lines.specs.inner.Ordered.{IsInOrder, IsStart}
 use Rattle.tx_lines.proofs.Order.{partitioned, starts_by}
 use Rattle.tx_lines.proofs.ByCode.{below_first, above_first}

@@ -1,11 +1,10 @@
 -- What the sets of lines contain, before and after a status is written.
 use Rattle.std.proofs.Common.{◌≡◌, ◌+◌, ◌<◌, ◌≤◌, arith, Bool, true, false, not, ◌||◌, ◌&&◌, cond, List, map, Option, Some, None, refl, sym, ap, subst, ◌∙◌}
 use Rattle.std.proofs.Math.Bool.{and-true}
-use Rattle.std.proofs.lemmas.Bool.{and_parts, false≢true}
+use Rattle.tx_lines.proofs.Common.{and_parts, false≢true, list_any, Line, LineRange, Status, Faulty, Away, Engaged}
 use Rattle.std.proofs.lemmas.Map.Made.{is_some-lookup}
 use Rattle.std.proofs.lemmas.Map.Views.{any-filter_same}
 use Rattle.std.specs.Prelude.{filter, is_some, unwrap_or, if◌then◌else◌}
-use Rattle.std.specs.List.{list_any}
 use Rattle.std.specs.Option.{option_map_or}
 use Rattle.std.specs.FinSet as set
 use Rattle.std.specs.Map.{lookup}
@@ -13,11 +12,7 @@ use Rattle.indexmap.specs.IndexMap as index
 use Rattle.indexmap.specs.IndexMap.{IndexMap}
 use Rattle.tx_plan.specs.Orders.{same_line, line_cmp}
 use Rattle.tx_plan.proofs.Named.{lines_total, exact_lines, line_tie, in_lines, same_line-is, same_line_equiv}
-use Rattle.tx_plan.specs.declared.ids.Line.{Line}
-use Rattle.tx_plan.specs.declared.range.LineRange.{LineRange}
-use Rattle.tx_lines.specs.declared.book.Status.{Status}
 use Rattle.tx_lines.specs.declared.book.Mark.{Mark}
-use Rattle.tx_lines.specs.declared.book.Mark.TheVariants.{Faulty, Away, Engaged}
 use Rattle.tx_lines.specs.Status.{has, with_mark, is_unmarked, no_mark}
 use Rattle.tx_lines.specs.Book.{Book, has_status, room_taken, switched_set}
 use Rattle.tx_lines.specs.inner.Kept.{passes, with_status, book_of, with_mark_of, status_of, kept_status}

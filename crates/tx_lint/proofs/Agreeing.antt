@@ -1,7 +1,7 @@
 -- All faults of a text agree with the fault that its reader tells.
 use Rattle.std.proofs.Common.{◌≡◌, ℕ, ◌+◌, Bool, true, false, List, [], ◌∷◌, ◌++◌, Option, None, Some, Result, Ok, Err, codes, refl, sym, ap, subst}
 use Rattle.std.specs.Prelude.{is_none, if◌then◌else◌}
-use Rattle.std.specs.Option.{option_map, option_to_list}
+use Rattle.tx_lint.proofs.Common.{option_map, option_to_list, Plan}
 use Rattle.tx_text.specs.declared.text_fault.TextFault.{TextFault}
 use Rattle.tx_text.specs.declared.frame.FrameFault.{FrameFault}
 use Rattle.tx_text.specs.declared.frame.FaultKind.{FaultKind}
@@ -13,7 +13,6 @@ use Rattle.tx_text.specs.Words.{words_of}
 use Rattle.tx_text.specs.Told.{AtEnd, told, Then, frame_fault, or_fault}
 use Rattle.tx_text.specs.Frame.{header_of, framed, framed_line, as_said, ended_by, closing, last_fault, Framed}
 use Rattle.tx_text.specs.Said.{said, step_on}
-use Rattle.tx_plan.specs.Plan.{Plan}
 use Rattle.tx_plantext.specs.declared.fault.PlanWord.{PlanWord}
 use Rattle.tx_plantext.specs.PlanText.{Said, declare}
 use Rattle.tx_lint.specs.AllFaults.{Progress, no_progress, fault_in_line, fault_at_end, form_kind, form_of, form_told, words_kind, bytes_first, form_on, declared_on, word_fault, faults_from, progress_from, entry_at}

@@ -1,9 +1,6 @@
 -- Reading all lines of a text, one after another.
 use Rattle.std.proofs.Common.{◌≡◌, ◌==◌, ℕ, ◌+◌, ◌-◌, ◌<◌, ◌≤◌, Bool, true, false, List, [], ◌∷◌, ◌++◌, length, refl, sym, ap, subst, ◌∙◌, append-nil, arith}
-use Rattle.std.specs.Prelude.{if◌then◌else◌}
-use Rattle.std.specs.Option.{option_to_list}
-use Rattle.std.proofs.lemmas.Bool.{eqb-true}
-use Rattle.std.proofs.lemmas.List.{append_assoc}
+use Rattle.tx_lint.proofs.Common.{if◌then◌else◌, option_to_list, eqb-true, append_assoc}
 use Rattle.tx_text.specs.Text.{Line, lines_from}
 use Rattle.tx_text.proofs.TextLines.{lines_nil}
 use Rattle.tx_lint.specs.AllFaults.{Fault, Progress, fault_of_line, fault_of_end, line_on, faults_from, progress_from, faults_of, progress_of}

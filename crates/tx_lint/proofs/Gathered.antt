@@ -1,14 +1,10 @@
 -- Faults that are gathered one after another.
-use Rattle.std.proofs.Common.{◌≡◌, ℕ, zero, suc, ◌+◌, ◌<◌, ◌≤◌, List, [], ◌∷◌, ◌++◌, map, length, fold, take, get_or, Option, Some, None, refl, sym, ap, subst, ◌∙◌, arith}
+use Rattle.tx_lint.proofs.Common.{◌≡◌, ℕ, zero, suc, ◌+◌, ◌<◌, ◌≤◌, List, [], ◌∷◌, ◌++◌, map, length, fold, take, get_or, Option, Some, None, refl, sym, ap, subst, ◌∙◌, arith, AllByRecursion, Fault, fault_held, told_held, AreFew}
 use Rattle.std.specs.Prelude.{slice_get, set, option_and_then}
-use Rattle.std.specs.List.{AllByRecursion}
 use Rattle.std.proofs.lemmas.List.Sums.{fold_more}
 use Rattle.tx_lint.specs.declared.fault.Fault.{Fault as FaultHeld}
 use Rattle.tx_lint.specs.declared.gathering.Told.{Told as ToldHeld}
-use Rattle.tx_lint.specs.AllFaults.{Fault}
 use Rattle.tx_lint.specs.Gathered.{Told, Gathering, count_at, cause_in, gathered_by, gathered_on, name_needed, no_gathering}
-use Rattle.tx_lint.specs.Lints.{fault_held, told_held}
-use Rattle.tx_lint.specs.inner.Gatherings.{AreFew}
 
 -- a bound that is one greater holds too
 few_more : (n : ℕ) (ts : List Told) → AllByRecursion (λ t. t.needing < n) ts

@@ -5,3 +5,4 @@ pub mod Linted
 pub mod Marked
 pub mod Texts
 pub mod Warned
+pub mod Common

@@ -1,11 +1,8 @@
 -- The faults or warnings of a text, by what was read of it.
 use Rattle.std.proofs.Common.{◌≡◌, ◌≢◌, ◌==◌, ℕ, true, false, List, [], ◌∷◌, map, length, refl, sym, ap, subst, ◌∙◌, arith}
 use Rattle.std.proofs.lemmas.Bool.{false≢true, eqb-true}
-use Rattle.tx_plan.specs.Plan.{Plan}
-use Rattle.tx_risk.specs.NamedRisks.{NamedRisk}
-use Rattle.tx_lint.specs.declared.entry.Entry.{Entry}
+use Rattle.tx_lint.proofs.Common.{Plan, NamedRisk, Entry, Fault, Progress}
 use Rattle.tx_lint.specs.declared.fault.Fault.{Fault as FaultHeld}
-use Rattle.tx_lint.specs.AllFaults.{Fault, Progress}
 use Rattle.tx_lint.specs.Gathered.{Told, told_of}
 use Rattle.tx_lint.specs.Lints.{Lint, Faults, AreWarningsOf, IsLintBy, fault_held}
 

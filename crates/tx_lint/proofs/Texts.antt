@@ -1,10 +1,8 @@
 -- Lines that are written one after another.
 use Rattle.std.proofs.Common.{◌≡◌, ℕ, ◌+◌, ◌<◌, Bool, List, [], ◌++◌, length, take, get_or, Option, Ok, Err, codes, append_assoc, append-nil}
 use Rattle.std.specs.Prelude.{IsErr}
-use Rattle.std.specs.List.{flat_map}
-use Rattle.std.proofs.lemmas.List.{get_or_default}
+use Rattle.tx_lint.proofs.Common.{flat_map, get_or_default, WroteBy}
 use Rattle.tx_text.specs.declared.sink.WriteFault.{WriteFault}
-use Rattle.tx_text.specs.Wrote.{WroteBy}
 use Rattle.tx_text.proofs.Wrote.{Outcome, texts_more, texts_stopped}
 
 cut : (a b c d e f rest : List ℕ) → a ++ (b ++ (c ++ (d ++ (e ++ (f ++ rest)))))

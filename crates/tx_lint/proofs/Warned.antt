@@ -1,8 +1,6 @@
 -- Warnings that are found one after another.
-use Rattle.std.proofs.Common.{◌≡◌, ℕ, ◌+◌, ◌<◌, ◌≤◌, Bool, true, false, List, [], ◌∷◌, ◌++◌, map, filter, take, length, Option, Some, None, refl, ap, sym, subst, ◌∙◌, append-nil, arith}
+use Rattle.tx_lint.proofs.Common.{◌≡◌, ℕ, ◌+◌, ◌<◌, ◌≤◌, Bool, true, false, List, [], ◌∷◌, ◌++◌, map, filter, take, length, Option, Some, None, refl, ap, sym, subst, ◌∙◌, append-nil, arith, option_map, option_map_or, flat_map, range_with_len, list_any, IsPlan, route_list, entry_at, list_found, NamedRisk, Entry, Warning}
 use Rattle.std.specs.Prelude.{◌||◌, ◌&&◌, ◌==◌, not, nat_lt, if◌then◌else◌, is_some, slice_get}
-use Rattle.std.specs.Option.{option_map, option_map_or}
-use Rattle.std.specs.List.{flat_map, range_with_len, list_any}
 use Rattle.std.specs.Cmp.Lexicographic.{pointwise}
 use Rattle.std.proofs.lemmas.List.{map-append, map-id, append_assoc, take_all}
 use Rattle.std.proofs.lemmas.List.Folds.{list_any_at, list_any_more}
@@ -10,15 +8,8 @@ use Rattle.std.proofs.lemmas.List.FromFn.{filter_of_map_range_with_len_more}
 use Rattle.std.proofs.lemmas.Option.{slice_get_within, get_or_from_slice_get}
 use Rattle.tx_plan.specs.Circuits.{ends_of}
 use Rattle.tx_plan.specs.Plan.{Plan, Group, Route}
-use Rattle.tx_plan.specs.Rules.{IsPlan}
-use Rattle.tx_plan.specs.Routes.{route_list}
-use Rattle.tx_plan.proofs.ByIndex.{entry_at}
-use Rattle.tx_plan.proofs.ListFound.{list_found}
 use Rattle.tx_plan.specs.Codes.{after, is_prefix}
-use Rattle.tx_risk.specs.NamedRisks.{NamedRisk}
 use Rattle.tx_text.proofs.Ranges.{flat_map-range_more}
-use Rattle.tx_lint.specs.declared.entry.Entry.{Entry}
-use Rattle.tx_lint.specs.declared.warning.Warning.{Warning}
 use Rattle.tx_lint.specs.declared.warning.Warning.TheVariants.{NoLines, UnusedList, NoList, Ambiguous, SharedRisk, Unlisted, NoGroup}
 use Rattle.tx_lint.specs.Warnings.{Coming, wants_list, begins, is_unlisted, lie_in, is_mute, is_idle, is_alone, codes_where, warned_once, warned_if, exchange_warnings, code_warnings, list_warnings, entry_warnings}
 

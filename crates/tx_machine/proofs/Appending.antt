@@ -1,30 +1,8 @@
 -- No reply depends on the tickets not yet taken, and a step only appends tickets.
 use Rattle.std.proofs.Common.{◌≡◌, ℕ, ◌+◌, ◌==◌, Bool, true, false, ◌&&◌, List, [], ◌++◌, map, Option, Some, None, refl, sym, ap, append-nil}
-use Rattle.std.specs.Prelude.{if◌then◌else◌, filter}
-use Rattle.tx_plan.specs.Plan.{Plan, home_of}
-use Rattle.tx_plan.specs.Codes.{code_of}
-use Rattle.tx_plan.specs.Routes.{is_barred}
-use Rattle.tx_plan.specs.declared.ids.Circuit.{Circuit}
-use Rattle.tx_plan.specs.declared.ids.Line.{Line}
-use Rattle.tx_machine.specs.declared.event.Event.TheVariants.{Key, Route, Confirm, Clear, Released, Fail, Restore, Block, Unblock, CircuitOut, CircuitIn, LineFault, LineMend, LineAway, LineBack}
-use Rattle.tx_machine.specs.declared.open_call.Party.TheVariants.{Caller, Called}
-use Rattle.tx_machine.specs.declared.cause.Service.{Service}
-use Rattle.tx_machine.specs.declared.cause.Service.TheVariants.{Nc, Np, Na}
-use Rattle.tx_machine.specs.declared.cause.Cause.{Cause}
+use Rattle.tx_machine.proofs.Common.{if◌then◌else◌, filter, Plan, home_of, code_of, is_barred, Circuit, Line, Key, Route, Confirm, Clear, Released, Fail, Restore, Block, Unblock, CircuitOut, CircuitIn, LineFault, LineMend, LineAway, LineBack, Caller, Called, Service, Nc, Np, Na, Cause, Refusal, Reply, Ended, Phase, Standing, Calling, Connected, Call, exchange_of, call_of, is_numbered, is_first, State, choice, uses_group, line_answer, refusal, end_calls, ticket_of, at_line, at_trunk, line_of, routed_for, collide, second_time, confirmed_by, rival, confirmed, with_call, counted, unless_refused, cause_by}
 use Rattle.tx_machine.specs.declared.cause.Cause.TheVariants.{Service as ByService, Lost as ByLoss}
-use Rattle.tx_machine.specs.declared.refusal.Refusal.{Refusal}
-use Rattle.tx_machine.specs.declared.reply.Reply.{Reply}
 use Rattle.tx_machine.specs.declared.reply.Reply.TheVariants.{Answered, Cleared}
-use Rattle.tx_machine.specs.Ended.{Ended}
-use Rattle.tx_machine.specs.Call.{Phase, Standing, Calling, Connected, Call, exchange_of, call_of, is_numbered, is_first}
-use Rattle.tx_machine.specs.State.{State}
-use Rattle.tx_machine.specs.InUse.{choice, uses_group}
-use Rattle.tx_machine.specs.Lines.{line_answer}
-use Rattle.tx_machine.specs.Refusals.{refusal}
-use Rattle.tx_machine.specs.Ending.{end_calls, ticket_of}
-use Rattle.tx_machine.specs.Routing.{at_line, at_trunk, line_of, routed_for}
-use Rattle.tx_machine.specs.Confirming.{collide, second_time, confirmed_by, rival, confirmed}
-use Rattle.tx_machine.specs.Step.{with_call, counted, unless_refused, cause_by}
 use Rattle.tx_machine.specs.Drained.{drained, IsAppending, AppendsTickets}
 
 module _ (p : Plan) (s : State) (ts : List Ended) where

@@ -1,19 +1,14 @@
 -- Sets that bits mean.
 use Rattle.std.proofs.Common.{◌≡◌, ℕ, zero, suc, ◌+◌, ◌-◌, ◌*◌, ◌/◌, ◌%◌, ◌<◌, ◌≤◌, ◌==◌, Bool, true, false, not, ◌&&◌, ◌||◌, List, [], ◌∷◌, map, length, refl, sym, ap, ◌∙◌, eqb-true, eq-eqb, arith, get_or}
 use Rattle.std.specs.Prelude.{if◌then◌else◌, nat_le, slice_set, replicate}
-use Rattle.std.specs.List.{list_any}
+use Rattle.tx_machine.proofs.Common.{list_any, eqb-false, ne_eqb, and_parts, and_from, false_from_ne_true, circuit_cmp, circuits_total, exact_circuits, by_cmp-is, Circuit, at_least}
 use Rattle.std.specs.Ordering.{nat_cmp, eq_by_cmp, is_eq}
 use Rattle.std.specs.Cmp.{nat_cmp_total, Equal-is}
 use Rattle.std.specs.FinSet as set
-use Rattle.std.proofs.lemmas.Bool.{eqb-false, ne_eqb, and_parts, and_from, false_from_ne_true}
 use Rattle.std.proofs.lemmas.Bool.Decides.{same_from_decides}
 use Rattle.std.proofs.lemmas.Map.Lookups.{exact_unsigned}
 use Rattle.std.proofs.lemmas.Cmp.{tied_itself}
-use Rattle.tx_plan.specs.Orders.{circuit_cmp}
-use Rattle.tx_plan.proofs.Named.{circuits_total, exact_circuits, by_cmp-is}
 use Rattle.tx_plan.proofs.Tables.{list_any-map}
-use Rattle.tx_plan.specs.declared.ids.Circuit.{Circuit}
-use Rattle.tx_plan.proofs.Lists.{at_least}
 use Rattle.std.proofs.lemmas.List.{get_or-set_other}
 use Rattle.std.proofs.lemmas.Grind.{get_or-set_at}
 use Rattle.tx_machine.specs.inner.Marks.{indexes, circuit_at, index_of, circuits_of, groups_of, HasMark, IsCleared}

@@ -1,17 +1,10 @@
 -- What calls keep does not depend on routes and bars: it holds by each plan of a network if by one.
-use Rattle.std.proofs.Common.{ℕ, List, subst}
+use Rattle.tx_machine.proofs.Common.{ℕ, List, subst, Ranks, Line, Call, State, IsKeyedLine, IsOnlyLine, OfConnected, IsSafeCall, IsKept, AreApart, Holds, IsRanked, SameNetwork}
 use Rattle.tx_plan.specs.Plan.{Plan, Route}
 use Rattle.tx_plan.specs.Mixed.{rerouted}
-use Rattle.tx_plan.specs.Certified.{Ranks}
 use Rattle.tx_plan.specs.declared.ids.Pair.{Pair}
-use Rattle.tx_plan.specs.declared.ids.Line.{Line}
 use Rattle.tx_machine.specs.declared.open_call.Phase.{Phase}
 use Rattle.tx_machine.specs.declared.open_call.Phase.TheVariants.{Standing, Calling, Connected}
-use Rattle.tx_machine.specs.Call.{Call}
-use Rattle.tx_machine.specs.State.{State}
-use Rattle.tx_machine.specs.Safe.{IsKeyedLine, IsOnlyLine, OfConnected, IsSafeCall}
-use Rattle.tx_machine.specs.inner.Invariant.{IsKept, AreApart, Holds, IsRanked}
-use Rattle.tx_plan.specs.Mixtures.{SameNetwork}
 use Rattle.tx_plan.proofs.Networks.{rerouted-is}
 
 module _ (p : Plan) (routes : List Route) (bars : List Pair) where

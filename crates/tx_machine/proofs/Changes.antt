@@ -1,36 +1,10 @@
 -- Each kind of change keeps the invariant.
-use Rattle.std.proofs.Common.{◌≡◌, ◌≢◌, ℕ, ◌+◌, ◌≤◌, ◌==◌, Bool, true, false, not, ◌&&◌, ◌||◌, List, [], ◌∷◌, ◌++◌, ◌⊎◌, inl, inr, map, Some, None, refl, sym, ap, ◌∙◌, subst, eq-eqb}
-use Rattle.std.proofs.lemmas.Bool.{or_parts, and_from, not-true, both_ways, eqb-false, ne_eqb, cases_eq, false_from_ne_true}
-use Rattle.std.specs.Prelude.{if◌then◌else◌, filter, unwrap_or}
-use Rattle.std.specs.List.{list_any, flat_map}
-use Rattle.std.specs.Ordering.{eq_by_cmp}
+use Rattle.tx_machine.proofs.Common.{◌≡◌, ◌≢◌, ℕ, ◌+◌, ◌≤◌, ◌==◌, Bool, true, false, not, ◌&&◌, ◌||◌, List, [], ◌∷◌, ◌++◌, ◌⊎◌, inl, inr, map, Some, None, refl, sym, ap, ◌∙◌, subst, eq-eqb, or_parts, and_from, not-true, both_ways, eqb-false, ne_eqb, cases_eq, false_from_ne_true, if◌then◌else◌, filter, unwrap_or, list_any, flat_map, eq_by_cmp, map_push, circuit_cmp, same_circuit, Plan, is_line, is_circuit, other_end, Among, Circuit, Line, among_cases, filter_among, flat_among, map_among, Cause, Hop, Phase, Standing, Calling, Connected, Call, start_of, exchange_of, circuit_called, is_numbered, State, circuits_carried, seizes, circuits_used, uses_group, seizes_from, is_calling_on, set_call, in_phase, takes_part, is_engaged, lines_of, given_up, end_calls, carried_on, thrown_back, collide, rival, far_of, keyed_call, failed_at, NoneTwice, IsKeyedLine, IsKept, AreApart, IsUnused, Inv, Holds}
 use Rattle.std.specs.FinSet as set
-use Rattle.std.proofs.lemmas.List.{map_push}
-use Rattle.tx_plan.specs.Orders.{circuit_cmp, same_circuit}
 use Rattle.tx_plan.proofs.Named.{same_circuit-is, same_circuit-itself, in_insert, in_remove, in_retain, in_union, by_cmp-is}
-use Rattle.tx_plan.specs.Plan.{Plan}
-use Rattle.tx_plan.specs.Lines.{is_line}
-use Rattle.tx_plan.specs.Circuits.{is_circuit, other_end}
-use Rattle.tx_plan.specs.Among.{Among}
-use Rattle.tx_plan.specs.declared.ids.Circuit.{Circuit}
-use Rattle.tx_plan.specs.declared.ids.Line.{Line}
-use Rattle.tx_plan.proofs.Among.{among_cases, filter_among, flat_among, map_among}
-use Rattle.tx_machine.specs.declared.cause.Cause.{Cause}
 use Rattle.tx_machine.specs.declared.cause.Cause.TheVariants.{Lost as ByLoss}
-use Rattle.tx_machine.specs.declared.open_call.Hop.{Hop}
-use Rattle.tx_machine.specs.Call.{Phase, Standing, Calling, Connected, Call, start_of, exchange_of, circuit_called, is_numbered}
-use Rattle.tx_machine.specs.State.{State}
-use Rattle.tx_machine.specs.InUse.{circuits_carried, seizes, circuits_used, uses_group, seizes_from, is_calling_on}
-use Rattle.tx_machine.specs.Routing.{set_call, in_phase}
-use Rattle.tx_machine.specs.Lines.{takes_part, is_engaged, lines_of}
-use Rattle.tx_machine.specs.Ending.{given_up, end_calls}
-use Rattle.tx_machine.specs.Confirming.{carried_on, thrown_back, collide, rival, far_of}
-use Rattle.tx_machine.specs.Step.{keyed_call, failed_at}
-use Rattle.tx_machine.specs.Members.{NoneTwice}
 use Rattle.tx_machine.proofs.Lists.{none_any, any_mem, find_none}
 use Rattle.tx_machine.proofs.Uses.{not_seizing, not_taking, IsFree, joins_more, none_twice_push, no_third_end, two_ends}
-use Rattle.tx_machine.specs.Safe.{IsKeyedLine}
-use Rattle.tx_machine.specs.inner.Invariant.{IsKept, AreApart, IsUnused, Inv, Holds}
 use Rattle.tx_machine.proofs.Invariant.{inv_releasing, inv_filter, inv_more, inv_set, swapped, rising_map}
 
 pub not_standing : {x : Circuit} → Standing ≡ Calling x → ⊥

@@ -1,13 +1,6 @@
 -- A change with calls up keeps what a run keeps.
-use Rattle.std.proofs.Common.{ℕ, List, [], ◌∷◌}
-use Rattle.std.specs.List.{AllByRecursion}
-use Rattle.tx_plan.specs.Plan.{Plan}
-use Rattle.tx_plan.specs.Certified.{Ranks}
+use Rattle.tx_machine.proofs.Common.{ℕ, List, [], ◌∷◌, AllByRecursion, Plan, Ranks, mixture_certified, all_map, State, opening, step}
 use Rattle.tx_plan.specs.Mixtures.{SameNetwork, AreCommon}
-use Rattle.tx_plan.proofs.CommonRanks.{mixture_certified}
-use Rattle.tx_plan.proofs.Lists.{all_map}
-use Rattle.tx_machine.specs.State.{State, opening}
-use Rattle.tx_machine.specs.Step.{step}
 use Rattle.tx_machine.specs.ChangingRuns.{Turn, changing_run, AreMixtures, IsSoundChange, HasFewRoutesMeanwhile, SufficesMeanwhile}
 use Rattle.tx_machine.proofs.LiveRuns.{IsLive, sound_along, few_along}
 

@@ -1,18 +1,6 @@
 -- The first circuit that is found, number by number.
-use Rattle.std.proofs.Common.{◌≡◌, ℕ, zero, suc, ◌+◌, ◌-◌, ◌<◌, Bool, true, false, cond, List, [], ◌∷◌, ◌++◌, map, Option, Some, None, refl, ap, sym, ◌∙◌, subst, arith}
-use Rattle.std.specs.Prelude.{find, if◌then◌else◌, slice_get, nat_le, ◌&&◌, ◌==◌}
-use Rattle.std.specs.Option.{option_map_or}
-use Rattle.tx_plan.specs.Plan.{Plan, Group}
+use Rattle.tx_machine.proofs.Common.{◌≡◌, ℕ, zero, suc, ◌+◌, ◌-◌, ◌<◌, Bool, true, false, cond, List, [], ◌∷◌, ◌++◌, map, Option, Some, None, refl, ap, sym, ◌∙◌, subst, arith, find, if◌then◌else◌, slice_get, nat_le, ◌&&◌, ◌==◌, option_map_or, Plan, Group, route_list, Circuit, Route, Seized, Call, call_of, exchange_of, State, routed, with_call, accepted, first_free, choice}
 use Rattle.tx_plan.specs.Circuits.{upward, downward, circuits_at, order_at, is_circuit, ends_of, count_of}
-use Rattle.tx_plan.specs.Routes.{route_list}
-use Rattle.tx_plan.specs.declared.ids.Circuit.{Circuit}
-use Rattle.tx_machine.specs.declared.event.Event.TheVariants.{Route}
-use Rattle.tx_machine.specs.declared.reply.Reply.TheVariants.{Seized}
-use Rattle.tx_machine.specs.Call.{Call, call_of, exchange_of}
-use Rattle.tx_machine.specs.State.{State}
-use Rattle.tx_machine.specs.Routing.{routed}
-use Rattle.tx_machine.specs.Step.{with_call, accepted}
-use Rattle.tx_machine.specs.InUse.{first_free, choice}
 use Rattle.tx_machine.proofs.Uses.{first_in-is, chosen}
 use Rattle.tx_machine.proofs.Routed.{seizes}
 

@@ -1,15 +1,9 @@
 -- A call that confirms.
-use Rattle.std.proofs.Common.{◌≡◌, ℕ, Option, Some, length, ap, ◌∙◌}
-use Rattle.tx_plan.specs.Plan.{Plan}
-use Rattle.tx_plan.specs.declared.ids.Circuit.{Circuit}
+use Rattle.tx_machine.proofs.Common.{◌≡◌, ℕ, Option, Some, length, ap, ◌∙◌, Plan, Circuit, HasMark, call_of, Call, State, confirmed, confirmed_by, rival}
 use Rattle.tx_machine.specs.declared.open_call.Phase.TheVariants.{Calling}
-use Rattle.tx_machine.specs.inner.Marks.{HasMark}
 use Rattle.tx_machine.specs.inner.Met.{IsOn, IsMet}
 use Rattle.tx_machine.specs.declared.plain.confirm.Meeting.{Meeting}
 use Rattle.tx_machine.specs.declared.plain.confirm.Meeting.TheVariants.{GoesOn, Collides}
-use Rattle.tx_machine.specs.Call.{call_of, Call}
-use Rattle.tx_machine.specs.State.{State}
-use Rattle.tx_machine.specs.Confirming.{confirmed, confirmed_by, rival}
 
 pub confirms : (p : Plan) (s : State) (d : Call) (x : Circuit) (o : Option Call) → d.phase ≡ Calling x → rival p s d x ≡ o → confirmed p s d d.phase ≡ confirmed_by p s d x o
 confirms p s d x o e r = ap (confirmed p s d) e ∙ ap (confirmed_by p s d x) r

@@ -1,42 +1,11 @@
 -- Under a certificate few Route events of one call are accepted.
 use Rattle.std.proofs.Common.{◌≡◌, ℕ, ◌+◌, ◌*◌, ◌<◌, ◌≤◌, ◌==◌, Bool, true, false, not, ◌&&◌, List, [], ◌∷◌, ◌++◌, inl, inr, length, Option, Some, None, refl, sym, ap, ◌∙◌, subst, eqb-true, arith, length-append}
-use Rattle.std.proofs.lemmas.Option.{same_Some}
+use Rattle.tx_machine.proofs.Common.{same_Some, if◌then◌else◌, is_none, Plan, home_of, IsPlan, Ranks, IsCertified, code_of, is_barred, Among, Circuit, Line, filter_among, Event, Key, Route, Confirm, Clear, Released, Fail, Restore, Block, Unblock, CircuitOut, CircuitIn, LineFault, LineMend, LineAway, LineBack, Service, Nc, Np, Na, Cause, Refusal, Reply, Answered, Hop, Phase, Standing, Calling, Connected, Call, exchange_of, call_of, is_standing, is_numbered, is_first, State, opening, choice, line_answer, is_other, refusals, refusal, set_call, in_phase, at_line, at_trunk, line_of, routed_for, end_calls, confirmed_by, rival, confirmed, with_call, accepted, counted, unless_refused, step, run, routed_call, Holds, IsRanked}
 use Rattle.std.proofs.lemmas.Bool.{false≢true, true≢false, and_parts, not-true, eqb-false, cases_Bool}
-use Rattle.std.specs.Prelude.{if◌then◌else◌, is_none}
-use Rattle.tx_plan.specs.Plan.{Plan, home_of}
-use Rattle.tx_plan.specs.Rules.{IsPlan}
-use Rattle.tx_plan.specs.Certified.{Ranks, IsCertified}
-use Rattle.tx_plan.specs.Codes.{code_of}
-use Rattle.tx_plan.specs.Routes.{is_barred}
-use Rattle.tx_plan.specs.Among.{Among}
-use Rattle.tx_plan.specs.declared.ids.Circuit.{Circuit}
-use Rattle.tx_plan.specs.declared.ids.Line.{Line}
-use Rattle.tx_plan.proofs.Among.{filter_among}
-use Rattle.tx_machine.specs.declared.event.Event.{Event}
-use Rattle.tx_machine.specs.declared.event.Event.TheVariants.{Key, Route, Confirm, Clear, Released, Fail, Restore, Block, Unblock, CircuitOut, CircuitIn, LineFault, LineMend, LineAway, LineBack}
-use Rattle.tx_machine.specs.declared.cause.Service.{Service}
-use Rattle.tx_machine.specs.declared.cause.Service.TheVariants.{Nc, Np, Na}
-use Rattle.tx_machine.specs.declared.cause.Cause.{Cause}
 use Rattle.tx_machine.specs.declared.cause.Cause.TheVariants.{Service as ByService}
-use Rattle.tx_machine.specs.declared.refusal.Refusal.{Refusal}
-use Rattle.tx_machine.specs.declared.reply.Reply.{Reply}
-use Rattle.tx_machine.specs.declared.reply.Reply.TheVariants.{Answered}
-use Rattle.tx_machine.specs.declared.open_call.Hop.{Hop}
-use Rattle.tx_machine.specs.Call.{Phase, Standing, Calling, Connected, Call, exchange_of, call_of, is_standing, is_numbered, is_first}
-use Rattle.tx_machine.specs.State.{State, opening}
-use Rattle.tx_machine.specs.InUse.{choice}
-use Rattle.tx_machine.specs.Lines.{line_answer}
-use Rattle.tx_machine.specs.Refusals.{is_other, refusals, refusal}
-use Rattle.tx_machine.specs.Routing.{set_call, in_phase, at_line, at_trunk, line_of, routed_for}
-use Rattle.tx_machine.specs.Ending.{end_calls}
-use Rattle.tx_machine.specs.Confirming.{confirmed_by, rival, confirmed}
-use Rattle.tx_machine.specs.Step.{with_call, accepted, counted, unless_refused, step}
-use Rattle.tx_machine.specs.Runs.{run}
-use Rattle.tx_machine.specs.Excused.{routed_call}
 use Rattle.tx_machine.specs.Sound.{is_refused, is_route_of, routes_of, HasFewRoutes}
 use Rattle.tx_machine.proofs.Lists.{find_mem}
 use Rattle.tx_machine.proofs.Invariant.{set_cases, inv_opening}
-use Rattle.tx_machine.specs.inner.Invariant.{Holds, IsRanked}
 use Rattle.tx_machine.proofs.Steps.{tests_false, stands, step_keeps}
 use Rattle.tx_machine.proofs.Moves.{Moves, moves_number, stays, connects, seizes_one, goes_on, falls_back, came, after_accepted}
 use Rattle.tx_machine.proofs.Ranks.{AllRanked, AreLed, all_led, step_ranked, hops_within, ranked_index}

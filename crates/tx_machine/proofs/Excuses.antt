@@ -1,40 +1,11 @@
 -- Under a certificate each answer NC is excused.
 use Rattle.std.proofs.Common.{◌≡◌, ℕ, zero, suc, ◌<◌, ◌≤◌, ◌==◌, true, false, not, cond, ◌&&◌, List, [], ◌∷◌, ◌⊎◌, inl, inr, map, Option, Some, None, refl, sym, ap, subst, eqb-true, leb-true, arith}
-use Rattle.std.proofs.lemmas.Bool.{false≢true, and_parts, eqb-false, not-false, cases_eq}
-use Rattle.std.specs.Prelude.{if◌then◌else◌, nat_le, find, slice_get}
-use Rattle.std.specs.Option.{option_map_or}
+use Rattle.tx_machine.proofs.Common.{false≢true, and_parts, eqb-false, not-false, cases_eq, if◌then◌else◌, nat_le, find, slice_get, option_map_or, Plan, Group, home_of, Ranks, IsCertified, is_line, code_of, route_list, is_barred, is_circuit, downward, upward, order_at, circuits_at, Among, Circuit, Line, among_left, among_map, among_right, Event, Key, Route, Confirm, Clear, Released, Fail, Restore, Block, Unblock, CircuitOut, CircuitIn, LineFault, LineMend, LineAway, LineBack, Service, Occ, Np, Der, Abs, Na, Refusal, Reply, Answered, Phase, Standing, Calling, Connected, Call, exchange_of, call_of, is_numbered, is_first, State, is_free_at, is_down, first_free, choice, seizes_from, is_engaged, line_answer, refusal, end_calls, at_line, at_trunk, line_of, routed_for, confirmed_by, rival, confirmed, far_of, with_call, accepted, counted, unless_refused, step, Holds, IsRanked}
 use Rattle.std.specs.FinSet as set
-use Rattle.tx_plan.specs.Plan.{Plan, Group, home_of}
-use Rattle.tx_plan.specs.Certified.{Ranks, IsCertified}
-use Rattle.tx_plan.specs.Lines.{is_line}
-use Rattle.tx_plan.specs.Codes.{code_of}
-use Rattle.tx_plan.specs.Routes.{route_list, is_barred}
-use Rattle.tx_plan.specs.Circuits.{is_circuit, downward, upward, order_at, circuits_at}
-use Rattle.tx_plan.specs.Among.{Among}
-use Rattle.tx_plan.specs.declared.ids.Circuit.{Circuit}
-use Rattle.tx_plan.specs.declared.ids.Line.{Line}
-use Rattle.tx_plan.proofs.Among.{among_left, among_map, among_right}
-use Rattle.tx_machine.specs.declared.event.Event.{Event}
-use Rattle.tx_machine.specs.declared.event.Event.TheVariants.{Key, Route, Confirm, Clear, Released, Fail, Restore, Block, Unblock, CircuitOut, CircuitIn, LineFault, LineMend, LineAway, LineBack}
-use Rattle.tx_machine.specs.declared.cause.Service.{Service}
-use Rattle.tx_machine.specs.declared.cause.Service.TheVariants.{Occ, Np, Der, Abs, Na}
 use Rattle.tx_machine.specs.declared.cause.Cause.TheVariants.{Service as ByService}
-use Rattle.tx_machine.specs.declared.refusal.Refusal.{Refusal}
-use Rattle.tx_machine.specs.declared.reply.Reply.{Reply}
-use Rattle.tx_machine.specs.declared.reply.Reply.TheVariants.{Answered}
-use Rattle.tx_machine.specs.Call.{Phase, Standing, Calling, Connected, Call, exchange_of, call_of, is_numbered, is_first}
-use Rattle.tx_machine.specs.State.{State}
-use Rattle.tx_machine.specs.InUse.{is_free_at, is_down, first_free, choice, seizes_from}
-use Rattle.tx_machine.specs.Lines.{is_engaged, line_answer}
-use Rattle.tx_machine.specs.Refusals.{refusal}
-use Rattle.tx_machine.specs.Ending.{end_calls}
-use Rattle.tx_machine.specs.Routing.{at_line, at_trunk, line_of, routed_for}
-use Rattle.tx_machine.specs.Confirming.{confirmed_by, rival, confirmed, far_of}
-use Rattle.tx_machine.specs.Step.{with_call, accepted, counted, unless_refused, step}
 use Rattle.tx_machine.specs.Excused.{HadCollided, IsExcusedTo, IsExcused}
 use Rattle.tx_machine.proofs.Lists.{find_mem, find_none, all_from_mem}
 use Rattle.tx_machine.proofs.Uses.{first_in-none}
-use Rattle.tx_machine.specs.inner.Invariant.{Holds, IsRanked}
 use Rattle.tx_machine.proofs.Unrefused.{route_stands}
 use Rattle.tx_machine.proofs.Ranks.{AreLed, ranked_index, code_within}
 

@@ -1,8 +1,5 @@
 -- Things whose image passes a test, as a loop over the things finds the first of them or counts them.
-use Rattle.std.proofs.Common.{◌≡◌, ℕ, suc, ◌+◌, ◌<◌, ◌≤◌, Bool, true, false, cond, List, ◌∷◌, length, map, drop, get_or, Some, None, sym, ap, ◌∙◌, add-one, arith}
-use Rattle.std.specs.Prelude.{filter, find}
-use Rattle.std.proofs.Math.Seq.{drop-cons}
-use Rattle.std.proofs.lemmas.List.{drop_all}
+use Rattle.tx_machine.proofs.Common.{◌≡◌, ℕ, suc, ◌+◌, ◌<◌, ◌≤◌, Bool, true, false, cond, List, ◌∷◌, length, map, drop, get_or, Some, None, sym, ap, ◌∙◌, add-one, arith, filter, find, drop-cons, drop_all}
 
 module _ {X Y : Type 0} (test : Y → Bool) (f : X → Y) (xs : List X) (i : ℕ) where
   module _ (x : X) (low : i < length xs) (is : x ≡ get_or xs i x) where

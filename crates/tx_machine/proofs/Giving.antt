@@ -1,20 +1,9 @@
 -- Circuits that calls give up.
-use Rattle.std.proofs.Common.{append_assoc, ◌≡◌, ℕ, zero, suc, ◌+◌, ◌<◌, Bool, true, false, ◌||◌, cond, List, [], ◌∷◌, ◌++◌, take, length, get_or, refl, ap, sym, ◌∙◌, arith}
+use Rattle.tx_machine.proofs.Common.{append_assoc, ◌≡◌, ℕ, zero, suc, ◌+◌, ◌<◌, Bool, true, false, ◌||◌, cond, List, [], ◌∷◌, ◌++◌, take, length, get_or, refl, ap, sym, ◌∙◌, arith, filter, if◌then◌else◌, Call, circuits_used, list_any, flat_map, eq_by_cmp, list_any-append, circuit_cmp, circuits_total, exact_circuits, Circuit, Circuits, with_more}
 use Rattle.std.proofs.Math.Bool.{or_assoc}
-use Rattle.std.specs.Prelude.{filter, if◌then◌else◌}
-use Rattle.tx_machine.specs.Call.{Call}
-use Rattle.tx_machine.specs.InUse.{circuits_used}
-use Rattle.std.specs.List.{list_any, flat_map}
-use Rattle.std.specs.Ordering.{eq_by_cmp}
 use Rattle.std.specs.FinSet as set
 use Rattle.std.proofs.Math.Bool.{or-false, or_comm}
-use Rattle.std.proofs.lemmas.List.Folds.{list_any-append}
 use Rattle.std.proofs.lemmas.List.Elements.{filter-append}
-use Rattle.tx_plan.specs.Orders.{circuit_cmp}
-use Rattle.tx_plan.proofs.Named.{circuits_total, exact_circuits}
-use Rattle.tx_plan.specs.declared.ids.Circuit.{Circuit}
-use Rattle.tx_machine.specs.inner.Marks.{Circuits}
-use Rattle.tx_machine.specs.inner.GivenUp.{with_more}
 
 in_more : (s : set.FinSet circuit_cmp) (xs : List Circuit) (y : Circuit) → set.contains (set.union s (set.from_list xs)) y ≡ (set.contains s y || list_any (eq_by_cmp circuit_cmp y) xs)
 in_more s xs y = set.contains-union circuits_total s (set.from_list xs) y ∙ ap (λ b. set.contains s y || b) (set.contains-from_list circuits_total xs y)

@@ -1,20 +1,6 @@
 -- What holds of the calls, as they change.
-use Rattle.std.proofs.Common.{◌≡◌, ℕ, ◌+◌, ◌≤◌, ◌==◌, Bool, true, false, List, [], ◌∷◌, ◌++◌, ◌⊎◌, inl, inr, map, refl, ap, sym, ◌∙◌, subst, arith, eqb-true}
-use Rattle.std.specs.Prelude.{filter, if◌then◌else◌}
-use Rattle.tx_plan.specs.declared.ids.Circuit.{Circuit}
-use Rattle.tx_plan.specs.declared.ids.Line.{Line}
+use Rattle.tx_machine.proofs.Common.{◌≡◌, ℕ, ◌+◌, ◌≤◌, ◌==◌, Bool, true, false, List, [], ◌∷◌, ◌++◌, ◌⊎◌, inl, inr, map, refl, ap, sym, ◌∙◌, subst, arith, eqb-true, filter, if◌then◌else◌, Circuit, Line, Call, is_calling, circuits_used, set_call, keyed_call, Among, among_cases, among_map, filter_among, map_among, call_seen, HasRoom, IsReady, AreMarked, AreHeld, OpenCall}
 use Rattle.tx_machine.specs.declared.open_call.Phase.TheVariants.{Calling}
-use Rattle.tx_machine.specs.Call.{Call, is_calling}
-use Rattle.tx_machine.specs.InUse.{circuits_used}
-use Rattle.tx_machine.specs.Routing.{set_call}
-use Rattle.tx_machine.specs.Step.{keyed_call}
-use Rattle.tx_plan.specs.Among.{Among}
-use Rattle.tx_plan.proofs.Among.{among_cases, among_map, filter_among, map_among}
-use Rattle.tx_machine.specs.Seen.{call_seen}
-use Rattle.tx_machine.specs.inner.Seen.{HasRoom, IsReady}
-use Rattle.tx_machine.specs.inner.GivenUp.{AreMarked}
-use Rattle.tx_machine.specs.inner.Whole.{AreHeld}
-use Rattle.tx_machine.specs.declared.open_call.OpenCall.{OpenCall}
 
 pub held_none : (groups numbers : ℕ) → AreHeld groups numbers []
 held_none groups numbers = record { marked = λ c m. elim m [ ]; one = λ c d m n e. elim m [ ]; given = λ c m. elim m [ ] }

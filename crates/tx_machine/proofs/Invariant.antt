@@ -1,16 +1,6 @@
 -- The invariant under changes of the calls and of the releasing circuits.
-use Rattle.std.proofs.Common.{◌≡◌, ◌≢◌, ℕ, ◌+◌, ◌<◌, ◌≤◌, ◌==◌, Bool, true, false, cond, List, [], ◌∷◌, ◌++◌, ◌⊎◌, inl, inr, map, refl, sym, ap, ◌∙◌, subst, eqb-true, arith}
-use Rattle.std.proofs.lemmas.Bool.{eqb-false}
-use Rattle.std.specs.Prelude.{if◌then◌else◌, filter}
+use Rattle.tx_machine.proofs.Common.{◌≡◌, ◌≢◌, ℕ, ◌+◌, ◌<◌, ◌≤◌, ◌==◌, Bool, true, false, cond, List, [], ◌∷◌, ◌++◌, ◌⊎◌, inl, inr, map, refl, sym, ap, ◌∙◌, subst, eqb-true, arith, eqb-false, if◌then◌else◌, filter, circuit_cmp, Plan, Among, Circuit, among_cases, filter_among, map_among, Call, set_call, IsKept, AreApart, IsUnused, IsRising, Inv}
 use Rattle.std.specs.FinSet as set
-use Rattle.tx_plan.specs.Orders.{circuit_cmp}
-use Rattle.tx_plan.specs.Plan.{Plan}
-use Rattle.tx_plan.specs.Among.{Among}
-use Rattle.tx_plan.specs.declared.ids.Circuit.{Circuit}
-use Rattle.tx_plan.proofs.Among.{among_cases, filter_among, map_among}
-use Rattle.tx_machine.specs.Call.{Call}
-use Rattle.tx_machine.specs.Routing.{set_call}
-use Rattle.tx_machine.specs.inner.Invariant.{IsKept, AreApart, IsUnused, IsRising, Inv}
 
 pub rising_filter : (keeps : Call → Bool) (cs : List Call) → IsRising cs → IsRising (filter keeps cs)
 rising_filter keeps [] r = tt

@@ -1,8 +1,5 @@
 -- The last hop.
-use Rattle.std.proofs.Common.{◌≡◌, ℕ, suc, ◌-◌, List, [], ◌∷◌, length, Some, ap, subst, arith}
-use Rattle.std.specs.Prelude.{slice_get}
-use Rattle.tx_machine.specs.declared.open_call.Hop.{Hop}
-use Rattle.tx_machine.specs.Call.{last_exchange}
+use Rattle.tx_machine.proofs.Common.{◌≡◌, ℕ, suc, ◌-◌, List, [], ◌∷◌, length, Some, ap, subst, arith, slice_get, Hop, last_exchange}
 
 pub last_is : (start : ℕ) (hops : List Hop) (h : Hop) → slice_get hops (length hops - 1) ≡ Some h → last_exchange start hops ≡ h.far
 last_is start [] h e = let bad : ⊥ = cc in absurd bad

@@ -33,3 +33,4 @@ pub mod Giving
 pub mod Taking
 pub mod LineSets
 pub mod Finding
+pub mod Common

@@ -1,12 +1,7 @@
 -- A set of lines without one.
-use Rattle.std.proofs.Common.{◌≡◌, Bool, true, false, not, ◌&&◌, ◌||◌, cond, List, [], ◌∷◌, refl, ap, sym, ◌∙◌}
-use Rattle.std.specs.Prelude.{filter}
-use Rattle.std.specs.List.{list_any}
+use Rattle.tx_machine.proofs.Common.{◌≡◌, Bool, true, false, not, ◌&&◌, ◌||◌, cond, List, [], ◌∷◌, refl, ap, sym, ◌∙◌, filter, list_any, and-false, line_cmp, same_line, Line}
 use Rattle.std.specs.FinSet as set
-use Rattle.std.proofs.Math.Bool.{and-false}
-use Rattle.tx_plan.specs.Orders.{line_cmp, same_line}
 use Rattle.tx_plan.proofs.Named.{lines_total, exact_lines, line_tie, in_lines, same_line-is, same_line_equiv}
-use Rattle.tx_plan.specs.declared.ids.Line.{Line}
 
 rest_any : (l q : Line) (ls : List Line) → list_any (λ m. same_line m q) (filter (λ m. not (same_line m l)) ls) ≡ (not (same_line q l) && list_any (λ m. same_line m q) ls)
 rest_any l q [] = sym (and-false (not (same_line q l)))

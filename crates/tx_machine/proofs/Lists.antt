@@ -1,10 +1,6 @@
 -- Members of lists, and lists in which nothing stands twice.
-use Rattle.std.proofs.Common.{◌≡◌, Bool, true, false, cond, ◌||◌, List, [], ◌∷◌, inl, inr, drop, Some, None, refl, sym, ap, ◌∙◌, subst, ℕ, zero, suc}
+use Rattle.tx_machine.proofs.Common.{◌≡◌, Bool, true, false, cond, ◌||◌, List, [], ◌∷◌, inl, inr, drop, Some, None, refl, sym, ap, ◌∙◌, subst, ℕ, zero, suc, find, slice_get, list_any, AllByRecursion, EachPair, Among}
 use Rattle.std.proofs.lemmas.Bool.{false≢true, or_parts, or_cases}
-use Rattle.std.specs.Prelude.{find, slice_get}
-use Rattle.std.specs.List.{list_any, AllByRecursion}
-use Rattle.tx_plan.specs.Rules.{EachPair}
-use Rattle.tx_plan.specs.Among.{Among}
 
 pub first_of : {A : Type 0} (xs : List A) (x : A) → slice_get xs 0 ≡ Some x → xs ≡ x ∷ drop 1 xs
 first_of [] x h = cc

@@ -1,23 +1,8 @@
 -- Runs in which each call has ranks of its own, whichever plan of the network is in force.
-use Rattle.std.proofs.Common.{◌≡◌, ℕ, ◌+◌, ◌*◌, ◌≤◌, Bool, true, false, List, [], ◌∷◌, map, refl, arith}
-use Rattle.std.specs.Prelude.{if◌then◌else◌}
-use Rattle.std.specs.List.{AllByRecursion}
-use Rattle.tx_plan.specs.Plan.{Plan}
-use Rattle.tx_plan.specs.Rules.{IsPlan}
-use Rattle.tx_plan.specs.Certified.{Ranks, IsCertified}
-use Rattle.tx_plan.specs.Mixtures.{SameNetwork}
-use Rattle.tx_plan.specs.Among.{Among}
+use Rattle.tx_machine.proofs.Common.{◌≡◌, ℕ, ◌+◌, ◌*◌, ◌≤◌, Bool, true, false, List, [], ◌∷◌, map, refl, arith, if◌then◌else◌, AllByRecursion, Plan, IsPlan, Ranks, IsCertified, SameNetwork, Among, Event, Call, Standing, State, opening, step, IsSafeCall, FewDown, OthersFree, IsNcByCollision, routes_of, Holds}
 use Rattle.tx_plan.proofs.Networks.{same_back, same_along}
-use Rattle.tx_machine.specs.declared.event.Event.{Event}
-use Rattle.tx_machine.specs.Call.{Call, Standing}
-use Rattle.tx_machine.specs.State.{State, opening}
-use Rattle.tx_machine.specs.Step.{step}
 use Rattle.tx_machine.specs.Runs.{moment}
-use Rattle.tx_machine.specs.Safe.{IsSafeCall}
-use Rattle.tx_machine.specs.Excused.{FewDown, OthersFree, IsNcByCollision}
-use Rattle.tx_machine.specs.Sound.{routes_of}
 use Rattle.tx_machine.specs.ChangingRuns.{Turn, Switched, changing_run, IsSafeByEach, IsExcusedThen}
-use Rattle.tx_machine.specs.inner.Invariant.{Holds}
 use Rattle.tx_machine.proofs.Invariant.{inv_opening}
 use Rattle.tx_machine.proofs.Steps.{step_keeps}
 use Rattle.tx_machine.proofs.Ranks.{AllRanked, AreLed, step_ranked}

@@ -1,15 +1,10 @@
 -- The state after a ticket is taken, and the reply and the state after a group fails.
-use Rattle.std.proofs.Common.{◌≡◌, ℕ, ap, ◌∙◌, sym, not, ◌==◌, length, drop, List}
+use Rattle.tx_machine.proofs.Common.{◌≡◌, ℕ, ap, ◌∙◌, sym, not, ◌==◌, length, drop, List, Reply, uses_group, end_calls, Ended, failed_at}
 use Rattle.std.specs.List.{filter}
 use Rattle.std.specs.FinSet as set
-use Rattle.tx_machine.specs.declared.reply.Reply.{Reply}
 use Rattle.tx_machine.specs.declared.reply.Reply.TheVariants.{Lost as LostReply}
 use Rattle.tx_machine.specs.declared.cause.Cause.TheVariants.{Lost as ByLoss}
 use Rattle.tx_machine.specs.State.{State, Net, ticket_taken}
-use Rattle.tx_machine.specs.InUse.{uses_group}
-use Rattle.tx_machine.specs.Ending.{end_calls}
-use Rattle.tx_machine.specs.Ended.{Ended}
-use Rattle.tx_machine.specs.Step.{failed_at}
 
 module _ (v w : Net) (e : w ≡ v) where
   pub ticket_step : (new : List Ended) → new ≡ drop 1 w.state.tickets → record w.state { tickets = new } ≡ ticket_taken v.state

@@ -1,37 +1,9 @@
 -- What one step may do to one call. All that is claimed of calls one by one follows from this.
-use Rattle.std.proofs.Common.{◌≡◌, ℕ, ◌+◌, ◌==◌, Bool, true, false, not, ◌&&◌, ◌||◌, List, [], ◌∷◌, ◌++◌, ◌⊎◌, inl, inr, Option, Some, None, refl, sym, ap, ◌∙◌, subst, eqb-true}
-use Rattle.std.proofs.lemmas.Bool.{or_parts, and_parts, not-true, not-false}
-use Rattle.std.specs.Prelude.{if◌then◌else◌}
-use Rattle.tx_plan.specs.Plan.{Plan, home_of}
-use Rattle.tx_plan.specs.Lines.{is_line}
-use Rattle.tx_plan.specs.Codes.{code_of}
-use Rattle.tx_plan.specs.Routes.{route_list, is_barred}
-use Rattle.tx_plan.specs.Among.{Among}
-use Rattle.tx_plan.specs.declared.ids.Circuit.{Circuit}
-use Rattle.tx_plan.specs.declared.ids.Line.{Line}
-use Rattle.tx_plan.proofs.Among.{among_cases, filter_among, map_among}
-use Rattle.tx_machine.specs.declared.event.Event.{Event}
-use Rattle.tx_machine.specs.declared.event.Event.TheVariants.{Key, Route, Confirm, Clear, Released, Fail, Restore, Block, Unblock, CircuitOut, CircuitIn, LineFault, LineMend, LineAway, LineBack}
-use Rattle.tx_machine.specs.declared.cause.Service.{Service}
-use Rattle.tx_machine.specs.declared.cause.Service.TheVariants.{Nc, Np, Na}
-use Rattle.tx_machine.specs.declared.cause.Cause.{Cause}
+use Rattle.tx_machine.proofs.Common.{◌≡◌, ℕ, ◌+◌, ◌==◌, Bool, true, false, not, ◌&&◌, ◌||◌, List, [], ◌∷◌, ◌++◌, ◌⊎◌, inl, inr, Option, Some, None, refl, sym, ap, ◌∙◌, subst, eqb-true, or_parts, and_parts, not-true, not-false, if◌then◌else◌, Plan, home_of, is_line, code_of, route_list, is_barred, Among, Circuit, Line, among_cases, filter_among, map_among, Event, Key, Route, Confirm, Clear, Released, Fail, Restore, Block, Unblock, CircuitOut, CircuitIn, LineFault, LineMend, LineAway, LineBack, Service, Nc, Np, Na, Cause, Refusal, Reply, Answered, Phase, Standing, Calling, Connected, Call, exchange_of, call_of, is_standing, is_numbered, is_first, State, first_free, choice, uses_group, seizes, seizes_from, line_answer, is_other, refusals, refusal, set_call, in_phase, at_line, at_trunk, line_of, routed_for, end_calls, far_of, carried_on, thrown_back, collide, second_time, confirmed_by, rival, confirmed, keyed_call, with_call, accepted, counted, unless_refused, step, cause_by, Holds}
 use Rattle.tx_machine.specs.declared.cause.Cause.TheVariants.{Service as ByService, Lost as ByLoss}
-use Rattle.tx_machine.specs.declared.refusal.Refusal.{Refusal}
-use Rattle.tx_machine.specs.declared.reply.Reply.{Reply}
-use Rattle.tx_machine.specs.declared.reply.Reply.TheVariants.{Answered}
-use Rattle.tx_machine.specs.Call.{Phase, Standing, Calling, Connected, Call, exchange_of, call_of, is_standing, is_numbered, is_first}
-use Rattle.tx_machine.specs.State.{State}
-use Rattle.tx_machine.specs.InUse.{first_free, choice, uses_group, seizes, seizes_from}
-use Rattle.tx_machine.specs.Lines.{line_answer}
-use Rattle.tx_machine.specs.Refusals.{is_other, refusals, refusal}
-use Rattle.tx_machine.specs.Routing.{set_call, in_phase, at_line, at_trunk, line_of, routed_for}
-use Rattle.tx_machine.specs.Ending.{end_calls}
-use Rattle.tx_machine.specs.Confirming.{far_of, carried_on, thrown_back, collide, second_time, confirmed_by, rival, confirmed}
-use Rattle.tx_machine.specs.Step.{keyed_call, with_call, accepted, counted, unless_refused, step, cause_by}
 use Rattle.tx_machine.proofs.Lists.{find_mem}
 use Rattle.tx_machine.proofs.Uses.{first_in-is, chosen, calling_on}
 use Rattle.tx_machine.proofs.Invariant.{set_cases}
-use Rattle.tx_machine.specs.inner.Invariant.{Holds}
 use Rattle.tx_machine.proofs.Steps.{tests_false, stands}
 
 -- from c the step with this event makes c'

@@ -1,29 +1,10 @@
 -- What Key, Block, Unblock, Route and Confirm do to a network with one call.
-use Rattle.std.proofs.Common.{◌≡◌, ◌≢◌, ℕ, ◌+◌, ◌-◌, ◌^◌, ◌<◌, ◌≤◌, ◌==◌, true, false, ◌&&◌, nat_le, List, [], ◌∷◌, ◌++◌, inl, inr, map, length, Some, None, refl, sym, subst, arith}
+use Rattle.tx_machine.proofs.Common.{◌≡◌, ◌≢◌, ℕ, ◌+◌, ◌-◌, ◌^◌, ◌<◌, ◌≤◌, ◌==◌, true, false, ◌&&◌, nat_le, List, [], ◌∷◌, ◌++◌, inl, inr, map, length, Some, None, refl, sym, subst, arith, AllByRecursion, circuit_cmp, line_cmp, Plan, home_of, EachPair, code_of, is_line, is_barred, other_end, Circuit, Line, Among, Key, Route, Confirm, Block, Unblock, Hop, Nc, Call, last_exchange, is_first, State, opening, choice, is_group, step}
 use Rattle.std.proofs.lemmas.Bool.{lt-leb, ne_eqb, and_left}
-use Rattle.std.specs.List.{AllByRecursion}
 use Rattle.std.specs.FinSet as set
-use Rattle.tx_plan.specs.Orders.{circuit_cmp, line_cmp}
-use Rattle.tx_plan.specs.Plan.{Plan, home_of}
-use Rattle.tx_plan.specs.Rules.{EachPair}
-use Rattle.tx_plan.specs.Codes.{code_of}
-use Rattle.tx_plan.specs.Lines.{is_line}
-use Rattle.tx_plan.specs.Routes.{is_barred}
-use Rattle.tx_plan.specs.Circuits.{other_end}
-use Rattle.tx_plan.specs.declared.ids.Circuit.{Circuit}
-use Rattle.tx_plan.specs.declared.ids.Line.{Line}
-use Rattle.tx_plan.specs.Among.{Among}
-use Rattle.tx_machine.specs.declared.event.Event.TheVariants.{Key, Route, Confirm, Block, Unblock}
-use Rattle.tx_machine.specs.declared.open_call.Hop.{Hop}
 use Rattle.tx_machine.specs.declared.open_call.Phase.{Phase}
 use Rattle.tx_machine.specs.declared.open_call.Phase.TheVariants.{Standing, Calling}
 use Rattle.tx_machine.specs.declared.reply.Reply.TheVariants.{Keyed, Seized, At, Answered, Done}
-use Rattle.tx_machine.specs.declared.cause.Service.TheVariants.{Nc}
-use Rattle.tx_machine.specs.Call.{Call, last_exchange, is_first}
-use Rattle.tx_machine.specs.State.{State, opening}
-use Rattle.tx_machine.specs.InUse.{choice}
-use Rattle.tx_machine.specs.Refusals.{is_group}
-use Rattle.tx_machine.specs.Step.{step}
 use Rattle.tx_machine.proofs.Uses.{last_more}
 use Rattle.tx_machine.proofs.Playing.{Groups, Plays, plays_none, plays_first, shut, opened, shut_out, still_in}
 

@@ -1,17 +1,8 @@
 -- Runs without refusals, and blocked groups.
-use Rattle.std.proofs.Common.{◌≡◌, ℕ, ◌==◌, true, false, not, ◌&&◌, ◌||◌, List, [], ◌∷◌, ◌++◌, ◌⊎◌, inl, inr, refl, sym, ap, ◌∙◌, subst, eqb-true, arith}
+use Rattle.tx_machine.proofs.Common.{◌≡◌, ℕ, ◌==◌, true, false, not, ◌&&◌, ◌||◌, List, [], ◌∷◌, ◌++◌, ◌⊎◌, inl, inr, refl, sym, ap, ◌∙◌, subst, eqb-true, arith, nat_cmp, Plan, Among, Event, Reply, State, state_after, step, is_refused}
 use Rattle.std.proofs.lemmas.Bool.{false≢true, ne_eqb, or_from, or_left, or_right}
-use Rattle.std.specs.Ordering.{nat_cmp}
 use Rattle.std.specs.Cmp.{nat_cmp_total, unsigned_tied}
 use Rattle.std.specs.FinSet as set
-use Rattle.tx_plan.specs.Plan.{Plan}
-use Rattle.tx_plan.specs.Among.{Among}
-use Rattle.tx_machine.specs.declared.event.Event.{Event}
-use Rattle.tx_machine.specs.declared.reply.Reply.{Reply}
-use Rattle.tx_machine.specs.State.{State}
-use Rattle.tx_machine.specs.Runs.{state_after}
-use Rattle.tx_machine.specs.Step.{step}
-use Rattle.tx_machine.specs.Sound.{is_refused}
 use Rattle.tx_machine.specs.Unrefused.{NoneRefused}
 
 -- RUNS WITHOUT REFUSALS

@@ -1,33 +1,11 @@
 -- Under a certificate, ranks fall along the hops of each call.
-use Rattle.std.proofs.Common.{◌≡◌, ◌≢◌, ℕ, zero, suc, ◌+◌, ◌<◌, ◌≤◌, ◌==◌, Bool, true, false, not, cond, ◌&&◌, ◌||◌, List, [], ◌∷◌, ◌++◌, inl, inr, map, length, Option, Some, None, refl, sym, ap, ◌∙◌, subst, eqb-true, eq-eqb, arith}
+use Rattle.tx_machine.proofs.Common.{◌≡◌, ◌≢◌, ℕ, zero, suc, ◌+◌, ◌<◌, ◌≤◌, ◌==◌, Bool, true, false, not, cond, ◌&&◌, ◌||◌, List, [], ◌∷◌, ◌++◌, inl, inr, map, length, Option, Some, None, refl, sym, ap, ◌∙◌, subst, eqb-true, eq-eqb, arith, same_Some, slice_get_within, filter, unwrap_or, enumerate_from, AllByRecursion, option_map, longest_among, Plan, Code, home_of, LineRange, is_national, in_range, is_line, is_prefix, codes_before, longest, code_of, Among, Circuit, Line, filter_among, Event, Hop, Standing, Call, last_exchange, start_of, exchange_of, is_first, State, far_of, step, NoneTwice, Holds, IsRanked}
 use Rattle.std.proofs.lemmas.Bool.{false≢true, or_right, and_parts, and_from, eqb-false, ne_eqb, cases_eq, not_from_false}
-use Rattle.std.proofs.lemmas.Option.{same_Some, slice_get_within}
-use Rattle.std.specs.Prelude.{filter, unwrap_or}
-use Rattle.std.specs.List.{enumerate_from, AllByRecursion}
-use Rattle.std.specs.Option.{option_map}
-use Rattle.tx_plan.proofs.Longest.{longest_among}
-use Rattle.tx_plan.specs.Plan.{Plan, Code, home_of}
-use Rattle.tx_plan.specs.declared.range.LineRange.{LineRange}
 use Rattle.tx_plan.specs.Certified.{Ranks, IsBelow, LeadsLower, IsCertified}
-use Rattle.tx_plan.specs.Rules.{is_national}
-use Rattle.tx_plan.specs.Lines.{in_range, is_line}
-use Rattle.tx_plan.specs.Codes.{is_prefix, codes_before, longest, code_of}
 use Rattle.tx_plan.specs.Routes.{route_list, is_barred, is_origin}
-use Rattle.tx_plan.specs.Among.{Among}
-use Rattle.tx_plan.specs.declared.ids.Circuit.{Circuit}
-use Rattle.tx_plan.specs.declared.ids.Line.{Line}
-use Rattle.tx_plan.proofs.Among.{filter_among}
-use Rattle.tx_machine.specs.declared.event.Event.{Event}
-use Rattle.tx_machine.specs.declared.open_call.Hop.{Hop}
-use Rattle.tx_machine.specs.Call.{Standing, Call, last_exchange, start_of, exchange_of, is_first}
-use Rattle.tx_machine.specs.State.{State}
-use Rattle.tx_machine.specs.Confirming.{far_of}
-use Rattle.tx_machine.specs.Step.{step}
-use Rattle.tx_machine.specs.Members.{NoneTwice}
 use Rattle.tx_machine.specs.Passed.{IsLower, Falls, passed, transits, is_transit, is_home_of}
 use Rattle.tx_machine.proofs.Lists.{any_none, mem_any, any_mem}
 use Rattle.tx_machine.proofs.Steps.{all_mem, enumerated}
-use Rattle.tx_machine.specs.inner.Invariant.{Holds, IsRanked}
 use Rattle.tx_machine.proofs.Changes.{not_standing}
 use Rattle.tx_machine.proofs.Moves.{Moves, moves_number, stays, connects, seizes_one, goes_on, falls_back, IsNew, came}
 

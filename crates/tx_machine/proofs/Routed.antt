@@ -1,27 +1,8 @@
 -- What becomes of a call that is routed, by what is found of it.
-use Rattle.std.proofs.Common.{◌≡◌, ℕ, suc, ◌+◌, ◌<◌, ◌≤◌, ◌==◌, Bool, true, false, not, ◌&&◌, ◌⊎◌, inl, inr, List, [], ◌∷◌, length, drop, get_or, Option, Some, None, is_some, refl, sym, ap, subst, ◌∙◌, eqb-true, arith}
-use Rattle.std.proofs.lemmas.Bool.Decides.{nat_tests}
+use Rattle.tx_machine.proofs.Common.{◌≡◌, ℕ, suc, ◌+◌, ◌<◌, ◌≤◌, ◌==◌, Bool, true, false, not, ◌&&◌, ◌⊎◌, inl, inr, List, [], ◌∷◌, length, drop, get_or, Option, Some, None, is_some, refl, sym, ap, subst, ◌∙◌, eqb-true, arith, nat_tests, if◌then◌else◌, Plan, home_of, figures_of, code_of, is_line, is_barred, Circuit, Line, Service, Occ, Np, Der, Abs, Na, Hop, Reply, Call, exchange_of, is_first, State, first_in, choice, line_answer, is_engaged, routed, routed_for, at_line, at_trunk, line_of, answered, IsKeyedLine}
 use Rattle.std.proofs.lemmas.List.{at_drop_more, at_drop_all}
-use Rattle.std.specs.Prelude.{if◌then◌else◌}
 use Rattle.std.specs.FinSet as set
-use Rattle.tx_plan.specs.Plan.{Plan, home_of, figures_of}
-use Rattle.tx_plan.specs.Codes.{code_of}
-use Rattle.tx_plan.specs.Lines.{is_line}
-use Rattle.tx_plan.specs.Routes.{is_barred}
-use Rattle.tx_plan.specs.declared.ids.Circuit.{Circuit}
-use Rattle.tx_plan.specs.declared.ids.Line.{Line}
-use Rattle.tx_machine.specs.declared.cause.Service.{Service}
-use Rattle.tx_machine.specs.declared.cause.Service.TheVariants.{Occ, Np, Der, Abs, Na}
-use Rattle.tx_machine.specs.declared.open_call.Hop.{Hop}
-use Rattle.tx_machine.specs.declared.reply.Reply.{Reply}
 use Rattle.tx_machine.specs.declared.reply.Reply.TheVariants.{Seized, Connected as ConnectedTo}
-use Rattle.tx_machine.specs.Call.{Call, exchange_of, is_first}
-use Rattle.tx_machine.specs.State.{State}
-use Rattle.tx_machine.specs.InUse.{first_in, choice}
-use Rattle.tx_machine.specs.Lines.{line_answer, is_engaged}
-use Rattle.tx_machine.specs.Routing.{routed, routed_for, at_line, at_trunk, line_of}
-use Rattle.tx_machine.specs.Ending.{answered}
-use Rattle.tx_machine.specs.Safe.{IsKeyedLine}
 use Rattle.tx_machine.proofs.Steps.{free_line, prefix-is, code_begins}
 
 -- A CALL WITHOUT HOPS

@@ -1,13 +1,8 @@
 -- A run of one event more.
 use Rattle.std.proofs.Common.{◌≡◌, ℕ, zero, suc, ◌+◌, ◌<◌, true, List, [], ◌∷◌, ◌++◌, take, drop, length, get_or, append_assoc, take-append-drop, None, sym, ap, ◌∙◌, arith}
 use Rattle.std.proofs.lemmas.List.{drop_more}
-use Rattle.tx_plan.specs.Plan.{Plan}
-use Rattle.tx_machine.specs.declared.event.Event.{Event}
-use Rattle.tx_machine.specs.declared.reply.Reply.{Reply}
-use Rattle.tx_machine.specs.State.{State}
-use Rattle.tx_machine.specs.Refusals.{refusal}
+use Rattle.tx_machine.proofs.Common.{Plan, Event, Reply, State, refusal, replies, state_after}
 use Rattle.tx_machine.specs.Step.{step, takes_memory}
-use Rattle.tx_machine.specs.Runs.{replies, state_after}
 use Rattle.tx_machine.specs.Driven.{StopsAt}
 
 -- after the first events and the one at that index

@@ -1,30 +1,9 @@
 -- The invariant makes each state safe.
-use Rattle.std.proofs.Common.{◌≡◌, ◌≢◌, ℕ, zero, suc, ◌<◌, ◌==◌, Bool, true, false, ◌&&◌, List, [], ◌∷◌, ◌++◌, ◌⊎◌, inl, inr, length, Option, Some, None, refl, sym, ap, ◌∙◌, subst, eqb-true, eq-eqb, arith}
-use Rattle.std.proofs.lemmas.Bool.{and_parts, false_from_ne_true}
-use Rattle.std.specs.Prelude.{if◌then◌else◌, slice_get, is_some}
-use Rattle.std.specs.List.{flat_map}
-use Rattle.std.specs.Option.{option_map_or}
-use Rattle.tx_plan.specs.Orders.{same_circuit, same_line}
-use Rattle.tx_plan.proofs.Named.{same_circuit-is, same_line-is}
-use Rattle.tx_plan.specs.Plan.{Plan, Code, figures_of}
+use Rattle.tx_machine.proofs.Common.{◌≡◌, ◌≢◌, ℕ, zero, suc, ◌<◌, ◌==◌, Bool, true, false, ◌&&◌, List, [], ◌∷◌, ◌++◌, ◌⊎◌, inl, inr, length, Option, Some, None, refl, sym, ap, ◌∙◌, subst, eqb-true, eq-eqb, arith, and_parts, false_from_ne_true, if◌then◌else◌, slice_get, is_some, flat_map, option_map_or, same_circuit, same_line, same_circuit-is, same_line-is, Plan, Code, figures_of, LineRange, Ranks, IsCertified, after, is_prefix, Among, Line, among_cases, flat_among, Phase, Standing, Calling, Connected, Call, start_of, State, circuits_carried, NoneTwice, lines_of, Joins, IsKeyedLine, IsOnlyLine, OfConnected, JoinsAndCarriesOnce, TakesPartOnce, FallsInRank, IsSafeCall, IsSafe, IsKept, IsRising, Holds, IsRanked}
 use Rattle.tx_plan.specs.Rules.{IsPlan, IsRange, is_national}
-use Rattle.tx_plan.specs.declared.range.LineRange.{LineRange}
-use Rattle.tx_plan.specs.Certified.{Ranks, IsCertified}
 use Rattle.tx_plan.specs.Lines.{in_range, is_line, full_number}
-use Rattle.tx_plan.specs.Codes.{after, is_prefix}
-use Rattle.tx_plan.specs.Among.{Among}
-use Rattle.tx_plan.specs.declared.ids.Line.{Line}
-use Rattle.tx_plan.proofs.Among.{among_cases, flat_among}
-use Rattle.tx_machine.specs.Call.{Phase, Standing, Calling, Connected, Call, start_of}
-use Rattle.tx_machine.specs.State.{State}
-use Rattle.tx_machine.specs.InUse.{circuits_carried}
-use Rattle.tx_machine.specs.Members.{NoneTwice}
-use Rattle.tx_machine.specs.Lines.{lines_of}
-use Rattle.tx_machine.specs.Passed.{Joins}
-use Rattle.tx_machine.specs.Safe.{IsKeyedLine, IsOnlyLine, OfConnected, JoinsAndCarriesOnce, TakesPartOnce, FallsInRank, IsSafeCall, IsSafe}
 use Rattle.tx_machine.proofs.Lists.{any_none, none_any, any_mem, all_from_mem, indexes_differ}
 use Rattle.tx_machine.proofs.Steps.{all_mem}
-use Rattle.tx_machine.specs.inner.Invariant.{IsKept, IsRising, Holds, IsRanked}
 use Rattle.tx_machine.proofs.Ranks.{few_transits, passed_once}
 
 -- what holds of each line that a call is connected to

@@ -1,19 +1,8 @@
 -- The promises of every run.
-use Rattle.std.proofs.Common.{ℕ, List, [], ◌∷◌}
-use Rattle.std.specs.List.{AllByRecursion}
-use Rattle.tx_plan.specs.Plan.{Plan}
-use Rattle.tx_plan.specs.Rules.{IsPlan}
-use Rattle.tx_plan.specs.Certified.{Ranks, IsCertified}
-use Rattle.tx_plan.proofs.Lists.{all_map}
-use Rattle.tx_machine.specs.declared.event.Event.{Event}
-use Rattle.tx_machine.specs.Call.{Call}
-use Rattle.tx_machine.specs.State.{State, opening}
-use Rattle.tx_machine.specs.Step.{step}
+use Rattle.tx_machine.proofs.Common.{ℕ, List, [], ◌∷◌, AllByRecursion, Plan, IsPlan, Ranks, IsCertified, all_map, Event, Call, State, opening, step, IsExcused, FewDown, OthersFree, IsNcByCollision, Holds}
 use Rattle.tx_machine.specs.Runs.{run, InEveryState, OfEveryEvent}
 use Rattle.tx_machine.specs.Safe.{JoinsAndCarriesOnce, TakesPartOnce, FallsInRank, RanksFall, IsSafe}
-use Rattle.tx_machine.specs.Excused.{IsExcused, FewDown, OthersFree, IsNcByCollision}
 use Rattle.tx_machine.specs.Sound.{IsSound}
-use Rattle.tx_machine.specs.inner.Invariant.{Holds}
 use Rattle.tx_machine.proofs.Lists.{all_from_mem}
 use Rattle.tx_machine.proofs.Invariant.{inv_opening}
 use Rattle.tx_machine.proofs.Steps.{step_keeps}

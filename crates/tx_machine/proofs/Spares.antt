@@ -1,27 +1,14 @@
 -- While few groups are down, none is answered NC but after a second collision.
 use Rattle.std.proofs.Common.{◌≡◌, ◌≢◌, ℕ, zero, suc, ◌+◌, ◌<◌, ◌≤◌, Bool, true, false, eqb, eqb-true, List, [], ◌∷◌, length, inl, inr, Option, Some, None, refl, sym, ap, ◌∙◌, subst, eq-eqb, arith}
-use Rattle.std.proofs.lemmas.Bool.{false≢true, both_ways, and_from, or_right, ne_eqb, cases_eq}
+use Rattle.tx_machine.proofs.Common.{false≢true, both_ways, and_from, or_right, ne_eqb, cases_eq, slice_get_within, option_map_or, IsPlan, IsRoute, EachPair, route_list, Among, Circuit, Event, Reply, Answered, HeadOn, Nc, exchange_of, State, is_down, is_free_at, first_free}
 use Rattle.std.proofs.lemmas.Cmp.{nat_eq_equiv}
 use Rattle.std.proofs.lemmas.List.Sums.{length-filter}
 use Rattle.std.proofs.lemmas.Map.Made.{length-le_from_is_member, is_member-filter}
-use Rattle.std.proofs.lemmas.Option.{slice_get_within}
 use Rattle.std.specs.Prelude.{◌&&◌, ◌==◌, ◌||◌, if◌then◌else◌, filter, find, slice_get, is_some, count_by}
 use Rattle.std.specs.List.{AllByRecursion, IsDistinct, list_any, range_with_len}
-use Rattle.std.specs.Option.{option_map_or}
 use Rattle.tx_plan.specs.Plan.{Plan, Group, Route}
-use Rattle.tx_plan.specs.Rules.{IsPlan, IsRoute, EachPair}
-use Rattle.tx_plan.specs.Routes.{route_list}
 use Rattle.tx_plan.specs.Circuits.{circuits_at, may_seize, may_seize_row}
-use Rattle.tx_plan.specs.Among.{Among}
-use Rattle.tx_plan.specs.declared.ids.Circuit.{Circuit}
 use Rattle.tx_plan.proofs.Growing.{seizes_within}
-use Rattle.tx_machine.specs.declared.event.Event.{Event}
-use Rattle.tx_machine.specs.declared.reply.Reply.{Reply}
-use Rattle.tx_machine.specs.declared.reply.Reply.TheVariants.{Answered, HeadOn}
-use Rattle.tx_machine.specs.declared.cause.Service.TheVariants.{Nc}
-use Rattle.tx_machine.specs.Call.{exchange_of}
-use Rattle.tx_machine.specs.State.{State}
-use Rattle.tx_machine.specs.InUse.{is_down, is_free_at, first_free}
 use Rattle.tx_machine.specs.Excused.{IsTaken, FoundNone, IsExcused, IsExcusedTo, routed_call, FewDown, OthersFree, IsNcByCollision}
 use Rattle.tx_machine.proofs.Lists.{any_mem, find_mem}
 use Rattle.tx_machine.proofs.Uses.{group_at}

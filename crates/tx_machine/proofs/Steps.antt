@@ -1,43 +1,12 @@
 -- Each step keeps the invariant.
-use Rattle.std.proofs.Common.{◌≡◌, ℕ, suc, ◌+◌, ◌==◌, Bool, true, false, not, ◌&&◌, ◌||◌, List, [], ◌∷◌, ◌++◌, inl, inr, Option, Some, None, refl, sym, ap, ◌∙◌, subst, eqb-true, arith}
-use Rattle.std.proofs.lemmas.Bool.{false≢true, true≢false, and_parts, not-true, not-false, eqb-false}
-use Rattle.std.specs.Prelude.{if◌then◌else◌, find, slice_get, is_some, unwrap_or, option_and_then}
-use Rattle.std.specs.List.{enumerate_from, AllByRecursion}
-use Rattle.std.specs.Option.{option_map, option_map_or}
+use Rattle.tx_machine.proofs.Common.{◌≡◌, ℕ, suc, ◌+◌, ◌==◌, Bool, true, false, not, ◌&&◌, ◌||◌, List, [], ◌∷◌, ◌++◌, inl, inr, Option, Some, None, refl, sym, ap, ◌∙◌, subst, eqb-true, arith, false≢true, true≢false, and_parts, not-true, not-false, eqb-false, if◌then◌else◌, find, slice_get, is_some, unwrap_or, option_and_then, enumerate_from, AllByRecursion, option_map, option_map_or, longest_among, IsPlan, IsRoute, is_line, first_true, after, is_prefix, codes_before, longest, code_of, route_list, is_barred, Among, Circuit, Line, filter_among, Event, Key, Route, Confirm, Clear, Released, Fail, Restore, Block, Unblock, CircuitOut, CircuitIn, LineFault, LineMend, LineAway, LineBack, Service, Occ, Nc, Np, Der, Abs, Na, Refusal, Reply, Answered, Phase, Standing, Calling, Connected, Call, exchange_of, call_of, is_standing, is_numbered, is_first, State, first_free, choice, seizes, seizes_from, is_engaged, line_answer, is_other, refusals, refusal, end_calls, at_line, at_trunk, line_of, routed_for, far_of, collide, second_time, confirmed_by, rival, confirmed, with_call, accepted, counted, unless_refused, step, cause_by, Holds}
 use Rattle.std.specs.FinSet as set
-use Rattle.tx_plan.proofs.Longest.{longest_among}
 use Rattle.tx_plan.specs.Plan.{Plan, Code, Group, Route as RouteRow, home_of, figures_of}
-use Rattle.tx_plan.specs.Rules.{IsPlan, IsRoute}
-use Rattle.tx_plan.specs.Lines.{is_line}
-use Rattle.tx_plan.specs.Declaring.{first_true}
 use Rattle.tx_plan.proofs.Fronts.{after-is}
-use Rattle.tx_plan.specs.Codes.{after, is_prefix, codes_before, longest, code_of}
-use Rattle.tx_plan.specs.Routes.{route_list, is_barred}
 use Rattle.tx_plan.specs.Circuits.{far_end, other_end, may_seize, is_both}
-use Rattle.tx_plan.specs.Among.{Among}
-use Rattle.tx_plan.specs.declared.ids.Circuit.{Circuit}
-use Rattle.tx_plan.specs.declared.ids.Line.{Line}
-use Rattle.tx_plan.proofs.Among.{filter_among}
-use Rattle.tx_machine.specs.declared.event.Event.{Event}
-use Rattle.tx_machine.specs.declared.event.Event.TheVariants.{Key, Route, Confirm, Clear, Released, Fail, Restore, Block, Unblock, CircuitOut, CircuitIn, LineFault, LineMend, LineAway, LineBack}
-use Rattle.tx_machine.specs.declared.cause.Service.{Service}
-use Rattle.tx_machine.specs.declared.cause.Service.TheVariants.{Occ, Nc, Np, Der, Abs, Na}
 use Rattle.tx_machine.specs.declared.cause.Cause.TheVariants.{Service as ByService}
-use Rattle.tx_machine.specs.declared.refusal.Refusal.{Refusal}
-use Rattle.tx_machine.specs.declared.reply.Reply.{Reply}
-use Rattle.tx_machine.specs.declared.reply.Reply.TheVariants.{Answered}
-use Rattle.tx_machine.specs.Call.{Phase, Standing, Calling, Connected, Call, exchange_of, call_of, is_standing, is_numbered, is_first}
-use Rattle.tx_machine.specs.State.{State}
-use Rattle.tx_machine.specs.InUse.{first_free, choice, seizes, seizes_from}
-use Rattle.tx_machine.specs.Lines.{is_engaged, line_answer}
-use Rattle.tx_machine.specs.Refusals.{is_other, refusals, refusal}
-use Rattle.tx_machine.specs.Ending.{end_calls}
-use Rattle.tx_machine.specs.Routing.{at_line, at_trunk, line_of, routed_for}
-use Rattle.tx_machine.specs.Confirming.{far_of, collide, second_time, confirmed_by, rival, confirmed}
-use Rattle.tx_machine.specs.Step.{with_call, accepted, counted, unless_refused, step, cause_by}
 use Rattle.tx_machine.proofs.Lists.{find_mem}
 use Rattle.tx_machine.proofs.Uses.{first_in-is, chosen, calling_on}
-use Rattle.tx_machine.specs.inner.Invariant.{Holds}
 use Rattle.tx_machine.proofs.Changes.{key_keeps, end_keeps, fail_keeps, release_keeps, connect_keeps, seize_keeps, carry_keeps, collide_keeps}
 
 -- no refusal: each test is false

@@ -1,14 +1,6 @@
 -- Calls that are changed in place.
-use Rattle.std.proofs.Common.{◌≡◌, ℕ, zero, suc, [], ◌∷◌, ◌+◌, ◌<◌, ◌≤◌, List, ◌++◌, inl, inr, map, take, drop, length, get_or, ap, sym, ◌∙◌, arith, subst, add-one, refl}
-use Rattle.std.specs.Prelude.{slice_set}
-use Rattle.std.proofs.lemmas.List.{length-set, take_all, drop_all, append-nil}
-use Rattle.tx_plan.proofs.Among.{among_at}
-use Rattle.tx_machine.specs.Call.{Call}
-use Rattle.tx_plan.specs.Among.{Among}
-use Rattle.tx_machine.specs.Seen.{call_seen}
+use Rattle.tx_machine.proofs.Common.{◌≡◌, ℕ, zero, suc, [], ◌∷◌, ◌+◌, ◌<◌, ◌≤◌, List, ◌++◌, inl, inr, map, take, drop, length, get_or, ap, sym, ◌∙◌, arith, subst, add-one, refl, slice_set, length-set, take_all, drop_all, append-nil, among_at, Call, Among, call_seen, OpenCall, Change}
 use Rattle.tx_machine.specs.inner.Seen.{changed_call, change_at, HasRoom, IsReady, CanChange}
-use Rattle.tx_machine.specs.declared.open_call.OpenCall.{OpenCall}
-use Rattle.tx_machine.specs.declared.plain.changing.Change.{Change}
 use Rattle.tx_machine.proofs.Sweeps.{step_seen, mem_set, mem_take_set}
 
 -- the calls up to an index have room for a hop

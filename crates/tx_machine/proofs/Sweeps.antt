@@ -1,7 +1,5 @@
 -- A pass over a list that changes each member in place.
-use Rattle.std.proofs.Common.{◌≡◌, ℕ, zero, suc, ◌<◌, List, [], ◌∷◌, ◌++◌, ◌⊎◌, inl, inr, map, take, drop, length, get_or, ap, ◌∙◌, arith}
-use Rattle.std.specs.Prelude.{slice_set}
-use Rattle.tx_plan.specs.Among.{Among}
+use Rattle.tx_machine.proofs.Common.{◌≡◌, ℕ, zero, suc, ◌<◌, List, [], ◌∷◌, ◌++◌, ◌⊎◌, inl, inr, map, take, drop, length, get_or, ap, ◌∙◌, arith, slice_set, Among}
 
 module _ {X Y : Type 0} (f : X → Y) (F : Y → Y) where
   -- what is left after the change of one member

@@ -1,17 +1,6 @@
 -- What is taken out of a list one by one: lines, and calls that end.
-use Rattle.std.proofs.Common.{append_assoc, ◌≡◌, ℕ, zero, suc, ◌+◌, ◌<◌, ◌≤◌, Bool, true, false, not, cond, List, [], ◌∷◌, ◌++◌, map, take, drop, length, get_or, refl, ap, sym, ◌∙◌, add-one, arith, vec_len, vec_capacity}
-use Rattle.std.specs.Prelude.{filter, Vec}
+use Rattle.tx_machine.proofs.Common.{append_assoc, ◌≡◌, ℕ, zero, suc, ◌+◌, ◌<◌, ◌≤◌, Bool, true, false, not, cond, List, [], ◌∷◌, ◌++◌, map, take, drop, length, get_or, refl, ap, sym, ◌∙◌, add-one, arith, vec_len, vec_capacity, filter, Vec, drop-cons, take_all, drop_all, append-nil, Plan, Cause, OpenCall, Ended, ticket_of, call_seen, Ends, ends_by}
 use Rattle.std.specs.List.{remove}
-use Rattle.std.proofs.Math.Seq.{drop-cons}
-use Rattle.std.proofs.lemmas.List.{take_all, drop_all, append-nil}
-use Rattle.tx_plan.specs.Plan.{Plan}
-use Rattle.tx_machine.specs.declared.cause.Cause.{Cause}
-use Rattle.tx_machine.specs.declared.open_call.OpenCall.{OpenCall}
-use Rattle.tx_machine.specs.Ended.{Ended}
-use Rattle.tx_machine.specs.Ending.{ticket_of}
-use Rattle.tx_machine.specs.Seen.{call_seen}
-use Rattle.tx_machine.specs.declared.plain.ended_calls.Ends.{Ends}
-use Rattle.tx_machine.specs.inner.GivenUp.{ends_by}
 use Rattle.tx_machine.proofs.Views.{IsEnding}
 
 module _ {X : Type 0} (stays : X → Bool) where

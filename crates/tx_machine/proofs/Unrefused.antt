@@ -1,36 +1,9 @@
 -- What an event that is not refused may count on.
-use Rattle.std.proofs.Common.{◌≡◌, ℕ, ◌-◌, ◌^◌, ◌<◌, ◌==◌, Bool, true, false, not, ◌&&◌, List, [], ◌∷◌, ◌++◌, Some, None, Option, refl, sym, subst, length, arith}
-use Rattle.std.specs.Prelude.{is_some, is_none, slice_get, nat_le, if◌then◌else◌}
-use Rattle.std.proofs.lemmas.Bool.{false≢true, not-false}
-use Rattle.std.proofs.lemmas.Bool.Decides.{nat_tests}
-use Rattle.std.proofs.lemmas.Option.{slice_get_within}
-use Rattle.tx_plan.specs.Plan.{Plan, Group, home_of}
-use Rattle.tx_plan.specs.Codes.{code_of}
-use Rattle.tx_plan.specs.Routes.{is_barred}
-use Rattle.tx_plan.specs.declared.ids.Circuit.{Circuit}
-use Rattle.tx_plan.specs.Lines.{is_line}
-use Rattle.tx_plan.specs.Declaring.{first_true}
-use Rattle.tx_plan.specs.declared.ids.Line.{Line}
-use Rattle.tx_machine.specs.declared.event.Event.{Event}
-use Rattle.tx_machine.specs.declared.event.Event.TheVariants.{Key, Route, Confirm, Clear, Released, Fail, Restore, Block, Unblock, CircuitOut, CircuitIn, LineFault, LineMend, LineAway, LineBack}
-use Rattle.tx_machine.specs.declared.cause.Service.{Service}
-use Rattle.tx_machine.specs.declared.cause.Service.TheVariants.{Na}
-use Rattle.tx_machine.specs.declared.reply.Reply.{Reply}
+use Rattle.tx_machine.proofs.Common.{◌≡◌, ℕ, ◌-◌, ◌^◌, ◌<◌, ◌==◌, Bool, true, false, not, ◌&&◌, List, [], ◌∷◌, ◌++◌, Some, None, Option, refl, sym, subst, length, arith, is_some, is_none, slice_get, nat_le, if◌then◌else◌, false≢true, not-false, nat_tests, slice_get_within, Plan, Group, home_of, code_of, is_barred, Circuit, is_line, first_true, Line, Event, Key, Route, Confirm, Clear, Released, Fail, Restore, Block, Unblock, CircuitOut, CircuitIn, LineFault, LineMend, LineAway, LineBack, Service, Na, Reply, Caller, Called, Refusal, Call, call_of, is_standing, is_calling, is_first, exchange_of, is_engaged, line_answer, choice, answered, at_line, at_trunk, line_of, routed_for, confirmed_by, rival, confirmed, with_call, accepted, State, refusals, refusal, is_group, is_other}
 use Rattle.tx_machine.specs.declared.open_call.Party.{Party}
-use Rattle.tx_machine.specs.declared.open_call.Party.TheVariants.{Caller, Called}
 use Rattle.tx_machine.specs.declared.open_call.Phase.{Phase}
 use Rattle.tx_machine.specs.declared.open_call.Phase.TheVariants.{Standing, Calling, Connected}
-use Rattle.tx_machine.specs.declared.refusal.Refusal.{Refusal}
 use Rattle.tx_machine.specs.declared.refusal.Refusal.TheVariants.{Exhausted}
-use Rattle.tx_machine.specs.Call.{Call, call_of, is_standing, is_calling, is_first, exchange_of}
-use Rattle.tx_machine.specs.Lines.{is_engaged, line_answer}
-use Rattle.tx_machine.specs.InUse.{choice}
-use Rattle.tx_machine.specs.Ending.{answered}
-use Rattle.tx_machine.specs.Routing.{at_line, at_trunk, line_of, routed_for}
-use Rattle.tx_machine.specs.Confirming.{confirmed_by, rival, confirmed}
-use Rattle.tx_machine.specs.Step.{with_call, accepted}
-use Rattle.tx_machine.specs.State.{State}
-use Rattle.tx_machine.specs.Refusals.{refusals, refusal, is_group, is_other}
 use Rattle.tx_machine.proofs.Steps.{tests_false, stands}
 
 -- a group that is not foreign

@@ -1,25 +1,10 @@
 -- What the tests of the machine say of calls, circuits and lines.
-use Rattle.std.proofs.Common.{◌≡◌, ◌≢◌, ℕ, zero, suc, ◌≤◌, ◌==◌, Bool, true, false, not, ◌&&◌, ◌||◌, List, [], ◌∷◌, ◌++◌, ◌⊎◌, inl, inr, map, Option, Some, None, refl, sym, ap, ◌∙◌, subst, eqb-true, eq-eqb, arith}
+use Rattle.tx_machine.proofs.Common.{◌≡◌, ◌≢◌, ℕ, zero, suc, ◌≤◌, ◌==◌, Bool, true, false, not, ◌&&◌, ◌||◌, List, [], ◌∷◌, ◌++◌, ◌⊎◌, inl, inr, map, Option, Some, None, refl, sym, ap, ◌∙◌, subst, eqb-true, eq-eqb, arith, if◌then◌else◌, find, slice_get, is_some, nat_le, option_and_then, option_map_or, list_any, same_circuit, same_line, Plan, Group, far_end, other_end, is_circuit, circuits_at, order_at, upward, downward, Among, Circuit, Line, among_cases, map_among, Hop, State, circuits_carried, carries, is_calling_on, seizes, seizes_from, is_free_at, is_down, first_free, first_in, NoneTwice, Joins}
 use Rattle.std.proofs.lemmas.Bool.{false≢true, or_parts, and_parts, and_from, not-true, both_ways, le-leb}
-use Rattle.std.specs.Prelude.{if◌then◌else◌, find, slice_get, is_some, nat_le, option_and_then}
-use Rattle.std.specs.Option.{option_map_or}
-use Rattle.std.specs.List.{list_any}
 use Rattle.std.specs.FinSet as set
-use Rattle.tx_plan.specs.Orders.{same_circuit, same_line}
 use Rattle.tx_plan.proofs.Named.{same_circuit-is, same_circuit-itself, same_line-itself}
-use Rattle.tx_plan.specs.Plan.{Plan, Group}
-use Rattle.tx_plan.specs.Circuits.{far_end, other_end, is_circuit, circuits_at, order_at, upward, downward}
-use Rattle.tx_plan.specs.Among.{Among}
-use Rattle.tx_plan.specs.declared.ids.Circuit.{Circuit}
-use Rattle.tx_plan.specs.declared.ids.Line.{Line}
-use Rattle.tx_plan.proofs.Among.{among_cases, map_among}
-use Rattle.tx_machine.specs.declared.open_call.Hop.{Hop}
 use Rattle.tx_machine.specs.Call.{Phase, Standing, Calling, Connected, Call, last_exchange, exchange_of, lines_called}
-use Rattle.tx_machine.specs.State.{State}
-use Rattle.tx_machine.specs.InUse.{circuits_carried, carries, is_calling_on, seizes, seizes_from, is_free_at, is_down, first_free, first_in}
 use Rattle.tx_machine.specs.Lines.{is_connected_to, takes_part, lines_of}
-use Rattle.tx_machine.specs.Members.{NoneTwice}
-use Rattle.tx_machine.specs.Passed.{Joins}
 use Rattle.tx_machine.proofs.Lists.{none_any, find_mem}
 
 pub not_carried : (c : Call) (x : Circuit) → carries c x ≡ false → Among x (circuits_carried c) → ⊥

@@ -1,15 +1,5 @@
 -- Lists of calls, as they are kept and as they are seen.
-use Rattle.std.proofs.Common.{◌≡◌, ℕ, ◌+◌, ◌≤◌, Bool, true, false, not, ◌&&◌, ◌||◌, cond, List, [], ◌∷◌, ◌++◌, map, take, drop, refl, ap, vec_len, vec_capacity}
-use Rattle.std.specs.Prelude.{filter, Vec}
-use Rattle.std.specs.List.{list_any}
-use Rattle.tx_plan.specs.Plan.{Plan}
-use Rattle.tx_machine.specs.declared.cause.Cause.{Cause}
-use Rattle.tx_machine.specs.Ended.{Ended}
-use Rattle.tx_machine.specs.Ending.{ticket_of}
-use Rattle.tx_machine.specs.Seen.{call_seen}
-use Rattle.tx_machine.specs.inner.GivenUp.{ends_by}
-use Rattle.tx_machine.specs.declared.open_call.OpenCall.{OpenCall}
-use Rattle.tx_machine.specs.declared.plain.ended_calls.Ends.{Ends}
+use Rattle.tx_machine.proofs.Common.{◌≡◌, ℕ, ◌+◌, ◌≤◌, Bool, true, false, not, ◌&&◌, ◌||◌, cond, List, [], ◌∷◌, ◌++◌, map, take, drop, refl, ap, vec_len, vec_capacity, filter, Vec, list_any, Plan, Cause, Ended, ticket_of, call_seen, ends_by, OpenCall, Ends}
 
 pub any_map : {A B : Type 0} (t : B → Bool) (f : A → B) (xs : List A) → list_any (λ x. t (f x)) xs ≡ list_any t (map f xs)
 any_map t f [] = refl

@@ -1,42 +1,13 @@
 -- What the fields keep, as they change.
 use Rattle.std.proofs.Common.{◌≡◌, ℕ, ◌+◌, ◌≤◌, ◌==◌, Bool, true, false, not, ◌&&◌, ◌||◌, List, [], ◌∷◌, ◌++◌, inl, inr, map, length, refl, ap, sym, ◌∙◌, subst, arith, eqb-true, vec_len, vec_capacity, Some, None, Option, Result, Ok, Err}
 use Rattle.std.specs.Prelude.{filter, Vec, OnErr, nat_le, slice_get, if◌then◌else◌}
-use Rattle.std.specs.Vec.{with_items}
-use Rattle.std.specs.Option.{option_map_or}
-use Rattle.std.specs.List.{flat_map}
-use Rattle.std.proofs.lemmas.List.{with_items_is, map_push}
-use Rattle.std.proofs.lemmas.Bool.{false≢true, and_parts}
-use Rattle.std.proofs.lemmas.Option.{slice_get_within}
-use Rattle.tx_plan.specs.Plan.{Plan, Group}
+use Rattle.tx_machine.proofs.Common.{with_items, option_map_or, flat_map, with_items_is, map_push, false≢true, and_parts, slice_get_within, Plan, Group, is_circuit, Among, Circuit, Line, at_least, among_cases, among_left, among_right, filter_among, Hop, Ended, Call, is_numbered, is_calling, circuit_called, call_of, thrown_back, keyed_call, circuits_used, circuits_carried, seizes, set_call, given_up, Circuits, HasMark, AreFor, call_seen, changed_call, HasRoom, IsReady, ends_by, is_given, AreMarked, OpenCall, Change, To, Carry, ThrowBack, Ends}
 use Rattle.tx_plan.specs.Rules.{IsPlan, IsGroup}
-use Rattle.tx_plan.specs.Circuits.{is_circuit}
-use Rattle.tx_plan.specs.Among.{Among}
-use Rattle.tx_plan.specs.declared.ids.Circuit.{Circuit}
-use Rattle.tx_plan.specs.declared.ids.Line.{Line}
-use Rattle.tx_plan.proofs.Lists.{at_least}
-use Rattle.tx_plan.proofs.Among.{among_cases, among_left, among_right, filter_among}
 use Rattle.tx_machine.specs.declared.open_call.Phase.{Phase}
 use Rattle.tx_machine.specs.declared.open_call.Phase.TheVariants.{Standing, Calling, Connected}
-use Rattle.tx_machine.specs.declared.open_call.Hop.{Hop}
-use Rattle.tx_machine.specs.Ended.{Ended}
-use Rattle.tx_machine.specs.Call.{Call, is_numbered, is_calling, circuit_called, call_of}
-use Rattle.tx_machine.specs.Confirming.{thrown_back}
-use Rattle.tx_machine.specs.Step.{keyed_call}
-use Rattle.tx_machine.specs.InUse.{circuits_used, circuits_carried, seizes}
-use Rattle.tx_machine.specs.Routing.{set_call}
-use Rattle.tx_machine.specs.Ending.{given_up}
 use Rattle.tx_machine.proofs.Lists.{find_mem, at_index}
-use Rattle.tx_machine.specs.inner.Marks.{Circuits, HasMark}
-use Rattle.tx_machine.specs.inner.Marked.{AreFor}
 use Rattle.tx_machine.specs.declared.plain.marks.Marks.{Marks}
-use Rattle.tx_machine.specs.Seen.{call_seen}
-use Rattle.tx_machine.specs.inner.Seen.{changed_call, HasRoom, IsReady}
-use Rattle.tx_machine.specs.inner.GivenUp.{ends_by, is_given, AreMarked}
 use Rattle.tx_machine.specs.inner.Whole.{AreHeld, IsWhole}
-use Rattle.tx_machine.specs.declared.open_call.OpenCall.{OpenCall}
-use Rattle.tx_machine.specs.declared.plain.changing.Change.{Change}
-use Rattle.tx_machine.specs.declared.plain.changing.Change.TheVariants.{To, Carry, ThrowBack}
-use Rattle.tx_machine.specs.declared.plain.ended_calls.Ends.{Ends}
 use Rattle.tx_machine.proofs.Views.{any_filter, filter_map_seen}
 use Rattle.tx_machine.proofs.Holding.{held_filter, held_set, held_more, calling_ready}
 

@@ -1,22 +1,7 @@
 -- The mended routes as they are added, pair by pair.
-use Rattle.std.proofs.Common.{◌≡◌, ◌≢◌, ℕ, zero, suc, ◌+◌, ◌<◌, Bool, true, false, not, cond, ◌==◌, ◌&&◌, ◌||◌, List, [], ◌∷◌, ◌++◌, length, map, take, Option, Some, inl, inr, refl, sym, ap, subst, ◌∙◌, arith, append_assoc, append-nil}
-use Rattle.std.specs.Prelude.{filter, find, slice_get}
-use Rattle.std.specs.List.{flat_map, list_any, AllByRecursion}
+use Rattle.tx_mend.proofs.Common.{◌≡◌, ◌≢◌, ℕ, zero, suc, ◌+◌, ◌<◌, Bool, true, false, not, cond, ◌==◌, ◌&&◌, ◌||◌, List, [], ◌∷◌, ◌++◌, length, map, take, Option, Some, inl, inr, refl, sym, ap, subst, ◌∙◌, arith, append_assoc, append-nil, filter, find, slice_get, flat_map, list_any, AllByRecursion, false≢true, not-true, filter-append, flat_map-append, map-append, Plan, Route, IsPlan, IsRoute, EachPair, route_list, has_route, Among, among_left, among_cases, map_among, filter_among, flat_among, all_among, indexes, present_pairs, pairs_for, is_absent, absent_below, pair_of}
 use Rattle.std.specs.Option.{option_map, option_map_or}
-use Rattle.std.proofs.lemmas.Bool.{false≢true, not-true}
-use Rattle.std.proofs.lemmas.List.Elements.{filter-append}
-use Rattle.std.proofs.lemmas.List.Concat.{flat_map-append}
-use Rattle.std.proofs.lemmas.List.{map-append}
-use Rattle.tx_plan.specs.Plan.{Plan, Route}
-use Rattle.tx_plan.specs.Rules.{IsPlan, IsRoute, EachPair}
-use Rattle.tx_plan.specs.Routes.{route_list}
-use Rattle.tx_plan.specs.Declaring.{has_route}
-use Rattle.tx_plan.specs.Among.{Among}
-use Rattle.tx_plan.proofs.Among.{among_left, among_cases, map_among, filter_among, flat_among, all_among}
-use Rattle.tx_mend.specs.LeastRanks.{indexes}
-use Rattle.tx_mend.specs.inner.Pairs.{present_pairs, pairs_for, is_absent, absent_below}
 use Rattle.tx_mend.proofs.Distinct.{range_among}
-use Rattle.tx_plan.proofs.Copied.{pair_of}
 use Rattle.tx_plan.proofs.ListFound.{list_cases, found_among}
 use Rattle.tx_mend.proofs.Placed.{indexes_more, flat_more}
 use Rattle.tx_mend.proofs.Routed.{Apart, routed, route_of, has_any, any_has, pair_within, pairs_apart}

@@ -1,29 +1,10 @@
 -- A mended plan changes least.
-use Rattle.std.proofs.Common.{◌≡◌, ◌≢◌, ℕ, suc, ◌<◌, ◌≤◌, Bool, true, false, not, cond, ◌&&◌, ◌||◌, ◌==◌, eqb-true, List, [], ◌∷◌, ◌++◌, length, Option, Some, None, inl, inr, refl, sym, ap, subst, ◌∙◌, arith, append-nil}
-use Rattle.std.specs.Prelude.{filter, if◌then◌else◌}
-use Rattle.std.specs.List.{list_any}
-use Rattle.std.specs.Option.{option_map_or}
-use Rattle.std.proofs.lemmas.Bool.{and_parts, or_cases, cases_lt}
-use Rattle.std.proofs.lemmas.List.Elements.{filter-append}
-use Rattle.tx_plan.specs.Plan.{Plan, home_of}
-use Rattle.tx_plan.specs.Rules.{IsPlan, EachPair}
-use Rattle.tx_plan.specs.Routes.{route_list, is_origin_for}
-use Rattle.tx_plan.specs.Mixed.{rerouted}
-use Rattle.tx_plan.specs.Among.{Among}
+use Rattle.tx_mend.proofs.Common.{◌≡◌, ◌≢◌, ℕ, suc, ◌<◌, ◌≤◌, Bool, true, false, not, cond, ◌&&◌, ◌||◌, ◌==◌, eqb-true, List, [], ◌∷◌, ◌++◌, length, Option, Some, None, inl, inr, refl, sym, ap, subst, ◌∙◌, arith, append-nil, filter, if◌then◌else◌, list_any, option_map_or, and_parts, or_cases, cases_lt, filter-append, Plan, home_of, IsPlan, EachPair, route_list, is_origin_for, rerouted, Among, pairs_kept, among_cases, among_filter, filter_among, net_of, IsReached, IsFalling, RanksOfCode, keeps_routes, ranks_origins, leads_below, stays_by, list_with, rank_keeping, kept_rank, mended, listed_within}
 use Rattle.tx_plan.proofs.Lists.{same_tests}
-use Rattle.tx_plan.proofs.Filtered.{pairs_kept}
-use Rattle.tx_plan.proofs.Among.{among_cases, among_filter, filter_among}
-use Rattle.tx_rank.specs.Walks.{net_of}
-use Rattle.tx_rank.specs.Heights.{IsReached}
-use Rattle.tx_mend.specs.Routings.{IsFalling}
-use Rattle.tx_mend.specs.LeastRanks.{RanksOfCode, keeps_routes, ranks_origins}
-use Rattle.tx_mend.specs.KeptRanks.{leads_below, stays_by, list_with, rank_keeping, kept_rank}
 use Rattle.tx_mend.specs.Lists.{filled, groups_below, list_of_rank, list_by, full_list, comes_to, mended_list}
-use Rattle.tx_mend.specs.Mended.{mended}
 use Rattle.tx_mend.specs.Laws.{CouldStay, ComesFirst, ChangesLeast, MendingChangesLeast}
 use Rattle.tx_mend.proofs.Filled.{stands, stands_any, filled_few, filled_keeps, filled_full, filled_extends, filled_pairs}
 use Rattle.tx_mend.proofs.InOrder.{below_in_order}
-use Rattle.tx_plan.proofs.ListFound.{listed_within}
 use Rattle.tx_mend.proofs.Least.{least_keeping}
 use Rattle.tx_mend.proofs.LeastLists.{below_leads, filled_enough}
 use Rattle.tx_mend.proofs.Kept.{IsLost, below_of, kept_ranking, origins_ranked, stays_or_lost}

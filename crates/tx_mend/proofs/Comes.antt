@@ -1,21 +1,8 @@
 -- Where calls come is where walks end.
-use Rattle.std.proofs.Common.{◌≡◌, ◌≢◌, ℕ, zero, suc, ◌+◌, ◌<◌, ◌≤◌, Bool, true, false, ◌&&◌, ◌==◌, eqb-true, eq-eqb, List, [], ◌∷◌, ◌++◌, length, Option, Some, None, inl, inr, refl, sym, ap, subst, ◌∙◌, arith}
-use Rattle.std.specs.List.{list_any}
-use Rattle.std.specs.Option.{option_map_or}
-use Rattle.std.proofs.lemmas.Bool.{cases_lt, and_parts, and_from, or_cases, or_left, or_right, false≢true}
-use Rattle.tx_plan.specs.Plan.{Plan, Route, home_of}
-use Rattle.tx_plan.specs.Rules.{IsPlan}
-use Rattle.tx_plan.specs.Routes.{route_list}
-use Rattle.tx_plan.specs.Circuits.{other_end}
-use Rattle.tx_plan.specs.Mixed.{rerouted}
-use Rattle.tx_plan.specs.Among.{Among}
+use Rattle.tx_mend.proofs.Common.{◌≡◌, ◌≢◌, ℕ, zero, suc, ◌+◌, ◌<◌, ◌≤◌, Bool, true, false, ◌&&◌, ◌==◌, eqb-true, eq-eqb, List, [], ◌∷◌, ◌++◌, length, Option, Some, None, inl, inr, refl, sym, ap, subst, ◌∙◌, arith, list_any, option_map_or, cases_lt, and_parts, and_from, or_cases, or_left, or_right, false≢true, Plan, Route, home_of, IsPlan, route_list, other_end, rerouted, Among, IsReached, Certifies, is_net, indexes}
 use Rattle.tx_rank.specs.Walks.{Net, net_of, Goes, end_of}
-use Rattle.tx_rank.specs.Heights.{IsReached}
-use Rattle.tx_rank.specs.Nets.{Certifies}
-use Rattle.tx_rank.proofs.Nets.{is_net}
 use Rattle.tx_rank.proofs.Ways.{end_push, goes_push}
 use Rattle.tx_rank.proofs.Ranks.{all_down}
-use Rattle.tx_mend.specs.LeastRanks.{indexes}
 use Rattle.tx_mend.specs.Lists.{leads_between, comes_in}
 use Rattle.tx_mend.proofs.Distinct.{among_range, range_among}
 

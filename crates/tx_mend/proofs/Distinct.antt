@@ -1,13 +1,7 @@
 -- Lists of numbers in which nothing stands twice.
-use Rattle.std.proofs.Common.{◌≡◌, ◌≢◌, ℕ, zero, suc, ◌+◌, ◌<◌, ◌≤◌, ◌⊎◌, Bool, true, eqb, eq-eqb, List, [], ◌∷◌, ◌++◌, length, inl, inr, refl, sym, ap, ◌∙◌, arith}
+use Rattle.tx_mend.proofs.Common.{◌≡◌, ◌≢◌, ℕ, zero, suc, ◌+◌, ◌<◌, ◌≤◌, ◌⊎◌, Bool, true, eqb, eq-eqb, List, [], ◌∷◌, ◌++◌, length, inl, inr, refl, sym, ap, ◌∙◌, arith, list_any, list_all, AllByRecursion, range_with_len, cases_lt, or_left, or_right, and_parts, and_from, EachPair, Among, AllDiffer, among_all}
 use Rattle.std.specs.Cmp.{nat_eq_equiv}
-use Rattle.std.specs.List.{list_any, list_all, AllByRecursion, range_with_len}
-use Rattle.std.proofs.lemmas.Bool.{cases_lt, or_left, or_right, and_parts, and_from}
 use Rattle.std.proofs.lemmas.Map.Made.{length-le_from_is_member}
-use Rattle.tx_plan.specs.Rules.{EachPair}
-use Rattle.tx_plan.specs.Among.{Among}
-use Rattle.tx_rank.specs.Walks.{AllDiffer}
-use Rattle.tx_plan.proofs.Among.{among_all}
 use Rattle.tx_rank.proofs.Unmended.{all_distinct, any_among}
 
 module _ {A : Type 0} where

@@ -1,8 +1,5 @@
 -- Steps of loops over groups, by what is left.
-use Rattle.std.proofs.Common.{◌≡◌, ℕ, ◌+◌, ◌<◌, Bool, true, false, cond, not, ◌&&◌, ◌||◌, List, [], ◌∷◌, ◌++◌, length, get_or, drop, refl, sym, ap, ◌∙◌, arith}
-use Rattle.std.specs.Prelude.{filter}
-use Rattle.std.specs.List.{list_all}
-use mir.Val.{bool_byte}
+use Rattle.tx_mend.proofs.Common.{◌≡◌, ℕ, ◌+◌, ◌<◌, Bool, true, false, cond, not, ◌&&◌, ◌||◌, List, [], ◌∷◌, ◌++◌, length, get_or, drop, refl, sym, ap, ◌∙◌, arith, filter, list_all, bool_byte}
 use Rattle.tx_plan.proofs.Filtered.{at_drop, filter_step}
 use Rattle.tx_mend.specs.Lists.{put, filled}
 

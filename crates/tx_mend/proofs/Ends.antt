@@ -1,12 +1,5 @@
 -- The ranks across groups.
-use Rattle.std.proofs.Common.{◌≡◌, ℕ, List, length, get_or, Option, Some, None, sym, ap, ◌∙◌, arith}
-use Rattle.std.specs.Prelude.{option_and_then}
-use Rattle.tx_plan.specs.Plan.{Plan}
-use Rattle.tx_plan.specs.Rules.{IsPlan}
-use Rattle.tx_plan.specs.Circuits.{other_end}
-use Rattle.tx_mend.specs.LeastRanks.{rank_across}
-use Rattle.tx_mend.specs.inner.CodeRanks.{rank_list}
-use Rattle.tx_plan.proofs.Ends.{end_within}
+use Rattle.tx_mend.proofs.Common.{◌≡◌, ℕ, List, length, get_or, Option, Some, None, sym, ap, ◌∙◌, arith, option_and_then, Plan, IsPlan, other_end, rank_across, rank_list, end_within}
 use Rattle.tx_mend.proofs.Placed.{value_at}
 
 -- the rank across a group, read from a list of ranks

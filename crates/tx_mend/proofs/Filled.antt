@@ -1,16 +1,9 @@
 -- Lists that are filled up.
-use Rattle.std.proofs.Common.{◌≡◌, ◌≢◌, ℕ, ◌<◌, ◌≤◌, true, false, nat_lt, ◌==◌, eqb-true, eq-eqb, List, [], ◌∷◌, ◌++◌, length, inl, inr, refl, sym, ap, subst, arith, length-append, append-nil, append_assoc, Bool, ◌∙◌}
-use Rattle.std.specs.Prelude.{if◌then◌else◌}
-use Rattle.std.specs.List.{list_any, AllByRecursion}
-use Rattle.std.proofs.lemmas.Bool.{or_cases, or_left, or_right, false≢true, ltb-true, lt-ltb}
+use Rattle.tx_mend.proofs.Common.{◌≡◌, ◌≢◌, ℕ, ◌<◌, ◌≤◌, true, false, nat_lt, ◌==◌, eqb-true, eq-eqb, List, [], ◌∷◌, ◌++◌, length, inl, inr, refl, sym, ap, subst, arith, length-append, append-nil, append_assoc, Bool, ◌∙◌, if◌then◌else◌, list_any, AllByRecursion, or_cases, or_left, or_right, false≢true, ltb-true, lt-ltb, Among, EachPair, among_left, among_right, among_cases, all_among, among_all, AllDiffer}
 use borrow.Author.Tests.{ltb-false}
-use Rattle.tx_plan.specs.Among.{Among}
-use Rattle.tx_plan.specs.Rules.{EachPair}
-use Rattle.tx_plan.proofs.Among.{among_left, among_right, among_cases, all_among, among_all}
 use Rattle.tx_plan.proofs.Lists.{all_put}
 use Rattle.tx_plan.proofs.ByIndex.{pairs_put}
 use Rattle.tx_mend.specs.Lists.{put, filled}
-use Rattle.tx_rank.specs.Walks.{AllDiffer}
 
 pub stands : (g : ℕ) (xs : List ℕ) → list_any (λ h. h == g) xs ≡ true → Among g xs
 stands g [] h = absurd (false≢true h)

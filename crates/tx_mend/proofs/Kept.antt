@@ -1,20 +1,8 @@
 -- The kept ranks: groups that are put back stay, and no other group could stay.
-use Rattle.std.proofs.Common.{◌≡◌, ◌≢◌, ℕ, suc, ◌+◌, ◌<◌, ◌≤◌, ◌⊎◌, true, false, not, ◌&&◌, ◌||◌, ◌==◌, nat_lt, eq-eqb, List, [], ◌∷◌, length, Option, Some, None, inl, inr, refl, sym, ap, subst, ◌∙◌, arith}
-use Rattle.std.specs.Prelude.{filter, is_some, slice_get, if◌then◌else◌}
-use Rattle.std.specs.List.{list_all, flat_map, fold}
-use Rattle.std.specs.Option.{option_map_or}
-use Rattle.std.proofs.lemmas.Bool.{and_parts, and_from, or_cases, or_left, or_right, false≢true, lt-ltb, not-true}
-use Rattle.tx_plan.specs.Plan.{Plan, home_of}
-use Rattle.tx_plan.specs.Rules.{IsPlan}
-use Rattle.tx_plan.specs.Routes.{route_list, is_origin_for}
-use Rattle.tx_plan.specs.Among.{Among}
-use Rattle.tx_plan.proofs.Among.{among_filter, among_flat}
-use Rattle.tx_rank.proofs.Nets.{is_net}
-use Rattle.tx_mend.specs.LeastRanks.{indexes, RanksOfCode, outgoing, leads_on, can_follow, least_rank, ranks_origins}
+use Rattle.tx_mend.proofs.Common.{◌≡◌, ◌≢◌, ℕ, suc, ◌+◌, ◌<◌, ◌≤◌, ◌⊎◌, true, false, not, ◌&&◌, ◌||◌, ◌==◌, nat_lt, eq-eqb, List, [], ◌∷◌, length, Option, Some, None, inl, inr, refl, sym, ap, subst, ◌∙◌, arith, filter, is_some, slice_get, if◌then◌else◌, list_all, flat_map, fold, option_map_or, and_parts, and_from, or_cases, or_left, or_right, false≢true, lt-ltb, not-true, Plan, home_of, IsPlan, route_list, is_origin_for, Among, among_filter, among_flat, is_net, indexes, RanksOfCode, outgoing, leads_on, can_follow, least_rank, ranks_origins, list_few}
 use Rattle.tx_mend.specs.KeptRanks.{leads_below, stays_by, list_with, can_follow_keeping, rank_keeping, put_back, has_rank, nearest_first, choice_at, choices, kept_rank}
 use Rattle.tx_mend.proofs.Distinct.{some_among, fits, among_range, all_holds, holds_all}
 use Rattle.tx_mend.proofs.RoundRanks.{Ranked, why, no_greater}
-use Rattle.tx_plan.proofs.ListFound.{list_few}
 use Rattle.tx_mend.proofs.Least.{leads}
 use Rattle.tx_mend.proofs.LeastLists.{Leads, IsRanking, present_list, rank_over, on_leads, round_ranking}
 

@@ -1,24 +1,8 @@
 -- Least ranks are least.
-use Rattle.std.proofs.Common.{◌≡◌, ◌≢◌, ℕ, suc, ◌<◌, ◌≤◌, true, List, length, Option, Some, inl, inr, sym, ap, subst, ◌∙◌, arith}
-use Rattle.std.specs.Prelude.{filter, is_some, option_and_then}
-use Rattle.std.specs.List.{list_all}
-use Rattle.std.proofs.lemmas.Bool.{and_from, lt-ltb}
-use Rattle.tx_plan.specs.Plan.{Plan, Route, home_of}
-use Rattle.tx_plan.specs.Rules.{IsPlan, IsRoute}
-use Rattle.tx_plan.specs.Routes.{route_list}
-use Rattle.tx_plan.specs.Circuits.{may_seize, other_end}
-use Rattle.tx_plan.specs.Certified.{Ranks, LeadsLower}
-use Rattle.tx_plan.specs.Among.{Among}
-use Rattle.tx_plan.proofs.Among.{among_filter, all_among}
+use Rattle.tx_mend.proofs.Common.{◌≡◌, ◌≢◌, ℕ, suc, ◌<◌, ◌≤◌, true, List, length, Option, Some, inl, inr, sym, ap, subst, ◌∙◌, arith, filter, is_some, option_and_then, list_all, and_from, lt-ltb, Plan, Route, home_of, IsPlan, IsRoute, route_list, may_seize, other_end, Ranks, LeadsLower, Among, among_filter, all_among, list_cases, list_seizes, rerouted, IsFalling, can_follow_keeping, rank_keeping, AllDiffer, below_rank}
 use Rattle.tx_plan.proofs.Growing.{seizes_within}
-use Rattle.tx_plan.proofs.ListFound.{list_cases, list_seizes}
-use Rattle.tx_plan.specs.Mixed.{rerouted}
-use Rattle.tx_mend.specs.Routings.{IsFalling}
 use Rattle.tx_mend.specs.LeastRanks.{indexes, RanksOfCode, outgoing, leads_on, can_follow, least_rank, LeastRanksAreLeast}
-use Rattle.tx_mend.specs.KeptRanks.{can_follow_keeping, rank_keeping}
 use Rattle.tx_mend.proofs.Distinct.{some_among, fits, among_range, holds_all}
-use Rattle.tx_rank.specs.Walks.{AllDiffer}
-use Rattle.tx_rank.proofs.Certifying.{below_rank}
 use Rattle.tx_mend.proofs.RoundRanks.{no_greater}
 
 -- no group is in a list twice

@@ -1,22 +1,8 @@
 -- Lists by ranks lead down.
-use Rattle.std.proofs.Common.{◌≡◌, ◌≢◌, ℕ, suc, ◌<◌, ◌≤◌, Bool, true, false, nat_lt, ◌==◌, eqb-true, eq-eqb, List, [], length, Option, Some, None, inl, inr, refl, sym, ap, subst, ◌∙◌, arith}
-use Rattle.std.specs.Prelude.{filter, is_some, option_and_then}
-use Rattle.std.specs.Option.{option_map_or}
-use Rattle.std.proofs.lemmas.Bool.{cases_lt, ltb-true, false≢true}
-use Rattle.tx_plan.specs.Plan.{Plan, home_of}
-use Rattle.tx_plan.specs.Rules.{IsPlan, IsRoute}
-use Rattle.tx_plan.specs.Routes.{route_list}
-use Rattle.tx_plan.specs.Circuits.{may_seize, other_end}
-use Rattle.tx_plan.specs.Among.{Among}
-use Rattle.tx_plan.proofs.Among.{among_filter, filter_among, among_flat, flat_among, all_among, among_all}
-use Rattle.tx_mend.specs.LeastRanks.{indexes, RanksOfCode, outgoing, rank_across, leads_on, can_follow, ranked_in}
-use Rattle.tx_mend.specs.KeptRanks.{leads_below}
+use Rattle.tx_mend.proofs.Common.{◌≡◌, ◌≢◌, ℕ, suc, ◌<◌, ◌≤◌, Bool, true, false, nat_lt, ◌==◌, eqb-true, eq-eqb, List, [], length, Option, Some, None, inl, inr, refl, sym, ap, subst, ◌∙◌, arith, filter, is_some, option_and_then, option_map_or, cases_lt, ltb-true, false≢true, Plan, home_of, IsPlan, IsRoute, route_list, may_seize, other_end, Among, among_filter, filter_among, among_flat, flat_among, all_among, among_all, indexes, RanksOfCode, outgoing, rank_across, leads_on, can_follow, ranked_in, leads_below, pairs_kept, AllDiffer, list_cases, list_seizes, list_few}
 use Rattle.tx_mend.specs.Lists.{filled, leads_to, groups_below, list_of_rank, list_by}
 use Rattle.tx_mend.proofs.Distinct.{fits, among_range, range_among, range_differs}
-use Rattle.tx_plan.proofs.Filtered.{pairs_kept}
-use Rattle.tx_rank.specs.Walks.{AllDiffer}
 use Rattle.tx_mend.proofs.RoundRanks.{Ranked, IsRankedAfter, at_home, stays_on, within, why}
-use Rattle.tx_plan.proofs.ListFound.{list_cases, list_seizes, list_few}
 use Rattle.tx_mend.proofs.Least.{list_differs}
 use Rattle.tx_mend.proofs.Filled.{filled_all, filled_differs, filled_few, filled_has}
 

@@ -22,3 +22,4 @@ pub mod TrueCauses
 pub mod Staying
 pub mod Local
 pub mod Right
+pub mod Common

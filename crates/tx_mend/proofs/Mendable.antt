@@ -1,35 +1,13 @@
 -- What can be kept, served and mended.
-use Rattle.std.proofs.Common.{◌≡◌, ◌≢◌, ℕ, suc, ◌<◌, ◌≤◌, Bool, true, false, cond, not, ◌&&◌, ◌||◌, ◌==◌, nat_lt, eqb-true, List, [], ◌∷◌, ◌++◌, length, map, Option, Some, None, is_none, inl, inr, refl, sym, ap, subst, ◌∙◌, arith}
-use Rattle.std.specs.Prelude.{filter, slice_get, is_some, if◌then◌else◌}
-use Rattle.std.specs.List.{flat_map, list_all}
-use Rattle.std.specs.Option.{option_map_or}
-use Rattle.std.proofs.lemmas.Bool.{and_parts, and_from, or_cases, false≢true, ltb-true, lt-ltb}
+use Rattle.tx_mend.proofs.Common.{◌≡◌, ◌≢◌, ℕ, suc, ◌<◌, ◌≤◌, Bool, true, false, cond, not, ◌&&◌, ◌||◌, ◌==◌, nat_lt, eqb-true, List, [], ◌∷◌, ◌++◌, length, map, Option, Some, None, is_none, inl, inr, refl, sym, ap, subst, ◌∙◌, arith, filter, slice_get, is_some, if◌then◌else◌, flat_map, list_all, option_map_or, and_parts, and_from, or_cases, false≢true, ltb-true, lt-ltb, route_list, is_origin_for, ambiguous_of, Among, among_filter, among_flat, among_map, all_among, among_all, net_of, Certifies, is_net, among_at, rerouted, IsRouting, IsFalling, CanBeServed, CanBeKept, CanBeMended, indexes, RanksOfCode, leads_on, can_follow, does_follow, least_rank, present_rank, ranks_origins, keeps_routes, kept_rank, routes_of, Unserved, cause_of, unserved_for, unserved, list_of_rank, list_by, full_list, full, list_cases}
 use Rattle.tx_plan.specs.Plan.{Plan, Group, home_of}
 use Rattle.tx_plan.specs.Rules.{IsPlan, IsGroup, IsRoute}
-use Rattle.tx_plan.specs.Routes.{route_list, is_origin_for}
 use Rattle.tx_plan.specs.Circuits.{may_seize, may_seize_row, is_both}
-use Rattle.tx_plan.specs.Ambiguous.{ambiguous_of}
 use Rattle.tx_plan.specs.Certified.{Ranks, IsBelow, LeadsLower, IsCertified}
-use Rattle.tx_plan.specs.Among.{Among}
-use Rattle.tx_plan.proofs.Among.{among_filter, among_flat, among_map, all_among, among_all}
-use Rattle.tx_rank.specs.Walks.{net_of}
-use Rattle.tx_rank.specs.Nets.{Certifies}
-use Rattle.tx_rank.proofs.Nets.{is_net}
-use Rattle.tx_rank.proofs.Looks.{among_at}
 use Rattle.tx_rank.proofs.Certifying.{distinct_none, below_rank}
-use Rattle.tx_plan.specs.Mixed.{rerouted}
-use Rattle.tx_mend.specs.Routings.{IsRouting, IsFalling, CanBeServed, CanBeKept, CanBeMended}
-use Rattle.tx_mend.specs.LeastRanks.{indexes, RanksOfCode, leads_on, can_follow, does_follow, least_rank, present_rank, ranks_origins, keeps_routes}
-use Rattle.tx_mend.specs.KeptRanks.{kept_rank}
-use Rattle.tx_mend.specs.Mended.{routes_of}
-use Rattle.tx_mend.specs.declared.cause.Unserved.{Unserved}
-use Rattle.tx_mend.specs.Unserved.{cause_of, unserved_for, unserved}
 use Rattle.tx_mend.specs.Laws.{LeastRanksAreAttained, LeastRanksServe, KeepsWhatCanBeKept}
-use Rattle.tx_mend.specs.Lists.{list_of_rank, list_by, full_list}
-use Rattle.tx_mend.specs.inner.Full.{full}
 use Rattle.tx_mend.proofs.Distinct.{some_among, among_range, range_among, all_holds, holds_all}
 use Rattle.tx_mend.proofs.RoundRanks.{Ranked, at_home, within, why, no_greater}
-use Rattle.tx_plan.proofs.ListFound.{list_cases}
 use Rattle.tx_mend.proofs.Least.{leads, least}
 use Rattle.tx_mend.proofs.LeastLists.{Leads, IsList, IsRanking, outgoing_seizes, present_list, on_leads, round_ranking, is_list_by, filled_enough, filled_leads}
 use Rattle.tx_mend.proofs.Kept.{origin_ranked, origins_ranked, kept_ranking, kept_ranks_origins}

@@ -1,12 +1,8 @@
 -- What a mending came to is right.
-use Rattle.std.proofs.Common.{◌≡◌, ℕ}
+use Rattle.tx_mend.proofs.Common.{◌≡◌, ℕ, Plan, ambiguous_of, IsRouting, CanBeMended, mended}
 use Rattle.std.specs.Prelude.{◌↔◌}
-use Rattle.tx_plan.specs.Plan.{Plan}
-use Rattle.tx_plan.specs.Ambiguous.{ambiguous_of}
 use Rattle.tx_mend.specs.declared.mending.Mending.{Mending}
 use Rattle.tx_mend.specs.declared.mending.Mending.TheVariants.{Mended, NoRouting}
-use Rattle.tx_mend.specs.Routings.{IsRouting, CanBeMended}
-use Rattle.tx_mend.specs.Mended.{mended}
 use Rattle.tx_mend.specs.Unserved.{unserved, missing}
 use Rattle.tx_mend.specs.Laws.{KeepsSafeLists, ChangesLeast}
 use Rattle.tx_check.specs.Confirmed.{IsConfirmed}

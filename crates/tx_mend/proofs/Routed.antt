@@ -1,22 +1,6 @@
 -- The routes of lists: what they list, and that they obey the rules.
-use Rattle.std.proofs.Common.{◌≡◌, ◌≢◌, ℕ, ◌<◌, ◌≤◌, ◌⊎◌, Bool, true, false, not, cond, ◌==◌, ◌&&◌, eqb-true, eq-eqb, List, [], ◌∷◌, ◌++◌, length, map, Some, inl, inr, refl, sym, ap, subst, ◌∙◌, arith}
-use Rattle.std.specs.Prelude.{filter, find}
-use Rattle.std.specs.List.{AllByRecursion, flat_map, list_any}
-use Rattle.std.specs.Option.{option_map_or}
-use Rattle.std.proofs.lemmas.Bool.{and_parts, and_from, or_cases, or_left, or_right, false≢true, not-true}
-use Rattle.tx_plan.specs.Plan.{Plan, Route, home_of}
-use Rattle.tx_plan.specs.Rules.{IsPlan, IsRoute, EachPair}
-use Rattle.tx_plan.specs.Routes.{route_list}
-use Rattle.tx_plan.specs.Circuits.{may_seize}
-use Rattle.tx_plan.specs.Declaring.{has_route}
-use Rattle.tx_plan.specs.Among.{Among}
-use Rattle.tx_plan.proofs.Among.{among_right, among_left, among_cases, among_map, map_among, among_filter, filter_among, among_flat, flat_among, all_among, among_all}
-use Rattle.tx_plan.specs.Mixed.{rerouted}
-use Rattle.tx_mend.specs.LeastRanks.{indexes}
-use Rattle.tx_mend.specs.Mended.{all_pairs, pairs_of, route_if, routes_of}
+use Rattle.tx_mend.proofs.Common.{◌≡◌, ◌≢◌, ℕ, ◌<◌, ◌≤◌, ◌⊎◌, Bool, true, false, not, cond, ◌==◌, ◌&&◌, eqb-true, eq-eqb, List, [], ◌∷◌, ◌++◌, length, map, Some, inl, inr, refl, sym, ap, subst, ◌∙◌, arith, filter, find, AllByRecursion, flat_map, list_any, option_map_or, and_parts, and_from, or_cases, or_left, or_right, false≢true, not-true, Plan, Route, home_of, IsPlan, IsRoute, EachPair, route_list, may_seize, has_route, Among, among_right, among_left, among_cases, among_map, map_among, among_filter, filter_among, among_flat, flat_among, all_among, among_all, rerouted, indexes, all_pairs, pairs_of, route_if, routes_of, pairs_kept, AllDiffer}
 use Rattle.tx_mend.proofs.Distinct.{among_range, range_among, range_differs, pairs_append}
-use Rattle.tx_plan.proofs.Filtered.{pairs_kept}
-use Rattle.tx_rank.specs.Walks.{AllDiffer}
 use Rattle.tx_mend.proofs.LeastLists.{IsList}
 
 -- two pairs differ

@@ -1,11 +1,6 @@
 -- Routes that get other lists, one after another.
-use Rattle.std.proofs.Common.{◌≡◌, ℕ, ◌+◌, ◌==◌, Bool, true, false, ◌&&◌, ◌||◌, List, [], ◌∷◌, ◌++◌, take, Some, refl, sym, ap, ◌∙◌, append-nil}
-use Rattle.std.specs.Prelude.{slice_get}
-use Rattle.std.specs.List.{list_any, flat_map}
-use Rattle.std.proofs.lemmas.List.Concat.{flat_map-append}
-use Rattle.tx_plan.specs.Plan.{Route}
+use Rattle.tx_mend.proofs.Common.{◌≡◌, ℕ, ◌+◌, ◌==◌, Bool, true, false, ◌&&◌, ◌||◌, List, [], ◌∷◌, ◌++◌, take, Some, refl, sym, ap, ◌∙◌, append-nil, slice_get, list_any, flat_map, flat_map-append, Route, route_if}
 use Rattle.tx_plan.proofs.ByIndex.{take_next}
-use Rattle.tx_mend.specs.Mended.{route_if}
 
 -- what routes become has no route of a pair that none of them is of
 module _ (exchange code : ℕ) (list : Route → List ℕ) where

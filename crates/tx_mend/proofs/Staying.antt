@@ -1,24 +1,7 @@
 -- A plan whose codes all keep their routes stays as it is.
-use Rattle.std.proofs.Common.{◌≡◌, ◌≢◌, ℕ, ◌<◌, ◌≤◌, true, false, cond, ◌==◌, ◌&&◌, List, [], ◌∷◌, ◌++◌, length, map, Option, Some, inl, inr, refl, sym, ap, ◌∙◌, arith, append-nil, eq-eqb, eqb-true}
-use Rattle.std.specs.Prelude.{filter, find}
-use Rattle.std.specs.List.{flat_map}
-use Rattle.std.specs.Option.{option_map_or}
-use Rattle.std.proofs.lemmas.Bool.{and_parts, and_from, not-true}
-use Rattle.std.proofs.lemmas.List.Concat.{flat_map-append}
-use Rattle.tx_plan.specs.Plan.{Plan, Route}
-use Rattle.tx_plan.specs.Rules.{IsPlan, IsRoute, EachPair}
-use Rattle.tx_plan.specs.Routes.{route_list}
-use Rattle.tx_plan.specs.Declaring.{has_route}
-use Rattle.tx_plan.specs.Among.{Among}
-use Rattle.tx_plan.proofs.Among.{among_right, filter_among, all_among}
-use Rattle.tx_mend.specs.LeastRanks.{keeps_routes}
-use Rattle.tx_mend.specs.Mended.{mended_routes, all_pairs, route_if}
+use Rattle.tx_mend.proofs.Common.{◌≡◌, ◌≢◌, ℕ, ◌<◌, ◌≤◌, true, false, cond, ◌==◌, ◌&&◌, List, [], ◌∷◌, ◌++◌, length, map, Option, Some, inl, inr, refl, sym, ap, ◌∙◌, arith, append-nil, eq-eqb, eqb-true, filter, find, flat_map, option_map_or, and_parts, and_from, not-true, flat_map-append, Plan, Route, IsPlan, IsRoute, EachPair, route_list, has_route, Among, among_right, filter_among, all_among, keeps_routes, mended_routes, all_pairs, route_if, mended_list, present_pairs, is_absent, list_cases, pair_of}
 use Rattle.tx_mend.specs.Laws.{CertifiedStays}
-use Rattle.tx_mend.specs.Lists.{mended_list}
-use Rattle.tx_mend.specs.inner.Pairs.{present_pairs, is_absent}
-use Rattle.tx_plan.proofs.ListFound.{list_cases}
 use Rattle.tx_mend.proofs.Routed.{has_any, pair_within}
-use Rattle.tx_plan.proofs.Copied.{pair_of}
 use Rattle.tx_mend.proofs.Mendable.{keeps_exactly}
 use Rattle.tx_mend.proofs.Trimmed.{kept_mended}
 

@@ -1,33 +1,11 @@
 -- The mended plan: the full lists where calls come, and the present ones elsewhere.
-use Rattle.std.proofs.Common.{◌≡◌, ◌≢◌, ℕ, suc, ◌<◌, ◌≤◌, Bool, true, false, ◌||◌, ◌==◌, eqb-true, eq-eqb, List, [], ◌∷◌, ◌++◌, length, Option, Some, None, inl, inr, refl, sym, ap, subst, ◌∙◌, arith, append-nil}
-use Rattle.std.specs.Prelude.{is_some, if◌then◌else◌}
-use Rattle.std.specs.List.{flat_map}
-use Rattle.std.proofs.lemmas.Bool.{or_cases, or_left, or_right}
-use Rattle.std.proofs.lemmas.List.Concat.{flat_map-append}
-use Rattle.tx_plan.specs.Plan.{Plan, Route, home_of}
-use Rattle.tx_plan.specs.Rules.{IsPlan, IsRoute}
-use Rattle.tx_plan.specs.Routes.{route_list}
-use Rattle.tx_plan.specs.Ambiguous.{ambiguous_of}
-use Rattle.tx_plan.specs.Certified.{Ranks, IsCertified}
-use Rattle.tx_plan.specs.Among.{Among}
+use Rattle.tx_mend.proofs.Common.{◌≡◌, ◌≢◌, ℕ, suc, ◌<◌, ◌≤◌, Bool, true, false, ◌||◌, ◌==◌, eqb-true, eq-eqb, List, [], ◌∷◌, ◌++◌, length, Option, Some, None, inl, inr, refl, sym, ap, subst, ◌∙◌, arith, append-nil, is_some, if◌then◌else◌, flat_map, or_cases, or_left, or_right, flat_map-append, Plan, Route, home_of, IsPlan, IsRoute, route_list, ambiguous_of, Ranks, IsCertified, Among, rerouted, CanBeCertified, Net, net_of, Certifies, all_among, CanBeKept, keeps_routes, kept_rank, list_of_rank, list_by, full_list, comes_in, comes_to, mended_list, pairs_of, route_if, mended_routes, mended, unserved, list_cases}
 use Rattle.tx_plan.specs.declared.ids.Pair.{Pair}
-use Rattle.tx_plan.specs.Mixed.{rerouted}
 use Rattle.tx_cert.specs.Certificate.{Certificate, IsCertificateOf, rank_at, ranks_of}
-use Rattle.tx_rank.specs.Grades.{CanBeCertified}
-use Rattle.tx_rank.specs.Walks.{Net, net_of}
 use Rattle.tx_rank.specs.Heights.{IsReached, AreHeights}
-use Rattle.tx_rank.specs.Nets.{Certifies}
-use Rattle.tx_plan.proofs.Among.{all_among}
 use Rattle.tx_rank.proofs.Certifying.{none_distinct, certifies_code, certified_codes}
-use Rattle.tx_mend.specs.Routings.{CanBeKept}
-use Rattle.tx_mend.specs.LeastRanks.{keeps_routes}
-use Rattle.tx_mend.specs.KeptRanks.{kept_rank}
-use Rattle.tx_mend.specs.Lists.{list_of_rank, list_by, full_list, comes_in, comes_to, mended_list}
-use Rattle.tx_mend.specs.Mended.{pairs_of, route_if, mended_routes, mended}
-use Rattle.tx_mend.specs.Unserved.{unserved}
 use Rattle.tx_mend.specs.Laws.{IsMendedPlan, MendedIsMended, MendingIsExact}
 use Rattle.tx_mend.specs.inner.Full.{full_routes, full, settled_list, settled_route}
-use Rattle.tx_plan.proofs.ListFound.{list_cases}
 use Rattle.tx_mend.proofs.LeastLists.{IsList, present_list}
 use Rattle.tx_mend.proofs.Kept.{kept_ranking}
 use Rattle.tx_mend.proofs.Routed.{routed_list, pair_within}

@@ -1,14 +1,5 @@
 -- Why an exchange cannot be served.
-use Rattle.std.proofs.Common.{◌≡◌, ℕ, suc, ◌+◌, ◌<◌, ◌≤◌, true, false, nat_lt, length, Option, Some, None, inl, inr, refl, sym, ap, ◌∙◌, arith}
-use Rattle.std.specs.Prelude.{filter, is_some, is_none, option_and_then}
-use Rattle.std.specs.Option.{option_map_or}
-use Rattle.std.proofs.lemmas.Bool.{and_parts, cases_lt, lt-ltb, false≢true}
-use Rattle.tx_plan.specs.Plan.{Plan, home_of}
-use Rattle.tx_plan.specs.Rules.{IsPlan}
-use Rattle.tx_plan.specs.Circuits.{other_end}
-use Rattle.tx_mend.specs.declared.cause.Cause.TheVariants.{Rank, Groups}
-use Rattle.tx_mend.specs.Routings.{CanBeServed}
-use Rattle.tx_mend.specs.LeastRanks.{RanksOfCode, outgoing, leads_on, can_follow}
+use Rattle.tx_mend.proofs.Common.{◌≡◌, ℕ, suc, ◌+◌, ◌<◌, ◌≤◌, true, false, nat_lt, length, Option, Some, None, inl, inr, refl, sym, ap, ◌∙◌, arith, filter, is_some, is_none, option_and_then, option_map_or, and_parts, cases_lt, lt-ltb, false≢true, Plan, home_of, IsPlan, other_end, Rank, Groups, CanBeServed, RanksOfCode, outgoing, leads_on, can_follow}
 use Rattle.tx_mend.specs.Unserved.{groups_on, groups_near, no_limit, unlimited_rank, cause_of}
 use Rattle.tx_mend.specs.Laws.{LeadsToServed, AreLeadingOn, IsTrueCause, CausesAreTrue}
 use Rattle.tx_mend.proofs.RoundRanks.{Ranked, within, stays_on, in_round, follows_next}

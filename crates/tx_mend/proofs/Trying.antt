@@ -1,17 +1,7 @@
 -- A group that is tried beside all that stay by ranks in a list.
-use Rattle.std.proofs.Common.{◌≡◌, ℕ, suc, ◌+◌, ◌<◌, Bool, true, false, ◌||◌, ◌&&◌, ◌==◌, nat_lt, List, [], ◌∷◌, ◌++◌, length, map, take, get_or, Option, refl, sym, ap, ◌∙◌, arith, append-nil}
-use Rattle.std.specs.Prelude.{filter, option_and_then, if◌then◌else◌}
-use Rattle.std.specs.List.{fold, flat_map, range_with_len}
-use Rattle.std.specs.Option.{option_map_or}
+use Rattle.tx_mend.proofs.Common.{◌≡◌, ℕ, suc, ◌+◌, ◌<◌, Bool, true, false, ◌||◌, ◌&&◌, ◌==◌, nat_lt, List, [], ◌∷◌, ◌++◌, length, map, take, get_or, Option, refl, sym, ap, ◌∙◌, arith, append-nil, filter, option_and_then, if◌then◌else◌, fold, flat_map, range_with_len, option_map_or, flat_map-append, Plan, home_of, IsPlan, route_list, indexes, RanksOfCode, ranked_in, ranks_origins, stays_by, list_with, can_follow_keeping, rank_keeping, put_back, rank_list, ranked}
 use Rattle.std.proofs.lemmas.List.{take_more}
 use Rattle.std.proofs.lemmas.List.Sums.{fold-append}
-use Rattle.std.proofs.lemmas.List.Concat.{flat_map-append}
-use Rattle.tx_plan.specs.Plan.{Plan, home_of}
-use Rattle.tx_plan.specs.Rules.{IsPlan}
-use Rattle.tx_plan.specs.Routes.{route_list}
-use Rattle.tx_mend.specs.LeastRanks.{indexes, RanksOfCode, ranked_in, ranks_origins}
-use Rattle.tx_mend.specs.KeptRanks.{stays_by, list_with, can_follow_keeping, rank_keeping, put_back}
-use Rattle.tx_mend.specs.inner.CodeRanks.{rank_list, ranked}
 use Rattle.tx_mend.proofs.Placed.{got_index, flat_more}
 use Rattle.tx_mend.proofs.Tables.{length_ranks}
 use Rattle.tx_mend.proofs.Local.{same_all, across_same, kept_same}

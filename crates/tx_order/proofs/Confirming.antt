@@ -1,23 +1,7 @@
 -- The plans before and after a stage, and what the checker says of them.
-use Rattle.std.proofs.Common.{◌≡◌, ℕ, ◌+◌, ◌<◌, ◌≤◌, refl, ◌∙◌, subst}
-use Rattle.tx_plan.specs.Plan.{Plan}
-use Rattle.tx_plan.specs.Rules.{IsPlan}
-use Rattle.tx_plan.specs.Mixed.{rerouted}
-use Rattle.tx_plan.specs.Mixtures.{SameNetwork, AreCommon}
-use Rattle.tx_plan.proofs.Networks.{same_back, same_along, rerouted-is}
-use Rattle.tx_cert.specs.Certificate.{Certificate, IsCertificateOf, ranks_of}
-use Rattle.tx_check.specs.Confirmed.{IsConfirmed}
-use Rattle.tx_rank.specs.declared.ranking.Ranking.{Ranking}
-use Rattle.tx_rank.specs.declared.ranking.Ranking.TheVariants.{Found, Fails}
-use Rattle.tx_rank.specs.Grades.{CanBeCertified}
-use Rattle.tx_audit.specs.Audits.{IsRightRanking}
+use Rattle.tx_order.proofs.Common.{◌≡◌, ℕ, ◌+◌, ◌<◌, ◌≤◌, refl, ◌∙◌, subst, Plan, IsPlan, rerouted, SameNetwork, AreCommon, same_back, same_along, rerouted-is, Certificate, IsCertificateOf, ranks_of, IsConfirmed, Ranking, Found, Fails, CanBeCertified, IsRightRanking, levels_of, IsOrder, Order, plan_before, stages_in, IsOrderKept, Lists, AreListsOf}
 use Rattle.tx_change.proofs.Cleared.{certificate_along, cleared}
-use Rattle.tx_order.specs.Levels.{levels_of}
-use Rattle.tx_order.specs.Orders.{IsOrder}
-use Rattle.tx_order.specs.Ordered.{Order, plan_before, stages_in, IsOrderKept}
 use Rattle.tx_order.specs.Switchings.{HasCleared, IsOrdered, HasNoOrder}
-use Rattle.tx_change.specs.declared.mixing.Lists.{Lists}
-use Rattle.tx_order.specs.inner.Asked.{AreListsOf}
 use Rattle.tx_order.proofs.Ordered.{is_order_of, stage_used, few_stages}
 
 module _ (o : Order) (k : IsOrderKept o) where

@@ -1,25 +1,14 @@
 -- The stages of an order lead from the old plan to the new one.
 use Rattle.std.proofs.Common.{◌≡◌, ℕ, zero, suc, ◌+◌, ◌*◌, ◌-◌, ◌<◌, ◌≤◌, Bool, true, false, not, List, [], ◌∷◌, ◌++◌, length, inl, inr, Some, refl, sym, ap, ◌∙◌, subst, arith, append-nil}
 use Rattle.std.specs.Prelude.{slice_get, ◌↔◌}
-use Rattle.std.specs.List.{AllByRecursion}
-use Rattle.std.proofs.lemmas.Bool.{lt-ltb, cases_lt}
-use Rattle.tx_plan.specs.declared.ids.Pair.{Pair}
-use Rattle.tx_plan.proofs.Lists.{all_map}
+use Rattle.tx_order.proofs.Common.{AllByRecursion, lt-ltb, cases_lt, Pair, all_map, IsPlan, Ranks, IsCertified, Certifies, CanBeCertified, is_barred, SameNetwork, IsMixture, AreCommon, levels_of, level_at, is_switched, bar_level, is_bar_switched, AreBothCertified, plan_of, plan_at, ranks_by, ranks_at}
 use Rattle.tx_plan.specs.Plan.{Plan, Route, Code}
 use Rattle.tx_plan.specs.Codes.{is_prefix}
-use Rattle.tx_plan.specs.Rules.{IsPlan}
-use Rattle.tx_plan.specs.Certified.{Ranks, IsCertified}
 use Rattle.tx_join.proofs.Found.{filter_all, filter_none}
 use Rattle.tx_rank.specs.Walks.{Net, net_of}
-use Rattle.tx_rank.specs.Nets.{Certifies}
-use Rattle.tx_rank.specs.Grades.{CanBeCertified}
 use Rattle.tx_rank.proofs.Certifying.{certifies_code, certified_codes}
-use Rattle.tx_plan.specs.Routes.{is_barred}
 use Rattle.tx_plan.specs.Mixed.{rerouted, replaced}
-use Rattle.tx_plan.specs.Mixtures.{SameNetwork, IsMixture, AreCommon}
 use Rattle.tx_plan.proofs.Networks.{rerouted-is, homes_same, ends_same, origin_as}
-use Rattle.tx_order.specs.Levels.{levels_of, level_at, is_switched, bar_level, is_bar_switched}
-use Rattle.tx_order.specs.Stages.{AreBothCertified, plan_of, plan_at, ranks_by, ranks_at}
 use Rattle.tx_order.specs.Orders.{AreAlike, IsListSwitched, IsBarSwitched, IsOrder, HasOrder, CanBothBeCertified}
 use Rattle.tx_order.proofs.Levels.{level_within}
 use Rattle.tx_order.proofs.Switched.{list_new, list_old, bar_new, bar_old, switched_mixture}

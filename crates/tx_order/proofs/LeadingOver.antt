@@ -1,14 +1,8 @@
 -- An order over a joined network leads from the old plan to the new one.
-use Rattle.std.proofs.Common.{◌≡◌, ℕ, inl, inr, sym, ap, subst, arith}
-use Rattle.std.proofs.lemmas.Bool.{cases_eq}
-use Rattle.tx_plan.specs.Plan.{Plan}
-use Rattle.tx_plan.specs.Routes.{route_list, is_barred}
+use Rattle.tx_order.proofs.Common.{◌≡◌, ℕ, inl, inr, sym, ap, subst, arith, cases_eq, Plan, route_list, is_barred, AreAlike, Order, plan_before, stages_in, IsOrdered}
 use Rattle.tx_join.specs.Joined.{joined_old, joined_new}
 use Rattle.tx_join.specs.Laws.{CanBeJoined}
 use Rattle.tx_join.proofs.LeadOver.{lead_over}
-use Rattle.tx_order.specs.Orders.{AreAlike}
-use Rattle.tx_order.specs.Ordered.{Order, plan_before, stages_in}
-use Rattle.tx_order.specs.Switchings.{IsOrdered}
 use Rattle.tx_order.specs.LeadsOver.{LeadsOver}
 
 same_alike : (p q : Plan) → p ≡ q → AreAlike p q

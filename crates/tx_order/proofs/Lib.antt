@@ -12,3 +12,4 @@ pub mod Verdicts
 pub mod StagedRuns
 pub mod StagedTurns
 pub mod LeadingOver
+pub mod Common

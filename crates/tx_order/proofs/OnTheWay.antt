@@ -1,16 +1,8 @@
 -- Each plan on the way of an order is certified, and the plans before and after a stage by the same
 -- ranks.
-use Rattle.std.proofs.Common.{◌≡◌, ◌≢◌, ℕ, ◌+◌, ◌<◌, ◌≤◌, Bool, true, false, not, ◌&&◌, cond, nat_lt, List, length, Option, Some, refl, sym, ap, ◌∙◌, subst, arith}
-use Rattle.std.specs.List.{AllByRecursion}
-use Rattle.std.proofs.lemmas.Bool.{ltb-true, ltb-false, lt-ltb, and_parts, not-true}
-use Rattle.tx_plan.proofs.Lists.{all_map}
-use Rattle.tx_plan.specs.Plan.{Plan, home_of}
+use Rattle.tx_order.proofs.Common.{◌≡◌, ◌≢◌, ℕ, ◌+◌, ◌<◌, ◌≤◌, Bool, true, false, not, ◌&&◌, cond, nat_lt, List, length, Option, Some, refl, sym, ap, ◌∙◌, subst, arith, AllByRecursion, ltb-true, ltb-false, lt-ltb, and_parts, not-true, all_map, Plan, home_of, route_list, is_barred, is_origin, is_origin_for, SameNetwork, AreCommon, level_at, is_switched, bar_level, is_bar_switched, AreBothCertified, plan_of, plan_at, ranks_by, ranks_at}
 use Rattle.tx_plan.specs.Certified.{Ranks, LeadsLower, LeadsDown, IsBelow, IsCertified}
-use Rattle.tx_plan.specs.Routes.{route_list, is_barred, is_origin, is_origin_for}
-use Rattle.tx_plan.specs.Mixtures.{SameNetwork, AreCommon}
 use Rattle.tx_plan.proofs.Networks.{same_back, same_along, homes_same, ends_same, origins_same}
-use Rattle.tx_order.specs.Levels.{level_at, is_switched, bar_level, is_bar_switched}
-use Rattle.tx_order.specs.Stages.{AreBothCertified, plan_of, plan_at, ranks_by, ranks_at}
 use Rattle.tx_order.proofs.Levels.{IsLevel, IsRankAt, Fits, new_kept, new_below, old_kept, old_below, value, IsLow, level_is, rank_is, below_value, value_below, value_some, level_within}
 use Rattle.tx_order.proofs.Switched.{list_new, list_old, bar_new, bar_old}
 

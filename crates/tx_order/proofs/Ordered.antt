@@ -1,22 +1,10 @@
 -- Stages of the codes that are safe are an order.
 use Rattle.std.proofs.Common.{◌≡◌, ℕ, zero, suc, ◌+◌, ◌<◌, ◌≤◌, List, [], ◌∷◌, ◌++◌, length, get_or, inl, inr, Some, None, refl, sym, ap, ◌∙◌, subst, arith}
-use Rattle.std.specs.Prelude.{slice_get}
-use Rattle.std.specs.Option.{option_map_or}
-use Rattle.std.proofs.lemmas.Bool.{cases_lt}
+use Rattle.tx_order.proofs.Common.{slice_get, option_map_or, cases_lt, Plan, route_list, Ranks, AreCommon, ranks_of, levels_of, AreAlikeFor, AreAlike, IsOrder, Transition, IsTransition, plan_front, IsSafeBetween, IsFurthest, AreStages, AreAllStages, Order, fronts_before, plan_before, stages_in, AreStagesBelow, IsOrderKept}
 use Rattle.std.proofs.lemmas.List.{length_push, get_or_past, get_or_append_left, get_or_push}
-use Rattle.tx_plan.specs.Plan.{Plan}
-use Rattle.tx_plan.specs.Routes.{route_list}
-use Rattle.tx_plan.specs.Certified.{Ranks}
-use Rattle.tx_plan.specs.Mixtures.{AreCommon}
 use Rattle.tx_plan.proofs.ByIndex.{entry_at}
-use Rattle.tx_cert.specs.Certificate.{ranks_of}
 use Rattle.tx_rank.proofs.Origins.{at_push}
-use Rattle.tx_order.specs.Levels.{levels_of}
-use Rattle.tx_order.specs.Orders.{AreAlikeFor, AreAlike, IsOrder}
 use Rattle.tx_order.specs.Fronts.{front_of, ends_of, count_of}
-use Rattle.tx_order.specs.Transitions.{Transition, IsTransition, plan_front}
-use Rattle.tx_order.specs.Joined.{IsSafeBetween, IsFurthest, AreStages, AreAllStages}
-use Rattle.tx_order.specs.Ordered.{Order, fronts_before, plan_before, stages_in, AreStagesBelow, IsOrderKept}
 use Rattle.tx_order.proofs.Leading.{AreAdvancing, order_by, no_order_needed, leads_from, leads_to}
 use Rattle.tx_order.proofs.TwoFronts.{plan_list, newly_listed, alike_fronts, same_safe, codes_common, later_safe, safe_to, nothing_left}
 

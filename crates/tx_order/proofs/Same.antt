@@ -1,14 +1,8 @@
 -- Plans on the way are alike for a code if they are at each exchange.
-use Rattle.std.proofs.Common.{◌≡◌, ℕ, ◌<◌, ◌≤◌, ◌==◌, ◌&&◌, ◌||◌, false, List, [], ◌∷◌, length, inl, inr, refl, sym, ap, ◌∙◌, arith}
+use Rattle.tx_order.proofs.Common.{◌≡◌, ℕ, ◌<◌, ◌≤◌, ◌==◌, ◌&&◌, ◌||◌, false, List, [], ◌∷◌, length, inl, inr, refl, sym, ap, ◌∙◌, arith, Pair, Plan, IsPlan, IsBar, route_list, is_barred, SameNetwork, AreAlikeFor}
 use Rattle.std.specs.List.{list_any, AllByRecursion}
 use Rattle.std.proofs.lemmas.Bool.{cases_lt, and_left, ne_eqb}
-use Rattle.tx_plan.specs.declared.ids.Pair.{Pair}
-use Rattle.tx_plan.specs.Plan.{Plan}
-use Rattle.tx_plan.specs.Rules.{IsPlan, IsBar}
-use Rattle.tx_plan.specs.Routes.{route_list, is_barred}
-use Rattle.tx_plan.specs.Mixtures.{SameNetwork}
 use Rattle.tx_change.proofs.JoinedNets.{none_past}
-use Rattle.tx_order.specs.Orders.{AreAlikeFor}
 
 -- an exchange that the plan has not is not barred
 none_barred : (p : Plan) → IsPlan p → (x c : ℕ) → length p.exchanges ≤ x → is_barred p x c ≡ false

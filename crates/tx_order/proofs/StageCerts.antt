@@ -1,13 +1,8 @@
 -- The certificate of a stage, code after code.
 use Rattle.std.proofs.Common.{◌≡◌, ◌≢◌, ℕ, ◌+◌, true, false, eqb, eqb-true, length, Option, refl, sym, ap, subst, ◌∙◌, arith}
 use Rattle.std.proofs.lemmas.Bool.{eqb-false}
-use Rattle.tx_plan.specs.Mixtures.{AreCommon}
-use Rattle.tx_cert.specs.Certificate.{Certificate, rank_at, ranks_of, no_ranks_for}
+use Rattle.tx_order.proofs.Common.{AreCommon, Certificate, rank_at, ranks_of, no_ranks_for, Certifies, change_net, Transition, IsTransition, plan_with, plan_front, IsCertifiedBelow}
 use Rattle.tx_cert.proofs.Ranks.{none_ranked}
-use Rattle.tx_rank.specs.Nets.{Certifies}
-use Rattle.tx_change.specs.ChangeNets.{change_net}
-use Rattle.tx_order.specs.Transitions.{Transition, IsTransition, plan_with, plan_front}
-use Rattle.tx_order.specs.inner.Certified.{IsCertifiedBelow}
 use Rattle.tx_order.proofs.TwoFronts.{fronts_common}
 
 module _ (w : Transition) (from to : ℕ → ℕ) where

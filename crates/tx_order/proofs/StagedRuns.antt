@@ -1,19 +1,9 @@
 -- Over all stages of an order a run keeps what every run keeps.
-use Rattle.std.proofs.Common.{◌≡◌, ℕ, ◌+◌, ◌<◌, true, not, List, inl, inr, ap, arith}
-use Rattle.std.proofs.lemmas.Bool.{cases_lt}
-use Rattle.std.specs.List.{AllByRecursion}
-use Rattle.tx_plan.specs.Plan.{Plan}
-use Rattle.tx_plan.specs.Certified.{Ranks, IsCertified}
-use Rattle.tx_plan.specs.Mixtures.{SameNetwork, AreCommon}
+use Rattle.tx_order.proofs.Common.{◌≡◌, ℕ, ◌+◌, ◌<◌, true, not, List, inl, inr, ap, arith, cases_lt, AllByRecursion, Plan, Ranks, IsCertified, SameNetwork, AreCommon, all_map, same_back, same_along, is_connected, opening, IsOrder}
 use Rattle.tx_plan.proofs.CommonRanks.{mixture_certified}
-use Rattle.tx_plan.proofs.Lists.{all_map}
-use Rattle.tx_plan.proofs.Networks.{same_back, same_along}
-use Rattle.tx_machine.specs.Call.{is_connected}
-use Rattle.tx_machine.specs.State.{opening}
 use Rattle.tx_machine.specs.ChangingRuns.{Turn, Switched, changing_run}
 use Rattle.tx_machine.proofs.Steps.{all_mem}
 use Rattle.tx_machine.proofs.LiveRuns.{IsLive, IsSoundTurn, sound_along, few_along}
-use Rattle.tx_order.specs.Orders.{IsOrder}
 use Rattle.tx_order.specs.StagedRuns.{is_being_set_up, IsInForceIn, IsInStages, AreInStages, AreSoundStages, HaveFewRoutes, SufficeInStages}
 
 module _ (old new : Plan) (plans : ℕ → Plan) (stages limit spare : ℕ) (o : IsOrder old new plans stages limit spare) where

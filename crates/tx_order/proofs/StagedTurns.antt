@@ -1,17 +1,11 @@
 -- Where each stage begins with no call being set up, each call has one stage.
-use Rattle.std.proofs.Common.{◌≡◌, ℕ, ◌+◌, ◌<◌, ◌≤◌, true, not, nat_le, List, [], ◌∷◌, map, inl, inr, refl, sym, ap, ◌∙◌, subst, arith}
+use Rattle.tx_order.proofs.Common.{◌≡◌, ℕ, ◌+◌, ◌<◌, ◌≤◌, true, not, nat_le, List, [], ◌∷◌, map, inl, inr, refl, sym, ap, ◌∙◌, subst, arith, AllByRecursion, Plan, SameNetwork, IsMixture, Among, same_back, same_along, changing_run, IsOrder}
 use Rattle.std.proofs.lemmas.Bool.{both_ways, le-leb, lt-leb, cases_eq}
 use Rattle.std.specs.Prelude.{if◌then◌else◌}
-use Rattle.std.specs.List.{AllByRecursion}
-use Rattle.tx_plan.specs.Plan.{Plan}
-use Rattle.tx_plan.specs.Mixtures.{SameNetwork, IsMixture}
-use Rattle.tx_plan.specs.Among.{Among}
-use Rattle.tx_plan.proofs.Networks.{same_back, same_along}
 use Rattle.tx_machine.specs.declared.event.Event.{Event}
 use Rattle.tx_machine.specs.Call.{Call, is_connected}
 use Rattle.tx_machine.specs.State.{State, opening}
 use Rattle.tx_machine.specs.Step.{step}
-use Rattle.tx_machine.specs.ChangingRuns.{changing_run}
 use Rattle.tx_machine.specs.inner.Invariant.{Holds}
 use Rattle.tx_machine.proofs.Lists.{all_from_mem, mem_any}
 use Rattle.tx_machine.proofs.Invariant.{inv_opening}
@@ -19,7 +13,6 @@ use Rattle.tx_machine.proofs.Steps.{step_keeps}
 use Rattle.tx_machine.proofs.Moves.{Moves, stays, connects, seizes_one, goes_on, falls_back, came, moves_number}
 use Rattle.tx_machine.proofs.Counts.{step_numbers}
 use Rattle.tx_machine.proofs.ByNetwork.{holds_by}
-use Rattle.tx_order.specs.Orders.{IsOrder}
 use Rattle.tx_order.specs.StagedRuns.{is_being_set_up, IsInForceIn, IsInStages, AreInStages, StagedTurn, AreStagedTurns}
 use Rattle.tx_order.proofs.StagedRuns.{between}
 

@@ -1,14 +1,6 @@
 -- A stage of an order that is asked for.
-use Rattle.std.proofs.Common.{◌≡◌, ℕ, zero, suc, ◌+◌, ◌-◌, sym, ◌∙◌, subst, arith}
-use Rattle.tx_plan.specs.Plan.{Plan}
-use Rattle.tx_plan.specs.Rules.{IsPlan}
-use Rattle.tx_plan.specs.Mixed.{rerouted}
-use Rattle.tx_plan.specs.Mixtures.{AreCommon}
-use Rattle.tx_cert.specs.Certificate.{Certificate, IsCertificateOf, ranks_of}
-use Rattle.tx_change.specs.declared.mixing.Lists.{Lists}
-use Rattle.tx_order.specs.Ordered.{Order, IsOrderKept, plan_before}
+use Rattle.tx_order.proofs.Common.{◌≡◌, ℕ, zero, suc, ◌+◌, ◌-◌, sym, ◌∙◌, subst, arith, Plan, IsPlan, rerouted, AreCommon, Certificate, IsCertificateOf, ranks_of, Lists, Order, IsOrderKept, plan_before, AreListsOf}
 use Rattle.tx_order.specs.Staged.{IsStageCert}
-use Rattle.tx_order.specs.inner.Asked.{AreListsOf}
 use Rattle.tx_order.proofs.Confirming.{before_rules, before_fits, with_lists}
 
 -- the certificate of a stage, by its number from 0

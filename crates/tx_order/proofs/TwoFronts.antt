@@ -1,33 +1,19 @@
 -- What certifies a code at two fronts.
 use Rattle.std.proofs.Common.{◌≡◌, ◌⊎◌, ℕ, ◌||◌, ◌+◌, ◌<◌, ◌≤◌, Bool, true, false, not, ◌&&◌, cond, nat_lt, min, List, [], ◌∷◌, ◌++◌, length, map, Result, Ok, Err, IfOk, Option, Some, None, inl, inr, refl, sym, ap, ◌∙◌, subst, arith}
 use Rattle.std.proofs.lemmas.Bool.{or_left, or_right, or_cases, cases_lt, lt-ltb, le-ltb}
-use Rattle.tx_plan.specs.Plan.{Plan, home_of}
-use Rattle.tx_plan.specs.Rules.{IsPlan}
-use Rattle.tx_plan.specs.Certified.{Ranks}
-use Rattle.tx_plan.specs.Routes.{route_list, is_barred, is_origin, is_origin_for}
-use Rattle.tx_plan.specs.Mixtures.{SameNetwork, AreCommon}
-use Rattle.tx_plan.specs.Among.{Among}
+use Rattle.tx_order.proofs.Common.{Plan, home_of, IsPlan, Ranks, route_list, is_barred, is_origin, is_origin_for, SameNetwork, AreCommon, Among, ranks_of, Finding, IsJudged, change_net, levels_of, level_at, bar_level, ranks_at, AreAlikeFor, Transition, IsTransition, plan_with, plan_front, has_list, has_bar, IsSafeBetween, IsFurthest}
 use Rattle.tx_plan.specs.Circuits.{other_end}
 use Rattle.tx_plan.proofs.Among.{among_cases, among_left, among_right}
-use Rattle.tx_cert.specs.Certificate.{ranks_of}
-use Rattle.tx_rank.specs.declared.finding.Finding.{Finding}
 use Rattle.tx_rank.specs.declared.finding.Finding.TheVariants.{Short}
 use Rattle.tx_rank.specs.Walks.{Net, Walk, IsShort}
 use Rattle.tx_rank.specs.Nets.{IsNet, Certifies}
 use Rattle.tx_rank.specs.Findings.{AreFindingsOfCode, IsLongIfAny, long_findings}
 use Rattle.tx_rank.specs.Findings.AreFindingsOfCode.{looped, straight}
-use Rattle.tx_rank.specs.Judged.{IsJudged}
 use Rattle.tx_rank.proofs.Walked.{certified_no_loop, certified_no_short, certified_no_long}
-use Rattle.tx_change.specs.ChangeNets.{change_net}
 use Rattle.tx_change.specs.inner.Joined.{Joined, AreJoined, joined_net}
 use Rattle.tx_change.proofs.ChangeNets.{is_change_net}
 use Rattle.tx_change.proofs.JoinedNets.{joined_is}
-use Rattle.tx_change.proofs.Common.{common_codes, common_certifies}
-use Rattle.tx_order.specs.Levels.{levels_of, level_at, bar_level}
-use Rattle.tx_order.specs.Stages.{ranks_at}
-use Rattle.tx_order.specs.Orders.{AreAlikeFor}
-use Rattle.tx_order.specs.Transitions.{Transition, IsTransition, plan_with, plan_front, has_list, has_bar}
-use Rattle.tx_order.specs.Joined.{IsSafeBetween, IsFurthest}
+use Rattle.tx_change.proofs.CommonRanks.{common_codes, common_certifies}
 use Rattle.tx_order.proofs.Switched.{list_new, list_old, bar_new, bar_old}
 use Rattle.tx_order.proofs.Leading.{by_mixtures, stage_safe}
 use Rattle.tx_order.proofs.OnTheWay.{plan_certified}

@@ -1,18 +1,9 @@
 -- The verdict on an order is right.
-use Rattle.std.proofs.Common.{◌≡◌, ℕ, subst}
+use Rattle.tx_order.proofs.Common.{◌≡◌, ℕ, subst, Plan, Certificate, ranks_of, Finding, Ranking, Found, Fails, CanBeCertified, IsRightRanking, CanBothBeCertified, Order}
 use Rattle.std.specs.Prelude.{Vec}
-use Rattle.tx_plan.specs.Plan.{Plan}
-use Rattle.tx_cert.specs.Certificate.{Certificate, ranks_of}
-use Rattle.tx_rank.specs.declared.finding.Finding.{Finding}
-use Rattle.tx_rank.specs.declared.ranking.Ranking.{Ranking}
-use Rattle.tx_rank.specs.declared.ranking.Ranking.TheVariants.{Found, Fails}
-use Rattle.tx_rank.specs.Grades.{CanBeCertified}
-use Rattle.tx_audit.specs.Audits.{IsRightRanking}
 use Rattle.tx_order.specs.declared.switching.Switching.{Switching}
 use Rattle.tx_order.specs.declared.switching.Switching.TheVariants.{Ordered as FoundOrdered, NoOrder as FoundNoOrder}
 use Rattle.tx_order.specs.declared.judging.OrderVerdict.TheVariants.{Ordered, NoOrder, NewUnsound}
-use Rattle.tx_order.specs.Orders.{CanBothBeCertified}
-use Rattle.tx_order.specs.Ordered.{Order}
 use Rattle.tx_order.specs.Switchings.{IsOrdered, IsRightSwitching}
 use Rattle.tx_order.specs.OrderVerdicts.{IsRightVerdict}
 

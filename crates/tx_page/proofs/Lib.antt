@@ -1,2 +1,3 @@
 pub mod StepsOfWalks
 pub mod AloneIn
+pub mod Common

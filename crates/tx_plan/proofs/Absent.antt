@@ -1,15 +1,9 @@
 -- A word that is no name names nothing.
-use Rattle.std.proofs.Common.{◌≡◌, ℕ, ◌<◌, ◌≤◌, Bool, true, false, not, ◌&&◌, ◌||◌, nat_le, List, [], ◌∷◌, length, Option, Some, None, is_some, refl, sym, ap, ◌∙◌, arith}
-use Rattle.std.specs.Prelude.{position}
+use Rattle.tx_plan.proofs.Common.{◌≡◌, ℕ, ◌<◌, ◌≤◌, Bool, true, false, not, ◌&&◌, ◌||◌, nat_le, List, [], ◌∷◌, length, Option, Some, None, is_some, refl, sym, ap, ◌∙◌, arith, position, bytes_eq, bytes_eq-Decides, is_code, IsPlan, IsGroup, Plan, Group, exchange_named, code_named, group_named, has_exchange, has_code, has_group}
 use Rattle.std.specs.List.{AllByRecursion, list_all}
-use Rattle.std.specs.Str.{bytes_eq}
-use Rattle.std.proofs.lemmas.Slice.Eq.{bytes_eq-Decides}
 use Rattle.std.proofs.lemmas.Bool.{leb-true, and_parts}
 use Rattle.std.proofs.Math.Bool.{or-false, or-true}
 use Rattle.tx_text.specs.Words.{is_name, is_letter, is_figure}
-use Rattle.tx_plan.specs.Rules.{is_code, IsPlan, IsGroup}
-use Rattle.tx_plan.specs.Plan.{Plan, Group, exchange_named, code_named, group_named}
-use Rattle.tx_plan.specs.Declaring.{has_exchange, has_code, has_group}
 use Rattle.tx_plan.proofs.Lists.{no_index, found_any}
 
 same_not : (b : Bool) → (b ≡ true → true ≡ false) → b ≡ false

@@ -1,21 +1,8 @@
 -- The least ambiguous pair, by the indexes of its codes.
-use Rattle.std.proofs.Common.{◌≡◌, ℕ, ◌+◌, true, false, ◌⊎◌, List, [], ◌∷◌, map, Option, Some, None, refl, ap, sym, ◌∙◌, subst, inl, inr, arith}
-use Rattle.std.specs.Prelude.{filter, slice_get, if◌then◌else◌}
-use Rattle.std.specs.List.{enumerate_from}
-use Rattle.std.specs.Option.{option_map}
+use Rattle.tx_plan.proofs.Common.{◌≡◌, ℕ, ◌+◌, true, false, ◌⊎◌, List, [], ◌∷◌, map, Option, Some, None, refl, ap, sym, ◌∙◌, subst, inl, inr, arith, filter, slice_get, if◌then◌else◌, enumerate_from, option_map, Ordering, Less, Equal, Greater, IsTotalOrder, slice_cmp, nat_list_cmp_total, on_total, then_total, exact_pairs, exact_bytes, false≢true, Among, Code, pair_at, IsAmbiguousAt}
 use Rattle.std.specs.Ordering.{ordering_reverse, is_le, is_lt, nat_cmp}
-use Rattle.std.specs.declared.cmp.Ordering.{Ordering}
-use Rattle.std.specs.declared.cmp.Ordering.TheVariants.{Less, Equal, Greater}
-use Rattle.std.specs.Cmp.{IsTotalOrder}
-use Rattle.std.specs.Cmp.Lexicographic.{slice_cmp, nat_list_cmp_total}
-use Rattle.std.proofs.lemmas.Cmp.{on_total, then_total}
-use Rattle.std.proofs.lemmas.Map.Lookups.{exact_pairs, exact_bytes}
-use Rattle.std.proofs.lemmas.Bool.{false≢true}
-use Rattle.tx_plan.specs.Among.{Among}
 use Rattle.tx_plan.proofs.Among.{among_map, map_among, among_flat, flat_among, among_filter, filter_among, among_indexes, indexes_among}
-use Rattle.tx_plan.specs.Plan.{Code}
 use Rattle.tx_plan.specs.Ambiguous.{CodePair, is_ambiguous, code_pairs, pair_cmp, lesser, least, ambiguous_of}
-use Rattle.tx_plan.specs.inner.AmbiguousAt.{pair_at, IsAmbiguousAt}
 
 -- THE LEAST PAIR
 

@@ -1,8 +1,6 @@
 -- What is in a list, and in one that is made of another.
-use Rattle.std.proofs.Common.{◌≡◌, ℕ, zero, suc, ◌+◌, ◌<◌, Bool, true, false, ◌⊎◌, List, [], ◌∷◌, ◌++◌, map, length, get_or, Some, cond, refl, ap, sym, ◌∙◌, subst, inl, inr, arith}
-use Rattle.std.specs.Prelude.{filter, slice_get}
+use Rattle.tx_plan.proofs.Common.{◌≡◌, ℕ, zero, suc, ◌+◌, ◌<◌, Bool, true, false, ◌⊎◌, List, [], ◌∷◌, ◌++◌, map, length, get_or, Some, cond, refl, ap, sym, ◌∙◌, subst, inl, inr, arith, filter, slice_get, Among}
 use Rattle.std.specs.List.{enumerate_from, flat_map, AllByRecursion}
-use Rattle.tx_plan.specs.Among.{Among}
 
 pub among_left : {A : Type 0} (x : A) (xs ys : List A) → Among x xs → Among x (xs ++ ys)
 among_left x [] ys h = absurd h

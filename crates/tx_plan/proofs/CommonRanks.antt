@@ -1,12 +1,7 @@
 -- Ranks that certify two plans of a network certify each mixture of them.
-use Rattle.std.proofs.Common.{◌≡◌, ◌≢◌, ℕ, ◌<◌, true, List, inl, inr, length, Some, sym, ap, ◌∙◌, subst}
-use Rattle.std.specs.List.{AllByRecursion}
+use Rattle.tx_plan.proofs.Common.{◌≡◌, ◌≢◌, ℕ, ◌<◌, true, List, inl, inr, length, Some, sym, ap, ◌∙◌, subst, AllByRecursion, slice_get, is_prefix, Plan, Code, home_of, route_list}
 use Rattle.tx_plan.proofs.Lists.{all_map}
-use Rattle.std.specs.Prelude.{slice_get}
-use Rattle.tx_plan.specs.Codes.{is_prefix}
-use Rattle.tx_plan.specs.Plan.{Plan, Code, home_of}
 use Rattle.tx_plan.specs.Certified.{Ranks, LeadsLower, LeadsDown, IsCertified}
-use Rattle.tx_plan.specs.Routes.{route_list}
 use Rattle.tx_plan.specs.Mixtures.{SameNetwork, IsMixture, AreCommon}
 use Rattle.tx_plan.proofs.Networks.{same_back, same_along, homes_same, ends_same, origin_as}
 

@@ -1,13 +1,5 @@
 -- Entries of a plan that are copied one after another.
-use Rattle.std.proofs.Common.{◌≡◌, ◌≢◌, ℕ, zero, suc, ◌+◌, ◌==◌, Bool, true, false, cond, ◌&&◌, ◌||◌, List, [], ◌∷◌, ◌++◌, take, Option, Some, None, inl, inr, refl, sym, ap, ◌∙◌}
-use Rattle.std.specs.Prelude.{filter, slice_get}
-use Rattle.std.specs.List.{list_any}
-use Rattle.std.specs.Option.{option_map}
-use Rattle.std.proofs.lemmas.Bool.{ne_eqb, cases_eq, and_left, and_right}
-use Rattle.tx_plan.specs.declared.ids.Pair.{Pair}
-use Rattle.tx_plan.specs.Plan.{Plan, Route}
-use Rattle.tx_plan.specs.Rules.{EachPair, IsPlan}
-use Rattle.tx_plan.specs.Routes.{route_list}
+use Rattle.tx_plan.proofs.Common.{◌≡◌, ◌≢◌, ℕ, zero, suc, ◌+◌, ◌==◌, Bool, true, false, cond, ◌&&◌, ◌||◌, List, [], ◌∷◌, ◌++◌, take, Option, Some, None, inl, inr, refl, sym, ap, ◌∙◌, filter, slice_get, list_any, option_map, ne_eqb, cases_eq, and_left, and_right, Pair, Plan, Route, EachPair, IsPlan, route_list}
 use Rattle.tx_plan.proofs.ByIndex.{all_at, take_next}
 use Rattle.tx_plan.proofs.ListFound.{list_found}
 

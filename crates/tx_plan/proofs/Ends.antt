@@ -1,8 +1,6 @@
 -- Where groups lead.
-use Rattle.std.proofs.Common.{◌≡◌, ℕ, ◌<◌, true, false, cond, ◌==◌, length, Option, Some, None, refl, arith}
+use Rattle.tx_plan.proofs.Common.{◌≡◌, ℕ, ◌<◌, true, false, cond, ◌==◌, length, Option, Some, None, refl, arith, Plan, Group, IsPlan, IsGroup}
 use Rattle.std.specs.Prelude.{slice_get, option_and_then}
-use Rattle.tx_plan.specs.Plan.{Plan, Group}
-use Rattle.tx_plan.specs.Rules.{IsPlan, IsGroup}
 use Rattle.tx_plan.specs.Circuits.{other_end, far_end}
 use Rattle.tx_plan.proofs.ByIndex.{all_at}
 

@@ -1,9 +1,6 @@
 -- Lists of which some members are kept, and joined lists.
 use Rattle.std.proofs.Common.{◌≡◌, ℕ, suc, ◌+◌, ◌<◌, Bool, true, false, cond, ◌||◌, List, [], ◌∷◌, ◌++◌, length, get_or, drop, Some, None, refl, sym, ap, ◌∙◌, add-one, drop-cons, append_assoc}
-use Rattle.std.proofs.lemmas.Bool.{true≢false}
-use Rattle.std.specs.Prelude.{find, filter}
-use Rattle.std.specs.List.{list_any, AllByRecursion}
-use Rattle.tx_plan.specs.Rules.{EachPair}
+use Rattle.tx_plan.proofs.Common.{true≢false, find, filter, list_any, AllByRecursion, EachPair}
 use Rattle.tx_plan.proofs.Lists.{all_map}
 
 module _ {A : Type 0} where

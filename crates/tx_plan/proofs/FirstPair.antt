@@ -1,25 +1,11 @@
 -- The least ambiguous pair is the first that is found where each text of three figures is looked up
 -- in order, and its first two.
-use Rattle.std.proofs.Common.{◌≡◌, ℕ, zero, suc, ◌+◌, ◌-◌, ◌*◌, ◌<◌, ◌/◌, ◌%◌, true, false, ◌⊎◌, ◌&&◌, nat_lt, cond, ◌==◌, List, [], ◌∷◌, take, length, get_or, Option, Some, None, refl, ap, sym, ◌∙◌, inl, inr, eqb-true, arith}
-use Rattle.std.proofs.lemmas.Bool.{false≢true, false_from_ne_true, and_parts}
-use Rattle.std.proofs.lemmas.Bool.Decides.{nat_tests}
-use Rattle.std.proofs.lemmas.List.Quantifiers.{position-Some}
+use Rattle.tx_plan.proofs.Common.{◌≡◌, ℕ, zero, suc, ◌+◌, ◌-◌, ◌*◌, ◌<◌, ◌/◌, ◌%◌, true, false, ◌⊎◌, ◌&&◌, nat_lt, cond, ◌==◌, List, [], ◌∷◌, take, length, get_or, Option, Some, None, refl, ap, sym, ◌∙◌, inl, inr, eqb-true, arith, false≢true, false_from_ne_true, and_parts, nat_tests, position-Some, bytes_eq-Decides, slice_get, bytes_eq, Ordering, Less, Equal, Greater, slice_cmp, Plan, Code, code_named, IsPlan, IsCode, is_code, is_prefix, pair_cmp, ambiguous_of, pair_at, IsAmbiguousAt}
 use Rattle.std.proofs.lemmas.Option.{same_Some, slice_get-get_or}
-use Rattle.std.proofs.lemmas.Slice.Eq.{bytes_eq-Decides}
-use Rattle.std.specs.Prelude.{slice_get}
 use Rattle.std.specs.Option.{option_zip, is_some}
-use Rattle.std.specs.Str.{bytes_eq}
 use Rattle.std.specs.Ordering.{ordering_then, is_lt, nat_cmp}
-use Rattle.std.specs.declared.cmp.Ordering.{Ordering}
-use Rattle.std.specs.declared.cmp.Ordering.TheVariants.{Less, Equal, Greater}
-use Rattle.std.specs.Cmp.Lexicographic.{slice_cmp}
 use borrow.Author.Count.{below_more}
-use Rattle.tx_plan.specs.Plan.{Plan, Code, code_named}
 use Rattle.tx_plan.specs.Numbers.{three_figures}
-use Rattle.tx_plan.specs.Rules.{IsPlan, IsCode, is_code}
-use Rattle.tx_plan.specs.Codes.{is_prefix}
-use Rattle.tx_plan.specs.Ambiguous.{pair_cmp, ambiguous_of}
-use Rattle.tx_plan.specs.inner.AmbiguousAt.{pair_at, IsAmbiguousAt}
 use Rattle.tx_plan.proofs.Ambiguity.{ambiguous-none, ambiguous-some}
 use Rattle.tx_plan.proofs.ByIndex.{all_at, index_back}
 use Rattle.tx_plan.proofs.Spelled.{IsSpelled, two, three, spelled, prefix_is_take, take_is_prefix}

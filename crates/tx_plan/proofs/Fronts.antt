@@ -1,13 +1,9 @@
 -- Texts that begin with others.
-use Rattle.std.proofs.Common.{◌≡◌, ℕ, true, false, ◌==◌, List, [], ◌∷◌, ◌++◌, take, drop, length, Option, Some, None, refl, ap, sym, ◌∙◌, eq-eqb, eqb-true}
+use Rattle.tx_plan.proofs.Common.{◌≡◌, ℕ, true, false, ◌==◌, List, [], ◌∷◌, ◌++◌, take, drop, length, Option, Some, None, refl, ap, sym, ◌∙◌, eq-eqb, eqb-true, option_map, bytes_eq, bytes_eq-Decides, after}
 use Rattle.std.specs.Prelude.{MatchOption, if◌then◌else◌}
-use Rattle.std.specs.Option.{option_map}
-use Rattle.std.specs.Str.{bytes_eq}
 use Rattle.std.proofs.lemmas.Bool.{both_ways}
 use Rattle.std.proofs.lemmas.List.{take-append-drop}
 use Rattle.std.proofs.Math.Seq.{take-append_seam}
-use Rattle.std.proofs.lemmas.Slice.Eq.{bytes_eq-Decides}
-use Rattle.tx_plan.specs.Codes.{after}
 
 after_front : (front rest : List ℕ) → after front (front ++ rest) ≡ Some rest
 after_front [] rest = refl

@@ -1,26 +1,11 @@
 -- A plan obeys the rules also with one more declaration that nothing refuses.
 use Rattle.std.proofs.Common.{◌≡◌, ◌≢◌, ℕ, ◌≤◌, ◌<◌, Bool, true, false, not, ◌&&◌, ◌||◌, ◌==◌, nat_le, nat_lt, List, [], ◌∷◌, length, map, unwrap_or, Option, Some, None, is_none, refl, sym, ap, ◌∙◌, inl, inr, arith, eq-eqb, eqb-true}
-use Rattle.std.specs.Prelude.{slice_get}
-use Rattle.std.specs.List.{list_any, AllByRecursion}
-use Rattle.std.specs.Option.{option_map_or}
-use Rattle.std.specs.Str.{bytes_eq}
-use Rattle.std.proofs.lemmas.Bool.Decides.{nat_tests}
-use Rattle.std.proofs.lemmas.List.Quantifiers.{position-Some}
-use Rattle.std.proofs.lemmas.Option.{slice_get_within}
-use Rattle.std.proofs.lemmas.List.{length-map}
+use Rattle.tx_plan.proofs.Common.{slice_get, list_any, AllByRecursion, option_map_or, bytes_eq, nat_tests, position-Some, slice_get_within, length-map, is_name, Plan, Code, Group, Route, exchange_named, code_named, group_named, home_of, is_barred, Direction, OneWay, Pair, LineRange, PlanRefusal}
 use Rattle.std.proofs.lemmas.Bool.{or_parts, and_cases, not-false, and_parts, eqb-false, not-true}
-use Rattle.tx_text.specs.Words.{is_name}
-use Rattle.tx_plan.specs.Plan.{Plan, Code, Group, Route, exchange_named, code_named, group_named, home_of}
 use Rattle.tx_plan.specs.Lines.{at_most}
 use Rattle.tx_plan.specs.Circuits.{may_seize, may_seize_row}
-use Rattle.tx_plan.specs.Routes.{is_barred}
 use Rattle.tx_plan.specs.Rules.{EachPair, IsCode, IsRange, IsGroup, IsRoute, IsBar, IsPlan, AreSeparate, is_code, is_national}
 use Rattle.tx_plan.specs.Declaring.{first_true, exchange_refusals, code_refusals, lines_refusals, group_refusals, route_refusals, bar_refusals, with_exchange, with_code, with_lines, with_group, with_route, with_bar, exchange_at, code_at, group_at, has_exchange, has_code, has_group, has_route, pair_of, pair_named, holds_at, shares, overlaps, is_not_outgoing, none_twice}
-use Rattle.tx_plan.specs.declared.ids.Direction.{Direction}
-use Rattle.tx_plan.specs.declared.ids.Direction.TheVariants.{OneWay}
-use Rattle.tx_plan.specs.declared.ids.Pair.{Pair}
-use Rattle.tx_plan.specs.declared.range.LineRange.{LineRange}
-use Rattle.tx_plan.specs.declared.refusal.PlanRefusal.{PlanRefusal}
 use Rattle.tx_plan.proofs.ByIndex.{pairs_put}
 use Rattle.tx_plan.proofs.Lists.{opposed, unlike, at_least, all_map, all_put, none_passes, apart, one_more, longer_by, slice_get_left, placed, placed_within, one_word, all_mapped, all_with}
 

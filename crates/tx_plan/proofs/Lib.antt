@@ -25,3 +25,4 @@ pub mod PairRows
 pub mod Copied
 pub mod Rerouted
 pub mod Ends
+pub mod Common

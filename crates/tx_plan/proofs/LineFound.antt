@@ -1,6 +1,5 @@
 -- A line that is found is the one that was asked for.
-use Rattle.std.proofs.Common.{◌≡◌, ℕ, Bool, true, false, ◌&&◌, if◌then◌else◌, List, unwrap_or, Option, Some, None, ap}
-use Rattle.tx_plan.specs.declared.ids.Line.{Line}
+use Rattle.tx_plan.proofs.Common.{◌≡◌, ℕ, Bool, true, false, ◌&&◌, if◌then◌else◌, List, unwrap_or, Option, Some, None, ap, Line}
 
 abbrev pub line_of : ℕ → List ℕ → Line
 line_of code number = record { code = code; national = number }

@@ -1,13 +1,6 @@
 -- The list of a route is found by its exchange and code, and keeps the rules of routes.
-use Rattle.std.proofs.Common.{◌≡◌, ◌≢◌, ◌∙◌, ◌⊎◌, ℕ, zero, suc, ◌<◌, ◌≤◌, ◌==◌, ◌&&◌, Bool, true, false, cond, eqb-true, List, [], ◌∷◌, length, Option, Some, None, refl, sym, ap, subst, inl, inr, arith}
-use Rattle.std.specs.Prelude.{find, slice_get}
-use Rattle.std.specs.Option.{option_map_or}
+use Rattle.tx_plan.proofs.Common.{◌≡◌, ◌≢◌, ◌∙◌, ◌⊎◌, ℕ, zero, suc, ◌<◌, ◌≤◌, ◌==◌, ◌&&◌, Bool, true, false, cond, eqb-true, List, [], ◌∷◌, length, Option, Some, None, refl, sym, ap, subst, inl, inr, arith, find, slice_get, option_map_or, Plan, Route, Among, may_seize, EachPair, IsPlan, IsRoute, route_list}
 use Rattle.std.proofs.lemmas.Bool.{and_from, and_left, and_right, and_parts, eq-eqb, ne_eqb, cases_eq}
-use Rattle.tx_plan.specs.Plan.{Plan, Route}
-use Rattle.tx_plan.specs.Among.{Among}
-use Rattle.tx_plan.specs.Circuits.{may_seize}
-use Rattle.tx_plan.specs.Rules.{EachPair, IsPlan, IsRoute}
-use Rattle.tx_plan.specs.Routes.{route_list}
 use Rattle.tx_plan.proofs.Among.{all_among}
 use Rattle.tx_plan.proofs.ByIndex.{all_at}
 

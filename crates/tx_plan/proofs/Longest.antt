@@ -1,11 +1,7 @@
 -- The longest code, from the last index down.
-use Rattle.std.proofs.Common.{◌≡◌, ℕ, zero, suc, ◌+◌, ◌-◌, ◌<◌, ◌≤◌, Bool, true, false, not, ◌&&◌, ◌||◌, List, [], ◌∷◌, drop, length, Option, Some, None, inl, inr, refl, ap, sym, ◌∙◌, subst, arith}
+use Rattle.tx_plan.proofs.Common.{◌≡◌, ℕ, zero, suc, ◌+◌, ◌-◌, ◌<◌, ◌≤◌, Bool, true, false, not, ◌&&◌, ◌||◌, List, [], ◌∷◌, drop, length, Option, Some, None, inl, inr, refl, ap, sym, ◌∙◌, subst, arith, enumerate_from, option_map, option_map_or, Plan, Code, figures_of, Among}
 use Rattle.std.specs.Prelude.{filter, if◌then◌else◌, is_some, is_none, nat_lt, slice_get}
-use Rattle.std.specs.List.{enumerate_from}
-use Rattle.std.specs.Option.{option_map, option_map_or}
-use Rattle.tx_plan.specs.Plan.{Plan, Code, figures_of}
 use Rattle.tx_plan.specs.Codes.{is_prefix, longer, longest}
-use Rattle.tx_plan.specs.Among.{Among}
 
 pub longest_among : (es : List (ℕ × Code)) (e : ℕ × Code) → longest es ≡ Some e → Among e es
 longest_among [] e h = let bad : ⊥ = cc in absurd bad

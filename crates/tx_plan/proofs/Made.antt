@@ -1,20 +1,8 @@
 -- What a call of the builder leaves is a plan.
 use Rattle.std.proofs.Common.{◌≡◌, ℕ, Bool, true, false, List, [], ◌∷◌, ◌++◌, map, None, Result, Ok, Err, OnOk, OnErr, refl, sym, ap, ◌∙◌, subst}
 use Rattle.std.specs.Prelude.{if◌then◌else◌, IfOk}
-use Rattle.std.specs.List.{list_any}
-use Rattle.std.specs.Map.{keys_of}
-use Rattle.std.specs.Str.{bytes_eq}
-use Rattle.std.proofs.lemmas.List.{map_push}
-use Rattle.indexmap.specs.IndexMap.{IndexMap, insert_entry}
+use Rattle.tx_plan.proofs.Common.{list_any, keys_of, bytes_eq, map_push, IndexMap, insert_entry, Direction, GroupRow, Pair, LineRange, Plan, Code, Group, IsPlan, code_of_row, group_of_row, first_true, exchange_refusals, code_refusals, lines_refusals, group_refusals, route_refusals, bar_refusals, exchange_at, code_at, group_at}
 use Rattle.indexmap.specs.IndexSet.{insert_key}
-use Rattle.tx_plan.specs.declared.ids.Direction.{Direction}
-use Rattle.tx_plan.specs.declared.ids.GroupRow.{GroupRow}
-use Rattle.tx_plan.specs.declared.ids.Pair.{Pair}
-use Rattle.tx_plan.specs.declared.range.LineRange.{LineRange}
-use Rattle.tx_plan.specs.Plan.{Plan, Code, Group}
-use Rattle.tx_plan.specs.Rules.{IsPlan}
-use Rattle.tx_plan.specs.inner.Tables.{code_of_row, group_of_row}
-use Rattle.tx_plan.specs.Declaring.{first_true, exchange_refusals, code_refusals, lines_refusals, group_refusals, route_refusals, bar_refusals, exchange_at, code_at, group_at}
 use Rattle.tx_plan.proofs.Lookups.{entry_last}
 use Rattle.tx_plan.proofs.Tables.{list_any-map}
 use Rattle.tx_plan.proofs.Growing.{kept_exchange, kept_code, kept_lines, kept_group, kept_route, kept_bar}

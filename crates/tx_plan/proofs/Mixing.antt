@@ -1,13 +1,6 @@
 -- The mixture of some new lists and bars is one.
-use Rattle.std.proofs.Common.{◌≡◌, ◌≢◌, ℕ, ◌==◌, Bool, true, false, not, ◌&&◌, List, [], inl, inr, refl, sym, ap, ◌∙◌, subst, eqb-true}
-use Rattle.std.proofs.lemmas.Bool.{true≢false, and_parts, not-true}
-use Rattle.std.specs.Prelude.{filter}
-use Rattle.std.specs.Option.{option_map_or}
-use Rattle.tx_plan.specs.declared.ids.Pair.{Pair}
+use Rattle.tx_plan.proofs.Common.{◌≡◌, ◌≢◌, ℕ, ◌==◌, Bool, true, false, not, ◌&&◌, List, [], inl, inr, refl, sym, ap, ◌∙◌, subst, eqb-true, true≢false, and_parts, not-true, filter, option_map_or, Pair, Plan, Route, IsRoute, IsBar, IsPlan, route_list, is_barred}
 use Rattle.tx_plan.proofs.Lists.{all_map}
-use Rattle.tx_plan.specs.Plan.{Plan, Route}
-use Rattle.tx_plan.specs.Rules.{IsRoute, IsBar, IsPlan}
-use Rattle.tx_plan.specs.Routes.{route_list, is_barred}
 use Rattle.tx_plan.specs.Mixtures.{SameNetwork, IsEither, IsMixture}
 use Rattle.tx_plan.specs.Mixed.{is_route_there, is_bar_there, mixed, rerouted}
 use Rattle.tx_plan.proofs.Networks.{rerouted-is}

@@ -1,18 +1,12 @@
 -- Circuits and lines: their orders are total and exact, and what their sets contain.
-use Rattle.std.specs.Prelude.{◌≡◌, ℕ, Bool, true, not, ◌||◌, ◌==◌, ◌⊎◌, List, [], ◌∷◌, ◌++◌, refl}
+use Rattle.tx_plan.proofs.Common.{◌≡◌, ℕ, Bool, true, not, ◌||◌, ◌==◌, ◌⊎◌, List, [], ◌∷◌, ◌++◌, refl, slice_cmp, nat_list_cmp_total, list_any, ap, sym, ◌∙◌, inl, inr, eqb-true, eq-eqb, Equal, same_from_decides, Line}
 use Rattle.std.specs.Ordering.{nat_cmp, eq_by_cmp, is_eq}
 use Rattle.std.specs.Cmp.{IsTotalOrder, nat_cmp_total, Equal-is}
-use Rattle.std.specs.Cmp.Lexicographic.{slice_cmp, nat_list_cmp_total}
 use Rattle.std.specs.FinSet.{FinSet, contains, insert, remove, retain, union, from_list, contains-insert, contains-remove, contains-retain, contains-union, contains-from_list, from_list_push}
-use Rattle.std.specs.List.{list_any}
-use Rattle.std.proofs.Common.{ap, sym, ◌∙◌, inl, inr, eqb-true, eq-eqb}
 use Rattle.std.proofs.lemmas.Bool.{and_parts, and_from, or_cases}
 use Rattle.std.proofs.lemmas.Map.Lookups.{exact_pairs, exact_unsigned, exact_bytes}
-use Rattle.std.specs.declared.cmp.Ordering.TheVariants.{Equal}
 use Rattle.std.proofs.lemmas.Cmp.{on_total, then_total, tied_itself}
-use Rattle.std.proofs.lemmas.Bool.Decides.{same_from_decides}
 use Rattle.tx_plan.specs.declared.ids.Circuit.{Circuit}
-use Rattle.tx_plan.specs.declared.ids.Line.{Line}
 use Rattle.tx_plan.specs.Orders.{same_circuit, same_line, circuit_cmp, line_cmp}
 pub use Rattle.tx_plan.specs.inner.LineLaws.{same_line-is, same_line-itself, same_line_equiv}
 

@@ -1,9 +1,6 @@
 -- The names of a plan's exchanges, codes and groups lead back to their indexes.
-use Rattle.std.proofs.Common.{◌≡◌, ℕ, ◌<◌, Bool, true, length, Option, Some}
-use Rattle.tx_text.specs.Words.{is_name}
+use Rattle.tx_plan.proofs.Common.{◌≡◌, ℕ, ◌<◌, Bool, true, length, Option, Some, is_name, IsPlan, IsCode, IsGroup, is_code, has_exchange, has_code, has_group}
 use Rattle.tx_plan.specs.Plan.{Plan, Code, Group, exchange_named, code_named, group_named, exchange_name, figures_of, group_name}
-use Rattle.tx_plan.specs.Rules.{IsPlan, IsCode, IsGroup, is_code}
-use Rattle.tx_plan.specs.Declaring.{has_exchange, has_code, has_group}
 use Rattle.tx_plan.proofs.ByIndex.{entry_at, all_at, index_back, index_passes}
 
 -- a word that names the entry at an index

@@ -1,10 +1,6 @@
 -- Two plans of one network.
-use Rattle.std.proofs.Common.{◌≡◌, ℕ, not, ◌&&◌, sym, ◌∙◌}
-use Rattle.tx_plan.specs.Plan.{Plan, home_of}
+use Rattle.tx_plan.proofs.Common.{◌≡◌, ℕ, not, ◌&&◌, sym, ◌∙◌, Plan, home_of, other_end, rerouted, SameNetwork}
 use Rattle.tx_plan.specs.Routes.{is_barred, is_origin, is_origin_for}
-use Rattle.tx_plan.specs.Circuits.{other_end}
-use Rattle.tx_plan.specs.Mixed.{rerouted}
-use Rattle.tx_plan.specs.Mixtures.{SameNetwork}
 
 pub same_back : (p q : Plan) → SameNetwork p q → SameNetwork q p
 same_back p q s = record { exchanges = sym s.exchanges; codes = sym s.codes; ranges = sym s.ranges; groups = sym s.groups }

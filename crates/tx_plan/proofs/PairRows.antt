@@ -1,13 +1,6 @@
 -- Pairs of an exchange and a code as keys of a map, and the routes that its entries are.
-use Rattle.std.proofs.Common.{◌≡◌, ℕ, Bool, true, false, ◌&&◌, ◌==◌, List, [], ◌∷◌, map, refl, sym, ap, ◌∙◌, eqb-true, eq-eqb}
-use Rattle.std.specs.Prelude.{find}
-use Rattle.std.specs.List.{list_any}
+use Rattle.tx_plan.proofs.Common.{◌≡◌, ℕ, Bool, true, false, ◌&&◌, ◌==◌, List, [], ◌∷◌, map, refl, sym, ap, ◌∙◌, eqb-true, eq-eqb, find, list_any, option_map_or, ArrayVec, Route, Pair, route_of_row}
 use Rattle.std.specs.Map.{lookup, keys_of}
-use Rattle.std.specs.Option.{option_map_or}
-use Rattle.arrayvec.specs.ArrayVec.{ArrayVec}
-use Rattle.tx_plan.specs.Plan.{Route}
-use Rattle.tx_plan.specs.declared.ids.Pair.{Pair}
-use Rattle.tx_plan.specs.inner.Tables.{route_of_row}
 use Rattle.tx_plan.proofs.Lists.{same_tests}
 use Rattle.tx_plan.proofs.Tables.{list_any-map}
 

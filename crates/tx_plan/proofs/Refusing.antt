@@ -1,10 +1,8 @@
 -- The first refusal of a list of tests, and of two lists, one after the other.
-use Rattle.std.proofs.Common.{◌≡◌, Bool, true, false, List, [], ◌∷◌, ◌++◌, Option, Some, None, Result, Ok, Err, inl, inr, refl, sym, ap, ◌∙◌, subst}
+use Rattle.tx_plan.proofs.Common.{◌≡◌, Bool, true, false, List, [], ◌∷◌, ◌++◌, Option, Some, None, Result, Ok, Err, inl, inr, refl, sym, ap, ◌∙◌, subst, Plan, PlanRefusal}
 use Rattle.std.specs.Prelude.{if◌then◌else◌, IfErr}
 use Rattle.std.specs.Result.{IsErrAnd}
-use Rattle.tx_plan.specs.Plan.{Plan}
 use Rattle.tx_plan.specs.Declaring.{Declares, first_true}
-use Rattle.tx_plan.specs.declared.refusal.PlanRefusal.{PlanRefusal}
 use Rattle.tx_plan.specs.declared.refusal.PlanRefusal.TheVariants.{NoMemory}
 
 module _ {X : Type 0} where

@@ -1,9 +1,5 @@
 -- A plan obeys the rules also with other routes that obey them.
-use Rattle.std.proofs.Common.{◌≡◌, ◌≢◌, List}
-use Rattle.std.specs.List.{AllByRecursion}
-use Rattle.tx_plan.specs.Plan.{Plan, Route}
-use Rattle.tx_plan.specs.Rules.{EachPair, IsCode, IsRange, IsGroup, IsRoute, IsBar, IsPlan}
-use Rattle.tx_plan.specs.Mixed.{rerouted}
+use Rattle.tx_plan.proofs.Common.{◌≡◌, ◌≢◌, List, AllByRecursion, Plan, Route, EachPair, IsCode, IsRange, IsGroup, IsRoute, IsBar, IsPlan, rerouted}
 use Rattle.tx_plan.proofs.Lists.{all_map}
 
 -- routes that obey the rules of the plan

@@ -1,14 +1,8 @@
 -- What is seen of a route's words.
-use Rattle.std.proofs.Common.{◌≡◌, ℕ, ◌<◌, ◌≤◌, nat_lt, Bool, true, false, not, ◌&&◌, ◌||◌, ◌==◌, List, [], ◌∷◌, ◌++◌, length, map, refl, sym, ap, ◌∙◌, eqb-true, eq-eqb, arith}
+use Rattle.tx_plan.proofs.Common.{◌≡◌, ℕ, ◌<◌, ◌≤◌, nat_lt, Bool, true, false, not, ◌&&◌, ◌||◌, ◌==◌, List, [], ◌∷◌, ◌++◌, length, map, refl, sym, ap, ◌∙◌, eqb-true, eq-eqb, arith, list_any, bytes_eq, bytes_eq-Decides, Plan, Group, has_group, group_at, none_twice, OneWay}
 use Rattle.std.proofs.lemmas.Bool.{le-ltb, or_parts, not-false}
 use Rattle.std.proofs.lemmas.List.{append-nil, length-map}
-use Rattle.std.specs.List.{list_any}
-use Rattle.std.specs.Str.{bytes_eq}
-use Rattle.std.proofs.lemmas.Slice.Eq.{bytes_eq-Decides}
-use Rattle.tx_plan.specs.Plan.{Plan, Group}
-use Rattle.tx_plan.specs.Declaring.{has_group, group_at, none_twice}
 use Rattle.tx_plan.specs.inner.Distinct.{differ}
-use Rattle.tx_plan.specs.declared.ids.Direction.TheVariants.{OneWay}
 use Rattle.tx_plan.proofs.Lists.{one_word, below, same_tests}
 
 -- two declared names are one exactly where they name one group

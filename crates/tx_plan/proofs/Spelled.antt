@@ -1,10 +1,5 @@
 -- The figures of codes, and texts that begin others.
-use Rattle.std.proofs.Common.{◌≡◌, ℕ, zero, suc, ◌≤◌, ◌==◌, Bool, true, false, ◌&&◌, List, [], ◌∷◌, take, length, Option, None, refl, ap, ◌∙◌, eqb-true, eq-eqb, is_some, arith}
-use Rattle.std.proofs.lemmas.Bool.{false≢true, and_parts}
-use Rattle.std.specs.Prelude.{nat_le, if◌then◌else◌}
-use Rattle.tx_text.specs.Words.{is_figure}
-use Rattle.tx_plan.specs.Codes.{after, is_prefix}
-use Rattle.tx_plan.specs.Rules.{is_code}
+use Rattle.tx_plan.proofs.Common.{◌≡◌, ℕ, zero, suc, ◌≤◌, ◌==◌, Bool, true, false, ◌&&◌, List, [], ◌∷◌, take, length, Option, None, refl, ap, ◌∙◌, eqb-true, eq-eqb, is_some, arith, false≢true, and_parts, nat_le, if◌then◌else◌, is_figure, after, is_prefix, is_code}
 use Rattle.tx_plan.proofs.Absent.{short_code}
 use Rattle.tx_plan.proofs.Lists.{at_least}
 

@@ -1,12 +1,6 @@
 -- Tests and indexes of a table's rows are those of the plan's entries.
-use Rattle.std.proofs.Common.{◌≡◌, ℕ, Bool, ◌||◌, List, [], ◌∷◌, map, Option, Some, None, refl, sym, ap, ◌∙◌}
-use Rattle.std.specs.Prelude.{position, slice_get}
-use Rattle.std.specs.List.{list_any, position_or_len}
-use Rattle.std.specs.Option.{option_map, option_map_or}
-use Rattle.std.proofs.lemmas.List.{length-map}
+use Rattle.tx_plan.proofs.Common.{◌≡◌, ℕ, Bool, ◌||◌, List, [], ◌∷◌, map, Option, Some, None, refl, sym, ap, ◌∙◌, position, slice_get, list_any, position_or_len, option_map, option_map_or, length-map, GroupRow, group_of_row, row_of}
 use Rattle.std.proofs.lemmas.Option.{slice_get-map}
-use Rattle.tx_plan.specs.declared.ids.GroupRow.{GroupRow}
-use Rattle.tx_plan.specs.inner.Tables.{group_of_row, row_of}
 
 pub list_any-map : {A B : Type 0} (t : B → Bool) (f : A → B) (xs : List A) → list_any t (map f xs) ≡ list_any (λ x. t (f x)) xs
 list_any-map t f [] = refl

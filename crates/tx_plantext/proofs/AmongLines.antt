@@ -1,8 +1,5 @@
 -- Lines that are passed over one after another, and what stands among them.
-use Rattle.std.proofs.Common.{◌≡◌, ℕ, Bool, true, List, [], ◌∷◌, sym, subst}
-use Rattle.std.specs.Prelude.{filter}
-use Rattle.std.specs.Str.{bytes_eq}
-use Rattle.std.proofs.lemmas.Slice.Eq.{bytes_eq-Decides}
+use Rattle.tx_plantext.proofs.Common.{◌≡◌, ℕ, Bool, true, List, [], ◌∷◌, sym, subst, filter, bytes_eq, bytes_eq-Decides}
 use Rattle.tx_plantext.specs.Revised.{StandAmong, none, this, later}
 
 -- what stands among some lines stands among all

@@ -1,6 +1,5 @@
 -- A line of another number of words declares nothing.
-use Rattle.std.proofs.Common.{◌≡◌, ◌≢◌, ℕ, List, [], ◌∷◌, length, refl}
-use Rattle.tx_plan.specs.Plan.{Plan}
+use Rattle.tx_plantext.proofs.Common.{◌≡◌, ◌≢◌, ℕ, List, [], ◌∷◌, length, refl, Plan}
 use Rattle.tx_plantext.specs.PlanText.{wrong_count, exchange_line, code_line, lines_line, group_line, bar_line}
 
 pub exchange_count : (p : Plan) (ws : List (List ℕ)) → length ws ≢ 1 → exchange_line p ws ≡ wrong_count

@@ -1,9 +1,7 @@
 -- What a call of the builder declares of a line.
 use Rattle.std.proofs.Common.{◌≡◌, Bool, true, false, not, ◌&&◌, List, [], ◌∷◌, Option, Some, Result, Ok, Err, IfErr, refl, ap, sym, inl, inr}
-use Rattle.std.proofs.lemmas.Bool.{and_parts}
+use Rattle.tx_plantext.proofs.Common.{and_parts, PlanRefusal, Plan}
 use Rattle.tx_text.specs.Said.{Declared, DeclaredBy}
-use Rattle.tx_plan.specs.declared.refusal.PlanRefusal.{PlanRefusal}
-use Rattle.tx_plan.specs.Plan.{Plan}
 use Rattle.tx_plan.specs.Declaring.{Declares, first_true}
 use Rattle.tx_plantext.specs.declared.fault.PlanWord.{PlanWord}
 use Rattle.tx_plantext.specs.declared.fault.PlanWord.TheVariants.{Refused}

@@ -1,8 +1,5 @@
 -- What is known of the members of a list, and of those before one of them.
-use Rattle.std.proofs.Common.{◌≡◌, ◌<◌, Bool, false, List, [], ◌∷◌, ◌++◌, length, refl, arith}
-use Rattle.std.specs.List.{AllByRecursion, list_any}
-use Rattle.std.proofs.lemmas.Bool.{or_from}
-use Rattle.tx_plan.specs.Rules.{EachPair}
+use Rattle.tx_plantext.proofs.Common.{◌≡◌, ◌<◌, Bool, false, List, [], ◌∷◌, ◌++◌, length, refl, arith, AllByRecursion, list_any, or_from, EachPair}
 
 module _ {A : Type 0} where
   pub all_weaker : (P Q : A → Type 0) → ((x : A) → P x → Q x) → (xs : List A) → AllByRecursion P xs → AllByRecursion Q xs

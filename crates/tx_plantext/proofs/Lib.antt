@@ -10,3 +10,4 @@ mod Alike
 mod AmongLines
 mod Cuts
 mod SamePlans
+pub mod Common

@@ -1,12 +1,6 @@
 -- Lines that declare one list of a plan.
-use Rattle.std.proofs.Common.{◌≡◌, ℕ, ◌<◌, Bool, false, List, [], ◌∷◌, ◌++◌, map, length, Option, None, Result, Ok, refl, sym, ◌∙◌, subst, append_assoc, append-nil}
-use Rattle.std.specs.List.{AllByRecursion}
+use Rattle.tx_plantext.proofs.Common.{◌≡◌, ℕ, ◌<◌, Bool, false, List, [], ◌∷◌, ◌++◌, map, length, Option, None, Result, Ok, refl, sym, ◌∙◌, subst, append_assoc, append-nil, AllByRecursion, IsWrittenLine, LeadsTo, PlanRefusal, Plan, first_true, unless}
 use Rattle.tx_text.specs.Frame.{is_end}
-use Rattle.tx_text.specs.inner.Written.{IsWrittenLine, LeadsTo}
-use Rattle.tx_plan.specs.declared.refusal.PlanRefusal.{PlanRefusal}
-use Rattle.tx_plan.specs.Plan.{Plan}
-use Rattle.tx_plan.specs.Declaring.{first_true}
-use Rattle.tx_plantext.specs.PlanText.{unless}
 
 -- no test applies
 pub none_true : (ts : List (Bool × PlanRefusal)) → AllByRecursion (λ t. t.0 ≡ false) ts → first_true ts ≡ None

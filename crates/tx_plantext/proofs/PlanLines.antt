@@ -1,12 +1,8 @@
 -- The lines of exchanges, codes, ranges and groups declare them.
 use Rattle.std.proofs.Common.{◌≡◌, ◌≢◌, ◌⊎◌, ℕ, ◌<◌, ◌==◌, Bool, true, false, ◌&&◌, List, [], ◌∷◌, ◌++◌, length, Option, Some, unwrap_or, codes, refl, sym, ap, ◌∙◌, subst, arith, inl, inr}
-use Rattle.std.specs.List.{AllByRecursion, list_any}
-use Rattle.std.specs.Fmt.{decimal}
-use Rattle.std.specs.Str.{bytes_eq}
+use Rattle.tx_plantext.proofs.Common.{AllByRecursion, list_any, decimal, bytes_eq, is_name, Direction, exchange_words, code_words, range_words, group_words, direction_word, bytes_apart, exchange_back, exchange_is_name, code_back, figures_are_code}
 use Rattle.std.proofs.lemmas.Bool.{and_from, and_left, and_right, or_from, not_from_true, le-leb, lt-leb, ne_eqb, eq-eqb, cases_eq}
-use Rattle.tx_text.specs.Words.{is_name}
 use Rattle.tx_text.proofs.WrittenWords.{IsShortWord, name_word, figures_word, number_word, number_back, line_of_short, fixed_word}
-use Rattle.tx_plan.specs.declared.ids.Direction.{Direction}
 use Rattle.tx_plan.specs.declared.ids.Direction.TheVariants.{OneWay, BothWay}
 use Rattle.tx_plan.specs.declared.range.LineRange.{LineRange}
 use Rattle.tx_plan.specs.Plan.{Plan, Code, Group, exchange_named, code_named, exchange_name, figures_of}
@@ -14,11 +10,8 @@ use Rattle.tx_plan.specs.Lines.{at_most}
 use Rattle.tx_plan.specs.Rules.{IsPlan, EachPair, IsCode, IsRange, IsGroup, AreSeparate}
 use Rattle.tx_plan.specs.Declaring.{exchange_refusals, code_refusals, lines_refusals, group_refusals, has_exchange, has_code, has_group, shares, overlaps, is_ordered}
 use Rattle.tx_plantext.specs.PlanText.{declare, direction_of, count_of, group_by}
-use Rattle.tx_plantext.specs.PlanWritten.{exchange_words, code_words, range_words, group_words, direction_word}
-use Rattle.tx_plan.proofs.ByIndex.{bytes_apart}
 use Rattle.tx_plantext.proofs.Indexes.{all_between, apart_front, all_weaker, none_passes, length_front}
 use Rattle.tx_plantext.proofs.ListLines.{IsLineOf, none_true, unless-none}
-use Rattle.tx_plan.proofs.NamesBack.{exchange_back, exchange_is_name, code_back, figures_are_code}
 
 -- the word for a direction says it
 pub direction_back : (d : Direction) → direction_of (direction_word d) ≡ Some d

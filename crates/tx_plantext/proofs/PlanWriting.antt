@@ -1,22 +1,12 @@
 -- A plan text, part by part.
-use Rattle.std.proofs.Common.{◌≡◌, ℕ, zero, suc, ◌+◌, ◌<◌, ◌≤◌, Bool, nat_lt, List, [], ◌∷◌, ◌++◌, map, length, take, codes, Option, None, Some, refl, sym, ap, ◌∙◌, append_assoc, append-nil, add-one, inl, inr}
+use Rattle.tx_plantext.proofs.Common.{◌≡◌, ℕ, zero, suc, ◌+◌, ◌<◌, ◌≤◌, Bool, nat_lt, List, [], ◌∷◌, ◌++◌, map, length, take, codes, Option, None, Some, refl, sym, ap, ◌∙◌, append_assoc, append-nil, add-one, inl, inr, option_map_or, option_map, decimal, take_all, Puts, puts_is, puts_then, Direction, Plan, Route, exchange_name, figures_of, group_name, home_of, route_list, IsPlan, entry_at}
 use Rattle.std.specs.Prelude.{if◌then◌else◌}
 use Rattle.std.specs.List.{flat_map, slice_get}
-use Rattle.std.specs.Option.{option_map_or, option_map}
-use Rattle.std.specs.Fmt.{decimal}
 use Rattle.std.proofs.lemmas.Bool.{cases_lt, lt-ltb, le-ltb}
 use Rattle.std.proofs.lemmas.Option.{slice_get_past}
-use Rattle.std.proofs.lemmas.List.{take_all}
-use Rattle.tx_text.specs.Puts.{Puts}
-use Rattle.tx_text.proofs.Putting.{puts_is, puts_then}
 use Rattle.tx_text.specs.Written.{joined, line_written}
-use Rattle.tx_plan.specs.declared.ids.Direction.{Direction}
-use Rattle.tx_plan.specs.Plan.{Plan, Route, exchange_name, figures_of, group_name, home_of}
 use Rattle.tx_plan.specs.Circuits.{direction_of, count_of, ends_of}
-use Rattle.tx_plan.specs.Routes.{route_list}
-use Rattle.tx_plan.specs.Rules.{IsPlan}
 use Rattle.tx_plantext.specs.PlanWritten.{plan_written, has_bars, head_of, exchange_words, code_words, range_words, direction_word, group_words, route_words, bar_words, lines_of_list, line_at}
-use Rattle.tx_plan.proofs.ByIndex.{entry_at}
 use Rattle.tx_plan.proofs.ListFound.{list_found}
 
 -- ---- the lines of a list

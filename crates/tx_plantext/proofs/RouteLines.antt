@@ -1,20 +1,12 @@
 -- The lines of routes and bars declare them.
-use Rattle.std.proofs.Common.{◌≡◌, ◌≢◌, ℕ, zero, suc, ◌<◌, ◌==◌, true, false, not, ◌&&◌, List, [], ◌∷◌, ◌++◌, map, length, Some, None, codes, refl, sym, ap, subst, arith, inl, inr}
+use Rattle.tx_plantext.proofs.Common.{◌≡◌, ◌≢◌, ℕ, zero, suc, ◌<◌, ◌==◌, true, false, not, ◌&&◌, List, [], ◌∷◌, ◌++◌, map, length, Some, None, codes, refl, sym, ap, subst, arith, inl, inr, option_map_or, bytes_eq, is_name, IsShortWord, name_word, figures_word, line_of_short, fixed_word, Pair, is_barred, route_words, bar_words, bytes_apart}
 use Rattle.std.specs.List.{AllByRecursion, list_any, slice_get}
-use Rattle.std.specs.Option.{option_map_or}
-use Rattle.std.specs.Str.{bytes_eq}
 use Rattle.std.proofs.lemmas.Bool.{and_from, and_left, and_right, or_from, not_from_true, not_from_false, le-ltb, ne_eqb, cases_eq}
-use Rattle.tx_text.specs.Words.{is_name}
-use Rattle.tx_text.proofs.WrittenWords.{IsShortWord, name_word, figures_word, line_of_short, fixed_word}
-use Rattle.tx_plan.specs.declared.ids.Pair.{Pair}
 use Rattle.tx_plan.specs.Plan.{Plan, Group, Route, group_named, exchange_name, figures_of, group_name, home_of}
 use Rattle.tx_plan.specs.Circuits.{may_seize, may_seize_row}
-use Rattle.tx_plan.specs.Routes.{is_barred}
 use Rattle.tx_plan.specs.Rules.{IsPlan, EachPair, IsRoute, IsBar}
 use Rattle.tx_plan.specs.Declaring.{first_true, route_refusals, bar_refusals, has_group, has_route, pair_named, is_not_outgoing, none_twice, group_at, with_route, with_bar}
 use Rattle.tx_plantext.specs.PlanText.{declare}
-use Rattle.tx_plantext.specs.PlanWritten.{route_words, bar_words}
-use Rattle.tx_plan.proofs.ByIndex.{bytes_apart}
 use Rattle.tx_plantext.proofs.Indexes.{all_between, apart_front, all_weaker, none_passes}
 use Rattle.tx_plantext.proofs.ListLines.{IsLineOf, none_true, unless-none}
 use Rattle.tx_plan.proofs.NamesBack.{exchange_back, exchange_is_name, code_back, figures_are_code, group_back, group_is_name}

@@ -1,13 +1,6 @@
 -- Two plans of which each has the lists, or the bars, of the other.
 use Rattle.std.proofs.Common.{◌≡◌, ◌∙◌, ℕ, ◌+◌, ◌≤◌, Bool, true, false, ◌==◌, ◌&&◌, ◌||◌, eqb-true, List, [], ◌∷◌, length, take, Option, Some, None, refl, sym, subst, inl, inr}
-use Rattle.std.specs.Prelude.{slice_get}
-use Rattle.std.specs.Option.{option_map}
-use Rattle.std.specs.List.{AllByRecursion, list_any}
-use Rattle.std.proofs.lemmas.Bool.{and_parts}
-use Rattle.std.proofs.lemmas.List.{take_all}
-use Rattle.tx_plan.specs.declared.ids.Pair.{Pair}
-use Rattle.tx_plan.specs.Plan.{Plan, Route}
-use Rattle.tx_plan.specs.Routes.{route_list, is_barred}
+use Rattle.tx_plantext.proofs.Common.{slice_get, option_map, AllByRecursion, list_any, and_parts, take_all, Pair, Plan, Route, route_list, is_barred}
 use Rattle.tx_plan.proofs.Among.{all_among}
 use Rattle.tx_plan.proofs.ByIndex.{take_next}
 use Rattle.tx_plan.proofs.Lists.{all_put, same_tests}

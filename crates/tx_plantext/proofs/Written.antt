@@ -1,13 +1,8 @@
 -- Plan texts that were written read back.
-use Rattle.std.proofs.Common.{◌≡◌, ℕ, ◌<◌, Bool, true, false, List, [], ◌∷◌, ◌++◌, map, length, Some, codes, nat_lt, refl, ap, subst, append-nil, arith}
-use Rattle.std.proofs.lemmas.Bool.{lt-ltb}
+use Rattle.tx_plantext.proofs.Common.{◌≡◌, ℕ, ◌<◌, Bool, true, false, List, [], ◌∷◌, ◌++◌, map, length, Some, codes, nat_lt, refl, ap, subst, append-nil, arith, lt-ltb, IsWrittenLine, LeadsTo, line_of_short, fixed_word, Pair, IsPlan}
 use Rattle.tx_text.specs.Frame.{header_of}
-use Rattle.tx_text.specs.inner.Written.{IsWrittenLine, LeadsTo}
 use Rattle.tx_text.proofs.ReadBack.{reads_back}
-use Rattle.tx_text.proofs.WrittenWords.{line_of_short, fixed_word}
-use Rattle.tx_plan.specs.declared.ids.Pair.{Pair}
 use Rattle.tx_plan.specs.Plan.{Plan, no_plan}
-use Rattle.tx_plan.specs.Rules.{IsPlan}
 use Rattle.tx_plantext.specs.PlanText.{declare}
 use Rattle.tx_plantext.specs.PlanWritten.{plan_lines, head_of, version_of, has_bars, exchange_words, code_words, range_words, group_words, route_words, bar_words, ReadsBack}
 use Rattle.tx_plantext.proofs.ListLines.{list_leads}

@@ -1,17 +1,8 @@
 -- The short walks of one code, as they are added to the findings.
-use Rattle.std.proofs.Common.{◌≡◌, ℕ, ◌+◌, ◌<◌, true, false, eqb, eqb-true, List, [], ◌∷◌, ◌++◌, map, inl, inr, Option, refl, sym, ap, subst, ◌∙◌, arith, append_assoc, append-nil}
-use Rattle.std.proofs.lemmas.Bool.{eqb-false}
+use Rattle.tx_rank.proofs.Common.{◌≡◌, ℕ, ◌+◌, ◌<◌, true, false, eqb, eqb-true, List, [], ◌∷◌, ◌++◌, map, inl, inr, Option, refl, sym, ap, subst, ◌∙◌, arith, append_assoc, append-nil, eqb-false, Among, among_left, among_right, among_cases, among_all, Finding, Short, Net, Walk, end_of, IsWalk, IsShort, end_at, AreSettled, IsShortAt, AddsShorts, AddsBelow}
 use Rattle.std.proofs.lemmas.List.{map-append}
 use Rattle.tx_plan.specs.Rules.{EachPair}
-use Rattle.tx_plan.specs.Among.{Among}
-use Rattle.tx_plan.proofs.Among.{among_left, among_right, among_cases, among_all}
 use Rattle.tx_plan.proofs.ByIndex.{pairs_put}
-use Rattle.tx_rank.specs.declared.finding.Finding.{Finding}
-use Rattle.tx_rank.specs.declared.finding.Finding.TheVariants.{Short}
-use Rattle.tx_rank.specs.Walks.{Net, Walk, end_of, IsWalk, IsShort}
-use Rattle.tx_rank.specs.Findings.{end_at}
-use Rattle.tx_rank.specs.inner.Marks.{AreSettled}
-use Rattle.tx_rank.specs.inner.Judged.{IsShortAt, AddsShorts, AddsBelow}
 use Rattle.tx_rank.proofs.Walked.{short_true, short_at}
 
 module _ {A : Type 0} (n : Net) (code spare : ℕ) where

@@ -1,15 +1,6 @@
 -- Bounds of what holds together, and those that ranks by height show.
 use Rattle.std.proofs.Common.{◌≡◌, ◌≢◌, ℕ, zero, suc, ◌+◌, ◌<◌, ◌≤◌, inl, inr, max, min, true, false, eqb, eqb-true, List, [], ◌∷◌, ◌++◌, length, Option, Some, refl, sym, ap, subst, ◌∙◌, arith, length-append}
-use Rattle.std.specs.Prelude.{◌↔◌}
-use Rattle.std.proofs.lemmas.Bool.{cases_lt, eqb-false}
-use Rattle.tx_plan.specs.Plan.{Plan}
-use Rattle.tx_plan.specs.Certified.{Ranks, IsCertified}
-use Rattle.tx_rank.specs.declared.bounds.Bounds.{Bounds}
-use Rattle.tx_rank.specs.declared.finding.Finding.TheVariants.{Short, Long}
-use Rattle.tx_rank.specs.Walks.{Net, net_of, Goes, end_of, IsShort, IsLong}
-use Rattle.tx_rank.specs.Heights.{RanksByHeight, AreHeights}
-use Rattle.tx_rank.specs.Nets.{Certifies}
-use Rattle.tx_rank.specs.Grades.{AreBounds, NothingIsWrong, Suits}
+use Rattle.tx_rank.proofs.Common.{◌↔◌, cases_lt, eqb-false, Plan, Ranks, IsCertified, Bounds, Short, Long, Net, net_of, Goes, end_of, IsShort, IsLong, RanksByHeight, AreHeights, Certifies, AreBounds, NothingIsWrong, Suits}
 use Rattle.tx_rank.proofs.Ranks.{Falls, all_down, once_down}
 use Rattle.tx_rank.proofs.Certifying.{certifies_code}
 

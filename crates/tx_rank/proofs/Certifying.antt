@@ -1,22 +1,11 @@
 -- From codes to plans: what certifies each code certifies the plan, and a certified plan has nothing wrong.
 use Rattle.std.proofs.Common.{◌≡◌, ℕ, ◌<◌, ◌≤◌, true, false, ltb, nat_lt, List, length, Option, Some, None, refl, sym, ap, subst, ◌∙◌, arith}
-use Rattle.std.specs.Prelude.{slice_get}
+use Rattle.tx_rank.proofs.Common.{slice_get, take_all, ltb-false, Plan, Code, route_list, ambiguous_of, Finding, Ambiguous, Loop, Short, Long, net_of, Certifies, IsTrueOf, all_among, among_all}
 use Rattle.std.proofs.lemmas.Bool.{and_parts, and_from, ltb-true}
-use Rattle.std.proofs.lemmas.List.{take_all}
-use borrow.Author.Tests.{ltb-false}
-use Rattle.tx_plan.specs.Plan.{Plan, Code}
 use Rattle.tx_plan.specs.Codes.{is_prefix}
-use Rattle.tx_plan.specs.Routes.{route_list}
-use Rattle.tx_plan.specs.Ambiguous.{ambiguous_of}
 use Rattle.tx_plan.specs.Certified.{Ranks, IsBelow, LeadsLower, IsCertified}
 use Rattle.tx_plan.proofs.Ambiguity.{ambiguous-none, none-ambiguous}
 use Rattle.tx_plan.proofs.Spelled.{prefix_is_take}
-use Rattle.tx_rank.specs.declared.finding.Finding.{Finding}
-use Rattle.tx_rank.specs.declared.finding.Finding.TheVariants.{Ambiguous, Loop, Short, Long}
-use Rattle.tx_rank.specs.Walks.{net_of}
-use Rattle.tx_rank.specs.Nets.{Certifies}
-use Rattle.tx_rank.specs.Findings.{IsTrueOf}
-use Rattle.tx_plan.proofs.Among.{all_among, among_all}
 use Rattle.tx_rank.proofs.Walked.{certified_no_loop, certified_no_short, certified_no_long}
 
 pub below_rank : (o : Option ℕ) (r : ℕ) → IsBelow o r → (m : ℕ) × (o ≡ Some m) × (m < r)

@@ -1,21 +1,7 @@
 -- What the grades of codes come to together.
-use Rattle.std.proofs.Common.{◌≡◌, ◌≢◌, ℕ, zero, suc, ◌+◌, ◌<◌, List, [], ◌∷◌, ◌++◌, length, inl, inr, Option, Some, None, refl, sym, ap, subst, ◌∙◌, arith, length-append}
+use Rattle.tx_rank.proofs.Common.{◌≡◌, ◌≢◌, ℕ, zero, suc, ◌+◌, ◌<◌, List, [], ◌∷◌, ◌++◌, length, inl, inr, Option, Some, None, refl, sym, ap, subst, ◌∙◌, arith, length-append, AllByRecursion, cases_lt, Plan, IsPlan, ambiguous_of, Ranks, IsCertified, Certificate, ranks_of, Bounds, Finding, net_of, IsTrueOf, AreFindingsOfCode, looped, straight, Certifies, IsRankedBelow}
 use Rattle.std.specs.Prelude.{◌↔◌, slice_get, IfSome, IfNone}
-use Rattle.std.specs.List.{AllByRecursion}
-use Rattle.std.proofs.lemmas.Bool.{cases_lt}
-use Rattle.tx_plan.specs.Plan.{Plan}
-use Rattle.tx_plan.specs.Rules.{IsPlan}
-use Rattle.tx_plan.specs.Ambiguous.{ambiguous_of}
-use Rattle.tx_plan.specs.Certified.{Ranks, IsCertified}
-use Rattle.tx_cert.specs.Certificate.{Certificate, ranks_of}
-use Rattle.tx_rank.specs.declared.bounds.Bounds.{Bounds}
-use Rattle.tx_rank.specs.declared.finding.Finding.{Finding}
-use Rattle.tx_rank.specs.Walks.{net_of}
-use Rattle.tx_rank.specs.Findings.{IsTrueOf, AreFindingsOfCode}
-use Rattle.tx_rank.specs.Findings.AreFindingsOfCode.{looped, straight}
-use Rattle.tx_rank.specs.Nets.{Certifies}
 use Rattle.tx_rank.specs.Grades.{IsGrade, CanBeCertified, CanBeCertifiedFor, NothingIsWrong, AreCodeGrades, AreUnmended}
-use Rattle.tx_rank.specs.inner.Judged.{IsRankedBelow}
 use Rattle.tx_rank.specs.inner.Together.{together}
 use Rattle.tx_rank.proofs.Origins.{at_push}
 use Rattle.tx_rank.proofs.Certifying.{certifies_code, certified_codes, distinct_none, none_distinct, none_true}

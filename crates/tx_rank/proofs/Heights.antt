@@ -1,10 +1,6 @@
 -- Ranks of a pass after which each ranked exchange but the home lists a group are heights.
-use Rattle.std.proofs.Common.{◌≡◌, ◌≢◌, ℕ, zero, suc, true, false, eqb, List, [], ◌∷◌, length, Option, Some, refl, ap, arith, eqb-true}
-use Rattle.std.proofs.lemmas.Bool.{eqb-false}
-use Rattle.tx_plan.specs.Among.{Among}
-use Rattle.tx_rank.specs.Walks.{Net, Goes, end_of}
+use Rattle.tx_rank.proofs.Common.{◌≡◌, ◌≢◌, ℕ, zero, suc, true, false, eqb, List, [], ◌∷◌, length, Option, Some, refl, ap, arith, eqb-true, eqb-false, Among, Net, Goes, end_of, AreSettled}
 use Rattle.tx_rank.specs.Heights.{IsHeight, RanksByHeight}
-use Rattle.tx_rank.specs.inner.Marks.{AreSettled}
 use Rattle.tx_rank.proofs.Ranks.{all_down, falling, reached_ranked, one_lower}
 
 module _ (n : Net) (ranks : ℕ → Option ℕ) (done : AreSettled n ranks) where

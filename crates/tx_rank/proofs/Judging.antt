@@ -1,15 +1,5 @@
 -- What the ranking of one code adds to the findings, in each case.
-use Rattle.std.proofs.Common.{◌≡◌, ℕ, List, [], ◌∷◌, ◌++◌, map, Option, Some, None, refl, sym, ap, ◌∙◌, append_assoc, append-nil}
-use Rattle.tx_plan.specs.Among.{Among}
-use Rattle.tx_rank.specs.declared.finding.Finding.{Finding}
-use Rattle.tx_rank.specs.declared.finding.Finding.TheVariants.{Loop, Short, Long}
-use Rattle.tx_rank.specs.Walks.{Net, Walk, end_of, IsLoop, IsShort, IsLong}
-use Rattle.tx_rank.specs.Nets.{IsNet}
-use Rattle.tx_rank.specs.Findings.{end_at}
-use Rattle.tx_rank.specs.Findings.AreFindingsOfCode.{looped, straight}
-use Rattle.tx_rank.specs.inner.Marks.{AreSettled}
-use Rattle.tx_rank.specs.Judged.{IsJudged}
-use Rattle.tx_rank.specs.inner.Judged.{LowOrigins, AddsShorts}
+use Rattle.tx_rank.proofs.Common.{◌≡◌, ℕ, List, [], ◌∷◌, ◌++◌, map, Option, Some, None, refl, sym, ap, ◌∙◌, append_assoc, append-nil, Among, Finding, Loop, Short, Long, Net, Walk, end_of, IsLoop, IsShort, IsLong, IsNet, end_at, looped, straight, AreSettled, IsJudged, LowOrigins, AddsShorts}
 use Rattle.tx_rank.proofs.Walked.{loops_none, longs_none, certifies, heights}
 
 abbrev shorts : {A : Type 0} → ℕ → List Walk → List (Finding A)

@@ -20,3 +20,4 @@ pub mod Bounding
 pub mod Unmended
 pub mod Graded
 pub mod Marking
+pub mod Common

@@ -1,15 +1,7 @@
 -- Links, as they are made.
-use Rattle.std.proofs.Common.{◌≡◌, ◌≢◌, ℕ, zero, suc, ◌+◌, ◌<◌, true, false, eqb, eqb-true, List, [], ◌∷◌, ◌++◌, length, take, get_or, ◌⊎◌, inl, inr, Option, Some, None, refl, sym, ap, subst, ◌∙◌, arith}
-use Rattle.std.specs.Prelude.{slice_get, replicate}
-use Rattle.std.proofs.Math.ListN.{set, length-set}
-use Rattle.std.proofs.lemmas.Bool.{eqb-false}
-use Rattle.std.proofs.lemmas.Option.{slice_get-get_or}
-use Rattle.tx_plan.specs.Among.{Among}
-use Rattle.tx_plan.proofs.Among.{among_cases}
-use Rattle.tx_rank.specs.Walks.{Net, Goes, end_of}
+use Rattle.tx_rank.proofs.Common.{◌≡◌, ◌≢◌, ℕ, zero, suc, ◌+◌, ◌<◌, true, false, eqb, eqb-true, List, [], ◌∷◌, ◌++◌, length, take, get_or, ◌⊎◌, inl, inr, Option, Some, None, refl, sym, ap, subst, ◌∙◌, arith, slice_get, replicate, set, length-set, eqb-false, slice_get-get_or, Among, among_cases, Net, Goes, end_of, take_next}
 use Rattle.tx_rank.specs.inner.Links.{IsLink, AreLinks, LinksAll, StaysLinked, LinksBelow}
 use Rattle.tx_rank.proofs.Looks.{among_at}
-use Rattle.tx_plan.proofs.ByIndex.{take_next}
 use Rattle.tx_rank.proofs.Turns.{set_same, set_other}
 
 pub record IsLinking (n : Net) (ranks : ℕ → Option ℕ) (p : ℕ) (groups : List ℕ) (old links : List (Option (ℕ × ℕ))) : Type 0 where

@@ -1,23 +1,9 @@
 -- The findings of a plan, code after code.
-use Rattle.std.proofs.Common.{◌≡◌, ◌≢◌, ℕ, zero, suc, ◌+◌, ◌<◌, ◌≤◌, true, false, eqb, eqb-true, List, [], ◌∷◌, ◌++◌, length, map, inl, inr, Option, Some, None, refl, sym, ap, subst, ◌∙◌, arith, append_assoc, append-nil}
-use Rattle.std.proofs.lemmas.Bool.{eqb-false}
-use Rattle.std.specs.List.{AllByRecursion}
-use Rattle.tx_plan.specs.Plan.{Plan}
-use Rattle.tx_plan.specs.Ambiguous.{ambiguous_of}
-use Rattle.tx_plan.specs.Certified.{IsCertified}
-use Rattle.tx_plan.specs.Among.{Among}
+use Rattle.tx_rank.proofs.Common.{◌≡◌, ◌≢◌, ℕ, zero, suc, ◌+◌, ◌<◌, ◌≤◌, true, false, eqb, eqb-true, List, [], ◌∷◌, ◌++◌, length, map, inl, inr, Option, Some, None, refl, sym, ap, subst, ◌∙◌, arith, append_assoc, append-nil, eqb-false, AllByRecursion, Plan, ambiguous_of, IsCertified, Among, Finding, Short, Walk, net_of, IsShort, RanksByHeight, AreHeights, looped, straight, Certifies, IsJudged, IsRankedBelow}
 use Rattle.tx_plan.proofs.Filtered.{all_joined}
 use Rattle.tx_cert.specs.Certificate.{Certificate, rank_at, no_ranks_for, ranks_of}
 use Rattle.tx_cert.proofs.Ranks.{none_ranked}
-use Rattle.tx_rank.specs.declared.finding.Finding.{Finding}
-use Rattle.tx_rank.specs.declared.finding.Finding.TheVariants.{Short}
-use Rattle.tx_rank.specs.Walks.{Walk, net_of, IsShort}
-use Rattle.tx_rank.specs.Heights.{RanksByHeight, AreHeights}
 use Rattle.tx_rank.specs.Findings.{IsTrueOf, IsLongIfAny, long_findings, AreFindingsOfCode, AreFindingsBelow, pair_findings, AreFindings}
-use Rattle.tx_rank.specs.Findings.AreFindingsOfCode.{looped, straight}
-use Rattle.tx_rank.specs.Nets.{Certifies}
-use Rattle.tx_rank.specs.Judged.{IsJudged}
-use Rattle.tx_rank.specs.inner.Judged.{IsRankedBelow}
 use Rattle.tx_rank.proofs.Certifying.{none_distinct, certified_codes}
 
 -- NOTHING IN FRONT AND NOTHING BEHIND

@@ -1,14 +1,5 @@
 -- A look at a list, group by group.
-use Rattle.std.proofs.Common.{◌≡◌, ℕ, zero, suc, ◌+◌, ◌<◌, ◌≤◌, List, [], ◌∷◌, ◌++◌, length, get_or, take, ◌⊎◌, inl, inr, Some, None, refl, sym, ap, subst, ◌∙◌, arith}
-use Rattle.std.specs.Prelude.{slice_get}
-use Rattle.std.proofs.lemmas.Option.{slice_get-get_or}
-use Rattle.tx_plan.specs.Among.{Among}
-use Rattle.tx_plan.proofs.Among.{among_left, among_right, among_cases}
-use Rattle.tx_plan.proofs.ByIndex.{take_next}
-use Rattle.tx_rank.specs.Walks.{Net}
-use Rattle.tx_rank.specs.Nets.{IsNet}
-use Rattle.tx_rank.specs.inner.Marks.{rank_in, IsOnward, IsTop}
-use Rattle.tx_rank.specs.declared.mark.Mark.{Mark}
+use Rattle.tx_rank.proofs.Common.{◌≡◌, ℕ, zero, suc, ◌+◌, ◌<◌, ◌≤◌, List, [], ◌∷◌, ◌++◌, length, get_or, take, ◌⊎◌, inl, inr, Some, None, refl, sym, ap, subst, ◌∙◌, arith, slice_get, slice_get-get_or, Among, among_left, among_right, among_cases, take_next, Net, IsNet, rank_in, IsOnward, IsTop, Mark}
 
 pub among_at : {A : Type 0} (xs : List A) (i : ℕ) (x : A) → slice_get xs i ≡ Some x → Among x xs
 among_at [] i x h = absurd (let bad : ⊥ = cc in bad)

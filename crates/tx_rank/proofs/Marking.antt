@@ -1,19 +1,7 @@
 -- Marking the exchanges that calls come to.
-use Rattle.std.proofs.Common.{◌≡◌, ◌≢◌, ℕ, zero, suc, ◌+◌, ◌<◌, ◌≤◌, Bool, true, false, List, [], ◌∷◌, ◌++◌, length, take, ◌⊎◌, inl, inr, Some, refl, sym, ap, subst, ◌∙◌, arith}
+use Rattle.tx_rank.proofs.Common.{◌≡◌, ◌≢◌, ℕ, zero, suc, ◌+◌, ◌<◌, ◌≤◌, Bool, true, false, List, [], ◌∷◌, ◌++◌, length, take, ◌⊎◌, inl, inr, Some, refl, sym, ap, subst, ◌∙◌, arith, false≢true, cases_lt, take_all, length-replicate, set, length-set, take-append_seam, Plan, is_origin_for, IsPlan, Among, among_cases, Net, net_of, Goes, end_of, IsReached, take_next}
 use Rattle.std.specs.Prelude.{◌&&◌, not, slice_get, replicate}
-use Rattle.std.proofs.lemmas.Bool.{false≢true, cases_lt}
-use Rattle.std.proofs.lemmas.List.{take_all, length-replicate}
-use Rattle.std.proofs.Math.ListN.{set, length-set}
-use Rattle.std.proofs.Math.Seq.{take-append_seam}
-use Rattle.tx_plan.specs.Plan.{Plan}
-use Rattle.tx_plan.specs.Routes.{is_origin_for}
-use Rattle.tx_plan.specs.Rules.{IsPlan}
-use Rattle.tx_plan.specs.Among.{Among}
-use Rattle.tx_plan.proofs.Among.{among_cases}
-use Rattle.tx_rank.specs.Walks.{Net, net_of, Goes, end_of}
-use Rattle.tx_rank.specs.Heights.{IsReached}
 use Rattle.tx_rank.proofs.Ways.{end_push, goes_push}
-use Rattle.tx_plan.proofs.ByIndex.{take_next}
 use Rattle.tx_rank.proofs.Looks.{among_at}
 use Rattle.tx_rank.proofs.Nets.{is_net}
 use Rattle.tx_rank.specs.Reached.{is_marked, AreReached}

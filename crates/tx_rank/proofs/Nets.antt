@@ -1,19 +1,14 @@
 -- The network of a plan for one code obeys the rules of a plan.
 use Rattle.std.proofs.Common.{◌≡◌, ℕ, ◌<◌, true, false, Bool, ◌&&◌, ◌||◌, ◌==◌, cond, List, [], ◌∷◌, length, inl, inr, Option, Some, None, refl, sym, ap, ◌∙◌, arith, eqb-true}
 use Rattle.std.specs.Prelude.{slice_get, find, option_and_then, not}
-use Rattle.std.specs.List.{list_any}
+use Rattle.tx_rank.proofs.Common.{list_any, and_parts, or_cases, false≢true, Among, net_of, IsNet, all_among}
 use Rattle.std.specs.Option.{option_map_or}
-use Rattle.std.proofs.lemmas.Bool.{and_parts, or_cases, false≢true}
 use Rattle.tx_plan.specs.Plan.{Plan, Code, Group, Route, home_of}
 use Rattle.tx_plan.specs.Routes.{route_list, is_origin, is_barred}
 use Rattle.tx_plan.specs.Circuits.{other_end, far_end, may_seize, is_both}
 use Rattle.tx_plan.specs.Rules.{IsPlan, IsCode, IsRange, IsGroup, IsRoute}
 use Rattle.tx_plan.specs.declared.range.LineRange.{LineRange}
-use Rattle.tx_plan.specs.Among.{Among}
 use Rattle.tx_plan.proofs.ByIndex.{entry_at}
-use Rattle.tx_rank.specs.Walks.{net_of}
-use Rattle.tx_rank.specs.Nets.{IsNet}
-use Rattle.tx_plan.proofs.Among.{all_among}
 use Rattle.tx_rank.proofs.Looks.{among_at}
 
 module _ {A : Type 0} where

@@ -1,9 +1,6 @@
 -- Whether calls may start at each exchange, one exchange after another.
-use Rattle.std.proofs.Common.{◌≡◌, ℕ, zero, suc, ◌+◌, Bool, List, [], ◌∷◌, ◌++◌, length, ◌⊎◌, inl, inr, Some, sym, ap, ◌∙◌, arith}
-use Rattle.std.specs.Prelude.{slice_get}
+use Rattle.tx_rank.proofs.Common.{◌≡◌, ℕ, zero, suc, ◌+◌, Bool, List, [], ◌∷◌, ◌++◌, length, ◌⊎◌, inl, inr, Some, sym, ap, ◌∙◌, arith, slice_get, Plan, is_origin}
 use Rattle.std.proofs.lemmas.List.{length_push}
-use Rattle.tx_plan.specs.Plan.{Plan}
-use Rattle.tx_plan.specs.Routes.{is_origin}
 use Rattle.tx_rank.specs.Judged.{AreOrigins}
 
 pub record AreOriginsBelow (p : Plan) (i : ℕ) (origins : List Bool) : Type 0 where

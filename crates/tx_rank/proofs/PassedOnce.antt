@@ -1,7 +1,5 @@
 -- What is passed before the end of a walk.
-use Rattle.std.proofs.Common.{ℕ, List, [], ◌∷◌, inl, inr}
-use Rattle.tx_plan.specs.Among.{Among}
-use Rattle.tx_rank.specs.Walks.{AllDiffer, before_end, passed}
+use Rattle.tx_rank.proofs.Common.{ℕ, List, [], ◌∷◌, inl, inr, Among, AllDiffer, before_end, passed}
 use Rattle.tx_rank.proofs.Ways.{once_first, once_cons}
 
 before_passed : (x : ℕ) (steps : List (ℕ × ℕ)) (u : ℕ) → Among u (before_end x steps) → Among u (passed x steps)

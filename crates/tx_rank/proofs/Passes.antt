@@ -1,18 +1,9 @@
 -- What the loops of a ranking pass keep.
 use Rattle.std.proofs.Common.{◌≡◌, ℕ, zero, suc, ◌+◌, ◌*◌, ◌<◌, ◌≤◌, true, false, List, length, ◌⊎◌, inl, inr, Option, Some, None, refl, sym, ap, subst, ◌∙◌, arith, Bool, eqb, eqb-true, ltb, get_or, Result, Ok, Err, replicate}
 use Rattle.std.specs.Prelude.{slice_get, IfOk}
-use Rattle.std.specs.Option.{option_and_then}
-use Rattle.std.proofs.lemmas.Option.{slice_get-get_or, slice_get_past}
+use Rattle.tx_rank.proofs.Common.{option_and_then, slice_get-get_or, slice_get_past, eqb-false, length-replicate, set, length-set, Net, IsNet, rank_of, rank_in, cost, IsMarked, IsInHand, Grew, NoneOpen, IsStep, IsEnd, IsPassing, IsPassed, Mark, Unseen, Open, Ranked}
 use borrow.Author.Tests.{ltb-true, ltb-false}
-use Rattle.std.proofs.lemmas.Bool.{eqb-false}
-use Rattle.std.proofs.lemmas.List.{length-replicate}
 use Rattle.tx_rank.proofs.Turns.{set_same, set_other, cost_set}
-use Rattle.std.proofs.Math.ListN.{set, length-set}
-use Rattle.tx_rank.specs.Walks.{Net}
-use Rattle.tx_rank.specs.Nets.{IsNet}
-use Rattle.tx_rank.specs.inner.Marks.{rank_of, rank_in, cost, IsMarked, IsInHand, Grew, NoneOpen, IsStep, IsEnd, IsPassing, IsPassed}
-use Rattle.tx_rank.specs.declared.mark.Mark.{Mark}
-use Rattle.tx_rank.specs.declared.mark.Mark.TheVariants.{Unseen, Open, Ranked}
 
 -- of the loop over the walks from one origin
 pub record IsExploring (n : Net) (origin : ℕ) (old : List Mark) (start : ℕ) (steps : List (ℕ × ℕ)) (marks : List Mark) : Type 0 where

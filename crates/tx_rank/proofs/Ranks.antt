@@ -1,10 +1,6 @@
 -- What ranks that fall along each step say of all walks.
-use Rattle.std.proofs.Common.{◌≡◌, ◌≢◌, ℕ, suc, ◌+◌, ◌≤◌, true, List, [], ◌∷◌, length, inl, inr, Option, Some, sym, ap, ◌∙◌, arith}
-use Rattle.tx_plan.specs.Among.{Among}
-use Rattle.tx_rank.specs.Walks.{Net, AllDiffer, Goes, end_of, before_end, passed, IsLoop}
-use Rattle.tx_rank.specs.Heights.{IsReached}
+use Rattle.tx_rank.proofs.Common.{◌≡◌, ◌≢◌, ℕ, suc, ◌+◌, ◌≤◌, true, List, [], ◌∷◌, length, inl, inr, Option, Some, sym, ap, ◌∙◌, arith, Among, Net, AllDiffer, Goes, end_of, before_end, passed, IsLoop, IsReached, AreSettled}
 use Rattle.tx_rank.specs.Nets.{LeadsBelow}
-use Rattle.tx_rank.specs.inner.Marks.{AreSettled}
 use Rattle.tx_rank.proofs.Ways.{once_cons}
 
 -- each step from a ranked exchange leads to a smaller rank

@@ -1,15 +1,8 @@
 -- Walks back along links, and down along ranks.
-use Rattle.std.proofs.Common.{◌≡◌, ◌≢◌, ℕ, suc, ◌+◌, ◌-◌, ◌*◌, ◌<◌, ◌≤◌, false, List, [], ◌∷◌, ◌++◌, length, take, inl, inr, Option, Some, None, unwrap_or, refl, sym, ap, subst, ◌∙◌, arith, length-append}
-use Rattle.std.proofs.lemmas.Bool.{false≢true}
+use Rattle.tx_rank.proofs.Common.{◌≡◌, ◌≢◌, ℕ, suc, ◌+◌, ◌-◌, ◌*◌, ◌<◌, ◌≤◌, false, List, [], ◌∷◌, ◌++◌, length, take, inl, inr, Option, Some, None, unwrap_or, refl, sym, ap, subst, ◌∙◌, arith, length-append, false≢true, Among, among_cases, Net, Goes, end_of, AreSettled, IsLower, IsLink, LinksBelow, take_next}
 use Rattle.std.specs.Prelude.{slice_get, reverse}
 use Rattle.std.proofs.lemmas.List.{reverse-append}
-use Rattle.tx_plan.specs.Among.{Among}
-use Rattle.tx_plan.proofs.Among.{among_cases}
-use Rattle.tx_rank.specs.Walks.{Net, Goes, end_of}
-use Rattle.tx_rank.specs.inner.Marks.{AreSettled, IsLower}
-use Rattle.tx_rank.specs.inner.Links.{IsLink, LinksBelow}
 use Rattle.tx_rank.proofs.Ways.{goes_push, end_push}
-use Rattle.tx_plan.proofs.ByIndex.{take_next}
 use Rattle.tx_rank.proofs.Ranks.{falling, one_down, reached_ranked}
 use Rattle.tx_rank.proofs.Linking.{last_step}
 

@@ -1,9 +1,6 @@
 -- What was tried of the lists of a walk in hand, as the walk grows and shrinks at its end.
-use Rattle.std.proofs.Common.{◌≡◌, ℕ, List, [], ◌∷◌, ◌++◌, take, inl, inr, refl, sym, ap, subst, ◌∙◌}
-use Rattle.tx_rank.specs.Walks.{Net, end_of, before_end, passed}
+use Rattle.tx_rank.proofs.Common.{◌≡◌, ℕ, List, [], ◌∷◌, ◌++◌, take, inl, inr, refl, sym, ap, subst, ◌∙◌, Net, end_of, before_end, passed, Tried, Mark}
 use Rattle.tx_rank.specs.inner.Marks.{Grew, IsTop, IsTried, AreTried, IsTrail}
-use Rattle.tx_rank.specs.declared.list_scan.Tried.{Tried}
-use Rattle.tx_rank.specs.declared.mark.Mark.{Mark}
 use Rattle.tx_rank.proofs.Ways.{end_push, before_push}
 
 pub passed_end : (x : ℕ) (steps : List (ℕ × ℕ)) → passed x steps ≡ before_end x steps ++ end_of x steps ∷ []

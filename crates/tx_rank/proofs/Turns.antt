@@ -1,16 +1,7 @@
 -- What the turns of a ranking pass keep.
-use Rattle.std.proofs.Common.{◌≡◌, ◌≢◌, ℕ, zero, suc, ◌+◌, ◌*◌, ◌<◌, ◌≤◌, List, [], ◌∷◌, ◌++◌, ◌⊎◌, inl, inr, Some, None, refl, sym, ap, subst, ◌∙◌, arith, true, false, eqb, eqb-true}
-use Rattle.std.proofs.lemmas.Bool.{eqb-false}
-use Rattle.std.specs.Prelude.{slice_get}
+use Rattle.tx_rank.proofs.Common.{◌≡◌, ◌≢◌, ℕ, zero, suc, ◌+◌, ◌*◌, ◌<◌, ◌≤◌, List, [], ◌∷◌, ◌++◌, ◌⊎◌, inl, inr, Some, None, refl, sym, ap, subst, ◌∙◌, arith, true, false, eqb, eqb-true, eqb-false, slice_get, set, length-set, option_and_then, Among, among_left, among_right, among_cases, Net, AllDiffer, end_of, before_end, passed, IsWalk, IsLoop, Mark, Unseen, Open, Ranked}
 use Rattle.std.proofs.lemmas.Option.{slice_get_within}
-use Rattle.std.proofs.Math.ListN.{set, length-set}
-use Rattle.std.specs.Option.{option_and_then}
-use Rattle.tx_plan.specs.Among.{Among}
-use Rattle.tx_plan.proofs.Among.{among_left, among_right, among_cases}
-use Rattle.tx_rank.specs.Walks.{Net, AllDiffer, end_of, before_end, passed, IsWalk, IsLoop}
 use Rattle.tx_rank.specs.inner.Marks.{rank_of, cost_of, rank_in, cost, IsSettled, IsMarked, IsInHand, Grew, NoneOpen, IsOnward, IsTop, IsStep, IsEnd}
-use Rattle.tx_rank.specs.declared.mark.Mark.{Mark}
-use Rattle.tx_rank.specs.declared.mark.Mark.TheVariants.{Unseen, Open, Ranked}
 use Rattle.tx_rank.proofs.Ways.{once_push, once_pop, end_push, passed_push, before_push, end_passed, goes_push, goes_pop}
 
 module _ {A : Type 0} where

@@ -1,18 +1,7 @@
 -- The findings that no limit and no spare number mend.
-use Rattle.std.proofs.Common.{◌≡◌, ◌≢◌, ℕ, zero, suc, ◌+◌, ◌<◌, ◌≤◌, true, false, eqb, eqb-true, List, [], ◌∷◌, length, inl, inr, Some, None, refl, sym, subst, arith}
+use Rattle.tx_rank.proofs.Common.{◌≡◌, ◌≢◌, ℕ, zero, suc, ◌+◌, ◌<◌, ◌≤◌, true, false, eqb, eqb-true, List, [], ◌∷◌, length, inl, inr, Some, None, refl, sym, subst, arith, ne_eqb, or_cases, false≢true, Plan, IsPlan, Among, Finding, Ambiguous, Loop, Short, Long, Net, AllDiffer, Goes, net_of, passed, IsLong, IsNet, IsTrueOf, AreFindingsOfCode, AreFindingsBelow, AreFindings, looped, straight, AreUnmended}
 use Rattle.std.specs.List.{IsDistinct, list_any, AllByRecursion}
-use Rattle.std.proofs.lemmas.Bool.{ne_eqb, or_cases, false≢true}
 use Rattle.std.proofs.lemmas.Map.Steps.{length-le_from_distinct_below}
-use Rattle.tx_plan.specs.Plan.{Plan}
-use Rattle.tx_plan.specs.Rules.{IsPlan}
-use Rattle.tx_plan.specs.Among.{Among}
-use Rattle.tx_rank.specs.declared.finding.Finding.{Finding}
-use Rattle.tx_rank.specs.declared.finding.Finding.TheVariants.{Ambiguous, Loop, Short, Long}
-use Rattle.tx_rank.specs.Walks.{Net, AllDiffer, Goes, net_of, passed, IsLong}
-use Rattle.tx_rank.specs.Nets.{IsNet}
-use Rattle.tx_rank.specs.Findings.{IsTrueOf, AreFindingsOfCode, AreFindingsBelow, AreFindings}
-use Rattle.tx_rank.specs.Findings.AreFindingsOfCode.{looped, straight}
-use Rattle.tx_rank.specs.Grades.{AreUnmended}
 use Rattle.tx_rank.proofs.Nets.{is_net}
 use Rattle.tx_rank.proofs.Listing.{all_true}
 

@@ -1,13 +1,7 @@
 -- What is true of all walks for one code after a pass that met no loop.
 use Rattle.std.proofs.Common.{◌≡◌, ◌≢◌, ℕ, ◌+◌, ◌<◌, ◌≤◌, true, false, eqb, eqb-true, leb, List, [], ◌∷◌, length, inl, Option, Some, refl, sym, ap, ◌∙◌, arith}
-use Rattle.std.proofs.lemmas.Bool.{eqb-false}
+use Rattle.tx_rank.proofs.Common.{eqb-false, Among, Net, AllDiffer, end_of, passed, IsWalk, IsLoop, IsShort, IsLong, RanksByHeight, IsNet, Certifies, AreSettled, IsShortAt, LowOrigins}
 use borrow.Author.Tests.{leb-true, leb-false}
-use Rattle.tx_plan.specs.Among.{Among}
-use Rattle.tx_rank.specs.Walks.{Net, AllDiffer, end_of, passed, IsWalk, IsLoop, IsShort, IsLong}
-use Rattle.tx_rank.specs.Heights.{RanksByHeight}
-use Rattle.tx_rank.specs.Nets.{IsNet, Certifies}
-use Rattle.tx_rank.specs.inner.Marks.{AreSettled}
-use Rattle.tx_rank.specs.inner.Judged.{IsShortAt, LowOrigins}
 use Rattle.tx_rank.proofs.Ranks.{Falls, falling, all_down, once_down, no_loop, reached_ranked}
 use Rattle.tx_rank.proofs.Heights.{ranking}
 

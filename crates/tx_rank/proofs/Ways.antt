@@ -1,9 +1,5 @@
 -- Walks that grow and shrink at their end.
-use Rattle.std.proofs.Common.{◌≡◌, ◌≢◌, ℕ, zero, suc, List, [], ◌∷◌, ◌++◌, length, inl, inr, Some, refl, sym, ap, subst, arith}
-use Rattle.std.specs.Prelude.{slice_get}
-use Rattle.tx_plan.specs.Among.{Among}
-use Rattle.tx_plan.proofs.Among.{all_among, among_all, among_left, among_right, among_cases}
-use Rattle.tx_rank.specs.Walks.{Net, AllDiffer, Goes, end_of, before_end, passed}
+use Rattle.tx_rank.proofs.Common.{◌≡◌, ◌≢◌, ℕ, zero, suc, List, [], ◌∷◌, ◌++◌, length, inl, inr, Some, refl, sym, ap, subst, arith, slice_get, Among, all_among, among_all, among_left, among_right, among_cases, Net, AllDiffer, Goes, end_of, before_end, passed}
 
 -- NOTHING TWICE
 

@@ -1,12 +1,5 @@
 -- The ranks of a code, as they are written into a certificate.
-use Rattle.std.proofs.Common.{◌≡◌, ◌≢◌, ℕ, ◌+◌, ◌<◌, ◌≤◌, true, false, eqb, eqb-true, ltb, List, length, None, refl, sym, ap, ◌∙◌, arith}
-use Rattle.std.specs.Option.{option_and_then}
-use Rattle.std.proofs.lemmas.Bool.{eqb-false, ltb-true}
-use Rattle.std.proofs.lemmas.Option.{slice_get_past}
-use borrow.Author.Tests.{ltb-false}
-use Rattle.tx_cert.specs.Certificate.{Certificate, rank_at}
-use Rattle.tx_rank.specs.inner.Marks.{rank_of, rank_in}
-use Rattle.tx_rank.specs.declared.mark.Mark.{Mark}
+use Rattle.tx_rank.proofs.Common.{◌≡◌, ◌≢◌, ℕ, ◌+◌, ◌<◌, ◌≤◌, true, false, eqb, eqb-true, ltb, List, length, None, refl, sym, ap, ◌∙◌, arith, option_and_then, eqb-false, ltb-true, slice_get_past, ltb-false, Certificate, rank_at, rank_of, rank_in, Mark}
 
 -- those of the exchanges before index i
 pub record IsWriting (old new : Certificate) (marks : List Mark) (code i : ℕ) : Type 0 where

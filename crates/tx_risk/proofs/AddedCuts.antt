@@ -1,28 +1,9 @@
 -- The cuts of one code, one exchange after another.
-use Rattle.std.proofs.Common.{◌≡◌, ◌↔◌, ℕ, ◌+◌, ◌<◌, true, List, [], ◌∷◌, ◌++◌, map, inl, inr, length, Some, None, refl, sym, ap, subst, ◌∙◌, arith, append_assoc, append-nil}
-use Rattle.std.proofs.lemmas.Bool.{cases_eq, and_parts}
-use Rattle.std.proofs.lemmas.Option.{none-some, same_Some}
-use Rattle.std.proofs.lemmas.List.{map-append}
-use Rattle.tx_plan.specs.Plan.{Plan}
-use Rattle.tx_plan.specs.Rules.{IsPlan, EachPair}
-use Rattle.tx_plan.specs.Routes.{is_origin_for}
-use Rattle.tx_rank.proofs.Nets.{is_net}
-use Rattle.tx_plan.specs.Among.{Among}
-use Rattle.tx_plan.proofs.Among.{among_left, among_right, among_cases, among_all}
-use Rattle.tx_plan.proofs.ByIndex.{pairs_put}
-use Rattle.tx_rank.specs.Walks.{Net, Goes, AllDiffer, net_of, passed}
+use Rattle.tx_risk.proofs.Common.{◌≡◌, ◌↔◌, ℕ, ◌+◌, ◌<◌, true, List, [], ◌∷◌, ◌++◌, map, inl, inr, length, Some, None, refl, sym, ap, subst, ◌∙◌, arith, append_assoc, append-nil, cases_eq, and_parts, none-some, same_Some, map-append, Plan, IsPlan, EachPair, is_origin_for, is_net, Among, among_left, among_right, among_cases, among_all, pairs_put, Net, Goes, AllDiffer, net_of, passed, certifies_code, Ways, Cut, Outage, Risk, net_without, IsCut, LeadsHome, Left, left_net, AreWaysFrom, Adds, AreCuts, AreCutsBefore}
 use Rattle.tx_rank.specs.Heights.{IsReached}
 use Rattle.tx_rank.proofs.Ranks.{once_down}
-use Rattle.tx_rank.proofs.Certifying.{certifies_code}
-use Rattle.tx_risk.specs.declared.nearest.Ways.{Ways}
-use Rattle.tx_risk.specs.declared.cut.Cut.{Cut}
-use Rattle.tx_risk.specs.declared.outage.Outage.{Outage}
-use Rattle.tx_risk.specs.Risks.{Risk, net_without, IsCut, LeadsHome}
 use Rattle.tx_risk.specs.Outages.{is_asked, IsCutAs, start_at}
 use Rattle.tx_risk.specs.Survivals.{HasGrade}
-use Rattle.tx_risk.specs.inner.Left.{Left, left_net}
-use Rattle.tx_risk.specs.inner.Nearest.{AreWaysFrom}
-use Rattle.tx_risk.specs.inner.Cutting.{Adds, AreCuts, AreCutsBefore}
 use Rattle.tx_risk.proofs.Ordering.{goes_left}
 
 module _ {A : Type 0} (l : Left) (o : Outage) where

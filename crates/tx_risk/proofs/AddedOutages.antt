@@ -1,26 +1,9 @@
 -- One outage after another, and one code after another.
-use Rattle.std.proofs.Common.{◌≡◌, ℕ, zero, suc, ◌+◌, ◌<◌, Bool, true, false, List, [], ◌∷◌, ◌++◌, map, take, get_or, length, Option, Some, None, refl, sym, ap, subst, ◌∙◌, arith, append_assoc, append-nil, eqb-true}
-use Rattle.std.proofs.lemmas.Bool.{false≢true}
-use Rattle.std.proofs.lemmas.List.{map-append, take_more}
+use Rattle.tx_risk.proofs.Common.{◌≡◌, ℕ, zero, suc, ◌+◌, ◌<◌, Bool, true, false, List, [], ◌∷◌, ◌++◌, map, take, get_or, length, Option, Some, None, refl, sym, ap, subst, ◌∙◌, arith, append_assoc, append-nil, eqb-true, false≢true, map-append, take_more, slice_get_within, slice_get, is_some, ◌==◌, if◌then◌else◌, option_map_or, option_and_then, list_any, range_with_len, AllByRecursion, far_end, any_mem, all_among, among_at, Cut, Outcome, Outage, Group, Exchange, Named, Risk, NamedRisk, AreRisksFor, AreWithin, named_groups, Adds}
 use Rattle.std.proofs.lemmas.List.FromFn.{map-range_with_len_more}
-use Rattle.std.proofs.lemmas.Option.{slice_get_within}
-use Rattle.std.specs.Prelude.{slice_get, is_some, ◌==◌, if◌then◌else◌}
-use Rattle.std.specs.Option.{option_map_or, option_and_then}
-use Rattle.std.specs.List.{list_any, range_with_len, AllByRecursion}
 use Rattle.tx_plan.specs.Plan.{Plan, Group as Row}
 use Rattle.tx_plan.proofs.Lists.{all_put, all_map}
-use Rattle.tx_plan.specs.Circuits.{far_end}
-use Rattle.tx_machine.proofs.Lists.{any_mem}
-use Rattle.tx_plan.proofs.Among.{all_among}
-use Rattle.tx_rank.proofs.Looks.{among_at}
-use Rattle.tx_risk.specs.declared.cut.Cut.{Cut}
-use Rattle.tx_risk.specs.declared.cut.Outcome.{Outcome}
-use Rattle.tx_risk.specs.declared.outage.Outage.{Outage}
-use Rattle.tx_risk.specs.declared.outage.Outage.TheVariants.{Group, Exchange, Named}
-use Rattle.tx_risk.specs.Risks.{Risk}
-use Rattle.tx_risk.specs.NamedRisks.{NamedRisk, AreRisksFor, AreWithin, named_groups}
 use Rattle.tx_risk.specs.Outages.{risk_of, all_outages, AreCutsOfCode, AreCutsBelow, IsOutcome}
-use Rattle.tx_risk.specs.inner.Cutting.{Adds}
 
 module _ {A : Type 0} (p : Plan) (risk : Risk) (o : Outage) where
   -- the cuts of one code more

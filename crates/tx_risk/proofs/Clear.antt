@@ -1,43 +1,16 @@
 -- No call goes over a group that is down.
-use Rattle.std.proofs.Common.{◌≡◌, ℕ, ◌==◌, Bool, true, false, ◌&&◌, List, [], ◌∷◌, ◌++◌, ◌⊎◌, inl, inr, map, Option, Some, None, refl, sym, ap, ◌∙◌, subst}
-use Rattle.std.proofs.lemmas.Bool.{both_ways, ne_eqb, false_from_ne_true}
-use Rattle.std.specs.Prelude.{if◌then◌else◌, find, filter}
-use Rattle.std.specs.List.{list_any}
-use Rattle.tx_plan.specs.Plan.{Plan, home_of}
-use Rattle.tx_plan.specs.Codes.{code_of}
-use Rattle.tx_plan.specs.Routes.{route_list, is_barred}
+use Rattle.tx_risk.proofs.Common.{◌≡◌, ℕ, ◌==◌, Bool, true, false, ◌&&◌, List, [], ◌∷◌, ◌++◌, ◌⊎◌, inl, inr, map, Option, Some, None, refl, sym, ap, ◌∙◌, subst, both_ways, ne_eqb, false_from_ne_true, if◌then◌else◌, find, filter, list_any, Plan, home_of, code_of, route_list, is_barred, Among, among_cases, filter_among, among_left, among_right, among_map, map_among, Circuit, Line, Event, Key, Route, Confirm, Clear, Released, Fail, Restore, Block, Unblock, CircuitOut, CircuitIn, LineFault, LineMend, LineAway, LineBack, Hop, Service, Na, Refusal, Reply, Answered, Standing, Calling, Connected, State, line_answer, refusal, with_call, accepted, counted, unless_refused, step, Holds, Moves, stays, connects, seizes_one, goes_on, falls_back, IsNew, came, Risk, IsClear, AllDown}
 use Rattle.tx_plan.specs.Circuits.{circuits_at}
-use Rattle.tx_plan.specs.Among.{Among}
-use Rattle.tx_plan.proofs.Among.{among_cases, filter_among, among_left, among_right, among_map, map_among}
-use Rattle.tx_plan.specs.declared.ids.Circuit.{Circuit}
-use Rattle.tx_plan.specs.declared.ids.Line.{Line}
-use Rattle.tx_machine.specs.declared.event.Event.{Event}
-use Rattle.tx_machine.specs.declared.event.Event.TheVariants.{Key, Route, Confirm, Clear, Released, Fail, Restore, Block, Unblock, CircuitOut, CircuitIn, LineFault, LineMend, LineAway, LineBack}
-use Rattle.tx_machine.specs.declared.open_call.Hop.{Hop}
-use Rattle.tx_machine.specs.declared.cause.Service.{Service}
-use Rattle.tx_machine.specs.declared.cause.Service.TheVariants.{Na}
 use Rattle.tx_machine.specs.declared.cause.Cause.TheVariants.{Service as ByService}
-use Rattle.tx_machine.specs.declared.refusal.Refusal.{Refusal}
-use Rattle.tx_machine.specs.declared.reply.Reply.{Reply}
-use Rattle.tx_machine.specs.declared.reply.Reply.TheVariants.{Answered}
-use Rattle.tx_machine.specs.declared.open_call.Phase.TheVariants.{Standing, Calling, Connected}
 use Rattle.tx_machine.specs.Call.{Call, exchange_of, call_of, is_numbered, is_first, circuit_called}
-use Rattle.tx_machine.specs.State.{State}
 use Rattle.tx_machine.specs.InUse.{circuits_carried, circuits_used, is_down, is_free_at, first_free, choice}
-use Rattle.tx_machine.specs.Lines.{line_answer}
-use Rattle.tx_machine.specs.Refusals.{refusal}
 use Rattle.tx_machine.specs.Routing.{in_phase, at_line, at_trunk, line_of, routed_for}
 use Rattle.tx_machine.specs.Confirming.{carried_on, thrown_back, far_of}
 use Rattle.tx_machine.specs.Ending.{end_calls}
-use Rattle.tx_machine.specs.Step.{with_call, accepted, counted, unless_refused, step}
-use Rattle.tx_machine.specs.inner.Invariant.{Holds}
 use Rattle.tx_machine.proofs.Lists.{find_mem, none_any, any_none}
 use Rattle.tx_machine.proofs.Uses.{first_in-is, chosen}
 use Rattle.tx_machine.proofs.Invariant.{set_cases}
 use Rattle.tx_machine.proofs.Steps.{stands}
-use Rattle.tx_machine.proofs.Moves.{Moves, stays, connects, seizes_one, goes_on, falls_back, IsNew, came}
-use Rattle.tx_risk.specs.Risks.{Risk}
-use Rattle.tx_risk.specs.Served.{IsClear, AllDown}
 
 -- a group is used if one of the circuits is of it
 on_group : (g : ℕ) (xs ys : List Circuit) → ((x : Circuit) → Among x ys → Among x xs)

@@ -1,18 +1,8 @@
 -- The order of cuts, and a search in them.
 use Rattle.std.proofs.Common.{◌≡◌, ◌<◌, ◌≤◌, ◌⊎◌, if◌then◌else◌, ℕ, zero, suc, Bool, true, false, List, [], ◌∷◌, map, length, get_or, Option, Some, None, option_map, inl, inr, refl, sym, ap, subst, arith, tests}
 use Rattle.std.specs.List.{AllByRecursion, find, slice_get}
-use Rattle.tx_plan.specs.Plan.{Plan}
-use Rattle.tx_plan.specs.Rules.{EachPair}
-use Rattle.tx_plan.proofs.Among.{among_all}
-use Rattle.std.proofs.lemmas.Option.{slice_get-get_or}
-use Rattle.tx_plan.proofs.ByIndex.{all_at}
+use Rattle.tx_risk.proofs.Common.{Plan, EachPair, among_all, slice_get-get_or, all_at, all_map, Cut, Outcome, Outage, Risk, NamedRisk}
 use Rattle.tx_plan.proofs.Filtered.{all_joined, pairs_joined}
-use Rattle.tx_plan.proofs.Lists.{all_map}
-use Rattle.tx_risk.specs.declared.cut.Cut.{Cut}
-use Rattle.tx_risk.specs.declared.cut.Outcome.{Outcome}
-use Rattle.tx_risk.specs.declared.outage.Outage.{Outage}
-use Rattle.tx_risk.specs.Risks.{Risk}
-use Rattle.tx_risk.specs.NamedRisks.{NamedRisk}
 use Rattle.tx_risk.specs.Outages.{start_at, AreCutsBelow, IsOutcome, AreOutcomes}
 use Rattle.tx_risk.specs.Compared.{AreInOrder, stray_at}
 use Rattle.tx_risk.specs.inner.InOrder.{comes_before, is_at, stray_of}

@@ -1,12 +1,6 @@
 -- A walk that comes one step nearer to a dead end each time.
-use Rattle.std.proofs.Common.{◌≡◌, ◌≢◌, ℕ, ◌+◌, true, List, [], ◌∷◌, ◌++◌, length, length-append, Some, None, refl, sym, ap, ◌∙◌, subst, arith}
-use Rattle.std.proofs.lemmas.Option.{none-some, same_Some}
-use Rattle.tx_plan.specs.Among.{Among}
-use Rattle.tx_rank.specs.Walks.{Net, Goes, end_of}
+use Rattle.tx_risk.proofs.Common.{◌≡◌, ◌≢◌, ℕ, ◌+◌, true, List, [], ◌∷◌, ◌++◌, length, length-append, Some, None, refl, sym, ap, ◌∙◌, subst, arith, none-some, same_Some, Among, Net, Goes, end_of, Ways, Step, IsDeadEnd}
 use Rattle.tx_rank.proofs.Ways.{goes_push, end_push}
-use Rattle.tx_risk.specs.declared.nearest.Ways.{Ways}
-use Rattle.tx_risk.specs.declared.nearest.Step.{Step}
-use Rattle.tx_risk.specs.Risks.{IsDeadEnd}
 use Rattle.tx_risk.specs.inner.Nearest.{IsDistance, AreWaysFrom, AreAllWays, ways_in, distance_in, nearest_step}
 use Rattle.tx_risk.proofs.Measuring.{nearest_is, nearest_least, measured}
 

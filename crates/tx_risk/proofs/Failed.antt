@@ -1,40 +1,11 @@
 -- No call is on a failed group.
-use Rattle.std.proofs.Common.{◌≡◌, ℕ, ◌==◌, true, false, not, ◌&&◌, List, [], ◌∷◌, ◌⊎◌, inl, inr, Option, Some, None, refl, sym, ap, ◌∙◌, subst}
+use Rattle.tx_risk.proofs.Common.{◌≡◌, ℕ, ◌==◌, true, false, not, ◌&&◌, List, [], ◌∷◌, ◌⊎◌, inl, inr, Option, Some, None, refl, sym, ap, ◌∙◌, subst, if◌then◌else◌, AllByRecursion, Plan, home_of, IsPlan, code_of, is_barred, filter_among, Circuit, Line, Event, Key, Route, Confirm, Clear, Released, Fail, Restore, Block, Unblock, CircuitOut, CircuitIn, LineFault, LineMend, LineAway, LineBack, Phase, Standing, Calling, Connected, Service, Refusal, Reply, Call, call_of, exchange_of, is_first, State, opening, line_answer, refusal, Na, answered, at_line, at_trunk, line_of, routed_for, confirmed_by, rival, confirmed, with_call, accepted, counted, unless_refused, step, Holds, inv_opening, step_keeps, NoneOnFailed}
 use Rattle.std.proofs.lemmas.Bool.{cases_eq, both_ways, and_parts, or_left, not-true}
-use Rattle.std.specs.Prelude.{if◌then◌else◌}
-use Rattle.std.specs.List.{AllByRecursion}
 use Rattle.std.specs.Cmp.{nat_cmp_total, unsigned_tied}
 use Rattle.std.specs.FinSet as set
-use Rattle.tx_plan.specs.Plan.{Plan, home_of}
-use Rattle.tx_plan.specs.Rules.{IsPlan}
-use Rattle.tx_plan.specs.Codes.{code_of}
-use Rattle.tx_plan.specs.Routes.{is_barred}
-use Rattle.tx_plan.proofs.Among.{filter_among}
-use Rattle.tx_plan.specs.declared.ids.Circuit.{Circuit}
-use Rattle.tx_plan.specs.declared.ids.Line.{Line}
-use Rattle.tx_machine.specs.declared.event.Event.{Event}
-use Rattle.tx_machine.specs.declared.event.Event.TheVariants.{Key, Route, Confirm, Clear, Released, Fail, Restore, Block, Unblock, CircuitOut, CircuitIn, LineFault, LineMend, LineAway, LineBack}
-use Rattle.tx_machine.specs.declared.open_call.Phase.{Phase}
-use Rattle.tx_machine.specs.declared.open_call.Phase.TheVariants.{Standing, Calling, Connected}
-use Rattle.tx_machine.specs.declared.cause.Service.{Service}
-use Rattle.tx_machine.specs.declared.refusal.Refusal.{Refusal}
-use Rattle.tx_machine.specs.declared.reply.Reply.{Reply}
-use Rattle.tx_machine.specs.Call.{Call, call_of, exchange_of, is_first}
-use Rattle.tx_machine.specs.State.{State, opening}
 use Rattle.tx_machine.specs.InUse.{uses_group, choice}
-use Rattle.tx_machine.specs.Lines.{line_answer}
-use Rattle.tx_machine.specs.Refusals.{refusal}
-use Rattle.tx_machine.specs.declared.cause.Service.TheVariants.{Na}
-use Rattle.tx_machine.specs.Ending.{answered}
-use Rattle.tx_machine.specs.Routing.{at_line, at_trunk, line_of, routed_for}
-use Rattle.tx_machine.specs.Confirming.{confirmed_by, rival, confirmed}
-use Rattle.tx_machine.specs.Step.{with_call, accepted, counted, unless_refused, step}
 use Rattle.tx_machine.specs.Runs.{run, InEveryState}
-use Rattle.tx_machine.specs.inner.Invariant.{Holds}
-use Rattle.tx_machine.proofs.Invariant.{inv_opening}
-use Rattle.tx_machine.proofs.Steps.{step_keeps}
 use Rattle.tx_machine.proofs.Playing.{shut_out}
-use Rattle.tx_risk.specs.Served.{NoneOnFailed}
 use Rattle.tx_risk.proofs.Clear.{step_clear}
 
 module _ (p : Plan) (s : State) where

@@ -1,12 +1,7 @@
 -- Words that name groups.
-use Rattle.std.proofs.Common.{◌≡◌, ℕ, true, false, not, List, refl, ap}
-use Rattle.std.specs.Prelude.{is_none}
-use Rattle.std.specs.Str.{bytes_eq}
+use Rattle.tx_risk.proofs.Common.{◌≡◌, ℕ, true, false, not, List, refl, ap, is_none, bytes_eq, has_group, none_any, among_all}
 use Rattle.tx_plan.specs.Plan.{Group, Plan, group_named}
 use Rattle.tx_plan.proofs.Lists.{placed, no_index}
-use Rattle.tx_plan.specs.Declaring.{has_group}
-use Rattle.tx_machine.proofs.Lists.{none_any}
-use Rattle.tx_plan.proofs.Among.{among_all}
 
 pub unknown_is : (p : Plan) (w : List ℕ) → is_none (group_named p w) ≡ not (has_group p w)
 unknown_is p w =

@@ -1,17 +1,8 @@
 -- What is left of a list.
-use Rattle.std.proofs.Common.{◌≡◌, ◌≢◌, ℕ, suc, ◌<◌, Bool, true, false, not, ◌&&◌, ◌==◌, cond, List, [], ◌∷◌, inl, inr, length, Option, Some, None, refl, sym, ap, ◌∙◌, subst, eqb-true}
-use Rattle.std.specs.Prelude.{slice_get, find}
-use Rattle.std.specs.Option.{option_map_or}
+use Rattle.tx_risk.proofs.Common.{◌≡◌, ◌≢◌, ℕ, suc, ◌<◌, Bool, true, false, not, ◌&&◌, ◌==◌, cond, List, [], ◌∷◌, inl, inr, length, Option, Some, None, refl, sym, ap, ◌∙◌, subst, eqb-true, slice_get, find, option_map_or, and_parts, route_list, Among, among_filter, find_mem, all_mem, Risk, left_of}
 use Rattle.std.specs.List.{list_all}
-use Rattle.std.proofs.lemmas.Bool.{and_parts}
 use Rattle.tx_plan.specs.Plan.{Plan, Route, home_of}
 use Rattle.tx_plan.specs.Rules.{IsPlan, IsRoute}
-use Rattle.tx_plan.specs.Routes.{route_list}
-use Rattle.tx_plan.specs.Among.{Among}
-use Rattle.tx_plan.proofs.Among.{among_filter}
-use Rattle.tx_machine.proofs.Lists.{find_mem}
-use Rattle.tx_machine.proofs.Steps.{all_mem}
-use Rattle.tx_risk.specs.Risks.{Risk, left_of}
 
 -- the index of what is in a list
 pub index_among : {A : Type 0} (x : A) (xs : List A) → Among x xs

@@ -17,3 +17,4 @@ pub mod GroupWords
 pub mod RiskLines
 pub mod Comparing
 pub mod RisksIn
+pub mod Common

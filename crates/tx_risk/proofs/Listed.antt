@@ -1,24 +1,8 @@
 -- In every run each call goes by the lists.
-use Rattle.std.proofs.Common.{◌≡◌, ◌≢◌, ℕ, false, not, List, [], ◌∷◌, ◌++◌, inl, inr, map, Option, Some, refl, sym, ap, subst}
-use Rattle.std.proofs.lemmas.Bool.{eqb-false}
-use Rattle.tx_plan.specs.Plan.{Plan, home_of}
-use Rattle.tx_plan.specs.Codes.{code_of}
-use Rattle.tx_plan.specs.Routes.{route_list}
-use Rattle.tx_plan.specs.Among.{Among}
-use Rattle.tx_plan.proofs.Among.{among_filter}
-use Rattle.tx_plan.specs.declared.ids.Circuit.{Circuit}
-use Rattle.tx_machine.specs.declared.event.Event.{Event}
-use Rattle.tx_machine.specs.declared.open_call.Hop.{Hop}
-use Rattle.tx_machine.specs.declared.open_call.Phase.TheVariants.{Calling}
+use Rattle.tx_risk.proofs.Common.{◌≡◌, ◌≢◌, ℕ, false, not, List, [], ◌∷◌, ◌++◌, inl, inr, map, Option, Some, refl, sym, ap, subst, eqb-false, Plan, home_of, code_of, route_list, Among, among_filter, Circuit, Event, Hop, Calling, State, step, Holds, Moves, stays, connects, seizes_one, goes_on, falls_back, IsNew, came, Goes, end_of, Risk, net_without}
 use Rattle.tx_machine.specs.Call.{Call, last_exchange, start_of, exchange_of}
-use Rattle.tx_machine.specs.State.{State}
-use Rattle.tx_machine.specs.Step.{step}
 use Rattle.tx_machine.specs.Passed.{Joins}
-use Rattle.tx_machine.specs.inner.Invariant.{Holds}
 use Rattle.tx_machine.proofs.Changes.{not_standing}
-use Rattle.tx_machine.proofs.Moves.{Moves, stays, connects, seizes_one, goes_on, falls_back, IsNew, came}
-use Rattle.tx_rank.specs.Walks.{Goes, end_of}
-use Rattle.tx_risk.specs.Risks.{Risk, net_without}
 
 -- from x on, each hop is by a group in the list of the exchange before it, which is not the home
 abbrev pub ByLists : Plan → ℕ → ℕ → List Hop → Type 0

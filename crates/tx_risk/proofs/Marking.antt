@@ -1,14 +1,6 @@
 -- The table of the groups that go with an outage.
-use Rattle.std.proofs.Common.{◌≡◌, ℕ, ◌+◌, ◌<◌, Bool, true, false, List, [], ◌∷◌, ◌++◌, inl, inr, length, Option, Some, None, refl, sym, ap, ◌∙◌, arith}
-use Rattle.std.proofs.lemmas.Bool.{false_from_ne_true}
+use Rattle.tx_risk.proofs.Common.{◌≡◌, ℕ, ◌+◌, ◌<◌, Bool, true, false, List, [], ◌∷◌, ◌++◌, inl, inr, length, Option, Some, None, refl, sym, ap, ◌∙◌, arith, false_from_ne_true, none-some, slice_get, option_map_or, entry_at, at_push, Risk, marked}
 use Rattle.std.proofs.lemmas.List.{length_push}
-use Rattle.std.proofs.lemmas.Option.{none-some}
-use Rattle.std.specs.Prelude.{slice_get}
-use Rattle.std.specs.Option.{option_map_or}
-use Rattle.tx_plan.proofs.ByIndex.{entry_at}
-use Rattle.tx_rank.proofs.Origins.{at_push}
-use Rattle.tx_risk.specs.Risks.{Risk}
-use Rattle.tx_risk.specs.inner.Marked.{marked}
 
 -- the first groups are marked as the risk says
 pub record AreMarksBelow (risk : Risk) (i : ℕ) (marks : List Bool) : Type 0 where

@@ -1,21 +1,9 @@
 -- Where the ways from an exchange lead, by those of the exchanges to which its list leads.
 use Rattle.std.proofs.Common.{◌≡◌, ◌≢◌, ◌↔◌, ℕ, Bool, zero, suc, ◌+◌, ◌<◌, ◌≤◌, true, false, nat_lt, List, [], ◌∷◌, ◌++◌, ◌⊎◌, map, fold, inl, inr, length, get_or, take, Option, Some, None, refl, sym, ap, ◌∙◌, subst, arith}
-use Rattle.std.specs.Prelude.{slice_get, replicate, if◌then◌else◌}
+use Rattle.tx_risk.proofs.Common.{slice_get, replicate, if◌then◌else◌, cases_eq, ltb-true, ltb-false, false≢true, none-some, same_Some, set, Among, among_left, among_right, among_cases, among_map, map_among, Net, Goes, end_of, among_at, take_next, Ways, Step, IsDeadEnd, LeadsHome, IsOrder}
 use Rattle.std.specs.Option.{option_and_then, option_map, option_map_or}
-use Rattle.std.proofs.lemmas.Bool.{cases_eq, ltb-true, ltb-false, false≢true}
 use Rattle.std.proofs.lemmas.List.{get_or-set_same, get_or-set_other, length-set, length-replicate}
-use Rattle.std.proofs.lemmas.Option.{none-some, same_Some}
-use Rattle.std.proofs.Math.ListN.{set}
-use Rattle.tx_plan.specs.Among.{Among}
-use Rattle.tx_plan.proofs.Among.{among_left, among_right, among_cases, among_map, map_among}
 use Rattle.tx_machine.proofs.Lists.{any_mem, mem_any}
-use Rattle.tx_rank.specs.Walks.{Net, Goes, end_of}
-use Rattle.tx_rank.proofs.Looks.{among_at}
-use Rattle.tx_plan.proofs.ByIndex.{take_next}
-use Rattle.tx_risk.specs.declared.nearest.Ways.{Ways}
-use Rattle.tx_risk.specs.declared.nearest.Step.{Step}
-use Rattle.tx_risk.specs.Risks.{IsDeadEnd, LeadsHome}
-use Rattle.tx_risk.specs.inner.Orders.{IsOrder}
 use Rattle.tx_risk.specs.inner.Nearest.{AreDeadEnds, LeadsToDeadEnd, IsDistance, AreWaysFrom, AreDeadEndsKept, home_alone, dead_end_alone, ways_in, distance_in, nearer, nearest_step, step_by, leads_home, has_way_home}
 use Rattle.tx_risk.proofs.Ways.{is_among}
 use Rattle.tx_risk.proofs.Ordering.{way_few, among_first, uncut_home}

@@ -1,21 +1,14 @@
 -- Ranked exchanges, by their ranks.
-use Rattle.std.proofs.Common.{◌≡◌, ◌≢◌, ℕ, zero, suc, ◌+◌, ◌<◌, ◌≤◌, nat_lt, true, false, not, List, [], ◌∷◌, inl, inr, length, take, Option, Some, None, refl, sym, ap, ◌∙◌, subst, arith}
+use Rattle.tx_risk.proofs.Common.{◌≡◌, ◌≢◌, ℕ, zero, suc, ◌+◌, ◌<◌, ◌≤◌, nat_lt, true, false, not, List, [], ◌∷◌, inl, inr, length, take, Option, Some, None, refl, sym, ap, ◌∙◌, subst, arith, range_with_len, Among, Net, Goes, end_of, none_any, any_mem, Risk, left_of, without, LeadsHome, IsOrder, IsByRank, rank_or_0, is_above, AreDeadEnds, LeadsToDeadEnd}
 use Rattle.std.specs.Prelude.{slice_get, slice_index_or, unwrap_or, is_some, filter, IsPermutation}
-use Rattle.std.specs.List.{range_with_len}
 use Rattle.std.specs.List.Sorted.{IsNonDecreasingBy, IsPartitionedBy, IsPartitionPoint}
 use Rattle.std.proofs.lemmas.Bool.{cases_lt, cases_eq, false≢true, ltb-true, ltb-false, not-true}
 use Rattle.std.proofs.lemmas.Option.{slice_get_within, get_or_from_slice_get}
 use Rattle.std.proofs.lemmas.List.Sorted.{Contains-permutation, IsPermutation-sym}
-use Rattle.tx_plan.specs.Among.{Among}
 use Rattle.tx_plan.proofs.Among.{among_filter, filter_among, among_at}
-use Rattle.tx_rank.specs.Walks.{Net, Goes, end_of}
 use Rattle.tx_rank.specs.Nets.{IsNet, Certifies}
 use Rattle.tx_rank.proofs.Ranks.{Falls, one_down, all_down}
 use Rattle.tx_rank.proofs.Looks.{leads_within, among_at as listed}
-use Rattle.tx_machine.proofs.Lists.{none_any, any_mem}
-use Rattle.tx_risk.specs.Risks.{Risk, left_of, without, LeadsHome}
-use Rattle.tx_risk.specs.inner.Orders.{IsOrder, IsByRank, rank_or_0, is_above}
-use Rattle.tx_risk.specs.inner.Nearest.{AreDeadEnds, LeadsToDeadEnd}
 use Rattle.tx_risk.proofs.LeftLists.{index_among}
 
 -- a number that may be there

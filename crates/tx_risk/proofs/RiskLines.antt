@@ -1,24 +1,14 @@
 -- A line of risks declares risks for the plan.
 use Rattle.std.proofs.Common.{◌≡◌, ◌≢◌, ℕ, ◌<◌, ◌==◌, Bool, true, false, not, List, [], ◌∷◌, ◌++◌, map, length, inl, inr, Result, Ok, Err, IfErr, refl, sym, ◌∙◌, subst, codes, eq-eqb}
-use Rattle.std.proofs.lemmas.Bool.{and_parts, both_ways, not-true, not-false}
+use Rattle.tx_risk.proofs.Common.{and_parts, both_ways, not-true, not-false, if◌then◌else◌, list_any, bytes_eq, Plan, EachPair, Among, among_cases, map_among, all_among, among_all, pairs_put, none_any, Declared}
 use Rattle.std.proofs.lemmas.Slice.Eq.{bytes_eq-Decides}
-use Rattle.std.specs.Prelude.{if◌then◌else◌}
-use Rattle.std.specs.List.{list_any}
-use Rattle.std.specs.Str.{bytes_eq}
 use Rattle.tx_text.specs.Words.{is_name}
 use Rattle.tx_plan.specs.inner.Distinct.{differ}
 use Rattle.tx_plan.proofs.Lists.{placed_within}
-use Rattle.tx_plan.specs.Plan.{Plan}
-use Rattle.tx_plan.specs.Rules.{EachPair}
-use Rattle.tx_plan.specs.Among.{Among}
 use Rattle.tx_plan.specs.Declaring.{first_true, has_group, group_at, none_twice}
-use Rattle.tx_plan.proofs.Among.{among_cases, map_among, all_among, among_all}
-use Rattle.tx_plan.proofs.ByIndex.{pairs_put}
 use Rattle.tx_plan.proofs.SeenWords.{differ_as_words}
-use Rattle.tx_machine.proofs.Lists.{none_any}
 use Rattle.tx_risk.specs.NamedRisks.{NamedRisk, IsNamedRisk, AreRisksFor}
 use Rattle.tx_risk.specs.declared.fault.RiskWord.TheVariants.{UnknownWord, WrongCount, BadName, Duplicate, UnknownName, RepeatedGroup}
-use Rattle.tx_text.specs.Said.{Declared}
 use Rattle.tx_risk.specs.declared.fault.RiskWord.{RiskWord}
 use Rattle.tx_risk.specs.RiskText.{declare, risk_line, with_risk, unless, is_memory}
 

@@ -1,11 +1,7 @@
 -- Risks of one plan as risks of another.
-use Rattle.std.proofs.Common.{◌≡◌, ◌≢◌, ◌<◌, ◌+◌, ◌∙◌, ℕ, zero, suc, false, List, [], ◌∷◌, ◌++◌, map, take, get_or, length, Option, Some, None, refl, sym, ap}
+use Rattle.tx_risk.proofs.Common.{◌≡◌, ◌≢◌, ◌<◌, ◌+◌, ◌∙◌, ℕ, zero, suc, false, List, [], ◌∷◌, ◌++◌, map, take, get_or, length, Option, Some, None, refl, sym, ap, bytes_eq, map-append, take_more, Plan, group_name, group_named, EachPair}
 use Rattle.std.specs.List.{AllByRecursion, filter_map, cons_option, list_any, slice_get}
-use Rattle.std.specs.Str.{bytes_eq}
-use Rattle.std.proofs.lemmas.List.{map-append, take_more}
 use Rattle.std.proofs.lemmas.List.Elements.{filter_map-append}
-use Rattle.tx_plan.specs.Plan.{Plan, group_name, group_named}
-use Rattle.tx_plan.specs.Rules.{EachPair}
 use Rattle.tx_plan.proofs.ByIndex.{all_at, take_next, bytes_apart, entry_at, index_within}
 use Rattle.tx_risk.specs.NamedRisks.{NamedRisk, AreRisksFor, AreWithin, risk_name, named_groups, risk_in, risks_in}
 

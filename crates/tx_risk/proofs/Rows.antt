@@ -1,12 +1,7 @@
 -- The names of risks, as the keys of a map.
-use Rattle.std.proofs.Common.{◌≡◌, ℕ, List, map, sym, ◌∙◌}
-use Rattle.std.specs.Prelude.{Vec}
-use Rattle.std.specs.List.{list_any}
+use Rattle.tx_risk.proofs.Common.{◌≡◌, ℕ, List, map, sym, ◌∙◌, Vec, list_any, bytes_eq, NamedRisk, risk_of_row}
 use Rattle.std.specs.Map.{keys_of}
-use Rattle.std.specs.Str.{bytes_eq}
 use Rattle.tx_plan.proofs.Tables.{list_any-map}
-use Rattle.tx_risk.specs.NamedRisks.{NamedRisk}
-use Rattle.tx_risk.specs.inner.Rows.{risk_of_row}
 
 -- a key has the name where a risk has it
 pub any_risk : {A : Type 0} (name : List ℕ) (es : List (List ℕ × Vec ℕ A))

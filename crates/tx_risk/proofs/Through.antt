@@ -1,45 +1,13 @@
 -- Calls from where a risk does not cut off their code get through.
-use Rattle.std.proofs.Common.{◌≡◌, ℕ, ◌<◌, ◌==◌, true, false, not, cond, ◌&&◌, List, [], ◌∷◌, inl, inr, Option, Some, None, refl, sym, ap, ◌∙◌, subst, eqb-true, eq-eqb, arith}
-use Rattle.std.proofs.lemmas.Bool.{false≢true, both_ways, eqb-false, not-true, not-false, false_from_ne_true}
-use Rattle.std.specs.Prelude.{if◌then◌else◌, is_some}
-use Rattle.std.specs.List.{AllByRecursion}
+use Rattle.tx_risk.proofs.Common.{◌≡◌, ℕ, ◌<◌, ◌==◌, true, false, not, cond, ◌&&◌, List, [], ◌∷◌, inl, inr, Option, Some, None, refl, sym, ap, ◌∙◌, subst, eqb-true, eq-eqb, arith, false≢true, both_ways, eqb-false, not-true, not-false, false_from_ne_true, if◌then◌else◌, is_some, AllByRecursion, Plan, home_of, IsPlan, code_of, route_list, is_barred, Among, filter_among, among_left, among_map, Circuit, Line, Event, Key, Route, Confirm, Clear, Released, Fail, Restore, Block, Unblock, CircuitOut, CircuitIn, LineFault, LineMend, LineAway, LineBack, Hop, Phase, Standing, Calling, Connected, Service, Refusal, Reply, Answered, Call, call_of, start_of, exchange_of, is_first, circuit_called, State, opening, refusal, answered, at_line, at_trunk, line_of, routed_for, confirmed_by, rival, confirmed, far_of, with_call, accepted, counted, unless_refused, step, Holds, find_mem, none_any, inv_opening, step_keeps, Risk, left_of}
 use Rattle.std.specs.FinSet as set
-use Rattle.tx_plan.specs.Plan.{Plan, home_of}
-use Rattle.tx_plan.specs.Rules.{IsPlan}
-use Rattle.tx_plan.specs.Codes.{code_of}
 use Rattle.tx_plan.specs.Lines.{is_line}
-use Rattle.tx_plan.specs.Routes.{route_list, is_barred}
-use Rattle.tx_plan.specs.Among.{Among}
-use Rattle.tx_plan.proofs.Among.{filter_among, among_left, among_map}
-use Rattle.tx_plan.specs.declared.ids.Circuit.{Circuit}
-use Rattle.tx_plan.specs.declared.ids.Line.{Line}
-use Rattle.tx_machine.specs.declared.event.Event.{Event}
-use Rattle.tx_machine.specs.declared.event.Event.TheVariants.{Key, Route, Confirm, Clear, Released, Fail, Restore, Block, Unblock, CircuitOut, CircuitIn, LineFault, LineMend, LineAway, LineBack}
-use Rattle.tx_machine.specs.declared.open_call.Hop.{Hop}
-use Rattle.tx_machine.specs.declared.open_call.Phase.{Phase}
-use Rattle.tx_machine.specs.declared.open_call.Phase.TheVariants.{Standing, Calling, Connected}
-use Rattle.tx_machine.specs.declared.cause.Service.{Service}
 use Rattle.tx_machine.specs.declared.cause.Service.TheVariants.{Occ, Np, Der, Abs, Na}
-use Rattle.tx_machine.specs.declared.refusal.Refusal.{Refusal}
-use Rattle.tx_machine.specs.declared.reply.Reply.{Reply}
-use Rattle.tx_machine.specs.declared.reply.Reply.TheVariants.{Answered}
-use Rattle.tx_machine.specs.Call.{Call, call_of, start_of, exchange_of, is_first, circuit_called}
-use Rattle.tx_machine.specs.State.{State, opening}
 use Rattle.tx_machine.specs.InUse.{circuits_carried, circuits_used, first_free, choice, seizes_from}
 use Rattle.tx_machine.specs.Lines.{is_engaged, line_answer}
-use Rattle.tx_machine.specs.Refusals.{refusal}
-use Rattle.tx_machine.specs.Ending.{answered}
-use Rattle.tx_machine.specs.Routing.{at_line, at_trunk, line_of, routed_for}
-use Rattle.tx_machine.specs.Confirming.{confirmed_by, rival, confirmed, far_of}
-use Rattle.tx_machine.specs.Step.{with_call, accepted, counted, unless_refused, step}
 use Rattle.tx_machine.specs.Runs.{run, state_after, OfEveryEvent}
 use Rattle.tx_machine.specs.Excused.{HadCollided, IsNcByCollision}
-use Rattle.tx_machine.specs.inner.Invariant.{Holds}
-use Rattle.tx_machine.proofs.Lists.{find_mem, none_any}
 use Rattle.tx_machine.proofs.Uses.{first_in-none}
-use Rattle.tx_machine.proofs.Invariant.{inv_opening}
-use Rattle.tx_machine.proofs.Steps.{step_keeps}
-use Rattle.tx_risk.specs.Risks.{Risk, left_of}
 use Rattle.tx_risk.specs.Served.{OfRouted, StartsUncut, OutsideFree, IsClear, AllDown, AllFailed, NoneOnFailed, KeyedSinceAreClear, KeyedSinceGetThrough}
 use Rattle.tx_risk.proofs.Ways.{no_dead_end}
 use Rattle.tx_risk.proofs.Listed.{AllListed, step_listed, steps_of, end_steps, goes_outside}

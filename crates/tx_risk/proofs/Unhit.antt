@@ -1,28 +1,8 @@
 -- A code of which some group of each list is left is cut off from nowhere.
-use Rattle.std.proofs.Common.{◌≡◌, ◌≢◌, ℕ, ◌+◌, ◌<◌, ◌⊎◌, ◌==◌, true, false, not, ◌&&◌, List, [], ◌∷◌, inl, inr, length, Option, Some, None, refl, sym, ap, ◌∙◌, subst, arith, eq-eqb}
-use Rattle.std.proofs.lemmas.Bool.{and_parts, both_ways, not-true, ne_eqb, eqb-false, cases_eq}
-use Rattle.std.specs.Prelude.{slice_get, filter, is_some, if◌then◌else◌}
-use Rattle.std.specs.Option.{option_and_then, option_map_or}
-use Rattle.std.specs.List.{list_any}
+use Rattle.tx_risk.proofs.Common.{◌≡◌, ◌≢◌, ℕ, ◌+◌, ◌<◌, ◌⊎◌, ◌==◌, true, false, not, ◌&&◌, List, [], ◌∷◌, inl, inr, length, Option, Some, None, refl, sym, ap, ◌∙◌, subst, arith, eq-eqb, and_parts, both_ways, not-true, ne_eqb, eqb-false, cases_eq, slice_get, filter, is_some, if◌then◌else◌, option_and_then, option_map_or, list_any, route_list, is_origin_for, Ranks, IsCertified, Among, filter_among, among_filter, none_any, Goes, end_of, is_net, Outage, Group, Exchange, Named, NamedRisk, risk_of, fails_at, Left, IsLeft, gone, left_net, IsByRank, AreDeadEnds, AreCuts, AreEnds, TakesItsGroups, is_emptied}
 use Rattle.tx_plan.specs.Plan.{Plan, Group as Row, home_of}
 use Rattle.tx_plan.specs.Circuits.{other_end, far_end, ends_of}
-use Rattle.tx_plan.specs.Routes.{route_list, is_origin_for}
-use Rattle.tx_plan.specs.Certified.{Ranks, IsCertified}
-use Rattle.tx_plan.specs.Among.{Among}
-use Rattle.tx_plan.proofs.Among.{filter_among, among_filter}
-use Rattle.tx_machine.proofs.Lists.{none_any}
-use Rattle.tx_rank.specs.Walks.{Goes, end_of}
-use Rattle.tx_rank.proofs.Nets.{is_net}
-use Rattle.tx_risk.specs.declared.outage.Outage.{Outage}
-use Rattle.tx_risk.specs.declared.outage.Outage.TheVariants.{Group, Exchange, Named}
 use Rattle.tx_risk.specs.Risks.{Risk, groups_of, left_of, net_without}
-use Rattle.tx_risk.specs.NamedRisks.{NamedRisk}
-use Rattle.tx_risk.specs.Outages.{risk_of, fails_at}
-use Rattle.tx_risk.specs.inner.Left.{Left, IsLeft, gone, left_net}
-use Rattle.tx_risk.specs.inner.Orders.{IsByRank}
-use Rattle.tx_risk.specs.inner.Nearest.{AreDeadEnds}
-use Rattle.tx_risk.specs.inner.Cutting.{AreCuts}
-use Rattle.tx_risk.specs.inner.Hits.{AreEnds, TakesItsGroups, is_emptied}
 use Rattle.tx_risk.proofs.Ways.{ranked_on}
 use Rattle.tx_risk.proofs.LeftLists.{left_goes, left_none, none_left, listed_away}
 use Rattle.tx_risk.proofs.AddedOutages.{end_known}

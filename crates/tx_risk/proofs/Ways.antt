@@ -1,15 +1,8 @@
 -- Ways to dead ends.
-use Rattle.std.proofs.Common.{◌≡◌, ◌≢◌, ℕ, zero, suc, ◌<◌, true, not, List, [], ◌∷◌, ◌++◌, ◌⊎◌, inl, inr, length, Option, Some, None, refl, sym, ap, ◌∙◌, subst, arith}
-use Rattle.std.proofs.lemmas.Option.{same_Some}
-use Rattle.std.proofs.lemmas.Bool.{cases_eq}
-use Rattle.tx_plan.specs.Plan.{Plan, home_of}
+use Rattle.tx_risk.proofs.Common.{◌≡◌, ◌≢◌, ℕ, zero, suc, ◌<◌, true, not, List, [], ◌∷◌, ◌++◌, ◌⊎◌, inl, inr, length, Option, Some, None, refl, sym, ap, ◌∙◌, subst, arith, same_Some, cases_eq, Plan, home_of, route_list, is_origin_for, Among, among_filter, filter_among, all_mem}
 use Rattle.tx_plan.specs.Certified.{Ranks, IsBelow, LeadsLower, IsCertified}
-use Rattle.tx_plan.specs.Routes.{route_list, is_origin_for}
-use Rattle.tx_plan.specs.Among.{Among}
-use Rattle.tx_plan.proofs.Among.{among_filter, filter_among}
 use Rattle.tx_rank.specs.Walks.{Net, AllDiffer, Goes, end_of, passed, IsShort}
 use Rattle.tx_rank.proofs.Ways.{once_cons}
-use Rattle.tx_machine.proofs.Steps.{all_mem}
 use Rattle.tx_risk.specs.Risks.{Risk, left_of, without, net_without, IsDeadEnd, IsCut, IsUncut, LeavesSome, LeadsHome, IsServed}
 
 pub is_among : (y : ℕ) (xs : List ℕ) → Among y xs ⊎ (Among y xs → ⊥)

@@ -1,22 +1,5 @@
 -- The answer to one event.
-use Rattle.std.proofs.Common.{◌≡◌, ℕ, ◌+◌, ◌≤◌, Bool, List, [], ◌++◌, length, drop, Option, inl, inr, sym, ap, ◌∙◌, subst, arith}
-use Rattle.std.specs.List.{flat_map}
-use Rattle.std.specs.Io.KnownBytes.{append_known}
-use Rattle.tx_text.specs.Ends.{StopsIn}
-use Rattle.tx_plan.specs.Plan.{Plan}
-use Rattle.tx_machine.specs.declared.event.Event.{Event}
-use Rattle.tx_machine.specs.declared.reply.Reply.{Reply}
-use Rattle.tx_machine.specs.Ended.{Ended}
-use Rattle.tx_machine.specs.State.{State}
-use Rattle.tx_machine.specs.Step.{step}
-use Rattle.tx_machine.specs.Runs.{moment}
-use Rattle.tx_tickets.specs.Texts.{reply_text, ticket_text}
-use Rattle.tx_machine.specs.Sound.{is_refused}
-use Rattle.tx_script.specs.declared.runner.Answered.{Answered}
-use Rattle.tx_machine.specs.Drained.{drained}
-use Rattle.tx_script.specs.inner.LineAnswers.{count_of}
-use Rattle.tx_script.specs.Untold.{StopsAtTicket, IsUntold}
-use Rattle.tx_script.specs.Output.{tickets_made, moment_text}
+use Rattle.tx_script.proofs.Common.{◌≡◌, ℕ, ◌+◌, ◌≤◌, Bool, List, [], ◌++◌, length, drop, Option, inl, inr, sym, ap, ◌∙◌, subst, arith, flat_map, append_known, StopsIn, Plan, Event, Reply, Ended, State, step, moment, reply_text, ticket_text, is_refused, Answered, drained, count_of, StopsAtTicket, IsUntold, tickets_made, moment_text}
 use Rattle.tx_script.proofs.Balance.{parties, step_within}
 
 -- what an event does to a network whose tickets were taken

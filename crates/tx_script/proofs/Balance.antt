@@ -1,32 +1,10 @@
 -- An event opens at most one call, and a call that ends leaves one ticket.
-use Rattle.std.proofs.Common.{◌≡◌, ℕ, ◌+◌, ◌≤◌, ◌==◌, Bool, true, false, not, ◌&&◌, [], ◌∷◌, length, map, Option, Some, None, refl, ap, ◌∙◌, arith, length-append}
-use Rattle.std.specs.Prelude.{if◌then◌else◌, filter}
+use Rattle.tx_script.proofs.Common.{◌≡◌, ℕ, ◌+◌, ◌≤◌, ◌==◌, Bool, true, false, not, ◌&&◌, [], ◌∷◌, length, map, Option, Some, None, refl, ap, ◌∙◌, arith, length-append, if◌then◌else◌, filter, Plan, home_of, code_of, is_barred, Circuit, Line, Event, Key, Route, Confirm, Clear, Released, Fail, Restore, Block, Unblock, CircuitOut, CircuitIn, LineFault, LineMend, LineAway, LineBack, Service, Nc, Np, Na, Cause, Refusal, Reply, Phase, Standing, Calling, Connected, Call, exchange_of, call_of, is_numbered, is_first, State, choice, uses_group, line_answer, refusal, collide, second_time, confirmed_by, rival, confirmed, keyed_call, with_call, accepted, counted, unless_refused, step, cause_by}
 use Rattle.std.proofs.lemmas.List.{length-map}
 use Rattle.std.proofs.lemmas.List.Filters.{length-filter_both}
-use Rattle.tx_plan.specs.Plan.{Plan, home_of}
-use Rattle.tx_plan.specs.Codes.{code_of}
-use Rattle.tx_plan.specs.Routes.{is_barred}
-use Rattle.tx_plan.specs.declared.ids.Circuit.{Circuit}
-use Rattle.tx_plan.specs.declared.ids.Line.{Line}
-use Rattle.tx_machine.specs.declared.event.Event.{Event}
-use Rattle.tx_machine.specs.declared.event.Event.TheVariants.{Key, Route, Confirm, Clear, Released, Fail, Restore, Block, Unblock, CircuitOut, CircuitIn, LineFault, LineMend, LineAway, LineBack}
-use Rattle.tx_machine.specs.declared.cause.Service.{Service}
-use Rattle.tx_machine.specs.declared.cause.Service.TheVariants.{Nc, Np, Na}
-use Rattle.tx_machine.specs.declared.cause.Cause.{Cause}
 use Rattle.tx_machine.specs.declared.cause.Cause.TheVariants.{Service as ByService, Lost as ByLoss}
-use Rattle.tx_machine.specs.declared.refusal.Refusal.{Refusal}
-use Rattle.tx_machine.specs.declared.reply.Reply.{Reply}
-use Rattle.tx_machine.specs.declared.open_call.Phase.{Phase}
-use Rattle.tx_machine.specs.declared.open_call.Phase.TheVariants.{Standing, Calling, Connected}
-use Rattle.tx_machine.specs.Call.{Call, exchange_of, call_of, is_numbered, is_first}
-use Rattle.tx_machine.specs.State.{State}
-use Rattle.tx_machine.specs.InUse.{choice, uses_group}
-use Rattle.tx_machine.specs.Lines.{line_answer}
-use Rattle.tx_machine.specs.Refusals.{refusal}
 use Rattle.tx_machine.specs.Ending.{end_calls, ticket_of}
 use Rattle.tx_machine.specs.Routing.{at_line, at_trunk, line_of, routed_for}
-use Rattle.tx_machine.specs.Confirming.{collide, second_time, confirmed_by, rival, confirmed}
-use Rattle.tx_machine.specs.Step.{keyed_call, with_call, accepted, counted, unless_refused, step, cause_by}
 
 -- the open calls, and the tickets of those that ended
 abbrev pub parties : State → ℕ

@@ -1,29 +1,11 @@
 -- What was counted over a run tells its summary.
-use Rattle.std.proofs.Common.{◌≡◌, ℕ, ◌^◌, ◌<◌, codes, List, [], ◌∷◌, ◌++◌, length, get_or, Option, Some, None, Bool, true, false, refl, sym, ap, ap₂, ◌∙◌, subst, arith, append_assoc, append-nil}
-use Rattle.std.specs.Prelude.{option_map}
-use Rattle.std.specs.List.{flat_map, range_with_len}
+use Rattle.tx_script.proofs.Common.{◌≡◌, ℕ, ◌^◌, ◌<◌, codes, List, [], ◌∷◌, ◌++◌, length, get_or, Option, Some, None, Bool, true, false, refl, sym, ap, ap₂, ◌∙◌, subst, arith, append_assoc, append-nil, option_map, flat_map, range_with_len, Plan, IsPlan, cause_text, Event, Reply, Ended, State, step, Moment, moment, run, state_after, IsFresh, tickets_made, end_text, ALL, peak, Telling, told_last, NoneReleasing}
 use Rattle.std.specs.FinSet as set
 use Rattle.std.proofs.lemmas.List.Concat.{length-flat_map}
-use Rattle.tx_plan.specs.Plan.{Plan}
-use Rattle.tx_plan.specs.Rules.{IsPlan}
-use Rattle.tx_tickets.specs.Texts.{cause_text}
-use Rattle.tx_machine.specs.declared.event.Event.{Event}
-use Rattle.tx_machine.specs.declared.reply.Reply.{Reply}
-use Rattle.tx_machine.specs.Ended.{Ended}
 use Rattle.tx_machine.specs.inner.Invariant.{Inv, Holds}
-use Rattle.tx_machine.specs.State.{State}
-use Rattle.tx_machine.specs.Step.{step}
-use Rattle.tx_machine.specs.Runs.{Moment, moment, run, state_after}
 use Rattle.tx_machine.proofs.Invariant.{inv_opening}
 use Rattle.tx_machine.proofs.Steps.{step_keeps}
-use Rattle.tx_script.specs.Answers.{IsFresh}
-use Rattle.tx_script.specs.Output.{tickets_made, end_text}
-use Rattle.tx_machine.specs.declared.cause.TheConstants.Cause.{ALL}
 use Rattle.tx_script.specs.Summaries.{calls_line, ended_by, peak_line, summary_text}
-use Rattle.tx_script.specs.Taken.{peak}
-use Rattle.tx_script.specs.declared.teller.Telling.{Telling}
-use Rattle.tx_script.specs.Telling.{told_last}
-use Rattle.tx_script.specs.TellingAnswers.{NoneReleasing}
 use Rattle.tx_script.specs.inner.Counting.{Counted, AreFew, AreNew, asked_of, counts_for, counted_on, counted_over, ends_counted, uses_counted, nothing_counted, counts_text, last_lines, use_at}
 use Rattle.tx_script.proofs.Ended.{AreEnded, none_ended, ended_all, ended_within, ended_told}
 use Rattle.tx_script.proofs.GroupUses.{AreGroupUses, none_used, uses_step, peaks_told}

@@ -1,18 +1,7 @@
 -- Tickets that are taken out of a network one after another, and written.
-use Rattle.std.proofs.Common.{◌≡◌, ℕ, ◌+◌, ◌<◌, List, [], ◌∷◌, ◌++◌, length, drop, Option, Some, None, refl, sym, ap, ◌∙◌, append_assoc, append-nil, subst, arith, length-append}
-use Rattle.std.specs.Prelude.{slice_get}
-use Rattle.std.specs.List.{flat_map}
-use Rattle.std.specs.Io.KnownBytes.{append_known}
+use Rattle.tx_script.proofs.Common.{◌≡◌, ℕ, ◌+◌, ◌<◌, List, [], ◌∷◌, ◌++◌, length, drop, Option, Some, None, refl, sym, ap, ◌∙◌, append_assoc, append-nil, subst, arith, length-append, slice_get, flat_map, append_known, StopsIn, append_known-nil, append_known_twice, Plan, Ended, drained, first_of, none_in, ticket_text, StopsAtTicket}
 use Rattle.std.proofs.lemmas.List.Concat.{flat_map-append}
-use Rattle.tx_text.specs.Ends.{StopsIn}
-use Rattle.tx_text.proofs.Writing.{append_known-nil, append_known_twice}
-use Rattle.tx_plan.specs.Plan.{Plan}
-use Rattle.tx_machine.specs.Ended.{Ended}
 use Rattle.tx_machine.specs.State.{State, ticket_taken}
-use Rattle.tx_machine.specs.Drained.{drained}
-use Rattle.tx_machine.proofs.Lists.{first_of, none_in}
-use Rattle.tx_tickets.specs.Texts.{ticket_text}
-use Rattle.tx_script.specs.Untold.{StopsAtTicket}
 
 -- some of a network's tickets were taken and written, so many, and some are left
 pub record IsDraining (p : Plan) (s t : State) (a b : Option (List ℕ)) (n : ℕ) : Type 0 where

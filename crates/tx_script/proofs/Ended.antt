@@ -1,19 +1,11 @@
 -- How many calls ended by each cause, and one call more.
-use Rattle.std.proofs.Common.{◌≡◌, ℕ, ◌+◌, ◌^◌, ◌<◌, ◌≤◌, ◌==◌, cond, List, [], ◌∷◌, ◌++◌, length, drop, get_or, Option, Some, None, inl, inr, refl, sym, ap, ap₂, ◌∙◌, subst, eq-eqb, arith, append-nil, append_assoc}
+use Rattle.tx_script.proofs.Common.{◌≡◌, ℕ, ◌+◌, ◌^◌, ◌<◌, ◌≤◌, ◌==◌, cond, List, [], ◌∷◌, ◌++◌, length, drop, get_or, Option, Some, None, inl, inr, refl, sym, ap, ap₂, ◌∙◌, subst, eq-eqb, arith, append-nil, append_assoc, sum_by_push, count_by-le-length, count_by, flat_map, Cause, cause_text, Ended, first_of, none_in, ALL, calls_line, ended_by}
 use Rattle.std.proofs.lemmas.Bool.{ne_eqb, cases_eq, cases_lt}
 use Rattle.std.proofs.lemmas.List.{get_or-set_same, get_or-set_other, get_or-replicate, get_or_past, length-set, length-replicate}
-use Rattle.std.proofs.lemmas.List.Sums.{sum_by_push, count_by-le-length}
 use Rattle.std.specs.Prelude.{replicate, slice_get, option_map, IfSome}
-use Rattle.std.specs.List.{count_by, flat_map}
-use Rattle.tx_machine.specs.declared.cause.Cause.{Cause}
 use Rattle.tx_machine.specs.declared.cause.Cause.TheVariants.{Service as ByService, ClearedByCaller, ClearedByCalled, Lost as ByLoss}
 use Rattle.tx_machine.specs.declared.cause.Service.TheVariants.{Occ, Nc, Np, Der, Abs, Na}
-use Rattle.tx_tickets.specs.Texts.{cause_text}
-use Rattle.tx_machine.specs.Ended.{Ended}
-use Rattle.tx_machine.proofs.Lists.{first_of, none_in}
-use Rattle.tx_machine.specs.declared.cause.TheConstants.Cause.{ALL}
 use Rattle.tx_machine.specs.Causes.{index_of}
-use Rattle.tx_script.specs.Summaries.{calls_line, ended_by}
 use Rattle.tx_script.specs.inner.Counting.{Counted, AreFew, count_for, ends_counted, one_counted, one_ended, all_ended}
 
 -- the counts stand by the indexes of the causes

@@ -1,10 +1,9 @@
 -- The line that is written for an event says that event.
-use Rattle.std.proofs.Common.{◌≡◌, ℕ, ◌-◌, ◌^◌, ◌<◌, ◌≤◌, true, false, not, ◌||◌, List, [], ◌∷◌, ◌++◌, length, Some, Ok, codes, refl, arith, length-append}
+use Rattle.tx_script.proofs.Common.{◌≡◌, ℕ, ◌-◌, ◌^◌, ◌<◌, ◌≤◌, true, false, not, ◌||◌, List, [], ◌∷◌, ◌++◌, length, Some, Ok, codes, refl, arith, length-append, nat_tests, IsPlan, is_national, Circuit, Line, Event, Key, Route, Confirm, Clear, Released, Fail, Restore, Block, Unblock, CircuitOut, CircuitIn, LineFault, LineMend, LineAway, LineBack, Party}
 use Rattle.std.specs.Prelude.{decimal}
 use Rattle.std.specs.List.{list_all, prefix_len}
 use Rattle.std.proofs.Math.Seq.{drop-append-add}
 use Rattle.std.proofs.lemmas.Bool.{and_parts, lt-ltb, ne_eqb}
-use Rattle.std.proofs.lemmas.Bool.Decides.{nat_tests}
 use Rattle.std.proofs.lemmas.List.{take_at}
 use Rattle.tx_text.specs.Words.{is_letter, is_figure, are_figures}
 use Rattle.tx_text.specs.Frame.{is_end}
@@ -13,12 +12,6 @@ use Rattle.tx_text.specs.inner.Written.{IsWrittenLine}
 use Rattle.tx_text.proofs.ReadBack.{words_joined}
 use Rattle.tx_text.proofs.WrittenWords.{IsShortWord, all_stronger, name_bytes, name_word, figures_word, number_word, number_back, circuit_word, line_of_short, fixed_word, no_fault}
 use Rattle.tx_plan.specs.Plan.{Plan, group_name, figures_of as code_figures}
-use Rattle.tx_plan.specs.Rules.{IsPlan, is_national}
-use Rattle.tx_plan.specs.declared.ids.Circuit.{Circuit}
-use Rattle.tx_plan.specs.declared.ids.Line.{Line}
-use Rattle.tx_machine.specs.declared.event.Event.{Event}
-use Rattle.tx_machine.specs.declared.event.Event.TheVariants.{Key, Route, Confirm, Clear, Released, Fail, Restore, Block, Unblock, CircuitOut, CircuitIn, LineFault, LineMend, LineAway, LineBack}
-use Rattle.tx_machine.specs.declared.open_call.Party.{Party}
 use Rattle.tx_machine.specs.declared.open_call.Party.TheVariants.{Caller, Called}
 use Rattle.tx_tickets.specs.Texts.{circuit_text}
 use Rattle.tx_script.specs.Events.{is_dot, cut_at_dot, from_one, line_of, circuit_of, call_in, group_in, party_word, event_of, event_in, event_words, IsWritableCircuit, FitsPlan, IsEvent, EventsReadBack}

@@ -1,29 +1,14 @@
 -- The circuits that are taken, as they are marked, and one event more.
 use Rattle.std.proofs.Common.{◌≡◌, ◌≢◌, ℕ, zero, suc, ◌+◌, ◌<◌, ◌≤◌, ◌==◌, Bool, true, false, not, ◌&&◌, ◌||◌, cond, List, [], ◌∷◌, ◌++◌, length, get_or, Option, Some, None, inl, inr, refl, sym, ap, ap₂, ◌∙◌, subst, eq-eqb, arith}
-use Rattle.std.proofs.lemmas.Bool.{false≢true, and_parts, ne_eqb, cases_eq}
-use Rattle.std.proofs.lemmas.List.{get_or-set_same, get_or-set_other, get_or-replicate, length-replicate, length-set}
-use Rattle.std.proofs.lemmas.List.Sums.{sum_by_push}
+use Rattle.tx_script.proofs.Common.{false≢true, and_parts, ne_eqb, cases_eq, get_or-set_same, get_or-set_other, get_or-replicate, length-replicate, length-set, sum_by_push, count_by, flat_map, list_any, range_with_len, circuit_cmp, same_circuit, Plan, Group, Circuit, Event, Key, Route, Confirm, Clear, Released, Fail, Restore, Block, Unblock, CircuitOut, CircuitIn, LineFault, LineMend, LineAway, LineBack, Reply, State, Moment, is_refused, IsFresh, NoneReleasing, peak_line}
 use Rattle.std.specs.Prelude.{if◌then◌else◌, max, slice_get, slice_set, replicate}
-use Rattle.std.specs.List.{count_by, flat_map, list_any, range_with_len}
 use Rattle.std.specs.Option.{option_map_or}
 use Rattle.std.specs.FinSet as set
-use Rattle.tx_plan.specs.Orders.{circuit_cmp, same_circuit}
-use Rattle.tx_plan.specs.Plan.{Plan, Group}
 use Rattle.tx_plan.specs.Rules.{IsPlan, IsGroup}
 use Rattle.tx_plan.specs.Circuits.{count_of, upward}
-use Rattle.tx_plan.specs.declared.ids.Circuit.{Circuit}
-use Rattle.tx_machine.specs.declared.event.Event.{Event}
-use Rattle.tx_machine.specs.declared.event.Event.TheVariants.{Key, Route, Confirm, Clear, Released, Fail, Restore, Block, Unblock, CircuitOut, CircuitIn, LineFault, LineMend, LineAway, LineBack}
-use Rattle.tx_machine.specs.declared.reply.Reply.{Reply}
 use Rattle.tx_machine.specs.declared.reply.Reply.TheVariants.{Keyed, Seized, At, Connected, Answered, HeadOn, Cleared, Done, Lost, Refused}
-use Rattle.tx_machine.specs.State.{State}
-use Rattle.tx_machine.specs.Runs.{Moment}
 use Rattle.tx_machine.proofs.Lists.{at_index}
-use Rattle.tx_machine.specs.Sound.{is_refused}
 use Rattle.tx_script.specs.declared.group_use.GroupUse.{GroupUse}
-use Rattle.tx_script.specs.Answers.{IsFresh}
-use Rattle.tx_script.specs.TellingAnswers.{NoneReleasing}
-use Rattle.tx_script.specs.Summaries.{peak_line}
 use Rattle.tx_script.specs.Taken.{uses, is_taken, taken_of, peak}
 use Rattle.tx_script.specs.inner.Counting.{still, count_in, with_mark, with_most, no_marks, idle, use_at, change_at, uses_after}
 

@@ -16,3 +16,4 @@ pub mod Running
 pub mod RunEnds
 pub mod Silent
 pub mod Retold
+pub mod Common

@@ -1,19 +1,9 @@
 -- A run of one event more, over a network whose tickets are taken after each.
-use Rattle.std.proofs.Common.{◌≡◌, ◌+◌, ◌≤◌, cond, List, [], ◌∷◌, ◌++◌, length, drop, refl, sym, ap, ◌∙◌, arith, length-append}
-use Rattle.std.specs.List.{count_by, sum_by}
+use Rattle.tx_script.proofs.Common.{◌≡◌, ◌+◌, ◌≤◌, cond, List, [], ◌∷◌, ◌++◌, length, drop, refl, sym, ap, ◌∙◌, arith, length-append, count_by, sum_by, Plan, Event, Ended, State, step, Moment, moment, run, state_after, is_refused, tickets_made, moment_text, settled_state, next}
 use Rattle.std.proofs.lemmas.List.Sums.{sum_by_push, sum_by-cons}
 use Rattle.std.proofs.Math.Seq.{drop-append_seam}
-use Rattle.tx_plan.specs.Plan.{Plan}
-use Rattle.tx_machine.specs.declared.event.Event.{Event}
-use Rattle.tx_machine.specs.Ended.{Ended}
-use Rattle.tx_machine.specs.State.{State}
-use Rattle.tx_machine.specs.Step.{step}
-use Rattle.tx_machine.specs.Runs.{Moment, moment, run, state_after}
-use Rattle.tx_machine.specs.Sound.{is_refused}
 use Rattle.tx_machine.specs.Drained.{drained, IsAppending}
 use Rattle.tx_machine.proofs.Appending.{appends}
-use Rattle.tx_script.specs.Output.{tickets_made, moment_text}
-use Rattle.tx_script.specs.Answers.{settled_state, next}
 use Rattle.tx_script.proofs.Balance.{step_within}
 
 pub run_push : (p : Plan) (s : State) (es : List Event) (e : Event) → run p s (es ++ e ∷ []) ≡ run p s es ++ moment p (state_after p s es) e ∷ []

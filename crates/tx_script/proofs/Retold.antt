@@ -1,18 +1,7 @@
 -- An answer of a run, where less is said of why its source ended and of what was left as it was.
-use Rattle.std.proofs.Common.{ℕ, Bool, true, false, List, Result, Ok, Err, inl, inr}
-use Rattle.tx_text.specs.declared.frame.FaultKind.{FaultKind}
-use Rattle.tx_text.specs.Ends.{Input, Output}
-use Rattle.tx_plan.specs.Plan.{Plan}
-use Rattle.tx_machine.specs.declared.event.Event.{Event}
-use Rattle.tx_script.specs.declared.run_cause.RunCause.{RunCause}
+use Rattle.tx_script.proofs.Common.{ℕ, Bool, true, false, List, Result, Ok, Err, inl, inr, FaultKind, Input, Output, Plan, Event, RunCause, RunFault, ScriptWord, Summary, Telling, Script, ToldRan, FaultyTold, StoppedTelling, TellingAnswers}
 use Rattle.tx_script.specs.declared.run_cause.RunCause.TheVariants.{Read, Write, Script as OfScript, NoMemory}
-use Rattle.tx_script.specs.declared.run_fault.RunFault.{RunFault}
-use Rattle.tx_script.specs.declared.script_word.ScriptWord.{ScriptWord}
-use Rattle.tx_script.specs.declared.summary.Summary.{Summary}
-use Rattle.tx_script.specs.declared.teller.Telling.{Telling}
-use Rattle.tx_script.specs.Script.{Script}
 use Rattle.tx_script.specs.Answers.{States, NothingDone, Begins, Ran, FaultyBy, Stopped, RunAnswers, is_reader_room}
-use Rattle.tx_script.specs.TellingAnswers.{ToldRan, FaultyTold, StoppedTelling, TellingAnswers}
 
 module _ (p : Plan) (source : Input) (net : States) (sink : Output) (D V J : Type 0)
     (f : source.broken → D) (g : source.unread → V) (h : net.unchanged → J) where

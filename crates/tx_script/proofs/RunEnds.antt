@@ -1,48 +1,17 @@
 -- The ways in which a run ends, and a step of its frame.
 use Rattle.std.proofs.Common.{◌≡◌, ℕ, ◌+◌, ◌<◌, Bool, true, cond, List, [], ◌∷◌, ◌++◌, length, Option, None, ◌⊎◌, Result, Ok, Err, IfOk, IfErr, OnOk, OnErr, inl, inr, refl, sym, ap, ◌∙◌, subst, append-nil}
-use Rattle.std.specs.Prelude.{if◌then◌else◌, option_map}
-use Rattle.std.specs.List.{flat_map, count_by}
+use Rattle.tx_script.proofs.Common.{if◌then◌else◌, option_map, flat_map, count_by, FrameFault, FaultKind, Frame, Word, StopsIn, Input, Output, Ending, AtEnd, Framed, Done, Stop, Has, ReadsOn, EndsAs, Stopped, is_read, FrameStep, append_known_twice, Plan, IsPlan, Event, State, refusal, moment, run, state_after, is_refused, drained, reply_text, ticket_text, Answered, RunFault, RunCause, ScriptWord, Summary, Tally, Telling, end_text, IsUntold, IsFresh, States, settled_state, next, Begins, echo_asked, told_events, told_last, StopsInLines, ToldRan, StoppedTelling, TellingAnswers, Counted, AreNew, asked_of, counted_on, last_lines}
 use Rattle.std.specs.Io.KnownBytes.{append_known, IsAtEnd}
 use Rattle.tx_text.specs.declared.frame.FrameFault.TheVariants.{LineTooLong, BadByte, NoMemory as TextNoMemory, Read as line_read, NoHeader, NoEnd, AfterEnd}
-use Rattle.tx_text.specs.declared.frame.FrameFault.{FrameFault}
-use Rattle.tx_text.specs.declared.frame.FaultKind.{FaultKind}
-use Rattle.tx_text.specs.declared.frame.FaultKind.TheVariants.{Frame, Word}
-use Rattle.tx_text.specs.Ends.{StopsIn, Input, Output}
-use Rattle.tx_text.specs.Told.{Ending, AtEnd}
-use Rattle.tx_text.specs.Frame.{Framed, Done, Stop, Has, ReadsOn, EndsAs, Stopped, is_read}
 use Rattle.tx_text.specs.Text.{Line}
-use Rattle.tx_text.specs.declared.frame.FrameStep.{FrameStep}
 use Rattle.tx_text.specs.declared.frame.FrameStep.TheVariants.{Header, Line as LineStep, End}
 use Rattle.tx_text.specs.inner.Framing.{number_of_line, words_of_line, GoesOn}
 use Rattle.tx_text.specs.Said.{is_no_room}
 use Rattle.tx_text.proofs.NoRoom.{IsSaid, none_stops}
-use Rattle.tx_text.proofs.Writing.{append_known_twice}
-use Rattle.tx_plan.specs.Plan.{Plan}
-use Rattle.tx_plan.specs.Rules.{IsPlan}
-use Rattle.tx_machine.specs.declared.event.Event.{Event}
-use Rattle.tx_machine.specs.State.{State}
-use Rattle.tx_machine.specs.Refusals.{refusal}
-use Rattle.tx_machine.specs.Runs.{moment, run, state_after}
-use Rattle.tx_machine.specs.Sound.{is_refused}
-use Rattle.tx_machine.specs.Drained.{drained}
-use Rattle.tx_tickets.specs.Texts.{reply_text, ticket_text}
-use Rattle.tx_script.specs.declared.runner.Answered.{Answered}
-use Rattle.tx_script.specs.declared.run_fault.RunFault.{RunFault}
-use Rattle.tx_script.specs.declared.run_cause.RunCause.{RunCause}
 use Rattle.tx_script.specs.declared.run_cause.RunCause.TheVariants.{Read, Write, Script as OfScript, NoMemory}
-use Rattle.tx_script.specs.declared.script_word.ScriptWord.{ScriptWord}
-use Rattle.tx_script.specs.declared.summary.Summary.{Summary}
-use Rattle.tx_script.specs.declared.teller.Tally.{Tally}
-use Rattle.tx_script.specs.declared.teller.Telling.{Telling}
 use Rattle.tx_script.specs.Events.{Said, event_of}
 use Rattle.tx_script.specs.Script.{faulty, script_said, script_of}
-use Rattle.tx_script.specs.Output.{end_text}
-use Rattle.tx_script.specs.Untold.{IsUntold}
-use Rattle.tx_script.specs.Answers.{IsFresh, States, settled_state, next, Begins}
-use Rattle.tx_script.specs.Telling.{echo_asked, told_events, told_last}
 use Rattle.tx_script.specs.inner.LineAnswers.{Untold, LineTold}
-use Rattle.tx_script.specs.TellingAnswers.{StopsInLines, ToldRan, StoppedTelling, TellingAnswers}
-use Rattle.tx_script.specs.inner.Counting.{Counted, AreNew, asked_of, counted_on, last_lines}
 use Rattle.tx_script.proofs.Scripts.{event_said, fault_said, whole_said, stop_said}
 use Rattle.tx_script.proofs.Moments.{reply_same, made_same, after_same}
 use Rattle.tx_script.proofs.Counting.{last_told}

@@ -1,38 +1,13 @@
 -- A run that goes on from event to event.
 use Rattle.std.proofs.Common.{◌≡◌, ℕ, ◌+◌, ◌*◌, ◌^◌, ◌<◌, ◌≤◌, Bool, true, false, cond, List, [], ◌∷◌, ◌++◌, length, Option, ◌⊎◌, Ok, Err, codes, refl, sym, ap, ◌∙◌, arith, length-append}
-use Rattle.std.specs.Prelude.{if◌then◌else◌, option_map}
-use Rattle.std.specs.List.{count_by, sum_by}
-use Rattle.std.specs.Io.KnownBytes.{append_known}
-use Rattle.std.proofs.lemmas.List.Sums.{count_by-le-length}
+use Rattle.tx_script.proofs.Common.{if◌then◌else◌, option_map, count_by, sum_by, append_known, count_by-le-length, source_calls, Ending, reading_size, Framed, Headed, Has, ReadsOn, FrameStep, FrameReading, frame_start, to_come, append_known-nil, append_known_twice, Plan, IsPlan, Event, State, Moment, moment, run, state_after, is_refused, drained, Answered, RunFault, RunCause, ScriptWord, Tally, tickets_made, told_moment, told_events, Counted, AreFew, AreNew, counted_on, counted_over}
 use Rattle.tx_text.specs.declared.frame.FaultAt.{FaultAt}
-use Rattle.tx_text.specs.Calls.{source_calls}
-use Rattle.tx_text.specs.Told.{Ending}
-use Rattle.tx_text.specs.inner.Reading.{reading_size}
-use Rattle.tx_text.specs.Frame.{Framed, Headed, Has, ReadsOn}
-use Rattle.tx_text.specs.declared.frame.FrameStep.{FrameStep}
 use Rattle.tx_text.specs.declared.frame.FrameStep.TheVariants.{Header, Line as LineStep, End}
-use Rattle.tx_text.specs.inner.Framing.{FrameReading, frame_start, to_come}
 use Rattle.tx_text.proofs.CallCounts.{went_past}
-use Rattle.tx_text.proofs.Writing.{append_known-nil, append_known_twice}
-use Rattle.tx_plan.specs.Plan.{Plan}
-use Rattle.tx_plan.specs.Rules.{IsPlan}
-use Rattle.tx_machine.specs.declared.event.Event.{Event}
-use Rattle.tx_machine.specs.State.{State}
-use Rattle.tx_machine.specs.Runs.{Moment, moment, run, state_after}
-use Rattle.tx_machine.specs.Sound.{is_refused}
-use Rattle.tx_machine.specs.Drained.{drained}
-use Rattle.tx_script.specs.declared.runner.Answered.{Answered}
-use Rattle.tx_script.specs.declared.run_fault.RunFault.{RunFault}
-use Rattle.tx_script.specs.declared.run_cause.RunCause.{RunCause}
 use Rattle.tx_script.specs.declared.run_cause.RunCause.TheVariants.{Read, Script as OfScript}
-use Rattle.tx_script.specs.declared.script_word.ScriptWord.{ScriptWord}
-use Rattle.tx_script.specs.declared.teller.Tally.{Tally}
 use Rattle.tx_script.specs.Events.{Said, event_of}
-use Rattle.tx_script.specs.Output.{tickets_made}
 use Rattle.tx_script.specs.inner.LineAnswers.{count_of, IsTold, LineTold}
 use Rattle.tx_script.specs.Answers.{IsFresh, settled_state, next, mark_by}
-use Rattle.tx_script.specs.Telling.{told_moment, told_events}
-use Rattle.tx_script.specs.inner.Counting.{Counted, AreFew, AreNew, counted_on, counted_over}
 use Rattle.tx_script.proofs.Scripts.{SaidSoFar, at_start, header_said, event_said}
 use Rattle.tx_script.proofs.Moments.{run_push, one_more, few_tickets, length_run, reply_same, made_same, after_same}
 use Rattle.tx_script.proofs.Told.{told_more, told_same}

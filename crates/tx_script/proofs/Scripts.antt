@@ -1,18 +1,8 @@
 -- What was read so far, as the first events of a script.
-use Rattle.std.proofs.Common.{◌≡◌, ℕ, List, [], ◌∷◌, ◌++◌, Option, Ok, Err, codes, refl, sym, ap, ◌∙◌, append_assoc, append-nil, subst}
-use Rattle.tx_text.specs.declared.frame.FrameFault.{FrameFault}
-use Rattle.tx_text.specs.declared.frame.FaultKind.{FaultKind}
-use Rattle.tx_text.specs.declared.frame.FaultKind.TheVariants.{Frame, Word}
-use Rattle.tx_text.specs.Calls.{source_calls}
-use Rattle.tx_text.specs.Told.{Ending, AtEnd}
+use Rattle.tx_script.proofs.Common.{◌≡◌, ℕ, List, [], ◌∷◌, ◌++◌, Option, Ok, Err, codes, refl, sym, ap, ◌∙◌, append_assoc, append-nil, subst, FrameFault, FaultKind, Frame, Word, source_calls, Ending, AtEnd, Framed, Done, Stop, Headed, Has, ReadsOn, EndsAs, Stopped, is_read, FrameReading, frame_start, to_come, Plan, Event, ScriptWord}
 use Rattle.tx_text.specs.inner.Reading.{told_at}
-use Rattle.tx_text.specs.Frame.{Framed, Done, Stop, Headed, Has, ReadsOn, EndsAs, Stopped, is_read}
-use Rattle.tx_text.specs.inner.Framing.{FrameReading, frame_start, to_come}
 use Rattle.tx_text.proofs.ReadingOn.{moves-nil}
 use Rattle.tx_text.proofs.Framing.{on_then, end_then, map_on, map_end, stopped_map}
-use Rattle.tx_plan.specs.Plan.{Plan}
-use Rattle.tx_machine.specs.declared.event.Event.{Event}
-use Rattle.tx_script.specs.declared.script_word.ScriptWord.{ScriptWord}
 use Rattle.tx_script.specs.Events.{event_of}
 use Rattle.tx_script.specs.Script.{Script, whole, faulty, after_events, line_said, script_said, script_of}
 

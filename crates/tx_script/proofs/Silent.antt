@@ -1,27 +1,8 @@
 -- A run that tells no more than replies and tickets answers what a run does.
-use Rattle.std.proofs.Common.{◌≡◌, ℕ, ◌+◌, Bool, true, false, List, [], ◌∷◌, ◌++◌, Option, Some, None, Result, Ok, Err, inl, inr, sym, ap, ap₂, refl, ◌∙◌, subst, append-nil}
-use Rattle.std.proofs.lemmas.Bool.{false≢true}
-use Rattle.std.specs.List.{flat_map}
-use Rattle.std.specs.Io.KnownBytes.{append_known}
-use Rattle.tx_text.specs.declared.frame.FaultKind.{FaultKind}
-use Rattle.tx_text.specs.Ends.{StopsIn, Input, Output}
-use Rattle.tx_text.proofs.Writing.{append_known-nil}
-use Rattle.tx_plan.specs.Plan.{Plan}
-use Rattle.tx_machine.specs.declared.event.Event.{Event}
-use Rattle.tx_machine.specs.State.{State}
-use Rattle.tx_machine.specs.Runs.{Moment, run, state_after}
-use Rattle.tx_script.specs.declared.run_fault.RunFault.{RunFault}
-use Rattle.tx_script.specs.declared.run_cause.RunCause.{RunCause}
+use Rattle.tx_script.proofs.Common.{◌≡◌, ℕ, ◌+◌, Bool, true, false, List, [], ◌∷◌, ◌++◌, Option, Some, None, Result, Ok, Err, inl, inr, sym, ap, ap₂, refl, ◌∙◌, subst, append-nil, false≢true, flat_map, append_known, FaultKind, StopsIn, Input, Output, append_known-nil, Plan, Event, State, Moment, run, state_after, RunFault, RunCause, ScriptWord, Summary, Telling, Script, IsUntold, told_moments, told_events, told_last, ToldRan, StopsInLines, FaultyTold, StoppedTelling, TellingAnswers}
 use Rattle.tx_script.specs.declared.run_cause.RunCause.TheVariants.{Read, Write, Script as OfScript, NoMemory}
-use Rattle.tx_script.specs.declared.script_word.ScriptWord.{ScriptWord}
-use Rattle.tx_script.specs.declared.summary.Summary.{Summary}
-use Rattle.tx_script.specs.declared.teller.Telling.{Telling}
-use Rattle.tx_script.specs.Script.{Script}
 use Rattle.tx_script.specs.Output.{moment_text, events_text, end_text, last_text}
-use Rattle.tx_script.specs.Untold.{IsUntold}
 use Rattle.tx_script.specs.Answers.{States, next, Ran, Stopped, FaultyBy, RunAnswers, is_reader_room}
-use Rattle.tx_script.specs.Telling.{told_moments, told_events, told_last}
-use Rattle.tx_script.specs.TellingAnswers.{ToldRan, StopsInLines, FaultyTold, StoppedTelling, TellingAnswers}
 
 abbrev pub nothing : Telling
 nothing = record { echo = false; summary = false }

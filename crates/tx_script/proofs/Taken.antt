@@ -2,34 +2,21 @@
 use Rattle.std.proofs.Common.{◌≡◌, ℕ, ◌+◌, ◌==◌, Bool, true, false, not, ◌&&◌, ◌||◌, List, [], ◌∷◌, ◌++◌, ◌⊎◌, inl, inr, map, refl, sym, ap, ◌∙◌, subst, eqb-true, eq-eqb, append-nil}
 use Rattle.std.proofs.lemmas.Bool.{or_cases, or_left, or_right, and_parts, and_from, not-true, false_from_ne_true}
 use Rattle.std.proofs.lemmas.List.{map_push}
-use Rattle.std.specs.Prelude.{if◌then◌else◌, filter}
-use Rattle.std.specs.List.{list_any, flat_map}
+use Rattle.tx_script.proofs.Common.{if◌then◌else◌, filter, list_any, flat_map, circuit_cmp, same_circuit, Plan, Among, Circuit, Line, Cause, Phase, Standing, Calling, Connected, State, Holds, calling_on, uses, is_taken}
 use Rattle.std.specs.Ordering.{eq_by_cmp}
 use Rattle.std.specs.FinSet as set
-use Rattle.tx_plan.specs.Orders.{circuit_cmp, same_circuit}
-use Rattle.tx_plan.specs.Plan.{Plan}
-use Rattle.tx_plan.specs.Among.{Among}
 use Rattle.tx_plan.proofs.Among.{among_cases, among_left, among_right, among_map, map_among, among_flat, flat_among, among_filter, filter_among}
-use Rattle.tx_plan.specs.declared.ids.Circuit.{Circuit}
-use Rattle.tx_plan.specs.declared.ids.Line.{Line}
 use Rattle.tx_plan.proofs.Named.{circuits_total, same_circuit-is, same_circuit-itself, circuit_tie, exact_circuits, in_insert, in_union}
-use Rattle.tx_machine.specs.declared.cause.Cause.{Cause}
 use Rattle.tx_machine.specs.declared.cause.Cause.TheVariants.{Lost as ByLoss}
 use Rattle.tx_machine.specs.declared.open_call.Hop.{Hop}
-use Rattle.tx_machine.specs.declared.open_call.Phase.{Phase}
-use Rattle.tx_machine.specs.declared.open_call.Phase.TheVariants.{Standing, Calling, Connected}
 use Rattle.tx_machine.specs.Call.{Call, circuit_called, is_numbered}
-use Rattle.tx_machine.specs.State.{State}
 use Rattle.tx_machine.specs.InUse.{circuits_used, circuits_carried, seizes, uses_group}
-use Rattle.tx_machine.specs.inner.Invariant.{Holds}
 use Rattle.tx_machine.specs.Routing.{set_call, in_phase}
 use Rattle.tx_machine.specs.Ending.{given_up, end_calls}
 use Rattle.tx_machine.specs.Confirming.{carried_on, thrown_back, collide}
 use Rattle.tx_machine.specs.Step.{keyed_call, keyed_in, failed_at}
 use Rattle.tx_machine.proofs.Lists.{any_mem, mem_any, none_any}
-use Rattle.tx_machine.proofs.Uses.{calling_on}
 use Rattle.tx_machine.proofs.Invariant.{set_cases}
-use Rattle.tx_script.specs.Taken.{uses, is_taken}
 
 -- ---- what is taken, said of members
 

@@ -1,45 +1,19 @@
 -- Each event does to the circuits that are taken what its reply tells.
-use Rattle.std.proofs.Common.{◌≡◌, ℕ, ◌==◌, Bool, true, false, not, ◌&&◌, ◌||◌, [], ◌∷◌, ◌++◌, ◌⊎◌, inl, inr, Option, Some, None, refl, sym, ap, ◌∙◌, subst}
+use Rattle.tx_script.proofs.Common.{◌≡◌, ℕ, ◌==◌, Bool, true, false, not, ◌&&◌, ◌||◌, [], ◌∷◌, ◌++◌, ◌⊎◌, inl, inr, Option, Some, None, refl, sym, ap, ◌∙◌, subst, if◌then◌else◌, same_circuit, Plan, home_of, code_of, is_barred, Among, Circuit, Line, same_circuit-is, same_circuit-itself, Event, Key, Route, Confirm, Clear, Released, Fail, Restore, Block, Unblock, CircuitOut, CircuitIn, LineFault, LineMend, LineAway, LineBack, Service, Nc, Np, Na, Cause, Refusal, Reply, Refused, Phase, Standing, Calling, Connected, State, line_answer, with_call, accepted, counted, unless_refused, step, cause_by, Holds, calling_on, is_taken, still}
 use Rattle.std.proofs.lemmas.Bool.{or_cases, and_parts, and_from, not-false}
-use Rattle.std.specs.Prelude.{if◌then◌else◌}
 use Rattle.std.specs.Cmp.{both_ways}
 use Rattle.std.specs.FinSet as set
-use Rattle.tx_plan.specs.Orders.{same_circuit}
-use Rattle.tx_plan.specs.Plan.{Plan, home_of}
-use Rattle.tx_plan.specs.Codes.{code_of}
 use Rattle.tx_plan.specs.Circuits.{is_circuit}
-use Rattle.tx_plan.specs.Routes.{is_barred}
-use Rattle.tx_plan.specs.Among.{Among}
-use Rattle.tx_plan.specs.declared.ids.Circuit.{Circuit}
-use Rattle.tx_plan.specs.declared.ids.Line.{Line}
-use Rattle.tx_plan.proofs.Named.{same_circuit-is, same_circuit-itself}
-use Rattle.tx_machine.specs.declared.event.Event.{Event}
-use Rattle.tx_machine.specs.declared.event.Event.TheVariants.{Key, Route, Confirm, Clear, Released, Fail, Restore, Block, Unblock, CircuitOut, CircuitIn, LineFault, LineMend, LineAway, LineBack}
-use Rattle.tx_machine.specs.declared.cause.Service.{Service}
-use Rattle.tx_machine.specs.declared.cause.Service.TheVariants.{Nc, Np, Na}
-use Rattle.tx_machine.specs.declared.cause.Cause.{Cause}
 use Rattle.tx_machine.specs.declared.cause.Cause.TheVariants.{Service as ByService}
-use Rattle.tx_machine.specs.declared.refusal.Refusal.{Refusal}
 use Rattle.tx_machine.specs.declared.refusal.Refusal.TheVariants.{UnknownCall}
-use Rattle.tx_machine.specs.declared.reply.Reply.{Reply}
-use Rattle.tx_machine.specs.declared.reply.Reply.TheVariants.{Refused}
-use Rattle.tx_machine.specs.declared.open_call.Phase.{Phase}
-use Rattle.tx_machine.specs.declared.open_call.Phase.TheVariants.{Standing, Calling, Connected}
 use Rattle.tx_machine.specs.Call.{Call, exchange_of, call_of, is_standing, is_numbered, is_first}
-use Rattle.tx_machine.specs.State.{State}
 use Rattle.tx_machine.specs.InUse.{choice, seizes, seizes_from}
-use Rattle.tx_machine.specs.Lines.{line_answer}
 use Rattle.tx_machine.specs.Refusals.{is_other, refusals, refusal}
 use Rattle.tx_machine.specs.Ending.{end_calls, answered}
 use Rattle.tx_machine.specs.Routing.{at_line, at_trunk, line_of, routed_for}
 use Rattle.tx_machine.specs.Confirming.{far_of, collide, second_time, confirmed_by, rival, confirmed}
-use Rattle.tx_machine.specs.Step.{with_call, accepted, counted, unless_refused, step, cause_by}
-use Rattle.tx_machine.specs.inner.Invariant.{Holds}
 use Rattle.tx_machine.proofs.Lists.{find_mem}
-use Rattle.tx_machine.proofs.Uses.{calling_on}
 use Rattle.tx_machine.proofs.Steps.{tests_false, stands}
-use Rattle.tx_script.specs.Taken.{is_taken}
-use Rattle.tx_script.specs.inner.Counting.{still}
 use Rattle.tx_script.proofs.Taken.{Taken, is_taken-so, so-is_taken, end_only, end_all, fail_only, fail_all, key_only, key_all, connect_only, connect_all, seize_only, seize_all, carry_only, carry_all, collide_only, collide_all, release_only, release_all}
 
 -- where the same members are taken, the same is told of them

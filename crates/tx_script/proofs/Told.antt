@@ -1,16 +1,5 @@
 -- The lines of events that are told with their numbers.
-use Rattle.std.proofs.Common.{◌≡◌, ℕ, ◌+◌, Bool, true, false, List, [], ◌∷◌, ◌++◌, length, Option, inl, refl, sym, ap, ◌∙◌, append-nil, append_assoc, arith}
-use Rattle.tx_text.specs.Ends.{StopsIn}
-use Rattle.tx_plan.specs.Plan.{Plan}
-use Rattle.tx_machine.specs.declared.event.Event.{Event}
-use Rattle.tx_machine.specs.declared.reply.Reply.{Reply}
-use Rattle.tx_machine.specs.Ended.{Ended}
-use Rattle.tx_machine.specs.State.{State}
-use Rattle.tx_machine.specs.Runs.{Moment, moment, run}
-use Rattle.tx_machine.specs.Drained.{drained}
-use Rattle.tx_script.specs.Answers.{next}
-use Rattle.tx_script.specs.Telling.{echo_asked, told_moment, told_moments, told_events}
-use Rattle.tx_script.specs.TellingAnswers.{StopsInLines}
+use Rattle.tx_script.proofs.Common.{◌≡◌, ℕ, ◌+◌, Bool, true, false, List, [], ◌∷◌, ◌++◌, length, Option, inl, refl, sym, ap, ◌∙◌, append-nil, append_assoc, arith, StopsIn, Plan, Event, Reply, Ended, State, Moment, moment, run, drained, next, echo_asked, told_moment, told_moments, told_events, StopsInLines}
 use Rattle.tx_script.proofs.Answering.{IsAnswer}
 use Rattle.tx_script.proofs.Moments.{run_push, length_run, text_same}
 

@@ -1,6 +1,5 @@
 -- Lists of words that have another number of words.
-use Rattle.std.proofs.Common.{◌≡◌, ◌≢◌, ℕ, List, [], ◌∷◌, length, None, refl}
-use Rattle.tx_script.specs.Events.{one_word, two_words, three_words}
+use Rattle.tx_script.proofs.Common.{◌≡◌, ◌≢◌, ℕ, List, [], ◌∷◌, length, None, refl, one_word, two_words, three_words}
 
 pub not_one : (ws : List (List ℕ)) → length ws ≢ 1 → one_word ws ≡ None
 not_one [] h = refl

@@ -3,20 +3,13 @@ use Rattle.std.proofs.Common.{◌≡◌, ℕ, ◌-◌, ◌^◌, ◌<◌, ◌≤�
 use Rattle.std.specs.Str.{bytes_eq}
 use Rattle.std.specs.Str.Parse.{digits_value}
 use Rattle.std.proofs.lemmas.Bool.{and_parts, leb-true}
-use Rattle.std.proofs.lemmas.Bool.Decides.{nat_tests}
+use Rattle.tx_script.proofs.Common.{nat_tests, is_national, Circuit, Line, Event, Key, Route, Confirm, Clear, Released, Fail, Restore, Block, Unblock, CircuitOut, CircuitIn, LineFault, LineMend, LineAway, LineBack, Party, ScriptWord}
 use Rattle.std.proofs.lemmas.Option.{cond_some}
 use Rattle.tx_plan.proofs.ByIndex.{index_within}
 use Rattle.tx_text.specs.Words.{number_of, figures_of, are_figures, is_numeral}
 use Rattle.tx_plan.specs.Plan.{Plan, Code, Group, code_named, group_named}
-use Rattle.tx_plan.specs.Rules.{is_national}
-use Rattle.tx_plan.specs.declared.ids.Circuit.{Circuit}
-use Rattle.tx_plan.specs.declared.ids.Line.{Line}
-use Rattle.tx_machine.specs.declared.event.Event.{Event}
-use Rattle.tx_machine.specs.declared.event.Event.TheVariants.{Key, Route, Confirm, Clear, Released, Fail, Restore, Block, Unblock, CircuitOut, CircuitIn, LineFault, LineMend, LineAway, LineBack}
-use Rattle.tx_machine.specs.declared.open_call.Party.{Party}
 use Rattle.tx_script.specs.declared.event_words.Verb.{Verb}
 use Rattle.tx_script.specs.declared.event_words.Verb.TheVariants.{Key as KeyVerb, Route as RouteVerb, Confirm as ConfirmVerb, Clear as ClearVerb, Released as ReleasedVerb, Fail as FailVerb, Restore as RestoreVerb, Block as BlockVerb, Unblock as UnblockVerb, Out as OutVerb, In as InVerb, Fault as FaultVerb, Mend as MendVerb, Away as AwayVerb, Back as BackVerb, End as EndVerb}
-use Rattle.tx_script.specs.declared.script_word.ScriptWord.{ScriptWord}
 use Rattle.tx_script.specs.Events.{call_number, party_of, national_of, from_one, circuit_number, cut_at_dot, spelt, with_name, with_words, with_party, said_of, line_of, circuit_of, one_word, two_words, three_words, key_event, call_in, clear_event, circuit_in, group_in, line_in, end_event, verb_of, event_by, event_for, event_of, IsWritableCircuit, FitsPlan, IsEvent}
 
 -- ---- a step of what is said, backwards

@@ -2,8 +2,7 @@
 use Rattle.std.proofs.Common.{◌≡◌, ℕ, ◌+◌, List, ◌++◌, sym, ap}
 use Rattle.tx_text.proofs.Ranges.{flat_map-range_more}
 use Rattle.tx_html.specs.Shows.{Seen, Sets}
-use Rattle.tx_html.proofs.Showing.{sets_is, sets_then}
-use Rattle.tx_svg.specs.Indexed.{texts_below}
+use Rattle.tx_svg.proofs.Common.{sets_is, sets_then, texts_below}
 
 module _ {W : Type 0} {seen : W → Seen} (texts : ℕ → List (List ℕ)) where
   -- those of one index more

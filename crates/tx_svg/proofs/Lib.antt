@@ -1,2 +1,3 @@
 pub mod Indexed
 pub mod Ranked
+pub mod Common

@@ -1,13 +1,6 @@
 -- What a reader of texts says of its calls, one after another.
-use Rattle.std.proofs.Common.{◌≡◌, ℕ, List, [], ◌∷◌, ◌++◌, Option, Some, None, Result, Ok, Err, Bool, true, false, refl, sym, ◌∙◌, append_assoc, append-nil, subst, inl, inr, length, nat_lt, ◌≤◌, arith}
-use Rattle.std.proofs.lemmas.Bool.{ltb-true, ltb-false}
-use Rattle.std.specs.Io.KnownBytes.{prepend_known, IsAtEnd}
-use Rattle.tx_text.specs.declared.text_fault.TextFault.{TextFault}
-use Rattle.tx_text.specs.declared.frame.FrameFault.{FrameFault}
-use Rattle.tx_text.specs.declared.frame.FrameFault.TheVariants.{Read}
+use Rattle.tx_text.proofs.Common.{◌≡◌, ℕ, List, [], ◌∷◌, ◌++◌, Option, Some, None, Result, Ok, Err, Bool, true, false, refl, sym, ◌∙◌, append_assoc, append-nil, subst, inl, inr, length, nat_lt, ◌≤◌, arith, ltb-true, ltb-false, prepend_known, IsAtEnd, TextFault, FrameFault, Read, Ending, AtEnd, Cut, Faulty, frame_fault, ReadsOn, EndsAs, Stopped}
 use Rattle.tx_text.specs.Text.{Line, bytes_fault}
-use Rattle.tx_text.specs.Told.{Ending, AtEnd, Cut, Faulty, frame_fault}
-use Rattle.tx_text.specs.Frame.{ReadsOn, EndsAs, Stopped}
 use Rattle.tx_text.specs.inner.Feed.{Feed, feed_gives, finish_gives, finish_leaves, ends_giving, ends_leaving}
 use Rattle.tx_text.specs.inner.Reading.{told_at, Rest, rest_of, IsFeed, Came, LineCame, Advances, ended_as, Reading, reading_rest, fed_on, has_line}
 use Rattle.tx_text.proofs.FeedSteps.{Says, says, no_read}

@@ -1,11 +1,6 @@
 -- A text whose lines speak of something that stays as it is.
-use Rattle.std.proofs.Common.{◌≡◌, ℕ, ◌==◌, ◌||◌, Bool, true, false, List, Option, Result, Ok, Err, refl, sym, ap, ◌∙◌}
+use Rattle.tx_text.proofs.Common.{◌≡◌, ℕ, ◌==◌, ◌||◌, Bool, true, false, List, Option, Result, Ok, Err, refl, sym, ap, ◌∙◌, FrameFault, FaultKind, Frame, Word, Ending, AtEnd, Framed, Done, Stop, Headed, Has, is_read}
 use Rattle.std.specs.Result.{is_ok, result_map_both}
-use Rattle.tx_text.specs.declared.frame.FrameFault.{FrameFault}
-use Rattle.tx_text.specs.declared.frame.FaultKind.{FaultKind}
-use Rattle.tx_text.specs.declared.frame.FaultKind.TheVariants.{Frame, Word}
-use Rattle.tx_text.specs.Told.{Ending, AtEnd}
-use Rattle.tx_text.specs.Frame.{Framed, Done, Stop, Headed, Has, is_read}
 use Rattle.tx_text.specs.Said.{said, step_on, goes_on, declares_at, lines_within, text_said, line_declares, WantingAt, is_no_room, DeclaredBy, Declared, RefusedBy, StoppedBy, Answered, FaultsBy, AnswersAs}
 use Rattle.tx_text.specs.inner.Beside.{beside, without}
 use Rattle.tx_text.proofs.Framing.{on_says, on_then, end_then, map_end, stands_map, stopped_map}

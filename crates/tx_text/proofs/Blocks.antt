@@ -1,6 +1,5 @@
 -- A test of all elements of a list, made in blocks.
-use Rattle.std.proofs.Common.{◌≡◌, ℕ, ◌+◌, ◌-◌, ◌≤◌, Bool, true, false, ◌&&◌, List, take, drop, refl, ap, sym, ◌∙◌, take-append-drop, arith}
-use Rattle.std.specs.List.{list_all}
+use Rattle.tx_text.proofs.Common.{◌≡◌, ℕ, ◌+◌, ◌-◌, ◌≤◌, Bool, true, false, ◌&&◌, List, take, drop, refl, ap, sym, ◌∙◌, take-append-drop, arith, list_all}
 use Rattle.std.proofs.Math.Seq.{take-add}
 use Rattle.std.proofs.lemmas.List.Folds.{list_all-append}
 

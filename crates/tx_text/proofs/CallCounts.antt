@@ -1,17 +1,10 @@
 -- How often a source was called, over several readings.
 use Rattle.std.proofs.Common.{◌≡◌, ℕ, zero, suc, ◌+◌, ◌*◌, ◌<◌, min, ◌⊎◌, Bool, true, false, List, Option, Result, Ok, length, drop, refl, sym, ap, ◌∙◌, arith, inl, inr, subst}
-use Rattle.std.proofs.lemmas.List.{length-drop, drop-drop}
+use Rattle.tx_text.proofs.Common.{length-drop, drop-drop, FrameFault, FaultKind, Went, Calls, Reading, reading_size, Ending, Stopped, is_read, StoppedBy}
 use Rattle.tx_text.specs.declared.source.ReadFault.{ReadFault}
-use Rattle.tx_text.specs.declared.frame.FrameFault.{FrameFault}
-use Rattle.tx_text.specs.declared.frame.FaultKind.{FaultKind}
 use Rattle.tx_text.specs.Calls.{Gives, Gave, CallsAtMost, Broken}
-use Rattle.tx_text.specs.inner.CallsLeft.{Went, Calls}
-use Rattle.tx_text.specs.inner.Reading.{Reading, reading_size}
 use Rattle.tx_text.specs.inner.Framing.{WentOn}
 use Rattle.tx_text.specs.Slices.{slice_called, SlicesAreReadWhole}
-use Rattle.tx_text.specs.Told.{Ending}
-use Rattle.tx_text.specs.Frame.{Stopped, is_read}
-use Rattle.tx_text.specs.Said.{StoppedBy}
 
 module _ {S : Type 0} (called : ℕ → Result ℕ ReadFault → S → S → Type 0) where
   gave_on : (m n k : ℕ) (a b c : S) → k ≡ n + m → Gave called m a b → Gave called n b c → Gave called k a c

@@ -1,11 +1,6 @@
 -- The lines of a text up to the first fault, one after another.
-use Rattle.std.proofs.Common.{◌≡◌, ℕ, ◌+◌, ◌-◌, ◌<◌, List, [], ◌∷◌, ◌++◌, Some, None, Ok, Err, true, length, take, drop, refl, sym, ap, ◌∙◌, arith}
-use Rattle.std.specs.List.{position_or_len}
-use Rattle.std.proofs.lemmas.List.{take_all, length-drop, length-append, drop-drop}
-use Rattle.std.proofs.lemmas.Bool.{lt-ltb}
-use Rattle.tx_text.specs.declared.text_fault.TextFault.{TextFault}
+use Rattle.tx_text.proofs.Common.{◌≡◌, ℕ, ◌+◌, ◌-◌, ◌<◌, List, [], ◌∷◌, ◌++◌, Some, None, Ok, Err, true, length, take, drop, refl, sym, ap, ◌∙◌, arith, position_or_len, take_all, length-drop, length-append, drop-drop, lt-ltb, TextFault, front_of, has_lf}
 use Rattle.tx_text.specs.Text.{Line, is_lf, lines_from, bytes_fault, checked, checked_line}
-use Rattle.tx_text.specs.inner.Feed.{front_of, has_lf}
 use Rattle.tx_text.proofs.TextLines.{ended_line, last_line, lines_at_lf, lines_last, lines_nil}
 use Rattle.tx_text.proofs.Feeding.{front-no_lf, cuts_at_lf, length-front}
 

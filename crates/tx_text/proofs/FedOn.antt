@@ -1,11 +1,6 @@
 -- What a line feeder has after the front of a piece was added to the line that has begun.
-use Rattle.std.proofs.Common.{◌≡◌, ℕ, ◌+◌, Bool, true, Option, Some, None, List, [], ◌++◌, length, take, nat_lt, ◌<◌, refl, sym, ap, ◌∙◌, arith, append-nil}
-use Rattle.std.proofs.lemmas.List.{length-append}
-use Rattle.std.proofs.lemmas.Bool.{lt-ltb}
-use Rattle.std.specs.List.{position_or_len}
-use Rattle.tx_text.specs.declared.text_fault.TextFault.{TextFault}
+use Rattle.tx_text.proofs.Common.{◌≡◌, ℕ, ◌+◌, Bool, true, Option, Some, None, List, [], ◌++◌, length, take, nat_lt, ◌<◌, refl, sym, ap, ◌∙◌, arith, append-nil, length-append, lt-ltb, position_or_len, TextFault, Feed, front_of, has_lf, line_fault, piece_fault, feed_leaves, leaves_by, feed_with_line, begun_more}
 use Rattle.tx_text.specs.Text.{Line, is_lf, without_cr}
-use Rattle.tx_text.specs.inner.Feed.{Feed, front_of, has_lf, line_fault, piece_fault, feed_leaves, leaves_by, feed_with_line, begun_more}
 
 -- f is the feeder before, b is f without its complete line, and a is b with the front added
 pub record Added (f a : Feed) (front : List ℕ) : Type 0 where

@@ -1,17 +1,10 @@
 -- What one call of a line feeder leaves.
 use Rattle.std.proofs.Common.{◌≡◌, ℕ, ◌+◌, ◌-◌, ◌≤◌, Bool, true, false, Option, Some, None, Result, Ok, Err, List, [], ◌++◌, length, drop, refl, sym, ap, arith, MatchResult, not, subst, append-nil}
 use Rattle.std.proofs.lemmas.List.{length-append, drop_all}
-use Rattle.std.proofs.lemmas.List.Elements.{All-append, All-nil}
-use Rattle.std.proofs.lemmas.List.Sums.{prefix_len-le-length}
-use Rattle.std.proofs.lemmas.Bool.{ltb-true}
-use Rattle.tx_text.specs.declared.text_fault.TextFault.{TextFault}
+use Rattle.tx_text.proofs.Common.{All-append, All-nil, prefix_len-le-length, ltb-true, TextFault, FrameFault, Fed, Ending, Faulty, Then, frame_fault, is_read}
 use Rattle.tx_text.specs.declared.text_fault.TextFault.TheVariants.{LineTooLong, BadByte, NoMemory}
-use Rattle.tx_text.specs.declared.frame.FrameFault.{FrameFault}
-use Rattle.tx_text.specs.declared.feeder.Fed.{Fed}
 use Rattle.tx_text.specs.Text.{Line, is_lf, without_cr, bytes_fault, begun_fault}
 use Rattle.tx_text.specs.inner.Feed.{Feed, front_of, has_lf, piece_fault, feed_gives, feed_leaves, gives_by, leaves_by, ends_leaving, finish_leaves, feed_at_end, feed_with_line, begun_more, feed_with_fault}
-use Rattle.tx_text.specs.Told.{Ending, Faulty, Then, frame_fault}
-use Rattle.tx_text.specs.Frame.{is_read}
 use Rattle.tx_text.specs.inner.Reading.{told_at, IsFeed, Rest, rest_of, piece_left, has_line}
 use Rattle.tx_text.proofs.TextLines.{ended_line}
 use Rattle.tx_text.proofs.Feeding.{front-no_lf, length-front, no_cut, feed-line, feed-faulty, begun-faulty}

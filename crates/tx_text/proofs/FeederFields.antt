@@ -1,7 +1,5 @@
 -- The fields of a line feeder that has no completed line.
-use Rattle.std.proofs.Common.{◌≡◌, Bool, true, false, cond, Option, Some, None, refl, ap, ◌∙◌}
-use Rattle.tx_text.specs.Text.{Line}
-use Rattle.tx_text.specs.inner.Feed.{Feed}
+use Rattle.tx_text.proofs.Common.{◌≡◌, Bool, true, false, cond, Option, Some, None, refl, ap, ◌∙◌, Line, Feed}
 use Rattle.tx_text.specs.inner.Feeder.{feed_of, held_line}
 use Rattle.tx_text.specs.declared.feeder.LineFeeder.TheInside.{Inside}
 

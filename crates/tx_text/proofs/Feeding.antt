@@ -1,15 +1,9 @@
 -- What a line feeder makes of the pieces of a text, in terms of the text.
-use Rattle.std.proofs.Common.{◌≡◌, ℕ, ◌+◌, ◌-◌, ◌<◌, ◌≤◌, Bool, true, false, cond, Option, Some, None, List, [], ◌∷◌, ◌++◌, length, take, drop, get_or, refl, sym, ap, ◌∙◌, arith, append_assoc, append-nil, not, subst, eqb}
-use Rattle.std.specs.List.{position_or_len}
+use Rattle.tx_text.proofs.Common.{◌≡◌, ℕ, ◌+◌, ◌-◌, ◌<◌, ◌≤◌, Bool, true, false, cond, Option, Some, None, List, [], ◌∷◌, ◌++◌, length, take, drop, get_or, refl, sym, ap, ◌∙◌, arith, append_assoc, append-nil, not, subst, eqb, position_or_len, All-append, TextFault, LineTooLong, Read, Feed, front_of, has_lf, feed_with_line}
 use Rattle.std.proofs.lemmas.List.{length-take, length-take-le, get_or-take, take_all, length-append}
-use Rattle.std.proofs.lemmas.List.Elements.{All-append}
 use Rattle.std.proofs.lemmas.Bool.{eqb-true, ltb-true, ltb-false, lt-ltb}
 use Rattle.std.proofs.lemmas.List.Sums.{split_at_first, fails_before_first, passes_at_first, prefix_len-le-length}
-use Rattle.tx_text.specs.declared.text_fault.TextFault.{TextFault}
-use Rattle.tx_text.specs.declared.text_fault.TextFault.TheVariants.{LineTooLong}
-use Rattle.tx_text.specs.declared.frame.FrameFault.TheVariants.{Read}
 use Rattle.tx_text.specs.Text.{is_lf, without_cr, lines_from, bytes_fault, begun_fault}
-use Rattle.tx_text.specs.inner.Feed.{Feed, front_of, has_lf, feed_with_line}
 use Rattle.tx_text.specs.Told.{Ending, AtEnd, Cut, Told, Closed, Faulty, Then, frame_fault, told, or_fault}
 use Rattle.tx_text.specs.inner.Reading.{told_at, IsFeed, rest_of}
 use Rattle.tx_text.proofs.LineFaults.{length-without_cr}

@@ -1,14 +1,8 @@
 -- What a frame reader answers at each line.
-use Rattle.std.proofs.Common.{◌≡◌, ℕ, ◌+◌, List, [], ◌∷◌, Option, None, Some, Err, Bool, true, false, refl, sym, ap, ◌∙◌, inl, inr, subst}
-use Rattle.std.specs.Io.KnownBytes.{IsAtEnd}
-use Rattle.tx_text.specs.declared.frame.FrameFault.{FrameFault}
-use Rattle.tx_text.specs.declared.frame.FramePart.{FramePart}
-use Rattle.tx_text.specs.declared.frame.FramePart.TheVariants.{Start, Body, Ended}
+use Rattle.tx_text.proofs.Common.{◌≡◌, ℕ, ◌+◌, List, [], ◌∷◌, Option, None, Some, Err, Bool, true, false, refl, sym, ap, ◌∙◌, inl, inr, subst, IsAtEnd, FrameFault, FramePart, Start, Body, Ended, Line, Ending, AtEnd, Told, Closed, Faulty, Then}
 use Rattle.tx_text.specs.declared.frame.LineForm.{LineForm}
 use Rattle.tx_text.specs.declared.frame.LineForm.TheVariants.{Bad, Plain}
-use Rattle.tx_text.specs.Text.{Line}
 use Rattle.tx_text.specs.Words.{words_of}
-use Rattle.tx_text.specs.Told.{Ending, AtEnd, Told, Closed, Faulty, Then}
 use Rattle.tx_text.specs.inner.Reading.{told_at, Rest, Came, LineCame, Advances}
 use Rattle.tx_text.specs.Frame.{Framed, Stop, Has, framed, is_end, looked_by, looked, closing, last_by, last_fault, ended_by, as_said, ReadsOn, EndsAs, Stopped, is_read}
 use Rattle.tx_text.specs.inner.Framing.{GoesOn, end_as, number_of_line, words_of_line}

@@ -1,7 +1,5 @@
 -- Readers of framed texts: one line after another.
-use Rattle.std.proofs.Common.{◌≡◌, ℕ, List, [], ◌++◌, Option, Bool, true, false, refl, ap, ◌∙◌, append_assoc, inl, inr}
-use Rattle.tx_text.specs.Told.{Ending}
-use Rattle.tx_text.specs.Frame.{ReadsOn, EndsAs, Stands, Stopped}
+use Rattle.tx_text.proofs.Common.{◌≡◌, ℕ, List, [], ◌++◌, Option, Bool, true, false, refl, ap, ◌∙◌, append_assoc, inl, inr, Ending, ReadsOn, EndsAs, Stands, Stopped}
 use Rattle.tx_text.proofs.ReadingOn.{moves-nil, moves_on}
 
 pub on_none : {X : Type 0} (a : Option (List ℕ)) (F : Ending → List ℕ → X) → ReadsOn a a F F

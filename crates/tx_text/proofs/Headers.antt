@@ -1,6 +1,5 @@
 -- A line of another number of words is no header.
-use Rattle.std.proofs.Common.{◌≡◌, ◌≢◌, ℕ, List, [], ◌∷◌, None, length, refl}
-use Rattle.tx_text.specs.Frame.{header_of}
+use Rattle.tx_text.proofs.Common.{◌≡◌, ◌≢◌, ℕ, List, [], ◌∷◌, None, length, refl, header_of}
 
 pub header_count : (key : List ℕ) (most : ℕ) (ws : List (List ℕ)) → length ws ≢ 2 → header_of key most ws ≡ None
 header_count key most [] other = refl

@@ -1,14 +1,8 @@
 -- Feeding a text in pieces gives its lines.
-use Rattle.std.proofs.Common.{◌≡◌, ℕ, zero, suc, ◌+◌, ◌<◌, ◌≤◌, Bool, true, false, nat_lt, Option, Some, None, Result, Ok, Err, List, [], ◌∷◌, ◌++◌, length, drop, refl, sym, ap, ◌∙◌, arith, subst, append_assoc, append-nil}
-use Rattle.std.specs.List.{flat_map, position_or_len}
-use Rattle.std.proofs.lemmas.Bool.{ltb-true, ltb-false}
-use Rattle.std.proofs.lemmas.List.{length-drop}
-use Rattle.tx_text.specs.declared.text_fault.TextFault.{TextFault}
+use Rattle.tx_text.proofs.Common.{◌≡◌, ℕ, zero, suc, ◌+◌, ◌<◌, ◌≤◌, Bool, true, false, nat_lt, Option, Some, None, Result, Ok, Err, List, [], ◌∷◌, ◌++◌, length, drop, refl, sym, ap, ◌∙◌, arith, subst, append_assoc, append-nil, flat_map, position_or_len, ltb-true, ltb-false, length-drop, TextFault, FrameFault, Feed, front_of, has_lf, piece_fault, feed_gives, feed_leaves, gives_by, leaves_by, begun_more, feed_with_line, ends_giving, ends_leaving}
 use Rattle.tx_text.specs.declared.text_fault.TextFault.TheVariants.{LineTooLong as too_long, BadByte as bad_byte, NoMemory as no_memory}
-use Rattle.tx_text.specs.declared.frame.FrameFault.{FrameFault}
 use Rattle.tx_text.specs.declared.frame.FrameFault.TheVariants.{LineTooLong, BadByte, NoMemory}
 use Rattle.tx_text.specs.Text.{Line, is_lf, lines_from, lines_of, bytes_fault, checked, checked_line}
-use Rattle.tx_text.specs.inner.Feed.{Feed, front_of, has_lf, piece_fault, feed_gives, feed_leaves, gives_by, leaves_by, begun_more, feed_with_line, ends_giving, ends_leaving}
 use Rattle.tx_text.specs.Told.{AtEnd, Told, Closed, Faulty, Then, frame_fault, told, told_line, or_fault}
 use Rattle.tx_text.specs.inner.Reading.{told_at, IsFeed, rest_of}
 use Rattle.tx_text.specs.inner.Pieces.{FeedingGives, taken, completed, faulty, over, unfinished, unfinished_faulty, unfed_yet, PiecesGiveTheLines}

@@ -33,3 +33,4 @@ pub mod Starting
 pub mod Exits
 pub mod Beside
 mod ReadCalls
+pub mod Common

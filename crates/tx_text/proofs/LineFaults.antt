@@ -1,11 +1,7 @@
 -- What is wrong with a line, and with a part of it.
-use Rattle.std.proofs.Common.{◌≡◌, ℕ, ◌+◌, ◌-◌, ◌<◌, ◌≤◌, ◌++◌, Bool, true, false, cond, eqb, Some, List, length, take, get_or, refl, ap, arith}
+use Rattle.tx_text.proofs.Common.{◌≡◌, ℕ, ◌+◌, ◌-◌, ◌<◌, ◌≤◌, ◌++◌, Bool, true, false, cond, eqb, Some, List, length, take, get_or, refl, ap, arith, length-take, length-append, lt-ltb, LineTooLong, line_fault}
 use Rattle.std.proofs.Math.Seq.{take-length}
-use Rattle.std.proofs.lemmas.List.{length-take, length-append}
-use Rattle.std.proofs.lemmas.Bool.{lt-ltb}
-use Rattle.tx_text.specs.declared.text_fault.TextFault.TheVariants.{LineTooLong}
 use Rattle.tx_text.specs.Text.{without_cr, bytes_fault, begun_fault}
-use Rattle.tx_text.specs.inner.Feed.{line_fault}
 
 cr_len : (line : List ℕ) (b : Bool) → length line ≤ length (cond b (take (length line - 1) line) line) + 1
 cr_len line true = omega (arith, length-take (length line - 1) line)

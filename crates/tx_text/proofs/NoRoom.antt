@@ -1,21 +1,12 @@
 -- No text says that there was no memory for its reader.
-use Rattle.std.proofs.Common.{◌≡◌, ℕ, ◌+◌, Bool, true, false, List, [], ◌∷◌, Option, Some, None, inl, inr, refl, sym, ◌∙◌}
+use Rattle.tx_text.proofs.Common.{◌≡◌, ℕ, ◌+◌, Bool, true, false, List, [], ◌∷◌, Option, Some, None, inl, inr, refl, sym, ◌∙◌, list_all, TextFault, LineTooLong, BadByte, FrameFault, Read, FramePart, Start, Body, Ended, FrameReading, to_come, is_no_room}
 use Rattle.std.specs.Prelude.{if◌then◌else◌, nat_lt, length}
-use Rattle.std.specs.List.{list_all}
 use Rattle.std.proofs.lemmas.Bool.{true≢false}
-use Rattle.tx_text.specs.declared.text_fault.TextFault.{TextFault}
-use Rattle.tx_text.specs.declared.text_fault.TextFault.TheVariants.{LineTooLong, BadByte}
-use Rattle.tx_text.specs.declared.frame.FrameFault.{FrameFault}
-use Rattle.tx_text.specs.declared.frame.FrameFault.TheVariants.{Read}
-use Rattle.tx_text.specs.declared.frame.FramePart.{FramePart}
-use Rattle.tx_text.specs.declared.frame.FramePart.TheVariants.{Start, Body, Ended}
 use Rattle.tx_text.specs.Text.{Line, is_text_byte, bytes_fault, without_cr, begun_fault}
 use Rattle.tx_text.specs.Words.{words_of}
 use Rattle.tx_text.specs.Told.{Ending, AtEnd, Cut, Told, Closed, Faulty, Then, frame_fault, or_fault, told_line, told}
 use Rattle.tx_text.specs.inner.Reading.{told_at, reading_rest}
 use Rattle.tx_text.specs.Frame.{Framed, Done, Stop, Headed, Has, is_end, headed, looked_by, closing, last_by, last_fault, ended_by, as_said, framed_line, header_of, framed, Stopped}
-use Rattle.tx_text.specs.inner.Framing.{FrameReading, to_come}
-use Rattle.tx_text.specs.Said.{is_no_room}
 
 -- a fault of bytes is none of memory
 abbrev IsOfBytes : Option TextFault → Type 0

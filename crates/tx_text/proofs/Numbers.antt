@@ -1,12 +1,10 @@
 -- The value of figures, one after another.
 use Rattle.std.proofs.Common.{◌≡◌, ℕ, ◌+◌, ◌-◌, ◌*◌, ◌^◌, ◌<◌, true, nat_le, List, length, take, get_or, sym, ap, ◌∙◌, arith, add-one}
-use Rattle.std.specs.Str.Parse.{digits_value}
+use Rattle.tx_text.proofs.Common.{digits_value, and_parts, leb-true, is_figure}
 use Rattle.std.specs.Char.{digit_value}
 use Rattle.std.proofs.Math.Nat.{pow-suc}
-use Rattle.std.proofs.lemmas.Bool.{and_parts, leb-true}
 use Rattle.std.proofs.lemmas.Str.{digit_value_digit}
 use Rattle.std.proofs.lemmas.Int.Digits.{digits_value_more}
-use Rattle.tx_text.specs.Words.{is_figure}
 
 value_of_figure : (b : ℕ) → is_figure b ≡ true → (digit_value b ≡ b - 48) × (digit_value b < 10)
 value_of_figure b h =

@@ -1,9 +1,6 @@
 -- Texts of the indexes of a list, one after another, and what is put to a sink of them.
-use Rattle.std.proofs.Common.{◌≡◌, ℕ, zero, suc, ◌+◌, ◌-◌, ◌<◌, Bool, List, ◌∷◌, ◌++◌, Option, refl, sym, ap, ◌∙◌, arith, append-nil}
+use Rattle.tx_text.proofs.Common.{◌≡◌, ℕ, zero, suc, ◌+◌, ◌-◌, ◌<◌, Bool, List, ◌∷◌, ◌++◌, Option, refl, sym, ap, ◌∙◌, arith, append-nil, flat_map-append, line_written, Puts}
 use Rattle.std.specs.List.{flat_map, range_with_len}
-use Rattle.std.proofs.lemmas.List.Concat.{flat_map-append}
-use Rattle.tx_text.specs.Written.{line_written}
-use Rattle.tx_text.specs.Puts.{Puts}
 use Rattle.tx_text.proofs.Putting.{puts_is, puts_then}
 
 range_split : (a m n : ℕ) → range_with_len a (m + n) ≡ range_with_len a m ++ range_with_len (a + m) n

@@ -1,17 +1,12 @@
 -- What was written reads back.
 use Rattle.std.proofs.Common.{◌≡◌, ◌==◌, ℕ, ◌+◌, ◌-◌, ◌<◌, ◌≤◌, ◌≢◌, Bool, true, false, nat_lt, List, [], ◌∷◌, ◌++◌, length, get_or, filter, Option, None, Some, Result, Ok, codes, refl, ap, ◌∙◌, append_assoc, arith}
-use Rattle.std.specs.List.{All, AllByRecursion, slice_split, list_all, flat_map}
-use Rattle.std.proofs.lemmas.Bool.Decides.{nat_tests}
-use Rattle.std.proofs.lemmas.List.Splits.{slice_split_at, slice_split_none}
+use Rattle.tx_text.proofs.Common.{All, AllByRecursion, slice_split, list_all, flat_map, nat_tests, slice_split_at, slice_split_none, list_all-from_AllPass, Start, Body, Ended, joined, line_written}
 use Rattle.std.proofs.lemmas.List.Elements.{All-head, All-tail, All-append, All-cons, All-nil, All-weaker}
-use Rattle.std.proofs.lemmas.List.Sums.{list_all-from_AllPass}
-use Rattle.tx_text.specs.declared.frame.FramePart.TheVariants.{Start, Body, Ended}
 use Rattle.tx_text.specs.Text.{Line, is_lf, is_text_byte, without_cr, bytes_fault, lines_from, lines_of}
 use Rattle.tx_text.specs.Words.{words_of, is_blank, is_hash, is_filled, before}
 use Rattle.tx_text.specs.Told.{Ending, AtEnd, Then, told}
 use Rattle.tx_text.specs.Frame.{Framed, Done, Has, Headed, is_end, framed}
 use Rattle.tx_text.specs.Said.{said, step_on}
-use Rattle.tx_text.specs.Written.{joined, line_written}
 use Rattle.tx_text.specs.inner.Written.{IsWritten, IsPlain, IsWord, IsWrittenLine, LeadsTo}
 use Rattle.tx_text.proofs.TextLines.{lines_nil}
 use Rattle.tx_text.proofs.Feeding.{told-lf, none_fault}

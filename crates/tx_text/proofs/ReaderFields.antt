@@ -2,10 +2,8 @@
 use Rattle.std.proofs.Common.{◌≡◌, ℕ, ◌+◌, ◌-◌, ◌<◌, ◌≤◌, ◌⊎◌, Bool, true, false, List, [], ◌++◌, Option, Some, None, length, take, drop, Ok, Err, inl, inr, refl, sym, ap, ◌∙◌, arith, rules, take-take}
 use Rattle.std.proofs.lemmas.List.{length-take-le, length-drop, drop-drop, drop-take}
 use Rattle.std.proofs.lemmas.Result.{MatchResult-at_ok, MatchResult-at_err}
-use Rattle.tx_text.specs.declared.text_fault.TextFault.{TextFault}
-use Rattle.tx_text.specs.declared.feeder.Fed.{Fed}
+use Rattle.tx_text.proofs.Common.{TextFault, Fed, Feed, feed_gives, feed_leaves, finish_leaves, front_of, has_lf, leaves_by, piece_fault, feed_with_line}
 use Rattle.tx_text.specs.Text.{Line, without_cr, bytes_fault, begun_fault}
-use Rattle.tx_text.specs.inner.Feed.{Feed, feed_gives, feed_leaves, finish_leaves, front_of, has_lf, leaves_by, piece_fault, feed_with_line}
 use Rattle.tx_text.specs.inner.Reading.{Reading, IsFeed, fed_on, reading_of_calls}
 use Rattle.tx_text.specs.inner.Reader.{IsReader, reading_of, lending}
 use Rattle.tx_text.specs.declared.reader.TextReader.TheInside.{Inside}

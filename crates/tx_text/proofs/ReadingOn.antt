@@ -1,7 +1,5 @@
 -- Reading on: the bytes of one call after another.
-use Rattle.std.proofs.Common.{◌≡◌, ℕ, List, [], ◌++◌, Option, Some, None, refl, sym, ap, ◌∙◌, append_assoc}
-use Rattle.std.specs.Io.KnownBytes.{prepend_known}
-use Rattle.tx_text.specs.Told.{Moves}
+use Rattle.tx_text.proofs.Common.{◌≡◌, ℕ, List, [], ◌++◌, Option, Some, None, refl, sym, ap, ◌∙◌, append_assoc, prepend_known, Moves}
 
 pub moves-nil : (a : Option (List ℕ)) → Moves a a []
 moves-nil None = refl

@@ -1,11 +1,5 @@
 -- Readers of framed texts: one line after another.
-use Rattle.std.proofs.Common.{◌≡◌, ℕ, List, [], Option, Result, Ok, Err, Bool, true, false, refl, ap, inl}
-use Rattle.std.specs.Result.{is_ok}
-use Rattle.tx_text.specs.declared.frame.FrameFault.{FrameFault}
-use Rattle.tx_text.specs.declared.frame.FaultKind.{FaultKind}
-use Rattle.tx_text.specs.declared.frame.FaultKind.TheVariants.{Frame, Word}
-use Rattle.tx_text.specs.Told.{Ending, AtEnd}
-use Rattle.tx_text.specs.Frame.{Framed, Done, Stop, Headed, Has, ReadsOn, EndsAs, Stopped, is_read}
+use Rattle.tx_text.proofs.Common.{◌≡◌, ℕ, List, [], Option, Result, Ok, Err, Bool, true, false, refl, ap, inl, is_ok, FrameFault, FaultKind, Frame, Word, Ending, AtEnd, Framed, Done, Stop, Headed, Has, ReadsOn, EndsAs, Stopped, is_read}
 use Rattle.tx_text.specs.Said.{said, step_on, DeclaredBy, RefusedBy, StoppedBy, is_no_room}
 use Rattle.tx_text.proofs.ReadingOn.{moves-nil}
 use Rattle.tx_text.proofs.NoRoom.{IsSaid, none_stops}

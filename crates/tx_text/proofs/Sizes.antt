@@ -1,12 +1,6 @@
 -- Each line that is given leaves less to read.
 use Rattle.std.proofs.Common.{◌≡◌, ℕ, ◌+◌, ◌<◌, Bool, true, false, List, [], length, Option, None, Some, Result, Ok, Err, IfOk, IfSome, OnOk, refl, ap, arith, subst}
-use Rattle.std.proofs.lemmas.List.{length-drop, length-take-le}
-use Rattle.std.proofs.lemmas.Bool.{ltb-true}
-use Rattle.std.specs.List.{position_or_len}
-use Rattle.tx_text.specs.Text.{is_lf}
-use Rattle.tx_text.specs.declared.text_fault.TextFault.{TextFault}
-use Rattle.tx_text.specs.inner.Feed.{gives_by, feed_gives, piece_fault, has_lf, front_of}
-use Rattle.tx_text.specs.inner.Reading.{Reading, reading_size, fed_on, has_line, piece_left}
+use Rattle.tx_text.proofs.Common.{length-drop, length-take-le, ltb-true, position_or_len, is_lf, TextFault, gives_by, feed_gives, piece_fault, has_lf, front_of, Reading, reading_size, fed_on, has_line, piece_left}
 
 pub if_ok : {T E : Type 0} {P : T → Type 0} (r : Result T E) → ((x : T) → P x) → IfOk r P
 if_ok (Ok x) h = h x

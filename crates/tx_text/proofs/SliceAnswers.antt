@@ -1,12 +1,5 @@
 -- What a reader answers over a slice is what the whole text says.
-use Rattle.std.proofs.Common.{◌≡◌, ℕ, List, ◌++◌, Option, Some, None, Result, Ok, Err, Bool, true, false, refl, ap, ◌∙◌, append-nil, inl, inr}
-use Rattle.std.specs.Io.KnownBytes.{IsAtEnd}
-use Rattle.tx_text.specs.declared.frame.FrameFault.{FrameFault}
-use Rattle.tx_text.specs.declared.frame.FaultKind.{FaultKind}
-use Rattle.tx_text.specs.declared.frame.FaultKind.TheVariants.{Frame, Word}
-use Rattle.tx_text.specs.Told.{Ending, AtEnd, Moves}
-use Rattle.tx_text.specs.Frame.{ReadsOn, EndsAs, Stands, Stopped, is_read}
-use Rattle.tx_text.specs.Said.{Answered, StoppedBy, RefusedBy, is_no_room, FaultsBy, AnswersAs}
+use Rattle.tx_text.proofs.Common.{◌≡◌, ℕ, List, ◌++◌, Option, Some, None, Result, Ok, Err, Bool, true, false, refl, ap, ◌∙◌, append-nil, inl, inr, IsAtEnd, FrameFault, FaultKind, Frame, Word, Ending, AtEnd, Moves, ReadsOn, EndsAs, Stands, Stopped, is_read, Answered, StoppedBy, RefusedBy, is_no_room, FaultsBy, AnswersAs}
 
 -- the bytes that were read, and those that are left
 record Parted (text read : List ℕ) (new : Option (List ℕ)) : Type 0 where

@@ -1,7 +1,5 @@
 -- A text of which nothing was read yet.
-use Rattle.std.proofs.Common.{◌≡◌, ℕ, List, Option, Result, refl, sym, ap}
-use Rattle.tx_text.specs.Told.{Ending}
-use Rattle.tx_text.specs.Frame.{ReadsOn}
+use Rattle.tx_text.proofs.Common.{◌≡◌, ℕ, List, Option, Result, refl, sym, ap, Ending, ReadsOn}
 use Rattle.tx_text.specs.Said.{said, declares_at, lines_within, text_said, line_declares}
 use Rattle.tx_text.specs.inner.Reading.{told_at}
 use Rattle.tx_text.specs.inner.Framing.{FrameReading, frame_start, to_come}

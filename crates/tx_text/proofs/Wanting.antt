@@ -1,9 +1,6 @@
 -- Lines that declare something, one after another.
-use Rattle.std.proofs.Common.{◌≡◌, ℕ, ◌==◌, Bool, true, ◌||◌, List, [], ◌++◌, Option, Result, Ok, Err, refl, ap, ◌∙◌, append_assoc}
-use Rattle.std.specs.Result.{is_ok}
+use Rattle.tx_text.proofs.Common.{◌≡◌, ℕ, ◌==◌, Bool, true, ◌||◌, List, [], ◌++◌, Option, Result, Ok, Err, refl, ap, ◌∙◌, append_assoc, is_ok, Ending, Moves, Framed, Headed, Has, ReadsOn}
 use Rattle.std.proofs.lemmas.Bool.{eq-eqb, or_right}
-use Rattle.tx_text.specs.Told.{Ending, Moves}
-use Rattle.tx_text.specs.Frame.{Framed, Headed, Has, ReadsOn}
 use Rattle.tx_text.specs.Said.{goes_on, declares_at}
 use Rattle.tx_text.proofs.ReadingOn.{moves-nil, moves_on}
 

@@ -1,16 +1,11 @@
 -- Words that may be in a written line: names, figures, numbers, circuits.
 use Rattle.std.proofs.Common.{◌≡◌, ℕ, zero, suc, ◌+◌, ◌*◌, ◌^◌, ◌<◌, ◌≤◌, ◌==◌, ◌%◌, Bool, true, false, not, ◌&&◌, ◌||◌, nat_le, nat_lt, List, [], ◌∷◌, ◌++◌, length, get_or, Some, None, codes, refl, arith, length-append}
-use Rattle.std.specs.List.{AllByRecursion, list_all}
+use Rattle.tx_text.proofs.Common.{AllByRecursion, list_all, nat_tests, All-weaker, AllPass-from_list_all, list_all-from_AllPass, joined, IsPlain, IsWord, IsWrittenLine}
 use Rattle.std.specs.Fmt.{decimal}
 use Rattle.std.proofs.lemmas.Bool.{and_parts, and_from, or_left, or_right, not_from_false, ne_eqb, leb-true, le-leb}
-use Rattle.std.proofs.lemmas.Bool.Decides.{nat_tests}
-use Rattle.std.proofs.lemmas.List.Elements.{All-weaker}
-use Rattle.std.proofs.lemmas.List.Sums.{AllPass-from_list_all, list_all-from_AllPass}
 use Rattle.tx_text.specs.Text.{is_text_byte, bytes_fault}
 use Rattle.std.proofs.lemmas.Fmt.{decimal_is_IsNumeral, decimal_digit, decimal_by_steps, first_decimal, length-decimal-le, decimal_nonempty}
 use Rattle.tx_text.specs.Words.{is_letter, is_figure, is_name, are_figures, is_numeral, number_of}
-use Rattle.tx_text.specs.Written.{joined}
-use Rattle.tx_text.specs.inner.Written.{IsPlain, IsWord, IsWrittenLine}
 
 -- a word of at most 12 bytes
 pub record IsShortWord (w : List ℕ) : Type 0 where

@@ -1,37 +1,19 @@
 -- Replies where groups are blocked, and in the plan that is left.
-use Rattle.std.proofs.Common.{◌≡◌, ◌≢◌, ℕ, Bool, true, false, cond, not, ◌||◌, ◌==◌, ◌&&◌, List, [], ◌∷◌, find, length, Option, Some, None, refl, sym, ap, ◌∙◌, arith}
-use Rattle.std.specs.Prelude.{if◌then◌else◌, is_some}
-use Rattle.std.specs.List.{AllByRecursion}
-use Rattle.std.specs.Option.{option_map_or}
-use Rattle.std.specs.Ordering.{nat_cmp}
+use Rattle.tx_trace.proofs.Common.{◌≡◌, ◌≢◌, ℕ, Bool, true, false, cond, not, ◌||◌, ◌==◌, ◌&&◌, List, [], ◌∷◌, find, length, Option, Some, None, refl, sym, ap, ◌∙◌, arith, if◌then◌else◌, is_some, AllByRecursion, option_map_or, nat_cmp, EachPair, IsPlan, route_list, is_barred, circuits_at, code_of, Circuit, Line, Event, Reply, Service, first_free, first_in, choice, is_free_at, line_answer, replies, State, is_in}
 use Rattle.std.specs.FinSet as set
 use Rattle.std.proofs.lemmas.Bool.{and_parts, eqb-true, false≢true, not-false}
 use Rattle.tx_plan.specs.Plan.{Plan, Route as RouteRow, home_of}
-use Rattle.tx_plan.specs.Rules.{EachPair, IsPlan}
-use Rattle.tx_plan.specs.Routes.{route_list, is_barred}
-use Rattle.tx_plan.specs.Circuits.{circuits_at}
-use Rattle.tx_plan.specs.Codes.{code_of}
-use Rattle.tx_plan.specs.declared.ids.Circuit.{Circuit}
-use Rattle.tx_plan.specs.declared.ids.Line.{Line}
-use Rattle.tx_machine.specs.declared.event.Event.{Event}
 use Rattle.tx_machine.specs.declared.event.Event.TheVariants.{Key, Route, Confirm, Clear, Released, Fail, Restore, Block, Unblock, CircuitOut, CircuitIn, LineFault, LineMend, LineAway, LineBack}
 use Rattle.tx_machine.specs.declared.open_call.Party.TheVariants.{Caller, Called}
 use Rattle.tx_machine.specs.declared.open_call.Phase.{Phase}
 use Rattle.tx_machine.specs.declared.open_call.Phase.TheVariants.{Standing, Calling, Connected}
 use Rattle.tx_machine.specs.declared.refusal.Refusal.{Refusal}
-use Rattle.tx_machine.specs.declared.reply.Reply.{Reply}
-use Rattle.tx_machine.specs.declared.cause.Service.{Service}
 use Rattle.tx_machine.specs.declared.cause.Service.TheVariants.{Na}
 use Rattle.tx_machine.specs.Call.{Call, call_of, exchange_of, is_first}
 use Rattle.tx_machine.specs.Confirming.{confirmed, confirmed_by, rival}
-use Rattle.tx_machine.specs.InUse.{first_free, first_in, choice, is_free_at}
-use Rattle.tx_machine.specs.Lines.{line_answer}
 use Rattle.tx_machine.specs.Refusals.{refusal}
 use Rattle.tx_machine.specs.Routing.{routed, routed_for, at_line, at_trunk, line_of}
-use Rattle.tx_machine.specs.Runs.{replies}
-use Rattle.tx_machine.specs.State.{State}
 use Rattle.tx_machine.specs.Step.{step, accepted, counted, unless_refused, with_call}
-use Rattle.tx_trace.specs.Ways.{is_in}
 use Rattle.tx_trace.specs.Left.{groups_left, route_left, routes_left, plan_left, AreBlocked, unblocked, is_blocking}
 use Rattle.tx_trace.proofs.LeftRoutes.{has_some}
 

@@ -1,8 +1,5 @@
 -- The ways of calls that do not go alike, one after another.
-use Rattle.std.proofs.Common.{◌≡◌, ℕ, Bool, true, false, List, [], ◌∷◌, ◌++◌, map, cond, Option, None, refl, sym, ap, ◌∙◌, append-nil}
-use Rattle.std.specs.List.{AllByRecursion, flat_map}
-use Rattle.tx_plan.specs.declared.ids.Pair.{Pair}
-use Rattle.tx_plan.specs.Plan.{Plan}
+use Rattle.tx_trace.proofs.Common.{◌≡◌, ℕ, Bool, true, false, List, [], ◌∷◌, ◌++◌, map, cond, Option, None, refl, sym, ap, ◌∙◌, append-nil, AllByRecursion, flat_map, Pair, Plan}
 use Rattle.tx_trace.specs.declared.way_changes.WayChange.{WayChange}
 use Rattle.tx_trace.specs.WayChanges.{go_alike, changed, same_calls, changed_since, changed_at, AreWaysIn, calls_of}
 

@@ -1,17 +1,8 @@
 -- Where the groups of a list lead, and marks of exchanges.
-use Rattle.std.proofs.Common.{◌≡◌, ◌≢◌, ℕ, ◌<◌, Bool, true, false, eqb, eqb-true, ◌||◌, List, [], ◌∷◌, ◌++◌, length, cond, inl, inr, Option, Some, None, refl, sym, ap, subst, ◌∙◌, arith}
-use Rattle.std.specs.Prelude.{slice_get}
+use Rattle.tx_trace.proofs.Common.{◌≡◌, ◌≢◌, ℕ, ◌<◌, Bool, true, false, eqb, eqb-true, ◌||◌, List, [], ◌∷◌, ◌++◌, length, cond, inl, inr, Option, Some, None, refl, sym, ap, subst, ◌∙◌, arith, slice_get, eqb-false, eq-eqb, ne_eqb, set, length-set, Plan, home_of, route_list, other_end, Among, is_in, far_ends, AreMarksOf}
 use Rattle.std.specs.List.{filter_map, cons_option}
-use Rattle.std.proofs.lemmas.Bool.{eqb-false, eq-eqb, ne_eqb}
 use Rattle.std.proofs.lemmas.List.Folds.{list_any-append}
-use Rattle.std.proofs.Math.ListN.{set, length-set}
-use Rattle.tx_plan.specs.Plan.{Plan, home_of}
-use Rattle.tx_plan.specs.Routes.{route_list}
-use Rattle.tx_plan.specs.Circuits.{other_end}
-use Rattle.tx_plan.specs.Among.{Among}
 use Rattle.tx_rank.proofs.Turns.{set_same, set_other}
-use Rattle.tx_trace.specs.Ways.{is_in, far_ends}
-use Rattle.tx_trace.specs.inner.Marked.{AreMarksOf}
 
 -- ---- far ends
 

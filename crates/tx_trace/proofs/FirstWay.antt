@@ -1,14 +1,6 @@
 -- The first way, step by step.
-use Rattle.std.proofs.Common.{◌≡◌, ℕ, zero, suc, ◌+◌, ◌-◌, ◌<◌, ◌≤◌, Bool, true, List, [], ◌∷◌, ◌++◌, length, Some, None, sym, ap, subst, ◌∙◌, arith, append-nil}
-use Rattle.std.specs.Option.{option_to_list}
-use Rattle.std.proofs.lemmas.List.{length_push}
-use Rattle.std.proofs.Math.ListN.{set, length-set}
-use Rattle.tx_plan.specs.Plan.{Plan}
-use Rattle.tx_rank.specs.Walks.{end_of, before_end}
-use Rattle.tx_rank.proofs.Ways.{end_push}
-use Rattle.tx_rank.proofs.Trails.{before_longer}
+use Rattle.tx_trace.proofs.Common.{◌≡◌, ℕ, zero, suc, ◌+◌, ◌-◌, ◌<◌, ◌≤◌, Bool, true, List, [], ◌∷◌, ◌++◌, length, Some, None, sym, ap, subst, ◌∙◌, arith, append-nil, option_to_list, length_push, set, length-set, Plan, end_of, before_end, end_push, before_longer, AreMarksOf}
 use Rattle.tx_trace.specs.Ways.{next_step, one_on, way_within, first_way}
-use Rattle.tx_trace.specs.inner.Marked.{AreMarksOf}
 use Rattle.tx_trace.proofs.Ends.{marks_push}
 
 -- the way so far, and the marks of the exchanges that it has passed

@@ -1,35 +1,20 @@
 -- Which groups have a free circuit, where there is one call.
 use Rattle.std.proofs.Common.{◌≡◌, ℕ, zero, suc, ◌+◌, ◌<◌, ◌≤◌, ◌==◌, Bool, true, false, ◌&&◌, nat_le, eqb, eqb-true, eq-eqb, List, [], ◌∷◌, ◌++◌, cond, inl, inr, map, length, Option, Some, None, refl, sym, ap, ◌∙◌, subst, arith, append-nil}
 use Rattle.std.specs.Prelude.{count_by, filter, find, is_some, option_and_then}
-use Rattle.std.specs.List.{list_any}
-use Rattle.std.specs.Ordering.{nat_cmp}
+use Rattle.tx_trace.proofs.Common.{list_any, nat_cmp, length-map, map-append, filter-append, length-filter, Plan, route_list, Circuit, Line, Among, AllDiffer, all_distinct, Hop, Standing, State, has_free}
 use Rattle.std.specs.FinSet as set
 use Rattle.std.proofs.lemmas.Bool.{and_parts, and_from, leb-true, le-leb, lt-ltb, le-ltb, both_ways}
-use Rattle.std.proofs.lemmas.List.{length-map, map-append}
-use Rattle.std.proofs.lemmas.List.Elements.{filter-append}
-use Rattle.std.proofs.lemmas.List.Sums.{length-filter}
 use Rattle.std.proofs.lemmas.Map.Steps.{length-le_from_distinct_below, le-length_from_below}
-use Rattle.tx_plan.specs.Plan.{Plan}
 use Rattle.tx_plan.specs.Orders.{same_circuit}
-use Rattle.tx_plan.specs.Routes.{route_list}
 use Rattle.tx_plan.specs.Circuits.{is_circuit, circuits_at, count_of}
-use Rattle.tx_plan.specs.declared.ids.Circuit.{Circuit}
-use Rattle.tx_plan.specs.declared.ids.Line.{Line}
-use Rattle.tx_plan.specs.Among.{Among}
 use Rattle.tx_plan.proofs.Among.{among_cases, among_map, map_among, among_filter, filter_among}
-use Rattle.tx_rank.specs.Walks.{AllDiffer}
 use Rattle.tx_rank.proofs.Ways.{once_cons, once_push}
-use Rattle.tx_rank.proofs.Unmended.{all_distinct}
-use Rattle.tx_machine.specs.declared.open_call.Hop.{Hop}
-use Rattle.tx_machine.specs.declared.open_call.Phase.TheVariants.{Standing}
-use Rattle.tx_machine.specs.State.{State}
 use Rattle.tx_machine.specs.InUse.{carries, is_free_at, is_down, first_free, first_in, choice}
 use Rattle.tx_machine.proofs.Lists.{any_mem, mem_any, find_none}
 use Rattle.tx_machine.proofs.Choosing.{counted_circuit}
 use Rattle.tx_machine.proofs.Uses.{IsChosen, chosen}
 use Rattle.tx_machine.proofs.Excuses.{circuit_listed}
 use Rattle.tx_machine.proofs.OneCall.{alone, on_way, step_of, none_circuit}
-use Rattle.tx_trace.specs.Ways.{has_free}
 
 -- NUMBERS FROM 1 TO A COUNT
 

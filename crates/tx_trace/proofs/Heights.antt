@@ -1,21 +1,8 @@
 -- What heights say of far ends, and that they are the ranks of a code that can be ranked.
 use Rattle.std.proofs.Common.{◌≡◌, ◌≢◌, ℕ, zero, suc, ◌<◌, ◌≤◌, true, false, eqb, eqb-true, List, [], ◌∷◌, length, map, max, cond, inl, inr, Option, Some, None, refl, sym, ap, subst, ◌∙◌, arith}
-use Rattle.std.specs.Option.{option_map}
-use Rattle.std.proofs.lemmas.Bool.{eqb-false, eq-eqb, ne_eqb}
-use Rattle.std.proofs.lemmas.Map.Steps.{length-le_from_distinct_below}
-use Rattle.tx_plan.specs.Plan.{Plan, home_of}
-use Rattle.tx_plan.specs.Routes.{route_list}
-use Rattle.tx_plan.specs.Rules.{IsPlan}
-use Rattle.tx_plan.specs.Among.{Among}
-use Rattle.tx_rank.specs.Walks.{Net, Goes, end_of, passed}
-use Rattle.tx_rank.specs.Nets.{IsNet, Certifies}
-use Rattle.tx_rank.specs.Heights.{IsHeight, RanksByHeight}
-use Rattle.tx_rank.proofs.Nets.{is_net}
+use Rattle.tx_trace.proofs.Common.{option_map, eqb-false, eq-eqb, ne_eqb, length-le_from_distinct_below, Plan, home_of, route_list, IsPlan, Among, Net, Goes, end_of, passed, IsNet, Certifies, IsHeight, RanksByHeight, is_net, all_distinct, any_among, passed_below, passed_count, far_ends, net_from}
 use Rattle.tx_rank.proofs.Ranks.{Falls, once_down}
-use Rattle.tx_rank.proofs.Unmended.{all_distinct, any_among, passed_below, passed_count}
-use Rattle.tx_trace.specs.Ways.{far_ends}
 use Rattle.tx_trace.specs.Heights.{greater, greatest, one_above, height_within, height}
-use Rattle.tx_trace.specs.Ranked.{net_from}
 use Rattle.tx_trace.proofs.Ends.{LeadsTo, leads_to, among_ends}
 
 -- ---- the greatest of some numbers

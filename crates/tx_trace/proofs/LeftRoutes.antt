@@ -1,19 +1,10 @@
 -- A plan of which some groups are down.
-use Rattle.std.proofs.Common.{◌≡◌, ◌≢◌, ℕ, ◌+◌, ◌≤◌, Bool, true, false, cond, not, ◌||◌, ◌==◌, ◌&&◌, List, [], ◌∷◌, ◌++◌, map, take, length, Some, refl, sym, ap, subst, ◌∙◌, arith, append-nil}
-use Rattle.std.specs.Prelude.{filter, slice_get}
-use Rattle.std.specs.List.{list_any, AllByRecursion}
-use Rattle.std.proofs.lemmas.Bool.{not-true, eqb-false}
-use Rattle.std.proofs.lemmas.List.{map-append}
-use Rattle.std.proofs.lemmas.List.Elements.{filter-append}
+use Rattle.tx_trace.proofs.Common.{◌≡◌, ◌≢◌, ℕ, ◌+◌, ◌≤◌, Bool, true, false, cond, not, ◌||◌, ◌==◌, ◌&&◌, List, [], ◌∷◌, ◌++◌, map, take, length, Some, refl, sym, ap, subst, ◌∙◌, arith, append-nil, filter, slice_get, list_any, AllByRecursion, not-true, eqb-false, map-append, filter-append, Plan, Route, take_next, is_in, groups_left, route_left, routes_left, plan_left}
 use Rattle.std.proofs.lemmas.List.Sums.{length-filter, count_by-le-length}
-use Rattle.tx_plan.specs.Plan.{Plan, Route}
 use Rattle.tx_plan.specs.Rules.{EachPair, IsPlan, IsRoute}
 use Rattle.tx_plan.specs.Circuits.{may_seize}
 use Rattle.tx_plan.proofs.Filtered.{all_kept, pairs_kept}
-use Rattle.tx_plan.proofs.ByIndex.{take_next}
 use Rattle.tx_plan.proofs.Rerouted.{kept_rerouted}
-use Rattle.tx_trace.specs.Ways.{is_in}
-use Rattle.tx_trace.specs.Left.{groups_left, route_left, routes_left, plan_left}
 
 -- a route has groups
 abbrev pub has_some : Route → Bool

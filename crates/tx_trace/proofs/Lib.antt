@@ -12,3 +12,4 @@ pub mod LeftRoutes
 pub mod Blocked
 pub mod Passing
 pub mod Changing
+pub mod Common

@@ -1,17 +1,6 @@
 -- Heights are the steps of the longest ways, and an exchange that can be ranked has one.
-use Rattle.std.proofs.Common.{◌≡◌, ◌≢◌, ℕ, zero, suc, ◌+◌, ◌-◌, ◌<◌, ◌≤◌, true, false, eqb, eqb-true, List, [], ◌∷◌, length, map, inl, inr, Option, Some, refl, sym, ap, ◌∙◌, arith}
-use Rattle.std.proofs.lemmas.Bool.{cases_lt, eqb-false, eq-eqb}
-use Rattle.tx_plan.specs.Plan.{Plan, home_of}
-use Rattle.tx_plan.specs.Routes.{route_list}
-use Rattle.tx_plan.specs.Rules.{IsPlan}
-use Rattle.tx_plan.specs.Among.{Among}
-use Rattle.tx_rank.specs.Walks.{net_of, Goes, end_of}
-use Rattle.tx_rank.specs.Nets.{Certifies}
-use Rattle.tx_rank.specs.Heights.{IsHeight}
-use Rattle.tx_rank.proofs.Nets.{is_net}
+use Rattle.tx_trace.proofs.Common.{◌≡◌, ◌≢◌, ℕ, zero, suc, ◌+◌, ◌-◌, ◌<◌, ◌≤◌, true, false, eqb, eqb-true, List, [], ◌∷◌, length, map, inl, inr, Option, Some, refl, sym, ap, ◌∙◌, arith, cases_lt, eqb-false, eq-eqb, Plan, home_of, route_list, IsPlan, Among, net_of, Goes, end_of, Certifies, IsHeight, is_net, far_ends, greatest, height_within, height}
 use Rattle.tx_rank.proofs.Ranks.{Falls, all_down}
-use Rattle.tx_trace.specs.Ways.{far_ends}
-use Rattle.tx_trace.specs.Heights.{greatest, height_within, height}
 use Rattle.tx_trace.specs.Ranked.{net_from, CanBeRankedFrom}
 use Rattle.tx_trace.proofs.Ends.{leads_to, among_ends}
 use Rattle.tx_trace.proofs.Heights.{IsKnown, greater_parts, greatest_known, each_known, one_above_is, one_above_parts, greatest_grows, height-away, height-nowhere, home_zero, home_again, height_grows, height_lower, heights_certify, height_fits}

@@ -1,45 +1,21 @@
 -- The only call of a network goes by the first way.
 use Rattle.std.proofs.Common.{◌≡◌, ◌≢◌, ℕ, zero, suc, ◌+◌, ◌-◌, ◌^◌, ◌<◌, ◌≤◌, ◌==◌, true, false, ◌&&◌, nat_le, eqb-true, eq-eqb, List, [], ◌∷◌, ◌++◌, ◌⊎◌, inl, inr, map, length, Option, Some, None, refl, sym, ap, ◌∙◌, subst, arith, append-nil}
-use Rattle.std.specs.Prelude.{if◌then◌else◌, find, is_some, option_and_then}
-use Rattle.std.specs.Option.{option_map, option_to_list}
+use Rattle.tx_trace.proofs.Common.{if◌then◌else◌, find, is_some, option_and_then, option_map, option_to_list, length_push, map-append, length-le_from_distinct_below, Plan, home_of, code_of, route_list, is_barred, other_end, Circuit, Line, Among, AllDiffer, Goes, net_of, end_of, before_end, passed, is_net, once_push, end_push, goes_push, all_distinct, any_among, passed_below, passed_count, Event, Hop, Standing, Reply, Service, first_free, choice, line_answer, at_line, line_of, step, chosen}
 use Rattle.std.specs.FinSet as set
 use Rattle.std.proofs.lemmas.Bool.{false≢true, and_parts, eqb-false, lt-leb}
 use Rattle.std.proofs.lemmas.Grind.{flat_map-append}
-use Rattle.std.proofs.lemmas.List.{length_push, map-append}
-use Rattle.std.proofs.lemmas.Map.Steps.{length-le_from_distinct_below}
 use Rattle.tx_text.specs.Words.{are_figures}
-use Rattle.tx_plan.specs.Plan.{Plan, home_of}
 use Rattle.tx_plan.specs.Rules.{IsPlan, IsRange}
-use Rattle.tx_plan.specs.Codes.{code_of}
 use Rattle.tx_plan.specs.Lines.{is_line, in_range}
-use Rattle.tx_plan.specs.Routes.{route_list, is_barred}
-use Rattle.tx_plan.specs.Circuits.{other_end}
-use Rattle.tx_plan.specs.declared.ids.Circuit.{Circuit}
-use Rattle.tx_plan.specs.declared.ids.Line.{Line}
 use Rattle.tx_plan.specs.declared.range.LineRange.{LineRange}
-use Rattle.tx_plan.specs.Among.{Among}
-use Rattle.tx_rank.specs.Walks.{AllDiffer, Goes, net_of, end_of, before_end, passed}
-use Rattle.tx_rank.proofs.Nets.{is_net}
-use Rattle.tx_rank.proofs.Ways.{once_push, end_push, goes_push}
-use Rattle.tx_rank.proofs.Unmended.{all_distinct, any_among, passed_below, passed_count}
-use Rattle.tx_machine.specs.declared.event.Event.{Event}
 use Rattle.tx_machine.specs.declared.event.Event.TheVariants.{Key, Route, Confirm}
-use Rattle.tx_machine.specs.declared.open_call.Hop.{Hop}
-use Rattle.tx_machine.specs.declared.open_call.Phase.TheVariants.{Standing}
-use Rattle.tx_machine.specs.declared.reply.Reply.{Reply}
 use Rattle.tx_machine.specs.declared.reply.Reply.TheVariants.{Keyed, Seized, At, Answered}
-use Rattle.tx_machine.specs.declared.cause.Service.{Service}
 use Rattle.tx_machine.specs.declared.cause.Service.TheVariants.{Nc}
 use Rattle.tx_machine.specs.State.{State, opening}
-use Rattle.tx_machine.specs.InUse.{first_free, choice}
-use Rattle.tx_machine.specs.Lines.{line_answer}
-use Rattle.tx_machine.specs.Routing.{at_line, line_of}
 use Rattle.tx_machine.specs.Runs.{replies, state_after}
-use Rattle.tx_machine.specs.Step.{step}
 use Rattle.tx_machine.proofs.Lists.{any_mem, none_any, find_mem}
 use Rattle.tx_machine.proofs.Ranks.{code_within}
 use Rattle.tx_machine.proofs.Steps.{all_mem, listed_leads}
-use Rattle.tx_machine.proofs.Uses.{chosen}
 use Rattle.tx_machine.proofs.OneCall.{alone, on_way, step_of, IsPlaced, routed_there, placed_next, key_step, route_step, nc_step, confirm_step}
 use Rattle.tx_trace.specs.Ways.{has_free, step_by, first_step, comes_back, next_step, way_within, first_way}
 use Rattle.tx_trace.specs.OnlyCall.{events_along, state_along, replies_along, line_reply, last_reply, GoesBy}

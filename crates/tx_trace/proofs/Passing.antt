@@ -1,23 +1,11 @@
 -- The calls listed are those that can pass: some walk by the lists does.
-use Rattle.std.proofs.Common.{◌≡◌, ◌≢◌, ℕ, zero, suc, ◌+◌, ◌<◌, ◌==◌, ◌&&◌, Bool, true, false, not, cond, eqb-true, List, [], ◌∷◌, ◌++◌, map, length, inl, inr, Some, refl, sym, ap, subst, ◌∙◌, append_assoc, arith}
-use Rattle.std.specs.List.{flat_map, range_with_len}
+use Rattle.tx_trace.proofs.Common.{◌≡◌, ◌≢◌, ℕ, zero, suc, ◌+◌, ◌<◌, ◌==◌, ◌&&◌, Bool, true, false, not, cond, eqb-true, List, [], ◌∷◌, ◌++◌, map, length, inl, inr, Some, refl, sym, ap, subst, ◌∙◌, append_assoc, arith, flat_map, range_with_len, Pair, Plan, home_of, IsPlan, other_end, Among, any_mem, mem_any, net_of, Goes, end_of, is_net, goes_push, is_in, all_met, net_from}
 use Rattle.std.proofs.lemmas.Bool.{and_parts, and_from, not-true, not_from_false, eqb-false, eq-eqb, ne_eqb}
 use Rattle.tx_text.proofs.Ranges.{flat_map-range_more}
-use Rattle.tx_plan.specs.declared.ids.Pair.{Pair}
-use Rattle.tx_plan.specs.Plan.{Plan, home_of}
-use Rattle.tx_plan.specs.Rules.{IsPlan}
 use Rattle.tx_plan.specs.Routes.{route_list, is_origin_for}
-use Rattle.tx_plan.specs.Circuits.{other_end}
-use Rattle.tx_plan.specs.Among.{Among}
 use Rattle.tx_plan.proofs.Among.{among_flat, flat_among}
-use Rattle.tx_machine.proofs.Lists.{any_mem, mem_any}
-use Rattle.tx_rank.specs.Walks.{net_of, Goes, end_of}
-use Rattle.tx_rank.proofs.Nets.{is_net}
-use Rattle.tx_rank.proofs.Ways.{goes_push}
 use Rattle.tx_trace.specs.declared.through.Through.{Through}
 use Rattle.tx_trace.specs.declared.through.Through.TheVariants.{Exchange, Group}
-use Rattle.tx_trace.specs.Ways.{is_in, all_met}
-use Rattle.tx_trace.specs.Ranked.{net_from}
 use Rattle.tx_trace.specs.Through.{is_there, may_pass, passing, passing_for, calls_through, Pass, CanPass}
 use Rattle.tx_trace.proofs.Reached.{among_in, in_among, reached_met, met_reached}
 

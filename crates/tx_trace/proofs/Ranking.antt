@@ -1,26 +1,16 @@
 -- The ranks of a trace are those that ranking the code from its exchange finds.
-use Rattle.std.proofs.Common.{◌≡◌, ◌≢◌, ℕ, ◌<◌, List, [], ◌∷◌, ◌++◌, length, map, cond, inl, Option, Some, None, refl, sym, ap, subst, ◌∙◌}
-use Rattle.std.specs.Prelude.{is_some}
-use Rattle.std.proofs.lemmas.Bool.{eq-eqb}
-use Rattle.tx_plan.specs.Plan.{Plan}
-use Rattle.tx_plan.specs.Rules.{IsPlan}
-use Rattle.tx_plan.specs.Among.{Among}
+use Rattle.tx_trace.proofs.Common.{◌≡◌, ◌≢◌, ℕ, ◌<◌, List, [], ◌∷◌, ◌++◌, length, map, cond, inl, Option, Some, None, refl, sym, ap, subst, ◌∙◌, is_some, eq-eqb, Plan, IsPlan, Among, IsNet, Certifies, IsReached, RanksByHeight, height, net_from, passed_below}
 use Rattle.tx_cert.specs.Certificate.{Certificate, rank_at}
 use Rattle.tx_rank.specs.declared.finding.Finding.{Finding}
 use Rattle.tx_rank.specs.declared.finding.Finding.TheVariants.{Short}
 use Rattle.tx_rank.specs.Walks.{Net, Walk, IsShort}
-use Rattle.tx_rank.specs.Nets.{IsNet, Certifies}
-use Rattle.tx_rank.specs.Heights.{IsReached, RanksByHeight}
 use Rattle.tx_rank.specs.Findings.{IsLongIfAny, long_findings, AreFindingsOfCode}
 use Rattle.tx_rank.specs.Findings.AreFindingsOfCode.{looped, straight}
 use Rattle.tx_rank.specs.Judged.{IsJudged}
 use Rattle.tx_rank.proofs.Ways.{end_passed}
 use Rattle.tx_rank.proofs.Walked.{certified_no_loop, certified_no_short, certified_no_long}
-use Rattle.tx_trace.specs.Heights.{height}
-use Rattle.tx_trace.specs.Ranked.{net_from}
 use Rattle.tx_trace.specs.inner.Marked.{AreRanksFrom}
 use Rattle.tx_trace.proofs.Heights.{is_net_from, heights_certify, height_fits, height_is}
-use Rattle.tx_rank.proofs.Unmended.{passed_below}
 
 abbrev short_findings : (A : Type 0) → ℕ → List Walk → List (Finding A)
 short_findings A code ws = map (Short code) ws

@@ -1,22 +1,7 @@
 -- The exchanges met are those where a way ends, each once.
-use Rattle.std.proofs.Common.{◌≡◌, ℕ, zero, suc, ◌+◌, ◌-◌, ◌<◌, ◌≤◌, ◌||◌, true, false, eqb, eqb-true, cond, List, [], ◌∷◌, ◌++◌, length, inl, inr, Some, None, refl, sym, ap, subst, ◌∙◌, arith}
-use Rattle.std.specs.Prelude.{slice_get}
-use Rattle.std.specs.List.{fold}
-use Rattle.std.specs.Option.{option_map_or}
-use Rattle.std.proofs.lemmas.Bool.{cases_lt, eq-eqb, false≢true}
+use Rattle.tx_trace.proofs.Common.{◌≡◌, ℕ, zero, suc, ◌+◌, ◌-◌, ◌<◌, ◌≤◌, ◌||◌, true, false, eqb, eqb-true, cond, List, [], ◌∷◌, ◌++◌, length, inl, inr, Some, None, refl, sym, ap, subst, ◌∙◌, arith, slice_get, fold, option_map_or, cases_lt, eq-eqb, false≢true, length-le_from_distinct_below, Plan, IsPlan, Among, AllDiffer, Goes, end_of, IsReached, is_net, all_distinct, any_among, once_push, is_in, far_ends, meet, meet_from, met_before, all_met, net_from}
 use Rattle.std.proofs.lemmas.Option.{slice_get_past, slice_get_within}
-use Rattle.std.proofs.lemmas.Map.Steps.{length-le_from_distinct_below}
-use Rattle.tx_plan.specs.Plan.{Plan}
-use Rattle.tx_plan.specs.Rules.{IsPlan}
-use Rattle.tx_plan.specs.Among.{Among}
 use Rattle.tx_plan.proofs.Among.{among_left, among_right}
-use Rattle.tx_rank.specs.Walks.{AllDiffer, Goes, end_of}
-use Rattle.tx_rank.specs.Heights.{IsReached}
-use Rattle.tx_rank.proofs.Nets.{is_net}
-use Rattle.tx_rank.proofs.Unmended.{all_distinct, any_among}
-use Rattle.tx_rank.proofs.Ways.{once_push}
-use Rattle.tx_trace.specs.Ways.{is_in, far_ends, meet, meet_from, met_before, all_met}
-use Rattle.tx_trace.specs.Ranked.{net_from}
 use Rattle.tx_trace.proofs.Ends.{among_ends}
 use Rattle.tx_trace.proofs.Rounds.{all_reached}
 

@@ -1,21 +1,8 @@
 -- The exchanges met, one after another.
-use Rattle.std.proofs.Common.{◌≡◌, ◌≢◌, ℕ, zero, suc, ◌+◌, ◌≤◌, true, false, cond, List, [], ◌∷◌, ◌++◌, length, take, inl, inr, Some, None, refl, sym, ap, subst, ◌∙◌}
-use Rattle.std.specs.Prelude.{slice_get}
-use Rattle.std.specs.List.{filter_map, fold}
-use Rattle.std.specs.Option.{option_map_or}
+use Rattle.tx_trace.proofs.Common.{◌≡◌, ◌≢◌, ℕ, zero, suc, ◌+◌, ◌≤◌, true, false, cond, List, [], ◌∷◌, ◌++◌, length, take, inl, inr, Some, None, refl, sym, ap, subst, ◌∙◌, slice_get, filter_map, fold, option_map_or, Plan, home_of, route_list, other_end, Among, among_cases, IsReached, end_push, goes_push, take_next, is_in, far_ends, meet, meet_from, met_before, all_met, net_from}
 use Rattle.std.proofs.lemmas.List.{take_all}
 use Rattle.std.proofs.lemmas.List.Elements.{filter_map-append}
 use Rattle.std.proofs.lemmas.List.Sums.{fold_push}
-use Rattle.tx_plan.specs.Plan.{Plan, home_of}
-use Rattle.tx_plan.specs.Routes.{route_list}
-use Rattle.tx_plan.specs.Circuits.{other_end}
-use Rattle.tx_plan.specs.Among.{Among}
-use Rattle.tx_plan.proofs.Among.{among_cases}
-use Rattle.tx_rank.specs.Heights.{IsReached}
-use Rattle.tx_rank.proofs.Ways.{end_push, goes_push}
-use Rattle.tx_plan.proofs.ByIndex.{take_next}
-use Rattle.tx_trace.specs.Ways.{is_in, far_ends, meet, meet_from, met_before, all_met}
-use Rattle.tx_trace.specs.Ranked.{net_from}
 use Rattle.tx_trace.proofs.Ends.{LeadsTo, leads_to, far_ends-home, far_ends-away}
 
 -- ---- one exchange

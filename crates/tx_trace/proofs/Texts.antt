@@ -1,18 +1,12 @@
 -- The lines of a trace, one after another.
 use Rattle.std.proofs.Common.{◌≡◌, ◌≢◌, ℕ, ◌+◌, ◌<◌, true, false, eqb, List, [], ◌∷◌, ◌++◌, length, get_or, cond, inl, inr, Option, Some, None, refl, sym, ap, ◌∙◌, arith, append_assoc, append-nil, codes}
 use Rattle.std.specs.Prelude.{decimal}
-use Rattle.std.specs.List.{flat_map, enumerate_from}
-use Rattle.std.specs.Option.{option_map_or}
+use Rattle.tx_trace.proofs.Common.{flat_map, enumerate_from, option_map_or, other_end, route_list, Among, among_at, all_met}
 use Rattle.std.proofs.lemmas.Bool.{eqb-true, eqb-false}
 use Rattle.std.proofs.lemmas.List.FromFn.{get_or-enumerate_from}
 use Rattle.tx_plan.specs.Plan.{Plan, home_of, exchange_name, group_name}
-use Rattle.tx_plan.specs.Circuits.{other_end}
-use Rattle.tx_plan.specs.Routes.{route_list}
-use Rattle.tx_plan.specs.Among.{Among}
 use Rattle.tx_plan.proofs.Among.{indexes_among}
-use Rattle.tx_rank.proofs.Looks.{among_at}
 use Rattle.tx_trace.specs.declared.tracing.Trace.{Trace}
-use Rattle.tx_trace.specs.Ways.{all_met}
 use Rattle.tx_trace.specs.Heights.{rank_from}
 use Rattle.tx_trace.specs.TraceText.{down_line, rank_text, home_line, place_text, place_line, list_lines, met_lines}
 use Rattle.tx_trace.specs.Traces.{rank_told, IsTraceOf}

@@ -1,9 +1,8 @@
 -- The lines of codes, one after another.
 use Rattle.std.proofs.Common.{◌≡◌, ◌≢◌, ℕ, ◌+◌, ◌<◌, Bool, List, [], ◌∷◌, ◌++◌, take, length, codes, Option, None, Some, sym, append_assoc}
 use Rattle.std.proofs.lemmas.Option.{get_or_from_slice_get}
-use Rattle.std.specs.List.{flat_map}
+use Rattle.tx_trie.proofs.Common.{flat_map, Puts}
 use Rattle.tx_text.specs.Written.{line_written}
-use Rattle.tx_text.specs.Puts.{Puts}
 use Rattle.tx_text.proofs.Writing.{some, some_last}
 use Rattle.tx_text.proofs.Putting.{puts_more}
 use Rattle.tx_plan.specs.Plan.{Plan, Code, figures_of, exchange_name, home_of}

@@ -2,15 +2,11 @@
 use Rattle.std.proofs.Common.{◌≡◌, ℕ, ◌+◌, ◌<◌, ◌≤◌, ◌==◌, Bool, true, false, ◌⊎◌, List, [], ◌∷◌, ◌++◌, take, map, length, length-set, get_or, replicate, Option, Some, None, option_map, refl, ap, sym, ◌∙◌, subst, inl, inr, eqb-true, arith}
 use Rattle.std.proofs.lemmas.Bool.{eqb-false, cases_lt}
 use Rattle.std.proofs.lemmas.List.{length-replicate, get_or-replicate, get_or_past, get_or-set_same, get_or-set_other, map_push, take_all}
-use Rattle.std.proofs.lemmas.Option.{same_Some}
+use Rattle.tx_trie.proofs.Common.{same_Some, Plan, Code, figures_of, home_of, code_of_row, node_of, AreFirst, IsTrie, spelled}
 use Rattle.std.specs.Prelude.{slice_get, slice_set, position}
 use Rattle.std.specs.Str.{bytes_eq}
-use Rattle.tx_plan.specs.Plan.{Plan, Code, figures_of, home_of}
 use Rattle.tx_plan.specs.Rules.{IsPlan, IsCode, is_code}
-use Rattle.tx_plan.specs.inner.Tables.{code_of_row}
 use Rattle.tx_plan.proofs.ByIndex.{entry_at, all_at, index_back, take_next}
-use Rattle.tx_trie.specs.inner.Nodes.{node_of, AreFirst, IsTrie}
-use Rattle.tx_plan.proofs.Spelled.{spelled}
 use Rattle.tx_trie.proofs.Nodes.{node_within, node_once}
 
 -- the code at an index

@@ -2,12 +2,7 @@
 use Rattle.std.proofs.Common.{◌≡◌, ℕ, ◌+◌, ◌-◌, ◌*◌, ◌<◌, ◌≤◌, Bool, true, false, List, [], ◌∷◌, Option, Some, None, refl, ap, ◌∙◌, arith}
 use Rattle.std.proofs.lemmas.Option.{same_Some, slice_get_within}
 use Rattle.std.specs.Prelude.{slice_get, slice_index_or, if◌then◌else◌}
-use Rattle.std.specs.Option.{option_map}
-use Rattle.tx_plan.specs.Plan.{Code}
-use Rattle.tx_plan.specs.Rules.{is_code}
-use Rattle.tx_plan.proofs.Spelled.{IsSpelled, two, three, spelled}
-use Rattle.tx_plan.proofs.FirstPair.{IsLookUp}
-use Rattle.tx_trie.specs.inner.Nodes.{node_after, node_of, look, IsTrie}
+use Rattle.tx_trie.proofs.Common.{option_map, Code, is_code, IsSpelled, two, three, spelled, IsLookUp, node_after, node_of, look, IsTrie}
 
 pub node_within : (text : List ℕ) → IsSpelled text → node_of text < 2000
 node_within text (two a b f g) = omega arith

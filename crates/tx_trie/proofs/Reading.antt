@@ -2,20 +2,16 @@
 use Rattle.std.proofs.Common.{◌≡◌, ℕ, ◌+◌, ◌≤◌, Bool, true, false, List, [], ◌∷◌, take, length, length-take, min, nat_lt, Option, Some, None, refl, ap, sym, ◌∙◌, subst, inl, inr, arith}
 use Rattle.std.proofs.lemmas.Bool.{false≢true}
 use Rattle.std.proofs.lemmas.Bool.Decides.{nat_tests}
-use Rattle.std.proofs.lemmas.List.{take_min}
+use Rattle.tx_trie.proofs.Common.{take_min, Code, is_code, IsLookUp, plan_of}
 use Rattle.std.specs.Prelude.{slice_get, filter, if◌then◌else◌}
 use Rattle.std.specs.List.{enumerate_from}
 use Rattle.std.specs.Option.{option_map, is_some}
 use Rattle.tx_plan.specs.Among.{Among}
-use Rattle.tx_plan.specs.Plan.{Code}
 use Rattle.tx_plan.specs.Codes.{is_prefix, codes_before, longer, longest, code_of}
-use Rattle.tx_plan.specs.Rules.{is_code}
 use Rattle.tx_plan.proofs.Absent.{short_code}
 use Rattle.tx_plan.proofs.Among.{among_filter, filter_among, among_indexes, indexes_among}
 use Rattle.tx_plan.proofs.Longest.{longest_among}
 use Rattle.tx_plan.proofs.Spelled.{IsSpelled, two, three, spelled, prefix_is_take, prefix_length, take_is_prefix}
-use Rattle.tx_plan.proofs.FirstPair.{IsLookUp}
-use Rattle.tx_trie.specs.Trie.{plan_of}
 
 abbrev width : ℕ × Code → ℕ
 width e = length e.1.figures

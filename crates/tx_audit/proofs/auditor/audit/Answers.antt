@@ -1,6 +1,4 @@
-use Rattle.std.proofs.Common.{refl}
-use Rattle.tx_text.specs.Ends.{input, output}
-use Rattle.tx_text.proofs.Exits.{exits_with}
+use Rattle.tx_audit.proofs.Common.{refl, input, output, exits_with}
 use Rattle.tx_audit.specs.declared.audited.AuditFault.TheVariants.{Plan as PlanRefused, Write, NoMemory}
 use Rattle.tx_audit.proofs.Found.{audited, each_true, stopped}
 use Rattle.tx_audit.proofs.auditor.audit.Goals as goal

@@ -1,7 +1,4 @@
-use Rattle.std.proofs.Common.{sym, ◌∙◌}
-use Rattle.tx_text.specs.Calls.{source_calls}
-use Rattle.tx_text.proofs.CallCounts.{went_none, calls_so_far}
-use Rattle.tx_text.proofs.Exits.{exits_with}
+use Rattle.tx_audit.proofs.Common.{sym, ◌∙◌, source_calls, went_none, calls_so_far, exits_with}
 use Rattle.tx_audit.proofs.checked_run.run_checked.Goals as goal
 
 pub returns-in_err-summary-in-Yes-clause-answers : goal.returns-in_err-summary-in-Yes-clause-answers

@@ -1,7 +1,4 @@
-use Rattle.std.specs.List.{AllByRecursion}
-use Rattle.tx_script.specs.Events.{IsWritable}
-use Rattle.tx_audit.specs.Counter.{counter_of, has_counter}
-use Rattle.tx_audit.specs.Breaks.{Shows}
+use Rattle.tx_audit.proofs.Common.{AllByRecursion, IsWritable, counter_of, has_counter, Shows}
 use Rattle.tx_audit.proofs.Loops.{on_made, some_made}
 use Rattle.tx_audit.proofs.Showing.{counters_show, counter_there}
 use Rattle.tx_audit.proofs.Writable.{counter_writable}

@@ -1,6 +1,5 @@
-use Rattle.std.proofs.Common.{◌∙◌, ap}
+use Rattle.tx_audit.proofs.Common.{◌∙◌, ap, figures_of}
 use Rattle.tx_text.specs.Words.{figures_of as keyed_of}
-use Rattle.tx_plan.specs.Plan.{figures_of}
 use Rattle.tx_audit.proofs.Writable.{code_keyed}
 use Rattle.tx_audit.proofs.counters.walked.Goals as goal
 

@@ -1,10 +1,4 @@
-use Rattle.std.proofs.Common.{◌∙◌, sym, ap, arith}
-use Rattle.std.specs.Prelude.{is_some}
-use Rattle.std.specs.List.{list_any}
-use Rattle.std.specs.Option.{option_map}
-use Rattle.std.proofs.lemmas.List.{drop_all}
-use Rattle.tx_rank.specs.Findings.{IsTrueOf}
-use Rattle.tx_audit.specs.Counter.{has_counter, first_counter_of}
+use Rattle.tx_audit.proofs.Common.{◌∙◌, sym, ap, arith, is_some, list_any, option_map, drop_all, IsTrueOf, has_counter, first_counter_of}
 use Rattle.tx_audit.proofs.Firsts.{first_here, first_past, any_here, any_past}
 use Rattle.tx_plan.proofs.Among.{among_at}
 use Rattle.tx_audit.proofs.Loops.{one_of_all}

@@ -1,6 +1,4 @@
-use Rattle.std.proofs.Common.{◌≡◌, drop}
-use Rattle.std.specs.List.{list_any}
-use Rattle.tx_audit.specs.Counter.{has_counter, first_counter_of}
+use Rattle.tx_audit.proofs.Common.{◌≡◌, drop, list_any, has_counter, first_counter_of}
 use Rattle.tx_audit.proofs.first.first_counter.Given as goal
 
 abbrev pub invariant-loop-finding : goal.invariant-loop-finding

@@ -1,9 +1,5 @@
-use Rattle.std.proofs.Common.{◌≡◌, ◌-◌, ◌<◌, ◌==◌, ◌∙◌, sym, ap, length, true, false, Some, None, refl, arith}
-use Rattle.std.specs.Prelude.{is_some, find}
-use Rattle.std.specs.List.{range_with_len}
+use Rattle.tx_audit.proofs.Common.{◌≡◌, ◌-◌, ◌<◌, ◌==◌, ◌∙◌, sym, ap, length, true, false, Some, None, refl, arith, is_some, find, range_with_len, home_of, first_code, first_range, calls_from}
 use Rattle.std.proofs.lemmas.Bool.{not-true, not-false, and_left, and_right}
-use Rattle.tx_plan.specs.Plan.{home_of}
-use Rattle.tx_audit.specs.Counter.{first_code, first_range, calls_from}
 use Rattle.tx_audit.proofs.Loops.{code_past, code_here, line_found, no_line_found}
 use Rattle.tx_audit.proofs.free_line.first_line.Goals as goal
 

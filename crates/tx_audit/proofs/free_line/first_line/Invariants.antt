@@ -1,7 +1,4 @@
-use Rattle.std.proofs.Common.{◌≡◌, ◌-◌, length}
-use Rattle.std.specs.Prelude.{find}
-use Rattle.std.specs.List.{range_with_len}
-use Rattle.tx_audit.specs.Counter.{first_code, calls_from}
+use Rattle.tx_audit.proofs.Common.{◌≡◌, ◌-◌, length, find, range_with_len, first_code, calls_from}
 use Rattle.tx_audit.proofs.free_line.first_line.Given as goal
 
 abbrev pub invariant-loop-index : goal.invariant-loop-index

@@ -1,6 +1,4 @@
-use Rattle.std.proofs.Common.{◌<◌, ◌==◌, ◌∙◌, sym, length, arith}
-use Rattle.tx_plan.specs.declared.range.LineRange.{LineRange}
-use Rattle.tx_plan.proofs.ByIndex.{entry_at}
+use Rattle.tx_audit.proofs.Common.{◌<◌, ◌==◌, ◌∙◌, sym, length, arith, LineRange, entry_at}
 use Rattle.tx_audit.proofs.Loops.{find_here, find_past}
 use Rattle.tx_audit.proofs.free_line.first_range.Goals as goal
 

@@ -1,7 +1,4 @@
-use Rattle.std.proofs.Common.{◌≡◌, ◌==◌, drop}
-use Rattle.std.specs.Prelude.{find}
-use Rattle.tx_plan.specs.declared.range.LineRange.{LineRange}
-use Rattle.tx_audit.specs.Counter.{first_range}
+use Rattle.tx_audit.proofs.Common.{◌≡◌, ◌==◌, drop, find, LineRange, first_range}
 use Rattle.tx_audit.proofs.free_line.first_range.Given as goal
 
 abbrev pub invariant-loop-index : goal.invariant-loop-index

@@ -1,7 +1,5 @@
-use Rattle.std.proofs.Common.{take}
-use Rattle.std.specs.List.{flat_map}
+use Rattle.tx_audit.proofs.Common.{take, flat_map, event_text}
 use Rattle.tx_text.specs.Puts.{Puts}
-use Rattle.tx_script.specs.Events.{event_text}
 use Rattle.tx_audit.proofs.script_writer.write_events.Given as goal
 
 abbrev pub invariant-loop-i : goal.invariant-loop-i

@@ -1,8 +1,4 @@
-use Rattle.std.proofs.Common.{refl, ap, inr}
-use Rattle.tx_text.specs.Calls.{source_calls}
-use Rattle.tx_text.specs.Ends.{input, output}
-use Rattle.tx_text.proofs.CallCounts.{went_none, calls_so_far}
-use Rattle.tx_machine.specs.State.{Net}
+use Rattle.tx_audit.proofs.Common.{refl, ap, inr, source_calls, input, output, went_none, calls_so_far, Net}
 use Rattle.tx_script.specs.Answers.{states}
 use Rattle.tx_audit.proofs.Untouched.{ran_from_opening, simulated_by}
 use Rattle.tx_audit.proofs.simulating.simulate.Goals as goal

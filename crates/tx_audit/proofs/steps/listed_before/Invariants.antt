@@ -1,5 +1,4 @@
-use Rattle.std.proofs.Common.{◌≡◌, ◌++◌, take, drop}
-use Rattle.tx_audit.specs.Counter.{listed_before}
+use Rattle.tx_audit.proofs.Common.{◌≡◌, ◌++◌, take, drop, listed_before}
 use Rattle.tx_audit.proofs.steps.listed_before.Given as goal
 
 abbrev pub invariant-loop-i : goal.invariant-loop-i

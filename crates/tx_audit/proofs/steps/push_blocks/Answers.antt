@@ -1,5 +1,4 @@
-use Rattle.std.proofs.Common.{◌++◌, ◌∙◌, append-nil, ap, map, sym, take_all}
-use Rattle.tx_machine.specs.declared.event.Event.TheVariants.{Block}
+use Rattle.tx_audit.proofs.Common.{◌++◌, ◌∙◌, append-nil, ap, map, sym, take_all, Block}
 use Rattle.tx_audit.proofs.Loops.{one_pushed}
 use Rattle.tx_audit.proofs.steps.push_blocks.Goals as goal
 

@@ -1,5 +1,4 @@
-use Rattle.std.proofs.Common.{◌≡◌, ◌++◌, map, take}
-use Rattle.tx_machine.specs.declared.event.Event.TheVariants.{Block}
+use Rattle.tx_audit.proofs.Common.{◌≡◌, ◌++◌, map, take, Block}
 use Rattle.tx_audit.proofs.steps.push_blocks.Given as goal
 
 abbrev pub invariant-loop-group : goal.invariant-loop-group

@@ -1,5 +1,4 @@
-use Rattle.std.proofs.Common.{◌++◌}
-use Rattle.tx_audit.specs.Counter.{walk_events}
+use Rattle.tx_audit.proofs.Common.{◌++◌, walk_events}
 use Rattle.tx_audit.proofs.Loops.{one_step_on, all_stepped}
 use Rattle.tx_audit.proofs.steps.push_walk.Goals as goal
 

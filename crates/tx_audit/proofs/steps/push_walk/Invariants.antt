@@ -1,5 +1,4 @@
-use Rattle.std.proofs.Common.{◌≡◌, ◌++◌, drop}
-use Rattle.tx_audit.specs.Counter.{walk_events}
+use Rattle.tx_audit.proofs.Common.{◌≡◌, ◌++◌, drop, walk_events}
 use Rattle.tx_audit.proofs.steps.push_walk.Given as goal
 
 abbrev pub invariant-loop-step : goal.invariant-loop-step

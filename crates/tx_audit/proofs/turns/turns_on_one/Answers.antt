@@ -1,6 +1,4 @@
-use Rattle.std.proofs.Common.{◌≡◌, ◌-◌, ◌∙◌, ap, refl, sym, suc, Some, length, arith}
-use Rattle.std.proofs.lemmas.Option.{slice_get_read}
-use Rattle.std.specs.Prelude.{slice_get}
+use Rattle.tx_audit.proofs.Common.{◌≡◌, ◌-◌, ◌∙◌, ap, refl, sym, suc, Some, length, arith, slice_get_read, slice_get}
 use Rattle.tx_audit.proofs.Loops.{few_no_turn, turns_at}
 use Rattle.tx_audit.proofs.turns.turns_on_one.Goals as goal
 

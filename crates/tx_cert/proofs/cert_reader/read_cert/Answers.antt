@@ -1,11 +1,6 @@
-use Rattle.std.proofs.Common.{◌≡◌, ℕ, List, Ok, Err, codes, true, false, refl, subst}
-use Rattle.tx_text.specs.Told.{AtEnd}
+use Rattle.tx_cert.proofs.Common.{◌≡◌, ℕ, List, Ok, Err, codes, true, false, refl, subst, AtEnd, exits_with, Plan, CertWord, no_ranks_for, IsCertificateOf}
 use Rattle.tx_text.specs.Said.{line_declares}
 use Rattle.tx_text.proofs.Beside.{answers_beside, kept_beside}
-use Rattle.tx_text.proofs.Exits.{exits_with}
-use Rattle.tx_plan.specs.Plan.{Plan}
-use Rattle.tx_cert.specs.declared.fault.CertWord.{CertWord}
-use Rattle.tx_cert.specs.Certificate.{no_ranks_for, IsCertificateOf}
 use Rattle.tx_cert.specs.CertText.{declare}
 use Rattle.tx_cert.proofs.Reading.{slice_says}
 use Rattle.tx_cert.proofs.cert_reader.read_cert.Goals as goal

@@ -1,12 +1,8 @@
-use Rattle.std.proofs.Common.{Ok, Err, codes, false, refl, subst}
+use Rattle.tx_cert.proofs.Common.{Ok, Err, codes, false, refl, subst, AtEnd, exits_with, CertWord, no_ranks_for, IsCertificateOf}
 use Rattle.tx_text.specs.Calls.{source_calls}
 use Rattle.tx_text.specs.Ends.{input}
-use Rattle.tx_text.specs.Told.{AtEnd}
 use Rattle.tx_text.proofs.Beside.{answered_beside, kept_beside}
 use Rattle.tx_text.proofs.CallCounts.{went_none, calls_so_far}
-use Rattle.tx_text.proofs.Exits.{exits_with}
-use Rattle.tx_cert.specs.declared.fault.CertWord.{CertWord}
-use Rattle.tx_cert.specs.Certificate.{no_ranks_for, IsCertificateOf}
 use Rattle.tx_cert.specs.CertText.{declare}
 use Rattle.tx_cert.proofs.Reading.{reads_cert}
 use Rattle.tx_cert.proofs.cert_reader.read_cert_from.Goals as goal

@@ -1,8 +1,4 @@
-use Rattle.std.proofs.Common.{length, arith}
-use Rattle.tx_text.proofs.Putting.{puts_none}
-use Rattle.tx_cert.specs.Certificate.{rank_at}
-use Rattle.tx_cert.specs.CertText.{rank_lines}
-use Rattle.tx_text.proofs.Ranges.{lines_more, lines_done}
+use Rattle.tx_cert.proofs.Common.{length, arith, puts_none, rank_at, rank_lines, lines_more, lines_done}
 use Rattle.tx_cert.proofs.cert_writer.write_code.Goals as goal
 
 pub loop-index-init : goal.loop-index-init

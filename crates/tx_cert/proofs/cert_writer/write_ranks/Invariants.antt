@@ -1,8 +1,4 @@
-use Rattle.std.proofs.Common.{length}
-use Rattle.std.specs.List.{flat_map, range_with_len}
-use Rattle.tx_text.specs.Written.{line_written}
-use Rattle.tx_text.specs.Puts.{Puts}
-use Rattle.tx_cert.specs.CertText.{code_lines}
+use Rattle.tx_cert.proofs.Common.{length, flat_map, range_with_len, line_written, Puts, code_lines}
 use Rattle.tx_cert.proofs.cert_writer.write_ranks.Given as goal
 
 abbrev pub invariant-loop-index : goal.invariant-loop-index

@@ -1,8 +1,6 @@
 use Rattle.std.proofs.Common.{◌≢◌, ◌∙◌, sym, ap, length, vec_len, [], arith, eqb-true}
-use Rattle.std.proofs.lemmas.Bool.{eqb-false}
-use Rattle.tx_cert.specs.Certificate.{ranks_of}
+use Rattle.tx_change.proofs.Common.{eqb-false, ranks_of, sound_change}
 use Rattle.tx_rank.proofs.Listing.{none_of}
-use Rattle.tx_machine.proofs.ChangingRuns.{sound_change}
 use Rattle.tx_change.proofs.Listing.{each_certified, nothing_found, changes_shown, some_found}
 use Rattle.tx_change.proofs.Cleared.{certificate_along, cleared}
 use Rattle.tx_change.proofs.changing.change.Goals as goal

@@ -1,5 +1,4 @@
-use Rattle.tx_rank.proofs.Certifying.{none_true}
-use Rattle.tx_change.specs.Shown.{shown_by}
+use Rattle.tx_change.proofs.Common.{none_true, shown_by}
 use Rattle.tx_change.proofs.ShownWalks.{shown_mixture, shown_true}
 use Rattle.tx_change.proofs.law.findings_show_mixtures.Goals as goal
 

@@ -1,5 +1,4 @@
-use Rattle.tx_rank.proofs.Looks.{among_at}
-use Rattle.tx_change.specs.inner.Kept.{keeps_bar}
+use Rattle.tx_change.proofs.Common.{among_at, keeps_bar}
 use Rattle.tx_change.proofs.Kept.{kept_next, bar_new}
 use Rattle.tx_change.proofs.mixing.add_bars.Goals as goal
 

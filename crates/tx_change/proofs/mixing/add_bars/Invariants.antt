@@ -1,6 +1,4 @@
-use Rattle.std.proofs.Common.{◌≡◌, ◌++◌, take}
-use Rattle.std.specs.Prelude.{filter}
-use Rattle.tx_change.specs.inner.Kept.{keeps_bar}
+use Rattle.tx_change.proofs.Common.{◌≡◌, ◌++◌, take, filter, keeps_bar}
 use Rattle.tx_change.proofs.mixing.add_bars.Given as goal
 
 abbrev pub invariant-loop-index : goal.invariant-loop-index

@@ -1,6 +1,4 @@
-use Rattle.std.proofs.Common.{sym, ap, ◌∙◌}
-use Rattle.std.specs.Prelude.{slice_get}
-use Rattle.tx_change.specs.inner.Kept.{keeps, keeps_route}
+use Rattle.tx_change.proofs.Common.{sym, ap, ◌∙◌, slice_get, keeps, keeps_route}
 use Rattle.tx_change.proofs.Kept.{route_is, keeps_test, groups_alike, entry_added}
 use Rattle.tx_change.proofs.mixing.add_route.Goals as goal
 

@@ -1,6 +1,4 @@
-use Rattle.std.proofs.Common.{ap, ◌∙◌, ◌++◌, not}
-use Rattle.std.specs.Prelude.{filter}
-use Rattle.tx_change.specs.inner.Kept.{has_route_as}
+use Rattle.tx_change.proofs.Common.{ap, ◌∙◌, ◌++◌, not, filter, has_route_as}
 use Rattle.tx_change.proofs.Kept.{route_not_before}
 use Rattle.tx_change.proofs.mixing.mixed_routes.Goals as goal
 

@@ -1,5 +1,4 @@
-use Rattle.std.proofs.Common.{◌∙◌, sym, ap}
-use Rattle.std.specs.Option.{option_map}
+use Rattle.tx_change.proofs.Common.{◌∙◌, sym, ap, option_map}
 use Rattle.tx_change.proofs.MixtureEvents.{walked_true, shows_new}
 use Rattle.tx_change.proofs.mixture.new_plan_shown.Goals as goal
 

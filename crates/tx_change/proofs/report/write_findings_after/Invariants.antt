@@ -1,7 +1,6 @@
-use Rattle.std.proofs.Common.{take}
+use Rattle.tx_change.proofs.Common.{take, finding_after}
 use Rattle.std.specs.List.{flat_map}
 use Rattle.tx_text.specs.Puts.{Puts}
-use Rattle.tx_change.specs.ChangeReport.{finding_after}
 use Rattle.tx_change.proofs.report.write_findings_after.Given as goal
 
 abbrev pub invariant-loop-i : goal.invariant-loop-i

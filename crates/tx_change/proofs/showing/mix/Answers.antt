@@ -1,5 +1,4 @@
-use Rattle.std.proofs.Common.{sym, subst}
-use Rattle.tx_plan.specs.Rules.{IsPlan}
+use Rattle.tx_change.proofs.Common.{sym, subst, IsPlan}
 use Rattle.tx_plan.specs.Mixed.{rerouted}
 use Rattle.tx_plan.proofs.Mixing.{mixed_rules}
 use Rattle.tx_change.specs.Shown.{listed_by, barred_by}

@@ -1,6 +1,4 @@
-use Rattle.std.proofs.Common.{◌≡◌, None, ap, ◌∙◌}
-use Rattle.std.specs.Option.{option_or}
-use Rattle.tx_plan.specs.Ambiguous.{ambiguous_of}
+use Rattle.tx_check.proofs.Common.{◌≡◌, None, ap, ◌∙◌, option_or, ambiguous_of}
 use Rattle.tx_check.specs.Checks.{ranks_for, foremost, check_faults, ambiguous_faults, home_not_zero_faults, origin_unranked_faults, too_high_faults, too_short_faults, target_unranked_faults, not_lower_faults}
 use Rattle.tx_check.proofs.Judging.{ambiguous_first, ambiguous_past, at_one, at_two, at_three, at_four, at_rest, none_of}
 use Rattle.tx_check.proofs.checker.first_fault.Goals as goal

@@ -1,7 +1,4 @@
-use Rattle.std.proofs.Common.{◌≡◌}
-use Rattle.std.specs.List.{flat_map, range_with_len}
-use Rattle.tx_check.specs.Checks.{ranks_for, too_short_at, target_unranked_at, not_lower_at}
-use Rattle.tx_check.specs.inner.Firsts.{firsts_of}
+use Rattle.tx_check.proofs.Common.{◌≡◌, flat_map, range_with_len, ranks_for, too_short_at, target_unranked_at, not_lower_at, firsts_of}
 use Rattle.tx_check.proofs.lists.code_faults.Given as goal
 
 abbrev pub invariant-loop-index : goal.invariant-loop-index

@@ -1,5 +1,4 @@
-use Rattle.std.proofs.Common.{is_none, sym, ◌∙◌}
-use Rattle.tx_check.specs.Checks.{ranks_for, rank_beyond, is_at_least}
+use Rattle.tx_check.proofs.Common.{is_none, sym, ◌∙◌, ranks_for, rank_beyond, is_at_least}
 use Rattle.tx_check.proofs.Wrong.{none_unranked, none_not_lower}
 use Rattle.tx_check.proofs.lists.first_wrong.Goals as goal
 

@@ -1,5 +1,4 @@
-use Rattle.std.proofs.Common.{sym}
-use Rattle.tx_check.specs.Checks.{ranks_for}
+use Rattle.tx_check.proofs.Common.{sym, ranks_for}
 use Rattle.tx_check.proofs.PairFaults.{pair_firsts}
 use Rattle.tx_check.proofs.lists.pair_faults.Goals as goal
 

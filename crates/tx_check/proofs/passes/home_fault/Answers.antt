@@ -1,5 +1,4 @@
-use Rattle.std.proofs.Common.{◌≡◌, true, is_some, length, sym, ◌∙◌, arith, rules}
-use Rattle.tx_check.specs.Checks.{ranks_for, home_not_zero_at}
+use Rattle.tx_check.proofs.Common.{◌≡◌, true, is_some, length, sym, ◌∙◌, arith, rules, ranks_for, home_not_zero_at}
 use Rattle.tx_check.proofs.Finding.{found_at, passed_at, found_none}
 use Rattle.tx_check.proofs.passes.home_fault.Goals as goal
 

@@ -1,5 +1,4 @@
-use Rattle.std.proofs.Common.{◌≡◌, true, is_some, length, arith, rules}
-use Rattle.tx_check.specs.Checks.{ranks_for, origin_unranked_at}
+use Rattle.tx_check.proofs.Common.{◌≡◌, true, is_some, length, arith, rules, ranks_for, origin_unranked_at}
 use Rattle.tx_check.proofs.Finding.{found_at, found_none}
 use Rattle.tx_check.proofs.passes.origin_fault_for.Goals as goal
 

@@ -1,5 +1,4 @@
-use Rattle.std.proofs.Common.{◌≡◌, ℕ, ◌<◌, []}
-use Rattle.tx_check.specs.Checks.{ranks_for, origin_unranked_at}
+use Rattle.tx_check.proofs.Common.{◌≡◌, ℕ, ◌<◌, [], ranks_for, origin_unranked_at}
 use Rattle.tx_check.proofs.passes.origin_fault_for.Given as goal
 
 abbrev pub invariant-loop-index : goal.invariant-loop-index

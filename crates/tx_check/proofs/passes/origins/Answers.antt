@@ -1,6 +1,5 @@
-use Rattle.std.proofs.Common.{◌≡◌, length, arith, ◌∙◌}
+use Rattle.tx_check.proofs.Common.{◌≡◌, length, arith, ◌∙◌, is_origin}
 use Rattle.std.proofs.lemmas.List.{length-set}
-use Rattle.tx_plan.specs.Routes.{is_origin}
 use Rattle.tx_check.proofs.Finding.{marked_more}
 use Rattle.tx_check.proofs.passes.origins.Goals as goal
 

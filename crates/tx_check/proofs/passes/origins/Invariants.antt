@@ -1,5 +1,4 @@
-use Rattle.std.proofs.Common.{◌≡◌, ℕ, ◌<◌, length, false, get_or}
-use Rattle.tx_plan.specs.Routes.{is_origin}
+use Rattle.tx_check.proofs.Common.{◌≡◌, ℕ, ◌<◌, length, false, get_or, is_origin}
 use Rattle.tx_check.proofs.passes.origins.Given as goal
 
 abbrev pub invariant-loop-index : goal.invariant-loop-index

@@ -1,8 +1,4 @@
-use Rattle.std.proofs.Common.{◌≡◌, ◌∙◌, ℕ, ◌+◌, ◌<◌, true, Option, Some, None, length, sym, subst, arith, refl}
-use Rattle.tx_circuits.specs.declared.lists.Way.{Way}
-use Rattle.tx_circuits.specs.declared.lists.Way.TheVariants.{Up, Down}
-use Rattle.tx_circuits.specs.inner.Linked.{IsFirst, IsLast}
-use Rattle.tx_circuits.specs.inner.Slots.{free_at, chain, rank_of, until}
+use Rattle.tx_circuits.proofs.Common.{◌≡◌, ◌∙◌, ℕ, ◌+◌, ◌<◌, true, Option, Some, None, length, sym, subst, arith, refl, Way, Up, Down, IsFirst, IsLast, free_at, chain, rank_of, until}
 use Rattle.tx_circuits.proofs.Linked.{put, are_ranked}
 use Rattle.tx_circuits.proofs.Indexes.{free_here, free_within, first_within, each_way}
 use Rattle.tx_circuits.proofs.Sound.{listed_along}

@@ -1,7 +1,4 @@
-use Rattle.std.proofs.Common.{◌≡◌, ◌∙◌, List, sym, subst, arith}
-use Rattle.tx_circuits.specs.declared.slot.Slot.{Slot}
-use Rattle.tx_circuits.specs.declared.groups.Row.{Row}
-use Rattle.tx_circuits.specs.inner.Groups.{IsAppended}
+use Rattle.tx_circuits.proofs.Common.{◌≡◌, ◌∙◌, List, sym, subst, arith, Slot, Row, IsAppended}
 use Rattle.tx_circuits.proofs.AllFree.{none_made, one_more, each_all}
 use Rattle.tx_circuits.proofs.Indexes.{each_end}
 use Rattle.tx_circuits.proofs.Kept.{appended}

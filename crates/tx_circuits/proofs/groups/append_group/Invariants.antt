@@ -1,6 +1,5 @@
 use Rattle.std.proofs.Common.{◌≡◌, ◌+◌, ◌≤◌, ◌++◌, map, vec_len, vec_capacity}
-use Rattle.std.specs.List.{range_with_len}
-use Rattle.tx_circuits.specs.inner.Groups.{free_slot}
+use Rattle.tx_circuits.proofs.Common.{range_with_len, free_slot}
 use Rattle.tx_circuits.proofs.groups.append_group.Given as goal
 
 -- the slots before this index are made, and there is room for all

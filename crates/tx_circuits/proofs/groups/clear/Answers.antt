@@ -1,6 +1,5 @@
-use Rattle.std.proofs.Common.{◌≡◌, ◌∙◌, ◌≤◌, ◌++◌, length, map, take, drop, ap}
+use Rattle.tx_circuits.proofs.Common.{◌≡◌, ◌∙◌, ◌≤◌, ◌++◌, length, map, take, drop, ap, state_of}
 use Rattle.std.proofs.lemmas.List.{take_all, drop_all, append-nil}
-use Rattle.tx_circuits.specs.inner.Slots.{state_of}
 use Rattle.tx_circuits.proofs.Sound.{with_cleared, cleared_more, states_cleared}
 use Rattle.tx_circuits.proofs.groups.clear.Goals as goal
 

@@ -1,7 +1,4 @@
-use Rattle.std.proofs.Common.{◌≡◌, ◌∙◌, ◌+◌, ◌<◌, ◌≤◌, length, map, sym, ap, arith}
-use Rattle.std.proofs.lemmas.List.{length-map}
-use Rattle.tx_circuits.specs.declared.lists.End.TheVariants.{First, Other}
-use Rattle.tx_circuits.specs.inner.Slots.{free_at, link_at, state_of, until, list_of}
+use Rattle.tx_circuits.proofs.Common.{◌≡◌, ◌∙◌, ◌+◌, ◌<◌, ◌≤◌, length, map, sym, ap, arith, length-map, First, Other, free_at, link_at, state_of, until, list_of}
 use Rattle.tx_circuits.proofs.Indexes.{each_end, free_within}
 use Rattle.tx_circuits.proofs.Sound.{are_sound, listed_along, empty_listed, until_alike}
 use Rattle.tx_circuits.proofs.Appending.{until_all}

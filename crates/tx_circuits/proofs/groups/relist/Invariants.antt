@@ -1,6 +1,4 @@
-use Rattle.std.proofs.Common.{◌≡◌, map}
-use Rattle.tx_circuits.specs.declared.lists.End.{End}
-use Rattle.tx_circuits.specs.inner.Slots.{free_at, state_of, until, list_of, IsListed}
+use Rattle.tx_circuits.proofs.Common.{◌≡◌, map, End, free_at, state_of, until, list_of, IsListed}
 use Rattle.tx_circuits.proofs.groups.relist.Given as goal
 
 -- the lists hold what is free below the index, and no state has changed

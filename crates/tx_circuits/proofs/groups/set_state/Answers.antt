@@ -1,10 +1,4 @@
-use Rattle.std.proofs.Common.{◌≡◌, ◌∙◌, ◌<◌, ◌≤◌, ℕ, Bool, length, List, sym, ap, subst, slice_set, map, arith, length-set}
-use Rattle.std.proofs.lemmas.List.{length-map, map-set}
-use Rattle.tx_circuits.specs.declared.lists.End.{End}
-use Rattle.tx_circuits.specs.declared.lists.End.TheVariants.{First, Other}
-use Rattle.tx_circuits.specs.declared.slot.CircuitState.{CircuitState}
-use Rattle.tx_circuits.specs.inner.Linked.{with}
-use Rattle.tx_circuits.specs.inner.Slots.{free_at, is_free, state_of, IsListed}
+use Rattle.tx_circuits.proofs.Common.{◌≡◌, ◌∙◌, ◌<◌, ◌≤◌, ℕ, Bool, length, List, sym, ap, subst, slice_set, map, arith, length-set, length-map, map-set, End, First, Other, CircuitState, with, free_at, is_free, state_of, IsListed}
 use Rattle.tx_circuits.proofs.Indexes.{each_end}
 use Rattle.tx_circuits.proofs.Sound.{are_linked, are_sound, listed_along, free_alike, after_write}
 use Rattle.tx_circuits.proofs.groups.set_state.Goals as goal

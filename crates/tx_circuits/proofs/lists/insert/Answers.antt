@@ -1,5 +1,4 @@
-use Rattle.std.proofs.Common.{◌∙◌, Some}
-use Rattle.tx_circuits.specs.declared.lists.Way.TheVariants.{Up, Down}
+use Rattle.tx_circuits.proofs.Common.{◌∙◌, Some, Up, Down}
 use Rattle.tx_circuits.proofs.Indexes.{each_way}
 use Rattle.tx_circuits.proofs.lists.insert.Goals as goal
 

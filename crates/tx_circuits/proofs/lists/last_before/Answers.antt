@@ -1,6 +1,4 @@
-use Rattle.std.proofs.Common.{◌<◌, ◌≤◌, ◌+◌, ◌∙◌, sym, subst, arith}
-use Rattle.tx_circuits.specs.inner.Linked.{IsFirst, IsLast}
-use Rattle.tx_circuits.specs.inner.Slots.{free_at, rank_of}
+use Rattle.tx_circuits.proofs.Common.{◌<◌, ◌≤◌, ◌+◌, ◌∙◌, sym, subst, arith, IsFirst, IsLast, free_at, rank_of}
 use Rattle.tx_circuits.proofs.Indexes.{free_within}
 use Rattle.tx_circuits.proofs.Before.{left_from, rank_below, Reached, reached_none, reached_next, reached_past, reached_end, left_falls}
 use Rattle.tx_circuits.proofs.lists.last_before.Goals as goal

@@ -1,6 +1,4 @@
-use Rattle.std.proofs.Common.{◌<◌, length, arith}
-use Rattle.tx_circuits.specs.declared.lists.Way.TheVariants.{Up, Down}
-use Rattle.tx_circuits.specs.inner.Slots.{free_at, chain}
+use Rattle.tx_circuits.proofs.Common.{◌<◌, length, arith, Up, Down, free_at, chain}
 use Rattle.tx_circuits.proofs.Indexes.{free_below, beside, each_way}
 use Rattle.tx_circuits.proofs.lists.neighbours.Goals as goal
 

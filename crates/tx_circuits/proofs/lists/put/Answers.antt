@@ -1,8 +1,4 @@
-use Rattle.std.proofs.Common.{◌+◌, ◌<◌, true, length, sym, subst, arith}
-use Rattle.tx_circuits.specs.declared.lists.Way.{Way}
-use Rattle.tx_circuits.specs.declared.lists.Way.TheVariants.{Up, Down}
-use Rattle.tx_circuits.specs.inner.Linked.{IsFirst, IsLast, with}
-use Rattle.tx_circuits.specs.inner.Slots.{free_at, chain, rank_of, ahead, back}
+use Rattle.tx_circuits.proofs.Common.{◌+◌, ◌<◌, true, length, sym, subst, arith, Way, Up, Down, IsFirst, IsLast, with, free_at, chain, rank_of, ahead, back}
 use Rattle.tx_circuits.proofs.Linked.{put, with_here, with_there, to_first, are_ranked}
 use Rattle.tx_circuits.proofs.Indexes.{free_within, free_below, last_within, not_itself, each_way}
 use Rattle.tx_circuits.proofs.lists.put.Goals as goal

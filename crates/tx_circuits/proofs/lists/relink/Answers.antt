@@ -1,6 +1,4 @@
-use Rattle.std.proofs.Common.{◌∙◌, ℕ, Bool, sym, subst}
-use Rattle.tx_circuits.specs.inner.Linked.{with}
-use Rattle.tx_circuits.specs.inner.Slots.{free_at, is_free, IsListed}
+use Rattle.tx_circuits.proofs.Common.{◌∙◌, ℕ, Bool, sym, subst, with, free_at, is_free, IsListed}
 use Rattle.tx_circuits.proofs.Linked.{with_same}
 use Rattle.tx_circuits.proofs.Indexes.{free_here, same_bool, other_bool, other_bool_false}
 use Rattle.tx_circuits.proofs.lists.relink.Goals as goal

@@ -1,6 +1,4 @@
-use Rattle.std.proofs.Common.{◌∙◌, None, ap}
-use Rattle.tx_circuits.specs.declared.slot.Slot.{Slot}
-use Rattle.tx_circuits.specs.inner.Slots.{ahead, links_of, back, opposite, state_of}
+use Rattle.tx_circuits.proofs.Common.{◌∙◌, None, ap, Slot, ahead, links_of, back, opposite, state_of}
 use Rattle.tx_circuits.proofs.Columns.{column_here, column_there, column_same, column-set_same}
 use Rattle.tx_circuits.proofs.lists.set_link.Goals as goal
 

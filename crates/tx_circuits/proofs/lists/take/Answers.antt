@@ -1,12 +1,4 @@
-use Rattle.std.proofs.Common.{◌≡◌, ◌≢◌, ◌∙◌, ℕ, ◌+◌, ◌<◌, true, false, List, Option, length, sym, subst, arith}
-use Rattle.std.specs.Prelude.{IfSome}
-use Rattle.tx_circuits.specs.declared.lists.End.{End}
-use Rattle.tx_circuits.specs.declared.lists.FreeList.{FreeList}
-use Rattle.tx_circuits.specs.declared.lists.Way.{Way}
-use Rattle.tx_circuits.specs.declared.lists.Way.TheVariants.{Up, Down}
-use Rattle.tx_circuits.specs.declared.slot.Slot.{Slot}
-use Rattle.tx_circuits.specs.inner.Linked.{IsFirst, with}
-use Rattle.tx_circuits.specs.inner.Slots.{free_at, chain, link_at, rank_of, ahead, back, IsListed}
+use Rattle.tx_circuits.proofs.Common.{◌≡◌, ◌≢◌, ◌∙◌, ℕ, ◌+◌, ◌<◌, true, false, List, Option, length, sym, subst, arith, IfSome, End, FreeList, Way, Up, Down, Slot, IsFirst, with, free_at, chain, link_at, rank_of, ahead, back, IsListed}
 use Rattle.tx_circuits.proofs.Linked.{take, with_here, with_there, to_last, are_ranked}
 use Rattle.tx_circuits.proofs.Indexes.{free_within, free_below, first_within, each_way}
 use Rattle.tx_circuits.proofs.lists.take.Goals as goal

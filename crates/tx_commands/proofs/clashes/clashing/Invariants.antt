@@ -1,6 +1,5 @@
-use Rattle.std.proofs.Common.{◌≡◌, ◌∷◌, bytes_eq, drop}
+use Rattle.tx_commands.proofs.Common.{◌≡◌, ◌∷◌, bytes_eq, drop, has_clash}
 use Rattle.tx_commands.specs.Files.{names, standard_input}
-use Rattle.tx_commands.specs.Clashes.{has_clash}
 use Rattle.tx_commands.proofs.clashes.clashing.Given as goal
 
 -- it is so of all files exactly where it is so of those that are left

@@ -1,6 +1,5 @@
-use Rattle.std.proofs.Common.{◌≡◌, drop}
+use Rattle.tx_commands.proofs.Common.{◌≡◌, drop, names}
 use Rattle.tx_commands.specs.Clashes.{has_input_twice}
-use Rattle.tx_commands.specs.Files.{names}
 use Rattle.tx_commands.proofs.clashes.has_input_twice.Given as goal
 
 -- it is so of all files exactly where it is so of those that are left

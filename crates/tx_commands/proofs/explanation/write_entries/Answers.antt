@@ -1,9 +1,4 @@
-use Rattle.std.proofs.Common.{ℕ, List, option_map}
-use Rattle.std.specs.Borrow.{Bor}
-use Rattle.std.proofs.lemmas.List.{get_or_default}
-use Rattle.tx_text.proofs.Wrote.{texts_stopped}
-use Rattle.tx_commands.specs.Entries.{texts}
-use Rattle.tx_commands.specs.Explanation.{told_text}
+use Rattle.tx_commands.proofs.Common.{ℕ, List, option_map, Bor, get_or_default, texts_stopped, texts, told_text}
 use Rattle.tx_commands.proofs.explanation.write_entries.Goals as goal
 
 pub returns-in_err-write_told : goal.returns-in_err-write_told

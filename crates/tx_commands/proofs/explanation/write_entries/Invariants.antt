@@ -1,9 +1,4 @@
-use Rattle.std.proofs.Common.{ℕ, List, take, option_map, Ok}
-use Rattle.std.specs.Borrow.{Bor}
-use Rattle.std.specs.List.{flat_map}
-use Rattle.tx_text.specs.Wrote.{WroteBy}
-use Rattle.tx_commands.specs.Entries.{texts}
-use Rattle.tx_commands.specs.Explanation.{told_text}
+use Rattle.tx_commands.proofs.Common.{ℕ, List, take, option_map, Ok, Bor, flat_map, WroteBy, texts, told_text}
 use Rattle.tx_commands.proofs.explanation.write_entries.Given as goal
 
 abbrev pub invariant-loop-i : goal.invariant-loop-i

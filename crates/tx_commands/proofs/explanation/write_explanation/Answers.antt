@@ -1,6 +1,4 @@
-use Rattle.std.proofs.Common.{◌∙◌, option_map, ap}
-use Rattle.std.specs.List.{flat_map}
-use Rattle.tx_commands.specs.Explanation.{told_text}
+use Rattle.tx_commands.proofs.Common.{◌∙◌, option_map, ap, flat_map, told_text}
 use Rattle.tx_commands.proofs.AllTables.{text_of}
 use Rattle.tx_commands.proofs.explanation.write_explanation.Goals as goal
 

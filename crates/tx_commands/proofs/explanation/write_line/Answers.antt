@@ -1,5 +1,4 @@
-use Rattle.tx_text.proofs.Writing.{some, some_last}
-use Rattle.tx_text.proofs.Putting.{puts_wrote}
+use Rattle.tx_commands.proofs.Common.{some, some_last, puts_wrote}
 use Rattle.tx_commands.proofs.explanation.write_line.Goals as goal
 
 pub returns : goal.returns

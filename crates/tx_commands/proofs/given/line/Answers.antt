@@ -1,5 +1,4 @@
-use Rattle.std.proofs.Common.{◌∙◌, Some, option_map, codes, ap, sym}
-use Rattle.std.specs.List.{join_by}
+use Rattle.tx_commands.proofs.Common.{◌∙◌, Some, option_map, codes, ap, sym, join_by}
 use Rattle.tx_commands.proofs.Found.{line_found}
 use Rattle.tx_commands.proofs.given.line.Goals as goal
 

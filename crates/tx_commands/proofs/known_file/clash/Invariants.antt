@@ -1,7 +1,4 @@
-use Rattle.std.proofs.Common.{◌≡◌, drop}
-use Rattle.tx_commands.specs.Clashes.{has_clash}
-use Rattle.tx_commands.specs.Files.{values_of}
-use Rattle.tx_commands.specs.SameFile.{is_same_file}
+use Rattle.tx_commands.proofs.Common.{◌≡◌, drop, has_clash, values_of, is_same_file}
 use Rattle.tx_commands.proofs.known_file.clash.Given as goal
 
 -- it is so of all files exactly where it is so of those that are left

@@ -1,7 +1,4 @@
-use Rattle.std.proofs.Common.{◌≡◌, drop}
-use Rattle.tx_commands.specs.Clashes.{is_among}
-use Rattle.tx_commands.specs.Files.{values_of}
-use Rattle.tx_commands.specs.SameFile.{is_same_file}
+use Rattle.tx_commands.proofs.Common.{◌≡◌, drop, is_among, values_of, is_same_file}
 use Rattle.tx_commands.proofs.known_file.first_as.Given as goal
 
 -- it is so of all files exactly where it is so of those that are left

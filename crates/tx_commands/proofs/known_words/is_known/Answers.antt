@@ -1,5 +1,4 @@
-use Rattle.std.proofs.Common.{◌∙◌, ap}
-use Rattle.std.specs.List.{list_any}
+use Rattle.tx_commands.proofs.Common.{◌∙◌, ap, list_any}
 use Rattle.tx_commands.specs.Entries.{is_asked}
 use Rattle.tx_commands.proofs.AllTables.{any_of}
 use Rattle.tx_commands.proofs.known_words.is_known.Goals as goal

@@ -1,5 +1,4 @@
-use Rattle.tx_commands.specs.Commands.{IsFoundIn}
-use Rattle.tx_commands.specs.inner.Refused.{IsRefused}
+use Rattle.tx_commands.proofs.Common.{IsFoundIn, IsRefused}
 use Rattle.tx_commands.proofs.Found.{found_by}
 use Rattle.tx_commands.proofs.reading.command_in.Goals as goal
 

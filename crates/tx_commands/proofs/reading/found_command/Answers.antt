@@ -1,6 +1,4 @@
-use Rattle.std.proofs.Common.{rules}
-use Rattle.clap.specs.Words.{subcommand_rows_of}
-use Rattle.tx_commands.specs.Commands.{IsFoundIn}
+use Rattle.tx_commands.proofs.Common.{rules, subcommand_rows_of, IsFoundIn}
 use Rattle.tx_commands.proofs.Found.{refused_for_clash}
 use Rattle.tx_commands.proofs.reading.found_command.Goals as goal
 

@@ -1,6 +1,5 @@
-use Rattle.std.proofs.Common.{◌≡◌, ◌∙◌, ◌+◌, ◌∷◌, drop, ap, sym, subst}
+use Rattle.tx_engine.proofs.Common.{◌≡◌, ◌∙◌, ◌+◌, ◌∷◌, drop, ap, sym, subst, released_all, CanReleaseAll}
 use Rattle.std.proofs.lemmas.List.{at_drop_more, at_drop_all}
-use Rattle.tx_engine.specs.inner.GivenBack.{released_all, CanReleaseAll}
 use Rattle.tx_engine.proofs.ending.release_hops.Goals as goal
 
 pub loop-hop-preserved : goal.loop-hop-preserved

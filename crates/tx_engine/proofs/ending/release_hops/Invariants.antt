@@ -1,5 +1,4 @@
-use Rattle.std.proofs.Common.{◌≡◌, drop}
-use Rattle.tx_engine.specs.inner.GivenBack.{released_all, CanReleaseAll}
+use Rattle.tx_engine.proofs.Common.{◌≡◌, drop, released_all, CanReleaseAll}
 use Rattle.tx_engine.proofs.ending.release_hops.Given as goal
 
 abbrev pub invariant-loop-hop : goal.invariant-loop-hop

@@ -1,8 +1,4 @@
-use Rattle.std.proofs.Common.{◌≡◌, Some, is_some, false, ap, ◌∙◌, sym, arith}
-use Rattle.slab.proofs.SlabLemmas.{Updates-with_value}
-use Rattle.tx_machine.specs.declared.open_call.Phase.TheVariants.{Standing}
-use Rattle.tx_machine.specs.Confirming.{carried_on}
-use Rattle.tx_machine.specs.Seen.{call_seen}
+use Rattle.tx_engine.proofs.Common.{◌≡◌, Some, is_some, false, ap, ◌∙◌, sym, arith, Updates-with_value, Standing, carried_on, call_seen}
 use Rattle.tx_engine.proofs.open_calls.add_hop.Goals as goal
 
 pub push_reserved-requires : goal.push_reserved-requires

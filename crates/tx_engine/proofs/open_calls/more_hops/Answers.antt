@@ -1,8 +1,4 @@
-use Rattle.std.proofs.Common.{◌≡◌, ◌<◌, ◌≤◌, Some, is_some, refl, ap, sym, ◌∙◌, arith, subst, rules}
-use Rattle.std.proofs.lemmas.Bool.{false≢true}
-use Rattle.slab.proofs.SlabLemmas.{Updates-with_value}
-use Rattle.tx_engine.specs.inner.KeptCalls.{kept_of}
-use Rattle.tx_machine.specs.Seen.{call_seen}
+use Rattle.tx_engine.proofs.Common.{◌≡◌, ◌<◌, ◌≤◌, Some, is_some, refl, ap, sym, ◌∙◌, arith, subst, rules, false≢true, Updates-with_value, kept_of, call_seen}
 use Rattle.tx_engine.proofs.open_calls.more_hops.Goals as goal
 
 pub returns-in_ok-more_room : goal.returns-in_ok-more_room

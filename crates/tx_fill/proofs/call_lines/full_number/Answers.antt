@@ -1,7 +1,4 @@
-use Rattle.std.proofs.Common.{◌≡◌, ◌∙◌, ◌++◌, List, ℕ, true, ap, sym}
-use Rattle.std.proofs.lemmas.Option.{cond_some}
-use Rattle.tx_text.specs.Words.{are_figures}
-use Rattle.tx_plan.specs.Lines.{full_number}
+use Rattle.tx_fill.proofs.Common.{◌≡◌, ◌∙◌, ◌++◌, List, ℕ, true, ap, sym, cond_some, are_figures, full_number}
 use Rattle.tx_fill.proofs.LinesAt.{full_figures, is_read}
 use Rattle.tx_fill.proofs.call_lines.full_number.Goals as goal
 

@@ -1,8 +1,5 @@
-use Rattle.std.proofs.Common.{ℕ, ◌+◌, ◌-◌, ◌<◌, ◌^◌, ap, subst, sym, ◌∙◌, Some, arith}
-use Rattle.std.specs.Prelude.{slice_get}
-use Rattle.std.specs.Str.Parse.{digits_value}
+use Rattle.tx_fill.proofs.Common.{ℕ, ◌+◌, ◌-◌, ◌<◌, ◌^◌, ap, subst, sym, ◌∙◌, Some, arith, slice_get, digits_value, entry_at, all_at}
 use Rattle.tx_plan.specs.Rules.{IsRange}
-use Rattle.tx_plan.proofs.ByIndex.{entry_at, all_at}
 use Rattle.tx_fill.proofs.LinesAt.{lines_from, value_small, in_range, line_here, line_later, no_line}
 use Rattle.tx_fill.proofs.call_lines.line_at.Goals as goal
 

@@ -1,6 +1,4 @@
-use Rattle.std.proofs.Common.{◌≡◌, ◌+◌, ◌*◌, ◌^◌, ◌≤◌}
-use Rattle.std.specs.Prelude.{slice_get}
-use Rattle.tx_fill.specs.CallLines.{lines_of}
+use Rattle.tx_fill.proofs.Common.{◌≡◌, ◌+◌, ◌*◌, ◌^◌, ◌≤◌, slice_get, lines_of}
 use Rattle.tx_fill.proofs.LinesAt.{lines_from}
 use Rattle.tx_fill.proofs.call_lines.line_at.Given as goal
 

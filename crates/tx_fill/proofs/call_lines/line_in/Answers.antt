@@ -1,5 +1,4 @@
-use Rattle.std.proofs.Common.{◌∙◌, ◌+◌, ap, length, arith}
-use Rattle.tx_fill.specs.CallLines.{figures}
+use Rattle.tx_fill.proofs.Common.{◌∙◌, ◌+◌, ap, length, arith, figures}
 use Rattle.tx_fill.proofs.LinesAt.{figures_in}
 use Rattle.tx_fill.proofs.call_lines.line_in.Goals as goal
 

@@ -1,8 +1,5 @@
-use Rattle.std.proofs.Common.{◌≡◌, ◌∙◌, ◌++◌, ◌-◌, List, ℕ, take, length, ap, sym, arith}
-use Rattle.std.specs.Prelude.{decimal, replicate}
+use Rattle.tx_fill.proofs.Common.{◌≡◌, ◌∙◌, ◌++◌, ◌-◌, List, ℕ, take, length, ap, sym, arith, decimal, replicate, cond_some, is_national}
 use Rattle.std.proofs.lemmas.List.{length-take-le}
-use Rattle.std.proofs.lemmas.Option.{cond_some}
-use Rattle.tx_plan.specs.Numbers.{is_national}
 use Rattle.tx_fill.proofs.LinesAt.{decimal_short, padded_is, is_read}
 use Rattle.tx_fill.proofs.call_lines.padded.Goals as goal
 

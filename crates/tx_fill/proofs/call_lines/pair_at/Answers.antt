@@ -1,7 +1,5 @@
-use Rattle.std.proofs.Common.{◌≡◌, ◌+◌, ◌==◌, Bool, true, false, refl, ◌∙◌, sym, ap}
-use Rattle.std.specs.Prelude.{slice_get, if◌then◌else◌}
+use Rattle.tx_fill.proofs.Common.{◌≡◌, ◌+◌, ◌==◌, Bool, true, false, refl, ◌∙◌, sym, ap, slice_get, if◌then◌else◌, home_of}
 use mir.Val.{bool_byte}
-use Rattle.tx_plan.specs.Plan.{home_of}
 use Rattle.tx_fill.specs.CallLines.{lines_of, called_from}
 use Rattle.tx_fill.specs.declared.call_lines.Whose.TheVariants.{At, Of}
 use Rattle.tx_fill.proofs.LinesAt.{got_behind, zip_both, zip_first, zip_second}

@@ -1,9 +1,5 @@
-use Rattle.std.proofs.Common.{◌≡◌, ◌<◌, ℕ, List, get_or, length, true, ap, ◌∙◌, arith}
-use Rattle.std.proofs.lemmas.List.{take_all}
+use Rattle.tx_fill.proofs.Common.{◌≡◌, ◌<◌, ℕ, List, get_or, length, true, ap, ◌∙◌, arith, take_all, list_all, digits_value, is_figure}
 use Rattle.std.proofs.lemmas.List.Sums.{AllPass-from_list_all}
-use Rattle.std.specs.List.{list_all}
-use Rattle.std.specs.Str.Parse.{digits_value}
-use Rattle.tx_text.specs.Words.{is_figure}
 use Rattle.tx_text.proofs.Numbers.{value_more}
 use Rattle.tx_fill.proofs.LinesAt.{figures_in, value_small}
 use Rattle.tx_fill.proofs.call_lines.value_of.Goals as goal

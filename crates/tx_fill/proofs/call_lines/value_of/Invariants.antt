@@ -1,5 +1,4 @@
-use Rattle.std.proofs.Common.{◌≡◌, ◌<◌, ◌^◌, take}
-use Rattle.std.specs.Str.Parse.{digits_value}
+use Rattle.tx_fill.proofs.Common.{◌≡◌, ◌<◌, ◌^◌, take, digits_value}
 use Rattle.tx_fill.proofs.call_lines.value_of.Given as goal
 
 abbrev pub invariant-loop-figure : goal.invariant-loop-figure

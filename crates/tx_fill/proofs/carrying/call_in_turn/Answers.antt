@@ -1,8 +1,4 @@
-use Rattle.std.proofs.Common.{◌∙◌, ap, refl, sym, arith}
-use Rattle.std.specs.Prelude.{slice_get}
-use Rattle.std.proofs.lemmas.Option.{slice_get_within}
-use Rattle.tx_machine.specs.State.{State, ticket_taken}
-use Rattle.tx_fill.specs.CallLines.{line_pairs}
+use Rattle.tx_fill.proofs.Common.{◌∙◌, ap, refl, sym, arith, slice_get, slice_get_within, State, ticket_taken, line_pairs}
 use Rattle.tx_fill.proofs.Carried.{stands, has_ended, all_called}
 use Rattle.tx_fill.proofs.carrying.call_in_turn.Goals as goal
 

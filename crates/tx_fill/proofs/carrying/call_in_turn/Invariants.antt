@@ -1,5 +1,4 @@
-use Rattle.std.proofs.Common.{◌≡◌, ◌-◌, [], drop, length}
-use Rattle.tx_fill.specs.CallLines.{line_pairs}
+use Rattle.tx_fill.proofs.Common.{◌≡◌, ◌-◌, [], drop, length, line_pairs}
 use Rattle.tx_fill.specs.Fills.{filled}
 use Rattle.tx_fill.proofs.carrying.call_in_turn.Given as goal
 

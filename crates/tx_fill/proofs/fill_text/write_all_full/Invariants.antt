@@ -1,7 +1,5 @@
-use Rattle.std.proofs.Common.{take}
-use Rattle.std.specs.List.{flat_map}
+use Rattle.tx_fill.proofs.Common.{take, flat_map, full_line}
 use Rattle.tx_text.specs.Puts.{Puts}
-use Rattle.tx_fill.specs.FillText.{full_line}
 use Rattle.tx_fill.proofs.fill_text.write_all_full.Given as goal
 
 abbrev pub invariant-loop-i : goal.invariant-loop-i

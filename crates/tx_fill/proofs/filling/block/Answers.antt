@@ -1,7 +1,4 @@
-use Rattle.std.proofs.Common.{◌∙◌, ap, map}
-use Rattle.std.proofs.lemmas.List.{take_all}
-use Rattle.tx_machine.specs.Runs.{state_after}
-use Rattle.tx_machine.specs.declared.event.Event.TheVariants.{Block}
+use Rattle.tx_fill.proofs.Common.{◌∙◌, ap, map, take_all, state_after, Block}
 use Rattle.tx_fill.proofs.Settled.{events_more}
 use Rattle.tx_fill.proofs.filling.block.Goals as goal
 

@@ -1,6 +1,4 @@
-use Rattle.std.proofs.Common.{◌≡◌, map, take}
-use Rattle.tx_machine.specs.Runs.{state_after}
-use Rattle.tx_machine.specs.declared.event.Event.TheVariants.{Block}
+use Rattle.tx_fill.proofs.Common.{◌≡◌, map, take, state_after, Block}
 use Rattle.tx_fill.proofs.filling.block.Given as goal
 
 abbrev pub invariant-loop-group : goal.invariant-loop-group

@@ -1,9 +1,5 @@
-use Rattle.std.proofs.Common.{◌∙◌, ap, length}
-use Rattle.std.specs.Prelude.{filter, slice_get}
-use Rattle.std.specs.List.{range_with_len}
+use Rattle.tx_fill.proofs.Common.{◌∙◌, ap, length, filter, slice_get, range_with_len, state_after, State, Net, ticket_taken}
 use Rattle.std.specs.Option.{option_map}
-use Rattle.tx_machine.specs.Runs.{state_after}
-use Rattle.tx_machine.specs.State.{State, Net, ticket_taken}
 use Rattle.tx_fill.specs.Fills.{end_of, releases, is_full}
 use Rattle.tx_fill.proofs.Settled.{no_tickets, filled_is}
 use Rattle.tx_fill.proofs.filling.fill_network.Goals as goal

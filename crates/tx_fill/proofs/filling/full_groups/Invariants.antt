@@ -1,7 +1,4 @@
-use Rattle.std.proofs.Common.{◌≡◌}
-use Rattle.std.specs.Prelude.{filter}
-use Rattle.std.specs.List.{range_with_len}
-use Rattle.tx_fill.specs.Fills.{is_full}
+use Rattle.tx_fill.proofs.Common.{◌≡◌, filter, range_with_len, is_full}
 use Rattle.tx_fill.proofs.filling.full_groups.Given as goal
 
 abbrev pub invariant-loop-index : goal.invariant-loop-index

@@ -1,6 +1,4 @@
-use Rattle.std.proofs.Common.{ℕ, ◌∙◌, ap}
-use Rattle.tx_plan.specs.Plan.{Plan}
-use Rattle.tx_plan.specs.Circuits.{may_seize}
+use Rattle.tx_fill.proofs.Common.{ℕ, ◌∙◌, ap, Plan, may_seize}
 use Rattle.tx_fill.proofs.Settled.{first_end}
 use Rattle.tx_fill.proofs.filling.is_full.Goals as goal
 

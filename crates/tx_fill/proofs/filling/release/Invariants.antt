@@ -1,6 +1,4 @@
-use Rattle.std.proofs.Common.{◌≡◌, map, take}
-use Rattle.tx_machine.specs.Runs.{state_after}
-use Rattle.tx_fill.specs.Fills.{release_of}
+use Rattle.tx_fill.proofs.Common.{◌≡◌, map, take, state_after, release_of}
 use Rattle.tx_fill.proofs.filling.release.Given as goal
 
 abbrev pub invariant-loop-hop : goal.invariant-loop-hop

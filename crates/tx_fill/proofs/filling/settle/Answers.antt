@@ -1,7 +1,4 @@
-use Rattle.std.proofs.Common.{◌∙◌, map, ap, sym}
-use Rattle.tx_machine.specs.Ended.{Ended}
-use Rattle.tx_machine.specs.Runs.{state_after}
-use Rattle.tx_fill.specs.Fills.{release_of, releases}
+use Rattle.tx_fill.proofs.Common.{◌∙◌, map, ap, sym, Ended, state_after, release_of, releases}
 use Rattle.tx_fill.proofs.filling.settle.Goals as goal
 
 pub returns-clause-state : goal.returns-clause-state

@@ -1,6 +1,4 @@
-use Rattle.std.proofs.Common.{◌∙◌, Ok, Err, refl}
-use Rattle.tx_text.proofs.Exits.{exits_with}
-use Rattle.tx_jobs.specs.AuditJobs.{audit_fault}
+use Rattle.tx_jobs.proofs.Common.{◌∙◌, Ok, Err, refl, exits_with, audit_fault}
 use Rattle.tx_jobs.proofs.RefusedTexts.{audit_marked}
 use Rattle.tx_jobs.proofs.audit.audit_job.Goals as goal
 

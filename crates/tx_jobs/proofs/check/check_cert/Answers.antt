@@ -1,6 +1,4 @@
-use Rattle.std.proofs.Common.{inl, inr, refl}
-use Rattle.tx_text.proofs.Exits.{exits_with}
-use Rattle.tx_jobs.specs.JobFaults.{cert_fault}
+use Rattle.tx_jobs.proofs.Common.{inl, inr, refl, exits_with, cert_fault}
 use Rattle.tx_jobs.proofs.RefusedTexts.{cert_mark}
 use Rattle.tx_jobs.proofs.check.check_cert.Goals as goal
 

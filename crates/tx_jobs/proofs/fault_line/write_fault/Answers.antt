@@ -1,7 +1,5 @@
 use Rattle.std.specs.Prelude.{codes}
-use Rattle.std.proofs.Common.{subst}
-use Rattle.tx_text.specs.Wrote.{Wrote}
-use Rattle.tx_jobs.specs.JobFaults.{text_fault_line}
+use Rattle.tx_jobs.proofs.Common.{subst, Wrote, text_fault_line}
 use Rattle.tx_jobs.proofs.fault_line.write_fault.Goals as goal
 
 pub returns-in-Plan : goal.returns-in-Plan

@@ -1,6 +1,4 @@
-use Rattle.std.proofs.Common.{subst}
-use Rattle.tx_text.specs.Wrote.{Wrote}
-use Rattle.tx_jobs.specs.JobFaults.{text_fault_line}
+use Rattle.tx_jobs.proofs.Common.{subst, Wrote, text_fault_line}
 use Rattle.tx_jobs.proofs.fault_line.write_plan_fault.Goals as goal
 
 pub returns : goal.returns

@@ -1,8 +1,4 @@
-use Rattle.std.proofs.Common.{◌≡◌, ◌∙◌, [], false, Err, ap, inl, inr, refl, rules}
-use Rattle.tx_text.specs.Ends.{output}
-use Rattle.tx_text.proofs.Exits.{exits_with}
-use Rattle.tx_jobs.specs.JobFaults.{plan_fault}
-use Rattle.tx_jobs.specs.PipeJobs.{PipeRan, PipeRefused}
+use Rattle.tx_jobs.proofs.Common.{◌≡◌, ◌∙◌, [], false, Err, ap, inl, inr, refl, rules, output, exits_with, plan_fault, PipeRan, PipeRefused}
 use Rattle.tx_jobs.proofs.Piping.{refused, ran, subst2}
 use Rattle.tx_jobs.proofs.RefusedTexts.{refused_mark}
 use Rattle.tx_jobs.proofs.pipe.pipe_job.Goals as goal

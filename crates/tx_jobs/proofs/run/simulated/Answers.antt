@@ -1,7 +1,4 @@
-use Rattle.std.proofs.Common.{Ok, Err, refl}
-use Rattle.tx_text.specs.Ends.{input, output}
-use Rattle.tx_text.proofs.Exits.{exits_with}
-use Rattle.tx_jobs.specs.JobFaults.{run_fault}
+use Rattle.tx_jobs.proofs.Common.{Ok, Err, refl, input, output, exits_with, run_fault}
 use Rattle.tx_jobs.proofs.Simulating.{ran_as}
 use Rattle.tx_jobs.proofs.RefusedTexts.{run_mark}
 use Rattle.tx_jobs.proofs.run.simulated.Goals as goal

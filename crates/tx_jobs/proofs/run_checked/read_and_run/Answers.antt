@@ -1,8 +1,4 @@
-use Rattle.std.proofs.Common.{inl, inr, refl}
-use Rattle.tx_text.specs.Calls.{source_calls}
-use Rattle.tx_text.proofs.CallCounts.{went_none, calls_so_far}
-use Rattle.tx_text.proofs.Exits.{exits_with}
-use Rattle.tx_jobs.specs.JobFaults.{cert_fault}
+use Rattle.tx_jobs.proofs.Common.{inl, inr, refl, source_calls, went_none, calls_so_far, exits_with, cert_fault}
 use Rattle.tx_jobs.proofs.RefusedTexts.{cert_mark}
 use Rattle.tx_jobs.proofs.run_checked.read_and_run.Goals as goal
 

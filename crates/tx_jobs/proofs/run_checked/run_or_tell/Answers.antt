@@ -1,8 +1,4 @@
-use Rattle.std.proofs.Common.{◌∙◌, inl, refl}
-use Rattle.tx_text.specs.Ends.{input}
-use Rattle.tx_text.proofs.Exits.{exits_with}
-use Rattle.tx_jobs.specs.declared.job_fault.JobFault.TheVariants.{Write}
-use Rattle.tx_jobs.specs.JobFaults.{run_fault}
+use Rattle.tx_jobs.proofs.Common.{◌∙◌, inl, refl, input, exits_with, Write, run_fault}
 use Rattle.tx_jobs.proofs.CheckedRun.{told_run_by, told_run_stopped}
 use Rattle.tx_jobs.proofs.RefusedTexts.{run_mark}
 use Rattle.tx_jobs.proofs.run_checked.run_or_tell.Goals as goal

@@ -1,6 +1,4 @@
-use Rattle.std.proofs.Common.{inl, inr, refl}
-use Rattle.tx_text.specs.Calls.{source_calls}
-use Rattle.tx_text.proofs.CallCounts.{went_none, calls_so_far}
+use Rattle.tx_jobs.proofs.Common.{inl, inr, refl, source_calls, went_none, calls_so_far}
 use Rattle.tx_jobs.proofs.RefusedTexts.{refused, refused_mark}
 use Rattle.tx_jobs.proofs.telling.run_telling_job.Goals as goal
 

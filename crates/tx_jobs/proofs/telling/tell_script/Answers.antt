@@ -1,10 +1,6 @@
-use Rattle.std.proofs.Common.{Ok, Err, ap, inl, inr, refl}
-use Rattle.tx_text.specs.Calls.{source_calls}
-use Rattle.tx_text.proofs.CallCounts.{went_none, calls_so_far}
-use Rattle.tx_text.proofs.Exits.{exits_with}
+use Rattle.tx_jobs.proofs.Common.{Ok, Err, ap, inl, inr, refl, source_calls, went_none, calls_so_far, exits_with, run_fault}
 use Rattle.tx_machine.specs.State.{Net}
 use Rattle.tx_jobs.specs.declared.job_fault.JobFault.TheVariants.{NoMemory}
-use Rattle.tx_jobs.specs.JobFaults.{run_fault}
 use Rattle.tx_jobs.proofs.RefusedTexts.{run_mark}
 use Rattle.tx_jobs.proofs.ToldRuns.{told_plan}
 use Rattle.tx_jobs.proofs.telling.tell_script.Goals as goal

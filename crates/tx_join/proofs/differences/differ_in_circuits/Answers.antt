@@ -1,6 +1,4 @@
-use Rattle.std.proofs.Common.{◌∙◌, ap, sym, length, is_some, arith}
-use Rattle.std.specs.List.{range_with_len}
-use Rattle.tx_join.specs.Differences.{has_other_circuits}
+use Rattle.tx_join.proofs.Common.{◌∙◌, ap, sym, length, is_some, arith, range_with_len, has_other_circuits}
 use Rattle.tx_join.proofs.Found.{any_find, found_at, fails_next}
 use Rattle.tx_join.proofs.NoDifference.{none_below}
 use Rattle.tx_join.proofs.differences.differ_in_circuits.Goals as goal

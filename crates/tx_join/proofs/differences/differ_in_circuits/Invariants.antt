@@ -1,5 +1,4 @@
-use Rattle.std.proofs.Common.{◌≡◌, ℕ, ◌<◌, false}
-use Rattle.tx_join.specs.Differences.{has_other_circuits}
+use Rattle.tx_join.proofs.Common.{◌≡◌, ℕ, ◌<◌, false, has_other_circuits}
 use Rattle.tx_join.proofs.differences.differ_in_circuits.Given as goal
 
 abbrev pub invariant-loop-index : goal.invariant-loop-index

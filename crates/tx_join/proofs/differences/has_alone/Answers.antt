@@ -1,6 +1,4 @@
-use Rattle.std.proofs.Common.{◌≡◌, ℕ, Bool, refl, false, true, not, ◌∙◌, ap, sym, is_some, arith}
-use Rattle.std.specs.List.{range_with_len}
-use Rattle.tx_join.specs.Differences.{is_known, count_of_entries}
+use Rattle.tx_join.proofs.Common.{◌≡◌, ℕ, Bool, refl, false, true, not, ◌∙◌, ap, sym, is_some, arith, range_with_len, is_known, count_of_entries}
 use Rattle.tx_join.proofs.Found.{any_find, found_at, fails_next}
 use Rattle.tx_join.proofs.NoDifference.{none_below}
 use Rattle.tx_join.proofs.differences.has_alone.Goals as goal

@@ -1,5 +1,4 @@
-use Rattle.std.proofs.Common.{◌≡◌, ℕ, ◌<◌, not, false}
-use Rattle.tx_join.specs.Differences.{is_known}
+use Rattle.tx_join.proofs.Common.{◌≡◌, ℕ, ◌<◌, not, false, is_known}
 use Rattle.tx_join.proofs.differences.has_alone.Given as goal
 
 abbrev pub invariant-loop-index : goal.invariant-loop-index

@@ -1,7 +1,4 @@
-use Rattle.std.proofs.Common.{refl, arith}
-use Rattle.tx_text.proofs.Putting.{puts_none}
-use Rattle.tx_text.proofs.Ranges.{lines_more, lines_done}
-use Rattle.tx_join.specs.Differences.{entry_lines, count_of_entries}
+use Rattle.tx_join.proofs.Common.{refl, arith, puts_none, lines_more, lines_done, entry_lines, count_of_entries}
 use Rattle.tx_join.proofs.differences.write_alone.Goals as goal
 
 pub loop-index-init : goal.loop-index-init

@@ -1,5 +1,4 @@
-use Rattle.tx_text.specs.Puts.{Puts}
-use Rattle.tx_join.specs.Differences.{entry_lines, each_written}
+use Rattle.tx_join.proofs.Common.{Puts, entry_lines, each_written}
 use Rattle.tx_join.proofs.differences.write_alone.Given as goal
 
 abbrev pub invariant-loop-index : goal.invariant-loop-index

@@ -1,7 +1,4 @@
-use Rattle.std.proofs.Common.{length, arith}
-use Rattle.tx_text.proofs.Putting.{puts_none}
-use Rattle.tx_text.proofs.Ranges.{lines_more, lines_done}
-use Rattle.tx_join.specs.Differences.{circuits_lines}
+use Rattle.tx_join.proofs.Common.{length, arith, puts_none, lines_more, lines_done, circuits_lines}
 use Rattle.tx_join.proofs.differences.write_circuits.Goals as goal
 
 pub loop-index-init : goal.loop-index-init

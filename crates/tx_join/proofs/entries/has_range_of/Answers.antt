@@ -1,11 +1,4 @@
-use Rattle.std.proofs.Common.{◌≡◌, ℕ, suc, ◌+◌, ◌<◌, Bool, true, false, ◌||◌, List, [], ◌∷◌, length, take, drop, sym, ap, ◌∙◌, arith}
-use Rattle.std.specs.Prelude.{slice_get}
-use Rattle.std.specs.List.{list_any}
-use Rattle.std.specs.Option.{option_map_or}
-use Rattle.std.proofs.lemmas.List.{take-append-drop}
-use Rattle.std.proofs.lemmas.List.Folds.{list_any-append}
-use Rattle.tx_plan.proofs.ByIndex.{entry_at, take_next}
-use Rattle.tx_join.specs.inner.Ranges.{is_range_of}
+use Rattle.tx_join.proofs.Common.{◌≡◌, ℕ, suc, ◌+◌, ◌<◌, Bool, true, false, ◌||◌, List, [], ◌∷◌, length, take, drop, sym, ap, ◌∙◌, arith, slice_get, list_any, option_map_or, take-append-drop, list_any-append, entry_at, take_next, is_range_of}
 use Rattle.tx_join.proofs.Found.{drop_next}
 use Rattle.tx_join.proofs.entries.has_range_of.Goals as goal
 

@@ -1,6 +1,4 @@
-use Rattle.std.proofs.Common.{◌≡◌, false, take}
-use Rattle.std.specs.List.{list_any}
-use Rattle.tx_join.specs.inner.Ranges.{is_range_of}
+use Rattle.tx_join.proofs.Common.{◌≡◌, false, take, list_any, is_range_of}
 use Rattle.tx_join.proofs.entries.has_range_of.Given as goal
 
 abbrev pub invariant-loop-index : goal.invariant-loop-index

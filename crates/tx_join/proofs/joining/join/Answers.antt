@@ -1,8 +1,4 @@
-use Rattle.std.proofs.Common.{sym, subst, inl, inr}
-use Rattle.tx_text.proofs.Exits.{exits_with}
-use Rattle.tx_plan.specs.Plan.{Plan}
-use Rattle.tx_join.specs.Joined.{joined_old}
-use Rattle.tx_join.specs.Laws.{AreOverBoth, HaveTheirLists}
+use Rattle.tx_join.proofs.Common.{sym, subst, inl, inr, exits_with, Plan, joined_old, AreOverBoth, HaveTheirLists}
 use Rattle.tx_join.proofs.TheirLists.{over_both, their_lists}
 use Rattle.tx_join.proofs.joining.join.Goals as goal
 

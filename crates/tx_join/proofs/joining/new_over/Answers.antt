@@ -1,9 +1,4 @@
-use Rattle.std.proofs.Common.{ℕ, ◌∙◌, sym, subst, refl}
-use Rattle.tx_text.proofs.Exits.{exits_with}
-use Rattle.tx_plan.specs.Plan.{Plan}
-use Rattle.tx_plan.specs.Rules.{IsPlan}
-use Rattle.tx_join.specs.declared.refusal.JoinRefusal.TheVariants.{NoMemory}
-use Rattle.tx_join.specs.Joined.{joined_network, plan_over}
+use Rattle.tx_join.proofs.Common.{ℕ, ◌∙◌, sym, subst, refl, exits_with, Plan, IsPlan, NoMemory, joined_network, plan_over}
 use Rattle.tx_join.proofs.TheirLists.{after_rules}
 use Rattle.tx_join.proofs.joining.new_over.Goals as goal
 

@@ -1,9 +1,4 @@
-use Rattle.std.proofs.Common.{◌≡◌, ◌+◌, ◌<◌, length, ap, sym, ◌∙◌, arith}
-use Rattle.std.specs.Prelude.{count_by, if◌then◌else◌}
-use Rattle.std.specs.List.{range_with_len}
-use Rattle.std.proofs.lemmas.List.{take_all}
-use Rattle.std.proofs.lemmas.List.FromFn.{length-range_with_len}
-use Rattle.tx_join.specs.ListCounts.{is_counted}
+use Rattle.tx_join.proofs.Common.{◌≡◌, ◌+◌, ◌<◌, length, ap, sym, ◌∙◌, arith, count_by, if◌then◌else◌, range_with_len, take_all, length-range_with_len, is_counted}
 use Rattle.tx_join.proofs.Sums.{count_more, count_few}
 use Rattle.tx_join.proofs.list_counts.counted_at.Goals as goal
 use Rattle.tx_join.proofs.list_counts.counted_at.Goals.{then-is_counted, else-is_counted}

@@ -1,7 +1,4 @@
-use Rattle.std.proofs.Common.{◌≡◌, ◌≤◌, length, take}
-use Rattle.std.specs.Prelude.{count_by}
-use Rattle.std.specs.List.{range_with_len}
-use Rattle.tx_join.specs.ListCounts.{is_counted}
+use Rattle.tx_join.proofs.Common.{◌≡◌, ◌≤◌, length, take, count_by, range_with_len, is_counted}
 use Rattle.tx_join.proofs.list_counts.counted_at.Given as goal
 
 abbrev pub invariant-loop-index : goal.invariant-loop-index

@@ -1,9 +1,4 @@
-use Rattle.std.proofs.Common.{◌+◌, ◌<◌, length, ap, sym, ◌∙◌, arith}
-use Rattle.std.specs.Prelude.{sum_by}
-use Rattle.std.specs.List.{range_with_len}
-use Rattle.std.proofs.lemmas.List.{take_all}
-use Rattle.std.proofs.lemmas.List.FromFn.{length-range_with_len}
-use Rattle.tx_join.specs.ListCounts.{counted_at}
+use Rattle.tx_join.proofs.Common.{◌+◌, ◌<◌, length, ap, sym, ◌∙◌, arith, sum_by, range_with_len, take_all, length-range_with_len, counted_at}
 use Rattle.tx_join.proofs.Sums.{range_sum_more}
 use Rattle.tx_join.proofs.list_counts.counted_in.Goals as goal
 

@@ -1,7 +1,5 @@
 use Rattle.std.proofs.Common.{◌≡◌, ◌≤◌, ◌*◌, length, take}
-use Rattle.std.specs.Prelude.{sum_by}
-use Rattle.std.specs.List.{range_with_len}
-use Rattle.tx_join.specs.ListCounts.{counted_at}
+use Rattle.tx_join.proofs.Common.{sum_by, range_with_len, counted_at}
 use Rattle.tx_join.proofs.list_counts.counted_in.Given as goal
 
 abbrev pub invariant-loop-index : goal.invariant-loop-index

@@ -1,9 +1,5 @@
-use Rattle.std.proofs.Common.{Bool, not, List, [], ℕ, ◌≡◌, ◌++◌, ◌∷◌, ◌∙◌, map, append_assoc, ap, sym}
-use Rattle.std.specs.Prelude.{codes, if◌then◌else◌}
+use Rattle.tx_join.proofs.Common.{Bool, not, List, [], ℕ, ◌≡◌, ◌++◌, ◌∷◌, ◌∙◌, map, append_assoc, ap, sym, codes, if◌then◌else◌, puts_none, puts_then, puts_is, exchange_name, figures_of, group_name, route_list}
 use Rattle.tx_text.specs.Written.{joined, line_written}
-use Rattle.tx_text.proofs.Putting.{puts_none, puts_then, puts_is}
-use Rattle.tx_plan.specs.Plan.{exchange_name, figures_of, group_name}
-use Rattle.tx_plan.specs.Routes.{route_list}
 use Rattle.tx_join.proofs.lists_alone.write_list.Goals as goal
 
 -- a word, a blank and the words of a list

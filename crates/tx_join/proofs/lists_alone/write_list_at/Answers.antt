@@ -1,12 +1,4 @@
-use Rattle.std.proofs.Common.{not, Option, [], ◌∷◌, refl, ap}
-use Rattle.std.specs.Prelude.{if◌then◌else◌}
-use Rattle.std.specs.Option.{option_map_or}
-use Rattle.tx_text.specs.Written.{line_written}
-use Rattle.tx_text.proofs.Putting.{puts_is}
-use Rattle.tx_plan.specs.Plan.{Route}
-use Rattle.tx_plan.proofs.Copied.{route_got}
-use Rattle.tx_plantext.specs.PlanWritten.{route_words}
-use Rattle.tx_join.specs.Joined.{has_both}
+use Rattle.tx_join.proofs.Common.{not, Option, [], ◌∷◌, refl, ap, if◌then◌else◌, option_map_or, line_written, puts_is, Route, route_got, route_words, has_both}
 use Rattle.tx_join.proofs.lists_alone.write_list_at.Goals as goal
 
 pub returns-in-Some : goal.returns-in-Some

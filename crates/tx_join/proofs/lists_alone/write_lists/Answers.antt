@@ -1,7 +1,4 @@
-use Rattle.std.proofs.Common.{not, ◌∷◌, arith}
-use Rattle.tx_text.proofs.Putting.{puts_none}
-use Rattle.tx_plantext.specs.PlanWritten.{route_words}
-use Rattle.tx_join.specs.Joined.{has_both}
+use Rattle.tx_join.proofs.Common.{not, ◌∷◌, arith, puts_none, route_words, has_both}
 use Rattle.tx_join.proofs.AloneLines.{kept_more, kept_all}
 use Rattle.tx_join.proofs.lists_alone.write_lists.Goals as goal
 

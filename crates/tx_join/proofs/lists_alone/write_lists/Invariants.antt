@@ -1,7 +1,4 @@
-use Rattle.std.proofs.Common.{not, ◌∷◌, take}
-use Rattle.tx_text.specs.Puts.{Puts}
-use Rattle.tx_plantext.specs.PlanWritten.{route_words}
-use Rattle.tx_join.specs.Joined.{has_both}
+use Rattle.tx_join.proofs.Common.{not, ◌∷◌, take, Puts, route_words, has_both}
 use Rattle.tx_join.proofs.AloneLines.{kept_lines}
 use Rattle.tx_join.proofs.lists_alone.write_lists.Given as goal
 

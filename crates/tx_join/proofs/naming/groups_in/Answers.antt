@@ -1,7 +1,5 @@
-use Rattle.std.proofs.Common.{◌≡◌, ◌+◌, ◌∙◌, ◌++◌, ◌∷◌, [], length, map, sym, ap, arith}
-use Rattle.std.specs.List.{range_with_len}
+use Rattle.tx_join.proofs.Common.{◌≡◌, ◌+◌, ◌∙◌, ◌++◌, ◌∷◌, [], length, map, sym, ap, arith, range_with_len, group_in}
 use Rattle.std.proofs.lemmas.List.FromFn.{map-range_with_len_more, length-map-range_with_len}
-use Rattle.tx_join.specs.Joined.{group_in}
 use Rattle.tx_join.proofs.naming.groups_in.Goals as goal
 
 pub push_reserved-requires : goal.push_reserved-requires

@@ -1,6 +1,5 @@
 use Rattle.std.proofs.Common.{◌≡◌, ◌≤◌, length, map, vec_capacity}
-use Rattle.std.specs.List.{range_with_len}
-use Rattle.tx_join.specs.Joined.{group_in}
+use Rattle.tx_join.proofs.Common.{range_with_len, group_in}
 use Rattle.tx_join.proofs.naming.groups_in.Given as goal
 
 abbrev pub invariant-loop-index : goal.invariant-loop-index

@@ -1,6 +1,4 @@
-use Rattle.std.proofs.Common.{◌<◌, ◌∙◌, ◌++◌, ◌∷◌, [], map, length, ap, subst, sym, arith, length-append}
-use Rattle.std.proofs.lemmas.List.{take_all}
-use Rattle.tx_join.specs.Joined.{group_in}
+use Rattle.tx_join.proofs.Common.{◌<◌, ◌∙◌, ◌++◌, ◌∷◌, [], map, length, ap, subst, sym, arith, length-append, take_all, group_in}
 use Rattle.tx_join.proofs.Splits.{list_few, member_within, table_at, mapped_next}
 use Rattle.tx_join.proofs.naming.list_in.Goals as goal
 

@@ -1,6 +1,4 @@
-use Rattle.std.proofs.Common.{◌≡◌, ◌≤◌, length, map, take}
-use Rattle.tx_plan.specs.Plan.{Plan}
-use Rattle.tx_join.specs.Joined.{group_in}
+use Rattle.tx_join.proofs.Common.{◌≡◌, ◌≤◌, length, map, take, Plan, group_in}
 use Rattle.tx_join.specs.inner.Taken.{groups_in}
 use Rattle.tx_join.proofs.naming.list_in.Given as goal
 

@@ -1,6 +1,4 @@
-use Rattle.std.proofs.Common.{◌∙◌, ap, sym, refl, arith}
-use Rattle.tx_plan.specs.Plan.{Plan, exchange_name, figures_of, home_of}
-use Rattle.tx_plan.specs.Declaring.{has_code}
+use Rattle.tx_join.proofs.Common.{◌∙◌, ap, sym, refl, arith, Plan, exchange_name, figures_of, home_of, has_code}
 use Rattle.tx_join.proofs.NextDeclared.{no_code, all_codes, is_taken, taken_next}
 use Rattle.tx_join.proofs.StepsDeclared.{code_fits, code_added, code_passed}
 use Rattle.tx_join.proofs.network.add_codes.Goals as goal

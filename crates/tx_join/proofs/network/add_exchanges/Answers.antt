@@ -1,6 +1,4 @@
-use Rattle.std.proofs.Common.{◌∙◌, ap, sym, arith}
-use Rattle.tx_plan.specs.Plan.{Plan, exchange_name}
-use Rattle.tx_plan.specs.Declaring.{has_exchange}
+use Rattle.tx_join.proofs.Common.{◌∙◌, ap, sym, arith, Plan, exchange_name, has_exchange}
 use Rattle.tx_join.proofs.NextDeclared.{no_exchange, all_exchanges, is_taken, taken_next}
 use Rattle.tx_join.proofs.StepsDeclared.{exchange_fits, exchange_added, exchange_passed}
 use Rattle.tx_join.proofs.network.add_exchanges.Goals as goal

@@ -1,7 +1,4 @@
-use Rattle.std.proofs.Common.{◌∙◌, ℕ, max, ap, sym, arith}
-use Rattle.tx_plan.specs.Plan.{Plan, exchange_name, group_name}
-use Rattle.tx_plan.specs.Circuits.{ends_of, direction_of, count_of}
-use Rattle.tx_plan.specs.Declaring.{has_group}
+use Rattle.tx_join.proofs.Common.{◌∙◌, ℕ, max, ap, sym, arith, Plan, exchange_name, group_name, ends_of, direction_of, count_of, has_group}
 use Rattle.tx_join.proofs.NextDeclared.{no_group, all_groups, is_taken, taken_next}
 use Rattle.tx_join.proofs.StepsDeclared.{group_fits, group_added, group_passed}
 use Rattle.tx_join.proofs.network.add_groups.Goals as goal

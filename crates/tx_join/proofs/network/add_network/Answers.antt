@@ -1,7 +1,4 @@
-use Rattle.std.proofs.Common.{◌∙◌, ap, sym, subst}
-use Rattle.tx_plan.specs.Plan.{Plan}
-use Rattle.tx_plan.specs.Rules.{IsPlan}
-use Rattle.tx_join.specs.inner.Declared.{with_exchanges, with_codes, with_ranges, with_groups, KnowsExchanges, KnowsCodes}
+use Rattle.tx_join.proofs.Common.{◌∙◌, ap, sym, subst, Plan, IsPlan, with_exchanges, with_codes, with_ranges, with_groups, KnowsExchanges, KnowsCodes}
 use Rattle.tx_join.proofs.JoinedNetwork.{network_rules}
 use Rattle.tx_join.proofs.Stages.{old_exchanges, new_exchanges, old_codes, new_codes, old_ranges, old_groups, new_groups, rules_1, rules_2, rules_3, rules_4, rules_5, rules_6, old_exchanges_known, new_exchanges_known, old_codes_known}
 use Rattle.tx_join.proofs.network.add_network.Goals as goal

@@ -1,6 +1,4 @@
-use Rattle.std.proofs.Common.{◌∙◌, sym, arith}
-use Rattle.std.specs.Prelude.{slice_get}
-use Rattle.tx_plan.proofs.ByIndex.{entry_at}
+use Rattle.tx_join.proofs.Common.{◌∙◌, sym, arith, slice_get, entry_at}
 use Rattle.tx_join.proofs.NextDeclared.{no_range, all_ranges, is_taken, taken_next, not_none}
 use Rattle.tx_join.proofs.StepsDeclared.{range_fits, range_added}
 use Rattle.tx_join.proofs.network.add_ranges.Goals as goal

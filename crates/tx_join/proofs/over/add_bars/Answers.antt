@@ -1,8 +1,4 @@
-use Rattle.std.proofs.Common.{◌≡◌, ◌++◌, ◌∷◌, [], true, false, nat_lt, ◌∙◌, ap, sym, subst, arith, append-nil}
-use Rattle.std.specs.Prelude.{slice_get, filter}
-use Rattle.tx_plan.specs.declared.ids.Pair.{Pair}
-use Rattle.tx_plan.proofs.ByIndex.{entry_at}
-use Rattle.tx_join.specs.inner.Taken.{has_bar}
+use Rattle.tx_join.proofs.Common.{◌≡◌, ◌++◌, ◌∷◌, [], true, false, nat_lt, ◌∙◌, ap, sym, subst, arith, append-nil, slice_get, filter, Pair, entry_at, has_bar}
 use Rattle.tx_plan.proofs.Copied.{bar_got, no_none}
 use Rattle.tx_join.proofs.NextTaken.{bar_next, bar_left, bar_free, bars_taken}
 use Rattle.tx_join.proofs.over.add_bars.Goals as goal

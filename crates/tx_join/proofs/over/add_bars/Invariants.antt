@@ -1,7 +1,4 @@
-use Rattle.std.proofs.Common.{◌≡◌, ◌++◌, map, take, nat_lt}
-use Rattle.std.specs.Prelude.{filter}
-use Rattle.tx_join.specs.Joined.{bar_in}
-use Rattle.tx_join.specs.inner.Taken.{takes}
+use Rattle.tx_join.proofs.Common.{◌≡◌, ◌++◌, map, take, nat_lt, filter, bar_in, takes}
 use Rattle.tx_join.proofs.over.add_bars.Given as goal
 
 abbrev pub invariant-loop-index : goal.invariant-loop-index

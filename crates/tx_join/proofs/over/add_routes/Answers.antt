@@ -1,12 +1,4 @@
-use Rattle.std.proofs.Common.{◌≡◌, ◌==◌, ◌&&◌, ◌++◌, ◌∷◌, [], false, ◌∙◌, refl, sym, ap, subst, arith, length, append-nil}
-use Rattle.std.specs.Prelude.{slice_get}
-use Rattle.std.specs.List.{list_any}
-use Rattle.std.proofs.lemmas.List.FromFn.{length-map-range_with_len}
-use Rattle.tx_plan.specs.declared.ids.Pair.{Pair}
-use Rattle.tx_plan.specs.Plan.{Route}
-use Rattle.tx_plan.proofs.ByIndex.{entry_at}
-use Rattle.tx_join.specs.Joined.{group_in}
-use Rattle.tx_plan.proofs.Copied.{route_got, no_none}
+use Rattle.tx_join.proofs.Common.{◌≡◌, ◌==◌, ◌&&◌, ◌++◌, ◌∷◌, [], false, ◌∙◌, refl, sym, ap, subst, arith, length, append-nil, slice_get, list_any, length-map-range_with_len, Pair, Route, entry_at, group_in, route_got, no_none}
 use Rattle.tx_join.proofs.NextTaken.{route_next, route_left, route_free, routes_taken}
 use Rattle.tx_join.proofs.over.add_routes.Goals as goal
 use Rattle.tx_join.proofs.over.add_routes.Goals.{then-takes+in_ok-add-in-Some, else-takes}

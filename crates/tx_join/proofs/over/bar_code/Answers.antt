@@ -1,8 +1,4 @@
-use Rattle.std.proofs.Common.{◌≡◌, ℕ, ◌==◌, ◌&&◌, false, [], ◌∷◌, ◌++◌, ◌∙◌, sym, ap, subst, arith, append-nil}
-use Rattle.std.specs.List.{list_any}
-use Rattle.std.proofs.lemmas.Bool.{not-true, not-false}
-use Rattle.tx_plan.specs.declared.ids.Pair.{Pair}
-use Rattle.tx_plan.specs.Plan.{home_of}
+use Rattle.tx_join.proofs.Common.{◌≡◌, ℕ, ◌==◌, ◌&&◌, false, [], ◌∷◌, ◌++◌, ◌∙◌, sym, ap, subst, arith, append-nil, list_any, not-true, not-false, Pair, home_of}
 use Rattle.tx_join.proofs.Splits.{all_barred, home_passed, exchange_free, exchange_barred}
 use Rattle.tx_join.proofs.over.bar_code.Goals as goal
 use Rattle.tx_join.proofs.over.bar_code.Goals.{then-ne+in_ok-add, else-ne}

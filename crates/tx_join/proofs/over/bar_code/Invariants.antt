@@ -1,6 +1,4 @@
-use Rattle.std.proofs.Common.{◌≡◌, length, not, ◌==◌}
-use Rattle.std.specs.List.{range_with_len}
-use Rattle.tx_plan.specs.Plan.{home_of}
+use Rattle.tx_join.proofs.Common.{◌≡◌, length, not, ◌==◌, range_with_len, home_of}
 use Rattle.tx_join.proofs.NextDeclared.{so_far}
 use Rattle.tx_join.proofs.over.bar_code.Given as goal
 

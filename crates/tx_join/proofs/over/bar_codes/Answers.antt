@@ -1,7 +1,5 @@
-use Rattle.std.proofs.Common.{◌≡◌, ℕ, ◌-◌, ◌++◌, length, ◌∙◌, ap, sym, subst, arith, append-nil}
+use Rattle.tx_join.proofs.Common.{◌≡◌, ℕ, ◌-◌, ◌++◌, length, ◌∙◌, ap, sym, subst, arith, append-nil, bars_of_code, BarsDiffer}
 use Rattle.std.specs.List.{flat_map, range_with_len}
-use Rattle.tx_join.specs.Joined.{bars_of_code}
-use Rattle.tx_join.specs.inner.Taken.{BarsDiffer}
 use Rattle.tx_join.proofs.Splits.{code_bars_differ, code_barred}
 use Rattle.tx_join.proofs.over.bar_codes.Goals as goal
 

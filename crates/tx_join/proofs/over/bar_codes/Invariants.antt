@@ -1,6 +1,5 @@
-use Rattle.std.proofs.Common.{◌≡◌, ◌≤◌, ◌++◌, ◌-◌, max, length}
+use Rattle.tx_join.proofs.Common.{◌≡◌, ◌≤◌, ◌++◌, ◌-◌, max, length, bars_of_code}
 use Rattle.std.specs.List.{flat_map, range_with_len}
-use Rattle.tx_join.specs.Joined.{bars_of_code}
 use Rattle.tx_join.proofs.over.bar_codes.Given as goal
 
 abbrev pub invariant-loop-index : goal.invariant-loop-index

@@ -1,7 +1,4 @@
-use Rattle.std.proofs.Common.{List, ◌++◌, false, true, ◌∙◌, ap, sym, subst}
-use Rattle.tx_plan.specs.declared.ids.Pair.{Pair}
-use Rattle.tx_join.specs.Joined.{bars_from}
-use Rattle.tx_join.specs.inner.Taken.{taken_bars, BarsDiffer}
+use Rattle.tx_join.proofs.Common.{List, ◌++◌, false, true, ◌∙◌, ap, sym, subst, Pair, bars_from, taken_bars, BarsDiffer}
 use Rattle.tx_join.proofs.Splits.{bars_split, own_bars_differ, shared_bars_differ, all_bars_differ}
 use Rattle.tx_join.proofs.over.bars_over.Goals as goal
 

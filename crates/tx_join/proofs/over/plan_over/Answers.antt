@@ -1,9 +1,4 @@
-use Rattle.std.proofs.Common.{List, ◌∙◌, sym, subst}
-use Rattle.tx_plan.specs.declared.ids.Pair.{Pair}
-use Rattle.tx_plan.specs.Plan.{Route}
-use Rattle.tx_plan.specs.Rules.{IsPlan}
-use Rattle.tx_plan.specs.Mixed.{rerouted}
-use Rattle.tx_join.specs.Joined.{bars_over}
+use Rattle.tx_join.proofs.Common.{List, ◌∙◌, sym, subst, Pair, Route, IsPlan, rerouted, bars_over}
 use Rattle.tx_join.proofs.over.plan_over.Goals as goal
 
 pub lists_over-requires : goal.lists_over-requires

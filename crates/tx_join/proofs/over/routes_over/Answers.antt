@@ -1,6 +1,4 @@
-use Rattle.std.proofs.Common.{List, ◌++◌, false, true, ◌∙◌, ap, sym, subst}
-use Rattle.tx_plan.specs.Plan.{Route}
-use Rattle.tx_join.specs.inner.Taken.{taken_routes, RoutesDiffer}
+use Rattle.tx_join.proofs.Common.{List, ◌++◌, false, true, ◌∙◌, ap, sym, subst, Route, taken_routes, RoutesDiffer}
 use Rattle.tx_join.proofs.Splits.{routes_split, own_routes_differ, all_routes_differ}
 use Rattle.tx_join.proofs.over.routes_over.Goals as goal
 

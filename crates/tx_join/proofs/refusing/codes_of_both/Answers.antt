@@ -1,7 +1,4 @@
-use Rattle.std.proofs.Common.{◌∙◌, [], ap, sym, arith}
-use Rattle.std.specs.Option.{option_map_or}
-use Rattle.tx_plan.specs.Plan.{figures_of, Code}
-use Rattle.tx_plan.specs.Declaring.{has_code}
+use Rattle.tx_join.proofs.Common.{◌∙◌, [], ap, sym, arith, option_map_or, figures_of, Code, has_code}
 use Rattle.tx_join.proofs.Counts.{counted_few, counted, uncounted}
 use Rattle.tx_join.proofs.refusing.codes_of_both.Goals as goal
 use Rattle.tx_join.proofs.refusing.codes_of_both.Goals.{then-not-has_code, else-not-has_code}

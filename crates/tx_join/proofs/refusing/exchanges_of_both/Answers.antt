@@ -1,7 +1,4 @@
-use Rattle.std.proofs.Common.{◌∙◌, ℕ, List, [], ap, sym, arith}
-use Rattle.std.specs.Option.{option_map_or}
-use Rattle.tx_plan.specs.Plan.{exchange_name}
-use Rattle.tx_plan.specs.Declaring.{has_exchange}
+use Rattle.tx_join.proofs.Common.{◌∙◌, ℕ, List, [], ap, sym, arith, option_map_or, exchange_name, has_exchange}
 use Rattle.tx_join.proofs.Counts.{counted_few, counted, uncounted}
 use Rattle.tx_join.proofs.refusing.exchanges_of_both.Goals as goal
 use Rattle.tx_join.proofs.refusing.exchanges_of_both.Goals.{then-not-has_exchange, else-not-has_exchange}

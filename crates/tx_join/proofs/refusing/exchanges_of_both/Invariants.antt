@@ -1,6 +1,4 @@
-use Rattle.std.proofs.Common.{◌≡◌, ◌+◌, not, length, take}
-use Rattle.std.specs.Prelude.{filter}
-use Rattle.tx_plan.specs.Declaring.{has_exchange}
+use Rattle.tx_join.proofs.Common.{◌≡◌, ◌+◌, not, length, take, filter, has_exchange}
 use Rattle.tx_join.proofs.refusing.exchanges_of_both.Given as goal
 
 abbrev pub invariant-loop-index : goal.invariant-loop-index

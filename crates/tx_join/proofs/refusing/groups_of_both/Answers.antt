@@ -1,7 +1,4 @@
-use Rattle.std.proofs.Common.{◌∙◌, [], ap, sym, arith}
-use Rattle.std.specs.Option.{option_map_or}
-use Rattle.tx_plan.specs.Plan.{group_name, Group}
-use Rattle.tx_plan.specs.Declaring.{has_group}
+use Rattle.tx_join.proofs.Common.{◌∙◌, [], ap, sym, arith, option_map_or, group_name, Group, has_group}
 use Rattle.tx_join.proofs.Counts.{counted_few, counted, uncounted}
 use Rattle.tx_join.proofs.refusing.groups_of_both.Goals as goal
 use Rattle.tx_join.proofs.refusing.groups_of_both.Goals.{then-not-has_group, else-not-has_group}

@@ -1,5 +1,4 @@
-use Rattle.std.proofs.Common.{◌∙◌, ap, sym, length, Some, arith}
-use Rattle.tx_join.specs.Refusals.{has_other_group}
+use Rattle.tx_join.proofs.Common.{◌∙◌, ap, sym, length, Some, arith, has_other_group}
 use Rattle.tx_join.proofs.Found.{found_at, none_at, fails_next}
 use Rattle.tx_join.proofs.refusing.other_group.Goals as goal
 

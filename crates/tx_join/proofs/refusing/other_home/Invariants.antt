@@ -1,5 +1,4 @@
-use Rattle.std.proofs.Common.{◌≡◌, ℕ, ◌<◌, false}
-use Rattle.tx_join.specs.Refusals.{has_other_home}
+use Rattle.tx_join.proofs.Common.{◌≡◌, ℕ, ◌<◌, false, has_other_home}
 use Rattle.tx_join.proofs.refusing.other_home.Given as goal
 
 abbrev pub invariant-loop-index : goal.invariant-loop-index

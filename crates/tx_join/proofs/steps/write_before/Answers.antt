@@ -1,6 +1,4 @@
-use Rattle.std.proofs.Common.{ap, sym, ◌∙◌, ◌++◌}
-use Rattle.std.specs.Prelude.{codes}
-use Rattle.tx_text.proofs.Putting.{puts_none, puts_then, puts_is}
+use Rattle.tx_join.proofs.Common.{ap, sym, ◌∙◌, ◌++◌, codes, puts_none, puts_then, puts_is}
 use Rattle.tx_join.specs.Steps.{part, put_text}
 use Rattle.tx_join.proofs.steps.write_before.Goals as goal
 

@@ -1,13 +1,8 @@
 use Rattle.std.proofs.Common.{◌≡◌, ap, sym, subst, ◌∙◌, true, false, unwrap_or, Option, Some, None, Bool, IfSome}
-use Rattle.std.specs.Prelude.{if◌then◌else◌}
+use Rattle.tx_lines.proofs.Common.{if◌then◌else◌, same_line, Line, Status, with_mark, is_unmarked, no_mark, kept_status}
 use Rattle.std.proofs.lemmas.Map.Made.{lookup_key_passes}
 use Rattle.indexmap.specs.IndexMap.{Updates, get}
-use Rattle.tx_plan.specs.Orders.{same_line}
 use Rattle.tx_plan.specs.inner.LineLaws.{same_line-is}
-use Rattle.tx_plan.specs.declared.ids.Line.{Line}
-use Rattle.tx_lines.specs.declared.book.Status.{Status}
-use Rattle.tx_lines.specs.Status.{with_mark, is_unmarked, no_mark}
-use Rattle.tx_lines.specs.inner.Kept.{kept_status}
 use Rattle.tx_lines.proofs.book.take_mark.Goals as goal
 
 unmarked_goes : (s : Status) → is_unmarked s ≡ true → None ≡ kept_status s

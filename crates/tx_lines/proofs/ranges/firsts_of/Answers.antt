@@ -1,7 +1,4 @@
-use Rattle.std.proofs.Common.{◌+◌, ◌∷◌, [], length, nat_lt, sym, ap, ◌∙◌, subst, length-append, arith, rules}
-use Rattle.std.proofs.lemmas.List.Sorted.{IsPartitionPoint-from_clause}
-use Rattle.tx_plan.specs.declared.range.LineRange.{LineRange}
-use Rattle.tx_lines.specs.inner.Ordered.{AreFirsts, IsFirst}
+use Rattle.tx_lines.proofs.Common.{◌+◌, ◌∷◌, [], length, nat_lt, sym, ap, ◌∙◌, subst, length-append, arith, rules, IsPartitionPoint-from_clause, LineRange, AreFirsts, IsFirst}
 use Rattle.tx_lines.proofs.ByCode.{codes_rise, firsts_more, first_from}
 use Rattle.tx_lines.proofs.ranges.firsts_of.Goals as goal
 

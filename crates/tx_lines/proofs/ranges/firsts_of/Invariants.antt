@@ -1,5 +1,4 @@
-use Rattle.std.proofs.Common.{◌≡◌, ◌≤◌, ◌+◌, length, vec_capacity}
-use Rattle.tx_lines.specs.inner.Ordered.{AreFirsts}
+use Rattle.tx_lines.proofs.Common.{◌≡◌, ◌≤◌, ◌+◌, length, vec_capacity, AreFirsts}
 use Rattle.tx_lines.proofs.ranges.firsts_of.Given as goal
 
 abbrev pub invariant-loop-code : goal.invariant-loop-code

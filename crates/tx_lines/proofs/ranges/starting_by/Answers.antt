@@ -1,5 +1,4 @@
-use Rattle.std.proofs.Common.{ap, length, rules, arith}
-use Rattle.std.proofs.lemmas.List.Sorted.{IsPartitionPoint-from_clause}
+use Rattle.tx_lines.proofs.Common.{ap, length, rules, arith, IsPartitionPoint-from_clause}
 use Rattle.tx_lines.proofs.Order.{starts_by}
 use Rattle.tx_lines.proofs.Parts.{own_length, own_partitioned, counted}
 use Rattle.tx_lines.proofs.ranges.starting_by.Goals as goal

@@ -1,5 +1,4 @@
-use Rattle.std.proofs.Common.{◌≡◌, false, take}
-use Rattle.std.specs.List.{list_any}
+use Rattle.tx_lint.proofs.Common.{◌≡◌, false, take, list_any}
 use Rattle.tx_lint.proofs.Warned.{has_end}
 use Rattle.tx_lint.proofs.alone.is_alone.Given as goal
 

@@ -1,7 +1,5 @@
-use Rattle.std.proofs.Common.{◌<◌, length, arith}
-use Rattle.std.proofs.lemmas.List.{get_or_default}
+use Rattle.tx_lint.proofs.Common.{◌<◌, length, arith, get_or_default, escaped_byte}
 use Rattle.tx_text.proofs.Putting.{puts_none, puts_more, puts_all}
-use Rattle.tx_lint.specs.Escaped.{escaped_byte}
 use Rattle.tx_lint.proofs.escaped.write_escaped.Goals as goal
 
 pub loop-i-init : goal.loop-i-init

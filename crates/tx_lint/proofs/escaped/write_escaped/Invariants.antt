@@ -1,7 +1,5 @@
-use Rattle.std.proofs.Common.{take}
-use Rattle.std.specs.List.{flat_map}
+use Rattle.tx_lint.proofs.Common.{take, flat_map, escaped_byte}
 use Rattle.tx_text.specs.Puts.{Puts}
-use Rattle.tx_lint.specs.Escaped.{escaped_byte}
 use Rattle.tx_lint.proofs.escaped.write_escaped.Given as goal
 
 abbrev pub invariant-loop-i : goal.invariant-loop-i

@@ -1,9 +1,5 @@
-use Rattle.std.proofs.Common.{◌∙◌, ◌≤◌, length, fold, sym, ap, arith}
-use Rattle.std.proofs.lemmas.List.{take_all}
+use Rattle.tx_lint.proofs.Common.{◌∙◌, ◌≤◌, length, fold, sym, ap, arith, take_all, Gathering, gathered_on, no_gathering, fault_held, gathering_held}
 use Rattle.std.proofs.lemmas.List.Folds.{fold-map}
-use Rattle.tx_lint.specs.Gathered.{Gathering, gathered_on, no_gathering}
-use Rattle.tx_lint.specs.Lints.{fault_held}
-use Rattle.tx_lint.specs.inner.Gatherings.{gathering_held}
 use Rattle.tx_lint.proofs.Gathered.{gathered_next, on_held}
 use Rattle.tx_lint.proofs.gathering.gather.Goals as goal
 

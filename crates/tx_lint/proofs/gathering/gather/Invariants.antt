@@ -1,6 +1,4 @@
-use Rattle.std.proofs.Common.{◌≡◌, ◌+◌, fold, take}
-use Rattle.tx_lint.specs.Gathered.{no_gathering}
-use Rattle.tx_lint.specs.inner.Gatherings.{AreFew, gathering_held}
+use Rattle.tx_lint.proofs.Common.{◌≡◌, ◌+◌, fold, take, no_gathering, AreFew, gathering_held}
 use Rattle.tx_lint.proofs.Gathered.{on_held}
 use Rattle.tx_lint.proofs.gathering.gather.Given as goal
 

@@ -1,6 +1,5 @@
-use Rattle.std.proofs.Common.{◌≡◌, ◌==◌, length, true, rules}
+use Rattle.tx_lint.proofs.Common.{◌≡◌, ◌==◌, length, true, rules, progress_held, faults_held}
 use Rattle.tx_text.specs.inner.TextLine.{line_of}
-use Rattle.tx_lint.specs.inner.Readings.{progress_held, faults_held}
 use Rattle.tx_lint.proofs.Agreeing.{first_number}
 use Rattle.tx_lint.proofs.AllRead.{so_far_next, all_read_last, all_read_end, no_bytes}
 use Rattle.tx_lint.proofs.lines.read_lines.Goals as goal

@@ -1,5 +1,4 @@
-use Rattle.std.proofs.Common.{length}
-use Rattle.tx_lint.specs.inner.Readings.{progress_held, faults_held}
+use Rattle.tx_lint.proofs.Common.{length, progress_held, faults_held}
 use Rattle.tx_lint.proofs.AllRead.{SoFar}
 use Rattle.tx_lint.proofs.lines.read_lines.Given as goal
 

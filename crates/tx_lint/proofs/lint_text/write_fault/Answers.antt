@@ -1,8 +1,5 @@
-use Rattle.std.proofs.Common.{◌++◌, sym, ap}
-use Rattle.tx_text.proofs.Writing.{some, some_first, some_last}
-use Rattle.tx_text.proofs.Putting.{puts_is, puts_then, puts_wrote}
+use Rattle.tx_lint.proofs.Common.{◌++◌, sym, ap, some, some_first, some_last, puts_is, puts_then, puts_wrote, told_held}
 use Rattle.tx_lint.specs.LintText.{needing_end, told_front}
-use Rattle.tx_lint.specs.Lints.{told_held}
 use Rattle.tx_lint.proofs.lint_text.write_fault.Goals as goal
 
 pub returns : goal.returns

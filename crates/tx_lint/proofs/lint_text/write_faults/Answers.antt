@@ -1,9 +1,6 @@
-use Rattle.std.proofs.Common.{Ok}
+use Rattle.tx_lint.proofs.Common.{Ok, Told, fault_line, told_held}
 use Rattle.std.proofs.lemmas.List.Folds.{flat_map-map}
 use Rattle.tx_text.proofs.Wrote.{wrote_none, text_is, texts_done}
-use Rattle.tx_lint.specs.declared.gathering.Told.{Told}
-use Rattle.tx_lint.specs.LintText.{fault_line}
-use Rattle.tx_lint.specs.Lints.{told_held}
 use Rattle.tx_lint.proofs.Texts.{more_read, stopped_read}
 use Rattle.tx_lint.proofs.lint_text.write_faults.Goals as goal
 

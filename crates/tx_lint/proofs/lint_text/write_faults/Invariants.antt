@@ -1,9 +1,4 @@
-use Rattle.std.proofs.Common.{take, Ok}
-use Rattle.std.specs.List.{flat_map}
-use Rattle.tx_text.specs.Wrote.{WroteBy}
-use Rattle.tx_lint.specs.declared.gathering.Told.{Told}
-use Rattle.tx_lint.specs.LintText.{fault_line}
-use Rattle.tx_lint.specs.Lints.{told_held}
+use Rattle.tx_lint.proofs.Common.{take, Ok, flat_map, WroteBy, Told, fault_line, told_held}
 use Rattle.tx_lint.proofs.lint_text.write_faults.Given as goal
 
 abbrev pub invariant-loop-i : goal.invariant-loop-i

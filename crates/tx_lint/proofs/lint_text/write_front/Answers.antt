@@ -1,8 +1,6 @@
-use Rattle.std.proofs.Common.{List, ℕ}
+use Rattle.tx_lint.proofs.Common.{List, ℕ, option_map, puts_then, puts_is}
 use Rattle.std.specs.Prelude.{decimal}
-use Rattle.std.specs.Option.{option_map}
 use Rattle.std.specs.Borrow.{Bor}
-use Rattle.tx_text.proofs.Putting.{puts_then, puts_is}
 use Rattle.tx_lint.specs.LintText.{word_text}
 use Rattle.tx_lint.proofs.Texts.{told_cut}
 use Rattle.tx_lint.proofs.lint_text.write_front.Goals as goal

@@ -1,6 +1,4 @@
-use Rattle.std.proofs.Common.{◌++◌, sym, ap}
-use Rattle.tx_text.proofs.Writing.{some, some_first, some_last}
-use Rattle.tx_text.proofs.Putting.{puts_is, puts_then, puts_wrote}
+use Rattle.tx_lint.proofs.Common.{◌++◌, sym, ap, some, some_first, some_last, puts_is, puts_then, puts_wrote}
 use Rattle.tx_lint.specs.LintText.{more_codes, more_end, told_front, warning_word}
 use Rattle.tx_lint.proofs.lint_text.write_warning.Goals as goal
 

@@ -1,5 +1,4 @@
-use Rattle.tx_text.proofs.Wrote.{wrote_none, texts_more, texts_stopped, texts_done}
-use Rattle.tx_lint.specs.LintText.{warning_line}
+use Rattle.tx_lint.proofs.Common.{wrote_none, texts_more, texts_stopped, texts_done, warning_line}
 use Rattle.tx_lint.proofs.lint_text.write_warnings.Goals as goal
 
 pub loop-i-init : goal.loop-i-init

@@ -1,7 +1,4 @@
-use Rattle.std.proofs.Common.{take, Ok}
-use Rattle.std.specs.List.{flat_map}
-use Rattle.tx_text.specs.Wrote.{WroteBy}
-use Rattle.tx_lint.specs.LintText.{warning_line}
+use Rattle.tx_lint.proofs.Common.{take, Ok, flat_map, WroteBy, warning_line}
 use Rattle.tx_lint.proofs.lint_text.write_warnings.Given as goal
 
 abbrev pub invariant-loop-i : goal.invariant-loop-i

@@ -1,6 +1,4 @@
-use Rattle.std.proofs.Common.{[], map}
-use Rattle.tx_lint.specs.AllFaults.{faults_of, progress_of}
-use Rattle.tx_lint.specs.Lints.{told_held}
+use Rattle.tx_lint.proofs.Common.{[], map, faults_of, progress_of, told_held}
 use Rattle.tx_lint.proofs.Linted.{faulty_is, right_is}
 use Rattle.tx_lint.proofs.linting.lint_plan.Goals as goal
 

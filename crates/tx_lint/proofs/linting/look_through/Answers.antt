@@ -1,6 +1,4 @@
-use Rattle.std.proofs.Common.{◌≡◌, ◌∙◌, ◌==◌, length, true, false, ap, arith, rules}
-use Rattle.tx_lint.specs.AllFaults.{Progress, faults_of}
-use Rattle.tx_lint.specs.Gathered.{told_of}
+use Rattle.tx_lint.proofs.Common.{◌≡◌, ◌∙◌, ◌==◌, length, true, false, ap, arith, rules, Progress, faults_of, told_of}
 use Rattle.tx_lint.proofs.Linted.{some_faults, no_faults}
 use Rattle.tx_lint.proofs.linting.look_through.Goals as goal
 

@@ -1,13 +1,7 @@
 use Rattle.std.proofs.Common.{◌≡◌, ◌∙◌, ◌==◌, length, drop, ap, sym, ℕ, arith}
-use Rattle.std.specs.Prelude.{◌||◌, slice_get}
-use Rattle.std.specs.List.{list_any}
-use Rattle.std.proofs.lemmas.Option.{get_or_from_slice_get}
-use Rattle.tx_plan.specs.Plan.{Route}
-use Rattle.tx_plan.proofs.ByIndex.{entry_at}
-use Rattle.tx_rank.specs.Reached.{is_marked}
+use Rattle.tx_lint.proofs.Common.{◌||◌, slice_get, list_any, get_or_from_slice_get, Route, entry_at, is_marked, no_none}
 use Rattle.tx_rank.proofs.Marking.{put_back}
 use Rattle.tx_lint.proofs.Marked.{route_there, within_marks, listed_more}
-use Rattle.tx_plan.proofs.Copied.{no_none}
 use Rattle.tx_lint.proofs.marks.listed.Goals as goal
 
 pub mark_all-requires : goal.mark_all-requires

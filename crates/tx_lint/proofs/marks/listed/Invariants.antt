@@ -1,5 +1,4 @@
-use Rattle.std.proofs.Common.{◌≡◌, ℕ, length, take}
-use Rattle.tx_rank.specs.Reached.{is_marked}
+use Rattle.tx_lint.proofs.Common.{◌≡◌, ℕ, length, take, is_marked}
 use Rattle.tx_lint.proofs.Marked.{stands_in}
 use Rattle.tx_lint.proofs.marks.listed.Given as goal
 

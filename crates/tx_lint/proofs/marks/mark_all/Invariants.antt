@@ -1,7 +1,4 @@
-use Rattle.std.proofs.Common.{◌≡◌, ℕ, length, take}
-use Rattle.std.specs.Prelude.{◌||◌, ◌==◌}
-use Rattle.std.specs.List.{list_any}
-use Rattle.tx_rank.specs.Reached.{is_marked}
+use Rattle.tx_lint.proofs.Common.{◌≡◌, ℕ, length, take, ◌||◌, ◌==◌, list_any, is_marked}
 use Rattle.tx_lint.proofs.marks.mark_all.Given as goal
 
 abbrev pub invariant-loop-i : goal.invariant-loop-i

@@ -1,5 +1,4 @@
-use Rattle.std.proofs.Common.{◌∙◌, ◌++◌, List, map, ap}
-use Rattle.tx_lint.specs.declared.warning.Warning.{Warning}
+use Rattle.tx_lint.proofs.Common.{◌∙◌, ◌++◌, List, map, ap, Warning}
 use Rattle.tx_lint.proofs.Warned.{ambiguous_with, ambiguous_is, next_code}
 use Rattle.tx_lint.proofs.warnings.add_ambiguous.Goals as goal
 

@@ -1,8 +1,4 @@
-use Rattle.std.proofs.Common.{◌∙◌, ap}
-use Rattle.std.proofs.lemmas.Result.{IfOk-weaker}
-use Rattle.tx_lint.specs.declared.warning.Warning.TheVariants.{NoLines, UnusedList}
-use Rattle.tx_lint.specs.Warnings.{warned_once}
-use Rattle.tx_lint.specs.inner.Marks.{coming_of}
+use Rattle.tx_lint.proofs.Common.{◌∙◌, ap, IfOk-weaker, NoLines, UnusedList, warned_once, coming_of}
 use Rattle.tx_lint.proofs.Warned.{exchange_told}
 use Rattle.tx_lint.proofs.warnings.add_exchange.Goals as goal
 

@@ -1,5 +1,4 @@
-use Rattle.std.proofs.Common.{◌∙◌, sym}
-use Rattle.std.proofs.lemmas.Result.{IfOk-weaker}
+use Rattle.tx_lint.proofs.Common.{◌∙◌, sym, IfOk-weaker}
 use Rattle.tx_lint.proofs.Warned.{list_told, none_told}
 use Rattle.tx_lint.proofs.warnings.add_list.Goals as goal
 

@@ -1,5 +1,4 @@
-use Rattle.std.proofs.Common.{◌∙◌, ◌++◌, List, map, ap}
-use Rattle.tx_lint.specs.declared.warning.Warning.{Warning}
+use Rattle.tx_lint.proofs.Common.{◌∙◌, ◌++◌, List, map, ap, Warning}
 use Rattle.tx_lint.proofs.Warned.{missing_list, missing_is, next_code}
 use Rattle.tx_lint.proofs.warnings.add_missing_lists.Goals as goal
 

@@ -1,5 +1,4 @@
-use Rattle.std.proofs.Common.{◌≡◌, ◌++◌, map}
-use Rattle.std.specs.List.{flat_map, range_with_len}
+use Rattle.tx_lint.proofs.Common.{◌≡◌, ◌++◌, map, flat_map, range_with_len}
 use Rattle.tx_lint.proofs.Warned.{missing_list}
 use Rattle.tx_lint.proofs.warnings.add_missing_lists.Given as goal
 

@@ -1,7 +1,4 @@
-use Rattle.std.proofs.Common.{◌∙◌, ◌++◌, List, map, ap}
-use Rattle.tx_lint.specs.declared.warning.Warning.{Warning}
-use Rattle.tx_lint.specs.declared.warning.Warning.TheVariants.{SharedRisk}
-use Rattle.tx_lint.specs.Warnings.{warned_if}
+use Rattle.tx_lint.proofs.Common.{◌∙◌, ◌++◌, List, map, ap, Warning, SharedRisk, warned_if}
 use Rattle.tx_lint.proofs.Warned.{shared_by, next_code}
 use Rattle.tx_lint.proofs.warnings.add_shared_risks.Goals as goal
 

@@ -1,6 +1,4 @@
-use Rattle.std.proofs.Common.{◌≡◌, ◌==◌, ◌∙◌, true, false, sym, arith, rules}
-use Rattle.tx_plan.specs.declared.range.LineRange.{LineRange}
-use Rattle.tx_plan.proofs.ByIndex.{entry_at}
+use Rattle.tx_lint.proofs.Common.{◌≡◌, ◌==◌, ◌∙◌, true, false, sym, arith, rules, LineRange, entry_at}
 use Rattle.tx_lint.proofs.Warned.{any_there, none_more}
 use Rattle.tx_lint.proofs.warnings.has_lines.Goals as goal
 

@@ -1,5 +1,4 @@
-use Rattle.tx_lint.specs.Warnings.{is_idle}
-use Rattle.tx_lint.specs.inner.Marks.{coming_of}
+use Rattle.tx_lint.proofs.Common.{is_idle, coming_of}
 use Rattle.tx_lint.proofs.Warned.{next_where}
 use Rattle.tx_lint.proofs.warnings.idle_codes.Goals as goal
 

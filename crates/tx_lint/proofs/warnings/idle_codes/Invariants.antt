@@ -1,7 +1,4 @@
-use Rattle.std.proofs.Common.{◌≡◌, filter}
-use Rattle.std.specs.List.{range_with_len}
-use Rattle.tx_lint.specs.Warnings.{is_idle}
-use Rattle.tx_lint.specs.inner.Marks.{coming_of}
+use Rattle.tx_lint.proofs.Common.{◌≡◌, filter, range_with_len, is_idle, coming_of}
 use Rattle.tx_lint.proofs.warnings.idle_codes.Given as goal
 
 abbrev pub invariant-loop-index : goal.invariant-loop-index

@@ -1,8 +1,4 @@
-use Rattle.std.proofs.Common.{◌≡◌, ◌∙◌, ◌==◌, ◌≤◌, true, false, length, sym, arith, rules}
-use Rattle.std.specs.Prelude.{slice_get}
-use Rattle.tx_plan.specs.Plan.{Route}
-use Rattle.tx_plan.proofs.ByIndex.{entry_at}
-use Rattle.tx_plan.proofs.Copied.{no_none}
+use Rattle.tx_lint.proofs.Common.{◌≡◌, ◌∙◌, ◌==◌, ◌≤◌, true, false, length, sym, arith, rules, slice_get, Route, entry_at, no_none}
 use Rattle.tx_lint.proofs.Warned.{listed_there, unlisted_more, unlisted_all}
 use Rattle.tx_lint.proofs.warnings.is_unlisted.Goals as goal
 

@@ -1,6 +1,4 @@
-use Rattle.std.proofs.Common.{◌≡◌, filter}
-use Rattle.std.specs.List.{range_with_len}
-use Rattle.tx_lint.specs.Warnings.{is_mute}
+use Rattle.tx_lint.proofs.Common.{◌≡◌, filter, range_with_len, is_mute}
 use Rattle.tx_lint.proofs.warnings.mute_codes.Given as goal
 
 abbrev pub invariant-loop-index : goal.invariant-loop-index

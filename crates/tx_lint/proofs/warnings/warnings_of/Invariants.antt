@@ -1,7 +1,5 @@
-use Rattle.std.proofs.Common.{◌≡◌, take}
-use Rattle.std.specs.List.{flat_map}
+use Rattle.tx_lint.proofs.Common.{◌≡◌, take, flat_map, coming_of}
 use Rattle.tx_lint.proofs.Warned.{told_of}
-use Rattle.tx_lint.specs.inner.Marks.{coming_of}
 use Rattle.tx_lint.proofs.warnings.warnings_of.Given as goal
 
 abbrev pub invariant-loop-i : goal.invariant-loop-i

@@ -1,6 +1,4 @@
-use Rattle.std.proofs.Common.{rules, tests, refl}
-use Rattle.std.proofs.lemmas.Iterator.Search.{find_from_yields_List}
-use Rattle.std.proofs.lemmas.Iterator.Consumers.{YieldsList-from_first}
+use Rattle.tx_lint.proofs.Common.{rules, tests, refl, find_from_yields_List, YieldsList-from_first}
 use Rattle.tx_plan.specs.Declaring.{is_not_outgoing}
 use Rattle.tx_lint.proofs.word_tests.first_closed.Goals as goal
 

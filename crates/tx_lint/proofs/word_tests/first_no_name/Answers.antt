@@ -1,7 +1,4 @@
-use Rattle.std.specs.Prelude.{not}
-use Rattle.std.proofs.Common.{rules, tests, refl}
-use Rattle.std.proofs.lemmas.Iterator.Search.{find_from_yields_List}
-use Rattle.std.proofs.lemmas.Iterator.Consumers.{YieldsList-from_first}
+use Rattle.tx_lint.proofs.Common.{not, rules, tests, refl, find_from_yields_List, YieldsList-from_first}
 use Rattle.tx_text.specs.Words.{is_name}
 use Rattle.tx_lint.proofs.word_tests.first_no_name.Goals as goal
 

@@ -1,10 +1,4 @@
-use Rattle.std.proofs.Common.{◌≡◌, ◌∙◌, true, false, is_some, ap, sym, subst}
-use Rattle.tx_plan.proofs.Among.{among_at}
-use Rattle.tx_plan.specs.Among.{Among}
-use Rattle.tx_plan.specs.Circuits.{may_seize}
-use Rattle.tx_plan.specs.Plan.{Plan}
-use Rattle.tx_plan.specs.Routes.{route_list}
-use Rattle.tx_machine.specs.InUse.{first_in, first_free}
+use Rattle.tx_machine.proofs.Common.{◌≡◌, ◌∙◌, true, false, is_some, ap, sym, subst, among_at, Among, may_seize, Plan, route_list, first_in, first_free}
 use Rattle.tx_machine.proofs.Steps.{listed_may}
 use Rattle.tx_machine.proofs.Routed.{first_here, first_past, first_none}
 use Rattle.tx_machine.proofs.deciding.choice.Goals as goal

@@ -1,5 +1,4 @@
-use Rattle.std.proofs.Common.{◌≡◌, drop}
-use Rattle.tx_machine.specs.InUse.{first_in, first_free}
+use Rattle.tx_machine.proofs.Common.{◌≡◌, drop, first_in, first_free}
 use Rattle.tx_machine.proofs.deciding.choice.Given as goal
 
 abbrev pub invariant-loop-group : goal.invariant-loop-group

@@ -1,12 +1,4 @@
-use Rattle.std.proofs.Common.{◌≡◌, ◌==◌, inl, inr, false, true, Some, sym, ap, ◌∙◌}
-use Rattle.tx_plan.specs.Codes.{code_of}
-use Rattle.tx_plan.specs.Plan.{Plan, home_of}
-use Rattle.tx_plan.specs.Routes.{is_barred}
-use Rattle.tx_machine.specs.Call.{is_first, exchange_of}
-use Rattle.tx_machine.specs.InUse.{choice}
-use Rattle.tx_machine.specs.Lines.{line_answer}
-use Rattle.tx_machine.specs.Routing.{routed_for, at_line, at_trunk, line_of}
-use Rattle.tx_machine.specs.Seen.{call_seen}
+use Rattle.tx_machine.proofs.Common.{◌≡◌, ◌==◌, inl, inr, false, true, Some, sym, ap, ◌∙◌, code_of, Plan, home_of, is_barred, is_first, exchange_of, choice, line_answer, routed_for, at_line, at_trunk, line_of, call_seen}
 use Rattle.tx_machine.proofs.Routed.{IsLet, first_is_empty, routed_barred, routed_home, routed_trunk}
 use Rattle.tx_machine.proofs.deciding.decide.Goals as goal
 use Rattle.tx_machine.proofs.deciding.decide.Goals.{else-is_empty-via-then-is_empty+else-is_barred, else-is_empty-via-else-is_empty}

@@ -1,6 +1,4 @@
-use Rattle.std.proofs.Common.{◌≡◌, ◌-◌, ◌≤◌, ◌+◌, ◌++◌, take, length}
-use Rattle.std.specs.Prelude.{vec_len, vec_capacity}
-use Rattle.tx_machine.specs.Runs.{replies, state_after}
+use Rattle.tx_machine.proofs.Common.{◌≡◌, ◌-◌, ◌≤◌, ◌+◌, ◌++◌, take, length, vec_len, vec_capacity, replies, state_after}
 use Rattle.tx_machine.proofs.driving.drive.Given as goal
 
 abbrev pub invariant-loop-at : goal.invariant-loop-at

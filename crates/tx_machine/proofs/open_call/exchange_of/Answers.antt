@@ -1,7 +1,4 @@
-use Rattle.std.proofs.Common.{sym, ap, ◌∙◌, ◌-◌, length}
-use Rattle.std.specs.Prelude.{slice_get}
-use Rattle.tx_machine.specs.Call.{start_of}
-use Rattle.tx_machine.specs.Seen.{call_seen}
+use Rattle.tx_machine.proofs.Common.{sym, ap, ◌∙◌, ◌-◌, length, slice_get, start_of, call_seen}
 use Rattle.tx_machine.proofs.LastHop.{last_is}
 use Rattle.tx_machine.proofs.open_call.exchange_of.Goals as goal
 

@@ -1,6 +1,4 @@
-use Rattle.std.proofs.Common.{◌≡◌, ℕ, ◌∙◌, Option, Some, None, true, length, sym, ap, arith}
-use Rattle.std.specs.Option.{option_map_or}
-use Rattle.tx_mend.specs.KeptRanks.{leads_below}
+use Rattle.tx_mend.proofs.Common.{◌≡◌, ℕ, ◌∙◌, Option, Some, None, true, length, sym, ap, arith, option_map_or, leads_below}
 use Rattle.tx_mend.proofs.Placed.{value_at}
 use Rattle.tx_mend.proofs.across.stays.Goals as goal
 

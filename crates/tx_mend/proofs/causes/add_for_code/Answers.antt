@@ -1,9 +1,4 @@
-use Rattle.std.proofs.Common.{◌++◌, ◌∙◌, List, [], sym, ap, append-nil}
-use Rattle.std.specs.Prelude.{if◌then◌else◌}
-use Rattle.std.specs.Option.{option_copied}
-use Rattle.tx_mend.specs.LeastRanks.{least_rank}
-use Rattle.tx_mend.specs.Unserved.{lacking_at}
-use Rattle.tx_mend.specs.declared.cause.Unserved.{Unserved}
+use Rattle.tx_mend.proofs.Common.{◌++◌, ◌∙◌, List, [], sym, ap, append-nil, if◌then◌else◌, option_copied, least_rank, lacking_at, Unserved}
 use Rattle.tx_mend.proofs.Mendable.{ranked_served, kept_ranked}
 use Rattle.tx_mend.proofs.Tables.{was_kept, was_ranked}
 use Rattle.tx_mend.proofs.causes.add_for_code.Goals as goal

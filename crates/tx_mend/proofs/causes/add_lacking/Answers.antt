@@ -1,10 +1,4 @@
-use Rattle.std.proofs.Common.{◌≡◌, ◌++◌, ◌∙◌, List, sym, ap, subst, append-nil}
-use Rattle.std.specs.Prelude.{[], if◌then◌else◌, OnOk}
-use Rattle.tx_mend.specs.declared.cause.Missing.{Missing}
-use Rattle.tx_mend.specs.declared.cause.Unserved.{Unserved}
-use Rattle.tx_mend.specs.LeastRanks.{least_rank}
-use Rattle.tx_mend.specs.Unserved.{unlimited_rank, lacking_at}
-use Rattle.tx_mend.specs.inner.CodeRanks.{rank_list}
+use Rattle.tx_mend.proofs.Common.{◌≡◌, ◌++◌, ◌∙◌, List, sym, ap, subst, append-nil, [], if◌then◌else◌, OnOk, Missing, Unserved, least_rank, unlimited_rank, lacking_at, rank_list}
 use Rattle.tx_mend.proofs.Tables.{length_ranks}
 use Rattle.tx_mend.proofs.Mendable.{ranked_served}
 use Rattle.tx_mend.proofs.causes.add_lacking.Goals as goal

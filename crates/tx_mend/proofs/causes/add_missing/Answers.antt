@@ -1,9 +1,4 @@
-use Rattle.std.proofs.Common.{◌≡◌, ℕ, suc, ◌+◌, ◌-◌, ◌∙◌, nat_lt, sym, ap, arith, append-nil}
-use Rattle.std.specs.Prelude.{is_none}
-use Rattle.std.proofs.lemmas.Bool.{and_parts}
-use Rattle.tx_mend.specs.LeastRanks.{least_rank}
-use Rattle.tx_mend.specs.Unserved.{groups_near, lacks_groups}
-use Rattle.tx_mend.specs.declared.cause.Missing.{Missing}
+use Rattle.tx_mend.proofs.Common.{◌≡◌, ℕ, suc, ◌+◌, ◌-◌, ◌∙◌, nat_lt, sym, ap, arith, append-nil, is_none, and_parts, least_rank, groups_near, lacks_groups, Missing}
 use Rattle.tx_mend.proofs.TrueCauses.{few_near}
 use Rattle.tx_mend.proofs.Unranked.{some_pushed, some_passed}
 use Rattle.tx_mend.proofs.causes.add_missing.Goals as goal

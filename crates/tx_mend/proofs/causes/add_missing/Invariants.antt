@@ -1,8 +1,4 @@
-use Rattle.std.proofs.Common.{◌≡◌, ℕ, suc, ◌-◌, ◌++◌, map}
-use Rattle.std.specs.Prelude.{filter}
-use Rattle.tx_mend.specs.LeastRanks.{indexes}
-use Rattle.tx_mend.specs.Unserved.{groups_near, lacks_groups}
-use Rattle.tx_mend.specs.declared.cause.Missing.{Missing}
+use Rattle.tx_mend.proofs.Common.{◌≡◌, ℕ, suc, ◌-◌, ◌++◌, map, filter, indexes, groups_near, lacks_groups, Missing}
 use Rattle.tx_mend.proofs.causes.add_missing.Given as goal
 
 abbrev pub invariant-loop-index : goal.invariant-loop-index

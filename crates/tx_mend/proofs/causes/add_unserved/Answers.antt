@@ -1,9 +1,4 @@
-use Rattle.std.proofs.Common.{ℕ, ◌&&◌, ◌∙◌, sym, ap, append-nil}
-use Rattle.std.specs.Prelude.{is_none}
-use Rattle.tx_plan.specs.Routes.{is_origin_for}
-use Rattle.tx_mend.specs.LeastRanks.{least_rank}
-use Rattle.tx_mend.specs.Unserved.{cause_of}
-use Rattle.tx_mend.specs.declared.cause.Unserved.{Unserved}
+use Rattle.tx_mend.proofs.Common.{ℕ, ◌&&◌, ◌∙◌, sym, ap, append-nil, is_none, is_origin_for, least_rank, cause_of, Unserved}
 use Rattle.tx_mend.proofs.Tables.{length_ranks}
 use Rattle.tx_mend.proofs.Unranked.{some_pushed, some_passed}
 use Rattle.tx_mend.proofs.causes.add_unserved.Goals as goal

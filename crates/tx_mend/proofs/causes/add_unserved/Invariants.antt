@@ -1,9 +1,4 @@
-use Rattle.std.proofs.Common.{◌≡◌, ℕ, ◌&&◌, ◌++◌, map}
-use Rattle.std.specs.Prelude.{is_none, filter}
-use Rattle.tx_plan.specs.Routes.{is_origin_for}
-use Rattle.tx_mend.specs.LeastRanks.{indexes, least_rank}
-use Rattle.tx_mend.specs.Unserved.{cause_of}
-use Rattle.tx_mend.specs.declared.cause.Unserved.{Unserved}
+use Rattle.tx_mend.proofs.Common.{◌≡◌, ℕ, ◌&&◌, ◌++◌, map, is_none, filter, is_origin_for, indexes, least_rank, cause_of, Unserved}
 use Rattle.tx_mend.proofs.causes.add_unserved.Given as goal
 
 abbrev pub invariant-loop-index : goal.invariant-loop-index

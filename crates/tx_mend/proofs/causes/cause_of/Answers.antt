@@ -1,7 +1,4 @@
-use Rattle.std.proofs.Common.{◌≡◌, ℕ, ◌∙◌, Option, Some, None, length, sym, ap, arith}
-use Rattle.std.specs.Option.{option_map_or}
-use Rattle.tx_mend.specs.declared.cause.Cause.TheVariants.{Rank, Groups}
-use Rattle.tx_mend.specs.Unserved.{groups_on, unlimited_rank}
+use Rattle.tx_mend.proofs.Common.{◌≡◌, ℕ, ◌∙◌, Option, Some, None, length, sym, ap, arith, option_map_or, Rank, Groups, groups_on, unlimited_rank}
 use Rattle.tx_mend.proofs.Placed.{value_at}
 use Rattle.tx_mend.proofs.causes.cause_of.Goals as goal
 

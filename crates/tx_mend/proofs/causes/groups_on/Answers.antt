@@ -1,6 +1,4 @@
-use Rattle.std.proofs.Common.{◌≡◌, ℕ, ◌∙◌, List, length, ap}
-use Rattle.std.specs.Prelude.{filter}
-use Rattle.tx_mend.specs.LeastRanks.{outgoing, leads_on, least_rank}
+use Rattle.tx_mend.proofs.Common.{◌≡◌, ℕ, ◌∙◌, List, length, ap, filter, outgoing, leads_on, least_rank}
 use Rattle.tx_mend.proofs.Tables.{length_ranks, list_got}
 use Rattle.tx_mend.proofs.causes.groups_on.Goals as goal
 

@@ -1,6 +1,4 @@
-use Rattle.std.proofs.Common.{◌∙◌, length, sym, ap, refl, arith}
-use Rattle.tx_mend.specs.Unserved.{unserved_for, missing_for}
-use Rattle.tx_mend.specs.inner.CodeRanks.{code_ranks}
+use Rattle.tx_mend.proofs.Common.{◌∙◌, length, sym, ap, refl, arith, unserved_for, missing_for, code_ranks}
 use Rattle.tx_mend.proofs.Tables.{ranks_got, flat_grown}
 use Rattle.tx_mend.proofs.causes.lacking_of.Goals as goal
 

@@ -1,7 +1,4 @@
-use Rattle.std.proofs.Common.{◌≡◌}
-use Rattle.std.specs.List.{flat_map}
-use Rattle.tx_mend.specs.LeastRanks.{indexes}
-use Rattle.tx_mend.specs.Unserved.{unserved_for, missing_for}
+use Rattle.tx_mend.proofs.Common.{◌≡◌, flat_map, indexes, unserved_for, missing_for}
 use Rattle.tx_mend.proofs.causes.lacking_of.Given as goal
 
 abbrev pub invariant-loop-index : goal.invariant-loop-index

@@ -1,8 +1,4 @@
-use Rattle.std.proofs.Common.{◌∙◌, ◌&&◌, None, length, get_or, sym, ap, arith}
-use Rattle.std.specs.Prelude.{is_none, nat_lt}
-use Rattle.tx_plan.proofs.Longest.{none_is}
-use Rattle.tx_mend.specs.LeastRanks.{least_rank}
-use Rattle.tx_mend.specs.Unserved.{groups_near}
+use Rattle.tx_mend.proofs.Common.{◌∙◌, ◌&&◌, None, length, get_or, sym, ap, arith, is_none, nat_lt, none_is, least_rank, groups_near}
 use Rattle.tx_mend.proofs.Placed.{value_at}
 use Rattle.tx_mend.proofs.causes.lacks_groups.Goals as goal
 

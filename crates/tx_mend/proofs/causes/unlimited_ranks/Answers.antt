@@ -1,9 +1,6 @@
-use Rattle.std.proofs.Common.{◌≡◌, ℕ, suc, refl, subst}
+use Rattle.tx_mend.proofs.Common.{◌≡◌, ℕ, suc, refl, subst, home_of, ranked_in, can_follow, rank_list}
 use Rattle.std.specs.Prelude.{IfOk}
-use Rattle.tx_plan.specs.Plan.{home_of}
-use Rattle.tx_mend.specs.LeastRanks.{ranked_in, can_follow}
 use Rattle.tx_mend.specs.Unserved.{no_limit}
-use Rattle.tx_mend.specs.inner.CodeRanks.{rank_list}
 use Rattle.tx_mend.proofs.causes.unlimited_ranks.Goals as goal
 
 rounds : 255 ≡ suc no_limit

@@ -1,6 +1,5 @@
-use Rattle.std.proofs.Common.{◌∙◌, sym, ap}
+use Rattle.tx_mend.proofs.Common.{◌∙◌, sym, ap, puts_none, puts_then, puts_is}
 use Rattle.std.proofs.lemmas.Bool.{ne_eqb}
-use Rattle.tx_text.proofs.Putting.{puts_none, puts_then, puts_is}
 use Rattle.tx_mend.specs.MendText.{line_of_code}
 use Rattle.tx_mend.proofs.code_lines.write_code.Goals as goal
 

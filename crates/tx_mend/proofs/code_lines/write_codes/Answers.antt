@@ -1,6 +1,4 @@
-use Rattle.std.proofs.Common.{length, arith}
-use Rattle.tx_text.proofs.Putting.{puts_none}
-use Rattle.tx_mend.specs.MendText.{code_line}
+use Rattle.tx_mend.proofs.Common.{length, arith, puts_none, code_line}
 use Rattle.tx_text.proofs.Ranges.{index_more, indexes_done}
 use Rattle.tx_mend.proofs.code_lines.write_codes.Goals as goal
 

@@ -1,6 +1,4 @@
-use Rattle.std.specs.List.{flat_map, range_with_len}
-use Rattle.tx_text.specs.Puts.{Puts}
-use Rattle.tx_mend.specs.MendText.{code_line}
+use Rattle.tx_mend.proofs.Common.{flat_map, range_with_len, Puts, code_line}
 use Rattle.tx_mend.proofs.code_lines.write_codes.Given as goal
 
 abbrev pub invariant-loop-index : goal.invariant-loop-index

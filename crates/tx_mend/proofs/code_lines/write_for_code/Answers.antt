@@ -1,6 +1,4 @@
-use Rattle.std.proofs.Common.{[], sym, ap, ◌∙◌}
-use Rattle.std.specs.Prelude.{if◌then◌else◌}
-use Rattle.tx_text.proofs.Putting.{puts_none, puts_is}
+use Rattle.tx_mend.proofs.Common.{[], sym, ap, ◌∙◌, if◌then◌else◌, puts_none, puts_is}
 use Rattle.tx_mend.specs.MendText.{missing_text}
 use Rattle.tx_mend.proofs.code_lines.write_for_code.Goals as goal
 

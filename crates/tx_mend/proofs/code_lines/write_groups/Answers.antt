@@ -1,5 +1,4 @@
-use Rattle.tx_text.proofs.Putting.{puts_none, puts_more, puts_all}
-use Rattle.tx_mend.specs.MendText.{missing_for_code}
+use Rattle.tx_mend.proofs.Common.{puts_none, puts_more, puts_all, missing_for_code}
 use Rattle.tx_mend.proofs.code_lines.write_groups.Goals as goal
 
 pub loop-i-init : goal.loop-i-init

@@ -1,7 +1,4 @@
-use Rattle.std.proofs.Common.{take}
-use Rattle.std.specs.List.{flat_map}
-use Rattle.tx_text.specs.Puts.{Puts}
-use Rattle.tx_mend.specs.MendText.{missing_for_code}
+use Rattle.tx_mend.proofs.Common.{take, flat_map, Puts, missing_for_code}
 use Rattle.tx_mend.proofs.code_lines.write_groups.Given as goal
 
 abbrev pub invariant-loop-i : goal.invariant-loop-i

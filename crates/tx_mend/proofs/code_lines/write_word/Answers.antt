@@ -2,8 +2,7 @@ use Rattle.std.proofs.Common.{[], ◌==◌, ◌∙◌, sym, ap, rules, tests}
 use Rattle.std.specs.Prelude.{codes, if◌then◌else◌}
 use Rattle.std.proofs.lemmas.Iterator.{YieldsList-from_slice}
 use Rattle.std.proofs.lemmas.Iterator.Search.{any_from_yields_List}
-use Rattle.tx_text.proofs.Putting.{puts_none, puts_is}
-use Rattle.tx_mend.specs.declared.cause.Missing.{Missing}
+use Rattle.tx_mend.proofs.Common.{puts_none, puts_is, Missing}
 use Rattle.tx_mend.proofs.code_lines.write_word.Goals as goal
 
 pub returns-else-any : goal.returns-else-any

@@ -1,5 +1,4 @@
-use Rattle.std.proofs.Common.{◌∙◌, length, sym, ap, refl, arith}
-use Rattle.tx_mend.specs.inner.CodeRanks.{code_ranks, kept_ranks}
+use Rattle.tx_mend.proofs.Common.{◌∙◌, length, sym, ap, refl, arith, code_ranks, kept_ranks}
 use Rattle.tx_mend.proofs.Placed.{map_pushed}
 use Rattle.tx_mend.proofs.Tables.{ranks_got}
 use Rattle.tx_mend.proofs.code_ranks.all_kept_ranks.Goals as goal

@@ -1,6 +1,4 @@
-use Rattle.std.proofs.Common.{◌≡◌, map}
-use Rattle.tx_mend.specs.LeastRanks.{indexes}
-use Rattle.tx_mend.specs.inner.CodeRanks.{kept_ranks}
+use Rattle.tx_mend.proofs.Common.{◌≡◌, map, indexes, kept_ranks}
 use Rattle.tx_mend.proofs.code_ranks.all_kept_ranks.Given as goal
 
 abbrev pub invariant-loop-index : goal.invariant-loop-index

@@ -1,10 +1,4 @@
-use Rattle.std.proofs.Common.{ℕ, ◌++◌, ◌∙◌, List, Option, Some, None, length, sym, ap}
-use Rattle.std.specs.Prelude.{if◌then◌else◌}
-use Rattle.std.specs.List.{fold}
-use Rattle.std.specs.Option.{option_copied}
-use Rattle.tx_mend.specs.LeastRanks.{RanksOfCode, least_rank}
-use Rattle.tx_mend.specs.KeptRanks.{put_back, choices, kept_rank}
-use Rattle.tx_mend.specs.inner.CodeRanks.{rank_list}
+use Rattle.tx_mend.proofs.Common.{ℕ, ◌++◌, ◌∙◌, List, Option, Some, None, length, sym, ap, if◌then◌else◌, fold, option_copied, RanksOfCode, least_rank, put_back, choices, kept_rank, rank_list}
 use Rattle.tx_mend.proofs.Tables.{length_ranks, was_kept, was_ranked}
 use Rattle.tx_mend.proofs.code_ranks.kept_for.Goals as goal
 

@@ -1,7 +1,4 @@
-use Rattle.std.proofs.Common.{ℕ, ◌∙◌, ap}
-use Rattle.std.proofs.lemmas.Result.{IfOk-weaker}
-use Rattle.tx_mend.specs.LeastRanks.{ranked_in, can_follow}
-use Rattle.tx_mend.specs.inner.CodeRanks.{rank_list}
+use Rattle.tx_mend.proofs.Common.{ℕ, ◌∙◌, ap, IfOk-weaker, ranked_in, can_follow, rank_list}
 use Rattle.tx_mend.proofs.Local.{can_follow_same}
 use Rattle.tx_mend.proofs.code_ranks.least_ranks.Goals as goal
 

@@ -1,11 +1,7 @@
-use Rattle.std.proofs.Common.{ℕ, ◌∙◌, List, sym, ap, ◌<◌, length, arith}
-use Rattle.std.specs.Prelude.{filter}
-use Rattle.std.specs.List.{flat_map}
-use Rattle.tx_mend.specs.LeastRanks.{indexes, outgoing}
+use Rattle.tx_mend.proofs.Common.{ℕ, ◌∙◌, List, sym, ap, ◌<◌, length, arith, filter, flat_map, indexes, outgoing, flat_map-append}
 use Rattle.tx_mend.specs.Lists.{leads_to, filled}
 use Rattle.tx_mend.proofs.Placed.{flat_more, indexes_split}
 use Rattle.tx_mend.proofs.Dropping.{filled_append}
-use Rattle.std.proofs.lemmas.List.Concat.{flat_map-append}
 use Rattle.tx_mend.proofs.Filled.{filled_full}
 use Rattle.tx_mend.proofs.filling.fill.Goals as goal
 

@@ -1,6 +1,5 @@
-use Rattle.std.proofs.Common.{◌≡◌, ℕ, Option}
+use Rattle.tx_mend.proofs.Common.{◌≡◌, ℕ, Option, rank_list}
 use Rattle.tx_mend.specs.Lists.{filled, groups_below}
-use Rattle.tx_mend.specs.inner.CodeRanks.{rank_list}
 use Rattle.tx_mend.proofs.filling.fill.Given as goal
 
 abbrev pub invariant-loop-lower : goal.invariant-loop-lower

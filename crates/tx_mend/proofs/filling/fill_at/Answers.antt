@@ -1,6 +1,4 @@
-use Rattle.std.proofs.Common.{ℕ, ◌∙◌, Bool, List, ap, sym}
-use Rattle.std.specs.Prelude.{filter}
-use Rattle.arrayvec.specs.ArrayVec.{ArrayVec}
+use Rattle.tx_mend.proofs.Common.{ℕ, ◌∙◌, Bool, List, ap, sym, filter, ArrayVec}
 use Rattle.tx_mend.specs.Lists.{leads_to, filled}
 use Rattle.tx_mend.proofs.Dropping.{fill_put, fill_passed}
 use Rattle.tx_mend.proofs.filling.fill_at.Goals as goal

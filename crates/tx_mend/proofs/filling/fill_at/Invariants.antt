@@ -1,7 +1,5 @@
-use Rattle.std.proofs.Common.{◌≡◌, ℕ, Option, drop}
-use Rattle.std.specs.Prelude.{filter}
+use Rattle.tx_mend.proofs.Common.{◌≡◌, ℕ, Option, drop, filter, rank_list}
 use Rattle.tx_mend.specs.Lists.{leads_to, filled}
-use Rattle.tx_mend.specs.inner.CodeRanks.{rank_list}
 use Rattle.tx_mend.proofs.filling.fill_at.Given as goal
 
 abbrev pub invariant-loop-group : goal.invariant-loop-group

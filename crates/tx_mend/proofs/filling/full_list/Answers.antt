@@ -1,10 +1,4 @@
-use Rattle.std.proofs.Common.{◌∙◌, length, sym, ap}
-use Rattle.std.specs.Prelude.{if◌then◌else◌}
-use Rattle.tx_plan.specs.Routes.{route_list}
-use Rattle.tx_mend.specs.LeastRanks.{outgoing}
-use Rattle.tx_mend.specs.KeptRanks.{kept_rank}
-use Rattle.tx_mend.specs.Lists.{list_by}
-use Rattle.tx_mend.specs.inner.CodeRanks.{kept_ranks}
+use Rattle.tx_mend.proofs.Common.{◌∙◌, length, sym, ap, if◌then◌else◌, route_list, outgoing, kept_rank, list_by, kept_ranks}
 use Rattle.tx_mend.proofs.Tables.{length_ranks, list_got, ranks_got, was_kept, was_ranked}
 use Rattle.tx_mend.proofs.filling.full_list.Goals as goal
 

@@ -1,8 +1,4 @@
-use Rattle.std.proofs.Common.{ℕ, ◌∙◌, ◌∷◌, [], Bool, length, sym, ap, arith, length-append}
-use Rattle.std.specs.Prelude.{filter}
-use Rattle.arrayvec.specs.ArrayVec.{ArrayVec}
-use Rattle.tx_mend.specs.KeptRanks.{leads_below}
-use Rattle.tx_plan.proofs.ListFound.{list_few}
+use Rattle.tx_mend.proofs.Common.{ℕ, ◌∙◌, ◌∷◌, [], Bool, length, sym, ap, arith, length-append, filter, ArrayVec, leads_below, list_few}
 use Rattle.tx_plan.proofs.Filtered.{keep_put, keep_passed}
 use Rattle.tx_mend.proofs.filling.kept_below.Goals as goal
 use Rattle.tx_mend.proofs.filling.kept_below.Goals.{then-leads_below, else-leads_below}

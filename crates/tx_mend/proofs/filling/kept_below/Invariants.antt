@@ -1,7 +1,4 @@
-use Rattle.std.proofs.Common.{◌≡◌, ℕ, ◌++◌, ◌≤◌, Option, length, drop}
-use Rattle.std.specs.Prelude.{filter}
-use Rattle.tx_mend.specs.KeptRanks.{leads_below}
-use Rattle.tx_mend.specs.inner.CodeRanks.{rank_list}
+use Rattle.tx_mend.proofs.Common.{◌≡◌, ℕ, ◌++◌, ◌≤◌, Option, length, drop, filter, leads_below, rank_list}
 use Rattle.tx_mend.proofs.filling.kept_below.Given as goal
 
 abbrev pub invariant-loop-group : goal.invariant-loop-group

@@ -1,5 +1,4 @@
-use Rattle.std.proofs.Common.{◌∙◌, length, sym, ap}
-use Rattle.tx_mend.specs.KeptRanks.{list_with, rank_keeping}
+use Rattle.tx_mend.proofs.Common.{◌∙◌, length, sym, ap, list_with, rank_keeping}
 use Rattle.tx_mend.proofs.Trying.{put_stays, put_lost, put_taken, still_long}
 use Rattle.tx_mend.proofs.put_back.put_back.Goals as goal
 

@@ -1,8 +1,4 @@
-use Rattle.std.proofs.Common.{◌≡◌, ℕ, ◌∙◌, List, sym, ap, arith}
-use Rattle.std.specs.List.{flat_map, fold}
-use Rattle.tx_mend.specs.LeastRanks.{indexes}
-use Rattle.tx_mend.specs.KeptRanks.{put_back, choice_at}
-use Rattle.tx_mend.specs.inner.CodeRanks.{rank_list}
+use Rattle.tx_mend.proofs.Common.{◌≡◌, ℕ, ◌∙◌, List, sym, ap, arith, flat_map, fold, indexes, put_back, choice_at, rank_list}
 use Rattle.tx_mend.proofs.Trying.{fold_more, still_long}
 use Rattle.tx_mend.proofs.put_back.put_back_all.Goals as goal
 

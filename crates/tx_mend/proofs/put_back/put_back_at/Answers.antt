@@ -1,13 +1,4 @@
-use Rattle.std.proofs.Common.{◌≡◌, ℕ, ◌∷◌, [], ◌∙◌, List, Option, sym, ap, subst}
-use Rattle.std.specs.Prelude.{OnOk}
-use Rattle.std.specs.List.{fold}
-use Rattle.std.specs.Option.{option_map_or}
-use Rattle.tx_plan.specs.Routes.{route_list}
-use Rattle.tx_rank.proofs.Looks.{among_at}
-use Rattle.tx_mend.specs.LeastRanks.{RanksOfCode}
-use Rattle.tx_mend.specs.KeptRanks.{put_back}
-use Rattle.tx_mend.specs.inner.CodeRanks.{rank_list}
-use Rattle.tx_plan.proofs.ListFound.{listed_within}
+use Rattle.tx_mend.proofs.Common.{◌≡◌, ℕ, ◌∷◌, [], ◌∙◌, List, Option, sym, ap, subst, OnOk, fold, option_map_or, route_list, among_at, RanksOfCode, put_back, rank_list, listed_within}
 use Rattle.tx_mend.proofs.put_back.put_back_at.Goals as goal
 
 pub put_back-requires-clause-exchange : goal.put_back-requires-clause-exchange

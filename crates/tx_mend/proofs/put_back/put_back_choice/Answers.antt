@@ -1,8 +1,5 @@
-use Rattle.std.proofs.Common.{◌∙◌, take, sym, ap, arith}
+use Rattle.tx_mend.proofs.Common.{◌∙◌, take, sym, ap, arith, flat_map, fold, put_back, choice_at, rank_list}
 use Rattle.std.proofs.lemmas.List.{take_all}
-use Rattle.std.specs.List.{flat_map, fold}
-use Rattle.tx_mend.specs.KeptRanks.{put_back, choice_at}
-use Rattle.tx_mend.specs.inner.CodeRanks.{rank_list}
 use Rattle.tx_mend.proofs.Trying.{fold_taken, still_long}
 use Rattle.tx_mend.proofs.put_back.put_back_choice.Goals as goal
 

@@ -1,7 +1,4 @@
-use Rattle.std.proofs.Common.{◌≡◌, ℕ, Option, length, take}
-use Rattle.std.specs.List.{flat_map, fold}
-use Rattle.tx_mend.specs.KeptRanks.{put_back, choice_at}
-use Rattle.tx_mend.specs.inner.CodeRanks.{rank_list}
+use Rattle.tx_mend.proofs.Common.{◌≡◌, ℕ, Option, length, take, flat_map, fold, put_back, choice_at, rank_list}
 use Rattle.tx_mend.proofs.put_back.put_back_choice.Given as goal
 
 abbrev pub invariant-loop-exchange : goal.invariant-loop-exchange

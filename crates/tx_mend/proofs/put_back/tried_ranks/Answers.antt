@@ -1,8 +1,4 @@
-use Rattle.std.proofs.Common.{◌≡◌, suc, ◌+◌, ◌∙◌, arith}
-use Rattle.std.proofs.lemmas.Result.{IfOk-weaker}
-use Rattle.tx_mend.specs.LeastRanks.{ranked_in}
-use Rattle.tx_mend.specs.KeptRanks.{list_with, can_follow_keeping}
-use Rattle.tx_mend.specs.inner.CodeRanks.{rank_list, ranked}
+use Rattle.tx_mend.proofs.Common.{◌≡◌, suc, ◌+◌, ◌∙◌, arith, IfOk-weaker, ranked_in, list_with, can_follow_keeping, rank_list, ranked}
 use Rattle.tx_mend.proofs.Local.{keeping_same}
 use Rattle.tx_mend.proofs.Trying.{tried_is}
 use Rattle.tx_mend.proofs.put_back.tried_ranks.Goals as goal

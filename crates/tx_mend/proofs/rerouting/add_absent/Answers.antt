@@ -1,13 +1,5 @@
-use Rattle.std.proofs.Common.{◌≡◌, ℕ, ◌∙◌, ◌++◌, [], List, length, sym, ap, arith}
-use Rattle.std.specs.List.{list_any, flat_map}
-use Rattle.tx_plan.specs.Plan.{Route}
-use Rattle.std.specs.Prelude.{◌==◌, ◌&&◌, filter}
-use Rattle.tx_plan.specs.Routes.{route_list}
+use Rattle.tx_mend.proofs.Common.{◌≡◌, ℕ, ◌∙◌, ◌++◌, [], List, length, sym, ap, arith, list_any, flat_map, Route, ◌==◌, ◌&&◌, filter, route_list, nil_from_length, route_if, full_list, present_pairs, pairs_for, is_absent, absent_below, full_route}
 use Rattle.std.proofs.lemmas.Bool.{eqb-true, eqb-false}
-use Rattle.std.proofs.lemmas.List.{nil_from_length}
-use Rattle.tx_mend.specs.Mended.{route_if}
-use Rattle.tx_mend.specs.Lists.{full_list}
-use Rattle.tx_mend.specs.inner.Pairs.{present_pairs, pairs_for, is_absent, absent_below, full_route}
 use Rattle.tx_mend.proofs.Adding.{is_absent_if, is_present_if, absent_fresh, absent_more, absent_same, absent_all}
 use Rattle.tx_mend.proofs.rerouting.add_absent.Goals as goal
 use Rattle.tx_mend.proofs.rerouting.add_absent.Goals.{then-is_empty+in_ok-add_route, else-is_empty}

@@ -1,7 +1,4 @@
-use Rattle.std.proofs.Common.{◌≡◌, ◌++◌}
-use Rattle.std.specs.Prelude.{filter}
-use Rattle.std.specs.List.{flat_map}
-use Rattle.tx_mend.specs.inner.Pairs.{full_route, present_pairs, absent_below, pairs_for, is_absent}
+use Rattle.tx_mend.proofs.Common.{◌≡◌, ◌++◌, filter, flat_map, full_route, present_pairs, absent_below, pairs_for, is_absent}
 use Rattle.tx_mend.proofs.rerouting.add_absent.Given as goal
 
 abbrev pub invariant-loop-index : goal.invariant-loop-index

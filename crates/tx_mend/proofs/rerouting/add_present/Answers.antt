@@ -1,12 +1,4 @@
-use Rattle.std.proofs.Common.{ℕ, ◌∙◌, ◌++◌, List, sym, ap, arith}
-use Rattle.std.specs.List.{list_any}
-use Rattle.tx_plan.specs.Plan.{Route}
-use Rattle.std.specs.Prelude.{◌==◌, ◌&&◌, slice_get}
-use Rattle.tx_plan.proofs.ByIndex.{entry_at}
-use Rattle.tx_mend.specs.Mended.{route_if}
-use Rattle.tx_mend.specs.Lists.{full_list}
-use Rattle.tx_mend.specs.inner.Pairs.{full_route}
-use Rattle.tx_plan.proofs.Copied.{pair_of, no_none}
+use Rattle.tx_mend.proofs.Common.{ℕ, ◌∙◌, ◌++◌, List, sym, ap, arith, list_any, Route, ◌==◌, ◌&&◌, slice_get, entry_at, route_if, full_list, full_route, pair_of, no_none}
 use Rattle.tx_mend.proofs.Adding.{present_within, present_fresh, present_more}
 use Rattle.tx_mend.proofs.rerouting.add_present.Goals as goal
 

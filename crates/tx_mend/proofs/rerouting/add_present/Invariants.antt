@@ -1,6 +1,4 @@
-use Rattle.std.proofs.Common.{◌≡◌, take}
-use Rattle.std.specs.List.{flat_map}
-use Rattle.tx_mend.specs.inner.Pairs.{full_route, present_pairs}
+use Rattle.tx_mend.proofs.Common.{◌≡◌, take, flat_map, full_route, present_pairs}
 use Rattle.tx_mend.proofs.rerouting.add_present.Given as goal
 
 abbrev pub invariant-loop-index : goal.invariant-loop-index

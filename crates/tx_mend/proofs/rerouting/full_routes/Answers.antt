@@ -1,6 +1,4 @@
-use Rattle.std.proofs.Common.{◌≡◌, ℕ, ◌+◌, ◌∙◌, length, sym, ap, arith, append-nil}
-use Rattle.std.specs.List.{flat_map}
-use Rattle.tx_mend.specs.inner.Pairs.{present_pairs, full_route, routes_below}
+use Rattle.tx_mend.proofs.Common.{◌≡◌, ℕ, ◌+◌, ◌∙◌, length, sym, ap, arith, append-nil, flat_map, present_pairs, full_route, routes_below}
 use Rattle.tx_mend.proofs.rerouting.full_routes.Goals as goal
 
 pub loop-index-init : goal.loop-index-init

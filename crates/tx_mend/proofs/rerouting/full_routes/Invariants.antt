@@ -1,5 +1,4 @@
-use Rattle.std.proofs.Common.{◌≡◌}
-use Rattle.tx_mend.specs.inner.Pairs.{routes_below}
+use Rattle.tx_mend.proofs.Common.{◌≡◌, routes_below}
 use Rattle.tx_mend.proofs.rerouting.full_routes.Given as goal
 
 abbrev pub invariant-loop-index : goal.invariant-loop-index

@@ -1,6 +1,4 @@
-use Rattle.std.proofs.Common.{◌∙◌, sym, ap}
-use Rattle.std.specs.Prelude.{is_some, if◌then◌else◌}
-use Rattle.tx_plan.specs.Routes.{route_list}
+use Rattle.tx_mend.proofs.Common.{◌∙◌, sym, ap, is_some, if◌then◌else◌, route_list}
 use Rattle.tx_mend.specs.inner.Full.{list_among}
 use Rattle.tx_mend.proofs.settling.settled_list.Goals as goal
 

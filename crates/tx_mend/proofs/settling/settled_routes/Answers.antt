@@ -1,9 +1,4 @@
-use Rattle.std.proofs.Common.{◌∙◌, List, ℕ, ap, sym, refl, arith}
-use Rattle.std.specs.Prelude.{slice_get}
-use Rattle.std.specs.List.{list_any}
-use Rattle.tx_plan.specs.Plan.{Route}
-use Rattle.tx_plan.proofs.ByIndex.{entry_at}
-use Rattle.tx_mend.specs.inner.Full.{settled_list}
+use Rattle.tx_mend.proofs.Common.{◌∙◌, List, ℕ, ap, sym, refl, arith, slice_get, list_any, Route, entry_at, settled_list}
 use Rattle.tx_plan.proofs.Copied.{pair_of, no_none, none_before, route_got}
 use Rattle.tx_mend.proofs.SettledLists.{none_settled, settled_next}
 use Rattle.tx_mend.proofs.settling.settled_routes.Goals as goal

@@ -1,6 +1,4 @@
-use Rattle.std.proofs.Common.{◌≡◌, take}
-use Rattle.std.specs.List.{flat_map}
-use Rattle.tx_mend.specs.inner.Full.{settled_route}
+use Rattle.tx_mend.proofs.Common.{◌≡◌, take, flat_map, settled_route}
 use Rattle.tx_mend.proofs.settling.settled_routes.Given as goal
 
 abbrev pub invariant-loop-index : goal.invariant-loop-index

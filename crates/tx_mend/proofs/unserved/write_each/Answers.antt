@@ -1,5 +1,4 @@
-use Rattle.tx_text.proofs.Putting.{puts_none, puts_more, puts_all}
-use Rattle.tx_mend.specs.MendText.{unserved_line}
+use Rattle.tx_mend.proofs.Common.{puts_none, puts_more, puts_all, unserved_line}
 use Rattle.tx_mend.proofs.unserved.write_each.Goals as goal
 
 pub loop-i-init : goal.loop-i-init

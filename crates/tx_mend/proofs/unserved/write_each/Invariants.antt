@@ -1,7 +1,4 @@
-use Rattle.std.proofs.Common.{take}
-use Rattle.std.specs.List.{flat_map}
-use Rattle.tx_text.specs.Puts.{Puts}
-use Rattle.tx_mend.specs.MendText.{unserved_line}
+use Rattle.tx_mend.proofs.Common.{take, flat_map, Puts, unserved_line}
 use Rattle.tx_mend.proofs.unserved.write_each.Given as goal
 
 abbrev pub invariant-loop-i : goal.invariant-loop-i

@@ -1,5 +1,4 @@
-use Rattle.std.proofs.Common.{◌+◌, ℕ, length, ap, sym}
-use Rattle.tx_text.proofs.Putting.{puts_then}
+use Rattle.tx_mend.proofs.Common.{◌+◌, ℕ, length, ap, sym, puts_then}
 use Rattle.tx_mend.proofs.unserved.write_unserved.Goals as goal
 
 pub returns : goal.returns

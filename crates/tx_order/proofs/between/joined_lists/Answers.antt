@@ -1,8 +1,6 @@
-use Rattle.std.proofs.Common.{◌≡◌, ◌+◌, ◌&&◌, Bool, List, length, sym, ap, subst, ◌∙◌, arith}
-use Rattle.tx_plan.specs.Routes.{is_barred}
+use Rattle.tx_order.proofs.Common.{◌≡◌, ◌+◌, ◌&&◌, Bool, List, length, sym, ap, subst, ◌∙◌, arith, is_barred, plan_front}
 use Rattle.tx_change.specs.inner.Joined.{Joined, joined_of, joined_at}
 use Rattle.tx_change.proofs.JoinedNets.{AreJoinedBelow, joined_next}
-use Rattle.tx_order.specs.Transitions.{plan_front}
 use Rattle.tx_order.proofs.between.joined_lists.Goals as goal
 use Rattle.tx_order.proofs.between.joined_lists.Goals.{then-is_barred, else-is_barred}
 

@@ -1,5 +1,4 @@
-use Rattle.tx_change.proofs.JoinedNets.{AreJoinedBelow}
-use Rattle.tx_order.specs.Transitions.{plan_front}
+use Rattle.tx_order.proofs.Common.{AreJoinedBelow, plan_front}
 use Rattle.tx_order.proofs.between.joined_lists.Given as goal
 
 abbrev pub invariant-loop-index : goal.invariant-loop-index

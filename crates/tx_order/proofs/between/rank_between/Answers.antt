@@ -1,11 +1,4 @@
-use Rattle.std.proofs.Common.{ℕ, List, sym, subst, IfOk}
-use Rattle.tx_plan.specs.Plan.{Plan}
-use Rattle.tx_cert.specs.Certificate.{rank_at}
-use Rattle.tx_rank.specs.Walks.{Net}
-use Rattle.tx_rank.specs.Judged.{AreOrigins, IsJudged}
-use Rattle.tx_change.specs.ChangeNets.{change_net}
-use Rattle.tx_change.specs.inner.Joined.{Joined, AreJoined}
-use Rattle.tx_order.specs.Transitions.{plan_front}
+use Rattle.tx_order.proofs.Common.{ℕ, List, sym, subst, IfOk, Plan, rank_at, Net, AreOrigins, IsJudged, change_net, Joined, AreJoined, plan_front}
 use Rattle.tx_order.proofs.TwoFronts.{net_is, net_rules}
 use Rattle.tx_order.proofs.between.rank_between.Goals as goal
 

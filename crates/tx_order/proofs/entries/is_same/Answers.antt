@@ -1,8 +1,5 @@
-use Rattle.std.proofs.Common.{◌≡◌, ℕ, ◌<◌, Bool, true, false, not, length, inl, inr, refl, sym, subst, ◌∙◌, arith}
+use Rattle.tx_order.proofs.Common.{◌≡◌, ℕ, ◌<◌, Bool, true, false, not, length, inl, inr, refl, sym, subst, ◌∙◌, arith, cases_lt, route_list, is_barred, Transition, plan_front}
 use mathlib.Core.Bool.{beq}
-use Rattle.std.proofs.lemmas.Bool.{cases_lt}
-use Rattle.tx_plan.specs.Routes.{route_list, is_barred}
-use Rattle.tx_order.specs.Transitions.{Transition, plan_front}
 use Rattle.tx_order.proofs.Same.{alike_all}
 use Rattle.tx_order.proofs.TwoFronts.{rules_with, network_with}
 use Rattle.tx_order.proofs.entries.is_same.Goals as goal

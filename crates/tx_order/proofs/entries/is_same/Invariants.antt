@@ -1,6 +1,4 @@
-use Rattle.std.proofs.Common.{◌≡◌, ℕ, ◌<◌}
-use Rattle.tx_plan.specs.Routes.{route_list, is_barred}
-use Rattle.tx_order.specs.Transitions.{plan_front}
+use Rattle.tx_order.proofs.Common.{◌≡◌, ℕ, ◌<◌, route_list, is_barred, plan_front}
 use Rattle.tx_order.proofs.entries.is_same.Given as goal
 
 abbrev pub invariant-loop-index : goal.invariant-loop-index

@@ -1,6 +1,4 @@
-use Rattle.std.proofs.Common.{◌≡◌, ℕ, List, Bool, true, sym, ◌∙◌}
-use Rattle.std.proofs.lemmas.Slice.Eq.{bytes_eq-Decides}
-use Rattle.std.specs.Str.{bytes_eq}
+use Rattle.tx_order.proofs.Common.{◌≡◌, ℕ, List, Bool, true, sym, ◌∙◌, bytes_eq-Decides, bytes_eq}
 use Rattle.tx_order.proofs.entries.is_same_list.Goals as goal
 
 alike : (x y p q : List ℕ) (r : Bool) → x ≡ p → y ≡ q → r ≡ bytes_eq x y → (r ≡ true → p ≡ q) × (p ≡ q → r ≡ true)

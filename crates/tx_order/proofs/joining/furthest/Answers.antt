@@ -1,6 +1,4 @@
-use Rattle.std.proofs.Common.{◌≡◌, ℕ, ◌+◌, ◌<◌, inl, inr, sym, subst, ◌∙◌, arith}
-use Rattle.std.proofs.lemmas.Bool.{true≢false, cases_lt}
-use Rattle.tx_order.specs.Joined.{IsSafeBetween}
+use Rattle.tx_order.proofs.Common.{◌≡◌, ℕ, ◌+◌, ◌<◌, inl, inr, sym, subst, ◌∙◌, arith, true≢false, cases_lt, IsSafeBetween}
 use Rattle.tx_order.proofs.TwoFronts.{next_safe, less_safe}
 use Rattle.tx_order.proofs.joining.furthest.Goals as goal
 

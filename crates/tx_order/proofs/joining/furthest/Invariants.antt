@@ -1,6 +1,4 @@
-use Rattle.std.proofs.Common.{◌<◌, ◌≤◌, ◌-◌}
-use Rattle.tx_order.specs.Levels.{levels_of}
-use Rattle.tx_order.specs.Joined.{IsSafeBetween}
+use Rattle.tx_order.proofs.Common.{◌<◌, ◌≤◌, ◌-◌, levels_of, IsSafeBetween}
 use Rattle.tx_order.proofs.joining.furthest.Given as goal
 
 abbrev pub invariant-loop-good : goal.invariant-loop-good

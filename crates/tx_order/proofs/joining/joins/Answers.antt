@@ -1,11 +1,5 @@
 use Rattle.std.proofs.Common.{◌≡◌, ◌↔◌, ℕ, true, List, Option, sym, subst, IfOk}
-use Rattle.tx_plan.specs.Plan.{Plan}
-use Rattle.tx_rank.specs.Walks.{Net}
-use Rattle.tx_rank.specs.Nets.{Certifies}
-use Rattle.tx_rank.specs.Judged.{AreOrigins}
-use Rattle.tx_change.specs.ChangeNets.{change_net}
-use Rattle.tx_change.specs.inner.Joined.{Joined, AreJoined}
-use Rattle.tx_order.specs.Transitions.{plan_front}
+use Rattle.tx_order.proofs.Common.{Plan, Net, Certifies, AreOrigins, change_net, Joined, AreJoined, plan_front}
 use Rattle.tx_order.proofs.TwoFronts.{net_is, net_rules}
 use Rattle.tx_order.proofs.joining.joins.Goals as goal
 

@@ -1,10 +1,4 @@
-use Rattle.std.proofs.Common.{◌≡◌, ℕ, List, length, refl, sym, ap, subst, ◌∙◌, arith}
-use Rattle.std.proofs.lemmas.Bool.{true≢false}
-use Rattle.tx_order.specs.Levels.{levels_of}
-use Rattle.tx_order.specs.Fronts.{front_of}
-use Rattle.tx_order.specs.Joined.{AreStages, AreAllStages}
-use Rattle.tx_order.specs.Orders.{AreAlikeFor}
-use Rattle.tx_order.specs.Transitions.{plan_front}
+use Rattle.tx_order.proofs.Common.{◌≡◌, ℕ, List, length, refl, sym, ap, subst, ◌∙◌, arith, true≢false, levels_of, front_of, AreStages, AreAllStages, AreAlikeFor, plan_front}
 use Rattle.tx_order.proofs.TwoFronts.{something_switched}
 use Rattle.tx_order.proofs.Ordered.{no_ends, one_end_more, reached_more}
 use Rattle.tx_order.proofs.joining.stages_of_code.Goals as goal

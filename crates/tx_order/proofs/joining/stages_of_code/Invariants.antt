@@ -1,7 +1,4 @@
-use Rattle.std.proofs.Common.{◌≡◌, ◌≤◌, ◌-◌, length}
-use Rattle.tx_order.specs.Levels.{levels_of}
-use Rattle.tx_order.specs.Fronts.{front_of}
-use Rattle.tx_order.specs.Joined.{AreStages}
+use Rattle.tx_order.proofs.Common.{◌≡◌, ◌≤◌, ◌-◌, length, levels_of, front_of, AreStages}
 use Rattle.tx_order.proofs.joining.stages_of_code.Given as goal
 
 abbrev pub invariant-loop-from : goal.invariant-loop-from

@@ -1,5 +1,4 @@
-use Rattle.std.proofs.Common.{refl}
-use Rattle.tx_order.specs.Levels.{levels_of}
+use Rattle.tx_order.proofs.Common.{refl, levels_of}
 use Rattle.tx_order.proofs.Leading.{leads_from, leads_to, by_mixtures, list_switched, bar_switched, each_level}
 use Rattle.tx_order.proofs.law.levels_lead_over.Goals as goal
 

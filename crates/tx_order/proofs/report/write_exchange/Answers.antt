@@ -1,9 +1,4 @@
-use Rattle.std.proofs.Common.{◌+◌, length, ap, arith}
-use Rattle.tx_plan.specs.Plan.{Plan}
-use Rattle.tx_text.proofs.Putting.{puts_none}
-use Rattle.tx_text.proofs.Ranges.{index_more, indexes_done}
-use Rattle.tx_order.specs.Ordered.{plan_before}
-use Rattle.tx_order.specs.OrderText.{entry_lines}
+use Rattle.tx_order.proofs.Common.{◌+◌, length, ap, arith, Plan, puts_none, index_more, indexes_done, plan_before, entry_lines}
 use Rattle.tx_order.proofs.report.write_exchange.Goals as goal
 
 pub loop-index-init : goal.loop-index-init

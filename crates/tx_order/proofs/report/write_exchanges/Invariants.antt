@@ -1,8 +1,4 @@
-use Rattle.std.proofs.Common.{◌+◌}
-use Rattle.std.specs.List.{flat_map, range_with_len}
-use Rattle.tx_text.specs.Puts.{Puts}
-use Rattle.tx_order.specs.Ordered.{plan_before}
-use Rattle.tx_order.specs.OrderText.{exchange_lines}
+use Rattle.tx_order.proofs.Common.{◌+◌, flat_map, range_with_len, Puts, plan_before, exchange_lines}
 use Rattle.tx_order.proofs.report.write_exchanges.Given as goal
 
 abbrev pub invariant-loop-index : goal.invariant-loop-index

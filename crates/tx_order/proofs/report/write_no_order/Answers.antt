@@ -1,7 +1,4 @@
-use Rattle.std.proofs.Common.{◌≡◌, List, sym}
-use Rattle.tx_text.proofs.Putting.{puts_then, puts_is}
-use Rattle.tx_plan.specs.Plan.{Plan}
-use Rattle.tx_rank.specs.declared.finding.Finding.{Finding}
+use Rattle.tx_order.proofs.Common.{◌≡◌, List, sym, puts_then, puts_is, Plan, Finding}
 use Rattle.tx_rank.specs.Report.{findings_of}
 use Rattle.tx_order.specs.OrderText.{no_order_text}
 use Rattle.tx_order.proofs.report.write_no_order.Goals as goal

@@ -1,8 +1,4 @@
-use Rattle.std.proofs.Common.{◌≡◌, refl, arith}
-use Rattle.tx_text.proofs.Putting.{puts_none}
-use Rattle.tx_text.proofs.Ranges.{index_more, indexes_done}
-use Rattle.tx_order.specs.Ordered.{stages_in}
-use Rattle.tx_order.specs.OrderText.{stage_text}
+use Rattle.tx_order.proofs.Common.{◌≡◌, refl, arith, puts_none, index_more, indexes_done, stages_in, stage_text}
 use Rattle.tx_order.proofs.report.write_stages.Goals as goal
 
 pub loop-stage-init : goal.loop-stage-init

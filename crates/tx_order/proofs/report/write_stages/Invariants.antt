@@ -1,6 +1,4 @@
-use Rattle.std.specs.List.{flat_map, range_with_len}
-use Rattle.tx_text.specs.Puts.{Puts}
-use Rattle.tx_order.specs.OrderText.{stage_text}
+use Rattle.tx_order.proofs.Common.{flat_map, range_with_len, Puts, stage_text}
 use Rattle.tx_order.proofs.report.write_stages.Given as goal
 
 abbrev pub invariant-loop-stage : goal.invariant-loop-stage

@@ -1,12 +1,5 @@
-use Rattle.std.proofs.Common.{◌≡◌, ℕ, ◌+◌, ◌<◌, Bool, false, cond, List, [], ◌++◌, sym, ap, ◌∙◌}
-use Rattle.std.proofs.lemmas.Bool.{true≢false}
-use Rattle.std.proofs.lemmas.Slice.Eq.{bytes_eq-Decides}
-use Rattle.std.specs.Str.{bytes_eq}
-use Rattle.tx_text.proofs.Putting.{puts_is}
-use Rattle.tx_plan.specs.Plan.{Plan}
-use Rattle.tx_plan.specs.Routes.{route_list}
+use Rattle.tx_order.proofs.Common.{◌≡◌, ℕ, ◌+◌, ◌<◌, Bool, false, cond, List, [], ◌++◌, sym, ap, ◌∙◌, true≢false, bytes_eq-Decides, bytes_eq, puts_is, Plan, route_list, Order, IsOrderKept, plan_before, stages_in}
 use Rattle.tx_plantext.specs.ChangedLists.{list_line, was_line, line_unless_same}
-use Rattle.tx_order.specs.Ordered.{Order, IsOrderKept, plan_before, stages_in}
 use Rattle.tx_order.proofs.Ordered.{new_after}
 use Rattle.tx_order.proofs.report.write_switched_list.Goals as goal
 

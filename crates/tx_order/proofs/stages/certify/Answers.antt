@@ -1,9 +1,4 @@
-use Rattle.std.proofs.Common.{ℕ, ◌+◌, length, sym, ap, subst, ◌∙◌, arith, IfOk}
-use Rattle.tx_cert.specs.Certificate.{rank_at}
-use Rattle.tx_rank.specs.Judged.{AreOrigins, IsJudged}
-use Rattle.tx_change.specs.ChangeNets.{change_net}
-use Rattle.tx_order.specs.Transitions.{Transition, plan_front}
-use Rattle.tx_order.specs.Ordered.{fronts_before}
+use Rattle.tx_order.proofs.Common.{ℕ, ◌+◌, length, sym, ap, subst, ◌∙◌, arith, IfOk, rank_at, AreOrigins, IsJudged, change_net, Transition, plan_front, fronts_before}
 use Rattle.tx_order.proofs.TwoFronts.{result_certified}
 use Rattle.tx_order.proofs.Ordered.{code_safe}
 use Rattle.tx_order.proofs.stages.certify.Goals as goal

@@ -1,6 +1,4 @@
-use Rattle.std.proofs.Common.{subst}
-use Rattle.tx_plan.specs.Plan.{Plan}
-use Rattle.tx_order.specs.inner.Asked.{AreListsOf}
+use Rattle.tx_order.proofs.Common.{subst, Plan, AreListsOf}
 use Rattle.tx_order.proofs.Ordered.{is_order_of}
 use Rattle.tx_order.proofs.switching.asked_of.Goals as goal
 

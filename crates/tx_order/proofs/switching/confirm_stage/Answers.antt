@@ -1,14 +1,4 @@
-use Rattle.std.proofs.Common.{◌≡◌, ℕ, ◌+◌, sym, ap, subst, ◌∙◌}
-use Rattle.tx_plan.specs.Plan.{Plan}
-use Rattle.tx_plan.specs.Rules.{IsPlan}
-use Rattle.tx_plan.specs.Mixed.{rerouted}
-use Rattle.tx_plan.proofs.Networks.{same_back}
-use Rattle.tx_cert.specs.Certificate.{Certificate, IsCertificateOf}
-use Rattle.tx_check.specs.Confirmed.{IsConfirmed}
-use Rattle.tx_change.specs.declared.mixing.Lists.{Lists}
-use Rattle.tx_order.specs.Transitions.{Transition}
-use Rattle.tx_order.specs.Ordered.{Order, plan_before}
-use Rattle.tx_order.specs.inner.Asked.{AreListsOf}
+use Rattle.tx_order.proofs.Common.{◌≡◌, ℕ, ◌+◌, sym, ap, subst, ◌∙◌, Plan, IsPlan, rerouted, same_back, Certificate, IsCertificateOf, IsConfirmed, Lists, Transition, Order, plan_before, AreListsOf}
 use Rattle.tx_order.proofs.Confirming.{before_rules, before_network, before_fits, stage_cleared, with_lists, with_own}
 use Rattle.tx_order.proofs.switching.confirm_stage.Goals as goal
 

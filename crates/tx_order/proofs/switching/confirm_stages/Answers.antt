@@ -1,7 +1,4 @@
-use Rattle.std.proofs.Common.{◌≡◌, ℕ, inl, inr, subst, ◌∙◌, arith}
-use Rattle.std.proofs.lemmas.Bool.{cases_lt}
-use Rattle.tx_order.specs.Ordered.{Order}
-use Rattle.tx_order.specs.Switchings.{HasCleared}
+use Rattle.tx_order.proofs.Common.{◌≡◌, ℕ, inl, inr, subst, ◌∙◌, arith, cases_lt, Order, HasCleared}
 use Rattle.tx_order.proofs.switching.confirm_stages.Goals as goal
 
 pub loop-stage-preserved : goal.loop-stage-preserved

@@ -1,5 +1,4 @@
-use Rattle.std.proofs.Common.{◌≡◌, ℕ, ◌<◌}
-use Rattle.tx_order.specs.Switchings.{HasCleared}
+use Rattle.tx_order.proofs.Common.{◌≡◌, ℕ, ◌<◌, HasCleared}
 use Rattle.tx_order.proofs.switching.confirm_stages.Given as goal
 
 abbrev pub invariant-loop-stage : goal.invariant-loop-stage

@@ -1,7 +1,4 @@
-use Rattle.std.proofs.Common.{ap, subst}
-use Rattle.tx_rank.specs.declared.ranking.Ranking.{Ranking}
-use Rattle.tx_audit.specs.Audits.{IsRightRanking}
-use Rattle.tx_order.specs.Transitions.{Transition}
+use Rattle.tx_order.proofs.Common.{ap, subst, Ranking, IsRightRanking, Transition}
 use Rattle.tx_order.proofs.Confirming.{ordered, old_denied, new_denied}
 use Rattle.tx_order.proofs.switching.order_by.Goals as goal
 

@@ -1,6 +1,4 @@
-use Rattle.std.proofs.Common.{ℕ, ◌<◌, sym, subst}
-use Rattle.tx_order.specs.Ordered.{Order, stages_in}
-use Rattle.tx_order.specs.Switchings.{HasCleared}
+use Rattle.tx_order.proofs.Common.{ℕ, ◌<◌, sym, subst, Order, stages_in, HasCleared}
 use Rattle.tx_order.proofs.switching.order_of.Goals as goal
 
 pub returns-clause-cleared : goal.returns-clause-cleared

@@ -1,8 +1,4 @@
-use Rattle.std.proofs.Common.{◌≡◌, ℕ, ◌+◌, Bool, List, length, sym, subst, arith}
-use Rattle.tx_plan.specs.Plan.{Plan}
-use Rattle.tx_rank.specs.Judged.{AreOrigins}
-use Rattle.tx_order.specs.Joined.{AreAllStages}
-use Rattle.tx_order.specs.Ordered.{AreStagesBelow}
+use Rattle.tx_order.proofs.Common.{◌≡◌, ℕ, ◌+◌, Bool, List, length, sym, subst, arith, Plan, AreOrigins, AreAllStages, AreStagesBelow}
 use Rattle.tx_order.proofs.Ordered.{no_stages, stages_more}
 use Rattle.tx_order.proofs.switching.stages_of.Goals as goal
 

@@ -1,6 +1,4 @@
-use Rattle.std.proofs.Common.{sym, ap, ◌∙◌}
-use Rattle.tx_plan.specs.Routes.{route_list, is_barred}
-use Rattle.tx_page.specs.inner.Between.{before_of, after_of}
+use Rattle.tx_page.proofs.Common.{sym, ap, ◌∙◌, route_list, is_barred, before_of, after_of}
 use Rattle.tx_page.proofs.between.entry_of.Goals as goal
 
 pub returns-in-Stage-clause-before : goal.returns-in-Stage-clause-before

@@ -1,5 +1,4 @@
-use Rattle.std.proofs.Common.{Bool, not, ◌&&◌, ap, sym, ◌∙◌}
-use Rattle.tx_plan.specs.Routes.{is_barred}
+use Rattle.tx_page.proofs.Common.{Bool, not, ◌&&◌, ap, sym, ◌∙◌, is_barred}
 use Rattle.tx_page.proofs.AloneIn.{bar_there}
 use Rattle.tx_page.proofs.between.is_barred_alone.Goals as goal
 

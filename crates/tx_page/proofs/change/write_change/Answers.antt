@@ -1,6 +1,4 @@
-use Rattle.std.proofs.Common.{ap, sym, ◌∙◌}
-use Rattle.std.specs.Prelude.{if◌then◌else◌}
-use Rattle.tx_html.proofs.Showing.{sets_then, sets_is}
+use Rattle.tx_page.proofs.Common.{ap, sym, ◌∙◌, if◌then◌else◌, sets_then, sets_is}
 use Rattle.tx_page.specs.StepTexts.{switching_texts, steps_texts}
 use Rattle.tx_page.proofs.change.write_change.Goals as goal
 

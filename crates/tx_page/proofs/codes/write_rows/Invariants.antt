@@ -1,7 +1,4 @@
-use Rattle.std.proofs.Common.{take}
-use Rattle.std.specs.List.{flat_map}
-use Rattle.tx_html.specs.Shows.{Sets}
-use Rattle.tx_page.specs.CodeTexts.{code_texts}
+use Rattle.tx_page.proofs.Common.{take, flat_map, Sets, code_texts}
 use Rattle.tx_page.proofs.codes.write_rows.Given as goal
 
 abbrev pub invariant-loop-i : goal.invariant-loop-i

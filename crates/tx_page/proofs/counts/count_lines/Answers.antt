@@ -1,8 +1,4 @@
-use Rattle.std.proofs.Common.{◌+◌, sym, ap, ◌∙◌, arith}
-use Rattle.std.specs.Prelude.{sum_by}
-use Rattle.std.proofs.lemmas.List.{take_all}
-use Rattle.tx_page.specs.Heading.{range_lines}
-use Rattle.tx_join.proofs.Sums.{sum_more}
+use Rattle.tx_page.proofs.Common.{◌+◌, sym, ap, ◌∙◌, arith, sum_by, take_all, range_lines, sum_more}
 use Rattle.tx_page.proofs.counts.count_lines.Goals as goal
 
 pub loop-index-preserved : goal.loop-index-preserved

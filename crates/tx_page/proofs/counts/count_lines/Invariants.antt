@@ -1,6 +1,4 @@
-use Rattle.std.proofs.Common.{◌≡◌, ◌≤◌, ◌*◌, take}
-use Rattle.std.specs.Prelude.{sum_by}
-use Rattle.tx_page.specs.Heading.{range_lines}
+use Rattle.tx_page.proofs.Common.{◌≡◌, ◌≤◌, ◌*◌, take, sum_by, range_lines}
 use Rattle.tx_page.proofs.counts.count_lines.Given as goal
 
 abbrev pub invariant-loop-index : goal.invariant-loop-index

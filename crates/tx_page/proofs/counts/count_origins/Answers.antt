@@ -1,9 +1,5 @@
-use Rattle.std.proofs.Common.{◌≡◌, ◌+◌, ◌<◌, length, ap, sym, ◌∙◌, arith}
-use Rattle.std.specs.Prelude.{count_by, if◌then◌else◌}
-use Rattle.std.specs.List.{range_with_len}
-use Rattle.std.proofs.lemmas.List.{take_all}
+use Rattle.tx_page.proofs.Common.{◌≡◌, ◌+◌, ◌<◌, length, ap, sym, ◌∙◌, arith, count_by, if◌then◌else◌, range_with_len, take_all, is_origin}
 use Rattle.std.proofs.lemmas.List.FromFn.{length-range_with_len}
-use Rattle.tx_plan.specs.Routes.{is_origin}
 use Rattle.tx_join.proofs.Sums.{count_more, count_few}
 use Rattle.tx_page.proofs.counts.count_origins.Goals as goal
 use Rattle.tx_page.proofs.counts.count_origins.Goals.{then-is_origin, else-is_origin}

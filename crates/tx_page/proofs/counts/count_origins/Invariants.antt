@@ -1,7 +1,4 @@
-use Rattle.std.proofs.Common.{◌≡◌, ◌≤◌, length, take}
-use Rattle.std.specs.Prelude.{count_by}
-use Rattle.std.specs.List.{range_with_len}
-use Rattle.tx_plan.specs.Routes.{is_origin}
+use Rattle.tx_page.proofs.Common.{◌≡◌, ◌≤◌, length, take, count_by, range_with_len, is_origin}
 use Rattle.tx_page.proofs.counts.count_origins.Given as goal
 
 abbrev pub invariant-loop-index : goal.invariant-loop-index

@@ -1,6 +1,4 @@
-use Rattle.std.proofs.Common.{◌≡◌, ◌≤◌, ◌*◌, take}
-use Rattle.std.specs.Prelude.{sum_by}
-use Rattle.tx_page.specs.Heading.{code_lines}
+use Rattle.tx_page.proofs.Common.{◌≡◌, ◌≤◌, ◌*◌, take, sum_by, code_lines}
 use Rattle.tx_page.proofs.counts.lines_of.Given as goal
 
 abbrev pub invariant-loop-index : goal.invariant-loop-index

@@ -1,7 +1,4 @@
-use Rattle.std.proofs.Common.{take}
-use Rattle.std.specs.List.{flat_map}
-use Rattle.tx_html.specs.Shows.{Sets}
-use Rattle.tx_page.specs.WrongTexts.{finding_texts}
+use Rattle.tx_page.proofs.Common.{take, flat_map, Sets, finding_texts}
 use Rattle.tx_page.proofs.findings.write_all.Given as goal
 
 abbrev pub invariant-loop-i : goal.invariant-loop-i

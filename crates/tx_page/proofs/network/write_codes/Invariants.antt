@@ -1,6 +1,4 @@
-use Rattle.tx_html.specs.Shows.{Sets}
-use Rattle.tx_svg.specs.Indexed.{texts_below}
-use Rattle.tx_page.specs.NetworkTexts.{home_texts}
+use Rattle.tx_page.proofs.Common.{Sets, texts_below, home_texts}
 use Rattle.tx_page.proofs.network.write_codes.Given as goal
 
 abbrev pub invariant-loop-index : goal.invariant-loop-index

@@ -1,7 +1,4 @@
-use Rattle.std.proofs.Common.{length, arith}
-use Rattle.tx_page.specs.NetworkTexts.{group_texts}
-use Rattle.tx_svg.proofs.Indexed.{below_more, below_done}
-use Rattle.tx_html.proofs.Showing.{sets_none}
+use Rattle.tx_page.proofs.Common.{length, arith, group_texts, below_more, below_done, sets_none}
 use Rattle.tx_page.proofs.network.write_groups.Goals as goal
 
 pub loop-index-init : goal.loop-index-init

@@ -1,5 +1,4 @@
-use Rattle.tx_page.specs.OutageTexts.{cut_texts}
-use Rattle.tx_html.proofs.Showing.{sets_none, list_more, list_done}
+use Rattle.tx_page.proofs.Common.{cut_texts, sets_none, list_more, list_done}
 use Rattle.tx_page.proofs.outages.write_cuts.Goals as goal
 
 pub loop-i-init : goal.loop-i-init

@@ -1,5 +1,4 @@
-use Rattle.std.proofs.Common.{ap, ◌∙◌}
-use Rattle.tx_html.proofs.Showing.{sets_then, sets_end}
+use Rattle.tx_page.proofs.Common.{ap, ◌∙◌, sets_then, sets_end}
 use Rattle.tx_risk_report.specs.OutageReport.{cut_off, astray}
 use Rattle.tx_page.proofs.outages.write_outcome.Goals as goal
 

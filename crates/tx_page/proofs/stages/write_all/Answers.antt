@@ -1,8 +1,5 @@
-use Rattle.std.proofs.Common.{refl, arith}
+use Rattle.tx_page.proofs.Common.{refl, arith, stage_texts, below_more, below_done, sets_none}
 use Rattle.tx_order.specs.Ordered.{stages_in}
-use Rattle.tx_page.specs.ChangeTexts.{stage_texts}
-use Rattle.tx_svg.proofs.Indexed.{below_more, below_done}
-use Rattle.tx_html.proofs.Showing.{sets_none}
 use Rattle.tx_page.proofs.stages.write_all.Goals as goal
 
 pub loop-stage-init : goal.loop-stage-init

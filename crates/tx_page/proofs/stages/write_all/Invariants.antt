@@ -1,6 +1,4 @@
-use Rattle.tx_html.specs.Shows.{Sets}
-use Rattle.tx_svg.specs.Indexed.{texts_below}
-use Rattle.tx_page.specs.ChangeTexts.{stage_texts}
+use Rattle.tx_page.proofs.Common.{Sets, texts_below, stage_texts}
 use Rattle.tx_page.proofs.stages.write_all.Given as goal
 
 abbrev pub invariant-loop-stage : goal.invariant-loop-stage

@@ -1,5 +1,4 @@
-use Rattle.std.proofs.Common.{arith}
-use Rattle.tx_html.proofs.Showing.{sets_then, sets_end}
+use Rattle.tx_page.proofs.Common.{arith, sets_then, sets_end}
 use Rattle.tx_page.proofs.stages.write_stage.Goals as goal
 
 pub overflow_add-stage : goal.overflow_add-stage

@@ -1,8 +1,5 @@
-use Rattle.std.proofs.Common.{refl, arith}
+use Rattle.tx_page.proofs.Common.{refl, arith, if_alone_texts, below_more, below_done, sets_none}
 use Rattle.tx_join.specs.Differences.{count_of_entries}
-use Rattle.tx_page.specs.StepTexts.{if_alone_texts}
-use Rattle.tx_svg.proofs.Indexed.{below_more, below_done}
-use Rattle.tx_html.proofs.Showing.{sets_none}
 use Rattle.tx_page.proofs.steps.write_alone.Goals as goal
 
 pub loop-index-init : goal.loop-index-init

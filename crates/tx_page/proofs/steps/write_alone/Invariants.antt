@@ -1,6 +1,4 @@
-use Rattle.tx_html.specs.Shows.{Sets}
-use Rattle.tx_svg.specs.Indexed.{texts_below}
-use Rattle.tx_page.specs.StepTexts.{if_alone_texts}
+use Rattle.tx_page.proofs.Common.{Sets, texts_below, if_alone_texts}
 use Rattle.tx_page.proofs.steps.write_alone.Given as goal
 
 abbrev pub invariant-loop-index : goal.invariant-loop-index

@@ -1,7 +1,4 @@
-use Rattle.std.proofs.Common.{length, arith}
-use Rattle.tx_page.specs.StepTexts.{group_circuits_texts}
-use Rattle.tx_svg.proofs.Indexed.{below_more, below_done}
-use Rattle.tx_html.proofs.Showing.{sets_none}
+use Rattle.tx_page.proofs.Common.{length, arith, group_circuits_texts, below_more, below_done, sets_none}
 use Rattle.tx_page.proofs.steps.write_circuits.Goals as goal
 
 pub loop-index-init : goal.loop-index-init

@@ -1,8 +1,4 @@
-use Rattle.std.proofs.Common.{length, arith}
-use Rattle.tx_page.specs.ChangeTexts.{pair_texts}
-use Rattle.tx_page.specs.inner.Between.{before_of, after_of}
-use Rattle.tx_svg.proofs.Indexed.{below_more, below_done}
-use Rattle.tx_html.proofs.Showing.{sets_none}
+use Rattle.tx_page.proofs.Common.{length, arith, pair_texts, before_of, after_of, below_more, below_done, sets_none}
 use Rattle.tx_page.proofs.table.write_exchange.Goals as goal
 
 pub loop-index-init : goal.loop-index-init

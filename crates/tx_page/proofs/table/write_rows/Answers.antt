@@ -1,8 +1,5 @@
-use Rattle.std.proofs.Common.{length, arith}
+use Rattle.tx_page.proofs.Common.{length, arith, before_of, after_of, below_more, below_done, sets_none}
 use Rattle.tx_page.specs.ChangeTexts.{exchange_texts}
-use Rattle.tx_page.specs.inner.Between.{before_of, after_of}
-use Rattle.tx_svg.proofs.Indexed.{below_more, below_done}
-use Rattle.tx_html.proofs.Showing.{sets_none}
 use Rattle.tx_page.proofs.table.write_rows.Goals as goal
 
 pub loop-index-init : goal.loop-index-init

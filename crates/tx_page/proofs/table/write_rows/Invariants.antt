@@ -1,7 +1,5 @@
-use Rattle.tx_html.specs.Shows.{Sets}
-use Rattle.tx_svg.specs.Indexed.{texts_below}
+use Rattle.tx_page.proofs.Common.{Sets, texts_below, before_of, after_of}
 use Rattle.tx_page.specs.ChangeTexts.{exchange_texts}
-use Rattle.tx_page.specs.inner.Between.{before_of, after_of}
 use Rattle.tx_page.proofs.table.write_rows.Given as goal
 
 abbrev pub invariant-loop-index : goal.invariant-loop-index

@@ -1,7 +1,4 @@
-use Rattle.std.proofs.Common.{◌∙◌, ap, sym, arith}
-use Rattle.std.specs.Prelude.{slice_get}
-use Rattle.std.specs.List.{list_any}
-use Rattle.tx_plan.specs.declared.ids.Pair.{Pair}
+use Rattle.tx_plan.proofs.Common.{◌∙◌, ap, sym, arith, slice_get, list_any, Pair}
 use Rattle.tx_plan.proofs.ByIndex.{entry_at}
 use Rattle.tx_plan.proofs.Copied.{no_none, none_before, copied_next, bar_got}
 use Rattle.tx_plan.proofs.copying.bars_of.Goals as goal

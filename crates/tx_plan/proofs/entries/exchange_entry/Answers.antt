@@ -1,5 +1,4 @@
-use Rattle.std.proofs.Common.{◌∙◌, sym, ap, not, true, false, length, arith}
-use Rattle.std.proofs.lemmas.Bool.{le-leb, lt-leb}
+use Rattle.tx_plan.proofs.Common.{◌∙◌, sym, ap, not, true, false, length, arith, le-leb, lt-leb}
 use Rattle.tx_plan.proofs.Absent.{has_exchange-is}
 use Rattle.tx_plan.proofs.Refusing.{taken, passed_on}
 use Rattle.tx_plan.proofs.entries.exchange_entry.Goals as goal

@@ -1,6 +1,4 @@
-use Rattle.std.proofs.Common.{◌∙◌, sym, ap, refl, not, true, false, ◌||◌, Some, length, arith}
-use Rattle.std.proofs.lemmas.Bool.{le-leb, lt-leb}
-use Rattle.tx_plan.specs.Declaring.{has_exchange}
+use Rattle.tx_plan.proofs.Common.{◌∙◌, sym, ap, refl, not, true, false, ◌||◌, Some, length, arith, le-leb, lt-leb, has_exchange}
 use Rattle.tx_plan.proofs.Absent.{none_found, has_exchange-is, has_group-is}
 use Rattle.tx_plan.proofs.Refusing.{taken, passed_on}
 use Rattle.tx_plan.proofs.entries.group_entry.Goals as goal

@@ -1,7 +1,4 @@
-use Rattle.std.proofs.Common.{◌∙◌, sym, ap, refl, not, true, false, ◌||◌, Some, length, unwrap_or, arith}
-use Rattle.std.proofs.lemmas.Bool.{le-leb, lt-leb}
-use Rattle.tx_plan.specs.Rules.{is_national}
-use Rattle.tx_plan.specs.Declaring.{overlaps}
+use Rattle.tx_plan.proofs.Common.{◌∙◌, sym, ap, refl, not, true, false, ◌||◌, Some, length, unwrap_or, arith, le-leb, lt-leb, is_national, overlaps}
 use Rattle.tx_plan.proofs.Absent.{none_found, has_code-is}
 use Rattle.tx_plan.proofs.Refusing.{taken, passed_on, read_right, read_same}
 use Rattle.tx_plan.proofs.entries.range_entry.Goals as goal

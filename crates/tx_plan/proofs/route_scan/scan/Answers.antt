@@ -1,5 +1,4 @@
-use Rattle.std.proofs.Common.{rules}
-use Rattle.tx_plan.specs.Declaring.{group_at}
+use Rattle.tx_plan.proofs.Common.{rules, group_at}
 use Rattle.tx_plan.proofs.SeenWords.{many_seen, all_seen}
 use Rattle.tx_plan.proofs.route_scan.scan.Goals as goal
 

@@ -1,7 +1,4 @@
-use Rattle.std.proofs.Common.{◌≡◌, ◌<◌, ◌≤◌, ◌++◌, ◌||◌, true, false, not, map, length}
-use Rattle.std.specs.List.{list_any}
-use Rattle.tx_text.specs.Words.{is_name}
-use Rattle.tx_plan.specs.Declaring.{has_group, is_not_outgoing, group_at}
+use Rattle.tx_plan.proofs.Common.{◌≡◌, ◌<◌, ◌≤◌, ◌++◌, ◌||◌, true, false, not, map, length, list_any, is_name, has_group, is_not_outgoing, group_at}
 use Rattle.tx_plan.proofs.route_scan.scan.Given as goal
 
 abbrev pub invariant-loop-word : goal.invariant-loop-word

@@ -1,7 +1,4 @@
-use Rattle.std.proofs.Common.{length, arith}
-use Rattle.tx_text.proofs.Putting.{puts_none}
-use Rattle.tx_plantext.specs.ChangedLists.{code_changes}
-use Rattle.tx_text.proofs.Ranges.{index_more, indexes_done}
+use Rattle.tx_plantext.proofs.Common.{length, arith, puts_none, code_changes, index_more, indexes_done}
 use Rattle.tx_plantext.proofs.changed_lists.write_changes.Goals as goal
 
 pub loop-index-init : goal.loop-index-init

@@ -1,6 +1,4 @@
-use Rattle.std.specs.List.{flat_map, range_with_len}
-use Rattle.tx_text.specs.Puts.{Puts}
-use Rattle.tx_plantext.specs.ChangedLists.{code_changes}
+use Rattle.tx_plantext.proofs.Common.{flat_map, range_with_len, Puts, code_changes}
 use Rattle.tx_plantext.proofs.changed_lists.write_changes.Given as goal
 
 abbrev pub invariant-loop-index : goal.invariant-loop-index

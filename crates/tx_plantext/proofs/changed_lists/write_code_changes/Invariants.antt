@@ -1,6 +1,4 @@
-use Rattle.std.specs.List.{flat_map, range_with_len}
-use Rattle.tx_text.specs.Puts.{Puts}
-use Rattle.tx_plantext.specs.ChangedLists.{change_line}
+use Rattle.tx_plantext.proofs.Common.{flat_map, range_with_len, Puts, change_line}
 use Rattle.tx_plantext.proofs.changed_lists.write_code_changes.Given as goal
 
 abbrev pub invariant-loop-index : goal.invariant-loop-index

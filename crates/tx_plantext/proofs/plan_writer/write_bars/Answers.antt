@@ -1,6 +1,4 @@
-use Rattle.std.proofs.Common.{arith}
-use Rattle.tx_text.proofs.Putting.{puts_none}
-use Rattle.tx_plantext.specs.PlanWritten.{bar_words}
+use Rattle.tx_plantext.proofs.Common.{arith, puts_none, bar_words}
 use Rattle.tx_plantext.proofs.PlanWriting.{list_more, list_done}
 use Rattle.tx_plantext.proofs.plan_writer.write_bars.Goals as goal
 

@@ -1,6 +1,4 @@
-use Rattle.std.proofs.Common.{take}
-use Rattle.tx_text.specs.Puts.{Puts}
-use Rattle.tx_plantext.specs.PlanWritten.{bar_words, lines_of_list}
+use Rattle.tx_plantext.proofs.Common.{take, Puts, bar_words, lines_of_list}
 use Rattle.tx_plantext.proofs.plan_writer.write_bars.Given as goal
 
 abbrev pub invariant-loop-index : goal.invariant-loop-index

@@ -1,5 +1,4 @@
-use Rattle.tx_text.proofs.Putting.{puts_none}
-use Rattle.tx_plantext.specs.PlanWritten.{code_words}
+use Rattle.tx_plantext.proofs.Common.{puts_none, code_words}
 use Rattle.tx_plantext.proofs.PlanWriting.{line_past, none_at, code_text}
 use Rattle.tx_plantext.proofs.plan_writer.write_code.Goals as goal
 

@@ -1,5 +1,4 @@
-use Rattle.tx_text.proofs.Putting.{puts_none, puts_then, puts_is}
-use Rattle.tx_plantext.specs.PlanWritten.{group_words}
+use Rattle.tx_plantext.proofs.Common.{puts_none, puts_then, puts_is, group_words}
 use Rattle.tx_plantext.proofs.PlanWriting.{line_past, none_at, group_text}
 use Rattle.tx_plantext.proofs.plan_writer.write_group.Goals as goal
 

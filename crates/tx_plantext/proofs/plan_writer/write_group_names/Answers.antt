@@ -1,6 +1,5 @@
-use Rattle.std.proofs.Common.{◌++◌, codes}
+use Rattle.tx_plantext.proofs.Common.{◌++◌, codes, group_name}
 use Rattle.tx_text.proofs.Putting.{puts_none, puts_then, puts_more, puts_all}
-use Rattle.tx_plan.specs.Plan.{group_name}
 use Rattle.tx_plantext.proofs.plan_writer.write_group_names.Goals as goal
 
 pub loop-i-init : goal.loop-i-init

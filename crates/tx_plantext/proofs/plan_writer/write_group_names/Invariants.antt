@@ -1,7 +1,4 @@
-use Rattle.std.proofs.Common.{◌++◌, take, codes}
-use Rattle.std.specs.List.{flat_map}
-use Rattle.tx_text.specs.Puts.{Puts}
-use Rattle.tx_plan.specs.Plan.{group_name}
+use Rattle.tx_plantext.proofs.Common.{◌++◌, take, codes, flat_map, Puts, group_name}
 use Rattle.tx_plantext.proofs.plan_writer.write_group_names.Given as goal
 
 abbrev pub invariant-loop-i : goal.invariant-loop-i

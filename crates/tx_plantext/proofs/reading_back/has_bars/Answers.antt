@@ -1,6 +1,4 @@
-use Rattle.std.proofs.Common.{◌≡◌, ◌∙◌, true, sym, arith}
-use Rattle.tx_plan.specs.declared.ids.Pair.{Pair}
-use Rattle.tx_plan.specs.Routes.{is_barred}
+use Rattle.tx_plantext.proofs.Common.{◌≡◌, ◌∙◌, true, sym, arith, Pair, is_barred}
 use Rattle.tx_plantext.proofs.SamePlans.{bar_too, of_all}
 use Rattle.tx_plantext.proofs.reading_back.has_bars.Goals as goal
 

@@ -1,6 +1,4 @@
-use Rattle.std.proofs.Common.{◌≡◌, true, take}
-use Rattle.std.specs.List.{AllByRecursion}
-use Rattle.tx_plan.specs.Routes.{is_barred}
+use Rattle.tx_plantext.proofs.Common.{◌≡◌, true, take, AllByRecursion, is_barred}
 use Rattle.tx_plantext.proofs.reading_back.has_bars.Given as goal
 
 abbrev pub invariant-loop-index : goal.invariant-loop-index

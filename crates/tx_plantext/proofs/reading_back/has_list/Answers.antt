@@ -1,5 +1,4 @@
-use Rattle.std.proofs.Common.{◌∙◌, sym}
-use Rattle.std.proofs.lemmas.Slice.Eq.{bytes_eq-Decides}
+use Rattle.tx_plantext.proofs.Common.{◌∙◌, sym, bytes_eq-Decides}
 use Rattle.tx_plantext.proofs.reading_back.has_list.Goals as goal
 
 pub returns : goal.returns

@@ -1,5 +1,4 @@
-use Rattle.std.proofs.Common.{arith}
-use Rattle.tx_plan.specs.Plan.{Route}
+use Rattle.tx_plantext.proofs.Common.{arith, Route}
 use Rattle.tx_plantext.proofs.SamePlans.{list_too, of_all, SameList}
 use Rattle.tx_plantext.proofs.reading_back.has_lists.Goals as goal
 

@@ -1,6 +1,4 @@
-use Rattle.std.proofs.Common.{◌≡◌, take}
-use Rattle.std.specs.List.{AllByRecursion}
-use Rattle.tx_plan.specs.Routes.{route_list}
+use Rattle.tx_plantext.proofs.Common.{◌≡◌, take, AllByRecursion, route_list}
 use Rattle.tx_plantext.proofs.reading_back.has_lists.Given as goal
 
 abbrev pub invariant-loop-index : goal.invariant-loop-index

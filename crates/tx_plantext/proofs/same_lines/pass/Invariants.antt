@@ -1,5 +1,4 @@
-use Rattle.std.proofs.Common.{ℕ, List, length}
-use Rattle.tx_plantext.specs.Revised.{StandAmong}
+use Rattle.tx_plantext.proofs.Common.{ℕ, List, length, StandAmong}
 use Rattle.tx_plantext.proofs.same_lines.pass.Given as goal
 
 -- what stands among the lines that are left stands among all

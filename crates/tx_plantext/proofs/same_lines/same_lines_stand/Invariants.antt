@@ -1,6 +1,4 @@
-use Rattle.std.proofs.Common.{length}
-use Rattle.std.specs.Prelude.{filter}
-use Rattle.tx_plantext.specs.Revised.{StandAmong, SameLinesStand, says_too}
+use Rattle.tx_plantext.proofs.Common.{length, filter, StandAmong, SameLinesStand, says_too}
 use Rattle.tx_plantext.proofs.same_lines.same_lines_stand.Given as goal
 
 -- if those of the lines that are left stand among what is left, all do

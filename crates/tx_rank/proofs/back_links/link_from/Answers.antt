@@ -1,6 +1,4 @@
-use Rattle.std.proofs.Common.{◌∙◌, ap, subst, ℕ, is_some, arith, ◌≡◌, Option, Some, None, true, sym, refl}
-use Rattle.tx_rank.specs.inner.Links.{LinksAll}
-use Rattle.tx_rank.specs.inner.Marks.{rank_in}
+use Rattle.tx_rank.proofs.Common.{◌∙◌, ap, subst, ℕ, is_some, arith, ◌≡◌, Option, Some, None, true, sym, refl, LinksAll, rank_in}
 use Rattle.tx_rank.proofs.Linking.{below_skip, below_more}
 use Rattle.tx_rank.proofs.back_links.link_from.Goals as goal
 

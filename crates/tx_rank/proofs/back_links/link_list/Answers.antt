@@ -1,6 +1,4 @@
-use Rattle.std.proofs.Common.{sym, ◌+◌, ◌∙◌, ap, subst, ℕ, Some, take, rules}
-use Rattle.std.proofs.Math.ListN.{set}
-use Rattle.tx_rank.specs.inner.Marks.{rank_in}
+use Rattle.tx_rank.proofs.Common.{sym, ◌+◌, ◌∙◌, ap, subst, ℕ, Some, take, rules, set, rank_in}
 use Rattle.tx_rank.proofs.Linking.{IsLinking, linking_step, linking_kept}
 use Rattle.tx_rank.proofs.back_links.link_list.Goals as goal
 

@@ -1,5 +1,4 @@
-use Rattle.std.proofs.Common.{take}
-use Rattle.tx_rank.specs.inner.Marks.{rank_in}
+use Rattle.tx_rank.proofs.Common.{take, rank_in}
 use Rattle.tx_rank.proofs.Linking.{IsLinking}
 use Rattle.tx_rank.proofs.back_links.link_list.Given as goal
 

@@ -1,7 +1,4 @@
-use Rattle.std.proofs.Common.{◌≡◌, ◌∙◌, ◌+◌, ◌++◌, ℕ, List, Option, length, take, drop, sym, ap, subst, arith, rules}
-use Rattle.std.proofs.Math.Seq.{take-append_seam}
-use Rattle.tx_rank.specs.inner.Links.{LinksBelow, AreLinks}
-use Rattle.tx_rank.specs.inner.Marks.{rank_in}
+use Rattle.tx_rank.proofs.Common.{◌≡◌, ◌∙◌, ◌+◌, ◌++◌, ℕ, List, Option, length, take, drop, sym, ap, subst, arith, rules, take-append_seam, LinksBelow, AreLinks, rank_in}
 use Rattle.tx_rank.proofs.Linking.{IsLinkedBelow, none_linked}
 use Rattle.tx_rank.proofs.back_links.links_of.Goals as goal
 

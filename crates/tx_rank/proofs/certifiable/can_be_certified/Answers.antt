@@ -1,10 +1,5 @@
-use Rattle.std.proofs.Common.{◌≡◌, ◌↔◌, ℕ, List, Bool, Option, Some, None, true, false, is_some, not, refl, sym, subst}
+use Rattle.tx_rank.proofs.Common.{◌≡◌, ◌↔◌, ℕ, List, Bool, Option, Some, None, true, false, is_some, not, refl, sym, subst, Mark, Net, Walk, end_of, IsNet, Certifies, AreSettled, IsPassed, rank_in, IsShortAt, IsLongFound}
 use Rattle.std.proofs.lemmas.Bool.{true≢false}
-use Rattle.tx_rank.specs.declared.mark.Mark.{Mark}
-use Rattle.tx_rank.specs.Walks.{Net, Walk, end_of}
-use Rattle.tx_rank.specs.Nets.{IsNet, Certifies}
-use Rattle.tx_rank.specs.inner.Marks.{AreSettled, IsPassed, rank_in}
-use Rattle.tx_rank.specs.inner.Judged.{IsShortAt, IsLongFound}
 use Rattle.tx_rank.proofs.Walked.{short_at, short_true, certifies, certified_no_loop, certified_no_short, certified_no_long}
 use Rattle.tx_rank.proofs.certifiable.can_be_certified.Goals as goal
 

@@ -1,7 +1,4 @@
-use Rattle.std.proofs.Common.{◌≡◌, ◌<◌, ℕ, length, Some, subst, arith}
-use Rattle.tx_cert.specs.Certificate.{ranks_of}
-use Rattle.tx_rank.specs.Walks.{net_of}
-use Rattle.tx_rank.specs.Grades.{AreBounds, Suits}
+use Rattle.tx_rank.proofs.Common.{◌≡◌, ◌<◌, ℕ, length, Some, subst, arith, ranks_of, net_of, AreBounds, Suits}
 use Rattle.tx_rank.proofs.Bounding.{below_next, code_bounds}
 use Rattle.tx_rank.proofs.code_bounds.code_bounds.Goals as goal
 

@@ -1,6 +1,4 @@
-use Rattle.tx_cert.specs.Certificate.{ranks_of}
-use Rattle.tx_rank.specs.Walks.{net_of}
-use Rattle.tx_rank.specs.Grades.{AreBounds}
+use Rattle.tx_rank.proofs.Common.{ranks_of, net_of, AreBounds}
 use Rattle.tx_rank.proofs.Bounding.{SuitsBelow}
 use Rattle.tx_rank.proofs.code_bounds.code_bounds.Given as goal
 

@@ -1,10 +1,5 @@
-use Rattle.std.proofs.Common.{◌≡◌, ◌++◌, ◌∷◌, [], subst, sym, List}
+use Rattle.tx_rank.proofs.Common.{◌≡◌, ◌++◌, ◌∷◌, [], subst, sym, List, Finding, Long, rank_in, IsJudged, IsLongFound}
 use Rattle.tx_cert.specs.Certificate.{rank_at as ranked_at}
-use Rattle.tx_rank.specs.declared.finding.Finding.{Finding}
-use Rattle.tx_rank.specs.declared.finding.Finding.TheVariants.{Long}
-use Rattle.tx_rank.specs.inner.Marks.{rank_in}
-use Rattle.tx_rank.specs.Judged.{IsJudged}
-use Rattle.tx_rank.specs.inner.Judged.{IsLongFound}
 use Rattle.tx_rank.proofs.Judging.{judged_long, judged_none}
 use Rattle.tx_rank.proofs.code_ranking.judge_ranked.Goals as goal
 

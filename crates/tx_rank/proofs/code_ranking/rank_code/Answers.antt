@@ -1,11 +1,6 @@
-use Rattle.std.proofs.Common.{◌∙◌, ◌++◌, ◌∷◌, [], ap, subst, sym, List, refl}
+use Rattle.tx_rank.proofs.Common.{◌∙◌, ◌++◌, ◌∷◌, [], ap, subst, sym, List, refl, Finding, Loop, Walk, IsJudged, IsPassed}
 use Rattle.tx_cert.specs.Certificate.{rank_at as ranked_at}
-use Rattle.tx_rank.specs.declared.finding.Finding.{Finding}
-use Rattle.tx_rank.specs.declared.finding.Finding.TheVariants.{Loop}
-use Rattle.tx_rank.specs.Walks.{Walk}
-use Rattle.tx_rank.specs.Judged.{IsJudged}
 use Rattle.tx_rank.proofs.Judging.{judged_loop}
-use Rattle.tx_rank.specs.inner.Marks.{IsPassed}
 use Rattle.tx_rank.proofs.code_ranking.rank_code.Goals as goal
 
 pub returns-then-closed-clause-judged : goal.returns-then-closed-clause-judged

@@ -1,5 +1,4 @@
-use Rattle.std.proofs.Common.{◌≡◌, ◌+◌, ◌∙◌, Bool, List, sym, ap, subst, length, arith}
-use Rattle.tx_plan.specs.Routes.{is_origin}
+use Rattle.tx_rank.proofs.Common.{◌≡◌, ◌+◌, ◌∙◌, Bool, List, sym, ap, subst, length, arith, is_origin}
 use Rattle.tx_rank.proofs.Origins.{AreOriginsBelow, origins_next, origins_all}
 use Rattle.tx_rank.proofs.code_routes.origins_of.Goals as goal
 

@@ -1,5 +1,4 @@
-use Rattle.std.proofs.Common.{◌≡◌, ◌∙◌, ◌++◌, ap, sym, length, take, drop, arith}
-use Rattle.std.proofs.Math.Seq.{take-append_seam}
+use Rattle.tx_rank.proofs.Common.{◌≡◌, ◌∙◌, ◌++◌, ap, sym, length, take, drop, arith, take-append_seam}
 use Rattle.tx_rank.proofs.distances.distances_of.Goals as goal
 
 pub returns : goal.returns

@@ -1,7 +1,4 @@
-use Rattle.std.proofs.Common.{◌≡◌, ◌∙◌, sym, ap, subst, List, ℕ, length}
-use Rattle.tx_rank.specs.Walks.{end_of}
-use Rattle.tx_rank.specs.inner.Marks.{IsTried, IsOnward, IsTop}
-use Rattle.tx_rank.specs.declared.mark.Mark.{Mark}
+use Rattle.tx_rank.proofs.Common.{◌≡◌, ◌∙◌, sym, ap, subst, List, ℕ, length, end_of, IsTried, IsOnward, IsTop, Mark}
 use Rattle.tx_rank.proofs.explore.advance.Goals as goal
 
 pub look_on-requires-clause-long : goal.look_on-requires-clause-long

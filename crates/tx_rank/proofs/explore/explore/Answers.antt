@@ -1,5 +1,4 @@
-use Rattle.std.proofs.Common.{◌∙◌, refl, sym, subst, ℕ}
-use Rattle.tx_rank.specs.Walks.{IsLoop}
+use Rattle.tx_rank.proofs.Common.{◌∙◌, refl, sym, subst, ℕ, IsLoop}
 use Rattle.tx_rank.specs.inner.Marks.{IsAdvanced, IsTrail}
 use Rattle.tx_rank.specs.declared.explore.Progress.{Progress}
 use Rattle.tx_rank.proofs.Passes.{ends, goes_on}

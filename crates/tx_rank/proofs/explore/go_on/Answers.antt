@@ -1,11 +1,4 @@
-use Rattle.std.proofs.Common.{subst, sym, ap, ◌∙◌, ◌≡◌, List, [], ◌∷◌, ◌++◌, ℕ, Some, length, arith}
-use Rattle.std.specs.Prelude.{slice_get}
-use Rattle.tx_rank.specs.Walks.{IsLoop}
-use Rattle.tx_rank.specs.inner.Marks.{IsStep, IsTrail, rank_in}
-use Rattle.tx_rank.specs.declared.list_scan.Tried.{Tried}
-use Rattle.tx_rank.specs.declared.mark.Mark.{Mark}
-use Rattle.tx_rank.specs.declared.mark.Mark.TheVariants.{Unseen, Open}
-use Rattle.std.proofs.Math.ListN.{set}
+use Rattle.tx_rank.proofs.Common.{subst, sym, ap, ◌∙◌, ◌≡◌, List, [], ◌∷◌, ◌++◌, ℕ, Some, length, arith, slice_get, IsLoop, IsStep, IsTrail, rank_in, Tried, Mark, Unseen, Open, set}
 use Rattle.tx_rank.proofs.Turns.{closes, went_on}
 use Rattle.tx_rank.proofs.Trails.{trail_on}
 use Rattle.tx_rank.proofs.explore.go_on.Goals as goal

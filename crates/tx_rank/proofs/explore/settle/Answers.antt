@@ -1,7 +1,4 @@
-use Rattle.std.proofs.Common.{subst, sym, ◌≡◌, ◌+◌, refl, List, ℕ, suc, length, [], ◌∷◌, arith}
-use Rattle.tx_rank.specs.inner.Marks.{IsStep, IsEnd, IsTrail, Grew}
-use Rattle.tx_rank.specs.declared.mark.Mark.TheVariants.{Ranked}
-use Rattle.std.proofs.Math.ListN.{set}
+use Rattle.tx_rank.proofs.Common.{subst, sym, ◌≡◌, ◌+◌, refl, List, ℕ, suc, length, [], ◌∷◌, arith, IsStep, IsEnd, IsTrail, Grew, Ranked, set}
 use Rattle.tx_rank.proofs.Turns.{end_within, settled_back, settled_done}
 use Rattle.tx_rank.proofs.Trails.{trail_back}
 use Rattle.tx_rank.proofs.explore.settle.Goals as goal

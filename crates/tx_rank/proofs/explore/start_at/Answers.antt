@@ -1,7 +1,4 @@
-use Rattle.std.proofs.Common.{subst, sym, refl, List, ℕ}
-use Rattle.std.proofs.Math.ListN.{set}
-use Rattle.tx_rank.specs.inner.Marks.{IsMarked, IsInHand, IsTrail, Grew}
-use Rattle.tx_rank.specs.declared.mark.Mark.TheVariants.{Unseen, Open}
+use Rattle.tx_rank.proofs.Common.{subst, sym, refl, List, ℕ, set, IsMarked, IsInHand, IsTrail, Grew, Unseen, Open}
 use Rattle.tx_rank.proofs.Turns.{marks_open, hand_first, grew_set}
 use Rattle.tx_rank.proofs.Passes.{unseen_first, done_from}
 use Rattle.tx_rank.proofs.Trails.{trail_first}

@@ -1,6 +1,4 @@
-use Rattle.std.proofs.Common.{◌∙◌, sym, ap, List, length, arith}
-use Rattle.tx_rank.specs.inner.Marks.{rank_in}
-use Rattle.tx_rank.specs.declared.mark.Mark.{Mark}
+use Rattle.tx_rank.proofs.Common.{◌∙◌, sym, ap, List, length, arith, rank_in, Mark}
 use Rattle.tx_rank.proofs.Passes.{passing_skip, passing_from}
 use Rattle.tx_rank.proofs.explore.start_from.Goals as goal
 

@@ -1,5 +1,4 @@
-use Rattle.tx_text.proofs.Putting.{puts_none, puts_more, puts_all}
-use Rattle.tx_rank.specs.GradeText.{code_line}
+use Rattle.tx_rank.proofs.Common.{puts_none, puts_more, puts_all, code_line}
 use Rattle.tx_rank.proofs.grade_text.write_codes.Goals as goal
 
 pub loop-i-init : goal.loop-i-init

@@ -1,7 +1,4 @@
-use Rattle.std.proofs.Common.{take}
-use Rattle.std.specs.List.{flat_map}
-use Rattle.tx_text.specs.Puts.{Puts}
-use Rattle.tx_rank.specs.GradeText.{code_line}
+use Rattle.tx_rank.proofs.Common.{take, flat_map, Puts, code_line}
 use Rattle.tx_rank.proofs.grade_text.write_codes.Given as goal
 
 abbrev pub invariant-loop-i : goal.invariant-loop-i

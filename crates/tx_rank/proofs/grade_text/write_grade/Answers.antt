@@ -1,5 +1,4 @@
-use Rattle.tx_text.proofs.Writing.{some}
-use Rattle.tx_text.proofs.Putting.{puts_wrote, puts_then}
+use Rattle.tx_rank.proofs.Common.{some, puts_wrote, puts_then}
 use Rattle.tx_rank.proofs.grade_text.write_grade.Goals as goal
 
 pub returns : goal.returns

@@ -1,12 +1,4 @@
-use Rattle.std.proofs.Common.{◌≡◌, ◌≢◌, ◌∙◌, ◌+◌, ◌++◌, ◌∷◌, ℕ, List, Option, None, length, vec_len, [], sym, ap, subst, arith, eqb-true}
-use Rattle.std.proofs.lemmas.Bool.{eqb-false}
-use Rattle.tx_plan.specs.Ambiguous.{ambiguous_of}
-use Rattle.tx_cert.specs.Certificate.{rank_at}
-use Rattle.tx_rank.specs.declared.bounds.Bounds.{Bounds}
-use Rattle.tx_rank.specs.Walks.{net_of}
-use Rattle.tx_rank.specs.Findings.{pair_findings}
-use Rattle.tx_rank.specs.Judged.{IsJudged}
-use Rattle.tx_rank.specs.Grades.{IsGrade, CanBeCertifiedFor}
+use Rattle.tx_rank.proofs.Common.{◌≡◌, ◌≢◌, ◌∙◌, ◌+◌, ◌++◌, ◌∷◌, ℕ, List, Option, None, length, vec_len, [], sym, ap, subst, arith, eqb-true, eqb-false, ambiguous_of, rank_at, Bounds, net_of, pair_findings, IsJudged, IsGrade, CanBeCertifiedFor}
 use Rattle.tx_rank.proofs.Listing.{none_of, no_pair, ranked_first, ranked_next}
 use Rattle.tx_rank.proofs.Graded.{IsGradedBelow, graded_first, graded_none, graded_next, graded_plan, graded_codes, graded_listed, graded_true, graded_clean, graded_fails, graded_clear, graded_ranks}
 use Rattle.tx_rank.proofs.grading.grade.Goals as goal

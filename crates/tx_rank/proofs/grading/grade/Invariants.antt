@@ -1,5 +1,4 @@
-use Rattle.std.proofs.Common.{◌≤◌, length, vec_capacity}
-use Rattle.tx_rank.specs.inner.Judged.{IsRankedBelow}
+use Rattle.tx_rank.proofs.Common.{◌≤◌, length, vec_capacity, IsRankedBelow}
 use Rattle.tx_rank.proofs.Graded.{IsGradedBelow}
 use Rattle.tx_rank.proofs.grading.grade.Given as goal
 

@@ -1,5 +1,4 @@
-use Rattle.std.proofs.Common.{take}
-use Rattle.tx_rank.specs.inner.Marks.{IsTop, IsTried}
+use Rattle.tx_rank.proofs.Common.{take, IsTop, IsTried}
 use Rattle.tx_rank.proofs.list_scan.look_on.Given as goal
 
 abbrev pub invariant-loop-i : goal.invariant-loop-i

@@ -1,5 +1,4 @@
-use Rattle.std.proofs.Common.{◌∙◌, arith, sym, ap}
-use Rattle.tx_rank.specs.inner.Marks.{rank_in}
+use Rattle.tx_rank.proofs.Common.{◌∙◌, arith, sym, ap, rank_in}
 use Rattle.tx_rank.proofs.Walked.{long_true}
 use Rattle.tx_rank.proofs.long_walk.long_from.Goals as goal
 

@@ -1,5 +1,4 @@
-use Rattle.std.proofs.Common.{ℕ, ◌<◌, ◌≤◌, ◌+◌, ◌≡◌, true, Some}
-use Rattle.tx_rank.specs.inner.Marks.{rank_in}
+use Rattle.tx_rank.proofs.Common.{ℕ, ◌<◌, ◌≤◌, ◌+◌, ◌≡◌, true, Some, rank_in}
 use Rattle.tx_rank.proofs.long_walk.long_walk.Given as goal
 
 abbrev pub invariant-loop-index : goal.invariant-loop-index

@@ -1,5 +1,4 @@
-use Rattle.std.proofs.Common.{take, None}
-use Rattle.tx_rank.specs.inner.Marks.{rank_in, IsLower}
+use Rattle.tx_rank.proofs.Common.{take, None, rank_in, IsLower}
 use Rattle.tx_rank.proofs.long_walk.lower.Given as goal
 
 abbrev pub invariant-loop-i : goal.invariant-loop-i

@@ -1,5 +1,4 @@
-use Rattle.std.proofs.Common.{ap, sym, ◌-◌, subst, List, ℕ, arith, length, length-append, ◌++◌, ◌∷◌, [], ◌≡◌, ◌∙◌}
-use Rattle.tx_rank.specs.inner.Marks.{rank_in}
+use Rattle.tx_rank.proofs.Common.{ap, sym, ◌-◌, subst, List, ℕ, arith, length, length-append, ◌++◌, ◌∷◌, [], ◌≡◌, ◌∙◌, rank_in}
 use Rattle.tx_rank.proofs.Tracing.{IsDown, down_more, goes_down, down_none}
 use Rattle.tx_rank.proofs.long_walk.walk_down.Goals as goal
 

@@ -1,5 +1,4 @@
-use Rattle.std.proofs.Common.{◌≡◌, length}
-use Rattle.tx_rank.specs.inner.Marks.{rank_in}
+use Rattle.tx_rank.proofs.Common.{◌≡◌, length, rank_in}
 use Rattle.tx_rank.proofs.Tracing.{IsDown}
 use Rattle.tx_rank.proofs.long_walk.walk_down.Given as goal
 

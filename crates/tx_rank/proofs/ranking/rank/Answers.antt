@@ -1,6 +1,4 @@
-use Rattle.std.proofs.Common.{◌≢◌, ◌∙◌, sym, ap, length, vec_len, [], arith, eqb-true}
-use Rattle.std.proofs.lemmas.Bool.{eqb-false}
-use Rattle.tx_cert.specs.Certificate.{ranks_of}
+use Rattle.tx_rank.proofs.Common.{◌≢◌, ◌∙◌, sym, ap, length, vec_len, [], arith, eqb-true, eqb-false, ranks_of}
 use Rattle.tx_rank.proofs.Certifying.{none_true}
 use Rattle.tx_rank.proofs.Listing.{none_of, all_true, some_true}
 use Rattle.tx_rank.proofs.ranking.rank.Goals as goal

@@ -1,8 +1,4 @@
-use Rattle.std.proofs.Common.{◌≡◌, ◌∙◌, ℕ, subst, length, arith}
-use Rattle.tx_cert.specs.Certificate.{rank_at}
-use Rattle.tx_rank.specs.Walks.{net_of}
-use Rattle.tx_rank.specs.Judged.{IsJudged}
-use Rattle.tx_rank.specs.inner.Judged.{IsRankedBelow}
+use Rattle.tx_rank.proofs.Common.{◌≡◌, ◌∙◌, ℕ, subst, length, arith, rank_at, net_of, IsJudged, IsRankedBelow}
 use Rattle.tx_rank.proofs.Nets.{is_net}
 use Rattle.tx_rank.proofs.Listing.{ranked_first, ranked_next}
 use Rattle.tx_rank.proofs.ranking.rank_each.Goals as goal

@@ -1,5 +1,4 @@
-use Rattle.std.proofs.Common.{sym}
-use Rattle.tx_rank.specs.Walks.{net_of}
+use Rattle.tx_rank.proofs.Common.{sym, net_of}
 use Rattle.tx_rank.proofs.Nets.{is_net, leads_somewhere}
 use Rattle.tx_rank.proofs.Looks.{leads_within}
 use Rattle.tx_rank.proofs.reaching.far.Goals as goal

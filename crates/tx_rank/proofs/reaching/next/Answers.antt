@@ -1,5 +1,4 @@
-use Rattle.std.proofs.Common.{sym, ◌∙◌, arith}
-use Rattle.tx_rank.specs.Reached.{is_marked}
+use Rattle.tx_rank.proofs.Common.{sym, ◌∙◌, arith, is_marked}
 use Rattle.tx_rank.proofs.Marking.{at_within, waits, none_more}
 use Rattle.tx_rank.proofs.reaching.next.Goals as goal
 

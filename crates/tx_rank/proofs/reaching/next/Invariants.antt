@@ -1,5 +1,4 @@
-use Rattle.std.proofs.Common.{◌≡◌, ◌<◌, ℕ, true}
-use Rattle.tx_rank.specs.Reached.{is_marked}
+use Rattle.tx_rank.proofs.Common.{◌≡◌, ◌<◌, ℕ, true, is_marked}
 use Rattle.tx_rank.proofs.reaching.next.Given as goal
 
 abbrev pub invariant-loop-index : goal.invariant-loop-index

@@ -1,9 +1,4 @@
-use Rattle.std.proofs.Common.{◌==◌, ◌≤◌, ◌+◌, ℕ, length, take, true, sym, ap, subst, ◌∙◌}
-use Rattle.std.proofs.Math.ListN.{set}
-use Rattle.std.proofs.lemmas.Bool.{eqb-false}
-use Rattle.tx_plan.specs.Plan.{home_of}
-use Rattle.tx_plan.specs.Routes.{route_list}
-use Rattle.tx_rank.specs.Walks.{net_of}
+use Rattle.tx_rank.proofs.Common.{◌==◌, ◌≤◌, ◌+◌, ℕ, length, take, true, sym, ap, subst, ◌∙◌, set, eqb-false, home_of, route_list, net_of}
 use Rattle.tx_rank.proofs.Looks.{got_at, among_at}
 use Rattle.tx_rank.proofs.Marking.{IsOpening, opening_step, opening_all}
 use Rattle.tx_rank.proofs.reaching.open.Goals as goal

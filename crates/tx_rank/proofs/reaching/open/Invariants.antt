@@ -1,6 +1,4 @@
-use Rattle.std.proofs.Common.{take}
-use Rattle.tx_plan.specs.Routes.{route_list}
-use Rattle.tx_rank.specs.Walks.{net_of}
+use Rattle.tx_rank.proofs.Common.{take, route_list, net_of}
 use Rattle.tx_rank.proofs.Marking.{IsOpening}
 use Rattle.tx_rank.proofs.reaching.open.Given as goal
 

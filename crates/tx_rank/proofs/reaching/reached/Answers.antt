@@ -1,6 +1,4 @@
-use Rattle.std.proofs.Common.{◌≡◌, ◌∙◌, false, length, drop, ap, sym, arith}
-use Rattle.tx_rank.specs.Walks.{net_of}
-use Rattle.tx_rank.specs.Reached.{is_marked}
+use Rattle.tx_rank.proofs.Common.{◌≡◌, ◌∙◌, false, length, drop, ap, sym, arith, net_of, is_marked}
 use Rattle.tx_rank.proofs.Marking.{left_less, put_back, marking_none, marking_more, marking_all}
 use Rattle.tx_rank.proofs.reaching.reached.Goals as goal
 

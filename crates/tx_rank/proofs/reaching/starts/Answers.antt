@@ -1,5 +1,4 @@
-use Rattle.std.proofs.Common.{◌∙◌, ℕ, ap, arith}
-use Rattle.tx_plan.specs.Routes.{is_origin_for}
+use Rattle.tx_rank.proofs.Common.{◌∙◌, ℕ, ap, arith, is_origin_for}
 use Rattle.tx_rank.proofs.Nets.{is_net}
 use Rattle.tx_rank.proofs.Marking.{origins_next, origins_seen}
 use Rattle.tx_rank.proofs.reaching.starts.Goals as goal

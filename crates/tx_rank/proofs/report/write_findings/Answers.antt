@@ -1,5 +1,4 @@
-use Rattle.tx_text.proofs.Putting.{puts_none, puts_then, puts_more, puts_all}
-use Rattle.tx_rank.specs.Report.{finding_line}
+use Rattle.tx_rank.proofs.Common.{puts_none, puts_then, puts_more, puts_all, finding_line}
 use Rattle.tx_rank.proofs.report.write_findings.Goals as goal
 
 pub loop-i-init : goal.loop-i-init

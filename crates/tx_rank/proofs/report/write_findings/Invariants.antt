@@ -1,7 +1,4 @@
-use Rattle.std.proofs.Common.{take}
-use Rattle.std.specs.List.{flat_map}
-use Rattle.tx_text.specs.Puts.{Puts}
-use Rattle.tx_rank.specs.Report.{finding_line}
+use Rattle.tx_rank.proofs.Common.{take, flat_map, Puts, finding_line}
 use Rattle.tx_rank.proofs.report.write_findings.Given as goal
 
 abbrev pub invariant-loop-i : goal.invariant-loop-i

@@ -1,5 +1,4 @@
-use Rattle.tx_text.proofs.Putting.{puts_none, puts_then, puts_more, puts_all}
-use Rattle.tx_rank.specs.Report.{step_text}
+use Rattle.tx_rank.proofs.Common.{puts_none, puts_then, puts_more, puts_all, step_text}
 use Rattle.tx_rank.proofs.report.write_steps.Goals as goal
 
 pub returns : goal.returns

@@ -1,5 +1,4 @@
-use Rattle.std.proofs.Common.{arith}
-use Rattle.std.proofs.lemmas.Bool.{ne_eqb}
+use Rattle.tx_rank.proofs.Common.{arith, ne_eqb}
 use Rattle.tx_rank.proofs.report.write_verdict.Goals as goal
 
 pub returns-else-count-eq0 : goal.returns-else-count-eq0

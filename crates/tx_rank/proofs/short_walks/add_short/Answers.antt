@@ -1,6 +1,4 @@
-use Rattle.std.proofs.Common.{◌∙◌, sym, subst, ◌+◌, rules, arith}
-use Rattle.tx_rank.specs.inner.Marks.{rank_in}
-use Rattle.tx_rank.specs.inner.Judged.{IsShortAt, AddsBelow}
+use Rattle.tx_rank.proofs.Common.{◌∙◌, sym, subst, ◌+◌, rules, arith, rank_in, IsShortAt, AddsBelow}
 use Rattle.tx_rank.proofs.Adding.{below_skip, below_more}
 use Rattle.tx_rank.proofs.short_walks.add_short.Goals as goal
 

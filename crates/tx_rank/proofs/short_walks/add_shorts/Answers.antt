@@ -1,5 +1,4 @@
-use Rattle.std.proofs.Common.{◌≡◌, arith, rules}
-use Rattle.tx_rank.specs.inner.Marks.{rank_in}
+use Rattle.tx_rank.proofs.Common.{◌≡◌, arith, rules, rank_in}
 use Rattle.tx_rank.proofs.Adding.{below_none, below_all, none_short}
 use Rattle.tx_rank.proofs.short_walks.add_shorts.Goals as goal
 

@@ -1,6 +1,4 @@
-use Rattle.std.proofs.Common.{ℕ, ◌<◌}
-use Rattle.tx_rank.specs.inner.Marks.{rank_in}
-use Rattle.tx_rank.specs.inner.Judged.{IsShortAt}
+use Rattle.tx_rank.proofs.Common.{ℕ, ◌<◌, rank_in, IsShortAt}
 use Rattle.tx_rank.proofs.short_walks.has_short.Given as goal
 
 abbrev pub invariant-loop-index : goal.invariant-loop-index

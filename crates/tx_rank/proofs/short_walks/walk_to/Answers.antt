@@ -1,5 +1,4 @@
-use Rattle.std.proofs.Common.{sym, ◌∙◌, subst, List, ℕ, arith}
-use Rattle.tx_rank.specs.inner.Marks.{rank_in}
+use Rattle.tx_rank.proofs.Common.{sym, ◌∙◌, subst, List, ℕ, arith, rank_in}
 use Rattle.tx_rank.proofs.Tracing.{IsBack, back_within, back_more, back_smaller, is_linked, no_link, back_none}
 use Rattle.tx_rank.proofs.short_walks.walk_to.Goals as goal
 

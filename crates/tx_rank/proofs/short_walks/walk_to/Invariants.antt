@@ -1,5 +1,4 @@
-use Rattle.std.proofs.Common.{◌-◌, ◌*◌, unwrap_or}
-use Rattle.tx_rank.specs.inner.Marks.{rank_in}
+use Rattle.tx_rank.proofs.Common.{◌-◌, ◌*◌, unwrap_or, rank_in}
 use Rattle.tx_rank.proofs.Tracing.{IsBack}
 use Rattle.tx_rank.proofs.short_walks.walk_to.Given as goal
 

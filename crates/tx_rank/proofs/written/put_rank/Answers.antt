@@ -1,7 +1,6 @@
-use Rattle.std.proofs.Common.{◌∙◌, ap, sym}
+use Rattle.tx_rank.proofs.Common.{◌∙◌, ap, sym, rank_in}
 use Rattle.tx_cert.specs.Certificate.{rank_at as ranked_at, with_rank}
 use Rattle.tx_cert.proofs.Ranks.{rank_here, rank_there}
-use Rattle.tx_rank.specs.inner.Marks.{rank_in}
 use Rattle.tx_rank.proofs.written.put_rank.Goals as goal
 
 pub returns-in-Some-clause-others : goal.returns-in-Some-clause-others

@@ -1,10 +1,4 @@
-use Rattle.std.proofs.Common.{◌+◌, refl, subst, sym, ap, ◌∙◌}
-use Rattle.std.proofs.lemmas.Bool.{both_ways}
-use Rattle.tx_risk.specs.declared.cut.Cut.{Cut}
-use Rattle.tx_risk.specs.declared.nearest.Ways.{Ways}
-use Rattle.tx_risk.specs.inner.Left.{Left, IsLeft, gone, left_net}
-use Rattle.tx_risk.specs.inner.Nearest.{AreWaysFrom, ways_in}
-use Rattle.tx_risk.specs.inner.Cutting.{Adds, AreCutsBefore}
+use Rattle.tx_risk.proofs.Common.{◌+◌, refl, subst, sym, ap, ◌∙◌, both_ways, Cut, Ways, Left, IsLeft, gone, left_net, AreWaysFrom, ways_in, Adds, AreCutsBefore}
 use Rattle.tx_risk.proofs.Ordering.{some_of, none_of}
 use Rattle.tx_risk.proofs.AddedCuts.{none_cut, cut_as, graded_once, before_skip, before_more, asked_origin, asked_reached}
 use Rattle.tx_risk.proofs.cutting.add_cut.Goals as goal

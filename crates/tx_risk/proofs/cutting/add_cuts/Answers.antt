@@ -1,11 +1,4 @@
-use Rattle.std.proofs.Common.{◌≡◌, ◌+◌, ◌∙◌, [], length, not, sym, ap, subst, arith, append-nil}
-use Rattle.std.specs.List.{list_any}
-use Rattle.tx_plan.specs.Among.{Among}
-use Rattle.tx_cert.specs.Certificate.{ranks_of}
-use Rattle.tx_risk.specs.Outages.{fails_at}
-use Rattle.tx_risk.specs.inner.Left.{left_net}
-use Rattle.tx_risk.specs.inner.Nearest.{AreDeadEnds}
-use Rattle.tx_risk.specs.inner.Cutting.{Adds, AreCutsBefore}
+use Rattle.tx_risk.proofs.Common.{◌≡◌, ◌+◌, ◌∙◌, [], length, not, sym, ap, subst, arith, append-nil, list_any, Among, ranks_of, fails_at, left_net, AreDeadEnds, Adds, AreCutsBefore}
 use Rattle.tx_risk.proofs.AddedCuts.{before_none, before_all, asked_within}
 use Rattle.tx_risk.proofs.Unhit.{unhit, emptied_dead}
 use Rattle.tx_risk.proofs.cutting.add_cuts.Goals as goal

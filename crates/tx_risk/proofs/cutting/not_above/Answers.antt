@@ -1,11 +1,4 @@
-use Rattle.std.proofs.Common.{ℕ, not, sym, ap, subst, rules}
-use Rattle.std.proofs.lemmas.List.Sorted.{IsPartitionPoint-from_clause}
-use Rattle.tx_cert.specs.Certificate.{ranks_of}
-use Rattle.tx_rank.specs.Walks.{net_of}
-use Rattle.tx_rank.proofs.Ranks.{Falls}
-use Rattle.tx_rank.proofs.Certifying.{certifies_code}
-use Rattle.tx_risk.specs.inner.Left.{Left, IsLeft, gone, left_net}
-use Rattle.tx_risk.specs.inner.Orders.{IsByRank, is_above}
+use Rattle.tx_risk.proofs.Common.{ℕ, not, sym, ap, subst, rules, IsPartitionPoint-from_clause, ranks_of, net_of, Falls, certifies_code, Left, IsLeft, gone, left_net, IsByRank, is_above}
 use Rattle.tx_risk.proofs.Ordering.{falls_left, above_last, only_dead_ends}
 use Rattle.tx_risk.proofs.cutting.not_above.Goals as goal
 

@@ -1,10 +1,4 @@
-use Rattle.std.proofs.Common.{◌≡◌, true, false, not, ◌∷◌, None, inl, refl, sym, ap, ◌∙◌, subst}
-use Rattle.std.proofs.lemmas.Bool.{both_ways}
-use Rattle.std.specs.Prelude.{is_none}
-use Rattle.std.specs.List.{list_any}
-use Rattle.tx_plan.specs.Plan.{group_named}
-use Rattle.tx_plan.specs.Declaring.{has_group}
-use Rattle.tx_machine.proofs.Lists.{none_any}
+use Rattle.tx_risk.proofs.Common.{◌≡◌, true, false, not, ◌∷◌, None, inl, refl, sym, ap, ◌∙◌, subst, both_ways, is_none, list_any, group_named, has_group, none_any}
 use Rattle.tx_risk.proofs.GroupWords.{unknown_is}
 use Rattle.tx_risk.proofs.declaring.groups_of.Goals as goal
 

@@ -1,6 +1,4 @@
-use Rattle.std.proofs.Common.{◌≡◌, false, not, ◌++◌, map, length}
-use Rattle.std.specs.List.{list_any}
-use Rattle.tx_plan.specs.Declaring.{has_group, group_at}
+use Rattle.tx_risk.proofs.Common.{◌≡◌, false, not, ◌++◌, map, length, list_any, has_group, group_at}
 use Rattle.tx_risk.proofs.declaring.groups_of.Given as goal
 
 abbrev pub invariant-loop-word : goal.invariant-loop-word

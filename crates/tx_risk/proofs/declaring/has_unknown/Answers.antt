@@ -1,8 +1,5 @@
-use Rattle.std.specs.Prelude.{not}
-use Rattle.std.proofs.Common.{rules, tests, refl}
-use Rattle.std.proofs.lemmas.Iterator.Search.{any_from_yields_List}
+use Rattle.tx_risk.proofs.Common.{not, rules, tests, refl, any_from_yields_List, has_group}
 use Rattle.std.proofs.lemmas.Iterator.Consumers.{YieldsList-from_first}
-use Rattle.tx_plan.specs.Declaring.{has_group}
 use Rattle.tx_risk.proofs.GroupWords.{unknown_is}
 use Rattle.tx_risk.proofs.declaring.has_unknown.Goals as goal
 

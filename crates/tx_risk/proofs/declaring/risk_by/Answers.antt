@@ -1,5 +1,4 @@
-use Rattle.std.proofs.Common.{rules}
-use Rattle.tx_text.proofs.Exits.{exits_with}
+use Rattle.tx_risk.proofs.Common.{rules, exits_with}
 use Rattle.tx_risk.specs.declared.fault.RiskWord.TheVariants.{NoMemory}
 use Rattle.tx_risk.proofs.declaring.risk_by.Goals as goal
 

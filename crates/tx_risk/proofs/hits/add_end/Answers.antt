@@ -1,8 +1,4 @@
-use Rattle.std.proofs.Common.{◌≡◌, ◌==◌, true, ◌∷◌, [], inl, refl, sym, subst, ap, ◌∙◌, eqb-true}
-use Rattle.std.specs.List.{list_any}
-use Rattle.tx_plan.specs.Among.{Among}
-use Rattle.tx_plan.proofs.Among.{among_left, among_right}
-use Rattle.tx_machine.proofs.Lists.{any_mem}
+use Rattle.tx_risk.proofs.Common.{◌≡◌, ◌==◌, true, ◌∷◌, [], inl, refl, sym, subst, ap, ◌∙◌, eqb-true, list_any, Among, among_left, among_right, any_mem}
 use Rattle.tx_risk.proofs.hits.add_end.Goals as goal
 
 pub returns-then-has_end-clause-added : goal.returns-then-has_end-clause-added

@@ -1,6 +1,4 @@
-use Rattle.std.proofs.Common.{sym, ap, ◌∙◌}
-use Rattle.tx_plan.specs.Circuits.{ends_of}
-use Rattle.tx_risk.specs.inner.Marked.{marked}
+use Rattle.tx_risk.proofs.Common.{sym, ap, ◌∙◌, ends_of, marked}
 use Rattle.tx_risk.proofs.Unhit.{ends_skip, ends_more}
 use Rattle.tx_risk.proofs.hits.add_ends.Goals as goal
 

@@ -1,6 +1,4 @@
-use Rattle.std.proofs.Common.{◌∷◌, ◌++◌, [], ◌∙◌, ℕ, List, Vec, sym, ap, filter, arith}
-use Rattle.std.proofs.lemmas.List.{take_all}
-use Rattle.tx_risk.specs.inner.Hits.{is_emptied}
+use Rattle.tx_risk.proofs.Common.{◌∷◌, ◌++◌, [], ◌∙◌, ℕ, List, Vec, sym, ap, filter, arith, take_all, is_emptied}
 use Rattle.tx_risk.proofs.Kept.{kept_next, passed_next}
 use Rattle.tx_risk.proofs.hits.emptied.Goals as goal
 use Rattle.tx_risk.proofs.hits.emptied.Goals.{then-is_emptied+in_ok-push, else-is_emptied}

@@ -1,5 +1,4 @@
-use Rattle.tx_risk.specs.inner.Marked.{marked}
-use Rattle.tx_risk.specs.inner.Hits.{AreEnds}
+use Rattle.tx_risk.proofs.Common.{marked, AreEnds}
 use Rattle.tx_risk.proofs.hits.ends_of.Given as goal
 
 abbrev pub invariant-loop-index : goal.invariant-loop-index

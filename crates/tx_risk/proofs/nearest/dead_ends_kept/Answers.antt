@@ -1,11 +1,4 @@
-use Rattle.std.proofs.Common.{◌+◌, ◌∙◌, ℕ, List, ap, take, refl, sym, subst, arith}
-use Rattle.std.specs.Prelude.{replicate}
-use Rattle.std.proofs.Math.ListN.{set}
-use Rattle.std.proofs.lemmas.List.{take_all}
-use Rattle.tx_rank.proofs.Looks.{got_at, among_at}
-use Rattle.tx_plan.proofs.ByIndex.{take_next}
-use Rattle.tx_risk.specs.inner.Left.{left_net}
-use Rattle.tx_risk.specs.inner.Nearest.{AreDeadEndsKept, home_alone, dead_end_alone}
+use Rattle.tx_risk.proofs.Common.{◌+◌, ◌∙◌, ℕ, List, ap, take, refl, sym, subst, arith, replicate, set, take_all, got_at, among_at, take_next, left_net, AreDeadEndsKept, home_alone, dead_end_alone}
 use Rattle.tx_risk.proofs.Measuring.{marks_first, marks_next}
 use Rattle.tx_risk.proofs.nearest.dead_ends_kept.Goals as goal
 

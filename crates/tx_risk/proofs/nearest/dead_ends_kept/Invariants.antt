@@ -1,6 +1,4 @@
-use Rattle.std.proofs.Common.{take}
-use Rattle.tx_risk.specs.inner.Left.{left_net}
-use Rattle.tx_risk.specs.inner.Nearest.{AreDeadEndsKept}
+use Rattle.tx_risk.proofs.Common.{take, left_net, AreDeadEndsKept}
 use Rattle.tx_risk.proofs.nearest.dead_ends_kept.Given as goal
 
 abbrev pub invariant-loop-end : goal.invariant-loop-end

@@ -1,16 +1,4 @@
-use Rattle.std.proofs.Common.{◌≡◌, ◌≢◌, ◌+◌, ◌∙◌, ℕ, List, Vec, Some, not, refl, sym, ap, subst, arith}
-use Rattle.std.proofs.Math.ListN.{set}
-use Rattle.std.proofs.lemmas.List.{take_all}
-use Rattle.tx_plan.specs.Among.{Among}
-use Rattle.tx_plan.specs.Routes.{route_list}
-use Rattle.tx_plan.proofs.Among.{filter_among}
-use Rattle.tx_rank.specs.Walks.{net_of}
-use Rattle.tx_rank.proofs.Looks.{got_at, among_at}
-use Rattle.tx_rank.proofs.Nets.{is_net}
-use Rattle.tx_risk.specs.declared.nearest.Ways.{Ways}
-use Rattle.tx_risk.specs.declared.nearest.Step.{Step}
-use Rattle.tx_risk.specs.inner.Left.{Left, IsLeft, gone, left_net}
-use Rattle.tx_risk.specs.inner.Nearest.{nearest_step, has_way_home}
+use Rattle.tx_risk.proofs.Common.{◌≡◌, ◌≢◌, ◌+◌, ◌∙◌, ℕ, List, Vec, Some, not, refl, sym, ap, subst, arith, set, take_all, Among, route_list, filter_among, net_of, got_at, among_at, is_net, Ways, Step, Left, IsLeft, gone, left_net, nearest_step, has_way_home}
 use Rattle.tx_risk.proofs.Ordering.{leads_left}
 use Rattle.tx_risk.proofs.LeftLists.{listed_away}
 use Rattle.tx_risk.proofs.Measuring.{AreKept, nearest_is, kept_first, kept_step, kept_same, few_steps}

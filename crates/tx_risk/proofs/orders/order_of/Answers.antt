@@ -1,10 +1,5 @@
-use Rattle.std.proofs.Common.{subst, rules}
-use Rattle.std.specs.Prelude.{IsPermutation}
+use Rattle.tx_risk.proofs.Common.{subst, rules, IsPermutation, ranks_of, net_of, is_net, rank_or_0}
 use Rattle.std.proofs.lemmas.List.Sorted.{IsNonDecreasingBy-from_sort_by_key}
-use Rattle.tx_cert.specs.Certificate.{ranks_of}
-use Rattle.tx_rank.specs.Walks.{net_of}
-use Rattle.tx_rank.proofs.Nets.{is_net}
-use Rattle.tx_risk.specs.inner.Orders.{rank_or_0}
 use Rattle.tx_risk.proofs.Ordering.{by_rank, are_ranked}
 use Rattle.tx_risk.proofs.orders.order_of.Goals as goal
 

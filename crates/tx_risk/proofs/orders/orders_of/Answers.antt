@@ -1,10 +1,4 @@
-use Rattle.std.proofs.Common.{◌≡◌, ◌+◌, ◌<◌, ◌∷◌, [], ◌∙◌, inl, inr, sym, ap, subst, length, length-append, arith}
-use Rattle.std.specs.Prelude.{slice_get}
-use Rattle.tx_cert.specs.Certificate.{ranks_of}
-use Rattle.tx_rank.specs.Walks.{net_of}
-use Rattle.tx_rank.proofs.Origins.{at_push}
-use Rattle.tx_rank.proofs.Certifying.{certifies_code}
-use Rattle.tx_risk.specs.inner.Orders.{IsOrder, IsByRank}
+use Rattle.tx_risk.proofs.Common.{◌≡◌, ◌+◌, ◌<◌, ◌∷◌, [], ◌∙◌, inl, inr, sym, ap, subst, length, length-append, arith, slice_get, ranks_of, net_of, at_push, certifies_code, IsOrder, IsByRank}
 use Rattle.tx_risk.proofs.orders.orders_of.Goals as goal
 
 pub order_of-requires-clause-certified : goal.order_of-requires-clause-certified

@@ -1,8 +1,4 @@
-use Rattle.std.proofs.Common.{◌≡◌, ℕ, ◌≤◌, length, Some, vec_capacity}
-use Rattle.std.specs.Prelude.{slice_get, Vec}
-use Rattle.tx_rank.specs.Walks.{net_of}
-use Rattle.tx_cert.specs.Certificate.{ranks_of}
-use Rattle.tx_risk.specs.inner.Orders.{IsOrder, IsByRank}
+use Rattle.tx_risk.proofs.Common.{◌≡◌, ℕ, ◌≤◌, length, Some, vec_capacity, slice_get, Vec, net_of, ranks_of, IsOrder, IsByRank}
 use Rattle.tx_risk.proofs.orders.orders_of.Given as goal
 
 abbrev pub invariant-loop-index : goal.invariant-loop-index

@@ -1,6 +1,4 @@
-use Rattle.std.proofs.Common.{◌≡◌, ◌∷◌, ◌∙◌, ℕ, Bool, List, [], ◌++◌, sym, ap, length, is_some, filter, Vec, vec_len, vec_capacity, arith}
-use Rattle.std.specs.List.{range_with_len}
-use Rattle.tx_cert.specs.Certificate.{ranks_of}
+use Rattle.tx_risk.proofs.Common.{◌≡◌, ◌∷◌, ◌∙◌, ℕ, Bool, List, [], ◌++◌, sym, ap, length, is_some, filter, Vec, vec_len, vec_capacity, arith, range_with_len, ranks_of}
 use Rattle.tx_risk.proofs.Kept.{kept_more, passed_more}
 use Rattle.tx_risk.proofs.orders.ranked.Goals as goal
 use Rattle.tx_risk.proofs.orders.ranked.Goals.{then-is_some, else-is_some}

@@ -1,6 +1,4 @@
-use Rattle.std.proofs.Common.{◌≡◌, ◌≤◌, filter, is_some, length, vec_len, vec_capacity}
-use Rattle.std.specs.List.{range_with_len}
-use Rattle.tx_cert.specs.Certificate.{ranks_of}
+use Rattle.tx_risk.proofs.Common.{◌≡◌, ◌≤◌, filter, is_some, length, vec_len, vec_capacity, range_with_len, ranks_of}
 use Rattle.tx_risk.proofs.orders.ranked.Given as goal
 
 abbrev pub invariant-loop-index : goal.invariant-loop-index

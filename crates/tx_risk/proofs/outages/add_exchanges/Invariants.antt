@@ -1,6 +1,4 @@
-use Rattle.std.proofs.Common.{◌≡◌, ◌++◌, map}
-use Rattle.std.specs.List.{range_with_len}
-use Rattle.tx_risk.specs.declared.outage.Outage.TheVariants.{Exchange}
+use Rattle.tx_risk.proofs.Common.{◌≡◌, ◌++◌, map, range_with_len, Exchange}
 use Rattle.tx_risk.proofs.outages.add_exchanges.Given as goal
 
 abbrev pub invariant-loop-index : goal.invariant-loop-index

@@ -1,6 +1,4 @@
-use Rattle.std.proofs.Common.{◌≡◌, ◌++◌, ◌∙◌, map, length, ap, sym, append-nil, arith}
-use Rattle.std.specs.List.{range_with_len}
-use Rattle.tx_risk.specs.declared.outage.Outage.TheVariants.{Group}
+use Rattle.tx_risk.proofs.Common.{◌≡◌, ◌++◌, ◌∙◌, map, length, ap, sym, append-nil, arith, range_with_len, Group}
 use Rattle.tx_risk.proofs.AddedOutages.{mapped_next}
 use Rattle.tx_risk.proofs.outages.add_groups.Goals as goal
 

@@ -1,6 +1,4 @@
-use Rattle.std.proofs.Common.{◌≡◌, ◌++◌, ◌∙◌, map, length, refl, ap, sym, append-nil, arith}
-use Rattle.std.specs.List.{range_with_len}
-use Rattle.tx_risk.specs.declared.outage.Outage.TheVariants.{Named}
+use Rattle.tx_risk.proofs.Common.{◌≡◌, ◌++◌, ◌∙◌, map, length, refl, ap, sym, append-nil, arith, range_with_len, Named}
 use Rattle.tx_risk.proofs.AddedOutages.{mapped_next}
 use Rattle.tx_risk.proofs.outages.add_named.Goals as goal
 

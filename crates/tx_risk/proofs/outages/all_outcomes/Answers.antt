@@ -1,9 +1,4 @@
-use Rattle.std.proofs.Common.{◌<◌, ◌≤◌, ◌∙◌, length, refl, sym, subst, arith}
-use Rattle.std.specs.List.{AllByRecursion}
-use Rattle.std.proofs.lemmas.List.{take_all}
-use Rattle.std.proofs.lemmas.Option.{slice_get_read}
-use Rattle.tx_plan.proofs.ByIndex.{all_at}
-use Rattle.tx_risk.specs.declared.cut.Outcome.{Outcome}
+use Rattle.tx_risk.proofs.Common.{◌<◌, ◌≤◌, ◌∙◌, length, refl, sym, subst, arith, AllByRecursion, take_all, slice_get_read, all_at, Outcome}
 use Rattle.tx_risk.proofs.AddedOutages.{IsKnown, outcomes_next, outage_known, all_known}
 use Rattle.tx_risk.proofs.outages.all_outcomes.Goals as goal
 

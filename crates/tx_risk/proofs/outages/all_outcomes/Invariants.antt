@@ -1,6 +1,4 @@
-use Rattle.std.proofs.Common.{◌≡◌, map, take}
-use Rattle.std.specs.List.{AllByRecursion}
-use Rattle.tx_risk.specs.Outages.{IsOutcome}
+use Rattle.tx_risk.proofs.Common.{◌≡◌, map, take, AllByRecursion, IsOutcome}
 use Rattle.tx_risk.proofs.outages.all_outcomes.Given as goal
 
 abbrev pub invariant-loop-i : goal.invariant-loop-i

@@ -1,14 +1,4 @@
-use Rattle.std.proofs.Common.{◌≡◌, ◌<◌, ◌∙◌, Some, sym, ap, subst, length, arith}
-use Rattle.std.specs.Prelude.{slice_get}
-use Rattle.std.proofs.lemmas.Option.{slice_get-get_or}
-use Rattle.tx_cert.specs.Certificate.{ranks_of}
-use Rattle.tx_rank.specs.Walks.{net_of}
-use Rattle.tx_risk.specs.Outages.{risk_of, AreCutsBelow, AreCutsOfCode}
-use Rattle.tx_risk.specs.inner.Left.{Left, left_net}
-use Rattle.tx_risk.specs.inner.Orders.{IsOrder, IsByRank}
-use Rattle.tx_risk.specs.inner.Cutting.{Adds}
-use Rattle.tx_risk.specs.inner.Marked.{marked}
-use Rattle.tx_risk.specs.inner.Hits.{AreEnds, TakesItsGroups}
+use Rattle.tx_risk.proofs.Common.{◌≡◌, ◌<◌, ◌∙◌, Some, sym, ap, subst, length, arith, slice_get, slice_get-get_or, ranks_of, net_of, risk_of, AreCutsBelow, AreCutsOfCode, Left, left_net, IsOrder, IsByRank, Adds, marked, AreEnds, TakesItsGroups}
 use Rattle.tx_risk.proofs.Marking.{same_risk}
 use Rattle.tx_risk.proofs.Ordering.{order_left}
 use Rattle.tx_risk.proofs.Unhit.{takes}

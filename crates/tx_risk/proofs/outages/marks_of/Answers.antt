@@ -1,5 +1,4 @@
-use Rattle.std.proofs.Common.{◌≡◌, ◌+◌, ◌∙◌, sym, ap, subst, length, arith}
-use Rattle.tx_risk.specs.Outages.{risk_of}
+use Rattle.tx_risk.proofs.Common.{◌≡◌, ◌+◌, ◌∙◌, sym, ap, subst, length, arith, risk_of}
 use Rattle.tx_risk.proofs.Marking.{AreMarksBelow, marks_first, marks_next, marks_all}
 use Rattle.tx_risk.proofs.outages.marks_of.Goals as goal
 

@@ -1,5 +1,4 @@
-use Rattle.std.proofs.Common.{◌≤◌, length, vec_capacity}
-use Rattle.tx_risk.specs.Outages.{risk_of}
+use Rattle.tx_risk.proofs.Common.{◌≤◌, length, vec_capacity, risk_of}
 use Rattle.tx_risk.proofs.Marking.{AreMarksBelow}
 use Rattle.tx_risk.proofs.outages.marks_of.Given as goal
 

@@ -1,6 +1,4 @@
-use Rattle.std.proofs.Common.{◌≡◌, ◌++◌, ◌∙◌, map, length, ap, sym, append_assoc, append-nil}
-use Rattle.std.specs.List.{range_with_len}
-use Rattle.tx_risk.specs.declared.outage.Outage.TheVariants.{Group, Exchange, Named}
+use Rattle.tx_risk.proofs.Common.{◌≡◌, ◌++◌, ◌∙◌, map, length, ap, sym, append_assoc, append-nil, range_with_len, Group, Exchange, Named}
 use Rattle.tx_risk.proofs.outages.outages_of.Goals as goal
 
 pub returns-then-named_only : goal.returns-then-named_only

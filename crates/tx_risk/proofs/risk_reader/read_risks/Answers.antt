@@ -1,8 +1,5 @@
-use Rattle.std.proofs.Common.{[], Ok, Err, codes, subst}
-use Rattle.tx_text.specs.Told.{AtEnd}
+use Rattle.tx_risk.proofs.Common.{[], Ok, Err, codes, subst, AtEnd, exits_with, AreRisksFor}
 use Rattle.tx_text.proofs.Beside.{answers_beside, kept_beside}
-use Rattle.tx_text.proofs.Exits.{exits_with}
-use Rattle.tx_risk.specs.NamedRisks.{AreRisksFor}
 use Rattle.tx_risk.specs.RiskText.{declare, is_memory}
 use Rattle.tx_risk.proofs.risk_reader.read_risks.Goals as goal
 

@@ -1,5 +1,4 @@
-use Rattle.std.proofs.Common.{ℕ, Option, ◌∙◌, ap, sym, append-nil, Vec}
-use Rattle.tx_plan.specs.Plan.{group_name, group_named}
+use Rattle.tx_risk.proofs.Common.{ℕ, Option, ◌∙◌, ap, sym, append-nil, Vec, group_name, group_named}
 use Rattle.tx_risk.proofs.RisksIn.{found_next}
 use Rattle.tx_risk.proofs.risks.groups_over.Goals as goal
 use Rattle.tx_risk.proofs.risks.groups_over.Goals.{in-Some+in_ok-push-in-Some, in-None}

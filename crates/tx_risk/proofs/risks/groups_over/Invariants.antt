@@ -1,6 +1,4 @@
-use Rattle.std.proofs.Common.{◌≡◌, take}
-use Rattle.std.specs.List.{filter_map}
-use Rattle.tx_plan.specs.Plan.{group_name, group_named}
+use Rattle.tx_risk.proofs.Common.{◌≡◌, take, filter_map, group_name, group_named}
 use Rattle.tx_risk.proofs.risks.groups_over.Given as goal
 
 abbrev pub invariant-loop-i : goal.invariant-loop-i

@@ -1,8 +1,4 @@
-use Rattle.std.proofs.Common.{◌≡◌, ℕ, List, length, Some, sym, ap, ◌∙◌, refl, subst, arith}
-use Rattle.std.specs.Prelude.{unwrap_or}
-use Rattle.tx_risk.specs.Risks.{IsDeadEnd}
-use Rattle.tx_risk.specs.inner.Left.{left_net}
-use Rattle.tx_risk.specs.inner.Nearest.{distance_in}
+use Rattle.tx_risk.proofs.Common.{◌≡◌, ℕ, List, length, Some, sym, ap, ◌∙◌, refl, subst, arith, unwrap_or, IsDeadEnd, left_net, distance_in}
 use Rattle.tx_risk.proofs.Descending.{IsDescent, nearer, descent_on, descent_ends}
 use Rattle.tx_risk.proofs.Measuring.{nearest_is}
 use Rattle.tx_risk.proofs.shortest.walk_from.Goals as goal

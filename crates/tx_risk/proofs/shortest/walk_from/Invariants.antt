@@ -1,6 +1,4 @@
-use Rattle.std.specs.Prelude.{unwrap_or}
-use Rattle.tx_risk.specs.inner.Left.{left_net}
-use Rattle.tx_risk.specs.inner.Nearest.{distance_in}
+use Rattle.tx_risk.proofs.Common.{unwrap_or, left_net, distance_in}
 use Rattle.tx_risk.proofs.Descending.{IsDescent}
 use Rattle.tx_risk.proofs.shortest.walk_from.Given as goal
 

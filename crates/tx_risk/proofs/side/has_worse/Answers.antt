@@ -1,7 +1,5 @@
-use Rattle.std.proofs.Common.{rules, tests}
+use Rattle.tx_risk.proofs.Common.{rules, tests, any_from_yields_List, Cut}
 use Rattle.std.proofs.lemmas.Iterator.{YieldsList-from_slice}
-use Rattle.std.proofs.lemmas.Iterator.Search.{any_from_yields_List}
-use Rattle.tx_risk.specs.declared.cut.Cut.{Cut}
 use Rattle.tx_risk.specs.Compared.{stray_in, is_worse_than}
 use Rattle.tx_risk.proofs.side.has_worse.Goals as goal
 

@@ -1,8 +1,5 @@
-use Rattle.std.proofs.Common.{◌∙◌, length, refl, sym, ap, arith, rules}
-use Rattle.std.proofs.lemmas.Bool.{ltb-true, ltb-false}
+use Rattle.tx_risk.proofs.Common.{◌∙◌, length, refl, sym, ap, arith, rules, ltb-true, ltb-false, IsPartitionPoint-from_clause, comes_before}
 use Rattle.std.proofs.lemmas.Option.{slice_get_read, slice_get_past}
-use Rattle.std.proofs.lemmas.List.Sorted.{IsPartitionPoint-from_clause}
-use Rattle.tx_risk.specs.inner.InOrder.{comes_before}
 use Rattle.tx_risk.proofs.Comparing.{parted, told_at, stray_at_point}
 use Rattle.tx_risk.proofs.side.stray_at.Goals as goal
 

@@ -1,9 +1,4 @@
-use Rattle.std.proofs.Common.{◌∙◌, ◌&&◌, rules, tests}
-use Rattle.std.proofs.lemmas.Iterator.{YieldsList-from_slice}
-use Rattle.std.proofs.lemmas.Iterator.Consumers.{YieldsList-from_filter, count_from_yields_List}
-use Rattle.std.proofs.lemmas.List.Sums.{length-filter}
-use Rattle.tx_risk.specs.declared.outage.Outage.{Outage}
-use Rattle.tx_risk_report.specs.OutageReport.{is_of}
+use Rattle.tx_risk_report.proofs.Common.{◌∙◌, ◌&&◌, rules, tests, YieldsList-from_slice, YieldsList-from_filter, count_from_yields_List, length-filter, Outage, is_of}
 use Rattle.tx_risk_report.specs.Comparison.{is_free}
 use Rattle.tx_risk_report.proofs.comparison.count_free.Goals as goal
 

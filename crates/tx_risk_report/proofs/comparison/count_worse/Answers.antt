@@ -1,10 +1,6 @@
 use mir.Val.{bool_byte}
-use Rattle.std.proofs.Common.{◌≡◌, ◌+◌, ◌∙◌, if◌then◌else◌, true, false, refl, ap, rules, tests}
+use Rattle.tx_risk_report.proofs.Common.{◌≡◌, ◌+◌, ◌∙◌, if◌then◌else◌, true, false, refl, ap, rules, tests, YieldsList-from_slice, YieldsList-from_filter, count_from_yields_List, length-filter, Outage}
 use Rattle.std.specs.Prelude.{count_by}
-use Rattle.std.proofs.lemmas.Iterator.{YieldsList-from_slice}
-use Rattle.std.proofs.lemmas.Iterator.Consumers.{YieldsList-from_filter, count_from_yields_List}
-use Rattle.std.proofs.lemmas.List.Sums.{length-filter}
-use Rattle.tx_risk.specs.declared.outage.Outage.{Outage}
 use Rattle.tx_risk_report.specs.Comparison.{is_worse, is_lower}
 use Rattle.tx_risk_report.proofs.comparison.count_worse.Goals as goal
 

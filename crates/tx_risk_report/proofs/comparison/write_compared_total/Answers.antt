@@ -1,5 +1,4 @@
-use Rattle.std.proofs.Common.{◌∙◌, sym}
-use Rattle.tx_text.proofs.Putting.{puts_none, puts_then}
+use Rattle.tx_risk_report.proofs.Common.{◌∙◌, sym, puts_none, puts_then}
 use Rattle.tx_risk_report.proofs.comparison.write_compared_total.Goals as goal
 
 pub returns-then-is_free : goal.returns-then-is_free

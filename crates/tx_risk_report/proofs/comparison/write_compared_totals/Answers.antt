@@ -1,5 +1,4 @@
-use Rattle.tx_text.proofs.Putting.{puts_none, puts_more, puts_all}
-use Rattle.tx_risk_report.specs.Comparison.{compared_total}
+use Rattle.tx_risk_report.proofs.Common.{puts_none, puts_more, puts_all, compared_total}
 use Rattle.tx_risk_report.proofs.comparison.write_compared_totals.Goals as goal
 
 pub loop-i-init : goal.loop-i-init

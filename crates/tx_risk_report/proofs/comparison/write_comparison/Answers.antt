@@ -1,5 +1,4 @@
-use Rattle.tx_text.proofs.Writing.{some}
-use Rattle.tx_text.proofs.Putting.{puts_wrote}
+use Rattle.tx_risk_report.proofs.Common.{some, puts_wrote}
 use Rattle.tx_text.proofs.Wrote.{wrote_then}
 use Rattle.tx_risk_report.proofs.StoppedFirst.{stopped_first}
 use Rattle.tx_risk_report.proofs.comparison.write_comparison.Goals as goal

@@ -1,6 +1,4 @@
-use Rattle.std.proofs.Common.{length, arith}
-use Rattle.tx_text.proofs.Putting.{puts_none}
-use Rattle.tx_risk_report.specs.OutageReport.{cuts_at}
+use Rattle.tx_risk_report.proofs.Common.{length, arith, puts_none, cuts_at}
 use Rattle.tx_text.proofs.Ranges.{index_more, indexes_done}
 use Rattle.tx_risk_report.proofs.cut_lines.write_cuts.Goals as goal
 

@@ -1,6 +1,4 @@
-use Rattle.std.specs.List.{flat_map, range_with_len}
-use Rattle.tx_text.specs.Puts.{Puts}
-use Rattle.tx_risk_report.specs.OutageReport.{cuts_at}
+use Rattle.tx_risk_report.proofs.Common.{flat_map, range_with_len, Puts, cuts_at}
 use Rattle.tx_risk_report.proofs.cut_lines.write_cuts.Given as goal
 
 abbrev pub invariant-loop-index : goal.invariant-loop-index

@@ -1,7 +1,4 @@
-use Rattle.std.proofs.Common.{◌==◌, if◌then◌else◌, []}
-use Rattle.tx_text.proofs.Putting.{puts_none, puts_more, puts_all}
-use Rattle.tx_rank.specs.Walks.{end_of}
-use Rattle.tx_risk.specs.declared.cut.Cut.{Cut}
+use Rattle.tx_risk_report.proofs.Common.{◌==◌, if◌then◌else◌, [], puts_none, puts_more, puts_all, end_of, Cut}
 use Rattle.tx_risk_report.specs.OutageReport.{cut_line}
 use Rattle.tx_risk_report.proofs.cut_lines.write_cuts_at.Goals as goal
 

@@ -1,6 +1,4 @@
-use Rattle.std.proofs.Common.{take}
-use Rattle.tx_text.specs.Puts.{Puts}
-use Rattle.tx_risk_report.specs.OutageReport.{cuts_at}
+use Rattle.tx_risk_report.proofs.Common.{take, Puts, cuts_at}
 use Rattle.tx_risk_report.proofs.cut_lines.write_cuts_at.Given as goal
 
 abbrev pub invariant-loop-i : goal.invariant-loop-i

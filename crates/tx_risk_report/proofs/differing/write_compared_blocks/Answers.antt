@@ -1,5 +1,4 @@
-use Rattle.tx_text.proofs.Putting.{puts_none, puts_more, puts_all}
-use Rattle.tx_risk_report.specs.Comparison.{compared_block}
+use Rattle.tx_risk_report.proofs.Common.{puts_none, puts_more, puts_all, compared_block}
 use Rattle.tx_risk_report.proofs.differing.write_compared_blocks.Goals as goal
 
 pub loop-i-init : goal.loop-i-init

@@ -1,7 +1,4 @@
-use Rattle.std.proofs.Common.{take}
-use Rattle.std.specs.List.{flat_map}
-use Rattle.tx_text.specs.Puts.{Puts}
-use Rattle.tx_risk_report.specs.Comparison.{compared_block}
+use Rattle.tx_risk_report.proofs.Common.{take, flat_map, Puts, compared_block}
 use Rattle.tx_risk_report.proofs.differing.write_compared_blocks.Given as goal
 
 abbrev pub invariant-loop-i : goal.invariant-loop-i

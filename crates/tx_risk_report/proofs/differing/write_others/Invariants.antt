@@ -1,5 +1,4 @@
-use Rattle.std.proofs.Common.{take}
-use Rattle.tx_text.specs.Puts.{Puts}
+use Rattle.tx_risk_report.proofs.Common.{take, Puts}
 use Rattle.tx_risk_report.specs.Comparison.{other_lines}
 use Rattle.tx_risk_report.proofs.differing.write_others.Given as goal
 

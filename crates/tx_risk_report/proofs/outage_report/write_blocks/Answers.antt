@@ -1,5 +1,4 @@
-use Rattle.tx_text.proofs.Putting.{puts_none, puts_more, puts_all}
-use Rattle.tx_risk_report.specs.OutageReport.{block_text}
+use Rattle.tx_risk_report.proofs.Common.{puts_none, puts_more, puts_all, block_text}
 use Rattle.tx_risk_report.proofs.outage_report.write_blocks.Goals as goal
 
 pub loop-i-init : goal.loop-i-init

@@ -1,5 +1,4 @@
-use Rattle.tx_text.proofs.Writing.{some}
-use Rattle.tx_text.proofs.Putting.{puts_wrote}
+use Rattle.tx_risk_report.proofs.Common.{some, puts_wrote}
 use Rattle.tx_risk_report.proofs.outage_report.write_survival.Goals as goal
 
 pub returns-in-Tried : goal.returns-in-Tried

@@ -1,8 +1,7 @@
 use Rattle.std.proofs.Common.{◌∙◌, length, get_or, ap, arith}
-use Rattle.std.specs.Prelude.{sum_by}
+use Rattle.tx_risk_report.proofs.Common.{sum_by, Outcome}
 use Rattle.std.proofs.lemmas.List.{take_all}
 use Rattle.std.proofs.lemmas.List.Sums.{sum_by_more}
-use Rattle.tx_risk.specs.declared.cut.Outcome.{Outcome}
 use Rattle.tx_risk_report.proofs.totals.count_all.Goals as goal
 
 pub loop-i-preserved : goal.loop-i-preserved

@@ -1,8 +1,4 @@
-use Rattle.std.proofs.Common.{◌∙◌, rules, tests}
-use Rattle.std.proofs.lemmas.Iterator.{YieldsList-from_slice}
-use Rattle.std.proofs.lemmas.Iterator.Consumers.{YieldsList-from_filter, count_from_yields_List}
-use Rattle.std.proofs.lemmas.List.Sums.{length-filter}
-use Rattle.tx_risk.specs.declared.cut.Cut.{Cut}
+use Rattle.tx_risk_report.proofs.Common.{◌∙◌, rules, tests, YieldsList-from_slice, YieldsList-from_filter, count_from_yields_List, length-filter, Cut}
 use Rattle.tx_risk_report.proofs.totals.count_stray.Goals as goal
 
 pub returns : goal.returns

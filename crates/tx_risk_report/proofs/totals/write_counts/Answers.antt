@@ -1,6 +1,4 @@
-use Rattle.std.proofs.Common.{◌++◌, sym, ap, append-nil}
-use Rattle.std.specs.Prelude.{codes, decimal}
-use Rattle.tx_text.proofs.Putting.{puts_is}
+use Rattle.tx_risk_report.proofs.Common.{◌++◌, sym, ap, append-nil, codes, decimal, puts_is}
 use Rattle.tx_risk_report.specs.OutageReport.{cut_off, astray}
 use Rattle.tx_risk_report.proofs.totals.write_counts.Goals as goal
 

@@ -1,10 +1,6 @@
-use Rattle.std.proofs.Common.{◌∙◌, ◌+◌, Ok, ap, sym, refl}
-use Rattle.tx_text.specs.Calls.{source_calls}
-use Rattle.tx_text.specs.Frame.{is_read}
-use Rattle.tx_text.specs.inner.Framing.{FrameReading, to_come}
+use Rattle.tx_script.proofs.Common.{◌∙◌, ◌+◌, Ok, ap, sym, refl, source_calls, is_read, FrameReading, to_come, RunCause}
 use Rattle.tx_text.proofs.NoRoom.{come_said}
 use Rattle.tx_text.proofs.CallCounts.{less_left, went_none, went_on, went_same, calls_on, broken_on, stopped_with}
-use Rattle.tx_script.specs.declared.run_cause.RunCause.{RunCause}
 use Rattle.tx_script.specs.Answers.{mark_after}
 use Rattle.tx_script.specs.Events.{event_of}
 use Rattle.tx_script.proofs.Running.{past_header, past_line, start_runs, few_answered, few_refused, few_calls, few_told, few_counted, none_left, line_mark, stop_mark}

@@ -1,8 +1,5 @@
-use Rattle.std.proofs.Common.{◌≡◌, None}
+use Rattle.tx_script.proofs.Common.{◌≡◌, None, source_calls, reading_size, to_come}
 use Rattle.tx_text.specs.inner.CallsLeft.{Went}
-use Rattle.tx_text.specs.Calls.{source_calls}
-use Rattle.tx_text.specs.inner.Reading.{reading_size}
-use Rattle.tx_text.specs.inner.Framing.{to_come}
 use Rattle.tx_script.proofs.Running.{IsRunning}
 use Rattle.tx_script.proofs.runner.run_lines.Given as goal
 

@@ -1,5 +1,4 @@
-use Rattle.tx_text.specs.Calls.{source_calls}
-use Rattle.tx_text.proofs.CallCounts.{went_none, calls_so_far}
+use Rattle.tx_script.proofs.Common.{source_calls, went_none, calls_so_far}
 use Rattle.tx_script.proofs.Counting.{new_counts, asked_is}
 use Rattle.tx_script.proofs.runner.run_telling.Goals as goal
 

@@ -1,11 +1,6 @@
-use Rattle.std.proofs.Common.{◌<◌, ◌≤◌, length, arith}
+use Rattle.tx_script.proofs.Common.{◌<◌, ◌≤◌, length, arith, cause_text, Cause, ALL, calls_line, count_for}
 use Rattle.std.proofs.lemmas.List.{get_or_default}
 use Rattle.tx_text.proofs.Putting.{puts_none, puts_more, puts_all}
-use Rattle.tx_tickets.specs.Texts.{cause_text}
-use Rattle.tx_machine.specs.declared.cause.Cause.{Cause}
-use Rattle.tx_machine.specs.declared.cause.TheConstants.Cause.{ALL}
-use Rattle.tx_script.specs.Summaries.{calls_line}
-use Rattle.tx_script.specs.inner.Counting.{count_for}
 use Rattle.tx_script.proofs.summary_text.write_ended.Goals as goal
 
 pub loop-cause-init : goal.loop-cause-init

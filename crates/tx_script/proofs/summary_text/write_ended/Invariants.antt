@@ -1,10 +1,5 @@
 use Rattle.std.proofs.Common.{take}
-use Rattle.std.specs.List.{flat_map}
-use Rattle.tx_text.specs.Puts.{Puts}
-use Rattle.tx_tickets.specs.Texts.{cause_text}
-use Rattle.tx_machine.specs.declared.cause.TheConstants.Cause.{ALL}
-use Rattle.tx_script.specs.Summaries.{calls_line}
-use Rattle.tx_script.specs.inner.Counting.{count_for}
+use Rattle.tx_script.proofs.Common.{flat_map, Puts, cause_text, ALL, calls_line, count_for}
 use Rattle.tx_script.proofs.summary_text.write_ended.Given as goal
 
 abbrev pub invariant-loop-cause : goal.invariant-loop-cause

@@ -1,8 +1,5 @@
-use Rattle.std.proofs.Common.{◌≡◌, length, arith}
-use Rattle.tx_text.proofs.Putting.{puts_none}
+use Rattle.tx_script.proofs.Common.{◌≡◌, length, arith, puts_none, peak_line, use_at}
 use Rattle.tx_text.proofs.Ranges.{index_more, indexes_done}
-use Rattle.tx_script.specs.Summaries.{peak_line}
-use Rattle.tx_script.specs.inner.Counting.{use_at}
 use Rattle.tx_script.proofs.summary_text.write_peaks.Goals as goal
 
 pub loop-index-init : goal.loop-index-init

@@ -1,7 +1,4 @@
-use Rattle.std.specs.List.{flat_map, range_with_len}
-use Rattle.tx_text.specs.Puts.{Puts}
-use Rattle.tx_script.specs.Summaries.{peak_line}
-use Rattle.tx_script.specs.inner.Counting.{use_at}
+use Rattle.tx_script.proofs.Common.{flat_map, range_with_len, Puts, peak_line, use_at}
 use Rattle.tx_script.proofs.summary_text.write_peaks.Given as goal
 
 abbrev pub invariant-loop-index : goal.invariant-loop-index

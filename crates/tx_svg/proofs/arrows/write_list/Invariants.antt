@@ -1,5 +1,4 @@
-use Rattle.std.proofs.Common.{[]}
-use Rattle.tx_html.specs.Shows.{Sets}
+use Rattle.tx_svg.proofs.Common.{[], Sets}
 use Rattle.tx_svg.proofs.arrows.write_list.Given as goal
 
 abbrev pub invariant-loop-i : goal.invariant-loop-i

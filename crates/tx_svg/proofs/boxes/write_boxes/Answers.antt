@@ -1,7 +1,5 @@
-use Rattle.std.proofs.Common.{length, arith}
-use Rattle.tx_svg.specs.ListTexts.{box_texts}
+use Rattle.tx_svg.proofs.Common.{length, arith, box_texts, sets_none}
 use Rattle.tx_svg.proofs.Indexed.{below_more, below_done}
-use Rattle.tx_html.proofs.Showing.{sets_none}
 use Rattle.tx_svg.proofs.boxes.write_boxes.Goals as goal
 
 pub loop-index-init : goal.loop-index-init

@@ -1,6 +1,4 @@
-use Rattle.tx_html.specs.Shows.{Sets}
-use Rattle.tx_svg.specs.Indexed.{texts_below}
-use Rattle.tx_svg.specs.ListTexts.{box_texts}
+use Rattle.tx_svg.proofs.Common.{Sets, texts_below, box_texts}
 use Rattle.tx_svg.proofs.boxes.write_boxes.Given as goal
 
 abbrev pub invariant-loop-index : goal.invariant-loop-index

@@ -1,6 +1,4 @@
-use Rattle.std.proofs.Common.{map, take}
-use Rattle.tx_plan.specs.Plan.{group_name}
-use Rattle.tx_html.specs.Shows.{Sets}
+use Rattle.tx_svg.proofs.Common.{map, take, group_name, Sets}
 use Rattle.tx_svg.proofs.names.write_groups.Given as goal
 
 abbrev pub invariant-loop-i : goal.invariant-loop-i

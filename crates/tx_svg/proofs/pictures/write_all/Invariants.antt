@@ -1,7 +1,5 @@
-use Rattle.std.proofs.Common.{take}
+use Rattle.tx_svg.proofs.Common.{take, Sets, picture_texts}
 use Rattle.std.specs.List.{flat_map}
-use Rattle.tx_html.specs.Shows.{Sets}
-use Rattle.tx_svg.specs.ListTexts.{picture_texts}
 use Rattle.tx_svg.proofs.pictures.write_all.Given as goal
 
 abbrev pub invariant-loop-i : goal.invariant-loop-i

@@ -1,7 +1,5 @@
 use Rattle.std.proofs.Common.{◌≡◌, length, sym, ap, ◌∙◌, max, arith}
-use Rattle.std.specs.Prelude.{unwrap_or}
-use Rattle.tx_cert.specs.Certificate.{ranks_of}
-use Rattle.tx_svg.specs.ListTexts.{greatest_rank}
+use Rattle.tx_svg.proofs.Common.{unwrap_or, ranks_of, greatest_rank}
 use Rattle.tx_svg.proofs.Ranked.{greatest_more}
 use Rattle.tx_svg.proofs.ranks.greatest_rank.Goals as goal
 

@@ -1,7 +1,5 @@
-use Rattle.std.proofs.Common.{arith}
-use Rattle.tx_svg.specs.ListTexts.{column_texts}
+use Rattle.tx_svg.proofs.Common.{arith, column_texts, sets_none}
 use Rattle.tx_svg.proofs.Indexed.{below_more, below_done}
-use Rattle.tx_html.proofs.Showing.{sets_none}
 use Rattle.tx_svg.proofs.ranks.write_all.Goals as goal
 
 pub loop-below-init : goal.loop-below-init

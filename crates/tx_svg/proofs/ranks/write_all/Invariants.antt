@@ -1,6 +1,4 @@
-use Rattle.tx_html.specs.Shows.{Sets}
-use Rattle.tx_svg.specs.Indexed.{texts_below}
-use Rattle.tx_svg.specs.ListTexts.{column_texts}
+use Rattle.tx_svg.proofs.Common.{Sets, texts_below, column_texts}
 use Rattle.tx_svg.proofs.ranks.write_all.Given as goal
 
 abbrev pub invariant-loop-below : goal.invariant-loop-below

@@ -1,9 +1,5 @@
-use Rattle.std.proofs.Common.{[], length, sym, ap, ◌∙◌}
+use Rattle.tx_svg.proofs.Common.{[], length, sym, ap, ◌∙◌, ranks_of, sets_none, sets_is, texts_below, column_texts, greatest_rank}
 use Rattle.std.specs.Prelude.{if◌then◌else◌}
-use Rattle.tx_cert.specs.Certificate.{ranks_of}
-use Rattle.tx_html.proofs.Showing.{sets_none, sets_is}
-use Rattle.tx_svg.specs.Indexed.{texts_below}
-use Rattle.tx_svg.specs.ListTexts.{column_texts, greatest_rank}
 use Rattle.tx_svg.proofs.ranks.write_ranks.Goals as goal
 
 pub returns-then-is_graded : goal.returns-then-is_graded

@@ -1,7 +1,5 @@
-use Rattle.std.proofs.Common.{length, arith}
+use Rattle.tx_svg.proofs.Common.{length, arith, name_texts, sets_none}
 use Rattle.tx_svg.proofs.Indexed.{below_more, below_done}
-use Rattle.tx_svg.specs.RingTexts.{name_texts}
-use Rattle.tx_html.proofs.Showing.{sets_none}
 use Rattle.tx_svg.proofs.ring.write_names.Goals as goal
 
 pub loop-index-init : goal.loop-index-init

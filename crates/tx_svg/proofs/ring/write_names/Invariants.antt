@@ -1,6 +1,4 @@
-use Rattle.tx_html.specs.Shows.{Sets}
-use Rattle.tx_svg.specs.Indexed.{texts_below}
-use Rattle.tx_svg.specs.RingTexts.{name_texts}
+use Rattle.tx_svg.proofs.Common.{Sets, texts_below, name_texts}
 use Rattle.tx_svg.proofs.ring.write_names.Given as goal
 
 abbrev pub invariant-loop-index : goal.invariant-loop-index

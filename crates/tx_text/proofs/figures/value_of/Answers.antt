@@ -1,8 +1,4 @@
-use Rattle.std.proofs.Common.{◌≡◌, ◌<◌, ◌&&◌, ℕ, List, get_or, length, nat_le, true, sym, arith}
-use Rattle.std.specs.List.{list_all}
-use Rattle.std.proofs.lemmas.Bool.{and_parts}
-use Rattle.std.proofs.lemmas.List.Sums.{AllPass-from_list_all}
-use Rattle.tx_text.specs.Words.{are_figures, is_figure}
+use Rattle.tx_text.proofs.Common.{◌≡◌, ◌<◌, ◌&&◌, ℕ, List, get_or, length, nat_le, true, sym, arith, list_all, and_parts, AllPass-from_list_all, are_figures, is_figure}
 use Rattle.tx_text.proofs.Numbers.{value_more}
 use Rattle.tx_text.proofs.figures.value_of.Goals as goal
 

@@ -1,7 +1,4 @@
-use Rattle.std.proofs.Common.{◌||◌, ◌∙◌, rules, tests}
-use Rattle.std.proofs.lemmas.Iterator.{YieldsList-from_slice}
-use Rattle.std.proofs.lemmas.Iterator.Search.{position_from_yields_List}
-use Rattle.tx_text.specs.Words.{is_blank, is_hash}
+use Rattle.tx_text.proofs.Common.{◌||◌, ◌∙◌, rules, tests, YieldsList-from_slice, position_from_yields_List, is_blank, is_hash}
 use Rattle.tx_text.proofs.Indexes.{index_or_len}
 use Rattle.tx_text.proofs.line_words.word_len.Goals as goal
 

@@ -1,6 +1,4 @@
-use Rattle.std.proofs.Common.{◌≡◌, take}
-use Rattle.std.specs.List.{list_all}
-use Rattle.tx_text.specs.Text.{is_text_byte}
+use Rattle.tx_text.proofs.Common.{◌≡◌, take, list_all, is_text_byte}
 use Rattle.tx_text.proofs.reader.are_text.Given as goal
 
 abbrev pub invariant-loop-byte : goal.invariant-loop-byte

@@ -1,7 +1,5 @@
-use Rattle.std.proofs.Common.{◌≡◌, ℕ, ◌+◌, ◌-◌, Bool, true, false, ◌&&◌, List, length, take, drop, ap, sym, ◌∙◌, arith, rules}
-use Rattle.std.specs.List.{list_all}
+use Rattle.tx_text.proofs.Common.{◌≡◌, ℕ, ◌+◌, ◌-◌, Bool, true, false, ◌&&◌, List, length, take, drop, ap, sym, ◌∙◌, arith, rules, list_all, is_text_byte}
 use Rattle.std.proofs.lemmas.List.{take_rest}
-use Rattle.tx_text.specs.Text.{is_text_byte}
 use Rattle.tx_text.proofs.Blocks.{in_blocks, in_two, overlapping}
 use Rattle.tx_text.proofs.reader.is_text.Goals as goal
 

@@ -1,6 +1,4 @@
-use Rattle.std.proofs.Common.{◌≡◌, ◌≤◌, ◌-◌, true, length, take}
-use Rattle.std.specs.List.{list_all}
-use Rattle.tx_text.specs.Text.{is_text_byte}
+use Rattle.tx_text.proofs.Common.{◌≡◌, ◌≤◌, ◌-◌, true, length, take, list_all, is_text_byte}
 use Rattle.tx_text.proofs.reader.is_text.Given as goal
 
 abbrev pub invariant-loop-done : goal.invariant-loop-done

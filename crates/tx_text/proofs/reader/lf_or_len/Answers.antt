@@ -1,6 +1,4 @@
-use Rattle.std.proofs.Common.{◌∙◌, arith, not}
-use Rattle.std.proofs.lemmas.List.Sums.{prefix_len-le-length}
-use Rattle.tx_text.specs.Text.{is_lf}
+use Rattle.tx_text.proofs.Common.{◌∙◌, arith, not, prefix_len-le-length, is_lf}
 use Rattle.tx_text.proofs.Indexes.{found_or_len}
 use Rattle.tx_text.proofs.reader.lf_or_len.Goals as goal
 

@@ -1,6 +1,4 @@
-use Rattle.std.proofs.Common.{length, take, ap, ◌∙◌, arith}
-use Rattle.std.proofs.lemmas.Bool.{lt-ltb}
-use Rattle.std.proofs.lemmas.List.{length-take}
+use Rattle.tx_text.proofs.Common.{length, take, ap, ◌∙◌, arith, lt-ltb, length-take}
 use Rattle.tx_text.specs.Text.{without_cr}
 use Rattle.tx_text.proofs.Feeding.{length-without_cr-le}
 use Rattle.tx_text.proofs.reader.whole_line.Goals as goal

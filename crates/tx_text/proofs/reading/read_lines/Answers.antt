@@ -1,6 +1,4 @@
-use Rattle.std.proofs.Common.{◌≡◌, ℕ, List, Ok, ap, subst}
-use Rattle.tx_text.specs.declared.frame.FaultKind.TheVariants.{Frame}
-use Rattle.tx_text.specs.Said.{DeclaredBy, is_no_room, text_said, line_declares, WantingAt}
+use Rattle.tx_text.proofs.Common.{◌≡◌, ℕ, List, Ok, ap, subst, Frame, DeclaredBy, is_no_room, text_said, line_declares, WantingAt}
 use Rattle.tx_text.specs.inner.Framing.{FrameReading, to_come, line_of_frame, number_of_line, words_of_line}
 use Rattle.tx_text.proofs.CallCounts.{went_none, went_on, went_past, calls_on, broken_on, stopped_by_with}
 use Rattle.tx_text.proofs.Exits.{exits_with}

@@ -1,8 +1,5 @@
-use Rattle.tx_text.specs.Frame.{ReadsOn}
+use Rattle.tx_text.proofs.Common.{ReadsOn, Went, IsSound, to_come, reading_size}
 use Rattle.tx_text.specs.Said.{said, text_said, line_declares}
-use Rattle.tx_text.specs.inner.CallsLeft.{Went}
-use Rattle.tx_text.specs.inner.Framing.{IsSound, to_come}
-use Rattle.tx_text.specs.inner.Reading.{reading_size}
 use Rattle.tx_text.proofs.Wanting.{Finds, finds_from}
 use Rattle.tx_text.proofs.reading.read_lines.Given as goal
 

@@ -1,7 +1,4 @@
-use Rattle.std.proofs.Common.{◌≡◌, true, refl}
-use Rattle.tx_text.specs.declared.frame.FaultKind.TheVariants.{Frame}
-use Rattle.tx_text.specs.Told.{AtEnd}
-use Rattle.tx_text.specs.Said.{text_said, line_declares}
+use Rattle.tx_text.proofs.Common.{◌≡◌, true, refl, Frame, AtEnd, text_said, line_declares}
 use Rattle.tx_text.proofs.Exits.{exits_with}
 use Rattle.tx_text.proofs.SliceAnswers.{slice_answered, slice_stands}
 use Rattle.tx_text.proofs.reading.read_slice.Goals as goal

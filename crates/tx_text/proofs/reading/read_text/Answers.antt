@@ -1,6 +1,4 @@
-use Rattle.std.proofs.Common.{refl}
-use Rattle.tx_text.specs.declared.frame.FaultKind.TheVariants.{Frame}
-use Rattle.tx_text.specs.Calls.{source_calls}
+use Rattle.tx_text.proofs.Common.{refl, Frame, source_calls}
 use Rattle.tx_text.proofs.CallCounts.{went_none, calls_so_far}
 use Rattle.tx_text.proofs.Exits.{exits_with}
 use Rattle.tx_text.proofs.reading.read_text.Goals as goal

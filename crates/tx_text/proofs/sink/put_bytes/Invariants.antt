@@ -1,5 +1,4 @@
-use Rattle.std.proofs.Common.{length}
-use Rattle.tx_text.specs.Puts.{Puts}
+use Rattle.tx_text.proofs.Common.{length, Puts}
 use Rattle.tx_text.proofs.sink.put_bytes.Given as goal
 
 abbrev pub invariant-loop-rest : goal.invariant-loop-rest

@@ -1,6 +1,4 @@
-use Rattle.std.proofs.Common.{take}
-use Rattle.std.specs.List.{flat_map}
-use Rattle.tx_text.specs.Puts.{Puts}
+use Rattle.tx_text.proofs.Common.{take, flat_map, Puts}
 use Rattle.tx_text.proofs.sink.put_parts.Given as goal
 
 abbrev pub invariant-loop-i : goal.invariant-loop-i

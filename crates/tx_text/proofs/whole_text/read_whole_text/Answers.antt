@@ -1,6 +1,4 @@
-use Rattle.std.proofs.Common.{◌≡◌, ◌<◌, ◌-◌, suc, Ok, arith, rules}
-use Rattle.tx_text.specs.inner.CallsLeft.{Calls}
-use Rattle.tx_text.specs.Calls.{source_calls}
+use Rattle.tx_text.proofs.Common.{◌≡◌, ◌<◌, ◌-◌, suc, Ok, arith, rules, Calls, source_calls}
 use Rattle.tx_text.proofs.CallCounts.{went_none, went_same, went_more, calls_more}
 use Rattle.tx_text.proofs.ReadingOn.{moves-nil, moves_on}
 use Rattle.tx_text.proofs.whole_text.read_whole_text.Goals as goal

@@ -1,7 +1,4 @@
-use Rattle.std.proofs.Common.{◌≡◌}
-use Rattle.std.specs.Io.KnownBytes.{prepend_known}
-use Rattle.tx_text.specs.inner.CallsLeft.{Went}
-use Rattle.tx_text.specs.Calls.{source_calls}
+use Rattle.tx_text.proofs.Common.{◌≡◌, prepend_known, Went, source_calls}
 use Rattle.tx_text.proofs.whole_text.read_whole_text.Given as goal
 
 abbrev pub invariant-loop-left : goal.invariant-loop-left

@@ -1,7 +1,4 @@
-use Rattle.std.proofs.Common.{sym, subst, ◌∙◌}
-use Rattle.tx_plan.specs.Among.{Among}
-use Rattle.tx_machine.proofs.Lists.{find_mem}
-use Rattle.tx_trace.specs.Ways.{has_free}
+use Rattle.tx_trace.proofs.Common.{sym, subst, ◌∙◌, Among, find_mem, has_free}
 use Rattle.tx_trace.proofs.first_way.first_step.Goals as goal
 
 pub far-requires-clause-listed : goal.far-requires-clause-listed

@@ -1,8 +1,4 @@
-use Rattle.std.proofs.Common.{◌≡◌, ◌<◌, ◌++◌, ◌∷◌, [], ℕ, List, length, Some, None, true, sym, subst, arith}
-use Rattle.std.proofs.Math.ListN.{set}
-use Rattle.tx_rank.specs.Walks.{end_of, before_end}
-use Rattle.tx_trace.specs.Ways.{next_step}
-use Rattle.tx_trace.specs.inner.Marked.{AreMarksOf}
+use Rattle.tx_trace.proofs.Common.{◌≡◌, ◌<◌, ◌++◌, ◌∷◌, [], ℕ, List, length, Some, None, true, sym, subst, arith, set, end_of, before_end, next_step, AreMarksOf}
 use Rattle.tx_trace.proofs.FirstWay.{IsGoing, going_on, ended}
 use Rattle.tx_trace.proofs.first_way.first_way.Goals as goal
 

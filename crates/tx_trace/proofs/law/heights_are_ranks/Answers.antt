@@ -1,7 +1,5 @@
-use Rattle.std.proofs.Common.{Option, Some, None, ◌≡◌, ℕ, refl, sym, subst}
+use Rattle.tx_trace.proofs.Common.{Option, Some, None, ◌≡◌, ℕ, refl, sym, subst, false≢true, height}
 use Rattle.std.specs.Prelude.{IsSome}
-use Rattle.std.proofs.lemmas.Bool.{false≢true}
-use Rattle.tx_trace.specs.Heights.{height}
 use Rattle.tx_trace.proofs.Longest.{height_longest, ranked_height, height_ranked}
 use Rattle.tx_trace.proofs.law.heights_are_ranks.Goals as goal
 

@@ -2,8 +2,7 @@ use Rattle.std.proofs.Common.{ℕ, ◌∙◌, ◌∷◌, [], Bool, not, length, 
 use Rattle.arrayvec.specs.ArrayVec.{ArrayVec}
 use Rattle.tx_plan.proofs.ListFound.{list_few}
 use Rattle.tx_plan.proofs.Filtered.{keep_put, keep_passed}
-use Rattle.tx_trace.specs.Ways.{is_in}
-use Rattle.tx_trace.specs.Left.{groups_left}
+use Rattle.tx_trace.proofs.Common.{is_in, groups_left}
 use Rattle.tx_trace.proofs.left.groups_left.Goals as goal
 use Rattle.tx_trace.proofs.left.groups_left.Goals.{then-not-contains, else-not-contains}
 

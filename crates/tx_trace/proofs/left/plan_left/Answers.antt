@@ -1,5 +1,4 @@
-use Rattle.std.proofs.Common.{sym, subst}
-use Rattle.tx_plan.specs.Rules.{IsPlan}
+use Rattle.tx_trace.proofs.Common.{sym, subst, IsPlan}
 use Rattle.tx_plan.specs.Mixed.{rerouted}
 use Rattle.tx_trace.proofs.LeftRoutes.{left_rules}
 use Rattle.tx_trace.proofs.left.plan_left.Goals as goal

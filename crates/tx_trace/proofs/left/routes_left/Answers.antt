@@ -1,10 +1,6 @@
-use Rattle.std.proofs.Common.{◌≡◌, ℕ, ◌==◌, ◌∙◌, List, true, false, not, ap, sym, arith, take, map, length, refl, rules}
-use Rattle.std.specs.Prelude.{slice_get}
-use Rattle.std.specs.List.{list_any}
-use Rattle.tx_plan.specs.Plan.{Route}
+use Rattle.tx_trace.proofs.Common.{◌≡◌, ℕ, ◌==◌, ◌∙◌, List, true, false, not, ap, sym, arith, take, map, length, refl, rules, slice_get, list_any, Route, route_left}
 use Rattle.tx_plan.proofs.ByIndex.{entry_at}
 use Rattle.tx_plan.proofs.Copied.{pair_of, no_none, none_before, none_filtered, route_got}
-use Rattle.tx_trace.specs.Left.{route_left}
 use Rattle.tx_trace.proofs.LeftRoutes.{has_some, left_next, left_gone, none_left}
 use Rattle.tx_trace.proofs.left.routes_left.Goals as goal
 use Rattle.tx_trace.proofs.left.routes_left.Goals.{then-not-is_empty+in_ok-add-in-Some, else-not-is_empty}

@@ -1,5 +1,4 @@
-use Rattle.std.proofs.Common.{◌≡◌, take}
-use Rattle.tx_trace.specs.Left.{routes_left}
+use Rattle.tx_trace.proofs.Common.{◌≡◌, take, routes_left}
 use Rattle.tx_trace.proofs.left.routes_left.Given as goal
 
 abbrev pub invariant-loop-index : goal.invariant-loop-index

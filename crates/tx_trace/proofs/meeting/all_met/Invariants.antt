@@ -1,6 +1,4 @@
-use Rattle.std.proofs.Common.{◌≡◌, length}
-use Rattle.tx_trace.specs.Ways.{met_before}
-use Rattle.tx_trace.specs.inner.Marked.{AreMarksOf}
+use Rattle.tx_trace.proofs.Common.{◌≡◌, length, met_before, AreMarksOf}
 use Rattle.tx_trace.proofs.meeting.all_met.Given as goal
 
 abbrev pub invariant-loop-index : goal.invariant-loop-index

@@ -1,8 +1,5 @@
-use Rattle.std.proofs.Common.{◌≡◌, ◌++◌, ◌∷◌, [], ℕ, List, Some, true, false, sym, subst, ◌∙◌}
-use Rattle.std.specs.Prelude.{slice_get}
+use Rattle.tx_trace.proofs.Common.{◌≡◌, ◌++◌, ◌∷◌, [], ℕ, List, Some, true, false, sym, subst, ◌∙◌, slice_get, set, AreMarksOf}
 use Rattle.std.proofs.lemmas.Option.{slice_get-get_or}
-use Rattle.std.proofs.Math.ListN.{set}
-use Rattle.tx_trace.specs.inner.Marked.{AreMarksOf}
 use Rattle.tx_trace.proofs.Ends.{marks_push, mark_read}
 use Rattle.tx_trace.proofs.Rounds.{meet-new}
 use Rattle.tx_trace.proofs.meeting.meet.Goals as goal

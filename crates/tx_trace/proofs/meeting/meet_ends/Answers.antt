@@ -1,7 +1,4 @@
-use Rattle.std.proofs.Common.{◌≤◌, ◌==◌, length, refl, sym, ap, ◌∙◌, eqb-true}
-use Rattle.std.proofs.lemmas.Bool.{eqb-false}
-use Rattle.tx_plan.specs.Plan.{home_of}
-use Rattle.tx_plan.specs.Routes.{route_list}
+use Rattle.tx_trace.proofs.Common.{◌≤◌, ◌==◌, length, refl, sym, ap, ◌∙◌, eqb-true, eqb-false, home_of, route_list}
 use Rattle.tx_rank.proofs.Looks.{got_at, among_at}
 use Rattle.tx_trace.proofs.Rounds.{met-next, met-ends, met-home}
 use Rattle.tx_trace.proofs.meeting.meet_ends.Goals as goal

@@ -1,7 +1,4 @@
-use Rattle.std.proofs.Common.{◌≡◌}
-use Rattle.std.specs.List.{fold}
-use Rattle.tx_trace.specs.Ways.{meet}
-use Rattle.tx_trace.specs.inner.Marked.{AreMarksOf}
+use Rattle.tx_trace.proofs.Common.{◌≡◌, fold, meet, AreMarksOf}
 use Rattle.tx_trace.proofs.Rounds.{ends_before}
 use Rattle.tx_trace.proofs.meeting.meet_ends.Given as goal
 

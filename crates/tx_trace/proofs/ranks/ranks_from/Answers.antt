@@ -1,9 +1,7 @@
 use Rattle.std.proofs.Common.{◌≡◌, ◌≢◌, ◌∙◌, [], sym, ap, length, vec_len, arith, eqb-true}
-use Rattle.std.proofs.lemmas.Bool.{eqb-false}
-use Rattle.tx_cert.specs.Certificate.{rank_at}
+use Rattle.tx_trace.proofs.Common.{eqb-false, rank_at, net_from}
 use Rattle.tx_cert.proofs.Ranks.{none_ranked}
 use Rattle.tx_rank.proofs.Listing.{none_of}
-use Rattle.tx_trace.specs.Ranked.{net_from}
 use Rattle.tx_trace.proofs.Heights.{is_net_from}
 use Rattle.tx_trace.proofs.Ranking.{ranked_from, unranked_from, mine_all}
 use Rattle.tx_trace.proofs.ranks.ranks_from.Goals as goal

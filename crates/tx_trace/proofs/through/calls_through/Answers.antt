@@ -1,6 +1,4 @@
-use Rattle.std.proofs.Common.{ℕ, [], ap, ◌∙◌, arith}
-use Rattle.std.specs.List.{flat_map, range_with_len}
-use Rattle.tx_trace.specs.Through.{passing_for}
+use Rattle.tx_trace.proofs.Common.{ℕ, [], ap, ◌∙◌, arith, flat_map, range_with_len, passing_for}
 use Rattle.tx_trace.proofs.Passing.{grown}
 use Rattle.tx_trace.proofs.through.calls_through.Goals as goal
 

@@ -1,6 +1,4 @@
-use Rattle.std.proofs.Common.{◌≡◌}
-use Rattle.std.specs.List.{flat_map, range_with_len}
-use Rattle.tx_trace.specs.Through.{passing_for}
+use Rattle.tx_trace.proofs.Common.{◌≡◌, flat_map, range_with_len, passing_for}
 use Rattle.tx_trace.proofs.through.calls_through.Given as goal
 
 abbrev pub invariant-loop-index : goal.invariant-loop-index

@@ -1,5 +1,4 @@
-use Rattle.tx_text.proofs.Putting.{puts_none, puts_more, puts_all}
-use Rattle.tx_trace.specs.ThroughText.{call_line}
+use Rattle.tx_trace.proofs.Common.{puts_none, puts_more, puts_all, call_line}
 use Rattle.tx_trace.proofs.through_text.write_calls.Goals as goal
 
 pub loop-i-init : goal.loop-i-init

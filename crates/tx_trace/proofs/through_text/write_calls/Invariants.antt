@@ -1,7 +1,4 @@
-use Rattle.std.proofs.Common.{take}
-use Rattle.std.specs.List.{flat_map}
-use Rattle.tx_text.specs.Puts.{Puts}
-use Rattle.tx_trace.specs.ThroughText.{call_line}
+use Rattle.tx_trace.proofs.Common.{take, flat_map, Puts, call_line}
 use Rattle.tx_trace.proofs.through_text.write_calls.Given as goal
 
 abbrev pub invariant-loop-i : goal.invariant-loop-i

@@ -1,6 +1,4 @@
-use Rattle.tx_text.proofs.Putting.{puts_none, puts_more, puts_all}
-use Rattle.tx_trace.specs.TraceText.{met_lines}
-use Rattle.tx_trace.specs.Traces.{rank_told}
+use Rattle.tx_trace.proofs.Common.{puts_none, puts_more, puts_all, met_lines, rank_told}
 use Rattle.tx_trace.proofs.trace_text.write_all_met.Goals as goal
 
 pub loop-i-init : goal.loop-i-init

@@ -1,8 +1,4 @@
-use Rattle.std.proofs.Common.{take}
-use Rattle.std.specs.List.{flat_map}
-use Rattle.tx_text.specs.Puts.{Puts}
-use Rattle.tx_trace.specs.TraceText.{met_lines}
-use Rattle.tx_trace.specs.Traces.{rank_told}
+use Rattle.tx_trace.proofs.Common.{take, flat_map, Puts, met_lines, rank_told}
 use Rattle.tx_trace.proofs.trace_text.write_all_met.Given as goal
 
 abbrev pub invariant-loop-i : goal.invariant-loop-i

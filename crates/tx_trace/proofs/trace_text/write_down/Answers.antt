@@ -1,5 +1,4 @@
-use Rattle.std.proofs.Common.{◌∙◌, sym}
-use Rattle.tx_text.proofs.Putting.{puts_none, puts_then, puts_is}
+use Rattle.tx_trace.proofs.Common.{◌∙◌, sym, puts_none, puts_then, puts_is}
 use Rattle.tx_trace.proofs.Texts.{down_none, down_some}
 use Rattle.tx_trace.proofs.trace_text.write_down.Goals as goal
 

@@ -1,9 +1,5 @@
-use Rattle.std.proofs.Common.{ℕ, arith}
-use Rattle.std.specs.List.{enumerate_from}
+use Rattle.tx_trace.proofs.Common.{ℕ, arith, enumerate_from, puts_none, puts_more, puts_all, place_line, rank_told}
 use Rattle.std.proofs.lemmas.List.FromFn.{length-enumerate_from}
-use Rattle.tx_text.proofs.Putting.{puts_none, puts_more, puts_all}
-use Rattle.tx_trace.specs.TraceText.{place_line}
-use Rattle.tx_trace.specs.Traces.{rank_told}
 use Rattle.tx_trace.proofs.Texts.{numbered}
 use Rattle.tx_trace.proofs.trace_text.write_list.Goals as goal
 

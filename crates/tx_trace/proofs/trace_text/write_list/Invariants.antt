@@ -1,8 +1,4 @@
-use Rattle.std.proofs.Common.{ℕ, take}
-use Rattle.std.specs.List.{flat_map, enumerate_from}
-use Rattle.tx_text.specs.Puts.{Puts}
-use Rattle.tx_trace.specs.TraceText.{place_line}
-use Rattle.tx_trace.specs.Traces.{rank_told}
+use Rattle.tx_trace.proofs.Common.{ℕ, take, flat_map, enumerate_from, Puts, place_line, rank_told}
 use Rattle.tx_trace.proofs.trace_text.write_list.Given as goal
 
 abbrev pub invariant-loop-i : goal.invariant-loop-i

@@ -1,5 +1,4 @@
-use Rattle.tx_text.proofs.Putting.{puts_then, puts_is}
-use Rattle.tx_trace.specs.Traces.{rank_told}
+use Rattle.tx_trace.proofs.Common.{puts_then, puts_is, rank_told}
 use Rattle.tx_trace.proofs.Texts.{place_is}
 use Rattle.tx_trace.proofs.trace_text.write_place.Goals as goal
 

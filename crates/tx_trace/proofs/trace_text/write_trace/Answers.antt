@@ -1,5 +1,4 @@
-use Rattle.tx_text.proofs.Writing.{some}
-use Rattle.tx_text.proofs.Putting.{puts_wrote, puts_then, puts_is}
+use Rattle.tx_trace.proofs.Common.{some, puts_wrote, puts_then, puts_is}
 use Rattle.tx_trace.proofs.Texts.{trace_lines}
 use Rattle.tx_trace.proofs.trace_text.write_trace.Goals as goal
 

@@ -1,5 +1,4 @@
-use Rattle.std.proofs.Common.{ℕ, List, subst}
-use Rattle.tx_plan.specs.Among.{Among}
+use Rattle.tx_trace.proofs.Common.{ℕ, List, subst, Among}
 use Rattle.tx_trace.proofs.Ends.{leads_to}
 use Rattle.tx_trace.proofs.Rounds.{all_reached, reached_on}
 use Rattle.tx_trace.proofs.Ranking.{start_reached}

@@ -1,7 +1,5 @@
-use Rattle.std.proofs.Common.{◌≡◌, ◌++◌, List, Some, map, subst}
+use Rattle.tx_trace.proofs.Common.{◌≡◌, ◌++◌, List, Some, map, subst, Pair, calls_of}
 use Rattle.std.specs.Prelude.{IfOk}
-use Rattle.tx_plan.specs.declared.ids.Pair.{Pair}
-use Rattle.tx_trace.specs.WayChanges.{calls_of}
 use Rattle.tx_trace.proofs.Changing.{since_is, none_since}
 use Rattle.tx_trace.proofs.way_changes.add_at.Goals as goal
 

@@ -1,5 +1,4 @@
-use Rattle.std.proofs.Common.{map}
-use Rattle.tx_trace.specs.WayChanges.{changed_at, calls_of}
+use Rattle.tx_trace.proofs.Common.{map, changed_at, calls_of}
 use Rattle.tx_trace.proofs.Passing.{grown}
 use Rattle.tx_trace.proofs.way_changes.add_for.Goals as goal
 

@@ -1,6 +1,4 @@
-use Rattle.std.proofs.Common.{◌≡◌, ◌++◌, map}
-use Rattle.std.specs.List.{AllByRecursion, flat_map, range_with_len}
-use Rattle.tx_trace.specs.WayChanges.{changed_at, AreWaysIn, calls_of}
+use Rattle.tx_trace.proofs.Common.{◌≡◌, ◌++◌, map, AllByRecursion, flat_map, range_with_len, changed_at, AreWaysIn, calls_of}
 use Rattle.tx_trace.proofs.way_changes.add_for.Given as goal
 
 abbrev pub invariant-loop-index : goal.invariant-loop-index

@@ -1,6 +1,4 @@
-use Rattle.std.proofs.Common.{ℕ, [], map, ap, ◌∙◌, arith}
-use Rattle.std.specs.List.{flat_map, range_with_len}
-use Rattle.tx_trace.specs.WayChanges.{changed_for, calls_of}
+use Rattle.tx_trace.proofs.Common.{ℕ, [], map, ap, ◌∙◌, arith, flat_map, range_with_len, changed_for, calls_of}
 use Rattle.tx_trace.proofs.Passing.{grown}
 use Rattle.tx_trace.proofs.way_changes.changes_of_ways.Goals as goal
 

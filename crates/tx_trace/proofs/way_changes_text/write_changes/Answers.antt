@@ -1,6 +1,4 @@
-use Rattle.tx_text.proofs.Putting.{puts_none, puts_more, puts_all, puts_is}
-use Rattle.tx_trace.specs.WayChanges.{calls_of}
-use Rattle.tx_trace.specs.WayChangesText.{change_of}
+use Rattle.tx_trace.proofs.Common.{puts_none, puts_more, puts_all, puts_is, calls_of, change_of}
 use Rattle.tx_trace.proofs.Changing.{flat_map-map}
 use Rattle.tx_trace.proofs.way_changes_text.write_changes.Goals as goal
 

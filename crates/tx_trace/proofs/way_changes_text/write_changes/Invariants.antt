@@ -1,8 +1,4 @@
-use Rattle.std.proofs.Common.{take}
-use Rattle.std.specs.List.{flat_map}
-use Rattle.tx_text.specs.Puts.{Puts}
-use Rattle.tx_trace.specs.WayChanges.{calls_of}
-use Rattle.tx_trace.specs.WayChangesText.{change_of}
+use Rattle.tx_trace.proofs.Common.{take, flat_map, Puts, calls_of, change_of}
 use Rattle.tx_trace.proofs.way_changes_text.write_changes.Given as goal
 
 abbrev pub invariant-loop-i : goal.invariant-loop-i

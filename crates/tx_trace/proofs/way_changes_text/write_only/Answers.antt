@@ -1,5 +1,4 @@
-use Rattle.tx_text.proofs.Putting.{puts_none, puts_more, puts_all}
-use Rattle.tx_trace.specs.WayChangesText.{only_line}
+use Rattle.tx_trace.proofs.Common.{puts_none, puts_more, puts_all, only_line}
 use Rattle.tx_trace.proofs.way_changes_text.write_only.Goals as goal
 
 pub loop-i-init : goal.loop-i-init

@@ -1,7 +1,4 @@
-use Rattle.std.proofs.Common.{take}
-use Rattle.std.specs.List.{flat_map}
-use Rattle.tx_text.specs.Puts.{Puts}
-use Rattle.tx_trace.specs.WayChangesText.{only_line}
+use Rattle.tx_trace.proofs.Common.{take, flat_map, Puts, only_line}
 use Rattle.tx_trace.proofs.way_changes_text.write_only.Given as goal
 
 abbrev pub invariant-loop-i : goal.invariant-loop-i

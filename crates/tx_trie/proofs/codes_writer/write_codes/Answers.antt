@@ -1,6 +1,5 @@
-use Rattle.std.proofs.Common.{◌<◌, ◌≤◌, length, arith}
+use Rattle.tx_trie.proofs.Common.{◌<◌, ◌≤◌, length, arith, code_line}
 use Rattle.tx_text.proofs.Putting.{puts_none, puts_then, puts_all, puts_wrote}
-use Rattle.tx_trie.specs.CodesText.{code_line}
 use Rattle.tx_trie.proofs.CodesWritten.{code_more, codes_some}
 use Rattle.tx_trie.proofs.codes_writer.write_codes.Goals as goal
 

@@ -1,7 +1,4 @@
-use Rattle.std.proofs.Common.{take}
-use Rattle.std.specs.List.{flat_map}
-use Rattle.tx_text.specs.Puts.{Puts}
-use Rattle.tx_trie.specs.CodesText.{code_line}
+use Rattle.tx_trie.proofs.Common.{take, flat_map, Puts, code_line}
 use Rattle.tx_trie.proofs.codes_writer.write_codes.Given as goal
 
 abbrev pub invariant-loop-index : goal.invariant-loop-index

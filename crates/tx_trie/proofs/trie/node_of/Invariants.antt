@@ -1,5 +1,4 @@
-use Rattle.std.proofs.Common.{◌≡◌, drop}
-use Rattle.tx_trie.specs.inner.Nodes.{node_after, node_of}
+use Rattle.tx_trie.proofs.Common.{◌≡◌, drop, node_after, node_of}
 use Rattle.tx_trie.proofs.trie.node_of.Given as goal
 
 abbrev pub invariant-loop-figure : goal.invariant-loop-figure

@@ -1,5 +1,4 @@
-use Rattle.std.proofs.Common.{◌≡◌, ◌*◌, None, replicate, ap, ◌∙◌, rules}
-use Rattle.tx_cert.specs.inner.Table.{certificate_of}
+use Rattle.tx_cert.proofs.Common.{◌≡◌, ◌*◌, None, replicate, ap, ◌∙◌, rules, certificate_of}
 use Rattle.tx_cert.proofs.Tables.{certificate_new}
 use Rattle.tx_cert.proofs.cert.Cert.of_sizes.Goals as goal
 

@@ -1,6 +1,4 @@
-use Rattle.std.proofs.Common.{◌+◌, ◌*◌, inl, inr, ap, ◌∙◌, arith}
-use Rattle.tx_cert.specs.Certificate.{Certificate, rank_at}
-use Rattle.tx_cert.specs.inner.Table.{Table}
+use Rattle.tx_cert.proofs.Common.{◌+◌, ◌*◌, inl, inr, ap, ◌∙◌, arith, Certificate, rank_at, Table}
 use Rattle.tx_cert.proofs.Tables.{rank_read, rank_foreign}
 use Rattle.tx_cert.proofs.cert.Cert.rank.Goals.{else-index-self-via-then-index-self+else-index-self-2, else-index-self-via-else-index-self}
 use Rattle.tx_cert.proofs.cert.Cert.rank.Goals as goal

@@ -1,5 +1,4 @@
-use Rattle.std.proofs.Common.{subst}
-use Rattle.tx_cert.specs.Certificate.{IsCertificate}
+use Rattle.tx_cert.proofs.Common.{subst, IsCertificate}
 use Rattle.tx_cert.proofs.Tables.{is_certificate}
 use Rattle.tx_cert.proofs.cert.Cert.rules.Goals as goal
 

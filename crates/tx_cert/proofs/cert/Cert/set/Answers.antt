@@ -1,6 +1,4 @@
-use Rattle.std.proofs.Common.{◌+◌, ◌*◌, ap, ◌∙◌, arith}
-use Rattle.tx_cert.specs.Certificate.{Certificate, with_rank}
-use Rattle.tx_cert.specs.inner.Table.{Table}
+use Rattle.tx_cert.proofs.Common.{◌+◌, ◌*◌, ap, ◌∙◌, arith, Certificate, with_rank, Table}
 use Rattle.tx_cert.proofs.Tables.{table_set, certificate_set}
 use Rattle.tx_cert.proofs.cert.Cert.set.Goals as goal
 

@@ -1,5 +1,4 @@
-use Rattle.std.proofs.Common.{subst}
-use Rattle.tx_cert.specs.Certificate.{IsCertificateOf}
+use Rattle.tx_cert.proofs.Common.{subst, IsCertificateOf}
 use Rattle.tx_cert.proofs.cert_reader.CertLines.finish.Goals as goal
 
 pub returns-clause-fits : goal.returns-clause-fits

@@ -1,8 +1,6 @@
-use Rattle.std.proofs.Common.{false, subst, ◌∙◌}
-use Rattle.tx_text.specs.Said.{Declared}
+use Rattle.tx_cert.proofs.Common.{false, subst, ◌∙◌, Declared, CertWord}
 use Rattle.tx_text.specs.inner.Beside.{beside}
 use Rattle.tx_text.proofs.Beside.{declared_beside}
-use Rattle.tx_cert.specs.declared.fault.CertWord.{CertWord}
 use Rattle.tx_cert.specs.CertText.{declare}
 use Rattle.tx_cert.proofs.Reading.{line_declared}
 use Rattle.tx_cert.proofs.cert_reader.CertLinesDeclares.declare.Goals as goal

@@ -1,8 +1,5 @@
-use Rattle.std.proofs.Common.{◌∙◌, List, ◌∷◌, [], ◌++◌, map, sym, ap, subst}
-use Rattle.std.specs.Prelude.{replicate}
+use Rattle.tx_circuits.proofs.Common.{◌∙◌, List, ◌∷◌, [], ◌++◌, map, sym, ap, subst, replicate, Row, GroupState, group_state, idle, AreKept}
 use Rattle.tx_text.proofs.Writing.{on_err}
-use Rattle.tx_circuits.specs.declared.groups.Row.{Row}
-use Rattle.tx_circuits.specs.inner.Groups.{GroupState, group_state, idle, AreKept}
 use Rattle.tx_circuits.proofs.Kept.{kept_without, view_without, kept_with, view_with}
 use Rattle.tx_circuits.proofs.groups.Groups.add.Goals as goal
 

@@ -1,9 +1,4 @@
-use Rattle.std.proofs.Common.{◌≡◌, ◌∙◌, ◌≤◌, List, length, map, sym, ap, subst, slice_set, arith}
-use Rattle.std.proofs.lemmas.List.{take_at, with_items_is}
-use Rattle.tx_circuits.specs.declared.slot.Slot.{Slot}
-use Rattle.tx_circuits.specs.declared.groups.Row.{Row}
-use Rattle.tx_circuits.specs.inner.Slots.{state_of, cleared_state}
-use Rattle.tx_circuits.specs.inner.Groups.{group_slots, group_state, AreApart, AreKept}
+use Rattle.tx_circuits.proofs.Common.{◌≡◌, ◌∙◌, ◌≤◌, List, length, map, sym, ap, subst, slice_set, arith, take_at, with_items_is, Slot, Row, state_of, cleared_state, group_slots, group_state, AreApart, AreKept}
 use Rattle.tx_circuits.proofs.Kept.{entry_at, slots_length, kept_updated, view_updated}
 use Rattle.tx_circuits.proofs.groups.Groups.clear.Goals as goal
 

@@ -1,7 +1,4 @@
-use Rattle.std.proofs.Common.{◌≡◌, ◌∙◌, Option, sym, ap, subst}
-use Rattle.std.specs.Prelude.{IfSome}
-use Rattle.tx_circuits.specs.declared.lists.End.TheVariants.{First, Other}
-use Rattle.tx_circuits.specs.inner.Groups.{GroupState, group_slots, group_state, first_index}
+use Rattle.tx_circuits.proofs.Common.{◌≡◌, ◌∙◌, Option, sym, ap, subst, IfSome, First, Other, GroupState, group_slots, group_state, first_index}
 use Rattle.tx_circuits.proofs.Kept.{entry_at, view_at}
 use Rattle.tx_circuits.proofs.Heads.{first_index_is}
 use Rattle.tx_circuits.proofs.groups.Groups.first_index.Goals as goal

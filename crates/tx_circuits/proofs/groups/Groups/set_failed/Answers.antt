@@ -1,5 +1,4 @@
-use Rattle.std.proofs.Common.{◌∙◌, refl}
-use Rattle.tx_circuits.specs.inner.Groups.{group_state, change_at, with_failed}
+use Rattle.tx_circuits.proofs.Common.{◌∙◌, refl, group_state, change_at, with_failed}
 use Rattle.tx_circuits.proofs.Kept.{entry_at, kept_after}
 use Rattle.tx_circuits.proofs.FreeLists.{map-set_change}
 use Rattle.tx_circuits.proofs.groups.Groups.set_failed.Goals as goal

@@ -1,9 +1,4 @@
-use Rattle.std.proofs.Common.{◌≡◌, ◌∙◌, suc, ◌-◌, ◌<◌, List, length, map, sym, ap, subst, slice_set, arith}
-use Rattle.std.proofs.lemmas.List.{length-map, take_at, with_items_is}
-use Rattle.tx_circuits.specs.declared.slot.Slot.{Slot}
-use Rattle.tx_circuits.specs.declared.groups.Row.{Row}
-use Rattle.tx_circuits.specs.inner.Slots.{state_of, IsSound}
-use Rattle.tx_circuits.specs.inner.Groups.{group_slots, group_state, with_state, AreApart, AreKept}
+use Rattle.tx_circuits.proofs.Common.{◌≡◌, ◌∙◌, suc, ◌-◌, ◌<◌, List, length, map, sym, ap, subst, slice_set, arith, length-map, take_at, with_items_is, Slot, Row, state_of, IsSound, group_slots, group_state, with_state, AreApart, AreKept}
 use Rattle.tx_circuits.proofs.Kept.{entry_at, kept_updated, view_updated, set_numbered_at}
 use Rattle.tx_circuits.proofs.Members.{known}
 use Rattle.tx_circuits.proofs.Steps.{state_in}

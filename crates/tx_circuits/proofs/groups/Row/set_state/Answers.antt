@@ -1,6 +1,4 @@
-use Rattle.std.proofs.Common.{◌∙◌, List, map, sym, ap, subst}
-use Rattle.tx_circuits.specs.declared.slot.Slot.{Slot}
-use Rattle.tx_circuits.specs.inner.Slots.{state_of, IsSound}
+use Rattle.tx_circuits.proofs.Common.{◌∙◌, List, map, sym, ap, subst, Slot, state_of, IsSound}
 use Rattle.tx_circuits.proofs.Kept.{slots_length, part_here, part_apart}
 use Rattle.tx_circuits.proofs.groups.Row.set_state.Goals as goal
 

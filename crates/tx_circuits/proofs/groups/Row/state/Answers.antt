@@ -1,6 +1,4 @@
-use Rattle.std.proofs.Common.{◌∙◌, ◌-◌, ◌<◌, ◌≤◌, map, sym, arith}
-use Rattle.tx_circuits.specs.inner.Slots.{state_of}
-use Rattle.tx_circuits.specs.inner.Groups.{group_slots}
+use Rattle.tx_circuits.proofs.Common.{◌∙◌, ◌-◌, ◌<◌, ◌≤◌, map, sym, arith, state_of, group_slots}
 use Rattle.tx_circuits.proofs.Kept.{numbered_at, slot_at}
 use Rattle.tx_circuits.proofs.groups.Row.state.Goals as goal
 

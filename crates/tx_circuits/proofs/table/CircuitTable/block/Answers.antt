@@ -1,7 +1,4 @@
-use Rattle.std.proofs.Common.{◌∙◌, ap}
-use Rattle.std.specs.FinSet.{insert}
-use Rattle.tx_circuits.specs.Table.{Table}
-use Rattle.tx_circuits.specs.inner.Seen.{table_of}
+use Rattle.tx_circuits.proofs.Common.{◌∙◌, ap, insert, Table, table_of}
 use Rattle.tx_circuits.proofs.Updates.{blocked_is}
 use Rattle.tx_circuits.proofs.Steps.{group_in}
 use Rattle.tx_circuits.proofs.table.CircuitTable.block.Goals as goal

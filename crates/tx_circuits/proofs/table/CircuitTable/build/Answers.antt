@@ -1,9 +1,5 @@
-use Rattle.std.proofs.Common.{◌≡◌, ◌∙◌, ℕ, suc, ◌+◌, ◌<◌, ◌≤◌, [], ◌∷◌, ◌++◌, false, length, map, take, sym, ap, arith}
-use Rattle.std.specs.Prelude.{replicate, slice_get}
-use Rattle.std.proofs.lemmas.List.{take_all}
+use Rattle.tx_circuits.proofs.Common.{◌≡◌, ◌∙◌, ℕ, suc, ◌+◌, ◌<◌, ◌≤◌, [], ◌∷◌, ◌++◌, false, length, map, take, sym, ap, arith, replicate, slice_get, take_all, idle, table_of}
 use Rattle.tx_plan.proofs.ByIndex.{entry_at}
-use Rattle.tx_circuits.specs.inner.Groups.{idle}
-use Rattle.tx_circuits.specs.inner.Seen.{table_of}
 use Rattle.tx_circuits.proofs.Built.{fresh, fresh_push, fresh_is, built_is}
 use Rattle.tx_circuits.proofs.table.CircuitTable.build.Goals as goal
 

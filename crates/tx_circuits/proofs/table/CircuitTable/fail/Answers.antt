@@ -1,10 +1,7 @@
-use Rattle.std.proofs.Common.{◌∙◌, ℕ, ◌<◌, true, length, sym, ap, subst}
-use Rattle.tx_circuits.specs.Table.{Table, with_failure}
-use Rattle.tx_circuits.specs.inner.Seen.{table_of}
+use Rattle.tx_circuits.proofs.Common.{◌∙◌, ℕ, ◌<◌, true, length, sym, ap, subst, Table, with_failure, table_of, with_failed, change_at}
 use Rattle.tx_circuits.proofs.FreeLists.{length-change}
 use Rattle.tx_circuits.proofs.Updates.{failure_is, clear_group}
 use Rattle.tx_circuits.proofs.Steps.{group_in}
-use Rattle.tx_circuits.specs.inner.Groups.{with_failed, change_at}
 use Rattle.tx_circuits.proofs.table.CircuitTable.fail.Goals as goal
 
 pub set_failed-requires : goal.set_failed-requires

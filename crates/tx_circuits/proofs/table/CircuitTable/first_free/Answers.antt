@@ -1,12 +1,4 @@
-use Rattle.std.proofs.Common.{◌≡◌, ◌∙◌, ℕ, suc, ◌+◌, true, false, Some, None, sym, ap, subst, arith}
-use Rattle.std.specs.Prelude.{if◌then◌else◌, find}
-use Rattle.std.specs.Option.{option_map}
-use Rattle.std.proofs.lemmas.Option.{slice_get_within}
-use Rattle.tx_plan.specs.Circuits.{is_circuit, circuits_at}
-use Rattle.tx_plan.specs.declared.ids.Circuit.{Circuit}
-use Rattle.tx_circuits.specs.inner.Groups.{first_index}
-use Rattle.tx_circuits.specs.Table.{Table, plan_of, is_down, is_free_at, first_free}
-use Rattle.tx_circuits.specs.inner.Seen.{table_of}
+use Rattle.tx_circuits.proofs.Common.{◌≡◌, ◌∙◌, ℕ, suc, ◌+◌, true, false, Some, None, sym, ap, subst, arith, if◌then◌else◌, find, option_map, slice_get_within, is_circuit, circuits_at, Circuit, first_index, Table, plan_of, is_down, is_free_at, first_free, table_of}
 use Rattle.tx_circuits.proofs.Reading.{first_is, first_known}
 use Rattle.tx_circuits.proofs.Steps.{group_at, index_is, end_is_there}
 use Rattle.tx_circuits.proofs.table.CircuitTable.first_free.Goals as goal

@@ -1,10 +1,4 @@
-use Rattle.std.proofs.Common.{◌∙◌, true, false, sym, ap}
-use Rattle.std.specs.Option.{option_map_or}
-use Rattle.tx_circuits.specs.declared.slot.CircuitState.{CircuitState}
-use Rattle.tx_circuits.specs.inner.Slots.{has_seized}
-use Rattle.tx_circuits.specs.inner.Groups.{end_at, with_state, change_at}
-use Rattle.tx_circuits.specs.Table.{Table, withdrawn, released_unless}
-use Rattle.tx_circuits.specs.inner.Seen.{table_of}
+use Rattle.tx_circuits.proofs.Common.{◌∙◌, true, false, sym, ap, option_map_or, CircuitState, has_seized, end_at, with_state, change_at, Table, withdrawn, released_unless, table_of}
 use Rattle.tx_circuits.proofs.GivenUp.{kept_is, given_up_is}
 use Rattle.tx_circuits.proofs.Steps.{seat_in}
 use Rattle.tx_circuits.proofs.table.CircuitTable.give_up.Goals as goal

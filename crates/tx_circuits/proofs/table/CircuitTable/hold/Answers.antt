@@ -1,6 +1,4 @@
-use Rattle.std.proofs.Common.{◌∙◌, ap}
-use Rattle.tx_circuits.specs.Table.{Table, with_held}
-use Rattle.tx_circuits.specs.inner.Seen.{table_of}
+use Rattle.tx_circuits.proofs.Common.{◌∙◌, ap, Table, with_held, table_of}
 use Rattle.tx_circuits.proofs.Updates.{held_is}
 use Rattle.tx_circuits.proofs.Steps.{seat_in}
 use Rattle.tx_circuits.proofs.table.CircuitTable.hold.Goals as goal

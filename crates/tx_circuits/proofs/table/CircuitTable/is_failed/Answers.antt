@@ -1,6 +1,4 @@
-use Rattle.std.proofs.Common.{◌∙◌, false, sym, ap}
-use Rattle.std.specs.Prelude.{slice_get}
-use Rattle.std.specs.Option.{option_map_or}
+use Rattle.tx_circuits.proofs.Common.{◌∙◌, false, sym, ap, slice_get, option_map_or}
 use Rattle.tx_circuits.proofs.Steps.{failed_is_marked, head_read}
 use Rattle.tx_circuits.proofs.table.CircuitTable.is_failed.Goals as goal
 

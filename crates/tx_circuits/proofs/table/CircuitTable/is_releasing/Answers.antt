@@ -1,5 +1,4 @@
-use Rattle.std.proofs.Common.{◌∙◌, false, sym, ap}
-use Rattle.std.specs.Option.{option_map_or}
+use Rattle.tx_circuits.proofs.Common.{◌∙◌, false, sym, ap, option_map_or}
 use Rattle.tx_circuits.proofs.Steps.{releasing_holds}
 use Rattle.tx_circuits.proofs.table.CircuitTable.is_releasing.Goals as goal
 

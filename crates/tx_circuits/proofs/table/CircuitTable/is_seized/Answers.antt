@@ -1,7 +1,4 @@
-use Rattle.std.proofs.Common.{◌∙◌, false, sym, ap}
-use Rattle.std.specs.Option.{option_map_or}
-use Rattle.tx_circuits.specs.inner.Slots.{has_seized}
-use Rattle.tx_circuits.specs.inner.Seen.{holds}
+use Rattle.tx_circuits.proofs.Common.{◌∙◌, false, sym, ap, option_map_or, has_seized, holds}
 use Rattle.tx_circuits.proofs.Steps.{seized_sits}
 use Rattle.tx_circuits.proofs.table.CircuitTable.is_seized.Goals as goal
 

@@ -1,5 +1,4 @@
-use Rattle.std.proofs.Common.{◌∙◌, sym, ap, refl}
-use Rattle.std.specs.Prelude.{not}
+use Rattle.tx_circuits.proofs.Common.{◌∙◌, sym, ap, refl, not}
 use Rattle.std.proofs.lemmas.Bool.{not-true}
 use Rattle.tx_circuits.proofs.Steps.{seized_ends, seized_none, unseized}
 use Rattle.tx_circuits.proofs.table.CircuitTable.is_unseized.Goals as goal

@@ -1,7 +1,4 @@
-use Rattle.std.proofs.Common.{◌∙◌, sym, ap}
-use Rattle.std.specs.FinSet.{insert}
-use Rattle.tx_circuits.specs.Table.{Table}
-use Rattle.tx_circuits.specs.inner.Seen.{table_of}
+use Rattle.tx_circuits.proofs.Common.{◌∙◌, sym, ap, insert, Table, table_of}
 use Rattle.tx_circuits.proofs.Updates.{put_out_is}
 use Rattle.tx_circuits.proofs.Steps.{circuit_is}
 use Rattle.tx_circuits.proofs.table.CircuitTable.put_out.Goals as goal

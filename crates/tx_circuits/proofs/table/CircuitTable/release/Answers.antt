@@ -1,8 +1,4 @@
-use Rattle.std.proofs.Common.{◌∙◌, sym, ap}
-use Rattle.tx_circuits.specs.declared.slot.CircuitState.{CircuitState}
-use Rattle.tx_circuits.specs.inner.Groups.{with_state, change_at}
-use Rattle.tx_circuits.specs.Table.{Table, with_released}
-use Rattle.tx_circuits.specs.inner.Seen.{table_of}
+use Rattle.tx_circuits.proofs.Common.{◌∙◌, sym, ap, CircuitState, with_state, change_at, Table, with_released, table_of}
 use Rattle.tx_circuits.proofs.Updates.{released_is}
 use Rattle.tx_circuits.proofs.Steps.{circuit_is}
 use Rattle.tx_circuits.proofs.table.CircuitTable.release.Goals as goal

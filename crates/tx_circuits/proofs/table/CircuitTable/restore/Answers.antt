@@ -1,7 +1,4 @@
-use Rattle.std.proofs.Common.{◌∙◌, ap}
-use Rattle.std.specs.FinSet.{remove}
-use Rattle.tx_circuits.specs.Table.{Table}
-use Rattle.tx_circuits.specs.inner.Seen.{table_of}
+use Rattle.tx_circuits.proofs.Common.{◌∙◌, ap, remove, Table, table_of}
 use Rattle.tx_circuits.proofs.Updates.{restored_is}
 use Rattle.tx_circuits.proofs.Steps.{failed_in}
 use Rattle.tx_circuits.proofs.table.CircuitTable.restore.Goals as goal

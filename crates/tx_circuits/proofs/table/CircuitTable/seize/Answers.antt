@@ -1,8 +1,4 @@
-use Rattle.std.proofs.Common.{◌∙◌, sym, ap}
-use Rattle.std.specs.FinSet.{insert}
-use Rattle.tx_circuits.specs.inner.Groups.{with_state, change_at}
-use Rattle.tx_circuits.specs.Table.{Table}
-use Rattle.tx_circuits.specs.inner.Seen.{table_of}
+use Rattle.tx_circuits.proofs.Common.{◌∙◌, sym, ap, insert, with_state, change_at, Table, table_of}
 use Rattle.tx_circuits.proofs.Updates.{seized_is}
 use Rattle.tx_circuits.proofs.Steps.{circuit_is, end_is_there}
 use Rattle.tx_circuits.proofs.table.CircuitTable.seize.Goals as goal

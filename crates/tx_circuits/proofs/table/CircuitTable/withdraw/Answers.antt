@@ -1,8 +1,4 @@
-use Rattle.std.proofs.Common.{◌∙◌, ap}
-use Rattle.std.specs.FinSet.{remove}
-use Rattle.tx_circuits.specs.inner.Groups.{with_state, change_at}
-use Rattle.tx_circuits.specs.Table.{Table}
-use Rattle.tx_circuits.specs.inner.Seen.{table_of}
+use Rattle.tx_circuits.proofs.Common.{◌∙◌, ap, remove, with_state, change_at, Table, table_of}
 use Rattle.tx_circuits.proofs.Updates.{withdrawn_is}
 use Rattle.tx_circuits.proofs.Steps.{seat_in}
 use Rattle.tx_circuits.proofs.table.CircuitTable.withdraw.Goals as goal

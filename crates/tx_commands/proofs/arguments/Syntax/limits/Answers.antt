@@ -1,7 +1,5 @@
-use Rattle.std.proofs.Common.{subst}
-use Rattle.clap.specs.Words.{rule_of, with_rule}
+use Rattle.tx_commands.proofs.Common.{subst, rule_of, with_rule, Takes}
 use Rattle.tx_commands.specs.Grammar as grammar
-use Rattle.tx_commands.specs.inner.Takes.{Takes}
 use Rattle.tx_commands.proofs.Grammars.{needs}
 use Rattle.tx_commands.proofs.arguments.Syntax.limits.Goals as goal
 

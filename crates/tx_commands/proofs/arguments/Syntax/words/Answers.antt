@@ -1,7 +1,5 @@
-use Rattle.std.proofs.Common.{subst}
-use Rattle.clap.specs.Words.{with_rule}
+use Rattle.tx_commands.proofs.Common.{subst, with_rule, Takes}
 use Rattle.tx_commands.specs.Grammar as grammar
-use Rattle.tx_commands.specs.inner.Takes.{Takes}
 use Rattle.tx_commands.proofs.Grammars.{several}
 use Rattle.tx_commands.proofs.arguments.Syntax.words.Goals as goal
 

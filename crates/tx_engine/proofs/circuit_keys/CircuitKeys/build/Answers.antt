@@ -1,5 +1,4 @@
-use Rattle.std.proofs.Common.{arith, sym, ap, ◌∙◌, ◌+◌, subst}
-use Rattle.tx_plan.specs.Circuits.{count_of}
+use Rattle.tx_engine.proofs.Common.{arith, sym, ap, ◌∙◌, ◌+◌, subst, count_of}
 use Rattle.tx_engine.proofs.WrittenKeys.{AreLong, long_push, long_has}
 use Rattle.tx_engine.proofs.circuit_keys.CircuitKeys.build.Goals as goal
 

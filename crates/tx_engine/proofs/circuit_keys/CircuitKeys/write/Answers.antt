@@ -1,10 +1,5 @@
-use Rattle.std.proofs.Common.{◌≡◌, is_some, true, sym, subst, refl, List, ap, ◌∙◌}
-use Rattle.std.specs.Prelude.{if◌then◌else◌}
-use Rattle.std.specs.Option.{option_map}
+use Rattle.tx_engine.proofs.Common.{◌≡◌, is_some, true, sym, subst, refl, List, ap, ◌∙◌, if◌then◌else◌, option_map, same_circuit, keys_at, EndKeys}
 use Rattle.std.specs.Vec.{with_item}
-use Rattle.tx_plan.specs.Orders.{same_circuit}
-use Rattle.tx_engine.specs.inner.Keys.{keys_at}
-use Rattle.tx_engine.specs.declared.circuit_keys.EndKeys.{EndKeys}
 use Rattle.tx_engine.proofs.WrittenKeys.{written}
 use Rattle.tx_engine.proofs.circuit_keys.CircuitKeys.write.Goals as goal
 

@@ -1,19 +1,13 @@
-use Rattle.std.proofs.Common.{◌≡◌, ◌<◌, ◌-◌, ◌^◌, ◌++◌, [], ◌∷◌, None, length, sym, ap, subst, ◌∙◌, deque_len, deque_capacity}
-use Rattle.std.specs.Prelude.{nat_le}
+use Rattle.tx_engine.proofs.Common.{◌≡◌, ◌<◌, ◌-◌, ◌^◌, ◌++◌, [], ◌∷◌, None, length, sym, ap, subst, ◌∙◌, deque_len, deque_capacity, nat_le, is_circuit, Net, is_circuit-same, calls_in, AreSound}
 use Rattle.std.proofs.lemmas.Bool.{not-false}
 use Rattle.std.proofs.lemmas.List.{length-map}
-use Rattle.tx_plan.specs.Circuits.{is_circuit}
 use Rattle.tx_machine.specs.declared.event.Event.{Event}
 use Rattle.tx_machine.specs.declared.event.Event.TheVariants.{Block, CircuitOut}
 use Rattle.tx_machine.specs.declared.refusal.Refusal.TheVariants.{Exhausted}
-use Rattle.tx_machine.specs.State.{Net}
 use Rattle.tx_machine.specs.Refusals.{refusal, refusals}
 use Rattle.tx_machine.proofs.Steps.{tests_false}
 use Rattle.tx_machine.proofs.Unrefused.{group_within}
 use Rattle.tx_circuits.specs.Table.{Table, without_name}
-use Rattle.tx_circuits.proofs.Unnamed.{is_circuit-same}
-use Rattle.tx_engine.specs.inner.KeptCalls.{calls_in}
-use Rattle.tx_engine.specs.inner.Sound.{AreSound}
 use Rattle.tx_engine.proofs.Changing.{sound_table}
 use Rattle.tx_engine.proofs.Together.{released_together}
 use Rattle.tx_engine.proofs.engine.Engine.accept.Goals as goal

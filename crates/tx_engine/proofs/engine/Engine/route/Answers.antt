@@ -1,10 +1,5 @@
-use Rattle.std.proofs.Common.{◌≡◌, ◌<◌, ◌-◌, ◌^◌, is_some, true, sym, ap, subst, ◌∙◌}
-use Rattle.tx_machine.specs.declared.deciding.Decision.{Decision}
+use Rattle.tx_engine.proofs.Common.{◌≡◌, ◌<◌, ◌-◌, ◌^◌, is_some, true, sym, ap, subst, ◌∙◌, Decision, Route, call_of, Net, carried_out}
 use Rattle.tx_machine.specs.declared.deciding.Decision.TheVariants.{Answer, Connect, Seize}
-use Rattle.tx_machine.specs.declared.event.Event.TheVariants.{Route}
-use Rattle.tx_machine.specs.Call.{call_of}
-use Rattle.tx_machine.specs.State.{Net}
-use Rattle.tx_machine.specs.inner.Decided.{carried_out}
 use Rattle.tx_machine.proofs.Unrefused.{can_count, can_route}
 use Rattle.tx_engine.proofs.Deciding.{is_decided, is_routed}
 use Rattle.tx_engine.proofs.engine.Engine.route.Goals as goal

@@ -1,7 +1,4 @@
-use Rattle.std.proofs.Common.{ap, ◌∙◌}
-use Rattle.tx_machine.specs.InUse.{first_free}
-use Rattle.tx_machine.specs.State.{Net}
-use Rattle.tx_engine.specs.inner.KeptCalls.{calls_in}
+use Rattle.tx_engine.proofs.Common.{ap, ◌∙◌, first_free, Net, calls_in}
 use Rattle.tx_engine.proofs.Deciding.{first_is}
 use Rattle.tx_engine.proofs.engine.EngineFacts.first_free.Goals as goal
 

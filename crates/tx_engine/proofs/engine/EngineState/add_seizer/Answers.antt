@@ -1,6 +1,5 @@
-use Rattle.std.proofs.Common.{[], ◌∷◌, sym, ◌∙◌}
+use Rattle.tx_engine.proofs.Common.{[], ◌∷◌, sym, ◌∙◌, calls_in}
 use Rattle.std.proofs.lemmas.List.{append-nil}
-use Rattle.tx_engine.specs.inner.KeptCalls.{calls_in}
 use Rattle.tx_engine.proofs.Users.{no_seizer}
 use Rattle.tx_engine.proofs.engine.EngineState.add_seizer.Goals as goal
 

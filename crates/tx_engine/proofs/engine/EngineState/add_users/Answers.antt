@@ -1,9 +1,6 @@
-use Rattle.std.proofs.Common.{ℕ, [], ◌∷◌, ◌++◌, sym, ap, subst, ◌∙◌}
+use Rattle.tx_engine.proofs.Common.{ℕ, [], ◌∷◌, ◌++◌, sym, ap, subst, ◌∙◌, seizes_from, AreNumbersOf, calls_in}
 use Rattle.std.proofs.lemmas.List.{append_assoc}
-use Rattle.tx_machine.specs.InUse.{seizes_from}
-use Rattle.tx_engine.specs.inner.Users.{AreNumbersOf}
 use Rattle.tx_engine.proofs.Users.{by_seizures}
-use Rattle.tx_engine.specs.inner.KeptCalls.{calls_in}
 use Rattle.tx_engine.proofs.engine.EngineState.add_users.Goals as goal
 
 pub returns-then-is_carried-clause-added : goal.returns-then-is_carried-clause-added

@@ -1,6 +1,5 @@
-use Rattle.std.proofs.Common.{sym, ap}
+use Rattle.tx_engine.proofs.Common.{sym, ap, State}
 use Rattle.tx_machine.specs.declared.reply.Reply.TheVariants.{Answered}
-use Rattle.tx_machine.specs.State.{State}
 use Rattle.tx_engine.proofs.engine.EngineState.answer.Goals as goal
 
 pub returns-clause-step : goal.returns-clause-step

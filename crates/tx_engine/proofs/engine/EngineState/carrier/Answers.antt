@@ -1,8 +1,5 @@
-use Rattle.std.proofs.Common.{◌≡◌, ◌∷◌, [], true, Some, is_some, sym, ap, ◌∙◌, subst}
-use Rattle.tx_engine.specs.inner.InTurn.{uses}
-use Rattle.tx_engine.specs.inner.Users.{AreNumbersOf}
+use Rattle.tx_engine.proofs.Common.{◌≡◌, ◌∷◌, [], true, Some, is_some, sym, ap, ◌∙◌, subst, uses, AreNumbersOf, Kept, kept_at, kept_of, calls_in}
 use Rattle.tx_engine.proofs.Users.{carrier_alone}
-use Rattle.tx_engine.specs.inner.KeptCalls.{Kept, kept_at, kept_of, calls_in}
 use Rattle.tx_engine.proofs.Leading.{carrier_found}
 use Rattle.tx_engine.proofs.engine.EngineState.carrier.Goals as goal
 

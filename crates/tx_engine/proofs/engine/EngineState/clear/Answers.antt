@@ -1,7 +1,6 @@
-use Rattle.std.proofs.Common.{is_some, ap}
+use Rattle.tx_engine.proofs.Common.{is_some, ap, state_of}
 use Rattle.tx_machine.specs.declared.event.Event.TheVariants.{Clear}
 use Rattle.tx_machine.proofs.Unrefused.{can_count, can_clear}
-use Rattle.tx_engine.specs.inner.Sound.{state_of}
 use Rattle.tx_engine.proofs.engine.EngineState.clear.Goals as goal
 
 pub key_of-key-requires : goal.key_of-key-requires

@@ -1,6 +1,5 @@
-use Rattle.std.proofs.Common.{is_some, ap}
+use Rattle.tx_engine.proofs.Common.{is_some, ap, state_of}
 use Rattle.tx_machine.proofs.Unrefused.{can_confirm}
-use Rattle.tx_engine.specs.inner.Sound.{state_of}
 use Rattle.tx_engine.proofs.engine.EngineState.confirm.Goals as goal
 
 pub key_of-key-requires : goal.key_of-key-requires

@@ -1,10 +1,6 @@
-use Rattle.std.proofs.Common.{List, sym, ap, ◌∙◌}
+use Rattle.tx_engine.proofs.Common.{List, sym, ap, ◌∙◌, Call, Book, calls_in, state_seen}
 use Rattle.std.specs.FinSet as set
 use Rattle.tx_machine.specs.declared.reply.Reply.TheVariants.{Connected}
-use Rattle.tx_machine.specs.Call.{Call}
-use Rattle.tx_lines.specs.Book.{Book}
-use Rattle.tx_engine.specs.inner.KeptCalls.{calls_in}
-use Rattle.tx_engine.specs.inner.Seen.{state_seen}
 use Rattle.tx_engine.proofs.Routing.{sound_connected}
 use Rattle.tx_engine.proofs.engine.EngineState.connect.Goals as goal
 

@@ -1,7 +1,4 @@
-use Rattle.std.proofs.Common.{◌≡◌, ◌++◌, ◌∷◌, [], Some, sym, ap, ◌∙◌, deque_len, deque_capacity}
-use Rattle.tx_machine.specs.Ending.{end_call}
-use Rattle.tx_engine.specs.inner.KeptCalls.{Kept, kept_of}
-use Rattle.tx_engine.specs.inner.Sound.{state_of}
+use Rattle.tx_engine.proofs.Common.{◌≡◌, ◌++◌, ◌∷◌, [], Some, sym, ap, ◌∙◌, deque_len, deque_capacity, end_call, Kept, kept_of, state_of}
 use Rattle.tx_engine.proofs.Ended.{may_give_back, has_ticket_room, sound_ended, state_ended}
 use Rattle.tx_engine.proofs.engine.EngineState.end_call.Goals as goal
 

@@ -1,10 +1,6 @@
-use Rattle.std.proofs.Common.{◌<◌, ◌-◌, ◌^◌, sym, ap, subst, ◌∙◌}
-use Rattle.std.specs.Prelude.{if◌then◌else◌}
+use Rattle.tx_engine.proofs.Common.{◌<◌, ◌-◌, ◌^◌, sym, ap, subst, ◌∙◌, if◌then◌else◌, Nc, ended_if, state_of}
 use Rattle.std.proofs.lemmas.Bool.{lt-ltb, le-ltb}
 use Rattle.tx_machine.specs.declared.cause.Cause.TheVariants.{Service as ByService}
-use Rattle.tx_machine.specs.declared.cause.Service.TheVariants.{Nc}
-use Rattle.tx_engine.specs.inner.InTurn.{ended_if}
-use Rattle.tx_engine.specs.inner.Sound.{state_of}
 use Rattle.tx_engine.proofs.engine.EngineState.end_collided.Goals as goal
 
 pub end_if_collided-requires-then-one-other-clause-events : goal.end_if_collided-requires-then-one-other-clause-events

@@ -1,10 +1,6 @@
-use Rattle.std.proofs.Common.{sym, ◌∙◌, subst, deque_len, deque_capacity}
-use Rattle.tx_machine.specs.declared.reply.Reply.TheVariants.{Lost}
-use Rattle.tx_engine.specs.inner.KeptCalls.{calls_in}
-use Rattle.tx_engine.specs.inner.Seen.{AreTogether, state_seen}
+use Rattle.tx_engine.proofs.Common.{sym, ◌∙◌, subst, deque_len, deque_capacity, Lost, calls_in, AreTogether, state_seen, state_of}
 use Rattle.tx_engine.proofs.Accepted.{fail_done}
 use Rattle.tx_engine.proofs.Together.{failed_together}
-use Rattle.tx_engine.specs.inner.Sound.{state_of}
 use Rattle.tx_engine.proofs.Changing.{sound_table}
 use Rattle.tx_engine.proofs.engine.EngineState.fail.Goals as goal
 

@@ -1,19 +1,8 @@
-use Rattle.std.proofs.Common.{◌+◌, ◌++◌, ◌∷◌, [], sym, ap, ◌∙◌, List, deque_len, deque_capacity, arith}
+use Rattle.tx_engine.proofs.Common.{◌+◌, ◌++◌, ◌∷◌, [], sym, ap, ◌∙◌, List, deque_len, deque_capacity, arith, Plan, is_line, Hop, Call, is_engaged, State, accepted, Book, calls_in, state_seen, state_of}
 use Rattle.std.specs.FinSet as set
-use Rattle.tx_plan.specs.Plan.{Plan}
-use Rattle.tx_plan.specs.Lines.{is_line}
 use Rattle.tx_machine.specs.declared.event.Event.TheVariants.{Key}
-use Rattle.tx_machine.specs.declared.open_call.Hop.{Hop}
 use Rattle.tx_machine.specs.declared.reply.Reply.TheVariants.{Keyed}
-use Rattle.tx_machine.specs.Call.{Call}
-use Rattle.tx_machine.specs.Lines.{is_engaged}
-use Rattle.tx_machine.specs.State.{State}
-use Rattle.tx_machine.specs.Step.{accepted}
 use Rattle.tx_machine.proofs.Unrefused.{can_count, can_key, key_line}
-use Rattle.tx_lines.specs.Book.{Book}
-use Rattle.tx_engine.specs.inner.KeptCalls.{calls_in}
-use Rattle.tx_engine.specs.inner.Seen.{state_seen}
-use Rattle.tx_engine.specs.inner.Sound.{state_of}
 use Rattle.tx_engine.proofs.Changing.{sound_key, keyed_with}
 use Rattle.tx_engine.proofs.engine.EngineState.key.Goals as goal
 

@@ -1,12 +1,8 @@
-use Rattle.std.proofs.Common.{ℕ, ◌+◌, ◌<◌, ◌-◌, ◌^◌, ◌∙◌, sym, ap, subst, drop, refl, arith, get_or}
+use Rattle.tx_engine.proofs.Common.{ℕ, ◌+◌, ◌<◌, ◌-◌, ◌^◌, ◌∙◌, sym, ap, subst, drop, refl, arith, get_or, Plan, end_call, calls_in, state_of}
 use Rattle.std.proofs.lemmas.List.{drop_all}
-use Rattle.tx_plan.specs.Plan.{Plan}
 use Rattle.tx_machine.specs.declared.cause.Cause.TheVariants.{Lost as ByLoss}
-use Rattle.tx_machine.specs.Ending.{end_call}
-use Rattle.tx_engine.specs.inner.KeptCalls.{calls_in}
 use Rattle.tx_engine.proofs.Losing.{losing_begins}
 use Rattle.tx_engine.proofs.Users.{AreLeft, none_left}
-use Rattle.tx_engine.specs.inner.Sound.{state_of}
 use Rattle.tx_engine.proofs.Lost.{drop_first, mem_there, least_there, goes_on}
 use Rattle.tx_engine.proofs.engine.EngineState.lose.Goals as goal
 

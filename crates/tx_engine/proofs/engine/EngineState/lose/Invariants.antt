@@ -1,8 +1,5 @@
-use Rattle.std.proofs.Common.{◌≡◌, ◌≤◌, drop}
-use Rattle.tx_engine.specs.inner.KeptCalls.{calls_in}
-use Rattle.tx_engine.specs.inner.InTurn.{IsLosing}
+use Rattle.tx_engine.proofs.Common.{◌≡◌, ◌≤◌, drop, calls_in, IsLosing, IsSound, state_of}
 use Rattle.tx_engine.proofs.Users.{AreLeft}
-use Rattle.tx_engine.specs.inner.Sound.{IsSound, state_of}
 use Rattle.tx_engine.proofs.engine.EngineState.lose.Given as goal
 
 abbrev pub invariant-loop-number : goal.invariant-loop-number

@@ -1,8 +1,5 @@
-use Rattle.std.proofs.Common.{◌≡◌, ℕ, Some, None, refl, sym, ap, ◌∙◌}
+use Rattle.tx_engine.proofs.Common.{◌≡◌, ℕ, Some, None, refl, sym, ap, ◌∙◌, State, end_call, state_of}
 use Rattle.tx_machine.specs.declared.cause.Cause.TheVariants.{Lost as ByLoss}
-use Rattle.tx_machine.specs.State.{State}
-use Rattle.tx_machine.specs.Ending.{end_call}
-use Rattle.tx_engine.specs.inner.Sound.{state_of}
 use Rattle.tx_engine.proofs.engine.EngineState.lose_one.Goals as goal
 
 pub returns-in-Some-clause-failed : goal.returns-in-Some-clause-failed

@@ -1,7 +1,4 @@
-use Rattle.std.proofs.Common.{sym, subst}
-use Rattle.tx_machine.specs.InUse.{uses_group}
-use Rattle.tx_engine.specs.inner.KeptCalls.{calls_in}
-use Rattle.tx_engine.specs.inner.Users.{AreNumbersOf}
+use Rattle.tx_engine.proofs.Common.{sym, subst, uses_group, calls_in, AreNumbersOf}
 use Rattle.tx_engine.proofs.Users.{numbers_along}
 use Rattle.tx_engine.proofs.Lost.{permuted, permuted_back}
 use Rattle.tx_engine.proofs.engine.EngineState.lose_users.Goals as goal

@@ -1,14 +1,8 @@
-use Rattle.std.proofs.Common.{ℕ, ◌==◌, ◌<◌, ◌-◌, ◌^◌, not, sym, ap, ◌∙◌, subst}
+use Rattle.tx_engine.proofs.Common.{ℕ, ◌==◌, ◌<◌, ◌-◌, ◌^◌, not, sym, ap, ◌∙◌, subst, Nc, HeadOn, State, kept_at, keys_of, pick, state_of}
 use Rattle.tx_machine.specs.declared.cause.Cause.TheVariants.{Service as ByService}
-use Rattle.tx_machine.specs.declared.cause.Service.TheVariants.{Nc}
-use Rattle.tx_machine.specs.declared.reply.Reply.TheVariants.{HeadOn}
-use Rattle.tx_machine.specs.State.{State}
-use Rattle.tx_engine.specs.inner.KeptCalls.{kept_at}
-use Rattle.tx_engine.specs.inner.Keys.{keys_of, pick}
 use Rattle.tx_engine.specs.inner.InTurn.{pair_ended}
 use Rattle.tx_engine.proofs.Accepted.{head_on_done}
 use Rattle.tx_engine.specs.declared.head_on.Met.{Met}
-use Rattle.tx_engine.specs.inner.Sound.{state_of}
 use Rattle.tx_engine.proofs.HeadOn.{meeting, keys_differ}
 use Rattle.tx_engine.proofs.engine.EngineState.meet.Goals as goal
 

@@ -1,6 +1,4 @@
-use Rattle.std.proofs.Common.{refl, ap, deque_len, deque_capacity, arith, length}
-use Rattle.tx_lines.specs.Book.{Book}
-use Rattle.tx_engine.specs.inner.KeptCalls.{KeptCalls, sorted_calls}
+use Rattle.tx_engine.proofs.Common.{refl, ap, deque_len, deque_capacity, arith, length, Book, KeptCalls, sorted_calls}
 use Rattle.tx_engine.proofs.Changing.{sound_room}
 use Rattle.tx_engine.proofs.engine.EngineState.reserve_call.Goals as goal
 

@@ -1,10 +1,6 @@
-use Rattle.std.proofs.Common.{◌≡◌, ℕ, ◌<◌, ◌==◌, Some, refl, sym, ap, ◌∙◌, subst, OnOk, deque_len, deque_capacity}
-use Rattle.tx_machine.specs.declared.open_call.Phase.TheVariants.{Calling}
+use Rattle.tx_engine.proofs.Common.{◌≡◌, ℕ, ◌<◌, ◌==◌, Some, refl, sym, ap, ◌∙◌, subst, OnOk, deque_len, deque_capacity, Calling, set_call, in_phase, calls_in, state_seen}
 use Rattle.tx_machine.specs.declared.reply.Reply.TheVariants.{Seized}
-use Rattle.tx_machine.specs.Routing.{set_call, in_phase}
-use Rattle.tx_engine.specs.inner.KeptCalls.{calls_in}
 use Rattle.tx_engine.proofs.Sorted.{twice}
-use Rattle.tx_engine.specs.inner.Seen.{state_seen}
 use Rattle.tx_engine.proofs.Changing.{sound_hop}
 use Rattle.tx_engine.proofs.Routing.{stands_there, known, may, free, has_keys, sound_seized}
 use Rattle.tx_engine.proofs.engine.EngineState.seize.Goals as goal

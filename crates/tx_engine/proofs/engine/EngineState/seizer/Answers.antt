@@ -1,9 +1,5 @@
-use Rattle.std.proofs.Common.{◌≡◌, ℕ, ◌==◌, ◌∷◌, [], Some, is_some, sym, ap, ◌∙◌, subst}
-use Rattle.tx_machine.specs.InUse.{seizes_from}
-use Rattle.tx_engine.specs.inner.Users.{AreNumbersOf}
+use Rattle.tx_engine.proofs.Common.{◌≡◌, ℕ, ◌==◌, ◌∷◌, [], Some, is_some, sym, ap, ◌∙◌, subst, seizes_from, AreNumbersOf, Kept, kept_at, kept_of, calls_in, keys_of, pick}
 use Rattle.tx_engine.proofs.Users.{seizer_alone}
-use Rattle.tx_engine.specs.inner.KeptCalls.{Kept, kept_at, kept_of, calls_in}
-use Rattle.tx_engine.specs.inner.Keys.{keys_of, pick}
 use Rattle.tx_engine.proofs.Leading.{seizer_found}
 use Rattle.tx_engine.proofs.engine.EngineState.seizer.Goals as goal
 

@@ -1,6 +1,4 @@
-use Rattle.std.proofs.Common.{◌≡◌, Some, sym, subst, ◌∙◌}
-use Rattle.tx_engine.specs.inner.GivenBack.{CanThrowOff, thrown_off}
-use Rattle.tx_engine.specs.inner.KeptCalls.{Kept, kept_of}
+use Rattle.tx_engine.proofs.Common.{◌≡◌, Some, sym, subst, ◌∙◌, CanThrowOff, thrown_off, Kept, kept_of}
 use Rattle.tx_engine.proofs.HeadOn.{may_throw_off, keys_differ, sound_thrown, state_thrown, kept_thrown}
 use Rattle.tx_engine.proofs.engine.EngineState.throw_back.Goals as goal
 

@@ -1,7 +1,5 @@
-use Rattle.std.proofs.Common.{◌≡◌, ◌+◌, length, sym, ap, subst, ◌∙◌, arith}
-use Rattle.tx_engine.specs.inner.Users.{AreNumbersOf, uses_up_to}
+use Rattle.tx_engine.proofs.Common.{◌≡◌, ◌+◌, length, sym, ap, subst, ◌∙◌, arith, AreNumbersOf, uses_up_to, calls_in}
 use Rattle.tx_engine.proofs.Users.{none_up_to, more_up_to, all_up_to}
-use Rattle.tx_engine.specs.inner.KeptCalls.{calls_in}
 use Rattle.tx_engine.proofs.engine.EngineState.users_of.Goals as goal
 
 pub loop-number-init : goal.loop-number-init

@@ -1,7 +1,6 @@
 use Rattle.std.proofs.Common.{◌*◌, ◌≤◌}
 use Rattle.arrayvec.specs.ArrayVec.{array_vec_len}
-use Rattle.tx_engine.specs.inner.KeptCalls.{calls_in}
-use Rattle.tx_engine.specs.inner.Users.{AreNumbersOf, uses_up_to}
+use Rattle.tx_engine.proofs.Common.{calls_in, AreNumbersOf, uses_up_to}
 use Rattle.tx_engine.proofs.engine.EngineState.users_of.Given as goal
 
 abbrev pub invariant-loop-number : goal.invariant-loop-number

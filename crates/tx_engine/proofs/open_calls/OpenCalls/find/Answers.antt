@@ -1,6 +1,4 @@
-use Rattle.std.proofs.Common.{◌≡◌, Some, None, sym, subst}
-use Rattle.tx_machine.specs.Call.{call_of}
-use Rattle.tx_engine.specs.inner.KeptCalls.{KeptCalls, Kept, kept_at, calls_in, calls_of}
+use Rattle.tx_engine.proofs.Common.{◌≡◌, Some, None, sym, subst, call_of, KeptCalls, Kept, kept_at, calls_in, calls_of}
 use Rattle.tx_engine.proofs.Sorted.{found_at, none_at}
 use Rattle.tx_engine.proofs.open_calls.OpenCalls.find.Goals as goal
 

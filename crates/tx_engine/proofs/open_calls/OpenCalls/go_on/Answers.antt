@@ -1,5 +1,4 @@
-use Rattle.std.proofs.Common.{refl}
-use Rattle.tx_machine.specs.Confirming.{carried_on}
+use Rattle.tx_engine.proofs.Common.{refl, carried_on}
 use Rattle.tx_engine.proofs.Bridge.{tied_written, changes_written, calls_written, room_under}
 use Rattle.tx_engine.proofs.open_calls.OpenCalls.go_on.Goals as goal
 

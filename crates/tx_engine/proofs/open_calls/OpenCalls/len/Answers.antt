@@ -1,5 +1,4 @@
-use Rattle.std.proofs.Common.{length, ap, ◌∙◌}
-use Rattle.tx_engine.specs.inner.KeptCalls.{KeptCalls, calls_in}
+use Rattle.tx_engine.proofs.Common.{length, ap, ◌∙◌, KeptCalls, calls_in}
 use Rattle.tx_engine.proofs.Bridge.{length_calls}
 use Rattle.tx_engine.proofs.open_calls.OpenCalls.len.Goals as goal
 

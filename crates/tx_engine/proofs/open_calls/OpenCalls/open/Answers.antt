@@ -1,10 +1,5 @@
-use Rattle.std.proofs.Common.{◌<◌, ◌++◌, ◌∷◌, [], Some, OnOk, nat_eq, subst, ap, ◌∙◌, sym}
-use Rattle.std.specs.Option.{option_map}
+use Rattle.tx_engine.proofs.Common.{◌<◌, ◌++◌, ◌∷◌, [], Some, OnOk, nat_eq, subst, ap, ◌∙◌, sym, option_map, Call, Among, KeptCalls, Changes, kept_at, calls_in, calls_of, kept_of, call_seen}
 use Rattle.indexmap.specs.IndexMap as index
-use Rattle.tx_machine.specs.Call.{Call}
-use Rattle.tx_plan.specs.Among.{Among}
-use Rattle.tx_engine.specs.inner.KeptCalls.{KeptCalls, Changes, kept_at, calls_in, calls_of, kept_of}
-use Rattle.tx_machine.specs.Seen.{call_seen}
 use Rattle.tx_engine.proofs.Sorted.{tied_after_put, absent_above, after_put, calls_rising}
 use Rattle.tx_engine.proofs.Bridge.{changes_of, kept_is}
 use Rattle.tx_engine.proofs.open_calls.OpenCalls.open.Goals as goal

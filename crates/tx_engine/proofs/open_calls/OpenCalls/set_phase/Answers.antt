@@ -1,6 +1,4 @@
-use Rattle.std.proofs.Common.{refl}
-use Rattle.tx_machine.specs.Routing.{in_phase}
-use Rattle.tx_engine.specs.inner.KeptCalls.{Kept}
+use Rattle.tx_engine.proofs.Common.{refl, in_phase, Kept}
 use Rattle.tx_engine.proofs.Bridge.{tied_written, changes_exactly, calls_written}
 use Rattle.tx_engine.proofs.open_calls.OpenCalls.set_phase.Goals as goal
 

@@ -1,9 +1,5 @@
-use Rattle.std.proofs.Common.{◌≡◌, Some, None, subst, ◌∙◌, ap, not, sym}
-use Rattle.std.specs.Prelude.{filter}
-use Rattle.std.specs.Option.{option_map}
+use Rattle.tx_engine.proofs.Common.{◌≡◌, Some, None, subst, ◌∙◌, ap, not, sym, filter, option_map, is_numbered, KeptCalls, Changes, kept_at, calls_in, calls_of, kept_of}
 use Rattle.slab.specs.Slab as slab
-use Rattle.tx_machine.specs.Call.{is_numbered}
-use Rattle.tx_engine.specs.inner.KeptCalls.{KeptCalls, Changes, kept_at, calls_in, calls_of, kept_of}
 use Rattle.tx_engine.proofs.Sorted.{tied_after_remove, tied_distinct, after_removal}
 use Rattle.tx_engine.proofs.Bridge.{changes_of, kept_is}
 use Rattle.tx_engine.proofs.open_calls.OpenCalls.take_out.Goals as goal

@@ -1,7 +1,4 @@
-use Rattle.std.proofs.Common.{refl, true}
-use Rattle.tx_machine.specs.Confirming.{thrown_back}
-use Rattle.tx_machine.specs.declared.open_call.Phase.TheVariants.{Standing}
-use Rattle.tx_engine.specs.inner.KeptCalls.{Kept}
+use Rattle.tx_engine.proofs.Common.{refl, true, thrown_back, Standing, Kept}
 use Rattle.tx_engine.proofs.Bridge.{tied_written, changes_exactly, calls_written}
 use Rattle.tx_engine.proofs.open_calls.OpenCalls.throw_back.Goals as goal
 

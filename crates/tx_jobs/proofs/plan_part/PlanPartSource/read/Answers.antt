@@ -1,9 +1,5 @@
-use Rattle.std.proofs.Common.{◌≡◌, ◌+◌, ◌≤◌, ℕ, ◌++◌, false, List, length, take, drop, min, refl, sym, ap, subst, ◌∙◌, arith}
-use Rattle.std.specs.Io.KnownBytes.{prepend_known}
-use Rattle.std.proofs.lemmas.Bool.{false≢true}
-use Rattle.std.proofs.lemmas.List.{length-take-le}
+use Rattle.tx_jobs.proofs.Common.{◌≡◌, ◌+◌, ◌≤◌, ℕ, ◌++◌, false, List, length, take, drop, min, refl, sym, ap, subst, ◌∙◌, arith, prepend_known, false≢true, length-take-le, plan_of, script_of}
 use Rattle.tx_jobs.specs.inner.Seen.{is_over, end_from}
-use Rattle.tx_jobs.specs.inner.Reading.{plan_of, script_of}
 use Rattle.tx_jobs.proofs.Taking.{split_known, plan_given, script_kept, plan_ended, none_left, input_called}
 use Rattle.tx_jobs.proofs.PlanCalls.{over_ended}
 use Rattle.tx_jobs.proofs.plan_part.PlanPartSource.read.Goals as goal

@@ -1,5 +1,4 @@
-use Rattle.std.proofs.Common.{sym, ◌∙◌}
-use Rattle.std.specs.Io.KnownBytes.{prepend_known}
+use Rattle.tx_jobs.proofs.Common.{sym, ◌∙◌, prepend_known}
 use Rattle.tx_jobs.proofs.Taking.{split_known}
 use Rattle.tx_jobs.proofs.script_part.ScriptPartSource.read.Goals as goal
 

@@ -1,5 +1,4 @@
-use Rattle.std.proofs.Common.{◌≡◌, ◌-◌, length, take, drop, arith}
-use Rattle.std.proofs.lemmas.List.{length-drop, take_all}
+use Rattle.tx_jobs.proofs.Common.{◌≡◌, ◌-◌, length, take, drop, arith, length-drop, take_all}
 use Rattle.tx_jobs.proofs.Taking.{taken_none, taken_more}
 use Rattle.tx_jobs.proofs.seen.Seen.take.Goals as goal
 

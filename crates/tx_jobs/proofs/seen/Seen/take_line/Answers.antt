@@ -1,5 +1,4 @@
-use Rattle.std.proofs.Common.{◌∙◌, ap}
-use Rattle.tx_jobs.specs.inner.Seen.{at_lf}
+use Rattle.tx_jobs.proofs.Common.{◌∙◌, ap, at_lf}
 use Rattle.tx_jobs.proofs.Taking.{to_lf, to_end}
 use Rattle.tx_jobs.proofs.seen.Seen.take_line.Goals as goal
 

@@ -1,5 +1,4 @@
-use Rattle.std.proofs.Common.{◌≡◌, ◌∙◌, sym, arith, rules}
-use Rattle.tx_jobs.specs.declared.seen.Seen.TheVariants.{Other}
+use Rattle.tx_jobs.proofs.Common.{◌≡◌, ◌∙◌, sym, arith, rules, Other}
 use Rattle.tx_jobs.proofs.Taking.{seen_on, seen_all, seen_other}
 use Rattle.tx_jobs.proofs.seen.Seen.with_bytes.Goals as goal
 

@@ -1,7 +1,6 @@
-use Rattle.std.proofs.Common.{ap, sym, ◌==◌, ◌&&◌}
+use Rattle.tx_lines.proofs.Common.{ap, sym, ◌==◌, ◌&&◌, in_range}
 use Rattle.std.proofs.lemmas.List.Sorted.{list_any-IsPermutation}
 use Rattle.tx_text.specs.Words.{are_figures}
-use Rattle.tx_plan.specs.Lines.{in_range}
 use Rattle.tx_lines.proofs.book.LineBook.build.Goals as goal
 
 pub returns-clause-lines : goal.returns-clause-lines

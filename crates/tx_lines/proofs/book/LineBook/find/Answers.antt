@@ -1,9 +1,6 @@
-use Rattle.std.proofs.Common.{◌∙◌, ap, sym, ◌==◌, ◌&&◌, true, false, ℕ, List}
-use Rattle.std.specs.List.{list_any}
-use Rattle.tx_plan.specs.Lines.{in_range}
+use Rattle.tx_lines.proofs.Common.{◌∙◌, ap, sym, ◌==◌, ◌&&◌, true, false, ℕ, List, list_any, in_range, Book}
 use Rattle.tx_plan.specs.Rules.{is_national}
 use Rattle.tx_plan.proofs.LineFound.{line_if}
-use Rattle.tx_lines.specs.Book.{Book}
 use Rattle.tx_lines.proofs.book.LineBook.find.Goals as goal
 
 pub returns-then-has : goal.returns-then-has

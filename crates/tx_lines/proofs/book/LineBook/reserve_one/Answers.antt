@@ -1,6 +1,5 @@
-use Rattle.std.proofs.Common.{ap, ◌∙◌}
+use Rattle.tx_lines.proofs.Common.{ap, ◌∙◌, Book}
 use Rattle.indexmap.specs.IndexMap as index
-use Rattle.tx_lines.specs.Book.{Book}
 use Rattle.tx_lines.proofs.Sets.{book_along}
 use Rattle.tx_lines.proofs.book.LineBook.reserve_one.Goals as goal
 

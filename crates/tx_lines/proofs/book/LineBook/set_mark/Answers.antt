@@ -1,8 +1,4 @@
-use Rattle.std.proofs.Common.{◌+◌, ◌≤◌, Bool, ap, sym, subst, ◌∙◌}
-use Rattle.std.specs.Prelude.{if◌then◌else◌}
-use Rattle.indexmap.specs.IndexMap.{spare}
-use Rattle.tx_lines.specs.Book.{room_taken}
-use Rattle.tx_lines.specs.inner.Kept.{with_mark_of}
+use Rattle.tx_lines.proofs.Common.{◌+◌, ◌≤◌, Bool, ap, sym, subst, ◌∙◌, if◌then◌else◌, spare, room_taken, with_mark_of}
 use Rattle.tx_lines.proofs.Sets.{book_added, book_taken, room_there, room_after}
 use Rattle.tx_lines.proofs.book.LineBook.set_mark.Goals as goal
 

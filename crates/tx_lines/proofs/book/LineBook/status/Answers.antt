@@ -1,6 +1,4 @@
-use Rattle.std.proofs.Common.{ap, ◌∙◌, unwrap_or}
-use Rattle.tx_lines.specs.Status.{no_mark}
-use Rattle.tx_lines.specs.declared.book.Mark.TheVariants.{Faulty, Away, Engaged}
+use Rattle.tx_lines.proofs.Common.{ap, ◌∙◌, unwrap_or, no_mark, Faulty, Away, Engaged}
 use Rattle.tx_lines.proofs.Sets.{marks_of}
 use Rattle.tx_lines.proofs.book.LineBook.status.Goals as goal
 

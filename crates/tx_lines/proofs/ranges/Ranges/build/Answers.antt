@@ -1,10 +1,5 @@
-use Rattle.std.proofs.Common.{◌≡◌, ◌≤◌, ◌<◌, ◌++◌, ◌∷◌, [], List, length, take, sym, ap, ◌∙◌, subst, arith, rules}
+use Rattle.tx_lines.proofs.Common.{◌≡◌, ◌≤◌, ◌<◌, ◌++◌, ◌∷◌, [], List, length, take, sym, ap, ◌∙◌, subst, arith, rules, ranks_by, get_or_from_slice_get, IsPermutation, LineRange, key_cmp, start_of, IsInOrder, AreFirsts}
 use Rattle.std.proofs.lemmas.List.{take_more, take_all, length-take-le}
-use Rattle.std.proofs.lemmas.List.Sorted.{ranks_by}
-use Rattle.std.proofs.lemmas.Option.{get_or_from_slice_get}
-use Rattle.std.specs.Prelude.{IsPermutation}
-use Rattle.tx_plan.specs.declared.range.LineRange.{LineRange}
-use Rattle.tx_lines.specs.inner.Ordered.{key_cmp, start_of, IsInOrder, AreFirsts}
 use Rattle.tx_lines.proofs.Order.{keys_total}
 use Rattle.tx_lines.proofs.Arranged.{arranged, sorted_from_clause}
 use Rattle.tx_lines.proofs.ranges.Ranges.build.Goals as goal

@@ -1,10 +1,5 @@
-use Rattle.std.proofs.Common.{◌-◌, ◌<◌, ◌==◌, ◌&&◌, length, sym, ap, ◌∙◌, subst, arith}
+use Rattle.tx_lines.proofs.Common.{◌-◌, ◌<◌, ◌==◌, ◌&&◌, length, sym, ap, ◌∙◌, subst, arith, slice_get, list_any, in_range, LineRange, IsInOrder}
 use Rattle.std.proofs.lemmas.Option.{slice_get_read}
-use Rattle.std.specs.Prelude.{slice_get}
-use Rattle.std.specs.List.{list_any}
-use Rattle.tx_plan.specs.Lines.{in_range}
-use Rattle.tx_plan.specs.declared.range.LineRange.{LineRange}
-use Rattle.tx_lines.specs.inner.Ordered.{IsInOrder}
 use Rattle.tx_lines.proofs.Order.{none_starts, last_start}
 use Rattle.tx_lines.proofs.ranges.Ranges.has.Goals as goal
 

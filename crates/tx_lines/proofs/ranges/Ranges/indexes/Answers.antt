@@ -1,7 +1,5 @@
-use Rattle.std.proofs.Common.{◌≡◌, ◌≤◌, ◌+◌, ◌<◌, List, length, get_or, ap, sym, ◌∙◌, subst, arith}
+use Rattle.tx_lines.proofs.Common.{◌≡◌, ◌≤◌, ◌+◌, ◌<◌, List, length, get_or, ap, sym, ◌∙◌, subst, arith, LineRange, IsFirst}
 use Rattle.std.proofs.lemmas.List.{get_or_default}
-use Rattle.tx_plan.specs.declared.range.LineRange.{LineRange}
-use Rattle.tx_lines.specs.inner.Ordered.{IsFirst}
 use Rattle.tx_lines.proofs.ByCode.{firsts_rise}
 use Rattle.tx_lines.proofs.ranges.Ranges.indexes.Goals as goal
 

@@ -1,14 +1,7 @@
-use Rattle.std.proofs.Common.{◌≡◌, sym, subst, ap, ◌∙◌, None}
+use Rattle.tx_machine.proofs.Common.{◌≡◌, sym, subst, ap, ◌∙◌, None, line_cmp, Released, Restore, Block, Unblock, CircuitOut, CircuitIn, LineFault, LineMend, LineAway, LineBack, Done, refusal, Net, accepted, net_of}
 use Rattle.std.specs.FinSet as set
-use Rattle.tx_plan.specs.Orders.{line_cmp}
 use Rattle.tx_plan.proofs.Named.{line_put}
-use Rattle.tx_machine.specs.declared.event.Event.TheVariants.{Released, Restore, Block, Unblock, CircuitOut, CircuitIn, LineFault, LineMend, LineAway, LineBack}
-use Rattle.tx_machine.specs.declared.reply.Reply.TheVariants.{Done}
-use Rattle.tx_machine.specs.Refusals.{refusal}
-use Rattle.tx_machine.specs.State.{Net}
-use Rattle.tx_machine.specs.Step.{accepted}
 use Rattle.tx_machine.proofs.Unrefused.{can_count, can_key, can_route, can_confirm, can_fail}
-use Rattle.tx_machine.specs.inner.Whole.{net_of}
 use Rattle.tx_machine.proofs.LineSets.{lines_without}
 use Rattle.tx_machine.proofs.plain.Plain.accept.Goals as goal
 use Rattle.tx_machine.proofs.plain.Plain.accept.Goals.{in-Released, in-Restore, in-Block, in-Unblock, in-CircuitOut, in-CircuitIn, in-LineFault+in_ok-push-in-LineFault, in-LineMend, in-LineAway+in_ok-push-in-LineAway, in-LineBack}

@@ -1,13 +1,5 @@
-use Rattle.std.proofs.Common.{◌≡◌, ◌∙◌, ◌+◌, ap, sym, subst, map, length, Some, ◌==◌, eqb-true}
-use Rattle.tx_machine.specs.declared.reply.Reply.TheVariants.{At}
-use Rattle.tx_machine.specs.State.{Net}
-use Rattle.tx_machine.specs.Routing.{set_call}
-use Rattle.tx_machine.specs.Call.{Call, call_of}
+use Rattle.tx_machine.proofs.Common.{◌≡◌, ◌∙◌, ◌+◌, ap, sym, subst, map, length, Some, ◌==◌, eqb-true, At, Net, set_call, Call, call_of, call_seen, changed_call, net_of, Carry}
 use Rattle.tx_machine.proofs.Lists.{find_mem}
-use Rattle.tx_machine.specs.Seen.{call_seen}
-use Rattle.tx_machine.specs.inner.Seen.{changed_call}
-use Rattle.tx_machine.specs.inner.Whole.{net_of}
-use Rattle.tx_machine.specs.declared.plain.changing.Change.TheVariants.{Carry}
 use Rattle.tx_machine.proofs.Whole.{marks_carry, whole_changed, whole_ready, seen_changed}
 use Rattle.tx_machine.proofs.plain.Plain.carry.Goals as goal
 

@@ -1,10 +1,5 @@
-use Rattle.std.proofs.Common.{◌∙◌, ap, sym, not}
+use Rattle.tx_machine.proofs.Common.{◌∙◌, ap, sym, not, HeadOn, Nc, Net, end_calls, ends_by}
 use Rattle.tx_machine.specs.declared.cause.Cause.TheVariants.{Service as ByService}
-use Rattle.tx_machine.specs.declared.reply.Reply.TheVariants.{HeadOn}
-use Rattle.tx_machine.specs.declared.cause.Service.TheVariants.{Nc}
-use Rattle.tx_machine.specs.State.{Net}
-use Rattle.tx_machine.specs.Ending.{end_calls}
-use Rattle.tx_machine.specs.inner.GivenUp.{ends_by}
 use Rattle.tx_machine.specs.declared.plain.ended_calls.Ends.TheVariants.{Collided}
 use Rattle.tx_machine.proofs.plain.Plain.clash.Goals as goal
 

@@ -1,14 +1,5 @@
-use Rattle.std.proofs.Common.{◌∙◌, ap, sym, subst, length, map}
+use Rattle.tx_machine.proofs.Common.{◌∙◌, ap, sym, subst, length, map, with_items, Net, collide, set_call, call_seen, changed_call, Circuits, HasMark, net_of, ThrowBack}
 use Rattle.std.specs.FinSet as set
-use Rattle.std.specs.Vec.{with_items}
-use Rattle.tx_machine.specs.State.{Net}
-use Rattle.tx_machine.specs.Confirming.{collide}
-use Rattle.tx_machine.specs.Routing.{set_call}
-use Rattle.tx_machine.specs.Seen.{call_seen}
-use Rattle.tx_machine.specs.inner.Seen.{changed_call}
-use Rattle.tx_machine.specs.inner.Marks.{Circuits, HasMark}
-use Rattle.tx_machine.specs.inner.Whole.{net_of}
-use Rattle.tx_machine.specs.declared.plain.changing.Change.TheVariants.{ThrowBack}
 use Rattle.tx_machine.proofs.Whole.{whole_changed, whole_marks, marks_back, seen_changed, thrown_twice}
 use Rattle.tx_machine.proofs.plain.Plain.collide.Goals as goal
 

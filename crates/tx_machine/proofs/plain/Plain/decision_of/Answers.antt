@@ -1,11 +1,5 @@
-use Rattle.std.proofs.Common.{ap, ◌∙◌, sym, map, ◌==◌, eqb-true}
-use Rattle.tx_machine.specs.State.{Net}
-use Rattle.tx_machine.specs.Call.{Call, call_of}
-use Rattle.tx_machine.specs.Step.{with_call}
-use Rattle.tx_machine.specs.Routing.{routed}
+use Rattle.tx_machine.proofs.Common.{ap, ◌∙◌, sym, map, ◌==◌, eqb-true, Net, Call, call_of, with_call, routed, call_seen, carried_out}
 use Rattle.tx_machine.proofs.Lists.{find_mem}
-use Rattle.tx_machine.specs.Seen.{call_seen}
-use Rattle.tx_machine.specs.inner.Decided.{carried_out}
 use Rattle.tx_machine.proofs.plain.Plain.decision_of.Goals as goal
 
 pub returns : goal.returns

@@ -1,18 +1,5 @@
-use Rattle.std.proofs.Common.{ap, ◌∙◌, sym, subst, not, map, List}
-use Rattle.std.specs.Prelude.{filter}
-use Rattle.std.specs.List.{flat_map}
+use Rattle.tx_machine.proofs.Common.{ap, ◌∙◌, sym, subst, not, map, List, filter, flat_map, circuit_cmp, Among, among_map, end_calls, Net, Call, circuits_used, Circuits, HasMark, call_seen, ends_by, is_given, net_of}
 use Rattle.std.specs.FinSet as set
-use Rattle.tx_plan.specs.Orders.{circuit_cmp}
-use Rattle.tx_plan.specs.Among.{Among}
-use Rattle.tx_plan.proofs.Among.{among_map}
-use Rattle.tx_machine.specs.Ending.{end_calls}
-use Rattle.tx_machine.specs.State.{Net}
-use Rattle.tx_machine.specs.Call.{Call}
-use Rattle.tx_machine.specs.InUse.{circuits_used}
-use Rattle.tx_machine.specs.inner.Marks.{Circuits, HasMark}
-use Rattle.tx_machine.specs.Seen.{call_seen}
-use Rattle.tx_machine.specs.inner.GivenUp.{ends_by, is_given}
-use Rattle.tx_machine.specs.inner.Whole.{net_of}
 use Rattle.tx_machine.proofs.Whole.{whole_ended, given_same}
 use Rattle.tx_machine.proofs.Views.{filter_map_seen}
 use Rattle.tx_machine.proofs.plain.Plain.end.Goals as goal

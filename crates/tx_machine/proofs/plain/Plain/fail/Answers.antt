@@ -1,9 +1,5 @@
-use Rattle.std.proofs.Common.{◌<◌, ◌∙◌, ap, sym, subst, length, not, ◌==◌}
+use Rattle.tx_machine.proofs.Common.{◌<◌, ◌∙◌, ap, sym, subst, length, not, ◌==◌, Plan, Net, AreFor, net_of}
 use Rattle.std.specs.FinSet as set
-use Rattle.tx_plan.specs.Plan.{Plan}
-use Rattle.tx_machine.specs.State.{Net}
-use Rattle.tx_machine.specs.inner.Marked.{AreFor}
-use Rattle.tx_machine.specs.inner.Whole.{net_of}
 use Rattle.tx_machine.proofs.Marking.{fail_step}
 use Rattle.tx_machine.proofs.Whole.{whole_marks}
 use Rattle.tx_machine.proofs.plain.Plain.fail.Goals as goal

@@ -1,5 +1,4 @@
-use Rattle.std.proofs.Common.{◌∙◌}
-use Rattle.tx_machine.specs.InUse.{is_free_at}
+use Rattle.tx_machine.proofs.Common.{◌∙◌, is_free_at}
 use Rattle.tx_machine.proofs.Choosing.{down_less}
 use Rattle.tx_machine.proofs.plain.Plain.first_down.Goals as goal
 

@@ -1,7 +1,4 @@
-use Rattle.std.proofs.Common.{◌≡◌, map}
-use Rattle.std.specs.Prelude.{find}
-use Rattle.tx_plan.specs.Circuits.{downward}
-use Rattle.tx_machine.specs.InUse.{is_free_at}
+use Rattle.tx_machine.proofs.Common.{◌≡◌, map, find, downward, is_free_at}
 use Rattle.tx_machine.proofs.plain.Plain.first_down.Given as goal
 
 abbrev pub invariant-loop-n : goal.invariant-loop-n

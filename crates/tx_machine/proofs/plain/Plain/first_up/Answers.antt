@@ -1,5 +1,4 @@
-use Rattle.std.proofs.Common.{sym, arith}
-use Rattle.tx_machine.specs.InUse.{is_free_at}
+use Rattle.tx_machine.proofs.Common.{sym, arith, is_free_at}
 use Rattle.tx_machine.proofs.Choosing.{up_more, up_found}
 use Rattle.tx_machine.proofs.plain.Plain.first_up.Goals as goal
 

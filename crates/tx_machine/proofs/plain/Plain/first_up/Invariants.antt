@@ -1,7 +1,4 @@
-use Rattle.std.proofs.Common.{◌≡◌, ◌≤◌, ◌-◌, map, None}
-use Rattle.std.specs.Prelude.{find}
-use Rattle.tx_plan.specs.Circuits.{upward}
-use Rattle.tx_machine.specs.InUse.{is_free_at}
+use Rattle.tx_machine.proofs.Common.{◌≡◌, ◌≤◌, ◌-◌, map, None, find, upward, is_free_at}
 use Rattle.tx_machine.proofs.plain.Plain.first_up.Given as goal
 
 abbrev pub invariant-loop-n : goal.invariant-loop-n

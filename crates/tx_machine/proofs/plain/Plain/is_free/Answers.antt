@@ -1,12 +1,5 @@
-use Rattle.std.proofs.Common.{◌≡◌, true, false, ◌&&◌, not, sym, ap, ◌∙◌}
-use Rattle.std.proofs.Math.Bool.{and-false}
-use Rattle.std.proofs.lemmas.Bool.{not-true, not-false}
+use Rattle.tx_machine.proofs.Common.{◌≡◌, true, false, ◌&&◌, not, sym, ap, ◌∙◌, and-false, not-true, not-false, list_any, is_free_at, carries, seizes_from, Net, call_seen, net_of}
 use Rattle.std.specs.FinSet as set
-use Rattle.std.specs.List.{list_any}
-use Rattle.tx_machine.specs.InUse.{is_free_at, carries, seizes_from}
-use Rattle.tx_machine.specs.State.{Net}
-use Rattle.tx_machine.specs.Seen.{call_seen}
-use Rattle.tx_machine.specs.inner.Whole.{net_of}
 use Rattle.tx_machine.proofs.Views.{any_map}
 use Rattle.tx_machine.proofs.plain.Plain.is_free.Goals as goal
 use Rattle.tx_machine.proofs.plain.Plain.is_free.Goals.{then-not-carried_by, else-not-carried_by, then-not-has, else-not-has}

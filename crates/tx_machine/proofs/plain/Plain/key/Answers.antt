@@ -1,7 +1,6 @@
-use Rattle.std.proofs.Common.{◌+◌, ap, ◌∙◌, arith, ◌++◌, ◌∷◌, [], false}
+use Rattle.tx_machine.proofs.Common.{◌+◌, ap, ◌∙◌, arith, ◌++◌, ◌∷◌, [], false, OpenCall}
 use Rattle.tx_machine.specs.declared.open_call.Phase.TheVariants.{Standing}
 use Rattle.tx_machine.proofs.Whole.{whole_room, whole_more}
-use Rattle.tx_machine.specs.declared.open_call.OpenCall.{OpenCall}
 use Rattle.tx_machine.proofs.plain.Plain.key.Goals as goal
 
 pub invariant_of-self : goal.invariant_of-self

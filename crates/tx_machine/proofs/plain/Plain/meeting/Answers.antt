@@ -1,14 +1,4 @@
-use Rattle.std.proofs.Common.{◌≡◌, ap, ◌∙◌, sym, not, ◌&&◌, ◌==◌, map, Some, None}
-use Rattle.std.specs.Prelude.{find}
-use Rattle.tx_machine.specs.declared.reply.Reply.TheVariants.{At}
-use Rattle.tx_machine.specs.State.{Net}
-use Rattle.tx_machine.specs.Call.{Call}
-use Rattle.tx_machine.specs.Confirming.{far_of, rival}
-use Rattle.tx_machine.specs.InUse.{seizes_from}
-use Rattle.tx_machine.specs.Routing.{set_call}
-use Rattle.tx_machine.specs.Seen.{call_seen}
-use Rattle.tx_machine.specs.inner.Seen.{changed_call}
-use Rattle.tx_machine.specs.declared.plain.changing.Change.TheVariants.{Carry}
+use Rattle.tx_machine.proofs.Common.{◌≡◌, ap, ◌∙◌, sym, not, ◌&&◌, ◌==◌, map, Some, None, find, At, Net, Call, far_of, rival, seizes_from, set_call, call_seen, changed_call, Carry}
 use Rattle.tx_machine.proofs.Confirmed.{confirms}
 use Rattle.tx_machine.proofs.plain.Plain.meeting.Goals as goal
 

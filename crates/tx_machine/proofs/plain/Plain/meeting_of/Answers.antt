@@ -1,15 +1,6 @@
-use Rattle.std.proofs.Common.{ap, ◌∙◌, sym, map, ◌==◌, eqb-true, subst, length, inl, refl}
-use Rattle.tx_machine.specs.State.{Net}
-use Rattle.tx_machine.specs.Call.{Call, call_of, circuit_called}
-use Rattle.tx_machine.specs.Step.{with_call}
-use Rattle.tx_machine.specs.Confirming.{confirmed}
-use Rattle.tx_machine.specs.InUse.{circuits_carried}
-use Rattle.tx_plan.specs.Among.{Among}
-use Rattle.tx_plan.proofs.Among.{among_right}
+use Rattle.tx_machine.proofs.Common.{ap, ◌∙◌, sym, map, ◌==◌, eqb-true, subst, length, inl, refl, Net, Call, call_of, circuit_called, with_call, confirmed, circuits_carried, Among, among_right, HasMark, call_seen}
 use Rattle.tx_machine.proofs.Lists.{find_mem}
-use Rattle.tx_machine.specs.inner.Marks.{HasMark}
 use Rattle.tx_machine.proofs.Confirmed.{met}
-use Rattle.tx_machine.specs.Seen.{call_seen}
 use Rattle.tx_machine.specs.inner.Met.{meeting_done}
 use Rattle.tx_machine.proofs.plain.Plain.meeting_of.Goals as goal
 

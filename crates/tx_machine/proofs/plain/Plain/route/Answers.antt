@@ -1,9 +1,5 @@
-use Rattle.std.proofs.Common.{◌≡◌, sym, ap, ◌∙◌}
+use Rattle.tx_machine.proofs.Common.{◌≡◌, sym, ap, ◌∙◌, Reply, Seized, State, carried_out}
 use Rattle.tx_machine.specs.declared.open_call.Phase.TheVariants.{Calling}
-use Rattle.tx_machine.specs.declared.reply.Reply.{Reply}
-use Rattle.tx_machine.specs.declared.reply.Reply.TheVariants.{Seized}
-use Rattle.tx_machine.specs.State.{State}
-use Rattle.tx_machine.specs.inner.Decided.{carried_out}
 use Rattle.tx_machine.proofs.Choosing.{seized_circuit}
 use Rattle.tx_machine.proofs.plain.Plain.route.Goals as goal
 

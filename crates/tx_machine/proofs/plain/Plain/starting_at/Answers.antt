@@ -1,8 +1,4 @@
-use Rattle.std.proofs.Common.{◌≡◌, sym, subst, arith, map, length, []}
-use Rattle.tx_plan.specs.Among.{Among}
-use Rattle.tx_machine.specs.Seen.{call_seen}
-use Rattle.tx_machine.specs.inner.Marked.{AreFor}
-use Rattle.tx_machine.specs.inner.Whole.{AreHeld}
+use Rattle.tx_machine.proofs.Common.{◌≡◌, sym, subst, arith, map, length, [], Among, call_seen, AreFor, AreHeld}
 use Rattle.tx_machine.proofs.Holding.{held_none}
 use Rattle.tx_machine.proofs.plain.Plain.starting_at.Goals as goal
 

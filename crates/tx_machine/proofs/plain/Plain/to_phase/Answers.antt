@@ -1,13 +1,4 @@
-use Rattle.std.proofs.Common.{◌≡◌, ◌∙◌, ap, sym, subst, map, length, true}
-use Rattle.std.specs.Vec.{with_items}
-use Rattle.std.proofs.lemmas.List.{with_items_is}
-use Rattle.tx_machine.specs.State.{Net}
-use Rattle.tx_machine.specs.Routing.{set_call, in_phase}
-use Rattle.tx_plan.specs.Circuits.{is_circuit}
-use Rattle.tx_plan.specs.Among.{Among}
-use Rattle.tx_machine.specs.Seen.{call_seen}
-use Rattle.tx_machine.specs.declared.plain.changing.Change.TheVariants.{To}
-use Rattle.tx_machine.specs.inner.Whole.{net_of}
+use Rattle.tx_machine.proofs.Common.{◌≡◌, ◌∙◌, ap, sym, subst, map, length, true, with_items, with_items_is, Net, set_call, in_phase, is_circuit, Among, call_seen, To, net_of}
 use Rattle.tx_machine.proofs.Whole.{circuit_marked, marks_to, whole_same, whole_changed, seen_same, seen_changed, err_with}
 use Rattle.tx_machine.proofs.plain.Plain.to_phase.Goals as goal
 

@@ -1,6 +1,4 @@
-use Rattle.std.proofs.Common.{◌≡◌, sym, ap, ◌∙◌, arith, rules}
-use Rattle.tx_machine.specs.declared.reply.Reply.{Reply}
-use Rattle.tx_machine.specs.State.{State, Net}
+use Rattle.tx_machine.proofs.Common.{◌≡◌, sym, ap, ◌∙◌, arith, rules, Reply, State, Net}
 use Rattle.tx_machine.proofs.Unrefused.{can_count, not_counted}
 use Rattle.tx_machine.proofs.plain.PlainNetwork.apply.Goals as goal
 

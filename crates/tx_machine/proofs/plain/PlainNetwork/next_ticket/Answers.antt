@@ -1,10 +1,6 @@
-use Rattle.std.proofs.Common.{◌≡◌, ◌≢◌, refl, [], ap, ◌∙◌, sym, arith, drop, eqb-true}
-use Rattle.std.specs.Prelude.{slice_get}
-use Rattle.std.proofs.lemmas.Bool.{eqb-false}
+use Rattle.tx_machine.proofs.Common.{◌≡◌, ◌≢◌, refl, [], ap, ◌∙◌, sym, arith, drop, eqb-true, slice_get, eqb-false, Net, drained}
 use Rattle.std.proofs.lemmas.List.{nil_from_length}
 use Rattle.std.proofs.lemmas.Option.{slice_get_read}
-use Rattle.tx_machine.specs.State.{Net}
-use Rattle.tx_machine.specs.Drained.{drained}
 use Rattle.tx_machine.proofs.Marking.{ticket_step}
 use Rattle.tx_machine.proofs.Whole.{whole_room}
 use Rattle.tx_machine.proofs.plain.PlainNetwork.next_ticket.Goals as goal

@@ -1,9 +1,7 @@
 use Rattle.std.proofs.Common.{◌∙◌, ◌==◌, length, sym, ap, arith, ne_eqb}
-use Rattle.tx_machine.specs.Call.{Call}
-use Rattle.tx_machine.specs.Seen.{call_seen}
+use Rattle.tx_machine.proofs.Common.{Call, call_seen, falls}
 use Rattle.tx_machine.proofs.Finding.{passed, none_left}
 use Rattle.tx_machine.proofs.plain.calls.call_of.Goals as goal
-use borrow.Author.Count.{falls}
 
 pub loop-at-preserved : goal.loop-at-preserved
 loop-at-preserved g c =

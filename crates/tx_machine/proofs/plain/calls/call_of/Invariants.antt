@@ -1,6 +1,4 @@
-use Rattle.std.proofs.Common.{◌≡◌, ◌-◌, ◌≤◌, map, drop, length}
-use Rattle.tx_machine.specs.Call.{call_of}
-use Rattle.tx_machine.specs.Seen.{call_seen}
+use Rattle.tx_machine.proofs.Common.{◌≡◌, ◌-◌, ◌≤◌, map, drop, length, call_of, call_seen}
 use Rattle.tx_machine.proofs.plain.calls.call_of.Given as goal
 
 abbrev pub invariant-loop-at : goal.invariant-loop-at

@@ -1,10 +1,6 @@
-use Rattle.std.proofs.Common.{◌∙◌, not, ◌&&◌, ◌==◌, length, sym, arith}
-use Rattle.tx_machine.specs.Call.{Call}
-use Rattle.tx_machine.specs.InUse.{seizes_from}
-use Rattle.tx_machine.specs.Seen.{call_seen}
+use Rattle.tx_machine.proofs.Common.{◌∙◌, not, ◌&&◌, ◌==◌, length, sym, arith, Call, seizes_from, call_seen, falls}
 use Rattle.tx_machine.proofs.Finding.{passed, none_left}
 use Rattle.tx_machine.proofs.plain.calls.rival_of.Goals as goal
-use borrow.Author.Count.{falls}
 
 pub loop-at-preserved : goal.loop-at-preserved
 loop-at-preserved g c =

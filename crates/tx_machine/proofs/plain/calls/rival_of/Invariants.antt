@@ -1,8 +1,4 @@
-use Rattle.std.proofs.Common.{◌≡◌, ◌-◌, ◌≤◌, not, ◌&&◌, ◌==◌, map, drop, length}
-use Rattle.std.specs.Prelude.{find}
-use Rattle.tx_machine.specs.Call.{Call}
-use Rattle.tx_machine.specs.InUse.{seizes_from}
-use Rattle.tx_machine.specs.Seen.{call_seen}
+use Rattle.tx_machine.proofs.Common.{◌≡◌, ◌-◌, ◌≤◌, not, ◌&&◌, ◌==◌, map, drop, length, find, Call, seizes_from, call_seen}
 use Rattle.tx_machine.proofs.plain.calls.rival_of.Given as goal
 
 abbrev pub invariant-loop-at : goal.invariant-loop-at

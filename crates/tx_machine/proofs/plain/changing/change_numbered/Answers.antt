@@ -1,9 +1,6 @@
-use Rattle.std.proofs.Common.{◌<◌, ◌-◌, ◌+◌, ap, sym, subst, length, get_or}
-use Rattle.std.proofs.lemmas.List.{length-set}
-use Rattle.tx_machine.specs.inner.Seen.{changed_call, change_at}
+use Rattle.tx_machine.proofs.Common.{◌<◌, ◌-◌, ◌+◌, ap, sym, subst, length, get_or, length-set, changed_call, change_at, falls}
 use Rattle.tx_machine.proofs.Sweeping.{ready_here, changed_step, changing_none, swept_all}
 use Rattle.tx_machine.proofs.plain.changing.change_numbered.Goals as goal
-use borrow.Author.Count.{falls}
 
 pub change_one-requires : goal.change_one-requires
 change_one-requires g c =

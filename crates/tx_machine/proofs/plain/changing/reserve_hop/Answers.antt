@@ -1,8 +1,6 @@
-use Rattle.std.proofs.Common.{◌<◌, ◌-◌, ◌+◌, ◌∙◌, ap, sym, subst, length, get_or}
-use Rattle.std.proofs.lemmas.List.{length-set}
+use Rattle.tx_machine.proofs.Common.{◌<◌, ◌-◌, ◌+◌, ◌∙◌, ap, sym, subst, length, get_or, length-set, falls}
 use Rattle.tx_machine.proofs.Sweeping.{reserved_seen, reserved_room, reserved_step, all_ready, reserving_none}
 use Rattle.tx_machine.proofs.plain.changing.reserve_hop.Goals as goal
-use borrow.Author.Count.{falls}
 
 pub returns-in_err-reserve_one-clause-seen : goal.returns-in_err-reserve_one-clause-seen
 returns-in_err-reserve_one-clause-seen g c =

@@ -1,5 +1,4 @@
-use Rattle.std.proofs.Common.{◌-◌, ◌≤◌}
-use Rattle.tx_machine.specs.inner.Marks.{IsCleared}
+use Rattle.tx_machine.proofs.Common.{◌-◌, ◌≤◌, IsCleared}
 use Rattle.tx_machine.proofs.plain.circuit_marks.clear_from.Given as goal
 
 abbrev pub invariant-loop-n : goal.invariant-loop-n

@@ -1,11 +1,7 @@
-use Rattle.std.proofs.Common.{◌∙◌, sym, length, map}
-use Rattle.std.specs.Prelude.{filter}
-use Rattle.tx_machine.specs.Seen.{call_seen}
-use Rattle.tx_machine.specs.inner.GivenUp.{ends_by}
+use Rattle.tx_machine.proofs.Common.{◌∙◌, sym, length, map, filter, call_seen, ends_by, falls}
 use Rattle.tx_machine.proofs.Finding.{counted, skipped, all_counted}
 use Rattle.tx_machine.proofs.plain.ended_calls.count_ending.Goals as goal
 use Rattle.tx_machine.proofs.plain.ended_calls.count_ending.Goals.{then-is_ended, else-is_ended}
-use borrow.Author.Count.{falls}
 
 pub bounds-calls-at : goal.bounds-calls-at
 bounds-calls-at g c = c.loop-at-test.true

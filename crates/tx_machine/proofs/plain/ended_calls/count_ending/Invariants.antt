@@ -1,7 +1,4 @@
-use Rattle.std.proofs.Common.{◌≡◌, ◌≤◌, ◌+◌, ◌-◌, length, map, drop}
-use Rattle.std.specs.Prelude.{filter}
-use Rattle.tx_machine.specs.Seen.{call_seen}
-use Rattle.tx_machine.specs.inner.GivenUp.{ends_by}
+use Rattle.tx_machine.proofs.Common.{◌≡◌, ◌≤◌, ◌+◌, ◌-◌, length, map, drop, filter, call_seen, ends_by}
 use Rattle.tx_machine.proofs.plain.ended_calls.count_ending.Given as goal
 
 abbrev pub invariant-loop-at : goal.invariant-loop-at

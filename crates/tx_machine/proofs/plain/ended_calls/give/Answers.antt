@@ -1,8 +1,4 @@
-use Rattle.std.proofs.Common.{ap, ◌∙◌, sym, [], ◌∷◌, ◌&&◌, not, cond}
-use Rattle.tx_machine.specs.Call.{Call}
-use Rattle.tx_machine.specs.InUse.{seizes}
-use Rattle.tx_machine.specs.Seen.{call_seen}
-use Rattle.tx_machine.specs.inner.GivenUp.{with_more, ends_by}
+use Rattle.tx_machine.proofs.Common.{ap, ◌∙◌, sym, [], ◌∷◌, ◌&&◌, not, cond, Call, seizes, call_seen, with_more, ends_by}
 use Rattle.tx_machine.proofs.Giving.{more_none, more_one}
 use Rattle.tx_machine.proofs.Views.{any_map}
 use Rattle.tx_machine.proofs.plain.ended_calls.give.Goals as goal

@@ -1,13 +1,6 @@
-use Rattle.std.proofs.Common.{ap, ◌∙◌, sym, subst, [], ◌∷◌, map, take, get_or, arith}
-use Rattle.tx_machine.specs.Seen.{call_seen}
-use Rattle.tx_machine.specs.inner.GivenUp.{is_given, with_more}
-use Rattle.tx_machine.specs.inner.Marks.{Circuits, HasMark}
-use Rattle.tx_machine.specs.declared.open_call.Hop.{Hop}
-use Rattle.std.specs.Prelude.{filter}
-use Rattle.std.proofs.lemmas.List.{map_push}
+use Rattle.tx_machine.proofs.Common.{ap, ◌∙◌, sym, subst, [], ◌∷◌, map, take, get_or, arith, call_seen, is_given, with_more, Circuits, HasMark, Hop, filter, map_push, among_map, among_at}
 use Rattle.tx_machine.proofs.Giving.{more_none, more_given, take_more}
 use Rattle.tx_machine.proofs.plain.ended_calls.give_hops.Goals as goal
-use Rattle.tx_plan.proofs.Among.{among_map, among_at}
 
 pub loop-at-init : goal.loop-at-init
 loop-at-init g c = (omega arith, sym (more_none c.args.releasing.now))

@@ -1,7 +1,4 @@
-use Rattle.std.proofs.Common.{◌≡◌, ◌≤◌, ◌-◌, length, map, take}
-use Rattle.std.specs.Prelude.{filter}
-use Rattle.tx_machine.specs.Seen.{call_seen}
-use Rattle.tx_machine.specs.inner.GivenUp.{is_given, with_more}
+use Rattle.tx_machine.proofs.Common.{◌≡◌, ◌≤◌, ◌-◌, length, map, take, filter, call_seen, is_given, with_more}
 use Rattle.tx_machine.proofs.plain.ended_calls.give_hops.Given as goal
 
 abbrev pub invariant-loop-at : goal.invariant-loop-at

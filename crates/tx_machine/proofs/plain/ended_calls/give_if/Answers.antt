@@ -1,13 +1,4 @@
-use Rattle.std.proofs.Common.{ap, ◌∙◌, sym, subst, [], map}
-use Rattle.tx_machine.specs.Seen.{call_seen}
-use Rattle.tx_machine.specs.inner.GivenUp.{is_given, with_more}
-use Rattle.tx_machine.specs.inner.Marks.{Circuits, HasMark}
-use Rattle.tx_machine.specs.Call.{circuit_called}
-use Rattle.tx_machine.specs.InUse.{circuits_carried, circuits_used}
-use Rattle.tx_plan.specs.Among.{Among}
-use Rattle.tx_plan.proofs.Among.{among_left, among_right}
-use Rattle.tx_machine.specs.declared.open_call.Hop.{Hop}
-use Rattle.std.specs.Prelude.{filter, if◌then◌else◌}
+use Rattle.tx_machine.proofs.Common.{ap, ◌∙◌, sym, subst, [], map, call_seen, is_given, with_more, Circuits, HasMark, circuit_called, circuits_carried, circuits_used, Among, among_left, among_right, Hop, filter, if◌then◌else◌}
 use Rattle.tx_machine.proofs.Giving.{more_given, more_none}
 use Rattle.tx_machine.proofs.plain.ended_calls.give_if.Goals as goal
 

@@ -1,9 +1,4 @@
-use Rattle.std.proofs.Common.{ap, ◌∙◌, sym, subst, map, inl, refl}
-use Rattle.tx_machine.specs.Seen.{call_seen}
-use Rattle.tx_machine.specs.inner.GivenUp.{is_given, with_more}
-use Rattle.tx_machine.specs.Call.{circuit_called}
-use Rattle.tx_plan.specs.Among.{Among}
-use Rattle.std.specs.Prelude.{filter}
+use Rattle.tx_machine.proofs.Common.{ap, ◌∙◌, sym, subst, map, inl, refl, call_seen, is_given, with_more, circuit_called, Among, filter}
 use Rattle.tx_machine.proofs.Giving.{more_none}
 use Rattle.tx_machine.proofs.plain.ended_calls.give_phase.Goals as goal
 

@@ -1,12 +1,4 @@
-use Rattle.std.proofs.Common.{ap, ◌∙◌, sym, subst, [], map, take, arith}
-use Rattle.tx_machine.specs.Seen.{call_seen}
-use Rattle.tx_machine.specs.inner.GivenUp.{is_given, with_more, ends_by}
-use Rattle.tx_machine.specs.inner.Marks.{Circuits, HasMark}
-use Rattle.tx_machine.specs.InUse.{circuits_used}
-use Rattle.std.specs.Prelude.{filter, if◌then◌else◌}
-use Rattle.std.specs.List.{flat_map}
-use Rattle.std.proofs.lemmas.List.{map_push}
-use Rattle.tx_plan.proofs.Among.{among_at}
+use Rattle.tx_machine.proofs.Common.{ap, ◌∙◌, sym, subst, [], map, take, arith, call_seen, is_given, with_more, ends_by, Circuits, HasMark, circuits_used, filter, if◌then◌else◌, flat_map, map_push, among_at}
 use Rattle.tx_machine.proofs.Giving.{more_none, more_given, take_more, used_more}
 use Rattle.tx_machine.proofs.plain.ended_calls.give_up.Goals as goal
 

@@ -1,9 +1,4 @@
-use Rattle.std.proofs.Common.{◌≡◌, ◌≤◌, ◌-◌, length, map, take}
-use Rattle.std.specs.Prelude.{filter}
-use Rattle.std.specs.List.{flat_map}
-use Rattle.tx_machine.specs.InUse.{circuits_used}
-use Rattle.tx_machine.specs.Seen.{call_seen}
-use Rattle.tx_machine.specs.inner.GivenUp.{is_given, with_more, ends_by}
+use Rattle.tx_machine.proofs.Common.{◌≡◌, ◌≤◌, ◌-◌, length, map, take, filter, flat_map, circuits_used, call_seen, is_given, with_more, ends_by}
 use Rattle.tx_machine.proofs.plain.ended_calls.give_up.Given as goal
 
 abbrev pub invariant-loop-at : goal.invariant-loop-at

@@ -1,6 +1,4 @@
-use Rattle.std.proofs.Common.{◌∙◌, ◌<◌, ◌++◌, ◌∷◌, [], ap, refl, arith, length}
-use Rattle.tx_machine.specs.Ending.{ticket_of}
-use Rattle.tx_machine.specs.Seen.{call_seen}
+use Rattle.tx_machine.proofs.Common.{◌∙◌, ◌<◌, ◌++◌, ◌∷◌, [], ap, refl, arith, length, ticket_of, call_seen}
 use Rattle.tx_machine.proofs.Taking.{ending_none, ending_taken, ending_passed, ending_calls, ending_tickets, one_read}
 use Rattle.tx_machine.proofs.plain.ended_calls.take_out.Goals as goal
 

@@ -1,9 +1,4 @@
-use Rattle.std.proofs.Common.{ap, ◌∙◌, sym, ◌||◌, ◌==◌, map}
-use Rattle.std.specs.List.{list_any}
-use Rattle.std.proofs.lemmas.List.Folds.{list_any-append}
-use Rattle.tx_plan.specs.declared.ids.Circuit.{Circuit}
-use Rattle.tx_machine.specs.declared.open_call.Hop.{Hop}
-use Rattle.tx_machine.specs.Call.{circuit_called}
+use Rattle.tx_machine.proofs.Common.{ap, ◌∙◌, sym, ◌||◌, ◌==◌, map, list_any, list_any-append, Circuit, Hop, circuit_called}
 use Rattle.tx_machine.proofs.Views.{any_map}
 use Rattle.tx_machine.proofs.plain.ended_calls.uses_group.Goals as goal
 

@@ -1,7 +1,4 @@
-use Rattle.std.proofs.Common.{ℕ, ◌∙◌, ◌||◌, ◌&&◌, ◌==◌, not, Bool, sym}
-use Rattle.tx_mend.specs.LeastRanks.{leads_on}
-use Rattle.tx_mend.specs.KeptRanks.{stays_by}
-use Rattle.tx_mend.specs.inner.CodeRanks.{ranked}
+use Rattle.tx_mend.proofs.Common.{ℕ, ◌∙◌, ◌||◌, ◌&&◌, ◌==◌, not, Bool, sym, leads_on, stays_by, ranked}
 use Rattle.tx_mend.proofs.Dropping.{all_step}
 use Rattle.tx_mend.proofs.trial.Trial.all_on.Goals as goal
 

@@ -1,8 +1,4 @@
-use Rattle.std.proofs.Common.{◌≡◌, ℕ, ◌||◌, ◌&&◌, ◌==◌, not, Bool, Option, drop}
-use Rattle.std.specs.List.{list_all}
-use Rattle.tx_mend.specs.LeastRanks.{leads_on}
-use Rattle.tx_mend.specs.KeptRanks.{stays_by}
-use Rattle.tx_mend.specs.inner.CodeRanks.{rank_list, ranked}
+use Rattle.tx_mend.proofs.Common.{◌≡◌, ℕ, ◌||◌, ◌&&◌, ◌==◌, not, Bool, Option, drop, list_all, leads_on, stays_by, rank_list, ranked}
 use Rattle.tx_mend.proofs.trial.Trial.all_on.Given as goal
 
 abbrev pub invariant-loop-group : goal.invariant-loop-group

@@ -1,5 +1,4 @@
-use Rattle.std.proofs.Common.{◌∙◌, ◌||◌, not, sym, ap}
-use Rattle.tx_mend.specs.LeastRanks.{leads_on}
+use Rattle.tx_mend.proofs.Common.{◌∙◌, ◌||◌, not, sym, ap, leads_on}
 use Rattle.tx_mend.proofs.trial.Trial.is_on.Goals as goal
 
 pub returns-then-keeps : goal.returns-then-keeps

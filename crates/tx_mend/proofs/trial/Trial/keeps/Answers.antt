@@ -1,5 +1,4 @@
-use Rattle.std.proofs.Common.{◌∙◌, ◌||◌, ◌&&◌, ◌==◌, sym, ap}
-use Rattle.tx_mend.specs.inner.CodeRanks.{ranked}
+use Rattle.tx_mend.proofs.Common.{◌∙◌, ◌||◌, ◌&&◌, ◌==◌, sym, ap, ranked}
 use Rattle.tx_mend.proofs.Trying.{ranked_list}
 use Rattle.tx_mend.proofs.trial.Trial.keeps.Goals as goal
 

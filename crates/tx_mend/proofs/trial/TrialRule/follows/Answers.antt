@@ -1,11 +1,6 @@
-use Rattle.std.proofs.Common.{◌∙◌, ◌||◌, ◌&&◌, ◌==◌, sym, ap}
-use Rattle.std.specs.List.{list_all}
+use Rattle.tx_mend.proofs.Common.{◌∙◌, ◌||◌, ◌&&◌, ◌==◌, sym, ap, list_all, route_list, can_follow, leads_on, stays_by, list_with, ranked}
 use Rattle.std.proofs.Math.Bool.{and-true}
 use Rattle.std.proofs.lemmas.Bool.{and_right}
-use Rattle.tx_plan.specs.Routes.{route_list}
-use Rattle.tx_mend.specs.LeastRanks.{can_follow, leads_on}
-use Rattle.tx_mend.specs.KeptRanks.{stays_by, list_with}
-use Rattle.tx_mend.specs.inner.CodeRanks.{ranked}
 use Rattle.tx_mend.proofs.Dropping.{all_kept}
 use Rattle.tx_mend.proofs.trial.TrialRule.follows.Goals as goal
 

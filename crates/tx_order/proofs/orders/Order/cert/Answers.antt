@@ -1,12 +1,4 @@
-use Rattle.std.proofs.Common.{◌≡◌, ℕ, ◌+◌, Bool, List, length, sym, ap, subst, ◌∙◌, arith}
-use Rattle.tx_plan.specs.Plan.{Plan}
-use Rattle.tx_cert.specs.Certificate.{rank_at, no_ranks_for}
-use Rattle.tx_rank.specs.Judged.{AreOrigins}
-use Rattle.tx_rank.specs.Nets.{Certifies}
-use Rattle.tx_change.specs.ChangeNets.{change_net}
-use Rattle.tx_order.specs.Transitions.{plan_front}
-use Rattle.tx_order.specs.Ordered.{fronts_before}
-use Rattle.tx_order.specs.inner.Certified.{IsCertifiedBelow}
+use Rattle.tx_order.proofs.Common.{◌≡◌, ℕ, ◌+◌, Bool, List, length, sym, ap, subst, ◌∙◌, arith, Plan, rank_at, no_ranks_for, AreOrigins, Certifies, change_net, plan_front, fronts_before, IsCertifiedBelow}
 use Rattle.tx_order.proofs.StageCerts.{certified_first, certified_next, certified_all}
 use Rattle.tx_order.proofs.orders.Order.cert.Goals as goal
 

@@ -1,6 +1,4 @@
-use Rattle.std.proofs.Common.{◌+◌}
-use Rattle.tx_order.specs.Ordered.{fronts_before}
-use Rattle.tx_order.specs.inner.Certified.{IsCertifiedBelow}
+use Rattle.tx_order.proofs.Common.{◌+◌, fronts_before, IsCertifiedBelow}
 use Rattle.tx_order.proofs.orders.Order.cert.Given as goal
 
 abbrev pub invariant-loop-index : goal.invariant-loop-index

@@ -1,7 +1,4 @@
-use Rattle.std.proofs.Common.{ap, ◌∙◌}
-use Rattle.tx_plan.specs.Routes.{is_barred}
-use Rattle.tx_order.specs.Transitions.{plan_front}
-use Rattle.tx_order.specs.Ordered.{Order, fronts_before}
+use Rattle.tx_order.proofs.Common.{ap, ◌∙◌, is_barred, plan_front, Order, fronts_before}
 use Rattle.tx_order.proofs.TwoFronts.{bar_by_front}
 use Rattle.tx_order.proofs.orders.Order.is_barred.Goals as goal
 

@@ -1,7 +1,4 @@
-use Rattle.std.proofs.Common.{ap, ◌∙◌}
-use Rattle.tx_plan.specs.Routes.{route_list}
-use Rattle.tx_order.specs.Transitions.{plan_front}
-use Rattle.tx_order.specs.Ordered.{Order, fronts_before}
+use Rattle.tx_order.proofs.Common.{ap, ◌∙◌, route_list, plan_front, Order, fronts_before}
 use Rattle.tx_order.proofs.TwoFronts.{list_by_front}
 use Rattle.tx_order.proofs.orders.Order.list.Goals as goal
 

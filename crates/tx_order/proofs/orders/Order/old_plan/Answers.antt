@@ -1,5 +1,4 @@
-use Rattle.std.proofs.Common.{ap, ◌∙◌}
-use Rattle.tx_order.specs.Ordered.{Order}
+use Rattle.tx_order.proofs.Common.{ap, ◌∙◌, Order}
 use Rattle.tx_order.proofs.orders.Order.old_plan.Goals as goal
 
 pub returns : goal.returns

@@ -1,5 +1,4 @@
-use Rattle.std.proofs.Common.{ap, subst, arith}
-use Rattle.tx_order.specs.Ordered.{Order, IsOrderKept}
+use Rattle.tx_order.proofs.Common.{ap, subst, arith, Order, IsOrderKept}
 use Rattle.tx_order.proofs.Ordered.{few_stages}
 use Rattle.tx_order.proofs.orders.Order.rules.Goals as goal
 

@@ -1,6 +1,4 @@
-use Rattle.std.proofs.Common.{sym, ap, ◌∙◌}
-use Rattle.tx_plan.specs.Routes.{is_barred}
-use Rattle.tx_order.specs.Transitions.{Transition, has_list, has_bar}
+use Rattle.tx_order.proofs.Common.{sym, ap, ◌∙◌, is_barred, Transition, has_list, has_bar}
 use Rattle.tx_order.proofs.Switched.{bar_new, bar_old}
 use Rattle.tx_order.proofs.transition.Transition.is_barred.Goals as goal
 

@@ -1,7 +1,4 @@
-use Rattle.std.proofs.Common.{ap, ◌∙◌}
-use Rattle.tx_cert.specs.Certificate.{ranks_of}
-use Rattle.tx_order.specs.Levels.{level_of, level_at}
-use Rattle.tx_order.specs.Transitions.{Transition}
+use Rattle.tx_order.proofs.Common.{ap, ◌∙◌, ranks_of, level_of, level_at, Transition}
 use Rattle.tx_order.proofs.transition.Transition.level.Goals as goal
 
 pub returns : goal.returns

@@ -1,6 +1,4 @@
-use Rattle.std.proofs.Common.{sym, ap, ◌∙◌}
-use Rattle.tx_plan.specs.Routes.{route_list}
-use Rattle.tx_order.specs.Transitions.{Transition, has_list, has_bar}
+use Rattle.tx_order.proofs.Common.{sym, ap, ◌∙◌, route_list, Transition, has_list, has_bar}
 use Rattle.tx_order.proofs.Switched.{list_new, list_old}
 use Rattle.tx_order.proofs.transition.Transition.list.Goals as goal
 

@@ -1,9 +1,4 @@
-use Rattle.std.proofs.Common.{List, [], ◌∷◌, ◌++◌, ap, sym, ◌∙◌}
-use Rattle.tx_plan.specs.declared.ids.Pair.{Pair}
-use Rattle.tx_plan.specs.Plan.{Plan}
-use Rattle.tx_plan.specs.Rules.{IsPlan}
-use Rattle.tx_plan.specs.Declaring.{first_true, bar_refusals, with_bar}
-use Rattle.tx_plan.specs.inner.Tables.{plan_of}
+use Rattle.tx_plan.proofs.Common.{List, [], ◌∷◌, ◌++◌, ap, sym, ◌∙◌, Pair, Plan, IsPlan, first_true, bar_refusals, with_bar, plan_of}
 use Rattle.tx_plan.proofs.Made.{either, made_bar}
 use Rattle.tx_plan.proofs.Refusing.{declares-refused, declares-no_memory}
 use Rattle.tx_plan.proofs.builder.PlanBuilder.bar.Goals as goal

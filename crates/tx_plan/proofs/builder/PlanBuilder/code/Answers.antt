@@ -1,10 +1,4 @@
-use Rattle.std.proofs.Common.{ℕ, List, [], ◌∷◌, ◌++◌, map, refl, ap, ap₂, sym, subst, ◌∙◌}
-use Rattle.std.specs.Str.{bytes_eq}
-use Rattle.std.proofs.lemmas.List.{map_push}
-use Rattle.tx_plan.specs.Plan.{Plan, Code}
-use Rattle.tx_plan.specs.Rules.{IsPlan}
-use Rattle.tx_plan.specs.Declaring.{first_true, code_refusals, has_code, with_code}
-use Rattle.tx_plan.specs.inner.Tables.{plan_of, code_of_row}
+use Rattle.tx_plan.proofs.Common.{ℕ, List, [], ◌∷◌, ◌++◌, map, refl, ap, ap₂, sym, subst, ◌∙◌, bytes_eq, map_push, Plan, Code, IsPlan, first_true, code_refusals, has_code, with_code, plan_of, code_of_row}
 use Rattle.tx_plan.proofs.Lookups.{entry_last}
 use Rattle.tx_plan.proofs.Made.{inserted_entry, no_code_key, made_code}
 use Rattle.tx_plan.proofs.builder.PlanBuilder.code.Goals as goal

@@ -1,9 +1,4 @@
-use Rattle.std.proofs.Common.{ℕ, List, [], ◌∷◌, ◌++◌, ap, ap₂, sym, ◌∙◌}
-use Rattle.std.specs.Prelude.{if◌then◌else◌}
-use Rattle.tx_plan.specs.Plan.{Plan}
-use Rattle.tx_plan.specs.Rules.{IsPlan}
-use Rattle.tx_plan.specs.Declaring.{first_true, exchange_refusals, has_exchange, with_exchange}
-use Rattle.tx_plan.specs.inner.Tables.{plan_of}
+use Rattle.tx_plan.proofs.Common.{ℕ, List, [], ◌∷◌, ◌++◌, ap, ap₂, sym, ◌∙◌, if◌then◌else◌, Plan, IsPlan, first_true, exchange_refusals, has_exchange, with_exchange, plan_of}
 use Rattle.tx_plan.proofs.Made.{inserted_key, made_exchange}
 use Rattle.tx_plan.proofs.builder.PlanBuilder.exchange.Goals as goal
 

@@ -1,11 +1,4 @@
-use Rattle.std.proofs.Common.{ℕ, List, [], ◌∷◌, ◌++◌, map, refl, ap, ap₂, sym, subst, ◌∙◌}
-use Rattle.std.specs.Str.{bytes_eq}
-use Rattle.std.proofs.lemmas.List.{map_push}
-use Rattle.tx_plan.specs.declared.ids.GroupRow.{GroupRow}
-use Rattle.tx_plan.specs.Plan.{Plan, Group}
-use Rattle.tx_plan.specs.Rules.{IsPlan}
-use Rattle.tx_plan.specs.Declaring.{first_true, group_refusals, has_group, with_group}
-use Rattle.tx_plan.specs.inner.Tables.{plan_of, group_of_row}
+use Rattle.tx_plan.proofs.Common.{ℕ, List, [], ◌∷◌, ◌++◌, map, refl, ap, ap₂, sym, subst, ◌∙◌, bytes_eq, map_push, GroupRow, Plan, Group, IsPlan, first_true, group_refusals, has_group, with_group, plan_of, group_of_row}
 use Rattle.tx_plan.proofs.Lookups.{entry_last}
 use Rattle.tx_plan.proofs.Made.{inserted_entry, no_group_key, made_group}
 use Rattle.tx_plan.proofs.builder.PlanBuilder.group.Goals as goal

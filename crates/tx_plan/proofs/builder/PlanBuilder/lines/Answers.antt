@@ -1,10 +1,5 @@
-use Rattle.std.proofs.Common.{List, [], ◌∷◌, ◌++◌, ap, sym, ◌∙◌}
+use Rattle.tx_plan.proofs.Common.{List, [], ◌∷◌, ◌++◌, ap, sym, ◌∙◌, LineRange, Plan, IsPlan, first_true, lines_refusals, with_lines, plan_of}
 use Rattle.std.specs.Prelude.{is_ok}
-use Rattle.tx_plan.specs.declared.range.LineRange.{LineRange}
-use Rattle.tx_plan.specs.Plan.{Plan}
-use Rattle.tx_plan.specs.Rules.{IsPlan}
-use Rattle.tx_plan.specs.Declaring.{first_true, lines_refusals, with_lines}
-use Rattle.tx_plan.specs.inner.Tables.{plan_of}
 use Rattle.tx_plan.proofs.Made.{pushed, made_lines}
 use Rattle.tx_plan.proofs.Refusing.{declares-refused, declares-no_memory}
 use Rattle.tx_plan.proofs.builder.PlanBuilder.lines.Goals as goal

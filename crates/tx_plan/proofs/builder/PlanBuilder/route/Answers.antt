@@ -1,8 +1,4 @@
-use Rattle.std.proofs.Common.{List, [], ◌∷◌, ◌++◌, ap, sym, ◌∙◌}
-use Rattle.tx_plan.specs.Plan.{Plan, Route}
-use Rattle.tx_plan.specs.Rules.{IsPlan}
-use Rattle.tx_plan.specs.Declaring.{first_true, route_refusals, with_route}
-use Rattle.tx_plan.specs.inner.Tables.{plan_of}
+use Rattle.tx_plan.proofs.Common.{List, [], ◌∷◌, ◌++◌, ap, sym, ◌∙◌, Plan, Route, IsPlan, first_true, route_refusals, with_route, plan_of}
 use Rattle.tx_plan.proofs.Made.{either, made_route}
 use Rattle.tx_plan.proofs.Refusing.{declares-refused, declares-no_memory}
 use Rattle.tx_plan.proofs.builder.PlanBuilder.route.Goals as goal

@@ -1,5 +1,4 @@
-use Rattle.std.proofs.Common.{◌*◌, ◌%◌, ◌^◌}
-use Rattle.std.specs.Prelude.{bit_xor}
+use Rattle.tx_plan.proofs.Common.{◌*◌, ◌%◌, ◌^◌, bit_xor}
 use Rattle.tx_plan.specs.inner.Hashing.{hasher_after, product_with_odd}
 use Rattle.tx_plan.proofs.ids.WordHasherHasher.write.Goals as goal
 

@@ -1,10 +1,4 @@
-use Rattle.std.proofs.Common.{◌∙◌, ap, sym, map, Some, ℕ, List}
-use Rattle.std.specs.Prelude.{position}
-use Rattle.std.specs.Map.{keys_of}
-use Rattle.std.specs.Str.{bytes_eq}
-use Rattle.tx_plan.specs.Plan.{Plan, Code, code_named}
-use Rattle.tx_plan.specs.Rules.{is_code, IsCode}
-use Rattle.tx_plan.specs.inner.Tables.{plan_of, code_of_row}
+use Rattle.tx_plan.proofs.Common.{◌∙◌, ap, sym, map, Some, ℕ, List, position, keys_of, bytes_eq, Plan, Code, code_named, is_code, IsCode, plan_of, code_of_row}
 use Rattle.tx_plan.proofs.Absent.{unnamed, too_long, short_code}
 use Rattle.tx_plan.proofs.Tables.{position-map}
 use Rattle.tx_plan.proofs.plan.Plan.code_named.Goals as goal

@@ -1,6 +1,4 @@
-use Rattle.std.proofs.Common.{◌≡◌, ◌∙◌, ap, sym, true, List, ℕ}
-use Rattle.tx_text.specs.Words.{is_name}
-use Rattle.tx_plan.specs.Plan.{Plan, exchange_named}
+use Rattle.tx_plan.proofs.Common.{◌≡◌, ◌∙◌, ap, sym, true, List, ℕ, is_name, Plan, exchange_named}
 use Rattle.tx_plan.proofs.Absent.{unnamed, too_long, short_name}
 use Rattle.tx_plan.proofs.plan.Plan.exchange_named.Goals as goal
 

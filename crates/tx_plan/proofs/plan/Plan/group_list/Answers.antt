@@ -1,6 +1,4 @@
-use Rattle.std.proofs.Common.{◌∙◌, ap}
-use Rattle.tx_plan.specs.Plan.{Plan}
-use Rattle.tx_plan.specs.Routes.{route_list}
+use Rattle.tx_plan.proofs.Common.{◌∙◌, ap, Plan, route_list}
 use Rattle.tx_plan.proofs.plan.Plan.group_list.Goals as goal
 
 pub returns : goal.returns

@@ -1,11 +1,4 @@
-use Rattle.std.proofs.Common.{◌∙◌, ap, sym, map, Some, ℕ, List}
-use Rattle.std.specs.Prelude.{position}
-use Rattle.std.specs.Map.{keys_of}
-use Rattle.std.specs.Str.{bytes_eq}
-use Rattle.tx_text.specs.Words.{is_name}
-use Rattle.tx_plan.specs.Plan.{Plan, Group, group_named}
-use Rattle.tx_plan.specs.Rules.{IsGroup}
-use Rattle.tx_plan.specs.inner.Tables.{plan_of, group_of_row}
+use Rattle.tx_plan.proofs.Common.{◌∙◌, ap, sym, map, Some, ℕ, List, position, keys_of, bytes_eq, is_name, Plan, Group, group_named, IsGroup, plan_of, group_of_row}
 use Rattle.tx_plan.proofs.Absent.{unnamed, too_long, short_name}
 use Rattle.tx_plan.proofs.Tables.{position-map}
 use Rattle.tx_plan.proofs.plan.Plan.group_named.Goals as goal

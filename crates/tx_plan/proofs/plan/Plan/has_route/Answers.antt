@@ -1,6 +1,4 @@
-use Rattle.std.proofs.Common.{◌∙◌, ap}
-use Rattle.tx_plan.specs.Plan.{Plan}
-use Rattle.tx_plan.specs.Declaring.{has_route}
+use Rattle.tx_plan.proofs.Common.{◌∙◌, ap, Plan, has_route}
 use Rattle.tx_plan.proofs.plan.Plan.has_route.Goals as goal
 
 pub returns : goal.returns

@@ -1,8 +1,4 @@
-use Rattle.std.proofs.Common.{◌∙◌, ap, map, ℕ, [], Some, None}
-use Rattle.std.specs.Prelude.{slice_get}
-use Rattle.std.specs.Option.{option_map_or}
-use Rattle.tx_plan.specs.Plan.{Plan, Code, home_of}
-use Rattle.tx_plan.specs.inner.Tables.{code_of_row}
+use Rattle.tx_plan.proofs.Common.{◌∙◌, ap, map, ℕ, [], Some, None, slice_get, option_map_or, Plan, Code, home_of, code_of_row}
 use Rattle.tx_plan.proofs.Tables.{value_at}
 use Rattle.tx_plan.proofs.plan.Plan.home.Goals as goal
 

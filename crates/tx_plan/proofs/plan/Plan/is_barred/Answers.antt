@@ -1,6 +1,4 @@
-use Rattle.std.proofs.Common.{◌∙◌, ap}
-use Rattle.tx_plan.specs.Plan.{Plan}
-use Rattle.tx_plan.specs.Routes.{is_barred}
+use Rattle.tx_plan.proofs.Common.{◌∙◌, ap, Plan, is_barred}
 use Rattle.tx_plan.proofs.plan.Plan.is_barred.Goals as goal
 
 pub returns : goal.returns

@@ -1,6 +1,4 @@
-use Rattle.std.proofs.Common.{◌∙◌, sym, ◌&&◌, Some, None}
-use Rattle.std.specs.Prelude.{if◌then◌else◌}
-use Rattle.tx_plan.specs.Rules.{is_national}
+use Rattle.tx_plan.proofs.Common.{◌∙◌, sym, ◌&&◌, Some, None, if◌then◌else◌, is_national}
 use Rattle.tx_plan.proofs.Refusing.{read_right}
 use Rattle.tx_plan.proofs.plan.Plan.line_at.Goals as goal
 

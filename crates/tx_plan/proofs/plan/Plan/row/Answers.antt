@@ -1,8 +1,4 @@
-use Rattle.std.proofs.Common.{◌∙◌, ap, map, List, ℕ}
-use Rattle.std.specs.Prelude.{slice_get}
-use Rattle.std.specs.Option.{option_map}
-use Rattle.tx_plan.specs.Plan.{Plan}
-use Rattle.tx_plan.specs.inner.Tables.{group_of_row, row_of}
+use Rattle.tx_plan.proofs.Common.{◌∙◌, ap, map, List, ℕ, slice_get, option_map, Plan, group_of_row, row_of}
 use Rattle.tx_plan.proofs.Tables.{row_at}
 use Rattle.tx_plan.proofs.plan.Plan.row.Goals as goal
 

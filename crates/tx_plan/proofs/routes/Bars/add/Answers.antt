@@ -1,6 +1,4 @@
-use Rattle.std.proofs.Common.{◌≡◌, ◌∙◌, ap, ◌++◌, ◌∷◌, [], if◌then◌else◌, false}
-use Rattle.std.specs.List.{list_any}
-use Rattle.tx_plan.specs.declared.ids.Pair.{Pair}
+use Rattle.tx_plan.proofs.Common.{◌≡◌, ◌∙◌, ap, ◌++◌, ◌∷◌, [], if◌then◌else◌, false, list_any, Pair}
 use Rattle.tx_plan.proofs.PairRows.{same_pair, turned}
 use Rattle.tx_plan.proofs.routes.Bars.add.Goals as goal
 

@@ -1,8 +1,4 @@
-use Rattle.std.proofs.Common.{◌∙◌, ap, refl, map, ◌++◌, ◌∷◌, [], List}
-use Rattle.std.specs.List.{list_any}
-use Rattle.std.proofs.lemmas.List.{map_push}
-use Rattle.tx_plan.specs.Plan.{Route}
-use Rattle.tx_plan.specs.inner.Tables.{route_of_row}
+use Rattle.tx_plan.proofs.Common.{◌∙◌, ap, refl, map, ◌++◌, ◌∷◌, [], List, list_any, map_push, Route, route_of_row}
 use Rattle.tx_plan.proofs.Lookups.{entry_last}
 use Rattle.tx_plan.proofs.PairRows.{same_pair, is_route, any_route}
 use Rattle.tx_plan.proofs.routes.Routes.add.Goals as goal

@@ -1,6 +1,4 @@
-use Rattle.std.proofs.Common.{◌∙◌, ap}
-use Rattle.std.specs.List.{list_any}
-use Rattle.std.proofs.lemmas.Map.Made.{is_some-lookup}
+use Rattle.tx_plan.proofs.Common.{◌∙◌, ap, list_any, is_some-lookup}
 use Rattle.tx_plan.proofs.PairRows.{same_pair, is_route, any_route}
 use Rattle.tx_plan.proofs.routes.Routes.has.Goals as goal
 

@@ -1,8 +1,5 @@
-use Rattle.std.proofs.Common.{◌∙◌, ap, sym, List, [], ℕ, Option}
-use Rattle.std.specs.Prelude.{find}
+use Rattle.tx_plan.proofs.Common.{◌∙◌, ap, sym, List, [], ℕ, Option, find, ArrayVec, Route}
 use Rattle.std.specs.Option.{option_map_or, option_copied}
-use Rattle.arrayvec.specs.ArrayVec.{ArrayVec}
-use Rattle.tx_plan.specs.Plan.{Route}
 use Rattle.tx_plan.proofs.PairRows.{is_route, groups_found}
 use Rattle.tx_plan.proofs.routes.Routes.list.Goals as goal
 

@@ -1,5 +1,4 @@
-use Rattle.std.proofs.Common.{refl}
-use Rattle.tx_plan.specs.Declaring.{code_refusals, group_refusals, route_refusals, bar_refusals}
+use Rattle.tx_plantext.proofs.Common.{refl, code_refusals, group_refusals, route_refusals, bar_refusals}
 use Rattle.tx_plantext.specs.PlanText.{declare, count_of}
 use Rattle.tx_plantext.proofs.Entries.{declared_from}
 use Rattle.tx_plantext.proofs.PlanLines.{direction_back}

@@ -1,6 +1,4 @@
-use Rattle.std.specs.Prelude.{codes}
-use Rattle.std.proofs.Common.{◌≡◌, sym, ◌∙◌}
-use Rattle.std.proofs.lemmas.Slice.Eq.{bytes_eq-Decides}
+use Rattle.tx_plantext.proofs.Common.{codes, ◌≡◌, sym, ◌∙◌, bytes_eq-Decides}
 use Rattle.tx_plantext.proofs.plan_line.PlanLine.read.Goals as goal
 
 pub returns-then-eq-4 : goal.returns-then-eq-4

@@ -1,5 +1,4 @@
-use Rattle.std.proofs.Common.{subst}
-use Rattle.tx_risk.specs.NamedRisks.{AreRisksFor}
+use Rattle.tx_risk.proofs.Common.{subst, AreRisksFor}
 use Rattle.tx_risk.proofs.risk_reader.RiskLines.finish.Goals as goal
 
 pub returns-clause-fits : goal.returns-clause-fits

@@ -1,5 +1,4 @@
-use Rattle.std.proofs.Common.{subst}
-use Rattle.tx_text.specs.Said.{Declared}
+use Rattle.tx_risk.proofs.Common.{subst, Declared}
 use Rattle.tx_text.specs.inner.Beside.{beside}
 use Rattle.tx_text.proofs.Beside.{declared_beside}
 use Rattle.tx_risk.specs.RiskText.{declare, is_memory}

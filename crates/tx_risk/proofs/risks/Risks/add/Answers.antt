@@ -1,10 +1,6 @@
-use Rattle.std.proofs.Common.{List, [], ◌∷◌, ◌++◌, map, refl, ap, ◌∙◌}
-use Rattle.std.specs.List.{list_any}
-use Rattle.std.specs.Str.{bytes_eq}
+use Rattle.tx_risk.proofs.Common.{List, [], ◌∷◌, ◌++◌, map, refl, ap, ◌∙◌, list_any, bytes_eq, NamedRisk, risk_of_row}
 use Rattle.std.proofs.lemmas.List.{map_push}
 use Rattle.tx_plan.proofs.Lookups.{entry_last}
-use Rattle.tx_risk.specs.NamedRisks.{NamedRisk}
-use Rattle.tx_risk.specs.inner.Rows.{risk_of_row}
 use Rattle.tx_risk.proofs.Rows.{any_risk}
 use Rattle.tx_risk.proofs.risks.Risks.add.Goals as goal
 

@@ -1,9 +1,4 @@
-use Rattle.std.proofs.Common.{List, [], Some, None, ◌∙◌, ap}
-use Rattle.std.specs.Prelude.{slice_get}
-use Rattle.std.specs.Option.{option_map_or}
-use Rattle.tx_plan.proofs.Tables.{value_at}
-use Rattle.tx_risk.specs.NamedRisks.{NamedRisk}
-use Rattle.tx_risk.specs.inner.Rows.{risk_of_row}
+use Rattle.tx_risk.proofs.Common.{List, [], Some, None, ◌∙◌, ap, slice_get, option_map_or, value_at, NamedRisk, risk_of_row}
 use Rattle.tx_risk.proofs.risks.Risks.groups.Goals as goal
 
 pub returns-in-Some : goal.returns-in-Some

@@ -1,8 +1,5 @@
-use Rattle.std.proofs.Common.{◌∙◌, ap}
-use Rattle.std.specs.List.{list_any}
-use Rattle.std.specs.Str.{bytes_eq}
+use Rattle.tx_risk.proofs.Common.{◌∙◌, ap, list_any, bytes_eq, NamedRisk}
 use Rattle.std.proofs.lemmas.Map.Made.{is_some-lookup}
-use Rattle.tx_risk.specs.NamedRisks.{NamedRisk}
 use Rattle.tx_risk.proofs.Rows.{any_risk}
 use Rattle.tx_risk.proofs.risks.Risks.has.Goals as goal
 

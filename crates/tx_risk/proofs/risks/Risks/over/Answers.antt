@@ -1,9 +1,4 @@
-use Rattle.std.proofs.Common.{◌<◌, ◌≡◌, ◌≤◌, ◌∙◌, ◌++◌, ◌∷◌, [], false, map, length, ap, sym, subst, arith}
-use Rattle.std.specs.List.{list_any, filter_map}
-use Rattle.std.specs.Str.{bytes_eq}
-use Rattle.std.proofs.lemmas.List.{take_all}
-use Rattle.tx_plan.specs.Plan.{group_name, group_named}
-use Rattle.tx_risk.specs.NamedRisks.{NamedRisk, risk_in, risk_name, AreWithin}
+use Rattle.tx_risk.proofs.Common.{◌<◌, ◌≡◌, ◌≤◌, ◌∙◌, ◌++◌, ◌∷◌, [], false, map, length, ap, sym, subst, arith, list_any, filter_map, bytes_eq, take_all, group_name, group_named, NamedRisk, risk_in, risk_name, AreWithin}
 use Rattle.tx_risk.proofs.RisksIn.{fresh, risks_next, all_within}
 use Rattle.tx_risk.proofs.risks.Risks.over.Goals as goal
 

@@ -1,5 +1,4 @@
-use Rattle.std.proofs.Common.{◌≡◌, map, take}
-use Rattle.tx_risk.specs.NamedRisks.{risk_in}
+use Rattle.tx_risk.proofs.Common.{◌≡◌, map, take, risk_in}
 use Rattle.tx_risk.proofs.risks.Risks.over.Given as goal
 
 abbrev pub invariant-loop-index : goal.invariant-loop-index

@@ -1,5 +1,4 @@
-use Rattle.std.proofs.Common.{codes, refl, arith, rules}
-use Rattle.std.proofs.lemmas.Slice.Eq.{text_from_reads}
+use Rattle.tx_script.proofs.Common.{codes, refl, arith, rules, text_from_reads}
 use Rattle.tx_script.proofs.event_words.Verb.read.Goals as goal
 
 pub returns-in-ROUTE : goal.returns-in-ROUTE

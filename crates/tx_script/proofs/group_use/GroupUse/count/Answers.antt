@@ -1,5 +1,4 @@
-use Rattle.std.proofs.Common.{arith}
-use Rattle.std.proofs.Math.Facts.{Fits-of_lt}
+use Rattle.tx_script.proofs.Common.{arith, Fits-of_lt}
 use Rattle.tx_script.proofs.GroupUses.{count_within}
 use Rattle.tx_script.proofs.group_use.GroupUse.count.Goals as goal
 

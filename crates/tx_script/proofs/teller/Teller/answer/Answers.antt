@@ -1,15 +1,6 @@
-use Rattle.std.proofs.Common.{[], inr, sym, ap, ◌∙◌, arith}
-use Rattle.std.specs.Prelude.{option_map}
-use Rattle.std.specs.Io.KnownBytes.{append_known}
+use Rattle.tx_script.proofs.Common.{[], inr, sym, ap, ◌∙◌, arith, option_map, append_known, drained, State, moment, reply_text, moment_text, echo_asked, ends_counted}
 use Rattle.std.proofs.lemmas.Result.{err_from_is_err_and}
-use Rattle.tx_machine.specs.Drained.{drained}
-use Rattle.tx_machine.specs.State.{State}
-use Rattle.tx_machine.specs.Runs.{moment}
-use Rattle.tx_tickets.specs.Texts.{reply_text}
 use Rattle.tx_tickets.proofs.Taking.{then_took}
-use Rattle.tx_script.specs.Output.{moment_text}
-use Rattle.tx_script.specs.Telling.{echo_asked}
-use Rattle.tx_script.specs.inner.Counting.{ends_counted}
 use Rattle.tx_script.proofs.Answering.{is_answer, counted_as, untold_reply, untold_tickets}
 use Rattle.tx_script.proofs.Counting.{few_used, counted_twice}
 use Rattle.tx_script.proofs.Told.{untold_echo}

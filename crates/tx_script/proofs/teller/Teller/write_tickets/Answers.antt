@@ -1,7 +1,4 @@
-use Rattle.std.proofs.Common.{◌∙◌, refl, sym, ap, arith}
-use Rattle.std.proofs.Math.Facts.{Fits-of_lt}
-use Rattle.tx_machine.specs.Ended.{Ended}
-use Rattle.tx_machine.specs.State.{State}
+use Rattle.tx_script.proofs.Common.{◌∙◌, refl, sym, ap, arith, Fits-of_lt, Ended, State}
 use Rattle.tx_text.proofs.Writing.{on_err}
 use Rattle.tx_script.proofs.Draining.{drain_start, drain_end, drain_more, drain_stop, drain_within, drain_smaller}
 use Rattle.tx_script.proofs.Ended.{room_first, room_more, room_for_one, ends_more, ends_none}

@@ -1,6 +1,4 @@
-use Rattle.std.proofs.Common.{◌≡◌, length}
-use Rattle.std.specs.Prelude.{option_map}
-use Rattle.tx_script.specs.inner.Counting.{ends_counted}
+use Rattle.tx_script.proofs.Common.{◌≡◌, length, option_map, ends_counted}
 use Rattle.tx_script.proofs.Draining.{IsDraining}
 use Rattle.tx_script.proofs.Ended.{HasRoom}
 use Rattle.tx_script.proofs.teller.Teller.write_tickets.Given as goal

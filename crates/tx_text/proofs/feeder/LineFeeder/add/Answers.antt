@@ -1,6 +1,5 @@
-use Rattle.std.proofs.Common.{arith, rules, ap, ◌≡◌, ◌∙◌, ◌++◌, false}
+use Rattle.tx_text.proofs.Common.{arith, rules, ap, ◌≡◌, ◌∙◌, ◌++◌, false, line_fault}
 use Rattle.tx_text.specs.Text.{bytes_fault, begun_fault}
-use Rattle.tx_text.specs.inner.Feed.{line_fault}
 use Rattle.tx_text.proofs.LineFaults.{too_long}
 use Rattle.tx_text.proofs.FeederFields.{no_line, held_begun}
 use Rattle.tx_text.proofs.feeder.LineFeeder.add.Goals as goal

@@ -1,5 +1,4 @@
-use Rattle.std.proofs.Common.{◌≡◌, None, length, arith, rules, ap}
-use Rattle.tx_text.specs.inner.Feed.{Feed}
+use Rattle.tx_text.proofs.Common.{◌≡◌, None, length, arith, rules, ap, Feed}
 use Rattle.tx_text.proofs.FedOn.{added, ended_by_lf}
 use Rattle.tx_text.proofs.feeder.LineFeeder.feed.Goals as goal
 

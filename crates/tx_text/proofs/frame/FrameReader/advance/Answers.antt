@@ -1,12 +1,6 @@
-use Rattle.std.proofs.Common.{◌≤◌, ◌∙◌, Ok, refl, sym, ap, inr, arith, subst}
+use Rattle.tx_text.proofs.Common.{◌≤◌, ◌∙◌, Ok, refl, sym, ap, inr, arith, subst, Broken, header_of, is_read, ReadsOn, Went, frame_of, FrameReading, IsSound, to_come, reading_rest, reading_size}
 use Rattle.tx_text.specs.declared.frame.LineForm.TheVariants.{Blank, Header, End}
-use Rattle.tx_text.specs.Calls.{Broken}
-use Rattle.tx_text.specs.Frame.{header_of, is_read, ReadsOn}
 use Rattle.tx_text.specs.inner.TextLine.{line_of}
-use Rattle.tx_text.specs.inner.CallsLeft.{Went}
-use Rattle.tx_text.specs.inner.FrameFields.{frame_of}
-use Rattle.tx_text.specs.inner.Framing.{FrameReading, IsSound, to_come}
-use Rattle.tx_text.specs.inner.Reading.{reading_rest, reading_size}
 use Rattle.tx_text.proofs.Framing.{on_none}
 use Rattle.tx_text.proofs.CallCounts.{went_none, went_on, calls_on, broken_on, stopped_with}
 use Rattle.tx_text.proofs.Sizes.{on_ok, some_at}

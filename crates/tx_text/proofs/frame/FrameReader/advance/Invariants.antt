@@ -1,9 +1,4 @@
-use Rattle.std.proofs.Common.{◌≡◌, ◌≤◌}
-use Rattle.tx_text.specs.Frame.{ReadsOn}
-use Rattle.tx_text.specs.inner.CallsLeft.{Went}
-use Rattle.tx_text.specs.inner.FrameFields.{frame_of}
-use Rattle.tx_text.specs.inner.Framing.{IsSound, to_come}
-use Rattle.tx_text.specs.inner.Reading.{reading_size}
+use Rattle.tx_text.proofs.Common.{◌≡◌, ◌≤◌, ReadsOn, Went, frame_of, IsSound, to_come, reading_size}
 use Rattle.tx_text.proofs.frame.FrameReader.advance.Given as goal
 
 abbrev pub invariant-lines : goal.invariant-lines

@@ -1,5 +1,4 @@
-use Rattle.std.proofs.Common.{◌≡◌, suc, refl, Bool, ap, ◌∙◌, sym, Ok, inl, inr, true, false, None, arith}
-use Rattle.tx_text.specs.inner.Reading.{reading_rest, reading_size, Reading, IsFeed}
+use Rattle.tx_text.proofs.Common.{◌≡◌, suc, refl, Bool, ap, ◌∙◌, sym, Ok, inl, inr, true, false, None, arith, reading_rest, reading_size, Reading, IsFeed}
 use Rattle.tx_text.proofs.Sizes.{if_ok, on_ok, if_some, fed_left, fed_smaller, emptied}
 use Rattle.tx_text.proofs.CallCounts.{went_none, went_same, went_more, calls_so_far, calls_more, gave_all}
 use Rattle.tx_text.proofs.Exits.{exits_with}

@@ -1,6 +1,4 @@
-use Rattle.std.proofs.Common.{◌≡◌, ◌≤◌, None}
-use Rattle.tx_text.specs.Frame.{ReadsOn}
-use Rattle.tx_text.specs.inner.CallsLeft.{Went}
+use Rattle.tx_text.proofs.Common.{◌≡◌, ◌≤◌, None, ReadsOn, Went}
 use Rattle.tx_text.specs.inner.Reading.{told_at, reading_rest, reading_size}
 use Rattle.tx_text.proofs.reader.TextReader.advance.Given as goal
 

@@ -1,5 +1,4 @@
-use Rattle.std.proofs.Common.{refl, ap, ◌∙◌, sym}
-use Rattle.tx_text.specs.inner.Feed.{feed_gives, feed_leaves}
+use Rattle.tx_text.proofs.Common.{refl, ap, ◌∙◌, sym, feed_gives, feed_leaves}
 use Rattle.tx_text.proofs.ReaderFields.{after_line, after_fault, after_view}
 use Rattle.tx_text.proofs.reader.TextReader.feed.Goals as goal
 

@@ -1,5 +1,4 @@
-use Rattle.std.proofs.Common.{ap, ◌∙◌, subst}
-use Rattle.tx_text.specs.inner.Reading.{fed_on}
+use Rattle.tx_text.proofs.Common.{ap, ◌∙◌, subst, fed_on}
 use Rattle.tx_text.proofs.ReaderFields.{IsWhole, lent_view}
 use Rattle.tx_text.proofs.reader.TextReader.lend.Goals as goal
 

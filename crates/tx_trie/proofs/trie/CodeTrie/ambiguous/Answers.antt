@@ -1,8 +1,5 @@
-use Rattle.std.proofs.Common.{◌≡◌, ◌∙◌, List, map, take, ap, sym, subst, arith}
-use Rattle.tx_plan.specs.Plan.{Code}
-use Rattle.tx_plan.specs.inner.Tables.{code_of_row}
+use Rattle.tx_trie.proofs.Common.{◌≡◌, ◌∙◌, List, map, take, ap, sym, subst, arith, Code, code_of_row, look}
 use Rattle.tx_plan.proofs.FirstPair.{IsLookUp, NoneBelow, none_below, found_both, none_there, paired, no_pair}
-use Rattle.tx_trie.specs.inner.Nodes.{look}
 use Rattle.tx_trie.proofs.Nodes.{trie_look_up}
 use Rattle.tx_trie.proofs.trie.CodeTrie.ambiguous.Goals as goal
 

@@ -1,7 +1,5 @@
 use Rattle.std.proofs.Common.{◌≡◌, ℕ, ◌<◌, Option, None, replicate, length, ap, ◌∙◌, arith, rules}
-use Rattle.std.proofs.lemmas.List.{length-replicate}
-use Rattle.tx_plan.specs.Plan.{figures_of, home_of}
-use Rattle.tx_plan.proofs.Spelled.{spelled}
+use Rattle.tx_trie.proofs.Common.{length-replicate, figures_of, home_of, spelled}
 use Rattle.tx_trie.proofs.Nodes.{node_within}
 use Rattle.tx_trie.proofs.Filling.{is_none, rows_more, no_code, figures_form, filled, all_in}
 use Rattle.tx_trie.proofs.trie.CodeTrie.build.Goals as goal

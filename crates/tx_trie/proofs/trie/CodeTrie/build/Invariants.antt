@@ -1,6 +1,4 @@
-use Rattle.std.proofs.Common.{◌≡◌, take, map}
-use Rattle.tx_plan.specs.inner.Tables.{code_of_row}
-use Rattle.tx_trie.specs.inner.Nodes.{AreFirst}
+use Rattle.tx_trie.proofs.Common.{◌≡◌, take, map, code_of_row, AreFirst}
 use Rattle.tx_trie.proofs.trie.CodeTrie.build.Given as goal
 
 abbrev pub invariant-loop-index : goal.invariant-loop-index

@@ -1,10 +1,4 @@
-use Rattle.std.proofs.Common.{ap, sym, ◌∙◌, take, map, List}
-use Rattle.std.proofs.lemmas.List.{take_min}
-use Rattle.tx_plan.specs.Plan.{Code}
-use Rattle.tx_plan.specs.Codes.{code_of}
-use Rattle.tx_plan.specs.inner.Tables.{code_of_row}
-use Rattle.tx_trie.specs.Trie.{plan_of}
-use Rattle.tx_trie.specs.inner.Nodes.{look}
+use Rattle.tx_trie.proofs.Common.{ap, sym, ◌∙◌, take, map, List, take_min, Code, code_of, code_of_row, plan_of, look}
 use Rattle.tx_trie.proofs.Nodes.{trie_look_up}
 use Rattle.tx_trie.proofs.Reading.{read_three, read_two}
 use Rattle.tx_trie.proofs.trie.CodeTrie.read.Goals as goal

@@ -1,7 +1,5 @@
-use Rattle.std.proofs.Common.{not, ◌==◌, ap, sym, ◌∙◌, subst, length}
+use Rattle.tx_machine.proofs.Common.{not, ◌==◌, ap, sym, ◌∙◌, subst, length, with_items_is, Circuits, IsCleared, circuits_of}
 use Rattle.std.specs.FinSet as set
-use Rattle.std.proofs.lemmas.List.{with_items_is}
-use Rattle.tx_machine.specs.inner.Marks.{Circuits, IsCleared, circuits_of}
 use Rattle.tx_machine.proofs.Bits.{group_cleared}
 use Rattle.tx_machine.proofs.plain.circuit_marks.CircuitMarks.clear_group.Goals as goal
 

@@ -1,7 +1,6 @@
-use Rattle.std.proofs.Common.{◌≡◌, ◌+◌, ◌*◌, ◌-◌, ◌&&◌, ap, sym, ◌∙◌, get_or, false, arith, inl, inr}
+use Rattle.tx_machine.proofs.Common.{◌≡◌, ◌+◌, ◌*◌, ◌-◌, ◌&&◌, ap, sym, ◌∙◌, get_or, false, arith, inl, inr, Circuits, index_of}
 use Rattle.std.specs.FinSet as set
 use Rattle.std.proofs.lemmas.List.{get_or_read}
-use Rattle.tx_machine.specs.inner.Marks.{Circuits, index_of}
 use Rattle.tx_machine.proofs.Bits.{in_circuits, well, well_within, not_well, not_grouped}
 use Rattle.tx_machine.proofs.plain.circuit_marks.CircuitMarks.has.Goals as goal
 

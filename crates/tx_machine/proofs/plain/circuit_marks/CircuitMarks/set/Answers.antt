@@ -1,8 +1,5 @@
-use Rattle.std.proofs.Common.{◌∙◌, ap, sym, subst, length, true}
-use Rattle.std.specs.Prelude.{slice_set}
+use Rattle.tx_machine.proofs.Common.{◌∙◌, ap, sym, subst, length, true, slice_set, with_items_is, Circuits, HasMark, circuits_of, index_of}
 use Rattle.std.specs.FinSet as set
-use Rattle.std.proofs.lemmas.List.{with_items_is}
-use Rattle.tx_machine.specs.inner.Marks.{Circuits, HasMark, circuits_of, index_of}
 use Rattle.tx_machine.proofs.Bits.{circuit_put, length_put}
 use Rattle.tx_machine.proofs.plain.circuit_marks.CircuitMarks.set.Goals as goal
 

@@ -1,11 +1,5 @@
-use Rattle.std.proofs.Common.{ap, ◌∙◌, sym}
-use Rattle.std.specs.List.{list_any}
+use Rattle.tx_machine.proofs.Common.{ap, ◌∙◌, sym, list_any, Net, is_engaged, takes_part, call_seen, same_line, in_lines}
 use Rattle.std.specs.FinSet as set
-use Rattle.tx_machine.specs.State.{Net}
-use Rattle.tx_machine.specs.Lines.{is_engaged, takes_part}
-use Rattle.tx_machine.specs.Seen.{call_seen}
-use Rattle.tx_plan.specs.Orders.{same_line}
-use Rattle.tx_plan.proofs.Named.{in_lines}
 use Rattle.tx_machine.proofs.Views.{any_map}
 use Rattle.tx_machine.proofs.plain.facts.PlainFacts.status.Goals as goal
 

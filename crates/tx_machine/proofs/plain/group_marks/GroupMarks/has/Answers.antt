@@ -1,8 +1,7 @@
-use Rattle.std.proofs.Common.{ap, sym, ◌∙◌, arith, false}
+use Rattle.tx_machine.proofs.Common.{ap, sym, ◌∙◌, arith, false, Groups}
 use Rattle.std.specs.FinSet as set
 use Rattle.std.proofs.lemmas.Bool.{le-ltb}
 use Rattle.std.proofs.lemmas.List.{get_or_past}
-use Rattle.tx_machine.specs.inner.Marks.{Groups}
 use Rattle.tx_machine.proofs.Bits.{in_groups}
 use Rattle.tx_machine.proofs.plain.group_marks.GroupMarks.has.Goals as goal
 

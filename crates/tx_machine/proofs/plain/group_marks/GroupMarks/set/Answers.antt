@@ -1,7 +1,5 @@
-use Rattle.std.proofs.Common.{◌<◌, ap, sym, ◌∙◌, subst, true}
-use Rattle.std.specs.Prelude.{slice_set}
+use Rattle.tx_machine.proofs.Common.{◌<◌, ap, sym, ◌∙◌, subst, true, slice_set, Groups, groups_of}
 use Rattle.std.specs.FinSet as set
-use Rattle.tx_machine.specs.inner.Marks.{Groups, groups_of}
 use Rattle.tx_machine.proofs.Bits.{group_put}
 use Rattle.tx_machine.proofs.plain.group_marks.GroupMarks.set.Goals as goal
 
