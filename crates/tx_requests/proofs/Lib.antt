@@ -8,4 +8,4 @@ mod DeclaredLines
 mod Printed
 mod Ordering
 mod LintTold
-mod Compared
+mod Comparing

@@ -46,6 +46,11 @@ abbrev pub title_of : (file text : List ℕ) → List ℕ
 title_of file text = if is_prefix (codes "# NAME ") text
     then name_or file (before is_line_end (drop 7 text)) else file
 
+-- the first name in the word that is asked for of which a plan has no code
+abbrev pub IsNoCode : PageRequest → Plan → CommandFault → Type 0
+IsNoCode r p fault = (place : ℕ) × (fault ≡ NoSuchCode place)
+    × (missing_code p (option_map string_bytes r.code) ≡ Some place)
+
 module _ {A : Type 0} where
   -- the codes of which a page has pictures, in order of declaration
   abbrev pub shown_codes : PageRequest → PageTexts A → Ranking A → Option (FoundChange A) → List ℕ
@@ -85,11 +90,6 @@ module _ {A : Type 0} where
     pub change : IsChangeIfAny t.old t.plan.plan r.limits.limit r.limits.spare a.change
     pub pictures : map (λ q. q.code) a.pictures.items
         ≡ shown_codes r t a.found.ranking a.change
-
-  -- the first name in the word that is asked for of which a plan has no code
-  abbrev pub IsNoCode : PageRequest → Plan → CommandFault → Type 0
-  IsNoCode r p fault = (place : ℕ) × (fault ≡ NoSuchCode place)
-      × (missing_code p (option_map string_bytes r.code) ≡ Some place)
 
   -- it is shown; or the plan has no code of figures that are asked for, or no joined network with
   -- the old one; or memory ran out

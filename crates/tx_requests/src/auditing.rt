@@ -11,7 +11,7 @@ ghost use Rattle.tx_requests.specs.Jobs.{IsJobDone};
 use std::alloc::Allocator;
 use tx_audit::{Audited, first_counter};
 use tx_commands::AuditRequest;
-use tx_files::{CommandFault, CounterScript, Ending, Made, Shown};
+use tx_files::{CommandFault, CounterScript, Ending, Shown};
 use tx_jobs::audit_job;
 use tx_plan::{Limits, Plan};
 use tx_rank::Finding;
@@ -45,14 +45,7 @@ fn end_audit<A: Allocator + Copy>(
     ensures { AuditEnds request.now audited result }
 {
     match audited {
-        Audited::Sound(plan, cert) => Ok(Ending {
-            status: 0,
-            made: Some(Made {
-                shown: Shown::Plan(plan),
-                text: None,
-                cert: Some(cert),
-            }),
-        }),
+        Audited::Sound(plan, cert) => Ok(Ending::with(0, Shown::Plan(plan), None, Some(cert))),
         Audited::Unsound(plan, findings) => {
             let asked = request.counter.is_some();
             end_after_no(alloc, asked, plan, &findings, request.limits)
@@ -75,14 +68,10 @@ fn end_after_no<A: Allocator + Copy>(
         return Ok(Ending::of(1));
     }
     match first_counter(alloc, &plan, findings, limits)? {
-        Some(events) => Ok(Ending {
-            status: 1,
-            made: Some(Made {
-                shown: Shown::Script(CounterScript { plan, events }),
-                text: None,
-                cert: None,
-            }),
-        }),
+        Some(events) => {
+            let script = Shown::Script(CounterScript { plan, events });
+            Ok(Ending::with(1, script, None, None))
+        }
         None => Ok(Ending::of(1)),
     }
 }

@@ -16,7 +16,7 @@ use std::alloc::Allocator;
 use tx_cert::Cert;
 use tx_change::{ChangeVerdict, first_mixture, judge_change, new_plan_shown, write_change};
 use tx_commands::ChangeRequest;
-use tx_files::{CommandFault, Ending, Made, PlanText, Shown, TwoPlans, text_if_asked};
+use tx_files::{CommandFault, Ending, PlanText, Shown, TwoPlans, text_if_asked};
 use tx_rank::Finding;
 use tx_text::{Sink, WriteFault};
 
@@ -67,14 +67,7 @@ fn end_with_cert<A: Allocator>(plans: TwoPlans<A>, cert: Cert<A>) -> Ending<A>
         ≡ None ∷ Some (cert_written plans.joined.old cert) ∷ None ∷ [] }
 {
     let TwoPlans { joined, .. } = plans;
-    Ending {
-        status: 0,
-        made: Some(Made {
-            shown: Shown::Plan(joined.old),
-            text: None,
-            cert: Some(cert),
-        }),
-    }
+    Ending::with(0, Shown::Plan(joined.old), None, Some(cert))
 }
 
 /// Whether what shows a No goes into a file.
@@ -141,12 +134,5 @@ fn end_with<A: Allocator + Copy>(
     ensures refused { IfErr result (λ fault. fault ≡ memory_stop) }
 {
     let text = text_if_asked(alloc, request.mixture.is_some(), &old.text, shown.plan())?;
-    Ok(Ending {
-        status: 1,
-        made: Some(Made {
-            shown,
-            text,
-            cert: None,
-        }),
-    })
+    Ok(Ending::with(1, shown, text, None))
 }

@@ -5,7 +5,7 @@ ghost use Rattle.tx_requests.specs.Mend.{MendAnswers, mend_prints, MendEnds};
 use crate::request::Request;
 use std::alloc::Allocator;
 use tx_commands::MendRequest;
-use tx_files::{CommandFault, Ending, Made, PlanText, Shown, text_if_asked};
+use tx_files::{CommandFault, Ending, PlanText, Shown, text_if_asked};
 use tx_mend::{Mending, mend, write_mending};
 use tx_text::{Sink, WriteFault};
 
@@ -37,14 +37,7 @@ impl<A: Allocator + Copy> Request<A> for MendRequest {
             Mending::Mended(plan, _, cert) => {
                 plan.rules();
                 let text = text_if_asked(alloc, self.mended.is_some(), &text, &plan)?;
-                Ok(Ending {
-                    status: 0,
-                    made: Some(Made {
-                        shown: Shown::Plan(plan),
-                        text,
-                        cert: Some(cert),
-                    }),
-                })
+                Ok(Ending::with(0, Shown::Plan(plan), text, Some(cert)))
             }
             Mending::NoRouting(..) => Ok(Ending::of(1)),
         }

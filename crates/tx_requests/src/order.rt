@@ -9,7 +9,7 @@ ghost use Rattle.tx_requests.specs.Order.{OrderAnswers, order_prints, EndsAtStag
 use crate::request::Request;
 use std::alloc::{Allocator, Global};
 use tx_commands::OrderRequest;
-use tx_files::{CommandFault, Ending, Made, PlanText, Shown, TwoPlans, text_if_asked};
+use tx_files::{CommandFault, Ending, PlanText, Shown, TwoPlans, text_if_asked};
 use tx_order::{Order, OrderVerdict, judge_order, missing_stage, stage_of, write_order};
 use tx_text::{Sink, WriteFault};
 
@@ -80,12 +80,5 @@ fn end_at_stage<A: Allocator + Copy>(
 {
     let (plan, cert) = stage_of(alloc, order, stage)?;
     let text = text_if_asked(alloc, request.plan.is_some(), &old.text, &plan)?;
-    Ok(Ending {
-        status: 0,
-        made: Some(Made {
-            shown: Shown::Plan(plan),
-            text,
-            cert: Some(cert),
-        }),
-    })
+    Ok(Ending::with(0, Shown::Plan(plan), text, Some(cert)))
 }

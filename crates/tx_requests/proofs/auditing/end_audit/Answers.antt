@@ -5,7 +5,7 @@ pub end_after_no-requires : goal.end_after_no-requires
 end_after_no-requires g c = rw c.deref.ensures.value (rw c.in-Unsound.is at c.requires)
 
 pub returns-in-Sound : goal.returns-in-Sound
-returns-in-Sound g c = rw c.in-Sound.is (refl, refl)
+returns-in-Sound g c = rw (c.in-Sound.is, c.with.ensures) (refl, refl)
 
 pub returns-in-Unsound : goal.returns-in-Unsound
 returns-in-Unsound g c =

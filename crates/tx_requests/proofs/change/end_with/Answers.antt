@@ -6,4 +6,4 @@ text_if_asked-requires g c = rw c.plan.ensures c.requires
 
 pub returns-clause-made : goal.returns-clause-made
 returns-clause-made g c =
-    (refl, refl, rw (c.plan.ensures, c.is_some.ensures, c.deref.ensures.value) at c.in_ok-text.ensures.made)
+    rw c.with.ensures (refl, refl, rw (c.plan.ensures, c.is_some.ensures, c.deref.ensures.value) at c.in_ok-text.ensures.made)

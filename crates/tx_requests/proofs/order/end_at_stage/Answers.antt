@@ -7,4 +7,4 @@ text_if_asked-requires g c = rw c.in_ok-plan.ensures.plan c.requires.rules
 pub returns : goal.returns
 returns g c =
     let text = rw (c.is_some.ensures, c.deref.ensures.value) at c.in_ok-text.ensures.made in
-    (refl, (c.in_ok-plan.ensures.plan, refl, c.in_ok-plan.ensures.cert, text))
+    rw c.with.ensures (refl, (c.in_ok-plan.ensures.plan, refl, c.in_ok-plan.ensures.cert, text))

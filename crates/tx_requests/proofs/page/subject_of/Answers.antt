@@ -3,7 +3,7 @@ use Rattle.tx_requests.proofs.page.subject_of.Goals as goal
 
 pub returns : goal.returns
 returns g c = record {
-  name = c.as_bytes.ensures.value;
+  name = rw (c.as_bytes.ensures.value, c.as_slice-text.ensures.value) at c.title_of.ensures;
   digest = rw c.as_slice-text.ensures.value at c.digest.ensures;
   version = refl;
   plan = refl;

@@ -2,14 +2,10 @@ use Rattle.std.proofs.Common.{inr, refl}
 use Rattle.tx_text.proofs.Exits.{exits_with}
 use Rattle.tx_join.specs.declared.refusal.JoinRefusal.TheVariants.{NoMemory as JoinNoMemory}
 use Rattle.tx_files.specs.Faults.{memory_stop}
-use Rattle.tx_files.proofs.Joining.{same_network}
 use Rattle.tx_requests.proofs.page_change.switching_between.Goals as goal
 
 pub order-requires : goal.order-requires
-order-requires g c =
-    let old = c.args.old.now.plan in
-    let new = c.args.new.now.plan in
-    record { network = same_network old new c.in_ok-joined.joined c.in_ok-joined.ensures.joined }
+order-requires g c = record { network = c.in_ok-joined.ensures.joined.network.same }
 
 pub returns-clause-right : goal.returns-clause-right
 returns-clause-right g c =

@@ -1,15 +1,25 @@
-use Rattle.std.proofs.Common.{◌∙◌, List, [], ◌∷◌, map, ap, sym}
+use Rattle.std.proofs.Common.{◌∙◌, [], ◌∷◌, map, ap, sym, Vec}
 use Rattle.std.proofs.lemmas.List.{map-append}
-use Rattle.tx_mend.proofs.Placed.{filter_pushed}
+use Rattle.tx_mend.proofs.Placed.{filter_pushed, filter_same}
+use Rattle.tx_svg.specs.declared.picture.Picture.{Picture}
 use Rattle.tx_requests.specs.PageCodes.{is_shown}
 use Rattle.tx_requests.proofs.page_found.pictures_of.Goals as goal
+use Rattle.tx_requests.proofs.page_found.pictures_of.Goals.{then-is_shown+in_ok-picture_of+in_ok-push, else-is_shown}
 
-pub loop-index-preserved-then-is_shown : goal.loop-index-preserved-then-is_shown
-loop-index-preserved-then-is_shown g c =
-    let shown = is_shown c.args.request.now c.args.texts.now c.args.found.now.ranking c.args.change.now in
-    filter_pushed shown c.loop-index.index (map (λ q. q.code) c.loop-index.pictures.items) (map (λ q. q.code) c.push.new.self.items) c.in_ok-picture_of.field-0.code
-    c.loop-index.invariant (ap (map (λ q. q.code)) c.in_ok-push.ensures.items ∙ map-append (λ q. q.code) c.loop-index.pictures.items (c.in_ok-picture_of.field-0 ∷ []))
-    (c.in_ok-picture_of.ensures ∙ c.of-code.ensures) (ap shown (sym c.of-code.ensures) ∙ sym c.is_shown.ensures ∙ c.if-is_shown.true)
-
-pub loop-index-preserved-else-is_shown : goal.loop-index-preserved-else-is_shown
-loop-index-preserved-else-is_shown g c = cc
+pub loop-index-preserved : goal.loop-index-preserved
+loop-index-preserved g c =
+    let t = is_shown c.args.request.now c.args.texts.now c.args.found.now.ranking c.args.change.now in
+    let code = λ (q : Picture g.row.A.Denot). q.code in
+    let old = c.loop-index.pictures.items in
+    let told = ap t (sym c.of-code.ensures) ∙ sym c.is_shown.ensures in
+    elim c.if-is_shown.branch [
+      | then-is_shown+in_ok-picture_of+in_ok-push w ↦
+          let q = w.in_ok-picture_of.field-0 in
+          filter_pushed t c.loop-index.index (map code old) _ q.code c.loop-index.invariant
+          (ap (λ (v : Vec _ _). map code v.items) w.pictures-is ∙ ap (map code) w.in_ok-push.ensures.items
+          ∙ map-append code old (q ∷ []))
+          (w.in_ok-picture_of.ensures ∙ c.of-code.ensures) (told ∙ w.if-is_shown.true)
+      | else-is_shown w ↦
+          filter_same t c.loop-index.index (map code old) _ c.loop-index.invariant
+          (ap (λ (v : Vec _ _). map code v.items) w.pictures-is) (told ∙ w.if-is_shown.false)
+    ]

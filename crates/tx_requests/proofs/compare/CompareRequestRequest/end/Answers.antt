@@ -1,8 +1,21 @@
-use Rattle.tx_requests.proofs.Compared.{outlook_in_order}
+use mir.Val.{bool_byte}
+use Rattle.std.proofs.Common.{◌≡◌, ◌∙◌, Bool, true, false, refl}
+use Rattle.std.specs.Prelude.{if◌then◌else◌}
+use Rattle.tx_requests.proofs.Comparing.{outlook_in_order}
 use Rattle.tx_requests.proofs.compare.CompareRequestRequest.end.Goals as goal
 
-pub comparison_of-requires-clause-new : goal.comparison_of-requires-clause-new
-comparison_of-requires-clause-new g c = outlook_in_order _ _ _ _ _ c.requires.2.2.new
+pub comparison_of-comparison-requires-clause-new : goal.comparison_of-comparison-requires-clause-new
+comparison_of-comparison-requires-clause-new g c = outlook_in_order _ _ _ _ _ c.requires.2.new
 
-pub comparison_of-requires-clause-old : goal.comparison_of-requires-clause-old
-comparison_of-requires-clause-old g c = outlook_in_order _ _ _ _ _ c.requires.2.2.old
+pub comparison_of-comparison-requires-clause-old : goal.comparison_of-comparison-requires-clause-old
+comparison_of-comparison-requires-clause-old g c = outlook_in_order _ _ _ _ _ c.requires.2.old
+
+as_byte : (b : Bool) → bool_byte b ≡ (if b then 1 else 0)
+as_byte true = refl
+as_byte false = refl
+
+pub returns : goal.returns
+returns g c =
+    let is = c.comparison_of-comparison in
+    let status = c.of.ensures.status ∙ c.from.ensures ∙ as_byte c.is_against-against.result in
+    (is.result, is.ensures, (rw (← c.is_against-against.ensures) status, c.of.ensures.made))

@@ -8,7 +8,7 @@ text_if_asked-requires g c = c.rules.ensures
 pub returns-in-Mended : goal.returns-in-Mended
 returns-in-Mended g c =
     let text = rw (c.is_some.ensures, c.deref.ensures.value) at c.in_ok-text-in-Mended.ensures.made in
-    rw c.in-Mended.is (refl, (refl, refl, refl, text))
+    rw (c.in-Mended.is, c.with.ensures) (refl, (refl, refl, refl, text))
 
 pub returns-in_err-text-in-Mended : goal.returns-in_err-text-in-Mended
 returns-in_err-text-in-Mended g c =
