@@ -1,13 +1,7 @@
 -- What is known of the answer of a change, and how it ends.
-use Rattle.std.proofs.Common.{◌≡◌, Bool, true, false, ℕ, List, [], ◌∷◌, Option, None, Some, Result, Ok, Err, Vec, refl, subst, sym}
+use Rattle.tx_requests.proofs.Common.{◌≡◌, Bool, true, false, ℕ, List, [], ◌∷◌, Option, None, Some, Result, Ok, Err, Vec, refl, subst, sym, AllByRecursion, Plan, IsPlan, Event, Finding, IsTrueOf, CommandFault, TwoPlans, memory_stop, AreJoined}
 use Rattle.std.specs.Prelude.{IfOk, IfErr}
-use Rattle.std.specs.List.{AllByRecursion}
 use Rattle.std.specs.Option.{option_map, IfSome}
-use Rattle.tx_plan.specs.Plan.{Plan}
-use Rattle.tx_plan.specs.Rules.{IsPlan}
-use Rattle.tx_machine.specs.declared.event.Event.{Event}
-use Rattle.tx_rank.specs.declared.finding.Finding.{Finding}
-use Rattle.tx_rank.specs.Findings.{IsTrueOf}
 use Rattle.tx_audit.specs.Audits.{IsAllFound}
 use Rattle.tx_change.specs.declared.judging.ChangeVerdict.{ChangeVerdict}
 use Rattle.tx_change.specs.declared.judging.ChangeVerdict.TheVariants.{Unsound, NewUnsound}
@@ -17,15 +11,11 @@ use Rattle.tx_change.specs.ChangeAnswers.{IsRightVerdict}
 use Rattle.tx_change.specs.MixtureShown.{first_walked, ShowsFirstWalk, MixtureAnswer, ShowsNewPlan, NewPlanAnswer}
 use Rattle.tx_commands.specs.declared.change.ChangeRequest.{ChangeRequest}
 use Rattle.tx_files.specs.declared.ending.Ending.{Ending}
-use Rattle.tx_files.specs.declared.fault.CommandFault.{CommandFault}
 use Rattle.tx_files.specs.declared.made.Made.{Made}
 use Rattle.tx_files.specs.declared.made.Shown.{Shown}
 use Rattle.tx_files.specs.declared.two_plans.PlanText.{PlanText}
-use Rattle.tx_files.specs.declared.two_plans.TwoPlans.{TwoPlans}
 use Rattle.tx_files.specs.Ending.{EndsWith}
-use Rattle.tx_files.specs.Faults.{memory_stop}
 use Rattle.tx_files.specs.Made.{shown_plan, shown_events, plan_file, HasTextIf}
-use Rattle.tx_files.specs.TwoPlans.{AreJoined}
 use Rattle.tx_files.specs.Writables.{AreWritable}
 use Rattle.tx_requests.specs.Change.{ChangeAnswers, ShowsFirst, EndsShown}
 use Rattle.tx_requests.specs.inner.Changes.{IsMadeOf}

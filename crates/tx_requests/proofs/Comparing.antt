@@ -1,13 +1,7 @@
 -- What the outages of two plans come to is in order.
-use Rattle.std.proofs.Common.{◌≡◌, Bool, List, [], Option, Some, None, refl}
-use Rattle.std.specs.List.{AllByRecursion}
-use Rattle.std.specs.Prelude.{IfSome}
-use Rattle.tx_plan.specs.Plan.{Plan}
-use Rattle.tx_rank.specs.declared.bounds.Bounds.{Bounds}
+use Rattle.tx_requests.proofs.Common.{◌≡◌, Bool, List, [], Option, Some, None, refl, AllByRecursion, IfSome, Plan, Bounds, AreOutcomes, Outcome}
 use Rattle.tx_risk.specs.Compared.{AreInOrder}
 use Rattle.tx_risk.specs.NamedRisks.{NamedRisk, risks_in}
-use Rattle.tx_risk.specs.Outages.{AreOutcomes}
-use Rattle.tx_risk.specs.declared.cut.Outcome.{Outcome}
 use Rattle.tx_risk.proofs.Comparing.{outcomes_in_order}
 use Rattle.tx_requests.specs.Compare.{IsOutlookOf}
 use Rattle.tx_requests.specs.declared.compare.Outlook.{Outlook}

@@ -2,11 +2,9 @@
 use Rattle.std.proofs.Common.{◌≡◌, ◌⊎◌, ℕ, ◌+◌, ◌≤◌, Bool, true, false, ◌&&◌, List, [], ◌∷◌, ◌++◌, length, Option, Some, None, Ok, unwrap_or, inl, inr, refl, sym, ap, ◌∙◌, subst, arith}
 use Rattle.std.specs.Prelude.{codes, slice_get, if◌then◌else◌}
 use Rattle.std.specs.List.{filter_map, cons_option, list_any, slice_split}
-use Rattle.std.specs.Str.{bytes_eq}
+use Rattle.tx_requests.proofs.Common.{bytes_eq, bytes_eq-Decides, AtEnd}
 use Rattle.std.proofs.lemmas.Bool.{and_parts, and_from, or_cases, false≢true}
-use Rattle.std.proofs.lemmas.Slice.Eq.{bytes_eq-Decides}
 use Rattle.tx_text.specs.Text.{Line, is_lf, without_cr, bytes_fault, lines_of_parts, lines_from, checked, checked_line}
-use Rattle.tx_text.specs.Told.{AtEnd}
 use Rattle.tx_text.specs.Words.{words_of}
 use Rattle.tx_plan.specs.Plan.{Plan, Code, Group, no_plan}
 use Rattle.tx_plan.specs.Among.{Among}

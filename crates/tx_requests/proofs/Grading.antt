@@ -1,18 +1,10 @@
 -- What the clauses of a grade come to.
-use Rattle.std.proofs.Common.{◌≡◌, ◌≢◌, ℕ, true, List, [], Option, Some, None, refl, ◌∙◌, arith}
-use Rattle.std.proofs.lemmas.Bool.{false≢true}
+use Rattle.tx_requests.proofs.Common.{◌≡◌, ◌≢◌, ℕ, true, List, [], Option, Some, None, refl, ◌∙◌, arith, false≢true, AllByRecursion, Plan, IsPlan, Bounds, Finding, IsTrueOf, Event}
 use Rattle.std.specs.Prelude.{is_some, IfSome, IfNone}
-use Rattle.std.specs.List.{AllByRecursion}
-use Rattle.tx_plan.specs.Plan.{Plan}
-use Rattle.tx_plan.specs.Rules.{IsPlan}
 use Rattle.tx_plan.specs.Certified.{Ranks, IsCertified}
-use Rattle.tx_rank.specs.declared.bounds.Bounds.{Bounds}
-use Rattle.tx_rank.specs.declared.finding.Finding.{Finding}
 use Rattle.tx_rank.specs.declared.finding.Finding.TheVariants.{Ambiguous, Loop, Short, Long}
-use Rattle.tx_rank.specs.Findings.{IsTrueOf}
 use Rattle.tx_rank.specs.Grades.{AreBounds, IsGrade, CanBeCertified, NothingIsWrong, AreUnmended}
 use Rattle.tx_rank.proofs.Certifying.{none_true}
-use Rattle.tx_machine.specs.declared.event.Event.{Event}
 use Rattle.tx_machine.specs.Sound.{IsSound}
 use Rattle.tx_machine.proofs.Sound.{sound}
 use Rattle.tx_audit.specs.Counter.{counter_of, has_counter}

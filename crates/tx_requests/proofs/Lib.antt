@@ -9,3 +9,4 @@ mod Printed
 mod Ordering
 mod LintTold
 mod Comparing
+pub mod Common

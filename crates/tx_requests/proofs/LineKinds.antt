@@ -1,13 +1,10 @@
 -- What a line declares.
 use Rattle.std.proofs.Common.{◌≡◌, ℕ, ◌==◌, Bool, true, false, ◌&&◌, cond, Option, None, Some, List, [], ◌∷◌, Ok, Err, codes, refl, ap}
-use Rattle.std.specs.Str.{bytes_eq}
+use Rattle.tx_requests.proofs.Common.{bytes_eq, bytes_eq-Decides, Plan, PlanWord}
 use Rattle.std.proofs.lemmas.Bool.{and_parts, eqb-true}
-use Rattle.std.proofs.lemmas.Slice.Eq.{bytes_eq-Decides}
 use Rattle.tx_plan.specs.declared.refusal.PlanRefusal.{PlanRefusal}
 use Rattle.tx_plan.specs.declared.ids.Direction.{Direction}
-use Rattle.tx_plan.specs.Plan.{Plan}
 use Rattle.tx_plan.specs.Declaring.{first_true, exchange_refusals, code_refusals, lines_refusals, group_refusals, route_refusals, bar_refusals, with_exchange, with_code, with_lines, with_group, with_route, with_bar}
-use Rattle.tx_plantext.specs.declared.fault.PlanWord.{PlanWord}
 use Rattle.tx_plantext.specs.PlanText.{Said, unless, declare, exchange_line, code_line, lines_line, group_line, group_by, route_line, bar_line, direction_of, count_of}
 
 -- the line that some words are, and what it leads to

@@ -1,21 +1,17 @@
 -- Why a text was not looked through, and what was told of one that was.
-use Rattle.std.proofs.Common.{◌≡◌, ◌≢◌, ℕ, Bool, true, false, List, [], ◌∷◌, Result, Err, refl, sym, subst}
-use Rattle.std.proofs.lemmas.Bool.{false≢true}
+use Rattle.tx_requests.proofs.Common.{◌≡◌, ◌≢◌, ℕ, Bool, true, false, List, [], ◌∷◌, Result, Err, refl, sym, subst, false≢true, Frame, Word, Plan, CommandFault}
 use Rattle.tx_text.specs.declared.frame.FaultAt.{FaultAt}
 use Rattle.tx_text.specs.declared.frame.FaultKind.{FaultKind}
-use Rattle.tx_text.specs.declared.frame.FaultKind.TheVariants.{Frame, Word}
 use Rattle.tx_text.specs.declared.frame.FrameFault.TheVariants.{LineTooLong, BadByte, NoMemory as TextNoMemory, Read as LineRead, NoHeader, NoEnd, AfterEnd}
 use Rattle.tx_text.specs.declared.whole_text.WholeTextFault.{WholeTextFault}
 use Rattle.tx_text.specs.declared.whole_text.WholeTextFault.TheVariants.{Read, NoMemory}
 use Rattle.tx_text.specs.Ends.{Input, Output}
-use Rattle.tx_plan.specs.Plan.{Plan}
 use Rattle.tx_lint.specs.AllFaults.{Fault, Progress}
 use Rattle.tx_lint.specs.Gathered.{Told, told_of}
 use Rattle.tx_lint.specs.Lints.{Faults}
 use Rattle.tx_lint.specs.declared.entry.Entry.{Entry}
 use Rattle.tx_risk.specs.declared.fault.RiskWord.{RiskWord}
 use Rattle.tx_risk.specs.declared.fault.RiskWord.TheVariants.{UnknownWord, WrongCount, BadName, Duplicate, UnknownName, RepeatedGroup, NoMemory as RiskNoMemory}
-use Rattle.tx_files.specs.declared.fault.CommandFault.{CommandFault}
 use Rattle.tx_files.specs.Faults.{text_stop, risks_stop, risks_stop_by, fault_mark}
 use Rattle.tx_requests.specs.Lint.{ToldLint, NotRead, WarnedWithRisks, LookedThrough, LintAnswers, LintRisksAnswers, LintAnswersBy}
 

@@ -1,15 +1,11 @@
 -- What is known of the answer of an order.
-use Rattle.std.proofs.Common.{◌≡◌, ℕ, Option, Some, Ok, subst}
-use Rattle.tx_plan.specs.Plan.{Plan}
-use Rattle.tx_plan.specs.Rules.{IsPlan}
+use Rattle.tx_requests.proofs.Common.{◌≡◌, ℕ, Option, Some, Ok, subst, Plan, IsPlan, TwoPlans, AreJoined}
 use Rattle.tx_order.specs.declared.judging.OrderVerdict.{OrderVerdict}
 use Rattle.tx_order.specs.declared.judging.OrderVerdict.TheVariants.{Ordered}
 use Rattle.tx_order.specs.Ordered.{Order, plan_before}
 use Rattle.tx_order.specs.OrderVerdicts.{IsRightVerdict}
 use Rattle.tx_order.specs.Staged.{IsStageOf, HasStage}
 use Rattle.tx_commands.specs.declared.order.OrderRequest.{OrderRequest}
-use Rattle.tx_files.specs.declared.two_plans.TwoPlans.{TwoPlans}
-use Rattle.tx_files.specs.TwoPlans.{AreJoined}
 use Rattle.tx_requests.specs.declared.order.Switched.{Switched}
 use Rattle.tx_requests.specs.Order.{OrderAnswers}
 

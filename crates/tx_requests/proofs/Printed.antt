@@ -1,8 +1,6 @@
 -- Each code that is printed is in the table.
-use Rattle.std.proofs.Common.{ℕ, Some, codes, refl}
+use Rattle.tx_requests.proofs.Common.{ℕ, Some, codes, refl, Frame, Word, Plan}
 use Rattle.tx_text.specs.declared.frame.FrameFault.TheVariants.{LineTooLong, BadByte, NoMemory as TextNoMemory, Read, NoHeader, NoEnd, AfterEnd}
-use Rattle.tx_text.specs.declared.frame.FaultKind.TheVariants.{Frame, Word}
-use Rattle.tx_plan.specs.Plan.{Plan}
 use Rattle.tx_plan.specs.declared.refusal.PlanRefusal.TheVariants as plan
 use Rattle.tx_plantext.specs.declared.fault.PlanWord.TheVariants as plan_word
 use Rattle.tx_lint.specs.declared.warning.Warning.TheVariants as warning

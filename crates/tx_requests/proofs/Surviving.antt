@@ -1,11 +1,7 @@
 -- What the clauses of a search for outages come to.
 use Rattle.std.proofs.Common.{Bool, ◌≡◌, ◌≢◌, ◌↔◌, ℕ, List, [], None}
-use Rattle.std.specs.List.{AllByRecursion}
-use Rattle.tx_plan.specs.Plan.{Plan}
-use Rattle.tx_rank.specs.Findings.{IsTrueOf}
+use Rattle.tx_requests.proofs.Common.{AllByRecursion, Plan, IsTrueOf, NamedRisk, AreOutcomes}
 use Rattle.tx_rank.specs.Grades.{AreCodeGrades, AreUnmended}
-use Rattle.tx_risk.specs.NamedRisks.{NamedRisk}
-use Rattle.tx_risk.specs.Outages.{AreOutcomes}
 use Rattle.tx_risk.specs.Survivals.{HasGrade, AreTried, OnTried, OnUngraded}
 use Rattle.tx_risk.specs.declared.surviving.Survival.{Survival}
 use Rattle.tx_risk.specs.declared.surviving.Survival.TheVariants.{Tried, Ungraded}

@@ -1,8 +1,7 @@
 -- What a text says, by its parts between LFs.
-use Rattle.std.proofs.Common.{◌≡◌, ℕ, ◌+◌, Bool, true, false, Option, None, Some, List, [], ◌∷◌, length, Result, Ok, Err, codes, refl, sym, ap, ◌∙◌}
+use Rattle.tx_requests.proofs.Common.{◌≡◌, ℕ, ◌+◌, Bool, true, false, Option, None, Some, List, [], ◌∷◌, length, Result, Ok, Err, codes, refl, sym, ap, ◌∙◌, NoHeader, NoEnd, AfterEnd, Plan, PlanWord, if◌then◌else◌}
 use Rattle.tx_text.specs.declared.text_fault.TextFault.{TextFault}
 use Rattle.tx_text.specs.declared.frame.FrameFault.{FrameFault}
-use Rattle.tx_text.specs.declared.frame.FrameFault.TheVariants.{NoHeader, NoEnd, AfterEnd}
 use Rattle.tx_text.specs.declared.frame.LineForm.TheVariants.{End, Plain}
 use Rattle.tx_text.specs.declared.frame.FramePart.{FramePart}
 use Rattle.tx_text.specs.declared.frame.FramePart.TheVariants.{Start, Body, Ended}
@@ -11,10 +10,7 @@ use Rattle.tx_text.specs.Words.{words_of}
 use Rattle.tx_text.specs.Told.{AtEnd, told, frame_fault}
 use Rattle.tx_text.specs.Frame.{Framed, Done, Stop, Headed, Has, is_end, looked, last_fault, headed, last_by, ended_by, as_said, header_of, framed}
 use Rattle.tx_text.specs.Said.{said, step_on}
-use Rattle.tx_plan.specs.Plan.{Plan}
 use Rattle.tx_plantext.specs.PlanText.{declare}
-use Rattle.tx_plantext.specs.declared.fault.PlanWord.{PlanWord}
-use Rattle.std.specs.Prelude.{if◌then◌else◌}
 
 -- the words of a line
 abbrev pub words_in : List ℕ → List (List ℕ)

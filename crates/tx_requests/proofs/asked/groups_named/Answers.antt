@@ -1,8 +1,5 @@
-use Rattle.std.proofs.Common.{◌≡◌, ◌∙◌, length, sym, lit<, arith}
-use Rattle.std.proofs.lemmas.Iterator.Splits.{YieldsList-from_str_split}
+use Rattle.tx_requests.proofs.Common.{◌≡◌, ◌∙◌, length, sym, lit<, arith, YieldsList-from_str_split, length_push, names_in}
 use Rattle.std.proofs.lemmas.Iterator.Consumers.{YieldsList-at, YieldsList-turn, YieldsList-end}
-use Rattle.std.proofs.lemmas.List.{length_push}
-use Rattle.tx_requests.specs.Asked.{names_in}
 use Rattle.tx_requests.proofs.Asking.{no_name, next_named, next_unnamed, all_named}
 use Rattle.tx_requests.proofs.asked.groups_named.Goals as goal
 

@@ -1,6 +1,4 @@
-use Rattle.std.proofs.Common.{Ok, Err, inl, inr, refl}
-use Rattle.tx_text.proofs.Exits.{exits_with}
-use Rattle.tx_files.specs.Faults.{write_stop}
+use Rattle.tx_requests.proofs.Common.{Ok, Err, inl, inr, refl, exits_with, write_stop}
 use Rattle.tx_requests.proofs.carrying.carry_out.Goals as goal
 
 pub answer-requires : goal.answer-requires

@@ -1,6 +1,4 @@
-use Rattle.std.proofs.Common.{sym, ◌∙◌}
-use Rattle.tx_text.proofs.Exits.{exits_with}
-use Rattle.tx_files.specs.Faults.{memory_stop}
+use Rattle.tx_requests.proofs.Common.{sym, ◌∙◌, exits_with, memory_stop}
 use Rattle.tx_requests.proofs.Changing.{mixture_shown, mixture_writable, mixture_rules, ends_unshown, ends_lacking, ends_unwalked, ends_shown}
 use Rattle.tx_requests.proofs.change.end_with_mixture.Goals as goal
 

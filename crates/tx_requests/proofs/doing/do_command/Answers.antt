@@ -1,5 +1,4 @@
-use Rattle.std.proofs.Common.{refl}
-use Rattle.tx_files.proofs.Uncalled.{uncalled}
+use Rattle.tx_requests.proofs.Common.{refl, uncalled}
 use Rattle.tx_requests.proofs.doing.do_command.Goals as goal
 
 pub returns-in-Pipe-clause-done : goal.returns-in-Pipe-clause-done

@@ -1,6 +1,4 @@
-use Rattle.std.proofs.Common.{Ok, Err}
-use Rattle.tx_text.proofs.Exits.{exits_with}
-use Rattle.tx_files.specs.Faults.{write_stop}
+use Rattle.tx_requests.proofs.Common.{Ok, Err, exits_with, write_stop}
 use Rattle.tx_requests.proofs.explain.do_explain.Goals as goal
 
 pub returns : goal.returns

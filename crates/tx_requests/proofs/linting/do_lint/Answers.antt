@@ -1,6 +1,4 @@
-use Rattle.std.proofs.Common.{◌∙◌, Ok, Err, refl, sym}
-use Rattle.tx_text.proofs.Exits.{exits_with}
-use Rattle.tx_files.proofs.Uncalled.{uncalled}
+use Rattle.tx_requests.proofs.Common.{◌∙◌, Ok, Err, refl, sym, exits_with, uncalled}
 use Rattle.tx_requests.proofs.LintTold.{with_risks, without_risks}
 use Rattle.tx_requests.proofs.linting.do_lint.Goals as goal
 

@@ -1,7 +1,4 @@
-use Rattle.std.proofs.Common.{inl, inr, refl}
-use Rattle.tx_text.proofs.Exits.{exits_with}
-use Rattle.tx_lint.specs.Lints.{lint_held}
-use Rattle.tx_files.specs.Faults.{text_stop}
+use Rattle.tx_requests.proofs.Common.{inl, inr, refl, exits_with, lint_held, text_stop}
 use Rattle.tx_requests.proofs.linting.lint_text.Goals as goal
 
 pub returns-clause-linted : goal.returns-clause-linted

@@ -1,7 +1,4 @@
-use Rattle.std.proofs.Common.{ℕ, Err, ap, inl, inr, refl}
-use Rattle.tx_text.specs.Ends.{input, output}
-use Rattle.tx_text.proofs.Exits.{exits_with}
-use Rattle.tx_files.specs.Faults.{text_stop}
+use Rattle.tx_requests.proofs.Common.{ℕ, Err, ap, inl, inr, refl, input, output, exits_with, text_stop}
 use Rattle.tx_requests.proofs.LintTold.{not_read, text_mark}
 use Rattle.tx_requests.proofs.linting.lint_whole.Goals as goal
 

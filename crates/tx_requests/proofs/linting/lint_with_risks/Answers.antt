@@ -1,10 +1,6 @@
-use Rattle.std.proofs.Common.{ℕ, Err, ap, inl, inr, map, refl}
-use Rattle.tx_text.specs.Ends.{input, output}
-use Rattle.tx_text.proofs.Exits.{exits_with}
+use Rattle.tx_requests.proofs.Common.{ℕ, Err, ap, inl, inr, map, refl, input, output, exits_with, text_stop, uncalled}
 use Rattle.tx_lint.specs.AllFaults.{faults_of, progress_of}
 use Rattle.tx_lint.specs.Lints.{told_held}
-use Rattle.tx_files.specs.Faults.{text_stop}
-use Rattle.tx_files.proofs.Uncalled.{uncalled}
 use Rattle.tx_requests.proofs.LintTold.{not_read, text_mark, faulty_told, right_told}
 use Rattle.tx_requests.proofs.linting.lint_with_risks.Goals as goal
 

@@ -1,7 +1,4 @@
-use Rattle.std.proofs.Common.{ℕ, inl, inr, refl}
-use Rattle.tx_text.proofs.Exits.{exits_with}
-use Rattle.tx_lint.specs.Lints.{lint_held}
-use Rattle.tx_files.specs.Faults.{risks_stop, memory_stop}
+use Rattle.tx_requests.proofs.Common.{ℕ, inl, inr, refl, exits_with, lint_held, risks_stop, memory_stop}
 use Rattle.tx_requests.proofs.LintTold.{risks_mark}
 use Rattle.tx_requests.proofs.linting.warn_with_risks.Goals as goal
 

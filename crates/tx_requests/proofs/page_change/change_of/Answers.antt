@@ -1,5 +1,4 @@
-use Rattle.std.proofs.Common.{refl}
-use Rattle.tx_text.proofs.Exits.{exits_with}
+use Rattle.tx_requests.proofs.Common.{refl, exits_with}
 use Rattle.tx_requests.proofs.page_change.change_of.Goals as goal
 
 pub returns-in_ok-change_between-in-Some-clause-right : goal.returns-in_ok-change_between-in-Some-clause-right

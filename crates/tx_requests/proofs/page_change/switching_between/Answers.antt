@@ -1,7 +1,5 @@
-use Rattle.std.proofs.Common.{inr, refl}
-use Rattle.tx_text.proofs.Exits.{exits_with}
+use Rattle.tx_requests.proofs.Common.{inr, refl, exits_with, memory_stop}
 use Rattle.tx_join.specs.declared.refusal.JoinRefusal.TheVariants.{NoMemory as JoinNoMemory}
-use Rattle.tx_files.specs.Faults.{memory_stop}
 use Rattle.tx_requests.proofs.page_change.switching_between.Goals as goal
 
 pub order-requires : goal.order-requires

@@ -1,6 +1,5 @@
-use Rattle.std.proofs.Common.{length, arith, rules, tests}
+use Rattle.tx_requests.proofs.Common.{length, arith, rules, tests, any_from_yields_List}
 use Rattle.std.proofs.lemmas.Iterator.{YieldsList-from_range}
-use Rattle.std.proofs.lemmas.Iterator.Search.{any_from_yields_List}
 use Rattle.tx_requests.specs.PageCodes.{differs_at}
 use Rattle.tx_requests.proofs.page_codes.differs.Goals as goal
 

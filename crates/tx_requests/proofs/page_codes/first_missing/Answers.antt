@@ -1,8 +1,6 @@
-use Rattle.std.proofs.Common.{rules, tests, lit<}
+use Rattle.tx_requests.proofs.Common.{rules, tests, lit<, YieldsList-from_str_split, code_named}
 use Rattle.std.specs.Prelude.{is_none}
 use Rattle.std.proofs.lemmas.Iterator.Search.{position_from_yields_List}
-use Rattle.std.proofs.lemmas.Iterator.Splits.{YieldsList-from_str_split}
-use Rattle.tx_plan.specs.Plan.{code_named}
 use Rattle.tx_requests.proofs.page_codes.first_missing.Goals as goal
 
 pub returns : goal.returns

@@ -1,7 +1,4 @@
-use Rattle.std.proofs.Common.{rules, tests}
-use Rattle.std.proofs.lemmas.Iterator.{YieldsList-from_slice}
-use Rattle.std.proofs.lemmas.Iterator.Search.{any_from_yields_List}
-use Rattle.tx_rank.specs.declared.finding.Finding.{Finding}
+use Rattle.tx_requests.proofs.Common.{rules, tests, YieldsList-from_slice, any_from_yields_List, Finding}
 use Rattle.tx_requests.specs.PageCodes.{is_about}
 use Rattle.tx_requests.proofs.page_codes.has_finding.Goals as goal
 

@@ -1,8 +1,7 @@
-use Rattle.std.proofs.Common.{◌∙◌, [], ◌∷◌, map, ap, sym, Vec}
+use Rattle.tx_requests.proofs.Common.{◌∙◌, [], ◌∷◌, map, ap, sym, Vec, is_shown}
 use Rattle.std.proofs.lemmas.List.{map-append}
 use Rattle.tx_mend.proofs.Placed.{filter_pushed, filter_same}
 use Rattle.tx_svg.specs.declared.picture.Picture.{Picture}
-use Rattle.tx_requests.specs.PageCodes.{is_shown}
 use Rattle.tx_requests.proofs.page_found.pictures_of.Goals as goal
 use Rattle.tx_requests.proofs.page_found.pictures_of.Goals.{then-is_shown+in_ok-picture_of+in_ok-push, else-is_shown}
 

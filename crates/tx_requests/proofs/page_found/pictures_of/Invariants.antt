@@ -1,6 +1,5 @@
-use Rattle.std.proofs.Common.{◌≡◌, map}
+use Rattle.tx_requests.proofs.Common.{◌≡◌, map, is_shown}
 use Rattle.std.specs.List.{filter, range_with_len}
-use Rattle.tx_requests.specs.PageCodes.{is_shown}
 use Rattle.tx_requests.proofs.page_found.pictures_of.Given as goal
 
 abbrev pub invariant-loop-index : goal.invariant-loop-index

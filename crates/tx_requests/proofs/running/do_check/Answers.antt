@@ -1,6 +1,4 @@
-use Rattle.std.proofs.Common.{Ok, Err}
-use Rattle.tx_text.proofs.Exits.{exits_with}
-use Rattle.tx_files.specs.declared.fault.CommandFault.TheVariants.{Job}
+use Rattle.tx_requests.proofs.Common.{Ok, Err, exits_with, Job}
 use Rattle.tx_requests.proofs.running.do_check.Goals as goal
 
 pub returns-in-Yes-clause-done : goal.returns-in-Yes-clause-done

@@ -1,7 +1,4 @@
-use Rattle.std.proofs.Common.{Ok, Err, refl}
-use Rattle.tx_text.proofs.Exits.{exits_with}
-use Rattle.tx_files.specs.declared.fault.CommandFault.TheVariants.{Job}
-use Rattle.tx_files.proofs.Uncalled.{uncalled}
+use Rattle.tx_requests.proofs.Common.{Ok, Err, refl, exits_with, Job, uncalled}
 use Rattle.tx_requests.proofs.running.do_run.Goals as goal
 
 pub returns-in_ok-run_job-in-None-clause-done : goal.returns-in_ok-run_job-in-None-clause-done

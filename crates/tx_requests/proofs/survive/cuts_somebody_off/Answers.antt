@@ -1,7 +1,5 @@
 use Rattle.std.proofs.Common.{◌==◌, not, length, rules, tests}
-use Rattle.std.proofs.lemmas.Iterator.{YieldsList-from_slice}
-use Rattle.std.proofs.lemmas.Iterator.Search.{any_from_yields_List}
-use Rattle.tx_risk.specs.declared.cut.Outcome.{Outcome}
+use Rattle.tx_requests.proofs.Common.{YieldsList-from_slice, any_from_yields_List, Outcome}
 use Rattle.tx_requests.proofs.survive.cuts_somebody_off.Goals as goal
 
 pub returns : goal.returns

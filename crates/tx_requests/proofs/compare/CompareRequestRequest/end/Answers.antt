@@ -1,6 +1,5 @@
 use mir.Val.{bool_byte}
-use Rattle.std.proofs.Common.{◌≡◌, ◌∙◌, Bool, true, false, refl}
-use Rattle.std.specs.Prelude.{if◌then◌else◌}
+use Rattle.tx_requests.proofs.Common.{◌≡◌, ◌∙◌, Bool, true, false, refl, if◌then◌else◌}
 use Rattle.tx_requests.proofs.Comparing.{outlook_in_order}
 use Rattle.tx_requests.proofs.compare.CompareRequestRequest.end.Goals as goal
 

@@ -1,7 +1,5 @@
-use Rattle.std.proofs.Common.{refl}
-use Rattle.tx_text.proofs.Exits.{exits_with}
+use Rattle.tx_requests.proofs.Common.{refl, exits_with, memory_stop}
 use Rattle.tx_mend.proofs.Right.{is_right}
-use Rattle.tx_files.specs.Faults.{memory_stop}
 use Rattle.tx_requests.proofs.mend.MendRequestRequest.answer.Goals as goal
 
 pub returns : goal.returns

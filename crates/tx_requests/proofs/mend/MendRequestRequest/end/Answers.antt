@@ -1,5 +1,4 @@
-use Rattle.std.proofs.Common.{refl}
-use Rattle.tx_text.proofs.Exits.{exits_with}
+use Rattle.tx_requests.proofs.Common.{refl, exits_with}
 use Rattle.tx_requests.proofs.mend.MendRequestRequest.end.Goals as goal
 
 pub text_if_asked-requires : goal.text_if_asked-requires

@@ -1,6 +1,4 @@
-use Rattle.std.proofs.Common.{inl, inr, refl}
-use Rattle.tx_text.proofs.Exits.{exits_with}
-use Rattle.tx_files.specs.Faults.{memory_stop}
+use Rattle.tx_requests.proofs.Common.{inl, inr, refl, exits_with, memory_stop}
 use Rattle.tx_requests.proofs.page.PageRequestRequest.answer.Goals as goal
 
 pub found_of-requires : goal.found_of-requires

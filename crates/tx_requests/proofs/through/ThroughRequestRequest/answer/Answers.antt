@@ -1,6 +1,4 @@
-use Rattle.std.proofs.Common.{inr, refl}
-use Rattle.tx_text.proofs.Exits.{exits_with}
-use Rattle.tx_files.specs.Faults.{memory_stop}
+use Rattle.tx_requests.proofs.Common.{inr, refl, exits_with, memory_stop}
 use Rattle.tx_requests.proofs.through.ThroughRequestRequest.answer.Goals as goal
 
 pub returns : goal.returns

@@ -1,5 +1,4 @@
-use Rattle.std.proofs.Common.{refl}
-use Rattle.tx_text.proofs.Exits.{exits_with}
+use Rattle.tx_requests.proofs.Common.{refl, exits_with}
 use Rattle.tx_requests.proofs.way_changes.WaysRequestRequest.answer.Goals as goal
 
 pub returns : goal.returns

@@ -1,5 +1,4 @@
-use Rattle.std.proofs.Common.{sym, subst}
-use Rattle.std.specs.List.{AllByRecursion}
+use Rattle.tx_requests.proofs.Common.{sym, subst, AllByRecursion}
 use Rattle.tx_files.specs.declared.two_plans.WithOld.{WithOld}
 use Rattle.tx_trace.specs.WayChanges.{AreWaysIn}
 use Rattle.tx_requests.proofs.way_changes.WaysRequestRequest.print.Goals as goal
