@@ -72,16 +72,21 @@ fn try_plain(alloc: Global, run: Task<'_>, job: &[u8], out: &mut Told) {
     }
 }
 
-/// Writes what a task wrote, and its fault. That the plan has no such exchange or code is told by
-/// the exit status alone.
+/// Writes what a task wrote, and its fault. That the plan has no such exchange, code or group is
+/// told by the exit status alone, since the program reports it with its word.
 fn tell_whole(whole: &Whole, out: &mut Told) {
     tell(whole.text(), out);
-    match whole.end {
-        End::Job(Err(CommandFault::NoSuchExchange | CommandFault::NoSuchCode(_))) => {}
-        End::Job(Err(fault)) => {
+    let End::Job(Err(fault)) = whole.end else {
+        return;
+    };
+    match fault {
+        CommandFault::NoSuchExchange
+        | CommandFault::NoSuchCode(_)
+        | CommandFault::NoSuchGroup(_)
+        | CommandFault::NoSuchName => {}
+        fault => {
             let _ = write_command_fault(&fault, out);
         }
-        End::Job(Ok(_)) | End::Run(_) => {}
     }
 }
 

@@ -90,12 +90,7 @@ pub fn next_word<'a>(words: &mut Words<'a>) -> &'a [u8] {
 
 /// The number of the next word, and 0 where it is none.
 pub fn next_number(words: &mut Words<'_>, most: u32) -> u32 {
-    number_of(next_word(words), most)
-}
-
-/// The number that a word says, and 0 where it says none.
-pub fn number_of(word: &[u8], most: u32) -> u32 {
-    number(word, most).unwrap_or(0)
+    number(next_word(words), most).unwrap_or(0)
 }
 
 /// The number that figures say, or the greatest.

@@ -1,6 +1,6 @@
 // What the head of a case says.
-use crate::cases::case::{named, next_word, number_of};
-use tx_text::words;
+use crate::cases::case::{named, next_word};
+use tx_text::{number, words};
 
 /// What is done with a job.
 #[derive(Clone, Copy)]
@@ -52,16 +52,14 @@ pub fn head_of(head: &[u8]) -> Head<'_> {
 impl<'a> Head<'a> {
     /// The first two numbers of a case, each 0 where its word says none.
     pub fn numbers(&self) -> (u32, u32) {
-        (
-            number_of(self.first, u32::MAX),
-            number_of(self.second, u32::MAX),
-        )
+        let first = number(self.first, u32::MAX).unwrap_or(0);
+        (first, number(self.second, u32::MAX).unwrap_or(0))
     }
 
     /// The limit and the spare number of a case.
     pub fn limit_and_spare(&self) -> (u8, u8) {
-        let limit = number_of(self.first, 62).min(62) as u8;
-        let spare = number_of(self.second, 15).min(15) as u8;
+        let limit = number(self.first, 62).unwrap_or(0).min(62) as u8;
+        let spare = number(self.second, 15).unwrap_or(0).min(15) as u8;
         (limit, spare)
     }
 }
