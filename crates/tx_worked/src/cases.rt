@@ -17,19 +17,19 @@ mod told;
 mod writer;
 
 pub(crate) use case::{
-    Case, cases_of, count_words, long_number, named, next_case, next_line, next_number, next_word,
-    number_of, two_texts,
+    Case, cases_of, long_number, named, next_case, next_line, next_number, next_word, two_texts,
+    without_lf,
 };
 pub(crate) use differing::tell_differing;
 pub(crate) use end_case::{EndCase, What};
-pub(crate) use ends::{End, Ends, FULL_ROOM, ROOM, calls_left};
-pub(crate) use head::{Driven, Head, Kind, Mode, TextKind, head_of, limit_and_spare};
+pub(crate) use ends::{Ends, FULL_ROOM, calls_left};
+pub(crate) use head::{Head, Mode, head_of};
 pub(crate) use log::Log;
 pub(crate) use outputs::{event_word, says_no_event, takes_memory, written_after};
 pub(crate) use reader::Reader;
 pub(crate) use refusing::Refusing;
 pub(crate) use spelled::spell;
-pub(crate) use stop::Stop;
-pub(crate) use task::{Task, command_of};
+pub(crate) use stop::{Stop, tell_stop};
+pub(crate) use task::{Task, command_of, is_command};
 pub(crate) use told::{Told, tell, tell_broken, tell_count, tell_parts};
 pub(crate) use writer::Writer;

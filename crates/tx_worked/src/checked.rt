@@ -1,33 +1,20 @@
 // Events that are driven through a network after a Yes of the checker. Its memory is of the type
 // that can refuse a request, so that each network is built once.
 use crate::cases::{
-    Refusing, Told, next_line, says_no_event, tell, tell_broken, tell_count, two_texts,
+    Refusing, Told, says_no_event, tell, tell_broken, tell_count, two_texts, without_lf,
 };
 use crate::driven::try_drives;
-use crate::runs::Over;
+use crate::runs::{Over, Script};
 use std::alloc::{Allocator, Global};
-use tx_audit::{Played, play};
+use tx_audit::play;
 use tx_cert::read_cert;
 use tx_check::{Verdict, check};
 use tx_machine::{Event, Network, Plain, Reply, drive};
 use tx_plan::Plan;
 use tx_plantext::read_plan;
 use tx_script::read_event;
+use tx_text::NoMemory;
 use tx_tickets::{write_reply, write_ticket};
-
-/// Adds the event that a line of a script says, if it says one.
-fn put_event<A: Allocator>(plan: &Plan<A>, line: &[u8], events: &mut Vec<Event>, out: &mut Told) {
-    if says_no_event(line) {
-        return;
-    }
-    let is_put = match read_event(line, plan) {
-        Ok(event) => events.push(event).is_ok(),
-        Err(_) => false,
-    };
-    if !is_put {
-        tell_broken(line, 0, out);
-    }
-}
 
 /// Adds the events of a script.
 fn put_events<A: Allocator>(
@@ -36,13 +23,15 @@ fn put_events<A: Allocator>(
     events: &mut Vec<Event>,
     out: &mut Told,
 ) {
-    let mut rest = script;
-    for _ in 0..script.len() {
-        let Some((line, after)) = next_line(rest) else {
-            break;
+    for line in script.split_inclusive(|byte| *byte == b'\n') {
+        let line = without_lf(line);
+        let is_put = match read_event(line, plan) {
+            Ok(event) => events.push(event).is_ok(),
+            Err(_) => says_no_event(line),
         };
-        put_event(plan, line, events, out);
-        rest = after;
+        if !is_put {
+            tell_broken(line, 0, out);
+        }
     }
 }
 
@@ -69,69 +58,65 @@ fn tell_ticket<A: Allocator, N: Network>(plan: &Plan<A>, net: &mut N, out: &mut 
     }
 }
 
-/// Writes the replies, then the tickets, and then how many events were accepted and calls are open.
-fn tell_driven<A: Allocator, N: Network>(
-    plan: &Plan<A>,
-    net: &mut N,
-    replies: &[Reply],
-    out: &mut Told,
-) {
-    tell_replies(plan, replies, out);
-    for _ in 0..=replies.len() {
-        if !tell_ticket(plan, net, out) {
-            break;
-        }
-    }
-    tell_end(net, out);
-}
-
-/// Drives the events through a plain network, and writes what comes of it.
-fn drive_and_tell<A: Allocator, N: Network>(
-    plan: &Plan<A>,
-    net: &mut N,
-    events: &[Event],
-    replies: &mut Vec<Reply>,
-    out: &mut Told,
-) {
-    match drive(net, events, replies) {
-        Ok(()) => tell_driven(plan, net, replies.as_slice(), out),
-        Err(_) => tell_broken(b"no memory", 0, out),
-    }
-}
-
-/// Drives the events through a new plain network of the plan, and writes what comes of it.
+/// Drives the events through a new plain network of the plan. Writes the replies, then the tickets,
+/// and then how many events were accepted and calls are open.
 fn drive_plain<A: Allocator + Copy>(
     memory: A,
     plan: &Plan<A>,
     events: &[Event],
     replies: &mut Vec<Reply>,
     out: &mut Told,
-) {
-    match Plain::new(memory, plan) {
-        Ok(mut net) => {
-            drive_and_tell(plan, &mut net, events, replies, out);
+) -> Result<(), NoMemory> {
+    let mut net = Plain::new(memory, plan)?;
+    drive(&mut net, events, replies)?;
+    tell_replies(plan, replies.as_slice(), out);
+    for _ in 0..=replies.len() {
+        if !tell_ticket(plan, &mut net, out) {
+            break;
         }
-        Err(_) => tell_broken(b"no memory", 0, out),
     }
+    tell_end(&net, out);
+    Ok(())
 }
 
-/// Writes what events that were played on the engine came to, and drives them again where memory is
-/// refused.
-fn tell_played<A: Allocator + Copy>(
-    alloc: Global,
+/// Plays the events on the engine, and writes the same.
+fn play_engine<A: Allocator + Copy>(
+    memory: A,
     plan: &Plan<A>,
-    text: &[u8],
     events: &[Event],
-    played: Played<'_, A>,
+    replies: &mut Vec<Reply>,
     out: &mut Told,
-) {
-    let replies = played.replies.as_slice();
-    tell_replies(plan, replies, out);
+) -> Result<(), NoMemory> {
+    let played = play(memory, plan, 0, 0, events)?;
+    replies.extend_from_slice(played.replies.as_slice())?;
+    tell_replies(plan, replies.as_slice(), out);
     for ticket in &played.tickets {
         let _ = write_ticket(ticket, plan, out);
     }
     tell_end(&played.network, out);
-    try_drives(alloc, Over::Engine, text, events, replies, out);
+    Ok(())
+}
+
+/// Drives the events of the script, and again where memory is refused.
+fn drive_script<A: Allocator + Copy>(
+    alloc: Global,
+    memory: A,
+    plan: &Plan<A>,
+    text: Script<'_>,
+    out: &mut Told,
+) {
+    let mut events = Vec::new(alloc);
+    put_events(plan, text.script, &mut events, out);
+    let events = events.as_slice();
+    let mut replies = Vec::new(alloc);
+    let told = match text.over {
+        Over::Plain => drive_plain(memory, plan, events, &mut replies, out),
+        Over::Engine => play_engine(memory, plan, events, &mut replies, out),
+    };
+    match told {
+        Ok(()) => try_drives(alloc, text, events, replies.as_slice(), out),
+        Err(_) => tell_broken(b"no memory", 0, out),
+    }
 }
 
 /// Whether the checker says Yes to a certificate of the plan.
@@ -150,109 +135,33 @@ fn is_certified<A: Allocator + Copy>(
     }
 }
 
-/// The texts of a case.
-#[derive(Clone, Copy)]
-struct Texts<'a> {
-    plan: &'a [u8],
-    cert: &'a [u8],
-    script: &'a [u8],
-}
-
-/// Drives the events through a plain network, and again where memory is refused.
-fn drive_over_plain<A: Allocator + Copy>(
-    alloc: Global,
-    memory: A,
-    plan: &Plan<A>,
-    text: &[u8],
-    events: &[Event],
-    out: &mut Told,
-) {
-    let mut replies = Vec::new(alloc);
-    drive_plain(memory, plan, events, &mut replies, out);
-    try_drives(alloc, Over::Plain, text, events, replies.as_slice(), out);
-}
-
-/// Plays the events on the engine, and drives them again where memory is refused.
-fn play_on_engine<A: Allocator + Copy>(
-    alloc: Global,
-    memory: A,
-    plan: &Plan<A>,
-    text: &[u8],
-    events: &[Event],
-    out: &mut Told,
-) {
-    match play(memory, plan, 0, 0, events) {
-        Ok(played) => tell_played(alloc, plan, text, events, played, out),
-        Err(_) => tell_broken(b"no memory", 0, out),
-    }
-}
-
-/// Drives the events of the script.
-fn drive_script<A: Allocator + Copy>(
-    alloc: Global,
-    over: Over,
-    memory: A,
-    plan: &Plan<A>,
-    texts: Texts<'_>,
-    out: &mut Told,
-) {
-    let mut events = Vec::new(alloc);
-    put_events(plan, texts.script, &mut events, out);
-    match over {
-        Over::Plain => drive_over_plain(alloc, memory, plan, texts.plan, events.as_slice(), out),
-        Over::Engine => play_on_engine(alloc, memory, plan, texts.plan, events.as_slice(), out),
-    }
-}
-
-/// Writes whether the checker says Yes to the certificate, and drives the events of the script
-/// after a Yes.
+/// Writes whether the checker says Yes to a certificate of the plan, and drives the events of the
+/// script after a Yes.
 fn check_and_drive<A: Allocator + Copy>(
     alloc: Global,
-    over: Over,
     memory: A,
     plan: &Plan<A>,
     numbers: (u8, u8),
-    texts: Texts<'_>,
+    text: Script<'_>,
     out: &mut Told,
 ) {
-    if is_certified(memory, plan, texts.cert, numbers) {
+    let (cert, script) = two_texts(text.script);
+    if is_certified(memory, plan, cert, numbers) {
+        let mut text = text;
+        text.script = script;
         tell(b"YES\n", out);
-        drive_script(alloc, over, memory, plan, texts, out);
+        drive_script(alloc, memory, plan, text, out);
     } else {
         tell(b"NO\n", out);
     }
 }
 
-/// Reads the plan, tells whether the checker says Yes to its certificate, and drives the events of
-/// the script after a Yes.
-fn read_and_drive<A: Allocator + Copy>(
-    alloc: Global,
-    over: Over,
-    memory: A,
-    numbers: (u8, u8),
-    texts: Texts<'_>,
-    out: &mut Told,
-) {
-    match read_plan(memory, texts.plan) {
-        Ok(plan) => {
-            check_and_drive(alloc, over, memory, &plan, numbers, texts, out);
-        }
+/// Checks the certificate that stands before a script, with a limit and a spare number, and after a
+/// Yes drives the events of the script.
+pub(crate) fn play_certified(alloc: Global, numbers: (u8, u8), text: Script<'_>, out: &mut Told) {
+    let memory = Refusing::new(alloc, 0);
+    match read_plan(&memory, text.plan) {
+        Ok(plan) => check_and_drive(alloc, &memory, &plan, numbers, text, out),
         Err(_) => tell_broken(b"no plan", 0, out),
     }
-}
-
-/// Checks a certificate of a plan, with a limit and a spare number, and after a Yes drives the
-/// events of the script after it.
-pub(crate) fn play_certified(
-    alloc: Global,
-    over: Over,
-    numbers: (u8, u8),
-    plan: &[u8],
-    rest: &[u8],
-    out: &mut Told,
-) {
-    let (cert, script) = two_texts(rest);
-    let texts = Texts { plan, cert, script };
-    let memory = Refusing::new(alloc, 0);
-    read_and_drive(alloc, over, &memory, numbers, texts, out);
 }

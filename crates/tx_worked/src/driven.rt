@@ -1,6 +1,6 @@
 // Lists of events that are driven where memory is refused.
 use crate::cases::{Refusing, Told, tell_broken};
-use crate::runs::Over;
+use crate::runs::{Over, Script};
 use std::alloc::{Allocator, Global};
 use tx_engine::Engine;
 use tx_machine::{Event, Network, Plain, Reply, drive};
@@ -48,41 +48,35 @@ fn drives_on<A: Allocator + Copy, N: Network>(
     Ok(drive_on(net, events, &mut replies)? && replies.as_slice() == whole)
 }
 
-/// Drives the events through a new plain network of the plan.
-fn drives_on_plain<A: Allocator + Copy>(
+/// Drives the events through a new network of the plan.
+fn drives_over<A: Allocator + Copy>(
     alloc: A,
+    over: Over,
     plan: &Plan<A>,
     events: &[Event],
     whole: &[Reply],
 ) -> Result<bool, NoMemory> {
-    let mut net = Plain::new(alloc, plan)?;
-    drives_on(alloc, &mut net, events, whole)
-}
-
-/// Drives the events through a new engine for the plan.
-fn drives_on_engine<A: Allocator + Copy>(
-    alloc: A,
-    plan: &Plan<A>,
-    events: &[Event],
-    whole: &[Reply],
-) -> Result<bool, NoMemory> {
-    let mut net = Engine::new(alloc, plan)?;
-    drives_on(alloc, &mut net, events, whole)
+    match over {
+        Over::Plain => {
+            let mut net = Plain::new(alloc, plan)?;
+            drives_on(alloc, &mut net, events, whole)
+        }
+        Over::Engine => {
+            let mut net = Engine::new(alloc, plan)?;
+            drives_on(alloc, &mut net, events, whole)
+        }
+    }
 }
 
 /// Reads the plan and drives the events over it, all with the allocator. `None` is out of memory.
-fn reads_and_drives_on<A: Allocator + Copy>(
+fn reads_and_drives<A: Allocator + Copy>(
     alloc: A,
-    over: Over,
-    plan: &[u8],
+    text: Script<'_>,
     events: &[Event],
     whole: &[Reply],
 ) -> Option<bool> {
-    match read_plan(alloc, plan) {
-        Ok(plan) => match over {
-            Over::Plain => drives_on_plain(alloc, &plan, events, whole).ok(),
-            Over::Engine => drives_on_engine(alloc, &plan, events, whole).ok(),
-        },
+    match read_plan(alloc, text.plan) {
+        Ok(plan) => drives_over(alloc, text.over, &plan, events, whole).ok(),
         Err(_) => None,
     }
 }
@@ -91,20 +85,16 @@ fn reads_and_drives_on<A: Allocator + Copy>(
 /// the rest of the events given again have their replies.
 pub(crate) fn try_drives(
     alloc: Global,
-    over: Over,
-    plan: &[u8],
+    text: Script<'_>,
     events: &[Event],
     whole: &[Reply],
     out: &mut Told,
 ) {
     for request in 1..1_000_000u64 {
         let refusing = Refusing::new(alloc, request);
-        let did = reads_and_drives_on(&refusing, over, plan, events, whole);
+        let did = reads_and_drives(&refusing, text, events, whole);
         let came = refusing.has_refused();
-        let keeps = match did {
-            Some(keeps) => keeps,
-            None => came,
-        };
+        let keeps = did.unwrap_or(came);
         if !keeps {
             tell_broken(b"driven, refused request", request, out);
         }

@@ -6,6 +6,6 @@ mod listings;
 mod stretches;
 mod trials;
 
-pub(crate) use job::{Whole, do_in_room};
+pub(crate) use job::{End, Whole, Work, done};
 pub(crate) use listings::{count_calls, list_calls, list_prefixes, list_rooms};
-pub(crate) use trials::{try_ends, try_pieces, try_refusals};
+pub(crate) use trials::{reads, try_ends, try_pieces, try_refusals, try_rooms};

@@ -1,5 +1,5 @@
 // Two plans over their joined network, as texts.
-use crate::cases::{Refusing, Told, tell, tell_broken};
+use crate::cases::{Refusing, Stop, Told, tell, tell_broken};
 use std::alloc::{Allocator, Global};
 use tx_join::{JoinRefusal, Joined, join, write_after, write_before, write_list_counts};
 use tx_plan::Plan;
@@ -38,32 +38,20 @@ fn tell_refusal(refusal: JoinRefusal, new: &Plan, out: &mut Told) {
     tell(b"\n", out);
 }
 
-/// Whether memory runs out where a plan is joined with that of a text.
-fn wants_with<A: Allocator + Copy>(alloc: A, old: &Plan<A>, new: &[u8]) -> bool {
-    match read_plan(alloc, new) {
-        Ok(new) => {
-            let joined = join(alloc, old, &new);
-            let wants = matches!(&joined, Err(JoinRefusal::NoMemory));
-            drop(joined);
-            wants
-        }
-        Err(_) => true,
-    }
-}
-
-/// Whether memory runs out where two plans are read and joined.
-fn wants<A: Allocator + Copy>(alloc: A, old: &[u8], new: &[u8]) -> bool {
-    match read_plan(alloc, old) {
-        Ok(old) => wants_with(alloc, &old, new),
-        Err(_) => true,
-    }
+/// Reads two plans, which are good ones, and joins them.
+fn joins<A: Allocator + Copy>(alloc: A, old: &[u8], new: &[u8]) -> Result<(), JoinRefusal> {
+    let old = read_plan(alloc, old).or(Err(JoinRefusal::NoMemory))?;
+    let new = read_plan(alloc, new).or(Err(JoinRefusal::NoMemory))?;
+    let joined = join(alloc, &old, &new)?;
+    drop(joined);
+    Ok(())
 }
 
 /// Refuses each request for memory in turn.
 fn try_refusals(alloc: Global, old: &[u8], new: &[u8], out: &mut Told) {
     for request in 1..1_000_000u64 {
         let refusing = Refusing::new(alloc, request);
-        let wants = wants(&refusing, old, new);
+        let wants = joins(&refusing, old, new) == Err(JoinRefusal::NoMemory);
         if wants != refusing.has_refused() {
             tell_broken(b"joined plans, refused request", request, out);
         }
@@ -87,19 +75,16 @@ fn tell_join(alloc: Global, old: &Plan, new: &Plan, out: &mut Told) {
     }
 }
 
-/// Joins a plan with that of a text, and tells what comes of it.
-fn tell_with(alloc: Global, old: &Plan, new: &[u8], out: &mut Told) {
-    match read_plan(alloc, new) {
-        Ok(new) => tell_join(alloc, old, &new, out),
-        Err(_) => tell_broken(b"no plan", 0, out),
-    }
-}
-
 /// Joins two plans, and tells what comes of it. Refuses each request for memory in turn.
-pub(crate) fn play_joined(alloc: Global, old: &[u8], new: &[u8], out: &mut Told) {
-    match read_plan(alloc, old) {
-        Ok(before) => tell_with(alloc, &before, new, out),
-        Err(_) => tell_broken(b"no plan", 0, out),
-    }
+pub(crate) fn play_joined(
+    alloc: Global,
+    old: &[u8],
+    new: &[u8],
+    out: &mut Told,
+) -> Result<(), Stop> {
     try_refusals(alloc, old, new, out);
+    let old = read_plan(alloc, old)?;
+    let new = read_plan(alloc, new)?;
+    tell_join(alloc, &old, &new, out);
+    Ok(())
 }

@@ -61,7 +61,6 @@ mod run_laws;
 mod runs;
 mod tests;
 mod twins;
-mod whole_runs;
 mod written;
 
 use crate::player::Player;

@@ -1,11 +1,9 @@
 // Plays the cases of files, and compares what each prints with what it has to print.
 use crate::cases::{
-    Case, Kind, Told, cases_of, head_of, next_case, spell, tell, tell_broken, tell_count,
-    tell_differing,
+    Case, Told, cases_of, head_of, next_case, spell, tell, tell_broken, tell_count, tell_differing,
 };
 use crate::ends::{play_arguments, play_program};
 use crate::play::play_texts;
-use crate::tests::play_call;
 use crate::twins::{Tallies, play_twins, tell_tallies};
 use std::{fs, io};
 
@@ -58,13 +56,11 @@ impl<'a> Player<'a> {
     fn play_kind(&mut self, head_text: &[u8], texts: &[u8], out: &mut Told) {
         let alloc = self.rt.alloc();
         let head = head_of(head_text);
-        match head.kind {
-            Some(Kind::Texts(kind)) => play_texts(alloc, kind, head, texts, out),
-            Some(Kind::Calls(kind)) => play_call(alloc, kind, head, texts, out),
-            Some(Kind::Program) => play_program(self.rt, head_text, out),
-            Some(Kind::Arguments) => play_arguments(alloc, head.first, out),
-            Some(Kind::Twins) => play_twins(alloc, head, texts, &mut self.tallies, out),
-            None => tell_broken(b"no such kind of case", 0, out),
+        match head.word {
+            b"program" => play_program(self.rt, head_text, out),
+            b"arguments" => play_arguments(alloc, head.first, out),
+            b"twins" => play_twins(alloc, head, texts, &mut self.tallies, out),
+            _ => play_texts(alloc, head, texts, out),
         }
     }
 

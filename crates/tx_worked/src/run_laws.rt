@@ -1,105 +1,10 @@
-// The laws of a run: what is written, and which event is told, wherever an end fails or memory is
-// refused.
-use crate::cases::{
-    End, Ends, Told, event_word, takes_memory, tell, tell_broken, tell_count, written_after,
-};
-use crate::runs::{Ran, Script, WholeRun, run_beside, told_cause};
+// Cases that run a script whole, and what is told beside that.
+use crate::cases::{Ends, Head, Told, long_number, tell, tell_broken, tell_count};
+use crate::jobs::{End, Whole, Work, list_calls, list_rooms, reads, try_refusals, try_rooms};
+use crate::runs::{Script, told_cause};
 use std::alloc::Global;
-use tx_jobs::JobFault;
-use tx_script::{RunCause, RunFault, Summary};
-/// More than any case has of anything.
-const MANY: u64 = 1_000_000;
-
-/// Whether the run stopped for this reason, in the event whose output begins or goes on where the
-/// written bytes end.
-fn stopped(ran: &Ran, fault: JobFault, whole: &[u8]) -> bool {
-    match ran.end {
-        Ok(_) => false,
-        Err(end) => {
-            ran.is_front
-                && told_cause(end.cause) == fault
-                && is_in_event(end.event, fault, whole, ran.written)
-        }
-    }
-}
-
-/// Whether so many bytes of the whole output were written in an event: all of the events before it,
-/// and of its own output nothing, or, where the writer failed, less than all.
-fn is_in_event(event: u64, fault: JobFault, whole: &[u8], written: usize) -> bool {
-    if event == 0 {
-        return fault == JobFault::NoMemory && written == 0;
-    }
-    let before = written_after(whole, event.saturating_sub(1));
-    if fault == JobFault::Write {
-        before <= written && written < written_after(whole, event)
-    } else {
-        written == before
-    }
-}
-
-/// Makes each call of the script's source fail in turn, at one byte a call, until none fails.
-fn try_reads(alloc: Global, text: Script<'_>, whole: WholeRun<'_>, out: &mut Told) {
-    for call in 1..MANY {
-        let ran = run_beside(alloc, text, Ends::failing(End::Second, call), whole.text);
-        if !stopped(&ran, JobFault::Read, whole.text) {
-            if !ran.is_as(whole) {
-                tell_broken(b"run, failing call", call, out);
-            }
-            break;
-        }
-    }
-}
-
-/// Gives the run each room that is too small.
-fn try_rooms(alloc: Global, text: Script<'_>, whole: WholeRun<'_>, out: &mut Told) {
-    for room in 0..whole.text.len() {
-        let ends = Ends {
-            room,
-            ..Ends::pieces(4096)
-        };
-        let ran = run_beside(alloc, text, ends, whole.text);
-        if ran.written != room || !stopped(&ran, JobFault::Write, whole.text) {
-            tell_broken(b"run, room", room as u64, out);
-            break;
-        }
-    }
-}
-
-/// Whether a run that was refused memory stopped where it may: in an event that takes memory, or,
-/// for the network or the reader, before the first.
-fn wanted_memory(ran: &Ran, script: &[u8], whole: &[u8]) -> bool {
-    let Err(RunFault { event, cause }) = ran.end else {
-        return false;
-    };
-    let may_want = match cause {
-        RunCause::NoMemory => event == 0 || takes_memory(event_word(script, event)),
-        RunCause::Script(_) => event == 1,
-        RunCause::Read | RunCause::Write => false,
-    };
-    may_want && stopped(ran, JobFault::NoMemory, whole)
-}
-
-/// Refuses each request for memory in turn, until none is refused.
-fn try_refusals(alloc: Global, text: Script<'_>, whole: WholeRun<'_>, out: &mut Told) {
-    for refused in 1..MANY {
-        let ends = Ends {
-            refused,
-            ..Ends::pieces(4096)
-        };
-        let ran = run_beside(alloc, text, ends, whole.text);
-        let keeps = if ran.came {
-            wanted_memory(&ran, text.script, whole.text)
-        } else {
-            ran.is_as(whole)
-        };
-        if !keeps {
-            tell_broken(b"run, refused request", refused, out);
-        }
-        if !ran.came || !keeps {
-            break;
-        }
-    }
-}
+use tx_jobs::write_fault;
+use tx_script::{RunFault, Summary};
 
 /// Writes what was counted of a run.
 pub(crate) fn tell_summary(summary: &Summary, out: &mut Told) {
@@ -109,14 +14,49 @@ pub(crate) fn tell_summary(summary: &Summary, out: &mut Told) {
     tell_count(b"", summary.open_calls, b" open\n", out);
 }
 
-/// Tries the laws of a run, and writes what it counted or where it stopped.
-pub(crate) fn try_run_laws(alloc: Global, text: Script<'_>, whole: WholeRun<'_>, out: &mut Told) {
-    try_reads(alloc, text, whole, out);
-    try_rooms(alloc, text, whole, out);
-    try_refusals(alloc, text, whole, out);
+/// Tries the laws of a run: what is written, and which event is told, wherever an end fails or
+/// memory is refused. Writes what it counted or where it stopped.
+fn try_run_laws(alloc: Global, text: Script<'_>, whole: &Whole, out: &mut Told) {
+    let _ = reads(alloc, Work::Run(text), 1, whole, out);
+    try_rooms(alloc, Work::Run(text), whole, out);
+    try_refusals(alloc, Work::Run(text), whole, out);
     match whole.end {
-        Ok(summary) => tell_summary(&summary, out),
-        Err(RunFault { event: 0, cause: _ }) => tell(b"-- no plan\n", out),
-        Err(fault) => tell_count(b"-- stopped at event ", fault.event, b"\n", out),
+        End::Run(Ok(summary)) => tell_summary(&summary, out),
+        End::Run(Err(RunFault { event: 0, cause: _ })) => tell(b"-- no plan\n", out),
+        End::Run(Err(fault)) => tell_count(b"-- stopped at event ", fault.event, b"\n", out),
+        End::Job(_) => {}
+    }
+}
+
+/// Writes what a run writes, and what it counts or the event and the cause that stop it.
+fn tell_run(whole: &Whole, out: &mut Told) {
+    tell(whole.text(), out);
+    match whole.end {
+        End::Run(Ok(summary)) => tell_summary(&summary, out),
+        End::Run(Err(fault)) => {
+            tell_count(b"event ", fault.event, b": ", out);
+            let _ = write_fault(&told_cause(fault.cause), out);
+        }
+        End::Job(_) => {}
+    }
+}
+
+/// Runs a script whole, and tells something of the run by the kind of the case: its laws, what it
+/// does in each room or where a call of its source fails, or what it writes.
+pub(crate) fn play_run(alloc: Global, head: Head<'_>, text: Script<'_>, out: &mut Told) {
+    let (number, _) = head.numbers();
+    let mut text = text;
+    if head.word == b"starting".as_slice() {
+        text.numbers = number;
+        text.events = long_number(head.second);
+    }
+    let Ok(whole) = Whole::of(alloc, Work::Run(text), Ends::pieces(7)) else {
+        return tell_broken(b"no memory", 0, out);
+    };
+    match head.word {
+        b"both" => try_run_laws(alloc, text, &whole, out),
+        b"rooms" => list_rooms(alloc, text, &whole, out),
+        b"calls" => list_calls(alloc, text, number as usize, &whole, out),
+        _ => tell_run(&whole, out),
     }
 }

@@ -1,6 +1,6 @@
 // Runs of a script, with the event at which they stop.
-use crate::cases::{End, Ends, Refusing};
-use std::alloc::{Allocator, Global};
+use crate::cases::{Ends, event_word, takes_memory, written_after};
+use std::alloc::Allocator;
 use tx_engine::Engine;
 use tx_jobs::JobFault;
 use tx_machine::Plain;
@@ -28,39 +28,15 @@ pub(crate) struct Script<'a> {
 }
 
 impl<'a> Script<'a> {
-    /// A script from the opening state.
-    pub(crate) fn opening(over: Over, plan: &'a [u8], script: &'a [u8]) -> Script<'a> {
+    /// A script from the opening state, over the plain network.
+    pub(crate) fn opening(plan: &'a [u8], script: &'a [u8]) -> Script<'a> {
         Script {
             plan,
             script,
             numbers: 0,
             events: 0,
-            over,
+            over: Over::Plain,
         }
-    }
-}
-
-/// How a whole run ends, and what it writes.
-#[derive(Clone, Copy)]
-pub(crate) struct WholeRun<'a> {
-    pub end: Result<Summary, RunFault>,
-    pub text: &'a [u8],
-}
-
-/// How a run ended, how many bytes it wrote, whether these are a front of what the whole run
-/// writes, and whether the request for memory came that was to be refused.
-#[derive(Clone, Copy)]
-pub(crate) struct Ran {
-    pub end: Result<Summary, RunFault>,
-    pub written: usize,
-    pub is_front: bool,
-    pub came: bool,
-}
-
-impl Ran {
-    /// Whether it did all that the whole run does.
-    pub(crate) fn is_as(&self, whole: WholeRun<'_>) -> bool {
-        self.is_front && self.written == whole.text.len() && self.end == whole.end
     }
 }
 
@@ -69,37 +45,6 @@ const NOT_BEGUN: RunFault = RunFault {
     event: 0,
     cause: RunCause::NoMemory,
 };
-
-/// Runs a script over a new plain network of the plan.
-fn run_plain<A: Allocator + Copy>(
-    alloc: A,
-    plan: &Plan<A>,
-    text: Script<'_>,
-    source: &mut MemorySource<'_>,
-    out: &mut MemorySink,
-) -> Result<Summary, RunFault> {
-    match Plain::starting_at(alloc, plan, text.numbers, text.events) {
-        Ok(mut net) => run(alloc, plan, &mut net, source, out),
-        Err(_) => Err(NOT_BEGUN),
-    }
-}
-
-/// Runs a script over a new engine for the plan.
-fn run_engine<A: Allocator + Copy>(
-    alloc: A,
-    plan: &Plan<A>,
-    text: Script<'_>,
-    source: &mut MemorySource<'_>,
-    out: &mut MemorySink,
-) -> Result<Summary, RunFault> {
-    match Engine::starting_at(alloc, plan, text.numbers, text.events) {
-        Ok(mut net) => {
-            let end = run(alloc, plan, &mut net, source, out);
-            end
-        }
-        Err(_) => Err(NOT_BEGUN),
-    }
-}
 
 /// Runs a script over a new network of the plan.
 fn run_over<A: Allocator + Copy>(
@@ -110,13 +55,22 @@ fn run_over<A: Allocator + Copy>(
     out: &mut MemorySink,
 ) -> Result<Summary, RunFault> {
     match text.over {
-        Over::Plain => run_plain(alloc, plan, text, source, out),
-        Over::Engine => run_engine(alloc, plan, text, source, out),
+        Over::Plain => match Plain::starting_at(alloc, plan, text.numbers, text.events) {
+            Ok(mut net) => run(alloc, plan, &mut net, source, out),
+            Err(_) => Err(NOT_BEGUN),
+        },
+        Over::Engine => match Engine::starting_at(alloc, plan, text.numbers, text.events) {
+            Ok(mut net) => {
+                let end = run(alloc, plan, &mut net, source, out);
+                end
+            }
+            Err(_) => Err(NOT_BEGUN),
+        },
     }
 }
 
 /// Reads the plan, which is a good one, and runs the script that the source gives.
-pub(crate) fn run_text<A: Allocator + Copy>(
+pub(crate) fn run_source<A: Allocator + Copy>(
     alloc: A,
     text: Script<'_>,
     source: &mut MemorySource<'_>,
@@ -128,36 +82,15 @@ pub(crate) fn run_text<A: Allocator + Copy>(
     }
 }
 
-/// Runs a script into a room, and returns how it ran beside what is to be written.
-pub(crate) fn run_in_room(
-    alloc: Global,
+/// The same of the script of the text, by its ends.
+pub(crate) fn run_text<A: Allocator + Copy>(
+    alloc: A,
     text: Script<'_>,
     ends: Ends,
-    whole: &[u8],
-    room: &mut MemorySink,
-) -> Ran {
-    let memory = Refusing::new(alloc, ends.refused);
-    let mut source = ends.source(End::Second, text.script);
-    let end = run_text(&memory, text, &mut source, room);
-    Ran {
-        end,
-        written: room.taken().len(),
-        is_front: whole.starts_with(room.taken()),
-        came: memory.has_refused(),
-    }
-}
-
-/// How a script runs, beside what is to be written.
-pub(crate) fn run_beside(alloc: Global, text: Script<'_>, ends: Ends, whole: &[u8]) -> Ran {
-    match MemorySink::new(alloc, ends.room) {
-        Ok(mut room) => run_in_room(alloc, text, ends, whole, &mut room),
-        Err(_) => Ran {
-            end: Err(NOT_BEGUN),
-            written: 0,
-            is_front: false,
-            came: false,
-        },
-    }
+    out: &mut MemorySink,
+) -> Result<Summary, RunFault> {
+    let mut source = ends.source(1, text.script);
+    run_source(alloc, text, &mut source, out)
 }
 
 /// A cause as a job tells it.
@@ -170,5 +103,29 @@ pub(crate) fn told_cause(cause: RunCause) -> JobFault {
             FaultKind::Frame(FrameFault::NoMemory) => JobFault::NoMemory,
             _ => JobFault::Script(fault),
         },
+    }
+}
+
+/// Whether so many bytes of the whole output were written in an event: all of the events before it,
+/// and of its own output nothing, or, where the writer failed, less than all.
+pub(crate) fn is_in_event(event: u64, fault: JobFault, whole: &[u8], written: usize) -> bool {
+    if event == 0 {
+        return fault == JobFault::NoMemory && written == 0;
+    }
+    let before = written_after(whole, event.saturating_sub(1));
+    if fault == JobFault::Write {
+        before <= written && written < written_after(whole, event)
+    } else {
+        written == before
+    }
+}
+
+/// Whether a run may run out of memory where it did: in an event that takes memory, or, for the
+/// network or the reader, before the first.
+pub(crate) fn may_want(fault: RunFault, script: &[u8]) -> bool {
+    match fault.cause {
+        RunCause::NoMemory => fault.event == 0 || takes_memory(event_word(script, fault.event)),
+        RunCause::Script(_) => fault.event == 1,
+        RunCause::Read | RunCause::Write => false,
     }
 }

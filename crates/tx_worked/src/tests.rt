@@ -43,4 +43,4 @@ mod spelling;
 mod trie;
 mod watched;
 
-pub(crate) use play::{CALLS, CallKind, play_call};
+pub(crate) use play::play_call;

@@ -21,7 +21,6 @@ mod networks;
 mod picture;
 mod play;
 mod script;
-mod stop;
 mod stray;
 mod tally;
 mod twins;

@@ -1,5 +1,5 @@
 // Certificates and plans that are written and read back.
-use crate::cases::{Refusing, Told, tell, tell_broken};
+use crate::cases::{Refusing, Stop, Told, tell, tell_broken};
 use std::alloc::{Allocator, Global};
 use tx_cert::{Cert, CertFault, CertWord, read_cert, read_cert_from, write_cert};
 use tx_plan::{CodeId, ExchangeId, Plan};
@@ -28,84 +28,48 @@ fn is_same(plan: &Plan, cert: &Cert, read: Result<Cert, CertFault>) -> bool {
     }
 }
 
-/// Whether a text reads as a certificate, from a source that gives so many bytes a call.
-fn comes_as(alloc: Global, plan: &Plan, cert: &Cert, text: &[u8], piece: usize) -> bool {
-    let mut source = MemorySource::new(text, piece.max(1), None);
-    is_same(plan, cert, read_cert_from(alloc, &mut source, plan))
-}
-
 /// Whether a text reads as a certificate, at once and in pieces.
 fn reads_as(alloc: Global, plan: &Plan, cert: &Cert, text: &[u8]) -> bool {
-    is_same(plan, cert, read_cert(alloc, text, plan))
-        && comes_as(alloc, plan, cert, text, 1)
-        && comes_as(alloc, plan, cert, text, 2)
-        && comes_as(alloc, plan, cert, text, 7)
-        && comes_as(alloc, plan, cert, text, 4096)
-}
-
-/// Writes a new certificate of the plan.
-fn write_new(alloc: Global, plan: &Plan, out: &mut Told) {
-    match Cert::new(alloc, plan) {
-        Ok(cert) => {
-            let _ = write_cert(&cert, plan, out);
+    for piece in [1usize, 2, 7, 4096] {
+        let mut source = MemorySource::new(text, piece, None);
+        if !is_same(plan, cert, read_cert_from(alloc, &mut source, plan)) {
+            return false;
         }
-        Err(_) => tell_broken(b"no memory", 0, out),
     }
+    is_same(plan, cert, read_cert(alloc, text, plan))
 }
 
-/// Writes a certificate, and reads what was written.
-fn write_and_read(alloc: Global, plan: &Plan, cert: &Cert, out: &mut Told) {
+/// Reads a certificate, which reads the same in pieces, and writes it. What is written reads back.
+fn write_back_cert(alloc: Global, plan: &Plan, text: &[u8], out: &mut Told) -> Result<(), Stop> {
+    let cert = read_cert(alloc, text, plan)?;
     let mut written = Told::new(alloc);
-    let _ = write_cert(cert, plan, &mut written);
+    let _ = write_cert(&cert, plan, &mut written);
     tell(written.text(), out);
-    if !reads_as(alloc, plan, cert, written.text()) {
+    if !reads_as(alloc, plan, &cert, text) {
+        tell_broken(b"not the same in pieces", 0, out);
+    }
+    if !reads_as(alloc, plan, &cert, written.text()) {
         tell_broken(b"not read back", 0, out);
     }
-}
-
-/// Reads a certificate, which reads the same in pieces, and writes it.
-fn write_back_cert(alloc: Global, plan: &Plan, text: &[u8], out: &mut Told) {
-    match read_cert(alloc, text, plan) {
-        Ok(cert) => {
-            if !reads_as(alloc, plan, &cert, text) {
-                tell_broken(b"not the same in pieces", 0, out);
-            }
-            write_and_read(alloc, plan, &cert, out);
-        }
-        Err(_) => tell_broken(b"no certificate", 0, out),
-    }
-}
-
-const NO_MEMORY: CertFault = CertFault {
-    line: 1,
-    kind: FaultKind::Word(CertWord::NoMemory),
-};
-
-const NO_BUFFER: CertFault = CertFault {
-    line: 1,
-    kind: FaultKind::Frame(FrameFault::NoMemory),
-};
-
-/// Whether memory runs out for a new certificate.
-fn new_wants<A: Allocator>(alloc: A, plan: &Plan<A>) -> bool {
-    match Cert::new(alloc, plan) {
-        Ok(_) => false,
-        Err(_) => true,
-    }
+    Ok(())
 }
 
 /// Whether memory ran out for a certificate that was read.
 fn has_wanted<A: Allocator>(read: Result<Cert<A>, CertFault>) -> bool {
     match read {
         Ok(_) => false,
-        Err(fault) => fault == NO_MEMORY || fault == NO_BUFFER,
+        Err(CertFault { line: 1, kind }) => matches!(
+            kind,
+            FaultKind::Word(CertWord::NoMemory) | FaultKind::Frame(FrameFault::NoMemory)
+        ),
+        Err(_) => false,
     }
 }
 
 /// Whether memory runs out for a new certificate, or for one that is read, at once or in pieces.
 fn cert_wants<A: Allocator + Copy>(alloc: A, plan: &Plan<A>, cert: &[u8]) -> bool {
     let mut source = MemorySource::new(cert, 7, None);
-    new_wants(alloc, plan)
+    Cert::new(alloc, plan).is_err()
         || has_wanted(read_cert(alloc, cert, plan))
         || has_wanted(read_cert_from(alloc, &mut source, plan))
 }
@@ -134,15 +98,17 @@ fn try_refusals(alloc: Global, plan: &[u8], cert: &[u8], out: &mut Told) {
 
 /// Writes a new certificate of a plan, reads one and writes it, reads back what was written, and
 /// refuses each request for memory.
-pub(crate) fn play_cert(alloc: Global, plan: &[u8], cert: &[u8], out: &mut Told) {
-    match read_plan(alloc, plan) {
-        Ok(plan) => {
-            write_new(alloc, &plan, out);
-            write_back_cert(alloc, &plan, cert, out);
-        }
-        Err(_) => tell_broken(b"no plan", 0, out),
-    }
+pub(crate) fn play_cert(
+    alloc: Global,
+    plan: &[u8],
+    cert: &[u8],
+    out: &mut Told,
+) -> Result<(), Stop> {
     try_refusals(alloc, plan, cert, out);
+    let plan = read_plan(alloc, plan)?;
+    let new = Cert::new(alloc, &plan)?;
+    let _ = write_cert(&new, &plan, out);
+    write_back_cert(alloc, &plan, cert, out)
 }
 
 /// Reads a plan and writes it: nothing where it is refused.

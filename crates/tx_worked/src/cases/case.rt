@@ -23,6 +23,11 @@ pub fn next_line(text: &[u8]) -> Option<(&[u8], &[u8])> {
     }
 }
 
+/// A line without its LF.
+pub fn without_lf(line: &[u8]) -> &[u8] {
+    line.strip_suffix(b"\n".as_slice()).unwrap_or(line)
+}
+
 /// The cases of a file, which may have a comment before the first of them.
 pub fn cases_of(file: &[u8]) -> &[u8] {
     &file[texts_len(file)..]
@@ -78,34 +83,14 @@ pub fn two_texts(texts: &[u8]) -> (&[u8], &[u8]) {
     }
 }
 
-/// How many words there are.
-pub fn count_words(words: &Words<'_>) -> u64 {
-    let mut count = 0u64;
-    for _word in words.again() {
-        count = count.saturating_add(1);
-    }
-    count
-}
-
 /// The next word, or one of no bytes where there is none.
 pub fn next_word<'a>(words: &mut Words<'a>) -> &'a [u8] {
-    match words.next() {
-        Some(word) => word,
-        None => b"",
-    }
+    words.next().unwrap_or(b"")
 }
 
 /// The number of the next word, and 0 where it is none.
 pub fn next_number(words: &mut Words<'_>, most: u32) -> u32 {
-    match words.next() {
-        Some(word) => number_of(word, most),
-        None => 0,
-    }
-}
-
-/// The number that a word says, and 0 where it says none.
-pub fn number_of(word: &[u8], most: u32) -> u32 {
-    number(word, most).unwrap_or(0)
+    number(next_word(words), most).unwrap_or(0)
 }
 
 /// The number that figures say, or the greatest.

@@ -14,7 +14,6 @@
 // - `shows FILE`: what that file holds in the end is printed.
 // - `each-request`: each request of the command for memory is refused in turn.
 // - `words`: nothing is run: what the words ask for is printed.
-use crate::cases::case::named;
 use std::alloc::Global;
 
 /// A case: how the ends behave, and the words of the program.
@@ -30,7 +29,7 @@ pub struct EndCase<'a> {
     /// flushes.
     pub interrupts: Option<(&'a str, u64)>,
     /// The file that fails when it has taken so many bytes.
-    pub room: Option<(&'a str, usize)>,
+    pub room: Option<(&'a str, u64)>,
     /// The file that cannot be given its name.
     pub unfinished: Option<&'a str>,
     /// Whether standard input is a terminal.
@@ -52,35 +51,6 @@ pub enum What {
     /// Only read.
     Read,
 }
-
-/// What a setting sets.
-#[derive(Clone, Copy)]
-enum Setting {
-    Input,
-    Piece,
-    Fails,
-    Interrupts,
-    Room,
-    Unfinished,
-    Terminal,
-    Shows,
-    EachRequest,
-    Words,
-}
-
-/// The settings, and whether the name of a file and a number stand after each.
-static SETTINGS: [(&str, (Setting, bool, bool)); 10] = [
-    ("input", (Setting::Input, true, false)),
-    ("piece", (Setting::Piece, false, true)),
-    ("fails", (Setting::Fails, true, true)),
-    ("interrupts", (Setting::Interrupts, true, true)),
-    ("room", (Setting::Room, true, true)),
-    ("unfinished", (Setting::Unfinished, true, false)),
-    ("terminal", (Setting::Terminal, false, false)),
-    ("shows", (Setting::Shows, true, false)),
-    ("each-request", (Setting::EachRequest, false, false)),
-    ("words", (Setting::Words, false, false)),
-];
 
 impl<'a> EndCase<'a> {
     /// A case with no settings and no words.
@@ -118,65 +88,57 @@ impl<'a> EndCase<'a> {
         let mut rest = settings.split_whitespace();
         let _name = rest.next();
         let _kind = rest.next();
-        while let Some(word) = rest.next() {
-            match named(&SETTINGS, word.as_bytes()) {
-                Some((setting, has_name, has_number)) => {
-                    let name = if has_name { rest.next() } else { None };
-                    let number = if has_number { rest.next() } else { Some("0") };
-                    self.set(setting, name.unwrap_or(""), number.unwrap_or(""));
-                }
-                None => self.is_bad = true,
+        while let Some(setting) = rest.next() {
+            match setting {
+                "input" => self.input = rest.next().unwrap_or(""),
+                "piece" => self.piece = self.number(rest.next()).max(1) as usize,
+                "fails" => self.fails = Some(self.call_of(rest.next(), rest.next())),
+                "interrupts" => self.interrupts = Some(self.call_of(rest.next(), rest.next())),
+                "room" => self.room = Some(self.call_of(rest.next(), rest.next())),
+                "unfinished" => self.unfinished = rest.next(),
+                "terminal" => self.is_terminal = true,
+                "shows" => self.shows = rest.next(),
+                "each-request" => self.what = What::RunWithout,
+                "words" => self.what = What::Read,
+                _ => self.is_bad = true,
             }
         }
     }
 
-    /// Takes a setting, with the name and the number after it.
-    fn set(&mut self, setting: Setting, name: &'a str, number: &str) {
-        let number = self.number(number);
-        match setting {
-            Setting::Input => self.input = name,
-            Setting::Piece => self.piece = number.max(1) as usize,
-            Setting::Fails => self.fails = Some((name, u64::from(number))),
-            Setting::Interrupts => self.interrupts = Some((name, u64::from(number))),
-            Setting::Room => self.room = Some((name, number as usize)),
-            Setting::Unfinished => self.unfinished = Some(name),
-            Setting::Terminal => self.is_terminal = true,
-            Setting::Shows => self.shows = Some(name),
-            Setting::EachRequest => self.what = What::RunWithout,
-            Setting::Words => self.what = What::Read,
-        }
-    }
-
     /// The number that a word spells. Where it spells none, the case is bad.
-    fn number(&mut self, word: &str) -> u32 {
-        if let Ok(number) = word.parse::<u32>() {
+    fn number(&mut self, word: Option<&str>) -> u32 {
+        if let Ok(number) = word.unwrap_or("").parse::<u32>() {
             return number;
         }
         self.is_bad = true;
         0
     }
 
+    /// The name of a file, and the number after it.
+    fn call_of(&mut self, name: Option<&'a str>, number: Option<&str>) -> (&'a str, u64) {
+        (name.unwrap_or(""), u64::from(self.number(number)))
+    }
+
     /// Which read or flush of a file fails, or 0.
     pub fn failing_call(&self, name: &str) -> u64 {
-        match self.fails {
-            Some((failing, call)) if failing == name => call,
-            _ => 0,
-        }
+        number_at(self.fails, name).unwrap_or(0)
     }
 
     /// Which call of a file is interrupted, or 0.
     pub fn interrupted_call(&self, name: &str) -> u64 {
-        match self.interrupts {
-            Some((interrupted, call)) if interrupted == name => call,
-            _ => 0,
-        }
+        number_at(self.interrupts, name).unwrap_or(0)
     }
 
     /// How many bytes a file takes.
     pub fn room(&self, name: &str) -> usize {
-        match self.room {
-            Some((full, room)) if full == name => room,
-            _ => usize::MAX,
-        }
+        number_at(self.room, name).unwrap_or(u64::MAX) as usize
+    }
+}
+
+/// The number that is set for a file, if one is.
+fn number_at(set: Option<(&str, u64)>, name: &str) -> Option<u64> {
+    match set {
+        Some((file, number)) if file == name => Some(number),
+        _ => None,
     }
 }

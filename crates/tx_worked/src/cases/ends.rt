@@ -7,21 +7,13 @@ pub const ROOM: usize = 4_000_000;
 /// Room enough for what any job of the cases writes.
 pub const FULL_ROOM: usize = 100_000_000;
 
-/// One of the sources of a task.
-#[derive(Clone, Copy)]
-pub enum End {
-    First,
-    Second,
-    Third,
-}
-
-/// What a task or a run is given: how many bytes a call of a source gives, the call of a source
-/// that fails, the request for memory that is refused, or 0 for none, and the room for what is
-/// written.
+/// What a task or a run is given: how many bytes a call of a source gives, the source, by its index,
+/// and its call that fails, the request for memory that is refused, or 0 for none, and the room for
+/// what is written.
 #[derive(Clone, Copy)]
 pub struct Ends {
     pub piece: usize,
-    pub fails: Option<(End, u64)>,
+    pub fails: Option<(usize, u64)>,
     pub refused: u64,
     pub room: usize,
 }
@@ -38,17 +30,33 @@ impl Ends {
     }
 
     /// Sources of one byte a call of which one fails at a call.
-    pub fn failing(end: End, call: u64) -> Ends {
+    pub fn failing(index: usize, call: u64) -> Ends {
         Ends {
-            fails: Some((end, call)),
+            fails: Some((index, call)),
             ..Ends::pieces(1)
         }
     }
 
-    /// A source over one of the texts.
-    pub fn source<'a>(&self, end: End, text: &'a [u8]) -> MemorySource<'a> {
+    /// Sources that never fail, and a request for memory that is refused.
+    pub fn refusing(refused: u64) -> Ends {
+        Ends {
+            refused,
+            ..Ends::pieces(4096)
+        }
+    }
+
+    /// Sources that never fail, and so much room.
+    pub fn with_room(room: usize) -> Ends {
+        Ends {
+            room,
+            ..Ends::pieces(4096)
+        }
+    }
+
+    /// A source over the text of an index.
+    pub fn source<'a>(&self, index: usize, text: &'a [u8]) -> MemorySource<'a> {
         let fails_at = match self.fails {
-            Some((failing, call)) if failing == end => Some(call),
+            Some((failing, call)) if failing == index => Some(call),
             _ => None,
         };
         MemorySource::new(text, self.piece.max(1), fails_at)

@@ -1,5 +1,5 @@
 // What the output and the script of a run tell of its events.
-use crate::cases::case::next_line;
+use crate::cases::case::{next_line, without_lf};
 use tx_text::words;
 
 /// How many bytes of the output are that of the first so many events: their replies, each with the
@@ -22,26 +22,16 @@ pub fn written_after(output: &[u8], events: u64) -> usize {
     output.len().saturating_sub(rest.len())
 }
 
-/// The first word of a line, if it has one.
-fn first_word(line: &[u8]) -> Option<&[u8]> {
-    words(line).next()
-}
-
 /// The first word of the line that says an event of a script, counted from 1.
 pub fn event_word(script: &[u8], event: u64) -> &[u8] {
-    let mut rest = script;
     let mut left = event;
-    for _ in 0..script.len() {
-        let Some((line, after)) = next_line(rest) else {
-            break;
-        };
-        if let Some(word) = first_word(line) {
+    for line in script.split_inclusive(|byte| *byte == b'\n') {
+        if let Some(word) = words(without_lf(line)).next() {
             if left == 0 {
                 return word;
             }
             left = left.saturating_sub(1);
         }
-        rest = after;
     }
     b""
 }
@@ -54,5 +44,5 @@ pub fn takes_memory(word: &[u8]) -> bool {
 
 /// Whether a line of a script says no event: it has no words, or is the header or END.
 pub fn says_no_event(line: &[u8]) -> bool {
-    matches!(first_word(line), None | Some(b"SCRIPT" | b"END"))
+    matches!(words(line).next(), None | Some(b"SCRIPT" | b"END"))
 }

@@ -38,22 +38,16 @@ impl<'a> Reader<'a> {
     }
 }
 
-/// How a call ends that is not done.
-fn end_of(kind: io::ErrorKind) -> &'static str {
-    if kind == io::ErrorKind::Interrupted {
-        "interrupted"
-    } else {
-        "fails"
-    }
-}
-
 impl<'a> Read for Reader<'a> {
     fn read(&mut self, buf: &mut [u8]) -> io::Result<usize> {
         self.log.tell("read", self.name.as_str());
         let read = self.read_piece(buf);
         match &read {
             Ok(n) => self.log.tell_number("bytes", *n as u64),
-            Err(why) => self.log.tell(end_of(why.kind()), self.name.as_str()),
+            Err(why) if why.kind() == io::ErrorKind::Interrupted => {
+                self.log.tell("interrupted", self.name.as_str())
+            }
+            Err(_) => self.log.tell("fails", self.name.as_str()),
         }
         read
     }

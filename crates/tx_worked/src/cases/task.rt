@@ -1,94 +1,54 @@
 // The command that a case plays, and its texts.
+ghost use Rattle.std.specs.Prelude.{◌<◌};
+
 use crate::cases::case::two_texts;
 use std::alloc::{AllocError, Global};
 use tx_commands::{Command, WordsFault, read_command};
 
-/// The words of a command by the kind of its case and, where it matters, the word after the kind.
-/// `@1`, `@2` and `@3` stand for the words after the kind: where there is no such word, what has it
-/// is left out. All that a command can print and make is asked for.
-static COMMANDS: [(&str, &str, &str); 31] = [
-    ("pipe", "", ""),
-    ("run", "", "run plan script"),
-    (
-        "checked",
-        "",
-        "run plan script --cert=cert --limit=@1 --spare=@2",
-    ),
-    ("telling", "summary", "run plan script --strict --summary"),
-    (
-        "telling",
-        "both",
-        "run plan script --strict --echo --summary",
-    ),
-    ("telling", "", "run plan script --strict --echo"),
-    ("check", "", "check plan cert --limit=@1 --spare=@2"),
-    ("lint", "risks", "lint @2 --risks=risks"),
-    ("lint", "", "lint @1"),
-    ("codes", "", "codes plan"),
-    (
-        "audit",
-        "",
-        "audit plan --limit=@1 --spare=@2 --cert=cert --counter=script",
-    ),
-    (
-        "change",
-        "",
-        "change old new --limit=@1 --spare=@2 --cert=cert --mixture=plan --counter=script",
-    ),
-    ("order", "", "order old new --limit=@1 --spare=@2"),
-    (
-        "stage",
-        "",
-        "order old new --limit=@1 --spare=@2 --stage=@3 --plan=plan --cert=cert",
-    ),
-    (
-        "mend",
-        "",
-        "mend old --limit=@1 --spare=@2 --plan=plan --cert=cert",
-    ),
-    ("survive", "alone", "survive plan"),
-    (
-        "survive",
-        "named",
-        "survive plan --risks=risks --risks-only",
-    ),
-    ("survive", "from", "survive new --from=old"),
-    (
-        "survive",
-        "named-from",
-        "survive new --from=old --risks=risks --risks-only",
-    ),
-    (
-        "survive",
-        "risks-from",
-        "survive new --from=old --risks=risks",
-    ),
-    ("survive", "", "survive plan --risks=risks"),
-    ("page", "", "page @1 --limit=@2 --spare=@3 --all-codes"),
-    (
-        "page-risks",
-        "",
-        "page @1 --limit=@2 --spare=@3 --risks=risks --all-codes",
-    ),
-    (
-        "page-change",
-        "",
-        "page @1 --limit=@2 --spare=@3 --risks=risks --from=old",
-    ),
-    ("page-code", "", "page @1 --limit=@2 --spare=1 --code=@3"),
-    ("grade", "", "grade plan"),
-    ("trace", "changes", "trace plan --from=old"),
-    ("trace-from", "", "trace plan @1 @2 --from=old"),
-    ("trace", "through", "trace plan --through=@2 --down=@3"),
-    ("trace", "", "trace plan @1 @2 --down=@3"),
-    ("fill", "", "fill plan @1 @2 --down=@3"),
+/// The words of a command after the kind of its case and, where it matters, the word after the
+/// kind. `@1`, `@2` and `@3` stand for the words after the kind: where there is no such word, what
+/// has it is left out. All that a command can print and make is asked for.
+static COMMANDS: [&str; 31] = [
+    "pipe:",
+    "run: run plan script",
+    "checked: run plan script --cert=cert --limit=@1 --spare=@2",
+    "telling summary: run plan script --strict --summary",
+    "telling both: run plan script --strict --echo --summary",
+    "telling: run plan script --strict --echo",
+    "check: check plan cert --limit=@1 --spare=@2",
+    "lint risks: lint @2 --risks=risks",
+    "lint: lint @1",
+    "codes: codes plan",
+    "audit: audit plan --limit=@1 --spare=@2 --cert=cert --counter=script",
+    "change: change old new --limit=@1 --spare=@2 --cert=cert --mixture=plan --counter=script",
+    "order: order old new --limit=@1 --spare=@2",
+    "stage: order old new --limit=@1 --spare=@2 --stage=@3 --plan=plan --cert=cert",
+    "mend: mend old --limit=@1 --spare=@2 --plan=plan --cert=cert",
+    "survive alone: survive plan",
+    "survive named: survive plan --risks=risks --risks-only",
+    "survive from: survive new --from=old",
+    "survive named-from: survive new --from=old --risks=risks --risks-only",
+    "survive risks-from: survive new --from=old --risks=risks",
+    "survive: survive plan --risks=risks",
+    "page: page @1 --limit=@2 --spare=@3 --all-codes",
+    "page-risks: page @1 --limit=@2 --spare=@3 --risks=risks --all-codes",
+    "page-change: page @1 --limit=@2 --spare=@3 --risks=risks --from=old",
+    "page-code: page @1 --limit=@2 --spare=1 --code=@3",
+    "grade: grade plan",
+    "trace changes: trace plan --from=old",
+    "trace-from: trace plan @1 @2 --from=old",
+    "trace through: trace plan --through=@2 --down=@3",
+    "trace: trace plan @1 @2 --down=@3",
+    "fill: fill plan @1 @2 --down=@3",
 ];
 
 /// The words of the command of a kind, if it is that of a command.
 fn words_of(kind: &[u8], first: &[u8]) -> Option<&'static str> {
-    for (name, second, words) in &COMMANDS {
+    for row in &COMMANDS {
+        let (head, words) = row.split_once(':').unwrap_or((*row, ""));
+        let (name, second) = head.split_once(' ').unwrap_or((head, ""));
         if kind == name.as_bytes() && (second.is_empty() || first == second.as_bytes()) {
-            return Some(*words);
+            return Some(words);
         }
     }
     None
@@ -139,9 +99,7 @@ pub struct Task<'a> {
     /// The kind of its case.
     pub kind: &'a [u8],
     pub command: &'a Command,
-    pub first: &'a [u8],
-    pub second: &'a [u8],
-    pub third: &'a [u8],
+    pub texts: [&'a [u8]; 3],
 }
 
 impl<'a> Task<'a> {
@@ -157,9 +115,7 @@ impl<'a> Task<'a> {
         Task {
             kind,
             command,
-            first,
-            second,
-            third,
+            texts: [first, second, third],
         }
     }
 
@@ -169,36 +125,22 @@ impl<'a> Task<'a> {
         reads.iter().filter(|file| file.is_some()).count()
     }
 
+    /// The index of its last text.
+    fn last_index(&self) -> usize
+        ensures { result < 3 }
+    {
+        self.sources().saturating_sub(1).min(2)
+    }
+
     /// Its last text.
     pub fn last(&self) -> &'a [u8] {
-        match self.sources() {
-            1 => self.first,
-            2 => self.second,
-            _ => self.third,
-        }
+        self.texts[self.last_index()]
     }
 
     /// The task with another last text.
     pub fn with_last(self, text: &'a [u8]) -> Task<'a> {
-        let sources = self.sources();
-        let Task {
-            kind,
-            command,
-            mut first,
-            mut second,
-            mut third,
-        } = self;
-        match sources {
-            1 => first = text,
-            2 => second = text,
-            _ => third = text,
-        }
-        Task {
-            kind,
-            command,
-            first,
-            second,
-            third,
-        }
+        let mut task = self;
+        task.texts[self.last_index()] = text;
+        task
     }
 }

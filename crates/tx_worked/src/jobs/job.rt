@@ -1,38 +1,75 @@
-// A command over texts, and what it does.
-use crate::cases::{End, Ends, ROOM, Refusing, Task, Told, tell, tell_broken};
+// A job or a run over texts, and what it does.
+use crate::cases::{Ends, Refusing, Task};
+use crate::runs::{Script, is_in_event, run_text, told_cause};
 use std::alloc::{Allocator, Global};
 use tx_files::{CommandFault, Ending, write_content};
 use tx_jobs::JobFault;
 use tx_requests::do_command;
-use tx_text::{MemorySink, WriteFault};
+use tx_script::{RunFault, Summary};
+use tx_text::{MemorySink, NoMemory, WriteFault};
 
-/// What a whole job does, beside which others are judged: its exit status or its fault, and what it
-/// writes.
+/// What is done: a command over its texts, or a script over a network.
 #[derive(Clone, Copy)]
-pub(crate) struct Whole<'a> {
-    pub answer: Result<u8, CommandFault>,
-    pub text: &'a [u8],
+pub(crate) enum Work<'a> {
+    Job(Task<'a>),
+    Run(Script<'a>),
 }
 
-/// What a job did: its exit status or its fault, how many bytes it wrote, whether these are a front
-/// of what the whole job writes, and whether the request for memory came that was to be refused.
+/// How it ends: a job with its exit status or its fault, and a run with what it counted or where it
+/// stopped.
+#[derive(Clone, Copy, PartialEq, Eq)]
+pub(crate) enum End {
+    Job(Result<u8, CommandFault>),
+    Run(Result<Summary, RunFault>),
+}
+
+/// What a whole work does, beside which others are judged: how it ends, and what it writes.
+#[derive(Drop)]
+pub(crate) struct Whole {
+    pub end: End,
+    written: MemorySink,
+}
+
+impl Whole {
+    pub(crate) fn of(alloc: Global, work: Work<'_>, ends: Ends) -> Result<Whole, NoMemory> {
+        let mut written = MemorySink::new(alloc, ends.room)?;
+        let end = do_in_room(alloc, work, ends, b"", &mut written).end;
+        Ok(Whole { end, written })
+    }
+
+    pub(crate) fn text(&self) -> &[u8] {
+        self.written.taken()
+    }
+}
+
+/// What a work did: how it ended, how many bytes it wrote, whether these are a front of what the
+/// whole work writes, and whether the request for memory came that was to be refused.
 #[derive(Clone, Copy)]
 pub(crate) struct Did {
-    pub answer: Result<u8, CommandFault>,
+    pub end: End,
     pub written: usize,
     pub is_front: bool,
     pub came: bool,
 }
 
 impl Did {
-    /// Whether it did all that the whole job does.
-    pub(crate) fn is_as(&self, whole: &Whole<'_>) -> bool {
-        self.is_front && self.written == whole.text.len() && self.answer == whole.answer
+    /// Whether it did all that the whole work does.
+    pub(crate) fn is_as(&self, whole: &Whole) -> bool {
+        self.is_front && self.written == whole.text().len() && self.end == whole.end
     }
 
-    /// Whether it stopped with a fault, and wrote a front of what the whole job writes.
-    pub(crate) fn stopped(&self, fault: JobFault) -> bool {
-        self.is_front && self.answer == Err(CommandFault::Job(fault))
+    /// Whether it stopped with a fault, and wrote a front of what the whole work writes: that of a
+    /// run ends in the event that it tells.
+    pub(crate) fn stopped(&self, fault: JobFault, whole: &Whole) -> bool {
+        let is_told = match self.end {
+            End::Job(end) => end == Err(CommandFault::Job(fault)),
+            End::Run(Ok(_)) => false,
+            End::Run(Err(end)) => {
+                let is_in = is_in_event(end.event, fault, whole.text(), self.written);
+                told_cause(end.cause) == fault && is_in
+            }
+        };
+        self.is_front && is_told
     }
 }
 
@@ -59,17 +96,11 @@ fn do_task<A: Allocator + Copy>(
     ends: Ends,
     out: &mut MemorySink,
 ) -> Result<u8, CommandFault> {
-    let mut first = ends.source(End::First, task.first);
-    let mut second = ends.source(End::Second, task.second);
-    let mut third = ends.source(End::Third, task.third);
-    let ending = do_command(
-        alloc,
-        task.command,
-        &mut first,
-        &mut second,
-        &mut third,
-        out,
-    )?;
+    let mut first = ends.source(0, task.texts[0]);
+    let mut second = ends.source(1, task.texts[1]);
+    let mut third = ends.source(2, task.texts[2]);
+    let command = task.command;
+    let ending = do_command(alloc, command, &mut first, &mut second, &mut third, out)?;
     let written = write_contents(&ending, out);
     let status = ending.status;
     drop(ending);
@@ -77,45 +108,37 @@ fn do_task<A: Allocator + Copy>(
     Ok(status)
 }
 
-/// Does a task into a room, and returns what it did beside what is to be written. The allocator is
-/// the same for each task, so that each job is built once.
-pub(crate) fn do_in_room(
+/// Does a work into a room, and returns what it did beside what is to be written. The allocator is
+/// the same for each work, so that each job is built once.
+fn do_in_room(
     alloc: Global,
-    task: Task<'_>,
+    work: Work<'_>,
     ends: Ends,
     whole: &[u8],
     room: &mut MemorySink,
 ) -> Did {
     let memory = Refusing::new(alloc, ends.refused);
-    let answer = do_task(&memory, task, ends, room);
+    let end = match work {
+        Work::Job(task) => End::Job(do_task(&memory, task, ends, room)),
+        Work::Run(text) => End::Run(run_text(&memory, text, ends, room)),
+    };
     Did {
-        answer,
+        end,
         written: room.taken().len(),
         is_front: whole.starts_with(room.taken()),
         came: memory.has_refused(),
     }
 }
 
-/// What a task does, beside what is to be written.
-pub(crate) fn done(alloc: Global, task: Task<'_>, ends: Ends, whole: &[u8]) -> Did {
+/// What a work does, beside what is to be written.
+pub(crate) fn done(alloc: Global, work: Work<'_>, ends: Ends, whole: &[u8]) -> Did {
     match MemorySink::new(alloc, ends.room) {
-        Ok(mut room) => do_in_room(alloc, task, ends, whole, &mut room),
+        Ok(mut room) => do_in_room(alloc, work, ends, whole, &mut room),
         Err(_) => Did {
-            answer: Err(CommandFault::Job(JobFault::NoMemory)),
+            end: End::Job(Err(CommandFault::Job(JobFault::NoMemory))),
             written: 0,
             is_front: false,
             came: false,
         },
-    }
-}
-
-/// Does a task, and tells what it writes.
-pub(crate) fn tell_task(alloc: Global, task: Task<'_>, piece: usize, out: &mut Told) {
-    match MemorySink::new(alloc, ROOM) {
-        Ok(mut room) => {
-            let _ = do_in_room(alloc, task, Ends::pieces(piece), b"", &mut room);
-            tell(room.taken(), out);
-        }
-        Err(_) => tell_broken(b"no memory", 0, out),
     }
 }

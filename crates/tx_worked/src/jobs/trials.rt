@@ -1,29 +1,40 @@
-// The laws of a job: however its sources cut the text, wherever an end fails, and whichever request
-// for memory is refused.
-use crate::cases::{End, Ends, Task, Told, tell_broken, tell_count, tell_parts};
-use crate::jobs::job::{Whole, done, tell_task};
+// The laws of a job and of a run: however its sources cut the text, wherever an end fails, and
+// whichever request for memory is refused.
+use crate::cases::{Ends, Task, Told, tell, tell_broken, tell_count, tell_parts};
+use crate::jobs::job::{Did, End, Whole, Work, done};
+use crate::runs::may_want;
 use std::alloc::Global;
 use tx_jobs::JobFault;
-/// More than any case has of anything.
-const MANY: u64 = 1_000_000;
 
-/// Plays a task by sources of 1, 2, 7 and 4,096 bytes a call, which has to make no difference.
-pub(crate) fn try_pieces(alloc: Global, task: Task<'_>, whole: &Whole<'_>, out: &mut Told) {
+/// More than any case has of anything.
+pub(crate) const MANY: u64 = 1_000_000;
+
+/// Plays a job by sources of 1, 2, 7 and 4,096 bytes a call, which has to make no difference.
+pub(crate) fn try_pieces(alloc: Global, task: Task<'_>, whole: &Whole, out: &mut Told) {
     for piece in [1usize, 2, 7, 4096] {
-        if !done(alloc, task, Ends::pieces(piece), whole.text).is_as(whole) {
+        let ends = Ends::pieces(piece);
+        if !done(alloc, Work::Job(task), ends, whole.text()).is_as(whole) {
             tell_broken(b"not the same in pieces of", piece as u64, out);
-            tell_task(alloc, task, piece, out);
+            if let Ok(other) = Whole::of(alloc, Work::Job(task), ends) {
+                tell(other.text(), out);
+            }
         }
     }
 }
 
-/// How many calls of a source a task makes, at one byte a call. Each of them, where it fails, has
+/// How many calls of a source a work makes, at one byte a call. Each of them, where it fails, has
 /// to make it a read fault.
-fn reads(alloc: Global, task: Task<'_>, end: End, whole: &Whole<'_>, out: &mut Told) -> u64 {
+pub(crate) fn reads(
+    alloc: Global,
+    work: Work<'_>,
+    index: usize,
+    whole: &Whole,
+    out: &mut Told,
+) -> u64 {
     for made in 0..MANY {
-        let ends = Ends::failing(end, made.saturating_add(1));
-        let did = done(alloc, task, ends, whole.text);
-        if !did.stopped(JobFault::Read) {
+        let ends = Ends::failing(index, made.saturating_add(1));
+        let did = done(alloc, work, ends, whole.text());
+        if !did.stopped(JobFault::Read, whole) {
             if !did.is_as(whole) {
                 tell_broken(b"calls of a source before it fails:", made, out);
             }
@@ -33,17 +44,14 @@ fn reads(alloc: Global, task: Task<'_>, end: End, whole: &Whole<'_>, out: &mut T
     MANY
 }
 
-/// Gives a task each room, up to one for all: where it is too small, the task has to stop with a
+/// Gives a work each room, up to one for all: where it is too small, the work has to stop with a
 /// write fault after so many bytes.
-fn try_rooms(alloc: Global, task: Task<'_>, whole: &Whole<'_>, out: &mut Told) {
-    for room in 0..=whole.text.len() {
-        let ends = Ends {
-            room,
-            ..Ends::pieces(4096)
-        };
-        let did = done(alloc, task, ends, whole.text);
-        let keeps = if room < whole.text.len() {
-            did.stopped(JobFault::Write) && did.written == room
+pub(crate) fn try_rooms(alloc: Global, work: Work<'_>, whole: &Whole, out: &mut Told) {
+    let all = whole.text().len();
+    for room in 0..=all {
+        let did = done(alloc, work, Ends::with_room(room), whole.text());
+        let keeps = if room < all {
+            did.stopped(JobFault::Write, whole) && did.written == room
         } else {
             did.is_as(whole)
         };
@@ -54,17 +62,13 @@ fn try_rooms(alloc: Global, task: Task<'_>, whole: &Whole<'_>, out: &mut Told) {
     }
 }
 
-/// Refuses each request for memory in turn, which has to make the task run out of memory, until
-/// none is refused.
-pub(crate) fn try_refusals(alloc: Global, task: Task<'_>, whole: &Whole<'_>, out: &mut Told) {
+/// Refuses each request for memory in turn, which has to make the work run out of memory, where it
+/// may, until none is refused.
+pub(crate) fn try_refusals(alloc: Global, work: Work<'_>, whole: &Whole, out: &mut Told) {
     for refused in 1..MANY {
-        let ends = Ends {
-            refused,
-            ..Ends::pieces(4096)
-        };
-        let did = done(alloc, task, ends, whole.text);
+        let did = done(alloc, work, Ends::refusing(refused), whole.text());
         let keeps = if did.came {
-            did.stopped(JobFault::NoMemory)
+            did.stopped(JobFault::NoMemory, whole) && wants(work, &did)
         } else {
             did.is_as(whole) && refused > 1
         };
@@ -77,26 +81,32 @@ pub(crate) fn try_refusals(alloc: Global, task: Task<'_>, whole: &Whole<'_>, out
     }
 }
 
+/// Whether a work may run out of memory where it did.
+fn wants(work: Work<'_>, did: &Did) -> bool {
+    match (work, did.end) {
+        (Work::Run(text), End::Run(Err(fault))) => may_want(fault, text.script),
+        _ => true,
+    }
+}
+
 /// Gives each room, and makes each call of each source fail. Tells a task's status, how many calls
 /// of its sources it makes and how many bytes it writes.
-pub(crate) fn try_ends(alloc: Global, task: Task<'_>, whole: &Whole<'_>, out: &mut Told) {
-    try_rooms(alloc, task, whole, out);
-    let status = match &whole.answer {
-        Ok(status) => *status,
-        Err(fault) => fault.status(),
-    };
+pub(crate) fn try_ends(alloc: Global, task: Task<'_>, whole: &Whole, out: &mut Told) {
+    try_rooms(alloc, Work::Job(task), whole, out);
     tell_parts(&[b"-- ", task.kind], out);
-    tell_count(b": status ", u64::from(status), b"", out);
-    let first = reads(alloc, task, End::First, whole, out);
-    tell_count(b", ", first, b"", out);
-    if task.sources() > 1 {
-        let second = reads(alloc, task, End::Second, whole, out);
-        tell_count(b" and ", second, b"", out);
+    if let End::Job(end) = whole.end {
+        let status = end.unwrap_or_else(|fault| fault.status());
+        tell_count(b": status ", u64::from(status), b"", out);
     }
-    if task.sources() > 2 {
-        let third = reads(alloc, task, End::Third, whole, out);
-        tell_count(b" and ", third, b"", out);
+    for index in 0..task.sources() {
+        let count = reads(alloc, Work::Job(task), index, whole, out);
+        let before = if index == 0 {
+            b", ".as_slice()
+        } else {
+            b" and "
+        };
+        tell_count(before, count, b"", out);
     }
-    let bytes = whole.text.len() as u64;
+    let bytes = whole.text().len() as u64;
     tell_count(b" reads, ", bytes, b" bytes\n", out);
 }

@@ -1,6 +1,6 @@
 // What a line book answers.
 use crate::cases::{
-    Told, named, next_line, next_number, next_word, tell, tell_broken, tell_count, tell_parts,
+    Told, next_line, next_number, next_word, tell, tell_broken, tell_count, tell_parts, without_lf,
 };
 use itoa::Buffer;
 use std::alloc::Global;
@@ -8,35 +8,19 @@ use tx_lines::{LineAnswer, LineBook};
 use tx_plan::{CodeId, Line};
 use tx_text::words;
 
-/// A mark of a line.
-#[derive(Clone, Copy)]
-enum Mark {
-    Faulty,
-    Away,
-    Engaged,
-}
-
-/// What happens to a line: it gets a mark, or loses it.
-static HAPPENS: [(&str, (Mark, bool)); 6] = [
-    ("fault", (Mark::Faulty, true)),
-    ("repair", (Mark::Faulty, false)),
-    ("away", (Mark::Away, true)),
-    ("back", (Mark::Away, false)),
-    ("engage", (Mark::Engaged, true)),
-    ("free", (Mark::Engaged, false)),
-];
-
-/// Gives a line a mark, or takes it. Only a new mark takes room: returns whether there was room for
-/// it.
-fn set_mark(book: &mut LineBook, line: &Line, mark: Mark, to: bool) -> bool {
-    if to && book.reserve_one().is_err() {
+/// Does to a line what a word says. Only a new mark takes room: returns whether there was room.
+fn happen(book: &mut LineBook, line: &Line, what: &[u8]) -> bool {
+    if book.reserve_one().is_err() {
         return false;
     }
-    match mark {
-        Mark::Faulty => book.set_fault(line, to),
-        Mark::Away => book.set_away(line, to),
-        Mark::Engaged if to => book.engage(line),
-        Mark::Engaged => book.free(line),
+    match what {
+        b"fault" => book.set_fault(line, true),
+        b"repair" => book.set_fault(line, false),
+        b"away" => book.set_away(line, true),
+        b"back" => book.set_away(line, false),
+        b"engage" => book.engage(line),
+        b"free" => book.free(line),
+        _ => {}
     }
     true
 }
@@ -71,38 +55,16 @@ fn tell_answer(book: &LineBook, code: CodeId, number: &[u8], out: &mut Told) {
     tell(text, out);
 }
 
-/// What a line of a case says: the index of a code, a number, and what happens to the line first,
-/// if anything does.
-#[derive(Clone, Copy)]
-struct Asked<'a> {
-    code: CodeId,
-    number: &'a [u8],
-    happens: Option<(Mark, bool)>,
-}
-
-fn read_asked(line: &[u8]) -> Asked<'_> {
-    let mut rest = words(line);
-    let code = next_number(&mut rest, 65_535).min(65_535) as u16;
-    Asked {
-        code: CodeId::of(usize::from(code)),
-        number: next_word(&mut rest),
-        happens: named(&HAPPENS, next_word(&mut rest)),
-    }
-}
-
-/// Writes what is found, after what happens to the line, and what is answered.
+/// Writes what is found for a line of a case, which says the index of a code, a number, and what
+/// happens to the line first, if anything does, and then what is answered.
 fn play_line(book: &mut LineBook, line: &[u8], out: &mut Told) {
-    let Asked {
-        code,
-        number,
-        happens,
-    } = read_asked(line);
+    let mut rest = words(line);
+    let code = CodeId::of(next_number(&mut rest, 65_535).min(65_535) as usize);
+    let number = next_word(&mut rest);
     match book.find(code, number) {
         Some(line) => {
-            if let Some((to_have, to)) = happens {
-                if !set_mark(book, &line, to_have, to) {
-                    tell_broken(b"no memory", 0, out);
-                }
+            if !happen(book, &line, next_word(&mut rest)) {
+                tell_broken(b"no memory", 0, out);
             }
             tell_marks(book, &line, out);
         }
@@ -113,14 +75,10 @@ fn play_line(book: &mut LineBook, line: &[u8], out: &mut Told) {
 
 /// Writes what is found for each line of a case.
 pub(crate) fn play_book(book: &mut LineBook, lines: &[u8], out: &mut Told) {
-    let mut rest = lines;
-    for _ in 0..lines.len() {
-        let Some((line, after)) = next_line(rest) else {
-            break;
-        };
+    for line in lines.split_inclusive(|byte| *byte == b'\n') {
+        let line = without_lf(line);
         tell(line, out);
         play_line(book, line, out);
-        rest = after;
     }
 }
 
@@ -133,7 +91,7 @@ fn line_of(book: &LineBook, number: u32) -> Option<Line> {
 /// Marks the line of a number away. Returns whether there is such a line, and room for its mark.
 fn mark_away(book: &mut LineBook, number: u32) -> bool {
     match line_of(book, number) {
-        Some(line) => set_mark(book, &line, Mark::Away, true),
+        Some(line) => happen(book, &line, b"away"),
         None => false,
     }
 }

@@ -3,7 +3,9 @@
 pub(crate) mod calls;
 mod model;
 
-use crate::cases::{Told, named, next_line, next_number, next_word, tell, tell_broken, tell_count};
+use crate::cases::{
+    Told, named, next_number, next_word, tell, tell_broken, tell_count, without_lf,
+};
 use calls::{ALFA, BETA, Call, ENDS, WHATS, apply, call_of, next};
 use model::Model;
 use std::alloc::Global;
@@ -56,17 +58,13 @@ pub(crate) fn tell_circuits(table: &mut CircuitTable, lines: &[u8], out: &mut To
         tell(b", no marks", out);
     }
     tell_next(table, out);
-    let mut rest = lines;
-    for _ in 0..lines.len() {
-        let Some((line, after)) = next_line(rest) else {
-            break;
-        };
+    for line in lines.split_inclusive(|byte| *byte == b'\n') {
+        let line = without_lf(line);
         tell(line, out);
         if !apply_line(table, line) {
             tell(b", not made", out);
         }
         tell_next(table, out);
-        rest = after;
     }
 }
 

@@ -9,24 +9,6 @@ use tx_plantext::{PlanFault, PlanWord, read_plan};
 use tx_text::{FaultKind, FrameFault, LineFeeder, MemorySink, Sink, TextFault, write_bytes};
 use tx_trie::CodeTrie;
 
-/// What is made: the last three of them over a plan.
-#[derive(Clone, Copy)]
-pub(crate) enum Made {
-    Feeder,
-    Sink,
-    Trie,
-    Book,
-    Table,
-}
-
-pub(crate) static MADE: [(&str, Made); 5] = [
-    ("feeder", Made::Feeder),
-    ("sink", Made::Sink),
-    ("trie", Made::Trie),
-    ("book", Made::Book),
-    ("table", Made::Table),
-];
-
 /// What came of it.
 #[derive(Clone, Copy)]
 enum Came {
@@ -123,13 +105,14 @@ fn make_book<A: Allocator + Copy>(alloc: A, plan: &Plan<A>) -> Came {
 }
 
 /// Makes what is to be made: where it has a plan, over this one.
-fn make_over<A: Allocator + Copy>(alloc: A, made: Made, plan: &Plan<A>) -> Came {
+fn make_over<A: Allocator + Copy>(alloc: A, made: &[u8], plan: &Plan<A>) -> Came {
     match made {
-        Made::Feeder => make_feeder(alloc),
-        Made::Sink => make_sink(alloc),
-        Made::Trie => make_trie(alloc, plan),
-        Made::Book => make_book(alloc, plan),
-        Made::Table => make_table(alloc, plan),
+        b"feeder" => make_feeder(alloc),
+        b"sink" => make_sink(alloc),
+        b"trie" => make_trie(alloc, plan),
+        b"book" => make_book(alloc, plan),
+        b"table" => make_table(alloc, plan),
+        _ => Came::Wrong,
     }
 }
 
@@ -143,7 +126,7 @@ fn came_of(fault: PlanFault) -> Came {
 }
 
 /// Reads the plan, and makes what is to be made.
-fn make<A: Allocator + Copy>(alloc: A, made: Made, plan: &[u8]) -> Came {
+fn make<A: Allocator + Copy>(alloc: A, made: &[u8], plan: &[u8]) -> Came {
     match read_plan(alloc, plan) {
         Ok(plan) => make_over(alloc, made, &plan),
         Err(fault) => came_of(fault),
@@ -152,10 +135,7 @@ fn make<A: Allocator + Copy>(alloc: A, made: Made, plan: &[u8]) -> Came {
 
 /// Refuses each request for memory in turn, until none is refused, and writes how many are not the
 /// plan's.
-pub(crate) fn play_growths(alloc: Global, made: Option<Made>, plan: &[u8], out: &mut Told) {
-    let Some(made) = made else {
-        return tell_broken(b"no such type", 0, out);
-    };
+pub(crate) fn play_growths(alloc: Global, made: &[u8], plan: &[u8], out: &mut Told) {
     let mut wanting = 0u64;
     for request in 1..1000u64 {
         let refusing = Refusing::new(alloc, request);

@@ -10,18 +10,6 @@ use tx_plan::Plan;
 use tx_plantext::read_plan;
 use tx_trie::CodeTrie;
 
-/// What is made over a plan, and called.
-#[derive(Clone, Copy)]
-pub(crate) enum PlanCall {
-    Trie,
-    Book,
-    /// A book of lines, of which many are marked.
-    ManyLines,
-    Circuits,
-    /// Circuits, beside a plain model of them.
-    Sequences,
-}
-
 /// Makes a trie, and writes what it reads.
 fn over_trie(alloc: Global, plan: &Plan, lines: &[u8], out: &mut Told) {
     match CodeTrie::build(alloc, plan) {
@@ -53,15 +41,15 @@ fn over_table(alloc: Global, plan: &Plan, calls: &[u8], out: &mut Told) {
 }
 
 /// Reads a plan, and plays a kind that has one.
-pub(crate) fn with_plan(alloc: Global, call: PlanCall, plan: &[u8], calls: &[u8], out: &mut Told) {
+pub(crate) fn with_plan(alloc: Global, kind: &[u8], plan: &[u8], calls: &[u8], out: &mut Told) {
     match read_plan(alloc, plan) {
         Ok(plan) => {
-            match call {
-                PlanCall::Trie => over_trie(alloc, &plan, calls, out),
-                PlanCall::Book => over_book(alloc, &plan, false, calls, out),
-                PlanCall::ManyLines => over_book(alloc, &plan, true, calls, out),
-                PlanCall::Circuits => over_table(alloc, &plan, calls, out),
-                PlanCall::Sequences => try_sequences(alloc, &plan, out),
+            match kind {
+                b"trie" => over_trie(alloc, &plan, calls, out),
+                b"book" => over_book(alloc, &plan, false, calls, out),
+                b"many-lines" => over_book(alloc, &plan, true, calls, out),
+                b"circuits" => over_table(alloc, &plan, calls, out),
+                _ => try_sequences(alloc, &plan, out),
             }
         }
         Err(fault) => tell_broken(b"no plan, line", fault.line, out),

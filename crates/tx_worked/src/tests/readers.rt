@@ -50,83 +50,55 @@ fn tell_sizes(plan: &Plan, out: &mut Told) {
     tell(b"entries\n", out);
 }
 
-const ALFA: usize = 0;
-
-const BETA: usize = 1;
-
-fn has_indexes(plan: &Plan) -> bool {
-    plan.exchange_at(1) == Some(ExchangeId::of(BETA))
-        && plan.code_at(1) == Some(CodeId::of(1))
-        && plan.group_at(0) == Some(GroupId::of(0))
-        && plan.route_at(0) == Some((ExchangeId::of(ALFA), CodeId::of(1)))
-        && plan.bar_at(0) == Some((ExchangeId::of(BETA), CodeId::of(0)))
+/// Whether the readers of the small plan give the indexes and the names of what was declared.
+fn are_names_right(plan: &Plan) -> [bool; 5] {
+    let (alfa, beta, group) = (ExchangeId::of(0), ExchangeId::of(1), GroupId::of(0));
+    let (home, code) = (CodeId::of(0), CodeId::of(1));
+    let high = plan
+        .range_at(0)
+        .map(|range| range.high.bytes() == b"099".as_slice());
+    let line = plan
+        .line_at(home, b"007")
+        .map(|line| line.national.bytes() == b"007".as_slice());
+    [
+        plan.exchange_at(1) == Some(beta)
+            && plan.code_at(1) == Some(code)
+            && plan.group_at(0) == Some(group)
+            && plan.route_at(0) == Some((alfa, code))
+            && plan.bar_at(0) == Some((beta, home)),
+        high == Some(true),
+        plan.exchange_named(b"BETA") == Some(beta)
+            && plan.code_named(b"51") == Some(code)
+            && plan.group_named(b"G1") == Some(group),
+        plan.exchange_name(beta) == b"BETA".as_slice()
+            && plan.code_figures(code) == b"51".as_slice()
+            && plan.group_name(group) == b"G1".as_slice(),
+        line == Some(true),
+    ]
 }
 
-fn has_range(plan: &Plan) -> bool {
-    match plan.range_at(0) {
-        Some(range) => range.high.bytes() == b"099".as_slice(),
-        None => false,
-    }
+/// Whether they give its routes and its groups.
+fn are_routes_right(plan: &Plan) -> [bool; 2] {
+    let (alfa, beta, group) = (ExchangeId::of(0), ExchangeId::of(1), GroupId::of(0));
+    let (home, code) = (CodeId::of(0), CodeId::of(1));
+    [
+        plan.home(code) == beta
+            && plan.list(alfa, code) == [group].as_slice()
+            && plan.is_barred(beta, home)
+            && plan.is_origin(alfa)
+            && plan.is_origin_for(alfa, code),
+        plan.direction(group) == Direction::BothWay
+            && plan.group_count(group) == 2
+            && plan.ends(group) == (alfa, beta)
+            && plan.other_end(group, alfa) == Some(beta)
+            && plan.may_seize(group, beta),
+    ]
 }
 
-fn has_line(plan: &Plan) -> bool {
-    match plan.line_at(CodeId::of(0), b"007") {
-        Some(line) => line.national.bytes() == b"007".as_slice(),
-        None => false,
-    }
-}
-
-fn has_names(plan: &Plan) -> bool {
-    plan.exchange_named(b"BETA") == Some(ExchangeId::of(BETA))
-        && plan.code_named(b"51") == Some(CodeId::of(1))
-        && plan.group_named(b"G1") == Some(GroupId::of(0))
-}
-
-fn gives_names(plan: &Plan) -> bool {
-    plan.exchange_name(ExchangeId::of(BETA)) == b"BETA".as_slice()
-        && plan.code_figures(CodeId::of(1)) == b"51".as_slice()
-        && plan.group_name(GroupId::of(0)) == b"G1".as_slice()
-}
-
-fn has_routes(plan: &Plan) -> bool {
-    let (alfa, beta) = (ExchangeId::of(ALFA), ExchangeId::of(BETA));
-    plan.home(CodeId::of(1)) == beta
-        && plan.list(alfa, CodeId::of(1)) == [GroupId::of(0)].as_slice()
-        && plan.is_barred(beta, CodeId::of(0))
-        && plan.is_origin(alfa)
-        && plan.is_origin_for(alfa, CodeId::of(1))
-}
-
-fn has_groups(plan: &Plan) -> bool {
-    let (alfa, beta) = (ExchangeId::of(ALFA), ExchangeId::of(BETA));
-    let group = GroupId::of(0);
-    plan.direction(group) == Direction::BothWay
-        && plan.group_count(group) == 2
-        && plan.ends(group) == (alfa, beta)
-        && plan.other_end(group, alfa) == Some(beta)
-        && plan.may_seize(group, beta)
-}
-
-/// Writes what the readers of the small plan answer.
-fn tell_readers(plan: &Plan, out: &mut Told) {
-    let answers = [
-        has_indexes(plan),
-        has_range(plan),
-        has_names(plan),
-        gives_names(plan),
-        has_line(plan),
-        has_routes(plan),
-        has_groups(plan),
-    ];
-    for answer in &answers {
-        tell(
-            if *answer {
-                b"right ".as_slice()
-            } else {
-                b"WRONG "
-            },
-            out,
-        );
+/// Writes a word for each mark: one where it is set, else the other.
+fn tell_marks(marks: &[bool], set: &[u8], other: &[u8], out: &mut Told) {
+    for mark in marks {
+        tell(if *mark { set } else { other }, out);
     }
 }
 
@@ -148,13 +120,8 @@ fn fill(plan: &mut PlanBuilder) {
         let _ = plan.exchange(&name_of(b'E', number));
         let _ = plan.code(&figures[2..], b"BETA");
         let _ = plan.code(&figures[3..], b"BETA");
-        let _ = plan.group(
-            &name_of(b'G', number),
-            b"BETA",
-            b"ALFA",
-            Direction::OneWay,
-            1,
-        );
+        let name = name_of(b'G', number);
+        let _ = plan.group(&name, b"BETA", b"ALFA", Direction::OneWay, 1);
         let _ = plan.lines(b"41", &figures, &figures);
     }
 }
@@ -168,7 +135,8 @@ pub(crate) fn tell_plan(alloc: Global, full: bool, out: &mut Told) {
     }
     let plan = builder.finish();
     if !full {
-        tell_readers(&plan, out);
+        tell_marks(&are_names_right(&plan), b"right ", b"WRONG ", out);
+        tell_marks(&are_routes_right(&plan), b"right ", b"WRONG ", out);
     }
     tell_sizes(&plan, out);
 }
@@ -194,15 +162,6 @@ pub(crate) fn tell_growths(alloc: Global, out: &mut Told) {
             break;
         }
     }
-    for mark in &wanting {
-        tell(
-            if *mark {
-                b"takes ".as_slice()
-            } else {
-                b"none "
-            },
-            out,
-        );
-    }
+    tell_marks(&wanting, b"takes ", b"none ", out);
     tell(b"memory\n", out);
 }

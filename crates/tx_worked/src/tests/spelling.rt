@@ -1,21 +1,14 @@
 // What lines are read as: words, names, figures and numbers.
-use crate::cases::{Told, count_words, next_line, tell, tell_count, tell_parts};
+use crate::cases::{Head, Told, tell, tell_count, tell_parts, without_lf};
 use tx_text::{Figures, Name, Words, are_figures, is_name, number, words};
-
-/// What a line is read as.
-#[derive(Clone, Copy)]
-pub(crate) enum Spelling {
-    Words,
-    Name,
-    /// Figures, of which there are at least and at most as many as two numbers say.
-    Figures,
-    /// A number up to the first one.
-    Number,
-}
 
 /// Tells words, and how many the same once more are.
 pub(crate) fn tell_words(words: &Words<'_>, out: &mut Told) {
-    tell_count(b"", count_words(words), b" words:", out);
+    let mut count = 0u64;
+    for _word in words.again() {
+        count = count.saturating_add(1);
+    }
+    tell_count(b"", count, b" words:", out);
     for word in words.again() {
         tell_parts(&[b" [", word, b"]"], out);
     }
@@ -36,22 +29,24 @@ fn tell_read(read: Option<&[u8]>, is_one: bool, out: &mut Told) {
     tell(end, out);
 }
 
-/// Writes what a line is.
-fn tell_line(spelling: Spelling, first: u32, second: u32, line: &[u8], out: &mut Told) {
-    match spelling {
-        Spelling::Words => tell_words(&words(line), out),
-        Spelling::Name => match Name::read(line) {
+/// Writes what a line is read as by the kind of the case: figures, of which there are at least and
+/// at most as many as its two numbers say, or a number up to the first one.
+fn tell_line(head: Head<'_>, line: &[u8], out: &mut Told) {
+    let (first, second) = head.numbers();
+    match head.word {
+        b"words" => tell_words(&words(line), out),
+        b"name" => match Name::read(line) {
             Some(name) => tell_read(Some(name.bytes()), is_name(line), out),
             None => tell_read(None, is_name(line), out),
         },
-        Spelling::Figures => {
+        b"figures" => {
             let is_one = are_figures(line, first as usize, second as usize);
             match Figures::read(line) {
                 Some(figures) => tell_read(Some(figures.bytes()), is_one, out),
                 None => tell_read(None, is_one, out),
             }
         }
-        Spelling::Number => match number(line, first) {
+        _ => match number(line, first) {
             Some(number) => tell_count(b"", u64::from(number), b"\n", out),
             None => tell(b"none\n", out),
         },
@@ -59,20 +54,10 @@ fn tell_line(spelling: Spelling, first: u32, second: u32, line: &[u8], out: &mut
 }
 
 /// Writes what each line of a text is.
-pub(crate) fn tell_spellings(
-    spelling: Spelling,
-    first: u32,
-    second: u32,
-    text: &[u8],
-    out: &mut Told,
-) {
-    let mut rest = text;
-    for _ in 0..text.len() {
-        let Some((line, after)) = next_line(rest) else {
-            break;
-        };
+pub(crate) fn tell_spellings(head: Head<'_>, text: &[u8], out: &mut Told) {
+    for line in text.split_inclusive(|byte| *byte == b'\n') {
+        let line = without_lf(line);
         tell_parts(&[b"[", line, b"]: "], out);
-        tell_line(spelling, first, second, line, out);
-        rest = after;
+        tell_line(head, line, out);
     }
 }

@@ -1,5 +1,5 @@
 // Codes that are read of figures.
-use crate::cases::{Told, next_line, tell, tell_parts};
+use crate::cases::{Told, tell, tell_parts, without_lf};
 use std::alloc::Global;
 use tx_plan::Plan;
 use tx_trie::CodeTrie;
@@ -14,16 +14,12 @@ pub(crate) fn tell_trie(plan: &Plan, trie: &CodeTrie, lines: &[u8], out: &mut To
         }
         None => tell(b"distinct\n", out),
     }
-    let mut rest = lines;
-    for _ in 0..lines.len() {
-        let Some((line, after)) = next_line(rest) else {
-            break;
-        };
+    for line in lines.split_inclusive(|byte| *byte == b'\n') {
+        let line = without_lf(line);
         let read = match trie.read(line) {
             Some(code) => plan.code_figures(code),
             None => b"none",
         };
         tell_parts(&[line, b": ", read, b"\n"], out);
-        rest = after;
     }
 }

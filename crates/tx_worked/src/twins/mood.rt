@@ -23,100 +23,41 @@ pub enum EventKind {
     Stray,
 }
 
-/// Calls go on as they come.
-static CALM: [(usize, EventKind); 13] = [
-    (20, EventKind::Key),
-    (60, EventKind::Route),
-    (85, EventKind::Confirm),
-    (95, EventKind::Clear),
-    (109, EventKind::Released),
-    (111, EventKind::Restore),
-    (113, EventKind::Unblock),
-    (115, EventKind::CircuitIn),
-    (116, EventKind::LineFault),
-    (118, EventKind::LineMend),
-    (119, EventKind::LineAway),
-    (121, EventKind::LineBack),
-    (124, EventKind::Stray),
+/// How often each kind comes in four moods: calls go on as they come; confirmations are late, so
+/// that calls meet head on; groups and circuits go in and out of use; many lines are out of order
+/// or away.
+static MOODS: [(EventKind, [usize; 4]); 16] = [
+    (EventKind::Key, [20, 24, 20, 16]),
+    (EventKind::Route, [40, 60, 36, 24]),
+    (EventKind::Confirm, [25, 9, 16, 8]),
+    (EventKind::Clear, [10, 4, 6, 6]),
+    (EventKind::Released, [14, 30, 12, 6]),
+    (EventKind::Fail, [0, 0, 4, 0]),
+    (EventKind::Restore, [2, 4, 5, 2]),
+    (EventKind::Block, [0, 0, 4, 0]),
+    (EventKind::Unblock, [2, 4, 5, 2]),
+    (EventKind::CircuitOut, [0, 1, 6, 0]),
+    (EventKind::CircuitIn, [2, 4, 6, 2]),
+    (EventKind::LineFault, [1, 1, 2, 12]),
+    (EventKind::LineMend, [2, 2, 2, 9]),
+    (EventKind::LineAway, [1, 1, 2, 12]),
+    (EventKind::LineBack, [2, 2, 2, 9]),
+    (EventKind::Stray, [3, 3, 4, 3]),
 ];
 
-/// Confirmations are late, so that calls meet head on.
-static SLOW: [(usize, EventKind); 14] = [
-    (24, EventKind::Key),
-    (84, EventKind::Route),
-    (93, EventKind::Confirm),
-    (97, EventKind::Clear),
-    (127, EventKind::Released),
-    (131, EventKind::Restore),
-    (135, EventKind::Unblock),
-    (136, EventKind::CircuitOut),
-    (140, EventKind::CircuitIn),
-    (141, EventKind::LineFault),
-    (143, EventKind::LineMend),
-    (144, EventKind::LineAway),
-    (146, EventKind::LineBack),
-    (149, EventKind::Stray),
-];
-
-/// Groups and circuits go in and out of use.
-static ROUGH: [(usize, EventKind); 16] = [
-    (20, EventKind::Key),
-    (56, EventKind::Route),
-    (72, EventKind::Confirm),
-    (78, EventKind::Clear),
-    (90, EventKind::Released),
-    (94, EventKind::Fail),
-    (99, EventKind::Restore),
-    (103, EventKind::Block),
-    (108, EventKind::Unblock),
-    (114, EventKind::CircuitOut),
-    (120, EventKind::CircuitIn),
-    (122, EventKind::LineFault),
-    (124, EventKind::LineMend),
-    (126, EventKind::LineAway),
-    (128, EventKind::LineBack),
-    (132, EventKind::Stray),
-];
-
-/// Many lines are out of order or away.
-static EMPTY: [(usize, EventKind); 13] = [
-    (16, EventKind::Key),
-    (40, EventKind::Route),
-    (48, EventKind::Confirm),
-    (54, EventKind::Clear),
-    (60, EventKind::Released),
-    (62, EventKind::Restore),
-    (64, EventKind::Unblock),
-    (66, EventKind::CircuitIn),
-    (78, EventKind::LineFault),
-    (87, EventKind::LineMend),
-    (99, EventKind::LineAway),
-    (108, EventKind::LineBack),
-    (111, EventKind::Stray),
-];
-
-/// A kind of a mood, by a number below the last of its table: the first kind whose number is
-/// greater.
-fn drawn(mood: &[(usize, EventKind)], chance: &mut Chance) -> EventKind {
-    let numbers = match mood.last() {
-        Some((numbers, _)) => *numbers,
-        None => 0,
-    };
-    let number = chance.below(numbers);
-    for (end, kind) in mood {
-        if number < *end {
+/// The kind of the next event in a mood. The four moods come again and again.
+pub fn next_kind(chance: &mut Chance, mood: u64) -> EventKind {
+    let mood = (mood % 4) as usize;
+    let mut all = 0usize;
+    for (_, shares) in &MOODS {
+        all = all.saturating_add(shares[mood]);
+    }
+    let mut number = chance.below(all);
+    for (kind, shares) in &MOODS {
+        if number < shares[mood] {
             return *kind;
         }
+        number = number.saturating_sub(shares[mood]);
     }
     EventKind::Stray
-}
-
-/// The kind of the next event in a mood. There are four moods, which come again and again.
-pub fn next_kind(chance: &mut Chance, mood: u64) -> EventKind {
-    match mood % 4 {
-        0 => drawn(&CALM, chance),
-        1 => drawn(&SLOW, chance),
-        2 => drawn(&ROUGH, chance),
-        _ => drawn(&EMPTY, chance),
-    }
 }

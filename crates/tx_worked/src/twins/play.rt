@@ -1,11 +1,9 @@
 // Plays the scripts of a plan.
-use crate::cases::{Head, Stop, Told};
-use crate::twins::networks::{play_refusing_each, play_script};
+use crate::cases::{Head, Stop, Told, tell_stop};
+use crate::twins::networks::{PlanOfBoth, play_refusing_each, play_script};
 use crate::twins::script::SeededScript;
-use crate::twins::stop::tell_stop;
-use crate::twins::tally::{EventTally, Tallies, tell_events};
+use crate::twins::tally::{Tallies, tell_events};
 use std::alloc::Global;
-use tx_plan::Plan;
 use tx_plantext::read_plan;
 
 /// How many events a script has that begins in the opening state.
@@ -22,44 +20,25 @@ fn opening_script(seed: u64, length: u32, most: usize) -> SeededScript {
     }
 }
 
-/// Plays the scripts of a plan with all memory there.
-fn play_whole(
-    alloc: Global,
-    plan: &Plan,
-    text: &[u8],
-    most: usize,
-    seed: u64,
-    tally: &mut EventTally,
-) -> Result<(), Stop> {
-    for more in 0..4u64 {
-        let seed = seed.wrapping_add(more.wrapping_mul(1000));
-        play_script(alloc, plan, opening_script(seed, LENGTH, most), text, tally)?;
-    }
-    let last_number = SeededScript {
-        numbers: u32::MAX - 60,
-        ..opening_script(seed, 400, most)
-    };
-    play_script(alloc, plan, last_number, text, tally)?;
-    let last_event = SeededScript {
-        events: u64::MAX - 200,
-        ..opening_script(seed, 300, most)
-    };
-    play_script(alloc, plan, last_event, text, tally)
-}
-
-/// Plays the scripts of a plan, and short ones with memory refused.
-fn play_plan(
-    alloc: Global,
-    plan: &Plan,
-    text: &[u8],
+/// Plays the scripts of a plan with all memory there, and short ones with memory refused.
+fn play_scripts(
+    of: PlanOfBoth<'_>,
     most: usize,
     seed: u64,
     tallies: &mut Tallies,
 ) -> Result<(), Stop> {
-    play_whole(alloc, plan, text, most, seed, &mut tallies.whole)?;
+    for more in 0..4u64 {
+        let seed = seed.wrapping_add(more.wrapping_mul(1000));
+        play_script(of, opening_script(seed, LENGTH, most), &mut tallies.whole)?;
+    }
+    let mut last_number = opening_script(seed, 400, most);
+    last_number.numbers = u32::MAX - 60;
+    play_script(of, last_number, &mut tallies.whole)?;
+    let mut last_event = opening_script(seed, 300, most);
+    last_event.events = u64::MAX - 200;
+    play_script(of, last_event, &mut tallies.whole)?;
     for seed in 0..4u64 {
-        let script = opening_script(seed, 100, most);
-        play_refusing_each(alloc, plan, script, text, &mut tallies.refusing)?;
+        play_refusing_each(of, opening_script(seed, 100, most), &mut tallies.refusing)?;
     }
     Ok(())
 }
@@ -73,7 +52,12 @@ fn read_and_play(
     tallies: &mut Tallies,
 ) -> Result<(), Stop> {
     let plan = read_plan(alloc, text)?;
-    play_plan(alloc, &plan, text, most, seed, tallies)
+    let of = PlanOfBoth {
+        alloc,
+        plan: &plan,
+        text,
+    };
+    play_scripts(of, most, seed, tallies)
 }
 
 /// Plays the scripts of a plan, whose head says how many calls are to be open at most, and the
@@ -85,13 +69,14 @@ pub fn play_twins(
     tallies: &mut Tallies,
     out: &mut Told,
 ) {
-    let (most, seed, _) = head.numbers();
+    let (most, seed) = head.numbers();
     let (events, accepted) = (tallies.whole.events, tallies.whole.accepted);
     let played = read_and_play(alloc, text, most as usize, u64::from(seed), tallies);
     let events = tallies.whole.events.saturating_sub(events);
     let accepted = tallies.whole.accepted.saturating_sub(accepted);
     tell_events(events, accepted, out);
-    if let Err(stop) = played {
-        tell_stop(stop, tallies.difference(), out);
+    match (played, tallies.difference()) {
+        (Err(Stop::Differs), Some(differs)) => differs.tell(out),
+        _ => tell_stop(played, out),
     }
 }

@@ -3,11 +3,10 @@ use crate::cases::{Refusing, Stop};
 use crate::twins::chance::Chance;
 use crate::twins::drawing::next_event;
 use crate::twins::picture::Picture;
-use crate::twins::stop::Differs;
 use crate::twins::tally::EventTally;
-use crate::twins::twins::{Mismatch, apply_to_both, compare_tickets};
-use std::alloc::{Allocator, Global};
-use tx_machine::{Event, Network, Ticket};
+use crate::twins::twins::{Differs, Mismatch, apply_to_both, compare_tickets};
+use std::alloc::Global;
+use tx_machine::{Event, Network};
 use tx_plan::Plan;
 use tx_text::NoMemory;
 
@@ -47,34 +46,18 @@ impl From<NoMemory> for Halt {
     }
 }
 
-/// Applies an event to both networks, of which the engine takes this memory.
-fn play_event<P: Network, E: Network>(
+/// Takes the oldest ticket of both networks, which have to be the same, and takes in what it tells.
+/// Returns whether there was one.
+fn take_ticket<P: Network, E: Network>(
     plain: &mut P,
     engine: &mut E,
-    memory: &Refusing<Global>,
-    event: &Event,
-    picture: &mut Picture,
-    tally: &mut EventTally,
-) -> Result<(), Halt> {
-    let answer = apply_to_both(plain, engine, memory, event)?;
-    if answer.was_refused {
-        tally.note_want(event);
-    }
-    tally.note_reply(&answer.reply);
-    picture.note(event, &answer.reply)?;
-    Ok(())
-}
-
-/// Compares two tickets, and takes in what the one of the plain network tells. Returns whether
-/// there are any.
-fn note_tickets<A: Allocator, B: Allocator>(
-    wanted: Option<&Ticket<A>>,
-    ticket: Option<&Ticket<B>>,
     picture: &mut Picture,
     tally: &mut EventTally,
 ) -> Result<bool, Halt> {
-    compare_tickets(wanted, ticket)?;
-    match wanted {
+    let wanted = plain.next_ticket();
+    let ticket = engine.next_ticket();
+    compare_tickets(wanted.as_ref(), ticket.as_ref())?;
+    match &wanted {
         Some(ticket) => {
             tally.note_cause(ticket.cause);
             picture.note_ticket(ticket)?;
@@ -84,35 +67,8 @@ fn note_tickets<A: Allocator, B: Allocator>(
     }
 }
 
-/// Takes the oldest ticket of both networks. Returns whether there was one.
-fn take_ticket<P: Network, E: Network>(
-    plain: &mut P,
-    engine: &mut E,
-    picture: &mut Picture,
-    tally: &mut EventTally,
-) -> Result<bool, Halt> {
-    let wanted = plain.next_ticket();
-    let ticket = engine.next_ticket();
-    note_tickets(wanted.as_ref(), ticket.as_ref(), picture, tally)
-}
-
-/// Takes all tickets of both networks.
-fn take_tickets<P: Network, E: Network>(
-    plain: &mut P,
-    engine: &mut E,
-    picture: &mut Picture,
-    tally: &mut EventTally,
-) -> Result<(), Halt> {
-    for _ in 0..u64::MAX {
-        if !take_ticket(plain, engine, picture, tally)? {
-            break;
-        }
-    }
-    Ok(())
-}
-
-/// Applies an event to both networks, and takes the tickets, if it is time for that: else more of
-/// them wait.
+/// Applies an event to both networks, of which the engine takes this memory, and takes all tickets,
+/// if it is time for that: else more of them wait.
 fn go_on<P: Network, E: Network>(
     plain: &mut P,
     engine: &mut E,
@@ -122,12 +78,20 @@ fn go_on<P: Network, E: Network>(
     picture: &mut Picture,
     tally: &mut EventTally,
 ) -> Result<(), Halt> {
-    play_event(plain, engine, memory, event, picture, tally)?;
-    if takes_tickets {
-        take_tickets(plain, engine, picture, tally)
-    } else {
-        Ok(())
+    let answer = apply_to_both(plain, engine, memory, event)?;
+    if answer.was_refused {
+        tally.note_want(event);
     }
+    tally.note_reply(&answer.reply);
+    picture.note(event, &answer.reply)?;
+    if takes_tickets {
+        for _ in 0..u64::MAX {
+            if !take_ticket(plain, engine, picture, tally)? {
+                break;
+            }
+        }
+    }
+    Ok(())
 }
 
 /// Why a script stops at the event of this index. Where the networks differ there, the tally takes

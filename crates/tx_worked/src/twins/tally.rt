@@ -1,46 +1,22 @@
 // Counts of events, by their replies, and of tickets, by their causes.
 use crate::cases::{Told, tell, tell_count, tell_parts};
-use crate::twins::stop::Differs;
+use crate::twins::twins::Differs;
 use tx_machine::{Cause, Event, Refusal, Reply};
 
 /// The names of what is counted, in the order in which the counts are told.
-static REPLIES: [&str; 12] = [
-    "keyed",
-    "seized",
-    "at",
-    "connected",
-    "head_on_both_stand",
-    "head_on_one_stands",
-    "head_on_none_stands",
-    "cleared",
-    "done",
-    "lost_none",
-    "lost_one",
-    "lost_several",
-];
+static REPLIES: &str = "keyed seized at connected head_on_both_stand head_on_one_stands \
+    head_on_none_stands cleared done lost_none lost_one lost_several";
 
-static SERVICES: [&str; 6] = ["occ", "nc", "np", "der", "abs", "na"];
+static SERVICES: &str = "occ nc np der abs na";
 
-static REFUSALS: [&str; 12] = [
-    "unknown_call",
-    "not_standing",
-    "not_calling",
-    "not_connected",
-    "unknown_line",
-    "line_engaged",
-    "line_out_of_order",
-    "already_so",
-    "not_so",
-    "not_releasing",
-    "unknown_circuit",
-    "exhausted",
-];
+static REFUSALS: &str = "unknown_call not_standing not_calling not_connected unknown_line \
+    line_engaged line_out_of_order already_so not_so not_releasing unknown_circuit exhausted";
 
-static CAUSES: [&str; 4] = ["answered", "cleared_by_caller", "cleared_by_called", "lost"];
+static CAUSES: &str = "answered cleared_by_caller cleared_by_called lost";
 
 /// Which events met a request for memory that was refused. The last are those that have no need of
 /// memory.
-static WANTS: [&str; 5] = ["key", "route", "line_fault", "line_away", "other"];
+static WANTS: &str = "key route line_fault line_away other";
 
 /// Counts of events and of tickets, each at the index of its name.
 #[derive(Clone, Copy)]
@@ -97,7 +73,7 @@ fn reply_index(reply: &Reply) -> usize {
         Reply::Lost(0) => 9,
         Reply::Lost(1) => 10,
         Reply::Lost(_) => 11,
-        Reply::Answered(_) | Reply::Refused(_) => REPLIES.len(),
+        Reply::Answered(_) | Reply::Refused(_) => usize::MAX,
     }
 }
 
@@ -136,17 +112,7 @@ fn want_index(event: &Event) -> usize {
         Event::Route(_) => 1,
         Event::LineFault(_) => 2,
         Event::LineAway(_) => 3,
-        Event::Confirm(_)
-        | Event::Clear { .. }
-        | Event::Released(_)
-        | Event::Fail(_)
-        | Event::Restore(_)
-        | Event::Block(_)
-        | Event::Unblock(_)
-        | Event::CircuitOut(_)
-        | Event::CircuitIn(_)
-        | Event::LineMend(_)
-        | Event::LineBack(_) => 4,
+        _ => 4,
     }
 }
 
@@ -205,29 +171,16 @@ impl Tallies {
     }
 }
 
-/// Tells a count in a line after its name, or only whether there was any.
-fn tell_line(name: &str, count: u64, is_told: bool, out: &mut Told) {
-    tell_parts(&[b"    ", name.as_bytes(), b": "], out);
-    if is_told {
-        tell_count(b"", count, b",\n", out);
-    } else if count > 0 {
-        tell(b"true,\n", out);
-    } else {
-        tell(b"false,\n", out);
-    }
-}
-
-/// Tells counts under a name, or only of which there were any.
-fn tell_counts(
-    name: &[u8],
-    names: &[&'static str],
-    counts: &[u64],
-    are_told: bool,
-    out: &mut Told,
-) {
-    tell_parts(&[name, b" {\n"], out);
-    for (name, count) in names.iter().zip(counts) {
-        tell_line(name, *count, are_told, out);
+/// Tells counts under a title, or only of which there were any.
+fn tell_counts(title: &[u8], names: &str, counts: &[u64], are_told: bool, out: &mut Told) {
+    tell_parts(&[title, b" {\n"], out);
+    for (name, count) in names.split_whitespace().zip(counts) {
+        tell_parts(&[b"    ", name.as_bytes(), b": "], out);
+        match *count {
+            count if are_told => tell_count(b"", count, b",\n", out),
+            0 => tell(b"false,\n", out),
+            _ => tell(b"true,\n", out),
+        }
     }
     tell(b"}\n", out);
 }
@@ -243,9 +196,9 @@ pub fn tell_tallies(tallies: &Tallies, out: &mut Told) {
     let tally = &tallies.whole;
     tell(b"in all: ", out);
     tell_events(tally.events, tally.accepted, out);
-    tell_counts(b"Replies", &REPLIES, &tally.replies, true, out);
-    tell_counts(b"Services", &SERVICES, &tally.answers, true, out);
-    tell_counts(b"Refusals", &REFUSALS, &tally.refusals, true, out);
-    tell_counts(b"Causes", &CAUSES, &tally.causes, true, out);
-    tell_counts(b"Wants", &WANTS, &tallies.refusing.wants, false, out);
+    tell_counts(b"Replies", REPLIES, &tally.replies, true, out);
+    tell_counts(b"Services", SERVICES, &tally.answers, true, out);
+    tell_counts(b"Refusals", REFUSALS, &tally.refusals, true, out);
+    tell_counts(b"Causes", CAUSES, &tally.causes, true, out);
+    tell_counts(b"Wants", WANTS, &tallies.refusing.wants, false, out);
 }

@@ -1,5 +1,5 @@
 // Two networks, and one event after another.
-use crate::cases::Refusing;
+use crate::cases::{Refusing, Told, tell_broken, tell_count};
 use std::alloc::{Allocator, Global};
 use tx_machine::{Event, Network, Reply, Ticket};
 
@@ -30,6 +30,22 @@ impl Mismatch {
             Mismatch::NoMemory => b"memory is refused once, event",
             Mismatch::Wanting => b"memory is wanting where it is refused, event",
         }
+    }
+}
+
+/// After which event of which script the networks differ, and in what.
+#[derive(Clone, Copy)]
+pub struct Differs {
+    pub seed: u64,
+    /// The index of the event, from 0.
+    pub index: u32,
+    pub difference: Mismatch,
+}
+
+impl Differs {
+    pub fn tell(&self, out: &mut Told) {
+        tell_broken(self.difference.law(), u64::from(self.index), out);
+        tell_count(b"of the script of seed ", self.seed, b"\n", out);
     }
 }
 
