@@ -96,9 +96,9 @@ fn do_task<A: Allocator + Copy>(
     ends: Ends,
     out: &mut MemorySink,
 ) -> Result<u8, CommandFault> {
-    let mut first = ends.source(0, task.texts[0]);
-    let mut second = ends.source(1, task.texts[1]);
-    let mut third = ends.source(2, task.texts[2]);
+    let mut first = ends.source(0, task.first);
+    let mut second = ends.source(1, task.second);
+    let mut third = ends.source(2, task.third);
     let command = task.command;
     let ending = do_command(alloc, command, &mut first, &mut second, &mut third, out)?;
     let written = write_contents(&ending, out);
