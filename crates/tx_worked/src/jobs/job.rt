@@ -40,6 +40,15 @@ impl Whole {
     pub(crate) fn text(&self) -> &[u8] {
         self.written.taken()
     }
+
+    /// The exit status of a job.
+    pub(crate) fn status(&self) -> u8 {
+        match self.end {
+            End::Job(Ok(status)) => status,
+            End::Job(Err(fault)) => fault.status(),
+            End::Run(_) => 0,
+        }
+    }
 }
 
 /// What a work did: how it ended, how many bytes it wrote, whether these are a front of what the
