@@ -98,7 +98,7 @@ def judge_stage(program, old, new, passed, stage, report):
         return
     need(plan and cert and ran.out.splitlines() == report and ran.status == 0, f"no file is made, or another report: {ran.out}")
     judge_made(plan, old, passed[stage])
-    judge_cert(program, passed[max(stage - 1, 0):stage + 1], cert, int(limit), int(spare))
+    judge_cert(program, passed[max(stage - 1, 0):max(stage, 1) + 1], cert, int(limit), int(spare))
 
 
 def judge_order(program, old, new, limit, spare):

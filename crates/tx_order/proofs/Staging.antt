@@ -1,5 +1,6 @@
 -- A stage of an order that is asked for.
-use Rattle.tx_order.proofs.Common.{◌≡◌, ℕ, zero, suc, ◌+◌, ◌-◌, sym, ◌∙◌, subst, arith, Plan, IsPlan, rerouted, AreCommon, Certificate, IsCertificateOf, ranks_of, Lists, Order, IsOrderKept, plan_before, AreListsOf}
+use Rattle.tx_order.proofs.Common.{◌≡◌, ℕ, ◌+◌, ◌-◌, sym, ◌∙◌, subst, arith, Plan, IsPlan, rerouted, AreCommon, Certificate, IsCertificateOf, ranks_of, Lists, Order, IsOrderKept, plan_before, AreListsOf}
+use Rattle.std.specs.Prelude.{max}
 use Rattle.tx_order.specs.Staged.{IsStageCert}
 use Rattle.tx_order.proofs.Confirming.{before_rules, before_fits, with_lists}
 
@@ -7,15 +8,11 @@ use Rattle.tx_order.proofs.Confirming.{before_rules, before_fits, with_lists}
 pub stage_cert : (o : Order) → IsOrderKept o → (n : ℕ) (t : Certificate)
     → AreCommon (plan_before o (n - 1)) (plan_before o (n - 1 + 1)) (ranks_of t) o.transition.limit o.transition.spare
     → IsCertificateOf o.transition.old t → IsStageCert o n t
-stage_cert o k zero t common fits = record {
-  common = record { before = common.before; after = common.before };
-  fits = before_fits o k zero t fits;
-}
-stage_cert o k (suc n) t common fits =
-    let next : suc n - 1 + 1 ≡ suc n = omega arith in
+stage_cert o k n t common fits =
+    let next : n - 1 + 1 ≡ max n 1 = omega arith in
     record {
-      common = subst (λ (s : ℕ). AreCommon (plan_before o (suc n - 1)) (plan_before o s) (ranks_of t) o.transition.limit o.transition.spare) next common;
-      fits = before_fits o k (suc n) t fits;
+      common = subst (λ (s : ℕ). AreCommon (plan_before o (n - 1)) (plan_before o s) (ranks_of t) o.transition.limit o.transition.spare) next common;
+      fits = before_fits o k n t fits;
     }
 
 module _ {A : Type 0} where

@@ -1,6 +1,6 @@
 -- A stage of an order that is asked for: the plan after it, and a certificate of it. Stage 0 is
 -- what is done before the first one.
-use Rattle.std.specs.Prelude.{◌≡◌, ℕ, ◌-◌, ◌≤◌, Option, Some}
+use Rattle.std.specs.Prelude.{◌≡◌, ℕ, ◌-◌, ◌≤◌, max, Option, Some}
 use Rattle.tx_cert.specs.Certificate.{Certificate, IsCertificateOf, ranks_of}
 use Rattle.tx_plan.specs.Mixtures.{AreCommon}
 use Rattle.tx_order.specs.declared.judging.OrderVerdict.{OrderVerdict}
@@ -11,10 +11,10 @@ use Rattle.tx_order.specs.Ordered.{Order, plan_before, stages_in}
 abbrev pub IsStageOf : Order → ℕ → Type 0
 IsStageOf o n = n ≤ stages_in o
 
--- A certificate of a stage: for the plan before it and the plan after it. That of stage 0 is for the
--- plan before the first stage alone.
+-- A certificate of a stage: for the plan before it and the plan after it. That of stage 0 is one of
+-- the first stage.
 pub record IsStageCert (o : Order) (n : ℕ) (cert : Certificate) : Type 0 where
-  pub common : AreCommon (plan_before o (n - 1)) (plan_before o n) (ranks_of cert)
+  pub common : AreCommon (plan_before o (n - 1)) (plan_before o (max n 1)) (ranks_of cert)
       o.transition.limit o.transition.spare
   pub fits : IsCertificateOf (plan_before o n) cert
 

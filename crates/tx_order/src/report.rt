@@ -93,11 +93,7 @@ fn write_number<A: Allocator, W: Sink>(order: &Order<A>, stage: usize, sink: &mu
 }
 
 /// Writes what it switches, exchange by exchange.
-fn write_exchanges<A: Allocator, W: Sink>(
-    order: &Order<A>,
-    stage: usize,
-    sink: &mut W,
-)
+fn write_exchanges<A: Allocator, W: Sink>(order: &Order<A>, stage: usize, sink: &mut W)
     requires { stage < stages_in order.now }
     ensures { Puts W.taken W.failed sink.old sink.new
         (switched_lines order.now.transition.new (plan_before order.now stage)

@@ -11,11 +11,7 @@ use tx_text::{Sink, put_bytes, put_parts};
 
 /// Writes each list of a plan that is another one than before, with the one before if that is asked
 /// for.
-pub fn write_changes<A: Allocator, W: Sink>(
-    before: &Routes<A>,
-    plan: &Plan<A>,
-    sink: &mut W,
-)
+pub fn write_changes<A: Allocator, W: Sink>(before: &Routes<A>, plan: &Plan<A>, sink: &mut W)
     ensures { Puts W.taken W.failed sink.old sink.new
         (changes before.now plan.now) }
 {

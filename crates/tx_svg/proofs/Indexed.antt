@@ -1,5 +1,5 @@
 -- Texts of indexes, shown one after another.
-use Rattle.std.proofs.Common.{◌≡◌, ℕ, ◌+◌, List, ◌++◌, sym, ap}
+use Rattle.std.proofs.Common.{◌≡◌, ℕ, ◌+◌, List, sym, ap}
 use Rattle.tx_text.proofs.Ranges.{flat_map-range_more}
 use Rattle.tx_html.specs.Shows.{Seen, Sets}
 use Rattle.tx_svg.proofs.Common.{sets_is, sets_then, texts_below}

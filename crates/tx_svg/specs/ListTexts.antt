@@ -41,10 +41,14 @@ module _ {A : Type 0} where
   abbrev pub is_large : Plan → Picture A → Bool
   is_large p q = nat_lt 36 (length p.exchanges) || nat_lt 5 (length q.boxes.items)
 
+  -- the rank of an exchange for a code, if the code has a grade
+  abbrev pub rank_in : Grade A → (c x : ℕ) → Option ℕ
+  rank_in g c x = if is_graded g c then ranks_of g.ranks c x else None
+
   -- an exchange with its rank and its list for a code
   abbrev pub row_texts : Plan → Grade A → (c x : ℕ) → List (List ℕ)
   row_texts p g c x = exchange_name p x
-      ∷ (rank_texts (ranks_of g.ranks c x) ++ map (group_name p) (route_list p x c))
+      ∷ (rank_texts (rank_in g c x) ++ map (group_name p) (route_list p x c))
 
   -- the table that is printed in place of a picture that is too large: the code, and each exchange
   abbrev pub table_texts : Plan → Grade A → Picture A → List (List ℕ)

@@ -3,13 +3,14 @@ ghost use Rattle.std.specs.Prelude.{◌≡◌, ◌∷◌, length};
 ghost use Rattle.tx_plan.specs.Plan.{figures_of};
 ghost use Rattle.tx_html.specs.Shows.{Sets};
 ghost use Rattle.tx_svg.specs.Indexed.{texts_below};
-ghost use Rattle.tx_svg.specs.ListTexts.{is_large, rank_texts, row_texts, table_texts};
+ghost use Rattle.tx_svg.specs.ListTexts.{is_large, rank_in, rank_texts, row_texts, table_texts};
 
 use crate::names::write_groups;
 use crate::picture::Picture;
+use crate::ranks::is_graded;
 use std::alloc::Allocator;
 use tx_html::{PageSink, Part, set};
-use tx_plan::{ExchangeId, Plan};
+use tx_plan::{CodeId, ExchangeId, Plan};
 use tx_rank::Grade;
 
 /// Whether a picture is too large for a sheet.
@@ -91,10 +92,21 @@ fn write_row<A: Allocator, W: PageSink>(
         ],
         sink,
     );
-    write_rank(grade.ranks.rank(picture.code, exchange), sink);
+    write_rank(rank_in(grade, picture.code, exchange), sink);
     set(&[Part::Own("</td><td>")], sink);
     write_groups(plan, plan.list(exchange, picture.code), sink);
     set(&[Part::Own("</td></tr>")], sink);
+}
+
+/// The rank of an exchange for a code, if the code has a grade.
+fn rank_in<A: Allocator>(grade: &Grade<A>, code: CodeId, exchange: ExchangeId) -> Option<u16>
+    ensures { result ≡ rank_in grade.now code exchange }
+{
+    if is_graded(grade, code) {
+        grade.ranks.rank(code, exchange)
+    } else {
+        None
+    }
 }
 
 fn write_rank<W: PageSink>(rank: Option<u16>, sink: &mut W)

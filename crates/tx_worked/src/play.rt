@@ -64,7 +64,7 @@ fn play_over(alloc: Global, head: Head<'_>, text: Script<'_>, out: &mut Told) {
 /// Tries that a script writes over the plain network what the job writes, which runs it over the
 /// engine.
 fn try_plain(alloc: Global, run: Task<'_>, job: &[u8], out: &mut Told) {
-    let text = Script::opening(run.texts[0], run.texts[1]);
+    let text = Script::opening(run.first, run.second);
     let did = done(alloc, Work::Run(text), Ends::pieces(4096), job);
     if !did.is_front || did.written != job.len() {
         let bytes = did.written as u64;

@@ -1,5 +1,4 @@
 // The command that a case plays, and its texts.
-ghost use Rattle.std.specs.Prelude.{◌<◌};
 
 use crate::cases::case::two_texts;
 use std::alloc::{AllocError, Global};
@@ -99,7 +98,9 @@ pub struct Task<'a> {
     /// The kind of its case.
     pub kind: &'a [u8],
     pub command: &'a Command,
-    pub texts: [&'a [u8]; 3],
+    pub first: &'a [u8],
+    pub second: &'a [u8],
+    pub third: &'a [u8],
 }
 
 impl<'a> Task<'a> {
@@ -115,7 +116,9 @@ impl<'a> Task<'a> {
         Task {
             kind,
             command,
-            texts: [first, second, third],
+            first,
+            second,
+            third,
         }
     }
 
@@ -125,22 +128,23 @@ impl<'a> Task<'a> {
         reads.iter().filter(|file| file.is_some()).count()
     }
 
-    /// The index of its last text.
-    fn last_index(&self) -> usize
-        ensures { result < 3 }
-    {
-        self.sources().saturating_sub(1).min(2)
-    }
-
     /// Its last text.
     pub fn last(&self) -> &'a [u8] {
-        self.texts[self.last_index()]
+        match self.sources() {
+            0 | 1 => self.first,
+            2 => self.second,
+            _ => self.third,
+        }
     }
 
     /// The task with another last text.
     pub fn with_last(self, text: &'a [u8]) -> Task<'a> {
         let mut task = self;
-        task.texts[self.last_index()] = text;
+        match self.sources() {
+            0 | 1 => task.first = text,
+            2 => task.second = text,
+            _ => task.third = text,
+        }
         task
     }
 }

@@ -40,6 +40,15 @@ impl Whole {
     pub(crate) fn text(&self) -> &[u8] {
         self.written.taken()
     }
+
+    /// The exit status of a job.
+    pub(crate) fn status(&self) -> u8 {
+        match self.end {
+            End::Job(Ok(status)) => status,
+            End::Job(Err(fault)) => fault.status(),
+            End::Run(_) => 0,
+        }
+    }
 }
 
 /// What a work did: how it ended, how many bytes it wrote, whether these are a front of what the
@@ -96,9 +105,9 @@ fn do_task<A: Allocator + Copy>(
     ends: Ends,
     out: &mut MemorySink,
 ) -> Result<u8, CommandFault> {
-    let mut first = ends.source(0, task.texts[0]);
-    let mut second = ends.source(1, task.texts[1]);
-    let mut third = ends.source(2, task.texts[2]);
+    let mut first = ends.source(0, task.first);
+    let mut second = ends.source(1, task.second);
+    let mut third = ends.source(2, task.third);
     let command = task.command;
     let ending = do_command(alloc, command, &mut first, &mut second, &mut third, out)?;
     let written = write_contents(&ending, out);

@@ -94,10 +94,7 @@ fn wants(work: Work<'_>, did: &Did) -> bool {
 pub(crate) fn try_ends(alloc: Global, task: Task<'_>, whole: &Whole, out: &mut Told) {
     try_rooms(alloc, Work::Job(task), whole, out);
     tell_parts(&[b"-- ", task.kind], out);
-    if let End::Job(end) = whole.end {
-        let status = end.unwrap_or_else(|fault| fault.status());
-        tell_count(b": status ", u64::from(status), b"", out);
-    }
+    tell_count(b": status ", u64::from(whole.status()), b"", out);
     for index in 0..task.sources() {
         let count = reads(alloc, Work::Job(task), index, whole, out);
         let before = if index == 0 {
