@@ -38,8 +38,8 @@ module _ {A : Type 0} where
   verdict_text before new (Unsound findings) = verdict_after [] before findings.items
   verdict_text before new (NewUnsound findings) = verdict_after (codes "NEW ") new findings.items
 
-  -- The report: what was asked, what is done before, the lists that are switched if they are asked
-  -- for, what is done after, how many lists there are, a line for each finding, and the verdict
+  -- The report: what was asked, what is done before, the lists that are switched, what is done
+  -- after, how many lists there are, a line for each finding, and the verdict
   abbrev pub change_report : (old new before after : Plan) → (limit spare : ℕ)
       → ChangeVerdict A → List ℕ
   change_report old new before after limit spare verdict =
