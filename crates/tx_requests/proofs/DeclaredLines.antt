@@ -20,6 +20,7 @@ use Rattle.tx_plan.specs.Plan.{Plan, no_plan}
 use Rattle.tx_plan.specs.Among.{Among}
 use Rattle.tx_plan.specs.Declaring.{has_code, has_group}
 use Rattle.tx_plantext.specs.PlanText.{Said, declare, plan_of}
+use Rattle.tx_join.proofs.United.{itself}
 use Rattle.tx_join.specs.Contradictions.{if_first, declared_at, line_declaring}
 use Rattle.tx_requests.proofs.LineKinds.{Begins, grows}
 use Rattle.tx_requests.specs.DeclaringLines.{BeginsWith, CodesAreDeclared, GroupsAreDeclared}
@@ -35,9 +36,6 @@ numbered n s (part ∷ next ∷ parts) l (inl e) = subst (λ (k : Line). n ≤ k
 numbered n s (part ∷ next ∷ parts) l (inr m) = let k = numbered (n + 1) (s + length part + 1) (next ∷ parts) l m in omega (arith, k)
 
 -- A SEARCH FOR TWO WORDS
-
-itself : (w : List ℕ) → bytes_eq w w ≡ true
-itself w = (bytes_eq-Decides w w).1 refl
 
 module _ (word name : List ℕ) where
   abbrev numbers : List Line → List ℕ
