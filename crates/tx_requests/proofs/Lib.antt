@@ -2,7 +2,6 @@ mod Grading
 mod Surviving
 mod Asking
 mod Changing
-mod TextParts
 mod LineKinds
 mod DeclaredLines
 mod Printed

@@ -1,93 +1,125 @@
--- What a line declares.
-use Rattle.std.proofs.Common.{◌≡◌, ℕ, ◌==◌, Bool, true, false, ◌&&◌, cond, Option, None, Some, List, [], ◌∷◌, Ok, Err, codes, refl, ap}
-use Rattle.tx_requests.proofs.Common.{bytes_eq, bytes_eq-Decides, Plan, PlanWord}
-use Rattle.std.proofs.lemmas.Bool.{and_parts, eqb-true}
+-- What a line adds to a plan: a code, a group, or neither.
+use Rattle.std.proofs.Common.{◌≡◌, ◌⊎◌, ℕ, ◌==◌, Bool, true, false, ◌&&◌, ◌||◌, cond, Option, None, Some, List, [], ◌∷◌, ◌++◌, Ok, Err, codes, inl, inr, refl, sym, ap, ◌∙◌}
+use Rattle.std.specs.List.{list_any}
+use Rattle.std.specs.Str.{bytes_eq}
+use Rattle.std.proofs.lemmas.Bool.{or_cases, false≢true}
+use Rattle.std.proofs.lemmas.List.Folds.{list_any-append}
+use Rattle.std.proofs.lemmas.Slice.Eq.{bytes_eq-Decides}
 use Rattle.tx_plan.specs.declared.refusal.PlanRefusal.{PlanRefusal}
 use Rattle.tx_plan.specs.declared.ids.Direction.{Direction}
-use Rattle.tx_plan.specs.Declaring.{first_true, exchange_refusals, code_refusals, lines_refusals, group_refusals, route_refusals, bar_refusals, with_exchange, with_code, with_lines, with_group, with_route, with_bar}
+use Rattle.tx_plan.specs.Plan.{Plan, Code, Group}
+use Rattle.tx_plan.specs.Declaring.{has_code, has_group}
+use Rattle.tx_plantext.specs.declared.fault.PlanWord.{PlanWord}
 use Rattle.tx_plantext.specs.PlanText.{Said, unless, declare, exchange_line, code_line, lines_line, group_line, group_by, route_line, bar_line, direction_of, count_of}
 
--- the line that some words are, and what it leads to
-pub data Kind (v : ℕ) (p : Plan) (ws : List (List ℕ)) (m : Plan) : Type 0 where
-  exchange : (name : List ℕ) → ws ≡ codes "EXCHANGE" ∷ name ∷ [] → first_true (exchange_refusals p name) ≡ None → with_exchange p name ≡ m → Kind v p ws m
-  code : (figures home : List ℕ) → ws ≡ codes "CODE" ∷ figures ∷ home ∷ [] → first_true (code_refusals p figures home) ≡ None → with_code p figures home ≡ m → Kind v p ws m
-  range : (figures low high : List ℕ) → ws ≡ codes "LINES" ∷ figures ∷ low ∷ high ∷ [] → first_true (lines_refusals p figures low high) ≡ None → with_lines p figures low high ≡ m → Kind v p ws m
-  group : (name a b direction count : List ℕ) (d : Direction) → ws ≡ codes "GROUP" ∷ name ∷ a ∷ b ∷ direction ∷ count ∷ [] → direction_of direction ≡ Some d
-      → first_true (group_refusals p name a b (count_of count)) ≡ None → with_group p name a b d (count_of count) ≡ m → Kind v p ws m
-  route : (exchange code : List ℕ) (groups : List (List ℕ)) → ws ≡ codes "ROUTE" ∷ exchange ∷ code ∷ groups → first_true (route_refusals p exchange code groups) ≡ None → with_route p exchange code groups ≡ m → Kind v p ws m
-  bar : (exchange code : List ℕ) → v ≡ 2 → ws ≡ codes "BAR" ∷ exchange ∷ code ∷ [] → first_true (bar_refusals p exchange code) ≡ None → with_bar p exchange code ≡ m → Kind v p ws m
+-- words that begin with these two
+abbrev pub Begins : (word name : List ℕ) → List (List ℕ) → Type 0
+Begins word name ws = (rest : List (List ℕ)) × (ws ≡ word ∷ name ∷ rest)
 
--- nothing refused it
-pub unless_ok : (r : Option PlanRefusal) (p m : Plan) → unless r p ≡ Ok m → (r ≡ None) × (p ≡ m)
-unless_ok None p m h = (refl, cc)
-unless_ok (Some x) p m h = let z : ⊥ = cc in absurd z
+-- one entry more: it has the name, or one before it
+grown : {A : Type 0} (key : A → List ℕ) (name : List ℕ) (xs : List A) (x : A)
+    → list_any (λ y. bytes_eq name (key y)) (xs ++ x ∷ []) ≡ true
+    → (list_any (λ y. bytes_eq name (key y)) xs ≡ true) ⊎ (name ≡ key x)
+grown {A} key name xs x h =
+    let t = λ (y : A). bytes_eq name (key y) in
+    elim (or_cases (list_any t xs) (t x || false) (sym (list_any-append t xs (x ∷ [])) ∙ h)) [
+      | inl a ↦ inl a
+      | inr b ↦ elim (or_cases (t x) false b) [ inl e ↦ inr ((bytes_eq-Decides name (key x)).0 e) | inr bad ↦ absurd (false≢true bad) ]
+    ]
 
-no_err : {X : Type 0} (x : PlanWord) (m : Plan) → ◌≡◌ {A = Said} (Err x) (Ok m) → X
-no_err x m h = let z : ⊥ = cc in absurd z
+module _ (m : Plan) where
+  no_err : {X : Type 0} (x : PlanWord) → ◌≡◌ {A = Said} (Err x) (Ok m) → X
+  no_err x h = let z : ⊥ = cc in absurd z
 
-module _ (v : ℕ) (p m : Plan) where
-  abbrev Of : List (List ℕ) → Type 0
-  Of ws = Kind v p ws m
-
-  exchange_kind : (w : List ℕ) (ws : List (List ℕ)) → w ≡ codes "EXCHANGE" → exchange_line p ws ≡ Ok m → Of (w ∷ ws)
-  exchange_kind w [] e h = no_err _ m h
-  exchange_kind w (name ∷ []) e h = let t = unless_ok _ _ m h in exchange name (ap (λ x. x ∷ name ∷ []) e) t.0 t.1
-  exchange_kind w (name ∷ x ∷ ws) e h = no_err _ m h
-
-  code_kind : (w : List ℕ) (ws : List (List ℕ)) → w ≡ codes "CODE" → code_line p ws ≡ Ok m → Of (w ∷ ws)
-  code_kind w [] e h = no_err _ m h
-  code_kind w (a ∷ []) e h = no_err _ m h
-  code_kind w (a ∷ b ∷ []) e h = let t = unless_ok _ _ m h in code a b (ap (λ x. x ∷ a ∷ b ∷ []) e) t.0 t.1
-  code_kind w (a ∷ b ∷ c ∷ ws) e h = no_err _ m h
-
-  lines_kind : (w : List ℕ) (ws : List (List ℕ)) → w ≡ codes "LINES" → lines_line p ws ≡ Ok m → Of (w ∷ ws)
-  lines_kind w [] e h = no_err _ m h
-  lines_kind w (a ∷ []) e h = no_err _ m h
-  lines_kind w (a ∷ b ∷ []) e h = no_err _ m h
-  lines_kind w (a ∷ b ∷ c ∷ []) e h = let t = unless_ok _ _ m h in range a b c (ap (λ x. x ∷ a ∷ b ∷ c ∷ []) e) t.0 t.1
-  lines_kind w (a ∷ b ∷ c ∷ d ∷ ws) e h = no_err _ m h
-
-  group_by_kind : (w name a b direction count : List ℕ) (o : Option Direction) → w ≡ codes "GROUP" → direction_of direction ≡ o → group_by p name a b o (count_of count) ≡ Ok m
-      → Of (w ∷ name ∷ a ∷ b ∷ direction ∷ count ∷ [])
-  group_by_kind w name a b direction count None e d h = no_err _ m h
-  group_by_kind w name a b direction count (Some x) e d h = let t = unless_ok _ _ m h in group name a b direction count x (ap (λ y. y ∷ name ∷ a ∷ b ∷ direction ∷ count ∷ []) e) d t.0 t.1
-
-  group_kind : (w : List ℕ) (ws : List (List ℕ)) → w ≡ codes "GROUP" → group_line p ws ≡ Ok m → Of (w ∷ ws)
-  group_kind w [] e h = no_err _ m h
-  group_kind w (a ∷ []) e h = no_err _ m h
-  group_kind w (a ∷ b ∷ []) e h = no_err _ m h
-  group_kind w (a ∷ b ∷ c ∷ []) e h = no_err _ m h
-  group_kind w (a ∷ b ∷ c ∷ d ∷ []) e h = no_err _ m h
-  group_kind w (a ∷ b ∷ c ∷ d ∷ f ∷ []) e h = group_by_kind w a b c d f (direction_of d) e refl h
-  group_kind w (a ∷ b ∷ c ∷ d ∷ f ∷ g ∷ ws) e h = no_err _ m h
-
-  route_kind : (w : List ℕ) (ws : List (List ℕ)) → w ≡ codes "ROUTE" → route_line p ws ≡ Ok m → Of (w ∷ ws)
-  route_kind w [] e h = no_err _ m h
-  route_kind w (a ∷ []) e h = no_err _ m h
-  route_kind w (a ∷ b ∷ gs) e h = let t = unless_ok _ _ m h in route a b gs (ap (λ x. x ∷ a ∷ b ∷ gs) e) t.0 t.1
-
-  bar_kind : (w : List ℕ) (ws : List (List ℕ)) → v ≡ 2 → w ≡ codes "BAR" → bar_line p ws ≡ Ok m → Of (w ∷ ws)
-  bar_kind w [] two e h = no_err _ m h
-  bar_kind w (a ∷ []) two e h = no_err _ m h
-  bar_kind w (a ∷ b ∷ []) two e h = let t = unless_ok _ _ m h in bar a b two (ap (λ x. x ∷ a ∷ b ∷ []) e) t.0 t.1
-  bar_kind w (a ∷ b ∷ c ∷ ws) two e h = no_err _ m h
-
-  is_word : (w x : List ℕ) → bytes_eq w x ≡ true → w ≡ x
-  is_word w x h = (bytes_eq-Decides w x).0 h
+  -- nothing refused it
+  made : (r : Option PlanRefusal) (q : Plan) → unless r q ≡ Ok m → q ≡ m
+  made None q h = cc
+  made (Some x) q h = no_err _ h
 
   -- a test that was passed, or not
-  tested : (b : Bool) (x y : Said) (X : Type 0) → (b ≡ true → x ≡ Ok m → X) → (y ≡ Ok m → X) → cond b x y ≡ Ok m → X
-  tested true x y X f g h = f refl h
-  tested false x y X f g h = g h
+  tested : {X : Type 0} (b : Bool) (x y : Said) → (b ≡ true → x ≡ Ok m → X) → (y ≡ Ok m → X) → cond b x y ≡ Ok m → X
+  tested true x y f g h = f refl h
+  tested false x y f g h = g h
 
-  pub kind_of : (ws : List (List ℕ)) → declare v p ws ≡ Ok m → Of ws
-  unfolding declare
-  kind_of [] h = no_err _ m h
-  kind_of (w ∷ ws) h =
-      tested (bytes_eq w (codes "EXCHANGE")) _ _ _ (λ e k. exchange_kind w ws (is_word w _ e) k)
-      (λ k. tested (bytes_eq w (codes "CODE")) _ _ _ (λ e q. code_kind w ws (is_word w _ e) q)
-      (λ k. tested (bytes_eq w (codes "LINES")) _ _ _ (λ e q. lines_kind w ws (is_word w _ e) q)
-      (λ k. tested (bytes_eq w (codes "GROUP")) _ _ _ (λ e q. group_kind w ws (is_word w _ e) q)
-      (λ k. tested (bytes_eq w (codes "ROUTE")) _ _ _ (λ e q. route_kind w ws (is_word w _ e) q)
-      (λ k. tested ((v == 2) && bytes_eq w (codes "BAR")) _ _ _ (λ e q. let t = and_parts (v == 2) (bytes_eq w (codes "BAR")) e in bar_kind w ws (eqb-true v 2 t.0) (is_word w _ t.1) q)
-      (λ k. tested (bytes_eq w (codes "END")) _ _ _ (λ e q. no_err _ m q) (λ q. no_err _ m q) k) k) k) k) k) k) h
+  module _ (name : List ℕ) (p : Plan) where
+    -- what m has of this name the plan p has, or a line of these words begins with it
+    pub record Grows (ws : List (List ℕ)) : Type 0 where
+      pub code : has_code m name ≡ true → (has_code p name ≡ true) ⊎ Begins (codes "CODE") name ws
+      pub group : has_group m name ≡ true → (has_group p name ≡ true) ⊎ Begins (codes "GROUP") name ws
+
+    -- a plan that has the codes and the groups of p
+    kept : {ws : List (List ℕ)} (q : Plan) → q ≡ m → has_code q name ≡ has_code p name → has_group q name ≡ has_group p name → Grows ws
+    kept q e c g = record {
+      code = λ h. inl (sym c ∙ ap (λ (r : Plan). has_code r name) e ∙ h);
+      group = λ h. inl (sym g ∙ ap (λ (r : Plan). has_group r name) e ∙ h);
+    }
+
+    exchange_kind : (ws us : List (List ℕ)) → exchange_line p ws ≡ Ok m → Grows us
+    exchange_kind [] us h = no_err _ h
+    exchange_kind (x ∷ []) us h = kept _ (made _ _ h) refl refl
+    exchange_kind (x ∷ y ∷ ws) us h = no_err _ h
+
+    code_kind : (w : List ℕ) (ws : List (List ℕ)) → w ≡ codes "CODE" → code_line p ws ≡ Ok m → Grows (w ∷ ws)
+    code_kind w [] e h = no_err _ h
+    code_kind w (a ∷ []) e h = no_err _ h
+    code_kind w (a ∷ b ∷ []) e h =
+        let is = made _ _ h in
+        record {
+          code = λ k. elim (grown (λ (c : Code). c.figures) name p.codes _ (ap (λ (r : Plan). has_code r name) is ∙ k)) [
+            | inl old ↦ inl old
+            | inr s ↦ inr (b ∷ [], λ i. e i ∷ sym s i ∷ b ∷ [])
+          ];
+          group = λ k. inl (ap (λ (r : Plan). has_group r name) is ∙ k);
+        }
+    code_kind w (a ∷ b ∷ c ∷ ws) e h = no_err _ h
+
+    lines_kind : (ws us : List (List ℕ)) → lines_line p ws ≡ Ok m → Grows us
+    lines_kind [] us h = no_err _ h
+    lines_kind (a ∷ []) us h = no_err _ h
+    lines_kind (a ∷ b ∷ []) us h = no_err _ h
+    lines_kind (a ∷ b ∷ c ∷ []) us h = kept _ (made _ _ h) refl refl
+    lines_kind (a ∷ b ∷ c ∷ d ∷ ws) us h = no_err _ h
+
+    group_by_kind : (w a b c : List ℕ) (o : Option Direction) (n : ℕ) (rest : List (List ℕ)) → w ≡ codes "GROUP" → group_by p a b c o n ≡ Ok m → Grows (w ∷ a ∷ rest)
+    group_by_kind w a b c None n rest e h = no_err _ h
+    group_by_kind w a b c (Some d) n rest e h =
+        let is = made _ _ h in
+        record {
+          code = λ k. inl (ap (λ (r : Plan). has_code r name) is ∙ k);
+          group = λ k. elim (grown (λ (g : Group). g.name) name p.groups _ (ap (λ (r : Plan). has_group r name) is ∙ k)) [
+            | inl old ↦ inl old
+            | inr s ↦ inr (rest, λ i. e i ∷ sym s i ∷ rest)
+          ];
+        }
+
+    group_kind : (w : List ℕ) (ws : List (List ℕ)) → w ≡ codes "GROUP" → group_line p ws ≡ Ok m → Grows (w ∷ ws)
+    group_kind w [] e h = no_err _ h
+    group_kind w (a ∷ []) e h = no_err _ h
+    group_kind w (a ∷ b ∷ []) e h = no_err _ h
+    group_kind w (a ∷ b ∷ c ∷ []) e h = no_err _ h
+    group_kind w (a ∷ b ∷ c ∷ d ∷ []) e h = no_err _ h
+    group_kind w (a ∷ b ∷ c ∷ d ∷ f ∷ []) e h = group_by_kind w a b c (direction_of d) (count_of f) _ e h
+    group_kind w (a ∷ b ∷ c ∷ d ∷ f ∷ g ∷ ws) e h = no_err _ h
+
+    route_kind : (ws us : List (List ℕ)) → route_line p ws ≡ Ok m → Grows us
+    route_kind [] us h = no_err _ h
+    route_kind (a ∷ []) us h = no_err _ h
+    route_kind (a ∷ b ∷ gs) us h = kept _ (made _ _ h) refl refl
+
+    bar_kind : (ws us : List (List ℕ)) → bar_line p ws ≡ Ok m → Grows us
+    bar_kind [] us h = no_err _ h
+    bar_kind (a ∷ []) us h = no_err _ h
+    bar_kind (a ∷ b ∷ []) us h = kept _ (made _ _ h) refl refl
+    bar_kind (a ∷ b ∷ c ∷ ws) us h = no_err _ h
+
+    pub grows : (v : ℕ) (ws : List (List ℕ)) → declare v p ws ≡ Ok m → Grows ws
+    unfolding declare
+    grows v [] h = no_err _ h
+    grows v (w ∷ ws) h =
+        tested (bytes_eq w (codes "EXCHANGE")) _ _ (λ e k. exchange_kind ws _ k)
+        (λ k. tested (bytes_eq w (codes "CODE")) _ _ (λ e q. code_kind w ws ((bytes_eq-Decides w _).0 e) q)
+        (λ k. tested (bytes_eq w (codes "LINES")) _ _ (λ e q. lines_kind ws _ q)
+        (λ k. tested (bytes_eq w (codes "GROUP")) _ _ (λ e q. group_kind w ws ((bytes_eq-Decides w _).0 e) q)
+        (λ k. tested (bytes_eq w (codes "ROUTE")) _ _ (λ e q. route_kind ws _ q)
+        (λ k. tested ((v == 2) && bytes_eq w (codes "BAR")) _ _ (λ e q. bar_kind ws _ q)
+        (λ k. tested (bytes_eq w (codes "END")) _ _ (λ e q. no_err _ q) (λ q. no_err _ q) k) k) k) k) k) k) h
