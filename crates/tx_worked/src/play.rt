@@ -105,7 +105,7 @@ fn try_plain(alloc: Global, run: Task<'_>, job: &[u8], out: &mut Told) {
 fn tell_whole(whole: &Whole<'_>, out: &mut Told) {
     tell(whole.text, out);
     match &whole.answer {
-        Err(CommandFault::NoSuchExchange | CommandFault::NoSuchCode(_)) | Ok(_) => {}
+        Err(CommandFault::NoSuchName(_)) | Ok(_) => {}
         Err(fault) => {
             let _ = write_command_fault(fault, out);
         }
