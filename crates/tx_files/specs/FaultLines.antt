@@ -5,8 +5,10 @@ use Rattle.tx_risk.specs.RiskFaults.{fault_row as risk_row}
 use Rattle.tx_join.specs.declared.contradiction.Contradiction.{Contradiction as ContradictionOf}
 use Rattle.tx_join.specs.Contradictions.{kind_word}
 use Rattle.tx_jobs.specs.JobFaults.{fault_line, text_fault_line}
+use Rattle.tx_files.specs.declared.missing.Missing.{Missing}
+use Rattle.tx_files.specs.Missing.{named_word}
 use Rattle.tx_files.specs.declared.fault.CommandFault.{CommandFault}
-use Rattle.tx_files.specs.declared.fault.CommandFault.TheVariants.{Job, OldPlan, NewPlan, Contradiction, TooManyTogether, Risks, NoSuchStage, NoSuchExchange, NoSuchCode, NoSuchGroup, NoSuchName, NotInOldPlan}
+use Rattle.tx_files.specs.declared.fault.CommandFault.TheVariants.{Job, OldPlan, NewPlan, Contradiction, TooManyTogether, Risks, NoSuchStage, NoSuchName, NotInOldPlan}
 
 -- the homes of a code, and how it can move
 abbrev pub homes_text : Option (List ℕ × List ℕ) → List ℕ
@@ -31,6 +33,16 @@ abbrev pub stage_count_line : ℕ → List ℕ
 stage_count_line n =
     codes "telexplan: no such stage: the order has " ++ (decimal n ++ codes "\n")
 
+-- the end of a line that tells of a name which is not there: the one that was probably meant
+abbrev pub hint_text : Option (List ℕ) → List ℕ
+hint_text None = codes "\n"
+hint_text (Some near) = codes "; did you mean " ++ (near ++ codes "?\n")
+
+-- that the plan does not have a name
+abbrev pub missing_line : Missing → List ℕ
+missing_line m = (codes "telexplan: no such " ++ (named_word m.named ++ codes " in the plan"))
+    ++ hint_text m.near
+
 -- that of a job; the text that is refused and its line; what contradicts; or what is not there
 abbrev pub command_line : CommandFault → List ℕ
 command_line (Job f) = fault_line f
@@ -41,8 +53,5 @@ command_line TooManyTogether =
     codes "telexplan: both plans together have too many exchanges, codes or groups\n"
 command_line (Risks f) = text_fault_line (codes "risks") f.line (risk_row f.kind)
 command_line (NoSuchStage stages) = stage_count_line stages
-command_line NoSuchExchange = codes "telexplan: no such exchange in the plan\n"
-command_line (NoSuchCode place) = codes "telexplan: no such code in the plan\n"
-command_line (NoSuchGroup place) = codes "telexplan: no such group in the plan\n"
-command_line NoSuchName = codes "telexplan: no such exchange or group in the plan\n"
+command_line (NoSuchName m) = missing_line m
 command_line NotInOldPlan = codes "telexplan: no such exchange or code in the old plan\n"

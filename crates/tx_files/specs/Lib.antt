@@ -1,4 +1,5 @@
 pub mod Faults
+pub mod Missing
 pub mod FaultLines
 pub mod Reading
 pub mod Writables

@@ -1,11 +1,15 @@
 // Why a command stopped.
-ghost use Rattle.std.specs.Prelude.{◌≡◌};
+ghost use Rattle.std.specs.Prelude.{◌≡◌, ◌⊎◌};
 ghost use Rattle.tx_files.specs.Faults.{fault_status, plan_stop, risks_stop, text_stop, memory_stop, write_stop, in_plan};
-ghost use Rattle.tx_files.specs.declared.fault.CommandFault.TheVariants.{Job as OfJob};
+ghost use Rattle.tx_files.specs.declared.fault.CommandFault.TheVariants.{Job as OfJob, NoSuchName as NoName};
+ghost use Rattle.tx_files.specs.Missing.{missing};
 
+use crate::missing::{Missing, Named};
 use crate::two_plans::Which;
+use std::alloc::Allocator;
 use tx_jobs::JobFault;
 use tx_join::Contradiction;
+use tx_plan::Plan;
 use tx_plantext::PlanFault;
 use tx_risk::{RiskFault, RiskWord};
 use tx_text::{FaultKind, FrameFault, NoMemory, WholeTextFault, WriteFault};
@@ -28,14 +32,8 @@ pub enum CommandFault {
     Risks(RiskFault),
     /// The order does not have the stage that was asked for, but so many.
     NoSuchStage(usize),
-    /// The plan has no exchange of the name that was asked for.
-    NoSuchExchange,
-    /// The plan has no code of figures that were asked for: of these, counted from 0.
-    NoSuchCode(usize),
-    /// The plan has no group of a name that was asked for: of this one, counted from 0.
-    NoSuchGroup(usize),
-    /// The plan has neither an exchange nor a group of the name that was asked for.
-    NoSuchName,
+    /// The plan does not have a name that was asked for.
+    NoSuchName(Missing),
     /// The old plan has not both the exchange and the code that were asked for.
     NotInOldPlan,
 }
@@ -113,6 +111,23 @@ impl CommandFault {
             | CommandFault::TooManyTogether
             | CommandFault::Risks(_) => 2,
             _ => 64,
+        }
+    }
+
+    /// That the plan does not have a name: which of the names that were asked for, counted from 0.
+    pub fn missing<A: Allocator + Copy>(
+        alloc: A,
+        plan: &Plan<A>,
+        named: Named,
+        place: usize,
+        word: &[u8],
+    ) -> CommandFault
+        ensures { (result ≡ NoName (missing plan.now named place word.now))
+            ⊎ (result ≡ memory_stop) }
+    {
+        match Missing::of(alloc, plan, named, place, word) {
+            Ok(missing) => CommandFault::NoSuchName(missing),
+            Err(fault) => CommandFault::from(fault),
         }
     }
 

@@ -1,9 +1,10 @@
 // The line that says why a command stopped.
 ghost use Rattle.tx_text.specs.Puts.{Puts};
 ghost use Rattle.tx_text.specs.Wrote.{Wrote};
-ghost use Rattle.tx_files.specs.FaultLines.{command_line, homes_text, differing_text, contradiction_line, stage_count_line};
+ghost use Rattle.tx_files.specs.FaultLines.{command_line, hint_text, missing_line, homes_text, differing_text, contradiction_line, stage_count_line};
 
 use crate::fault::CommandFault;
+use crate::missing::Missing;
 use itoa::Buffer;
 use tx_jobs::{write_fault, write_plan_fault, write_text_fault};
 use tx_join::Contradiction;
@@ -29,22 +30,39 @@ pub fn write_command_fault<W: Sink>(fault: &CommandFault, sink: &mut W) -> Resul
             )
         }
         CommandFault::NoSuchStage(stages) => write_stage_count(*stages, sink),
-        CommandFault::NoSuchExchange => {
-            write_bytes(b"telexplan: no such exchange in the plan\n", sink)
-        }
-        CommandFault::NoSuchCode(_) => write_bytes(b"telexplan: no such code in the plan\n", sink),
-        CommandFault::NoSuchGroup(_) => {
-            write_bytes(b"telexplan: no such group in the plan\n", sink)
-        }
-        CommandFault::NoSuchName => {
-            write_bytes(b"telexplan: no such exchange or group in the plan\n", sink)
-        }
+        CommandFault::NoSuchName(missing) => write_missing(missing, sink),
         CommandFault::NotInOldPlan => {
             write_bytes(
                 b"telexplan: no such exchange or code in the old plan\n",
                 sink,
             )
         }
+    }
+}
+
+/// Writes that the plan does not have a name.
+fn write_missing<W: Sink>(missing: &Missing, sink: &mut W) -> Result<(), WriteFault>
+    ensures { Wrote W.taken W.failed sink.old sink.new (missing_line missing.now) result }
+{
+    put_parts(
+        &[
+            b"telexplan: no such ",
+            missing.named.word(),
+            b" in the plan",
+        ],
+        sink,
+    );
+    put_hint(missing, sink);
+    finish(sink)
+}
+
+/// Writes the end of the line: the name that was probably meant, if there is one.
+pub fn put_hint<W: Sink>(missing: &Missing, sink: &mut W)
+    ensures { Puts W.taken W.failed sink.old sink.new (hint_text missing.now.near) }
+{
+    match &missing.near {
+        Some(near) => put_parts(&[b"; did you mean ", near.bytes(), b"?\n"], sink),
+        None => put_bytes(b"\n", sink),
     }
 }
 

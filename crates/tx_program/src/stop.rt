@@ -8,7 +8,7 @@ use crate::kind::TextKind;
 use std::alloc::Allocator;
 use std::io;
 use tx_commands::{Command, FillRequest, Place, STANDARD_INPUT, ThroughRequest, TraceRequest};
-use tx_files::{CommandFault, write_command_fault};
+use tx_files::{CommandFault, Missing, Named, put_hint, write_command_fault};
 use tx_jobs::{JobFault, write_fault};
 use tx_lint::write_escaped;
 use tx_text::{Sink, WriteFault, finish, put_bytes, put_parts};
@@ -117,23 +117,26 @@ fn write_with_word<W: Sink>(
     command: &Command,
     sink: &mut W,
 ) -> Result<(), WriteFault> {
-    let (what, word) = match fault {
-        CommandFault::NoSuchExchange => ("exchange", exchange_asked(command)),
-        CommandFault::NoSuchCode(place) => ("code", code_asked(command, *place)),
-        CommandFault::NoSuchGroup(place) => ("group", group_asked(command, *place)),
-        CommandFault::NoSuchName => ("exchange or group", name_asked(command)),
-        _ => ("", None),
-    };
-    let Some(word) = word else {
-        return write_command_fault(fault, sink);
-    };
-    put_parts(
-        &[b"telexplan: no such ", what.as_bytes(), b" in the plan: "],
-        sink,
-    );
-    write_escaped(word.as_bytes(), sink);
-    put_bytes(b"\n", sink);
-    finish(sink)
+    if let CommandFault::NoSuchName(missing) = fault {
+        if let Some(word) = word_asked(command, missing) {
+            let named = missing.named.word();
+            put_parts(&[b"telexplan: no such ", named, b" in the plan: "], sink);
+            write_escaped(word.as_bytes(), sink);
+            put_hint(missing, sink);
+            return finish(sink);
+        }
+    }
+    write_command_fault(fault, sink)
+}
+
+/// The word that the plan does not have.
+fn word_asked<'a>(command: &'a Command, missing: &Missing) -> Option<&'a str> {
+    match missing.named {
+        Named::Exchange => exchange_asked(command),
+        Named::Code => code_asked(command, missing.place),
+        Named::Group => group_asked(command, missing.place),
+        Named::ExchangeOrGroup => name_asked(command),
+    }
 }
 
 /// The name of the exchange that a command asks for.

@@ -74,13 +74,16 @@ exchange_within : (p : Plan) (name : List ℕ) (x : ℕ) → Some x ≡ exchange
     → x < length p.exchanges
 exchange_within p name x e = (position-Some (bytes_eq name) p.exchanges x [] (sym e)).0
 
-all_known : (p : Plan) (name figures : List ℕ) (x c : Option ℕ) (groups : Result (List ℕ) ℕ)
-    (a : ℕ × ℕ × List ℕ) → x ≡ exchange_named p name → c ≡ code_named p figures
-    → all_asked x c groups ≡ Ok a → (a.0 < length p.exchanges) × (a.1 < length p.codes)
-all_known p name figures None c groups a e f is = let bad : ⊥ = cc in absurd bad
-all_known p name figures (Some x) None groups a e f is = let bad : ⊥ = cc in absurd bad
-all_known p name figures (Some x) (Some c) (Err place) a e f is = let bad : ⊥ = cc in absurd bad
-all_known p name figures (Some x) (Some c) (Ok groups) a e f is =
+all_known : (p : Plan) (name figures : List ℕ) (word : Option (List ℕ)) (x c : Option ℕ)
+    (groups : Result (List ℕ) ℕ) (a : ℕ × ℕ × List ℕ)
+    → x ≡ exchange_named p name → c ≡ code_named p figures
+    → all_asked p name figures word x c groups ≡ Ok a
+    → (a.0 < length p.exchanges) × (a.1 < length p.codes)
+all_known p name figures word None c groups a e f is = let bad : ⊥ = cc in absurd bad
+all_known p name figures word (Some x) None groups a e f is = let bad : ⊥ = cc in absurd bad
+all_known p name figures word (Some x) (Some c) (Err place) a e f is =
+    let bad : ⊥ = cc in absurd bad
+all_known p name figures word (Some x) (Some c) (Ok groups) a e f is =
     let same : (x, c, groups) ≡ a = cc in
     subst (λ (b : ℕ × ℕ × List ℕ). (b.0 < length p.exchanges) × (b.1 < length p.codes)) same
     (exchange_within p name x e, named_within p figures c f)
@@ -90,4 +93,4 @@ pub asked_known : (p : Plan) (name figures : List ℕ) (groups : Option (List �
     (a : ℕ × ℕ × List ℕ) → asked_of p name figures groups ≡ Ok a
     → (a.0 < length p.exchanges) × (a.1 < length p.codes)
 asked_known p name figures groups a is =
-    all_known p name figures (exchange_named p name) (code_named p figures) _ a refl refl is
+    all_known p name figures groups (exchange_named p name) (code_named p figures) _ a refl refl is

@@ -1,11 +1,13 @@
 -- What is asked of a plan by names: an exchange, a code, and groups.
-use Rattle.std.specs.Prelude.{ℕ, suc, ◌==◌, List, [], ◌∷◌, Option, None, Some, Result, Ok, Err}
+use Rattle.std.specs.Prelude.{ℕ, suc, ◌==◌, List, [], ◌∷◌, Option, None, Some, Result, Ok, Err, slice_get, unwrap_or}
 use Rattle.std.specs.List.{slice_split}
 use Rattle.tx_plan.specs.Plan.{Plan, exchange_named, code_named, group_named}
 use Rattle.tx_trace.specs.declared.through.Through.{Through}
 use Rattle.tx_trace.specs.declared.through.Through.TheVariants.{Exchange, Group}
 use Rattle.tx_files.specs.declared.fault.CommandFault.{CommandFault}
-use Rattle.tx_files.specs.declared.fault.CommandFault.TheVariants.{NoSuchExchange, NoSuchCode, NoSuchGroup, NoSuchName}
+use Rattle.tx_files.specs.declared.fault.CommandFault.TheVariants.{NoSuchName}
+use Rattle.tx_files.specs.declared.missing.Named.TheVariants.{Exchange as ExchangeAsked, Code as CodeAsked, Group as GroupAsked, ExchangeOrGroup as EitherAsked}
+use Rattle.tx_files.specs.Missing.{missing}
 
 -- the names in a word, with a comma between two; 44 is the comma
 abbrev pub names_in : List ℕ → List (List ℕ)
@@ -27,19 +29,27 @@ abbrev pub groups_in : Plan → Option (List ℕ) → Result (List ℕ) ℕ
 groups_in p None = Ok []
 groups_in p (Some word) = groups_named p (names_in word)
 
--- the exchange, the code and the groups, or which of them is not there, the exchange first
-abbrev pub all_asked : (exchange code : Option ℕ) → (groups : Result (List ℕ) ℕ)
-    → Result (ℕ × ℕ × List ℕ) CommandFault
-all_asked None code groups = Err NoSuchExchange
-all_asked (Some x) None groups = Err (NoSuchCode 0)
-all_asked (Some x) (Some c) (Err place) = Err (NoSuchGroup place)
-all_asked (Some x) (Some c) (Ok groups) = Ok (x, c, groups)
+-- the name at a place of a word; no bytes where it has none
+abbrev pub name_at : Option (List ℕ) → ℕ → List ℕ
+name_at None place = []
+name_at (Some word) place = unwrap_or (slice_get (names_in word) place) []
 
--- what the plan has of these names
-abbrev pub asked_of : Plan → (exchange code : List ℕ) → (groups : Option (List ℕ))
-    → Result (ℕ × ℕ × List ℕ) CommandFault
-asked_of p exchange code groups =
-    all_asked (exchange_named p exchange) (code_named p code) (groups_in p groups)
+-- the plan does not have this name, of a word that has some
+abbrev pub no_group : Plan → Option (List ℕ) → ℕ → CommandFault
+no_group p word place = NoSuchName (missing p GroupAsked place (name_at word place))
+
+module _ (p : Plan) (exchange code : List ℕ) (groups : Option (List ℕ)) where
+  -- the exchange, the code and the groups, or which of them is not there, the exchange first
+  abbrev pub all_asked : (x c : Option ℕ) → (gs : Result (List ℕ) ℕ)
+      → Result (ℕ × ℕ × List ℕ) CommandFault
+  all_asked None c gs = Err (NoSuchName (missing p ExchangeAsked 0 exchange))
+  all_asked (Some x) None gs = Err (NoSuchName (missing p CodeAsked 0 code))
+  all_asked (Some x) (Some c) (Err place) = Err (no_group p groups place)
+  all_asked (Some x) (Some c) (Ok gs) = Ok (x, c, gs)
+
+  -- what the plan has of these names
+  abbrev pub asked_of : Result (ℕ × ℕ × List ℕ) CommandFault
+  asked_of = all_asked (exchange_named p exchange) (code_named p code) (groups_in p groups)
 
 -- an exchange, or else a group
 abbrev pub exchange_or_group : (exchange group : Option ℕ) → Option Through
@@ -51,9 +61,14 @@ exchange_or_group None None = None
 abbrev pub through_named : Plan → List ℕ → Option Through
 through_named p name = exchange_or_group (exchange_named p name) (group_named p name)
 
--- what is passed, and the groups, or which of them is not there
-abbrev pub all_passed : Option Through → (groups : Result (List ℕ) ℕ)
-    → Result (Through × List ℕ) CommandFault
-all_passed None groups = Err NoSuchName
-all_passed (Some t) (Err place) = Err (NoSuchGroup place)
-all_passed (Some t) (Ok groups) = Ok (t, groups)
+module _ (p : Plan) (name : List ℕ) (groups : Option (List ℕ)) where
+  -- what is passed, and the groups, or which of them is not there
+  abbrev pub all_passed : Option Through → (gs : Result (List ℕ) ℕ)
+      → Result (Through × List ℕ) CommandFault
+  all_passed None gs = Err (NoSuchName (missing p EitherAsked 0 name))
+  all_passed (Some t) (Err place) = Err (no_group p groups place)
+  all_passed (Some t) (Ok gs) = Ok (t, gs)
+
+  -- what the plan has of these names
+  abbrev pub passed_of : Result (Through × List ℕ) CommandFault
+  passed_of = all_passed (through_named p name) (groups_in p groups)

@@ -18,7 +18,6 @@ use Rattle.tx_page.specs.declared.subject.Subject.{Subject}
 use Rattle.tx_commands.specs.declared.grammar.TheConstants.{VERSION}
 use Rattle.tx_files.specs.declared.ending.Ending.{Ending}
 use Rattle.tx_files.specs.declared.fault.CommandFault.{CommandFault}
-use Rattle.tx_files.specs.declared.fault.CommandFault.TheVariants.{NoSuchCode}
 use Rattle.tx_commands.specs.declared.page.PageRequest.{PageRequest}
 use Rattle.tx_files.specs.declared.page_reading.PageTexts.{PageTexts}
 use Rattle.tx_files.specs.declared.two_plans.PlanText.{PlanText}
@@ -29,7 +28,7 @@ use Rattle.tx_requests.specs.declared.page.Paged.{Paged}
 use Rattle.tx_requests.specs.declared.page_change.FoundChange.{FoundChange}
 use Rattle.tx_requests.specs.declared.page_found.Found.{Found}
 use Rattle.tx_requests.specs.Grade.{IsGradeOf}
-use Rattle.tx_requests.specs.PageCodes.{is_shown, missing_code}
+use Rattle.tx_requests.specs.PageCodes.{is_shown, missing_code, IsNoCode}
 use Rattle.tx_requests.specs.Printing.{Printing}
 
 -- a byte that ends a line of a text
@@ -45,11 +44,6 @@ name_or other (b ∷ name) = b ∷ name
 abbrev pub title_of : (file text : List ℕ) → List ℕ
 title_of file text = if is_prefix (codes "# NAME ") text
     then name_or file (before is_line_end (drop 7 text)) else file
-
--- the first name in the word that is asked for of which a plan has no code
-abbrev pub IsNoCode : PageRequest → Plan → CommandFault → Type 0
-IsNoCode r p fault = (place : ℕ) × (fault ≡ NoSuchCode place)
-    × (missing_code p (option_map string_bytes r.code) ≡ Some place)
 
 module _ {A : Type 0} where
   -- the codes of which a page has pictures, in order of declaration
@@ -96,7 +90,7 @@ module _ {A : Type 0} where
   abbrev pub PageAnswers : PageRequest → PageTexts A → Result (Paged A) CommandFault → Type 0
   PageAnswers r t (Ok a) = IsPageOf r t a
   PageAnswers r t (Err fault) =
-      IsNoCode r t.plan.plan fault
+      IsNoCode t.plan.plan (option_map string_bytes r.code) fault
       ⊎ (IsNoChange t.old t.plan fault ⊎ (fault ≡ memory_stop))
 
   -- a change from an old plan, as a page shows it

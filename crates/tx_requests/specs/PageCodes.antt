@@ -1,5 +1,5 @@
 -- Of which codes a page has pictures.
-use Rattle.std.specs.Prelude.{ℕ, Bool, true, false, not, ◌||◌, ◌==◌, if◌then◌else◌, List, Option, None, Some, is_none, length, option_map, string_bytes}
+use Rattle.std.specs.Prelude.{◌≡◌, ℕ, Bool, true, false, not, ◌||◌, ◌==◌, if◌then◌else◌, List, Option, None, Some, is_none, length, option_map, string_bytes}
 use Rattle.std.specs.List.{list_any, position, range_with_len}
 use Rattle.std.specs.Option.{option_map_or}
 use Rattle.std.specs.Str.{bytes_eq}
@@ -13,7 +13,11 @@ use Rattle.tx_commands.specs.declared.page.PageRequest.{PageRequest}
 use Rattle.tx_files.specs.declared.page_reading.PageTexts.{PageTexts}
 use Rattle.tx_files.specs.declared.two_plans.PlanText.{PlanText}
 use Rattle.tx_requests.specs.declared.page_change.FoundChange.{FoundChange}
-use Rattle.tx_requests.specs.Asked.{names_in}
+use Rattle.tx_files.specs.declared.fault.CommandFault.{CommandFault}
+use Rattle.tx_files.specs.declared.fault.CommandFault.TheVariants.{NoSuchName}
+use Rattle.tx_files.specs.declared.missing.Named.TheVariants.{Code}
+use Rattle.tx_files.specs.Missing.{missing}
+use Rattle.tx_requests.specs.Asked.{name_at, names_in}
 
 -- these figures are one of the names in a word
 abbrev pub is_named : (figures word : List ℕ) → Bool
@@ -27,6 +31,11 @@ first_missing p word = position (λ w. is_none (code_named p w)) (names_in word)
 abbrev pub missing_code : Plan → Option (List ℕ) → Option ℕ
 missing_code p None = None
 missing_code p (Some word) = first_missing p word
+
+-- the first name in a word of which a plan has no code
+abbrev pub IsNoCode : Plan → Option (List ℕ) → CommandFault → Type 0
+IsNoCode p word fault = (place : ℕ) × (missing_code p word ≡ Some place)
+    × (fault ≡ NoSuchName (missing p Code place (name_at word place)))
 
 -- a bar is set or lifted
 abbrev pub is_switched : (was is : Bool) → Bool

@@ -9,13 +9,12 @@ use Rattle.tx_files.specs.declared.fault.CommandFault.{CommandFault}
 use Rattle.tx_requests.specs.declared.through.Passed.{Passed}
 use Rattle.tx_commands.specs.declared.trace.ThroughRequest.{ThroughRequest}
 use Rattle.tx_files.specs.Faults.{memory_stop}
-use Rattle.tx_requests.specs.Asked.{through_named, groups_in, all_passed}
+use Rattle.tx_requests.specs.Asked.{passed_of}
 use Rattle.tx_requests.specs.Printing.{Printing, Writes}
 
 -- what is asked of a plan by the name of what is passed, and those of groups
 abbrev pub through_asked : ThroughRequest → Plan → Result (Passing × List ℕ) CommandFault
-through_asked r p = all_passed (through_named p (string_bytes r.name))
-    (groups_in p (option_map string_bytes r.down))
+through_asked r p = passed_of p (string_bytes r.name) (option_map string_bytes r.down)
 
 module _ {A : Type 0} where
   -- what is asked for, and the calls that can pass it; or what of it is not there, unless memory

@@ -2,32 +2,32 @@
 use Rattle.std.specs.Prelude.{◌≡◌, ◌⊎◌, ℕ, List, Vec, map, Option, None, Some, string_bytes, String, Result, Ok, Err}
 use Rattle.std.specs.List.{AllByRecursion}
 use Rattle.tx_plan.specs.declared.ids.Pair.{Pair}
-use Rattle.tx_plan.specs.Plan.{Plan, exchange_named, code_named}
+use Rattle.tx_plan.specs.Plan.{Plan}
 use Rattle.tx_plan.specs.Declaring.{pair_named}
 use Rattle.tx_trace.specs.declared.way_changes.WayChange.{WayChange}
 use Rattle.tx_trace.specs.WayChanges.{changed, changed_calls, AreWaysIn, calls_of}
 use Rattle.tx_trace.specs.WayChangesText.{changes_text}
 use Rattle.tx_files.specs.declared.fault.CommandFault.{CommandFault}
-use Rattle.tx_files.specs.declared.fault.CommandFault.TheVariants.{NoSuchExchange, NoSuchCode, NotInOldPlan}
+use Rattle.tx_files.specs.declared.fault.CommandFault.TheVariants.{NotInOldPlan}
 use Rattle.tx_files.specs.declared.two_plans.WithOld.{WithOld}
 use Rattle.tx_commands.specs.declared.trace.WaysRequest.{WaysRequest}
 use Rattle.tx_files.specs.Faults.{memory_stop}
+use Rattle.tx_requests.specs.Asked.{asked_of}
 use Rattle.tx_requests.specs.Printing.{Printing, Writes}
 
--- the changes of calls that both plans have, or which of the words is not there
-abbrev pub changed_if_there : (p q : Plan) → (exchange code : Option ℕ) → (old : Option Pair)
-    → Result (List (Pair × Pair)) CommandFault
-changed_if_there p q None code old = Err NoSuchExchange
-changed_if_there p q (Some x) None old = Err (NoSuchCode 0)
-changed_if_there p q (Some x) (Some c) None = Err NotInOldPlan
-changed_if_there p q (Some x) (Some c) (Some j) =
-    Ok (changed p q (record { exchange = x; code = c }) j)
+-- the changes of calls that both plans have, or what of them is not there
+abbrev pub changed_if_there : (p q : Plan) → (asked : Result (ℕ × ℕ × List ℕ) CommandFault)
+    → (old : Option Pair) → Result (List (Pair × Pair)) CommandFault
+changed_if_there p q (Err fault) old = Err fault
+changed_if_there p q (Ok asked) None = Err NotInOldPlan
+changed_if_there p q (Ok asked) (Some j) =
+    Ok (changed p q (record { exchange = asked.0; code = asked.1 }) j)
 
 -- those of the calls for a code from an exchange
 abbrev pub changed_named : (p q : Plan) → (exchange code : List ℕ)
     → Result (List (Pair × Pair)) CommandFault
-changed_named p q exchange code = changed_if_there p q (exchange_named p exchange)
-    (code_named p code) (pair_named q exchange code)
+changed_named p q exchange code =
+    changed_if_there p q (asked_of p exchange code None) (pair_named q exchange code)
 
 -- those of the calls that are asked for, or of all
 abbrev pub changes_asked : {Z : Type 0} → Option (String Z × String Z) → (p q : Plan)

@@ -1,11 +1,11 @@
 // What is asked of a plan by names: an exchange, a code, what is passed, and groups.
-ghost use Rattle.std.specs.Prelude.{◌≡◌, IfOk, option_map};
+ghost use Rattle.std.specs.Prelude.{◌≡◌, [], slice_get, IfOk, option_map, unwrap_or};
 ghost use Rattle.std.specs.Result.{result_map_both};
-ghost use Rattle.tx_requests.specs.Asked.{names_in, groups_named, groups_in, asked_of, through_named, all_passed};
+ghost use Rattle.tx_requests.specs.Asked.{names_in, name_at, groups_named, groups_in, asked_of, through_named, passed_of};
 ghost use Rattle.tx_requests.specs.inner.Answered.{IsAnswered, IsPassed};
 
 use std::alloc::Allocator;
-use tx_files::CommandFault;
+use tx_files::{CommandFault, Named};
 use tx_plan::{CodeId, ExchangeId, GroupId, Plan};
 use tx_text::NoMemory;
 use tx_trace::Through;
@@ -22,15 +22,18 @@ pub(crate) fn asked_of<A: Allocator + Copy>(
     ensures { IsAnswered
         (asked_of plan.now exchange.now code.now (option_map (λ w. w.now) groups.entry)) result }
 {
-    let Some(exchange) = plan.exchange_named(exchange) else {
-        return Err(CommandFault::NoSuchExchange);
+    let Some(from) = plan.exchange_named(exchange) else {
+        return Err(CommandFault::missing(alloc, plan, Named::Exchange, 0, exchange));
     };
-    let Some(code) = plan.code_named(code) else {
-        return Err(CommandFault::NoSuchCode(0));
+    let Some(to) = plan.code_named(code) else {
+        return Err(CommandFault::missing(alloc, plan, Named::Code, 0, code));
     };
     match groups_in(alloc, plan, groups)? {
-        Ok(groups) => Ok((exchange, code, groups)),
-        Err(place) => Err(CommandFault::NoSuchGroup(place)),
+        Ok(groups) => Ok((from, to, groups)),
+        Err(place) => {
+            let name = name_at(groups, place);
+            Err(CommandFault::missing(alloc, plan, Named::Group, place, name))
+        }
     }
 }
 
@@ -41,15 +44,18 @@ pub(crate) fn passed_of<A: Allocator + Copy>(
     name: &[u8],
     groups: Option<&str>,
 ) -> Result<(Through, Vec<GroupId, A>), CommandFault>
-    ensures { IsPassed (all_passed (through_named plan.now name.now)
-        (groups_in plan.now (option_map (λ w. w.now) groups.entry))) result }
+    ensures { IsPassed
+        (passed_of plan.now name.now (option_map (λ w. w.now) groups.entry)) result }
 {
     let Some(through) = through_named(plan, name) else {
-        return Err(CommandFault::NoSuchName);
+        return Err(CommandFault::missing(alloc, plan, Named::ExchangeOrGroup, 0, name));
     };
     match groups_in(alloc, plan, groups)? {
         Ok(groups) => Ok((through, groups)),
-        Err(place) => Err(CommandFault::NoSuchGroup(place)),
+        Err(place) => {
+            let name = name_at(groups, place);
+            Err(CommandFault::missing(alloc, plan, Named::Group, place, name))
+        }
     }
 }
 
@@ -61,6 +67,26 @@ fn through_named<A: Allocator>(plan: &Plan<A>, name: &[u8]) -> Option<Through>
         (Some(exchange), _) => Some(Through::Exchange(exchange)),
         (None, Some(group)) => Some(Through::Group(group)),
         (None, None) => None,
+    }
+}
+
+/// The name at a place of a word, with a comma between two; no bytes where it has none.
+fn name_at(word: Option<&str>, place: usize) -> &[u8]
+    ensures { result.now ≡ name_at (option_map (λ w. w.now) word.entry) place }
+{
+    match word {
+        Some(word) => nth_name(word, place),
+        None => b"",
+    }
+}
+
+/// The same of a word that is there.
+pub(crate) fn nth_name(word: &str, place: usize) -> &[u8]
+    ensures { result.now ≡ unwrap_or (slice_get (names_in word.now) place) [] }
+{
+    match word.split(',').nth(place) {
+        Some(name) => name.as_bytes(),
+        None => b"",
     }
 }
 

@@ -44,7 +44,7 @@ impl<A: Allocator + Copy> Request<A> for PageRequest {
     ghost ends = { λ _. PageEnds };
 
     fn answer(&self, alloc: A, texts: Self::Texts) -> Result<Self::Answer, CommandFault> {
-        refuse_missing(&texts.plan.plan, self.code.as_deref())?;
+        refuse_missing(alloc, &texts.plan.plan, self.code.as_deref())?;
         let change = change_of(alloc, &texts.old, &texts.plan, self.limits)?;
         let found = found_of(alloc, &texts.plan.plan, self.limits, &texts.risks)?;
         let pictures = pictures_of(alloc, self, &texts, &found, &change)?;

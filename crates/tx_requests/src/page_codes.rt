@@ -1,11 +1,13 @@
 // Of which codes a page has pictures.
-ghost use Rattle.std.specs.Prelude.{◌≡◌, ℕ, Some, None, option_map, IfOk, IfErr};
-ghost use Rattle.tx_requests.specs.PageCodes.{is_named, first_missing, missing_code, is_about, has_finding, differs_at, differs, is_touched, is_shown};
+ghost use Rattle.std.specs.Prelude.{◌≡◌, ◌⊎◌, None, option_map, IfOk, IfErr};
+ghost use Rattle.tx_requests.specs.PageCodes.{is_named, first_missing, missing_code, IsNoCode, is_about, has_finding, differs_at, differs, is_touched, is_shown};
+ghost use Rattle.tx_files.specs.Faults.{memory_stop};
 
+use crate::asked::nth_name;
 use crate::page_change::FoundChange;
 use std::alloc::Allocator;
 use tx_commands::PageRequest;
-use tx_files::{CommandFault, PageTexts, PlanText};
+use tx_files::{CommandFault, Named, PageTexts, PlanText};
 use tx_join::Joined;
 use tx_plan::{CodeId, ExchangeId, Plan};
 use tx_rank::{Finding, Ranking};
@@ -26,18 +28,22 @@ fn first_missing<A: Allocator>(plan: &Plan<A>, word: &str) -> Option<usize>
 }
 
 /// Refuses a word that names a code which the plan does not have.
-pub(crate) fn refuse_missing<A: Allocator>(
+pub(crate) fn refuse_missing<A: Allocator + Copy>(
+    alloc: A,
     plan: &Plan<A>,
     word: Option<&str>,
 ) -> Result<(), CommandFault>
-    ensures missing { IfErr result (λ fault. (place : ℕ) × (fault ≡ CommandFault.NoSuchCode place)
-        × (missing_code plan.now (option_map (λ w. w.now) word.entry) ≡ Some place)) }
+    ensures missing { IfErr result (λ fault.
+        IsNoCode plan.now (option_map (λ w. w.now) word.entry) fault ⊎ (fault ≡ memory_stop)) }
     ensures none { IfOk result (λ _.
         missing_code plan.now (option_map (λ w. w.now) word.entry) ≡ None) }
 {
     match word {
         Some(word) => match first_missing(plan, word) {
-            Some(place) => Err(CommandFault::NoSuchCode(place)),
+            Some(place) => {
+                let name = nth_name(word, place);
+                Err(CommandFault::missing(alloc, plan, Named::Code, place, name))
+            }
             None => Ok(()),
         },
         None => Ok(()),

@@ -3,6 +3,7 @@ ghost use Rattle.tx_files.specs.Ending.{EndsWell};
 ghost use Rattle.tx_files.specs.TwoPlans.{AreSaid};
 ghost use Rattle.tx_requests.specs.WayChanges.{changed_named, changes_asked, AreChanges, WaysAnswers, ways_prints};
 
+use crate::asked::asked_of;
 use crate::request::Request;
 use std::alloc::Allocator;
 use tx_commands::WaysRequest;
@@ -68,15 +69,13 @@ fn changes_named<A: Allocator + Copy>(
     ensures { AreChanges plan.now old.now
         (changed_named plan.now old.now exchange.now code.now) result }
 {
-    let were = old.pair_named(exchange, code);
-    let Some(exchange) = plan.exchange_named(exchange) else {
-        return Err(CommandFault::NoSuchExchange);
-    };
-    let Some(code) = plan.code_named(code) else {
-        return Err(CommandFault::NoSuchCode(0));
-    };
-    let Some(were) = were else {
+    let (from, to, _) = asked_of(alloc, plan, exchange, code, None)?;
+    let Some(were) = old.pair_named(exchange, code) else {
         return Err(CommandFault::NotInOldPlan);
     };
-    Ok(change_of_calls(alloc, plan, old, Pair { exchange, code }, were)?)
+    let pair = Pair {
+        exchange: from,
+        code: to,
+    };
+    Ok(change_of_calls(alloc, plan, old, pair, were)?)
 }

@@ -80,10 +80,7 @@ fn tell_whole(whole: &Whole, out: &mut Told) {
         return;
     };
     match fault {
-        CommandFault::NoSuchExchange
-        | CommandFault::NoSuchCode(_)
-        | CommandFault::NoSuchGroup(_)
-        | CommandFault::NoSuchName => {}
+        CommandFault::NoSuchName(_) => {}
         fault => {
             let _ = write_command_fault(&fault, out);
         }

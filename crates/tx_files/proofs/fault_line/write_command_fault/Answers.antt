@@ -23,20 +23,11 @@ returns-in-Contradiction g c = rw c.in-Contradiction.is c.write_contradiction.en
 pub returns-in-TooManyTogether : goal.returns-in-TooManyTogether
 returns-in-TooManyTogether g c = rw c.in-TooManyTogether.is c.write_bytes.ensures
 
-pub returns-in-NoSuchExchange : goal.returns-in-NoSuchExchange
-returns-in-NoSuchExchange g c = rw c.in-NoSuchExchange.is c.write_bytes-in-NoSuchExchange.ensures
-
 pub returns-in-NoSuchStage : goal.returns-in-NoSuchStage
 returns-in-NoSuchStage g c = rw c.in-NoSuchStage.is c.write_stage_count.ensures
 
-pub returns-in-NoSuchCode : goal.returns-in-NoSuchCode
-returns-in-NoSuchCode g c = rw c.in-NoSuchCode.is c.write_bytes-in-NoSuchCode.ensures
-
-pub returns-in-NoSuchGroup : goal.returns-in-NoSuchGroup
-returns-in-NoSuchGroup g c = rw c.in-NoSuchGroup.is c.write_bytes-in-NoSuchGroup.ensures
-
 pub returns-in-NoSuchName : goal.returns-in-NoSuchName
-returns-in-NoSuchName g c = rw c.in-NoSuchName.is c.write_bytes-in-NoSuchName.ensures
+returns-in-NoSuchName g c = rw c.in-NoSuchName.is c.write_missing.ensures
 
 pub returns-in-NotInOldPlan : goal.returns-in-NotInOldPlan
 returns-in-NotInOldPlan g c = rw c.in-NotInOldPlan.is c.write_bytes-in-NotInOldPlan.ensures

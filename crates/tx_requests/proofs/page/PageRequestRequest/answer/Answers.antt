@@ -1,5 +1,11 @@
+use Rattle.std.specs.Prelude.{◌⊎◌}
 use Rattle.tx_requests.proofs.Common.{inl, inr, refl, exits_with, memory_stop}
 use Rattle.tx_requests.proofs.page.PageRequestRequest.answer.Goals as goal
+
+-- a cause among three
+or_memory : {A B C : Type 0} → A ⊎ C → A ⊎ (B ⊎ C)
+or_memory (inl a) = inl a
+or_memory (inr c) = inr (inr c)
 
 pub found_of-requires : goal.found_of-requires
 found_of-requires g c = c.requires.risks
@@ -16,7 +22,7 @@ returns g c = record {
 pub returns-in_err-refuse_missing : goal.returns-in_err-refuse_missing
 returns-in_err-refuse_missing g c =
     rw (exits_with c.from_residual.result c.in_err-refuse_missing.field-0.0 c.from_residual.ensures.1)
-    (inl (rw c.as_deref.ensures.value at c.in_err-refuse_missing.ensures.missing))
+    (or_memory (rw c.as_deref.ensures.value at c.in_err-refuse_missing.ensures.missing))
 
 pub returns-in_err-change : goal.returns-in_err-change
 returns-in_err-change g c =

@@ -1,3 +1,4 @@
+use Rattle.std.specs.Prelude.{option_map}
 use Rattle.tx_requests.proofs.Common.{inr, refl, exits_with, memory_stop}
 use Rattle.tx_requests.proofs.Asking.{asked_known}
 use Rattle.tx_requests.proofs.trace.TraceRequestRequest.answer.Goals as goal
@@ -13,12 +14,12 @@ returns g c = (
 pub trace_calls-requires-clause-code : goal.trace_calls-requires-clause-code
 trace_calls-requires-clause-code g c =
     rw c.in_ok-left.ensures
-    (asked_known c.args.texts c.as_bytes-exchange.result.now c.as_bytes-code.result.now _ _ c.in_ok-exchange.ensures).1
+    (asked_known c.args.texts c.as_bytes-exchange.result.now c.as_bytes-code.result.now (option_map (λ w. w.now) c.as_deref.result) _ c.in_ok-exchange.ensures).1
 
 pub trace_calls-requires-clause-exchange : goal.trace_calls-requires-clause-exchange
 trace_calls-requires-clause-exchange g c =
     rw c.in_ok-left.ensures
-    (asked_known c.args.texts c.as_bytes-exchange.result.now c.as_bytes-code.result.now _ _ c.in_ok-exchange.ensures).0
+    (asked_known c.args.texts c.as_bytes-exchange.result.now c.as_bytes-code.result.now (option_map (λ w. w.now) c.as_deref.result) _ c.in_ok-exchange.ensures).0
 
 pub returns-in_err-exchange : goal.returns-in_err-exchange
 returns-in_err-exchange g c =
