@@ -77,10 +77,11 @@ module _ {A : Type 0} where
       no_order_text p (findings_of before) (findings_of after)
   verdict_text new (NewUnsound findings) = verdict_after (codes "NEW ") new findings.items
 
-  -- The report: what was asked, what is done before the first stage, the stages, with the lists that
-  -- are replaced, what is done after the last one, how many lists there are, and the verdict
-  abbrev pub order_report : (old new : Plan) → (limit spare : ℕ)
+  -- The report: what was asked, after the word that says which order it is; what is done before the
+  -- first stage, the stages, with the lists that are replaced, what is done after the last one, how
+  -- many lists there are, and the verdict
+  abbrev pub order_report : (word : List ℕ) → (old new : Plan) → (limit spare : ℕ)
       → OrderVerdict A → List ℕ
-  order_report old new limit spare verdict = asked_line (codes "ORDER") limit spare
+  order_report word old new limit spare verdict = asked_line word limit spare
       ++ (before_text old new ++ (found_text verdict ++ (after_text old new
       ++ (lists_line old new ++ verdict_text new verdict))))

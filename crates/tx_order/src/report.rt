@@ -19,10 +19,11 @@ use tx_plantext::write_new_list;
 use tx_rank::{Finding, Ranking, write_asked, write_no};
 use tx_text::{Sink, WriteFault, finish, put_bytes, put_parts};
 
-/// Writes the report of the search for an order: what was asked, what is done before, the stages
-/// with what each switches, with the old lists, what is done after, how many lists there are, and
-/// YES, or what is wrong and NO.
+/// Writes the report of the search for an order: what was asked after a word that says which order
+/// it is, what is done before, the stages with what each switches, with the old lists, what is done
+/// after, how many lists there are, and YES, or what is wrong and NO.
 pub fn write_order<A: Allocator, W: Sink>(
+    word: &[u8],
     old: &Plan<A>,
     new: &Plan<A>,
     verdict: &OrderVerdict<A>,
@@ -30,9 +31,9 @@ pub fn write_order<A: Allocator, W: Sink>(
     sink: &mut W,
 ) -> Result<(), WriteFault>
     ensures { Wrote W.taken W.failed sink.old sink.new
-        (order_report old.now new.now limits.limit limits.spare verdict.now) result }
+        (order_report word.now old.now new.now limits.limit limits.spare verdict.now) result }
 {
-    write_asked(b"ORDER", limits, sink);
+    write_asked(word, limits, sink);
     write_before(old, new, sink);
     write_found(verdict, sink);
     write_after(old, new, sink);
