@@ -7,6 +7,7 @@ ghost use Rattle.tx_commands.specs.inner.Refused.{IsRefused};
 
 use crate::arguments::Syntax;
 use crate::command::Command;
+use crate::down::{Down, down};
 use crate::given::{limits, text};
 use crate::misuse::Misuse;
 use clap::ArgMatches;
@@ -21,6 +22,14 @@ pub struct AuditRequest {
     pub limits: Limits,
     pub cert: Option<String>,
     pub counter: Option<String>,
+}
+
+/// `audit PLAN --limit L --spare K --down GROUP,..`: of the plan that is left.
+#[derive(Drop)]
+pub struct AuditDownRequest {
+    pub plan: String,
+    pub limits: Limits,
+    pub down: Down,
 }
 
 const AUDIT_HELP: &str = "Example: telexplan audit own.plan --limit 1 --spare 1 --cert own.cert
@@ -49,6 +58,7 @@ pub(crate) fn audit_grammar<'a>(alloc: Global) -> Result<clap::Command<'a>, Allo
         "After NO, write a script to this file that shows the
 first finding that has one",
     )
+    .down()
     .command
 }
 
@@ -64,10 +74,16 @@ pub(crate) fn audit_of(alloc: Global, matches: &ArgMatches<'_>) -> Result<Comman
     let cert = text(alloc, matches, "cert")?;
     let counter = text(alloc, matches, "counter")?;
     let limits = limits(alloc, matches)?;
-    Ok(Command::Audit(AuditRequest {
-        plan,
-        limits,
-        cert,
-        counter,
-    }))
+    match down(alloc, matches)? {
+        None => Ok(Command::Audit(AuditRequest {
+            plan,
+            limits,
+            cert,
+            counter,
+        })),
+        Some(down) if cert.is_none() && counter.is_none() => {
+            Ok(Command::AuditDown(AuditDownRequest { plan, limits, down }))
+        }
+        Some(_) => Err(Misuse::DownFiles),
+    }
 }

@@ -7,6 +7,7 @@ ghost use Rattle.tx_commands.specs.inner.Refused.{IsRefused};
 
 use crate::arguments::{NEW_PLAN, OLD_PLAN, Syntax};
 use crate::command::Command;
+use crate::down::{Down, down, refuse_files};
 use crate::given::{limits, text};
 use crate::misuse::Misuse;
 use clap::ArgMatches;
@@ -23,6 +24,7 @@ pub struct ChangeRequest {
     pub cert: Option<String>,
     pub mixture: Option<String>,
     pub counter: Option<String>,
+    pub down: Option<Down>,
 }
 
 const CHANGE_HELP: &str = "Example: telexplan change own.plan new.plan --limit 1 --spare 1
@@ -61,6 +63,7 @@ file that shows the first finding that has a walk",
         "After NO, write a script to this file that shows the
 same finding in that plan, if there is one",
     )
+    .down()
     .command
 }
 
@@ -75,6 +78,9 @@ pub(crate) fn change_of(alloc: Global, matches: &ArgMatches<'_>) -> Result<Comma
     let cert = text(alloc, matches, "cert")?;
     let mixture = text(alloc, matches, "mixture")?;
     let counter = text(alloc, matches, "counter")?;
+    let down = down(alloc, matches)?;
+    let made = cert.is_some() || mixture.is_some() || counter.is_some();
+    refuse_files(&down, made)?;
     let limits = limits(alloc, matches)?;
     match (old, new) {
         (Some(old), Some(new)) => Ok(Command::Change(ChangeRequest {
@@ -84,6 +90,7 @@ pub(crate) fn change_of(alloc: Global, matches: &ArgMatches<'_>) -> Result<Comma
             cert,
             mixture,
             counter,
+            down,
         })),
         _ => Err(Misuse::Incomplete),
     }

@@ -7,6 +7,7 @@ ghost use Rattle.tx_commands.specs.inner.Refused.{IsRefused};
 
 use crate::arguments::Syntax;
 use crate::command::Command;
+use crate::down::{Down, down};
 use crate::given::text;
 use crate::misuse::Misuse;
 use clap::ArgMatches;
@@ -16,6 +17,7 @@ use std::alloc::{AllocError, Global};
 #[derive(Drop)]
 pub struct GradeRequest {
     pub plan: String,
+    pub down: Option<Down>,
 }
 
 const GRADE_HELP: &str = "Example: telexplan grade own.plan
@@ -33,6 +35,7 @@ pub(crate) fn grade_grammar<'a>(alloc: Global) -> Result<clap::Command<'a>, Allo
         "Say with which transit limits and spare numbers a plan is safe",
         GRADE_HELP,
     )
+    .down()
     .command
 }
 
@@ -45,5 +48,6 @@ pub(crate) fn grade_of(alloc: Global, matches: &ArgMatches<'_>) -> Result<Comman
     let Some(plan) = text(alloc, matches, "plan")? else {
         return Err(Misuse::Incomplete);
     };
-    Ok(Command::Grade(GradeRequest { plan }))
+    let down = down(alloc, matches)?;
+    Ok(Command::Grade(GradeRequest { plan, down }))
 }

@@ -23,6 +23,8 @@ pub(crate) enum Misuse {
     /// `trace` has none of an exchange and a code, `--through` and `--from`, or some that do not go
     /// together.
     TraceWords,
+    /// A file is to be made of a plan of which something is down.
+    DownFiles,
     /// `explain` has these words, of which none is explained.
     NoSuchCode(String),
     /// Standard input is to be read for two files.
@@ -51,7 +53,10 @@ impl Misuse {
     /// What kind of refusal it is, as the library of command lines has them.
     pub(crate) fn kind(&self) -> ErrorKind {
         match self {
-            Misuse::CheckedTelling | Misuse::InputTwice | Misuse::Overwrites(_) =>
+            Misuse::CheckedTelling
+            | Misuse::DownFiles
+            | Misuse::InputTwice
+            | Misuse::Overwrites(_) =>
                 ErrorKind::ArgumentConflict,
             Misuse::Number(..) | Misuse::NoSuchCode(_) => ErrorKind::InvalidValue,
             Misuse::StageMissing | Misuse::RisksOnly | Misuse::TraceWords =>
@@ -78,6 +83,7 @@ impl Misuse {
     fn reason(&self) -> &'static str {
         match self {
             Misuse::CheckedTelling => "--strict, --echo and --summary do not go with --cert",
+            Misuse::DownFiles => "only of a whole plan is a file made: leave out --down",
             Misuse::StageMissing => "--plan and --cert go with --stage",
             Misuse::RisksOnly => "--risks-only goes with --risks",
             Misuse::TraceWords =>

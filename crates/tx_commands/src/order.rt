@@ -7,6 +7,7 @@ ghost use Rattle.tx_commands.specs.inner.Refused.{IsRefused};
 
 use crate::arguments::{MOST_STAGES, NEW_PLAN, OLD_PLAN, Syntax};
 use crate::command::Command;
+use crate::down::{Down, down, refuse_files};
 use crate::given::{is_given, limits, number_of, text};
 use crate::misuse::Misuse;
 use clap::ArgMatches;
@@ -23,6 +24,7 @@ pub struct OrderRequest {
     pub stage: Option<u8>,
     pub plan: Option<String>,
     pub cert: Option<String>,
+    pub down: Option<Down>,
 }
 
 const ORDER_HELP: &str = "Example: telexplan order own.plan new.plan --limit 1 --spare 1
@@ -55,6 +57,7 @@ pub(crate) fn order_grammar<'a>(alloc: Global) -> Result<clap::Command<'a>, Allo
         "After YES, write a certificate of the plans before and
 after that stage to this file",
     )
+    .down()
     .command
 }
 
@@ -75,6 +78,8 @@ pub(crate) fn order_of(alloc: Global, matches: &ArgMatches<'_>) -> Result<Comman
     } else {
         None
     };
+    let down = down(alloc, matches)?;
+    refuse_files(&down, plan.is_some() || cert.is_some())?;
     let limits = limits(alloc, matches)?;
     match (old, new) {
         (Some(old), Some(new)) => Ok(Command::Order(OrderRequest {
@@ -84,6 +89,7 @@ pub(crate) fn order_of(alloc: Global, matches: &ArgMatches<'_>) -> Result<Comman
             stage,
             plan,
             cert,
+            down,
         })),
         _ => Err(Misuse::Incomplete),
     }

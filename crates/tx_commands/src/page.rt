@@ -7,6 +7,7 @@ ghost use Rattle.tx_commands.specs.inner.Refused.{IsRefused};
 
 use crate::arguments::{RISKS, Syntax};
 use crate::command::Command;
+use crate::down::{Down, down};
 use crate::given::{is_set, limits, text};
 use crate::misuse::Misuse;
 use clap::ArgMatches;
@@ -26,6 +27,7 @@ pub struct PageRequest {
     pub code: Option<String>,
     pub all_codes: bool,
     pub html: Option<String>,
+    pub down: Option<Down>,
 }
 
 const PAGE_HELP: &str = "The page is one file, which needs no other and fetches nothing. It has the
@@ -64,6 +66,7 @@ with a comma between two",
     )
     .flag("all-codes", "Show the lists of each code")
     .option("html", "OUT", "Write the page to this file")
+    .down()
     .command
 }
 
@@ -81,6 +84,7 @@ pub(crate) fn page_of(alloc: Global, matches: &ArgMatches<'_>) -> Result<Command
     let code = text(alloc, matches, "code")?;
     let all_codes = is_set(matches, "all-codes");
     let html = text(alloc, matches, "html")?;
+    let down = down(alloc, matches)?;
     let limits = limits(alloc, matches)?;
     Ok(Command::Page(PageRequest {
         plan,
@@ -90,5 +94,6 @@ pub(crate) fn page_of(alloc: Global, matches: &ArgMatches<'_>) -> Result<Command
         code,
         all_codes,
         html,
+        down,
     }))
 }

@@ -6,3 +6,4 @@ pub mod Ending
 pub mod TwoPlans
 pub mod Made
 pub mod PageReading
+pub mod Left

@@ -1,15 +1,11 @@
 -- What is asked of a plan by names: an exchange, a code, and groups.
-use Rattle.std.specs.Prelude.{ℕ, suc, ◌==◌, List, [], ◌∷◌, Option, None, Some, Result, Ok, Err}
-use Rattle.std.specs.List.{slice_split}
+use Rattle.std.specs.Prelude.{ℕ, suc, List, [], ◌∷◌, Option, None, Some, Result, Ok, Err}
 use Rattle.tx_plan.specs.Plan.{Plan, exchange_named, code_named, group_named}
 use Rattle.tx_trace.specs.declared.through.Through.{Through}
 use Rattle.tx_trace.specs.declared.through.Through.TheVariants.{Exchange, Group}
 use Rattle.tx_files.specs.declared.fault.CommandFault.{CommandFault}
 use Rattle.tx_files.specs.declared.fault.CommandFault.TheVariants.{NoSuchExchange, NoSuchCode, NoSuchGroup, NoSuchName}
-
--- the names in a word, with a comma between two; 44 is the comma
-abbrev pub names_in : List ℕ → List (List ℕ)
-names_in = slice_split (λ b. b == 44)
+use Rattle.tx_files.specs.Left.{names_in}
 
 -- the group of a name and those of the names behind it, or the place of the first name without one
 abbrev pub group_before : Option ℕ → Result (List ℕ) ℕ → Result (List ℕ) ℕ

@@ -1,14 +1,19 @@
--- What is left to say once the report of an audit is out.
-use Rattle.std.specs.Prelude.{◌≡◌, ℕ, Bool, true, false, List, [], ◌∷◌, Option, None, Some, is_some, Result, Ok, Err}
+-- What is left to say once the report of an audit is out, and an audit while groups are down.
+use Rattle.std.specs.Prelude.{◌≡◌, ℕ, Bool, true, false, List, [], ◌∷◌, Option, None, Some, is_some, if◌then◌else◌, Result, Ok, Err}
 use Rattle.std.specs.List.{list_any}
 use Rattle.std.specs.Option.{IfSome}
 use Rattle.tx_plan.specs.Plan.{Plan}
 use Rattle.tx_cert.specs.CertText.{cert_written}
 use Rattle.tx_rank.specs.declared.finding.Finding.{Finding}
+use Rattle.tx_rank.specs.declared.ranking.Ranking.{Ranking}
+use Rattle.tx_rank.specs.Report.{findings_of}
+use Rattle.tx_page.specs.Page.{is_safe}
 use Rattle.tx_audit.specs.Counter.{has_counter, first_counter_of}
+use Rattle.tx_audit.specs.Audits.{IsRightRanking, audit_report}
 use Rattle.tx_audit.specs.Breaks.{ShowsOne}
 use Rattle.tx_audit.specs.declared.audited.Audited.{Audited}
 use Rattle.tx_audit.specs.declared.audited.Audited.TheVariants.{Sound, Unsound}
+use Rattle.tx_commands.specs.declared.audit.AuditDownRequest.{AuditDownRequest}
 use Rattle.tx_commands.specs.declared.audit.AuditRequest.{AuditRequest}
 use Rattle.tx_files.specs.declared.ending.Ending.{Ending}
 use Rattle.tx_files.specs.declared.fault.CommandFault.{CommandFault}
@@ -16,6 +21,7 @@ use Rattle.tx_files.specs.declared.made.Made.{Made}
 use Rattle.tx_files.specs.Ending.{EndsWith, EndsWithTexts}
 use Rattle.tx_files.specs.Faults.{memory_stop}
 use Rattle.tx_files.specs.Made.{shown_plan, shown_events}
+use Rattle.tx_requests.specs.Printing.{Printing, Writes}
 
 module _ {A : Type 0} where
   -- The script has the plan and the events of the first finding that has some, and these show one
@@ -36,6 +42,19 @@ module _ {A : Type 0} where
       (e.status ≡ 1) × ShowsCounter p limit spare findings e.made
   EndsAfterNo true p limit spare findings (Err fault) = fault ≡ memory_stop
   EndsAfterNo false p limit spare findings result = EndsWith 1 result
+
+  -- the plan, and its ranking
+  abbrev pub DownAnswers : AuditDownRequest → Plan → Result (Plan × Ranking A) CommandFault → Type 0
+  DownAnswers r p (Ok a) = (a.0 ≡ p) × IsRightRanking p r.limits.limit r.limits.spare a.1
+  DownAnswers r p (Err fault) = fault ≡ memory_stop
+
+  -- the report of an audit
+  abbrev pub down_prints : AuditDownRequest → Plan × Ranking A → Printing
+  down_prints r a = Writes (audit_report a.0 r.limits.limit r.limits.spare (findings_of a.1))
+
+  -- status 0 after a Yes
+  abbrev pub DownEnds : Plan × Ranking A → Result (Ending A) CommandFault → Type 0
+  DownEnds a = EndsWith (if is_safe a.1 then 0 else 1)
 
   -- status 0 after a Yes, and the certificate goes into a file
   abbrev pub AuditEnds : AuditRequest → Audited A → Result (Ending A) CommandFault → Type 0

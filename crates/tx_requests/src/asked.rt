@@ -1,7 +1,8 @@
 // What is asked of a plan by names: an exchange, a code, what is passed, and groups.
 ghost use Rattle.std.specs.Prelude.{◌≡◌, IfOk, option_map};
 ghost use Rattle.std.specs.Result.{result_map_both};
-ghost use Rattle.tx_requests.specs.Asked.{names_in, groups_named, groups_in, asked_of, through_named, all_passed};
+ghost use Rattle.tx_files.specs.Left.{names_in};
+ghost use Rattle.tx_requests.specs.Asked.{groups_named, groups_in, asked_of, through_named, all_passed};
 ghost use Rattle.tx_requests.specs.inner.Answered.{IsAnswered, IsPassed};
 
 use std::alloc::Allocator;

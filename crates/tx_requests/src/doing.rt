@@ -14,7 +14,7 @@ use std::alloc::Allocator;
 use tx_commands::Command;
 use tx_files::{
     CommandFault, Ending, Which, read_for_page, read_one, read_plans, read_plans_with_risks,
-    read_whole, read_with_old, read_with_risks,
+    read_whole, read_with_old, read_with_risks, while_down,
 };
 use tx_text::{Sink, Source};
 
@@ -46,30 +46,44 @@ pub fn do_command<A: Allocator + Copy, P: Source, Q: Source, R: Source, W: Sink>
         Command::Codes(_) => do_codes(alloc, first, out),
         Command::Audit(request) => do_audit(alloc, request, first, out),
         Command::Lint(request) => do_lint(alloc, request, first, second, out),
+        Command::AuditDown(request) => {
+            let texts = while_down(alloc, Some(&request.down), read_one(alloc, first));
+            carry_out(alloc, request, texts, out)
+        }
         Command::Change(request) => {
-            carry_out(alloc, request, read_plans(alloc, first, second), out)
+            let texts = read_plans(alloc, first, second);
+            let texts = while_down(alloc, request.down.as_ref(), texts);
+            carry_out(alloc, request, texts, out)
         }
         Command::Order(request) => {
-            carry_out(alloc, request, read_plans(alloc, first, second), out)
+            let texts = read_plans(alloc, first, second);
+            let texts = while_down(alloc, request.down.as_ref(), texts);
+            carry_out(alloc, request, texts, out)
         }
         Command::Mend(request) => {
             carry_out(alloc, request, read_whole(alloc, Which::This, first), out)
         }
         Command::Survive(request) => {
             let texts = read_with_risks(alloc, request.risks.is_some(), first, second);
+            let texts = while_down(alloc, request.down.as_ref(), texts);
             carry_out(alloc, request, texts, out)
         }
         Command::Compare(request) => {
             let named = request.risks.is_some();
             let texts = read_plans_with_risks(alloc, named, first, second, third);
+            let texts = while_down(alloc, request.down.as_ref(), texts);
             carry_out(alloc, request, texts, out)
         }
         Command::Page(request) => {
             let (risks, old) = (request.risks.is_some(), request.old.is_some());
             let texts = read_for_page(alloc, risks, old, first, second, third);
+            let texts = while_down(alloc, request.down.as_ref(), texts);
             carry_out(alloc, request, texts, out)
         }
-        Command::Grade(request) => carry_out(alloc, request, read_one(alloc, first), out),
+        Command::Grade(request) => {
+            let texts = while_down(alloc, request.down.as_ref(), read_one(alloc, first));
+            carry_out(alloc, request, texts, out)
+        }
         Command::Trace(request) => carry_out(alloc, request, read_one(alloc, first), out),
         Command::TraceThrough(request) => carry_out(alloc, request, read_one(alloc, first), out),
         Command::TraceChanges(request) => {

@@ -3,6 +3,7 @@
 #![tactic(auto)]
 
 mod asked;
+mod audit_down;
 mod auditing;
 mod carrying;
 mod change;

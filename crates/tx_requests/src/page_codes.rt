@@ -1,21 +1,14 @@
 // Of which codes a page has pictures.
 ghost use Rattle.std.specs.Prelude.{◌≡◌, ℕ, Some, None, option_map, IfOk, IfErr};
-ghost use Rattle.tx_requests.specs.PageCodes.{is_named, first_missing, missing_code, is_about, has_finding, differs_at, differs, is_touched, is_shown};
+ghost use Rattle.tx_requests.specs.PageCodes.{first_missing, missing_code, is_about, has_finding, differs_at, differs, is_touched, is_shown};
 
 use crate::page_change::FoundChange;
 use std::alloc::Allocator;
 use tx_commands::PageRequest;
-use tx_files::{CommandFault, PageTexts, PlanText};
+use tx_files::{CommandFault, PageTexts, PlanText, is_named};
 use tx_join::Joined;
 use tx_plan::{CodeId, ExchangeId, Plan};
 use tx_rank::{Finding, Ranking};
-
-/// Whether a word names the figures of a code. It has a comma between two.
-fn is_named(word: &str, figures: &[u8]) -> bool
-    ensures { result ≡ is_named figures.now word.now }
-{
-    word.split(',').any(|name| name.as_bytes() == figures)
-}
 
 /// The place of the first name in a word of which the plan has no code.
 fn first_missing<A: Allocator>(plan: &Plan<A>, word: &str) -> Option<usize>

@@ -1,0 +1,276 @@
+// Texts while groups are down: what is left of their plans.
+ghost use Rattle.std.specs.Prelude.{◌≡◌, ◌×◌, Some, None, filter, length, option_map, IfOk, IfErr};
+ghost use Rattle.std.specs.List.{position, range_with_len};
+ghost use Rattle.tx_plan.specs.Plan.{Plan as PlanNow};
+ghost use Rattle.tx_plan.specs.Rules.{IsPlan};
+ghost use Rattle.tx_commands.specs.declared.down.Down.{Down as DownNow};
+ghost use Rattle.tx_files.specs.Faults.{memory_stop};
+ghost use Rattle.tx_files.specs.Left.{names_in, is_named, is_end_of, is_down, plan_while, lack_group, missing_group, missing_down, IsLeft, one_plan, IsPlanLeft, text_while, plan_at_risk, IsLeftAtRisk, two_plans, AreLeft, plans_at_risk, AreLeftAtRisk, page_plans, IsLeftForPage};
+ghost use Rattle.tx_files.specs.PageReading.{AreForPage};
+ghost use Rattle.tx_files.specs.Reading.{HasItsRisks};
+ghost use Rattle.tx_files.specs.TwoPlans.{AreJoined, HavePlansRisks};
+
+use crate::fault::CommandFault;
+use crate::page_reading::PageTexts;
+use crate::reading::PlanRisks;
+use crate::two_plans::{PlanText, PlansRisks, TwoPlans, joined_of};
+use std::alloc::Allocator;
+use tx_commands::Down;
+use tx_plan::{GroupId, Plan};
+use tx_text::NoMemory;
+use tx_trace::plan_left;
+
+/// Whether a name is one of those in a word. It has a comma between two.
+pub fn is_named(word: &str, name: &[u8]) -> bool
+    ensures { result ≡ is_named name.now word.now }
+{
+    word.split(',').any(|other| other.as_bytes() == name)
+}
+
+/// Whether the exchange of a name is an end of the group.
+fn is_end_of<A: Allocator>(plan: &Plan<A>, group: GroupId, name: &[u8]) -> bool
+    ensures { result ≡ is_end_of plan.now group name.now }
+{
+    match plan.exchange_named(name) {
+        Some(exchange) => plan.other_end(group, exchange).is_some(),
+        None => false,
+    }
+}
+
+/// Whether a group is down.
+fn is_down<A: Allocator>(plan: &Plan<A>, down: &Down, group: GroupId) -> bool
+    ensures { result ≡ is_down plan.now down.now group }
+{
+    let named = match &down.groups {
+        Some(word) => is_named(word, plan.group_name(group)),
+        None => false,
+    };
+    let ended = match &down.exchange {
+        Some(name) => is_end_of(plan, group, name.as_bytes()),
+        None => false,
+    };
+    named || ended
+}
+
+/// The groups of a plan that are down.
+fn groups_down<A: Allocator + Copy>(
+    alloc: A,
+    plan: &Plan<A>,
+    down: &Down,
+) -> Result<Vec<GroupId, A>, NoMemory>
+    ensures { IfOk result (λ groups. groups.items
+        ≡ filter (is_down plan.now down.now) (range_with_len 0 (length plan.now.groups))) }
+{
+    let mut groups = Vec::new(alloc);
+    for index in 0..plan.groups() {
+        let group = GroupId::of(index);
+        if is_down(plan, down, group) {
+            groups.push(group)?;
+        }
+    }
+    Ok(groups)
+}
+
+/// The plan without the groups that are down.
+fn plan_while<A: Allocator + Copy>(
+    alloc: A,
+    plan: Plan<A>,
+    down: &Down,
+) -> Result<Plan<A>, NoMemory>
+    ensures left { IfOk result (λ left. left ≡ plan_while down.now plan) }
+    ensures rules { IfOk result IsPlan }
+{
+    let groups = groups_down(alloc, &plan, down)?;
+    let left = plan_left(alloc, plan, &groups)?;
+    left.rules();
+    Ok(left)
+}
+
+/// The place of the first name in a word of which neither plan has a group.
+fn missing_group<A: Allocator>(plan: &Plan<A>, other: &Plan<A>, word: &str) -> Option<usize>
+    ensures { result ≡ position (lack_group plan.now other.now) (names_in word.now) }
+{
+    word.split(',').position(|name| {
+        let name = name.as_bytes();
+        plan.group_named(name).is_none() && other.group_named(name).is_none()
+    })
+}
+
+/// Refuses what is to be down by a name that neither plan has: the exchange first.
+fn refuse_missing<A: Allocator>(
+    plan: &Plan<A>,
+    other: &Plan<A>,
+    down: &Down,
+) -> Result<(), CommandFault>
+    ensures missing { IfErr result
+        (λ fault. missing_down plan.now other.now down.now ≡ Some fault) }
+    ensures none { IfOk result (λ _. missing_down plan.now other.now down.now ≡ None) }
+{
+    if let Some(name) = &down.exchange {
+        let name = name.as_bytes();
+        if plan.exchange_named(name).is_none() && other.exchange_named(name).is_none() {
+            return Err(CommandFault::NoSuchExchange);
+        }
+    }
+    match &down.groups {
+        Some(word) => match missing_group(plan, other, word) {
+            Some(place) => Err(CommandFault::NoSuchGroup(place)),
+            None => Ok(()),
+        },
+        None => Ok(()),
+    }
+}
+
+/// What a text says, of which groups can be left out.
+pub trait Texts<A: Allocator + Copy>: Drop {
+    // Its two plans, or its one plan twice.
+    ghost plans: { Self → PlanNow × PlanNow };
+
+    // What is known of it.
+    ghost known: { Self → Type 0 };
+
+    // It is left of another one while this is down.
+    ghost left: { DownNow → Self → Self → Type 0 };
+
+    /// Its two plans, or its one plan twice.
+    fn plans(&self) -> (&Plan<A>, &Plan<A>)
+        ensures first { result.0.now ≡ (plans self.now).0 }
+        ensures second { result.1.now ≡ (plans self.now).1 };
+
+    /// What is left of it.
+    fn leave_out(self, alloc: A, down: &Down) -> Result<Self, CommandFault>
+        requires { known self }
+        ensures left { IfOk result (left down.now self) }
+        ensures known { IfOk result known }
+        ensures refused { IfErr result (λ fault. fault ≡ memory_stop) };
+}
+
+/// What was read, while this is down.
+pub fn while_down<A: Allocator + Copy, T: Texts<A>>(
+    alloc: A,
+    down: Option<&Down>,
+    texts: Result<T, CommandFault>,
+) -> Result<T, CommandFault>
+    requires { IfOk texts T.known }
+    ensures left { IsLeft T.plans T.left (option_map (λ d. d.now) down.entry) texts result }
+    ensures known { IfOk result T.known }
+{
+    let texts = texts?;
+    let Some(down) = down else {
+        return Ok(texts);
+    };
+    let (plan, other) = texts.plans();
+    refuse_missing(plan, other, down)?;
+    texts.leave_out(alloc, down)
+}
+
+impl<A: Allocator + Copy> Texts<A> for Plan<A> {
+    ghost plans = { one_plan };
+
+    ghost known = { IsPlan };
+
+    ghost left = { IsPlanLeft };
+
+    fn plans(&self) -> (&Plan<A>, &Plan<A>) {
+        (self, self)
+    }
+
+    fn leave_out(self, alloc: A, down: &Down) -> Result<Self, CommandFault> {
+        Ok(plan_while(alloc, self, down)?)
+    }
+}
+
+impl<A: Allocator + Copy> Texts<A> for PlanRisks<A> {
+    ghost plans = { plan_at_risk };
+
+    ghost known = { HasItsRisks };
+
+    ghost left = { IsLeftAtRisk };
+
+    fn plans(&self) -> (&Plan<A>, &Plan<A>) {
+        (&self.plan, &self.plan)
+    }
+
+    fn leave_out(self, alloc: A, down: &Down) -> Result<Self, CommandFault> {
+        let PlanRisks { plan, risks } = self;
+        let plan = plan_while(alloc, plan, down)?;
+        Ok(PlanRisks { plan, risks })
+    }
+}
+
+/// The text, and its plan without the groups that are down.
+fn text_while<A: Allocator + Copy>(
+    alloc: A,
+    text: PlanText<A>,
+    down: &Down,
+) -> Result<PlanText<A>, NoMemory>
+    ensures left { IfOk result (λ left. left ≡ text_while down.now text) }
+    ensures rules { IfOk result (λ left. IsPlan left.plan) }
+{
+    let PlanText { text, plan } = text;
+    let plan = plan_while(alloc, plan, down)?;
+    Ok(PlanText { text, plan })
+}
+
+impl<A: Allocator + Copy> Texts<A> for TwoPlans<A> {
+    ghost plans = { two_plans };
+
+    ghost known = { AreJoined };
+
+    ghost left = { AreLeft };
+
+    fn plans(&self) -> (&Plan<A>, &Plan<A>) {
+        (&self.old.plan, &self.new.plan)
+    }
+
+    fn leave_out(self, alloc: A, down: &Down) -> Result<Self, CommandFault> {
+        let TwoPlans { old, new, .. } = self;
+        let old = text_while(alloc, old, down)?;
+        let new = text_while(alloc, new, down)?;
+        let joined = joined_of(alloc, &old, &new)?;
+        Ok(TwoPlans { old, new, joined })
+    }
+}
+
+impl<A: Allocator + Copy> Texts<A> for PlansRisks<A> {
+    ghost plans = { plans_at_risk };
+
+    ghost known = { HavePlansRisks };
+
+    ghost left = { AreLeftAtRisk };
+
+    fn plans(&self) -> (&Plan<A>, &Plan<A>) {
+        self.plans.plans()
+    }
+
+    fn leave_out(self, alloc: A, down: &Down) -> Result<Self, CommandFault> {
+        let PlansRisks { plans, risks } = self;
+        let plans = plans.leave_out(alloc, down)?;
+        Ok(PlansRisks { plans, risks })
+    }
+}
+
+impl<A: Allocator + Copy> Texts<A> for PageTexts<A> {
+    ghost plans = { page_plans };
+
+    ghost known = { AreForPage };
+
+    ghost left = { IsLeftForPage };
+
+    fn plans(&self) -> (&Plan<A>, &Plan<A>) {
+        match &self.old {
+            Some(old) => (&self.plan.plan, &old.plan),
+            None => (&self.plan.plan, &self.plan.plan),
+        }
+    }
+
+    fn leave_out(self, alloc: A, down: &Down) -> Result<Self, CommandFault> {
+        let PageTexts { plan, risks, old } = self;
+        let plan = text_while(alloc, plan, down)?;
+        let old = match old {
+            Some(old) => Some(text_while(alloc, old, down)?),
+            None => None,
+        };
+        Ok(PageTexts { plan, risks, old })
+    }
+}
