@@ -7,7 +7,7 @@ ghost use Rattle.tx_commands.specs.inner.Refused.{IsRefused};
 
 use crate::arguments::Syntax;
 use crate::command::Command;
-use crate::down::{Down, down};
+use crate::down::{Down, down_asked};
 use crate::given::{limits, text};
 use crate::misuse::Misuse;
 use clap::ArgMatches;
@@ -74,7 +74,7 @@ pub(crate) fn audit_of(alloc: Global, matches: &ArgMatches<'_>) -> Result<Comman
     let cert = text(alloc, matches, "cert")?;
     let counter = text(alloc, matches, "counter")?;
     let limits = limits(alloc, matches)?;
-    match down(alloc, matches)? {
+    match down_asked(alloc, matches)? {
         None => Ok(Command::Audit(AuditRequest {
             plan,
             limits,

@@ -7,7 +7,7 @@ ghost use Rattle.tx_commands.specs.inner.Refused.{IsRefused};
 
 use crate::arguments::{NEW_PLAN, OLD_PLAN, Syntax};
 use crate::command::Command;
-use crate::down::{Down, down, refuse_files};
+use crate::down::{Down, down_asked, refuse_files};
 use crate::given::{limits, text};
 use crate::misuse::Misuse;
 use clap::ArgMatches;
@@ -78,7 +78,7 @@ pub(crate) fn change_of(alloc: Global, matches: &ArgMatches<'_>) -> Result<Comma
     let cert = text(alloc, matches, "cert")?;
     let mixture = text(alloc, matches, "mixture")?;
     let counter = text(alloc, matches, "counter")?;
-    let down = down(alloc, matches)?;
+    let down = down_asked(alloc, matches)?;
     let made = cert.is_some() || mixture.is_some() || counter.is_some();
     refuse_files(&down, made)?;
     let limits = limits(alloc, matches)?;

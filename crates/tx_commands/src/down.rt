@@ -18,7 +18,7 @@ pub struct Down {
 }
 
 /// What is down, if anything is.
-pub(crate) fn down(alloc: Global, matches: &ArgMatches<'_>) -> Result<Option<Down>, AllocError>
+pub(crate) fn down_asked(alloc: Global, matches: &ArgMatches<'_>) -> Result<Option<Down>, AllocError>
     ensures { IfOk result (AsksForDown (rows_of (found_of matches.now))) }
 {
     let groups = text(alloc, matches, "down")?;

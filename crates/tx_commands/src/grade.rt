@@ -7,7 +7,7 @@ ghost use Rattle.tx_commands.specs.inner.Refused.{IsRefused};
 
 use crate::arguments::Syntax;
 use crate::command::Command;
-use crate::down::{Down, down};
+use crate::down::{Down, down_asked};
 use crate::given::text;
 use crate::misuse::Misuse;
 use clap::ArgMatches;
@@ -48,6 +48,6 @@ pub(crate) fn grade_of(alloc: Global, matches: &ArgMatches<'_>) -> Result<Comman
     let Some(plan) = text(alloc, matches, "plan")? else {
         return Err(Misuse::Incomplete);
     };
-    let down = down(alloc, matches)?;
+    let down = down_asked(alloc, matches)?;
     Ok(Command::Grade(GradeRequest { plan, down }))
 }

@@ -7,7 +7,7 @@ ghost use Rattle.tx_commands.specs.inner.Refused.{IsRefused};
 
 use crate::arguments::{MOST_STAGES, NEW_PLAN, OLD_PLAN, Syntax};
 use crate::command::Command;
-use crate::down::{Down, down, refuse_files};
+use crate::down::{Down, down_asked, refuse_files};
 use crate::given::{is_given, limits, number_of, text};
 use crate::misuse::Misuse;
 use clap::ArgMatches;
@@ -78,7 +78,7 @@ pub(crate) fn order_of(alloc: Global, matches: &ArgMatches<'_>) -> Result<Comman
     } else {
         None
     };
-    let down = down(alloc, matches)?;
+    let down = down_asked(alloc, matches)?;
     refuse_files(&down, plan.is_some() || cert.is_some())?;
     let limits = limits(alloc, matches)?;
     match (old, new) {

@@ -7,7 +7,7 @@ ghost use Rattle.tx_commands.specs.inner.Refused.{IsRefused};
 
 use crate::arguments::{RISKS, Syntax};
 use crate::command::Command;
-use crate::down::{Down, down};
+use crate::down::{Down, down_asked};
 use crate::given::{is_set, limits, text};
 use crate::misuse::Misuse;
 use clap::ArgMatches;
@@ -84,7 +84,7 @@ pub(crate) fn page_of(alloc: Global, matches: &ArgMatches<'_>) -> Result<Command
     let code = text(alloc, matches, "code")?;
     let all_codes = is_set(matches, "all-codes");
     let html = text(alloc, matches, "html")?;
-    let down = down(alloc, matches)?;
+    let down = down_asked(alloc, matches)?;
     let limits = limits(alloc, matches)?;
     Ok(Command::Page(PageRequest {
         plan,

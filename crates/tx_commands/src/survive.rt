@@ -7,7 +7,7 @@ ghost use Rattle.tx_commands.specs.inner.Refused.{IsRefused};
 
 use crate::arguments::{RISKS, Syntax};
 use crate::command::Command;
-use crate::down::{Down, down};
+use crate::down::{Down, down_asked};
 use crate::given::{is_set, text};
 use crate::misuse::Misuse;
 use clap::ArgMatches;
@@ -77,7 +77,7 @@ pub(crate) fn survive_of(alloc: Global, matches: &ArgMatches<'_>) -> Result<Comm
         None if only => return Err(Misuse::RisksOnly),
         None => None,
     };
-    let down = down(alloc, matches)?;
+    let down = down_asked(alloc, matches)?;
     match old {
         Some(old) => Ok(Command::Compare(CompareRequest {
             old,

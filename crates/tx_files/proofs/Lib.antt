@@ -1,3 +1,4 @@
 pub mod Uncalled
+mod LeftGroups
 mod Texts
 mod RevisedText

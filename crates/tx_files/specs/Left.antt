@@ -43,30 +43,25 @@ plan_while d p = plan_left p (filter (is_down p d) (range_with_len 0 (length p.g
 
 -- WHAT NO PLAN HAS
 
--- neither plan has an exchange of this name
-abbrev pub lack_exchange : (p q : Plan) → List ℕ → Bool
-lack_exchange p q name = is_none (exchange_named p name) && is_none (exchange_named q name)
+-- neither plan has the exchange of a name, if there is one
+abbrev pub lack_exchange : (p q : Plan) → Option (List ℕ) → Bool
+lack_exchange p q None = false
+lack_exchange p q (Some name) = is_none (exchange_named p name) && is_none (exchange_named q name)
 
 -- neither plan has a group of this name
 abbrev pub lack_group : (p q : Plan) → List ℕ → Bool
 lack_group p q name = is_none (group_named p name) && is_none (group_named q name)
 
--- the first name of a group that neither plan has
+-- the first name in a word of which neither plan has a group, if there is a word
 abbrev pub missing_group : (p q : Plan) → Option (List ℕ) → Option CommandFault
 missing_group p q None = None
 missing_group p q (Some word) =
     option_map NoSuchGroup (position (lack_group p q) (names_in word))
 
--- the exchange, if neither plan has it; else that
-abbrev pub missing_by : (p q : Plan) → (exchange groups : Option (List ℕ)) → Option CommandFault
-missing_by p q None groups = missing_group p q groups
-missing_by p q (Some name) groups =
-    if lack_exchange p q name then Some NoSuchExchange else missing_group p q groups
-
--- what is to be down by a name that neither plan has
+-- what is to be down by a name that neither plan has: the exchange first
 abbrev pub missing_down : (p q : Plan) → Down → Option CommandFault
-missing_down p q d =
-    missing_by p q (option_map string_bytes d.exchange) (option_map string_bytes d.groups)
+missing_down p q d = if lack_exchange p q (option_map string_bytes d.exchange)
+    then Some NoSuchExchange else missing_group p q (option_map string_bytes d.groups)
 
 -- THE TEXTS
 
@@ -79,15 +74,16 @@ module _ {T : Type 0} (plans : T → Plan × Plan) (left : Down → T → T → 
       (missing_down (plans t).0 (plans t).1 d ≡ Some fault) ⊎ (fault ≡ memory_stop)
 
   -- the same of what was read, if something is to be down
-  abbrev pub IsLeft : Option Down → (read result : Result T CommandFault) → Type 0
-  IsLeft None (Ok t) result = result ≡ Ok t
-  IsLeft (Some d) (Ok t) result = IsLeftWhile d t result
-  IsLeft down (Err fault) result = result ≡ Err fault
+  abbrev pub IsLeft : (read : Result T CommandFault) → Option Down → (result : Result T CommandFault)
+      → Type 0
+  IsLeft (Ok t) None result = result ≡ Ok t
+  IsLeft (Ok t) (Some d) result = IsLeftWhile d t result
+  IsLeft (Err fault) down result = result ≡ Err fault
 
   -- so texts are read
   abbrev pub ReadsLeft : Option Down → (reads : Result T CommandFault → Type 0)
       → Result T CommandFault → Type 0
-  ReadsLeft down reads result = (read : Result T CommandFault) × reads read × IsLeft down read result
+  ReadsLeft down reads result = (read : Result T CommandFault) × reads read × IsLeft read down result
 
 -- of a plan alone
 abbrev pub one_plan : Plan → Plan × Plan

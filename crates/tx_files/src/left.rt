@@ -1,11 +1,12 @@
 // Texts while groups are down: what is left of their plans.
-ghost use Rattle.std.specs.Prelude.{◌≡◌, ◌×◌, Some, None, filter, length, option_map, IfOk, IfErr};
+ghost use Rattle.std.specs.Prelude.{◌≡◌, false, filter, length, option_map, IfOk, IfErr};
 ghost use Rattle.std.specs.List.{position, range_with_len};
-ghost use Rattle.tx_plan.specs.Plan.{Plan as PlanNow};
+ghost use Rattle.std.specs.Option.{option_map_or};
+ghost use Rattle.tx_plan.specs.Plan.{Plan as PlanNow, group_name};
 ghost use Rattle.tx_plan.specs.Rules.{IsPlan};
 ghost use Rattle.tx_commands.specs.declared.down.Down.{Down as DownNow};
 ghost use Rattle.tx_files.specs.Faults.{memory_stop};
-ghost use Rattle.tx_files.specs.Left.{names_in, is_named, is_end_of, is_down, plan_while, lack_group, missing_group, missing_down, IsLeft, one_plan, IsPlanLeft, text_while, plan_at_risk, IsLeftAtRisk, two_plans, AreLeft, plans_at_risk, AreLeftAtRisk, page_plans, IsLeftForPage};
+ghost use Rattle.tx_files.specs.Left.{names_in, is_named, is_end_of, is_down, plan_while, lack_exchange, lack_group, missing_down, IsLeft, one_plan, IsPlanLeft, text_while, plan_at_risk, IsLeftAtRisk, two_plans, AreLeft, plans_at_risk, AreLeftAtRisk, page_plans, IsLeftForPage};
 ghost use Rattle.tx_files.specs.PageReading.{AreForPage};
 ghost use Rattle.tx_files.specs.Reading.{HasItsRisks};
 ghost use Rattle.tx_files.specs.TwoPlans.{AreJoined, HavePlansRisks};
@@ -27,12 +28,27 @@ pub fn is_named(word: &str, name: &[u8]) -> bool
     word.split(',').any(|other| other.as_bytes() == name)
 }
 
-/// Whether the exchange of a name is an end of the group.
-fn is_end_of<A: Allocator>(plan: &Plan<A>, group: GroupId, name: &[u8]) -> bool
-    ensures { result ≡ is_end_of plan.now group name.now }
+/// Whether a group has one of the names in a word, if there is one.
+fn has_name<A: Allocator>(plan: &Plan<A>, group: GroupId, word: Option<&str>) -> bool
+    ensures { result ≡ option_map_or (is_named (group_name plan.now group))
+        (option_map (λ w. w.now) word.entry) false }
 {
-    match plan.exchange_named(name) {
-        Some(exchange) => plan.other_end(group, exchange).is_some(),
+    match word {
+        Some(word) => is_named(word, plan.group_name(group)),
+        None => false,
+    }
+}
+
+/// Whether the exchange of a name is an end of the group, if there is a name.
+fn is_end_of<A: Allocator>(plan: &Plan<A>, group: GroupId, name: Option<&str>) -> bool
+    ensures { result ≡ option_map_or (is_end_of plan.now group)
+        (option_map (λ w. w.now) name.entry) false }
+{
+    match name {
+        Some(name) => match plan.exchange_named(name.as_bytes()) {
+            Some(exchange) => plan.other_end(group, exchange).is_some(),
+            None => false,
+        },
         None => false,
     }
 }
@@ -41,15 +57,8 @@ fn is_end_of<A: Allocator>(plan: &Plan<A>, group: GroupId, name: &[u8]) -> bool
 fn is_down<A: Allocator>(plan: &Plan<A>, down: &Down, group: GroupId) -> bool
     ensures { result ≡ is_down plan.now down.now group }
 {
-    let named = match &down.groups {
-        Some(word) => is_named(word, plan.group_name(group)),
-        None => false,
-    };
-    let ended = match &down.exchange {
-        Some(name) => is_end_of(plan, group, name.as_bytes()),
-        None => false,
-    };
-    named || ended
+    has_name(plan, group, down.groups.as_deref())
+        || is_end_of(plan, group, down.exchange.as_deref())
 }
 
 /// The groups of a plan that are down.
@@ -86,39 +95,47 @@ fn plan_while<A: Allocator + Copy>(
     Ok(left)
 }
 
-/// The place of the first name in a word of which neither plan has a group.
-fn missing_group<A: Allocator>(plan: &Plan<A>, other: &Plan<A>, word: &str) -> Option<usize>
-    ensures { result ≡ position (lack_group plan.now other.now) (names_in word.now) }
+/// Whether neither plan has a group of this name.
+fn lack_group<A: Allocator>(plan: &Plan<A>, other: &Plan<A>, name: &[u8]) -> bool
+    ensures { result ≡ lack_group plan.now other.now name.now }
 {
-    word.split(',').position(|name| {
-        let name = name.as_bytes();
-        plan.group_named(name).is_none() && other.group_named(name).is_none()
-    })
+    plan.group_named(name).is_none() && other.group_named(name).is_none()
 }
 
-/// Refuses what is to be down by a name that neither plan has: the exchange first.
-fn refuse_missing<A: Allocator>(
+/// The place of the first name in a word of which neither plan has a group.
+fn first_missing<A: Allocator>(plan: &Plan<A>, other: &Plan<A>, word: &str) -> Option<usize>
+    ensures { result ≡ position (lack_group plan.now other.now) (names_in word.now) }
+{
+    word.split(',')
+        .position(|name| lack_group(plan, other, name.as_bytes()))
+}
+
+/// Whether neither plan has the exchange of a name, if there is one.
+fn lack_exchange<A: Allocator>(plan: &Plan<A>, other: &Plan<A>, name: Option<&str>) -> bool
+    ensures { result ≡ lack_exchange plan.now other.now (option_map (λ w. w.now) name.entry) }
+{
+    match name {
+        Some(name) => {
+            let name = name.as_bytes();
+            plan.exchange_named(name).is_none() && other.exchange_named(name).is_none()
+        }
+        None => false,
+    }
+}
+
+/// What is to be down by a name that neither plan has: the exchange first.
+fn missing_down<A: Allocator>(
     plan: &Plan<A>,
     other: &Plan<A>,
     down: &Down,
-) -> Result<(), CommandFault>
-    ensures missing { IfErr result
-        (λ fault. missing_down plan.now other.now down.now ≡ Some fault) }
-    ensures none { IfOk result (λ _. missing_down plan.now other.now down.now ≡ None) }
+) -> Option<CommandFault>
+    ensures { result ≡ missing_down plan.now other.now down.now }
 {
-    if let Some(name) = &down.exchange {
-        let name = name.as_bytes();
-        if plan.exchange_named(name).is_none() && other.exchange_named(name).is_none() {
-            return Err(CommandFault::NoSuchExchange);
-        }
+    if lack_exchange(plan, other, down.exchange.as_deref()) {
+        return Some(CommandFault::NoSuchExchange);
     }
-    match &down.groups {
-        Some(word) => match missing_group(plan, other, word) {
-            Some(place) => Err(CommandFault::NoSuchGroup(place)),
-            None => Ok(()),
-        },
-        None => Ok(()),
-    }
+    let place = first_missing(plan, other, down.groups.as_deref()?)?;
+    Some(CommandFault::NoSuchGroup(place))
 }
 
 /// What a text says, of which groups can be left out.
@@ -152,7 +169,7 @@ pub fn while_down<A: Allocator + Copy, T: Texts<A>>(
     texts: Result<T, CommandFault>,
 ) -> Result<T, CommandFault>
     requires { IfOk texts T.known }
-    ensures left { IsLeft T.plans T.left (option_map (λ d. d.now) down.entry) texts result }
+    ensures left { IsLeft T.plans T.left texts (option_map (λ d. d.now) down.entry) result }
     ensures known { IfOk result T.known }
 {
     let texts = texts?;
@@ -160,8 +177,10 @@ pub fn while_down<A: Allocator + Copy, T: Texts<A>>(
         return Ok(texts);
     };
     let (plan, other) = texts.plans();
-    refuse_missing(plan, other, down)?;
-    texts.leave_out(alloc, down)
+    match missing_down(plan, other, down) {
+        Some(fault) => Err(fault),
+        None => texts.leave_out(alloc, down),
+    }
 }
 
 impl<A: Allocator + Copy> Texts<A> for Plan<A> {
