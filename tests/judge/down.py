@@ -22,7 +22,7 @@ def judge_down(program, old, new, at, down, exchange):
         return {name: left(plan, gone).text for name, plan in zip("pq", (old, new))}
 
     for words in (["audit", "p", *numbers(*at)], ["grade", "p"], ["survive", "p"], ["change", "p", "q", *numbers(*at)], ["order", "p", "q", *numbers(*at)], ["survive", "q", "--from", "p"]):
-        if "q" not in words and any(g not in old.groups for g in down) or exchange and exchange not in old.exchanges:
+        if "q" not in words and (any(g not in old.groups for g in down) or exchange and exchange not in old.exchanges):
             continue
         ran = program.run([*words, *asked], texts(False))
         if missing:

@@ -13,7 +13,8 @@ bars; - is standard input";
 
 /// What the help says of the named risks.
 pub(crate) const RISKS: &str = "The named risks, such as cables: lines RISK name
-group .., between RISKS 1 and END; - is standard input";
+group .., between RISKS 1 and END; - is standard
+input";
 
 pub(crate) const OLD_PLAN: &str = "The plan that is in force; - is standard input";
 
@@ -149,7 +150,7 @@ impl<'a> Syntax<'a> {
         ensures { (app : App) → Takes self.entry app → Takes result (grammar.with_down app) }
     {
         self.option("down", "GROUP,..", DOWN)
-            .option("down-exchange", "EXCHANGE", DOWN_EXCHANGE)
+            .option("down-exchange", "X", DOWN_EXCHANGE)
     }
 
     /// Adds the number of a stage.

@@ -83,7 +83,9 @@ impl Misuse {
     fn reason(&self) -> &'static str {
         match self {
             Misuse::CheckedTelling => "--strict, --echo and --summary do not go with --cert",
-            Misuse::DownFiles => "only of a whole plan is a file made: leave out --down",
+            Misuse::DownFiles => {
+                "--down and --down-exchange do not go with --cert, --counter, --mixture and --plan"
+            },
             Misuse::StageMissing => "--plan and --cert go with --stage",
             Misuse::RisksOnly => "--risks-only goes with --risks",
             Misuse::TraceWords =>

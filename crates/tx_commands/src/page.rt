@@ -55,14 +55,15 @@ pub(crate) fn page_grammar<'a>(alloc: Global) -> Result<clap::Command<'a>, Alloc
     .option(
         "from",
         "OLD",
-        "The plan that is in force: show in which stages its lists
-change into those of the plan; - is standard input",
+        "The plan that is in force: show in which stages its
+lists change into those of the plan; - is standard
+input",
     )
     .option(
         "code",
         "CODES",
-        "Show the lists of these codes alone, by their figures,
-with a comma between two",
+        "Show the lists of these codes alone, by their
+figures, with a comma between two",
     )
     .flag("all-codes", "Show the lists of each code")
     .option("html", "OUT", "Write the page to this file")

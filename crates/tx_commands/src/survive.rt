@@ -54,8 +54,8 @@ pub(crate) fn survive_grammar<'a>(alloc: Global) -> Result<clap::Command<'a>, Al
     .option(
         "from",
         "OLD",
-        "The plan that is in force: say whether anybody is worse
-off by the plan; - is standard input",
+        "The plan that is in force: say whether anybody is
+worse off by the plan; - is standard input",
     )
     .down()
     .command

@@ -1,5 +1,5 @@
 // Texts while groups are down: what is left of their plans.
-ghost use Rattle.std.specs.Prelude.{◌≡◌, false, filter, length, option_map, IfOk, IfErr};
+ghost use Rattle.std.specs.Prelude.{◌≡◌, false, filter, length, option_map, IfOk, IfErr, IfSome};
 ghost use Rattle.std.specs.List.{position, range_with_len};
 ghost use Rattle.std.specs.Option.{option_map_or};
 ghost use Rattle.tx_plan.specs.Plan.{Plan as PlanNow, group_name};
@@ -231,6 +231,21 @@ fn text_while<A: Allocator + Copy>(
     Ok(PlanText { text, plan })
 }
 
+/// The same of an old plan, if there is one.
+fn old_while<A: Allocator + Copy>(
+    alloc: A,
+    old: Option<PlanText<A>>,
+    down: &Down,
+) -> Result<Option<PlanText<A>>, NoMemory>
+    ensures left { IfOk result (λ left. left ≡ option_map (text_while down.now) old) }
+    ensures rules { IfOk result (λ left. IfSome left (λ o. IsPlan o.plan)) }
+{
+    match old {
+        Some(old) => Ok(Some(text_while(alloc, old, down)?)),
+        None => Ok(None),
+    }
+}
+
 impl<A: Allocator + Copy> Texts<A> for TwoPlans<A> {
     ghost plans = { two_plans };
 
@@ -286,10 +301,7 @@ impl<A: Allocator + Copy> Texts<A> for PageTexts<A> {
     fn leave_out(self, alloc: A, down: &Down) -> Result<Self, CommandFault> {
         let PageTexts { plan, risks, old } = self;
         let plan = text_while(alloc, plan, down)?;
-        let old = match old {
-            Some(old) => Some(text_while(alloc, old, down)?),
-            None => None,
-        };
+        let old = old_while(alloc, old, down)?;
         Ok(PageTexts { plan, risks, old })
     }
 }
