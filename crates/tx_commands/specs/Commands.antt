@@ -11,7 +11,7 @@ use Rattle.tx_commands.specs.Entries.{is_known}
 use Rattle.tx_commands.specs.Grammar.{program_words}
 use Rattle.tx_commands.specs.declared.command.Command.{Command}
 use Rattle.tx_commands.specs.declared.down.Down.{Down}
-use Rattle.tx_commands.specs.declared.command.Command.TheVariants.{Pipe, Run, RunTelling, Check, Lint, Codes, Audit, AuditDown, Change, Order, Mend, Survive, Compare, Page, Grade, Trace, TraceThrough, TraceChanges, Fill, Explain}
+use Rattle.tx_commands.specs.declared.command.Command.TheVariants.{Pipe, Run, RunTelling, Check, Lint, Codes, Audit, Change, Order, Mend, Survive, Compare, Page, Grade, Trace, TraceThrough, TraceChanges, Fill, Explain}
 
 -- the words of a command name this file
 abbrev pub Names : {Z : Type 0} → List Row → List ℕ → String Z → Type 0
@@ -113,10 +113,8 @@ Asks name found (Lint r) = (name ≡ codes "lint") × Names found (codes "plan")
 Asks name found (Codes r) = (name ≡ codes "codes") × Names found (codes "plan") r.plan
 Asks name found (Audit r) = (name ≡ codes "audit") × Names found (codes "plan") r.plan
     × GivesLimits found r.limits × NamesIfAny found (codes "cert") r.cert
-    × NamesIfAny found (codes "counter") r.counter × AsksForDown found None
-Asks name found (AuditDown r) = (name ≡ codes "audit") × Names found (codes "plan") r.plan
-    × GivesLimits found r.limits × AsksForDown found (Some r.down)
-    × (first_of (codes "cert") found ≡ None) × (first_of (codes "counter") found ≡ None)
+    × NamesIfAny found (codes "counter") r.counter × AsksForDown found r.down
+    × AreOfWholePlan r.down (is_some r.cert || is_some r.counter)
 Asks name found (Change r) = (name ≡ codes "change") × Names found (codes "before") r.old
     × Names found (codes "after") r.new × GivesLimits found r.limits
     × NamesIfAny found (codes "cert") r.cert × NamesIfAny found (codes "mixture") r.mixture

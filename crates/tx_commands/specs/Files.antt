@@ -3,7 +3,7 @@ use Rattle.std.specs.Prelude.{ℕ, Bool, List, [], ◌∷◌, Option, None, Some
 use Rattle.std.specs.Borrow.{Bor}
 use Rattle.tx_plan.specs.declared.limits.Limits.{Limits}
 use Rattle.tx_commands.specs.declared.command.Command.{Command}
-use Rattle.tx_commands.specs.declared.command.Command.TheVariants.{Pipe, Run, RunTelling, Check, Lint, Codes, Audit, AuditDown, Change, Order, Mend, Survive, Compare, Page, Grade, Trace, TraceThrough, TraceChanges, Fill, Explain}
+use Rattle.tx_commands.specs.declared.command.Command.TheVariants.{Pipe, Run, RunTelling, Check, Lint, Codes, Audit, Change, Order, Mend, Survive, Compare, Page, Grade, Trace, TraceThrough, TraceChanges, Fill, Explain}
 use Rattle.tx_commands.specs.declared.files.Files.{Files}
 use Rattle.tx_commands.specs.declared.page.PageRequest.{PageRequest}
 use Rattle.tx_commands.specs.declared.run.RunRequest.{RunRequest}
@@ -108,7 +108,6 @@ file_names (Audit r) = record (one_read (string_bytes r.plan)) {
   cert = option_map string_bytes r.cert;
   script = option_map string_bytes r.counter;
 }
-file_names (AuditDown r) = one_read (string_bytes r.plan)
 file_names (Change r) = record (two_read (string_bytes r.old) (string_bytes r.new)) {
   plan = option_map string_bytes r.mixture;
   cert = option_map string_bytes r.cert;

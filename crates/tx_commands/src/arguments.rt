@@ -23,7 +23,8 @@ pub(crate) const NEW_PLAN: &str = "The plan that is to be; - is standard input";
 /// What the help says of the groups that are down.
 pub(crate) const DOWN: &str = "The groups that are down, with a comma between two";
 
-const DOWN_EXCHANGE: &str = "An exchange of which all groups are down";
+/// What it says of an exchange of which all groups are.
+pub(crate) const DOWN_EXCHANGE: &str = "An exchange of which all groups are down";
 
 const LIMIT: &str = "At most how many transits a call may pass: 0 to 62";
 
@@ -143,14 +144,6 @@ impl<'a> Syntax<'a> {
         let limit = number(self.alloc, "limit", "L", LIMIT, 62).required(needed);
         let spare = number(self.alloc, "spare", "K", SPARE, 15).required(needed);
         self.arg(limit).arg(spare)
-    }
-
-    /// Adds what is down.
-    pub(crate) fn down(self) -> Syntax<'a>
-        ensures { (app : App) → Takes self.entry app → Takes result (grammar.with_down app) }
-    {
-        self.option("down", "GROUP,..", DOWN)
-            .option("down-exchange", "X", DOWN_EXCHANGE)
     }
 
     /// Adds the number of a stage.

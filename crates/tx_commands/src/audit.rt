@@ -5,7 +5,7 @@ ghost use Rattle.tx_commands.specs.Commands.{Asks};
 ghost use Rattle.tx_commands.specs.Grammar.{audit_words};
 ghost use Rattle.tx_commands.specs.inner.Refused.{IsRefused};
 
-use crate::arguments::Syntax;
+use crate::arguments::{DOWN, DOWN_EXCHANGE, Syntax};
 use crate::command::Command;
 use crate::down::{Down, down_asked};
 use crate::given::{limits, text};
@@ -22,14 +22,7 @@ pub struct AuditRequest {
     pub limits: Limits,
     pub cert: Option<String>,
     pub counter: Option<String>,
-}
-
-/// `audit PLAN --limit L --spare K --down GROUP,..`: of the plan that is left.
-#[derive(Drop)]
-pub struct AuditDownRequest {
-    pub plan: String,
-    pub limits: Limits,
-    pub down: Down,
+    pub down: Option<Down>,
 }
 
 const AUDIT_HELP: &str = "Example: telexplan audit own.plan --limit 1 --spare 1 --cert own.cert
@@ -58,7 +51,8 @@ pub(crate) fn audit_grammar<'a>(alloc: Global) -> Result<clap::Command<'a>, Allo
         "After NO, write a script to this file that shows the
 first finding that has one",
     )
-    .down()
+    .option("down", "GROUP,..", DOWN)
+    .option("down-exchange", "X", DOWN_EXCHANGE)
     .command
 }
 
@@ -74,16 +68,12 @@ pub(crate) fn audit_of(alloc: Global, matches: &ArgMatches<'_>) -> Result<Comman
     let cert = text(alloc, matches, "cert")?;
     let counter = text(alloc, matches, "counter")?;
     let limits = limits(alloc, matches)?;
-    match down_asked(alloc, matches)? {
-        None => Ok(Command::Audit(AuditRequest {
-            plan,
-            limits,
-            cert,
-            counter,
-        })),
-        Some(down) if cert.is_none() && counter.is_none() => {
-            Ok(Command::AuditDown(AuditDownRequest { plan, limits, down }))
-        }
-        Some(_) => Err(Misuse::DownFiles),
-    }
+    let down = down_asked(alloc, matches, cert.is_some() || counter.is_some())?;
+    Ok(Command::Audit(AuditRequest {
+        plan,
+        limits,
+        cert,
+        counter,
+        down,
+    }))
 }

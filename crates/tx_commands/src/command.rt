@@ -2,7 +2,7 @@
 ghost use Rattle.std.specs.Prelude.{◌≡◌};
 ghost use Rattle.tx_commands.specs.Files.{names_of, run_files, survive_files, compare_files, page_files, file_names};
 
-use crate::audit::{AuditDownRequest, AuditRequest};
+use crate::audit::AuditRequest;
 use crate::change::ChangeRequest;
 use crate::check::CheckRequest;
 use crate::codes::CodesRequest;
@@ -28,7 +28,6 @@ pub enum Command {
     Lint(LintRequest),
     Codes(CodesRequest),
     Audit(AuditRequest),
-    AuditDown(AuditDownRequest),
     Change(ChangeRequest),
     Order(OrderRequest),
     Mend(MendRequest),
@@ -53,7 +52,6 @@ impl Drop for Command {
             Self::Lint(request) => drop(request),
             Self::Codes(request) => drop(request),
             Self::Audit(request) => drop(request),
-            Self::AuditDown(request) => drop(request),
             Self::Change(request) => drop(request),
             Self::Order(request) => drop(request),
             Self::Mend(request) => drop(request),
@@ -109,7 +107,6 @@ impl Command {
             Command::Page(request) => page_files(request),
             Command::TraceChanges(request) => Files::of_two(&request.plan, &request.old),
             Command::Codes(CodesRequest { plan })
-            | Command::AuditDown(AuditDownRequest { plan, .. })
             | Command::Grade(GradeRequest { plan, .. })
             | Command::Trace(TraceRequest { plan, .. })
             | Command::TraceThrough(ThroughRequest { plan, .. })

@@ -39,7 +39,7 @@ mod survive;
 mod text_faults;
 mod trace;
 
-pub use audit::{AuditDownRequest, AuditRequest};
+pub use audit::AuditRequest;
 pub use change::ChangeRequest;
 pub use check::CheckRequest;
 pub use codes::CodesRequest;

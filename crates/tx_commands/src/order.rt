@@ -5,9 +5,9 @@ ghost use Rattle.tx_commands.specs.Commands.{Asks};
 ghost use Rattle.tx_commands.specs.Grammar.{order_words};
 ghost use Rattle.tx_commands.specs.inner.Refused.{IsRefused};
 
-use crate::arguments::{MOST_STAGES, NEW_PLAN, OLD_PLAN, Syntax};
+use crate::arguments::{DOWN, DOWN_EXCHANGE, MOST_STAGES, NEW_PLAN, OLD_PLAN, Syntax};
 use crate::command::Command;
-use crate::down::{Down, down_asked, refuse_files};
+use crate::down::{Down, down_asked};
 use crate::given::{is_given, limits, number_of, text};
 use crate::misuse::Misuse;
 use clap::ArgMatches;
@@ -49,15 +49,17 @@ pub(crate) fn order_grammar<'a>(alloc: Global) -> Result<clap::Command<'a>, Allo
     .option(
         "plan",
         "OUT",
-        "After YES, write the plan after that stage to this file",
+        "After YES, write the plan after that stage to this
+file",
     )
     .option(
         "cert",
         "CERT",
-        "After YES, write a certificate of the plans before and
-after that stage to this file",
+        "After YES, write a certificate of the plans before
+and after that stage to this file",
     )
-    .down()
+    .option("down", "GROUP,..", DOWN)
+    .option("down-exchange", "X", DOWN_EXCHANGE)
     .command
 }
 
@@ -78,8 +80,7 @@ pub(crate) fn order_of(alloc: Global, matches: &ArgMatches<'_>) -> Result<Comman
     } else {
         None
     };
-    let down = down_asked(alloc, matches)?;
-    refuse_files(&down, plan.is_some() || cert.is_some())?;
+    let down = down_asked(alloc, matches, plan.is_some() || cert.is_some())?;
     let limits = limits(alloc, matches)?;
     match (old, new) {
         (Some(old), Some(new)) => Ok(Command::Order(OrderRequest {

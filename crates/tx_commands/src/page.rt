@@ -5,7 +5,7 @@ ghost use Rattle.tx_commands.specs.Commands.{Asks};
 ghost use Rattle.tx_commands.specs.Grammar.{page_words};
 ghost use Rattle.tx_commands.specs.inner.Refused.{IsRefused};
 
-use crate::arguments::{RISKS, Syntax};
+use crate::arguments::{DOWN, DOWN_EXCHANGE, RISKS, Syntax};
 use crate::command::Command;
 use crate::down::{Down, down_asked};
 use crate::given::{is_set, limits, text};
@@ -67,7 +67,8 @@ figures, with a comma between two",
     )
     .flag("all-codes", "Show the lists of each code")
     .option("html", "OUT", "Write the page to this file")
-    .down()
+    .option("down", "GROUP,..", DOWN)
+    .option("down-exchange", "X", DOWN_EXCHANGE)
     .command
 }
 
@@ -85,7 +86,7 @@ pub(crate) fn page_of(alloc: Global, matches: &ArgMatches<'_>) -> Result<Command
     let code = text(alloc, matches, "code")?;
     let all_codes = is_set(matches, "all-codes");
     let html = text(alloc, matches, "html")?;
-    let down = down_asked(alloc, matches)?;
+    let down = down_asked(alloc, matches, false)?;
     let limits = limits(alloc, matches)?;
     Ok(Command::Page(PageRequest {
         plan,

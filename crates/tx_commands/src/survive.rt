@@ -5,7 +5,7 @@ ghost use Rattle.tx_commands.specs.Commands.{Asks};
 ghost use Rattle.tx_commands.specs.Grammar.{survive_words};
 ghost use Rattle.tx_commands.specs.inner.Refused.{IsRefused};
 
-use crate::arguments::{RISKS, Syntax};
+use crate::arguments::{DOWN, DOWN_EXCHANGE, RISKS, Syntax};
 use crate::command::Command;
 use crate::down::{Down, down_asked};
 use crate::given::{is_set, text};
@@ -57,7 +57,8 @@ pub(crate) fn survive_grammar<'a>(alloc: Global) -> Result<clap::Command<'a>, Al
         "The plan that is in force: say whether anybody is
 worse off by the plan; - is standard input",
     )
-    .down()
+    .option("down", "GROUP,..", DOWN)
+    .option("down-exchange", "X", DOWN_EXCHANGE)
     .command
 }
 
@@ -77,7 +78,7 @@ pub(crate) fn survive_of(alloc: Global, matches: &ArgMatches<'_>) -> Result<Comm
         None if only => return Err(Misuse::RisksOnly),
         None => None,
     };
-    let down = down_asked(alloc, matches)?;
+    let down = down_asked(alloc, matches, false)?;
     match old {
         Some(old) => Ok(Command::Compare(CompareRequest {
             old,

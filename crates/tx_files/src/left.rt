@@ -124,11 +124,7 @@ fn lack_exchange<A: Allocator>(plan: &Plan<A>, other: &Plan<A>, name: Option<&st
 }
 
 /// What is to be down by a name that neither plan has: the exchange first.
-fn missing_down<A: Allocator>(
-    plan: &Plan<A>,
-    other: &Plan<A>,
-    down: &Down,
-) -> Option<CommandFault>
+fn missing_down<A: Allocator>(plan: &Plan<A>, other: &Plan<A>, down: &Down) -> Option<CommandFault>
     ensures { result ≡ missing_down plan.now other.now down.now }
 {
     if lack_exchange(plan, other, down.exchange.as_deref()) {

@@ -59,7 +59,10 @@ fn write_down<W: PageSink>(what: &'static str, word: Option<&[u8]>, sink: &mut W
     ensures { Sets W.seen sink.old sink.new (down_texts word.entry) }
 {
     if let Some(word) = word {
-        set(&[Part::Own(what), Part::Text(word), Part::Own("</b></p>")], sink);
+        set(
+            &[Part::Own(what), Part::Text(word), Part::Own("</b></p>")],
+            sink,
+        );
     }
 }
 

@@ -7,10 +7,11 @@ ghost use Rattle.tx_files.specs.declared.fault.CommandFault.TheVariants.{Job as 
 use crate::kind::TextKind;
 use std::alloc::Allocator;
 use std::io;
-use tx_commands::{Command, Down, FillRequest, Place, STANDARD_INPUT, ThroughRequest, TraceRequest};
+use tx_commands::{Command, FillRequest, Place, STANDARD_INPUT, ThroughRequest, TraceRequest};
 use tx_files::{CommandFault, write_command_fault};
 use tx_jobs::{JobFault, write_fault};
 use tx_lint::write_escaped;
+use tx_requests::down_of;
 use tx_text::{Sink, WriteFault, finish, put_bytes, put_parts};
 
 /// Why the program stopped before a command was done.
@@ -145,7 +146,7 @@ fn exchange_asked(command: &Command) -> Option<&str> {
             let (exchange, _) = request.calls.as_ref()?;
             Some(exchange.as_str())
         }
-        _ => Some(down_asked(command)?.exchange.as_ref()?.as_str()),
+        _ => Some(down_of(command)?.exchange.as_ref()?.as_str()),
     }
 }
 
@@ -170,21 +171,7 @@ fn group_asked(command: &Command, place: usize) -> Option<&str> {
         Command::Trace(TraceRequest { down, .. })
         | Command::TraceThrough(ThroughRequest { down, .. })
         | Command::Fill(FillRequest { down, .. }) => named_at(down.as_deref()?, place),
-        _ => named_at(down_asked(command)?.groups.as_deref()?, place),
-    }
-}
-
-/// What it asks to be down while it judges plans.
-fn down_asked(command: &Command) -> Option<&Down> {
-    match command {
-        Command::AuditDown(request) => Some(&request.down),
-        Command::Change(request) => request.down.as_ref(),
-        Command::Order(request) => request.down.as_ref(),
-        Command::Survive(request) => request.down.as_ref(),
-        Command::Compare(request) => request.down.as_ref(),
-        Command::Page(request) => request.down.as_ref(),
-        Command::Grade(request) => request.down.as_ref(),
-        _ => None,
+        _ => named_at(down_of(command)?.groups.as_deref()?, place),
     }
 }
 

@@ -1,10 +1,10 @@
 -- What a command comes to over its texts.
-use Rattle.std.specs.Prelude.{◌≡◌, ℕ, Bool, true, List, Option, Some, is_some, Result, Err}
+use Rattle.std.specs.Prelude.{◌≡◌, ℕ, Bool, true, List, Option, None, is_some, Result, Err}
 use Rattle.tx_text.specs.declared.source.ReadFault.{ReadFault}
 use Rattle.tx_text.specs.Ends.{Input, Output, input, output}
 use Rattle.tx_commands.specs.declared.command.Command.{Command}
-use Rattle.tx_commands.specs.declared.command.Command.TheVariants.{Pipe, Run, RunTelling, Check, Lint, Codes, Audit, AuditDown, Change, Order, Mend, Survive, Compare, Page, Grade, Trace, TraceThrough, TraceChanges, Fill, Explain}
-use Rattle.tx_jobs.specs.AuditJobs.{AuditJobAnswers}
+use Rattle.tx_commands.specs.declared.down.Down.{Down}
+use Rattle.tx_commands.specs.declared.command.Command.TheVariants.{Pipe, Run, RunTelling, Check, Lint, Codes, Audit, Change, Order, Mend, Survive, Compare, Page, Grade, Trace, TraceThrough, TraceChanges, Fill, Explain}
 use Rattle.tx_jobs.specs.CheckJobs.{CheckJobAnswers}
 use Rattle.tx_jobs.specs.declared.job_fault.JobFault.{JobFault}
 use Rattle.tx_jobs.specs.Jobs.{CodesJobAnswers}
@@ -18,7 +18,7 @@ use Rattle.tx_files.specs.Left.{ReadsLeft, one_plan, IsPlanLeft, plan_at_risk, I
 use Rattle.tx_files.specs.PageReading.{ReadsForPage}
 use Rattle.tx_files.specs.Reading.{ReadsPlan, ReadsWithRisks}
 use Rattle.tx_files.specs.TwoPlans.{ReadsWhole, ReadsPlans, ReadsPlansWithRisks, ReadsWithOld}
-use Rattle.tx_requests.specs.Audit.{AuditEnds, DownAnswers, down_prints, DownEnds}
+use Rattle.tx_requests.specs.Audit.{IsAudited}
 use Rattle.tx_requests.specs.Carried.{IsCarriedOut}
 use Rattle.tx_requests.specs.Change.{ChangeAnswers, change_prints, ChangeEnds}
 use Rattle.tx_requests.specs.Compare.{CompareAnswers, ComparePrints, CompareEnds}
@@ -36,6 +36,17 @@ use Rattle.tx_requests.specs.Survive.{SurviveAnswers, survive_prints, SurviveEnd
 use Rattle.tx_requests.specs.Through.{ThroughAnswers, through_prints}
 use Rattle.tx_requests.specs.Trace.{TraceAnswers, trace_prints}
 use Rattle.tx_requests.specs.WayChanges.{WaysAnswers, ways_prints}
+
+-- what is down while a command judges plans, if anything is
+abbrev pub down_of : Command → Option Down
+down_of (Audit r) = r.down
+down_of (Change r) = r.down
+down_of (Order r) = r.down
+down_of (Survive r) = r.down
+down_of (Compare r) = r.down
+down_of (Page r) = r.down
+down_of (Grade r) = r.down
+down_of other = None
 
 module _ {P W : Type 0} (rest : P → Option (List ℕ)) (failed : P → Bool)
     (called : ℕ → Result ℕ ReadFault → P → P → Type 0) (old new : P) (second third : Input)
@@ -78,15 +89,11 @@ module _ {P W : Type 0} (rest : P → Option (List ℕ)) (failed : P → Bool)
         (λ verdict. EndsWith (verdict_status verdict)) result × third.unread
     IsDone (Codes r) result = ByJob (CodesJobAnswers first out)
         (λ pair. EndsWith (pair_status pair)) result × second.unread × third.unread
-    IsDone (Audit r) result = ByJob (AuditJobAnswers r.limits.limit r.limits.spare first out)
-        (AuditEnds r) result × second.unread × third.unread
+    IsDone (Audit r) result = IsAudited taken marked before after first r r.down result
+        × second.unread × third.unread
     IsDone (Lint r) result =
         IsLinted r first second out (marked before) (marked after) result
         × (failed new ≡ true → result ≡ Err read_stop) × third.unread
-    IsDone (AuditDown r) result =
-        ByRequest (ReadsLeft one_plan IsPlanLeft (Some r.down) (ReadsPlan first)) DownAnswers
-        down_prints (λ r. DownEnds) r result
-        × second.unread × third.unread
     IsDone (Change r) result =
         ByRequest (ReadsLeft two_plans AreLeft r.down (ReadsPlans first second)) ChangeAnswers
         change_prints ChangeEnds r result
