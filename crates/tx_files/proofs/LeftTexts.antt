@@ -1,9 +1,7 @@
 -- Texts of which groups are left out: their risks, and the network of two.
-use Rattle.std.proofs.Common.{◌≡◌, ◌∙◌, ◌<◌, List, Option, None, Some, length, sym, ap, ap₂, subst, inl, inr}
-use Rattle.std.specs.Prelude.{IfSome, option_map}
+use Rattle.std.proofs.Common.{◌≡◌, ◌∙◌, ◌<◌, List, None, length, sym, ap, ap₂, subst, inl, inr}
 use Rattle.std.specs.List.{AllByRecursion}
 use Rattle.tx_plan.specs.Plan.{Plan, Group}
-use Rattle.tx_plan.specs.Rules.{IsPlan}
 use Rattle.tx_plan.proofs.Lists.{all_map}
 use Rattle.tx_join.specs.Joined.{joined_new}
 use Rattle.tx_join.specs.Refusals.{join_refusal, IsRefusedAs}

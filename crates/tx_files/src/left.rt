@@ -135,7 +135,7 @@ fn missing_down<A: Allocator>(plan: &Plan<A>, other: &Plan<A>, down: &Down) -> O
 }
 
 /// What a text says, of which groups can be left out.
-pub trait Texts<A: Allocator + Copy>: Drop {
+pub trait PlansRead<A: Allocator + Copy>: Drop {
     // Its two plans, or its one plan twice.
     ghost plans: { Self → PlanNow × PlanNow };
 
@@ -159,7 +159,7 @@ pub trait Texts<A: Allocator + Copy>: Drop {
 }
 
 /// What was read, while this is down.
-pub fn while_down<A: Allocator + Copy, T: Texts<A>>(
+pub fn while_down<A: Allocator + Copy, T: PlansRead<A>>(
     alloc: A,
     down: Option<&Down>,
     texts: Result<T, CommandFault>,
@@ -179,7 +179,7 @@ pub fn while_down<A: Allocator + Copy, T: Texts<A>>(
     }
 }
 
-impl<A: Allocator + Copy> Texts<A> for Plan<A> {
+impl<A: Allocator + Copy> PlansRead<A> for Plan<A> {
     ghost plans = { one_plan };
 
     ghost known = { IsPlan };
@@ -195,7 +195,7 @@ impl<A: Allocator + Copy> Texts<A> for Plan<A> {
     }
 }
 
-impl<A: Allocator + Copy> Texts<A> for PlanRisks<A> {
+impl<A: Allocator + Copy> PlansRead<A> for PlanRisks<A> {
     ghost plans = { plan_at_risk };
 
     ghost known = { HasItsRisks };
@@ -242,7 +242,7 @@ fn old_while<A: Allocator + Copy>(
     }
 }
 
-impl<A: Allocator + Copy> Texts<A> for TwoPlans<A> {
+impl<A: Allocator + Copy> PlansRead<A> for TwoPlans<A> {
     ghost plans = { two_plans };
 
     ghost known = { AreJoined };
@@ -262,7 +262,7 @@ impl<A: Allocator + Copy> Texts<A> for TwoPlans<A> {
     }
 }
 
-impl<A: Allocator + Copy> Texts<A> for PlansRisks<A> {
+impl<A: Allocator + Copy> PlansRead<A> for PlansRisks<A> {
     ghost plans = { plans_at_risk };
 
     ghost known = { HavePlansRisks };
@@ -280,7 +280,7 @@ impl<A: Allocator + Copy> Texts<A> for PlansRisks<A> {
     }
 }
 
-impl<A: Allocator + Copy> Texts<A> for PageTexts<A> {
+impl<A: Allocator + Copy> PlansRead<A> for PageTexts<A> {
     ghost plans = { page_plans };
 
     ghost known = { AreForPage };

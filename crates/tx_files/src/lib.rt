@@ -16,7 +16,7 @@ pub use content::{Content, write_content};
 pub use ending::Ending;
 pub use fault::CommandFault;
 pub use fault_line::write_command_fault;
-pub use left::{Texts, is_named, while_down};
+pub use left::{PlansRead, is_named, while_down};
 pub use made::{CounterScript, Made, MadeText, Shown};
 pub use page_reading::{PageTexts, read_for_page};
 pub use reading::{PlanRisks, read_one, read_with_risks};

@@ -7,7 +7,7 @@ ghost use Rattle.tx_requests.specs.Carried.{IsCarriedOut};
 use crate::request::Request;
 use std::alloc::Allocator;
 use tx_commands::Down;
-use tx_files::{CommandFault, Ending, Texts, while_down};
+use tx_files::{CommandFault, Ending, PlansRead, while_down};
 use tx_text::Sink;
 
 /// Answers a request over its texts, if they were read, and prints the answer. `Err` is the first
@@ -30,7 +30,7 @@ pub(crate) fn carry_out<A: Allocator + Copy, C: Request<A>, W: Sink>(
 }
 
 /// The same over what is left of the texts while this is down.
-pub(crate) fn carry_left<A: Allocator + Copy, T: Texts<A>, C: Request<A, Texts = T>, W: Sink>(
+pub(crate) fn carry_left<A: Allocator + Copy, T: PlansRead<A>, C: Request<A, Texts = T>, W: Sink>(
     alloc: A,
     request: &C,
     down: Option<&Down>,

@@ -1,6 +1,6 @@
 use Rattle.tx_files.proofs.LeftTexts.{still_joined}
 use Rattle.tx_text.proofs.Exits.{exits_with}
-use Rattle.tx_files.proofs.left.TwoPlansTexts.leave_out.Goals as goal
+use Rattle.tx_files.proofs.left.TwoPlansPlansRead.leave_out.Goals as goal
 
 pub returns-clause-left : goal.returns-clause-left
 returns-clause-left g c = record {

@@ -1,7 +1,7 @@
 use Rattle.std.proofs.Common.{refl, sym, ap}
 use Rattle.tx_files.specs.declared.two_plans.PlanText.{PlanText}
 use Rattle.tx_files.proofs.LeftTexts.{risks_stay}
-use Rattle.tx_files.proofs.left.PageTextsTexts.leave_out.Goals as goal
+use Rattle.tx_files.proofs.left.PageTextsPlansRead.leave_out.Goals as goal
 
 pub returns-clause-known : goal.returns-clause-known
 returns-clause-known g c = record {

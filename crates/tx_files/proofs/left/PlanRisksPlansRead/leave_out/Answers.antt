@@ -1,7 +1,7 @@
 use Rattle.std.proofs.Common.{refl, sym, ap}
 use Rattle.tx_plan.specs.Plan.{Plan}
 use Rattle.tx_files.proofs.LeftTexts.{risks_stay}
-use Rattle.tx_files.proofs.left.PlanRisksTexts.leave_out.Goals as goal
+use Rattle.tx_files.proofs.left.PlanRisksPlansRead.leave_out.Goals as goal
 
 pub returns-clause-known : goal.returns-clause-known
 returns-clause-known g c =

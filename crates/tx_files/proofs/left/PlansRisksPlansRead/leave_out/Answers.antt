@@ -1,6 +1,6 @@
 use Rattle.std.proofs.Common.{refl}
 use Rattle.tx_files.proofs.LeftTexts.{risks_stay, joined_groups}
-use Rattle.tx_files.proofs.left.PlansRisksTexts.leave_out.Goals as goal
+use Rattle.tx_files.proofs.left.PlansRisksPlansRead.leave_out.Goals as goal
 
 pub returns-clause-left : goal.returns-clause-left
 returns-clause-left g c = (c.in_ok-plans.ensures.left, refl)
