@@ -1,5 +1,5 @@
 -- What words ask for.
-use Rattle.std.specs.Prelude.{◌≡◌, ℕ, Bool, true, false, List, Option, None, Some, is_some, map, option_map, codes, string_bytes, String, ◌||◌}
+use Rattle.std.specs.Prelude.{◌≡◌, ◌⊎◌, ℕ, Bool, true, false, List, Option, None, Some, is_some, map, option_map, codes, string_bytes, String, ◌||◌}
 use Rattle.std.specs.Borrow.{Bor}
 use Rattle.std.specs.List.{join_by}
 use Rattle.std.specs.Option.{option_map_or}
@@ -8,9 +8,11 @@ use Rattle.clap.specs.Words.{Row, all_of, first_of, subcommand_of}
 use Rattle.tx_text.specs.Words.{number_of}
 use Rattle.tx_plan.specs.declared.limits.Limits.{Limits}
 use Rattle.tx_commands.specs.Entries.{is_known}
+use Rattle.tx_commands.specs.Faults.{has}
 use Rattle.tx_commands.specs.Grammar.{program_words}
 use Rattle.tx_commands.specs.declared.command.Command.{Command}
 use Rattle.tx_commands.specs.declared.down.Down.{Down}
+use Rattle.tx_commands.specs.declared.order.Stopped.{Stopped}
 use Rattle.tx_commands.specs.declared.command.Command.TheVariants.{Pipe, Run, RunTelling, Check, Lint, Codes, Audit, Change, Order, Mend, Survive, Compare, Page, Grade, Trace, TraceThrough, TraceChanges, Fill, Explain}
 
 -- the words of a command name this file
@@ -82,6 +84,25 @@ abbrev pub AreOfWholePlan : Option Down → (made : Bool) → Type 0
 AreOfWholePlan None made = Unit {0}
 AreOfWholePlan (Some d) made = made ≡ false
 
+-- they give this spare number for an order from where one was stopped: that of --spare-now, or else
+-- that of --spare
+abbrev pub GivesNow : List Row → ℕ → Type 0
+GivesNow found spare = Gives found (codes "spare-now") spare
+    ⊎ ((has found (codes "spare-now") ≡ false) × Gives found (codes "spare") spare)
+
+-- they say where an order was stopped, or have no word for that
+abbrev pub AsksForStop : List Row → Option Stopped → Type 0
+AsksForStop found None = (has found (codes "done") ≡ false)
+    × (is_set found (codes "back") ≡ false) × (has found (codes "spare-now") ≡ false)
+AsksForStop found (Some s) = GivesLimits found s.limits × Gives found (codes "stage") s.stage
+    × (is_set found (codes "back") ≡ s.back)
+
+-- they give the number of a stage, if there is one; an order from where one was stopped begins
+-- with its stage 0
+abbrev pub AsksForStage : List Row → Option Stopped → Option ℕ → Type 0
+AsksForStage found None stage = GivesIfAny found (codes "stage") stage
+AsksForStage found (Some s) stage = stage ≡ Some 0
+
 -- `trace` has this exchange and this code, or neither
 abbrev pub AsksForCalls : {Z : Type 0} → List Row → Option (String Z × String Z) → Type 0
 AsksForCalls found None =
@@ -121,9 +142,10 @@ Asks name found (Change r) = (name ≡ codes "change") × Names found (codes "be
     × NamesIfAny found (codes "counter") r.counter × AsksForDown found r.down
     × AreOfWholePlan r.down ((is_some r.cert || is_some r.mixture) || is_some r.counter)
 Asks name found (Order r) = (name ≡ codes "order") × Names found (codes "before") r.old
-    × Names found (codes "after") r.new × GivesLimits found r.limits
-    × GivesIfAny found (codes "stage") r.stage × NamesIfAny found (codes "plan") r.plan
-    × NamesIfAny found (codes "cert") r.cert × AreOfStage r.stage r.plan r.cert
+    × Names found (codes "after") r.new × Gives found (codes "limit") r.limits.limit
+    × GivesNow found r.limits.spare × NamesIfAny found (codes "done") r.done
+    × AsksForStop found r.stopped × AsksForStage found r.stopped r.stage
+    × NamesIfAny found (codes "plan") r.plan × NamesIfAny found (codes "cert") r.cert × AreOfStage r.stage r.plan r.cert
     × AsksForDown found r.down × AreOfWholePlan r.down (is_some r.plan || is_some r.cert)
 Asks name found (Mend r) = (name ≡ codes "mend") × Names found (codes "before") r.plan
     × GivesLimits found r.limits × NamesIfAny found (codes "plan") r.mended

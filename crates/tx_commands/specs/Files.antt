@@ -113,7 +113,8 @@ file_names (Change r) = record (two_read (string_bytes r.old) (string_bytes r.ne
   cert = option_map string_bytes r.cert;
   script = option_map string_bytes r.counter;
 }
-file_names (Order r) = record (two_read (string_bytes r.old) (string_bytes r.new)) {
+file_names (Order r) = record (only_read (Some (string_bytes r.old) ∷ Some (string_bytes r.new)
+    ∷ option_map string_bytes r.done ∷ [])) {
   plan = option_map string_bytes r.plan;
   cert = option_map string_bytes r.cert;
 }

@@ -30,10 +30,6 @@ limit = number_option (codes "limit") 62
 abbrev pub spare : Rule
 spare = number_option (codes "spare") 15
 
--- the option of the number of a stage
-abbrev pub stage : Rule
-stage = number_option (codes "stage") 128
-
 -- with what is down: groups, and an exchange of which all groups are
 abbrev pub with_down : App → App
 with_down app = with_rule (with_rule app (option (codes "down"))) (option (codes "down-exchange"))
@@ -125,12 +121,15 @@ change_words =
     (new_app (codes "change")) (file (codes "before"))) (file (codes "after"))) (needed_rule limit))
     (needed_rule spare)) (option (codes "cert"))) (option (codes "mixture"))) (option (codes "counter")))
 
--- two plans, and what is to be made of a stage
+-- two plans, what is to be made of a stage, and where the order was stopped
 abbrev pub order_words : App
 order_words =
     with_down (with_rule (with_rule (with_rule (with_rule (with_rule (with_rule (with_rule
+    (with_rule (with_rule (with_rule
     (new_app (codes "order")) (file (codes "before"))) (file (codes "after"))) (needed_rule limit))
-    (needed_rule spare)) stage) (option (codes "plan"))) (option (codes "cert")))
+    (needed_rule spare)) (number_option (codes "stage") 128)) (option (codes "plan")))
+    (option (codes "cert"))) (option (codes "done"))) (flag (codes "back")))
+    (number_option (codes "spare-now") 15))
 
 -- one or more words, which need not be given
 abbrev pub some_words : List ℕ → Rule

@@ -33,11 +33,6 @@ call is answered NC only after a second head-on
 collision, or where more than K groups are listed and
 each of them is down or has no free circuit";
 
-const STAGE: &str = "The stage of which --plan and --cert write: from 0";
-
-/// How many stages an order has at the most.
-pub(crate) const MOST_STAGES: u8 = 128;
-
 /// A command with its arguments so far, unless memory ran out.
 #[derive(Drop)]
 pub(crate) struct Syntax<'a> {
@@ -146,12 +141,13 @@ impl<'a> Syntax<'a> {
         self.arg(limit).arg(spare)
     }
 
-    /// Adds the number of a stage.
-    pub(crate) fn stage(self) -> Syntax<'a>
-        ensures { (app : App) → Takes self.entry app → Takes result (with_rule app grammar.stage) }
+    /// Adds an option with a number from 0 to the greatest.
+    pub(crate) fn number(self, id: &'a str, shown: &'a str, help: &'a str, most: u8) -> Syntax<'a>
+        ensures { (app : App) → Takes self.entry app
+            → Takes result (with_rule app (grammar.number_option id.now most)) }
     {
-        let stage = number(self.alloc, "stage", "N", STAGE, MOST_STAGES);
-        self.arg(stage)
+        let number = number(self.alloc, id, shown, help, most);
+        self.arg(number)
     }
 }
 

@@ -95,7 +95,11 @@ impl Command {
             Command::Order(request) => Files {
                 plan: request.plan.as_deref(),
                 cert: request.cert.as_deref(),
-                ..Files::of_two(&request.old, &request.new)
+                ..Files::reading([
+                    Some(&request.old),
+                    Some(&request.new),
+                    request.done.as_deref(),
+                ])
             },
             Command::Mend(request) => Files {
                 plan: request.mended.as_deref(),

@@ -23,13 +23,7 @@ pub(crate) fn is_asked(line: &str, entry: &Entry) -> bool
 pub(crate) fn is_known(line: &str) -> bool
     ensures { result ≡ is_known line.now }
 {
-    asks_in_some(&tables(), line)
-}
-
-fn asks_in_some(tables: &[&[Entry]], line: &str) -> bool
-    ensures { result
-        ≡ list_any (λ t. list_any (λ e. is_asked line.now (texts e)) t.now) tables.now }
-{
+    let tables = tables();
     tables.iter().any(|entries| asks_in(entries, line))
 }
 

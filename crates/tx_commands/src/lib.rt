@@ -55,7 +55,7 @@ pub use grammar::VERSION;
 pub use known_file::{FileId, KnownFile, clash};
 pub use lint::LintRequest;
 pub use mend::MendRequest;
-pub use order::OrderRequest;
+pub use order::{OrderRequest, Stopped};
 pub use page::PageRequest;
 pub use place::Place;
 pub use reading::read_command;

@@ -16,7 +16,7 @@ pub(crate) enum Misuse {
     CheckedTelling,
     /// The number of this option has a sign or leading zeros.
     Number(&'static str, String),
-    /// `order` has a file to be made, and no stage.
+    /// `order` has a file to be made, or words that say where it was stopped, and no stage.
     StageMissing,
     /// `survive` has `--risks-only` without `--risks`.
     RisksOnly,
@@ -46,8 +46,8 @@ impl From<AllocError> for Misuse {
 
 /// The codes and words that are explained.
 const EXPLAINED: &str = "There are X1 to X3, P3 to P22, A1 to A10, C1 to C10, S1 to S7, Q1 to Q11,
-M1 to M12, K1 to K7 and F1 to F5, those of a ticket, as NC or CLRA, the names,
-as Overlap, and the words of reports, as CUT";
+D1 to D8, M1 to M12, K1 to K7 and F1 to F5, those of a ticket, as NC or CLRA,
+the names, as Overlap, and the words of reports, as CUT";
 
 impl Misuse {
     /// What kind of refusal it is, as the library of command lines has them.
@@ -80,7 +80,9 @@ impl Misuse {
             Misuse::DownFiles => {
                 "--down and --down-exchange do not go with --cert, --counter, --mixture and --plan"
             }
-            Misuse::StageMissing => "--plan and --cert go with --stage",
+            Misuse::StageMissing => {
+                "--plan, --cert, --done, --back and --spare-now go with --stage"
+            }
             Misuse::RisksOnly => "--risks-only goes with --risks",
             Misuse::TraceWords =>
                 "trace takes an exchange and a code, --through, or --from without --down",

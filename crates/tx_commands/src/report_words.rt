@@ -2,7 +2,7 @@
 use crate::code_table::Entry;
 
 /// The words of reports, of a plan and of a certificate.
-pub static REPORT_WORDS: [Entry; 61] = [
+pub static REPORT_WORDS: [Entry; 63] = [
     [
         "VERDICT",
         "Verdict",
@@ -61,6 +61,18 @@ pub static REPORT_WORDS: [Entry; 61] = [
         "ORDER",
         "OrderReport",
         "The report of an order: in which stages a plan is switched to another.",
+        "Switch one stage after the other.",
+    ],
+    [
+        "ONWARD",
+        "OnwardReport",
+        "The report of an order that leads from where another one was stopped on to the new plan.",
+        "Switch one stage after the other, and then do what stands under AFTER in the report of the first order.",
+    ],
+    [
+        "RETURN",
+        "ReturnReport",
+        "The report of an order that leads from where another one was stopped back to the old plan.",
         "Switch one stage after the other.",
     ],
     [

@@ -1,5 +1,5 @@
 -- The plans before and after a stage, and what the checker says of them.
-use Rattle.tx_order.proofs.Common.{◌≡◌, ℕ, ◌+◌, ◌<◌, ◌≤◌, refl, ◌∙◌, subst, Plan, IsPlan, rerouted, SameNetwork, AreCommon, same_back, same_along, rerouted-is, Certificate, IsCertificateOf, ranks_of, IsConfirmed, Ranking, Found, Fails, CanBeCertified, IsRightRanking, levels_of, IsOrder, Order, plan_before, stages_in, IsOrderKept, Lists, AreListsOf}
+use Rattle.tx_order.proofs.Common.{◌≡◌, ℕ, ◌+◌, ◌<◌, ◌≤◌, List, Option, None, Pair, refl, ◌∙◌, subst, Plan, IsPlan, rerouted, SameNetwork, AreCommon, same_back, same_along, rerouted-is, Certificate, IsCertificateOf, ranks_of, IsConfirmed, Ranking, Found, Fails, CanBeCertified, IsRightRanking, levels_of, IsOrder, Order, plan_before, stages_in, IsOrderKept, Lists, AreListsOf, plan_stopped}
 use Rattle.tx_change.proofs.Cleared.{certificate_along, cleared}
 use Rattle.tx_order.specs.Switchings.{HasCleared, IsOrdered, HasNoOrder}
 use Rattle.tx_order.proofs.Ordered.{is_order_of, stage_used, few_stages}
@@ -22,8 +22,11 @@ module _ (o : Order) (k : IsOrderKept o) where
 
 -- the old plan with the lists of a plan on the way is that plan
 module _ {A : Type 0} (o : Order) where
+  pub with_stopped : (s : ℕ) (done : Option (List Pair)) (l : Lists A) → AreListsOf (plan_stopped o s done) l → rerouted o.transition.old l.routes l.bars ≡ plan_stopped o s done
+  with_stopped s done l a = λ i. rerouted o.transition.old (a.routes i) (a.bars i)
+
   pub with_lists : (s : ℕ) (l : Lists A) → AreListsOf (plan_before o s) l → rerouted o.transition.old l.routes l.bars ≡ plan_before o s
-  with_lists s l a = λ i. rerouted o.transition.old (a.routes i) (a.bars i)
+  with_lists s l a = with_stopped s None l a
 
   -- and with its own it is itself
   pub with_own : (p : Plan) (l : Lists A) → SameNetwork p o.transition.old → AreListsOf o.transition.old l → rerouted p l.routes l.bars ≡ o.transition.old

@@ -8,6 +8,7 @@ pub mod Ordered
 pub mod StageCerts
 pub mod Confirming
 pub mod Staging
+pub mod Stopping
 pub mod Verdicts
 pub mod StagedRuns
 pub mod StagedTurns

@@ -16,10 +16,12 @@ pub record IsCheckedTelling (name : List ℕ) (found : List Row) : Type 0 where
   pub telling : (is_set found (codes "strict")
       || (is_set found (codes "echo") || is_set found (codes "summary"))) ≡ true
 
--- `order` has a file to be made, and no stage
+-- `order` has a file to be made, or words that say where it was stopped, and no stage
 pub record IsStageMissing (name : List ℕ) (found : List Row) : Type 0 where
   pub order : name ≡ codes "order"
-  pub some : (has found (codes "plan") || has found (codes "cert")) ≡ true
+  pub some : ((has found (codes "plan") || has found (codes "cert"))
+      || ((has found (codes "done") || is_set found (codes "back"))
+      || has found (codes "spare-now"))) ≡ true
   pub none : has found (codes "stage") ≡ false
 
 -- `survive` is to try the named risks alone, and none are named
