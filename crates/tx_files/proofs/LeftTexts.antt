@@ -38,15 +38,20 @@ module _ {A : Type 0} where
       ∙ ap₂ (λ (o n : PlanText A). (joined_new o.plan n.plan).groups) (sym left.old) (sym left.new)
       ∙ ap (λ (p : Plan). p.groups) (sym left.joined.after)
 
-  -- what is left of two plans that have a joined network has one
-  pub still_joined : (d : Down) (t : TwoPlans A) (old new : PlanText A) (fault : CommandFault)
-      → old ≡ text_while d t.old → new ≡ text_while d t.new
-      → join_refusal t.old.plan t.new.plan ≡ None → IsNoJoinOf old new fault → fault ≡ memory_stop
-  still_joined d t old new fault is_old is_new none h =
-      let same : join_refusal old.plan new.plan ≡ None = rw (is_old, is_new) none in
-      h.told ∙ ap (join_stop old new) (lacking old.plan new.plan h.refusal same h.refused)
+  -- two plans that have a joined network lack no more than memory
+  pub joined_stop : (old new : PlanText A) (fault : CommandFault)
+      → join_refusal old.plan new.plan ≡ None → IsNoJoinOf old new fault → fault ≡ memory_stop
+  joined_stop old new fault none h =
+      h.told ∙ ap (join_stop old new) (lacking old.plan new.plan h.refusal none h.refused)
     where
       lacking : (p q : Plan) (e : JoinRefusal) → join_refusal p q ≡ None → IsRefusedAs p q e
           → e ≡ JoinNoMemory
       lacking p q e none (inl some) = let bad : ⊥ = let k = sym none ∙ some in cc in absurd bad
       lacking p q e none (inr (again, is)) = is
+
+  -- what is left of two plans that have a joined network has one
+  pub still_joined : (d : Down) (t : TwoPlans A) (old new : PlanText A) (fault : CommandFault)
+      → old ≡ text_while d t.old → new ≡ text_while d t.new
+      → join_refusal t.old.plan t.new.plan ≡ None → IsNoJoinOf old new fault → fault ≡ memory_stop
+  still_joined d t old new fault is_old is_new none h =
+      joined_stop old new fault (rw (is_old, is_new) none) h

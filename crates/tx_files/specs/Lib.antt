@@ -9,3 +9,4 @@ pub mod TwoPlans
 pub mod Made
 pub mod PageReading
 pub mod Left
+pub mod Stopped

@@ -12,6 +12,7 @@ mod names;
 mod page_reading;
 mod reading;
 mod revising;
+mod stopped;
 mod two_plans;
 
 pub use content::{Content, write_content};
@@ -25,6 +26,7 @@ pub use names::{is_named, name_at};
 pub use page_reading::{PageTexts, read_for_page};
 pub use reading::{PlanRisks, read_one, read_with_risks};
 pub use revising::text_if_asked;
+pub use stopped::read_stopped;
 pub use two_plans::{
     PlanText, PlansRisks, TwoPlans, Which, WithOld, joined_of, read_plans, read_plans_with_risks,
     read_whole, read_with_old,

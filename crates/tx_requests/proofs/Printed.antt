@@ -13,9 +13,10 @@ use Rattle.tx_check.specs.declared.fault.CheckFault.TheVariants as fault
 use Rattle.tx_rank.specs.declared.finding.Finding.TheVariants as finding
 use Rattle.tx_mend.specs.declared.cause.Unserved.{Unserved}
 use Rattle.tx_mend.specs.MendText.{pair_line, unserved_line}
+use Rattle.tx_order.specs.declared.done.DoneWord.TheVariants as done
 use Rattle.tx_risk.specs.declared.fault.RiskWord.TheVariants as risk
 use Rattle.tx_commands.specs.Entries.{table}
-use Rattle.tx_requests.specs.Explained.{CodesAreDistinct, BeginsExplained, PlanFaultsAreExplained, WarningsAreExplained, CertFaultsAreExplained, ScriptFaultsAreExplained, RiskFaultsAreExplained, RefusalsAreExplained, CausesAreExplained, CheckFaultsAreExplained, FindingsAreExplained, MendingsAreExplained}
+use Rattle.tx_requests.specs.Explained.{CodesAreDistinct, BeginsExplained, PlanFaultsAreExplained, WarningsAreExplained, CertFaultsAreExplained, ScriptFaultsAreExplained, RiskFaultsAreExplained, DoneFaultsAreExplained, RefusalsAreExplained, CausesAreExplained, CheckFaultsAreExplained, FindingsAreExplained, MendingsAreExplained}
 
 pub once : CodesAreDistinct
 unfolding table
@@ -106,6 +107,20 @@ risks (Word risk.Duplicate) = refl
 risks (Word risk.UnknownName) = refl
 risks (Word risk.RepeatedGroup) = refl
 risks (Word risk.NoMemory) = refl
+
+pub dones : DoneFaultsAreExplained
+unfolding table
+dones (Frame NoHeader) = refl
+dones (Frame NoEnd) = refl
+dones (Frame AfterEnd) = refl
+dones (Frame Read) = refl
+dones (Frame LineTooLong) = refl
+dones (Frame BadByte) = refl
+dones (Frame TextNoMemory) = refl
+dones (Word done.WrongCount) = refl
+dones (Word done.UnknownName) = refl
+dones (Word done.NotSwitched) = refl
+dones (Word done.NoMemory) = refl
 
 pub refusals : RefusalsAreExplained
 unfolding table

@@ -17,6 +17,7 @@ use Rattle.tx_files.specs.Ending.{EndsWith, EndsWell}
 use Rattle.tx_files.specs.Left.{ReadsLeft, one_plan, IsPlanLeft, plan_at_risk, IsLeftAtRisk, two_plans, AreLeft, plans_at_risk, AreLeftAtRisk, page_plans, IsLeftForPage}
 use Rattle.tx_files.specs.PageReading.{ReadsForPage}
 use Rattle.tx_files.specs.Reading.{ReadsPlan, ReadsWithRisks}
+use Rattle.tx_files.specs.Stopped.{ReadsStopped}
 use Rattle.tx_files.specs.TwoPlans.{ReadsWhole, ReadsPlans, ReadsPlansWithRisks, ReadsWithOld}
 use Rattle.tx_requests.specs.Audit.{IsAudited}
 use Rattle.tx_requests.specs.Carried.{IsCarriedOut}
@@ -99,9 +100,9 @@ module _ {P W : Type 0} (rest : P → Option (List ℕ)) (failed : P → Bool)
         change_prints ChangeEnds r result
         × third.unread
     IsDone (Order r) result =
-        ByRequest (ReadsLeft two_plans AreLeft r.down (ReadsPlans first second)) OrderAnswers
+        ByRequest (ReadsLeft two_plans AreLeft r.down
+        (ReadsStopped r.stopped (is_some r.done) first second third)) OrderAnswers
         order_prints OrderEnds r result
-        × third.unread
     IsDone (Mend r) result =
         ByRequest (ReadsWhole This first) MendAnswers mend_prints MendEnds r result
         × second.unread × third.unread

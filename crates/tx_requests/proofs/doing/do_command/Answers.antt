@@ -69,7 +69,7 @@ pub returns-in-Change-clause-third_calls : goal.returns-in-Change-clause-third_c
 returns-in-Change-clause-third_calls g c = uncalled g.R.Source.called c.args.third.now
 
 pub carry_left-requires-in-Order-clause-read : goal.carry_left-requires-in-Order-clause-read
-carry_left-requires-in-Order-clause-read g c = c.read_plans-in-Order.ensures.known
+carry_left-requires-in-Order-clause-read g c = c.read_stopped-texts.ensures.known
 
 pub carry_left-requires-in-Order-clause-known : goal.carry_left-requires-in-Order-clause-known
 carry_left-requires-in-Order-clause-known g c = λ t known. known
@@ -79,10 +79,7 @@ returns-in-Order-clause-done g c =
     let is = rw c.in-Order.is at c.down_of-down.ensures in
     let e = c.carry_left-in-Order.ensures in
     rw c.in-Order.is
-    (record { texts = e.0; read = (c.read_plans-in-Order.result, c.read_plans-in-Order.ensures.texts, rw is at e.1); carried = e.2 }, refl)
-
-pub returns-in-Order-clause-third_calls : goal.returns-in-Order-clause-third_calls
-returns-in-Order-clause-third_calls g c = uncalled g.R.Source.called c.args.third.now
+    (record { texts = e.0; read = (c.read_stopped-texts.result, rw c.is_some-done.ensures at c.read_stopped-texts.ensures.texts, rw is at e.1); carried = e.2 })
 
 pub carry_out-requires : goal.carry_out-requires
 carry_out-requires g c = c.read_whole.ensures.known

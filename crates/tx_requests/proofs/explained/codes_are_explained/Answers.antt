@@ -1,4 +1,4 @@
-use Rattle.tx_requests.proofs.Printed.{once, plans, warnings, certificates, scripts, risks, refusals, causes, checks, findings, mendings}
+use Rattle.tx_requests.proofs.Printed.{once, plans, warnings, certificates, scripts, risks, dones, refusals, causes, checks, findings, mendings}
 use Rattle.tx_requests.proofs.explained.codes_are_explained.Goals as goal
 
 pub returns-clause-once : goal.returns-clause-once
@@ -18,6 +18,9 @@ returns-clause-scripts g c = scripts
 
 pub returns-clause-risks : goal.returns-clause-risks
 returns-clause-risks g c = risks
+
+pub returns-clause-done : goal.returns-clause-done
+returns-clause-done g c = dones
 
 pub returns-clause-refusals : goal.returns-clause-refusals
 returns-clause-refusals g c = refusals
