@@ -7,7 +7,7 @@ _telexplan() {
     local word=${COMP_WORDS[COMP_CWORD]} words= before= kind=CODE
     case ${COMP_WORDS[COMP_CWORD - 1]} in
         --limit) words=$(echo {0..62}) ;;
-        --spare) words=$(echo {0..15}) ;;
+        --spare | --spare-now) words=$(echo {0..15}) ;;
         --stage) words=$(echo {0..128}) ;;
         --through) words="$(_telexplan_names EXCHANGE) $(_telexplan_names GROUP)" ;;
         --down-exchange) words=$(_telexplan_names EXCHANGE) ;;
@@ -26,7 +26,7 @@ _telexplan() {
                 *:audit:-*) words="--limit --spare --cert --counter --down --down-exchange --help" ;;
                 *:mend:-*) words="--limit --spare --plan --cert --help" ;;
                 *:change:-*) words="--limit --spare --cert --mixture --counter --down --down-exchange --help" ;;
-                *:order:-*) words="--limit --spare --stage --plan --cert --down --down-exchange --help" ;;
+                *:order:-*) words="--limit --spare --stage --plan --cert --done --back --spare-now --down --down-exchange --help" ;;
                 *:lint:-*) words="--risks --help" ;;
                 *:survive:-*) words="--risks --risks-only --from --down --down-exchange --help" ;;
                 *:page:-*) words="--limit --spare --risks --from --code --all-codes --html --down --down-exchange --help" ;;

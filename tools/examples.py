@@ -59,7 +59,7 @@ class Example:
         self.drives = "telexplan" in words
         self.words = words[words.index("telexplan") + 1 :] if self.drives else words[1:]
         made = [b for a, b in zip(self.words, self.words[1:]) if a in ("--counter", "--mixture", "--plan") or (a == "--cert" and self.words[0] != "run")]
-        if "--back" in self.words:
+        if "--back" in self.words and not self.drives:
             made = self.words[2:]
         self.made = made if self.status < 2 else []
         self.files = [it for it in self.words if it.startswith("examples/") and it not in self.made]
@@ -300,8 +300,8 @@ def codes_defined():
     """The codes and names of the definitions, and why calls end by the names of the table, since these codes have none."""
     text = lambda crate, name: read(f"crates/{crate}/specs/{name}.antt").decode()
     rows = set()
-    for crate, name in [("tx_text", "Rows"), ("tx_plantext", "PlanFaults"), ("tx_lint", "LintText"), ("tx_cert", "CertFaults"), ("tx_script", "ScriptFaults"), ("tx_risk", "RiskFaults")]:
-        rows.update(re.findall(r'\(codes "([APCSQX]\d+)", codes "(\w+)"\)', text(crate, name)))
+    for crate, name in [("tx_text", "Rows"), ("tx_plantext", "PlanFaults"), ("tx_lint", "LintText"), ("tx_cert", "CertFaults"), ("tx_script", "ScriptFaults"), ("tx_risk", "RiskFaults"), ("tx_order", "DoneText")]:
+        rows.update(re.findall(r'\(codes "([APCDSQX]\d+)", codes "(\w+)"\)', text(crate, name)))
         for framed in re.findall(r'frame_row((?: \(codes "\w+"\))+)', text(crate, name)):
             rows.update(zip(re.findall(r'"(\w+)"', framed), ["NoHeader", "NoEnd", "AfterEnd", "ReadFault"]))
     rows.update((b, a) for a, b in re.findall(r'refusal_text (\w+) = codes "(M\d+)"', text("tx_tickets", "Texts")))

@@ -46,15 +46,15 @@ Exit status: 0 after YES, 1 after NO, 2 for a refused text and for plans that
 contradict each other, 3 for a failed read or write, 4 when out of memory, 64
 for refused words, and for a stage that the order does not have";
 
-const STAGE: &str = "The stage of which --plan and --cert write, or from which
-the order leads on or back: from 0";
+const STAGE: &str = "The stage of which --plan and --cert write, or from
+which the order leads on or back: from 0";
 
 /// How many stages an order has at the most.
 const MOST_STAGES: u8 = 128;
 
-const DONE: &str = "The order leads from the middle of that stage on. What
-the stages up to it have switched: lines EXCHANGE
-CODE, between DONE 1 and END; - is standard input";
+const DONE: &str = "Lead on from the middle of that stage. What is done:
+lines EXCHANGE CODE, between DONE 1 and END; - is
+standard input";
 
 pub(crate) fn order_grammar<'a>(alloc: Global) -> Result<clap::Command<'a>, AllocError>
     ensures { IfOk result (λ c. app_of c ≡ order_words) }
@@ -82,16 +82,12 @@ file",
 and after that stage to this file",
     )
     .option("done", "DONE", DONE)
-    .flag(
-        "back",
-        "The order leads from that stage, as far as it is
-done, back to OLD",
-    )
+    .flag("back", "Lead from there back to OLD")
     .number(
         "spare-now",
         "K",
-        "The spare number of the order from that stage on,
-if it is not that of --spare: 0 to 15",
+        "The spare number from there on, if it is not that of
+--spare: 0 to 15",
         15,
     )
     .option("down", "GROUP,..", DOWN)

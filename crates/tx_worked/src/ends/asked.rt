@@ -53,6 +53,18 @@ fn tell_risks(risks: &Option<(String, bool)>, log: &Log) {
     }
 }
 
+/// Tells the stage of an order, and where one was stopped.
+fn tell_order(request: &OrderRequest, log: &Log) {
+    if let Some(stage) = request.stage {
+        log.tell_number("stage", u64::from(stage));
+    }
+    if let Some(stopped) = request.stopped {
+        log.tell_number("stopped in", u64::from(stopped.stage));
+        log.tell_number("for spare", u64::from(stopped.limits.spare));
+        tell_flag("back", stopped.back, log);
+    }
+}
+
 /// Tells what a command is given beside its limits and its files.
 fn tell_more(command: &Command, log: &Log) {
     match command {
@@ -61,12 +73,7 @@ fn tell_more(command: &Command, log: &Log) {
             tell_flag("echo", request.echo, log);
             tell_flag("summary", request.summary, log);
         }
-        Command::Order(
-            OrderRequest {
-                stage: Some(stage),
-                ..
-            },
-        ) => { log.tell_number("stage", u64::from(*stage)) }
+        Command::Order(request) => tell_order(request, log),
         Command::Survive(request) => tell_risks(&request.risks, log),
         Command::Compare(request) => tell_risks(&request.risks, log),
         Command::Page(request) => {
