@@ -1,12 +1,10 @@
 // The two plans of an order that leads on or back from where another one was stopped.
-ghost use Rattle.std.specs.Prelude.{IfOk, Ok};
+ghost use Rattle.std.specs.Prelude.{IfOk};
 ghost use Rattle.tx_text.specs.Calls.{CallsAtMost, source_calls};
 ghost use Rattle.tx_text.specs.Ends.{input};
-ghost use Rattle.tx_plan.specs.Plan.{Plan as PlanNow};
 ghost use Rattle.tx_plan.specs.Mixtures.{SameNetwork};
 ghost use Rattle.tx_plan.specs.Rules.{IsPlan};
-ghost use Rattle.tx_order.specs.Switchings.{IsOrdered};
-ghost use Rattle.tx_files.specs.Stopped.{target_of, StopsAt, Resumes, ReadsStopped};
+ghost use Rattle.tx_files.specs.Stopped.{StopsIn, StopsAt, Resumes, ReadsStopped};
 ghost use Rattle.tx_files.specs.TwoPlans.{AreJoined};
 
 use crate::fault::CommandFault;
@@ -59,12 +57,8 @@ fn resume<A: Allocator + Copy, R: Source>(
     ensures calls { CallsAtMost R.called source_calls done.old done.new }
 {
     let TwoPlans { old, new, joined } = texts;
-    let Joined {
-        old: before,
-        new: after,
-    } = joined_of(alloc, &old, &new)?;
-    let target = if stopped.back { before } else { after };
-    target.rules();
+    let again = joined_of(alloc, &old, &new)?;
+    let target = if stopped.back { again.old } else { again.new };
     let plan = plan_where(alloc, stopped, named, joined, done)?;
     let old = PlanText {
         text: old.text,
@@ -106,22 +100,17 @@ fn plan_in<A: Allocator + Copy, R: Source>(
     named: bool,
     done: &mut R,
 ) -> Result<Plan<A>, CommandFault>
-    ensures plan { (before after : PlanNow)
-        → IsOrdered before after stopped.limits.limit stopped.limits.spare order
-        → StopsAt before after stopped named
-        (input R.rest R.failed R.called done.old done.new) result }
+    ensures plan { StopsIn stopped named
+        (input R.rest R.failed R.called done.old done.new) order result }
     ensures rules { IfOk result IsPlan }
     ensures calls { CallsAtMost R.called source_calls done.old done.new }
 {
     if let Some(stages) = stages_without(&order, usize::from(stopped.stage)) {
         return Err(CommandFault::NoSuchStage(stages));
     }
-    let plan = if named {
-        let pairs = read_done(alloc, done, &order, stopped.stage)?;
-        plan_stopped(alloc, order, stopped.stage, Some(&pairs))?
-    } else {
-        plan_stopped(alloc, order, stopped.stage, None)?
-    };
-    plan.rules();
-    Ok(plan)
+    if !named {
+        return Ok(plan_stopped(alloc, order, stopped.stage, None)?);
+    }
+    let pairs = read_done(alloc, done, &order, stopped.stage)?;
+    Ok(plan_stopped(alloc, order, stopped.stage, Some(&pairs))?)
 }

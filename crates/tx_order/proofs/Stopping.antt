@@ -3,8 +3,7 @@ use Rattle.tx_order.proofs.Common.{◌≡◌, ℕ, zero, suc, ◌+◌, ◌-◌, 
 use Rattle.std.specs.Prelude.{◌⊎◌, if◌then◌else◌}
 use Rattle.tx_plan.specs.Mixtures.{IsEither}
 use Rattle.tx_plan.proofs.CommonRanks.{mixture_certified}
-use Rattle.tx_order.specs.Stopped.{is_done, stages_done, IsStopped, HasBothWays}
-use Rattle.tx_order.proofs.Leading.{exactly_ordered, from_order}
+use Rattle.tx_order.specs.Stopped.{is_done, stages_done, IsStopped}
 use Rattle.tx_order.proofs.Ordered.{is_order_of, stage_common}
 use Rattle.tx_order.proofs.Switched.{switched_mixture}
 use Rattle.tx_order.proofs.TwoFronts.{list_there, bar_there, plan_list, plan_bar}
@@ -66,19 +65,3 @@ module _ (o : Order) (k : IsOrderKept o) where
           (a.0, mixture_certified (plan_before o (n - 1)) (plan_before o n) (plan_stopped o n done) a.0 o.transition.limit o.transition.spare
               (record { exchanges = refl; codes = refl; ranges = refl; groups = refl }) a.1 mixture);
     }
-
--- ON, AND BACK
-module _ (old new : Plan) (ok : IsPlan old) (new_ok : IsPlan new) (same : SameNetwork old new) (plans : ℕ → Plan) (stages limit spare : ℕ) (o : IsOrder old new plans stages limit spare) where
-  pub both_ways : (i : ℕ) → i < stages → (m : Plan) → IsMixture (plans i) (plans (i + 1)) m → HasBothWays old new limit spare m
-  both_ways i h m mix =
-      let a = o.safe i h in
-      let here = (o.mixtures i).network in
-      let along = same_along old (plans i) m here mix.network in
-      let between = same_along (plans i) old (plans (i + 1)) (same_back old (plans i) here) (o.mixtures (i + 1)).network in
-      let can : CanBeCertified m limit spare = (a.0, mixture_certified (plans i) (plans (i + 1)) m a.0 limit spare between a.1 mix) in
-      let ends = from_order old new limit spare same (plans, stages, o) in
-      let back = same_back old m along in
-      record {
-        onward = (exactly_ordered m new limit spare mix.rules new_ok (same_along m old new back same)).1 (can, ends.1);
-        back = (exactly_ordered m old limit spare mix.rules ok back).1 (can, ends.0);
-      }

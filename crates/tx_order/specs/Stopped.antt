@@ -7,7 +7,6 @@ use Rattle.tx_plan.specs.Mixtures.{IsMixture}
 use Rattle.tx_plan.specs.Routes.{route_list, is_barred}
 use Rattle.tx_rank.specs.Grades.{CanBeCertified}
 use Rattle.tx_order.specs.Ordered.{Order, plan_before}
-use Rattle.tx_order.specs.Orders.{HasOrder}
 
 -- an exchange and a code are one of these pairs
 abbrev pub is_done : List Pair → (x c : ℕ) → Bool
@@ -29,8 +28,3 @@ pub record IsStopped (o : Order) (n : ℕ) (done : Option (List Pair)) (p : Plan
   pub bars : (x c : ℕ)
       → is_barred p x c ≡ is_barred (plan_before o (stages_done done n x c)) x c
   pub certified : CanBeCertified p o.transition.limit o.transition.spare
-
--- from a plan there is an order on to the new plan, and one back to the old one
-pub record HasBothWays (old new : Plan) (limit spare : ℕ) (p : Plan) : Type 0 where
-  pub onward : HasOrder p new limit spare
-  pub back : HasOrder p old limit spare

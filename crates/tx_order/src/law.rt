@@ -17,7 +17,6 @@ ghost use Rattle.tx_join.specs.Laws.{CanBeJoined};
 ghost use Rattle.tx_order.specs.Ordered.{Order};
 ghost use Rattle.tx_order.specs.Switchings.{IsOrdered};
 ghost use Rattle.tx_order.specs.LeadsOver.{LeadsOver};
-ghost use Rattle.tx_order.specs.Stopped.{HasBothWays};
 
 /// The plan in which the levels below some front are switched is certified by a mixture of the old
 /// ranks and the new ones: the new rank where the list is switched, and else the old one.
@@ -89,14 +88,6 @@ pub fn orders_are_sound()
         → AreStagedTurns plans stages 0 (opening numbers count) turns
         → AreInStages plans stages
         (changing_run (opening numbers count) (map (λ t. t.turn) turns)) }
-{}
-
-/// From each mixture of a stage there is an order on to the new plan, and one back to the old plan.
-pub fn stages_can_be_stopped()
-    ensures { (old new : Plan) (plans : ℕ → Plan) (stages limit spare i : ℕ) (m : Plan)
-        → IsPlan old → IsPlan new → SameNetwork old new
-        → IsOrder old new plans stages limit spare → i < stages
-        → IsMixture (plans i) (plans (i + 1)) m → HasBothWays old new limit spare m }
 {}
 
 /// There is an order exactly where some ranks certify the old plan and some the new one.

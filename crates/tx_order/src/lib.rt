@@ -28,7 +28,7 @@ pub use done::{DoneFault, DoneWord, code_and_name, read_done};
 pub use judging::{OrderVerdict, judge_order};
 pub use law::{
     each_level_is_common, each_plan_is_certified, levels_lead_over, ordered_exactly,
-    orders_are_sound, orders_lead_over, stages_are_fewest, stages_can_be_stopped,
+    orders_are_sound, orders_lead_over, stages_are_fewest,
 };
 pub use orders::Order;
 pub use report::write_order;
