@@ -115,9 +115,9 @@ file_names (Change r) = record (two_read (string_bytes r.old) (string_bytes r.ne
 }
 file_names (Order r) = record (only_read (Some (string_bytes r.old) ∷ Some (string_bytes r.new)
     ∷ option_map string_bytes r.done ∷ [])) {
-  plan = option_map string_bytes r.plan;
-  cert = option_map string_bytes r.cert;
-}
+      plan = option_map string_bytes r.plan;
+      cert = option_map string_bytes r.cert;
+    }
 file_names (Mend r) = record (one_read (string_bytes r.plan)) {
   plan = option_map string_bytes r.mended;
   cert = option_map string_bytes r.cert;

@@ -24,14 +24,13 @@ module _ (o : Order) (k : IsOrderKept o) where
   stage_ranks (suc s) =
       let a = stage_common o k s in
       let before : s ≡ suc s - 1 = omega arith in
-      let after : s + 1 ≡ suc s = omega arith in
-      (a.0, subst (λ i. AreCommon (plan_before o i) (plan_before o (suc s)) a.0 o.transition.limit o.transition.spare) before
-          (subst (λ i. AreCommon (plan_before o s) (plan_before o i) a.0 o.transition.limit o.transition.spare) after a.1))
+      let after : s + 1 ≡ suc s = omega arith in (
+        a.0,
+        subst (λ i. AreCommon (plan_before o i) (plan_before o (suc s)) a.0 o.transition.limit o.transition.spare) before
+            (subst (λ i. AreCommon (plan_before o s) (plan_before o i) a.0 o.transition.limit o.transition.spare) after a.1),
+      )
 
   module _ (n : ℕ) (done : Option (List Pair)) where
-    fronts : ℕ → ℕ → ℕ
-    fronts x c = fronts_before o (stages_done done n x c) c
-
     lists : (x c : ℕ) → route_list (plan_stopped o n done) x c ≡ route_list (plan_before o (stages_done done n x c)) x c
     lists x c = list_there o.transition (λ x c. fronts_before o (stages_done done n x c) c) x c ∙ sym (plan_list o.transition (fronts_before o (stages_done done n x c)) x c)
 
@@ -61,7 +60,9 @@ module _ (o : Order) (k : IsOrderKept o) where
       lists = lists;
       bars = bars;
       certified =
-          let a = stage_ranks n in
-          (a.0, mixture_certified (plan_before o (n - 1)) (plan_before o n) (plan_stopped o n done) a.0 o.transition.limit o.transition.spare
-              (record { exchanges = refl; codes = refl; ranges = refl; groups = refl }) a.1 mixture);
+          let a = stage_ranks n in (
+            a.0,
+            mixture_certified (plan_before o (n - 1)) (plan_before o n) (plan_stopped o n done) a.0 o.transition.limit o.transition.spare
+                (record { exchanges = refl; codes = refl; ranges = refl; groups = refl }) a.1 mixture,
+          );
     }

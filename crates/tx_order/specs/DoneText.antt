@@ -22,9 +22,9 @@ differ false is = is
 -- the stages up to stage n switch the list or the bar of an exchange for a code
 abbrev pub switches : Order → (n : ℕ) → Pair → Bool
 switches o n p = not (bytes_eq (route_list (plan_before o 0) p.exchange p.code)
-        (route_list (plan_before o n) p.exchange p.code))
+    (route_list (plan_before o n) p.exchange p.code))
     || differ (is_barred (plan_before o 0) p.exchange p.code)
-        (is_barred (plan_before o n) p.exchange p.code)
+    (is_barred (plan_before o n) p.exchange p.code)
 
 -- a pair that has a name, if these stages switch it
 abbrev pub pair_if : Order → ℕ → Option Pair → Result Pair DoneWord
