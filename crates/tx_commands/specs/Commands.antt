@@ -1,5 +1,5 @@
 -- What words ask for.
-use Rattle.std.specs.Prelude.{◌≡◌, ◌⊎◌, ℕ, Bool, true, false, List, Option, None, Some, is_some, map, option_map, codes, string_bytes, String, ◌||◌}
+use Rattle.std.specs.Prelude.{◌≡◌, ◌⊎◌, ℕ, Bool, true, false, if◌then◌else◌, List, Option, None, Some, is_some, map, option_map, codes, string_bytes, String, ◌||◌}
 use Rattle.std.specs.Borrow.{Bor}
 use Rattle.std.specs.List.{join_by}
 use Rattle.std.specs.Option.{option_map_or}
@@ -97,11 +97,11 @@ AsksForStop found None = (has found (codes "done") ≡ false)
 AsksForStop found (Some s) = GivesLimits found s.limits × Gives found (codes "stage") s.stage
     × (is_set found (codes "back") ≡ s.back)
 
--- they give the number of a stage, if there is one; an order from where one was stopped begins
--- with its stage 0
-abbrev pub AsksForStage : List Row → Option Stopped → Option ℕ → Type 0
-AsksForStage found None stage = GivesIfAny found (codes "stage") stage
-AsksForStage found (Some s) stage = stage ≡ Some 0
+-- they give the number of a stage, if there is one; the files of an order from where one was
+-- stopped are of its stage 0
+abbrev pub AsksForStage : List Row → Option Stopped → (made : Bool) → Option ℕ → Type 0
+AsksForStage found None made stage = GivesIfAny found (codes "stage") stage
+AsksForStage found (Some s) made stage = stage ≡ (if made then Some 0 else None)
 
 -- `trace` has this exchange and this code, or neither
 abbrev pub AsksForCalls : {Z : Type 0} → List Row → Option (String Z × String Z) → Type 0
@@ -144,8 +144,9 @@ Asks name found (Change r) = (name ≡ codes "change") × Names found (codes "be
 Asks name found (Order r) = (name ≡ codes "order") × Names found (codes "before") r.old
     × Names found (codes "after") r.new × Gives found (codes "limit") r.limits.limit
     × GivesNow found r.limits.spare × NamesIfAny found (codes "done") r.done
-    × AsksForStop found r.stopped × AsksForStage found r.stopped r.stage
-    × NamesIfAny found (codes "plan") r.plan × NamesIfAny found (codes "cert") r.cert × AreOfStage r.stage r.plan r.cert
+    × AsksForStop found r.stopped × NamesIfAny found (codes "plan") r.plan
+    × AsksForStage found r.stopped (is_some r.plan || is_some r.cert) r.stage
+    × NamesIfAny found (codes "cert") r.cert × AreOfStage r.stage r.plan r.cert
     × AsksForDown found r.down × AreOfWholePlan r.down (is_some r.plan || is_some r.cert)
 Asks name found (Mend r) = (name ≡ codes "mend") × Names found (codes "before") r.plan
     × GivesLimits found r.limits × NamesIfAny found (codes "plan") r.mended

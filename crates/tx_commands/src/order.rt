@@ -131,7 +131,8 @@ pub(crate) fn order_of(alloc: Global, matches: &ArgMatches<'_>) -> Result<Comman
     let done = text(alloc, matches, "done")?;
     let stopped = stopped_asked(alloc, matches)?;
     let stage = match stopped {
-        Some(_) => Some(0),
+        Some(_) if made => Some(0),
+        Some(_) => None,
         None if is_given(matches, "stage") => {
             Some(number_of(alloc, matches, "stage", MOST_STAGES)?)
         }
