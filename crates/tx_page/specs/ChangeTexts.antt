@@ -39,9 +39,13 @@ exchange_texts p before after x = texts_below (length p.codes) (pair_texts p bef
 abbrev pub table_texts : (p before after : Plan) → List (List ℕ)
 table_texts p before after = texts_below (length p.exchanges) (exchange_texts p before after)
 
--- the number of a stage, from 1, and what it switches
+-- the number of a stage, from 1, and how many there are
+abbrev pub stage_title : Order → ℕ → List (List ℕ)
+stage_title o s = decimal (s + 1) ∷ decimal (stages_in o) ∷ []
+
+-- a stage, and what it switches
 abbrev pub stage_texts : Order → ℕ → List (List ℕ)
-stage_texts o s = (decimal (s + 1) ∷ [])
+stage_texts o s = stage_title o s
     ++ table_texts o.transition.new (plan_before o s) (plan_before o (s + 1))
 
 -- whether there is a safe order of switching
