@@ -4,6 +4,7 @@ from random import Random
 
 from audit import is_safe, judge_audit, judge_cert_faults, judge_codes, judge_grade
 from change import judge_change
+from down import judge_down
 from families import FAMILIES, PAIRS, SMALL, ambiguous_plans, code_plans, packed, random_network, random_pair, random_plan, random_risks, seeded
 from lint import judge_lint, spoiled
 from mend import is_mendable, judge_mend
@@ -128,6 +129,18 @@ def random_trace(rng):
     return 1, judge
 
 
+def random_down(rng):
+    """A random pair of plans while some groups, or those of an exchange, are down, and perhaps one that is not there."""
+    old, new = random_pair(rng)
+    while contradiction(old, new):
+        old, new = random_pair(rng)
+    groups = [*{**old.groups, **new.groups}, *(["ZZ9"] if rng.random() < 0.1 else [])]
+    down = rng.sample(groups, min(len(groups), rng.choice((0, 1, 1, 2, 3))))
+    exchange = rng.choice([*old.exchanges, *new.exchanges]) if not down or rng.random() < 0.2 else None
+    at = numbers_of(rng)
+    return 1, lambda program: judge_down(program, old, new, at, down, exchange)
+
+
 def random_lint(rng):
     """The text of a random plan, most often with a few mistakes."""
     text = spoiled(rng, random_plan(rng).text)
@@ -149,5 +162,6 @@ TOPICS = {
     **{f"order: {name}": lambda it=it: pairs(*it, judge_order, 4096) for name, it in PAIRS.items()},
     "order: random": lambda: seeded(800, "orders", random_change(judge_order)),
     "survive --from: random": lambda: seeded(800, "comparisons", random_comparison),
+    "down: random": lambda: seeded(400, "downs", random_down),
     "trace: random": lambda: seeded(800, "traces", random_trace),
 }

@@ -10,6 +10,7 @@ use Rattle.tx_plan.specs.declared.limits.Limits.{Limits}
 use Rattle.tx_commands.specs.Entries.{is_known}
 use Rattle.tx_commands.specs.Grammar.{program_words}
 use Rattle.tx_commands.specs.declared.command.Command.{Command}
+use Rattle.tx_commands.specs.declared.down.Down.{Down}
 use Rattle.tx_commands.specs.declared.command.Command.TheVariants.{Pipe, Run, RunTelling, Check, Lint, Codes, Audit, Change, Order, Mend, Survive, Compare, Page, Grade, Trace, TraceThrough, TraceChanges, Fill, Explain}
 
 -- the words of a command name this file
@@ -69,6 +70,18 @@ AsksForRisks found None =
 AsksForRisks found (Some (risks, only)) =
     Names found (codes "risks") risks × (is_set found (codes "risks-only") ≡ only)
 
+-- they name this as down, or nothing
+abbrev pub AsksForDown : List Row → Option Down → Type 0
+AsksForDown found None =
+    (first_of (codes "down") found ≡ None) × (first_of (codes "down-exchange") found ≡ None)
+AsksForDown found (Some d) = NamesIfAny found (codes "down") d.groups
+    × NamesIfAny found (codes "down-exchange") d.exchange
+
+-- files are made only where nothing is down
+abbrev pub AreOfWholePlan : Option Down → (made : Bool) → Type 0
+AreOfWholePlan None made = Unit {0}
+AreOfWholePlan (Some d) made = made ≡ false
+
 -- `trace` has this exchange and this code, or neither
 abbrev pub AsksForCalls : {Z : Type 0} → List Row → Option (String Z × String Z) → Type 0
 AsksForCalls found None =
@@ -100,27 +113,33 @@ Asks name found (Lint r) = (name ≡ codes "lint") × Names found (codes "plan")
 Asks name found (Codes r) = (name ≡ codes "codes") × Names found (codes "plan") r.plan
 Asks name found (Audit r) = (name ≡ codes "audit") × Names found (codes "plan") r.plan
     × GivesLimits found r.limits × NamesIfAny found (codes "cert") r.cert
-    × NamesIfAny found (codes "counter") r.counter
+    × NamesIfAny found (codes "counter") r.counter × AsksForDown found r.down
+    × AreOfWholePlan r.down (is_some r.cert || is_some r.counter)
 Asks name found (Change r) = (name ≡ codes "change") × Names found (codes "before") r.old
     × Names found (codes "after") r.new × GivesLimits found r.limits
     × NamesIfAny found (codes "cert") r.cert × NamesIfAny found (codes "mixture") r.mixture
-    × NamesIfAny found (codes "counter") r.counter
+    × NamesIfAny found (codes "counter") r.counter × AsksForDown found r.down
+    × AreOfWholePlan r.down ((is_some r.cert || is_some r.mixture) || is_some r.counter)
 Asks name found (Order r) = (name ≡ codes "order") × Names found (codes "before") r.old
     × Names found (codes "after") r.new × GivesLimits found r.limits
     × GivesIfAny found (codes "stage") r.stage × NamesIfAny found (codes "plan") r.plan
     × NamesIfAny found (codes "cert") r.cert × AreOfStage r.stage r.plan r.cert
+    × AsksForDown found r.down × AreOfWholePlan r.down (is_some r.plan || is_some r.cert)
 Asks name found (Mend r) = (name ≡ codes "mend") × Names found (codes "before") r.plan
     × GivesLimits found r.limits × NamesIfAny found (codes "plan") r.mended
     × NamesIfAny found (codes "cert") r.cert
 Asks name found (Survive r) = (name ≡ codes "survive") × Names found (codes "plan") r.plan
     × AsksForRisks found r.risks × (first_of (codes "from") found ≡ None)
+    × AsksForDown found r.down
 Asks name found (Compare r) = (name ≡ codes "survive") × Names found (codes "plan") r.new
-    × AsksForRisks found r.risks × Names found (codes "from") r.old
+    × AsksForRisks found r.risks × Names found (codes "from") r.old × AsksForDown found r.down
 Asks name found (Page r) = (name ≡ codes "page") × Names found (codes "plan") r.plan
     × GivesLimits found r.limits × NamesIfAny found (codes "risks") r.risks
     × NamesIfAny found (codes "from") r.old × NamesIfAny found (codes "code") r.code
     × (is_set found (codes "all-codes") ≡ r.all_codes) × NamesIfAny found (codes "html") r.html
+    × AsksForDown found r.down
 Asks name found (Grade r) = (name ≡ codes "grade") × Names found (codes "plan") r.plan
+    × AsksForDown found r.down
 Asks name found (Trace r) = (name ≡ codes "trace") × Names found (codes "plan") r.plan
     × Names found (codes "exchange") r.exchange × Names found (codes "code") r.code
     × NamesIfAny found (codes "down") r.down × (first_of (codes "through") found ≡ None)

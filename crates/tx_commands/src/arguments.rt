@@ -13,7 +13,8 @@ bars; - is standard input";
 
 /// What the help says of the named risks.
 pub(crate) const RISKS: &str = "The named risks, such as cables: lines RISK name
-group .., between RISKS 1 and END; - is standard input";
+group .., between RISKS 1 and END; - is standard
+input";
 
 pub(crate) const OLD_PLAN: &str = "The plan that is in force; - is standard input";
 
@@ -21,6 +22,9 @@ pub(crate) const NEW_PLAN: &str = "The plan that is to be; - is standard input";
 
 /// What the help says of the groups that are down.
 pub(crate) const DOWN: &str = "The groups that are down, with a comma between two";
+
+/// What it says of an exchange of which all groups are.
+pub(crate) const DOWN_EXCHANGE: &str = "An exchange of which all groups are down";
 
 const LIMIT: &str = "At most how many transits a call may pass: 0 to 62";
 

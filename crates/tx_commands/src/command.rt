@@ -107,7 +107,7 @@ impl Command {
             Command::Page(request) => page_files(request),
             Command::TraceChanges(request) => Files::of_two(&request.plan, &request.old),
             Command::Codes(CodesRequest { plan })
-            | Command::Grade(GradeRequest { plan })
+            | Command::Grade(GradeRequest { plan, .. })
             | Command::Trace(TraceRequest { plan, .. })
             | Command::TraceThrough(ThroughRequest { plan, .. })
             | Command::Fill(FillRequest { plan, .. }) => Files::of_one(plan),

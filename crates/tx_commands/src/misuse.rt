@@ -23,6 +23,8 @@ pub(crate) enum Misuse {
     /// `trace` has none of an exchange and a code, `--through` and `--from`, or some that do not go
     /// together.
     TraceWords,
+    /// A file is to be made of a plan of which something is down.
+    DownFiles,
     /// `explain` has these words, of which none is explained.
     NoSuchCode(String),
     /// Standard input is to be read for two files.
@@ -51,8 +53,10 @@ impl Misuse {
     /// What kind of refusal it is, as the library of command lines has them.
     pub(crate) fn kind(&self) -> ErrorKind {
         match self {
-            Misuse::CheckedTelling | Misuse::InputTwice | Misuse::Overwrites(_) =>
-                ErrorKind::ArgumentConflict,
+            Misuse::CheckedTelling
+            | Misuse::DownFiles
+            | Misuse::InputTwice
+            | Misuse::Overwrites(_) => ErrorKind::ArgumentConflict,
             Misuse::Number(..) | Misuse::NoSuchCode(_) => ErrorKind::InvalidValue,
             Misuse::StageMissing | Misuse::RisksOnly | Misuse::TraceWords =>
                 ErrorKind::MissingRequiredArgument,
@@ -62,22 +66,20 @@ impl Misuse {
 
     /// What is said of it.
     pub(crate) fn message(&self, alloc: Global) -> Result<String, AllocError> {
-        match self {
-            Misuse::Number(option, word) => format!(in alloc;
+        let reason = match self {
+            Misuse::Number(option, word) => return format!(in alloc;
                 "invalid value '{word}' for '--{option}': a number has no sign and no leading zeros"
             ),
-            Misuse::NoSuchCode(line) => format!(in alloc; "no such code: {line:?}\n\n{EXPLAINED}"),
-            Misuse::Overwrites(file) => format!(in alloc;
+            Misuse::NoSuchCode(line) => return format!(in alloc;
+                "no such code: {line:?}\n\n{EXPLAINED}"
+            ),
+            Misuse::Overwrites(file) => return format!(in alloc;
                 "a file to be made has the name of another file of the command, or is named -: {file:?}"
             ),
-            _ => String::from_str(alloc, self.reason()),
-        }
-    }
-
-    /// What is said of it, where no word of the command line is said too.
-    fn reason(&self) -> &'static str {
-        match self {
             Misuse::CheckedTelling => "--strict, --echo and --summary do not go with --cert",
+            Misuse::DownFiles => {
+                "--down and --down-exchange do not go with --cert, --counter, --mixture and --plan"
+            }
             Misuse::StageMissing => "--plan and --cert go with --stage",
             Misuse::RisksOnly => "--risks-only goes with --risks",
             Misuse::TraceWords =>
@@ -86,6 +88,7 @@ impl Misuse {
                 "standard input, which is named -, can be read for one file alone"
             }
             _ => "a command is missing",
-        }
+        };
+        String::from_str(alloc, reason)
     }
 }

@@ -5,8 +5,9 @@ ghost use Rattle.tx_commands.specs.Commands.{Asks};
 ghost use Rattle.tx_commands.specs.Grammar.{order_words};
 ghost use Rattle.tx_commands.specs.inner.Refused.{IsRefused};
 
-use crate::arguments::{MOST_STAGES, NEW_PLAN, OLD_PLAN, Syntax};
+use crate::arguments::{DOWN, DOWN_EXCHANGE, MOST_STAGES, NEW_PLAN, OLD_PLAN, Syntax};
 use crate::command::Command;
+use crate::down::{Down, down_asked};
 use crate::given::{is_given, limits, number_of, text};
 use crate::misuse::Misuse;
 use clap::ArgMatches;
@@ -23,6 +24,7 @@ pub struct OrderRequest {
     pub stage: Option<u8>,
     pub plan: Option<String>,
     pub cert: Option<String>,
+    pub down: Option<Down>,
 }
 
 const ORDER_HELP: &str = "Example: telexplan order own.plan new.plan --limit 1 --spare 1
@@ -47,14 +49,17 @@ pub(crate) fn order_grammar<'a>(alloc: Global) -> Result<clap::Command<'a>, Allo
     .option(
         "plan",
         "OUT",
-        "After YES, write the plan after that stage to this file",
+        "After YES, write the plan after that stage to this
+file",
     )
     .option(
         "cert",
         "CERT",
-        "After YES, write a certificate of the plans before and
-after that stage to this file",
+        "After YES, write a certificate of the plans before
+and after that stage to this file",
     )
+    .option("down", "GROUP,..", DOWN)
+    .option("down-exchange", "X", DOWN_EXCHANGE)
     .command
 }
 
@@ -75,6 +80,7 @@ pub(crate) fn order_of(alloc: Global, matches: &ArgMatches<'_>) -> Result<Comman
     } else {
         None
     };
+    let down = down_asked(alloc, matches, plan.is_some() || cert.is_some())?;
     let limits = limits(alloc, matches)?;
     match (old, new) {
         (Some(old), Some(new)) => Ok(Command::Order(OrderRequest {
@@ -84,6 +90,7 @@ pub(crate) fn order_of(alloc: Global, matches: &ArgMatches<'_>) -> Result<Comman
             stage,
             plan,
             cert,
+            down,
         })),
         _ => Err(Misuse::Incomplete),
     }

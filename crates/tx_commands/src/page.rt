@@ -5,8 +5,9 @@ ghost use Rattle.tx_commands.specs.Commands.{Asks};
 ghost use Rattle.tx_commands.specs.Grammar.{page_words};
 ghost use Rattle.tx_commands.specs.inner.Refused.{IsRefused};
 
-use crate::arguments::{RISKS, Syntax};
+use crate::arguments::{DOWN, DOWN_EXCHANGE, RISKS, Syntax};
 use crate::command::Command;
+use crate::down::{Down, down_asked};
 use crate::given::{is_set, limits, text};
 use crate::misuse::Misuse;
 use clap::ArgMatches;
@@ -26,6 +27,7 @@ pub struct PageRequest {
     pub code: Option<String>,
     pub all_codes: bool,
     pub html: Option<String>,
+    pub down: Option<Down>,
 }
 
 const PAGE_HELP: &str = "The page is one file, which needs no other and fetches nothing. It has the
@@ -53,17 +55,20 @@ pub(crate) fn page_grammar<'a>(alloc: Global) -> Result<clap::Command<'a>, Alloc
     .option(
         "from",
         "OLD",
-        "The plan that is in force: show in which stages its lists
-change into those of the plan; - is standard input",
+        "The plan that is in force: show in which stages its
+lists change into those of the plan; - is standard
+input",
     )
     .option(
         "code",
         "CODES",
-        "Show the lists of these codes alone, by their figures,
-with a comma between two",
+        "Show the lists of these codes alone, by their
+figures, with a comma between two",
     )
     .flag("all-codes", "Show the lists of each code")
     .option("html", "OUT", "Write the page to this file")
+    .option("down", "GROUP,..", DOWN)
+    .option("down-exchange", "X", DOWN_EXCHANGE)
     .command
 }
 
@@ -81,6 +86,7 @@ pub(crate) fn page_of(alloc: Global, matches: &ArgMatches<'_>) -> Result<Command
     let code = text(alloc, matches, "code")?;
     let all_codes = is_set(matches, "all-codes");
     let html = text(alloc, matches, "html")?;
+    let down = down_asked(alloc, matches, false)?;
     let limits = limits(alloc, matches)?;
     Ok(Command::Page(PageRequest {
         plan,
@@ -90,5 +96,6 @@ pub(crate) fn page_of(alloc: Global, matches: &ArgMatches<'_>) -> Result<Command
         code,
         all_codes,
         html,
+        down,
     }))
 }

@@ -1,3 +1,5 @@
 pub mod Uncalled
+mod LeftGroups
+mod LeftTexts
 mod Texts
 mod RevisedText

@@ -1,5 +1,6 @@
 pub mod Faults
 pub mod Missing
+pub mod Names
 pub mod FaultLines
 pub mod Reading
 pub mod Writables
@@ -7,3 +8,4 @@ pub mod Ending
 pub mod TwoPlans
 pub mod Made
 pub mod PageReading
+pub mod Left

@@ -1,5 +1,6 @@
 -- What a page shows, from its head to its end.
-use Rattle.std.specs.Prelude.{ℕ, Bool, true, false, List, [], ◌++◌, Option, None, Some, is_some}
+use Rattle.std.specs.Prelude.{ℕ, Bool, true, false, List, [], ◌∷◌, ◌++◌, Option, None, Some, is_some}
+use Rattle.std.specs.Borrow.{Bor}
 use Rattle.tx_rank.specs.declared.ranking.Ranking.{Ranking}
 use Rattle.tx_rank.specs.declared.ranking.Ranking.TheVariants.{Found, Fails}
 use Rattle.tx_page.specs.declared.change.Change.{Change}
@@ -13,6 +14,11 @@ use Rattle.tx_page.specs.CodeTexts.{codes_texts}
 use Rattle.tx_page.specs.OutageTexts.{outages_texts}
 use Rattle.tx_svg.specs.ListTexts.{pictures_texts}
 use Rattle.tx_page.specs.NetworkTexts.{network_texts}
+
+-- a word for what is down, if there is one
+abbrev pub down_texts : Option (Bor (List ℕ)) → List (List ℕ)
+down_texts None = []
+down_texts (Some word) = word.now ∷ []
 
 module _ {A : Type 0} where
   -- a certificate was found
@@ -32,13 +38,15 @@ module _ {A : Type 0} where
   asked_change_texts safe None = []
   asked_change_texts safe (Some change) = change_texts safe change ++ crews_texts safe change
 
-  -- the verdict, what is wrong, the change, the codes, the outages, the lists and the network
+  -- the verdict, what is down, what is wrong, the change, the codes, the outages, the lists and the
+  -- network
   abbrev pub page_texts : Subject A → List (List ℕ)
   page_texts s =
       first_texts s (is_safe s.ranking.now) s.change
+      ++ (down_texts s.down ++ (down_texts s.down_exchange
       ++ (wrong_texts s.plan.now s.limits.spare s.ranking.now
       ++ (asked_change_texts (is_safe s.ranking.now) s.change
       ++ (codes_texts s.plan.now s.grade.now.codes.items
       ++ (outages_texts s.plan.now s.risks.now s.outcomes.now (is_some s.grade.now.plan)
       ++ (pictures_texts s.plan.now s.grade.now s.pictures.now
-      ++ network_texts s.plan.now)))))
+      ++ network_texts s.plan.now)))))))

@@ -1,7 +1,7 @@
 // A page.
 ghost use Rattle.std.specs.Prelude.{◌≡◌};
 ghost use Rattle.tx_html.specs.Shows.{Sets, Showed};
-ghost use Rattle.tx_page.specs.Page.{is_safe, first_texts, asked_change_texts, page_texts};
+ghost use Rattle.tx_page.specs.Page.{is_safe, down_texts, first_texts, asked_change_texts, page_texts};
 
 use crate::change::{Change, write_change};
 use crate::codes::write_codes;
@@ -17,6 +17,12 @@ use tx_html::{PageSink, Part, set};
 use tx_rank::{Finding, Ranking};
 use tx_svg::write_pictures;
 use tx_text::WriteFault;
+
+const GROUPS_DOWN: &str = "<p class=\"warn\">All this is said of the plan while these groups are \
+                           down: <b>";
+
+const EXCHANGE_DOWN: &str = "<p class=\"warn\">All this is said of the plan while all groups of \
+                             this exchange are down: <b>";
 
 /// Whether a certificate was found.
 pub fn is_safe<A: Allocator>(ranking: &Ranking<A>) -> bool
@@ -71,6 +77,18 @@ fn write_asked_change<A: Allocator, W: PageSink>(
     }
 }
 
+/// Writes what is down, in the words that ask for it, if there are some.
+fn write_down<W: PageSink>(what: &'static str, word: Option<&[u8]>, sink: &mut W)
+    ensures { Sets W.seen sink.old sink.new (down_texts word.entry) }
+{
+    if let Some(word) = word {
+        set(
+            &[Part::Own(what), Part::Text(word), Part::Own("</b></p>")],
+            sink,
+        );
+    }
+}
+
 /// Writes a page about a plan and what was found of it.
 pub fn write_page<A: Allocator, W: PageSink>(
     subject: &Subject<'_, A>,
@@ -84,6 +102,8 @@ pub fn write_page<A: Allocator, W: PageSink>(
     let graded = subject.grade.plan.is_some();
     let findings = findings_in(subject.ranking);
     write_first(subject, safe, sink);
+    write_down(GROUPS_DOWN, subject.down, sink);
+    write_down(EXCHANGE_DOWN, subject.down_exchange, sink);
     write_wrong(plan, subject.ranking, limits, sink);
     write_asked_change(&subject.change, safe, sink);
     write_codes(plan, subject.grade, subject.pictures, sink);

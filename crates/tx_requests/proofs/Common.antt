@@ -10,6 +10,7 @@ pub use Rattle.std.specs.List.{AllByRecursion}
 pub use Rattle.std.specs.Prelude.{IfSome, if◌then◌else◌}
 pub use Rattle.std.specs.Str.{bytes_eq}
 pub use Rattle.tx_files.proofs.Uncalled.{uncalled}
+pub use Rattle.tx_files.specs.Names.{names_in}
 pub use Rattle.tx_files.specs.Faults.{memory_stop, risks_stop, text_stop, write_stop}
 pub use Rattle.tx_files.specs.TwoPlans.{AreJoined}
 pub use Rattle.tx_files.specs.declared.fault.CommandFault.{CommandFault}
@@ -23,7 +24,6 @@ pub use Rattle.tx_plantext.specs.declared.fault.PlanWord.{PlanWord}
 pub use Rattle.tx_rank.specs.Findings.{IsTrueOf}
 pub use Rattle.tx_rank.specs.declared.bounds.Bounds.{Bounds}
 pub use Rattle.tx_rank.specs.declared.finding.Finding.{Finding}
-pub use Rattle.tx_requests.specs.Asked.{names_in}
 pub use Rattle.tx_requests.specs.PageCodes.{is_shown}
 pub use Rattle.tx_risk.specs.NamedRisks.{NamedRisk}
 pub use Rattle.tx_risk.specs.Outages.{AreOutcomes}

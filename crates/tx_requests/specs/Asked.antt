@@ -1,6 +1,5 @@
 -- What is asked of a plan by names: an exchange, a code, and groups.
-use Rattle.std.specs.Prelude.{ℕ, suc, ◌==◌, List, [], ◌∷◌, Option, None, Some, Result, Ok, Err, slice_get, unwrap_or}
-use Rattle.std.specs.List.{slice_split}
+use Rattle.std.specs.Prelude.{ℕ, suc, List, [], ◌∷◌, Option, None, Some, Result, Ok, Err}
 use Rattle.tx_plan.specs.Plan.{Plan, exchange_named, code_named, group_named}
 use Rattle.tx_trace.specs.declared.through.Through.{Through}
 use Rattle.tx_trace.specs.declared.through.Through.TheVariants.{Exchange, Group}
@@ -8,10 +7,7 @@ use Rattle.tx_files.specs.declared.fault.CommandFault.{CommandFault}
 use Rattle.tx_files.specs.declared.fault.CommandFault.TheVariants.{NoSuchName}
 use Rattle.tx_files.specs.declared.missing.Named.TheVariants.{Exchange as ExchangeAsked, Code as CodeAsked, Group as GroupAsked, ExchangeOrGroup as EitherAsked}
 use Rattle.tx_files.specs.Missing.{missing}
-
--- the names in a word, with a comma between two; 44 is the comma
-abbrev pub names_in : List ℕ → List (List ℕ)
-names_in = slice_split (λ b. b == 44)
+use Rattle.tx_files.specs.Names.{names_in, name_at}
 
 -- the group of a name and those of the names behind it, or the place of the first name without one
 abbrev pub group_before : Option ℕ → Result (List ℕ) ℕ → Result (List ℕ) ℕ
@@ -28,11 +24,6 @@ groups_named p (w ∷ ws) = group_before (group_named p w) (groups_named p ws)
 abbrev pub groups_in : Plan → Option (List ℕ) → Result (List ℕ) ℕ
 groups_in p None = Ok []
 groups_in p (Some word) = groups_named p (names_in word)
-
--- the name at a place of a word; no bytes where it has none
-abbrev pub name_at : Option (List ℕ) → ℕ → List ℕ
-name_at None place = []
-name_at (Some word) place = unwrap_or (slice_get (names_in word) place) []
 
 -- the plan does not have this name, of a word that has some
 abbrev pub no_group : Plan → Option (List ℕ) → ℕ → CommandFault

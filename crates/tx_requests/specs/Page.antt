@@ -18,6 +18,7 @@ use Rattle.tx_page.specs.declared.subject.Subject.{Subject}
 use Rattle.tx_commands.specs.declared.grammar.TheConstants.{VERSION}
 use Rattle.tx_files.specs.declared.ending.Ending.{Ending}
 use Rattle.tx_files.specs.declared.fault.CommandFault.{CommandFault}
+use Rattle.tx_commands.specs.declared.down.Down.{Down}
 use Rattle.tx_commands.specs.declared.page.PageRequest.{PageRequest}
 use Rattle.tx_files.specs.declared.page_reading.PageTexts.{PageTexts}
 use Rattle.tx_files.specs.declared.two_plans.PlanText.{PlanText}
@@ -44,6 +45,16 @@ name_or other (b ∷ name) = b ∷ name
 abbrev pub title_of : (file text : List ℕ) → List ℕ
 title_of file text = if is_prefix (codes "# NAME ") text
     then name_or file (before is_line_end (drop 7 text)) else file
+
+-- the word for groups that are to be down, if there is one
+abbrev pub groups_asked : Option Down → Option (List ℕ)
+groups_asked None = None
+groups_asked (Some d) = option_map string_bytes d.groups
+
+-- the name of an exchange of which all groups are to be down, if there is one
+abbrev pub exchange_asked : Option Down → Option (List ℕ)
+exchange_asked None = None
+exchange_asked (Some d) = option_map string_bytes d.exchange
 
 module _ {A : Type 0} where
   -- the codes of which a page has pictures, in order of declaration
@@ -110,6 +121,8 @@ module _ {A : Type 0} where
     pub version : s.version.now ≡ VERSION.now
     pub plan : s.plan.now ≡ a.texts.plan.plan
     pub limits : s.limits ≡ r.limits
+    pub down : option_map (λ w. w.now) s.down ≡ groups_asked r.down
+    pub down_exchange : option_map (λ w. w.now) s.down_exchange ≡ exchange_asked r.down
     pub risks : s.risks.now ≡ a.texts.risks
     pub ranking : s.ranking.now ≡ a.found.ranking
     pub grade : s.grade.now ≡ a.found.grade

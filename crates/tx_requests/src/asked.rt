@@ -1,11 +1,12 @@
 // What is asked of a plan by names: an exchange, a code, what is passed, and groups.
-ghost use Rattle.std.specs.Prelude.{◌≡◌, [], slice_get, IfOk, option_map, unwrap_or};
+ghost use Rattle.std.specs.Prelude.{◌≡◌, IfOk, option_map};
 ghost use Rattle.std.specs.Result.{result_map_both};
-ghost use Rattle.tx_requests.specs.Asked.{names_in, name_at, groups_named, groups_in, asked_of, through_named, passed_of};
+ghost use Rattle.tx_files.specs.Names.{names_in};
+ghost use Rattle.tx_requests.specs.Asked.{groups_named, groups_in, asked_of, through_named, passed_of};
 ghost use Rattle.tx_requests.specs.inner.Answered.{IsAnswered, IsPassed};
 
 use std::alloc::Allocator;
-use tx_files::{CommandFault, Named};
+use tx_files::{CommandFault, Named, name_at};
 use tx_plan::{CodeId, ExchangeId, GroupId, Plan};
 use tx_text::NoMemory;
 use tx_trace::Through;
@@ -67,26 +68,6 @@ fn through_named<A: Allocator>(plan: &Plan<A>, name: &[u8]) -> Option<Through>
         (Some(exchange), _) => Some(Through::Exchange(exchange)),
         (None, Some(group)) => Some(Through::Group(group)),
         (None, None) => None,
-    }
-}
-
-/// The name at a place of a word, with a comma between two; no bytes where it has none.
-fn name_at(word: Option<&str>, place: usize) -> &[u8]
-    ensures { result.now ≡ name_at (option_map (λ w. w.now) word.entry) place }
-{
-    match word {
-        Some(word) => nth_name(word, place),
-        None => b"",
-    }
-}
-
-/// The same of a word that is there.
-pub(crate) fn nth_name(word: &str, place: usize) -> &[u8]
-    ensures { result.now ≡ unwrap_or (slice_get (names_in word.now) place) [] }
-{
-    match word.split(',').nth(place) {
-        Some(name) => name.as_bytes(),
-        None => b"",
     }
 }
 

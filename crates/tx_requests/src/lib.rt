@@ -28,7 +28,7 @@ mod trace;
 mod way_changes;
 
 pub use compare::{Compared, Outlook};
-pub use doing::do_command;
+pub use doing::{do_command, down_of};
 pub use explained::codes_are_explained;
 pub use fill::Filled;
 pub use law::told_lines_declare;

@@ -1,11 +1,11 @@
 // The command `page`.
-ghost use Rattle.std.specs.Prelude.{◌≡◌};
+ghost use Rattle.std.specs.Prelude.{◌≡◌, option_map};
 ghost use Rattle.tx_text.specs.Words.{before};
 ghost use Rattle.tx_html.specs.Shows.{Showed};
 ghost use Rattle.tx_page.specs.Page.{page_texts};
 ghost use Rattle.tx_page.specs.declared.subject.Subject.{Subject as SubjectNow};
 ghost use Rattle.tx_files.specs.PageReading.{AreForPage};
-ghost use Rattle.tx_requests.specs.Page.{is_line_end, title_of, PageAnswers, PagePrints, PageEnds, IsSubjectOf};
+ghost use Rattle.tx_requests.specs.Page.{is_line_end, title_of, groups_asked, exchange_asked, PageAnswers, PagePrints, PageEnds, IsSubjectOf};
 
 use crate::page_change::{FoundChange, change_of, shown_change};
 use crate::page_codes::refuse_missing;
@@ -13,7 +13,7 @@ use crate::page_found::{Found, found_of, pictures_of};
 use crate::request::Request;
 use sha2::{Digest, Sha256};
 use std::alloc::{Allocator, Global};
-use tx_commands::{PageRequest, VERSION};
+use tx_commands::{Down, PageRequest, VERSION};
 use tx_files::{CommandFault, Ending, PageTexts};
 use tx_html::PageSink;
 use tx_page::{Subject, is_safe, write_page};
@@ -94,6 +94,8 @@ fn subject_of<'a, A: Allocator>(request: &'a PageRequest, answer: &'a Paged<A>) 
         version: VERSION,
         plan: &answer.texts.plan.plan,
         limits: request.limits,
+        down: groups_asked(&request.down),
+        down_exchange: exchange_asked(&request.down),
         ranking: &answer.found.ranking,
         grade: &answer.found.grade,
         risks: &answer.texts.risks,
@@ -101,6 +103,20 @@ fn subject_of<'a, A: Allocator>(request: &'a PageRequest, answer: &'a Paged<A>) 
         outcomes: answer.found.outcomes.as_slice(),
         pictures: answer.pictures.as_slice(),
     }
+}
+
+/// The word for groups that are to be down, if there is one.
+fn groups_asked(down: &Option<Down>) -> Option<&[u8]>
+    ensures { option_map (λ w. w.now) result ≡ groups_asked down.now }
+{
+    Some(down.as_ref()?.groups.as_ref()?.as_bytes())
+}
+
+/// The name of an exchange of which all groups are to be down, if there is one.
+fn exchange_asked(down: &Option<Down>) -> Option<&[u8]>
+    ensures { option_map (λ w. w.now) result ≡ exchange_asked down.now }
+{
+    Some(down.as_ref()?.exchange.as_ref()?.as_bytes())
 }
 
 /// The title of a page: what follows `# NAME ` in the first line of the text, or the name of the

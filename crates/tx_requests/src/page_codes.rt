@@ -1,23 +1,15 @@
 // Of which codes a page has pictures.
 ghost use Rattle.std.specs.Prelude.{◌≡◌, ◌⊎◌, None, option_map, IfOk, IfErr};
-ghost use Rattle.tx_requests.specs.PageCodes.{is_named, first_missing, missing_code, IsNoCode, is_about, has_finding, differs_at, differs, is_touched, is_shown};
+ghost use Rattle.tx_requests.specs.PageCodes.{first_missing, missing_code, IsNoCode, is_about, has_finding, differs_at, differs, is_touched, is_shown};
 ghost use Rattle.tx_files.specs.Faults.{memory_stop};
 
-use crate::asked::nth_name;
 use crate::page_change::FoundChange;
 use std::alloc::Allocator;
 use tx_commands::PageRequest;
-use tx_files::{CommandFault, Named, PageTexts, PlanText};
+use tx_files::{CommandFault, Named, PageTexts, PlanText, is_named, name_at};
 use tx_join::Joined;
 use tx_plan::{CodeId, ExchangeId, Plan};
 use tx_rank::{Finding, Ranking};
-
-/// Whether a word names the figures of a code. It has a comma between two.
-fn is_named(word: &str, figures: &[u8]) -> bool
-    ensures { result ≡ is_named figures.now word.now }
-{
-    word.split(',').any(|name| name.as_bytes() == figures)
-}
 
 /// The place of the first name in a word of which the plan has no code.
 fn first_missing<A: Allocator>(plan: &Plan<A>, word: &str) -> Option<usize>
@@ -41,7 +33,7 @@ pub(crate) fn refuse_missing<A: Allocator + Copy>(
     match word {
         Some(word) => match first_missing(plan, word) {
             Some(place) => {
-                let name = nth_name(word, place);
+                let name = name_at(Some(word), place);
                 Err(CommandFault::missing(alloc, plan, Named::Code, place, name))
             }
             None => Ok(()),

@@ -8,3 +8,7 @@ returns-in_err-number_of-clause-refused c =
 pub returns-in_err-limits-clause-refused : goal.returns-in_err-limits-clause-refused
 returns-in_err-limits-clause-refused c =
     let refused = c.in_err-limits.ensures.refused (codes "order") in search rules
+
+pub returns-in_err-down-clause-refused : goal.returns-in_err-down-clause-refused
+returns-in_err-down-clause-refused c =
+    let refused = c.in_err-down.ensures.refused (codes "order") in search rules

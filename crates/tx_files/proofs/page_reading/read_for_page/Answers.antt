@@ -10,7 +10,7 @@ returns-clause-texts g c =
 
 pub returns-clause-known : goal.returns-clause-known
 returns-clause-known g c = record {
-  plan = c.in_ok-plan.ensures.text.said;
+  plan = c.in_ok-plan.ensures.text.said.rules;
   risks = risks_fit c.in_ok-plan.plan.plan _ c.args.named c.in_ok-risks.risks c.in_ok-risks.ensures.texts;
   old = old_said _ _ c.args.changed c.in_ok-old.old c.in_ok-old.ensures.texts;
 }

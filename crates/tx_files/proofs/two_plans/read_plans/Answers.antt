@@ -29,8 +29,8 @@ returns-clause-texts g c =
 
 pub returns-clause-known : goal.returns-clause-known
 returns-clause-known g c = record {
-  old = c.in_ok-old.ensures.text.said;
-  new = c.in_ok-new.ensures.text.said;
+  old = c.in_ok-old.ensures.text.said.rules;
+  new = c.in_ok-new.ensures.text.said.rules;
   joined = c.in_ok-joined.ensures.joined;
 }
 

@@ -5,8 +5,10 @@ pub returns : goal.returns
 returns g c =
     sets_showed _
     (sets_then (rw c.is_safe-safe.ensures at c.write_heading.ensures)
+    (sets_then c.write_down.ensures
+    (sets_then c.write_down-2.ensures
     (sets_then c.write_wrong.ensures
     (sets_then (rw c.is_safe-safe.ensures at c.write_asked_change.ensures)
     (sets_then c.write_codes.ensures
     (sets_then (rw c.is_some-graded.ensures at c.write_outages.ensures)
-    (sets_then c.write_pictures.ensures (sets_end c.write_network.ensures c.set.ensures))))))) c.finish.ensures
+    (sets_then c.write_pictures.ensures (sets_end c.write_network.ensures c.set.ensures))))))))) c.finish.ensures

@@ -1,5 +1,6 @@
 use Rattle.std.proofs.Common.{◌≡◌, length, drop}
-use Rattle.tx_requests.specs.Asked.{names_in, groups_named}
+use Rattle.tx_files.specs.Names.{names_in}
+use Rattle.tx_requests.specs.Asked.{groups_named}
 use Rattle.tx_requests.proofs.Asking.{behind}
 use Rattle.tx_requests.proofs.asked.groups_named.Given as goal
 

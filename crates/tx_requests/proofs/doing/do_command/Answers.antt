@@ -52,35 +52,45 @@ returns-in-Lint-clause-done g c = rw c.in-Lint.is (c.do_lint.ensures.done, c.do_
 pub returns-in-Lint-clause-third_calls : goal.returns-in-Lint-clause-third_calls
 returns-in-Lint-clause-third_calls g c = uncalled g.R.Source.called c.args.third.now
 
-pub carry_out-requires : goal.carry_out-requires
-carry_out-requires g c = c.read_plans.ensures.known
+pub carry_left-requires-clause-read : goal.carry_left-requires-clause-read
+carry_left-requires-clause-read g c = c.read_plans.ensures.known
+
+pub carry_left-requires-clause-known : goal.carry_left-requires-clause-known
+carry_left-requires-clause-known g c = λ t known. known
 
 pub returns-in-Change-clause-done : goal.returns-in-Change-clause-done
 returns-in-Change-clause-done g c =
+    let is = rw c.in-Change.is at c.down_of-down.ensures in
+    let e = c.carry_left.ensures in
     rw c.in-Change.is
-    (record { texts = c.read_plans.result; read = c.read_plans.ensures.texts; carried = c.carry_out.ensures }, refl)
+    (record { texts = e.0; read = (c.read_plans.result, c.read_plans.ensures.texts, rw is at e.1); carried = e.2 }, refl)
 
 pub returns-in-Change-clause-third_calls : goal.returns-in-Change-clause-third_calls
 returns-in-Change-clause-third_calls g c = uncalled g.R.Source.called c.args.third.now
 
-pub carry_out-requires-in-Order : goal.carry_out-requires-in-Order
-carry_out-requires-in-Order g c = c.read_plans-in-Order.ensures.known
+pub carry_left-requires-in-Order-clause-read : goal.carry_left-requires-in-Order-clause-read
+carry_left-requires-in-Order-clause-read g c = c.read_plans-in-Order.ensures.known
+
+pub carry_left-requires-in-Order-clause-known : goal.carry_left-requires-in-Order-clause-known
+carry_left-requires-in-Order-clause-known g c = λ t known. known
 
 pub returns-in-Order-clause-done : goal.returns-in-Order-clause-done
 returns-in-Order-clause-done g c =
+    let is = rw c.in-Order.is at c.down_of-down.ensures in
+    let e = c.carry_left-in-Order.ensures in
     rw c.in-Order.is
-    (record { texts = c.read_plans-in-Order.result; read = c.read_plans-in-Order.ensures.texts; carried = c.carry_out-in-Order.ensures }, refl)
+    (record { texts = e.0; read = (c.read_plans-in-Order.result, c.read_plans-in-Order.ensures.texts, rw is at e.1); carried = e.2 }, refl)
 
 pub returns-in-Order-clause-third_calls : goal.returns-in-Order-clause-third_calls
 returns-in-Order-clause-third_calls g c = uncalled g.R.Source.called c.args.third.now
 
-pub carry_out-requires-in-Mend : goal.carry_out-requires-in-Mend
-carry_out-requires-in-Mend g c = c.read_whole.ensures.known
+pub carry_out-requires : goal.carry_out-requires
+carry_out-requires g c = c.read_whole.ensures.known
 
 pub returns-in-Mend-clause-done : goal.returns-in-Mend-clause-done
 returns-in-Mend-clause-done g c =
     rw c.in-Mend.is
-    (record { texts = c.read_whole.result; read = c.read_whole.ensures.text; carried = c.carry_out-in-Mend.ensures }, refl, refl)
+    (record { texts = c.read_whole.result; read = c.read_whole.ensures.text; carried = c.carry_out.ensures }, refl, refl)
 
 pub returns-in-Mend-clause-second_calls : goal.returns-in-Mend-clause-second_calls
 returns-in-Mend-clause-second_calls g c = uncalled g.Q.Source.called c.args.second.now
@@ -88,40 +98,60 @@ returns-in-Mend-clause-second_calls g c = uncalled g.Q.Source.called c.args.seco
 pub returns-in-Mend-clause-third_calls : goal.returns-in-Mend-clause-third_calls
 returns-in-Mend-clause-third_calls g c = uncalled g.R.Source.called c.args.third.now
 
-pub carry_out-requires-in-Survive : goal.carry_out-requires-in-Survive
-carry_out-requires-in-Survive g c = c.read_with_risks-texts.ensures.known
+pub carry_left-requires-in-Survive-clause-read : goal.carry_left-requires-in-Survive-clause-read
+carry_left-requires-in-Survive-clause-read g c = c.read_with_risks-texts.ensures.known
+
+pub carry_left-requires-in-Survive-clause-known : goal.carry_left-requires-in-Survive-clause-known
+carry_left-requires-in-Survive-clause-known g c = λ t known. known
 
 pub returns-in-Survive-clause-done : goal.returns-in-Survive-clause-done
 returns-in-Survive-clause-done g c =
+    let is = rw c.in-Survive.is at c.down_of-down.ensures in
+    let e = c.carry_left-in-Survive.ensures in
     rw c.in-Survive.is
-    (record { texts = c.read_with_risks-texts.result; read = rw c.is_some.ensures at c.read_with_risks-texts.ensures.texts; carried = c.carry_out-in-Survive.ensures }, refl)
+    (record { texts = e.0; read = (c.read_with_risks-texts.result, rw c.is_some.ensures at c.read_with_risks-texts.ensures.texts, rw is at e.1); carried = e.2 }, refl)
 
 pub returns-in-Survive-clause-third_calls : goal.returns-in-Survive-clause-third_calls
 returns-in-Survive-clause-third_calls g c = uncalled g.R.Source.called c.args.third.now
 
-pub carry_out-requires-in-Compare : goal.carry_out-requires-in-Compare
-carry_out-requires-in-Compare g c = c.read_plans_with_risks-texts.ensures.known
+pub carry_left-requires-in-Compare-clause-read : goal.carry_left-requires-in-Compare-clause-read
+carry_left-requires-in-Compare-clause-read g c = c.read_plans_with_risks-texts.ensures.known
+
+pub carry_left-requires-in-Compare-clause-known : goal.carry_left-requires-in-Compare-clause-known
+carry_left-requires-in-Compare-clause-known g c = λ t known. known
 
 pub returns-in-Compare-clause-done : goal.returns-in-Compare-clause-done
 returns-in-Compare-clause-done g c =
+    let is = rw c.in-Compare.is at c.down_of-down.ensures in
+    let e = c.carry_left-in-Compare.ensures in
     rw c.in-Compare.is
-    (record { texts = c.read_plans_with_risks-texts.result; read = rw c.is_some-named.ensures at c.read_plans_with_risks-texts.ensures.texts; carried = c.carry_out-in-Compare.ensures })
+    (record { texts = e.0; read = (c.read_plans_with_risks-texts.result, rw c.is_some-in-Compare.ensures at c.read_plans_with_risks-texts.ensures.texts, rw is at e.1); carried = e.2 })
 
-pub carry_out-requires-in-Page : goal.carry_out-requires-in-Page
-carry_out-requires-in-Page g c = c.read_for_page-texts.ensures.known
+pub carry_left-requires-in-Page-clause-read : goal.carry_left-requires-in-Page-clause-read
+carry_left-requires-in-Page-clause-read g c = c.read_for_page-texts.ensures.known
+
+pub carry_left-requires-in-Page-clause-known : goal.carry_left-requires-in-Page-clause-known
+carry_left-requires-in-Page-clause-known g c = λ t known. known
 
 pub returns-in-Page-clause-done : goal.returns-in-Page-clause-done
 returns-in-Page-clause-done g c =
+    let is = rw c.in-Page.is at c.down_of-down.ensures in
+    let e = c.carry_left-in-Page.ensures in
     rw c.in-Page.is
-    (record { texts = c.read_for_page-texts.result; read = rw (c.is_some-risks.ensures, c.is_some-old.ensures) at c.read_for_page-texts.ensures.texts; carried = c.carry_out-in-Page.ensures })
+    (record { texts = e.0; read = (c.read_for_page-texts.result, rw (c.is_some-risks.ensures, c.is_some-old.ensures) at c.read_for_page-texts.ensures.texts, rw is at e.1); carried = e.2 })
 
-pub carry_out-requires-in-Grade : goal.carry_out-requires-in-Grade
-carry_out-requires-in-Grade g c = c.read_one.ensures.known
+pub carry_left-requires-in-Grade-clause-read : goal.carry_left-requires-in-Grade-clause-read
+carry_left-requires-in-Grade-clause-read g c = c.read_one.ensures.known
+
+pub carry_left-requires-in-Grade-clause-known : goal.carry_left-requires-in-Grade-clause-known
+carry_left-requires-in-Grade-clause-known g c = λ t known. known
 
 pub returns-in-Grade-clause-done : goal.returns-in-Grade-clause-done
 returns-in-Grade-clause-done g c =
+    let is = rw c.in-Grade.is at c.down_of-down.ensures in
+    let e = c.carry_left-in-Grade.ensures in
     rw c.in-Grade.is
-    (record { texts = c.read_one.result; read = c.read_one.ensures.text; carried = c.carry_out-in-Grade.ensures }, refl, refl)
+    (record { texts = e.0; read = (c.read_one.result, c.read_one.ensures.text, rw is at e.1); carried = e.2 }, refl, refl)
 
 pub returns-in-Grade-clause-second_calls : goal.returns-in-Grade-clause-second_calls
 returns-in-Grade-clause-second_calls g c = uncalled g.Q.Source.called c.args.second.now
