@@ -64,10 +64,15 @@ measures_texts old new = measure_texts true old.limit new.limit
     ++ (measure_texts false old.spare new.spare ++ (measure_texts true old.cutting new.cutting
     ++ measure_texts true old.straying new.straying))
 
+-- there are some
+abbrev pub is_any : Option ℕ → Bool
+is_any None = false
+is_any (Some n) = nat_lt 0 n
+
 -- after how many outages somebody is worse off than in the old plan, and after how many better
-abbrev pub outcomes_texts : (worse better : ℕ) → List (List ℕ)
-outcomes_texts worse better = amount worse ∷ amount better
-    ∷ stand_word (nat_lt 0 worse) (nat_lt 0 better) ∷ []
+abbrev pub outcomes_texts : (worse better : Option ℕ) → List (List ℕ)
+outcomes_texts worse better = (number_texts worse ++ stand_word (is_any worse) false ∷ [])
+    ++ (number_texts better ++ stand_word false (is_any better) ∷ [])
 
 -- whether the new plan is worse in something
 abbrev pub summary_texts : (worse : Bool) → List (List ℕ)
@@ -121,7 +126,7 @@ module _ {A : Type 0} where
 
   -- something is worse than in the old plan
   abbrev pub is_worse_in : Change A → Bool
-  is_worse_in c = are_worse (numbers_of c.old) (numbers_of c.new) || nat_lt 0 c.worse
+  is_worse_in c = are_worse (numbers_of c.old) (numbers_of c.new) || is_any c.worse
 
   -- the way, if there is an order and the new plan is safe; or that there is none
   abbrev pub asked_way_texts : (safe : Bool) → Change A → Switching A → List (List ℕ)

@@ -22,9 +22,9 @@ pub struct Change<'a, A: Allocator> {
     pub old: Outlook<'a, A>,
     pub new: Outlook<'a, A>,
     /// After how many outages somebody is worse off than in the old plan, and after how many
-    /// better.
-    pub worse: usize,
-    pub better: usize,
+    /// better, if both have a grade.
+    pub worse: Option<u64>,
+    pub better: Option<u64>,
     /// Both plans over their joined network.
     pub joined: &'a Joined<A>,
     /// The order of switching over it, or what is wrong.

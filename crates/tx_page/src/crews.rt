@@ -20,11 +20,7 @@ use tx_order::{Order, Switching};
 use tx_plan::{CodeId, ExchangeId, Plan};
 
 /// Whether an exchange has another list or bar for some code.
-fn has_work<A: Allocator>(
-    plan: &Plan<A>,
-    between: &Between<'_, A>,
-    exchange: ExchangeId,
-) -> bool
+fn has_work<A: Allocator>(plan: &Plan<A>, between: &Between<'_, A>, exchange: ExchangeId) -> bool
     requires { IsThere between.now }
     ensures { result ≡ has_work plan.now (before_of between.now) (after_of between.now) exchange }
 {
@@ -52,10 +48,7 @@ fn write_work<A: Allocator, W: PageSink>(
     }
     write_title(between, sink);
     set(
-        &[
-            Part::Own(", "),
-            Part::Text(plan.exchange_name(exchange)),
-        ],
+        &[Part::Own(", "), Part::Text(plan.exchange_name(exchange))],
         sink,
     );
     write_exchange_table(plan, between, exchange, sink);
@@ -84,7 +77,12 @@ fn write_stages<A: Allocator, W: PageSink>(order: &Order<A>, exchange: ExchangeI
         (texts_below (stages_in order.now) (stage_work_texts order.now exchange)) }
 {
     for stage in 0..order.stages() {
-        write_work(order.new_plan(), &Between::Stage(order, stage), exchange, sink);
+        write_work(
+            order.new_plan(),
+            &Between::Stage(order, stage),
+            exchange,
+            sink,
+        );
     }
 }
 
@@ -149,5 +147,6 @@ pub(crate) fn write_crews<A: Allocator, W: PageSink>(
     }
 }
 
-const HEAD: &str = "<h2 class=\"crews\">The work at each exchange</h2><p>What is done at an exchange, \
+const HEAD: &str =
+    "<h2 class=\"crews\">The work at each exchange</h2><p>What is done at an exchange, \
 from before the switching until after it.</p>";

@@ -7,11 +7,13 @@ ghost use Rattle.tx_page.specs.Numbers.{numbers_of, most_cut};
 
 use crate::change::Change;
 use crate::counts::{count_circuits, count_lines, count_origins};
-use crate::heading::{write_figures, write_promise, write_start, write_verdict, write_version, write_warning};
+use crate::heading::{
+    write_figures, write_promise, write_start, write_verdict, write_version, write_warning,
+};
 use crate::numbers::{Numbers, are_worse, numbers_of};
 use crate::outages::{kind_of, name_of};
 use crate::outlook::Outlook;
-use crate::rows::{write_label, write_measure, write_outcomes, write_pair};
+use crate::rows::{is_any, write_label, write_measure, write_outcomes, write_pair};
 use crate::subject::Subject;
 use crate::way::{has_way, write_way};
 use crate::worst::worst_of;
@@ -35,11 +37,16 @@ pub fn write_decision<A: Allocator, W: PageSink>(
     ensures { Sets W.seen sink.old sink.new (decision_texts subject.now change.now safe) }
 {
     let (old, new) = (numbers_of(&change.old), numbers_of(&change.new));
-    let worse = are_worse(old, new) || change.worse > 0;
+    let worse = are_worse(old, new) || is_any(change.worse);
     write_start(subject.name, safe, sink);
     write_replaced(change.name, sink);
     write_warning(count_lines(subject.plan), sink);
-    write_verdict(class_of(safe, !worse && has_way(change, safe)), safe, subject.limits, sink);
+    write_verdict(
+        class_of(safe, !worse && has_way(change, safe)),
+        safe,
+        subject.limits,
+        sink,
+    );
     write_promise(safe, subject.limits, sink);
     write_summary(worse, sink);
     write_compared(subject.risks, change, old, new, safe, sink);
@@ -110,13 +117,23 @@ fn write_sizes<A: Allocator, W: PageSink>(old: &Plan<A>, new: &Plan<A>, sink: &m
     ensures { Sets W.seen sink.old sink.new (sizes_texts old.now new.now) }
 {
     set(&[Part::Own(TABLE)], sink);
-    write_pair("Exchanges", old.exchanges() as u64, new.exchanges() as u64, sink);
+    write_pair(
+        "Exchanges",
+        old.exchanges() as u64,
+        new.exchanges() as u64,
+        sink,
+    );
     write_pair("Codes", old.codes() as u64, new.codes() as u64, sink);
     write_pair("Groups", old.groups() as u64, new.groups() as u64, sink);
     write_pair("Circuits", count_circuits(old), count_circuits(new), sink);
     write_pair("Lists", old.routes() as u64, new.routes() as u64, sink);
     write_pair("Lines", count_lines(old), count_lines(new), sink);
-    write_pair("Exchanges where calls start", count_origins(old), count_origins(new), sink);
+    write_pair(
+        "Exchanges where calls start",
+        count_origins(old),
+        count_origins(new),
+        sink,
+    );
 }
 
 fn write_measures<W: PageSink>(old: Numbers, new: Numbers, sink: &mut W)
@@ -124,8 +141,20 @@ fn write_measures<W: PageSink>(old: Numbers, new: Numbers, sink: &mut W)
 {
     write_measure("Least transit limit", true, old.limit, new.limit, sink);
     write_measure("Greatest spare number", false, old.spare, new.spare, sink);
-    write_measure("Outages that cut somebody off", true, old.cutting, new.cutting, sink);
-    write_measure("Outages that lead somebody astray", true, old.straying, new.straying, sink);
+    write_measure(
+        "Outages that cut somebody off",
+        true,
+        old.cutting,
+        new.cutting,
+        sink,
+    );
+    write_measure(
+        "Outages that lead somebody astray",
+        true,
+        old.straying,
+        new.straying,
+        sink,
+    );
 }
 
 /// Writes the worst outage of both plans, with the lines that it cuts off.
@@ -145,7 +174,13 @@ fn write_both_worst<A: Allocator, W: PageSink>(
     write_worst(risks, &change.old, old.lines, sink);
     write_worst(risks, &change.new, new.lines, sink);
     set(&[Part::Own("<td></td></tr>")], sink);
-    write_measure("Lines that it cuts off from some code", true, old.lines, new.lines, sink);
+    write_measure(
+        "Lines that it cuts off from some code",
+        true,
+        old.lines,
+        new.lines,
+        sink,
+    );
 }
 
 /// Writes the worst outage of a plan.
@@ -170,11 +205,7 @@ fn write_worst<A: Allocator, W: PageSink>(
             sink,
         ),
         None => set(
-            &[
-                Part::Own("<td>"),
-                Part::Text(b"none"),
-                Part::Own("</td>"),
-            ],
+            &[Part::Own("<td>"), Part::Text(b"none"), Part::Own("</td>")],
             sink,
         ),
     }
@@ -188,8 +219,16 @@ fn write_sources<A: Allocator, W: PageSink>(
 )
     ensures { Sets W.seen sink.old sink.new (sources_texts subject.now change.now) }
 {
-    write_figures("<p class=\"m\">SHA-256 of the plan before <code>", &change.digest, sink);
-    write_figures("</code><br>SHA-256 of this plan <code>", &subject.digest, sink);
+    write_figures(
+        "<p class=\"m\">SHA-256 of the plan before <code>",
+        &change.digest,
+        sink,
+    );
+    write_figures(
+        "</code><br>SHA-256 of this plan <code>",
+        &subject.digest,
+        sink,
+    );
     write_date(change.date, sink);
     write_version(" by telexplan ", subject.version, sink);
 }
@@ -200,6 +239,9 @@ fn write_date<W: PageSink>(date: Option<[u8; 29]>, sink: &mut W)
     set(&[Part::Own("</code><br>judged ")], sink);
     match date {
         Some(date) => set(&[Part::Text(&date)], sink),
-        None => set(&[Part::Own("at a time that is "), Part::Text(b"unknown")], sink),
+        None => set(
+            &[Part::Own("at a time that is "), Part::Text(b"unknown")],
+            sink,
+        ),
     }
 }

@@ -179,11 +179,7 @@ pub(crate) fn write_figures<W: PageSink>(label: &'static str, digest: &[u8; 32],
     set(&[Part::Own(label), Part::Text(&figures)], sink);
 }
 
-pub(crate) fn write_version<W: PageSink>(
-    label: &'static str,
-    version: &'static str,
-    sink: &mut W,
-)
+pub(crate) fn write_version<W: PageSink>(label: &'static str, version: &'static str, sink: &mut W)
     ensures { Sets W.seen sink.old sink.new (version.now ∷ []) }
 {
     set(

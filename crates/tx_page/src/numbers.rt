@@ -92,13 +92,7 @@ pub(crate) fn is_worse_number(more: bool, old: Option<u64>, new: Option<u64>) ->
     match (old, new) {
         (old, None) => old.is_some(),
         (None, Some(_)) => false,
-        (Some(old), Some(new)) => {
-            if more {
-                old < new
-            } else {
-                new < old
-            }
-        }
+        (Some(old), Some(new)) => { if more { old < new } else { new < old } }
     }
 }
 

@@ -1,7 +1,7 @@
 // The rows of a table that compares two plans.
-ghost use Rattle.std.specs.Prelude.{◌≡◌, [], ◌∷◌, nat_lt};
+ghost use Rattle.std.specs.Prelude.{◌≡◌, [], ◌∷◌, ◌++◌};
 ghost use Rattle.tx_html.specs.Shows.{Sets};
-ghost use Rattle.tx_page.specs.Decision.{pair_texts, number_texts, stand_word, measure_texts, outcomes_texts};
+ghost use Rattle.tx_page.specs.Decision.{pair_texts, number_texts, stand_word, measure_texts, is_any, outcomes_texts};
 ghost use Rattle.tx_page.specs.Numbers.{is_worse_number};
 
 use crate::numbers::is_worse_number;
@@ -100,11 +100,7 @@ fn write_stand<W: PageSink>(worse: bool, better: bool, sink: &mut W)
 {
     set(
         &[
-            Part::Own(if worse {
-                "<td class=\"warn\">"
-            } else {
-                "<td>"
-            }),
+            Part::Own(if worse { "<td class=\"warn\">" } else { "<td>" }),
             Part::Text(stand_word(worse, better)),
             Part::Own("</td></tr>"),
         ],
@@ -112,23 +108,49 @@ fn write_stand<W: PageSink>(worse: bool, better: bool, sink: &mut W)
     );
 }
 
+/// Whether there are some.
+pub(crate) fn is_any(number: Option<u64>) -> bool
+    ensures { result ≡ is_any number }
+{
+    match number {
+        Some(number) => number > 0,
+        None => false,
+    }
+}
+
 /// Writes after how many outages somebody is worse off than in the old plan, and after how many
 /// better.
-pub(crate) fn write_outcomes<W: PageSink>(worse: usize, better: usize, sink: &mut W)
+pub(crate) fn write_outcomes<W: PageSink>(worse: Option<u64>, better: Option<u64>, sink: &mut W)
     ensures { Sets W.seen sink.old sink.new (outcomes_texts worse better) }
 {
-    set(
-        &[
-            Part::Own(
-                "<tr><th scope=\"row\">Outages after which somebody is worse off, or better \
-                 off</th><td class=\"k\">",
-            ),
-            Part::Amount(worse as u64),
-            Part::Own(" worse</td><td class=\"k\">"),
-            Part::Amount(better as u64),
-            Part::Own(" better</td>"),
-        ],
+    write_outcome(
+        "Outages after which somebody is worse off",
+        worse,
+        is_any(worse),
+        false,
         sink,
     );
-    write_stand(worse > 0, better > 0, sink);
+    write_outcome(
+        "Outages after which somebody is better off",
+        better,
+        false,
+        is_any(better),
+        sink,
+    );
+}
+
+/// Writes a row with one number, and how the new plan stands by it.
+fn write_outcome<W: PageSink>(
+    label: &'static str,
+    number: Option<u64>,
+    worse: bool,
+    better: bool,
+    sink: &mut W,
+)
+    ensures { Sets W.seen sink.old sink.new (number_texts number ++ stand_word worse better ∷ []) }
+{
+    write_label(label, sink);
+    set(&[Part::Own("<td></td>")], sink);
+    write_number(number, sink);
+    write_stand(worse, better, sink);
 }

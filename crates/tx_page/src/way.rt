@@ -19,11 +19,7 @@ use tx_order::{Order, Switching};
 use tx_plan::{CodeId, ExchangeId, Plan};
 
 /// Whether an exchange has another list for a code.
-fn is_other_list<A: Allocator>(
-    between: &Between<'_, A>,
-    exchange: ExchangeId,
-    code: CodeId,
-) -> bool
+fn is_other_list<A: Allocator>(between: &Between<'_, A>, exchange: ExchangeId, code: CodeId) -> bool
     requires { IsThere between.now }
     ensures { result ≡ not (bytes_eq (route_list (before_of between.now) exchange code)
         (route_list (after_of between.now) exchange code)) }
@@ -66,14 +62,11 @@ fn lists_differing<A: Allocator>(plan: &Plan<A>, between: &Between<'_, A>) -> u6
     count
 }
 
-const NO_ORDER: &str = "<tr><th scope=\"row\">Stages of the change</th><td colspan=\"3\" class=\"warn\">";
+const NO_ORDER: &str =
+    "<tr><th scope=\"row\">Stages of the change</th><td colspan=\"3\" class=\"warn\">";
 
 /// Writes in which stages the lists are switched, and how many; or that there is no order.
-pub(crate) fn write_way<A: Allocator, W: PageSink>(
-    change: &Change<'_, A>,
-    safe: bool,
-    sink: &mut W,
-)
+pub(crate) fn write_way<A: Allocator, W: PageSink>(change: &Change<'_, A>, safe: bool, sink: &mut W)
     ensures { Sets W.seen sink.old sink.new
         (asked_way_texts safe change.now change.now.switching.now) }
 {
