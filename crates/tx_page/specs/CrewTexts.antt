@@ -1,8 +1,7 @@
 -- What a page shows of the work at each exchange.
-use Rattle.std.specs.Prelude.{ℕ, ◌+◌, Bool, not, ◌&&◌, ◌==◌, if◌then◌else◌, List, [], ◌∷◌, ◌++◌, length, decimal}
+use Rattle.std.specs.Prelude.{ℕ, ◌+◌, Bool, if◌then◌else◌, List, [], ◌∷◌, ◌++◌, length}
 use Rattle.std.specs.List.{list_any, range_with_len}
 use Rattle.std.specs.Option.{option_map_or}
-use Rattle.std.specs.Str.{bytes_eq}
 use Rattle.tx_plan.specs.Plan.{Plan, exchange_name, exchange_named}
 use Rattle.tx_plan.specs.Routes.{route_list, is_barred}
 use Rattle.tx_join.specs.declared.joining.Joined.{Joined}
@@ -10,16 +9,19 @@ use Rattle.tx_order.specs.Ordered.{Order, plan_before, stages_in}
 use Rattle.tx_order.specs.declared.switching.Switching.{Switching}
 use Rattle.tx_order.specs.declared.switching.Switching.TheVariants.{Ordered, NoOrder}
 use Rattle.tx_svg.specs.Indexed.{texts_below}
-use Rattle.tx_page.specs.ChangeTexts.{bar_word, exchange_texts, stage_title}
+use Rattle.tx_page.specs.ChangeTexts.{is_switched, exchange_texts, stage_title}
 use Rattle.tx_page.specs.StepTexts.{bare, alone_in}
 use Rattle.tx_page.specs.declared.change.Change.{Change}
 
--- an exchange has another list or bar for some code
+-- an exchange has another list or bar for a code
+abbrev pub has_work_for : (before after : Plan) → (x c : ℕ) → Bool
+has_work_for before after x c = is_switched (route_list before x c) (route_list after x c)
+    (is_barred before x c) (is_barred after x c)
+
+-- it has for some code
 abbrev pub has_work : (p before after : Plan) → (x : ℕ) → Bool
-has_work p before after x = list_any
-    (λ c. not (bytes_eq (route_list before x c) (route_list after x c)
-    && (length (bar_word (is_barred before x c) (is_barred after x c)) == 0)))
-    (range_with_len 0 (length p.codes))
+has_work p before after x =
+    list_any (has_work_for before after x) (range_with_len 0 (length p.codes))
 
 -- what is done at an exchange, under a title and its name; nothing, if nothing is
 abbrev pub work_texts : (title : List (List ℕ)) → (p before after : Plan) → (x : ℕ)

@@ -78,11 +78,14 @@ outcomes_texts worse better = (number_texts worse ++ stand_word (is_any worse) f
 abbrev pub summary_texts : (worse : Bool) → List (List ℕ)
 summary_texts worse = (if worse then codes "worse" else codes "not worse") ∷ []
 
+-- an exchange has another list for a code
+abbrev pub is_other_list : (before after : Plan) → (x c : ℕ) → Bool
+is_other_list before after x c = not (bytes_eq (route_list before x c) (route_list after x c))
+
 -- how many lists differ at an exchange
 abbrev pub lists_differing_at : (p before after : Plan) → (x : ℕ) → ℕ
 lists_differing_at p before after x =
-    count_by (λ c. not (bytes_eq (route_list before x c) (route_list after x c)))
-    (range_with_len 0 (length p.codes))
+    count_by (is_other_list before after x) (range_with_len 0 (length p.codes))
 
 -- and at all exchanges
 abbrev pub lists_differing : (p before after : Plan) → ℕ

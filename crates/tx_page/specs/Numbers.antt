@@ -1,7 +1,8 @@
 -- Numbers of a plan that may be worse than those of another one.
-use Rattle.std.specs.Prelude.{ℕ, max, Bool, true, false, not, ◌&&◌, ◌||◌, ◌==◌, nat_lt, if◌then◌else◌, List, length, map, fold, find, Option, None, Some, is_some, option_map, option_and_then, count_by, sum_by}
+use Rattle.std.specs.Prelude.{ℕ, max, Bool, true, false, not, ◌&&◌, ◌||◌, ◌==◌, nat_lt, if◌then◌else◌, List, length, fold, find, Option, None, Some, is_some, option_map, option_and_then, count_by, sum_by}
 use Rattle.std.specs.List.{list_any, range_with_len}
 use Rattle.tx_plan.specs.Plan.{Plan, home_of}
+use Rattle.tx_plan.specs.declared.range.LineRange.{LineRange}
 use Rattle.tx_rank.specs.declared.bounds.Bounds.{Bounds}
 use Rattle.tx_risk.specs.Outages.{start_at}
 use Rattle.tx_risk.specs.declared.cut.Cut.{Cut}
@@ -11,9 +12,13 @@ use Rattle.tx_page.specs.Heading.{range_lines}
 use Rattle.tx_page.specs.declared.outlook.Outlook.{Outlook}
 use Rattle.tx_page.specs.declared.numbers.Numbers.{Numbers}
 
+-- how many lines a range adds to those of an exchange
+abbrev pub home_lines : Plan → (x : ℕ) → LineRange → ℕ
+home_lines p x r = if home_of p r.code == x then range_lines r else 0
+
 -- how many lines an exchange has
 abbrev pub lines_at : Plan → ℕ → ℕ
-lines_at p x = sum_by (λ r. if home_of p r.code == x then range_lines r else 0) p.ranges
+lines_at p x = sum_by (home_lines p x) p.ranges
 
 -- a number, if there is a grade
 abbrev pub if_graded : Option Bounds → ℕ → Option ℕ
@@ -24,34 +29,37 @@ module _ {A : Type 0} where
   abbrev pub is_cut_at : List (Cut A) → ℕ → Bool
   is_cut_at cuts x = list_any (λ c. not c.stray && (start_at c == x)) cuts
 
-  -- how many lines are at such exchanges
-  abbrev pub lines_cut : Plan → List (Cut A) → ℕ
-  lines_cut p cuts = sum_by (λ x. if is_cut_at cuts x then lines_at p x else 0)
-      (range_with_len 0 (length p.exchanges))
+  -- so many lines of an exchange are then cut off
+  abbrev pub cut_lines_at : Plan → List (Cut A) → ℕ → ℕ
+  cut_lines_at p cuts x = if is_cut_at cuts x then lines_at p x else 0
+
+  -- how many lines an outage cuts off, from some code
+  abbrev pub lines_cut : Plan → Outcome A → ℕ
+  lines_cut p o = sum_by (cut_lines_at p o.cuts.items) (range_with_len 0 (length p.exchanges))
 
   -- how many lines the worst of some outages cuts off
   abbrev pub most_cut : Plan → List (Outcome A) → ℕ
-  most_cut p outcomes = fold max 0 (map (λ o. lines_cut p o.cuts.items) outcomes)
+  most_cut p outcomes = fold (λ most o. max most (lines_cut p o)) 0 outcomes
 
   -- an outage cuts off so many lines, and some
   abbrev pub cuts_off : Plan → (lines : ℕ) → Outcome A → Bool
-  cuts_off p lines o = nat_lt 0 lines && (lines_cut p o.cuts.items == lines)
+  cuts_off p lines o = nat_lt 0 lines && (lines_cut p o == lines)
 
-  -- how many of them cut somebody off
-  abbrev pub cutting : List (Outcome A) → ℕ
-  cutting outcomes = count_by (λ o. nat_lt 0 (cut_off o.cuts.items)) outcomes
+  -- an outage cuts somebody off
+  abbrev pub is_cutting : Outcome A → Bool
+  is_cutting o = nat_lt 0 (cut_off o.cuts.items)
 
-  -- how many of them lead somebody astray
-  abbrev pub straying : List (Outcome A) → ℕ
-  straying outcomes = count_by (λ o. nat_lt 0 (astray o.cuts.items)) outcomes
+  -- an outage leads somebody astray
+  abbrev pub is_straying : Outcome A → Bool
+  is_straying o = nat_lt 0 (astray o.cuts.items)
 
   -- the numbers of a plan: none without a grade
   abbrev pub numbers_of : Outlook A → Numbers
   numbers_of o = record {
     limit = option_map (λ b. b.limit) o.grade.now.plan;
     spare = option_map (λ b. b.spare) o.grade.now.plan;
-    cutting = if_graded o.grade.now.plan (cutting o.outcomes.now);
-    straying = if_graded o.grade.now.plan (straying o.outcomes.now);
+    cutting = if_graded o.grade.now.plan (count_by is_cutting o.outcomes.now);
+    straying = if_graded o.grade.now.plan (count_by is_straying o.outcomes.now);
     lines = if_graded o.grade.now.plan (most_cut o.plan.now o.outcomes.now);
   }
 

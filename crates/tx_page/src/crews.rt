@@ -1,12 +1,8 @@
 // The work at each exchange.
-ghost use Rattle.std.specs.Prelude.{◌≡◌, not, ◌&&◌, ◌==◌, length};
-ghost use Rattle.std.specs.Str.{bytes_eq};
+ghost use Rattle.std.specs.Prelude.{◌≡◌, length};
 ghost use Rattle.tx_html.specs.Shows.{Sets};
 ghost use Rattle.tx_order.specs.Ordered.{stages_in};
-ghost use Rattle.tx_plan.specs.Plan.{exchange_name};
-ghost use Rattle.tx_plan.specs.Routes.{route_list, is_barred};
 ghost use Rattle.tx_svg.specs.Indexed.{texts_below};
-ghost use Rattle.tx_page.specs.ChangeTexts.{bar_word};
 ghost use Rattle.tx_page.specs.CrewTexts.{has_work, work_texts, named_work_texts, stage_work_texts, switched_work_texts, crew_texts, crews_texts};
 ghost use Rattle.tx_page.specs.inner.Between.{before_of, after_of, title_of, IsThere};
 

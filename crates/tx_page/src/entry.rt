@@ -1,8 +1,7 @@
 // A row of a table of what is switched.
-ghost use Rattle.std.specs.Prelude.{◌≡◌, [], ◌∷◌, not, ◌&&◌, ◌==◌, length};
-ghost use Rattle.std.specs.Str.{bytes_eq};
+ghost use Rattle.std.specs.Prelude.{◌≡◌, [], ◌∷◌};
 ghost use Rattle.tx_html.specs.Shows.{Sets};
-ghost use Rattle.tx_page.specs.ChangeTexts.{bar_word, entry_texts, switched_texts};
+ghost use Rattle.tx_page.specs.ChangeTexts.{bar_word, entry_texts, is_switched, switched_texts};
 
 use std::alloc::Allocator;
 use tx_html::{PageSink, Part, set};
@@ -33,8 +32,8 @@ fn bar_word(was: bool, is: bool) -> &'static [u8]
 
 /// Whether the list or the bar is another one.
 pub(crate) fn is_switched(entry: &Entry<'_>) -> bool
-    ensures { result ≡ not (bytes_eq entry.now.before.now entry.now.after.now
-        && (length (bar_word entry.now.was_barred entry.now.is_barred) == 0)) }
+    ensures { result ≡ is_switched entry.now.before.now entry.now.after.now entry.now.was_barred
+        entry.now.is_barred }
 {
     entry.before != entry.after || !bar_word(entry.was_barred, entry.is_barred).is_empty()
 }

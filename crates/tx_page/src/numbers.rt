@@ -1,6 +1,6 @@
 // Numbers of a plan that may be worse than those of another one.
-ghost use Rattle.std.specs.Prelude.{◌≡◌, option_map};
-ghost use Rattle.tx_page.specs.Numbers.{if_graded, cutting, straying, numbers_of, is_worse_number, are_worse};
+ghost use Rattle.std.specs.Prelude.{◌≡◌, count_by, option_map};
+ghost use Rattle.tx_page.specs.Numbers.{if_graded, is_cutting, is_straying, numbers_of, is_worse_number, are_worse};
 
 use crate::outlook::Outlook;
 use crate::worst::most_cut;
@@ -52,7 +52,7 @@ fn spare_of(grade: Option<Bounds>) -> Option<u64>
 
 /// How many outages cut somebody off.
 fn count_cutting<A: Allocator>(outcomes: &[Outcome<A>]) -> usize
-    ensures { result ≡ cutting outcomes.now }
+    ensures { result ≡ count_by is_cutting outcomes.now }
 {
     outcomes
         .iter()
@@ -62,7 +62,7 @@ fn count_cutting<A: Allocator>(outcomes: &[Outcome<A>]) -> usize
 
 /// How many lead somebody astray.
 fn count_straying<A: Allocator>(outcomes: &[Outcome<A>]) -> usize
-    ensures { result ≡ straying outcomes.now }
+    ensures { result ≡ count_by is_straying outcomes.now }
 {
     outcomes
         .iter()

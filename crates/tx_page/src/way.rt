@@ -1,13 +1,11 @@
 // The way from an old plan to a new one, in numbers.
-ghost use Rattle.std.specs.Prelude.{◌≡◌, ◌≤◌, [], ◌∷◌, not};
-ghost use Rattle.std.specs.Str.{bytes_eq};
+ghost use Rattle.std.specs.Prelude.{◌≡◌, ◌≤◌, [], ◌∷◌};
 ghost use Rattle.tx_html.specs.Amounts.{amount};
 ghost use Rattle.tx_html.specs.Shows.{Sets};
 ghost use Rattle.tx_order.specs.Ordered.{stages_in};
-ghost use Rattle.tx_plan.specs.Routes.{route_list};
 ghost use Rattle.tx_svg.specs.Indexed.{texts_below};
 ghost use Rattle.tx_page.specs.ChangeTexts.{order_word};
-ghost use Rattle.tx_page.specs.Decision.{lists_differing_at, lists_differing, stage_lists, lists_put, lists_gone, way_texts, asked_way_texts};
+ghost use Rattle.tx_page.specs.Decision.{is_other_list, lists_differing_at, lists_differing, stage_lists, lists_put, lists_gone, way_texts, asked_way_texts};
 ghost use Rattle.tx_page.specs.inner.Between.{before_of, after_of, IsThere};
 
 use crate::between::{Between, entry_of};
@@ -21,8 +19,7 @@ use tx_plan::{CodeId, ExchangeId, Plan};
 /// Whether an exchange has another list for a code.
 fn is_other_list<A: Allocator>(between: &Between<'_, A>, exchange: ExchangeId, code: CodeId) -> bool
     requires { IsThere between.now }
-    ensures { result ≡ not (bytes_eq (route_list (before_of between.now) exchange code)
-        (route_list (after_of between.now) exchange code)) }
+    ensures { result ≡ is_other_list (before_of between.now) (after_of between.now) exchange code }
 {
     let entry = entry_of(between, exchange, code);
     entry.before != entry.after

@@ -1,9 +1,7 @@
 // The worst outage of a plan.
 ghost use Rattle.std.specs.Prelude.{◌≡◌, ◌≤◌, option_map, find, slice_get};
 ghost use Rattle.std.specs.Option.{option_map_or};
-ghost use Rattle.tx_plan.specs.Plan.{home_of};
-ghost use Rattle.tx_page.specs.Heading.{range_lines};
-ghost use Rattle.tx_page.specs.Numbers.{lines_at, is_cut_at, lines_cut, most_cut, cuts_off, numbers_of, worst_of};
+ghost use Rattle.tx_page.specs.Numbers.{home_lines, lines_at, is_cut_at, cut_lines_at, lines_cut, most_cut, cuts_off, numbers_of, worst_of};
 
 use crate::counts::range_lines;
 use crate::outlook::Outlook;
@@ -13,8 +11,7 @@ use tx_risk::{Cut, Outcome};
 
 /// How many lines the range at an index has, if they are at the exchange.
 fn lines_of_range_at<A: Allocator>(plan: &Plan<A>, exchange: ExchangeId, index: usize) -> u64
-    ensures count { result ≡ option_map_or
-        (λ r. if home_of plan.now r.code == exchange then range_lines r else 0)
+    ensures count { result ≡ option_map_or (home_lines plan.now exchange)
         (slice_get plan.now.ranges index) 0 }
     ensures bound { result ≤ 1000000000 }
 {
@@ -45,9 +42,9 @@ fn is_cut_at<A: Allocator>(cuts: &[Cut<A>], exchange: ExchangeId) -> bool
         .any(|cut| !cut.stray && cut.walk.start == exchange)
 }
 
-/// How many lines an exchange has, if such calls are.
-fn lines_cut_at<A: Allocator>(plan: &Plan<A>, cuts: &[Cut<A>], exchange: ExchangeId) -> u64
-    ensures count { result ≡ (if is_cut_at cuts.now exchange then lines_at plan.now exchange else 0) }
+/// How many lines of an exchange are then cut off.
+fn cut_lines_at<A: Allocator>(plan: &Plan<A>, cuts: &[Cut<A>], exchange: ExchangeId) -> u64
+    ensures count { result ≡ cut_lines_at plan.now cuts.now exchange }
     ensures few { result ≤ 4096000000000 }
 {
     if is_cut_at(cuts, exchange) {
@@ -57,14 +54,14 @@ fn lines_cut_at<A: Allocator>(plan: &Plan<A>, cuts: &[Cut<A>], exchange: Exchang
     }
 }
 
-/// How many lines are at such exchanges.
+/// How many lines an outage cuts off, from some code.
 #[tactic(auto, using(tx_join::proofs::Sums::range_sum_more))]
-fn lines_cut<A: Allocator>(plan: &Plan<A>, cuts: &[Cut<A>]) -> u64
-    ensures { result ≡ lines_cut plan.now cuts.now }
+fn lines_cut<A: Allocator>(plan: &Plan<A>, outcome: &Outcome<A>) -> u64
+    ensures { result ≡ lines_cut plan.now outcome.now }
 {
     let mut count: u64 = 0;
     for index in 0..plan.exchanges() {
-        count += lines_cut_at(plan, cuts, ExchangeId::of(index));
+        count += cut_lines_at(plan, &outcome.cuts, ExchangeId::of(index));
     }
     count
 }
@@ -75,7 +72,7 @@ pub(crate) fn most_cut<A: Allocator>(plan: &Plan<A>, outcomes: &[Outcome<A>]) ->
 {
     let mut most: u64 = 0;
     for i in 0..outcomes.len() {
-        most = most.max(lines_cut(plan, &outcomes[i].cuts));
+        most = most.max(lines_cut(plan, &outcomes[i]));
     }
     most
 }
@@ -84,7 +81,7 @@ pub(crate) fn most_cut<A: Allocator>(plan: &Plan<A>, outcomes: &[Outcome<A>]) ->
 fn cuts_off<A: Allocator>(plan: &Plan<A>, lines: u64, outcome: &Outcome<A>) -> bool
     ensures { result ≡ cuts_off plan.now lines outcome.now }
 {
-    lines > 0 && lines_cut(plan, &outcome.cuts) == lines
+    lines > 0 && lines_cut(plan, outcome) == lines
 }
 
 /// The first outage of a plan that cuts off so many lines, and some.
