@@ -10,7 +10,7 @@ nothing is fetched, and nothing is on the console. Its verdict has its own colou
 In its pictures no box is over another, no arrow runs through a box, and where the columns are ranks no arrow goes to the left. Its colours have the contrast of
 WCAG 2, level AA, in the light and in the dark scheme. It is not wider than a window of 390 points. Printed it shows its closed parts too, no word lies over another or is
 smaller than 7 points, no sheet is blank but for a title, and each sheet of a stage has its name, and so each of the work at an exchange. The first sheet of a change has the
-whole decision, and its verdict is green only if nothing is worse and there is an order."""
+whole decision, with the numbers that the other commands tell, and its verdict is green only if nothing is worse and there is an order."""
 import collections
 import html
 import html.parser
@@ -289,8 +289,52 @@ def pages_made(program, folder):
         plans.append((name, new, f"--limit 40 --spare 3 --from {old}" + (" --by-exchange" if layers == 9 else "")))
     for name, plan, options in plans:
         page = folder / f"{name}.html"
-        page.write_bytes(subprocess.run([pathlib.Path(program).resolve(), "page", plan, *options.split()], cwd=TOP, capture_output=True).stdout)
-        yield page
+        page.write_bytes(told(program, "page", plan, *options.split()))
+        yield page, (plan, options.split())
+
+
+def told(program, *words):
+    """What the program prints."""
+    return subprocess.run([pathlib.Path(program).resolve(), *words], cwd=TOP, capture_output=True).stdout
+
+
+def sheet_of(program, new, options):
+    """The rows of the first sheet of a change that other commands tell, as they tell them."""
+    given = dict(zip(options, options[1:]))
+    old, numbers = given["--from"], ["--limit", given["--limit"], "--spare", given["--spare"]]
+    risks = ["--risks", given["--risks"]] if "--risks" in given else []
+    rows = {}
+    for plan in (old, new):
+        grade = re.match(r"GRADE LIMIT (\d+) SPARE (\d+)", told(program, "grade", plan).decode())
+        cuts = re.findall(r"(?m)^(?:RISK|GROUP|EXCHANGE) \S+ CUT (\d+) STRAY (\d+)$", told(program, "survive", plan, *risks).decode())
+        for i, label in enumerate(("Least transit limit", "Greatest spare number")):
+            rows.setdefault(label, []).append(grade[i + 1] if grade else "none")
+        for i, label in enumerate(("Outages that cut somebody off", "Outages that lead somebody astray")):
+            rows.setdefault(label, []).append(str(sum(it[i] != "0" for it in cuts)) if grade else "none")
+    both = "none" not in rows["Least transit limit"]
+    compared = told(program, "survive", new, "--from", old, *risks).decode()
+    rows["Outages after which somebody is worse off"] = [str(len(re.findall("(?m)^WORSE [^G]|^WORSE GROUP", compared))) if both else "none"]
+    order = told(program, "order", old, new, *numbers).decode()
+    lists = re.search(r"(?m)^LISTS \d+ NEW (\d+) CHANGED \d+ GONE (\d+)$", order)
+    stages = re.split(r"(?m)^STAGE \d+\n", order.partition("\nAFTER\n")[0])[1:]
+    if "VERDICT YES" in order:
+        switched = ", ".join(str(len(re.findall("(?m)^(?:ROUTE|NEW ROUTE|DROP) ", it))) for it in stages)
+        rows.update({"Stages of the change": [str(len(stages))], "Lists to install before": [lists[1]], "Lists to switch, stage by stage": [switched], "Lists to take away after": [lists[2]]})
+    else:
+        rows["Stages of the change"] = ["no safe order"]
+    return rows
+
+
+def sheet_faults(program, page, asked):
+    """Where the first sheet of a change has other numbers than the commands."""
+    plan, options = asked
+    if "--from" not in options:
+        return
+    for label, wanted in sheet_of(program, plan, options).items():
+        row = re.search(f'<th scope="row">{label}</th>(.*?)</tr>', page.read_text())
+        shown = [re.sub("<[^>]*>", "", it).replace("\u202f", "") for it in re.findall("<td[^>]*>(.*?)</td>", row[1])] if row else []
+        if [it for it in shown if it not in ("", "same", "better", "worse")] != [it for it in wanted if it]:
+            yield f"{label}: the sheet has {shown}, and the commands {wanted}"
 
 
 def main(words):
@@ -307,8 +351,11 @@ def main(words):
     wrong = count = 0
     with tempfile.TemporaryDirectory() as folder:
         made = pages_made(options["--program"], pathlib.Path(folder)) if "--program" in options else []
-        for page in [*map(pathlib.Path, words), *made]:
+        for page, asked in [*((pathlib.Path(it), None) for it in words), *made]:
             count += 1
+            for fault in sheet_faults(options["--program"], page, asked) if asked else ():
+                wrong += 1
+                print(f"{page.name}: {fault}")
             if page.stem.startswith("national") and page.stat().st_size > 45000:
                 wrong += 1
                 print(f"{page.name}: more than 45,000 bytes")

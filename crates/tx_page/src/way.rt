@@ -1,5 +1,5 @@
 // The way from an old plan to a new one, in numbers.
-ghost use Rattle.std.specs.Prelude.{◌≡◌, ◌≤◌, [], ◌∷◌};
+ghost use Rattle.std.specs.Prelude.{◌≡◌, ◌<◌, ◌≤◌, [], ◌∷◌};
 ghost use Rattle.tx_html.specs.Amounts.{amount};
 ghost use Rattle.tx_html.specs.Shows.{Sets};
 ghost use Rattle.tx_order.specs.Ordered.{stages_in};
@@ -124,9 +124,24 @@ fn write_stages<A: Allocator, W: PageSink>(order: &Order<A>, sink: &mut W)
         (texts_below (stages_in order.now) (stage_lists order.now)) }
 {
     for stage in 0..order.stages() {
-        let lists = lists_differing(order.new_plan(), &Between::Stage(order, stage));
-        set(&[Part::Own(" "), Part::Amount(lists)], sink);
+        write_stage(order, stage, sink);
     }
+}
+
+/// Writes how many lists a stage switches.
+fn write_stage<A: Allocator, W: PageSink>(order: &Order<A>, stage: usize, sink: &mut W)
+    requires { stage < stages_in order.now }
+    ensures { Sets W.seen sink.old sink.new (stage_lists order.now stage) }
+{
+    order.rules();
+    let lists = lists_differing(order.new_plan(), &Between::Stage(order, stage));
+    set(
+        &[
+            Part::Own(if stage > 0 { ", " } else { "" }),
+            Part::Amount(lists),
+        ],
+        sink,
+    );
 }
 
 fn write_gone<A: Allocator, W: PageSink>(old: &Plan<A>, new: &Plan<A>, sink: &mut W)
