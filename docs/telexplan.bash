@@ -29,7 +29,7 @@ _telexplan() {
                 *:order:-*) words="--limit --spare --stage --plan --cert --done --back --spare-now --down --down-exchange --help" ;;
                 *:lint:-*) words="--risks --help" ;;
                 *:survive:-*) words="--risks --risks-only --from --down --down-exchange --help" ;;
-                *:page:-*) words="--limit --spare --risks --from --code --all-codes --html --down --down-exchange --help" ;;
+                *:page:-*) words="--limit --spare --risks --from --code --all-codes --by-exchange --html --down --down-exchange --help" ;;
                 *:check:-*) words="--limit --spare --help" ;;
                 *:run:-*) words="--cert --limit --spare --strict --echo --summary --help" ;;
                 *:grade:-*) words="--down --down-exchange --help" ;;

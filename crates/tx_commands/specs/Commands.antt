@@ -159,8 +159,9 @@ Asks name found (Compare r) = (name ≡ codes "survive") × Names found (codes "
 Asks name found (Page r) = (name ≡ codes "page") × Names found (codes "plan") r.plan
     × GivesLimits found r.limits × NamesIfAny found (codes "risks") r.risks
     × NamesIfAny found (codes "from") r.old × NamesIfAny found (codes "code") r.code
-    × (is_set found (codes "all-codes") ≡ r.all_codes) × NamesIfAny found (codes "html") r.html
-    × AsksForDown found r.down
+    × (is_set found (codes "all-codes") ≡ r.all_codes)
+    × (is_set found (codes "by-exchange") ≡ r.by_exchange) × NamesIfAny found (codes "html") r.html
+    × AsksForDown found r.down × (r.moment ≡ None)
 Asks name found (Grade r) = (name ≡ codes "grade") × Names found (codes "plan") r.plan
     × AsksForDown found r.down
 Asks name found (Trace r) = (name ≡ codes "trace") × Names found (codes "plan") r.plan

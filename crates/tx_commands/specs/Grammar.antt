@@ -91,10 +91,10 @@ survive_words =
 -- the arguments of `page`
 abbrev pub page_words : App
 page_words =
-    with_down (with_rule (with_rule (with_rule (with_rule (with_rule (with_rule (with_rule
+    with_down (with_rule (with_rule (with_rule (with_rule (with_rule (with_rule (with_rule (with_rule
     (plan_words (codes "page")) (needed_rule limit)) (needed_rule spare))
     (option (codes "risks"))) (option (codes "from"))) (option (codes "code")))
-    (flag (codes "all-codes"))) (option (codes "html")))
+    (flag (codes "all-codes"))) (flag (codes "by-exchange"))) (option (codes "html")))
 
 -- a word that goes by position, and need not be given
 abbrev pub word : List ℕ → Rule

@@ -15,7 +15,7 @@ use std::alloc::{AllocError, Global};
 use tx_plan::Limits;
 
 /// `page PLAN --limit L --spare K`: a page about the plan, with the named risks of a file, if one is
-/// named, with the stages from an old plan, if one is named, and with pictures of the lists for all
+/// named, with the change from an old plan, if one is named, and with pictures of the lists for all
 /// codes, or for those of which the figures are given, if either is asked for. It may go into a
 /// file.
 #[derive(Drop)]
@@ -26,8 +26,11 @@ pub struct PageRequest {
     pub old: Option<String>,
     pub code: Option<String>,
     pub all_codes: bool,
+    pub by_exchange: bool,
     pub html: Option<String>,
     pub down: Option<Down>,
+    /// When it is asked, in seconds since 1970. No word says so.
+    pub moment: Option<u64>,
 }
 
 const PAGE_HELP: &str = "The page is one file, which needs no other and fetches nothing. It has the
@@ -66,6 +69,10 @@ input",
 figures, with a comma between two",
     )
     .flag("all-codes", "Show the lists of each code")
+    .flag(
+        "by-exchange",
+        "With --from, show the work at each exchange too",
+    )
     .option("html", "OUT", "Write the page to this file")
     .option("down", "GROUP,..", DOWN)
     .option("down-exchange", "X", DOWN_EXCHANGE)
@@ -85,6 +92,7 @@ pub(crate) fn page_of(alloc: Global, matches: &ArgMatches<'_>) -> Result<Command
     let old = text(alloc, matches, "from")?;
     let code = text(alloc, matches, "code")?;
     let all_codes = is_set(matches, "all-codes");
+    let by_exchange = is_set(matches, "by-exchange");
     let html = text(alloc, matches, "html")?;
     let down = down_asked(alloc, matches, false)?;
     let limits = limits(alloc, matches)?;
@@ -95,7 +103,9 @@ pub(crate) fn page_of(alloc: Global, matches: &ArgMatches<'_>) -> Result<Command
         old,
         code,
         all_codes,
+        by_exchange,
         html,
         down,
+        moment: None,
     }))
 }

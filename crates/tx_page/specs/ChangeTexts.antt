@@ -1,5 +1,5 @@
 -- What a page shows of the change from an old plan.
-use Rattle.std.specs.Prelude.{ℕ, ◌+◌, Bool, true, false, ◌&&◌, ◌==◌, if◌then◌else◌, List, [], ◌∷◌, ◌++◌, length, map, codes, decimal}
+use Rattle.std.specs.Prelude.{ℕ, ◌+◌, Bool, true, false, not, ◌&&◌, ◌==◌, if◌then◌else◌, List, [], ◌∷◌, ◌++◌, length, map, codes, decimal}
 use Rattle.std.specs.Str.{bytes_eq}
 use Rattle.tx_plan.specs.Plan.{Plan, exchange_name, figures_of, group_name}
 use Rattle.tx_plan.specs.Routes.{route_list, is_barred}
@@ -19,12 +19,15 @@ abbrev pub entry_texts : Plan → (x c : ℕ) → (before now : List ℕ) → (w
 entry_texts p x c before now was is = (exchange_name p x ∷ figures_of p c ∷ [])
     ++ (map (group_name p) before ++ (map (group_name p) now ++ bar_word was is ∷ []))
 
+-- the list or the bar is another one
+abbrev pub is_switched : (before now : List ℕ) → (was is : Bool) → Bool
+is_switched before now was is = not (bytes_eq before now && (length (bar_word was is) == 0))
+
 -- the same, if the list or the bar is another one
 abbrev pub switched_texts : Plan → (x c : ℕ) → (before now : List ℕ) → (was is : Bool)
     → List (List ℕ)
 switched_texts p x c before now was is =
-    if bytes_eq before now && (length (bar_word was is) == 0) then []
-    else entry_texts p x c before now was is
+    if is_switched before now was is then entry_texts p x c before now was is else []
 
 -- what two plans have for a code at an exchange, by the names of p
 abbrev pub pair_texts : (p before after : Plan) → (x c : ℕ) → List (List ℕ)
@@ -39,9 +42,13 @@ exchange_texts p before after x = texts_below (length p.codes) (pair_texts p bef
 abbrev pub table_texts : (p before after : Plan) → List (List ℕ)
 table_texts p before after = texts_below (length p.exchanges) (exchange_texts p before after)
 
--- the number of a stage, from 1, and what it switches
+-- the number of a stage, from 1, and how many there are
+abbrev pub stage_title : Order → ℕ → List (List ℕ)
+stage_title o s = decimal (s + 1) ∷ decimal (stages_in o) ∷ []
+
+-- a stage, and what it switches
 abbrev pub stage_texts : Order → ℕ → List (List ℕ)
-stage_texts o s = (decimal (s + 1) ∷ [])
+stage_texts o s = stage_title o s
     ++ table_texts o.transition.new (plan_before o s) (plan_before o (s + 1))
 
 -- whether there is a safe order of switching

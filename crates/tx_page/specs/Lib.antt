@@ -6,4 +6,7 @@ pub mod NetworkTexts
 pub mod Page
 pub mod ChangeTexts
 pub mod StepTexts
+pub mod Numbers
+pub mod Decision
+pub mod CrewTexts
 pub mod inner

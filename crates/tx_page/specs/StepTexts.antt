@@ -75,10 +75,11 @@ module _ {A : Type 0} where
 
   -- what is done before that, and after it
   abbrev pub steps_texts : (safe : Bool) → Change A → List (List ℕ)
-  steps_texts safe c = codes "differ" ∷ (before_texts c.old.now c.new.now
-      ++ (switching_texts safe c.joined.now c.switching.now ++ after_texts c.old.now c.new.now))
+  steps_texts safe c = codes "differ" ∷ (before_texts c.old.plan.now c.new.plan.now
+      ++ (switching_texts safe c.joined.now c.switching.now
+      ++ after_texts c.old.plan.now c.new.plan.now))
 
   -- what is switched, with what is done before and after if the plans differ beside lists and bars
   abbrev pub change_texts : (safe : Bool) → Change A → List (List ℕ)
-  change_texts safe c = if differ c.old.now c.new.now then steps_texts safe c
+  change_texts safe c = if differ c.old.plan.now c.new.plan.now then steps_texts safe c
       else switching_texts safe c.joined.now c.switching.now

@@ -2,24 +2,35 @@
 ghost use Rattle.tx_html.specs.Shows.{Sets};
 ghost use Rattle.tx_page.specs.StepTexts.{switching_texts, steps_texts, change_texts};
 
+use crate::outlook::Outlook;
 use crate::stages::{write_difference, write_stages};
 use crate::steps::{write_after, write_before};
 use std::alloc::Allocator;
 use tx_html::{PageSink, Part, set};
 use tx_join::{Joined, differ};
 use tx_order::Switching;
-use tx_plan::Plan;
 
 /// The change of an old plan into the plan of a page.
 #[derive(Drop)]
 pub struct Change<'a, A: Allocator> {
+    /// The name of the old plan's file, and the SHA-256 of its text.
+    pub name: &'a [u8],
+    pub digest: [u8; 32],
+    /// When the change was judged, if the clock tells.
+    pub date: Option<[u8; 29]>,
     /// Both plans as they are.
-    pub old: &'a Plan<A>,
-    pub new: &'a Plan<A>,
-    /// Both over their joined network.
+    pub old: Outlook<'a, A>,
+    pub new: Outlook<'a, A>,
+    /// After how many outages somebody is worse off than in the old plan, and after how many
+    /// better, if both have a grade.
+    pub worse: Option<u64>,
+    pub better: Option<u64>,
+    /// Both plans over their joined network.
     pub joined: &'a Joined<A>,
     /// The order of switching over it, or what is wrong.
     pub switching: &'a Switching<A>,
+    /// The work at each exchange is shown too.
+    pub by_exchange: bool,
 }
 
 /// Writes the stages of the order of switching; or, where there is none or the new plan is not safe,
@@ -33,7 +44,7 @@ pub(crate) fn write_change<A: Allocator, W: PageSink>(
     ensures { Sets W.seen sink.old sink.new (change_texts safe change.now) }
 {
     set(&[Part::Own("<h2>The change</h2>")], sink);
-    if differ(change.old, change.new) {
+    if differ(change.old.plan, change.new.plan) {
         write_steps(change, safe, sink);
     } else {
         write_switching(change, safe, sink);
@@ -52,9 +63,9 @@ fn write_steps<A: Allocator, W: PageSink>(change: &Change<'_, A>, safe: bool, si
         ],
         sink,
     );
-    write_before(change.old, change.new, sink);
+    write_before(change.old.plan, change.new.plan, sink);
     write_switching(change, safe, sink);
-    write_after(change.old, change.new, sink);
+    write_after(change.old.plan, change.new.plan, sink);
 }
 
 const BESIDE_LISTS: &str = " in what they declare: something is \

@@ -2,10 +2,11 @@
 ghost use Rattle.std.specs.Prelude.{◌≡◌, ◌<◌, ◌≤◌, slice_get};
 ghost use Rattle.std.specs.Option.{option_map_or};
 ghost use Rattle.std.specs.Str.Parse.{digits_value};
+ghost use Rattle.tx_page.specs.Decision.{circuits_in};
 ghost use Rattle.tx_page.specs.Heading.{range_lines, code_lines, lines_of, lines_in, origins_in};
 
 use std::alloc::Allocator;
-use tx_plan::{CodeId, ExchangeId, LineRange, National, Plan};
+use tx_plan::{CodeId, ExchangeId, GroupId, LineRange, National, Plan};
 
 /// The value of a national number.
 fn value_of(number: &National) -> u64
@@ -21,7 +22,7 @@ fn value_of(number: &National) -> u64
 }
 
 /// How many lines a range has.
-fn range_lines(range: LineRange) -> u64
+pub(crate) fn range_lines(range: LineRange) -> u64
     ensures count { result ≡ range_lines range }
     ensures bound { result ≤ 1000000000 }
 {
@@ -40,6 +41,7 @@ fn lines_at<A: Allocator>(plan: &Plan<A>, code: CodeId, index: usize) -> u64
 }
 
 /// How many lines a code has.
+#[tactic(auto, using(tx_join::proofs::Sums::sum_more))]
 pub fn lines_of<A: Allocator>(plan: &Plan<A>, code: CodeId) -> u64
     ensures { result ≡ lines_of plan.now code }
 {
@@ -62,6 +64,7 @@ fn lines_of_range<A: Allocator>(plan: &Plan<A>, index: usize) -> u64
 }
 
 /// How many lines a plan has.
+#[tactic(auto, using(tx_join::proofs::Sums::sum_more))]
 pub fn count_lines<A: Allocator>(plan: &Plan<A>) -> u64
     ensures { result ≡ lines_in plan.now }
 {
@@ -73,6 +76,7 @@ pub fn count_lines<A: Allocator>(plan: &Plan<A>) -> u64
 }
 
 /// At how many exchanges calls start.
+#[tactic(auto, using(tx_join::proofs::Sums::count_more, tx_join::proofs::Sums::count_few))]
 pub fn count_origins<A: Allocator>(plan: &Plan<A>) -> u64
     ensures { result ≡ origins_in plan.now }
 {
@@ -81,6 +85,18 @@ pub fn count_origins<A: Allocator>(plan: &Plan<A>) -> u64
         if plan.is_origin(ExchangeId::of(index)) {
             count += 1;
         }
+    }
+    count
+}
+
+/// How many circuits a plan has.
+#[tactic(auto, using(tx_join::proofs::Sums::range_sum_more))]
+pub fn count_circuits<A: Allocator>(plan: &Plan<A>) -> u64
+    ensures { result ≡ circuits_in plan.now }
+{
+    let mut count: u64 = 0;
+    for index in 0..plan.groups() {
+        count += u64::from(plan.group_count(GroupId::of(index)));
     }
     count
 }

@@ -1,7 +1,7 @@
 // A row of a table of what is switched.
 ghost use Rattle.std.specs.Prelude.{◌≡◌, [], ◌∷◌};
 ghost use Rattle.tx_html.specs.Shows.{Sets};
-ghost use Rattle.tx_page.specs.ChangeTexts.{bar_word, entry_texts, switched_texts};
+ghost use Rattle.tx_page.specs.ChangeTexts.{bar_word, entry_texts, is_switched, switched_texts};
 
 use std::alloc::Allocator;
 use tx_html::{PageSink, Part, set};
@@ -30,17 +30,23 @@ fn bar_word(was: bool, is: bool) -> &'static [u8]
     }
 }
 
+/// Whether the list or the bar is another one.
+pub(crate) fn is_switched(entry: &Entry<'_>) -> bool
+    ensures { result ≡ is_switched entry.now.before.now entry.now.after.now entry.now.was_barred
+        entry.now.is_barred }
+{
+    entry.before != entry.after || !bar_word(entry.was_barred, entry.is_barred).is_empty()
+}
+
 /// Writes a row, if the list or the bar is another one.
 pub fn write_switched<A: Allocator, W: PageSink>(plan: &Plan<A>, entry: &Entry<'_>, sink: &mut W)
     ensures { Sets W.seen sink.old sink.new
         (switched_texts plan.now entry.now.exchange entry.now.code entry.now.before.now
         entry.now.after.now entry.now.was_barred entry.now.is_barred) }
 {
-    let bar = bar_word(entry.was_barred, entry.is_barred);
-    if entry.before == entry.after && bar.is_empty() {
-        return;
+    if is_switched(entry) {
+        write_entry(plan, entry, sink);
     }
-    write_entry(plan, entry, sink);
 }
 
 fn write_entry<A: Allocator, W: PageSink>(plan: &Plan<A>, entry: &Entry<'_>, sink: &mut W)

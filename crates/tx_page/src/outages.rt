@@ -96,7 +96,7 @@ fn write_outcomes<A: Allocator, W: PageSink>(
 }
 
 /// What kind of thing fails.
-fn kind_of(outage: &Outage) -> &'static [u8]
+pub(crate) fn kind_of(outage: &Outage) -> &'static [u8]
     ensures { result.now ≡ outage_kind outage.now }
 {
     match outage {
@@ -107,7 +107,11 @@ fn kind_of(outage: &Outage) -> &'static [u8]
 }
 
 /// The name of what fails.
-fn name_of<'a, A: Allocator>(plan: &'a Plan<A>, risks: &'a Risks<A>, outage: &Outage) -> &'a [u8]
+pub(crate) fn name_of<'a, A: Allocator>(
+    plan: &'a Plan<A>,
+    risks: &'a Risks<A>,
+    outage: &Outage,
+) -> &'a [u8]
     ensures { result.now ≡ outage_name plan.now risks.now outage.now }
 {
     match outage {

@@ -1,10 +1,12 @@
 // A page.
 ghost use Rattle.std.specs.Prelude.{◌≡◌};
 ghost use Rattle.tx_html.specs.Shows.{Sets, Showed};
-ghost use Rattle.tx_page.specs.Page.{is_safe, down_texts, asked_change_texts, page_texts};
+ghost use Rattle.tx_page.specs.Page.{is_safe, down_texts, first_texts, asked_change_texts, page_texts};
 
 use crate::change::{Change, write_change};
 use crate::codes::write_codes;
+use crate::crews::write_crews;
+use crate::decision::write_decision;
 use crate::findings::write_wrong;
 use crate::heading::write_heading;
 use crate::network::write_network;
@@ -40,7 +42,25 @@ fn findings_in<A: Allocator>(ranking: &Ranking<A>) -> &[Finding<A>] {
     }
 }
 
-/// Writes the change of an old plan, if one is asked for.
+/// Writes what was judged, and the verdict: of the plan, or of the change from an old one.
+fn write_first<A: Allocator, W: PageSink>(subject: &Subject<'_, A>, safe: bool, sink: &mut W)
+    ensures { Sets W.seen sink.old sink.new (first_texts subject.now safe subject.now.change) }
+{
+    match &subject.change {
+        Some(change) => write_decision(subject, change, safe, sink),
+        None => write_heading(
+            subject.name,
+            &subject.digest,
+            subject.version,
+            subject.plan,
+            subject.limits,
+            safe,
+            sink,
+        ),
+    }
+}
+
+/// Writes the change of an old plan, if one is asked for, and the work at each exchange.
 fn write_asked_change<A: Allocator, W: PageSink>(
     change: &Option<Change<'_, A>>,
     safe: bool,
@@ -49,7 +69,10 @@ fn write_asked_change<A: Allocator, W: PageSink>(
     ensures { Sets W.seen sink.old sink.new (asked_change_texts safe change.now) }
 {
     match change {
-        Some(change) => write_change(change, safe, sink),
+        Some(change) => {
+            write_change(change, safe, sink);
+            write_crews(change, safe, sink);
+        }
         None => {}
     }
 }
@@ -78,15 +101,7 @@ pub fn write_page<A: Allocator, W: PageSink>(
     let safe = is_safe(subject.ranking);
     let graded = subject.grade.plan.is_some();
     let findings = findings_in(subject.ranking);
-    write_heading(
-        subject.name,
-        &subject.digest,
-        subject.version,
-        plan,
-        limits,
-        safe,
-        sink,
-    );
+    write_first(subject, safe, sink);
     write_down(GROUPS_DOWN, subject.down, sink);
     write_down(EXCHANGE_DOWN, subject.down_exchange, sink);
     write_wrong(plan, subject.ranking, limits, sink);

@@ -6,7 +6,7 @@ ghost use Rattle.tx_order.specs.Ordered.{stages_in};
 ghost use Rattle.tx_page.specs.ChangeTexts.{order_word, difference_texts, stage_texts, stages_texts};
 
 use crate::between::Between;
-use crate::table::{TABLE, write_table};
+use crate::table::write_table;
 use std::alloc::Allocator;
 use tx_html::{PageSink, Part, set};
 use tx_join::Joined;
@@ -31,7 +31,6 @@ pub fn write_difference<A: Allocator, W: PageSink>(joined: &Joined<A>, sink: &mu
             Part::Own("<p>There is "),
             Part::Text(order_word(false)),
             Part::Own(NO_ORDER),
-            Part::Own(TABLE),
         ],
         sink,
     );
@@ -54,7 +53,7 @@ pub fn write_stages<A: Allocator, W: PageSink>(order: &Order<A>, sink: &mut W)
 }
 
 /// Whether there is an order, in words.
-fn order_word(ordered: bool) -> &'static [u8]
+pub(crate) fn order_word(ordered: bool) -> &'static [u8]
     ensures { result.now ≡ order_word ordered }
 {
     if ordered {
@@ -73,22 +72,13 @@ fn write_all<A: Allocator, W: PageSink>(order: &Order<A>, sink: &mut W)
     }
 }
 
-/// Writes a stage with its number, from 1, in the head of its table, so that each sheet has it.
+/// Writes a stage with its title in the head of its table, so that each sheet has it.
 fn write_stage<A: Allocator, W: PageSink>(order: &Order<A>, stage: usize, sink: &mut W)
     requires { stage < stages_in order.now }
     ensures { Sets W.seen sink.old sink.new (stage_texts order.now stage) }
 {
     order.rules();
-    set(
-        &[
-            Part::Own("<section class=\"stage\">"),
-            Part::Own(TABLE),
-            Part::Own("<tr><th scope=\"colgroup\" colspan=\"5\"><h3>Stage "),
-            Part::Count(stage as u64 + 1),
-            Part::Own("</h3></th></tr>"),
-        ],
-        sink,
-    );
+    set(&[Part::Own("<section class=\"stage\">")], sink);
     write_table(order.new_plan(), &Between::Stage(order, stage), sink);
     set(&[Part::Own("</section>")], sink);
 }

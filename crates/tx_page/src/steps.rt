@@ -6,7 +6,7 @@ ghost use Rattle.tx_join.specs.Differences.{count_of_entries, entry_words, range
 ghost use Rattle.tx_page.specs.StepTexts.{if_alone_texts, alone_texts, circuits_texts, group_circuits_texts, put_texts, gone_texts, opened_texts, before_texts, after_texts};
 
 use crate::between::Between;
-use crate::table::{TABLE, write_table};
+use crate::table::write_table;
 use std::alloc::Allocator;
 use tx_html::{PageSink, Part, set};
 use tx_join::{Entries, count_of_entries, is_known, is_told};
@@ -26,7 +26,7 @@ pub fn write_before<A: Allocator, W: PageSink>(old: &Plan<A>, new: &Plan<A>, sin
 {
     set(&[Part::Own(BEFORE)], sink);
     write_put(old, new, sink);
-    set(&[Part::Own("</ul>"), Part::Own(TABLE)], sink);
+    set(&[Part::Own("</ul>")], sink);
     write_table(new, &Between::New(new, old), sink);
     set(&[Part::Own("</section>")], sink);
 }
@@ -37,7 +37,7 @@ pub fn write_after<A: Allocator, W: PageSink>(old: &Plan<A>, new: &Plan<A>, sink
 {
     set(&[Part::Own(AFTER)], sink);
     write_gone(old, new, sink);
-    set(&[Part::Own("</ul>"), Part::Own(TABLE)], sink);
+    set(&[Part::Own("</ul>")], sink);
     write_table(old, &Between::Gone(old, new), sink);
     set(&[Part::Own(OPENED)], sink);
     write_opened(old, new, sink);

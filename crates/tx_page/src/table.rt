@@ -1,7 +1,8 @@
 // A table of what is switched.
+ghost use Rattle.std.specs.Prelude.{◌++◌};
 ghost use Rattle.tx_html.specs.Shows.{Sets};
 ghost use Rattle.tx_page.specs.ChangeTexts.{exchange_texts, table_texts};
-ghost use Rattle.tx_page.specs.inner.Between.{before_of, after_of, IsThere};
+ghost use Rattle.tx_page.specs.inner.Between.{before_of, after_of, title_of, IsThere};
 
 use crate::between::{Between, entry_of};
 use crate::entry::write_switched;
@@ -9,25 +10,67 @@ use std::alloc::Allocator;
 use tx_html::{PageSink, Part, set};
 use tx_plan::{CodeId, ExchangeId, Plan};
 
-/// Where such a table begins. What its head repeats on each sheet may follow.
-pub const TABLE: &str = "<div class=\"t\"><table><thead>";
+const TABLE: &str = "<div class=\"t\"><table><thead><tr><th scope=\"colgroup\" colspan=\"5\"><h3>";
 
-const HEAD: &str = "<tr><th scope=\"col\">Exchange</th>\
+const HEAD: &str = "</h3></th></tr><tr><th scope=\"col\">Exchange</th>\
 <th scope=\"col\">Code</th><th scope=\"col\">Old list</th><th scope=\"col\">New list</th>\
 <th scope=\"col\">Bar</th></tr></thead><tbody>";
 
-/// Writes what differs between two plans, by the names of one of them, in a table that has begun.
+/// Writes what differs between two plans, by the names of one of them, in a table whose head has its
+/// title, so that each sheet has it.
 pub fn write_table<A: Allocator, W: PageSink>(
     plan: &Plan<A>,
     between: &Between<'_, A>,
     sink: &mut W,
 )
     requires { IsThere between.now }
-    ensures { Sets W.seen sink.old sink.new
-        (table_texts plan.now (before_of between.now) (after_of between.now)) }
+    ensures { Sets W.seen sink.old sink.new (title_of between.now
+        ++ table_texts plan.now (before_of between.now) (after_of between.now)) }
 {
+    write_title(between, sink);
     set(&[Part::Own(HEAD)], sink);
     write_rows(plan, between, sink);
+    set(&[Part::Own("</tbody></table></div>")], sink);
+}
+
+/// Begins a table with its title, in its head.
+pub(crate) fn write_title<A: Allocator, W: PageSink>(between: &Between<'_, A>, sink: &mut W)
+    requires { IsThere between.now }
+    ensures { Sets W.seen sink.old sink.new (title_of between.now) }
+{
+    set(&[Part::Own(TABLE)], sink);
+    match *between {
+        Between::Stage(order, stage) => {
+            order.rules();
+            set(
+                &[
+                    Part::Own("Stage "),
+                    Part::Count(stage as u64 + 1),
+                    Part::Own(" of "),
+                    Part::Count(order.stages() as u64),
+                ],
+                sink,
+            )
+        }
+        Between::Plans(_, _) => set(&[Part::Own("What differs")], sink),
+        Between::New(_, _) => set(&[Part::Own("Before the switching")], sink),
+        Between::Gone(_, _) => set(&[Part::Own("After the switching")], sink),
+    }
+}
+
+/// Writes what differs at an exchange, in a table that has its title.
+pub(crate) fn write_exchange_table<A: Allocator, W: PageSink>(
+    plan: &Plan<A>,
+    between: &Between<'_, A>,
+    exchange: ExchangeId,
+    sink: &mut W,
+)
+    requires { IsThere between.now }
+    ensures { Sets W.seen sink.old sink.new
+        (exchange_texts plan.now (before_of between.now) (after_of between.now) exchange) }
+{
+    set(&[Part::Own(HEAD)], sink);
+    write_exchange(plan, between, exchange, sink);
     set(&[Part::Own("</tbody></table></div>")], sink);
 }
 

@@ -76,7 +76,7 @@ impl<A: Allocator + Copy> Request<A> for CompareRequest {
 
 /// The grade of a plan, and what its outages come to, if it has one, with those groups of the named
 /// risks that it has.
-fn outlook_of<A: Allocator + Copy>(
+pub(crate) fn outlook_of<A: Allocator + Copy>(
     alloc: A,
     network: &Plan<A>,
     risks: &Risks<A>,

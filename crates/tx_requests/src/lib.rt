@@ -20,6 +20,7 @@ mod page;
 mod page_change;
 mod page_codes;
 mod page_found;
+mod page_shown;
 mod request;
 mod running;
 mod survive;

@@ -1,5 +1,5 @@
 // The writer of what the outages of two plans cut off.
-ghost use Rattle.std.specs.Prelude.{◌≡◌};
+ghost use Rattle.std.specs.Prelude.{◌≡◌, count_by};
 ghost use Rattle.std.specs.List.{flat_map};
 ghost use Rattle.tx_text.specs.Puts.{Puts};
 ghost use Rattle.tx_text.specs.Wrote.{Wrote};
@@ -217,14 +217,31 @@ fn count_free<A: Allocator>(comparison: &Comparison<'_, A>, kind: Kind) -> usize
         .count()
 }
 
+/// After how many outages somebody is worse off in the new plan.
+pub fn count_worse_outages<A: Allocator>(comparison: &Comparison<'_, A>) -> usize
+    ensures { result ≡ count_by (is_worse comparison.now) comparison.now.outages.now }
+{
+    comparison
+        .outages
+        .iter()
+        .filter(|outage| is_worse(comparison, outage))
+        .count()
+}
+
+/// After how many somebody was worse off in the old one.
+pub fn count_better_outages<A: Allocator>(comparison: &Comparison<'_, A>) -> usize
+    ensures { result ≡ count_by (is_better comparison.now) comparison.now.outages.now }
+{
+    comparison
+        .outages
+        .iter()
+        .filter(|outage| is_better(comparison, outage))
+        .count()
+}
+
 /// How many lines say that the new plan is worse.
 fn count_worse<A: Allocator>(comparison: &Comparison<'_, A>, new: Bounds, old: Bounds) -> u128
     ensures { result ≡ worse_count comparison.now new old }
 {
-    let outages = comparison
-        .outages
-        .iter()
-        .filter(|outage| is_worse(comparison, outage))
-        .count();
-    outages as u128 + u128::from(is_lower(new, old))
+    count_worse_outages(comparison) as u128 + u128::from(is_lower(new, old))
 }

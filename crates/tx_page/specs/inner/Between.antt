@@ -1,6 +1,7 @@
 -- Two plans of which one follows the other.
-use Rattle.std.specs.Prelude.{◌+◌, ◌<◌}
+use Rattle.std.specs.Prelude.{ℕ, ◌+◌, ◌<◌, List, []}
 use Rattle.tx_plan.specs.Plan.{Plan}
+use Rattle.tx_page.specs.ChangeTexts.{stage_title}
 use Rattle.tx_page.specs.StepTexts.{bare, alone_in}
 use Rattle.tx_order.specs.Ordered.{plan_before, stages_in}
 use Rattle.tx_page.specs.declared.between.Between.{Between}
@@ -20,6 +21,13 @@ module _ {A : Type 0} where
   after_of (Plans old new) = new.now
   after_of (New plan other) = alone_in plan.now other.now
   after_of (Gone plan other) = bare plan.now
+
+  -- its title, as far as it has numbers
+  abbrev pub title_of : Between A → List (List ℕ)
+  title_of (Stage order stage) = stage_title order.now stage
+  title_of (Plans old new) = []
+  title_of (New plan other) = []
+  title_of (Gone plan other) = []
 
   -- a stage is one of the order
   abbrev pub IsThere : Between A → Type 0

@@ -4,10 +4,13 @@ use crate::cases::case::two_texts;
 use std::alloc::{AllocError, Global};
 use tx_commands::{Command, WordsFault, read_command};
 
+/// When pages are made: 2026-12-01, at midnight.
+pub const MOMENT: u64 = 1_796_083_200;
+
 /// The words of a command after the kind of its case and, where it matters, the word after the
 /// kind. `@1`, `@2` and `@3` stand for the words after the kind: where there is no such word, what
 /// has it is left out. All that a command can print and make is asked for.
-static COMMANDS: [&str; 31] = [
+static COMMANDS: [&str; 32] = [
     "pipe:",
     "run: run plan script",
     "checked: run plan script --cert=cert --limit=@1 --spare=@2",
@@ -32,6 +35,7 @@ static COMMANDS: [&str; 31] = [
     "page: page @1 --limit=@2 --spare=@3 --all-codes",
     "page-risks: page @1 --limit=@2 --spare=@3 --risks=risks --all-codes",
     "page-change: page @1 --limit=@2 --spare=@3 --risks=risks --from=old",
+    "page-crews: page @1 --limit=@2 --spare=@3 --from=old --by-exchange",
     "page-code: page @1 --limit=@2 --spare=1 --code=@3",
     "grade: grade plan",
     "trace changes: trace plan --from=old",
@@ -89,7 +93,11 @@ pub fn command_of(alloc: Global, kind: &[u8], after: [&[u8]; 3]) -> Result<Comma
     for word in &all {
         words.push(word.as_str())?;
     }
-    read_command(alloc, words.as_slice())
+    let mut command = read_command(alloc, words.as_slice())?;
+    if let Command::Page(request) = &mut command {
+        request.moment = Some(MOMENT);
+    }
+    Ok(command)
 }
 
 /// A command and its texts, in the order in which they are read.

@@ -79,6 +79,7 @@ fn tell_more(command: &Command, log: &Log) {
         Command::Page(request) => {
             tell_word("code", request.code.as_deref(), log);
             tell_flag("all codes", request.all_codes, log);
+            tell_flag("by exchange", request.by_exchange, log);
         }
         Command::Trace(request) => {
             let down = request.down.as_deref();

@@ -4,7 +4,7 @@ use Rattle.tx_page.proofs.page.write_page.Goals as goal
 pub returns : goal.returns
 returns g c =
     sets_showed _
-    (sets_then (rw c.is_safe-safe.ensures at c.write_heading.ensures)
+    (sets_then (rw c.is_safe-safe.ensures at c.write_first.ensures)
     (sets_then c.write_down.ensures
     (sets_then c.write_down-2.ensures
     (sets_then c.write_wrong.ensures

@@ -12,6 +12,7 @@ returns g c =
       ranking = c.in_ok-ranking.ensures;
       grade = (plan, e.codes);
       outcomes = c.in_ok-outcomes.ensures.outcomes;
+      none = c.in_ok-outcomes.ensures.none;
     }
 
 pub outcomes_of-requires-clause-risks : goal.outcomes_of-requires-clause-risks
