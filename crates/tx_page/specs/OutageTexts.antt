@@ -23,12 +23,12 @@ outage_name p risks (Group g) = group_name p g
 outage_name p risks (Exchange x) = exchange_name p x
 outage_name p risks (Named i) = option_map_or (λ r. r.name) (slice_get risks i) []
 
-module _ {A : Type 0} where
-  -- a code, where calls for it start, and whether they are cut off or may go astray
-  abbrev pub cut_texts : Plan → Cut A → List (List ℕ)
-  cut_texts p c = figures_of p c.code ∷ exchange_name p c.walk.start
-      ∷ (if c.stray then codes "astray" else codes "cut off") ∷ []
+-- a code, where calls for it start, and whether they are cut off or may go astray
+abbrev pub cut_texts : Plan → Cut → List (List ℕ)
+cut_texts p c = figures_of p c.code ∷ exchange_name p c.start
+    ∷ (if c.stray then codes "astray" else codes "cut off") ∷ []
 
+module _ {A : Type 0} where
   -- an outage, how many starts it cuts off and may lead astray, and which
   abbrev pub outcome_texts : Plan → List NamedRisk → Outcome A → List (List ℕ)
   outcome_texts p risks o = (outage_kind o.outage ∷ outage_name p risks o.outage

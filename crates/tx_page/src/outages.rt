@@ -165,7 +165,7 @@ fn write_outcome<'a, A: Allocator, W: PageSink>(
 }
 
 /// Writes the cuts of an outage.
-fn write_cuts<A: Allocator, W: PageSink>(plan: &Plan<A>, cuts: &[Cut<A>], sink: &mut W)
+fn write_cuts<A: Allocator, W: PageSink>(plan: &Plan<A>, cuts: &[Cut], sink: &mut W)
     ensures { Sets W.seen sink.old sink.new
         (flat_map (cut_texts plan.now) cuts.now) }
 {
@@ -174,7 +174,7 @@ fn write_cuts<A: Allocator, W: PageSink>(plan: &Plan<A>, cuts: &[Cut<A>], sink: 
     }
 }
 
-fn write_cut<A: Allocator, W: PageSink>(plan: &Plan<A>, cut: &Cut<A>, sink: &mut W)
+fn write_cut<A: Allocator, W: PageSink>(plan: &Plan<A>, cut: &Cut, sink: &mut W)
     ensures { Sets W.seen sink.old sink.new (cut_texts plan.now cut.now) }
 {
     set(
@@ -186,7 +186,7 @@ fn write_cut<A: Allocator, W: PageSink>(plan: &Plan<A>, cut: &Cut<A>, sink: &mut
             }),
             Part::Text(plan.code_figures(cut.code)),
             Part::Own(" from "),
-            Part::Text(plan.exchange_name(cut.walk.start)),
+            Part::Text(plan.exchange_name(cut.start)),
             Part::Own(" "),
             Part::Text(if cut.stray { b"astray" } else { b"cut off" }),
             Part::Own("</li>"),

@@ -59,6 +59,7 @@ pub use Rattle.tx_risk.specs.Outages.{AreCutsBelow, AreCutsOfCode, IsOutcome, fa
 pub use Rattle.tx_risk.specs.Risks.{IsCut, IsDeadEnd, LeadsHome, Risk, left_of, net_without, without}
 pub use Rattle.tx_risk.specs.Served.{AllDown, IsClear, NoneOnFailed}
 pub use Rattle.tx_risk.specs.declared.cut.Cut.{Cut}
+pub use Rattle.tx_risk.specs.declared.cut.Leg.{Leg}
 pub use Rattle.tx_risk.specs.declared.cut.Outcome.{Outcome}
 pub use Rattle.tx_risk.specs.declared.nearest.Step.{Step}
 pub use Rattle.tx_risk.specs.declared.nearest.Ways.{Ways}
@@ -69,7 +70,7 @@ pub use Rattle.tx_risk.specs.inner.Hits.{AreEnds, TakesItsGroups, is_emptied}
 pub use Rattle.tx_risk.specs.inner.InOrder.{comes_before}
 pub use Rattle.tx_risk.specs.inner.Left.{IsLeft, Left, gone, left_net}
 pub use Rattle.tx_risk.specs.inner.Marked.{marked}
-pub use Rattle.tx_risk.specs.inner.Nearest.{AreDeadEnds, AreDeadEndsKept, AreWaysFrom, LeadsToDeadEnd, dead_end_alone, distance_in, has_way_home, home_alone, nearest_step, ways_in}
+pub use Rattle.tx_risk.specs.inner.Nearest.{AreAllWays, AreDeadEnds, AreDeadEndsKept, AreWaysFrom, Grows, LeadsToDeadEnd, dead_end_at, distance_in, has_way_home, home_alone, nearest_step, ways_in}
 pub use Rattle.tx_risk.specs.inner.Orders.{IsByRank, IsOrder, is_above, rank_or_0}
 pub use Rattle.tx_risk.specs.inner.Rows.{risk_of_row}
 pub use Rattle.tx_text.proofs.Exits.{exits_with}

@@ -7,7 +7,7 @@ pub mod LeftLists
 pub mod Kept
 pub mod Ordering
 pub mod Measuring
-pub mod Descending
+pub mod Legs
 pub mod AddedCuts
 pub mod AddedOutages
 pub mod Unhit

@@ -155,10 +155,10 @@ module _ (l : Left) (is : IsLeft l) (ends : List ℕ) (all : AreEnds l.plan (gon
             (k.0, k.1, left_none (gone l) (route_list l.plan x l.code) a)
 
     -- where none but the exchange that fails is emptied, nobody in question is cut off
-    pub unhit : {A : Type 0} (o : Outage) → TakesItsGroups l.plan (gone l) o
+    pub unhit : (o : Outage) (legs : List Leg) → TakesItsGroups l.plan (gone l) o
         → list_any (λ x. not (fails_at o x)) (filter (is_emptied l) ends) ≡ false
-        → AreCuts {A = A} l o []
-    unhit o takes none = record {
+        → AreCuts l o legs []
+    unhit o legs takes none = record {
       each = λ c m. absurd m;
       asked = λ c m. absurd m;
       order = tt;

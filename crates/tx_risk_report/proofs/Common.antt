@@ -1,12 +1,11 @@
 -- The names that most proofs here cite, passed on from one place. Declares nothing.
-pub use Rattle.std.proofs.Common.{[], ap, append-nil, arith, false, if◌then◌else◌, length, not, refl, rules, sym, take, tests, true, ◌&&◌, ◌++◌, ◌+◌, ◌==◌, ◌∙◌, ◌≡◌}
+pub use Rattle.std.proofs.Common.{List, [], ap, append-nil, append_assoc, arith, false, if◌then◌else◌, length, not, refl, rules, suc, sym, take, tests, true, ℕ, ◌&&◌, ◌++◌, ◌+◌, ◌-◌, ◌==◌, ◌∙◌, ◌∷◌, ◌≡◌}
 pub use Rattle.std.proofs.lemmas.Bool.{ne_eqb}
 pub use Rattle.std.proofs.lemmas.Iterator.{YieldsList-from_slice}
 pub use Rattle.std.proofs.lemmas.Iterator.Consumers.{YieldsList-from_filter, count_from_yields_List}
 pub use Rattle.std.proofs.lemmas.List.Sums.{length-filter}
 pub use Rattle.std.specs.List.{flat_map, range_with_len}
 pub use Rattle.std.specs.Prelude.{codes, decimal, sum_by}
-pub use Rattle.tx_rank.specs.Walks.{end_of}
 pub use Rattle.tx_risk.specs.declared.cut.Cut.{Cut}
 pub use Rattle.tx_risk.specs.declared.cut.Outcome.{Outcome}
 pub use Rattle.tx_risk.specs.declared.outage.Outage.{Outage}

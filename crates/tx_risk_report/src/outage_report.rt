@@ -107,5 +107,5 @@ fn write_block<A: Allocator, W: Sink>(
     }
     write_outage(plan, risks, &outcome.outage, sink);
     put_bytes(b"\n", sink);
-    write_cuts(plan, &outcome.cuts, sink);
+    write_cuts(plan, &outcome.legs, &outcome.cuts, sink);
 }

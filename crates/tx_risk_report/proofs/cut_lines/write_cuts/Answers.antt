@@ -7,11 +7,11 @@ loop-index-init g c = puts_none
 
 pub loop-index-preserved : goal.loop-index-preserved
 loop-index-preserved g c =
-    index_more (cuts_at c.args.plan.now c.args.cuts.now) c.of.ensures c.loop-index.invariant c.write_cuts_at.ensures
+    index_more (cuts_at c.args.plan.now c.args.legs.now c.args.cuts.now) c.of.ensures c.loop-index.invariant c.write_cuts_at.ensures
 
 pub returns : goal.returns
 returns g c =
-    indexes_done (cuts_at c.args.plan.now c.args.cuts.now) c.loop-index.index (length c.args.plan.now.exchanges) (
+    indexes_done (cuts_at c.args.plan.now c.args.legs.now c.args.cuts.now) c.loop-index.index (length c.args.plan.now.exchanges) (
     let t = c.loop-index-test.false in
     let a = c.loop-index.auto.index-end in
     let n = c.exchanges-index-end.ensures.count in

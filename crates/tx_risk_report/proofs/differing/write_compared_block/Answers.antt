@@ -17,7 +17,8 @@ returns g c =
       | else-not-is_worse-via-else-not-is_worse w ↦ or_left _ _ (sym c.is_worse.ensures ∙ w.if-not-is_worse.false)
     ] in
     let both = c.both_cuts.ensures in
+    let legs = c.both_legs.ensures in
     rw differs
     (puts_then c.write_outage.ensures (puts_then c.put_bytes.ensures
-    (puts_then (rw (c.plan-new.ensures, c.plan-old.ensures, both.new, both.old) at c.write_others.ensures)
-    (rw (c.plan-new.ensures, c.plan-old.ensures, both.new, both.old) at c.write_others-2.ensures))))
+    (puts_then (rw (c.plan-new.ensures, c.plan-old.ensures, legs.new, both.new, both.old) at c.write_others.ensures)
+    (rw (c.plan-new.ensures, c.plan-old.ensures, legs.old, both.new, both.old) at c.write_others-2.ensures))))

@@ -7,4 +7,4 @@ returns-then-is_harmless g c =
 
 pub returns : goal.returns
 returns g c =
-    rw (sym c.is_harmless.ensures ∙ c.if-is_harmless.false) (puts_then c.write_outage.ensures (puts_then c.put_bytes.ensures (rw c.deref.ensures.value at c.write_cuts.ensures)))
+    rw (sym c.is_harmless.ensures ∙ c.if-is_harmless.false) (puts_then c.write_outage.ensures (puts_then c.put_bytes.ensures (rw (c.deref.ensures.value, c.deref-2.ensures.value) at c.write_cuts.ensures)))

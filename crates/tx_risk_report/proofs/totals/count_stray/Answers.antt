@@ -3,7 +3,7 @@ use Rattle.tx_risk_report.proofs.totals.count_stray.Goals as goal
 
 pub returns : goal.returns
 returns g c =
-    let test = λ (k : Cut g.row.A.Denot). k.stray in
+    let test = λ (k : Cut). k.stray in
     count_from_yields_List c.filter.result _ c.count.ensures.ran
     (YieldsList-from_filter _ test (YieldsList-from_slice c.args.cuts.now cc)
     c.filter.ensures.closure (λ x r q k. search (rules, tests)))

@@ -1,9 +1,9 @@
-use Rattle.tx_risk.proofs.Common.{◌≡◌, ◌<◌, ◌∙◌, Some, sym, ap, subst, length, arith, slice_get, slice_get-get_or, ranks_of, net_of, risk_of, AreCutsBelow, AreCutsOfCode, Left, left_net, IsOrder, IsByRank, Adds, marked, AreEnds, TakesItsGroups}
+use Rattle.tx_risk.proofs.Common.{◌≡◌, ◌<◌, ◌∙◌, Some, sym, ap, subst, length, length-append, arith, slice_get, slice_get-get_or, ranks_of, net_of, risk_of, AreCutsBelow, AreCutsOfCode, Left, left_net, IsOrder, IsByRank, Adds, marked, AreEnds, TakesItsGroups}
 use Rattle.tx_risk.proofs.Marking.{same_risk}
 use Rattle.tx_risk.proofs.Ordering.{order_left}
 use Rattle.tx_risk.proofs.Unhit.{takes}
 use Rattle.tx_risk.proofs.AddedOutages.{codes_next}
-use Rattle.tx_risk.proofs.outages.cuts_of.Goals as goal
+use Rattle.tx_risk.proofs.outages.outcome_of.Goals as goal
 
 pub add_cuts-requires-clause-order : goal.add_cuts-requires-clause-order
 add_cuts-requires-clause-order g c =
@@ -47,34 +47,58 @@ add_cuts-requires-clause-ends g c =
 pub add_cuts-requires-clause-takes : goal.add_cuts-requires-clause-takes
 add_cuts-requires-clause-takes g c =
     let p = c.args.plan.now in
-    let o = c.args.outage.now in
+    let o = c.args.outage in
     let risk = risk_of p c.args.risks.now o in
     let same : marked c.deref-in-loop-index.result.now ≡ risk =
     same_risk _ _ (λ h. ap (λ l. marked l h) c.deref-in-loop-index.ensures.value
     ∙ c.in_ok-gone.ensures h) in
     subst (λ r. TakesItsGroups p r o) (sym same) (takes p c.args.risks.now o)
 
+pub loop-index-init : goal.loop-index-init
+loop-index-init g c = record {
+  below = c.new-cuts.ensures.items;
+  few = let e = ap length c.new-legs.ensures.items in omega arith;
+}
+
+pub add_cuts-requires-clause-room : goal.add_cuts-requires-clause-room
+add_cuts-requires-clause-room g c =
+    let few = c.loop-index.invariant.few in
+    let t = c.loop-index-test.true in
+    let e = c.codes-index-end.ensures.count in
+    let k = c.codes-index-end.ensures.few in
+    omega arith
+
 pub loop-index-preserved : goal.loop-index-preserved
 loop-index-preserved g c =
     let p = c.args.plan.now in
-    let o = c.args.outage.now in
+    let o = c.args.outage in
     let risk = risk_of p c.args.risks.now o in
+    let before = c.loop-index.legs.items in
+    let legs = c.add_cuts.new.legs.items in
     let old = c.loop-index.cuts.items in
     let new = c.add_cuts.new.cuts.items in
     let same : marked c.deref-in-loop-index.result.now ≡ risk =
     same_risk _ _ (λ h. ap (λ l. marked l h) c.deref-in-loop-index.ensures.value
     ∙ c.in_ok-gone.ensures h) in
-    let mine = subst (λ r. Adds (AreCutsOfCode p r o c.of.result) old new) same
-    c.in_ok-add_cuts.ensures in
-    codes_next p risk o c.loop-index.index old new c.loop-index.invariant
-    (subst (λ k. Adds (AreCutsOfCode p risk o k) old new) c.of.ensures mine)
+    let mine = subst (λ r. Adds (AreCutsOfCode p r o legs c.of.result) old new) same
+    c.in_ok-add_cuts.ensures.cuts in
+    let grown = c.in_ok-add_cuts.ensures.grown in
+    record {
+      below = codes_next p risk o c.loop-index.index before legs old new c.loop-index.invariant.below grown
+          (subst (λ k. Adds (AreCutsOfCode p risk o legs k) old new) c.of.ensures mine);
+      few =
+          let long = ap length grown.added ∙ length-append before grown.more in
+          let one = grown.few in
+          let few = c.loop-index.invariant.few in
+          omega arith;
+    }
 
-pub returns : goal.returns
-returns g c =
+pub returns-clause-outcome : goal.returns-clause-outcome
+returns-clause-outcome g c =
     let p = c.args.plan.now in
-    let o = c.args.outage.now in
+    let o = c.args.outage in
     let all : c.loop-index.index ≡ length p.codes =
     let t = c.loop-index-test.false in let a = c.loop-index.auto.index-end in
     let e = c.codes-index-end.ensures.count in omega arith in
-    subst (λ k. AreCutsBelow p (risk_of p c.args.risks.now o) o k c.loop-index.cuts.items) all
-    c.loop-index.invariant
+    subst (λ k. AreCutsBelow p (risk_of p c.args.risks.now o) o c.loop-index.legs.items k c.loop-index.cuts.items) all
+    c.loop-index.invariant.below
