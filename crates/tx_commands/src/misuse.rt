@@ -12,8 +12,6 @@ pub(crate) enum Misuse {
     Incomplete,
     /// `run` has some of its three options, and not all.
     Together,
-    /// `run` has a certificate, and is to print more.
-    CheckedTelling,
     /// The number of this option has a sign or leading zeros.
     Number(&'static str, String),
     /// `order` has a file to be made, and no stage.
@@ -51,8 +49,7 @@ impl Misuse {
     /// What kind of refusal it is, as the library of command lines has them.
     pub(crate) fn kind(&self) -> ErrorKind {
         match self {
-            Misuse::CheckedTelling | Misuse::InputTwice | Misuse::Overwrites(_) =>
-                ErrorKind::ArgumentConflict,
+            Misuse::InputTwice | Misuse::Overwrites(_) => ErrorKind::ArgumentConflict,
             Misuse::Number(..) | Misuse::NoSuchCode(_) => ErrorKind::InvalidValue,
             Misuse::StageMissing | Misuse::RisksOnly | Misuse::TraceWords =>
                 ErrorKind::MissingRequiredArgument,
@@ -77,7 +74,6 @@ impl Misuse {
     /// What is said of it, where no word of the command line is said too.
     fn reason(&self) -> &'static str {
         match self {
-            Misuse::CheckedTelling => "--strict, --echo and --summary do not go with --cert",
             Misuse::StageMissing => "--plan and --cert go with --stage",
             Misuse::RisksOnly => "--risks-only goes with --risks",
             Misuse::TraceWords =>
