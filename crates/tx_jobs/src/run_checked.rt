@@ -1,5 +1,5 @@
 // The job of `run PLAN SCRIPT --cert CERT --limit L --spare K`.
-ghost use Rattle.std.specs.Prelude.{◌≡◌, ◌≤◌};
+ghost use Rattle.std.specs.Prelude.{◌≡◌, ◌≤◌, None};
 ghost use Rattle.tx_text.specs.Calls.{CallsAtMost, source_calls};
 ghost use Rattle.tx_jobs.specs.JobFaults.{mark_after};
 ghost use Rattle.tx_text.specs.Ends.{input, output};
@@ -18,13 +18,11 @@ use tx_script::{Summary, Telling};
 use tx_text::{Sink, Source};
 
 /// Reads a plan and a certificate, and runs a script over the plan after a Yes of the checker for
-/// at most `limit` transits (0 to 62) and `spare` groups to spare (0 to 15): as `run_job` does, or as `run_telling_job` does where more is
-/// to be printed. After a No it writes
+/// at most `limit` transits (0 to 62) and `spare` groups to spare (0 to 15). After a No it writes
 /// the verdict alone, and reads nothing of the script. `Err` is the fault of the first call that
 /// failed.
 pub fn run_checked_job<A: Allocator + Copy, P: Source, C: Source, R: Source, W: Sink>(
     alloc: A,
-    telling: Option<Telling>,
     plan: &mut P,
     cert: &mut C,
     limit: u8,
@@ -34,7 +32,38 @@ pub fn run_checked_job<A: Allocator + Copy, P: Source, C: Source, R: Source, W: 
 ) -> Result<Checked, JobFault>
     requires limit { limit ≤ 62 }
     requires spare { spare ≤ 15 }
-    ensures answers { CheckedJobAnswers telling limit spare
+    ensures answers { CheckedJobAnswers None limit spare
+        (input P.rest P.failed P.called plan.old plan.new)
+        (input C.rest C.failed C.called cert.old cert.new)
+        (input R.rest R.failed R.called script.old script.new)
+        (output W.taken out.old out.new) result }
+    ensures mark { W.failed out.new ≡ mark_after (W.failed out.old) result }
+    ensures plan_calls { CallsAtMost P.called source_calls plan.old plan.new }
+    ensures cert_calls { CallsAtMost C.called source_calls cert.old cert.new }
+    ensures script_calls { CallsAtMost R.called source_calls script.old script.new }
+{
+    run_checked_telling_job(
+        alloc,
+        None,
+        plan,
+        cert,
+        Limits { limit, spare },
+        script,
+        out,
+    )
+}
+
+/// Does the same, and prints what is asked for of the run after a Yes, as `run_telling_job` does.
+pub fn run_checked_telling_job<A: Allocator + Copy, P: Source, C: Source, R: Source, W: Sink>(
+    alloc: A,
+    telling: Option<Telling>,
+    plan: &mut P,
+    cert: &mut C,
+    limits: Limits,
+    script: &mut R,
+    out: &mut W,
+) -> Result<Checked, JobFault>
+    ensures answers { CheckedJobAnswers telling limits.limit limits.spare
         (input P.rest P.failed P.called plan.old plan.new)
         (input C.rest C.failed C.called cert.old cert.new)
         (input R.rest R.failed R.called script.old script.new)
@@ -45,15 +74,7 @@ pub fn run_checked_job<A: Allocator + Copy, P: Source, C: Source, R: Source, W: 
     ensures script_calls { CallsAtMost R.called source_calls script.old script.new }
 {
     let plan = read_plan_from(alloc, plan)?;
-    read_and_run(
-        alloc,
-        telling,
-        &plan,
-        cert,
-        Limits { limit, spare },
-        script,
-        out,
-    )
+    read_and_run(alloc, telling, &plan, cert, limits, script, out)
 }
 
 /// Reads a certificate of the plan, and runs the script after a Yes.

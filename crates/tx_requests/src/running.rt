@@ -14,7 +14,10 @@ use tx_audit::Checked;
 use tx_check::Verdict;
 use tx_commands::{CheckRequest, RunRequest, TellingRequest};
 use tx_files::{CommandFault, Ending};
-use tx_jobs::{check_job, codes_job, pipe_job, run_checked_job, run_job, run_telling_job};
+use tx_jobs::{
+    check_job, codes_job, pipe_job, run_checked_job, run_checked_telling_job, run_job,
+    run_telling_job,
+};
 use tx_script::{Summary, Telling};
 use tx_text::{Sink, Source};
 
@@ -57,7 +60,7 @@ pub(crate) fn do_run<A: Allocator + Copy, P: Source, Q: Source, R: Source, W: Si
         }
         Some((_, limits)) => {
             let (limit, spare) = (limits.limit, limits.spare);
-            let checked = run_checked_job(alloc, None, first, second, limit, spare, third, out)?;
+            let checked = run_checked_job(alloc, first, second, limit, spare, third, out)?;
             Ok(Ending::of(checked_status(false, checked)))
         }
     }
@@ -93,9 +96,8 @@ pub(crate) fn do_telling<A: Allocator + Copy, P: Source, Q: Source, R: Source, W
             Ok(Ending::of(strict_status(request.strict, summary)))
         }
         Some((_, limits)) => {
-            let (limit, spare) = (limits.limit, limits.spare);
-            let telling = Some(telling);
-            let checked = run_checked_job(alloc, telling, first, second, limit, spare, third, out)?;
+            let told = Some(telling);
+            let checked = run_checked_telling_job(alloc, told, first, second, *limits, third, out)?;
             Ok(Ending::of(checked_status(request.strict, checked)))
         }
     }

@@ -7,10 +7,11 @@ use tx_commands::{Command, WordsFault, read_command};
 /// The words of a command after the kind of its case and, where it matters, the word after the
 /// kind. `@1`, `@2` and `@3` stand for the words after the kind: where there is no such word, what
 /// has it is left out. All that a command can print and make is asked for.
-static COMMANDS: [&str; 31] = [
+static COMMANDS: [&str; 32] = [
     "pipe:",
     "run: run plan script",
     "checked: run plan script --cert=cert --limit=@1 --spare=@2",
+    "checked-telling: run plan script --strict --echo --summary --cert=cert --limit=@1 --spare=@2",
     "telling summary: run plan script --strict --summary",
     "telling both: run plan script --strict --echo --summary",
     "telling: run plan script --strict --echo",
