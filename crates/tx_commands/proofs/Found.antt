@@ -10,7 +10,7 @@ use Rattle.tx_commands.specs.Commands.{IsFoundIn, line_of}
 use Rattle.tx_commands.specs.inner.Refused.{IsClash, IsRefused}
 use Rattle.tx_commands.specs.declared.command.Command.{Command}
 use Rattle.tx_commands.specs.declared.misuse.Misuse.{Misuse}
-use Rattle.tx_commands.specs.declared.misuse.Misuse.TheVariants.{Incomplete, Together, CheckedTelling, StageMissing, RisksOnly, TraceWords, DownFiles, Number, NoSuchCode, InputTwice, Overwrites, NoMemory}
+use Rattle.tx_commands.specs.declared.misuse.Misuse.TheVariants.{Incomplete, Together, StageMissing, RisksOnly, TraceWords, DownFiles, Number, NoSuchCode, InputTwice, Overwrites, NoMemory}
 
 -- the word that was read for an id is the first that was found for it
 pub first_found : (m : ArgMatches) (id : List ℕ) (word : Option (Bor (List ℕ)))
@@ -58,7 +58,6 @@ refused_for_clash found command InputTwice asked clash = (command, asked, clash)
 refused_for_clash found command (Overwrites name) asked clash = (command, asked, clash)
 refused_for_clash found command Incomplete asked clash = tt
 refused_for_clash found command Together asked clash = absurd clash
-refused_for_clash found command CheckedTelling asked clash = absurd clash
 refused_for_clash found command StageMissing asked clash = absurd clash
 refused_for_clash found command RisksOnly asked clash = absurd clash
 refused_for_clash found command TraceWords asked clash = absurd clash

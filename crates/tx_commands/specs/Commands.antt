@@ -13,6 +13,7 @@ use Rattle.tx_commands.specs.Grammar.{program_words}
 use Rattle.tx_commands.specs.declared.command.Command.{Command}
 use Rattle.tx_commands.specs.declared.down.Down.{Down}
 use Rattle.tx_commands.specs.declared.order.Stopped.{Stopped}
+use Rattle.tx_commands.specs.declared.run.RunRequest.{RunRequest}
 use Rattle.tx_commands.specs.declared.command.Command.TheVariants.{Pipe, Run, RunTelling, Check, Lint, Codes, Audit, Change, Order, Mend, Survive, Compare, Page, Grade, Trace, TraceThrough, TraceChanges, Fill, Explain}
 
 -- the words of a command name this file
@@ -64,6 +65,11 @@ AsksToCheck found None = (first_of (codes "cert") found ≡ None)
     × (first_of (codes "limit") found ≡ None) × (first_of (codes "spare") found ≡ None)
 AsksToCheck found (Some (cert, limits)) =
     Names found (codes "cert") cert × GivesLimits found limits
+
+-- `run` has this plan and this script, with what is to be checked first
+abbrev pub AsksToRun : List ℕ → List Row → RunRequest → Type 0
+AsksToRun name found r = (name ≡ codes "run") × Names found (codes "plan") r.plan
+    × Names found (codes "script") r.script × AsksToCheck found r.checked
 
 -- `survive` has these named risks, alone or not, or has none
 abbrev pub AsksForRisks : {Z : Type 0} → List Row → Option (String Z × Bool) → Type 0
@@ -119,11 +125,8 @@ AsksForLine found (Some line) = (line_of found (codes "word") ≡ Some (string_b
 -- what was found after the name of a command asks for this
 abbrev pub Asks : List ℕ → List Row → Command → Type 0
 Asks name found Pipe = ⊥
-Asks name found (Run r) = (name ≡ codes "run") × Names found (codes "plan") r.plan
-    × Names found (codes "script") r.script × AsksToCheck found r.checked × TellsNoMore found
-Asks name found (RunTelling r) = (name ≡ codes "run") × Names found (codes "plan") r.plan
-    × Names found (codes "script") r.script × (first_of (codes "cert") found ≡ None)
-    × (first_of (codes "limit") found ≡ None) × (first_of (codes "spare") found ≡ None)
+Asks name found (Run r) = AsksToRun name found r × TellsNoMore found
+Asks name found (RunTelling r) = AsksToRun name found r.run
     × (is_set found (codes "strict") ≡ r.strict) × (is_set found (codes "echo") ≡ r.echo)
     × (is_set found (codes "summary") ≡ r.summary)
     × (((r.strict || r.echo) || r.summary) ≡ true)

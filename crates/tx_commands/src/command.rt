@@ -76,7 +76,7 @@ impl Command {
         match self {
             Command::Pipe => Files::of_one(STANDARD_INPUT),
             Command::Run(request) => run_files(request),
-            Command::RunTelling(request) => Files::of_two(&request.plan, &request.script),
+            Command::RunTelling(request) => run_files(&request.run),
             Command::Check(request) => Files::of_two(&request.plan, &request.cert),
             Command::Lint(request) => {
                 Files::reading([Some(&request.plan), request.risks.as_deref(), None])

@@ -12,8 +12,6 @@ pub(crate) enum Misuse {
     Incomplete,
     /// `run` has some of its three options, and not all.
     Together,
-    /// `run` has a certificate, and is to print more.
-    CheckedTelling,
     /// The number of this option has a sign or leading zeros.
     Number(&'static str, String),
     /// `order` has a file to be made, or words that say where it was stopped, and no stage.
@@ -53,10 +51,9 @@ impl Misuse {
     /// What kind of refusal it is, as the library of command lines has them.
     pub(crate) fn kind(&self) -> ErrorKind {
         match self {
-            Misuse::CheckedTelling
-            | Misuse::DownFiles
-            | Misuse::InputTwice
-            | Misuse::Overwrites(_) => ErrorKind::ArgumentConflict,
+            Misuse::DownFiles | Misuse::InputTwice | Misuse::Overwrites(_) => {
+                ErrorKind::ArgumentConflict
+            }
             Misuse::Number(..) | Misuse::NoSuchCode(_) => ErrorKind::InvalidValue,
             Misuse::StageMissing | Misuse::RisksOnly | Misuse::TraceWords =>
                 ErrorKind::MissingRequiredArgument,
@@ -76,7 +73,6 @@ impl Misuse {
             Misuse::Overwrites(file) => return format!(in alloc;
                 "a file to be made has the name of another file of the command, or is named -: {file:?}"
             ),
-            Misuse::CheckedTelling => "--strict, --echo and --summary do not go with --cert",
             Misuse::DownFiles => {
                 "--down and --down-exchange do not go with --cert, --counter, --mixture and --plan"
             }

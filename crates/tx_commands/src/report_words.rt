@@ -103,7 +103,7 @@ pub static REPORT_WORDS: [Entry; 63] = [
         "LISTS",
         "ListCounts",
         "How many lists there are to work on: those that are NEW, those that are CHANGED, and those that are GONE.",
-        "Count the lines of the report: each list has one.",
+        "Look for their lines: NEW ROUTE, ROUTE or DROP, and GONE ROUTE. An order with VERDICT NO has none for those that are CHANGED.",
     ],
     [
         "CHANGED",

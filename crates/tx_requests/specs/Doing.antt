@@ -9,7 +9,6 @@ use Rattle.tx_jobs.specs.CheckJobs.{CheckJobAnswers}
 use Rattle.tx_jobs.specs.declared.job_fault.JobFault.{JobFault}
 use Rattle.tx_jobs.specs.Jobs.{CodesJobAnswers}
 use Rattle.tx_jobs.specs.PipeJobs.{PipeJobAnswers}
-use Rattle.tx_jobs.specs.TellingJobs.{TellingJobAnswers}
 use Rattle.tx_files.specs.declared.ending.Ending.{Ending}
 use Rattle.tx_files.specs.declared.fault.CommandFault.{CommandFault}
 use Rattle.tx_files.specs.declared.two_plans.Which.TheVariants.{This}
@@ -28,11 +27,11 @@ use Rattle.tx_requests.specs.Fill.{FillAnswers, fill_prints}
 use Rattle.tx_requests.specs.Grade.{GradeAnswers, grade_prints, GradeEnds}
 use Rattle.tx_requests.specs.Lint.{read_stop, IsLinted}
 use Rattle.tx_requests.specs.Printing.{Printing}
-use Rattle.tx_requests.specs.Jobs.{IsJobDone, verdict_status, pair_status, strict_status}
+use Rattle.tx_requests.specs.Jobs.{IsJobDone, verdict_status, pair_status}
 use Rattle.tx_requests.specs.Mend.{MendAnswers, mend_prints, MendEnds}
 use Rattle.tx_requests.specs.Order.{OrderAnswers, order_prints, OrderEnds}
 use Rattle.tx_requests.specs.Page.{PageAnswers, PagePrints, PageEnds}
-use Rattle.tx_requests.specs.Runs.{IsRunDone}
+use Rattle.tx_requests.specs.Runs.{IsRunDone, IsTellingDone}
 use Rattle.tx_requests.specs.Survive.{SurviveAnswers, survive_prints, SurviveEnds}
 use Rattle.tx_requests.specs.Through.{ThroughAnswers, through_prints}
 use Rattle.tx_requests.specs.Trace.{TraceAnswers, trace_prints}
@@ -83,8 +82,8 @@ module _ {P W : Type 0} (rest : P → Option (List ℕ)) (failed : P → Bool)
     IsDone (Run r) result =
         IsRunDone r.checked first second third out (marked before) (marked after) result
     IsDone (RunTelling r) result =
-        ByJob (TellingJobAnswers (record { echo = r.echo; summary = r.summary }) first second out)
-        (λ summary. EndsWith (strict_status r.strict summary)) result × third.unread
+        IsTellingDone (record { echo = r.echo; summary = r.summary }) r.strict r.run.checked
+        first second third out (marked before) (marked after) result
     IsDone (Check r) result =
         ByJob (CheckJobAnswers r.limits.limit r.limits.spare first second out)
         (λ verdict. EndsWith (verdict_status verdict)) result × third.unread

@@ -43,7 +43,7 @@ pub fn do_command<A: Allocator + Copy, P: Source, Q: Source, R: Source, W: Sink>
     match command {
         Command::Pipe => do_pipe(alloc, first, out),
         Command::Run(request) => do_run(alloc, request, first, second, third, out),
-        Command::RunTelling(request) => do_telling(alloc, request, first, second, out),
+        Command::RunTelling(request) => do_telling(alloc, request, first, second, third, out),
         Command::Check(request) => do_check(alloc, request, first, second, out),
         Command::Codes(_) => do_codes(alloc, first, out),
         Command::Audit(request) => do_audit(alloc, request, first, out),

@@ -16,6 +16,7 @@ use memchr::memmem;
 use std::alloc::Global;
 use tx_commands::{Command, RunRequest};
 use tx_files::{CommandFault, write_command_fault};
+use tx_plan::Limits;
 
 /// Plays a case of texts by its kind: as a job, or by writing and reading back, or over both
 /// networks, or by calls of the crates below the jobs.
@@ -72,6 +73,24 @@ fn try_plain(alloc: Global, run: Task<'_>, job: &[u8], out: &mut Told) {
     }
 }
 
+/// Tries that a run after a check writes without the job what it writes with it, except the NO, and
+/// refuses each of its requests for memory.
+fn try_checked(alloc: Global, task: Task<'_>, limits: Limits, job: &Whole, out: &mut Told) {
+    let work = Work::Checked(task, limits);
+    let Ok(whole) = Whole::of(alloc, work, Ends::pieces(7)) else {
+        return tell_broken(b"no memory", 0, out);
+    };
+    let is_denied = job.text().starts_with(b"NO ") && whole.text().is_empty();
+    if !is_denied && whole.text() != job.text() {
+        tell_broken(
+            b"not the same without the job, bytes",
+            whole.text().len() as u64,
+            out,
+        );
+    }
+    try_refusals(alloc, work, &whole, out);
+}
+
 /// Writes what a task wrote, and its fault. That the plan has no such exchange, code or group is
 /// told by the exit status alone, since the program reports it with its word.
 fn tell_whole(whole: &Whole, out: &mut Told) {
@@ -103,6 +122,15 @@ fn play_whole(alloc: Global, task: Task<'_>, whole: &Whole, mode: Mode, out: &mu
     if let Mode::EachEnd = mode {
         try_refusals(alloc, Work::Job(task), whole, out);
         try_ends(alloc, task, whole, out);
+        if let Command::Run(
+            RunRequest {
+                checked: Some((_, limits)),
+                ..
+            },
+        ) = task.command
+        {
+            try_checked(alloc, task, *limits, whole, out);
+        }
     }
 }
 

@@ -14,6 +14,7 @@ static COMMANDS: [&str; 32] = [
     "pipe:",
     "run: run plan script",
     "checked: run plan script --cert=cert --limit=@1 --spare=@2",
+    "checked-telling: run plan script --strict --echo --summary --cert=cert --limit=@1 --spare=@2",
     "telling summary: run plan script --strict --summary",
     "telling both: run plan script --strict --echo --summary",
     "telling: run plan script --strict --echo",

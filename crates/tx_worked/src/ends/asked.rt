@@ -2,20 +2,24 @@
 use crate::cases::Log;
 use tx_commands::{
     AuditRequest, ChangeRequest, CheckRequest, Command, MendRequest, OrderRequest, PageRequest,
-    RunRequest,
+    RunRequest, TellingRequest,
 };
 use tx_plan::Limits;
 
 /// The limits that a command has.
 fn limits_of(command: &Command) -> Option<Limits> {
     match command {
-        Command::Run(
-            RunRequest {
-                checked: Some((_, limits)),
+        Command::Run(RunRequest { checked, .. })
+        | Command::RunTelling(
+            TellingRequest {
+                run: RunRequest { checked, .. },
                 ..
             },
-        )
-        | Command::Check(CheckRequest { limits, .. })
+        ) => {
+            let (_, limits) = checked.as_ref()?;
+            Some(*limits)
+        }
+        Command::Check(CheckRequest { limits, .. })
         | Command::Audit(AuditRequest { limits, .. })
         | Command::Change(ChangeRequest { limits, .. })
         | Command::Order(OrderRequest { limits, .. })

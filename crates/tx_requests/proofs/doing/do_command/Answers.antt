@@ -17,10 +17,7 @@ pub returns-in-Run-clause-done : goal.returns-in-Run-clause-done
 returns-in-Run-clause-done g c = rw c.in-Run.is c.do_run.ensures.done
 
 pub returns-in-RunTelling-clause-done : goal.returns-in-RunTelling-clause-done
-returns-in-RunTelling-clause-done g c = rw c.in-RunTelling.is (c.do_telling.ensures.done, refl)
-
-pub returns-in-RunTelling-clause-third_calls : goal.returns-in-RunTelling-clause-third_calls
-returns-in-RunTelling-clause-third_calls g c = uncalled g.R.Source.called c.args.third.now
+returns-in-RunTelling-clause-done g c = rw c.in-RunTelling.is c.do_telling.ensures.done
 
 pub returns-in-Check-clause-done : goal.returns-in-Check-clause-done
 returns-in-Check-clause-done g c = rw c.in-Check.is (c.do_check.ensures.done, refl)

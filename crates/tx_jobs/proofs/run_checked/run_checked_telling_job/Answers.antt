@@ -1,6 +1,6 @@
 use Rattle.tx_jobs.proofs.Common.{inl, inr, refl, source_calls, went_none, calls_so_far}
 use Rattle.tx_jobs.proofs.RefusedTexts.{refused, refused_mark}
-use Rattle.tx_jobs.proofs.run_checked.run_checked_job.Goals as goal
+use Rattle.tx_jobs.proofs.run_checked.run_checked_telling_job.Goals as goal
 
 pub returns-clause-answers : goal.returns-clause-answers
 returns-clause-answers g c = inl (record { plan = c.in_ok-plan.plan; rules = c.in_ok-plan.ensures.rules; read = c.in_ok-plan.ensures.answer; goes_on = c.read_and_run.ensures.answers })
